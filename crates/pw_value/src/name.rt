@@ -1,0 +1,113 @@
+//! Names: of functions, of objects with static lifetime and of modules.
+
+ghost use Rattle.std.specs.Prelude.{◌≡◌, ◌↔◌, length, IfOk, Err, ◌==◌};
+ghost use Rattle.std.proofs.Common.{rules};
+ghost use Rattle.std.specs.Cmp.{partial_order_from_own_ties};
+ghost use Rattle.std.specs.Cmp.Rules.{comparing};
+ghost use Rattle.std.specs.Cmp.Lexicographic.{slice_cmp};
+ghost use Rattle.std.specs.Ordering.{nat_cmp, as_partial_cmp};
+ghost use lib.Pointwise.{pointwise};
+ghost use Rattle.pw_value.specs.Names.{IsNameLength};
+
+use std::alloc::{AllocError, Global};
+use std::cmp::Ordering;
+use std::marker::Model;
+
+/// The greatest number of bytes of a name.
+pub const NAME_MAX: usize = 400;
+
+/// A name: 1 to 400 bytes, of any values. Names are equal where their bytes are, and they are ordered
+/// byte by byte, a proper prefix first. A contract sees a name as the list of its bytes.
+#[derive(Debug, Drop)]
+pub struct Name {
+    bytes: Vec<u8>,
+}
+
+impl Model for Name {
+    ghost use Rattle.std.specs.Prelude.{ℕ, List, length};
+    ghost use Rattle.pw_value.specs.Names.{IsNameLength};
+
+    ghost Value = { List ℕ };
+
+    ghost view = { λ inside. inside.bytes.items };
+
+    ghost invariant = { λ inside. IsNameLength (length inside.bytes.items) };
+}
+
+/// Why there is no name: the count of bytes is outside 1 to 400, or there is no memory.
+#[derive(Clone, Copy, PartialEq, Eq, Debug)]
+pub enum NameError {
+    Length,
+    NoMemory,
+}
+
+impl Name {
+    /// The name of these bytes.
+    pub fn new(alloc: Global, bytes: &[u8]) -> Result<Name, NameError>
+        ensures holds { IfOk result (λ name. name ≡ bytes.now) }
+        ensures refuses { result ≡ Err NameError.Length ↔ ¬ IsNameLength (length bytes.now) }
+    {
+        if bytes.is_empty() || bytes.len() > NAME_MAX {
+            return Err(NameError::Length);
+        }
+        match Vec::from_slice(alloc, bytes) {
+            Ok(bytes) => Ok(Name { bytes }),
+            Err(AllocError) => Err(NameError::NoMemory),
+        }
+    }
+
+    /// The name's bytes.
+    pub fn as_bytes(&self) -> &[u8]
+        ensures bytes { result.now ≡ self.now }
+        ensures length { IsNameLength (length self.now) }
+    {
+        self.bytes.as_slice()
+    }
+
+    /// Another name of the same bytes.
+    pub fn copy(&self, alloc: Global) -> Result<Name, AllocError>
+        ensures { IfOk result (λ name. name ≡ self.now) }
+    {
+        Ok(Name {
+            bytes: Vec::from_slice(alloc, self.bytes.as_slice())?,
+        })
+    }
+}
+
+impl PartialEq for Name {
+    ghost eq = { pointwise ◌==◌ };
+
+    ghost laws = { Prim.search (comparing, rules) };
+
+    fn eq(&self, other: &Name) -> bool {
+        self.bytes.as_slice() == other.bytes.as_slice()
+    }
+}
+
+impl Eq for Name {
+    ghost laws = { Prim.search (comparing, rules) };
+}
+
+impl Ord for Name {
+    ghost cmp = { slice_cmp nat_cmp };
+
+    ghost total = { Prim.search (comparing, rules) };
+
+    ghost matches_partial_cmp = { Prim.search (comparing, rules) };
+
+    ghost matches_eq = { Prim.search (comparing, rules) };
+
+    fn cmp(&self, other: &Name) -> Ordering {
+        self.bytes.as_slice().cmp(other.bytes.as_slice())
+    }
+}
+
+impl PartialOrd for Name {
+    ghost partial_cmp = { as_partial_cmp (slice_cmp nat_cmp) };
+
+    ghost laws = { partial_order_from_own_ties (Prim.search (comparing, rules)) (Prim.search (comparing, rules)) };
+
+    fn partial_cmp(&self, other: &Name) -> Option<Ordering> {
+        Some(self.cmp(other))
+    }
+}
