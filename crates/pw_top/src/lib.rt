@@ -1,0 +1,5 @@
+//! The top call: what the program `pawc` does with its words, its store and its streams.
+#![tactic(auto)]
+
+mod form;
+mod tokens;
