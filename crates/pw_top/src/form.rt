@@ -128,3 +128,10 @@ pub fn numbers_in(alloc: Global, text: &[u8]) -> Result<Option<Vec<u16>>, AllocE
         None => Ok(None),
     }
 }
+
+/// Exactly the programs `int main(void){return SUM;}`, with one to 200 decimal numbers from 0 to 8191 and no leading
+/// zero, in a text of at most 1,048,576 bytes, have numbers.
+pub fn form_is_exact()
+    ensures { (text numbers : List ℕ) → (numbers_in text ≡ Some numbers) ↔ IsSumProgram text numbers }
+{
+}
