@@ -4,3 +4,4 @@
 pub mod Faults
 pub mod Streams
 pub mod Files
+pub mod Memory

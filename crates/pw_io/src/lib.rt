@@ -13,6 +13,13 @@ ghost use Rattle.pw_io.specs.Files.{Told, Keeps, ListsNames, ReadsFront, Puts, P
 
 use std::alloc::Global;
 
+mod calls;
+mod sinks;
+mod sources;
+
+pub use sinks::{DropSink, MemSink, SureSink};
+pub use sources::{MemSource, SureSource};
+
 /// Memory ran out. A call that answers so leaves the values that it was lent as they were.
 pub use std::alloc::AllocError as NoMemory;
 
