@@ -1,10 +1,11 @@
 -- What a store holds and does: a map from names to bytes, and the list of the names put so far.
-use Rattle.std.specs.Prelude.{◌≡◌, ℕ, ◌<◌, List, [], ◌∷◌, ◌++◌, map, length, take, Option, Some, IfSome, IsSomeAnd, ◌⊎◌, Vec, String, string_bytes}
+use Rattle.std.specs.Prelude.{◌≡◌, ℕ, ◌<◌, List, [], ◌∷◌, ◌++◌, map, length, take, Option, Some, IfSome, IsSomeAnd, ◌⊎◌, Vec, String, string_bytes, refl}
 use Rattle.std.specs.Option.{option_map}
 use Rattle.std.specs.declared.alloc.Global.{Global}
 use Rattle.std.specs.Ordering.{nat_cmp}
 use Rattle.std.specs.Cmp.Lexicographic.{slice_cmp}
 use Rattle.std.specs.FinMap as finite
+use Rattle.std.specs.Coded.{Coded, code_by, coded×, coded_ℕ, coded_list}
 
 -- files by name, in the byte order of the names
 abbrev pub Files : Type 0
@@ -16,6 +17,20 @@ pub record Told : Type 0 where
   pub files : Files
   -- the names put so far, the first of them first
   pub puts : List (List ℕ)
+
+-- what a store tells is stored as a pair
+abbrev pub told_code : Coded Told
+told_code =
+    code_by (Files × List (List ℕ)) (coded× (finite.code (coded_list coded_ℕ) (coded_list coded_ℕ)) (coded_list (coded_list coded_ℕ))) (λ told. (told.files, told.puts)) (λ p. record { files = p.0; puts = p.1 }) (λ _. refl)
+
+-- after a put: the file has these bytes, and the name stands last in the list
+abbrev pub after_put : Told → List ℕ → List ℕ → Told
+after_put told name bytes =
+    record { files = finite.insert told.files name bytes; puts = told.puts ++ name ∷ [] }
+
+-- after a removal, which changes nothing where the name is absent
+abbrev pub after_remove : Told → List ℕ → Told
+after_remove told name = record { files = finite.remove told.files name; puts = told.puts }
 
 -- the first `most` bytes
 unfoldable pub front_of : ℕ → List ℕ → List ℕ
@@ -36,8 +51,7 @@ ReadsFront old name most file =
 
 -- The file has these bytes now, and the name was appended to the list; nothing else changed.
 abbrev pub Puts : Option Told → Option Told → List ℕ → List ℕ → Type 0
-Puts old new name bytes =
-    IfSome old (λ told. new ≡ Some (record { files = finite.insert told.files name bytes; puts = told.puts ++ name ∷ [] }))
+Puts old new name bytes = IfSome old (λ told. new ≡ Some (after_put told name bytes))
 
 -- The file is as before, absent, or a proper prefix of the bytes; all other files are as before.
 abbrev pub LeavesFile : Files → Files → List ℕ → List ℕ → Type 0
@@ -51,5 +65,4 @@ PutsPart old new name bytes =
 
 -- The file was taken out; nothing else changed.
 abbrev pub Removes : Option Told → Option Told → List ℕ → Type 0
-Removes old new name =
-    IfSome old (λ told. new ≡ Some (record { files = finite.remove told.files name; puts = told.puts }))
+Removes old new name = IfSome old (λ told. new ≡ Some (after_remove told name))

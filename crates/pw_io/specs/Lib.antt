@@ -4,4 +4,5 @@
 pub mod Faults
 pub mod Streams
 pub mod Files
+pub mod Shelf
 pub mod Memory

@@ -14,6 +14,8 @@ ghost use Rattle.pw_io.specs.Files.{Told, Keeps, ListsNames, ReadsFront, Puts, P
 use std::alloc::Global;
 
 mod calls;
+mod kept;
+mod shelf;
 mod sinks;
 mod sources;
 
