@@ -1,11 +1,10 @@
 -- What a store holds and does: a map from names to bytes, and the list of the names put so far.
-use Rattle.std.specs.Prelude.{◌≡◌, ℕ, ◌<◌, List, [], ◌∷◌, ◌++◌, map, length, take, Option, Some, IfSome, IsSomeAnd, ◌⊎◌, Vec, String, string_bytes, refl}
+use Rattle.std.specs.Prelude.{◌≡◌, ℕ, ◌<◌, List, [], ◌∷◌, ◌++◌, map, length, take, Option, Some, IfSome, IsSomeAnd, ◌⊎◌, Vec, String, string_bytes}
 use Rattle.std.specs.Option.{option_map}
 use Rattle.std.specs.declared.alloc.Global.{Global}
 use Rattle.std.specs.Ordering.{nat_cmp}
 use Rattle.std.specs.Cmp.Lexicographic.{slice_cmp}
 use Rattle.std.specs.FinMap as finite
-use Rattle.std.specs.Coded.{Coded, code_by, coded×, coded_ℕ, coded_list}
 
 -- files by name, in the byte order of the names
 abbrev pub Files : Type 0
@@ -17,11 +16,6 @@ pub record Told : Type 0 where
   pub files : Files
   -- the names put so far, the first of them first
   pub puts : List (List ℕ)
-
--- what a store tells is stored as a pair
-abbrev pub told_code : Coded Told
-told_code =
-    code_by (Files × List (List ℕ)) (coded× (finite.code (coded_list coded_ℕ) (coded_list coded_ℕ)) (coded_list (coded_list coded_ℕ))) (λ told. (told.files, told.puts)) (λ p. record { files = p.0; puts = p.1 }) (λ _. refl)
 
 -- after a put: the file has these bytes, and the name stands last in the list
 abbrev pub after_put : Told → List ℕ → List ℕ → Told

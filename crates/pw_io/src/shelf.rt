@@ -19,8 +19,9 @@ pub(crate) struct Shelf {
 
 impl Model for Shelf {
     ghost use Rattle.std.specs.Prelude.{map, string_bytes};
-    ghost use Rattle.pw_io.specs.Files.{Told, told_code};
+    ghost use Rattle.pw_io.specs.Files.{Told};
     ghost use Rattle.pw_io.specs.Shelf.{files_in};
+    ghost use Rattle.pw_io.specs.Codes.{told_code};
 
     ghost Value = { Told };
 
