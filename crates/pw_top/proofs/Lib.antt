@@ -1,3 +1,4 @@
 pub mod TokenLemmas
 pub mod SumLemmas
 pub mod SumLaw
+pub mod ModuleLemmas

@@ -1,2 +1,4 @@
 pub mod Tokens
 pub mod SumProgram
+pub mod Modules
+pub mod FullBuild

@@ -1,5 +1,8 @@
 //! The top call: what the program `pawc` does with its words, its store and its streams.
 #![tactic(auto)]
 
+mod answer;
+mod build;
 mod form;
+mod modules;
 mod tokens;

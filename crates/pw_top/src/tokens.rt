@@ -12,7 +12,7 @@ fn is_blank(byte: u8) -> bool
 }
 
 /// Whether a byte is a letter, a digit or `_`.
-fn is_word_byte(byte: u8) -> bool
+pub fn is_word_byte(byte: u8) -> bool
     ensures { result ≡ is_word_byte byte }
 {
     matches!(byte, b'a'..=b'z' | b'A'..=b'Z' | b'0'..=b'9' | b'_')
