@@ -1,5 +1,5 @@
 -- The modules of a store: the files named `NAME.i`, in the byte order of the names without `.i`, and their texts.
-use Rattle.std.specs.Prelude.{ℕ, ◌+◌, ◌-◌, ◌≤◌, Bool, true, false, ◌==◌, ◌&&◌, ◌||◌, nat_le, if◌then◌else◌, List, [], ◌∷◌, ◌++◌, length, take, drop, fold, codes, Option, Some, None, insert, sum_by}
+use Rattle.std.specs.Prelude.{◌≡◌, ℕ, ◌+◌, ◌-◌, ◌≤◌, Bool, true, false, ◌==◌, ◌&&◌, ◌||◌, nat_le, if◌then◌else◌, List, [], ◌∷◌, ◌++◌, length, take, drop, fold, codes, Option, Some, None, insert, sum_by}
 use Rattle.std.specs.Option.{option_map, option_map_or}
 use Rattle.std.specs.List.{list_all, position_or_len, filter_map}
 use Rattle.std.specs.Str.{bytes_eq}
@@ -24,6 +24,9 @@ stem file = take (length file - 2) file
 -- the file of a module
 abbrev pub is_module_file : List ℕ → Bool
 is_module_file file = nat_le 2 (length file) && (bytes_eq (drop (length file - 2) file) (codes ".i") && is_module_name (stem file))
+
+abbrev pub IsModuleFile : List ℕ → Type 0
+IsModuleFile file = is_module_file file ≡ true
 
 -- the one module stands before the other
 abbrev pub is_before : List ℕ → List ℕ → Bool

@@ -5,7 +5,19 @@ ghost use Rattle.std.specs.List.{list_all, position_or_len};
 ghost use Rattle.pw_top.specs.Modules.{is_name_byte, is_module_name, is_module_file, stem, is_before, placed, with_file, module_files};
 
 use crate::tokens::is_word_byte;
+use pw_value::Name;
 use std::alloc::{AllocError, Global};
+
+/// The greatest count of bytes that is read of a module's text: one more than a text may have.
+pub const TEXT_READ: usize = 1_048_577;
+
+/// A module: its name, and its text as far as it is read.
+#[derive(Debug, Drop)]
+pub struct Module {
+    pub name: Name,
+    pub text: Vec<u8>,
+    ghost read: { length text.items ≤ 1048577 },
+}
 
 /// Whether a byte may stand in a module's name.
 fn is_name_byte(byte: u8) -> bool
@@ -44,7 +56,7 @@ pub fn is_module_file(file: &str) -> bool
 }
 
 /// The name of a file without its last two bytes.
-fn stem(file: &str) -> &[u8]
+pub fn stem(file: &str) -> &[u8]
     ensures { result.now ≡ stem file.now }
 {
     let bytes = file.as_bytes();

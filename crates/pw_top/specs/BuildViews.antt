@@ -1,0 +1,15 @@
+-- What the code's modules and builds stand for.
+use Rattle.std.specs.Prelude.{ℕ, List}
+use Rattle.pw_top.specs.declared.modules.Module.{Module}
+use Rattle.pw_top.specs.declared.build.Built.{Built}
+use Rattle.pw_top.specs.declared.build.Built.TheVariants as built
+use Rattle.pw_top.specs.Modules.{Source}
+use Rattle.pw_top.specs.FullBuild.{Build, Program, Refused, LinkRefused}
+
+abbrev pub source : Module → Source
+source read = (read.name, read.text.items)
+
+abbrev pub build_view : Built → Build
+build_view (built.Program numbers) = Program numbers.items
+build_view (built.Refused name refusal line) = Refused name refusal line
+build_view (built.LinkRefused fault) = LinkRefused fault
