@@ -2,3 +2,4 @@ pub mod TokenLemmas
 pub mod SumLemmas
 pub mod SumLaw
 pub mod ModuleLemmas
+pub mod BuildLemmas

@@ -1,6 +1,7 @@
 //! The build: from the files of a store to the numbers of its program, or to a refusal.
 
-ghost use Rattle.std.specs.Prelude.{◌≡◌, ◌≤◌, ◌<◌, IfOk, IfSome, All, map, length, string_bytes, vec_len};
+ghost use Rattle.std.specs.Prelude.{◌≡◌, ◌≤◌, ◌<◌, IfOk, OnOk, IfSome, All, map, ◌++◌, ◌+◌, option_to_list, length, string_bytes, vec_len};
+ghost use Rattle.std.specs.Option.{option_map};
 ghost use Rattle.pw_io.specs.Files.{Keeps};
 ghost use Rattle.pw_io.specs.Faults.{HasStoreCause};
 ghost use Rattle.pw_top.specs.Modules.{IsModuleFile, source_of, sources_of, text_bytes};
@@ -9,7 +10,7 @@ ghost use Rattle.pw_top.specs.BuildViews.{source, build_view};
 
 use crate::answer::{Feature, LinkFault, Refusal, What};
 use crate::form::numbers_in;
-use crate::modules::{Module, module_count, module_files, stem};
+use crate::modules::{Module, TEXT_READ, module_count, module_files, stem};
 use crate::tokens::first_line;
 use pw_io::{Store, StoreError};
 use pw_value::{Name, NameError};
@@ -51,4 +52,75 @@ fn build_of(alloc: Global, modules: &[Module]) -> Result<Built, AllocError>
             },
         },
     }
+}
+
+/// Reads a module's text.
+fn read_source<S: Store>(alloc: Global, store: &mut S, file: &str) -> Result<Option<Module>, StoreError>
+    requires { IsModuleFile file.now }
+    ensures read { IfSome (S.told store.old) (λ told. IfOk result (λ found. option_map source found ≡ source_of told.files file.now)) }
+    ensures same { Keeps (S.told store.old) (S.told store.new) }
+    ensures cause { HasStoreCause (S.faults store.old) (S.faults store.new) result }
+{
+    let Some(mut text) = store.get(alloc, file, TEXT_READ)? else {
+        return Ok(None);
+    };
+    text.truncate(TEXT_READ);
+    match Name::new(alloc, stem(file)) {
+        Ok(name) => Ok(Some(Module { name, text })),
+        Err(NameError::NoMemory) => Err(StoreError::NoMemory),
+        Err(NameError::Length) => unreachable!(),
+    }
+}
+
+/// Reads a module's text and puts the module behind others. A file that is gone is left out.
+fn add_source<S: Store>(
+    alloc: Global,
+    store: &mut S,
+    modules: &mut Vec<Module>,
+    file: &str,
+) -> Result<(), StoreError>
+    requires { IsModuleFile file.now }
+    ensures read { IfSome (S.told store.old) (λ told. OnOk result (map source modules.new.items ≡ map source modules.old.items ++ option_to_list (source_of told.files file.now))) }
+    ensures same { Keeps (S.told store.old) (S.told store.new) }
+    ensures cause { HasStoreCause (S.faults store.old) (S.faults store.new) result }
+    ensures few { vec_len modules.new ≤ vec_len modules.old + 1 }
+{
+    match read_source(alloc, store, file)? {
+        None => Ok(()),
+        Some(found) => match modules.push(found) {
+            Ok(()) => Ok(()),
+            Err(_) => Err(StoreError::NoMemory),
+        },
+    }
+}
+
+/// Reads the texts of the modules in order. A file that is gone is left out.
+fn read_sources<S: Store>(
+    alloc: Global,
+    store: &mut S,
+    files: &[String],
+) -> Result<Vec<Module>, StoreError>
+    requires { All (λ file. IsModuleFile (string_bytes file)) files.now }
+    ensures read { IfSome (S.told store.old) (λ told. IfOk result (λ modules. map source modules.items ≡ sources_of told.files (map string_bytes files.now))) }
+    ensures same { Keeps (S.told store.old) (S.told store.new) }
+    ensures cause { HasStoreCause (S.faults store.old) (S.faults store.new) result }
+    ensures few { IfOk result (λ modules. vec_len modules ≤ length files.now) }
+{
+    let mut modules = Vec::new(alloc);
+    for file in files {
+        add_source(alloc, store, &mut modules, file.as_str())?;
+    }
+    Ok(modules)
+}
+
+/// How many bytes the texts of all modules have together.
+fn text_bytes(modules: &[Module]) -> u64
+    requires { length modules.now ≤ 256 }
+    ensures { result ≡ text_bytes (map source modules.now) }
+{
+    let mut bytes = 0;
+    for found in modules {
+        bytes += found.text.len() as u64;
+    }
+    bytes
 }
