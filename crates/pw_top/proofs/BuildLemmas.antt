@@ -1,11 +1,15 @@
 -- Reading modules, one after another.
 use Rattle.std.proofs.Common.{◌≡◌, ℕ, zero, suc, ◌+◌, ◌*◌, ◌<◌, ◌≤◌, List, [], ◌∷◌, ◌++◌, length, get_or, take, drop, map, Option, Some, None, refl, sym, ap, arith, ◌∙◌, subst, append_assoc}
-use Rattle.std.specs.Prelude.{IfSome, All, option_to_list}
+use Rattle.std.specs.Prelude.{IfSome, IfOk, Result, option_to_list}
 use Rattle.std.specs.Option.{option_map}
 use Rattle.std.proofs.lemmas.List.Sums.{sum_by-cons}
 use Rattle.std.specs.List.{filter_map, cons_option}
 use Rattle.std.specs.FinMap as finite
 use Rattle.pw_io.specs.Files.{Files, Told, Keeps, front_of}
+use Rattle.pw_io.specs.declared.StoreError.{StoreError}
+use Rattle.pw_top.specs.declared.build.Built.{Built}
+use Rattle.pw_top.specs.FullBuild.{build_named, full_build}
+use Rattle.pw_top.specs.BuildViews.{build_view}
 use Rattle.pw_top.specs.Modules.{Source, source_of, sources_of, text_bytes}
 
 take_take_same : (n : ℕ) (xs : List ℕ) → take n (take n xs) ≡ take n xs
@@ -57,3 +61,15 @@ sources_turn (Some told) now file names rest left old new inv same read e =
 -- the bytes of the texts from one on
 pub text_bytes_more : (s : Source) (rest : List Source) → text_bytes (s ∷ rest) ≡ length s.1 + text_bytes rest
 text_bytes_more s rest = sum_by-cons (λ x. length x.1) s rest
+
+-- what files come to, by the names that a store tells
+pub built_of_named : (first now : Option Told) (names : List (List ℕ)) (result : Result Built StoreError) →
+    IfSome first (λ told. names ≡ finite.keys told.files) → Keeps first now
+    → IfSome now (λ told. IfOk result (λ built. build_view built ≡ build_named told.files names))
+    → IfSome first (λ told. IfOk result (λ built. build_view built ≡ full_build told.files))
+unfolding full_build
+built_of_named None now names result e same h = tt
+built_of_named (Some told) now names result e same h =
+    let P : Option Told → Type 0 = λ o. IfSome o (λ t. IfOk result (λ built. build_view built ≡ build_named t.files names)) in
+    let Q : List (List ℕ) → Type 0 = λ ns. IfOk result (λ built. build_view built ≡ build_named told.files ns) in
+    subst Q e (subst P same h)

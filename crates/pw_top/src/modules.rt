@@ -1,8 +1,8 @@
 //! The modules of a store: which files they are, their order, and their texts.
 
-ghost use Rattle.std.specs.Prelude.{◌≡◌, ◌≤◌, map, IfOk, OnOk, IfSome, string_bytes, length, take, ◌-◌, fold, [], count_by};
+ghost use Rattle.std.specs.Prelude.{◌≡◌, ◌≤◌, map, IfOk, OnOk, IfSome, string_bytes, length, take, ◌-◌, fold, [], count_by, All, vec_len};
 ghost use Rattle.std.specs.List.{list_all, position_or_len};
-ghost use Rattle.pw_top.specs.Modules.{is_name_byte, is_module_name, is_module_file, stem, is_before, placed, with_file, module_files};
+ghost use Rattle.pw_top.specs.Modules.{is_name_byte, is_module_name, is_module_file, IsModuleFile, stem, is_before, placed, with_file, module_files};
 
 use crate::tokens::is_word_byte;
 use pw_value::Name;
@@ -109,8 +109,8 @@ fn place_module(files: &mut Vec<String>, name: &String) -> Result<(), AllocError
     place(files, name.clone()?)
 }
 
-/// The modules' files among these, in the order of the modules' names.
-pub fn module_files(alloc: Global, names: &[String]) -> Result<Vec<String>, AllocError>
+/// Puts the modules' files among these in order.
+fn placed_modules(alloc: Global, names: &[String]) -> Result<Vec<String>, AllocError>
     ensures { IfOk result (λ files. map string_bytes files.items ≡ module_files (map string_bytes names.now)) }
 {
     let mut files = Vec::new(alloc);
@@ -118,4 +118,13 @@ pub fn module_files(alloc: Global, names: &[String]) -> Result<Vec<String>, Allo
         place_module(&mut files, name)?;
     }
     Ok(files)
+}
+
+/// The modules' files among these, in the order of the modules' names.
+pub fn module_files(alloc: Global, names: &[String]) -> Result<Vec<String>, AllocError>
+    ensures files { IfOk result (λ files. map string_bytes files.items ≡ module_files (map string_bytes names.now)) }
+    ensures modules { IfOk result (λ files. All (λ file. IsModuleFile (string_bytes file)) files.items) }
+    ensures count { IfOk result (λ files. length files.items ≡ count_by (λ name. is_module_file (string_bytes name)) names.now) }
+{
+    placed_modules(alloc, names)
 }
