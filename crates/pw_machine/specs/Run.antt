@@ -19,10 +19,15 @@ pub data Progress : Type 0 where
 abbrev pub answered : Core → ℕ → Core
 answered core value = with_register (advanced core) 28 value
 
--- BREAK 0,1 answers the first byte of the input, or -1 at its end.
+-- what a read answers: the byte, or -1 at the end of the input
+abbrev pub input_word : Option ℕ → ℕ
+input_word (Some byte) = byte
+input_word None = 2 ^ 32 - 1
+
+-- BREAK 0,1 reads the first byte of the input.
 abbrev pub reads : Core → List ℕ → List ℕ → Progress
-reads core [] output = Running (record { core = answered core (2 ^ 32 - 1); rest = []; output = output })
-reads core (byte ∷ rest) output = Running (record { core = answered core byte; rest = rest; output = output })
+reads core [] output = Running (record { core = answered core (input_word None); rest = []; output = output })
+reads core (byte ∷ rest) output = Running (record { core = answered core (input_word (Some byte)); rest = rest; output = output })
 
 -- what comes of a step's effect; the step that ends the run leaves all else as it was
 abbrev pub taken : Effect → State → Progress
@@ -59,3 +64,8 @@ step_count (Stopped end s) = 0
 unfoldable pub steps_of : ℕ → State → ℕ
 steps_of zero s = 0
 steps_of (suc m) s = steps_of m s + step_count (run_of m s)
+
+-- a run that goes on for n more steps
+abbrev pub continued : ℕ → Progress → Progress
+continued n (Running s) = run_of n s
+continued n (Stopped end s) = Stopped end s

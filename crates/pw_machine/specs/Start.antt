@@ -1,5 +1,6 @@
 -- The state in which a program begins: its words as text, its bytes of data, and a stack above them.
 use Rattle.std.specs.Prelude.{ℕ, ◌+◌, ◌-◌, ◌*◌, ◌/◌, ◌%◌, ◌^◌, List, [], ◌∷◌, ◌++◌, length, take, drop, replicate, None, false, slice_set}
+use Rattle.std.specs.Int.{to_be_bytes, w32}
 use Rattle.pw_machine.specs.Core.{Core}
 
 -- n zeros
@@ -10,14 +11,10 @@ zeros n = replicate n 0
 abbrev pub overwritten : List ℕ → ℕ → List ℕ → List ℕ
 overwritten memory a bytes = take a memory ++ bytes ++ drop (a + length bytes) memory
 
--- the bytes of a word, the highest first
-abbrev pub bytes_of_word : ℕ → List ℕ
-bytes_of_word word = (word / 2 ^ 24) % 2 ^ 8 ∷ (word / 2 ^ 16) % 2 ^ 8 ∷ (word / 2 ^ 8) % 2 ^ 8 ∷ word % 2 ^ 8 ∷ []
-
--- the bytes of words, one word after another
+-- the bytes of words, one word after another, the highest byte of a word first
 abbrev pub bytes_of : List ℕ → List ℕ
 bytes_of [] = []
-bytes_of (word ∷ words) = bytes_of_word word ++ bytes_of words
+bytes_of (word ∷ words) = to_be_bytes w32 word ++ bytes_of words
 
 -- n rounded up to a multiple of k
 abbrev pub rounded_up : ℕ → ℕ → ℕ

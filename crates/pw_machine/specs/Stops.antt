@@ -60,34 +60,40 @@ StepsFit (Halted halt at) budget n = n ≤ budget
 StepsFit ReadFault budget n = n < budget
 StepsFit WriteFault budget n = n < budget
 
--- The count of steps rose by n; it stays at the greatest 128-bit number.
-abbrev pub CountsSteps : ℕ → ℕ → Stop → ℕ → Type 0
-CountsSteps before now stop budget = (n : ℕ) × StepsFit stop budget n × (now ≡ min (before + n) (2 ^ 128 - 1))
-
--- The run from a state comes to the answer within the budget, and to the last state:
+-- The run from a state comes to the answer within the budget, in n steps, and to the last state:
 --   an end is that of the run of `budget` steps;
 --   `Spent` says that this run has not stopped;
---   a fault comes at a step that would read or write, after n others.
-abbrev pub Comes : State → ℕ → Stop → State → ℕ → Type 0
-Comes start budget (Ended status) last n = (run_of budget start ≡ Stopped (end.Ended status) last) × (n ≡ steps_of budget start)
-Comes start budget StackStop last n = (run_of budget start ≡ Stopped end.StackStop last) × (n ≡ steps_of budget start)
-Comes start budget (Halted halt at) last n = (run_of budget start ≡ Stopped (end.Halted halt at) last) × (n ≡ steps_of budget start)
-Comes start budget Spent last n = (run_of budget start ≡ Running last) × (n ≡ budget)
-Comes start budget ReadFault last n = (n < budget) × (run_of n start ≡ Running last) × (effect_of last.core ≡ Reads)
-Comes start budget WriteFault last n =
-    (n < budget) × (run_of n start ≡ Running last) × ((byte : ℕ) × (effect_of last.core ≡ Writes byte))
+--   a fault comes at the step after n others, which would read or write.
+abbrev pub Comes : State → ℕ → Stop → ℕ → State → Type 0
+Comes start budget (Ended status) n last = (n ≡ steps_of budget start) × (run_of budget start ≡ Stopped (end.Ended status) last)
+Comes start budget StackStop n last = (n ≡ steps_of budget start) × (run_of budget start ≡ Stopped end.StackStop last)
+Comes start budget Spent n last = (n ≡ budget) × (run_of budget start ≡ Running last)
+Comes start budget (Halted halt at) n last = (n ≡ steps_of budget start) × (run_of budget start ≡ Stopped (end.Halted halt at) last)
+Comes start budget ReadFault n last = (n < budget) × (run_of n start ≡ Running last)
+Comes start budget WriteFault n last = (n < budget) × (run_of n start ≡ Running last)
 
--- What a call leaves of a machine, of an input that tells its rest, and of an output:
--- the last state of the run, and the bytes that the run wrote.
-pub record IsRunFrom (old : Snapshot) (rest : List ℕ) (taken : Option (List ℕ)) (budget : ℕ) (stop : Stop) (new : Snapshot) (rest' taken' : Option (List ℕ)) : Type 0 where
+-- What the run from a processor over this input leaves: `left` of the input, and `output` was appended
+-- to what the sink took.
+pub record IsRunFrom (old : Core) (input : List ℕ) (taken : Option (List ℕ)) (budget : ℕ) (stop : Stop) (n : ℕ) (new : Core) (rest' taken' : Option (List ℕ)) : Type 0 where
   pub left : List ℕ
   pub output : List ℕ
-  pub steps : ℕ
   pub rest_is : rest' ≡ Some left
   pub taken_is : Appends taken taken' output
-  pub steps_are : new.steps ≡ min (old.steps + steps) (2 ^ 128 - 1)
-  pub comes : Comes (record { core = old.core; rest = rest; output = [] }) budget stop (record { core = new.core; rest = left; output = output }) steps
+  pub comes : Comes (record { core = old; rest = input; output = [] }) budget stop n (record { core = new; rest = left; output = output })
 
--- the same of any input: one that tells nothing leaves it open which bytes it gave
-abbrev pub IsRun : Snapshot → Option (List ℕ) → Option (List ℕ) → ℕ → Stop → Snapshot → Option (List ℕ) → Option (List ℕ) → Type 0
-IsRun old rest taken budget stop new rest' taken' = IfSome rest (λ input. IsRunFrom old input taken budget stop new rest' taken')
+-- the same of a source that may tell nothing, of whose bytes then nothing is said
+abbrev pub RunsOver : Core → Option (List ℕ) → Option (List ℕ) → ℕ → Stop → ℕ → Core → Option (List ℕ) → Option (List ℕ) → Type 0
+RunsOver old rest taken budget stop n new rest' taken' = IfSome rest (λ input. IsRunFrom old input taken budget stop n new rest' taken')
+
+-- What a call of `run` answers and leaves, in so many steps. The count of steps stays at the greatest
+-- 128-bit number.
+pub record IsRun (old : Snapshot) (rest taken : Option (List ℕ)) (budget : ℕ) (stop : Stop) (new : Snapshot) (rest' taken' : Option (List ℕ)) : Type 0 where
+  pub steps : ℕ
+  pub fits : StepsFit stop budget steps
+  pub counted : new.steps ≡ min (old.steps + steps) (2 ^ 128 - 1)
+  pub over : RunsOver old.core rest taken budget stop steps new.core rest' taken'
+
+-- A machine that has stopped answers its end again, and stays as it is, as do its input and its output.
+abbrev pub StaysStopped : {I O : Type 0} → Snapshot → Stop → Snapshot → I → I → O → O → Type 0
+StaysStopped old stop new input input' out out' =
+    IfSome old.core.stopped (λ end. (end_of stop ≡ Some end) × (new ≡ old) × (input' ≡ input) × (out' ≡ out))
