@@ -17,6 +17,15 @@ pub record Told : Type 0 where
   -- the names put so far, the first of them first
   pub puts : List (List ℕ)
 
+-- after a put: the file has these bytes, and the name stands last in the list
+abbrev pub after_put : Told → List ℕ → List ℕ → Told
+after_put told name bytes =
+    record { files = finite.insert told.files name bytes; puts = told.puts ++ name ∷ [] }
+
+-- after a removal, which changes nothing where the name is absent
+abbrev pub after_remove : Told → List ℕ → Told
+after_remove told name = record { files = finite.remove told.files name; puts = told.puts }
+
 -- the first `most` bytes
 unfoldable pub front_of : ℕ → List ℕ → List ℕ
 front_of most bytes = take most bytes
@@ -36,8 +45,7 @@ ReadsFront old name most file =
 
 -- The file has these bytes now, and the name was appended to the list; nothing else changed.
 abbrev pub Puts : Option Told → Option Told → List ℕ → List ℕ → Type 0
-Puts old new name bytes =
-    IfSome old (λ told. new ≡ Some (record { files = finite.insert told.files name bytes; puts = told.puts ++ name ∷ [] }))
+Puts old new name bytes = IfSome old (λ told. new ≡ Some (after_put told name bytes))
 
 -- The file is as before, absent, or a proper prefix of the bytes; all other files are as before.
 abbrev pub LeavesFile : Files → Files → List ℕ → List ℕ → Type 0
@@ -51,5 +59,4 @@ PutsPart old new name bytes =
 
 -- The file was taken out; nothing else changed.
 abbrev pub Removes : Option Told → Option Told → List ℕ → Type 0
-Removes old new name =
-    IfSome old (λ told. new ≡ Some (record { files = finite.remove told.files name; puts = told.puts }))
+Removes old new name = IfSome old (λ told. new ≡ Some (after_remove told name))

@@ -14,11 +14,16 @@ ghost use Rattle.pw_io.specs.Files.{Told, Keeps, ListsNames, ReadsFront, Puts, P
 use std::alloc::Global;
 
 mod calls;
+mod kept;
+pub mod laws;
+mod shelf;
 mod sinks;
 mod sources;
+mod stores;
 
 pub use sinks::{DropSink, MemSink, SureSink};
 pub use sources::{MemSource, SureSource};
+pub use stores::{Left, MemStore, StoreFail, SureStore};
 
 /// Memory ran out. A call that answers so leaves the values that it was lent as they were.
 pub use std::alloc::AllocError as NoMemory;
@@ -34,6 +39,17 @@ pub enum StoreError {
     Failed,
     /// Memory ran out.
     NoMemory,
+}
+
+impl From<NoMemory> for StoreError {
+    ghost use Rattle.std.specs.Prelude.{◌≡◌};
+    ghost use Rattle.pw_io.specs.declared.StoreError.TheVariants.{NoMemory};
+
+    ghost from_gives = { λ _ error. error ≡ NoMemory };
+
+    fn from(_error: NoMemory) -> StoreError {
+        StoreError::NoMemory
+    }
 }
 
 /// Bytes that are read one at a time.
