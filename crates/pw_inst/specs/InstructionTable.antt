@@ -1,6 +1,6 @@
 -- The instruction table: the word of each of the 26 forms, the fields that a form may hold, and the form of
 -- a word (PA-RISC 1.1 Architecture and Instruction Set Reference Manual, chapter 5 and appendix C).
-use Rattle.std.specs.Prelude.{ℕ, ℤ, Bool, true, false, Option, Some, None, ◌+◌, ◌-◌, ◌*◌, ◌^◌, ◌<◌, ◌≤◌, ◌==◌, ◌&&◌, nat_lt, nat_le, if◌then◌else◌}
+use Rattle.std.specs.Prelude.{ℕ, ℤ, Bool, true, false, Option, Some, None, ◌≡◌, ◌+◌, ◌-◌, ◌*◌, ◌^◌, ◌<◌, ◌≤◌, ◌==◌, ◌&&◌, nat_lt, nat_le, if◌then◌else◌}
 use Rattle.pw_inst.specs.declared.Inst.{Inst}
 use Rattle.pw_inst.specs.declared.Inst.TheVariants.{Ldb, Ldh, Ldw, Ldo, Stb, Sth, Stw, Ldil, And, Or, Xor, Sub, Addl, Vshd, Mtctl, Comclr, Subi, Extru, Extrs, Zdep, Combt, Combf, Bl, Bv, Ble, Break}
 use Rattle.pw_inst.specs.Fields.{bits, field, at, bit, twos_complement, signed, low_sign, low_signed, IsSigned}
@@ -113,6 +113,11 @@ IsInRange (Bl disp t n) = IsSigned 17 disp × IsRegister t
 IsInRange (Bv b n) = IsRegister b
 IsInRange (Ble b n) = IsRegister b
 IsInRange (Break im5 im13) = (im5 < 2 ^ 5) × (im13 < 2 ^ 13)
+
+-- the word is an instruction's, and the instruction's fields are in range
+pub record IsWordOf (word : ℕ) (inst : Inst) : Type 0 where
+  pub in_range : IsInRange inst
+  pub same : word_of inst ≡ word
 
 -- ---- the instruction of a word: by its opcode, then by the fields that tell the forms of one opcode apart
 

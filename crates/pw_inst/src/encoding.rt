@@ -1,14 +1,22 @@
 // The word of an instruction.
 ghost use Rattle.std.specs.Prelude.{◌≡◌, ◌+◌, ◌^◌, ◌<◌, ◌≤◌};
 ghost use Rattle.pw_inst.specs.Fields.{at, IsSigned};
-ghost use Rattle.pw_inst.specs.InstructionTable.{word_of, memory_word, long_immediate_word, three_register_word, extract_word, deposit_word, compare_word, branch_word, IsRegister, IsCondition, IsBitField, IsInRange};
+ghost use Rattle.pw_inst.specs.InstructionTable.{decoded, word_of, memory_word, long_immediate_word, three_register_word, extract_word, deposit_word, compare_word, branch_word, IsRegister, IsCondition, IsBitField, IsInRange};
 
 use crate::Inst;
 use crate::fields::{low_sign, place, twos_complement};
 
 /// The word of an instruction whose fields are in range. Takes no memory.
-#[tactic(auto, unfolding(crate::specs::InstructionTable::word_of, crate::specs::InstructionTable::IsInRange))]
 pub fn encode(inst: Inst) -> u32
+    requires { IsInRange inst }
+    ensures table { result ≡ word_of inst }
+    ensures again { decoded result ≡ Some inst }
+{
+    word(inst)
+}
+
+#[tactic(auto, unfolding(crate::specs::InstructionTable::word_of, crate::specs::InstructionTable::IsInRange))]
+fn word(inst: Inst) -> u32
     requires { IsInRange inst }
     ensures { result ≡ word_of inst }
 {
