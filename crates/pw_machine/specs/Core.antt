@@ -1,6 +1,6 @@
 -- The state of the machine, apart from its input and output: registers, the two program counters, the
 -- nullify bit, the shift amount register and the memory, as PA-RISC 1.1 has them.
-use Rattle.std.specs.Prelude.{ℕ, zero, suc, ◌+◌, ◌*◌, ◌/◌, ◌%◌, ◌^◌, List, Option, Bool, false, ◌==◌, slice_index, slice_set, if◌then◌else◌}
+use Rattle.std.specs.Prelude.{ℕ, ◌+◌, ◌*◌, ◌/◌, ◌%◌, ◌^◌, List, Option, Bool, false, ◌==◌, slice_index, slice_set, if◌then◌else◌}
 use Rattle.pw_machine.specs.declared.ends.End.{End}
 
 pub record Core : Type 0 where

@@ -8,7 +8,7 @@ use Rattle.pw_io.specs.Faults.{Rose}
 use Rattle.pw_io.specs.Streams.{Appends}
 use Rattle.pw_machine.specs.Core.{Core}
 use Rattle.pw_machine.specs.Effect.{Reads, Writes, effect_of}
-use Rattle.pw_machine.specs.Run.{State, Progress, Running, Stopped, run_of, steps_of}
+use Rattle.pw_machine.specs.Run.{State, Running, Stopped, run_of, steps_of}
 
 -- A machine as a caller sees it: its state, and how many steps it took since the start.
 pub record Snapshot : Type 0 where

@@ -6,9 +6,29 @@ ghost use Rattle.pw_machine.specs.Effect.{executed, effect_of};
 ghost use Rattle.pw_machine.specs.Outcomes.{Does};
 
 use crate::bits;
+use crate::ends::Halt;
 use crate::processor::{Outcome, Processor};
+use pw_inst::{Inst, decode};
 
-use pw_inst::Inst;
+/// One step: looks at front, and does what the word there says. One word is decoded, and no memory is taken.
+#[tactic(auto, unfolding(crate::specs::Effect::effect_of))]
+#[inline(always)]
+pub(crate) fn step(p: &mut Processor) -> Outcome
+    ensures { Does (effect_of p.old) p.old result p.new }
+{
+    let front = p.front();
+    if !p.is_in_text(front) {
+        return p.halt(Halt::BadBranch);
+    }
+    if p.is_nullified() {
+        p.advance();
+        return Outcome::Goes;
+    }
+    match decode(p.word_at(front)) {
+        None => p.halt(Halt::Illegal),
+        Some(inst) => execute(p, inst),
+    }
+}
 
 /// Does what an instruction says.
 #[tactic(auto, unfolding(pw_inst::specs::InstructionTable::IsInRange))]
@@ -39,7 +59,10 @@ pub(crate) fn execute(p: &mut Processor, inst: Inst) -> Outcome
         }
         Inst::Subi { im, r, t } => p.put(t, im.cast_unsigned().wrapping_sub(p.register(r))),
         Inst::Extru { r, p: at, len, t } => p.put(t, bits::extracted(p.register(r), at, len)),
-        Inst::Extrs { r, p: at, len, t } => p.put(t, bits::extracted_signed(p.register(r), at, len)),
+        Inst::Extrs { r, p: at, len, t } => p.put(
+            t,
+            bits::extracted_signed(p.register(r), at, len),
+        ),
         Inst::Zdep { r, p: at, len, t } => p.put(t, bits::deposited(p.register(r), at, len)),
         Inst::Combt { c, r1, r2, disp } => {
             let holds = bits::condition(c, p.register(r1), p.register(r2));

@@ -11,8 +11,8 @@ mod execute;
 mod machine;
 mod memory;
 mod processor;
+mod run;
+mod start;
 
-pub use ends::End;
-pub use ends::Halt;
-pub use ends::Stop;
+pub use ends::{End, Halt, Stop};
 pub use machine::Machine;

@@ -1,14 +1,13 @@
 // The processor: the machine apart from its input and output. One step of it is `step`.
 
-ghost use Rattle.std.specs.Prelude.{◌≡◌, ◌+◌, ◌-◌, ◌*◌, ◌^◌, ◌%◌, ◌<◌, ◌≤◌, IfNone};
+ghost use Rattle.std.specs.Prelude.{◌≡◌, ◌+◌, ◌-◌, ◌*◌, ◌^◌, ◌%◌, ◌<◌, ◌≤◌, IfNone, IfOk, length, []};
 ghost use Rattle.std.specs.Bool.{OnTrue};
 
-use crate::bits;
 use crate::ends::{End, Halt};
-use crate::memory;
-
+use crate::{bits, memory, start};
 use pw_inst::Inst;
-
+use pw_io::NoMemory;
+use std::alloc::Global;
 use std::marker::Model;
 
 /// How many bytes of memory there are.
@@ -51,9 +50,37 @@ impl Model for Processor {
 }
 
 impl Processor {
+    ghost use Rattle.pw_machine.specs.Start.{start_core};
+
+    /// The processor at the start of a program that is these words and has no data.
+    #[tactic(auto, using(crate::proofs::Memories::start_memory_text), unfolding(crate::specs::Start::start_core))]
+    pub(crate) fn start(alloc: Global, words: &[u32]) -> Result<Processor, NoMemory>
+        requires { length words.now ≤ 65536 }
+        ensures { IfOk result (λ p. p ≡ start_core 4096 words.now []) }
+    {
+        let text = words.len() as u32;
+        let data_start = start::rounded_up(8, TEXT + 4 * text);
+        let mut registers = [0; 32];
+        registers[30] = start::rounded_up(64, data_start) + 64;
+        let mut memory = start::blank(alloc, MEMORY as usize)?;
+        start::fill(&mut memory, TEXT as usize, words);
+        Ok(Processor {
+            registers,
+            front: TEXT,
+            back: TEXT + 4,
+            nullify: false,
+            shift: 0,
+            memory,
+            text,
+            data_start,
+            stopped: None,
+        })
+    }
+
     ghost use Rattle.pw_machine.specs.Core.{register, with_register, advanced, moved, next, byte_at, half_at, word_at, with_byte, with_half, with_word};
     ghost use Rattle.pw_machine.specs.Effect.{Goes, puts, halts, address, access_fault, is_in_text, target, branches_if, breaks, executed};
     ghost use Rattle.pw_machine.specs.Outcomes.{Does};
+    ghost use Rattle.pw_machine.specs.Run.{answered};
 
     /// The word in a general register.
     #[inline(always)]
@@ -152,7 +179,7 @@ impl Processor {
 
     /// Whether an address is a multiple of 4 inside the text.
     #[inline(always)]
-    fn is_in_text(&self, a: u32) -> bool
+    pub(crate) fn is_in_text(&self, a: u32) -> bool
         ensures inside { result ≡ is_in_text self.now a }
         ensures within { OnTrue result (a + 4 ≤ 67108864) }
     {
@@ -352,7 +379,11 @@ impl Processor {
     pub(crate) fn branch_if(&mut self, taken: bool, disp: i32) -> Outcome
         ensures { Does (branches_if self.old taken disp) self.old result self.new }
     {
-        let after = if taken { self.target(disp) } else { self.next() };
+        let after = if taken {
+            self.target(disp)
+        } else {
+            self.next()
+        };
         self.go(after, false);
         Outcome::Goes
     }
@@ -413,5 +444,43 @@ impl Processor {
         ensures { result ≡ register self.now 26 % 2 ^ 8 }
     {
         (self.register(26) % 0x100) as u8
+    }
+
+    /// The address of the next instruction.
+    #[inline(always)]
+    pub(crate) fn front(&self) -> u32
+        ensures { result ≡ self.now.front }
+    {
+        self.front
+    }
+
+    /// Whether the next instruction is nullified.
+    #[inline(always)]
+    pub(crate) fn is_nullified(&self) -> bool
+        ensures { result ≡ self.now.nullify }
+    {
+        self.nullify
+    }
+
+    /// How the run ended, once it has.
+    pub(crate) fn stopped(&self) -> Option<End>
+        ensures { result ≡ self.now.stopped }
+    {
+        self.stopped
+    }
+
+    /// Ends the run, and leaves all else as it is.
+    pub(crate) fn stop(&mut self, end: End)
+        ensures { self.new ≡ record self.old { stopped = Some end } }
+    {
+        self.stopped = Some(end);
+    }
+
+    /// Puts the answer of a BREAK into register 28, and goes on.
+    pub(crate) fn answer(&mut self, value: u32)
+        ensures { self.new ≡ answered self.old value }
+    {
+        self.advance();
+        self.set_register(28, value);
     }
 }
