@@ -1,6 +1,8 @@
 -- Powers of two and two's complements, as the readers of fields use them.
-use Rattle.std.proofs.Common.{ℕ, suc, zero, pos, negsuc, ◌≡◌, ◌+◌, ◌-◌, ◌*◌, ◌/◌, ◌%◌, ◌^◌, ◌<◌, ◌≤◌, ◌-ℤ◌, to_z, of_z, w32, ap, ◌∙◌, arith, nat_lt, if◌then◌else◌}
-use Rattle.std.proofs.Math.Nat.{mod-eq_of_lt, pow-succ', pow-le-pow_right}
+use Rattle.std.proofs.Common.{ℕ, ℤ, suc, zero, pos, negsuc, ◌≡◌, ◌+◌, ◌-◌, ◌*◌, ◌/◌, ◌%◌, ◌^◌, ◌<◌, ◌≤◌, ◌-ℤ◌, ◌≤ℤ◌, to_z, of_z, w32, ap, ◌∙◌, arith, nat_lt, if◌then◌else◌}
+use Rattle.std.specs.Int.RustNames.{unsigned_abs}
+use Rattle.std.proofs.lemmas.Nat.{pow-add, pow_pos}
+use Rattle.std.proofs.Math.Nat.{mul-le-mul_right, mod-eq_of_lt, pow-succ', pow-le-pow_right}
 use Rattle.std.proofs.lemmas.Int.{ints}
 use Rattle.std.proofs.lemmas.Bool.Decides.{nat_tests}
 
@@ -38,3 +40,24 @@ rotated value half fits small =
     let sign : value % 2 * half % 2 ^ 32 ≡ value % 2 * half = mod-eq_of_lt (bit-times (value % 2) half one small) in
     let whole : value / 2 ^ 0 ≡ value = omega arith in
     rw (sign, whole, rest)
+
+pub whole_is_small : (width : ℕ) → width < 31 → 2 ^ width ≤ 2 ^ 30
+whole_is_small width narrow =
+    let below : width ≤ 30 = omega arith in
+    let two : 0 < 2 = omega arith in
+    pow-le-pow_right two below
+
+-- a value of some bits, moved to the left within the word, is still a word
+pub shifted_fits : (value width shift : ℕ) → value < 2 ^ width → width + shift ≤ 32 → value * 2 ^ shift < 2 ^ 32
+shifted_fits value width shift fits room =
+    let two : 0 < 2 = omega arith in
+    let all : 2 ^ (width + shift) ≤ 2 ^ 32 = pow-le-pow_right two room in
+    let some : 2 ^ (width + shift) ≡ 2 ^ width * 2 ^ shift = pow-add 2 width shift in
+    let one : 0 < 2 ^ shift = pow_pos shift in
+    let product : suc value * 2 ^ shift ≤ 2 ^ width * 2 ^ shift = mul-le-mul_right (2 ^ shift) fits in
+    omega arith
+
+-- the magnitude of a number that has a two's complement of twice `half` values
+pub magnitude_fits : (number : ℤ) (half : ℕ) → 0 < half → negsuc (half - 1) ≤ℤ number → number ≤ℤ pos (half - 1) → unsigned_abs number ≤ half
+magnitude_fits (pos n) half some least greatest = omega (arith, ints)
+magnitude_fits (negsuc n) half some least greatest = omega (arith, ints)

@@ -1,1 +1,5 @@
 pub mod FieldLemmas
+pub mod Found
+pub mod Inverse
+pub mod Signs
+pub mod Words

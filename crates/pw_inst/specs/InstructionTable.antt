@@ -1,6 +1,6 @@
 -- The instruction table: the word of each of the 26 forms, the fields that a form may hold, and the form of
 -- a word (PA-RISC 1.1 Architecture and Instruction Set Reference Manual, chapter 5 and appendix C).
-use Rattle.std.specs.Prelude.{ℕ, ℤ, Bool, true, false, Option, Some, None, ◌+◌, ◌-◌, ◌*◌, ◌^◌, ◌<◌, ◌≤◌, ◌==◌, ◌&&◌, nat_lt, nat_le, if◌then◌else◌}
+use Rattle.std.specs.Prelude.{ℕ, ℤ, Bool, true, false, Option, Some, None, ◌≡◌, ◌+◌, ◌-◌, ◌*◌, ◌^◌, ◌<◌, ◌≤◌, ◌==◌, ◌&&◌, nat_lt, nat_le, if◌then◌else◌}
 use Rattle.pw_inst.specs.declared.Inst.{Inst}
 use Rattle.pw_inst.specs.declared.Inst.TheVariants.{Ldb, Ldh, Ldw, Ldo, Stb, Sth, Stw, Ldil, And, Or, Xor, Sub, Addl, Vshd, Mtctl, Comclr, Subi, Extru, Extrs, Zdep, Combt, Combf, Bl, Bv, Ble, Break}
 use Rattle.pw_inst.specs.Fields.{bits, field, at, bit, twos_complement, signed, low_sign, low_signed, IsSigned}
@@ -20,6 +20,16 @@ three_register_word ext c f r1 r2 t =
 abbrev pub extract_word : ℕ → ℕ → ℕ → ℕ → ℕ → ℕ
 extract_word ext r p len t = at 0 6 0x34 + at 6 5 r + at 11 5 t + at 19 3 ext + at 22 5 p + at 27 5 (32 - len)
 
+-- opcode 35: target, source, extension, 31 less the last bit, 32 less the length
+abbrev pub deposit_word : ℕ → ℕ → ℕ → ℕ → ℕ
+deposit_word r p len t = at 0 6 0x35 + at 6 5 t + at 11 5 r + at 19 3 2 + at 22 5 (31 - p) + at 27 5 (32 - len)
+
+-- opcode 08: target, and the 21 bits of a number in five pieces
+abbrev pub long_immediate_word : ℕ → ℕ → ℕ
+long_immediate_word im t =
+    at 0 6 0x08 + at 6 5 t + at 11 5 (bits 2 5 im) + at 16 2 (bits 7 2 im) + at 18 2 (bits 0 2 im)
+    + at 20 11 (bits 9 11 im) + at 31 1 (bits 20 1 im)
+
 -- compare and branch: opcode, second source, first source, condition, and the displacement, whose sign is
 -- bit 31, whose next bit is bit 29 and whose other bits are 19 to 28
 abbrev pub compare_word : ℕ → ℕ → ℕ → ℕ → ℤ → ℕ
@@ -27,6 +37,14 @@ compare_word op c r1 r2 disp =
     let w = twos_complement 12 disp in
     at 0 6 op + at 6 5 r2 + at 11 5 r1 + at 16 3 c
     + at 19 10 (bits 0 10 w) + at 29 1 (bits 10 1 w) + at 31 1 (bits 11 1 w)
+
+-- branch and link: target, and the displacement, whose sign is bit 31, whose next bits are 11 to 15, then
+-- bit 29, then 19 to 28; bit 30 nullifies
+abbrev pub branch_word : ℤ → ℕ → Bool → ℕ
+branch_word disp t n =
+    let w = twos_complement 17 disp in
+    at 0 6 0x3A + at 6 5 t + at 11 5 (bits 11 5 w)
+    + at 19 10 (bits 0 10 w) + at 29 1 (bits 10 1 w) + at 30 1 (bit n) + at 31 1 (bits 16 1 w)
 
 unfoldable pub word_of : Inst → ℕ
 word_of (Ldb im b t) = memory_word 0x10 b t im
@@ -36,9 +54,7 @@ word_of (Ldo im b t) = memory_word 0x0D b t im
 word_of (Stb r im b) = memory_word 0x18 b r im
 word_of (Sth r im b) = memory_word 0x19 b r im
 word_of (Stw r im b) = memory_word 0x1A b r im
-word_of (Ldil im t) =
-    at 0 6 0x08 + at 6 5 t + at 31 1 (bits 20 1 im) + at 20 11 (bits 9 11 im)
-    + at 16 2 (bits 7 2 im) + at 11 5 (bits 2 5 im) + at 18 2 (bits 0 2 im)
+word_of (Ldil im t) = long_immediate_word im t
 word_of (And r1 r2 t) = three_register_word 0x10 0 false r1 r2 t
 word_of (Or r1 r2 t) = three_register_word 0x12 0 false r1 r2 t
 word_of (Xor r1 r2 t) = three_register_word 0x14 0 false r1 r2 t
@@ -50,13 +66,10 @@ word_of (Comclr c f r1 r2 t) = three_register_word 0x44 c f r1 r2 t
 word_of (Subi im r t) = at 0 6 0x25 + at 6 5 r + at 11 5 t + at 21 11 (low_sign 11 im)
 word_of (Extru r p len t) = extract_word 6 r p len t
 word_of (Extrs r p len t) = extract_word 7 r p len t
-word_of (Zdep r p len t) = at 0 6 0x35 + at 6 5 t + at 11 5 r + at 19 3 2 + at 22 5 (31 - p) + at 27 5 (32 - len)
+word_of (Zdep r p len t) = deposit_word r p len t
 word_of (Combt c r1 r2 disp) = compare_word 0x20 c r1 r2 disp
 word_of (Combf c r1 r2 disp) = compare_word 0x22 c r1 r2 disp
-word_of (Bl disp t n) =
-    let w = twos_complement 17 disp in
-    at 0 6 0x3A + at 6 5 t + at 11 5 (bits 11 5 w) + at 19 10 (bits 0 10 w) + at 29 1 (bits 10 1 w)
-    + at 30 1 (bit n) + at 31 1 (bits 16 1 w)
+word_of (Bl disp t n) = branch_word disp t n
 word_of (Bv b n) = at 0 6 0x3A + at 6 5 b + at 16 3 6 + at 30 1 (bit n)
 word_of (Ble b n) = at 0 6 0x39 + at 6 5 b + at 16 3 1 + at 30 1 (bit n)
 word_of (Break im5 im13) = at 6 13 im13 + at 27 5 im5
@@ -100,6 +113,11 @@ IsInRange (Bl disp t n) = IsSigned 17 disp × IsRegister t
 IsInRange (Bv b n) = IsRegister b
 IsInRange (Ble b n) = IsRegister b
 IsInRange (Break im5 im13) = (im5 < 2 ^ 5) × (im13 < 2 ^ 13)
+
+-- the word is an instruction's, and the instruction's fields are in range
+pub record IsWordOf (word : ℕ) (inst : Inst) : Type 0 where
+  pub in_range : IsInRange inst
+  pub same : word_of inst ≡ word
 
 -- ---- the instruction of a word: by its opcode, then by the fields that tell the forms of one opcode apart
 

@@ -1,13 +1,33 @@
 // The instruction of a word.
-ghost use Rattle.std.specs.Prelude.{◌≡◌, ◌+◌, ◌*◌, ◌^◌, ◌<◌, ◌≤◌};
-ghost use Rattle.pw_inst.specs.InstructionTable.{decoded, system, three_register, long_immediate, compare, subtract_immediate, extract, deposit, branch_external, branch, memory};
+ghost use Rattle.std.specs.Prelude.{◌≡◌, ◌↔◌, IsNone, IfSome};
+ghost use Rattle.pw_inst.specs.declared.Inst.{Inst};
+ghost use Rattle.pw_inst.specs.InstructionTable.{IsInRange, IsWordOf, word_of, decoded, system, three_register, long_immediate, compare, subtract_immediate, extract, deposit, branch_external, branch, memory};
 
 use crate::Inst;
 use crate::fields::{low_signed, read, register, signed};
 
-/// The instruction of a word, and `None` where no form has the word. Takes no memory.
-#[tactic(auto, unfolding(crate::specs::InstructionTable::decoded, crate::specs::InstructionTable::form_of))]
+/// The instruction of a word: the one whose fields are in range and whose word it is, and `None` exactly
+/// where there is none. Takes no memory.
 pub fn decode(word: u32) -> Option<Inst>
+    ensures table { result ≡ decoded word }
+    ensures found { IfSome result (IsWordOf word) }
+    ensures none { IsNone result ↔ ((inst : Inst) → ¬ IsWordOf word inst) }
+{
+    form_of(word)
+}
+
+/// Every instruction whose fields are in range is the one that its word is decoded to.
+pub fn word_is_decoded_again()
+    ensures { (inst : Inst) → IsInRange inst → decoded (word_of inst) ≡ Some inst }
+{}
+
+/// No two instructions whose fields are in range have one word.
+pub fn words_differ()
+    ensures { (a b : Inst) → IsInRange a → IsInRange b → word_of a ≡ word_of b → a ≡ b }
+{}
+
+#[tactic(auto, unfolding(crate::specs::InstructionTable::decoded, crate::specs::InstructionTable::form_of))]
+fn form_of(word: u32) -> Option<Inst>
     ensures { result ≡ decoded word }
 {
     match read(word, 0, 6) {

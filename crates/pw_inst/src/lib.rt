@@ -3,9 +3,11 @@
 #![tactic(auto)]
 
 mod decoding;
+mod encoding;
 mod fields;
 
-pub use decoding::decode;
+pub use decoding::{decode, word_is_decoded_again, words_differ};
+pub use encoding::encode;
 
 /// An instruction of PA-RISC 1.1, in one of the 26 forms that this system knows.
 ///

@@ -102,6 +102,11 @@ keys-files_in kept ordered =
     ∙ ap (map (λ (e : List ℕ × List ℕ). e.0)) (entries-from_sorted (slice_cmp nat_cmp) (map file_shown kept.entries) sorted)
     ∙ names-shown kept.entries
 
+-- no entries, no files
+pub files_of-none : files_of [] ≡ finite.empty
+unfolding files_of
+files_of-none = refl
+
 -- one more entry is set after those before it
 pub files_of-more : (entries : List (String Global × Vec ℕ Global)) (entry : String Global × Vec ℕ Global) → files_of (entries ++ entry ∷ []) ≡ finite.insert (files_of entries) (string_bytes entry.0) entry.1.items
 unfolding files_of

@@ -1,1 +1,3 @@
 pub mod KeptFiles
+pub mod FileMaps
+pub mod LastEntries

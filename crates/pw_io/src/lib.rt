@@ -15,6 +15,7 @@ use std::alloc::Global;
 
 mod calls;
 mod kept;
+pub mod laws;
 mod shelf;
 mod sinks;
 mod sources;

@@ -1,0 +1,5 @@
+pub mod FieldSizes
+pub mod Keeping
+pub mod Runs
+pub mod Turns
+pub mod Memories

@@ -1,0 +1,12 @@
+-- Core: the machine's own state, its registers and its memory.
+-- Effect: the table from each form of instruction to its effect.
+-- Run: one step over input and output, and runs of many steps.
+-- Start: the state in which a program begins.
+-- Stops: what a call of `run` answers.
+-- Outcomes: what the code of a step answers.
+pub mod Core
+pub mod Effect
+pub mod Start
+pub mod Run
+pub mod Stops
+pub mod Outcomes

@@ -1,0 +1,18 @@
+//! The machine: a simulator of 26 instructions of PA-RISC 1.1 over 64 MiB of memory, one source of
+//! input and one sink of output.
+//!
+//! `specs/` says what the machine is: its state (`Core`), the effect of each instruction (`Effect`),
+//! steps and runs (`Run`), the start of a program (`Start`) and what `run` answers (`Stops`).
+#![tactic(auto)]
+
+mod bits;
+mod ends;
+mod execute;
+mod machine;
+mod memory;
+mod processor;
+mod run;
+mod start;
+
+pub use ends::{End, Halt, Stop};
+pub use machine::Machine;
