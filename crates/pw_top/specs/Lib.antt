@@ -6,3 +6,5 @@ pub mod BuildViews
 pub mod Code
 pub mod SourceRun
 pub mod Agreement
+pub mod Answers
+pub mod Lines

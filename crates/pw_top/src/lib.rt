@@ -4,5 +4,6 @@
 mod answer;
 mod build;
 mod form;
+mod line;
 mod modules;
 mod tokens;

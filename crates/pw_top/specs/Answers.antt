@@ -1,0 +1,86 @@
+-- The status and the line of each answer.
+use Rattle.std.specs.Prelude.{ℕ, List, [], ◌∷◌, ◌++◌, codes}
+use Rattle.std.specs.Fmt.{decimal}
+use Rattle.pw_machine.specs.declared.ends.Halt.{Halt}
+use Rattle.pw_machine.specs.declared.ends.Halt.TheVariants.{Illegal, Unaligned, OutOfMemoryRange, TextWrite, BadBranch, BadBreak}
+use Rattle.pw_top.specs.declared.answer.Refusal.{Refusal}
+use Rattle.pw_top.specs.declared.answer.Refusal.TheVariants.{Unsupported}
+use Rattle.pw_top.specs.declared.answer.Feature.{Feature}
+use Rattle.pw_top.specs.declared.answer.Feature.TheVariants.{NotYet}
+use Rattle.pw_top.specs.declared.answer.LinkFault.{LinkFault}
+use Rattle.pw_top.specs.declared.answer.LinkFault.TheVariants.{NoMain, TooMany}
+use Rattle.pw_top.specs.declared.answer.What.{What}
+use Rattle.pw_top.specs.declared.answer.What.TheVariants.{Modules, TextBytes}
+use Rattle.pw_top.specs.declared.answer.Answer.{Answer}
+use Rattle.pw_top.specs.declared.answer.Answer.TheVariants.{Ended, Usage, Refused, LinkRefused, StackStop, Spent, Halted, ReadFault, WriteFault, StoreFault, NoMemory}
+
+-- the status with which the process ends
+abbrev pub status_of : Answer → ℕ
+status_of (Ended status) = status
+status_of Usage = 112
+status_of (Refused name refusal) = 113
+status_of (LinkRefused fault) = 114
+status_of StackStop = 115
+status_of Spent = 116
+status_of (Halted halt at) = 117
+status_of ReadFault = 118
+status_of WriteFault = 119
+status_of StoreFault = 120
+status_of NoMemory = 121
+
+-- ---- the line that is told
+
+abbrev pub newline : List ℕ
+newline = codes "\n"
+
+abbrev pub feature_name : Feature → List ℕ
+feature_name NotYet = codes "NotYet"
+
+-- which feature, and at which token
+abbrev pub refusal_text : Refusal → List ℕ
+refusal_text (Unsupported token feature) = codes "Unsupported " ++ feature_name feature ++ codes " at token " ++ decimal token
+
+abbrev pub what_name : What → List ℕ
+what_name Modules = codes "Modules"
+what_name TextBytes = codes "TextBytes"
+
+abbrev pub link_text : LinkFault → List ℕ
+link_text NoMain = codes "NoMain"
+link_text (TooMany what count) = codes "TooMany " ++ what_name what ++ codes " " ++ decimal count
+
+abbrev pub halt_name : Halt → List ℕ
+halt_name Illegal = codes "Illegal"
+halt_name Unaligned = codes "Unaligned"
+halt_name OutOfMemoryRange = codes "OutOfMemoryRange"
+halt_name TextWrite = codes "TextWrite"
+halt_name BadBranch = codes "BadBranch"
+halt_name BadBreak = codes "BadBreak"
+
+-- The line of an answer, where a refused module's first token stands on this line of its text. A run that
+-- ended has none.
+abbrev pub line_text : ℕ → Answer → List ℕ
+line_text line (Ended status) = []
+line_text line Usage = codes "usage" ++ newline
+line_text line (Refused name refusal) = name ++ codes ".i:" ++ decimal line ++ codes ": " ++ refusal_text refusal ++ newline
+line_text line (LinkRefused fault) = codes "link: " ++ link_text fault ++ newline
+line_text line StackStop = codes "StackStop" ++ newline
+line_text line Spent = codes "Spent" ++ newline
+line_text line (Halted halt at) = codes "Halted " ++ halt_name halt ++ codes " " ++ decimal at ++ newline
+line_text line ReadFault = codes "ReadFault" ++ newline
+line_text line WriteFault = codes "WriteFault" ++ newline
+line_text line StoreFault = codes "StoreFault" ++ newline
+line_text line NoMemory = codes "NoMemory" ++ newline
+
+-- the answers whose lines name something, and are made for them
+abbrev pub NeedsMemory : Answer → Type 0
+NeedsMemory (Ended status) = ⊥
+NeedsMemory Usage = ⊥
+NeedsMemory (Refused name refusal) = Unit {0}
+NeedsMemory (LinkRefused fault) = Unit {0}
+NeedsMemory StackStop = ⊥
+NeedsMemory Spent = ⊥
+NeedsMemory (Halted halt at) = Unit {0}
+NeedsMemory ReadFault = ⊥
+NeedsMemory WriteFault = ⊥
+NeedsMemory StoreFault = ⊥
+NeedsMemory NoMemory = ⊥

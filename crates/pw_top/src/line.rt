@@ -1,0 +1,148 @@
+//! The one line that is told of an answer.
+
+ghost use Rattle.std.specs.Prelude.{◌≡◌, IfOk, OnOk, OnErr, ◌++◌, ◌<◌, ◌^◌, codes};
+ghost use Rattle.std.specs.Fmt.{decimal};
+ghost use Rattle.pw_top.specs.Answers.{feature_name, what_name, halt_name, link_text, refusal_text, line_text, NeedsMemory};
+ghost use Rattle.pw_top.specs.Lines.{line_bytes};
+
+use crate::answer::{Answer, Feature, LinkFault, Refusal, What};
+use pw_machine::Halt;
+use pw_value::{Name, Word};
+use std::alloc::{AllocError, Global};
+
+fn feature_name(feature: Feature) -> &'static [u8]
+    ensures { result.now ≡ feature_name feature }
+{
+    match feature {
+        Feature::NotYet => b"NotYet",
+    }
+}
+
+fn what_name(what: What) -> &'static [u8]
+    ensures { result.now ≡ what_name what }
+{
+    match what {
+        What::Modules => b"Modules",
+        What::TextBytes => b"TextBytes",
+    }
+}
+
+fn halt_name(halt: Halt) -> &'static [u8]
+    ensures { result.now ≡ halt_name halt }
+{
+    match halt {
+        Halt::Illegal => b"Illegal",
+        Halt::Unaligned => b"Unaligned",
+        Halt::OutOfMemoryRange => b"OutOfMemoryRange",
+        Halt::TextWrite => b"TextWrite",
+        Halt::BadBranch => b"BadBranch",
+        Halt::BadBreak => b"BadBreak",
+    }
+}
+
+/// Puts a number behind a text, in decimal.
+fn push_decimal(alloc: Global, text: &mut Vec<u8>, number: u64) -> Result<(), AllocError>
+    ensures { OnOk result (text.new.items ≡ text.old.items ++ decimal number) }
+{
+    let digits = format!(in alloc; "{number}")?;
+    text.extend_from_slice(digits.as_bytes())?;
+    Ok(())
+}
+
+/// Puts behind a text what is not compiled, and at which token.
+fn push_unsupported(alloc: Global, text: &mut Vec<u8>, token: usize, feature: Feature) -> Result<(), AllocError>
+    ensures { OnOk result (text.new.items ≡ text.old.items ++ refusal_text (Refusal.Unsupported token feature)) }
+{
+    text.extend_from_slice(b"Unsupported ")?;
+    text.extend_from_slice(feature_name(feature))?;
+    text.extend_from_slice(b" at token ")?;
+    push_decimal(alloc, text, token as u64)?;
+    Ok(())
+}
+
+fn push_refusal(alloc: Global, text: &mut Vec<u8>, refusal: &Refusal) -> Result<(), AllocError>
+    ensures { OnOk result (text.new.items ≡ text.old.items ++ refusal_text refusal.now) }
+{
+    match refusal {
+        Refusal::Unsupported(token, feature) => push_unsupported(alloc, text, *token, *feature),
+    }
+}
+
+fn push_link_fault(alloc: Global, text: &mut Vec<u8>, fault: &LinkFault) -> Result<(), AllocError>
+    ensures { OnOk result (text.new.items ≡ text.old.items ++ link_text fault.now) }
+{
+    match fault {
+        LinkFault::NoMain => Ok(text.extend_from_slice(b"NoMain")?),
+        LinkFault::TooMany(what, count) => {
+            text.extend_from_slice(b"TooMany ")?;
+            text.extend_from_slice(what_name(*what))?;
+            text.extend_from_slice(b" ")?;
+            push_decimal(alloc, text, *count)
+        }
+    }
+}
+
+/// The line of a module that is refused, where its first token stands on line `line` of its text.
+fn refused_line(alloc: Global, name: &Name, refusal: &Refusal, line: usize) -> Result<Vec<u8>, AllocError>
+    ensures { IfOk result (λ text. text.items ≡ line_text line (Answer.Refused name.now refusal.now)) }
+{
+    let mut text = Vec::from_slice(alloc, name.as_bytes())?;
+    text.extend_from_slice(b".i:")?;
+    push_decimal(alloc, &mut text, line as u64)?;
+    text.extend_from_slice(b": ")?;
+    push_refusal(alloc, &mut text, refusal)?;
+    text.extend_from_slice(b"\n")?;
+    Ok(text)
+}
+
+/// The line of modules that are refused together.
+fn link_refused_line(alloc: Global, fault: &LinkFault) -> Result<Vec<u8>, AllocError>
+    ensures { IfOk result (λ text. text.items ≡ codes "link: " ++ link_text fault.now ++ codes "\n") }
+{
+    let mut text = Vec::from_slice(alloc, b"link: ")?;
+    push_link_fault(alloc, &mut text, fault)?;
+    text.extend_from_slice(b"\n")?;
+    Ok(text)
+}
+
+/// The line of a run that an instruction halted.
+fn halted_line(alloc: Global, halt: Halt, at: Word) -> Result<Vec<u8>, AllocError>
+    ensures { IfOk result (λ text. text.items ≡ codes "Halted " ++ halt_name halt ++ codes " " ++ decimal at ++ codes "\n") }
+{
+    let mut text = Vec::from_slice(alloc, b"Halted ")?;
+    text.extend_from_slice(halt_name(halt))?;
+    text.extend_from_slice(b" ")?;
+    push_decimal(alloc, &mut text, u64::from(at))?;
+    text.extend_from_slice(b"\n")?;
+    Ok(text)
+}
+
+/// A line that is told.
+#[derive(Debug, Drop)]
+pub enum Line {
+    /// A line that is always the same.
+    Fixed(&'static [u8]),
+    /// A line that was made for its answer.
+    Made(Vec<u8>),
+}
+
+/// The line of an answer, where a refused module's first token stands on line `line` of its text. Only the answers
+/// that name something need memory.
+pub fn line_of(alloc: Global, answer: &Answer, line: usize) -> Result<Line, AllocError>
+    ensures text { IfOk result (λ made. line_bytes made ≡ line_text line answer.now) }
+    ensures memory { OnErr result (NeedsMemory answer.now) }
+{
+    match answer {
+        Answer::Refused(name, refusal) => Ok(Line::Made(refused_line(alloc, name, refusal, line)?)),
+        Answer::LinkRefused(fault) => Ok(Line::Made(link_refused_line(alloc, fault)?)),
+        Answer::Halted(halt, at) => Ok(Line::Made(halted_line(alloc, *halt, *at)?)),
+        Answer::Ended(_) => Ok(Line::Fixed(b"")),
+        Answer::Usage => Ok(Line::Fixed(b"usage\n")),
+        Answer::StackStop => Ok(Line::Fixed(b"StackStop\n")),
+        Answer::Spent => Ok(Line::Fixed(b"Spent\n")),
+        Answer::ReadFault => Ok(Line::Fixed(b"ReadFault\n")),
+        Answer::WriteFault => Ok(Line::Fixed(b"WriteFault\n")),
+        Answer::StoreFault => Ok(Line::Fixed(b"StoreFault\n")),
+        Answer::NoMemory => Ok(Line::Fixed(b"NoMemory\n")),
+    }
+}
