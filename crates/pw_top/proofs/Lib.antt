@@ -3,3 +3,4 @@ pub mod SumLemmas
 pub mod SumLaw
 pub mod ModuleLemmas
 pub mod BuildLemmas
+pub mod TopLemmas

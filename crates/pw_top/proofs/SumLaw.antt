@@ -225,7 +225,7 @@ terms_told (suc k) ts numbers e =
     rest_told k (terms_told k) ts numbers b.0.0 b.0.1 (term_told ts b.0 b.1) b.2
 
 -- whose numbers are found is a sum program
-numbers_told : (text numbers : List ℕ) → numbers_in text ≡ Some numbers → IsSumProgram text numbers
+pub numbers_told : (text numbers : List ℕ) → numbers_in text ≡ Some numbers → IsSumProgram text numbers
 unfolding numbers_in
 numbers_told text numbers e =
     let size = passed (nat_le (length text) 1048576) _ numbers e in
@@ -240,7 +240,7 @@ numbers_told text numbers e =
     }
 
 -- and each sum program's numbers are found
-numbers_found : (text numbers : List ℕ) → IsSumProgram text numbers → numbers_in text ≡ Some numbers
+pub numbers_found : (text numbers : List ℕ) → IsSumProgram text numbers → numbers_in text ≡ Some numbers
 unfolding numbers_in
 numbers_found text numbers p =
     let fits : nat_le (length text) 1048576 ≡ true = grind (arith, nat_tests, p.size) in

@@ -10,6 +10,6 @@ abbrev pub source : Module → Source
 source read = (read.name, read.text.items)
 
 abbrev pub build_view : Built → Build
-build_view (built.Program numbers) = Program numbers.items
+build_view (built.Program sum) = Program sum.numbers.items
 build_view (built.Refused name refusal line) = Refused name refusal line
 build_view (built.LinkRefused fault) = LinkRefused fault

@@ -8,3 +8,4 @@ pub mod SourceRun
 pub mod Agreement
 pub mod Answers
 pub mod Lines
+pub mod TopCall

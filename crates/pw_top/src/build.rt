@@ -9,7 +9,7 @@ ghost use Rattle.pw_top.specs.FullBuild.{build_of_sources, build_named, build_wi
 ghost use Rattle.pw_top.specs.BuildViews.{source, build_view};
 
 use crate::answer::{Feature, LinkFault, Refusal, What};
-use crate::form::numbers_in;
+use crate::form::{Sum, sum_in};
 use crate::modules::{Module, TEXT_READ, module_count, module_files, stem};
 use crate::tokens::first_line;
 use pw_io::{Store, StoreError};
@@ -25,8 +25,8 @@ const TEXT_BYTES_MAX: u64 = 16_777_216;
 /// What came of a build.
 #[derive(Debug, Drop)]
 pub enum Built {
-    /// The program returns the sum of these numbers.
-    Program(Vec<u16>),
+    /// The program returns this sum.
+    Program(Sum),
     /// A module is refused; its first token stands on this line.
     Refused(Name, Refusal, usize),
     /// The modules are refused together.
@@ -50,10 +50,10 @@ fn build_of(alloc: Global, modules: &[Module]) -> Result<Built, AllocError>
 {
     match modules {
         [] => Ok(Built::LinkRefused(LinkFault::NoMain)),
-        [first, others @ ..] => match numbers_in(alloc, first.text.as_slice())? {
+        [first, others @ ..] => match sum_in(alloc, first.text.as_slice())? {
             None => refused(alloc, first),
-            Some(numbers) => match others {
-                [] => Ok(Built::Program(numbers)),
+            Some(sum) => match others {
+                [] => Ok(Built::Program(sum)),
                 [second, ..] => refused(alloc, second),
             },
         },

@@ -1,6 +1,6 @@
 //! The program's form: which texts are compiled, and the numbers whose sum they return.
 
-ghost use Rattle.std.specs.Prelude.{◌≡◌, ◌↔◌, ◌≤◌, ℕ, List, Some, IfOk, codes, ◌∷◌, []};
+ghost use Rattle.std.specs.Prelude.{◌≡◌, ◌↔◌, ◌≤◌, ℕ, List, Some, IfOk, codes, ◌∷◌, [], All, length};
 ghost use Rattle.std.specs.Option.{option_map};
 ghost use Rattle.std.specs.Str.{bytes_eq};
 ghost use Rattle.pw_top.specs.Tokens.{tokens};
@@ -115,9 +115,18 @@ fn terms(alloc: Global, text: &[u8]) -> Result<Option<Vec<u16>>, AllocError>
     Ok(None)
 }
 
-/// The numbers of a program `int main(void){return SUM;}`, or `None` where the text is no such program.
+/// The numbers of a program that returns their sum.
+#[derive(Debug, Drop)]
+pub struct Sum {
+    pub numbers: Vec<u16>,
+    ghost some: { 1 ≤ length numbers.items },
+    ghost few: { length numbers.items ≤ 200 },
+    ghost small: { All (λ n. n ≤ 8191) numbers.items },
+}
+
+/// The numbers that a text's program adds, or `None` where the text is no such program.
 #[tactic(auto, unfolding(crate::specs::SumProgram::numbers_in))]
-pub fn numbers_in(alloc: Global, text: &[u8]) -> Result<Option<Vec<u16>>, AllocError>
+fn summands(alloc: Global, text: &[u8]) -> Result<Option<Vec<u16>>, AllocError>
     ensures { IfOk result (λ found. option_map (λ numbers. numbers.items) found ≡ numbers_in text.now) }
 {
     if text.len() > TEXT_MAX {
@@ -125,6 +134,16 @@ pub fn numbers_in(alloc: Global, text: &[u8]) -> Result<Option<Vec<u16>>, AllocE
     }
     match after_opening(text) {
         Some(rest) => terms(alloc, rest),
+        None => Ok(None),
+    }
+}
+
+/// The sum that a program `int main(void){return SUM;}` returns, or `None` where the text is no such program.
+pub fn sum_in(alloc: Global, text: &[u8]) -> Result<Option<Sum>, AllocError>
+    ensures { IfOk result (λ found. option_map (λ sum. sum.numbers.items) found ≡ numbers_in text.now) }
+{
+    match summands(alloc, text)? {
+        Some(numbers) => Ok(Some(Sum { numbers })),
         None => Ok(None),
     }
 }

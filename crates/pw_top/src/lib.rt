@@ -7,3 +7,4 @@ mod form;
 mod line;
 mod modules;
 mod tokens;
+mod top;

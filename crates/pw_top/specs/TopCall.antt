@@ -1,0 +1,149 @@
+-- What a call of the program answers, puts out and leaves.
+use Rattle.std.specs.Prelude.{◌≡◌, ℕ, ◌+◌, ◌⊎◌, Bool, true, false, if◌then◌else◌, MatchBool, List, [], ◌∷◌, ◌++◌, codes, Option, IfSome, IsSomeAnd}
+use Rattle.std.specs.Str.{bytes_eq}
+use Rattle.pw_io.specs.Files.{Files}
+use Rattle.pw_io.specs.Faults.{Rose}
+use Rattle.pw_io.specs.Streams.{Appends}
+use Rattle.pw_machine.specs.declared.ends.End.TheVariants as end
+use Rattle.pw_machine.specs.declared.ends.End.{End}
+use Rattle.pw_machine.specs.Run.{State, Progress, Running, Stopped, run_of}
+use Rattle.pw_top.specs.declared.answer.Answer.{Answer}
+use Rattle.pw_top.specs.declared.answer.Answer.TheVariants.{Ended, Usage, Refused, LinkRefused, StackStop, Spent, Halted, ReadFault, WriteFault, StoreFault, NoMemory}
+use Rattle.pw_top.specs.SumProgram.{IsSumProgram}
+use Rattle.pw_top.specs.FullBuild as build
+use Rattle.pw_top.specs.FullBuild.{Build, full_build}
+use Rattle.pw_top.specs.Code.{words_of}
+use Rattle.pw_top.specs.Agreement.{Agree, FramesFit, start_of, frames_of, rooms_of}
+use Rattle.pw_top.specs.Answers.{line_text, NeedsMemory}
+
+-- the one command line: the word `go`
+abbrev pub is_go : List (List ℕ) → Bool
+is_go [] = false
+is_go (word ∷ []) = bytes_eq word (codes "go")
+is_go (word ∷ next ∷ words) = false
+
+-- ---- the built program's run
+
+-- how a run ended, as an answer; one that goes on has spent its budget
+abbrev pub end_answer : End → Answer
+end_answer (end.Ended status) = Ended status
+end_answer end.StackStop = StackStop
+end_answer (end.Halted halt at) = Halted halt at
+
+abbrev pub run_answer : Progress → Answer
+run_answer (Running state) = Spent
+run_answer (Stopped end state) = end_answer end
+
+abbrev pub run_output : Progress → List ℕ
+run_output (Running state) = state.output
+run_output (Stopped end state) = state.output
+
+-- the first 100,000,000 steps of the built words, from their start
+unfoldable pub run_built : List ℕ → List ℕ → Progress
+run_built numbers input = run_of 100000000 (start_of (words_of numbers) input)
+
+-- ---- what is wanted of the call, where nothing fails
+
+abbrev pub build_answer : Build → List ℕ → Answer
+build_answer (build.Program numbers) input = run_answer (run_built numbers input)
+build_answer (build.Refused name refusal line) input = Refused name refusal
+build_answer (build.LinkRefused fault) input = LinkRefused fault
+
+abbrev pub build_output : Build → List ℕ → List ℕ
+build_output (build.Program numbers) input = run_output (run_built numbers input)
+build_output (build.Refused name refusal line) input = []
+build_output (build.LinkRefused fault) input = []
+
+abbrev pub wanted_answer : List (List ℕ) → Build → List ℕ → Answer
+wanted_answer words built input = if is_go words then build_answer built input else Usage
+
+abbrev pub wanted_output : List (List ℕ) → Build → List ℕ → List ℕ
+wanted_output words built input = if is_go words then build_output built input else []
+
+-- ---- what the call answers: what is wanted; a fault and want of memory may come in its place
+
+abbrev pub Answers : Answer → Answer → Type 0
+Answers wanted (Ended status) = wanted ≡ Ended status
+Answers wanted Usage = wanted ≡ Usage
+Answers wanted (Refused name refusal) = wanted ≡ Refused name refusal
+Answers wanted (LinkRefused fault) = wanted ≡ LinkRefused fault
+Answers wanted StackStop = wanted ≡ StackStop
+Answers wanted Spent = wanted ≡ Spent
+Answers wanted (Halted halt at) = wanted ≡ Halted halt at
+Answers wanted ReadFault = Unit {0}
+Answers wanted WriteFault = Unit {0}
+Answers wanted StoreFault = Unit {0}
+Answers wanted NoMemory = Unit {0}
+
+-- the answer refuses nothing
+abbrev pub IsNoRefusal : Answer → Type 0
+IsNoRefusal (Refused name refusal) = ⊥
+IsNoRefusal (LinkRefused fault) = ⊥
+IsNoRefusal _ = Unit {0}
+
+-- The answer to a build that refuses is that refusal, whatever the input tells; any other build is not refused.
+abbrev pub AnswersBuild : Build → Answer → Type 0
+AnswersBuild (build.Program numbers) answer = IsNoRefusal answer
+AnswersBuild (build.Refused name refusal line) answer = Answers (Refused name refusal) answer
+AnswersBuild (build.LinkRefused fault) answer = Answers (LinkRefused fault) answer
+
+abbrev pub Refuses : List (List ℕ) → Build → Answer → Type 0
+Refuses words built answer = MatchBool (is_go words) (AnswersBuild built answer) (IsNoRefusal answer)
+
+-- ---- what it puts out
+
+-- nothing is left of the output, unless a fault or want of memory came
+abbrev pub IsWhole : Answer → List ℕ → Type 0
+IsWhole ReadFault more = Unit {0}
+IsWhole WriteFault more = Unit {0}
+IsWhole StoreFault more = Unit {0}
+IsWhole NoMemory more = Unit {0}
+IsWhole _ more = more ≡ []
+
+-- The output is a front of what is wanted, and all of it where nothing fails.
+pub record PutsOut (wanted : List ℕ) (answer : Answer) (old new : Option (List ℕ)) : Type 0 where
+  pub output : List ℕ
+  pub more : List ℕ
+  pub taken : Appends old new output
+  pub front : wanted ≡ output ++ more
+  pub whole : IsWhole answer more
+
+-- ---- faults: a fault is answered exactly where that object's count rose
+
+abbrev pub StoreCount : ℕ → ℕ → Answer → Type 0
+StoreCount before now StoreFault = Rose before now
+StoreCount before now _ = now ≡ before
+
+abbrev pub InputCount : ℕ → ℕ → Answer → Type 0
+InputCount before now ReadFault = Rose before now
+InputCount before now _ = now ≡ before
+
+abbrev pub OutputCount : ℕ → ℕ → Answer → Type 0
+OutputCount before now WriteFault = Rose before now
+OutputCount before now _ = now ≡ before
+
+-- ---- the line that is told
+
+-- The line was told, or a front of it where the sink's count of faults rose.
+abbrev pub Tells : List ℕ → Option (List ℕ) → Option (List ℕ) → ℕ → ℕ → Type 0
+Tells line old new before now =
+    IfSome new (λ after. IsSomeAnd old (λ first. (told : List ℕ) × (more : List ℕ) × (line ≡ told ++ more) × (after ≡ first ++ told) × ((more ≡ []) ⊎ Rose before now)))
+
+-- where a refused module's first token stands
+abbrev pub refused_line : Build → ℕ
+refused_line (build.Program numbers) = 1
+refused_line (build.Refused name refusal line) = line
+refused_line (build.LinkRefused fault) = 1
+
+-- ---- the answer that is told is the answer, or want of memory for its line
+
+abbrev pub ToldAs : Answer → Answer → Type 0
+ToldAs answer told = (told ≡ answer) ⊎ (NeedsMemory answer × (told ≡ NoMemory))
+
+-- ---- agreement of source and machine, for every input
+
+abbrev pub BuiltAgrees : Build → Type 0
+BuiltAgrees (build.Program numbers) =
+    ((input : List ℕ) → Agree (frames_of numbers) 1048576 numbers (words_of numbers) input) × FramesFit (frames_of numbers) (rooms_of numbers)
+BuiltAgrees (build.Refused name refusal line) = Unit {0}
+BuiltAgrees (build.LinkRefused fault) = Unit {0}
