@@ -4,3 +4,4 @@ pub mod SumLaw
 pub mod ModuleLemmas
 pub mod BuildLemmas
 pub mod TopLemmas
+pub mod RunLemmas

@@ -6,6 +6,8 @@ use Rattle.pw_io.specs.Faults.{Rose}
 use Rattle.pw_io.specs.Streams.{Appends}
 use Rattle.pw_machine.specs.declared.ends.End.TheVariants as end
 use Rattle.pw_machine.specs.declared.ends.End.{End}
+use Rattle.pw_machine.specs.declared.ends.Stop.{Stop}
+use Rattle.pw_machine.specs.declared.ends.Stop.TheVariants as stop
 use Rattle.pw_machine.specs.Run.{State, Progress, Running, Stopped, run_of}
 use Rattle.pw_top.specs.declared.answer.Answer.{Answer}
 use Rattle.pw_top.specs.declared.answer.Answer.TheVariants.{Ended, Usage, Refused, LinkRefused, StackStop, Spent, Halted, ReadFault, WriteFault, StoreFault, NoMemory}
@@ -41,6 +43,23 @@ run_output (Stopped end state) = state.output
 -- the first 100,000,000 steps of the built words, from their start
 unfoldable pub run_built : List ℕ → List ℕ → Progress
 run_built numbers input = run_of 100000000 (start_of (words_of numbers) input)
+
+-- what a call of the machine's run answers
+abbrev pub stop_answer : Stop → Answer
+stop_answer (stop.Ended status) = Ended status
+stop_answer stop.StackStop = StackStop
+stop_answer stop.Spent = Spent
+stop_answer (stop.Halted halt at) = Halted halt at
+stop_answer stop.ReadFault = ReadFault
+stop_answer stop.WriteFault = WriteFault
+
+-- the answers to which a run may come
+abbrev pub IsRunAnswer : Answer → Type 0
+IsRunAnswer Usage = ⊥
+IsRunAnswer (Refused name refusal) = ⊥
+IsRunAnswer (LinkRefused fault) = ⊥
+IsRunAnswer StoreFault = ⊥
+IsRunAnswer _ = Unit {0}
 
 -- ---- what is wanted of the call, where nothing fails
 

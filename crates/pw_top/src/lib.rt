@@ -6,5 +6,6 @@ mod build;
 mod form;
 mod line;
 mod modules;
+mod run;
 mod tokens;
 mod top;

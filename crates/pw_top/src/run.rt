@@ -1,0 +1,47 @@
+//! The run of built words.
+
+ghost use Rattle.std.specs.Prelude.{◌≡◌, ◌<◌, ◌≤◌, IfSome, length};
+ghost use Rattle.pw_machine.specs.Run.{run_of};
+ghost use Rattle.pw_top.specs.Agreement.{start_of};
+ghost use Rattle.pw_top.specs.TopCall.{run_answer, run_output, stop_answer, Answers, IsRunAnswer, PutsOut, InputCount, OutputCount};
+
+use crate::answer::Answer;
+use pw_io::{Sink, Source};
+use pw_machine::{Machine, Stop};
+use std::alloc::{AllocError, Global};
+
+/// The bytes of the stack.
+const STACK: u32 = 1_048_576;
+
+/// The greatest count of instructions of a run.
+const BUDGET: u64 = 100_000_000;
+
+/// The answer to how a run stopped.
+fn answer_of(stop: Stop) -> Answer
+    ensures { result ≡ stop_answer stop }
+{
+    match stop {
+        Stop::Ended(status) => Answer::Ended(status),
+        Stop::StackStop => Answer::StackStop,
+        Stop::Spent => Answer::Spent,
+        Stop::Halted(halt, at) => Answer::Halted(halt, at),
+        Stop::ReadFault => Answer::ReadFault,
+        Stop::WriteFault => Answer::WriteFault,
+    }
+}
+
+/// Runs words from their first on.
+pub fn run_words<I: Source, O: Sink>(alloc: Global, words: &[u32], input: &mut I, out: &mut O) -> Answer
+    requires some { 0 < length words.now }
+    requires few { length words.now ≤ 65536 }
+    ensures answer { IfSome (I.rest input.old) (λ rest. Answers (run_answer (run_of 100000000 (start_of words.now rest))) result) }
+    ensures output { IfSome (I.rest input.old) (λ rest. PutsOut (run_output (run_of 100000000 (start_of words.now rest))) result (O.taken out.old) (O.taken out.new)) }
+    ensures read { InputCount (I.faults input.old) (I.faults input.new) result }
+    ensures write { OutputCount (O.faults out.old) (O.faults out.new) result }
+    ensures run { IsRunAnswer result }
+{
+    match Machine::from_words(alloc, words, STACK) {
+        Ok(mut machine) => answer_of(machine.run(input, out, BUDGET)),
+        Err(AllocError) => Answer::NoMemory,
+    }
+}
