@@ -5,3 +5,6 @@ pub mod ModuleLemmas
 pub mod BuildLemmas
 pub mod TopLemmas
 pub mod RunLemmas
+pub mod AgreementMemory
+pub mod AgreementRun
+pub mod Agreement

@@ -3,6 +3,7 @@
 
 mod answer;
 mod build;
+mod code;
 mod form;
 mod line;
 mod modules;

@@ -1,0 +1,128 @@
+-- The words of a sum program agree with the program.
+use Rattle.std.proofs.Common.{ℕ, pos, zero, suc, ◌+◌, ◌*◌, ◌%◌, ◌^◌, ◌≤◌, ◌≡◌, Bool, if◌then◌else◌, List, [], ◌∷◌, ◌++◌, length, get_or, map, replicate, refl, sym, ap, subst, ◌∙◌, arith, sum}
+use Rattle.std.proofs.lemmas.List.{get_or-set_same, length-set, length-replicate}
+use Rattle.std.proofs.lemmas.List.Sums.{sum_by-cons}
+use Rattle.std.proofs.lemmas.Bool.{le-ltb}
+use Rattle.std.specs.Prelude.{slice_set}
+use Rattle.std.specs.List.{flat_map, AllByRecursion}
+use Rattle.pw_inst.specs.declared.Inst.{Inst}
+use Rattle.pw_inst.specs.declared.Inst.TheVariants.{Ldo}
+use Rattle.pw_inst.specs.InstructionTable.{word_of}
+use Rattle.pw_machine.specs.Core.{Core}
+use Rattle.pw_machine.specs.Run.{State, Running, began, run_of}
+use Rattle.pw_machine.specs.Start.{start_core, start_memory, data_start_of, stack_start_of}
+use Rattle.pw_top.specs.SumProgram.{IsSumProgram}
+use Rattle.pw_top.specs.Code.{term_code, end_code, words_of}
+use Rattle.pw_top.specs.SourceRun.{SourceRun, source_run, silent, Ended, Stack, Bound}
+use Rattle.pw_top.specs.Agreement.{start_of, Meets, Agree, frames_of}
+use Rattle.pw_top.proofs.AgreementMemory.{start-has_text}
+use Rattle.pw_top.proofs.AgreementRun.{spot, Program, Comes, Ends, after_first, summed}
+
+-- ---- how many words there are
+
+length-terms : (numbers : List ℕ) → length (map word_of (flat_map term_code numbers ++ end_code)) ≡ 2 * length numbers + 2
+length-terms [] = refl
+length-terms (n ∷ numbers) = omega (arith, length-terms numbers)
+
+pub length-words : (numbers : List ℕ) → 1 ≤ length numbers → length (words_of numbers) ≡ 2 * length numbers + 1
+unfolding words_of
+length-words [] some = absurd (omega arith)
+length-words (n ∷ numbers) some = omega (arith, length-terms numbers)
+
+words-cons : (n : ℕ) (numbers : List ℕ) → words_of (n ∷ numbers) ≡ map word_of (Ldo (pos n) 0 28 ∷ (flat_map term_code numbers ++ end_code))
+unfolding words_of
+words-cons n numbers = refl
+
+-- ---- the start
+
+first_registers : List ℕ → List ℕ
+first_registers words = slice_set (replicate 32 0) 30 (stack_start_of words [])
+
+start_core-spot : (words : List ℕ) → start_core 4096 words [] ≡ spot (start_memory words []) (length words) (data_start_of words) (first_registers words) 4096 4100
+unfolding start_core first_registers
+start_core-spot words = refl
+
+first_registers-size : (words : List ℕ) → length (first_registers words) ≡ 32
+unfolding first_registers
+first_registers-size words = length-set (replicate 32 0) 30 (stack_start_of words []) ∙ length-replicate {A = ℕ} 32 0
+
+run_of-none : (s : State) (memory : List ℕ) (text start : ℕ) (registers : List ℕ) (a back : ℕ) → s.core ≡ spot memory text start registers a back → run_of 0 s ≡ Running s
+unfolding run_of
+run_of-none s memory text start registers a back e = ap (λ (core : Core). began core.stopped s) e
+
+program_of : (words input : List ℕ) → length words ≤ 65536 → Program
+program_of words input small = record {
+  began = start_of words input;
+  words = words;
+  memory = start_memory words [];
+  data_start = data_start_of words;
+  input = input;
+  small = small;
+  text = start-has_text words;
+}
+
+begins : (words input : List ℕ) → run_of 0 (start_of words input) ≡ Running (start_of words input)
+begins words input = run_of-none (start_of words input) (start_memory words []) (length words) (data_start_of words) (first_registers words) 4096 4100 (start_core-spot words)
+
+comes_first : (words input : List ℕ) (small : length words ≤ 65536) (insts : List Inst) → words ≡ map word_of insts → Comes (program_of words input small) (first_registers words) [] insts
+unfolding program_of
+comes_first words input small insts e = record {
+  steps = 0;
+  a = 4096;
+  place = refl;
+  split = e;
+  comes = begins words input ∙ ap (λ (core : Core). Running (record { core = core; rest = input; output = [] })) (start_core-spot words);
+}
+
+-- ---- the end
+
+ends : (numbers input : List ℕ) (small : length (words_of numbers) ≤ 65536) → 1 ≤ length numbers → AllByRecursion (λ n. n ≤ 8191) numbers → Ends (program_of (words_of numbers) input small) (sum numbers % 2 ^ 8)
+ends [] input small some low = absurd (omega arith)
+ends (n ∷ numbers) input small some low =
+    let words = words_of (n ∷ numbers) in
+    let p = program_of words input small in
+    let code = flat_map term_code numbers ++ end_code in
+    let registers = first_registers words in
+    let size : length (slice_set registers 28 n) ≡ 32 = length-set registers 28 n ∙ first_registers-size words in
+    let first : get_or (slice_set registers 28 n) 28 0 ≡ n = get_or-set_same registers 28 n 0 (omega (arith, first_registers-size words)) in
+    subst (λ (v : ℕ). Ends p (v % 2 ^ 8)) (ap (λ (v : ℕ). v + sum numbers) first ∙ sym (sum_by-cons (λ x. x) n numbers))
+    (summed p numbers (slice_set registers 28 n) _ low.1 size
+    (after_first p registers [] n code low.0 (comes_first words input small (Ldo (pos n) 0 28 ∷ code) (words-cons n numbers))))
+
+meets_end : (words input : List ℕ) (small : length words ≤ 65536) (n status : ℕ) → Ends (program_of words input small) status → Meets words input n (silent (Ended status)) (Ended status)
+unfolding program_of
+meets_end words input small n status h = (
+  h.steps,
+  h.last,
+  h.comes,
+  record {
+    output = h.output;
+    read = omega (arith, ap length h.rest);
+  },
+)
+
+-- ---- the source
+
+source_run-none : (stack : ℕ) (numbers : List ℕ) → source_run (frames_of numbers) stack numbers 0 ≡ silent Bound
+unfolding source_run
+source_run-none stack numbers = refl
+
+source_run-some : (stack : ℕ) (numbers : List ℕ) (n : ℕ) → source_run (frames_of numbers) stack numbers (suc n) ≡ silent (Ended (sum numbers % 2 ^ 8))
+unfolding source_run
+source_run-some stack numbers n = ap (λ (b : Bool). silent (if b then Stack else Ended (sum numbers % 256))) (le-ltb stack 0 (omega arith))
+
+-- ---- the agreement
+
+agree_at : (numbers input : List ℕ) (stack : ℕ) → 1 ≤ length numbers → length (words_of numbers) ≤ 65536 → AllByRecursion (λ n. n ≤ 8191) numbers
+    → (n : ℕ) → Meets (words_of numbers) input n (source_run (frames_of numbers) stack numbers n) (source_run (frames_of numbers) stack numbers n).end
+agree_at numbers input stack some small low zero =
+    subst (λ (source : SourceRun). Meets (words_of numbers) input 0 source source.end) (sym (source_run-none stack numbers))
+    (0, omega arith, start_of (words_of numbers) input, begins (words_of numbers) input, record { output = refl; read = omega arith })
+agree_at numbers input stack some small low (suc n) =
+    subst (λ (source : SourceRun). Meets (words_of numbers) input (suc n) source source.end) (sym (source_run-some stack numbers n))
+    (meets_end (words_of numbers) input small (suc n) (sum numbers % 2 ^ 8) (ends numbers input small some low))
+
+pub agree : (text numbers input : List ℕ) (stack : ℕ) → IsSumProgram text numbers → Agree (frames_of numbers) stack numbers (words_of numbers) input
+agree text numbers input stack h =
+    let small : length (words_of numbers) ≤ 65536 = omega (arith, length-words numbers h.some, h.few) in
+    λ n. agree_at numbers input stack h.some small h.small n
