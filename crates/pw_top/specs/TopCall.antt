@@ -166,3 +166,16 @@ BuiltAgrees (build.Program numbers) =
     ((input : List ℕ) → Agree (frames_of numbers) 1048576 numbers (words_of numbers) input) × FramesFit (frames_of numbers) (rooms_of numbers)
 BuiltAgrees (build.Refused name refusal line) = Unit {0}
 BuiltAgrees (build.LinkRefused fault) = Unit {0}
+
+-- ---- inside the call
+
+-- the answers to which words that are obeyed may come, the store's fault apart
+abbrev pub IsObeyed : Answer → Type 0
+IsObeyed Usage = ⊥
+IsObeyed StoreFault = ⊥
+IsObeyed _ = Unit {0}
+
+-- the line of a refused module's first token
+abbrev pub IsLineOf : Build → Answer → ℕ → Type 0
+IsLineOf built (Refused name refusal) line = line ≡ refused_line built
+IsLineOf built _ line = Unit {0}

@@ -4,12 +4,17 @@ ghost use Rattle.std.specs.Prelude.{◌≡◌, ◌↔◌, false, IfOk, IfSome, m
 ghost use Rattle.std.specs.Str.{bytes_eq};
 ghost use Rattle.pw_io.specs.Files.{Keeps};
 ghost use Rattle.pw_top.specs.FullBuild.{full_build};
+ghost use Rattle.pw_top.specs.BuildViews.{build_view};
 ghost use Rattle.pw_top.specs.Answers.{line_text};
-ghost use Rattle.pw_top.specs.TopCall.{is_go, run_answer, run_output, run_built, wanted_answer, wanted_output, Answers, IsNoRefusal, Refuses, PutsOut, StoreCount, InputCount, OutputCount, Tells, ToldAs, BuiltAgrees, refused_line};
+ghost use Rattle.pw_top.specs.TopCall.{is_go, run_answer, run_output, run_built, build_answer, build_output, AnswersBuild, IsRunAnswer, IsObeyed, IsLineOf, wanted_answer, wanted_output, Answers, IsNoRefusal, Refuses, PutsOut, StoreCount, InputCount, OutputCount, Tells, ToldAs, BuiltAgrees, refused_line};
 
 use crate::answer::Answer;
+use crate::build::{Built, build};
+use crate::code::{words_agree, words_of};
+use crate::form::Sum;
 use crate::line::{Line, line_of};
-use pw_io::Sink;
+use crate::run::run_words;
+use pw_io::{Sink, Source, Store, StoreError};
 use std::alloc::{AllocError, Global};
 
 /// Whether the words are the one command line, `go`.
@@ -23,6 +28,7 @@ fn is_go(words: &[String]) -> bool
 }
 
 /// What came of the words, and the line on which a refused module's first token stands.
+#[derive(Drop)]
 struct Reply {
     answer: Answer,
     line: usize,
@@ -33,4 +39,97 @@ fn put_line<E: Sink>(err: &mut E, line: &[u8])
     ensures { Tells line.now (E.taken err.old) (E.taken err.new) (E.faults err.old) (E.faults err.new) }
 {
     let _ = err.put(line);
+}
+
+/// What the build came to: the answer to a refusal, or to the run of the program.
+fn answer_built<I: Source, O: Sink>(alloc: Global, built: Built, input: &mut I, out: &mut O) -> Reply
+    ensures answer { IfSome (I.rest input.old) (λ rest. Answers (build_answer (build_view built) rest) result.answer) }
+    ensures refusal { AnswersBuild (build_view built) result.answer }
+    ensures output { IfSome (I.rest input.old) (λ rest. PutsOut (build_output (build_view built) rest) result.answer (O.taken out.old) (O.taken out.new)) }
+    ensures read { InputCount (I.faults input.old) (I.faults input.new) result.answer }
+    ensures write { OutputCount (O.faults out.old) (O.faults out.new) result.answer }
+    ensures line { IsLineOf (build_view built) result.answer result.line }
+    ensures obeyed { IsObeyed result.answer }
+{
+    match built {
+        Built::Program(sum) => Reply {
+            answer: run_sum(alloc, &sum, input, out),
+            line: 1,
+        },
+        Built::Refused(name, refusal, line) => Reply {
+            answer: Answer::Refused(name, refusal),
+            line,
+        },
+        Built::LinkRefused(fault) => Reply {
+            answer: Answer::LinkRefused(fault),
+            line: 1,
+        },
+    }
+}
+
+/// Builds and runs the program that returns a sum.
+fn run_sum<I: Source, O: Sink>(alloc: Global, sum: &Sum, input: &mut I, out: &mut O) -> Answer
+    ensures answer { IfSome (I.rest input.old) (λ rest. Answers (run_answer (run_built sum.now.numbers.items rest)) result) }
+    ensures output { IfSome (I.rest input.old) (λ rest. PutsOut (run_output (run_built sum.now.numbers.items rest)) result (O.taken out.old) (O.taken out.new)) }
+    ensures read { InputCount (I.faults input.old) (I.faults input.new) result }
+    ensures write { OutputCount (O.faults out.old) (O.faults out.new) result }
+    ensures run { IsRunAnswer result }
+{
+    match words_of(alloc, sum.numbers.as_slice()) {
+        Ok(words) => run_words(alloc, words.as_slice(), input, out),
+        Err(AllocError) => Answer::NoMemory,
+    }
+}
+
+/// Obeys the words: builds what the store holds, and runs it.
+fn obey<S: Store, I: Source, O: Sink>(
+    alloc: Global,
+    words: &[String],
+    store: &mut S,
+    input: &mut I,
+    out: &mut O,
+) -> Reply
+    ensures usage { (result.answer ≡ Answer.Usage) ↔ (is_go (map string_bytes words.now) ≡ false) }
+    ensures answer { IfSome (S.told store.old) (λ told. IfSome (I.rest input.old) (λ rest. Answers (wanted_answer (map string_bytes words.now) (full_build told.files) rest) result.answer)) }
+    ensures refusal { IfSome (S.told store.old) (λ told. Refuses (map string_bytes words.now) (full_build told.files) result.answer) }
+    ensures output { IfSome (S.told store.old) (λ told. IfSome (I.rest input.old) (λ rest. PutsOut (wanted_output (map string_bytes words.now) (full_build told.files) rest) result.answer (O.taken out.old) (O.taken out.new))) }
+    ensures files { Keeps (S.told store.old) (S.told store.new) }
+    ensures store { StoreCount (S.faults store.old) (S.faults store.new) result.answer }
+    ensures read { InputCount (I.faults input.old) (I.faults input.new) result.answer }
+    ensures write { OutputCount (O.faults out.old) (O.faults out.new) result.answer }
+    ensures line { IfSome (S.told store.old) (λ told. IsLineOf (full_build told.files) result.answer result.line) }
+{
+    if !is_go(words) {
+        return Reply {
+            answer: Answer::Usage,
+            line: 1,
+        };
+    }
+    match build(alloc, store) {
+        Ok(built) => answer_built(alloc, built, input, out),
+        Err(StoreError::Failed) => Reply {
+            answer: Answer::StoreFault,
+            line: 1,
+        },
+        Err(StoreError::NoMemory) => Reply {
+            answer: Answer::NoMemory,
+            line: 1,
+        },
+    }
+}
+
+/// Tells an answer in its line. Where there is no memory for the line, the answer is that.
+fn tell<E: Sink>(alloc: Global, reply: Reply, err: &mut E) -> Answer
+    ensures answer { ToldAs reply.answer result }
+    ensures line { Tells (line_text reply.line result) (E.taken err.old) (E.taken err.new) (E.faults err.old) (E.faults err.new) }
+{
+    match line_of(alloc, &reply.answer, reply.line) {
+        Ok(Line::Fixed(text)) => put_line(err, text),
+        Ok(Line::Made(text)) => put_line(err, text.as_slice()),
+        Err(AllocError) => {
+            put_line(err, b"NoMemory\n");
+            return Answer::NoMemory;
+        }
+    }
+    reply.answer
 }
