@@ -8,3 +8,4 @@ pub mod RunLemmas
 pub mod AgreementMemory
 pub mod AgreementRun
 pub mod Agreement
+pub mod BuiltLemmas

@@ -1,11 +1,17 @@
 -- The answer, the output and the line of the top call.
-use Rattle.std.proofs.Common.{◌≡◌, ℕ, zero, suc, ◌+◌, ◌-◌, ◌<◌, ◌≤◌, ◌⊎◌, inl, inr, Bool, true, false, List, [], ◌∷◌, ◌++◌, take, drop, Option, Some, None, Result, Ok, Err, refl, sym, ap, arith, ◌∙◌, subst, append_assoc, append-nil}
-use Rattle.std.specs.Prelude.{OnOk, OnErr, IfSome}
+use Rattle.std.proofs.Common.{◌≡◌, ℕ, zero, suc, ◌+◌, ◌-◌, ◌<◌, ◌≤◌, ◌⊎◌, ⊎_elim, inl, inr, Bool, true, false, List, [], ◌∷◌, ◌++◌, take, drop, Option, Some, None, Result, Ok, Err, refl, sym, ap, arith, ◌∙◌, subst, append_assoc, append-nil}
+use Rattle.std.specs.Prelude.{OnOk, OnErr, IfSome, MatchBool, ◌↔◌}
 use Rattle.std.proofs.lemmas.List.{take-append-drop}
 use Rattle.pw_io.specs.declared.Failed.{Failed}
 use Rattle.pw_io.specs.Faults.{Rose, HasCause}
 use Rattle.pw_io.specs.Streams.{Appends, AppendsPart}
-use Rattle.pw_top.specs.TopCall.{Tells}
+use Rattle.pw_top.specs.declared.answer.Refusal.{Refusal}
+use Rattle.pw_top.specs.declared.answer.Answer.{Answer}
+use Rattle.pw_top.specs.declared.answer.Answer.TheVariants.{Ended, Usage, Refused, LinkRefused, StackStop, Spent, Halted, ReadFault, WriteFault, StoreFault, NoMemory}
+use Rattle.pw_top.specs.FullBuild as build
+use Rattle.pw_top.specs.FullBuild.{Build}
+use Rattle.pw_top.specs.Answers.{line_text, NeedsMemory}
+use Rattle.pw_top.specs.TopCall.{is_go, Answers, AnswersBuild, IsNoRefusal, Refuses, PutsOut, StoreCount, InputCount, OutputCount, Tells, TellsUnnamed, ToldAs, IsLineOf, refused_line}
 
 -- what one put tells
 pub put_tells : (r : Result (Unit {0}) Failed) (old new : Option (List ℕ)) (before now : ℕ) (line : List ℕ) → OnOk r (Appends old new line) → OnErr r (AppendsPart old new line) → HasCause before now r → Tells line old new before now
@@ -15,3 +21,73 @@ put_tells (Ok u) (Some first) (Some after) before now line ok failed cause = (li
 put_tells (Err e) None (Some after) before now line ok failed cause = absurd failed
 put_tells (Err e) (Some first) (Some after) before now line ok failed cause =
     (take failed.0 line, drop failed.0 line, sym (take-append-drop failed.0 line), failed.2, inr cause)
+
+no_memory_is_no_usage : NoMemory ≡ Usage → ⊥
+no_memory_is_no_usage e = cc
+
+refused_is_some_memory : (name : List ℕ) (refusal : Refusal) → Refused name refusal ≡ NoMemory → ⊥
+refused_is_some_memory name refusal e = cc
+
+usage_needs_none : (answer : Answer) → answer ≡ Usage → NeedsMemory answer → ⊥
+usage_needs_none answer e n = subst NeedsMemory e n
+
+by_build : (built : Build) → AnswersBuild built NoMemory
+by_build (build.Program numbers) = tt
+by_build (build.Refused name refusal line) = tt
+by_build (build.LinkRefused fault) = tt
+
+by_words : (go : Bool) (built : Build) → MatchBool go (AnswersBuild built NoMemory) (IsNoRefusal NoMemory)
+by_words true built = by_build built
+by_words false built = tt
+
+-- what holds of the answer told, where it holds of the answer, and of want of memory besides
+pub told_by : (P : Answer → Type 0) (answer told : Answer) → ToldAs answer told → P answer → (NeedsMemory answer → P answer → P NoMemory) → P told
+told_by P answer told t p q = ⊎_elim (λ e. subst P (sym e) p) (λ n. subst P (sym n.1) (q n.0 p)) t
+
+pub told_usage : (answer told : Answer) (P : Type 0) → ToldAs answer told → ((answer ≡ Usage) ↔ P) → ((told ≡ Usage) ↔ P)
+told_usage answer told P t same =
+    ⊎_elim {C = (told ≡ Usage) ↔ P}
+      (λ e. ((λ u. same.0 (sym e ∙ u)), (λ p. e ∙ same.1 p)))
+      (λ n. ((λ u. absurd (no_memory_is_no_usage (sym n.1 ∙ u))), (λ p. absurd (usage_needs_none answer (same.1 p) n.0))))
+      t
+
+pub answers_no_memory : (wanted answer : Answer) → NeedsMemory answer → Answers wanted answer → Answers wanted NoMemory
+answers_no_memory wanted answer n h = tt
+
+pub refuses_no_memory : (words : List (List ℕ)) (built : Build) (answer : Answer) → NeedsMemory answer → Refuses words built answer → Refuses words built NoMemory
+refuses_no_memory words built answer n h = by_words (is_go words) built
+
+pub puts_no_memory : (wanted : List ℕ) (answer : Answer) (old new : Option (List ℕ)) → NeedsMemory answer → PutsOut wanted answer old new → PutsOut wanted NoMemory old new
+puts_no_memory wanted answer old new n p = record { output = p.output; more = p.more; taken = p.taken; front = p.front; whole = tt }
+
+pub store_no_memory : (before now : ℕ) (answer : Answer) → NeedsMemory answer → StoreCount before now answer → now ≡ before
+store_no_memory before now (Refused name refusal) n h = h
+store_no_memory before now (LinkRefused fault) n h = h
+store_no_memory before now (Halted halt at) n h = h
+store_no_memory before now _ n h = absurd n
+
+pub input_no_memory : (before now : ℕ) (answer : Answer) → NeedsMemory answer → InputCount before now answer → now ≡ before
+input_no_memory before now (Refused name refusal) n h = h
+input_no_memory before now (LinkRefused fault) n h = h
+input_no_memory before now (Halted halt at) n h = h
+input_no_memory before now _ n h = absurd n
+
+pub output_no_memory : (before now : ℕ) (answer : Answer) → NeedsMemory answer → OutputCount before now answer → now ≡ before
+output_no_memory before now (Refused name refusal) n h = h
+output_no_memory before now (LinkRefused fault) n h = h
+output_no_memory before now (Halted halt at) n h = h
+output_no_memory before now _ n h = absurd n
+
+-- the line that was told is the line of the build
+pub same_line : (built : Build) (answer told : Answer) (line : ℕ) → IsLineOf built answer line → ToldAs answer told → line_text line told ≡ line_text (refused_line built) told
+same_line built answer (Refused name refusal) line l t =
+    ⊎_elim
+      (λ e. let P : Answer → Type 0 = λ a. IsLineOf built a line in ap (λ n. line_text n (Refused name refusal)) (subst P (sym e) l))
+      (λ n. absurd (refused_is_some_memory name refusal n.1))
+      t
+same_line built answer _ line l t = refl
+
+-- and of every answer that names no module
+pub unnamed_line : (told : Answer) (line before now : ℕ) (old new : Option (List ℕ)) → Tells (line_text line told) old new before now → TellsUnnamed told old new before now
+unnamed_line (Refused name refusal) line before now old new h = tt
+unnamed_line _ line before now old new h = h

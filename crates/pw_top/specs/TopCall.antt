@@ -167,6 +167,11 @@ BuiltAgrees (build.Program numbers) =
 BuiltAgrees (build.Refused name refusal line) = Unit {0}
 BuiltAgrees (build.LinkRefused fault) = Unit {0}
 
+-- What is told of an answer that names no module, whatever the store tells.
+abbrev pub TellsUnnamed : Answer → Option (List ℕ) → Option (List ℕ) → ℕ → ℕ → Type 0
+TellsUnnamed (Refused name refusal) old new before now = Unit {0}
+TellsUnnamed answer old new before now = Tells (line_text 1 answer) old new before now
+
 -- ---- inside the call
 
 -- the answers to which words that are obeyed may come, the store's fault apart

@@ -6,7 +6,7 @@ ghost use Rattle.pw_io.specs.Files.{Keeps};
 ghost use Rattle.pw_top.specs.FullBuild.{full_build};
 ghost use Rattle.pw_top.specs.BuildViews.{build_view};
 ghost use Rattle.pw_top.specs.Answers.{line_text};
-ghost use Rattle.pw_top.specs.TopCall.{is_go, run_answer, run_output, run_built, build_answer, build_output, AnswersBuild, IsRunAnswer, IsObeyed, IsLineOf, wanted_answer, wanted_output, Answers, IsNoRefusal, Refuses, PutsOut, StoreCount, InputCount, OutputCount, Tells, ToldAs, BuiltAgrees, refused_line};
+ghost use Rattle.pw_top.specs.TopCall.{is_go, run_answer, run_output, run_built, build_answer, build_output, AnswersBuild, IsRunAnswer, IsObeyed, IsLineOf, wanted_answer, wanted_output, Answers, IsNoRefusal, Refuses, PutsOut, StoreCount, InputCount, OutputCount, Tells, ToldAs, BuiltAgrees, TellsUnnamed, refused_line};
 
 use crate::answer::Answer;
 use crate::build::{Built, build};
@@ -132,4 +132,48 @@ fn tell<E: Sink>(alloc: Global, reply: Reply, err: &mut E) -> Answer
         }
     }
     reply.answer
+}
+
+/// Does what the words say with the store, the input and the output, and tells the answer on `err` in one line; an
+/// answer that the program ended has none. A fault of `err` changes nothing.
+///
+/// The one command line is `go`: it builds the program of the one module `NAME.i` of the store and runs it. What is
+/// promised of a store that tells its files, an input that tells its rest and an output that tells what it took:
+/// the answer and the output are those of the machine's run of the full build, and the built words agree with the
+/// program at every bound. Faults and want of memory may come in place of an answer, each fault exactly where its
+/// object's count of faults rose.
+pub fn pawc_top<S: Store, I: Source, O: Sink, E: Sink>(
+    alloc: Global,
+    words: &[String],
+    store: &mut S,
+    input: &mut I,
+    out: &mut O,
+    err: &mut E,
+) -> Answer
+    // the words
+    ensures usage { (result ≡ Answer.Usage) ↔ (is_go (map string_bytes words.now) ≡ false) }
+
+    // the answer and the output
+    ensures runs_image { IfSome (S.told store.old) (λ told. IfSome (I.rest input.old) (λ rest. Answers (wanted_answer (map string_bytes words.now) (full_build told.files) rest) result)) }
+    ensures refuses { IfSome (S.told store.old) (λ told. Refuses (map string_bytes words.now) (full_build told.files) result) }
+    ensures output_prefix { IfSome (S.told store.old) (λ told. IfSome (I.rest input.old) (λ rest. PutsOut (wanted_output (map string_bytes words.now) (full_build told.files) rest) result (O.taken out.old) (O.taken out.new))) }
+
+    // source and machine
+    ensures agrees { IfSome (S.told store.old) (λ told. BuiltAgrees (full_build told.files)) }
+
+    // what stays
+    ensures store_after { Keeps (S.told store.old) (S.told store.new) }
+
+    // faults
+    ensures store_faults { StoreCount (S.faults store.old) (S.faults store.new) result }
+    ensures input_faults { InputCount (I.faults input.old) (I.faults input.new) result }
+    ensures output_faults { OutputCount (O.faults out.old) (O.faults out.new) result }
+
+    // the line
+    ensures line { IfSome (S.told store.old) (λ told. Tells (line_text (refused_line (full_build told.files)) result) (E.taken err.old) (E.taken err.new) (E.faults err.old) (E.faults err.new)) }
+    ensures unnamed_line { TellsUnnamed result (E.taken err.old) (E.taken err.new) (E.faults err.old) (E.faults err.new) }
+{
+    words_agree();
+    let reply = obey(alloc, words, store, input, out);
+    tell(alloc, reply, err)
 }
