@@ -20,6 +20,8 @@ mod shelf;
 mod sinks;
 mod sources;
 mod stores;
+#[cfg(test)]
+mod tests;
 
 pub use sinks::{DropSink, MemSink, SureSink};
 pub use sources::{MemSource, SureSource};

@@ -96,14 +96,13 @@ impl Store for SureStore {
     }
 
     /// Takes no memory.
-    fn remove(&mut self, alloc: Global, name: &str) -> Result<(), StoreError>
+    fn remove(&mut self, _alloc: Global, name: &str) -> Result<(), StoreError>
         ensures sure { IsOk result }
         ensures removed { self.new ≡ after_remove self.old name.now }
         ensures ok { OnOk result (Removes (Some self.old) (Some self.new) name.now) }
         ensures err { OnErr result (Keeps (Some self.old) (Some self.new)) }
         ensures cause { HasStoreCause 0 0 result }
     {
-        let _ = alloc;
         self.shelf.remove(name);
         Ok(())
     }
@@ -294,7 +293,7 @@ impl Store for MemStore {
     }
 
     /// Takes no memory.
-    fn remove(&mut self, alloc: Global, name: &str) -> Result<(), StoreError>
+    fn remove(&mut self, _alloc: Global, name: &str) -> Result<(), StoreError>
         ensures fails { (result ≡ Err StoreError.Failed) ↔ IsSome (next_left self.old) }
         ensures memory { OnNoMemory result ⊥ }
         ensures refused { OnErr result (self.new ≡ counted_fault self.old) }
@@ -304,7 +303,6 @@ impl Store for MemStore {
         ensures err { OnErr result (Keeps (Some self.old.told) (Some self.new.told)) }
         ensures cause { HasStoreCause self.old.faults self.new.faults result }
     {
-        let _ = alloc;
         if self.begin().is_some() {
             return Err(self.fault());
         }
