@@ -178,3 +178,6 @@ pub enum Inst {
         im13: u16,
     },
 }
+
+#[cfg(test)]
+mod tests;
