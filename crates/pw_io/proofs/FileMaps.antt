@@ -40,11 +40,11 @@ get-remove_other files name other apart = get-remove nat_list_cmp_total files na
 pub get-left : (old new : Files) (name bytes other : List ℕ) → LeavesFile old new name bytes → other ≢ name → finite.get new other ≡ finite.get old other
 get-left old new name bytes other left apart =
     ⊎_elim
-      (λ (same : new ≡ old). ap (λ m. finite.get m other) same)
-      (⊎_elim
-        (λ (gone : new ≡ finite.remove old name). ap (λ m. finite.get m other) gone ∙ get-remove_other old name other apart)
-        (λ (part : (n : ℕ) × (n < length bytes) × (new ≡ finite.insert old name (take n bytes))). ap (λ m. finite.get m other) part.2 ∙ get-insert_other old name (take part.0 bytes) other apart))
-      left
+    (λ (same : new ≡ old). ap (λ m. finite.get m other) same)
+    (⊎_elim
+    (λ (gone : new ≡ finite.remove old name). ap (λ m. finite.get m other) gone ∙ get-remove_other old name other apart)
+    (λ (part : (n : ℕ) × (n < length bytes) × (new ≡ finite.insert old name (take n bytes))). ap (λ m. finite.get m other) part.2 ∙ get-insert_other old name (take part.0 bytes) other apart))
+    left
 
 first : (a b : Bool) → T (a && b) → T a
 first true b p = tt
@@ -74,6 +74,7 @@ keys-order files = in_order (finite.entries files) (entries_sorted files)
 
 -- the names are those that have a file
 pub keys-exact : (files : Files) (name : List ℕ) → Contains (finite.keys files) name ↔ IsSome (finite.get files name)
-keys-exact files name =
-    ( λ within. contains_key-keys files name ∙ list_any-from_Contains (eq_by_cmp_equiv nat_list_cmp_total) name (finite.keys files) within
-    , λ found. Contains-from_any (tells_apart exact_bytes) name (finite.keys files) (sym (contains_key-keys files name) ∙ found) )
+keys-exact files name = (
+  λ within. contains_key-keys files name ∙ list_any-from_Contains (eq_by_cmp_equiv nat_list_cmp_total) name (finite.keys files) within,
+  λ found. Contains-from_any (tells_apart exact_bytes) name (finite.keys files) (sym (contains_key-keys files name) ∙ found),
+)

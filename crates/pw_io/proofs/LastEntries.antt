@@ -3,7 +3,7 @@ use Rattle.std.proofs.Common.{◌≡◌, ℕ, List, [], ◌∷◌, ◌++◌, rev
 use Rattle.std.specs.Option.{option_map}
 use Rattle.std.specs.List.{find}
 use Rattle.std.proofs.lemmas.List.{reverse-append}
-use Rattle.pw_io.specs.declared.stores.StoreFail.{StoreFail}
+use Rattle.pw_io.specs.declared.mem_store.StoreFail.{StoreFail}
 use Rattle.pw_io.specs.MemoryStore.{left_by_call}
 
 pub left_by_call-none : (call : ℕ) → left_by_call [] call ≡ None

@@ -2,9 +2,9 @@
 use Rattle.std.specs.Prelude.{◌≡◌, ℕ, List, Option, Some, None, refl}
 use Rattle.std.specs.FinMap as finite
 use Rattle.std.specs.Coded.{Coded, code_by, coded×, coded_ℕ, coded_list, coded_option}
-use Rattle.pw_io.specs.declared.stores.Left.{Left}
-use Rattle.pw_io.specs.declared.stores.Left.TheVariants.{Old, Nothing, Prefix}
-use Rattle.pw_io.specs.declared.stores.StoreFail.{StoreFail}
+use Rattle.pw_io.specs.declared.mem_store.Left.{Left}
+use Rattle.pw_io.specs.declared.mem_store.Left.TheVariants.{Old, Nothing, Prefix}
+use Rattle.pw_io.specs.declared.mem_store.StoreFail.{StoreFail}
 use Rattle.pw_io.specs.Files.{Files, Told}
 use Rattle.pw_io.specs.MemoryStore.{MemStoreState}
 

@@ -3,9 +3,9 @@ use Rattle.std.specs.Prelude.{ℕ, ◌-◌, List, length, take, reverse, min, Op
 use Rattle.std.specs.Option.{option_map}
 use Rattle.std.specs.List.{find}
 use Rattle.std.specs.FinMap as finite
-use Rattle.pw_io.specs.declared.stores.Left.{Left}
-use Rattle.pw_io.specs.declared.stores.Left.TheVariants.{Old, Nothing, Prefix}
-use Rattle.pw_io.specs.declared.stores.StoreFail.{StoreFail}
+use Rattle.pw_io.specs.declared.mem_store.Left.{Left}
+use Rattle.pw_io.specs.declared.mem_store.Left.TheVariants.{Old, Nothing, Prefix}
+use Rattle.pw_io.specs.declared.mem_store.StoreFail.{StoreFail}
 use Rattle.pw_io.specs.Files.{Files, Told}
 use Rattle.pw_io.specs.Memory.{next_call, next_fault}
 

@@ -6,7 +6,7 @@ ghost use Rattle.std.specs.Cmp.Lexicographic.{slice_cmp};
 ghost use Rattle.std.specs.List.Sorted.{IsStrictlySortedBy};
 ghost use Rattle.std.specs.FinMap as finite;
 ghost use Rattle.std.specs.declared.alloc.Global.{Global};
-ghost use Rattle.pw_io.specs.declared.stores.StoreFail.{StoreFail};
+ghost use Rattle.pw_io.specs.declared.mem_store.StoreFail.{StoreFail};
 ghost use Rattle.pw_io.specs.Faults.{Rose};
 ghost use Rattle.pw_io.specs.Files.{Files, front_of, LeavesFile};
 ghost use Rattle.pw_io.specs.Shelf.{files_of};

@@ -16,14 +16,18 @@ use std::alloc::Global;
 mod calls;
 mod kept;
 pub mod laws;
+mod mem_store;
 mod shelf;
 mod sinks;
 mod sources;
-mod stores;
+mod sure_store;
+#[cfg(test)]
+mod tests;
 
+pub use mem_store::{Left, MemStore, StoreFail};
 pub use sinks::{DropSink, MemSink, SureSink};
 pub use sources::{MemSource, SureSource};
-pub use stores::{Left, MemStore, StoreFail, SureStore};
+pub use sure_store::SureStore;
 
 /// Memory ran out. A call that answers so leaves the values that it was lent as they were.
 pub use std::alloc::AllocError as NoMemory;

@@ -208,14 +208,13 @@ impl Sink for DropSink {
     ghost faults = { λ _. 0 };
 
     /// Takes no memory.
-    fn put(&mut self, piece: &[u8]) -> Result<(), Failed>
+    fn put(&mut self, _piece: &[u8]) -> Result<(), Failed>
         ensures taken { IsOk result }
-        ensures ok { OnOk result (Appends None None piece.now) }
-        ensures failed { OnErr result (AppendsPart None None piece.now) }
-        ensures empty { piece.now ≡ [] → IsOk result }
+        ensures ok { OnOk result (Appends None None _piece.now) }
+        ensures failed { OnErr result (AppendsPart None None _piece.now) }
+        ensures empty { _piece.now ≡ [] → IsOk result }
         ensures cause { HasCause 0 0 result }
     {
-        let _ = piece;
         Ok(())
     }
 }

@@ -59,20 +59,18 @@ impl Source for SureSource {
 /// A source of given bytes that fails at given calls. Calls are numbered from 1.
 #[derive(Drop)]
 pub struct MemSource {
-    bytes: Vec<u8>,
-    next: usize,
+    source: SureSource,
     tally: Tally,
     fails: Vec<u64>,
 }
 
 impl Model for MemSource {
-    ghost use Rattle.std.specs.Prelude.{drop};
     ghost use Rattle.pw_io.specs.Memory.{MemSourceState};
 
     ghost Value = { MemSourceState };
 
     ghost view = { λ s. record {
-      rest = drop s.next s.bytes.items;
+      rest = s.source;
       calls = s.tally.calls;
       faults = s.tally.faults;
       fails = s.fails.items;
@@ -86,8 +84,7 @@ impl MemSource {
             source ≡ record { rest = bytes.now; calls = 0; faults = 0; fails = fails.now }) }
     {
         Ok(MemSource {
-            bytes: bytes.to_vec(alloc)?,
-            next: 0,
+            source: SureSource::new(alloc, bytes)?,
             tally: Tally::new(),
             fails: fails.to_vec(alloc)?,
         })
@@ -115,10 +112,6 @@ impl Source for MemSource {
             self.tally.count_fault();
             return Err(Failed);
         }
-        let byte = self.bytes.get(self.next).copied();
-        if byte.is_some() {
-            self.next += 1;
-        }
-        Ok(byte)
+        self.source.next()
     }
 }
