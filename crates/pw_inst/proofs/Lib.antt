@@ -1,5 +1,6 @@
 pub mod FieldLemmas
 pub mod Found
+pub mod HexadecimalLemmas
 pub mod Inverse
 pub mod Signs
 pub mod Words

@@ -1,5 +1,6 @@
--- The instruction table: the word of each of the 26 forms, the fields that a form may hold, and the form of
--- a word (PA-RISC 1.1 Architecture and Instruction Set Reference Manual, chapter 5 and appendix C).
+-- The instruction table of the 26 forms (PA-RISC 1.1 Architecture and Instruction Set Reference Manual, the
+-- instructions' formats and operation codes). An instruction's word is `word_of`, and what its fields may hold
+-- is `IsInRange`. `decoded` finds the instruction of a word; `decode` promises that the two agree.
 use Rattle.std.specs.Prelude.{ℕ, ℤ, Bool, true, false, Option, Some, None, ◌≡◌, ◌+◌, ◌-◌, ◌*◌, ◌^◌, ◌<◌, ◌≤◌, ◌==◌, ◌&&◌, nat_lt, nat_le, if◌then◌else◌}
 use Rattle.pw_inst.specs.declared.Inst.{Inst}
 use Rattle.pw_inst.specs.declared.Inst.TheVariants.{Ldb, Ldh, Ldw, Ldo, Stb, Sth, Stw, Ldil, And, Or, Xor, Sub, Addl, Vshd, Mtctl, Comclr, Subi, Extru, Extrs, Zdep, Combt, Combf, Bl, Bv, Ble, Break}

@@ -13,7 +13,7 @@ pub fn decode(word: u32) -> Option<Inst>
     ensures found { IfSome result (IsWordOf word) }
     ensures none { IsNone result ↔ ((inst : Inst) → ¬ IsWordOf word inst) }
 {
-    form_of(word)
+    decode_by_opcode(word)
 }
 
 /// Every instruction whose fields are in range is the one that its word is decoded to.
@@ -27,7 +27,7 @@ pub fn words_differ()
 {}
 
 #[tactic(auto, unfolding(crate::specs::InstructionTable::decoded, crate::specs::InstructionTable::form_of))]
-fn form_of(word: u32) -> Option<Inst>
+fn decode_by_opcode(word: u32) -> Option<Inst>
     ensures { result ≡ decoded word }
 {
     match read(word, 0, 6) {

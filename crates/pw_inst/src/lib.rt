@@ -5,9 +5,12 @@
 mod decoding;
 mod encoding;
 mod fields;
+mod listing;
 
 pub use decoding::{decode, word_is_decoded_again, words_differ};
 pub use encoding::encode;
+pub use listing::{target, text};
+pub use std::alloc::AllocError as NoMemory;
 
 /// An instruction of PA-RISC 1.1, in one of the 26 forms that this system knows.
 ///
@@ -175,3 +178,6 @@ pub enum Inst {
         im13: u16,
     },
 }
+
+#[cfg(test)]
+mod tests;

@@ -3,7 +3,7 @@ use Rattle.pw_inst.proofs.Inverse.{decoded-none}
 use Rattle.pw_inst.proofs.decoding.decode.Goals as goal
 
 pub returns-clause-found : goal.returns-clause-found
-returns-clause-found c = rw c.form_of.ensures (decoded-found c.args.word c.ranges.word.fits)
+returns-clause-found c = rw c.decode_by_opcode.ensures (decoded-found c.args.word c.ranges.word.fits)
 
 pub returns-clause-none : goal.returns-clause-none
-returns-clause-none c = rw c.form_of.ensures (decoded-none c.args.word c.ranges.word.fits)
+returns-clause-none c = rw c.decode_by_opcode.ensures (decoded-none c.args.word c.ranges.word.fits)
