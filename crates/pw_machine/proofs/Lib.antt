@@ -3,3 +3,4 @@ pub mod Keeping
 pub mod Runs
 pub mod Turns
 pub mod Memories
+pub mod Loaded

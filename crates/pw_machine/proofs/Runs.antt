@@ -16,15 +16,15 @@ unfolding run_of
 run_of-more m s mid e = rw add-one (ap goes_on e)
 
 -- a run that has stopped stays as it is
-pub run_of-stays : (k m : ℕ) (s last : State) (e : End) → run_of m s ≡ Stopped e last → run_of (m + k) s ≡ Stopped e last
+pub run_of_stays : (k m : ℕ) (s last : State) (e : End) → run_of m s ≡ Stopped e last → run_of (m + k) s ≡ Stopped e last
 unfolding run_of
-run_of-stays zero m s last e h = rw add-zero h
-run_of-stays (suc k) m s last e h = rw add-suc (ap goes_on (run_of-stays k m s last e h))
+run_of_stays zero m s last e h = rw add-zero h
+run_of_stays (suc k) m s last e h = rw add-suc (ap goes_on (run_of_stays k m s last e h))
 
 pub run_of-stays_at : (m budget : ℕ) (s last : State) (e : End) → m ≤ budget → run_of m s ≡ Stopped e last → run_of budget s ≡ Stopped e last
 run_of-stays_at m budget s last e le h =
     let at : m + (budget - m) ≡ budget = omega arith in
-    subst (λ (n : ℕ). run_of n s ≡ Stopped e last) at (run_of-stays (budget - m) m s last e h)
+    subst (λ (n : ℕ). run_of n s ≡ Stopped e last) at (run_of_stays (budget - m) m s last e h)
 
 -- a state that a run is in and that has not stopped: the one before was such a state too
 pub goes_on-running : (p : Progress) (s : State) → goes_on p ≡ Running s → (before : State) × (p ≡ Running before)
@@ -32,13 +32,13 @@ goes_on-running (Running before) s e = (before, refl)
 goes_on-running (Stopped end t) s e = absurd (cc)
 
 -- as long as the run goes on, each step is taken
-pub steps_of-running : (m : ℕ) (s mid : State) → run_of m s ≡ Running mid → steps_of m s ≡ m
+pub steps_of_running : (m : ℕ) (s mid : State) → run_of m s ≡ Running mid → steps_of m s ≡ m
 unfolding run_of steps_of
-steps_of-running zero s mid e = refl
-steps_of-running (suc m) s mid e =
+steps_of_running zero s mid e = refl
+steps_of_running (suc m) s mid e =
     let before = goes_on-running (run_of m s) mid e in
     let one : step_count (run_of m s) ≡ 1 = ap step_count before.1 in
-    let front : steps_of m s ≡ m = steps_of-running m s before.0 before.1 in
+    let front : steps_of m s ≡ m = steps_of_running m s before.0 before.1 in
     omega (arith, one, front)
 
 -- a run that has stopped takes no more steps
@@ -46,7 +46,7 @@ pub steps_of-stays : (k m : ℕ) (s last : State) (e : End) → run_of m s ≡ S
 unfolding steps_of
 steps_of-stays zero m s last e h = rw add-zero refl
 steps_of-stays (suc k) m s last e h =
-    let none : step_count (run_of (m + k) s) ≡ 0 = ap step_count (run_of-stays k m s last e h) in
+    let none : step_count (run_of (m + k) s) ≡ 0 = ap step_count (run_of_stays k m s last e h) in
     let front : steps_of (m + k) s ≡ steps_of m s = steps_of-stays k m s last e h in
     rw add-suc (omega (arith, none, front))
 
@@ -60,7 +60,7 @@ pub steps_of-last : (m : ℕ) (s mid : State) → run_of m s ≡ Running mid →
 unfolding steps_of
 steps_of-last m s mid e =
     let one : step_count (run_of m s) ≡ 1 = ap step_count e in
-    let front : steps_of m s ≡ m = steps_of-running m s mid e in
+    let front : steps_of m s ≡ m = steps_of_running m s mid e in
     rw add-one (omega (arith, one, front))
 
 -- ---- a state in which the run has not stopped
@@ -87,31 +87,31 @@ began-running : (o : Option End) (s mid : State) → began o s ≡ Running mid �
 began-running None s mid h = (refl, cc)
 began-running (Some end) s mid h = absurd cc
 
-pub run_of-running : (m : ℕ) (s mid : State) → run_of m s ≡ Running mid → mid.core.stopped ≡ None
+pub run_of_running : (m : ℕ) (s mid : State) → run_of m s ≡ Running mid → mid.core.stopped ≡ None
 unfolding run_of
-run_of-running zero s mid h =
+run_of_running zero s mid h =
     let begun = began-running s.core.stopped s mid h in
     ap (λ (t : State). t.core.stopped) (sym begun.1) ∙ begun.0
-run_of-running (suc m) s mid h =
+run_of_running (suc m) s mid h =
     let before = goes_on-running (run_of m s) mid h in
-    let front : before.0.core.stopped ≡ None = run_of-running m s before.0 before.1 in
+    let front : before.0.core.stopped ≡ None = run_of_running m s before.0 before.1 in
     let last : step before.0 ≡ Running mid = sym (ap goes_on before.1) ∙ h in
     step-keeps (effect_of before.0.core) before.0 mid (effect_of-keeps before.0.core) last ∙ front
 
 running_sum : (n m : ℕ) (s mid : State) → run_of m s ≡ Running mid → run_of (m + n) s ≡ run_of n mid
 unfolding run_of
 running_sum zero m s mid h =
-    let going : mid.core.stopped ≡ None = run_of-running m s mid h in
+    let going : mid.core.stopped ≡ None = run_of_running m s mid h in
     rw add-zero (h ∙ sym (ap (λ (o : Option End). began o mid) going))
 running_sum (suc n) m s mid h = rw add-suc (ap goes_on (running_sum n m s mid h))
 
 continued_sum : (n m : ℕ) (s : State) (p : Progress) → run_of m s ≡ p → run_of (m + n) s ≡ continued n p
-continued_sum n m s (Stopped end last) h = run_of-stays n m s last end h
+continued_sum n m s (Stopped end last) h = run_of_stays n m s last end h
 continued_sum n m s (Running mid) h = running_sum n m s mid h
 
 -- a run of m + n steps is the run of m steps, continued by n
-pub run_of-sum : (n m : ℕ) (s : State) → run_of (m + n) s ≡ continued n (run_of m s)
-run_of-sum n m s = continued_sum n m s (run_of m s) refl
+pub run_of_sum : (n m : ℕ) (s : State) → run_of (m + n) s ≡ continued n (run_of m s)
+run_of_sum n m s = continued_sum n m s (run_of m s) refl
 
 -- ---- output and input
 

@@ -8,6 +8,7 @@
 mod bits;
 mod ends;
 mod execute;
+mod laws;
 mod machine;
 mod memory;
 mod processor;
@@ -15,4 +16,5 @@ mod run;
 mod start;
 
 pub use ends::{End, Halt, Stop};
+pub use laws::{overwritten_words, runs_add_up, runs_go_on, text_words};
 pub use machine::Machine;
