@@ -1,5 +1,5 @@
 -- Reading and writing a range of an object's bytes.
-use Rattle.std.proofs.Common.{◌≡◌, ◌≢◌, ℕ, zero, suc, ◌+◌, ◌<◌, ◌≤◌, ◌⊎◌, inl, inr, List, [], ◌∷◌, ◌++◌, length, take, drop, arith, refl, ap, ◌∙◌, sym, set, get_or, drop-cons, length-set, get_or-set_same, get_or-set_other}
+use Rattle.std.proofs.Common.{◌≡◌, ◌≢◌, ℕ, zero, suc, ◌+◌, ◌<◌, ◌≤◌, ◌⊎◌, inl, inr, List, [], ◌∷◌, ◌++◌, length, take, drop, arith, refl, ap, ◌∙◌, set, drop-cons, length-set, get_or-set_same, get_or-set_other}
 use Rattle.std.proofs.lemmas.Grind.{common_steps}
 use Rattle.std.proofs.lemmas.List.{drop-set-lt, set-get_or}
 use Rattle.std.proofs.Math.Seq.{take-suc-set}
@@ -79,10 +79,10 @@ bytes_from-with_bytes [] at bytes inside = refl
 bytes_from-with_bytes (b ∷ new) at bytes inside =
     let room : suc at + length new ≤ length (set bytes at b) = omega (arith, length-set bytes at b) in
     let head : byte_at (with_bytes new (suc at) (set bytes at b)) at ≡ b =
-        byte_at-with_bytes_other new (suc at) at (set bytes at b) (inl (omega arith))
-        ∙ get_or-set_same bytes at b B.Undefined (omega arith) in
+    byte_at-with_bytes_other new (suc at) at (set bytes at b) (inl (omega arith))
+    ∙ get_or-set_same bytes at b B.Undefined (omega arith) in
     let tail : bytes_from (length new) (suc at) (with_bytes new (suc at) (set bytes at b)) ≡ new =
-        bytes_from-with_bytes new (suc at) (set bytes at b) room in
+    bytes_from-with_bytes new (suc at) (set bytes at b) room in
     cc
 
 pub bytes_from-with_bytes_beside :
@@ -92,15 +92,15 @@ pub bytes_from-with_bytes_beside :
 bytes_from-with_bytes_beside zero from new at bytes beside = refl
 bytes_from-with_bytes_beside (suc n) from new at bytes (inl before) =
     let head : byte_at (with_bytes new at bytes) from ≡ byte_at bytes from =
-        byte_at-with_bytes_other new at from bytes (inl (omega arith)) in
+    byte_at-with_bytes_other new at from bytes (inl (omega arith)) in
     let tail : bytes_from n (suc from) (with_bytes new at bytes) ≡ bytes_from n (suc from) bytes =
-        bytes_from-with_bytes_beside n (suc from) new at bytes (inl (omega arith)) in
+    bytes_from-with_bytes_beside n (suc from) new at bytes (inl (omega arith)) in
     cc
 bytes_from-with_bytes_beside (suc n) from new at bytes (inr behind) =
     let head : byte_at (with_bytes new at bytes) from ≡ byte_at bytes from =
-        byte_at-with_bytes_other new at from bytes (inr (omega arith)) in
+    byte_at-with_bytes_other new at from bytes (inr (omega arith)) in
     let tail : bytes_from n (suc from) (with_bytes new at bytes) ≡ bytes_from n (suc from) bytes =
-        bytes_from-with_bytes_beside n (suc from) new at bytes (inr (omega arith)) in
+    bytes_from-with_bytes_beside n (suc from) new at bytes (inr (omega arith)) in
     cc
 
 pub with_bytes-bytes_from :

@@ -36,12 +36,13 @@ GivesDigits-from_front :
     → 0 < prefix_len is_ascii_digit text
     → drop (prefix_len is_ascii_digit text) text ≡ closing
     → GivesDigits closing text
-GivesDigits-from_front closing text some ends =
-    ( take (prefix_len is_ascii_digit text) text
-    , ( (rw (length-prefix_len is_ascii_digit text) some, list_all-take_prefix_len is_ascii_digit text)
-      , (sym (take-append-drop (prefix_len is_ascii_digit text) text) ∙ ap (λ rest. take (prefix_len is_ascii_digit text) text ++ rest) ends)
-      )
-    )
+GivesDigits-from_front closing text some ends = (
+  take (prefix_len is_ascii_digit text) text,
+  (
+    (rw (length-prefix_len is_ascii_digit text) some, list_all-take_prefix_len is_ascii_digit text),
+    (sym (take-append-drop (prefix_len is_ascii_digit text) text) ∙ ap (λ rest. take (prefix_len is_ascii_digit text) text ++ rest) ends),
+  ),
+)
 
 -- a number before a text that begins with no digit is all the digits at the front
 drop-of_GivesDigits :
@@ -52,7 +53,7 @@ drop-of_GivesDigits :
 drop-of_GivesDigits closing text (rest, starts) (count, ((some, digits), is)) =
     let whole : text ≡ count ++ 93 ∷ rest = is ∙ ap (λ c. count ++ c) starts in
     let many : prefix_len is_ascii_digit text ≡ length count =
-        ap (prefix_len is_ascii_digit) whole ∙ prefix_len-append_fails is_ascii_digit count 93 rest digits refl in
+    ap (prefix_len is_ascii_digit) whole ∙ prefix_len-append_fails is_ascii_digit count 93 rest digits refl in
     rw (many, is) (drop-append_seam count closing)
 
 -- a number stands before the closing text exactly where the digits at the front end there
@@ -64,12 +65,12 @@ pub GivesDigits-by_front :
     → part ≡ drop digits text
     → same ≡ pointwise ◌==◌ part closing
     → (IsTrue same → GivesDigits closing text) × (GivesDigits closing text → IsTrue same)
-GivesDigits-by_front closing text part digits same begins many some is tests =
-    ( (λ h. GivesDigits-from_front closing text (rw (← many) some)
-        (ap (λ n. drop n text) (sym many) ∙ sym is ∙ (bytes_decides part closing).0 (sym tests ∙ h)))
-    , (λ gives. tests ∙ (bytes_decides part closing).1
-        (is ∙ ap (λ n. drop n text) many ∙ drop-of_GivesDigits closing text begins gives))
-    )
+GivesDigits-by_front closing text part digits same begins many some is tests = (
+  (λ h. GivesDigits-from_front closing text (rw (← many) some)
+      (ap (λ n. drop n text) (sym many) ∙ sym is ∙ (bytes_decides part closing).0 (sym tests ∙ h))),
+  (λ gives. tests ∙ (bytes_decides part closing).1
+      (is ∙ ap (λ n. drop n text) many ∙ drop-of_GivesDigits closing text begins gives)),
+)
 
 -- with no digit at the front no number stands there
 pub no_GivesDigits :
@@ -81,5 +82,5 @@ pub no_GivesDigits :
 no_GivesDigits closing text (rest, starts) none (count, ((some, digits), is)) =
     let whole : text ≡ count ++ 93 ∷ rest = is ∙ ap (λ c. count ++ c) starts in
     let many : prefix_len is_ascii_digit text ≡ length count =
-        ap (prefix_len is_ascii_digit) whole ∙ prefix_len-append_fails is_ascii_digit count 93 rest digits refl in
+    ap (prefix_len is_ascii_digit) whole ∙ prefix_len-append_fails is_ascii_digit count 93 rest digits refl in
     omega arith

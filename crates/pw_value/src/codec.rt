@@ -60,7 +60,12 @@ pub fn decode(bytes: [Byte; 4], width: u8, signed: bool) -> Value
         2 => decode_half(bytes[0], bytes[1], signed),
         _ => match bytes {
             [Byte::Num(a), Byte::Num(b), Byte::Num(c), Byte::Num(d)] => {
-                Value::Num(u32::from(a) * 16777216 + u32::from(b) * 65536 + u32::from(c) * 256 + u32::from(d))
+                Value::Num(
+                    u32::from(a) * 16777216
+                        + u32::from(b) * 65536
+                        + u32::from(c) * 256
+                        + u32::from(d),
+                )
             }
             _ => Value::Undefined,
         },
@@ -99,8 +104,7 @@ pub fn decode_pointer(bytes: [Byte; 4]) -> Value
     match first {
         Byte::Num(0) if is_zero(second) && is_zero(third) && is_zero(fourth) => Value::Null,
         Byte::Piece(p, 0)
-            if is_piece(p, 1, second) && is_piece(p, 2, third) && is_piece(p, 3, fourth) =>
-        {
+            if is_piece(p, 1, second) && is_piece(p, 2, third) && is_piece(p, 3, fourth) => {
             Value::At(p)
         }
         _ => Value::Undefined,

@@ -1,6 +1,9 @@
 //! Faults that several layers answer.
 
+ghost use Rattle.std.specs.Prelude.{◌≡◌};
+
 use crate::name::Name;
+use std::alloc::AllocError;
 
 /// Why bytes are no file of the wanted form, or there is no memory. `at` is the offset of the first
 /// field, in order, that is short or breaks its rule.
@@ -8,6 +11,16 @@ use crate::name::Name;
 pub enum FileError {
     FileFault { at: usize },
     NoMemory,
+}
+
+impl From<AllocError> for FileError {
+    ghost use Rattle.pw_value.specs.declared.fault.FileError.TheVariants.{NoMemory};
+
+    ghost from_gives = { λ _ fault. fault ≡ NoMemory };
+
+    fn from(_none: AllocError) -> FileError {
+        FileError::NoMemory
+    }
 }
 
 /// What there can be too much of in a program: modules, bytes of their texts together, functions,
@@ -38,4 +51,14 @@ pub enum LinkFault {
     NoMemory,
     /// There are so many of these.
     TooMany(What, u64),
+}
+
+impl From<AllocError> for LinkFault {
+    ghost use Rattle.pw_value.specs.declared.fault.LinkFault.TheVariants.{NoMemory};
+
+    ghost from_gives = { λ _ fault. fault ≡ NoMemory };
+
+    fn from(_none: AllocError) -> LinkFault {
+        LinkFault::NoMemory
+    }
 }

@@ -18,3 +18,6 @@ pub use value::{Byte, Kind, Pointer, Value};
 
 /// A word of the machine: 32 bits, read as a number from 0 to 2^32 - 1.
 pub type Word = u32;
+
+#[cfg(test)]
+mod tests;

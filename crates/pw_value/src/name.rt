@@ -40,6 +40,16 @@ pub enum NameError {
     NoMemory,
 }
 
+impl From<AllocError> for NameError {
+    ghost use Rattle.pw_value.specs.declared.name.NameError.TheVariants.{NoMemory};
+
+    ghost from_gives = { λ _ error. error ≡ NoMemory };
+
+    fn from(_none: AllocError) -> NameError {
+        NameError::NoMemory
+    }
+}
+
 impl Name {
     /// The name of these bytes.
     pub fn new(alloc: Global, bytes: &[u8]) -> Result<Name, NameError>
@@ -49,10 +59,9 @@ impl Name {
         if bytes.is_empty() || bytes.len() > NAME_MAX {
             return Err(NameError::Length);
         }
-        match Vec::from_slice(alloc, bytes) {
-            Ok(bytes) => Ok(Name { bytes }),
-            Err(AllocError) => Err(NameError::NoMemory),
-        }
+        Ok(Name {
+            bytes: Vec::from_slice(alloc, bytes)?,
+        })
     }
 
     /// The name's bytes.

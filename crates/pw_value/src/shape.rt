@@ -132,9 +132,7 @@ fn gives_digits(closing: &[u8], text: &[u8]) -> bool
 
 /// What comes after this byte, where the text begins with it.
 fn after_byte(text: &[u8], byte: u8) -> Option<&[u8]>
-    ensures {
-        MatchOption result (¬ Begins byte text.now) (λ rest. text.now ≡ byte ∷ rest.now)
-    }
+    ensures { MatchOption result (¬ Begins byte text.now) (λ rest. text.now ≡ byte ∷ rest.now) }
 {
     match text.split_first() {
         Some((first, rest)) if *first == byte => Some(rest),

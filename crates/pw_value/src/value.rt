@@ -1,6 +1,5 @@
 //! What a C program's expressions and objects hold, and how values stand in bytes.
 
-
 /// What a pointer points to: an offset in bytes within the object of a number, or a function's place
 /// among all function names in byte order. Objects are numbered in order of making, and no number is
 /// given twice in a run.

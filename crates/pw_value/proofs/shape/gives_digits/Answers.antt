@@ -10,7 +10,7 @@ returns-then-digits-gt0 c =
     c.requires c.digits_at_front-digits.ensures.count c.if-digits-gt0.true c.split_at.ensures.back c.eq.ensures
 
 pub returns-else-digits-gt0 : goal.returns-else-digits-gt0
-returns-else-digits-gt0 c =
-    ( (λ h. absurd (grind (arith, common_steps)))
-    , (λ gives. absurd (no_GivesDigits c.args.closing.now c.args.text.now c.requires (omega arith) gives))
-    )
+returns-else-digits-gt0 c = (
+  (λ h. absurd (grind (arith, common_steps))),
+  (λ gives. absurd (no_GivesDigits c.args.closing.now c.args.text.now c.requires (omega arith) gives)),
+)
