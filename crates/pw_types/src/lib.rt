@@ -5,6 +5,7 @@ pub mod ctype;
 pub mod kind;
 pub mod record;
 pub mod shapes;
+pub mod tree;
 pub mod types;
 
 pub use ctype::{CType, QType, Signature};
@@ -12,4 +13,8 @@ pub use kind::{IntKind, convert, promote, usual};
 pub use record::{Content, Layout, Member, RecordKind, RecordType};
 
 pub use shapes::shape;
+pub use tree::{
+    BinaryOperator, Case, Declared, Local, LogicOperator, StepOperator, Symbol, TExpr, TForm,
+    TFunction, TGlobal, TItem, TModule, TStmt, TStmtForm, UnaryOperator,
+};
 pub use types::{Types, layout};
