@@ -1,3 +1,4 @@
 pub mod Conversions
 pub mod Layouts
 pub mod Shapes
+pub mod Rooms

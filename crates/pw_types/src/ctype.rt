@@ -2,7 +2,6 @@
 
 use crate::kind::IntKind;
 
-
 /// A type without qualifiers of its own. The length of an array may be unknown; a structure or union
 /// is named by its number in the list of the module's records.
 #[cycle(ctype)]

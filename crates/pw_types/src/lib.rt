@@ -4,6 +4,7 @@
 pub mod ctype;
 pub mod kind;
 pub mod record;
+pub mod rooms;
 pub mod shapes;
 pub mod tree;
 pub mod types;
@@ -11,7 +12,7 @@ pub mod types;
 pub use ctype::{CType, QType, Signature};
 pub use kind::{IntKind, convert, promote, usual};
 pub use record::{Content, Layout, Member, RecordKind, RecordType};
-
+pub use rooms::{expr_nodes, room, stmt_nodes};
 pub use shapes::shape;
 pub use tree::{
     BinaryOperator, Case, Declared, Local, LogicOperator, StepOperator, Symbol, TExpr, TForm,

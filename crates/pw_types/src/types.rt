@@ -19,7 +19,6 @@ pub struct Types {
 impl Model for Types {
     ghost use Rattle.std.specs.Prelude.{List};
     ghost use Rattle.pw_types.specs.declared.record.RecordType.{RecordType};
-
     ghost use Rattle.std.specs.Coded.{codes};
     ghost use Rattle.pw_types.specs.contracts.ctype.CType as ctype;
 
