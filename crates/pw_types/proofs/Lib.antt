@@ -1,1 +1,3 @@
+mod DepthLemmas
+pub mod ListLemmas
 mod NodeLemmas

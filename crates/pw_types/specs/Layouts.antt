@@ -1,12 +1,11 @@
 -- Sizes, alignments and the places of members (ISO C90 6.1.2.5, 6.5.2.1). A structure or union type
 -- is a number, and what is known of it stands in a list of records.
-use Rattle.std.specs.Prelude.{ℕ, ◌≡◌, ◌+◌, ◌-◌, ◌*◌, ◌/◌, ◌≤◌, Bool, max, fold, Option, None, Some, IfSome, IsSome, option_map, option_and_then, unwrap_or, List, [], ◌∷◌, map, slice_get, All}
+use Rattle.std.specs.Prelude.{ℕ, ◌≡◌, ◌+◌, ◌-◌, ◌*◌, ◌/◌, ◌≤◌, Bool, max, fold, Option, None, Some, IfSome, option_map, option_and_then, List, [], ◌∷◌, map, slice_get}
 use Rattle.pw_types.specs.declared.ctype.CType.{CType, Void, Int, Pointer', Array', Function', Record}
 use Rattle.pw_types.specs.declared.record.RecordType.{RecordType}
 use Rattle.pw_types.specs.declared.record.RecordKind.{RecordKind}
 use Rattle.pw_types.specs.declared.record.RecordKind.TheVariants.{Structure, Union}
 use Rattle.pw_types.specs.declared.record.Content.{Content}
-use Rattle.pw_types.specs.declared.record.Member.{Member}
 use Rattle.pw_types.specs.declared.record.Layout.{Layout}
 use Rattle.pw_types.specs.Conversions.{size_of_kind}
 

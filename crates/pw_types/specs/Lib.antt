@@ -2,3 +2,4 @@ pub mod Conversions
 pub mod Layouts
 pub mod Shapes
 pub mod Rooms
+pub mod Records

@@ -2,6 +2,7 @@
 #![tactic(auto)]
 
 pub mod ctype;
+pub mod depths;
 pub mod kind;
 pub mod record;
 pub mod rooms;
@@ -10,6 +11,7 @@ pub mod tree;
 pub mod types;
 
 pub use ctype::{CType, QType, Signature};
+pub use depths::depth;
 pub use kind::{IntKind, convert, promote, usual};
 pub use record::{Content, Layout, Member, RecordKind, RecordType};
 pub use rooms::{expr_nodes, room, stmt_nodes};

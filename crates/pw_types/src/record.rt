@@ -17,18 +17,19 @@ pub struct Layout {
     pub align: u32,
 }
 
-/// A member: its name, its type and its offset in bytes within the record.
+/// A member: its name and its type.
 #[derive(Debug, Drop)]
 pub struct Member {
     pub name: Name,
     pub ty: QType,
-    pub offset: u32,
 }
 
-/// A record's definition: its members in order, and what follows from them.
+/// A record's definition: its members in order, and what follows from them, the members' offsets in
+/// bytes first.
 #[derive(Debug, Drop)]
 pub struct Content {
     pub members: Vec<Member>,
+    pub offsets: Vec<u32>,
     pub layout: Layout,
     pub shape: Shape,
     pub depth: u32,
