@@ -6,6 +6,7 @@ use Rattle.pw_types.specs.declared.ctype.Signature.{Signature, Signature', Row_o
 use Rattle.pw_types.specs.declared.ctype.QType.{QType}
 use Rattle.pw_types.specs.declared.record.RecordType.{RecordType}
 use Rattle.pw_types.specs.declared.record.RecordKind.{RecordKind}
+use Rattle.pw_types.specs.declared.record.RecordKind.TheVariants.{Structure}
 use Rattle.pw_types.specs.declared.record.Content.{Content}
 use Rattle.pw_types.specs.declared.record.Member.{Member}
 use Rattle.pw_types.specs.declared.record.Layout.{Layout}
@@ -68,10 +69,18 @@ pub record Follows (records : List RecordType) (kind : RecordKind) (c : Content)
   pub short : length c.shape ≤ shape_limit
   pub shallow : c.depth ≤ depth_limit
 
+-- whether the type of a number is a structure or a union
+abbrev pub kind_at : List RecordType → ℕ → RecordKind
+kind_at records number = option_map_or (λ r. r.kind) (slice_get records number) Structure
+
 -- each record that is defined follows from its members
 abbrev pub IsLaid : List RecordType → Type 0
 IsLaid records =
-    (number : ℕ) (r : RecordType) (c : Content)
-    → slice_get records number ≡ Some r
-    → r.content ≡ Some c
-    → Follows records r.kind c
+    (number : ℕ) (c : Content) → content_at records number ≡ Some c → Follows records (kind_at records number) c
+
+-- a type that is not defined yet
+abbrev pub declared : RecordKind → RecordType
+declared kind = record { kind = kind; content = None }
+
+abbrev pub defined : RecordKind → Content → RecordType
+defined kind content = record { kind = kind; content = Some content }

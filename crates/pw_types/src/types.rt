@@ -1,12 +1,13 @@
 //! The structure and union types of a module, and the layout of types.
 
-ghost use Rattle.std.specs.Prelude.{◌≡◌, [], slice_get};
+ghost use Rattle.std.specs.Prelude.{◌≡◌, [], ◌∷◌, ◌++◌, slice_get, slice_set, OnOk, OnErr};
 ghost use Rattle.std.specs.Option.{option_copied};
 ghost use Rattle.pw_types.specs.Layouts as spec;
+ghost use Rattle.pw_types.specs.Records.{Follows, IsLaid, declared, defined, kind_at};
 
 use crate::ctype::CType;
-use crate::record::{Layout, RecordType};
-use std::alloc::Global;
+use crate::record::{Content, Layout, RecordKind, RecordType};
+use std::alloc::{AllocError, Global};
 use std::marker::Model;
 
 /// The structure and union types of a module, by number from 0 on in the order of declaration. A
@@ -27,6 +28,10 @@ impl Model for Types {
     ghost coded = { Prim.hlevel (codes, ctype.the_row.coded) };
 
     ghost view = { λ inside. inside.records.items };
+
+    ghost use Rattle.pw_types.specs.Records.{IsLaid};
+
+    ghost invariant = { λ inside. IsLaid inside.records.items };
 }
 
 impl Types {
@@ -39,9 +44,10 @@ impl Types {
         }
     }
 
-    /// The types in order.
+    /// The types in order. What stands in each that is defined follows from its members.
     pub fn records(&self) -> &[RecordType]
-        ensures { result.now ≡ self.now }
+        ensures records { result.now ≡ self.now }
+        ensures laid { IsLaid self.now }
     {
         self.records.as_slice()
     }
@@ -51,6 +57,31 @@ impl Types {
         ensures { option_copied result ≡ slice_get self.now number }
     {
         self.records.get(number as usize)
+    }
+
+    /// Puts a type that is not defined yet behind the others.
+    pub fn declare(&mut self, kind: RecordKind) -> Result<(), AllocError>
+        ensures ok { OnOk result (self.new ≡ self.old ++ declared kind ∷ []) }
+        ensures err { OnErr result (self.new ≡ self.old) }
+    {
+        self.records.push(RecordType {
+            kind,
+            content: None,
+        })?;
+        Ok(())
+    }
+
+    /// Defines a type by a content that follows from its members.
+    pub fn define(&mut self, number: u32, content: Content)
+        requires undefined { slice_get self.old number ≡ Some (declared (kind_at self.old number)) }
+        requires follows { Follows self.old (kind_at self.old number) content }
+        ensures { self.new ≡ slice_set self.old number (defined (kind_at self.old number) content) }
+    {
+        let kind = self.records[number as usize].kind;
+        self.records[number as usize] = RecordType {
+            kind,
+            content: Some(content),
+        };
     }
 }
 
