@@ -21,3 +21,6 @@ pub use tree::{
     TFunction, TGlobal, TItem, TModule, TStmt, TStmtForm, UnaryOperator,
 };
 pub use types::{Types, layout};
+
+#[cfg(test)]
+mod tests;
