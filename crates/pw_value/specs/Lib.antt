@@ -1,1 +1,4 @@
 pub mod Names
+pub mod Shapes
+pub mod Values
+pub mod Objects

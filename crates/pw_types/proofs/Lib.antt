@@ -1,0 +1,4 @@
+mod DepthLemmas
+pub mod ListLemmas
+mod NodeLemmas
+pub mod RecordLemmas

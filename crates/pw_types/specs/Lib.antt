@@ -1,0 +1,5 @@
+pub mod Conversions
+pub mod Layouts
+pub mod Shapes
+pub mod Rooms
+pub mod Records

@@ -1,0 +1,26 @@
+//! The types of the C profile.
+#![tactic(auto)]
+
+pub mod ctype;
+pub mod depths;
+pub mod kind;
+pub mod record;
+pub mod rooms;
+pub mod shapes;
+pub mod tree;
+pub mod types;
+
+pub use ctype::{CType, QType, Signature};
+pub use depths::depth;
+pub use kind::{IntKind, convert, promote, usual};
+pub use record::{Content, Layout, Member, RecordKind, RecordType};
+pub use rooms::{expr_nodes, room, stmt_nodes};
+pub use shapes::shape;
+pub use tree::{
+    BinaryOperator, Case, Declared, Local, LogicOperator, StepOperator, Symbol, TExpr, TForm,
+    TFunction, TGlobal, TItem, TModule, TStmt, TStmtForm, UnaryOperator,
+};
+pub use types::{Types, layout};
+
+#[cfg(test)]
+mod tests;

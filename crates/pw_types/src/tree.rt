@@ -1,0 +1,220 @@
+//! The typed tree of a module: what checking makes of its text, and what its meaning and its code are
+//! made of.
+//!
+//! Each implicit conversion is a `Cast` and each implicit address of an array or a function a `Decay`.
+//! An index `a[i]` is the `Deref` of an `Add`, `p->x` is a `Member` of a `Deref`, `sizeof` is a
+//! `Number`, and parentheses leave no node. A node's token is its operator's, counted from 1: of an
+//! index the `[`, of a call the `(`, of a member the `.` or `->`, of a number, string or name the token
+//! itself, of an implicit `Cast` or a `Decay` that of its operand.
+
+use crate::ctype::QType;
+use crate::types::Types;
+use pw_value::Name;
+
+/// An object or function of static lifetime, as the module `m` speaks of it.
+#[derive(PartialEq, Eq, Debug, Drop)]
+pub enum Symbol {
+    /// By a name that all modules share.
+    External(Name),
+    /// By a name `x` of the module's own, `m:x` outside it.
+    Internal(Name),
+    /// The module's static local, string or local brace initialiser of this number, counted from 0 in
+    /// the order of the text: `m:.k` outside it.
+    Hidden(u32),
+}
+
+/// The unary operators `+`, `-`, `~` and `!`.
+#[derive(Clone, Copy, PartialEq, Eq, Debug)]
+pub enum UnaryOperator {
+    Plus,
+    Minus,
+    Complement,
+    Not,
+}
+
+/// The binary operators on values.
+#[derive(Clone, Copy, PartialEq, Eq, Debug)]
+pub enum BinaryOperator {
+    Add,
+    Subtract,
+    Multiply,
+    Divide,
+    Remainder,
+    ShiftLeft,
+    ShiftRight,
+    Less,
+    Greater,
+    LessEqual,
+    GreaterEqual,
+    Equal,
+    NotEqual,
+    And,
+    ExclusiveOr,
+    Or,
+}
+
+/// The operators `&&` and `||`.
+#[derive(Clone, Copy, PartialEq, Eq, Debug)]
+pub enum LogicOperator {
+    And,
+    Or,
+}
+
+/// The operators `++` and `--`, before and behind their operand.
+#[derive(Clone, Copy, PartialEq, Eq, Debug)]
+pub enum StepOperator {
+    IncrementBefore,
+    DecrementBefore,
+    IncrementBehind,
+    DecrementBehind,
+}
+
+/// An expression with its type: of an lvalue that of the object, which no `Cast` wraps before it is
+/// read.
+#[cycle(texpr)]
+#[derive(Debug, Drop)]
+pub struct TExpr {
+    pub token: usize,
+    pub ty: QType,
+    pub form: TForm,
+}
+
+/// The forms of expressions.
+#[cycle(texpr)]
+#[derive(Debug, Drop)]
+pub enum TForm {
+    /// A word; of type pointer it is the null pointer 0.
+    Number(u32),
+    /// The hidden object of this number, which holds a string.
+    Str(u32),
+    /// A parameter or local by its place among the function's locals.
+    Local(u32),
+    Global(Symbol),
+    Function(Symbol),
+    Unary(UnaryOperator, Box<TExpr>),
+    Binary(BinaryOperator, Box<TExpr>, Box<TExpr>),
+    Logic(LogicOperator, Box<TExpr>, Box<TExpr>),
+    Cond(Box<TExpr>, Box<TExpr>, Box<TExpr>),
+    Comma(Box<TExpr>, Box<TExpr>),
+    Assign(Box<TExpr>, Box<TExpr>),
+    /// `a op= b`: the type in which the operator works, to which the old value is converted and from
+    /// which the new one is; then the lvalue and the right operand.
+    Compound(BinaryOperator, QType, Box<TExpr>, Box<TExpr>),
+    Step(StepOperator, Box<TExpr>),
+    Cast(Box<TExpr>),
+    Decay(Box<TExpr>),
+    /// A member of a structure or union, by its offset in bytes.
+    Member(Box<TExpr>, u32),
+    Deref(Box<TExpr>),
+    Address(Box<TExpr>),
+    /// A call of a function that is named directly.
+    Call(Symbol, Vec<TExpr>),
+    /// A call through a value, which is a pointer to a function.
+    CallValue(Box<TExpr>, Vec<TExpr>),
+}
+
+/// A case of a switch: its value as a word, and its label.
+#[derive(Clone, Copy, PartialEq, Eq, Debug)]
+pub struct Case {
+    pub value: u32,
+    pub label: u32,
+}
+
+/// A statement.
+#[cycle(tstmt)]
+#[derive(Debug, Drop)]
+pub struct TStmt {
+    pub token: usize,
+    pub form: TStmtForm,
+}
+
+/// The forms of statements. The labels of a function, those of cases and defaults included, are
+/// numbered from 0 in the order of the text.
+#[cycle(tstmt)]
+#[derive(Debug, Drop)]
+pub enum TStmtForm {
+    Empty,
+    Expr(TExpr),
+    /// A block: as many locals as `count` from the number `first` on live in it; then its
+    /// initialisers and statements in order.
+    Block {
+        first: u32,
+        count: u32,
+        items: Vec<TStmt>,
+    },
+    /// The initialiser of a local that is one expression. It is a part of a declaration and counts as
+    /// no statement.
+    Init(u32, TExpr),
+    /// The brace or string initialiser of a local: the hidden object that has its bytes, and the
+    /// expressions that it is made of, which are constants and are not evaluated. It is a part of a
+    /// declaration and counts as no statement.
+    InitFrom(u32, u32, Vec<TExpr>),
+    If(TExpr, Box<TStmt>, Option<Box<TStmt>>),
+    While(TExpr, Box<TStmt>),
+    Do(Box<TStmt>, TExpr),
+    For(Option<TExpr>, Option<TExpr>, Option<TExpr>, Box<TStmt>),
+    /// A switch: its value, its cases in the order of the text, the label of its default, its body.
+    Switch(TExpr, Vec<Case>, Option<u32>, Box<TStmt>),
+    /// A statement behind a label: of a case, a default or a `goto`.
+    Label(u32, Box<TStmt>),
+    Goto(u32),
+    Break,
+    Continue,
+    Return(Option<TExpr>),
+}
+
+/// A parameter or a local of automatic lifetime.
+#[derive(Debug, Drop)]
+pub struct Local {
+    pub name: Name,
+    pub ty: QType,
+}
+
+/// A function's definition. `token` is its name's. The first `params` of its locals are its parameters;
+/// the others follow in the order of declaration. `labels` is the count of its labels, and the body is
+/// a block.
+#[derive(Debug, Drop)]
+pub struct TFunction {
+    pub name: Symbol,
+    pub token: usize,
+    pub ty: QType,
+    pub params: u32,
+    pub locals: Vec<Local>,
+    pub labels: u32,
+    pub body: TStmt,
+}
+
+/// A part of an object's initial bytes.
+#[derive(Debug, Drop)]
+pub enum TItem {
+    Bytes(Vec<u8>),
+    /// The address of an object or function plus a number.
+    Address(Symbol, u32),
+}
+
+/// An object of static lifetime with its initial bytes: items at rising offsets, and zero elsewhere.
+/// Strings and objects that are defined const are not writable.
+#[derive(Debug, Drop)]
+pub struct TGlobal {
+    pub name: Symbol,
+    pub ty: QType,
+    pub writable: bool,
+    pub items: Vec<(u32, TItem)>,
+}
+
+/// A name that all modules share and that the module declares or defines, with its type.
+#[derive(Debug, Drop)]
+pub struct Declared {
+    pub name: Name,
+    pub ty: QType,
+}
+
+/// A module: its structure and union types, the objects and the functions that it defines in the order
+/// of their first definitions, and what it declares in the order of first declarations.
+#[derive(Debug, Drop)]
+pub struct TModule {
+    pub types: Types,
+    pub globals: Vec<TGlobal>,
+    pub functions: Vec<TFunction>,
+    pub declared: Vec<Declared>,
+}

@@ -1,0 +1,113 @@
+//! The structure and union types of a module, and the layout of types.
+
+ghost use Rattle.std.specs.Prelude.{◌≡◌, [], ◌∷◌, ◌++◌, slice_get, slice_set, OnOk, OnErr};
+ghost use Rattle.std.specs.Option.{option_copied};
+ghost use Rattle.pw_types.specs.Layouts as spec;
+ghost use Rattle.pw_types.specs.Records.{Follows, IsLaid, declared, defined, kind_at};
+
+use crate::ctype::CType;
+use crate::record::{Content, Layout, RecordKind, RecordType};
+use std::alloc::{AllocError, Global};
+use std::marker::Model;
+
+/// The structure and union types of a module, by number from 0 on in the order of declaration. A
+/// contract sees it as that list.
+#[derive(Debug, Drop)]
+pub struct Types {
+    records: Vec<RecordType>,
+}
+
+impl Model for Types {
+    ghost use Rattle.std.specs.Prelude.{List};
+    ghost use Rattle.pw_types.specs.declared.record.RecordType.{RecordType};
+    ghost use Rattle.std.specs.Coded.{codes};
+    ghost use Rattle.pw_types.specs.contracts.ctype.CType as ctype;
+
+    ghost Value = { List RecordType };
+
+    ghost coded = { Prim.hlevel (codes, ctype.the_row.coded) };
+
+    ghost view = { λ inside. inside.records.items };
+
+    ghost use Rattle.pw_types.specs.Records.{IsLaid};
+
+    ghost invariant = { λ inside. IsLaid inside.records.items };
+}
+
+impl Types {
+    /// No types.
+    pub fn new(alloc: Global) -> Types
+        ensures { result ≡ [] }
+    {
+        Types {
+            records: Vec::new(alloc),
+        }
+    }
+
+    /// The types in order. What stands in each that is defined follows from its members.
+    pub fn records(&self) -> &[RecordType]
+        ensures records { result.now ≡ self.now }
+        ensures laid { IsLaid self.now }
+    {
+        self.records.as_slice()
+    }
+
+    /// The type of a number, or None where no type has it.
+    pub fn record(&self, number: u32) -> Option<&RecordType>
+        ensures { option_copied result ≡ slice_get self.now number }
+    {
+        self.records.get(number as usize)
+    }
+
+    /// Puts a type that is not defined yet behind the others.
+    pub fn declare(&mut self, kind: RecordKind) -> Result<(), AllocError>
+        ensures ok { OnOk result (self.new ≡ self.old ++ declared kind ∷ []) }
+        ensures err { OnErr result (self.new ≡ self.old) }
+    {
+        self.records.push(RecordType {
+            kind,
+            content: None,
+        })?;
+        Ok(())
+    }
+
+    /// Defines a type by a content that follows from its members.
+    pub fn define(&mut self, number: u32, content: Content)
+        requires undefined { slice_get self.old number ≡ Some (declared (kind_at self.old number)) }
+        requires follows { Follows self.old (kind_at self.old number) content }
+        ensures { self.new ≡ slice_set self.old number (defined (kind_at self.old number) content) }
+    {
+        let kind = self.records[number as usize].kind;
+        self.records[number as usize] = RecordType {
+            kind,
+            content: Some(content),
+        };
+    }
+}
+
+/// The size and alignment of a type: None exactly for void, functions, arrays of unknown length,
+/// records that are not defined, and arrays of these.
+pub fn layout(types: &Types, ty: &CType) -> Option<Layout>
+    requires { spec.KeepsSizeLimit types.now ty.now }
+    ensures { result ≡ spec.layout_of types.now ty.now }
+{
+    match ty {
+        CType::Void | CType::Function(_) | CType::Array(_, None) => None,
+        CType::Int(kind) => Some(Layout {
+            size: u32::from(kind.size()),
+            align: u32::from(kind.size()),
+        }),
+        CType::Pointer(_) => Some(Layout { size: 4, align: 4 }),
+        CType::Array(element, Some(count)) => {
+            let element = layout(types, &element.ty)?;
+            Some(Layout {
+                size: element.size * *count,
+                align: element.align,
+            })
+        }
+        CType::Record(number) => {
+            let content = types.record(*number)?.content.as_ref()?;
+            Some(content.layout)
+        }
+    }
+}
