@@ -10,3 +10,6 @@ mod modules;
 mod run;
 mod tokens;
 mod top;
+
+pub use answer::{Answer, Feature, LinkFault, Refusal, What, status};
+pub use top::pawc_top;
