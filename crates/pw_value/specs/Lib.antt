@@ -1,1 +1,4 @@
 pub mod Names
+pub mod Fields
+pub mod FieldFaults
+pub mod FieldLaws

@@ -2,6 +2,7 @@
 //! and expressions hold.
 #![tactic(auto)]
 
+pub mod fields;
 pub mod name;
 
 pub use name::{Name, NameError};

@@ -1,0 +1,29 @@
+//! Why a field could not be read.
+
+ghost use Rattle.std.specs.Prelude.{◌≡◌};
+ghost use Rattle.pw_value.specs.declared.fields.fault.FieldError.TheVariants.{NoMemory};
+
+use std::alloc::{AllocError, AllocFailed};
+
+/// A field is short or breaks its rule, with `left` bytes left where it begins, or there is no memory.
+#[derive(Clone, Copy, PartialEq, Eq, Debug)]
+pub enum FieldError {
+    Fault { left: usize },
+    NoMemory,
+}
+
+impl From<AllocError> for FieldError {
+    ghost from_gives = { λ _ e. e ≡ NoMemory };
+
+    fn from(_e: AllocError) -> FieldError {
+        FieldError::NoMemory
+    }
+}
+
+impl<T: Drop> From<AllocFailed<T>> for FieldError {
+    ghost from_gives = { λ _ e. e ≡ NoMemory };
+
+    fn from(_e: AllocFailed<T>) -> FieldError {
+        FieldError::NoMemory
+    }
+}
