@@ -97,11 +97,11 @@ number_again w limit wide n rest lt =
     rw (long, take_at (to_be_bytes w n) rest (byte_len w) len, drop_at (to_be_bytes w n) rest (byte_len w) len, wide.again n lt) refl
 
 pub u32_spells : Spells u32 FitsU32 u32_at
-unfolding u32_at
+unfolding u32_at u32
 u32_spells = record { takes = number_takes w32 (2 ^ 32) wide32; again = number_again w32 (2 ^ 32) wide32 }
 
 pub u64_spells : Spells u64 FitsU64 u64_at
-unfolding u64_at
+unfolding u64_at u64
 u64_spells = record { takes = number_takes w64 (2 ^ 64) wide64; again = number_again w64 (2 ^ 64) wide64 }
 
 byte_takes : (bytes : List ℕ) (n : ℕ) (rest : List ℕ) → AreBytes bytes → u8_at bytes ≡ Ok (n, rest) → (bytes ≡ u8 n ++ rest) × (n < 256)
@@ -136,6 +136,7 @@ checked_spells spelling Fits read rule laws = record {
 -- ---- texts
 
 text_takes : (bytes words rest : List ℕ) → AreBytes bytes → (r : Result (ℕ × List ℕ) ℕ) → u32_at bytes ≡ r → text_within (length bytes) r ≡ Ok (words, rest) → (bytes ≡ text words ++ rest) × FitsText words
+unfolding text
 text_takes bytes words rest fits (Ok n) is e =
     let t = u32_spells.takes bytes n.0 n.1 fits is in
     let g = guard_passes (ltb (length n.1) n.0) (length bytes) (take n.0 n.1) words (drop n.0 n.1) rest e in
@@ -146,7 +147,7 @@ text_takes bytes words rest fits (Ok n) is e =
 text_takes bytes words rest fits (Err d) is e = absurd (not_found d words rest e)
 
 text_again : (words rest : List ℕ) → FitsText words → text_at (text words ++ rest) ≡ Ok (words, rest)
-unfolding text_at
+unfolding text_at text
 text_again words rest lt =
     let regrouped : text words ++ rest ≡ u32 (length words) ++ (words ++ rest) = append_assoc (u32 (length words)) words rest in
     let long : ltb (length (words ++ rest)) (length words) ≡ false = le-ltb _ _ (omega (arith, length-append words rest)) in

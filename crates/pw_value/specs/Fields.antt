@@ -89,13 +89,13 @@ items_at item next (suc n) s = do
 abbrev pub u8 : ℕ → List ℕ
 u8 n = n ∷ []
 
-abbrev pub u32 : ℕ → List ℕ
+unfoldable pub u32 : ℕ → List ℕ
 u32 n = to_be_bytes w32 n
 
-abbrev pub u64 : ℕ → List ℕ
+unfoldable pub u64 : ℕ → List ℕ
 u64 n = to_be_bytes w64 n
 
-abbrev pub text : List ℕ → List ℕ
+unfoldable pub text : List ℕ → List ℕ
 text bytes = u32 (length bytes) ++ bytes
 
 abbrev pub flag : Bool → List ℕ

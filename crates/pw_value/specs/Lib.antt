@@ -1,4 +1,5 @@
 pub mod Names
 pub mod Fields
 pub mod FieldFaults
+pub mod FieldFrame
 pub mod FieldLaws

@@ -10,7 +10,9 @@ ghost use Rattle.pw_value.specs.FieldFaults.{Gives};
 use std::alloc::Global;
 
 mod fault;
+pub mod frame;
 pub mod laws;
+pub mod writing;
 
 pub use fault::FieldError;
 

@@ -2,9 +2,11 @@
 //! and expressions hold.
 #![tactic(auto)]
 
+pub mod fault;
 pub mod fields;
 pub mod name;
 
+pub use fault::FileError;
 pub use name::{Name, NameError};
 pub use std::alloc::AllocError as NoMemory;
 

@@ -3,6 +3,7 @@
 ghost use Rattle.std.specs.Prelude.{◌≡◌};
 ghost use Rattle.pw_value.specs.declared.fields.fault.FieldError.TheVariants.{NoMemory};
 
+use crate::fault::FileError;
 use std::alloc::{AllocError, AllocFailed};
 
 /// A field is short or breaks its rule, with `left` bytes left where it begins, or there is no memory.
@@ -25,5 +26,21 @@ impl<T: Drop> From<AllocFailed<T>> for FieldError {
 
     fn from(_e: AllocFailed<T>) -> FieldError {
         FieldError::NoMemory
+    }
+}
+
+impl FieldError {
+    ghost use Rattle.pw_value.specs.FieldFaults.{told_at};
+
+    /// The same fault, told by its offset, where the bytes that were read end at the offset `end`.
+    pub fn at(self, end: usize) -> FileError
+        ensures { result ≡ told_at end self }
+    {
+        match self {
+            FieldError::Fault { left } => FileError::FileFault {
+                at: end.saturating_sub(left),
+            },
+            FieldError::NoMemory => FileError::NoMemory,
+        }
     }
 }
