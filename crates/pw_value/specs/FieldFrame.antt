@@ -25,7 +25,8 @@ abbrev pub header_at : ℕ → ℕ → ℕ → ℕ → List ℕ → Result (ℕ 
 header_at kind first last total = do
   k ← checked (λ k. k == kind) u32_at
   n ← checked (λ n. n == total) u32_at
-  checked (λ v. nat_le first v && nat_le v last) u32_at
+  v ← checked (λ v. nat_le first v && nat_le v last) u32_at
+  done v
 
 -- the payload ends where the digest begins: the last 32 bytes, or fewer where there are fewer
 abbrev pub payload_of : List ℕ → List ℕ
@@ -75,3 +76,12 @@ file kind version payload = before_digest kind version payload ++ sha256 (before
 -- a payload that a file can hold
 abbrev pub FitsFile : List ℕ → Type 0
 FitsFile payload = 44 + length payload < 2 ^ 32
+
+-- the bytes are a file of the value, in one of the versions from first to last
+pub record IsFileOf {X : Type 0} (kind first last : ℕ) (spelling : ℕ → X → List ℕ) (Fits : ℕ → X → Type 0) (bytes : List ℕ) (x : X) : Type 0 where
+  pub version : ℕ
+  pub not_below : first ≤ version
+  pub not_above : version ≤ last
+  pub fits : Fits version x
+  pub room : FitsFile (spelling version x)
+  pub spelled : bytes ≡ file kind version (spelling version x)
