@@ -1,3 +1,5 @@
 pub mod FieldLaws
+pub mod FieldLoops
 pub mod FieldSteps
 pub mod FileLaws
+pub mod NameLaws

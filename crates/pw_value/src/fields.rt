@@ -12,6 +12,7 @@ use std::alloc::Global;
 mod fault;
 pub mod frame;
 pub mod laws;
+pub mod names;
 pub mod writing;
 
 pub use fault::FieldError;
