@@ -3,3 +3,4 @@ pub mod FieldLoops
 pub mod FieldSteps
 pub mod FileLaws
 pub mod NameLaws
+pub mod NameTables

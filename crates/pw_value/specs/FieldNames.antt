@@ -67,5 +67,12 @@ first_unused (name ∷ names) used behind = if is_among used name then first_unu
 
 -- the names that are used, each once and in rising order
 pub record IsTableOf (names used : List (List ℕ)) : Type 0 where
-  pub table : IsNameTable names
+  pub rising : IsRisingFrom [] names
   pub of : (name : List ℕ) → Contains names name ↔ Contains used name
+
+-- ---- how the table is made
+
+-- a list without what stands right behind its like
+abbrev pub unrepeated : List ℕ → List (List ℕ) → List (List ℕ)
+unrepeated before [] = []
+unrepeated before (name ∷ names) = if bytes_eq before name then unrepeated before names else name ∷ unrepeated name names

@@ -1,10 +1,14 @@
 //! The table of names of a file, and names that stand in a file by their index in it.
 
 ghost use Rattle.std.specs.Prelude.{◌≡◌, ◌≢◌, ◌++◌, ◌<◌, ◌^◌, List, length, [], IfOk, IfErr, OnOk, Contains};
-ghost use Rattle.pw_value.specs.Fields.{items_at};
+ghost use Rattle.std.specs.Prelude.{ℕ, map, IfSome, IfNone, slice_index_or};
+ghost use Rattle.std.specs.List.{flat_map};
+ghost use Rattle.pw_value.specs.Names.{IsNameLength};
+ghost use Rattle.pw_value.specs.Fields.{items_at, text};
 ghost use Rattle.pw_value.specs.FieldFaults.{Gives};
-ghost use Rattle.pw_value.specs.FieldNames.{is_entry, entry_at, next_entry, names_at, name_at, name_index, IsNameTable};
+ghost use Rattle.pw_value.specs.FieldNames.{is_entry, entry_at, next_entry, names_at, name_at, name_index, place_of, IsRisingFrom, IsNameTable, IsTableOf, name_table, unrepeated};
 
+use super::writing::{push_text, push_u32};
 use super::{FieldError, read_text_in_place, read_u32};
 use crate::name::{NAME_MAX, Name};
 use std::alloc::{AllocError, Global};
@@ -76,4 +80,73 @@ pub fn read_name<'a, 'b>(names: &'b [Name], bytes: &'a [u8]) -> Result<(&'b Name
         Some(name) => Ok((name, rest)),
         None => Err(FieldError::Fault { left: bytes.len() }),
     }
+}
+
+/// The place of a name in rising names, by halves.
+pub fn find_name(names: &[Name], name: &Name) -> Option<usize>
+    requires { IsRisingFrom [] names.now }
+    ensures found { IfSome result (λ i. (i < length names.now) × (place_of names.now name.now ≡ i)) }
+    ensures none { IfNone result (¬ Contains names.now name.now) }
+{
+    match names.binary_search(name) {
+        Ok(place) => Some(place),
+        Err(_) => None,
+    }
+}
+
+/// A name of the table, by its index.
+pub fn push_name(out: &mut Vec<u8>, names: &[Name], name: &Name) -> Result<(), AllocError>
+    requires table { IsNameTable names.now }
+    requires stands { Contains names.now name.now }
+    ensures { OnOk result (out.new.items ≡ out.old.items ++ name_index names.now name.now) }
+{
+    match find_name(names, name) {
+        Some(place) => push_u32(out, place as u32),
+        None => unreachable!(),
+    }
+}
+
+/// The table of names.
+#[tactic(auto, unfolding(crate::specs::FieldNames::name_table))]
+pub fn push_names(out: &mut Vec<u8>, names: &[Name]) -> Result<(), AllocError>
+    requires { IsNameTable names.now }
+    ensures { OnOk result (out.new.items ≡ out.old.items ++ name_table names.now) }
+{
+    push_u32(out, names.len() as u32)?;
+    push_entries(out, names)
+}
+
+/// The names of the table, one after the other.
+fn push_entries(out: &mut Vec<u8>, names: &[Name]) -> Result<(), AllocError>
+    ensures { OnOk result (out.new.items ≡ out.old.items ++ flat_map text names.now) }
+{
+    for name in names {
+        push_text(out, name.as_bytes())?;
+    }
+    Ok(())
+}
+
+/// Sorted names without what stands right behind its like.
+fn distinct(alloc: Global, sorted: &[&Name]) -> Result<Vec<Name>, AllocError>
+    ensures made { IfOk result (λ v. v.items ≡ unrepeated [] (map (λ name. name.now) sorted.now)) }
+    ensures lengths { OnOk result ((k : ℕ) → k < length sorted.now → (d : List ℕ) → IsNameLength (length (slice_index_or (map (λ name. name.now) sorted.now) k d))) }
+{
+    let mut names = Vec::new(alloc);
+    let mut before: &[u8] = &[];
+    for name in sorted {
+        let bytes = name.as_bytes();
+        if before != bytes {
+            names.push(name.copy(alloc)?)?;
+            before = bytes;
+        }
+    }
+    Ok(names)
+}
+
+/// The table of the names that are used, in whatever order and however often.
+pub fn table_of(alloc: Global, mut used: Vec<&Name>) -> Result<Vec<Name>, AllocError>
+    ensures { IfOk result (λ v. IsTableOf v.items (map (λ name. name.now) used.entry.items)) }
+{
+    used.sort_unstable();
+    distinct(alloc, &used)
 }
