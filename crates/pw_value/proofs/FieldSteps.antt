@@ -1,63 +1,106 @@
 -- A format is proved field by field, as its reader is written: each step names the field of the value
 -- that was read, and at the end the fields that are known make the value.
 use Rattle.std.proofs.Common.{◌≡◌, ℕ, zero, suc, ◌^◌, ◌<◌, List, [], ◌∷◌, ◌++◌, length, Result, Ok, Err, refl, sym, ap, subst, ◌∙◌, append_assoc, arith}
+use Rattle.std.specs.Prelude.{Option, Some, None}
 use Rattle.std.specs.List.{flat_map}
+use Rattle.std.proofs.lemmas.List.{append-nil}
 use Rattle.std.proofs.lemmas.List.Concat.{flat_map-cons}
 use Rattle.pw_value.specs.Fields.{◌>>=◌, after, done, items_at, FitInTurn}
-use Rattle.pw_value.specs.FieldLaws.{AreBytes, Spells}
-use Rattle.pw_value.proofs.FieldLaws.{AreBytes-rest, joins, same_text, found_is, after_passes}
+use Rattle.pw_value.specs.FieldFrame.{here, ended}
+use Rattle.pw_value.specs.FieldLaws.{AreBytes, Spells, SpellsWhole}
+use Rattle.pw_value.proofs.FieldLaws.{AreBytes-rest, joins, same_text, found_is, not_found, after_passes}
+
+-- what may follow a format: anything follows a field, and nothing a payload
+abbrev pub Anything : List ℕ → Type 0
+Anything rest = Unit {0}
+
+abbrev pub Nothing : List ℕ → Type 0
+Nothing rest = rest ≡ []
 
 -- a reader that goes on where something is known of the value already
-pub record Completes {X : Type 0} (Known : X → Type 0) (spelling : X → List ℕ) (Fits : X → Type 0) (read : List ℕ → Result (X × List ℕ) ℕ) : Type 0 where
-  pub takes : (bytes : List ℕ) (x : X) (rest : List ℕ) → AreBytes bytes → read bytes ≡ Ok (x, rest) → (bytes ≡ spelling x ++ rest) × Known x × Fits x
-  pub again : (x : X) (rest : List ℕ) → Known x → Fits x → read (spelling x ++ rest) ≡ Ok (x, rest)
+pub record Completes {X : Type 0} (Follows : List ℕ → Type 0) (Known : X → Type 0) (spelling : X → List ℕ) (Fits : X → Type 0) (read : List ℕ → Result (X × List ℕ) ℕ) : Type 0 where
+  pub takes : (bytes : List ℕ) (x : X) (rest : List ℕ) → AreBytes bytes → read bytes ≡ Ok (x, rest) → (bytes ≡ spelling x ++ rest) × Known x × Fits x × Follows rest
+  pub again : (x : X) (rest : List ℕ) → Follows rest → Known x → Fits x → read (spelling x ++ rest) ≡ Ok (x, rest)
 
 -- all fields are known
-pub finish : {X : Type 0} (Known : X → Type 0) (x : X) → Known x → ((y : X) → Known y → x ≡ y) → Completes Known (λ y. []) (λ y. Unit {0}) (done x)
+pub finish : {X : Type 0} (Known : X → Type 0) (x : X) → Known x → ((y : X) → Known y → x ≡ y) → Completes Anything Known (λ y. []) (λ y. Unit {0}) (done x)
 finish Known x known only = record {
-  takes = λ bytes y rest fits e. let p = found_is x y bytes rest e in (p.1, subst Known p.0 known, tt);
-  again = λ y rest k fits. rw (← only y k) refl;
+  takes = λ bytes y rest fits e. let p = found_is x y bytes rest e in (p.1, subst Known p.0 known, tt, tt);
+  again = λ y rest follows k fits. rw (← only y k) refl;
+}
+
+-- all fields of a payload are known, which ends here, and the late rules say what Holds says
+ended_is : {X : Type 0} (late : Option ℕ) (x y : X) (bytes rest : List ℕ) → ended late x bytes ≡ Ok (y, rest) → (bytes ≡ []) × (late ≡ None) × (x ≡ y) × (rest ≡ [])
+ended_is late x y (b ∷ bytes) rest e = absurd (not_found _ y rest e)
+ended_is (Some left) x y [] rest e = absurd (not_found left y rest e)
+ended_is None x y [] rest e = let p = found_is x y [] rest e in (refl, refl, p.0, sym p.1)
+
+pub finish_whole : {X : Type 0} (Known Holds : X → Type 0) (late : Option ℕ) (x : X) → Known x → ((y : X) → Known y → x ≡ y) → (late ≡ None → Holds x) → (Holds x → late ≡ None)
+    → Completes Nothing Known (λ y. []) Holds (ended late x)
+finish_whole Known Holds late x known only forth back = record {
+  takes = λ bytes y rest fits e. let p = ended_is late x y bytes rest e in (p.0 ∙ sym p.3, subst Known p.2 known, subst Holds p.2 (forth p.1), p.3);
+  again = λ y rest follows k holds. rw (follows, back (subst Holds (sym (only y k)) holds), ← only y k) refl;
 }
 
 -- the next field, whose rule may speak of the fields before it
-pub step_where : {X A : Type 0} (Known : X → Type 0) (text : A → List ℕ) (FitsField : A → Type 0) (field : List ℕ → Result (A × List ℕ) ℕ)
+pub step_where : {X A : Type 0} (Follows : List ℕ → Type 0) (Known : X → Type 0) (text : A → List ℕ) (FitsField : A → Type 0) (field : List ℕ → Result (A × List ℕ) ℕ)
     (spelling : X → List ℕ) (FitsHere FitsRest : X → Type 0) (others : A → List ℕ → Result (X × List ℕ) ℕ) (get : X → A)
     → Spells text FitsField field
     → ((x : X) → Known x → FitsField (get x) → FitsHere x)
     → ((x : X) → Known x → FitsHere x → FitsField (get x))
-    → ((a : A) → FitsField a → Completes (λ x. Known x × (get x ≡ a)) spelling FitsRest (others a))
-    → Completes Known (λ x. text (get x) ++ spelling x) (λ x. FitsHere x × FitsRest x) (field >>= others)
-step_where Known text FitsField field spelling FitsHere FitsRest others get one to from rest_laws = record {
+    → ((a : A) → FitsField a → Completes Follows (λ x. Known x × (get x ≡ a)) spelling FitsRest (others a))
+    → Completes Follows Known (λ x. text (get x) ++ spelling x) (λ x. FitsHere x × FitsRest x) (field >>= others)
+step_where Follows Known text FitsField field spelling FitsHere FitsRest others get one to from rest_laws = record {
   takes = λ bytes x rest fits e.
     let p = after_passes (field bytes) others x rest e in
     let t = one.takes bytes p.0 p.1 fits p.2 in
     let u = (rest_laws p.0 t.1).takes p.1 x rest (AreBytes-rest bytes (text p.0) p.1 fits t.0) p.3 in
-    (t.0 ∙ rw (u.0, u.1.1) (sym (append_assoc (text p.0) (spelling x) rest)), u.1.0, (to x u.1.0 (rw u.1.1 t.1), u.2));
-  again = λ x rest known fits.
+    (t.0 ∙ rw (u.0, u.1.1) (sym (append_assoc (text p.0) (spelling x) rest)), u.1.0, (to x u.1.0 (rw u.1.1 t.1), u.2), u.3);
+  again = λ x rest follows known fits.
     let here = from x known fits.0 in
     ap (field >>= others) (append_assoc (text (get x)) (spelling x) rest)
-      ∙ rw (one.again (get x) (spelling x ++ rest) here) ((rest_laws (get x) here).again x rest (known, refl) fits.1);
+      ∙ rw (one.again (get x) (spelling x ++ rest) here) ((rest_laws (get x) here).again x rest follows (known, refl) fits.1);
 }
 
 -- the next field, whose rule speaks of it alone
-pub step : {X A : Type 0} (Known : X → Type 0) (text : A → List ℕ) (FitsField : A → Type 0) (field : List ℕ → Result (A × List ℕ) ℕ)
+pub step : {X A : Type 0} (Follows : List ℕ → Type 0) (Known : X → Type 0) (text : A → List ℕ) (FitsField : A → Type 0) (field : List ℕ → Result (A × List ℕ) ℕ)
     (spelling : X → List ℕ) (FitsRest : X → Type 0) (others : A → List ℕ → Result (X × List ℕ) ℕ) (get : X → A)
     → Spells text FitsField field
-    → ((a : A) → FitsField a → Completes (λ x. Known x × (get x ≡ a)) spelling FitsRest (others a))
-    → Completes Known (λ x. text (get x) ++ spelling x) (λ x. FitsField (get x) × FitsRest x) (field >>= others)
-step Known text FitsField field spelling FitsRest others get one rest_laws =
-    step_where Known text FitsField field spelling (λ x. FitsField (get x)) FitsRest others get one (λ x k f. f) (λ x k f. f) rest_laws
+    → ((a : A) → FitsField a → Completes Follows (λ x. Known x × (get x ≡ a)) spelling FitsRest (others a))
+    → Completes Follows Known (λ x. text (get x) ++ spelling x) (λ x. FitsField (get x) × FitsRest x) (field >>= others)
+step Follows Known text FitsField field spelling FitsRest others get one rest_laws =
+    step_where Follows Known text FitsField field spelling (λ x. FitsField (get x)) FitsRest others get one (λ x k f. f) (λ x k f. f) rest_laws
+
+-- the place of the next field is kept for a late rule
+pub keep_place : {X : Type 0} (Follows : List ℕ → Type 0) (Known : X → Type 0) (spelling : X → List ℕ) (Fits : X → Type 0) (others : ℕ → List ℕ → Result (X × List ℕ) ℕ)
+    → ((left : ℕ) → Completes Follows Known spelling Fits (others left)) → Completes Follows Known spelling Fits (here >>= others)
+keep_place Follows Known spelling Fits others laws = record {
+  takes = λ bytes x rest fits e. (laws (length bytes)).takes bytes x rest fits e;
+  again = λ x rest follows known fits. (laws (length (spelling x ++ rest))).again x rest follows known fits;
+}
 
 -- all steps together, with the spelling and the rules in the format's own words
 pub format : {X : Type 0} (spelling : X → List ℕ) (Fits : X → Type 0) (steps : X → List ℕ) (FitsSteps : X → Type 0) (read : List ℕ → Result (X × List ℕ) ℕ)
-    → Completes (λ x. Unit {0}) steps FitsSteps read
+    → Completes Anything (λ x. Unit {0}) steps FitsSteps read
     → ((x : X) → steps x ≡ spelling x)
     → ((x : X) → FitsSteps x → Fits x)
     → ((x : X) → Fits x → FitsSteps x)
     → Spells spelling Fits read
-format spelling Fits steps FitsSteps read laws same to from = record {
-  takes = λ bytes x rest fits e. let t = laws.takes bytes x rest fits e in (rw (← same x) t.0, to x t.2);
-  again = λ x rest fits. rw (← same x) (laws.again x rest tt (from x fits));
+format spelling Fits steps FitsSteps read laws alike to from = record {
+  takes = λ bytes x rest fits e. let t = laws.takes bytes x rest fits e in (rw (← alike x) t.0, to x t.2);
+  again = λ x rest fits. rw (← alike x) (laws.again x rest tt tt (from x fits));
+}
+
+-- the same of a payload
+pub payload_format : {X : Type 0} (spelling : X → List ℕ) (Fits : X → Type 0) (steps : X → List ℕ) (FitsSteps : X → Type 0) (read : List ℕ → Result (X × List ℕ) ℕ)
+    → Completes Nothing (λ x. Unit {0}) steps FitsSteps read
+    → ((x : X) → steps x ≡ spelling x)
+    → ((x : X) → FitsSteps x → Fits x)
+    → ((x : X) → Fits x → FitsSteps x)
+    → SpellsWhole spelling Fits read
+payload_format spelling Fits steps FitsSteps read laws alike to from = record {
+  takes = λ bytes x rest fits e. let t = laws.takes bytes x rest fits e in (t.0 ∙ rw t.3 (append-nil (steps x)) ∙ alike x, to x t.2);
+  again = λ x fits. ap read (sym (append-nil (steps x) ∙ alike x)) ∙ laws.again x [] refl tt (from x fits);
 }
 
 -- ---- lists

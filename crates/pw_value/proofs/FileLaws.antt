@@ -13,7 +13,7 @@ use Rattle.pw_value.specs.Fields.{◌>>=◌, after, done, checked, u32_at, u32, 
 use Rattle.pw_value.specs.FieldFrame.{header_at, payload_of, digest_of, opened, opened_at, placed, is_sealed, sealed, framed, file_at, before_digest, file, FitsFile, IsFileOf}
 use Rattle.pw_value.specs.FieldLaws.{AreBytes, Spells, SpellsWhole}
 use Rattle.pw_value.proofs.FieldLaws.{AreBytes-right, AreBytes-take, AreBytes-rest, found_is, checked_spells, u32_spells}
-use Rattle.pw_value.proofs.FieldSteps.{Completes, step, step_where, finish}
+use Rattle.pw_value.proofs.FieldSteps.{Anything, Completes, step, step_where, finish}
 
 -- ---- lengths
 
@@ -44,13 +44,13 @@ within first last v h = (h.0, leb-true first v (first_so (nat_le first v) (nat_l
 within_again : (first last v : ℕ) → Lawful first last v → FitsU32 v × IsTrue (nat_le first v && nat_le v last)
 within_again first last v h = (h.0, both_true (le-leb first v h.1) (le-leb v last h.2))
 
-header_laws : (kind first last total : ℕ) → Completes (λ v. Unit {0}) (head kind total) (λ v. (kind < 2 ^ 32) × ((total < 2 ^ 32) × (Lawful first last v × Unit {0}))) (header_at kind first last total)
+header_laws : (kind first last total : ℕ) → Completes Anything (λ v. Unit {0}) (head kind total) (λ v. (kind < 2 ^ 32) × ((total < 2 ^ 32) × (Lawful first last v × Unit {0}))) (header_at kind first last total)
 header_laws kind first last total =
-    step_where _ u32 (λ k. FitsU32 k × IsTrue (k == kind)) (checked (λ k. k == kind) u32_at) _ (λ v. kind < 2 ^ 32) _ _ (λ v. kind)
+    step_where _ _ u32 (λ k. FitsU32 k × IsTrue (k == kind)) (checked (λ k. k == kind) u32_at) _ (λ v. kind < 2 ^ 32) _ _ (λ v. kind)
       (checked_spells u32 FitsU32 u32_at (λ k. k == kind) u32_spells) (λ v k h. h.0) (λ v k h. (h, eq-eqb kind kind refl))
-      (λ k is_kind. step_where _ u32 (λ n. FitsU32 n × IsTrue (n == total)) (checked (λ n. n == total) u32_at) _ (λ v. total < 2 ^ 32) _ _ (λ v. total)
+      (λ k is_kind. step_where _ _ u32 (λ n. FitsU32 n × IsTrue (n == total)) (checked (λ n. n == total) u32_at) _ (λ v. total < 2 ^ 32) _ _ (λ v. total)
         (checked_spells u32 FitsU32 u32_at (λ n. n == total) u32_spells) (λ v k h. h.0) (λ v k h. (h, eq-eqb total total refl))
-        (λ n is_total. step_where _ u32 (λ v. FitsU32 v × IsTrue (nat_le first v && nat_le v last)) (checked (λ v. nat_le first v && nat_le v last) u32_at) _ (λ v. Lawful first last v) _ _ (λ v. v)
+        (λ n is_total. step_where _ _ u32 (λ v. FitsU32 v × IsTrue (nat_le first v && nat_le v last)) (checked (λ v. nat_le first v && nat_le v last) u32_at) _ (λ v. Lawful first last v) _ _ (λ v. v)
           (checked_spells u32 FitsU32 u32_at (λ v. nat_le first v && nat_le v last) u32_spells) (λ v k h. within first last v h) (λ v k h. within_again first last v h)
           (λ v lawful. finish _ v (((tt, sym (eqb-true _ _ is_kind.1)), sym (eqb-true _ _ is_total.1)), refl) (λ w known. sym known.1))))
 
@@ -141,7 +141,7 @@ again_by kind first last payload v p x kind_fits lawful room e =
     let bytes = front ++ d in
     let total : length bytes ≡ 44 + length p = omega (arith, length-append front d, length-sha256 front, ap length (sym (regroup kind (44 + length p) v p)), length-append (head kind (44 + length p) v) p, length_head kind (44 + length p) v) in
     let three : bytes ≡ head kind (length bytes) v ++ (p ++ d) = ap (λ (w : List ℕ). w ++ d) (sym (regroup kind (44 + length p) v p)) ∙ append_assoc (head kind (44 + length p) v) p d ∙ ap (λ n. head kind n v ++ (p ++ d)) (sym total) in
-    let read : header_at kind first last (length bytes) bytes ≡ Ok (v, p ++ d) = ap (header_at kind first last (length bytes)) three ∙ (header_laws kind first last (length bytes)).again v (p ++ d) tt (kind_fits, (omega (arith), (lawful, tt))) in
+    let read : header_at kind first last (length bytes) bytes ≡ Ok (v, p ++ d) = ap (header_at kind first last (length bytes)) three ∙ (header_laws kind first last (length bytes)).again v (p ++ d) tt tt (kind_fits, (omega (arith), (lawful, tt))) in
     let parts = payload_is p d (length-sha256 front) in
     let at = parts_at bytes (head kind (length bytes) v) p d three in
     let same : head kind (length bytes) v ++ p ≡ front = ap (λ n. head kind n v ++ p) total ∙ regroup kind (44 + length p) v p in

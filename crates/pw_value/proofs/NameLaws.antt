@@ -19,7 +19,7 @@ use Rattle.pw_value.specs.Fields.{◌>>=◌, after, done, checked, u32_at, text_
 use Rattle.pw_value.specs.FieldLaws.{AreBytes, Spells}
 use Rattle.pw_value.specs.FieldNames.{is_entry, entry_at, next_entry, names_at, IsRisingFrom, IsNameTable, name_table, place_of, name_at, name_index, is_among, first_unused, IsTableOf}
 use Rattle.pw_value.proofs.FieldLaws.{checked_spells, u32_spells, text_spells, mapped_spells}
-use Rattle.pw_value.proofs.FieldSteps.{Completes, step, step_where, finish, format, items_spell}
+use Rattle.pw_value.proofs.FieldSteps.{Anything, Completes, step, step_where, finish, format, items_spell}
 
 -- ---- the table
 
@@ -53,8 +53,8 @@ rising_back before (name ∷ names) rising =
 pub names_spell : Spells name_table IsNameTable names_at
 unfolding names_at name_table
 names_spell = format name_table IsNameTable (λ names. u32 (length names) ++ (flat_map text names ++ [])) (λ names. FitsU32 (length names) × (((length names ≡ length names) × FitInTurn FitsEntry next_entry [] names) × Unit {0})) _
-    (step _ u32 FitsU32 u32_at _ _ _ length u32_spells
-      (λ n fits. step_where _ (flat_map text) (λ names. (length names ≡ n) × FitInTurn FitsEntry next_entry [] names) _ _ (λ names. (length names ≡ length names) × FitInTurn FitsEntry next_entry [] names) _ _ (λ names. names)
+    (step _ _ u32 FitsU32 u32_at _ _ _ length u32_spells
+      (λ n fits. step_where _ _ (flat_map text) (λ names. (length names ≡ n) × FitInTurn FitsEntry next_entry [] names) _ _ (λ names. (length names ≡ length names) × FitInTurn FitsEntry next_entry [] names) _ _ (λ names. names)
         (items_spell text FitsEntry entry_at next_entry entry_spells n [])
         (λ names known h. (refl, h.1)) (λ names known h. (known.1, h.1))
         (λ names h. finish _ names ((tt, h.0), refl) (λ other known. sym known.1))))
