@@ -83,6 +83,15 @@ place-get before (name ∷ names) rising zero d lt = rw (same name) refl
 place-get before (name ∷ names) rising (suc i) d lt =
     rw (other name (get_or names i d) (above name names rising.2 i d (omega arith))) (ap suc (place-get name names rising.2 i d (omega arith)))
 
+get-place_by : (first : List ℕ) (names : List (List ℕ)) (name d : List ℕ) (b : Bool) → bytes_eq first name ≡ b → (place_of names name < length names → get_or names (place_of names name) d ≡ name)
+    → cond b 0 (suc (place_of names name)) < suc (length names) → get_or (first ∷ names) (cond b 0 (suc (place_of names name))) d ≡ name
+get-place_by first names name d true is later lt = (bytes_eq-Decides first name).0 is
+get-place_by first names name d false is later lt = later (omega arith)
+
+pub get-place : (names : List (List ℕ)) (name d : List ℕ) → place_of names name < length names → get_or names (place_of names name) d ≡ name
+get-place [] name d lt = absurd (omega arith)
+get-place (first ∷ names) name d lt = get-place_by first names name d (bytes_eq first name) refl (get-place names name d) lt
+
 -- the place of a name that stands in the table
 pub place-is : (names : List (List ℕ)) → IsNameTable names → (name : List ℕ) → (h : Contains names name) → place_of names name ≡ h.0
 place-is names table name h = ap (place_of names) (sym h.2) ∙ place-get [] names table.rising h.0 name h.1

@@ -1,9 +1,9 @@
 -- How names are found in a table, and how a table is made of the names that are used.
-use Rattle.std.proofs.Common.{◌≡◌, ◌≢◌, ℕ, zero, suc, ◌+◌, ◌<◌, ◌≤◌, Bool, true, false, cond, List, [], ◌∷◌, ◌++◌, length, get_or, drop, map, Result, Ok, Err, refl, sym, ap, subst, ◌∙◌, append_assoc, arith, add-one, inl, inr, ◌⊎◌}
-use Rattle.std.specs.Prelude.{IsTrue, not, IfOk, OnOk, Contains, ◌↔◌}
+use Rattle.std.proofs.Common.{◌≡◌, ◌≢◌, ℕ, zero, suc, ◌+◌, ◌-◌, ◌<◌, ◌≤◌, Bool, true, false, cond, List, [], ◌∷◌, ◌++◌, length, get_or, drop, map, Result, Ok, Err, Bor, refl, sym, ap, subst, ◌∙◌, append_assoc, arith, add-one, inl, inr, ◌⊎◌}
+use Rattle.std.specs.Prelude.{IsTrue, not, IfOk, OnOk, IfSome, IfNone, is_some, Option, Some, None, Contains, ◌↔◌}
 use Rattle.std.specs.Global.{Vec}
 use Rattle.std.specs.Str.{bytes_eq}
-use Rattle.std.specs.List.{HoldsAt}
+use Rattle.std.specs.List.{HoldsAt, flat_map}
 use Rattle.std.specs.List.Sorted.{IsNonDecreasingBy, IsPartitionPoint, IsSortedBy, IsSortedWithin, IsPermutation}
 use Rattle.std.specs.Ordering.{nat_cmp, is_lt, is_eq, is_gt, ordering_index}
 use Rattle.std.specs.Cmp.Lexicographic.{slice_cmp, texts_ties}
@@ -13,11 +13,18 @@ use Rattle.std.specs.Ordering.{ordering_reverse}
 use Rattle.std.proofs.lemmas.Cmp.{tied_itself, nat_list_cmp_total}
 use Rattle.std.proofs.lemmas.Slice.Eq.{bytes_eq-Decides}
 use Rattle.std.proofs.lemmas.List.Sorted.{searchable_from_sorted, IsPermutation-map, IsPermutation-sym, Contains-permutation}
+use Rattle.std.specs.Cmp.{both_ways}
 use Rattle.std.proofs.lemmas.Bool.{cases_lt}
-use Rattle.std.proofs.lemmas.List.{at_drop_more, length-map}
+use Rattle.std.proofs.lemmas.List.Concat.{flat_map-cons}
+use Rattle.std.proofs.lemmas.List.{at_drop_more, drop_more, length-map, length-append}
 use Rattle.pw_value.specs.Names.{IsNameLength}
-use Rattle.pw_value.specs.FieldNames.{IsRisingFrom, place_of, unrepeated, IsTableOf}
-use Rattle.pw_value.proofs.NameLaws.{above, place-get, same, other}
+use Rattle.pw_value.specs.FieldNames.{names_at, IsRisingFrom, place_of, unrepeated, name_table, is_among, first_unused, IsTableOf}
+use Rattle.pw_value.specs.Fields.{u32, text}
+use Rattle.pw_value.specs.FieldFaults.{Gives}
+use Rattle.pw_value.specs.FieldLaws.{AreBytes}
+use Rattle.pw_value.specs.declared.fields.fault.FieldError.{FieldError}
+use Rattle.pw_value.proofs.NameLaws.{above, place-get, same, other, among_contains, contains_among, get-place, names_spell}
+use Rattle.pw_value.proofs.FileLaws.{length-u32}
 
 -- what the order does not tell apart is the same text
 tied : (a b : List ℕ) → slice_cmp nat_cmp a b ≡ Equal → a ≡ b
@@ -183,3 +190,107 @@ pub table_result : {R E : Type 0} (now : R → List ℕ) (used sorted : List R) 
     → IfOk r (λ v. IsTableOf v.items (map now used))
 table_result now used sorted (Ok v) moved up made lens = subst (λ (names : List (List ℕ)). IsTableOf names (map now used)) (sym made) (table_made now used sorted moved up lens)
 table_result now used sorted (Err e) moved up made lens = tt
+
+-- ---- a table is determined by its names
+
+not_below_itself : (a : List ℕ) → slice_cmp nat_cmp a a ≡ Less → ⊥
+not_below_itself a less = let level = tied_itself nat_list_cmp_total a in cc
+
+heads : (x y : List ℕ) (xs ys : List (List ℕ)) → IsRisingFrom x xs → IsRisingFrom y ys → Contains (y ∷ ys) x → Contains (x ∷ xs) y → x ≡ y
+heads x y xs ys rx ry (zero, lt, e) h = sym e
+heads x y xs ys rx ry (suc k, lt, e) (zero, lt', e') = e'
+heads x y xs ys rx ry (suc k, lt, e) (suc j, lt', e') =
+    let one : slice_cmp nat_cmp y x ≡ Less = subst (λ z. slice_cmp nat_cmp y z ≡ Less) e (above y ys ry k x (omega arith)) in
+    let two : slice_cmp nat_cmp x y ≡ Less = subst (λ z. slice_cmp nat_cmp x z ≡ Less) e' (above x xs rx j y (omega arith)) in
+    absurd (not_below_itself x (nat_list_cmp_total.trans x y x two one))
+
+tail_of : (x name : List ℕ) (xs ys : List (List ℕ)) → IsRisingFrom x xs → Contains xs name → Contains (x ∷ ys) name → Contains ys name
+tail_of x name xs ys rising h (zero, lt, e) =
+    let less : slice_cmp nat_cmp x name ≡ Less = subst (λ z. slice_cmp nat_cmp x z ≡ Less) h.2 (above x xs rising h.0 name h.1) in
+    absurd (not_below_itself x (subst (λ z. slice_cmp nat_cmp x z ≡ Less) (sym e) less))
+tail_of x name xs ys rising h (suc k, lt, e) = (k, omega arith, e)
+
+later : (x name : List ℕ) (xs : List (List ℕ)) → Contains xs name → Contains (x ∷ xs) name
+later x name xs h = (suc h.0, omega (arith, h.1), h.2)
+
+pub table_unique : (before before' : List ℕ) (xs ys : List (List ℕ)) → IsRisingFrom before xs → IsRisingFrom before' ys → ((name : List ℕ) → Contains xs name → Contains ys name) → ((name : List ℕ) → Contains ys name → Contains xs name) → xs ≡ ys
+table_unique before before' [] [] rx ry one two = refl
+table_unique before before' [] (y ∷ ys) rx ry one two = absurd (omega (arith, (two y (0, omega arith, refl)).1))
+table_unique before before' (x ∷ xs) [] rx ry one two = absurd (omega (arith, (one x (0, omega arith, refl)).1))
+table_unique before before' (x ∷ xs) (y ∷ ys) rx ry one two =
+    let e = heads x y xs ys rx.2 ry.2 (one x (0, omega arith, refl)) (two y (0, omega arith, refl)) in
+    let tails = table_unique x y xs ys rx.2 ry.2
+      (λ name h. tail_of x name xs ys rx.2 h (subst (λ z. Contains (z ∷ ys) name) (sym e) (one name (later x name xs h))))
+      (λ name h. tail_of y name ys xs ry.2 h (subst (λ z. Contains (z ∷ xs) name) e (two name (later y name ys h)))) in
+    ap (λ z. z ∷ xs) e ∙ ap (λ (zs : List (List ℕ)). y ∷ zs) tails
+
+pub one_table : (names others used : List (List ℕ)) → IsTableOf names used → IsTableOf others used → names ≡ others
+one_table names others used a b = table_unique [] [] names others a.rising b.rising (λ name h. (b.of name).1 ((a.of name).0 h)) (λ name h. (a.of name).1 ((b.of name).0 h))
+
+-- ---- the rule that each name is used, by a table of those that are
+
+among_alike : (wanted used : List (List ℕ)) → IsTableOf wanted used → (name : List ℕ) → is_among wanted name ≡ is_among used name
+among_alike wanted used table name = both_ways (is_among wanted name) (is_among used name)
+    (λ e. let h = (table.of name).0 (among_contains wanted name e) in contains_among used name h.0 h.1 h.2)
+    (λ e. let h = (table.of name).1 (among_contains used name e) in contains_among wanted name h.0 h.1 h.2)
+
+pub unused_alike : (names wanted used : List (List ℕ)) (behind : ℕ) → IsTableOf wanted used → first_unused names wanted behind ≡ first_unused names used behind
+unused_alike [] wanted used behind table = refl
+unused_alike (name ∷ names) wanted used behind table = rw (among_alike wanted used table name, unused_alike names wanted used behind table) refl
+
+pub length-name_table : (names : List (List ℕ)) → length (name_table names) ≡ 4 + length (flat_map text names)
+unfolding name_table
+length-name_table names = length-append (u32 (length names)) (flat_map text names) ∙ omega (arith, length-u32 (length names))
+
+length-text : (name : List ℕ) → length (text name) ≡ 4 + length name
+unfolding text
+length-text name = length-append (u32 (length name)) name ∙ omega (arith, length-u32 (length name))
+
+-- the bytes of the table from the name at i on
+pub from_name : (names : List (List ℕ)) (i : ℕ) (name : List ℕ) → i < length names → name ≡ get_or names i name → length (flat_map text (drop i names)) ≡ 4 + length name + length (flat_map text (drop (i + 1) names))
+from_name names i name lt is =
+    let one : length (flat_map text (drop i names)) ≡ length (flat_map text (name ∷ drop (i + 1) names)) = at_drop_more (λ (rest : List (List ℕ)). length (flat_map text rest)) names i name lt ∙ ap (λ z. length (flat_map text (z ∷ drop (i + 1) names))) (sym is) in
+    one ∙ ap length (flat_map-cons text name (drop (i + 1) names)) ∙ length-append (text name) (flat_map text (drop (i + 1) names)) ∙ omega (arith, length-text name)
+
+-- no part of the table is longer than the whole
+pub part_of_table : (names : List (List ℕ)) (i : ℕ) → length (flat_map text (drop i names)) ≤ length (flat_map text names)
+part_of_table names zero = omega arith
+part_of_table [] (suc i) = omega arith
+part_of_table (name ∷ names) (suc i) = omega (arith, part_of_table names i, ap length (flat_map-cons text name names), length-append (text name) (flat_map text names))
+
+-- one name further to the front
+pub outside_at : (names wanted : List (List ℕ)) (behind i : ℕ) (name : List ℕ) → i < length names → name ≡ get_or names i name → first_unused (drop i names) wanted behind ≡ cond (is_among wanted name) (first_unused (drop (i + 1) names) wanted behind) (Some (length (flat_map text (drop i names)) + behind))
+outside_at names wanted behind i name lt is =
+    let one : drop i names ≡ name ∷ drop (i + 1) names = drop_more names i name lt ∙ ap (λ z. z ∷ drop (i + 1) names) (sym is) in
+    rw one refl
+
+not_among : (wanted : List (List ℕ)) (name : List ℕ) (b : Bool) → is_among wanted name ≡ b → (Contains wanted name → ⊥) → is_among wanted name ≡ false
+not_among wanted name true is none = absurd (none (among_contains wanted name is))
+not_among wanted name false is none = is
+
+pub found_among : (wanted : List (List ℕ)) (name : List ℕ) (found : Option ℕ) → IfSome found (λ i. (i < length wanted) × (place_of wanted name ≡ i)) → IfNone found (Contains wanted name → ⊥) → is_among wanted name ≡ is_some found
+found_among wanted name (Some i) found none = contains_among wanted name (place_of wanted name) (rw found.1 found.0) (get-place wanted name name (rw found.1 found.0))
+found_among wanted name None found none = not_among wanted name (is_among wanted name) refl none
+
+-- what is left from a name on, one name further to the front
+pub further : (names : List (List ℕ)) (behind i left : ℕ) (name : List ℕ) → 0 < i → i ≤ length names → name ≡ get_or names (i - 1) name → left ≡ length (flat_map text (drop i names)) + behind
+    → left + (4 + length name) ≡ length (flat_map text (drop (i - 1) names)) + behind
+further names behind i left name some within is so_far =
+    let back : i - 1 + 1 ≡ i = omega arith in
+    let one = from_name names (i - 1) name (omega arith) is in
+    omega (arith, one, ap (λ k. length (flat_map text (drop k names))) back)
+
+-- the same of the first name that is not there
+pub outside : (names wanted : List (List ℕ)) (behind i left : ℕ) (name : List ℕ) (found : Option ℕ) (b : Bool) → 0 < i → i ≤ length names → name ≡ get_or names (i - 1) name → left ≡ length (flat_map text (drop i names)) + behind
+    → found ≡ first_unused (drop i names) wanted behind → is_among wanted name ≡ b → cond b found (Some (left + (4 + length name))) ≡ first_unused (drop (i - 1) names) wanted behind
+outside names wanted behind i left name found b some within is so_far found_is among =
+    let back : i - 1 + 1 ≡ i = omega arith in
+    rw (outside_at names wanted behind (i - 1) name (omega arith) is, among, back, further names behind i left name some within is so_far, found_is) refl
+
+-- a table that is read takes its bytes from the front
+pub table_within : (bytes : List ℕ) (r : Result (Vec (List ℕ) × Bor (List ℕ)) FieldError) → AreBytes bytes → Gives (λ x. (x.0.items, x.1.now)) r (names_at bytes)
+    → IfOk r (λ x. length (flat_map text x.0.items) + length x.1.now ≤ length bytes)
+table_within bytes (Ok x) fits given =
+    let t = names_spell.takes bytes x.0.items x.1.now fits given in
+    omega (arith, ap length t.0, length-append (name_table x.0.items) x.1.now, length-name_table x.0.items)
+table_within bytes (Err e) fits given = tt

@@ -1,12 +1,12 @@
 //! The table of names of a file, and names that stand in a file by their index in it.
 
-ghost use Rattle.std.specs.Prelude.{◌≡◌, ◌≢◌, ◌++◌, ◌<◌, ◌^◌, List, length, [], IfOk, IfErr, OnOk, Contains};
+ghost use Rattle.std.specs.Prelude.{◌≡◌, ◌≢◌, ◌+◌, ◌++◌, ◌<◌, ◌≤◌, ◌^◌, List, length, [], IfOk, IfErr, OnOk, Contains};
 ghost use Rattle.std.specs.Prelude.{ℕ, map, IfSome, IfNone, slice_index_or};
 ghost use Rattle.std.specs.List.{flat_map};
 ghost use Rattle.pw_value.specs.Names.{IsNameLength};
 ghost use Rattle.pw_value.specs.Fields.{items_at, text};
 ghost use Rattle.pw_value.specs.FieldFaults.{Gives};
-ghost use Rattle.pw_value.specs.FieldNames.{is_entry, entry_at, next_entry, names_at, name_at, name_index, place_of, IsRisingFrom, IsNameTable, IsTableOf, name_table, unrepeated};
+ghost use Rattle.pw_value.specs.FieldNames.{is_entry, entry_at, next_entry, names_at, name_at, name_index, place_of, IsRisingFrom, IsNameTable, IsTableOf, name_table, unrepeated, first_unused};
 
 use super::writing::{push_text, push_u32};
 use super::{FieldError, read_text_in_place, read_u32};
@@ -60,13 +60,22 @@ fn read_entries(alloc: Global, count: u32, bytes: &[u8]) -> Result<(Vec<Name>, &
     Ok((names, rest))
 }
 
-/// The table of names: their count, and the names in rising order, each of 1 to 400 bytes.
+/// The count of the names, and the names.
 #[tactic(auto, unfolding(crate::specs::FieldNames::names_at))]
-pub fn read_names(alloc: Global, bytes: &[u8]) -> Result<(Vec<Name>, &[u8]), FieldError>
+fn read_counted(alloc: Global, bytes: &[u8]) -> Result<(Vec<Name>, &[u8]), FieldError>
     ensures { Gives (λ x. (x.0.items, x.1.now)) result (names_at bytes.now) }
 {
     let (count, rest) = read_u32(bytes)?;
     read_entries(alloc, count, rest)
+}
+
+/// The table of names: their count, and the names in rising order, each of 1 to 400 bytes.
+pub fn read_names(alloc: Global, bytes: &[u8]) -> Result<(Vec<Name>, &[u8]), FieldError>
+    ensures found { Gives (λ x. (x.0.items, x.1.now)) result (names_at bytes.now) }
+    // The table takes its bytes from the front.
+    ensures within { IfOk result (λ x. length (flat_map text x.0.items) + length x.1.now ≤ length bytes.now) }
+{
+    read_counted(alloc, bytes)
 }
 
 /// A name of the table, by its index.
@@ -149,4 +158,36 @@ pub fn table_of(alloc: Global, mut used: Vec<&Name>) -> Result<Vec<Name>, AllocE
 {
     used.sort_unstable();
     distinct(alloc, &used)
+}
+
+/// How many bytes are left from the first name on that is not in the other table, where `behind` are left
+/// behind the names.
+fn first_outside(names: &[Name], wanted: &[Name], behind: usize) -> Option<usize>
+    requires rising { IsRisingFrom [] wanted.now }
+    requires room { length (flat_map text names.now) + behind < 2 ^ 64 }
+    ensures { result ≡ first_unused names.now wanted.now behind }
+{
+    let mut found = None;
+    let mut left = behind;
+    let mut i = names.len();
+    while i > 0 {
+        i -= 1;
+        let name = &names[i];
+        left += 4 + name.as_bytes().len();
+        if find_name(wanted, name).is_none() {
+            found = Some(left);
+        }
+    }
+    found
+}
+
+/// The rule that each name of the table is used: where the first name that is not begins, told by the
+/// bytes that are left from there on. `used` are the names that are used, in whatever order and however
+/// often, and `behind` bytes are left behind the table.
+pub fn find_unused(alloc: Global, names: &[Name], used: Vec<&Name>, behind: usize) -> Result<Option<usize>, AllocError>
+    requires { length (flat_map text names.now) + behind < 2 ^ 64 }
+    ensures { IfOk result (λ place. place ≡ first_unused names.now (map (λ name. name.now) used.entry.items) behind) }
+{
+    let wanted = table_of(alloc, used)?;
+    Ok(first_outside(names, &wanted, behind))
 }
