@@ -10,7 +10,7 @@ use Rattle.std.proofs.lemmas.Slice.Eq.{bytes_eq-Decides}
 use Rattle.std.proofs.lemmas.List.{append-nil, take_at, drop_at, take-append-drop, length-append, length-take, length-drop}
 use Rattle.sha2.specs.Sha256.{sha256, digest_bytes, final_hash, initial_hash_256}
 use Rattle.pw_value.specs.Fields.{◌>>=◌, after, done, checked, u32_at, u32, FitsU32}
-use Rattle.pw_value.specs.FieldFrame.{header_at, payload_of, digest_of, opened, opened_at, placed, is_sealed, sealed, framed, file_at, before_digest, file, FitsFile, IsFileOf}
+use Rattle.pw_value.specs.FieldFrame.{header_at, payload_of, digest_of, opened, opened_at, placed, is_sealed, sealed, framed, file_at, before_digest, file, FitsFile, IsFileOf, any_payload, any_spelling, FitsAny}
 use Rattle.pw_value.specs.FieldLaws.{AreBytes, Spells, SpellsWhole}
 use Rattle.pw_value.proofs.FieldLaws.{AreBytes-right, AreBytes-take, AreBytes-rest, found_is, checked_spells, u32_spells}
 use Rattle.pw_value.proofs.FieldSteps.{Anything, Completes, step, step_where, finish}
@@ -156,3 +156,12 @@ file_again kind first last spelling Fits payload kind_fits last_fits laws bytes 
     ap (file_at kind first last payload) is.spelled
       ∙ again_by kind first last payload is.version (spelling is.version x) x kind_fits (omega (arith, is.not_above), is.not_below, is.not_above) is.room
           ((laws is.version is.not_below is.not_above).again x is.fits)
+
+any_spells : (version : ℕ) → SpellsWhole (any_spelling version) (FitsAny version) (any_payload version)
+any_spells version = record { takes = λ bytes x rest fits e. let p = found_is bytes x [] rest e in (p.0, tt); again = λ x fits. refl }
+
+pub any_takes : (kind first last : ℕ) (bytes payload : List ℕ) → AreBytes bytes → file_at kind first last any_payload bytes ≡ Ok payload → IsFileOf kind first last any_spelling FitsAny bytes payload
+any_takes kind first last bytes payload fits e = file_takes kind first last any_spelling FitsAny any_payload (λ v f l. any_spells v) bytes payload fits e
+
+pub any_again : (kind first last : ℕ) (bytes payload : List ℕ) → kind < 2 ^ 32 → last < 2 ^ 32 → IsFileOf kind first last any_spelling FitsAny bytes payload → file_at kind first last any_payload bytes ≡ Ok payload
+any_again kind first last bytes payload k l is = file_again kind first last any_spelling FitsAny any_payload k l (λ v f g. any_spells v) bytes payload is

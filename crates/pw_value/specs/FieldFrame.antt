@@ -85,3 +85,14 @@ pub record IsFileOf {X : Type 0} (kind first last : ℕ) (spelling : ℕ → X �
   pub fits : Fits version x
   pub room : FitsFile (spelling version x)
   pub spelled : bytes ≡ file kind version (spelling version x)
+
+-- ---- a payload of whatever bytes
+
+abbrev pub any_payload : ℕ → List ℕ → Result (List ℕ × List ℕ) ℕ
+any_payload version bytes = Ok (bytes, [])
+
+abbrev pub any_spelling : ℕ → List ℕ → List ℕ
+any_spelling version bytes = bytes
+
+abbrev pub FitsAny : ℕ → List ℕ → Type 0
+FitsAny version bytes = Unit {0}
