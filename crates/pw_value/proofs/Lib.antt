@@ -4,3 +4,5 @@ pub mod FieldSteps
 pub mod FileLaws
 pub mod NameLaws
 pub mod NameTables
+pub mod Ranges
+mod ShapeLemmas

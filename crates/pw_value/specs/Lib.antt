@@ -4,3 +4,6 @@ pub mod FieldFaults
 pub mod FieldFrame
 pub mod FieldLaws
 pub mod FieldNames
+pub mod Shapes
+pub mod Values
+pub mod Objects

@@ -1,14 +1,24 @@
-//! The values that the whole compiler speaks of: machine words, names, and what a C program's memory
-//! and expressions hold.
+//! The values that the whole compiler speaks of: machine words, names, shapes of types, what a C
+//! program's expressions and objects hold, and faults that several layers answer.
 #![tactic(auto)]
 
+pub mod codec;
 pub mod fault;
 pub mod fields;
+pub mod laws;
 pub mod name;
+pub mod shape;
+pub mod value;
 
-pub use fault::FileError;
+pub use codec::{decode, decode_pointer, encode};
+pub use fault::{FileError, LinkFault, What};
 pub use name::{Name, NameError};
+pub use shape::{Shape, agree};
 pub use std::alloc::AllocError as NoMemory;
+pub use value::{Byte, Kind, Pointer, Value};
 
 /// A word of the machine: 32 bits, read as a number from 0 to 2^32 - 1.
 pub type Word = u32;
+
+#[cfg(test)]
+mod tests;

@@ -4,9 +4,8 @@ ghost use Rattle.std.specs.Prelude.{◌≡◌, ◌↔◌, length, IfOk, Err, ◌
 ghost use Rattle.std.proofs.Common.{rules};
 ghost use Rattle.std.specs.Cmp.{partial_order_from_own_ties};
 ghost use Rattle.std.specs.Cmp.Rules.{comparing};
-ghost use Rattle.std.specs.Cmp.Lexicographic.{slice_cmp};
+ghost use Rattle.std.specs.Cmp.Lexicographic.{pointwise, slice_cmp};
 ghost use Rattle.std.specs.Ordering.{nat_cmp, as_partial_cmp};
-ghost use lib.Pointwise.{pointwise};
 ghost use Rattle.pw_value.specs.Names.{IsNameLength};
 
 use std::alloc::{AllocError, Global};
@@ -41,6 +40,16 @@ pub enum NameError {
     NoMemory,
 }
 
+impl From<AllocError> for NameError {
+    ghost use Rattle.pw_value.specs.declared.name.NameError.TheVariants.{NoMemory};
+
+    ghost from_gives = { λ _ error. error ≡ NoMemory };
+
+    fn from(_none: AllocError) -> NameError {
+        NameError::NoMemory
+    }
+}
+
 impl Name {
     /// The name of these bytes.
     pub fn new(alloc: Global, bytes: &[u8]) -> Result<Name, NameError>
@@ -50,10 +59,9 @@ impl Name {
         if bytes.is_empty() || bytes.len() > NAME_MAX {
             return Err(NameError::Length);
         }
-        match Vec::from_slice(alloc, bytes) {
-            Ok(bytes) => Ok(Name { bytes }),
-            Err(AllocError) => Err(NameError::NoMemory),
-        }
+        Ok(Name {
+            bytes: Vec::from_slice(alloc, bytes)?,
+        })
     }
 
     /// The name's bytes.

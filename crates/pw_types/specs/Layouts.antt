@@ -1,0 +1,78 @@
+-- Sizes, alignments and the places of members (ISO C90 6.1.2.5, 6.5.2.1). A structure or union type
+-- is a number, and what is known of it stands in a list of records.
+use Rattle.std.specs.Prelude.{ℕ, ◌≡◌, ◌+◌, ◌-◌, ◌*◌, ◌/◌, ◌≤◌, Bool, max, fold, Option, None, Some, IfSome, IsSome, option_map, option_and_then, unwrap_or, List, [], ◌∷◌, map, slice_get, All}
+use Rattle.pw_types.specs.declared.ctype.CType.{CType, Void, Int, Pointer', Array', Function', Record}
+use Rattle.pw_types.specs.declared.record.RecordType.{RecordType}
+use Rattle.pw_types.specs.declared.record.RecordKind.{RecordKind}
+use Rattle.pw_types.specs.declared.record.RecordKind.TheVariants.{Structure, Union}
+use Rattle.pw_types.specs.declared.record.Content.{Content}
+use Rattle.pw_types.specs.declared.record.Member.{Member}
+use Rattle.pw_types.specs.declared.record.Layout.{Layout}
+use Rattle.pw_types.specs.Conversions.{size_of_kind}
+
+-- what a record's definition says; None for one that is not defined
+abbrev pub content_at : List RecordType → ℕ → Option Content
+content_at records number = option_and_then (λ r. r.content) (slice_get records number)
+
+-- a scalar's alignment is its size
+abbrev pub scalar_layout : ℕ → Layout
+scalar_layout size = record { size = size; align = size }
+
+-- as many elements, one after another
+abbrev pub array_layout : ℕ → Layout → Layout
+array_layout count element = record { size = element.size * count; align = element.align }
+
+-- The layout of a type. None for void, functions, arrays of unknown length and records that are not
+-- defined, and for arrays of these.
+abbrev pub layout_of : List RecordType → CType → Option Layout
+layout_of records Void = None
+layout_of records (Int kind) = Some (scalar_layout (size_of_kind kind))
+layout_of records (Pointer' p ty constant volatile) = Some (scalar_layout 4)
+layout_of records (Array' p ty constant volatile None) = None
+layout_of records (Array' p ty constant volatile (Some count)) = option_map (array_layout count) (layout_of records ty)
+layout_of records (Function' p signature) = None
+layout_of records (Record number) = option_map (λ c. c.layout) (content_at records number)
+
+-- the least multiple of an alignment that is not below a number
+abbrev pub round_up : ℕ → ℕ → ℕ
+round_up n align = (n + (align - 1)) / align * align
+
+-- the members of a structure from an offset on: each stands at the next multiple of its alignment
+abbrev pub offsets_from : ℕ → List Layout → List ℕ
+offsets_from offset [] = []
+offsets_from offset (member ∷ rest) =
+    round_up offset member.align ∷ offsets_from (round_up offset member.align + member.size) rest
+
+-- where the last of them ends
+abbrev pub end_from : ℕ → List Layout → ℕ
+end_from offset [] = offset
+end_from offset (member ∷ rest) = end_from (round_up offset member.align + member.size) rest
+
+abbrev pub greatest : List ℕ → ℕ
+greatest [] = 0
+greatest (n ∷ rest) = max n (greatest rest)
+
+-- the greatest alignment of the members; a record without members has alignment 1
+abbrev pub align_of : List Layout → ℕ
+align_of members = max 1 (greatest (map (λ l. l.align) members))
+
+abbrev pub record_layout : RecordKind → List Layout → Layout
+record_layout Structure members =
+    record { size = round_up (end_from 0 members) (align_of members); align = align_of members }
+record_layout Union members =
+    record { size = round_up (greatest (map (λ l. l.size) members)) (align_of members); align = align_of members }
+
+abbrev pub record_offsets : RecordKind → List Layout → List ℕ
+record_offsets Structure members = offsets_from 0 members
+record_offsets Union members = map (λ _. 0) members
+
+-- the greatest size of an object and of every other complete type
+abbrev pub size_limit : ℕ
+size_limit = 1048576
+
+-- an array keeps the limit on sizes, and so does each array that it is made of
+abbrev pub KeepsSizeLimit : List RecordType → CType → Type 0
+KeepsSizeLimit records (Array' p ty constant volatile count) =
+    KeepsSizeLimit records ty
+    × IfSome (layout_of records (Array' p ty constant volatile count)) (λ l. l.size ≤ size_limit)
+KeepsSizeLimit records _ = Unit {0}

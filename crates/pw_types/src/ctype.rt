@@ -1,0 +1,34 @@
+//! C types (ISO C90 6.1.2.5).
+
+use crate::kind::IntKind;
+
+
+/// A type without qualifiers of its own. The length of an array may be unknown; a structure or union
+/// is named by its number in the list of the module's records.
+#[cycle(ctype)]
+#[derive(PartialEq, Eq, Debug, Drop)]
+pub enum CType {
+    Void,
+    Int(IntKind),
+    Pointer(Box<QType>),
+    Array(Box<QType>, Option<u32>),
+    Function(Box<Signature>),
+    Record(u32),
+}
+
+/// A type with its qualifiers `const` and `volatile` (ISO C90 6.5.3).
+#[cycle(ctype)]
+#[derive(PartialEq, Eq, Debug, Drop)]
+pub struct QType {
+    pub ty: CType,
+    pub constant: bool,
+    pub volatile: bool,
+}
+
+/// The type of a function: what it returns, and its parameters in order.
+#[cycle(ctype)]
+#[derive(PartialEq, Eq, Debug, Drop)]
+pub struct Signature {
+    pub result: QType,
+    pub params: Vec<QType>,
+}

@@ -1,0 +1,42 @@
+//! What is known of a structure or union type.
+
+use crate::ctype::QType;
+use pw_value::{Name, Shape};
+
+/// Whether members stand one after another or all at the front.
+#[derive(Clone, Copy, PartialEq, Eq, Debug)]
+pub enum RecordKind {
+    Structure,
+    Union,
+}
+
+/// The size of a type in bytes, and what the offsets of its objects are multiples of.
+#[derive(Clone, Copy, PartialEq, Eq, Debug)]
+pub struct Layout {
+    pub size: u32,
+    pub align: u32,
+}
+
+/// A member: its name, its type and its offset in bytes within the record.
+#[derive(Debug, Drop)]
+pub struct Member {
+    pub name: Name,
+    pub ty: QType,
+    pub offset: u32,
+}
+
+/// A record's definition: its members in order, and what follows from them.
+#[derive(Debug, Drop)]
+pub struct Content {
+    pub members: Vec<Member>,
+    pub layout: Layout,
+    pub shape: Shape,
+    pub depth: u32,
+}
+
+/// A structure or union type, with its content where it is defined.
+#[derive(Debug, Drop)]
+pub struct RecordType {
+    pub kind: RecordKind,
+    pub content: Option<Content>,
+}
