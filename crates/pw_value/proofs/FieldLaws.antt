@@ -2,7 +2,7 @@
 use Rattle.std.proofs.Common.{◌≡◌, ℕ, zero, suc, ◌+◌, ◌^◌, ◌<◌, ◌≤◌, Bool, true, false, cond, ltb, List, [], ◌∷◌, ◌++◌, length, get_or, take, drop, Result, Ok, Err, refl, sym, ap, subst, ◌∙◌, append_assoc, arith, lit<, inl, inr}
 use Rattle.std.specs.Prelude.{IsTrue, nat_lt, ◌==◌}
 use Rattle.std.specs.Int.{Width, w32, w64, byte_len, from_be_bytes, to_be_bytes}
-use Rattle.std.proofs.lemmas.Bool.{cases_lt, ltb-false, le-ltb, ltb-true, lt-ltb}
+use Rattle.std.proofs.lemmas.Bool.{cases_lt, ltb-false, le-ltb, ltb-true}
 use Rattle.std.proofs.lemmas.List.{take_at, drop_at, take-append-drop, length-append, length-take, get_or-append-add, get_or-take, get_or_past}
 use Rattle.std.proofs.lemmas.Nat.{be_bytes_4, be_bytes_8, from_be_bytes-to_be_bytes_4, from_be_bytes-to_be_bytes_8}
 use Rattle.pw_value.specs.Fields.{◌>>=◌, after, done, kept, checked, number_at, u8_at, u32_at, u64_at, bytes_at, text_within, text_at, choice_at, flag_at, u8, u32, u64, text, flag, FitsU8, FitsU32, FitsU64, FitsText}
@@ -187,11 +187,11 @@ pub mapped_spells : {A X : Type 0} (spelling : A → List ℕ) (FitsBefore : A �
     → Spells (λ x. spelling (back x)) Fits (read >>= λ a. done (seen a))
 mapped_spells spelling FitsBefore Fits read seen back laws forth and_back = record {
   takes = λ bytes x rest fits e.
-    let p = after_passes (read bytes) (λ a. done (seen a)) x rest e in
-    let q = found_is (seen p.0) x p.1 rest p.3 in
-    let t = laws.takes bytes p.0 p.1 fits p.2 in
-    let f = forth p.0 t.1 in
-    (same_text spelling bytes p.0 (back x) p.1 rest t.0 (sym f.0 ∙ ap back q.0) q.1, subst Fits q.0 f.1);
+      let p = after_passes (read bytes) (λ a. done (seen a)) x rest e in
+      let q = found_is (seen p.0) x p.1 rest p.3 in
+      let t = laws.takes bytes p.0 p.1 fits p.2 in
+      let f = forth p.0 t.1 in
+      (same_text spelling bytes p.0 (back x) p.1 rest t.0 (sym f.0 ∙ ap back q.0) q.1, subst Fits q.0 f.1);
   again = λ x rest fits. rw (laws.again (back x) rest (and_back x fits).1, (and_back x fits).0) refl;
 }
 

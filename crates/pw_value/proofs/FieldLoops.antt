@@ -3,7 +3,7 @@ use Rattle.std.proofs.Common.{◌≡◌, ℕ, suc, ◌-◌, ◌+◌, ◌≤◌, 
 use Rattle.std.proofs.lemmas.List.{append-nil}
 use Rattle.pw_value.specs.declared.fields.fault.FieldError.{FieldError}
 use Rattle.pw_value.specs.declared.fields.fault.FieldError.TheVariants as field
-use Rattle.pw_value.specs.Fields.{◌>>=◌, after, done, items_at}
+use Rattle.pw_value.specs.Fields.{after, done, items_at}
 use Rattle.pw_value.specs.FieldFaults.{Fails}
 
 -- what was read before, and what is still read

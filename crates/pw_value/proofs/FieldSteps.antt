@@ -1,11 +1,11 @@
 -- A format is proved field by field, as its reader is written: each step names the field of the value
 -- that was read, and at the end the fields that are known make the value.
-use Rattle.std.proofs.Common.{◌≡◌, ℕ, zero, suc, ◌^◌, ◌<◌, List, [], ◌∷◌, ◌++◌, length, Result, Ok, Err, refl, sym, ap, subst, ◌∙◌, append_assoc, arith}
+use Rattle.std.proofs.Common.{◌≡◌, ℕ, zero, suc, List, [], ◌∷◌, ◌++◌, length, Result, Ok, refl, sym, ap, subst, ◌∙◌, append_assoc}
 use Rattle.std.specs.Prelude.{Option, Some, None}
 use Rattle.std.specs.List.{flat_map}
 use Rattle.std.proofs.lemmas.List.{append-nil}
 use Rattle.std.proofs.lemmas.List.Concat.{flat_map-cons}
-use Rattle.pw_value.specs.Fields.{◌>>=◌, after, done, items_at, FitInTurn}
+use Rattle.pw_value.specs.Fields.{◌>>=◌, done, items_at, FitInTurn}
 use Rattle.pw_value.specs.FieldFrame.{here, ended}
 use Rattle.pw_value.specs.FieldLaws.{AreBytes, Spells, SpellsWhole}
 use Rattle.pw_value.proofs.FieldLaws.{AreBytes-rest, joins, same_text, found_is, not_found, after_passes}
@@ -52,13 +52,13 @@ pub step_where : {X A : Type 0} (Follows : List ℕ → Type 0) (Known : X → T
     → Completes Follows Known (λ x. text (get x) ++ spelling x) (λ x. FitsHere x × FitsRest x) (field >>= others)
 step_where Follows Known text FitsField field spelling FitsHere FitsRest others get one to from rest_laws = record {
   takes = λ bytes x rest fits e.
-    let p = after_passes (field bytes) others x rest e in
-    let t = one.takes bytes p.0 p.1 fits p.2 in
-    let u = (rest_laws p.0 t.1).takes p.1 x rest (AreBytes-rest bytes (text p.0) p.1 fits t.0) p.3 in
-    (t.0 ∙ rw (u.0, u.1.1) (sym (append_assoc (text p.0) (spelling x) rest)), u.1.0, (to x u.1.0 (rw u.1.1 t.1), u.2), u.3);
+      let p = after_passes (field bytes) others x rest e in
+      let t = one.takes bytes p.0 p.1 fits p.2 in
+      let u = (rest_laws p.0 t.1).takes p.1 x rest (AreBytes-rest bytes (text p.0) p.1 fits t.0) p.3 in
+      (t.0 ∙ rw (u.0, u.1.1) (sym (append_assoc (text p.0) (spelling x) rest)), u.1.0, (to x u.1.0 (rw u.1.1 t.1), u.2), u.3);
   again = λ x rest follows known fits.
-    let here = from x known fits.0 in
-    ap (field >>= others) (append_assoc (text (get x)) (spelling x) rest)
+      let here = from x known fits.0 in
+      ap (field >>= others) (append_assoc (text (get x)) (spelling x) rest)
       ∙ rw (one.again (get x) (spelling x ++ rest) here) ((rest_laws (get x) here).again x rest follows (known, refl) fits.1);
 }
 

@@ -1,19 +1,17 @@
 -- A whole file: what is read is a file of the value, and a file of a value is read.
-use Rattle.std.proofs.Common.{◌≡◌, ℕ, zero, suc, ◌+◌, ◌-◌, ◌*◌, ◌^◌, ◌<◌, ◌≤◌, Bool, true, false, cond, eqb, List, [], ◌∷◌, ◌++◌, length, take, drop, Result, Ok, Err, refl, sym, ap, subst, ◌∙◌, append_assoc, arith}
+use Rattle.std.proofs.Common.{◌≡◌, ℕ, zero, suc, ◌+◌, ◌-◌, ◌*◌, ◌^◌, ◌<◌, ◌≤◌, Bool, true, false, cond, List, [], ◌++◌, length, take, drop, Result, Ok, Err, refl, sym, ap, subst, ◌∙◌, append_assoc, arith}
 use Rattle.std.specs.Prelude.{IsTrue, nat_le, ◌==◌, ◌&&◌}
-use Rattle.std.specs.Str.{bytes_eq}
-use Rattle.std.specs.Int.{w32, to_be_bytes}
 use Rattle.std.specs.Cmp.{first_so, second_so}
 use Rattle.std.specs.Cmp.Derive.{both_true}
 use Rattle.std.proofs.lemmas.Bool.{eqb-true, eq-eqb, leb-true, le-leb}
 use Rattle.std.proofs.lemmas.Slice.Eq.{bytes_eq-Decides}
-use Rattle.std.proofs.lemmas.List.{append-nil, take_at, drop_at, take-append-drop, length-append, length-take, length-drop}
+use Rattle.std.proofs.lemmas.List.{append-nil, take_at, drop_at, take-append-drop, length-append}
 use Rattle.sha2.specs.Sha256.{sha256, digest_bytes, final_hash, initial_hash_256}
-use Rattle.pw_value.specs.Fields.{◌>>=◌, after, done, checked, u32_at, u32, FitsU32}
+use Rattle.pw_value.specs.Fields.{checked, u32_at, u32, FitsU32}
 use Rattle.pw_value.specs.FieldFrame.{header_at, payload_of, digest_of, opened, opened_at, placed, is_sealed, sealed, framed, file_at, before_digest, file, FitsFile, IsFileOf, any_payload, any_spelling, FitsAny}
-use Rattle.pw_value.specs.FieldLaws.{AreBytes, Spells, SpellsWhole}
-use Rattle.pw_value.proofs.FieldLaws.{AreBytes-right, AreBytes-take, AreBytes-rest, found_is, checked_spells, u32_spells}
-use Rattle.pw_value.proofs.FieldSteps.{Anything, Completes, step, step_where, finish}
+use Rattle.pw_value.specs.FieldLaws.{AreBytes, SpellsWhole}
+use Rattle.pw_value.proofs.FieldLaws.{AreBytes-take, AreBytes-rest, found_is, checked_spells, u32_spells}
+use Rattle.pw_value.proofs.FieldSteps.{Anything, Completes, step_where, finish}
 
 -- ---- lengths
 
@@ -47,12 +45,12 @@ within_again first last v h = (h.0, both_true (le-leb first v h.1) (le-leb v las
 header_laws : (kind first last total : ℕ) → Completes Anything (λ v. Unit {0}) (head kind total) (λ v. (kind < 2 ^ 32) × ((total < 2 ^ 32) × (Lawful first last v × Unit {0}))) (header_at kind first last total)
 header_laws kind first last total =
     step_where _ _ u32 (λ k. FitsU32 k × IsTrue (k == kind)) (checked (λ k. k == kind) u32_at) _ (λ v. kind < 2 ^ 32) _ _ (λ v. kind)
-      (checked_spells u32 FitsU32 u32_at (λ k. k == kind) u32_spells) (λ v k h. h.0) (λ v k h. (h, eq-eqb kind kind refl))
-      (λ k is_kind. step_where _ _ u32 (λ n. FitsU32 n × IsTrue (n == total)) (checked (λ n. n == total) u32_at) _ (λ v. total < 2 ^ 32) _ _ (λ v. total)
-        (checked_spells u32 FitsU32 u32_at (λ n. n == total) u32_spells) (λ v k h. h.0) (λ v k h. (h, eq-eqb total total refl))
-        (λ n is_total. step_where _ _ u32 (λ v. FitsU32 v × IsTrue (nat_le first v && nat_le v last)) (checked (λ v. nat_le first v && nat_le v last) u32_at) _ (λ v. Lawful first last v) _ _ (λ v. v)
-          (checked_spells u32 FitsU32 u32_at (λ v. nat_le first v && nat_le v last) u32_spells) (λ v k h. within first last v h) (λ v k h. within_again first last v h)
-          (λ v lawful. finish _ v (((tt, sym (eqb-true _ _ is_kind.1)), sym (eqb-true _ _ is_total.1)), refl) (λ w known. sym known.1))))
+    (checked_spells u32 FitsU32 u32_at (λ k. k == kind) u32_spells) (λ v k h. h.0) (λ v k h. (h, eq-eqb kind kind refl))
+    (λ k is_kind. step_where _ _ u32 (λ n. FitsU32 n × IsTrue (n == total)) (checked (λ n. n == total) u32_at) _ (λ v. total < 2 ^ 32) _ _ (λ v. total)
+    (checked_spells u32 FitsU32 u32_at (λ n. n == total) u32_spells) (λ v k h. h.0) (λ v k h. (h, eq-eqb total total refl))
+    (λ n is_total. step_where _ _ u32 (λ v. FitsU32 v × IsTrue (nat_le first v && nat_le v last)) (checked (λ v. nat_le first v && nat_le v last) u32_at) _ (λ v. Lawful first last v) _ _ (λ v. v)
+    (checked_spells u32 FitsU32 u32_at (λ v. nat_le first v && nat_le v last) u32_spells) (λ v k h. within first last v h) (λ v k h. within_again first last v h)
+    (λ v lawful. finish _ v (((tt, sym (eqb-true _ _ is_kind.1)), sym (eqb-true _ _ is_total.1)), refl) (λ w known. sym known.1))))
 
 -- ---- the whole
 
@@ -126,6 +124,7 @@ pub file_takes : {X : Type 0} (kind first last : ℕ) (spelling : ℕ → X → 
 unfolding file_at opened_at
 file_takes kind first last spelling Fits payload laws bytes x fits e =
     takes_by kind first last spelling Fits payload laws bytes x fits (header_at kind first last (length bytes) bytes) refl e
+
 -- the parts of what stands behind the header
 payload_is : (p d : List ℕ) → length d ≡ 32 → (payload_of (p ++ d) ≡ p) × (digest_of (p ++ d) ≡ d)
 payload_is p d len =
@@ -154,8 +153,8 @@ pub file_again : {X : Type 0} (kind first last : ℕ) (spelling : ℕ → X → 
     → (bytes : List ℕ) (x : X) → IsFileOf kind first last spelling Fits bytes x → file_at kind first last payload bytes ≡ Ok x
 file_again kind first last spelling Fits payload kind_fits last_fits laws bytes x is =
     ap (file_at kind first last payload) is.spelled
-      ∙ again_by kind first last payload is.version (spelling is.version x) x kind_fits (omega (arith, is.not_above), is.not_below, is.not_above) is.room
-          ((laws is.version is.not_below is.not_above).again x is.fits)
+    ∙ again_by kind first last payload is.version (spelling is.version x) x kind_fits (omega (arith, is.not_above), is.not_below, is.not_above) is.room
+    ((laws is.version is.not_below is.not_above).again x is.fits)
 
 any_spells : (version : ℕ) → SpellsWhole (any_spelling version) (FitsAny version) (any_payload version)
 any_spells version = record { takes = λ bytes x rest fits e. let p = found_is bytes x [] rest e in (p.0, tt); again = λ x fits. refl }

@@ -1,10 +1,10 @@
 -- The table of names, and names by their index.
-use Rattle.std.proofs.Common.{◌≡◌, ℕ, zero, suc, ◌+◌, ◌-◌, ◌^◌, ◌<◌, ◌≤◌, Bool, true, false, cond, eqb, List, [], ◌∷◌, ◌++◌, length, get_or, Result, Ok, Err, refl, sym, ap, subst, ◌∙◌, append_assoc, arith, inl, inr, ◌⊎◌}
-use Rattle.std.specs.Prelude.{IsTrue, nat_le, nat_lt, ◌&&◌, ◌||◌, slice_index_or, Contains, Option, Some, None}
-use Rattle.std.specs.List.{flat_map, list_any}
+use Rattle.std.proofs.Common.{◌≡◌, ℕ, zero, suc, ◌<◌, Bool, true, false, cond, List, [], ◌∷◌, ◌++◌, length, get_or, refl, sym, ap, ◌∙◌, arith}
+use Rattle.std.specs.Prelude.{IsTrue, nat_le, nat_lt, ◌&&◌, ◌||◌, slice_index_or, Contains, Some, None}
+use Rattle.std.specs.List.{flat_map}
 use Rattle.std.specs.Str.{bytes_eq}
-use Rattle.std.specs.Ordering.{nat_cmp, is_lt, is_eq, eq_by_cmp}
-use Rattle.std.specs.Cmp.{first_so, second_so, IsTotalOrder}
+use Rattle.std.specs.Ordering.{nat_cmp, is_lt, is_eq}
+use Rattle.std.specs.Cmp.{first_so, second_so}
 use Rattle.std.specs.Cmp.Derive.{both_true}
 use Rattle.std.specs.Cmp.Lexicographic.{slice_cmp, texts_ties}
 use Rattle.std.specs.declared.cmp.Ordering.{Ordering}
@@ -14,12 +14,11 @@ use Rattle.std.proofs.lemmas.Slice.Eq.{bytes_eq-Decides}
 use Rattle.std.proofs.Math.Bool.{or-true}
 use Rattle.std.proofs.lemmas.Bool.{leb-true, le-leb, ltb-true, lt-ltb}
 use Rattle.std.proofs.lemmas.List.{append-nil, get_or_default}
-use Rattle.pw_value.specs.Names.{IsNameLength}
-use Rattle.pw_value.specs.Fields.{◌>>=◌, after, done, checked, u32_at, text_at, items_at, u32, text, FitsU32, FitsText, FitInTurn}
-use Rattle.pw_value.specs.FieldLaws.{AreBytes, Spells}
-use Rattle.pw_value.specs.FieldNames.{is_entry, entry_at, next_entry, names_at, IsRisingFrom, IsNameTable, name_table, place_of, name_at, name_index, is_among, first_unused, IsTableOf}
+use Rattle.pw_value.specs.Fields.{checked, u32_at, text_at, u32, text, FitsU32, FitsText, FitInTurn}
+use Rattle.pw_value.specs.FieldLaws.{Spells}
+use Rattle.pw_value.specs.FieldNames.{is_entry, entry_at, next_entry, names_at, IsRisingFrom, IsNameTable, name_table, place_of, name_at, name_index, is_among, first_unused}
 use Rattle.pw_value.proofs.FieldLaws.{checked_spells, u32_spells, text_spells, mapped_spells}
-use Rattle.pw_value.proofs.FieldSteps.{Anything, Completes, step, step_where, finish, format, items_spell}
+use Rattle.pw_value.proofs.FieldSteps.{step, step_where, finish, format, items_spell}
 
 -- ---- the table
 
@@ -39,10 +38,11 @@ rising_forth : (before : List ℕ) (names : List (List ℕ)) → FitInTurn FitsE
 rising_forth before [] fits = tt
 rising_forth before (name ∷ names) fits =
     let rule = fits.0.1 in
-    let short = second_so (nat_le 1 (length name)) (nat_le (length name) 400 && is_lt (slice_cmp nat_cmp before name)) rule in
-    ((leb-true 1 (length name) (first_so (nat_le 1 (length name)) (nat_le (length name) 400 && is_lt (slice_cmp nat_cmp before name)) rule), leb-true (length name) 400 (first_so (nat_le (length name) 400) (is_lt (slice_cmp nat_cmp before name)) short)),
+    let short = second_so (nat_le 1 (length name)) (nat_le (length name) 400 && is_lt (slice_cmp nat_cmp before name)) rule in (
+      (leb-true 1 (length name) (first_so (nat_le 1 (length name)) (nat_le (length name) 400 && is_lt (slice_cmp nat_cmp before name)) rule), leb-true (length name) 400 (first_so (nat_le (length name) 400) (is_lt (slice_cmp nat_cmp before name)) short)),
       less_is _ (second_so (nat_le (length name) 400) (is_lt (slice_cmp nat_cmp before name)) short),
-      rising_forth name names fits.1)
+      rising_forth name names fits.1,
+    )
 
 rising_back : (before : List ℕ) (names : List (List ℕ)) → IsRisingFrom before names → FitInTurn FitsEntry next_entry before names
 rising_back before [] rising = tt
@@ -54,10 +54,10 @@ pub names_spell : Spells name_table IsNameTable names_at
 unfolding names_at name_table
 names_spell = format name_table IsNameTable (λ names. u32 (length names) ++ (flat_map text names ++ [])) (λ names. FitsU32 (length names) × (((length names ≡ length names) × FitInTurn FitsEntry next_entry [] names) × Unit {0})) _
     (step _ _ u32 FitsU32 u32_at _ _ _ length u32_spells
-      (λ n fits. step_where _ _ (flat_map text) (λ names. (length names ≡ n) × FitInTurn FitsEntry next_entry [] names) _ _ (λ names. (length names ≡ length names) × FitInTurn FitsEntry next_entry [] names) _ _ (λ names. names)
-        (items_spell text FitsEntry entry_at next_entry entry_spells n [])
-        (λ names known h. (refl, h.1)) (λ names known h. (known.1, h.1))
-        (λ names h. finish _ names ((tt, h.0), refl) (λ other known. sym known.1))))
+    (λ n fits. step_where _ _ (flat_map text) (λ names. (length names ≡ n) × FitInTurn FitsEntry next_entry [] names) _ _ (λ names. (length names ≡ length names) × FitInTurn FitsEntry next_entry [] names) _ _ (λ names. names)
+    (items_spell text FitsEntry entry_at next_entry entry_spells n [])
+    (λ names known h. (refl, h.1)) (λ names known h. (known.1, h.1))
+    (λ names h. finish _ names ((tt, h.0), refl) (λ other known. sym known.1))))
     (λ names. simp append-nil)
     (λ names h. record { count = h.0; rising = rising_forth [] names h.1.0.1 })
     (λ names h. (h.count, ((refl, rising_back [] names h.rising), tt)))
@@ -102,7 +102,7 @@ name_spells names table = mapped_spells u32 (λ i. FitsU32 i × IsTrue (nat_lt i
     (checked_spells u32 FitsU32 u32_at (λ i. nat_lt i (length names)) u32_spells)
     (λ i fits. let lt : i < length names = ltb-true _ _ fits.1 in (place-get [] names table.rising i [] lt, (i, lt, get_or_default names i _ _ lt)))
     (λ name h. let at = place-is names table name h in
-      (ap (λ k. get_or names k []) at ∙ get_or_default names h.0 [] name h.1 ∙ h.2, (rw at (omega (arith, table.count, h.1)), rw at (lt-ltb _ _ h.1))))
+    (ap (λ k. get_or names k []) at ∙ get_or_default names h.0 [] name h.1 ∙ h.2, (rw at (omega (arith, table.count, h.1)), rw at (lt-ltb _ _ h.1))))
 
 -- ---- names that are used
 

@@ -1,10 +1,10 @@
 -- How names are found in a table, and how a table is made of the names that are used.
-use Rattle.std.proofs.Common.{◌≡◌, ◌≢◌, ℕ, zero, suc, ◌+◌, ◌-◌, ◌<◌, ◌≤◌, Bool, true, false, cond, List, [], ◌∷◌, ◌++◌, length, get_or, drop, map, Result, Ok, Err, Bor, refl, sym, ap, subst, ◌∙◌, append_assoc, arith, add-one, inl, inr, ◌⊎◌}
-use Rattle.std.specs.Prelude.{IsTrue, not, IfOk, OnOk, IfSome, IfNone, is_some, Option, Some, None, Contains, ◌↔◌}
+use Rattle.std.proofs.Common.{◌≡◌, ◌≢◌, ℕ, zero, suc, ◌+◌, ◌-◌, ◌<◌, ◌≤◌, Bool, true, false, cond, List, [], ◌∷◌, ◌++◌, length, get_or, drop, map, Result, Ok, Err, Bor, refl, sym, ap, subst, ◌∙◌, append_assoc, arith, add-one, inl, inr}
+use Rattle.std.specs.Prelude.{not, IfOk, OnOk, IfSome, IfNone, is_some, Option, Some, None, Contains}
 use Rattle.std.specs.Global.{Vec}
 use Rattle.std.specs.Str.{bytes_eq}
 use Rattle.std.specs.List.{HoldsAt, flat_map}
-use Rattle.std.specs.List.Sorted.{IsNonDecreasingBy, IsPartitionPoint, IsSortedBy, IsSortedWithin, IsPermutation}
+use Rattle.std.specs.List.Sorted.{IsNonDecreasingBy, IsPartitionPoint, IsSortedBy, IsPermutation}
 use Rattle.std.specs.Ordering.{nat_cmp, is_lt, is_eq, is_gt, ordering_index}
 use Rattle.std.specs.Cmp.Lexicographic.{slice_cmp, texts_ties}
 use Rattle.std.specs.declared.cmp.Ordering.{Ordering}
@@ -23,7 +23,7 @@ use Rattle.pw_value.specs.Fields.{u32, text}
 use Rattle.pw_value.specs.FieldFaults.{Gives}
 use Rattle.pw_value.specs.FieldLaws.{AreBytes}
 use Rattle.pw_value.specs.declared.fields.fault.FieldError.{FieldError}
-use Rattle.pw_value.proofs.NameLaws.{above, place-get, same, other, among_contains, contains_among, get-place, names_spell}
+use Rattle.pw_value.proofs.NameLaws.{above, place-get, among_contains, contains_among, get-place, names_spell}
 use Rattle.pw_value.proofs.FileLaws.{length-u32}
 
 -- what the order does not tell apart is the same text
@@ -82,8 +82,8 @@ pub rising_unrepeated : (before : List ℕ) (names : List (List ℕ)) → IsSort
 rising_unrepeated before [] up lens = tt
 rising_unrepeated before (name ∷ names) up lens =
     rising_by before name names (bytes_eq before name) refl up.0 lens.0
-      (λ e. rising_unrepeated before names (subst (λ b. IsSortedFrom b names) (sym ((bytes_eq-Decides before name).0 e)) up.1) lens.1)
-      (rising_unrepeated name names up.1 lens.1)
+    (λ e. rising_unrepeated before names (subst (λ b. IsSortedFrom b names) (sym ((bytes_eq-Decides before name).0 e)) up.1) lens.1)
+    (rising_unrepeated name names up.1 lens.1)
 
 -- nothing is lost but what stands behind its like, and nothing is added
 fewer_by : (before name wanted : List ℕ) (names : List (List ℕ)) (b : Bool) → (Contains (unrepeated before names) wanted → Contains names wanted) → (Contains (unrepeated name names) wanted → Contains names wanted)
@@ -130,7 +130,7 @@ pub read_on : {R : Type 0} (now : R → List ℕ) (front : List (List ℕ)) (bef
     → front ++ unrepeated before (map now (drop i sorted)) ≡ total → front ++ unrepeated before (now item ∷ map now (drop (i + 1) sorted)) ≡ total
 read_on {R} now front before sorted i item total lt is so_far =
     ap (λ (x : R). front ++ unrepeated before (now x ∷ map now (drop (i + 1) sorted))) is
-      ∙ sym (at_drop_more (λ (rest : List R). front ++ unrepeated before (map now rest)) sorted i item lt) ∙ so_far
+    ∙ sym (at_drop_more (λ (rest : List R). front ++ unrepeated before (map now rest)) sorted i item lt) ∙ so_far
 
 pub seen_at : {R : Type 0} (now : R → List ℕ) (xs : List R) (i : ℕ) (item : R) → i < length xs → item ≡ get_or xs i item → (d : List ℕ) → get_or (map now xs) i d ≡ now item
 seen_at now [] i item lt is d = absurd (omega arith)
@@ -150,10 +150,12 @@ turned a b e = turned_by (slice_cmp nat_cmp a b) (slice_cmp nat_cmp b a) (nat_li
 sorted_from : {R : Type 0} (now : R → List ℕ) (before : List ℕ) (x : R) (xs : List R) → is_gt (slice_cmp nat_cmp before (now x)) ≡ false
     → IsSortedBy (λ a b. is_lt (slice_cmp nat_cmp (now a) (now b))) (x ∷ xs) → IsSortedFrom before (map now (x ∷ xs))
 sorted_from now before x [] g up = (g, tt)
-sorted_from now before x (y ∷ xs) g up =
-    (g, sorted_from now (now x) y xs (turned (now x) (now y) (up 0 y (omega arith) (omega arith)))
+sorted_from now before x (y ∷ xs) g up = (
+  g,
+  sorted_from now (now x) y xs (turned (now x) (now y) (up 0 y (omega arith) (omega arith)))
       (λ k d low high. let shift : suc k + 1 ≡ suc (k + 1) = omega arith in
-        subst (λ n. is_lt (slice_cmp nat_cmp (now (get_or (x ∷ y ∷ xs) n d)) (now (get_or (y ∷ xs) k d))) ≡ false) shift (up (suc k) d (omega arith) (omega arith))))
+      subst (λ n. is_lt (slice_cmp nat_cmp (now (get_or (x ∷ y ∷ xs) n d)) (now (get_or (y ∷ xs) k d))) ≡ false) shift (up (suc k) d (omega arith) (omega arith))),
+)
 
 none_below : (name : List ℕ) → is_gt (slice_cmp nat_cmp [] name) ≡ false
 none_below [] = refl
@@ -180,8 +182,10 @@ table_made now used sorted moved up lens =
     let back = IsPermutation-sym (map now used) (map now sorted) seen in
     record {
       rising = rising_unrepeated [] (map now sorted) (chain now sorted up) have;
-      of = λ name. (λ h. Contains-permutation (map now sorted) (map now used) name back (fewer [] (map now sorted) name h),
-        λ h. let g = Contains-permutation (map now used) (map now sorted) name seen h in kept [] (map now sorted) name g (not_empty (map now sorted) have g.0 g.1 name g.2));
+      of = λ name. (
+        λ h. Contains-permutation (map now sorted) (map now used) name back (fewer [] (map now sorted) name h),
+        λ h. let g = Contains-permutation (map now used) (map now sorted) name seen h in kept [] (map now sorted) name g (not_empty (map now sorted) have g.0 g.1 name g.2),
+      );
     }
 
 -- the same of what a function returned
@@ -220,8 +224,8 @@ table_unique before before' (x ∷ xs) [] rx ry one two = absurd (omega (arith, 
 table_unique before before' (x ∷ xs) (y ∷ ys) rx ry one two =
     let e = heads x y xs ys rx.2 ry.2 (one x (0, omega arith, refl)) (two y (0, omega arith, refl)) in
     let tails = table_unique x y xs ys rx.2 ry.2
-      (λ name h. tail_of x name xs ys rx.2 h (subst (λ z. Contains (z ∷ ys) name) (sym e) (one name (later x name xs h))))
-      (λ name h. tail_of y name ys xs ry.2 h (subst (λ z. Contains (z ∷ xs) name) e (two name (later y name ys h)))) in
+    (λ name h. tail_of x name xs ys rx.2 h (subst (λ z. Contains (z ∷ ys) name) (sym e) (one name (later x name xs h))))
+    (λ name h. tail_of y name ys xs ry.2 h (subst (λ z. Contains (z ∷ xs) name) e (two name (later y name ys h)))) in
     ap (λ z. z ∷ xs) e ∙ ap (λ (zs : List (List ℕ)). y ∷ zs) tails
 
 pub one_table : (names others used : List (List ℕ)) → IsTableOf names used → IsTableOf others used → names ≡ others

@@ -2,7 +2,7 @@
 use Rattle.std.specs.Prelude.{◌≡◌, ℕ, ◌+◌, ◌-◌, ◌<◌, ◌≤◌, ◌^◌, List, [], ◌∷◌, ◌++◌, length, take, drop, Option, Some, None, Result, Ok, Err, nat_le, ◌==◌, ◌&&◌, Bool, if◌then◌else◌}
 use Rattle.std.specs.Str.{bytes_eq}
 use Rattle.sha2.specs.Sha256.{sha256}
-use Rattle.pw_value.specs.Fields.{◌>>=◌, after, done, checked, u32_at, u32, parts}
+use Rattle.pw_value.specs.Fields.{◌>>=◌, done, checked, u32_at, u32}
 
 -- ---- the end of a payload
 

@@ -1,12 +1,12 @@
 -- The table of names of a file: names in rising order, which other fields name by their index.
-use Rattle.std.specs.Prelude.{◌≡◌, ℕ, suc, ◌+◌, ◌<◌, ◌≤◌, ◌^◌, ◌↔◌, List, [], ◌∷◌, ◌++◌, length, Option, Some, None, Result, Ok, Err, nat_le, nat_lt, ◌&&◌, Bool, if◌then◌else◌, slice_index_or, Contains}
+use Rattle.std.specs.Prelude.{◌≡◌, ℕ, suc, ◌+◌, ◌<◌, ◌^◌, ◌↔◌, List, [], ◌∷◌, ◌++◌, length, Option, Some, None, Result, nat_le, nat_lt, ◌&&◌, Bool, if◌then◌else◌, slice_index_or, Contains}
 use Rattle.std.specs.List.{flat_map, list_any}
 use Rattle.std.specs.Str.{bytes_eq}
 use Rattle.std.specs.Ordering.{nat_cmp, is_lt}
 use Rattle.std.specs.Cmp.Lexicographic.{slice_cmp}
 use Rattle.std.specs.declared.cmp.Ordering.TheVariants.{Less}
 use Rattle.pw_value.specs.Names.{IsNameLength}
-use Rattle.pw_value.specs.Fields.{◌>>=◌, after, done, checked, u32_at, text_at, items_at, u32, text}
+use Rattle.pw_value.specs.Fields.{◌>>=◌, done, checked, u32_at, text_at, items_at, u32, text}
 
 -- ---- the table
 

@@ -112,7 +112,12 @@ pub fn check_digest(bytes: &[u8], end: usize) -> Result<(), FileError>
 
 /// The bytes of a file before its digest.
 #[tactic(auto, unfolding(crate::specs::FieldFrame::before_digest))]
-fn write_before_digest(alloc: Global, kind: u32, version: u32, payload: &[u8]) -> Result<Vec<u8>, AllocError>
+fn write_before_digest(
+    alloc: Global,
+    kind: u32,
+    version: u32,
+    payload: &[u8],
+) -> Result<Vec<u8>, AllocError>
     requires { FitsFile payload.now }
     ensures { IfOk result (λ v. v.items ≡ before_digest kind version payload.now) }
 {

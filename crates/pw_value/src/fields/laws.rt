@@ -16,27 +16,23 @@ pub fn single_fields_are_spelled()
     ensures text { Spells text FitsText text_at }
     ensures choice { (n : ℕ) → Spells u8 (λ b. FitsU8 b × IsTrue (nat_lt b n)) (choice_at n) }
     ensures truth { Spells flag (λ b. Unit {0}) flag_at }
-{
-}
+{}
 
 /// The same of the table of names and of a name by its index in it.
 #[tactic(auto, using(crate::proofs::NameLaws::names_spell, crate::proofs::NameLaws::name_spells))]
 pub fn names_are_spelled()
     ensures table { Spells name_table IsNameTable names_at }
     ensures index { (names : List (List ℕ)) → IsNameTable names → Spells (name_index names) (Contains names) (name_at names) }
-{
-}
+{}
 
 /// The names that are used have one table.
 pub fn a_table_is_determined()
     ensures { (names others used : List (List ℕ)) → IsTableOf names used → IsTableOf others used → names ≡ others }
-{
-}
+{}
 
 /// What is read of a whole file is a file of the payload that is read, and such a file is read.
 #[tactic(auto, using(crate::proofs::FileLaws::any_takes))]
 pub fn files_are_framed()
     ensures found { (kind first last : ℕ) (bytes payload : List ℕ) → AreBytes bytes → file_at kind first last any_payload bytes ≡ Ok payload → IsFileOf kind first last any_spelling FitsAny bytes payload }
     ensures again { (kind first last : ℕ) (bytes payload : List ℕ) → kind < 2 ^ 32 → last < 2 ^ 32 → IsFileOf kind first last any_spelling FitsAny bytes payload → file_at kind first last any_payload bytes ≡ Ok payload }
-{
-}
+{}

@@ -80,7 +80,10 @@ pub fn read_names(alloc: Global, bytes: &[u8]) -> Result<(Vec<Name>, &[u8]), Fie
 
 /// A name of the table, by its index.
 #[tactic(auto, unfolding(crate::specs::FieldNames::name_at))]
-pub fn read_name<'a, 'b>(names: &'b [Name], bytes: &'a [u8]) -> Result<(&'b Name, &'a [u8]), FieldError>
+pub fn read_name<'a, 'b>(
+    names: &'b [Name],
+    bytes: &'a [u8],
+) -> Result<(&'b Name, &'a [u8]), FieldError>
     ensures found { Gives (λ x. (x.0.now, x.1.now)) result (name_at names.now bytes.now) }
     ensures no_memory { IfErr result (λ e. e ≢ FieldError.NoMemory) }
 {
@@ -184,7 +187,12 @@ fn first_outside(names: &[Name], wanted: &[Name], behind: usize) -> Option<usize
 /// The rule that each name of the table is used: where the first name that is not begins, told by the
 /// bytes that are left from there on. `used` are the names that are used, in whatever order and however
 /// often, and `behind` bytes are left behind the table.
-pub fn find_unused(alloc: Global, names: &[Name], used: Vec<&Name>, behind: usize) -> Result<Option<usize>, AllocError>
+pub fn find_unused(
+    alloc: Global,
+    names: &[Name],
+    used: Vec<&Name>,
+    behind: usize,
+) -> Result<Option<usize>, AllocError>
     requires { length (flat_map text names.now) + behind < 2 ^ 64 }
     ensures { IfOk result (λ place. place ≡ first_unused names.now (map (λ name. name.now) used.entry.items) behind) }
 {

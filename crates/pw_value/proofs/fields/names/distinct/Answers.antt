@@ -1,4 +1,4 @@
-use Rattle.std.proofs.Common.{◌≡◌, below_more, ap, ◌∙◌, sym}
+use Rattle.std.proofs.Common.{below_more, ap, ◌∙◌, sym}
 use Rattle.std.specs.Str.{bytes_eq}
 use Rattle.pw_value.proofs.NameTables.{taken, skipped, not_true, not_false, read_on, seen_at}
 use Rattle.pw_value.proofs.fields.names.distinct.Goals.{then-ne+in_ok-copy+in_ok-push, else-ne}

@@ -1,6 +1,4 @@
-use Rattle.std.proofs.Common.{◌≡◌, ◌++◌, ◌∷◌, [], List, ℕ}
 use Rattle.std.proofs.lemmas.Result.{err_from_is_err_and}
-use Rattle.pw_value.specs.Fields.{items_at}
 use Rattle.pw_value.specs.FieldNames.{entry_at, next_entry}
 use Rattle.pw_value.proofs.FieldLoops.{goes_on, ends, is_done}
 use Rattle.pw_value.proofs.fields.names.read_entries.Goals as goal

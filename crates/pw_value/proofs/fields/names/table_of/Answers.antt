@@ -1,4 +1,3 @@
-use Rattle.std.proofs.Common.{sym}
 use Rattle.pw_value.proofs.NameTables.{table_result}
 use Rattle.pw_value.proofs.fields.names.table_of.Goals as goal
 
@@ -6,4 +5,4 @@ pub returns : goal.returns
 returns c =
     let made = c.distinct.ensures.made in
     table_result (λ name. name.now) c.args.used.items c.sort_unstable.new.self.items c.distinct.result c.sort_unstable.ensures.permutation c.sort_unstable.ensures.sorted
-      (rw (← c.deref.ensures.value) made) (rw (← c.deref.ensures.value) c.distinct.ensures.lengths)
+    (rw (← c.deref.ensures.value) made) (rw (← c.deref.ensures.value) c.distinct.ensures.lengths)
