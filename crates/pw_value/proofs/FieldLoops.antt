@@ -3,7 +3,7 @@ use Rattle.std.proofs.Common.{◌≡◌, ℕ, suc, ◌-◌, ◌+◌, ◌≤◌, 
 use Rattle.std.proofs.lemmas.List.{append-nil}
 use Rattle.pw_value.specs.declared.fields.fault.FieldError.{FieldError}
 use Rattle.pw_value.specs.declared.fields.fault.FieldError.TheVariants as field
-use Rattle.pw_value.specs.Fields.{after, done, items_at}
+use Rattle.pw_value.specs.Fields.{after, done, items_at, same_state, repeated}
 use Rattle.pw_value.specs.FieldFaults.{Fails}
 
 -- what was read before, and what is still read
@@ -39,3 +39,25 @@ is_done {X = X} item next front count i s bytes total le so_far =
     let k : count - i ≡ 0 = omega arith in
     let one : with_front front (items_at item next (count - i) s bytes) ≡ Ok (front, bytes) = rw k (ap (λ (xs : List X). Ok (xs, bytes)) (append-nil front)) in
     sym so_far ∙ one
+
+-- ---- the same where each item is read alike
+
+pub repeat_goes_on : {X : Type 0} (item : List ℕ → Result (X × List ℕ) ℕ) (front : List X) (count i : ℕ) (bytes : List ℕ) (x : X) (behind : List ℕ) (total : Result (List X × List ℕ) ℕ)
+    → i < count → item bytes ≡ Ok (x, behind) → with_front front (repeated item (count - i) bytes) ≡ total → with_front (front ++ x ∷ []) (repeated item (count - (i + 1)) behind) ≡ total
+unfolding repeated
+repeat_goes_on item front count i bytes x behind total lt h so_far = goes_on (λ s. item) same_state front count i 0 bytes x behind total lt h so_far
+
+pub repeat_ends : {X : Type 0} (item : List ℕ → Result (X × List ℕ) ℕ) (e : FieldError) (front : List X) (count i : ℕ) (bytes : List ℕ) (total : Result (List X × List ℕ) ℕ)
+    → i < count → Fails e (item bytes) → with_front front (repeated item (count - i) bytes) ≡ total → Fails e total
+unfolding repeated
+repeat_ends item e front count i bytes total lt h so_far = ends (λ s. item) same_state e front count i 0 bytes total lt h so_far
+
+pub repeat_is_done : {X : Type 0} (item : List ℕ → Result (X × List ℕ) ℕ) (front : List X) (count i : ℕ) (bytes : List ℕ) (total : Result (List X × List ℕ) ℕ)
+    → count ≤ i → with_front front (repeated item (count - i) bytes) ≡ total → total ≡ Ok (front, bytes)
+unfolding repeated
+repeat_is_done item front count i bytes total le so_far = is_done (λ s. item) same_state front count i 0 bytes total le so_far
+
+-- a loop over items that has read nothing yet
+pub with_nothing : {X : Type 0} (found : Result (List X × List ℕ) ℕ) → with_front [] found ≡ found
+with_nothing (Ok x) = refl
+with_nothing (Err left) = refl

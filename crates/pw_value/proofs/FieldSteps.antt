@@ -2,10 +2,10 @@
 -- that was read, and at the end the fields that are known make the value.
 use Rattle.std.proofs.Common.{◌≡◌, ℕ, zero, suc, List, [], ◌∷◌, ◌++◌, length, Result, Ok, refl, sym, ap, subst, ◌∙◌, append_assoc}
 use Rattle.std.specs.Prelude.{Option, Some, None}
-use Rattle.std.specs.List.{flat_map}
+use Rattle.std.specs.List.{flat_map, AllByRecursion}
 use Rattle.std.proofs.lemmas.List.{append-nil}
 use Rattle.std.proofs.lemmas.List.Concat.{flat_map-cons}
-use Rattle.pw_value.specs.Fields.{◌>>=◌, done, items_at, FitInTurn}
+use Rattle.pw_value.specs.Fields.{◌>>=◌, done, items_at, same_state, repeated, FitInTurn}
 use Rattle.pw_value.specs.FieldFrame.{here, ended}
 use Rattle.pw_value.specs.FieldLaws.{AreBytes, Spells, SpellsWhole}
 use Rattle.pw_value.proofs.FieldLaws.{AreBytes-rest, joins, same_text, found_is, not_found, after_passes}
@@ -140,3 +140,23 @@ items_spell spelling Fits item next laws n s = record {
   takes = λ bytes xs rest fits e. let t = items_take spelling Fits item next laws n s bytes xs rest fits e in (t.0, (t.1, t.2));
   again = λ xs rest fits. subst (λ k. items_at item next k s (flat_map spelling xs ++ rest) ≡ Ok (xs, rest)) fits.0 (items_again spelling Fits item next laws xs s rest fits.1);
 }
+
+-- the same where each item is read alike
+
+alike_forth : {X : Type 0} (Fits : X → Type 0) (s : ℕ) (xs : List X) → FitInTurn (λ s. Fits) same_state s xs → AllByRecursion Fits xs
+alike_forth Fits s [] fits = tt
+alike_forth Fits s (x ∷ xs) fits = (fits.0, alike_forth Fits s xs fits.1)
+
+alike_back : {X : Type 0} (Fits : X → Type 0) (s : ℕ) (xs : List X) → AllByRecursion Fits xs → FitInTurn (λ s. Fits) same_state s xs
+alike_back Fits s [] fits = tt
+alike_back Fits s (x ∷ xs) fits = (fits.0, alike_back Fits s xs fits.1)
+
+pub repeated_spells : {X : Type 0} (spelling : X → List ℕ) (Fits : X → Type 0) (item : List ℕ → Result (X × List ℕ) ℕ) → Spells spelling Fits item
+    → (n : ℕ) → Spells (flat_map spelling) (λ xs. (length xs ≡ n) × AllByRecursion Fits xs) (repeated item n)
+unfolding repeated
+repeated_spells spelling Fits item laws n =
+    let items = items_spell spelling (λ s. Fits) (λ s. item) same_state (λ s. laws) n 0 in
+    record {
+      takes = λ bytes xs rest fits e. let t = items.takes bytes xs rest fits e in (t.0, (t.1.0, alike_forth Fits 0 xs t.1.1));
+      again = λ xs rest fits. items.again xs rest (fits.0, alike_back Fits 0 xs fits.1);
+    }

@@ -1,5 +1,5 @@
 -- The table of names, and names by their index.
-use Rattle.std.proofs.Common.{◌≡◌, ℕ, zero, suc, ◌<◌, Bool, true, false, cond, List, [], ◌∷◌, ◌++◌, length, get_or, refl, sym, ap, ◌∙◌, arith}
+use Rattle.std.proofs.Common.{subst, ◌≡◌, ℕ, zero, suc, ◌<◌, Bool, true, false, cond, List, [], ◌∷◌, ◌++◌, length, get_or, refl, sym, ap, ◌∙◌, arith}
 use Rattle.std.specs.Prelude.{IsTrue, nat_le, nat_lt, ◌&&◌, ◌||◌, slice_index_or, Contains, Some, None}
 use Rattle.std.specs.List.{flat_map}
 use Rattle.std.specs.Str.{bytes_eq}
@@ -16,7 +16,7 @@ use Rattle.std.proofs.lemmas.Bool.{leb-true, le-leb, ltb-true, lt-ltb}
 use Rattle.std.proofs.lemmas.List.{append-nil, get_or_default}
 use Rattle.pw_value.specs.Fields.{checked, u32_at, text_at, u32, text, FitsU32, FitsText, FitInTurn}
 use Rattle.pw_value.specs.FieldLaws.{Spells}
-use Rattle.pw_value.specs.FieldNames.{is_entry, entry_at, next_entry, names_at, IsRisingFrom, IsNameTable, name_table, place_of, name_at, name_index, is_among, first_unused}
+use Rattle.pw_value.specs.FieldNames.{IsTableOf, is_entry, entry_at, next_entry, names_at, IsRisingFrom, IsNameTable, name_table, place_of, name_at, name_index, is_among, first_unused}
 use Rattle.pw_value.proofs.FieldLaws.{checked_spells, u32_spells, text_spells, mapped_spells}
 use Rattle.pw_value.proofs.FieldSteps.{step, step_where, finish, format, items_spell}
 
@@ -135,3 +135,23 @@ all_used (name ∷ names) used behind e = unused_by name names used behind _ (is
 pub none_unused : (names used : List (List ℕ)) (behind : ℕ) → AllUsed names used → first_unused names used behind ≡ None
 none_unused [] used behind all = refl
 none_unused (name ∷ names) used behind all = rw (contains_among used name all.0.0 all.0.1 all.0.2) (none_unused names used behind all.1)
+
+-- ---- a table of the names that are used
+
+each_used : (names used : List (List ℕ)) → ((name : List ℕ) → Contains names name → Contains used name) → AllUsed names used
+each_used [] used h = tt
+each_used (name ∷ names) used h = (h name (0, omega arith, refl), each_used names used (λ other k. h other (suc k.0, omega (arith, k.1), k.2)))
+
+used_at : (names used : List (List ℕ)) → AllUsed names used → (k : ℕ) (name : List ℕ) → k < length names → get_or names k name ≡ name → Contains used name
+used_at [] used all k name lt e = absurd (omega arith)
+used_at (first ∷ names) used all zero name lt e = subst (Contains used) e all.0
+used_at (first ∷ names) used all (suc k) name lt e = used_at names used all.1 k name (omega arith) e
+
+pub table_of_used : (names used : List (List ℕ)) → IsNameTable names → AllUsed names used → AllUsed used names → IsTableOf names used
+table_of_used names used table one two = record {
+  rising = table.rising;
+  of = λ name. (λ h. used_at names used one h.0 name h.1 h.2, λ h. used_at used names two h.0 name h.1 h.2);
+}
+
+pub used_by_table : (names used : List (List ℕ)) → IsTableOf names used → AllUsed names used × AllUsed used names
+used_by_table names used table = (each_used names used (λ name. (table.of name).0), each_used used names (λ name. (table.of name).1))

@@ -84,6 +84,13 @@ items_at item next (suc n) s = do
   xs ← items_at item next n (next s x)
   done (x ∷ xs)
 
+-- as many items as are asked for, each read alike
+abbrev pub same_state : {X : Type 0} → ℕ → X → ℕ
+same_state s x = s
+
+unfoldable pub repeated : {X : Type 0} → (List ℕ → Result (X × List ℕ) ℕ) → ℕ → List ℕ → Result (List X × List ℕ) ℕ
+repeated item count = items_at (λ s. item) same_state count 0
+
 -- ---- the spelling of single fields
 
 abbrev pub u8 : ℕ → List ℕ
