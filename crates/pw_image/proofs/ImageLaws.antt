@@ -10,10 +10,12 @@ use Rattle.pw_value.specs.declared.fault.FileError.{FileError}
 use Rattle.pw_value.specs.Fields.{checked, u32_at, text_at, items_at, repeated, u32, text, FitsU32, FitsText, FitInTurn}
 use Rattle.pw_value.specs.FieldFaults.{GivesFile}
 use Rattle.pw_value.specs.FieldLaws.{AreBytes, Spells, SpellsWhole}
-use Rattle.pw_value.specs.FieldNames.{names_at, name_at, name_table, name_index, first_unused, IsNameTable}
+use Rattle.pw_value.specs.FieldNames.{names_at, name_at, name_table, name_index, first_unused, IsNameTable, IsTableOf}
 use Rattle.pw_value.proofs.FieldLaws.{not_found, checked_spells, u32_spells, text_spells, bytes_spells}
 use Rattle.pw_value.proofs.FieldSteps.{Completes, finish, finish_whole, step, step_where, keep_place, format, payload_format, items_spell, repeated_spells}
 use Rattle.pw_value.proofs.FileLaws.{file_takes, file_again, length-u32}
+use Rattle.pw_value.proofs.NameTables.{one_table}
+use Rattle.pw_value.specs.FieldFrame.{file}
 use Rattle.pw_value.proofs.NameLaws.{names_spell, name_spells, AllUsed, all_used, none_unused, table_of_used, used_by_table}
 use Rattle.pw_image.specs.declared.image.Function.{Function}
 use Rattle.pw_image.specs.declared.image.GlobalObject.{GlobalObject}
@@ -312,3 +314,18 @@ found_by bytes (Err e) fits given = tt
 
 pub only_by : (bytes : List ℕ) (r : Result Image FileError) → GivesFile view r (image_of (image_file_at bytes)) → (c : Contents) → IsImageFile bytes c → GivesFile view r (Ok c.image)
 only_by bytes r given c is = subst (GivesFile view r) (ap image_of (image_again bytes c is)) given
+
+abbrev value : Contents → Result Contents ℕ
+value c = Ok c
+
+-- ---- one file for each image, and one image for each file
+
+pub one_image : (bytes : List ℕ) (c d : Contents) → IsImageFile bytes c → IsImageFile bytes d → c ≡ d
+one_image bytes c d p q = let both : value c ≡ value d = sym (image_again bytes c p) ∙ image_again bytes d q in cc
+
+pub one_file : (bytes others : List ℕ) (c d : Contents) → IsImageFile bytes c → IsImageFile others d → c.image ≡ d.image → bytes ≡ others
+one_file bytes others c d p q same =
+    let names : c.names ≡ d.names = one_table c.names d.names (names_of c.image) p.fits.names (subst (λ (v : ImageValue). IsTableOf d.names (names_of v)) (sym same) q.fits.names) in
+    let version : p.version ≡ q.version = omega (arith, p.not_below, p.not_above, q.not_below, q.not_above) in
+    let whole : c ≡ d = λ j. record { names = names j; image = same j } in
+    p.spelled ∙ ap (λ n. file kind n (spelling c)) version ∙ ap (λ (x : Contents). file kind q.version (spelling x)) whole ∙ sym q.spelled

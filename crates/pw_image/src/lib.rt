@@ -2,6 +2,7 @@
 #![tactic(auto)]
 
 mod image;
+pub mod laws;
 mod reading;
 
 pub use image::{DataItem, Function, GlobalObject, Image, Memory};
