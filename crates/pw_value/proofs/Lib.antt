@@ -1,2 +1,8 @@
+pub mod FieldLaws
+pub mod FieldLoops
+pub mod FieldSteps
+pub mod FileLaws
+pub mod NameLaws
+pub mod NameTables
 pub mod Ranges
 mod ShapeLemmas

@@ -1,4 +1,9 @@
 pub mod Names
+pub mod Fields
+pub mod FieldFaults
+pub mod FieldFrame
+pub mod FieldLaws
+pub mod FieldNames
 pub mod Shapes
 pub mod Values
 pub mod Objects

@@ -4,6 +4,7 @@
 
 pub mod codec;
 pub mod fault;
+pub mod fields;
 pub mod laws;
 pub mod name;
 pub mod shape;

@@ -1,0 +1,8 @@
+use Rattle.std.proofs.Common.{◌≡◌, ◌-◌}
+use Rattle.pw_value.specs.Fields.{repeated}
+use Rattle.pw_value.proofs.FieldLoops.{with_front}
+use Rattle.pw_image.specs.Reading.{function_at}
+use Rattle.pw_image.proofs.reading.read_functions.Given as goal
+
+abbrev pub invariant-loop : goal.invariant-loop
+invariant-loop l = with_front l.functions.items (repeated (function_at l.names l.words) (l.count - l.counter) l.rest) ≡ repeated (function_at l.names l.words) l.count l.bytes

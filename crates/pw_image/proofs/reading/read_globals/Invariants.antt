@@ -1,0 +1,8 @@
+use Rattle.std.proofs.Common.{◌≡◌, ◌-◌}
+use Rattle.pw_value.specs.Fields.{repeated}
+use Rattle.pw_value.proofs.FieldLoops.{with_front}
+use Rattle.pw_image.specs.Reading.{global_at}
+use Rattle.pw_image.proofs.reading.read_globals.Given as goal
+
+abbrev pub invariant-loop : goal.invariant-loop
+invariant-loop l = with_front l.globals.items (repeated (global_at l.names) (l.count - l.counter) l.rest) ≡ repeated (global_at l.names) l.count l.bytes

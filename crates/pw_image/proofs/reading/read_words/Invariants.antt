@@ -1,0 +1,7 @@
+use Rattle.std.proofs.Common.{◌≡◌, ◌-◌}
+use Rattle.pw_value.specs.Fields.{u32_at, repeated}
+use Rattle.pw_value.proofs.FieldLoops.{with_front}
+use Rattle.pw_image.proofs.reading.read_words.Given as goal
+
+abbrev pub invariant-loop : goal.invariant-loop
+invariant-loop l = with_front l.words.items (repeated u32_at (l.count - l.counter) l.rest) ≡ repeated u32_at l.count l.bytes

@@ -1,0 +1,126 @@
+-- The image of a linked program: what a machine starts with, and where functions and globals stand.
+use Rattle.std.specs.Prelude.{◌≡◌, ℕ, ◌+◌, ◌*◌, ◌/◌, ◌%◌, ◌<◌, ◌≤◌, ◌^◌, List, [], ◌∷◌, ◌++◌, length, map, max}
+use Rattle.std.specs.List.{flat_map, AllByRecursion}
+use Rattle.pw_value.specs.Fields.{u32, text, parts, FitsU32}
+use Rattle.pw_value.specs.FieldFrame.{IsFileOf}
+use Rattle.pw_value.specs.FieldNames.{name_table, name_index, IsTableOf}
+use Rattle.std.specs.Prelude.{Vec}
+use Rattle.std.specs.declared.alloc.Global.{Global}
+use Rattle.pw_value.specs.declared.name.Name.{Name}
+use Rattle.pw_image.specs.declared.image.DataItem.{DataItem}
+use Rattle.pw_image.specs.declared.image.Memory.{Memory}
+use Rattle.pw_image.specs.declared.image.Function.{Function}
+use Rattle.pw_image.specs.declared.image.GlobalObject.{GlobalObject}
+use Rattle.pw_image.specs.declared.image.Image.{Image}
+
+-- ---- values, without where they lie in memory
+
+-- bytes at an offset from the start of the data
+pub record Item : Type 0 where
+  pub offset : ℕ
+  pub bytes : List ℕ
+
+pub record MemoryValue : Type 0 where
+  pub entry : ℕ
+  pub stack : ℕ
+  pub stack_end : ℕ
+  pub words : List ℕ
+  pub data_size : ℕ
+  pub items : List Item
+
+pub record ImageValue : Type 0 where
+  pub memory : MemoryValue
+  pub functions : List Function
+  pub globals : List GlobalObject
+
+abbrev pub item_view : DataItem → Item
+item_view i = record { offset = i.offset; bytes = i.bytes.items }
+
+abbrev pub memory_view : Memory → MemoryValue
+memory_view m = record { entry = m.entry; stack = m.stack; stack_end = m.stack_end; words = m.words.items; data_size = m.data_size; items = map item_view m.items.items }
+
+abbrev pub view : Image → ImageValue
+view i = record { memory = memory_view i.memory; functions = i.functions.items; globals = i.globals.items }
+
+-- ---- the rules
+
+-- a word's address: the text has so many words from 4,096 on
+pub record IsInText (words address : ℕ) : Type 0 where
+  pub aligned : address % 4 ≡ 0
+  pub start : 4096 ≤ address
+  pub within : address < 4096 + 4 * words
+
+-- the data start behind the text, at the next multiple of 8
+abbrev pub data_start : ℕ → ℕ
+data_start words = (4096 + 4 * words + 7) / 8 * 8
+
+-- the least offset that the next item may have: offsets rise, and items do not overlap
+abbrev pub free_behind : Item → ℕ
+free_behind i = i.offset + max 1 (length i.bytes)
+
+-- items in rising order without overlap, inside the data
+abbrev pub AreItems : ℕ → ℕ → List Item → Type 0
+AreItems size free [] = Unit {0}
+AreItems size free (i ∷ items) = (free ≤ i.offset) × (i.offset + length i.bytes ≤ size) × AreItems size (free_behind i) items
+
+pub record IsMemory (m : MemoryValue) : Type 0 where
+  pub entry : IsInText (length m.words) m.entry
+  pub stack : m.stack < 2 ^ 32
+  pub stack_end : m.stack_end ≤ 67108864
+  pub count : length m.words ≤ 65536
+  pub words : AllByRecursion FitsU32 m.words
+  pub data_fits : data_start (length m.words) + m.data_size ≤ m.stack_end
+  pub item_count : length m.items < 2 ^ 32
+  pub items : AreItems m.data_size 0 m.items
+
+pub record IsImage (v : ImageValue) : Type 0 where
+  pub memory : IsMemory v.memory
+  pub function_count : length v.functions < 2 ^ 32
+  pub functions : AllByRecursion (λ f. IsInText (length v.memory.words) f.address × FitsU32 f.frame) v.functions
+  pub global_count : length v.globals < 2 ^ 32
+  pub globals : AllByRecursion (λ g. FitsU32 g.address) v.globals
+
+-- ---- the spelling
+
+abbrev pub item : Item → List ℕ
+item i = parts (u32 i.offset ∷ text i.bytes ∷ [])
+
+abbrev pub memory : MemoryValue → List ℕ
+memory m = parts (u32 m.entry ∷ u32 m.stack ∷ u32 m.stack_end ∷ u32 (length m.words) ∷ flat_map u32 m.words
+    ∷ u32 m.data_size ∷ u32 (length m.items) ∷ flat_map item m.items ∷ [])
+
+abbrev pub function : List (List ℕ) → Function → List ℕ
+function names f = parts (name_index names f.name ∷ u32 f.address ∷ u32 f.frame ∷ [])
+
+abbrev pub global : List (List ℕ) → GlobalObject → List ℕ
+global names g = parts (name_index names g.name ∷ u32 g.address ∷ [])
+
+-- the names that an image uses, in the order of their use
+abbrev pub names_of : ImageValue → List (List ℕ)
+names_of v = map (λ f. f.name) v.functions ++ map (λ g. g.name) v.globals
+
+-- an image and the table of its names
+pub record Contents : Type 0 where
+  pub names : List (List ℕ)
+  pub image : ImageValue
+
+abbrev pub contents_view : Vec Name Global × Image → Contents
+contents_view x = record { names = x.0.items; image = view x.1 }
+
+abbrev pub spelling : Contents → List ℕ
+spelling c = parts (memory c.image.memory ∷ name_table c.names
+    ∷ u32 (length c.image.functions) ∷ flat_map (function c.names) c.image.functions
+    ∷ u32 (length c.image.globals) ∷ flat_map (global c.names) c.image.globals ∷ [])
+
+pub record IsContents (c : Contents) : Type 0 where
+  pub image : IsImage c.image
+  pub name_count : length c.names < 2 ^ 32
+  pub names : IsTableOf c.names (names_of c.image)
+
+-- PAWI
+abbrev pub kind : ℕ
+kind = 0x50415749
+
+-- the bytes are the image file of the contents
+abbrev pub IsImageFile : List ℕ → Contents → Type 0
+IsImageFile bytes c = IsFileOf kind 1 1 (λ version. spelling) (λ version. IsContents) bytes c

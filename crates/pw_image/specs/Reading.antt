@@ -1,0 +1,91 @@
+-- Reading an image file from left to right, with the first fault that is met.
+use Rattle.std.specs.Prelude.{ℕ, ◌+◌, ◌*◌, ◌%◌, List, length, Result, Ok, Err, Option, Some, None, Bool, false, nat_le, nat_lt, ◌==◌, ◌&&◌, if◌then◌else◌}
+use Rattle.pw_value.specs.Fields.{◌>>=◌, done, checked, u32_at, bytes_at, text_at, items_at, repeated}
+use Rattle.pw_value.specs.FieldFrame.{here, ended, file_at}
+use Rattle.pw_value.specs.FieldNames.{names_at, name_at, first_unused}
+use Rattle.pw_image.specs.declared.image.Function.{Function}
+use Rattle.pw_image.specs.declared.image.GlobalObject.{GlobalObject}
+use Rattle.pw_image.specs.Image.{Item, MemoryValue, ImageValue, Contents, data_start, free_behind, names_of, kind}
+
+abbrev pub is_in_text : ℕ → ℕ → Bool
+is_in_text words address = (address % 4 == 0) && (nat_le 4096 address && nat_lt address (4096 + 4 * words))
+
+-- ---- the memory
+
+unfoldable pub item_at : ℕ → ℕ → List ℕ → Result (Item × List ℕ) ℕ
+item_at size free = do
+  offset ← checked (λ o. nat_le free o && nat_le o size) u32_at
+  bytes ← checked (λ b. nat_le (offset + length b) size) text_at
+  done (record { offset = offset; bytes = bytes })
+
+abbrev pub next_free : ℕ → Item → ℕ
+next_free free i = free_behind i
+
+unfoldable pub memory_at : List ℕ → Result (MemoryValue × List ℕ) ℕ
+memory_at = do
+  entry ← u32_at
+  stack ← u32_at
+  stack_end ← checked (λ e. nat_le e 67108864) u32_at
+  count ← checked (λ n. nat_le n 65536) u32_at
+  words ← repeated u32_at count
+  data_size ← checked (λ s. nat_le (data_start count + s) stack_end) u32_at
+  item_count ← u32_at
+  items ← items_at (item_at data_size) next_free item_count 0
+  done (record { entry = entry; stack = stack; stack_end = stack_end; words = words; data_size = data_size; items = items })
+
+-- ---- the map
+
+unfoldable pub function_at : List (List ℕ) → ℕ → List ℕ → Result (Function × List ℕ) ℕ
+function_at names words = do
+  name ← name_at names
+  address ← checked (is_in_text words) u32_at
+  frame ← u32_at
+  done (record { name = name; address = address; frame = frame })
+
+unfoldable pub global_at : List (List ℕ) → List ℕ → Result (GlobalObject × List ℕ) ℕ
+global_at names = do
+  name ← name_at names
+  address ← u32_at
+  done (record { name = name; address = address })
+
+-- ---- the payload
+
+-- a late rule that is broken at a place
+abbrev pub broken_at : Option ℕ → Result (Unit {0}) ℕ
+broken_at None = Ok tt
+broken_at (Some left) = Err left
+
+-- whether the entry is a word's address, by the count of words that stands twelve bytes behind it
+unfoldable pub start_at : List ℕ → Result (Bool × List ℕ) ℕ
+start_at = do
+  entry ← u32_at
+  numbers ← bytes_at 8
+  count ← u32_at
+  done (is_in_text count entry)
+
+abbrev pub is_lawful_start : Result (Bool × List ℕ) ℕ → Bool
+is_lawful_start (Ok x) = x.0
+is_lawful_start (Err left) = false
+
+unfoldable pub contents_at : List ℕ → Result (Contents × List ℕ) ℕ
+contents_at = do
+  memory ← memory_at
+  names ← names_at
+  behind ← here
+  function_count ← u32_at
+  functions ← repeated (function_at names (length memory.words)) function_count
+  global_count ← u32_at
+  globals ← repeated (global_at names) global_count
+  let image : ImageValue = record { memory = memory; functions = functions; globals = globals } in ended (first_unused names (names_of image) behind) (record { names = names; image = image })
+
+-- the entry is looked at first: no word of the text is known where the count of words is short
+unfoldable pub payload_at : List ℕ → Result (Contents × List ℕ) ℕ
+payload_at bytes = if is_lawful_start (start_at bytes) then contents_at bytes else Err (length bytes)
+
+unfoldable pub image_file_at : List ℕ → Result Contents ℕ
+image_file_at bytes = file_at kind 1 1 (λ version. payload_at) bytes
+
+-- the image alone
+abbrev pub image_of : Result Contents ℕ → Result ImageValue ℕ
+image_of (Ok c) = Ok c.image
+image_of (Err at) = Err at

@@ -1,0 +1,49 @@
+//! The image of a linked program.
+
+use pw_value::Name;
+
+/// Bytes at an offset from the start of the data.
+#[derive(Debug, Drop)]
+pub struct DataItem {
+    pub offset: u32,
+    pub bytes: Vec<u8>,
+}
+
+/// What a machine starts with. The text has its words from the address 4,096 on, and the data start
+/// behind it at the next multiple of 8; what no item of the data fills is 0.
+#[derive(Debug, Drop)]
+pub struct Memory {
+    /// The address at which the run starts.
+    pub entry: u32,
+    /// The bytes of the stack.
+    pub stack: u32,
+    /// The address behind the stack.
+    pub stack_end: u32,
+    pub words: Vec<u32>,
+    /// The bytes of the data.
+    pub data_size: u32,
+    pub items: Vec<DataItem>,
+}
+
+/// Where a function stands, and the bytes of its frame.
+#[derive(Debug, Drop)]
+pub struct Function {
+    pub name: Name,
+    pub address: u32,
+    pub frame: u32,
+}
+
+/// Where an object with static lifetime stands.
+#[derive(Debug, Drop)]
+pub struct GlobalObject {
+    pub name: Name,
+    pub address: u32,
+}
+
+/// A program's memory, and the map of its functions and global objects in the order of linking.
+#[derive(Debug, Drop)]
+pub struct Image {
+    pub memory: Memory,
+    pub functions: Vec<Function>,
+    pub globals: Vec<GlobalObject>,
+}

@@ -1,0 +1,12 @@
+//! The image file of a linked program: what a machine starts with, and the map of its names.
+#![tactic(auto)]
+
+mod image;
+pub mod laws;
+mod reading;
+
+pub use image::{DataItem, Function, GlobalObject, Image, Memory};
+pub use reading::{KIND, read_image};
+
+#[cfg(test)]
+mod tests;
