@@ -18,7 +18,10 @@ pub struct FileStore<'a, R> {
 }
 
 /// The names of the files in the current folder, in byte order. A name that is no text is left out, and so is a folder.
-fn file_names<R: Files + AllocGlobal + Clone + Drop>(alloc: Global, rt: &R) -> io::Result<Vec<String>> {
+fn file_names<R: Files + AllocGlobal + Clone + Drop>(
+    alloc: Global,
+    rt: &R,
+) -> io::Result<Vec<String>> {
     let mut names = Vec::new(alloc);
     for entry in fs::read_dir(rt, ".")? {
         match entry {
@@ -36,7 +39,12 @@ fn file_names<R: Files + AllocGlobal + Clone + Drop>(alloc: Global, rt: &R) -> i
 }
 
 /// The first `most` bytes of a file.
-fn file_front<R: Files + AllocGlobal>(alloc: Global, rt: &R, name: &str, most: usize) -> io::Result<Vec<u8>> {
+fn file_front<R: Files + AllocGlobal>(
+    alloc: Global,
+    rt: &R,
+    name: &str,
+    most: usize,
+) -> io::Result<Vec<u8>> {
     let mut file = fs::open(rt, name)?;
     let mut bytes = Vec::new(alloc);
     let mut chunk = [0u8; 4096];
@@ -80,7 +88,12 @@ impl<'a, R: Files + AllocGlobal + Clone + Drop> Store for FileStore<'a, R> {
         }
     }
 
-    fn get(&mut self, alloc: Global, name: &str, most: usize) -> Result<Option<Vec<u8>>, StoreError> {
+    fn get(
+        &mut self,
+        alloc: Global,
+        name: &str,
+        most: usize,
+    ) -> Result<Option<Vec<u8>>, StoreError> {
         match file_front(alloc, self.rt, name, most) {
             Ok(bytes) => Ok(Some(bytes)),
             Err(fault) if fault.kind() == ErrorKind::NotFound => Ok(None),

@@ -22,7 +22,10 @@ fn words_of(alloc: Global, line: &str) -> Result<Vec<String>, AllocError> {
 
 /// Puts a file behind others.
 fn push_file(alloc: Global, files: &mut Files, name: &str, text: &[u8]) -> Result<(), AllocError> {
-    let file = (String::from_str(alloc, name)?, Vec::from_slice(alloc, text)?);
+    let file = (
+        String::from_str(alloc, name)?,
+        Vec::from_slice(alloc, text)?,
+    );
     files.push(file)?;
     Ok(())
 }
@@ -51,7 +54,11 @@ const TEXTS: [(&str, u8, &str); 21] = [
     ("int main(void){return 255+2;}", 1, ""),
     ("int main(void){return 0;}", 0, ""),
     ("int main(void){return 8191;}", 255, ""),
-    (" int\tmain\n(\x0cvoid\x0b)\r{ return 1 + 2 + 3 ; } \n", 6, ""),
+    (
+        " int\tmain\n(\x0cvoid\x0b)\r{ return 1 + 2 + 3 ; } \n",
+        6,
+        "",
+    ),
     ("", 113, REFUSED),
     ("int main(void){return 8192;}", 113, REFUSED),
     ("int main(void){return 07;}", 113, REFUSED),
@@ -87,15 +94,69 @@ const STORES: [(&[(&str, &str)], &str, u8, &str); 12] = [
     (&[], "go", 114, "link: NoMain\n"),
     (&[], "frob", 112, "usage\n"),
     (&[], "", 112, "usage\n"),
-    (&[("a.i", "int main(void){return 7;}")], "go go", 112, "usage\n"),
-    (&[("a.c", ""), (".i", ""), ("a", ""), ("a b.i", ""), ("a.i.i", "")], "go", 114, "link: NoMain\n"),
-    (&[("Z_9-.i", "int main(void){return 5;}"), ("b.o", "")], "go", 5, ""),
-    (&[("a.i", "int main(void){return 7;}"), ("b.i", "int main(void){return 7;}")], "go", 113, "b.i:1: Unsupported NotYet at token 1\n"),
-    (&[("a.i", "int main(void){return 7;}"), ("b.i", "\n\nx")], "go", 113, "b.i:3: Unsupported NotYet at token 1\n"),
-    (&[("a.i", "x"), ("b.i", "int main(void){return 7;}")], "go", 113, REFUSED),
-    (&[("a-b.i", "x"), ("a.i", "int main(void){return 7;}")], "go", 113, "a-b.i:1: Unsupported NotYet at token 1\n"),
-    (&[("a-b.i", "int main(void){return 7;}"), ("a.i", "x")], "go", 113, REFUSED),
-    (&[("a.i", "x"), ("B.i", "y"), ("1.i", "z")], "go", 113, "1.i:1: Unsupported NotYet at token 1\n"),
+    (
+        &[("a.i", "int main(void){return 7;}")],
+        "go go",
+        112,
+        "usage\n",
+    ),
+    (
+        &[
+            ("a.c", ""),
+            (".i", ""),
+            ("a", ""),
+            ("a b.i", ""),
+            ("a.i.i", ""),
+        ],
+        "go",
+        114,
+        "link: NoMain\n",
+    ),
+    (
+        &[("Z_9-.i", "int main(void){return 5;}"), ("b.o", "")],
+        "go",
+        5,
+        "",
+    ),
+    (
+        &[
+            ("a.i", "int main(void){return 7;}"),
+            ("b.i", "int main(void){return 7;}"),
+        ],
+        "go",
+        113,
+        "b.i:1: Unsupported NotYet at token 1\n",
+    ),
+    (
+        &[("a.i", "int main(void){return 7;}"), ("b.i", "\n\nx")],
+        "go",
+        113,
+        "b.i:3: Unsupported NotYet at token 1\n",
+    ),
+    (
+        &[("a.i", "x"), ("b.i", "int main(void){return 7;}")],
+        "go",
+        113,
+        REFUSED,
+    ),
+    (
+        &[("a-b.i", "x"), ("a.i", "int main(void){return 7;}")],
+        "go",
+        113,
+        "a-b.i:1: Unsupported NotYet at token 1\n",
+    ),
+    (
+        &[("a-b.i", "int main(void){return 7;}"), ("a.i", "x")],
+        "go",
+        113,
+        REFUSED,
+    ),
+    (
+        &[("a.i", "x"), ("B.i", "y"), ("1.i", "z")],
+        "go",
+        113,
+        "1.i:1: Unsupported NotYet at token 1\n",
+    ),
 ];
 
 #[test]
@@ -140,7 +201,11 @@ fn limits(rt: HostRuntime) -> Result<(), Fail> {
     for (count, status) in [(1, 1), (200, 200), (201, 113)] {
         let mut files = Vec::new(alloc);
         push_file(alloc, &mut files, "a.i", ones(alloc, count)?.as_slice())?;
-        assert_eq!(rt; told(alloc, &files, "go", &[])?.0, status, "at {count} numbers");
+        assert_eq!(rt;
+            told(alloc, &files, "go", &[])?.0,
+            status,
+            "at {count} numbers"
+        );
     }
     for (bytes, status) in [(1_048_576, 7), (1_048_577, 113)] {
         let mut text = vec![in alloc; b' '; 1_048_551]?;
@@ -148,7 +213,11 @@ fn limits(rt: HostRuntime) -> Result<(), Fail> {
         text.resize(bytes, b' ')?;
         let mut files = Vec::new(alloc);
         push_file(alloc, &mut files, "a.i", text.as_slice())?;
-        assert_eq!(rt; told(alloc, &files, "go", &[])?.0, status, "at {bytes} bytes");
+        assert_eq!(rt;
+            told(alloc, &files, "go", &[])?.0,
+            status,
+            "at {bytes} bytes"
+        );
     }
     for (count, bytes, line) in [
         (256, 0, "m000.i:1: Unsupported NotYet at token 1\n"),
@@ -169,7 +238,11 @@ fn faults(rt: HostRuntime) -> Result<(), Fail> {
     let alloc = rt.alloc();
     let mut files = Vec::new(alloc);
     push_file(alloc, &mut files, "a.i", b"int main(void){return 7;}")?;
-    for (call, status, line) in [(1, 120, "StoreFault\n"), (2, 120, "StoreFault\n"), (3, 7, "")] {
+    for (call, status, line) in [
+        (1, 120, "StoreFault\n"),
+        (2, 120, "StoreFault\n"),
+        (3, 7, ""),
+    ] {
         let fails = [StoreFail {
             call,
             leaves: Left::Old,

@@ -1,12 +1,12 @@
 -- Whatever program was built, its words agree with it.
 use Rattle.std.proofs.Common.{◌≡◌, ℕ, Bool, true, false, cond, List, [], ◌∷◌, Option, Some, None, refl}
-use Rattle.std.specs.Prelude.{nat_lt, count_by, MatchOption, IfSome}
+use Rattle.std.specs.Prelude.{nat_lt, count_by, IfSome}
 use Rattle.std.specs.FinMap as finite
 use Rattle.pw_io.specs.Files.{Files, Told}
 use Rattle.pw_top.specs.SumProgram.{IsSumProgram, numbers_in}
 use Rattle.pw_top.specs.Modules.{Source, is_module_file, module_files, sources_of, text_bytes}
 use Rattle.pw_top.specs.declared.answer.What.TheVariants.{Modules, TextBytes}
-use Rattle.pw_top.specs.FullBuild.{Build, Program, alone, by_numbers, build_of_sources, build_within, build_named, full_build, too_many}
+use Rattle.pw_top.specs.FullBuild.{alone, by_numbers, build_of_sources, build_within, full_build, too_many}
 use Rattle.pw_top.specs.Code.{words_of}
 use Rattle.pw_top.specs.Agreement.{Agree, FramesFit, frames_of, rooms_of}
 use Rattle.pw_top.specs.TopCall.{BuiltAgrees}

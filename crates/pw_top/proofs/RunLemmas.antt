@@ -1,15 +1,14 @@
 -- A run's output only grows, and what the machine answers is what is wanted of its run.
-use Rattle.std.proofs.Common.{◌≡◌, ℕ, zero, suc, ◌+◌, ◌<◌, ◌≤◌, ◌⊎◌, ⊎_elim, inl, inr, List, [], ◌∷◌, ◌++◌, Option, Some, None, refl, sym, ap, arith, ◌∙◌, subst, append_assoc, append-nil}
-use Rattle.std.specs.Prelude.{IfSome}
+use Rattle.std.proofs.Common.{◌≡◌, ℕ, zero, suc, ◌≤◌, ⊎_elim, List, [], ◌∷◌, ◌++◌, Option, refl, sym, ap, arith, ◌∙◌, subst, append_assoc, append-nil}
 use Rattle.std.proofs.lemmas.Bool.{cases_lt}
 use Rattle.pw_machine.specs.declared.ends.Stop.{Stop}
 use Rattle.pw_machine.specs.declared.ends.Stop.TheVariants as stop
 use Rattle.pw_machine.specs.Core.{Core}
 use Rattle.pw_machine.specs.Effect.{Effect, Goes, Reads, Writes, Stops, effect_of}
 use Rattle.pw_machine.specs.Run.{State, Progress, Running, Stopped, taken, reads, goes_on, run_of}
-use Rattle.pw_machine.specs.Stops.{Snapshot, IsRun, IsRunFrom, RunsOver, Comes, ReadCount, WriteCount}
+use Rattle.pw_machine.specs.Stops.{IsRunFrom}
 use Rattle.pw_io.specs.Streams.{Appends}
-use Rattle.pw_top.specs.TopCall.{run_answer, run_output, stop_answer, Answers, IsRunAnswer, IsWhole, PutsOut, InputCount, OutputCount}
+use Rattle.pw_top.specs.TopCall.{run_output, stop_answer, IsWhole, PutsOut}
 
 -- one list begins with another
 abbrev Begins : List ℕ → List ℕ → Type 0
@@ -41,9 +40,9 @@ unfolding run_of
 run_grows s n zero h = let same : n ≡ 0 = omega arith in let P : ℕ → Type 0 = λ k. Begins (run_output (run_of k s)) (run_output (run_of 0 s)) in subst P (sym same) (begins_itself _)
 run_grows s n (suc m) h =
     ⊎_elim
-      (λ less. let same : n ≡ suc m = omega arith in let P : ℕ → Type 0 = λ k. Begins (run_output (run_of k s)) (run_output (goes_on (run_of m s))) in subst P (sym same) (begins_itself _))
-      (λ more. begins_longer (run_output (run_of n s)) (run_output (run_of m s)) _ (run_grows s n m more) (step_grows (run_of m s)))
-      (cases_lt m n)
+    (λ less. let same : n ≡ suc m = omega arith in let P : ℕ → Type 0 = λ k. Begins (run_output (run_of k s)) (run_output (goes_on (run_of m s))) in subst P (sym same) (begins_itself _))
+    (λ more. begins_longer (run_output (run_of n s)) (run_output (run_of m s)) _ (run_grows s n m more) (step_grows (run_of m s)))
+    (cases_lt m n)
 
 -- the state in which a run over an input starts
 abbrev pub started : Core → List ℕ → State

@@ -1,6 +1,6 @@
 -- `numbers_in` answers the numbers of exactly the sum programs.
-use Rattle.std.proofs.Common.{◌≡◌, ℕ, zero, suc, ◌+◌, ◌-◌, ◌*◌, ◌^◌, ◌<◌, ◌≤◌, Bool, true, false, ◌&&◌, cond, List, [], ◌∷◌, ◌++◌, length, get_or, Option, ◌↔◌, Some, None, refl, sym, ap, arith, ◌∙◌, subst, append_assoc, rules}
-use Rattle.std.specs.Prelude.{unwrap_or, option_and_then, nat_le, ◌==◌, codes}
+use Rattle.std.proofs.Common.{◌≡◌, ℕ, zero, suc, ◌+◌, ◌-◌, ◌*◌, ◌^◌, ◌<◌, ◌≤◌, Bool, true, false, ◌&&◌, cond, List, [], ◌∷◌, ◌++◌, length, get_or, Option, ◌↔◌, Some, None, refl, sym, ap, arith, ◌∙◌, subst, rules}
+use Rattle.std.specs.Prelude.{unwrap_or, option_and_then, nat_le, codes}
 use Rattle.std.specs.Option.{option_map}
 use Rattle.std.specs.Str.{bytes_eq, all_ascii_digits}
 use Rattle.std.specs.Char.{is_ascii_digit}
@@ -9,7 +9,6 @@ use Rattle.std.specs.List.{AllByRecursion}
 use Rattle.std.proofs.lemmas.Str.Parse.{IsNumeralModel, numerals_by_fold}
 use Rattle.std.proofs.lemmas.Fmt.{decimal-digits_value, digits_decimal, digits_value-decimal, decimal_nonempty, first_decimal, decimal_digit}
 use Rattle.std.proofs.lemmas.Slice.Eq.{bytes_eq-Decides}
-use Rattle.std.proofs.lemmas.Option.{option_and_then_some}
 use Rattle.std.proofs.lemmas.Bool.Decides.{nat_tests}
 use Rattle.pw_top.specs.Tokens.{tokens}
 use Rattle.pw_top.specs.SumProgram.{IsSumProgram, opening, closing, sum_tokens, read_digits, has_no_number, number_in, is_last_brace, term_at, sum_from, terms, without_front, numbers_in}
@@ -188,9 +187,9 @@ term_told (t ∷ u ∷ ts) x e =
     let b = bound _ (number_in t) x e in
     let d = number_is_decimal t b.0 b.1 in
     joint_told u ts b.0 x (bytes_eq u (codes "+")) (bytes_eq u (codes ";") && is_last_brace ts)
-      (bytes_eq-Decides u (codes "+")).0
-      (λ h. let p = halves (bytes_eq u (codes ";")) (is_last_brace ts) h in ap (λ v. v ∷ ts) ((bytes_eq-Decides u (codes ";")).0 p.0) ∙ ap (λ rest. codes ";" ∷ rest) (brace_is_last ts p.1))
-      b.2 t d.0 d.1
+    (bytes_eq-Decides u (codes "+")).0
+    (λ h. let p = halves (bytes_eq u (codes ";")) (is_last_brace ts) h in ap (λ v. v ∷ ts) ((bytes_eq-Decides u (codes ";")).0 p.0) ∙ ap (λ rest. codes ";" ∷ rest) (brace_is_last ts p.1))
+    b.2 t d.0 d.1
 
 mapped : {A B : Type 0} (f : A → B) (o : Option A) (y : B) → option_map f o ≡ Some y → (x : A) × (o ≡ Some x) × (f x ≡ y)
 mapped f None y e = cc

@@ -1,7 +1,6 @@
 -- The tokens of a text by its first byte.
-use Rattle.std.proofs.Common.{◌≡◌, ℕ, ◌+◌, ◌<◌, ◌≤◌, Bool, true, false, ◌&&◌, List, [], ◌∷◌, length, take, drop, get_or, refl, sym, ap, arith, ◌∙◌, cond, suc, subst}
+use Rattle.std.proofs.Common.{◌≡◌, ℕ, ◌+◌, ◌<◌, true, false, ◌&&◌, List, [], ◌∷◌, length, take, drop, get_or, refl, sym, ap, arith, ◌∙◌, cond, suc, subst}
 use Rattle.std.specs.List.{prefix_len}
-use Rattle.std.proofs.lemmas.Grind.{common_steps}
 use Rattle.std.proofs.lemmas.Bool.Decides.{nat_tests}
 use Rattle.pw_top.specs.Tokens.{is_blank, is_word_byte, tokens, begins_with_word, lengthened}
 

@@ -1,13 +1,13 @@
 -- The answer, the output and the line of the top call.
-use Rattle.std.proofs.Common.{◌≡◌, ℕ, zero, suc, ◌+◌, ◌-◌, ◌<◌, ◌≤◌, ◌⊎◌, ⊎_elim, inl, inr, Bool, true, false, List, [], ◌∷◌, ◌++◌, take, drop, Option, Some, None, Result, Ok, Err, refl, sym, ap, arith, ◌∙◌, subst, append_assoc, append-nil}
-use Rattle.std.specs.Prelude.{OnOk, OnErr, IfSome, MatchBool, ◌↔◌}
+use Rattle.std.proofs.Common.{◌≡◌, ℕ, ⊎_elim, inl, inr, Bool, true, false, List, [], take, drop, Option, Some, None, Result, Ok, Err, refl, sym, ap, ◌∙◌, subst, append-nil}
+use Rattle.std.specs.Prelude.{OnOk, OnErr, MatchBool, ◌↔◌}
 use Rattle.std.proofs.lemmas.List.{take-append-drop}
 use Rattle.pw_io.specs.declared.Failed.{Failed}
-use Rattle.pw_io.specs.Faults.{Rose, HasCause}
+use Rattle.pw_io.specs.Faults.{HasCause}
 use Rattle.pw_io.specs.Streams.{Appends, AppendsPart}
 use Rattle.pw_top.specs.declared.answer.Refusal.{Refusal}
 use Rattle.pw_top.specs.declared.answer.Answer.{Answer}
-use Rattle.pw_top.specs.declared.answer.Answer.TheVariants.{Ended, Usage, Refused, LinkRefused, StackStop, Spent, Halted, ReadFault, WriteFault, StoreFault, NoMemory}
+use Rattle.pw_top.specs.declared.answer.Answer.TheVariants.{Usage, Refused, LinkRefused, Halted, NoMemory}
 use Rattle.pw_top.specs.FullBuild as build
 use Rattle.pw_top.specs.FullBuild.{Build}
 use Rattle.pw_top.specs.Answers.{line_text, NeedsMemory}
@@ -47,9 +47,9 @@ told_by P answer told t p q = ⊎_elim (λ e. subst P (sym e) p) (λ n. subst P 
 pub told_usage : (answer told : Answer) (P : Type 0) → ToldAs answer told → ((answer ≡ Usage) ↔ P) → ((told ≡ Usage) ↔ P)
 told_usage answer told P t same =
     ⊎_elim {C = (told ≡ Usage) ↔ P}
-      (λ e. ((λ u. same.0 (sym e ∙ u)), (λ p. e ∙ same.1 p)))
-      (λ n. ((λ u. absurd (no_memory_is_no_usage (sym n.1 ∙ u))), (λ p. absurd (usage_needs_none answer (same.1 p) n.0))))
-      t
+    (λ e. ((λ u. same.0 (sym e ∙ u)), (λ p. e ∙ same.1 p)))
+    (λ n. ((λ u. absurd (no_memory_is_no_usage (sym n.1 ∙ u))), (λ p. absurd (usage_needs_none answer (same.1 p) n.0))))
+    t
 
 pub answers_no_memory : (wanted answer : Answer) → NeedsMemory answer → Answers wanted answer → Answers wanted NoMemory
 answers_no_memory wanted answer n h = tt
@@ -82,9 +82,9 @@ output_no_memory before now _ n h = absurd n
 pub same_line : (built : Build) (answer told : Answer) (line : ℕ) → IsLineOf built answer line → ToldAs answer told → line_text line told ≡ line_text (refused_line built) told
 same_line built answer (Refused name refusal) line l t =
     ⊎_elim
-      (λ e. let P : Answer → Type 0 = λ a. IsLineOf built a line in ap (λ n. line_text n (Refused name refusal)) (subst P (sym e) l))
-      (λ n. absurd (refused_is_some_memory name refusal n.1))
-      t
+    (λ e. let P : Answer → Type 0 = λ a. IsLineOf built a line in ap (λ n. line_text n (Refused name refusal)) (subst P (sym e) l))
+    (λ n. absurd (refused_is_some_memory name refusal n.1))
+    t
 same_line built answer _ line l t = refl
 
 -- and of every answer that names no module

@@ -1,10 +1,9 @@
 -- Agreement of source and machine: the built words behave as the C program does.
-use Rattle.std.specs.Prelude.{◌≡◌, ℕ, zero, suc, ◌+◌, ◌-◌, ◌*◌, ◌≤◌, List, [], length}
+use Rattle.std.specs.Prelude.{◌≡◌, ℕ, ◌+◌, ◌-◌, ◌*◌, ◌≤◌, List, [], length}
 use Rattle.pw_machine.specs.declared.ends.End.TheVariants as machine
-use Rattle.pw_machine.specs.Run.{State, Progress, Running, Stopped, run_of}
+use Rattle.pw_machine.specs.Run.{State, Running, Stopped, run_of}
 use Rattle.pw_machine.specs.Start.{start_core}
 use Rattle.pw_top.specs.SourceRun.{SourceEnd, SourceRun, Frames, source_run, Ended, Stack, Bound}
-use Rattle.pw_top.specs.Code.{words_of}
 
 -- the machine with these words at their start, over an input
 abbrev pub start_of : List ℕ → List ℕ → State

@@ -1,5 +1,5 @@
 -- The status and the line of each answer.
-use Rattle.std.specs.Prelude.{ℕ, List, [], ◌∷◌, ◌++◌, codes}
+use Rattle.std.specs.Prelude.{ℕ, List, [], ◌++◌, codes}
 use Rattle.std.specs.Fmt.{decimal}
 use Rattle.pw_machine.specs.declared.ends.Halt.{Halt}
 use Rattle.pw_machine.specs.declared.ends.Halt.TheVariants.{Illegal, Unaligned, OutOfMemoryRange, TextWrite, BadBranch, BadBreak}

@@ -1,5 +1,4 @@
 -- What the code's modules and builds stand for.
-use Rattle.std.specs.Prelude.{ℕ, List}
 use Rattle.pw_top.specs.declared.modules.Module.{Module}
 use Rattle.pw_top.specs.declared.build.Built.{Built}
 use Rattle.pw_top.specs.declared.build.Built.TheVariants as built

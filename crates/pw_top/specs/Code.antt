@@ -1,5 +1,5 @@
 -- The code of a sum program: its instructions, and the words that are built.
-use Rattle.std.specs.Prelude.{ℕ, ℤ, pos, List, [], ◌∷◌, ◌++◌, map}
+use Rattle.std.specs.Prelude.{ℕ, pos, List, [], ◌∷◌, ◌++◌, map}
 use Rattle.std.specs.List.{flat_map}
 use Rattle.pw_inst.specs.declared.Inst.{Inst}
 use Rattle.pw_inst.specs.declared.Inst.TheVariants.{Ldo, Or, Addl, Break}

@@ -1,5 +1,5 @@
 -- The full build: what the files of a store are, a program or a refusal.
-use Rattle.std.specs.Prelude.{ℕ, ◌+◌, ◌<◌, nat_lt, if◌then◌else◌, List, [], ◌∷◌, length, count_by, Option, Some, None}
+use Rattle.std.specs.Prelude.{ℕ, nat_lt, if◌then◌else◌, List, [], ◌∷◌, count_by, Option, Some, None}
 use Rattle.std.specs.FinMap as finite
 use Rattle.pw_io.specs.Files.{Files}
 use Rattle.pw_top.specs.declared.answer.Refusal.{Refusal}

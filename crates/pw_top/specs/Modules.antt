@@ -1,6 +1,6 @@
 -- The modules of a store: the files named `NAME.i`, in the byte order of the names without `.i`, and their texts.
-use Rattle.std.specs.Prelude.{◌≡◌, ℕ, ◌+◌, ◌-◌, ◌≤◌, Bool, true, false, ◌==◌, ◌&&◌, ◌||◌, nat_le, if◌then◌else◌, List, [], ◌∷◌, ◌++◌, length, take, drop, fold, codes, Option, Some, None, insert, sum_by}
-use Rattle.std.specs.Option.{option_map, option_map_or}
+use Rattle.std.specs.Prelude.{◌≡◌, ℕ, ◌-◌, Bool, true, ◌==◌, ◌&&◌, ◌||◌, nat_le, if◌then◌else◌, List, [], length, take, drop, fold, codes, Option, insert, sum_by}
+use Rattle.std.specs.Option.{option_map}
 use Rattle.std.specs.List.{list_all, position_or_len, filter_map}
 use Rattle.std.specs.Str.{bytes_eq}
 use Rattle.std.specs.Ordering.{nat_cmp, is_lt}

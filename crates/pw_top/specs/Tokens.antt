@@ -1,5 +1,5 @@
 -- The tokens of a text: each longest run of letters, digits and underscores, and each other byte that is no blank.
-use Rattle.std.specs.Prelude.{◌≡◌, ℕ, ◌+◌, Bool, true, false, ◌==◌, ◌&&◌, ◌||◌, nat_le, if◌then◌else◌, List, [], ◌∷◌, count_by, take_while}
+use Rattle.std.specs.Prelude.{ℕ, ◌+◌, Bool, false, ◌==◌, ◌&&◌, ◌||◌, nat_le, if◌then◌else◌, List, [], ◌∷◌, count_by, take_while}
 
 -- space, tab, newline, vertical tab, form feed, carriage return (C90 5.2.1)
 abbrev pub is_blank : ℕ → Bool

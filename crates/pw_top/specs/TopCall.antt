@@ -1,17 +1,15 @@
 -- What a call of the program answers, puts out and leaves.
-use Rattle.std.specs.Prelude.{◌≡◌, ℕ, ◌+◌, ◌⊎◌, Bool, true, false, if◌then◌else◌, MatchBool, List, [], ◌∷◌, ◌++◌, codes, Option, IfSome, IsSomeAnd}
+use Rattle.std.specs.Prelude.{◌≡◌, ℕ, ◌⊎◌, Bool, false, if◌then◌else◌, MatchBool, List, [], ◌∷◌, ◌++◌, codes, Option, IfSome, IsSomeAnd}
 use Rattle.std.specs.Str.{bytes_eq}
-use Rattle.pw_io.specs.Files.{Files}
 use Rattle.pw_io.specs.Faults.{Rose}
 use Rattle.pw_io.specs.Streams.{Appends}
 use Rattle.pw_machine.specs.declared.ends.End.TheVariants as end
 use Rattle.pw_machine.specs.declared.ends.End.{End}
 use Rattle.pw_machine.specs.declared.ends.Stop.{Stop}
 use Rattle.pw_machine.specs.declared.ends.Stop.TheVariants as stop
-use Rattle.pw_machine.specs.Run.{State, Progress, Running, Stopped, run_of}
+use Rattle.pw_machine.specs.Run.{Progress, Running, Stopped, run_of}
 use Rattle.pw_top.specs.declared.answer.Answer.{Answer}
 use Rattle.pw_top.specs.declared.answer.Answer.TheVariants.{Ended, Usage, Refused, LinkRefused, StackStop, Spent, Halted, ReadFault, WriteFault, StoreFault, NoMemory}
-use Rattle.pw_top.specs.SumProgram.{IsSumProgram}
 use Rattle.pw_top.specs.FullBuild as build
 use Rattle.pw_top.specs.FullBuild.{Build, full_build}
 use Rattle.pw_top.specs.Code.{words_of}

@@ -61,7 +61,11 @@ fn build_of(alloc: Global, modules: &[Module]) -> Result<Built, AllocError>
 }
 
 /// Reads a module's text.
-fn read_source<S: Store>(alloc: Global, store: &mut S, file: &str) -> Result<Option<Module>, StoreError>
+fn read_source<S: Store>(
+    alloc: Global,
+    store: &mut S,
+    file: &str,
+) -> Result<Option<Module>, StoreError>
     requires { IsModuleFile file.now }
     ensures read { IfSome (S.told store.old) (λ told. IfOk result (λ found. option_map source found ≡ source_of told.files file.now)) }
     ensures same { Keeps (S.told store.old) (S.told store.new) }
@@ -142,7 +146,11 @@ pub fn build<S: Store>(alloc: Global, store: &mut S) -> Result<Built, StoreError
 }
 
 /// What files of these names come to.
-fn build_named<S: Store>(alloc: Global, store: &mut S, names: &[String]) -> Result<Built, StoreError>
+fn build_named<S: Store>(
+    alloc: Global,
+    store: &mut S,
+    names: &[String],
+) -> Result<Built, StoreError>
     ensures built { IfSome (S.told store.old) (λ told. IfOk result (λ built. build_view built ≡ build_named told.files (map string_bytes names.now))) }
     ensures same { Keeps (S.told store.old) (S.told store.new) }
     ensures cause { HasStoreCause (S.faults store.old) (S.faults store.new) result }
@@ -158,7 +166,11 @@ fn build_named<S: Store>(alloc: Global, store: &mut S, names: &[String]) -> Resu
 }
 
 /// What modules come to, given their files in order.
-fn build_files<S: Store>(alloc: Global, store: &mut S, files: &[String]) -> Result<Built, StoreError>
+fn build_files<S: Store>(
+    alloc: Global,
+    store: &mut S,
+    files: &[String],
+) -> Result<Built, StoreError>
     requires modules { All (λ file. IsModuleFile (string_bytes file)) files.now }
     requires few { length files.now ≤ 256 }
     ensures built { IfSome (S.told store.old) (λ told. IfOk result (λ built. build_view built ≡ build_within (sources_of told.files (map string_bytes files.now)))) }

@@ -152,5 +152,4 @@ pub fn sum_in(alloc: Global, text: &[u8]) -> Result<Option<Sum>, AllocError>
 /// zero, in a text of at most 1,048,576 bytes, have numbers.
 pub fn form_is_exact()
     ensures { (text numbers : List ℕ) → (numbers_in text ≡ Some numbers) ↔ IsSumProgram text numbers }
-{
-}
+{}

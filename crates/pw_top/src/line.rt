@@ -50,7 +50,12 @@ fn push_decimal(alloc: Global, text: &mut Vec<u8>, number: u64) -> Result<(), Al
 }
 
 /// Puts behind a text what is not compiled, and at which token.
-fn push_unsupported(alloc: Global, text: &mut Vec<u8>, token: usize, feature: Feature) -> Result<(), AllocError>
+fn push_unsupported(
+    alloc: Global,
+    text: &mut Vec<u8>,
+    token: usize,
+    feature: Feature,
+) -> Result<(), AllocError>
     ensures { OnOk result (text.new.items ≡ text.old.items ++ refusal_text (Refusal.Unsupported token feature)) }
 {
     text.extend_from_slice(b"Unsupported ")?;
@@ -83,7 +88,12 @@ fn push_link_fault(alloc: Global, text: &mut Vec<u8>, fault: &LinkFault) -> Resu
 }
 
 /// The line of a module that is refused, where its first token stands on line `line` of its text.
-fn refused_line(alloc: Global, name: &Name, refusal: &Refusal, line: usize) -> Result<Vec<u8>, AllocError>
+fn refused_line(
+    alloc: Global,
+    name: &Name,
+    refusal: &Refusal,
+    line: usize,
+) -> Result<Vec<u8>, AllocError>
     ensures { IfOk result (λ text. text.items ≡ line_text line (Answer.Refused name.now refusal.now)) }
 {
     let mut text = Vec::from_slice(alloc, name.as_bytes())?;

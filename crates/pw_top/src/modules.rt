@@ -96,7 +96,10 @@ fn first_behind(files: &[String], file: &str) -> usize
 pub fn module_count(names: &[String]) -> usize
     ensures { result ≡ count_by (λ name. is_module_file (string_bytes name)) names.now }
 {
-    names.iter().filter(|name| is_module_file(name.as_str())).count()
+    names
+        .iter()
+        .filter(|name| is_module_file(name.as_str()))
+        .count()
 }
 
 /// Puts a name into its place among the modules' files, where it is a module's file.

@@ -31,7 +31,12 @@ fn answer_of(stop: Stop) -> Answer
 }
 
 /// Runs words from their first on.
-pub fn run_words<I: Source, O: Sink>(alloc: Global, words: &[u32], input: &mut I, out: &mut O) -> Answer
+pub fn run_words<I: Source, O: Sink>(
+    alloc: Global,
+    words: &[u32],
+    input: &mut I,
+    out: &mut O,
+) -> Answer
     requires some { 0 < length words.now }
     requires few { length words.now ≤ 65536 }
     ensures answer { IfSome (I.rest input.old) (λ rest. Answers (run_answer (run_of 100000000 (start_of words.now rest))) result) }

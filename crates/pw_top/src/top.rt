@@ -42,7 +42,12 @@ fn put_line<E: Sink>(err: &mut E, line: &[u8])
 }
 
 /// What the build came to: the answer to a refusal, or to the run of the program.
-fn answer_built<I: Source, O: Sink>(alloc: Global, built: Built, input: &mut I, out: &mut O) -> Reply
+fn answer_built<I: Source, O: Sink>(
+    alloc: Global,
+    built: Built,
+    input: &mut I,
+    out: &mut O,
+) -> Reply
     ensures answer { IfSome (I.rest input.old) (λ rest. Answers (build_answer (build_view built) rest) result.answer) }
     ensures refusal { AnswersBuild (build_view built) result.answer }
     ensures output { IfSome (I.rest input.old) (λ rest. PutsOut (build_output (build_view built) rest) result.answer (O.taken out.old) (O.taken out.new)) }

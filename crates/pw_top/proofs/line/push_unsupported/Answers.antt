@@ -4,4 +4,4 @@ use Rattle.pw_top.proofs.line.push_unsupported.Goals as goal
 pub returns : goal.returns
 returns c =
     rw (c.in_ok-push_decimal.ensures, c.in_ok-extend_from_slice-3.ensures.items, c.in_ok-extend_from_slice-2.ensures.items, c.in_ok-extend_from_slice.ensures.items, c.feature_name.ensures)
-      (simp append_assoc)
+    (simp append_assoc)

@@ -1,4 +1,4 @@
-use Rattle.std.proofs.Common.{◌≡◌, drop, map, []}
+use Rattle.std.proofs.Common.{◌≡◌, drop, map}
 use Rattle.std.specs.Prelude.{string_bytes, fold}
 use Rattle.pw_top.specs.Modules.{with_file, module_files}
 use Rattle.pw_top.proofs.modules.placed_modules.Given as goal
