@@ -18,3 +18,6 @@ mod start;
 pub use ends::{End, Halt, Stop};
 pub use laws::{overwritten_words, runs_add_up, runs_go_on, text_words};
 pub use machine::Machine;
+
+#[cfg(test)]
+mod tests;
