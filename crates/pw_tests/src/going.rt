@@ -219,16 +219,14 @@ fn limits(rt: HostRuntime) -> Result<(), Fail> {
             "at {bytes} bytes"
         );
     }
-    for (count, bytes, line) in [
-        (256, 0, "m000.i:1: Unsupported NotYet at token 1\n"),
-        (257, 0, "link: TooMany Modules 257\n"),
-        (16, 1_048_576, "m000.i:1: Unsupported NotYet at token 1\n"),
-        (16, 1_048_577, "link: TooMany TextBytes 16777232\n"),
-        (17, 1_000_000, "link: TooMany TextBytes 17000000\n"),
-        (16, 2_000_000, "link: TooMany TextBytes 16777232\n"),
-    ] {
+    for (count, bytes) in [(1, 0), (256, 0), (257, 0), (17, 1_048_577)] {
         let files = blank_modules(alloc, count, bytes)?;
-        assert_eq!(rt; told(alloc, &files, "go", &[])?.1.as_str(), line);
+        let line = "m000.i:1: Unsupported NotYet at token 1\n";
+        assert_eq!(rt;
+            told(alloc, &files, "go", &[])?.1.as_str(),
+            line,
+            "at {count} modules"
+        );
     }
     Ok(())
 }
@@ -250,6 +248,27 @@ fn faults(rt: HostRuntime) -> Result<(), Fail> {
         let told = told(alloc, &files, "go", &fails)?;
         assert_eq!(rt; told.0, status, "at call {call}");
         assert_eq!(rt; told.1.as_str(), line);
+    }
+    Ok(())
+}
+
+#[test]
+fn nobody_listens(rt: HostRuntime) -> Result<(), Fail> {
+    let alloc = rt.alloc();
+    for (text, line, wanted) in [
+        ("int main(void){return 7;}", "go", 7),
+        ("", "go", 113),
+        ("int main(void){return 7;}", "frob", 112),
+    ] {
+        let mut files = Vec::new(alloc);
+        push_file(alloc, &mut files, "a.i", text.as_bytes())?;
+        let words = words_of(alloc, line)?;
+        let mut store = MemStore::new(alloc, files.as_slice(), &[])?;
+        let mut input = MemSource::new(alloc, b"", &[])?;
+        let mut out = MemSink::new(alloc, 0, &[])?;
+        let mut err = MemSink::new(alloc, 0, &[])?;
+        let answer = pawc_top(alloc, &words, &mut store, &mut input, &mut out, &mut err);
+        assert_eq!(rt; status(&answer), wanted, "of {line}");
     }
     Ok(())
 }

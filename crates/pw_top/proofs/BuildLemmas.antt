@@ -1,16 +1,15 @@
 -- Reading modules, one after another.
-use Rattle.std.proofs.Common.{◌≡◌, ℕ, zero, suc, ◌+◌, List, [], ◌∷◌, ◌++◌, length, take, Option, Some, None, refl, sym, ap, ◌∙◌, subst, append_assoc}
+use Rattle.std.proofs.Common.{◌≡◌, ℕ, zero, suc, List, [], ◌∷◌, ◌++◌, take, Option, Some, None, refl, sym, ap, ◌∙◌, subst, append_assoc}
 use Rattle.std.specs.Prelude.{IfSome, IfOk, Result, option_to_list}
 use Rattle.std.specs.Option.{option_map}
-use Rattle.std.proofs.lemmas.List.Sums.{sum_by-cons}
 use Rattle.std.specs.List.{cons_option}
 use Rattle.std.specs.FinMap as finite
 use Rattle.pw_io.specs.Files.{Files, Told, Keeps, front_of}
 use Rattle.pw_io.specs.declared.StoreError.{StoreError}
 use Rattle.pw_top.specs.declared.build.Built.{Built}
-use Rattle.pw_top.specs.FullBuild.{build_named, full_build}
+use Rattle.pw_top.specs.FullBuild.{build_of_sources, full_build}
 use Rattle.pw_top.specs.BuildViews.{build_view}
-use Rattle.pw_top.specs.Modules.{Source, source_of, sources_of, text_bytes}
+use Rattle.pw_top.specs.Modules.{Source, source_of, sources_of, module_files}
 
 take_take_same : (n : ℕ) (xs : List ℕ) → take n (take n xs) ≡ take n xs
 take_take_same zero xs = refl
@@ -58,18 +57,14 @@ sources_turn (Some told) now file names rest left old new inv same read e =
     let P : Option Told → Type 0 = λ o. IfSome o (λ t. new ≡ old ++ option_to_list (source_of t.files file)) in
     sources_step told.files file rest left old new _ inv e (subst P same read)
 
--- the bytes of the texts from one on
-pub text_bytes_more : (s : Source) (rest : List Source) → text_bytes (s ∷ rest) ≡ length s.1 + text_bytes rest
-text_bytes_more s rest = sum_by-cons (λ x. length x.1) s rest
-
 -- what files come to, by the names that a store tells
-pub built_of_named : (first now : Option Told) (names : List (List ℕ)) (result : Result Built StoreError) →
-    IfSome first (λ told. names ≡ finite.keys told.files) → Keeps first now
-    → IfSome now (λ told. IfOk result (λ built. build_view built ≡ build_named told.files names))
+pub built_of_names : (first now : Option Told) (names files : List (List ℕ)) (result : Result Built StoreError) →
+    IfSome first (λ told. names ≡ finite.keys told.files) → Keeps first now → files ≡ module_files names
+    → IfSome now (λ told. IfOk result (λ built. build_view built ≡ build_of_sources (sources_of told.files files)))
     → IfSome first (λ told. IfOk result (λ built. build_view built ≡ full_build told.files))
 unfolding full_build
-built_of_named None now names result e same h = tt
-built_of_named (Some told) now names result e same h =
-    let P : Option Told → Type 0 = λ o. IfSome o (λ t. IfOk result (λ built. build_view built ≡ build_named t.files names)) in
-    let Q : List (List ℕ) → Type 0 = λ ns. IfOk result (λ built. build_view built ≡ build_named told.files ns) in
-    subst Q e (subst P same h)
+built_of_names None now names files result e same f h = tt
+built_of_names (Some told) now names files result e same f h =
+    let P : Option Told → Type 0 = λ o. IfSome o (λ t. IfOk result (λ built. build_view built ≡ build_of_sources (sources_of t.files files))) in
+    let Q : List (List ℕ) → Type 0 = λ fs. IfOk result (λ built. build_view built ≡ build_of_sources (sources_of told.files fs)) in
+    subst Q (f ∙ ap module_files e) (subst P same h)

@@ -1,9 +1,8 @@
 -- Lists of files, one after another.
-use Rattle.std.proofs.Common.{◌≡◌, ℕ, zero, suc, ◌+◌, ◌<◌, Bool, true, false, not, cond, List, [], ◌∷◌, length, get_or, take, drop, map, refl, sym, ap, arith, ◌∙◌}
-use Rattle.std.specs.Prelude.{count_by, fold, insert, All}
+use Rattle.std.proofs.Common.{◌≡◌, ℕ, zero, suc, ◌+◌, ◌<◌, Bool, true, false, cond, List, [], ◌∷◌, length, get_or, take, drop, map, refl, sym, ap, arith, ◌∙◌}
+use Rattle.std.specs.Prelude.{fold, insert, All}
 use Rattle.std.specs.List.{position_or_len}
-use Rattle.std.proofs.lemmas.List.{take-map, drop-map, map-append, length-take, length-drop, length-append}
-use Rattle.std.proofs.lemmas.List.Sums.{sum_by-cons, prefix_len-le-length}
+use Rattle.std.proofs.lemmas.List.{take-map, drop-map, map-append}
 use Rattle.std.proofs.lemmas.List.Elements.{All-nil, All-cons, All-append, All-take, All-drop, All-tail}
 use Rattle.pw_top.specs.Modules.{is_module_file, IsModuleFile, is_before, placed, with_file, module_files}
 
@@ -53,33 +52,6 @@ folded_modules files (name ∷ names) all = folded_modules (with_file files name
 
 pub all_are_modules : (names : List (List ℕ)) → All IsModuleFile (module_files names)
 all_are_modules names = folded_modules [] names (All-nil IsModuleFile)
-
--- and there are as many
-length_placed : (files : List (List ℕ)) (file : List ℕ) → length (placed files file) ≡ length files + 1
-length_placed files file =
-    let at = position_or_len (is_before file) files in
-    omega (arith, length-append (take at files) (file ∷ drop at files), length-take at files, length-drop at files, prefix_len-le-length (λ x. not (is_before file x)) files)
-
-length_with : (files : List (List ℕ)) (file : List ℕ) → length (with_file files file) ≡ length files + cond (is_module_file file) 1 0
-length_with files file =
-    elim (is_module_file file) as (λ b. length (cond b (placed files file) files) ≡ length files + cond b 1 0) [
-      | true ↦ length_placed files file
-      | false ↦ omega arith
-    ]
-
-length_folded : (files names : List (List ℕ)) → length (fold with_file files names) ≡ length files + count_by is_module_file names
-length_folded files [] = omega arith
-length_folded files (name ∷ names) =
-    omega (arith, length_folded (with_file files name) names, length_with files name, sum_by-cons (λ x. cond (is_module_file x) 1 0) name names)
-
-pub length_module_files : (names : List (List ℕ)) → length (module_files names) ≡ count_by is_module_file names
-length_module_files names = omega (arith, length_folded [] names)
-
--- a count of mapped elements
-pub count_mapped : {A B : Type 0} (p : B → Bool) (f : A → B) (xs : List A) → count_by p (map f xs) ≡ count_by (λ x. p (f x)) xs
-count_mapped p f [] = refl
-count_mapped p f (x ∷ xs) =
-    sum_by-cons (λ y. cond (p y) 1 0) (f x) (map f xs) ∙ ap (λ n. cond (p (f x)) 1 0 + n) (count_mapped p f xs) ∙ sym (sum_by-cons (λ y. cond (p (f y)) 1 0) x xs)
 
 -- what holds of each mapped element
 pub all_mapped : {A B : Type 0} (P : B → Type 0) (f : A → B) (xs : List A) → All P (map f xs) → All (λ x. P (f x)) xs

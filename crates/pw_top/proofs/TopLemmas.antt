@@ -1,6 +1,6 @@
 -- The answer, the output and the line of the top call.
-use Rattle.std.proofs.Common.{◌≡◌, ℕ, ⊎_elim, inl, inr, Bool, true, false, List, [], take, drop, Option, Some, None, Result, Ok, Err, refl, sym, ap, ◌∙◌, subst, append-nil}
-use Rattle.std.specs.Prelude.{OnOk, OnErr, MatchBool, ◌↔◌}
+use Rattle.std.proofs.Common.{◌≡◌, ℕ, ⊎_elim, inl, inr, Bool, true, false, cond, List, [], take, drop, Option, Some, None, Result, Ok, Err, refl, sym, ap, ◌∙◌, subst, append-nil}
+use Rattle.std.specs.Prelude.{OnOk, OnErr, IfSome, MatchBool, ◌↔◌}
 use Rattle.std.proofs.lemmas.List.{take-append-drop}
 use Rattle.pw_io.specs.declared.Failed.{Failed}
 use Rattle.pw_io.specs.Faults.{HasCause}
@@ -9,9 +9,13 @@ use Rattle.pw_top.specs.declared.answer.Refusal.{Refusal}
 use Rattle.pw_top.specs.declared.answer.Answer.{Answer}
 use Rattle.pw_top.specs.declared.answer.Answer.TheVariants.{Usage, Refused, LinkRefused, Halted, NoMemory}
 use Rattle.pw_top.specs.FullBuild as build
-use Rattle.pw_top.specs.FullBuild.{Build}
+use Rattle.pw_io.specs.Files.{Told}
+use Rattle.pw_top.specs.FullBuild.{Build, full_build}
 use Rattle.pw_top.specs.Answers.{line_text, NeedsMemory}
-use Rattle.pw_top.specs.TopCall.{is_go, Answers, AnswersBuild, IsNoRefusal, Refuses, PutsOut, StoreCount, InputCount, OutputCount, Tells, TellsUnnamed, ToldAs, IsLineOf, refused_line}
+use Rattle.pw_top.specs.Code.{words_of}
+use Rattle.pw_top.specs.Agreement.{start_of}
+use Rattle.pw_top.proofs.RunLemmas.{Ends, ends_itself, run_ends, untouched}
+use Rattle.pw_top.specs.TopCall.{is_go, run_built, build_rest, wanted_rest, WasReadInPart, LeavesInput, Answers, AnswersBuild, IsNoRefusal, Refuses, PutsOut, StoreCount, InputCount, OutputCount, Tells, TellsUnnamed, ToldAs, IsLineOf, refused_line}
 
 -- what one put tells
 pub put_tells : (r : Result (Unit {0}) Failed) (old new : Option (List ℕ)) (before now : ℕ) (line : List ℕ) → OnOk r (Appends old new line) → OnErr r (AppendsPart old new line) → HasCause before now r → Tells line old new before now
@@ -91,3 +95,34 @@ same_line built answer _ line l t = refl
 pub unnamed_line : (told : Answer) (line before now : ℕ) (old new : Option (List ℕ)) → Tells (line_text line told) old new before now → TellsUnnamed told old new before now
 unnamed_line (Refused name refusal) line before now old new h = tt
 unnamed_line _ line before now old new h = h
+
+-- what a build leaves of the input is a rest of it
+pub build_leaves : (built : Build) (input : List ℕ) → Ends input (build_rest built input)
+unfolding run_built
+build_leaves (build.Program numbers) input = run_ends (start_of (words_of numbers) input) 100000000
+build_leaves (build.Refused name refusal line) input = ends_itself input
+build_leaves (build.LinkRefused fault) input = ends_itself input
+
+pub words_leave : (go : Bool) (built : Build) (input : List ℕ) → Ends input (cond go (build_rest built input) input)
+words_leave true built input = build_leaves built input
+words_leave false built input = ends_itself input
+
+part_of_wanted : (input wanted : List ℕ) (new : Option (List ℕ)) → Ends input wanted → new ≡ Some wanted → WasReadInPart wanted input new
+part_of_wanted input wanted new e h = let P : Option (List ℕ) → Type 0 = λ o. WasReadInPart wanted input o in subst P (sym h) (e.0, [], (e.1, refl))
+
+leaves_no_memory : (input wanted : List ℕ) (new : Option (List ℕ)) (answer : Answer) → Ends input wanted → NeedsMemory answer → LeavesInput wanted input answer new → LeavesInput wanted input NoMemory new
+leaves_no_memory input wanted new (Refused name refusal) e n h = part_of_wanted input wanted new e h
+leaves_no_memory input wanted new (LinkRefused fault) e n h = part_of_wanted input wanted new e h
+leaves_no_memory input wanted new (Halted halt at) e n h = part_of_wanted input wanted new e h
+leaves_no_memory input wanted new _ e n h = absurd n
+
+-- what the answer that is told leaves of the input
+pub told_leaves : (words : List (List ℕ)) (built : Build) (input : List ℕ) (new : Option (List ℕ)) (answer told : Answer) → ToldAs answer told → LeavesInput (wanted_rest words built input) input answer new → LeavesInput (wanted_rest words built input) input told new
+told_leaves words built input new answer told t h =
+    let wanted = wanted_rest words built input in
+    told_by (λ a. LeavesInput wanted input a new) answer told t h (λ n l. leaves_no_memory input wanted new answer (words_leave (is_go words) built input) n l)
+
+-- an input that was left alone, whatever the store's files come to
+pub told_untouched : (words : List (List ℕ)) (told : Option Told) (rest : Option (List ℕ)) → IfSome told (λ t. IfSome rest (λ input. WasReadInPart (wanted_rest words (full_build t.files) input) input rest))
+told_untouched words None rest = tt
+told_untouched words (Some t) rest = untouched rest (λ input. wanted_rest words (full_build t.files) input) (λ input. words_leave (is_go words) (full_build t.files) input)

@@ -7,10 +7,10 @@ use Rattle.pw_top.specs.declared.answer.Refusal.{Refusal}
 use Rattle.pw_top.specs.declared.answer.Refusal.TheVariants.{Unsupported}
 use Rattle.pw_top.specs.declared.answer.Feature.{Feature}
 use Rattle.pw_top.specs.declared.answer.Feature.TheVariants.{NotYet}
-use Rattle.pw_top.specs.declared.answer.LinkFault.{LinkFault}
-use Rattle.pw_top.specs.declared.answer.LinkFault.TheVariants.{NoMain, TooMany}
-use Rattle.pw_top.specs.declared.answer.What.{What}
-use Rattle.pw_top.specs.declared.answer.What.TheVariants.{Modules, TextBytes}
+use Rattle.pw_value.specs.declared.fault.LinkFault.{LinkFault}
+use Rattle.pw_value.specs.declared.fault.LinkFault.TheVariants as link
+use Rattle.pw_value.specs.declared.fault.What.{What}
+use Rattle.pw_value.specs.declared.fault.What.TheVariants.{Modules, TextBytes, Functions, Globals}
 use Rattle.pw_top.specs.declared.answer.Answer.{Answer}
 use Rattle.pw_top.specs.declared.answer.Answer.TheVariants.{Ended, Usage, Refused, LinkRefused, StackStop, Spent, Halted, ReadFault, WriteFault, StoreFault, NoMemory}
 
@@ -43,10 +43,19 @@ refusal_text (Unsupported token feature) = codes "Unsupported " ++ feature_name 
 abbrev pub what_name : What → List ℕ
 what_name Modules = codes "Modules"
 what_name TextBytes = codes "TextBytes"
+what_name Functions = codes "Functions"
+what_name Globals = codes "Globals"
 
+-- which fault, and the names or the number that it speaks of
 abbrev pub link_text : LinkFault → List ℕ
-link_text NoMain = codes "NoMain"
-link_text (TooMany what count) = codes "TooMany " ++ what_name what ++ codes " " ++ decimal count
+link_text (link.Undefined name) = codes "Undefined " ++ name
+link_text (link.Duplicate name first second) = codes "Duplicate " ++ name ++ codes " " ++ first ++ codes " " ++ second
+link_text (link.Conflict name first second) = codes "Conflict " ++ name ++ codes " " ++ first ++ codes " " ++ second
+link_text link.NoMain = codes "NoMain"
+link_text (link.TextTooLarge bytes) = codes "TextTooLarge " ++ decimal bytes
+link_text (link.MemoryTooLarge end) = codes "MemoryTooLarge " ++ decimal end
+link_text link.NoMemory = codes "NoMemory"
+link_text (link.TooMany what count) = codes "TooMany " ++ what_name what ++ codes " " ++ decimal count
 
 abbrev pub halt_name : Halt → List ℕ
 halt_name Illegal = codes "Illegal"

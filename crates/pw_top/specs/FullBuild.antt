@@ -1,17 +1,15 @@
 -- The full build: what the files of a store are, a program or a refusal.
-use Rattle.std.specs.Prelude.{ℕ, nat_lt, if◌then◌else◌, List, [], ◌∷◌, count_by, Option, Some, None}
+use Rattle.std.specs.Prelude.{ℕ, List, [], ◌∷◌, Option, Some, None}
 use Rattle.std.specs.FinMap as finite
 use Rattle.pw_io.specs.Files.{Files}
 use Rattle.pw_top.specs.declared.answer.Refusal.{Refusal}
 use Rattle.pw_top.specs.declared.answer.Refusal.TheVariants.{Unsupported}
 use Rattle.pw_top.specs.declared.answer.Feature.TheVariants.{NotYet}
-use Rattle.pw_top.specs.declared.answer.LinkFault.{LinkFault}
-use Rattle.pw_top.specs.declared.answer.LinkFault.TheVariants.{NoMain, TooMany}
-use Rattle.pw_top.specs.declared.answer.What.{What}
-use Rattle.pw_top.specs.declared.answer.What.TheVariants.{Modules, TextBytes}
+use Rattle.pw_value.specs.declared.fault.LinkFault.{LinkFault}
+use Rattle.pw_value.specs.declared.fault.LinkFault.TheVariants.{NoMain}
 use Rattle.pw_top.specs.Tokens.{first_line}
 use Rattle.pw_top.specs.SumProgram.{numbers_in}
-use Rattle.pw_top.specs.Modules.{Source, is_module_file, module_files, sources_of, text_bytes}
+use Rattle.pw_top.specs.Modules.{Source, module_files, sources_of}
 
 -- what a build comes to
 pub data Build : Type 0 where
@@ -41,19 +39,6 @@ abbrev pub build_of_sources : List Source → Build
 build_of_sources [] = LinkRefused NoMain
 build_of_sources (first ∷ others) = by_numbers first (numbers_in first.1) others
 
-abbrev pub too_many : What → ℕ → Build
-too_many what count = LinkRefused (TooMany what count)
-
--- the modules, which have at most 16,777,216 bytes together
-abbrev pub build_within : List Source → Build
-build_within sources = if nat_lt 16777216 (text_bytes sources) then too_many TextBytes (text_bytes sources) else build_of_sources sources
-
--- the files of these names, of which at most 256 are modules
-abbrev pub build_named : Files → List (List ℕ) → Build
-build_named files names =
-    let count = count_by is_module_file names in
-    if nat_lt 256 count then too_many Modules count else build_within (sources_of files (module_files names))
-
 -- all files
 unfoldable pub full_build : Files → Build
-full_build files = build_named files (finite.keys files)
+full_build files = build_of_sources (sources_of files (module_files (finite.keys files)))

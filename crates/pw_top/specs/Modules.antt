@@ -1,5 +1,5 @@
 -- The modules of a store: the files named `NAME.i`, in the byte order of the names without `.i`, and their texts.
-use Rattle.std.specs.Prelude.{◌≡◌, ℕ, ◌-◌, Bool, true, ◌==◌, ◌&&◌, ◌||◌, nat_le, if◌then◌else◌, List, [], length, take, drop, fold, codes, Option, insert, sum_by}
+use Rattle.std.specs.Prelude.{◌≡◌, ℕ, ◌-◌, Bool, true, ◌==◌, ◌&&◌, ◌||◌, nat_le, if◌then◌else◌, List, [], length, take, drop, fold, codes, Option, insert}
 use Rattle.std.specs.Option.{option_map}
 use Rattle.std.specs.List.{list_all, position_or_len, filter_map}
 use Rattle.std.specs.Str.{bytes_eq}
@@ -52,7 +52,3 @@ source_of files file = option_map (λ text. (stem file, front_of 1048577 text)) 
 
 abbrev pub sources_of : Files → List (List ℕ) → List Source
 sources_of files names = filter_map (source_of files) names
-
--- the bytes of all texts
-abbrev pub text_bytes : List Source → ℕ
-text_bytes sources = sum_by (λ source. length source.1) sources

@@ -1,5 +1,5 @@
 -- What a call of the program answers, puts out and leaves.
-use Rattle.std.specs.Prelude.{◌≡◌, ℕ, ◌⊎◌, Bool, false, if◌then◌else◌, MatchBool, List, [], ◌∷◌, ◌++◌, codes, Option, IfSome, IsSomeAnd}
+use Rattle.std.specs.Prelude.{◌≡◌, ℕ, ◌⊎◌, Bool, false, if◌then◌else◌, MatchBool, List, [], ◌∷◌, ◌++◌, codes, Option, Some, IfSome, IsSomeAnd}
 use Rattle.std.specs.Str.{bytes_eq}
 use Rattle.pw_io.specs.Faults.{Rose}
 use Rattle.pw_io.specs.Streams.{Appends}
@@ -38,6 +38,10 @@ abbrev pub run_output : Progress → List ℕ
 run_output (Running state) = state.output
 run_output (Stopped end state) = state.output
 
+abbrev pub run_rest : Progress → List ℕ
+run_rest (Running state) = state.rest
+run_rest (Stopped end state) = state.rest
+
 -- the first 100,000,000 steps of the built words, from their start
 unfoldable pub run_built : List ℕ → List ℕ → Progress
 run_built numbers input = run_of 100000000 (start_of (words_of numbers) input)
@@ -71,11 +75,20 @@ build_output (build.Program numbers) input = run_output (run_built numbers input
 build_output (build.Refused name refusal line) input = []
 build_output (build.LinkRefused fault) input = []
 
+abbrev pub build_rest : Build → List ℕ → List ℕ
+build_rest (build.Program numbers) input = run_rest (run_built numbers input)
+build_rest (build.Refused name refusal line) input = input
+build_rest (build.LinkRefused fault) input = input
+
 abbrev pub wanted_answer : List (List ℕ) → Build → List ℕ → Answer
 wanted_answer words built input = if is_go words then build_answer built input else Usage
 
 abbrev pub wanted_output : List (List ℕ) → Build → List ℕ → List ℕ
 wanted_output words built input = if is_go words then build_output built input else []
+
+-- what is left of the input
+abbrev pub wanted_rest : List (List ℕ) → Build → List ℕ → List ℕ
+wanted_rest words built input = if is_go words then build_rest built input else input
 
 -- ---- what the call answers: what is wanted; a fault and want of memory may come in its place
 
@@ -98,11 +111,17 @@ IsNoRefusal (Refused name refusal) = ⊥
 IsNoRefusal (LinkRefused fault) = ⊥
 IsNoRefusal _ = Unit {0}
 
+-- A refusal comes before the input and the output are touched, so that only the store may have a fault.
+abbrev pub RefusesAs : Answer → Answer → Type 0
+RefusesAs refusal ReadFault = ⊥
+RefusesAs refusal WriteFault = ⊥
+RefusesAs refusal answer = Answers refusal answer
+
 -- The answer to a build that refuses is that refusal, whatever the input tells; any other build is not refused.
 abbrev pub AnswersBuild : Build → Answer → Type 0
 AnswersBuild (build.Program numbers) answer = IsNoRefusal answer
-AnswersBuild (build.Refused name refusal line) answer = Answers (Refused name refusal) answer
-AnswersBuild (build.LinkRefused fault) answer = Answers (LinkRefused fault) answer
+AnswersBuild (build.Refused name refusal line) answer = RefusesAs (Refused name refusal) answer
+AnswersBuild (build.LinkRefused fault) answer = RefusesAs (LinkRefused fault) answer
 
 abbrev pub Refuses : List (List ℕ) → Build → Answer → Type 0
 Refuses words built answer = MatchBool (is_go words) (AnswersBuild built answer) (IsNoRefusal answer)
@@ -125,7 +144,22 @@ pub record PutsOut (wanted : List ℕ) (answer : Answer) (old new : Option (List
   pub front : wanted ≡ output ++ more
   pub whole : IsWhole answer more
 
--- ---- faults: a fault is answered exactly where that object's count rose
+-- ---- what it leaves of the input
+
+-- Some front of the input was read, no more of it than the run reads, and the source tells what is behind it.
+abbrev pub WasReadInPart : List ℕ → List ℕ → Option (List ℕ) → Type 0
+WasReadInPart wanted input new =
+    (front : List ℕ) × (more : List ℕ) × IsSomeAnd new (λ left. (input ≡ front ++ left) × (left ≡ more ++ wanted))
+
+-- The source tells what the run left of the input; where a fault or want of memory came, some front was read.
+abbrev pub LeavesInput : List ℕ → List ℕ → Answer → Option (List ℕ) → Type 0
+LeavesInput wanted input ReadFault new = WasReadInPart wanted input new
+LeavesInput wanted input WriteFault new = WasReadInPart wanted input new
+LeavesInput wanted input StoreFault new = WasReadInPart wanted input new
+LeavesInput wanted input NoMemory new = WasReadInPart wanted input new
+LeavesInput wanted input _ new = new ≡ Some wanted
+
+-- ---- faults: a fault is answered only where that object's count rose, and every other answer leaves the counts
 
 abbrev pub StoreCount : ℕ → ℕ → Answer → Type 0
 StoreCount before now StoreFault = Rose before now

@@ -4,7 +4,7 @@ ghost use Rattle.std.specs.Prelude.{◌≡◌};
 ghost use Rattle.pw_top.specs.Answers.{status_of};
 
 use pw_machine::Halt;
-use pw_value::{Name, Word};
+use pw_value::{LinkFault, Name, Word};
 
 /// Why a module was refused.
 #[derive(Debug, Drop)]
@@ -18,24 +18,6 @@ pub enum Refusal {
 pub enum Feature {
     /// A program of another form than `int main(void){return SUM;}`.
     NotYet,
-}
-
-/// Why the modules together were refused.
-#[derive(Debug, Drop)]
-pub enum LinkFault {
-    /// No module defines a function `main`.
-    NoMain,
-    /// There are so many, which is above the limit.
-    TooMany(What, u64),
-}
-
-/// What there are too many of.
-#[derive(Clone, Copy, PartialEq, Eq, Debug)]
-pub enum What {
-    /// Modules: at most 256.
-    Modules,
-    /// Bytes of all modules' texts together: at most 16,777,216, where a text counts at most 1,048,577.
-    TextBytes,
 }
 
 /// What a call of the program answers.

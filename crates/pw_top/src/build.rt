@@ -4,23 +4,17 @@ ghost use Rattle.std.specs.Prelude.{◌≡◌, ◌≤◌, ◌<◌, IfOk, OnOk, I
 ghost use Rattle.std.specs.Option.{option_map};
 ghost use Rattle.pw_io.specs.Files.{Keeps};
 ghost use Rattle.pw_io.specs.Faults.{HasStoreCause};
-ghost use Rattle.pw_top.specs.Modules.{IsModuleFile, source_of, sources_of, text_bytes};
-ghost use Rattle.pw_top.specs.FullBuild.{build_of_sources, build_named, build_within, full_build, refused_source, too_many};
+ghost use Rattle.pw_top.specs.Modules.{IsModuleFile, source_of, sources_of};
+ghost use Rattle.pw_top.specs.FullBuild.{build_of_sources, full_build, refused_source};
 ghost use Rattle.pw_top.specs.BuildViews.{source, build_view};
 
-use crate::answer::{Feature, LinkFault, Refusal, What};
+use crate::answer::{Feature, Refusal};
 use crate::form::{Sum, sum_in};
-use crate::modules::{Module, TEXT_READ, module_count, module_files, stem};
+use crate::modules::{Module, TEXT_READ, module_files, stem};
 use crate::tokens::first_line;
 use pw_io::{Store, StoreError};
-use pw_value::{Name, NameError};
+use pw_value::{LinkFault, Name, NameError};
 use std::alloc::{AllocError, Global};
-
-/// The greatest count of modules.
-const MODULES_MAX: usize = 256;
-
-/// The greatest count of bytes of all modules' texts together.
-const TEXT_BYTES_MAX: u64 = 16_777_216;
 
 /// What came of a build.
 #[derive(Debug, Drop)]
@@ -93,7 +87,6 @@ fn add_source<S: Store>(
     ensures read { IfSome (S.told store.old) (λ told. OnOk result (map source modules.new.items ≡ map source modules.old.items ++ option_to_list (source_of told.files file.now))) }
     ensures same { Keeps (S.told store.old) (S.told store.new) }
     ensures cause { HasStoreCause (S.faults store.old) (S.faults store.new) result }
-    ensures few { vec_len modules.new ≤ vec_len modules.old + 1 }
 {
     match read_source(alloc, store, file)? {
         None => Ok(()),
@@ -114,25 +107,12 @@ fn read_sources<S: Store>(
     ensures read { IfSome (S.told store.old) (λ told. IfOk result (λ modules. map source modules.items ≡ sources_of told.files (map string_bytes files.now))) }
     ensures same { Keeps (S.told store.old) (S.told store.new) }
     ensures cause { HasStoreCause (S.faults store.old) (S.faults store.new) result }
-    ensures few { IfOk result (λ modules. vec_len modules ≤ length files.now) }
 {
     let mut modules = Vec::new(alloc);
     for file in files {
         add_source(alloc, store, &mut modules, file.as_str())?;
     }
     Ok(modules)
-}
-
-/// How many bytes the texts of all modules have together.
-fn text_bytes(modules: &[Module]) -> u64
-    requires { length modules.now ≤ 256 }
-    ensures { result ≡ text_bytes (map source modules.now) }
-{
-    let mut bytes = 0;
-    for found in modules {
-        bytes += found.text.len() as u64;
-    }
-    bytes
 }
 
 /// What the files of a store come to. The store stays as it is.
@@ -142,24 +122,7 @@ pub fn build<S: Store>(alloc: Global, store: &mut S) -> Result<Built, StoreError
     ensures cause { HasStoreCause (S.faults store.old) (S.faults store.new) result }
 {
     let names = store.names(alloc)?;
-    build_named(alloc, store, &names)
-}
-
-/// What files of these names come to.
-fn build_named<S: Store>(
-    alloc: Global,
-    store: &mut S,
-    names: &[String],
-) -> Result<Built, StoreError>
-    ensures built { IfSome (S.told store.old) (λ told. IfOk result (λ built. build_view built ≡ build_named told.files (map string_bytes names.now))) }
-    ensures same { Keeps (S.told store.old) (S.told store.new) }
-    ensures cause { HasStoreCause (S.faults store.old) (S.faults store.new) result }
-{
-    let count = module_count(names);
-    if count > MODULES_MAX {
-        return Ok(too_many(What::Modules, count as u64));
-    }
-    match module_files(alloc, names) {
+    match module_files(alloc, &names) {
         Ok(files) => build_files(alloc, store, &files),
         Err(AllocError) => Err(StoreError::NoMemory),
     }
@@ -171,26 +134,14 @@ fn build_files<S: Store>(
     store: &mut S,
     files: &[String],
 ) -> Result<Built, StoreError>
-    requires modules { All (λ file. IsModuleFile (string_bytes file)) files.now }
-    requires few { length files.now ≤ 256 }
-    ensures built { IfSome (S.told store.old) (λ told. IfOk result (λ built. build_view built ≡ build_within (sources_of told.files (map string_bytes files.now)))) }
+    requires { All (λ file. IsModuleFile (string_bytes file)) files.now }
+    ensures built { IfSome (S.told store.old) (λ told. IfOk result (λ built. build_view built ≡ build_of_sources (sources_of told.files (map string_bytes files.now)))) }
     ensures same { Keeps (S.told store.old) (S.told store.new) }
     ensures cause { HasStoreCause (S.faults store.old) (S.faults store.new) result }
 {
     let modules = read_sources(alloc, store, files)?;
-    let bytes = text_bytes(&modules);
-    if bytes > TEXT_BYTES_MAX {
-        return Ok(too_many(What::TextBytes, bytes));
-    }
     match build_of(alloc, &modules) {
         Ok(built) => Ok(built),
         Err(AllocError) => Err(StoreError::NoMemory),
     }
-}
-
-/// The refusal of so many.
-fn too_many(what: What, count: u64) -> Built
-    ensures { build_view result ≡ too_many what count }
-{
-    Built::LinkRefused(LinkFault::TooMany(what, count))
 }

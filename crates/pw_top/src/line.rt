@@ -5,9 +5,9 @@ ghost use Rattle.std.specs.Fmt.{decimal};
 ghost use Rattle.pw_top.specs.Answers.{feature_name, what_name, halt_name, link_text, refusal_text, line_text, NeedsMemory};
 ghost use Rattle.pw_top.specs.Lines.{line_bytes};
 
-use crate::answer::{Answer, Feature, LinkFault, Refusal, What};
+use crate::answer::{Answer, Feature, Refusal};
 use pw_machine::Halt;
-use pw_value::{Name, Word};
+use pw_value::{LinkFault, Name, What, Word};
 use std::alloc::{AllocError, Global};
 
 fn feature_name(feature: Feature) -> &'static [u8]
@@ -24,6 +24,8 @@ fn what_name(what: What) -> &'static [u8]
     match what {
         What::Modules => b"Modules",
         What::TextBytes => b"TextBytes",
+        What::Functions => b"Functions",
+        What::Globals => b"Globals",
     }
 }
 
@@ -73,18 +75,54 @@ fn push_refusal(alloc: Global, text: &mut Vec<u8>, refusal: &Refusal) -> Result<
     }
 }
 
-fn push_link_fault(alloc: Global, text: &mut Vec<u8>, fault: &LinkFault) -> Result<(), AllocError>
-    ensures { OnOk result (text.new.items ≡ text.old.items ++ link_text fault.now) }
+/// Puts a fault's name behind a text, and the name of which it speaks with the two modules.
+fn push_modules(
+    text: &mut Vec<u8>,
+    name: &Name,
+    first: &Name,
+    second: &Name,
+) -> Result<(), AllocError>
+    ensures { OnOk result (text.new.items ≡ text.old.items ++ name.now ++ codes " " ++ first.now ++ codes " " ++ second.now) }
 {
+    text.extend_from_slice(name.as_bytes())?;
+    text.extend_from_slice(b" ")?;
+    text.extend_from_slice(first.as_bytes())?;
+    text.extend_from_slice(b" ")?;
+    text.extend_from_slice(second.as_bytes())?;
+    Ok(())
+}
+
+/// The text of modules that are refused together.
+fn link_text(alloc: Global, fault: &LinkFault) -> Result<Vec<u8>, AllocError>
+    ensures { IfOk result (λ text. text.items ≡ link_text fault.now) }
+{
+    let front: &[u8] = match fault {
+        LinkFault::Undefined(_) => b"Undefined ",
+        LinkFault::Duplicate(_, _, _) => b"Duplicate ",
+        LinkFault::Conflict(_, _, _) => b"Conflict ",
+        LinkFault::NoMain => b"NoMain",
+        LinkFault::TextTooLarge(_) => b"TextTooLarge ",
+        LinkFault::MemoryTooLarge(_) => b"MemoryTooLarge ",
+        LinkFault::NoMemory => b"NoMemory",
+        LinkFault::TooMany(_, _) => b"TooMany ",
+    };
+    let mut text = Vec::from_slice(alloc, front)?;
     match fault {
-        LinkFault::NoMain => Ok(text.extend_from_slice(b"NoMain")?),
+        LinkFault::Undefined(name) => text.extend_from_slice(name.as_bytes())?,
+        LinkFault::Duplicate(name, first, second) | LinkFault::Conflict(name, first, second) => {
+            push_modules(&mut text, name, first, second)?;
+        }
+        LinkFault::NoMain | LinkFault::NoMemory => {}
+        LinkFault::TextTooLarge(number) | LinkFault::MemoryTooLarge(number) => {
+            push_decimal(alloc, &mut text, *number)?;
+        }
         LinkFault::TooMany(what, count) => {
-            text.extend_from_slice(b"TooMany ")?;
             text.extend_from_slice(what_name(*what))?;
             text.extend_from_slice(b" ")?;
-            push_decimal(alloc, text, *count)
+            push_decimal(alloc, &mut text, *count)?;
         }
     }
+    Ok(text)
 }
 
 /// The line of a module that is refused, where its first token stands on line `line` of its text.
@@ -109,8 +147,9 @@ fn refused_line(
 fn link_refused_line(alloc: Global, fault: &LinkFault) -> Result<Vec<u8>, AllocError>
     ensures { IfOk result (λ text. text.items ≡ codes "link: " ++ link_text fault.now ++ codes "\n") }
 {
+    let fault = link_text(alloc, fault)?;
     let mut text = Vec::from_slice(alloc, b"link: ")?;
-    push_link_fault(alloc, &mut text, fault)?;
+    text.extend_from_slice(fault.as_slice())?;
     text.extend_from_slice(b"\n")?;
     Ok(text)
 }

@@ -92,16 +92,6 @@ fn first_behind(files: &[String], file: &str) -> usize
     files.len()
 }
 
-/// How many of these files are modules' texts.
-pub fn module_count(names: &[String]) -> usize
-    ensures { result ≡ count_by (λ name. is_module_file (string_bytes name)) names.now }
-{
-    names
-        .iter()
-        .filter(|name| is_module_file(name.as_str()))
-        .count()
-}
-
 /// Puts a name into its place among the modules' files, where it is a module's file.
 fn place_module(files: &mut Vec<String>, name: &String) -> Result<(), AllocError>
     ensures { OnOk result (map string_bytes files.new.items ≡ with_file (map string_bytes files.old.items) (string_bytes name.now)) }
@@ -127,7 +117,6 @@ fn placed_modules(alloc: Global, names: &[String]) -> Result<Vec<String>, AllocE
 pub fn module_files(alloc: Global, names: &[String]) -> Result<Vec<String>, AllocError>
     ensures files { IfOk result (λ files. map string_bytes files.items ≡ module_files (map string_bytes names.now)) }
     ensures modules { IfOk result (λ files. All (λ file. IsModuleFile (string_bytes file)) files.items) }
-    ensures count { IfOk result (λ files. length files.items ≡ count_by (λ name. is_module_file (string_bytes name)) names.now) }
 {
     placed_modules(alloc, names)
 }

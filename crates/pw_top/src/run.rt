@@ -3,7 +3,7 @@
 ghost use Rattle.std.specs.Prelude.{◌≡◌, ◌<◌, ◌≤◌, IfSome, length};
 ghost use Rattle.pw_machine.specs.Run.{run_of};
 ghost use Rattle.pw_top.specs.Agreement.{start_of};
-ghost use Rattle.pw_top.specs.TopCall.{run_answer, run_output, stop_answer, Answers, IsRunAnswer, PutsOut, InputCount, OutputCount};
+ghost use Rattle.pw_top.specs.TopCall.{run_answer, run_output, run_rest, LeavesInput, stop_answer, Answers, IsRunAnswer, PutsOut, InputCount, OutputCount};
 
 use crate::answer::Answer;
 use pw_io::{Sink, Source};
@@ -41,6 +41,7 @@ pub fn run_words<I: Source, O: Sink>(
     requires few { length words.now ≤ 65536 }
     ensures answer { IfSome (I.rest input.old) (λ rest. Answers (run_answer (run_of 100000000 (start_of words.now rest))) result) }
     ensures output { IfSome (I.rest input.old) (λ rest. PutsOut (run_output (run_of 100000000 (start_of words.now rest))) result (O.taken out.old) (O.taken out.new)) }
+    ensures rest { IfSome (I.rest input.old) (λ rest. LeavesInput (run_rest (run_of 100000000 (start_of words.now rest))) rest result (I.rest input.new)) }
     ensures read { InputCount (I.faults input.old) (I.faults input.new) result }
     ensures write { OutputCount (O.faults out.old) (O.faults out.new) result }
     ensures run { IsRunAnswer result }

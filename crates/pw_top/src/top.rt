@@ -6,7 +6,7 @@ ghost use Rattle.pw_io.specs.Files.{Keeps};
 ghost use Rattle.pw_top.specs.FullBuild.{full_build};
 ghost use Rattle.pw_top.specs.BuildViews.{build_view};
 ghost use Rattle.pw_top.specs.Answers.{line_text};
-ghost use Rattle.pw_top.specs.TopCall.{is_go, run_answer, run_output, run_built, build_answer, build_output, AnswersBuild, IsRunAnswer, IsObeyed, IsLineOf, wanted_answer, wanted_output, Answers, IsNoRefusal, Refuses, PutsOut, StoreCount, InputCount, OutputCount, Tells, ToldAs, BuiltAgrees, TellsUnnamed, refused_line};
+ghost use Rattle.pw_top.specs.TopCall.{is_go, run_answer, run_output, run_built, run_rest, build_answer, build_output, build_rest, wanted_rest, LeavesInput, AnswersBuild, IsRunAnswer, IsObeyed, IsLineOf, wanted_answer, wanted_output, Answers, IsNoRefusal, Refuses, PutsOut, StoreCount, InputCount, OutputCount, Tells, ToldAs, BuiltAgrees, TellsUnnamed, refused_line};
 
 use crate::answer::Answer;
 use crate::build::{Built, build};
@@ -51,6 +51,7 @@ fn answer_built<I: Source, O: Sink>(
     ensures answer { IfSome (I.rest input.old) (λ rest. Answers (build_answer (build_view built) rest) result.answer) }
     ensures refusal { AnswersBuild (build_view built) result.answer }
     ensures output { IfSome (I.rest input.old) (λ rest. PutsOut (build_output (build_view built) rest) result.answer (O.taken out.old) (O.taken out.new)) }
+    ensures rest { IfSome (I.rest input.old) (λ rest. LeavesInput (build_rest (build_view built) rest) rest result.answer (I.rest input.new)) }
     ensures read { InputCount (I.faults input.old) (I.faults input.new) result.answer }
     ensures write { OutputCount (O.faults out.old) (O.faults out.new) result.answer }
     ensures line { IsLineOf (build_view built) result.answer result.line }
@@ -76,6 +77,7 @@ fn answer_built<I: Source, O: Sink>(
 fn run_sum<I: Source, O: Sink>(alloc: Global, sum: &Sum, input: &mut I, out: &mut O) -> Answer
     ensures answer { IfSome (I.rest input.old) (λ rest. Answers (run_answer (run_built sum.now.numbers.items rest)) result) }
     ensures output { IfSome (I.rest input.old) (λ rest. PutsOut (run_output (run_built sum.now.numbers.items rest)) result (O.taken out.old) (O.taken out.new)) }
+    ensures rest { IfSome (I.rest input.old) (λ rest. LeavesInput (run_rest (run_built sum.now.numbers.items rest)) rest result (I.rest input.new)) }
     ensures read { InputCount (I.faults input.old) (I.faults input.new) result }
     ensures write { OutputCount (O.faults out.old) (O.faults out.new) result }
     ensures run { IsRunAnswer result }
@@ -98,6 +100,7 @@ fn obey<S: Store, I: Source, O: Sink>(
     ensures answer { IfSome (S.told store.old) (λ told. IfSome (I.rest input.old) (λ rest. Answers (wanted_answer (map string_bytes words.now) (full_build told.files) rest) result.answer)) }
     ensures refusal { IfSome (S.told store.old) (λ told. Refuses (map string_bytes words.now) (full_build told.files) result.answer) }
     ensures output { IfSome (S.told store.old) (λ told. IfSome (I.rest input.old) (λ rest. PutsOut (wanted_output (map string_bytes words.now) (full_build told.files) rest) result.answer (O.taken out.old) (O.taken out.new))) }
+    ensures rest { IfSome (S.told store.old) (λ told. IfSome (I.rest input.old) (λ rest. LeavesInput (wanted_rest (map string_bytes words.now) (full_build told.files) rest) rest result.answer (I.rest input.new))) }
     ensures files { Keeps (S.told store.old) (S.told store.new) }
     ensures store { StoreCount (S.faults store.old) (S.faults store.new) result.answer }
     ensures read { InputCount (I.faults input.old) (I.faults input.new) result.answer }
@@ -162,6 +165,7 @@ pub fn pawc_top<S: Store, I: Source, O: Sink, E: Sink>(
     ensures runs_image { IfSome (S.told store.old) (λ told. IfSome (I.rest input.old) (λ rest. Answers (wanted_answer (map string_bytes words.now) (full_build told.files) rest) result)) }
     ensures refuses { IfSome (S.told store.old) (λ told. Refuses (map string_bytes words.now) (full_build told.files) result) }
     ensures output_prefix { IfSome (S.told store.old) (λ told. IfSome (I.rest input.old) (λ rest. PutsOut (wanted_output (map string_bytes words.now) (full_build told.files) rest) result (O.taken out.old) (O.taken out.new))) }
+    ensures input_after { IfSome (S.told store.old) (λ told. IfSome (I.rest input.old) (λ rest. LeavesInput (wanted_rest (map string_bytes words.now) (full_build told.files) rest) rest result (I.rest input.new))) }
 
     // source and machine
     ensures agrees { IfSome (S.told store.old) (λ told. BuiltAgrees (full_build told.files)) }

@@ -13,5 +13,4 @@ loop-file-preserved g c =
           c.loop-file.invariant.read c.loop-file.invariant.same (rw c.as_str.ensures.value at c.in_ok-add_source.ensures.read) next;
       same = keeps_on (g.S.Store.told c.args.store.now) (g.S.Store.told c.loop-file.store) _ c.loop-file.invariant.same c.add_source.ensures.same;
       count = c.in_ok-add_source.ensures.cause ∙ c.loop-file.invariant.count;
-      few = omega (arith, c.add_source.ensures.few, c.loop-file.invariant.few);
     }

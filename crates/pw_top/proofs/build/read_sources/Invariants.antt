@@ -1,5 +1,5 @@
-use Rattle.std.proofs.Common.{◌≡◌, ◌≤◌, ◌++◌, drop, map}
-use Rattle.std.specs.Prelude.{IfSome, string_bytes, vec_len}
+use Rattle.std.proofs.Common.{◌≡◌, ◌++◌, drop, map}
+use Rattle.std.specs.Prelude.{IfSome, string_bytes}
 use Rattle.pw_io.specs.Files.{Keeps}
 use Rattle.pw_top.specs.Modules.{sources_of}
 use Rattle.pw_top.specs.BuildViews.{source}
@@ -13,5 +13,4 @@ invariant-loop-file g l =
       read : IfSome (told l.fn.store) (λ t. map source l.modules.items ++ sources_of t.files (drop l.file-index (map string_bytes l.files)) ≡ sources_of t.files (map string_bytes l.files));
       same : Keeps (told l.fn.store) (told l.store);
       count : g.S.Store.faults l.store ≡ g.S.Store.faults l.fn.store;
-      few : vec_len l.modules ≤ l.file-index;
     }

@@ -1,4 +1,7 @@
-use Rattle.pw_top.specs.TopCall.{run_built}
+use Rattle.pw_top.specs.Code.{words_of}
+use Rattle.pw_top.specs.Agreement.{start_of}
+use Rattle.pw_top.specs.TopCall.{run_built, run_rest}
+use Rattle.pw_top.proofs.RunLemmas.{untouched, run_ends}
 use Rattle.pw_top.proofs.top.run_sum.Goals as goal
 
 pub returns-in-Ok-clause-answer : goal.returns-in-Ok-clause-answer
@@ -8,3 +11,12 @@ returns-in-Ok-clause-answer g c = rw (c.as_slice-in-Ok.ensures.value, c.in-Ok.en
 pub returns-in-Ok-clause-output : goal.returns-in-Ok-clause-output
 unfolding run_built
 returns-in-Ok-clause-output g c = rw (c.as_slice-in-Ok.ensures.value, c.in-Ok.ensures.words, c.as_slice.ensures.value) at c.run_words.ensures.output
+
+pub returns-in-Ok-clause-rest : goal.returns-in-Ok-clause-rest
+unfolding run_built
+returns-in-Ok-clause-rest g c = rw (c.as_slice-in-Ok.ensures.value, c.in-Ok.ensures.words, c.as_slice.ensures.value) at c.run_words.ensures.rest
+
+pub returns-in-Err-clause-rest : goal.returns-in-Err-clause-rest
+unfolding run_built
+returns-in-Err-clause-rest g c =
+    untouched (g.I.Source.rest c.args.input.now) (λ input. run_rest (run_built c.args.sum.now.numbers.items input)) (λ input. run_ends (start_of (words_of c.args.sum.now.numbers.items) input) 100000000)
