@@ -1,1 +1,6 @@
 pub mod Closing
+pub mod Floats
+pub mod Integers
+pub mod Quoted
+pub mod Runs
+pub mod Tests
