@@ -123,7 +123,7 @@ exponent-long s h = omega (arith, ap length h.3)
 
 -- ---- fractions
 
-at-front : (w r : List ℕ) → slice_index (w ++ r) (length w) ≡ slice_index r 0
+pub at-front : (w r : List ℕ) → slice_index (w ++ r) (length w) ≡ slice_index r 0
 at-front [] r = refl
 at-front (b ∷ w) r = at-front w r
 
