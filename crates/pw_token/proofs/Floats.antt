@@ -7,8 +7,8 @@ use Rattle.pw_token.proofs.Runs.{Begins, begins-drop, Run, run-front, run-in, ru
 use Rattle.pw_token.proofs.Tests.{and-split, and-join, and-left, and-right, or-split, or-none, either-one}
 use Rattle.pw_token.specs.Bytes.{is_in, is_either, AllIn, SomeIn}
 use Rattle.pw_token.specs.Scanning.{run, exponent_start, exponent_len, fraction_len, floating_suffix_len, scaled_len, floating_len}
-use Rattle.pw_token.specs.Spelling.{IsFloating, IsFractional, IsExponent, IsOptionalSign, IsFloatingSuffix, IsScaled, is_l}
-use Rattle.pw_token.specs.declared.bytes.Class.TheVariants.{Digit}
+use Rattle.pw_token.specs.Spelling.{IsFloating, IsFractional, IsExponent, IsOptionalSign, IsFloatingSuffix, IsScaled, IsInteger, IsDecimal, IsOctal, IsHexadecimal, IsIntegerSuffix, is_u, is_l}
+use Rattle.pw_token.specs.declared.bytes.Class.TheVariants.{Digit, OctalDigit}
 
 -- ---- suffixes
 
@@ -404,3 +404,58 @@ floating-reaches a r h =
       ap (λ x. x ++ r) h.whole ∙ append_assoc h.mantissa (h.exponent ++ h.suffix) r ∙ ap (λ x. h.mantissa ++ x) (append_assoc h.exponent h.suffix r) in
     omega (arith, ap length h.whole, length-append h.mantissa (h.exponent ++ h.suffix), length-append h.exponent h.suffix, ap floating_len e,
       parts-reach h.mantissa h.exponent h.suffix r h.constant h.ending)
+
+-- ---- integer constants are none
+
+no-floating : (t w r : List ℕ) → Whole t w r → (slice_index r 0 ≡ 46 → ⊥) → is_either (slice_index r 0) 101 69 ≡ false → floating_len t ≡ 0
+no-floating t w r h point letter =
+    let none = fraction-not t w r h point in
+    let after : drop (run Digit t) t ≡ r = ap (λ n. drop n t) h.len ∙ ap (drop (length w)) h.split ∙ drop_at w r (length w) refl in
+    elim (either (eqb (run Digit t) 0)) [
+      inl z ↦ floating-none t none (eqb-true _ 0 z)
+    | inr z ↦ floating-digits t none (omega (arith, eqb-false _ 0 z)) ∙ scaled-none (run Digit t) t r after (exponent-not r letter) ]
+
+abbrev IsSuffixLetter : ℕ → Type 0
+IsSuffixLetter a = (is_u a || is_l a) ≡ true
+
+suffix-starts : (a : ℕ) (s : List ℕ) → IsIntegerSuffix (a ∷ s) → IsSuffixLetter a
+suffix-starts a [] h = h
+suffix-starts a (b ∷ []) h =
+    elim (or-split (is_u a && is_l b) (is_l a && is_u b) h) [
+      inl k ↦ rw ((and-split (is_u a) (is_l b) k).0) refl
+    | inr k ↦ elim (either (is_u a)) [ inl e ↦ rw e refl | inr n ↦ rw (n, (and-split (is_l a) (is_u b) k).0) refl ] ]
+suffix-starts a (b ∷ c ∷ s) h = absurd h
+
+letter-facts : (a : ℕ) → IsSuffixLetter a → (is_in Digit a ≡ false) × (is_either a 101 69 ≡ false) × (a ≡ 46 → ⊥)
+letter-facts a h = (grind (arith, nat_tests), grind (arith, nat_tests), λ e. grind (arith, nat_tests))
+
+-- the digits w before a suffix
+before-suffix : (w suffix : List ℕ) → AllIn Digit w → IsIntegerSuffix suffix → floating_len (w ++ suffix) ≡ 0
+before-suffix w [] h k = no-floating (w ++ []) w [] (record { split = refl; len = run-stops Digit w [] h tt }) (λ e. absurd (omega arith)) refl
+before-suffix w (a ∷ s) h k =
+    let f = letter-facts a (suffix-starts a s k) in
+    no-floating (w ++ a ∷ s) w (a ∷ s) (record { split = refl; len = run-stops Digit w (a ∷ s) h f.0 }) f.2 f.1
+
+x-facts : (x : ℕ) → is_either x 120 88 ≡ true → (is_in Digit x ≡ false) × (is_either x 101 69 ≡ false) × (x ≡ 46 → ⊥)
+x-facts x h = (grind (arith, nat_tests), grind (arith, nat_tests), λ e. grind (arith, nat_tests))
+
+octal-digits : (ds : List ℕ) → AllIn OctalDigit ds → AllIn Digit ds
+octal-digits [] h = tt
+octal-digits (d ∷ ds) h = (digit d h.0, octal-digits ds h.1)
+  where
+    digit : (d : ℕ) → is_in OctalDigit d ≡ true → is_in Digit d ≡ true
+    digit d h = grind (arith, nat_tests)
+
+pub integer-no_floating : (s : List ℕ) → IsInteger s → floating_len s ≡ 0
+integer-no_floating s h = ap floating_len h.whole ∙ kinds h.digits h.suffix h.constant h.ending
+  where
+    decimal : (digits suffix : List ℕ) → IsDecimal digits → IsIntegerSuffix suffix → floating_len (digits ++ suffix) ≡ 0
+    decimal [] suffix k e = absurd k
+    decimal (d ∷ ds) suffix k e = before-suffix (d ∷ ds) suffix (k.0, k.2) e
+    kinds : (digits suffix : List ℕ) → IsDecimal digits ⊎ (IsOctal digits ⊎ IsHexadecimal digits) → IsIntegerSuffix suffix → floating_len (digits ++ suffix) ≡ 0
+    kinds digits suffix (inl k) e = decimal digits suffix k e
+    kinds digits suffix (inr (inl k)) e = ap (λ x. floating_len (x ++ suffix)) k.1 ∙ before-suffix (48 ∷ k.0) suffix (refl, octal-digits k.0 k.2) e
+    kinds digits suffix (inr (inr k)) e =
+        let f = x-facts k.0 k.3 in
+        let r = k.0 ∷ k.1 ++ suffix in
+        ap (λ x. floating_len (x ++ suffix)) k.2 ∙ no-floating (48 ∷ r) (48 ∷ []) r (record { split = refl; len = run-stops Digit (48 ∷ []) r (refl, tt) f.0 }) f.2 f.1
