@@ -1,8 +1,10 @@
 pub mod Closing
+pub mod CutLaws
 pub mod Floats
 pub mod Integers
 pub mod KindLaws
 pub mod LineLaws
+pub mod PieceLaws
 pub mod Quoted
 pub mod Runs
 pub mod Tests

@@ -119,7 +119,7 @@ marker-begins s after (gap, digit, rest, e, h, d) =
     let same : s ++ after ≡ 35 ∷ u = ap (λ x. x ++ after) e ∙ ap (λ x. 35 ∷ x) (append_assoc gap (digit ∷ rest) after) in
     ap begins_marker same ∙ marker-at 35 u gap (digit ∷ (rest ++ after)) refl (run-stops Gap gap (digit ∷ (rest ++ after)) h (digit-no_gap digit d)) ∙ d
 
-line-ends : (after : List ℕ) → (after ≡ []) ⊎ ((more : List ℕ) × (after ≡ 10 ∷ more)) → Ends InLine after
+pub line-ends : (after : List ℕ) → (after ≡ []) ⊎ ((more : List ℕ) × (after ≡ 10 ∷ more)) → Ends InLine after
 line-ends after (inl e) = subst (Ends InLine) (sym e) tt
 line-ends after (inr h) = subst (Ends InLine) (sym h.1) refl
 
