@@ -50,11 +50,11 @@ cuts-more s t (q ∷ ps) e rest p after h split stands =
     (h.0, h.1, h.2, cuts-more (line_start_after s q.kind q.text) h.0 ps e rest p after h.3 split stands)
 
 -- two pieces at one place
-record Same (p q : Piece) (a b : List ℕ) : Type 0 where
-  pieces : p ≡ q
-  rests : a ≡ b
+pub record Same (p q : Piece) (a b : List ℕ) : Type 0 where
+  pub pieces : p ≡ q
+  pub rests : a ≡ b
 
-same-piece : (s : Bool) (t : List ℕ) (p q : Piece) (a b : List ℕ) → t ≡ p.text ++ a → Stands s p.kind p.text a → t ≡ q.text ++ b → Stands s q.kind q.text b → Same p q a b
+pub same-piece : (s : Bool) (t : List ℕ) (p q : Piece) (a b : List ℕ) → t ≡ p.text ++ a → Stands s p.kind p.text a → t ≡ q.text ++ b → Stands s q.kind q.text b → Same p q a b
 same-piece s t p q a b e h f k =
     let same = sym (piece-complete s p.kind p.text a h) ∙ ap (piece_at s) (sym e ∙ f) ∙ piece-complete s q.kind q.text b k in
     let pair = injective (p.kind, length p.text) (q.kind, length q.text) same in

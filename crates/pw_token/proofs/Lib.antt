@@ -3,7 +3,9 @@ pub mod CutLaws
 pub mod Floats
 pub mod Integers
 pub mod KindLaws
+pub mod LexLaws
 pub mod LineLaws
+pub mod PieceBounds
 pub mod PieceLaws
 pub mod Quoted
 pub mod Runs

@@ -125,14 +125,43 @@ pub record IsTooManyAt (text : List ℕ) (at : ℕ) : Type 0 where
 
 -- ---- the answer
 
--- the text's length is tried first, and of the two other faults the one at the earlier place is answered
+abbrev pub IsLexed : List ℕ → List Token → Type 0
+IsLexed text tokens = (length text ≤ 1048576) × AreTokens text tokens × (length tokens ≤ 200000)
+
+abbrev pub IsTooLong : List ℕ → Type 0
+IsTooLong text = 1048576 < length text
+
+-- of the two faults that have a place, the one at the earlier place is answered
+abbrev pub IsBad : List ℕ → ℕ → Type 0
+IsBad text at = (length text ≤ 1048576) × IsBadAt text at × ((other : ℕ) → IsTooManyAt text other → at < other)
+
+abbrev pub IsTooMany : List ℕ → ℕ → Type 0
+IsTooMany text at = (length text ≤ 1048576) × IsTooManyAt text at × ((other : ℕ) → IsBadAt text other → at < other)
+
+-- the text's one answer
 abbrev pub Lexes : List ℕ → Result (List Token) LexFault → Type 0
-Lexes text (Ok tokens) = (length text ≤ 1048576) × AreTokens text tokens × (length tokens ≤ 200000)
-Lexes text (Err TooLong) = 1048576 < length text
-Lexes text (Err (Bad at)) = (length text ≤ 1048576) × IsBadAt text at × ((other : ℕ) → IsTooManyAt text other → at < other)
-Lexes text (Err (TooMany at)) = (length text ≤ 1048576) × IsTooManyAt text at × ((other : ℕ) → IsBadAt text other → at < other)
+Lexes text (Ok tokens) = IsLexed text tokens
+Lexes text (Err TooLong) = IsTooLong text
+Lexes text (Err (Bad at)) = IsBad text at
+Lexes text (Err (TooMany at)) = IsTooMany text at
 Lexes text (Err NoMemory) = ⊥
 
--- The answer is this one, unless memory ran out.
-abbrev pub Answers : Result (List Token) LexFault → Result (List Token) LexFault → Type 0
-Answers wanted given = (given ≡ wanted) ⊎ (given ≡ Err NoMemory)
+-- what a call gave, seen by view, is this answer, unless memory ran out
+abbrev pub Answers : {V : Type 0} → (V → List Token) → Result V LexFault → Result (List Token) LexFault → Type 0
+Answers view (Ok v) answer = answer ≡ Ok (view v)
+Answers view (Err fault) answer = (fault ≡ NoMemory) ⊎ (answer ≡ Err fault)
+
+-- what a call gave, seen by view, is an answer of the text, or memory ran out
+abbrev pub Gives : {V : Type 0} → List ℕ → (V → List Token) → Result V LexFault → Type 0
+Gives text view (Ok v) = Lexes text (Ok (view v))
+Gives text view (Err NoMemory) = ⊤
+Gives text view (Err TooLong) = Lexes text (Err TooLong)
+Gives text view (Err (Bad at)) = Lexes text (Err (Bad at))
+Gives text view (Err (TooMany at)) = Lexes text (Err (TooMany at))
+
+-- why a piece was not kept behind `count` tokens: there are 200,000, and it is another, or memory ran out
+abbrev pub Keeps : PieceKind → ℕ → ℕ → LexFault → Type 0
+Keeps kind at count NoMemory = ⊤
+Keeps kind at count (TooMany place) = (place ≡ at) × (count ≡ 200000) × ((token : TokenKind) × (kind ≡ piece.Token token))
+Keeps kind at count TooLong = ⊥
+Keeps kind at count (Bad place) = ⊥

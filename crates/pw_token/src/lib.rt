@@ -4,10 +4,12 @@
 
 mod bytes;
 mod constants;
+mod lexer;
 mod literals;
 mod marks;
 mod piece;
 mod token;
 
+pub use lexer::{MAX_TEXT, MAX_TOKENS, lex};
 pub use piece::PieceKind;
 pub use token::{Feature, LexFault, Token, TokenKind};

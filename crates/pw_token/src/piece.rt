@@ -1,6 +1,6 @@
 //! The piece at the front of a text: a blank, a comment, a line marker or a token.
 
-ghost use Rattle.std.specs.Prelude.{◌≡◌, ◌<◌, ◌≤◌, length};
+ghost use Rattle.std.specs.Prelude.{◌≡◌, ◌<◌, ◌≤◌, IfSome, length};
 ghost use Rattle.pw_token.specs.Pieces as spec;
 
 use crate::bytes::{Class, byte_at, is_in, run_of, text_from};
@@ -77,9 +77,8 @@ fn line_at(text: &[u8]) -> Option<(PieceKind, usize)>
     Some((kind, run_of(Class::InLine, text)))
 }
 
-/// The piece at the front of a text, of which only blanks stand before it in its line where `line_start` says so.
 #[tactic(auto, unfolding(crate::specs::Pieces::piece_at))]
-pub fn piece_at(line_start: bool, text: &[u8]) -> Option<(PieceKind, usize)>
+fn find_piece(line_start: bool, text: &[u8]) -> Option<(PieceKind, usize)>
     ensures { result ≡ spec.piece_at line_start text.now }
 {
     let (first, second) = (byte_at(text, 0), byte_at(text, 1));
@@ -94,4 +93,13 @@ pub fn piece_at(line_start: bool, text: &[u8]) -> Option<(PieceKind, usize)>
     } else {
         token_at(text)
     }
+}
+
+/// The piece at the front of a text and its length. `line_start` says that only blanks stand before it in its line.
+pub fn piece_at(line_start: bool, text: &[u8]) -> Option<(PieceKind, usize)>
+    requires { 0 < length text.now }
+    ensures value { result ≡ spec.piece_at line_start text.now }
+    ensures within { IfSome result (λ found. (0 < found.1) × (found.1 ≤ length text.now)) }
+{
+    find_piece(line_start, text)
 }
