@@ -16,6 +16,10 @@ pub total : List Piece → ℕ
 total [] = 0
 total (p ∷ ps) = length p.text + total ps
 
+pub total-first : (p : Piece) (ps : List Piece) → total (p ∷ ps) ≡ length p.text + total ps
+unfolding total
+total-first p ps = refl
+
 pub total-append : (ps qs : List Piece) → total (ps ++ qs) ≡ total ps + total qs
 unfolding total
 total-append [] qs = omega arith

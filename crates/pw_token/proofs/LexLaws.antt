@@ -1,10 +1,10 @@
 -- The loop of the lexer cuts the text, and a text has one answer.
 use Rattle.std.proofs.Common.{◌≡◌, ◌≢◌, ℕ, suc, ◌+◌, ◌<◌, ◌≤◌, ◌⊎◌, inl, inr, Bool, true, false, List, [], ◌∷◌, ◌++◌, length, take, drop, refl, ap, arith, sym, ◌∙◌, subst, append_assoc, length-append, length-drop, Option, Some, None, Result, Ok, Err}
 use Rattle.std.proofs.lemmas.List.{append-nil, take_at, drop_at, drop-drop, drop_all}
-use Rattle.pw_token.proofs.CutLaws.{total, total-append, cuts-length, cuts-more, stands-long, Same, same-piece, GoesOn, compare, stops, nothing-at_end, one-cutting, tokens-append}
+use Rattle.pw_token.proofs.CutLaws.{total, total-append, total-first, cuts-length, cuts-more, stands-long, Same, same-piece, GoesOn, compare, stops, nothing-at_end, one-cutting, tokens-append}
 use Rattle.pw_token.proofs.PieceLaws.{StandsHere, piece-sound, piece-none}
 use Rattle.pw_token.specs.Pieces.{piece_at}
-use Rattle.pw_token.specs.Tokenization.{Piece, Stands, Cuts, line_start_after, tokens_of, token_in, NothingStands, AreTokens, IsBadAt, IsTooManyAt, IsLexed, IsBad, IsTooMany, Lexes}
+use Rattle.pw_token.specs.Tokenization.{Piece, Stands, Cuts, line_start_after, tokens_of, token_in, NothingStands, AreTokens, IsBadAt, IsTooManyAt, IsLexed, IsBad, IsTooMany, Lexes, Gives, Keeps}
 use Rattle.pw_token.specs.declared.piece.PieceKind.{PieceKind}
 use Rattle.pw_token.specs.declared.piece.PieceKind.TheVariants as piece
 use Rattle.pw_token.specs.declared.token.LexFault.{LexFault}
@@ -126,9 +126,7 @@ still-there text ps e rest k spelled after other h split stands b =
     forth [] same cut = absurd (no-token b.line_start b.rest e rest k spelled after b.nothing (sym cut.0) (sym cut.1) split stands)
     forth (p ∷ more) same cut =
         let l = stands-long e p.kind p.text cut.0 cut.2 in
-        omega (arith, ap total same, total-append ps (p ∷ more), first p more, l)
-    first : (p : Piece) (more : List Piece) → total (p ∷ more) ≡ length p.text + total more
-    first p more = unfold total in refl
+        omega (arith, ap total same, total-append ps (p ∷ more), total-first p more, l)
 
 pub lexing-many : (text : List ℕ) (at : ℕ) (ls : Bool) (tokens : List Token) (k : TokenKind) (n : ℕ) → Lexing text at ls tokens → at < length text → length text ≤ 1048576
     → piece_at ls (drop at text) ≡ Some (piece.Token k, n) → length tokens ≡ 200000 → IsTooMany text at
@@ -203,3 +201,15 @@ one-answer text (Err (TooMany a)) (Err (Bad b)) h k = absurd (omega (arith, h.2 
 one-answer text (Err (TooMany a)) (Err (TooMany b)) h k = ap (λ n. Err (TooMany n)) (same-many text a b h.1 k.1)
 one-answer text (Err (TooMany at)) (Err NoMemory) h k = absurd k
 one-answer text (Err NoMemory) y h k = absurd h
+
+-- a piece that was not kept
+pub gives-fault : {V : Type 0} (view : V → List Token) (text : List ℕ) (at : ℕ) (ls : Bool) (tokens : List Token) (k : PieceKind) (n count : ℕ) (fault : LexFault)
+    → Lexing text at ls tokens → at < length text → length text ≤ 1048576 → piece_at ls (drop at text) ≡ Some (k, n) → count ≡ length tokens
+    → Keeps k at count fault → Gives text view (Err fault)
+gives-fault view text at ls tokens k n count NoMemory l inside small e same h = tt
+gives-fault view text at ls tokens k n count (TooMany place) l inside small e same h =
+    let kind = h.2 in
+    subst (IsTooMany text) (sym h.0)
+      (lexing-many text at ls tokens kind.0 n l inside small (e ∙ ap (λ x. Some (x, n)) kind.1) (sym same ∙ h.1))
+gives-fault view text at ls tokens k n count TooLong l inside small e same h = absurd h
+gives-fault view text at ls tokens k n count (Bad place) l inside small e same h = absurd h
