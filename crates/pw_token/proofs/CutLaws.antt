@@ -70,6 +70,7 @@ same-piece s t p q a b e h f k =
   where
     injective : (x y : PieceKind × ℕ) → Some x ≡ Some y → x ≡ y
     injective x y e = cc
+
     join : (p q : Piece) → p.kind ≡ q.kind → p.text ≡ q.text → p ≡ q
     join p q e f = ap (λ x. record { kind = x; text = p.text }) e ∙ ap (λ x. record { kind = q.kind; text = x }) f
 
@@ -88,10 +89,11 @@ compare s t (p ∷ ps) e rest [] f left h k =
 compare s t (p ∷ ps) e rest (q ∷ qs) f left h k =
     let same = same-piece s t p q h.0 k.0 h.1 h.2 k.1 k.2 in
     let other : Cuts (line_start_after s p.kind p.text) h.0 qs f left =
-      subst (λ x. Cuts (line_start_after s x.kind x.text) h.0 qs f left) (sym same.pieces) (subst (λ x. Cuts (line_start_after s q.kind q.text) x qs f left) (sym same.rests) k.3) in
+    subst (λ x. Cuts (line_start_after s x.kind x.text) h.0 qs f left) (sym same.pieces) (subst (λ x. Cuts (line_start_after s q.kind q.text) x qs f left) (sym same.rests) k.3) in
     elim (compare (line_start_after s p.kind p.text) h.0 ps e rest qs f left h.3 other) [
-      inl g ↦ inl (record { more = g.more; pieces = ap (λ x. q ∷ x) g.pieces ∙ ap (λ x. x ∷ ps ++ g.more) (sym same.pieces); cut = g.cut })
-    | inr g ↦ inr (record { more = g.more; pieces = ap (λ x. p ∷ x) g.pieces ∙ ap (λ x. x ∷ qs ++ g.more) same.pieces; cut = g.cut }) ]
+      | inl g ↦ inl (record { more = g.more; pieces = ap (λ x. q ∷ x) g.pieces ∙ ap (λ x. x ∷ ps ++ g.more) (sym same.pieces); cut = g.cut })
+      | inr g ↦ inr (record { more = g.more; pieces = ap (λ x. p ∷ x) g.pieces ∙ ap (λ x. x ∷ qs ++ g.more) same.pieces; cut = g.cut })
+    ]
 
 -- where nothing stands, no cutting goes on
 pub stops : (e : Bool) (rest : List ℕ) (more : List Piece) (f : Bool) (left : List ℕ) → NothingStands e rest → Cuts e rest more f left → more ≡ []
@@ -104,8 +106,9 @@ nothing-at_end e kind text after split stands = omega (arith, ap length split, l
 pub one-cutting : (s : Bool) (t : List ℕ) (ps : List Piece) (e : Bool) (qs : List Piece) (f : Bool) → Cuts s t ps e [] → Cuts s t qs f [] → ps ≡ qs
 one-cutting s t ps e qs f h k =
     elim (compare s t ps e [] qs f [] h k) [
-      inl g ↦ sym (append-nil ps) ∙ sym (g.pieces ∙ ap (λ x. ps ++ x) (stops e [] g.more f [] (nothing-at_end e) g.cut))
-    | inr g ↦ g.pieces ∙ ap (λ x. qs ++ x) (stops f [] g.more e [] (nothing-at_end f) g.cut) ∙ append-nil qs ]
+      | inl g ↦ sym (append-nil ps) ∙ sym (g.pieces ∙ ap (λ x. ps ++ x) (stops e [] g.more f [] (nothing-at_end e) g.cut))
+      | inr g ↦ g.pieces ∙ ap (λ x. qs ++ x) (stops f [] g.more e [] (nothing-at_end f) g.cut) ∙ append-nil qs
+    ]
 
 -- ---- tokens
 

@@ -16,8 +16,9 @@ suffix-front : (t : List ℕ) → Begins IsFloatingSuffix (floating_suffix_len t
 suffix-front [] = record { front = []; rest = []; split = refl; len = refl; holds = tt }
 suffix-front (a ∷ t) =
     elim (either (is_either a 102 70 || is_l a)) [
-      inl h ↦ record { front = a ∷ []; rest = t; split = refl; len = rw h refl; holds = h }
-    | inr n ↦ record { front = []; rest = a ∷ t; split = refl; len = rw n refl; holds = tt } ]
+      | inl h ↦ record { front = a ∷ []; rest = t; split = refl; len = rw h refl; holds = h }
+      | inr n ↦ record { front = []; rest = a ∷ t; split = refl; len = rw n refl; holds = tt }
+    ]
 
 suffix-reaches : (s r : List ℕ) → IsFloatingSuffix s → length s ≤ floating_suffix_len (s ++ r)
 suffix-reaches [] r h = omega arith
@@ -56,31 +57,40 @@ exponent-front [] l = absurd (omega (arith, exponent-not [] refl))
 exponent-front (e ∷ []) l = absurd (omega (arith, exponent-empty (e ∷ []) refl))
 exponent-front (e ∷ b ∷ t) l =
     elim (either (is_either e 101 69)) [
-      inr n ↦ absurd (omega (arith, exponent-not (e ∷ b ∷ t) n))
-    | inl h ↦ elim (either (is_either b 43 45)) [
-        inl s ↦
-          let start = start-signed e b t s in
-          let after : drop (exponent_start (e ∷ b ∷ t)) (e ∷ b ∷ t) ≡ t = ap (λ k. drop k (e ∷ b ∷ t)) start in
-          let some : 0 < run Digit t = positive (e ∷ b ∷ t) t after l in
-          let d = digits-holds t some in
-          record {
-            front = e ∷ b ∷ d.front; rest = d.rest; split = ap (λ x. e ∷ b ∷ x) d.split;
-            len = omega (arith, d.len, exponent-some (e ∷ b ∷ t) h (rw after some), start, ap (run Digit) after);
-            holds = (e, b ∷ [], d.front, refl, h, s, d.holds) }
-      | inr n ↦
-          let start = start-plain e b t n in
-          let after : drop (exponent_start (e ∷ b ∷ t)) (e ∷ b ∷ t) ≡ b ∷ t = ap (λ k. drop k (e ∷ b ∷ t)) start in
-          let some : 0 < run Digit (b ∷ t) = positive (e ∷ b ∷ t) (b ∷ t) after l in
-          let d = digits-holds (b ∷ t) some in
-          record {
-            front = e ∷ d.front; rest = d.rest; split = ap (λ x. e ∷ x) d.split;
-            len = omega (arith, d.len, exponent-some (e ∷ b ∷ t) h (rw after some), start, ap (run Digit) after);
-            holds = (e, [], d.front, refl, h, tt, d.holds) } ] ]
+      | inr n ↦ absurd (omega (arith, exponent-not (e ∷ b ∷ t) n))
+      | inl h ↦ elim (either (is_either b 43 45)) [
+        | inl s ↦
+            let start = start-signed e b t s in
+            let after : drop (exponent_start (e ∷ b ∷ t)) (e ∷ b ∷ t) ≡ t = ap (λ k. drop k (e ∷ b ∷ t)) start in
+            let some : 0 < run Digit t = positive (e ∷ b ∷ t) t after l in
+            let d = digits-holds t some in
+            record {
+              front = e ∷ b ∷ d.front;
+              rest = d.rest;
+              split = ap (λ x. e ∷ b ∷ x) d.split;
+              len = omega (arith, d.len, exponent-some (e ∷ b ∷ t) h (rw after some), start, ap (run Digit) after);
+              holds = (e, b ∷ [], d.front, refl, h, s, d.holds);
+            }
+        | inr n ↦
+            let start = start-plain e b t n in
+            let after : drop (exponent_start (e ∷ b ∷ t)) (e ∷ b ∷ t) ≡ b ∷ t = ap (λ k. drop k (e ∷ b ∷ t)) start in
+            let some : 0 < run Digit (b ∷ t) = positive (e ∷ b ∷ t) (b ∷ t) after l in
+            let d = digits-holds (b ∷ t) some in
+            record {
+              front = e ∷ d.front;
+              rest = d.rest;
+              split = ap (λ x. e ∷ x) d.split;
+              len = omega (arith, d.len, exponent-some (e ∷ b ∷ t) h (rw after some), start, ap (run Digit) after);
+              holds = (e, [], d.front, refl, h, tt, d.holds);
+            }
+      ]
+    ]
   where
     positive : (t u : List ℕ) → drop (exponent_start t) t ≡ u → 0 < exponent_len t → 0 < run Digit u
     positive t u e l = elim (either (eqb (run Digit u) 0)) [
-        inl z ↦ absurd (omega (arith, exponent-empty t (ap (run Digit) e ∙ eqb-true _ 0 z)))
-      | inr z ↦ omega (arith, eqb-false _ 0 z) ]
+      | inl z ↦ absurd (omega (arith, exponent-empty t (ap (run Digit) e ∙ eqb-true _ 0 z)))
+      | inr z ↦ omega (arith, eqb-false _ 0 z)
+    ]
 
 digit-no_sign : (b : ℕ) → is_in Digit b ≡ true → is_either b 43 45 ≡ false
 digit-no_sign b h = grind (arith, nat_tests)
@@ -163,7 +173,7 @@ fraction-not : (t w r : List ℕ) → Whole t w r → (slice_index r 0 ≡ 46 �
 unfolding fraction_len
 fraction-not t w r h n =
     let p : eqb (slice_index t (run Digit t)) 46 ≡ false =
-      elim (either (eqb (slice_index t (run Digit t)) 46)) [ inl e ↦ absurd (n (sym (whole-at t w r h) ∙ eqb-true _ 46 e)) | inr e ↦ e ] in
+    elim (either (eqb (slice_index t (run Digit t)) 46)) [ inl e ↦ absurd (n (sym (whole-at t w r h) ∙ eqb-true _ 46 e)) | inr e ↦ e ] in
     rw p refl
 
 empty-long : (a b : List ℕ) → 0 < length a + length b → a ++ b ≢ []
@@ -173,19 +183,23 @@ fraction-from : (t w r : List ℕ) → Whole t w r → AllIn Digit w → 0 < fra
 fraction-from t w [] h all l = absurd (omega (arith, fraction-not t w [] h (λ e. absurd (omega arith))))
 fraction-from t w (p ∷ r) h all l =
     elim (either (eqb p 46)) [
-      inr n ↦ absurd (omega (arith, fraction-not t w (p ∷ r) h (λ e. eqb-false p 46 n e)))
-    | inl e ↦
-      let h' : Whole t w (46 ∷ r) = subst (λ x. Whole t w (x ∷ r)) (eqb-true p 46 e) h in
-      elim (either (eqb (length w + run Digit r) 0)) [
-        inl z ↦ absurd (omega (arith, fraction-empty t w r h' (eqb-true _ 0 z)))
-      | inr z ↦
-        let d = (run-front Digit r).here in
-        let some : 0 < length w + run Digit r = omega (arith, eqb-false _ 0 z) in
-        record {
-          front = w ++ 46 ∷ d.front; rest = d.rest;
-          split = h'.split ∙ ap (λ x. w ++ 46 ∷ x) d.split ∙ sym (append_assoc w (46 ∷ d.front) d.rest);
-          len = omega (arith, fraction-some t w r h' some, length-append w (46 ∷ d.front), d.len);
-          holds = (w, d.front, refl, all, d.holds, empty-long w d.front (omega (arith, some, d.len))) } ] ]
+      | inr n ↦ absurd (omega (arith, fraction-not t w (p ∷ r) h (λ e. eqb-false p 46 n e)))
+      | inl e ↦
+          let h' : Whole t w (46 ∷ r) = subst (λ x. Whole t w (x ∷ r)) (eqb-true p 46 e) h in
+          elim (either (eqb (length w + run Digit r) 0)) [
+            | inl z ↦ absurd (omega (arith, fraction-empty t w r h' (eqb-true _ 0 z)))
+            | inr z ↦
+                let d = (run-front Digit r).here in
+                let some : 0 < length w + run Digit r = omega (arith, eqb-false _ 0 z) in
+                record {
+                  front = w ++ 46 ∷ d.front;
+                  rest = d.rest;
+                  split = h'.split ∙ ap (λ x. w ++ 46 ∷ x) d.split ∙ sym (append_assoc w (46 ∷ d.front) d.rest);
+                  len = omega (arith, fraction-some t w r h' some, length-append w (46 ∷ d.front), d.len);
+                  holds = (w, d.front, refl, all, d.holds, empty-long w d.front (omega (arith, some, d.len)));
+                }
+          ]
+    ]
 
 fraction-front : (t : List ℕ) → 0 < fraction_len t → Begins IsFractional (fraction_len t) t
 fraction-front t l =
@@ -238,10 +252,12 @@ scaled-plain n m u t e l z =
     let some = scaled-some n false t u d refl in
     let k : n + exponent_len u ≡ n = omega (arith, z) in
     record {
-      front = m ++ s.front; rest = s.rest;
+      front = m ++ s.front;
+      rest = s.rest;
       split = e ∙ ap (λ x. m ++ x) s.split ∙ sym (append_assoc m s.front s.rest);
       len = omega (arith, length-append m s.front, s.len, some, ap (λ i. floating_suffix_len (drop i t)) k, ap floating_suffix_len d);
-      holds = record { exponent = []; suffix = s.front; whole = refl; scale = inl (refl, refl); ending = s.holds } }
+      holds = record { exponent = []; suffix = s.front; whole = refl; scale = inl (refl, refl); ending = s.holds };
+    }
 
 not-zero : (w : Bool) (n : ℕ) → 0 < n → (w && eqb n 0) ≡ false
 not-zero w n l = and-right w (eqb n 0) (no n l)
@@ -258,10 +274,12 @@ scaled-exponent n wanted m u t e l z =
     let joined : t ≡ (m ++ x.front) ++ x.rest = e ∙ ap (λ r. m ++ r) x.split ∙ sym (append_assoc m x.front x.rest) in
     let after : drop (n + exponent_len u) t ≡ x.rest = ap (drop (n + exponent_len u)) joined ∙ drop_at (m ++ x.front) x.rest (n + exponent_len u) (omega (arith, length-append m x.front, x.len, l)) in
     record {
-      front = m ++ (x.front ++ s.front); rest = s.rest;
+      front = m ++ (x.front ++ s.front);
+      rest = s.rest;
       split = e ∙ ap (λ r. m ++ r) (x.split ∙ ap (λ r. x.front ++ r) s.split ∙ sym (append_assoc x.front s.front s.rest)) ∙ sym (append_assoc m (x.front ++ s.front) s.rest);
       len = omega (arith, length-append m (x.front ++ s.front), length-append x.front s.front, x.len, s.len, some, ap floating_suffix_len after);
-      holds = record { exponent = x.front; suffix = s.front; whole = refl; scale = inr x.holds; ending = s.holds } }
+      holds = record { exponent = x.front; suffix = s.front; whole = refl; scale = inr x.holds; ending = s.holds };
+    }
 
 floating-fraction : (t : List ℕ) → 0 < fraction_len t → floating_len t ≡ scaled_len (fraction_len t) false t
 unfolding floating_len
@@ -280,37 +298,51 @@ from-fraction t l =
     let f = fraction-front t l in
     let e = floating-fraction t l in
     let b : Begins (Ending false f.front) (scaled_len (fraction_len t) false t) t = elim (either (eqb (exponent_len f.rest) 0)) [
-        inl z ↦ scaled-plain (fraction_len t) f.front f.rest t f.split f.len (eqb-true _ 0 z)
-      | inr z ↦ scaled-exponent (fraction_len t) false f.front f.rest t f.split f.len (omega (arith, eqb-false _ 0 z)) ] in
+      | inl z ↦ scaled-plain (fraction_len t) f.front f.rest t f.split f.len (eqb-true _ 0 z)
+      | inr z ↦ scaled-exponent (fraction_len t) false f.front f.rest t f.split f.len (omega (arith, eqb-false _ 0 z))
+    ] in
     record { front = b.front; rest = b.rest; split = b.split; len = b.len ∙ sym e; holds = is_floating f.front b.front f.holds b.holds }
   where
     is_floating : (m s : List ℕ) → IsFractional m → Ending false m s → IsFloating s
     is_floating m s h k = record {
-      mantissa = m; exponent = k.exponent; suffix = k.suffix; whole = k.whole; ending = k.ending;
-      constant = inl (h, elim k.scale [ inl e ↦ inl e.0 | inr x ↦ inr x ]) }
+      mantissa = m;
+      exponent = k.exponent;
+      suffix = k.suffix;
+      whole = k.whole;
+      ending = k.ending;
+      constant = inl (h, elim k.scale [ inl e ↦ inl e.0 | inr x ↦ inr x ]);
+    }
 
 from-digits : (t : List ℕ) → fraction_len t ≡ 0 → 0 < run Digit t → 0 < floating_len t → Begins IsFloating (floating_len t) t
 from-digits t none l some =
     let f = digits-holds t l in
     let e = floating-digits t none l in
     elim (either (eqb (exponent_len f.rest) 0)) [
-      inl z ↦ absurd (omega (arith, e, scaled-none (run Digit t) t f.rest (begins-drop f) (eqb-true _ 0 z)))
-    | inr z ↦
-      let b = scaled-exponent (run Digit t) true f.front f.rest t f.split f.len (omega (arith, eqb-false _ 0 z)) in
-      record { front = b.front; rest = b.rest; split = b.split; len = b.len ∙ sym e; holds = is_floating f.front b.front f.holds b.holds } ]
+      | inl z ↦ absurd (omega (arith, e, scaled-none (run Digit t) t f.rest (begins-drop f) (eqb-true _ 0 z)))
+      | inr z ↦
+          let b = scaled-exponent (run Digit t) true f.front f.rest t f.split f.len (omega (arith, eqb-false _ 0 z)) in
+          record { front = b.front; rest = b.rest; split = b.split; len = b.len ∙ sym e; holds = is_floating f.front b.front f.holds b.holds }
+    ]
   where
     is_floating : (m s : List ℕ) → SomeIn Digit m → Ending true m s → IsFloating s
     is_floating m s h k = record {
-      mantissa = m; exponent = k.exponent; suffix = k.suffix; whole = k.whole; ending = k.ending;
-      constant = inr (h, elim k.scale [ inl e ↦ cc | inr x ↦ x ]) }
+      mantissa = m;
+      exponent = k.exponent;
+      suffix = k.suffix;
+      whole = k.whole;
+      ending = k.ending;
+      constant = inr (h, elim k.scale [ inl e ↦ cc | inr x ↦ x ]);
+    }
 
 pub floating-front : (t : List ℕ) → 0 < floating_len t → Begins IsFloating (floating_len t) t
 floating-front t l =
     elim (either (eqb (fraction_len t) 0)) [
-      inr z ↦ from-fraction t (omega (arith, eqb-false _ 0 z))
-    | inl z ↦ elim (either (eqb (run Digit t) 0)) [
-        inl n ↦ absurd (omega (arith, floating-none t (eqb-true _ 0 z) (eqb-true _ 0 n)))
-      | inr n ↦ from-digits t (eqb-true _ 0 z) (omega (arith, eqb-false _ 0 n)) l ] ]
+      | inr z ↦ from-fraction t (omega (arith, eqb-false _ 0 z))
+      | inl z ↦ elim (either (eqb (run Digit t) 0)) [
+        | inl n ↦ absurd (omega (arith, floating-none t (eqb-true _ 0 z) (eqb-true _ 0 n)))
+        | inr n ↦ from-digits t (eqb-true _ 0 z) (omega (arith, eqb-false _ 0 n)) l
+      ]
+    ]
 
 suffix-letter : (a : ℕ) → (is_either a 102 70 || is_l a) ≡ true → (is_in Digit a ≡ false) × (is_either a 101 69 ≡ false)
 suffix-letter a h = (grind (arith, nat_tests), grind (arith, nat_tests))
@@ -401,9 +433,15 @@ parts-reach m e (a ∷ b ∷ x) r (inl (h, inl k)) s = absurd s
 pub floating-reaches : (a r : List ℕ) → IsFloating a → length a ≤ floating_len (a ++ r)
 floating-reaches a r h =
     let e : a ++ r ≡ h.mantissa ++ (h.exponent ++ (h.suffix ++ r)) =
-      ap (λ x. x ++ r) h.whole ∙ append_assoc h.mantissa (h.exponent ++ h.suffix) r ∙ ap (λ x. h.mantissa ++ x) (append_assoc h.exponent h.suffix r) in
-    omega (arith, ap length h.whole, length-append h.mantissa (h.exponent ++ h.suffix), length-append h.exponent h.suffix, ap floating_len e,
-      parts-reach h.mantissa h.exponent h.suffix r h.constant h.ending)
+    ap (λ x. x ++ r) h.whole ∙ append_assoc h.mantissa (h.exponent ++ h.suffix) r ∙ ap (λ x. h.mantissa ++ x) (append_assoc h.exponent h.suffix r) in
+    omega (
+      arith,
+      ap length h.whole,
+      length-append h.mantissa (h.exponent ++ h.suffix),
+      length-append h.exponent h.suffix,
+      ap floating_len e,
+      parts-reach h.mantissa h.exponent h.suffix r h.constant h.ending,
+    )
 
 -- ---- integer constants are none
 
@@ -412,8 +450,9 @@ no-floating t w r h point letter =
     let none = fraction-not t w r h point in
     let after : drop (run Digit t) t ≡ r = ap (λ n. drop n t) h.len ∙ ap (drop (length w)) h.split ∙ drop_at w r (length w) refl in
     elim (either (eqb (run Digit t) 0)) [
-      inl z ↦ floating-none t none (eqb-true _ 0 z)
-    | inr z ↦ floating-digits t none (omega (arith, eqb-false _ 0 z)) ∙ scaled-none (run Digit t) t r after (exponent-not r letter) ]
+      | inl z ↦ floating-none t none (eqb-true _ 0 z)
+      | inr z ↦ floating-digits t none (omega (arith, eqb-false _ 0 z)) ∙ scaled-none (run Digit t) t r after (exponent-not r letter)
+    ]
 
 abbrev IsSuffixLetter : ℕ → Type 0
 IsSuffixLetter a = (is_u a || is_l a) ≡ true
@@ -422,8 +461,9 @@ suffix-starts : (a : ℕ) (s : List ℕ) → IsIntegerSuffix (a ∷ s) → IsSuf
 suffix-starts a [] h = h
 suffix-starts a (b ∷ []) h =
     elim (or-split (is_u a && is_l b) (is_l a && is_u b) h) [
-      inl k ↦ rw ((and-split (is_u a) (is_l b) k).0) refl
-    | inr k ↦ elim (either (is_u a)) [ inl e ↦ rw e refl | inr n ↦ rw (n, (and-split (is_l a) (is_u b) k).0) refl ] ]
+      | inl k ↦ rw ((and-split (is_u a) (is_l b) k).0) refl
+      | inr k ↦ elim (either (is_u a)) [ inl e ↦ rw e refl | inr n ↦ rw (n, (and-split (is_l a) (is_u b) k).0) refl ]
+    ]
 suffix-starts a (b ∷ c ∷ s) h = absurd h
 
 letter-facts : (a : ℕ) → IsSuffixLetter a → (is_in Digit a ≡ false) × (is_either a 101 69 ≡ false) × (a ≡ 46 → ⊥)
@@ -452,6 +492,7 @@ integer-no_floating s h = ap floating_len h.whole ∙ kinds h.digits h.suffix h.
     decimal : (digits suffix : List ℕ) → IsDecimal digits → IsIntegerSuffix suffix → floating_len (digits ++ suffix) ≡ 0
     decimal [] suffix k e = absurd k
     decimal (d ∷ ds) suffix k e = before-suffix (d ∷ ds) suffix (k.0, k.2) e
+
     kinds : (digits suffix : List ℕ) → IsDecimal digits ⊎ (IsOctal digits ⊎ IsHexadecimal digits) → IsIntegerSuffix suffix → floating_len (digits ++ suffix) ≡ 0
     kinds digits suffix (inl k) e = decimal digits suffix k e
     kinds digits suffix (inr (inl k)) e = ap (λ x. floating_len (x ++ suffix)) k.1 ∙ before-suffix (48 ∷ k.0) suffix (refl, octal-digits k.0 k.2) e

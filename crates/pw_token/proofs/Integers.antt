@@ -16,24 +16,30 @@ suffix-split : (a b : ℕ) (t : List ℕ) → Begins IsIntegerSuffix (integer_su
 unfolding integer_suffix_len
 suffix-split a b t =
     elim (either (is_u a)) [
-      inl u ↦ elim (either (is_l b)) [
-        inl l ↦ record { front = a ∷ b ∷ []; rest = t; split = refl; len = rw (u, l) refl; holds = rw (u, l) refl }
-      | inr n ↦ record { front = a ∷ []; rest = b ∷ t; split = refl; len = rw (u, n) refl; holds = rw u refl } ]
-    | inr m ↦ elim (either (is_l a)) [
-        inl l ↦ elim (either (is_u b)) [
-          inl u ↦ record { front = a ∷ b ∷ []; rest = t; split = refl; len = rw (m, l, u) refl; holds = rw (m, l, u) refl }
-        | inr n ↦ record { front = a ∷ []; rest = b ∷ t; split = refl; len = rw (m, l, n) refl; holds = rw (m, l) refl } ]
-      | inr n ↦ record { front = []; rest = a ∷ b ∷ t; split = refl; len = rw (m, n) refl; holds = tt } ] ]
+      | inl u ↦ elim (either (is_l b)) [
+        | inl l ↦ record { front = a ∷ b ∷ []; rest = t; split = refl; len = rw (u, l) refl; holds = rw (u, l) refl }
+        | inr n ↦ record { front = a ∷ []; rest = b ∷ t; split = refl; len = rw (u, n) refl; holds = rw u refl }
+      ]
+      | inr m ↦ elim (either (is_l a)) [
+        | inl l ↦ elim (either (is_u b)) [
+          | inl u ↦ record { front = a ∷ b ∷ []; rest = t; split = refl; len = rw (m, l, u) refl; holds = rw (m, l, u) refl }
+          | inr n ↦ record { front = a ∷ []; rest = b ∷ t; split = refl; len = rw (m, l, n) refl; holds = rw (m, l) refl }
+        ]
+        | inr n ↦ record { front = []; rest = a ∷ b ∷ t; split = refl; len = rw (m, n) refl; holds = tt }
+      ]
+    ]
 
 suffix-front : (t : List ℕ) → Begins IsIntegerSuffix (integer_suffix_len t) t
 unfolding integer_suffix_len
 suffix-front [] = record { front = []; rest = []; split = refl; len = refl; holds = tt }
 suffix-front (a ∷ []) =
     elim (either (is_u a)) [
-      inl u ↦ record { front = a ∷ []; rest = []; split = refl; len = rw u refl; holds = rw u refl }
-    | inr m ↦ elim (either (is_l a)) [
-        inl l ↦ record { front = a ∷ []; rest = []; split = refl; len = rw (m, l) refl; holds = rw (m, l) refl }
-      | inr n ↦ record { front = []; rest = a ∷ []; split = refl; len = rw (m, n) refl; holds = tt } ] ]
+      | inl u ↦ record { front = a ∷ []; rest = []; split = refl; len = rw u refl; holds = rw u refl }
+      | inr m ↦ elim (either (is_l a)) [
+        | inl l ↦ record { front = a ∷ []; rest = []; split = refl; len = rw (m, l) refl; holds = rw (m, l) refl }
+        | inr n ↦ record { front = []; rest = a ∷ []; split = refl; len = rw (m, n) refl; holds = tt }
+      ]
+    ]
 suffix-front (a ∷ b ∷ t) = suffix-split a b t
 
 one-bound : (u l l2 u2 : Bool) → (u || l) ≡ true → 1 ≤ cond u (cond l2 2 1) (cond l (cond u2 2 1) 0)
@@ -91,10 +97,12 @@ hexadecimal-front (a ∷ x ∷ t) h =
     let second = and-split (eqb a 48) (is_either x 120 88) first.0 in
     let digits = (run-front HexDigit t).here in
     record {
-      front = a ∷ x ∷ digits.front; rest = digits.rest;
+      front = a ∷ x ∷ digits.front;
+      rest = digits.rest;
       split = ap (λ s. a ∷ x ∷ s) digits.split;
       len = omega (arith, digits.len);
-      holds = hexadecimal-holds a x digits.front (eqb-true a 48 second.0) second.1 (some-all HexDigit digits.front digits.holds (long t digits.front digits.rest digits.len first.1)) }
+      holds = hexadecimal-holds a x digits.front (eqb-true a 48 second.0) second.1 (some-all HexDigit digits.front digits.holds (long t digits.front digits.rest digits.len first.1));
+    }
   where
     long : (t front rest : List ℕ) → length front ≡ run HexDigit t → is_in HexDigit (slice_index t 0) ≡ true → 0 < length front
     long [] front rest l h = cc
@@ -104,17 +112,18 @@ pub digits-front : (t : List ℕ) → 0 < digits_len t → Begins AreDigits (dig
 unfolding digits_len
 digits-front t l =
     elim (either (begins_hexadecimal t)) [
-      inl h ↦ let f = hexadecimal-front t h in record { front = f.front; rest = f.rest; split = f.split; len = f.len ∙ sym (rw h refl); holds = f.holds }
-    | inr n ↦ elim (either (eqb (slice_index t 0) 48)) [
-        inl z ↦
-          let e : digits_len t ≡ run OctalDigit t = rw (n, z) refl in
-          let f = (run-front OctalDigit t).here in
-          record { front = f.front; rest = f.rest; split = f.split; len = f.len ∙ sym e; holds = octal-holds f.front f.rest t f.split (omega (arith, e, f.len)) f.holds (eqb-true _ 48 z) }
-      | inr z ↦
-          let e : digits_len t ≡ run Digit t = rw (n, z) refl in
-          let f = (run-front Digit t).here in
-          record { front = f.front; rest = f.rest; split = f.split; len = f.len ∙ sym e; holds = decimal-holds f.front f.rest t f.split (omega (arith, e, f.len)) f.holds (eqb-false _ 48 z) } ] ]
-
+      | inl h ↦ let f = hexadecimal-front t h in record { front = f.front; rest = f.rest; split = f.split; len = f.len ∙ sym (rw h refl); holds = f.holds }
+      | inr n ↦ elim (either (eqb (slice_index t 0) 48)) [
+        | inl z ↦
+            let e : digits_len t ≡ run OctalDigit t = rw (n, z) refl in
+            let f = (run-front OctalDigit t).here in
+            record { front = f.front; rest = f.rest; split = f.split; len = f.len ∙ sym e; holds = octal-holds f.front f.rest t f.split (omega (arith, e, f.len)) f.holds (eqb-true _ 48 z) }
+        | inr z ↦
+            let e : digits_len t ≡ run Digit t = rw (n, z) refl in
+            let f = (run-front Digit t).here in
+            record { front = f.front; rest = f.rest; split = f.split; len = f.len ∙ sym e; holds = decimal-holds f.front f.rest t f.split (omega (arith, e, f.len)) f.holds (eqb-false _ 48 z) }
+      ]
+    ]
 
 not_x-begins : (a b : ℕ) (t : List ℕ) → is_either b 120 88 ≡ false → begins_hexadecimal (a ∷ b ∷ t) ≡ false
 not_x-begins a b t h = and-left _ _ (and-right (eqb a 48) (is_either b 120 88) h)
@@ -163,9 +172,10 @@ octal-measured : (ds r : List ℕ) → AllIn OctalDigit ds → Measured (48 ∷ 
 octal-measured (b ∷ ds) r h =
     let e = octal-len (b ∷ ds ++ r) (not_x-begins 48 b (ds ++ r) (octal-not_x b h.0)) in
     (omega (arith, e, run-reaches OctalDigit (b ∷ ds) r h), (λ s. e ∙ ap suc (run-stops OctalDigit (b ∷ ds) r h (stops-octal r s))))
-octal-measured [] r h =
-    ( elim (either (begins_hexadecimal (48 ∷ r))) [ inl k ↦ long r k | inr k ↦ omega (arith, octal-len r k) ],
-      λ s. octal-len r (stops-begins r s) ∙ ap suc (run-stops OctalDigit [] r tt (stops-octal r s)) )
+octal-measured [] r h = (
+  elim (either (begins_hexadecimal (48 ∷ r))) [ inl k ↦ long r k | inr k ↦ omega (arith, octal-len r k) ],
+  λ s. octal-len r (stops-begins r s) ∙ ap suc (run-stops OctalDigit [] r tt (stops-octal r s)),
+)
 
 decimal-measured : (d : ℕ) (ds r : List ℕ) → IsDecimal (d ∷ ds) → Measured (d ∷ ds) r
 decimal-measured d ds r h =
@@ -209,24 +219,28 @@ integer-none t e = rw e refl
 pub integer-front : (t : List ℕ) → 0 < integer_len t → Begins IsInteger (integer_len t) t
 integer-front t l =
     elim (either (eqb (digits_len t) 0)) [
-      inl z ↦ absurd (omega (arith, integer-none t (eqb-true _ 0 z)))
-    | inr z ↦
-      let some : 0 < digits_len t = omega (arith, eqb-false _ 0 z) in
-      let d = digits-front t some in
-      let s = suffix-front d.rest in
-      let e = integer-len t some ∙ ap (λ r. digits_len t + integer_suffix_len r) (begins-drop d) in
-      record {
-        front = d.front ++ s.front; rest = s.rest;
-        split = d.split ∙ ap (λ r. d.front ++ r) s.split ∙ sym (append_assoc d.front s.front s.rest);
-        len = omega (arith, length-append d.front s.front, d.len, s.len, e);
-        holds = record { digits = d.front; suffix = s.front; whole = refl; constant = d.holds; ending = s.holds } } ]
+      | inl z ↦ absurd (omega (arith, integer-none t (eqb-true _ 0 z)))
+      | inr z ↦
+          let some : 0 < digits_len t = omega (arith, eqb-false _ 0 z) in
+          let d = digits-front t some in
+          let s = suffix-front d.rest in
+          let e = integer-len t some ∙ ap (λ r. digits_len t + integer_suffix_len r) (begins-drop d) in
+          record {
+            front = d.front ++ s.front;
+            rest = s.rest;
+            split = d.split ∙ ap (λ r. d.front ++ r) s.split ∙ sym (append_assoc d.front s.front s.rest);
+            len = omega (arith, length-append d.front s.front, d.len, s.len, e);
+            holds = record { digits = d.front; suffix = s.front; whole = refl; constant = d.holds; ending = s.holds };
+          }
+    ]
 
 suffix-stops : (a : ℕ) (s r : List ℕ) → IsIntegerSuffix (a ∷ s) → StopsDigits (a ∷ s ++ r)
 suffix-stops a [] r h = elim (or-split (is_u a) (is_l a) h) [ inl u ↦ (u-not_hexadecimal a u, u-not_x a u) | inr l ↦ (l-not_hexadecimal a l, l-not_x a l) ]
 suffix-stops a (b ∷ []) r h =
     elim (or-split (is_u a && is_l b) (is_l a && is_u b) h) [
-      inl k ↦ let u = (and-split (is_u a) (is_l b) k).0 in (u-not_hexadecimal a u, u-not_x a u)
-    | inr k ↦ let l = (and-split (is_l a) (is_u b) k).0 in (l-not_hexadecimal a l, l-not_x a l) ]
+      | inl k ↦ let u = (and-split (is_u a) (is_l b) k).0 in (u-not_hexadecimal a u, u-not_x a u)
+      | inr k ↦ let l = (and-split (is_l a) (is_u b) k).0 in (l-not_hexadecimal a l, l-not_x a l)
+    ]
 suffix-stops a (b ∷ c ∷ s) r h = absurd h
 
 reaches : (digits suffix r : List ℕ) → AreDigits digits → IsIntegerSuffix suffix → length digits + length suffix ≤ integer_len (digits ++ (suffix ++ r))

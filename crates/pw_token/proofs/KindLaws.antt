@@ -27,9 +27,9 @@ begins_numeral s = is_in class.Digit (slice_index s 0) || (eqb (slice_index s 0)
 kind_in : List ℕ → TokenKind
 kind_in s =
     cond (begins_wide s) Wide
-      (cond (is_nondigit (slice_index s 0)) (word_kind s)
-        (cond (begins_numeral s) (cond (eqb (floating_len s) 0) Number Floating)
-          (cond (eqb (slice_index s 0) 39) Character (cond (eqb (slice_index s 0) 34) Text Mark))))
+    (cond (is_nondigit (slice_index s 0)) (word_kind s)
+    (cond (begins_numeral s) (cond (eqb (floating_len s) 0) Number Floating)
+    (cond (eqb (slice_index s 0) 39) Character (cond (eqb (slice_index s 0) 34) Text Mark))))
 
 -- the first byte is no blank and no backslash
 abbrev pub opens : List ℕ → Bool
@@ -71,6 +71,7 @@ integer-first s h = subst (λ x. is_in class.Digit (slice_index x 0) ≡ true) (
     decimal : (digits suffix : List ℕ) → IsDecimal digits → is_in class.Digit (slice_index (digits ++ suffix) 0) ≡ true
     decimal [] suffix k = absurd k
     decimal (d ∷ ds) suffix k = k.0
+
     kinds : (digits suffix : List ℕ) → IsDecimal digits ⊎ (IsOctal digits ⊎ IsHexadecimal digits) → is_in class.Digit (slice_index (digits ++ suffix) 0) ≡ true
     kinds digits suffix (inl k) = decimal digits suffix k
     kinds digits suffix (inr (inl k)) = ap (λ x. is_in class.Digit (slice_index (x ++ suffix) 0)) k.1
@@ -94,9 +95,11 @@ floating-first s h = subst StartsNumeral (sym h.whole) (scaled h.mantissa (h.exp
     fractional [] [] r a b n = absurd (n refl)
     fractional [] (d ∷ behind) r a b n = inr (refl, b.0)
     fractional (d ∷ before) behind r a b n = inl a.0
+
     digits : (m r : List ℕ) → SomeIn class.Digit m → StartsNumeral (m ++ r)
     digits [] r k = absurd k
     digits (d ∷ m) r k = inl k.0
+
     scaled : {e : List ℕ} (m r : List ℕ) → IsScaled m e → StartsNumeral (m ++ r)
     scaled m r (inl k) = subst (λ x. StartsNumeral (x ++ r)) (sym k.0.2) (fractional k.0.0 k.0.1 r k.0.3 k.0.4 k.0.5)
     scaled m r (inr k) = digits m r k.0
@@ -142,7 +145,7 @@ wide-kind s (literal, e, inr h) = ap kind_in (e ∙ ap (λ x. 76 ∷ x) h.1)
 abbrev mark_test : List ℕ → Bool
 mark_test s =
     ((not (begins_wide s) && not (is_nondigit (slice_index s 0))) && (not (begins_numeral s) && opens s))
-      && ((not (eqb (slice_index s 0) 39) && not (eqb (slice_index s 0) 34)) && not (eqb (length s) 0))
+    && ((not (eqb (slice_index s 0) 39) && not (eqb (slice_index s 0) 34)) && not (eqb (length s) 0))
 
 marks-test : list_all mark_test marks ≡ true
 marks-test = refl

@@ -45,13 +45,15 @@ lexing-step text at ls tokens k n next start l inside e is few starts =
     record {
       pieces = l.pieces ++ p ∷ [];
       cut = subst (λ x. Cuts true text (l.pieces ++ p ∷ []) x (drop (at + n) text)) (sym (starts ∙ ap (line_start_after ls k) front))
-        (subst (Cuts true text (l.pieces ++ p ∷ []) (line_start_after ls k h.front)) (sym after) cut);
+          (subst (Cuts true text (l.pieces ++ p ∷ []) (line_start_after ls k h.front)) (sym after) cut);
       within = omega (arith, ap length h.split, length-append h.front h.rest, h.len, length-drop at text, l.within);
       are = is ∙ ap (λ x. x ++ token_in k at n) l.are ∙ ap (λ x. tokens_of 0 l.pieces ++ x) (sym (last h.front h.len)) ∙ sym (tokens-append 0 l.pieces (p ∷ []));
-      few = few }
+      few = few;
+    }
   where
     zero_add : (a b : ℕ) → a ≡ b → 0 + a ≡ b
     zero_add a b e = omega arith
+
     last : (front : List ℕ) → length front ≡ n → tokens_of (0 + total l.pieces) (record { kind = k; text = front } ∷ []) ≡ token_in k at n
     last front len = append-nil (token_in k (0 + total l.pieces) (length front)) ∙ ap (λ a. token_in k a (length front)) (zero_add (total l.pieces) at (place-of text at ls tokens l)) ∙ ap (token_in k at) len
 
@@ -77,15 +79,23 @@ few-before : (text : List ℕ) (ps : List Piece) (e : Bool) (rest : List ℕ) (o
     → (o : IsTooManyAt text other) → GoesOn ps e rest o.pieces o.line_start o.rest
 few-before text ps e rest other h few o =
     elim (compare true text ps e rest o.pieces o.line_start o.rest h o.cut) [
-      inl g ↦ g
-    | inr g ↦ back g.more g.pieces g.cut ]
+      | inl g ↦ g
+      | inr g ↦ back g.more g.pieces g.cut
+    ]
   where
     back : (more : List Piece) → ps ≡ o.pieces ++ more → Cuts o.line_start o.rest more e rest → GoesOn ps e rest o.pieces o.line_start o.rest
     back [] same cut = record { more = []; pieces = sym (append-nil o.pieces) ∙ sym same ∙ sym (append-nil ps); cut = (sym cut.0, sym cut.1) }
     back (p ∷ more) same cut =
         let k = token-kind o.line_start o.rest p more e rest o.kind o.spelled o.after cut o.split o.stands in
-        absurd (omega (arith, few, ap (λ x. length (tokens_of 0 x)) same, ap length (tokens-append 0 o.pieces (p ∷ more)),
-          length-append (tokens_of 0 o.pieces) (tokens_of (0 + total o.pieces) (p ∷ more)), o.full, one-token p more (0 + total o.pieces) o.kind k))
+        absurd (omega (
+          arith,
+          few,
+          ap (λ x. length (tokens_of 0 x)) same,
+          ap length (tokens-append 0 o.pieces (p ∷ more)),
+          length-append (tokens_of 0 o.pieces) (tokens_of (0 + total o.pieces) (p ∷ more)),
+          o.full,
+          one-token p more (0 + total o.pieces) o.kind k,
+        ))
 
 no-token : (e : Bool) (rest : List ℕ) (f : Bool) (left : List ℕ) (k : PieceKind) (spelled after : List ℕ) → NothingStands e rest → e ≡ f → rest ≡ left
     → left ≡ spelled ++ after → Stands f k spelled after → ⊥
@@ -104,23 +114,31 @@ none-there text ps e rest other h few none o =
 pub lexing-bad : (text : List ℕ) (at : ℕ) (ls : Bool) (tokens : List Token) → Lexing text at ls tokens → at < length text → length text ≤ 1048576
     → piece_at ls (drop at text) ≡ None → IsBad text at
 lexing-bad text at ls tokens l inside small e =
-    let none = piece-none ls (drop at text) e in
-    (small,
-     record {
-       pieces = l.pieces; line_start = ls; rest = drop at text; cut = l.cut; place = omega (arith, length-drop at text); before_end = omega (arith, length-drop at text);
-       nothing = none },
-     λ other o. absurd (none-there text l.pieces ls (drop at text) other l.cut (omega (arith, l.few, ap length l.are)) none o))
+    let none = piece-none ls (drop at text) e in (
+      small,
+      record {
+        pieces = l.pieces;
+        line_start = ls;
+        rest = drop at text;
+        cut = l.cut;
+        place = omega (arith, length-drop at text);
+        before_end = omega (arith, length-drop at text);
+        nothing = none;
+      },
+      λ other o. absurd (none-there text l.pieces ls (drop at text) other l.cut (omega (arith, l.few, ap length l.are)) none o),
+    )
 
 -- something stands where a cutting stops
 still-there : (text : List ℕ) (ps : List Piece) (e : Bool) (rest : List ℕ) (k : PieceKind) (spelled after : List ℕ) (other : ℕ) → Cuts true text ps e rest
     → rest ≡ spelled ++ after → Stands e k spelled after → (b : IsBadAt text other) → total ps < total b.pieces
 still-there text ps e rest k spelled after other h split stands b =
     elim (compare true text ps e rest b.pieces b.line_start b.rest h b.cut) [
-      inl g ↦ forth g.more g.pieces g.cut
-    | inr g ↦
-      let empty = stops b.line_start b.rest g.more e rest b.nothing g.cut in
-      let cut : Cuts b.line_start b.rest [] e rest = subst (λ x. Cuts b.line_start b.rest x e rest) empty g.cut in
-      absurd (no-token b.line_start b.rest e rest k spelled after b.nothing cut.0 cut.1 split stands) ]
+      | inl g ↦ forth g.more g.pieces g.cut
+      | inr g ↦
+          let empty = stops b.line_start b.rest g.more e rest b.nothing g.cut in
+          let cut : Cuts b.line_start b.rest [] e rest = subst (λ x. Cuts b.line_start b.rest x e rest) empty g.cut in
+          absurd (no-token b.line_start b.rest e rest k spelled after b.nothing cut.0 cut.1 split stands)
+    ]
   where
     forth : (more : List Piece) → b.pieces ≡ ps ++ more → Cuts e rest more b.line_start b.rest → total ps < total b.pieces
     forth [] same cut = absurd (no-token b.line_start b.rest e rest k spelled after b.nothing (sym cut.0) (sym cut.1) split stands)
@@ -131,14 +149,30 @@ still-there text ps e rest k spelled after other h split stands b =
 pub lexing-many : (text : List ℕ) (at : ℕ) (ls : Bool) (tokens : List Token) (k : TokenKind) (n : ℕ) → Lexing text at ls tokens → at < length text → length text ≤ 1048576
     → piece_at ls (drop at text) ≡ Some (piece.Token k, n) → length tokens ≡ 200000 → IsTooMany text at
 lexing-many text at ls tokens k n l inside small e full =
-    let h = here text at ls (piece.Token k) n inside e in
-    (small,
-     record {
-       pieces = l.pieces; line_start = ls; rest = drop at text; cut = l.cut; place = omega (arith, length-drop at text);
-       full = sym (ap length l.are) ∙ full; kind = k; spelled = h.front; after = h.rest; split = h.split; stands = h.stands },
-     λ other b.
-       omega (arith, still-there text l.pieces ls (drop at text) (piece.Token k) h.front h.rest other l.cut h.split h.stands b, place-of text at ls tokens l,
-         cuts-length true text b.pieces b.line_start b.rest b.cut, b.place))
+    let h = here text at ls (piece.Token k) n inside e in (
+      small,
+      record {
+        pieces = l.pieces;
+        line_start = ls;
+        rest = drop at text;
+        cut = l.cut;
+        place = omega (arith, length-drop at text);
+        full = sym (ap length l.are) ∙ full;
+        kind = k;
+        spelled = h.front;
+        after = h.rest;
+        split = h.split;
+        stands = h.stands;
+      },
+      λ other b.
+          omega (
+            arith,
+            still-there text l.pieces ls (drop at text) (piece.Token k) h.front h.rest other l.cut h.split h.stands b,
+            place-of text at ls tokens l,
+            cuts-length true text b.pieces b.line_start b.rest b.cut,
+            b.place,
+          ),
+    )
 
 -- ---- one answer
 
@@ -148,14 +182,15 @@ same-tokens text a b h k = h.tokens_are ∙ ap (tokens_of 0) (one-cutting true t
 not-bad : (text : List ℕ) (a : List Token) (at : ℕ) → AreTokens text a → IsBadAt text at → ⊥
 not-bad text a at h b =
     elim (compare true text h.pieces h.end [] b.pieces b.line_start b.rest h.cut b.cut) [
-      inl g ↦
-        let empty = stops h.end [] g.more b.line_start b.rest (nothing-at_end h.end) g.cut in
-        let cut : Cuts h.end [] [] b.line_start b.rest = subst (λ x. Cuts h.end [] x b.line_start b.rest) empty g.cut in
-        omega (arith, b.before_end, ap length cut.1)
-    | inr g ↦
-        let empty = stops b.line_start b.rest g.more h.end [] b.nothing g.cut in
-        let cut : Cuts b.line_start b.rest [] h.end [] = subst (λ x. Cuts b.line_start b.rest x h.end []) empty g.cut in
-        omega (arith, b.before_end, ap length cut.1) ]
+      | inl g ↦
+          let empty = stops h.end [] g.more b.line_start b.rest (nothing-at_end h.end) g.cut in
+          let cut : Cuts h.end [] [] b.line_start b.rest = subst (λ x. Cuts h.end [] x b.line_start b.rest) empty g.cut in
+          omega (arith, b.before_end, ap length cut.1)
+      | inr g ↦
+          let empty = stops b.line_start b.rest g.more h.end [] b.nothing g.cut in
+          let cut : Cuts b.line_start b.rest [] h.end [] = subst (λ x. Cuts b.line_start b.rest x h.end []) empty g.cut in
+          omega (arith, b.before_end, ap length cut.1)
+    ]
 
 not-many : (text : List ℕ) (a : List Token) (at : ℕ) → AreTokens text a → length a ≤ 200000 → IsTooManyAt text at → ⊥
 not-many text a at h few o = none-there text h.pieces h.end [] at h.cut (omega (arith, few, ap length h.tokens_are)) (nothing-at_end h.end) o
@@ -163,21 +198,31 @@ not-many text a at h few o = none-there text h.pieces h.end [] at h.cut (omega (
 same-bad : (text : List ℕ) (a b : ℕ) → IsBadAt text a → IsBadAt text b → a ≡ b
 same-bad text a b h k =
     elim (compare true text h.pieces h.line_start h.rest k.pieces k.line_start k.rest h.cut k.cut) [
-      inl g ↦
-        let empty = stops h.line_start h.rest g.more k.line_start k.rest h.nothing g.cut in
-        let cut : Cuts h.line_start h.rest [] k.line_start k.rest = subst (λ x. Cuts h.line_start h.rest x k.line_start k.rest) empty g.cut in
-        omega (arith, h.place, k.place, ap length cut.1)
-    | inr g ↦
-        let empty = stops k.line_start k.rest g.more h.line_start h.rest k.nothing g.cut in
-        let cut : Cuts k.line_start k.rest [] h.line_start h.rest = subst (λ x. Cuts k.line_start k.rest x h.line_start h.rest) empty g.cut in
-        omega (arith, h.place, k.place, ap length cut.1) ]
+      | inl g ↦
+          let empty = stops h.line_start h.rest g.more k.line_start k.rest h.nothing g.cut in
+          let cut : Cuts h.line_start h.rest [] k.line_start k.rest = subst (λ x. Cuts h.line_start h.rest x k.line_start k.rest) empty g.cut in
+          omega (arith, h.place, k.place, ap length cut.1)
+      | inr g ↦
+          let empty = stops k.line_start k.rest g.more h.line_start h.rest k.nothing g.cut in
+          let cut : Cuts k.line_start k.rest [] h.line_start h.rest = subst (λ x. Cuts k.line_start k.rest x h.line_start h.rest) empty g.cut in
+          omega (arith, h.place, k.place, ap length cut.1)
+    ]
 
 same-many : (text : List ℕ) (a b : ℕ) → IsTooManyAt text a → IsTooManyAt text b → a ≡ b
 same-many text a b h k =
     let f = few-before text h.pieces h.line_start h.rest b h.cut (omega (arith, h.full)) k in
     let g = few-before text k.pieces k.line_start k.rest a k.cut (omega (arith, k.full)) h in
-    omega (arith, h.place, k.place, cuts-length true text h.pieces h.line_start h.rest h.cut, cuts-length true text k.pieces k.line_start k.rest k.cut,
-      ap total f.pieces, total-append h.pieces f.more, ap total g.pieces, total-append k.pieces g.more)
+    omega (
+      arith,
+      h.place,
+      k.place,
+      cuts-length true text h.pieces h.line_start h.rest h.cut,
+      cuts-length true text k.pieces k.line_start k.rest k.cut,
+      ap total f.pieces,
+      total-append h.pieces f.more,
+      ap total g.pieces,
+      total-append k.pieces g.more,
+    )
 
 pub one-answer : (text : List ℕ) (x y : Result (List Token) LexFault) → Lexes text x → Lexes text y → x ≡ y
 one-answer text (Ok a) (Ok b) h k = ap Ok (same-tokens text a b h.1 k.1)
@@ -210,6 +255,6 @@ gives-fault view text at ls tokens k n count NoMemory l inside small e same h = 
 gives-fault view text at ls tokens k n count (TooMany place) l inside small e same h =
     let kind = h.2 in
     subst (IsTooMany text) (sym h.0)
-      (lexing-many text at ls tokens kind.0 n l inside small (e ∙ ap (λ x. Some (x, n)) kind.1) (sym same ∙ h.1))
+    (lexing-many text at ls tokens kind.0 n l inside small (e ∙ ap (λ x. Some (x, n)) kind.1) (sym same ∙ h.1))
 gives-fault view text at ls tokens k n count TooLong l inside small e same h = absurd h
 gives-fault view text at ls tokens k n count (Bad place) l inside small e same h = absurd h

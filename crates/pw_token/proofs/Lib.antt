@@ -12,3 +12,5 @@ pub mod Runs
 pub mod Tests
 pub mod TokenLaws
 pub mod WordLaws
+pub mod LevelLaws
+pub mod TokenBounds

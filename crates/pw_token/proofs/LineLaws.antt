@@ -38,12 +38,13 @@ body-ends n [] r h = omega arith
 body-ends n (b ∷ []) r h = omega (arith, comment-step n b 42 (47 ∷ r) (and-right (eqb b 42) false refl))
 body-ends n (b ∷ c ∷ s) r h =
     elim (either (eqb b 42 && eqb c 47)) [
-      inl k ↦
-        let both = and-split (eqb b 42) (eqb c 47) k in
-        let bs = eqb-true b 42 both.0 in
-        let cs = eqb-true c 47 both.1 in
-        absurd (h [] s (ap (λ x. x ∷ c ∷ s) bs ∙ ap (λ x. 42 ∷ x ∷ s) cs))
-    | inr k ↦ omega (arith, comment-step n b c (s ++ 42 ∷ 47 ∷ r) k, body-ends (n + 1) (c ∷ s) r (λ front back e. h (b ∷ front) back (ap (λ x. b ∷ x) e))) ]
+      | inl k ↦
+          let both = and-split (eqb b 42) (eqb c 47) k in
+          let bs = eqb-true b 42 both.0 in
+          let cs = eqb-true c 47 both.1 in
+          absurd (h [] s (ap (λ x. x ∷ c ∷ s) bs ∙ ap (λ x. 42 ∷ x ∷ s) cs))
+      | inr k ↦ omega (arith, comment-step n b c (s ++ 42 ∷ 47 ∷ r) k, body-ends (n + 1) (c ∷ s) r (λ front back e. h (b ∷ front) back (ap (λ x. b ∷ x) e)))
+    ]
 
 record Ended (n : ℕ) (t : List ℕ) (k : ℕ) : Type 0 where
   body : List ℕ
@@ -57,17 +58,26 @@ ends-body n [] l = absurd (omega arith)
 ends-body n (b ∷ []) l = absurd (omega arith)
 ends-body n (b ∷ c ∷ t) l =
     elim (either (eqb b 42 && eqb c 47)) [
-      inl k ↦
-        let both = and-split (eqb b 42) (eqb c 47) k in
-        record {
-          body = []; rest = t; split = ap (λ x. x ∷ c ∷ t) (eqb-true b 42 both.0) ∙ ap (λ x. 42 ∷ x ∷ t) (eqb-true c 47 both.1);
-          len = omega (arith, comment-stop n b c t k); none = λ front back e. omega (arith, ap length e, length-append front (42 ∷ 47 ∷ back)) }
-    | inr k ↦
-        let step = comment-step n b c t k in
-        let f = ends-body (n + 1) (c ∷ t) (omega (arith, step)) in
-        record {
-          body = b ∷ f.body; rest = f.rest; split = ap (λ x. b ∷ x) f.split; len = omega (arith, step, f.len);
-          none = longer b c t f.body f.rest k f.split f.none } ]
+      | inl k ↦
+          let both = and-split (eqb b 42) (eqb c 47) k in
+          record {
+            body = [];
+            rest = t;
+            split = ap (λ x. x ∷ c ∷ t) (eqb-true b 42 both.0) ∙ ap (λ x. 42 ∷ x ∷ t) (eqb-true c 47 both.1);
+            len = omega (arith, comment-stop n b c t k);
+            none = λ front back e. omega (arith, ap length e, length-append front (42 ∷ 47 ∷ back));
+          }
+      | inr k ↦
+          let step = comment-step n b c t k in
+          let f = ends-body (n + 1) (c ∷ t) (omega (arith, step)) in
+          record {
+            body = b ∷ f.body;
+            rest = f.rest;
+            split = ap (λ x. b ∷ x) f.split;
+            len = omega (arith, step, f.len);
+            none = longer b c t f.body f.rest k f.split f.none;
+          }
+    ]
   where
     longer : (b c : ℕ) (t body rest : List ℕ) → (eqb b 42 && eqb c 47) ≡ false → c ∷ t ≡ body ++ 42 ∷ 47 ∷ rest → NoEnd body → NoEnd (b ∷ body)
     longer b c t body rest k e none (x ∷ front) back h = none front back (ap (drop 1) h)
@@ -86,10 +96,12 @@ comment-front (b ∷ []) h k l = absurd (omega arith)
 comment-front (b ∷ c ∷ t) h k l =
     let f = ends-body 2 t l in
     record {
-      front = 47 ∷ 42 ∷ f.body ++ 42 ∷ 47 ∷ []; rest = f.rest;
+      front = 47 ∷ 42 ∷ f.body ++ 42 ∷ 47 ∷ [];
+      rest = f.rest;
       split = ap (λ x. x ∷ c ∷ t) h ∙ ap (λ x. 47 ∷ x ∷ t) k ∙ ap (λ x. 47 ∷ 42 ∷ x) (f.split ∙ sym (append_assoc f.body (42 ∷ 47 ∷ []) f.rest));
       len = omega (arith, f.len, length-append f.body (42 ∷ 47 ∷ []));
-      holds = (f.body, refl, f.none) }
+      holds = (f.body, refl, f.none);
+    }
 
 pub comment-reaches : (a r : List ℕ) → IsComment a → comment_len (a ++ r) ≡ length a
 unfolding comment_len
@@ -139,6 +151,7 @@ begins-marker rest after all ends h =
         let l : length (g ++ d ∷ []) ≤ length rest = omega (arith, reach, ap (run InLine) e', run-stops InLine rest after all ends) in
         let cut = prefix-split (g ++ d ∷ []) r rest after e' l in
         (g, d, cut.0, ap (λ x. 35 ∷ x) (cut.1 ∙ append_assoc g (d ∷ []) cut.0), k, digit)
+
     found : (g r : List ℕ) → rest ++ after ≡ g ++ r → run Gap (rest ++ after) ≡ length g → AllIn Gap g → IsMarker (35 ∷ rest)
     found g [] e l k = let z = sym (marker-at 35 (rest ++ after) g [] e l) ∙ h in cc
     found g (d ∷ r) e l k = inside g r d e k (sym (marker-at 35 (rest ++ after) g (d ∷ r) e l) ∙ h)
@@ -165,9 +178,14 @@ hash-line b t e =
     let f = run-front InLine t in
     let k : is_in InLine b ≡ true = subst (λ x. is_in InLine x ≡ true) (sym e) refl in
     record {
-      inside = f.here.front; after = f.here.rest; split = ap (λ x. x ∷ t) e ∙ ap (λ x. 35 ∷ x) f.here.split;
-      len = ap suc f.here.len ∙ sym (run-in InLine b t k); line = (f.here.front, refl, f.here.holds, ends-line f.here.rest f.ends);
-      ends = f.ends; all = f.here.holds }
+      inside = f.here.front;
+      after = f.here.rest;
+      split = ap (λ x. x ∷ t) e ∙ ap (λ x. 35 ∷ x) f.here.split;
+      len = ap suc f.here.len ∙ sym (run-in InLine b t k);
+      line = (f.here.front, refl, f.here.holds, ends-line f.here.rest f.ends);
+      ends = f.ends;
+      all = f.here.holds;
+    }
 
 pub hash-len : (s after : List ℕ) → IsHashLine s after → run InLine (s ++ after) ≡ length s
 hash-len s after (rest, e, all, end) = ap (λ x. run InLine (x ++ after)) e ∙ run-stops InLine (35 ∷ rest) after (refl, all) (line-ends after end) ∙ sym (ap length e)

@@ -96,8 +96,9 @@ no-marker : (s after : List ℕ) → IsHashLine s after → (IsMarker s → ⊥)
 no-marker s after h none =
     let e : s ++ after ≡ 35 ∷ h.0 ++ after = ap (λ x. x ++ after) h.1 in
     elim (either (begins_marker (s ++ after))) [
-      inr n ↦ n
-    | inl m ↦ absurd (none (subst IsMarker (sym h.1) (begins-marker h.0 after h.2 (line-ends after h.3) (sym (ap begins_marker e) ∙ m)))) ]
+      | inr n ↦ n
+      | inl m ↦ absurd (none (subst IsMarker (sym h.1) (begins-marker h.0 after h.2 (line-ends after h.3) (sym (ap begins_marker e) ∙ m))))
+    ]
 
 pub piece-complete : (ls : Bool) (k : PieceKind) (s after : List ℕ) → Stands ls k s after → piece_at ls (s ++ after) ≡ Some (k, length s)
 piece-complete ls piece.Blank [] after h = absurd h
@@ -139,8 +140,9 @@ sound-some ls t p h q e = subst (StandsHere ls t) (injective p q e) h
 sound-found : (ls : Bool) (t : List ℕ) (k : PieceKind) (n : ℕ) → (0 < n → StandsHere ls t (k, n)) → Sound ls t (found_piece k n)
 sound-found ls t k n h =
     elim (either (eqb n 0)) [
-      inl z ↦ subst (Sound ls t) (sym (ap (λ b. cond b None (Some (k, n))) z)) none
-    | inr z ↦ subst (Sound ls t) (sym (ap (λ b. cond b None (Some (k, n))) z)) (sound-some ls t (k, n) (h (omega (arith, eqb-false n 0 z)))) ]
+      | inl z ↦ subst (Sound ls t) (sym (ap (λ b. cond b None (Some (k, n))) z)) none
+      | inr z ↦ subst (Sound ls t) (sym (ap (λ b. cond b None (Some (k, n))) z)) (sound-some ls t (k, n) (h (omega (arith, eqb-false n 0 z))))
+    ]
   where
     none : Sound ls t None
     none = unfold Sound in λ p e. cc
@@ -161,8 +163,12 @@ unfolding token_at
 token-sounds ls t place = sound-found ls t (piece.Token (longest_at t).0) (longest_at t).1 (λ l.
     let f = token-sound t l in
     record {
-      front = f.front; rest = f.rest; split = f.split; len = f.len;
-      stands = stands-token ls (longest_at t).0 f.front f.rest (record { spelled = f.spelled; place = subst (IsTokenPlace ls) f.split place; longest = f.grows }) })
+      front = f.front;
+      rest = f.rest;
+      split = f.split;
+      len = f.len;
+      stands = stands-token ls (longest_at t).0 f.front f.rest (record { spelled = f.spelled; place = subst (IsTokenPlace ls) f.split place; longest = f.grows });
+    })
 
 comment-sounds : (ls : Bool) (t : List ℕ) → slice_index t 0 ≡ 47 → slice_index t 1 ≡ 42 → Sound ls t (found_piece piece.Comment (comment_len t))
 comment-sounds ls t h k = sound-found ls t piece.Comment (comment_len t) (λ l.
@@ -173,12 +179,17 @@ line-sounds : (b : ℕ) (t : List ℕ) → b ≡ 35 → Sound true (b ∷ t) (li
 line-sounds b t e =
     let h = hash-line b t e in
     sound-some true (b ∷ t) _ (record {
-      front = 35 ∷ h.inside; rest = h.after; split = h.split; len = h.len;
+      front = 35 ∷ h.inside;
+      rest = h.after;
+      split = h.split;
+      len = h.len;
       stands = elim (either (begins_marker (b ∷ t))) [
-          inl m ↦ subst (λ x. Stands true (cond x piece.LineMarker (piece.Token Directive)) (35 ∷ h.inside) h.after) (sym m)
+        | inl m ↦ subst (λ x. Stands true (cond x piece.LineMarker (piece.Token Directive)) (35 ∷ h.inside) h.after) (sym m)
             (refl, h.line, begins-marker h.inside h.after h.all h.ends (sym (ap begins_marker h.split) ∙ m))
         | inr n ↦ subst (λ x. Stands true (cond x piece.LineMarker (piece.Token Directive)) (35 ∷ h.inside) h.after) (sym n)
-            (refl, h.line, λ marker. clash _ (ap begins_marker h.split ∙ marker-begins (35 ∷ h.inside) h.after marker) n) ] })
+            (refl, h.line, λ marker. clash _ (ap begins_marker h.split ∙ marker-begins (35 ∷ h.inside) h.after marker) n)
+      ];
+    })
   where
     clash : (b : Bool) → b ≡ true → b ≡ false → ⊥
     clash b h k = cc
@@ -202,24 +213,28 @@ rest-sounds : (ls : Bool) (b : ℕ) (t : List ℕ) → (eqb b 47 && eqb (slice_i
     → Sound ls (b ∷ t) (cond (ls && eqb b 35) (line_at (b ∷ t)) (token_at (b ∷ t)))
 rest-sounds ls b t n =
     elim (either (ls && eqb b 35)) [
-      inl h ↦
-        let both = and-split ls (eqb b 35) h in
-        subst (λ x. Sound ls (b ∷ t) (cond x (line_at (b ∷ t)) (token_at (b ∷ t)))) (sym h)
+      | inl h ↦
+          let both = and-split ls (eqb b 35) h in
+          subst (λ x. Sound ls (b ∷ t) (cond x (line_at (b ∷ t)) (token_at (b ∷ t)))) (sym h)
           (subst (λ x. Sound x (b ∷ t) (line_at (b ∷ t))) (sym both.0) (line-sounds b t (eqb-true b 35 both.1)))
-    | inr k ↦ subst (λ x. Sound ls (b ∷ t) (cond x (line_at (b ∷ t)) (token_at (b ∷ t)))) (sym k) (token-sounds ls (b ∷ t) (place-here ls b t n k)) ]
+      | inr k ↦ subst (λ x. Sound ls (b ∷ t) (cond x (line_at (b ∷ t)) (token_at (b ∷ t)))) (sym k) (token-sounds ls (b ∷ t) (place-here ls b t n k))
+    ]
 
 pub piece-sound : (ls : Bool) (b : ℕ) (t : List ℕ) (p : Piece) → piece_at ls (b ∷ t) ≡ Some p → StandsHere ls (b ∷ t) p
 unfolding piece_at Sound
 piece-sound ls b t =
     elim (either (is_blank b)) [
-      inl h ↦ rw h (blank-sounds ls (b ∷ t) h)
-    | inr n ↦ elim (either (is_splice (b ∷ t))) [
-        inl h ↦ rw (n, h) (splice-sounds ls (b ∷ t) h)
-      | inr m ↦ elim (either (eqb b 47 && eqb (slice_index t 0) 42)) [
-          inl h ↦
-            let both = and-split (eqb b 47) (eqb (slice_index t 0) 42) h in
-            rw (n, m, h) (comment-sounds ls (b ∷ t) (eqb-true b 47 both.0) (eqb-true (slice_index t 0) 42 both.1))
-        | inr k ↦ rw (n, m, k) (rest-sounds ls b t k) ] ] ]
+      | inl h ↦ rw h (blank-sounds ls (b ∷ t) h)
+      | inr n ↦ elim (either (is_splice (b ∷ t))) [
+        | inl h ↦ rw (n, h) (splice-sounds ls (b ∷ t) h)
+        | inr m ↦ elim (either (eqb b 47 && eqb (slice_index t 0) 42)) [
+          | inl h ↦
+              let both = and-split (eqb b 47) (eqb (slice_index t 0) 42) h in
+              rw (n, m, h) (comment-sounds ls (b ∷ t) (eqb-true b 47 both.0) (eqb-true (slice_index t 0) 42 both.1))
+          | inr k ↦ rw (n, m, k) (rest-sounds ls b t k)
+        ]
+      ]
+    ]
 
 pub piece-none : (ls : Bool) (t : List ℕ) → piece_at ls t ≡ None → NothingStands ls t
 piece-none ls t none kind s after e h = clash (sym none ∙ ap (piece_at ls) e ∙ piece-complete ls kind s after h)

@@ -120,36 +120,43 @@ pass-characters q Closed s g p = cc
 pass-characters q Broken s g p = cc
 pass-characters q Plain (b ∷ s) g p =
     elim (either (eqb b q)) [
-      inl e ↦ let n : is_closed (next_mode q Plain b) ≡ true = rw e refl in cc
-    | inr n ↦ elim (either (eqb b 92)) [
-        inl e ↦
-          let m : next_mode q Plain b ≡ Escaped = rw (n, e) refl in
-          subst (λ x. AreCharacters q (x ∷ s)) (sym (eqb-true b 92 e)) (pass-characters q Escaped s (refl, refl) (subst (λ x. Passes q x s) m p.1))
-      | inr k ↦ elim (either (eqb b 10)) [
-          inl e ↦ let z : is_broken (next_mode q Plain b) ≡ true = rw (n, k, e) refl in cc
-        | inr l ↦
-          let m : next_mode q Plain b ≡ Plain = rw (n, k, l) refl in
-          add-character q (b ∷ []) s (inl (b, refl, eqb-false b q n, eqb-false b 92 k, eqb-false b 10 l)) (pass-characters q Plain s (refl, refl) (subst (λ x. Passes q x s) m p.1)) ] ] ]
+      | inl e ↦ let n : is_closed (next_mode q Plain b) ≡ true = rw e refl in cc
+      | inr n ↦ elim (either (eqb b 92)) [
+        | inl e ↦
+            let m : next_mode q Plain b ≡ Escaped = rw (n, e) refl in
+            subst (λ x. AreCharacters q (x ∷ s)) (sym (eqb-true b 92 e)) (pass-characters q Escaped s (refl, refl) (subst (λ x. Passes q x s) m p.1))
+        | inr k ↦ elim (either (eqb b 10)) [
+          | inl e ↦ let z : is_broken (next_mode q Plain b) ≡ true = rw (n, k, e) refl in cc
+          | inr l ↦
+              let m : next_mode q Plain b ≡ Plain = rw (n, k, l) refl in
+              add-character q (b ∷ []) s (inl (b, refl, eqb-false b q n, eqb-false b 92 k, eqb-false b 10 l)) (pass-characters q Plain s (refl, refl) (subst (λ x. Passes q x s) m p.1))
+        ]
+      ]
+    ]
 pass-characters q Escaped (b ∷ s) g p =
     elim (either (is_simple_escape b)) [
-      inl e ↦
-        let m : next_mode q Escaped b ≡ Plain = rw e refl in
-        add-character q (92 ∷ b ∷ []) s (inr (inl (b, refl, e))) (pass-characters q Plain s (refl, refl) (subst (λ x. Passes q x s) m p.1))
-    | inr n ↦ elim (either (is_in OctalDigit b)) [
-        inl e ↦
-          let m : next_mode q Escaped b ≡ Plain = rw (n, e) refl in
-          add-character q (92 ∷ b ∷ []) s (inr (inr (inl (b ∷ [], refl, (e, tt), omega arith)))) (pass-characters q Plain s (refl, refl) (subst (λ x. Passes q x s) m p.1))
-      | inr k ↦ elim (either (eqb b 120)) [
-          inl e ↦
-            let m : next_mode q Escaped b ≡ Hexadecimal = rw (n, k, e) refl in
-            subst (λ x. AreCharacters q (92 ∷ x ∷ s)) (sym (eqb-true b 120 e)) (pass-characters q Hexadecimal s (refl, refl) (subst (λ x. Passes q x s) m p.1))
-        | inr l ↦ let z : is_broken (next_mode q Escaped b) ≡ true = rw (n, k, l) refl in cc ] ] ]
+      | inl e ↦
+          let m : next_mode q Escaped b ≡ Plain = rw e refl in
+          add-character q (92 ∷ b ∷ []) s (inr (inl (b, refl, e))) (pass-characters q Plain s (refl, refl) (subst (λ x. Passes q x s) m p.1))
+      | inr n ↦ elim (either (is_in OctalDigit b)) [
+        | inl e ↦
+            let m : next_mode q Escaped b ≡ Plain = rw (n, e) refl in
+            add-character q (92 ∷ b ∷ []) s (inr (inr (inl (b ∷ [], refl, (e, tt), omega arith)))) (pass-characters q Plain s (refl, refl) (subst (λ x. Passes q x s) m p.1))
+        | inr k ↦ elim (either (eqb b 120)) [
+          | inl e ↦
+              let m : next_mode q Escaped b ≡ Hexadecimal = rw (n, k, e) refl in
+              subst (λ x. AreCharacters q (92 ∷ x ∷ s)) (sym (eqb-true b 120 e)) (pass-characters q Hexadecimal s (refl, refl) (subst (λ x. Passes q x s) m p.1))
+          | inr l ↦ let z : is_broken (next_mode q Escaped b) ≡ true = rw (n, k, l) refl in cc
+        ]
+      ]
+    ]
 pass-characters q Hexadecimal (b ∷ s) g p =
     elim (either (is_in HexDigit b)) [
-      inl e ↦
-        let m : next_mode q Hexadecimal b ≡ Plain = rw e refl in
-        add-character q (92 ∷ 120 ∷ b ∷ []) s (inr (inr (inr (b ∷ [], refl, (e, tt))))) (pass-characters q Plain s (refl, refl) (subst (λ x. Passes q x s) m p.1))
-    | inr n ↦ let z : is_broken (next_mode q Hexadecimal b) ≡ true = rw n refl in cc ]
+      | inl e ↦
+          let m : next_mode q Hexadecimal b ≡ Plain = rw e refl in
+          add-character q (92 ∷ 120 ∷ b ∷ []) s (inr (inr (inr (b ∷ [], refl, (e, tt))))) (pass-characters q Plain s (refl, refl) (subst (λ x. Passes q x s) m p.1))
+      | inr n ↦ let z : is_broken (next_mode q Hexadecimal b) ≡ true = rw n refl in cc
+    ]
 
 -- ---- bodies
 
@@ -187,34 +194,41 @@ body-closes q m n (b ∷ []) r k p =
     omega (arith, step, body-closes q (next_mode q m b) (n + 1) [] r k p.1)
 body-closes q m n (b ∷ c ∷ s) r k p =
     elim (either (eqb b 92 && eqb c 10)) [
-      inl h ↦
-        let step = closing-splice q m n (b ∷ c ∷ s ++ q ∷ r) h in
-        omega (arith, step, body-closes q m (n + 2) s r k (subst (Passes q m) (joined-splice b c s h) p))
-    | inr h ↦
-        let p' : Passes q m (b ∷ joined (c ∷ s)) = subst (Passes q m) (joined-step b c s h) p in
-        let step = closing-open q m n (b ∷ c ∷ s ++ q ∷ r) (next_mode q m b) (c ∷ s ++ q ∷ r) h (omega arith) refl refl p'.0.0 p'.0.1 in
-        omega (arith, step, body-closes q (next_mode q m b) (n + 1) (c ∷ s) r k p'.1) ]
+      | inl h ↦
+          let step = closing-splice q m n (b ∷ c ∷ s ++ q ∷ r) h in
+          omega (arith, step, body-closes q m (n + 2) s r k (subst (Passes q m) (joined-splice b c s h) p))
+      | inr h ↦
+          let p' : Passes q m (b ∷ joined (c ∷ s)) = subst (Passes q m) (joined-step b c s h) p in
+          let step = closing-open q m n (b ∷ c ∷ s ++ q ∷ r) (next_mode q m b) (c ∷ s ++ q ∷ r) h (omega arith) refl refl p'.0.0 p'.0.1 in
+          omega (arith, step, body-closes q (next_mode q m b) (n + 1) (c ∷ s) r k p'.1)
+    ]
 
 -- only the quote closes
 closes-plain : (q : ℕ) (m : Mode) (b : ℕ) → GoesOn m → is_closed (next_mode q m b) ≡ true → (m ≡ Plain) × (b ≡ q)
 closes-plain q Plain b g h =
     elim (either (eqb b q)) [
-      inl e ↦ (refl, eqb-true b q e)
-    | inr n ↦ elim (either (eqb b 92)) [
-        inl e ↦ let z : is_closed (next_mode q Plain b) ≡ false = rw (n, e) refl in cc
-      | inr k ↦ elim (either (eqb b 10)) [
-          inl e ↦ let z : is_closed (next_mode q Plain b) ≡ false = rw (n, k, e) refl in cc
-        | inr l ↦ let z : is_closed (next_mode q Plain b) ≡ false = rw (n, k, l) refl in cc ] ] ]
+      | inl e ↦ (refl, eqb-true b q e)
+      | inr n ↦ elim (either (eqb b 92)) [
+        | inl e ↦ let z : is_closed (next_mode q Plain b) ≡ false = rw (n, e) refl in cc
+        | inr k ↦ elim (either (eqb b 10)) [
+          | inl e ↦ let z : is_closed (next_mode q Plain b) ≡ false = rw (n, k, e) refl in cc
+          | inr l ↦ let z : is_closed (next_mode q Plain b) ≡ false = rw (n, k, l) refl in cc
+        ]
+      ]
+    ]
 closes-plain q Escaped b g h =
     elim (either (is_simple_escape b || is_in OctalDigit b)) [
-      inl e ↦ let z : is_closed (next_mode q Escaped b) ≡ false = rw e refl in cc
-    | inr n ↦ elim (either (eqb b 120)) [
-        inl e ↦ let z : is_closed (next_mode q Escaped b) ≡ false = rw (n, e) refl in cc
-      | inr k ↦ let z : is_closed (next_mode q Escaped b) ≡ false = rw (n, k) refl in cc ] ]
+      | inl e ↦ let z : is_closed (next_mode q Escaped b) ≡ false = rw e refl in cc
+      | inr n ↦ elim (either (eqb b 120)) [
+        | inl e ↦ let z : is_closed (next_mode q Escaped b) ≡ false = rw (n, e) refl in cc
+        | inr k ↦ let z : is_closed (next_mode q Escaped b) ≡ false = rw (n, k) refl in cc
+      ]
+    ]
 closes-plain q Hexadecimal b g h =
     elim (either (is_in HexDigit b)) [
-      inl e ↦ let z : is_closed (next_mode q Hexadecimal b) ≡ false = rw e refl in cc
-    | inr n ↦ let z : is_closed (next_mode q Hexadecimal b) ≡ false = rw n refl in cc ]
+      | inl e ↦ let z : is_closed (next_mode q Hexadecimal b) ≡ false = rw e refl in cc
+      | inr n ↦ let z : is_closed (next_mode q Hexadecimal b) ≡ false = rw n refl in cc
+    ]
 closes-plain q Closed b g h = cc
 closes-plain q Broken b g h = cc
 
@@ -222,8 +236,12 @@ closes-plain q Broken b g h = cc
 add-byte : (q : ℕ) (m : Mode) (n b : ℕ) (t : List ℕ) (k : ℕ) → IsQuote q → is_splice (b ∷ t) ≡ false → GoesOn (next_mode q m b)
     → Quotes q (next_mode q m b) (n + 1) t k → Quotes q m n (b ∷ t) k
 add-byte q m n b t k w h g c = record {
-    body = b ∷ c.body; rest = c.rest; split = ap (λ x. b ∷ x) c.split; len = omega (arith, c.len);
-    passes = subst (Passes q m) (sym (step c.body c.split)) (g, c.passes) }
+  body = b ∷ c.body;
+  rest = c.rest;
+  split = ap (λ x. b ∷ x) c.split;
+  len = omega (arith, c.len);
+  passes = subst (Passes q m) (sym (step c.body c.split)) (g, c.passes);
+}
   where
     step : (body : List ℕ) → t ≡ body ++ q ∷ c.rest → joined (b ∷ body) ≡ b ∷ joined body
     step [] e = refl
@@ -247,32 +265,41 @@ closing-quotes : (q : ℕ) (m : Mode) (n : ℕ) (t : List ℕ) → IsQuote q →
 closing-quotes q m n [] w g l = absurd (omega arith)
 closing-quotes q m n (b ∷ []) w g l =
     elim (either (is_closed (next_mode q m b))) [
-      inl h ↦ subst (Quotes q m n (b ∷ [])) (sym (settle-closed (next_mode q m b) (n + 1) 0 h)) (found-quote q m n b [] g h)
-    | inr h ↦ absurd (none h) ]
+      | inl h ↦ subst (Quotes q m n (b ∷ [])) (sym (settle-closed (next_mode q m b) (n + 1) 0 h)) (found-quote q m n b [] g h)
+      | inr h ↦ absurd (none h)
+    ]
   where
     none : is_closed (next_mode q m b) ≡ false → ⊥
     none h = elim (either (is_broken (next_mode q m b))) [
-        inl k ↦ omega (arith, settle-broken (next_mode q m b) (n + 1) 0 h k)
-      | inr k ↦ omega (arith, settle-open (next_mode q m b) (n + 1) 0 h k) ]
+      | inl k ↦ omega (arith, settle-broken (next_mode q m b) (n + 1) 0 h k)
+      | inr k ↦ omega (arith, settle-open (next_mode q m b) (n + 1) 0 h k)
+    ]
 closing-quotes q m n (b ∷ c ∷ t) w g l =
     elim (either (is_splice (b ∷ c ∷ t))) [
-      inl s ↦
-        let e = closing-splice q m n (b ∷ c ∷ t) s in
-        let f = closing-quotes q m (n + 2) t w g (omega (arith, e)) in
-        record {
-          body = b ∷ c ∷ f.body; rest = f.rest; split = ap (λ x. b ∷ c ∷ x) f.split; len = omega (arith, f.len, e);
-          passes = subst (Passes q m) (sym (joined-splice b c f.body s)) f.passes }
-    | inr s ↦
-      let e = closing-step q m n (b ∷ c ∷ t) s (omega arith) in
-      let later = closing q (next_mode q m b) (n + 1) (c ∷ t) in
-      elim (either (is_closed (next_mode q m b))) [
-        inl h ↦ subst (Quotes q m n (b ∷ c ∷ t)) (sym (e ∙ settle-closed (next_mode q m b) (n + 1) later h)) (found-quote q m n b (c ∷ t) g h)
-      | inr h ↦ elim (either (is_broken (next_mode q m b))) [
-          inl k ↦ absurd (omega (arith, e, settle-broken (next_mode q m b) (n + 1) later h k))
-        | inr k ↦
-          let same = e ∙ settle-open (next_mode q m b) (n + 1) later h k in
-          subst (Quotes q m n (b ∷ c ∷ t)) (sym same)
-            (add-byte q m n b (c ∷ t) later w s (h, k) (closing-quotes q (next_mode q m b) (n + 1) (c ∷ t) w (h, k) (omega (arith, same)))) ] ] ]
+      | inl s ↦
+          let e = closing-splice q m n (b ∷ c ∷ t) s in
+          let f = closing-quotes q m (n + 2) t w g (omega (arith, e)) in
+          record {
+            body = b ∷ c ∷ f.body;
+            rest = f.rest;
+            split = ap (λ x. b ∷ c ∷ x) f.split;
+            len = omega (arith, f.len, e);
+            passes = subst (Passes q m) (sym (joined-splice b c f.body s)) f.passes;
+          }
+      | inr s ↦
+          let e = closing-step q m n (b ∷ c ∷ t) s (omega arith) in
+          let later = closing q (next_mode q m b) (n + 1) (c ∷ t) in
+          elim (either (is_closed (next_mode q m b))) [
+            | inl h ↦ subst (Quotes q m n (b ∷ c ∷ t)) (sym (e ∙ settle-closed (next_mode q m b) (n + 1) later h)) (found-quote q m n b (c ∷ t) g h)
+            | inr h ↦ elim (either (is_broken (next_mode q m b))) [
+              | inl k ↦ absurd (omega (arith, e, settle-broken (next_mode q m b) (n + 1) later h k))
+              | inr k ↦
+                  let same = e ∙ settle-open (next_mode q m b) (n + 1) later h k in
+                  subst (Quotes q m n (b ∷ c ∷ t)) (sym same)
+                  (add-byte q m n b (c ∷ t) later w s (h, k) (closing-quotes q (next_mode q m b) (n + 1) (c ∷ t) w (h, k) (omega (arith, same))))
+            ]
+          ]
+    ]
 
 -- ---- constants
 
@@ -293,22 +320,31 @@ pub literal-front : (q : ℕ) (t : List ℕ) → IsQuote q → 0 < literal_len q
 literal-front q [] w l = absurd (omega (arith, literal-nil q w))
 literal-front q (b ∷ t) w l =
     elim (either (eqb b q)) [
-      inr n ↦ absurd (omega (arith, literal-not q b t n))
-    | inl h ↦
-      let e = eqb-true b q h in
-      let is = literal-is q b t e in
-      let c = closing-quotes q Plain 1 t w (refl, refl) (omega (arith, is)) in
-      record {
-        front = q ∷ c.body ++ q ∷ []; rest = c.rest;
-        split = ap (λ x. x ∷ t) e ∙ ap (λ x. q ∷ x) (c.split ∙ sym (append_assoc c.body (q ∷ []) c.rest));
-        len = omega (arith, is, c.len, length-append c.body (q ∷ []));
-        holds = (c.body, refl, pass-characters q Plain (joined c.body) (refl, refl) c.passes) } ]
+      | inr n ↦ absurd (omega (arith, literal-not q b t n))
+      | inl h ↦
+          let e = eqb-true b q h in
+          let is = literal-is q b t e in
+          let c = closing-quotes q Plain 1 t w (refl, refl) (omega (arith, is)) in
+          record {
+            front = q ∷ c.body ++ q ∷ [];
+            rest = c.rest;
+            split = ap (λ x. x ∷ t) e ∙ ap (λ x. q ∷ x) (c.split ∙ sym (append_assoc c.body (q ∷ []) c.rest));
+            len = omega (arith, is, c.len, length-append c.body (q ∷ []));
+            holds = (c.body, refl, pass-characters q Plain (joined c.body) (refl, refl) c.passes);
+          }
+    ]
 
 pub literal-reaches : (q : ℕ) (a r : List ℕ) → IsQuote q → IsQuoted q a → literal_len q (a ++ r) ≡ length a
 literal-reaches q a r w h =
     let e : a ++ r ≡ q ∷ (h.0 ++ q ∷ r) = ap (λ x. x ++ r) h.1 ∙ ap (λ x. q ∷ x) (append_assoc h.0 (q ∷ []) r) in
-    omega (arith, ap (literal_len q) e, literal-is q q (h.0 ++ q ∷ r) refl, body-closes q Plain 1 h.0 r w (characters-pass q (joined h.0) w h.2),
-      ap length h.1, length-append h.0 (q ∷ []))
+    omega (
+      arith,
+      ap (literal_len q) e,
+      literal-is q q (h.0 ++ q ∷ r) refl,
+      body-closes q Plain 1 h.0 r w (characters-pass q (joined h.0) w h.2),
+      ap length h.1,
+      length-append h.0 (q ∷ []),
+    )
 
 literal-other : (q p : ℕ) (a r : List ℕ) → IsQuoted p a → eqb p q ≡ false → literal_len q (a ++ r) ≡ 0
 literal-other q p a r h n =
@@ -341,25 +377,28 @@ wide-nil = refl
 wide-after : (t : List ℕ) → 0 < wide_len (76 ∷ t) → Begins IsWide (wide_len (76 ∷ t)) (76 ∷ t)
 wide-after t l =
     elim (either (eqb (literal_len 34 t) 0)) [
-      inr n ↦
-        let some : 0 < literal_len 34 t = omega (arith, eqb-false _ 0 n) in
-        let f = literal-front 34 t (inr refl) some in
-        record { front = 76 ∷ f.front; rest = f.rest; split = ap (λ x. 76 ∷ x) f.split; len = omega (arith, f.len, wide-string t some); holds = (f.front, refl, inr f.holds) }
-    | inl z ↦ elim (either (eqb (literal_len 39 t) 0)) [
-        inl k ↦ absurd (omega (arith, wide-none t (eqb-true _ 0 z) (eqb-true _ 0 k)))
       | inr n ↦
-        let some : 0 < literal_len 39 t = omega (arith, eqb-false _ 0 n) in
-        let f = literal-front 39 t (inl refl) some in
-        record { front = 76 ∷ f.front; rest = f.rest; split = ap (λ x. 76 ∷ x) f.split; len = omega (arith, f.len, wide-character t (eqb-true _ 0 z) some); holds = (f.front, refl, inl f.holds) } ] ]
+          let some : 0 < literal_len 34 t = omega (arith, eqb-false _ 0 n) in
+          let f = literal-front 34 t (inr refl) some in
+          record { front = 76 ∷ f.front; rest = f.rest; split = ap (λ x. 76 ∷ x) f.split; len = omega (arith, f.len, wide-string t some); holds = (f.front, refl, inr f.holds) }
+      | inl z ↦ elim (either (eqb (literal_len 39 t) 0)) [
+        | inl k ↦ absurd (omega (arith, wide-none t (eqb-true _ 0 z) (eqb-true _ 0 k)))
+        | inr n ↦
+            let some : 0 < literal_len 39 t = omega (arith, eqb-false _ 0 n) in
+            let f = literal-front 39 t (inl refl) some in
+            record { front = 76 ∷ f.front; rest = f.rest; split = ap (λ x. 76 ∷ x) f.split; len = omega (arith, f.len, wide-character t (eqb-true _ 0 z) some); holds = (f.front, refl, inl f.holds) }
+      ]
+    ]
 
 pub wide-front : (t : List ℕ) → 0 < wide_len t → Begins IsWide (wide_len t) t
 wide-front [] l = absurd (omega (arith, wide-nil))
 wide-front (b ∷ t) l =
     elim (either (eqb b 76)) [
-      inr n ↦ absurd (omega (arith, wide-not b t n))
-    | inl e ↦
-      let k = eqb-true b 76 e in
-      subst (λ x. Begins IsWide (wide_len (x ∷ t)) (x ∷ t)) (sym k) (wide-after t (omega (arith, ap (λ x. wide_len (x ∷ t)) k))) ]
+      | inr n ↦ absurd (omega (arith, wide-not b t n))
+      | inl e ↦
+          let k = eqb-true b 76 e in
+          subst (λ x. Begins IsWide (wide_len (x ∷ t)) (x ∷ t)) (sym k) (wide-after t (omega (arith, ap (λ x. wide_len (x ∷ t)) k)))
+    ]
 
 pub wide-reaches : (a r : List ℕ) → IsWide a → wide_len (a ++ r) ≡ length a
 wide-reaches a r (literal, e, inl h) =

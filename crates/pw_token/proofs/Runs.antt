@@ -53,8 +53,9 @@ run-front c [] = record { here = record { front = []; rest = []; split = refl; l
 run-front c (b ∷ t) =
     let more = run-front c t in
     elim (either (is_in c b)) [
-      inl h ↦ record { here = record { front = b ∷ more.here.front; rest = more.here.rest; split = ap (λ s. b ∷ s) more.here.split; len = ap suc more.here.len ∙ sym (run-in c b t h); holds = (h, more.here.holds) }; ends = more.ends }
-    | inr h ↦ record { here = record { front = []; rest = b ∷ t; split = refl; len = sym (run-out c b t h); holds = tt }; ends = h } ]
+      | inl h ↦ record { here = record { front = b ∷ more.here.front; rest = more.here.rest; split = ap (λ s. b ∷ s) more.here.split; len = ap suc more.here.len ∙ sym (run-in c b t h); holds = (h, more.here.holds) }; ends = more.ends }
+      | inr h ↦ record { here = record { front = []; rest = b ∷ t; split = refl; len = sym (run-out c b t h); holds = tt }; ends = h }
+    ]
 
 pub all-some : (c : Class) (s : List ℕ) → SomeIn c s → AllIn c s
 all-some c [] h = tt

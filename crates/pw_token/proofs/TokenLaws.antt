@@ -24,32 +24,36 @@ Offers t f = 0 < f.1 → Begins (Spells f.0) f.1 t
 longer-offers : (t : List ℕ) (a b : Found) → Offers t a → Offers t b → Offers t (longer a b)
 longer-offers t a b h k =
     elim (either (nat_lt a.1 b.1)) [
-      inl l ↦ subst (Offers t) (sym (ap (λ x. cond x b a) l)) k
-    | inr l ↦ subst (Offers t) (sym (ap (λ x. cond x b a) l)) h ]
+      | inl l ↦ subst (Offers t) (sym (ap (λ x. cond x b a) l)) k
+      | inr l ↦ subst (Offers t) (sym (ap (λ x. cond x b a) l)) h
+    ]
 
 longer-left : (a b : Found) → a.1 ≤ (longer a b).1
 longer-left a b =
     elim (either (nat_lt a.1 b.1)) [
-      inl l ↦ omega (arith, ap (λ x. (cond x b a).1) l, ltb-true a.1 b.1 l)
-    | inr l ↦ omega (arith, ap (λ x. (cond x b a).1) l) ]
+      | inl l ↦ omega (arith, ap (λ x. (cond x b a).1) l, ltb-true a.1 b.1 l)
+      | inr l ↦ omega (arith, ap (λ x. (cond x b a).1) l)
+    ]
 
 longer-right : (a b : Found) → b.1 ≤ (longer a b).1
 longer-right a b =
     elim (either (nat_lt a.1 b.1)) [
-      inl l ↦ omega (arith, ap (λ x. (cond x b a).1) l)
-    | inr l ↦ omega (arith, ap (λ x. (cond x b a).1) l, ltb-false a.1 b.1 l) ]
+      | inl l ↦ omega (arith, ap (λ x. (cond x b a).1) l)
+      | inr l ↦ omega (arith, ap (λ x. (cond x b a).1) l, ltb-false a.1 b.1 l)
+    ]
 
 word-offers : (t : List ℕ) → Offers t (word_at t)
 word-offers t l =
     let b = word-front t l in
     subst (λ s. Begins (Spells (word_kind s)) (word_len t) t) (sym (begins-take b))
-      (record { front = b.front; rest = b.rest; split = b.split; len = b.len; holds = spelled b.front b.holds })
+    (record { front = b.front; rest = b.rest; split = b.split; len = b.len; holds = spelled b.front b.holds })
   where
     spelled : (s : List ℕ) → IsWord s → Spells (word_kind s) s
     spelled s h =
         elim (either (is_keyword s)) [
-          inl k ↦ subst (λ x. Spells x s) (sym (ap (λ x. cond x Keyword Identifier) k)) k
-        | inr n ↦ subst (λ x. Spells x s) (sym (ap (λ x. cond x Keyword Identifier) n)) (h, n) ]
+          | inl k ↦ subst (λ x. Spells x s) (sym (ap (λ x. cond x Keyword Identifier) k)) k
+          | inr n ↦ subst (λ x. Spells x s) (sym (ap (λ x. cond x Keyword Identifier) n)) (h, n)
+        ]
 
 longest-offers : (t : List ℕ) → Offers t (longest_at t)
 unfolding longest_at
@@ -62,12 +66,12 @@ longest-offers t =
     let l : Found = (Wide, wide_len t) in
     let m : Found = (Mark, longest_in 0 marks t) in
     longer-offers t (longer (longer w n) (longer f c)) (longer (longer s l) m)
-      (longer-offers t (longer w n) (longer f c)
-        (longer-offers t w n (word-offers t) (integer-front t))
-        (longer-offers t f c (floating-front t) (literal-front 39 t (inl refl))))
-      (longer-offers t (longer s l) m
-        (longer-offers t s l (literal-front 34 t (inr refl)) (wide-front t))
-        (mark-front t))
+    (longer-offers t (longer w n) (longer f c)
+    (longer-offers t w n (word-offers t) (integer-front t))
+    (longer-offers t f c (floating-front t) (literal-front 39 t (inl refl))))
+    (longer-offers t (longer s l) m
+    (longer-offers t s l (literal-front 34 t (inr refl)) (wide-front t))
+    (mark-front t))
 
 -- each kind's length is at most the longest
 record Bounds (t : List ℕ) : Type 0 where
@@ -102,7 +106,8 @@ longest-bounds t =
       character = omega (arith, longer-right f c, front_right, all_left);
       text = omega (arith, longer-left s l, back_left, all_right);
       wide = omega (arith, longer-right s l, back_left, all_right);
-      mark = omega (arith, back_right, all_right) }
+      mark = omega (arith, back_right, all_right);
+    }
 
 -- no spelling at the front is longer
 longest-reaches : (k : TokenKind) (s r : List ℕ) → Spells k s → length s ≤ (longest_at (s ++ r)).1
@@ -144,8 +149,13 @@ pub token-sound : (t : List ℕ) → 0 < (longest_at t).1 → FoundToken t
 token-sound t l =
     let b = longest-offers t l in
     record {
-      front = b.front; rest = b.rest; split = b.split; len = b.len; spelled = b.holds;
+      front = b.front;
+      rest = b.rest;
+      split = b.split;
+      len = b.len;
+      spelled = b.holds;
       grows = λ kind more rest e h.
-        let joined : t ≡ (b.front ++ more) ++ rest = b.split ∙ ap (λ x. b.front ++ x) e ∙ sym (append_assoc b.front more rest) in
-        let reach = longest-reaches kind (b.front ++ more) rest h in
-        nil_from_length more (omega (arith, reach, ap (λ x. (longest_at x).1) joined, b.len, length-append b.front more)) }
+          let joined : t ≡ (b.front ++ more) ++ rest = b.split ∙ ap (λ x. b.front ++ x) e ∙ sym (append_assoc b.front more rest) in
+          let reach = longest-reaches kind (b.front ++ more) rest h in
+          nil_from_length more (omega (arith, reach, ap (λ x. (longest_at x).1) joined, b.len, length-append b.front more));
+    }

@@ -31,10 +31,11 @@ pub word-front : (t : List ℕ) → 0 < word_len t → Begins IsWord (word_len t
 word-front [] l = absurd (omega (arith, word-nil))
 word-front (b ∷ t) l =
     elim (either (is_nondigit b)) [
-      inr n ↦ absurd (omega (arith, word-not b t n))
-    | inl h ↦
-      let f = (run-front class.Word t).here in
-      record { front = b ∷ f.front; rest = f.rest; split = ap (λ x. b ∷ x) f.split; len = ap suc f.len ∙ sym (word-is b t h); holds = (h, f.holds) } ]
+      | inr n ↦ absurd (omega (arith, word-not b t n))
+      | inl h ↦
+          let f = (run-front class.Word t).here in
+          record { front = b ∷ f.front; rest = f.rest; split = ap (λ x. b ∷ x) f.split; len = ap suc f.len ∙ sym (word-is b t h); holds = (h, f.holds) }
+    ]
 
 pub word-reaches : (a r : List ℕ) → IsWord a → length a ≤ word_len (a ++ r)
 word-reaches [] r h = absurd h
@@ -47,8 +48,9 @@ any-all p s [] h k = cc
 any-all p s (m ∷ ms) h k =
     let both = and-split (p m) (list_all p ms) k in
     elim (or-split (bytes_eq s m) (list_any (bytes_eq s) ms) h) [
-      inl e ↦ subst (λ x. p x ≡ true) (sym ((bytes_eq-Decides s m).0 e)) both.0
-    | inr e ↦ any-all p s ms e both.1 ]
+      | inl e ↦ subst (λ x. p x ≡ true) (sym ((bytes_eq-Decides s m).0 e)) both.0
+      | inr e ↦ any-all p s ms e both.1
+    ]
 
 abbrev word_test : List ℕ → Bool
 word_test [] = false
@@ -83,14 +85,16 @@ better best m t = cond (starts_with nat_eq t m && nat_lt best (length m)) (lengt
 better-least : (best : ℕ) (m t : List ℕ) → best ≤ better best m t
 better-least best m t =
     elim (either (starts_with nat_eq t m && nat_lt best (length m))) [
-      inl h ↦ rw h (omega (arith, ltb-true best (length m) (and-split (starts_with nat_eq t m) (nat_lt best (length m)) h).1))
-    | inr n ↦ rw n (omega arith) ]
+      | inl h ↦ rw h (omega (arith, ltb-true best (length m) (and-split (starts_with nat_eq t m) (nat_lt best (length m)) h).1))
+      | inr n ↦ rw n (omega arith)
+    ]
 
 better-reaches : (best : ℕ) (m t : List ℕ) → starts_with nat_eq t m ≡ true → length m ≤ better best m t
 better-reaches best m t h =
     elim (either (nat_lt best (length m))) [
-      inl l ↦ rw (h, l) (omega arith)
-    | inr n ↦ rw (h, n) (omega (arith, ltb-false best (length m) n)) ]
+      | inl l ↦ rw (h, l) (omega arith)
+      | inr n ↦ rw (h, n) (omega (arith, ltb-false best (length m) n))
+    ]
 
 longest-least : (table : List (List ℕ)) (best : ℕ) (t : List ℕ) → best ≤ longest_in best table t
 longest-least [] best t = omega arith
@@ -100,10 +104,11 @@ pub longest-reaches : (table : List (List ℕ)) (best : ℕ) (s t r : List ℕ) 
 longest-reaches [] best s t r h e = cc
 longest-reaches (m ∷ ms) best s t r h e =
     elim (or-split (bytes_eq s m) (list_any (bytes_eq s) ms) h) [
-      inl k ↦
-        let same = (bytes_eq-Decides s m).0 k in
-        omega (arith, ap length same, better-reaches best m t (word-begins t m r (e ∙ ap (λ x. x ++ r) same)), longest-least ms (better best m t) t)
-    | inr k ↦ longest-reaches ms (better best m t) s t r k e ]
+      | inl k ↦
+          let same = (bytes_eq-Decides s m).0 k in
+          omega (arith, ap length same, better-reaches best m t (word-begins t m r (e ∙ ap (λ x. x ++ r) same)), longest-least ms (better best m t) t)
+      | inr k ↦ longest-reaches ms (better best m t) s t r k e
+    ]
 
 -- the best so far, or a word of the table
 record Longest (best : ℕ) (table : List (List ℕ)) (t : List ℕ) : Type 0 where
@@ -113,16 +118,19 @@ longest-here : (table : List (List ℕ)) (best : ℕ) (t : List ℕ) → Longest
 longest-here [] best t = record { here = inl refl }
 longest-here (m ∷ ms) best t =
     elim ((longest-here ms (better best m t) t).here) [
-      inr b ↦ record { here = inr (record { front = b.front; rest = b.rest; split = b.split; len = b.len; holds = later b.front b.holds }) }
-    | inl e ↦ elim (either (starts_with nat_eq t m && nat_lt best (length m))) [
-        inl h ↦
-          let both = and-split (starts_with nat_eq t m) (nat_lt best (length m)) h in
-          let is : better best m t ≡ length m = rw h refl in
-          record { here = inr (record { front = m; rest = drop (length m) t; split = begins-word t m both.0; len = sym (e ∙ is); holds = first m }) }
-      | inr n ↦ let is : better best m t ≡ best = rw n refl in record { here = inl (e ∙ is) } ] ]
+      | inr b ↦ record { here = inr (record { front = b.front; rest = b.rest; split = b.split; len = b.len; holds = later b.front b.holds }) }
+      | inl e ↦ elim (either (starts_with nat_eq t m && nat_lt best (length m))) [
+        | inl h ↦
+            let both = and-split (starts_with nat_eq t m) (nat_lt best (length m)) h in
+            let is : better best m t ≡ length m = rw h refl in
+            record { here = inr (record { front = m; rest = drop (length m) t; split = begins-word t m both.0; len = sym (e ∙ is); holds = first m }) }
+        | inr n ↦ let is : better best m t ≡ best = rw n refl in record { here = inl (e ∙ is) }
+      ]
+    ]
   where
     first : (s : List ℕ) → (bytes_eq s s || list_any (bytes_eq s) ms) ≡ true
     first s = rw ((bytes_eq-Decides s s).1 refl) refl
+
     later : (s : List ℕ) → list_any (bytes_eq s) ms ≡ true → (bytes_eq s m || list_any (bytes_eq s) ms) ≡ true
     later s h = elim (either (bytes_eq s m)) [ inl e ↦ rw e refl | inr e ↦ rw e h ]
 

@@ -26,7 +26,7 @@ word_at t = (word_kind (take (word_len t) t), word_len t)
 unfoldable pub longest_at : List ℕ → Found
 longest_at t =
     longer (longer (longer (word_at t) (Number, integer_len t)) (longer (Floating, floating_len t) (Character, literal_len 39 t)))
-      (longer (longer (Text, literal_len 34 t) (Wide, wide_len t)) (Mark, longest_in 0 marks t))
+    (longer (longer (Text, literal_len 34 t) (Wide, wide_len t)) (Mark, longest_in 0 marks t))
 
 abbrev pub found_piece : PieceKind → ℕ → Option (PieceKind × ℕ)
 found_piece kind len = if len == 0 then None else Some (kind, len)

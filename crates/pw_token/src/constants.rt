@@ -46,7 +46,9 @@ fn integer_suffix_len(text: &[u8]) -> usize
 fn begins_hexadecimal(text: &[u8]) -> bool
     ensures value { result ≡ spec.begins_hexadecimal text.now }
 {
-    byte_at(text, 0) == b'0' && is_either(byte_at(text, 1), b'x', b'X') && byte_at(text, 2).is_ascii_hexdigit()
+    byte_at(text, 0) == b'0'
+        && is_either(byte_at(text, 1), b'x', b'X')
+        && byte_at(text, 2).is_ascii_hexdigit()
 }
 
 #[tactic(auto, unfolding(crate::specs::Scanning::digits_len))]
@@ -84,7 +86,11 @@ fn exponent_len(text: &[u8]) -> usize
     if !is_either(byte_at(text, 0), b'e', b'E') {
         return 0;
     }
-    let start = if is_either(byte_at(text, 1), b'+', b'-') { 2 } else { 1 };
+    let start = if is_either(byte_at(text, 1), b'+', b'-') {
+        2
+    } else {
+        1
+    };
     let digits = run_of(Class::Digit, text_from(text, start));
     if digits == 0 { 0 } else { start + digits }
 }
@@ -99,7 +105,11 @@ fn fraction_len(text: &[u8]) -> usize
         return 0;
     }
     let part = run_of(Class::Digit, text_from(text, whole + 1));
-    if whole + part == 0 { 0 } else { whole + 1 + part }
+    if whole + part == 0 {
+        0
+    } else {
+        whole + 1 + part
+    }
 }
 
 fn floating_suffix_len(text: &[u8]) -> usize
@@ -107,7 +117,11 @@ fn floating_suffix_len(text: &[u8]) -> usize
     ensures within { result ≤ length text.now }
 {
     let first = byte_at(text, 0);
-    if is_either(first, b'f', b'F') || is_l(first) { 1 } else { 0 }
+    if is_either(first, b'f', b'F') || is_l(first) {
+        1
+    } else {
+        0
+    }
 }
 
 #[tactic(auto, unfolding(crate::specs::Scanning::scaled_len))]
@@ -134,5 +148,9 @@ pub fn floating_len(text: &[u8]) -> usize
         return scaled_len(fraction, false, text);
     }
     let whole = run_of(Class::Digit, text);
-    if whole == 0 { 0 } else { scaled_len(whole, true, text) }
+    if whole == 0 {
+        0
+    } else {
+        scaled_len(whole, true, text)
+    }
 }

@@ -5,10 +5,9 @@ ghost use Rattle.pw_token.specs.Tokenization.{Answers, Gives, IsBad, IsLexed, Is
 ghost use Rattle.pw_token.specs.declared.token.LexFault.{LexFault};
 ghost use Rattle.pw_token.specs.declared.token.Token.{Token};
 
-use std::alloc::Global;
-
 use crate::piece::{PieceKind, piece_at};
 use crate::token::{LexFault, Token};
+use std::alloc::Global;
 
 /// The greatest length of a text, in bytes.
 pub const MAX_TEXT: usize = 1_048_576;

@@ -4,12 +4,21 @@
 
 mod bytes;
 mod constants;
+mod features;
+mod levels;
 mod lexer;
 mod literals;
 mod marks;
 mod piece;
+mod roles;
 mod token;
 
+pub use features::unsupported;
+pub use levels::{Level, Opener};
 pub use lexer::{MAX_TEXT, MAX_TOKENS, lex};
 pub use piece::PieceKind;
+pub use roles::Role;
 pub use token::{Feature, LexFault, Token, TokenKind};
+
+#[cfg(test)]
+mod tests;

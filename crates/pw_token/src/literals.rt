@@ -122,7 +122,11 @@ pub fn wide_len(text: &[u8]) -> usize
     }
     let rest = text_from(text, 1);
     let string = literal_len(b'"', rest);
-    let len = if string == 0 { literal_len(b'\'', rest) } else { string };
+    let len = if string == 0 {
+        literal_len(b'\'', rest)
+    } else {
+        string
+    };
     if len == 0 { 0 } else { len + 1 }
 }
 

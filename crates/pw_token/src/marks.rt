@@ -7,18 +7,46 @@ ghost use Rattle.pw_token.specs.Words.{is_keyword, marks};
 
 /// The keywords (C90 6.1.1).
 const KEYWORDS: [&[u8]; 32] = [
-    b"auto", b"break", b"case", b"char", b"const", b"continue", b"default", b"do",
-    b"double", b"else", b"enum", b"extern", b"float", b"for", b"goto", b"if",
-    b"int", b"long", b"register", b"return", b"short", b"signed", b"sizeof", b"static",
-    b"struct", b"switch", b"typedef", b"union", b"unsigned", b"void", b"volatile", b"while",
+    b"auto",
+    b"break",
+    b"case",
+    b"char",
+    b"const",
+    b"continue",
+    b"default",
+    b"do",
+    b"double",
+    b"else",
+    b"enum",
+    b"extern",
+    b"float",
+    b"for",
+    b"goto",
+    b"if",
+    b"int",
+    b"long",
+    b"register",
+    b"return",
+    b"short",
+    b"signed",
+    b"sizeof",
+    b"static",
+    b"struct",
+    b"switch",
+    b"typedef",
+    b"union",
+    b"unsigned",
+    b"void",
+    b"volatile",
+    b"while",
 ];
 
 /// The operators and punctuators (C90 6.1.5, 6.1.6).
 const MARKS: [&[u8]; 48] = [
-    b"[", b"]", b"(", b")", b".", b"->", b"++", b"--", b"&", b"*", b"+", b"-",
-    b"~", b"!", b"/", b"%", b"<<", b">>", b"<", b">", b"<=", b">=", b"==", b"!=",
-    b"^", b"|", b"&&", b"||", b"?", b":", b"=", b"*=", b"/=", b"%=", b"+=", b"-=",
-    b"<<=", b">>=", b"&=", b"^=", b"|=", b",", b"#", b"##", b"{", b"}", b";", b"...",
+    b"[", b"]", b"(", b")", b".", b"->", b"++", b"--", b"&", b"*", b"+", b"-", b"~", b"!", b"/",
+    b"%", b"<<", b">>", b"<", b">", b"<=", b">=", b"==", b"!=", b"^", b"|", b"&&", b"||", b"?",
+    b":", b"=", b"*=", b"/=", b"%=", b"+=", b"-=", b"<<=", b">>=", b"&=", b"^=", b"|=", b",", b"#",
+    b"##", b"{", b"}", b";", b"...",
 ];
 
 #[tactic(auto, unfolding(crate::specs::Words::is_keyword))]

@@ -35,7 +35,11 @@ fn word_at(text: &[u8]) -> Found
     ensures within { result.1 ≤ length text.now }
 {
     let len = word_len(text);
-    let kind = if is_keyword(&text[..len]) { TokenKind::Keyword } else { TokenKind::Identifier };
+    let kind = if is_keyword(&text[..len]) {
+        TokenKind::Keyword
+    } else {
+        TokenKind::Identifier
+    };
     (kind, len)
 }
 
@@ -47,8 +51,14 @@ fn longest_at(text: &[u8]) -> Found
     let word = longer(word_at(text), (TokenKind::Number, integer_len(text)));
     let floating = (TokenKind::Floating, floating_len(text));
     let constant = longer(floating, (TokenKind::Character, literal_len(b'\'', text)));
-    let literal = longer((TokenKind::Text, literal_len(b'"', text)), (TokenKind::Wide, wide_len(text)));
-    longer(longer(word, constant), longer(literal, (TokenKind::Mark, mark_len(text))))
+    let literal = longer(
+        (TokenKind::Text, literal_len(b'"', text)),
+        (TokenKind::Wide, wide_len(text)),
+    );
+    longer(
+        longer(word, constant),
+        longer(literal, (TokenKind::Mark, mark_len(text))),
+    )
 }
 
 fn found_piece(kind: PieceKind, len: usize) -> Option<(PieceKind, usize)>
