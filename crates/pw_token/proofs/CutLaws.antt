@@ -1,5 +1,5 @@
 -- A text has at most one cutting.
-use Rattle.std.proofs.Common.{◌≡◌, ◌≢◌, ℕ, suc, ◌+◌, ◌<◌, ◌≤◌, ◌⊎◌, inl, inr, Bool, true, false, List, [], ◌∷◌, ◌++◌, length, take, drop, refl, ap, arith, sym, ◌∙◌, subst, append_assoc, length-append, Option, Some}
+use Rattle.std.proofs.Common.{◌≡◌, ℕ, ◌+◌, ◌<◌, ◌⊎◌, inl, inr, Bool, List, [], ◌∷◌, ◌++◌, length, take, drop, refl, ap, arith, sym, ◌∙◌, subst, append_assoc, length-append, Some}
 use Rattle.std.proofs.lemmas.List.{append-nil, take_at, drop_at}
 use Rattle.pw_token.proofs.KindLaws.{spelled-long}
 use Rattle.pw_token.proofs.PieceLaws.{piece-complete}
@@ -7,8 +7,6 @@ use Rattle.pw_token.specs.Pieces.{piece_at}
 use Rattle.pw_token.specs.Tokenization.{Piece, Stands, Cuts, line_start_after, tokens_of, token_in, NothingStands}
 use Rattle.pw_token.specs.declared.piece.PieceKind.{PieceKind}
 use Rattle.pw_token.specs.declared.piece.PieceKind.TheVariants as piece
-use Rattle.pw_token.specs.declared.token.Token.{Token}
-use Rattle.pw_token.specs.declared.token.TokenKind.{TokenKind}
 use Rattle.pw_token.specs.declared.token.TokenKind.TheVariants.{Identifier, Keyword, Number, Floating, Character, Text, Wide, Mark, Directive}
 
 -- the length of pieces

@@ -1,10 +1,10 @@
 -- `floating_len` is the length of the longest floating constant at the front.
-use Rattle.std.proofs.Common.{◌≡◌, ◌≢◌, ℕ, suc, ◌+◌, ◌<◌, ◌≤◌, ◌⊎◌, inl, inr, Bool, true, false, cond, ◌&&◌, ◌||◌, eqb, List, [], ◌∷◌, ◌++◌, length, take, drop, slice_index, refl, ap, arith, sym, ◌∙◌, subst, append_assoc, length-append}
+use Rattle.std.proofs.Common.{◌≡◌, ◌≢◌, ℕ, suc, ◌+◌, ◌<◌, ◌≤◌, ◌⊎◌, inl, inr, Bool, true, false, ◌&&◌, ◌||◌, eqb, List, [], ◌∷◌, ◌++◌, length, drop, slice_index, refl, ap, arith, sym, ◌∙◌, subst, append_assoc, length-append}
 use Rattle.std.proofs.lemmas.Bool.{eqb-true, eqb-false, eq-eqb}
 use Rattle.std.proofs.lemmas.Bool.Decides.{nat_tests}
-use Rattle.std.proofs.lemmas.List.{drop_at, get_or_at}
-use Rattle.pw_token.proofs.Runs.{Begins, begins-drop, Run, run-front, run-in, run-reaches, run-stops, Ends, either, all-some, some-all, some-long}
-use Rattle.pw_token.proofs.Tests.{and-split, and-join, and-left, and-right, or-split, or-none, either-one}
+use Rattle.std.proofs.lemmas.List.{drop_at}
+use Rattle.pw_token.proofs.Runs.{Begins, begins-drop, run-front, run-in, run-reaches, run-stops, Ends, either, all-some, some-all, some-long}
+use Rattle.pw_token.proofs.ByteFacts.{and-split, and-left, and-right, or-split}
 use Rattle.pw_token.specs.Bytes.{is_in, is_either, AllIn, SomeIn}
 use Rattle.pw_token.specs.Scanning.{run, exponent_start, exponent_len, fraction_len, floating_suffix_len, scaled_len, floating_len}
 use Rattle.pw_token.specs.Spelling.{IsFloating, IsFractional, IsExponent, IsOptionalSign, IsFloatingSuffix, IsScaled, IsInteger, IsDecimal, IsOctal, IsHexadecimal, IsIntegerSuffix, is_u, is_l}

@@ -1,10 +1,10 @@
 -- `integer_len` is the length of the longest integer constant at the front.
-use Rattle.std.proofs.Common.{◌≡◌, ◌≢◌, ℕ, suc, ◌+◌, ◌<◌, ◌≤◌, ◌⊎◌, inl, inr, Bool, true, false, cond, ◌&&◌, ◌||◌, eqb, List, [], ◌∷◌, ◌++◌, length, take, drop, slice_index, refl, ap, arith, sym, ◌∙◌, subst, append_assoc, length-append}
-use Rattle.std.proofs.lemmas.Bool.{eqb-true, eqb-false, eq-eqb}
+use Rattle.std.proofs.Common.{◌≡◌, ◌≢◌, ℕ, suc, ◌+◌, ◌<◌, ◌≤◌, ◌⊎◌, inl, inr, Bool, true, false, cond, ◌&&◌, ◌||◌, eqb, List, [], ◌∷◌, ◌++◌, length, drop, slice_index, refl, ap, arith, sym, ◌∙◌, subst, append_assoc, length-append}
+use Rattle.std.proofs.lemmas.Bool.{eqb-true, eqb-false}
 use Rattle.std.proofs.lemmas.Bool.Decides.{nat_tests}
 use Rattle.std.proofs.lemmas.List.{drop_at}
-use Rattle.pw_token.proofs.Runs.{Begins, begins-drop, Run, run-front, run-in, run-reaches, run-stops, Ends, either, all-some, some-all, some-long}
-use Rattle.pw_token.proofs.Tests.{and-split, and-join, and-left, and-right, or-split, either-one, octal-not_x, octal-hexadecimal, digit-hexadecimal, u-not_hexadecimal, l-not_hexadecimal, u-not_x, l-not_x}
+use Rattle.pw_token.proofs.Runs.{Begins, begins-drop, run-front, run-in, run-reaches, run-stops, Ends, either, some-all}
+use Rattle.pw_token.proofs.ByteFacts.{and-split, and-left, and-right, or-split, octal-not_x, octal-hexadecimal, digit-hexadecimal, u-not_hexadecimal, l-not_hexadecimal, u-not_x, l-not_x}
 use Rattle.pw_token.specs.Bytes.{is_in, is_either, AllIn, SomeIn}
 use Rattle.pw_token.specs.Scanning.{run, integer_suffix_len, begins_hexadecimal, digits_len, integer_len}
 use Rattle.pw_token.specs.Spelling.{IsInteger, IsDecimal, IsOctal, IsHexadecimal, IsIntegerSuffix, is_u, is_l}

@@ -1,18 +1,16 @@
 -- A spelling has one kind, and begins with no blank and no backslash.
-use Rattle.std.proofs.Common.{◌≡◌, ◌≢◌, ℕ, suc, ◌+◌, ◌<◌, ◌≤◌, ◌⊎◌, inl, inr, Bool, true, false, cond, not, ◌&&◌, ◌||◌, eqb, List, [], ◌∷◌, ◌++◌, length, slice_index, refl, ap, arith, sym, ◌∙◌, subst, bytes_eq}
-use Rattle.std.specs.List.{list_any, list_all}
-use Rattle.std.proofs.lemmas.Bool.{eqb-true, eqb-false, eq-eqb}
+use Rattle.std.proofs.Common.{◌≡◌, ◌≢◌, ℕ, ◌<◌, ◌⊎◌, inl, inr, Bool, true, false, cond, not, ◌&&◌, ◌||◌, eqb, List, [], ◌∷◌, ◌++◌, length, slice_index, refl, ap, arith, sym, ◌∙◌, subst}
+use Rattle.std.specs.List.{list_all}
 use Rattle.std.proofs.lemmas.Bool.Decides.{nat_tests}
 use Rattle.std.proofs.lemmas.List.{append-nil}
 use Rattle.pw_token.proofs.Floats.{floating-reaches, integer-no_floating}
-use Rattle.pw_token.proofs.Runs.{either}
-use Rattle.pw_token.proofs.Tests.{and-split, and-join, and-left, and-right, or-split, or-none}
+use Rattle.pw_token.proofs.ByteFacts.{and-split, and-left, and-right}
 use Rattle.pw_token.proofs.WordLaws.{any-all, keyword-word}
-use Rattle.pw_token.specs.Bytes.{is_in, is_nondigit, is_either, AllIn, SomeIn}
+use Rattle.pw_token.specs.Bytes.{is_in, is_nondigit, AllIn, SomeIn}
 use Rattle.pw_token.specs.Pieces.{word_kind, is_blank}
 use Rattle.pw_token.specs.Scanning.{floating_len}
-use Rattle.pw_token.specs.Spelling.{IsWord, IsInteger, IsDecimal, IsOctal, IsHexadecimal, IsFloating, IsFractional, IsScaled, IsExponent, IsQuoted, IsWide, Spells}
-use Rattle.pw_token.specs.Words.{is_keyword, is_mark, marks}
+use Rattle.pw_token.specs.Spelling.{IsWord, IsInteger, IsDecimal, IsOctal, IsHexadecimal, IsFloating, IsScaled, IsWide, Spells}
+use Rattle.pw_token.specs.Words.{is_mark, marks}
 use Rattle.pw_token.specs.declared.bytes.Class.TheVariants as class
 use Rattle.pw_token.specs.declared.token.TokenKind.{TokenKind}
 use Rattle.pw_token.specs.declared.token.TokenKind.TheVariants.{Identifier, Keyword, Number, Floating, Character, Text, Wide, Mark, Directive}

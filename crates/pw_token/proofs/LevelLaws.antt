@@ -1,9 +1,9 @@
 -- What opening and closing does to the open levels and their nesting.
-use Rattle.std.proofs.Common.{◌≡◌, ◌≢◌, ℕ, zero, suc, ◌+◌, ◌-◌, ◌<◌, ◌≤◌, ◌⊎◌, inl, inr, Bool, true, false, cond, ◌||◌, List, [], ◌∷◌, length, slice_index_or, slice_set, set, get_or, refl, ap, arith, sym, ◌∙◌, subst, add-one}
+use Rattle.std.proofs.Common.{◌≡◌, ℕ, zero, suc, ◌+◌, ◌-◌, ◌<◌, ◌≤◌, Bool, true, false, ◌||◌, List, [], ◌∷◌, length, slice_index_or, set, refl, ap, arith, sym, ◌∙◌, subst, add-one}
 use Rattle.std.specs.List.{list_any}
-use Rattle.std.proofs.lemmas.List.{get_or-set_same, get_or-set_other, get_or_default}
+use Rattle.std.proofs.lemmas.List.{get_or-set_same, get_or-set_other}
 use Rattle.pw_token.specs.Levels.{outers, levels_of, text_level, IsGrounded, IsSound}
-use Rattle.pw_token.specs.Nesting.{nest_of, opened, outer_of, is_bracket, is_question, without_questions, without_bracket, past_bracket, innermost_is}
+use Rattle.pw_token.specs.Nesting.{nest_of, outer_of, is_bracket, is_question, is_do, without_questions, past_bracket, innermost_is}
 use Rattle.pw_token.specs.declared.levels.Level.{Level}
 use Rattle.pw_token.specs.declared.levels.Levels.{Levels}
 use Rattle.pw_token.specs.declared.levels.Opener.{Opener}
@@ -122,3 +122,9 @@ bracket-end (l ∷ ls) h = rw h refl
 pub any-step : (ls : List Level) → innermost_is is_bracket ls ≡ false → list_any (λ l. is_bracket l.opener) ls ≡ list_any (λ l. is_bracket l.opener) (outer_of ls)
 any-step [] h = refl
 any-step (l ∷ ls) h = rw h refl
+
+pub do-inside : (s : Levels) → IsSound s → is_do s.innermost.opener ≡ true → 0 < s.depth
+do-inside s h q = inside s.innermost s.outer s.depth h.grounded (λ e. no s.innermost.opener e q)
+  where
+    no : (o : Opener) → o ≡ opener.Text → is_do o ≡ true → ⊥
+    no o e q = let z : is_do o ≡ false = ap is_do e in cc

@@ -1,7 +1,7 @@
 -- The loop of the lexer cuts the text, and a text has one answer.
-use Rattle.std.proofs.Common.{◌≡◌, ◌≢◌, ℕ, suc, ◌+◌, ◌<◌, ◌≤◌, ◌⊎◌, inl, inr, Bool, true, false, List, [], ◌∷◌, ◌++◌, length, take, drop, refl, ap, arith, sym, ◌∙◌, subst, append_assoc, length-append, length-drop, Option, Some, None, Result, Ok, Err}
+use Rattle.std.proofs.Common.{◌≡◌, ℕ, ◌+◌, ◌<◌, ◌≤◌, inl, inr, Bool, true, List, [], ◌∷◌, ◌++◌, length, take, drop, refl, ap, arith, sym, ◌∙◌, subst, length-append, length-drop, Some, None, Result, Ok, Err}
 use Rattle.std.proofs.lemmas.List.{append-nil, take_at, drop_at, drop-drop, drop_all}
-use Rattle.pw_token.proofs.CutLaws.{total, total-append, total-first, cuts-length, cuts-more, stands-long, Same, same-piece, GoesOn, compare, stops, nothing-at_end, one-cutting, tokens-append}
+use Rattle.pw_token.proofs.CutLaws.{total, total-append, total-first, cuts-length, cuts-more, stands-long, same-piece, GoesOn, compare, stops, nothing-at_end, one-cutting, tokens-append}
 use Rattle.pw_token.proofs.PieceLaws.{StandsHere, piece-sound, piece-none}
 use Rattle.pw_token.specs.Pieces.{piece_at}
 use Rattle.pw_token.specs.Tokenization.{Piece, Stands, Cuts, line_start_after, tokens_of, token_in, NothingStands, AreTokens, IsBadAt, IsTooManyAt, IsLexed, IsBad, IsTooMany, Lexes, Gives, Keeps}

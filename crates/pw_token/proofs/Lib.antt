@@ -9,8 +9,9 @@ pub mod PieceBounds
 pub mod PieceLaws
 pub mod Quoted
 pub mod Runs
-pub mod Tests
+pub mod ByteFacts
 pub mod TokenLaws
 pub mod WordLaws
 pub mod LevelLaws
 pub mod TokenBounds
+pub mod NestLaws

@@ -1,10 +1,10 @@
 -- Comments, line markers and directive lines at the front of a text.
-use Rattle.std.proofs.Common.{◌≡◌, ◌≢◌, ℕ, suc, ◌+◌, ◌<◌, ◌≤◌, ◌⊎◌, inl, inr, Bool, true, false, cond, not, ◌&&◌, ◌||◌, eqb, List, [], ◌∷◌, ◌++◌, length, take, drop, slice_index, refl, ap, arith, sym, ◌∙◌, subst, append_assoc, length-append}
-use Rattle.std.proofs.lemmas.Bool.{eqb-true, eqb-false, eq-eqb}
+use Rattle.std.proofs.Common.{◌≡◌, ℕ, suc, ◌+◌, ◌<◌, ◌≤◌, ◌⊎◌, inl, inr, Bool, true, false, not, ◌&&◌, eqb, List, [], ◌∷◌, ◌++◌, length, drop, slice_index, refl, ap, arith, sym, ◌∙◌, subst, append_assoc, length-append}
+use Rattle.std.proofs.lemmas.Bool.{eqb-true, eq-eqb}
 use Rattle.std.proofs.lemmas.Bool.Decides.{nat_tests}
-use Rattle.pw_token.proofs.Runs.{Begins, Run, run-front, run-in, run-reaches, run-stops, Ends, either}
+use Rattle.pw_token.proofs.Runs.{Begins, run-front, run-in, run-reaches, run-stops, Ends, either}
 use Rattle.pw_token.proofs.Floats.{at-front}
-use Rattle.pw_token.proofs.Tests.{and-split, and-join, and-left, and-right, or-split, or-none}
+use Rattle.pw_token.proofs.ByteFacts.{and-split, and-join, and-right}
 use Rattle.pw_token.specs.Bytes.{is_in, AllIn}
 use Rattle.pw_token.specs.Pieces.{begins_marker}
 use Rattle.pw_token.specs.Scanning.{run, comment_end, comment_len}

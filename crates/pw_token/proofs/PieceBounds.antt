@@ -1,5 +1,5 @@
 -- The length of the piece at the front.
-use Rattle.std.proofs.Common.{◌≡◌, ℕ, ◌+◌, ◌<◌, ◌≤◌, List, [], ◌∷◌, length, Bool, Option, Some, None, IfSome, arith, ap, length-append, refl}
+use Rattle.std.proofs.Common.{◌≡◌, ℕ, ◌<◌, ◌≤◌, List, [], ◌∷◌, length, Bool, Option, Some, None, IfSome, arith, ap, length-append}
 use Rattle.pw_token.proofs.PieceLaws.{piece-sound}
 use Rattle.pw_token.proofs.CutLaws.{stands-long}
 use Rattle.pw_token.specs.Pieces.{piece_at}

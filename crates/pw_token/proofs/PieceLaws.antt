@@ -1,15 +1,15 @@
 -- `piece_at` is the piece at the front of a text.
-use Rattle.std.proofs.Common.{◌≡◌, ◌≢◌, ℕ, suc, ◌+◌, ◌<◌, ◌≤◌, ◌⊎◌, inl, inr, Bool, true, false, cond, not, ◌&&◌, ◌||◌, eqb, List, [], ◌∷◌, ◌++◌, length, slice_index, refl, ap, arith, sym, ◌∙◌, subst, append_assoc, length-append, Option, Some, None}
-use Rattle.std.proofs.lemmas.Bool.{eqb-true, eqb-false, eq-eqb}
+use Rattle.std.proofs.Common.{◌≡◌, ℕ, ◌<◌, inl, inr, Bool, true, false, cond, not, ◌&&◌, eqb, List, [], ◌∷◌, ◌++◌, length, slice_index, refl, ap, arith, sym, ◌∙◌, subst, Option, Some, None}
+use Rattle.std.proofs.lemmas.Bool.{eqb-true, eqb-false}
 use Rattle.std.proofs.lemmas.Bool.Decides.{nat_tests}
 use Rattle.pw_token.proofs.KindLaws.{opens, spelled-opens, spelled-long}
-use Rattle.pw_token.proofs.LineLaws.{comment-front, comment-reaches, marker-begins, begins-marker, HashLine, hash-line, hash-len, line-ends}
+use Rattle.pw_token.proofs.LineLaws.{comment-front, comment-reaches, marker-begins, begins-marker, hash-line, hash-len, line-ends}
 use Rattle.pw_token.proofs.Runs.{either}
-use Rattle.pw_token.proofs.Tests.{and-split, and-join, and-left, and-right}
+use Rattle.pw_token.proofs.ByteFacts.{and-split, and-left, and-right}
 use Rattle.pw_token.proofs.TokenLaws.{token-complete, token-sound}
 use Rattle.pw_token.specs.Pieces.{piece_at, token_at, line_at, found_piece, longest_at, begins_marker, is_blank}
 use Rattle.pw_token.specs.Scanning.{run, comment_len, is_splice}
-use Rattle.pw_token.specs.Tokenization.{Stands, IsBlank, IsComment, IsHashLine, IsMarker, IsTokenHere, IsTokenPlace, NothingStands}
+use Rattle.pw_token.specs.Tokenization.{Stands, IsComment, IsHashLine, IsMarker, IsTokenHere, IsTokenPlace, NothingStands}
 use Rattle.pw_token.specs.declared.bytes.Class.TheVariants as class
 use Rattle.pw_token.specs.declared.piece.PieceKind.{PieceKind}
 use Rattle.pw_token.specs.declared.piece.PieceKind.TheVariants as piece

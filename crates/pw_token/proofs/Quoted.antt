@@ -1,14 +1,13 @@
 -- `literal_len` and `wide_len` are the lengths of the character constants and string literals at the front.
-use Rattle.std.proofs.Common.{◌≡◌, ◌≢◌, ℕ, suc, ◌+◌, ◌<◌, ◌≤◌, ◌⊎◌, inl, inr, Bool, true, false, cond, ◌&&◌, ◌||◌, eqb, List, [], ◌∷◌, ◌++◌, length, take, drop, slice_index, refl, ap, arith, sym, ◌∙◌, subst, append_assoc, length-append}
+use Rattle.std.proofs.Common.{◌≡◌, ◌≢◌, ℕ, ◌+◌, ◌<◌, ◌⊎◌, inl, inr, true, false, ◌&&◌, ◌||◌, eqb, List, [], ◌∷◌, ◌++◌, length, slice_index, refl, ap, arith, sym, ◌∙◌, subst, append_assoc, length-append}
 use Rattle.std.specs.List.{AllByRecursion, flat_map}
 use Rattle.std.proofs.lemmas.Bool.{eqb-true, eqb-false, eq-eqb}
 use Rattle.std.proofs.lemmas.Bool.Decides.{nat_tests}
 use Rattle.pw_token.proofs.Closing.{closing-splice, closing-step, closing-open, closing-closed}
 use Rattle.pw_token.proofs.Runs.{Begins, either}
-use Rattle.pw_token.proofs.Tests.{and-split, and-left, and-right, or-split, or-none, octal-hexadecimal}
+use Rattle.pw_token.proofs.ByteFacts.{and-right, octal-hexadecimal}
 use Rattle.pw_token.specs.Bytes.{is_in, AllIn, SomeIn}
 use Rattle.pw_token.specs.Scanning.{closing, settle, next_mode, is_splice, is_closed, is_broken, literal_len, wide_len, is_simple_escape}
-use Rattle.pw_token.specs.Spelling as spelling
 use Rattle.pw_token.specs.Spelling.{joined, IsCharacter, AreCharacters, IsQuoted, IsWide}
 use Rattle.pw_token.specs.declared.bytes.Class.TheVariants.{OctalDigit, HexDigit}
 use Rattle.pw_token.specs.declared.literals.Mode.{Mode}

@@ -1,7 +1,7 @@
 -- The tokens of a text lie in it.
-use Rattle.std.proofs.Common.{◌≡◌, ℕ, zero, suc, ◌+◌, ◌<◌, ◌≤◌, List, [], ◌∷◌, ◌++◌, length, slice_index_or, All, refl, ap, arith, sym, ◌∙◌, subst, length-append, Bool, true, get_or}
-use Rattle.pw_token.proofs.CutLaws.{total, total-first, cuts-length}
-use Rattle.pw_token.specs.Tokenization.{Piece, Cuts, tokens_of, token_in, IsLexed, AreTokens}
+use Rattle.std.proofs.Common.{ℕ, zero, suc, ◌+◌, ◌<◌, ◌≤◌, List, [], ◌∷◌, ◌++◌, length, slice_index_or, All, arith, sym, subst, Bool, true}
+use Rattle.pw_token.proofs.CutLaws.{total, total-first, cuts-length, stands-long}
+use Rattle.pw_token.specs.Tokenization.{Piece, Cuts, tokens_of, token_in, IsLexed, StandInOrder, line_start_after}
 use Rattle.pw_token.specs.declared.piece.PieceKind.{PieceKind}
 use Rattle.pw_token.specs.declared.piece.PieceKind.TheVariants as piece
 use Rattle.pw_token.specs.declared.token.Token.{Token}
@@ -38,3 +38,24 @@ tokens_within text tokens h =
     let a = h.1 in
     let l = cuts-length true text a.pieces a.end [] a.cut in
     at-end (length text) tokens (subst (AllEnd (length text)) (sym a.tokens_are) (end-pieces (length text) 0 a.pieces (omega (arith, l))))
+
+order-pieces : (n from at : ℕ) (s : Bool) (t : List ℕ) (ps : List Piece) (e : Bool) (rest : List ℕ) → from ≤ at → at + total ps ≤ n → Cuts s t ps e rest → StandInOrder from n (tokens_of at ps)
+order-pieces n from at s t [] e rest l fits h = omega arith
+order-pieces n from at s t (p ∷ ps) e rest l fits h =
+    let first = total-first p ps in
+    let long = stands-long s p.kind p.text h.0 h.2 in
+    kinds p.kind (order-pieces n from (at + length p.text) (line_start_after s p.kind p.text) h.0 ps e rest (omega arith) (omega arith) h.3)
+    (order-pieces n (at + length p.text) (at + length p.text) (line_start_after s p.kind p.text) h.0 ps e rest (omega arith) (omega arith) h.3) long
+  where
+    kinds : (kind : PieceKind) → StandInOrder from n (tokens_of (at + length p.text) ps) → StandInOrder (at + length p.text) n (tokens_of (at + length p.text) ps)
+        → 0 < length p.text → StandInOrder from n (token_in kind at (length p.text) ++ tokens_of (at + length p.text) ps)
+    kinds piece.Blank far near long = far
+    kinds piece.Comment far near long = far
+    kinds piece.LineMarker far near long = far
+    kinds (piece.Token kind) far near long = (l, long, near)
+
+pub tokens_rise : (text : List ℕ) (tokens : List Token) → IsLexed text tokens → StandInOrder 0 (length text) tokens
+tokens_rise text tokens h =
+    let a = h.1 in
+    let l = cuts-length true text a.pieces a.end [] a.cut in
+    subst (StandInOrder 0 (length text)) (sym a.tokens_are) (order-pieces (length text) 0 0 true text a.pieces a.end [] (omega arith) (omega (arith, l)) a.cut)

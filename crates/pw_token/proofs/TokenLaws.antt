@@ -1,7 +1,7 @@
 -- `longest_at` is the token at the front of a text.
-use Rattle.std.proofs.Common.{◌≡◌, ◌≢◌, ℕ, suc, ◌+◌, ◌<◌, ◌≤◌, ◌⊎◌, inl, inr, Bool, true, false, cond, ◌&&◌, ◌||◌, eqb, nat_lt, List, [], ◌∷◌, ◌++◌, length, take, slice_index, refl, ap, arith, sym, ◌∙◌, subst, append_assoc, length-append}
-use Rattle.std.proofs.lemmas.Bool.{eqb-true, eqb-false, ltb-true, ltb-false}
-use Rattle.std.proofs.lemmas.List.{append-nil, nil_from_length, append_cancel_left}
+use Rattle.std.proofs.Common.{◌≡◌, ℕ, ◌<◌, ◌≤◌, inl, inr, cond, nat_lt, List, ◌++◌, length, refl, ap, arith, sym, ◌∙◌, subst, append_assoc, length-append}
+use Rattle.std.proofs.lemmas.Bool.{ltb-true, ltb-false}
+use Rattle.std.proofs.lemmas.List.{append-nil, nil_from_length}
 use Rattle.pw_token.proofs.Floats.{floating-front, floating-reaches}
 use Rattle.pw_token.proofs.Integers.{integer-front, integer-reaches}
 use Rattle.pw_token.proofs.KindLaws.{one-kind, spelled-long}

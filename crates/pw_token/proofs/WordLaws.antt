@@ -1,12 +1,11 @@
 -- Words, keywords and marks at the front of a text.
-use Rattle.std.proofs.Common.{◌≡◌, ◌≢◌, ℕ, suc, ◌+◌, ◌<◌, ◌≤◌, ◌⊎◌, inl, inr, Bool, true, false, cond, ◌&&◌, ◌||◌, eqb, ltb, nat_lt, nat_eq, List, [], ◌∷◌, ◌++◌, length, take, drop, slice_index, refl, ap, arith, sym, ◌∙◌, subst, append_assoc, length-append, bytes_eq}
+use Rattle.std.proofs.Common.{◌≡◌, ℕ, suc, ◌<◌, ◌≤◌, ◌⊎◌, inl, inr, Bool, true, false, cond, ◌&&◌, ◌||◌, nat_lt, nat_eq, List, [], ◌∷◌, ◌++◌, length, take, drop, refl, ap, arith, sym, ◌∙◌, subst, bytes_eq}
 use Rattle.std.specs.List.{list_any, list_all, starts_with}
-use Rattle.std.proofs.lemmas.Bool.{eqb-true, eqb-false, eq-eqb, ltb-true, ltb-false}
-use Rattle.std.proofs.lemmas.Bool.Decides.{nat_tests}
-use Rattle.std.proofs.lemmas.List.{take_at, take-append-drop, length-take-le}
+use Rattle.std.proofs.lemmas.Bool.{ltb-true, ltb-false}
+use Rattle.std.proofs.lemmas.List.{take_at, take-append-drop}
 use Rattle.std.proofs.lemmas.Slice.Eq.{bytes_eq-Decides}
 use Rattle.pw_token.proofs.Runs.{Begins, run-front, run-in, run-reaches, either}
-use Rattle.pw_token.proofs.Tests.{and-split, and-join, or-split, or-none}
+use Rattle.pw_token.proofs.ByteFacts.{and-split, or-split}
 use Rattle.pw_token.specs.Bytes.{is_in, is_nondigit, AllIn}
 use Rattle.pw_token.specs.Scanning.{run, word_len, longest_in}
 use Rattle.pw_token.specs.Spelling.{IsWord}

@@ -1,5 +1,5 @@
 -- Nesting: how deep a text goes at each of its tokens.
-use Rattle.std.specs.Prelude.{◌≡◌, ℕ, ◌+◌, Bool, true, false, not, ◌&&◌, ◌||◌, if◌then◌else◌, List, [], ◌∷◌, map}
+use Rattle.std.specs.Prelude.{ℕ, ◌+◌, Bool, true, false, ◌&&◌, if◌then◌else◌, List, [], ◌∷◌, map}
 use Rattle.std.specs.List.{list_any}
 use Rattle.pw_token.specs.Roles.{role_in}
 use Rattle.pw_token.specs.declared.levels.Level.{Level}

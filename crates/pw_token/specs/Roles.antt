@@ -1,5 +1,5 @@
 -- What tokens mean for nesting.
-use Rattle.std.specs.Prelude.{◌≡◌, ℕ, Bool, true, false, if◌then◌else◌, List, [], ◌∷◌, take, drop, codes, bytes_eq}
+use Rattle.std.specs.Prelude.{ℕ, if◌then◌else◌, List, [], ◌∷◌, take, drop, codes, bytes_eq}
 use Rattle.pw_token.specs.declared.roles.Role.{Role}
 use Rattle.pw_token.specs.declared.roles.Role.TheVariants as role
 use Rattle.pw_token.specs.declared.token.Token.{Token}

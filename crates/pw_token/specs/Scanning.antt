@@ -1,5 +1,5 @@
 -- How long the constants, comments and marks are that stand at the front of a text, 0 where none does.
-use Rattle.std.specs.Prelude.{◌≡◌, ℕ, ◌+◌, Bool, true, false, ◌&&◌, ◌||◌, if◌then◌else◌, ◌==◌, nat_le, nat_lt, List, [], ◌∷◌, take, drop, length, slice_index, Option, Some, None, nat_eq}
+use Rattle.std.specs.Prelude.{ℕ, ◌+◌, Bool, true, false, ◌&&◌, ◌||◌, if◌then◌else◌, ◌==◌, nat_lt, List, [], ◌∷◌, drop, length, slice_index, nat_eq}
 use Rattle.std.specs.List.{prefix_len, starts_with}
 use Rattle.pw_token.specs.Bytes.{is_in, is_nondigit, is_either}
 use Rattle.pw_token.specs.declared.bytes.Class.{Class}

@@ -1,6 +1,6 @@
 -- Tokenization: a text is cut into blanks, comments, line markers and tokens.
-use Rattle.std.specs.Prelude.{◌≡◌, ◌≢◌, ℕ, ◌+◌, ◌<◌, ◌≤◌, Bool, true, false, ◌&&◌, ◌||◌, if◌then◌else◌, ◌==◌, ◌⊎◌, List, [], ◌∷◌, ◌++◌, length, Result, Ok, Err, ⊤}
-use Rattle.std.specs.List.{list_any, flat_map}
+use Rattle.std.specs.Prelude.{◌≡◌, ℕ, ◌+◌, ◌<◌, ◌≤◌, Bool, true, false, ◌&&◌, ◌||◌, ◌==◌, ◌⊎◌, List, [], ◌∷◌, ◌++◌, length, Result, Ok, Err, ⊤}
+use Rattle.std.specs.List.{list_any}
 use Rattle.pw_token.specs.Bytes.{is_in, AllIn}
 use Rattle.pw_token.specs.Spelling.{Spells}
 use Rattle.pw_token.specs.declared.bytes.Class.TheVariants as class
@@ -10,7 +10,7 @@ use Rattle.pw_token.specs.declared.token.LexFault.{LexFault}
 use Rattle.pw_token.specs.declared.token.LexFault.TheVariants.{Bad, TooLong, TooMany, NoMemory}
 use Rattle.pw_token.specs.declared.token.Token.{Token}
 use Rattle.pw_token.specs.declared.token.TokenKind.{TokenKind}
-use Rattle.pw_token.specs.declared.token.TokenKind.TheVariants.{Identifier, Keyword, Number, Floating, Character, Text, Wide, Mark, Directive}
+use Rattle.pw_token.specs.declared.token.TokenKind.TheVariants.{Directive}
 
 -- a part of a text
 pub record Piece : Type 0 where
@@ -150,6 +150,11 @@ Lexes text (Err NoMemory) = ⊥
 abbrev pub Answers : {V : Type 0} → (V → List Token) → Result V LexFault → Result (List Token) LexFault → Type 0
 Answers view (Ok v) answer = answer ≡ Ok (view v)
 Answers view (Err fault) answer = (fault ≡ NoMemory) ⊎ (answer ≡ Err fault)
+
+-- Between the places `from` and `end` the tokens stand one after another, each of one byte or more.
+abbrev pub StandInOrder : ℕ → ℕ → List Token → Type 0
+StandInOrder from end [] = from ≤ end
+StandInOrder from end (t ∷ ts) = (from ≤ t.at) × (0 < t.len) × StandInOrder (t.at + t.len) end ts
 
 -- what a call gave, seen by view, is an answer of the text, or memory ran out
 abbrev pub Gives : {V : Type 0} → List ℕ → (V → List Token) → Result V LexFault → Type 0

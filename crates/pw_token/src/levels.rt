@@ -68,6 +68,7 @@ impl Levels {
         requires room { self.old.nest < 255 }
         ensures sound { IsSound self.new }
         ensures levels { levels_of self.new ≡ opened opener (levels_of self.old) }
+        ensures rise { self.new.nest ≡ self.old.nest + 1 }
     {
         self.outer[self.depth] = self.innermost;
         self.depth += 1;
@@ -97,6 +98,7 @@ impl Levels {
         requires room { self.old.nest < 255 }
         ensures sound { IsSound self.new }
         ensures levels { levels_of self.new ≡ with_expression (levels_of self.old) }
+        ensures rise { self.new.nest ≡ self.old.nest + 1 }
     {
         self.innermost.expressions += 1;
         self.nest += 1;
@@ -107,6 +109,7 @@ impl Levels {
         requires room { self.old.nest < 255 }
         ensures sound { IsSound self.new }
         ensures levels { levels_of self.new ≡ with_control (levels_of self.old) }
+        ensures rise { self.new.nest ≡ self.old.nest + 1 }
     {
         self.innermost.controls += 1;
         self.nest += 1;
@@ -127,6 +130,7 @@ impl Levels {
         requires sound { IsSound self.old }
         ensures sound { IsSound self.new }
         ensures levels { levels_of self.new ≡ ended else_follows (levels_of self.old) }
+        ensures less { self.new.nest ≤ self.old.nest }
     {
         self.clear_expressions();
         if !else_follows {

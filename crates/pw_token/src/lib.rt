@@ -5,19 +5,20 @@
 mod bytes;
 mod constants;
 mod features;
+mod laws;
 mod levels;
 mod lexer;
 mod literals;
 mod marks;
+mod nesting;
 mod piece;
 mod roles;
 mod token;
 
 pub use features::unsupported;
-pub use levels::{Level, Opener};
+pub use laws::{one_cutting, tokens_stand_in_order};
 pub use lexer::{MAX_TEXT, MAX_TOKENS, lex};
-pub use piece::PieceKind;
-pub use roles::Role;
+pub use nesting::{MAX_NEST, nest_fault};
 pub use token::{Feature, LexFault, Token, TokenKind};
 
 #[cfg(test)]

@@ -3,7 +3,7 @@
 use crate::TokenKind::{
     Character, Directive, Floating, Identifier, Keyword, Mark, Number, Text, Wide,
 };
-use crate::{Feature, LexFault, Token, TokenKind, lex, unsupported};
+use crate::{Feature, LexFault, Token, TokenKind, lex, nest_fault, unsupported};
 use std::test::Fail;
 
 /// A text, its tokens with their places and lengths, and the first unsupported one.
@@ -170,6 +170,50 @@ fn texts_have_their_faults(rt: HostRuntime) -> Result<(), Fail> {
     match lex(rt.alloc(), &blanks) {
         Ok(_) => assert!(rt; false),
         Err(fault) => assert_eq!(rt; fault, LexFault::TooLong),
+    }
+    Ok(())
+}
+
+/// Parts of a text with how often each stands, and the first token that is nested too deep.
+type Deep = (&'static [(&'static [u8], usize)], Option<usize>);
+
+const DEPTHS: [Deep; 23] = [
+    (&[(b"(", 199), (b"x", 1), (b")", 199)], None),
+    (&[(b"(", 200), (b"x", 1), (b")", 200)], None),
+    (&[(b"(", 201), (b"x", 1)], Some(201)),
+    (&[(b"a?b:", 300), (b"c;", 1)], Some(802)),
+    (&[(b"a?", 201)], Some(402)),
+    (&[(b"if(a)b;else ", 500), (b"c;", 1)], None),
+    (&[(b"if(a)", 201)], Some(798)),
+    (&[(b"- ", 200), (b"x", 1)], None),
+    (&[(b"- ", 201), (b"x", 1)], Some(201)),
+    (&[(b"x-", 300)], None),
+    (&[(b"(T)", 201), (b"x", 1)], Some(601)),
+    (&[(b"do ", 201)], Some(201)),
+    (&[(b"do{", 100), (b"x;", 1), (b"}while(a);", 100)], None),
+    (&[(b"do x;while(a);", 300)], None),
+    (&[(b"while(a)", 201)], Some(798)),
+    (&[(b"x=", 201)], Some(402)),
+    (&[(b"{", 1), (b"-1,", 10000), (b"0}", 1)], None),
+    (&[(b")", 300)], None),
+    (&[(b")a", 202)], Some(402)),
+    (&[(b"x++ -", 300)], None),
+    (&[(b"for(;;)", 201)], Some(997)),
+    (&[(b"{if(a){x=1;}else{x=2;}}", 300)], None),
+    (&[(b"(a?b;", 150), (b")", 150)], None),
+];
+
+#[test]
+fn texts_are_not_nested_too_deep(rt: HostRuntime) -> Result<(), Fail> {
+    for (parts, wanted) in &DEPTHS {
+        let mut text = Vec::new(rt.alloc());
+        for (part, count) in *parts {
+            for _ in 0..*count {
+                text.extend_from_slice(part)?;
+            }
+        }
+        let tokens = lex(rt.alloc(), &text)?;
+        assert_eq!(rt; nest_fault(&text, &tokens), *wanted, "in {parts:?}");
     }
     Ok(())
 }

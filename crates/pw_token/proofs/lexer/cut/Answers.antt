@@ -1,10 +1,10 @@
-use Rattle.std.proofs.Common.{◌≡◌, ◌≤◌, ◌++◌, ◌⊎◌, ℕ, List, Vec, Global, Result, Ok, Err, length, vec_len, ◌+◌, ◌<◌, Some, None, drop, take, arith, sym, ap, ◌∙◌, subst}
+use Rattle.std.proofs.Common.{◌≡◌, Vec, Global, vec_len, Some, drop, take, sym, ap, ◌∙◌}
 use Rattle.std.proofs.lemmas.List.{take_rest}
 use Rattle.std.proofs.lemmas.Result.{err_from_is_err_and}
 use Rattle.pw_token.specs.declared.token.Token.{Token}
 use Rattle.pw_token.specs.Pieces.{piece_at}
-use Rattle.pw_token.specs.Tokenization.{line_start_after, Gives}
-use Rattle.pw_token.proofs.LexLaws.{Lexing, lexing-start, lexing-step, lexing-end, lexing-bad, lexing-many, gives-fault}
+use Rattle.pw_token.specs.Tokenization.{line_start_after}
+use Rattle.pw_token.proofs.LexLaws.{lexing-step, lexing-bad, gives-fault}
 use Rattle.pw_token.proofs.lexer.cut.Goals as goal
 
 pub returns-in_default : goal.returns-in_default

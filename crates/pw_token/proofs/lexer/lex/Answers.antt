@@ -1,4 +1,4 @@
-use Rattle.std.proofs.Common.{◌≡◌, ℕ, refl, ◌⊎◌, inl, inr, List, Result, Ok, Err, Vec, Global}
+use Rattle.std.proofs.Common.{ℕ, refl, inl, inr, List, Result, Ok, Err, Vec, Global}
 use Rattle.pw_token.specs.Tokenization.{Answers, Gives, Lexes}
 use Rattle.pw_token.specs.declared.token.LexFault.{LexFault}
 use Rattle.pw_token.specs.declared.token.LexFault.TheVariants.{Bad, TooLong, TooMany, NoMemory}

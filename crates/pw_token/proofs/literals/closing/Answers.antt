@@ -1,4 +1,4 @@
-use Rattle.std.proofs.Common.{◌≡◌, ◌+◌, true, false, length, drop, slice_index, sym, ap, ◌∙◌, length-drop, arith, ℕ}
+use Rattle.std.proofs.Common.{◌≡◌, ◌+◌, true, false, length, sym, ap, ◌∙◌, length-drop, arith}
 use Rattle.pw_token.proofs.Closing.{closing-splice, closing-open}
 use Rattle.pw_token.specs.Scanning.{closing, is_splice, is_closed, is_broken}
 use Rattle.pw_token.proofs.literals.closing.Goals as goal

@@ -1,4 +1,4 @@
-use Rattle.std.proofs.Common.{◌≡◌, ◌+◌, ◌<◌, ◌∷◌, length, refl, ap, arith, ◌∙◌, Fits}
+use Rattle.std.proofs.Common.{refl, arith}
 use Rattle.pw_token.proofs.LevelLaws.{depth-nest, outers-close, closed-sound}
 use Rattle.pw_token.proofs.levels.Levels.close.Goals as goal
 

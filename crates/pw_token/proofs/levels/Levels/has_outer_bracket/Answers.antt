@@ -1,4 +1,4 @@
-use Rattle.std.proofs.Common.{◌≡◌, ◌+◌, ◌<◌, ◌≤◌, ◌||◌, true, false, length, refl, ap, arith, sym, ◌∙◌, Fits}
+use Rattle.std.proofs.Common.{arith, sym, ◌∙◌}
 use Rattle.pw_token.proofs.LevelLaws.{depth-nest, outers-found, outers-missed, outers-none}
 use Rattle.pw_token.specs.Nesting.{is_bracket}
 use Rattle.pw_token.proofs.levels.Levels.has_outer_bracket.Goals as goal

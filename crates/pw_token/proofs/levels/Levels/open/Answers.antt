@@ -1,4 +1,4 @@
-use Rattle.std.proofs.Common.{◌≡◌, ◌+◌, ◌<◌, ◌∷◌, length, refl, ap, arith, ◌∙◌, Fits}
+use Rattle.std.proofs.Common.{◌<◌, ◌∷◌, length, refl, ap, arith}
 use Rattle.std.proofs.lemmas.List.{length-set}
 use Rattle.pw_token.proofs.LevelLaws.{depth-nest, outers-open, opened-sound}
 use Rattle.pw_token.proofs.levels.Levels.open.Goals as goal
