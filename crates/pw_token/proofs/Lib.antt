@@ -1,0 +1,17 @@
+pub mod Closing
+pub mod CutLaws
+pub mod Floats
+pub mod Integers
+pub mod KindLaws
+pub mod LexLaws
+pub mod LineLaws
+pub mod PieceBounds
+pub mod PieceLaws
+pub mod Quoted
+pub mod Runs
+pub mod ByteFacts
+pub mod TokenLaws
+pub mod WordLaws
+pub mod LevelLaws
+pub mod TokenBounds
+pub mod NestLaws

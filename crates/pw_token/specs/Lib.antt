@@ -1,0 +1,10 @@
+pub mod Bytes
+pub mod Features
+pub mod Levels
+pub mod Nesting
+pub mod Pieces
+pub mod Roles
+pub mod Scanning
+pub mod Spelling
+pub mod Tokenization
+pub mod Words

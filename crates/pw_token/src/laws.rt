@@ -1,0 +1,16 @@
+//! Laws of tokenization.
+
+ghost use Rattle.std.specs.Prelude.{◌≡◌, ◌≤◌, ◌+◌, ℕ, Bool, true, List, [], All, length};
+ghost use Rattle.pw_token.specs.Tokenization.{Cuts, IsLexed, Piece, StandInOrder};
+ghost use Rattle.pw_token.specs.declared.token.Token.{Token};
+
+/// A text has at most one cutting into blanks, comments, line markers and tokens.
+pub fn one_cutting()
+    ensures { (text : List ℕ) (pieces others : List Piece) (end last : Bool) → Cuts true text pieces end [] → Cuts true text others last [] → pieces ≡ others }
+{}
+
+/// The tokens of a text lie in it, have bytes, and rise without overlap.
+pub fn tokens_stand_in_order()
+    ensures order { (text : List ℕ) (tokens : List Token) → IsLexed text tokens → StandInOrder 0 (length text) tokens }
+    ensures within { (text : List ℕ) (tokens : List Token) → IsLexed text tokens → All (λ token. token.at + token.len ≤ length text) tokens }
+{}

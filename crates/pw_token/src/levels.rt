@@ -1,0 +1,205 @@
+//! The open levels of a text in a fixed place, and their nesting.
+
+ghost use Rattle.std.specs.Prelude.{◌≡◌, ◌≤◌, ◌<◌, ◌+◌, ◌∷◌};
+ghost use Rattle.pw_token.specs.Nesting.{is_bracket};
+
+/// What opened a level.
+#[derive(Clone, Copy, Debug, PartialEq, Eq)]
+pub enum Opener {
+    /// The text itself, the outermost level.
+    Text,
+    /// `(`, `[` or `{`.
+    Bracket,
+    Question,
+    Do,
+}
+
+/// An open level: what opened it, and how much nesting its expressions and its control words add.
+#[derive(Clone, Copy, Debug)]
+pub struct Level {
+    pub opener: Opener,
+    pub expressions: usize,
+    pub controls: usize,
+}
+
+/// The most levels that can stand outside the innermost one.
+const ROOM: usize = 255;
+
+/// The open levels and their nesting. The outer ones begin with the text.
+#[derive(Clone, Copy, Debug)]
+pub struct Levels {
+    pub innermost: Level,
+    pub outer: [Level; ROOM],
+    pub depth: usize,
+    pub nest: usize,
+}
+
+const TEXT: Level = Level {
+    opener: Opener::Text,
+    expressions: 0,
+    controls: 0,
+};
+
+fn is_bracket(opener: Opener) -> bool
+    ensures { result ≡ is_bracket opener }
+{
+    matches!(opener, Opener::Bracket)
+}
+
+impl Levels {
+    ghost use Rattle.pw_token.specs.Levels.{IsSound, levels_of, outers};
+    ghost use Rattle.pw_token.specs.Nesting.{opened, with_expression, with_control, without_expressions, ended, outer_of, without_questions, without_bracket, start, innermost_is, is_question, is_do};
+    ghost use Rattle.std.specs.List.{list_any};
+
+    pub fn new() -> Self
+        ensures sound { IsSound result }
+        ensures levels { levels_of result ≡ start.levels }
+    {
+        Levels {
+            innermost: TEXT,
+            outer: [TEXT; ROOM],
+            depth: 0,
+            nest: 0,
+        }
+    }
+
+    pub fn open(&mut self, opener: Opener)
+        requires sound { IsSound self.old }
+        requires room { self.old.nest < 255 }
+        ensures sound { IsSound self.new }
+        ensures levels { levels_of self.new ≡ opened opener (levels_of self.old) }
+        ensures rise { self.new.nest ≡ self.old.nest + 1 }
+    {
+        self.outer[self.depth] = self.innermost;
+        self.depth += 1;
+        self.innermost = Level {
+            opener,
+            expressions: 0,
+            controls: 0,
+        };
+        self.nest += 1;
+    }
+
+    pub fn close(&mut self)
+        requires sound { IsSound self.old }
+        requires inside { 0 < self.old.depth }
+        ensures sound { IsSound self.new }
+        ensures levels { levels_of self.new ≡ outer_of (levels_of self.old) }
+        ensures depth { self.new.depth + 1 ≡ self.old.depth }
+        ensures less { self.new.nest < self.old.nest }
+    {
+        self.nest -= 1 + self.innermost.expressions + self.innermost.controls;
+        self.depth -= 1;
+        self.innermost = self.outer[self.depth];
+    }
+
+    pub fn add_expression(&mut self)
+        requires sound { IsSound self.old }
+        requires room { self.old.nest < 255 }
+        ensures sound { IsSound self.new }
+        ensures levels { levels_of self.new ≡ with_expression (levels_of self.old) }
+        ensures rise { self.new.nest ≡ self.old.nest + 1 }
+    {
+        self.innermost.expressions += 1;
+        self.nest += 1;
+    }
+
+    pub fn add_control(&mut self)
+        requires sound { IsSound self.old }
+        requires room { self.old.nest < 255 }
+        ensures sound { IsSound self.new }
+        ensures levels { levels_of self.new ≡ with_control (levels_of self.old) }
+        ensures rise { self.new.nest ≡ self.old.nest + 1 }
+    {
+        self.innermost.controls += 1;
+        self.nest += 1;
+    }
+
+    pub fn clear_expressions(&mut self)
+        requires sound { IsSound self.old }
+        ensures sound { IsSound self.new }
+        ensures levels { levels_of self.new ≡ without_expressions (levels_of self.old) }
+        ensures less { self.new.nest ≤ self.old.nest }
+    {
+        self.nest -= self.innermost.expressions;
+        self.innermost.expressions = 0;
+    }
+
+    /// What the end of a statement does to the innermost level.
+    pub fn end_statement(&mut self, else_follows: bool)
+        requires sound { IsSound self.old }
+        ensures sound { IsSound self.new }
+        ensures levels { levels_of self.new ≡ ended else_follows (levels_of self.old) }
+        ensures less { self.new.nest ≤ self.old.nest }
+    {
+        self.clear_expressions();
+        if !else_follows {
+            self.nest -= self.innermost.controls;
+            self.innermost.controls = 0;
+        }
+    }
+
+    pub fn is_in_question(&self) -> bool
+        ensures { result ≡ innermost_is is_question (levels_of self.now) }
+    {
+        matches!(self.innermost.opener, Opener::Question)
+    }
+
+    pub fn is_in_do(&self) -> bool
+        ensures { result ≡ innermost_is is_do (levels_of self.now) }
+    {
+        matches!(self.innermost.opener, Opener::Do)
+    }
+
+    fn is_in_bracket(&self) -> bool
+        ensures { result ≡ innermost_is is_bracket (levels_of self.now) }
+    {
+        is_bracket(self.innermost.opener)
+    }
+
+    pub fn close_questions(&mut self)
+        requires { IsSound self.old }
+        ensures sound { IsSound self.new }
+        ensures levels { levels_of self.new ≡ without_questions (levels_of self.old) }
+        ensures less { self.new.nest ≤ self.old.nest }
+    {
+        while self.is_in_question() {
+            self.close();
+        }
+    }
+
+    fn has_outer_bracket(&self) -> bool
+        requires { IsSound self.now }
+        ensures { result ≡ list_any (λ l. is_bracket l.opener) (outers self.now.outer self.now.depth) }
+    {
+        let mut at = self.depth;
+        while 0 < at {
+            at -= 1;
+            if is_bracket(self.outer[at].opener) {
+                return true;
+            }
+        }
+        false
+    }
+
+    fn has_bracket(&self) -> bool
+        requires { IsSound self.now }
+        ensures { result ≡ list_any (λ l. is_bracket l.opener) (levels_of self.now) }
+    {
+        self.is_in_bracket() || self.has_outer_bracket()
+    }
+
+    pub fn close_bracket(&mut self)
+        requires { IsSound self.old }
+        ensures sound { IsSound self.new }
+        ensures levels { levels_of self.new ≡ without_bracket (levels_of self.old) }
+        ensures less { self.new.nest ≤ self.old.nest }
+    {
+        if self.has_bracket() {
+            while !self.is_in_bracket() {
+                self.close();
+            }
+            self.close();
+        }
+    }
+}

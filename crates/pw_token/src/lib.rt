@@ -1,0 +1,25 @@
+//! The lexer: cuts the text of a C module into the tokens of C90 (ISO/IEC 9899:1990, 6.1), and tests
+//! the tokens for features that are left out and for their nesting.
+#![tactic(auto)]
+
+mod bytes;
+mod constants;
+mod features;
+mod laws;
+mod levels;
+mod lexer;
+mod literals;
+mod marks;
+mod nesting;
+mod piece;
+mod roles;
+mod token;
+
+pub use features::unsupported;
+pub use laws::{one_cutting, tokens_stand_in_order};
+pub use lexer::{MAX_TEXT, MAX_TOKENS, lex};
+pub use nesting::{MAX_NEST, nest_fault};
+pub use token::{Feature, LexFault, Token, TokenKind};
+
+#[cfg(test)]
+mod tests;

@@ -1,0 +1,115 @@
+//! The piece at the front of a text: a blank, a comment, a line marker or a token.
+
+ghost use Rattle.std.specs.Prelude.{◌≡◌, ◌<◌, ◌≤◌, IfSome, length};
+ghost use Rattle.pw_token.specs.Pieces as spec;
+
+use crate::bytes::{Class, byte_at, is_in, run_of, text_from};
+use crate::constants::{floating_len, integer_len, word_len};
+use crate::literals::{comment_len, is_splice, literal_len, wide_len};
+use crate::marks::{is_keyword, mark_len};
+use crate::token::TokenKind;
+
+/// What a text is cut into.
+#[derive(Clone, Copy, Debug, PartialEq, Eq)]
+pub enum PieceKind {
+    /// A space, tab, newline, carriage return, form feed or vertical tab, or a backslash before a newline.
+    Blank,
+    /// A comment (C90 6.1.9).
+    Comment,
+    /// A line that begins with `#` and a digit, with blanks before each, up to its newline.
+    LineMarker,
+    /// A token.
+    Token(TokenKind),
+}
+
+type Found = (TokenKind, usize);
+
+fn longer(first: Found, second: Found) -> Found
+    ensures { result ≡ spec.longer first second }
+{
+    if first.1 < second.1 { second } else { first }
+}
+
+fn word_at(text: &[u8]) -> Found
+    ensures value { result ≡ spec.word_at text.now }
+    ensures within { result.1 ≤ length text.now }
+{
+    let len = word_len(text);
+    let kind = if is_keyword(&text[..len]) {
+        TokenKind::Keyword
+    } else {
+        TokenKind::Identifier
+    };
+    (kind, len)
+}
+
+#[tactic(auto, unfolding(crate::specs::Pieces::longest_at))]
+fn longest_at(text: &[u8]) -> Found
+    ensures value { result ≡ spec.longest_at text.now }
+    ensures within { result.1 ≤ length text.now }
+{
+    let word = longer(word_at(text), (TokenKind::Number, integer_len(text)));
+    let floating = (TokenKind::Floating, floating_len(text));
+    let constant = longer(floating, (TokenKind::Character, literal_len(b'\'', text)));
+    let literal = longer(
+        (TokenKind::Text, literal_len(b'"', text)),
+        (TokenKind::Wide, wide_len(text)),
+    );
+    longer(
+        longer(word, constant),
+        longer(literal, (TokenKind::Mark, mark_len(text))),
+    )
+}
+
+fn found_piece(kind: PieceKind, len: usize) -> Option<(PieceKind, usize)>
+    ensures { result ≡ spec.found_piece kind len }
+{
+    if len == 0 { None } else { Some((kind, len)) }
+}
+
+#[tactic(auto, unfolding(crate::specs::Pieces::token_at))]
+fn token_at(text: &[u8]) -> Option<(PieceKind, usize)>
+    ensures { result ≡ spec.token_at text.now }
+{
+    let (kind, len) = longest_at(text);
+    found_piece(PieceKind::Token(kind), len)
+}
+
+fn line_at(text: &[u8]) -> Option<(PieceKind, usize)>
+    ensures { result ≡ spec.line_at text.now }
+{
+    let gap = run_of(Class::Gap, text_from(text, 1));
+    let kind = if is_in(Class::Digit, byte_at(text, 1 + gap)) {
+        PieceKind::LineMarker
+    } else {
+        PieceKind::Token(TokenKind::Directive)
+    };
+    Some((kind, run_of(Class::InLine, text)))
+}
+
+#[tactic(auto, unfolding(crate::specs::Pieces::piece_at))]
+fn find_piece(line_start: bool, text: &[u8]) -> Option<(PieceKind, usize)>
+    ensures { result ≡ spec.piece_at line_start text.now }
+{
+    let (first, second) = (byte_at(text, 0), byte_at(text, 1));
+    if is_in(Class::Gap, first) || first == b'\n' {
+        Some((PieceKind::Blank, 1))
+    } else if is_splice(text) {
+        Some((PieceKind::Blank, 2))
+    } else if first == b'/' && second == b'*' {
+        found_piece(PieceKind::Comment, comment_len(text))
+    } else if line_start && first == b'#' {
+        line_at(text)
+    } else {
+        token_at(text)
+    }
+}
+
+/// The piece at the front of a text and its length. `line_start` says that only blanks stand before it in its line.
+pub fn piece_at(line_start: bool, text: &[u8]) -> Option<(PieceKind, usize)>
+    requires { 0 < length text.now }
+    ensures value { result ≡ spec.piece_at line_start text.now }
+    ensures within { IfSome result (λ found. (0 < found.1) × (found.1 ≤ length text.now)) }
+{
+    find_piece(line_start, text)
+}
