@@ -1,0 +1,4 @@
+pub mod Order
+pub mod Solution
+pub mod Spread
+pub mod Waiting
