@@ -4,7 +4,7 @@ use Rattle.std.specs.Prelude.{slice_get}
 use Rattle.std.proofs.lemmas.Option.{slice_get_within}
 use Rattle.pw_fix.proofs.Places.{at_index}
 use Rattle.pw_fix.specs.Order.{IsPreorder, IsLeast, IsJoin}
-use Rattle.pw_fix.specs.Solution.{HasEdge, IsAbovePredecessors, IsStep, IsSolution, Place, into, value_of, Derivable, least, flows, steps, joins}
+use Rattle.pw_fix.specs.Solution.{IsInflow, HasEdge, IsAbovePredecessors, IsStep, IsSolution, Place, into, value_of, Derivable, least, flows, steps, joins}
 
 -- steps that rise with their inflow
 abbrev pub IsMonotone : {E : Type 0} → (E → Type 0) → (E → E → Type 0) → (ℕ → E → E → Type 0) → ℕ → Type 0
@@ -56,3 +56,23 @@ module _ {E : Type 0} (is_own : E → Type 0) (is_below : E → E → Type 0) (g
   derivable_bounded (flows m n x e d) = flows_bounded m n x e (derivable_own is_own is_below gives edges d) (derivable_bounded d)
   derivable_bounded (steps n y z d o g) = steps_bounded n y z (derivable_own is_own is_below gives edges d) o g (derivable_bounded d)
   derivable_bounded (joins p x y z d e j) = joins_bounded p x y z j (derivable_bounded d) (derivable_bounded e)
+
+  -- what is derived as a node's value is at or below the step of its inflow
+  abbrev AtMostStep : Place → E → Type 0
+  AtMostStep (into n) x = Unit {0}
+  AtMostStep (value_of n) x = (y z : E) → n < nodes → IsInflow is_own is_below edges others n y → is_own z → gives n y z → is_below x z
+
+  least_at_most : (p : Place) (x : E) → IsLeast is_own is_below x → AtMostStep p x
+  least_at_most (into n) x l = tt
+  least_at_most (value_of n) x l = λ y z h inflow o g. l.least z o
+
+  joins_at_most : (p : Place) (x y z : E) → IsJoin is_own is_below x y z → AtMostStep p x → AtMostStep p y → AtMostStep p z
+  joins_at_most (into n) x y z j bx by = tt
+  joins_at_most (value_of n) x y z j bx by = λ u v h inflow o g. j.least v o (bx u v h inflow o g) (by u v h inflow o g)
+
+  pub derivable_at_most : {p : Place} {x : E} → Derivable is_own is_below gives edges p x → AtMostStep p x
+  derivable_at_most (least p x l) = least_at_most p x l
+  derivable_at_most (flows m n x e d) = tt
+  derivable_at_most (steps n y z d o g) = λ u v h inflow ov gv.
+      monotone n y u z v h (derivable_own is_own is_below gives edges d) inflow.own o ov (derivable_bounded d u inflow.own inflow.above) g gv
+  derivable_at_most (joins p x y z d e j) = joins_at_most p x y z j (derivable_at_most d) (derivable_at_most e)

@@ -1,5 +1,9 @@
+pub mod Bits
+pub mod Choices
 pub mod Derivations
+pub mod Held
 pub mod Places
 pub mod Progress
-pub mod Rows
+pub mod Adjacency
 pub mod Spreading
+pub mod Tables

@@ -5,10 +5,10 @@ use Rattle.std.proofs.lemmas.Bool.{cases_eq}
 use Rattle.std.proofs.lemmas.Option.{slice_get_within, same_Some}
 use Rattle.std.proofs.Math.ListN.{length-set}
 use Rattle.pw_fix.specs.Order.{IsPreorder, IsLeast, IsJoin}
-use Rattle.pw_fix.specs.Solution.{HasEdge, IsAbovePredecessors, IsSolution, IsLeastSolution, into, value_of, Derivable, least, flows, steps, joins}
+use Rattle.pw_fix.specs.Solution.{IsStep, HasEdge, IsAbovePredecessors, IsSolution, IsLeastSolution, into, value_of, Derivable, least, flows, steps, joins}
 use Rattle.pw_fix.specs.Spread.{IsSpread}
 use Rattle.pw_fix.proofs.Places.{at_index, set_cases}
-use Rattle.pw_fix.proofs.Derivations.{IsMonotone, derivable_own, derivable_bounded}
+use Rattle.pw_fix.proofs.Derivations.{IsMonotone, derivable_own, derivable_bounded, derivable_at_most}
 
 module _ {E : Type 0} (is_own : E → Type 0) (is_below : E → E → Type 0) (gives : ℕ → E → E → Type 0) (edges : List (ℕ × ℕ)) (nodes : ℕ) where
   -- x is at least the step of something that is as high as y
@@ -237,4 +237,9 @@ module _ {E : Type 0} (is_own : E → Type 0) (is_below : E → E → Type 0) (g
       record {
         solution = solves;
         least = λ others solution n x y ex ey. derivable_bounded is_own is_below gives edges nodes order monotone within others solution (p.value_derivable n x ex) y ey;
+        at_most_step = λ n x e.
+            let s : (z : E) × IsStep is_own is_below gives edges values n z × is_below z x = solves.at_least_step n x e in
+            let made : IsStep is_own is_below gives edges values n s.0 = s.1 in
+            let here : n < nodes = let h : n < length values = slice_get_within values n x e in rw p.each_value at h in
+            (s.0, made, derivable_at_most is_own is_below gives edges nodes order monotone within values solves (p.value_derivable n x e) made.inflow s.0 here made.joined made.own made.given);
       }

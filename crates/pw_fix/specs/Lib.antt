@@ -1,4 +1,9 @@
+pub mod Iteration
 pub mod Order
+pub mod Row
+pub mod RowLaws
 pub mod Solution
 pub mod Spread
+pub mod Table
 pub mod Waiting
+pub mod Words

@@ -33,10 +33,11 @@ pub record IsSolution {E : Type 0} (is_own : E → Type 0) (is_below : E → E �
   pub own : (n : ℕ) (x : E) → slice_get values n ≡ Some x → is_own x
   pub at_least_step : (n : ℕ) (x : E) → slice_get values n ≡ Some x → (z : E) × IsStep is_own is_below gives edges values n z × is_below z x
 
--- a solution that is at or below every solution, node by node
+-- the solution that is at or below every solution, node by node. Its values are no more than the steps either
 pub record IsLeastSolution {E : Type 0} (is_own : E → Type 0) (is_below : E → E → Type 0) (gives : ℕ → E → E → Type 0) (nodes : ℕ) (edges : List (ℕ × ℕ)) (values : List E) : Type 0 where
   pub solution : IsSolution is_own is_below gives nodes edges values
   pub least : (others : List E) → IsSolution is_own is_below gives nodes edges others → (n : ℕ) (x y : E) → slice_get values n ≡ Some x → slice_get others n ≡ Some y → is_below x y
+  pub at_most_step : (n : ℕ) (x : E) → slice_get values n ≡ Some x → (z : E) × IsStep is_own is_below gives edges values n z × is_below x z
 
 -- where elements are derived: into a node, and as its value
 pub data Place : Type 0 where
@@ -50,3 +51,8 @@ pub data Derivable {E : Type 0} (is_own : E → Type 0) (is_below : E → E → 
   flows : (m n : ℕ) (x : E) → HasEdge edges m n → Derivable is_own is_below gives edges (value_of m) x → Derivable is_own is_below gives edges (into n) x
   steps : (n : ℕ) (y z : E) → Derivable is_own is_below gives edges (into n) y → is_own z → gives n y z → Derivable is_own is_below gives edges (value_of n) z
   joins : (p : Place) (x y z : E) → Derivable is_own is_below gives edges p x → Derivable is_own is_below gives edges p y → IsJoin is_own is_below x y z → Derivable is_own is_below gives edges p z
+
+-- each node's value is derived
+abbrev pub AreDerived : {E : Type 0} → (E → Type 0) → (E → E → Type 0) → (ℕ → E → E → Type 0) → List (ℕ × ℕ) → List E → Type 0
+AreDerived {E} is_own is_below gives edges values =
+    (n : ℕ) (x : E) → slice_get values n ≡ Some x → Derivable is_own is_below gives edges (value_of n) x

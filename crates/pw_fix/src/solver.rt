@@ -2,7 +2,7 @@
 
 ghost use Rattle.std.specs.Prelude.{◌≡◌, ℕ, ◌+◌, ◌<◌, ◌≤◌, length, IfOk, OnOk, All, Contains, Some, slice_get, vec_len};
 ghost use Rattle.pw_fix.specs.Order.{IsLeast};
-ghost use Rattle.pw_fix.specs.Solution.{IsLeastSolution};
+ghost use Rattle.pw_fix.specs.Solution.{AreDerived, IsLeastSolution};
 ghost use Rattle.pw_fix.specs.Spread.{IsSpread, room};
 ghost use Rattle.pw_fix.specs.Waiting.{IsWaiting, node_count, waiting_count};
 
@@ -52,14 +52,25 @@ fn spread<L: Lattice>(
     Ok(())
 }
 
-/// The least solution of a problem over a graph.
+/// The least solution of a problem over a graph: of each node the value, in the order of the
+/// nodes. Each value is at least what the node's step makes of the join of its predecessors'
+/// values, and no assignment of which that holds has a lower value at any node.
+///
+/// The steps that are taken are at most as many as the nodes times one more than the height, and
+/// the joins at most as many as the nodes and the edges together times the height.
 pub fn solve<P: Problem>(
     alloc: Global,
     graph: &Graph,
     problem: &P,
 ) -> Result<Vec<<P::L as Lattice>::Elem>, NoMemory>
     requires { P.node_count problem.now ≡ graph.now.nodes }
-    ensures least { IfOk result (λ v. IsLeastSolution (P.L.is_own (P.lattice_of problem.now)) (P.L.is_below (P.lattice_of problem.now)) (P.gives problem.now) graph.now.nodes graph.now.edges.items v.items) }
+    ensures least { let lattice = P.lattice_of problem.now in
+        IfOk result (λ values. IsLeastSolution (P.L.is_own lattice) (P.L.is_below lattice)
+        (P.gives problem.now) graph.now.nodes graph.now.edges.items values.items) }
+    // Nothing is in a value but what finitely many steps put there.
+    ensures derived { let lattice = P.lattice_of problem.now in
+        IfOk result (λ values. AreDerived (P.L.is_own lattice) (P.L.is_below lattice)
+        (P.gives problem.now) graph.now.edges.items values.items) }
 {
     let lattice = problem.lattice();
     let successors = graph.successors(alloc)?;

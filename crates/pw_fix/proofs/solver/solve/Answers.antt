@@ -180,4 +180,5 @@ returns g c =
           (λ n x y a b h. g.met.P.Problem.monotone problem n x y a b (rw c.requires h))
           (λ s t h. (All-contains (λ (e : ℕ × ℕ). (e.0 < graph.nodes) × (e.1 < graph.nodes)) graph.edges.items (s, t) graph.within h).0)
           c.loop-node.values.items c.loop-node.inflows.items (IsWaiting c.loop-node.waiting) progress c.in_default.ensures.none;
+      derived = progress.value_derivable;
     }

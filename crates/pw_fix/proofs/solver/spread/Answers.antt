@@ -7,7 +7,7 @@ use Rattle.pw_fix.specs.Spread.{IsSpread}
 use Rattle.pw_fix.specs.Waiting.{IsWaiting, node_count, waiting_count}
 use Rattle.pw_fix.proofs.Spreading.{spread_here, spread_elsewhere, room_shrinks, room_stays}
 use Rattle.pw_fix.proofs.Places.{set_cases, All-at}
-use Rattle.pw_fix.proofs.Rows.{front_cases, front_kept, front_last}
+use Rattle.pw_fix.proofs.Adjacency.{front_cases, front_kept, front_last}
 use Rattle.pw_fix.proofs.solver.spread.Goals as goal
 use Rattle.pw_fix.proofs.solver.spread.Goals.{then-join+in_ok-push, else-join}
 

@@ -2,7 +2,7 @@ use Rattle.std.proofs.Common.{◌↔◌, ◌≡◌, ℕ, ◌+◌, ◌<◌, All, 
 use Rattle.std.proofs.lemmas.List.{take_all}
 use Rattle.std.proofs.lemmas.Option.{slice_get_read}
 use Rattle.pw_fix.specs.Solution.{HasEdge}
-use Rattle.pw_fix.proofs.Rows.{rows_more, AreRows}
+use Rattle.pw_fix.proofs.Adjacency.{rows_more, AreRows}
 use Rattle.pw_fix.proofs.graph.Graph.successors.Goals as goal
 
 pub loop-from-preserved : goal.loop-from-preserved
