@@ -64,16 +64,6 @@ length_held_lt xs ys n (suc k) i sub from to new old = elim (cases_eq n i) [
       ]
 ]
 
--- at most k of k numbers are held
-pub length_held : (ws : List ℕ) (n k : ℕ) → length (held ws n k) ≤ k
-length_held ws n zero = omega arith
-length_held ws n (suc k) =
-    let rest : length (held ws (suc n) k) ≤ k = length_held ws (suc n) k in
-    elim (held_cases ws n) [
-      | inl on ↦ rw (held_on ws n k on) (omega arith)
-      | inr off ↦ rw (held_off ws n k off) (omega arith)
-    ]
-
 -- the list from a place on, up to a length
 pub held_next : (ws : List ℕ) (len at i : ℕ) → at ≤ i → i < len → HasBit ws i → ((j : ℕ) → at ≤ j → j < i → HasBit ws j → ⊥) → held ws at (len - at) ≡ i ∷ held ws (i + 1) (len - (i + 1))
 held_next ws len at i from below on least = rw add-one (held_some ws at (len - at) i (len - suc i) from (omega arith) on least)

@@ -22,3 +22,6 @@ pub use problem::Problem;
 pub use rows::Rows;
 pub use solver::solve;
 pub use std::alloc::AllocError as NoMemory;
+
+#[cfg(test)]
+mod tests;
