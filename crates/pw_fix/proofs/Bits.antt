@@ -1,12 +1,13 @@
 -- The numbers that words hold after a change of their bits.
-use Rattle.std.proofs.Common.{◌≡◌, ◌≢◌, ℕ, zero, suc, ◌+◌, ◌-◌, ◌*◌, ◌/◌, ◌%◌, ◌^◌, ◌<◌, ◌≤◌, List, length, sym, subst, arith, ap, inl, inr, ◌⊎◌, ◌↔◌, get_or, set, ◌∙◌, refl, get_or-set_same, get_or-set_other, min, max}
+use Rattle.std.proofs.Math.ListN.{length-replicate, get_or-replicate}
+use Rattle.std.proofs.Common.{replicate, ◌≡◌, ◌≢◌, ℕ, zero, suc, ◌+◌, ◌-◌, ◌*◌, ◌/◌, ◌%◌, ◌^◌, ◌<◌, ◌≤◌, List, length, sym, subst, arith, ap, inl, inr, ◌⊎◌, ◌↔◌, get_or, set, ◌∙◌, refl, get_or-set_same, get_or-set_other, min, max}
 use Rattle.std.specs.Prelude.{bit_and, bit_or}
 use Rattle.std.specs.Int.{bit_at, bit_not, w64, trailing_zeros, div_ceil}
 use Rattle.std.proofs.lemmas.Bool.{cases_eq, cases_lt}
 use Rattle.std.proofs.lemmas.List.{get_or_past, get_or_default}
 use Rattle.std.proofs.Math.Pow.{pow_pos}
 use Rattle.std.proofs.lemmas.Nat.{or_lt, and_le_l, pow_below}
-use Rattle.std.proofs.lemmas.Nat.Bits.{bit_at_or, bit_at_and, bit_at_not, bit_at-lt, bit_at_set_same, bit_at_set_other, bit_at-trailing_zeros, same_from_bits_below, bit_at-zero, and_pow, ones_shl, bit_at_mask_inside, bit_at_mask_below}
+use Rattle.std.proofs.lemmas.Nat.Bits.{bit_at_or, bit_at_and, bit_at_not, bit_at-lt, bit_at_set_same, bit_at_set_other, bit_at-trailing_zeros, same_from_bits_below, bit_at-zero, and_pow, ones_shl, bit_at_mask_inside, bit_at_mask_below, bit_at_ones, bit_at_ones_above, ones_shr}
 use Rattle.pw_fix.specs.Words.{HasBit}
 
 -- a bit is 1 or 0
@@ -240,3 +241,45 @@ none_from ws from w e z i start to =
     let place : i / 64 ≡ from / 64 = omega arith in
     let past : from % 64 ≤ i % 64 = omega arith in
     rw (place, e) (off_bit w (i % 64) (sym (masked_on w (from % 64) (i % 64) past (omega arith)) ∙ rw z (bit_at-zero (i % 64))))
+
+-- a word with all of its bits
+all_on : (n i : ℕ) → i / 64 < n → HasBit (replicate n (2 ^ 64 - 1)) i
+all_on n i h = rw (get_or-replicate n (i / 64) (2 ^ 64 - 1) 0 h) (bit_at_ones 64 (i % 64) (omega arith))
+
+-- no bit past the words
+none_past : (ws : List ℕ) (i : ℕ) → length ws ≤ i / 64 → HasBit ws i → ⊥
+none_past ws i h = rw (get_or_past ws (i / 64) 0 h) (off_bit 0 (i % 64) (bit_at-zero (i % 64)))
+
+-- the numbers below a length that fills its words
+pub full_even : (len i : ℕ) → len % 64 ≡ 0 → HasBit (replicate (div_ceil len 64) (2 ^ 64 - 1)) i ↔ (i < len)
+full_even len i e = elim (cases_lt (i / 64) (div_ceil len 64)) [
+  | inl here ↦ ((λ _. omega arith), (λ _. all_on (div_ceil len 64) i here))
+  | inr past ↦ ((λ h. absurd (none_past (replicate (div_ceil len 64) (2 ^ 64 - 1)) i (rw (length-replicate (div_ceil len 64) (2 ^ 64 - 1)) past) h)), (λ below. absurd (omega arith)))
+]
+
+-- the numbers below a length that leaves bits of its last word
+pub full_odd : (len i : ℕ) → len % 64 ≢ 0 → HasBit (set (replicate (div_ceil len 64) (2 ^ 64 - 1)) (len / 64) ((2 ^ 64 - 1) / 2 ^ (64 - len % 64))) i ↔ (i < len)
+full_odd len i odd =
+    let n = div_ceil len 64 in
+    let r = len % 64 in
+    let ws = replicate n (2 ^ 64 - 1) in
+    let v = (2 ^ 64 - 1) / 2 ^ (64 - r) in
+    let long : length ws ≡ n = length-replicate n (2 ^ 64 - 1) in
+    let last : len / 64 < n = omega arith in
+    let there : len / 64 < length ws = rw long last in
+    let left : 64 - (64 - r) ≡ r = omega arith in
+    let mask : v ≡ 2 ^ r - 1 = ones_shr 64 (64 - r) (omega arith) ∙ ap (λ k. 2 ^ k - 1) left in
+    elim (cases_eq (i / 64) (len / 64)) [
+      | inl same ↦
+          let read : get_or (set ws (len / 64) v) (i / 64) 0 ≡ 2 ^ r - 1 = rw same (get_or-set_same ws (len / 64) v 0 there ∙ mask) in
+          elim (cases_lt (i % 64) r) [
+            | inl below ↦ ((λ _. omega arith), (λ _. rw read (bit_at_ones r (i % 64) below)))
+            | inr above ↦ ((λ h. absurd (off_bit (2 ^ r - 1) (i % 64) (bit_at_ones_above r (i % 64) above) (rw read at h))), (λ below. absurd (omega arith)))
+          ]
+      | inr other ↦
+          let read : get_or (set ws (len / 64) v) (i / 64) 0 ≡ get_or ws (i / 64) 0 = get_or-set_other ws (len / 64) (i / 64) v 0 other in
+          elim (cases_lt (i / 64) n) [
+            | inl here ↦ ((λ _. omega arith), (λ _. rw read (all_on n i here)))
+            | inr past ↦ ((λ h. absurd (none_past ws i (rw long past) (rw read at h))), (λ below. absurd (omega arith)))
+          ]
+    ]

@@ -7,3 +7,4 @@ pub mod Progress
 pub mod Adjacency
 pub mod Spreading
 pub mod Tables
+pub mod Unions

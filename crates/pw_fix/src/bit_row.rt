@@ -5,7 +5,7 @@ ghost use Rattle.std.specs.Bool.{OnTrue, OnFalse};
 ghost use Rattle.std.specs.Int.{div_ceil};
 ghost use Rattle.pw_fix.specs.Words.{HasBit};
 
-use crate::words::{covers_words, meet_words, subtract_words, union_words};
+use crate::words::{covers_words, full_words, meet_words, subtract_words, union_words};
 use std::alloc::{AllocError as NoMemory, Global};
 
 /// A set of numbers below `len`: it holds i where bit i mod 64 of word i / 64 is 1.
@@ -27,6 +27,15 @@ impl BitRow {
         ensures empty { IfOk result (λ row. (i : ℕ) → ¬ (Holds row i)) }
     {
         let words = vec![in alloc; 0u64; len.div_ceil(64)]?;
+        Ok(BitRow { len, words })
+    }
+
+    /// The set of all numbers below `len`.
+    pub fn full(alloc: Global, len: usize) -> Result<BitRow, NoMemory>
+        ensures length { IfOk result (λ row. row.len ≡ len) }
+        ensures all { IfOk result (λ row. (i : ℕ) → i < len → Holds row i) }
+    {
+        let words = full_words(alloc, len)?;
         Ok(BitRow { len, words })
     }
 

@@ -19,7 +19,7 @@ pub use graph::Graph;
 pub use lattice::Lattice;
 pub use members::Members;
 pub use problem::Problem;
-pub use rows::Rows;
+pub use rows::{Rows, joins_are_unions};
 pub use solver::solve;
 pub use std::alloc::AllocError as NoMemory;
 

@@ -1,6 +1,9 @@
 //! The lattice of the sets of numbers below a bound, ordered by inclusion.
 
-ghost use Rattle.std.specs.Prelude.{◌≡◌};
+ghost use Rattle.std.specs.Prelude.{◌≡◌, ℕ, ◌⊎◌, ◌↔◌};
+ghost use Rattle.pw_fix.specs.Order.{IsJoin};
+ghost use Rattle.pw_fix.specs.Row.{Holds, IsSubset};
+ghost use Rattle.pw_fix.specs.declared.bit_row.BitRow.{BitRow};
 
 use crate::bit_row::BitRow;
 use crate::lattice::Lattice;
@@ -38,3 +41,10 @@ impl Lattice for Rows {
 
     ghost order = { λ rows. subsets_order rows.len };
 }
+
+/// A law: a least upper bound of two sets is their union.
+pub fn joins_are_unions()
+    ensures { (len : ℕ) (x y z : BitRow) → x.len ≡ len → y.len ≡ len
+        → IsJoin (λ (row : BitRow). row.len ≡ len) IsSubset x y z
+        → (i : ℕ) → Holds z i ↔ (Holds x i ⊎ Holds y i) }
+{}

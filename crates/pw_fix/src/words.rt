@@ -1,8 +1,11 @@
 //! Sets of numbers as bits of words, a word at a time.
 
-ghost use Rattle.std.specs.Prelude.{◌≡◌, ℕ, ◌⊎◌, ◌↔◌, length};
+ghost use Rattle.std.specs.Prelude.{◌≡◌, ℕ, ◌<◌, ◌⊎◌, ◌↔◌, length, IfOk};
+ghost use Rattle.std.specs.Int.{div_ceil};
 ghost use Rattle.std.specs.Bool.{OnTrue, OnFalse};
 ghost use Rattle.pw_fix.specs.Words.{HasBit};
+
+use std::alloc::{AllocError as NoMemory, Global};
 
 /// Sets in `into` each bit that `from` has, and answers whether that changed a word.
 pub(crate) fn union_words(into: &mut [u64], from: &[u64]) -> bool
@@ -59,4 +62,18 @@ pub(crate) fn covers_words(a: &[u64], b: &[u64]) -> bool
         }
     }
     true
+}
+
+/// The words that hold the numbers below `len`, and no other.
+pub(crate) fn full_words(alloc: Global, len: usize) -> Result<Vec<u64>, NoMemory>
+    ensures enough { IfOk result (λ words. length words.items ≡ div_ceil len 64) }
+    ensures holds { IfOk result (λ words. (i : ℕ) → HasBit words.items i ↔ (i < len)) }
+{
+    let mut words = vec![in alloc; u64::MAX; len.div_ceil(64)]?;
+    let rest = len % 64;
+    if rest == 0 {
+        return Ok(words);
+    }
+    words[len / 64] = u64::MAX >> (64 - rest);
+    Ok(words)
 }
