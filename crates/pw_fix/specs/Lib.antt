@@ -1,3 +1,4 @@
+pub mod Flat
 pub mod Iteration
 pub mod Order
 pub mod Row
@@ -6,4 +7,5 @@ pub mod Solution
 pub mod Spread
 pub mod Table
 pub mod Waiting
+pub mod Walks
 pub mod Words

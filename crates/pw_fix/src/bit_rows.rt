@@ -16,6 +16,7 @@ pub struct BitRows {
 }
 
 impl BitRows {
+    ghost use Rattle.pw_fix.specs.Row.{Holds};
     ghost use Rattle.pw_fix.specs.Table.{HoldsAt};
 
     /// `count` empty sets.
@@ -29,6 +30,15 @@ impl BitRows {
             rows.push(BitRow::new(alloc, len)?)?;
         }
         Ok(BitRows { len, rows })
+    }
+
+    /// Row `n`.
+    pub fn row(&self, n: usize) -> &BitRow
+        requires { n < vec_len self.now.rows }
+        ensures length { result.now.len ≡ self.now.len }
+        ensures holds { (i : ℕ) → Holds result.now i ↔ HoldsAt self.now n i }
+    {
+        &self.rows[n]
     }
 
     /// Whether row `n` holds `i`.
