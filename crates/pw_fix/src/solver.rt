@@ -1,4 +1,4 @@
-//! The solver.
+//! The solver: a list of the nodes whose inflow has risen since their step was taken.
 
 ghost use Rattle.std.specs.Prelude.{◌≡◌, ℕ, ◌+◌, ◌<◌, ◌≤◌, length, IfOk, OnOk, All, Contains, Some, slice_get, vec_len};
 ghost use Rattle.pw_fix.specs.Order.{IsLeast};
@@ -56,8 +56,8 @@ fn spread<L: Lattice>(
 /// nodes. Each value is at least what the node's step makes of the join of its predecessors'
 /// values, and no assignment of which that holds has a lower value at any node.
 ///
-/// The steps that are taken are at most as many as the nodes times one more than the height, and
-/// the joins at most as many as the nodes and the edges together times the height.
+/// A node's step is taken at most once more often than the height, and an edge is followed at most
+/// as often as the height (the proof says that the solver ends, and not this count).
 pub fn solve<P: Problem>(
     alloc: Global,
     graph: &Graph,

@@ -1,4 +1,4 @@
-use Rattle.std.proofs.Common.{rules, ◌≡◌, ℕ, ◌-◌, ◌^◌, ◌<◌, ◌/◌, ◌%◌, ◌↔◌, List, replicate, subst, sym, set}
+use Rattle.std.proofs.Common.{rules, ◌≡◌, ◌-◌, ◌^◌, ◌<◌, ◌/◌, ◌%◌, ◌↔◌, replicate, subst, sym, set}
 use Rattle.std.specs.Int.{div_ceil}
 use Rattle.pw_fix.specs.Words.{HasBit}
 use Rattle.pw_fix.proofs.Bits.{full_even, full_odd}

@@ -1,4 +1,4 @@
-use Rattle.std.proofs.Common.{◌≡◌, ℕ, ◌<◌, length, vec_len}
+use Rattle.std.proofs.Common.{◌≡◌, vec_len}
 use Rattle.std.proofs.lemmas.Option.{slice_get_read}
 use Rattle.pw_fix.specs.declared.bit_row.BitRow.{BitRow}
 use Rattle.pw_fix.proofs.Places.{All-at}
