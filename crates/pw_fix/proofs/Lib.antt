@@ -1,0 +1,10 @@
+pub mod Bits
+pub mod Choices
+pub mod Derivations
+pub mod Held
+pub mod Places
+pub mod Progress
+pub mod Adjacency
+pub mod Spreading
+pub mod Tables
+pub mod Unions

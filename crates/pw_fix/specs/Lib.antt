@@ -1,0 +1,11 @@
+pub mod Flat
+pub mod Iteration
+pub mod Order
+pub mod Row
+pub mod RowLaws
+pub mod Solution
+pub mod Spread
+pub mod Table
+pub mod Waiting
+pub mod Walks
+pub mod Words

@@ -1,0 +1,79 @@
+//! Sets of numbers as bits of words, a word at a time.
+
+ghost use Rattle.std.specs.Prelude.{◌≡◌, ℕ, ◌<◌, ◌⊎◌, ◌↔◌, length, IfOk};
+ghost use Rattle.std.specs.Int.{div_ceil};
+ghost use Rattle.std.specs.Bool.{OnTrue, OnFalse};
+ghost use Rattle.pw_fix.specs.Words.{HasBit};
+
+use std::alloc::{AllocError as NoMemory, Global};
+
+/// Sets in `into` each bit that `from` has, and answers whether that changed a word.
+pub(crate) fn union_words(into: &mut [u64], from: &[u64]) -> bool
+    requires { length into.old ≡ length from.now }
+    ensures holds { (i : ℕ) → HasBit into.new i ↔ (HasBit into.old i ⊎ HasBit from.now i) }
+    ensures changed { OnTrue result ((i : ℕ) × HasBit from.now i × ¬ (HasBit into.old i)) }
+    ensures unchanged { OnFalse result (into.new ≡ into.old) }
+{
+    let mut changed = false;
+    for k in 0..into.len() {
+        let word = into[k];
+        let joined = word | from[k];
+        if joined != word {
+            into[k] = joined;
+            changed = true;
+        }
+    }
+    changed
+}
+
+/// Clears in `into` each bit that `from` has.
+pub(crate) fn subtract_words(into: &mut [u64], from: &[u64])
+    requires { length into.old ≡ length from.now }
+    ensures { (i : ℕ) → HasBit into.new i ↔ (HasBit into.old i × ¬ (HasBit from.now i)) }
+{
+    for k in 0..into.len() {
+        into[k] &= !from[k];
+    }
+}
+
+/// Whether some bit is set in both.
+pub(crate) fn meet_words(a: &[u64], b: &[u64]) -> bool
+    requires { length a.now ≡ length b.now }
+    ensures some { OnTrue result ((i : ℕ) × HasBit a.now i × HasBit b.now i) }
+    ensures none { OnFalse result ((i : ℕ) → HasBit a.now i → ¬ (HasBit b.now i)) }
+{
+    for k in 0..a.len() {
+        if a[k] & b[k] != 0 {
+            return true;
+        }
+    }
+    false
+}
+
+/// Whether `b` has each bit of `a`.
+pub(crate) fn covers_words(a: &[u64], b: &[u64]) -> bool
+    requires { length a.now ≡ length b.now }
+    ensures all { OnTrue result ((i : ℕ) → HasBit a.now i → HasBit b.now i) }
+    ensures some { OnFalse result ((i : ℕ) × HasBit a.now i × ¬ (HasBit b.now i)) }
+{
+    for k in 0..a.len() {
+        if b[k] | a[k] != b[k] {
+            return false;
+        }
+    }
+    true
+}
+
+/// The words that hold the numbers below `len`, and no other.
+pub(crate) fn full_words(alloc: Global, len: usize) -> Result<Vec<u64>, NoMemory>
+    ensures enough { IfOk result (λ words. length words.items ≡ div_ceil len 64) }
+    ensures holds { IfOk result (λ words. (i : ℕ) → HasBit words.items i ↔ (i < len)) }
+{
+    let mut words = vec![in alloc; u64::MAX; len.div_ceil(64)]?;
+    let rest = len % 64;
+    if rest == 0 {
+        return Ok(words);
+    }
+    words[len / 64] = u64::MAX >> (64 - rest);
+    Ok(words)
+}
