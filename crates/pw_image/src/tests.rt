@@ -70,6 +70,7 @@ fn damaged_images(rt: HostRuntime) -> Result<(), Fail> {
         (112, 0, 76),
     ] {
         let mut damaged = PAYLOAD;
+        assert!(rt; place < 117);
         damaged[place] = value;
         let file = seal(rt.alloc(), KIND, 1, &damaged)?;
         assert_eq!(rt;
