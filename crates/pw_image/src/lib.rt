@@ -4,9 +4,11 @@
 mod image;
 pub mod laws;
 mod reading;
+mod writing;
 
 pub use image::{DataItem, Function, GlobalObject, Image, Memory};
 pub use reading::{KIND, read_image};
+pub use writing::write_image;
 
 #[cfg(test)]
 mod tests;

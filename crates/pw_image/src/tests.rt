@@ -42,6 +42,19 @@ fn an_image(rt: HostRuntime) -> Result<(), Fail> {
 }
 
 #[test]
+fn written_again(rt: HostRuntime) -> Result<(), Fail> {
+    let file = seal(rt.alloc(), KIND, 1, &PAYLOAD)?;
+    match read_image(rt.alloc(), &file) {
+        Ok(image) => {
+            let written = write_image(rt.alloc(), &image)?;
+            assert_eq!(rt; written.as_slice(), file.as_slice());
+        }
+        Err(e) => assert!(rt; false, "{e:?}"),
+    }
+    Ok(())
+}
+
+#[test]
 fn damaged_images(rt: HostRuntime) -> Result<(), Fail> {
     for (place, value, wanted) in [
         (3usize, 1u8, 12usize),
@@ -57,6 +70,7 @@ fn damaged_images(rt: HostRuntime) -> Result<(), Fail> {
         (112, 0, 76),
     ] {
         let mut damaged = PAYLOAD;
+        assert!(rt; place < 117);
         damaged[place] = value;
         let file = seal(rt.alloc(), KIND, 1, &damaged)?;
         assert_eq!(rt;

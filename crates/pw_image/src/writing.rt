@@ -1,0 +1,183 @@
+//! Writing an image file.
+
+ghost use Rattle.std.specs.Prelude.{◌≡◌, [], ◌∷◌, ◌++◌, ◌<◌, ◌^◌, ℕ, List, length, map, OnOk, IfOk, All, Contains};
+ghost use Rattle.std.specs.List.{flat_map};
+ghost use Rattle.pw_value.specs.Fields.{u32, parts, FitsText};
+ghost use Rattle.pw_value.specs.FieldFrame.{FitsFile};
+ghost use Rattle.pw_value.specs.FieldNames.{IsNameTable, IsTableOf};
+ghost use Rattle.pw_image.specs.Image.{Contents, IsMemory, IsImage, IsContents, IsImageFile, item as item_text, memory as memory_text, function as function_text, global as global_text, item_view, memory_view, view, names_of, spelling};
+
+use crate::image::{DataItem, Function, GlobalObject, Image, Memory};
+use crate::reading::{KIND, used_names};
+use pw_value::Name;
+use pw_value::fields::frame::seal;
+use pw_value::fields::names::{push_name, push_names, table_of};
+use pw_value::fields::writing::{push_text, push_u32};
+use std::alloc::{AllocError, Global};
+
+/// The words of the text.
+fn push_words(out: &mut Vec<u8>, words: &[u32]) -> Result<(), AllocError>
+    ensures { OnOk result (out.new.items ≡ out.old.items ++ flat_map u32 words.now) }
+{
+    for word in words {
+        push_u32(out, *word)?;
+    }
+    Ok(())
+}
+
+/// An item of the data.
+fn push_item(out: &mut Vec<u8>, item: &DataItem) -> Result<(), AllocError>
+    requires { FitsText item.now.bytes.items }
+    ensures { OnOk result (out.new.items ≡ out.old.items ++ item_text (item_view item.now)) }
+{
+    push_u32(out, item.offset)?;
+    push_text(out, &item.bytes)?;
+    Ok(())
+}
+
+/// The items of the data.
+fn push_items(out: &mut Vec<u8>, items: &[DataItem]) -> Result<(), AllocError>
+    requires { All (λ i. FitsText i.bytes.items) items.now }
+    ensures { OnOk result (out.new.items ≡ out.old.items ++ flat_map item_text (map item_view items.now)) }
+{
+    for item in items {
+        push_item(out, item)?;
+    }
+    Ok(())
+}
+
+/// A function of the map.
+fn push_function(out: &mut Vec<u8>, names: &[Name], function: &Function) -> Result<(), AllocError>
+    requires table { IsNameTable names.now }
+    requires stands { Contains names.now function.now.name }
+    ensures { OnOk result (out.new.items ≡ out.old.items ++ function_text names.now function.now) }
+{
+    push_name(out, names, &function.name)?;
+    push_u32(out, function.address)?;
+    push_u32(out, function.frame)?;
+    Ok(())
+}
+
+/// The functions of the map.
+fn push_functions(
+    out: &mut Vec<u8>,
+    names: &[Name],
+    functions: &[Function],
+) -> Result<(), AllocError>
+    requires table { IsNameTable names.now }
+    requires stand { All (λ f. Contains names.now f.name) functions.now }
+    ensures { OnOk result (out.new.items ≡ out.old.items ++ flat_map (function_text names.now) functions.now) }
+{
+    for function in functions {
+        push_function(out, names, function)?;
+    }
+    Ok(())
+}
+
+/// A global object of the map.
+fn push_global(out: &mut Vec<u8>, names: &[Name], global: &GlobalObject) -> Result<(), AllocError>
+    requires table { IsNameTable names.now }
+    requires stands { Contains names.now global.now.name }
+    ensures { OnOk result (out.new.items ≡ out.old.items ++ global_text names.now global.now) }
+{
+    push_name(out, names, &global.name)?;
+    push_u32(out, global.address)?;
+    Ok(())
+}
+
+/// The global objects of the map.
+fn push_globals(
+    out: &mut Vec<u8>,
+    names: &[Name],
+    globals: &[GlobalObject],
+) -> Result<(), AllocError>
+    requires table { IsNameTable names.now }
+    requires stand { All (λ g. Contains names.now g.name) globals.now }
+    ensures { OnOk result (out.new.items ≡ out.old.items ++ flat_map (global_text names.now) globals.now) }
+{
+    for global in globals {
+        push_global(out, names, global)?;
+    }
+    Ok(())
+}
+
+/// The entry, the stack and the end of the stack.
+fn push_start(out: &mut Vec<u8>, memory: &Memory) -> Result<(), AllocError>
+    ensures { OnOk result (out.new.items ≡ out.old.items ++ parts (u32 memory.now.entry ∷ u32 memory.now.stack ∷ u32 memory.now.stack_end ∷ [])) }
+{
+    push_u32(out, memory.entry)?;
+    push_u32(out, memory.stack)?;
+    push_u32(out, memory.stack_end)?;
+    Ok(())
+}
+
+/// The text.
+fn push_code(out: &mut Vec<u8>, words: &[u32]) -> Result<(), AllocError>
+    requires { length words.now < 2 ^ 32 }
+    ensures { OnOk result (out.new.items ≡ out.old.items ++ parts (u32 (length words.now) ∷ flat_map u32 words.now ∷ [])) }
+{
+    push_u32(out, words.len() as u32)?;
+    push_words(out, words)?;
+    Ok(())
+}
+
+/// The data.
+fn push_data(out: &mut Vec<u8>, size: u32, items: &[DataItem]) -> Result<(), AllocError>
+    requires count { length items.now < 2 ^ 32 }
+    requires texts { All (λ i. FitsText i.bytes.items) items.now }
+    ensures { OnOk result (out.new.items ≡ out.old.items ++ parts (u32 size ∷ u32 (length items.now) ∷ flat_map item_text (map item_view items.now) ∷ [])) }
+{
+    push_u32(out, size)?;
+    push_u32(out, items.len() as u32)?;
+    push_items(out, items)?;
+    Ok(())
+}
+
+/// What a machine starts with.
+fn push_memory(out: &mut Vec<u8>, memory: &Memory) -> Result<(), AllocError>
+    requires { IsMemory (memory_view memory.now) }
+    ensures { OnOk result (out.new.items ≡ out.old.items ++ memory_text (memory_view memory.now)) }
+{
+    push_start(out, memory)?;
+    push_code(out, &memory.words)?;
+    push_data(out, memory.data_size, &memory.items)?;
+    Ok(())
+}
+
+/// The functions and the global objects of the map.
+fn push_map(out: &mut Vec<u8>, names: &[Name], image: &Image) -> Result<(), AllocError>
+    requires { IsContents (record { names = names.now; image = view image.now }) }
+    ensures { OnOk result (out.new.items ≡ out.old.items ++ parts (u32 (length image.now.functions.items) ∷ flat_map (function_text names.now) image.now.functions.items
+        ∷ u32 (length image.now.globals.items) ∷ flat_map (global_text names.now) image.now.globals.items ∷ [])) }
+{
+    push_u32(out, image.functions.len() as u32)?;
+    push_functions(out, names, &image.functions)?;
+    push_u32(out, image.globals.len() as u32)?;
+    push_globals(out, names, &image.globals)?;
+    Ok(())
+}
+
+/// The payload of an image file.
+fn write_payload(alloc: Global, names: &[Name], image: &Image) -> Result<Vec<u8>, AllocError>
+    requires { IsContents (record { names = names.now; image = view image.now }) }
+    ensures { IfOk result (λ v. v.items ≡ spelling (record { names = names.now; image = view image.now })) }
+{
+    let mut out = Vec::new(alloc);
+    push_memory(&mut out, &image.memory)?;
+    push_names(&mut out, names)?;
+    push_map(&mut out, names, image)?;
+    Ok(out)
+}
+
+/// The one file of an image.
+pub fn write_image(alloc: Global, image: &Image) -> Result<Vec<u8>, AllocError>
+    requires image { IsImage (view image.now) }
+    // The file is not too long for its field of length.
+    requires room { (names : List (List ℕ)) → IsTableOf names (names_of (view image.now)) → FitsFile (spelling (record { names = names; image = view image.now })) }
+    ensures { IfOk result (λ v. (names : List (List ℕ)) × IsImageFile v.items (record { names = names; image = view image.now })) }
+{
+    let used = used_names(alloc, image)?;
+    let names = table_of(alloc, used)?;
+    let payload = write_payload(alloc, &names, image)?;
+    seal(alloc, KIND, 1, &payload)
+}
