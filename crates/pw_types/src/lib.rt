@@ -1,6 +1,7 @@
 //! The types of the C profile.
 #![tactic(auto)]
 
+pub mod contents;
 pub mod ctype;
 pub mod depths;
 pub mod kind;
@@ -10,6 +11,7 @@ pub mod shapes;
 pub mod tree;
 pub mod types;
 
+pub use contents::{RecordFault, record_content};
 pub use ctype::{CType, QType, Signature};
 pub use depths::depth;
 pub use kind::{IntKind, convert, promote, usual};
