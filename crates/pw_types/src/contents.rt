@@ -1,17 +1,18 @@
 //! What the definition of a structure or union type comes to: its size and alignment, its members'
 //! offsets, its shape and its depth.
 
-ghost use Rattle.std.specs.Prelude.{◌≡◌, ◌+◌, ◌<◌, ◌≤◌, ◌^◌, ◌++◌, All, IfOk, IfErr, OnOk, Some, length, replicate};
+ghost use Rattle.std.specs.Prelude.{◌≡◌, ◌+◌, ◌<◌, ◌≤◌, ◌^◌, ◌++◌, All, IfOk, IfErr, OnOk, IsTrue, ◌↔◌, Some};
 ghost use Rattle.pw_types.specs.Layouts as spec;
 ghost use Rattle.pw_types.specs.Records.{IsObjectType, layouts_of, deepest as depth_of_deepest};
 ghost use Rattle.pw_types.specs.Rooms.{capped};
 ghost use Rattle.pw_types.specs.Measures.{clipped, Measures, size_by, offsets_by, Defines, Refuses};
 ghost use Rattle.pw_types.specs.Shapes.{record_shape, member_shapes};
 
+use crate::ctype::CType;
 use crate::depths::depth;
 use crate::record::{Content, Layout, Member, RecordKind};
 use crate::shapes::{closing, opening, push_decimal, push_shape};
-use crate::types::{Types, layout};
+use crate::types::{Types, keeps_size_limit, layout};
 use pw_value::Shape;
 use std::alloc::{AllocError, Global};
 
@@ -53,6 +54,22 @@ pub(crate) struct Measure {
     pub end: u128,
     pub largest: u32,
     pub align: u32,
+}
+
+/// Whether a type is complete and keeps the limit on sizes.
+pub fn is_object_type(types: &Types, ty: &CType) -> bool
+    ensures { IsTrue result ↔ IsObjectType types.now ty.now }
+{
+    keeps_size_limit(types, ty) && layout(types, ty).is_some()
+}
+
+/// Whether the types of members are so.
+pub fn are_object_types(types: &Types, members: &[Member]) -> bool
+    ensures { IsTrue result ↔ All (λ m. IsObjectType types.now m.ty.ty) members.now }
+{
+    members
+        .iter()
+        .all(|member| is_object_type(types, &member.ty.ty))
 }
 
 /// The layout of a member.

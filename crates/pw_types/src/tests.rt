@@ -3,8 +3,8 @@
 //! rooms are written by hand.
 
 use crate::{
-    CType, IntKind, Layout, Local, QType, Signature, Symbol, TExpr, TForm, TFunction, TStmt,
-    TStmtForm, Types, convert, depth, layout, promote, room, shape, usual,
+    CType, IntKind, Local, QType, Signature, Symbol, TExpr, TForm, TFunction, TStmt, TStmtForm,
+    Types, convert, locals_keep_size_limit, promote, room, usual,
 };
 use pw_value::{Name, NoMemory, Pointer, Value};
 use std::alloc::Global;
@@ -32,10 +32,6 @@ fn plain(ty: CType) -> QType {
 
 fn int(kind: IntKind) -> QType {
     plain(CType::Int(kind))
-}
-
-fn pointer(alloc: Global, target: QType) -> Result<QType, NoMemory> {
-    Ok(plain(CType::Pointer(Box::new(alloc, target)?)))
 }
 
 fn array(alloc: Global, element: QType, count: Option<u32>) -> Result<QType, NoMemory> {
@@ -101,53 +97,6 @@ fn conversions(rt: HostRuntime) {
     }
 }
 
-#[test]
-fn layouts_and_shapes(rt: HostRuntime) -> Result<(), Fail> {
-    let alloc = rt.alloc();
-    let types = Types::new(rt.alloc());
-    for kind in KINDS {
-        let text = shape(rt.alloc(), &types, &int(kind))?;
-        assert_eq!(rt; text.as_bytes().len(), 1);
-        assert!(rt; kind_of(text.as_bytes()[0]) == kind);
-    }
-    let short = layout(&types, &CType::Int(IntKind::Short));
-    assert_eq!(rt; short, Some(Layout { size: 2, align: 2 }));
-    assert_eq!(rt; layout(&types, &CType::Void), None);
-    let row = array(rt.alloc(), int(IntKind::UShort), Some(6))?;
-    assert_eq!(rt;
-        layout(&types, &row.ty),
-        Some(Layout { size: 12, align: 2 })
-    );
-    let open = array(rt.alloc(), row, None)?;
-    assert_eq!(rt; layout(&types, &open.ty), None);
-    assert_eq!(rt; depth(&types, &open.ty), 2);
-    assert_eq!(rt;
-        shape(rt.alloc(), &types, &open)?.as_bytes(),
-        b"[][6]t".as_slice()
-    );
-    let params = vec![in alloc; pointer(rt.alloc(), open)?, int(IntKind::Char)]?;
-    let signature = Signature {
-        result: plain(CType::Void),
-        params,
-    };
-    let function = plain(CType::Function(Box::new(rt.alloc(), signature)?));
-    assert_eq!(rt;
-        shape(rt.alloc(), &types, &function)?.as_bytes(),
-        b"fvpc".as_slice()
-    );
-    assert_eq!(rt; depth(&types, &function.ty), 4);
-    let volatile = QType {
-        ty: pointer(rt.alloc(), function)?.ty,
-        constant: true,
-        volatile: true,
-    };
-    assert_eq!(rt;
-        shape(rt.alloc(), &types, &volatile)?.as_bytes(),
-        b"!p".as_slice()
-    );
-    Ok(())
-}
-
 /// `int main(void){char a[5]; return 7;}`: 8 for the array, whose 5 bytes and one more are rounded up,
 /// 16 for each of the block, the return and the number, and 256.
 #[test]
@@ -186,6 +135,8 @@ fn room_of_main(rt: HostRuntime) -> Result<(), Fail> {
             },
         },
     };
-    assert_eq!(rt; room(&Types::new(rt.alloc()), &main), 256 + 48 + 8);
+    let types = Types::new(rt.alloc());
+    assert!(rt; locals_keep_size_limit(&types, &main));
+    assert_eq!(rt; room(&types, &main), 256 + 48 + 8);
     Ok(())
 }
