@@ -1,5 +1,5 @@
 -- A type that is defined leaves what was known of the others.
-use Rattle.std.proofs.Common.{◌≡◌, ◌≢◌, ℕ, zero, suc, ◌+◌, ◌<◌, ◌≤◌, ◌⊎◌, inl, inr, Bool, true, false, ◌||◌, eqb, List, [], ◌∷◌, ◌++◌, length, map, set, get_or, refl, ap, ◌∙◌, sym, subst, arith, Option, None, Some, option_map, IsSome, IfSome, All}
+use Rattle.std.proofs.Common.{◌≡◌, ◌≢◌, ℕ, zero, suc, ◌+◌, ◌<◌, ◌≤◌, ◌⊎◌, inl, inr, Bool, true, false, ◌||◌, eqb, List, [], ◌∷◌, ◌++◌, length, map, set, get_or, refl, ap, ◌∙◌, sym, subst, arith, Option, None, Some, option_map, IsSome, IfSome, All, lit≤}
 use Rattle.std.proofs.lemmas.Grind.{common_steps}
 use Rattle.std.proofs.lemmas.Bool.{eqb-true}
 use Rattle.std.proofs.lemmas.Option.{get_or_from_slice_get}
@@ -12,6 +12,9 @@ use Rattle.pw_types.specs.declared.record.RecordKind.TheVariants.{Structure}
 use Rattle.pw_types.specs.declared.record.Content.{Content}
 use Rattle.pw_types.specs.declared.record.Member.{Member}
 use Rattle.pw_types.specs.declared.record.Layout.{Layout}
+use Rattle.pw_types.specs.Conversions.{size_of_kind}
+use Rattle.pw_types.specs.declared.kind.IntKind.{IntKind}
+use Rattle.pw_types.specs.declared.kind.IntKind.TheVariants as K
 use Rattle.pw_types.specs.Layouts.{content_at, layout_of, scalar_layout, array_layout, record_layout, record_offsets, KeepsSizeLimit, size_limit}
 use Rattle.pw_types.specs.Shapes.{shape_of, shape_of_record, length_text, unknown_shape, record_shape, member_shapes}
 use Rattle.pw_types.specs.Records.{IsLaid, Follows, declared, defined, kind_at, layouts_of, IsObjectType}
@@ -295,3 +298,44 @@ set-defined items now number r content view reads undefined =
     let this : r ≡ declared (kind_at now number) = reads ∙ get_or_from_slice_get items number (declared (kind_at now number)) r there in
     ap (λ xs. set xs number (defined r.kind content)) view
     ∙ ap (λ (x : RecordType). set now number (defined x.kind content)) this
+
+size_of_kind-pos : (k : IntKind) → 1 ≤ size_of_kind k
+size_of_kind-pos = elim [
+  | K.Char ↦ lit≤ tt
+  | K.SChar ↦ lit≤ tt
+  | K.UChar ↦ lit≤ tt
+  | K.Short ↦ lit≤ tt
+  | K.UShort ↦ lit≤ tt
+  | K.Int ↦ lit≤ tt
+  | K.UInt ↦ lit≤ tt
+  | K.Long ↦ lit≤ tt
+  | K.ULong ↦ lit≤ tt
+]
+
+-- every type that has a layout has an alignment of at least 1
+pub aligned-by_laid :
+    (records : List RecordType) → IsLaid records
+    → (ty : CType) (l : Layout) → layout_of records ty ≡ Some l → 1 ≤ l.align
+aligned-by_laid records laid Void l is = absurd (cc)
+aligned-by_laid records laid (Int kind) l is =
+    let e : scalar_layout (size_of_kind kind) ≡ l = cc in
+    subst (λ (x : Layout). 1 ≤ x.align) e (size_of_kind-pos kind)
+aligned-by_laid records laid (Pointer' p ty c v) l is =
+    let e : scalar_layout 4 ≡ l = cc in
+    subst (λ (x : Layout). 1 ≤ x.align) e (lit≤ tt)
+aligned-by_laid records laid (Array' p ty c v None) l is = absurd (cc)
+aligned-by_laid records laid (Array' p ty c v (Some n)) l is =
+    elim (layout_of records ty) as (λ o. layout_of records ty ≡ o → option_map (array_layout n) o ≡ Some l → 1 ≤ l.align) [
+      | None ↦ λ e h. absurd (cc)
+      | Some inner ↦ λ e h.
+          let this : array_layout n inner ≡ l = cc in
+          subst (λ (x : Layout). 1 ≤ x.align) this (aligned-by_laid records laid ty inner e)
+    ] refl is
+aligned-by_laid records laid (Function' p s) l is = absurd (cc)
+aligned-by_laid records laid (Record number) l is =
+    elim (content_at records number) as (λ o. content_at records number ≡ o → option_map (λ c. c.layout) o ≡ Some l → 1 ≤ l.align) [
+      | None ↦ λ e h. absurd (cc)
+      | Some c ↦ λ e h.
+          let this : c.layout ≡ l = cc in
+          subst (λ (x : Layout). 1 ≤ x.align) this (laid number c e).aligned
+    ] refl is

@@ -3,3 +3,4 @@ pub mod Layouts
 pub mod Shapes
 pub mod Rooms
 pub mod Records
+pub mod Measures

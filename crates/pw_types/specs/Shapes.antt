@@ -49,15 +49,22 @@ abbrev pub length_text : Option ℕ → List ℕ
 length_text None = 91 ∷ 93 ∷ []
 length_text (Some count) = 91 ∷ (decimal count ++ 93 ∷ [])
 
+-- the brackets of a structure, and of a union
+abbrev pub opening : RecordKind → ℕ
+opening Structure = 123
+opening Union = 60
+
+abbrev pub closing : RecordKind → ℕ
+closing Structure = 125
+closing Union = 62
+
 -- `{size:members}`, of a union `<size:members>`
 abbrev pub record_shape : RecordKind → ℕ → List ℕ → List ℕ
-record_shape Structure size members = 123 ∷ (decimal size ++ 58 ∷ (members ++ 125 ∷ []))
-record_shape Union size members = 60 ∷ (decimal size ++ 58 ∷ (members ++ 62 ∷ []))
+record_shape kind size members = opening kind ∷ (decimal size ++ 58 ∷ (members ++ closing kind ∷ []))
 
 -- of one that is not defined only the brackets are known
 abbrev pub unknown_shape : RecordKind → List ℕ
-unknown_shape Structure = 123 ∷ 125 ∷ []
-unknown_shape Union = 60 ∷ 62 ∷ []
+unknown_shape kind = opening kind ∷ closing kind ∷ []
 
 -- the shape of a record by what is known of it
 abbrev pub shape_of_record : RecordType → List ℕ

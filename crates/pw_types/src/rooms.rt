@@ -1,11 +1,11 @@
 //! The room of a function.
 
-ghost use Rattle.std.specs.Prelude.{◌≡◌, ◌+◌, All, sum_by};
+ghost use Rattle.std.specs.Prelude.{◌≡◌, ◌+◌, ◌↔◌, IsTrue, All, sum_by};
 ghost use Rattle.pw_types.specs.Rooms as spec;
 ghost use Rattle.pw_types.specs.Layouts.{KeepsSizeLimit};
 
 use crate::tree::{Local, TExpr, TForm, TFunction, TStmt, TStmtForm};
-use crate::types::{Types, layout};
+use crate::types::{Types, keeps_size_limit, layout};
 
 /// The count of the nodes of an expression; the greatest u64 where there are more.
 #[cycle(nodes)]
@@ -127,6 +127,15 @@ pub fn room(types: &Types, f: &TFunction) -> u64
     }
     room.saturating_add(8 * u64::from(f.params))
         .saturating_add(stmt_nodes(&f.body).saturating_mul(16))
+}
+
+/// Whether the types of the locals and parameters of a function keep the limit on sizes.
+pub fn locals_keep_size_limit(types: &Types, f: &TFunction) -> bool
+    ensures { IsTrue result ↔ All (λ l. KeepsSizeLimit types.now l.ty.ty) f.now.locals.items }
+{
+    f.locals
+        .iter()
+        .all(|local| keeps_size_limit(types, &local.ty.ty))
 }
 
 /// What a local or parameter takes.

@@ -92,10 +92,33 @@ fn push_signature(text: &mut Vec<u8>, signature: &Signature) -> Result<(), Alloc
 fn push_record(text: &mut Vec<u8>, definition: &RecordType) -> Result<(), AllocError>
     ensures { OnOk result (text.new.items ≡ text.old.items ++ spec.shape_of_record definition.now) }
 {
-    match (&definition.content, definition.kind) {
-        (Some(content), _) => text.extend_from_slice(content.shape.as_bytes()),
-        (None, RecordKind::Structure) => text.extend_from_slice(b"{}"),
-        (None, RecordKind::Union) => text.extend_from_slice(b"<>"),
+    match &definition.content {
+        Some(content) => text.extend_from_slice(content.shape.as_bytes()),
+        None => {
+            text.push(opening(definition.kind))?;
+            text.push(closing(definition.kind))?;
+            Ok(())
+        }
+    }
+}
+
+/// The bracket that begins the shape of a record.
+pub(crate) fn opening(kind: RecordKind) -> u8
+    ensures { result ≡ spec.opening kind }
+{
+    match kind {
+        RecordKind::Structure => b'{',
+        RecordKind::Union => b'<',
+    }
+}
+
+/// The bracket that ends it.
+pub(crate) fn closing(kind: RecordKind) -> u8
+    ensures { result ≡ spec.closing kind }
+{
+    match kind {
+        RecordKind::Structure => b'}',
+        RecordKind::Union => b'>',
     }
 }
 

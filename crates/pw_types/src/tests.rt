@@ -3,10 +3,11 @@
 //! rooms are written by hand.
 
 use crate::{
-    CType, IntKind, Layout, Local, QType, Signature, Symbol, TExpr, TForm, TFunction, TStmt,
-    TStmtForm, Types, convert, depth, layout, promote, room, shape, usual,
+    CType, IntKind, Layout, Local, Member, QType, RecordKind, Signature, Symbol, TExpr, TForm,
+    TFunction, TStmt, TStmtForm, Types, are_object_types, convert, depth, keeps_size_limit, layout,
+    locals_keep_size_limit, promote, record_content, room, shape, usual,
 };
-use pw_value::{Name, NoMemory, Pointer, Value};
+use pw_value::{Name, NameError, NoMemory, Pointer, Value};
 use std::alloc::Global;
 use std::test::Fail;
 
@@ -114,11 +115,13 @@ fn layouts_and_shapes(rt: HostRuntime) -> Result<(), Fail> {
     assert_eq!(rt; short, Some(Layout { size: 2, align: 2 }));
     assert_eq!(rt; layout(&types, &CType::Void), None);
     let row = array(rt.alloc(), int(IntKind::UShort), Some(6))?;
+    assert!(rt; keeps_size_limit(&types, &row.ty));
     assert_eq!(rt;
         layout(&types, &row.ty),
         Some(Layout { size: 12, align: 2 })
     );
     let open = array(rt.alloc(), row, None)?;
+    assert!(rt; keeps_size_limit(&types, &open.ty));
     assert_eq!(rt; layout(&types, &open.ty), None);
     assert_eq!(rt; depth(&types, &open.ty), 2);
     assert_eq!(rt;
@@ -186,6 +189,57 @@ fn room_of_main(rt: HostRuntime) -> Result<(), Fail> {
             },
         },
     };
-    assert_eq!(rt; room(&Types::new(rt.alloc()), &main), 256 + 48 + 8);
+    let types = Types::new(rt.alloc());
+    assert!(rt; locals_keep_size_limit(&types, &main));
+    assert_eq!(rt; room(&types, &main), 256 + 48 + 8);
     Ok(())
+}
+
+/// `struct {char a; short b[3]; int c;}`, whose parts gcc puts at 0, 2 and 8 of 12 bytes.
+#[test]
+fn structure(rt: HostRuntime) -> Result<(), Fail> {
+    let alloc = rt.alloc();
+    let mut types = Types::new(rt.alloc());
+    types.declare(RecordKind::Structure)?;
+    let members = vec![in alloc;
+        member(rt.alloc(), b"a", int(IntKind::Char))?,
+        member(
+            rt.alloc(),
+            b"b",
+            array(rt.alloc(), int(IntKind::Short), Some(3))?
+        )?,
+        member(rt.alloc(), b"c", int(IntKind::Int))?,
+    ]?;
+    assert!(rt; are_object_types(&types, &members));
+    let content = record_content(rt.alloc(), &types, RecordKind::Structure, members)?;
+    assert_eq!(rt; content.offsets.as_slice(), [0, 2, 8].as_slice());
+    types.define(0, content);
+    let whole = layout(&types, &CType::Record(0));
+    assert_eq!(rt; whole, Some(Layout { size: 12, align: 4 }));
+    let text = shape(rt.alloc(), &types, &plain(CType::Record(0)))?;
+    assert_eq!(rt; text.as_bytes(), b"{12:c[3]si}".as_slice());
+    Ok(())
+}
+
+/// `union {char a; int c;}`.
+#[test]
+fn union_of_two(rt: HostRuntime) -> Result<(), Fail> {
+    let alloc = rt.alloc();
+    let types = Types::new(rt.alloc());
+    let members = vec![in alloc;
+        member(rt.alloc(), b"a", int(IntKind::Char))?,
+        member(rt.alloc(), b"c", int(IntKind::Int))?,
+    ]?;
+    assert!(rt; are_object_types(&types, &members));
+    let content = record_content(rt.alloc(), &types, RecordKind::Union, members)?;
+    assert_eq!(rt; content.offsets.as_slice(), [0, 0].as_slice());
+    assert_eq!(rt; content.shape.as_bytes(), b"<4:ci>".as_slice());
+    Ok(())
+}
+
+fn member(alloc: Global, name: &[u8], ty: QType) -> Result<Member, NameError> {
+    Ok(Member {
+        name: Name::new(alloc, name)?,
+        ty,
+    })
 }

@@ -1,6 +1,6 @@
 //! The structure and union types of a module, and the layout of types.
 
-ghost use Rattle.std.specs.Prelude.{◌≡◌, [], ◌∷◌, ◌++◌, slice_get, slice_set, OnOk, OnErr};
+ghost use Rattle.std.specs.Prelude.{◌≡◌, [], ◌∷◌, ◌++◌, ◌↔◌, IsTrue, slice_get, slice_set, OnOk, OnErr};
 ghost use Rattle.std.specs.Option.{option_copied};
 ghost use Rattle.pw_types.specs.Layouts as spec;
 ghost use Rattle.pw_types.specs.Records.{Follows, IsLaid, declared, defined, kind_at};
@@ -109,5 +109,22 @@ pub fn layout(types: &Types, ty: &CType) -> Option<Layout>
             let content = types.record(*number)?.content.as_ref()?;
             Some(content.layout)
         }
+    }
+}
+
+/// Whether an array, and each array that it is made of, keeps the limit on sizes.
+pub fn keeps_size_limit(types: &Types, ty: &CType) -> bool
+    ensures { IsTrue result ↔ spec.KeepsSizeLimit types.now ty.now }
+{
+    match ty {
+        CType::Array(element, None) => keeps_size_limit(types, &element.ty),
+        CType::Array(element, Some(count)) => {
+            keeps_size_limit(types, &element.ty)
+                && match layout(types, &element.ty) {
+                    Some(layout) => u64::from(layout.size) * u64::from(*count) <= 1048576,
+                    None => true,
+                }
+        }
+        _ => true,
     }
 }
