@@ -5,6 +5,7 @@
 mod store;
 mod streams;
 
+use pw_io::Sink;
 use pw_top::{pawc_top, status};
 use std::alloc::{AllocError, Global};
 use std::env;
@@ -39,13 +40,14 @@ fn words<R: Env + AllocGlobal>(rt: &R) -> Result<Vec<String>, AllocError> {
 
 fn main(rt: HostRuntime) -> ExitCode {
     let alloc: Global = rt.alloc();
+    let mut err = StdSink::new(rt.stderr());
     let Ok(words) = words(&rt) else {
+        let _ = err.put(b"NoMemory\n");
         return ExitCode::from(NO_MEMORY);
     };
     let mut store = FileStore::new(&rt);
     let mut input = StdSource::new(rt.reader());
     let mut out = StdSink::new(rt.stdout());
-    let mut err = StdSink::new(rt.stderr());
     let answer = pawc_top(alloc, &words, &mut store, &mut input, &mut out, &mut err);
     ExitCode::from(status(&answer))
 }

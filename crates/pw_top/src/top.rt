@@ -148,8 +148,8 @@ fn tell<E: Sink>(alloc: Global, reply: Reply, err: &mut E) -> Answer
 /// The one command line is `go`: it builds the program of the one module `NAME.i` of the store and runs it. What is
 /// promised of a store that tells its files, an input that tells its rest and an output that tells what it took:
 /// the answer and the output are those of the machine's run of the full build, and the built words agree with the
-/// program at every bound. Faults and want of memory may come in place of an answer, each fault exactly where its
-/// object's count of faults rose.
+/// program at every bound. Want of memory may come in place of an answer, and so may a fault of the store, the input
+/// or the output: only where that object's count of faults rose, and every other answer leaves the counts as they were.
 pub fn pawc_top<S: Store, I: Source, O: Sink, E: Sink>(
     alloc: Global,
     words: &[String],
