@@ -217,3 +217,69 @@ fn texts_are_not_nested_too_deep(rt: HostRuntime) -> Result<(), Fail> {
     }
     Ok(())
 }
+
+/// The modules of a desk calculator, each with its count of tokens, as clang counts them.
+const CALCULATOR: [(&[u8], usize); 3] = [
+    (
+        b"int stack[64];
+int *top = stack;
+int depth;
+void push(int v) { *top++ = v; depth++; }
+int pop(void) { depth--; return *--top; }
+",
+        47,
+    ),
+    (
+        b"static int add(int a, int b) { return a + b; }
+static int sub(int a, int b) { return a - b; }
+static int mul(int a, int b) { return a * b; }
+struct op { char sign; int (*run)(int, int); };
+struct op table[] = { { '+', add }, { '-', sub }, { '*', mul } };
+int ops = sizeof table / sizeof table[0];
+",
+        108,
+    ),
+    (
+        b"extern int depth; extern int ops;
+struct op { char sign; int (*run)(int, int); };
+extern struct op table[];
+void push(int v); int pop(void); int getchar(void); int putchar(int);
+static void print(int v) {
+  if (v < 0) { putchar('-'); v = -v; }
+  if (v > 9) print(v / 10);
+  putchar('0' + v % 10);
+}
+int main(void) {
+  int c = getchar();
+  while (c != -1) {
+    if (c >= '0' && c <= '9') {
+      int n = 0;
+      while (c >= '0' && c <= '9') { n = n * 10 + (c - '0'); c = getchar(); }
+      push(n);
+    } else {
+      int i;
+      for (i = 0; i < ops; i++)
+        if (table[i].sign == c && depth >= 2) {
+          int b = pop(); int a = pop(); push((*table[i].run)(a, b));
+        }
+      if (c == '\\n' && depth > 0) { print(pop()); putchar('\\n'); }
+      c = getchar();
+    }
+  }
+  return 0;
+}
+",
+        284,
+    ),
+];
+
+#[test]
+fn modules_have_their_tokens(rt: HostRuntime) -> Result<(), Fail> {
+    for (text, count) in CALCULATOR {
+        let tokens = lex(rt.alloc(), text)?;
+        assert_eq!(rt; tokens.len(), count, "in {text:?}");
+        assert_eq!(rt; unsupported(text, &tokens), None, "in {text:?}");
+        assert_eq!(rt; nest_fault(text, &tokens), None, "in {text:?}");
+    }
+    Ok(())
+}
