@@ -168,7 +168,7 @@ fn stores(rt: HostRuntime) -> Result<(), Fail> {
             push_file(alloc, &mut files, name, text.as_bytes())?;
         }
         let told = told(alloc, &files, words, &[])?;
-        assert_eq!(rt; told.0, status, "of {line}");
+        assert_eq!(rt; told.0, status);
         assert_eq!(rt; told.1.as_str(), line);
     }
     Ok(())
