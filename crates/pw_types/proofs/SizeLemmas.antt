@@ -1,18 +1,22 @@
 -- Sizes that are cut off at the greatest number that a word can tell, and the first that passes the
 -- limit.
 use denote.Hole.Carrier
-use Rattle.std.proofs.Common.{◌≡◌, ℕ, zero, suc, ◌-◌, ◌*◌, ◌^◌, ◌<◌, ◌≤◌, inl, inr, min, List, [], ◌∷◌, ◌++◌, length, take, get_or, refl, ap, ◌∙◌, sym, arith, None, Some, option_map}
+use Rattle.std.proofs.Common.{◌≡◌, ℕ, zero, suc, ◌-◌, ◌*◌, ◌^◌, ◌<◌, ◌≤◌, inl, inr, min, List, [], ◌∷◌, ◌++◌, length, take, get_or, refl, ap, ◌∙◌, sym, arith, lit≤, Option, None, Some, IfSome, option_map}
 use Rattle.std.proofs.lemmas.Bool.{cases_lt}
+use Rattle.std.proofs.lemmas.Bool.Decides.{nat_tests}
 use Rattle.std.proofs.Math.Nat.{le-mul_of_pos_right, mul-le-mul_right}
 use Rattle.std.specs.Option.{option_or}
-use Rattle.pw_types.specs.declared.ctype.CType.{CType}
+use Rattle.pw_types.specs.declared.ctype.CType.{CType, Void, Int, Pointer', Array', Function', Record}
+use Rattle.pw_types.specs.declared.kind.IntKind.{IntKind}
+use Rattle.pw_types.specs.declared.kind.IntKind.TheVariants as K
+use Rattle.pw_types.specs.Conversions.{size_of_kind}
 use Rattle.pw_types.specs.declared.ctype.QType.{QType}
 use Rattle.pw_types.specs.declared.ctype.Signature.{Signature, Signature', out-Signature, Row_of-QType, end_of-QType, more_of-QType, items-the_row-QType, items_shown-the_row-QType-0}
 use Rattle.pw_types.specs.declared.record.RecordType.{RecordType}
 use Rattle.pw_types.specs.declared.record.Layout.{Layout}
 use Rattle.pw_types.specs.Caps.{clipped, capped}
-use Rattle.pw_types.specs.Layouts.{layout_of, array_layout, size_of, told}
-use Rattle.pw_types.specs.Sizes.{oversize_of, signature_oversize, row_oversize, first_oversize}
+use Rattle.pw_types.specs.Layouts.{layout_of, array_layout, size_of, size_limit, told}
+use Rattle.pw_types.specs.Sizes.{passing, oversize_of, signature_oversize, row_oversize, first_oversize}
 
 -- a product of a number that was cut off is cut off as the whole product is
 min-mul_min : (most a n : ℕ) → min (min a most * n) most ≡ min (a * n) most
@@ -115,3 +119,54 @@ pub signature_oversize-out :
 unfolding out-Signature denote.Hole.Carrier.out
 signature_oversize-out records (Signature' ty c v shape row) =
     ap (option_or (oversize_of records ty)) (row_oversize-items records _ row ∙ ap (first_oversize records) (sym (items_shown-the_row-QType-0 shape row)))
+
+-- a size that does not pass the limit
+within-passing : (o : Option Layout) → passing (option_map (λ l. l.size) o) ≡ None → IfSome o (λ l. l.size ≤ size_limit)
+within-passing None is = tt
+within-passing (Some l) is = grind (arith, nat_tests, is)
+
+None-option_or : {A : Type 0} (a b : Option A) → option_or a b ≡ None → b ≡ None
+None-option_or None b is = is
+None-option_or (Some x) b is = absurd (cc)
+
+-- a type that keeps the limit with all that it is made of keeps it itself
+within-oversize :
+    (records : List RecordType) (ty : CType)
+    → oversize_of records ty ≡ None → IfSome (layout_of records ty) (λ l. l.size ≤ size_limit)
+within-oversize records Void is = tt
+within-oversize records (Int kind) is = within_kind kind
+  where
+    within_kind : (k : IntKind) → size_of_kind k ≤ size_limit
+    within_kind = elim [
+      | K.Char ↦ lit≤ tt
+      | K.SChar ↦ lit≤ tt
+      | K.UChar ↦ lit≤ tt
+      | K.Short ↦ lit≤ tt
+      | K.UShort ↦ lit≤ tt
+      | K.Int ↦ lit≤ tt
+      | K.UInt ↦ lit≤ tt
+      | K.Long ↦ lit≤ tt
+      | K.ULong ↦ lit≤ tt
+    ]
+within-oversize records (Pointer' p ty c v) is = lit≤ tt
+within-oversize records (Array' p ty c v count) is =
+    within-passing
+    (layout_of records (Array' p ty c v count))
+    (None-option_or (oversize_of records ty) (passing (size_of records (Array' p ty c v count))) is)
+within-oversize records (Function' p s) is = tt
+within-oversize records (Record number) is = within-passing (layout_of records (Record number)) is
+
+-- where no size passes the limit, 32 bits tell the layout
+pub layout_of-lawful :
+    (records : List RecordType) (ty : CType) (result : Option Layout)
+    → result ≡ option_map told (layout_of records ty)
+    → oversize_of records ty ≡ None
+    → result ≡ layout_of records ty
+layout_of-lawful records ty result is none =
+    is ∙ exact (layout_of records ty) (within-oversize records ty none)
+  where
+    exact : (o : Option Layout) → IfSome o (λ l. l.size ≤ size_limit) → option_map told o ≡ o
+    exact None within = refl
+    exact (Some l) within =
+        let same : clipped l.size ≡ l.size = omega arith in
+        ap (λ s. Some (let x : Layout = record { size = s; align = l.align } in x)) same

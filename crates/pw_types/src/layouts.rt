@@ -14,11 +14,14 @@ use crate::types::Types;
 pub const SIZE_LIMIT: u32 = 1048576;
 
 /// The size and alignment of a type: None exactly for void, functions, arrays of unknown length,
-/// records that are not defined, and arrays of these. A size that 32 bits cannot tell, which passes
-/// the limit, is the greatest that they can.
+/// records that are not defined, and arrays of these.
+///
+/// Where the limit on sizes is kept, as `oversize` tests, this is the layout itself. A size that passes
+/// it does not wrap: where 32 bits cannot tell it, it is the greatest that they can.
 pub fn layout(types: &Types, ty: &CType) -> Option<Layout>
-    ensures value { result ≡ option_map spec.told (spec.layout_of types.now ty.now) }
+    ensures lawful { sizes.oversize_of types.now ty.now ≡ None → result ≡ spec.layout_of types.now ty.now }
     ensures exact { IfSome (spec.layout_of types.now ty.now) (λ l. l.size ≤ spec.size_limit → result ≡ Some l) }
+    ensures value { result ≡ option_map spec.told (spec.layout_of types.now ty.now) }
 {
     match ty {
         CType::Void | CType::Function(_) | CType::Array(_, None) => None,

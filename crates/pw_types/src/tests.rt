@@ -104,8 +104,7 @@ fn conversions(rt: HostRuntime) {
 }
 
 #[test]
-fn layouts_and_shapes(rt: HostRuntime) -> Result<(), Fail> {
-    let alloc = rt.alloc();
+fn scalars(rt: HostRuntime) -> Result<(), Fail> {
     let types = Types::new(rt.alloc());
     for kind in KINDS {
         let text = shape(rt.alloc(), &types, &int(kind))?;
@@ -115,38 +114,37 @@ fn layouts_and_shapes(rt: HostRuntime) -> Result<(), Fail> {
     let short = layout(&types, &CType::Int(IntKind::Short));
     assert_eq!(rt; short, Some(Layout { size: 2, align: 2 }));
     assert_eq!(rt; layout(&types, &CType::Void), None);
-    let row = array(rt.alloc(), int(IntKind::UShort), Some(6))?;
-    assert_eq!(rt;
-        layout(&types, &row.ty),
-        Some(Layout { size: 12, align: 2 })
-    );
-    let open = array(rt.alloc(), row, None)?;
-    assert_eq!(rt; layout(&types, &open.ty), None);
-    assert_eq!(rt; depth(&types, &open.ty), 2);
-    assert_eq!(rt;
-        shape(rt.alloc(), &types, &open)?.as_bytes(),
-        b"[][6]t".as_slice()
-    );
-    let params = vec![in alloc; pointer(rt.alloc(), open)?, int(IntKind::Char)]?;
-    let signature = Signature {
-        result: plain(CType::Void),
-        params,
-    };
-    let function = plain(CType::Function(Box::new(rt.alloc(), signature)?));
-    assert_eq!(rt;
-        shape(rt.alloc(), &types, &function)?.as_bytes(),
-        b"fvpc".as_slice()
-    );
-    assert_eq!(rt; depth(&types, &function.ty), 4);
     let volatile = QType {
-        ty: pointer(rt.alloc(), function)?.ty,
+        ty: pointer(rt.alloc(), int(IntKind::Int))?.ty,
         constant: true,
         volatile: true,
     };
-    assert_eq!(rt;
-        shape(rt.alloc(), &types, &volatile)?.as_bytes(),
-        b"!p".as_slice()
-    );
+    let text = shape(rt.alloc(), &types, &volatile)?;
+    assert_eq!(rt; text.as_bytes(), b"!p".as_slice());
+    Ok(())
+}
+
+/// `unsigned short [][6]`, and a function of a pointer to it and a `char`.
+#[test]
+fn arrays_and_functions(rt: HostRuntime) -> Result<(), Fail> {
+    let alloc = rt.alloc();
+    let types = Types::new(rt.alloc());
+    let row = array(rt.alloc(), int(IntKind::UShort), Some(6))?;
+    let laid = Layout { size: 12, align: 2 };
+    assert_eq!(rt; layout(&types, &row.ty), Some(laid));
+    let open = array(rt.alloc(), row, None)?;
+    assert_eq!(rt; layout(&types, &open.ty), None);
+    assert_eq!(rt; depth(&types, &open.ty), 2);
+    let text = shape(rt.alloc(), &types, &open)?;
+    assert_eq!(rt; text.as_bytes(), b"[][6]t".as_slice());
+    let signature = Signature {
+        result: plain(CType::Void),
+        params: vec![in alloc; pointer(rt.alloc(), open)?, int(IntKind::Char)]?,
+    };
+    let function = plain(CType::Function(Box::new(rt.alloc(), signature)?));
+    let text = shape(rt.alloc(), &types, &function)?;
+    assert_eq!(rt; text.as_bytes(), b"fvpc".as_slice());
+    assert_eq!(rt; depth(&types, &function.ty), 4);
     Ok(())
 }
 
@@ -181,10 +179,10 @@ fn sizes(rt: HostRuntime) -> Result<(), Fail> {
     Ok(())
 }
 
-fn expr(ty: IntKind, form: TForm) -> TExpr {
+fn expr(form: TForm) -> TExpr {
     TExpr {
         token: 1,
-        ty: int(ty),
+        ty: int(IntKind::Int),
         form,
     }
 }
@@ -201,6 +199,36 @@ fn local(alloc: Global, name: &[u8], ty: QType) -> Result<Local, NameError> {
     })
 }
 
+/// `n`, `a` and `k` of the function below.
+fn locals(alloc: Global) -> Result<Vec<Local>, Fail> {
+    let n = local(alloc, b"n", int(IntKind::Int))?;
+    let a = local(alloc, b"a", array(alloc, int(IntKind::Char), Some(5))?)?;
+    let k = local(alloc, b"k", int(IntKind::Int))?;
+    Ok(vec![in alloc; n, a, k]?)
+}
+
+/// Its `n + 1`.
+fn sum(alloc: Global) -> Result<TExpr, NoMemory> {
+    let n = Box::new(alloc, expr(TForm::Local(0)))?;
+    let one = Box::new(alloc, expr(TForm::Number(1)))?;
+    Ok(expr(TForm::Binary(BinaryOperator::Add, n, one)))
+}
+
+/// Its switch.
+fn switch(alloc: Global) -> Result<TStmt, NoMemory> {
+    let answer = stmt(TStmtForm::Return(Some(expr(TForm::Number(7)))));
+    let case = stmt(TStmtForm::Label(0, Box::new(alloc, answer)?));
+    let inside = stmt(TStmtForm::Block {
+        first: 3,
+        count: 0,
+        initialisers: Vec::new(alloc),
+        items: vec![in alloc; case]?,
+    });
+    let cases = vec![in alloc; Case { value: 1, label: 0 }]?;
+    let inside = Box::new(alloc, inside)?;
+    Ok(stmt(TStmtForm::Switch(expr(TForm::Local(2)), cases, None, inside)))
+}
+
 /// `int f(int n){char a[5]; int k = n + 1; switch (k) {case 1: return 7;} return 0;}`
 ///
 /// 8 for each of the three locals, whose 4, 5 and 4 bytes and one more are rounded up, 8 for the
@@ -209,55 +237,108 @@ fn local(alloc: Global, name: &[u8], ty: QType) -> Result<Local, NameError> {
 #[test]
 fn room_of_function(rt: HostRuntime) -> Result<(), Fail> {
     let alloc = rt.alloc();
-    let sum = TForm::Binary(
-        BinaryOperator::Add,
-        Box::new(rt.alloc(), expr(IntKind::Int, TForm::Local(0)))?,
-        Box::new(rt.alloc(), expr(IntKind::Int, TForm::Number(1)))?,
-    );
-    let seven = stmt(TStmtForm::Return(Some(expr(IntKind::Int, TForm::Number(7)))));
-    let case = stmt(TStmtForm::Label(0, Box::new(rt.alloc(), seven)?));
-    let inside = stmt(TStmtForm::Block {
-        first: 3,
-        count: 0,
-        initialisers: Vec::new(rt.alloc()),
-        items: vec![in alloc; case]?,
-    });
-    let switch = stmt(TStmtForm::Switch(
-        expr(IntKind::Int, TForm::Local(2)),
-        vec![in alloc; Case { value: 1, label: 0 }]?,
-        None,
-        Box::new(rt.alloc(), inside)?,
-    ));
-    let answer = stmt(TStmtForm::Return(Some(expr(IntKind::Int, TForm::Number(0)))));
     let signature = Signature {
         result: int(IntKind::Int),
         params: vec![in alloc; int(IntKind::Int)]?,
     };
+    let answer = stmt(TStmtForm::Return(Some(expr(TForm::Number(0)))));
+    let body = stmt(TStmtForm::Block {
+        first: 1,
+        count: 2,
+        initialisers: vec![in alloc; Initialiser::Value(2, sum(rt.alloc())?)]?,
+        items: vec![in alloc; switch(rt.alloc())?, answer]?,
+    });
     let f = TFunction {
         name: Symbol::External(Name::new(rt.alloc(), b"f")?),
         token: 2,
         ty: plain(CType::Function(Box::new(rt.alloc(), signature)?)),
         params: 1,
-        locals: vec![in alloc;
-            local(rt.alloc(), b"n", int(IntKind::Int))?,
-            local(
-                rt.alloc(),
-                b"a",
-                array(rt.alloc(), int(IntKind::Char), Some(5))?
-            )?,
-            local(rt.alloc(), b"k", int(IntKind::Int))?,
-        ]?,
+        locals: locals(rt.alloc())?,
         labels: 1,
         named: Vec::new(rt.alloc()),
-        body: stmt(TStmtForm::Block {
-            first: 1,
-            count: 2,
-            initialisers: vec![in alloc; Initialiser::Value(2, expr(IntKind::Int, sum))]?,
-            items: vec![in alloc; switch, answer]?,
-        }),
+        body,
     };
     let types = Types::new(rt.alloc());
     assert_eq!(rt; room(&types, &f), 256 + 3 * 8 + 8 + 12 * 16);
+    Ok(())
+}
+
+/// The type of a member: a number, some of them, a record of a number, some of them.
+#[derive(Clone, Copy)]
+enum Part {
+    Int(IntKind),
+    Volatile(IntKind),
+    Ints(IntKind, u32),
+    Record(u32),
+    Records(u32, u32),
+}
+
+fn part_type(alloc: Global, part: &Part) -> Result<QType, NoMemory> {
+    match part {
+        Part::Int(kind) => Ok(int(*kind)),
+        Part::Volatile(kind) => Ok(QType {
+            ty: CType::Int(*kind),
+            constant: false,
+            volatile: true,
+        }),
+        Part::Ints(kind, count) => array(alloc, int(*kind), Some(*count)),
+        Part::Record(number) => Ok(plain(CType::Record(*number))),
+        Part::Records(number, count) => array(alloc, plain(CType::Record(*number)), Some(*count)),
+    }
+}
+
+/// Declares one more record and defines it.
+fn define(
+    rt: &impl Abort,
+    alloc: Global,
+    types: &mut Types,
+    kind: RecordKind,
+    parts: &[Part],
+) -> Result<(), Fail> {
+    let mut members = Vec::new(alloc);
+    for part in parts {
+        members.push(Member {
+            name: Name::new(alloc, b"m")?,
+            ty: part_type(alloc, part)?,
+        })?;
+    }
+    let number = types.records().len();
+    assert!(rt; number < 1000);
+    types.declare(kind)?;
+    assert!(rt; are_object_types(types, &members));
+    let content = record_content(alloc, types, kind, members)?;
+    types.define(number as u32, content);
+    Ok(())
+}
+
+/// Size, alignment, offsets, shape and depth of the record of a number.
+#[derive(Clone, Copy)]
+struct Wanted {
+    layout: Layout,
+    offsets: &'static [u32],
+    shape: &'static [u8],
+    depth: u64,
+}
+
+fn check(
+    rt: &impl Abort,
+    alloc: Global,
+    types: &Types,
+    number: u32,
+    wanted: &Wanted,
+) -> Result<(), Fail> {
+    let ty = plain(CType::Record(number));
+    assert!(rt; layout(types, &ty.ty) == Some(wanted.layout));
+    assert!(rt; shape(alloc, types, &ty)?.as_bytes() == wanted.shape);
+    assert!(rt; depth(types, &ty.ty) == wanted.depth);
+    let offsets = match types.record(number) {
+        Some(record) => match &record.content {
+            Some(content) => content.offsets.as_slice(),
+            None => &[],
+        },
+        None => &[],
+    };
+    assert!(rt; offsets == wanted.offsets);
     Ok(())
 }
 
@@ -271,91 +352,47 @@ fn room_of_function(rt: HostRuntime) -> Result<(), Fail> {
 /// with the sizes, alignments and offsets of gcc.
 #[test]
 fn records(rt: HostRuntime) -> Result<(), Fail> {
-    let alloc = rt.alloc();
     let mut types = Types::new(rt.alloc());
-    let members = vec![in alloc;
-        member(rt.alloc(), b"a", int(IntKind::Char))?,
-        member(
-            rt.alloc(),
-            b"b",
-            array(rt.alloc(), int(IntKind::Short), Some(3))?
-        )?,
-        member(rt.alloc(), b"c", int(IntKind::Int))?,
-    ]?;
-    define(&rt, rt.alloc(), &mut types, RecordKind::Structure, members)?;
-    let volatile = QType {
-        ty: CType::Int(IntKind::Short),
-        constant: false,
-        volatile: true,
-    };
-    let members = vec![in alloc;
-        member(rt.alloc(), b"a", int(IntKind::Char))?,
-        member(rt.alloc(), b"b", volatile)?,
-    ]?;
-    define(&rt, rt.alloc(), &mut types, RecordKind::Structure, members)?;
-    let members = vec![in alloc;
-        member(rt.alloc(), b"p", plain(CType::Record(1)))?,
-        member(rt.alloc(), b"c", int(IntKind::Int))?,
-    ]?;
-    define(&rt, rt.alloc(), &mut types, RecordKind::Union, members)?;
-    let members = vec![in alloc;
-        member(rt.alloc(), b"tag", int(IntKind::Char))?,
-        member(
-            rt.alloc(),
-            b"many",
-            array(rt.alloc(), plain(CType::Record(1)), Some(3))?
-        )?,
-        member(rt.alloc(), b"v", int(IntKind::Short))?,
-        member(rt.alloc(), b"x", plain(CType::Record(2)))?,
-    ]?;
-    define(&rt, rt.alloc(), &mut types, RecordKind::Structure, members)?;
-    let wanted: [(u32, u32, &[u32], &[u8], u64); 4] = [
-        (12, 4, &[0, 2, 8], b"{12:c[3]si}", 2),
-        (4, 2, &[0, 2], b"{4:c!s}", 1),
-        (4, 4, &[0, 0], b"<4:{4:c!s}i>", 2),
-        (20, 4, &[0, 2, 14, 16], b"{20:c[3]{4:c!s}s<4:{4:c!s}i>}", 3),
+    let structure = RecordKind::Structure;
+    let parts = [
+        Part::Int(IntKind::Char),
+        Part::Ints(IntKind::Short, 3),
+        Part::Int(IntKind::Int),
     ];
-    for (number, (size, align, offsets, text, deep)) in wanted.iter().enumerate() {
-        assert!(rt; number < 4);
-        let ty = plain(CType::Record(number as u32));
-        let laid = Layout {
-            size: *size,
-            align: *align,
+    define(&rt, rt.alloc(), &mut types, structure, &parts)?;
+    let parts = [Part::Int(IntKind::Char), Part::Volatile(IntKind::Short)];
+    define(&rt, rt.alloc(), &mut types, structure, &parts)?;
+    let parts = [Part::Record(1), Part::Int(IntKind::Int)];
+    define(&rt, rt.alloc(), &mut types, RecordKind::Union, &parts)?;
+    let parts = [
+        Part::Int(IntKind::Char),
+        Part::Records(1, 3),
+        Part::Int(IntKind::Short),
+        Part::Record(2),
+    ];
+    define(&rt, rt.alloc(), &mut types, structure, &parts)?;
+    let rows: [(u32, u32, u32, &'static [u32], &'static [u8], u64); 4] = [
+        (0, 12, 4, &[0, 2, 8], b"{12:c[3]si}", 2),
+        (1, 4, 2, &[0, 2], b"{4:c!s}", 1),
+        (2, 4, 4, &[0, 0], b"<4:{4:c!s}i>", 2),
+        (
+            3,
+            20,
+            4,
+            &[0, 2, 14, 16],
+            b"{20:c[3]{4:c!s}s<4:{4:c!s}i>}",
+            3,
+        ),
+    ];
+    for (number, size, align, offsets, shape, depth) in rows {
+        let layout = Layout { size, align };
+        let wanted = Wanted {
+            layout,
+            offsets,
+            shape,
+            depth,
         };
-        assert_eq!(rt; layout(&types, &ty.ty), Some(laid));
-        assert_eq!(rt; shape(rt.alloc(), &types, &ty)?.as_bytes(), *text);
-        assert_eq!(rt; depth(&types, &ty.ty), *deep);
-        match types.record(number as u32) {
-            Some(record) => match &record.content {
-                Some(content) => assert_eq!(rt; content.offsets.as_slice(), *offsets),
-                None => assert!(rt; false),
-            },
-            None => assert!(rt; false),
-        }
+        check(&rt, rt.alloc(), &types, number, &wanted)?;
     }
-    Ok(())
-}
-
-fn member(alloc: Global, name: &[u8], ty: QType) -> Result<Member, NameError> {
-    Ok(Member {
-        name: Name::new(alloc, name)?,
-        ty,
-    })
-}
-
-/// Declares one more record and defines it.
-fn define(
-    rt: &impl Abort,
-    alloc: Global,
-    types: &mut Types,
-    kind: RecordKind,
-    members: Vec<Member>,
-) -> Result<(), Fail> {
-    let number = types.records().len();
-    assert!(rt; number < 1000);
-    types.declare(kind)?;
-    assert!(rt; are_object_types(types, &members));
-    let content = record_content(alloc, types, kind, members)?;
-    types.define(number as u32, content);
     Ok(())
 }

@@ -1,6 +1,6 @@
 use Rattle.std.proofs.Common.{◌≡◌, ◌*◌, ◌-◌, ◌^◌, min, arith}
 use Rattle.std.proofs.lemmas.Grind.{common_steps}
-use Rattle.pw_types.proofs.SizeLemmas.{layout_of-array}
+use Rattle.pw_types.proofs.SizeLemmas.{layout_of-array, layout_of-lawful}
 use Rattle.pw_types.proofs.layouts.+layout.Goals as goal
 
 pub returns-in_ok-element-in-Array-default-Some-clause-value :
@@ -15,3 +15,12 @@ returns-in_ok-element-in-Array-default-Some-clause-value t c =
     c.in_ok-element-in-Array-default-Some.ensures.value
     product in
     grind (arith, common_steps, e)
+
+pub returns-in_ok-element-in-Array-default-Some-clause-lawful :
+    goal.returns-in_ok-element-in-Array-default-Some-clause-lawful
+returns-in_ok-element-in-Array-default-Some-clause-lawful t c = λ none.
+    layout_of-lawful
+    c.args.types.now c.args.ty.now
+    _
+    (returns-in_ok-element-in-Array-default-Some-clause-value t c)
+    none
