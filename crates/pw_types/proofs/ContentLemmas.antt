@@ -1,6 +1,5 @@
 -- The content of a record follows from the measures of its members.
-use Rattle.std.proofs.Common.{◌≡◌, ℕ, suc, ◌+◌, ◌-◌, ◌*◌, ◌/◌, ◌^◌, ◌<◌, ◌≤◌, min, max, List, [], ◌∷◌, length, map, get_or, replicate, refl, ap, ◌∙◌, sym, subst, arith, lit≤, Option, None, Some, IsSome, All}
-use Rattle.std.proofs.lemmas.Grind.{common_steps}
+use Rattle.std.proofs.Common.{◌≡◌, ℕ, suc, ◌+◌, ◌-◌, ◌^◌, ◌<◌, ◌≤◌, min, List, [], ◌∷◌, length, map, get_or, replicate, refl, ap, ◌∙◌, sym, subst, arith, None, Some, IsSome, All}
 use Rattle.std.proofs.lemmas.List.Elements.{All-map}
 use Rattle.std.specs.Prelude.{unwrap_or}
 use Rattle.pw_types.specs.declared.ctype.CType.{CType}
@@ -13,11 +12,12 @@ use Rattle.pw_types.specs.declared.record.Layout.{Layout}
 use Rattle.pw_types.specs.declared.contents.Measure.{Measure}
 use Rattle.pw_types.specs.Layouts.{layout_of, scalar_layout, round_up, record_layout, record_offsets, offsets_from, end_from, greatest, align_of, size_limit}
 use Rattle.pw_types.specs.Shapes.{record_shape, member_shapes}
-use Rattle.pw_types.specs.Records.{IsLaid, IsObjectType, Follows, layouts_of, deepest, shape_limit, depth_limit}
-use Rattle.pw_types.specs.Measures.{clipped, Measures, size_by, offsets_by, layout_by_members, shape_by_members, depth_by_members, Defines, Refuses}
+use Rattle.pw_types.specs.Records.{IsLaid, IsObjectType, layouts_of, deepest, shape_limit, depth_limit}
+use Rattle.pw_types.specs.Caps.{clipped}
+use Rattle.pw_types.specs.Measures.{Measures, size_by, offsets_by, layout_by_members, shape_by_members, depth_by_members, Defines, Refuses}
 use Rattle.pw_types.specs.declared.contents.RecordFault.TheVariants.{TooLarge, ShapeTooLong, TooDeep}
-use Rattle.pw_types.specs.Rooms.{capped}
-use Rattle.pw_types.proofs.RecordLemmas.{aligned-by_laid}
+use Rattle.pw_types.specs.Caps.{capped}
+use Rattle.pw_types.proofs.RecordLemmas.{aligned-by_laid, IsSome-object_type}
 
 -- a number is not above the next multiple of an alignment
 round_up-le : (n align : ℕ) → 1 ≤ align → n ≤ round_up n align
@@ -73,7 +73,7 @@ All-aligned :
     → All (λ l. 1 ≤ l.align) (layouts_of records members)
 All-aligned records members laid all =
     All-map (λ (l : Layout). 1 ≤ l.align) (λ (m : Member). unwrap_or (layout_of records m.ty.ty) (scalar_layout 0)) members
-    (λ k d below. one (get_or members k d).ty.ty (all k d below).0)
+    (λ k d below. one (get_or members k d).ty.ty (IsSome-object_type records (get_or members k d).ty.ty (all k d below)))
   where
     one : (ty : CType) → IsSome (layout_of records ty) → 1 ≤ (unwrap_or (layout_of records ty) (scalar_layout 0)).align
     one ty is =

@@ -1,9 +1,8 @@
 -- The depth of a function's type.
 use denote.Hole.Carrier
-use Rattle.std.proofs.Common.{◌≡◌, ℕ, max, List, map, refl, ap, ◌∙◌, sym}
+use Rattle.std.proofs.Common.{◌≡◌, max, List, refl, ap, ◌∙◌, sym}
 use Rattle.pw_types.specs.declared.ctype.Signature.{Signature, Signature', out-Signature, Row_of-QType, end_of-QType, more_of-QType, items-the_row-QType, items_shown-the_row-QType-0}
 use Rattle.pw_types.specs.declared.record.RecordType.{RecordType}
-use Rattle.pw_types.specs.Layouts.{greatest}
 use Rattle.pw_types.specs.Records.{depth_of, signature_depth, row_depth, greatest_depth}
 
 row_depth-items :

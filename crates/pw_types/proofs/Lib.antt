@@ -4,3 +4,4 @@ pub mod ListLemmas
 pub mod MeasureLemmas
 mod NodeLemmas
 pub mod RecordLemmas
+mod SizeLemmas

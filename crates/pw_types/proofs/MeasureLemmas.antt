@@ -1,13 +1,12 @@
 -- Measuring the members of a record, one more at a time.
-use Rattle.std.proofs.Common.{◌≡◌, ℕ, suc, ◌+◌, ◌*◌, ◌^◌, ◌<◌, ◌≤◌, max, List, [], ◌∷◌, ◌++◌, length, map, take, get_or, refl, ap, ◌∙◌, sym, subst, arith, Some}
+use Rattle.std.proofs.Common.{◌≡◌, ℕ, ◌+◌, ◌<◌, max, List, [], ◌∷◌, ◌++◌, length, map, take, get_or, refl, ap, ◌∙◌, sym, arith, Some}
 use Rattle.std.specs.Prelude.{unwrap_or}
-use Rattle.std.proofs.lemmas.Grind.{common_steps}
 use Rattle.pw_types.specs.declared.record.RecordType.{RecordType}
 use Rattle.pw_types.specs.declared.record.Member.{Member}
 use Rattle.pw_types.specs.declared.record.Layout.{Layout}
 use Rattle.pw_types.specs.Layouts.{layout_of, scalar_layout, round_up, offsets_from, end_from, greatest, align_of}
 use Rattle.pw_types.specs.Records.{layouts_of}
-use Rattle.pw_types.specs.Measures.{clipped}
+use Rattle.pw_types.specs.Caps.{clipped}
 use Rattle.pw_types.proofs.ListLemmas.{map-take_more, map-append_one, greatest-append_one}
 
 -- what the loop over the members knows

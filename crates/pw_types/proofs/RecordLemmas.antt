@@ -1,9 +1,9 @@
 -- A type that is defined leaves what was known of the others.
-use Rattle.std.proofs.Common.{◌≡◌, ◌≢◌, ℕ, zero, suc, ◌+◌, ◌<◌, ◌≤◌, ◌⊎◌, inl, inr, Bool, true, false, ◌||◌, eqb, List, [], ◌∷◌, ◌++◌, length, map, set, get_or, refl, ap, ◌∙◌, sym, subst, arith, Option, None, Some, option_map, IsSome, IfSome, All, lit≤}
+use Rattle.std.proofs.Common.{◌≡◌, ◌≢◌, ℕ, zero, suc, ◌≤◌, ◌⊎◌, inl, inr, Bool, true, false, ◌||◌, eqb, List, [], ◌∷◌, ◌++◌, set, get_or, refl, ap, ◌∙◌, sym, subst, arith, Option, None, Some, option_map, IsSome, All, lit≤}
 use Rattle.std.proofs.lemmas.Grind.{common_steps}
 use Rattle.std.proofs.lemmas.Bool.{eqb-true}
 use Rattle.std.proofs.lemmas.Option.{get_or_from_slice_get}
-use Rattle.std.specs.Prelude.{slice_get, option_and_then, unwrap_or, flat_map}
+use Rattle.std.specs.Prelude.{slice_get, option_and_then, unwrap_or, IsSomeAnd, IfSome}
 use Rattle.std.specs.Option.{option_map_or}
 use Rattle.pw_types.specs.declared.ctype.CType.{CType, Void, Int, Pointer', Array', Function', Record}
 use Rattle.pw_types.specs.declared.record.RecordType.{RecordType}
@@ -15,7 +15,7 @@ use Rattle.pw_types.specs.declared.record.Layout.{Layout}
 use Rattle.pw_types.specs.Conversions.{size_of_kind}
 use Rattle.pw_types.specs.declared.kind.IntKind.{IntKind}
 use Rattle.pw_types.specs.declared.kind.IntKind.TheVariants as K
-use Rattle.pw_types.specs.Layouts.{content_at, layout_of, scalar_layout, array_layout, record_layout, record_offsets, KeepsSizeLimit, size_limit}
+use Rattle.pw_types.specs.Layouts.{content_at, layout_of, scalar_layout, array_layout, record_layout, record_offsets, size_limit}
 use Rattle.pw_types.specs.Shapes.{shape_of, shape_of_record, length_text, unknown_shape, record_shape, member_shapes}
 use Rattle.pw_types.specs.Records.{IsLaid, Follows, declared, defined, kind_at, layouts_of, IsObjectType}
 
@@ -76,27 +76,35 @@ shape_of-later old new later (Record number) volatile is =
       | Some c ↦ λ e h. shape_of-defined new number c volatile (later number c e) ∙ sym (shape_of-defined old number c volatile e)
     ] refl is
 
--- a type that was complete keeps the limit on sizes
-KeepsSizeLimit-later :
-    (old new : List RecordType) → IsLater old new
-    → (ty : CType) → IsSome (layout_of old ty) → KeepsSizeLimit old ty → KeepsSizeLimit new ty
-KeepsSizeLimit-later old new later Void is keeps = tt
-KeepsSizeLimit-later old new later (Int kind) is keeps = tt
-KeepsSizeLimit-later old new later (Pointer' p ty c v) is keeps = tt
-KeepsSizeLimit-later old new later (Array' p ty c v None) is keeps = absurd (cc)
-KeepsSizeLimit-later old new later (Array' p ty c v (Some n)) is keeps =
-    let inner : IsSome (layout_of old ty) = IsSome-of_map (array_layout n) (layout_of old ty) is in (
-      KeepsSizeLimit-later old new later ty inner keeps.0,
-      subst (λ o. IfSome (option_map (array_layout n) o) (λ l. l.size ≤ size_limit)) (sym (layout_of-later old new later ty inner)) keeps.1,
-    )
-KeepsSizeLimit-later old new later (Function' p s) is keeps = tt
-KeepsSizeLimit-later old new later (Record number) is keeps = tt
+-- a type that an object can have is complete
+pub IsSome-object_type : (records : List RecordType) (ty : CType) → IsObjectType records ty → IsSome (layout_of records ty)
+IsSome-object_type records ty is =
+    elim (layout_of records ty) as (λ o. IsSomeAnd o (λ l. l.size ≤ size_limit) → IsSome o) [
+      | None ↦ λ h. absurd h
+      | Some l ↦ λ h. refl
+    ] is
+
+-- what the layout of such a type is told to be is its layout
+pub layout_of-object_type :
+    (records : List RecordType) (ty : CType) (l : Layout) (result : Option Layout)
+    → IsObjectType records ty
+    → IfSome (layout_of records ty) (λ x. x.size ≤ size_limit → result ≡ Some x)
+    → result ≡ Some l
+    → layout_of records ty ≡ Some l
+layout_of-object_type records ty l result is exact value =
+    elim (layout_of records ty) as (λ o. IsSomeAnd o (λ x. x.size ≤ size_limit) → IfSome o (λ x. x.size ≤ size_limit → result ≡ Some x) → o ≡ Some l) [
+      | None ↦ λ h e. absurd h
+      | Some x ↦ λ h e. sym (e h) ∙ value
+    ] is exact
 
 IsObjectType-later :
     (old new : List RecordType) → IsLater old new
     → (ty : CType) → IsObjectType old ty → IsObjectType new ty
-IsObjectType-later old new later ty (is, keeps) =
-    (subst IsSome (sym (layout_of-later old new later ty is)) is, KeepsSizeLimit-later old new later ty is keeps)
+IsObjectType-later old new later ty is =
+    subst
+    (λ o. IsSomeAnd o (λ l. l.size ≤ size_limit))
+    (sym (layout_of-later old new later ty (IsSome-object_type old ty is)))
+    is
 
 All-first : (records : List RecordType) (m : Member) (rest : List Member)
     → All (λ x. IsObjectType records x.ty.ty) (m ∷ rest) → IsObjectType records m.ty.ty
@@ -113,7 +121,7 @@ layouts_of-later :
 layouts_of-later old new later [] all = refl
 layouts_of-later old new later (m ∷ rest) all =
     let first : layout_of new m.ty.ty ≡ layout_of old m.ty.ty =
-    layout_of-later old new later m.ty.ty (All-first old m rest all).0 in
+    layout_of-later old new later m.ty.ty (IsSome-object_type old m.ty.ty (All-first old m rest all)) in
     let others : layouts_of new rest ≡ layouts_of old rest =
     layouts_of-later old new later rest (All-rest old m rest all) in
     ap (λ o. unwrap_or o (scalar_layout 0) ∷ layouts_of new rest) first
@@ -126,7 +134,7 @@ member_shapes-later :
 member_shapes-later old new later [] all = refl
 member_shapes-later old new later (m ∷ rest) all =
     let first : shape_of new m.ty.ty m.ty.volatile ≡ shape_of old m.ty.ty m.ty.volatile =
-    shape_of-later old new later m.ty.ty m.ty.volatile (All-first old m rest all).0 in
+    shape_of-later old new later m.ty.ty m.ty.volatile (IsSome-object_type old m.ty.ty (All-first old m rest all)) in
     let others : member_shapes new rest ≡ member_shapes old rest =
     member_shapes-later old new later rest (All-rest old m rest all) in
     ap (λ text. text ++ member_shapes new rest) first

@@ -1,12 +1,13 @@
 -- Sizes, alignments and the places of members (ISO C90 6.1.2.5, 6.5.2.1). A structure or union type
 -- is a number, and what is known of it stands in a list of records.
-use Rattle.std.specs.Prelude.{ℕ, ◌≡◌, ◌+◌, ◌-◌, ◌*◌, ◌/◌, ◌≤◌, Bool, max, fold, Option, None, Some, IfSome, option_map, option_and_then, List, [], ◌∷◌, map, slice_get}
+use Rattle.std.specs.Prelude.{ℕ, ◌+◌, ◌-◌, ◌*◌, ◌/◌, max, Option, None, Some, option_map, option_and_then, List, [], ◌∷◌, map, slice_get}
 use Rattle.pw_types.specs.declared.ctype.CType.{CType, Void, Int, Pointer', Array', Function', Record}
 use Rattle.pw_types.specs.declared.record.RecordType.{RecordType}
 use Rattle.pw_types.specs.declared.record.RecordKind.{RecordKind}
 use Rattle.pw_types.specs.declared.record.RecordKind.TheVariants.{Structure, Union}
 use Rattle.pw_types.specs.declared.record.Content.{Content}
 use Rattle.pw_types.specs.declared.record.Layout.{Layout}
+use Rattle.pw_types.specs.Caps.{clipped}
 use Rattle.pw_types.specs.Conversions.{size_of_kind}
 
 -- what a record's definition says; None for one that is not defined
@@ -65,13 +66,14 @@ abbrev pub record_offsets : RecordKind → List Layout → List ℕ
 record_offsets Structure members = offsets_from 0 members
 record_offsets Union members = map (λ _. 0) members
 
+-- the size of a type
+abbrev pub size_of : List RecordType → CType → Option ℕ
+size_of records ty = option_map (λ l. l.size) (layout_of records ty)
+
+-- a layout as far as 32 bits can tell its size
+abbrev pub told : Layout → Layout
+told l = record { size = clipped l.size; align = l.align }
+
 -- the greatest size of an object and of every other complete type
 abbrev pub size_limit : ℕ
 size_limit = 1048576
-
--- an array keeps the limit on sizes, and so does each array that it is made of
-abbrev pub KeepsSizeLimit : List RecordType → CType → Type 0
-KeepsSizeLimit records (Array' p ty constant volatile count) =
-    KeepsSizeLimit records ty
-    × IfSome (layout_of records (Array' p ty constant volatile count)) (λ l. l.size ≤ size_limit)
-KeepsSizeLimit records _ = Unit {0}

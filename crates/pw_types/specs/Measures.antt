@@ -1,5 +1,5 @@
 -- What a structure or union type takes, told from its members.
-use Rattle.std.specs.Prelude.{ℕ, ◌≡◌, ◌+◌, ◌-◌, ◌*◌, ◌^◌, ◌<◌, ◌≤◌, min, suc, List, length, map, replicate}
+use Rattle.std.specs.Prelude.{ℕ, ◌≡◌, ◌+◌, ◌^◌, ◌<◌, ◌≤◌, List, length, map, replicate}
 use Rattle.pw_types.specs.declared.record.RecordType.{RecordType}
 use Rattle.pw_types.specs.declared.record.RecordKind.{RecordKind}
 use Rattle.pw_types.specs.declared.record.RecordKind.TheVariants.{Structure, Union}
@@ -12,11 +12,7 @@ use Rattle.pw_types.specs.declared.contents.Measure.{Measure}
 use Rattle.pw_types.specs.Layouts.{record_layout, round_up, offsets_from, end_from, greatest, align_of, size_limit}
 use Rattle.pw_types.specs.Shapes.{record_shape, member_shapes}
 use Rattle.pw_types.specs.Records.{layouts_of, deepest, Follows, shape_limit, depth_limit}
-use Rattle.pw_types.specs.Rooms.{capped}
-
--- a number as far as 32 bits can tell it
-abbrev pub clipped : ℕ → ℕ
-clipped n = min n (2 ^ 32 - 1)
+use Rattle.pw_types.specs.Caps.{clipped, capped}
 
 -- The members of these layouts, one after another: their offsets, where the last one ends, the
 -- greatest size and the greatest alignment.

@@ -1,5 +1,5 @@
 -- What is known of the structure and union types of a module.
-use Rattle.std.specs.Prelude.{ℕ, ◌≡◌, ◌+◌, ◌≤◌, max, Option, None, Some, IsSome, unwrap_or, List, [], ◌∷◌, length, map, slice_get, slice_set, All}
+use Rattle.std.specs.Prelude.{ℕ, ◌≡◌, ◌+◌, ◌≤◌, max, None, Some, IsSomeAnd, unwrap_or, List, length, map, slice_get, All}
 use Rattle.std.specs.Option.{option_map_or}
 use Rattle.pw_types.specs.declared.ctype.CType.{CType, Void, Int, Pointer', Array', Function', Record}
 use Rattle.pw_types.specs.declared.ctype.Signature.{Signature, Signature', Row_of-QType, end_of-QType, more_of-QType}
@@ -10,7 +10,7 @@ use Rattle.pw_types.specs.declared.record.RecordKind.TheVariants.{Structure}
 use Rattle.pw_types.specs.declared.record.Content.{Content}
 use Rattle.pw_types.specs.declared.record.Member.{Member}
 use Rattle.pw_types.specs.declared.record.Layout.{Layout}
-use Rattle.pw_types.specs.Layouts.{content_at, layout_of, scalar_layout, record_layout, record_offsets, KeepsSizeLimit, size_limit, greatest}
+use Rattle.pw_types.specs.Layouts.{content_at, layout_of, scalar_layout, record_layout, record_offsets, size_limit, greatest}
 use Rattle.pw_types.specs.Shapes.{record_shape, member_shapes}
 
 -- the greatest length of the shape of a record or of a declared name
@@ -53,9 +53,9 @@ deepest records members = greatest (map (λ m. depth_of records m.ty.ty) members
 abbrev pub layouts_of : List RecordType → List Member → List Layout
 layouts_of records members = map (λ m. unwrap_or (layout_of records m.ty.ty) (scalar_layout 0)) members
 
--- a member's type is complete, and its arrays keep the limit on sizes
+-- a type that an object can have: it is complete and keeps the limit on sizes
 abbrev pub IsObjectType : List RecordType → CType → Type 0
-IsObjectType records ty = IsSome (layout_of records ty) × KeepsSizeLimit records ty
+IsObjectType records ty = IsSomeAnd (layout_of records ty) (λ l. l.size ≤ size_limit)
 
 -- What follows from a record's members, whose types were complete before it was defined: its size and
 -- alignment, the members' offsets, and its shape. The limits on sizes, shapes and depths hold.

@@ -1,12 +1,14 @@
 -- The room of a function: a bound on its frame that can be told from its typed tree.
-use Rattle.std.specs.Prelude.{ℕ, ◌+◌, ◌*◌, ◌-◌, ◌^◌, min, Option, None, Some, unwrap_or, option_map, List, sum_by}
+use Rattle.std.specs.Prelude.{ℕ, ◌+◌, ◌*◌, Option, None, Some, unwrap_or, List, sum_by}
 use Rattle.pw_types.specs.declared.tree.TForm.{TForm, Number, Str, Local, Global, Function, Unary', Binary', Logic', Cond', Comma', Assign', Compound', Step', Cast', Decay', Member', Deref', Address', Call', CallValue', Row_of-TExpr, end_of-TExpr, more_of-TExpr}
 use Rattle.pw_types.specs.declared.tree.TExpr.{TExpr}
-use Rattle.pw_types.specs.declared.tree.TStmtForm.{TStmtForm, Empty, Expr, Block', Init, InitFrom, If', While', Do', For', Switch', Label', Goto, Break, Continue, Return, Row_of-TStmt, end_of-TStmt, more_of-TStmt, Held-TStmtForm-If-2, None', Some'}
+use Rattle.pw_types.specs.declared.tree.TStmtForm.{TStmtForm, Empty, Expr, Block', If', While', Do', For', Switch', Label', Goto, Break, Continue, Return, Row_of-TStmt, end_of-TStmt, more_of-TStmt, Held-TStmtForm-If-2, None', Some'}
+use Rattle.pw_types.specs.declared.tree.Initialiser.{Initialiser}
+use Rattle.pw_types.specs.declared.tree.Initialiser.TheVariants.{Value, Bytes}
 use Rattle.pw_types.specs.declared.tree.Local.{Local as AnyLocal}
 use Rattle.pw_types.specs.declared.tree.TFunction.{TFunction}
 use Rattle.pw_types.specs.declared.record.RecordType.{RecordType}
-use Rattle.pw_types.specs.Layouts.{layout_of, round_up}
+use Rattle.pw_types.specs.Layouts.{size_of, round_up}
 
 -- the nodes of an expression of this form, itself included
 abbrev mutual
@@ -43,15 +45,18 @@ abbrev pub optional_nodes : Option TExpr → ℕ
 optional_nodes None = 0
 optional_nodes (Some e) = expr_nodes e
 
--- The nodes of a statement of this form, itself included. A case or a default is one node, and the
--- initialiser of a local counts its expressions alone.
+-- the nodes of the initialiser of a local, which are those of its expressions
+abbrev pub initialiser_nodes : Initialiser → ℕ
+initialiser_nodes (Value local value) = expr_nodes value
+initialiser_nodes (Bytes local hidden parts) = sum_by expr_nodes parts.items
+
+-- the nodes of a statement of this form, itself included; a case or a default is one node
 abbrev mutual
   pub stmt_nodes : TStmtForm → ℕ
   stmt_nodes Empty = 1
   stmt_nodes (Expr e) = 1 + expr_nodes e
-  stmt_nodes (Block' first count shape items) = 1 + row_stmt_nodes items
-  stmt_nodes (Init local e) = expr_nodes e
-  stmt_nodes (InitFrom local hidden parts) = sum_by expr_nodes parts.items
+  stmt_nodes (Block' first count initialisers shape items) =
+      1 + sum_by initialiser_nodes initialisers.items + row_stmt_nodes items
   stmt_nodes (If' e p t then otherwise) = 1 + expr_nodes e + stmt_nodes then + held_nodes otherwise
   stmt_nodes (While' e p t body) = 1 + expr_nodes e + stmt_nodes body
   stmt_nodes (Do' p t body e) = 1 + stmt_nodes body + expr_nodes e
@@ -73,7 +78,7 @@ abbrev mutual
 
 -- the size of a local's type
 abbrev pub local_size : List RecordType → AnyLocal → ℕ
-local_size records local = unwrap_or (option_map (λ l. l.size) (layout_of records local.ty.ty)) 0
+local_size records local = unwrap_or (size_of records local.ty.ty) 0
 
 -- what a local or parameter takes: its size and one byte, rounded up to a multiple of 8
 abbrev pub local_room : List RecordType → AnyLocal → ℕ
@@ -83,9 +88,9 @@ local_room records local = round_up (local_size records local + 1) 8
 abbrev pub nodes_of : TFunction → ℕ
 nodes_of f = stmt_nodes f.body.form
 
-abbrev pub room_of : List RecordType → TFunction → ℕ
-room_of records f = sum_by (local_room records) f.locals.items + 8 * f.params + 16 * nodes_of f + 256
+-- the room of the function that the program starts with, which calls main and passes its result on
+abbrev pub start_room : ℕ
+start_room = 256
 
--- a number as far as 64 bits can tell it: a greater one is the greatest that they can
-abbrev pub capped : ℕ → ℕ
-capped n = min n (2 ^ 64 - 1)
+abbrev pub room_of : List RecordType → TFunction → ℕ
+room_of records f = sum_by (local_room records) f.locals.items + 8 * f.params + 16 * nodes_of f + start_room

@@ -4,20 +4,17 @@
 ghost use Rattle.std.specs.Prelude.{◌≡◌, ◌+◌, ◌<◌, ◌≤◌, ◌^◌, ◌++◌, All, IfOk, IfErr, OnOk, IsTrue, ◌↔◌, Some};
 ghost use Rattle.pw_types.specs.Layouts as spec;
 ghost use Rattle.pw_types.specs.Records.{IsObjectType, layouts_of, deepest as depth_of_deepest};
-ghost use Rattle.pw_types.specs.Rooms.{capped};
-ghost use Rattle.pw_types.specs.Measures.{clipped, Measures, size_by, offsets_by, Defines, Refuses};
+ghost use Rattle.pw_types.specs.Caps.{capped};
+ghost use Rattle.pw_types.specs.Measures.{Measures, size_by, offsets_by, Defines, Refuses};
 ghost use Rattle.pw_types.specs.Shapes.{record_shape, member_shapes};
 
-use crate::ctype::CType;
 use crate::depths::depth;
+use crate::layouts::{SIZE_LIMIT, cap, clip, is_object_type, layout, round_up};
 use crate::record::{Content, Layout, Member, RecordKind};
 use crate::shapes::{closing, opening, push_decimal, push_shape};
-use crate::types::{Types, keeps_size_limit, layout};
+use crate::types::Types;
 use pw_value::Shape;
 use std::alloc::{AllocError, Global};
-
-/// The greatest size of an object and of every other complete type, in bytes.
-pub const SIZE_LIMIT: u32 = 1048576;
 
 /// The greatest length of the shape of a record or of a declared name, in bytes.
 pub const SHAPE_LIMIT: usize = 4096;
@@ -56,14 +53,7 @@ pub(crate) struct Measure {
     pub align: u32,
 }
 
-/// Whether a type is complete and keeps the limit on sizes.
-pub fn is_object_type(types: &Types, ty: &CType) -> bool
-    ensures { IsTrue result ↔ IsObjectType types.now ty.now }
-{
-    keeps_size_limit(types, ty) && layout(types, ty).is_some()
-}
-
-/// Whether the types of members are so.
+/// Whether the types of members are types that objects can have.
 pub fn are_object_types(types: &Types, members: &[Member]) -> bool
     ensures { IsTrue result ↔ All (λ m. IsObjectType types.now m.ty.ty) members.now }
 {
@@ -80,24 +70,6 @@ fn member_layout(types: &Types, member: &Member) -> Layout
 {
     let _laid = types.records();
     layout(types, &member.ty.ty).unwrap()
-}
-
-/// The least multiple of an alignment that is not below a number.
-fn round_up(number: u128, align: u32) -> u128
-    requires aligned { 1 ≤ align }
-    requires fits { number < 2 ^ 100 }
-    ensures value { result ≡ spec.round_up number align }
-    ensures near { result ≤ number + align }
-{
-    let align = u128::from(align);
-    (number + (align - 1)) / align * align
-}
-
-/// A number as far as 32 bits can tell it.
-fn clip(number: u128) -> u32
-    ensures { result ≡ clipped number }
-{
-    number.min(4294967295) as u32
 }
 
 /// Measures members whose types are complete.
@@ -189,13 +161,6 @@ fn deepest(types: &Types, members: &[Member]) -> u64
         greatest = depth(types, &member.ty.ty).max(greatest);
     }
     greatest
-}
-
-/// A number as far as 64 bits can tell it.
-fn cap(number: u128) -> u64
-    ensures { result ≡ capped number }
-{
-    number.min(18446744073709551615) as u64
 }
 
 /// What the definition of a structure or union type comes to, whose members have complete types. It is

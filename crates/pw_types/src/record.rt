@@ -18,7 +18,7 @@ pub struct Layout {
 }
 
 /// A member: its name and its type.
-#[derive(Debug, Drop)]
+#[derive(Drop)]
 pub struct Member {
     pub name: Name,
     pub ty: QType,
@@ -26,7 +26,7 @@ pub struct Member {
 
 /// A record's definition: its members in order, and what follows from them, the members' offsets in
 /// bytes first.
-#[derive(Debug, Drop)]
+#[derive(Drop)]
 pub struct Content {
     pub members: Vec<Member>,
     pub offsets: Vec<u32>,
@@ -36,7 +36,7 @@ pub struct Content {
 }
 
 /// A structure or union type, with its content where it is defined.
-#[derive(Debug, Drop)]
+#[derive(Drop)]
 pub struct RecordType {
     pub kind: RecordKind,
     pub content: Option<Content>,

@@ -1,16 +1,20 @@
 //! The room of a function.
 
-ghost use Rattle.std.specs.Prelude.{◌≡◌, ◌+◌, ◌↔◌, IsTrue, All, sum_by};
+ghost use Rattle.std.specs.Prelude.{◌≡◌, ◌+◌, sum_by};
+ghost use Rattle.pw_types.specs.Caps.{capped};
 ghost use Rattle.pw_types.specs.Rooms as spec;
-ghost use Rattle.pw_types.specs.Layouts.{KeepsSizeLimit};
 
-use crate::tree::{Local, TExpr, TForm, TFunction, TStmt, TStmtForm};
-use crate::types::{Types, keeps_size_limit, layout};
+use crate::layouts::{cap, round_up, size};
+use crate::tree::{Initialiser, Local, TExpr, TForm, TFunction, TStmt, TStmtForm};
+use crate::types::Types;
+
+/// The room of the function that the program starts with, which calls `main`.
+pub const START_ROOM: u64 = 256;
 
 /// The count of the nodes of an expression; the greatest u64 where there are more.
 #[cycle(nodes)]
 pub fn expr_nodes(e: &TExpr) -> u64
-    ensures { result ≡ spec.capped (spec.expr_nodes e.now) }
+    ensures { result ≡ capped (spec.expr_nodes e.now) }
 {
     match &e.form {
         TForm::Number(_) | TForm::Str(_) | TForm::Local(_) => 1,
@@ -37,7 +41,7 @@ pub fn expr_nodes(e: &TExpr) -> u64
 /// The count of the nodes of several expressions, as far as 64 bits can tell it.
 #[cycle(nodes)]
 fn nodes_of_all(all: &[TExpr]) -> u64
-    ensures { result ≡ spec.capped (sum_by spec.expr_nodes all.now) }
+    ensures { result ≡ capped (sum_by spec.expr_nodes all.now) }
 {
     let mut nodes: u64 = 0;
     for e in all {
@@ -48,7 +52,7 @@ fn nodes_of_all(all: &[TExpr]) -> u64
 
 /// One node and those of its parts.
 fn one_more(a: u64, b: u64) -> u64
-    ensures { result ≡ spec.capped (1 + a + b) }
+    ensures { result ≡ capped (1 + a + b) }
 {
     a.saturating_add(b).saturating_add(1)
 }
@@ -56,15 +60,20 @@ fn one_more(a: u64, b: u64) -> u64
 /// The count of the nodes of a statement; the greatest u64 where there are more.
 #[cycle(stmt_nodes)]
 pub fn stmt_nodes(s: &TStmt) -> u64
-    ensures { result ≡ spec.capped (spec.stmt_nodes s.now.form) }
+    ensures { result ≡ capped (spec.stmt_nodes s.now.form) }
 {
     match &s.form {
         TStmtForm::Empty | TStmtForm::Goto(_) | TStmtForm::Break | TStmtForm::Continue => 1,
         TStmtForm::Expr(e) => one_more(expr_nodes(e), 0),
         TStmtForm::Return(e) => one_more(optional_nodes(e), 0),
-        TStmtForm::Init(_, e) => expr_nodes(e),
-        TStmtForm::InitFrom(_, _, parts) => nodes_of_all(parts),
-        TStmtForm::Block { items, .. } => one_more(nodes_of_statements(items), 0),
+        TStmtForm::Block {
+            initialisers,
+            items,
+            ..
+        } => one_more(
+            nodes_of_initialisers(initialisers),
+            nodes_of_statements(items),
+        ),
         TStmtForm::If(e, then, None) => one_more(expr_nodes(e), stmt_nodes(then)),
         TStmtForm::If(e, then, Some(otherwise)) => {
             one_more(
@@ -85,7 +94,7 @@ pub fn stmt_nodes(s: &TStmt) -> u64
 /// The count of the nodes of several statements, as far as 64 bits can tell it.
 #[cycle(stmt_nodes)]
 fn nodes_of_statements(all: &[TStmt]) -> u64
-    ensures { result ≡ spec.capped (sum_by (λ s. spec.stmt_nodes s.form) all.now) }
+    ensures { result ≡ capped (sum_by (λ s. spec.stmt_nodes s.form) all.now) }
 {
     let mut nodes: u64 = 0;
     for s in all {
@@ -94,9 +103,30 @@ fn nodes_of_statements(all: &[TStmt]) -> u64
     nodes
 }
 
+/// The count of the nodes of initialisers, as far as 64 bits can tell it.
+fn nodes_of_initialisers(all: &[Initialiser]) -> u64
+    ensures { result ≡ capped (sum_by spec.initialiser_nodes all.now) }
+{
+    let mut nodes: u64 = 0;
+    for initialiser in all {
+        nodes = nodes.saturating_add(initialiser_nodes(initialiser));
+    }
+    nodes
+}
+
+/// The count of the nodes of an initialiser.
+fn initialiser_nodes(initialiser: &Initialiser) -> u64
+    ensures { result ≡ capped (spec.initialiser_nodes initialiser.now) }
+{
+    match initialiser {
+        Initialiser::Value(_, value) => expr_nodes(value),
+        Initialiser::Bytes(_, _, parts) => nodes_of_all(parts),
+    }
+}
+
 /// The count of the nodes of an expression that may be absent.
 fn optional_nodes(e: &Option<TExpr>) -> u64
-    ensures { result ≡ spec.capped (spec.optional_nodes e.now) }
+    ensures { result ≡ capped (spec.optional_nodes e.now) }
 {
     match e {
         Some(e) => expr_nodes(e),
@@ -107,7 +137,7 @@ fn optional_nodes(e: &Option<TExpr>) -> u64
 /// The count of the nodes of the head of a `for`.
 fn nodes_of_three(a: &Option<TExpr>, b: &Option<TExpr>, c: &Option<TExpr>) -> u64
     ensures { result
-        ≡ spec.capped (spec.optional_nodes a.now + spec.optional_nodes b.now + spec.optional_nodes c.now) }
+        ≡ capped (spec.optional_nodes a.now + spec.optional_nodes b.now + spec.optional_nodes c.now) }
 {
     optional_nodes(a)
         .saturating_add(optional_nodes(b))
@@ -118,10 +148,9 @@ fn nodes_of_three(a: &Option<TExpr>, b: &Option<TExpr>, c: &Option<TExpr>) -> u6
 /// and one byte, rounded up to a multiple of 8; 8 for each parameter; 16 for each node of its body;
 /// and 256. It is the greatest u64 where it would be more.
 pub fn room(types: &Types, f: &TFunction) -> u64
-    requires { All (λ l. KeepsSizeLimit types.now l.ty.ty) f.now.locals.items }
-    ensures { result ≡ spec.capped (spec.room_of types.now f.now) }
+    ensures { result ≡ capped (spec.room_of types.now f.now) }
 {
-    let mut room: u64 = 256;
+    let mut room = START_ROOM;
     for local in &f.locals {
         room = room.saturating_add(local_room(types, local));
     }
@@ -129,23 +158,10 @@ pub fn room(types: &Types, f: &TFunction) -> u64
         .saturating_add(stmt_nodes(&f.body).saturating_mul(16))
 }
 
-/// Whether the types of the locals and parameters of a function keep the limit on sizes.
-pub fn locals_keep_size_limit(types: &Types, f: &TFunction) -> bool
-    ensures { IsTrue result ↔ All (λ l. KeepsSizeLimit types.now l.ty.ty) f.now.locals.items }
-{
-    f.locals
-        .iter()
-        .all(|local| keeps_size_limit(types, &local.ty.ty))
-}
-
-/// What a local or parameter takes.
+/// What a local or parameter takes, as far as 64 bits can tell it.
 fn local_room(types: &Types, local: &Local) -> u64
-    requires { KeepsSizeLimit types.now local.now.ty.ty }
-    ensures { result ≡ spec.local_room types.now local.now }
+    ensures { result ≡ capped (spec.local_room types.now local.now) }
 {
-    let size = match layout(types, &local.ty.ty) {
-        Some(layout) => u64::from(layout.size),
-        None => 0,
-    };
-    (size + 1).div_ceil(8) * 8
+    let size = size(types, &local.ty.ty).unwrap_or(0);
+    cap(round_up(u128::from(size) + 1, 8))
 }

@@ -1,13 +1,14 @@
 //! The typed tree of a module: what checking makes of its text, and what its meaning and its code are
-//! made of.
+//! made of. `docs/TYPED-TREE.md` says of each form what the two read of it.
 //!
 //! Each implicit conversion is a `Cast` and each implicit address of an array or a function a `Decay`.
 //! An index `a[i]` is the `Deref` of an `Add`, `p->x` is a `Member` of a `Deref`, `sizeof` is a
 //! `Number`, and parentheses leave no node. A node's token is its operator's, counted from 1: of an
-//! index the `[`, of a call the `(`, of a member the `.` or `->`, of a number, string or name the token
-//! itself, of an implicit `Cast` or a `Decay` that of its operand.
+//! index both nodes' is the `[`, of a call the `(`, of a member the `.` or `->`, of a number, string or
+//! name the token itself, of an implicit `Cast` or a `Decay` that of its operand. A statement's token
+//! is its first.
 
-use crate::ctype::QType;
+use crate::ctype::{CType, QType};
 use crate::types::Types;
 use pw_value::Name;
 
@@ -72,7 +73,7 @@ pub enum StepOperator {
 /// An expression with its type: of an lvalue that of the object, which no `Cast` wraps before it is
 /// read.
 #[cycle(texpr)]
-#[derive(Debug, Drop)]
+#[derive(Drop)]
 pub struct TExpr {
     pub token: usize,
     pub ty: QType,
@@ -81,9 +82,9 @@ pub struct TExpr {
 
 /// The forms of expressions.
 #[cycle(texpr)]
-#[derive(Debug, Drop)]
+#[derive(Drop)]
 pub enum TForm {
-    /// A word; of type pointer it is the null pointer 0.
+    /// A word of an integer type.
     Number(u32),
     /// The hidden object of this number, which holds a string.
     Str(u32),
@@ -99,8 +100,10 @@ pub enum TForm {
     Assign(Box<TExpr>, Box<TExpr>),
     /// `a op= b`: the type in which the operator works, to which the old value is converted and from
     /// which the new one is; then the lvalue and the right operand.
-    Compound(BinaryOperator, QType, Box<TExpr>, Box<TExpr>),
+    Compound(BinaryOperator, CType, Box<TExpr>, Box<TExpr>),
     Step(StepOperator, Box<TExpr>),
+    /// A conversion to the node's type: of the constant 0 to a pointer type it gives the null pointer,
+    /// and to void no value.
     Cast(Box<TExpr>),
     Decay(Box<TExpr>),
     /// A member of a structure or union, by its offset in bytes.
@@ -114,15 +117,26 @@ pub enum TForm {
 }
 
 /// A case of a switch: its value as a word, and its label.
-#[derive(Clone, Copy, PartialEq, Eq, Debug)]
+#[derive(Clone, Copy)]
 pub struct Case {
     pub value: u32,
     pub label: u32,
 }
 
+/// The initialiser of a local, by the local's place. It is a part of a declaration and no statement.
+#[derive(Drop)]
+pub enum Initialiser {
+    /// One expression, whose value is stored as an assignment stores it.
+    Value(u32, TExpr),
+    /// A list in braces or a string: the hidden object that has its bytes, and the expressions that it
+    /// is made of, which are constants and are not evaluated. A string among them that initialises an
+    /// array is the `Str` of that hidden object.
+    Bytes(u32, u32, Vec<TExpr>),
+}
+
 /// A statement.
 #[cycle(tstmt)]
-#[derive(Debug, Drop)]
+#[derive(Drop)]
 pub struct TStmt {
     pub token: usize,
     pub form: TStmtForm,
@@ -131,24 +145,18 @@ pub struct TStmt {
 /// The forms of statements. The labels of a function, those of cases and defaults included, are
 /// numbered from 0 in the order of the text.
 #[cycle(tstmt)]
-#[derive(Debug, Drop)]
+#[derive(Drop)]
 pub enum TStmtForm {
     Empty,
     Expr(TExpr),
-    /// A block: as many locals as `count` from the number `first` on live in it; then its
-    /// initialisers and statements in order.
+    /// A block: as many locals as `count` from the place `first` on live in it; then its initialisers
+    /// in order, and then its statements.
     Block {
         first: u32,
         count: u32,
+        initialisers: Vec<Initialiser>,
         items: Vec<TStmt>,
     },
-    /// The initialiser of a local that is one expression. It is a part of a declaration and counts as
-    /// no statement.
-    Init(u32, TExpr),
-    /// The brace or string initialiser of a local: the hidden object that has its bytes, and the
-    /// expressions that it is made of, which are constants and are not evaluated. It is a part of a
-    /// declaration and counts as no statement.
-    InitFrom(u32, u32, Vec<TExpr>),
     If(TExpr, Box<TStmt>, Option<Box<TStmt>>),
     While(TExpr, Box<TStmt>),
     Do(Box<TStmt>, TExpr),
@@ -163,17 +171,18 @@ pub enum TStmtForm {
     Return(Option<TExpr>),
 }
 
-/// A parameter or a local of automatic lifetime.
-#[derive(Debug, Drop)]
+/// A parameter or a local of automatic lifetime. One that is defined const is not writable.
+#[derive(Drop)]
 pub struct Local {
     pub name: Name,
     pub ty: QType,
+    pub writable: bool,
 }
 
 /// A function's definition. `token` is its name's. The first `params` of its locals are its parameters;
-/// the others follow in the order of declaration. `labels` is the count of its labels, and the body is
-/// a block.
-#[derive(Debug, Drop)]
+/// the others follow in the order of declaration. `labels` is the count of its labels, `named` has in
+/// order those of them that a `goto` can name, and the body is a block.
+#[derive(Drop)]
 pub struct TFunction {
     pub name: Symbol,
     pub token: usize,
@@ -181,11 +190,12 @@ pub struct TFunction {
     pub params: u32,
     pub locals: Vec<Local>,
     pub labels: u32,
+    pub named: Vec<u32>,
     pub body: TStmt,
 }
 
 /// A part of an object's initial bytes.
-#[derive(Debug, Drop)]
+#[derive(Drop)]
 pub enum TItem {
     Bytes(Vec<u8>),
     /// The address of an object or function plus a number.
@@ -194,7 +204,7 @@ pub enum TItem {
 
 /// An object of static lifetime with its initial bytes: items at rising offsets, and zero elsewhere.
 /// Strings and objects that are defined const are not writable.
-#[derive(Debug, Drop)]
+#[derive(Drop)]
 pub struct TGlobal {
     pub name: Symbol,
     pub ty: QType,
@@ -203,7 +213,7 @@ pub struct TGlobal {
 }
 
 /// A name that all modules share and that the module declares or defines, with its type.
-#[derive(Debug, Drop)]
+#[derive(Drop)]
 pub struct Declared {
     pub name: Name,
     pub ty: QType,
@@ -211,7 +221,7 @@ pub struct Declared {
 
 /// A module: its structure and union types, the objects and the functions that it defines in the order
 /// of their first definitions, and what it declares in the order of first declarations.
-#[derive(Debug, Drop)]
+#[derive(Drop)]
 pub struct TModule {
     pub types: Types,
     pub globals: Vec<TGlobal>,

@@ -1,18 +1,16 @@
-//! The structure and union types of a module, and the layout of types.
+//! The structure and union types of a module.
 
-ghost use Rattle.std.specs.Prelude.{◌≡◌, [], ◌∷◌, ◌++◌, ◌↔◌, IsTrue, slice_get, slice_set, OnOk, OnErr};
+ghost use Rattle.std.specs.Prelude.{◌≡◌, [], ◌∷◌, ◌++◌, slice_get, slice_set, OnOk, OnErr};
 ghost use Rattle.std.specs.Option.{option_copied};
-ghost use Rattle.pw_types.specs.Layouts as spec;
 ghost use Rattle.pw_types.specs.Records.{Follows, IsLaid, declared, defined, kind_at};
 
-use crate::ctype::CType;
-use crate::record::{Content, Layout, RecordKind, RecordType};
+use crate::record::{Content, RecordKind, RecordType};
 use std::alloc::{AllocError, Global};
 use std::marker::Model;
 
 /// The structure and union types of a module, by number from 0 on in the order of declaration. A
 /// contract sees it as that list.
-#[derive(Debug, Drop)]
+#[derive(Drop)]
 pub struct Types {
     records: Vec<RecordType>,
 }
@@ -82,49 +80,5 @@ impl Types {
             kind,
             content: Some(content),
         };
-    }
-}
-
-/// The size and alignment of a type: None exactly for void, functions, arrays of unknown length,
-/// records that are not defined, and arrays of these.
-pub fn layout(types: &Types, ty: &CType) -> Option<Layout>
-    requires { spec.KeepsSizeLimit types.now ty.now }
-    ensures { result ≡ spec.layout_of types.now ty.now }
-{
-    match ty {
-        CType::Void | CType::Function(_) | CType::Array(_, None) => None,
-        CType::Int(kind) => Some(Layout {
-            size: u32::from(kind.size()),
-            align: u32::from(kind.size()),
-        }),
-        CType::Pointer(_) => Some(Layout { size: 4, align: 4 }),
-        CType::Array(element, Some(count)) => {
-            let element = layout(types, &element.ty)?;
-            Some(Layout {
-                size: element.size * *count,
-                align: element.align,
-            })
-        }
-        CType::Record(number) => {
-            let content = types.record(*number)?.content.as_ref()?;
-            Some(content.layout)
-        }
-    }
-}
-
-/// Whether an array, and each array that it is made of, keeps the limit on sizes.
-pub fn keeps_size_limit(types: &Types, ty: &CType) -> bool
-    ensures { IsTrue result ↔ spec.KeepsSizeLimit types.now ty.now }
-{
-    match ty {
-        CType::Array(element, None) => keeps_size_limit(types, &element.ty),
-        CType::Array(element, Some(count)) => {
-            keeps_size_limit(types, &element.ty)
-                && match layout(types, &element.ty) {
-                    Some(layout) => u64::from(layout.size) * u64::from(*count) <= 1048576,
-                    None => true,
-                }
-        }
-        _ => true,
     }
 }

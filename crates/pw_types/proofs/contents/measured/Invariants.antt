@@ -1,4 +1,4 @@
-use Rattle.std.proofs.Common.{◌≡◌, ◌+◌, ◌*◌, ◌^◌, ◌≤◌, take}
+use Rattle.std.proofs.Common.{◌*◌, ◌^◌, ◌≤◌, take}
 use Rattle.pw_types.specs.Records.{layouts_of}
 use Rattle.pw_types.proofs.MeasureLemmas.{Measured}
 use Rattle.pw_types.proofs.contents.measured.Given as goal

@@ -1,9 +1,8 @@
 use Rattle.std.proofs.Common.{◌≡◌, ◌∙◌, sym, ap, subst, refl, arith, ◌≤◌, ℕ, List, length, All}
 use Rattle.pw_types.specs.declared.record.Member.{Member}
 use Rattle.pw_types.specs.Records.{IsObjectType, layouts_of}
-use Rattle.pw_types.specs.Measures.{Measures, offsets_by, layout_by_members, shape_by_members, depth_by_members}
+use Rattle.pw_types.specs.Measures.{offsets_by}
 use Rattle.pw_types.specs.Shapes.{record_shape, member_shapes}
-use Rattle.pw_types.specs.Rooms.{capped}
 use Rattle.pw_types.proofs.ContentLemmas as lemmas
 use Rattle.pw_types.proofs.contents.record_content.Goals as goal
 

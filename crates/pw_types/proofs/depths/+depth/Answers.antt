@@ -1,4 +1,4 @@
-use Rattle.std.proofs.Common.{arith, ap, ◌∙◌}
+use Rattle.std.proofs.Common.{arith, ap}
 use Rattle.std.proofs.lemmas.Grind.{common_steps}
 use Rattle.pw_types.specs.declared.ctype.QType.{QType}
 use Rattle.pw_types.specs.Records as spec

@@ -1,5 +1,5 @@
 use Rattle.std.proofs.Common.{◌≡◌, take}
-use Rattle.pw_types.specs.Rooms.{capped}
+use Rattle.pw_types.specs.Caps.{capped}
 use Rattle.pw_types.specs.Records as spec
 use Rattle.pw_types.proofs.depths.+depth.Given as goal
 

@@ -1,4 +1,4 @@
-use Rattle.std.proofs.Common.{arith, ap, ◌∙◌, sym}
+use Rattle.std.proofs.Common.{arith, ap, ◌∙◌}
 use Rattle.std.proofs.lemmas.Grind.{common_steps}
 use Rattle.pw_types.specs.Rooms as spec
 use Rattle.pw_types.proofs.NodeLemmas.{form_nodes-Call, form_nodes-CallValue}

@@ -6,5 +6,5 @@ use Rattle.pw_types.proofs.rooms.+stmt_nodes.Goals as goal
 
 pub stmt_nodes-returns-in-Block : goal.stmt_nodes-returns-in-Block
 stmt_nodes-returns-in-Block t c =
-    let e = ap spec.stmt_nodes c.in-Block.is ∙ stmt_nodes-Block c.in-Block.first c.in-Block.count c.in-Block.items in
+    let e = ap spec.stmt_nodes c.in-Block.is ∙ stmt_nodes-Block c.in-Block.first c.in-Block.count c.in-Block.initialisers c.in-Block.items in
     grind (arith, common_steps, e)

@@ -1,4 +1,4 @@
-use Rattle.std.proofs.Common.{◌≡◌, ◌∷◌, ◌++◌, [], map, take}
+use Rattle.std.proofs.Common.{◌≡◌, ◌++◌, map, take}
 use Rattle.pw_types.specs.Shapes as spec
 use Rattle.pw_types.proofs.shapes.push_signature.Given as goal
 

@@ -1,4 +1,4 @@
-use Rattle.std.proofs.Common.{subst, sym, arith}
+use Rattle.std.proofs.Common.{subst, sym}
 use Rattle.pw_types.specs.Records.{IsLaid}
 use Rattle.pw_types.proofs.RecordLemmas.{IsLaid-declare}
 use Rattle.pw_types.proofs.types.Types.declare.Goals as goal
