@@ -1,19 +1,50 @@
-//! Writing lists, shapes and names. A count or a text that no file can hold is answered as want of memory.
+//! Writing lists, shapes and names. A count, a text or a payload that no file can hold is answered as want
+//! of memory.
 
-ghost use Rattle.std.specs.Prelude.{◌≡◌, ◌++◌, List, length, OnOk, All, Contains};
+ghost use Rattle.std.specs.Prelude.{◌≡◌, ◌++◌, List, length, map, OnOk, IfOk, All, Contains};
 ghost use Rattle.std.specs.List.{flat_map};
 ghost use Rattle.pw_value.specs.Fields.{u32, text, FitsU32, FitsText};
-ghost use Rattle.pw_value.specs.FieldNames.{name_index, IsNameTable};
+ghost use Rattle.pw_value.specs.FieldFrame.{file, FitsFile};
+ghost use Rattle.pw_value.specs.FieldNames.{name_index, IsNameTable, IsTableOf};
 ghost use Rattle.pw_files.specs.Rising.{counted, FitsList};
 ghost use Rattle.pw_files.specs.Names.{shaped, FitsShapes};
 
-use pw_value::fields::names::push_name;
+use pw_value::fields::frame::{FRAME_LEN, seal};
+use pw_value::fields::names::{push_name, table_of};
 use pw_value::fields::writing::{push_text, push_u32};
 use pw_value::{Name, Shape};
-use std::alloc::AllocError;
+use std::alloc::{AllocError, Global};
 
 /// The greatest count of items or bytes.
 const MOST: usize = u32::MAX as usize;
+
+/// The table of the names that are used, in whatever order and however often.
+pub fn make_table(alloc: Global, used: Vec<&Name>) -> Result<Vec<Name>, AllocError>
+    ensures fits { IfOk result (λ v. FitsU32 (length v.items)) }
+    ensures table { IfOk result (λ v. IsTableOf v.items (map (λ name. name.now) used.entry.items)) }
+{
+    let names = table_of(alloc, used)?;
+    if names.len() > MOST {
+        return Err(AllocError);
+    }
+    Ok(names)
+}
+
+/// The file of this kind and version that holds the payload.
+pub fn seal_payload(
+    alloc: Global,
+    kind: u32,
+    version: u32,
+    payload: &[u8],
+) -> Result<Vec<u8>, AllocError>
+    ensures room { OnOk result (FitsFile payload.now) }
+    ensures sealed { IfOk result (λ v. v.items ≡ file kind version payload.now) }
+{
+    if payload.len() > MOST - FRAME_LEN {
+        return Err(AllocError);
+    }
+    seal(alloc, kind, version, payload)
+}
 
 /// The count of a list's items.
 pub fn push_count(out: &mut Vec<u8>, count: usize) -> Result<(), AllocError>
