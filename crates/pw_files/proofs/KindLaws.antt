@@ -19,14 +19,14 @@ code_again (suc (suc (suc (suc zero)))) h = refl
 code_again (suc (suc (suc (suc (suc zero))))) h = refl
 code_again (suc (suc (suc (suc (suc (suc code)))))) h = absurd (omega arith)
 
-scalar_again : (code : ℕ) → 1 ≤ code → code ≤ 5 → scalar_code (scalar_of code) ≡ code
-scalar_again zero low high = absurd (omega arith)
-scalar_again (suc zero) low high = refl
-scalar_again (suc (suc zero)) low high = refl
-scalar_again (suc (suc (suc zero))) low high = refl
-scalar_again (suc (suc (suc (suc zero)))) low high = refl
-scalar_again (suc (suc (suc (suc (suc zero))))) low high = refl
-scalar_again (suc (suc (suc (suc (suc (suc code)))))) low high = absurd (omega arith)
+byte_again : (code : ℕ) → 1 ≤ code → code ≤ 5 → scalar_code (scalar_of code) ≡ code
+byte_again zero low high = absurd (omega arith)
+byte_again (suc zero) low high = refl
+byte_again (suc (suc zero)) low high = refl
+byte_again (suc (suc (suc zero))) low high = refl
+byte_again (suc (suc (suc (suc zero)))) low high = refl
+byte_again (suc (suc (suc (suc (suc zero))))) low high = refl
+byte_again (suc (suc (suc (suc (suc (suc code)))))) low high = absurd (omega arith)
 
 kind_back : (k : Option Kind) → (kind_of (kind_code k) ≡ k) × FitsU8 (kind_code k) × IsTrue (nat_lt (kind_code k) 6)
 kind_back None = (refl, lit< tt, refl)
@@ -43,6 +43,10 @@ scalar_back S16 = (refl, lit< tt, refl)
 scalar_back U16 = (refl, lit< tt, refl)
 scalar_back W32 = (refl, lit< tt, refl)
 
+-- a scalar's kind of its own byte
+pub scalar_again : (k : Kind) → scalar_of (scalar_code k) ≡ k
+scalar_again k = (scalar_back k).0
+
 pub kind_spells : Spells kind (λ k. Unit {0}) kind_at
 unfolding kind_at
 kind_spells = mapped_spells u8 (λ b. FitsU8 b × IsTrue (nat_lt b 6)) (λ k. Unit {0}) (choice_at 6) kind_of kind_code (choice_spells 6)
@@ -53,5 +57,5 @@ pub scalar_spells : Spells scalar (λ k. Unit {0}) scalar_at
 unfolding scalar_at
 scalar_spells = mapped_spells u8 (λ b. FitsU8 b × IsTrue (nat_le 1 b && nat_le b 5)) (λ k. Unit {0}) (checked (λ b. nat_le 1 b && nat_le b 5) u8_at) scalar_of scalar_code
     (checked_spells u8 FitsU8 u8_at (λ b. nat_le 1 b && nat_le b 5) u8_spells)
-    (λ b fits. (scalar_again b (leb-true _ _ (first_so (nat_le 1 b) (nat_le b 5) fits.1)) (leb-true _ _ (second_so (nat_le 1 b) (nat_le b 5) fits.1)), tt))
+    (λ b fits. (byte_again b (leb-true _ _ (first_so (nat_le 1 b) (nat_le b 5) fits.1)) (leb-true _ _ (second_so (nat_le 1 b) (nat_le b 5) fits.1)), tt))
     (λ k fits. let p = scalar_back k in (p.0, (p.1, p.2)))

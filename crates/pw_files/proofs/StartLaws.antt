@@ -27,12 +27,12 @@ times_by_stands name (other ∷ names) (suc k, lt, e) = rw (times_cons name othe
 
 -- ---- two tests with one answer
 
-same_forth : (a b : Bool) → same_truth a b ≡ true → a ≡ b
+pub same_forth : (a b : Bool) → same_truth a b ≡ true → a ≡ b
 same_forth true b e = sym e
 same_forth false true e = absurd cc
 same_forth false false e = refl
 
-same_back : (a b : Bool) → a ≡ b → same_truth a b ≡ true
+pub same_back : (a b : Bool) → a ≡ b → same_truth a b ≡ true
 same_back true b e = sym e
 same_back false b e = ap not (sym e)
 

@@ -50,7 +50,7 @@ pub fn read_scalar(bytes: &[u8]) -> Result<(Kind, &[u8]), FieldError>
 }
 
 /// The byte of a scalar's kind.
-fn code_of(kind: Kind) -> u8
+pub fn code_of(kind: Kind) -> u8
     ensures { result ≡ scalar_code kind }
 {
     match kind {

@@ -10,3 +10,6 @@ mod writing;
 pub use reading::{KIND, read};
 pub use summary::{Summary, Uses};
 pub use writing::write;
+
+#[cfg(test)]
+mod tests;
