@@ -1,0 +1,4 @@
+pub mod RisingLaws
+pub mod NameLists
+pub mod KindLaws
+pub mod StartLaws

@@ -1,0 +1,4 @@
+pub mod Rising
+pub mod Kinds
+pub mod Names
+pub mod Start

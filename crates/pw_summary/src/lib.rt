@@ -1,0 +1,15 @@
+//! The summary file of a module: what the program analyser needs to know of it.
+#![tactic(auto)]
+
+pub mod laws;
+mod names;
+mod reading;
+mod summary;
+mod writing;
+
+pub use reading::{KIND, read};
+pub use summary::{Summary, Uses};
+pub use writing::write;
+
+#[cfg(test)]
+mod tests;

@@ -1,0 +1,83 @@
+//! The names that a summary uses.
+
+ghost use Rattle.std.specs.Prelude.{◌≡◌, ◌++◌, ℕ, List, map, IfOk, OnOk};
+ghost use Rattle.std.specs.List.{flat_map};
+ghost use Rattle.pw_files.specs.Start.{keeps_start};
+ghost use Rattle.pw_summary.specs.Summary.{names_of, names_of_uses, function_names, global_names, uses_view, view};
+
+use crate::summary::{Summary, Uses};
+use pw_files::start::is_start_kept;
+use pw_files::used::{add_names, add_shaped};
+use pw_value::{Kind, Name, Shape};
+use std::alloc::{AllocError, Global};
+
+/// Adds the names of globals.
+fn add_globals<'a>(
+    used: &mut Vec<&'a Name>,
+    globals: &'a [(Name, Shape, Option<Kind>, bool)],
+) -> Result<(), AllocError>
+    ensures { OnOk result (map (λ name. name.now) used.new.items ≡ map (λ name. name.now) used.old.items ++ map (λ g. g.0) globals.now) }
+{
+    for global in globals {
+        used.push(&global.0)?;
+    }
+    Ok(())
+}
+
+/// Adds the names of globals with their weights.
+fn add_references<'a>(
+    used: &mut Vec<&'a Name>,
+    refs: &'a [(Name, u64, u64)],
+) -> Result<(), AllocError>
+    ensures { OnOk result (map (λ name. name.now) used.new.items ≡ map (λ name. name.now) used.old.items ++ map (λ r. r.0) refs.now) }
+{
+    for reference in refs {
+        used.push(&reference.0)?;
+    }
+    Ok(())
+}
+
+/// Adds the names that a function uses.
+fn add_uses<'a>(used: &mut Vec<&'a Name>, uses: &'a Uses) -> Result<(), AllocError>
+    ensures { OnOk result (map (λ name. name.now) used.new.items ≡ map (λ name. name.now) used.old.items ++ names_of_uses (uses_view uses.now)) }
+{
+    add_names(used, &uses.calls)?;
+    add_references(used, &uses.refs)
+}
+
+/// Adds the names that all functions use.
+fn add_all_uses<'a>(used: &mut Vec<&'a Name>, all: &'a [Uses]) -> Result<(), AllocError>
+    ensures { OnOk result (map (λ name. name.now) used.new.items ≡ map (λ name. name.now) used.old.items ++ flat_map names_of_uses (map uses_view all.now)) }
+{
+    for uses in all {
+        add_uses(used, uses)?;
+    }
+    Ok(())
+}
+
+/// The names that a summary uses, in the order of their use.
+pub(crate) fn used_names(alloc: Global, summary: &Summary) -> Result<Vec<&Name>, AllocError>
+    ensures { IfOk result (λ v. map (λ name. name.now) v.items ≡ names_of (view summary.now)) }
+{
+    let mut used = Vec::new(alloc);
+    used.push(&summary.module)?;
+    add_globals(&mut used, &summary.globals)?;
+    add_shaped(&mut used, &summary.functions)?;
+    add_shaped(&mut used, &summary.declared)?;
+    add_names(&mut used, &summary.used)?;
+    add_shaped(&mut used, &summary.taken)?;
+    add_names(&mut used, &summary.escaped)?;
+    add_all_uses(&mut used, &summary.uses)?;
+    Ok(used)
+}
+
+/// Whether the functions include `$start` exactly where they include `main`, and no global is `$start`.
+pub(crate) fn is_start_beside_main(alloc: Global, summary: &Summary) -> Result<bool, AllocError>
+    ensures { IfOk result (λ kept. kept ≡ keeps_start (function_names (view summary.now)) (global_names (view summary.now))) }
+{
+    let mut functions = Vec::new(alloc);
+    add_shaped(&mut functions, &summary.functions)?;
+    let mut globals = Vec::new(alloc);
+    add_globals(&mut globals, &summary.globals)?;
+    Ok(is_start_kept(&functions, &globals))
+}
