@@ -1,0 +1,4 @@
+pub mod Codes
+pub mod Small
+pub mod Bridge
+pub mod Returns

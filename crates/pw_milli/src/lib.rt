@@ -1,0 +1,11 @@
+//! The routines that every linked program has behind its own functions: the three functions of the
+//! library and the arithmetic that the machine has no instruction for, each as words of the machine.
+//!
+//! `specs/Words` has the words, `specs/Calls` says what a call of a routine does to the machine, and the
+//! laws in `laws` say which routine does what.
+#![tactic(auto)]
+
+mod routine;
+mod words;
+
+pub use routine::{Routine, library};
