@@ -1,8 +1,8 @@
 -- The machine does what the small machine does, where the words of the code stand in its memory.
-use Rattle.std.proofs.Common.{ℕ, zero, suc, ℤ, ◌+◌, ◌-◌, ◌*◌, ◌/◌, ◌%◌, ◌^◌, ◌<◌, ◌≤◌, ◌≡◌, ◌⊎◌, inl, inr, Bool, true, false, not, List, [], ◌∷◌, Option, Some, None, length, get_or, refl, sym, ap, subst, ◌∙◌, arith, add-one}
-use Rattle.std.specs.Prelude.{◌==◌, ◌&&◌, ◌||◌, nat_lt, nat_le, bit_and, bit_or, bit_xor, if◌then◌else◌, slice_index, slice_set}
+use Rattle.std.proofs.Common.{ℕ, zero, suc, ℤ, ◌+◌, ◌-◌, ◌*◌, ◌/◌, ◌%◌, ◌^◌, ◌<◌, ◌≤◌, ◌≡◌, ◌⊎◌, inl, inr, Bool, true, false, List, Option, Some, None, length, refl, sym, ap, subst, ◌∙◌, arith, add-one}
+use Rattle.std.specs.Prelude.{◌==◌, ◌&&◌, nat_lt, nat_le, bit_and, if◌then◌else◌, slice_index, slice_set}
 use Rattle.std.specs.Int.{cast_unsigned, w32}
-use Rattle.std.proofs.lemmas.Bool.{cases_eq, cases_Bool, and_parts, or_parts, or_cases, eqb-true, eqb-false, ltb-true, leb-true, le-leb, lt-ltb, ne_eqb, eq-eqb}
+use Rattle.std.proofs.lemmas.Bool.{cases_eq, and_parts, ltb-true, leb-true, le-leb, lt-ltb, ne_eqb, eq-eqb}
 use Rattle.std.proofs.lemmas.Bool.Decides.{nat_tests}
 use Rattle.std.proofs.lemmas.List.{get_or-set_same, get_or-set_other}
 use Rattle.std.proofs.lemmas.Nat.{and_le_l, or_of_32, xor_of_32, mod_below, pow_pos, shl_below}
@@ -12,10 +12,10 @@ use Rattle.pw_inst.specs.declared.Inst.{Inst}
 use Rattle.pw_inst.specs.declared.Inst.TheVariants.{Ldb, Ldh, Ldw, Ldo, Stb, Sth, Stw, Ldil, And, Or, Xor, Sub, Addl, Vshd, Mtctl, Comclr, Subi, Extru, Extrs, Zdep, Combt, Combf, Bl, Bv, Ble, Break}
 use Rattle.pw_inst.specs.InstructionTable.{decoded}
 use Rattle.pw_machine.specs.Core.{Core, register, with_register, next, moved, advanced, word_at}
-use Rattle.pw_machine.specs.Effect.{Effect, Goes, puts, difference, condition, extracted, sign_extended, deposited, executed, effect_of, effect_of_inst, is_in_text, target, branches_if}
-use Rattle.pw_machine.specs.Run.{State, Running, goes_on, taken, began, run_of}
-use Rattle.pw_milli.specs.Calls.{StandsAt, is_scratch}
-use Rattle.pw_milli.proofs.Small.{Small, read, set, at, when, writes, hop, jumps, skips, is_field, does, inst_at, does_some, passed, small_step, then_run, small_run}
+use Rattle.pw_machine.specs.Effect.{Effect, Goes, puts, difference, extracted, sign_extended, deposited, executed, effect_of, is_in_text, branches_if}
+use Rattle.pw_machine.specs.Run.{State, Running, goes_on, taken, run_of}
+use Rattle.pw_milli.specs.Calls.{is_scratch}
+use Rattle.pw_milli.proofs.Small.{Small, read, set, when, writes, hop, jumps, skips, is_field, does, inst_at, does_some, passed, small_step, then_run, small_run}
 
 -- ---- registers
 

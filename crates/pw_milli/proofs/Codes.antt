@@ -1,7 +1,7 @@
 -- The routines as instructions: what their words are decoded to.
-use Rattle.std.specs.Prelude.{ℕ, ℤ, pos, negsuc, true, false, List, [], ◌∷◌, ◌++◌}
+use Rattle.std.specs.Prelude.{pos, negsuc, true, List, [], ◌∷◌}
 use Rattle.pw_inst.specs.declared.Inst.{Inst}
-use Rattle.pw_inst.specs.declared.Inst.TheVariants.{And, Or, Xor, Sub, Addl, Ldo, Comclr, Extru, Extrs, Zdep, Combt, Combf, Bv, Break}
+use Rattle.pw_inst.specs.declared.Inst.TheVariants.{And, Or, Xor, Sub, Addl, Ldo, Comclr, Extru, Extrs, Zdep, Combt, Combf, Bv}
 
 -- the unsigned division of register 26 by register 25: the quotient into register 29, the remainder into register 26
 abbrev pub dividing : List Inst
@@ -65,4 +65,49 @@ multiplying =
     Addl 29 1 29 ∷
     Extru 26 27 28 26 ∷
     Combf 1 26 0 (negsuc 17) ∷
-    Addl 22 22 25 ∷ []
+    Addl 22 22 25 ∷
+    Bv 31 true ∷ []
+
+-- the return
+abbrev pub back : List Inst
+back =
+    Bv 31 true ∷ []
+
+-- the return with the remainder
+abbrev pub remainder_back : List Inst
+remainder_back =
+    Or 26 0 29 ∷
+    Bv 31 true ∷ []
+
+-- what has the sign of the signed quotient
+abbrev pub sign_of_quotient : List Inst
+sign_of_quotient =
+    Xor 26 25 28 ∷ []
+
+-- what has the sign of the signed remainder
+abbrev pub sign_of_remainder : List Inst
+sign_of_remainder =
+    Or 26 0 28 ∷ []
+
+-- the absolute values of registers 26 and 25
+abbrev pub absolutes : List Inst
+absolutes =
+    Comclr 2 true 26 0 0 ∷
+    Sub 0 26 26 ∷
+    Comclr 2 true 25 0 0 ∷
+    Sub 0 25 25 ∷ []
+
+-- the return with the quotient, below 0 where register 28 is
+abbrev pub signed_back : List Inst
+signed_back =
+    Comclr 2 true 28 0 0 ∷
+    Sub 0 29 29 ∷
+    Bv 31 true ∷ []
+
+-- the return with the remainder, below 0 where register 28 is
+abbrev pub signed_remainder_back : List Inst
+signed_remainder_back =
+    Or 26 0 29 ∷
+    Comclr 2 true 28 0 0 ∷
+    Sub 0 26 29 ∷
+    Bv 31 true ∷ []

@@ -1,17 +1,17 @@
 -- The beginning and the end of a call: from the words that stand somewhere to the code, and the return.
-use Rattle.std.proofs.Common.{ℕ, zero, suc, ◌+◌, ◌-◌, ◌*◌, ◌/◌, ◌%◌, ◌^◌, ◌<◌, ◌≤◌, ◌≡◌, Bool, true, false, List, [], ◌∷◌, Option, Some, None, length, drop, get_or, refl, sym, ap, subst, ◌∙◌, arith, add-one, length-drop}
+use Rattle.std.proofs.Common.{ℕ, zero, suc, ◌+◌, ◌*◌, ◌^◌, ◌<◌, ◌≤◌, ◌≡◌, Bool, true, false, List, [], ◌∷◌, Option, Some, length, drop, refl, sym, ap, subst, ◌∙◌, arith, length-drop}
 use Rattle.std.specs.Prelude.{◌==◌, if◌then◌else◌, slice_index}
 use Rattle.std.proofs.lemmas.List.{get_or-drop}
 use Rattle.pw_inst.specs.declared.Inst.{Inst}
 use Rattle.pw_inst.specs.declared.Inst.TheVariants.{Bv}
 use Rattle.pw_inst.specs.InstructionTable.{decoded}
 use Rattle.pw_machine.specs.declared.ends.End.{End}
-use Rattle.pw_machine.specs.Core.{Core, register, next, moved, advanced, word_at}
-use Rattle.pw_machine.specs.Effect.{Effect, Goes, executed, effect_of, is_in_text}
-use Rattle.pw_machine.specs.Run.{State, Running, goes_on, taken, began, run_of}
-use Rattle.pw_milli.specs.Calls.{StandsAt, AreRegisters, Enters, returned, is_scratch, Computes}
-use Rattle.pw_milli.proofs.Small.{Small, at, inst_at}
-use Rattle.pw_milli.proofs.Bridge.{Holds, shown, Stands, Reaches, in_text, effect_runs, effect_passes, one_more}
+use Rattle.pw_machine.specs.Core.{Core, register, moved, advanced, word_at}
+use Rattle.pw_machine.specs.Effect.{Goes, effect_of}
+use Rattle.pw_machine.specs.Run.{State, Running, began, run_of}
+use Rattle.pw_milli.specs.Calls.{StandsAt, Enters, returned, is_scratch, Computes}
+use Rattle.pw_milli.proofs.Small.{Small, at, inst_at, Arrives}
+use Rattle.pw_milli.proofs.Bridge.{shown, Stands, Reaches, in_text, effect_runs, effect_passes, one_more, reaches}
 
 -- ---- code that stands
 
@@ -102,3 +102,39 @@ returns s a m k link code f st r le e sc =
     let count : m + 1 + 1 ≡ m + 2 = omega arith in
     subst (λ (n : ℕ). run_of n s ≡ Running (returned s link r.registers)) count
     (one_more s (m + 1) (moved core to true) (advanced (moved core to true)) (one_more s m core (moved core to true) r.runs one) two)
+
+-- ---- whole calls
+
+-- code that stands at the beginning of words that stand
+pub front_stands : (words : List ℕ) (code : List Inst) (a : ℕ) (core : Core) → StandsAt words a core → Decodes words code → length code ≤ length words → Stands code a core
+front_stands words code a core st d fits =
+    let place : a + 4 * 0 ≡ a = omega arith in
+    subst (λ (n : ℕ). Stands code n core) place (part_stands words code a 0 core st d (omega arith))
+
+-- the machine comes where the small machine arrives
+pub comes : (s : State) (a m bound place : ℕ) (code : List Inst) (w : Small) (Q : (ℕ → ℕ) → Type 0) → Stands code a s.core → Reaches s a m w → (h : Arrives code bound w place Q) → Reaches s a (m + h.steps) (at place h.last)
+comes s a m bound place code w Q st r h = reaches h.steps s a code st m w (at place h.last) r h.runs
+
+-- a return after the result is there
+pub computes : (s : State) (a m k bound : ℕ) (code : List Inst) (f : ℕ → ℕ) (IsResult : ℕ → Type 0) → Stands code a s.core → Reaches s a m (at k f) → k + 1 ≤ length code → inst_at code k ≡ Some (Bv 31 true) → m + 2 ≤ bound → IsResult (f 29) → Computes s bound IsResult
+computes s a m k bound code f IsResult st r le e soon result = record {
+  steps = m + 2;
+  soon = soon;
+  registers = r.registers;
+  runs = returns s a m k 31 code f st r le e refl;
+  result = subst IsResult (sym (r.holds.reads 29)) result;
+  kept = r.holds.kept;
+  words = record { count = r.holds.count; words = λ n. subst (λ (v : ℕ). v < 2 ^ 32) (sym (r.holds.reads n)) (r.holds.in_range n) };
+}
+
+-- the next part of the code
+pub on : (s : State) (a p n q m : ℕ) (f : ℕ → ℕ) → p + n ≡ q → Reaches s (a + 4 * p) m (at n f) → Reaches s (a + 4 * q) m (at 0 f)
+on s a p n q m f e r =
+    let place : a + 4 * p + 4 * n ≡ a + 4 * q = omega arith in
+    subst (λ (k : ℕ). Reaches s k m (at 0 f)) place (moves s (a + 4 * p) n m f r)
+
+-- the first part
+pub enters_part : (words : List ℕ) (a : ℕ) (s : State) → Enters words a s → Reaches s (a + 4 * 0) 0 (at 0 (slice_index s.core.registers))
+enters_part words a s h =
+    let place : a ≡ a + 4 * 0 = omega arith in
+    subst (λ (k : ℕ). Reaches s k 0 (at 0 (slice_index s.core.registers))) place (enters words a s h)

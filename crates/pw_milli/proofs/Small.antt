@@ -1,6 +1,6 @@
 -- A small machine of registers alone, for code that stands somewhere: its places count words from the
 -- beginning of the code. Its runs compute.
-use Rattle.std.proofs.Common.{ℕ, zero, suc, ℤ, ◌+◌, ◌*◌, ◌/◌, ◌%◌, ◌^◌, ◌<◌, ◌≤◌, ◌≡◌, Bool, true, false, not, List, [], ◌∷◌, Option, Some, None, length, refl, sym, ap, subst, ◌∙◌, arith, zero-add}
+use Rattle.std.proofs.Common.{ℕ, zero, suc, ℤ, ◌+◌, ◌*◌, ◌%◌, ◌^◌, ◌≤◌, ◌≡◌, Bool, true, false, not, List, [], ◌∷◌, Option, Some, None, length, refl, ap, ◌∙◌, arith, zero-add}
 use Rattle.std.proofs.Math.Nat.{suc-add}
 use Rattle.std.specs.Prelude.{◌==◌, ◌&&◌, nat_lt, nat_le, bit_and, bit_or, bit_xor, if◌then◌else◌}
 use Rattle.std.specs.Int.{cast_unsigned, w32}
@@ -118,3 +118,54 @@ run_on code zero n w mid e =
     let same : w ≡ mid = cc in
     rw zero-add (ap (small_run code n) same)
 run_on code (suc m) n w mid e = rw suc-add (run_on_step code m n (run_on code m n) (small_step code w) mid e)
+
+-- ---- arriving somewhere
+
+-- Within so many steps the small machine comes to a place, with registers of which something holds.
+pub record Arrives (code : List Inst) (bound : ℕ) (w : Small) (place : ℕ) (Q : (ℕ → ℕ) → Type 0) : Type 0 where
+  pub steps : ℕ
+  pub soon : steps ≤ bound
+  pub last : ℕ → ℕ
+  pub runs : small_run code steps w ≡ Some (at place last)
+  pub holds : Q last
+
+-- it does so after some first steps
+pub after : (code : List Inst) (m bound : ℕ) (w mid : Small) (place : ℕ) (Q : (ℕ → ℕ) → Type 0) → small_run code m w ≡ Some mid → Arrives code bound mid place Q → Arrives code (m + bound) w place Q
+after code m bound w mid place Q e h =
+    let soon : h.steps ≤ bound = h.soon in
+    record {
+      steps = m + h.steps;
+      soon = omega arith;
+      last = h.last;
+      runs = run_on code m h.steps w mid e ∙ h.runs;
+      holds = h.holds;
+    }
+
+-- it is there
+pub there : (code : List Inst) (bound : ℕ) (f : ℕ → ℕ) (place : ℕ) (Q : (ℕ → ℕ) → Type 0) → Q f → Arrives code bound (at place f) place Q
+there code bound f place Q h = record { steps = 0; soon = omega arith; last = f; runs = refl; holds = h }
+
+-- what holds there may be said otherwise, and later
+pub weaker : (code : List Inst) (bound bound' : ℕ) (w : Small) (place : ℕ) (Q R : (ℕ → ℕ) → Type 0) → bound ≤ bound' → ((f : ℕ → ℕ) → Q f → R f) → Arrives code bound w place Q → Arrives code bound' w place R
+weaker code bound bound' w place Q R le f h =
+    let soon : h.steps ≤ bound = h.soon in
+    record { steps = h.steps; soon = omega arith; last = h.last; runs = h.runs; holds = f h.last h.holds }
+
+-- d times 16, k times
+abbrev pub scaled : ℕ → ℕ → ℕ
+scaled zero d = d
+scaled (suc k) d = 16 * scaled k d
+
+-- one stretch after another
+pub and_on : (code : List Inst) (bound bound' : ℕ) (w : Small) (place place' : ℕ) (Q R : (ℕ → ℕ) → Type 0) → Arrives code bound w place Q → ((f : ℕ → ℕ) → Q f → Arrives code bound' (at place f) place' R) → Arrives code (bound + bound') w place' R
+and_on code bound bound' w place place' Q R h k =
+    let next = k h.last h.holds in
+    let soon : h.steps ≤ bound = h.soon in
+    let soon' : next.steps ≤ bound' = next.soon in
+    record {
+      steps = h.steps + next.steps;
+      soon = omega arith;
+      last = next.last;
+      runs = run_on code h.steps next.steps w (at place h.last) h.runs ∙ next.runs;
+      holds = next.holds;
+    }

@@ -1,5 +1,5 @@
 -- Calls of the routines: the state of the machine in which one is entered, and what it leaves.
-use Rattle.std.specs.Prelude.{ℕ, ℤ, ◌≡◌, ◌≢◌, ◌+◌, ◌*◌, ◌/◌, ◌%◌, ◌^◌, ◌<◌, ◌≤◌, Bool, true, false, ◌==◌, ◌||◌, List, length, None, slice_index, slice_set, int_div, int_rem}
+use Rattle.std.specs.Prelude.{ℕ, ℤ, ◌≡◌, ◌≢◌, ◌+◌, ◌*◌, ◌/◌, ◌%◌, ◌^◌, ◌<◌, ◌≤◌, Bool, false, ◌==◌, ◌||◌, List, length, None, slice_index, slice_set, int_div, int_rem}
 use Rattle.std.specs.Int.{cast_signed, cast_unsigned, w32}
 use Rattle.pw_machine.specs.Core.{Core, register, word_at}
 use Rattle.pw_machine.specs.Run.{State, Running, run_of}

@@ -5,7 +5,9 @@
 //! laws in `laws` say which routine does what.
 #![tactic(auto)]
 
+mod laws;
 mod routine;
 mod words;
 
+pub use laws::{divs_divides, divu_divides, mul_multiplies, rems_divides, remu_divides};
 pub use routine::{Routine, library};
