@@ -9,3 +9,4 @@ pub mod Dividing
 pub mod Signs
 pub mod SignedParts
 pub mod Quotients
+pub mod LibraryCalls

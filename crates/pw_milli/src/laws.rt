@@ -37,3 +37,26 @@ pub fn divs_divides()
 pub fn rems_divides()
     ensures { (address : ℕ) (s : State) → Enters rems_words address s → Computes s 512 (IsSignedRemainder s) }
 {}
+
+/// `exit` ends the run with the low 8 bits of register 26 as its status.
+#[tactic(auto, using(crate::proofs::LibraryCalls::exit_runs))]
+pub fn exit_ends()
+    ensures { (address : ℕ) (s : State) → Enters exit_words address s →
+        run_of 1 s ≡ Stopped (Ended (given s)) (record s { core = record s.core { stopped = Some (Ended (given s)) } }) }
+{}
+
+/// `getchar` puts the next byte of the input into register 28, or -1 at its end, and returns to register 2.
+#[tactic(auto, using(crate::proofs::LibraryCalls::getchar_runs, crate::proofs::LibraryCalls::getchar_ends))]
+pub fn getchar_reads()
+    ensures byte { (address byte : ℕ) (rest : List ℕ) (s : State) → Enters getchar_words address s →
+        s.rest ≡ byte ∷ rest → run_of 3 s ≡ Running (record (answers s byte) { rest = rest }) }
+    ensures end { (address : ℕ) (s : State) → Enters getchar_words address s →
+        s.rest ≡ [] → run_of 3 s ≡ Running (answers s (2 ^ 32 - 1)) }
+{}
+
+/// `putchar` writes the low 8 bits of register 26, puts them into register 28 and returns to register 2.
+#[tactic(auto, using(crate::proofs::LibraryCalls::putchar_runs))]
+pub fn putchar_writes()
+    ensures { (address : ℕ) (s : State) → Enters putchar_words address s →
+        run_of 3 s ≡ Running (record (answers s (given s)) { output = s.output ++ given s ∷ [] }) }
+{}

@@ -9,5 +9,8 @@ mod laws;
 mod routine;
 mod words;
 
-pub use laws::{divs_divides, divu_divides, mul_multiplies, rems_divides, remu_divides};
+pub use laws::{
+    divs_divides, divu_divides, exit_ends, getchar_reads, mul_multiplies, putchar_writes,
+    rems_divides, remu_divides,
+};
 pub use routine::{Routine, library};
