@@ -14,3 +14,8 @@ pub use laws::{
     rems_divides, remu_divides,
 };
 pub use routine::{Routine, library};
+
+#[cfg(test)]
+mod pairs;
+#[cfg(test)]
+mod tests;
