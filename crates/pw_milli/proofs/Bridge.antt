@@ -15,7 +15,7 @@ use Rattle.pw_machine.specs.Core.{Core, register, with_register, next, moved, ad
 use Rattle.pw_machine.specs.Effect.{Effect, Goes, puts, difference, extracted, sign_extended, deposited, executed, effect_of, is_in_text, branches_if}
 use Rattle.pw_machine.specs.Run.{State, Running, goes_on, taken, run_of}
 use Rattle.pw_milli.specs.Calls.{is_scratch}
-use Rattle.pw_milli.proofs.Small.{Small, read, set, when, writes, hop, jumps, skips, is_field, does, inst_at, does_some, passed, small_step, then_run, small_run}
+use Rattle.pw_milli.proofs.Small.{Small, at, read, set, when, writes, hop, jumps, skips, is_field, does, inst_at, does_some, passed, small_step, then_run, small_run}
 
 -- ---- registers
 
@@ -312,3 +312,42 @@ reaches zero s a code st m w w' r e =
     let same : w ≡ w' = cc in
     rw add-zero (subst (λ (x : Small). Reaches s a m x) same r)
 reaches (suc n) s a code st m w w' r e = reaches_more s a m n code w w' (reaches n s a code st) st r (small_step code w) refl e
+
+-- ---- branches through registers
+
+-- the address behind a branch, which it puts into a register
+links-step : (base : Core) (a size : ℕ) (w : Small) (registers : List ℕ) (t : ℕ) (disp : ℤ) → a + 4 * size < 4096 + 4 * 65536 → w.back ≤ size → hop w.front disp ≤ size → is_scratch t ≡ true → Holds base.registers w.registers registers → Steps base a (record { registers = set w.registers t (a + 4 * (w.back + 1)); front = w.back; back = hop w.front disp; nullify = false }) (executed (shown base a w registers) (Bl disp t false))
+links-step base a size w registers t disp lt le to s h =
+    let small = scratch_small t s in
+    let zero_not : (t == 0) ≡ false = ne_eqb t 0 (λ z. omega (arith, small.1)) in
+    let next_is : (a + 4 * w.back + 4) % 2 ^ 32 ≡ a + 4 * (w.back + 1) = after_back a w.back size lt le in
+    let target_is : (a + 4 * w.front + 8 + 4 * cast_unsigned w32 disp) % 2 ^ 32 ≡ a + 4 * hop w.front disp = omega arith in
+    record {
+      registers = slice_set registers t (a + 4 * (w.back + 1));
+      goes = rw (zero_not, next_is, target_is) refl;
+      holds = Holds-set base.registers w.registers registers t (a + 4 * (w.back + 1)) h s (omega arith);
+    }
+
+pub links : (s : State) (a m k : ℕ) (f : ℕ → ℕ) (code : List Inst) (t : ℕ) (disp : ℤ) → Stands code a s.core → Reaches s a m (at k f) → k + 1 ≤ length code → hop k disp ≤ length code → is_scratch t ≡ true → inst_at code k ≡ Some (Bl disp t false) → Reaches s a (m + 1) (record { registers = set f t (a + 4 * (k + 1 + 1)); front = k + 1; back = hop k disp; nullify = false })
+links s a m k f code t disp st r le to sc e =
+    let low : a + 4 * length code < 4096 + 4 * 65536 = omega (arith, st.within, st.text) in
+    let one = links-step s.core a (length code) (at k f) r.registers t disp low le to sc r.holds in
+    let next : Small = record { registers = set f t (a + 4 * (k + 1 + 1)); front = k + 1; back = hop k disp; nullify = false } in
+    record {
+      registers = one.registers;
+      runs = one_more s m (shown s.core a (at k f) r.registers) (shown s.core a next one.registers) r.runs
+          (effect_runs (shown s.core a (at k f) r.registers) (Bl disp t false) (in_text s.core code a k st (omega arith)) refl (st.each k (Bl disp t false) e) ∙ one.goes);
+      holds = one.holds;
+    }
+
+-- a branch to a place whose address is in a register
+pub computed : (s : State) (a m k b to : ℕ) (f : ℕ → ℕ) (code : List Inst) → Stands code a s.core → Reaches s a m (at k f) → k + 1 ≤ length code → inst_at code k ≡ Some (Bv b false) → read f b ≡ a + 4 * to → Reaches s a (m + 1) (record { registers = f; front = k + 1; back = to; nullify = false })
+computed s a m k b to f code st r le e is =
+    let core = shown s.core a (at k f) r.registers in
+    let there : register core b ≡ a + 4 * to = read-shown s.core a (at k f) r.registers r.holds b ∙ is in
+    record {
+      registers = r.registers;
+      runs = one_more s m core (shown s.core a (record { registers = f; front = k + 1; back = to; nullify = false }) r.registers) r.runs
+          (effect_runs core (Bv b false) (in_text s.core code a k st (omega arith)) refl (st.each k (Bv b false) e) ∙ ap (λ (n : ℕ). Goes (moved core n false)) there);
+      holds = r.holds;
+    }

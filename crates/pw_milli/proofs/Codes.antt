@@ -1,7 +1,7 @@
 -- The routines as instructions: what their words are decoded to.
-use Rattle.std.specs.Prelude.{pos, negsuc, true, List, [], ◌∷◌}
+use Rattle.std.specs.Prelude.{pos, negsuc, true, false, List, [], ◌∷◌}
 use Rattle.pw_inst.specs.declared.Inst.{Inst}
-use Rattle.pw_inst.specs.declared.Inst.TheVariants.{And, Or, Xor, Sub, Addl, Ldo, Comclr, Extru, Extrs, Zdep, Combt, Combf, Bv}
+use Rattle.pw_inst.specs.declared.Inst.TheVariants.{Or, Xor, Sub, Addl, Ldo, Comclr, Extru, Zdep, Combt, Combf, Bl, Bv}
 
 -- the unsigned division of register 26 by register 25: the quotient into register 29, the remainder into register 26
 abbrev pub dividing : List Inst
@@ -43,30 +43,144 @@ dividing =
 -- the product of registers 26 and 25 into register 29
 abbrev pub multiplying : List Inst
 multiplying =
-    Combt 5 26 25 (pos 3) ∷
-    Or 0 0 29 ∷
+    Combt 5 26 25 (pos 2) ∷
     Or 26 0 1 ∷
     Or 25 0 26 ∷
     Or 1 0 25 ∷
-    Extrs 26 31 1 1 ∷
-    And 1 25 1 ∷
+    Bl (pos 128) 22 false ∷
+    Or 0 0 29 ∷
+    Combf 1 26 0 (pos 126) ∷
+    Zdep 25 27 28 25 ∷
+    Bv 31 true ∷
+    Or 0 0 0 ∷
+    Or 0 0 0 ∷
+    Or 0 0 0 ∷
+    Or 0 0 0 ∷
+    Or 0 0 0 ∷
+    Addl 29 25 29 ∷
+    Combf 1 26 0 (pos 117) ∷
+    Zdep 25 27 28 25 ∷
+    Bv 31 true ∷
+    Or 0 0 0 ∷
+    Or 0 0 0 ∷
+    Or 0 0 0 ∷
+    Or 0 0 0 ∷
+    Addl 25 25 1 ∷
     Addl 29 1 29 ∷
-    Addl 25 25 22 ∷
-    Extrs 26 30 1 1 ∷
-    And 1 22 1 ∷
+    Combf 1 26 0 (pos 108) ∷
+    Zdep 25 27 28 25 ∷
+    Bv 31 true ∷
+    Or 0 0 0 ∷
+    Or 0 0 0 ∷
+    Or 0 0 0 ∷
+    Addl 25 25 1 ∷
+    Addl 29 25 29 ∷
     Addl 29 1 29 ∷
-    Addl 22 22 22 ∷
-    Extrs 26 29 1 1 ∷
-    And 1 22 1 ∷
+    Combf 1 26 0 (pos 99) ∷
+    Zdep 25 27 28 25 ∷
+    Bv 31 true ∷
+    Or 0 0 0 ∷
+    Or 0 0 0 ∷
+    Zdep 25 29 30 1 ∷
     Addl 29 1 29 ∷
-    Addl 22 22 22 ∷
-    Extrs 26 28 1 1 ∷
-    And 1 22 1 ∷
+    Combf 1 26 0 (pos 92) ∷
+    Zdep 25 27 28 25 ∷
+    Bv 31 true ∷
+    Or 0 0 0 ∷
+    Or 0 0 0 ∷
+    Or 0 0 0 ∷
+    Zdep 25 29 30 1 ∷
+    Addl 29 25 29 ∷
     Addl 29 1 29 ∷
-    Extru 26 27 28 26 ∷
-    Combf 1 26 0 (negsuc 17) ∷
-    Addl 22 22 25 ∷
-    Bv 31 true ∷ []
+    Combf 1 26 0 (pos 83) ∷
+    Zdep 25 27 28 25 ∷
+    Bv 31 true ∷
+    Or 0 0 0 ∷
+    Or 0 0 0 ∷
+    Addl 25 25 1 ∷
+    Addl 29 1 29 ∷
+    Addl 1 1 1 ∷
+    Addl 29 1 29 ∷
+    Combf 1 26 0 (pos 74) ∷
+    Zdep 25 27 28 25 ∷
+    Bv 31 true ∷
+    Or 0 0 0 ∷
+    Zdep 25 28 29 1 ∷
+    Sub 29 25 29 ∷
+    Addl 29 1 29 ∷
+    Combf 1 26 0 (pos 67) ∷
+    Zdep 25 27 28 25 ∷
+    Bv 31 true ∷
+    Or 0 0 0 ∷
+    Or 0 0 0 ∷
+    Zdep 25 28 29 1 ∷
+    Addl 29 1 29 ∷
+    Combf 1 26 0 (pos 60) ∷
+    Zdep 25 27 28 25 ∷
+    Bv 31 true ∷
+    Or 0 0 0 ∷
+    Or 0 0 0 ∷
+    Or 0 0 0 ∷
+    Zdep 25 28 29 1 ∷
+    Addl 29 25 29 ∷
+    Addl 29 1 29 ∷
+    Combf 1 26 0 (pos 51) ∷
+    Zdep 25 27 28 25 ∷
+    Bv 31 true ∷
+    Or 0 0 0 ∷
+    Or 0 0 0 ∷
+    Addl 25 25 1 ∷
+    Addl 29 1 29 ∷
+    Zdep 1 29 30 1 ∷
+    Addl 29 1 29 ∷
+    Combf 1 26 0 (pos 42) ∷
+    Zdep 25 27 28 25 ∷
+    Bv 31 true ∷
+    Or 0 0 0 ∷
+    Addl 25 25 1 ∷
+    Addl 29 25 29 ∷
+    Addl 29 1 29 ∷
+    Zdep 1 29 30 1 ∷
+    Addl 29 1 29 ∷
+    Combf 1 26 0 (pos 33) ∷
+    Zdep 25 27 28 25 ∷
+    Bv 31 true ∷
+    Zdep 25 29 30 1 ∷
+    Addl 29 1 29 ∷
+    Addl 1 1 1 ∷
+    Addl 29 1 29 ∷
+    Combf 1 26 0 (pos 26) ∷
+    Zdep 25 27 28 25 ∷
+    Bv 31 true ∷
+    Or 0 0 0 ∷
+    Zdep 25 29 30 1 ∷
+    Addl 29 25 29 ∷
+    Addl 29 1 29 ∷
+    Addl 1 1 1 ∷
+    Addl 29 1 29 ∷
+    Combf 1 26 0 (pos 17) ∷
+    Zdep 25 27 28 25 ∷
+    Bv 31 true ∷
+    Addl 25 25 1 ∷
+    Sub 29 1 29 ∷
+    Zdep 1 28 29 1 ∷
+    Addl 29 1 29 ∷
+    Combf 1 26 0 (pos 10) ∷
+    Zdep 25 27 28 25 ∷
+    Bv 31 true ∷
+    Or 0 0 0 ∷
+    Zdep 25 27 28 1 ∷
+    Sub 29 25 29 ∷
+    Addl 29 1 29 ∷
+    Combf 1 26 0 (pos 3) ∷
+    Zdep 25 27 28 25 ∷
+    Bv 31 true ∷
+    Or 0 0 0 ∷
+    Or 0 0 0 ∷
+    Zdep 26 26 4 1 ∷
+    Addl 1 22 1 ∷
+    Bv 1 false ∷
+    Extru 26 27 28 26 ∷ []
 
 -- the return
 abbrev pub back : List Inst

@@ -1,165 +1,149 @@
--- The loop of `$mul`: four bits of the multiplier a turn, as long as there are any.
-use Rattle.std.proofs.Common.{ℕ, zero, suc, ◌+◌, ◌-◌, ◌*◌, ◌/◌, ◌%◌, ◌^◌, ◌<◌, ◌≡◌, ◌⊎◌, inl, inr, Bool, true, false, not, Some, refl, sym, ap, ◌∙◌, arith}
-use Rattle.std.specs.Prelude.{◌==◌, bit_and, if◌then◌else◌}
+-- The loop of `$mul`: one digit of the multiplier a turn, of four bits, as long as there are any.
+use Rattle.std.proofs.Common.{ℕ, zero, suc, ◌+◌, ◌*◌, ◌/◌, ◌%◌, ◌^◌, ◌<◌, ◌≤◌, ◌≡◌, inl, inr, Bool, true, false, Some, refl, sym, ap, subst, ◌∙◌, arith}
+use Rattle.std.specs.Prelude.{◌==◌, if◌then◌else◌}
 use Rattle.std.proofs.lemmas.Bool.{cases_eq, eq-eqb, ne_eqb}
-use Rattle.std.proofs.lemmas.Nat.{and_comm, and_mask, mul-mod_second}
-use Rattle.std.proofs.Math.Nat.{add-mul, mul-add, zero-mul}
-use Rattle.pw_machine.specs.Effect.{extracted, sign_extended}
-use Rattle.pw_milli.proofs.Small.{set, at, small_run, Arrives, after, there, weaker, scaled, run_on}
+use Rattle.std.proofs.lemmas.Nat.{mul-mod_second}
+use Rattle.std.proofs.Math.Nat.{add-mul, mul_assoc, zero-mul}
+use Rattle.pw_inst.specs.declared.Inst.TheVariants.{Bv}
+use Rattle.pw_machine.specs.Run.{State}
+use Rattle.pw_machine.specs.Effect.{extracted, deposited}
+use Rattle.pw_milli.proofs.Small.{at, small_run, inst_at, scaled}
 use Rattle.pw_milli.proofs.Codes.{multiplying}
+use Rattle.pw_milli.proofs.Digits.{turns}
+use Rattle.pw_milli.proofs.Bridge.{Stands, Reaches, reaches, computed}
 
--- ---- one bit
+-- the multiplicand is taken as often as the digit says, and the other digits take 16 times the multiplicand
+digit_step : (acc n y : ℕ) → y < 2 ^ 32 → ((acc + n % 16 * y) % 2 ^ 32 + n / 16 * deposited y 27 28) % 2 ^ 32 ≡ (acc + n * y) % 2 ^ 32
+digit_step acc n y lt =
+    let h = n / 16 in
+    let d = n % 16 in
+    let up : deposited y 27 28 ≡ (16 * y) % 2 ^ 32 = omega arith in
+    let wraps : (h * deposited y 27 28) % 2 ^ 32 ≡ (h * (16 * y)) % 2 ^ 32 = ap (λ (k : ℕ). (h * k) % 2 ^ 32) up ∙ mul-mod_second h (16 * y) (2 ^ 32) in
+    let moved : h * (16 * y) ≡ h * 16 * y = sym (mul_assoc h 16 y) in
+    let parts : n ≡ h * 16 + d = omega arith in
+    let product : n * y ≡ h * 16 * y + d * y = ap (λ (k : ℕ). k * y) parts ∙ add-mul (h * 16) d y in
+    omega (arith, wraps, moved, product)
 
--- a bit, extended to a mask, takes a word or nothing
-masked_bit : (b v : ℕ) → (b ≡ 0) ⊎ (b ≡ 1) → v < 2 ^ 32 → bit_and (sign_extended 1 b) v ≡ b * v
-masked_bit b v (inl e) lt = let none : 0 ≡ 0 * v = omega arith in rw e none
-masked_bit b v (inr e) lt =
-    let whole : bit_and v (2 ^ 32 - 1) ≡ v % 2 ^ 32 = and_mask v 32 in
-    let same : v % 2 ^ 32 ≡ v = omega arith in
-    let once : 1 * v ≡ v = omega arith in
-    rw e (and_comm (2 ^ 32 - 1) v ∙ whole ∙ same ∙ sym once)
+-- the instructions before the branch to the digit's entry
+looks : (f : ℕ → ℕ) → (g : ℕ → ℕ) × (small_run multiplying 2 (at 134 f) ≡ Some (at 136 g)) × (g 26 ≡ f 26) × (g 25 ≡ f 25) × (g 22 ≡ f 22) × (g 29 ≡ f 29) × (g 1 ≡ (deposited (f 26) 26 4 + f 22) % 2 ^ 32)
+looks f = (_, refl, refl, refl, refl, refl, refl)
 
-is_bit : (n : ℕ) → (n % 2 ≡ 0) ⊎ (n % 2 ≡ 1)
-is_bit n = elim (cases_eq (n % 2) 0) as (λ c. (n % 2 ≡ 0) ⊎ (n % 2 ≡ 1)) [ inl e ↦ inl e | inr ne ↦ inr (omega (arith, ne)) ]
+-- the run comes to a return within so many steps, with a sum in register 29
+pub record Finishes (s : State) (a m bound total : ℕ) : Type 0 where
+  pub steps : ℕ
+  pub soon : steps ≤ bound
+  pub place : ℕ
+  pub last : ℕ → ℕ
+  pub reach : Reaches s a (m + steps) (at place last)
+  pub is_return : inst_at multiplying place ≡ Some (Bv 31 true)
+  pub inside : place + 1 ≤ 138
+  pub sum : last 29 ≡ total % 2 ^ 32
 
-masked : (n v : ℕ) → v < 2 ^ 32 → bit_and (sign_extended 1 (n % 2)) v ≡ n % 2 * v
-masked n v lt = masked_bit (n % 2) v (is_bit n) lt
+-- after one turn
+record OneTurn (s : State) (a m : ℕ) (f : ℕ → ℕ) (b : Bool) : Type 0 where
+  steps : ℕ
+  soon : steps ≤ 11
+  place : ℕ
+  last : ℕ → ℕ
+  reach : Reaches s a (m + steps) (at (if b then place else 134) last)
+  is_return : inst_at multiplying place ≡ Some (Bv 31 true)
+  inside : place + 1 ≤ 138
+  left : last 26 ≡ f 26 / 16
+  table : last 22 ≡ a + 24
+  value : (last 29 + last 26 * last 25) % 2 ^ 32 ≡ (f 29 + f 26 * f 25) % 2 ^ 32
 
--- the multiplicand is taken where the lowest bit is set, and the other bits take twice the multiplicand
-pub bit_step : (acc n y : ℕ) → ((acc + n % 2 * y) % 2 ^ 32 + n / 2 * ((y + y) % 2 ^ 32)) % 2 ^ 32 ≡ (acc + n * y) % 2 ^ 32
-bit_step acc n y =
-    let h = n / 2 in
-    let b = n % 2 in
-    let wraps : (h * ((y + y) % 2 ^ 32)) % 2 ^ 32 ≡ (h * (y + y)) % 2 ^ 32 = mul-mod_second h (y + y) (2 ^ 32) in
-    let twice : h * (y + y) ≡ h * y + h * y = mul-add h y y in
-    let parts : n ≡ h + h + b = omega arith in
-    let product : n * y ≡ h * y + h * y + b * y = ap (λ (k : ℕ). k * y) parts ∙ add-mul (h + h) b y ∙ ap (λ (k : ℕ). k + b * y) (add-mul h h y) in
-    omega (arith, wraps, twice, product)
+value_along : (n acc x y acc' x' y' : ℕ) → y < 2 ^ 32 → acc' ≡ (acc + x % 16 * y) % 2 ^ 32 → x' ≡ x / 16 → y' ≡ deposited y 27 28 → (acc' + x' * y') % 2 ^ 32 ≡ (acc + x * y) % 2 ^ 32
+value_along n acc x y acc' x' y' lt e h k = rw (e, h, k) (digit_step acc x y lt)
 
--- ---- one turn: the instructions from 5 to 21
+one_turn : (s : State) (a m : ℕ) (f : ℕ → ℕ) (b : Bool) → Stands multiplying a s.core → (r : Reaches s a m (at 134 f)) → f 22 ≡ a + 24 → (extracted (f 26) 27 28 == 0) ≡ b → OneTurn s a m f b
+one_turn s a m f b st r base e =
+    let d = f 26 % 16 in
+    let x : f 26 < 2 ^ 32 = r.holds.in_range 26 in
+    let y : f 25 < 2 ^ 32 = r.holds.in_range 25 in
+    let acc : f 29 < 2 ^ 32 = r.holds.in_range 29 in
+    let look = looks f in
+    let r1 = reaches 2 s a multiplying st m (at 134 f) (at 136 look.0) r look.1 in
+    let entry : look.0 1 ≡ a + 4 * (6 + 8 * d) = let is : look.0 1 ≡ (deposited (f 26) 26 4 + f 22) % 2 ^ 32 = look.6 in omega (arith, is, base, st.within, st.text) in
+    let r2 = computed s a (m + 2) 136 1 (6 + 8 * d) look.0 multiplying st r1 (omega arith) refl entry in
+    let turn = turns d look.0 b (omega arith) (ap (λ (n : ℕ). extracted n 27 28 == 0) look.2 ∙ e) (r1.holds.in_range 29) (r1.holds.in_range 25) in
+    let soon : turn.steps ≤ 8 = turn.soon in
+    let r3 = reaches turn.steps s a multiplying st (m + 2 + 1) (record { registers = look.0; front = 137; back = 6 + 8 * d; nullify = false }) (at (if b then turn.place else 134) turn.last) r2 turn.runs in
+    let count : m + 2 + 1 + turn.steps ≡ m + (3 + turn.steps) = omega arith in
+    let left : turn.last 26 ≡ f 26 / 16 = let is : turn.last 26 ≡ extracted (look.0 26) 27 28 = turn.left in let same : look.0 26 ≡ f 26 = look.2 in omega (arith, is, same, x) in
+    let up : turn.last 25 ≡ deposited (f 25) 27 28 = turn.raised ∙ ap (λ (n : ℕ). deposited n 27 28) look.3 in
+    let sum : turn.last 29 ≡ (f 29 + f 26 % 16 * f 25) % 2 ^ 32 = turn.sum ∙ ap (λ (n : ℕ). (n + d * look.0 25) % 2 ^ 32) look.5 ∙ ap (λ (n : ℕ). (f 29 + d * n) % 2 ^ 32) look.3 in
+    record {
+      steps = 3 + turn.steps;
+      soon = omega arith;
+      place = turn.place;
+      last = turn.last;
+      reach = subst (λ (n : ℕ). Reaches s a n (at (if b then turn.place else 134) turn.last)) count r3;
+      is_return = turn.is_return;
+      inside = turn.inside;
+      left = left;
+      table = turn.table ∙ look.4 ∙ base;
+      value = value_along 0 (f 29) (f 26) (f 25) (turn.last 29) (turn.last 26) (turn.last 25) y sum left up;
+    }
 
--- the product so far, the multiplicand in register 25 and the multiplier in register 26 after one bit
-abbrev pub masked_sum : ℕ → ℕ → ℕ → ℕ
-masked_sum acc bit y = (acc + bit_and (sign_extended 1 bit) y) % 2 ^ 32
-
-abbrev pub twice : ℕ → ℕ
-twice y = (y + y) % 2 ^ 32
-
-abbrev pub sum_of_four : ℕ → ℕ → ℕ → ℕ
-sum_of_four acc x y =
-    masked_sum (masked_sum (masked_sum (masked_sum acc (extracted x 31 1) y) (extracted x 30 1) (twice y)) (extracted x 29 1) (twice (twice y))) (extracted x 28 1) (twice (twice (twice y)))
-
-first_bit : (f : ℕ → ℕ) → (g : ℕ → ℕ) × (small_run multiplying 4 (at 5 f) ≡ Some (at 9 g)) × (g 26 ≡ f 26) × (g 29 ≡ masked_sum (f 29) (extracted (f 26) 31 1) (f 25)) × (g 22 ≡ twice (f 25))
-first_bit f = (_, refl, refl, refl, refl)
-
-second_bit : (f : ℕ → ℕ) → (g : ℕ → ℕ) × (small_run multiplying 4 (at 9 f) ≡ Some (at 13 g)) × (g 26 ≡ f 26) × (g 29 ≡ masked_sum (f 29) (extracted (f 26) 30 1) (f 22)) × (g 22 ≡ twice (f 22))
-second_bit f = (_, refl, refl, refl, refl)
-
-third_bit : (f : ℕ → ℕ) → (g : ℕ → ℕ) × (small_run multiplying 4 (at 13 f) ≡ Some (at 17 g)) × (g 26 ≡ f 26) × (g 29 ≡ masked_sum (f 29) (extracted (f 26) 29 1) (f 22)) × (g 22 ≡ twice (f 22))
-third_bit f = (_, refl, refl, refl, refl)
-
--- the fourth bit, the shift and the branch
-fourth_bit : (f : ℕ → ℕ) → (g : ℕ → ℕ) × (small_run multiplying 5 (at 17 f) ≡ Some (record { registers = g; front = 22; back = if not (extracted (f 26) 27 28 == 0) then 5 else 23; nullify = false })) × (g 26 ≡ extracted (f 26) 27 28) × (g 29 ≡ masked_sum (f 29) (extracted (f 26) 28 1) (f 22)) × (g 22 ≡ f 22)
-fourth_bit f = (_, refl, refl, refl, refl)
-
-sum_along : (acc acc' x x' y y' p : ℕ) → acc ≡ acc' → x ≡ x' → y ≡ y' → masked_sum acc (extracted x p 1) y ≡ masked_sum acc' (extracted x' p 1) y'
-sum_along acc acc' x x' y y' p e h k = rw (e, h, k) refl
-
--- the instructions from 5 to 21
-pub turn : (f : ℕ → ℕ) → (g : ℕ → ℕ) × (small_run multiplying 17 (at 5 f) ≡ Some (record { registers = g; front = 22; back = if not (extracted (f 26) 27 28 == 0) then 5 else 23; nullify = false })) × (g 26 ≡ extracted (f 26) 27 28) × (g 29 ≡ sum_of_four (f 29) (f 26) (f 25)) × (g 22 ≡ twice (twice (twice (f 25))))
-turn f =
-    let a = first_bit f in
-    let b = second_bit a.0 in
-    let c = third_bit b.0 in
-    let d = fourth_bit c.0 in
-    let x : c.0 26 ≡ f 26 = c.2 ∙ b.2 ∙ a.2 in
-    let y2 : b.0 22 ≡ twice (twice (f 25)) = b.4 ∙ ap twice a.4 in
-    let y3 : c.0 22 ≡ twice (twice (twice (f 25))) = c.4 ∙ ap twice y2 in
-    let s2 : b.0 29 ≡ masked_sum (masked_sum (f 29) (extracted (f 26) 31 1) (f 25)) (extracted (f 26) 30 1) (twice (f 25)) = b.3 ∙ sum_along _ _ _ _ _ _ 30 a.3 a.2 a.4 in
-    let s3 : c.0 29 ≡ masked_sum (masked_sum (masked_sum (f 29) (extracted (f 26) 31 1) (f 25)) (extracted (f 26) 30 1) (twice (f 25))) (extracted (f 26) 29 1) (twice (twice (f 25))) = c.3 ∙ sum_along _ _ _ _ _ _ 29 s2 (b.2 ∙ a.2) y2 in (
-      d.0,
-      run_on multiplying 4 13 (at 5 f) (at 9 a.0) a.1
-          ∙ run_on multiplying 4 9 (at 9 a.0) (at 13 b.0) b.1
-          ∙ run_on multiplying 4 5 (at 13 b.0) (at 17 c.0) c.1
-          ∙ d.1
-          ∙ ap (λ (n : ℕ). Some (record { registers = d.0; front = 22; back = if not (extracted n 27 28 == 0) then 5 else 23; nullify = false })) x,
-      d.2 ∙ ap (λ (n : ℕ). extracted n 27 28) x,
-      d.3 ∙ sum_along _ _ _ _ _ _ 28 s3 x y3,
-      d.4 ∙ y3,
-    )
-
-masked_step : (acc n y : ℕ) → y < 2 ^ 32 → (masked_sum acc (n % 2) y + n / 2 * twice y) % 2 ^ 32 ≡ (acc + n * y) % 2 ^ 32
-masked_step acc n y lt = rw (masked n y lt) (bit_step acc n y)
-
-four_steps : (acc n y : ℕ) → y < 2 ^ 32 → (masked_sum (masked_sum (masked_sum (masked_sum acc (n % 2) y) (n / 2 % 2) (twice y)) (n / 2 / 2 % 2) (twice (twice y))) (n / 2 / 2 / 2 % 2) (twice (twice (twice y))) + n / 2 / 2 / 2 / 2 * twice (twice (twice (twice y)))) % 2 ^ 32 ≡ (acc + n * y) % 2 ^ 32
-four_steps acc n y lt =
-    let a1 = masked_sum acc (n % 2) y in
-    let a2 = masked_sum a1 (n / 2 % 2) (twice y) in
-    let a3 = masked_sum a2 (n / 2 / 2 % 2) (twice (twice y)) in
-    masked_step a3 (n / 2 / 2 / 2) (twice (twice (twice y))) (omega arith)
-    ∙ masked_step a2 (n / 2 / 2) (twice (twice y)) (omega arith)
-    ∙ masked_step a1 (n / 2) (twice y) (omega arith)
-    ∙ masked_step acc n y lt
-
-sum_is : (acc n y b0 b1 b2 b3 : ℕ) → b0 ≡ n % 2 → b1 ≡ n / 2 % 2 → b2 ≡ n / 2 / 2 % 2 → b3 ≡ n / 2 / 2 / 2 % 2 → masked_sum (masked_sum (masked_sum (masked_sum acc b0 y) b1 (twice y)) b2 (twice (twice y))) b3 (twice (twice (twice y))) ≡ masked_sum (masked_sum (masked_sum (masked_sum acc (n % 2) y) (n / 2 % 2) (twice y)) (n / 2 / 2 % 2) (twice (twice y))) (n / 2 / 2 / 2 % 2) (twice (twice (twice y)))
-sum_is acc n y b0 b1 b2 b3 e0 e1 e2 e3 = rw (e0, e1, e2, e3) refl
-
--- what the turn adds, and what is left
-pub turn_value : (acc x y : ℕ) → x < 2 ^ 32 → y < 2 ^ 32 → (sum_of_four acc x y + extracted x 27 28 * twice (twice (twice (twice y)))) % 2 ^ 32 ≡ (acc + x * y) % 2 ^ 32
-turn_value acc x y xlt ylt =
-    let sum : sum_of_four acc x y ≡ _ = sum_is acc x y (extracted x 31 1) (extracted x 30 1) (extracted x 29 1) (extracted x 28 1) (omega arith) (omega arith) (omega arith) (omega arith) in
-    let left : extracted x 27 28 ≡ x / 2 / 2 / 2 / 2 = omega arith in
-    ap (λ (k : ℕ). (k + extracted x 27 28 * twice (twice (twice (twice y)))) % 2 ^ 32) sum
-    ∙ ap (λ (k : ℕ). (masked_sum (masked_sum (masked_sum (masked_sum acc (x % 2) y) (x / 2 % 2) (twice y)) (x / 2 / 2 % 2) (twice (twice y))) (x / 2 / 2 / 2 % 2) (twice (twice (twice y))) + k * twice (twice (twice (twice y)))) % 2 ^ 32) left
-    ∙ four_steps acc x y ylt
-
--- ---- the loop
-
-abbrev pub IsSum : ℕ → (ℕ → ℕ) → Type 0
-IsSum n g = g 29 ≡ n % 2 ^ 32
-
--- the delay slot of the turn's branch
-turn_ends : (g : ℕ → ℕ) (k : ℕ) → (k ≡ 5) ⊎ (k ≡ 23) → small_run multiplying 1 (record { registers = g; front = 22; back = k; nullify = false }) ≡ Some (at k (set g 25 (twice (g 22))))
-turn_ends g k (inl e) = rw e refl
-turn_ends g k (inr e) = rw e refl
-
-whole_turn : (f : ℕ → ℕ) (b : Bool) → (extracted (f 26) 27 28 == 0) ≡ b → small_run multiplying 18 (at 5 f) ≡ Some (at (if not b then 5 else 23) (set (turn f).0 25 (twice ((turn f).0 22))))
-whole_turn f true e =
-    let t = turn f in
-    run_on multiplying 17 1 (at 5 f) _ (t.1 ∙ ap (λ (b : Bool). Some (record { registers = t.0; front = 22; back = if not b then 5 else 23; nullify = false })) e) ∙ turn_ends t.0 23 (inr refl)
-whole_turn f false e =
-    let t = turn f in
-    run_on multiplying 17 1 (at 5 f) _ (t.1 ∙ ap (λ (b : Bool). Some (record { registers = t.0; front = 22; back = if not b then 5 else 23; nullify = false })) e) ∙ turn_ends t.0 5 (inl refl)
-
-last_turn : (f : ℕ → ℕ) → f 26 < 2 ^ 32 → f 25 < 2 ^ 32 → extracted (f 26) 27 28 ≡ 0 → Arrives multiplying (18 + 0) (at 5 f) 23 (IsSum (f 29 + f 26 * f 25))
-last_turn f xlt ylt e =
-    let t = turn f in
-    let g = set t.0 25 (twice (t.0 22)) in
-    let value : (sum_of_four (f 29) (f 26) (f 25) + extracted (f 26) 27 28 * twice (twice (twice (twice (f 25))))) % 2 ^ 32 ≡ (f 29 + f 26 * f 25) % 2 ^ 32 = turn_value (f 29) (f 26) (f 25) xlt ylt in
-    let none : extracted (f 26) 27 28 * twice (twice (twice (twice (f 25)))) ≡ 0 = ap (λ (k : ℕ). k * twice (twice (twice (twice (f 25))))) e ∙ zero-mul _ in
-    let sum : g 29 ≡ sum_of_four (f 29) (f 26) (f 25) = t.3 in
-    after multiplying 18 0 (at 5 f) (at 23 g) 23 (IsSum (f 29 + f 26 * f 25)) (whole_turn f true (eq-eqb _ 0 e))
-    (there multiplying 0 g 23 (IsSum (f 29 + f 26 * f 25)) (omega (arith, value, none, sum)))
-
-product_along : (a a' x x' y y' : ℕ) → a ≡ a' → x ≡ x' → y ≡ y' → (a + x * y) % 2 ^ 32 ≡ (a' + x' * y') % 2 ^ 32
-product_along a a' x x' y y' e h k = rw (e, h, k) refl
-
-pub mul_loop : (k : ℕ) (f : ℕ → ℕ) → f 26 < 2 ^ 32 → f 25 < 2 ^ 32 → f 26 < scaled k 16 → Arrives multiplying (18 * (k + 1)) (at 5 f) 23 (IsSum (f 29 + f 26 * f 25))
-mul_loop zero f xlt ylt lt =
+-- the last turn
+last_turn : (s : State) (a m : ℕ) (f : ℕ → ℕ) → Stands multiplying a s.core → Reaches s a m (at 134 f) → f 22 ≡ a + 24 → f 26 < 2 ^ 32 → f 26 / 16 ≡ 0 → Finishes s a m 11 (f 29 + f 26 * f 25)
+last_turn s a m f st r base x e =
     let none : extracted (f 26) 27 28 ≡ 0 = omega arith in
-    last_turn f xlt ylt none
-mul_loop (suc k) f xlt ylt lt =
-    let t = turn f in
-    let g = set t.0 25 (twice (t.0 22)) in
-    let x : g 26 ≡ extracted (f 26) 27 28 = t.2 in
-    let y : g 25 ≡ twice (twice (twice (twice (f 25)))) = ap twice t.4 in
-    let acc : g 29 ≡ sum_of_four (f 29) (f 26) (f 25) = t.3 in
-    elim (cases_eq (extracted (f 26) 27 28) 0) as (λ c. Arrives multiplying (18 * (suc k + 1)) (at 5 f) 23 (IsSum (f 29 + f 26 * f 25))) [
-      | inl e ↦ weaker multiplying (18 + 0) (18 * (suc k + 1)) (at 5 f) 23 (IsSum (f 29 + f 26 * f 25)) (IsSum (f 29 + f 26 * f 25)) (omega arith) (λ h s. s) (last_turn f xlt ylt e)
+    let turn = one_turn s a m f true st r base (eq-eqb (extracted (f 26) 27 28) 0 none) in
+    let over : turn.last 26 * turn.last 25 ≡ 0 = ap (λ (k : ℕ). k * turn.last 25) (turn.left ∙ e) ∙ zero-mul (turn.last 25) in
+    let small : turn.last 29 < 2 ^ 32 = turn.reach.holds.in_range 29 in
+    record {
+      steps = turn.steps;
+      soon = turn.soon;
+      place = turn.place;
+      last = turn.last;
+      reach = turn.reach;
+      is_return = turn.is_return;
+      inside = turn.inside;
+      sum = omega (arith, over, small, turn.value);
+    }
+
+later : (s : State) (a m bound bound' total : ℕ) → bound ≤ bound' → Finishes s a m bound total → Finishes s a m bound' total
+later s a m bound bound' total le h =
+    let soon : h.steps ≤ bound = h.soon in
+    record {
+      steps = h.steps;
+      soon = omega arith;
+      place = h.place;
+      last = h.last;
+      reach = h.reach;
+      is_return = h.is_return;
+      inside = h.inside;
+      sum = h.sum;
+    }
+
+-- a turn, and what comes after it
+turn_on : (s : State) (a m bound total : ℕ) (f : ℕ → ℕ) (t : OneTurn s a m f false) → (f 29 + f 26 * f 25) % 2 ^ 32 ≡ total % 2 ^ 32 → Finishes s a (m + t.steps) bound (t.last 29 + t.last 26 * t.last 25) → Finishes s a m (11 + bound) total
+turn_on s a m bound total f t e h =
+    let soon : h.steps ≤ bound = h.soon in
+    let few : t.steps ≤ 11 = t.soon in
+    let count : m + t.steps + h.steps ≡ m + (t.steps + h.steps) = omega arith in
+    record {
+      steps = t.steps + h.steps;
+      soon = omega arith;
+      place = h.place;
+      last = h.last;
+      reach = subst (λ (n : ℕ). Reaches s a n (at h.place h.last)) count h.reach;
+      is_return = h.is_return;
+      inside = h.inside;
+      sum = h.sum ∙ t.value ∙ e;
+    }
+
+pub mul_loop : (k : ℕ) (s : State) (a m : ℕ) (f : ℕ → ℕ) → Stands multiplying a s.core → Reaches s a m (at 134 f) → f 22 ≡ a + 24 → f 26 < 2 ^ 32 → f 26 < scaled k 16 → Finishes s a m (11 * (k + 1)) (f 29 + f 26 * f 25)
+mul_loop zero s a m f st r base x lt = last_turn s a m f st r base x (omega arith)
+mul_loop (suc k) s a m f st r base x lt =
+    elim (cases_eq (f 26 / 16) 0) as (λ c. Finishes s a m (11 * (suc k + 1)) (f 29 + f 26 * f 25)) [
+      | inl e ↦ later s a m 11 (11 * (suc k + 1)) (f 29 + f 26 * f 25) (omega arith) (last_turn s a m f st r base x e)
       | inr ne ↦
-          let value : (g 29 + g 26 * g 25) % 2 ^ 32 ≡ (f 29 + f 26 * f 25) % 2 ^ 32 =
-          product_along _ _ _ _ _ _ acc x y ∙ turn_value (f 29) (f 26) (f 25) xlt ylt in
-          weaker multiplying (18 + 18 * (k + 1)) (18 * (suc k + 1)) (at 5 f) 23 (IsSum (g 29 + g 26 * g 25)) (IsSum (f 29 + f 26 * f 25)) (omega arith) (λ h s. s ∙ value)
-          (after multiplying 18 (18 * (k + 1)) (at 5 f) (at 5 g) 23 (IsSum (g 29 + g 26 * g 25)) (whole_turn f false (ne_eqb _ 0 ne))
-          (mul_loop k g (omega arith) (omega arith) (omega arith)))
+          let some : extracted (f 26) 27 28 ≡ 0 → ⊥ = λ e. ne (omega arith) in
+          let t = one_turn s a m f false st r base (ne_eqb (extracted (f 26) 27 28) 0 some) in
+          let left : t.last 26 ≡ f 26 / 16 = t.left in
+          later s a m (11 + 11 * (k + 1)) (11 * (suc k + 1)) (f 29 + f 26 * f 25) (omega arith)
+          (turn_on s a m (11 * (k + 1)) (f 29 + f 26 * f 25) f t refl
+          (mul_loop k s a (m + t.steps) t.last st t.reach t.table (omega arith) (omega arith)))
     ]

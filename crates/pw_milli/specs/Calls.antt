@@ -62,7 +62,9 @@ IsQuotient s word = register s.core 25 ≢ 0 → word ≡ register s.core 26 / r
 abbrev pub IsRemainder : State → ℕ → Type 0
 IsRemainder s word = register s.core 25 ≢ 0 → word ≡ register s.core 26 % register s.core 25
 
--- the same of signed words: the quotient truncated towards 0, and the remainder with the dividend's sign
+-- The same of signed words: the quotient truncated towards 0, and the remainder with the dividend's sign.
+-- ISO C90 6.3.5 leaves this way open where an operand is below 0. The smallest number by -1 has the quotient
+-- 2^31, as a word.
 
 abbrev pub signed : State → ℕ → ℤ
 signed s r = cast_signed w32 (register s.core r)

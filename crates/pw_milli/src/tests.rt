@@ -235,7 +235,7 @@ fn results(rt: HostRuntime) -> Result<(), Fail> {
 #[test]
 fn steps(rt: HostRuntime) -> Result<(), Fail> {
     for (name, bound, greatest) in [
-        ("$mul", 240, 151),
+        ("$mul", 240, 86),
         ("$divu", 512, 173),
         ("$remu", 512, 174),
         ("$divs", 512, 176),
