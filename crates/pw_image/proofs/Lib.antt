@@ -1,2 +1,3 @@
 pub mod ImageLaws
 pub mod WritingLemmas
+pub mod LoadLemmas

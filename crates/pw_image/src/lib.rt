@@ -3,10 +3,12 @@
 
 mod image;
 pub mod laws;
+mod load;
 mod reading;
 mod writing;
 
 pub use image::{DataItem, Function, GlobalObject, Image, Memory};
+pub use load::{LoadError, Map, read_map};
 pub use reading::{KIND, read_image};
 pub use writing::write_image;
 

@@ -42,6 +42,40 @@ fn an_image(rt: HostRuntime) -> Result<(), Fail> {
 }
 
 #[test]
+fn a_map(rt: HostRuntime) -> Result<(), Fail> {
+    let file = seal(rt.alloc(), KIND, 1, &PAYLOAD)?;
+    let map = read_map(rt.alloc(), &file).ok().ok_or("a map")?;
+    assert_eq!(rt; map.functions.len(), 2);
+    let (name, address, frame) = &map.functions[0];
+    assert_eq!(rt; name.as_bytes(), b"main".as_slice());
+    assert_eq!(rt; (*address, *frame), (4096, 64));
+    let (name, address, frame) = &map.functions[1];
+    assert_eq!(rt; name.as_bytes(), b"exit".as_slice());
+    assert_eq!(rt; (*address, *frame), (4100, 0));
+    assert_eq!(rt; map.globals.len(), 1);
+    let (name, address) = &map.globals[0];
+    assert_eq!(rt; name.as_bytes(), b"g".as_slice());
+    assert_eq!(rt; *address, 4104);
+    Ok(())
+}
+
+#[test]
+fn no_map(rt: HostRuntime) -> Result<(), Fail> {
+    let mut file = seal(rt.alloc(), KIND, 1, &PAYLOAD)?;
+    assert_eq!(rt; file.len(), 161);
+    file[160] ^= 1;
+    assert_eq!(rt;
+        read_map(rt.alloc(), &file).err(),
+        Some(LoadError::LoadFault { at: 129 })
+    );
+    assert_eq!(rt;
+        read_map(rt.alloc(), &PAYLOAD).err(),
+        Some(LoadError::LoadFault { at: 0 })
+    );
+    Ok(())
+}
+
+#[test]
 fn written_again(rt: HostRuntime) -> Result<(), Fail> {
     let file = seal(rt.alloc(), KIND, 1, &PAYLOAD)?;
     match read_image(rt.alloc(), &file) {
@@ -68,6 +102,13 @@ fn damaged_images(rt: HostRuntime) -> Result<(), Fail> {
         (88, 8, 97),
         (96, 2, 68),
         (112, 0, 76),
+        (29, 3, 64),
+        (49, 13, 58),
+        (55, 2, 85),
+        (59, 0, 68),
+        (58, 2, 68),
+        (108, 2, 129),
+        (112, 3, 121),
     ] {
         let mut damaged = PAYLOAD;
         assert!(rt; place < 117);

@@ -4,3 +4,5 @@ pub mod Runs
 pub mod Turns
 pub mod Memories
 pub mod Loaded
+pub mod Items
+pub mod Data

@@ -1,10 +1,11 @@
 -- Bytes written over a memory.
-use Rattle.std.proofs.Common.{ℕ, ◌+◌, ◌*◌, ◌<◌, ◌≤◌, ◌≡◌, List, [], ◌∷◌, ◌++◌, length, take, drop, get_or, refl, sym, ap, subst, ◌∙◌, arith, append_assoc, append-nil, length-append, add-zero}
+use Rattle.std.proofs.Common.{ℕ, ◌+◌, ◌*◌, ◌%◌, ◌^◌, ◌<◌, ◌≤◌, ◌≡◌, List, [], ◌∷◌, ◌++◌, length, take, drop, get_or, refl, sym, ap, subst, ◌∙◌, arith, append_assoc, append-nil, length-append, add-zero}
 use Rattle.std.proofs.lemmas.List.{take-append-drop, drop-drop, length-take-le, take_more}
 use Rattle.std.proofs.Math.Seq.{take-append_seam, drop-append-add}
 use Rattle.std.specs.Int.{to_be_bytes, w32}
 use Rattle.std.specs.Prelude.{slice_set, replicate, false, None}
-use Rattle.pw_machine.specs.Start.{overwritten, bytes_of, start_memory, start_core, zeros, rounded_up, data_start_of}
+use Rattle.pw_image.specs.Image.{Item}
+use Rattle.pw_machine.specs.Start.{overwritten, bytes_of, start_memory, start_core, rounded_up, data_start_of}
 
 pub overwritten-none : (memory : List ℕ) (a : ℕ) → overwritten memory a [] ≡ memory
 overwritten-none memory a = rw (append-nil, add-zero) (take-append-drop a memory)
@@ -49,17 +50,13 @@ overwritten-word memory a words i fits lt =
     subst (λ (n : ℕ). overwritten (overwritten memory a (bytes_of (take i words))) (a + n) (to_be_bytes w32 word) ≡ overwritten memory a (bytes_of (take i words) ++ to_be_bytes w32 word)) len more
     ∙ ap (λ (l : List ℕ). overwritten memory a l) (sym joined)
 
-pub start_memory_text : (words : List ℕ) → start_memory words [] ≡ overwritten (zeros 67108864) 4096 (bytes_of words)
-start_memory_text words = overwritten-none (overwritten (zeros 67108864) 4096 (bytes_of words)) (data_start_of words)
-
 -- a list that was written whole into the front of another
 pub take_whole : (n : ℕ) (xs ys : List ℕ) → n ≡ length xs → take n (xs ++ ys) ≡ xs
 take_whole n xs ys e = ap (λ (k : ℕ). take k (xs ++ ys)) e ∙ take-append_seam xs ys
 
 -- the fields of the start state, one by one
-pub start_core_is : (words memory : List ℕ) (start stack : ℕ) → memory ≡ start_memory words [] → start ≡ data_start_of words → stack ≡ rounded_up 64 start → record { registers = slice_set (replicate 32 0) 30 (stack + 64); front = 4096; back = 4100; nullify = false; shift = 0; memory = memory; text = length words; data_start = start; stopped = None } ≡ start_core 4096 words []
+pub start_core_is : (entry : ℕ) (words : List ℕ) (size : ℕ) (items : List Item) (memory : List ℕ) (start stack : ℕ) → memory ≡ start_memory words items → start ≡ data_start_of words → stack ≡ rounded_up 64 (start + size) → record { registers = slice_set (replicate 32 0) 30 (stack + 64); front = entry; back = (entry + 4) % 2 ^ 32; nullify = false; shift = 0; memory = memory; text = length words; data_start = start; stopped = None } ≡ start_core entry words size items
 unfolding start_core
-start_core_is words memory start stack m d s =
-    let sum : data_start_of words + 0 ≡ data_start_of words = add-zero (data_start_of words) in
-    let top : stack ≡ rounded_up 64 (data_start_of words + 0) = s ∙ ap (rounded_up 64) (d ∙ sym sum) in
+start_core_is entry words size items memory start stack m d s =
+    let top : stack ≡ rounded_up 64 (data_start_of words + size) = s ∙ ap (λ (n : ℕ). rounded_up 64 (n + size)) d in
     cc

@@ -1,6 +1,7 @@
--- The state in which a program begins: its words as text, its bytes of data, and a stack above them.
-use Rattle.std.specs.Prelude.{ℕ, ◌+◌, ◌-◌, ◌*◌, ◌/◌, ◌%◌, ◌^◌, List, [], ◌∷◌, ◌++◌, length, take, drop, replicate, None, false, slice_set}
+-- The state in which a program begins: its words as text, its data, and a stack above them.
+use Rattle.std.specs.Prelude.{ℕ, ◌+◌, ◌-◌, ◌*◌, ◌/◌, ◌%◌, ◌^◌, ◌<◌, ◌≤◌, ◌⊎◌, List, [], ◌∷◌, ◌++◌, length, take, drop, replicate, None, false, slice_set}
 use Rattle.std.specs.Int.{to_be_bytes, w32}
+use Rattle.pw_image.specs.Image.{Item, MemoryValue, data_start}
 use Rattle.pw_machine.specs.Core.{Core}
 
 -- n zeros
@@ -10,6 +11,15 @@ zeros n = replicate n 0
 -- a list with bytes written over it from an address on
 abbrev pub overwritten : List ℕ → ℕ → List ℕ → List ℕ
 overwritten memory a bytes = take a memory ++ bytes ++ drop (a + length bytes) memory
+
+-- a list with items of data written over it, each at its offset from an address
+abbrev pub with_items : List ℕ → ℕ → List Item → List ℕ
+with_items memory a [] = memory
+with_items memory a (i ∷ items) = with_items (overwritten memory (a + i.offset) i.bytes) a items
+
+-- a place outside an item, whose offset is from an address
+abbrev pub IsOutside : ℕ → ℕ → Item → Type 0
+IsOutside a place i = (place < a + i.offset) ⊎ (a + i.offset + length i.bytes ≤ place)
 
 -- the bytes of words, one word after another, the highest byte of a word first
 abbrev pub bytes_of : List ℕ → List ℕ
@@ -22,26 +32,30 @@ rounded_up k n = (n + (k - 1)) / k * k
 
 -- The data begin at the first multiple of 8 after the text.
 abbrev pub data_start_of : List ℕ → ℕ
-data_start_of words = rounded_up 8 (4096 + 4 * length words)
+data_start_of words = data_start (length words)
 
 -- The stack begins 64 bytes above the end of the data, which is rounded up to 64.
-abbrev pub stack_start_of : List ℕ → List ℕ → ℕ
-stack_start_of words bytes = rounded_up 64 (data_start_of words + length bytes) + 64
+abbrev pub stack_start_of : List ℕ → ℕ → ℕ
+stack_start_of words data_size = rounded_up 64 (data_start_of words + data_size) + 64
 
--- The memory is 0 but for the text, from 4096 on, and the data.
-abbrev pub start_memory : List ℕ → List ℕ → List ℕ
-start_memory words bytes = overwritten (overwritten (zeros 67108864) 4096 (bytes_of words)) (data_start_of words) bytes
+-- The memory is 0 but for the text, from 4096 on, and the items of the data, at their offsets.
+abbrev pub start_memory : List ℕ → List Item → List ℕ
+start_memory words items = with_items (overwritten (zeros 67108864) 4096 (bytes_of words)) (data_start_of words) items
 
 -- Front is at the entry and back 4 beyond. Register 30 points to the stack, and the other registers are 0.
-unfoldable pub start_core : ℕ → List ℕ → List ℕ → Core
-start_core entry words bytes = record {
-  registers = slice_set (replicate 32 0) 30 (stack_start_of words bytes);
+unfoldable pub start_core : ℕ → List ℕ → ℕ → List Item → Core
+start_core entry words data_size items = record {
+  registers = slice_set (replicate 32 0) 30 (stack_start_of words data_size);
   front = entry;
   back = (entry + 4) % 2 ^ 32;
   nullify = false;
   shift = 0;
-  memory = start_memory words bytes;
+  memory = start_memory words items;
   text = length words;
   data_start = data_start_of words;
   stopped = None;
 }
+
+-- the state in which the program of an image begins
+abbrev pub image_start : MemoryValue → Core
+image_start m = start_core m.entry m.words m.data_size m.items

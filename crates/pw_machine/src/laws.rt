@@ -1,9 +1,11 @@
 // Laws of the machine's runs and of its memory, for whoever reasons about programs.
 
-ghost use Rattle.std.specs.Prelude.{◌≡◌, ℕ, ◌+◌, ◌*◌, ◌^◌, ◌<◌, ◌≤◌, List, None, length, slice_index};
+ghost use Rattle.std.specs.Prelude.{◌≡◌, ℕ, ◌+◌, ◌*◌, ◌^◌, ◌<◌, ◌≤◌, List, ◌∷◌, ◌++◌, None, length, slice_index};
+ghost use Rattle.std.specs.List.{AllByRecursion};
+ghost use Rattle.pw_image.specs.Image.{Item, MemoryValue, IsMemory};
 ghost use Rattle.pw_machine.specs.declared.ends.End.{End};
-ghost use Rattle.pw_machine.specs.Core.{word_at};
-ghost use Rattle.pw_machine.specs.Start.{overwritten, start_memory};
+ghost use Rattle.pw_machine.specs.Core.{byte_at, word_at};
+ghost use Rattle.pw_machine.specs.Start.{overwritten, data_start_of, start_memory, image_start, IsOutside};
 ghost use Rattle.pw_machine.specs.Run.{State, Running, Stopped, run_of, steps_of, continued};
 
 /// A run of m + n steps is the run of m steps, continued by n: cut in two it is the same run, and once it
@@ -34,9 +36,22 @@ pub fn overwritten_words()
         word_at (overwritten memory a bytes) (a + length bytes + k) ≡ word_at memory (a + length bytes + k) }
 {}
 
+/// At the start the bytes of each item of an image's data stand at its offset from the start of the data,
+/// and every other byte from there on is 0.
+#[tactic(auto, using(crate::proofs::Data::item_at_start, crate::proofs::Data::other_at_start), unfolding(crate::specs::Start::start_core))]
+pub fn data_bytes()
+    ensures item { (m : MemoryValue) (before after : List Item) (i : Item) (k : ℕ) →
+        IsMemory m → m.items ≡ before ++ i ∷ after → k < length i.bytes →
+        byte_at (image_start m).memory (data_start_of m.words + i.offset + k) ≡ slice_index i.bytes k }
+    ensures other { (m : MemoryValue) (place : ℕ) →
+        IsMemory m → data_start_of m.words ≤ place → place < 67108864 →
+        AllByRecursion (IsOutside (data_start_of m.words) place) m.items →
+        byte_at (image_start m).memory place ≡ 0 }
+{}
+
 /// At the start the words of a program stand in the memory from 4096 on.
 #[tactic(auto, using(crate::proofs::Loaded::word_at_start))]
 pub fn text_words()
-    ensures { (words bytes : List ℕ) (i : ℕ) → length words ≤ 65536 → i < length words →
-        slice_index words i < 2 ^ 32 → word_at (start_memory words bytes) (4096 + 4 * i) ≡ slice_index words i }
+    ensures { (words : List ℕ) (items : List Item) (i : ℕ) → length words ≤ 65536 → i < length words →
+        slice_index words i < 2 ^ 32 → word_at (start_memory words items) (4096 + 4 * i) ≡ slice_index words i }
 {}

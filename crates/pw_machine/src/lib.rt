@@ -2,7 +2,7 @@
 //! input and one sink of output.
 //!
 //! `specs/` says what the machine is: its state (`Core`), the effect of each instruction (`Effect`),
-//! steps and runs (`Run`), the start of a program (`Start`) and what `run` answers (`Stops`).
+//! steps and runs (`Run`), the start of an image's program (`Start`) and what `run` answers (`Stops`).
 #![tactic(auto)]
 
 mod bits;
@@ -16,8 +16,11 @@ mod run;
 mod start;
 
 pub use ends::{End, Halt, Stop};
-pub use laws::{overwritten_words, runs_add_up, runs_go_on, text_words};
+pub use laws::{data_bytes, overwritten_words, runs_add_up, runs_go_on, text_words};
 pub use machine::Machine;
+pub use pw_image::LoadError;
 
+#[cfg(test)]
+mod load_tests;
 #[cfg(test)]
 mod tests;

@@ -1,13 +1,17 @@
 // The machine as its callers see it.
 
-ghost use Rattle.std.specs.Prelude.{◌≡◌, ◌%◌, ◌<◌, ◌≤◌, ◌≢◌, ◌⊎◌, ◌↔◌, [], length, IfOk, IfSome, IsNone};
+ghost use Rattle.std.specs.Prelude.{◌≡◌, ◌%◌, ◌<◌, ◌≤◌, ◌≢◌, ◌⊎◌, ◌↔◌, [], length, IfOk, IfSome, IsNone, Ok};
+ghost use Rattle.pw_image.specs.Image.{Contents, IsImageFile};
+ghost use Rattle.pw_image.specs.Reading.{image_file_at};
+ghost use Rattle.pw_image.specs.Loading.{GivesLoad, loaded_as};
 ghost use Rattle.pw_machine.specs.Core as core;
 ghost use Rattle.pw_machine.specs.Start.{start_core};
-ghost use Rattle.pw_machine.specs.Stops.{IsRun, IsBeforeBreak, StaysStopped, ReadCount, WriteCount, end_of};
+ghost use Rattle.pw_machine.specs.Stops.{loaded, IsRun, IsBeforeBreak, StaysStopped, ReadCount, WriteCount, end_of};
 
 use crate::ends::Stop;
-use crate::processor::{MEMORY, Processor};
+use crate::processor::{MEMORY, Processor, TEXT};
 use crate::run;
+use pw_image::{Image, LoadError, read_image};
 use pw_io::{NoMemory, Sink, Source};
 use std::alloc::Global;
 use std::marker::Model;
@@ -28,19 +32,50 @@ impl Model for Machine {
 }
 
 impl Machine {
-    /// A machine at the start of a program that is these words and has no data. Its stack is said to be
-    /// of `stack` bytes, which the words themselves watch over.
+    /// The machine at the start of the program in an image file. It takes all memory that the run needs.
+    /// A fault is the first field of the file, in order, that is short or breaks its rule.
+    pub fn load(alloc: Global, image: &[u8]) -> Result<Machine, LoadError>
+        // What is loaded stands at the start of an image whose file the bytes are.
+        ensures found { IfOk result (λ machine. (c : Contents) × IsImageFile image.now c × (machine ≡ loaded c.image)) }
+        // The file of an image is loaded, unless memory runs out.
+        ensures only { (c : Contents) → IsImageFile image.now c → GivesLoad (λ machine. machine) result (Ok (loaded c.image)) }
+        // Which fault it is.
+        ensures exact { GivesLoad (λ machine. machine) result (loaded_as loaded (image_file_at image.now)) }
+    {
+        Machine::load_alone(alloc, image)
+    }
+
+    /// The machine at the start of an image, by what reading its file finds.
+    fn load_alone(alloc: Global, image: &[u8]) -> Result<Machine, LoadError>
+        ensures { GivesLoad (λ machine. machine) result (loaded_as loaded (image_file_at image.now)) }
+    {
+        let Image { memory, .. } = read_image(alloc, image)?;
+        let processor = Processor::start(
+            alloc,
+            memory.entry,
+            &memory.words,
+            memory.data_size,
+            &memory.items,
+        )?;
+        Ok(Machine {
+            processor,
+            steps: 0,
+        })
+    }
+
+    /// The machine at the start of a program that is these words, entered at the first, and has no data.
+    /// No rule of the machine looks at the size of a stack, so `stack` is not used.
     pub fn from_words(alloc: Global, words: &[u32], stack: u32) -> Result<Machine, NoMemory>
         requires some_words { 0 < length words.now }
         requires few_words { length words.now ≤ 65536 }
         requires stack_from { 4096 ≤ stack }
         requires stack_to { stack ≤ 16777216 }
-        ensures start { IfOk result (λ machine. machine.core ≡ start_core 4096 words.now []) }
+        ensures start { IfOk result (λ machine. machine.core ≡ start_core 4096 words.now 0 []) }
         ensures steps { IfOk result (λ machine. machine.steps ≡ 0) }
     {
         let _ = stack;
         Ok(Machine {
-            processor: Processor::start(alloc, words)?,
+            processor: Processor::start(alloc, TEXT, words, 0, &[])?,
             steps: 0,
         })
     }

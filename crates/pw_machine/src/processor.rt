@@ -1,10 +1,11 @@
 // The processor: the machine apart from its input and output. One step of it is `step`.
 
-ghost use Rattle.std.specs.Prelude.{◌≡◌, ◌+◌, ◌-◌, ◌*◌, ◌^◌, ◌%◌, ◌<◌, ◌≤◌, IfNone, IfOk, length, []};
+ghost use Rattle.std.specs.Prelude.{◌≡◌, ◌+◌, ◌-◌, ◌*◌, ◌^◌, ◌%◌, ◌<◌, ◌≤◌, IfNone, IfOk, length, map};
 ghost use Rattle.std.specs.Bool.{OnTrue};
 
 use crate::ends::{End, Halt};
 use crate::{bits, memory, start};
+use pw_image::DataItem;
 use pw_inst::Inst;
 use pw_io::NoMemory;
 use std::alloc::Global;
@@ -50,24 +51,35 @@ impl Model for Processor {
 }
 
 impl Processor {
+    ghost use Rattle.pw_image.specs.Image.{AreItems, data_start, item_view};
     ghost use Rattle.pw_machine.specs.Start.{start_core};
 
-    /// The processor at the start of a program that is these words and has no data.
-    #[tactic(auto, using(crate::proofs::Memories::start_memory_text), unfolding(crate::specs::Start::start_core))]
-    pub(crate) fn start(alloc: Global, words: &[u32]) -> Result<Processor, NoMemory>
-        requires { length words.now ≤ 65536 }
-        ensures { IfOk result (λ p. p ≡ start_core 4096 words.now []) }
+    /// The processor at the start of a program: its entry, its words, and its `data_size` bytes of data,
+    /// which are 0 but for the items.
+    #[tactic(auto, unfolding(crate::specs::Start::start_core))]
+    pub(crate) fn start(
+        alloc: Global,
+        entry: u32,
+        words: &[u32],
+        data_size: u32,
+        items: &[DataItem],
+    ) -> Result<Processor, NoMemory>
+        requires few_words { length words.now ≤ 65536 }
+        requires data_fits { data_start (length words.now) + data_size ≤ 67108864 }
+        requires items { AreItems data_size 0 (map item_view items.now) }
+        ensures { IfOk result (λ p. p ≡ start_core entry words.now data_size (map item_view items.now)) }
     {
         let text = words.len() as u32;
         let data_start = start::rounded_up(8, TEXT + 4 * text);
         let mut registers = [0; 32];
-        registers[30] = start::rounded_up(64, data_start) + 64;
+        registers[30] = start::rounded_up(64, data_start + data_size) + 64;
         let mut memory = start::blank(alloc, MEMORY as usize)?;
-        start::fill(&mut memory, TEXT as usize, words);
+        start::put_words(&mut memory, TEXT as usize, words);
+        start::put_items(&mut memory, data_start as usize, data_size, items);
         Ok(Processor {
             registers,
-            front: TEXT,
-            back: TEXT + 4,
+            front: entry,
+            back: entry.wrapping_add(4),
             nullify: false,
             shift: 0,
             memory,

@@ -1,10 +1,11 @@
-// The start of a program: its words in the memory.
+// The start of a program: its words and its data in the memory.
 
-ghost use Rattle.std.specs.Prelude.{◌≡◌, ◌+◌, ◌-◌, ◌*◌, ◌^◌, ◌<◌, ◌≤◌, length, vec_len, IfOk};
-ghost use Rattle.std.specs.Int.{to_be_bytes, w32};
-ghost use Rattle.pw_machine.specs.Start.{zeros, overwritten, bytes_of};
+ghost use Rattle.std.specs.Prelude.{◌≡◌, ◌+◌, ◌-◌, ◌*◌, ◌^◌, ◌<◌, ◌≤◌, length, map, vec_len, IfOk};
+ghost use Rattle.pw_image.specs.Image.{AreItems, item_view};
+ghost use Rattle.pw_machine.specs.Start.{zeros, overwritten, with_items, bytes_of};
 ghost use Rattle.pw_machine.specs.Start as start;
 
+use pw_image::DataItem;
 use pw_io::NoMemory;
 use std::alloc::Global;
 
@@ -17,21 +18,32 @@ pub(crate) fn blank(alloc: Global, size: usize) -> Result<Vec<u8>, NoMemory>
     vec![in alloc; 0u8; size]
 }
 
-/// Puts the bytes of a word at a place.
-fn put(memory: &mut [u8], at: usize, word: u32)
-    requires { at + 4 ≤ length memory.old }
-    ensures { memory.new ≡ overwritten memory.old at (to_be_bytes w32 word) }
+/// Puts bytes at a place.
+fn put(memory: &mut [u8], at: usize, bytes: &[u8])
+    requires { at + length bytes.now ≤ length memory.old }
+    ensures { memory.new ≡ overwritten memory.old at bytes.now }
 {
-    memory[at..at + 4].copy_from_slice(&word.to_be_bytes());
+    memory[at..at + bytes.len()].copy_from_slice(bytes);
 }
 
 /// Puts the bytes of words at a place, one word after another.
-pub(crate) fn fill(memory: &mut [u8], at: usize, words: &[u32])
+pub(crate) fn put_words(memory: &mut [u8], at: usize, words: &[u32])
     requires { at + 4 * length words.now ≤ length memory.old }
     ensures { memory.new ≡ overwritten memory.old at (bytes_of words.now) }
 {
     for (i, word) in words.iter().enumerate() {
-        put(memory, at + 4 * i, *word);
+        put(memory, at + 4 * i, &word.to_be_bytes());
+    }
+}
+
+/// Puts the items of `size` bytes of data at their offsets from a place.
+pub(crate) fn put_items(memory: &mut [u8], at: usize, size: u32, items: &[DataItem])
+    requires room { at + size ≤ length memory.old }
+    requires items { AreItems size 0 (map item_view items.now) }
+    ensures { memory.new ≡ with_items memory.old at (map item_view items.now) }
+{
+    for item in items {
+        put(memory, at + item.offset as usize, &item.bytes);
     }
 }
 

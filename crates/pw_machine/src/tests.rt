@@ -149,7 +149,7 @@ fn run<I: Source, O: Sink>(machine: &mut Machine, input: &mut I, out: &mut O, bu
 }
 
 /// Runs a program in turns of `budget` steps, and then again, to a text of what it did.
-fn run_in_turns(
+pub(crate) fn run_in_turns(
     alloc: Global,
     machine: &mut Machine,
     input: &[u8],

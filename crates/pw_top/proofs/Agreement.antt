@@ -36,15 +36,15 @@ words-cons n numbers = refl
 -- ---- the start
 
 first_registers : List ℕ → List ℕ
-first_registers words = slice_set (replicate 32 0) 30 (stack_start_of words [])
+first_registers words = slice_set (replicate 32 0) 30 (stack_start_of words 0)
 
-start_core-spot : (words : List ℕ) → start_core 4096 words [] ≡ spot (start_memory words []) (length words) (data_start_of words) (first_registers words) 4096 4100
+start_core-spot : (words : List ℕ) → start_core 4096 words 0 [] ≡ spot (start_memory words []) (length words) (data_start_of words) (first_registers words) 4096 4100
 unfolding start_core first_registers
 start_core-spot words = refl
 
 first_registers-size : (words : List ℕ) → length (first_registers words) ≡ 32
 unfolding first_registers
-first_registers-size words = length-set (replicate 32 0) 30 (stack_start_of words []) ∙ length-replicate {A = ℕ} 32 0
+first_registers-size words = length-set (replicate 32 0) 30 (stack_start_of words 0) ∙ length-replicate {A = ℕ} 32 0
 
 run_of-none : (s : State) (memory : List ℕ) (text start : ℕ) (registers : List ℕ) (a back : ℕ) → s.core ≡ spot memory text start registers a back → run_of 0 s ≡ Running s
 unfolding run_of

@@ -1,10 +1,10 @@
 -- The words of a program in the memory at the start: at each address of the text stands its word.
-use Rattle.std.proofs.Common.{ℕ, ◌+◌, ◌*◌, ◌/◌, ◌%◌, ◌^◌, ◌<◌, ◌≤◌, ◌≡◌, List, [], ◌∷◌, ◌++◌, length, take, drop, get_or, sym, ap, ◌∙◌, arith, append_assoc, length-append}
+use Rattle.std.proofs.Common.{ℕ, ◌+◌, ◌*◌, ◌/◌, ◌%◌, ◌^◌, ◌<◌, ◌≤◌, ◌≡◌, List, [], ◌∷◌, ◌++◌, length, take, drop, get_or, refl, sym, ap, ◌∙◌, arith, append_assoc, length-append}
 use Rattle.std.proofs.lemmas.List.{get_or-append-add, length-take-le, length-replicate}
 use Rattle.std.specs.Int.{to_be_bytes, w32}
 use Rattle.pw_machine.specs.Core.{word_at}
 use Rattle.pw_machine.specs.Start.{overwritten, bytes_of, start_memory, zeros}
-use Rattle.pw_machine.proofs.Memories.{start_memory_text, bytes_of-append, length-bytes_of}
+use Rattle.pw_machine.proofs.Memories.{bytes_of-append, length-bytes_of}
 
 -- the memory holds the words from an address on
 pub record HasText (memory words : List ℕ) (start : ℕ) : Type 0 where
@@ -30,7 +30,7 @@ blank-has n start memory words e fits = overwritten-has (zeros n) memory words s
 
 -- the memory at the start holds the words
 pub start-has_text : (words : List ℕ) → HasText (start_memory words []) words 4096
-start-has_text words = blank-has 67108864 4096 (start_memory words []) words (start_memory_text words) (omega arith)
+start-has_text words = blank-has 67108864 4096 (start_memory words []) words refl (omega arith)
 
 -- the four bytes of a word, read as a word
 four_bytes : (word p q r s : ℕ) → word < 2 ^ 32 → p ≡ word / 256 ^ 3 % 256 → q ≡ word / 256 ^ 2 % 256 → r ≡ word / 256 ^ 1 % 256 → s ≡ word % 256

@@ -7,7 +7,7 @@ use Rattle.pw_top.specs.SourceRun.{SourceEnd, SourceRun, Frames, source_run, End
 
 -- the machine with these words at their start, over an input
 abbrev pub start_of : List ℕ → List ℕ → State
-start_of words input = record { core = start_core 4096 words []; rest = input; output = [] }
+start_of words input = record { core = start_core 4096 words 0 []; rest = input; output = [] }
 
 -- The machine gave the source's output and read as much of the input as the source did.
 pub record SameStreams (source : SourceRun) (input : List ℕ) (machine : State) : Type 0 where

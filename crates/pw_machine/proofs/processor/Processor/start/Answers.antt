@@ -1,14 +1,21 @@
-use Rattle.std.proofs.Common.{◌≡◌, List, [], ℕ, ap, sym, ◌∙◌, arith, length}
-use Rattle.pw_machine.specs.Start.{overwritten, bytes_of, start_memory}
-use Rattle.pw_machine.proofs.Memories.{start_memory_text, take_whole, start_core_is}
+use Rattle.std.proofs.Common.{◌≡◌, List, ℕ, ap, ◌∙◌, arith, length, map}
+use Rattle.pw_image.specs.Image.{item_view}
+use Rattle.pw_machine.specs.Start.{zeros, overwritten, with_items, bytes_of, start_memory}
+use Rattle.pw_machine.proofs.Memories.{take_whole, start_core_is}
 use Rattle.pw_machine.proofs.processor.Processor.start.Goals as goal
 
 pub returns : goal.returns
 returns c =
     let words = c.args.words.now in
-    let memory : c.fill.new.memory ≡ start_memory words [] =
-    c.fill.ensures
-    ∙ ap (λ (m : List ℕ). overwritten m 4096 (bytes_of words)) (c.deref_mut.ensures.value ∙ c.in_ok-memory.ensures.zeros)
-    ∙ sym (start_memory_text words) in
-    let size : c.in_ok-memory.memory.len ≡ length c.fill.new.memory = omega arith in
-    start_core_is words _ c.rounded_up-data_start.result c.rounded_up.result (take_whole _ _ _ size ∙ memory) c.rounded_up-data_start.ensures c.rounded_up.ensures
+    let items = map item_view c.args.items.now in
+    let text = overwritten (zeros 67108864) 4096 (bytes_of words) in
+    let blank : c.deref_mut.result.now ≡ zeros 67108864 = c.deref_mut.ensures.value ∙ c.in_ok-memory.ensures.zeros in
+    let first : c.in_ok-memory.memory.len ≡ length c.put_words.new.memory = omega arith in
+    let with_text : c.deref_mut-2.result.now ≡ text =
+    c.deref_mut-2.ensures.value ∙ take_whole _ _ _ first ∙ c.put_words.ensures ∙ ap (λ (m : List ℕ). overwritten m 4096 (bytes_of words)) blank in
+    let memory : c.put_items.new.memory ≡ start_memory words items =
+    c.put_items.ensures
+    ∙ ap (λ (m : List ℕ). with_items m c.rounded_up-data_start.result items) with_text
+    ∙ ap (λ (a : ℕ). with_items text a items) c.rounded_up-data_start.ensures in
+    let second : c.in_ok-memory.memory.len ≡ length c.put_items.new.memory = omega arith in
+    start_core_is c.args.entry words c.args.data_size items _ c.rounded_up-data_start.result c.rounded_up.result (take_whole _ _ _ second ∙ memory) c.rounded_up-data_start.ensures c.rounded_up.ensures

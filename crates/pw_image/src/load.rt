@@ -1,0 +1,98 @@
+//! What the calls that take an image file answer, and the map of its names.
+
+ghost use Rattle.std.specs.Prelude.{◌≡◌, List, length, map, IfOk, Ok};
+ghost use Rattle.pw_image.specs.Image.{Contents, IsImageFile};
+ghost use Rattle.pw_image.specs.Reading.{image_file_at};
+ghost use Rattle.pw_image.specs.Loading.{GivesLoad, loaded_as, function_entry, global_entry, map_view, map_of};
+
+use crate::image::{Function, GlobalObject};
+use crate::reading::read_image;
+use pw_value::{FileError, Name};
+use std::alloc::{AllocError, Global};
+
+/// Why an image is not loaded: the bytes are the file of none, or there is no memory. `at` is the offset
+/// of the first field, in order, that is short or breaks its rule.
+#[derive(Clone, Copy, PartialEq, Eq, Debug)]
+pub enum LoadError {
+    LoadFault { at: usize },
+    NoMemory,
+}
+
+impl From<AllocError> for LoadError {
+    ghost use Rattle.pw_image.specs.declared.load.LoadError.TheVariants.{NoMemory};
+
+    ghost from_gives = { λ _ e. e ≡ NoMemory };
+
+    fn from(_none: AllocError) -> LoadError {
+        LoadError::NoMemory
+    }
+}
+
+impl From<FileError> for LoadError {
+    ghost use Rattle.pw_image.specs.Loading.{load_error_of};
+
+    ghost from_gives = { λ fault e. e ≡ load_error_of fault };
+
+    fn from(fault: FileError) -> LoadError {
+        match fault {
+            FileError::FileFault { at } => LoadError::LoadFault { at },
+            FileError::NoMemory => LoadError::NoMemory,
+        }
+    }
+}
+
+/// Where a program's names stand, in the order of linking.
+#[derive(Debug, Drop)]
+pub struct Map {
+    /// Each function's name, its address and the bytes of its frame.
+    pub functions: Vec<(Name, u32, u32)>,
+    /// Each global object's name and its address.
+    pub globals: Vec<(Name, u32)>,
+}
+
+/// The functions of a map.
+fn function_entries(
+    alloc: Global,
+    functions: Vec<Function>,
+) -> Result<Vec<(Name, u32, u32)>, AllocError>
+    ensures { IfOk result (λ v. v.items ≡ map function_entry functions.items) }
+{
+    functions
+        .into_iter()
+        .map(|f| (f.name, f.address, f.frame))
+        .collect(alloc)
+}
+
+/// The global objects of a map.
+fn global_entries(alloc: Global, globals: Vec<GlobalObject>) -> Result<Vec<(Name, u32)>, AllocError>
+    ensures { IfOk result (λ v. v.items ≡ map global_entry globals.items) }
+{
+    globals
+        .into_iter()
+        .map(|g| (g.name, g.address))
+        .collect(alloc)
+}
+
+/// The map in the image file that the bytes are. A fault is the first field, in order, that is short or
+/// breaks its rule, as of [`read_image`].
+pub fn read_map(alloc: Global, bytes: &[u8]) -> Result<Map, LoadError>
+    // What is read is the map of an image whose file the bytes are.
+    ensures found { IfOk result (λ map. (c : Contents) × IsImageFile bytes.now c × (map_view map ≡ map_of c.image)) }
+    // The map of an image is read from its file, unless memory runs out.
+    ensures only { (c : Contents) → IsImageFile bytes.now c → GivesLoad map_view result (Ok (map_of c.image)) }
+    // Which fault it is.
+    ensures exact { GivesLoad map_view result (loaded_as map_of (image_file_at bytes.now)) }
+{
+    map_alone(alloc, bytes)
+}
+
+/// The map in an image file, by what reading finds.
+fn map_alone(alloc: Global, bytes: &[u8]) -> Result<Map, LoadError>
+    ensures { GivesLoad map_view result (loaded_as map_of (image_file_at bytes.now)) }
+{
+    let image = read_image(alloc, bytes)?;
+    Ok(Map {
+        functions: function_entries(alloc, image.functions)?,
+        globals: global_entries(alloc, image.globals)?,
+    })
+}
