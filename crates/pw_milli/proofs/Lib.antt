@@ -1,0 +1,13 @@
+pub mod Codes
+pub mod Small
+pub mod Bridge
+pub mod Returns
+pub mod Stretches
+pub mod Dividing
+pub mod Signs
+pub mod SignedParts
+pub mod Quotients
+pub mod LibraryCalls
+pub mod Digits
+pub mod Multiplying
+pub mod Product

@@ -1,0 +1,264 @@
+// The routines on the machine: a program reads pairs of operands, calls a routine and writes what it gave.
+// The results are from gcc.
+
+use crate::pairs::PAIRS;
+use crate::{Routine, library};
+use pw_io::{SureSink, SureSource};
+use pw_machine::{Machine, Stop};
+use std::alloc::Global;
+use std::process::Abort;
+use std::test::Fail;
+
+/// Puts 1001 to 1030 into the registers 1 to 30. Then, as long as there is input: reads four bytes into
+/// register 3 and four into register 4, puts these into registers 26 and 25, calls the routine behind the
+/// program through register 31 and writes the four bytes of register 29. Ends with status 300.
+const CALLER: &str = "\
+340107d2 340207d4 340307d6 340407d8 340507da 340607dc 340707de 340807e0 340907e2 340a07e4
+340b07e6 340c07e8 340d07ea 340e07ec 340f07ee 341007f0 341107f2 341207f4 341307f6 341407f8
+341507fa 341607fc 341707fe 34180800 34190802 341a0804 341b0806 341c0808 341d080a 341e080c
+00002000 801c4128 08000240 d4630908 0b830243 00002000 d4630908 0b830243 00002000 d4630908
+0b830243 00002000 d4630908 0b830243 00002000 d4840908 0b840244 00002000 d4840908 0b840244
+00002000 d4840908 0b840244 00002000 d4840908 0b840244 0803025a 08040259 ebe00060 08000240
+d3ba18f8 00004000 d3ba19f8 00004000 d3ba1af8 00004000 d3ba1bf8 00004000 e81f1ec5 08000240
+341a0258 00006000";
+
+/// Where the caller's routine begins, and where it returns to.
+const ROUTINE: u32 = 4096 + 4 * 72;
+
+const RETURN: u32 = 4096 + 4 * 60;
+
+/// Reads a byte by `getchar`, and as long as there is one, writes it by `putchar`; then calls `exit` with 300.
+/// The three stand behind the program in the order of the library.
+const ECHO: &str = "\
+e8400060 08000240 801c4028 08000240 081c025a e8400048 08000240 e81f1fbd 08000240 341a0258
+e8400000 08000240";
+
+/// OR 0,0,0
+const NOP: u32 = 0x0800_0240;
+
+/// The registers that a routine of arithmetic may change.
+const SCRATCH: [usize; 7] = [1, 21, 22, 25, 26, 28, 29];
+
+/// A program with routines behind it.
+fn program(
+    rt: &impl Abort,
+    alloc: Global,
+    text: &str,
+    routines: &[Routine],
+) -> Result<Machine, Fail> {
+    let mut words = Vec::new(alloc);
+    for word in text.split_whitespace() {
+        words.push(u32::from_str_radix(word, 16)?)?;
+    }
+    for routine in routines {
+        for word in routine.words {
+            words.push(*word)?;
+        }
+    }
+    words.push(NOP)?;
+    assert!(rt; words.len() <= 65_536);
+    Ok(Machine::from_words(alloc, &words, 4096)?)
+}
+
+/// A column of the table, and what stands in place of `-`.
+fn column(alloc: Global, index: usize) -> Result<Vec<Option<u32>>, Fail> {
+    let mut numbers = Vec::new(alloc);
+    for line in PAIRS.lines() {
+        let text = line.split_whitespace().nth(index).ok_or("no column")?;
+        if text == "-" {
+            numbers.push(None)?;
+        } else {
+            numbers.push(Some(u32::from_str_radix(text, 16)?))?;
+        }
+    }
+    Ok(numbers)
+}
+
+/// The operands as the caller reads them.
+fn operands(alloc: Global) -> Result<Vec<u8>, Fail> {
+    let mut bytes = Vec::new(alloc);
+    for line in PAIRS.lines() {
+        for text in line.split_whitespace().take(2) {
+            for byte in u32::from_str_radix(text, 16)?.to_be_bytes() {
+                bytes.push(byte)?;
+            }
+        }
+    }
+    Ok(bytes)
+}
+
+/// What `run` answers, and nothing more that a proof would have to carry.
+fn run(machine: &mut Machine, input: &mut SureSource, out: &mut SureSink, budget: u64) -> Stop {
+    machine.run(input, out, budget)
+}
+
+/// The words that the caller wrote.
+fn written(alloc: Global, bytes: &[u8]) -> Result<Vec<u32>, Fail> {
+    let mut words = Vec::new(alloc);
+    let mut word = 0u32;
+    for (i, byte) in bytes.iter().enumerate() {
+        word = (word << 8) | u32::from(*byte);
+        if i % 4 == 3 {
+            words.push(word)?;
+        }
+    }
+    Ok(words)
+}
+
+/// Runs a routine on all pairs, and compares what it gave with a column of the table.
+fn check_results(rt: &impl Abort, alloc: Global, name: &str, index: usize) -> Result<(), Fail> {
+    let routine = named(name)?;
+    let wanted = column(alloc, index)?;
+    let mut input = SureSource::new(alloc, &operands(alloc)?)?;
+    let mut out = SureSink::new(alloc, 4000)?;
+    let mut machine = program(rt, alloc, CALLER, &[routine])?;
+    let stop = run(&mut machine, &mut input, &mut out, 1_000_000);
+    assert_eq!(rt; stop, Stop::Ended(44), "{name}");
+    let got = written(alloc, out.bytes())?;
+    assert_eq!(rt; got.len(), wanted.len(), "{name}");
+    for (i, (word, want)) in got.iter().zip(wanted.iter()).enumerate() {
+        if let Some(want) = want {
+            assert_eq!(rt; *word, *want, "{name} at pair {i}");
+        }
+    }
+    Ok(())
+}
+
+/// The routine of a name.
+fn named(name: &str) -> Result<Routine, Fail> {
+    for routine in library() {
+        if routine.name == name {
+            return Ok(*routine);
+        }
+    }
+    Err("no such routine".into())
+}
+
+/// All registers.
+fn registers(alloc: Global, machine: &Machine) -> Result<Vec<u32>, Fail> {
+    let mut words = Vec::new(alloc);
+    for r in 0u8..32 {
+        words.push(machine.reg(r))?;
+    }
+    Ok(words)
+}
+
+/// The words of the memory from the text to beyond the start of the stack.
+fn memory(alloc: Global, machine: &Machine) -> Result<Vec<Option<u32>>, Fail> {
+    let mut words = Vec::new(alloc);
+    for i in 0u32..1000 {
+        words.push(machine.word_at(4096 + 4 * i))?;
+    }
+    Ok(words)
+}
+
+/// Steps to the next call of the routine; whether there is one.
+fn comes_to_call(machine: &mut Machine, input: &mut SureSource, out: &mut SureSink) -> bool {
+    for _ in 0u32..200 {
+        if machine.front() == ROUTINE {
+            return true;
+        }
+        run(machine, input, out, 1);
+    }
+    false
+}
+
+/// Steps through a call, and answers how many steps it took, if no more than a bound.
+fn call_steps(
+    machine: &mut Machine,
+    input: &mut SureSource,
+    out: &mut SureSink,
+    bound: u32,
+) -> Option<u32> {
+    for n in 0u32..bound {
+        if machine.front() == RETURN {
+            return Some(n);
+        }
+        run(machine, input, out, 1);
+    }
+    None
+}
+
+/// Whether registers differ in scratch registers alone.
+fn kept(before: &[u32], after: &[u32]) -> bool {
+    for (r, (old, new)) in before.iter().zip(after.iter()).enumerate() {
+        if old != new && !SCRATCH.contains(&r) {
+            return false;
+        }
+    }
+    true
+}
+
+/// Steps through calls on all pairs: each takes no more than `bound` steps and changes scratch registers
+/// alone. Answers the greatest count of steps.
+fn check_steps(rt: &impl Abort, alloc: Global, name: &str, bound: u32) -> Result<u32, Fail> {
+    let routine = named(name)?;
+    let mut input = SureSource::new(alloc, &operands(alloc)?)?;
+    let mut out = SureSink::new(alloc, 4000)?;
+    let mut machine = program(rt, alloc, CALLER, &[routine])?;
+    let start = memory(alloc, &machine)?;
+    let mut most = 0u32;
+    for line in PAIRS.lines() {
+        assert!(rt; comes_to_call(&mut machine, &mut input, &mut out), "{name}");
+        let before = registers(alloc, &machine)?;
+        let steps = call_steps(&mut machine, &mut input, &mut out, bound.saturating_add(1));
+        let steps = steps.ok_or("too many steps")?;
+        let after = registers(alloc, &machine)?;
+        assert!(rt;
+            kept(&before, &after),
+            "{name}: a register is lost at {line}"
+        );
+        most = most.max(steps);
+    }
+    assert!(rt;
+        memory(alloc, &machine)? == start,
+        "{name}: the memory changed"
+    );
+    Ok(most)
+}
+
+#[test]
+fn results(rt: HostRuntime) -> Result<(), Fail> {
+    for (name, index) in [
+        ("$mul", 2),
+        ("$divu", 3),
+        ("$remu", 4),
+        ("$divs", 5),
+        ("$rems", 6),
+    ] {
+        check_results(&rt, rt.alloc(), name, index)?;
+    }
+    Ok(())
+}
+
+// The greatest counts of steps over the table, of a simulation of the same words in another language.
+#[test]
+fn steps(rt: HostRuntime) -> Result<(), Fail> {
+    for (name, bound, greatest) in [
+        ("$mul", 240, 86),
+        ("$divu", 512, 173),
+        ("$remu", 512, 174),
+        ("$divs", 512, 176),
+        ("$rems", 512, 177),
+    ] {
+        let most = check_steps(&rt, rt.alloc(), name, bound)?;
+        assert_eq!(rt; most, greatest, "{name}");
+    }
+    Ok(())
+}
+
+// The library echoes its input and ends with the low 8 bits of 300.
+#[test]
+fn echo(rt: HostRuntime) -> Result<(), Fail> {
+    let mut routines = Vec::new(rt.alloc());
+    for name in ["exit", "getchar", "putchar"] {
+        routines.push(named(name)?)?;
+    }
+    let mut machine = program(&rt, rt.alloc(), ECHO, &routines)?;
+    let mut input = SureSource::new(rt.alloc(), b"to be, or not")?;
+    let mut out = SureSink::new(rt.alloc(), 100)?;
+    let stop = run(&mut machine, &mut input, &mut out, 1000);
+    assert_eq!(rt; stop, Stop::Ended(44));
+    assert_eq!(rt; out.bytes(), b"to be, or not".as_slice());
+    Ok(())
+}
