@@ -1,0 +1,5 @@
+pub mod EachTwoLaws
+pub mod WebLaws
+pub mod SeenLaws
+pub mod DatabaseLaws
+pub mod WritingLemmas

@@ -1,0 +1,13 @@
+//! The database of directives: which globals each function keeps in which registers, and its file.
+#![tactic(auto)]
+
+mod database;
+pub mod laws;
+mod names;
+mod reading;
+mod seen;
+mod writing;
+
+pub use database::{Database, Directives, Role, Web};
+pub use reading::{KIND, read, read_payload};
+pub use writing::write;
