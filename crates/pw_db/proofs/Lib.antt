@@ -3,3 +3,4 @@ pub mod WebLaws
 pub mod SeenLaws
 pub mod DatabaseLaws
 pub mod WritingLemmas
+pub mod ChoosingLaws

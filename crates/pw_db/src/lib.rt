@@ -1,6 +1,7 @@
 //! The database of directives: which globals each function keeps in which registers, and its file.
 #![tactic(auto)]
 
+mod choosing;
 mod database;
 pub mod laws;
 mod names;
@@ -8,6 +9,7 @@ mod reading;
 mod seen;
 mod writing;
 
+pub use choosing::of_module;
 pub use database::{Database, Directives, Role, Web};
 pub use reading::{KIND, read, read_payload};
 pub use writing::write;
