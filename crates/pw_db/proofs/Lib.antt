@@ -4,3 +4,4 @@ pub mod SeenLaws
 pub mod DatabaseLaws
 pub mod WritingLemmas
 pub mod ChoosingLaws
+pub mod StoringLaws

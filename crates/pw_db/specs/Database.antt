@@ -1,6 +1,6 @@
 -- The database of directives: which globals each function keeps in which registers. Its file, and the
 -- payload alone, are one spelling of it.
-use Rattle.std.specs.Prelude.{ℕ, ◌≡◌, ◌≢◌, ◌<◌, ◌≤◌, List, [], ◌∷◌, length, map, All, Contains, Vec, ◌↔◌}
+use Rattle.std.specs.Prelude.{Bool, ℕ, ◌≡◌, ◌≢◌, ◌<◌, ◌≤◌, List, [], ◌∷◌, length, map, All, Contains, Vec, ◌↔◌, IsTrue, nat_lt}
 use Rattle.std.specs.List.{flat_map, AllByRecursion}
 use Rattle.std.specs.declared.alloc.Global.{Global}
 use Rattle.pw_value.specs.declared.name.Name.{Name}
@@ -136,8 +136,8 @@ IsPayload bytes fs = (names : List (List ℕ)) × IsContents (record { names = n
 -- ---- what is put into a database
 
 -- directives that hold a web
-abbrev pub HasWeb : List ℕ × DirectivesValue → Type 0
-HasWeb f = f.1.webs ≢ []
+abbrev pub has_web : List ℕ × DirectivesValue → Bool
+has_web f = nat_lt 0 (length f.1.webs)
 
 -- no name stands twice, and the directives are those of a database
 pub record CanBeStored (fs : List (List ℕ × DirectivesValue)) : Type 0 where
@@ -148,7 +148,7 @@ pub record CanBeStored (fs : List (List ℕ × DirectivesValue)) : Type 0 where
 -- the functions whose directives hold a web, in byte order of their names
 pub record IsStored (fs stored : List (List ℕ × DirectivesValue)) : Type 0 where
   pub order : IsRising (map (λ f. f.0) stored)
-  pub of : (f : List ℕ × DirectivesValue) → Contains stored f ↔ (Contains fs f × HasWeb f)
+  pub of : (f : List ℕ × DirectivesValue) → Contains stored f ↔ (Contains fs f × IsTrue (has_web f))
 
 -- the directives of a function, which are empty where the database lacks it
 abbrev pub empty : DirectivesValue

@@ -7,9 +7,11 @@ pub mod laws;
 mod names;
 mod reading;
 mod seen;
+mod storing;
 mod writing;
 
 pub use choosing::of_module;
 pub use database::{Database, Directives, Role, Web};
 pub use reading::{KIND, read, read_payload};
+pub use storing::payload;
 pub use writing::write;
