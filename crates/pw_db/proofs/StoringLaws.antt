@@ -9,7 +9,7 @@ use Rattle.std.specs.Ordering.{nat_cmp, is_lt, is_eq, ordering_reverse}
 use Rattle.std.specs.Cmp.Lexicographic.{slice_cmp, texts_ties}
 use Rattle.std.specs.declared.cmp.Ordering.{Ordering}
 use Rattle.std.specs.declared.cmp.Ordering.TheVariants.{Less, Equal, Greater}
-use Rattle.std.proofs.lemmas.Cmp.{nat_list_cmp_total}
+use Rattle.std.proofs.lemmas.Cmp.{nat_list_cmp_total, tied_itself}
 use Rattle.std.proofs.lemmas.Slice.Eq.{bytes_eq-Decides}
 use Rattle.std.proofs.lemmas.List.Concat.{flat_map-cons}
 use Rattle.std.proofs.lemmas.List.Sorted.{IsPermutation-map, IsPermutation-sym, Contains-permutation}
@@ -205,3 +205,23 @@ is_stored view fs chosen sorted can same moved up =
 pub stored_payload : {E : Type 0} (fs stored : List (List ℕ × DirectivesValue)) (r : Result (Vec ℕ) E) → IsStored fs stored → IfOk r (λ v. IsPayload v.items stored) → IfOk r (λ v. (gs : List (List ℕ × DirectivesValue)) × IsStored fs gs × IsPayload v.items gs)
 stored_payload fs stored (Ok v) is made = (stored, is, made)
 stored_payload fs stored (Err e) is made = tt
+
+-- ---- a database can be stored again
+
+less_differs : (a b : List ℕ) → slice_cmp nat_cmp a b ≡ Less → a ≢ b
+less_differs a b less same = let level : slice_cmp nat_cmp a b ≡ Equal = ap (slice_cmp nat_cmp a) (sym same) ∙ tied_itself nat_list_cmp_total a in cc
+
+above_all : {D : Type 0} (low before : List ℕ) (fs : List (List ℕ × D)) → slice_cmp nat_cmp low before ≡ Less → IsRisingBehind (Some before) (map (λ f. f.0) fs) → AllByRecursion (λ g. low ≢ g.0) fs
+above_all low before [] less up = tt
+above_all low before (f ∷ fs) less up = let far = nat_list_cmp_total.trans low before f.0 less up.0 in (less_differs low f.0 far, above_all low f.0 fs far up.1)
+
+behind_differ : {D : Type 0} (f : List ℕ × D) (fs : List (List ℕ × D)) → IsRisingBehind (Some f.0) (map (λ g. g.0) fs) → AllByRecursion (λ g. f.0 ≢ g.0) fs
+behind_differ f [] up = tt
+behind_differ f (g ∷ fs) up = (less_differs f.0 g.0 up.0, above_all f.0 g.0 fs up.0 up.1)
+
+rising_differ : {D : Type 0} (before : Option (List ℕ)) (fs : List (List ℕ × D)) → IsRisingBehind before (map (λ f. f.0) fs) → EachTwo (λ f g. f.0 ≢ g.0) fs
+rising_differ before [] up = tt
+rising_differ before (f ∷ fs) up = (behind_differ f fs up.1, rising_differ (Some f.0) fs up.1)
+
+pub can_be_stored : (fs : List (List ℕ × DirectivesValue)) → IsDatabase fs → CanBeStored fs
+can_be_stored fs is = record { distinct = rising_differ None fs is.functions; directives = is.directives; agree = is.agree }
