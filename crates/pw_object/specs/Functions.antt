@@ -1,9 +1,9 @@
 -- The functions of an object file: words, and fixes that a linker puts into them.
-use Rattle.std.specs.Prelude.{ℕ, ◌<◌, ◌≤◌, List, [], ◌∷◌, ◌++◌, length, map, Contains}
+use Rattle.std.specs.Prelude.{ℕ, ◌<◌, List, [], ◌∷◌, length, All, Contains}
 use Rattle.std.specs.List.{flat_map, AllByRecursion}
-use Rattle.pw_value.specs.Fields.{u8, u32, parts, FitsU32}
+use Rattle.pw_value.specs.Fields.{u8, u32, parts}
 use Rattle.pw_value.specs.FieldNames.{name_index}
-use Rattle.pw_files.specs.Rising.{counted, FitsList}
+use Rattle.pw_files.specs.Rising.{counted}
 use Rattle.pw_object.specs.declared.fixes.FixKind.{FixKind}
 use Rattle.pw_object.specs.declared.fixes.FixKind.TheVariants as kind
 use Rattle.pw_object.specs.declared.fixes.Symbol.{Symbol}
@@ -66,3 +66,14 @@ names_of_symbol (symbol.Routine number) = []
 
 abbrev pub names_of_function : FunctionValue → List (List ℕ)
 names_of_function f = f.name ∷ flat_map (λ x. names_of_symbol x.symbol) f.fixes
+
+-- these names stand in a table
+abbrev pub IsSymbolNamed : List (List ℕ) → Symbol → Type 0
+IsSymbolNamed names (symbol.Named name) = Contains names name
+IsSymbolNamed names (symbol.Word word) = Unit {0}
+IsSymbolNamed names symbol.StackLimit = Unit {0}
+IsSymbolNamed names (symbol.Routine number) = Unit {0}
+
+pub record IsFunctionNamed (names : List (List ℕ)) (f : FunctionValue) : Type 0 where
+  pub name : Contains names f.name
+  pub fixes : All (λ x. IsSymbolNamed names x.symbol) f.fixes

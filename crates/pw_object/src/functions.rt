@@ -121,11 +121,7 @@ fn read_fix<'a>(
 }
 
 /// So many words.
-fn read_word_items(
-    alloc: Global,
-    count: u32,
-    bytes: &[u8],
-) -> Result<(Vec<u32>, &[u8]), FieldError>
+fn read_word_items(alloc: Global, count: u32, bytes: &[u8]) -> Result<(Vec<u32>, &[u8]), FieldError>
     ensures { Gives (λ x. (x.0.items, x.1.now)) result (repeated u32_at count bytes.now) }
 {
     let mut items = Vec::new(alloc);

@@ -3,6 +3,11 @@
 
 pub mod fixes;
 pub mod functions;
+pub mod laws;
+pub mod writing;
 
 pub use fixes::{Fix, FixKind, Symbol};
 pub use functions::ObjectFn;
+
+#[cfg(test)]
+mod tests;
