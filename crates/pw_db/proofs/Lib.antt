@@ -1,0 +1,7 @@
+pub mod EachTwoLaws
+pub mod WebLaws
+pub mod SeenLaws
+pub mod DatabaseLaws
+pub mod WritingLemmas
+pub mod ChoosingLaws
+pub mod StoringLaws

@@ -1,0 +1,61 @@
+-- What writing asks of a database's parts, and what it gives.
+use Rattle.std.proofs.Common.{◌≡◌, ℕ, List, [], ◌∷◌, length, map, All, Result, Ok, Err, subst, ap, ◌∙◌, arith}
+use Rattle.std.specs.Prelude.{Contains, IfOk, OnOk}
+use Rattle.std.specs.Global.{Vec}
+use Rattle.std.specs.List.{AllByRecursion}
+use Rattle.std.proofs.lemmas.List.Concat.{flat_map-cons}
+use Rattle.std.proofs.lemmas.List.Elements.{All-from_recursion, recursion_from_All}
+use Rattle.pw_value.specs.Fields.{FitsU32}
+use Rattle.pw_value.specs.FieldFrame.{file, FitsFile}
+use Rattle.pw_value.specs.FieldNames.{IsTableOf}
+use Rattle.pw_value.proofs.NameLaws.{AllUsed, used_by_table}
+use Rattle.pw_files.proofs.RisingLaws.{used_front, used_back}
+use Rattle.pw_db.specs.declared.database.Web.{Web}
+use Rattle.pw_db.specs.declared.database.Role.{Role}
+use Rattle.pw_db.specs.Database.{DirectivesValue, IsDatabase, IsNamedBy, names_of_function, names_of, FitsDatabase, spelling, kind, IsPayload, IsDatabaseFile}
+
+-- ---- a list and what it is seen as
+
+seen : {X Y : Type 0} (view : X → Y) (P : Y → Type 0) (xs : List X) → AllByRecursion P (map view xs) → AllByRecursion (λ x. P (view x)) xs
+seen view P [] all = tt
+seen view P (x ∷ xs) all = (all.0, seen view P xs all.1)
+
+pub seen_all : {X Y : Type 0} (view : X → Y) (P : Y → Type 0) (xs : List X) → AllByRecursion P (map view xs) → All (λ x. P (view x)) xs
+seen_all view P xs all = All-from_recursion (λ x. P (view x)) xs (seen view P xs all)
+
+by_seen : {X Y : Type 0} (view : X → Y) (P : Y → Type 0) (xs : List X) → AllByRecursion (λ x. P (view x)) xs → AllByRecursion P (map view xs)
+by_seen view P [] all = tt
+by_seen view P (x ∷ xs) all = (all.0, by_seen view P xs all.1)
+
+pub all_by_seen : {X Y : Type 0} (view : X → Y) (P : Y → Type 0) (xs : List X) → All (λ x. P (view x)) xs → AllByRecursion P (map view xs)
+all_by_seen view P xs all = by_seen view P xs (recursion_from_All (λ x. P (view x)) xs all)
+
+-- ---- names that stand in a table
+
+globals_named : (names : List (List ℕ)) (ws : List (Web × Role)) → AllUsed (map (λ w. w.global) (map (λ w. w.0) ws)) names → AllByRecursion (λ w. Contains names w.0.global) ws
+globals_named names [] used = tt
+globals_named names (w ∷ ws) used = (used.0, globals_named names ws used.1)
+
+function_named : (names : List (List ℕ)) (f : List ℕ × DirectivesValue) → AllUsed (names_of_function f) names → IsNamedBy names f
+function_named names f used = record { name = used.0; globals = All-from_recursion (λ w. Contains names w.0.global) f.1.webs (globals_named names f.1.webs used.1) }
+
+functions_named : (names : List (List ℕ)) (fs : List (List ℕ × DirectivesValue)) → AllUsed (names_of fs) names → AllByRecursion (IsNamedBy names) fs
+functions_named names [] used = tt
+functions_named names (f ∷ fs) used =
+    let both = subst (λ (ns : List (List ℕ)). AllUsed ns names) (flat_map-cons names_of_function f fs) used in
+    (function_named names f (used_front (names_of_function f) (names_of fs) names both), functions_named names fs (used_back (names_of_function f) (names_of fs) names both))
+
+pub all_named : {R : Type 0} (view : R → List ℕ × DirectivesValue) (names : List (List ℕ)) (xs : List R) → IsTableOf names (names_of (map view xs)) → All (λ x. IsNamedBy names (view x)) xs
+all_named view names xs table = seen_all view (IsNamedBy names) xs (functions_named names (map view xs) (used_by_table names (names_of (map view xs)) table).1)
+
+-- ---- the payload and the file
+
+pub is_payload : {E : Type 0} (names : List (List ℕ)) (fs : List (List ℕ × DirectivesValue)) (r : Result (Vec ℕ) E) → IsDatabase fs → FitsU32 (length names) → IsTableOf names (names_of fs) → OnOk r (FitsDatabase fs)
+    → IfOk r (λ v. v.items ≡ spelling (record { names = names; functions = fs })) → IfOk r (λ v. IsPayload v.items fs)
+is_payload names fs (Ok v) is count table fits written = (names, record { database = is; fits = fits; name_count = count; names = table }, written)
+is_payload names fs (Err e) is count table fits written = tt
+
+pub is_file : {E : Type 0} (fs : List (List ℕ × DirectivesValue)) (payload : List ℕ) (r : Result (Vec ℕ) E) → IsPayload payload fs → OnOk r (FitsFile payload) → IfOk r (λ v. v.items ≡ file kind 1 payload) → IfOk r (λ v. IsDatabaseFile v.items fs)
+is_file fs payload (Ok v) is room sealed =
+    (is.0, record { version = 1; not_below = omega arith; not_above = omega arith; fits = is.1; room = subst FitsFile is.2 room; spelled = sealed ∙ ap (file kind 1) is.2 })
+is_file fs payload (Err e) is room sealed = tt

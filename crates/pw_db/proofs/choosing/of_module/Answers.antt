@@ -1,0 +1,26 @@
+use Rattle.std.proofs.Common.{List, ℕ, ◌∷◌, [], ◌++◌, All, map, take, sym, subst, ap, ◌∙◌}
+use Rattle.std.proofs.lemmas.List.Elements.{All-push}
+use Rattle.std.proofs.lemmas.List.{map_push, take_more}
+use Rattle.pw_value.specs.declared.name.Name.{Name}
+use Rattle.pw_files.specs.Rising.{IsRising}
+use Rattle.pw_db.specs.declared.database.Directives.{Directives}
+use Rattle.pw_db.specs.Database.{HasDirectives, function_view, directives_view}
+use Rattle.pw_db.proofs.ChoosingLaws.{names_seen}
+use Rattle.pw_db.proofs.choosing.of_module.Goals as goal
+
+pub directives_of-requires : goal.directives_of-requires
+directives_of-requires c = subst (λ (fs : List (Name × Directives)). IsRising (map (λ f. f.0) fs)) (sym c.deref.ensures.value) (subst IsRising (names_seen c.args.db.now.functions.items) c.requires.functions)
+
+pub loop-name-preserved : goal.loop-name-preserved
+loop-name-preserved c =
+    let fs = map function_view c.args.db.now.functions.items in
+    let new : Name × Directives = (c.in_ok-copy.field-0, c.in_ok-directives.directives) in
+    let has = subst (λ (gs : List (Name × Directives)). HasDirectives (map function_view gs) (c.name-item.result, directives_view c.in_ok-directives.directives)) c.deref.ensures.value c.in_ok-directives.ensures in
+    let named = subst (λ (n : List ℕ). HasDirectives fs (n, directives_view c.in_ok-directives.directives)) (sym c.in_ok-copy.ensures) has in
+    record {
+      names = ap (λ (gs : List (Name × Directives)). map (λ f. f.0) gs) c.in_ok-push.ensures.items ∙ map_push (λ (f : Name × Directives). f.0) c.loop-name.all.items new
+          ∙ ap (λ (ns : List (List ℕ)). ns ++ c.in_ok-copy.field-0 ∷ []) c.loop-name.invariant.names
+          ∙ ap (λ (n : List ℕ). take c.loop-name.name-index c.args.functions.now ++ n ∷ []) (c.in_ok-copy.ensures ∙ c.name-item.is)
+          ∙ sym (take_more c.args.functions.now c.loop-name.name-index c.name-item.result c.loop-name-test.true);
+      directives = subst (λ (gs : List (Name × Directives)). All (λ f. HasDirectives fs (function_view f)) gs) (sym c.in_ok-push.ensures.items) (All-push (λ f. HasDirectives fs (function_view f)) c.loop-name.all.items new c.loop-name.invariant.directives named);
+    }

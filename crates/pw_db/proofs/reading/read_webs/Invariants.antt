@@ -1,0 +1,14 @@
+use Rattle.std.proofs.Common.{◌≡◌, ◌-◌, ◌++◌, [], map}
+use Rattle.pw_value.specs.Fields.{items_at}
+use Rattle.pw_value.proofs.FieldLoops.{with_front}
+use Rattle.pw_db.specs.Reading.{web_at, next_web}
+use Rattle.pw_db.specs.Seen.{known_web}
+use Rattle.pw_db.proofs.reading.read_webs.Given as goal
+
+abbrev pub invariant-loop : goal.invariant-loop
+invariant-loop l =
+    let earlier = map known_web l.fn.before.webs.items in
+    record {
+      seen : map known_web l.seen.webs.items ≡ earlier ++ map (λ w. w.0) l.webs.items;
+      found : with_front l.webs.items (items_at (λ own. web_at l.names (earlier ++ own) own) next_web (l.count - l.counter) (map (λ w. w.0) l.webs.items) l.rest) ≡ items_at (λ own. web_at l.names (earlier ++ own) own) next_web l.count [] l.bytes;
+    }

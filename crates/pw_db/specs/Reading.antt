@@ -1,0 +1,129 @@
+-- Reading a database from left to right, with the first fault that is met.
+use Rattle.std.specs.Prelude.{ℕ, zero, suc, ◌==◌, ◌&&◌, nat_le, nat_lt, not, Bool, true, List, [], ◌∷◌, ◌++◌, Option, Some, None, Result, Ok, Err, if◌then◌else◌}
+use Rattle.std.specs.List.{list_all}
+use Rattle.std.specs.Str.{bytes_eq}
+use Rattle.pw_value.specs.declared.value.Kind.{Kind}
+use Rattle.pw_value.specs.Fields.{◌>>=◌, done, checked, u8_at, u32_at, flag_at, choice_at, items_at}
+use Rattle.pw_value.specs.FieldFrame.{here, ended, file_at}
+use Rattle.pw_value.specs.FieldNames.{names_at, name_at, first_unused}
+use Rattle.pw_files.specs.Kinds.{scalar_code, scalar_at}
+use Rattle.pw_files.specs.Names.{name_above_at}
+use Rattle.pw_files.specs.Start.{same_truth}
+use Rattle.pw_db.specs.declared.database.Web.{Web}
+use Rattle.pw_db.specs.declared.database.Role.{Role}
+use Rattle.pw_db.specs.declared.database.Role.TheVariants.{Entry, Member}
+use Rattle.pw_db.specs.Database.{DirectivesValue, Contents, webs_of, names_of, kind}
+
+-- ---- webs that were read before
+
+-- the first web of a number
+abbrev pub first_with : ℕ → List Web → Option Web
+first_with id [] = None
+first_with id (w ∷ webs) = if w.id == id then Some w else first_with id webs
+
+-- whether a field fits the web of the same number that stands before, if there is one
+abbrev pub fits_first : Option Web → (Web → Bool) → Bool
+fits_first None test = true
+fits_first (Some w) test = test w
+
+-- ---- a web
+
+-- a number above those of the function's webs before it
+unfoldable pub number_at : List Web → List ℕ → Result (ℕ × List ℕ) ℕ
+number_at own = checked (λ id. list_all (λ w. nat_lt w.id id) own) u32_at
+
+-- the global of no web of the function before it
+unfoldable pub global_at : List (List ℕ) → Option Web → List Web → List ℕ → Result (List ℕ × List ℕ) ℕ
+global_at names first own = checked (λ name. fits_first first (λ w. bytes_eq w.global name) && list_all (λ w. not (bytes_eq w.global name)) own) (name_at names)
+
+unfoldable pub kind_at : Option Web → List ℕ → Result (Kind × List ℕ) ℕ
+kind_at first = checked (λ k. fits_first first (λ w. scalar_code w.kind == scalar_code k)) scalar_at
+
+-- a register that a callee keeps, that of no web of the function before it
+unfoldable pub register_at : Option Web → List Web → List ℕ → Result (ℕ × List ℕ) ℕ
+register_at first own = checked (λ r. (nat_le 3 r && nat_le r 18) && (fits_first first (λ w. w.reg == r) && list_all (λ w. not (w.reg == r)) own)) u8_at
+
+unfoldable pub writes_at : Option Web → List ℕ → Result (Bool × List ℕ) ℕ
+writes_at first = checked (λ b. fits_first first (λ w. same_truth w.writes b)) flag_at
+
+abbrev pub role_of : ℕ → Role
+role_of zero = Entry
+role_of (suc code) = Member
+
+unfoldable pub role_at : List ℕ → Result (Role × List ℕ) ℕ
+role_at = do
+  code ← choice_at 2
+  done (role_of code)
+
+-- a web behind others: `seen` are those of the file, `own` those of the function
+unfoldable pub web_at : List (List ℕ) → List Web → List Web → List ℕ → Result ((Web × Role) × List ℕ) ℕ
+web_at names seen own = do
+  id ← number_at own
+  global ← global_at names (first_with id seen) own
+  kind ← kind_at (first_with id seen)
+  reg ← register_at (first_with id seen) own
+  writes ← writes_at (first_with id seen)
+  role ← role_at
+  done (record { id = id; global = global; kind = kind; reg = reg; writes = writes }, role)
+
+-- ---- functions
+
+abbrev pub next_web : List Web → Web × Role → List Web
+next_web own w = own ++ w.0 ∷ []
+
+-- so many webs of a function, where `seen` are those of the functions before it
+abbrev pub webs_at : List (List ℕ) → List Web → ℕ → List ℕ → Result (List (Web × Role) × List ℕ) ℕ
+webs_at names seen count = items_at (λ own. web_at names (seen ++ own) own) next_web count []
+
+-- no free registers
+unfoldable pub no_free_at : List ℕ → Result (List ℕ × List ℕ) ℕ
+no_free_at = do
+  count ← checked (λ n. n == 0) u32_at
+  done []
+
+-- the function before, and the webs of all functions before
+pub record Before : Type 0 where
+  pub name : Option (List ℕ)
+  pub webs : List Web
+
+unfoldable pub function_at : List (List ℕ) → Before → List ℕ → Result ((List ℕ × DirectivesValue) × List ℕ) ℕ
+function_at names before = do
+  name ← name_above_at names true before.name
+  count ← u32_at
+  webs ← webs_at names before.webs count
+  free ← no_free_at
+  done (name, record { webs = webs; free = free })
+
+abbrev pub next_function : Before → List ℕ × DirectivesValue → Before
+next_function before f = record { name = Some f.0; webs = before.webs ++ webs_of f.1 }
+
+abbrev pub nothing_before : Before
+nothing_before = record { name = None; webs = [] }
+
+-- ---- the payload
+
+unfoldable pub functions_at : List (List ℕ) → List ℕ → Result (List (List ℕ × DirectivesValue) × List ℕ) ℕ
+functions_at names = do
+  count ← u32_at
+  functions ← items_at (function_at names) next_function count nothing_before
+  done functions
+
+-- a rule that is looked at last, where it is broken at a place
+abbrev pub broken_at : Option ℕ → Result (Unit {0}) ℕ
+broken_at None = Ok tt
+broken_at (Some left) = Err left
+
+unfoldable pub contents_at : List ℕ → Result (Contents × List ℕ) ℕ
+contents_at = do
+  names ← names_at
+  behind ← here
+  functions ← functions_at names
+  ended (first_unused names (names_of functions) behind) (record { names = names; functions = functions })
+
+unfoldable pub database_file_at : List ℕ → Result Contents ℕ
+database_file_at bytes = file_at kind 1 1 (λ version. contents_at) bytes
+
+-- the functions alone
+abbrev pub functions_of : Result Contents ℕ → Result (List (List ℕ × DirectivesValue)) ℕ
+functions_of (Ok c) = Ok c.functions
+functions_of (Err at) = Err at

@@ -1,0 +1,37 @@
+//! Directives, and the database of them.
+
+use pw_value::{Kind, Name};
+
+/// A web: a global that functions keep in a register, under a number of its own.
+#[derive(Debug, Drop)]
+pub struct Web {
+    pub id: u32,
+    pub global: Name,
+    pub kind: Kind,
+    /// The register, from 3 to 18.
+    pub reg: u8,
+    /// Whether a function of the web writes the global.
+    pub writes: bool,
+}
+
+/// What a function is in a web: one that loads the global and stores it back, or one that finds it in
+/// its register.
+#[derive(Clone, Copy, PartialEq, Eq, Debug)]
+pub enum Role {
+    Entry,
+    Member,
+}
+
+/// What a function is told: its webs in the order of their numbers, each with its role in it, and the
+/// registers that it need not save, of which there are none yet.
+#[derive(Debug, Drop)]
+pub struct Directives {
+    pub webs: Vec<(Web, Role)>,
+    pub free: Vec<u8>,
+}
+
+/// Functions in byte order of their names, each with its directives. Webs of one number are one web.
+#[derive(Debug, Drop)]
+pub struct Database {
+    pub functions: Vec<(Name, Directives)>,
+}

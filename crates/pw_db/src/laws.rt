@@ -1,0 +1,16 @@
+//! The laws of databases' files and payloads.
+
+ghost use Rattle.std.specs.Prelude.{◌≡◌, ℕ, List};
+ghost use Rattle.pw_db.specs.Database.{DirectivesValue, IsDatabaseFile, IsPayload};
+
+/// No bytes are the file of two databases, and no database has two files.
+pub fn databases_and_files_are_one_to_one()
+    ensures one_database { (bytes : List ℕ) (fs gs : List (List ℕ × DirectivesValue)) → IsDatabaseFile bytes fs → IsDatabaseFile bytes gs → fs ≡ gs }
+    ensures one_file { (bytes others : List ℕ) (fs : List (List ℕ × DirectivesValue)) → IsDatabaseFile bytes fs → IsDatabaseFile others fs → bytes ≡ others }
+{}
+
+/// The same of payloads.
+pub fn databases_and_payloads_are_one_to_one()
+    ensures one_database { (bytes : List ℕ) (fs gs : List (List ℕ × DirectivesValue)) → IsPayload bytes fs → IsPayload bytes gs → fs ≡ gs }
+    ensures one_payload { (bytes others : List ℕ) (fs : List (List ℕ × DirectivesValue)) → IsPayload bytes fs → IsPayload others fs → bytes ≡ others }
+{}

@@ -1,0 +1,20 @@
+//! The database of directives: which globals each function keeps in which registers, and its file.
+#![tactic(auto)]
+
+mod choosing;
+mod database;
+pub mod laws;
+mod names;
+mod reading;
+mod seen;
+mod storing;
+mod writing;
+
+pub use choosing::of_module;
+pub use database::{Database, Directives, Role, Web};
+pub use reading::{KIND, read, read_payload};
+pub use storing::payload;
+pub use writing::write;
+
+#[cfg(test)]
+mod tests;

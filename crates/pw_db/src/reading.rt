@@ -1,0 +1,405 @@
+//! Reading a database.
+
+ghost use Rattle.std.specs.Prelude.{◌≡◌, ◌==◌, ◌++◌, ◌&&◌, ◌+◌, ◌<◌, ◌^◌, not, nat_lt, nat_le, ℕ, List, length, map, option_map, IfOk, Ok};
+ghost use Rattle.std.specs.List.{list_all, flat_map};
+ghost use Rattle.std.specs.Str.{bytes_eq};
+ghost use Rattle.pw_value.specs.Fields.{text, items_at};
+ghost use Rattle.pw_value.specs.FieldFaults.{Gives, GivesFile};
+ghost use Rattle.pw_value.specs.FieldFrame.{placed};
+ghost use Rattle.pw_value.specs.FieldNames.{first_unused};
+ghost use Rattle.pw_files.specs.Kinds.{scalar_code};
+ghost use Rattle.pw_files.specs.Start.{same_truth};
+ghost use Rattle.pw_db.specs.Database.{DirectivesValue, IsDatabaseFile, IsPayload, directives_view, function_view, view, contents_view, webs_of, names_of};
+ghost use Rattle.pw_db.specs.Reading.{fits_first, number_at, global_at, kind_at, register_at, writes_at, role_at, web_at, webs_at, no_free_at, function_at, next_function, nothing_before, functions_at, broken_at, contents_at, database_file_at, functions_of};
+ghost use Rattle.pw_db.specs.Seen.{known_web};
+
+use crate::database::{Database, Directives, Role, Web};
+use crate::names::{refs_of, used_names};
+use crate::seen::{Known, Seen};
+use pw_files::kinds::{code_of, read_scalar};
+use pw_files::lists::read_name_above;
+use pw_value::fields::frame::{check_digest, open};
+use pw_value::fields::names::{find_unused, read_name, read_names};
+use pw_value::fields::{FieldError, read_choice, read_flag, read_u8, read_u32};
+use pw_value::{FileError, Kind, Name};
+use std::alloc::Global;
+
+/// `PAWD`, the first four bytes of a database file.
+pub const KIND: u32 = 0x5041_5744;
+
+// ---- whether a field fits the webs before
+
+/// Whether the number is above those of the function's webs before it.
+fn is_number_above(own: &[(Web, Role)], id: u32) -> bool
+    ensures { result ≡ list_all (λ w. nat_lt w.id id) (map (λ w. w.0) own.now) }
+{
+    for web in own {
+        if web.0.id >= id {
+            return false;
+        }
+    }
+    true
+}
+
+/// Whether none of the function's webs before is of the global.
+fn is_global_free(own: &[(Web, Role)], global: &Name) -> bool
+    ensures { result ≡ list_all (λ w. not (bytes_eq w.global global.now)) (map (λ w. w.0) own.now) }
+{
+    for web in own {
+        if web.0.global == *global {
+            return false;
+        }
+    }
+    true
+}
+
+/// Whether none of the function's webs before has the register.
+fn is_register_free(own: &[(Web, Role)], reg: u8) -> bool
+    ensures { result ≡ list_all (λ w. not (w.reg == reg)) (map (λ w. w.0) own.now) }
+{
+    for web in own {
+        if web.0.reg == reg {
+            return false;
+        }
+    }
+    true
+}
+
+/// Whether the global is that of the web of the same number before, if there is one.
+fn fits_global(first: Option<Known>, global: &Name) -> bool
+    ensures { result ≡ fits_first (option_map known_web first.entry) (λ w. bytes_eq w.global global.now) }
+{
+    match first {
+        None => true,
+        Some(web) => web.global == global,
+    }
+}
+
+/// The same of the kind.
+fn fits_kind(first: Option<Known>, kind: Kind) -> bool
+    ensures { result ≡ fits_first (option_map known_web first.entry) (λ w. scalar_code w.kind == scalar_code kind) }
+{
+    match first {
+        None => true,
+        Some(web) => code_of(web.kind) == code_of(kind),
+    }
+}
+
+/// The same of the register.
+fn fits_register(first: Option<Known>, reg: u8) -> bool
+    ensures { result ≡ fits_first (option_map known_web first.entry) (λ w. w.reg == reg) }
+{
+    match first {
+        None => true,
+        Some(web) => web.reg == reg,
+    }
+}
+
+/// The same of whether the web writes.
+fn fits_writes(first: Option<Known>, writes: bool) -> bool
+    ensures { result ≡ fits_first (option_map known_web first.entry) (λ w. same_truth w.writes writes) }
+{
+    match first {
+        None => true,
+        Some(web) => web.writes == writes,
+    }
+}
+
+// ---- the fields of a web
+
+/// A number above those of the function's webs before it.
+#[tactic(auto, unfolding(crate::specs::Reading::number_at))]
+fn read_number<'a>(own: &[(Web, Role)], bytes: &'a [u8]) -> Result<(u32, &'a [u8]), FieldError>
+    ensures { Gives (λ x. (x.0, x.1.now)) result (number_at (map (λ w. w.0) own.now) bytes.now) }
+{
+    let (id, rest) = read_u32(bytes)?;
+    if is_number_above(own, id) {
+        Ok((id, rest))
+    } else {
+        Err(FieldError::Fault { left: bytes.len() })
+    }
+}
+
+/// A global that no web of the function before has.
+#[tactic(auto, unfolding(crate::specs::Reading::global_at))]
+fn read_global<'a, 'b>(
+    names: &'b [Name],
+    first: Option<Known>,
+    own: &[(Web, Role)],
+    bytes: &'a [u8],
+) -> Result<(&'b Name, &'a [u8]), FieldError>
+    ensures { Gives (λ x. (x.0.now, x.1.now)) result (global_at names.now (option_map known_web first.entry) (map (λ w. w.0) own.now) bytes.now) }
+{
+    let (global, rest) = read_name(names, bytes)?;
+    if fits_global(first, global) && is_global_free(own, global) {
+        Ok((global, rest))
+    } else {
+        Err(FieldError::Fault { left: bytes.len() })
+    }
+}
+
+/// The kind of the global.
+#[tactic(auto, unfolding(crate::specs::Reading::kind_at))]
+fn read_kind<'a>(first: Option<Known>, bytes: &'a [u8]) -> Result<(Kind, &'a [u8]), FieldError>
+    ensures { Gives (λ x. (x.0, x.1.now)) result (kind_at (option_map known_web first.entry) bytes.now) }
+{
+    let (kind, rest) = read_scalar(bytes)?;
+    if fits_kind(first, kind) {
+        Ok((kind, rest))
+    } else {
+        Err(FieldError::Fault { left: bytes.len() })
+    }
+}
+
+/// A register from 3 to 18 that no web of the function before has.
+#[tactic(auto, unfolding(crate::specs::Reading::register_at))]
+fn read_register<'a>(
+    first: Option<Known>,
+    own: &[(Web, Role)],
+    bytes: &'a [u8],
+) -> Result<(u8, &'a [u8]), FieldError>
+    ensures { Gives (λ x. (x.0, x.1.now)) result (register_at (option_map known_web first.entry) (map (λ w. w.0) own.now) bytes.now) }
+{
+    let (reg, rest) = read_u8(bytes)?;
+    if 3 <= reg && reg <= 18 && fits_register(first, reg) && is_register_free(own, reg) {
+        Ok((reg, rest))
+    } else {
+        Err(FieldError::Fault { left: bytes.len() })
+    }
+}
+
+/// Whether a function of the web writes the global.
+#[tactic(auto, unfolding(crate::specs::Reading::writes_at))]
+fn read_writes<'a>(first: Option<Known>, bytes: &'a [u8]) -> Result<(bool, &'a [u8]), FieldError>
+    ensures { Gives (λ x. (x.0, x.1.now)) result (writes_at (option_map known_web first.entry) bytes.now) }
+{
+    let (writes, rest) = read_flag(bytes)?;
+    if fits_writes(first, writes) {
+        Ok((writes, rest))
+    } else {
+        Err(FieldError::Fault { left: bytes.len() })
+    }
+}
+
+/// A role.
+#[tactic(auto, unfolding(crate::specs::Reading::role_at))]
+fn read_role(bytes: &[u8]) -> Result<(Role, &[u8]), FieldError>
+    ensures { Gives (λ x. (x.0, x.1.now)) result (role_at bytes.now) }
+{
+    let (code, rest) = read_choice(2, bytes)?;
+    Ok((if code == 0 { Role::Entry } else { Role::Member }, rest))
+}
+
+/// A web behind others.
+#[tactic(auto, unfolding(crate::specs::Reading::web_at))]
+fn read_web<'a, 'b>(
+    names: &'b [Name],
+    seen: &Seen<'b>,
+    own: &[(Web, Role)],
+    bytes: &'a [u8],
+) -> Result<((Known<'b>, Role), &'a [u8]), FieldError>
+    ensures { Gives (λ x. ((known_web x.0.0, x.0.1), x.1.now)) result (web_at names.now (map known_web seen.now.webs.items) (map (λ w. w.0) own.now) bytes.now) }
+{
+    let (id, rest) = read_number(own, bytes)?;
+    let first = seen.first(id);
+    let (global, rest) = read_global(names, first, own, rest)?;
+    let (kind, rest) = read_kind(first, rest)?;
+    let (reg, rest) = read_register(first, own, rest)?;
+    let (writes, rest) = read_writes(first, rest)?;
+    let (role, rest) = read_role(rest)?;
+    let web = Known {
+        id,
+        global,
+        kind,
+        reg,
+        writes,
+    };
+    Ok(((web, role), rest))
+}
+
+/// So many webs of a function, behind those of the functions before it.
+fn read_webs<'a, 'b>(
+    alloc: Global,
+    names: &'b [Name],
+    before: Seen<'b>,
+    count: u32,
+    bytes: &'a [u8],
+) -> Result<(Vec<(Web, Role)>, Seen<'b>, &'a [u8]), FieldError>
+    ensures found { Gives (λ x. (x.0.items, x.2.now)) result (webs_at names.now (map known_web before.entry.webs.items) count bytes.now) }
+    ensures seen { IfOk result (λ x. map known_web x.1.webs.items ≡ map known_web before.entry.webs.items ++ map (λ w. w.0) x.0.items) }
+{
+    let mut webs: Vec<(Web, Role)> = Vec::new(alloc);
+    let mut seen = before;
+    let mut rest = bytes;
+    for _ in 0..count {
+        let ((known, role), after) = read_web(names, &seen, &webs, rest)?;
+        webs.push((known.web(alloc)?, role))?;
+        seen = seen.with(known)?;
+        rest = after;
+    }
+    Ok((webs, seen, rest))
+}
+
+/// No free registers.
+#[tactic(auto, unfolding(crate::specs::Reading::no_free_at))]
+fn read_no_free(alloc: Global, bytes: &[u8]) -> Result<(Vec<u8>, &[u8]), FieldError>
+    ensures { Gives (λ x. (x.0.items, x.1.now)) result (no_free_at bytes.now) }
+{
+    let (count, rest) = read_u32(bytes)?;
+    if count == 0 {
+        Ok((Vec::new(alloc), rest))
+    } else {
+        Err(FieldError::Fault { left: bytes.len() })
+    }
+}
+
+/// A function behind others, its name in the table.
+#[tactic(auto, unfolding(crate::specs::Reading::function_at))]
+fn read_function<'a, 'b>(
+    alloc: Global,
+    names: &'b [Name],
+    before: Option<&Name>,
+    seen: Seen<'b>,
+    bytes: &'a [u8],
+) -> Result<((&'b Name, Directives), Seen<'b>, &'a [u8]), FieldError>
+    ensures found { Gives (λ x. ((x.0.0.now, directives_view x.0.1), x.2.now)) result (function_at names.now (record { name = option_map (λ n. n.now) before.entry; webs = map known_web seen.entry.webs.items }) bytes.now) }
+    ensures seen { IfOk result (λ x. map known_web x.1.webs.items ≡ map known_web seen.entry.webs.items ++ webs_of (directives_view x.0.1)) }
+{
+    let (name, rest) = read_name_above(names, true, before, bytes)?;
+    let (count, rest) = read_u32(rest)?;
+    let (webs, seen, rest) = read_webs(alloc, names, seen, count, rest)?;
+    let (free, rest) = read_no_free(alloc, rest)?;
+    Ok(((name, Directives { webs, free }), seen, rest))
+}
+
+/// So many functions.
+fn read_function_items<'a>(
+    alloc: Global,
+    names: &[Name],
+    count: u32,
+    bytes: &'a [u8],
+) -> Result<(Vec<(Name, Directives)>, &'a [u8]), FieldError>
+    ensures { Gives (λ x. (map function_view x.0.items, x.1.now)) result (items_at (function_at names.now) next_function count nothing_before bytes.now) }
+{
+    let mut functions = Vec::new(alloc);
+    let mut seen = Seen::new(alloc);
+    let mut before: Option<&Name> = None;
+    let mut rest = bytes;
+    for _ in 0..count {
+        let ((name, directives), more, after) = read_function(alloc, names, before, seen, rest)?;
+        functions.push((name.copy(alloc)?, directives))?;
+        seen = more;
+        before = Some(name);
+        rest = after;
+    }
+    Ok((functions, rest))
+}
+
+/// The count of functions, and the functions.
+#[tactic(auto, unfolding(crate::specs::Reading::functions_at))]
+fn read_functions<'a>(
+    alloc: Global,
+    names: &[Name],
+    bytes: &'a [u8],
+) -> Result<(Vec<(Name, Directives)>, &'a [u8]), FieldError>
+    ensures { Gives (λ x. (map function_view x.0.items, x.1.now)) result (functions_at names.now bytes.now) }
+{
+    let (count, rest) = read_u32(bytes)?;
+    read_function_items(alloc, names, count, rest)
+}
+
+// ---- the payload
+
+/// The rule that each name of the table is used, where so many bytes are left behind the table.
+fn check_used(
+    alloc: Global,
+    names: &[Name],
+    functions: &[(Name, Directives)],
+    behind: usize,
+) -> Result<(), FieldError>
+    requires { length (flat_map text names.now) + behind < 2 ^ 64 }
+    ensures { Gives (λ x. x) result (broken_at (first_unused names.now (names_of (map function_view functions.now)) behind)) }
+{
+    let refs = refs_of(alloc, functions)?;
+    let used = used_names(alloc, &refs)?;
+    match find_unused(alloc, names, used, behind)? {
+        Some(left) => Err(FieldError::Fault { left }),
+        None => Ok(()),
+    }
+}
+
+/// The table of names and the functions.
+#[tactic(auto, unfolding(crate::specs::Reading::contents_at))]
+fn read_contents(
+    alloc: Global,
+    bytes: &[u8],
+) -> Result<((Vec<Name>, Vec<(Name, Directives)>), &[u8]), FieldError>
+    ensures { Gives (λ x. (contents_view x.0, x.1.now)) result (contents_at bytes.now) }
+{
+    let (names, behind) = read_names(alloc, bytes)?;
+    let (functions, rest) = read_functions(alloc, &names, behind)?;
+    if !rest.is_empty() {
+        return Err(FieldError::Fault { left: rest.len() });
+    }
+    check_used(alloc, &names, &functions, behind.len())?;
+    Ok(((names, functions), rest))
+}
+
+/// The table of names and the functions of a whole file.
+#[tactic(auto, unfolding(crate::specs::Reading::database_file_at, pw_value::specs::FieldFrame::file_at))]
+fn read_file(alloc: Global, bytes: &[u8]) -> Result<(Vec<Name>, Vec<(Name, Directives)>), FileError>
+    ensures { GivesFile contents_view result (database_file_at bytes.now) }
+{
+    let opened = open(KIND, 1, 1, bytes)?;
+    match read_contents(alloc, opened.payload) {
+        Err(e) => Err(e.at(opened.end)),
+        Ok((contents, _)) => {
+            check_digest(bytes, opened.end)?;
+            Ok(contents)
+        }
+    }
+}
+
+/// The database of a whole file, without its table of names.
+fn read_alone(alloc: Global, bytes: &[u8]) -> Result<Database, FileError>
+    ensures { GivesFile view result (functions_of (database_file_at bytes.now)) }
+{
+    let (_names, functions) = read_file(alloc, bytes)?;
+    Ok(Database { functions })
+}
+
+/// The database that the bytes are the file of. A fault is the first field, in order, that is short or
+/// breaks its rule.
+pub fn read(alloc: Global, bytes: &[u8]) -> Result<Database, FileError>
+    // The bytes are the file of what is read.
+    ensures found { IfOk result (λ db. IsDatabaseFile bytes.now (view db)) }
+    // A file of a database is read, unless memory runs out.
+    ensures only { (fs : List (List ℕ × DirectivesValue)) → IsDatabaseFile bytes.now fs → GivesFile view result (Ok fs) }
+    // Which fault it is.
+    ensures exact { GivesFile view result (functions_of (database_file_at bytes.now)) }
+{
+    read_alone(alloc, bytes)
+}
+
+/// The functions of a payload, without its table of names.
+fn read_payload_alone(alloc: Global, bytes: &[u8]) -> Result<Vec<(Name, Directives)>, FileError>
+    ensures { GivesFile (λ v. map function_view v.items) result (functions_of (placed (length bytes.now) (contents_at bytes.now))) }
+{
+    match read_contents(alloc, bytes) {
+        Err(e) => Err(e.at(bytes.len())),
+        Ok(((_names, functions), _)) => Ok(functions),
+    }
+}
+
+/// The functions that the bytes are the payload of. A fault is the first field, in order, that is short
+/// or breaks its rule, told by its offset in the payload.
+pub fn read_payload(alloc: Global, bytes: &[u8]) -> Result<Vec<(Name, Directives)>, FileError>
+    // The bytes are the payload of what is read.
+    ensures found { IfOk result (λ v. IsPayload bytes.now (map function_view v.items)) }
+    // A payload is read, unless memory runs out.
+    ensures only { (fs : List (List ℕ × DirectivesValue)) → IsPayload bytes.now fs → GivesFile (λ v. map function_view v.items) result (Ok fs) }
+    // Which fault it is.
+    ensures exact { GivesFile (λ v. map function_view v.items) result (functions_of (placed (length bytes.now) (contents_at bytes.now))) }
+{
+    read_payload_alone(alloc, bytes)
+}
