@@ -1,0 +1,7 @@
+pub mod Levels
+pub mod Scopes
+pub mod Spelling
+pub mod Symbols
+pub mod Trees
+pub mod Views
+pub mod WellFormed

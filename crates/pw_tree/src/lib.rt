@@ -1,0 +1,19 @@
+//! The syntax trees of C90 (ISO/IEC 9899:1990, 6.3 to 6.7) and their spelling.
+#![tactic(auto)]
+
+mod decl;
+mod expr;
+mod module;
+mod operator;
+mod stmt;
+mod symbol;
+
+pub use decl::{Decl, Init, InitDeclarator, Initializer};
+pub use expr::{
+    BasicType, Core, Declarator, Enumerator, Expr, Member, MemberDeclarator, Operation, Parameter,
+    Pointer, PostfixOperation, Qualifier, RecordKind, Specifier, StorageClass, Suffix, TypeName, Word,
+};
+pub use module::{External, Function, Module};
+pub use operator::{Access, AssignOperator, BinaryOperator, StepOperator, UnaryOperator};
+pub use stmt::{Block, ElseIf, Label, Stmt};
+pub use symbol::{Keyword, Mark};
