@@ -1,4 +1,5 @@
 pub mod Levels
+pub mod Lexemes
 pub mod Scopes
 pub mod Spelling
 pub mod Symbols

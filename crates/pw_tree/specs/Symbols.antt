@@ -1,5 +1,5 @@
 -- What a token is for the grammar, and how it is spelled.
-use Rattle.std.specs.Prelude.{ℕ, List, codes, Option, Some, None}
+use Rattle.std.specs.Prelude.{ℕ, if◌then◌else◌, List, [], ◌∷◌, codes, bytes_eq, Option, Some, None, option_map}
 use Rattle.pw_token.specs.declared.token.TokenKind.{TokenKind}
 use Rattle.pw_token.specs.declared.token.TokenKind.TheVariants as kind
 use Rattle.pw_tree.specs.declared.expr.BasicType.{BasicType}
@@ -215,3 +215,46 @@ assign_mark assign.RightShift = m.RightShiftEqual
 assign_mark assign.BitAnd = m.AmpersandEqual
 assign_mark assign.BitXor = m.CaretEqual
 assign_mark assign.BitOr = m.BarEqual
+
+-- ---- the symbol that a token is, where it is one of the grammar
+
+abbrev pub all_keywords : List Keyword
+all_keywords =
+    k.Auto ∷ k.Break ∷ k.Case ∷ k.Char ∷ k.Const ∷ k.Continue ∷ k.Default ∷ k.Do ∷ k.Double ∷ k.Else ∷ k.Enum ∷
+    k.Extern ∷ k.Float ∷ k.For ∷ k.Goto ∷ k.If ∷ k.Int ∷ k.Long ∷ k.Register ∷ k.Return ∷ k.Short ∷ k.Signed ∷
+    k.Sizeof ∷ k.Static ∷ k.Struct ∷ k.Switch ∷ k.Typedef ∷ k.Union ∷ k.Unsigned ∷ k.Void ∷ k.Volatile ∷ k.While ∷ []
+
+abbrev pub all_marks : List Mark
+all_marks =
+    m.OpenBracket ∷ m.CloseBracket ∷ m.OpenParen ∷ m.CloseParen ∷ m.Dot ∷ m.Arrow ∷ m.Increment ∷ m.Decrement ∷
+    m.Ampersand ∷ m.Star ∷ m.Plus ∷ m.Minus ∷ m.Tilde ∷ m.Exclamation ∷ m.Slash ∷ m.Percent ∷ m.LeftShift ∷
+    m.RightShift ∷ m.Less ∷ m.Greater ∷ m.LessEqual ∷ m.GreaterEqual ∷ m.EqualEqual ∷ m.NotEqual ∷ m.Caret ∷ m.Bar ∷
+    m.AndAnd ∷ m.BarBar ∷ m.Question ∷ m.Colon ∷ m.Equal ∷ m.StarEqual ∷ m.SlashEqual ∷ m.PercentEqual ∷ m.PlusEqual ∷
+    m.MinusEqual ∷ m.LeftShiftEqual ∷ m.RightShiftEqual ∷ m.AmpersandEqual ∷ m.CaretEqual ∷ m.BarEqual ∷ m.Comma ∷
+    m.OpenBrace ∷ m.CloseBrace ∷ m.Semicolon ∷ m.Ellipsis ∷ []
+
+-- the first of a list with these bytes
+abbrev pub with_text : {A : Type 0} → (A → List ℕ) → List A → List ℕ → Option A
+with_text text [] s = None
+with_text text (a ∷ rest) s = if bytes_eq s (text a) then Some a else with_text text rest s
+
+unfoldable pub keyword_of : List ℕ → Option Keyword
+keyword_of = with_text keyword_text all_keywords
+
+unfoldable pub mark_of : List ℕ → Option Mark
+mark_of = with_text mark_text all_marks
+
+-- the symbol that is spelled so; a directive line is none, nor are `#` and `##`
+abbrev pub symbol_with : TokenKind → List ℕ → Option Symbol
+symbol_with kind.Keyword s = option_map Reserved (keyword_of s)
+symbol_with kind.Mark s = option_map Sign (mark_of s)
+symbol_with kind.Identifier s = Some (Identifier s)
+symbol_with kind.Number s = Some (Number s)
+symbol_with kind.Floating s = Some (Floating s)
+symbol_with kind.Character s = Some (Character s)
+symbol_with kind.Wide s = Some (Wide s)
+symbol_with kind.Text s = Some (Text s)
+symbol_with kind.Directive s = None
+
+abbrev pub symbol_of : Spelled → Option Symbol
+symbol_of t = symbol_with t.kind t.text

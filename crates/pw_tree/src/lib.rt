@@ -3,6 +3,7 @@
 
 mod decl;
 mod expr;
+mod lexeme;
 mod module;
 mod operator;
 mod stmt;
@@ -13,6 +14,7 @@ pub use expr::{
     BasicType, Core, Declarator, Enumerator, Expr, Member, MemberDeclarator, Operation, Parameter,
     Pointer, PostfixOperation, Qualifier, RecordKind, Specifier, StorageClass, Suffix, TypeName, Word,
 };
+pub use lexeme::{Lexeme, lexeme_of};
 pub use module::{External, Function, Module};
 pub use operator::{Access, AssignOperator, BinaryOperator, StepOperator, UnaryOperator};
 pub use stmt::{Block, ElseIf, Label, Stmt};
