@@ -1,5 +1,7 @@
+pub mod Grammar
 pub mod Levels
 pub mod Lexemes
+pub mod Numbering
 pub mod Scopes
 pub mod Spelling
 pub mod Symbols

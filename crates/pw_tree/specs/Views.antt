@@ -24,7 +24,6 @@ use Rattle.pw_tree.specs.declared.expr.Specifier.{Specifier}
 use Rattle.pw_tree.specs.declared.expr.Specifier as specifier
 use Rattle.pw_tree.specs.declared.expr.Suffix.{Suffix}
 use Rattle.pw_tree.specs.declared.expr.Suffix as suffix
-use Rattle.pw_tree.specs.declared.expr.TypeName.{TypeName}
 use Rattle.pw_tree.specs.declared.expr.Word.{Word}
 use Rattle.pw_tree.specs.declared.module.External.{External}
 use Rattle.pw_tree.specs.declared.module.External.TheVariants as external

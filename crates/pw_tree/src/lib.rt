@@ -12,7 +12,8 @@ mod symbol;
 pub use decl::{Decl, Init, InitDeclarator, Initializer};
 pub use expr::{
     BasicType, Core, Declarator, Enumerator, Expr, Member, MemberDeclarator, Operation, Parameter,
-    Pointer, PostfixOperation, Qualifier, RecordKind, Specifier, StorageClass, Suffix, TypeName, Word,
+    Pointer, PostfixOperation, Qualifier, RecordKind, Specifier, StorageClass, Suffix, TypeName,
+    Word,
 };
 pub use lexeme::{Lexeme, lexeme_of};
 pub use module::{External, Function, Module};
