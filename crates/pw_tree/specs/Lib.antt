@@ -8,3 +8,4 @@ pub mod Symbols
 pub mod Trees
 pub mod Views
 pub mod WellFormed
+pub mod Writing

@@ -2,7 +2,11 @@
 //!
 //! A field `token` is the number of a token, counted from 1: the token that the node's comment names.
 
+ghost use Rattle.std.specs.Prelude.{◌≡◌};
+ghost use Rattle.pw_tree.specs.Symbols as spec;
+
 use crate::operator::{Access, AssignOperator, BinaryOperator, StepOperator, UnaryOperator};
+use crate::symbol::Keyword;
 
 /// A token with bytes of its own: an identifier, a constant or a string literal, with its number.
 #[derive(Debug, PartialEq, Eq, Drop)]
@@ -299,4 +303,62 @@ pub enum Suffix {
 pub struct Parameter {
     pub specifiers: Vec<Specifier>,
     pub declarator: Declarator,
+}
+
+impl StorageClass {
+    /// How it is spelled.
+    pub fn keyword(self) -> Keyword
+        ensures { result ≡ spec.storage_word self }
+    {
+        match self {
+            StorageClass::Typedef => Keyword::Typedef,
+            StorageClass::Extern => Keyword::Extern,
+            StorageClass::Static => Keyword::Static,
+            StorageClass::Auto => Keyword::Auto,
+            StorageClass::Register => Keyword::Register,
+        }
+    }
+}
+
+impl Qualifier {
+    /// How it is spelled.
+    pub fn keyword(self) -> Keyword
+        ensures { result ≡ spec.qualifier_word self }
+    {
+        match self {
+            Qualifier::Const => Keyword::Const,
+            Qualifier::Volatile => Keyword::Volatile,
+        }
+    }
+}
+
+impl BasicType {
+    /// How it is spelled.
+    pub fn keyword(self) -> Keyword
+        ensures { result ≡ spec.basic_word self }
+    {
+        match self {
+            BasicType::Void => Keyword::Void,
+            BasicType::Char => Keyword::Char,
+            BasicType::Short => Keyword::Short,
+            BasicType::Int => Keyword::Int,
+            BasicType::Long => Keyword::Long,
+            BasicType::Float => Keyword::Float,
+            BasicType::Double => Keyword::Double,
+            BasicType::Signed => Keyword::Signed,
+            BasicType::Unsigned => Keyword::Unsigned,
+        }
+    }
+}
+
+impl RecordKind {
+    /// How it is spelled.
+    pub fn keyword(self) -> Keyword
+        ensures { result ≡ spec.record_word self }
+    {
+        match self {
+            RecordKind::Struct => Keyword::Struct,
+            RecordKind::Union => Keyword::Union,
+        }
+    }
 }

@@ -6,6 +6,8 @@ mod expr;
 mod lexeme;
 mod module;
 mod operator;
+mod spell_expr;
+mod spelled;
 mod stmt;
 mod symbol;
 
@@ -18,5 +20,6 @@ pub use expr::{
 pub use lexeme::{Lexeme, lexeme_of};
 pub use module::{External, Function, Module};
 pub use operator::{Access, AssignOperator, BinaryOperator, StepOperator, UnaryOperator};
+pub use spelled::{NoMemory, Spelled};
 pub use stmt::{Block, ElseIf, Label, Stmt};
 pub use symbol::{Keyword, Mark};
