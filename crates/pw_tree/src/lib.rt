@@ -3,6 +3,7 @@
 
 mod decl;
 mod expr;
+mod laws;
 mod lexeme;
 mod module;
 mod operator;
@@ -23,6 +24,7 @@ pub use expr::{
     Pointer, PostfixOperation, Qualifier, RecordKind, Specifier, StorageClass, Suffix, TypeName,
     Word,
 };
+pub use laws::symbols_have_one_spelling;
 pub use lexeme::{Lexeme, lexeme_of};
 pub use module::{External, Function, Module};
 pub use operator::{Access, AssignOperator, BinaryOperator, StepOperator, UnaryOperator};
