@@ -17,6 +17,8 @@ mod spell_words;
 mod spelled;
 mod stmt;
 mod symbol;
+#[cfg(test)]
+mod tests;
 
 pub use decl::{Decl, Init, InitDeclarator, Initializer};
 pub use expr::{
