@@ -1,6 +1,5 @@
 -- A symbol has one spelling, and what is spelled is one symbol.
-use Rattle.std.proofs.Common.{◌≡◌, ℕ, Bool, true, false, List, [], ◌∷◌, bytes_eq, Option, Some, None, option_map, refl, ap, sym, ◌∙◌, cond, if◌then◌else◌, arith}
-use Rattle.std.proofs.lemmas.Grind.{common_steps}
+use Rattle.std.proofs.Common.{◌≡◌, ℕ, Bool, true, false, List, [], ◌∷◌, bytes_eq, Option, Some, None, option_map, refl, ap, sym, ◌∙◌, if◌then◌else◌}
 use Rattle.std.proofs.lemmas.Slice.Eq.{bytes_eq-Decides}
 use Rattle.pw_token.specs.declared.token.TokenKind.{TokenKind}
 use Rattle.pw_token.specs.declared.token.TokenKind.TheVariants as kind
