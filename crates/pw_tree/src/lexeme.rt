@@ -1,0 +1,59 @@
+//! What a token of a text is for the grammar.
+
+ghost use Rattle.std.specs.Prelude.{◌≡◌, ◌≤◌, ◌+◌, length, take, drop};
+ghost use Rattle.pw_token.specs.Roles.{spelling};
+ghost use Rattle.pw_tree.specs.Lexemes.{view_lexeme, spelled_in};
+ghost use Rattle.pw_tree.specs.Symbols.{symbol_of};
+
+use crate::symbol::{Keyword, Mark};
+use pw_token::{Token, TokenKind};
+
+/// A token as the grammar knows it, with its bytes where they are its own.
+#[derive(Clone, Copy, Debug)]
+pub enum Lexeme<'a> {
+    Keyword(Keyword),
+    Mark(Mark),
+    Identifier(&'a [u8]),
+    Number(&'a [u8]),
+    Floating(&'a [u8]),
+    Character(&'a [u8]),
+    /// A wide character constant or a wide string literal.
+    Wide(&'a [u8]),
+    /// A string literal.
+    Text(&'a [u8]),
+    /// A token that stands in no tree: a directive line, `#` or `##`.
+    Other,
+}
+
+fn bytes_of<'a>(text: &'a [u8], token: &Token) -> &'a [u8]
+    requires { token.now.at + token.now.len ≤ length text.now }
+    ensures { result.now ≡ spelling text.now token.now }
+{
+    let rest = &text[token.at..];
+    &rest[..token.len]
+}
+
+/// What a token of a text is, with its bytes.
+pub fn lexeme_of<'a>(text: &'a [u8], token: &Token) -> Lexeme<'a>
+    requires { token.now.at + token.now.len ≤ length text.now }
+    ensures { view_lexeme result ≡ symbol_of (spelled_in text.now token.now) }
+{
+    let bytes = bytes_of(text, token);
+    match token.kind {
+        TokenKind::Keyword => match Keyword::with_text(bytes) {
+            Some(keyword) => Lexeme::Keyword(keyword),
+            None => Lexeme::Other,
+        },
+        TokenKind::Mark => match Mark::with_text(bytes) {
+            Some(mark) => Lexeme::Mark(mark),
+            None => Lexeme::Other,
+        },
+        TokenKind::Identifier => Lexeme::Identifier(bytes),
+        TokenKind::Number => Lexeme::Number(bytes),
+        TokenKind::Floating => Lexeme::Floating(bytes),
+        TokenKind::Character => Lexeme::Character(bytes),
+        TokenKind::Wide => Lexeme::Wide(bytes),
+        TokenKind::Text => Lexeme::Text(bytes),
+        TokenKind::Directive => Lexeme::Other,
+    }
+}

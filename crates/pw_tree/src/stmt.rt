@@ -1,0 +1,99 @@
+//! Statements (C90 6.6).
+
+use crate::decl::Decl;
+use crate::expr::{Expr, Word};
+
+/// A statement (C90 6.6). Its token is its first, but that of an expression statement is its expression's first.
+#[cycle(stmt)]
+#[derive(Drop)]
+pub enum Stmt {
+    Block(Block),
+    Expression(Expr),
+    /// A `;` alone (6.6.3).
+    Empty {
+        token: usize,
+    },
+    /// A statement with the labels before it (6.6.1).
+    Labeled {
+        labels: Vec<Label>,
+        statement: Box<Stmt>,
+    },
+    /// An `if`, each `else if` directly behind it, and the last `else` where there is one (6.6.4.1).
+    If {
+        token: usize,
+        condition: Expr,
+        chosen: Box<Stmt>,
+        else_ifs: Vec<ElseIf>,
+        otherwise: Option<Box<Stmt>>,
+    },
+    /// 6.6.4.2
+    Switch {
+        token: usize,
+        value: Expr,
+        body: Box<Stmt>,
+    },
+    /// 6.6.5.1
+    While {
+        token: usize,
+        condition: Expr,
+        body: Box<Stmt>,
+    },
+    /// 6.6.5.2
+    Do {
+        token: usize,
+        body: Box<Stmt>,
+        condition: Expr,
+    },
+    /// 6.6.5.3
+    For {
+        token: usize,
+        start: Option<Expr>,
+        condition: Option<Expr>,
+        step: Option<Expr>,
+        body: Box<Stmt>,
+    },
+    /// 6.6.6.1
+    Goto {
+        token: usize,
+        label: Word,
+    },
+    /// 6.6.6.2
+    Continue {
+        token: usize,
+    },
+    /// 6.6.6.3
+    Break {
+        token: usize,
+    },
+    /// 6.6.6.4
+    Return {
+        token: usize,
+        value: Option<Expr>,
+    },
+}
+
+/// Declarations and then statements in braces (C90 6.6.2), at the `{`.
+#[cycle(stmt)]
+#[derive(Drop)]
+pub struct Block {
+    pub token: usize,
+    pub declarations: Vec<Decl>,
+    pub statements: Vec<Stmt>,
+}
+
+/// `else if`, its condition and its statement, at the `if`.
+#[cycle(stmt)]
+#[derive(Drop)]
+pub struct ElseIf {
+    pub token: usize,
+    pub condition: Expr,
+    pub chosen: Stmt,
+}
+
+/// A label (C90 6.6.1), at its first token.
+#[derive(Drop)]
+pub enum Label {
+    Case { token: usize, value: Expr },
+    Default { token: usize },
+    Name(Word),
+}
