@@ -1,0 +1,1 @@
+//! Declarations, uses and scopes.
