@@ -11,7 +11,7 @@ use Rattle.pw_tree.specs.declared.symbol.Mark.TheVariants as m
 use Rattle.pw_parse.specs.declared.place.Place.{Place}
 use Rattle.pw_parse.specs.declared.place.Place.TheVariants.{Named, Nameless, Either}
 use Rattle.pw_parse.specs.Expressions.{some_specifiers}
-use Rattle.pw_parse.specs.Input.{Binding, Input, Parser, ◌>>=◌, ◌>>◌, ◌<$>◌, pure, fault, ahead, asks, peek, here, skip, take_number, take_word, sees, eat, expect, ordinary, is_typedef_name, mark, since, leave, declare, Turn, Last, More, turn_with, list_of, while_some, one_or_more, unless_comma}
+use Rattle.pw_parse.specs.Input.{Binding, Input, Parser, ◌>>=◌, ◌>>◌, ◌<$>◌, pure, fault, ahead, asks, peek, here, skip, take_number, word, sees, eat, expect, ordinary, is_typedef_name, mark, since, leave, declare, Turn, Last, More, turn_with, list_of, while_some, one_or_more, unless_comma}
 use Rattle.pw_parse.specs.Parts.{Parts, Declared}
 use Rattle.pw_parse.specs.Tests.{begins_specifier, opens_parameters, qualifier_word}
 
@@ -194,7 +194,7 @@ module _ (parts : Parts) where
 
   -- A typedef name is declared anew only where a type specifier stands before.
   abbrev pub core_by : Place → Bool → Option Symbol → Parser Cored
-  core_by place typed (Some (Identifier x)) = λ i. (if allows_name place && (typed || not (is_typedef_name i x)) then name_core <$> take_word else may_be_absent place) i
+  core_by place typed (Some (Identifier x)) = λ i. (if allows_name place && (typed || not (is_typedef_name i x)) then name_core <$> word x else may_be_absent place) i
   core_by place typed (Some (Sign m.OpenParen)) = λ i. (if not (needs_name place) && opens_parameters i then pure absent else enclosed place typed) i
   core_by place typed _ = may_be_absent place
 

@@ -18,18 +18,21 @@ use Rattle.pw_tree.specs.declared.symbol.Keyword.TheVariants as k
 use Rattle.pw_tree.specs.declared.symbol.Mark.{Mark}
 use Rattle.pw_tree.specs.declared.symbol.Mark.TheVariants as m
 use Rattle.pw_parse.specs.declared.place.Place.TheVariants.{Nameless}
-use Rattle.pw_parse.specs.Input.{Input, Parser, ◌>>=◌, ◌>>◌, ◌<$>◌, pure, fault, asks, peek, ahead, here, skip, take_number, take_word, sees, expect, identifier, ordinary, while_some, one_or_more, unless_comma}
+use Rattle.pw_parse.specs.Input.{Input, Parser, ◌>>=◌, ◌>>◌, ◌<$>◌, pure, fault, asks, peek, ahead, here, skip, take_number, word, sees, expect, identifier, ordinary, while_some, one_or_more, unless_comma}
 use Rattle.pw_parse.specs.Parts.{Parts}
 use Rattle.pw_parse.specs.Tests.{is_empty, opens_type_name, prefix_operator, operator_at, assigns}
 
 -- one string literal
-unfoldable pub string_by : Option Symbol → Parser (Option (List Word → List Word))
-string_by (Some (symbol.Text s)) = (λ w. Some (λ more. w ∷ more)) <$> take_word
+abbrev pub string_by : Option Symbol → Parser (Option (List Word → List Word))
+string_by (Some (symbol.Text s)) = (λ w. Some (λ more. w ∷ more)) <$> word s
 string_by _ = pure None
 
 -- string literals that stand one behind another (6.1.4)
+unfoldable pub string : Parser (Option (List Word → List Word))
+string = peek >>= string_by
+
 unfoldable pub strings : Parser (List Word)
-strings = while_some [] (peek >>= string_by)
+strings = while_some [] string
 
 abbrev pub with_postfixes : Expr → Postfixes → Expr
 with_postfixes e NoPostfix = e
@@ -70,10 +73,10 @@ module _ (parts : Parts) where
 
   abbrev pub primary_by : Option Symbol → Parser Expr
   primary_by (Some (symbol.Identifier s)) = Identifier <$> ordinary
-  primary_by (Some (symbol.Number s)) = Number <$> take_word
-  primary_by (Some (symbol.Floating s)) = Floating <$> take_word
-  primary_by (Some (symbol.Character s)) = Character <$> take_word
-  primary_by (Some (symbol.Wide s)) = Wide <$> take_word
+  primary_by (Some (symbol.Number s)) = Number <$> word s
+  primary_by (Some (symbol.Floating s)) = Floating <$> word s
+  primary_by (Some (symbol.Character s)) = Character <$> word s
+  primary_by (Some (symbol.Wide s)) = Wide <$> word s
   primary_by (Some (symbol.Text s)) = Strings <$> strings
   primary_by (Some (Sign m.OpenParen)) = parenthesized
   primary_by _ = fault
@@ -86,11 +89,14 @@ module _ (parts : Parts) where
   unfoldable pub argument : Parser (Arguments → Arguments)
   argument = (λ e. Argument e) <$> parts.expr assignment
 
+  unfoldable pub some_arguments : Parser Arguments
+  some_arguments = one_or_more argument (unless_comma NoArgument)
+
   -- up to the `)`
   unfoldable pub arguments : Parser Arguments
   arguments = do
     none ← asks (sees m.CloseParen)
-    if none then pure NoArgument else one_or_more argument (unless_comma NoArgument)
+    if none then pure NoArgument else some_arguments
 
   unfoldable pub index : Parser (Postfixes → Postfixes)
   index = do

@@ -2,7 +2,7 @@
 use Rattle.std.specs.Prelude.{ℕ, zero, suc, ◌+◌, Bool, true, false, if◌then◌else◌, List, [], ◌∷◌, ◌++◌, length, take, drop, Option, Some, None, Result, Ok, Err}
 use denote.Enum.Bare.{sameb}
 use Rattle.pw_scope.specs.Visible.{visible}
-use Rattle.pw_tree.specs.Symbols.{Symbol, Reserved, Sign, Identifier, Number, Floating, Character, Wide, Text}
+use Rattle.pw_tree.specs.Symbols.{Symbol, Reserved, Sign, Identifier}
 use Rattle.pw_tree.specs.Trees.{Word}
 use Rattle.pw_tree.specs.contracts.symbol.Keyword.{the_type as the_keywords}
 use Rattle.pw_tree.specs.contracts.symbol.Mark.{the_type as the_marks}
@@ -47,15 +47,6 @@ step_to i (s ∷ rest) = record i { rest = rest; next = i.next + 1 }
 -- behind the next token
 unfoldable pub step : Input → Input
 step i = step_to i i.rest
-
-abbrev pub text_of : Option Symbol → List ℕ
-text_of (Some (Identifier s)) = s
-text_of (Some (Number s)) = s
-text_of (Some (Floating s)) = s
-text_of (Some (Character s)) = s
-text_of (Some (Wide s)) = s
-text_of (Some (Text s)) = s
-text_of _ = []
 
 -- whether two marks are one
 unfoldable pub same_mark : Mark → Mark → Bool
@@ -136,9 +127,9 @@ skip = λ i. Ok (tt, step i)
 abbrev pub take_number : Parser ℕ
 take_number = λ i. Ok (i.next, step i)
 
--- the next token with its bytes
-abbrev pub take_word : Parser Word
-take_word = λ i. Ok (record { token = i.next; text = text_of (ahead i) }, step i)
+-- the next token, which has these bytes
+abbrev pub word : List ℕ → Parser Word
+word text = λ i. Ok (record { token = i.next; text = text }, step i)
 
 unfoldable pub past : Mark → Input → Input
 past m i = if sees m i then step i else i
@@ -161,7 +152,7 @@ expect_keyword k = λ i. if sees_keyword k i then Ok (tt, step i) else Err i
 
 -- an identifier, whatever it stands for
 unfoldable pub identifier_by : Option Symbol → Parser Word
-identifier_by (Some (Identifier s)) = take_word
+identifier_by (Some (Identifier s)) = word s
 identifier_by _ = fault
 
 abbrev pub identifier : Parser Word
@@ -169,7 +160,7 @@ identifier = peek >>= identifier_by
 
 -- an identifier that is not visible as a typedef name
 unfoldable pub ordinary_by : Option Symbol → Parser Word
-ordinary_by (Some (Identifier s)) = λ i. if is_typedef_name i s then Err i else take_word i
+ordinary_by (Some (Identifier s)) = λ i. if is_typedef_name i s then Err i else word s i
 ordinary_by _ = fault
 
 abbrev pub ordinary : Parser Word

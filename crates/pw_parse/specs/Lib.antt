@@ -1,6 +1,8 @@
 pub mod Input
 pub mod Views
+pub mod Cursor
 pub mod Reads
+pub mod Nests
 pub mod Parts
 pub mod Tests
 pub mod Expressions

@@ -11,13 +11,13 @@ use Rattle.pw_parse.specs.declared.place.Place.TheVariants.{Named}
 use Rattle.pw_parse.specs.declared.word.SpecifierWord.{SpecifierWord}
 use Rattle.pw_parse.specs.declared.word.SpecifierWord.TheVariants.{Storage, Qualified, Basic, Record, Enum}
 use Rattle.pw_parse.specs.Expressions.{some_specifiers}
-use Rattle.pw_parse.specs.Input.{Input, Parser, ◌>>=◌, ◌>>◌, ◌<$>◌, pure, fault, asks, peek, skip, take_number, take_word, sees, eat, expect, identifier, is_typedef_name, declare, turns, one_or_more, unless_comma}
+use Rattle.pw_parse.specs.Input.{Input, Parser, ◌>>=◌, ◌>>◌, ◌<$>◌, pure, fault, asks, peek, skip, take_number, word, sees, eat, expect, identifier, is_typedef_name, declare, turns, one_or_more, unless_comma}
 use Rattle.pw_parse.specs.Parts.{Parts}
 use Rattle.pw_parse.specs.Tests.{specifier_word}
 
 -- the tag of a record or an enumeration (6.5.2.3)
 abbrev pub tag_by : Option Symbol → Parser (Option Word)
-tag_by (Some (Identifier s)) = Some <$> take_word
+tag_by (Some (Identifier s)) = Some <$> word s
 tag_by _ = pure None
 
 unfoldable pub tag : Parser (Option Word)
@@ -115,7 +115,7 @@ module _ (parts : Parts) where
   -- An identifier is one where it is visible as a typedef name and no type specifier stands before it.
   abbrev pub specifier_by : Bool → Bool → Option Symbol → Parser (Option (Specifiers → Specifiers))
   specifier_by storage typed (Some (Reserved w)) = specifier_at storage (specifier_word w)
-  specifier_by storage typed (Some (Identifier x)) = λ i. (if not typed && is_typedef_name i x then (λ w. Some (tree.TypedefName w)) <$> take_word else pure None) i
+  specifier_by storage typed (Some (Identifier x)) = λ i. (if not typed && is_typedef_name i x then (λ w. Some (tree.TypedefName w)) <$> word x else pure None) i
   specifier_by storage typed _ = pure None
 
   unfoldable pub specifier : Bool → Bool → Parser (Option (Specifiers → Specifiers))

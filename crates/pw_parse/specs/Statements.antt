@@ -7,7 +7,7 @@ use Rattle.pw_tree.specs.declared.symbol.Keyword.TheVariants as k
 use Rattle.pw_tree.specs.declared.symbol.Mark.{Mark}
 use Rattle.pw_tree.specs.declared.symbol.Mark.TheVariants as m
 use Rattle.pw_parse.specs.Declarations.{parts, declarations}
-use Rattle.pw_parse.specs.Input.{Input, Parser, ◌>>=◌, ◌>>◌, ◌<$>◌, pure, fault, asks, peek, skip, step, take_number, take_word, sees, sees_keyword, eat, eat_keyword, expect, expect_keyword, ordinary, is_typedef_name, mark, leave, Turn, Last, More, list_of, while_some}
+use Rattle.pw_parse.specs.Input.{Input, Parser, ◌>>=◌, ◌>>◌, ◌<$>◌, pure, fault, asks, peek, skip, step, take_number, word, sees, sees_keyword, eat, eat_keyword, expect, expect_keyword, ordinary, is_typedef_name, mark, leave, Turn, Last, More, list_of, while_some}
 
 module _ (limit : ℕ) where
   abbrev pub expression : Parser Expr
@@ -31,16 +31,16 @@ module _ (limit : ℕ) where
     expect m.Colon
     pure (DefaultLabel n)
 
-  unfoldable pub name_label : Parser Label
-  name_label = do
-    w ← take_word
+  unfoldable pub name_label : List ℕ → Parser Label
+  name_label text = do
+    w ← word text
     skip
     pure (NameLabel w)
 
   abbrev pub label_by : Option Symbol → Parser (Option Label)
   label_by (Some (Reserved k.Case)) = Some <$> case_label
   label_by (Some (Reserved k.Default)) = Some <$> default_label
-  label_by (Some (Identifier x)) = λ i. (if sees m.Colon (step i) && not (is_typedef_name i x) then Some <$> name_label else pure None) i
+  label_by (Some (Identifier x)) = λ i. (if sees m.Colon (step i) && not (is_typedef_name i x) then Some <$> name_label x else pure None) i
   label_by _ = pure None
 
   unfoldable pub label : Parser (Option Label)

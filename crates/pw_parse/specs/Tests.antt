@@ -67,11 +67,11 @@ begins_specifier storage i = symbol_begins_specifier storage i (ahead i)
 
 -- a `(` and a type name stand next: a cast or the size of a type (6.3.3.4, 6.3.4)
 unfoldable pub opens_type_name : Input → Bool
-opens_type_name i = sees m.OpenParen i && begins_specifier false (step i)
+opens_type_name i = sees m.OpenParen i && symbol_begins_specifier false i (ahead (step i))
 
 -- a `(` stands next, and with it a list of parameters where a declarator needs no name (6.5.4.3)
 unfoldable pub opens_parameters : Input → Bool
-opens_parameters i = sees m.CloseParen (step i) || begins_specifier true (step i)
+opens_parameters i = sees m.CloseParen (step i) || symbol_begins_specifier true i (ahead (step i))
 
 abbrev pub qualifier_word : Option Symbol → Option Qualifier
 qualifier_word (Some (Reserved k.Const)) = Some qualifier.Const

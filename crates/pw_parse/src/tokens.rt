@@ -1,16 +1,18 @@
 //! A cursor over the tokens of a module, with the names in scope.
 
-ghost use Rattle.std.specs.Prelude.{◌≡◌, ◌≢◌, ◌≤◌, ◌+◌, [], length, map, take, drop, Some, OnOk};
+ghost use Rattle.std.specs.Prelude.{◌≡◌, ◌≢◌, ◌≤◌, ◌+◌, [], ◌∷◌, length, map, take, drop, true, false, Some, Ok, OnOk};
 ghost use Rattle.pw_tree.specs.Lexemes.{view_lexeme};
 ghost use Rattle.pw_tree.specs.Views.{view_word};
 ghost use Rattle.pw_parse.specs.Input as spec;
 ghost use Rattle.pw_parse.specs.Tests as test;
 ghost use Rattle.pw_parse.specs.Reads.{Reads, unit};
+ghost use Rattle.pw_parse.specs.Views.{view_bindings};
 
+use crate::declared::Binding;
 use crate::stop::Stop;
 use pw_scope::Scopes;
 use pw_tree::{Keyword, Lexeme, Mark, Word};
-use std::alloc::{AllocError, Global};
+use std::alloc::Global;
 use std::marker::Model;
 
 /// The tokens that are not read yet, the first one's number, and the names in scope, each with
@@ -27,11 +29,25 @@ impl<'a> Model for Tokens<'a> {
 
     ghost Value = { Input };
 
-    ghost use Rattle.pw_parse.specs.Views.{input_of, IsCounted};
+    ghost use Rattle.pw_parse.specs.Cursor.{input_of, IsCounted};
 
     ghost view = { input_of };
 
     ghost invariant = { IsCounted };
+}
+
+#[tactic(auto, unfolding(crate::specs::Input::same_mark))]
+fn same_mark(a: Mark, b: Mark) -> bool
+    ensures { result ≡ spec.same_mark a b }
+{
+    a == b
+}
+
+#[tactic(auto, unfolding(crate::specs::Input::same_keyword))]
+fn same_keyword(a: Keyword, b: Keyword) -> bool
+    ensures { result ≡ spec.same_keyword a b }
+{
+    a == b
 }
 
 impl<'a> Tokens<'a> {
@@ -54,6 +70,17 @@ impl<'a> Tokens<'a> {
         match self.rest.split_first() {
             Some((first, _)) => *first,
             None => Lexeme::Other,
+        }
+    }
+
+    /// The token behind the next.
+    #[tactic(auto, unfolding(crate::specs::Input::ahead, crate::specs::Input::step))]
+    pub fn peek_second(&self) -> Lexeme<'a>
+        ensures { view_lexeme result ≡ spec.ahead (spec.step self.now) }
+    {
+        match self.rest {
+            [_, second, ..] => *second,
+            _ => Lexeme::Other,
         }
     }
 
@@ -90,17 +117,6 @@ impl<'a> Tokens<'a> {
         }
     }
 
-    /// The token behind the next.
-    #[tactic(auto, unfolding(crate::specs::Input::ahead, crate::specs::Input::step))]
-    pub fn peek_second(&self) -> Lexeme<'a>
-        ensures { view_lexeme result ≡ spec.ahead (spec.step self.now) }
-    {
-        match self.rest {
-            [_, second, ..] => *second,
-            _ => Lexeme::Other,
-        }
-    }
-
     /// The next token's number; the token is read.
     pub fn take_number(&mut self) -> usize
         ensures number { result ≡ self.old.next }
@@ -109,6 +125,133 @@ impl<'a> Tokens<'a> {
         let number = self.next;
         self.skip();
         number
+    }
+
+    /// The next token, which has these bytes.
+    pub fn word(&mut self, alloc: Global, text: &[u8]) -> Result<Word, Stop>
+        ensures { Reads view_word (spec.word text.now self.old) result self.new }
+    {
+        let token = self.take_number();
+        let text = text.to_vec(alloc)?;
+        Ok(Word { token, text })
+    }
+
+    /// An identifier, whatever it stands for.
+    #[tactic(auto, unfolding(crate::specs::Input::identifier_by))]
+    pub fn identifier(&mut self, alloc: Global) -> Result<Word, Stop>
+        ensures { Reads view_word (spec.identifier self.old) result self.new }
+    {
+        match self.peek() {
+            Lexeme::Identifier(text) => self.word(alloc, text),
+            _ => Err(Stop::Fault),
+        }
+    }
+
+    #[tactic(auto, unfolding(crate::specs::Input::sees))]
+    pub fn sees(&self, mark: Mark) -> bool
+        ensures { result ≡ spec.sees mark self.now }
+    {
+        match self.peek() {
+            Lexeme::Mark(other) => same_mark(other, mark),
+            _ => false,
+        }
+    }
+
+    #[tactic(auto, unfolding(crate::specs::Input::sees))]
+    pub fn sees_second(&self, mark: Mark) -> bool
+        ensures { result ≡ spec.sees mark (spec.step self.now) }
+    {
+        match self.peek_second() {
+            Lexeme::Mark(other) => same_mark(other, mark),
+            _ => false,
+        }
+    }
+
+    #[tactic(auto, unfolding(crate::specs::Input::sees_keyword))]
+    pub fn sees_keyword(&self, keyword: Keyword) -> bool
+        ensures { result ≡ spec.sees_keyword keyword self.now }
+    {
+        match self.peek() {
+            Lexeme::Keyword(other) => same_keyword(other, keyword),
+            _ => false,
+        }
+    }
+
+    /// Reads a mark if it stands next, and says whether it did.
+    #[tactic(auto, unfolding(crate::specs::Input::past))]
+    pub fn eat(&mut self, mark: Mark) -> bool
+        ensures found { result ≡ spec.sees mark self.old }
+        ensures after { self.new ≡ spec.past mark self.old }
+    {
+        let found = self.sees(mark);
+        if found {
+            self.skip();
+        }
+        found
+    }
+
+    /// Reads a keyword if it stands next, and says whether it did.
+    #[tactic(auto, unfolding(crate::specs::Input::past_keyword))]
+    pub fn eat_keyword(&mut self, keyword: Keyword) -> bool
+        ensures found { result ≡ spec.sees_keyword keyword self.old }
+        ensures after { self.new ≡ spec.past_keyword keyword self.old }
+    {
+        let found = self.sees_keyword(keyword);
+        if found {
+            self.skip();
+        }
+        found
+    }
+
+    #[tactic(auto, unfolding(crate::specs::Input::expect))]
+    pub fn expect(&mut self, mark: Mark) -> Result<(), Stop>
+        ensures { Reads unit (spec.expect mark self.old) result self.new }
+    {
+        if self.sees(mark) {
+            self.skip();
+            Ok(())
+        } else {
+            Err(Stop::Fault)
+        }
+    }
+
+    #[tactic(auto, unfolding(crate::specs::Input::expect_keyword))]
+    pub fn expect_keyword(&mut self, keyword: Keyword) -> Result<(), Stop>
+        ensures { Reads unit (spec.expect_keyword keyword self.old) result self.new }
+    {
+        if self.sees_keyword(keyword) {
+            self.skip();
+            Ok(())
+        } else {
+            Err(Stop::Fault)
+        }
+    }
+
+    /// Whether a name is visible as a typedef name.
+    #[tactic(auto, unfolding(crate::specs::Input::is_typedef_name))]
+    pub fn is_typedef_name(&self, name: &[u8]) -> bool
+        ensures { result ≡ spec.is_typedef_name self.now name.now }
+    {
+        match self.names.visible(name) {
+            Some(is_typedef) => is_typedef,
+            None => false,
+        }
+    }
+
+    /// An identifier that is not visible as a typedef name.
+    #[tactic(auto, unfolding(crate::specs::Input::ordinary_by))]
+    pub fn ordinary(&mut self, alloc: Global) -> Result<Word, Stop>
+        ensures { Reads view_word (spec.ordinary self.old) result self.new }
+    {
+        match self.peek() {
+            Lexeme::Identifier(text) => {
+                if self.is_typedef_name(text) {
+                    return Err(Stop::Fault);
+                }
+                self.word(alloc, text)
+            }
+            _ => Err(Stop::Fault),
+        }
     }
 
     /// How many declarations are in scope.
@@ -123,5 +266,20 @@ impl<'a> Tokens<'a> {
         ensures { spec.leave mark self.old ≡ Ok (tt, self.new) }
     {
         self.names.leave(mark);
+    }
+
+    pub fn declare(&mut self, name: &'a [u8], is_typedef: bool) -> Result<(), Stop>
+        ensures { Reads unit (spec.declare (name.now, is_typedef) self.old) result self.new }
+    {
+        self.names.declare(name, is_typedef)?;
+        Ok(())
+    }
+
+    /// What was declared since a mark.
+    pub fn since(&self, alloc: Global, mark: usize) -> Result<Vec<Binding<'a>>, Stop>
+        ensures { Reads view_bindings (spec.since mark self.now) result self.now }
+    {
+        let declared = self.names.since(alloc, mark)?;
+        Ok(declared)
     }
 }
