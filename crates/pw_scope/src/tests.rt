@@ -1,1 +1,0 @@
-//! Declarations, uses and scopes.
