@@ -1,8 +1,11 @@
+pub mod Grammar
 pub mod Levels
 pub mod Lexemes
+pub mod Numbering
 pub mod Scopes
 pub mod Spelling
 pub mod Symbols
 pub mod Trees
 pub mod Views
 pub mod WellFormed
+pub mod Writing

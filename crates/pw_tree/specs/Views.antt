@@ -1,5 +1,7 @@
 -- The plain trees that the code's trees show.
 use Rattle.std.specs.Prelude.{List, [], ◌∷◌, map, Option, Some, None}
+use Rattle.std.specs.declared.alloc.Global.{Global}
+use Rattle.std.specs.declared.boxed.Box.{Box}
 use Rattle.pw_tree.specs.Trees as tree
 use Rattle.pw_tree.specs.declared.decl.Decl.{Decl}
 use Rattle.pw_tree.specs.declared.decl.Init.{Init, Value, List', Row_of-Init, end_of-Init, more_of-Init}
@@ -24,7 +26,6 @@ use Rattle.pw_tree.specs.declared.expr.Specifier.{Specifier}
 use Rattle.pw_tree.specs.declared.expr.Specifier as specifier
 use Rattle.pw_tree.specs.declared.expr.Suffix.{Suffix}
 use Rattle.pw_tree.specs.declared.expr.Suffix as suffix
-use Rattle.pw_tree.specs.declared.expr.TypeName.{TypeName}
 use Rattle.pw_tree.specs.declared.expr.Word.{Word}
 use Rattle.pw_tree.specs.declared.module.External.{External}
 use Rattle.pw_tree.specs.declared.module.External.TheVariants as external
@@ -273,6 +274,11 @@ view_stmts (s ∷ ss) = tree.Next (view_stmt s) (view_stmts ss)
 abbrev pub view_else_ifs : List ElseIf → tree.Alternative → tree.Alternative
 view_else_ifs [] o = o
 view_else_ifs (e ∷ es) o = tree.ElseIf e.token (view_expr e.condition) (view_stmt e.chosen) (view_else_ifs es o)
+
+-- the last `else` of an `if`
+abbrev pub view_otherwise : Option (Box Stmt Global) → tree.Alternative
+view_otherwise None = tree.NoElse
+view_otherwise (Some b) = tree.Otherwise (view_stmt b.value)
 
 abbrev pub view_block : Block → tree.Block
 view_block b = tree.Braced b.token (view_decls b.declarations.items) (view_stmts b.statements.items)

@@ -1,8 +1,8 @@
 -- Which trees are well formed: the grammar of C90 6.3 to 6.7 as far as the trees' types don't say it already.
 use Rattle.std.specs.Prelude.{◌≡◌, ℕ, ◌<◌, ◌≤◌, Bool, true, false, not, ◌||◌, List, [], ◌∷◌, Option, Some, None}
 use Rattle.pw_tree.specs.Levels.{level, binary_level, chain_level, primary, unary, cast, logical_or, conditional, assignment}
-use Rattle.pw_tree.specs.Scopes.{Env, is_typedef_name, has_type, after_expr, after_postfixes, after_arguments, after_operations, after_specifiers, after_members, after_member_declarators, after_enumerators, declare_plain, after_declarator, after_core, after_suffixes, after_parameter, after_optional, after_init, after_initializer, after_name, after_decl, after_decls, after_label, after_labels, after_stmt, enter, after_external}
-use Rattle.pw_tree.specs.Trees.{Word, Pointer, Expr, Identifier, Number, Floating, Character, Wide, Strings, Paren, Postfix, Unary, SizeofType, Cast, Chain, Conditional, Assign, Postfixes, NoPostfix, Index, Call, Select, Step, Arguments, NoArgument, Argument, Operations, NoOperation, Operation, Specifiers, NoSpecifier, Storage, Qualified, Basic, TypedefName, RecordTag, Record, EnumTag, Enum, Members, NoMember, Member, MemberDeclarators, NoMemberDeclarator, PlainMember, BitField, Padding, Enumerators, NoEnumerator, PlainEnumerator, ValuedEnumerator, Declarator, Declaring, Core, Absent, Name, Enclosed, Suffixes, NoSuffix, Array, OpenArray, Prototype, Variadic, Identifiers, Parameters, NoParameter, Parameter, Init, Value, Braces, Inits, NoInit, Listed, Initializer, InitDeclarator, Decl, Label, CaseLabel, DefaultLabel, NameLabel, Stmt, Compound, Expression, Empty, Labeled, If, Switch, While, Do, For, Goto, Continue, Break, Return, Alternative, NoElse, Otherwise, ElseIf, Block, Braced, Stmts, NoStmt, Next, Function, External, Definition, Declaration, Module}
+use Rattle.pw_tree.specs.Scopes.{Env, is_typedef_name, has_type, after_expr, after_arguments, after_specifiers, after_members, after_member_declarators, after_enumerators, declare_plain, after_declarator, after_core, after_parameter, after_optional, after_init, after_initializer, after_name, after_decl, after_decls, after_label, after_labels, after_stmt, enter, after_external}
+use Rattle.pw_tree.specs.Trees.{Word, Expr, Identifier, Number, Floating, Character, Wide, Strings, Paren, Postfix, Unary, SizeofType, Cast, Chain, Conditional, Assign, Postfixes, NoPostfix, Index, Call, Select, Step, Arguments, NoArgument, Argument, Operations, NoOperation, Operation, Specifiers, NoSpecifier, Storage, Qualified, Basic, TypedefName, RecordTag, Record, EnumTag, Enum, Members, NoMember, Member, MemberDeclarators, NoMemberDeclarator, PlainMember, BitField, Padding, Enumerators, NoEnumerator, PlainEnumerator, ValuedEnumerator, Declarator, Declaring, Core, Absent, Name, Enclosed, Suffixes, NoSuffix, Array, OpenArray, Prototype, Variadic, Identifiers, Parameters, NoParameter, Parameter, Init, Value, Braces, Inits, NoInit, Listed, Initializer, InitDeclarator, Decl, Label, CaseLabel, DefaultLabel, NameLabel, Stmt, Compound, Expression, Empty, Labeled, If, Switch, While, Do, For, Goto, Continue, Break, Return, Alternative, NoElse, Otherwise, ElseIf, Block, Braced, Stmts, NoStmt, Next, Function, External, Definition, Declaration, Module}
 use Rattle.pw_tree.specs.declared.operator.UnaryOperator.{UnaryOperator}
 use Rattle.pw_tree.specs.declared.operator.UnaryOperator.TheVariants as u
 

@@ -2,7 +2,11 @@
 //!
 //! A field `token` is the number of a token, counted from 1: the token that the node's comment names.
 
+ghost use Rattle.std.specs.Prelude.{◌≡◌};
+ghost use Rattle.pw_tree.specs.Symbols as spec;
+
 use crate::operator::{Access, AssignOperator, BinaryOperator, StepOperator, UnaryOperator};
+use crate::symbol::Keyword;
 
 /// A token with bytes of its own: an identifier, a constant or a string literal, with its number.
 #[derive(Debug, PartialEq, Eq, Drop)]
@@ -27,7 +31,10 @@ pub enum Expr {
     /// String literals that stand one behind another (6.1.4).
     Strings(Vec<Word>),
     /// An expression in parentheses (6.3.1), at its `(`.
-    Paren { token: usize, inner: Box<Expr> },
+    Paren {
+        token: usize,
+        inner: Box<Expr>,
+    },
     /// A primary expression and what stands behind it, in the source's order (6.3.2).
     Postfix {
         operand: Box<Expr>,
@@ -40,7 +47,10 @@ pub enum Expr {
         operand: Box<Expr>,
     },
     /// The size of a type (6.3.3.4), at `sizeof`.
-    SizeofType { token: usize, named: Box<TypeName> },
+    SizeofType {
+        token: usize,
+        named: Box<TypeName>,
+    },
     /// A cast (6.3.4), at its `(`.
     Cast {
         token: usize,
@@ -82,9 +92,15 @@ pub struct Operation {
 #[derive(Drop)]
 pub enum PostfixOperation {
     /// An index, at its `[`.
-    Index { token: usize, index: Expr },
+    Index {
+        token: usize,
+        index: Expr,
+    },
     /// A call, at its `(`.
-    Call { token: usize, arguments: Vec<Expr> },
+    Call {
+        token: usize,
+        arguments: Vec<Expr>,
+    },
     /// A member, at its `.` or `->`.
     Member {
         token: usize,
@@ -92,7 +108,10 @@ pub enum PostfixOperation {
         name: Word,
     },
     /// `++` or `--`, at the operator.
-    Step { token: usize, operator: StepOperator },
+    Step {
+        token: usize,
+        operator: StepOperator,
+    },
 }
 
 /// A type name (C90 6.5.5): specifiers and a declarator without a name.
@@ -145,9 +164,18 @@ pub enum RecordKind {
 #[cycle(expr)]
 #[derive(Drop)]
 pub enum Specifier {
-    Storage { token: usize, class: StorageClass },
-    Qualifier { token: usize, qualifier: Qualifier },
-    Basic { token: usize, basic: BasicType },
+    Storage {
+        token: usize,
+        class: StorageClass,
+    },
+    Qualifier {
+        token: usize,
+        qualifier: Qualifier,
+    },
+    Basic {
+        token: usize,
+        basic: BasicType,
+    },
     /// An identifier that is visible as a typedef name (6.5.6).
     TypedefName(Word),
     /// `struct` or `union` and a tag (6.5.2.3), at the keyword.
@@ -164,7 +192,10 @@ pub enum Specifier {
         members: Vec<Member>,
     },
     /// `enum` and a tag (6.5.2.3), at the keyword.
-    EnumTag { token: usize, tag: Word },
+    EnumTag {
+        token: usize,
+        tag: Word,
+    },
     /// `enum` and its enumerators in braces (6.5.2.2), at the keyword.
     Enum {
         token: usize,
@@ -193,7 +224,10 @@ pub enum MemberDeclarator {
         width: Expr,
     },
     /// A bit-field without a name, at its `:`.
-    Padding { token: usize, width: Expr },
+    Padding {
+        token: usize,
+        width: Expr,
+    },
 }
 
 /// An enumeration constant (C90 6.5.2.2).
@@ -227,7 +261,10 @@ pub enum Core {
     Absent,
     Name(Word),
     /// A declarator in parentheses, at its `(`.
-    Paren { token: usize, inner: Box<Declarator> },
+    Paren {
+        token: usize,
+        inner: Box<Declarator>,
+    },
 }
 
 /// What stands behind a declarator's name (C90 6.5.4.2, 6.5.4.3).
@@ -235,9 +272,14 @@ pub enum Core {
 #[derive(Drop)]
 pub enum Suffix {
     /// An array, at its `[`.
-    Array { token: usize, length: Expr },
+    Array {
+        token: usize,
+        length: Expr,
+    },
     /// An array without a length, at its `[`.
-    OpenArray { token: usize },
+    OpenArray {
+        token: usize,
+    },
     /// A list of parameters, at its `(`. The empty list stands for `()`.
     Parameters {
         token: usize,
@@ -249,7 +291,10 @@ pub enum Suffix {
         parameters: Vec<Parameter>,
     },
     /// A list of identifiers, at its `(`.
-    Identifiers { token: usize, names: Vec<Word> },
+    Identifiers {
+        token: usize,
+        names: Vec<Word>,
+    },
 }
 
 /// A parameter (C90 6.5.4.3): its declarator may have no name, and may be empty.
@@ -258,4 +303,62 @@ pub enum Suffix {
 pub struct Parameter {
     pub specifiers: Vec<Specifier>,
     pub declarator: Declarator,
+}
+
+impl StorageClass {
+    /// How it is spelled.
+    pub fn keyword(self) -> Keyword
+        ensures { result ≡ spec.storage_word self }
+    {
+        match self {
+            StorageClass::Typedef => Keyword::Typedef,
+            StorageClass::Extern => Keyword::Extern,
+            StorageClass::Static => Keyword::Static,
+            StorageClass::Auto => Keyword::Auto,
+            StorageClass::Register => Keyword::Register,
+        }
+    }
+}
+
+impl Qualifier {
+    /// How it is spelled.
+    pub fn keyword(self) -> Keyword
+        ensures { result ≡ spec.qualifier_word self }
+    {
+        match self {
+            Qualifier::Const => Keyword::Const,
+            Qualifier::Volatile => Keyword::Volatile,
+        }
+    }
+}
+
+impl BasicType {
+    /// How it is spelled.
+    pub fn keyword(self) -> Keyword
+        ensures { result ≡ spec.basic_word self }
+    {
+        match self {
+            BasicType::Void => Keyword::Void,
+            BasicType::Char => Keyword::Char,
+            BasicType::Short => Keyword::Short,
+            BasicType::Int => Keyword::Int,
+            BasicType::Long => Keyword::Long,
+            BasicType::Float => Keyword::Float,
+            BasicType::Double => Keyword::Double,
+            BasicType::Signed => Keyword::Signed,
+            BasicType::Unsigned => Keyword::Unsigned,
+        }
+    }
+}
+
+impl RecordKind {
+    /// How it is spelled.
+    pub fn keyword(self) -> Keyword
+        ensures { result ≡ spec.record_word self }
+    {
+        match self {
+            RecordKind::Struct => Keyword::Struct,
+            RecordKind::Union => Keyword::Union,
+        }
+    }
 }

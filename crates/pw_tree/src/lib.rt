@@ -6,16 +6,20 @@ mod expr;
 mod lexeme;
 mod module;
 mod operator;
+mod spell_expr;
+mod spelled;
 mod stmt;
 mod symbol;
 
 pub use decl::{Decl, Init, InitDeclarator, Initializer};
 pub use expr::{
     BasicType, Core, Declarator, Enumerator, Expr, Member, MemberDeclarator, Operation, Parameter,
-    Pointer, PostfixOperation, Qualifier, RecordKind, Specifier, StorageClass, Suffix, TypeName, Word,
+    Pointer, PostfixOperation, Qualifier, RecordKind, Specifier, StorageClass, Suffix, TypeName,
+    Word,
 };
 pub use lexeme::{Lexeme, lexeme_of};
 pub use module::{External, Function, Module};
 pub use operator::{Access, AssignOperator, BinaryOperator, StepOperator, UnaryOperator};
+pub use spelled::{NoMemory, Spelled};
 pub use stmt::{Block, ElseIf, Label, Stmt};
 pub use symbol::{Keyword, Mark};

@@ -1,5 +1,10 @@
 //! The operators of expressions (C90 6.3).
 
+ghost use Rattle.std.specs.Prelude.{◌≡◌};
+ghost use Rattle.pw_tree.specs.Symbols as spec;
+
+use crate::symbol::Mark;
+
 /// What stands before its operand (C90 6.3.3).
 #[derive(Clone, Copy, Debug, PartialEq, Eq)]
 pub enum UnaryOperator {
@@ -109,4 +114,78 @@ pub enum StepOperator {
     Increment,
     /// `--`
     Decrement,
+}
+
+impl BinaryOperator {
+    /// How it is spelled.
+    pub fn mark(self) -> Mark
+        ensures { result ≡ spec.binary_mark self }
+    {
+        match self {
+            BinaryOperator::Multiply => Mark::Star,
+            BinaryOperator::Divide => Mark::Slash,
+            BinaryOperator::Remainder => Mark::Percent,
+            BinaryOperator::Add => Mark::Plus,
+            BinaryOperator::Subtract => Mark::Minus,
+            BinaryOperator::LeftShift => Mark::LeftShift,
+            BinaryOperator::RightShift => Mark::RightShift,
+            BinaryOperator::Less => Mark::Less,
+            BinaryOperator::Greater => Mark::Greater,
+            BinaryOperator::LessEqual => Mark::LessEqual,
+            BinaryOperator::GreaterEqual => Mark::GreaterEqual,
+            BinaryOperator::Equal => Mark::EqualEqual,
+            BinaryOperator::NotEqual => Mark::NotEqual,
+            BinaryOperator::BitAnd => Mark::Ampersand,
+            BinaryOperator::BitXor => Mark::Caret,
+            BinaryOperator::BitOr => Mark::Bar,
+            BinaryOperator::And => Mark::AndAnd,
+            BinaryOperator::Or => Mark::BarBar,
+            BinaryOperator::Comma => Mark::Comma,
+        }
+    }
+}
+
+impl AssignOperator {
+    /// How it is spelled.
+    pub fn mark(self) -> Mark
+        ensures { result ≡ spec.assign_mark self }
+    {
+        match self {
+            AssignOperator::Plain => Mark::Equal,
+            AssignOperator::Multiply => Mark::StarEqual,
+            AssignOperator::Divide => Mark::SlashEqual,
+            AssignOperator::Remainder => Mark::PercentEqual,
+            AssignOperator::Add => Mark::PlusEqual,
+            AssignOperator::Subtract => Mark::MinusEqual,
+            AssignOperator::LeftShift => Mark::LeftShiftEqual,
+            AssignOperator::RightShift => Mark::RightShiftEqual,
+            AssignOperator::BitAnd => Mark::AmpersandEqual,
+            AssignOperator::BitXor => Mark::CaretEqual,
+            AssignOperator::BitOr => Mark::BarEqual,
+        }
+    }
+}
+
+impl Access {
+    /// How it is spelled.
+    pub fn mark(self) -> Mark
+        ensures { result ≡ spec.access_mark self }
+    {
+        match self {
+            Access::Dot => Mark::Dot,
+            Access::Arrow => Mark::Arrow,
+        }
+    }
+}
+
+impl StepOperator {
+    /// How it is spelled.
+    pub fn mark(self) -> Mark
+        ensures { result ≡ spec.step_mark self }
+    {
+        match self {
+            StepOperator::Increment => Mark::Increment,
+            StepOperator::Decrement => Mark::Decrement,
+        }
+    }
 }

@@ -10,7 +10,9 @@ pub enum Stmt {
     Block(Block),
     Expression(Expr),
     /// A `;` alone (6.6.3).
-    Empty { token: usize },
+    Empty {
+        token: usize,
+    },
     /// A statement with the labels before it (6.6.1).
     Labeled {
         labels: Vec<Label>,
@@ -51,13 +53,23 @@ pub enum Stmt {
         body: Box<Stmt>,
     },
     /// 6.6.6.1
-    Goto { token: usize, label: Word },
+    Goto {
+        token: usize,
+        label: Word,
+    },
     /// 6.6.6.2
-    Continue { token: usize },
+    Continue {
+        token: usize,
+    },
     /// 6.6.6.3
-    Break { token: usize },
+    Break {
+        token: usize,
+    },
     /// 6.6.6.4
-    Return { token: usize, value: Option<Expr> },
+    Return {
+        token: usize,
+        value: Option<Expr>,
+    },
 }
 
 /// Declarations and then statements in braces (C90 6.6.2), at the `{`.
