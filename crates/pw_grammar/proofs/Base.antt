@@ -1,0 +1,74 @@
+-- An input whose tokens ahead are a tree's, and the steps of parsers on it.
+use Rattle.std.proofs.Common.{◌≡◌, ℕ, zero, suc, ◌+◌, ◌<◌, Bool, true, false, not, ◌||◌, if◌then◌else◌, List, [], ◌∷◌, ◌++◌, length, map, Option, Some, None, Result, Ok, Err, arith, refl, sym, ap, ◌∙◌}
+use Rattle.std.proofs.lemmas.List.{length-map}
+use Rattle.std.specs.Option.{option_or}
+use Rattle.std.specs.Str.{bytes_eq}
+use Rattle.std.proofs.lemmas.Slice.Eq.{bytes_eq-Decides}
+use Rattle.pw_scope.proofs.Visibility.{visible-declared}
+use Rattle.pw_scope.specs.Visible.{visible}
+use Rattle.pw_tree.specs.Scopes as scopes
+use Rattle.pw_tree.specs.Scopes.{Env}
+use Rattle.pw_tree.specs.Symbols.{Symbol, Reserved, Sign, Identifier}
+use Rattle.pw_tree.specs.Trees.{Word}
+use Rattle.pw_tree.specs.declared.symbol.Mark.{Mark}
+use Rattle.pw_tree.specs.declared.symbol.Mark.TheVariants as m
+use Rattle.pw_grammar.specs.Input.{Binding, Input, Outcome, Parser, ◌>>=◌, and_then, pure, is_typedef_name, or_false, identifier, identifier_by, ordinary, ordinary_by, word, peek, ahead, step, Turn, More, Last, go_on, repeat}
+
+-- the names that are visible, as a parser has them: the newest last
+abbrev pub binding : scopes.Binding → Binding
+binding b = (b.name, b.is_typedef)
+
+abbrev pub names_of : Env → List Binding
+names_of [] = []
+names_of (b ∷ env) = names_of env ++ binding b ∷ []
+
+-- where these tokens stand ahead
+abbrev pub at : Env → List Symbol → ℕ → Input
+at env tokens n = record { names = names_of env; rest = map Some tokens; next = n }
+
+bytes_eq-flip : (x y : List ℕ) → bytes_eq x y ≡ bytes_eq y x
+bytes_eq-flip x y = by (bytes_eq x y) (bytes_eq y x) refl refl
+  where
+    by : (a b : Bool) → bytes_eq x y ≡ a → bytes_eq y x ≡ b → a ≡ b
+    by true true e f = refl
+    by false false e f = refl
+    by true false e f = sym ((bytes_eq-Decides y x).1 (sym ((bytes_eq-Decides x y).0 e))) ∙ f
+    by false true e f = sym e ∙ (bytes_eq-Decides x y).1 (sym ((bytes_eq-Decides y x).0 f))
+
+-- a name is one of a typedef for the parser where it is one in the tree's scope
+pub names_are : (env : Env) (x : List ℕ) → or_false (visible (names_of env) x) ≡ scopes.is_typedef_name env x
+names_are [] x = refl
+names_are (b ∷ env) x =
+    ap or_false (visible-declared (names_of env) b.name x b.is_typedef) ∙ ap (λ c. or_false (if c then Some b.is_typedef else visible (names_of env) x)) (bytes_eq-flip x b.name)
+    ∙ by (names_are env x) (bytes_eq b.name x)
+  where
+    by : or_false (visible (names_of env) x) ≡ scopes.is_typedef_name env x → (c : Bool) → or_false (if c then Some b.is_typedef else visible (names_of env) x) ≡ (if c then b.is_typedef else scopes.is_typedef_name env x)
+    by h true = refl
+    by h false = h
+
+pub is_typedef : (env : Env) (s : List Symbol) (n : ℕ) (x : List ℕ) → is_typedef_name (at env s n) x ≡ scopes.is_typedef_name env x
+unfolding is_typedef_name
+is_typedef env s n x = names_are env x
+
+-- two answers are one
+pub same : {A : Type 0} {x y : A} (env : Env) (z : List Symbol) {n k : ℕ} → x ≡ y → n ≡ k → ◌≡◌ {A = Outcome A} (Ok (x, at env z n)) (Ok (y, at env z k))
+same {y = y} env z {n = n} e f = ap (λ v. Ok (v, at env z n)) e ∙ ap (λ v. Ok (y, at env z v)) f
+
+-- what goes on behind a part
+pub chain : {A B : Type 0} {o : Outcome A} {x : A} {i : Input} (f : A → Parser B) {r : Outcome B} → o ≡ Ok (x, i) → f x i ≡ r → and_then o f ≡ r
+chain f e g = ap (λ o. and_then o f) e ∙ g
+
+-- ---- lists
+
+-- a turn that reads an item, and the rest of the list behind it
+pub turn_more : {L : Type 0} (turn : Parser (Turn L)) (n : ℕ) (i j k : Input) (item : L → L) (rest : L) → turn i ≡ Ok (More item, j) → repeat turn n j ≡ Ok (rest, k) → repeat turn (suc n) i ≡ Ok (item rest, k)
+unfolding repeat
+turn_more turn n i j k item rest e f = ap (λ o. and_then o (go_on (repeat turn n))) e ∙ ap (λ o. and_then o (λ l. pure (item l))) f
+
+pub turn_last : {L : Type 0} (turn : Parser (Turn L)) (n : ℕ) (i j : Input) (l : L) → turn i ≡ Ok (Last l, j) → repeat turn (suc n) i ≡ Ok (l, j)
+unfolding repeat
+turn_last turn n i j l e = ap (λ o. and_then o (go_on (repeat turn n))) e
+
+-- there are turns enough for all tokens
+pub turns_enough : (tokens : List Symbol) → length tokens < length (map Some tokens) + 1
+turns_enough tokens = omega (arith, length-map tokens Some)
