@@ -12,7 +12,7 @@ use Rattle.pw_tree.specs.Symbols.{Symbol, Reserved, Sign, Identifier}
 use Rattle.pw_tree.specs.Trees.{Word}
 use Rattle.pw_tree.specs.declared.symbol.Mark.{Mark}
 use Rattle.pw_tree.specs.declared.symbol.Mark.TheVariants as m
-use Rattle.pw_grammar.specs.Input.{Binding, Input, Outcome, Parser, ◌>>=◌, and_then, pure, is_typedef_name, or_false, identifier, identifier_by, ordinary, ordinary_by, word, peek, ahead, step, Turn, More, Last, go_on, repeat}
+use Rattle.pw_grammar.specs.Input.{Binding, Input, Outcome, Parser, ◌>>=◌, and_then, pure, is_typedef_name, or_false, identifier, identifier_by, ordinary, ordinary_by, word, peek, ahead, step, Turn, More, Last, go_on, repeat, turn_of, turn_with, ◌<$>◌}
 
 -- the names that are visible, as a parser has them: the newest last
 abbrev pub binding : scopes.Binding → Binding
@@ -72,3 +72,32 @@ turn_last turn n i j l e = ap (λ o. and_then o (go_on (repeat turn n))) e
 -- there are turns enough for all tokens
 pub turns_enough : (tokens : List Symbol) → length tokens < length (map Some tokens) + 1
 turns_enough tokens = omega (arith, length-map tokens Some)
+
+pub no_turns : {A : Type 0} {n : ℕ} → n < 0 → A
+no_turns {n = n} h = absurd (no n h)
+  where
+    no : (n : ℕ) → n < 0 → ⊥
+    no n h = omega (arith, h)
+
+pub true_is_not_false : {A : Type 0} → false ≡ true → A
+true_is_not_false h = absurd (no h)
+  where
+    no : false ≡ true → ⊥
+    no h = cc
+
+-- a list of items where one begins: an item, and the rest behind it
+pub some_more : {L : Type 0} (none : L) (item : Parser (Option (L → L))) (n : ℕ) (i j : Input) (k : Input) (f : L → L) (rest : L) → item i ≡ Ok (Some f, j) → repeat (turn_of none <$> item) n j ≡ Ok (rest, k) → repeat (turn_of none <$> item) (suc n) i ≡ Ok (f rest, k)
+some_more none item n i j k f rest e g = turn_more (turn_of none <$> item) n i j k f rest (ap (λ o. and_then o (λ x. pure (turn_of none x))) e) g
+
+pub some_last : {L : Type 0} (none : L) (item : Parser (Option (L → L))) (n : ℕ) (i j : Input) → item i ≡ Ok (None, j) → repeat (turn_of none <$> item) (suc n) i ≡ Ok (none, j)
+some_last none item n i j e = turn_last (turn_of none <$> item) n i j none (ap (λ o. and_then o (λ x. pure (turn_of none x))) e)
+
+-- a list of one item or more: an item and what is behind it, and the rest
+abbrev pub item_turn : {L : Type 0} → Parser (L → L) → Parser (Option L) → Parser (Turn L)
+item_turn item end = item >>= λ first. turn_with first <$> end
+
+pub item_more : {L : Type 0} (item : Parser (L → L)) (end : Parser (Option L)) (n : ℕ) (i j j' k : Input) (f : L → L) (rest : L) → item i ≡ Ok (f, j) → end j ≡ Ok (None, j') → repeat (item_turn item end) n j' ≡ Ok (rest, k) → repeat (item_turn item end) (suc n) i ≡ Ok (f rest, k)
+item_more item end n i j j' k f rest e g h = turn_more (item_turn item end) n i j' k f rest (ap (λ o. and_then o (λ first. turn_with first <$> end)) e ∙ ap (λ o. and_then o (λ x. pure (turn_with f x))) g) h
+
+pub item_last : {L : Type 0} (item : Parser (L → L)) (end : Parser (Option L)) (n : ℕ) (i j k : Input) (f : L → L) (none : L) → item i ≡ Ok (f, j) → end j ≡ Ok (Some none, k) → repeat (item_turn item end) (suc n) i ≡ Ok (f none, k)
+item_last item end n i j k f none e g = turn_last (item_turn item end) n i k (f none) (ap (λ o. and_then o (λ first. turn_with first <$> end)) e ∙ ap (λ o. and_then o (λ x. pure (turn_with f x))) g)

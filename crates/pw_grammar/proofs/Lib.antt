@@ -4,4 +4,3 @@ pub mod Base
 pub mod Follow
 pub mod Knows
 pub mod Heads
-pub mod Primaries
