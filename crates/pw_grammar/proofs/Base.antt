@@ -12,7 +12,7 @@ use Rattle.pw_tree.specs.Symbols.{Symbol, Reserved, Sign, Identifier}
 use Rattle.pw_tree.specs.Trees.{Word}
 use Rattle.pw_tree.specs.declared.symbol.Mark.{Mark}
 use Rattle.pw_tree.specs.declared.symbol.Mark.TheVariants as m
-use Rattle.pw_grammar.specs.Input.{Binding, Input, Outcome, Parser, ◌>>=◌, and_then, pure, is_typedef_name, or_false, identifier, identifier_by, ordinary, ordinary_by, word, peek, ahead, step, Turn, More, Last, go_on, repeat, turn_of, turn_with, ◌<$>◌}
+use Rattle.pw_grammar.specs.Input.{Binding, Input, Outcome, Parser, ◌>>=◌, and_then, pure, is_typedef_name, or_false, identifier, identifier_by, ordinary, ordinary_by, word, peek, ahead, step, Turn, More, Last, go_on, repeat, turn_of, turn_with, ◌<$>◌, unless_comma, sees, past, same_mark, is_mark, first_of_rest}
 
 -- the names that are visible, as a parser has them: the newest last
 abbrev pub binding : scopes.Binding → Binding
@@ -101,3 +101,12 @@ item_more item end n i j j' k f rest e g h = turn_more (item_turn item end) n i 
 
 pub item_last : {L : Type 0} (item : Parser (L → L)) (end : Parser (Option L)) (n : ℕ) (i j k : Input) (f : L → L) (none : L) → item i ≡ Ok (f, j) → end j ≡ Ok (Some none, k) → repeat (item_turn item end) (suc n) i ≡ Ok (f none, k)
 item_last item end n i j k f none e g = turn_last (item_turn item end) n i k (f none) (ap (λ o. and_then o (λ first. turn_with first <$> end)) e ∙ ap (λ o. and_then o (λ x. pure (turn_with f x))) g)
+
+-- behind an item a comma, or the end of the list
+pub comma_more : {L : Type 0} (none : L) (env : Env) (z : List Symbol) (n : ℕ) → unless_comma none (at env (Sign m.Comma ∷ z) n) ≡ Ok (None, at env z (n + 1))
+unfolding sees past ahead step same_mark
+comma_more none env z n = refl
+
+pub comma_last : {L : Type 0} (none : L) (env : Env) (z : List Symbol) (n : ℕ) → is_mark m.Comma (first_of_rest (map Some z)) ≡ false → unless_comma none (at env z n) ≡ Ok (Some none, at env z n)
+unfolding sees past ahead step same_mark
+comma_last none env z n h = rw h refl

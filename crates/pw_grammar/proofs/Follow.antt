@@ -1,5 +1,5 @@
 -- What may stand behind an expression of a level: no token that goes on with it.
-use Rattle.std.proofs.Common.{◌≡◌, ℕ, ◌<◌, ◌≤◌, ◌==◌, Bool, true, false, if◌then◌else◌, List, [], ◌∷◌, map, Option, Some, None, arith, refl, ap, ◌∙◌}
+use Rattle.std.proofs.Common.{◌≡◌, ℕ, ◌<◌, ◌≤◌, ◌==◌, Bool, true, false, if◌then◌else◌, List, [], ◌∷◌, map, Option, Some, None, arith, refl, sym, ap, ◌∙◌}
 use Rattle.std.proofs.lemmas.Bool.{eqb-true}
 use Rattle.pw_tree.specs.Levels.{binary_level}
 use Rattle.pw_tree.specs.Symbols as symbol
@@ -11,6 +11,7 @@ use Rattle.pw_tree.specs.declared.symbol.Mark.TheVariants as m
 use Rattle.pw_grammar.specs.Expressions.{string_by, postfix_by}
 use Rattle.pw_grammar.specs.Input.{first_of_rest, is_mark, same_mark, pure}
 use Rattle.pw_grammar.specs.Parts.{Parts}
+use Rattle.pw_grammar.proofs.Base.{true_is_not_false}
 use Rattle.pw_grammar.specs.Tests.{binary_operator, of_level, operator_at, assign_operator, assigns}
 
 -- the first token
@@ -70,10 +71,26 @@ not_below a b h k = omega (arith, h, k)
 not_same : (a : ℕ) → a < a → ⊥
 not_same a h = omega (arith, h)
 
-pub no_string : (o : Option Symbol) → 2 < joins o → string_by o ≡ pure None
-no_string (Some (symbol.Text s)) h = absurd (not_below 2 1 (omega arith) h)
+-- a string literal
+abbrev pub is_text : Option Symbol → Bool
+is_text (Some (symbol.Text s)) = true
+is_text _ = false
+
+pub no_text : (o : Option Symbol) → 2 < joins o → is_text o ≡ false
+no_text (Some (symbol.Text s)) h = absurd (not_below 2 1 (omega arith) h)
+no_text None h = refl
+no_text (Some _) h = refl
+
+pub no_string : (o : Option Symbol) → is_text o ≡ false → string_by o ≡ pure None
+no_string (Some (symbol.Text s)) h = true_is_not_false (sym h)
 no_string None h = refl
 no_string (Some _) h = refl
+
+pub no_comma : (o : Option Symbol) → 16 < joins o → is_mark m.Comma o ≡ false
+unfolding same_mark
+no_comma (Some (Sign m.Comma)) h = absurd (not_same 16 h)
+no_comma None h = refl
+no_comma (Some _) h = refl
 
 pub no_question : (o : Option Symbol) → 14 < joins o → is_mark m.Question o ≡ false
 unfolding same_mark

@@ -202,3 +202,36 @@ pub declarator-ends : (storage typed : Bool) (place : Place) (env : Env) (d : De
 unfolding spell_expr WellFormed
 declarator-ends storage typed place env (Declaring [] c fs) z h e = core-ends storage typed place env c fs z h e
 declarator-ends storage typed place env (Declaring (p ∷ ps) c fs) z h e = refl
+
+-- ---- marks that begin no expression
+
+pub expr-no_close_paren : (env : Env) (o : Option Symbol) → begins_expr env o ≡ true → is_mark m.CloseParen o ≡ false
+unfolding same_mark
+expr-no_close_paren env (Some (Sign m.CloseParen)) h = true_is_not_false h
+expr-no_close_paren env (Some _) h = refl
+expr-no_close_paren env None h = refl
+
+pub expr-no_close_bracket : (env : Env) (o : Option Symbol) → begins_expr env o ≡ true → is_mark m.CloseBracket o ≡ false
+unfolding same_mark
+expr-no_close_bracket env (Some (Sign m.CloseBracket)) h = true_is_not_false h
+expr-no_close_bracket env (Some _) h = refl
+expr-no_close_bracket env None h = refl
+
+pub expr-no_semicolon : (env : Env) (o : Option Symbol) → begins_expr env o ≡ true → is_mark m.Semicolon o ≡ false
+unfolding same_mark
+expr-no_semicolon env (Some (Sign m.Semicolon)) h = true_is_not_false h
+expr-no_semicolon env (Some _) h = refl
+expr-no_semicolon env None h = refl
+
+pub expr-no_close_brace : (env : Env) (o : Option Symbol) → begins_expr env o ≡ true → is_mark m.CloseBrace o ≡ false
+unfolding same_mark
+expr-no_close_brace env (Some (Sign m.CloseBrace)) h = true_is_not_false h
+expr-no_close_brace env (Some _) h = refl
+expr-no_close_brace env None h = refl
+
+pub expr-no_open_brace : (env : Env) (o : Option Symbol) → begins_expr env o ≡ true → is_mark m.OpenBrace o ≡ false
+unfolding same_mark
+expr-no_open_brace env (Some (Sign m.OpenBrace)) h = true_is_not_false h
+expr-no_open_brace env (Some _) h = refl
+expr-no_open_brace env None h = refl
+

@@ -4,3 +4,5 @@ pub mod Base
 pub mod Follow
 pub mod Knows
 pub mod Heads
+pub mod Primaries
+pub mod Postfixes
