@@ -123,3 +123,15 @@ no_assignment (Some (Sign m.BarEqual)) h = absurd (not_same 15 h)
 no_assignment None h = refl
 no_assignment (Some (Sign _)) h = refl
 no_assignment (Some _) h = refl
+
+-- no token goes on with casts alone
+pub above_unary : (o : Option Symbol) → 2 < joins o → 3 < joins o
+above_unary (Some (symbol.Text s)) h = absurd (not_below 2 1 (omega arith) h)
+above_unary (Some (Sign m.OpenBracket)) h = absurd (not_below 2 1 (omega arith) h)
+above_unary (Some (Sign m.OpenParen)) h = absurd (not_below 2 1 (omega arith) h)
+above_unary (Some (Sign m.Dot)) h = absurd (not_below 2 1 (omega arith) h)
+above_unary (Some (Sign m.Arrow)) h = absurd (not_below 2 1 (omega arith) h)
+above_unary (Some (Sign m.Increment)) h = absurd (not_below 2 1 (omega arith) h)
+above_unary (Some (Sign m.Decrement)) h = absurd (not_below 2 1 (omega arith) h)
+above_unary (Some _) h = omega arith
+above_unary None h = omega arith

@@ -6,3 +6,4 @@ pub mod Knows
 pub mod Heads
 pub mod Primaries
 pub mod Postfixes
+pub mod Unaries
