@@ -7,3 +7,4 @@ pub mod Heads
 pub mod Primaries
 pub mod Postfixes
 pub mod Unaries
+pub mod Levels
