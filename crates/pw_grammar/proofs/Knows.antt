@@ -63,6 +63,7 @@ ReadsExpr d k p = (env : Env) (e : Expr) (z : List Symbol) (n i : ℕ) → WellF
 abbrev pub ends_specifiers : Bool → Bool → Env → Option Symbol → Bool
 ends_specifiers storage typed env (Some (Reserved w)) = not (word_begins storage (specifier_word w))
 ends_specifiers storage typed env (Some (symbol.Identifier x)) = typed || not (scopes.is_typedef_name env x)
+ends_specifiers storage typed env (Some (Sign m.OpenBrace)) = false
 ends_specifiers storage typed env _ = true
 
 abbrev pub MayHold : Bool → Specifiers → Type 0

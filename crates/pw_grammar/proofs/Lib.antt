@@ -8,3 +8,4 @@ pub mod Primaries
 pub mod Postfixes
 pub mod Unaries
 pub mod Levels
+pub mod MembersRead
