@@ -9,3 +9,4 @@ pub mod Postfixes
 pub mod Unaries
 pub mod Levels
 pub mod MembersRead
+pub mod SpecifiersRead
