@@ -1,6 +1,7 @@
 -- An input whose tokens ahead are a tree's, and the steps of parsers on it.
-use Rattle.std.proofs.Common.{◌≡◌, ℕ, zero, suc, ◌+◌, ◌<◌, Bool, true, false, not, ◌||◌, if◌then◌else◌, List, [], ◌∷◌, ◌++◌, length, map, Option, Some, None, Result, Ok, Err, arith, refl, sym, ap, ◌∙◌}
-use Rattle.std.proofs.lemmas.List.{length-map}
+use Rattle.std.proofs.Common.{◌≡◌, ℕ, zero, suc, ◌+◌, ◌<◌, Bool, true, false, not, ◌||◌, if◌then◌else◌, List, [], ◌∷◌, ◌++◌, append_assoc, length, map, take, drop, Option, Some, None, Result, Ok, Err, arith, refl, sym, ap, ◌∙◌}
+use Rattle.std.proofs.lemmas.List.{length-map, append-nil}
+use Rattle.std.proofs.Math.Seq.{take-append_seam, drop-append_seam}
 use Rattle.std.specs.Option.{option_or}
 use Rattle.std.specs.Str.{bytes_eq}
 use Rattle.std.proofs.lemmas.Slice.Eq.{bytes_eq-Decides}
@@ -110,3 +111,16 @@ comma_more none env z n = refl
 pub comma_last : {L : Type 0} (none : L) (env : Env) (z : List Symbol) (n : ℕ) → is_mark m.Comma (first_of_rest (map Some z)) ≡ false → unless_comma none (at env z n) ≡ Ok (Some none, at env z n)
 unfolding sees past ahead step same_mark
 comma_last none env z n h = rw h refl
+
+-- ---- scopes
+
+pub names_of-append : (inner env : Env) → names_of (inner ++ env) ≡ names_of env ++ names_of inner
+names_of-append [] env = sym (append-nil (names_of env))
+names_of-append (b ∷ inner) env = ap (λ v. v ++ binding b ∷ []) (names_of-append inner env) ∙ append_assoc (names_of env) (names_of inner) (binding b ∷ [])
+
+-- the names before those that were declared since
+pub left : (inner env : Env) → take (length (names_of env)) (names_of (inner ++ env)) ≡ names_of env
+left inner env = ap (λ v. take (length (names_of env)) v) (names_of-append inner env) ∙ take-append_seam (names_of env) (names_of inner)
+
+pub entered : (inner env : Env) → drop (length (names_of env)) (names_of (inner ++ env)) ≡ names_of inner
+entered inner env = ap (λ v. drop (length (names_of env)) v) (names_of-append inner env) ∙ drop-append_seam (names_of env) (names_of inner)

@@ -10,3 +10,5 @@ pub mod Unaries
 pub mod Levels
 pub mod MembersRead
 pub mod SpecifiersRead
+pub mod PointersRead
+pub mod ParametersRead
