@@ -12,3 +12,5 @@ pub mod MembersRead
 pub mod SpecifiersRead
 pub mod PointersRead
 pub mod ParametersRead
+pub mod DeclaratorsRead
+pub mod Knot
