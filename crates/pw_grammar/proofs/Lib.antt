@@ -14,3 +14,4 @@ pub mod PointersRead
 pub mod ParametersRead
 pub mod DeclaratorsRead
 pub mod Knot
+pub mod DeclarationsRead
