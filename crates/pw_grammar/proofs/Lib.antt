@@ -15,3 +15,4 @@ pub mod ParametersRead
 pub mod DeclaratorsRead
 pub mod Knot
 pub mod DeclarationsRead
+pub mod StatementHeads
