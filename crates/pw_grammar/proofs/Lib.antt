@@ -16,3 +16,4 @@ pub mod DeclaratorsRead
 pub mod Knot
 pub mod DeclarationsRead
 pub mod StatementHeads
+pub mod StatementsRead
