@@ -182,7 +182,7 @@ module _ (limit : ℕ) where
   others-follow [] z = (omega arith, refl)
   others-follow (x ∷ ds) z = (omega arith, refl)
 
-  declarator-follow : (y : Option Initializer) (ds : List InitDeclarator) (z : List Symbol) → joins_declarator Named (head (spell_initializer y (spell_init_declarators false ds (Sign m.Semicolon ∷ z)))) ≡ false
+  pub declarator-follow : (y : Option Initializer) (ds : List InitDeclarator) (z : List Symbol) → joins_declarator Named (head (spell_initializer y (spell_init_declarators false ds (Sign m.Semicolon ∷ z)))) ≡ false
   declarator-follow (Some y) ds z = refl
   declarator-follow None [] z = refl
   declarator-follow None (x ∷ ds) z = refl

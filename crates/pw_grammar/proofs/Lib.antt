@@ -17,3 +17,4 @@ pub mod Knot
 pub mod DeclarationsRead
 pub mod StatementHeads
 pub mod StatementsRead
+pub mod ModuleRead
