@@ -1,0 +1,278 @@
+-- What statements begin with (6.6).
+use Rattle.std.proofs.Common.{◌≡◌, ℕ, zero, suc, ◌+◌, ◌-◌, ◌==◌, ◌<◌, ◌≤◌, Bool, true, false, not, ◌||◌, if◌then◌else◌, List, [], ◌∷◌, length, map, Option, Some, None, Ok, arith, refl, sym, ap, ◌∙◌, subst}
+use Rattle.pw_tree.specs.Levels.{level, chain_level, binary_level}
+use Rattle.pw_tree.specs.Numbering.{past_identifiers, past_tag, past_pointers, past_expr, past_postfixes, past_arguments, past_operations, past_specifiers, past_members, past_member_declarators, past_enumerators, past_declarator, past_core, past_suffixes, past_parameters, past_optional, past_init, past_inits, past_initializer, past_init_declarators, past_decl, past_decls, past_label, past_labels, past_stmt, past_alternative, past_block, past_stmts, past_external, past_comma, NumberedIdentifiers, NumberedStrings, NumberedTag, NumberedPointers, Numbered, NumberedPostfixes, NumberedArguments, NumberedOperations, NumberedSpecifiers, NumberedMembers, NumberedMemberDeclarators, NumberedEnumerators, NumberedDeclarator, NumberedCore, NumberedSuffixes, NumberedParameters, NumberedOptional, NumberedInit, NumberedInits, NumberedInitializer, NumberedInitDeclarators, NumberedDecl, NumberedDecls, NumberedLabel, NumberedLabels, NumberedStmt, NumberedAlternative, NumberedBlock, NumberedStmts, NumberedFunction, NumberedExternal, NumberedExternals, NumberedModule}
+use Rattle.pw_tree.specs.Scopes.{is_typedef_name, declare_plain, declare_plains, has_typedef, has_type, name_of, name_in, declare_name, declare, after_expr, after_postfixes, after_arguments, after_operations, after_specifiers, after_members, after_member_declarators, after_enumerators, after_declarator, after_core, after_suffixes, after_parameter, after_parameters, after_optional, after_init, after_inits, after_initializer, after_name, after_init_declarators, after_decl, after_decls, after_label, after_labels, after_stmt, after_alternative, enter_first, enter, after_external, Env}
+use Rattle.pw_tree.specs.Spelling.{identifier, separated, trailed, spell_identifiers, spell_strings, spell_tag, spell_qualifiers, spell_pointers, spell_expr, spell_postfixes, spell_arguments, spell_operations, spell_specifiers, spell_members, spell_member_declarators, spell_enumerators, spell_declarator, spell_core, spell_suffixes, spell_parameters, spell_optional, spell_init, spell_inits, spell_initializer, spell_init_declarators, spell_decl, spell_decls, spell_label, spell_labels, spell_stmt, spell_alternative, spell_block, spell_stmts, spell_external, spell_externals, symbols, spelling}
+use Rattle.pw_tree.specs.Symbols as symbol
+use Rattle.pw_tree.specs.Symbols.{Symbol, Reserved, Sign, unary_symbol, binary_mark, assign_mark, access_mark, step_mark}
+use Rattle.pw_tree.specs.Trees.{Word, Pointer, Expr, Identifier, Number, Floating, Character, Wide, Strings, Paren, Postfix, Unary, SizeofType, Cast, Chain, Conditional, Assign, Postfixes, NoPostfix, Index, Call, Select, Step, Arguments, NoArgument, Argument, Operations, NoOperation, Operation, Specifiers, NoSpecifier, Storage, Qualified, Basic, TypedefName, RecordTag, Record, EnumTag, Enum, Members, NoMember, Member, MemberDeclarators, NoMemberDeclarator, PlainMember, BitField, Padding, Enumerators, NoEnumerator, PlainEnumerator, ValuedEnumerator, Declarator, Declaring, Core, Absent, Name, Enclosed, Suffixes, NoSuffix, Array, OpenArray, Prototype, Variadic, Identifiers, Parameters, NoParameter, Parameter, Init, Value, Braces, Inits, NoInit, Listed, Initializer, InitDeclarator, Decl, Label, CaseLabel, DefaultLabel, NameLabel, Stmt, Compound, Expression, Empty, Labeled, If, Switch, While, Do, For, Goto, Continue, Break, Return, Alternative, NoElse, Otherwise, ElseIf, Block, Braced, Stmts, NoStmt, Next, External, Definition, Declaration}
+use Rattle.pw_tree.specs.WellFormed.{NotEmpty, HasPostfix, HasSpecifier, HasMember, HasMemberDeclarator, HasEnumerator, HasParameter, HasInit, NotTypedef, NoneTypedef, MayDeclare, NoStorage, IsSomething, begins_with_typedef, MayEnclose, operand_level, WellFormed, WellFormedPostfixes, WellFormedArguments, WellFormedOperations, WellFormedSpecifiers, WellFormedMembers, WellFormedMemberDeclarators, WellFormedEnumerators, WellFormedDeclarator, WellFormedCore, WellFormedSuffixes, WellFormedParameters, WellFormedOptional, WellFormedInit, WellFormedInits, WellFormedInitializer, WellFormedInitDeclarators, WellFormedDecl, WellFormedDecls, WellFormedLabel, WellFormedLabels, NotLabeled, NotIf, ends_open, alternative_ends_open, MayPrecede, WellFormedStmt, WellFormedAlternative, WellFormedBlock, WellFormedStmts, in_function, WellFormedFunction, WellFormedExternal, WellFormedExternals, WellFormedModule}
+use Rattle.pw_tree.specs.WellFormed as tree
+use Rattle.pw_tree.specs.declared.operator.Access.{Access}
+use Rattle.pw_tree.specs.declared.operator.Access.TheVariants as access
+use Rattle.pw_tree.specs.declared.operator.AssignOperator.{AssignOperator}
+use Rattle.pw_tree.specs.declared.operator.AssignOperator.TheVariants as assign
+use Rattle.pw_tree.specs.declared.operator.BinaryOperator.{BinaryOperator}
+use Rattle.pw_tree.specs.declared.operator.BinaryOperator.TheVariants as binary
+use Rattle.pw_tree.specs.declared.operator.StepOperator.{StepOperator}
+use Rattle.pw_tree.specs.declared.operator.StepOperator.TheVariants as stepping
+use Rattle.pw_tree.specs.declared.operator.UnaryOperator.{UnaryOperator}
+use Rattle.pw_tree.specs.declared.operator.UnaryOperator.TheVariants as unary
+use Rattle.pw_tree.specs.declared.symbol.Keyword.TheVariants as k
+use Rattle.pw_tree.specs.declared.symbol.Mark.{Mark}
+use Rattle.pw_tree.specs.declared.symbol.Mark.TheVariants as m
+use Rattle.pw_grammar.specs.declared.place.Place.{Place}
+use Rattle.pw_grammar.specs.declared.place.Place.TheVariants.{Named, Nameless, Either}
+use Rattle.pw_grammar.specs.Input.{Input, first_of_rest, ahead, is_none_left, at_end, step_to, step, same_mark, same_keyword, is_mark, is_keyword, sees, sees_keyword, or_false, Outcome, Parser, and_then, ◌>>=◌, ◌>>◌, pure, ◌<$>◌, fault, asks, peek, here, skip, take_number, word, past, past_keyword, eat, eat_keyword, expect, expect_keyword, identifier_by, ordinary_by, ordinary, declare_all, leave, since, turns, go_on, repeat, list_of, turn_of, while_some, turn_with, one_or_more, unless_comma, Turn, More, Last, Binding}
+use Rattle.pw_grammar.specs.Parts.{Parts, Declared}
+use Rattle.pw_tree.specs.declared.symbol.Keyword.{Keyword}
+use Rattle.pw_grammar.specs.Statements.{label, label_by, unlabeled_by, compound_by, expression_stmt}
+use Rattle.pw_grammar.proofs.Base.{at, true_is_not_false}
+use Rattle.pw_grammar.proofs.DeclarationsRead.{begins_type}
+use Rattle.pw_grammar.proofs.Follow.{head}
+use Rattle.pw_grammar.proofs.Heads.{begins_expr, expr-begins}
+
+-- the keywords that statements begin with
+abbrev begins_by : Keyword → Bool
+begins_by k.Case = true
+begins_by k.Default = true
+begins_by k.If = true
+begins_by k.Switch = true
+begins_by k.While = true
+begins_by k.Do = true
+begins_by k.For = true
+begins_by k.Goto = true
+begins_by k.Continue = true
+begins_by k.Break = true
+begins_by k.Return = true
+begins_by _ = false
+
+-- a token that a statement begins with
+abbrev pub begins_stmt : Env → Option Symbol → Bool
+begins_stmt env (Some (Reserved w)) = begins_by w || begins_expr env (Some (Reserved w))
+begins_stmt env (Some (Sign m.OpenBrace)) = true
+begins_stmt env (Some (Sign m.Semicolon)) = true
+begins_stmt env o = begins_expr env o
+
+expr-as_stmt : (env : Env) (o : Option Symbol) → begins_expr env o ≡ true → begins_stmt env o ≡ true
+expr-as_stmt env (Some (Reserved k.Sizeof)) h = refl
+expr-as_stmt env (Some (Reserved _)) h = true_is_not_false h
+expr-as_stmt env (Some (Sign m.OpenBrace)) h = refl
+expr-as_stmt env (Some (Sign m.Semicolon)) h = refl
+expr-as_stmt env (Some _) h = h
+expr-as_stmt env None h = h
+
+pub stmt-begins : (env : Env) (s : Stmt) (z : List Symbol) → WellFormedStmt env s → begins_stmt env (head (spell_stmt s z)) ≡ true
+unfolding spell_stmt WellFormedStmt
+stmt-begins env (Compound (Braced t ds ss)) z h = refl
+stmt-begins env (Expression e) z h = expr-as_stmt env (head (spell_expr e (Sign m.Semicolon ∷ z))) (expr-begins env e (Sign m.Semicolon ∷ z) h)
+stmt-begins env (Empty t) z h = refl
+stmt-begins env (Labeled [] s) z h = absurd h.0
+stmt-begins env (Labeled (CaseLabel t e ∷ ls) s) z h = refl
+stmt-begins env (Labeled (DefaultLabel t ∷ ls) s) z h = refl
+stmt-begins env (Labeled (NameLabel w ∷ ls) s) z h = ap not h.1.0
+stmt-begins env (If t c s a) z h = refl
+stmt-begins env (Switch t e s) z h = refl
+stmt-begins env (While t e s) z h = refl
+stmt-begins env (Do t s e) z h = refl
+stmt-begins env (For t a b c s) z h = refl
+stmt-begins env (Goto t w) z h = refl
+stmt-begins env (Continue t) z h = refl
+stmt-begins env (Break t) z h = refl
+stmt-begins env (Return t e) z h = refl
+
+not-not : (b : Bool) → not b ≡ true → b ≡ false
+not-not false h = refl
+not-not true h = true_is_not_false h
+
+-- a statement begins no declaration, is no `else` and no `}`
+pub stmt-no_type : (env : Env) (o : Option Symbol) → begins_stmt env o ≡ true → begins_type true env o ≡ false
+stmt-no_type env (Some (Reserved k.Typedef)) h = true_is_not_false h
+stmt-no_type env (Some (Reserved k.Extern)) h = true_is_not_false h
+stmt-no_type env (Some (Reserved k.Static)) h = true_is_not_false h
+stmt-no_type env (Some (Reserved k.Auto)) h = true_is_not_false h
+stmt-no_type env (Some (Reserved k.Register)) h = true_is_not_false h
+stmt-no_type env (Some (Reserved k.Const)) h = true_is_not_false h
+stmt-no_type env (Some (Reserved k.Volatile)) h = true_is_not_false h
+stmt-no_type env (Some (Reserved k.Void)) h = true_is_not_false h
+stmt-no_type env (Some (Reserved k.Char)) h = true_is_not_false h
+stmt-no_type env (Some (Reserved k.Short)) h = true_is_not_false h
+stmt-no_type env (Some (Reserved k.Int)) h = true_is_not_false h
+stmt-no_type env (Some (Reserved k.Long)) h = true_is_not_false h
+stmt-no_type env (Some (Reserved k.Float)) h = true_is_not_false h
+stmt-no_type env (Some (Reserved k.Double)) h = true_is_not_false h
+stmt-no_type env (Some (Reserved k.Signed)) h = true_is_not_false h
+stmt-no_type env (Some (Reserved k.Unsigned)) h = true_is_not_false h
+stmt-no_type env (Some (Reserved k.Struct)) h = true_is_not_false h
+stmt-no_type env (Some (Reserved k.Union)) h = true_is_not_false h
+stmt-no_type env (Some (Reserved k.Enum)) h = true_is_not_false h
+stmt-no_type env (Some (Reserved _)) h = refl
+stmt-no_type env (Some (symbol.Identifier x)) h = not-not (is_typedef_name env x) h
+stmt-no_type env (Some _) h = refl
+stmt-no_type env None h = refl
+
+pub stmt-no_else : (env : Env) (o : Option Symbol) → begins_stmt env o ≡ true → is_keyword k.Else o ≡ false
+unfolding same_keyword
+stmt-no_else env (Some (Reserved k.Else)) h = true_is_not_false h
+stmt-no_else env (Some _) h = refl
+stmt-no_else env None h = refl
+
+pub stmt-no_close : (env : Env) (o : Option Symbol) → begins_stmt env o ≡ true → is_mark m.CloseBrace o ≡ false
+unfolding same_mark
+stmt-no_close env (Some (Sign m.CloseBrace)) h = true_is_not_false h
+stmt-no_close env (Some _) h = refl
+stmt-no_close env None h = refl
+
+expr-no_if : (env : Env) (o : Option Symbol) → begins_expr env o ≡ true → is_keyword k.If o ≡ false
+unfolding same_keyword
+expr-no_if env (Some (Reserved k.If)) h = true_is_not_false h
+expr-no_if env (Some _) h = refl
+expr-no_if env None h = refl
+
+pub stmt-no_if : (env : Env) (s : Stmt) (z : List Symbol) → NotIf s → WellFormedStmt env s → is_keyword k.If (head (spell_stmt s z)) ≡ false
+unfolding spell_stmt WellFormedStmt same_keyword
+stmt-no_if env (Compound (Braced t ds ss)) z n h = refl
+stmt-no_if env (Expression e) z n h = expr-no_if env (head (spell_expr e (Sign m.Semicolon ∷ z))) (expr-begins env e (Sign m.Semicolon ∷ z) h)
+stmt-no_if env (Empty t) z n h = refl
+stmt-no_if env (Labeled [] s) z n h = absurd h.0
+stmt-no_if env (Labeled (CaseLabel t e ∷ ls) s) z n h = refl
+stmt-no_if env (Labeled (DefaultLabel t ∷ ls) s) z n h = refl
+stmt-no_if env (Labeled (NameLabel w ∷ ls) s) z n h = refl
+stmt-no_if env (If t c s a) z n h = absurd n
+stmt-no_if env (Switch t e s) z n h = refl
+stmt-no_if env (While t e s) z n h = refl
+stmt-no_if env (Do t s e) z n h = refl
+stmt-no_if env (For t a b c s) z n h = refl
+stmt-no_if env (Goto t w) z n h = refl
+stmt-no_if env (Continue t) z n h = refl
+stmt-no_if env (Break t) z n h = refl
+stmt-no_if env (Return t e) z n h = refl
+
+-- ---- no label stands where an expression does
+
+-- an identifier and a `:`
+abbrev pub labels_name : List Symbol → Bool
+labels_name (symbol.Identifier x ∷ z) = is_mark m.Colon (head z)
+labels_name _ = false
+
+binary-no_colon : (op : BinaryOperator) → is_mark m.Colon (Some (Sign (binary_mark op))) ≡ false
+unfolding same_mark
+binary-no_colon binary.Multiply = refl
+binary-no_colon binary.Divide = refl
+binary-no_colon binary.Remainder = refl
+binary-no_colon binary.Add = refl
+binary-no_colon binary.Subtract = refl
+binary-no_colon binary.LeftShift = refl
+binary-no_colon binary.RightShift = refl
+binary-no_colon binary.Less = refl
+binary-no_colon binary.Greater = refl
+binary-no_colon binary.LessEqual = refl
+binary-no_colon binary.GreaterEqual = refl
+binary-no_colon binary.Equal = refl
+binary-no_colon binary.NotEqual = refl
+binary-no_colon binary.BitAnd = refl
+binary-no_colon binary.BitXor = refl
+binary-no_colon binary.BitOr = refl
+binary-no_colon binary.And = refl
+binary-no_colon binary.Or = refl
+binary-no_colon binary.Comma = refl
+
+assign-no_colon : (op : AssignOperator) → is_mark m.Colon (Some (Sign (assign_mark op))) ≡ false
+unfolding same_mark
+assign-no_colon assign.Plain = refl
+assign-no_colon assign.Multiply = refl
+assign-no_colon assign.Divide = refl
+assign-no_colon assign.Remainder = refl
+assign-no_colon assign.Add = refl
+assign-no_colon assign.Subtract = refl
+assign-no_colon assign.LeftShift = refl
+assign-no_colon assign.RightShift = refl
+assign-no_colon assign.BitAnd = refl
+assign-no_colon assign.BitXor = refl
+assign-no_colon assign.BitOr = refl
+
+unary-no_label : (op : UnaryOperator) (z : List Symbol) → labels_name (unary_symbol op ∷ z) ≡ false
+unary-no_label unary.Address z = refl
+unary-no_label unary.Dereference z = refl
+unary-no_label unary.Plus z = refl
+unary-no_label unary.Minus z = refl
+unary-no_label unary.Complement z = refl
+unary-no_label unary.Not z = refl
+unary-no_label unary.Increment z = refl
+unary-no_label unary.Decrement z = refl
+unary-no_label unary.Sizeof z = refl
+
+postfixes-no_colon : (ps : Postfixes) (z : List Symbol) → is_mark m.Colon (head z) ≡ false → is_mark m.Colon (head (spell_postfixes ps z)) ≡ false
+unfolding spell_expr same_mark
+postfixes-no_colon NoPostfix z h = h
+postfixes-no_colon (Index t e ps) z h = refl
+postfixes-no_colon (Call t es ps) z h = refl
+postfixes-no_colon (Select t access.Dot w ps) z h = refl
+postfixes-no_colon (Select t access.Arrow w ps) z h = refl
+postfixes-no_colon (Step t stepping.Increment ps) z h = refl
+postfixes-no_colon (Step t stepping.Decrement ps) z h = refl
+
+operations-no_colon : (ops : Operations) (z : List Symbol) → is_mark m.Colon (head z) ≡ false → is_mark m.Colon (head (spell_operations ops z)) ≡ false
+unfolding spell_expr
+operations-no_colon NoOperation z h = h
+operations-no_colon (Operation t op e rest) z h = binary-no_colon op
+
+expr-no_label : (env : Env) (e : Expr) (z : List Symbol) → WellFormed env e → is_mark m.Colon (head z) ≡ false → labels_name (spell_expr e z) ≡ false
+unfolding spell_expr WellFormed same_mark
+expr-no_label env (Identifier w) z h c = c
+expr-no_label env (Number w) z h c = refl
+expr-no_label env (Floating w) z h c = refl
+expr-no_label env (Character w) z h c = refl
+expr-no_label env (Wide w) z h c = refl
+expr-no_label env (Strings []) z h c = absurd h
+expr-no_label env (Strings (w ∷ ws)) z h c = refl
+expr-no_label env (Paren t e) z h c = refl
+expr-no_label env (Postfix e ps) z h c = expr-no_label env e (spell_postfixes ps z) h.1 (postfixes-no_colon ps z c)
+expr-no_label env (Unary t op e) z h c = unary-no_label op (spell_expr e z)
+expr-no_label env (SizeofType t ss x) z h c = refl
+expr-no_label env (Cast t ss x e) z h c = refl
+expr-no_label env (Chain e ops) z h c = expr-no_label env e (spell_operations ops z) h.1 (operations-no_colon ops z c)
+expr-no_label env (Conditional t x a b) z h c = expr-no_label env x (Sign m.Question ∷ spell_expr a (Sign m.Colon ∷ spell_expr b z)) h.1 refl
+expr-no_label env (Assign t op l r) z h c = expr-no_label env l (Sign (assign_mark op) ∷ spell_expr r z) h.1 (assign-no_colon op)
+
+module _ (limit : ℕ) where
+  label-none : (env env' : Env) (tokens : List Symbol) (i : ℕ) → begins_expr env' (head tokens) ≡ true → labels_name tokens ≡ false → label limit (at env tokens i) ≡ Ok (None, at env tokens i)
+  unfolding label sees ahead step
+  label-none env env' [] i h c = true_is_not_false h
+  label-none env env' (symbol.Identifier x ∷ z) i h c = rw c refl
+  label-none env env' (Reserved k.Case ∷ z) i h c = true_is_not_false h
+  label-none env env' (Reserved k.Default ∷ z) i h c = true_is_not_false h
+  label-none env env' (_ ∷ z) i h c = refl
+
+  pub no-label : (env : Env) (s : Stmt) (z : List Symbol) (i : ℕ) → NotLabeled s → WellFormedStmt env s → label limit (at env (spell_stmt s z) i) ≡ Ok (None, at env (spell_stmt s z) i)
+  unfolding label sees ahead step spell_stmt WellFormedStmt same_mark
+  no-label env (Compound (Braced t ds ss)) z i n h = refl
+  no-label env (Expression e) z i n h = label-none env env (spell_expr e (Sign m.Semicolon ∷ z)) i (expr-begins env e (Sign m.Semicolon ∷ z) h) (expr-no_label env e (Sign m.Semicolon ∷ z) h refl)
+  no-label env (Empty t) z i n h = refl
+  no-label env (Labeled ls s) z i n h = absurd n
+  no-label env (If t c s a) z i n h = refl
+  no-label env (Switch t e s) z i n h = refl
+  no-label env (While t e s) z i n h = refl
+  no-label env (Do t s e) z i n h = refl
+  no-label env (For t a b c s) z i n h = refl
+  no-label env (Goto t w) z i n h = refl
+  no-label env (Continue t) z i n h = refl
+  no-label env (Break t) z i n h = refl
+  no-label env (Return t e) z i n h = refl
+
+  -- an expression begins an expression statement
+  pub begins-expression : (env : Env) (p : Parser Stmt) (o : Option Symbol) → begins_expr env o ≡ true → unlabeled_by limit p o ≡ expression_stmt limit
+  begins-expression env p (Some (Sign m.OpenBrace)) h = true_is_not_false h
+  begins-expression env p (Some (Sign m.Semicolon)) h = true_is_not_false h
+  begins-expression env p (Some (Reserved k.Goto)) h = true_is_not_false h
+  begins-expression env p (Some (Reserved k.Continue)) h = true_is_not_false h
+  begins-expression env p (Some (Reserved k.Break)) h = true_is_not_false h
+  begins-expression env p (Some (Reserved k.Return)) h = true_is_not_false h
+  begins-expression env p (Some (Reserved k.If)) h = true_is_not_false h
+  begins-expression env p (Some (Reserved k.Switch)) h = true_is_not_false h
+  begins-expression env p (Some (Reserved k.While)) h = true_is_not_false h
+  begins-expression env p (Some (Reserved k.Do)) h = true_is_not_false h
+  begins-expression env p (Some (Reserved k.For)) h = true_is_not_false h
+  begins-expression env p (Some _) h = refl
+  begins-expression env p None h = refl

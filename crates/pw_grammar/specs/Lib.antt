@@ -1,0 +1,9 @@
+pub mod Input
+pub mod Parts
+pub mod Tests
+pub mod Expressions
+pub mod Specifiers
+pub mod Declarators
+pub mod Declarations
+pub mod Statements
+pub mod Modules

@@ -1,0 +1,13 @@
+//! What a keyword at the front of a declaration is.
+
+use pw_tree::{BasicType, Qualifier, RecordKind, StorageClass};
+
+/// What a keyword at the front of a declaration is (C90 6.5.1 to 6.5.3).
+#[derive(Clone, Copy, Debug, PartialEq, Eq)]
+pub enum SpecifierWord {
+    Storage(StorageClass),
+    Qualified(Qualifier),
+    Basic(BasicType),
+    Record(RecordKind),
+    Enum,
+}

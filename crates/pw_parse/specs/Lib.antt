@@ -1,0 +1,13 @@
+pub mod Input
+pub mod Views
+pub mod Cursor
+pub mod Reads
+pub mod Nests
+pub mod Parts
+pub mod Tests
+pub mod Expressions
+pub mod Specifiers
+pub mod Declarators
+pub mod Declarations
+pub mod Statements
+pub mod Modules
