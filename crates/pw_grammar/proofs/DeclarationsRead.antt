@@ -27,7 +27,7 @@ use Rattle.pw_grammar.specs.declared.place.Place.TheVariants.{Named, Nameless, E
 use Rattle.pw_grammar.specs.Input.{Input, first_of_rest, ahead, is_none_left, at_end, step_to, step, same_mark, same_keyword, is_mark, is_keyword, sees, sees_keyword, or_false, Outcome, Parser, and_then, ◌>>=◌, ◌>>◌, pure, ◌<$>◌, fault, asks, peek, here, skip, take_number, word, past, past_keyword, eat, eat_keyword, expect, expect_keyword, identifier_by, ordinary_by, ordinary, declare_all, leave, since, turns, go_on, repeat, list_of, turn_of, while_some, turn_with, one_or_more, unless_comma, Turn, More, Last, Binding}
 use Rattle.pw_grammar.specs.Parts.{Parts, Declared}
 use Rattle.std.proofs.lemmas.Bool.{leb-true, leb-false}
-use Rattle.pw_grammar.specs.Declarations.{parts, inits_end, braced, init_of, init, initializer, initialized, init_declarator, init_declarators, other_declarators, declaration_with, declaration, declaration_next, declarations}
+use Rattle.pw_grammar.specs.Declarations.{parts, inits_end, inits, braced, init_of, init, initializer, initialized, init_declarator, init_declarators, other_declarator, declaration_with, declaration, declaration_next, declarations}
 use Rattle.pw_grammar.specs.Expressions.{some_specifiers}
 use Rattle.pw_grammar.specs.Tests.{begins_specifier, symbol_begins_specifier, word_begins, specifier_word}
 use Rattle.pw_grammar.proofs.Base.{at, same, is_typedef, turns_enough, no_turns, true_is_not_false, some_more, some_last, item_turn, item_more, item_last, comma_more, comma_last}
@@ -96,12 +96,12 @@ inits-turns (suc count) d p reads env x (Listed y xs) trailing z n i w num enoug
         (inits-turns count d p reads inner y xs trailing z (past_init n x + 1) (past_init n x + 1) w.1 num.1 (omega (arith, enough, length-init x (Sign m.Comma ∷ more))) (omega (arith, short, length-init x (Sign m.Comma ∷ more))) refl)
     ∙ same (after_inits inner (Listed y xs)) (Sign m.CloseBrace ∷ z) refl (omega (arith, length-init x (Sign m.Comma ∷ spell_inits true (Listed y xs) [])))
 
-braced-read : (limit d : ℕ) (p : Parser Init) (reads : ReadsInit d p) (env : Env) (xs : Inits) (trailing : Bool) (z : List Symbol) (n i : ℕ) → HasInit xs → WellFormedInits env xs → NumberedInits true (n + 1) xs
+braced-read : (d : ℕ) (p : Parser Init) (reads : ReadsInit d p) (env : Env) (xs : Inits) (trailing : Bool) (z : List Symbol) (n i : ℕ) → HasInit xs → WellFormedInits env xs → NumberedInits true (n + 1) xs
     → length (spell_inits true xs (trailed trailing (Sign m.CloseBrace ∷ z))) < d → i ≡ n
-    → braced limit p (at env (Sign m.OpenBrace ∷ spell_inits true xs (trailed trailing (Sign m.CloseBrace ∷ z))) i) ≡ Ok (Braces i xs trailing, at (after_inits env xs) z (past_inits true (n + 1) xs + trail_count trailing + 1))
-unfolding braced expect sees ahead step same_mark
-braced-read limit d p reads env NoInit trailing z n i has w num short at_n = absurd has
-braced-read limit d p reads env (Listed x xs) trailing z n i has w num short at_n =
+    → braced p (at env (Sign m.OpenBrace ∷ spell_inits true xs (trailed trailing (Sign m.CloseBrace ∷ z))) i) ≡ Ok (Braces i xs trailing, at (after_inits env xs) z (past_inits true (n + 1) xs + trail_count trailing + 1))
+unfolding braced inits expect sees ahead step same_mark
+braced-read d p reads env NoInit trailing z n i has w num short at_n = absurd has
+braced-read d p reads env (Listed x xs) trailing z n i has w num short at_n =
     let text = spell_inits true (Listed x xs) (trailed trailing (Sign m.CloseBrace ∷ z)) in
     rw (inits-turns (length (map Some text) + 1) d p reads env x xs trailing z (n + 1) (i + 1) w num (turns_enough text) short (omega (arith, at_n))) refl
 
@@ -138,7 +138,7 @@ init-read limit (suc depth) env (Value e) z n i w num follow deep short at_n =
     rw (expr-no_open_brace env (head (spell_expr e z)) (expr-begins env e z w.1))
     (rw ((parts-know limit).expr 15 (omega arith) env e z n i w.1 num w.0 follow short at_n) refl)
 init-read limit (suc depth) env (Braces t xs trailing) z n i w num follow deep short at_n =
-    braced-read limit (smaller depth limit) (init limit depth) (λ env y z n i v num follow small at_n. init-read limit depth env y z n i v num follow (omega (arith, small, smaller-left depth limit)) (omega (arith, small, smaller-right depth limit)) at_n)
+    braced-read (smaller depth limit) (init limit depth) (λ env y z n i v num follow small at_n. init-read limit depth env y z n i v num follow (omega (arith, small, smaller-left depth limit)) (omega (arith, small, smaller-right depth limit)) at_n)
         env xs trailing z n i w.0 w.1 num.1 (smaller-is depth limit _ (omega (arith, deep)) (omega (arith, short))) at_n
     ∙ same (after_inits env xs) z (ap (λ v. Braces v xs trailing) (at_n ∙ sym num.0)) (omega (arith, length-inits true xs (trailed trailing (Sign m.CloseBrace ∷ [])), trailing-count trailing []))
 
@@ -190,7 +190,7 @@ module _ (limit : ℕ) where
   init_declarator-read : (env : Env) (ss : Specifiers) (x : InitDeclarator) (ds : List InitDeclarator) (z : List Symbol) (n i : ℕ) → WellFormedDeclarator env (has_type ss) tree.Named x.declarator → WellFormedInitializer (after_name env ss x.declarator) x.initializer
       → NumberedDeclarator n x.declarator → NumberedInitializer (past_declarator n x.declarator) x.initializer
       → length (spell_declarator x.declarator (spell_initializer x.initializer (spell_init_declarators false ds (Sign m.Semicolon ∷ z)))) < limit → i ≡ n
-      → init_declarator limit ss (at env (spell_declarator x.declarator (spell_initializer x.initializer (spell_init_declarators false ds (Sign m.Semicolon ∷ z)))) i)
+      → init_declarator limit (has_type ss) (has_typedef ss) (at env (spell_declarator x.declarator (spell_initializer x.initializer (spell_init_declarators false ds (Sign m.Semicolon ∷ z)))) i)
       ≡ Ok (x, at (after_initializer (after_name env ss x.declarator) x.initializer) (spell_init_declarators false ds (Sign m.Semicolon ∷ z)) (past_initializer (past_declarator n x.declarator) x.initializer))
   unfolding init_declarator
   init_declarator-read env ss x ds z n i w v num numi short at_n =
@@ -199,41 +199,30 @@ module _ (limit : ℕ) where
       (initialized-read (has_typedef ss) (after_declarator env x.declarator) x.declarator x.initializer more (past_declarator n x.declarator) (past_declarator n x.declarator) v numi ((others-follow ds z).0) ((others-follow ds z).1)
           (omega (arith, short, length-declarator x.declarator (spell_initializer x.initializer more))) refl)
 
-  abbrev init_turn : Specifiers → Parser (Turn (List InitDeclarator))
-  init_turn ss = item_turn ((λ d more. d ∷ more) <$> init_declarator limit ss) (unless_comma [])
-
-  init_declarators-turns : (count : ℕ) (env : Env) (ss : Specifiers) (x : InitDeclarator) (ds : List InitDeclarator) (z : List Symbol) (n i : ℕ) → WellFormedInitDeclarators env ss (x ∷ ds) → NumberedInitDeclarators true n (x ∷ ds)
-      → length (spell_init_declarators true (x ∷ ds) (Sign m.Semicolon ∷ z)) < count → length (spell_init_declarators true (x ∷ ds) (Sign m.Semicolon ∷ z)) < limit → i ≡ n
-      → repeat (init_turn ss) count (at env (spell_init_declarators true (x ∷ ds) (Sign m.Semicolon ∷ z)) i) ≡ Ok (x ∷ ds, at (after_init_declarators env ss (x ∷ ds)) (Sign m.Semicolon ∷ z) (past_init_declarators true n (x ∷ ds)))
-  unfolding same_mark
-  init_declarators-turns zero env ss x ds z n i w num enough short at_n = no_turns enough
-  init_declarators-turns (suc count) env ss x [] z n i w num enough short at_n =
+  others-turns : (count : ℕ) (env : Env) (ss : Specifiers) (ds : List InitDeclarator) (z : List Symbol) (n i : ℕ) → WellFormedInitDeclarators env ss ds → NumberedInitDeclarators false n ds
+      → length (spell_init_declarators false ds (Sign m.Semicolon ∷ z)) < count → length (spell_init_declarators false ds (Sign m.Semicolon ∷ z)) < limit → i ≡ n
+      → repeat (turn_of [] <$> other_declarator limit (has_type ss) (has_typedef ss)) count (at env (spell_init_declarators false ds (Sign m.Semicolon ∷ z)) i) ≡ Ok (ds, at (after_init_declarators env ss ds) (Sign m.Semicolon ∷ z) (past_init_declarators false n ds))
+  unfolding other_declarator sees past ahead step same_mark
+  others-turns zero env ss ds z n i w num enough short at_n = no_turns enough
+  others-turns (suc count) env ss [] z n i w num enough short at_n =
+      some_last [] (other_declarator limit (has_type ss) (has_typedef ss)) count (at env (Sign m.Semicolon ∷ z) i) (at env (Sign m.Semicolon ∷ z) i) refl ∙ same env (Sign m.Semicolon ∷ z) refl (omega (arith, at_n))
+  others-turns (suc count) env ss (x ∷ ds) z n i w num enough short at_n =
       let inner = after_initializer (after_name env ss x.declarator) x.initializer in
-      let behind = past_initializer (past_declarator n x.declarator) x.initializer in
-      item_last ((λ d more. d ∷ more) <$> init_declarator limit ss) (unless_comma []) count (at env (spell_init_declarators true (x ∷ []) (Sign m.Semicolon ∷ z)) i) (at inner (Sign m.Semicolon ∷ z) behind) (at inner (Sign m.Semicolon ∷ z) behind) (λ more. x ∷ more) []
-          (rw (init_declarator-read env ss x [] z n i w.0 w.1 num.0 num.1 short at_n) refl) (comma_last [] inner (Sign m.Semicolon ∷ z) behind refl)
-      ∙ same inner (Sign m.Semicolon ∷ z) refl (omega (arith, length-declarator x.declarator (spell_initializer x.initializer []), length-initializer x.initializer []))
-  init_declarators-turns (suc count) env ss x (y ∷ ds) z n i w num enough short at_n =
-      let inner = after_initializer (after_name env ss x.declarator) x.initializer in
-      let behind = past_initializer (past_declarator n x.declarator) x.initializer in
-      let more = spell_init_declarators true (y ∷ ds) (Sign m.Semicolon ∷ z) in
-      item_more ((λ d more. d ∷ more) <$> init_declarator limit ss) (unless_comma []) count (at env (spell_init_declarators true (x ∷ y ∷ ds) (Sign m.Semicolon ∷ z)) i) (at inner (Sign m.Comma ∷ more) behind) (at inner more (behind + 1))
-          (at (after_init_declarators inner ss (y ∷ ds)) (Sign m.Semicolon ∷ z) (past_init_declarators true (behind + 1) (y ∷ ds))) (λ more. x ∷ more) (y ∷ ds)
-          (rw (init_declarator-read env ss x (y ∷ ds) z n i w.0 w.1 num.0 num.1 short at_n) refl) (comma_more [] inner more behind)
-          (init_declarators-turns count inner ss y ds z (behind + 1) (behind + 1) w.2 num.2
-              (omega (arith, enough, length-declarator x.declarator (spell_initializer x.initializer (Sign m.Comma ∷ more)), length-initializer x.initializer (Sign m.Comma ∷ more)))
-              (omega (arith, short, length-declarator x.declarator (spell_initializer x.initializer (Sign m.Comma ∷ more)), length-initializer x.initializer (Sign m.Comma ∷ more))) refl)
-      ∙ same (after_init_declarators inner ss (y ∷ ds)) (Sign m.Semicolon ∷ z) refl
-          (omega (arith, length-declarator x.declarator (spell_initializer x.initializer (spell_init_declarators false (y ∷ ds) [])), length-initializer x.initializer (spell_init_declarators false (y ∷ ds) [])))
+      let behind = past_initializer (past_declarator (n + 1) x.declarator) x.initializer in
+      let more = spell_init_declarators false ds (Sign m.Semicolon ∷ z) in
+      let long = length-declarator x.declarator (spell_initializer x.initializer more) in
+      some_more [] (other_declarator limit (has_type ss) (has_typedef ss)) count (at env (spell_init_declarators false (x ∷ ds) (Sign m.Semicolon ∷ z)) i) (at inner more behind)
+          (at (after_init_declarators inner ss ds) (Sign m.Semicolon ∷ z) (past_init_declarators false behind ds)) (λ more. x ∷ more) ds
+          (rw (init_declarator-read env ss x ds z (n + 1) (i + 1) w.0 w.1 num.0 num.1 (omega (arith, short)) (omega (arith, at_n))) refl)
+          (others-turns count inner ss ds z behind behind w.2 num.2 (omega (arith, enough, long, length-initializer x.initializer more)) (omega (arith, short, long, length-initializer x.initializer more)) refl)
+      ∙ same (after_init_declarators inner ss ds) (Sign m.Semicolon ∷ z) refl
+          (omega (arith, length-declarator x.declarator (spell_initializer x.initializer (spell_init_declarators false ds [])), length-initializer x.initializer (spell_init_declarators false ds [])))
 
-  others-read : (env : Env) (ss : Specifiers) (ds : List InitDeclarator) (z : List Symbol) (n i : ℕ) → WellFormedInitDeclarators env ss ds → NumberedInitDeclarators false n ds → length (spell_init_declarators false ds (Sign m.Semicolon ∷ z)) < limit → i ≡ n
-      → other_declarators limit ss (at env (spell_init_declarators false ds (Sign m.Semicolon ∷ z)) i) ≡ Ok (ds, at (after_init_declarators env ss ds) (Sign m.Semicolon ∷ z) (past_init_declarators false n ds))
-  unfolding other_declarators init_declarators sees past ahead step same_mark
-  others-read env ss [] z n i w num short at_n = same env (Sign m.Semicolon ∷ z) refl (omega (arith, at_n))
-  others-read env ss (x ∷ ds) z n i w num short at_n =
-      let text = spell_init_declarators true (x ∷ ds) (Sign m.Semicolon ∷ z) in
-      init_declarators-turns (length (map Some text) + 1) env ss x ds z (n + 1) (i + 1) w num (turns_enough text) (omega (arith, short)) (omega (arith, at_n))
-      ∙ same (after_init_declarators env ss (x ∷ ds)) (Sign m.Semicolon ∷ z) refl (omega arith)
+  others-read : (env : Env) (ss : Specifiers) (x : InitDeclarator) (ds : List InitDeclarator) (z : List Symbol) (n i : ℕ) → WellFormedInitDeclarators env ss ds → NumberedInitDeclarators false n ds → length (spell_init_declarators false ds (Sign m.Semicolon ∷ z)) < limit → i ≡ n
+      → init_declarators limit (has_type ss) (has_typedef ss) x (at env (spell_init_declarators false ds (Sign m.Semicolon ∷ z)) i) ≡ Ok (x ∷ ds, at (after_init_declarators env ss ds) (Sign m.Semicolon ∷ z) (past_init_declarators false n ds))
+  unfolding init_declarators
+  others-read env ss x ds z n i w num short at_n =
+      rw (others-turns (length (map Some (spell_init_declarators false ds (Sign m.Semicolon ∷ z))) + 1) env ss ds z n i w num (turns_enough (spell_init_declarators false ds (Sign m.Semicolon ∷ z))) short at_n) refl
 
   -- a declaration from its first declarator's initializer on
   pub declaration_with-read : (env : Env) (ss : Specifiers) (x : InitDeclarator) (ds : List InitDeclarator) (z : List Symbol) (n i : ℕ) → WellFormedInitializer (declare_name (has_typedef ss) (name_of x.declarator) env) x.initializer
@@ -247,7 +236,7 @@ module _ (limit : ℕ) where
       let more = spell_init_declarators false ds (Sign m.Semicolon ∷ z) in
       let inner = after_initializer (declare_name (has_typedef ss) (name_of x.declarator) env) x.initializer in
       rw (initialized-read (has_typedef ss) env x.declarator x.initializer more n i w num ((others-follow ds z).0) ((others-follow ds z).1) short at_n)
-      (rw (others-read inner ss ds z (past_initializer n x.initializer) (past_initializer n x.initializer) v nums (omega (arith, short, length-initializer x.initializer more)) refl) refl)
+      (rw (others-read inner ss x ds z (past_initializer n x.initializer) (past_initializer n x.initializer) v nums (omega (arith, short, length-initializer x.initializer more)) refl) refl)
 
   pub named-no_semicolon : (env : Env) (typed : Bool) (x : Declarator) (z : List Symbol) → WellFormedDeclarator env typed tree.Named x → is_mark m.Semicolon (head (spell_declarator x z)) ≡ false
   unfolding spell_expr WellFormed same_mark

@@ -27,7 +27,7 @@ use Rattle.pw_grammar.specs.declared.place.Place.TheVariants.{Named, Nameless, E
 use Rattle.pw_grammar.specs.Input.{Input, first_of_rest, ahead, is_none_left, at_end, step_to, step, same_mark, same_keyword, is_mark, is_keyword, sees, sees_keyword, or_false, Outcome, Parser, and_then, ◌>>=◌, ◌>>◌, pure, ◌<$>◌, fault, asks, peek, here, skip, take_number, word, past, past_keyword, eat, eat_keyword, expect, expect_keyword, identifier_by, ordinary_by, ordinary, declare_all, leave, since, turns, go_on, repeat, list_of, turn_of, while_some, turn_with, one_or_more, unless_comma, Turn, More, Last, Binding}
 use Rattle.pw_grammar.specs.Parts.{Parts, Declared}
 use Rattle.std.specs.Option.{option_or}
-use Rattle.pw_grammar.specs.Declarators.{Behind, suffixed, array, parameter_list, prototype, prototype_of, identifiers, listed_by, suffix, suffix_by, suffixes, Cored, may_be_enclosed, may_be_enclosed_by, enclosed, absent, core, core_by, declarator_of}
+use Rattle.pw_grammar.specs.Declarators.{Behind, suffixed, array, parameter_list, prototype, prototype_of, identifiers, listed_by, listed, suffix, suffix_by, suffixes, Cored, may_be_enclosed, may_be_enclosed_by, enclosed, absent, core, core_by, declarator_of}
 use Rattle.pw_grammar.specs.Tests.{begins_specifier, symbol_begins_specifier, opens_parameters, qualifier_word}
 use Rattle.pw_grammar.proofs.Base.{at, same, names_of, is_typedef, turns_enough, no_turns, true_is_not_false, some_more, some_last}
 use Rattle.pw_grammar.proofs.Follow.{head}
@@ -80,7 +80,7 @@ module _ (d : ℕ) (parts : Parts) (known : Knows d parts) where
   list-read : (variadic : Bool) (named : Bool) (env : Env) (ss : Specifiers) (x : Declarator) (ps : Parameters) (z : List Symbol) (n i : ℕ) → WellFormedParameters env (Parameter ss x ps) → NumberedParameters true (n + 1) (Parameter ss x ps)
       → length (spell_parameters true (Parameter ss x ps) (dots variadic z)) < d → i ≡ n
       → parameter_list parts named (at env (Sign m.OpenParen ∷ spell_parameters true (Parameter ss x ps) (dots variadic z)) i)
-      ≡ Ok (suffixed (prototype_of parts i (Parameter ss x ps, variadic)) (names_of (after_parameters [] (Parameter ss x ps))), at env z (past_parameters true (n + 1) (Parameter ss x ps) + dots_count variadic + 1))
+      ≡ Ok (suffixed (prototype_of i (Parameter ss x ps, variadic)) (names_of (after_parameters [] (Parameter ss x ps))), at env z (past_parameters true (n + 1) (Parameter ss x ps) + dots_count variadic + 1))
   unfolding parameter_list sees past ahead step begins_specifier spell_expr WellFormed
   list-read variadic named env ss x ps z n i w num short at_n =
       let text = spell_parameters true (Parameter ss x ps) (dots variadic z) in
@@ -94,7 +94,7 @@ module _ (d : ℕ) (parts : Parts) (known : Knows d parts) where
 
   identifiers-read : (env : Env) (w : Word) (ws : List Word) (z : List Symbol) (n i : ℕ) → NoneTypedef env (w ∷ ws) → NumberedIdentifiers true (n + 1) (w ∷ ws) → i ≡ n
       → parameter_list parts true (at env (Sign m.OpenParen ∷ spell_identifiers true (w ∷ ws) (Sign m.CloseParen ∷ z)) i) ≡ Ok (suffixed (Identifiers i (w ∷ ws)) (bindings_of (w ∷ ws)), at env z (past_identifiers true (n + 1) (w ∷ ws) + 1))
-  unfolding parameter_list identifiers expect sees past ahead step same_mark begins_specifier
+  unfolding parameter_list listed identifiers expect sees past ahead step same_mark begins_specifier
   identifiers-read env w ws z n i none num at_n =
       rw (is_typedef env (spell_identifiers true (w ∷ ws) (Sign m.CloseParen ∷ z)) (i + 1) w.text ∙ none.0)
       (rw (names-read env (w ∷ ws) z (n + 1) (i + 1) tt none num (omega (arith, at_n))) refl)
@@ -134,7 +134,7 @@ module _ (d : ℕ) (parts : Parts) (known : Knows d parts) where
       let long = length-parameters true (Parameter ss x ps) (Sign m.CloseParen ∷ spell_suffixes fs z) in
       let behind = past_parameters true (n + 1) (Parameter ss x ps) + 1 in
       some_more (NoSuffix, None) (suffix parts named) count (at env (spell_suffixes (Prototype t (Parameter ss x ps) fs) z) i) (at env (spell_suffixes fs z) (past_parameters true (n + 1) (Parameter ss x ps) + 0 + 1)) (at (after_suffixes env fs) z (past_suffixes behind fs))
-          (suffixed (prototype_of parts i (Parameter ss x ps, false)) (names_of (after_parameters [] (Parameter ss x ps)))) (fs, behind_suffixes fs)
+          (suffixed (prototype_of i (Parameter ss x ps, false)) (names_of (after_parameters [] (Parameter ss x ps)))) (fs, behind_suffixes fs)
           (rw (list-read false named env ss x ps (spell_suffixes fs z) n i w.0 num.1 (omega (arith, short)) at_n) refl)
           (suffixes-turns count place named env fs z behind (past_parameters true (n + 1) (Parameter ss x ps) + 0 + 1) w.1 num.2 follow (omega (arith, enough, long)) (omega (arith, short, long)) (omega arith))
       ∙ same (after_suffixes env fs) z (ap (λ v. (Prototype v (Parameter ss x ps) fs, Some (names_of (after_parameters [] (Parameter ss x ps))))) (at_n ∙ sym num.0)) (omega (arith, length-parameters true (Parameter ss x ps) (Sign m.CloseParen ∷ spell_suffixes fs [])))
@@ -143,7 +143,7 @@ module _ (d : ℕ) (parts : Parts) (known : Knows d parts) where
       let long = length-parameters true (Parameter ss x ps) (Sign m.Comma ∷ Sign m.Ellipsis ∷ Sign m.CloseParen ∷ spell_suffixes fs z) in
       let behind = past_parameters true (n + 1) (Parameter ss x ps) + 3 in
       some_more (NoSuffix, None) (suffix parts named) count (at env (spell_suffixes (Variadic t (Parameter ss x ps) fs) z) i) (at env (spell_suffixes fs z) (past_parameters true (n + 1) (Parameter ss x ps) + 2 + 1)) (at (after_suffixes env fs) z (past_suffixes behind fs))
-          (suffixed (prototype_of parts i (Parameter ss x ps, true)) (names_of (after_parameters [] (Parameter ss x ps)))) (fs, behind_suffixes fs)
+          (suffixed (prototype_of i (Parameter ss x ps, true)) (names_of (after_parameters [] (Parameter ss x ps)))) (fs, behind_suffixes fs)
           (rw (list-read true named env ss x ps (spell_suffixes fs z) n i w.1 num.1 (omega (arith, short)) at_n) refl)
           (suffixes-turns count place named env fs z behind (past_parameters true (n + 1) (Parameter ss x ps) + 2 + 1) w.2 num.2 follow (omega (arith, enough, long)) (omega (arith, short, long)) (omega arith))
       ∙ same (after_suffixes env fs) z (ap (λ v. (Variadic v (Parameter ss x ps) fs, Some (names_of (after_parameters [] (Parameter ss x ps))))) (at_n ∙ sym num.0)) (omega (arith, length-parameters true (Parameter ss x ps) (Sign m.Comma ∷ Sign m.Ellipsis ∷ Sign m.CloseParen ∷ spell_suffixes fs [])))
@@ -183,9 +183,12 @@ module _ (d : ℕ) (parts : Parts) (known : Knows d parts) where
   enclosed-opens Either typed env (Declaring [] (Name w) fs) z n some may h named = is_typedef env (Sign m.OpenParen ∷ identifier w ∷ spell_suffixes fs z) n w.text ∙ may
   enclosed-opens place typed env (Declaring [] (Enclosed t x) fs) z n some may w named = refl
 
-  enclosed-begins : (place : Place) (typed : Bool) (env : Env) (x : Declarator) (z : List Symbol) (n : ℕ) → IsSomething x → WellFormedDeclarator env typed (place_of place) x → may_be_enclosed parts place typed (at env (spell_declarator x z) n) ≡ true
+  enclosed-begins : (place : Place) (typed : Bool) (env : Env) (x : Declarator) (z : List Symbol) (n : ℕ) → IsSomething x → WellFormedDeclarator env typed (place_of place) x → may_be_enclosed place typed (at env (spell_declarator x z) n) ≡ true
   unfolding may_be_enclosed ahead spell_expr WellFormed
-  enclosed-begins Named typed env x z n some w = refl
+  enclosed-begins Named typed env (Declaring (p ∷ ps) c fs) z n some w = refl
+  enclosed-begins Named typed env (Declaring [] Absent fs) z n some w = absurd w.0
+  enclosed-begins Named typed env (Declaring [] (Name x) fs) z n some w = rw (is_typedef env (identifier x ∷ spell_suffixes fs z) n x.text) w.0
+  enclosed-begins Named typed env (Declaring [] (Enclosed t x) fs) z n some w = refl
   enclosed-begins Nameless typed env (Declaring (p ∷ ps) c fs) z n some w = refl
   enclosed-begins Nameless typed env (Declaring [] Absent NoSuffix) z n some w = absurd some
   enclosed-begins Nameless typed env (Declaring [] Absent (Array t e fs)) z n some w = refl
@@ -205,7 +208,7 @@ module _ (d : ℕ) (parts : Parts) (known : Knows d parts) where
   enclosed-begins Either typed env (Declaring [] (Enclosed t x) fs) z n some w = refl
   enclosed-begins Either typed env (Declaring [] (Name x) fs) z n some w = rw (is_typedef env (identifier x ∷ spell_suffixes fs z) n x.text) w.0
 
-  core-absent : (place : Place) (typed : Bool) (o : Option Symbol) (i : Input) → is_named_place place ≡ false → joins_declarator place o ≡ false → core_by parts place typed o i ≡ Ok (absent parts, i)
+  core-absent : (place : Place) (typed : Bool) (o : Option Symbol) (i : Input) → is_named_place place ≡ false → joins_declarator place o ≡ false → core_by parts place typed o i ≡ Ok (absent, i)
   core-absent Named typed o i named h = true_is_not_false (sym named)
   core-absent Nameless typed (Some (Sign m.OpenParen)) i named h = true_is_not_false (sym h)
   core-absent Nameless typed (Some (symbol.Identifier x)) i named h = true_is_not_false (sym h)

@@ -26,7 +26,7 @@ use Rattle.pw_grammar.specs.declared.place.Place.{Place}
 use Rattle.pw_grammar.specs.declared.place.Place.TheVariants.{Named, Nameless, Either}
 use Rattle.pw_grammar.specs.Input.{Input, first_of_rest, ahead, is_none_left, at_end, step_to, step, same_mark, same_keyword, is_mark, is_keyword, sees, sees_keyword, or_false, Outcome, Parser, and_then, ◌>>=◌, ◌>>◌, pure, ◌<$>◌, fault, asks, peek, here, skip, take_number, word, past, past_keyword, eat, eat_keyword, expect, expect_keyword, identifier_by, ordinary_by, ordinary, declare_all, leave, since, turns, go_on, repeat, list_of, turn_of, while_some, turn_with, one_or_more, unless_comma, Binding}
 use Rattle.pw_grammar.specs.Parts.{Parts, Declared}
-use Rattle.pw_grammar.specs.Expressions.{with_operations, unary_expr, operation, operations, conditional_behind, condition_of, assignment_to, goes_on, above_cast, expr_of}
+use Rattle.pw_grammar.specs.Expressions.{with_operations, unary_expr, operation, operations, conditional_behind, condition_of, assignment_to, assigned, goes_on, above_cast, expr_of}
 use Rattle.pw_grammar.specs.Tests.{operator_at, assigns}
 use Rattle.std.proofs.lemmas.Bool.{eqb-true, leb-true, leb-false, le-leb, lt-leb, eq-eqb}
 use Rattle.pw_grammar.proofs.Base.{at, same, turns_enough, no_turns, some_more, some_last}
@@ -223,7 +223,7 @@ module _ (d : ℕ) (parts : Parts) (known : Knows d parts) where
   assignment-read : (env : Env) (op : AssignOperator) (l r : Expr) (z : List Symbol) (n i : ℕ) → level l ≤ 2 → level r ≤ 15 → WellFormed env r → Numbered (n + 1) r → Follow 15 z
       → length (spell_expr r z) < d → i ≡ n
       → assignment_to parts l (at env (Sign (assign_mark op) ∷ spell_expr r z) i) ≡ Ok (Assign i op l r, at (after_expr env r) z (past_expr (n + 1) r))
-  unfolding assignment_to ahead step
+  unfolding assignment_to assigned ahead step
   assignment-read env op l r z n i low v w num follow short at_n =
       rw (assigns-found op) (rw (le-leb (level l) 2 low) (rw (known.expr 15 (omega arith) env r z (n + 1) (i + 1) w num v follow short (omega (arith, at_n))) refl))
 
@@ -242,15 +242,19 @@ module _ (d : ℕ) (parts : Parts) (known : Knows d parts) where
   stays-by k env e z n follow false false is is_b = rw (operations-none k env z n (length (map Some z) + 1) follow (omega arith)) refl
 
   stays : (k : ℕ) (env : Env) (e : Expr) (z : List Symbol) (n : ℕ) → Follow k z → goes_on parts k e (at env z n) ≡ Ok (e, at env z n)
+  unfolding goes_on
   stays k env e z n follow = stays-by k env e z n follow (k == 14) (k == 15) refl refl
 
   goes-chain : (k : ℕ) (op : BinaryOperator) (e : Expr) → binary_level op ≡ k → goes_on parts k e ≡ (with_operations e <$> operations parts k)
+  unfolding goes_on
   goes-chain k op e is = subst (λ v. goes_on parts v e ≡ (with_operations e <$> operations parts v)) is (rw (binary-not_above op) (rw (binary-not_assign op) refl))
 
   goes-condition : (k : ℕ) (e : Expr) → k ≡ 14 → goes_on parts k e ≡ condition_of parts e
+  unfolding goes_on
   goes-condition k e is = ap (λ v. goes_on parts v e) is
 
   goes-assignment : (k : ℕ) (e : Expr) → k ≡ 15 → goes_on parts k e ≡ assignment_to parts e
+  unfolding goes_on
   goes-assignment k e is = ap (λ v. goes_on parts v e) is
 
   chain_operator : (env : Env) (k : ℕ) (ops : Operations) → chain_level ops ≡ k + 4 → (op : BinaryOperator) × (binary_level op ≡ k + 4)

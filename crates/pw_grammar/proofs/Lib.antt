@@ -18,3 +18,5 @@ pub mod DeclarationsRead
 pub mod StatementHeads
 pub mod StatementsRead
 pub mod ModuleRead
+pub mod SymbolsRead
+pub mod TreeLaws

@@ -28,7 +28,7 @@ use Rattle.pw_grammar.specs.Input.{Input, first_of_rest, ahead, is_none_left, at
 use Rattle.pw_grammar.specs.Parts.{Parts, Declared}
 use Rattle.pw_grammar.specs.Expressions.{some_specifiers}
 use Rattle.pw_grammar.specs.Specifiers as specifiers
-use Rattle.pw_grammar.specs.Specifiers.{width, padding, named_member, member_declarator, member_declarators, member, members, enumerator, enumerators}
+use Rattle.pw_grammar.specs.Specifiers.{width, padding, named_member, member_declarator, member_declarators, member, members, closes_members, enumerator, some_enumerators, enumerators}
 use Rattle.pw_grammar.specs.Tests.{is_empty, symbol_begins_specifier}
 use Rattle.pw_grammar.proofs.Base.{at, same, turns_enough, no_turns, true_is_not_false, item_turn, item_more, item_last, comma_more, comma_last}
 use Rattle.pw_grammar.proofs.Follow.{Follow, head, joins}
@@ -104,9 +104,6 @@ unfolding Numbered
 enum-moved NoEnumerator n h = h
 enum-moved (PlainEnumerator w es) n h = h
 enum-moved (ValuedEnumerator w e es) n h = h
-
-abbrev member_end : Parser (Option Members)
-member_end = (λ closed. if closed then Some NoMember else None) <$> eat m.CloseBrace
 
 module _ (d : ℕ) (parts : Parts) (known : Knows d parts) where
   -- ---- 6.5.2.1
@@ -223,12 +220,12 @@ module _ (d : ℕ) (parts : Parts) (known : Knows d parts) where
 
   members-turns : (count : ℕ) (env : Env) (ms : Members) (z : List Symbol) (n i : ℕ) → HasMember ms → WellFormedMembers env ms → NumberedMembers n ms
       → length (spell_members ms (Sign m.CloseBrace ∷ z)) < count → length (spell_members ms (Sign m.CloseBrace ∷ z)) < d → i ≡ n
-      → repeat (item_turn (member parts) member_end) count (at env (spell_members ms (Sign m.CloseBrace ∷ z)) i) ≡ Ok (ms, at (after_members env ms) z (past_members n ms + 1))
+      → repeat (item_turn (member parts) closes_members) count (at env (spell_members ms (Sign m.CloseBrace ∷ z)) i) ≡ Ok (ms, at (after_members env ms) z (past_members n ms + 1))
   unfolding spell_expr WellFormed Numbered after_expr sees ahead past step same_mark
   members-turns zero env ms z n i has w num enough short at_n = no_turns enough
   members-turns (suc count) env NoMember z n i has w num enough short at_n = absurd has
   members-turns (suc count) env (Member ss ds NoMember) z n i has w num enough short at_n =
-      item_last (member parts) member_end count (at env (spell_specifiers ss (spell_member_declarators true ds (Sign m.Semicolon ∷ Sign m.CloseBrace ∷ z))) i)
+      item_last (member parts) closes_members count (at env (spell_specifiers ss (spell_member_declarators true ds (Sign m.Semicolon ∷ Sign m.CloseBrace ∷ z))) i)
           (at (after_member_declarators (after_specifiers env ss) ds) (Sign m.CloseBrace ∷ z) (past_member_declarators true (past_specifiers n ss) ds + 1))
           (at (after_member_declarators (after_specifiers env ss) ds) z (past_member_declarators true (past_specifiers n ss) ds + 1 + 1)) (Member ss ds) NoMember
           (member-read env ss ds (Sign m.CloseBrace ∷ z) n i w.0 w.1 w.2 w.3 w.4 num.0 num.1 short at_n) refl
@@ -237,7 +234,7 @@ module _ (d : ℕ) (parts : Parts) (known : Knows d parts) where
       let inner = after_member_declarators (after_specifiers env ss) ds in
       let more = spell_members (Member rr es ms) (Sign m.CloseBrace ∷ z) in
       let text = spell_member_declarators true ds (Sign m.Semicolon ∷ more) in
-      item_more (member parts) member_end count (at env (spell_specifiers ss text) i)
+      item_more (member parts) closes_members count (at env (spell_specifiers ss text) i)
           (at inner more (past_member_declarators true (past_specifiers n ss) ds + 1)) (at inner more (past_member_declarators true (past_specifiers n ss) ds + 1))
           (at (after_members inner (Member rr es ms)) z (past_members (past_member_declarators true (past_specifiers n ss) ds + 1) (Member rr es ms) + 1)) (Member ss ds) (Member rr es ms)
           (member-read env ss ds more n i w.0 w.1 w.2 w.3 w.4 num.0 num.1 short at_n)
@@ -302,6 +299,6 @@ module _ (d : ℕ) (parts : Parts) (known : Knows d parts) where
   -- up to the `}` and with it
   pub enumerators-read : (env : Env) (es : Enumerators) (z : List Symbol) (n i : ℕ) → HasEnumerator es → WellFormedEnumerators env es → NumberedEnumerators true n es → length (spell_enumerators true es (Sign m.CloseBrace ∷ z)) < d → i ≡ n
       → enumerators parts (at env (spell_enumerators true es (Sign m.CloseBrace ∷ z)) i) ≡ Ok (es, at (after_enumerators env es) z (past_enumerators true n es + 1))
-  unfolding enumerators expect sees ahead step same_mark
+  unfolding enumerators some_enumerators expect sees ahead step same_mark
   enumerators-read env es z n i has w num short at_n =
       rw (enumerators-turns (length (map Some (spell_enumerators true es (Sign m.CloseBrace ∷ z))) + 1) env es z n i has w num (turns_enough (spell_enumerators true es (Sign m.CloseBrace ∷ z))) short at_n) refl

@@ -31,7 +31,7 @@ use Rattle.std.proofs.lemmas.List.{append-nil}
 use Rattle.pw_scope.proofs.Visibility.{option_or-assoc}
 use Rattle.pw_tree.specs.Scopes.{behind_name, behind_core}
 use Rattle.pw_grammar.specs.Declarations.{parts}
-use Rattle.pw_grammar.specs.Modules.{or_none, goes_on_as_declaration, function, external_with, external_behind, external, module_of, start, read}
+use Rattle.pw_grammar.specs.Modules.{or_none, goes_on_as_declaration, function, external_with, external_named, external_behind, external, ends_text, externals, start, read}
 use Rattle.pw_grammar.specs.Input.{mark}
 use Rattle.pw_grammar.specs.Statements as rules
 use Rattle.pw_grammar.specs.Tests.{is_empty, symbol_begins_specifier}
@@ -187,14 +187,27 @@ module _ (limit : ℕ) where
       (rw (body-read (after_decls entered ds) b z (past_decls n ds) (past_decls n ds) v numb (omega (arith, short, length-decls ds (spell_block b z))) refl)
       (rw (in-function outer x ds) (rw (left (after_decls (enter [] x) ds) outer) refl)))))
 
+  -- behind specifiers stands a declarator
+  behind-named : (ss : Specifiers) (env : Env) (tokens : List Symbol) (n : ℕ) → is_mark m.Semicolon (head tokens) ≡ false → external_behind limit ss (at env tokens n) ≡ external_named limit ss (at env tokens n)
+  unfolding external_behind sees past ahead
+  behind-named NoSpecifier env tokens n h = refl
+  behind-named (Storage t c ss) env tokens n h = rw h refl
+  behind-named (Qualified t q ss) env tokens n h = rw h refl
+  behind-named (Basic t b ss) env tokens n h = rw h refl
+  behind-named (TypedefName w ss) env tokens n h = rw h refl
+  behind-named (RecordTag t r x ss) env tokens n h = rw h refl
+  behind-named (Record t r x ms ss) env tokens n h = rw h refl
+  behind-named (EnumTag t x ss) env tokens n h = rw h refl
+  behind-named (Enum t x es ss) env tokens n h = rw h refl
+
   definition-read : (env : Env) (ss : Specifiers) (x : Declarator) (ds : List Decl) (b : Block) (z : List Symbol) (n i : ℕ)
       → WellFormedSpecifiers env false ss → WellFormedDeclarator (after_specifiers env ss) (has_type ss) tree.Named x
       → WellFormedDecls (enter (after_name (after_specifiers env ss) ss x) x) ds → WellFormedBlock (after_decls (enter (after_name (after_specifiers env ss) ss x) x) ds) b
       → NumberedSpecifiers n ss → NumberedDeclarator (past_specifiers n ss) x → NumberedDecls (past_declarator (past_specifiers n ss) x) ds → NumberedBlock (past_decls (past_declarator (past_specifiers n ss) x) ds) b
       → length (spell_specifiers ss (spell_declarator x (behind_declarator ds b z))) < limit → i ≡ n
       → external limit (at env (spell_specifiers ss (spell_declarator x (behind_declarator ds b z))) i)
-      ≡ Ok (Definition (record { specifiers = ss; declarator = x; declarations = ds; body = b }), at (after_name (after_specifiers env ss) ss x) z (past_block (past_decls (past_declarator (past_specifiers n ss) x) ds) b))
-  unfolding external external_behind external_with sees ahead
+      ≡ Ok ((λ more. Definition (record { specifiers = ss; declarator = x; declarations = ds; body = b }) ∷ more), at (after_name (after_specifiers env ss) ss x) z (past_block (past_decls (past_declarator (past_specifiers n ss) x) ds) b))
+  unfolding external external_named external_with
   definition-read env ss x ds b z n i w v u t num numx numd numb short at_n =
       let more = behind_declarator ds b z in
       let text = spell_declarator x more in
@@ -203,17 +216,16 @@ module _ (limit : ℕ) where
       let n1 = past_specifiers n ss in
       let n2 = past_declarator n1 x in
       rw ((parts-know limit).specifiers true env ss text n i w tt num (named-ends true (has_type ss) e1 x more v) short at_n)
-      (rw (named-no_semicolon limit e1 (has_type ss) x more v)
-      (rw (and-false (not (is_empty ss)))
+      (rw (behind-named ss e1 text n1 (named-no_semicolon limit e1 (has_type ss) x more v))
       (rw ((parts-know limit).declarator Named (has_type ss) e1 x more n1 n1 v numx (function-follow (enter (after_name e1 ss x) x) ds b z u) (omega (arith, short, length-specifiers ss text)) refl)
       (rw (function-no_declaration (enter (after_name e1 ss x) x) ds b z e2 n2 u)
       (rw (and-false (not (is_empty ss)))
-      (function-read e2 ss x ds b z n2 n2 u t numd numb (omega (arith, short, length-specifiers ss text, length-declarator x more)) refl))))))
+      (rw (function-read e2 ss x ds b z n2 n2 u t numd numb (omega (arith, short, length-specifiers ss text, length-declarator x more)) refl) refl)))))
 
   declaration-read : (env : Env) (ss : Specifiers) (ds : List InitDeclarator) (z : List Symbol) (n i : ℕ) → WellFormedDecl env (record { specifiers = ss; declarators = ds }) → NumberedDecl n (record { specifiers = ss; declarators = ds })
       → length (spell_decl (record { specifiers = ss; declarators = ds }) z) < limit → i ≡ n
-      → external limit (at env (spell_decl (record { specifiers = ss; declarators = ds }) z) i) ≡ Ok (Declaration (record { specifiers = ss; declarators = ds }), at (after_decl env (record { specifiers = ss; declarators = ds })) z (past_decl n (record { specifiers = ss; declarators = ds })))
-  unfolding external external_behind external_with sees past ahead step same_mark
+      → external limit (at env (spell_decl (record { specifiers = ss; declarators = ds }) z) i) ≡ Ok ((λ more. Declaration (record { specifiers = ss; declarators = ds }) ∷ more), at (after_decl env (record { specifiers = ss; declarators = ds })) z (past_decl n (record { specifiers = ss; declarators = ds })))
+  unfolding external external_behind external_named external_with sees past ahead step same_mark
   declaration-read env ss [] z n i w num short at_n =
       rw ((parts-know limit).specifiers true env ss (Sign m.Semicolon ∷ z) n i w.1 tt num.0 refl short at_n)
       (rw (not_empty ss w.0) (same (after_specifiers env ss) z refl (omega (arith, length-specifiers ss (Sign m.Semicolon ∷ [])))))
@@ -224,8 +236,8 @@ module _ (limit : ℕ) where
       let n1 = past_specifiers n ss in
       let n2 = past_declarator n1 x.declarator in
       rw ((parts-know limit).specifiers true env ss text n i w.1 tt num.0 (named-ends true (has_type ss) e1 x.declarator more w.2.0) short at_n)
+      (rw (not_empty ss w.0)
       (rw (named-no_semicolon limit e1 (has_type ss) x.declarator more w.2.0)
-      (rw (and-false (not (is_empty ss)))
       (rw ((parts-know limit).declarator Named (has_type ss) e1 x.declarator more n1 n1 w.2.0 num.1.0 (declarator-follow limit x.initializer ds z) (omega (arith, short, length-specifiers ss text)) refl)
       (rw (declaration-goes_on (after_declarator e1 x.declarator) x.initializer ds z n2)
       (rw (not_empty ss w.0)
@@ -235,7 +247,7 @@ module _ (limit : ℕ) where
               length-declarator x.declarator (spell_initializer x.initializer (spell_init_declarators false ds (Sign m.Semicolon ∷ []))), length-initializer x.initializer (spell_init_declarators false ds (Sign m.Semicolon ∷ [])), length-init_declarators false ds (Sign m.Semicolon ∷ []))))))))))
 
   external-read : (env : Env) (x : External) (z : List Symbol) (n i : ℕ) → WellFormedExternal env x → NumberedExternal n x → length (spell_external x z) < limit → i ≡ n
-      → external limit (at env (spell_external x z) i) ≡ Ok (x, at (after_external env x) z (past_external n x))
+      → external limit (at env (spell_external x z) i) ≡ Ok ((λ more. x ∷ more), at (after_external env x) z (past_external n x))
   external-read env (Declaration d) z n i w num short at_n = declaration-read env d.specifiers d.declarators z n i w num short at_n
   external-read env (Definition f) z n i w num short at_n =
       definition-read env f.specifiers f.declarator f.declarations f.body z n i w.0 w.1 w.2 w.3 num.0 num.1 num.2 num.3 short at_n
@@ -244,24 +256,21 @@ module _ (limit : ℕ) where
 
   -- ---- 6.7
 
-  abbrev external_end : Parser (Option (List External))
-  external_end = (λ ends. if ends then Some [] else None) <$> asks at_end
-
   abbrev external_turn : Parser (Turn (List External))
-  external_turn = item_turn ((λ e more. e ∷ more) <$> external limit) external_end
+  external_turn = item_turn (external limit) (ends_text limit)
 
   externals-turns : (count : ℕ) (env : Env) (x : External) (xs : List External) (n i : ℕ) → WellFormedExternals env (x ∷ xs) → NumberedExternals n (x ∷ xs) → length (spell_externals (x ∷ xs) []) < count → length (spell_externals (x ∷ xs) []) < limit → i ≡ n
       → repeat external_turn count (at env (spell_externals (x ∷ xs) []) i) ≡ Ok (x ∷ xs, at (after_externals env (x ∷ xs)) [] (n + length (spell_externals (x ∷ xs) [])))
-  unfolding at_end
+  unfolding ends_text at_end
   externals-turns zero env x xs n i w num enough short at_n = no_turns enough
   externals-turns (suc count) env x [] n i w num enough short at_n =
-      item_last ((λ e more. e ∷ more) <$> external limit) external_end count (at env (spell_external x []) i) (at (after_external env x) [] (past_external n x)) (at (after_external env x) [] (past_external n x)) (λ more. x ∷ more) []
-          (rw (external-read env x [] n i w.0 num.0 short at_n) refl) refl
+      item_last (external limit) (ends_text limit) count (at env (spell_external x []) i) (at (after_external env x) [] (past_external n x)) (at (after_external env x) [] (past_external n x)) (λ more. x ∷ more) []
+          (external-read env x [] n i w.0 num.0 short at_n) refl
   externals-turns (suc count) env x (y ∷ xs) n i w num enough short at_n =
       let more = spell_externals (y ∷ xs) [] in
       let inner = after_external env x in
-      item_more ((λ e more. e ∷ more) <$> external limit) external_end count (at env (spell_external x more) i) (at inner more (past_external n x)) (at inner more (past_external n x)) (at (after_externals inner (y ∷ xs)) [] (past_external n x + length more)) (λ more. x ∷ more) (y ∷ xs)
-          (rw (external-read env x more n i w.0 num.0 short at_n) refl)
+      item_more (external limit) (ends_text limit) count (at env (spell_external x more) i) (at inner more (past_external n x)) (at inner more (past_external n x)) (at (after_externals inner (y ∷ xs)) [] (past_external n x + length more)) (λ more. x ∷ more) (y ∷ xs)
+          (external-read env x more n i w.0 num.0 short at_n)
           (rw (something-left more (omega (arith, external-long y (spell_externals xs [])))) refl)
           (externals-turns count inner y xs (past_external n x) (past_external n x) w.1 num.1 (omega (arith, enough, length-external x more, external-long x [])) (omega (arith, short, length-external x more)) refl)
       ∙ same (after_externals inner (y ∷ xs)) [] refl (omega (arith, length-external x more))
@@ -272,11 +281,11 @@ behind_all tree = at (after_externals [] tree.externals) [] (1 + length (symbols
 
 -- what is written is read
 pub module-read : (tree : Module) → WellFormedModule tree → NumberedModule tree → read (map Some (symbols tree)) ≡ Ok (tree, behind_all tree)
-unfolding read module_of
+unfolding read externals
 module-read tree w num = externals-by tree.externals w.0 w.1 num
   where
     externals-by : (xs : List External) → NotEmpty xs → WellFormedExternals [] xs → NumberedExternals 1 xs
-        → module_of (length (map Some (spell_externals xs [])) + 1) (at [] (spell_externals xs []) 1) ≡ Ok (record { externals = xs }, at (after_externals [] xs) [] (1 + length (spell_externals xs [])))
+        → (◌<$>◌ {B = Module} (λ es. record { externals = es }) (externals (length (map Some (spell_externals xs [])) + 1))) (at [] (spell_externals xs []) 1) ≡ Ok (record { externals = xs }, at (after_externals [] xs) [] (1 + length (spell_externals xs [])))
     externals-by [] has w num = absurd has
     externals-by (x ∷ xs) has w num =
         let text = spell_externals (x ∷ xs) [] in

@@ -78,24 +78,24 @@ module _ (d : ℕ) (parts : Parts) (known : Knows d parts) where
       (rw (known.declarator Either (has_type ss) (after_specifiers env ss) x z (past_specifiers n ss) (past_specifiers n ss) v numd follow (omega (arith, short, length-specifiers ss (spell_declarator x z))) refl)
       (rw (declare-read false (name_of x) (after_declarator (after_specifiers env ss) x) z (past_declarator (past_specifiers n ss) x)) refl)))
 
-  end-last : (variadic : Bool) (env : Env) (z : List Symbol) (n : ℕ) → parameters_end parts (at env (dots variadic z) n) ≡ Ok (Some (NoParameter, variadic), at env (Sign m.CloseParen ∷ z) (n + dots_count variadic))
+  end-last : (variadic : Bool) (env : Env) (z : List Symbol) (n : ℕ) → parameters_end (at env (dots variadic z) n) ≡ Ok (Some (NoParameter, variadic), at env (Sign m.CloseParen ∷ z) (n + dots_count variadic))
   unfolding parameters_end sees past ahead step same_mark
   end-last true env z n = same env (Sign m.CloseParen ∷ z) refl (omega arith)
   end-last false env z n = same env (Sign m.CloseParen ∷ z) refl (omega arith)
 
-  end-more : (env : Env) (z : List Symbol) (n : ℕ) → is_mark m.Ellipsis (head z) ≡ false → parameters_end parts (at env (Sign m.Comma ∷ z) n) ≡ Ok (None, at env z (n + 1))
+  end-more : (env : Env) (z : List Symbol) (n : ℕ) → is_mark m.Ellipsis (head z) ≡ false → parameters_end (at env (Sign m.Comma ∷ z) n) ≡ Ok (None, at env z (n + 1))
   unfolding parameters_end sees past ahead step same_mark
   end-more env z n h = rw h refl
 
   parameters-turns : (count : ℕ) (variadic : Bool) (env : Env) (ss : Specifiers) (x : Declarator) (ps : Parameters) (z : List Symbol) (n i : ℕ) → WellFormedParameters env (Parameter ss x ps) → NumberedParameters true n (Parameter ss x ps)
       → length (spell_parameters true (Parameter ss x ps) (dots variadic z)) < count → length (spell_parameters true (Parameter ss x ps) (dots variadic z)) < d → i ≡ n
-      → repeat (item_turn (parameter parts) (parameters_end parts)) count (at env (spell_parameters true (Parameter ss x ps) (dots variadic z)) i)
+      → repeat (item_turn (parameter parts) parameters_end) count (at env (spell_parameters true (Parameter ss x ps) (dots variadic z)) i)
       ≡ Ok ((Parameter ss x ps, variadic), at (after_parameters env (Parameter ss x ps)) (Sign m.CloseParen ∷ z) (past_parameters true n (Parameter ss x ps) + dots_count variadic))
   unfolding spell_expr WellFormed Numbered
   parameters-turns zero variadic env ss x ps z n i w num enough short at_n = no_turns enough
   parameters-turns (suc count) variadic env ss x NoParameter z n i w num enough short at_n =
       let text = dots variadic z in
-      item_last (parameter parts) (parameters_end parts) count (at env (spell_specifiers ss (spell_declarator x text)) i) (at (after_parameter env ss x) text (past_declarator (past_specifiers n ss) x))
+      item_last (parameter parts) parameters_end count (at env (spell_specifiers ss (spell_declarator x text)) i) (at (after_parameter env ss x) text (past_declarator (past_specifiers n ss) x))
           (at (after_parameter env ss x) (Sign m.CloseParen ∷ z) (past_declarator (past_specifiers n ss) x + dots_count variadic)) (λ more. (Parameter ss x more.0, more.1)) (NoParameter, variadic)
           (parameter-read env ss x text n i w.0 w.1 w.2 num.0 num.1 (parameters-behind NoParameter variadic z) (parameters-ends NoParameter variadic (has_type ss) (after_specifiers env ss) z) short at_n)
           (end-last variadic (after_parameter env ss x) z (past_declarator (past_specifiers n ss) x))
@@ -104,7 +104,7 @@ module _ (d : ℕ) (parts : Parts) (known : Knows d parts) where
       let inner = after_parameter env ss x in
       let more = spell_parameters true (Parameter rr y ps) (dots variadic z) in
       let behind = past_declarator (past_specifiers n ss) x in
-      item_more (parameter parts) (parameters_end parts) count (at env (spell_specifiers ss (spell_declarator x (Sign m.Comma ∷ more))) i) (at inner (Sign m.Comma ∷ more) behind) (at inner more (behind + 1))
+      item_more (parameter parts) parameters_end count (at env (spell_specifiers ss (spell_declarator x (Sign m.Comma ∷ more))) i) (at inner (Sign m.Comma ∷ more) behind) (at inner more (behind + 1))
           (at (after_parameters inner (Parameter rr y ps)) (Sign m.CloseParen ∷ z) (past_parameters true (behind + 1) (Parameter rr y ps) + dots_count variadic)) (λ more. (Parameter ss x more.0, more.1)) (Parameter rr y ps, variadic)
           (parameter-read env ss x (Sign m.Comma ∷ more) n i w.0 w.1 w.2 num.0 num.1 refl refl short at_n)
           (end-more inner more behind (type-no_mark m.Ellipsis true (at inner more 0) (head more) (specifiers-begin true inner rr (spell_declarator y (spell_parameters false ps (dots variadic z))) more 0 w.3.0 tt w.3.1)))
@@ -116,7 +116,7 @@ module _ (d : ℕ) (parts : Parts) (known : Knows d parts) where
   pub prototype-read : (variadic : Bool) (env : Env) (t : ℕ) (ss : Specifiers) (x : Declarator) (ps : Parameters) (z : List Symbol) (n i : ℕ) → WellFormedParameters env (Parameter ss x ps) → NumberedParameters true n (Parameter ss x ps)
       → length (spell_parameters true (Parameter ss x ps) (dots variadic z)) < d → i ≡ n
       → prototype parts t (at env (spell_parameters true (Parameter ss x ps) (dots variadic z)) i)
-      ≡ Ok (suffixed (prototype_of parts t (Parameter ss x ps, variadic)) (names_of (after_parameters [] (Parameter ss x ps))), at env z (past_parameters true n (Parameter ss x ps) + dots_count variadic + 1))
+      ≡ Ok (suffixed (prototype_of t (Parameter ss x ps, variadic)) (names_of (after_parameters [] (Parameter ss x ps))), at env z (past_parameters true n (Parameter ss x ps) + dots_count variadic + 1))
   unfolding prototype parameters expect sees ahead step same_mark
   prototype-read variadic env t ss x ps z n i w num short at_n =
       rw (parameters-turns (length (map Some (spell_parameters true (Parameter ss x ps) (dots variadic z))) + 1) variadic env ss x ps z n i w num (turns_enough (spell_parameters true (Parameter ss x ps) (dots variadic z))) short at_n)

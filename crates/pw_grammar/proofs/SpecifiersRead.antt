@@ -130,16 +130,17 @@ module _ (d : ℕ) (parts : Parts) (known : Knows d parts) where
 
   record_tag-read : (env : Env) (r : RecordKind) (s : Symbol) (w : Word) (z : List Symbol) (i : ℕ) → is_mark m.OpenBrace (head z) ≡ false
       → record_specifier parts r (at env (s ∷ identifier w ∷ z) i) ≡ Ok (RecordTag i r (record { token = i + 1; text = w.text }), at env z (i + 1 + 1))
-  unfolding record_specifier rules.tagged_record tag sees past ahead step
+  unfolding record_specifier tag sees past ahead step
   record_tag-read env r s w z i h = rw h refl
 
   enum_tag-read : (env : Env) (s : Symbol) (w : Word) (z : List Symbol) (i : ℕ) → is_mark m.OpenBrace (head z) ≡ false
       → enum_specifier parts (at env (s ∷ identifier w ∷ z) i) ≡ Ok (EnumTag i (record { token = i + 1; text = w.text }), at env z (i + 1 + 1))
-  unfolding enum_specifier rules.tagged_enum tag sees past ahead step
+  unfolding enum_specifier tag sees past ahead step
   enum_tag-read env s w z i h = rw h refl
 
   -- no specifier stands where the list ends
   none-word : (storage : Bool) (o : Option SpecifierWord) (i : Input) → not (word_begins storage o) ≡ true → specifier_at parts storage o i ≡ Ok (None, i)
+  unfolding specifier_at
   none-word storage None i h = refl
   none-word true (Some (word_kind.Storage c)) i h = not-true h
   none-word false (Some (word_kind.Storage c)) i h = refl
@@ -154,7 +155,7 @@ module _ (d : ℕ) (parts : Parts) (known : Knows d parts) where
   none-name false false w i h = refl
 
   specifier-none : (storage typed : Bool) (env : Env) (tokens : List Symbol) (n : ℕ) → ends_specifiers storage typed env (head tokens) ≡ true → specifier parts storage typed (at env tokens n) ≡ Ok (None, at env tokens n)
-  unfolding specifier ahead
+  unfolding specifier specifier_at ahead
   specifier-none storage typed env tokens n h = by (head tokens) h
     where
       by : (o : Option Symbol) → ends_specifiers storage typed env o ≡ true → specifier_by parts storage typed o (at env tokens n) ≡ Ok (None, at env tokens n)
@@ -172,7 +173,7 @@ module _ (d : ℕ) (parts : Parts) (known : Knows d parts) where
   specifiers-turns : (count : ℕ) (storage typed : Bool) (env : Env) (ss : Specifiers) (z : List Symbol) (n i : ℕ) → WellFormedSpecifiers env typed ss → MayHold storage ss → NumberedSpecifiers n ss
       → ends_specifiers storage (typed || has_type ss) (after_specifiers env ss) (head z) ≡ true → length (spell_specifiers ss z) < count → length (spell_specifiers ss z) ≤ d → i ≡ n
       → specifiers_from parts storage count typed (at env (spell_specifiers ss z) i) ≡ Ok (ss, at (after_specifiers env ss) z (past_specifiers n ss))
-  unfolding specifiers_from specifier ahead step spell_expr WellFormed Numbered after_expr
+  unfolding specifiers_from specifier specifier_at ahead step spell_expr WellFormed Numbered after_expr
   specifiers-turns zero storage typed env ss z n i w may num ends enough short at_n = no_turns enough
   specifiers-turns (suc count) storage typed env NoSpecifier z n i w may num ends enough short at_n =
       rw (specifier-none storage typed env z i (rw (or-false typed) at ends)) (same env z refl (omega (arith, at_n)))

@@ -27,7 +27,7 @@ use Rattle.pw_grammar.specs.declared.place.Place.TheVariants.{Named, Nameless, E
 use Rattle.pw_grammar.specs.Input.{Input, first_of_rest, ahead, is_none_left, at_end, step_to, step, same_mark, same_keyword, is_mark, is_keyword, sees, sees_keyword, or_false, Outcome, Parser, and_then, ◌>>=◌, ◌>>◌, pure, ◌<$>◌, fault, asks, peek, here, skip, take_number, word, past, past_keyword, eat, eat_keyword, expect, expect_keyword, identifier_by, ordinary_by, ordinary, declare_all, leave, since, turns, go_on, repeat, list_of, turn_of, while_some, turn_with, one_or_more, unless_comma, Turn, More, Last, Binding}
 use Rattle.pw_grammar.specs.Parts.{Parts, Declared}
 use Rattle.pw_tree.specs.declared.symbol.Keyword.{Keyword}
-use Rattle.pw_grammar.specs.Statements.{label, label_by, unlabeled_by, compound_by, expression_stmt}
+use Rattle.pw_grammar.specs.Statements.{label, label_by, unlabeled, compound, expression_stmt}
 use Rattle.pw_grammar.proofs.Base.{at, true_is_not_false}
 use Rattle.pw_grammar.proofs.DeclarationsRead.{begins_type}
 use Rattle.pw_grammar.proofs.Follow.{head}
@@ -262,17 +262,18 @@ module _ (limit : ℕ) where
   no-label env (Return t e) z i n h = refl
 
   -- an expression begins an expression statement
-  pub begins-expression : (env : Env) (p : Parser Stmt) (o : Option Symbol) → begins_expr env o ≡ true → unlabeled_by limit p o ≡ expression_stmt limit
-  begins-expression env p (Some (Sign m.OpenBrace)) h = true_is_not_false h
-  begins-expression env p (Some (Sign m.Semicolon)) h = true_is_not_false h
-  begins-expression env p (Some (Reserved k.Goto)) h = true_is_not_false h
-  begins-expression env p (Some (Reserved k.Continue)) h = true_is_not_false h
-  begins-expression env p (Some (Reserved k.Break)) h = true_is_not_false h
-  begins-expression env p (Some (Reserved k.Return)) h = true_is_not_false h
-  begins-expression env p (Some (Reserved k.If)) h = true_is_not_false h
-  begins-expression env p (Some (Reserved k.Switch)) h = true_is_not_false h
-  begins-expression env p (Some (Reserved k.While)) h = true_is_not_false h
-  begins-expression env p (Some (Reserved k.Do)) h = true_is_not_false h
-  begins-expression env p (Some (Reserved k.For)) h = true_is_not_false h
-  begins-expression env p (Some _) h = refl
-  begins-expression env p None h = refl
+  pub begins-expression : (env env' : Env) (p : Parser Stmt) (tokens : List Symbol) (i : ℕ) → begins_expr env' (head tokens) ≡ true → unlabeled limit p (at env tokens i) ≡ expression_stmt limit (at env tokens i)
+  unfolding unlabeled compound ahead
+  begins-expression env env' p [] i h = true_is_not_false h
+  begins-expression env env' p (Sign m.OpenBrace ∷ z) i h = true_is_not_false h
+  begins-expression env env' p (Sign m.Semicolon ∷ z) i h = true_is_not_false h
+  begins-expression env env' p (Reserved k.Goto ∷ z) i h = true_is_not_false h
+  begins-expression env env' p (Reserved k.Continue ∷ z) i h = true_is_not_false h
+  begins-expression env env' p (Reserved k.Break ∷ z) i h = true_is_not_false h
+  begins-expression env env' p (Reserved k.Return ∷ z) i h = true_is_not_false h
+  begins-expression env env' p (Reserved k.If ∷ z) i h = true_is_not_false h
+  begins-expression env env' p (Reserved k.Switch ∷ z) i h = true_is_not_false h
+  begins-expression env env' p (Reserved k.While ∷ z) i h = true_is_not_false h
+  begins-expression env env' p (Reserved k.Do ∷ z) i h = true_is_not_false h
+  begins-expression env env' p (Reserved k.For ∷ z) i h = true_is_not_false h
+  begins-expression env env' p (_ ∷ z) i h = refl

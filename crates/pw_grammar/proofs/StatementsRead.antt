@@ -29,7 +29,7 @@ use Rattle.pw_grammar.specs.Parts.{Parts, Declared}
 use Rattle.pw_tree.specs.declared.symbol.Keyword.{Keyword}
 use Rattle.pw_grammar.specs.Declarations.{declarations}
 use Rattle.pw_grammar.specs.Statements as rules
-use Rattle.pw_grammar.specs.Statements.{case_label, default_label, name_label, label, before_labels, labels, expression_stmt, empty_stmt, goto_stmt, continue_stmt, break_stmt, up_to, return_stmt, condition, else_if, behind_else, alternative, if_stmt, switch_stmt, while_stmt, do_stmt, for_stmt, stmt_next, stmts, block, unlabeled, with_labels, stmt_of, stmt}
+use Rattle.pw_grammar.specs.Statements.{case_label, default_label, name_label, label, labels, expression_stmt, empty_stmt, goto_stmt, continue_stmt, break_stmt, up_to, return_stmt, condition, else_if, behind_else, alternative, alternatives, if_stmt, switch_stmt, while_stmt, do_stmt, for_stmt, stmt_next, stmts, block, compound, unlabeled, with_labels, stmt_of, stmt}
 use Rattle.pw_grammar.proofs.Base.{at, same, names_of, is_typedef, left, turns_enough, no_turns, true_is_not_false, turn_more, turn_last, some_more, some_last}
 use Rattle.pw_grammar.proofs.DeclarationsRead.{begins_type, decls-read}
 use Rattle.pw_grammar.proofs.Follow.{Follow, head, joins}
@@ -81,26 +81,26 @@ module _ (limit : ℕ) where
   -- ---- 6.6.1
 
   label-read : (env : Env) (l : Label) (z : List Symbol) (n i : ℕ) → WellFormedLabel env l → NumberedLabel n l → length (spell_label l z) < limit → i ≡ n
-      → label limit (at env (spell_label l z) i) ≡ Ok (Some l, at (after_label env l) z (past_label n l))
+      → label limit (at env (spell_label l z) i) ≡ Ok (Some (λ more. l ∷ more), at (after_label env l) z (past_label n l))
   unfolding label case_label default_label name_label expect sees ahead step same_mark
   label-read env (CaseLabel t e) z n i w num short at_n =
       rw ((parts-know limit).expr 14 (omega arith) env e (Sign m.Colon ∷ z) (n + 1) (i + 1) w.1 num.1 w.0 (omega arith) (omega (arith, short)) (omega (arith, at_n)))
-      (same (after_expr env e) z (ap (λ v. Some (CaseLabel v e)) (at_n ∙ sym num.0)) (omega (arith, length-expr e (Sign m.Colon ∷ []))))
-  label-read env (DefaultLabel t) z n i w num short at_n = same env z (ap (λ v. Some (DefaultLabel v)) (at_n ∙ sym num)) (omega (arith, at_n))
+      (same (after_expr env e) z (ap (λ v. Some (λ more. CaseLabel v e ∷ more)) (at_n ∙ sym num.0)) (omega (arith, length-expr e (Sign m.Colon ∷ []))))
+  label-read env (DefaultLabel t) z n i w num short at_n = same env z (ap (λ v. Some (λ more. DefaultLabel v ∷ more)) (at_n ∙ sym num)) (omega (arith, at_n))
   label-read env (NameLabel x) z n i w num short at_n =
-      rw (is_typedef env (identifier x ∷ Sign m.Colon ∷ z) i x.text ∙ w) (same env z (ap (λ v. Some (NameLabel (record { token = v; text = x.text }))) (at_n ∙ sym num)) (omega (arith, at_n)))
+      rw (is_typedef env (identifier x ∷ Sign m.Colon ∷ z) i x.text ∙ w) (same env z (ap (λ v. Some (λ more. NameLabel (record { token = v; text = x.text }) ∷ more)) (at_n ∙ sym num)) (omega (arith, at_n)))
 
   abbrev label_next : Parser (Option (List Label → List Label))
-  label_next = before_labels limit <$> label limit
+  label_next = label limit
 
   labels-turns : (count : ℕ) (env : Env) (ls : List Label) (z : List Symbol) (n i : ℕ) → WellFormedLabels env ls → NumberedLabels n ls → ((j : ℕ) → label limit (at (after_labels env ls) z j) ≡ Ok (None, at (after_labels env ls) z j))
       → length (spell_labels ls z) < count → length (spell_labels ls z) < limit → i ≡ n
       → repeat (turn_of [] <$> label_next) count (at env (spell_labels ls z) i) ≡ Ok (ls, at (after_labels env ls) z (past_labels n ls))
   labels-turns zero env ls z n i w num none enough short at_n = no_turns enough
-  labels-turns (suc count) env [] z n i w num none enough short at_n = some_last [] label_next count (at env z i) (at env z i) (rw (none i) refl) ∙ same env z refl (omega (arith, at_n))
+  labels-turns (suc count) env [] z n i w num none enough short at_n = some_last [] label_next count (at env z i) (at env z i) (none i) ∙ same env z refl (omega (arith, at_n))
   labels-turns (suc count) env (l ∷ ls) z n i w num none enough short at_n =
       some_more [] label_next count (at env (spell_labels (l ∷ ls) z) i) (at (after_label env l) (spell_labels ls z) (past_label n l)) (at (after_labels (after_label env l) ls) z (past_labels (past_label n l) ls)) (λ more. l ∷ more) ls
-          (rw (label-read env l (spell_labels ls z) n i w.0 num.0 short at_n) refl)
+          (label-read env l (spell_labels ls z) n i w.0 num.0 short at_n)
           (labels-turns count (after_label env l) ls z (past_label n l) (past_label n l) w.1 num.1 none (omega (arith, enough, length-label l (spell_labels ls z), label-long l)) (omega (arith, short, length-label l (spell_labels ls z))) refl)
       ∙ same (after_labels (after_label env l) ls) z refl (omega (arith, length-label l (spell_labels ls [])))
 
@@ -187,7 +187,7 @@ module _ (limit : ℕ) where
         → length (spell_expr c (Sign m.CloseParen ∷ spell_stmt s (spell_alternative a z))) < d → length (spell_expr c (Sign m.CloseParen ∷ spell_stmt s (spell_alternative a z))) < limit → i ≡ n
         → if_stmt limit p (at env (Reserved k.If ∷ Sign m.OpenParen ∷ spell_expr c (Sign m.CloseParen ∷ spell_stmt s (spell_alternative a z))) i)
         ≡ Ok (If i c s a, at (after_alternative (after_stmt (after_expr env c) s) a) z (past_alternative (past_stmt (past_expr (n + 2) c + 1) s) a))
-    unfolding if_stmt step
+    unfolding if_stmt alternatives step
     if-read env c s a z n i w v may u num nums numa follow short within at_n =
         let more = spell_alternative a z in
         let long = length-expr c (Sign m.CloseParen ∷ spell_stmt s more) in
@@ -228,13 +228,13 @@ module _ (limit : ℕ) where
 
     unlabeled-read : (env : Env) (x : Stmt) (z : List Symbol) (n i : ℕ) → NotLabeled x → WellFormedStmt env x → NumberedStmt n x → (ends_open x ≡ true → is_keyword k.Else (head z) ≡ false)
         → length (spell_stmt x z) ≤ d → length (spell_stmt x z) < limit → i ≡ n → unlabeled limit p (at env (spell_stmt x z) i) ≡ Ok (x, at (after_stmt env x) z (past_stmt n x))
-    unfolding unlabeled expression_stmt empty_stmt goto_stmt continue_stmt break_stmt return_stmt switch_stmt while_stmt do_stmt for_stmt ordinary_by expect expect_keyword sees sees_keyword ahead step same_mark same_keyword spell_stmt WellFormedStmt NumberedStmt after_stmt
+    unfolding unlabeled compound expression_stmt empty_stmt goto_stmt continue_stmt break_stmt return_stmt switch_stmt while_stmt do_stmt for_stmt ordinary_by expect expect_keyword sees sees_keyword ahead step same_mark same_keyword spell_stmt WellFormedStmt NumberedStmt after_stmt
     unlabeled-read env (Compound (Braced t ds ss)) z n i not w num follow short within at_n =
         rw (block-read env t ds ss z n i w.0 w.1 num.1 num.2 (omega (arith, short)) (omega (arith, within)) at_n)
         (same env z (ap (λ v. Compound (Braced v ds ss)) (at_n ∙ sym num.0)) (omega (arith, length-decls ds (spell_stmts ss (Sign m.CloseBrace ∷ [])), length-stmts ss (Sign m.CloseBrace ∷ []))))
     unlabeled-read env (Expression e) z n i not w num follow short within at_n =
-        rw (begins-expression limit env p (head (spell_expr e (Sign m.Semicolon ∷ z))) (expr-begins env e (Sign m.Semicolon ∷ z) w))
-        (rw (expression-read env e (Sign m.Semicolon ∷ z) n i w num (omega arith) within at_n) (same (after_expr env e) z refl (omega (arith, length-expr e (Sign m.Semicolon ∷ [])))))
+        begins-expression limit env env p (spell_expr e (Sign m.Semicolon ∷ z)) i (expr-begins env e (Sign m.Semicolon ∷ z) w)
+        ∙ rw (expression-read env e (Sign m.Semicolon ∷ z) n i w num (omega arith) within at_n) (same (after_expr env e) z refl (omega (arith, length-expr e (Sign m.Semicolon ∷ []))))
     unlabeled-read env (Empty t) z n i not w num follow short within at_n = same env z (ap (λ v. Empty v) (at_n ∙ sym num)) (omega (arith, at_n))
     unlabeled-read env (Labeled ls s) z n i not w num follow short within at_n = absurd not
     unlabeled-read env (If t c s a) z n i not w num follow short within at_n =

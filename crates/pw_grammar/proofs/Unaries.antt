@@ -26,7 +26,7 @@ use Rattle.pw_grammar.specs.declared.place.Place.{Place}
 use Rattle.pw_grammar.specs.declared.place.Place.TheVariants.{Named, Nameless, Either}
 use Rattle.pw_grammar.specs.Input.{Input, first_of_rest, ahead, is_none_left, at_end, step_to, step, same_mark, same_keyword, is_mark, is_keyword, sees, sees_keyword, or_false, Outcome, Parser, and_then, ◌>>=◌, ◌>>◌, pure, ◌<$>◌, fault, asks, peek, here, skip, take_number, word, past, past_keyword, eat, eat_keyword, expect, expect_keyword, identifier_by, ordinary_by, ordinary, declare_all, leave, since, turns, go_on, repeat, list_of, turn_of, while_some, turn_with, one_or_more, unless_comma, Binding}
 use Rattle.pw_grammar.specs.Parts.{Parts, Declared}
-use Rattle.pw_grammar.specs.Expressions.{with_postfixes, postfix_expr, operated, size, unary_expr, unary_by, cast_to, cast_expr, enclosed_type_name}
+use Rattle.pw_grammar.specs.Expressions.{with_postfixes, postfix_expr, operated, operated_or_postfix, size, unary_expr, unary_by, cast_to, cast_expr, enclosed_type_name}
 use Rattle.pw_grammar.specs.Tests.{opens_type_name}
 use Rattle.pw_grammar.proofs.Base.{at, same}
 use Rattle.pw_grammar.proofs.Follow.{Follow, head, joins, above_unary}
@@ -45,7 +45,7 @@ with-postfixes e (Step t op ps) h = refl
 
 module _ (d : ℕ) (parts : Parts) (known : Knows d parts) where
   unary-is_postfix : (env : Env) (e : Expr) (z : List Symbol) (i : ℕ) → WellFormed env e → level e ≤ 0 → unary_expr parts (at env (spell_expr e z) i) ≡ postfix_expr parts (at env (spell_expr e z) i)
-  unfolding spell_expr WellFormed unary_expr ahead
+  unfolding spell_expr WellFormed unary_expr operated_or_postfix ahead
   unary-is_postfix env (Identifier w) z i h l = refl
   unary-is_postfix env (Number w) z i h l = refl
   unary-is_postfix env (Floating w) z i h l = refl
@@ -123,7 +123,7 @@ module _ (d : ℕ) (parts : Parts) (known : Knows d parts) where
 
   pub unary-read : (env : Env) (e : Expr) (z : List Symbol) (n i : ℕ) → WellFormed env e → Numbered n e → level e ≤ 2 → 2 < joins (head z) → length (spell_expr e z) ≤ d → i ≡ n
       → unary_expr parts (at env (spell_expr e z) i) ≡ Ok (e, at (after_expr env e) z (past_expr n e))
-  unfolding spell_expr WellFormed Numbered after_expr unary_expr ahead
+  unfolding spell_expr WellFormed Numbered after_expr unary_expr operated_or_postfix ahead
   unary-read env (Identifier w) z n i h num l follow short at_n = primary-as_unary env (Identifier w) z n i h num (omega arith) follow short at_n
   unary-read env (Number w) z n i h num l follow short at_n = primary-as_unary env (Number w) z n i h num (omega arith) follow short at_n
   unary-read env (Floating w) z n i h num l follow short at_n = primary-as_unary env (Floating w) z n i h num (omega arith) follow short at_n

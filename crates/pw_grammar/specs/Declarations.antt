@@ -32,19 +32,22 @@ inits_end = do
   comma ← eat m.Comma
   if comma then (λ closed. if closed then Some (NoInit, true) else None) <$> asks (sees m.CloseBrace) else pure (Some (NoInit, false))
 
-module _ (limit : ℕ) where
-  module _ (init : Parser Init) where
-    unfoldable pub braced : Parser Init
-    braced = do
-      n ← take_number
-      items ← one_or_more ((λ x more. (Listed x more.0, more.1)) <$> init) inits_end
-      expect m.CloseBrace
-      pure (Braces n items.0 items.1)
+-- up to the `}`, and whether a comma stands before it
+unfoldable pub inits : Parser Init → Parser (Inits × Bool)
+inits init = one_or_more ((λ x more. (Listed x more.0, more.1)) <$> init) inits_end
 
-    unfoldable pub init_of : Parser Init
-    init_of = do
-      is_list ← asks (sees m.OpenBrace)
-      if is_list then braced else Value <$> (parts limit).expr assignment
+unfoldable pub braced : Parser Init → Parser Init
+braced init = do
+  n ← take_number
+  items ← inits init
+  expect m.CloseBrace
+  pure (Braces n items.0 items.1)
+
+module _ (limit : ℕ) where
+  unfoldable pub init_of : Parser Init → Parser Init
+  init_of init = do
+    is_list ← asks (sees m.OpenBrace)
+    if is_list then braced init else Value <$> (parts limit).expr assignment
 
   unfoldable pub init : ℕ → Parser Init
   init zero = fault
@@ -67,25 +70,26 @@ module _ (limit : ℕ) where
     i ← initializer
     pure (record { declarator = d.tree; initializer = i })
 
-  unfoldable pub init_declarator : Specifiers → Parser InitDeclarator
-  init_declarator ss = (parts limit).declarator Named (has_type ss) >>= initialized (has_typedef ss)
+  unfoldable pub init_declarator : Bool → Bool → Parser InitDeclarator
+  init_declarator typed is_typedef = (parts limit).declarator Named typed >>= initialized is_typedef
 
-  unfoldable pub init_declarators : Specifiers → Parser (List InitDeclarator)
-  init_declarators ss = one_or_more ((λ d more. d ∷ more) <$> init_declarator ss) (unless_comma [])
-
-  -- the declarators behind the first
-  unfoldable pub other_declarators : Specifiers → Parser (List InitDeclarator)
-  other_declarators ss = do
+  -- a comma and another declarator, if they stand next
+  unfoldable pub other_declarator : Bool → Bool → Parser (Option (List InitDeclarator → List InitDeclarator))
+  other_declarator typed is_typedef = do
     more ← eat m.Comma
-    if more then init_declarators ss else pure []
+    if more then (λ d. Some (λ more. d ∷ more)) <$> init_declarator typed is_typedef else pure None
+
+  -- the declarators of a declaration, the first of which was read
+  unfoldable pub init_declarators : Bool → Bool → InitDeclarator → Parser (List InitDeclarator)
+  init_declarators typed is_typedef first = (λ others. first ∷ others) <$> while_some [] (other_declarator typed is_typedef)
 
   -- a declaration from its first declarator's initializer on
   unfoldable pub declaration_with : Specifiers → Declared → Parser Decl
   declaration_with ss d = do
     first ← initialized (has_typedef ss) d
-    others ← other_declarators ss
+    all ← init_declarators (has_type ss) (has_typedef ss) first
     expect m.Semicolon
-    pure (record { specifiers = ss; declarators = first ∷ others })
+    pure (record { specifiers = ss; declarators = all })
 
   unfoldable pub declaration : Parser Decl
   declaration = do

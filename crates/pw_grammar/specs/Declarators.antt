@@ -70,6 +70,53 @@ pub record Cored : Type 0 where
   pub name : Option (List ℕ)
   pub behind : Option (List Binding)
 
+-- behind a parameter: another one, the end of the list, or its end by `, ...`
+unfoldable pub parameters_end : Parser (Option (Parameters × Bool))
+parameters_end = do
+  comma ← eat m.Comma
+  if comma then (λ dots. if dots then Some (NoParameter, true) else None) <$> eat m.Ellipsis else pure (Some (NoParameter, false))
+
+abbrev pub prototype_of : ℕ → Parameters × Bool → Suffixes → Suffixes
+prototype_of n ps more = if ps.1 then Variadic n ps.0 more else Prototype n ps.0 more
+
+-- ---- cores
+
+abbrev pub needs_name : Place → Bool
+needs_name Named = true
+needs_name Nameless = false
+needs_name Either = false
+
+abbrev pub allows_name : Place → Bool
+allows_name Named = true
+allows_name Nameless = false
+allows_name Either = true
+
+-- An identifier may be a declarator's name. A typedef name is declared anew only where a type specifier stands before.
+abbrev pub spells_name : Place → Bool → Input → List ℕ → Bool
+spells_name place typed i x = allows_name place && (typed || not (is_typedef_name i x))
+
+-- something stands next that a declarator without a need for a name may hold in parentheses
+abbrev pub may_be_enclosed_by : Place → Bool → Input → Option Symbol → Bool
+may_be_enclosed_by place typed i (Some (Sign m.Star)) = true
+may_be_enclosed_by place typed i (Some (Sign m.OpenParen)) = true
+may_be_enclosed_by place typed i (Some (Sign m.OpenBracket)) = true
+may_be_enclosed_by place typed i (Some (Identifier x)) = spells_name place typed i x
+may_be_enclosed_by place typed i _ = needs_name place
+
+unfoldable pub may_be_enclosed : Place → Bool → Input → Bool
+may_be_enclosed place typed i = may_be_enclosed_by place typed i (ahead i)
+
+abbrev pub absent : Cored
+absent = record { core = Absent; name = None; behind = None }
+
+abbrev pub name_core : Word → Cored
+name_core w = record { core = Name w; name = Some w.text; behind = None }
+
+abbrev pub may_be_absent : Place → Parser Cored
+may_be_absent Named = fault
+may_be_absent Nameless = pure absent
+may_be_absent Either = pure absent
+
 module _ (parts : Parts) where
   -- ---- 6.5.4.2
 
@@ -91,18 +138,9 @@ module _ (parts : Parts) where
     declare_name d.name false
     pure (λ more. (Parameter ss d.tree more.0, more.1))
 
-  -- behind a parameter: another one, the end of the list, or its end by `, ...`
-  unfoldable pub parameters_end : Parser (Option (Parameters × Bool))
-  parameters_end = do
-    comma ← eat m.Comma
-    if comma then (λ dots. if dots then Some (NoParameter, true) else None) <$> eat m.Ellipsis else pure (Some (NoParameter, false))
-
   -- the parameters, and whether `, ...` stands behind them
   unfoldable pub parameters : Parser (Parameters × Bool)
   parameters = one_or_more parameter parameters_end
-
-  abbrev pub prototype_of : ℕ → Parameters × Bool → Suffixes → Suffixes
-  prototype_of n ps more = if ps.1 then Variadic n ps.0 more else Prototype n ps.0 more
 
   -- A list of parameters is a scope of its own.
   unfoldable pub prototype : ℕ → Parser (Behind → Behind)
@@ -125,13 +163,16 @@ module _ (parts : Parts) where
   listed_by named n (Some (Identifier x)) = if named then identifiers n else fault
   listed_by named n _ = fault
 
+  unfoldable pub listed : Bool → ℕ → Parser (Behind → Behind)
+  listed named n = peek >>= listed_by named n
+
   unfoldable pub parameter_list : Bool → Parser (Behind → Behind)
   parameter_list named = do
     n ← take_number
     is_empty ← eat m.CloseParen
     if is_empty then pure (suffixed (Prototype n NoParameter) []) else (do
       typed ← asks (begins_specifier true)
-      if typed then prototype n else peek >>= listed_by named n)
+      if typed then prototype n else listed named n)
 
   abbrev pub suffix_by : Bool → Option Symbol → Parser (Option (Behind → Behind))
   suffix_by named (Some (Sign m.OpenBracket)) = Some <$> array
@@ -146,22 +187,6 @@ module _ (parts : Parts) where
 
   -- ---- 6.5.4, 6.5.5
 
-  -- where a name need not stand, something else stands
-  abbrev pub may_be_enclosed_by : Place → Bool → Input → Option Symbol → Bool
-  may_be_enclosed_by Named typed i s = true
-  may_be_enclosed_by Nameless typed i (Some (Sign m.Star)) = true
-  may_be_enclosed_by Nameless typed i (Some (Sign m.OpenParen)) = true
-  may_be_enclosed_by Nameless typed i (Some (Sign m.OpenBracket)) = true
-  may_be_enclosed_by Nameless typed i _ = false
-  may_be_enclosed_by Either typed i (Some (Sign m.Star)) = true
-  may_be_enclosed_by Either typed i (Some (Sign m.OpenParen)) = true
-  may_be_enclosed_by Either typed i (Some (Sign m.OpenBracket)) = true
-  may_be_enclosed_by Either typed i (Some (Identifier x)) = typed || not (is_typedef_name i x)
-  may_be_enclosed_by Either typed i _ = false
-
-  unfoldable pub may_be_enclosed : Place → Bool → Input → Bool
-  may_be_enclosed place typed i = may_be_enclosed_by place typed i (ahead i)
-
   unfoldable pub enclosed : Place → Bool → Parser Cored
   enclosed place typed = do
     n ← take_number
@@ -171,30 +196,9 @@ module _ (parts : Parts) where
       expect m.CloseParen
       pure (record { core = Enclosed n d.tree; name = d.name; behind = d.behind })) else fault
 
-  abbrev pub absent : Cored
-  absent = record { core = Absent; name = None; behind = None }
-
-  abbrev pub name_core : Word → Cored
-  name_core w = record { core = Name w; name = Some w.text; behind = None }
-
-  abbrev pub may_be_absent : Place → Parser Cored
-  may_be_absent Named = fault
-  may_be_absent Nameless = pure absent
-  may_be_absent Either = pure absent
-
-  abbrev pub needs_name : Place → Bool
-  needs_name Named = true
-  needs_name Nameless = false
-  needs_name Either = false
-
-  abbrev pub allows_name : Place → Bool
-  allows_name Named = true
-  allows_name Nameless = false
-  allows_name Either = true
-
   -- A typedef name is declared anew only where a type specifier stands before.
   abbrev pub core_by : Place → Bool → Option Symbol → Parser Cored
-  core_by place typed (Some (Identifier x)) = λ i. (if allows_name place && (typed || not (is_typedef_name i x)) then name_core <$> word x else may_be_absent place) i
+  core_by place typed (Some (Identifier x)) = λ i. (if spells_name place typed i x then name_core <$> word x else may_be_absent place) i
   core_by place typed (Some (Sign m.OpenParen)) = λ i. (if not (needs_name place) && opens_parameters i then pure absent else enclosed place typed) i
   core_by place typed _ = may_be_absent place
 

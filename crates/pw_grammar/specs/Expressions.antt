@@ -42,6 +42,10 @@ abbrev pub with_operations : Expr → Operations → Expr
 with_operations e NoOperation = e
 with_operations e ops = Chain e ops
 
+-- `++` or `--` behind an operand
+unfoldable pub step_behind : StepOperator → Parser (Postfixes → Postfixes)
+step_behind op = (λ n. Step n op) <$> take_number
+
 module _ (parts : Parts) where
   -- specifiers, one or more
   unfoldable pub some_specifiers : Bool → Parser Specifiers
@@ -118,9 +122,6 @@ module _ (parts : Parts) where
     w ← identifier
     pure (Select n access w)
 
-  unfoldable pub step_behind : StepOperator → Parser (Postfixes → Postfixes)
-  step_behind op = (λ n. Step n op) <$> take_number
-
   abbrev pub postfix_by : Option Symbol → Parser (Option (Postfixes → Postfixes))
   postfix_by (Some (Sign m.OpenBracket)) = Some <$> index
   postfix_by (Some (Sign m.OpenParen)) = Some <$> call
@@ -157,7 +158,7 @@ module _ (parts : Parts) where
     of_type ← asks opens_type_name
     if of_type then (do named ← enclosed_type_name; pure (SizeofType n named.0 named.1)) else Unary n operator.Sizeof <$> parts.expr unary
 
-  abbrev pub operated_or_postfix : Option UnaryOperator → Parser Expr
+  unfoldable pub operated_or_postfix : Option UnaryOperator → Parser Expr
   operated_or_postfix (Some op) = operated op
   operated_or_postfix None = postfix_expr
 
@@ -216,13 +217,16 @@ module _ (parts : Parts) where
 
   -- ---- 6.3.16
 
+  unfoldable pub assigned : Expr → AssignOperator → Parser Expr
+  assigned left op = do
+    n ← take_number
+    right ← parts.expr assignment
+    pure (Assign n op left right)
+
   -- Only a unary expression may stand before the operator.
   abbrev pub assignment_by : Expr → Option AssignOperator → Parser Expr
   assignment_by left None = pure left
-  assignment_by left (Some op) = if nat_le (level left) unary then (do
-    n ← take_number
-    right ← parts.expr assignment
-    pure (Assign n op left right)) else fault
+  assignment_by left (Some op) = if nat_le (level left) unary then assigned left op else fault
 
   unfoldable pub assignment_to : Expr → Parser Expr
   assignment_to left = peek >>= λ s. assignment_by left (assigns s)
@@ -230,7 +234,7 @@ module _ (parts : Parts) where
   -- ---- levels
 
   -- what an expression of the level below goes on with at level k, from 4 on
-  abbrev pub goes_on : ℕ → Expr → Parser Expr
+  unfoldable pub goes_on : ℕ → Expr → Parser Expr
   goes_on k e = if k == conditional then condition_of e else (if k == assignment then assignment_to e else with_operations e <$> operations k)
 
   -- an expression of the level that is so many above that of casts

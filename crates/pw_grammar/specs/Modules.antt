@@ -37,23 +37,29 @@ module _ (limit : ℕ) where
     is_declaration ← asks goes_on_as_declaration
     if not (is_empty ss) && is_declaration then Declaration <$> declaration_with limit ss d else function ss d
 
+  unfoldable pub external_named : Specifiers → Parser External
+  external_named ss = (parts limit).declarator Named (has_type ss) >>= external_with ss
+
   -- behind the specifiers
   unfoldable pub external_behind : Specifiers → Parser External
-  external_behind ss = do
-    ends ← asks (sees m.Semicolon)
-    if not (is_empty ss) && ends then eat m.Semicolon >> pure (Declaration (record { specifiers = ss; declarators = [] })) else (parts limit).declarator Named (has_type ss) >>= external_with ss
+  external_behind ss = if is_empty ss then external_named ss else (do
+    ends ← eat m.Semicolon
+    if ends then pure (Declaration (record { specifiers = ss; declarators = [] })) else external_named ss)
 
   -- 6.7
-  unfoldable pub external : Parser External
-  external = (parts limit).specifiers true >>= external_behind
+  unfoldable pub external : Parser (List External → List External)
+  external = (λ e more. e ∷ more) <$> ((parts limit).specifiers true >>= external_behind)
+
+  unfoldable pub ends_text : Parser (Option (List External))
+  ends_text = (λ ends. if ends then Some [] else None) <$> asks at_end
 
   -- one or more, up to the end of the text
-  unfoldable pub module_of : Parser Module
-  module_of = (λ es. record { externals = es }) <$> one_or_more ((λ e more. e ∷ more) <$> external) ((λ ends. if ends then Some [] else None) <$> asks at_end)
+  unfoldable pub externals : Parser (List External)
+  externals = one_or_more external ends_text
 
 abbrev pub start : List (Option Symbol) → Input
 start symbols = record { names = []; rest = symbols; next = 1 }
 
 -- the tree of the tokens, or the input at the fault
 unfoldable pub read : List (Option Symbol) → Outcome Module
-read symbols = module_of (length symbols + 1) (start symbols)
+read symbols = ((λ es. record { externals = es }) <$> externals (length symbols + 1)) (start symbols)

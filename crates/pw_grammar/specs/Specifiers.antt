@@ -23,6 +23,26 @@ tag_by _ = pure None
 unfoldable pub tag : Parser (Option Word)
 tag = peek >>= tag_by
 
+abbrev pub tagged_record : ℕ → RecordKind → Option Word → Parser (Specifiers → Specifiers)
+tagged_record n kind None = fault
+tagged_record n kind (Some w) = pure (tree.RecordTag n kind w)
+
+abbrev pub tagged_enum : ℕ → Option Word → Parser (Specifiers → Specifiers)
+tagged_enum n None = fault
+tagged_enum n (Some w) = pure (tree.EnumTag n w)
+
+-- a type specifier stands in the list or is this specifier
+abbrev pub typed_by : Bool → (Specifiers → Specifiers) → Bool
+typed_by typed first = typed || has_type (first NoSpecifier)
+
+abbrev pub specifiers_behind : (Bool → Parser Specifiers) → Bool → Option (Specifiers → Specifiers) → Parser Specifiers
+specifiers_behind more typed None = pure NoSpecifier
+specifiers_behind more typed (Some first) = first <$> more (typed_by typed first)
+
+-- behind a declaration of members: the end of the list, or another one
+abbrev pub closes_members : Parser (Option Members)
+closes_members = (λ closed. if closed then Some NoMember else None) <$> eat m.CloseBrace
+
 module _ (parts : Parts) where
   -- ---- 6.5.2.1
 
@@ -59,11 +79,7 @@ module _ (parts : Parts) where
 
   -- up to the `}` and with it
   unfoldable pub members : Parser Members
-  members = one_or_more member ((λ closed. if closed then Some NoMember else None) <$> eat m.CloseBrace)
-
-  unfoldable pub tagged_record : ℕ → RecordKind → Option Word → Parser (Specifiers → Specifiers)
-  tagged_record n kind None = fault
-  tagged_record n kind (Some w) = pure (tree.RecordTag n kind w)
+  members = one_or_more member closes_members
 
   unfoldable pub record_specifier : RecordKind → Parser (Specifiers → Specifiers)
   record_specifier kind = do
@@ -84,16 +100,15 @@ module _ (parts : Parts) where
       declare (w.text, false)
       pure (ValuedEnumerator w e)) else declare (w.text, false) >> pure (PlainEnumerator w)
 
+  unfoldable pub some_enumerators : Parser Enumerators
+  some_enumerators = one_or_more enumerator (unless_comma NoEnumerator)
+
   -- up to the `}` and with it
   unfoldable pub enumerators : Parser Enumerators
   enumerators = do
-    es ← one_or_more enumerator (unless_comma NoEnumerator)
+    es ← some_enumerators
     expect m.CloseBrace
     pure es
-
-  unfoldable pub tagged_enum : ℕ → Option Word → Parser (Specifiers → Specifiers)
-  tagged_enum n None = fault
-  tagged_enum n (Some w) = pure (tree.EnumTag n w)
 
   unfoldable pub enum_specifier : Parser (Specifiers → Specifiers)
   enum_specifier = do
@@ -104,7 +119,7 @@ module _ (parts : Parts) where
 
   -- ---- lists
 
-  abbrev pub specifier_at : Bool → Option SpecifierWord → Parser (Option (Specifiers → Specifiers))
+  unfoldable pub specifier_at : Bool → Option SpecifierWord → Parser (Option (Specifiers → Specifiers))
   specifier_at storage None = pure None
   specifier_at storage (Some (Storage c)) = if storage then (λ n. Some (tree.Storage n c)) <$> take_number else pure None
   specifier_at storage (Some (Qualified q)) = (λ n. Some (tree.Qualified n q)) <$> take_number
@@ -120,14 +135,6 @@ module _ (parts : Parts) where
 
   unfoldable pub specifier : Bool → Bool → Parser (Option (Specifiers → Specifiers))
   specifier storage typed = peek >>= specifier_by storage typed
-
-  -- a type specifier stands in the list or is this specifier
-  abbrev pub typed_by : Bool → (Specifiers → Specifiers) → Bool
-  typed_by typed first = typed || has_type (first NoSpecifier)
-
-  abbrev pub specifiers_behind : (Bool → Parser Specifiers) → Bool → Option (Specifiers → Specifiers) → Parser Specifiers
-  specifiers_behind more typed None = pure NoSpecifier
-  specifiers_behind more typed (Some first) = first <$> more (typed_by typed first)
 
   -- specifiers behind others, among which a type specifier stands where the flag says so
   unfoldable pub specifiers_from : Bool → ℕ → Bool → Parser Specifiers

@@ -9,6 +9,47 @@ use Rattle.pw_tree.specs.declared.symbol.Mark.TheVariants as m
 use Rattle.pw_grammar.specs.Declarations.{parts, declarations}
 use Rattle.pw_grammar.specs.Input.{Input, Parser, ◌>>=◌, ◌>>◌, ◌<$>◌, pure, fault, asks, peek, skip, step, take_number, word, sees, sees_keyword, eat, eat_keyword, expect, expect_keyword, ordinary, is_typedef_name, mark, leave, Turn, Last, More, list_of, while_some}
 
+unfoldable pub default_label : Parser Label
+default_label = do
+  n ← take_number
+  expect m.Colon
+  pure (DefaultLabel n)
+
+unfoldable pub name_label : List ℕ → Parser Label
+name_label text = do
+  w ← word text
+  skip
+  pure (NameLabel w)
+
+unfoldable pub empty_stmt : Parser Stmt
+empty_stmt = Empty <$> take_number
+
+unfoldable pub goto_stmt : Parser Stmt
+goto_stmt = do
+  n ← take_number
+  w ← ordinary
+  expect m.Semicolon
+  pure (Goto n w)
+
+unfoldable pub continue_stmt : Parser Stmt
+continue_stmt = do
+  n ← take_number
+  expect m.Semicolon
+  pure (Continue n)
+
+unfoldable pub break_stmt : Parser Stmt
+break_stmt = do
+  n ← take_number
+  expect m.Semicolon
+  pure (Break n)
+
+abbrev pub before_label : Label → Option (List Label → List Label)
+before_label l = Some (λ more. l ∷ more)
+
+abbrev pub with_labels : List Label → Stmt → Stmt
+with_labels [] s = s
+with_labels (l ∷ ls) s = Labeled (l ∷ ls) s
+
 module _ (limit : ℕ) where
   abbrev pub expression : Parser Expr
   expression = (parts limit).expr comma
@@ -25,33 +66,17 @@ module _ (limit : ℕ) where
     expect m.Colon
     pure (CaseLabel n e)
 
-  unfoldable pub default_label : Parser Label
-  default_label = do
-    n ← take_number
-    expect m.Colon
-    pure (DefaultLabel n)
-
-  unfoldable pub name_label : List ℕ → Parser Label
-  name_label text = do
-    w ← word text
-    skip
-    pure (NameLabel w)
-
-  abbrev pub label_by : Option Symbol → Parser (Option Label)
-  label_by (Some (Reserved k.Case)) = Some <$> case_label
-  label_by (Some (Reserved k.Default)) = Some <$> default_label
-  label_by (Some (Identifier x)) = λ i. (if sees m.Colon (step i) && not (is_typedef_name i x) then Some <$> name_label x else pure None) i
+  abbrev pub label_by : Option Symbol → Parser (Option (List Label → List Label))
+  label_by (Some (Reserved k.Case)) = before_label <$> case_label
+  label_by (Some (Reserved k.Default)) = before_label <$> default_label
+  label_by (Some (Identifier x)) = λ i. (if sees m.Colon (step i) && not (is_typedef_name i x) then before_label <$> name_label x else pure None) i
   label_by _ = pure None
 
-  unfoldable pub label : Parser (Option Label)
+  unfoldable pub label : Parser (Option (List Label → List Label))
   label = peek >>= label_by
 
-  abbrev pub before_labels : Option Label → Option (List Label → List Label)
-  before_labels None = None
-  before_labels (Some l) = Some (λ more. l ∷ more)
-
   unfoldable pub labels : Parser (List Label)
-  labels = while_some [] (before_labels <$> label)
+  labels = while_some [] label
 
   -- ---- 6.6.3, 6.6.6
 
@@ -60,28 +85,6 @@ module _ (limit : ℕ) where
     e ← expression
     expect m.Semicolon
     pure (Expression e)
-
-  unfoldable pub empty_stmt : Parser Stmt
-  empty_stmt = Empty <$> take_number
-
-  unfoldable pub goto_stmt : Parser Stmt
-  goto_stmt = do
-    n ← take_number
-    w ← ordinary
-    expect m.Semicolon
-    pure (Goto n w)
-
-  unfoldable pub continue_stmt : Parser Stmt
-  continue_stmt = do
-    n ← take_number
-    expect m.Semicolon
-    pure (Continue n)
-
-  unfoldable pub break_stmt : Parser Stmt
-  break_stmt = do
-    n ← take_number
-    expect m.Semicolon
-    pure (Break n)
 
   -- an expression or none, and the mark behind it
   unfoldable pub up_to : Mark → Parser (Option Expr)
@@ -126,13 +129,17 @@ module _ (limit : ℕ) where
       has_else ← eat_keyword k.Else
       if has_else then behind_else else pure (Last NoElse)
 
+    -- each `else if`, and the last `else`
+    unfoldable pub alternatives : Parser Alternative
+    alternatives = list_of alternative
+
     -- 6.6.4.1; an `else` belongs to the nearest `if` that can have it
     unfoldable pub if_stmt : Parser Stmt
     if_stmt = do
       n ← take_number
       c ← condition
       s ← stmt
-      a ← list_of alternative
+      a ← alternatives
       pure (If n c s a)
 
     -- 6.6.4.2
@@ -205,6 +212,9 @@ module _ (limit : ℕ) where
     compound_by (Some (Reserved k.For)) = for_stmt
     compound_by _ = expression_stmt
 
+    unfoldable pub compound : Parser Stmt
+    compound = peek >>= compound_by
+
     abbrev pub unlabeled_by : Option Symbol → Parser Stmt
     unlabeled_by (Some (Sign m.OpenBrace)) = Compound <$> block
     unlabeled_by (Some (Sign m.Semicolon)) = empty_stmt
@@ -212,14 +222,10 @@ module _ (limit : ℕ) where
     unlabeled_by (Some (Reserved k.Continue)) = continue_stmt
     unlabeled_by (Some (Reserved k.Break)) = break_stmt
     unlabeled_by (Some (Reserved k.Return)) = return_stmt
-    unlabeled_by s = compound_by s
+    unlabeled_by _ = compound
 
     unfoldable pub unlabeled : Parser Stmt
     unlabeled = peek >>= unlabeled_by
-
-    abbrev pub with_labels : List Label → Stmt → Stmt
-    with_labels [] s = s
-    with_labels (l ∷ ls) s = Labeled (l ∷ ls) s
 
     unfoldable pub stmt_of : Parser Stmt
     stmt_of = do
