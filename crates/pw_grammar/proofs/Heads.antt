@@ -133,19 +133,10 @@ expr-no_cast env (Unary t unary.Increment e) z n h l = refl
 expr-no_cast env (Unary t unary.Decrement e) z n h l = refl
 expr-no_cast env (Unary t unary.Sizeof e) z n h l = refl
 expr-no_cast env (SizeofType t ss d) z n h l = refl
-expr-no_cast env (Cast t ss d e) z n h l = absurd (no l)
-  where
-    no : 3 ≤ 2 → ⊥
-    no l = omega (arith, l)
+expr-no_cast env (Cast t ss d e) z n h l = absurd (omega (arith, l))
 expr-no_cast env (Chain e ops) z n h l = absurd (chain_above e ops h.0 (omega (arith, l)))
-expr-no_cast env (Conditional t c a b) z n h l = absurd (no l)
-  where
-    no : 14 ≤ 2 → ⊥
-    no l = omega (arith, l)
-expr-no_cast env (Assign t op a b) z n h l = absurd (no l)
-  where
-    no : 15 ≤ 2 → ⊥
-    no l = omega (arith, l)
+expr-no_cast env (Conditional t c a b) z n h l = absurd (omega (arith, l))
+expr-no_cast env (Assign t op a b) z n h l = absurd (omega (arith, l))
 
 -- ---- specifiers
 

@@ -89,31 +89,10 @@ module _ (d : ℕ) (parts : Parts) (known : Knows d parts) where
   primary-read env (Strings (w ∷ ws)) z n i h num l follow short at_n = rw (strings-read env (w ∷ ws) z n i num follow at_n) refl
   primary-read env (Paren t e) z n i h num l follow short at_n =
       paren-read env t e z n i h num.0 num.1 (omega (arith, short)) at_n ∙ same (after_expr env e) z refl (omega arith)
-  primary-read env (Postfix e ps) z n i h num l follow short at_n = absurd (no l)
-    where
-      no : 1 ≤ 0 → ⊥
-      no l = omega (arith, l)
-  primary-read env (Unary t op e) z n i h num l follow short at_n = absurd (no l)
-    where
-      no : 2 ≤ 0 → ⊥
-      no l = omega (arith, l)
-  primary-read env (SizeofType t ss x) z n i h num l follow short at_n = absurd (no l)
-    where
-      no : 2 ≤ 0 → ⊥
-      no l = omega (arith, l)
-  primary-read env (Cast t ss x e) z n i h num l follow short at_n = absurd (no l)
-    where
-      no : 3 ≤ 0 → ⊥
-      no l = omega (arith, l)
-  primary-read env (Chain e ops) z n i h num l follow short at_n = absurd (no (level e) (chain_level ops) h.0 l)
-    where
-      no : (a b : ℕ) → a < b → b ≤ 0 → ⊥
-      no a b h l = omega (arith, h, l)
-  primary-read env (Conditional t c a b) z n i h num l follow short at_n = absurd (no l)
-    where
-      no : 14 ≤ 0 → ⊥
-      no l = omega (arith, l)
-  primary-read env (Assign t op a b) z n i h num l follow short at_n = absurd (no l)
-    where
-      no : 15 ≤ 0 → ⊥
-      no l = omega (arith, l)
+  primary-read env (Postfix e ps) z n i h num l follow short at_n = absurd (omega (arith, l))
+  primary-read env (Unary t op e) z n i h num l follow short at_n = absurd (omega (arith, l))
+  primary-read env (SizeofType t ss x) z n i h num l follow short at_n = absurd (omega (arith, l))
+  primary-read env (Cast t ss x e) z n i h num l follow short at_n = absurd (omega (arith, l))
+  primary-read env (Chain e ops) z n i h num l follow short at_n = absurd (omega (arith, h.0, l))
+  primary-read env (Conditional t c a b) z n i h num l follow short at_n = absurd (omega (arith, l))
+  primary-read env (Assign t op a b) z n i h num l follow short at_n = absurd (omega (arith, l))

@@ -6,7 +6,7 @@ use Rattle.pw_tree.specs.Spelling.{identifier, spell_tag, spell_expr, spell_spec
 use Rattle.pw_tree.specs.Symbols as symbol
 use Rattle.pw_tree.specs.Symbols.{Symbol, Reserved, Sign, unary_symbol, binary_mark, assign_mark, access_mark, step_mark}
 use Rattle.pw_tree.specs.Trees.{Word, Specifiers, NoSpecifier, Storage, Qualified, Basic, TypedefName, RecordTag, Record, EnumTag, Enum, Members, Enumerators}
-use Rattle.pw_tree.specs.WellFormed.{HasMember, HasEnumerator, WellFormed, WellFormedSpecifiers, WellFormedMembers, WellFormedEnumerators}
+use Rattle.pw_tree.specs.WellFormed.{NoStorage, HasMember, HasEnumerator, WellFormed, WellFormedSpecifiers, WellFormedMembers, WellFormedEnumerators}
 use Rattle.pw_tree.specs.declared.symbol.Keyword.TheVariants as k
 use Rattle.pw_tree.specs.declared.symbol.Mark.TheVariants as m
 use Rattle.pw_grammar.specs.Input.{Input, ahead, step, same_mark, is_mark, sees, Outcome, pure, past}
@@ -66,6 +66,11 @@ or-false false = refl
 
 not-true : {A : Type 0} → not true ≡ true → A
 not-true h = true_is_not_false h
+
+-- the rest of a list holds no more than the list may
+held : (storage : Bool) (ss rest : Specifiers) → (NoStorage ss → NoStorage rest) → MayHold storage ss → MayHold storage rest
+held true ss rest f h = h
+held false ss rest f h = f h
 
 -- no `{` stands behind a tag with no list
 no_brace : (storage typed : Bool) (env : Env) (o : Option Symbol) → ends_specifiers storage typed env o ≡ true → is_mark m.OpenBrace o ≡ false
@@ -166,74 +171,46 @@ module _ (d : ℕ) (parts : Parts) (known : Knows d parts) where
       ∙ same (after_specifiers env ss) z (ap (λ v. Storage v c ss) (at_n ∙ sym num.0)) (omega arith)
   specifiers-turns (suc count) storage typed env (Qualified t q ss) z n i w may num ends enough short at_n =
       specifiers-step storage typed typed count (at env (spell_specifiers (Qualified t q ss) z) i) (at env (spell_specifiers ss z) (i + 1)) (at (after_specifiers env ss) z (past_specifiers (n + 1) ss)) (Qualified i q) ss (or-false typed)
-      (rw (qualifier-found q) refl) (specifiers-turns count storage typed env ss z (n + 1) (i + 1) w (held storage may) num.1 ends (omega (arith, enough)) (omega (arith, short)) (omega (arith, at_n)))
+      (rw (qualifier-found q) refl) (specifiers-turns count storage typed env ss z (n + 1) (i + 1) w (held storage (Qualified t q ss) ss (λ h. h) may) num.1 ends (omega (arith, enough)) (omega (arith, short)) (omega (arith, at_n)))
       ∙ same (after_specifiers env ss) z (ap (λ v. Qualified v q ss) (at_n ∙ sym num.0)) (omega arith)
-    where
-      held : (storage : Bool) → MayHold storage (Qualified t q ss) → MayHold storage ss
-      held true h = h
-      held false h = h
   specifiers-turns (suc count) storage typed env (Basic t b ss) z n i w may num ends enough short at_n =
       specifiers-step storage typed true count (at env (spell_specifiers (Basic t b ss) z) i) (at env (spell_specifiers ss z) (i + 1)) (at (after_specifiers env ss) z (past_specifiers (n + 1) ss)) (Basic i b) ss (or-true typed)
-      (rw (basic-found b) refl) (specifiers-turns count storage true env ss z (n + 1) (i + 1) w (held storage may) num.1 (rw (or-true typed) at ends) (omega (arith, enough)) (omega (arith, short)) (omega (arith, at_n)))
+      (rw (basic-found b) refl) (specifiers-turns count storage true env ss z (n + 1) (i + 1) w (held storage (Basic t b ss) ss (λ h. h) may) num.1 (rw (or-true typed) at ends) (omega (arith, enough)) (omega (arith, short)) (omega (arith, at_n)))
       ∙ same (after_specifiers env ss) z (ap (λ v. Basic v b ss) (at_n ∙ sym num.0)) (omega arith)
-    where
-      held : (storage : Bool) → MayHold storage (Basic t b ss) → MayHold storage ss
-      held true h = h
-      held false h = h
   specifiers-turns (suc count) storage typed env (TypedefName x ss) z n i w may num ends enough short at_n =
       specifiers-step storage typed true count (at env (spell_specifiers (TypedefName x ss) z) i) (at env (spell_specifiers ss z) (i + 1)) (at (after_specifiers env ss) z (past_specifiers (n + 1) ss)) (TypedefName (record { token = i; text = x.text })) ss (or-true typed)
-      (rw (is_typedef env (spell_specifiers (TypedefName x ss) z) i x.text ∙ w.1) (rw w.0 refl)) (specifiers-turns count storage true env ss z (n + 1) (i + 1) w.2 (held storage may) num.1 (rw (or-true typed) at ends) (omega (arith, enough)) (omega (arith, short)) (omega (arith, at_n)))
+      (rw (is_typedef env (spell_specifiers (TypedefName x ss) z) i x.text ∙ w.1) (rw w.0 refl)) (specifiers-turns count storage true env ss z (n + 1) (i + 1) w.2 (held storage (TypedefName x ss) ss (λ h. h) may) num.1 (rw (or-true typed) at ends) (omega (arith, enough)) (omega (arith, short)) (omega (arith, at_n)))
       ∙ same (after_specifiers env ss) z (ap (λ v. TypedefName (record { token = v; text = x.text }) ss) (at_n ∙ sym num.0)) (omega arith)
-    where
-      held : (storage : Bool) → MayHold storage (TypedefName x ss) → MayHold storage ss
-      held true h = h
-      held false h = h
   specifiers-turns (suc count) storage typed env (RecordTag t r x ss) z n i w may num ends enough short at_n =
       specifiers-step storage typed true count (at env (spell_specifiers (RecordTag t r x ss) z) i) (at env (spell_specifiers ss z) (i + 1 + 1)) (at (after_specifiers env ss) z (past_specifiers (n + 2) ss)) (RecordTag i r (record { token = i + 1; text = x.text })) ss (or-true typed)
       (rw (record-found r) (rw (record_tag-read env r (Reserved (record_word r)) x (spell_specifiers ss z) i (behind-tag storage (typed || true) env ss z ends)) refl))
-      (specifiers-turns count storage true env ss z (n + 2) (i + 1 + 1) w (held storage may) num.2 (rw (or-true typed) at ends) (omega (arith, enough)) (omega (arith, short)) (omega (arith, at_n)))
+      (specifiers-turns count storage true env ss z (n + 2) (i + 1 + 1) w (held storage (RecordTag t r x ss) ss (λ h. h) may) num.2 (rw (or-true typed) at ends) (omega (arith, enough)) (omega (arith, short)) (omega (arith, at_n)))
       ∙ same (after_specifiers env ss) z (ap (λ v. RecordTag v r (record { token = i + 1; text = x.text }) ss) (at_n ∙ sym num.0) ∙ ap (λ v. RecordTag t r (record { token = v; text = x.text }) ss) (omega (arith, at_n, num.1))) (omega arith)
-    where
-      held : (storage : Bool) → MayHold storage (RecordTag t r x ss) → MayHold storage ss
-      held true h = h
-      held false h = h
   specifiers-turns (suc count) storage typed env (EnumTag t x ss) z n i w may num ends enough short at_n =
       specifiers-step storage typed true count (at env (spell_specifiers (EnumTag t x ss) z) i) (at env (spell_specifiers ss z) (i + 1 + 1)) (at (after_specifiers env ss) z (past_specifiers (n + 2) ss)) (EnumTag i (record { token = i + 1; text = x.text })) ss (or-true typed)
       (rw (enum_tag-read env (Reserved k.Enum) x (spell_specifiers ss z) i (behind-tag storage (typed || true) env ss z ends)) refl)
-      (specifiers-turns count storage true env ss z (n + 2) (i + 1 + 1) w (held storage may) num.2 (rw (or-true typed) at ends) (omega (arith, enough)) (omega (arith, short)) (omega (arith, at_n)))
+      (specifiers-turns count storage true env ss z (n + 2) (i + 1 + 1) w (held storage (EnumTag t x ss) ss (λ h. h) may) num.2 (rw (or-true typed) at ends) (omega (arith, enough)) (omega (arith, short)) (omega (arith, at_n)))
       ∙ same (after_specifiers env ss) z (ap (λ v. EnumTag v (record { token = i + 1; text = x.text }) ss) (at_n ∙ sym num.0) ∙ ap (λ v. EnumTag t (record { token = v; text = x.text }) ss) (omega (arith, at_n, num.1))) (omega arith)
-    where
-      held : (storage : Bool) → MayHold storage (EnumTag t x ss) → MayHold storage ss
-      held true h = h
-      held false h = h
   specifiers-turns (suc count) storage typed env (Record t r x ms ss) z n i w may num ends enough short at_n =
       let inner = after_members env ms in
       let text = spell_members ms (Sign m.CloseBrace ∷ spell_specifiers ss z) in
       let behind = past_members (past_tag (n + 1) x + 1) ms + 1 in
       specifiers-step storage typed true count (at env (spell_specifiers (Record t r x ms ss) z) i) (at inner (spell_specifiers ss z) behind) (at (after_specifiers inner ss) z (past_specifiers behind ss)) (Record i r x ms) ss (or-true typed)
       (rw (record-found r) (rw (record-read env r (Reserved (record_word r)) x ms (spell_specifiers ss z) n i w.0 w.1 num.1 num.2 (omega (arith, short, length-tag x (Sign m.OpenBrace ∷ text))) at_n) refl))
-      (specifiers-turns count storage true inner ss z behind behind w.2 (held storage may) num.3 (rw (or-true typed) at ends)
+      (specifiers-turns count storage true inner ss z behind behind w.2 (held storage (Record t r x ms ss) ss (λ h. h) may) num.3 (rw (or-true typed) at ends)
       (omega (arith, enough, length-tag x (Sign m.OpenBrace ∷ text), length-members ms (Sign m.CloseBrace ∷ spell_specifiers ss z))) (omega (arith, short, length-tag x (Sign m.OpenBrace ∷ text), length-members ms (Sign m.CloseBrace ∷ spell_specifiers ss z))) refl)
       ∙ same (after_specifiers inner ss) z (ap (λ v. Record v r x ms ss) (at_n ∙ sym num.0))
       (omega (arith, length-tag x (Sign m.OpenBrace ∷ spell_members ms (Sign m.CloseBrace ∷ spell_specifiers ss [])), length-members ms (Sign m.CloseBrace ∷ spell_specifiers ss [])))
-    where
-      held : (storage : Bool) → MayHold storage (Record t r x ms ss) → MayHold storage ss
-      held true h = h
-      held false h = h
   specifiers-turns (suc count) storage typed env (Enum t x es ss) z n i w may num ends enough short at_n =
       let inner = after_enumerators env es in
       let text = spell_enumerators true es (Sign m.CloseBrace ∷ spell_specifiers ss z) in
       let behind = past_enumerators true (past_tag (n + 1) x + 1) es + 1 in
       specifiers-step storage typed true count (at env (spell_specifiers (Enum t x es ss) z) i) (at inner (spell_specifiers ss z) behind) (at (after_specifiers inner ss) z (past_specifiers behind ss)) (Enum i x es) ss (or-true typed)
       (rw (enum-read env (Reserved k.Enum) x es (spell_specifiers ss z) n i w.0 w.1 num.1 num.2 (omega (arith, short, length-tag x (Sign m.OpenBrace ∷ text))) at_n) refl)
-      (specifiers-turns count storage true inner ss z behind behind w.2 (held storage may) num.3 (rw (or-true typed) at ends)
+      (specifiers-turns count storage true inner ss z behind behind w.2 (held storage (Enum t x es ss) ss (λ h. h) may) num.3 (rw (or-true typed) at ends)
       (omega (arith, enough, length-tag x (Sign m.OpenBrace ∷ text), length-enumerators true es (Sign m.CloseBrace ∷ spell_specifiers ss z))) (omega (arith, short, length-tag x (Sign m.OpenBrace ∷ text), length-enumerators true es (Sign m.CloseBrace ∷ spell_specifiers ss z))) refl)
       ∙ same (after_specifiers inner ss) z (ap (λ v. Enum v x es ss) (at_n ∙ sym num.0))
       (omega (arith, length-tag x (Sign m.OpenBrace ∷ spell_enumerators true es (Sign m.CloseBrace ∷ spell_specifiers ss [])), length-enumerators true es (Sign m.CloseBrace ∷ spell_specifiers ss [])))
-    where
-      held : (storage : Bool) → MayHold storage (Enum t x es ss) → MayHold storage ss
-      held true h = h
-      held false h = h
 
   pub specifiers_of-read : ReadsSpecifiers (suc d) (specifiers_of parts)
   unfolding specifiers_of
