@@ -1,6 +1,6 @@
 -- Primary expressions and type names are read (6.3.1, 6.5.5).
 use Rattle.std.proofs.Common.{◌≡◌, ℕ, zero, suc, ◌+◌, ◌<◌, ◌≤◌, false, List, [], ◌∷◌, length, Ok, arith, refl, sym, ap, ◌∙◌}
-use Rattle.pw_tree.specs.Levels.{level, chain_level}
+use Rattle.pw_tree.specs.Levels.{level}
 use Rattle.pw_tree.specs.Numbering.{past_expr, past_specifiers, past_declarator, NumberedStrings, Numbered, NumberedSpecifiers, NumberedDeclarator}
 use Rattle.pw_tree.specs.Scopes.{has_type, after_expr, after_specifiers, after_declarator, Env}
 use Rattle.pw_tree.specs.Spelling.{identifier, spell_strings, spell_expr, spell_specifiers, spell_declarator}
