@@ -1,5 +1,5 @@
 -- What writing a tree's tokens does to the tokens that stand already.
-use Rattle.std.specs.Prelude.{◌≡◌, ℕ, List, ◌++◌, map}
+use Rattle.std.specs.Prelude.{◌≡◌, List, ◌++◌, map}
 use Rattle.pw_tree.specs.Symbols as symbol
 use Rattle.pw_tree.specs.Symbols.{Symbol, spelled}
 use Rattle.pw_tree.specs.declared.spelled.Spelled.{Spelled}

@@ -1,6 +1,5 @@
-use Rattle.std.proofs.Common.{◌≡◌, ◌<◌, ◌&&◌, Bool, true, false, List, [], drop, length}
+use Rattle.std.proofs.Common.{drop}
 use Rattle.pw_tree.specs.Spelling as spell
-use Rattle.pw_tree.specs.Views as view
 use Rattle.pw_tree.specs.Writing.{Goes}
 use Rattle.pw_tree.proofs.spelled.Writer.qualifiers.Given as goal
 

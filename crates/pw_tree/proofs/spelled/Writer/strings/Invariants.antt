@@ -1,4 +1,4 @@
-use Rattle.std.proofs.Common.{◌≡◌, ◌<◌, ◌&&◌, Bool, true, false, List, [], drop, length}
+use Rattle.std.proofs.Common.{drop}
 use Rattle.pw_tree.specs.Spelling as spell
 use Rattle.pw_tree.specs.Views as view
 use Rattle.pw_tree.specs.Writing.{Goes}
