@@ -1,10 +1,10 @@
 -- Tokens have at most one tree, which is what is read from them.
-use Rattle.std.proofs.Common.{◌≡◌, List, map, Some, Ok, Result, sym, ap, ◌∙◌}
+use Rattle.std.proofs.Common.{◌≡◌, List, map, Ok, sym, ap, ◌∙◌}
 use Rattle.pw_tree.specs.Grammar.{IsTreeOf}
-use Rattle.pw_tree.specs.Spelling.{spelling, symbols}
+use Rattle.pw_tree.specs.Spelling.{symbols}
 use Rattle.pw_tree.specs.Symbols.{Spelled, symbol_of}
 use Rattle.pw_tree.specs.Trees.{Module}
-use Rattle.pw_grammar.specs.Input.{Input, Outcome}
+use Rattle.pw_grammar.specs.Input.{Outcome}
 use Rattle.pw_grammar.specs.Modules.{read}
 use Rattle.pw_grammar.proofs.ModuleRead.{behind_all, module-read}
 use Rattle.pw_grammar.proofs.SymbolsRead.{symbols_of_spelled}
