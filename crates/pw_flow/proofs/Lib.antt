@@ -1,0 +1,4 @@
+pub mod Lists
+pub mod Rooms
+mod Distinct
+mod ViewNames

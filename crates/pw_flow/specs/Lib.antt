@@ -1,0 +1,2 @@
+pub mod FlowGraph
+pub mod ValidFlow

@@ -1,0 +1,135 @@
+//! The parts of a flow graph.
+
+use pw_value::{Kind, Name, Shape};
+
+/// What a global object holds at an offset when the program starts: bytes, or the address of a name
+/// plus a number.
+#[derive(Debug, Drop, PartialEq, Eq)]
+pub enum Item {
+    Bytes(Vec<u8>),
+    Address(Name, u32),
+}
+
+/// An object with static lifetime. Its items stand with their offsets in rising order, and what no item
+/// fills is 0. It has a kind where it is a scalar.
+#[derive(Debug, Drop, PartialEq, Eq)]
+pub struct FlowGlobal {
+    pub name: Name,
+    /// In bytes.
+    pub size: u32,
+    pub shape: Shape,
+    pub kind: Option<Kind>,
+    pub volatile: bool,
+    pub items: Vec<(u32, Item)>,
+}
+
+/// An operation on one number: its negative, or its bits turned.
+#[derive(Clone, Copy, PartialEq, Eq, PartialOrd, Ord, Debug)]
+pub enum UnKind {
+    Neg,
+    Not,
+}
+
+/// An operation on two numbers of 32 bits. A name that ends in S takes them as signed, one that ends in
+/// U as unsigned; the last six give 1 or 0.
+#[derive(Clone, Copy, PartialEq, Eq, PartialOrd, Ord, Debug)]
+pub enum BinKind {
+    Add,
+    Sub,
+    And,
+    Or,
+    Xor,
+    Mul,
+    DivS,
+    DivU,
+    RemS,
+    RemU,
+    Shl,
+    ShrS,
+    ShrU,
+    Eq,
+    Ne,
+    LtS,
+    LeS,
+    LtU,
+    LeU,
+}
+
+/// The low bits of a number, extended by their sign or by zeros.
+#[derive(Clone, Copy, PartialEq, Eq, PartialOrd, Ord, Debug)]
+pub enum ExtKind {
+    S8,
+    U8,
+    S16,
+    U16,
+}
+
+/// An operation. Temporaries and slots stand by their index in the function, and where an operation has
+/// a result, its temporary is the first of them.
+#[derive(Debug, Drop, PartialEq, Eq)]
+pub enum Op {
+    /// t becomes the number.
+    Const(u32, u32),
+    /// t becomes what a holds.
+    Copy(u32, u32),
+    Un(UnKind, u32, u32),
+    Bin(BinKind, u32, u32, u32),
+    Ext(ExtKind, u32, u32),
+    /// The address of a global object plus a number of bytes.
+    AddrGlobal(u32, Name, u32),
+    AddrSlot(u32, u32),
+    AddrFn(u32, Name),
+    /// A scalar global object is read.
+    LoadG(u32, Name, Kind),
+    /// A scalar global object is written.
+    StoreG(Name, u32, Kind),
+    /// The scalar at the address that the last temporary holds is read.
+    Load(Kind, u32, u32),
+    /// At the address that the first temporary holds the second is written.
+    Store(Kind, u32, u32),
+    /// So many bytes are copied to the first address from the second, in units of 1, 2 or 4.
+    Move(u32, u32, u32, u32),
+    /// A function is called by its name, with arguments.
+    Call(Option<u32>, Name, Vec<u32>),
+    /// The function that a temporary holds is called, as one of this shape.
+    CallInd(Option<u32>, u32, Shape, Vec<u32>),
+}
+
+/// Where a block goes on.
+#[derive(Clone, Copy, PartialEq, Eq, Debug)]
+pub enum End {
+    Jump(u32),
+    /// To the first block where the temporary is not 0, and else to the second.
+    Branch(u32, u32, u32),
+    Return(Option<u32>),
+}
+
+/// Operations and the way on. The depth is that of the loops around it.
+#[derive(Debug, Drop, PartialEq, Eq)]
+pub struct Block {
+    pub depth: u32,
+    pub ops: Vec<Op>,
+    pub end: End,
+}
+
+/// A function. Its parameters are the temporaries from 0 on, a slot is an object that lives as long as
+/// its call, of so many bytes, and it starts at block 0.
+#[derive(Debug, Drop, PartialEq, Eq)]
+pub struct FlowFn {
+    pub name: Name,
+    pub shape: Shape,
+    pub params: u32,
+    pub temps: u32,
+    pub slots: Vec<u32>,
+    pub blocks: Vec<Block>,
+}
+
+/// A module: the objects and functions that it defines, and each external name that it declares or
+/// defines, with its shape.
+#[derive(Debug, Drop, PartialEq, Eq)]
+pub struct FlowModule {
+    pub name: Name,
+    pub globals: Vec<FlowGlobal>,
+    pub functions: Vec<FlowFn>,
+    pub declared: Vec<(Name, Shape)>,
+}

@@ -1,0 +1,14 @@
+//! Flow graphs: what a module of a C program becomes before it gets registers. A function is a list of
+//! blocks, and a block a list of operations on temporaries, slots and global objects.
+#![tactic(auto)]
+
+mod flow;
+mod names;
+mod valid;
+
+pub use flow::{BinKind, Block, End, ExtKind, FlowFn, FlowGlobal, FlowModule, Item, Op, UnKind};
+pub use names::is_ordinary;
+pub use valid::{is_valid, kind_size};
+
+#[cfg(test)]
+mod tests;

@@ -1,0 +1,10 @@
+pub mod FieldChains
+pub mod ChoiceLaws
+pub mod PartLaws
+pub mod OpLaws
+pub mod GraphLaws
+pub mod Turns
+pub mod ContentLaws
+pub mod MarkLaws
+pub mod ReadingLemmas
+pub mod WritingLemmas

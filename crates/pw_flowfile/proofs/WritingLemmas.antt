@@ -1,0 +1,224 @@
+-- What writing asks of a module's parts, and that a file's room bounds its counts and texts.
+use Rattle.std.proofs.Common.{◌≡◌, ℕ, zero, suc, ◌+◌, ◌^◌, ◌<◌, ◌≤◌, List, [], ◌∷◌, ◌++◌, length, map, get_or, Result, Ok, Err, refl, sym, ap, subst, ◌∙◌, append_assoc, arith}
+use Rattle.std.specs.Prelude.{Contains, IfOk}
+use Rattle.std.specs.Global.{Vec}
+use Rattle.std.specs.List.{flat_map, AllByRecursion}
+use Rattle.std.proofs.lemmas.List.{length-append, append-nil}
+use Rattle.std.proofs.lemmas.List.Concat.{flat_map-cons}
+use Rattle.pw_value.specs.Fields.{u8, u32, text, flag, FitsText}
+use Rattle.pw_value.specs.FieldFrame.{file, FitsFile}
+use Rattle.pw_value.specs.FieldNames.{name_table, name_index, IsTableOf}
+use Rattle.pw_value.proofs.FileLaws.{length-u32}
+use Rattle.pw_value.proofs.NameLaws.{AllUsed, used_by_table}
+use Rattle.pw_flow.specs.FlowGraph.{ItemValue, GlobalValue, OpValue, Const, Copy, Un, Bin, Ext, AddrGlobal, AddrSlot, AddrFn, LoadG, StoreG, Load, Store, Move, Call, CallInd, BlockValue, FunctionValue, ModuleValue}
+use Rattle.pw_flow.specs.ValidFlow.{IsValid}
+use Rattle.pw_flow.proofs.Lists.{all_left}
+use Rattle.pw_flowfile.specs.FlowFile.{Contents, names_of, optional_kind_number, item, placed_item, global_body, global, result, arguments, op, ending, block, function, declared, spelling, FitsOp, FitsBlock, FitsFunction, FitsGlobal, FitsModule, IsContents, IsFlowFile, kind_of_file}
+
+-- a fact of each name in the lists that elements make, at one element
+flat_by : {X Y : Type 0} (view : X → Y) (names : Y → List (List ℕ)) (P : List ℕ → Type 0) (xs : List X) → AllByRecursion P (flat_map names (map view xs)) → (i : ℕ) (x : X) → i < length xs → x ≡ get_or xs i x → AllByRecursion P (names (view x))
+flat_by view names P [] all i x lt is = absurd (omega arith)
+flat_by view names P (y ∷ ys) all zero x lt is =
+    let both = subst (λ (ns : List (List ℕ)). AllByRecursion P ns) (flat_map-cons names (view y) (map view ys)) all in
+    subst (λ z. AllByRecursion P (names (view z))) (sym is) (all_left P (names (view y)) (flat_map names (map view ys)) both)
+flat_by view names P (y ∷ ys) all (suc i) x lt is =
+    let both = subst (λ (ns : List (List ℕ)). AllByRecursion P ns) (flat_map-cons names (view y) (map view ys)) all in
+    flat_by view names P ys (behind (names (view y)) (flat_map names (map view ys)) both) i x (omega arith) is
+  where
+    behind : (xs ys : List (List ℕ)) → AllByRecursion P (xs ++ ys) → AllByRecursion P ys
+    behind [] ys all = all
+    behind (x ∷ xs) ys all = behind xs ys all.1
+
+pub flat_at : {X Y : Type 0} (view : X → Y) (names : Y → List (List ℕ)) (P : List ℕ → Type 0) (xs : List X) → AllByRecursion P (flat_map names (map view xs)) → (i : ℕ) (x : X) → i < length xs → x ≡ get_or xs i x → AllByRecursion P (names (view x))
+flat_at view names P xs all i x lt is = flat_by view names P xs all i x lt is
+
+pub map_at : {X : Type 0} (name : X → List ℕ) (P : List ℕ → Type 0) (xs : List X) → AllByRecursion P (map name xs) → (i : ℕ) (x : X) → i < length xs → x ≡ get_or xs i x → P (name x)
+map_at name P [] all i x lt is = absurd (omega arith)
+map_at name P (y ∷ ys) all zero x lt is = subst (λ z. P (name z)) (sym is) all.0
+map_at name P (y ∷ ys) all (suc i) x lt is = map_at name P ys all.1 i x (omega arith) is
+
+-- ---- what has room fits
+
+all_fit : {X : Type 0} (spell : X → List ℕ) (Fits : X → Type 0) → ((x : X) → length (spell x) < 2 ^ 32 → Fits x) → (xs : List X) → length (flat_map spell xs) < 2 ^ 32 → AllByRecursion Fits xs
+all_fit spell Fits f [] room = tt
+all_fit spell Fits f (x ∷ xs) room =
+    let parted = ap length (flat_map-cons spell x xs) ∙ length-append (spell x) (flat_map spell xs) in
+    (f x (omega (arith, parted)), all_fit spell Fits f xs (omega (arith, parted)))
+
+counted : {X : Type 0} (spell : X → List ℕ) → ((x : X) → 1 ≤ length (spell x)) → (xs : List X) → length xs ≤ length (flat_map spell xs)
+counted spell f [] = omega arith
+counted spell f (x ∷ xs) = omega (arith, counted spell f xs, f x, ap length (flat_map-cons spell x xs), length-append (spell x) (flat_map spell xs))
+
+behind_word : (n : ℕ) (rest : List ℕ) → length (u32 n ++ rest) ≡ 4 + length rest
+behind_word n rest = length-append (u32 n) rest ∙ omega (arith, length-u32 n)
+
+length-text : (bytes : List ℕ) → length (text bytes) ≡ 4 + length bytes
+unfolding text
+length-text bytes = behind_word (length bytes) bytes
+
+op_long : (names : List (List ℕ)) (o : OpValue) → 1 ≤ length (op names o)
+op_long names (Const t n) = omega arith
+op_long names (Copy t a) = omega arith
+op_long names (Un k t a) = omega arith
+op_long names (Bin k t a b) = omega arith
+op_long names (Ext k t a) = omega arith
+op_long names (AddrGlobal t g n) = omega arith
+op_long names (AddrSlot t s) = omega arith
+op_long names (AddrFn t f) = omega arith
+op_long names (LoadG t g k) = omega arith
+op_long names (StoreG g a k) = omega arith
+op_long names (Load k t a) = omega arith
+op_long names (Store k a b) = omega arith
+op_long names (Move a b size unit) = omega arith
+op_long names (Call t f args) = omega arith
+op_long names (CallInd t a shape args) = omega arith
+
+op_fits : (names : List (List ℕ)) (o : OpValue) → length (op names o) < 2 ^ 32 → FitsOp o
+op_fits names (Const t n) room = tt
+op_fits names (Copy t a) room = tt
+op_fits names (Un k t a) room = tt
+op_fits names (Bin k t a b) room = tt
+op_fits names (Ext k t a) room = tt
+op_fits names (AddrGlobal t g n) room = tt
+op_fits names (AddrSlot t s) room = tt
+op_fits names (AddrFn t f) room = tt
+op_fits names (LoadG t g k) room = tt
+op_fits names (StoreG g a k) room = tt
+op_fits names (Load k t a) room = tt
+op_fits names (Store k a b) room = tt
+op_fits names (Move a b size unit) room = tt
+op_fits names (Call t f args) room = tt
+op_fits names (CallInd t a shape args) room =
+    omega (arith, room, length-append (result t) (u32 a ++ (text shape ++ (arguments args ++ []))), behind_word a (text shape ++ (arguments args ++ [])), length-append (text shape) (arguments args ++ []), length-text shape)
+
+block_long : (names : List (List ℕ)) (b : BlockValue) → 1 ≤ length (block names b)
+block_long names b = omega (arith, behind_word b.depth (u32 (length b.ops) ++ (flat_map (op names) b.ops ++ (ending b.end ++ []))))
+
+block_fits : (names : List (List ℕ)) (b : BlockValue) → length (block names b) < 2 ^ 32 → FitsBlock b
+block_fits names b room =
+    let one = behind_word b.depth (u32 (length b.ops) ++ (flat_map (op names) b.ops ++ (ending b.end ++ []))) in
+    let two = behind_word (length b.ops) (flat_map (op names) b.ops ++ (ending b.end ++ [])) in
+    let three = length-append (flat_map (op names) b.ops) (ending b.end ++ []) in
+    let within : length (flat_map (op names) b.ops) < 2 ^ 32 = omega (arith, room, one, two, three) in
+    record { count = omega (arith, within, counted (op names) (op_long names) b.ops); ops = all_fit (op names) FitsOp (op_fits names) b.ops within }
+
+named_long : (names : List (List ℕ)) (name rest : List ℕ) → length (name_index names name ++ rest) ≡ 4 + length rest
+named_long names name rest = behind_word _ rest
+
+function_fits : (names : List (List ℕ)) (f : FunctionValue) → length (function names f) < 2 ^ 32 → FitsFunction f
+function_fits names f room =
+    let blocks_text = flat_map (block names) f.blocks ++ [] in
+    let r5 = u32 (length f.blocks) ++ blocks_text in
+    let r4 = flat_map u32 f.slots ++ r5 in
+    let r3 = u32 (length f.slots) ++ r4 in
+    let r2 = u32 f.temps ++ r3 in
+    let r1 = u32 f.params ++ r2 in
+    let e0 = named_long names f.name (text f.shape ++ r1) in
+    let e1 = length-append (text f.shape) r1 in
+    let e2 = behind_word f.params r2 in
+    let e3 = behind_word f.temps r3 in
+    let e4 = behind_word (length f.slots) r4 in
+    let e5 = length-append (flat_map u32 f.slots) r5 in
+    let e6 = behind_word (length f.blocks) blocks_text in
+    let e7 = length-append (flat_map (block names) f.blocks) [] in
+    let within : length (flat_map (block names) f.blocks) < 2 ^ 32 = omega (arith, room, e0, e1, e2, e3, e4, e5, e6, e7) in
+    record {
+      shape = omega (arith, room, e0, e1, length-text f.shape);
+      count = omega (arith, within, counted (block names) (block_long names) f.blocks);
+      blocks = all_fit (block names) FitsBlock (block_fits names) f.blocks within;
+    }
+
+placed_long : (names : List (List ℕ)) (i : ℕ × ItemValue) → 1 ≤ length (placed_item names i)
+placed_long names i = omega (arith, behind_word i.0 (item names i.1 ++ []))
+
+global_fits : (names : List (List ℕ)) (g : GlobalValue) → length (global names g) < 2 ^ 32 → FitsGlobal g
+global_fits names g room =
+    let items_text = flat_map (placed_item names) g.items ++ [] in
+    let r4 = u32 (length g.items) ++ items_text in
+    let r3 = flag g.volatile ++ r4 in
+    let r2 = u8 (optional_kind_number g.kind) ++ r3 in
+    let r1 = text g.shape ++ r2 in
+    let e0 = named_long names g.name (global_body names g ++ []) in
+    let e1 = length-append (global_body names g) [] in
+    let e2 = behind_word g.size r1 in
+    let e3 = length-append (text g.shape) r2 in
+    let e4 = length-append (u8 (optional_kind_number g.kind)) r3 in
+    let e5 = length-append (flag g.volatile) r4 in
+    let e6 = behind_word (length g.items) items_text in
+    let e7 = length-append (flat_map (placed_item names) g.items) [] in
+    let within : length (flat_map (placed_item names) g.items) < 2 ^ 32 = omega (arith, room, e0, e1, e2, e3, e4, e5, e6, e7) in
+    record {
+      shape = omega (arith, room, e0, e1, e2, e3, length-text g.shape);
+      count = omega (arith, within, counted (placed_item names) (placed_long names) g.items);
+    }
+
+declared_fits : (names : List (List ℕ)) (d : List ℕ × List ℕ) → length (declared names d) < 2 ^ 32 → FitsText d.1
+declared_fits names d room = omega (arith, room, named_long names d.0 (text d.1 ++ []), length-append (text d.1) [], length-text d.1)
+
+global_long : (names : List (List ℕ)) (g : GlobalValue) → 1 ≤ length (global names g)
+global_long names g = omega (arith, named_long names g.name (global_body names g ++ []))
+
+declared_long : (names : List (List ℕ)) (d : List ℕ × List ℕ) → 1 ≤ length (declared names d)
+declared_long names d = omega (arith, named_long names d.0 (text d.1 ++ []))
+
+function_long : (names : List (List ℕ)) (f : FunctionValue) → 1 ≤ length (function names f)
+function_long names f = omega (arith, named_long names f.name (text f.shape ++ (u32 f.params ++ (u32 f.temps ++ (u32 (length f.slots) ++ (flat_map u32 f.slots ++ (u32 (length f.blocks) ++ (flat_map (block names) f.blocks ++ []))))))))
+
+module_fits : (names : List (List ℕ)) (m : ModuleValue) → length (spelling (record { names = names; flow = m })) < 2 ^ 32 → FitsModule m
+module_fits names m room =
+    let r6 = flat_map (function names) m.functions ++ [] in
+    let r5 = u32 (length m.functions) ++ r6 in
+    let r4 = flat_map (declared names) m.declared ++ r5 in
+    let r3 = u32 (length m.declared) ++ r4 in
+    let r2 = flat_map (global names) m.globals ++ r3 in
+    let r1 = u32 (length m.globals) ++ r2 in
+    let e0 = length-append (name_table names) (name_index names m.name ++ r1) in
+    let e1 = named_long names m.name r1 in
+    let e2 = behind_word (length m.globals) r2 in
+    let e3 = length-append (flat_map (global names) m.globals) r3 in
+    let e4 = behind_word (length m.declared) r4 in
+    let e5 = length-append (flat_map (declared names) m.declared) r5 in
+    let e6 = behind_word (length m.functions) r6 in
+    let e7 = length-append (flat_map (function names) m.functions) [] in
+    let gs : length (flat_map (global names) m.globals) < 2 ^ 32 = omega (arith, room, e0, e1, e2, e3) in
+    let ds : length (flat_map (declared names) m.declared) < 2 ^ 32 = omega (arith, room, e0, e1, e2, e3, e4, e5) in
+    let fs : length (flat_map (function names) m.functions) < 2 ^ 32 = omega (arith, room, e0, e1, e2, e3, e4, e5, e6, e7) in
+    record {
+      global_count = omega (arith, gs, counted (global names) (global_long names) m.globals);
+      globals = all_fit (global names) FitsGlobal (global_fits names) m.globals gs;
+      declared_count = omega (arith, ds, counted (declared names) (declared_long names) m.declared);
+      declared = all_fit (declared names) (λ d. FitsText d.1) (declared_fits names) m.declared ds;
+      function_count = omega (arith, fs, counted (function names) (function_long names) m.functions);
+      functions = all_fit (function names) FitsFunction (function_fits names) m.functions fs;
+    }
+
+pub contents_of : (names used : List (List ℕ)) (m : ModuleValue) → IsValid m → IsTableOf names used → used ≡ names_of m → length names < 2 ^ 32 → length (spelling (record { names = names; flow = m })) < 2 ^ 32 → IsContents (record { names = names; flow = m })
+contents_of names used m valid table same count room = record { valid = valid; fits = module_fits names m room; name_count = count; names = subst (IsTableOf names) same table }
+
+back_to : (names : List (List ℕ)) (used : List (List ℕ)) → AllUsed used names → AllByRecursion (Contains names) used
+back_to names [] all = tt
+back_to names (name ∷ used) all = (all.0, back_to names used all.1)
+
+pub all_stand : (names used : List (List ℕ)) (m : ModuleValue) → IsTableOf names used → used ≡ names_of m → AllByRecursion (Contains names) (names_of m)
+all_stand names used m table same = back_to names (names_of m) (used_by_table names (names_of m) (subst (IsTableOf names) same table)).1
+
+pub written : {E : Type 0} (c : Contents) (payload : List ℕ) (r : Result (Vec ℕ) E) → IsContents c → FitsFile (spelling c) → payload ≡ spelling c → IfOk r (λ v. v.items ≡ file kind_of_file 1 payload)
+    → IfOk r (λ v. (names : List (List ℕ)) × IsFlowFile v.items (record { names = names; flow = c.flow }))
+written c payload (Ok v) is room same made =
+    (c.names, record { version = 1; not_below = omega arith; not_above = omega arith; fits = is; room = room; spelled = made ∙ ap (file kind_of_file 1) same })
+written c payload (Err e) is room same made = tt
+
+-- ---- pieces put one behind the other
+
+pub put : (o0 o1 o2 a t : List ℕ) → o1 ≡ o0 ++ a → o2 ≡ o1 ++ t → o2 ≡ o0 ++ (a ++ t)
+put o0 o1 o2 a t e d = d ∙ ap (λ (w : List ℕ). w ++ t) e ∙ append_assoc o0 a t
+
+pub last_put : (o1 o2 a : List ℕ) → o2 ≡ o1 ++ a → o2 ≡ o1 ++ (a ++ [])
+last_put o1 o2 a d = d ∙ ap (λ (w : List ℕ). o1 ++ w) (sym (append-nil a))
+
+pub count_of : {X Y : Type 0} (f : X → Y) (xs ys : List X) → xs ≡ ys → u32 (length xs) ≡ u32 (length (map f ys))
+count_of f xs ys same = ap (λ n. u32 n) (ap length same ∙ sym (mapped_length f ys))
+  where
+    mapped_length : {X Y : Type 0} (f : X → Y) (ys : List X) → length (map f ys) ≡ length ys
+    mapped_length f [] = refl
+    mapped_length f (y ∷ ys) = ap suc (mapped_length f ys)

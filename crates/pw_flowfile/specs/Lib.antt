@@ -1,0 +1,3 @@
+pub mod FlowFile
+pub mod Reading
+pub mod Marks

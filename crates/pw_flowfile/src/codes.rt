@@ -1,0 +1,96 @@
+//! The bytes of a flow file that stand for a choice.
+
+use pw_flow::{BinKind, ExtKind, UnKind};
+use pw_value::Kind;
+
+/// Which operation follows, in the order of their bytes.
+#[derive(Clone, Copy)]
+pub enum OpCode {
+    Const,
+    Copy,
+    Un,
+    Bin,
+    Ext,
+    AddrGlobal,
+    AddrSlot,
+    AddrFn,
+    LoadG,
+    StoreG,
+    Load,
+    Store,
+    Move,
+    Call,
+    CallInd,
+}
+
+/// Which end follows.
+#[derive(Clone, Copy)]
+pub enum EndCode {
+    Jump,
+    Branch,
+    Return,
+}
+
+/// Which item follows.
+#[derive(Clone, Copy)]
+pub enum ItemForm {
+    Bytes,
+    Address,
+}
+
+pub const OP_CODES: [OpCode; 15] = [
+    OpCode::Const,
+    OpCode::Copy,
+    OpCode::Un,
+    OpCode::Bin,
+    OpCode::Ext,
+    OpCode::AddrGlobal,
+    OpCode::AddrSlot,
+    OpCode::AddrFn,
+    OpCode::LoadG,
+    OpCode::StoreG,
+    OpCode::Load,
+    OpCode::Store,
+    OpCode::Move,
+    OpCode::Call,
+    OpCode::CallInd,
+];
+
+pub const END_CODES: [EndCode; 3] = [EndCode::Jump, EndCode::Branch, EndCode::Return];
+
+pub const ITEM_FORMS: [ItemForm; 2] = [ItemForm::Bytes, ItemForm::Address];
+
+pub const KINDS: [Option<Kind>; 6] = [
+    None,
+    Some(Kind::S8),
+    Some(Kind::U8),
+    Some(Kind::S16),
+    Some(Kind::U16),
+    Some(Kind::W32),
+];
+
+pub const UN_KINDS: [UnKind; 2] = [UnKind::Neg, UnKind::Not];
+
+pub const BIN_KINDS: [BinKind; 19] = [
+    BinKind::Add,
+    BinKind::Sub,
+    BinKind::And,
+    BinKind::Or,
+    BinKind::Xor,
+    BinKind::Mul,
+    BinKind::DivS,
+    BinKind::DivU,
+    BinKind::RemS,
+    BinKind::RemU,
+    BinKind::Shl,
+    BinKind::ShrS,
+    BinKind::ShrU,
+    BinKind::Eq,
+    BinKind::Ne,
+    BinKind::LtS,
+    BinKind::LeS,
+    BinKind::LtU,
+    BinKind::LeU,
+];
+
+pub const EXT_KINDS: [ExtKind; 4] = [ExtKind::S8, ExtKind::U8, ExtKind::S16, ExtKind::U16];

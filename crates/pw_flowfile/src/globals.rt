@@ -1,0 +1,276 @@
+//! Reading the global objects and the declared names of a flow file.
+
+ghost use Rattle.std.specs.Prelude.{◌≡◌, ◌+◌, ◌∷◌, ◌≤◌, ◌&&◌, ℕ, Bool, nat_le, List, [], length, map, IfOk};
+ghost use Rattle.pw_value.specs.Fields.{u32_at, text_at, checked, items_at};
+ghost use Rattle.pw_value.specs.FieldFaults.{Gives};
+ghost use Rattle.pw_value.specs.FieldNames.{IsRisingFrom};
+ghost use Rattle.pw_flow.specs.FlowGraph.{item_view, placed_item_view, global_view};
+ghost use Rattle.pw_flowfile.specs.Reading.{one_of_at, item_forms, kinds, has_room, content_at, item_at, placed_item_at, next_free, has_kind_size, global_body_at, global_at, next_global, declared_body_at, declared_at, next_declared, seen_after};
+ghost use Rattle.pw_flowfile.specs.Marks.{Marks};
+
+use crate::choices::{read_item_form, read_optional_kind};
+use crate::codes::ItemForm;
+use crate::parts::{read_fresh, read_named};
+use pw_flow::{FlowGlobal, Item, kind_size};
+use pw_value::fields::{FieldError, read_flag, read_text, read_text_in_place, read_u32};
+use pw_value::{Kind, Name, Shape};
+use std::alloc::Global;
+
+/// The bytes of an item at the offset, inside the object.
+fn read_item_bytes(size: u32, offset: u32, bytes: &[u8]) -> Result<(&[u8], &[u8]), FieldError>
+    ensures { Gives (λ x. (x.0.now, x.1.now)) result (checked (λ b. nat_le (offset + length b) size) text_at bytes.now) }
+{
+    let (text, rest) = read_text_in_place(bytes)?;
+    if offset <= size && text.len() <= (size - offset) as usize {
+        Ok((text, rest))
+    } else {
+        Err(FieldError::Fault { left: bytes.len() })
+    }
+}
+
+/// What stands behind an item's form.
+#[tactic(auto, unfolding(crate::specs::Reading::content_at))]
+fn read_content<'a>(
+    alloc: Global,
+    strict: bool,
+    names: &[Name],
+    place: (u32, u32),
+    form: ItemForm,
+    bytes: &'a [u8],
+) -> Result<(Item, &'a [u8]), FieldError>
+    ensures { Gives (λ x. (item_view x.0, x.1.now)) result (content_at strict names.now place.0 place.1 form bytes.now) }
+{
+    match form {
+        ItemForm::Bytes => {
+            let (text, rest) = read_item_bytes(place.0, place.1, bytes)?;
+            Ok((Item::Bytes(Vec::from_slice(alloc, text)?), rest))
+        }
+        ItemForm::Address => {
+            let (name, rest) = read_named(strict, names, bytes)?;
+            let (offset, rest) = read_u32(rest)?;
+            Ok((Item::Address(name.copy(alloc)?, offset), rest))
+        }
+    }
+}
+
+/// The form of an item, for which there is room.
+fn read_form(size: u32, offset: u32, bytes: &[u8]) -> Result<(ItemForm, &[u8]), FieldError>
+    ensures { Gives (λ x. (x.0, x.1.now)) result (checked (λ f. has_room f size offset) (one_of_at item_forms) bytes.now) }
+{
+    let (form, rest) = read_item_form(bytes)?;
+    match form {
+        ItemForm::Address if u64::from(offset) + 4 > u64::from(size) => {
+            Err(FieldError::Fault { left: bytes.len() })
+        }
+        _ => Ok((form, rest)),
+    }
+}
+
+/// An item at an offset of an object of so many bytes.
+#[tactic(auto, unfolding(crate::specs::Reading::item_at))]
+fn read_item<'a>(
+    alloc: Global,
+    strict: bool,
+    names: &[Name],
+    place: (u32, u32),
+    bytes: &'a [u8],
+) -> Result<(Item, &'a [u8]), FieldError>
+    ensures { Gives (λ x. (item_view x.0, x.1.now)) result (item_at strict names.now place.0 place.1 bytes.now) }
+{
+    let (form, rest) = read_form(place.0, place.1, bytes)?;
+    read_content(alloc, strict, names, place, form, rest)
+}
+
+/// The offset of an item, from `free` to the object's size.
+fn read_offset(size: u32, free: u64, bytes: &[u8]) -> Result<(u32, &[u8]), FieldError>
+    ensures { Gives (λ x. (x.0, x.1.now)) result (checked (λ o. nat_le free o && nat_le o size) u32_at bytes.now) }
+{
+    let (offset, rest) = read_u32(bytes)?;
+    if free <= u64::from(offset) && offset <= size {
+        Ok((offset, rest))
+    } else {
+        Err(FieldError::Fault { left: bytes.len() })
+    }
+}
+
+/// An item and its offset, which is at least `free`.
+#[tactic(auto, unfolding(crate::specs::Reading::placed_item_at))]
+fn read_placed_item<'a>(
+    alloc: Global,
+    strict: bool,
+    names: &[Name],
+    size: u32,
+    free: u64,
+    bytes: &'a [u8],
+) -> Result<((u32, Item), &'a [u8]), FieldError>
+    ensures { Gives (λ x. (placed_item_view x.0, x.1.now)) result (placed_item_at strict names.now size free bytes.now) }
+{
+    let (offset, rest) = read_offset(size, free, bytes)?;
+    let (item, rest) = read_item(alloc, strict, names, (size, offset), rest)?;
+    Ok(((offset, item), rest))
+}
+
+/// The least offset of an item behind this one.
+fn free_behind(placed: &(u32, Item), free: u64) -> u64
+    ensures { result ≡ next_free free (placed_item_view placed.now) }
+{
+    let len = match &placed.1 {
+        Item::Bytes(bytes) => bytes.len() as u64,
+        Item::Address(_, _) => 4,
+    };
+    u64::from(placed.0) + len.max(1)
+}
+
+/// So many items of an object.
+fn read_items<'a>(
+    alloc: Global,
+    strict: bool,
+    names: &[Name],
+    size: u32,
+    count: u32,
+    bytes: &'a [u8],
+) -> Result<(Vec<(u32, Item)>, &'a [u8]), FieldError>
+    ensures { Gives (λ x. (map placed_item_view x.0.items, x.1.now)) result (items_at (placed_item_at strict names.now size) next_free count 0 bytes.now) }
+{
+    let mut items = Vec::new(alloc);
+    let mut rest = bytes;
+    let mut free = 0u64;
+    for _ in 0..count {
+        let (item, after) = read_placed_item(alloc, strict, names, size, free, rest)?;
+        free = free_behind(&item, free);
+        items.push(item)?;
+        rest = after;
+    }
+    Ok((items, rest))
+}
+
+/// The kind of an object of so many bytes.
+fn read_sized_kind(size: u32, bytes: &[u8]) -> Result<(Option<Kind>, &[u8]), FieldError>
+    ensures { Gives (λ x. (x.0, x.1.now)) result (checked (has_kind_size size) (one_of_at kinds) bytes.now) }
+{
+    let (kind, rest) = read_optional_kind(bytes)?;
+    match kind {
+        Some(scalar) if kind_size(scalar) != size => {
+            Err(FieldError::Fault { left: bytes.len() })
+        }
+        _ => Ok((kind, rest)),
+    }
+}
+
+/// What stands behind an object's name. Where that is strict, no item names `$start`.
+#[tactic(auto, unfolding(crate::specs::Reading::global_body_at))]
+pub fn read_global_body<'a>(
+    alloc: Global,
+    strict: bool,
+    names: &[Name],
+    name: &Name,
+    bytes: &'a [u8],
+) -> Result<(FlowGlobal, &'a [u8]), FieldError>
+    ensures found { Gives (λ x. (global_view x.0, x.1.now)) result (global_body_at strict names.now name.now bytes.now) }
+    ensures named { IfOk result (λ x. x.0.name ≡ name.now) }
+{
+    let (size, rest) = read_u32(bytes)?;
+    let (shape, rest) = read_text(alloc, rest)?;
+    let (kind, rest) = read_sized_kind(size, rest)?;
+    let (volatile, rest) = read_flag(rest)?;
+    let (count, rest) = read_u32(rest)?;
+    let (items, rest) = read_items(alloc, strict, names, size, count, rest)?;
+    let global = FlowGlobal {
+        name: name.copy(alloc)?,
+        size,
+        shape: Shape::new(shape),
+        kind,
+        volatile,
+        items,
+    };
+    Ok((global, rest))
+}
+
+/// An object whose name was not met before.
+fn read_global<'a>(
+    alloc: Global,
+    names: &[Name],
+    met: &mut [bool],
+    bytes: &'a [u8],
+) -> Result<(FlowGlobal, &'a [u8]), FieldError>
+    requires { length met.old ≡ length names.now }
+    ensures found { (seen : List (List ℕ)) → Marks names.now seen met.old → Gives (λ x. (global_view x.0, x.1.now)) result (global_at names.now seen bytes.now) }
+    ensures marked { IfOk result (λ x. (seen : List (List ℕ)) → IsRisingFrom [] names.now → Marks names.now seen met.old → Marks names.now (x.0.name ∷ seen) met.new) }
+{
+    let (name, rest) = read_fresh(names, met, bytes)?;
+    read_global_body(alloc, true, names, name, rest)
+}
+
+/// So many objects.
+pub fn read_globals<'a>(
+    alloc: Global,
+    names: &[Name],
+    met: &mut [bool],
+    count: u32,
+    bytes: &'a [u8],
+) -> Result<(Vec<FlowGlobal>, &'a [u8]), FieldError>
+    requires count { length met.old ≡ length names.now }
+    requires rising { IsRisingFrom [] names.now }
+    ensures found { (seen : List (List ℕ)) → Marks names.now seen met.old → Gives (λ x. (map global_view x.0.items, x.1.now)) result (items_at (global_at names.now) next_global count seen bytes.now) }
+    ensures marked { IfOk result (λ x. (seen : List (List ℕ)) → Marks names.now seen met.old → Marks names.now (seen_after seen (map (λ g. g.name) x.0.items)) met.new) }
+{
+    let mut globals = Vec::new(alloc);
+    let mut rest = bytes;
+    for _ in 0..count {
+        let (global, after) = read_global(alloc, names, met, rest)?;
+        globals.push(global)?;
+        rest = after;
+    }
+    Ok((globals, rest))
+}
+
+/// The shape of a declared name, behind it.
+#[tactic(auto, unfolding(crate::specs::Reading::declared_body_at))]
+fn read_declared_shape<'a>(
+    alloc: Global,
+    name: &Name,
+    bytes: &'a [u8],
+) -> Result<((Name, Shape), &'a [u8]), FieldError>
+    ensures found { Gives (λ x. (x.0, x.1.now)) result (declared_body_at name.now bytes.now) }
+    ensures named { IfOk result (λ x. x.0.0 ≡ name.now) }
+{
+    let (shape, rest) = read_text(alloc, bytes)?;
+    Ok(((name.copy(alloc)?, Shape::new(shape)), rest))
+}
+
+/// A declared name that was not met before, and its shape.
+fn read_declaration<'a>(
+    alloc: Global,
+    names: &[Name],
+    met: &mut [bool],
+    bytes: &'a [u8],
+) -> Result<((Name, Shape), &'a [u8]), FieldError>
+    requires { length met.old ≡ length names.now }
+    ensures found { (seen : List (List ℕ)) → Marks names.now seen met.old → Gives (λ x. (x.0, x.1.now)) result (declared_at names.now seen bytes.now) }
+    ensures marked { IfOk result (λ x. (seen : List (List ℕ)) → IsRisingFrom [] names.now → Marks names.now seen met.old → Marks names.now (x.0.0 ∷ seen) met.new) }
+{
+    let (name, rest) = read_fresh(names, met, bytes)?;
+    read_declared_shape(alloc, name, rest)
+}
+
+/// So many declared names.
+pub fn read_declared<'a>(
+    alloc: Global,
+    names: &[Name],
+    met: &mut [bool],
+    count: u32,
+    bytes: &'a [u8],
+) -> Result<(Vec<(Name, Shape)>, &'a [u8]), FieldError>
+    requires count { length met.old ≡ length names.now }
+    requires rising { IsRisingFrom [] names.now }
+    ensures { (seen : List (List ℕ)) → Marks names.now seen met.old → Gives (λ x. (x.0.items, x.1.now)) result (items_at (declared_at names.now) next_declared count seen bytes.now) }
+{
+    let mut declared = Vec::new(alloc);
+    let mut rest = bytes;
+    for _ in 0..count {
+        let (declaration, after) = read_declaration(alloc, names, met, rest)?;
+        declared.push(declaration)?;
+        rest = after;
+    }
+    Ok((declared, rest))
+}

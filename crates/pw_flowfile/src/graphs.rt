@@ -1,0 +1,226 @@
+//! Reading the functions of a flow file.
+
+ghost use Rattle.std.specs.Prelude.{◌≡◌, ◌*◌, ◌≤◌, ◌&&◌, ◌∷◌, ℕ, nat_le, nat_lt, List, [], length, map, IfOk};
+ghost use Rattle.pw_value.specs.Fields.{u32_at, checked, items_at, repeated};
+ghost use Rattle.pw_value.specs.FieldFaults.{Gives};
+ghost use Rattle.pw_value.specs.FieldNames.{IsRisingFrom};
+ghost use Rattle.pw_flow.specs.FlowGraph.{block_view, function_view};
+ghost use Rattle.pw_flowfile.specs.Reading.{targets_at, end_at, block_at, slot_at, next_room, function_body_at, function_at, next_function, seen_after};
+ghost use Rattle.pw_flowfile.specs.Marks.{Marks};
+
+use crate::choices::read_end_code;
+use crate::codes::EndCode;
+use crate::ops::{Counts, read_ops};
+use crate::parts::{read_below, read_few, read_fresh, read_result};
+use pw_flow::{Block, End, FlowFn};
+use pw_value::fields::{FieldError, read_text, read_u32};
+use pw_value::{Name, Shape};
+use std::alloc::Global;
+
+/// The most bytes that a function's temporaries and slots come to.
+const MOST_ROOM: u64 = 1_048_576;
+
+/// What stands behind an end's byte.
+#[tactic(auto, unfolding(crate::specs::Reading::targets_at))]
+fn read_targets(
+    temps: u32,
+    blocks: u32,
+    code: EndCode,
+    bytes: &[u8],
+) -> Result<(End, &[u8]), FieldError>
+    ensures { Gives (λ x. (x.0, x.1.now)) result (targets_at temps blocks code bytes.now) }
+{
+    match code {
+        EndCode::Jump => {
+            let (b, rest) = read_below(blocks as usize, bytes)?;
+            Ok((End::Jump(b), rest))
+        }
+        EndCode::Branch => {
+            let (a, rest) = read_below(temps as usize, bytes)?;
+            let (b, rest) = read_below(blocks as usize, rest)?;
+            let (c, rest) = read_below(blocks as usize, rest)?;
+            Ok((End::Branch(a, b, c), rest))
+        }
+        EndCode::Return => {
+            let (a, rest) = read_result(temps, bytes)?;
+            Ok((End::Return(a), rest))
+        }
+    }
+}
+
+/// Where a block goes on.
+#[tactic(auto, unfolding(crate::specs::Reading::end_at))]
+fn read_end(temps: u32, blocks: u32, bytes: &[u8]) -> Result<(End, &[u8]), FieldError>
+    ensures { Gives (λ x. (x.0, x.1.now)) result (end_at temps blocks bytes.now) }
+{
+    let (code, rest) = read_end_code(bytes)?;
+    read_targets(temps, blocks, code, rest)
+}
+
+/// A block, in a function of so many blocks.
+#[tactic(auto, unfolding(crate::specs::Reading::block_at))]
+fn read_block<'a>(
+    alloc: Global,
+    names: &[Name],
+    at: Counts,
+    blocks: u32,
+    bytes: &'a [u8],
+) -> Result<(Block, &'a [u8]), FieldError>
+    ensures { Gives (λ x. (block_view x.0, x.1.now)) result (block_at names.now at.temps at.slots blocks bytes.now) }
+{
+    let (depth, rest) = read_u32(bytes)?;
+    let (count, rest) = read_u32(rest)?;
+    let (ops, rest) = read_ops(alloc, names, at, count, rest)?;
+    let (end, rest) = read_end(at.temps, blocks, rest)?;
+    Ok((Block { depth, ops, end }, rest))
+}
+
+/// All blocks of a function.
+fn read_blocks<'a>(
+    alloc: Global,
+    names: &[Name],
+    at: Counts,
+    count: u32,
+    bytes: &'a [u8],
+) -> Result<(Vec<Block>, &'a [u8]), FieldError>
+    ensures { Gives (λ x. (map block_view x.0.items, x.1.now)) result (repeated (block_at names.now at.temps at.slots count) count bytes.now) }
+{
+    let mut blocks = Vec::new(alloc);
+    let mut rest = bytes;
+    for _ in 0..count {
+        let (block, after) = read_block(alloc, names, at, count, rest)?;
+        blocks.push(block)?;
+        rest = after;
+    }
+    Ok((blocks, rest))
+}
+
+/// A slot's size, behind temporaries and slots of so many bytes.
+#[tactic(auto, unfolding(crate::specs::Reading::slot_at))]
+fn read_slot(room: u64, bytes: &[u8]) -> Result<(u32, &[u8]), FieldError>
+    ensures found { Gives (λ x. (x.0, x.1.now)) result (slot_at room bytes.now) }
+    ensures small { IfOk result (λ x. room ≤ 1048576) }
+{
+    let (size, rest) = read_u32(bytes)?;
+    let more = (u64::from(size) + 8) / 8 * 8;
+    if room <= MOST_ROOM && more <= MOST_ROOM - room {
+        Ok((size, rest))
+    } else {
+        Err(FieldError::Fault { left: bytes.len() })
+    }
+}
+
+/// So many slots, behind temporaries of so many bytes.
+fn read_slots(
+    alloc: Global,
+    room: u64,
+    count: u32,
+    bytes: &[u8],
+) -> Result<(Vec<u32>, &[u8]), FieldError>
+    ensures { Gives (λ x. (x.0.items, x.1.now)) result (items_at slot_at next_room count room bytes.now) }
+{
+    let mut slots = Vec::new(alloc);
+    let mut rest = bytes;
+    let mut used = room;
+    for _ in 0..count {
+        let (slot, after) = read_slot(used, rest)?;
+        used += (u64::from(slot) + 8) / 8 * 8;
+        slots.push(slot)?;
+        rest = after;
+    }
+    Ok((slots, rest))
+}
+
+/// The count of temporaries: at least that of the parameters.
+fn read_temp_count(params: u32, bytes: &[u8]) -> Result<(u32, &[u8]), FieldError>
+    ensures { Gives (λ x. (x.0, x.1.now)) result (checked (λ t. nat_le params t && nat_le (4 * t) 1048576) u32_at bytes.now) }
+{
+    let (temps, rest) = read_u32(bytes)?;
+    if params <= temps && 4 * u64::from(temps) <= MOST_ROOM {
+        Ok((temps, rest))
+    } else {
+        Err(FieldError::Fault { left: bytes.len() })
+    }
+}
+
+/// The count of blocks: at least one.
+fn read_block_count(bytes: &[u8]) -> Result<(u32, &[u8]), FieldError>
+    ensures { Gives (λ x. (x.0, x.1.now)) result (checked (λ n. nat_lt 0 n) u32_at bytes.now) }
+{
+    let (count, rest) = read_u32(bytes)?;
+    if count > 0 {
+        Ok((count, rest))
+    } else {
+        Err(FieldError::Fault { left: bytes.len() })
+    }
+}
+
+/// A function of this name, whose name was read.
+#[tactic(auto, unfolding(crate::specs::Reading::function_body_at))]
+fn read_function_body<'a>(
+    alloc: Global,
+    names: &[Name],
+    name: &Name,
+    bytes: &'a [u8],
+) -> Result<(FlowFn, &'a [u8]), FieldError>
+    ensures found { Gives (λ x. (function_view x.0, x.1.now)) result (function_body_at names.now name.now bytes.now) }
+    ensures named { IfOk result (λ x. x.0.name ≡ name.now) }
+{
+    let (shape, rest) = read_text(alloc, bytes)?;
+    let (params, rest) = read_few(rest)?;
+    let (temps, rest) = read_temp_count(params, rest)?;
+    let (slot_count, rest) = read_u32(rest)?;
+    let (slots, rest) = read_slots(alloc, 4 * u64::from(temps), slot_count, rest)?;
+    let (count, rest) = read_block_count(rest)?;
+    let at = Counts {
+        temps,
+        slots: slot_count as usize,
+    };
+    let (blocks, rest) = read_blocks(alloc, names, at, count, rest)?;
+    let function = FlowFn {
+        name: name.copy(alloc)?,
+        shape: Shape::new(shape),
+        params,
+        temps,
+        slots,
+        blocks,
+    };
+    Ok((function, rest))
+}
+
+/// A function whose name was not met before.
+fn read_function<'a>(
+    alloc: Global,
+    names: &[Name],
+    met: &mut [bool],
+    bytes: &'a [u8],
+) -> Result<(FlowFn, &'a [u8]), FieldError>
+    requires { length met.old ≡ length names.now }
+    ensures found { (seen : List (List ℕ)) → Marks names.now seen met.old → Gives (λ x. (function_view x.0, x.1.now)) result (function_at names.now seen bytes.now) }
+    ensures marked { IfOk result (λ x. (seen : List (List ℕ)) → IsRisingFrom [] names.now → Marks names.now seen met.old → Marks names.now (x.0.name ∷ seen) met.new) }
+{
+    let (name, rest) = read_fresh(names, met, bytes)?;
+    read_function_body(alloc, names, name, rest)
+}
+
+/// So many functions.
+pub fn read_functions<'a>(
+    alloc: Global,
+    names: &[Name],
+    met: &mut [bool],
+    count: u32,
+    bytes: &'a [u8],
+) -> Result<(Vec<FlowFn>, &'a [u8]), FieldError>
+    requires count { length met.old ≡ length names.now }
+    requires rising { IsRisingFrom [] names.now }
+    ensures { (seen : List (List ℕ)) → Marks names.now seen met.old → Gives (λ x. (map function_view x.0.items, x.1.now)) result (items_at (function_at names.now) next_function count seen bytes.now) }
+{
+    let mut functions = Vec::new(alloc);
+    let mut rest = bytes;
+    for _ in 0..count {
+        let (function, after) = read_function(alloc, names, met, rest)?;
+        functions.push(function)?;
+        rest = after;
+    }
+    Ok((functions, rest))
+}

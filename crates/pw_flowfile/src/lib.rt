@@ -1,0 +1,21 @@
+//! The flow file: a flow graph as bytes.
+#![tactic(auto)]
+
+mod choices;
+mod codes;
+mod globals;
+mod graphs;
+pub mod laws;
+mod op_writing;
+mod ops;
+mod parts;
+mod reading;
+mod used;
+mod writing;
+
+pub use globals::read_global_body;
+pub use reading::{KIND, read};
+pub use writing::{push_global, push_global_body, write};
+
+#[cfg(test)]
+mod tests;
