@@ -1,5 +1,7 @@
 -- The functions of an object file: what is read is spelled so, and what is spelled so is read again.
 use Rattle.std.proofs.Common.{◌≡◌, ℕ, zero, suc, ◌<◌, List, [], ◌∷◌, ◌++◌, length, Ok, refl, sym, ap, subst, ◌∙◌, lit<, arith}
+use Rattle.std.specs.List.{AllByRecursion, flat_map}
+use Rattle.std.proofs.lemmas.List.Concat.{flat_map-cons}
 use Rattle.std.specs.Prelude.{IsTrue, Contains, nat_lt}
 use Rattle.std.proofs.lemmas.Bool.{ltb-true, lt-ltb}
 use Rattle.std.proofs.lemmas.List.{append-nil}
@@ -8,15 +10,15 @@ use Rattle.pw_value.specs.FieldLaws.{AreBytes, Spells}
 use Rattle.pw_value.specs.FieldNames.{name_at, name_index, IsNameTable}
 use Rattle.pw_value.proofs.FieldLaws.{AreBytes-rest, found_is, after_passes, checked_spells, choice_spells, u32_spells, mapped_spells}
 use Rattle.pw_value.proofs.FieldSteps.{finish, step, step_where, format}
-use Rattle.pw_value.proofs.NameLaws.{name_spells}
+use Rattle.pw_value.proofs.NameLaws.{name_spells, AllUsed}
 use Rattle.pw_files.specs.Rising.{counted, counted_at, FitsList}
-use Rattle.pw_files.proofs.RisingLaws.{counted_spells, each_weaker}
+use Rattle.pw_files.proofs.RisingLaws.{counted_spells, each_weaker, used_append, used_front, used_back}
 use Rattle.pw_object.specs.declared.fixes.FixKind.{FixKind}
 use Rattle.pw_object.specs.declared.fixes.FixKind.TheVariants as kind
 use Rattle.pw_object.specs.declared.fixes.Symbol.{Symbol}
 use Rattle.pw_object.specs.declared.fixes.Symbol.TheVariants as symbol
 use Rattle.pw_object.specs.declared.fixes.Fix.{Fix}
-use Rattle.pw_object.specs.Functions.{FunctionValue, IsSymbol, IsFix, IsFunction, kind_code, symbol_spelling, fix, function}
+use Rattle.pw_object.specs.Functions.{FunctionValue, IsSymbol, IsFix, IsFunction, kind_code, symbol_spelling, fix, function, names_of_symbol, names_of_function}
 use Rattle.pw_object.specs.Reading.{kind_of, kind_at, named_at, word_at, routine_at, symbol_of_form_at, symbol_at, fix_at, function_at}
 
 -- ---- kinds
@@ -132,9 +134,47 @@ function_spells names table = format (function names) (FitsFunction names) (func
 
 symbol_lawful : (names : List (List ℕ)) (s : Symbol) → FitsSymbol names s → IsSymbol s
 symbol_lawful names (symbol.Named name) fits = tt
-symbol_lawful names (symbol.Word word) fits = tt
+symbol_lawful names (symbol.Word word) fits = fits
 symbol_lawful names symbol.StackLimit fits = tt
 symbol_lawful names (symbol.Routine number) fits = fits
 
 pub lawful : (names : List (List ℕ)) (f : FunctionValue) → FitsFunction names f → IsFunction f
-lawful names f fits = each_weaker (FitsFix names (length f.words)) (IsFix (length f.words)) (λ x h. record { word = ltb-true _ _ h.0.1; symbol = symbol_lawful names x.symbol h.1.1.0 }) f.fixes fits.1.1.1.0.1
+lawful names f fits = record {
+  frame = fits.1.0;
+  words = fits.1.1.0.1;
+  fixes = each_weaker (FitsFix names (length f.words)) (IsFix (length f.words)) (λ x h. record { word = ltb-true _ _ h.0.1; symbol = symbol_lawful names x.symbol h.1.1.0; addend = h.1.1.1.0 }) f.fixes fits.1.1.1.0.1;
+}
+
+-- ---- names that fixes use
+
+symbol_used : (names : List (List ℕ)) (s : Symbol) → FitsSymbol names s → AllUsed (names_of_symbol s) names
+symbol_used names (symbol.Named name) fits = (fits, tt)
+symbol_used names (symbol.Word word) fits = tt
+symbol_used names symbol.StackLimit fits = tt
+symbol_used names (symbol.Routine number) fits = tt
+
+fixes_used : (names : List (List ℕ)) (words : ℕ) (fs : List Fix) → AllByRecursion (FitsFix names words) fs → AllUsed (flat_map (λ x. names_of_symbol x.symbol) fs) names
+fixes_used names words [] all = tt
+fixes_used names words (f ∷ fs) all =
+    subst (λ (ns : List (List ℕ)). AllUsed ns names) (sym (flat_map-cons (λ (x : Fix). names_of_symbol x.symbol) f fs))
+    (used_append (names_of_symbol f.symbol) (flat_map (λ x. names_of_symbol x.symbol) fs) names (symbol_used names f.symbol all.0.1.1.0) (fixes_used names words fs all.1))
+
+pub function_used : (names : List (List ℕ)) (f : FunctionValue) → FitsFunction names f → AllUsed (names_of_function f) names
+function_used names f fits = (fits.0, fixes_used names (length f.words) f.fixes fits.1.1.1.0.1)
+
+symbol_back : (names : List (List ℕ)) (s : Symbol) → IsSymbol s → AllUsed (names_of_symbol s) names → FitsSymbol names s
+symbol_back names (symbol.Named name) is used = used.0
+symbol_back names (symbol.Word word) is used = is
+symbol_back names symbol.StackLimit is used = tt
+symbol_back names (symbol.Routine number) is used = is
+
+fixes_back : (names : List (List ℕ)) (words : ℕ) (fs : List Fix) → FitsU32 words → AllByRecursion (IsFix words) fs → AllUsed (flat_map (λ x. names_of_symbol x.symbol) fs) names → AllByRecursion (FitsFix names words) fs
+fixes_back names words [] few is used = tt
+fixes_back names words (f ∷ fs) few is used =
+    let both = subst (λ (ns : List (List ℕ)). AllUsed ns names) (flat_map-cons (λ (x : Fix). names_of_symbol x.symbol) f fs) used in (
+      ((omega (arith, is.0.word, few), lt-ltb _ _ is.0.word), (tt, (symbol_back names f.symbol is.0.symbol (used_front (names_of_symbol f.symbol) (flat_map (λ x. names_of_symbol x.symbol) fs) names both), (is.0.addend, tt)))),
+      fixes_back names words fs few is.1 (used_back (names_of_symbol f.symbol) (flat_map (λ x. names_of_symbol x.symbol) fs) names both),
+    )
+
+pub function_back : (names : List (List ℕ)) (f : FunctionValue) → IsFunction f → FitsU32 (length f.words) → FitsU32 (length f.fixes) → AllUsed (names_of_function f) names → FitsFunction names f
+function_back names f is words fixes used = (used.0, (is.frame, ((words, is.words), ((fixes, fixes_back names (length f.words) f.fixes words is.fixes used.1), tt))))

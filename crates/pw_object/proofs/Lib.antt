@@ -1,1 +1,2 @@
 pub mod FunctionLaws
+pub mod ObjectLaws

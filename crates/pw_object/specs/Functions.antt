@@ -1,7 +1,7 @@
 -- The functions of an object file: words, and fixes that a linker puts into them.
 use Rattle.std.specs.Prelude.{ℕ, ◌<◌, List, [], ◌∷◌, length, All, Contains}
 use Rattle.std.specs.List.{flat_map, AllByRecursion}
-use Rattle.pw_value.specs.Fields.{u8, u32, parts}
+use Rattle.pw_value.specs.Fields.{u8, u32, parts, FitsU32}
 use Rattle.pw_value.specs.FieldNames.{name_index}
 use Rattle.pw_files.specs.Rising.{counted}
 use Rattle.pw_object.specs.declared.fixes.FixKind.{FixKind}
@@ -26,7 +26,7 @@ function_view f = record { name = f.name; frame = f.frame; words = f.words.items
 -- one of the routines $divs, $divu, $mul, $rems, $remu, by its place among them
 abbrev pub IsSymbol : Symbol → Type 0
 IsSymbol (symbol.Named name) = Unit {0}
-IsSymbol (symbol.Word word) = Unit {0}
+IsSymbol (symbol.Word word) = FitsU32 word
 IsSymbol symbol.StackLimit = Unit {0}
 IsSymbol (symbol.Routine number) = number < 5
 
@@ -34,9 +34,13 @@ IsSymbol (symbol.Routine number) = number < 5
 pub record IsFix (words : ℕ) (f : Fix) : Type 0 where
   pub word : f.word < words
   pub symbol : IsSymbol f.symbol
+  pub addend : FitsU32 f.addend
 
-abbrev pub IsFunction : FunctionValue → Type 0
-IsFunction f = AllByRecursion (IsFix (length f.words)) f.fixes
+-- numbers are of 32 bits
+pub record IsFunction (f : FunctionValue) : Type 0 where
+  pub frame : FitsU32 f.frame
+  pub words : AllByRecursion FitsU32 f.words
+  pub fixes : AllByRecursion (IsFix (length f.words)) f.fixes
 
 -- ---- the spelling
 

@@ -4,10 +4,15 @@
 pub mod fixes;
 pub mod functions;
 pub mod laws;
+mod names;
+mod object;
+mod reading;
 pub mod writing;
 
 pub use fixes::{Fix, FixKind, Symbol};
 pub use functions::ObjectFn;
+pub use object::Object;
+pub use reading::{KIND, read};
 
 #[cfg(test)]
 mod tests;
