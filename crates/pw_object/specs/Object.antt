@@ -64,6 +64,14 @@ pub record IsObject (o : ObjectValue) : Type 0 where
 abbrev pub names_of : PartsValue → List (List ℕ)
 names_of p = p.module ∷ (map (λ d. d.0) p.declared ++ (p.used ++ (flat_map all_in_global p.globals ++ flat_map names_of_function p.functions)))
 
+-- the names that an object uses stand in a table
+pub record IsNamedBy (names : List (List ℕ)) (p : PartsValue) : Type 0 where
+  pub of_module : Contains names p.module
+  pub declared : All (λ d. Contains names d.0) p.declared
+  pub used : All (Contains names) p.used
+  pub globals : AllByRecursion (λ g. AllByRecursion (Contains names) (all_in_global g)) p.globals
+  pub functions : AllByRecursion (IsFunctionNamed names) p.functions
+
 -- counts and texts that a file can hold
 pub record FitsFunction (f : FunctionValue) : Type 0 where
   pub words : FitsU32 (length f.words)

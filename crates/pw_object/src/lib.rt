@@ -13,6 +13,7 @@ pub use fixes::{Fix, FixKind, Symbol};
 pub use functions::ObjectFn;
 pub use object::Object;
 pub use reading::{KIND, read};
+pub use writing::write;
 
 #[cfg(test)]
 mod tests;
