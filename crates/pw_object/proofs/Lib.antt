@@ -1,0 +1,3 @@
+pub mod FunctionLaws
+pub mod ObjectLaws
+pub mod WritingLemmas

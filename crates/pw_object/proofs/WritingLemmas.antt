@@ -1,0 +1,89 @@
+-- What writing asks of an object's parts, and what it gives.
+use Rattle.std.proofs.Common.{◌≡◌, ℕ, List, [], ◌∷◌, ◌++◌, length, map, All, Result, Ok, Err, subst, sym, ap, ◌∙◌, arith}
+use Rattle.std.specs.Prelude.{Contains, IfOk, OnOk}
+use Rattle.std.specs.Global.{Vec}
+use Rattle.std.specs.List.{flat_map, AllByRecursion}
+use Rattle.std.proofs.lemmas.List.Concat.{flat_map-cons}
+use Rattle.std.proofs.lemmas.List.Elements.{All-from_recursion, recursion_from_All}
+use Rattle.pw_value.specs.Fields.{FitsU32}
+use Rattle.pw_value.specs.FieldFrame.{file, FitsFile}
+use Rattle.pw_value.specs.FieldNames.{IsTableOf}
+use Rattle.pw_value.proofs.NameLaws.{AllUsed, used_by_table}
+use Rattle.pw_files.proofs.RisingLaws.{each_by_used, used_front, used_back}
+use Rattle.pw_flow.specs.FlowGraph.{GlobalValue}
+use Rattle.pw_flowfile.specs.FlowFile.{all_in_global}
+use Rattle.pw_object.specs.declared.fixes.Symbol.{Symbol}
+use Rattle.pw_object.specs.declared.fixes.Symbol.TheVariants as symbol
+use Rattle.pw_object.specs.declared.fixes.Fix.{Fix}
+use Rattle.pw_object.specs.Functions.{FunctionValue, names_of_symbol, names_of_function, IsSymbolNamed, IsFunctionNamed}
+use Rattle.pw_object.specs.Object.{PartsValue, ObjectValue, IsObject, IsNamedBy, names_of, FitParts, IsContents, spelling, kind, IsObjectFile}
+
+each_named : (names ns : List (List ℕ)) → AllUsed ns names → AllByRecursion (Contains names) ns
+each_named names [] used = tt
+each_named names (n ∷ ns) used = (used.0, each_named names ns used.1)
+
+globals_named : (names : List (List ℕ)) (gs : List GlobalValue) → AllUsed (flat_map all_in_global gs) names → AllByRecursion (λ g. AllByRecursion (Contains names) (all_in_global g)) gs
+globals_named names [] used = tt
+globals_named names (g ∷ gs) used =
+    let both = subst (λ (ns : List (List ℕ)). AllUsed ns names) (flat_map-cons all_in_global g gs) used in
+    (each_named names (all_in_global g) (used_front (all_in_global g) (flat_map all_in_global gs) names both), globals_named names gs (used_back (all_in_global g) (flat_map all_in_global gs) names both))
+
+symbol_named : (names : List (List ℕ)) (s : Symbol) → AllUsed (names_of_symbol s) names → IsSymbolNamed names s
+symbol_named names (symbol.Named name) used = used.0
+symbol_named names (symbol.Word word) used = tt
+symbol_named names symbol.StackLimit used = tt
+symbol_named names (symbol.Routine number) used = tt
+
+fixes_named : (names : List (List ℕ)) (fs : List Fix) → AllUsed (flat_map (λ x. names_of_symbol x.symbol) fs) names → AllByRecursion (λ x. IsSymbolNamed names x.symbol) fs
+fixes_named names [] used = tt
+fixes_named names (f ∷ fs) used =
+    let both = subst (λ (ns : List (List ℕ)). AllUsed ns names) (flat_map-cons (λ (x : Fix). names_of_symbol x.symbol) f fs) used in
+    (symbol_named names f.symbol (used_front (names_of_symbol f.symbol) (flat_map (λ x. names_of_symbol x.symbol) fs) names both), fixes_named names fs (used_back (names_of_symbol f.symbol) (flat_map (λ x. names_of_symbol x.symbol) fs) names both))
+
+functions_named : (names : List (List ℕ)) (fs : List FunctionValue) → AllUsed (flat_map names_of_function fs) names → AllByRecursion (IsFunctionNamed names) fs
+functions_named names [] used = tt
+functions_named names (f ∷ fs) used =
+    let both = subst (λ (ns : List (List ℕ)). AllUsed ns names) (flat_map-cons names_of_function f fs) used in
+    let here = used_front (names_of_function f) (flat_map names_of_function fs) names both in
+    (record { name = here.0; fixes = All-from_recursion (λ x. IsSymbolNamed names x.symbol) f.fixes (fixes_named names f.fixes here.1) }, functions_named names fs (used_back (names_of_function f) (flat_map names_of_function fs) names both))
+
+pub named_by : (names : List (List ℕ)) (p : PartsValue) → IsTableOf names (names_of p) → IsNamedBy names p
+named_by names p table =
+    let all = (used_by_table names (names_of p) table).1 in
+    let one = all.1 in
+    let two = used_back (map (λ d. d.0) p.declared) _ names one in
+    let three = used_back p.used _ names two in
+    record {
+      of_module = all.0;
+      declared = All-from_recursion (λ d. Contains names d.0) p.declared (each_by_used (λ d. d.0) names p.declared (used_front (map (λ d. d.0) p.declared) _ names one));
+      used = All-from_recursion (Contains names) p.used (each_named names p.used (used_front p.used _ names two));
+      globals = globals_named names p.globals (used_front (flat_map all_in_global p.globals) _ names three);
+      functions = functions_named names p.functions (used_back (flat_map all_in_global p.globals) _ names three);
+    }
+
+-- a list and what it is seen as
+
+seen : {X Y : Type 0} (view : X → Y) (P : Y → Type 0) (xs : List X) → AllByRecursion P (map view xs) → AllByRecursion (λ x. P (view x)) xs
+seen view P [] all = tt
+seen view P (x ∷ xs) all = (all.0, seen view P xs all.1)
+
+pub seen_all : {X Y : Type 0} (view : X → Y) (P : Y → Type 0) (xs : List X) → AllByRecursion P (map view xs) → All (λ x. P (view x)) xs
+seen_all view P xs all = All-from_recursion (λ x. P (view x)) xs (seen view P xs all)
+
+by_seen : {X Y : Type 0} (view : X → Y) (P : Y → Type 0) (xs : List X) → AllByRecursion (λ x. P (view x)) xs → AllByRecursion P (map view xs)
+by_seen view P [] all = tt
+by_seen view P (x ∷ xs) all = (all.0, by_seen view P xs all.1)
+
+pub all_by_seen : {X Y : Type 0} (view : X → Y) (P : Y → Type 0) (xs : List X) → All (λ x. P (view x)) xs → AllByRecursion P (map view xs)
+all_by_seen view P xs all = by_seen view P xs (recursion_from_All (λ x. P (view x)) xs all)
+
+-- the file
+
+pub is_file : {E : Type 0} (names : List (List ℕ)) (o : ObjectValue) (payload : List ℕ) (r : Result (Vec ℕ) E) → IsObject o → FitParts o.parts → FitsU32 (length names) → IsTableOf names (names_of o.parts)
+    → payload ≡ spelling (record { names = names; «parts» = o.parts }) → OnOk r (FitsFile payload) → IfOk r (λ v. v.items ≡ file kind 1 payload) → IfOk r (λ v. IsObjectFile v.items o)
+is_file names o payload (Ok v) is fits count table same room made = record {
+  version = is.version;
+  names = names;
+  file = record { version = 1; not_below = omega arith; not_above = omega arith; fits = record { «parts» = is.parts; fits = fits; name_count = count; names = table }; room = subst FitsFile same room; spelled = made ∙ ap (file kind 1) same };
+}
+is_file names o payload (Err e) is fits count table same room made = tt

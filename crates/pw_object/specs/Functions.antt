@@ -1,0 +1,83 @@
+-- The functions of an object file: words, and fixes that a linker puts into them.
+use Rattle.std.specs.Prelude.{ℕ, ◌<◌, List, [], ◌∷◌, length, All, Contains}
+use Rattle.std.specs.List.{flat_map, AllByRecursion}
+use Rattle.pw_value.specs.Fields.{u8, u32, parts, FitsU32}
+use Rattle.pw_value.specs.FieldNames.{name_index}
+use Rattle.pw_files.specs.Rising.{counted}
+use Rattle.pw_object.specs.declared.fixes.FixKind.{FixKind}
+use Rattle.pw_object.specs.declared.fixes.FixKind.TheVariants as kind
+use Rattle.pw_object.specs.declared.fixes.Symbol.{Symbol}
+use Rattle.pw_object.specs.declared.fixes.Symbol.TheVariants as symbol
+use Rattle.pw_object.specs.declared.fixes.Fix.{Fix}
+use Rattle.pw_object.specs.declared.functions.ObjectFn.{ObjectFn}
+
+-- a function: its name, the bytes of its frame, its words and its fixes
+pub record FunctionValue : Type 0 where
+  pub name : List ℕ
+  pub frame : ℕ
+  pub words : List ℕ
+  pub fixes : List Fix
+
+abbrev pub function_view : ObjectFn → FunctionValue
+function_view f = record { name = f.name; frame = f.frame; words = f.words.items; fixes = f.fixes.items }
+
+-- ---- the rules
+
+-- one of the routines $divs, $divu, $mul, $rems, $remu, by its place among them
+abbrev pub IsSymbol : Symbol → Type 0
+IsSymbol (symbol.Named name) = Unit {0}
+IsSymbol (symbol.Word word) = FitsU32 word
+IsSymbol symbol.StackLimit = Unit {0}
+IsSymbol (symbol.Routine number) = number < 5
+
+-- it names a word of a function of so many words
+pub record IsFix (words : ℕ) (f : Fix) : Type 0 where
+  pub word : f.word < words
+  pub symbol : IsSymbol f.symbol
+  pub addend : FitsU32 f.addend
+
+-- numbers are of 32 bits
+pub record IsFunction (f : FunctionValue) : Type 0 where
+  pub frame : FitsU32 f.frame
+  pub words : AllByRecursion FitsU32 f.words
+  pub fixes : AllByRecursion (IsFix (length f.words)) f.fixes
+
+-- ---- the spelling
+
+abbrev pub kind_code : FixKind → ℕ
+kind_code kind.Ldil = 0
+kind_code kind.Im14 = 1
+kind_code kind.Bl = 2
+
+abbrev pub symbol_spelling : List (List ℕ) → Symbol → List ℕ
+symbol_spelling names (symbol.Named name) = parts (u8 0 ∷ name_index names name ∷ [])
+symbol_spelling names (symbol.Word word) = parts (u8 1 ∷ u32 word ∷ [])
+symbol_spelling names symbol.StackLimit = u8 2
+symbol_spelling names (symbol.Routine number) = parts (u8 3 ∷ u8 number ∷ [])
+
+abbrev pub fix : List (List ℕ) → Fix → List ℕ
+fix names f = parts (u32 f.word ∷ u8 (kind_code f.kind) ∷ symbol_spelling names f.symbol ∷ u32 f.addend ∷ [])
+
+abbrev pub function : List (List ℕ) → FunctionValue → List ℕ
+function names f = parts (name_index names f.name ∷ u32 f.frame ∷ counted u32 f.words ∷ counted (fix names) f.fixes ∷ [])
+
+-- the names that a function uses, its own first
+abbrev pub names_of_symbol : Symbol → List (List ℕ)
+names_of_symbol (symbol.Named name) = name ∷ []
+names_of_symbol (symbol.Word word) = []
+names_of_symbol symbol.StackLimit = []
+names_of_symbol (symbol.Routine number) = []
+
+abbrev pub names_of_function : FunctionValue → List (List ℕ)
+names_of_function f = f.name ∷ flat_map (λ x. names_of_symbol x.symbol) f.fixes
+
+-- these names stand in a table
+abbrev pub IsSymbolNamed : List (List ℕ) → Symbol → Type 0
+IsSymbolNamed names (symbol.Named name) = Contains names name
+IsSymbolNamed names (symbol.Word word) = Unit {0}
+IsSymbolNamed names symbol.StackLimit = Unit {0}
+IsSymbolNamed names (symbol.Routine number) = Unit {0}
+
+pub record IsFunctionNamed (names : List (List ℕ)) (f : FunctionValue) : Type 0 where
+  pub name : Contains names f.name
+  pub fixes : All (λ x. IsSymbolNamed names x.symbol) f.fixes

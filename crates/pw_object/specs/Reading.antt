@@ -1,0 +1,112 @@
+-- Reading an object file from left to right, with the first fault that is met.
+use Rattle.std.specs.Prelude.{ℕ, zero, suc, true, false, nat_lt, List, length, Option, Some, None, Result, Ok, Err}
+use Rattle.pw_value.specs.Fields.{◌>>=◌, done, checked, u32_at, text_at, choice_at}
+use Rattle.pw_value.specs.FieldFrame.{here, ended, file_at}
+use Rattle.pw_value.specs.FieldNames.{names_at, name_at, first_unused}
+use Rattle.pw_files.specs.Rising.{counted_at}
+use Rattle.pw_files.specs.Names.{name_list_at, shaped_list_at}
+use Rattle.pw_files.specs.Start.{start_rule, sooner}
+use Rattle.pw_flow.specs.FlowGraph.{GlobalValue}
+use Rattle.pw_flowfile.specs.Reading.{global_body_at}
+use Rattle.pw_object.specs.declared.fixes.FixKind.{FixKind}
+use Rattle.pw_object.specs.declared.fixes.FixKind.TheVariants as kind
+use Rattle.pw_object.specs.declared.fixes.Symbol.{Symbol}
+use Rattle.pw_object.specs.declared.fixes.Symbol.TheVariants as symbol
+use Rattle.pw_object.specs.declared.fixes.Fix.{Fix}
+use Rattle.pw_object.specs.Functions.{FunctionValue}
+use Rattle.pw_object.specs.Object.{PartsValue, ObjectValue, Contents, global_names, function_names, names_of}
+use Rattle.pw_object.specs.Object.{kind as kind_of_file}
+
+abbrev pub kind_of : ℕ → FixKind
+kind_of zero = kind.Ldil
+kind_of (suc zero) = kind.Im14
+kind_of (suc (suc code)) = kind.Bl
+
+unfoldable pub kind_at : List ℕ → Result (FixKind × List ℕ) ℕ
+kind_at = do
+  code ← choice_at 3
+  done (kind_of code)
+
+-- a name, a word of the function, the end of the stack, or a routine
+unfoldable pub named_at : List (List ℕ) → List ℕ → Result (Symbol × List ℕ) ℕ
+named_at names = do
+  name ← name_at names
+  done (symbol.Named name)
+
+unfoldable pub word_at : List ℕ → Result (Symbol × List ℕ) ℕ
+word_at = do
+  word ← u32_at
+  done (symbol.Word word)
+
+unfoldable pub routine_at : List ℕ → Result (Symbol × List ℕ) ℕ
+routine_at = do
+  number ← choice_at 5
+  done (symbol.Routine number)
+
+abbrev pub symbol_of_form_at : List (List ℕ) → ℕ → List ℕ → Result (Symbol × List ℕ) ℕ
+symbol_of_form_at names zero = named_at names
+symbol_of_form_at names (suc zero) = word_at
+symbol_of_form_at names (suc (suc zero)) = done symbol.StackLimit
+symbol_of_form_at names (suc (suc (suc form))) = routine_at
+
+unfoldable pub symbol_at : List (List ℕ) → List ℕ → Result (Symbol × List ℕ) ℕ
+symbol_at names = do
+  form ← choice_at 4
+  symbol_of_form_at names form
+
+-- a fix of a function of so many words
+unfoldable pub fix_at : List (List ℕ) → ℕ → List ℕ → Result (Fix × List ℕ) ℕ
+fix_at names words = do
+  word ← checked (λ w. nat_lt w words) u32_at
+  kind ← kind_at
+  symbol ← symbol_at names
+  addend ← u32_at
+  done (record { word = word; kind = kind; symbol = symbol; addend = addend })
+
+unfoldable pub function_at : List (List ℕ) → List ℕ → Result (FunctionValue × List ℕ) ℕ
+function_at names = do
+  name ← name_at names
+  frame ← u32_at
+  words ← counted_at u32_at
+  fixes ← counted_at (fix_at names (length words))
+  done (record { name = name; frame = frame; words = words; fixes = fixes })
+
+-- a global, which may have an item that names $start
+unfoldable pub global_at : List (List ℕ) → List ℕ → Result (GlobalValue × List ℕ) ℕ
+global_at names = name_at names >>= λ name. global_body_at false names name
+
+-- The rules that are looked at last: each name of the table is used, where so many bytes are left behind
+-- the table; and $start stands beside main, where so many are left from the count of the functions on.
+abbrev pub last_rules : List (List ℕ) → ℕ → PartsValue → ℕ → Option ℕ
+last_rules names behind p count = sooner (first_unused names (names_of p) behind) (start_rule (function_names p) (global_names p) count)
+
+unfoldable pub parts_at : List (List ℕ) → ℕ → List ℕ → Result (Contents × List ℕ) ℕ
+parts_at names behind = do
+  «module» ← name_at names
+  flow ← text_at
+  directives ← text_at
+  declared ← shaped_list_at names true
+  used ← name_list_at names true
+  globals ← counted_at (global_at names)
+  count ← here
+  functions ← counted_at (function_at names)
+  let p : PartsValue = record { «module» = «module»; flow = flow; directives = directives; declared = declared; used = used; globals = globals; functions = functions } in ended (last_rules names behind p count) (record { names = names; «parts» = p })
+
+unfoldable pub contents_at : List ℕ → Result (Contents × List ℕ) ℕ
+contents_at = do
+  names ← names_at
+  behind ← here
+  parts_at names behind
+
+unfoldable pub object_file_at : List ℕ → Result Contents ℕ
+object_file_at bytes = file_at kind_of_file 1 1 (λ version. contents_at) bytes
+
+-- the object alone, of version 1
+abbrev pub object_of : Result Contents ℕ → Result ObjectValue ℕ
+object_of (Ok c) = Ok (record { version = 1; «parts» = c.parts })
+object_of (Err at) = Err at
+
+-- a rule that is looked at last, where it is broken at a place
+abbrev pub broken_at : Option ℕ → Result (Unit {0}) ℕ
+broken_at None = Ok tt
+broken_at (Some left) = Err left

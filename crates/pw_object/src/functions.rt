@@ -1,0 +1,203 @@
+//! The functions of an object file.
+
+ghost use Rattle.std.specs.Prelude.{◌≡◌, ◌&&◌, nat_lt, List, length};
+ghost use Rattle.pw_value.specs.Fields.{u32_at, repeated, checked};
+ghost use Rattle.pw_value.specs.FieldFaults.{Gives};
+ghost use Rattle.pw_files.specs.Rising.{counted_at};
+ghost use Rattle.pw_object.specs.Functions.{function_view};
+ghost use Rattle.pw_object.specs.Reading.{kind_at, named_at, word_at, routine_at, symbol_of_form_at, symbol_at, fix_at, function_at};
+
+use crate::fixes::{Fix, FixKind, Symbol};
+use pw_value::Name;
+use pw_value::fields::names::read_name;
+use pw_value::fields::{FieldError, read_choice, read_u32};
+use std::alloc::Global;
+
+/// A function: its name, the bytes of its frame, its words and its fixes.
+#[derive(Debug, Drop)]
+pub struct ObjectFn {
+    pub name: Name,
+    pub frame: u32,
+    pub words: Vec<u32>,
+    pub fixes: Vec<Fix>,
+}
+
+/// A fix's kind.
+#[tactic(auto, unfolding(crate::specs::Reading::kind_at))]
+fn read_kind(bytes: &[u8]) -> Result<(FixKind, &[u8]), FieldError>
+    ensures { Gives (λ x. (x.0, x.1.now)) result (kind_at bytes.now) }
+{
+    let (code, rest) = read_choice(3, bytes)?;
+    let kind = match code {
+        0 => FixKind::Ldil,
+        1 => FixKind::Im14,
+        _ => FixKind::Bl,
+    };
+    Ok((kind, rest))
+}
+
+/// A symbol that is a name.
+#[tactic(auto, unfolding(crate::specs::Reading::named_at))]
+fn read_named<'a>(
+    alloc: Global,
+    names: &[Name],
+    bytes: &'a [u8],
+) -> Result<(Symbol, &'a [u8]), FieldError>
+    ensures { Gives (λ x. (x.0, x.1.now)) result (named_at names.now bytes.now) }
+{
+    let (name, rest) = read_name(names, bytes)?;
+    Ok((Symbol::Named(name.copy(alloc)?), rest))
+}
+
+/// A symbol that is a word of the function.
+#[tactic(auto, unfolding(crate::specs::Reading::word_at))]
+fn read_word(bytes: &[u8]) -> Result<(Symbol, &[u8]), FieldError>
+    ensures { Gives (λ x. (x.0, x.1.now)) result (word_at bytes.now) }
+{
+    let (word, rest) = read_u32(bytes)?;
+    Ok((Symbol::Word(word), rest))
+}
+
+/// A symbol that is a routine.
+#[tactic(auto, unfolding(crate::specs::Reading::routine_at))]
+fn read_routine(bytes: &[u8]) -> Result<(Symbol, &[u8]), FieldError>
+    ensures { Gives (λ x. (x.0, x.1.now)) result (routine_at bytes.now) }
+{
+    let (number, rest) = read_choice(5, bytes)?;
+    Ok((Symbol::Routine(number), rest))
+}
+
+/// A symbol.
+#[tactic(auto, unfolding(crate::specs::Reading::symbol_at))]
+fn read_symbol<'a>(
+    alloc: Global,
+    names: &[Name],
+    bytes: &'a [u8],
+) -> Result<(Symbol, &'a [u8]), FieldError>
+    ensures { Gives (λ x. (x.0, x.1.now)) result (symbol_at names.now bytes.now) }
+{
+    let (form, rest) = read_choice(4, bytes)?;
+    match form {
+        0 => read_named(alloc, names, rest),
+        1 => read_word(rest),
+        2 => Ok((Symbol::StackLimit, rest)),
+        _ => read_routine(rest),
+    }
+}
+
+/// The number of a word, of so many.
+fn read_place(words: usize, bytes: &[u8]) -> Result<(u32, &[u8]), FieldError>
+    ensures { Gives (λ x. (x.0, x.1.now)) result (checked (λ w. nat_lt w words) u32_at bytes.now) }
+{
+    let (word, rest) = read_u32(bytes)?;
+    if (word as usize) < words {
+        Ok((word, rest))
+    } else {
+        Err(FieldError::Fault { left: bytes.len() })
+    }
+}
+
+/// A fix of a function of so many words.
+#[tactic(auto, unfolding(crate::specs::Reading::fix_at))]
+fn read_fix<'a>(
+    alloc: Global,
+    names: &[Name],
+    words: usize,
+    bytes: &'a [u8],
+) -> Result<(Fix, &'a [u8]), FieldError>
+    ensures { Gives (λ x. (x.0, x.1.now)) result (fix_at names.now words bytes.now) }
+{
+    let (word, rest) = read_place(words, bytes)?;
+    let (kind, rest) = read_kind(rest)?;
+    let (symbol, rest) = read_symbol(alloc, names, rest)?;
+    let (addend, rest) = read_u32(rest)?;
+    let fix = Fix {
+        word,
+        kind,
+        symbol,
+        addend,
+    };
+    Ok((fix, rest))
+}
+
+/// So many words.
+fn read_word_items(alloc: Global, count: u32, bytes: &[u8]) -> Result<(Vec<u32>, &[u8]), FieldError>
+    ensures { Gives (λ x. (x.0.items, x.1.now)) result (repeated u32_at count bytes.now) }
+{
+    let mut items = Vec::new(alloc);
+    let mut rest = bytes;
+    for _ in 0..count {
+        let (word, after) = read_u32(rest)?;
+        items.push(word)?;
+        rest = after;
+    }
+    Ok((items, rest))
+}
+
+/// So many fixes of a function of so many words.
+fn read_fix_items<'a>(
+    alloc: Global,
+    names: &[Name],
+    words: usize,
+    count: u32,
+    bytes: &'a [u8],
+) -> Result<(Vec<Fix>, &'a [u8]), FieldError>
+    ensures { Gives (λ x. (x.0.items, x.1.now)) result (repeated (fix_at names.now words) count bytes.now) }
+{
+    let mut items = Vec::new(alloc);
+    let mut rest = bytes;
+    for _ in 0..count {
+        let (fix, after) = read_fix(alloc, names, words, rest)?;
+        items.push(fix)?;
+        rest = after;
+    }
+    Ok((items, rest))
+}
+
+/// The count of words, and the words.
+#[tactic(auto, unfolding(pw_files::specs::Rising::counted_at))]
+fn read_words(alloc: Global, bytes: &[u8]) -> Result<(Vec<u32>, &[u8]), FieldError>
+    ensures { Gives (λ x. (x.0.items, x.1.now)) result (counted_at u32_at bytes.now) }
+{
+    let (count, rest) = read_u32(bytes)?;
+    read_word_items(alloc, count, rest)
+}
+
+/// The count of fixes, and the fixes.
+#[tactic(auto, unfolding(pw_files::specs::Rising::counted_at))]
+fn read_fixes<'a>(
+    alloc: Global,
+    names: &[Name],
+    words: usize,
+    bytes: &'a [u8],
+) -> Result<(Vec<Fix>, &'a [u8]), FieldError>
+    ensures { Gives (λ x. (x.0.items, x.1.now)) result (counted_at (fix_at names.now words) bytes.now) }
+{
+    let (count, rest) = read_u32(bytes)?;
+    read_fix_items(alloc, names, words, count, rest)
+}
+
+/// A function of an object file, its name and those of its fixes in the table.
+#[tactic(auto, unfolding(crate::specs::Reading::function_at))]
+pub fn read_function<'a>(
+    alloc: Global,
+    names: &[Name],
+    bytes: &'a [u8],
+) -> Result<(ObjectFn, &'a [u8]), FieldError>
+    ensures { Gives (λ x. (function_view x.0, x.1.now)) result (function_at names.now bytes.now) }
+{
+    let (name, rest) = read_name(names, bytes)?;
+    let (frame, rest) = read_u32(rest)?;
+    let (words, rest) = read_words(alloc, rest)?;
+    let (fixes, rest) = read_fixes(alloc, names, words.len(), rest)?;
+    let name = name.copy(alloc)?;
+    Ok((
+        ObjectFn {
+            name,
+            frame,
+            words,
+            fixes,
+        },
+        rest,
+    ))
+}
