@@ -18,3 +18,9 @@ pub mod DeclarationsRead
 pub mod StatementHeads
 pub mod StatementsRead
 pub mod ModuleRead
+pub mod SoundBase
+pub mod SoundLists
+pub mod SoundParts
+pub mod SoundPrimaries
+pub mod SoundPostfixes
+pub mod SoundUnaries
