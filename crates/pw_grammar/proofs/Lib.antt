@@ -24,3 +24,4 @@ pub mod SoundParts
 pub mod SoundPrimaries
 pub mod SoundPostfixes
 pub mod SoundUnaries
+pub mod SoundLevels
