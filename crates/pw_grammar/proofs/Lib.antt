@@ -25,3 +25,4 @@ pub mod SoundPrimaries
 pub mod SoundPostfixes
 pub mod SoundUnaries
 pub mod SoundLevels
+pub mod SoundMembers

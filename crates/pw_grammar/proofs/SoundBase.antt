@@ -9,7 +9,7 @@ use Rattle.pw_tree.specs.contracts.symbol.Mark.{the_type as the_marks}
 use Rattle.pw_tree.specs.declared.symbol.Keyword.{Keyword}
 use Rattle.pw_tree.specs.declared.symbol.Mark.{Mark}
 use Rattle.pw_tree.specs.declared.symbol.Mark.TheVariants as m
-use Rattle.pw_grammar.specs.Input.{Input, Outcome, Parser, and_then, ◌>>=◌, ◌<$>◌, pure, first_of_rest, ahead, step_to, step, same_mark, same_keyword, is_mark, is_keyword, sees, sees_keyword, past, expect, expect_keyword, Turn, More, Last, go_on, repeat, turn_of, while_some, turns, list_of, one_or_more, turn_with, unless_comma}
+use Rattle.pw_grammar.specs.Input.{Input, Outcome, Parser, and_then, ◌>>=◌, ◌<$>◌, pure, first_of_rest, ahead, step_to, step, same_mark, same_keyword, is_mark, is_keyword, sees, sees_keyword, past, eat, expect, expect_keyword, Turn, More, Last, go_on, repeat, turn_of, while_some, turns, list_of, one_or_more, turn_with, unless_comma}
 use Rattle.pw_grammar.proofs.Base.{names_of, names_are}
 
 -- ---- answers
@@ -96,3 +96,17 @@ expected R i env mark p names f = by (sees mark i) refl
     by : (b : Bool) → sees mark i ≡ b → Post R (and_then (if b then Ok (tt {0}, step i) else Err i) (λ _. p))
     by true h = f (step i) (sign i env mark h names)
     by false h = tt
+
+-- a mark that may stand next
+pub eaten : {A : Type 0} (R : A → Input → Type 0) (i : Input) (env : Env) (mark : Mark) (p q : Parser A) → i.names ≡ names_of env → ((j : Input) → Reads i j env (λ z. Sign mark ∷ z) → Post R (p j)) → (sees mark i ≡ false → Post R (q i))
+    → Post R (and_then (eat mark i) (λ b. if b then p else q))
+unfolding past
+eaten R i env mark p q names f g = by (sees mark i) refl
+  where
+    by : (b : Bool) → sees mark i ≡ b → Post R ((if b then p else q) (if b then step i else i))
+    by true h = f (step i) (sign i env mark h names)
+    by false h = g h
+
+-- other names for those that are visible behind the tokens
+pub renamed : {i j : Input} {env other : Env} {p : List Symbol → List Symbol} → Reads i j env p → j.names ≡ names_of other → Reads i j other p
+renamed r h = record { text = r.text; next = r.next; names = h; plain = r.plain }
