@@ -26,3 +26,4 @@ pub mod SoundPostfixes
 pub mod SoundUnaries
 pub mod SoundLevels
 pub mod SoundMembers
+pub mod SoundSpecifiers

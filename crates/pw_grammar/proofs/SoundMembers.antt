@@ -241,6 +241,6 @@ module _ (parts : Parts) (sound : Sound parts) where
       (λ h. padding-sound typed env i h names)
       (λ _. named_member-sound typed env i names)
 
-  member_declarators-sound : (typed : Bool) (env : Env) (i : Input) → i.names ≡ names_of env → Post (IsMemberDeclarators typed env i) (member_declarators parts typed i)
+  pub member_declarators-sound : (typed : Bool) (env : Env) (i : Input) → i.names ≡ names_of env → Post (IsMemberDeclarators typed env i) (member_declarators parts typed i)
   unfolding member_declarators
   member_declarators-sound typed env i names = comma-sound (IsMemberDeclarators typed) NoMemberDeclarator (member_declarator parts typed) (member_declarator-sound typed) env i names
