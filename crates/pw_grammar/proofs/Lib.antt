@@ -27,3 +27,4 @@ pub mod SoundUnaries
 pub mod SoundLevels
 pub mod SoundMembers
 pub mod SoundSpecifiers
+pub mod SoundPointers

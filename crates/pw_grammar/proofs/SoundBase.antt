@@ -1,5 +1,6 @@
 -- What holds of parsers' answers, and of the tokens between two inputs.
-use Rattle.std.proofs.Common.{◌≡◌, ℕ, zero, suc, ◌+◌, Bool, true, false, if◌then◌else◌, List, [], ◌∷◌, length, map, Option, Some, None, Ok, Err, arith, rules, refl, sym, ap, ◌∙◌, subst}
+use Rattle.std.proofs.Common.{◌≡◌, ℕ, zero, suc, ◌+◌, Bool, true, false, if◌then◌else◌, List, [], ◌∷◌, ◌++◌, append_assoc, length, map, Option, Some, None, Ok, Err, arith, rules, refl, sym, ap, ◌∙◌, subst}
+use Rattle.std.proofs.lemmas.List.{length-append, map-append}
 use denote.Enum.Bare.{same_true}
 use Rattle.pw_tree.specs.Scopes.{Env, is_typedef_name}
 use Rattle.pw_tree.specs.Scopes as scopes
@@ -39,21 +40,21 @@ choose_parser R false p q i f g = g refl
 
 -- From i to j these tokens are read: `put` writes them before those behind. These names are visible at j.
 pub record Reads (i j : Input) (env : Env) (put : List Symbol → List Symbol) : Type 0 where
-  pub text : (z : List Symbol) → j.rest ≡ map Some z → i.rest ≡ map Some (put z)
+  pub text : i.rest ≡ map Some (put []) ++ j.rest
   pub next : j.next ≡ i.next + length (put [])
   pub names : j.names ≡ names_of env
-  pub plain : (z : List Symbol) → length (put z) ≡ length (put []) + length z
+  pub plain : (z : List Symbol) → put z ≡ put [] ++ z
 
 pub nothing : (i : Input) (env : Env) → i.names ≡ names_of env → Reads i i env (λ z. z)
-nothing i env h = record { text = λ z f. f; next = omega arith; names = h; plain = λ z. omega arith }
+nothing i env h = record { text = refl; next = omega arith; names = h; plain = λ z. refl }
 
 -- one part and another behind it
 pub both : {i j k : Input} {env inner : Env} {p q : List Symbol → List Symbol} → Reads i j inner p → Reads j k env q → Reads i k env (λ z. p (q z))
-both {q = q} a b = record {
-  text = λ z f. a.text (q z) (b.text z f);
-  next = omega (arith, a.next, b.next, a.plain (q []));
+both {k = k} {p = p} {q = q} a b = record {
+  text = a.text ∙ ap (λ v. map Some (p []) ++ v) b.text ∙ sym (append_assoc (map Some (p [])) (map Some (q [])) k.rest) ∙ ap (λ v. v ++ k.rest) (sym (map-append Some (p []) (q []))) ∙ ap (λ v. map Some v ++ k.rest) (sym (a.plain (q [])));
+  next = omega (arith, a.next, b.next, ap length (a.plain (q [])), length-append (p []) (q []));
   names = b.names;
-  plain = λ z. omega (arith, a.plain (q z), a.plain (q []), b.plain z) }
+  plain = λ z. a.plain (q z) ∙ ap (λ v. p [] ++ v) (b.plain z) ∙ sym (append_assoc (p []) (q []) z) ∙ ap (λ v. v ++ z) (sym (a.plain (q []))) }
 
 pub token : (i : Input) (env : Env) (s : Symbol) → ahead i ≡ Some s → i.names ≡ names_of env → Reads i (step i) env (λ z. s ∷ z)
 unfolding ahead step
@@ -65,10 +66,10 @@ token i env s h names = by i.rest refl h
     by : (rest : List (Option Symbol)) → i.rest ≡ rest → first_of_rest rest ≡ Some s → Reads i (step_to i rest) env (λ z. s ∷ z)
     by [] e f = none f
     by (x ∷ rest) e f = record {
-      text = λ z g. e ∙ ap (λ v. v ∷ rest) f ∙ ap (λ v. Some s ∷ v) g;
+      text = e ∙ ap (λ v. v ∷ rest) f;
       next = refl;
       names = names;
-      plain = λ z. omega arith }
+      plain = λ z. refl }
 
 -- ---- marks and keywords
 

@@ -96,7 +96,7 @@ valued_enumerator-listed env i x y u j w e q equal s d =
 
 -- what is declared is visible from then on
 pub declared_plain : (env : Env) (w : Word) (i : Input) → i.names ≡ names_of env → Reads i (record i { names = i.names ++ (w.text, false) ∷ [] }) (declare_plain w env) (λ z. z)
-declared_plain env w i names = record { text = λ z f. f; next = omega arith; names = ap (λ v. v ++ (w.text, false) ∷ []) names; plain = λ z. omega arith }
+declared_plain env w i names = record { text = refl; next = omega arith; names = ap (λ v. v ++ (w.text, false) ∷ []) names; plain = λ z. refl }
 
 module _ (parts : Parts) (sound : Sound parts) where
   enumerator-sound : (env : Env) (i : Input) → i.names ≡ names_of env → Post (IsListed IsEnumerators NoEnumerator env i) (enumerator parts i)
