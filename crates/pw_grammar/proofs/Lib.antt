@@ -28,3 +28,8 @@ pub mod SoundLevels
 pub mod SoundMembers
 pub mod SoundSpecifiers
 pub mod SoundPointers
+pub mod SoundParameters
+pub mod SoundSuffixes
+pub mod SoundDeclarators
+pub mod SoundKnot
+pub mod SoundDeclarations
