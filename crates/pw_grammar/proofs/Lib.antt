@@ -33,3 +33,7 @@ pub mod SoundSuffixes
 pub mod SoundDeclarators
 pub mod SoundKnot
 pub mod SoundDeclarations
+pub mod SoundStatements
+pub mod SoundSymbols
+pub mod SoundModule
+pub mod SoundLaws

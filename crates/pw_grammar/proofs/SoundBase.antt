@@ -10,7 +10,7 @@ use Rattle.pw_tree.specs.contracts.symbol.Mark.{the_type as the_marks}
 use Rattle.pw_tree.specs.declared.symbol.Keyword.{Keyword}
 use Rattle.pw_tree.specs.declared.symbol.Mark.{Mark}
 use Rattle.pw_tree.specs.declared.symbol.Mark.TheVariants as m
-use Rattle.pw_grammar.specs.Input.{Input, Outcome, Parser, and_then, ◌>>=◌, ◌<$>◌, pure, first_of_rest, ahead, step_to, step, same_mark, same_keyword, is_mark, is_keyword, sees, sees_keyword, past, eat, expect, expect_keyword, Turn, More, Last, go_on, repeat, turn_of, while_some, turns, list_of, one_or_more, turn_with, unless_comma}
+use Rattle.pw_grammar.specs.Input.{Input, Outcome, Parser, and_then, ◌>>=◌, ◌<$>◌, pure, first_of_rest, ahead, step_to, step, same_mark, same_keyword, is_mark, is_keyword, sees, sees_keyword, past, past_keyword, eat, eat_keyword, expect, expect_keyword, Turn, More, Last, go_on, repeat, turn_of, while_some, turns, list_of, one_or_more, turn_with, unless_comma}
 use Rattle.pw_grammar.proofs.Base.{names_of, names_are}
 
 -- ---- answers
@@ -111,3 +111,26 @@ eaten R i env mark p q names f g = by (sees mark i) refl
 -- other names for those that are visible behind the tokens
 pub renamed : {i j : Input} {env other : Env} {p : List Symbol → List Symbol} → Reads i j env p → j.names ≡ names_of other → Reads i j other p
 renamed r h = record { text = r.text; next = r.next; names = h; plain = r.plain }
+
+-- a keyword that stands next
+pub word_sign : (i : Input) (env : Env) (word : Keyword) → sees_keyword word i ≡ true → i.names ≡ names_of env → Reads i (step i) env (λ z. Reserved word ∷ z)
+unfolding sees_keyword
+word_sign i env word h names = token i env (Reserved word) (reserved word (ahead i) h) names
+
+pub expected_keyword : {A : Type 0} (R : A → Input → Type 0) (i : Input) (env : Env) (word : Keyword) (p : Parser A) → i.names ≡ names_of env → ((j : Input) → Reads i j env (λ z. Reserved word ∷ z) → Post R (p j)) → Post R (and_then (expect_keyword word i) (λ _. p))
+unfolding expect_keyword
+expected_keyword R i env word p names f = by (sees_keyword word i) refl
+  where
+    by : (b : Bool) → sees_keyword word i ≡ b → Post R (and_then (if b then Ok (tt {0}, step i) else Err i) (λ _. p))
+    by true h = f (step i) (word_sign i env word h names)
+    by false h = tt
+
+-- a keyword that may stand next
+pub eaten_keyword : {A : Type 0} (R : A → Input → Type 0) (i : Input) (env : Env) (word : Keyword) (p q : Parser A) → i.names ≡ names_of env → ((j : Input) → Reads i j env (λ z. Reserved word ∷ z) → sees_keyword word i ≡ true → Post R (p j))
+    → (sees_keyword word i ≡ false → Post R (q i)) → Post R (and_then (eat_keyword word i) (λ b. if b then p else q))
+unfolding past_keyword
+eaten_keyword R i env word p q names f g = by (sees_keyword word i) refl
+  where
+    by : (b : Bool) → sees_keyword word i ≡ b → Post R ((if b then p else q) (if b then step i else i))
+    by true h = f (step i) (word_sign i env word h names) h
+    by false h = g h
