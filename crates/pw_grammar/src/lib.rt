@@ -1,8 +1,10 @@
 //! The grammar of C90 (ISO/IEC 9899:1990, 6.3 to 6.7) read from front to back: a parser as a function on lists of tokens, and its laws.
 #![tactic(auto)]
 
+mod laws;
 mod place;
 mod word;
 
+pub use laws::what_is_read_is_written;
 pub use place::Place;
 pub use word::SpecifierWord;
