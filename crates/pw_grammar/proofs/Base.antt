@@ -1,19 +1,16 @@
 -- An input whose tokens ahead are a tree's, and the steps of parsers on it.
-use Rattle.std.proofs.Common.{◌≡◌, ℕ, zero, suc, ◌+◌, ◌<◌, Bool, true, false, not, ◌||◌, if◌then◌else◌, List, [], ◌∷◌, ◌++◌, append_assoc, length, map, take, drop, Option, Some, None, Result, Ok, Err, arith, refl, sym, ap, ◌∙◌}
+use Rattle.std.proofs.Common.{◌≡◌, ℕ, suc, ◌+◌, ◌<◌, Bool, true, false, if◌then◌else◌, List, [], ◌∷◌, ◌++◌, append_assoc, length, map, take, drop, Option, Some, None, Ok, arith, refl, sym, ap, ◌∙◌}
 use Rattle.std.proofs.lemmas.List.{length-map, append-nil}
 use Rattle.std.proofs.Math.Seq.{take-append_seam, drop-append_seam}
-use Rattle.std.specs.Option.{option_or}
 use Rattle.std.specs.Str.{bytes_eq}
 use Rattle.std.proofs.lemmas.Slice.Eq.{bytes_eq-Decides}
 use Rattle.pw_scope.proofs.Visibility.{visible-declared}
 use Rattle.pw_scope.specs.Visible.{visible}
 use Rattle.pw_tree.specs.Scopes as scopes
 use Rattle.pw_tree.specs.Scopes.{Env}
-use Rattle.pw_tree.specs.Symbols.{Symbol, Reserved, Sign, Identifier}
-use Rattle.pw_tree.specs.Trees.{Word}
-use Rattle.pw_tree.specs.declared.symbol.Mark.{Mark}
+use Rattle.pw_tree.specs.Symbols.{Symbol, Sign}
 use Rattle.pw_tree.specs.declared.symbol.Mark.TheVariants as m
-use Rattle.pw_grammar.specs.Input.{Binding, Input, Outcome, Parser, ◌>>=◌, and_then, pure, is_typedef_name, or_false, identifier, identifier_by, ordinary, ordinary_by, word, peek, ahead, step, Turn, More, Last, go_on, repeat, turn_of, turn_with, ◌<$>◌, unless_comma, sees, past, same_mark, is_mark, first_of_rest}
+use Rattle.pw_grammar.specs.Input.{Binding, Input, Outcome, Parser, ◌>>=◌, and_then, pure, is_typedef_name, or_false, ahead, step, Turn, More, Last, go_on, repeat, turn_of, turn_with, ◌<$>◌, unless_comma, sees, past, same_mark, is_mark, first_of_rest}
 
 -- the names that are visible, as a parser has them: the newest last
 abbrev pub binding : scopes.Binding → Binding

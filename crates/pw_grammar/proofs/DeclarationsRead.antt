@@ -1,41 +1,26 @@
 -- Initializers and declarations are read (6.5, 6.5.7).
-use Rattle.std.proofs.Common.{◌≡◌, ℕ, zero, suc, ◌+◌, ◌-◌, ◌==◌, ◌<◌, ◌≤◌, Bool, true, false, not, nat_le, if◌then◌else◌, List, [], ◌∷◌, length, map, Option, Some, None, Ok, arith, refl, sym, ap, ◌∙◌, subst}
-use Rattle.pw_tree.specs.Levels.{level, chain_level, binary_level}
-use Rattle.pw_tree.specs.Numbering.{past_identifiers, past_tag, past_pointers, past_expr, past_postfixes, past_arguments, past_operations, past_specifiers, past_members, past_member_declarators, past_enumerators, past_declarator, past_core, past_suffixes, past_parameters, past_optional, past_init, past_inits, past_initializer, past_init_declarators, past_decl, past_decls, past_label, past_labels, past_stmt, past_alternative, past_block, past_stmts, past_external, past_comma, NumberedIdentifiers, NumberedStrings, NumberedTag, NumberedPointers, Numbered, NumberedPostfixes, NumberedArguments, NumberedOperations, NumberedSpecifiers, NumberedMembers, NumberedMemberDeclarators, NumberedEnumerators, NumberedDeclarator, NumberedCore, NumberedSuffixes, NumberedParameters, NumberedOptional, NumberedInit, NumberedInits, NumberedInitializer, NumberedInitDeclarators, NumberedDecl, NumberedDecls, NumberedLabel, NumberedLabels, NumberedStmt, NumberedAlternative, NumberedBlock, NumberedStmts, NumberedFunction, NumberedExternal, NumberedExternals, NumberedModule}
-use Rattle.pw_tree.specs.Scopes.{is_typedef_name, declare_plain, declare_plains, has_typedef, has_type, name_of, name_in, declare_name, declare, after_expr, after_postfixes, after_arguments, after_operations, after_specifiers, after_members, after_member_declarators, after_enumerators, after_declarator, after_core, after_suffixes, after_parameter, after_parameters, after_optional, after_init, after_inits, after_initializer, after_name, after_init_declarators, after_decl, after_decls, after_label, after_labels, after_stmt, after_alternative, enter_first, enter, after_external, Env}
-use Rattle.pw_tree.specs.Spelling.{identifier, separated, trailed, spell_identifiers, spell_strings, spell_tag, spell_qualifiers, spell_pointers, spell_expr, spell_postfixes, spell_arguments, spell_operations, spell_specifiers, spell_members, spell_member_declarators, spell_enumerators, spell_declarator, spell_core, spell_suffixes, spell_parameters, spell_optional, spell_init, spell_inits, spell_initializer, spell_init_declarators, spell_decl, spell_decls, spell_label, spell_labels, spell_stmt, spell_alternative, spell_block, spell_stmts, spell_external, spell_externals, symbols, spelling}
+use Rattle.std.proofs.Common.{◌≡◌, ℕ, zero, suc, ◌+◌, ◌<◌, ◌≤◌, Bool, true, false, nat_le, if◌then◌else◌, List, [], ◌∷◌, length, map, Option, Some, None, Ok, arith, refl, sym, ap, ◌∙◌}
+use Rattle.pw_tree.specs.Numbering.{past_specifiers, past_declarator, past_init, past_inits, past_initializer, past_init_declarators, past_decl, past_decls, NumberedDeclarator, NumberedInit, NumberedInits, NumberedInitializer, NumberedInitDeclarators, NumberedDecl, NumberedDecls}
+use Rattle.pw_tree.specs.Scopes.{is_typedef_name, has_typedef, has_type, name_of, declare_name, after_specifiers, after_declarator, after_init, after_inits, after_initializer, after_name, after_init_declarators, after_decl, after_decls, Env}
+use Rattle.pw_tree.specs.Spelling.{trailed, spell_expr, spell_declarator, spell_init, spell_inits, spell_initializer, spell_init_declarators, spell_decl, spell_decls}
 use Rattle.pw_tree.specs.Symbols as symbol
 use Rattle.pw_tree.specs.Symbols.{Symbol, Reserved, Sign, unary_symbol, binary_mark, assign_mark, access_mark, step_mark}
-use Rattle.pw_tree.specs.Trees.{Word, Pointer, Expr, Identifier, Number, Floating, Character, Wide, Strings, Paren, Postfix, Unary, SizeofType, Cast, Chain, Conditional, Assign, Postfixes, NoPostfix, Index, Call, Select, Step, Arguments, NoArgument, Argument, Operations, NoOperation, Operation, Specifiers, NoSpecifier, Storage, Qualified, Basic, TypedefName, RecordTag, Record, EnumTag, Enum, Members, NoMember, Member, MemberDeclarators, NoMemberDeclarator, PlainMember, BitField, Padding, Enumerators, NoEnumerator, PlainEnumerator, ValuedEnumerator, Declarator, Declaring, Core, Absent, Name, Enclosed, Suffixes, NoSuffix, Array, OpenArray, Prototype, Variadic, Identifiers, Parameters, NoParameter, Parameter, Init, Value, Braces, Inits, NoInit, Listed, Initializer, InitDeclarator, Decl, Label, CaseLabel, DefaultLabel, NameLabel, Stmt, Compound, Expression, Empty, Labeled, If, Switch, While, Do, For, Goto, Continue, Break, Return, Alternative, NoElse, Otherwise, ElseIf, Block, Braced, Stmts, NoStmt, Next, External, Definition, Declaration}
+use Rattle.pw_tree.specs.Trees.{Specifiers, Declarator, Declaring, Absent, Name, Enclosed, Init, Value, Braces, Inits, NoInit, Listed, Initializer, InitDeclarator, Decl}
 use Rattle.pw_tree.specs.WellFormed.{NotEmpty, HasPostfix, HasSpecifier, HasMember, HasMemberDeclarator, HasEnumerator, HasParameter, HasInit, NotTypedef, NoneTypedef, MayDeclare, NoStorage, IsSomething, begins_with_typedef, MayEnclose, operand_level, WellFormed, WellFormedPostfixes, WellFormedArguments, WellFormedOperations, WellFormedSpecifiers, WellFormedMembers, WellFormedMemberDeclarators, WellFormedEnumerators, WellFormedDeclarator, WellFormedCore, WellFormedSuffixes, WellFormedParameters, WellFormedOptional, WellFormedInit, WellFormedInits, WellFormedInitializer, WellFormedInitDeclarators, WellFormedDecl, WellFormedDecls, WellFormedLabel, WellFormedLabels, NotLabeled, NotIf, ends_open, alternative_ends_open, MayPrecede, WellFormedStmt, WellFormedAlternative, WellFormedBlock, WellFormedStmts, in_function, WellFormedFunction, WellFormedExternal, WellFormedExternals, WellFormedModule}
 use Rattle.pw_tree.specs.WellFormed as tree
-use Rattle.pw_tree.specs.declared.operator.Access.{Access}
-use Rattle.pw_tree.specs.declared.operator.Access.TheVariants as access
-use Rattle.pw_tree.specs.declared.operator.AssignOperator.{AssignOperator}
-use Rattle.pw_tree.specs.declared.operator.AssignOperator.TheVariants as assign
-use Rattle.pw_tree.specs.declared.operator.BinaryOperator.{BinaryOperator}
-use Rattle.pw_tree.specs.declared.operator.BinaryOperator.TheVariants as binary
-use Rattle.pw_tree.specs.declared.operator.StepOperator.{StepOperator}
-use Rattle.pw_tree.specs.declared.operator.StepOperator.TheVariants as stepping
-use Rattle.pw_tree.specs.declared.operator.UnaryOperator.{UnaryOperator}
-use Rattle.pw_tree.specs.declared.operator.UnaryOperator.TheVariants as unary
-use Rattle.pw_tree.specs.declared.symbol.Keyword.TheVariants as k
-use Rattle.pw_tree.specs.declared.symbol.Mark.{Mark}
 use Rattle.pw_tree.specs.declared.symbol.Mark.TheVariants as m
-use Rattle.pw_grammar.specs.declared.place.Place.{Place}
-use Rattle.pw_grammar.specs.declared.place.Place.TheVariants.{Named, Nameless, Either}
-use Rattle.pw_grammar.specs.Input.{Input, first_of_rest, ahead, is_none_left, at_end, step_to, step, same_mark, same_keyword, is_mark, is_keyword, sees, sees_keyword, or_false, Outcome, Parser, and_then, ◌>>=◌, ◌>>◌, pure, ◌<$>◌, fault, asks, peek, here, skip, take_number, word, past, past_keyword, eat, eat_keyword, expect, expect_keyword, identifier_by, ordinary_by, ordinary, declare_all, leave, since, turns, go_on, repeat, list_of, turn_of, while_some, turn_with, one_or_more, unless_comma, Turn, More, Last, Binding}
-use Rattle.pw_grammar.specs.Parts.{Parts, Declared}
+use Rattle.pw_grammar.specs.declared.place.Place.TheVariants.{Named}
+use Rattle.pw_grammar.specs.Input.{ahead, step, same_mark, is_mark, sees, Parser, ◌<$>◌, past, expect, repeat, turn_of}
 use Rattle.std.proofs.lemmas.Bool.{leb-true, leb-false}
-use Rattle.pw_grammar.specs.Declarations.{parts, inits_end, inits, braced, init_of, init, initializer, initialized, init_declarator, init_declarators, other_declarator, declaration_with, declaration, declaration_next, declarations}
+use Rattle.pw_grammar.specs.Declarations.{inits_end, inits, braced, init_of, init, initializer, initialized, init_declarator, init_declarators, other_declarator, declaration_with, declaration, declaration_next, declarations}
 use Rattle.pw_grammar.specs.Expressions.{some_specifiers}
 use Rattle.pw_grammar.specs.Tests.{begins_specifier, symbol_begins_specifier, word_begins, specifier_word}
-use Rattle.pw_grammar.proofs.Base.{at, same, is_typedef, turns_enough, no_turns, true_is_not_false, some_more, some_last, item_turn, item_more, item_last, comma_more, comma_last}
-use Rattle.pw_grammar.proofs.Follow.{Follow, head, joins}
+use Rattle.pw_grammar.proofs.Base.{at, same, is_typedef, turns_enough, no_turns, some_more, some_last, item_turn, item_more, item_last}
+use Rattle.pw_grammar.proofs.Follow.{Follow, head}
 use Rattle.pw_grammar.proofs.Heads.{expr-begins, expr-no_open_brace, expr-no_close_brace, declarator-ends, specifiers-begin}
 use Rattle.pw_grammar.proofs.Knot.{parts-know}
-use Rattle.pw_grammar.proofs.Knows.{Knows, joins_declarator, ends_specifiers, declared}
-use Rattle.pw_grammar.proofs.Lengths.{length-init, length-inits, length-initializer, length-specifiers, length-declarator, length-init_declarators, length-decl, length-decls, length-expr}
+use Rattle.pw_grammar.proofs.Knows.{joins_declarator, ends_specifiers, declared}
+use Rattle.pw_grammar.proofs.Lengths.{length-init, length-inits, length-initializer, length-specifiers, length-declarator, length-init_declarators, length-decl}
 use Rattle.pw_grammar.proofs.ParametersRead.{declare-read}
 use Rattle.pw_grammar.proofs.Primaries.{not_empty}
 
@@ -84,16 +69,16 @@ inits-turns zero d p reads env x xs trailing z n i w num enough short at_n = no_
 inits-turns (suc count) d p reads env x NoInit trailing z n i w num enough short at_n =
     let text = trailed trailing (Sign m.CloseBrace ∷ z) in
     item_last (listed p) inits_end count (at env (spell_init x text) i) (at (after_init env x) text (past_init n x)) (at (after_init env x) (Sign m.CloseBrace ∷ z) (past_init n x + trail_count trailing)) (λ more. (Listed x more.0, more.1)) (NoInit, trailing)
-        (rw (reads env x text n i w.0 num.0 (inits-follow NoInit trailing z) short at_n) refl) (end-last trailing (after_init env x) z (past_init n x))
+    (rw (reads env x text n i w.0 num.0 (inits-follow NoInit trailing z) short at_n) refl) (end-last trailing (after_init env x) z (past_init n x))
     ∙ same (after_init env x) (Sign m.CloseBrace ∷ z) refl (omega arith)
 inits-turns (suc count) d p reads env x (Listed y xs) trailing z n i w num enough short at_n =
     let more = spell_inits true (Listed y xs) (trailed trailing (Sign m.CloseBrace ∷ z)) in
     let inner = after_init env x in
     item_more (listed p) inits_end count (at env (spell_init x (Sign m.Comma ∷ more)) i) (at inner (Sign m.Comma ∷ more) (past_init n x)) (at inner more (past_init n x + 1))
-        (at (after_inits inner (Listed y xs)) (Sign m.CloseBrace ∷ z) (past_inits true (past_init n x + 1) (Listed y xs) + trail_count trailing)) (λ more. (Listed x more.0, more.1)) (Listed y xs, trailing)
-        (rw (reads env x (Sign m.Comma ∷ more) n i w.0 num.0 (omega arith) short at_n) refl)
-        (end-more inner more (past_init n x) (init-no_close inner y (spell_inits false xs (trailed trailing (Sign m.CloseBrace ∷ z))) w.1.0))
-        (inits-turns count d p reads inner y xs trailing z (past_init n x + 1) (past_init n x + 1) w.1 num.1 (omega (arith, enough, length-init x (Sign m.Comma ∷ more))) (omega (arith, short, length-init x (Sign m.Comma ∷ more))) refl)
+    (at (after_inits inner (Listed y xs)) (Sign m.CloseBrace ∷ z) (past_inits true (past_init n x + 1) (Listed y xs) + trail_count trailing)) (λ more. (Listed x more.0, more.1)) (Listed y xs, trailing)
+    (rw (reads env x (Sign m.Comma ∷ more) n i w.0 num.0 (omega arith) short at_n) refl)
+    (end-more inner more (past_init n x) (init-no_close inner y (spell_inits false xs (trailed trailing (Sign m.CloseBrace ∷ z))) w.1.0))
+    (inits-turns count d p reads inner y xs trailing z (past_init n x + 1) (past_init n x + 1) w.1 num.1 (omega (arith, enough, length-init x (Sign m.Comma ∷ more))) (omega (arith, short, length-init x (Sign m.Comma ∷ more))) refl)
     ∙ same (after_inits inner (Listed y xs)) (Sign m.CloseBrace ∷ z) refl (omega (arith, length-init x (Sign m.Comma ∷ spell_inits true (Listed y xs) [])))
 
 braced-read : (d : ℕ) (p : Parser Init) (reads : ReadsInit d p) (env : Env) (xs : Inits) (trailing : Bool) (z : List Symbol) (n i : ℕ) → HasInit xs → WellFormedInits env xs → NumberedInits true (n + 1) xs
@@ -139,7 +124,7 @@ init-read limit (suc depth) env (Value e) z n i w num follow deep short at_n =
     (rw ((parts-know limit).expr 15 (omega arith) env e z n i w.1 num w.0 follow short at_n) refl)
 init-read limit (suc depth) env (Braces t xs trailing) z n i w num follow deep short at_n =
     braced-read (smaller depth limit) (init limit depth) (λ env y z n i v num follow small at_n. init-read limit depth env y z n i v num follow (omega (arith, small, smaller-left depth limit)) (omega (arith, small, smaller-right depth limit)) at_n)
-        env xs trailing z n i w.0 w.1 num.1 (smaller-is depth limit _ (omega (arith, deep)) (omega (arith, short))) at_n
+    env xs trailing z n i w.0 w.1 num.1 (smaller-is depth limit _ (omega (arith, deep)) (omega (arith, short))) at_n
     ∙ same (after_inits env xs) z (ap (λ v. Braces v xs trailing) (at_n ∙ sym num.0)) (omega (arith, length-inits true xs (trailed trailing (Sign m.CloseBrace ∷ [])), trailing-count trailing []))
 
 -- ---- 6.5
@@ -197,7 +182,7 @@ module _ (limit : ℕ) where
       let more = spell_init_declarators false ds (Sign m.Semicolon ∷ z) in
       rw ((parts-know limit).declarator Named (has_type ss) env x.declarator (spell_initializer x.initializer more) n i w num (declarator-follow x.initializer ds z) short at_n)
       (initialized-read (has_typedef ss) (after_declarator env x.declarator) x.declarator x.initializer more (past_declarator n x.declarator) (past_declarator n x.declarator) v numi ((others-follow ds z).0) ((others-follow ds z).1)
-          (omega (arith, short, length-declarator x.declarator (spell_initializer x.initializer more))) refl)
+      (omega (arith, short, length-declarator x.declarator (spell_initializer x.initializer more))) refl)
 
   others-turns : (count : ℕ) (env : Env) (ss : Specifiers) (ds : List InitDeclarator) (z : List Symbol) (n i : ℕ) → WellFormedInitDeclarators env ss ds → NumberedInitDeclarators false n ds
       → length (spell_init_declarators false ds (Sign m.Semicolon ∷ z)) < count → length (spell_init_declarators false ds (Sign m.Semicolon ∷ z)) < limit → i ≡ n
@@ -212,11 +197,11 @@ module _ (limit : ℕ) where
       let more = spell_init_declarators false ds (Sign m.Semicolon ∷ z) in
       let long = length-declarator x.declarator (spell_initializer x.initializer more) in
       some_more [] (other_declarator limit (has_type ss) (has_typedef ss)) count (at env (spell_init_declarators false (x ∷ ds) (Sign m.Semicolon ∷ z)) i) (at inner more behind)
-          (at (after_init_declarators inner ss ds) (Sign m.Semicolon ∷ z) (past_init_declarators false behind ds)) (λ more. x ∷ more) ds
-          (rw (init_declarator-read env ss x ds z (n + 1) (i + 1) w.0 w.1 num.0 num.1 (omega (arith, short)) (omega (arith, at_n))) refl)
-          (others-turns count inner ss ds z behind behind w.2 num.2 (omega (arith, enough, long, length-initializer x.initializer more)) (omega (arith, short, long, length-initializer x.initializer more)) refl)
+      (at (after_init_declarators inner ss ds) (Sign m.Semicolon ∷ z) (past_init_declarators false behind ds)) (λ more. x ∷ more) ds
+      (rw (init_declarator-read env ss x ds z (n + 1) (i + 1) w.0 w.1 num.0 num.1 (omega (arith, short)) (omega (arith, at_n))) refl)
+      (others-turns count inner ss ds z behind behind w.2 num.2 (omega (arith, enough, long, length-initializer x.initializer more)) (omega (arith, short, long, length-initializer x.initializer more)) refl)
       ∙ same (after_init_declarators inner ss ds) (Sign m.Semicolon ∷ z) refl
-          (omega (arith, length-declarator x.declarator (spell_initializer x.initializer (spell_init_declarators false ds [])), length-initializer x.initializer (spell_init_declarators false ds [])))
+      (omega (arith, length-declarator x.declarator (spell_initializer x.initializer (spell_init_declarators false ds [])), length-initializer x.initializer (spell_init_declarators false ds [])))
 
   others-read : (env : Env) (ss : Specifiers) (x : InitDeclarator) (ds : List InitDeclarator) (z : List Symbol) (n i : ℕ) → WellFormedInitDeclarators env ss ds → NumberedInitDeclarators false n ds → length (spell_init_declarators false ds (Sign m.Semicolon ∷ z)) < limit → i ≡ n
       → init_declarators limit (has_type ss) (has_typedef ss) x (at env (spell_init_declarators false ds (Sign m.Semicolon ∷ z)) i) ≡ Ok (x ∷ ds, at (after_init_declarators env ss ds) (Sign m.Semicolon ∷ z) (past_init_declarators false n ds))
@@ -269,10 +254,15 @@ module _ (limit : ℕ) where
       (rw (named-no_semicolon (after_specifiers env ss) (has_type ss) x.declarator (spell_initializer x.initializer more) w.2.0)
       (rw ((parts-know limit).declarator Named (has_type ss) (after_specifiers env ss) x.declarator (spell_initializer x.initializer more) (past_specifiers n ss) (past_specifiers n ss) w.2.0 num.1.0 (declarator-follow x.initializer ds z) (omega (arith, short, length-specifiers ss text)) refl)
       (declaration_with-read (after_declarator (after_specifiers env ss) x.declarator) ss x ds z (past_declarator (past_specifiers n ss) x.declarator) (past_declarator (past_specifiers n ss) x.declarator) w.2.1 w.2.2 num.1.1 num.1.2
-          (omega (arith, short, length-specifiers ss text, length-declarator x.declarator (spell_initializer x.initializer more))) refl
+      (omega (arith, short, length-specifiers ss text, length-declarator x.declarator (spell_initializer x.initializer more))) refl
       ∙ same (after_init_declarators (after_specifiers env ss) ss (x ∷ ds)) z refl
-          (omega (arith, length-specifiers ss (spell_declarator x.declarator (spell_initializer x.initializer (spell_init_declarators false ds (Sign m.Semicolon ∷ [])))),
-              length-declarator x.declarator (spell_initializer x.initializer (spell_init_declarators false ds (Sign m.Semicolon ∷ []))), length-initializer x.initializer (spell_init_declarators false ds (Sign m.Semicolon ∷ [])), length-init_declarators false ds (Sign m.Semicolon ∷ [])))))))
+      (omega (
+        arith,
+        length-specifiers ss (spell_declarator x.declarator (spell_initializer x.initializer (spell_init_declarators false ds (Sign m.Semicolon ∷ [])))),
+        length-declarator x.declarator (spell_initializer x.initializer (spell_init_declarators false ds (Sign m.Semicolon ∷ []))),
+        length-initializer x.initializer (spell_init_declarators false ds (Sign m.Semicolon ∷ [])),
+        length-init_declarators false ds (Sign m.Semicolon ∷ []),
+      ))))))
 
   pub decl-read : (env : Env) (x : Decl) (z : List Symbol) (n i : ℕ) → WellFormedDecl env x → NumberedDecl n x → length (spell_decl x z) < limit → i ≡ n
       → declaration limit (at env (spell_decl x z) i) ≡ Ok (x, at (after_decl env x) z (past_decl n x))
@@ -287,8 +277,8 @@ module _ (limit : ℕ) where
   decls-turns (suc count) env (x ∷ ds) z n i w num ends enough short at_n =
       let more = spell_decls ds z in
       some_more [] (declaration_next limit) count (at env (spell_decls (x ∷ ds) z) i) (at (after_decl env x) more (past_decl n x)) (at (after_decls (after_decl env x) ds) z (past_decls (past_decl n x) ds)) (λ more. x ∷ more) ds
-          (rw (specifiers-begin true env x.specifiers (spell_init_declarators true x.declarators (Sign m.Semicolon ∷ more)) (spell_decls (x ∷ ds) z) i w.0.0 tt w.0.1) (rw (decl-read env x more n i w.0 num.0 short at_n) refl))
-          (decls-turns count (after_decl env x) ds z (past_decl n x) (past_decl n x) w.1 num.1 ends (omega (arith, enough, length-decl x more, decl-long env x w.0)) (omega (arith, short, length-decl x more)) refl)
+      (rw (specifiers-begin true env x.specifiers (spell_init_declarators true x.declarators (Sign m.Semicolon ∷ more)) (spell_decls (x ∷ ds) z) i w.0.0 tt w.0.1) (rw (decl-read env x more n i w.0 num.0 short at_n) refl))
+      (decls-turns count (after_decl env x) ds z (past_decl n x) (past_decl n x) w.1 num.1 ends (omega (arith, enough, length-decl x more, decl-long env x w.0)) (omega (arith, short, length-decl x more)) refl)
       ∙ same (after_decls (after_decl env x) ds) z refl (omega (arith, length-decl x (spell_decls ds [])))
 
   pub decls-read : (env : Env) (ds : List Decl) (z : List Symbol) (n i : ℕ) → WellFormedDecls env ds → NumberedDecls n ds → begins_type true (after_decls env ds) (head z) ≡ false → length (spell_decls ds z) < limit → i ≡ n

@@ -1,39 +1,26 @@
 -- Declarators are read (6.5.4, 6.5.5).
-use Rattle.std.proofs.Common.{◌≡◌, ℕ, zero, suc, ◌+◌, ◌-◌, ◌==◌, ◌<◌, ◌≤◌, Bool, true, false, not, ◌||◌, ◌&&◌, is_some, if◌then◌else◌, List, [], ◌∷◌, length, map, Option, Some, None, Ok, arith, refl, sym, ap, ◌∙◌, subst}
-use Rattle.pw_tree.specs.Levels.{level, chain_level, binary_level}
-use Rattle.pw_tree.specs.Numbering.{past_identifiers, past_tag, past_pointers, past_expr, past_postfixes, past_arguments, past_operations, past_specifiers, past_members, past_member_declarators, past_enumerators, past_declarator, past_core, past_suffixes, past_parameters, past_optional, past_init, past_inits, past_initializer, past_init_declarators, past_decl, past_decls, past_label, past_labels, past_stmt, past_alternative, past_block, past_stmts, past_external, past_comma, NumberedIdentifiers, NumberedStrings, NumberedTag, NumberedPointers, Numbered, NumberedPostfixes, NumberedArguments, NumberedOperations, NumberedSpecifiers, NumberedMembers, NumberedMemberDeclarators, NumberedEnumerators, NumberedDeclarator, NumberedCore, NumberedSuffixes, NumberedParameters, NumberedOptional, NumberedInit, NumberedInits, NumberedInitializer, NumberedInitDeclarators, NumberedDecl, NumberedDecls, NumberedLabel, NumberedLabels, NumberedStmt, NumberedAlternative, NumberedBlock, NumberedStmts, NumberedFunction, NumberedExternal, NumberedExternals, NumberedModule}
-use Rattle.pw_tree.specs.Scopes.{is_typedef_name, declare_plain, declare_plains, has_typedef, has_type, name_of, name_in, declare_name, declare, after_expr, after_postfixes, after_arguments, after_operations, after_specifiers, after_members, after_member_declarators, after_enumerators, after_declarator, after_core, after_suffixes, after_parameter, after_parameters, after_optional, after_init, after_inits, after_initializer, after_name, after_init_declarators, after_decl, after_decls, after_label, after_labels, after_stmt, after_alternative, enter_first, enter, after_external, Env}
-use Rattle.pw_tree.specs.Spelling.{identifier, separated, trailed, spell_identifiers, spell_strings, spell_tag, spell_qualifiers, spell_pointers, spell_expr, spell_postfixes, spell_arguments, spell_operations, spell_specifiers, spell_members, spell_member_declarators, spell_enumerators, spell_declarator, spell_core, spell_suffixes, spell_parameters, spell_optional, spell_init, spell_inits, spell_initializer, spell_init_declarators, spell_decl, spell_decls, spell_label, spell_labels, spell_stmt, spell_alternative, spell_block, spell_stmts, spell_external, spell_externals, symbols, spelling}
+use Rattle.std.proofs.Common.{◌≡◌, ℕ, zero, suc, ◌+◌, ◌<◌, ◌≤◌, Bool, true, false, not, ◌||◌, is_some, List, [], ◌∷◌, length, Option, Some, None, Ok, arith, refl, sym, ap, ◌∙◌, subst}
+use Rattle.pw_tree.specs.Levels.{level}
+use Rattle.pw_tree.specs.Numbering.{past_identifiers, past_pointers, past_expr, past_declarator, past_core, past_suffixes, past_parameters, NumberedIdentifiers, Numbered, NumberedDeclarator, NumberedCore, NumberedSuffixes, NumberedParameters}
+use Rattle.pw_tree.specs.Scopes.{name_of, name_in, after_expr, after_declarator, after_core, after_suffixes, after_parameters, Env}
+use Rattle.pw_tree.specs.Spelling.{identifier, spell_identifiers, spell_expr, spell_declarator, spell_core, spell_suffixes, spell_parameters}
 use Rattle.pw_tree.specs.Symbols as symbol
 use Rattle.pw_tree.specs.Symbols.{Symbol, Reserved, Sign, unary_symbol, binary_mark, assign_mark, access_mark, step_mark}
-use Rattle.pw_tree.specs.Trees.{Word, Pointer, Expr, Identifier, Number, Floating, Character, Wide, Strings, Paren, Postfix, Unary, SizeofType, Cast, Chain, Conditional, Assign, Postfixes, NoPostfix, Index, Call, Select, Step, Arguments, NoArgument, Argument, Operations, NoOperation, Operation, Specifiers, NoSpecifier, Storage, Qualified, Basic, TypedefName, RecordTag, Record, EnumTag, Enum, Members, NoMember, Member, MemberDeclarators, NoMemberDeclarator, PlainMember, BitField, Padding, Enumerators, NoEnumerator, PlainEnumerator, ValuedEnumerator, Declarator, Declaring, Core, Absent, Name, Enclosed, Suffixes, NoSuffix, Array, OpenArray, Prototype, Variadic, Identifiers, Parameters, NoParameter, Parameter, Init, Value, Braces, Inits, NoInit, Listed, Initializer, InitDeclarator, Decl, Label, CaseLabel, DefaultLabel, NameLabel, Stmt, Compound, Expression, Empty, Labeled, If, Switch, While, Do, For, Goto, Continue, Break, Return, Alternative, NoElse, Otherwise, ElseIf, Block, Braced, Stmts, NoStmt, Next, External, Definition, Declaration}
-use Rattle.pw_tree.specs.WellFormed.{NotEmpty, is_named, has_name, HasPostfix, HasSpecifier, HasMember, HasMemberDeclarator, HasEnumerator, HasParameter, HasInit, NotTypedef, NoneTypedef, MayDeclare, NoStorage, IsSomething, begins_with_typedef, MayEnclose, operand_level, WellFormed, WellFormedPostfixes, WellFormedArguments, WellFormedOperations, WellFormedSpecifiers, WellFormedMembers, WellFormedMemberDeclarators, WellFormedEnumerators, WellFormedDeclarator, WellFormedCore, WellFormedSuffixes, WellFormedParameters, WellFormedOptional, WellFormedInit, WellFormedInits, WellFormedInitializer, WellFormedInitDeclarators, WellFormedDecl, WellFormedDecls, WellFormedLabel, WellFormedLabels, NotLabeled, NotIf, ends_open, alternative_ends_open, MayPrecede, WellFormedStmt, WellFormedAlternative, WellFormedBlock, WellFormedStmts, in_function, WellFormedFunction, WellFormedExternal, WellFormedExternals, WellFormedModule}
-use Rattle.pw_tree.specs.WellFormed as tree
-use Rattle.pw_tree.specs.declared.operator.Access.{Access}
-use Rattle.pw_tree.specs.declared.operator.Access.TheVariants as access
-use Rattle.pw_tree.specs.declared.operator.AssignOperator.{AssignOperator}
-use Rattle.pw_tree.specs.declared.operator.AssignOperator.TheVariants as assign
-use Rattle.pw_tree.specs.declared.operator.BinaryOperator.{BinaryOperator}
-use Rattle.pw_tree.specs.declared.operator.BinaryOperator.TheVariants as binary
-use Rattle.pw_tree.specs.declared.operator.StepOperator.{StepOperator}
-use Rattle.pw_tree.specs.declared.operator.StepOperator.TheVariants as stepping
-use Rattle.pw_tree.specs.declared.operator.UnaryOperator.{UnaryOperator}
-use Rattle.pw_tree.specs.declared.operator.UnaryOperator.TheVariants as unary
+use Rattle.pw_tree.specs.Trees.{Word, Expr, Specifiers, Declarator, Declaring, Core, Absent, Name, Enclosed, Suffixes, NoSuffix, Array, OpenArray, Prototype, Variadic, Identifiers, Parameters, NoParameter, Parameter}
+use Rattle.pw_tree.specs.WellFormed.{is_named, has_name, NoneTypedef, IsSomething, MayEnclose, WellFormed, WellFormedDeclarator, WellFormedCore, WellFormedSuffixes, WellFormedParameters}
 use Rattle.pw_tree.specs.declared.symbol.Keyword.TheVariants as k
-use Rattle.pw_tree.specs.declared.symbol.Mark.{Mark}
 use Rattle.pw_tree.specs.declared.symbol.Mark.TheVariants as m
 use Rattle.pw_grammar.specs.declared.place.Place.{Place}
 use Rattle.pw_grammar.specs.declared.place.Place.TheVariants.{Named, Nameless, Either}
-use Rattle.pw_grammar.specs.Input.{Input, first_of_rest, ahead, is_none_left, at_end, step_to, step, same_mark, same_keyword, is_mark, is_keyword, sees, sees_keyword, or_false, Outcome, Parser, and_then, ◌>>=◌, ◌>>◌, pure, ◌<$>◌, fault, asks, peek, here, skip, take_number, word, past, past_keyword, eat, eat_keyword, expect, expect_keyword, identifier_by, ordinary_by, ordinary, declare_all, leave, since, turns, go_on, repeat, list_of, turn_of, while_some, turn_with, one_or_more, unless_comma, Turn, More, Last, Binding}
-use Rattle.pw_grammar.specs.Parts.{Parts, Declared}
-use Rattle.std.specs.Option.{option_or}
-use Rattle.pw_grammar.specs.Declarators.{Behind, suffixed, array, parameter_list, prototype, prototype_of, identifiers, listed_by, listed, suffix, suffix_by, suffixes, Cored, may_be_enclosed, may_be_enclosed_by, enclosed, absent, core, core_by, declarator_of}
-use Rattle.pw_grammar.specs.Tests.{begins_specifier, symbol_begins_specifier, opens_parameters, qualifier_word}
+use Rattle.pw_grammar.specs.Input.{Input, ahead, step, same_mark, is_mark, sees, Parser, pure, ◌<$>◌, past, expect, repeat, turn_of, Turn}
+use Rattle.pw_grammar.specs.Parts.{Parts}
+use Rattle.pw_grammar.specs.Declarators.{Behind, suffixed, array, parameter_list, prototype_of, identifiers, listed, suffix, suffix_by, suffixes, Cored, may_be_enclosed, enclosed, absent, core, core_by, declarator_of}
+use Rattle.pw_grammar.specs.Tests.{begins_specifier, opens_parameters, qualifier_word}
 use Rattle.pw_grammar.proofs.Base.{at, same, names_of, is_typedef, turns_enough, no_turns, true_is_not_false, some_more, some_last}
 use Rattle.pw_grammar.proofs.Follow.{head}
 use Rattle.pw_grammar.proofs.Heads.{expr-begins, expr-no_close_bracket, specifiers-begin}
-use Rattle.pw_grammar.proofs.Knows.{Knows, ReadsDeclarator, joins_declarator, declared, text_of, bindings_of, behind_suffixes, behind_of, behind_core, place_of}
-use Rattle.pw_grammar.proofs.Lengths.{length-expr, length-pointers, length-core, length-declarator, length-suffixes, length-parameters, length-identifiers}
+use Rattle.pw_grammar.proofs.Knows.{Knows, ReadsDeclarator, joins_declarator, text_of, bindings_of, behind_suffixes, behind_core, place_of}
+use Rattle.pw_grammar.proofs.Lengths.{length-expr, length-pointers, length-core, length-declarator, length-parameters, length-identifiers}
 use Rattle.pw_grammar.proofs.MembersRead.{type-no_mark}
 use Rattle.pw_grammar.proofs.ParametersRead.{dots, dots_count, prototype-read}
 use Rattle.pw_grammar.proofs.PointersRead.{pointers-read, names-read}
@@ -106,7 +93,7 @@ module _ (d : ℕ) (parts : Parts) (known : Knows d parts) where
   suffixes-turns : (count : ℕ) (place : Place) (named : Bool) (env : Env) (fs : Suffixes) (z : List Symbol) (n i : ℕ) → WellFormedSuffixes env named fs → NumberedSuffixes n fs → joins_declarator place (head z) ≡ false
       → length (spell_suffixes fs z) < count → length (spell_suffixes fs z) ≤ d → i ≡ n
       → repeat (suffix_turn named) count (at env (spell_suffixes fs z) i) ≡ Ok ((fs, behind_suffixes fs), at (after_suffixes env fs) z (past_suffixes n fs))
-  unfolding spell_expr WellFormed Numbered after_expr suffix ahead
+  unfolding spell_expr WellFormed Numbered after_expr suffix suffixed ahead
   suffixes-turns zero place named env fs z n i w num follow enough short at_n = no_turns enough
   suffixes-turns (suc count) place named env NoSuffix z n i w num follow enough short at_n =
       some_last (NoSuffix, None) (suffix parts named) count (at env z i) (at env z i) (rw (no-suffix parts named place (head z) follow) refl) ∙ same env z refl (omega (arith, at_n))
@@ -114,18 +101,18 @@ module _ (d : ℕ) (parts : Parts) (known : Knows d parts) where
       let long = length-expr e (Sign m.CloseBracket ∷ spell_suffixes fs z) in
       let behind = past_expr (n + 1) e + 1 in
       some_more (NoSuffix, None) (suffix parts named) count (at env (spell_suffixes (Array t e fs) z) i) (at (after_expr env e) (spell_suffixes fs z) behind) (at (after_suffixes (after_expr env e) fs) z (past_suffixes behind fs)) (suffixed (Array i e) []) (fs, behind_suffixes fs)
-          (rw (array-read env e (spell_suffixes fs z) n i w.0 w.1 num.1 (omega (arith, short)) at_n) refl)
-          (suffixes-turns count place named (after_expr env e) fs z behind behind w.2 num.2 follow (omega (arith, enough, long)) (omega (arith, short, long)) refl)
+      (rw (array-read env e (spell_suffixes fs z) n i w.0 w.1 num.1 (omega (arith, short)) at_n) refl)
+      (suffixes-turns count place named (after_expr env e) fs z behind behind w.2 num.2 follow (omega (arith, enough, long)) (omega (arith, short, long)) refl)
       ∙ same (after_suffixes (after_expr env e) fs) z (ap (λ v. (Array v e fs, Some [])) (at_n ∙ sym num.0)) (omega (arith, length-expr e (Sign m.CloseBracket ∷ spell_suffixes fs [])))
   suffixes-turns (suc count) place named env (OpenArray t fs) z n i w num follow enough short at_n =
       some_more (NoSuffix, None) (suffix parts named) count (at env (spell_suffixes (OpenArray t fs) z) i) (at env (spell_suffixes fs z) (i + 1 + 1)) (at (after_suffixes env fs) z (past_suffixes (n + 2) fs)) (suffixed (OpenArray i) []) (fs, behind_suffixes fs)
-          (open-read named env (spell_suffixes fs z) i)
-          (suffixes-turns count place named env fs z (n + 2) (i + 1 + 1) w num.1 follow (omega (arith, enough)) (omega (arith, short)) (omega (arith, at_n)))
+      (open-read named env (spell_suffixes fs z) i)
+      (suffixes-turns count place named env fs z (n + 2) (i + 1 + 1) w num.1 follow (omega (arith, enough)) (omega (arith, short)) (omega (arith, at_n)))
       ∙ same (after_suffixes env fs) z (ap (λ v. (OpenArray v fs, Some [])) (at_n ∙ sym num.0)) (omega arith)
   suffixes-turns (suc count) place named env (Prototype t NoParameter fs) z n i w num follow enough short at_n =
       some_more (NoSuffix, None) (suffix parts named) count (at env (spell_suffixes (Prototype t NoParameter fs) z) i) (at env (spell_suffixes fs z) (i + 1 + 1)) (at (after_suffixes env fs) z (past_suffixes (n + 2) fs)) (suffixed (Prototype i NoParameter) []) (fs, behind_suffixes fs)
-          (rw (empty-list named env (spell_suffixes fs z) i) refl)
-          (suffixes-turns count place named env fs z (n + 2) (i + 1 + 1) w.1 (subst (λ v. NumberedSuffixes v fs) (two n) num.2) follow (omega (arith, enough)) (omega (arith, short)) (omega (arith, at_n)))
+      (rw (empty-list named env (spell_suffixes fs z) i) refl)
+      (suffixes-turns count place named env fs z (n + 2) (i + 1 + 1) w.1 (subst (λ v. NumberedSuffixes v fs) (two n) num.2) follow (omega (arith, enough)) (omega (arith, short)) (omega (arith, at_n)))
       ∙ same (after_suffixes env fs) z (ap (λ v. (Prototype v NoParameter fs, Some [])) (at_n ∙ sym num.0)) (omega arith)
     where
       two : (n : ℕ) → n + 1 + 0 + 1 ≡ n + 2
@@ -134,18 +121,18 @@ module _ (d : ℕ) (parts : Parts) (known : Knows d parts) where
       let long = length-parameters true (Parameter ss x ps) (Sign m.CloseParen ∷ spell_suffixes fs z) in
       let behind = past_parameters true (n + 1) (Parameter ss x ps) + 1 in
       some_more (NoSuffix, None) (suffix parts named) count (at env (spell_suffixes (Prototype t (Parameter ss x ps) fs) z) i) (at env (spell_suffixes fs z) (past_parameters true (n + 1) (Parameter ss x ps) + 0 + 1)) (at (after_suffixes env fs) z (past_suffixes behind fs))
-          (suffixed (prototype_of i (Parameter ss x ps, false)) (names_of (after_parameters [] (Parameter ss x ps)))) (fs, behind_suffixes fs)
-          (rw (list-read false named env ss x ps (spell_suffixes fs z) n i w.0 num.1 (omega (arith, short)) at_n) refl)
-          (suffixes-turns count place named env fs z behind (past_parameters true (n + 1) (Parameter ss x ps) + 0 + 1) w.1 num.2 follow (omega (arith, enough, long)) (omega (arith, short, long)) (omega arith))
+      (suffixed (prototype_of i (Parameter ss x ps, false)) (names_of (after_parameters [] (Parameter ss x ps)))) (fs, behind_suffixes fs)
+      (rw (list-read false named env ss x ps (spell_suffixes fs z) n i w.0 num.1 (omega (arith, short)) at_n) refl)
+      (suffixes-turns count place named env fs z behind (past_parameters true (n + 1) (Parameter ss x ps) + 0 + 1) w.1 num.2 follow (omega (arith, enough, long)) (omega (arith, short, long)) (omega arith))
       ∙ same (after_suffixes env fs) z (ap (λ v. (Prototype v (Parameter ss x ps) fs, Some (names_of (after_parameters [] (Parameter ss x ps))))) (at_n ∙ sym num.0)) (omega (arith, length-parameters true (Parameter ss x ps) (Sign m.CloseParen ∷ spell_suffixes fs [])))
   suffixes-turns (suc count) place named env (Variadic t NoParameter fs) z n i w num follow enough short at_n = absurd w.0
   suffixes-turns (suc count) place named env (Variadic t (Parameter ss x ps) fs) z n i w num follow enough short at_n =
       let long = length-parameters true (Parameter ss x ps) (Sign m.Comma ∷ Sign m.Ellipsis ∷ Sign m.CloseParen ∷ spell_suffixes fs z) in
       let behind = past_parameters true (n + 1) (Parameter ss x ps) + 3 in
       some_more (NoSuffix, None) (suffix parts named) count (at env (spell_suffixes (Variadic t (Parameter ss x ps) fs) z) i) (at env (spell_suffixes fs z) (past_parameters true (n + 1) (Parameter ss x ps) + 2 + 1)) (at (after_suffixes env fs) z (past_suffixes behind fs))
-          (suffixed (prototype_of i (Parameter ss x ps, true)) (names_of (after_parameters [] (Parameter ss x ps)))) (fs, behind_suffixes fs)
-          (rw (list-read true named env ss x ps (spell_suffixes fs z) n i w.1 num.1 (omega (arith, short)) at_n) refl)
-          (suffixes-turns count place named env fs z behind (past_parameters true (n + 1) (Parameter ss x ps) + 2 + 1) w.2 num.2 follow (omega (arith, enough, long)) (omega (arith, short, long)) (omega arith))
+      (suffixed (prototype_of i (Parameter ss x ps, true)) (names_of (after_parameters [] (Parameter ss x ps)))) (fs, behind_suffixes fs)
+      (rw (list-read true named env ss x ps (spell_suffixes fs z) n i w.1 num.1 (omega (arith, short)) at_n) refl)
+      (suffixes-turns count place named env fs z behind (past_parameters true (n + 1) (Parameter ss x ps) + 2 + 1) w.2 num.2 follow (omega (arith, enough, long)) (omega (arith, short, long)) (omega arith))
       ∙ same (after_suffixes env fs) z (ap (λ v. (Variadic v (Parameter ss x ps) fs, Some (names_of (after_parameters [] (Parameter ss x ps))))) (at_n ∙ sym num.0)) (omega (arith, length-parameters true (Parameter ss x ps) (Sign m.Comma ∷ Sign m.Ellipsis ∷ Sign m.CloseParen ∷ spell_suffixes fs [])))
   suffixes-turns (suc count) place named env (Identifiers t [] fs) z n i w num follow enough short at_n = absurd w.1
   suffixes-turns (suc count) place false env (Identifiers t (x ∷ ws) fs) z n i w num follow enough short at_n = true_is_not_false w.0
@@ -153,8 +140,8 @@ module _ (d : ℕ) (parts : Parts) (known : Knows d parts) where
       let long = length-identifiers true (x ∷ ws) (Sign m.CloseParen ∷ spell_suffixes fs z) in
       let behind = past_identifiers true (n + 1) (x ∷ ws) + 1 in
       some_more (NoSuffix, None) (suffix parts true) count (at env (spell_suffixes (Identifiers t (x ∷ ws) fs) z) i) (at env (spell_suffixes fs z) behind) (at (after_suffixes env fs) z (past_suffixes behind fs)) (suffixed (Identifiers i (x ∷ ws)) (bindings_of (x ∷ ws))) (fs, behind_suffixes fs)
-          (rw (identifiers-read env x ws (spell_suffixes fs z) n i w.2 num.1 at_n) refl)
-          (suffixes-turns count place true env fs z behind behind w.3 num.2 follow (omega (arith, enough, long)) (omega (arith, short, long)) refl)
+      (rw (identifiers-read env x ws (spell_suffixes fs z) n i w.2 num.1 at_n) refl)
+      (suffixes-turns count place true env fs z behind behind w.3 num.2 follow (omega (arith, enough, long)) (omega (arith, short, long)) refl)
       ∙ same (after_suffixes env fs) z (ap (λ v. (Identifiers v (x ∷ ws) fs, Some (bindings_of (x ∷ ws)))) (at_n ∙ sym num.0)) (omega (arith, length-identifiers true (x ∷ ws) (Sign m.CloseParen ∷ spell_suffixes fs [])))
 
   suffixes-read : (place : Place) (named : Bool) (env : Env) (fs : Suffixes) (z : List Symbol) (n i : ℕ) → WellFormedSuffixes env named fs → NumberedSuffixes n fs → joins_declarator place (head z) ≡ false → length (spell_suffixes fs z) ≤ d → i ≡ n
@@ -336,5 +323,5 @@ module _ (d : ℕ) (parts : Parts) (known : Knows d parts) where
       (rw (core-read place typed env c fs z (past_pointers n ps) (past_pointers n ps) w.0 w.1 num.1 follow (omega (arith, short, length-pointers ps (spell_core c (spell_suffixes fs z)))) refl)
       (rw (core-named c)
       (rw (suffixes-read place (has_name c) (after_core env c) fs z (past_core (past_pointers n ps) c) (past_core (past_pointers n ps) c) w.1 num.2 follow
-              (omega (arith, short, length-pointers ps (spell_core c (spell_suffixes fs z)), length-core c (spell_suffixes fs z))) refl)
+      (omega (arith, short, length-pointers ps (spell_core c (spell_suffixes fs z)), length-core c (spell_suffixes fs z))) refl)
       (same (after_suffixes (after_core env c) fs) z refl (omega (arith, length-pointers ps (spell_core c (spell_suffixes fs [])), length-core c (spell_suffixes fs [])))))))

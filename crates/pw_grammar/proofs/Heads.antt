@@ -1,12 +1,12 @@
 -- What trees begin with.
-use Rattle.std.proofs.Common.{◌≡◌, ℕ, ◌<◌, ◌≤◌, Bool, true, false, not, ◌||◌, List, [], ◌∷◌, map, Option, Some, None, arith, refl, sym, ap, ◌∙◌, subst}
+use Rattle.std.proofs.Common.{◌≡◌, ℕ, ◌<◌, ◌≤◌, Bool, true, false, not, List, [], ◌∷◌, Option, Some, None, arith, refl, ap, ◌∙◌}
 use Rattle.pw_tree.specs.Levels.{level, chain_level, binary_level}
 use Rattle.pw_tree.specs.Scopes.{Env, is_typedef_name}
-use Rattle.pw_tree.specs.Spelling.{spell_expr, spell_specifiers, spell_declarator, spell_core, spell_suffixes, spell_pointers}
+use Rattle.pw_tree.specs.Spelling.{spell_expr, spell_specifiers, spell_declarator, spell_core, spell_suffixes}
 use Rattle.pw_tree.specs.Symbols as symbol
 use Rattle.pw_tree.specs.Symbols.{Symbol, Reserved, Sign, unary_symbol}
-use Rattle.pw_tree.specs.Trees.{Word, Pointer, Expr, Identifier, Number, Floating, Character, Wide, Strings, Paren, Postfix, Unary, SizeofType, Cast, Chain, Conditional, Assign, Operations, NoOperation, Operation, Specifiers, NoSpecifier, Storage, Qualified, Basic, TypedefName, RecordTag, Record, EnumTag, Enum, Declarator, Declaring, Core, Absent, Name, Enclosed, Suffixes, NoSuffix, Array, OpenArray, Prototype, Variadic, Identifiers}
-use Rattle.pw_tree.specs.WellFormed.{WellFormed, WellFormedSpecifiers, WellFormedDeclarator, HasSpecifier, NoStorage}
+use Rattle.pw_tree.specs.Trees.{Expr, Identifier, Number, Floating, Character, Wide, Strings, Paren, Postfix, Unary, SizeofType, Cast, Chain, Conditional, Assign, Operations, NoOperation, Operation, Specifiers, NoSpecifier, Storage, Qualified, Basic, TypedefName, RecordTag, Record, EnumTag, Enum, Declarator, Declaring, Core, Absent, Name, Enclosed, Suffixes, NoSuffix, Array, OpenArray, Prototype, Variadic, Identifiers}
+use Rattle.pw_tree.specs.WellFormed.{WellFormed, WellFormedSpecifiers, WellFormedDeclarator, HasSpecifier}
 use Rattle.pw_tree.specs.declared.expr.BasicType.TheVariants as basic
 use Rattle.pw_tree.specs.declared.expr.Qualifier.TheVariants as qualifier
 use Rattle.pw_tree.specs.declared.expr.RecordKind.TheVariants as record_kind
@@ -19,8 +19,7 @@ use Rattle.pw_tree.specs.declared.symbol.Keyword.TheVariants as k
 use Rattle.pw_tree.specs.declared.symbol.Mark.TheVariants as m
 use Rattle.pw_grammar.specs.declared.place.Place.{Place}
 use Rattle.pw_grammar.specs.declared.place.Place.TheVariants.{Named, Nameless, Either}
-use Rattle.pw_grammar.specs.Input.{Input, is_mark, same_mark, sees, ahead, step}
-use Rattle.pw_grammar.specs.Input as input
+use Rattle.pw_grammar.specs.Input.{is_mark, same_mark, sees, ahead, step}
 use Rattle.pw_grammar.specs.Tests.{symbol_begins_specifier, opens_type_name}
 use Rattle.pw_grammar.proofs.Base.{at, is_typedef, true_is_not_false}
 use Rattle.pw_grammar.proofs.Follow.{head}
@@ -134,19 +133,10 @@ expr-no_cast env (Unary t unary.Increment e) z n h l = refl
 expr-no_cast env (Unary t unary.Decrement e) z n h l = refl
 expr-no_cast env (Unary t unary.Sizeof e) z n h l = refl
 expr-no_cast env (SizeofType t ss d) z n h l = refl
-expr-no_cast env (Cast t ss d e) z n h l = absurd (no l)
-  where
-    no : 3 ≤ 2 → ⊥
-    no l = omega (arith, l)
+expr-no_cast env (Cast t ss d e) z n h l = absurd (omega (arith, l))
 expr-no_cast env (Chain e ops) z n h l = absurd (chain_above e ops h.0 (omega (arith, l)))
-expr-no_cast env (Conditional t c a b) z n h l = absurd (no l)
-  where
-    no : 14 ≤ 2 → ⊥
-    no l = omega (arith, l)
-expr-no_cast env (Assign t op a b) z n h l = absurd (no l)
-  where
-    no : 15 ≤ 2 → ⊥
-    no l = omega (arith, l)
+expr-no_cast env (Conditional t c a b) z n h l = absurd (omega (arith, l))
+expr-no_cast env (Assign t op a b) z n h l = absurd (omega (arith, l))
 
 -- ---- specifiers
 
@@ -234,4 +224,3 @@ unfolding same_mark
 expr-no_open_brace env (Some (Sign m.OpenBrace)) h = true_is_not_false h
 expr-no_open_brace env (Some _) h = refl
 expr-no_open_brace env None h = refl
-

@@ -12,8 +12,10 @@ unfolding parts
 parts-know zero = record {
   expr = λ k two env e z n i w num l follow short at_n. no_turns short;
   specifiers = λ storage env ss z n i w may num ends short at_n. no_turns short;
-  declarator = λ place typed env x z n i w num follow short at_n. no_turns short }
+  declarator = λ place typed env x z n i w num follow short at_n. no_turns short;
+}
 parts-know (suc depth) = record {
   expr = expr_of-read depth (parts depth) (parts-know depth);
   specifiers = specifiers_of-read depth (parts depth) (parts-know depth);
-  declarator = declarator_of-read depth (parts depth) (parts-know depth) }
+  declarator = declarator_of-read depth (parts depth) (parts-know depth);
+}

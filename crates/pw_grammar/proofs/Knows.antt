@@ -1,5 +1,5 @@
 -- What parsers of parts read.
-use Rattle.std.proofs.Common.{◌≡◌, ℕ, ◌<◌, ◌≤◌, Bool, true, false, not, ◌||◌, List, [], ◌∷◌, Option, Some, None, Ok, length, map, arith}
+use Rattle.std.proofs.Common.{◌≡◌, ℕ, ◌<◌, ◌≤◌, Bool, true, false, not, ◌||◌, List, [], Option, Some, None, Ok, length, map, arith}
 use Rattle.std.specs.Option.{option_or}
 use Rattle.pw_tree.specs.Levels.{level, chain_level, binary_level}
 use Rattle.pw_tree.specs.Numbering.{Numbered, NumberedSpecifiers, NumberedDeclarator, past_expr, past_specifiers, past_declarator}

@@ -37,3 +37,5 @@ pub mod SoundStatements
 pub mod SoundSymbols
 pub mod SoundModule
 pub mod SoundLaws
+pub mod SymbolsRead
+pub mod TreeLaws

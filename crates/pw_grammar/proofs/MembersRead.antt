@@ -1,40 +1,27 @@
 -- Members and enumerators are read (6.5.2.1, 6.5.2.2).
-use Rattle.std.proofs.Common.{◌≡◌, ℕ, zero, suc, ◌+◌, ◌-◌, ◌==◌, ◌<◌, ◌≤◌, Bool, true, false, not, if◌then◌else◌, List, [], ◌∷◌, length, map, Option, Some, None, Ok, arith, refl, sym, ap, ◌∙◌, subst}
-use Rattle.pw_tree.specs.Levels.{level, chain_level, binary_level}
-use Rattle.pw_tree.specs.Numbering.{past_identifiers, past_tag, past_pointers, past_expr, past_postfixes, past_arguments, past_operations, past_specifiers, past_members, past_member_declarators, past_enumerators, past_declarator, past_core, past_suffixes, past_parameters, past_optional, past_init, past_inits, past_initializer, past_init_declarators, past_decl, past_decls, past_label, past_labels, past_stmt, past_alternative, past_block, past_stmts, past_external, past_comma, NumberedIdentifiers, NumberedStrings, NumberedTag, NumberedPointers, Numbered, NumberedPostfixes, NumberedArguments, NumberedOperations, NumberedSpecifiers, NumberedMembers, NumberedMemberDeclarators, NumberedEnumerators, NumberedDeclarator, NumberedCore, NumberedSuffixes, NumberedParameters, NumberedOptional, NumberedInit, NumberedInits, NumberedInitializer, NumberedInitDeclarators, NumberedDecl, NumberedDecls, NumberedLabel, NumberedLabels, NumberedStmt, NumberedAlternative, NumberedBlock, NumberedStmts, NumberedFunction, NumberedExternal, NumberedExternals, NumberedModule}
-use Rattle.pw_tree.specs.Scopes.{is_typedef_name, declare_plain, declare_plains, has_typedef, has_type, name_of, name_in, declare_name, declare, after_expr, after_postfixes, after_arguments, after_operations, after_specifiers, after_members, after_member_declarators, after_enumerators, after_declarator, after_core, after_suffixes, after_parameter, after_parameters, after_optional, after_init, after_inits, after_initializer, after_name, after_init_declarators, after_decl, after_decls, after_label, after_labels, after_stmt, after_alternative, behind_name, behind_core, enter_first, enter, after_external, Env}
-use Rattle.pw_tree.specs.Spelling.{identifier, separated, trailed, spell_identifiers, spell_strings, spell_tag, spell_qualifiers, spell_pointers, spell_expr, spell_postfixes, spell_arguments, spell_operations, spell_specifiers, spell_members, spell_member_declarators, spell_enumerators, spell_declarator, spell_core, spell_suffixes, spell_parameters, spell_optional, spell_init, spell_inits, spell_initializer, spell_init_declarators, spell_decl, spell_decls, spell_label, spell_labels, spell_stmt, spell_alternative, spell_block, spell_stmts, spell_external, spell_externals, symbols, spelling}
+use Rattle.std.proofs.Common.{◌≡◌, ℕ, zero, suc, ◌+◌, ◌<◌, ◌≤◌, Bool, true, false, List, [], ◌∷◌, length, map, Option, Some, None, Ok, arith, refl, sym, ap, ◌∙◌, subst}
+use Rattle.pw_tree.specs.Levels.{level}
+use Rattle.pw_tree.specs.Numbering.{past_expr, past_specifiers, past_members, past_member_declarators, past_enumerators, past_declarator, Numbered, NumberedSpecifiers, NumberedMembers, NumberedMemberDeclarators, NumberedEnumerators, NumberedDeclarator}
+use Rattle.pw_tree.specs.Scopes.{declare_plain, has_type, after_expr, after_specifiers, after_members, after_member_declarators, after_enumerators, after_declarator, Env}
+use Rattle.pw_tree.specs.Spelling.{identifier, spell_expr, spell_specifiers, spell_members, spell_member_declarators, spell_enumerators, spell_declarator}
 use Rattle.pw_tree.specs.Symbols as symbol
 use Rattle.pw_tree.specs.Symbols.{Symbol, Reserved, Sign, unary_symbol, binary_mark, assign_mark, access_mark, step_mark}
-use Rattle.pw_tree.specs.Trees.{Word, Pointer, Expr, Identifier, Number, Floating, Character, Wide, Strings, Paren, Postfix, Unary, SizeofType, Cast, Chain, Conditional, Assign, Postfixes, NoPostfix, Index, Call, Select, Step, Arguments, NoArgument, Argument, Operations, NoOperation, Operation, Specifiers, NoSpecifier, Storage, Qualified, Basic, TypedefName, RecordTag, Record, EnumTag, Enum, Members, NoMember, Member, MemberDeclarators, NoMemberDeclarator, PlainMember, BitField, Padding, Enumerators, NoEnumerator, PlainEnumerator, ValuedEnumerator, Declarator, Declaring, Core, Absent, Name, Enclosed, Suffixes, NoSuffix, Array, OpenArray, Prototype, Variadic, Identifiers, Parameters, NoParameter, Parameter, Init, Value, Braces, Inits, NoInit, Listed, Initializer, InitDeclarator, Decl, Label, CaseLabel, DefaultLabel, NameLabel, Stmt, Compound, Expression, Empty, Labeled, If, Switch, While, Do, For, Goto, Continue, Break, Return, Alternative, NoElse, Otherwise, ElseIf, Block, Braced, Stmts, NoStmt, Next, External, Definition, Declaration}
+use Rattle.pw_tree.specs.Trees.{Expr, Specifiers, Members, NoMember, Member, MemberDeclarators, NoMemberDeclarator, PlainMember, BitField, Padding, Enumerators, NoEnumerator, PlainEnumerator, ValuedEnumerator, Declarator, Declaring, Absent, Name, Enclosed}
 use Rattle.pw_tree.specs.WellFormed.{NotEmpty, HasPostfix, HasSpecifier, HasMember, HasMemberDeclarator, HasEnumerator, HasParameter, HasInit, NotTypedef, NoneTypedef, MayDeclare, NoStorage, IsSomething, begins_with_typedef, MayEnclose, operand_level, WellFormed, WellFormedPostfixes, WellFormedArguments, WellFormedOperations, WellFormedSpecifiers, WellFormedMembers, WellFormedMemberDeclarators, WellFormedEnumerators, WellFormedDeclarator, WellFormedCore, WellFormedSuffixes, WellFormedParameters, WellFormedOptional, WellFormedInit, WellFormedInits, WellFormedInitializer, WellFormedInitDeclarators, WellFormedDecl, WellFormedDecls, WellFormedLabel, WellFormedLabels, NotLabeled, NotIf, ends_open, alternative_ends_open, MayPrecede, WellFormedStmt, WellFormedAlternative, WellFormedBlock, WellFormedStmts, in_function, WellFormedFunction, WellFormedExternal, WellFormedExternals, WellFormedModule}
 use Rattle.pw_tree.specs.WellFormed as tree
-use Rattle.pw_tree.specs.declared.operator.Access.{Access}
-use Rattle.pw_tree.specs.declared.operator.Access.TheVariants as access
-use Rattle.pw_tree.specs.declared.operator.AssignOperator.{AssignOperator}
-use Rattle.pw_tree.specs.declared.operator.AssignOperator.TheVariants as assign
-use Rattle.pw_tree.specs.declared.operator.BinaryOperator.{BinaryOperator}
-use Rattle.pw_tree.specs.declared.operator.BinaryOperator.TheVariants as binary
-use Rattle.pw_tree.specs.declared.operator.StepOperator.{StepOperator}
-use Rattle.pw_tree.specs.declared.operator.StepOperator.TheVariants as stepping
-use Rattle.pw_tree.specs.declared.operator.UnaryOperator.{UnaryOperator}
-use Rattle.pw_tree.specs.declared.operator.UnaryOperator.TheVariants as unary
-use Rattle.pw_tree.specs.declared.symbol.Keyword.TheVariants as k
 use Rattle.pw_tree.specs.declared.symbol.Mark.{Mark}
 use Rattle.pw_tree.specs.declared.symbol.Mark.TheVariants as m
-use Rattle.pw_grammar.specs.declared.place.Place.{Place}
-use Rattle.pw_grammar.specs.declared.place.Place.TheVariants.{Named, Nameless, Either}
-use Rattle.pw_grammar.specs.Input.{Input, first_of_rest, ahead, is_none_left, at_end, step_to, step, same_mark, same_keyword, is_mark, is_keyword, sees, sees_keyword, or_false, Outcome, Parser, and_then, ◌>>=◌, ◌>>◌, pure, ◌<$>◌, fault, asks, peek, here, skip, take_number, word, past, past_keyword, eat, eat_keyword, expect, expect_keyword, identifier_by, ordinary_by, ordinary, declare_all, leave, since, turns, go_on, repeat, list_of, turn_of, while_some, turn_with, one_or_more, unless_comma, Turn, More, Last, Binding}
-use Rattle.pw_grammar.specs.Parts.{Parts, Declared}
+use Rattle.pw_grammar.specs.declared.place.Place.TheVariants.{Named}
+use Rattle.pw_grammar.specs.Input.{Input, ahead, step, same_mark, is_mark, sees, Parser, past, expect, identifier_by, repeat, unless_comma, Turn}
+use Rattle.pw_grammar.specs.Parts.{Parts}
 use Rattle.pw_grammar.specs.Expressions.{some_specifiers}
-use Rattle.pw_grammar.specs.Specifiers as specifiers
 use Rattle.pw_grammar.specs.Specifiers.{width, padding, named_member, member_declarator, member_declarators, member, members, closes_members, enumerator, some_enumerators, enumerators}
-use Rattle.pw_grammar.specs.Tests.{is_empty, symbol_begins_specifier}
+use Rattle.pw_grammar.specs.Tests.{symbol_begins_specifier}
 use Rattle.pw_grammar.proofs.Base.{at, same, turns_enough, no_turns, true_is_not_false, item_turn, item_more, item_last, comma_more, comma_last}
-use Rattle.pw_grammar.proofs.Follow.{Follow, head, joins}
+use Rattle.pw_grammar.proofs.Follow.{Follow, head}
 use Rattle.pw_grammar.proofs.Heads.{declarator-ends, specifiers-begin}
-use Rattle.pw_grammar.proofs.Knows.{Knows, joins_declarator, ends_specifiers, declared, MayHold}
-use Rattle.pw_grammar.proofs.Lengths.{length-expr, length-specifiers, length-declarator, length-member_declarators, length-members, length-enumerators}
+use Rattle.pw_grammar.proofs.Knows.{Knows, joins_declarator, ends_specifiers}
+use Rattle.pw_grammar.proofs.Lengths.{length-expr, length-specifiers, length-declarator, length-member_declarators}
 use Rattle.pw_grammar.proofs.Primaries.{not_empty}
 
 -- no mark begins specifiers
@@ -115,7 +102,7 @@ module _ (d : ℕ) (parts : Parts) (known : Knows d parts) where
   declarators-step : (count : ℕ) (typed : Bool) (i : Input) (env : Env) (ds : MemberDeclarators) (f : MemberDeclarators → MemberDeclarators) (z : List Symbol) (n : ℕ)
       → member_declarator parts typed i ≡ Ok (f, at env (spell_member_declarators false ds (Sign m.Semicolon ∷ z)) n)
       → (HasMemberDeclarator ds → repeat (declarator_turn typed) count (at env (spell_member_declarators true ds (Sign m.Semicolon ∷ z)) (n + 1))
-          ≡ Ok (ds, at (after_member_declarators env ds) (Sign m.Semicolon ∷ z) (past_member_declarators true (n + 1) ds)))
+      ≡ Ok (ds, at (after_member_declarators env ds) (Sign m.Semicolon ∷ z) (past_member_declarators true (n + 1) ds)))
       → repeat (declarator_turn typed) (suc count) i ≡ Ok (f ds, at (after_member_declarators env ds) (Sign m.Semicolon ∷ z) (past_member_declarators false n ds))
   unfolding spell_expr after_expr same_mark
   declarators-step count typed i env NoMemberDeclarator f z n item rest =
@@ -124,17 +111,17 @@ module _ (d : ℕ) (parts : Parts) (known : Knows d parts) where
   declarators-step count typed i env (PlainMember x ds) f z n item rest =
       let more = spell_member_declarators true (PlainMember x ds) (Sign m.Semicolon ∷ z) in
       item_more (member_declarator parts typed) (unless_comma NoMemberDeclarator) count i (at env (Sign m.Comma ∷ more) n) (at env more (n + 1))
-          (at (after_member_declarators env (PlainMember x ds)) (Sign m.Semicolon ∷ z) (past_member_declarators true (n + 1) (PlainMember x ds))) f (PlainMember x ds) item (comma_more NoMemberDeclarator env more n) (rest tt)
+      (at (after_member_declarators env (PlainMember x ds)) (Sign m.Semicolon ∷ z) (past_member_declarators true (n + 1) (PlainMember x ds))) f (PlainMember x ds) item (comma_more NoMemberDeclarator env more n) (rest tt)
       ∙ same (after_member_declarators env (PlainMember x ds)) (Sign m.Semicolon ∷ z) refl (omega arith)
   declarators-step count typed i env (BitField x t e ds) f z n item rest =
       let more = spell_member_declarators true (BitField x t e ds) (Sign m.Semicolon ∷ z) in
       item_more (member_declarator parts typed) (unless_comma NoMemberDeclarator) count i (at env (Sign m.Comma ∷ more) n) (at env more (n + 1))
-          (at (after_member_declarators env (BitField x t e ds)) (Sign m.Semicolon ∷ z) (past_member_declarators true (n + 1) (BitField x t e ds))) f (BitField x t e ds) item (comma_more NoMemberDeclarator env more n) (rest tt)
+      (at (after_member_declarators env (BitField x t e ds)) (Sign m.Semicolon ∷ z) (past_member_declarators true (n + 1) (BitField x t e ds))) f (BitField x t e ds) item (comma_more NoMemberDeclarator env more n) (rest tt)
       ∙ same (after_member_declarators env (BitField x t e ds)) (Sign m.Semicolon ∷ z) refl (omega arith)
   declarators-step count typed i env (Padding t e ds) f z n item rest =
       let more = spell_member_declarators true (Padding t e ds) (Sign m.Semicolon ∷ z) in
       item_more (member_declarator parts typed) (unless_comma NoMemberDeclarator) count i (at env (Sign m.Comma ∷ more) n) (at env more (n + 1))
-          (at (after_member_declarators env (Padding t e ds)) (Sign m.Semicolon ∷ z) (past_member_declarators true (n + 1) (Padding t e ds))) f (Padding t e ds) item (comma_more NoMemberDeclarator env more n) (rest tt)
+      (at (after_member_declarators env (Padding t e ds)) (Sign m.Semicolon ∷ z) (past_member_declarators true (n + 1) (Padding t e ds))) f (Padding t e ds) item (comma_more NoMemberDeclarator env more n) (rest tt)
       ∙ same (after_member_declarators env (Padding t e ds)) (Sign m.Semicolon ∷ z) refl (omega arith)
 
   member_declarator-plain : (env : Env) (typed : Bool) (x : Declarator) (z : List Symbol) (n i : ℕ) → WellFormedDeclarator env typed tree.Named x → NumberedDeclarator n x → joins_declarator Named (head z) ≡ false → is_mark m.Colon (head z) ≡ false
@@ -171,9 +158,9 @@ module _ (d : ℕ) (parts : Parts) (known : Knows d parts) where
       let more = spell_member_declarators false ds (Sign m.Semicolon ∷ z) in
       let behind = declarators-behind ds z in
       declarators-step count typed (at env (spell_declarator x more) i) (after_declarator env x) ds (PlainMember x) z (past_declarator n x)
-          (member_declarator-plain env typed x more n i w.0 num.0 (plain-follow ds z) behind.1 short at_n)
-          (λ some. declarators-turns count (after_declarator env x) typed ds z (past_declarator n x + 1) (past_declarator n x + 1) some w.1 (moved ds (past_declarator n x) num.1)
-              (omega (arith, enough, length-declarator x more, comma ds z some)) (omega (arith, short, length-declarator x more, comma ds z some)) refl)
+      (member_declarator-plain env typed x more n i w.0 num.0 (plain-follow ds z) behind.1 short at_n)
+      (λ some. declarators-turns count (after_declarator env x) typed ds z (past_declarator n x + 1) (past_declarator n x + 1) some w.1 (moved ds (past_declarator n x) num.1)
+      (omega (arith, enough, length-declarator x more, comma ds z some)) (omega (arith, short, length-declarator x more, comma ds z some)) refl)
       ∙ same (after_member_declarators (after_declarator env x) ds) (Sign m.Semicolon ∷ z) refl (omega (arith, length-declarator x (spell_member_declarators false ds [])))
   declarators-turns (suc count) env typed (BitField x t e ds) z n i has w num enough short at_n =
       let more = spell_member_declarators false ds (Sign m.Semicolon ∷ z) in
@@ -181,20 +168,20 @@ module _ (d : ℕ) (parts : Parts) (known : Knows d parts) where
       let nume : Numbered (past_declarator n x + 1) e = subst (λ v. Numbered (v + 1) e) num.1 num.2 in
       let nums : NumberedMemberDeclarators false (past_expr (past_declarator n x + 1) e) ds = subst (λ v. NumberedMemberDeclarators false (past_expr (v + 1) e) ds) num.1 num.3 in
       declarators-step count typed (at env (spell_declarator x (Sign m.Colon ∷ spell_expr e more)) i) (after_expr (after_declarator env x) e) ds (BitField x (past_declarator n x) e) z (past_expr (past_declarator n x + 1) e)
-          (member_declarator-bits env typed x e more n i w.0 w.1 w.2 num.0 nume behind.0 short at_n)
-          (λ some. declarators-turns count (after_expr (after_declarator env x) e) typed ds z (past_expr (past_declarator n x + 1) e + 1) (past_expr (past_declarator n x + 1) e + 1) some w.3 (moved ds (past_expr (past_declarator n x + 1) e) nums)
-              (omega (arith, enough, length-declarator x (Sign m.Colon ∷ spell_expr e more), length-expr e more, comma ds z some)) (omega (arith, short, length-declarator x (Sign m.Colon ∷ spell_expr e more), length-expr e more, comma ds z some)) refl)
+      (member_declarator-bits env typed x e more n i w.0 w.1 w.2 num.0 nume behind.0 short at_n)
+      (λ some. declarators-turns count (after_expr (after_declarator env x) e) typed ds z (past_expr (past_declarator n x + 1) e + 1) (past_expr (past_declarator n x + 1) e + 1) some w.3 (moved ds (past_expr (past_declarator n x + 1) e) nums)
+      (omega (arith, enough, length-declarator x (Sign m.Colon ∷ spell_expr e more), length-expr e more, comma ds z some)) (omega (arith, short, length-declarator x (Sign m.Colon ∷ spell_expr e more), length-expr e more, comma ds z some)) refl)
       ∙ same (after_member_declarators (after_expr (after_declarator env x) e) ds) (Sign m.Semicolon ∷ z) (ap (λ v. BitField x v e ds) (sym num.1))
-          (omega (arith, length-declarator x (Sign m.Colon ∷ spell_expr e (spell_member_declarators false ds [])), length-expr e (spell_member_declarators false ds [])))
+      (omega (arith, length-declarator x (Sign m.Colon ∷ spell_expr e (spell_member_declarators false ds [])), length-expr e (spell_member_declarators false ds [])))
   declarators-turns (suc count) env typed (Padding t e ds) z n i has w num enough short at_n =
       let more = spell_member_declarators false ds (Sign m.Semicolon ∷ z) in
       let behind = declarators-behind ds z in
       let nume : Numbered (n + 1) e = subst (λ v. Numbered (v + 1) e) num.0 num.1 in
       let nums : NumberedMemberDeclarators false (past_expr (n + 1) e) ds = subst (λ v. NumberedMemberDeclarators false (past_expr (v + 1) e) ds) num.0 num.2 in
       declarators-step count typed (at env (Sign m.Colon ∷ spell_expr e more) i) (after_expr env e) ds (Padding i e) z (past_expr (n + 1) e)
-          (member_declarator-padding env typed e more n i w.0 w.1 nume behind.0 (omega (arith, short)) at_n)
-          (λ some. declarators-turns count (after_expr env e) typed ds z (past_expr (n + 1) e + 1) (past_expr (n + 1) e + 1) some w.2 (moved ds (past_expr (n + 1) e) nums)
-              (omega (arith, enough, length-expr e more, comma ds z some)) (omega (arith, short, length-expr e more, comma ds z some)) refl)
+      (member_declarator-padding env typed e more n i w.0 w.1 nume behind.0 (omega (arith, short)) at_n)
+      (λ some. declarators-turns count (after_expr env e) typed ds z (past_expr (n + 1) e + 1) (past_expr (n + 1) e + 1) some w.2 (moved ds (past_expr (n + 1) e) nums)
+      (omega (arith, enough, length-expr e more, comma ds z some)) (omega (arith, short, length-expr e more, comma ds z some)) refl)
       ∙ same (after_member_declarators (after_expr env e) ds) (Sign m.Semicolon ∷ z) (ap (λ v. Padding v e ds) (at_n ∙ sym num.0)) (omega (arith, length-expr e (spell_member_declarators false ds [])))
 
   member-ends : (env : Env) (typed : Bool) (ds : MemberDeclarators) (z : List Symbol) → HasMemberDeclarator ds → WellFormedMemberDeclarators env typed ds → ends_specifiers false typed env (head (spell_member_declarators true ds (Sign m.Semicolon ∷ z))) ≡ true
@@ -226,23 +213,23 @@ module _ (d : ℕ) (parts : Parts) (known : Knows d parts) where
   members-turns (suc count) env NoMember z n i has w num enough short at_n = absurd has
   members-turns (suc count) env (Member ss ds NoMember) z n i has w num enough short at_n =
       item_last (member parts) closes_members count (at env (spell_specifiers ss (spell_member_declarators true ds (Sign m.Semicolon ∷ Sign m.CloseBrace ∷ z))) i)
-          (at (after_member_declarators (after_specifiers env ss) ds) (Sign m.CloseBrace ∷ z) (past_member_declarators true (past_specifiers n ss) ds + 1))
-          (at (after_member_declarators (after_specifiers env ss) ds) z (past_member_declarators true (past_specifiers n ss) ds + 1 + 1)) (Member ss ds) NoMember
-          (member-read env ss ds (Sign m.CloseBrace ∷ z) n i w.0 w.1 w.2 w.3 w.4 num.0 num.1 short at_n) refl
+      (at (after_member_declarators (after_specifiers env ss) ds) (Sign m.CloseBrace ∷ z) (past_member_declarators true (past_specifiers n ss) ds + 1))
+      (at (after_member_declarators (after_specifiers env ss) ds) z (past_member_declarators true (past_specifiers n ss) ds + 1 + 1)) (Member ss ds) NoMember
+      (member-read env ss ds (Sign m.CloseBrace ∷ z) n i w.0 w.1 w.2 w.3 w.4 num.0 num.1 short at_n) refl
       ∙ same (after_member_declarators (after_specifiers env ss) ds) z refl (omega (arith, length-specifiers ss (spell_member_declarators true ds (Sign m.Semicolon ∷ [])), length-member_declarators true ds (Sign m.Semicolon ∷ [])))
   members-turns (suc count) env (Member ss ds (Member rr es ms)) z n i has w num enough short at_n =
       let inner = after_member_declarators (after_specifiers env ss) ds in
       let more = spell_members (Member rr es ms) (Sign m.CloseBrace ∷ z) in
       let text = spell_member_declarators true ds (Sign m.Semicolon ∷ more) in
       item_more (member parts) closes_members count (at env (spell_specifiers ss text) i)
-          (at inner more (past_member_declarators true (past_specifiers n ss) ds + 1)) (at inner more (past_member_declarators true (past_specifiers n ss) ds + 1))
-          (at (after_members inner (Member rr es ms)) z (past_members (past_member_declarators true (past_specifiers n ss) ds + 1) (Member rr es ms) + 1)) (Member ss ds) (Member rr es ms)
-          (member-read env ss ds more n i w.0 w.1 w.2 w.3 w.4 num.0 num.1 short at_n)
-          (rw (type-no_mark m.CloseBrace false (at inner more 0) (head more) (specifiers-begin false inner rr (spell_member_declarators true es (Sign m.Semicolon ∷ spell_members ms (Sign m.CloseBrace ∷ z))) more 0 w.5.0 w.5.1 w.5.2)) refl)
-          (members-turns count inner (Member rr es ms) z (past_member_declarators true (past_specifiers n ss) ds + 1) (past_member_declarators true (past_specifiers n ss) ds + 1) tt w.5 num.2
-              (omega (arith, enough, length-specifiers ss text, length-member_declarators true ds (Sign m.Semicolon ∷ more))) (omega (arith, short, length-specifiers ss text, length-member_declarators true ds (Sign m.Semicolon ∷ more))) refl)
+      (at inner more (past_member_declarators true (past_specifiers n ss) ds + 1)) (at inner more (past_member_declarators true (past_specifiers n ss) ds + 1))
+      (at (after_members inner (Member rr es ms)) z (past_members (past_member_declarators true (past_specifiers n ss) ds + 1) (Member rr es ms) + 1)) (Member ss ds) (Member rr es ms)
+      (member-read env ss ds more n i w.0 w.1 w.2 w.3 w.4 num.0 num.1 short at_n)
+      (rw (type-no_mark m.CloseBrace false (at inner more 0) (head more) (specifiers-begin false inner rr (spell_member_declarators true es (Sign m.Semicolon ∷ spell_members ms (Sign m.CloseBrace ∷ z))) more 0 w.5.0 w.5.1 w.5.2)) refl)
+      (members-turns count inner (Member rr es ms) z (past_member_declarators true (past_specifiers n ss) ds + 1) (past_member_declarators true (past_specifiers n ss) ds + 1) tt w.5 num.2
+      (omega (arith, enough, length-specifiers ss text, length-member_declarators true ds (Sign m.Semicolon ∷ more))) (omega (arith, short, length-specifiers ss text, length-member_declarators true ds (Sign m.Semicolon ∷ more))) refl)
       ∙ same (after_members inner (Member rr es ms)) z refl
-          (omega (arith, length-specifiers ss (spell_member_declarators true ds (Sign m.Semicolon ∷ spell_members (Member rr es ms) [])), length-member_declarators true ds (Sign m.Semicolon ∷ spell_members (Member rr es ms) [])))
+      (omega (arith, length-specifiers ss (spell_member_declarators true ds (Sign m.Semicolon ∷ spell_members (Member rr es ms) [])), length-member_declarators true ds (Sign m.Semicolon ∷ spell_members (Member rr es ms) [])))
 
   -- up to the `}` and with it
   pub members-read : (env : Env) (ms : Members) (z : List Symbol) (n i : ℕ) → HasMember ms → WellFormedMembers env ms → NumberedMembers n ms → length (spell_members ms (Sign m.CloseBrace ∷ z)) < d → i ≡ n
@@ -266,12 +253,12 @@ module _ (d : ℕ) (parts : Parts) (known : Knows d parts) where
   enumerators-step count i env (PlainEnumerator w es) f z n item rest =
       let more = spell_enumerators true (PlainEnumerator w es) (Sign m.CloseBrace ∷ z) in
       item_more (enumerator parts) (unless_comma NoEnumerator) count i (at env (Sign m.Comma ∷ more) n) (at env more (n + 1))
-          (at (after_enumerators env (PlainEnumerator w es)) (Sign m.CloseBrace ∷ z) (past_enumerators true (n + 1) (PlainEnumerator w es))) f (PlainEnumerator w es) item (comma_more NoEnumerator env more n) (rest tt)
+      (at (after_enumerators env (PlainEnumerator w es)) (Sign m.CloseBrace ∷ z) (past_enumerators true (n + 1) (PlainEnumerator w es))) f (PlainEnumerator w es) item (comma_more NoEnumerator env more n) (rest tt)
       ∙ same (after_enumerators env (PlainEnumerator w es)) (Sign m.CloseBrace ∷ z) refl (omega arith)
   enumerators-step count i env (ValuedEnumerator w e es) f z n item rest =
       let more = spell_enumerators true (ValuedEnumerator w e es) (Sign m.CloseBrace ∷ z) in
       item_more (enumerator parts) (unless_comma NoEnumerator) count i (at env (Sign m.Comma ∷ more) n) (at env more (n + 1))
-          (at (after_enumerators env (ValuedEnumerator w e es)) (Sign m.CloseBrace ∷ z) (past_enumerators true (n + 1) (ValuedEnumerator w e es))) f (ValuedEnumerator w e es) item (comma_more NoEnumerator env more n) (rest tt)
+      (at (after_enumerators env (ValuedEnumerator w e es)) (Sign m.CloseBrace ∷ z) (past_enumerators true (n + 1) (ValuedEnumerator w e es))) f (ValuedEnumerator w e es) item (comma_more NoEnumerator env more n) (rest tt)
       ∙ same (after_enumerators env (ValuedEnumerator w e es)) (Sign m.CloseBrace ∷ z) refl (omega arith)
 
   enumerators-turns : (count : ℕ) (env : Env) (es : Enumerators) (z : List Symbol) (n i : ℕ) → HasEnumerator es → WellFormedEnumerators env es → NumberedEnumerators true n es
@@ -283,17 +270,17 @@ module _ (d : ℕ) (parts : Parts) (known : Knows d parts) where
   enumerators-turns (suc count) env (PlainEnumerator x es) z n i has w num enough short at_n =
       let more = spell_enumerators false es (Sign m.CloseBrace ∷ z) in
       enumerators-step count (at env (identifier x ∷ more) i) (declare_plain x env) es (PlainEnumerator (record { token = i; text = x.text })) z (i + 1)
-          (rw ((enumerators-behind es z).1) refl)
-          (λ some. enumerators-turns count (declare_plain x env) es z (n + 1 + 1) (i + 1 + 1) some w (enum-moved es (n + 1) num.1)
-              (omega (arith, enough, enum-comma es z some)) (omega (arith, short, enum-comma es z some)) (omega (arith, at_n)) ∙ same (after_enumerators (declare_plain x env) es) (Sign m.CloseBrace ∷ z) refl (omega (arith, at_n)))
+      (rw ((enumerators-behind es z).1) refl)
+      (λ some. enumerators-turns count (declare_plain x env) es z (n + 1 + 1) (i + 1 + 1) some w (enum-moved es (n + 1) num.1)
+      (omega (arith, enough, enum-comma es z some)) (omega (arith, short, enum-comma es z some)) (omega (arith, at_n)) ∙ same (after_enumerators (declare_plain x env) es) (Sign m.CloseBrace ∷ z) refl (omega (arith, at_n)))
       ∙ same (after_enumerators (declare_plain x env) es) (Sign m.CloseBrace ∷ z) (ap (λ v. PlainEnumerator (record { token = v; text = x.text }) es) (at_n ∙ sym num.0)) (omega (arith, at_n))
   enumerators-turns (suc count) env (ValuedEnumerator x e es) z n i has w num enough short at_n =
       let more = spell_enumerators false es (Sign m.CloseBrace ∷ z) in
       let inner = declare_plain x (after_expr env e) in
       enumerators-step count (at env (identifier x ∷ Sign m.Equal ∷ spell_expr e more) i) inner es (ValuedEnumerator (record { token = i; text = x.text }) e) z (past_expr (n + 2) e)
-          (rw (known.expr 14 (omega arith) env e more (n + 2) (i + 1 + 1) w.1 num.1 w.0 ((enumerators-behind es z).0) (omega (arith, short)) (omega (arith, at_n))) refl)
-          (λ some. enumerators-turns count inner es z (past_expr (n + 2) e + 1) (past_expr (n + 2) e + 1) some w.2 (enum-moved es (past_expr (n + 2) e) num.2)
-              (omega (arith, enough, length-expr e more, enum-comma es z some)) (omega (arith, short, length-expr e more, enum-comma es z some)) refl)
+      (rw (known.expr 14 (omega arith) env e more (n + 2) (i + 1 + 1) w.1 num.1 w.0 ((enumerators-behind es z).0) (omega (arith, short)) (omega (arith, at_n))) refl)
+      (λ some. enumerators-turns count inner es z (past_expr (n + 2) e + 1) (past_expr (n + 2) e + 1) some w.2 (enum-moved es (past_expr (n + 2) e) num.2)
+      (omega (arith, enough, length-expr e more, enum-comma es z some)) (omega (arith, short, length-expr e more, enum-comma es z some)) refl)
       ∙ same (after_enumerators inner es) (Sign m.CloseBrace ∷ z) (ap (λ v. ValuedEnumerator (record { token = v; text = x.text }) e es) (at_n ∙ sym num.0)) (omega (arith, length-expr e (spell_enumerators false es [])))
 
   -- up to the `}` and with it

@@ -1,48 +1,31 @@
 -- Translation units are read (6.7): what is written is read.
-use Rattle.std.proofs.Common.{◌≡◌, ℕ, zero, suc, ◌+◌, ◌-◌, ◌==◌, ◌<◌, ◌≤◌, Bool, true, false, not, ◌||◌, ◌&&◌, if◌then◌else◌, List, [], ◌∷◌, ◌++◌, append_assoc, length, map, Option, Some, None, Ok, arith, refl, sym, ap, ◌∙◌, subst}
-use Rattle.pw_tree.specs.Levels.{level, chain_level, binary_level}
-use Rattle.pw_tree.specs.Numbering.{past_identifiers, past_tag, past_pointers, past_expr, past_postfixes, past_arguments, past_operations, past_specifiers, past_members, past_member_declarators, past_enumerators, past_declarator, past_core, past_suffixes, past_parameters, past_optional, past_init, past_inits, past_initializer, past_init_declarators, past_decl, past_decls, past_label, past_labels, past_stmt, past_alternative, past_block, past_stmts, past_external, past_comma, NumberedIdentifiers, NumberedStrings, NumberedTag, NumberedPointers, Numbered, NumberedPostfixes, NumberedArguments, NumberedOperations, NumberedSpecifiers, NumberedMembers, NumberedMemberDeclarators, NumberedEnumerators, NumberedDeclarator, NumberedCore, NumberedSuffixes, NumberedParameters, NumberedOptional, NumberedInit, NumberedInits, NumberedInitializer, NumberedInitDeclarators, NumberedDecl, NumberedDecls, NumberedLabel, NumberedLabels, NumberedStmt, NumberedAlternative, NumberedBlock, NumberedStmts, NumberedFunction, NumberedExternal, NumberedExternals, NumberedModule}
-use Rattle.pw_tree.specs.Scopes.{is_typedef_name, declare_plain, declare_plains, has_typedef, has_type, name_of, name_in, declare_name, declare, after_expr, after_postfixes, after_arguments, after_operations, after_specifiers, after_members, after_member_declarators, after_enumerators, after_declarator, after_core, after_suffixes, after_parameter, after_parameters, after_optional, after_init, after_inits, after_initializer, after_name, after_init_declarators, after_decl, after_decls, after_label, after_labels, after_stmt, after_alternative, enter_first, enter, after_external, Env}
-use Rattle.pw_tree.specs.Spelling.{identifier, separated, trailed, spell_identifiers, spell_strings, spell_tag, spell_qualifiers, spell_pointers, spell_expr, spell_postfixes, spell_arguments, spell_operations, spell_specifiers, spell_members, spell_member_declarators, spell_enumerators, spell_declarator, spell_core, spell_suffixes, spell_parameters, spell_optional, spell_init, spell_inits, spell_initializer, spell_init_declarators, spell_decl, spell_decls, spell_label, spell_labels, spell_stmt, spell_alternative, spell_block, spell_stmts, spell_external, spell_externals, symbols, spelling}
+use Rattle.std.proofs.Common.{◌≡◌, ℕ, zero, suc, ◌+◌, ◌<◌, Bool, true, false, not, ◌&&◌, List, [], ◌∷◌, ◌++◌, append_assoc, length, map, Option, Some, None, Ok, arith, refl, sym, ap, ◌∙◌}
+use Rattle.pw_tree.specs.Numbering.{past_specifiers, past_declarator, past_decl, past_decls, past_block, past_external, NumberedSpecifiers, NumberedDeclarator, NumberedDecl, NumberedDecls, NumberedStmt, NumberedBlock, NumberedExternal, NumberedExternals, NumberedModule}
+use Rattle.pw_tree.specs.Scopes.{declare_plain, declare_plains, has_typedef, has_type, name_of, declare, after_specifiers, after_declarator, after_parameters, after_name, after_init_declarators, after_decl, after_decls, enter_first, enter, after_external, Env}
+use Rattle.pw_tree.specs.Spelling.{spell_expr, spell_specifiers, spell_declarator, spell_initializer, spell_init_declarators, spell_decl, spell_decls, spell_stmt, spell_block, spell_stmts, spell_external, spell_externals, symbols}
 use Rattle.pw_tree.specs.Symbols as symbol
 use Rattle.pw_tree.specs.Symbols.{Symbol, Reserved, Sign, unary_symbol, binary_mark, assign_mark, access_mark, step_mark}
-use Rattle.pw_tree.specs.Trees.{Word, Pointer, Expr, Identifier, Number, Floating, Character, Wide, Strings, Paren, Postfix, Unary, SizeofType, Cast, Chain, Conditional, Assign, Postfixes, NoPostfix, Index, Call, Select, Step, Arguments, NoArgument, Argument, Operations, NoOperation, Operation, Specifiers, NoSpecifier, Storage, Qualified, Basic, TypedefName, RecordTag, Record, EnumTag, Enum, Members, NoMember, Member, MemberDeclarators, NoMemberDeclarator, PlainMember, BitField, Padding, Enumerators, NoEnumerator, PlainEnumerator, ValuedEnumerator, Declarator, Declaring, Core, Absent, Name, Enclosed, Suffixes, NoSuffix, Array, OpenArray, Prototype, Variadic, Identifiers, Parameters, NoParameter, Parameter, Init, Value, Braces, Inits, NoInit, Listed, Initializer, InitDeclarator, Decl, Label, CaseLabel, DefaultLabel, NameLabel, Stmt, Compound, Expression, Empty, Labeled, If, Switch, While, Do, For, Goto, Continue, Break, Return, Alternative, NoElse, Otherwise, ElseIf, Module, Block, Braced, Stmts, NoStmt, Next, External, Definition, Declaration}
+use Rattle.pw_tree.specs.Trees.{Word, Specifiers, NoSpecifier, Storage, Qualified, Basic, TypedefName, RecordTag, Record, EnumTag, Enum, Declarator, Declaring, Core, Absent, Name, Enclosed, Suffixes, NoSuffix, Array, OpenArray, Prototype, Variadic, Identifiers, Parameters, Initializer, InitDeclarator, Decl, Module, Block, Braced, External, Definition, Declaration}
 use Rattle.pw_tree.specs.WellFormed.{NotEmpty, HasPostfix, HasSpecifier, HasMember, HasMemberDeclarator, HasEnumerator, HasParameter, HasInit, NotTypedef, NoneTypedef, MayDeclare, NoStorage, IsSomething, begins_with_typedef, MayEnclose, operand_level, WellFormed, WellFormedPostfixes, WellFormedArguments, WellFormedOperations, WellFormedSpecifiers, WellFormedMembers, WellFormedMemberDeclarators, WellFormedEnumerators, WellFormedDeclarator, WellFormedCore, WellFormedSuffixes, WellFormedParameters, WellFormedOptional, WellFormedInit, WellFormedInits, WellFormedInitializer, WellFormedInitDeclarators, WellFormedDecl, WellFormedDecls, WellFormedLabel, WellFormedLabels, NotLabeled, NotIf, ends_open, alternative_ends_open, MayPrecede, WellFormedStmt, WellFormedAlternative, WellFormedBlock, WellFormedStmts, in_function, WellFormedFunction, WellFormedExternal, WellFormedExternals, WellFormedModule}
 use Rattle.pw_tree.specs.WellFormed as tree
-use Rattle.pw_tree.specs.declared.operator.Access.{Access}
-use Rattle.pw_tree.specs.declared.operator.Access.TheVariants as access
-use Rattle.pw_tree.specs.declared.operator.AssignOperator.{AssignOperator}
-use Rattle.pw_tree.specs.declared.operator.AssignOperator.TheVariants as assign
-use Rattle.pw_tree.specs.declared.operator.BinaryOperator.{BinaryOperator}
-use Rattle.pw_tree.specs.declared.operator.BinaryOperator.TheVariants as binary
-use Rattle.pw_tree.specs.declared.operator.StepOperator.{StepOperator}
-use Rattle.pw_tree.specs.declared.operator.StepOperator.TheVariants as stepping
-use Rattle.pw_tree.specs.declared.operator.UnaryOperator.{UnaryOperator}
-use Rattle.pw_tree.specs.declared.operator.UnaryOperator.TheVariants as unary
-use Rattle.pw_tree.specs.declared.symbol.Keyword.TheVariants as k
-use Rattle.pw_tree.specs.declared.symbol.Mark.{Mark}
 use Rattle.pw_tree.specs.declared.symbol.Mark.TheVariants as m
-use Rattle.pw_grammar.specs.declared.place.Place.{Place}
-use Rattle.pw_grammar.specs.declared.place.Place.TheVariants.{Named, Nameless, Either}
-use Rattle.pw_grammar.specs.Input.{Input, first_of_rest, ahead, is_none_left, at_end, step_to, step, same_mark, same_keyword, is_mark, is_keyword, sees, sees_keyword, or_false, Outcome, Parser, and_then, ◌>>=◌, ◌>>◌, pure, ◌<$>◌, fault, asks, peek, here, skip, take_number, word, past, past_keyword, eat, eat_keyword, expect, expect_keyword, identifier_by, ordinary_by, ordinary, declare_all, leave, since, turns, go_on, repeat, list_of, turn_of, while_some, turn_with, one_or_more, unless_comma, Turn, More, Last, Binding}
-use Rattle.pw_grammar.specs.Parts.{Parts, Declared}
+use Rattle.pw_grammar.specs.declared.place.Place.TheVariants.{Named}
+use Rattle.pw_grammar.specs.Input.{Input, ahead, is_none_left, at_end, step, same_mark, is_mark, sees, Parser, ◌<$>◌, past, repeat, Turn, Binding}
 use Rattle.std.specs.Option.{option_or}
 use Rattle.std.proofs.lemmas.List.{append-nil}
 use Rattle.pw_scope.proofs.Visibility.{option_or-assoc}
 use Rattle.pw_tree.specs.Scopes.{behind_name, behind_core}
-use Rattle.pw_grammar.specs.Declarations.{parts}
-use Rattle.pw_grammar.specs.Modules.{or_none, goes_on_as_declaration, function, external_with, external_named, external_behind, external, ends_text, externals, start, read}
-use Rattle.pw_grammar.specs.Input.{mark}
+use Rattle.pw_grammar.specs.Modules.{or_none, goes_on_as_declaration, function, external_with, external_named, external_behind, external, ends_text, externals, read}
 use Rattle.pw_grammar.specs.Statements as rules
 use Rattle.pw_grammar.specs.Tests.{is_empty, symbol_begins_specifier}
 use Rattle.pw_grammar.proofs.Base.{at, same, names_of, names_of-append, left, turns_enough, no_turns, true_is_not_false, item_turn, item_more, item_last}
-use Rattle.pw_grammar.proofs.DeclarationsRead.{begins_type, begins-type, decls-read, decl-long, declaration_with-read, named-no_semicolon, declarator-follow}
+use Rattle.pw_grammar.proofs.DeclarationsRead.{begins_type, decls-read, declaration_with-read, named-no_semicolon, declarator-follow}
 use Rattle.pw_grammar.proofs.Follow.{head}
 use Rattle.pw_grammar.proofs.Heads.{specifiers-begin}
 use Rattle.pw_grammar.proofs.Knot.{parts-know}
 use Rattle.pw_grammar.proofs.Knows as knows
 use Rattle.pw_grammar.proofs.Knows.{joins_declarator, ends_specifiers, declared, bindings_of, behind_suffixes, behind_of}
-use Rattle.pw_grammar.proofs.Lengths.{length-specifiers, length-declarator, length-decl, length-decls, length-block, length-stmts, length-initializer, length-init_declarators, length-external}
+use Rattle.pw_grammar.proofs.Lengths.{length-specifiers, length-declarator, length-decls, length-stmts, length-initializer, length-init_declarators, length-external}
 use Rattle.pw_grammar.proofs.MembersRead.{type-no_mark}
 use Rattle.pw_grammar.proofs.ParametersRead.{declare-read}
 use Rattle.pw_grammar.proofs.Primaries.{not_empty}
@@ -243,8 +226,13 @@ module _ (limit : ℕ) where
       (rw (not_empty ss w.0)
       (rw (declaration_with-read limit (after_declarator e1 x.declarator) ss x ds z n2 n2 w.2.1 w.2.2 num.1.1 num.1.2 (omega (arith, short, length-specifiers ss text, length-declarator x.declarator more)) refl)
       (same (after_init_declarators e1 ss (x ∷ ds)) z refl
-          (omega (arith, length-specifiers ss (spell_declarator x.declarator (spell_initializer x.initializer (spell_init_declarators false ds (Sign m.Semicolon ∷ [])))),
-              length-declarator x.declarator (spell_initializer x.initializer (spell_init_declarators false ds (Sign m.Semicolon ∷ []))), length-initializer x.initializer (spell_init_declarators false ds (Sign m.Semicolon ∷ [])), length-init_declarators false ds (Sign m.Semicolon ∷ []))))))))))
+      (omega (
+        arith,
+        length-specifiers ss (spell_declarator x.declarator (spell_initializer x.initializer (spell_init_declarators false ds (Sign m.Semicolon ∷ [])))),
+        length-declarator x.declarator (spell_initializer x.initializer (spell_init_declarators false ds (Sign m.Semicolon ∷ []))),
+        length-initializer x.initializer (spell_init_declarators false ds (Sign m.Semicolon ∷ [])),
+        length-init_declarators false ds (Sign m.Semicolon ∷ []),
+      )))))))))
 
   external-read : (env : Env) (x : External) (z : List Symbol) (n i : ℕ) → WellFormedExternal env x → NumberedExternal n x → length (spell_external x z) < limit → i ≡ n
       → external limit (at env (spell_external x z) i) ≡ Ok ((λ more. x ∷ more), at (after_external env x) z (past_external n x))
@@ -252,7 +240,7 @@ module _ (limit : ℕ) where
   external-read env (Definition f) z n i w num short at_n =
       definition-read env f.specifiers f.declarator f.declarations f.body z n i w.0 w.1 w.2 w.3 num.0 num.1 num.2 num.3 short at_n
       ∙ same (after_external env (Definition f)) z refl
-          (omega (arith, length-specifiers f.specifiers (spell_declarator f.declarator (behind_declarator f.declarations f.body [])), length-declarator f.declarator (behind_declarator f.declarations f.body []), length-decls f.declarations (spell_block f.body [])))
+      (omega (arith, length-specifiers f.specifiers (spell_declarator f.declarator (behind_declarator f.declarations f.body [])), length-declarator f.declarator (behind_declarator f.declarations f.body []), length-decls f.declarations (spell_block f.body [])))
 
   -- ---- 6.7
 
@@ -265,14 +253,14 @@ module _ (limit : ℕ) where
   externals-turns zero env x xs n i w num enough short at_n = no_turns enough
   externals-turns (suc count) env x [] n i w num enough short at_n =
       item_last (external limit) (ends_text limit) count (at env (spell_external x []) i) (at (after_external env x) [] (past_external n x)) (at (after_external env x) [] (past_external n x)) (λ more. x ∷ more) []
-          (external-read env x [] n i w.0 num.0 short at_n) refl
+      (external-read env x [] n i w.0 num.0 short at_n) refl
   externals-turns (suc count) env x (y ∷ xs) n i w num enough short at_n =
       let more = spell_externals (y ∷ xs) [] in
       let inner = after_external env x in
       item_more (external limit) (ends_text limit) count (at env (spell_external x more) i) (at inner more (past_external n x)) (at inner more (past_external n x)) (at (after_externals inner (y ∷ xs)) [] (past_external n x + length more)) (λ more. x ∷ more) (y ∷ xs)
-          (external-read env x more n i w.0 num.0 short at_n)
-          (rw (something-left more (omega (arith, external-long y (spell_externals xs [])))) refl)
-          (externals-turns count inner y xs (past_external n x) (past_external n x) w.1 num.1 (omega (arith, enough, length-external x more, external-long x [])) (omega (arith, short, length-external x more)) refl)
+      (external-read env x more n i w.0 num.0 short at_n)
+      (rw (something-left more (omega (arith, external-long y (spell_externals xs [])))) refl)
+      (externals-turns count inner y xs (past_external n x) (past_external n x) w.1 num.1 (omega (arith, enough, length-external x more, external-long x [])) (omega (arith, short, length-external x more)) refl)
       ∙ same (after_externals inner (y ∷ xs)) [] refl (omega (arith, length-external x more))
 
 -- where a tree's tokens end

@@ -1,37 +1,23 @@
 -- Postfix expressions are read (6.3.2).
-use Rattle.std.proofs.Common.{◌≡◌, ℕ, zero, suc, ◌+◌, ◌-◌, ◌==◌, ◌<◌, ◌≤◌, Bool, true, false, not, if◌then◌else◌, List, [], ◌∷◌, length, map, Option, Some, None, Ok, arith, refl, sym, ap, ◌∙◌, subst}
-use Rattle.pw_tree.specs.Levels.{level, chain_level, binary_level}
-use Rattle.pw_tree.specs.Numbering.{past_identifiers, past_tag, past_pointers, past_expr, past_postfixes, past_arguments, past_operations, past_specifiers, past_members, past_member_declarators, past_enumerators, past_declarator, past_core, past_suffixes, past_parameters, past_optional, past_init, past_inits, past_initializer, past_init_declarators, past_decl, past_decls, past_label, past_labels, past_stmt, past_alternative, past_block, past_stmts, past_external, past_comma, NumberedIdentifiers, NumberedStrings, NumberedTag, NumberedPointers, Numbered, NumberedPostfixes, NumberedArguments, NumberedOperations, NumberedSpecifiers, NumberedMembers, NumberedMemberDeclarators, NumberedEnumerators, NumberedDeclarator, NumberedCore, NumberedSuffixes, NumberedParameters, NumberedOptional, NumberedInit, NumberedInits, NumberedInitializer, NumberedInitDeclarators, NumberedDecl, NumberedDecls, NumberedLabel, NumberedLabels, NumberedStmt, NumberedAlternative, NumberedBlock, NumberedStmts, NumberedFunction, NumberedExternal, NumberedExternals, NumberedModule}
-use Rattle.pw_tree.specs.Scopes.{is_typedef_name, declare_plain, declare_plains, has_typedef, has_type, name_of, name_in, declare_name, declare, after_expr, after_postfixes, after_arguments, after_operations, after_specifiers, after_members, after_member_declarators, after_enumerators, after_declarator, after_core, after_suffixes, after_parameter, after_parameters, after_optional, after_init, after_inits, after_initializer, after_name, after_init_declarators, after_decl, after_decls, after_label, after_labels, after_stmt, after_alternative, behind_name, behind_core, enter_first, enter, after_external, Env}
-use Rattle.pw_tree.specs.Spelling.{identifier, separated, trailed, spell_identifiers, spell_strings, spell_tag, spell_qualifiers, spell_pointers, spell_expr, spell_postfixes, spell_arguments, spell_operations, spell_specifiers, spell_members, spell_member_declarators, spell_enumerators, spell_declarator, spell_core, spell_suffixes, spell_parameters, spell_optional, spell_init, spell_inits, spell_initializer, spell_init_declarators, spell_decl, spell_decls, spell_label, spell_labels, spell_stmt, spell_alternative, spell_block, spell_stmts, spell_external, spell_externals, symbols, spelling}
-use Rattle.pw_tree.specs.Symbols as symbol
-use Rattle.pw_tree.specs.Symbols.{Symbol, Reserved, Sign, unary_symbol, binary_mark, assign_mark, access_mark, step_mark}
-use Rattle.pw_tree.specs.Trees.{Word, Pointer, Expr, Identifier, Number, Floating, Character, Wide, Strings, Paren, Postfix, Unary, SizeofType, Cast, Chain, Conditional, Assign, Postfixes, NoPostfix, Index, Call, Select, Step, Arguments, NoArgument, Argument, Operations, NoOperation, Operation, Specifiers, NoSpecifier, Storage, Qualified, Basic, TypedefName, RecordTag, Record, EnumTag, Enum, Members, NoMember, Member, MemberDeclarators, NoMemberDeclarator, PlainMember, BitField, Padding, Enumerators, NoEnumerator, PlainEnumerator, ValuedEnumerator, Declarator, Declaring, Core, Absent, Name, Enclosed, Suffixes, NoSuffix, Array, OpenArray, Prototype, Variadic, Identifiers, Parameters, NoParameter, Parameter, Init, Value, Braces, Inits, NoInit, Listed, Initializer, InitDeclarator, Decl, Label, CaseLabel, DefaultLabel, NameLabel, Stmt, Compound, Expression, Empty, Labeled, If, Switch, While, Do, For, Goto, Continue, Break, Return, Alternative, NoElse, Otherwise, ElseIf, Block, Braced, Stmts, NoStmt, Next, External, Definition, Declaration}
-use Rattle.pw_tree.specs.WellFormed.{NotEmpty, HasPostfix, HasSpecifier, HasMember, HasMemberDeclarator, HasEnumerator, HasParameter, HasInit, NotTypedef, NoneTypedef, MayDeclare, NoStorage, IsSomething, begins_with_typedef, MayEnclose, operand_level, WellFormed, WellFormedPostfixes, WellFormedArguments, WellFormedOperations, WellFormedSpecifiers, WellFormedMembers, WellFormedMemberDeclarators, WellFormedEnumerators, WellFormedDeclarator, WellFormedCore, WellFormedSuffixes, WellFormedParameters, WellFormedOptional, WellFormedInit, WellFormedInits, WellFormedInitializer, WellFormedInitDeclarators, WellFormedDecl, WellFormedDecls, WellFormedLabel, WellFormedLabels, NotLabeled, NotIf, ends_open, alternative_ends_open, MayPrecede, WellFormedStmt, WellFormedAlternative, WellFormedBlock, WellFormedStmts, in_function, WellFormedFunction, WellFormedExternal, WellFormedExternals, WellFormedModule}
-use Rattle.pw_tree.specs.WellFormed as tree
-use Rattle.pw_tree.specs.declared.operator.Access.{Access}
+use Rattle.std.proofs.Common.{◌≡◌, ℕ, zero, suc, ◌+◌, ◌<◌, ◌≤◌, true, false, List, [], ◌∷◌, length, map, Some, Ok, arith, refl, sym, ap, ◌∙◌}
+use Rattle.pw_tree.specs.Levels.{level}
+use Rattle.pw_tree.specs.Numbering.{past_expr, past_postfixes, past_arguments, Numbered, NumberedPostfixes, NumberedArguments}
+use Rattle.pw_tree.specs.Scopes.{after_expr, after_postfixes, after_arguments, Env}
+use Rattle.pw_tree.specs.Spelling.{spell_expr, spell_postfixes, spell_arguments}
+use Rattle.pw_tree.specs.Symbols.{Symbol, Sign}
+use Rattle.pw_tree.specs.Trees.{Expr, Postfixes, NoPostfix, Index, Call, Select, Step, Arguments, NoArgument, Argument}
+use Rattle.pw_tree.specs.WellFormed.{WellFormed, WellFormedPostfixes, WellFormedArguments}
 use Rattle.pw_tree.specs.declared.operator.Access.TheVariants as access
-use Rattle.pw_tree.specs.declared.operator.AssignOperator.{AssignOperator}
-use Rattle.pw_tree.specs.declared.operator.AssignOperator.TheVariants as assign
-use Rattle.pw_tree.specs.declared.operator.BinaryOperator.{BinaryOperator}
-use Rattle.pw_tree.specs.declared.operator.BinaryOperator.TheVariants as binary
-use Rattle.pw_tree.specs.declared.operator.StepOperator.{StepOperator}
 use Rattle.pw_tree.specs.declared.operator.StepOperator.TheVariants as stepping
-use Rattle.pw_tree.specs.declared.operator.UnaryOperator.{UnaryOperator}
-use Rattle.pw_tree.specs.declared.operator.UnaryOperator.TheVariants as unary
-use Rattle.pw_tree.specs.declared.symbol.Keyword.TheVariants as k
-use Rattle.pw_tree.specs.declared.symbol.Mark.{Mark}
 use Rattle.pw_tree.specs.declared.symbol.Mark.TheVariants as m
-use Rattle.pw_grammar.specs.declared.place.Place.{Place}
-use Rattle.pw_grammar.specs.declared.place.Place.TheVariants.{Named, Nameless, Either}
-use Rattle.pw_grammar.specs.Input.{Input, first_of_rest, ahead, is_none_left, at_end, step_to, step, same_mark, same_keyword, is_mark, is_keyword, sees, sees_keyword, or_false, Outcome, Parser, and_then, ◌>>=◌, ◌>>◌, pure, ◌<$>◌, fault, asks, peek, here, skip, take_number, word, past, past_keyword, eat, eat_keyword, expect, expect_keyword, identifier_by, ordinary_by, ordinary, declare_all, leave, since, turns, go_on, repeat, list_of, turn_of, while_some, turn_with, one_or_more, unless_comma, Binding}
-use Rattle.pw_grammar.specs.Parts.{Parts, Declared}
-use Rattle.pw_grammar.specs.Expressions.{with_postfixes, primary, argument, some_arguments, arguments, index, call, select, step_behind, postfix_operation, postfixes, postfix_expr}
+use Rattle.pw_grammar.specs.Input.{ahead, step, same_mark, sees, ◌<$>◌, expect, identifier_by, repeat, turn_of, unless_comma}
+use Rattle.pw_grammar.specs.Parts.{Parts}
+use Rattle.pw_grammar.specs.Expressions.{with_postfixes, argument, some_arguments, arguments, index, call, select, step_behind, postfix_operation, postfixes, postfix_expr}
 use Rattle.pw_grammar.proofs.Base.{at, same, turns_enough, no_turns, some_more, some_last, item_turn, item_more, item_last, comma_more, comma_last}
 use Rattle.pw_grammar.proofs.Follow.{Follow, head, joins, is_text, no_text, no_postfix, no_comma}
 use Rattle.pw_grammar.proofs.Heads.{expr-begins, expr-no_close_paren}
 use Rattle.pw_grammar.proofs.Knows.{Knows}
-use Rattle.pw_grammar.proofs.Lengths.{length-expr, length-postfixes, length-arguments}
+use Rattle.pw_grammar.proofs.Lengths.{length-expr, length-arguments}
 use Rattle.pw_grammar.proofs.Primaries.{whole, primary-read}
 
 module _ (d : ℕ) (parts : Parts) (known : Knows d parts) where
@@ -50,17 +36,17 @@ module _ (d : ℕ) (parts : Parts) (known : Knows d parts) where
   arguments-turns zero env e es z n i w num nums follow enough short at_n = no_turns enough
   arguments-turns (suc count) env e NoArgument z n i w num nums follow enough short at_n =
       item_last (argument parts) (unless_comma NoArgument) count (at env (spell_expr e z) i) (at (after_expr env e) z (past_expr n e)) (at (after_expr env e) z (past_expr n e)) (Argument e) NoArgument
-          (rw (known.expr 15 (omega arith) env e z n i w.1 num w.0 (omega (arith, follow)) short at_n) refl)
-          (comma_last NoArgument (after_expr env e) z (past_expr n e) (no_comma (head z) follow))
+      (rw (known.expr 15 (omega arith) env e z n i w.1 num w.0 (omega (arith, follow)) short at_n) refl)
+      (comma_last NoArgument (after_expr env e) z (past_expr n e) (no_comma (head z) follow))
       ∙ same (after_expr env e) z refl (omega arith)
   arguments-turns (suc count) env e (Argument f es) z n i w num nums follow enough short at_n =
       item_more (argument parts) (unless_comma NoArgument) count (at env (spell_expr e (Sign m.Comma ∷ spell_expr f (spell_arguments false es z))) i)
-          (at (after_expr env e) (Sign m.Comma ∷ spell_expr f (spell_arguments false es z)) (past_expr n e)) (at (after_expr env e) (spell_expr f (spell_arguments false es z)) (past_expr n e + 1))
-          (at (after_arguments (after_expr (after_expr env e) f) es) z (past_arguments false (past_expr (past_expr n e + 1) f) es)) (Argument e) (Argument f es)
-          (rw (known.expr 15 (omega arith) env e (Sign m.Comma ∷ spell_expr f (spell_arguments false es z)) n i w.1 num w.0 (omega arith) short at_n) refl)
-          (comma_more NoArgument (after_expr env e) (spell_expr f (spell_arguments false es z)) (past_expr n e))
-          (arguments-turns count (after_expr env e) f es z (past_expr n e + 1) (past_expr n e + 1) w.2 nums.0 nums.1 follow
-              (omega (arith, enough, length-expr e (Sign m.Comma ∷ spell_expr f (spell_arguments false es z)))) (omega (arith, short, length-expr e (Sign m.Comma ∷ spell_expr f (spell_arguments false es z)))) refl)
+      (at (after_expr env e) (Sign m.Comma ∷ spell_expr f (spell_arguments false es z)) (past_expr n e)) (at (after_expr env e) (spell_expr f (spell_arguments false es z)) (past_expr n e + 1))
+      (at (after_arguments (after_expr (after_expr env e) f) es) z (past_arguments false (past_expr (past_expr n e + 1) f) es)) (Argument e) (Argument f es)
+      (rw (known.expr 15 (omega arith) env e (Sign m.Comma ∷ spell_expr f (spell_arguments false es z)) n i w.1 num w.0 (omega arith) short at_n) refl)
+      (comma_more NoArgument (after_expr env e) (spell_expr f (spell_arguments false es z)) (past_expr n e))
+      (arguments-turns count (after_expr env e) f es z (past_expr n e + 1) (past_expr n e + 1) w.2 nums.0 nums.1 follow
+      (omega (arith, enough, length-expr e (Sign m.Comma ∷ spell_expr f (spell_arguments false es z)))) (omega (arith, short, length-expr e (Sign m.Comma ∷ spell_expr f (spell_arguments false es z)))) refl)
       ∙ same (after_arguments (after_expr (after_expr env e) f) es) z refl (omega (arith, length-expr f (spell_arguments false es [])))
 
   -- arguments up to the `)`
@@ -95,36 +81,36 @@ module _ (d : ℕ) (parts : Parts) (known : Knows d parts) where
   postfixes-turns (suc count) env (Index t e ps) z n i w num follow enough short at_n =
       let long = length-expr e (Sign m.CloseBracket ∷ spell_postfixes ps z) in
       some_more NoPostfix (postfix_operation parts) count (at env (spell_postfixes (Index t e ps) z) i) (at (after_expr env e) (spell_postfixes ps z) (past_expr (n + 1) e + 1))
-          (at (after_postfixes (after_expr env e) ps) z (past_postfixes (past_expr (n + 1) e + 1) ps)) (Index i e) ps
-          (rw (index-read env e (spell_postfixes ps z) n i w.0 num.1 (omega (arith, short)) at_n) refl)
-          (postfixes-turns count (after_expr env e) ps z (past_expr (n + 1) e + 1) (past_expr (n + 1) e + 1) w.1 num.2 follow (omega (arith, enough, long)) (omega (arith, short, long)) refl)
+      (at (after_postfixes (after_expr env e) ps) z (past_postfixes (past_expr (n + 1) e + 1) ps)) (Index i e) ps
+      (rw (index-read env e (spell_postfixes ps z) n i w.0 num.1 (omega (arith, short)) at_n) refl)
+      (postfixes-turns count (after_expr env e) ps z (past_expr (n + 1) e + 1) (past_expr (n + 1) e + 1) w.1 num.2 follow (omega (arith, enough, long)) (omega (arith, short, long)) refl)
       ∙ same (after_postfixes (after_expr env e) ps) z (ap (λ v. Index v e ps) (at_n ∙ sym num.0)) (omega (arith, length-expr e (Sign m.CloseBracket ∷ spell_postfixes ps [])))
   postfixes-turns (suc count) env (Call t es ps) z n i w num follow enough short at_n =
       let long = length-arguments true es (Sign m.CloseParen ∷ spell_postfixes ps z) in
       some_more NoPostfix (postfix_operation parts) count (at env (spell_postfixes (Call t es ps) z) i) (at (after_arguments env es) (spell_postfixes ps z) (past_arguments true (n + 1) es + 1))
-          (at (after_postfixes (after_arguments env es) ps) z (past_postfixes (past_arguments true (n + 1) es + 1) ps)) (Call i es) ps
-          (rw (call-read env es (spell_postfixes ps z) n i w.0 num.1 (omega (arith, short)) at_n) refl)
-          (postfixes-turns count (after_arguments env es) ps z (past_arguments true (n + 1) es + 1) (past_arguments true (n + 1) es + 1) w.1 num.2 follow (omega (arith, enough, long)) (omega (arith, short, long)) refl)
+      (at (after_postfixes (after_arguments env es) ps) z (past_postfixes (past_arguments true (n + 1) es + 1) ps)) (Call i es) ps
+      (rw (call-read env es (spell_postfixes ps z) n i w.0 num.1 (omega (arith, short)) at_n) refl)
+      (postfixes-turns count (after_arguments env es) ps z (past_arguments true (n + 1) es + 1) (past_arguments true (n + 1) es + 1) w.1 num.2 follow (omega (arith, enough, long)) (omega (arith, short, long)) refl)
       ∙ same (after_postfixes (after_arguments env es) ps) z (ap (λ v. Call v es ps) (at_n ∙ sym num.0)) (omega (arith, length-arguments true es (Sign m.CloseParen ∷ spell_postfixes ps [])))
   postfixes-turns (suc count) env (Select t access.Dot x ps) z n i w num follow enough short at_n =
       some_more NoPostfix (postfix_operation parts) count (at env (spell_postfixes (Select t access.Dot x ps) z) i) (at env (spell_postfixes ps z) (i + 1 + 1))
-          (at (after_postfixes env ps) z (past_postfixes (n + 2) ps)) (Select i access.Dot (record { token = i + 1; text = x.text })) ps refl
-          (postfixes-turns count env ps z (n + 2) (i + 1 + 1) w num.2 follow (omega (arith, enough)) (omega (arith, short)) (omega (arith, at_n)))
+      (at (after_postfixes env ps) z (past_postfixes (n + 2) ps)) (Select i access.Dot (record { token = i + 1; text = x.text })) ps refl
+      (postfixes-turns count env ps z (n + 2) (i + 1 + 1) w num.2 follow (omega (arith, enough)) (omega (arith, short)) (omega (arith, at_n)))
       ∙ same (after_postfixes env ps) z (ap (λ v. Select v access.Dot (record { token = i + 1; text = x.text }) ps) (at_n ∙ sym num.0) ∙ ap (λ v. Select t access.Dot (record { token = v; text = x.text }) ps) (omega (arith, at_n, num.1))) (omega arith)
   postfixes-turns (suc count) env (Select t access.Arrow x ps) z n i w num follow enough short at_n =
       some_more NoPostfix (postfix_operation parts) count (at env (spell_postfixes (Select t access.Arrow x ps) z) i) (at env (spell_postfixes ps z) (i + 1 + 1))
-          (at (after_postfixes env ps) z (past_postfixes (n + 2) ps)) (Select i access.Arrow (record { token = i + 1; text = x.text })) ps refl
-          (postfixes-turns count env ps z (n + 2) (i + 1 + 1) w num.2 follow (omega (arith, enough)) (omega (arith, short)) (omega (arith, at_n)))
+      (at (after_postfixes env ps) z (past_postfixes (n + 2) ps)) (Select i access.Arrow (record { token = i + 1; text = x.text })) ps refl
+      (postfixes-turns count env ps z (n + 2) (i + 1 + 1) w num.2 follow (omega (arith, enough)) (omega (arith, short)) (omega (arith, at_n)))
       ∙ same (after_postfixes env ps) z (ap (λ v. Select v access.Arrow (record { token = i + 1; text = x.text }) ps) (at_n ∙ sym num.0) ∙ ap (λ v. Select t access.Arrow (record { token = v; text = x.text }) ps) (omega (arith, at_n, num.1))) (omega arith)
   postfixes-turns (suc count) env (Step t stepping.Increment ps) z n i w num follow enough short at_n =
       some_more NoPostfix (postfix_operation parts) count (at env (spell_postfixes (Step t stepping.Increment ps) z) i) (at env (spell_postfixes ps z) (i + 1))
-          (at (after_postfixes env ps) z (past_postfixes (n + 1) ps)) (Step i stepping.Increment) ps refl
-          (postfixes-turns count env ps z (n + 1) (i + 1) w num.1 follow (omega (arith, enough)) (omega (arith, short)) (omega (arith, at_n)))
+      (at (after_postfixes env ps) z (past_postfixes (n + 1) ps)) (Step i stepping.Increment) ps refl
+      (postfixes-turns count env ps z (n + 1) (i + 1) w num.1 follow (omega (arith, enough)) (omega (arith, short)) (omega (arith, at_n)))
       ∙ same (after_postfixes env ps) z (ap (λ v. Step v stepping.Increment ps) (at_n ∙ sym num.0)) (omega arith)
   postfixes-turns (suc count) env (Step t stepping.Decrement ps) z n i w num follow enough short at_n =
       some_more NoPostfix (postfix_operation parts) count (at env (spell_postfixes (Step t stepping.Decrement ps) z) i) (at env (spell_postfixes ps z) (i + 1))
-          (at (after_postfixes env ps) z (past_postfixes (n + 1) ps)) (Step i stepping.Decrement) ps refl
-          (postfixes-turns count env ps z (n + 1) (i + 1) w num.1 follow (omega (arith, enough)) (omega (arith, short)) (omega (arith, at_n)))
+      (at (after_postfixes env ps) z (past_postfixes (n + 1) ps)) (Step i stepping.Decrement) ps refl
+      (postfixes-turns count env ps z (n + 1) (i + 1) w num.1 follow (omega (arith, enough)) (omega (arith, short)) (omega (arith, at_n)))
       ∙ same (after_postfixes env ps) z (ap (λ v. Step v stepping.Decrement ps) (at_n ∙ sym num.0)) (omega arith)
 
   postfixes-text : (ps : Postfixes) (z : List Symbol) → 2 < joins (head z) → is_text (head (spell_postfixes ps z)) ≡ false

@@ -1,38 +1,24 @@
 -- Primary expressions and type names are read (6.3.1, 6.5.5).
-use Rattle.std.proofs.Common.{◌≡◌, ℕ, zero, suc, ◌+◌, ◌-◌, ◌==◌, ◌<◌, ◌≤◌, Bool, true, false, not, if◌then◌else◌, List, [], ◌∷◌, length, map, Option, Some, None, Ok, arith, refl, sym, ap, ◌∙◌, subst}
-use Rattle.pw_tree.specs.Levels.{level, chain_level, binary_level}
-use Rattle.pw_tree.specs.Numbering.{past_identifiers, past_tag, past_pointers, past_expr, past_postfixes, past_arguments, past_operations, past_specifiers, past_members, past_member_declarators, past_enumerators, past_declarator, past_core, past_suffixes, past_parameters, past_optional, past_init, past_inits, past_initializer, past_init_declarators, past_decl, past_decls, past_label, past_labels, past_stmt, past_alternative, past_block, past_stmts, past_external, past_comma, NumberedIdentifiers, NumberedStrings, NumberedTag, NumberedPointers, Numbered, NumberedPostfixes, NumberedArguments, NumberedOperations, NumberedSpecifiers, NumberedMembers, NumberedMemberDeclarators, NumberedEnumerators, NumberedDeclarator, NumberedCore, NumberedSuffixes, NumberedParameters, NumberedOptional, NumberedInit, NumberedInits, NumberedInitializer, NumberedInitDeclarators, NumberedDecl, NumberedDecls, NumberedLabel, NumberedLabels, NumberedStmt, NumberedAlternative, NumberedBlock, NumberedStmts, NumberedFunction, NumberedExternal, NumberedExternals, NumberedModule}
-use Rattle.pw_tree.specs.Scopes.{is_typedef_name, declare_plain, declare_plains, has_typedef, has_type, name_of, name_in, declare_name, declare, after_expr, after_postfixes, after_arguments, after_operations, after_specifiers, after_members, after_member_declarators, after_enumerators, after_declarator, after_core, after_suffixes, after_parameter, after_parameters, after_optional, after_init, after_inits, after_initializer, after_name, after_init_declarators, after_decl, after_decls, after_label, after_labels, after_stmt, after_alternative, behind_name, behind_core, enter_first, enter, after_external, Env}
-use Rattle.pw_tree.specs.Spelling.{identifier, separated, trailed, spell_identifiers, spell_strings, spell_tag, spell_qualifiers, spell_pointers, spell_expr, spell_postfixes, spell_arguments, spell_operations, spell_specifiers, spell_members, spell_member_declarators, spell_enumerators, spell_declarator, spell_core, spell_suffixes, spell_parameters, spell_optional, spell_init, spell_inits, spell_initializer, spell_init_declarators, spell_decl, spell_decls, spell_label, spell_labels, spell_stmt, spell_alternative, spell_block, spell_stmts, spell_external, spell_externals, symbols, spelling}
-use Rattle.pw_tree.specs.Symbols as symbol
-use Rattle.pw_tree.specs.Symbols.{Symbol, Reserved, Sign, unary_symbol, binary_mark, assign_mark, access_mark, step_mark}
-use Rattle.pw_tree.specs.Trees.{Word, Pointer, Expr, Identifier, Number, Floating, Character, Wide, Strings, Paren, Postfix, Unary, SizeofType, Cast, Chain, Conditional, Assign, Postfixes, NoPostfix, Index, Call, Select, Step, Arguments, NoArgument, Argument, Operations, NoOperation, Operation, Specifiers, NoSpecifier, Storage, Qualified, Basic, TypedefName, RecordTag, Record, EnumTag, Enum, Members, NoMember, Member, MemberDeclarators, NoMemberDeclarator, PlainMember, BitField, Padding, Enumerators, NoEnumerator, PlainEnumerator, ValuedEnumerator, Declarator, Declaring, Core, Absent, Name, Enclosed, Suffixes, NoSuffix, Array, OpenArray, Prototype, Variadic, Identifiers, Parameters, NoParameter, Parameter, Init, Value, Braces, Inits, NoInit, Listed, Initializer, InitDeclarator, Decl, Label, CaseLabel, DefaultLabel, NameLabel, Stmt, Compound, Expression, Empty, Labeled, If, Switch, While, Do, For, Goto, Continue, Break, Return, Alternative, NoElse, Otherwise, ElseIf, Block, Braced, Stmts, NoStmt, Next, External, Definition, Declaration}
+use Rattle.std.proofs.Common.{◌≡◌, ℕ, zero, suc, ◌+◌, ◌<◌, ◌≤◌, false, List, [], ◌∷◌, length, Ok, arith, refl, sym, ap, ◌∙◌}
+use Rattle.pw_tree.specs.Levels.{level}
+use Rattle.pw_tree.specs.Numbering.{past_expr, past_specifiers, past_declarator, NumberedStrings, Numbered, NumberedSpecifiers, NumberedDeclarator}
+use Rattle.pw_tree.specs.Scopes.{has_type, after_expr, after_specifiers, after_declarator, Env}
+use Rattle.pw_tree.specs.Spelling.{identifier, spell_strings, spell_expr, spell_specifiers, spell_declarator}
+use Rattle.pw_tree.specs.Symbols.{Symbol, Sign}
+use Rattle.pw_tree.specs.Trees.{Word, Expr, Identifier, Number, Floating, Character, Wide, Strings, Paren, Postfix, Unary, SizeofType, Cast, Chain, Conditional, Assign, Specifiers, NoSpecifier, Storage, Qualified, Basic, TypedefName, RecordTag, Record, EnumTag, Enum, Declarator}
 use Rattle.pw_tree.specs.WellFormed.{NotEmpty, HasPostfix, HasSpecifier, HasMember, HasMemberDeclarator, HasEnumerator, HasParameter, HasInit, NotTypedef, NoneTypedef, MayDeclare, NoStorage, IsSomething, begins_with_typedef, MayEnclose, operand_level, WellFormed, WellFormedPostfixes, WellFormedArguments, WellFormedOperations, WellFormedSpecifiers, WellFormedMembers, WellFormedMemberDeclarators, WellFormedEnumerators, WellFormedDeclarator, WellFormedCore, WellFormedSuffixes, WellFormedParameters, WellFormedOptional, WellFormedInit, WellFormedInits, WellFormedInitializer, WellFormedInitDeclarators, WellFormedDecl, WellFormedDecls, WellFormedLabel, WellFormedLabels, NotLabeled, NotIf, ends_open, alternative_ends_open, MayPrecede, WellFormedStmt, WellFormedAlternative, WellFormedBlock, WellFormedStmts, in_function, WellFormedFunction, WellFormedExternal, WellFormedExternals, WellFormedModule}
 use Rattle.pw_tree.specs.WellFormed as tree
-use Rattle.pw_tree.specs.declared.operator.Access.{Access}
-use Rattle.pw_tree.specs.declared.operator.Access.TheVariants as access
-use Rattle.pw_tree.specs.declared.operator.AssignOperator.{AssignOperator}
-use Rattle.pw_tree.specs.declared.operator.AssignOperator.TheVariants as assign
-use Rattle.pw_tree.specs.declared.operator.BinaryOperator.{BinaryOperator}
-use Rattle.pw_tree.specs.declared.operator.BinaryOperator.TheVariants as binary
-use Rattle.pw_tree.specs.declared.operator.StepOperator.{StepOperator}
-use Rattle.pw_tree.specs.declared.operator.StepOperator.TheVariants as stepping
-use Rattle.pw_tree.specs.declared.operator.UnaryOperator.{UnaryOperator}
-use Rattle.pw_tree.specs.declared.operator.UnaryOperator.TheVariants as unary
-use Rattle.pw_tree.specs.declared.symbol.Keyword.TheVariants as k
-use Rattle.pw_tree.specs.declared.symbol.Mark.{Mark}
 use Rattle.pw_tree.specs.declared.symbol.Mark.TheVariants as m
-use Rattle.pw_grammar.specs.declared.place.Place.{Place}
-use Rattle.pw_grammar.specs.declared.place.Place.TheVariants.{Named, Nameless, Either}
-use Rattle.pw_grammar.specs.Input.{Input, first_of_rest, ahead, is_none_left, at_end, step_to, step, same_mark, same_keyword, is_mark, is_keyword, sees, sees_keyword, or_false, Outcome, Parser, and_then, ◌>>=◌, ◌>>◌, pure, ◌<$>◌, fault, asks, peek, here, skip, take_number, word, past, past_keyword, eat, eat_keyword, expect, expect_keyword, identifier_by, ordinary_by, ordinary, declare_all, leave, since, turns, go_on, repeat, list_of, turn_of, while_some, turn_with, one_or_more, unless_comma, Binding}
-use Rattle.pw_grammar.specs.Parts.{Parts, Declared}
-use Rattle.pw_grammar.specs.Expressions.{string, strings, with_postfixes, some_specifiers, type_name, enclosed_type_name, parenthesized, primary, argument, some_arguments, arguments, index, call, select, step_behind, postfix_operation, postfixes, postfix_expr}
+use Rattle.pw_grammar.specs.declared.place.Place.TheVariants.{Nameless}
+use Rattle.pw_grammar.specs.Input.{ahead, step, same_mark, sees, ◌<$>◌, expect, ordinary_by, repeat, turn_of}
+use Rattle.pw_grammar.specs.Parts.{Parts}
+use Rattle.pw_grammar.specs.Expressions.{string, strings, some_specifiers, type_name, enclosed_type_name, parenthesized, primary}
 use Rattle.pw_grammar.specs.Tests.{is_empty}
-use Rattle.pw_grammar.proofs.Base.{at, same, is_typedef, turns_enough, no_turns, some_more, some_last, item_turn, item_more, item_last}
+use Rattle.pw_grammar.proofs.Base.{at, same, is_typedef, turns_enough, no_turns, some_more, some_last}
 use Rattle.pw_grammar.proofs.Follow.{Follow, head, is_text, no_string}
-use Rattle.pw_grammar.proofs.Heads.{begins_expr, expr-begins, declarator-ends}
+use Rattle.pw_grammar.proofs.Heads.{declarator-ends}
 use Rattle.pw_grammar.proofs.Knows.{Knows, level_at_most}
-use Rattle.pw_grammar.proofs.Lengths.{length-expr, length-strings, length-postfixes, length-arguments, length-specifiers, length-declarator}
+use Rattle.pw_grammar.proofs.Lengths.{length-expr, length-specifiers}
 
 pub not_empty : (ss : Specifiers) → HasSpecifier ss → is_empty ss ≡ false
 not_empty NoSpecifier h = absurd h
@@ -55,7 +41,7 @@ strings-turns (suc count) env [] z n i num follow enough at_n =
     some_last [] string count (at env z i) (at env z i) (rw (no_string (head z) follow) refl) ∙ same env z refl (omega (arith, at_n))
 strings-turns (suc count) env (w ∷ ws) z n i num follow enough at_n =
     some_more [] string count (at env (spell_strings (w ∷ ws) z) i) (at env (spell_strings ws z) (i + 1)) (at env z (n + 1 + length (spell_strings ws []))) (λ more. record { token = i; text = w.text } ∷ more) ws
-        refl (strings-turns count env ws z (n + 1) (i + 1) num.1 follow (omega (arith, enough)) (omega (arith, at_n)))
+    refl (strings-turns count env ws z (n + 1) (i + 1) num.1 follow (omega (arith, enough)) (omega (arith, at_n)))
     ∙ same env z (ap (λ v. record { token = v; text = w.text } ∷ ws) (at_n ∙ sym num.0)) (omega arith)
 
 pub strings-read : (env : Env) (ws : List Word) (z : List Symbol) (n i : ℕ) → NumberedStrings n ws → is_text (head z) ≡ false → i ≡ n
@@ -103,31 +89,10 @@ module _ (d : ℕ) (parts : Parts) (known : Knows d parts) where
   primary-read env (Strings (w ∷ ws)) z n i h num l follow short at_n = rw (strings-read env (w ∷ ws) z n i num follow at_n) refl
   primary-read env (Paren t e) z n i h num l follow short at_n =
       paren-read env t e z n i h num.0 num.1 (omega (arith, short)) at_n ∙ same (after_expr env e) z refl (omega arith)
-  primary-read env (Postfix e ps) z n i h num l follow short at_n = absurd (no l)
-    where
-      no : 1 ≤ 0 → ⊥
-      no l = omega (arith, l)
-  primary-read env (Unary t op e) z n i h num l follow short at_n = absurd (no l)
-    where
-      no : 2 ≤ 0 → ⊥
-      no l = omega (arith, l)
-  primary-read env (SizeofType t ss x) z n i h num l follow short at_n = absurd (no l)
-    where
-      no : 2 ≤ 0 → ⊥
-      no l = omega (arith, l)
-  primary-read env (Cast t ss x e) z n i h num l follow short at_n = absurd (no l)
-    where
-      no : 3 ≤ 0 → ⊥
-      no l = omega (arith, l)
-  primary-read env (Chain e ops) z n i h num l follow short at_n = absurd (no (level e) (chain_level ops) h.0 l)
-    where
-      no : (a b : ℕ) → a < b → b ≤ 0 → ⊥
-      no a b h l = omega (arith, h, l)
-  primary-read env (Conditional t c a b) z n i h num l follow short at_n = absurd (no l)
-    where
-      no : 14 ≤ 0 → ⊥
-      no l = omega (arith, l)
-  primary-read env (Assign t op a b) z n i h num l follow short at_n = absurd (no l)
-    where
-      no : 15 ≤ 0 → ⊥
-      no l = omega (arith, l)
+  primary-read env (Postfix e ps) z n i h num l follow short at_n = absurd (omega (arith, l))
+  primary-read env (Unary t op e) z n i h num l follow short at_n = absurd (omega (arith, l))
+  primary-read env (SizeofType t ss x) z n i h num l follow short at_n = absurd (omega (arith, l))
+  primary-read env (Cast t ss x e) z n i h num l follow short at_n = absurd (omega (arith, l))
+  primary-read env (Chain e ops) z n i h num l follow short at_n = absurd (omega (arith, h.0, l))
+  primary-read env (Conditional t c a b) z n i h num l follow short at_n = absurd (omega (arith, l))
+  primary-read env (Assign t op a b) z n i h num l follow short at_n = absurd (omega (arith, l))

@@ -58,7 +58,7 @@ IsSuffix named = Before (IsSuffixes named)
 
 module _ (parts : Parts) (sound : Sound parts) where
   open_array-suffix : (named : Bool) (env : Env) (i x j : Input) → Reads i x env (λ z. Sign m.OpenBracket ∷ z) → Reads x j env (λ z. Sign m.CloseBracket ∷ z) → IsSuffix named env i (suffixed (OpenArray i.next) []) j
-  unfolding spell_expr after_expr WellFormed Numbered
+  unfolding spell_expr after_expr WellFormed Numbered suffixed
   open_array-suffix named env i x j t c = (env, c.names, λ b end r. record {
       reads = both t (both c r.reads);
       holds = r.holds;
@@ -66,7 +66,7 @@ module _ (parts : Parts) (sound : Sound parts) where
       declares = refl })
 
   array-suffix : (named : Bool) (env : Env) (i x y j : Input) (e : Expr) → Reads i x env (λ z. Sign m.OpenBracket ∷ z) → IsExpr 14 env x e y → Reads y j (after_expr env e) (λ z. Sign m.CloseBracket ∷ z) → IsSuffix named env i (suffixed (Array i.next e) []) j
-  unfolding spell_expr after_expr WellFormed Numbered
+  unfolding spell_expr after_expr WellFormed Numbered suffixed
   array-suffix named env i x y j e t q c = (after_expr env e, c.names, λ b end r. record {
       reads = both t (both q.reads (both c r.reads));
       holds = (q.low, q.holds, r.holds);
@@ -83,7 +83,7 @@ module _ (parts : Parts) (sound : Sound parts) where
               expected _ y (after_expr env e) m.CloseBracket (pure (suffixed (Array i.next e) [])) q.reads.names (λ j c. array-suffix named env i (step i) y j e t q c)))
 
   empty-suffix : (named : Bool) (env : Env) (i x j : Input) → Reads i x env (λ z. Sign m.OpenParen ∷ z) → Reads x j env (λ z. Sign m.CloseParen ∷ z) → IsSuffix named env i (suffixed (Prototype i.next NoParameter) []) j
-  unfolding spell_expr after_expr WellFormed Numbered
+  unfolding spell_expr after_expr WellFormed Numbered suffixed
   empty-suffix named env i x j t c = (env, c.names, λ b end r. record {
       reads = both t (both c r.reads);
       holds = (tt, r.holds);
@@ -92,7 +92,7 @@ module _ (parts : Parts) (sound : Sound parts) where
 
   prototype-suffix : (named : Bool) (env : Env) (i x y j : Input) (ps : Parameters) (variadic : Bool) (bindings : List Binding) → Reads i x env (λ z. Sign m.OpenParen ∷ z) → IsParameters env x (ps, variadic) y → Reads y j env (λ z. Sign m.CloseParen ∷ z)
       → bindings ≡ names_of (after_parameters [] ps) → IsSuffix named env i (suffixed (prototype_of i.next (ps, variadic)) bindings) j
-  unfolding spell_expr after_expr WellFormed Numbered
+  unfolding spell_expr after_expr WellFormed Numbered suffixed
   prototype-suffix named env i x y j ps true bindings t q c e = (env, c.names, λ b end r. record {
       reads = both t (both q.reads (both c r.reads));
       holds = (q.has, q.holds, r.holds);
@@ -117,7 +117,7 @@ module _ (parts : Parts) (sound : Sound parts) where
               prototype-suffix named env i (step i) y (record j { names = take outer j.names }) ps.0 ps.1 (drop outer y.names) t q (scoped (take outer j.names) c around.0) declares.1))
 
   identifiers-suffix : (env : Env) (i x y j : Input) (ns : Names) → Reads i x env (λ z. Sign m.OpenParen ∷ z) → IsNames env x ns y → Reads y j env (λ z. Sign m.CloseParen ∷ z) → IsSuffix true env i (suffixed (Identifiers i.next ns.0) ns.1) j
-  unfolding spell_expr after_expr WellFormed Numbered
+  unfolding spell_expr after_expr WellFormed Numbered suffixed
   identifiers-suffix env i x y j ns t q c = (env, c.names, λ b end r. record {
       reads = both t (both q.reads (both c r.reads));
       holds = (refl, q.has, q.none, r.holds);
@@ -147,7 +147,7 @@ module _ (parts : Parts) (sound : Sound parts) where
               (λ _. listed-by named env i t (ahead (step i))))
 
   no_suffix : (named : Bool) (env : Env) (i : Input) → i.names ≡ names_of env → IsSuffixes named env i (NoSuffix, None) i
-  unfolding spell_expr after_expr WellFormed Numbered
+  unfolding spell_expr after_expr WellFormed Numbered suffixed
   no_suffix named env i names = record { reads = nothing i env names; holds = tt; numbered = tt; declares = refl }
 
   suffix-by : (named : Bool) (env : Env) (i : Input) → i.names ≡ names_of env → (s : Option Symbol) → ahead i ≡ s → Post (IsItem (IsSuffixes named) (NoSuffix, None) env i) (suffix_by parts named s i)

@@ -1,31 +1,16 @@
 -- Lists of specifiers are read (6.5.1 to 6.5.3).
-use Rattle.std.proofs.Common.{◌≡◌, ℕ, zero, suc, ◌+◌, ◌-◌, ◌==◌, ◌<◌, ◌≤◌, Bool, true, false, not, ◌||◌, ◌&&◌, if◌then◌else◌, List, [], ◌∷◌, length, map, Option, Some, None, Ok, arith, refl, sym, ap, ◌∙◌, subst}
-use Rattle.pw_tree.specs.Levels.{level, chain_level, binary_level}
-use Rattle.pw_tree.specs.Numbering.{past_identifiers, past_tag, past_pointers, past_expr, past_postfixes, past_arguments, past_operations, past_specifiers, past_members, past_member_declarators, past_enumerators, past_declarator, past_core, past_suffixes, past_parameters, past_optional, past_init, past_inits, past_initializer, past_init_declarators, past_decl, past_decls, past_label, past_labels, past_stmt, past_alternative, past_block, past_stmts, past_external, past_comma, NumberedIdentifiers, NumberedStrings, NumberedTag, NumberedPointers, Numbered, NumberedPostfixes, NumberedArguments, NumberedOperations, NumberedSpecifiers, NumberedMembers, NumberedMemberDeclarators, NumberedEnumerators, NumberedDeclarator, NumberedCore, NumberedSuffixes, NumberedParameters, NumberedOptional, NumberedInit, NumberedInits, NumberedInitializer, NumberedInitDeclarators, NumberedDecl, NumberedDecls, NumberedLabel, NumberedLabels, NumberedStmt, NumberedAlternative, NumberedBlock, NumberedStmts, NumberedFunction, NumberedExternal, NumberedExternals, NumberedModule}
-use Rattle.pw_tree.specs.Scopes.{is_typedef_name, declare_plain, declare_plains, has_typedef, has_type, name_of, name_in, declare_name, declare, after_expr, after_postfixes, after_arguments, after_operations, after_specifiers, after_members, after_member_declarators, after_enumerators, after_declarator, after_core, after_suffixes, after_parameter, after_parameters, after_optional, after_init, after_inits, after_initializer, after_name, after_init_declarators, after_decl, after_decls, after_label, after_labels, after_stmt, after_alternative, behind_name, behind_core, enter_first, enter, after_external, Env}
-use Rattle.pw_tree.specs.Spelling.{identifier, separated, trailed, spell_identifiers, spell_strings, spell_tag, spell_qualifiers, spell_pointers, spell_expr, spell_postfixes, spell_arguments, spell_operations, spell_specifiers, spell_members, spell_member_declarators, spell_enumerators, spell_declarator, spell_core, spell_suffixes, spell_parameters, spell_optional, spell_init, spell_inits, spell_initializer, spell_init_declarators, spell_decl, spell_decls, spell_label, spell_labels, spell_stmt, spell_alternative, spell_block, spell_stmts, spell_external, spell_externals, symbols, spelling}
+use Rattle.std.proofs.Common.{◌≡◌, ℕ, zero, suc, ◌+◌, ◌<◌, ◌≤◌, Bool, true, false, not, ◌||◌, ◌&&◌, if◌then◌else◌, List, [], ◌∷◌, length, map, Option, Some, None, Ok, arith, refl, sym, ap, ◌∙◌}
+use Rattle.pw_tree.specs.Numbering.{past_tag, past_specifiers, past_members, past_enumerators, NumberedTag, Numbered, NumberedSpecifiers, NumberedMembers, NumberedEnumerators}
+use Rattle.pw_tree.specs.Scopes.{is_typedef_name, has_type, after_expr, after_specifiers, after_members, after_enumerators, Env}
+use Rattle.pw_tree.specs.Spelling.{identifier, spell_tag, spell_expr, spell_specifiers, spell_members, spell_enumerators}
 use Rattle.pw_tree.specs.Symbols as symbol
 use Rattle.pw_tree.specs.Symbols.{Symbol, Reserved, Sign, unary_symbol, binary_mark, assign_mark, access_mark, step_mark}
-use Rattle.pw_tree.specs.Trees.{Word, Pointer, Expr, Identifier, Number, Floating, Character, Wide, Strings, Paren, Postfix, Unary, SizeofType, Cast, Chain, Conditional, Assign, Postfixes, NoPostfix, Index, Call, Select, Step, Arguments, NoArgument, Argument, Operations, NoOperation, Operation, Specifiers, NoSpecifier, Storage, Qualified, Basic, TypedefName, RecordTag, Record, EnumTag, Enum, Members, NoMember, Member, MemberDeclarators, NoMemberDeclarator, PlainMember, BitField, Padding, Enumerators, NoEnumerator, PlainEnumerator, ValuedEnumerator, Declarator, Declaring, Core, Absent, Name, Enclosed, Suffixes, NoSuffix, Array, OpenArray, Prototype, Variadic, Identifiers, Parameters, NoParameter, Parameter, Init, Value, Braces, Inits, NoInit, Listed, Initializer, InitDeclarator, Decl, Label, CaseLabel, DefaultLabel, NameLabel, Stmt, Compound, Expression, Empty, Labeled, If, Switch, While, Do, For, Goto, Continue, Break, Return, Alternative, NoElse, Otherwise, ElseIf, Block, Braced, Stmts, NoStmt, Next, External, Definition, Declaration}
-use Rattle.pw_tree.specs.WellFormed.{NotEmpty, HasPostfix, HasSpecifier, HasMember, HasMemberDeclarator, HasEnumerator, HasParameter, HasInit, NotTypedef, NoneTypedef, MayDeclare, NoStorage, IsSomething, begins_with_typedef, MayEnclose, operand_level, WellFormed, WellFormedPostfixes, WellFormedArguments, WellFormedOperations, WellFormedSpecifiers, WellFormedMembers, WellFormedMemberDeclarators, WellFormedEnumerators, WellFormedDeclarator, WellFormedCore, WellFormedSuffixes, WellFormedParameters, WellFormedOptional, WellFormedInit, WellFormedInits, WellFormedInitializer, WellFormedInitDeclarators, WellFormedDecl, WellFormedDecls, WellFormedLabel, WellFormedLabels, NotLabeled, NotIf, ends_open, alternative_ends_open, MayPrecede, WellFormedStmt, WellFormedAlternative, WellFormedBlock, WellFormedStmts, in_function, WellFormedFunction, WellFormedExternal, WellFormedExternals, WellFormedModule}
-use Rattle.pw_tree.specs.WellFormed as tree
-use Rattle.pw_tree.specs.declared.operator.Access.{Access}
-use Rattle.pw_tree.specs.declared.operator.Access.TheVariants as access
-use Rattle.pw_tree.specs.declared.operator.AssignOperator.{AssignOperator}
-use Rattle.pw_tree.specs.declared.operator.AssignOperator.TheVariants as assign
-use Rattle.pw_tree.specs.declared.operator.BinaryOperator.{BinaryOperator}
-use Rattle.pw_tree.specs.declared.operator.BinaryOperator.TheVariants as binary
-use Rattle.pw_tree.specs.declared.operator.StepOperator.{StepOperator}
-use Rattle.pw_tree.specs.declared.operator.StepOperator.TheVariants as stepping
-use Rattle.pw_tree.specs.declared.operator.UnaryOperator.{UnaryOperator}
-use Rattle.pw_tree.specs.declared.operator.UnaryOperator.TheVariants as unary
+use Rattle.pw_tree.specs.Trees.{Word, Specifiers, NoSpecifier, Storage, Qualified, Basic, TypedefName, RecordTag, Record, EnumTag, Enum, Members, Enumerators}
+use Rattle.pw_tree.specs.WellFormed.{NoStorage, HasMember, HasEnumerator, WellFormed, WellFormedSpecifiers, WellFormedMembers, WellFormedEnumerators}
 use Rattle.pw_tree.specs.declared.symbol.Keyword.TheVariants as k
-use Rattle.pw_tree.specs.declared.symbol.Mark.{Mark}
 use Rattle.pw_tree.specs.declared.symbol.Mark.TheVariants as m
-use Rattle.pw_grammar.specs.declared.place.Place.{Place}
-use Rattle.pw_grammar.specs.declared.place.Place.TheVariants.{Named, Nameless, Either}
-use Rattle.pw_grammar.specs.Input.{Input, first_of_rest, ahead, is_none_left, at_end, step_to, step, same_mark, same_keyword, is_mark, is_keyword, sees, sees_keyword, or_false, Outcome, Parser, and_then, ◌>>=◌, ◌>>◌, pure, ◌<$>◌, fault, asks, peek, here, skip, take_number, word, past, past_keyword, eat, eat_keyword, expect, expect_keyword, identifier_by, ordinary_by, ordinary, declare_all, leave, since, turns, go_on, repeat, list_of, turn_of, while_some, turn_with, one_or_more, unless_comma, Turn, More, Last, Binding}
-use Rattle.pw_grammar.specs.Parts.{Parts, Declared}
+use Rattle.pw_grammar.specs.Input.{Input, ahead, step, same_mark, is_mark, sees, Outcome, pure, past}
+use Rattle.pw_grammar.specs.Parts.{Parts}
 use Rattle.pw_tree.specs.declared.expr.BasicType.{BasicType}
 use Rattle.pw_tree.specs.declared.expr.BasicType.TheVariants as basic
 use Rattle.pw_tree.specs.declared.expr.Qualifier.{Qualifier}
@@ -35,17 +20,14 @@ use Rattle.pw_tree.specs.declared.expr.RecordKind.TheVariants as record_kind
 use Rattle.pw_tree.specs.declared.expr.StorageClass.{StorageClass}
 use Rattle.pw_tree.specs.declared.expr.StorageClass.TheVariants as storage_class
 use Rattle.pw_tree.specs.Symbols.{storage_word, qualifier_word, basic_word, record_word}
-use Rattle.pw_tree.specs.declared.symbol.Keyword.{Keyword}
 use Rattle.pw_grammar.specs.declared.word.SpecifierWord.{SpecifierWord}
 use Rattle.pw_grammar.specs.declared.word.SpecifierWord.TheVariants as word_kind
-use Rattle.pw_grammar.specs.Input as input
-use Rattle.pw_grammar.specs.Specifiers as rules
-use Rattle.pw_grammar.specs.Specifiers.{members, enumerators, tag, record_specifier, enum_specifier, specifier_at, specifier_by, specifier, typed_by, specifiers_behind, specifiers_from, specifiers_of}
+use Rattle.pw_grammar.specs.Specifiers.{tag, record_specifier, enum_specifier, specifier_at, specifier_by, specifier, specifiers_from, specifiers_of}
 use Rattle.pw_grammar.specs.Tests.{specifier_word, word_begins}
 use Rattle.pw_grammar.proofs.Base.{at, same, is_typedef, turns_enough, no_turns, true_is_not_false}
 use Rattle.pw_grammar.proofs.Follow.{head}
 use Rattle.pw_grammar.proofs.Knows.{Knows, ReadsSpecifiers, ends_specifiers, MayHold}
-use Rattle.pw_grammar.proofs.Lengths.{length-tag, length-specifiers, length-members, length-enumerators}
+use Rattle.pw_grammar.proofs.Lengths.{length-tag, length-members, length-enumerators}
 use Rattle.pw_grammar.proofs.MembersRead.{members-read, enumerators-read}
 
 storage-found : (c : StorageClass) → specifier_word (storage_word c) ≡ Some (word_kind.Storage c)
@@ -84,6 +66,11 @@ or-false false = refl
 
 not-true : {A : Type 0} → not true ≡ true → A
 not-true h = true_is_not_false h
+
+-- the rest of a list holds no more than the list may
+held : (storage : Bool) (ss rest : Specifiers) → (NoStorage ss → NoStorage rest) → MayHold storage ss → MayHold storage rest
+held true ss rest f h = h
+held false ss rest f h = f h
 
 -- no `{` stands behind a tag with no list
 no_brace : (storage typed : Bool) (env : Env) (o : Option Symbol) → ends_specifiers storage typed env o ≡ true → is_mark m.OpenBrace o ≡ false
@@ -180,78 +167,50 @@ module _ (d : ℕ) (parts : Parts) (known : Knows d parts) where
   specifiers-turns (suc count) false typed env (Storage t c ss) z n i w may num ends enough short at_n = absurd may
   specifiers-turns (suc count) true typed env (Storage t c ss) z n i w may num ends enough short at_n =
       specifiers-step true typed typed count (at env (spell_specifiers (Storage t c ss) z) i) (at env (spell_specifiers ss z) (i + 1)) (at (after_specifiers env ss) z (past_specifiers (n + 1) ss)) (Storage i c) ss (or-false typed)
-          (rw (storage-found c) refl) (specifiers-turns count true typed env ss z (n + 1) (i + 1) w tt num.1 ends (omega (arith, enough)) (omega (arith, short)) (omega (arith, at_n)))
+      (rw (storage-found c) refl) (specifiers-turns count true typed env ss z (n + 1) (i + 1) w tt num.1 ends (omega (arith, enough)) (omega (arith, short)) (omega (arith, at_n)))
       ∙ same (after_specifiers env ss) z (ap (λ v. Storage v c ss) (at_n ∙ sym num.0)) (omega arith)
   specifiers-turns (suc count) storage typed env (Qualified t q ss) z n i w may num ends enough short at_n =
       specifiers-step storage typed typed count (at env (spell_specifiers (Qualified t q ss) z) i) (at env (spell_specifiers ss z) (i + 1)) (at (after_specifiers env ss) z (past_specifiers (n + 1) ss)) (Qualified i q) ss (or-false typed)
-          (rw (qualifier-found q) refl) (specifiers-turns count storage typed env ss z (n + 1) (i + 1) w (held storage may) num.1 ends (omega (arith, enough)) (omega (arith, short)) (omega (arith, at_n)))
+      (rw (qualifier-found q) refl) (specifiers-turns count storage typed env ss z (n + 1) (i + 1) w (held storage (Qualified t q ss) ss (λ h. h) may) num.1 ends (omega (arith, enough)) (omega (arith, short)) (omega (arith, at_n)))
       ∙ same (after_specifiers env ss) z (ap (λ v. Qualified v q ss) (at_n ∙ sym num.0)) (omega arith)
-    where
-      held : (storage : Bool) → MayHold storage (Qualified t q ss) → MayHold storage ss
-      held true h = h
-      held false h = h
   specifiers-turns (suc count) storage typed env (Basic t b ss) z n i w may num ends enough short at_n =
       specifiers-step storage typed true count (at env (spell_specifiers (Basic t b ss) z) i) (at env (spell_specifiers ss z) (i + 1)) (at (after_specifiers env ss) z (past_specifiers (n + 1) ss)) (Basic i b) ss (or-true typed)
-          (rw (basic-found b) refl) (specifiers-turns count storage true env ss z (n + 1) (i + 1) w (held storage may) num.1 (rw (or-true typed) at ends) (omega (arith, enough)) (omega (arith, short)) (omega (arith, at_n)))
+      (rw (basic-found b) refl) (specifiers-turns count storage true env ss z (n + 1) (i + 1) w (held storage (Basic t b ss) ss (λ h. h) may) num.1 (rw (or-true typed) at ends) (omega (arith, enough)) (omega (arith, short)) (omega (arith, at_n)))
       ∙ same (after_specifiers env ss) z (ap (λ v. Basic v b ss) (at_n ∙ sym num.0)) (omega arith)
-    where
-      held : (storage : Bool) → MayHold storage (Basic t b ss) → MayHold storage ss
-      held true h = h
-      held false h = h
   specifiers-turns (suc count) storage typed env (TypedefName x ss) z n i w may num ends enough short at_n =
       specifiers-step storage typed true count (at env (spell_specifiers (TypedefName x ss) z) i) (at env (spell_specifiers ss z) (i + 1)) (at (after_specifiers env ss) z (past_specifiers (n + 1) ss)) (TypedefName (record { token = i; text = x.text })) ss (or-true typed)
-          (rw (is_typedef env (spell_specifiers (TypedefName x ss) z) i x.text ∙ w.1) (rw w.0 refl)) (specifiers-turns count storage true env ss z (n + 1) (i + 1) w.2 (held storage may) num.1 (rw (or-true typed) at ends) (omega (arith, enough)) (omega (arith, short)) (omega (arith, at_n)))
+      (rw (is_typedef env (spell_specifiers (TypedefName x ss) z) i x.text ∙ w.1) (rw w.0 refl)) (specifiers-turns count storage true env ss z (n + 1) (i + 1) w.2 (held storage (TypedefName x ss) ss (λ h. h) may) num.1 (rw (or-true typed) at ends) (omega (arith, enough)) (omega (arith, short)) (omega (arith, at_n)))
       ∙ same (after_specifiers env ss) z (ap (λ v. TypedefName (record { token = v; text = x.text }) ss) (at_n ∙ sym num.0)) (omega arith)
-    where
-      held : (storage : Bool) → MayHold storage (TypedefName x ss) → MayHold storage ss
-      held true h = h
-      held false h = h
   specifiers-turns (suc count) storage typed env (RecordTag t r x ss) z n i w may num ends enough short at_n =
       specifiers-step storage typed true count (at env (spell_specifiers (RecordTag t r x ss) z) i) (at env (spell_specifiers ss z) (i + 1 + 1)) (at (after_specifiers env ss) z (past_specifiers (n + 2) ss)) (RecordTag i r (record { token = i + 1; text = x.text })) ss (or-true typed)
-          (rw (record-found r) (rw (record_tag-read env r (Reserved (record_word r)) x (spell_specifiers ss z) i (behind-tag storage (typed || true) env ss z ends)) refl))
-          (specifiers-turns count storage true env ss z (n + 2) (i + 1 + 1) w (held storage may) num.2 (rw (or-true typed) at ends) (omega (arith, enough)) (omega (arith, short)) (omega (arith, at_n)))
+      (rw (record-found r) (rw (record_tag-read env r (Reserved (record_word r)) x (spell_specifiers ss z) i (behind-tag storage (typed || true) env ss z ends)) refl))
+      (specifiers-turns count storage true env ss z (n + 2) (i + 1 + 1) w (held storage (RecordTag t r x ss) ss (λ h. h) may) num.2 (rw (or-true typed) at ends) (omega (arith, enough)) (omega (arith, short)) (omega (arith, at_n)))
       ∙ same (after_specifiers env ss) z (ap (λ v. RecordTag v r (record { token = i + 1; text = x.text }) ss) (at_n ∙ sym num.0) ∙ ap (λ v. RecordTag t r (record { token = v; text = x.text }) ss) (omega (arith, at_n, num.1))) (omega arith)
-    where
-      held : (storage : Bool) → MayHold storage (RecordTag t r x ss) → MayHold storage ss
-      held true h = h
-      held false h = h
   specifiers-turns (suc count) storage typed env (EnumTag t x ss) z n i w may num ends enough short at_n =
       specifiers-step storage typed true count (at env (spell_specifiers (EnumTag t x ss) z) i) (at env (spell_specifiers ss z) (i + 1 + 1)) (at (after_specifiers env ss) z (past_specifiers (n + 2) ss)) (EnumTag i (record { token = i + 1; text = x.text })) ss (or-true typed)
-          (rw (enum_tag-read env (Reserved k.Enum) x (spell_specifiers ss z) i (behind-tag storage (typed || true) env ss z ends)) refl)
-          (specifiers-turns count storage true env ss z (n + 2) (i + 1 + 1) w (held storage may) num.2 (rw (or-true typed) at ends) (omega (arith, enough)) (omega (arith, short)) (omega (arith, at_n)))
+      (rw (enum_tag-read env (Reserved k.Enum) x (spell_specifiers ss z) i (behind-tag storage (typed || true) env ss z ends)) refl)
+      (specifiers-turns count storage true env ss z (n + 2) (i + 1 + 1) w (held storage (EnumTag t x ss) ss (λ h. h) may) num.2 (rw (or-true typed) at ends) (omega (arith, enough)) (omega (arith, short)) (omega (arith, at_n)))
       ∙ same (after_specifiers env ss) z (ap (λ v. EnumTag v (record { token = i + 1; text = x.text }) ss) (at_n ∙ sym num.0) ∙ ap (λ v. EnumTag t (record { token = v; text = x.text }) ss) (omega (arith, at_n, num.1))) (omega arith)
-    where
-      held : (storage : Bool) → MayHold storage (EnumTag t x ss) → MayHold storage ss
-      held true h = h
-      held false h = h
   specifiers-turns (suc count) storage typed env (Record t r x ms ss) z n i w may num ends enough short at_n =
       let inner = after_members env ms in
       let text = spell_members ms (Sign m.CloseBrace ∷ spell_specifiers ss z) in
       let behind = past_members (past_tag (n + 1) x + 1) ms + 1 in
       specifiers-step storage typed true count (at env (spell_specifiers (Record t r x ms ss) z) i) (at inner (spell_specifiers ss z) behind) (at (after_specifiers inner ss) z (past_specifiers behind ss)) (Record i r x ms) ss (or-true typed)
-          (rw (record-found r) (rw (record-read env r (Reserved (record_word r)) x ms (spell_specifiers ss z) n i w.0 w.1 num.1 num.2 (omega (arith, short, length-tag x (Sign m.OpenBrace ∷ text))) at_n) refl))
-          (specifiers-turns count storage true inner ss z behind behind w.2 (held storage may) num.3 (rw (or-true typed) at ends)
-              (omega (arith, enough, length-tag x (Sign m.OpenBrace ∷ text), length-members ms (Sign m.CloseBrace ∷ spell_specifiers ss z))) (omega (arith, short, length-tag x (Sign m.OpenBrace ∷ text), length-members ms (Sign m.CloseBrace ∷ spell_specifiers ss z))) refl)
+      (rw (record-found r) (rw (record-read env r (Reserved (record_word r)) x ms (spell_specifiers ss z) n i w.0 w.1 num.1 num.2 (omega (arith, short, length-tag x (Sign m.OpenBrace ∷ text))) at_n) refl))
+      (specifiers-turns count storage true inner ss z behind behind w.2 (held storage (Record t r x ms ss) ss (λ h. h) may) num.3 (rw (or-true typed) at ends)
+      (omega (arith, enough, length-tag x (Sign m.OpenBrace ∷ text), length-members ms (Sign m.CloseBrace ∷ spell_specifiers ss z))) (omega (arith, short, length-tag x (Sign m.OpenBrace ∷ text), length-members ms (Sign m.CloseBrace ∷ spell_specifiers ss z))) refl)
       ∙ same (after_specifiers inner ss) z (ap (λ v. Record v r x ms ss) (at_n ∙ sym num.0))
-          (omega (arith, length-tag x (Sign m.OpenBrace ∷ spell_members ms (Sign m.CloseBrace ∷ spell_specifiers ss [])), length-members ms (Sign m.CloseBrace ∷ spell_specifiers ss [])))
-    where
-      held : (storage : Bool) → MayHold storage (Record t r x ms ss) → MayHold storage ss
-      held true h = h
-      held false h = h
+      (omega (arith, length-tag x (Sign m.OpenBrace ∷ spell_members ms (Sign m.CloseBrace ∷ spell_specifiers ss [])), length-members ms (Sign m.CloseBrace ∷ spell_specifiers ss [])))
   specifiers-turns (suc count) storage typed env (Enum t x es ss) z n i w may num ends enough short at_n =
       let inner = after_enumerators env es in
       let text = spell_enumerators true es (Sign m.CloseBrace ∷ spell_specifiers ss z) in
       let behind = past_enumerators true (past_tag (n + 1) x + 1) es + 1 in
       specifiers-step storage typed true count (at env (spell_specifiers (Enum t x es ss) z) i) (at inner (spell_specifiers ss z) behind) (at (after_specifiers inner ss) z (past_specifiers behind ss)) (Enum i x es) ss (or-true typed)
-          (rw (enum-read env (Reserved k.Enum) x es (spell_specifiers ss z) n i w.0 w.1 num.1 num.2 (omega (arith, short, length-tag x (Sign m.OpenBrace ∷ text))) at_n) refl)
-          (specifiers-turns count storage true inner ss z behind behind w.2 (held storage may) num.3 (rw (or-true typed) at ends)
-              (omega (arith, enough, length-tag x (Sign m.OpenBrace ∷ text), length-enumerators true es (Sign m.CloseBrace ∷ spell_specifiers ss z))) (omega (arith, short, length-tag x (Sign m.OpenBrace ∷ text), length-enumerators true es (Sign m.CloseBrace ∷ spell_specifiers ss z))) refl)
+      (rw (enum-read env (Reserved k.Enum) x es (spell_specifiers ss z) n i w.0 w.1 num.1 num.2 (omega (arith, short, length-tag x (Sign m.OpenBrace ∷ text))) at_n) refl)
+      (specifiers-turns count storage true inner ss z behind behind w.2 (held storage (Enum t x es ss) ss (λ h. h) may) num.3 (rw (or-true typed) at ends)
+      (omega (arith, enough, length-tag x (Sign m.OpenBrace ∷ text), length-enumerators true es (Sign m.CloseBrace ∷ spell_specifiers ss z))) (omega (arith, short, length-tag x (Sign m.OpenBrace ∷ text), length-enumerators true es (Sign m.CloseBrace ∷ spell_specifiers ss z))) refl)
       ∙ same (after_specifiers inner ss) z (ap (λ v. Enum v x es ss) (at_n ∙ sym num.0))
-          (omega (arith, length-tag x (Sign m.OpenBrace ∷ spell_enumerators true es (Sign m.CloseBrace ∷ spell_specifiers ss [])), length-enumerators true es (Sign m.CloseBrace ∷ spell_specifiers ss [])))
-    where
-      held : (storage : Bool) → MayHold storage (Enum t x es ss) → MayHold storage ss
-      held true h = h
-      held false h = h
+      (omega (arith, length-tag x (Sign m.OpenBrace ∷ spell_enumerators true es (Sign m.CloseBrace ∷ spell_specifiers ss [])), length-enumerators true es (Sign m.CloseBrace ∷ spell_specifiers ss [])))
 
   pub specifiers_of-read : ReadsSpecifiers (suc d) (specifiers_of parts)
   unfolding specifiers_of

@@ -1,42 +1,24 @@
 -- Statements are read (6.6).
-use Rattle.std.proofs.Common.{◌≡◌, ℕ, zero, suc, ◌+◌, ◌-◌, ◌==◌, ◌<◌, ◌≤◌, Bool, true, false, not, ◌||◌, if◌then◌else◌, List, [], ◌∷◌, ◌++◌, length, map, Option, Some, None, Ok, arith, refl, sym, ap, ◌∙◌, subst}
-use Rattle.pw_tree.specs.Levels.{level, chain_level, binary_level}
-use Rattle.pw_tree.specs.Numbering.{past_identifiers, past_tag, past_pointers, past_expr, past_postfixes, past_arguments, past_operations, past_specifiers, past_members, past_member_declarators, past_enumerators, past_declarator, past_core, past_suffixes, past_parameters, past_optional, past_init, past_inits, past_initializer, past_init_declarators, past_decl, past_decls, past_label, past_labels, past_stmt, past_alternative, past_block, past_stmts, past_external, past_comma, NumberedIdentifiers, NumberedStrings, NumberedTag, NumberedPointers, Numbered, NumberedPostfixes, NumberedArguments, NumberedOperations, NumberedSpecifiers, NumberedMembers, NumberedMemberDeclarators, NumberedEnumerators, NumberedDeclarator, NumberedCore, NumberedSuffixes, NumberedParameters, NumberedOptional, NumberedInit, NumberedInits, NumberedInitializer, NumberedInitDeclarators, NumberedDecl, NumberedDecls, NumberedLabel, NumberedLabels, NumberedStmt, NumberedAlternative, NumberedBlock, NumberedStmts, NumberedFunction, NumberedExternal, NumberedExternals, NumberedModule}
-use Rattle.pw_tree.specs.Scopes.{is_typedef_name, declare_plain, declare_plains, has_typedef, has_type, name_of, name_in, declare_name, declare, after_expr, after_postfixes, after_arguments, after_operations, after_specifiers, after_members, after_member_declarators, after_enumerators, after_declarator, after_core, after_suffixes, after_parameter, after_parameters, after_optional, after_init, after_inits, after_initializer, after_name, after_init_declarators, after_decl, after_decls, after_label, after_labels, after_stmt, after_alternative, enter_first, enter, after_external, Env}
-use Rattle.pw_tree.specs.Spelling.{identifier, separated, trailed, spell_identifiers, spell_strings, spell_tag, spell_qualifiers, spell_pointers, spell_expr, spell_postfixes, spell_arguments, spell_operations, spell_specifiers, spell_members, spell_member_declarators, spell_enumerators, spell_declarator, spell_core, spell_suffixes, spell_parameters, spell_optional, spell_init, spell_inits, spell_initializer, spell_init_declarators, spell_decl, spell_decls, spell_label, spell_labels, spell_stmt, spell_alternative, spell_block, spell_stmts, spell_external, spell_externals, symbols, spelling}
-use Rattle.pw_tree.specs.Symbols as symbol
-use Rattle.pw_tree.specs.Symbols.{Symbol, Reserved, Sign, unary_symbol, binary_mark, assign_mark, access_mark, step_mark}
-use Rattle.pw_tree.specs.Trees.{Word, Pointer, Expr, Identifier, Number, Floating, Character, Wide, Strings, Paren, Postfix, Unary, SizeofType, Cast, Chain, Conditional, Assign, Postfixes, NoPostfix, Index, Call, Select, Step, Arguments, NoArgument, Argument, Operations, NoOperation, Operation, Specifiers, NoSpecifier, Storage, Qualified, Basic, TypedefName, RecordTag, Record, EnumTag, Enum, Members, NoMember, Member, MemberDeclarators, NoMemberDeclarator, PlainMember, BitField, Padding, Enumerators, NoEnumerator, PlainEnumerator, ValuedEnumerator, Declarator, Declaring, Core, Absent, Name, Enclosed, Suffixes, NoSuffix, Array, OpenArray, Prototype, Variadic, Identifiers, Parameters, NoParameter, Parameter, Init, Value, Braces, Inits, NoInit, Listed, Initializer, InitDeclarator, Decl, Label, CaseLabel, DefaultLabel, NameLabel, Stmt, Compound, Expression, Empty, Labeled, If, Switch, While, Do, For, Goto, Continue, Break, Return, Alternative, NoElse, Otherwise, ElseIf, Block, Braced, Stmts, NoStmt, Next, External, Definition, Declaration}
-use Rattle.pw_tree.specs.WellFormed.{NotEmpty, HasPostfix, HasSpecifier, HasMember, HasMemberDeclarator, HasEnumerator, HasParameter, HasInit, NotTypedef, NoneTypedef, MayDeclare, NoStorage, IsSomething, begins_with_typedef, MayEnclose, operand_level, WellFormed, WellFormedPostfixes, WellFormedArguments, WellFormedOperations, WellFormedSpecifiers, WellFormedMembers, WellFormedMemberDeclarators, WellFormedEnumerators, WellFormedDeclarator, WellFormedCore, WellFormedSuffixes, WellFormedParameters, WellFormedOptional, WellFormedInit, WellFormedInits, WellFormedInitializer, WellFormedInitDeclarators, WellFormedDecl, WellFormedDecls, WellFormedLabel, WellFormedLabels, NotLabeled, NotIf, ends_open, alternative_ends_open, MayPrecede, WellFormedStmt, WellFormedAlternative, WellFormedBlock, WellFormedStmts, in_function, WellFormedFunction, WellFormedExternal, WellFormedExternals, WellFormedModule}
-use Rattle.pw_tree.specs.WellFormed as tree
-use Rattle.pw_tree.specs.declared.operator.Access.{Access}
-use Rattle.pw_tree.specs.declared.operator.Access.TheVariants as access
-use Rattle.pw_tree.specs.declared.operator.AssignOperator.{AssignOperator}
-use Rattle.pw_tree.specs.declared.operator.AssignOperator.TheVariants as assign
-use Rattle.pw_tree.specs.declared.operator.BinaryOperator.{BinaryOperator}
-use Rattle.pw_tree.specs.declared.operator.BinaryOperator.TheVariants as binary
-use Rattle.pw_tree.specs.declared.operator.StepOperator.{StepOperator}
-use Rattle.pw_tree.specs.declared.operator.StepOperator.TheVariants as stepping
-use Rattle.pw_tree.specs.declared.operator.UnaryOperator.{UnaryOperator}
-use Rattle.pw_tree.specs.declared.operator.UnaryOperator.TheVariants as unary
+use Rattle.std.proofs.Common.{◌≡◌, ℕ, zero, suc, ◌+◌, ◌<◌, ◌≤◌, true, false, not, List, [], ◌∷◌, ◌++◌, length, map, Option, Some, None, Ok, arith, refl, sym, ap, ◌∙◌}
+use Rattle.pw_tree.specs.Numbering.{past_expr, past_optional, past_decls, past_label, past_labels, past_stmt, past_alternative, past_stmts, Numbered, NumberedOptional, NumberedDecls, NumberedLabel, NumberedLabels, NumberedStmt, NumberedAlternative, NumberedStmts}
+use Rattle.pw_tree.specs.Scopes.{after_expr, after_optional, after_decls, after_label, after_labels, after_stmt, after_alternative, Env}
+use Rattle.pw_tree.specs.Spelling.{identifier, spell_expr, spell_optional, spell_decls, spell_label, spell_labels, spell_stmt, spell_alternative, spell_stmts}
+use Rattle.pw_tree.specs.Symbols.{Symbol, Reserved, Sign}
+use Rattle.pw_tree.specs.Trees.{Expr, Decl, Label, CaseLabel, DefaultLabel, NameLabel, Stmt, Compound, Expression, Empty, Labeled, If, Switch, While, Do, For, Goto, Continue, Break, Return, Alternative, NoElse, Otherwise, ElseIf, Braced, Stmts, NoStmt, Next}
+use Rattle.pw_tree.specs.WellFormed.{WellFormed, WellFormedOptional, WellFormedDecls, WellFormedLabel, WellFormedLabels, NotLabeled, ends_open, alternative_ends_open, MayPrecede, WellFormedStmt, WellFormedAlternative, WellFormedStmts}
 use Rattle.pw_tree.specs.declared.symbol.Keyword.TheVariants as k
 use Rattle.pw_tree.specs.declared.symbol.Mark.{Mark}
 use Rattle.pw_tree.specs.declared.symbol.Mark.TheVariants as m
-use Rattle.pw_grammar.specs.declared.place.Place.{Place}
-use Rattle.pw_grammar.specs.declared.place.Place.TheVariants.{Named, Nameless, Either}
-use Rattle.pw_grammar.specs.Input.{Input, first_of_rest, ahead, is_none_left, at_end, step_to, step, same_mark, same_keyword, is_mark, is_keyword, sees, sees_keyword, or_false, Outcome, Parser, and_then, ◌>>=◌, ◌>>◌, pure, ◌<$>◌, fault, asks, peek, here, skip, take_number, word, past, past_keyword, eat, eat_keyword, expect, expect_keyword, identifier_by, ordinary_by, ordinary, declare_all, leave, since, turns, go_on, repeat, list_of, turn_of, while_some, turn_with, one_or_more, unless_comma, Turn, More, Last, Binding}
-use Rattle.pw_grammar.specs.Parts.{Parts, Declared}
-use Rattle.pw_tree.specs.declared.symbol.Keyword.{Keyword}
-use Rattle.pw_grammar.specs.Declarations.{declarations}
+use Rattle.pw_grammar.specs.Input.{ahead, step, same_mark, same_keyword, is_mark, is_keyword, sees, sees_keyword, Parser, ◌<$>◌, past, past_keyword, expect, expect_keyword, ordinary_by, repeat, turn_of}
 use Rattle.pw_grammar.specs.Statements as rules
 use Rattle.pw_grammar.specs.Statements.{case_label, default_label, name_label, label, labels, expression_stmt, empty_stmt, goto_stmt, continue_stmt, break_stmt, up_to, return_stmt, condition, else_if, behind_else, alternative, alternatives, if_stmt, switch_stmt, while_stmt, do_stmt, for_stmt, stmt_next, stmts, block, compound, unlabeled, with_labels, stmt_of, stmt}
-use Rattle.pw_grammar.proofs.Base.{at, same, names_of, is_typedef, left, turns_enough, no_turns, true_is_not_false, turn_more, turn_last, some_more, some_last}
+use Rattle.pw_grammar.proofs.Base.{at, same, is_typedef, left, turns_enough, no_turns, true_is_not_false, turn_more, turn_last, some_more, some_last}
 use Rattle.pw_grammar.proofs.DeclarationsRead.{begins_type, decls-read}
 use Rattle.pw_grammar.proofs.Follow.{Follow, head, joins}
 use Rattle.pw_grammar.proofs.Heads.{begins_expr, expr-begins, expr-no_semicolon, expr-no_close_paren}
 use Rattle.pw_grammar.proofs.Knot.{parts-know}
 use Rattle.pw_grammar.proofs.Knows.{level_at_most}
-use Rattle.pw_grammar.proofs.Lengths.{length-expr, length-optional, length-label, length-labels, length-stmt, length-alternative, length-block, length-stmts, length-decls}
+use Rattle.pw_grammar.proofs.Lengths.{length-expr, length-optional, length-label, length-labels, length-stmt, length-stmts, length-decls}
 use Rattle.pw_grammar.proofs.Spreads.{spreads-decls, spreads-stmt}
 use Rattle.pw_grammar.proofs.StatementHeads.{begins_stmt, stmt-begins, stmt-no_type, stmt-no_else, stmt-no_close, stmt-no_if, no-label, begins-expression}
 
@@ -100,8 +82,8 @@ module _ (limit : ℕ) where
   labels-turns (suc count) env [] z n i w num none enough short at_n = some_last [] label_next count (at env z i) (at env z i) (none i) ∙ same env z refl (omega (arith, at_n))
   labels-turns (suc count) env (l ∷ ls) z n i w num none enough short at_n =
       some_more [] label_next count (at env (spell_labels (l ∷ ls) z) i) (at (after_label env l) (spell_labels ls z) (past_label n l)) (at (after_labels (after_label env l) ls) z (past_labels (past_label n l) ls)) (λ more. l ∷ more) ls
-          (label-read env l (spell_labels ls z) n i w.0 num.0 short at_n)
-          (labels-turns count (after_label env l) ls z (past_label n l) (past_label n l) w.1 num.1 none (omega (arith, enough, length-label l (spell_labels ls z), label-long l)) (omega (arith, short, length-label l (spell_labels ls z))) refl)
+      (label-read env l (spell_labels ls z) n i w.0 num.0 short at_n)
+      (labels-turns count (after_label env l) ls z (past_label n l) (past_label n l) w.1 num.1 none (omega (arith, enough, length-label l (spell_labels ls z), label-long l)) (omega (arith, short, length-label l (spell_labels ls z))) refl)
       ∙ same (after_labels (after_label env l) ls) z refl (omega (arith, length-label l (spell_labels ls [])))
 
   labels-read : (env : Env) (ls : List Label) (z : List Symbol) (n i : ℕ) → WellFormedLabels env ls → NumberedLabels n ls → ((j : ℕ) → label limit (at (after_labels env ls) z j) ≡ Ok (None, at (after_labels env ls) z j))
@@ -170,7 +152,7 @@ module _ (limit : ℕ) where
         turn_last (alternative limit p) count (at env z i) (at env z i) NoElse (rw (follow refl) refl) ∙ same env z refl (omega (arith, at_n))
     alternatives-turns (suc count) env (Otherwise s) z n i w num follow enough short within at_n =
         turn_last (alternative limit p) count (at env (Reserved k.Else ∷ spell_stmt s z) i) (at (after_stmt env s) z (past_stmt (n + 1) s)) (Otherwise s)
-            (rw (stmt-no_if env s z w.0 w.1) (rw (reads env s z (n + 1) (i + 1) w.1 num follow (omega (arith, short)) (omega (arith, within)) (omega (arith, at_n))) refl))
+        (rw (stmt-no_if env s z w.0 w.1) (rw (reads env s z (n + 1) (i + 1) w.1 num follow (omega (arith, short)) (omega (arith, within)) (omega (arith, at_n))) refl))
         ∙ same (after_stmt env s) z refl (omega arith)
     alternatives-turns (suc count) env (ElseIf t c s a) z n i w num follow enough short within at_n =
         let inner = after_stmt (after_expr env c) s in
@@ -178,8 +160,8 @@ module _ (limit : ℕ) where
         let more = spell_alternative a z in
         let long = length-expr c (Sign m.CloseParen ∷ spell_stmt s more) in
         turn_more (alternative limit p) count (at env (spell_alternative (ElseIf t c s a) z) i) (at inner more behind) (at (after_alternative inner a) z (past_alternative behind a)) (ElseIf (i + 1) c s) a
-            (rw (else_if-read env c s more (n + 3) (i + 1) w.0 w.1 num.1 num.2 (alternative-follow s a z w.2 follow) (omega (arith, short)) (omega (arith, within)) (omega (arith, at_n))) refl)
-            (alternatives-turns count inner a z behind behind w.3 num.3 follow (omega (arith, enough, long, length-stmt s more)) (omega (arith, short, long, length-stmt s more)) (omega (arith, within, long, length-stmt s more)) refl)
+        (rw (else_if-read env c s more (n + 3) (i + 1) w.0 w.1 num.1 num.2 (alternative-follow s a z w.2 follow) (omega (arith, short)) (omega (arith, within)) (omega (arith, at_n))) refl)
+        (alternatives-turns count inner a z behind behind w.3 num.3 follow (omega (arith, enough, long, length-stmt s more)) (omega (arith, short, long, length-stmt s more)) (omega (arith, within, long, length-stmt s more)) refl)
         ∙ same (after_alternative inner a) z (ap (λ v. ElseIf v c s a) (omega (arith, at_n, num.0))) (omega (arith, length-expr c (Sign m.CloseParen ∷ spell_stmt s (spell_alternative a [])), length-stmt s (spell_alternative a [])))
 
     if-read : (env : Env) (c : Expr) (s : Stmt) (a : Alternative) (z : List Symbol) (n i : ℕ) → WellFormed env c → WellFormedStmt (after_expr env c) s → MayPrecede s a → WellFormedAlternative (after_stmt (after_expr env c) s) a
@@ -209,8 +191,8 @@ module _ (limit : ℕ) where
         let more = spell_stmts ss (Sign m.CloseBrace ∷ z) in
         let long = length-stmt s more in
         some_more NoStmt (stmt_next limit p) count (at env (spell_stmt s more) i) (at (after_stmt env s) more (past_stmt n s)) (at (after_stmts (after_stmt env s) ss) (Sign m.CloseBrace ∷ z) (past_stmts (past_stmt n s) ss)) (Next s) ss
-            (rw (stmt-no_close env (head (spell_stmt s more)) (stmt-begins env s more w.0)) (rw (reads env s more n i w.0 num.0 (λ is_open. stmts-follow (after_stmt env s) ss z w.1) short within at_n) refl))
-            (stmts-turns count (after_stmt env s) ss z (past_stmt n s) (past_stmt n s) w.1 num.1 (omega (arith, enough, long, begins-long env (spell_stmt s []) (stmt-begins env s [] w.0))) (omega (arith, short, long)) (omega (arith, within, long)) refl)
+        (rw (stmt-no_close env (head (spell_stmt s more)) (stmt-begins env s more w.0)) (rw (reads env s more n i w.0 num.0 (λ is_open. stmts-follow (after_stmt env s) ss z w.1) short within at_n) refl))
+        (stmts-turns count (after_stmt env s) ss z (past_stmt n s) (past_stmt n s) w.1 num.1 (omega (arith, enough, long, begins-long env (spell_stmt s []) (stmt-begins env s [] w.0))) (omega (arith, short, long)) (omega (arith, within, long)) refl)
         ∙ same (after_stmts (after_stmt env s) ss) (Sign m.CloseBrace ∷ z) refl (omega (arith, length-stmt s (spell_stmts ss [])))
 
     pub block-read : (env : Env) (t : ℕ) (ds : List Decl) (ss : Stmts) (z : List Symbol) (n i : ℕ) → WellFormedDecls env ds → WellFormedStmts (after_decls env ds) ss → NumberedDecls (n + 1) ds → NumberedStmts (past_decls (n + 1) ds) ss
@@ -273,7 +255,7 @@ module _ (limit : ℕ) where
         (rw (up_to-close eb c (spell_stmt s z) nb nb w.2 num.3 (omega (arith, within, la, lb)) refl)
         (rw (reads ec s z nc nc w.3 num.4 follow (omega (arith, short, la, lb, lc)) (omega (arith, within, la, lb, lc)) refl)
         (same (after_stmt ec s) z (ap (λ v. For v a b c s) (at_n ∙ sym num.0))
-            (omega (arith, length-optional a (Sign m.Semicolon ∷ spell_optional b (Sign m.Semicolon ∷ spell_optional c (Sign m.CloseParen ∷ spell_stmt s []))), length-optional b (Sign m.Semicolon ∷ spell_optional c (Sign m.CloseParen ∷ spell_stmt s [])), length-optional c (Sign m.CloseParen ∷ spell_stmt s [])))))))
+        (omega (arith, length-optional a (Sign m.Semicolon ∷ spell_optional b (Sign m.Semicolon ∷ spell_optional c (Sign m.CloseParen ∷ spell_stmt s []))), length-optional b (Sign m.Semicolon ∷ spell_optional c (Sign m.CloseParen ∷ spell_stmt s [])), length-optional c (Sign m.CloseParen ∷ spell_stmt s [])))))))
     unlabeled-read env (Goto t x) z n i not w num follow short within at_n =
         rw (is_typedef env (identifier x ∷ Sign m.Semicolon ∷ z) (i + 1) x.text ∙ w)
         (same env z (ap (λ v. Goto v (record { token = i + 1; text = x.text })) (at_n ∙ sym num.0) ∙ ap (λ v. Goto t (record { token = v; text = x.text })) (omega (arith, at_n, num.1))) (omega (arith, at_n)))

@@ -1,35 +1,23 @@
 -- Unary expressions and casts are read (6.3.3, 6.3.4).
-use Rattle.std.proofs.Common.{◌≡◌, ℕ, zero, suc, ◌+◌, ◌-◌, ◌==◌, ◌<◌, ◌≤◌, Bool, true, false, not, if◌then◌else◌, List, [], ◌∷◌, length, map, Option, Some, None, Ok, arith, refl, sym, ap, ◌∙◌, subst}
-use Rattle.pw_tree.specs.Levels.{level, chain_level, binary_level}
-use Rattle.pw_tree.specs.Numbering.{past_identifiers, past_tag, past_pointers, past_expr, past_postfixes, past_arguments, past_operations, past_specifiers, past_members, past_member_declarators, past_enumerators, past_declarator, past_core, past_suffixes, past_parameters, past_optional, past_init, past_inits, past_initializer, past_init_declarators, past_decl, past_decls, past_label, past_labels, past_stmt, past_alternative, past_block, past_stmts, past_external, past_comma, NumberedIdentifiers, NumberedStrings, NumberedTag, NumberedPointers, Numbered, NumberedPostfixes, NumberedArguments, NumberedOperations, NumberedSpecifiers, NumberedMembers, NumberedMemberDeclarators, NumberedEnumerators, NumberedDeclarator, NumberedCore, NumberedSuffixes, NumberedParameters, NumberedOptional, NumberedInit, NumberedInits, NumberedInitializer, NumberedInitDeclarators, NumberedDecl, NumberedDecls, NumberedLabel, NumberedLabels, NumberedStmt, NumberedAlternative, NumberedBlock, NumberedStmts, NumberedFunction, NumberedExternal, NumberedExternals, NumberedModule}
-use Rattle.pw_tree.specs.Scopes.{is_typedef_name, declare_plain, declare_plains, has_typedef, has_type, name_of, name_in, declare_name, declare, after_expr, after_postfixes, after_arguments, after_operations, after_specifiers, after_members, after_member_declarators, after_enumerators, after_declarator, after_core, after_suffixes, after_parameter, after_parameters, after_optional, after_init, after_inits, after_initializer, after_name, after_init_declarators, after_decl, after_decls, after_label, after_labels, after_stmt, after_alternative, behind_name, behind_core, enter_first, enter, after_external, Env}
-use Rattle.pw_tree.specs.Spelling.{identifier, separated, trailed, spell_identifiers, spell_strings, spell_tag, spell_qualifiers, spell_pointers, spell_expr, spell_postfixes, spell_arguments, spell_operations, spell_specifiers, spell_members, spell_member_declarators, spell_enumerators, spell_declarator, spell_core, spell_suffixes, spell_parameters, spell_optional, spell_init, spell_inits, spell_initializer, spell_init_declarators, spell_decl, spell_decls, spell_label, spell_labels, spell_stmt, spell_alternative, spell_block, spell_stmts, spell_external, spell_externals, symbols, spelling}
-use Rattle.pw_tree.specs.Symbols as symbol
-use Rattle.pw_tree.specs.Symbols.{Symbol, Reserved, Sign, unary_symbol, binary_mark, assign_mark, access_mark, step_mark}
-use Rattle.pw_tree.specs.Trees.{Word, Pointer, Expr, Identifier, Number, Floating, Character, Wide, Strings, Paren, Postfix, Unary, SizeofType, Cast, Chain, Conditional, Assign, Postfixes, NoPostfix, Index, Call, Select, Step, Arguments, NoArgument, Argument, Operations, NoOperation, Operation, Specifiers, NoSpecifier, Storage, Qualified, Basic, TypedefName, RecordTag, Record, EnumTag, Enum, Members, NoMember, Member, MemberDeclarators, NoMemberDeclarator, PlainMember, BitField, Padding, Enumerators, NoEnumerator, PlainEnumerator, ValuedEnumerator, Declarator, Declaring, Core, Absent, Name, Enclosed, Suffixes, NoSuffix, Array, OpenArray, Prototype, Variadic, Identifiers, Parameters, NoParameter, Parameter, Init, Value, Braces, Inits, NoInit, Listed, Initializer, InitDeclarator, Decl, Label, CaseLabel, DefaultLabel, NameLabel, Stmt, Compound, Expression, Empty, Labeled, If, Switch, While, Do, For, Goto, Continue, Break, Return, Alternative, NoElse, Otherwise, ElseIf, Block, Braced, Stmts, NoStmt, Next, External, Definition, Declaration}
+use Rattle.std.proofs.Common.{◌≡◌, ℕ, ◌+◌, ◌<◌, ◌≤◌, true, false, List, [], ◌∷◌, length, Ok, arith, refl, sym, ap, ◌∙◌}
+use Rattle.pw_tree.specs.Levels.{level}
+use Rattle.pw_tree.specs.Numbering.{past_expr, past_specifiers, past_declarator, Numbered, NumberedSpecifiers, NumberedDeclarator}
+use Rattle.pw_tree.specs.Scopes.{has_type, after_expr, after_postfixes, after_specifiers, after_declarator, Env}
+use Rattle.pw_tree.specs.Spelling.{spell_expr, spell_postfixes, spell_specifiers, spell_declarator}
+use Rattle.pw_tree.specs.Symbols.{Symbol, Reserved, Sign, unary_symbol}
+use Rattle.pw_tree.specs.Trees.{Expr, Identifier, Number, Floating, Character, Wide, Strings, Paren, Postfix, Unary, SizeofType, Cast, Chain, Conditional, Assign, Postfixes, NoPostfix, Index, Call, Select, Step, Specifiers, Declarator}
 use Rattle.pw_tree.specs.WellFormed.{NotEmpty, HasPostfix, HasSpecifier, HasMember, HasMemberDeclarator, HasEnumerator, HasParameter, HasInit, NotTypedef, NoneTypedef, MayDeclare, NoStorage, IsSomething, begins_with_typedef, MayEnclose, operand_level, WellFormed, WellFormedPostfixes, WellFormedArguments, WellFormedOperations, WellFormedSpecifiers, WellFormedMembers, WellFormedMemberDeclarators, WellFormedEnumerators, WellFormedDeclarator, WellFormedCore, WellFormedSuffixes, WellFormedParameters, WellFormedOptional, WellFormedInit, WellFormedInits, WellFormedInitializer, WellFormedInitDeclarators, WellFormedDecl, WellFormedDecls, WellFormedLabel, WellFormedLabels, NotLabeled, NotIf, ends_open, alternative_ends_open, MayPrecede, WellFormedStmt, WellFormedAlternative, WellFormedBlock, WellFormedStmts, in_function, WellFormedFunction, WellFormedExternal, WellFormedExternals, WellFormedModule}
 use Rattle.pw_tree.specs.WellFormed as tree
-use Rattle.pw_tree.specs.declared.operator.Access.{Access}
-use Rattle.pw_tree.specs.declared.operator.Access.TheVariants as access
-use Rattle.pw_tree.specs.declared.operator.AssignOperator.{AssignOperator}
-use Rattle.pw_tree.specs.declared.operator.AssignOperator.TheVariants as assign
-use Rattle.pw_tree.specs.declared.operator.BinaryOperator.{BinaryOperator}
-use Rattle.pw_tree.specs.declared.operator.BinaryOperator.TheVariants as binary
-use Rattle.pw_tree.specs.declared.operator.StepOperator.{StepOperator}
-use Rattle.pw_tree.specs.declared.operator.StepOperator.TheVariants as stepping
 use Rattle.pw_tree.specs.declared.operator.UnaryOperator.{UnaryOperator}
 use Rattle.pw_tree.specs.declared.operator.UnaryOperator.TheVariants as unary
 use Rattle.pw_tree.specs.declared.symbol.Keyword.TheVariants as k
-use Rattle.pw_tree.specs.declared.symbol.Mark.{Mark}
 use Rattle.pw_tree.specs.declared.symbol.Mark.TheVariants as m
-use Rattle.pw_grammar.specs.declared.place.Place.{Place}
-use Rattle.pw_grammar.specs.declared.place.Place.TheVariants.{Named, Nameless, Either}
-use Rattle.pw_grammar.specs.Input.{Input, first_of_rest, ahead, is_none_left, at_end, step_to, step, same_mark, same_keyword, is_mark, is_keyword, sees, sees_keyword, or_false, Outcome, Parser, and_then, ◌>>=◌, ◌>>◌, pure, ◌<$>◌, fault, asks, peek, here, skip, take_number, word, past, past_keyword, eat, eat_keyword, expect, expect_keyword, identifier_by, ordinary_by, ordinary, declare_all, leave, since, turns, go_on, repeat, list_of, turn_of, while_some, turn_with, one_or_more, unless_comma, Binding}
-use Rattle.pw_grammar.specs.Parts.{Parts, Declared}
-use Rattle.pw_grammar.specs.Expressions.{with_postfixes, postfix_expr, operated, operated_or_postfix, size, unary_expr, unary_by, cast_to, cast_expr, enclosed_type_name}
+use Rattle.pw_grammar.specs.Input.{ahead, step, same_mark, sees}
+use Rattle.pw_grammar.specs.Parts.{Parts}
+use Rattle.pw_grammar.specs.Expressions.{with_postfixes, postfix_expr, operated, operated_or_postfix, size, unary_expr, cast_to, cast_expr}
 use Rattle.pw_grammar.specs.Tests.{opens_type_name}
 use Rattle.pw_grammar.proofs.Base.{at, same}
-use Rattle.pw_grammar.proofs.Follow.{Follow, head, joins, above_unary}
+use Rattle.pw_grammar.proofs.Follow.{head, joins, above_unary}
 use Rattle.pw_grammar.proofs.Heads.{expr-no_cast, specifiers-begin, chain_above}
 use Rattle.pw_grammar.proofs.Knows.{Knows}
 use Rattle.pw_grammar.proofs.Lengths.{length-expr, length-specifiers, length-declarator}
@@ -156,7 +144,7 @@ module _ (d : ℕ) (parts : Parts) (known : Knows d parts) where
   unary-read env (SizeofType t ss x) z n i h num l follow short at_n =
       size-of_type env ss x z n i h.0 h.1 h.2 h.3 num.1 num.2 (omega (arith, short)) at_n
       ∙ same (after_declarator (after_specifiers env ss) x) z (ap (λ v. SizeofType v ss x) (at_n ∙ sym num.0))
-          (omega (arith, length-specifiers ss (spell_declarator x (Sign m.CloseParen ∷ [])), length-declarator x (Sign m.CloseParen ∷ [])))
+      (omega (arith, length-specifiers ss (spell_declarator x (Sign m.CloseParen ∷ [])), length-declarator x (Sign m.CloseParen ∷ [])))
   unary-read env (Cast t ss x e) z n i h num l follow short at_n = absurd (omega (arith, l))
   unary-read env (Chain e ops) z n i h num l follow short at_n = absurd (chain_above e ops h.0 (omega (arith, l)))
   unary-read env (Conditional t c a b) z n i h num l follow short at_n = absurd (omega (arith, l))
@@ -180,7 +168,7 @@ module _ (d : ℕ) (parts : Parts) (known : Knows d parts) where
       rw (opens-type env ss (spell_declarator x (Sign m.CloseParen ∷ spell_expr e z)) i has none w)
       (rw (type_name-read d parts known env ss x (spell_expr e z) (n + 1) i has none w v num numd short (omega (arith, at_n)))
       (rw (known.expr 3 (omega arith) (after_declarator (after_specifiers env ss) x) e z (past_declarator (past_specifiers (n + 1) ss) x + 1) (past_declarator (past_specifiers (n + 1) ss) x + 1) h nume l (above_unary (head z) follow)
-          (omega (arith, short, length-specifiers ss (spell_declarator x (Sign m.CloseParen ∷ spell_expr e z)), length-declarator x (Sign m.CloseParen ∷ spell_expr e z))) refl) refl))
+      (omega (arith, short, length-specifiers ss (spell_declarator x (Sign m.CloseParen ∷ spell_expr e z)), length-declarator x (Sign m.CloseParen ∷ spell_expr e z))) refl) refl))
 
   pub cast-read : (env : Env) (e : Expr) (z : List Symbol) (n i : ℕ) → WellFormed env e → Numbered n e → level e ≤ 3 → 2 < joins (head z) → length (spell_expr e z) ≤ d → i ≡ n
       → cast_expr parts (at env (spell_expr e z) i) ≡ Ok (e, at (after_expr env e) z (past_expr n e))
@@ -198,7 +186,7 @@ module _ (d : ℕ) (parts : Parts) (known : Knows d parts) where
   cast-read env (Cast t ss x e) z n i h num l follow short at_n =
       cast-to env ss x e z n i h.0 h.1 h.2 h.3 h.4 h.5 num.1 num.2 num.3 follow (omega (arith, short)) at_n
       ∙ same (after_expr (after_declarator (after_specifiers env ss) x) e) z (ap (λ v. Cast v ss x e) (at_n ∙ sym num.0))
-          (omega (arith, length-specifiers ss (spell_declarator x (Sign m.CloseParen ∷ spell_expr e [])), length-declarator x (Sign m.CloseParen ∷ spell_expr e [])))
+      (omega (arith, length-specifiers ss (spell_declarator x (Sign m.CloseParen ∷ spell_expr e [])), length-declarator x (Sign m.CloseParen ∷ spell_expr e [])))
   cast-read env (Chain e ops) z n i h num l follow short at_n = absurd (chain_above e ops h.0 l)
   cast-read env (Conditional t c a b) z n i h num l follow short at_n = absurd (omega (arith, l))
   cast-read env (Assign t op a b) z n i h num l follow short at_n = absurd (omega (arith, l))

@@ -61,7 +61,7 @@ names_in_list = one_or_more name_in_list (unless_comma ([], []))
 abbrev pub Behind : Type 0
 Behind = Suffixes × Option (List Binding)
 
-abbrev pub suffixed : (Suffixes → Suffixes) → List Binding → Behind → Behind
+unfoldable pub suffixed : (Suffixes → Suffixes) → List Binding → Behind → Behind
 suffixed suffix bindings more = (suffix more.0, Some bindings)
 
 -- the core of a declarator, with the declared name and what the list of parameters behind it declares
@@ -77,7 +77,7 @@ parameters_end = do
   if comma then (λ dots. if dots then Some (NoParameter, true) else None) <$> eat m.Ellipsis else pure (Some (NoParameter, false))
 
 abbrev pub prototype_of : ℕ → Parameters × Bool → Suffixes → Suffixes
-prototype_of n ps more = if ps.1 then Variadic n ps.0 more else Prototype n ps.0 more
+prototype_of n ps = if ps.1 then Variadic n ps.0 else Prototype n ps.0
 
 -- ---- cores
 
