@@ -1,17 +1,15 @@
 -- What holds of parsers' answers, and of the tokens between two inputs.
-use Rattle.std.proofs.Common.{◌≡◌, ℕ, zero, suc, ◌+◌, Bool, true, false, if◌then◌else◌, List, [], ◌∷◌, ◌++◌, append_assoc, length, map, Option, Some, None, Ok, Err, arith, rules, refl, sym, ap, ◌∙◌, subst}
+use Rattle.std.proofs.Common.{◌≡◌, ◌+◌, Bool, true, false, if◌then◌else◌, List, [], ◌∷◌, ◌++◌, append_assoc, length, map, Option, Some, None, Ok, Err, arith, rules, refl, sym, ap, ◌∙◌}
 use Rattle.std.proofs.lemmas.List.{length-append, map-append}
 use denote.Enum.Bare.{same_true}
-use Rattle.pw_tree.specs.Scopes.{Env, is_typedef_name}
-use Rattle.pw_tree.specs.Scopes as scopes
+use Rattle.pw_tree.specs.Scopes.{Env}
 use Rattle.pw_tree.specs.Symbols.{Symbol, Reserved, Sign}
 use Rattle.pw_tree.specs.contracts.symbol.Keyword.{the_type as the_keywords}
 use Rattle.pw_tree.specs.contracts.symbol.Mark.{the_type as the_marks}
 use Rattle.pw_tree.specs.declared.symbol.Keyword.{Keyword}
 use Rattle.pw_tree.specs.declared.symbol.Mark.{Mark}
-use Rattle.pw_tree.specs.declared.symbol.Mark.TheVariants as m
-use Rattle.pw_grammar.specs.Input.{Input, Outcome, Parser, and_then, ◌>>=◌, ◌<$>◌, pure, first_of_rest, ahead, step_to, step, same_mark, same_keyword, is_mark, is_keyword, sees, sees_keyword, past, past_keyword, eat, eat_keyword, expect, expect_keyword, Turn, More, Last, go_on, repeat, turn_of, while_some, turns, list_of, one_or_more, turn_with, unless_comma}
-use Rattle.pw_grammar.proofs.Base.{names_of, names_are}
+use Rattle.pw_grammar.specs.Input.{Input, Outcome, Parser, and_then, first_of_rest, ahead, step_to, step, same_mark, same_keyword, is_mark, is_keyword, sees, sees_keyword, past, past_keyword, eat, eat_keyword, expect, expect_keyword}
+use Rattle.pw_grammar.proofs.Base.{names_of}
 
 -- ---- answers
 
@@ -54,7 +52,8 @@ both {k = k} {p = p} {q = q} a b = record {
   text = a.text ∙ ap (λ v. map Some (p []) ++ v) b.text ∙ sym (append_assoc (map Some (p [])) (map Some (q [])) k.rest) ∙ ap (λ v. v ++ k.rest) (sym (map-append Some (p []) (q []))) ∙ ap (λ v. map Some v ++ k.rest) (sym (a.plain (q [])));
   next = omega (arith, a.next, b.next, ap length (a.plain (q [])), length-append (p []) (q []));
   names = b.names;
-  plain = λ z. a.plain (q z) ∙ ap (λ v. p [] ++ v) (b.plain z) ∙ sym (append_assoc (p []) (q []) z) ∙ ap (λ v. v ++ z) (sym (a.plain (q []))) }
+  plain = λ z. a.plain (q z) ∙ ap (λ v. p [] ++ v) (b.plain z) ∙ sym (append_assoc (p []) (q []) z) ∙ ap (λ v. v ++ z) (sym (a.plain (q [])));
+}
 
 pub token : (i : Input) (env : Env) (s : Symbol) → ahead i ≡ Some s → i.names ≡ names_of env → Reads i (step i) env (λ z. s ∷ z)
 unfolding ahead step
@@ -69,7 +68,8 @@ token i env s h names = by i.rest refl h
       text = e ∙ ap (λ v. v ∷ rest) f;
       next = refl;
       names = names;
-      plain = λ z. refl }
+      plain = λ z. refl;
+    }
 
 -- ---- marks and keywords
 

@@ -1,45 +1,27 @@
 -- Initializers and declarations that are read are trees (6.5, 6.5.7).
-use Rattle.std.proofs.Common.{◌≡◌, ℕ, zero, suc, ◌+◌, ◌-◌, ◌==◌, ◌<◌, ◌≤◌, Bool, true, false, not, if◌then◌else◌, List, [], ◌∷◌, length, map, Option, Some, None, Ok, Err, arith, refl, sym, ap, ◌∙◌, subst}
-use Rattle.pw_tree.specs.Levels.{level, chain_level, binary_level}
-use Rattle.pw_tree.specs.Numbering.{past_identifiers, past_tag, past_pointers, past_expr, past_postfixes, past_arguments, past_operations, past_specifiers, past_members, past_member_declarators, past_enumerators, past_declarator, past_core, past_suffixes, past_parameters, past_optional, past_init, past_inits, past_initializer, past_init_declarators, past_decl, past_decls, past_label, past_labels, past_stmt, past_alternative, past_block, past_stmts, past_external, past_comma, NumberedIdentifiers, NumberedStrings, NumberedTag, NumberedPointers, Numbered, NumberedPostfixes, NumberedArguments, NumberedOperations, NumberedSpecifiers, NumberedMembers, NumberedMemberDeclarators, NumberedEnumerators, NumberedDeclarator, NumberedCore, NumberedSuffixes, NumberedParameters, NumberedOptional, NumberedInit, NumberedInits, NumberedInitializer, NumberedInitDeclarators, NumberedDecl, NumberedDecls, NumberedLabel, NumberedLabels, NumberedStmt, NumberedAlternative, NumberedBlock, NumberedStmts, NumberedFunction, NumberedExternal, NumberedExternals, NumberedModule}
-use Rattle.pw_tree.specs.Scopes.{is_typedef_name, declare_plain, declare_plains, has_typedef, has_type, name_of, name_in, declare_name, declare, after_expr, after_postfixes, after_arguments, after_operations, after_specifiers, after_members, after_member_declarators, after_enumerators, after_declarator, after_core, after_suffixes, after_parameter, after_parameters, after_optional, after_init, after_inits, after_initializer, after_name, after_init_declarators, after_decl, after_decls, after_label, after_labels, after_stmt, after_alternative, behind_name, behind_core, enter_first, enter, after_external, Env}
-use Rattle.pw_tree.specs.Spelling.{identifier, separated, trailed, spell_identifiers, spell_strings, spell_tag, spell_qualifiers, spell_pointers, spell_expr, spell_postfixes, spell_arguments, spell_operations, spell_specifiers, spell_members, spell_member_declarators, spell_enumerators, spell_declarator, spell_core, spell_suffixes, spell_parameters, spell_optional, spell_init, spell_inits, spell_initializer, spell_init_declarators, spell_decl, spell_decls, spell_label, spell_labels, spell_stmt, spell_alternative, spell_block, spell_stmts, spell_external, spell_externals, symbols, spelling}
-use Rattle.pw_tree.specs.Symbols as symbol
-use Rattle.pw_tree.specs.Symbols.{Symbol, Reserved, Sign, unary_symbol, binary_mark, assign_mark, access_mark, step_mark}
-use Rattle.pw_tree.specs.Trees.{Word, Pointer, Expr, Identifier, Number, Floating, Character, Wide, Strings, Paren, Postfix, Unary, SizeofType, Cast, Chain, Conditional, Assign, Postfixes, NoPostfix, Index, Call, Select, Step, Arguments, NoArgument, Argument, Operations, NoOperation, Operation, Specifiers, NoSpecifier, Storage, Qualified, Basic, TypedefName, RecordTag, Record, EnumTag, Enum, Members, NoMember, Member, MemberDeclarators, NoMemberDeclarator, PlainMember, BitField, Padding, Enumerators, NoEnumerator, PlainEnumerator, ValuedEnumerator, Declarator, Declaring, Core, Absent, Name, Enclosed, Suffixes, NoSuffix, Array, OpenArray, Prototype, Variadic, Identifiers, Parameters, NoParameter, Parameter, Init, Value, Braces, Inits, NoInit, Listed, Initializer, InitDeclarator, Decl, Label, CaseLabel, DefaultLabel, NameLabel, Stmt, Compound, Expression, Empty, Labeled, If, Switch, While, Do, For, Goto, Continue, Break, Return, Alternative, NoElse, Otherwise, ElseIf, Block, Braced, Stmts, NoStmt, Next, External, Definition, Declaration}
+use Rattle.std.proofs.Common.{◌≡◌, ℕ, zero, suc, ◌+◌, Bool, true, false, if◌then◌else◌, List, [], ◌∷◌, Option, Some, None, arith, refl, sym, ap, subst}
+use Rattle.pw_tree.specs.Numbering.{past_declarator, past_init, NumberedDeclarator, NumberedInit, NumberedInits, NumberedInitializer, NumberedInitDeclarators, NumberedDecl, NumberedDecls}
+use Rattle.pw_tree.specs.Scopes.{has_typedef, has_type, name_of, after_specifiers, after_declarator, after_init, after_inits, after_initializer, after_name, after_init_declarators, after_decl, after_decls, Env}
+use Rattle.pw_tree.specs.Spelling.{trailed, spell_declarator, spell_init, spell_inits, spell_initializer, spell_init_declarators, spell_decl, spell_decls}
+use Rattle.pw_tree.specs.Symbols.{Sign}
+use Rattle.pw_tree.specs.Trees.{Expr, Specifiers, Init, Value, Braces, Inits, NoInit, Listed, Initializer, InitDeclarator, Decl}
 use Rattle.pw_tree.specs.WellFormed.{NotEmpty, HasPostfix, HasSpecifier, HasMember, HasMemberDeclarator, HasEnumerator, HasParameter, HasInit, NotTypedef, NoneTypedef, MayDeclare, NoStorage, IsSomething, begins_with_typedef, MayEnclose, operand_level, WellFormed, WellFormedPostfixes, WellFormedArguments, WellFormedOperations, WellFormedSpecifiers, WellFormedMembers, WellFormedMemberDeclarators, WellFormedEnumerators, WellFormedDeclarator, WellFormedCore, WellFormedSuffixes, WellFormedParameters, WellFormedOptional, WellFormedInit, WellFormedInits, WellFormedInitializer, WellFormedInitDeclarators, WellFormedDecl, WellFormedDecls, WellFormedLabel, WellFormedLabels, NotLabeled, NotIf, ends_open, alternative_ends_open, MayPrecede, WellFormedStmt, WellFormedAlternative, WellFormedBlock, WellFormedStmts, in_function, WellFormedFunction, WellFormedExternal, WellFormedExternals, WellFormedModule}
 use Rattle.pw_tree.specs.WellFormed as tree
-use Rattle.pw_tree.specs.declared.operator.Access.{Access}
-use Rattle.pw_tree.specs.declared.operator.Access.TheVariants as access
-use Rattle.pw_tree.specs.declared.operator.AssignOperator.{AssignOperator}
-use Rattle.pw_tree.specs.declared.operator.AssignOperator.TheVariants as assign
-use Rattle.pw_tree.specs.declared.operator.BinaryOperator.{BinaryOperator}
-use Rattle.pw_tree.specs.declared.operator.BinaryOperator.TheVariants as binary
-use Rattle.pw_tree.specs.declared.operator.StepOperator.{StepOperator}
-use Rattle.pw_tree.specs.declared.operator.StepOperator.TheVariants as stepping
-use Rattle.pw_tree.specs.declared.operator.UnaryOperator.{UnaryOperator}
-use Rattle.pw_tree.specs.declared.operator.UnaryOperator.TheVariants as unary
-use Rattle.pw_tree.specs.declared.symbol.Keyword.TheVariants as k
-use Rattle.pw_tree.specs.declared.symbol.Mark.{Mark}
 use Rattle.pw_tree.specs.declared.symbol.Mark.TheVariants as m
-use Rattle.pw_grammar.specs.declared.place.Place.{Place}
-use Rattle.pw_grammar.specs.declared.place.Place.TheVariants.{Named, Nameless, Either}
+use Rattle.pw_grammar.specs.declared.place.Place.TheVariants.{Named}
 use Rattle.pw_grammar.specs.Input.{Input, first_of_rest, ahead, is_none_left, at_end, step_to, step, same_mark, same_keyword, is_mark, is_keyword, sees, sees_keyword, or_false, Outcome, Parser, and_then, ◌>>=◌, ◌>>◌, pure, ◌<$>◌, fault, asks, peek, here, skip, take_number, word, past, past_keyword, eat, eat_keyword, expect, expect_keyword, identifier_by, ordinary_by, ordinary, declare_all, leave, since, turns, go_on, repeat, list_of, turn_of, while_some, turn_with, one_or_more, unless_comma, Binding}
 use Rattle.pw_grammar.specs.Input as input
-use Rattle.pw_scope.specs.Visible.{visible}
-use Rattle.pw_grammar.specs.Parts.{Parts, Declared}
-use Rattle.pw_tree.specs.Scopes as scopes
+use Rattle.pw_grammar.specs.Parts.{Declared}
 use Rattle.pw_grammar.specs.Input as input
 use Rattle.pw_grammar.specs.Declarators as rules
 use Rattle.pw_grammar.specs.Declarations.{parts, inits_end, inits, braced, init_of, init, initializer, initialized, init_declarator, other_declarator, init_declarators, declaration_with, declaration, declaration_next, declarations}
 use Rattle.pw_grammar.specs.Expressions.{some_specifiers}
 use Rattle.pw_grammar.specs.Tests.{begins_specifier}
 use Rattle.pw_grammar.proofs.Base.{names_of}
-use Rattle.pw_grammar.proofs.Knows.{text_of}
-use Rattle.pw_grammar.proofs.Lengths.{length-declarator, length-inits}
-use Rattle.pw_grammar.proofs.SoundBase.{Post, bind, weaken, choose, choose_parser, Reads, nothing, both, token, sign, expected, eaten, renamed}
+use Rattle.pw_grammar.proofs.Lengths.{length-declarator}
+use Rattle.pw_grammar.proofs.SoundBase.{Post, bind, weaken, choose_parser, Reads, nothing, both, sign, expected, eaten}
 use Rattle.pw_grammar.proofs.SoundLists.{IsItem, Before, IsTurn, repeat-sound, while-sound}
-use Rattle.pw_grammar.proofs.SoundParts.{IsExpr, IsSpecifiers, IsDeclarator, Sound}
+use Rattle.pw_grammar.proofs.SoundParts.{IsExpr, IsSpecifiers, IsDeclarator}
 use Rattle.pw_grammar.proofs.SoundPrimaries.{some_specifiers-sound}
 use Rattle.pw_grammar.proofs.SoundParameters.{declared_name}
 use Rattle.pw_grammar.proofs.SoundKnot.{parts-sound}
@@ -74,24 +56,27 @@ pub record IsListedInit (env : Env) (i : Input) (f : Inits × Bool → Inits × 
 init-listed : (env : Env) (i : Input) (x : Init) (j : Input) → IsInit env i x j → IsListedInit env i (λ more. (Listed x more.0, more.1)) j
 unfolding spell_init after_init WellFormedInit NumberedInit
 init-listed env i x j q =
-  let past : (n : ℕ) → i.next ≡ n → j.next ≡ past_init n x = λ n f. omega (arith, q.reads.next, f) in
-  record {
-    inner = after_init env x;
-    names = q.reads.names;
-    last = λ trailing k c. record {
-      reads = both q.reads c;
-      holds = (q.holds, tt);
-      has = tt;
-      numbered = (q.numbered, tt);
-      commas = λ h inner f. (both f (both q.reads c), (subst (λ v. NumberedInit v x) f.next q.numbered, tt)) };
-    more = λ k c is end s.
-      let rest = s.commas j (after_init env x) c in
-      record {
-        reads = both q.reads rest.0;
-        holds = (q.holds, s.holds);
+    let past : (n : ℕ) → i.next ≡ n → j.next ≡ past_init n x = λ n f. omega (arith, q.reads.next, f) in
+    record {
+      inner = after_init env x;
+      names = q.reads.names;
+      last = λ trailing k c. record {
+        reads = both q.reads c;
+        holds = (q.holds, tt);
         has = tt;
-        numbered = (q.numbered, subst (λ v. NumberedInits false v is.0) (past i.next refl) rest.1);
-        commas = λ h inner f. (both f (both q.reads rest.0), (subst (λ v. NumberedInit v x) f.next q.numbered, subst (λ v. NumberedInits false v is.0) (past (h.next + 1) f.next) rest.1)) } }
+        numbered = (q.numbered, tt);
+        commas = λ h inner f. (both f (both q.reads c), (subst (λ v. NumberedInit v x) f.next q.numbered, tt));
+      };
+      more = λ k c is end s.
+          let rest = s.commas j (after_init env x) c in
+          record {
+            reads = both q.reads rest.0;
+            holds = (q.holds, s.holds);
+            has = tt;
+            numbered = (q.numbered, subst (λ v. NumberedInits false v is.0) (past i.next refl) rest.1);
+            commas = λ h inner f. (both f (both q.reads rest.0), (subst (λ v. NumberedInit v x) f.next q.numbered, subst (λ v. NumberedInits false v is.0) (past (h.next + 1) f.next) rest.1));
+          };
+    }
 
 -- behind an initializer a comma, or the end of the list
 abbrev IsEnd : Env → Input → Option (Inits × Bool) → Input → Type 0
@@ -128,14 +113,15 @@ unfolding spell_init after_init WellFormedInit NumberedInit
 braced-whole env i x y j l t q c = record {
   reads = both t (both q.reads c);
   holds = (q.has, q.holds);
-  numbered = (refl, subst (λ v. NumberedInits true v l.0) t.next q.numbered) }
+  numbered = (refl, subst (λ v. NumberedInits true v l.0) t.next q.numbered);
+}
 
 braced-sound : (p : Parser Init) → SoundInit p → (env : Env) (i : Input) → sees m.OpenBrace i ≡ true → i.names ≡ names_of env → Post (IsInit env i) (braced p i)
 unfolding braced
 braced-sound p sound env i h names =
     let t = sign i env m.OpenBrace h names in
     bind _ (inits p (step i)) (λ l. expect m.CloseBrace >> pure (Braces i.next l.0 l.1)) (inits-sound p sound env (step i) t.names) (λ l y q.
-        expected _ y (after_inits env l.0) m.CloseBrace (pure (Braces i.next l.0 l.1)) q.reads.names (λ j c. braced-whole env i (step i) y j l t q c))
+    expected _ y (after_inits env l.0) m.CloseBrace (pure (Braces i.next l.0 l.1)) q.reads.names (λ j c. braced-whole env i (step i) y j l t q c))
 
 value-whole : (env : Env) (i : Input) (e : Expr) (j : Input) → IsExpr 15 env i e j → IsInit env i (Value e) j
 unfolding spell_init after_init WellFormedInit NumberedInit
@@ -162,8 +148,8 @@ initializer-sound : (limit : ℕ) (env : Env) (i : Input) → i.names ≡ names_
 unfolding initializer
 initializer-sound limit env i names = choose_parser _ (sees m.Equal i) (input.take_number >>= λ n. init limit limit >>= λ x. pure (Some (record { token = n; init = x }))) (pure None) i
     (λ h. let t = sign i env m.Equal h names in
-        bind _ (init limit limit (step i)) (λ x. pure (Some (record { token = i.next; init = x }))) (init-sound limit limit env (step i) t.names) (λ x j q.
-            record { reads = both t q.reads; holds = q.holds; numbered = (refl, subst (λ v. NumberedInit v x) t.next q.numbered) }))
+    bind _ (init limit limit (step i)) (λ x. pure (Some (record { token = i.next; init = x }))) (init-sound limit limit env (step i) t.names) (λ x j q.
+    record { reads = both t q.reads; holds = q.holds; numbered = (refl, subst (λ v. NumberedInit v x) t.next q.numbered) }))
     (λ _. record { reads = nothing i env names; holds = tt; numbered = tt })
 
 -- ---- 6.5
@@ -180,14 +166,15 @@ initialized-sound : (limit : ℕ) (ss : Specifiers) (env : Env) (i x : Input) (d
 unfolding initialized
 initialized-sound limit ss env i x d q =
     bind _ (rules.declare_name d.name (has_typedef ss) x) (λ _. initializer limit >>= λ y. pure (record { declarator = d.tree; initializer = y }))
-        (subst (λ v. Post (λ _ j. Reads x j (after_name env ss d.tree) (λ z. z)) (rules.declare_name v (has_typedef ss) x)) (sym (ap (λ v. v.name) q.same)) (declared_name (has_typedef ss) (name_of d.tree) (after_declarator env d.tree) x q.reads.names))
-        (λ _ u named. bind _ (initializer limit u) (λ y. pure (record { declarator = d.tree; initializer = y })) (initializer-sound limit (after_name env ss d.tree) u named.names) (λ y j r.
-            record {
-              reads = both q.reads (both named r.reads);
-              declares = q.holds;
-              holds = r.holds;
-              numbered = q.numbered;
-              behind = subst (λ v. NumberedInitializer v y) (omega (arith, q.reads.next, named.next)) r.numbered }))
+    (subst (λ v. Post (λ _ j. Reads x j (after_name env ss d.tree) (λ z. z)) (rules.declare_name v (has_typedef ss) x)) (sym (ap (λ v. v.name) q.same)) (declared_name (has_typedef ss) (name_of d.tree) (after_declarator env d.tree) x q.reads.names))
+    (λ _ u named. bind _ (initializer limit u) (λ y. pure (record { declarator = d.tree; initializer = y })) (initializer-sound limit (after_name env ss d.tree) u named.names) (λ y j r.
+    record {
+      reads = both q.reads (both named r.reads);
+      declares = q.holds;
+      holds = r.holds;
+      numbered = q.numbered;
+      behind = subst (λ v. NumberedInitializer v y) (omega (arith, q.reads.next, named.next)) r.numbered;
+    }))
 
 -- other declarators, each behind a comma
 pub record IsOthers (ss : Specifiers) (env : Env) (i : Input) (ds : List InitDeclarator) (j : Input) : Type 0 where
@@ -196,20 +183,27 @@ pub record IsOthers (ss : Specifiers) (env : Env) (i : Input) (ds : List InitDec
   pub numbered : NumberedInitDeclarators false i.next ds
 
 other-whole : (ss : Specifiers) (env : Env) (i x j : Input) (d : InitDeclarator) → Reads i x env (λ z. Sign m.Comma ∷ z) → IsInitDeclarator ss env x d j → Before (IsOthers ss) env i (λ more. d ∷ more) j
-other-whole ss env i x j d t q = (after_initializer (after_name env ss d.declarator) d.initializer, q.reads.names, λ ds k r. record {
+other-whole ss env i x j d t q = (
+  after_initializer (after_name env ss d.declarator) d.initializer,
+  q.reads.names,
+  λ ds k r. record {
     reads = both t (both q.reads r.reads);
     holds = (q.declares, q.holds, r.holds);
-    numbered = (subst (λ v. NumberedDeclarator v d.declarator) t.next q.numbered,
-        subst (λ v. NumberedInitializer (past_declarator v d.declarator) d.initializer) t.next q.behind,
-        subst (λ v. NumberedInitDeclarators false v ds) (omega (arith, t.next, q.reads.next, length-declarator d.declarator (spell_initializer d.initializer []))) r.numbered) })
+    numbered = (
+      subst (λ v. NumberedDeclarator v d.declarator) t.next q.numbered,
+      subst (λ v. NumberedInitializer (past_declarator v d.declarator) d.initializer) t.next q.behind,
+      subst (λ v. NumberedInitDeclarators false v ds) (omega (arith, t.next, q.reads.next, length-declarator d.declarator (spell_initializer d.initializer []))) r.numbered,
+    );
+  },
+)
 
 other-sound : (limit : ℕ) (ss : Specifiers) (env : Env) (i : Input) → i.names ≡ names_of env → Post (IsItem (IsOthers ss) [] env i) (other_declarator limit (has_type ss) (has_typedef ss) i)
 unfolding other_declarator init_declarator
 other-sound limit ss env i names = eaten _ i env m.Comma ((λ d. Some (λ more. d ∷ more)) <$> init_declarator limit (has_type ss) (has_typedef ss)) (pure None) names
     (λ x t. bind _ (and_then ((parts limit).declarator Named (has_type ss) x) (initialized limit (has_typedef ss))) (λ d. pure (Some (λ more. d ∷ more)))
-        (bind (λ d j. Before (IsOthers ss) env i (λ more. d ∷ more) j) ((parts limit).declarator Named (has_type ss) x) (initialized limit (has_typedef ss)) ((parts-sound limit).declarator Named (has_type ss) env x t.names) (λ d y q.
-            weaken _ (initialized limit (has_typedef ss) d y) (initialized-sound limit ss env x y d q) (λ d j r. other-whole ss env i x j d t r)))
-        (λ d j q. q))
+    (bind (λ d j. Before (IsOthers ss) env i (λ more. d ∷ more) j) ((parts limit).declarator Named (has_type ss) x) (initialized limit (has_typedef ss)) ((parts-sound limit).declarator Named (has_type ss) env x t.names) (λ d y q.
+    weaken _ (initialized limit (has_typedef ss) d y) (initialized-sound limit ss env x y d q) (λ d j r. other-whole ss env i x j d t r)))
+    (λ d j q. q))
     (λ _. record { reads = nothing i env names; holds = tt; numbered = tt })
 
 others-sound : (limit : ℕ) (ss : Specifiers) (env : Env) (i : Input) → i.names ≡ names_of env → Post (IsOthers ss env i) (while_some [] (other_declarator limit (has_type ss) (has_typedef ss)) i)
@@ -230,29 +224,35 @@ whole-declaration : (env : Env) (i x y u j : Input) (ss : Specifiers) (d : InitD
 whole-declaration env i x y u j ss d ds q has r s c = record {
   reads = both q.reads (both r.reads (both s.reads c));
   holds = (has, q.holds, (r.declares, r.holds, s.holds));
-  numbered = (q.numbered, (subst (λ v. NumberedDeclarator v d.declarator) q.reads.next r.numbered,
+  numbered = (
+    q.numbered,
+    (
+      subst (λ v. NumberedDeclarator v d.declarator) q.reads.next r.numbered,
       subst (λ v. NumberedInitializer (past_declarator v d.declarator) d.initializer) q.reads.next r.behind,
-      subst (λ v. NumberedInitDeclarators false v ds) (omega (arith, q.reads.next, r.reads.next, length-declarator d.declarator (spell_initializer d.initializer []))) s.numbered)) }
+      subst (λ v. NumberedInitDeclarators false v ds) (omega (arith, q.reads.next, r.reads.next, length-declarator d.declarator (spell_initializer d.initializer []))) s.numbered,
+    ),
+  );
+}
 
 -- a declaration from its first declarator's initializer on
 pub declaration_with-sound : (limit : ℕ) (env : Env) (i x y : Input) (ss : Specifiers) (d : Declared) → IsSpecifiers true env i ss x → HasSpecifier ss → IsDeclarator Named (has_type ss) (after_specifiers env ss) x d y → Post (IsDecl env i) (declaration_with limit ss d y)
 unfolding declaration_with init_declarators
 declaration_with-sound limit env i x y ss d q has r =
     bind _ (initialized limit (has_typedef ss) d y) (λ first. init_declarators limit (has_type ss) (has_typedef ss) first >>= λ all. expect m.Semicolon >> pure (record { specifiers = ss; declarators = all })) (initialized-sound limit ss (after_specifiers env ss) x y d r) (λ first u s.
-        let env1 = after_initializer (after_name (after_specifiers env ss) ss first.declarator) first.initializer in
-        bind _ (and_then (while_some [] (other_declarator limit (has_type ss) (has_typedef ss)) u) (λ others. pure (first ∷ others))) (λ all. expect m.Semicolon >> pure (record { specifiers = ss; declarators = all }))
-            (bind (λ all k. (others : List InitDeclarator) × (all ≡ first ∷ others) × IsOthers ss env1 u others k) (while_some [] (other_declarator limit (has_type ss) (has_typedef ss)) u) (λ others. pure (first ∷ others)) (others-sound limit ss env1 u s.reads.names) (λ others k p. (others, refl, p)))
-            (λ all k p. subst (λ v. Post (IsDecl env i) ((expect m.Semicolon >> pure (record { specifiers = ss; declarators = v })) k)) (sym p.1)
-                (expected _ k (after_init_declarators env1 ss p.0) m.Semicolon (pure (record { specifiers = ss; declarators = first ∷ p.0 })) p.2.reads.names (λ j c. whole-declaration env i x u k j ss first p.0 q has s p.2 c))))
+    let env1 = after_initializer (after_name (after_specifiers env ss) ss first.declarator) first.initializer in
+    bind _ (and_then (while_some [] (other_declarator limit (has_type ss) (has_typedef ss)) u) (λ others. pure (first ∷ others))) (λ all. expect m.Semicolon >> pure (record { specifiers = ss; declarators = all }))
+    (bind (λ all k. (others : List InitDeclarator) × (all ≡ first ∷ others) × IsOthers ss env1 u others k) (while_some [] (other_declarator limit (has_type ss) (has_typedef ss)) u) (λ others. pure (first ∷ others)) (others-sound limit ss env1 u s.reads.names) (λ others k p. (others, refl, p)))
+    (λ all k p. subst (λ v. Post (IsDecl env i) ((expect m.Semicolon >> pure (record { specifiers = ss; declarators = v })) k)) (sym p.1)
+    (expected _ k (after_init_declarators env1 ss p.0) m.Semicolon (pure (record { specifiers = ss; declarators = first ∷ p.0 })) p.2.reads.names (λ j c. whole-declaration env i x u k j ss first p.0 q has s p.2 c))))
 
 pub declaration-sound : (limit : ℕ) (env : Env) (i : Input) → i.names ≡ names_of env → Post (IsDecl env i) (declaration limit i)
 unfolding declaration
 declaration-sound limit env i names =
     bind _ (some_specifiers (parts limit) true i) (λ ss. input.eat m.Semicolon >>= λ is_done. if is_done then pure (record { specifiers = ss; declarators = [] }) else ((parts limit).declarator Named (has_type ss) >>= declaration_with limit ss)) (some_specifiers-sound (parts limit) (parts-sound limit) true env i names) (λ ss x q.
-        eaten _ x (after_specifiers env ss) m.Semicolon (pure (record { specifiers = ss; declarators = [] })) ((parts limit).declarator Named (has_type ss) >>= declaration_with limit ss) q.0.reads.names
-            (λ j c. empty-declaration env i x j ss q.0 q.1 c)
-            (λ _. bind _ ((parts limit).declarator Named (has_type ss) x) (declaration_with limit ss) ((parts-sound limit).declarator Named (has_type ss) (after_specifiers env ss) x q.0.reads.names) (λ d y r.
-                declaration_with-sound limit env i x y ss d q.0 q.1 r)))
+    eaten _ x (after_specifiers env ss) m.Semicolon (pure (record { specifiers = ss; declarators = [] })) ((parts limit).declarator Named (has_type ss) >>= declaration_with limit ss) q.0.reads.names
+    (λ j c. empty-declaration env i x j ss q.0 q.1 c)
+    (λ _. bind _ ((parts limit).declarator Named (has_type ss) x) (declaration_with limit ss) ((parts-sound limit).declarator Named (has_type ss) (after_specifiers env ss) x q.0.reads.names) (λ d y r.
+    declaration_with-sound limit env i x y ss d q.0 q.1 r)))
 
 -- declarations from i to j
 pub record IsDecls (env : Env) (i : Input) (ds : List Decl) (j : Input) : Type 0 where
@@ -261,10 +261,15 @@ pub record IsDecls (env : Env) (i : Input) (ds : List Decl) (j : Input) : Type 0
   pub numbered : NumberedDecls i.next ds
 
 declaration-before : (env : Env) (i : Input) (d : Decl) (j : Input) → IsDecl env i d j → Before IsDecls env i (λ more. d ∷ more) j
-declaration-before env i d j q = (after_decl env d, q.reads.names, λ ds k r. record {
+declaration-before env i d j q = (
+  after_decl env d,
+  q.reads.names,
+  λ ds k r. record {
     reads = both q.reads r.reads;
     holds = (q.holds, r.holds);
-    numbered = (q.numbered, subst (λ v. NumberedDecls v ds) q.reads.next r.numbered) })
+    numbered = (q.numbered, subst (λ v. NumberedDecls v ds) q.reads.next r.numbered);
+  },
+)
 
 declaration_next-sound : (limit : ℕ) (env : Env) (i : Input) → i.names ≡ names_of env → Post (IsItem IsDecls [] env i) (declaration_next limit i)
 unfolding declaration_next

@@ -1,26 +1,12 @@
 -- Declarators that are read are trees (6.5.4, 6.5.5).
-use Rattle.std.proofs.Common.{◌≡◌, ℕ, zero, suc, ◌+◌, ◌-◌, ◌==◌, ◌<◌, ◌≤◌, Bool, true, false, not, if◌then◌else◌, List, [], ◌∷◌, length, map, Option, Some, None, Ok, Err, ◌++◌, ◌||◌, arith, refl, sym, ap, ◌∙◌, subst}
-use Rattle.pw_tree.specs.Levels.{level, chain_level, binary_level}
-use Rattle.pw_tree.specs.Numbering.{past_identifiers, past_tag, past_pointers, past_expr, past_postfixes, past_arguments, past_operations, past_specifiers, past_members, past_member_declarators, past_enumerators, past_declarator, past_core, past_suffixes, past_parameters, past_optional, past_init, past_inits, past_initializer, past_init_declarators, past_decl, past_decls, past_label, past_labels, past_stmt, past_alternative, past_block, past_stmts, past_external, past_comma, NumberedIdentifiers, NumberedStrings, NumberedTag, NumberedPointers, Numbered, NumberedPostfixes, NumberedArguments, NumberedOperations, NumberedSpecifiers, NumberedMembers, NumberedMemberDeclarators, NumberedEnumerators, NumberedDeclarator, NumberedCore, NumberedSuffixes, NumberedParameters, NumberedOptional, NumberedInit, NumberedInits, NumberedInitializer, NumberedInitDeclarators, NumberedDecl, NumberedDecls, NumberedLabel, NumberedLabels, NumberedStmt, NumberedAlternative, NumberedBlock, NumberedStmts, NumberedFunction, NumberedExternal, NumberedExternals, NumberedModule}
-use Rattle.pw_tree.specs.Scopes.{is_typedef_name, declare_plain, declare_plains, has_typedef, has_type, name_of, name_in, declare_name, declare, after_expr, after_postfixes, after_arguments, after_operations, after_specifiers, after_members, after_member_declarators, after_enumerators, after_declarator, after_core, after_suffixes, after_parameter, after_parameters, after_optional, after_init, after_inits, after_initializer, after_name, after_init_declarators, after_decl, after_decls, after_label, after_labels, after_stmt, after_alternative, behind_name, behind_core, enter_first, enter, after_external, Env}
-use Rattle.pw_tree.specs.Spelling.{identifier, separated, trailed, spell_identifiers, spell_strings, spell_tag, spell_qualifiers, spell_pointers, spell_expr, spell_postfixes, spell_arguments, spell_operations, spell_specifiers, spell_members, spell_member_declarators, spell_enumerators, spell_declarator, spell_core, spell_suffixes, spell_parameters, spell_optional, spell_init, spell_inits, spell_initializer, spell_init_declarators, spell_decl, spell_decls, spell_label, spell_labels, spell_stmt, spell_alternative, spell_block, spell_stmts, spell_external, spell_externals, symbols, spelling}
+use Rattle.std.proofs.Common.{◌≡◌, ℕ, Bool, true, false, not, List, [], ◌∷◌, map, Option, Some, None, ◌++◌, ◌||◌, arith, refl, sym, ap, ◌∙◌, subst}
+use Rattle.pw_tree.specs.Numbering.{Numbered, NumberedDeclarator, NumberedCore, NumberedSuffixes}
+use Rattle.pw_tree.specs.Scopes.{is_typedef_name, name_of, name_in, after_expr, after_declarator, after_core, Env}
+use Rattle.pw_tree.specs.Spelling.{spell_expr, spell_declarator, spell_core, spell_suffixes}
 use Rattle.pw_tree.specs.Symbols as symbol
 use Rattle.pw_tree.specs.Symbols.{Symbol, Reserved, Sign, unary_symbol, binary_mark, assign_mark, access_mark, step_mark}
-use Rattle.pw_tree.specs.Trees.{Word, Pointer, Expr, Identifier, Number, Floating, Character, Wide, Strings, Paren, Postfix, Unary, SizeofType, Cast, Chain, Conditional, Assign, Postfixes, NoPostfix, Index, Call, Select, Step, Arguments, NoArgument, Argument, Operations, NoOperation, Operation, Specifiers, NoSpecifier, Storage, Qualified, Basic, TypedefName, RecordTag, Record, EnumTag, Enum, Members, NoMember, Member, MemberDeclarators, NoMemberDeclarator, PlainMember, BitField, Padding, Enumerators, NoEnumerator, PlainEnumerator, ValuedEnumerator, Declarator, Declaring, Core, Absent, Name, Enclosed, Suffixes, NoSuffix, Array, OpenArray, Prototype, Variadic, Identifiers, Parameters, NoParameter, Parameter, Init, Value, Braces, Inits, NoInit, Listed, Initializer, InitDeclarator, Decl, Label, CaseLabel, DefaultLabel, NameLabel, Stmt, Compound, Expression, Empty, Labeled, If, Switch, While, Do, For, Goto, Continue, Break, Return, Alternative, NoElse, Otherwise, ElseIf, Block, Braced, Stmts, NoStmt, Next, External, Definition, Declaration}
-use Rattle.pw_tree.specs.WellFormed.{NotEmpty, HasPostfix, HasSpecifier, HasMember, HasMemberDeclarator, HasEnumerator, HasParameter, HasInit, NotTypedef, NoneTypedef, MayDeclare, NoStorage, IsSomething, begins_with_typedef, MayEnclose, is_named, has_name, operand_level, WellFormed, WellFormedPostfixes, WellFormedArguments, WellFormedOperations, WellFormedSpecifiers, WellFormedMembers, WellFormedMemberDeclarators, WellFormedEnumerators, WellFormedDeclarator, WellFormedCore, WellFormedSuffixes, WellFormedParameters, WellFormedOptional, WellFormedInit, WellFormedInits, WellFormedInitializer, WellFormedInitDeclarators, WellFormedDecl, WellFormedDecls, WellFormedLabel, WellFormedLabels, NotLabeled, NotIf, ends_open, alternative_ends_open, MayPrecede, WellFormedStmt, WellFormedAlternative, WellFormedBlock, WellFormedStmts, in_function, WellFormedFunction, WellFormedExternal, WellFormedExternals, WellFormedModule}
-use Rattle.pw_tree.specs.WellFormed as tree
-use Rattle.pw_tree.specs.declared.operator.Access.{Access}
-use Rattle.pw_tree.specs.declared.operator.Access.TheVariants as access
-use Rattle.pw_tree.specs.declared.operator.AssignOperator.{AssignOperator}
-use Rattle.pw_tree.specs.declared.operator.AssignOperator.TheVariants as assign
-use Rattle.pw_tree.specs.declared.operator.BinaryOperator.{BinaryOperator}
-use Rattle.pw_tree.specs.declared.operator.BinaryOperator.TheVariants as binary
-use Rattle.pw_tree.specs.declared.operator.StepOperator.{StepOperator}
-use Rattle.pw_tree.specs.declared.operator.StepOperator.TheVariants as stepping
-use Rattle.pw_tree.specs.declared.operator.UnaryOperator.{UnaryOperator}
-use Rattle.pw_tree.specs.declared.operator.UnaryOperator.TheVariants as unary
-use Rattle.pw_tree.specs.declared.symbol.Keyword.TheVariants as k
-use Rattle.pw_tree.specs.declared.symbol.Mark.{Mark}
+use Rattle.pw_tree.specs.Trees.{Word, Pointer, Declarator, Declaring, Core, Absent, Name, Enclosed, NoSuffix, Array, OpenArray, Prototype, Variadic, Identifiers}
+use Rattle.pw_tree.specs.WellFormed.{IsSomething, begins_with_typedef, MayEnclose, is_named, has_name, WellFormed, WellFormedDeclarator, WellFormedCore, WellFormedSuffixes}
 use Rattle.pw_tree.specs.declared.symbol.Mark.TheVariants as m
 use Rattle.pw_grammar.specs.declared.place.Place.{Place}
 use Rattle.pw_grammar.specs.declared.place.Place.TheVariants.{Named, Nameless, Either}
@@ -31,14 +17,13 @@ use Rattle.pw_grammar.specs.Parts.{Parts, Declared}
 use Rattle.std.specs.Option.{option_or}
 use Rattle.std.specs.Prelude.{is_some}
 use Rattle.pw_scope.specs.Visible.{visible}
-use Rattle.pw_tree.specs.Scopes as scopes
 use Rattle.pw_grammar.specs.Input as input
-use Rattle.pw_grammar.specs.Declarators.{Behind, Cored, needs_name, allows_name, spells_name, may_be_enclosed_by, may_be_enclosed, absent, name_core, may_be_absent, pointers, suffixes, enclosed, core_by, core, declarator_of}
+use Rattle.pw_grammar.specs.Declarators.{Behind, Cored, needs_name, spells_name, may_be_enclosed_by, may_be_enclosed, absent, name_core, may_be_absent, pointers, suffixes, enclosed, core_by, core, declarator_of}
 use Rattle.pw_grammar.specs.Tests.{opens_parameters, symbol_begins_specifier}
 use Rattle.pw_grammar.proofs.Base.{names_of, names_are, true_is_not_false}
 use Rattle.pw_grammar.proofs.Knows as knows
 use Rattle.pw_grammar.proofs.Knows.{place_of, declared, text_of, behind_suffixes, behind_of}
-use Rattle.pw_grammar.proofs.SoundBase.{Post, bind, weaken, choose, choose_parser, Reads, nothing, both, token, sign, expected, eaten, renamed}
+use Rattle.pw_grammar.proofs.SoundBase.{Post, bind, choose_parser, Reads, nothing, both, token, expected}
 use Rattle.pw_grammar.proofs.SoundParts.{IsDeclarator, SoundDeclarator, Sound}
 use Rattle.pw_grammar.proofs.SoundPointers.{IsPointers, pointers-sound}
 use Rattle.pw_grammar.proofs.SoundSuffixes.{IsSuffixes, suffixes-sound}
@@ -86,7 +71,8 @@ name-core place typed env i x h names may = record {
   holds = may_declare place typed env i (record { token = i.next; text = x }) names may;
   numbered = refl;
   name = refl;
-  behind = refl }
+  behind = refl;
+}
 
 -- ---- declarators in parentheses
 
@@ -133,7 +119,8 @@ module _ (parts : Parts) (sound : Sound parts) where
     holds = (something place typed env (step i) j k d.tree (after_declarator env d.tree) q.reads c q.holds begins, may, q.holds);
     numbered = (refl, subst (λ v. NumberedDeclarator v d.tree) t.next q.numbered);
     name = ap (λ v. v.name) q.same;
-    behind = ap (λ v. v.behind) q.same }
+    behind = ap (λ v. v.behind) q.same;
+  }
 
   enclosed-sound : (place : Place) (typed : Bool) (env : Env) (i : Input) → ahead i ≡ Some (Sign m.OpenParen) → i.names ≡ names_of env → ((j : Input) (x : Declarator) → Reads (step i) j (after_declarator env x) (spell_declarator x) → MayEnclose env (place_of place) x)
       → Post (IsCore place typed env i) (enclosed parts place typed i)
@@ -141,10 +128,10 @@ module _ (parts : Parts) (sound : Sound parts) where
   enclosed-sound place typed env i h names may =
       let t = token i env (Sign m.OpenParen) h names in
       choose_parser _ (may_be_enclosed place typed (step i)) (parts.declarator place typed >>= λ d. expect m.CloseParen >> pure (record { core = Enclosed i.next d.tree; name = d.name; behind = d.behind })) fault (step i)
-          (λ begins. bind _ (parts.declarator place typed (step i)) (λ d. expect m.CloseParen >> pure (record { core = Enclosed i.next d.tree; name = d.name; behind = d.behind })) (sound.declarator place typed env (step i) t.names) (λ d j q.
-              expected _ j (after_declarator env d.tree) m.CloseParen (pure (record { core = Enclosed i.next d.tree; name = d.name; behind = d.behind })) q.reads.names (λ k c.
-                  enclosed-core place typed env i j k d t q c begins (may j d.tree q.reads))))
-          (λ _. tt)
+      (λ begins. bind _ (parts.declarator place typed (step i)) (λ d. expect m.CloseParen >> pure (record { core = Enclosed i.next d.tree; name = d.name; behind = d.behind })) (sound.declarator place typed env (step i) t.names) (λ d j q.
+      expected _ j (after_declarator env d.tree) m.CloseParen (pure (record { core = Enclosed i.next d.tree; name = d.name; behind = d.behind })) q.reads.names (λ k c.
+      enclosed-core place typed env i j k d t q c begins (may j d.tree q.reads))))
+      (λ _. tt)
 
   -- `(` in a declarator that may have no name
   absent_here : (place : Place) (typed : Bool) (env : Env) (i : Input) → needs_name place ≡ false → i.names ≡ names_of env → IsCore place typed env i absent i
@@ -166,7 +153,7 @@ module _ (parts : Parts) (sound : Sound parts) where
   paren-core Either typed env i h names = choose_parser _ (opens_parameters i) (pure absent) (enclosed parts Either typed) i
       (λ _. absent_here Either typed env i refl names)
       (λ none. enclosed-sound Either typed env i h names (λ j x r.
-          no_typedef env i (step i) j x r names (or_right (sees m.CloseParen (step i)) (symbol_begins_specifier true i (ahead (step i))) none)))
+      no_typedef env i (step i) j x r names (or_right (sees m.CloseParen (step i)) (symbol_begins_specifier true i (ahead (step i))) none)))
 
   core-by : (place : Place) (typed : Bool) (env : Env) (i : Input) → i.names ≡ names_of env → (s : Option Symbol) → ahead i ≡ s → Post (IsCore place typed env i) (core_by parts place typed s i)
   core-by place typed env i names (Some (symbol.Identifier x)) h = choose_parser _ (spells_name place typed i x) (name_core <$> word x) (may_be_absent place) i
@@ -189,12 +176,13 @@ module _ (parts : Parts) (sound : Sound parts) where
     numbered = (q.numbered, subst (λ v. NumberedCore v c.core) q.reads.next r.numbered, subst (λ v. NumberedSuffixes v fs.0) (omega (arith, q.reads.next, r.reads.next)) s.numbered);
     same = ap (λ v. record { tree = Declaring ps c.core fs.0; name = v; behind = option_or c.behind fs.1 }) r.name
         ∙ ap (λ v. record { tree = Declaring ps c.core fs.0; name = text_of (name_in c.core); behind = option_or v fs.1 }) r.behind
-        ∙ ap (λ v. record { tree = Declaring ps c.core fs.0; name = text_of (name_in c.core); behind = option_or (knows.behind_core c.core) v }) s.declares }
+        ∙ ap (λ v. record { tree = Declaring ps c.core fs.0; name = text_of (name_in c.core); behind = option_or (knows.behind_core c.core) v }) s.declares;
+  }
 
   pub declarator_of-sound : (place : Place) (typed : Bool) → SoundDeclarator place typed (declarator_of parts place typed)
   unfolding declarator_of
   declarator_of-sound place typed env i names =
       bind _ (pointers i) (λ ps. core parts place typed >>= λ c. suffixes parts (is_some c.name) >>= λ fs. pure (record { tree = Declaring ps c.core fs.0; name = c.name; behind = option_or c.behind fs.1 })) (pointers-sound env i names) (λ ps x q.
-          bind _ (core parts place typed x) (λ c. suffixes parts (is_some c.name) >>= λ fs. pure (record { tree = Declaring ps c.core fs.0; name = c.name; behind = option_or c.behind fs.1 })) (core-sound place typed env x q.reads.names) (λ c y r.
-              bind _ (suffixes parts (is_some c.name) y) (λ fs. pure (record { tree = Declaring ps c.core fs.0; name = c.name; behind = option_or c.behind fs.1 })) (suffixes-sound parts sound (is_some c.name) (after_core env c.core) y r.reads.names) (λ fs j s.
-                  whole-declarator place typed env i x y j ps c fs q r s)))
+      bind _ (core parts place typed x) (λ c. suffixes parts (is_some c.name) >>= λ fs. pure (record { tree = Declaring ps c.core fs.0; name = c.name; behind = option_or c.behind fs.1 })) (core-sound place typed env x q.reads.names) (λ c y r.
+      bind _ (suffixes parts (is_some c.name) y) (λ fs. pure (record { tree = Declaring ps c.core fs.0; name = c.name; behind = option_or c.behind fs.1 })) (suffixes-sound parts sound (is_some c.name) (after_core env c.core) y r.reads.names) (λ fs j s.
+      whole-declarator place typed env i x y j ps c fs q r s)))

@@ -11,8 +11,10 @@ unfolding parts
 parts-sound zero = record {
   expr = λ k two env i names. tt;
   specifiers = λ storage env i names. tt;
-  declarator = λ place typed env i names. tt }
+  declarator = λ place typed env i names. tt;
+}
 parts-sound (suc depth) = record {
   expr = expr_of-sound (parts depth) (parts-sound depth);
   specifiers = specifiers_of-sound (parts depth) (parts-sound depth);
-  declarator = declarator_of-sound (parts depth) (parts-sound depth) }
+  declarator = declarator_of-sound (parts depth) (parts-sound depth);
+}

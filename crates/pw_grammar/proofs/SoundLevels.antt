@@ -1,38 +1,23 @@
 -- Expressions of each level that are read are trees (6.3.5 to 6.3.17).
-use Rattle.std.proofs.Common.{◌≡◌, ℕ, zero, suc, ◌+◌, ◌-◌, ◌==◌, ◌<◌, ◌≤◌, nat_le, Bool, true, false, not, if◌then◌else◌, List, [], ◌∷◌, length, map, Option, Some, None, Ok, arith, refl, sym, ap, ◌∙◌, subst}
-use Rattle.pw_tree.specs.Levels.{level, chain_level, binary_level}
-use Rattle.pw_tree.specs.Numbering.{past_identifiers, past_tag, past_pointers, past_expr, past_postfixes, past_arguments, past_operations, past_specifiers, past_members, past_member_declarators, past_enumerators, past_declarator, past_core, past_suffixes, past_parameters, past_optional, past_init, past_inits, past_initializer, past_init_declarators, past_decl, past_decls, past_label, past_labels, past_stmt, past_alternative, past_block, past_stmts, past_external, past_comma, NumberedIdentifiers, NumberedStrings, NumberedTag, NumberedPointers, Numbered, NumberedPostfixes, NumberedArguments, NumberedOperations, NumberedSpecifiers, NumberedMembers, NumberedMemberDeclarators, NumberedEnumerators, NumberedDeclarator, NumberedCore, NumberedSuffixes, NumberedParameters, NumberedOptional, NumberedInit, NumberedInits, NumberedInitializer, NumberedInitDeclarators, NumberedDecl, NumberedDecls, NumberedLabel, NumberedLabels, NumberedStmt, NumberedAlternative, NumberedBlock, NumberedStmts, NumberedFunction, NumberedExternal, NumberedExternals, NumberedModule}
-use Rattle.pw_tree.specs.Scopes.{is_typedef_name, declare_plain, declare_plains, has_typedef, has_type, name_of, name_in, declare_name, declare, after_expr, after_postfixes, after_arguments, after_operations, after_specifiers, after_members, after_member_declarators, after_enumerators, after_declarator, after_core, after_suffixes, after_parameter, after_parameters, after_optional, after_init, after_inits, after_initializer, after_name, after_init_declarators, after_decl, after_decls, after_label, after_labels, after_stmt, after_alternative, behind_name, behind_core, enter_first, enter, after_external, Env}
-use Rattle.pw_tree.specs.Spelling.{identifier, separated, trailed, spell_identifiers, spell_strings, spell_tag, spell_qualifiers, spell_pointers, spell_expr, spell_postfixes, spell_arguments, spell_operations, spell_specifiers, spell_members, spell_member_declarators, spell_enumerators, spell_declarator, spell_core, spell_suffixes, spell_parameters, spell_optional, spell_init, spell_inits, spell_initializer, spell_init_declarators, spell_decl, spell_decls, spell_label, spell_labels, spell_stmt, spell_alternative, spell_block, spell_stmts, spell_external, spell_externals, symbols, spelling}
-use Rattle.pw_tree.specs.Symbols as symbol
-use Rattle.pw_tree.specs.Symbols.{Symbol, Reserved, Sign, unary_symbol, binary_mark, assign_mark, access_mark, step_mark}
-use Rattle.pw_tree.specs.Trees.{Word, Pointer, Expr, Identifier, Number, Floating, Character, Wide, Strings, Paren, Postfix, Unary, SizeofType, Cast, Chain, Conditional, Assign, Postfixes, NoPostfix, Index, Call, Select, Step, Arguments, NoArgument, Argument, Operations, NoOperation, Operation, Specifiers, NoSpecifier, Storage, Qualified, Basic, TypedefName, RecordTag, Record, EnumTag, Enum, Members, NoMember, Member, MemberDeclarators, NoMemberDeclarator, PlainMember, BitField, Padding, Enumerators, NoEnumerator, PlainEnumerator, ValuedEnumerator, Declarator, Declaring, Core, Absent, Name, Enclosed, Suffixes, NoSuffix, Array, OpenArray, Prototype, Variadic, Identifiers, Parameters, NoParameter, Parameter, Init, Value, Braces, Inits, NoInit, Listed, Initializer, InitDeclarator, Decl, Label, CaseLabel, DefaultLabel, NameLabel, Stmt, Compound, Expression, Empty, Labeled, If, Switch, While, Do, For, Goto, Continue, Break, Return, Alternative, NoElse, Otherwise, ElseIf, Block, Braced, Stmts, NoStmt, Next, External, Definition, Declaration}
-use Rattle.pw_tree.specs.WellFormed.{NotEmpty, HasPostfix, HasSpecifier, HasMember, HasMemberDeclarator, HasEnumerator, HasParameter, HasInit, NotTypedef, NoneTypedef, MayDeclare, NoStorage, IsSomething, begins_with_typedef, MayEnclose, operand_level, WellFormed, WellFormedPostfixes, WellFormedArguments, WellFormedOperations, WellFormedSpecifiers, WellFormedMembers, WellFormedMemberDeclarators, WellFormedEnumerators, WellFormedDeclarator, WellFormedCore, WellFormedSuffixes, WellFormedParameters, WellFormedOptional, WellFormedInit, WellFormedInits, WellFormedInitializer, WellFormedInitDeclarators, WellFormedDecl, WellFormedDecls, WellFormedLabel, WellFormedLabels, NotLabeled, NotIf, ends_open, alternative_ends_open, MayPrecede, WellFormedStmt, WellFormedAlternative, WellFormedBlock, WellFormedStmts, in_function, WellFormedFunction, WellFormedExternal, WellFormedExternals, WellFormedModule}
-use Rattle.pw_tree.specs.WellFormed as tree
-use Rattle.pw_tree.specs.declared.operator.Access.{Access}
-use Rattle.pw_tree.specs.declared.operator.Access.TheVariants as access
+use Rattle.std.proofs.Common.{◌≡◌, ℕ, zero, suc, ◌+◌, ◌-◌, ◌==◌, ◌≤◌, nat_le, Bool, true, false, if◌then◌else◌, ◌∷◌, Option, Some, None, arith, refl, sym, ap, ◌∙◌, subst}
+use Rattle.pw_tree.specs.Levels.{level, binary_level}
+use Rattle.pw_tree.specs.Numbering.{Numbered, NumberedOperations}
+use Rattle.pw_tree.specs.Scopes.{after_expr, after_operations, Env}
+use Rattle.pw_tree.specs.Spelling.{spell_expr, spell_operations}
+use Rattle.pw_tree.specs.Symbols.{Symbol, Sign, binary_mark, assign_mark}
+use Rattle.pw_tree.specs.Trees.{Expr, Conditional, Assign, Operations, NoOperation, Operation}
+use Rattle.pw_tree.specs.WellFormed.{WellFormed, WellFormedOperations}
 use Rattle.pw_tree.specs.declared.operator.AssignOperator.{AssignOperator}
-use Rattle.pw_tree.specs.declared.operator.AssignOperator.TheVariants as assign
 use Rattle.pw_tree.specs.declared.operator.BinaryOperator.{BinaryOperator}
-use Rattle.pw_tree.specs.declared.operator.BinaryOperator.TheVariants as binary
-use Rattle.pw_tree.specs.declared.operator.StepOperator.{StepOperator}
-use Rattle.pw_tree.specs.declared.operator.StepOperator.TheVariants as stepping
-use Rattle.pw_tree.specs.declared.operator.UnaryOperator.{UnaryOperator}
-use Rattle.pw_tree.specs.declared.operator.UnaryOperator.TheVariants as unary
-use Rattle.pw_tree.specs.declared.symbol.Keyword.TheVariants as k
 use Rattle.pw_tree.specs.declared.symbol.Mark.{Mark}
 use Rattle.pw_tree.specs.declared.symbol.Mark.TheVariants as m
-use Rattle.pw_grammar.specs.declared.place.Place.{Place}
-use Rattle.pw_grammar.specs.declared.place.Place.TheVariants.{Named, Nameless, Either}
-use Rattle.pw_grammar.specs.Input.{Input, first_of_rest, ahead, is_none_left, at_end, step_to, step, same_mark, same_keyword, is_mark, is_keyword, sees, sees_keyword, or_false, Outcome, Parser, and_then, ◌>>=◌, ◌>>◌, pure, ◌<$>◌, fault, asks, peek, here, skip, take_number, word, past, past_keyword, eat, eat_keyword, expect, expect_keyword, identifier_by, ordinary_by, ordinary, declare_all, leave, since, turns, go_on, repeat, list_of, turn_of, while_some, turn_with, one_or_more, unless_comma, Binding}
-use Rattle.pw_grammar.specs.Input as input
-use Rattle.pw_scope.specs.Visible.{visible}
-use Rattle.pw_grammar.specs.Parts.{Parts, Declared}
+use Rattle.pw_grammar.specs.Input.{Input, ahead, step, sees, ◌>>=◌, ◌>>◌, pure, ◌<$>◌, fault, expect}
+use Rattle.pw_grammar.specs.Parts.{Parts}
 use Rattle.std.proofs.lemmas.Bool.{eqb-true, leb-true, leb-false}
-use Rattle.pw_grammar.specs.Expressions.{with_operations, operation_by, operation, operations, conditional_behind, condition_of, assigned, assignment_by, assignment_to, goes_on, above_cast, expr_of, unary_expr, cast_expr}
+use Rattle.pw_grammar.specs.Expressions.{with_operations, operation_by, operation, operations, conditional_behind, condition_of, assigned, assignment_by, assignment_to, goes_on, above_cast, expr_of, unary_expr}
 use Rattle.pw_grammar.specs.Tests.{binary_operator, assign_operator, assigns, of_level, operator_at}
 use Rattle.pw_grammar.proofs.Base.{names_of}
-use Rattle.pw_grammar.proofs.SoundBase.{Post, bind, weaken, choose, choose_parser, Reads, nothing, both, token, sign, expected}
+use Rattle.pw_grammar.proofs.SoundBase.{Post, bind, choose_parser, Reads, nothing, both, token, sign, expected}
 use Rattle.pw_grammar.proofs.SoundLists.{IsItem, while-sound}
 use Rattle.pw_grammar.proofs.SoundParts.{IsExpr, SoundExpr, Sound}
 use Rattle.pw_grammar.proofs.SoundUnaries.{lifted, lift-sound, unary-sound, cast-sound}
@@ -128,13 +113,20 @@ module _ (parts : Parts) (sound : Sound parts) where
   operation-by k four env i names (Some op) h =
       let found = operator_found k (ahead i) op h in
       let opening = token i env (Sign (binary_mark op)) found.0 names in
-      bind _ (parts.expr (k - 1) (step i)) (λ e. pure (Some (Operation i.next op e))) (sound.expr (k - 1) (omega (arith, four)) env (step i) opening.names) (λ e j q.
-          (after_expr env e, q.reads.names, λ ops end r.
-              record {
-                reads = both opening (both q.reads r.reads);
-                holds = (found.1, omega (arith, q.low, four), q.holds, r.holds);
-                numbered = (refl, subst (λ v. Numbered v e) opening.next q.numbered,
-                    subst (λ v. NumberedOperations v ops) (omega (arith, opening.next, q.reads.next)) r.numbered) }))
+      bind _ (parts.expr (k - 1) (step i)) (λ e. pure (Some (Operation i.next op e))) (sound.expr (k - 1) (omega (arith, four)) env (step i) opening.names) (λ e j q. (
+        after_expr env e,
+        q.reads.names,
+        λ ops end r.
+            record {
+              reads = both opening (both q.reads r.reads);
+              holds = (found.1, omega (arith, q.low, four), q.holds, r.holds);
+              numbered = (
+                refl,
+                subst (λ v. Numbered v e) opening.next q.numbered,
+                subst (λ v. NumberedOperations v ops) (omega (arith, opening.next, q.reads.next)) r.numbered,
+              );
+            },
+      ))
 
   operation-sound : (k : ℕ) → 4 ≤ k → (env : Env) (i : Input) → i.names ≡ names_of env → Post (IsSome k env i) (operation parts k i)
   unfolding operation
@@ -151,7 +143,8 @@ module _ (parts : Parts) (sound : Sound parts) where
     reads = both q.reads r.reads;
     holds = (omega (arith, q.low, r.holds.0, four), q.holds, subst (λ v. WellFormedOperations (after_expr env e) v (Operation t op x ops)) (sym r.holds.0) r.holds);
     low = omega (arith, r.holds.0);
-    numbered = (q.numbered, subst (λ v. NumberedOperations v (Operation t op x ops)) q.reads.next r.numbered) }
+    numbered = (q.numbered, subst (λ v. NumberedOperations v (Operation t op x ops)) q.reads.next r.numbered);
+  }
 
   -- ---- 6.3.15
 
@@ -162,17 +155,22 @@ module _ (parts : Parts) (sound : Sound parts) where
     reads = both q.reads (both asked (both r.reads (both colon s.reads)));
     holds = (q.low, q.holds, r.holds, s.low, s.holds);
     low = omega arith;
-    numbered = (q.numbered, q.reads.next, subst (λ v. Numbered v a) asked.next r.numbered,
-        subst (λ v. Numbered v b) (omega (arith, asked.next, r.reads.next, colon.next)) s.numbered) }
+    numbered = (
+      q.numbered,
+      q.reads.next,
+      subst (λ v. Numbered v a) asked.next r.numbered,
+      subst (λ v. Numbered v b) (omega (arith, asked.next, r.reads.next, colon.next)) s.numbered,
+    );
+  }
 
   conditional-sound : (env : Env) (i j : Input) (c : Expr) → IsExpr 13 env i c j → sees m.Question j ≡ true → Post (IsExpr 14 env i) (conditional_behind parts c j)
   unfolding conditional_behind
   conditional-sound env i j c q h =
       let asked = sign j (after_expr env c) m.Question h q.reads.names in
       bind _ (parts.expr 16 (step j)) (λ a. expect m.Colon >> (parts.expr 14 >>= λ b. pure (Conditional j.next c a b))) (sound.expr 16 (omega arith) (after_expr env c) (step j) asked.names) (λ a x r.
-          expected _ x (after_expr (after_expr env c) a) m.Colon (parts.expr 14 >>= λ b. pure (Conditional j.next c a b)) r.reads.names (λ y colon.
-              bind _ (parts.expr 14 y) (λ b. pure (Conditional j.next c a b)) (sound.expr 14 (omega arith) (after_expr (after_expr env c) a) y colon.names) (λ b end s.
-                  conditional-whole env i j x y end c a b (step j) q asked r colon s)))
+      expected _ x (after_expr (after_expr env c) a) m.Colon (parts.expr 14 >>= λ b. pure (Conditional j.next c a b)) r.reads.names (λ y colon.
+      bind _ (parts.expr 14 y) (λ b. pure (Conditional j.next c a b)) (sound.expr 14 (omega arith) (after_expr (after_expr env c) a) y colon.names) (λ b end s.
+      conditional-whole env i j x y end c a b (step j) q asked r colon s)))
 
   condition-sound : (env : Env) (i j : Input) (c : Expr) → IsExpr 13 env i c j → Post (IsExpr 14 env i) (condition_of parts c j)
   unfolding condition_of
@@ -189,7 +187,8 @@ module _ (parts : Parts) (sound : Sound parts) where
     reads = both q.reads (both opening s.reads);
     holds = (low, q.holds, s.low, s.holds);
     low = omega arith;
-    numbered = (q.numbered, q.reads.next, subst (λ v. Numbered v r) opening.next s.numbered) }
+    numbered = (q.numbered, q.reads.next, subst (λ v. Numbered v r) opening.next s.numbered);
+  }
 
   assignment-by : (env : Env) (i j : Input) (l : Expr) → IsExpr 14 env i l j → (o : Option AssignOperator) → assigns (ahead j) ≡ o → Post (IsExpr 15 env i) (assignment_by parts l o j)
   unfolding assigned
@@ -197,9 +196,9 @@ module _ (parts : Parts) (sound : Sound parts) where
   assignment-by env i j l q (Some op) h =
       let opening = token j (after_expr env l) (Sign (assign_mark op)) (assign_found (ahead j) op h) q.reads.names in
       choose_parser _ (nat_le (level l) 2) (assigned parts l op) fault j
-          (λ low. bind _ (parts.expr 15 (step j)) (λ r. pure (Assign j.next op l r)) (sound.expr 15 (omega arith) (after_expr env l) (step j) opening.names) (λ r end s.
-              assign-whole env i j (step j) end l r op q (leb-true (level l) 2 low) opening s))
-          (λ _. tt)
+      (λ low. bind _ (parts.expr 15 (step j)) (λ r. pure (Assign j.next op l r)) (sound.expr 15 (omega arith) (after_expr env l) (step j) opening.names) (λ r end s.
+      assign-whole env i j (step j) end l r op q (leb-true (level l) 2 low) opening s))
+      (λ _. tt)
 
   assignment-sound : (env : Env) (i j : Input) (l : Expr) → IsExpr 14 env i l j → Post (IsExpr 15 env i) (assignment_to parts l j)
   unfolding assignment_to
@@ -212,16 +211,16 @@ module _ (parts : Parts) (sound : Sound parts) where
   goes_on-sound k four env i j e q = choose_parser _ (k == 14) (condition_of parts e) (if k == 15 then assignment_to parts e else with_operations e <$> operations parts k) j
       (λ h. subst (λ v. Post (IsExpr v env i) (condition_of parts e j)) (sym (eqb-true k 14 h)) (condition-sound env i j e (lifted (k - 1) 13 env i e j (omega (arith, eqb-true k 14 h)) q)))
       (λ _. choose_parser _ (k == 15) (assignment_to parts e) (with_operations e <$> operations parts k) j
-          (λ h. subst (λ v. Post (IsExpr v env i) (assignment_to parts e j)) (sym (eqb-true k 15 h)) (assignment-sound env i j e (lifted (k - 1) 14 env i e j (omega (arith, eqb-true k 15 h)) q)))
-          (λ _. bind _ (operations parts k j) (λ ops. pure (with_operations e ops)) (operations-sound k four (after_expr env e) j q.reads.names) (λ ops end r.
-              chain-whole k env i j end e ops four q r)))
+      (λ h. subst (λ v. Post (IsExpr v env i) (assignment_to parts e j)) (sym (eqb-true k 15 h)) (assignment-sound env i j e (lifted (k - 1) 14 env i e j (omega (arith, eqb-true k 15 h)) q)))
+      (λ _. bind _ (operations parts k j) (λ ops. pure (with_operations e ops)) (operations-sound k four (after_expr env e) j q.reads.names) (λ ops end r.
+      chain-whole k env i j end e ops four q r)))
 
   above-sound : (k : ℕ) → SoundExpr (k + 3) (above_cast parts k)
   unfolding above_cast
   above-sound zero env i names = cast-sound parts sound env i names
   above-sound (suc k) env i names =
       bind _ (above_cast parts k i) (goes_on parts (k + 4)) (above-sound k env i names) (λ e j q.
-          subst (λ v. Post (IsExpr v env i) (goes_on parts (k + 4) e j)) (plus k) (goes_on-sound (k + 4) (four k) env i j e (lifted (k + 3) (k + 4 - 1) env i e j (less k) q)))
+      subst (λ v. Post (IsExpr v env i) (goes_on parts (k + 4) e j)) (plus k) (goes_on-sound (k + 4) (four k) env i j e (lifted (k + 3) (k + 4 - 1) env i e j (less k) q)))
     where
       plus : (k : ℕ) → k + 4 ≡ suc k + 3
       plus k = omega arith

@@ -1,9 +1,9 @@
 -- What holds of lists that are read turn by turn.
-use Rattle.std.proofs.Common.{◌≡◌, ℕ, zero, suc, ◌+◌, Bool, true, false, if◌then◌else◌, List, [], ◌∷◌, length, map, Option, Some, None, Ok, Err, arith, refl, sym, ap, ◌∙◌, subst}
+use Rattle.std.proofs.Common.{◌≡◌, ℕ, zero, suc, Bool, true, false, if◌then◌else◌, ◌∷◌, Option, Some, None, refl}
 use Rattle.pw_tree.specs.Scopes.{Env}
-use Rattle.pw_tree.specs.Symbols.{Symbol, Reserved, Sign}
+use Rattle.pw_tree.specs.Symbols.{Sign}
 use Rattle.pw_tree.specs.declared.symbol.Mark.TheVariants as m
-use Rattle.pw_grammar.specs.Input.{Input, Outcome, Parser, and_then, ◌>>=◌, ◌<$>◌, pure, sees, past, step, Turn, More, Last, go_on, repeat, turn_of, while_some, turns, list_of, one_or_more, turn_with, unless_comma}
+use Rattle.pw_grammar.specs.Input.{Input, Parser, ◌>>=◌, ◌<$>◌, pure, sees, past, step, Turn, More, Last, go_on, repeat, turn_of, while_some, turns, one_or_more, turn_with, unless_comma}
 use Rattle.pw_grammar.proofs.Base.{names_of}
 use Rattle.pw_grammar.proofs.SoundBase.{Post, bind, Reads, sign}
 

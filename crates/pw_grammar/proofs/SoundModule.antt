@@ -1,35 +1,18 @@
 -- Translation units that are read are trees (6.7): what is read is written.
-use Rattle.std.proofs.Common.{◌≡◌, ℕ, zero, suc, ◌+◌, ◌-◌, ◌==◌, ◌<◌, ◌≤◌, Bool, true, false, not, if◌then◌else◌, List, [], ◌∷◌, length, map, Option, Some, None, Ok, Err, ◌++◌, ◌&&◌, take, arith, refl, sym, ap, ◌∙◌, subst}
-use Rattle.pw_tree.specs.Levels.{level, chain_level, binary_level}
-use Rattle.pw_tree.specs.Numbering.{past_identifiers, past_tag, past_pointers, past_expr, past_postfixes, past_arguments, past_operations, past_specifiers, past_members, past_member_declarators, past_enumerators, past_declarator, past_core, past_suffixes, past_parameters, past_optional, past_init, past_inits, past_initializer, past_init_declarators, past_decl, past_decls, past_label, past_labels, past_stmt, past_alternative, past_block, past_stmts, past_external, past_comma, NumberedIdentifiers, NumberedStrings, NumberedTag, NumberedPointers, Numbered, NumberedPostfixes, NumberedArguments, NumberedOperations, NumberedSpecifiers, NumberedMembers, NumberedMemberDeclarators, NumberedEnumerators, NumberedDeclarator, NumberedCore, NumberedSuffixes, NumberedParameters, NumberedOptional, NumberedInit, NumberedInits, NumberedInitializer, NumberedInitDeclarators, NumberedDecl, NumberedDecls, NumberedLabel, NumberedLabels, NumberedStmt, NumberedAlternative, NumberedBlock, NumberedStmts, NumberedFunction, NumberedExternal, NumberedExternals, NumberedModule}
-use Rattle.pw_tree.specs.Scopes.{is_typedef_name, declare_plain, declare_plains, has_typedef, has_type, name_of, name_in, declare_name, declare, after_expr, after_postfixes, after_arguments, after_operations, after_specifiers, after_members, after_member_declarators, after_enumerators, after_declarator, after_core, after_suffixes, after_parameter, after_parameters, after_optional, after_init, after_inits, after_initializer, after_name, after_init_declarators, after_decl, after_decls, after_label, after_labels, after_stmt, after_alternative, behind_name, behind_core, enter_first, enter, after_external, Env}
-use Rattle.pw_tree.specs.Spelling.{identifier, separated, trailed, spell_identifiers, spell_strings, spell_tag, spell_qualifiers, spell_pointers, spell_expr, spell_postfixes, spell_arguments, spell_operations, spell_specifiers, spell_members, spell_member_declarators, spell_enumerators, spell_declarator, spell_core, spell_suffixes, spell_parameters, spell_optional, spell_init, spell_inits, spell_initializer, spell_init_declarators, spell_decl, spell_decls, spell_label, spell_labels, spell_stmt, spell_alternative, spell_block, spell_stmts, spell_external, spell_externals, symbols, spelling}
-use Rattle.pw_tree.specs.Symbols as symbol
-use Rattle.pw_tree.specs.Symbols.{Symbol, Reserved, Sign, unary_symbol, binary_mark, assign_mark, access_mark, step_mark}
-use Rattle.pw_tree.specs.Trees.{Word, Pointer, Expr, Identifier, Number, Floating, Character, Wide, Strings, Paren, Postfix, Unary, SizeofType, Cast, Chain, Conditional, Assign, Postfixes, NoPostfix, Index, Call, Select, Step, Arguments, NoArgument, Argument, Operations, NoOperation, Operation, Specifiers, NoSpecifier, Storage, Qualified, Basic, TypedefName, RecordTag, Record, EnumTag, Enum, Members, NoMember, Member, MemberDeclarators, NoMemberDeclarator, PlainMember, BitField, Padding, Enumerators, NoEnumerator, PlainEnumerator, ValuedEnumerator, Declarator, Declaring, Core, Absent, Name, Enclosed, Suffixes, NoSuffix, Array, OpenArray, Prototype, Variadic, Identifiers, Parameters, NoParameter, Parameter, Init, Value, Braces, Inits, NoInit, Listed, Initializer, InitDeclarator, Decl, Label, CaseLabel, DefaultLabel, NameLabel, Stmt, Compound, Expression, Empty, Labeled, If, Switch, While, Do, For, Goto, Continue, Break, Return, Alternative, NoElse, Otherwise, ElseIf, Block, Braced, Stmts, NoStmt, Next, External, Definition, Declaration, Module}
+use Rattle.std.proofs.Common.{◌≡◌, ℕ, ◌+◌, Bool, true, false, not, if◌then◌else◌, List, [], ◌∷◌, length, map, Option, Some, None, ◌++◌, ◌&&◌, take, arith, refl, sym, ap, ◌∙◌, subst}
+use Rattle.pw_tree.specs.Numbering.{NumberedDeclarator, NumberedDecls, NumberedBlock, NumberedExternal, NumberedExternals, NumberedModule}
+use Rattle.pw_tree.specs.Scopes.{has_typedef, has_type, name_of, after_specifiers, after_declarator, after_name, after_decls, enter, after_external, Env}
+use Rattle.pw_tree.specs.Spelling.{spell_specifiers, spell_declarator, spell_decls, spell_block, spell_external, spell_externals, symbols}
+use Rattle.pw_tree.specs.Symbols.{Symbol}
+use Rattle.pw_tree.specs.Trees.{Specifiers, NoSpecifier, Storage, Qualified, Basic, TypedefName, RecordTag, Record, EnumTag, Enum, Declarator, Decl, Block, External, Definition, Declaration, Module}
 use Rattle.pw_tree.specs.WellFormed.{NotEmpty, HasPostfix, HasSpecifier, HasMember, HasMemberDeclarator, HasEnumerator, HasParameter, HasInit, NotTypedef, NoneTypedef, MayDeclare, NoStorage, IsSomething, begins_with_typedef, MayEnclose, operand_level, WellFormed, WellFormedPostfixes, WellFormedArguments, WellFormedOperations, WellFormedSpecifiers, WellFormedMembers, WellFormedMemberDeclarators, WellFormedEnumerators, WellFormedDeclarator, WellFormedCore, WellFormedSuffixes, WellFormedParameters, WellFormedOptional, WellFormedInit, WellFormedInits, WellFormedInitializer, WellFormedInitDeclarators, WellFormedDecl, WellFormedDecls, WellFormedLabel, WellFormedLabels, NotLabeled, NotIf, ends_open, alternative_ends_open, MayPrecede, WellFormedStmt, WellFormedAlternative, WellFormedBlock, WellFormedStmts, in_function, WellFormedFunction, WellFormedExternal, WellFormedExternals, WellFormedModule}
 use Rattle.pw_tree.specs.WellFormed as tree
-use Rattle.pw_tree.specs.declared.operator.Access.{Access}
-use Rattle.pw_tree.specs.declared.operator.Access.TheVariants as access
-use Rattle.pw_tree.specs.declared.operator.AssignOperator.{AssignOperator}
-use Rattle.pw_tree.specs.declared.operator.AssignOperator.TheVariants as assign
-use Rattle.pw_tree.specs.declared.operator.BinaryOperator.{BinaryOperator}
-use Rattle.pw_tree.specs.declared.operator.BinaryOperator.TheVariants as binary
-use Rattle.pw_tree.specs.declared.operator.StepOperator.{StepOperator}
-use Rattle.pw_tree.specs.declared.operator.StepOperator.TheVariants as stepping
-use Rattle.pw_tree.specs.declared.operator.UnaryOperator.{UnaryOperator}
-use Rattle.pw_tree.specs.declared.operator.UnaryOperator.TheVariants as unary
-use Rattle.pw_tree.specs.declared.symbol.Keyword.TheVariants as k
-use Rattle.pw_tree.specs.declared.symbol.Mark.{Mark}
 use Rattle.pw_tree.specs.declared.symbol.Mark.TheVariants as m
-use Rattle.pw_grammar.specs.declared.place.Place.{Place}
-use Rattle.pw_grammar.specs.declared.place.Place.TheVariants.{Named, Nameless, Either}
+use Rattle.pw_grammar.specs.declared.place.Place.TheVariants.{Named}
 use Rattle.pw_grammar.specs.Input.{Input, first_of_rest, ahead, is_none_left, at_end, step_to, step, same_mark, same_keyword, is_mark, is_keyword, sees, sees_keyword, or_false, Outcome, Parser, and_then, ◌>>=◌, ◌>>◌, pure, ◌<$>◌, fault, asks, peek, here, skip, take_number, word, past, past_keyword, eat, eat_keyword, expect, expect_keyword, identifier_by, ordinary_by, ordinary, declare_all, leave, since, turns, go_on, repeat, list_of, turn_of, while_some, turn_with, one_or_more, unless_comma, Binding}
 use Rattle.pw_grammar.specs.Input as input
-use Rattle.pw_scope.specs.Visible.{visible}
-use Rattle.pw_grammar.specs.Parts.{Parts, Declared}
+use Rattle.pw_grammar.specs.Parts.{Declared}
 use Rattle.std.proofs.lemmas.List.{append-nil}
-use Rattle.pw_tree.specs.Trees.{Function}
 use Rattle.pw_grammar.specs.Input as input
 use Rattle.pw_grammar.specs.Declarators as rules
 use Rattle.pw_grammar.specs.Declarations.{parts, declarations, declaration_with}
@@ -38,11 +21,11 @@ use Rattle.pw_grammar.specs.Statements.{stmt, block}
 use Rattle.pw_grammar.specs.Tests.{is_empty}
 use Rattle.pw_grammar.proofs.Base.{names_of, true_is_not_false, left}
 use Rattle.pw_grammar.proofs.ModuleRead.{enter-names, in-function}
-use Rattle.pw_grammar.proofs.Knows.{behind_of, declared}
-use Rattle.pw_grammar.proofs.SoundBase.{Post, bind, weaken, choose, choose_parser, Reads, nothing, both, token, sign, expected, eaten, renamed}
-use Rattle.pw_grammar.proofs.SoundLists.{IsTurn, Before, repeat-sound}
-use Rattle.pw_grammar.proofs.SoundParts.{IsSpecifiers, IsDeclarator, Sound}
-use Rattle.pw_grammar.proofs.SoundParameters.{declared_name, scoped}
+use Rattle.pw_grammar.proofs.Knows.{behind_of}
+use Rattle.pw_grammar.proofs.SoundBase.{Post, bind, choose_parser, Reads, both, eaten}
+use Rattle.pw_grammar.proofs.SoundLists.{IsTurn, repeat-sound}
+use Rattle.pw_grammar.proofs.SoundParts.{IsSpecifiers, IsDeclarator}
+use Rattle.pw_grammar.proofs.SoundParameters.{declared_name}
 use Rattle.pw_grammar.proofs.SoundKnot.{parts-sound}
 use Rattle.pw_grammar.proofs.SoundDeclarations.{IsDecl, IsDecls, declaration_with-sound, declarations-sound, empty-declaration}
 use Rattle.pw_grammar.proofs.SoundStatements.{IsBlock, block-sound, stmt-sound}
@@ -82,13 +65,17 @@ function-whole : (limit : ℕ) (env : Env) (i x y y1 y2 u v j : Input) (ss : Spe
     → IsDecls (enter (after_name (after_specifiers env ss) ss d) d) y2 ds u → IsBlock limit (stmt limit limit) (stmt-sound limit limit) (after_decls (enter (after_name (after_specifiers env ss) ss d) d) ds) u b v → j.rest ≡ v.rest → j.next ≡ v.next → j.names ≡ names_of (after_name (after_specifiers env ss) ss d)
     → IsExternal env i (Definition (record { specifiers = ss; declarator = d; declarations = ds; body = b })) j
 function-whole limit env i x y y1 y2 u v j ss d ds b q r holds numbered n p s w rest next names =
-  let all : Reads i v (after_decls (enter (after_name (after_specifiers env ss) ss d) d) ds) (λ z. spell_specifiers ss (spell_declarator d (spell_decls ds (spell_block b z)))) = both q.reads (both r (both n (both p (both s.reads w.reads)))) in
-  record {
-    reads = record { text = all.text ∙ ap (λ t. map Some (spell_specifiers ss (spell_declarator d (spell_decls ds (spell_block b [])))) ++ t) (sym rest); next = next ∙ all.next; names = names; plain = all.plain };
-    holds = (q.holds, holds, s.holds, w.holds);
-    numbered = (q.numbered, subst (λ n. NumberedDeclarator n d) q.reads.next numbered,
+    let all : Reads i v (after_decls (enter (after_name (after_specifiers env ss) ss d) d) ds) (λ z. spell_specifiers ss (spell_declarator d (spell_decls ds (spell_block b z)))) = both q.reads (both r (both n (both p (both s.reads w.reads)))) in
+    record {
+      reads = record { text = all.text ∙ ap (λ t. map Some (spell_specifiers ss (spell_declarator d (spell_decls ds (spell_block b [])))) ++ t) (sym rest); next = next ∙ all.next; names = names; plain = all.plain };
+      holds = (q.holds, holds, s.holds, w.holds);
+      numbered = (
+        q.numbered,
+        subst (λ n. NumberedDeclarator n d) q.reads.next numbered,
         subst (λ n. NumberedDecls n ds) (omega (arith, q.reads.next, r.next, n.next, p.next)) s.numbered,
-        subst (λ n. NumberedBlock n b) (omega (arith, q.reads.next, r.next, n.next, p.next, s.reads.next)) w.numbered) }
+        subst (λ n. NumberedBlock n b) (omega (arith, q.reads.next, r.next, n.next, p.next, s.reads.next)) w.numbered,
+      );
+    }
 
 -- what external declarations declare
 abbrev after_externals : Env → List External → Env
@@ -132,14 +119,14 @@ module _ (limit : ℕ) where
       let env1 = after_name (after_specifiers env ss) ss d.tree in
       let inner = enter env1 d.tree in
       bind _ (rules.declare_name d.name (has_typedef ss) y) (λ _. input.mark >>= λ outer. input.declare_all (or_none d.behind) >> (declarations limit >>= λ ds. block limit (stmt limit limit) >>= λ b. input.leave outer >> pure (Definition (record { specifiers = ss; declarator = d.tree; declarations = ds; body = b }))))
-          (subst (λ v. Post (λ _ j. Reads y j env1 (λ z. z)) (rules.declare_name v (has_typedef ss) y)) (sym (ap (λ v. v.name) r.same)) (declared_name (has_typedef ss) (name_of d.tree) (after_declarator (after_specifiers env ss) d.tree) y r.reads.names))
-          (λ _ y1 n.
-              let y2 : Input = record y1 { names = y1.names ++ or_none d.behind } in
-              let p : Reads y1 y2 inner (λ z. z) = record { text = refl; next = omega arith; names = entered_names env1 d.tree y1.names (or_none d.behind) n.names (ap or_none (ap (λ v. v.behind) r.same)); plain = λ z. refl } in
-              bind _ (declarations limit y2) (λ ds. block limit (stmt limit limit) >>= λ b. input.leave (length y1.names) >> pure (Definition (record { specifiers = ss; declarator = d.tree; declarations = ds; body = b }))) (declarations-sound limit inner y2 p.names) (λ ds u s.
-                  bind _ (block limit (stmt limit limit) u) (λ b. input.leave (length y1.names) >> pure (Definition (record { specifiers = ss; declarator = d.tree; declarations = ds; body = b }))) (block-sound limit (stmt limit limit) (stmt-sound limit limit) (after_decls inner ds) u s.reads.names) (λ b v w.
-                      function-whole limit env i x y y1 y2 u v (record v { names = take (length y1.names) v.names }) ss d.tree ds b q r.reads r.holds r.numbered n p s w refl refl
-                          (around_function env1 d.tree ds y1.names v.names n.names w.reads.names))))
+      (subst (λ v. Post (λ _ j. Reads y j env1 (λ z. z)) (rules.declare_name v (has_typedef ss) y)) (sym (ap (λ v. v.name) r.same)) (declared_name (has_typedef ss) (name_of d.tree) (after_declarator (after_specifiers env ss) d.tree) y r.reads.names))
+      (λ _ y1 n.
+      let y2 : Input = record y1 { names = y1.names ++ or_none d.behind } in
+      let p : Reads y1 y2 inner (λ z. z) = record { text = refl; next = omega arith; names = entered_names env1 d.tree y1.names (or_none d.behind) n.names (ap or_none (ap (λ v. v.behind) r.same)); plain = λ z. refl } in
+      bind _ (declarations limit y2) (λ ds. block limit (stmt limit limit) >>= λ b. input.leave (length y1.names) >> pure (Definition (record { specifiers = ss; declarator = d.tree; declarations = ds; body = b }))) (declarations-sound limit inner y2 p.names) (λ ds u s.
+      bind _ (block limit (stmt limit limit) u) (λ b. input.leave (length y1.names) >> pure (Definition (record { specifiers = ss; declarator = d.tree; declarations = ds; body = b }))) (block-sound limit (stmt limit limit) (stmt-sound limit limit) (after_decls inner ds) u s.reads.names) (λ b v w.
+      function-whole limit env i x y y1 y2 u v (record v { names = take (length y1.names) v.names }) ss d.tree ds b q r.reads r.holds r.numbered n p s w refl refl
+      (around_function env1 d.tree ds y1.names v.names n.names w.reads.names))))
 
   declaration-external : (env : Env) (i : Input) (d : Decl) (j : Input) → IsDecl env i d j → IsExternal env i (Declaration d) j
   declaration-external env i d j q = record { reads = q.reads; holds = q.holds; numbered = q.numbered }
@@ -148,24 +135,24 @@ module _ (limit : ℕ) where
   unfolding external_named external_with
   named-sound env i x ss q =
       bind _ ((parts limit).declarator Named (has_type ss) x) (external_with limit ss) ((parts-sound limit).declarator Named (has_type ss) (after_specifiers env ss) x q.reads.names) (λ d y r.
-          choose_parser _ (not (is_empty ss) && goes_on_as_declaration y) (Declaration <$> declaration_with limit ss d) (function limit ss d) y
-              (λ h. bind _ (declaration_with limit ss d y) (λ x. pure (Declaration x)) (declaration_with-sound limit env i x y ss d q (has_specifier ss (not_empty (is_empty ss) (goes_on_as_declaration y) h)) r) (declaration-external env i))
-              (λ _. function-sound env i x y ss d q r))
+      choose_parser _ (not (is_empty ss) && goes_on_as_declaration y) (Declaration <$> declaration_with limit ss d) (function limit ss d) y
+      (λ h. bind _ (declaration_with limit ss d y) (λ x. pure (Declaration x)) (declaration_with-sound limit env i x y ss d q (has_specifier ss (not_empty (is_empty ss) (goes_on_as_declaration y) h)) r) (declaration-external env i))
+      (λ _. function-sound env i x y ss d q r))
 
   behind-sound : (env : Env) (i x : Input) (ss : Specifiers) → IsSpecifiers true env i ss x → Post (IsExternal env i) (external_behind limit ss x)
   unfolding external_behind
   behind-sound env i x ss q = choose_parser _ (is_empty ss) (external_named limit ss) (input.eat m.Semicolon >>= λ ends. if ends then pure (Declaration (record { specifiers = ss; declarators = [] })) else external_named limit ss) x
       (λ _. named-sound env i x ss q)
       (λ some. eaten _ x (after_specifiers env ss) m.Semicolon (pure (Declaration (record { specifiers = ss; declarators = [] }))) (external_named limit ss) q.reads.names
-          (λ j c. declaration-external env i (record { specifiers = ss; declarators = [] }) j (empty-declaration env i x j ss q (has_specifier ss some) c))
-          (λ _. named-sound env i x ss q))
+      (λ j c. declaration-external env i (record { specifiers = ss; declarators = [] }) j (empty-declaration env i x j ss q (has_specifier ss some) c))
+      (λ _. named-sound env i x ss q))
 
   external-sound : (env : Env) (i : Input) → i.names ≡ names_of env → Post (IsOne env i) (external limit i)
   unfolding external
   external-sound env i names =
       bind _ (and_then ((parts limit).specifiers true i) (external_behind limit)) (λ e. pure (λ more. e ∷ more))
-          (bind (λ e j. IsExternal env i e j) ((parts limit).specifiers true i) (external_behind limit) ((parts-sound limit).specifiers true env i names) (λ ss x q. behind-sound env i x ss q))
-          (λ e j q. record { external = e; is = q; before = λ es. refl })
+      (bind (λ e j. IsExternal env i e j) ((parts limit).specifiers true i) (external_behind limit) ((parts-sound limit).specifiers true env i names) (λ ss x q. behind-sound env i x ss q))
+      (λ e j q. record { external = e; is = q; before = λ es. refl })
 
   externals-sound : (env : Env) (i : Input) → i.names ≡ names_of env → Post (IsExternals env i) (externals limit i)
   unfolding externals ends_text

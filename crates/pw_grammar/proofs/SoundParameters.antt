@@ -1,44 +1,25 @@
 -- Lists of parameters that are read are trees (6.5.4.3).
-use Rattle.std.proofs.Common.{◌≡◌, ℕ, zero, suc, ◌+◌, ◌-◌, ◌==◌, ◌<◌, ◌≤◌, Bool, true, false, not, if◌then◌else◌, List, [], ◌∷◌, length, map, Option, Some, None, Ok, Err, ◌++◌, take, drop, arith, refl, sym, ap, ◌∙◌, subst}
-use Rattle.pw_tree.specs.Levels.{level, chain_level, binary_level}
-use Rattle.pw_tree.specs.Numbering.{past_identifiers, past_tag, past_pointers, past_expr, past_postfixes, past_arguments, past_operations, past_specifiers, past_members, past_member_declarators, past_enumerators, past_declarator, past_core, past_suffixes, past_parameters, past_optional, past_init, past_inits, past_initializer, past_init_declarators, past_decl, past_decls, past_label, past_labels, past_stmt, past_alternative, past_block, past_stmts, past_external, past_comma, NumberedIdentifiers, NumberedStrings, NumberedTag, NumberedPointers, Numbered, NumberedPostfixes, NumberedArguments, NumberedOperations, NumberedSpecifiers, NumberedMembers, NumberedMemberDeclarators, NumberedEnumerators, NumberedDeclarator, NumberedCore, NumberedSuffixes, NumberedParameters, NumberedOptional, NumberedInit, NumberedInits, NumberedInitializer, NumberedInitDeclarators, NumberedDecl, NumberedDecls, NumberedLabel, NumberedLabels, NumberedStmt, NumberedAlternative, NumberedBlock, NumberedStmts, NumberedFunction, NumberedExternal, NumberedExternals, NumberedModule}
+use Rattle.std.proofs.Common.{◌≡◌, ℕ, ◌+◌, Bool, true, false, if◌then◌else◌, List, [], ◌∷◌, length, Option, Some, None, ◌++◌, take, drop, arith, refl, sym, ap, ◌∙◌, subst}
+use Rattle.pw_tree.specs.Numbering.{past_specifiers, past_declarator, Numbered, NumberedSpecifiers, NumberedDeclarator, NumberedParameters}
 use Rattle.pw_tree.specs.Scopes.{is_typedef_name, declare_plain, declare_plains, has_typedef, has_type, name_of, name_in, declare_name, declare, after_expr, after_postfixes, after_arguments, after_operations, after_specifiers, after_members, after_member_declarators, after_enumerators, after_declarator, after_core, after_suffixes, after_parameter, after_parameters, after_optional, after_init, after_inits, after_initializer, after_name, after_init_declarators, after_decl, after_decls, after_label, after_labels, after_stmt, after_alternative, behind_name, behind_core, enter_first, enter, after_external, Env}
-use Rattle.pw_tree.specs.Spelling.{identifier, separated, trailed, spell_identifiers, spell_strings, spell_tag, spell_qualifiers, spell_pointers, spell_expr, spell_postfixes, spell_arguments, spell_operations, spell_specifiers, spell_members, spell_member_declarators, spell_enumerators, spell_declarator, spell_core, spell_suffixes, spell_parameters, spell_optional, spell_init, spell_inits, spell_initializer, spell_init_declarators, spell_decl, spell_decls, spell_label, spell_labels, spell_stmt, spell_alternative, spell_block, spell_stmts, spell_external, spell_externals, symbols, spelling}
-use Rattle.pw_tree.specs.Symbols as symbol
-use Rattle.pw_tree.specs.Symbols.{Symbol, Reserved, Sign, unary_symbol, binary_mark, assign_mark, access_mark, step_mark}
-use Rattle.pw_tree.specs.Trees.{Word, Pointer, Expr, Identifier, Number, Floating, Character, Wide, Strings, Paren, Postfix, Unary, SizeofType, Cast, Chain, Conditional, Assign, Postfixes, NoPostfix, Index, Call, Select, Step, Arguments, NoArgument, Argument, Operations, NoOperation, Operation, Specifiers, NoSpecifier, Storage, Qualified, Basic, TypedefName, RecordTag, Record, EnumTag, Enum, Members, NoMember, Member, MemberDeclarators, NoMemberDeclarator, PlainMember, BitField, Padding, Enumerators, NoEnumerator, PlainEnumerator, ValuedEnumerator, Declarator, Declaring, Core, Absent, Name, Enclosed, Suffixes, NoSuffix, Array, OpenArray, Prototype, Variadic, Identifiers, Parameters, NoParameter, Parameter, Init, Value, Braces, Inits, NoInit, Listed, Initializer, InitDeclarator, Decl, Label, CaseLabel, DefaultLabel, NameLabel, Stmt, Compound, Expression, Empty, Labeled, If, Switch, While, Do, For, Goto, Continue, Break, Return, Alternative, NoElse, Otherwise, ElseIf, Block, Braced, Stmts, NoStmt, Next, External, Definition, Declaration}
-use Rattle.pw_tree.specs.WellFormed.{NotEmpty, HasPostfix, HasSpecifier, HasMember, HasMemberDeclarator, HasEnumerator, HasParameter, HasInit, NotTypedef, NoneTypedef, MayDeclare, NoStorage, IsSomething, begins_with_typedef, MayEnclose, operand_level, WellFormed, WellFormedPostfixes, WellFormedArguments, WellFormedOperations, WellFormedSpecifiers, WellFormedMembers, WellFormedMemberDeclarators, WellFormedEnumerators, WellFormedDeclarator, WellFormedCore, WellFormedSuffixes, WellFormedParameters, WellFormedOptional, WellFormedInit, WellFormedInits, WellFormedInitializer, WellFormedInitDeclarators, WellFormedDecl, WellFormedDecls, WellFormedLabel, WellFormedLabels, NotLabeled, NotIf, ends_open, alternative_ends_open, MayPrecede, WellFormedStmt, WellFormedAlternative, WellFormedBlock, WellFormedStmts, in_function, WellFormedFunction, WellFormedExternal, WellFormedExternals, WellFormedModule}
-use Rattle.pw_tree.specs.WellFormed as tree
-use Rattle.pw_tree.specs.declared.operator.Access.{Access}
-use Rattle.pw_tree.specs.declared.operator.Access.TheVariants as access
-use Rattle.pw_tree.specs.declared.operator.AssignOperator.{AssignOperator}
-use Rattle.pw_tree.specs.declared.operator.AssignOperator.TheVariants as assign
-use Rattle.pw_tree.specs.declared.operator.BinaryOperator.{BinaryOperator}
-use Rattle.pw_tree.specs.declared.operator.BinaryOperator.TheVariants as binary
-use Rattle.pw_tree.specs.declared.operator.StepOperator.{StepOperator}
-use Rattle.pw_tree.specs.declared.operator.StepOperator.TheVariants as stepping
-use Rattle.pw_tree.specs.declared.operator.UnaryOperator.{UnaryOperator}
-use Rattle.pw_tree.specs.declared.operator.UnaryOperator.TheVariants as unary
-use Rattle.pw_tree.specs.declared.symbol.Keyword.TheVariants as k
-use Rattle.pw_tree.specs.declared.symbol.Mark.{Mark}
+use Rattle.pw_tree.specs.Spelling.{spell_expr, spell_specifiers, spell_declarator, spell_parameters}
+use Rattle.pw_tree.specs.Symbols.{Symbol, Sign}
+use Rattle.pw_tree.specs.Trees.{Word, Specifiers, Parameters, NoParameter, Parameter}
+use Rattle.pw_tree.specs.WellFormed.{HasSpecifier, HasParameter, WellFormed, WellFormedParameters}
 use Rattle.pw_tree.specs.declared.symbol.Mark.TheVariants as m
-use Rattle.pw_grammar.specs.declared.place.Place.{Place}
-use Rattle.pw_grammar.specs.declared.place.Place.TheVariants.{Named, Nameless, Either}
-use Rattle.pw_grammar.specs.Input.{Input, first_of_rest, ahead, is_none_left, at_end, step_to, step, same_mark, same_keyword, is_mark, is_keyword, sees, sees_keyword, or_false, Outcome, Parser, and_then, ◌>>=◌, ◌>>◌, pure, ◌<$>◌, fault, asks, peek, here, skip, take_number, word, past, past_keyword, eat, eat_keyword, expect, expect_keyword, identifier_by, ordinary_by, ordinary, declare_all, leave, since, turns, go_on, repeat, list_of, turn_of, while_some, turn_with, one_or_more, unless_comma, Binding}
-use Rattle.pw_grammar.specs.Input as input
-use Rattle.pw_scope.specs.Visible.{visible}
+use Rattle.pw_grammar.specs.declared.place.Place.TheVariants.{Either}
+use Rattle.pw_grammar.specs.Input.{Input, step, sees, ◌>>=◌, ◌>>◌, pure, ◌<$>◌, past, eat, turns, turn_with, Binding}
 use Rattle.pw_grammar.specs.Parts.{Parts, Declared}
 use Rattle.pw_tree.specs.Scopes as scopes
-use Rattle.pw_grammar.specs.Input as input
 use Rattle.pw_grammar.specs.Declarators as rules
 use Rattle.pw_grammar.specs.Declarators.{parameters_end, parameter, parameters}
 use Rattle.pw_grammar.specs.Expressions.{some_specifiers}
 use Rattle.pw_grammar.proofs.Base.{names_of, left, entered}
-use Rattle.pw_grammar.proofs.Knows.{MayHold, place_of, declared, text_of}
+use Rattle.pw_grammar.proofs.Knows.{text_of}
 use Rattle.pw_grammar.proofs.Spreads.{spreads-parameters}
-use Rattle.pw_grammar.proofs.SoundBase.{Post, bind, weaken, choose, choose_parser, Reads, nothing, both, token, sign, expected, eaten, renamed}
-use Rattle.pw_grammar.proofs.SoundLists.{IsItem, Before, IsTurn, repeat-sound}
-use Rattle.pw_grammar.proofs.SoundParts.{IsExpr, IsSpecifiers, IsDeclarator, SoundExpr, Sound}
+use Rattle.pw_grammar.proofs.SoundBase.{Post, bind, Reads, nothing, both, sign, eaten}
+use Rattle.pw_grammar.proofs.SoundLists.{IsTurn, repeat-sound}
+use Rattle.pw_grammar.proofs.SoundParts.{IsSpecifiers, IsDeclarator, Sound}
 use Rattle.pw_grammar.proofs.SoundPrimaries.{some_specifiers-sound}
 
 -- ---- scopes
@@ -51,9 +32,10 @@ declared_name is_typedef (Some w) env i names = record { text = refl; next = ome
 -- the names before a list of parameters, and those that it declares
 pub around_parameters : (env : Env) (ps : Parameters) (a b : List Binding) → a ≡ names_of env → b ≡ names_of (after_parameters env ps) → (take (length a) b ≡ names_of env) × (drop (length a) b ≡ names_of (after_parameters [] ps))
 around_parameters env ps a b e f =
-    let all : b ≡ names_of (after_parameters [] ps ++ env) = f ∙ ap names_of (spreads-parameters [] env ps) in
-    (ap (λ v. take (length v) b) e ∙ ap (λ v. take (length (names_of env)) v) all ∙ left (after_parameters [] ps) env,
-     ap (λ v. drop (length v) b) e ∙ ap (λ v. drop (length (names_of env)) v) all ∙ entered (after_parameters [] ps) env)
+    let all : b ≡ names_of (after_parameters [] ps ++ env) = f ∙ ap names_of (spreads-parameters [] env ps) in (
+      ap (λ v. take (length v) b) e ∙ ap (λ v. take (length (names_of env)) v) all ∙ left (after_parameters [] ps) env,
+      ap (λ v. drop (length v) b) e ∙ ap (λ v. drop (length (names_of env)) v) all ∙ entered (after_parameters [] ps) env,
+    )
 
 -- with other names visible behind
 pub scoped : {i j : Input} {env other : Env} {p : List Symbol → List Symbol} (names : List Binding) → Reads i j env p → names ≡ names_of other → Reads i (record j { names = names }) other p
@@ -86,26 +68,29 @@ parameter-listed : (env : Env) (i x y j : Input) (ss : Specifiers) (d : Declared
     → IsParameter env i (λ more. (Parameter ss d.tree more.0, more.1)) j
 unfolding spell_expr WellFormed Numbered
 parameter-listed env i x y j ss d q has r named =
-  let numbers : (n : ℕ) → i.next ≡ n → NumberedSpecifiers n ss × NumberedDeclarator (past_specifiers n ss) d.tree = λ n f. (subst (λ v. NumberedSpecifiers v ss) f q.numbered, subst (λ v. NumberedDeclarator v d.tree) (omega (arith, q.reads.next, f)) r.numbered) in
-  let past : (n : ℕ) → i.next ≡ n → j.next ≡ past_declarator (past_specifiers n ss) d.tree = λ n f. omega (arith, q.reads.next, r.reads.next, named.next, f) in
-  let front : Reads i j (after_parameter env ss d.tree) (λ z. spell_specifiers ss (spell_declarator d.tree z)) = both q.reads (both r.reads named) in
-  record {
-    inner = after_parameter env ss d.tree;
-    names = named.names;
-    last = λ variadic k c. record {
-      reads = both front c;
-      holds = (has, q.holds, r.holds, tt);
-      has = tt;
-      numbered = ((numbers i.next refl).0, (numbers i.next refl).1, tt);
-      commas = λ h inner f. (both f (both front c), ((numbers (h.next + 1) f.next).0, (numbers (h.next + 1) f.next).1, tt)) };
-    more = λ k c ps end s.
-      let rest = s.commas j (after_parameter env ss d.tree) c in
-      record {
-        reads = both front rest.0;
-        holds = (has, q.holds, r.holds, s.holds);
+    let numbers : (n : ℕ) → i.next ≡ n → NumberedSpecifiers n ss × NumberedDeclarator (past_specifiers n ss) d.tree = λ n f. (subst (λ v. NumberedSpecifiers v ss) f q.numbered, subst (λ v. NumberedDeclarator v d.tree) (omega (arith, q.reads.next, f)) r.numbered) in
+    let past : (n : ℕ) → i.next ≡ n → j.next ≡ past_declarator (past_specifiers n ss) d.tree = λ n f. omega (arith, q.reads.next, r.reads.next, named.next, f) in
+    let front : Reads i j (after_parameter env ss d.tree) (λ z. spell_specifiers ss (spell_declarator d.tree z)) = both q.reads (both r.reads named) in
+    record {
+      inner = after_parameter env ss d.tree;
+      names = named.names;
+      last = λ variadic k c. record {
+        reads = both front c;
+        holds = (has, q.holds, r.holds, tt);
         has = tt;
-        numbered = ((numbers i.next refl).0, (numbers i.next refl).1, subst (λ v. NumberedParameters false v ps.0) (past i.next refl) rest.1);
-        commas = λ h inner f. (both f (both front rest.0), ((numbers (h.next + 1) f.next).0, (numbers (h.next + 1) f.next).1, subst (λ v. NumberedParameters false v ps.0) (past (h.next + 1) f.next) rest.1)) } }
+        numbered = ((numbers i.next refl).0, (numbers i.next refl).1, tt);
+        commas = λ h inner f. (both f (both front c), ((numbers (h.next + 1) f.next).0, (numbers (h.next + 1) f.next).1, tt));
+      };
+      more = λ k c ps end s.
+          let rest = s.commas j (after_parameter env ss d.tree) c in
+          record {
+            reads = both front rest.0;
+            holds = (has, q.holds, r.holds, s.holds);
+            has = tt;
+            numbered = ((numbers i.next refl).0, (numbers i.next refl).1, subst (λ v. NumberedParameters false v ps.0) (past i.next refl) rest.1);
+            commas = λ h inner f. (both f (both front rest.0), ((numbers (h.next + 1) f.next).0, (numbers (h.next + 1) f.next).1, subst (λ v. NumberedParameters false v ps.0) (past (h.next + 1) f.next) rest.1));
+          };
+    }
 
 -- behind a parameter a comma, or the end of the list
 abbrev IsEnd : Env → Input → Option (Parameters × Bool) → Input → Type 0
@@ -127,10 +112,10 @@ module _ (parts : Parts) (sound : Sound parts) where
   unfolding parameter
   parameter-sound env i names =
       bind _ (some_specifiers parts true i) (λ ss. parts.declarator Either (has_type ss) >>= λ d. rules.declare_name d.name false >> pure (λ more. (Parameter ss d.tree more.0, more.1))) (some_specifiers-sound parts sound true env i names) (λ ss x q.
-          bind _ (parts.declarator Either (has_type ss) x) (λ d. rules.declare_name d.name false >> pure (λ more. (Parameter ss d.tree more.0, more.1))) (sound.declarator Either (has_type ss) (after_specifiers env ss) x q.0.reads.names) (λ d y r.
-              bind _ (rules.declare_name d.name false y) (λ _. pure (λ more. (Parameter ss d.tree more.0, more.1)))
-                  (subst (λ v. Post (λ _ j. Reads y j (after_parameter env ss d.tree) (λ z. z)) (rules.declare_name v false y)) (sym (ap (λ v. v.name) r.same)) (declared_name false (name_of d.tree) (after_declarator (after_specifiers env ss) d.tree) y r.reads.names))
-                  (λ _ j named. parameter-listed env i x y j ss d q.0 q.1 r named)))
+      bind _ (parts.declarator Either (has_type ss) x) (λ d. rules.declare_name d.name false >> pure (λ more. (Parameter ss d.tree more.0, more.1))) (sound.declarator Either (has_type ss) (after_specifiers env ss) x q.0.reads.names) (λ d y r.
+      bind _ (rules.declare_name d.name false y) (λ _. pure (λ more. (Parameter ss d.tree more.0, more.1)))
+      (subst (λ v. Post (λ _ j. Reads y j (after_parameter env ss d.tree) (λ z. z)) (rules.declare_name v false y)) (sym (ap (λ v. v.name) r.same)) (declared_name false (name_of d.tree) (after_declarator (after_specifiers env ss) d.tree) y r.reads.names))
+      (λ _ j named. parameter-listed env i x y j ss d q.0 q.1 r named)))
 
   pub parameters-sound : (env : Env) (i : Input) → i.names ≡ names_of env → Post (IsParameters env i) (parameters parts i)
   unfolding parameters

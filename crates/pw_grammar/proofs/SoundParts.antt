@@ -1,12 +1,11 @@
 -- What the parts that hold one another read is a tree.
-use Rattle.std.proofs.Common.{◌≡◌, ℕ, ◌≤◌, Bool, true, false, List, [], ◌∷◌}
+use Rattle.std.proofs.Common.{◌≡◌, ℕ, ◌≤◌, Bool, false}
 use Rattle.pw_tree.specs.Levels.{level}
 use Rattle.pw_tree.specs.Numbering.{Numbered, NumberedSpecifiers, NumberedDeclarator}
-use Rattle.pw_tree.specs.Scopes.{Env, has_type, after_expr, after_specifiers, after_declarator}
+use Rattle.pw_tree.specs.Scopes.{Env, after_expr, after_specifiers, after_declarator}
 use Rattle.pw_tree.specs.Spelling.{spell_expr, spell_specifiers, spell_declarator}
-use Rattle.pw_tree.specs.Trees.{Expr, Specifiers, Declarator}
-use Rattle.pw_tree.specs.WellFormed.{WellFormed, WellFormedSpecifiers, WellFormedDeclarator, HasSpecifier, NoStorage}
-use Rattle.pw_tree.specs.WellFormed as tree
+use Rattle.pw_tree.specs.Trees.{Expr, Specifiers}
+use Rattle.pw_tree.specs.WellFormed.{WellFormed, WellFormedSpecifiers, WellFormedDeclarator}
 use Rattle.pw_grammar.specs.declared.place.Place.{Place}
 use Rattle.pw_grammar.specs.Input.{Input, Parser}
 use Rattle.pw_grammar.specs.Parts.{Parts, Declared}

@@ -1,40 +1,26 @@
 -- Postfix expressions that are read are trees (6.3.2).
-use Rattle.std.proofs.Common.{◌≡◌, ℕ, zero, suc, ◌+◌, ◌-◌, ◌==◌, ◌<◌, ◌≤◌, Bool, true, false, not, if◌then◌else◌, List, [], ◌∷◌, length, map, Option, Some, None, Ok, arith, refl, sym, ap, ◌∙◌, subst}
-use Rattle.pw_tree.specs.Levels.{level, chain_level, binary_level}
-use Rattle.pw_tree.specs.Numbering.{past_identifiers, past_tag, past_pointers, past_expr, past_postfixes, past_arguments, past_operations, past_specifiers, past_members, past_member_declarators, past_enumerators, past_declarator, past_core, past_suffixes, past_parameters, past_optional, past_init, past_inits, past_initializer, past_init_declarators, past_decl, past_decls, past_label, past_labels, past_stmt, past_alternative, past_block, past_stmts, past_external, past_comma, NumberedIdentifiers, NumberedStrings, NumberedTag, NumberedPointers, Numbered, NumberedPostfixes, NumberedArguments, NumberedOperations, NumberedSpecifiers, NumberedMembers, NumberedMemberDeclarators, NumberedEnumerators, NumberedDeclarator, NumberedCore, NumberedSuffixes, NumberedParameters, NumberedOptional, NumberedInit, NumberedInits, NumberedInitializer, NumberedInitDeclarators, NumberedDecl, NumberedDecls, NumberedLabel, NumberedLabels, NumberedStmt, NumberedAlternative, NumberedBlock, NumberedStmts, NumberedFunction, NumberedExternal, NumberedExternals, NumberedModule}
-use Rattle.pw_tree.specs.Scopes.{is_typedef_name, declare_plain, declare_plains, has_typedef, has_type, name_of, name_in, declare_name, declare, after_expr, after_postfixes, after_arguments, after_operations, after_specifiers, after_members, after_member_declarators, after_enumerators, after_declarator, after_core, after_suffixes, after_parameter, after_parameters, after_optional, after_init, after_inits, after_initializer, after_name, after_init_declarators, after_decl, after_decls, after_label, after_labels, after_stmt, after_alternative, behind_name, behind_core, enter_first, enter, after_external, Env}
-use Rattle.pw_tree.specs.Spelling.{identifier, separated, trailed, spell_identifiers, spell_strings, spell_tag, spell_qualifiers, spell_pointers, spell_expr, spell_postfixes, spell_arguments, spell_operations, spell_specifiers, spell_members, spell_member_declarators, spell_enumerators, spell_declarator, spell_core, spell_suffixes, spell_parameters, spell_optional, spell_init, spell_inits, spell_initializer, spell_init_declarators, spell_decl, spell_decls, spell_label, spell_labels, spell_stmt, spell_alternative, spell_block, spell_stmts, spell_external, spell_externals, symbols, spelling}
-use Rattle.pw_tree.specs.Symbols as symbol
-use Rattle.pw_tree.specs.Symbols.{Symbol, Reserved, Sign, unary_symbol, binary_mark, assign_mark, access_mark, step_mark}
-use Rattle.pw_tree.specs.Trees.{Word, Pointer, Expr, Identifier, Number, Floating, Character, Wide, Strings, Paren, Postfix, Unary, SizeofType, Cast, Chain, Conditional, Assign, Postfixes, NoPostfix, Index, Call, Select, Step, Arguments, NoArgument, Argument, Operations, NoOperation, Operation, Specifiers, NoSpecifier, Storage, Qualified, Basic, TypedefName, RecordTag, Record, EnumTag, Enum, Members, NoMember, Member, MemberDeclarators, NoMemberDeclarator, PlainMember, BitField, Padding, Enumerators, NoEnumerator, PlainEnumerator, ValuedEnumerator, Declarator, Declaring, Core, Absent, Name, Enclosed, Suffixes, NoSuffix, Array, OpenArray, Prototype, Variadic, Identifiers, Parameters, NoParameter, Parameter, Init, Value, Braces, Inits, NoInit, Listed, Initializer, InitDeclarator, Decl, Label, CaseLabel, DefaultLabel, NameLabel, Stmt, Compound, Expression, Empty, Labeled, If, Switch, While, Do, For, Goto, Continue, Break, Return, Alternative, NoElse, Otherwise, ElseIf, Block, Braced, Stmts, NoStmt, Next, External, Definition, Declaration}
-use Rattle.pw_tree.specs.WellFormed.{NotEmpty, HasPostfix, HasSpecifier, HasMember, HasMemberDeclarator, HasEnumerator, HasParameter, HasInit, NotTypedef, NoneTypedef, MayDeclare, NoStorage, IsSomething, begins_with_typedef, MayEnclose, operand_level, WellFormed, WellFormedPostfixes, WellFormedArguments, WellFormedOperations, WellFormedSpecifiers, WellFormedMembers, WellFormedMemberDeclarators, WellFormedEnumerators, WellFormedDeclarator, WellFormedCore, WellFormedSuffixes, WellFormedParameters, WellFormedOptional, WellFormedInit, WellFormedInits, WellFormedInitializer, WellFormedInitDeclarators, WellFormedDecl, WellFormedDecls, WellFormedLabel, WellFormedLabels, NotLabeled, NotIf, ends_open, alternative_ends_open, MayPrecede, WellFormedStmt, WellFormedAlternative, WellFormedBlock, WellFormedStmts, in_function, WellFormedFunction, WellFormedExternal, WellFormedExternals, WellFormedModule}
-use Rattle.pw_tree.specs.WellFormed as tree
+use Rattle.std.proofs.Common.{◌≡◌, ◌+◌, true, false, [], ◌∷◌, length, Option, Some, None, arith, refl, ap, ◌∙◌, subst}
+use Rattle.pw_tree.specs.Numbering.{Numbered, NumberedPostfixes, NumberedArguments}
+use Rattle.pw_tree.specs.Scopes.{after_expr, after_postfixes, after_arguments, Env}
+use Rattle.pw_tree.specs.Spelling.{spell_expr, spell_postfixes, spell_arguments}
+use Rattle.pw_tree.specs.Symbols.{Symbol, Sign, access_mark, step_mark}
+use Rattle.pw_tree.specs.Trees.{Expr, Postfixes, NoPostfix, Index, Call, Select, Step, Arguments, NoArgument, Argument}
+use Rattle.pw_tree.specs.WellFormed.{WellFormed, WellFormedPostfixes, WellFormedArguments}
 use Rattle.pw_tree.specs.declared.operator.Access.{Access}
 use Rattle.pw_tree.specs.declared.operator.Access.TheVariants as access
-use Rattle.pw_tree.specs.declared.operator.AssignOperator.{AssignOperator}
-use Rattle.pw_tree.specs.declared.operator.AssignOperator.TheVariants as assign
-use Rattle.pw_tree.specs.declared.operator.BinaryOperator.{BinaryOperator}
-use Rattle.pw_tree.specs.declared.operator.BinaryOperator.TheVariants as binary
 use Rattle.pw_tree.specs.declared.operator.StepOperator.{StepOperator}
 use Rattle.pw_tree.specs.declared.operator.StepOperator.TheVariants as stepping
-use Rattle.pw_tree.specs.declared.operator.UnaryOperator.{UnaryOperator}
-use Rattle.pw_tree.specs.declared.operator.UnaryOperator.TheVariants as unary
-use Rattle.pw_tree.specs.declared.symbol.Keyword.TheVariants as k
-use Rattle.pw_tree.specs.declared.symbol.Mark.{Mark}
 use Rattle.pw_tree.specs.declared.symbol.Mark.TheVariants as m
-use Rattle.pw_grammar.specs.declared.place.Place.{Place}
-use Rattle.pw_grammar.specs.declared.place.Place.TheVariants.{Named, Nameless, Either}
 use Rattle.pw_grammar.specs.Input.{Input, first_of_rest, ahead, is_none_left, at_end, step_to, step, same_mark, same_keyword, is_mark, is_keyword, sees, sees_keyword, or_false, Outcome, Parser, and_then, ◌>>=◌, ◌>>◌, pure, ◌<$>◌, fault, asks, peek, here, skip, take_number, word, past, past_keyword, eat, eat_keyword, expect, expect_keyword, identifier_by, ordinary_by, ordinary, declare_all, leave, since, turns, go_on, repeat, list_of, turn_of, while_some, turn_with, one_or_more, unless_comma, Binding}
 use Rattle.pw_grammar.specs.Input as input
-use Rattle.pw_scope.specs.Visible.{visible}
-use Rattle.pw_grammar.specs.Parts.{Parts, Declared}
+use Rattle.pw_grammar.specs.Parts.{Parts}
 use Rattle.pw_grammar.specs.Input as input
-use Rattle.pw_grammar.specs.Expressions.{with_postfixes, with_operations, primary, argument, some_arguments, arguments, index, call, select, step_behind, postfix_by, postfix_operation, postfixes, postfix_expr}
-use Rattle.pw_grammar.proofs.Base.{names_of, names_are, true_is_not_false}
-use Rattle.pw_grammar.proofs.SoundBase.{Post, bind, weaken, choose, choose_parser, Reads, nothing, both, token, sign, expected}
+use Rattle.pw_grammar.specs.Expressions.{with_postfixes, primary, argument, some_arguments, arguments, index, call, select, step_behind, postfix_by, postfix_operation, postfixes, postfix_expr}
+use Rattle.pw_grammar.proofs.Base.{names_of}
+use Rattle.pw_grammar.proofs.SoundBase.{Post, bind, weaken, choose_parser, Reads, nothing, both, token, expected}
 use Rattle.pw_grammar.proofs.SoundLists.{IsItem, Before, IsListed, while-sound, comma-sound}
-use Rattle.pw_grammar.proofs.SoundParts.{IsExpr, IsSpecifiers, IsDeclarator, SoundExpr, Sound}
-use Rattle.pw_grammar.proofs.SoundPrimaries.{IsWord, identifier-sound, primary-sound}
+use Rattle.pw_grammar.proofs.SoundParts.{IsExpr, SoundExpr, Sound}
+use Rattle.pw_grammar.proofs.SoundPrimaries.{identifier-sound, primary-sound}
 
 -- arguments from i on, one or more, behind the comma before them
 pub record IsArguments (env : Env) (i : Input) (es : Arguments) (j : Input) : Type 0 where
@@ -62,15 +48,23 @@ module _ (parts : Parts) (sound : Sound parts) where
       reads = q.reads;
       holds = (q.low, q.holds, tt);
       numbered = (q.numbered, tt);
-      commas = λ k inner c. (both c q.reads, (subst (λ v. Numbered v e) c.next q.numbered, tt)) };
+      commas = λ k inner c. (both c q.reads, (subst (λ v. Numbered v e) c.next q.numbered, tt));
+    };
     more = λ k c es end r.
-      let rest = r.commas j (after_expr env e) c in
-      record {
-        reads = both q.reads rest.0;
-        holds = (q.low, q.holds, r.holds);
-        numbered = (q.numbered, subst (λ v. NumberedArguments false v es) q.reads.next rest.1);
-        commas = λ h inner d. (both d (both q.reads rest.0), (subst (λ v. Numbered v e) d.next q.numbered,
-            subst (λ v. NumberedArguments false v es) (q.reads.next ∙ ap (λ v. v + length (spell_expr e [])) d.next) rest.1)) } }
+        let rest = r.commas j (after_expr env e) c in
+        record {
+          reads = both q.reads rest.0;
+          holds = (q.low, q.holds, r.holds);
+          numbered = (q.numbered, subst (λ v. NumberedArguments false v es) q.reads.next rest.1);
+          commas = λ h inner d. (
+            both d (both q.reads rest.0),
+            (
+              subst (λ v. Numbered v e) d.next q.numbered,
+              subst (λ v. NumberedArguments false v es) (q.reads.next ∙ ap (λ v. v + length (spell_expr e [])) d.next) rest.1,
+            ),
+          );
+        };
+  }
 
   some_arguments-sound : (env : Env) (i : Input) → i.names ≡ names_of env → Post (IsArguments env i) (some_arguments parts i)
   unfolding some_arguments argument
@@ -94,48 +88,73 @@ module _ (parts : Parts) (sound : Sound parts) where
   index-sound env i h names =
       let opening = token i env (Sign m.OpenBracket) h names in
       bind _ (parts.expr 16 (step i)) (λ e. expect m.CloseBracket >> pure (Index i.next e)) (sound.expr 16 (omega arith) env (step i) opening.names) (λ e j q.
-          expected _ j (after_expr env e) m.CloseBracket (pure (Index i.next e)) q.reads.names (λ k closing.
-              (after_expr env e, closing.names, λ ps end r.
-                  record {
-                    reads = both opening (both q.reads (both closing r.reads));
-                    holds = (q.holds, r.holds);
-                    numbered = (refl, subst (λ v. Numbered v e) opening.next q.numbered,
-                        subst (λ v. NumberedPostfixes v ps) (omega (arith, opening.next, q.reads.next, closing.next)) r.numbered) })))
+      expected _ j (after_expr env e) m.CloseBracket (pure (Index i.next e)) q.reads.names (λ k closing. (
+        after_expr env e,
+        closing.names,
+        λ ps end r.
+            record {
+              reads = both opening (both q.reads (both closing r.reads));
+              holds = (q.holds, r.holds);
+              numbered = (
+                refl,
+                subst (λ v. Numbered v e) opening.next q.numbered,
+                subst (λ v. NumberedPostfixes v ps) (omega (arith, opening.next, q.reads.next, closing.next)) r.numbered,
+              );
+            },
+      )))
 
   call-sound : (env : Env) (i : Input) → ahead i ≡ Some (Sign m.OpenParen) → i.names ≡ names_of env → Post (IsPostfix env i) (call parts i)
   unfolding call spell_expr after_expr WellFormed Numbered
   call-sound env i h names =
       let opening = token i env (Sign m.OpenParen) h names in
       bind _ (arguments parts (step i)) (λ es. expect m.CloseParen >> pure (Call i.next es)) (arguments-sound env (step i) opening.names) (λ es j q.
-          expected _ j (after_arguments env es) m.CloseParen (pure (Call i.next es)) q.0.names (λ k closing.
-              (after_arguments env es, closing.names, λ ps end r.
-                  record {
-                    reads = both opening (both q.0 (both closing r.reads));
-                    holds = (q.1, r.holds);
-                    numbered = (refl, subst (λ v. NumberedArguments true v es) opening.next q.2,
-                        subst (λ v. NumberedPostfixes v ps) (omega (arith, opening.next, q.0.next, closing.next)) r.numbered) })))
+      expected _ j (after_arguments env es) m.CloseParen (pure (Call i.next es)) q.0.names (λ k closing. (
+        after_arguments env es,
+        closing.names,
+        λ ps end r.
+            record {
+              reads = both opening (both q.0 (both closing r.reads));
+              holds = (q.1, r.holds);
+              numbered = (
+                refl,
+                subst (λ v. NumberedArguments true v es) opening.next q.2,
+                subst (λ v. NumberedPostfixes v ps) (omega (arith, opening.next, q.0.next, closing.next)) r.numbered,
+              );
+            },
+      )))
 
   select-sound : (a : Access) (env : Env) (i : Input) → ahead i ≡ Some (Sign (access_mark a)) → i.names ≡ names_of env → Post (IsPostfix env i) (select parts a i)
   unfolding select spell_expr after_expr WellFormed Numbered
   select-sound a env i h names =
       let opening = token i env (Sign (access_mark a)) h names in
-      bind _ (input.identifier (step i)) (λ w. pure (Select i.next a w)) (identifier-sound env (step i) opening.names) (λ w j q.
-          (env, q.reads.names, λ ps end r.
-              record {
-                reads = both opening (both q.reads r.reads);
-                holds = r.holds;
-                numbered = (refl, q.numbered ∙ opening.next,
-                    subst (λ v. NumberedPostfixes v ps) (omega (arith, opening.next, q.reads.next)) r.numbered) }))
+      bind _ (input.identifier (step i)) (λ w. pure (Select i.next a w)) (identifier-sound env (step i) opening.names) (λ w j q. (
+        env,
+        q.reads.names,
+        λ ps end r.
+            record {
+              reads = both opening (both q.reads r.reads);
+              holds = r.holds;
+              numbered = (
+                refl,
+                q.numbered ∙ opening.next,
+                subst (λ v. NumberedPostfixes v ps) (omega (arith, opening.next, q.reads.next)) r.numbered,
+              );
+            },
+      ))
 
   stepping-sound : (op : StepOperator) (env : Env) (i : Input) → ahead i ≡ Some (Sign (step_mark op)) → i.names ≡ names_of env → Post (IsPostfix env i) (step_behind op i)
   unfolding step_behind spell_expr after_expr WellFormed Numbered
   stepping-sound op env i h names =
-      let opening = token i env (Sign (step_mark op)) h names in
-      (env, opening.names, λ ps end r.
-          record {
-            reads = both opening r.reads;
-            holds = r.holds;
-            numbered = (refl, subst (λ v. NumberedPostfixes v ps) opening.next r.numbered) })
+      let opening = token i env (Sign (step_mark op)) h names in (
+        env,
+        opening.names,
+        λ ps end r.
+            record {
+              reads = both opening r.reads;
+              holds = r.holds;
+              numbered = (refl, subst (λ v. NumberedPostfixes v ps) opening.next r.numbered);
+            },
+      )
 
   no_postfix-sound : (env : Env) (i : Input) → i.names ≡ names_of env → IsPostfixes env i NoPostfix i
   unfolding spell_expr after_expr WellFormed Numbered
@@ -178,5 +197,5 @@ module _ (parts : Parts) (sound : Sound parts) where
   unfolding postfix_expr
   postfix-sound env i names =
       bind _ (primary parts i) (λ e. postfixes parts >>= λ ps. pure (with_postfixes e ps)) (primary-sound parts sound env i names) (λ e j q.
-          bind _ (postfixes parts j) (λ ps. pure (with_postfixes e ps)) (postfixes-sound (after_expr env e) j q.reads.names) (λ ps k r.
-              whole-postfix env i j k e ps q r))
+      bind _ (postfixes parts j) (λ ps. pure (with_postfixes e ps)) (postfixes-sound (after_expr env e) j q.reads.names) (λ ps k r.
+      whole-postfix env i j k e ps q r))

@@ -1,41 +1,26 @@
 -- Type names and primary expressions that are read are trees (6.3.1, 6.5.5).
-use Rattle.std.proofs.Common.{◌≡◌, ℕ, zero, suc, ◌+◌, ◌-◌, ◌==◌, ◌<◌, ◌≤◌, Bool, true, false, not, if◌then◌else◌, List, [], ◌∷◌, length, map, Option, Some, None, Ok, Err, arith, refl, sym, ap, ◌∙◌, subst}
-use Rattle.pw_tree.specs.Levels.{level, chain_level, binary_level}
-use Rattle.pw_tree.specs.Numbering.{past_identifiers, past_tag, past_pointers, past_expr, past_postfixes, past_arguments, past_operations, past_specifiers, past_members, past_member_declarators, past_enumerators, past_declarator, past_core, past_suffixes, past_parameters, past_optional, past_init, past_inits, past_initializer, past_init_declarators, past_decl, past_decls, past_label, past_labels, past_stmt, past_alternative, past_block, past_stmts, past_external, past_comma, NumberedIdentifiers, NumberedStrings, NumberedTag, NumberedPointers, Numbered, NumberedPostfixes, NumberedArguments, NumberedOperations, NumberedSpecifiers, NumberedMembers, NumberedMemberDeclarators, NumberedEnumerators, NumberedDeclarator, NumberedCore, NumberedSuffixes, NumberedParameters, NumberedOptional, NumberedInit, NumberedInits, NumberedInitializer, NumberedInitDeclarators, NumberedDecl, NumberedDecls, NumberedLabel, NumberedLabels, NumberedStmt, NumberedAlternative, NumberedBlock, NumberedStmts, NumberedFunction, NumberedExternal, NumberedExternals, NumberedModule}
-use Rattle.pw_tree.specs.Scopes.{is_typedef_name, declare_plain, declare_plains, has_typedef, has_type, name_of, name_in, declare_name, declare, after_expr, after_postfixes, after_arguments, after_operations, after_specifiers, after_members, after_member_declarators, after_enumerators, after_declarator, after_core, after_suffixes, after_parameter, after_parameters, after_optional, after_init, after_inits, after_initializer, after_name, after_init_declarators, after_decl, after_decls, after_label, after_labels, after_stmt, after_alternative, behind_name, behind_core, enter_first, enter, after_external, Env}
-use Rattle.pw_tree.specs.Spelling.{identifier, separated, trailed, spell_identifiers, spell_strings, spell_tag, spell_qualifiers, spell_pointers, spell_expr, spell_postfixes, spell_arguments, spell_operations, spell_specifiers, spell_members, spell_member_declarators, spell_enumerators, spell_declarator, spell_core, spell_suffixes, spell_parameters, spell_optional, spell_init, spell_inits, spell_initializer, spell_init_declarators, spell_decl, spell_decls, spell_label, spell_labels, spell_stmt, spell_alternative, spell_block, spell_stmts, spell_external, spell_externals, symbols, spelling}
+use Rattle.std.proofs.Common.{◌≡◌, ℕ, Bool, true, false, if◌then◌else◌, List, [], ◌∷◌, Option, Some, None, Err, arith, refl, sym, ap, ◌∙◌, subst}
+use Rattle.pw_tree.specs.Numbering.{past_specifiers, NumberedStrings, Numbered, NumberedSpecifiers, NumberedDeclarator}
+use Rattle.pw_tree.specs.Scopes.{is_typedef_name, has_type, after_expr, after_specifiers, after_declarator, Env}
+use Rattle.pw_tree.specs.Spelling.{identifier, spell_strings, spell_expr, spell_specifiers, spell_declarator}
 use Rattle.pw_tree.specs.Symbols as symbol
 use Rattle.pw_tree.specs.Symbols.{Symbol, Reserved, Sign, unary_symbol, binary_mark, assign_mark, access_mark, step_mark}
-use Rattle.pw_tree.specs.Trees.{Word, Pointer, Expr, Identifier, Number, Floating, Character, Wide, Strings, Paren, Postfix, Unary, SizeofType, Cast, Chain, Conditional, Assign, Postfixes, NoPostfix, Index, Call, Select, Step, Arguments, NoArgument, Argument, Operations, NoOperation, Operation, Specifiers, NoSpecifier, Storage, Qualified, Basic, TypedefName, RecordTag, Record, EnumTag, Enum, Members, NoMember, Member, MemberDeclarators, NoMemberDeclarator, PlainMember, BitField, Padding, Enumerators, NoEnumerator, PlainEnumerator, ValuedEnumerator, Declarator, Declaring, Core, Absent, Name, Enclosed, Suffixes, NoSuffix, Array, OpenArray, Prototype, Variadic, Identifiers, Parameters, NoParameter, Parameter, Init, Value, Braces, Inits, NoInit, Listed, Initializer, InitDeclarator, Decl, Label, CaseLabel, DefaultLabel, NameLabel, Stmt, Compound, Expression, Empty, Labeled, If, Switch, While, Do, For, Goto, Continue, Break, Return, Alternative, NoElse, Otherwise, ElseIf, Block, Braced, Stmts, NoStmt, Next, External, Definition, Declaration}
+use Rattle.pw_tree.specs.Trees.{Word, Identifier, Strings, Paren, Specifiers, NoSpecifier, Storage, Qualified, Basic, TypedefName, RecordTag, Record, EnumTag, Enum, Declarator}
 use Rattle.pw_tree.specs.WellFormed.{NotEmpty, HasPostfix, HasSpecifier, HasMember, HasMemberDeclarator, HasEnumerator, HasParameter, HasInit, NotTypedef, NoneTypedef, MayDeclare, NoStorage, IsSomething, begins_with_typedef, MayEnclose, operand_level, WellFormed, WellFormedPostfixes, WellFormedArguments, WellFormedOperations, WellFormedSpecifiers, WellFormedMembers, WellFormedMemberDeclarators, WellFormedEnumerators, WellFormedDeclarator, WellFormedCore, WellFormedSuffixes, WellFormedParameters, WellFormedOptional, WellFormedInit, WellFormedInits, WellFormedInitializer, WellFormedInitDeclarators, WellFormedDecl, WellFormedDecls, WellFormedLabel, WellFormedLabels, NotLabeled, NotIf, ends_open, alternative_ends_open, MayPrecede, WellFormedStmt, WellFormedAlternative, WellFormedBlock, WellFormedStmts, in_function, WellFormedFunction, WellFormedExternal, WellFormedExternals, WellFormedModule}
 use Rattle.pw_tree.specs.WellFormed as tree
-use Rattle.pw_tree.specs.declared.operator.Access.{Access}
-use Rattle.pw_tree.specs.declared.operator.Access.TheVariants as access
-use Rattle.pw_tree.specs.declared.operator.AssignOperator.{AssignOperator}
-use Rattle.pw_tree.specs.declared.operator.AssignOperator.TheVariants as assign
-use Rattle.pw_tree.specs.declared.operator.BinaryOperator.{BinaryOperator}
-use Rattle.pw_tree.specs.declared.operator.BinaryOperator.TheVariants as binary
-use Rattle.pw_tree.specs.declared.operator.StepOperator.{StepOperator}
-use Rattle.pw_tree.specs.declared.operator.StepOperator.TheVariants as stepping
-use Rattle.pw_tree.specs.declared.operator.UnaryOperator.{UnaryOperator}
-use Rattle.pw_tree.specs.declared.operator.UnaryOperator.TheVariants as unary
-use Rattle.pw_tree.specs.declared.symbol.Keyword.TheVariants as k
-use Rattle.pw_tree.specs.declared.symbol.Mark.{Mark}
 use Rattle.pw_tree.specs.declared.symbol.Mark.TheVariants as m
-use Rattle.pw_grammar.specs.declared.place.Place.{Place}
-use Rattle.pw_grammar.specs.declared.place.Place.TheVariants.{Named, Nameless, Either}
+use Rattle.pw_grammar.specs.declared.place.Place.TheVariants.{Nameless}
 use Rattle.pw_grammar.specs.Input.{Input, first_of_rest, ahead, is_none_left, at_end, step_to, step, same_mark, same_keyword, is_mark, is_keyword, sees, sees_keyword, or_false, Outcome, Parser, and_then, ◌>>=◌, ◌>>◌, pure, ◌<$>◌, fault, asks, peek, here, skip, take_number, word, past, past_keyword, eat, eat_keyword, expect, expect_keyword, identifier_by, ordinary_by, ordinary, declare_all, leave, since, turns, go_on, repeat, list_of, turn_of, while_some, turn_with, one_or_more, unless_comma, Binding}
 use Rattle.pw_grammar.specs.Input as input
 use Rattle.pw_scope.specs.Visible.{visible}
-use Rattle.pw_grammar.specs.Parts.{Parts, Declared}
+use Rattle.pw_grammar.specs.Parts.{Parts}
 use Rattle.pw_grammar.specs.Expressions.{string_by, string, strings, some_specifiers, type_name, enclosed_type_name, parenthesized, primary_by, primary}
 use Rattle.pw_grammar.specs.Tests.{is_empty}
 use Rattle.pw_grammar.proofs.Base.{names_of, names_are, true_is_not_false}
 use Rattle.pw_grammar.proofs.Follow.{is_text}
-use Rattle.pw_grammar.proofs.Knows.{MayHold, place_of, declared}
-use Rattle.pw_grammar.proofs.SoundBase.{Post, bind, weaken, choose, choose_parser, Reads, nothing, both, token, sign, expected}
+use Rattle.pw_grammar.proofs.SoundBase.{Post, bind, choose, Reads, nothing, both, token, expected}
 use Rattle.pw_grammar.proofs.SoundLists.{IsItem, while-sound}
-use Rattle.pw_grammar.proofs.SoundParts.{IsExpr, IsSpecifiers, IsDeclarator, SoundExpr, Sound}
+use Rattle.pw_grammar.proofs.SoundParts.{IsExpr, IsSpecifiers, SoundExpr, Sound}
 
 -- ---- words
 
@@ -90,7 +75,8 @@ string-sound env i names = by (ahead i) refl
     more s w is n t ws k h = record {
       reads = subst (λ v. Reads i k env (λ z. symbol.Text v ∷ spell_strings ws z)) (sym is) (both t h.reads);
       numbered = (n, subst (λ v. NumberedStrings v ws) t.next h.numbered);
-      begins = λ _. tt }
+      begins = λ _. tt;
+    }
 
     none : is_text (ahead i) ≡ false → IsStrings env i [] i
     none f = record { reads = nothing i env names; numbered = tt; begins = λ t. true_is_not_false (sym f ∙ t) }
@@ -114,25 +100,26 @@ module _ (parts : Parts) (sound : Sound parts) where
   parenthesized-sound env i h names =
       let opening = token i env (Sign m.OpenParen) h names in
       bind _ (parts.expr 16 (step i)) (λ e. expect m.CloseParen >> pure (Paren i.next e)) (sound.expr 16 (omega arith) env (step i) opening.names) (λ e j q.
-          expected _ j (after_expr env e) m.CloseParen (pure (Paren i.next e)) q.reads.names (λ k closing.
-              record {
-                reads = both opening (both q.reads closing);
-                holds = q.holds;
-                low = omega arith;
-                numbered = (refl, subst (λ v. Numbered v e) opening.next q.numbered) }))
+      expected _ j (after_expr env e) m.CloseParen (pure (Paren i.next e)) q.reads.names (λ k closing.
+      record {
+        reads = both opening (both q.reads closing);
+        holds = q.holds;
+        low = omega arith;
+        numbered = (refl, subst (λ v. Numbered v e) opening.next q.numbered);
+      }))
 
   primary-by : (env : Env) (i : Input) → i.names ≡ names_of env → (s : Option Symbol) → ahead i ≡ s → Post (IsExpr 0 env i) (primary_by parts s i)
   unfolding spell_expr after_expr WellFormed Numbered
   primary-by env i names (Some (symbol.Identifier s)) h =
       bind _ (ordinary i) (λ w. pure (Identifier w)) (ordinary-sound env i names) (λ w j q.
-          record { reads = q.reads; holds = q.plain; low = omega arith; numbered = q.numbered })
+      record { reads = q.reads; holds = q.plain; low = omega arith; numbered = q.numbered })
   primary-by env i names (Some (symbol.Number s)) h = record { reads = token i env (symbol.Number s) h names; holds = tt; low = omega arith; numbered = refl }
   primary-by env i names (Some (symbol.Floating s)) h = record { reads = token i env (symbol.Floating s) h names; holds = tt; low = omega arith; numbered = refl }
   primary-by env i names (Some (symbol.Character s)) h = record { reads = token i env (symbol.Character s) h names; holds = tt; low = omega arith; numbered = refl }
   primary-by env i names (Some (symbol.Wide s)) h = record { reads = token i env (symbol.Wide s) h names; holds = tt; low = omega arith; numbered = refl }
   primary-by env i names (Some (symbol.Text s)) h =
       bind _ (strings i) (λ ws. pure (Strings ws)) (strings-sound env i names) (λ ws j q.
-          record { reads = q.reads; holds = q.begins (ap is_text h); low = omega arith; numbered = q.numbered })
+      record { reads = q.reads; holds = q.begins (ap is_text h); low = omega arith; numbered = q.numbered })
   primary-by env i names (Some (Sign m.OpenParen)) h = parenthesized-sound env i h names
   primary-by env i names None h = tt
   primary-by env i names (Some _) h = tt
@@ -173,15 +160,16 @@ module _ (parts : Parts) (sound : Sound parts) where
   unfolding type_name
   type_name-sound env i names =
       bind _ (some_specifiers parts false i) (λ ss. parts.declarator Nameless (has_type ss) >>= λ d. pure (ss, d.tree)) (some_specifiers-sound false env i names) (λ ss j q.
-          bind _ (parts.declarator Nameless (has_type ss) j) (λ d. pure (ss, d.tree)) (sound.declarator Nameless (has_type ss) (after_specifiers env ss) j q.0.reads.names) (λ d k r.
-              record {
-                reads = both q.0.reads r.reads;
-                has = q.1;
-                none = q.0.may;
-                specifiers = q.0.holds;
-                declarator = r.holds;
-                numbered = q.0.numbered;
-                behind = subst (λ v. NumberedDeclarator v d.tree) q.0.reads.next r.numbered }))
+      bind _ (parts.declarator Nameless (has_type ss) j) (λ d. pure (ss, d.tree)) (sound.declarator Nameless (has_type ss) (after_specifiers env ss) j q.0.reads.names) (λ d k r.
+      record {
+        reads = both q.0.reads r.reads;
+        has = q.1;
+        none = q.0.may;
+        specifiers = q.0.holds;
+        declarator = r.holds;
+        numbered = q.0.numbered;
+        behind = subst (λ v. NumberedDeclarator v d.tree) q.0.reads.next r.numbered;
+      }))
 
   -- a type name in parentheses, of which the `(` stands next
   pub record IsEnclosed (env : Env) (i : Input) (named : Specifiers × Declarator) (j : Input) : Type 0 where
@@ -195,6 +183,6 @@ module _ (parts : Parts) (sound : Sound parts) where
   unfolding enclosed_type_name
   enclosed-sound env i names =
       expected _ i env m.OpenParen (type_name parts >>= λ named. expect m.CloseParen >> pure named) names (λ inner opening.
-          bind _ (type_name parts inner) (λ named. expect m.CloseParen >> pure named) (type_name-sound env inner opening.names) (λ named behind q.
-              expected _ behind (after_declarator (after_specifiers env named.0) named.1) m.CloseParen (pure named) q.reads.names (λ j closing.
-                  record { inner = inner; behind = behind; opening = opening; name = q; closing = closing })))
+      bind _ (type_name parts inner) (λ named. expect m.CloseParen >> pure named) (type_name-sound env inner opening.names) (λ named behind q.
+      expected _ behind (after_declarator (after_specifiers env named.0) named.1) m.CloseParen (pure named) q.reads.names (λ j closing.
+      record { inner = inner; behind = behind; opening = opening; name = q; closing = closing })))

@@ -1,40 +1,24 @@
 -- Specifiers that are read are trees (6.5.1 to 6.5.3, 6.5.6).
-use Rattle.std.proofs.Common.{◌≡◌, ℕ, zero, suc, ◌+◌, ◌-◌, ◌==◌, ◌<◌, ◌≤◌, Bool, true, false, not, if◌then◌else◌, List, [], ◌∷◌, length, map, Option, Some, None, Ok, Err, ◌||◌, ◌&&◌, arith, refl, sym, ap, ◌∙◌, subst}
-use Rattle.pw_tree.specs.Levels.{level, chain_level, binary_level}
-use Rattle.pw_tree.specs.Numbering.{past_identifiers, past_tag, past_pointers, past_expr, past_postfixes, past_arguments, past_operations, past_specifiers, past_members, past_member_declarators, past_enumerators, past_declarator, past_core, past_suffixes, past_parameters, past_optional, past_init, past_inits, past_initializer, past_init_declarators, past_decl, past_decls, past_label, past_labels, past_stmt, past_alternative, past_block, past_stmts, past_external, past_comma, NumberedIdentifiers, NumberedStrings, NumberedTag, NumberedPointers, Numbered, NumberedPostfixes, NumberedArguments, NumberedOperations, NumberedSpecifiers, NumberedMembers, NumberedMemberDeclarators, NumberedEnumerators, NumberedDeclarator, NumberedCore, NumberedSuffixes, NumberedParameters, NumberedOptional, NumberedInit, NumberedInits, NumberedInitializer, NumberedInitDeclarators, NumberedDecl, NumberedDecls, NumberedLabel, NumberedLabels, NumberedStmt, NumberedAlternative, NumberedBlock, NumberedStmts, NumberedFunction, NumberedExternal, NumberedExternals, NumberedModule}
-use Rattle.pw_tree.specs.Scopes.{is_typedef_name, declare_plain, declare_plains, has_typedef, has_type, name_of, name_in, declare_name, declare, after_expr, after_postfixes, after_arguments, after_operations, after_specifiers, after_members, after_member_declarators, after_enumerators, after_declarator, after_core, after_suffixes, after_parameter, after_parameters, after_optional, after_init, after_inits, after_initializer, after_name, after_init_declarators, after_decl, after_decls, after_label, after_labels, after_stmt, after_alternative, behind_name, behind_core, enter_first, enter, after_external, Env}
-use Rattle.pw_tree.specs.Spelling.{identifier, separated, trailed, spell_identifiers, spell_strings, spell_tag, spell_qualifiers, spell_pointers, spell_expr, spell_postfixes, spell_arguments, spell_operations, spell_specifiers, spell_members, spell_member_declarators, spell_enumerators, spell_declarator, spell_core, spell_suffixes, spell_parameters, spell_optional, spell_init, spell_inits, spell_initializer, spell_init_declarators, spell_decl, spell_decls, spell_label, spell_labels, spell_stmt, spell_alternative, spell_block, spell_stmts, spell_external, spell_externals, symbols, spelling}
+use Rattle.std.proofs.Common.{◌≡◌, ℕ, zero, suc, Bool, true, false, if◌then◌else◌, List, [], ◌∷◌, Option, Some, None, ◌||◌, arith, refl, sym, ap, ◌∙◌, subst}
+use Rattle.pw_tree.specs.Numbering.{NumberedTag, Numbered, NumberedSpecifiers, NumberedMembers, NumberedMemberDeclarators, NumberedEnumerators}
+use Rattle.pw_tree.specs.Scopes.{is_typedef_name, has_type, after_expr, after_specifiers, after_members, after_member_declarators, after_enumerators, Env}
+use Rattle.pw_tree.specs.Spelling.{spell_tag, spell_expr, spell_specifiers, spell_members}
 use Rattle.pw_tree.specs.Symbols as symbol
 use Rattle.pw_tree.specs.Symbols.{Symbol, Reserved, Sign, unary_symbol, binary_mark, assign_mark, access_mark, step_mark}
-use Rattle.pw_tree.specs.Trees.{Word, Pointer, Expr, Identifier, Number, Floating, Character, Wide, Strings, Paren, Postfix, Unary, SizeofType, Cast, Chain, Conditional, Assign, Postfixes, NoPostfix, Index, Call, Select, Step, Arguments, NoArgument, Argument, Operations, NoOperation, Operation, Specifiers, NoSpecifier, Storage, Qualified, Basic, TypedefName, RecordTag, Record, EnumTag, Enum, Members, NoMember, Member, MemberDeclarators, NoMemberDeclarator, PlainMember, BitField, Padding, Enumerators, NoEnumerator, PlainEnumerator, ValuedEnumerator, Declarator, Declaring, Core, Absent, Name, Enclosed, Suffixes, NoSuffix, Array, OpenArray, Prototype, Variadic, Identifiers, Parameters, NoParameter, Parameter, Init, Value, Braces, Inits, NoInit, Listed, Initializer, InitDeclarator, Decl, Label, CaseLabel, DefaultLabel, NameLabel, Stmt, Compound, Expression, Empty, Labeled, If, Switch, While, Do, For, Goto, Continue, Break, Return, Alternative, NoElse, Otherwise, ElseIf, Block, Braced, Stmts, NoStmt, Next, External, Definition, Declaration}
-use Rattle.pw_tree.specs.WellFormed.{NotEmpty, HasPostfix, HasSpecifier, HasMember, HasMemberDeclarator, HasEnumerator, HasParameter, HasInit, NotTypedef, NoneTypedef, MayDeclare, NoStorage, IsSomething, begins_with_typedef, MayEnclose, operand_level, WellFormed, WellFormedPostfixes, WellFormedArguments, WellFormedOperations, WellFormedSpecifiers, WellFormedMembers, WellFormedMemberDeclarators, WellFormedEnumerators, WellFormedDeclarator, WellFormedCore, WellFormedSuffixes, WellFormedParameters, WellFormedOptional, WellFormedInit, WellFormedInits, WellFormedInitializer, WellFormedInitDeclarators, WellFormedDecl, WellFormedDecls, WellFormedLabel, WellFormedLabels, NotLabeled, NotIf, ends_open, alternative_ends_open, MayPrecede, WellFormedStmt, WellFormedAlternative, WellFormedBlock, WellFormedStmts, in_function, WellFormedFunction, WellFormedExternal, WellFormedExternals, WellFormedModule}
-use Rattle.pw_tree.specs.WellFormed as tree
-use Rattle.pw_tree.specs.declared.operator.Access.{Access}
-use Rattle.pw_tree.specs.declared.operator.Access.TheVariants as access
-use Rattle.pw_tree.specs.declared.operator.AssignOperator.{AssignOperator}
-use Rattle.pw_tree.specs.declared.operator.AssignOperator.TheVariants as assign
-use Rattle.pw_tree.specs.declared.operator.BinaryOperator.{BinaryOperator}
-use Rattle.pw_tree.specs.declared.operator.BinaryOperator.TheVariants as binary
-use Rattle.pw_tree.specs.declared.operator.StepOperator.{StepOperator}
-use Rattle.pw_tree.specs.declared.operator.StepOperator.TheVariants as stepping
-use Rattle.pw_tree.specs.declared.operator.UnaryOperator.{UnaryOperator}
-use Rattle.pw_tree.specs.declared.operator.UnaryOperator.TheVariants as unary
+use Rattle.pw_tree.specs.Trees.{Word, Specifiers, NoSpecifier, Storage, Qualified, Basic, TypedefName, RecordTag, Record, EnumTag, Enum, Members, NoMember, Member, MemberDeclarators, Enumerators}
+use Rattle.pw_tree.specs.WellFormed.{HasSpecifier, HasMember, NoStorage, WellFormed, WellFormedSpecifiers, WellFormedMembers}
 use Rattle.pw_tree.specs.declared.symbol.Keyword.TheVariants as k
-use Rattle.pw_tree.specs.declared.symbol.Mark.{Mark}
 use Rattle.pw_tree.specs.declared.symbol.Mark.TheVariants as m
-use Rattle.pw_grammar.specs.declared.place.Place.{Place}
-use Rattle.pw_grammar.specs.declared.place.Place.TheVariants.{Named, Nameless, Either}
 use Rattle.pw_grammar.specs.Input.{Input, first_of_rest, ahead, is_none_left, at_end, step_to, step, same_mark, same_keyword, is_mark, is_keyword, sees, sees_keyword, or_false, Outcome, Parser, and_then, ◌>>=◌, ◌>>◌, pure, ◌<$>◌, fault, asks, peek, here, skip, take_number, word, past, past_keyword, eat, eat_keyword, expect, expect_keyword, identifier_by, ordinary_by, ordinary, declare_all, leave, since, turns, go_on, repeat, list_of, turn_of, while_some, turn_with, one_or_more, unless_comma, Binding}
 use Rattle.pw_grammar.specs.Input as input
 use Rattle.pw_scope.specs.Visible.{visible}
-use Rattle.pw_grammar.specs.Parts.{Parts, Declared}
+use Rattle.pw_grammar.specs.Parts.{Parts}
 use Rattle.pw_tree.specs.declared.expr.BasicType.{BasicType}
 use Rattle.pw_tree.specs.declared.expr.Qualifier.{Qualifier}
 use Rattle.pw_tree.specs.declared.expr.RecordKind.{RecordKind}
 use Rattle.pw_tree.specs.declared.expr.StorageClass.{StorageClass}
 use Rattle.pw_tree.specs.declared.symbol.Keyword.{Keyword}
 use Rattle.pw_scope.specs.Visible.{visible}
-use Rattle.pw_tree.specs.Scopes as scopes
 use Rattle.pw_tree.specs.Symbols.{storage_word, qualifier_word, basic_word, record_word}
 use Rattle.pw_grammar.specs.declared.word.SpecifierWord.{SpecifierWord}
 use Rattle.pw_grammar.specs.declared.word.SpecifierWord.TheVariants as words
@@ -43,12 +27,12 @@ use Rattle.pw_grammar.specs.Specifiers.{tag_by, tag, tagged_record, tagged_enum,
 use Rattle.pw_grammar.specs.Tests.{specifier_word}
 use Rattle.pw_grammar.specs.Expressions.{some_specifiers}
 use Rattle.pw_grammar.proofs.Base.{names_of, names_are}
-use Rattle.pw_grammar.proofs.Knows.{MayHold, place_of, declared}
-use Rattle.pw_grammar.proofs.Lengths.{length-members, length-enumerators, length-tag}
-use Rattle.pw_grammar.proofs.SoundBase.{Post, bind, weaken, choose, choose_parser, Reads, nothing, both, token, sign, expected, eaten, renamed}
-use Rattle.pw_grammar.proofs.SoundLists.{IsItem, Before, IsTurn, IsListed, repeat-sound, while-sound, comma-sound}
-use Rattle.pw_grammar.proofs.SoundParts.{IsExpr, IsSpecifiers, IsDeclarator, SoundExpr, SoundSpecifiers, Sound}
-use Rattle.pw_grammar.proofs.SoundPrimaries.{IsWord, identifier-sound, some_specifiers-sound}
+use Rattle.pw_grammar.proofs.Knows.{MayHold}
+use Rattle.pw_grammar.proofs.Lengths.{length-enumerators}
+use Rattle.pw_grammar.proofs.SoundBase.{Post, bind, weaken, choose_parser, Reads, nothing, both, token, sign, expected, eaten, renamed}
+use Rattle.pw_grammar.proofs.SoundLists.{IsTurn, repeat-sound}
+use Rattle.pw_grammar.proofs.SoundParts.{IsSpecifiers, SoundSpecifiers, Sound}
+use Rattle.pw_grammar.proofs.SoundPrimaries.{some_specifiers-sound}
 use Rattle.pw_grammar.proofs.SoundMembers.{IsMemberDeclarators, member_declarators-sound, IsEnumeration, enumerators-sound}
 
 -- ---- keywords
@@ -119,20 +103,25 @@ module _ (parts : Parts) (sound : Sound parts) where
   member-whole env i j x k end ss ds ms q has r closing s = record {
     reads = both q.reads (both r.reads (both closing s.reads));
     holds = (has, q.may, q.holds, r.has, r.holds, s.holds);
-    numbered = (q.numbered, subst (λ v. NumberedMemberDeclarators true v ds) q.reads.next r.numbered,
-        subst (λ v. NumberedMembers v ms) (omega (arith, q.reads.next, r.reads.next, closing.next)) s.numbered) }
+    numbered = (
+      q.numbered,
+      subst (λ v. NumberedMemberDeclarators true v ds) q.reads.next r.numbered,
+      subst (λ v. NumberedMembers v ms) (omega (arith, q.reads.next, r.reads.next, closing.next)) s.numbered,
+    );
+  }
 
   member-sound : (env : Env) (i : Input) → i.names ≡ names_of env → Post (IsMember env i) (member parts i)
   unfolding member
   member-sound env i names =
       bind _ (some_specifiers parts false i) (λ ss. member_declarators parts (has_type ss) >>= λ ds. expect m.Semicolon >> pure (Member ss ds)) (some_specifiers-sound parts sound false env i names) (λ ss j q.
-          bind _ (member_declarators parts (has_type ss) j) (λ ds. expect m.Semicolon >> pure (Member ss ds)) (member_declarators-sound parts sound (has_type ss) (after_specifiers env ss) j q.0.reads.names) (λ ds x r.
-              expected _ x (after_member_declarators (after_specifiers env ss) ds) m.Semicolon (pure (Member ss ds)) r.reads.names (λ k closing.
-                  record {
-                    inner = after_member_declarators (after_specifiers env ss) ds;
-                    names = closing.names;
-                    before = λ ms end s. member-whole env i j x k end ss ds ms q.0 q.1 r closing s;
-                    has = λ ms. tt })))
+      bind _ (member_declarators parts (has_type ss) j) (λ ds. expect m.Semicolon >> pure (Member ss ds)) (member_declarators-sound parts sound (has_type ss) (after_specifiers env ss) j q.0.reads.names) (λ ds x r.
+      expected _ x (after_member_declarators (after_specifiers env ss) ds) m.Semicolon (pure (Member ss ds)) r.reads.names (λ k closing.
+      record {
+        inner = after_member_declarators (after_specifiers env ss) ds;
+        names = closing.names;
+        before = λ ms end s. member-whole env i j x k end ss ds ms q.0 q.1 r closing s;
+        has = λ ms. tt;
+      })))
 
   last_member : (env : Env) (i j k : Input) (f : Members → Members) → (q : IsMember env i f j) → Reads j k q.inner (λ z. Sign m.CloseBrace ∷ z) → IsMemberList env i (f NoMember) k
   last_member env i j k f q c =
@@ -203,92 +192,138 @@ module _ (parts : Parts) (sound : Sound parts) where
   unfolding spell_expr after_expr WellFormed Numbered
   storage-before c typed env i h names =
       let t = token i env (Reserved (storage_word c)) h names in
-      record { inner = env; names = t.names; before = λ ss k r. record {
-        reads = both t r.reads;
-        holds = subst (λ v. WellFormedSpecifiers env v ss) (or_same typed) r.holds;
-        may = tt;
-        numbered = (refl, subst (λ v. NumberedSpecifiers v ss) t.next r.numbered) } }
+      record {
+        inner = env;
+        names = t.names;
+        before = λ ss k r. record {
+          reads = both t r.reads;
+          holds = subst (λ v. WellFormedSpecifiers env v ss) (or_same typed) r.holds;
+          may = tt;
+          numbered = (refl, subst (λ v. NumberedSpecifiers v ss) t.next r.numbered);
+        };
+      }
 
   qualified-before : (c : Qualifier) (storage typed : Bool) (env : Env) (i : Input) → ahead i ≡ Some (Reserved (qualifier_word c)) → i.names ≡ names_of env → IsBefore storage typed env i (Qualified i.next c) (step i)
   unfolding spell_expr after_expr WellFormed Numbered
   qualified-before c storage typed env i h names =
       let t = token i env (Reserved (qualifier_word c)) h names in
-      record { inner = env; names = t.names; before = λ ss k r. record {
-        reads = both t r.reads;
-        holds = subst (λ v. WellFormedSpecifiers env v ss) (or_same typed) r.holds;
-        may = may_as storage ss (Qualified i.next c ss) (λ n. n) r.may;
-        numbered = (refl, subst (λ v. NumberedSpecifiers v ss) t.next r.numbered) } }
+      record {
+        inner = env;
+        names = t.names;
+        before = λ ss k r. record {
+          reads = both t r.reads;
+          holds = subst (λ v. WellFormedSpecifiers env v ss) (or_same typed) r.holds;
+          may = may_as storage ss (Qualified i.next c ss) (λ n. n) r.may;
+          numbered = (refl, subst (λ v. NumberedSpecifiers v ss) t.next r.numbered);
+        };
+      }
 
   basic-before : (c : BasicType) (storage typed : Bool) (env : Env) (i : Input) → ahead i ≡ Some (Reserved (basic_word c)) → i.names ≡ names_of env → IsBefore storage typed env i (Basic i.next c) (step i)
   unfolding spell_expr after_expr WellFormed Numbered
   basic-before c storage typed env i h names =
       let t = token i env (Reserved (basic_word c)) h names in
-      record { inner = env; names = t.names; before = λ ss k r. record {
-        reads = both t r.reads;
-        holds = subst (λ v. WellFormedSpecifiers env v ss) (or_true typed) r.holds;
-        may = may_as storage ss (Basic i.next c ss) (λ n. n) r.may;
-        numbered = (refl, subst (λ v. NumberedSpecifiers v ss) t.next r.numbered) } }
+      record {
+        inner = env;
+        names = t.names;
+        before = λ ss k r. record {
+          reads = both t r.reads;
+          holds = subst (λ v. WellFormedSpecifiers env v ss) (or_true typed) r.holds;
+          may = may_as storage ss (Basic i.next c ss) (λ n. n) r.may;
+          numbered = (refl, subst (λ v. NumberedSpecifiers v ss) t.next r.numbered);
+        };
+      }
 
   typedef-before : (w : Word) (storage : Bool) (env : Env) (i : Input) → ahead i ≡ Some (symbol.Identifier w.text) → w.token ≡ i.next → is_typedef_name env w.text ≡ true → i.names ≡ names_of env → IsBefore storage false env i (TypedefName w) (step i)
   unfolding spell_expr after_expr WellFormed Numbered
   typedef-before w storage env i h n is names =
       let t = token i env (symbol.Identifier w.text) h names in
-      record { inner = env; names = t.names; before = λ ss k r. record {
-        reads = both t r.reads;
-        holds = (refl, is, r.holds);
-        may = may_as storage ss (TypedefName w ss) (λ n. n) r.may;
-        numbered = (n, subst (λ v. NumberedSpecifiers v ss) t.next r.numbered) } }
+      record {
+        inner = env;
+        names = t.names;
+        before = λ ss k r. record {
+          reads = both t r.reads;
+          holds = (refl, is, r.holds);
+          may = may_as storage ss (TypedefName w ss) (λ n. n) r.may;
+          numbered = (n, subst (λ v. NumberedSpecifiers v ss) t.next r.numbered);
+        };
+      }
 
   record_tag-before : (kind : RecordKind) (w : Word) (storage typed : Bool) (env : Env) (i x j : Input) → Reads i x env (λ z. Reserved (record_word kind) ∷ z) → IsTag env x (Some w) j → IsBefore storage typed env i (RecordTag i.next kind w) j
   unfolding spell_expr after_expr WellFormed Numbered
   record_tag-before kind w storage typed env i x j t q =
-      record { inner = env; names = q.reads.names; before = λ ss k r. record {
-        reads = both t (both q.reads r.reads);
-        holds = subst (λ v. WellFormedSpecifiers env v ss) (or_true typed) r.holds;
-        may = may_as storage ss (RecordTag i.next kind w ss) (λ n. n) r.may;
-        numbered = (refl, q.numbered ∙ t.next, subst (λ v. NumberedSpecifiers v ss) (omega (arith, t.next, q.reads.next)) r.numbered) } }
+      record {
+        inner = env;
+        names = q.reads.names;
+        before = λ ss k r. record {
+          reads = both t (both q.reads r.reads);
+          holds = subst (λ v. WellFormedSpecifiers env v ss) (or_true typed) r.holds;
+          may = may_as storage ss (RecordTag i.next kind w ss) (λ n. n) r.may;
+          numbered = (refl, q.numbered ∙ t.next, subst (λ v. NumberedSpecifiers v ss) (omega (arith, t.next, q.reads.next)) r.numbered);
+        };
+      }
 
   enum_tag-before : (w : Word) (storage typed : Bool) (env : Env) (i x j : Input) → Reads i x env (λ z. Reserved k.Enum ∷ z) → IsTag env x (Some w) j → IsBefore storage typed env i (EnumTag i.next w) j
   unfolding spell_expr after_expr WellFormed Numbered
   enum_tag-before w storage typed env i x j t q =
-      record { inner = env; names = q.reads.names; before = λ ss end r. record {
-        reads = both t (both q.reads r.reads);
-        holds = subst (λ v. WellFormedSpecifiers env v ss) (or_true typed) r.holds;
-        may = may_as storage ss (EnumTag i.next w ss) (λ n. n) r.may;
-        numbered = (refl, q.numbered ∙ t.next, subst (λ v. NumberedSpecifiers v ss) (omega (arith, t.next, q.reads.next)) r.numbered) } }
+      record {
+        inner = env;
+        names = q.reads.names;
+        before = λ ss end r. record {
+          reads = both t (both q.reads r.reads);
+          holds = subst (λ v. WellFormedSpecifiers env v ss) (or_true typed) r.holds;
+          may = may_as storage ss (EnumTag i.next w ss) (λ n. n) r.may;
+          numbered = (refl, q.numbered ∙ t.next, subst (λ v. NumberedSpecifiers v ss) (omega (arith, t.next, q.reads.next)) r.numbered);
+        };
+      }
 
   record-before : (kind : RecordKind) (w : Option Word) (ms : Members) (storage typed : Bool) (env : Env) (i x y u j : Input) → Reads i x env (λ z. Reserved (record_word kind) ∷ z) → IsTag env x w y → Reads y u env (λ z. Sign m.OpenBrace ∷ z)
       → IsMemberList env u ms j → IsBefore storage typed env i (Record i.next kind w ms) j
   unfolding spell_expr after_expr WellFormed Numbered
   record-before kind w ms storage typed env i x y u j t q opening l =
-      record { inner = after_members env ms; names = l.closing.names; before = λ ss k r. record {
-        reads = both t (both q.reads (both opening (both l.list.reads (both l.closing r.reads))));
-        holds = (l.has, l.list.holds, subst (λ v. WellFormedSpecifiers (after_members env ms) v ss) (or_true typed) r.holds);
-        may = may_as storage ss (Record i.next kind w ms ss) (λ n. n) r.may;
-        numbered = (refl, subst (λ v. NumberedTag v w) t.next q.numbered,
+      record {
+        inner = after_members env ms;
+        names = l.closing.names;
+        before = λ ss k r. record {
+          reads = both t (both q.reads (both opening (both l.list.reads (both l.closing r.reads))));
+          holds = (l.has, l.list.holds, subst (λ v. WellFormedSpecifiers (after_members env ms) v ss) (or_true typed) r.holds);
+          may = may_as storage ss (Record i.next kind w ms ss) (λ n. n) r.may;
+          numbered = (
+            refl,
+            subst (λ v. NumberedTag v w) t.next q.numbered,
             subst (λ v. NumberedMembers v ms) (omega (arith, t.next, q.reads.next, opening.next)) l.list.numbered,
-            subst (λ v. NumberedSpecifiers v ss) (omega (arith, t.next, q.reads.next, opening.next, l.list.reads.next, l.closing.next)) r.numbered) } }
+            subst (λ v. NumberedSpecifiers v ss) (omega (arith, t.next, q.reads.next, opening.next, l.list.reads.next, l.closing.next)) r.numbered,
+          );
+        };
+      }
 
   enum-before : (w : Option Word) (es : Enumerators) (storage typed : Bool) (env : Env) (i x y u j : Input) → Reads i x env (λ z. Reserved k.Enum ∷ z) → IsTag env x w y → Reads y u env (λ z. Sign m.OpenBrace ∷ z)
       → IsEnumeration parts sound env u es j → IsBefore storage typed env i (Enum i.next w es) j
   unfolding spell_expr after_expr WellFormed Numbered
   enum-before w es storage typed env i x y u j t q opening l =
-      record { inner = after_enumerators env es; names = l.reads.names; before = λ ss end r. record {
-        reads = both t (both q.reads (both opening (both l.reads r.reads)));
-        holds = (l.has, l.holds, subst (λ v. WellFormedSpecifiers (after_enumerators env es) v ss) (or_true typed) r.holds);
-        may = may_as storage ss (Enum i.next w es ss) (λ n. n) r.may;
-        numbered = (refl, subst (λ v. NumberedTag v w) t.next q.numbered,
+      record {
+        inner = after_enumerators env es;
+        names = l.reads.names;
+        before = λ ss end r. record {
+          reads = both t (both q.reads (both opening (both l.reads r.reads)));
+          holds = (l.has, l.holds, subst (λ v. WellFormedSpecifiers (after_enumerators env es) v ss) (or_true typed) r.holds);
+          may = may_as storage ss (Enum i.next w es ss) (λ n. n) r.may;
+          numbered = (
+            refl,
+            subst (λ v. NumberedTag v w) t.next q.numbered,
             subst (λ v. NumberedEnumerators true v es) (omega (arith, t.next, q.reads.next, opening.next)) l.numbered,
-            subst (λ v. NumberedSpecifiers v ss) (omega (arith, t.next, q.reads.next, opening.next, l.reads.next, length-enumerators true es (Sign m.CloseBrace ∷ []))) r.numbered) } }
+            subst (λ v. NumberedSpecifiers v ss) (omega (arith, t.next, q.reads.next, opening.next, l.reads.next, length-enumerators true es (Sign m.CloseBrace ∷ []))) r.numbered,
+          );
+        };
+      }
 
   record-sound : (kind : RecordKind) (storage typed : Bool) (env : Env) (i : Input) → ahead i ≡ Some (Reserved (record_word kind)) → i.names ≡ names_of env → Post (IsBefore storage typed env i) (record_specifier parts kind i)
   unfolding record_specifier
   record-sound kind storage typed env i h names =
       let t = token i env (Reserved (record_word kind)) h names in
       bind _ (tag (step i)) (λ w. eat m.OpenBrace >>= λ b. if b then (λ ms. Record i.next kind w ms) <$> members parts else tagged_record i.next kind w) (tag-sound env (step i) t.names) (λ w y q.
-          eaten _ y env m.OpenBrace ((λ ms. Record i.next kind w ms) <$> members parts) (tagged_record i.next kind w) q.reads.names
-              (λ u opening. bind _ (members parts u) (λ ms. pure (Record i.next kind w ms)) (members-sound env u opening.names) (λ ms j l. record-before kind w ms storage typed env i (step i) y u j t q opening l))
-              (λ _. tagged w y t q))
+      eaten _ y env m.OpenBrace ((λ ms. Record i.next kind w ms) <$> members parts) (tagged_record i.next kind w) q.reads.names
+      (λ u opening. bind _ (members parts u) (λ ms. pure (Record i.next kind w ms)) (members-sound env u opening.names) (λ ms j l. record-before kind w ms storage typed env i (step i) y u j t q opening l))
+      (λ _. tagged w y t q))
     where
       tagged : (w : Option Word) (y : Input) → Reads i (step i) env (λ z. Reserved (record_word kind) ∷ z) → IsTag env (step i) w y → Post (IsBefore storage typed env i) (tagged_record i.next kind w y)
       tagged None y t q = tt
@@ -299,9 +334,9 @@ module _ (parts : Parts) (sound : Sound parts) where
   enum-sound storage typed env i h names =
       let t = token i env (Reserved k.Enum) h names in
       bind _ (tag (step i)) (λ w. eat m.OpenBrace >>= λ b. if b then (λ es. Enum i.next w es) <$> enumerators parts else tagged_enum i.next w) (tag-sound env (step i) t.names) (λ w y q.
-          eaten _ y env m.OpenBrace ((λ es. Enum i.next w es) <$> enumerators parts) (tagged_enum i.next w) q.reads.names
-              (λ u opening. bind _ (enumerators parts u) (λ es. pure (Enum i.next w es)) (enumerators-sound parts sound env u opening.names) (λ es j l. enum-before w es storage typed env i (step i) y u j t q opening l))
-              (λ _. tagged w y t q))
+      eaten _ y env m.OpenBrace ((λ es. Enum i.next w es) <$> enumerators parts) (tagged_enum i.next w) q.reads.names
+      (λ u opening. bind _ (enumerators parts u) (λ es. pure (Enum i.next w es)) (enumerators-sound parts sound env u opening.names) (λ es j l. enum-before w es storage typed env i (step i) y u j t q opening l))
+      (λ _. tagged w y t q))
     where
       tagged : (w : Option Word) (y : Input) → Reads i (step i) env (λ z. Reserved k.Enum ∷ z) → IsTag env (step i) w y → Post (IsBefore storage typed env i) (tagged_enum i.next w y)
       tagged None y t q = tt

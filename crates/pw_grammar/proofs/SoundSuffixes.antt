@@ -1,47 +1,27 @@
 -- Suffixes of declarators that are read are trees (6.5.4.2, 6.5.4.3).
-use Rattle.std.proofs.Common.{◌≡◌, ℕ, zero, suc, ◌+◌, ◌-◌, ◌==◌, ◌<◌, ◌≤◌, Bool, true, false, not, if◌then◌else◌, List, [], ◌∷◌, length, map, Option, Some, None, Ok, Err, take, drop, arith, refl, sym, ap, ◌∙◌, subst}
-use Rattle.pw_tree.specs.Levels.{level, chain_level, binary_level}
-use Rattle.pw_tree.specs.Numbering.{past_identifiers, past_tag, past_pointers, past_expr, past_postfixes, past_arguments, past_operations, past_specifiers, past_members, past_member_declarators, past_enumerators, past_declarator, past_core, past_suffixes, past_parameters, past_optional, past_init, past_inits, past_initializer, past_init_declarators, past_decl, past_decls, past_label, past_labels, past_stmt, past_alternative, past_block, past_stmts, past_external, past_comma, NumberedIdentifiers, NumberedStrings, NumberedTag, NumberedPointers, Numbered, NumberedPostfixes, NumberedArguments, NumberedOperations, NumberedSpecifiers, NumberedMembers, NumberedMemberDeclarators, NumberedEnumerators, NumberedDeclarator, NumberedCore, NumberedSuffixes, NumberedParameters, NumberedOptional, NumberedInit, NumberedInits, NumberedInitializer, NumberedInitDeclarators, NumberedDecl, NumberedDecls, NumberedLabel, NumberedLabels, NumberedStmt, NumberedAlternative, NumberedBlock, NumberedStmts, NumberedFunction, NumberedExternal, NumberedExternals, NumberedModule}
-use Rattle.pw_tree.specs.Scopes.{is_typedef_name, declare_plain, declare_plains, has_typedef, has_type, name_of, name_in, declare_name, declare, after_expr, after_postfixes, after_arguments, after_operations, after_specifiers, after_members, after_member_declarators, after_enumerators, after_declarator, after_core, after_suffixes, after_parameter, after_parameters, after_optional, after_init, after_inits, after_initializer, after_name, after_init_declarators, after_decl, after_decls, after_label, after_labels, after_stmt, after_alternative, behind_name, behind_core, enter_first, enter, after_external, Env}
-use Rattle.pw_tree.specs.Spelling.{identifier, separated, trailed, spell_identifiers, spell_strings, spell_tag, spell_qualifiers, spell_pointers, spell_expr, spell_postfixes, spell_arguments, spell_operations, spell_specifiers, spell_members, spell_member_declarators, spell_enumerators, spell_declarator, spell_core, spell_suffixes, spell_parameters, spell_optional, spell_init, spell_inits, spell_initializer, spell_init_declarators, spell_decl, spell_decls, spell_label, spell_labels, spell_stmt, spell_alternative, spell_block, spell_stmts, spell_external, spell_externals, symbols, spelling}
+use Rattle.std.proofs.Common.{◌≡◌, Bool, true, false, if◌then◌else◌, List, [], ◌∷◌, length, Option, Some, None, take, drop, arith, refl, ap, subst}
+use Rattle.pw_tree.specs.Numbering.{NumberedIdentifiers, Numbered, NumberedSuffixes, NumberedParameters}
+use Rattle.pw_tree.specs.Scopes.{after_expr, after_suffixes, after_parameters, Env}
+use Rattle.pw_tree.specs.Spelling.{spell_expr, spell_suffixes}
 use Rattle.pw_tree.specs.Symbols as symbol
 use Rattle.pw_tree.specs.Symbols.{Symbol, Reserved, Sign, unary_symbol, binary_mark, assign_mark, access_mark, step_mark}
-use Rattle.pw_tree.specs.Trees.{Word, Pointer, Expr, Identifier, Number, Floating, Character, Wide, Strings, Paren, Postfix, Unary, SizeofType, Cast, Chain, Conditional, Assign, Postfixes, NoPostfix, Index, Call, Select, Step, Arguments, NoArgument, Argument, Operations, NoOperation, Operation, Specifiers, NoSpecifier, Storage, Qualified, Basic, TypedefName, RecordTag, Record, EnumTag, Enum, Members, NoMember, Member, MemberDeclarators, NoMemberDeclarator, PlainMember, BitField, Padding, Enumerators, NoEnumerator, PlainEnumerator, ValuedEnumerator, Declarator, Declaring, Core, Absent, Name, Enclosed, Suffixes, NoSuffix, Array, OpenArray, Prototype, Variadic, Identifiers, Parameters, NoParameter, Parameter, Init, Value, Braces, Inits, NoInit, Listed, Initializer, InitDeclarator, Decl, Label, CaseLabel, DefaultLabel, NameLabel, Stmt, Compound, Expression, Empty, Labeled, If, Switch, While, Do, For, Goto, Continue, Break, Return, Alternative, NoElse, Otherwise, ElseIf, Block, Braced, Stmts, NoStmt, Next, External, Definition, Declaration}
-use Rattle.pw_tree.specs.WellFormed.{NotEmpty, HasPostfix, HasSpecifier, HasMember, HasMemberDeclarator, HasEnumerator, HasParameter, HasInit, NotTypedef, NoneTypedef, MayDeclare, NoStorage, IsSomething, begins_with_typedef, MayEnclose, operand_level, WellFormed, WellFormedPostfixes, WellFormedArguments, WellFormedOperations, WellFormedSpecifiers, WellFormedMembers, WellFormedMemberDeclarators, WellFormedEnumerators, WellFormedDeclarator, WellFormedCore, WellFormedSuffixes, WellFormedParameters, WellFormedOptional, WellFormedInit, WellFormedInits, WellFormedInitializer, WellFormedInitDeclarators, WellFormedDecl, WellFormedDecls, WellFormedLabel, WellFormedLabels, NotLabeled, NotIf, ends_open, alternative_ends_open, MayPrecede, WellFormedStmt, WellFormedAlternative, WellFormedBlock, WellFormedStmts, in_function, WellFormedFunction, WellFormedExternal, WellFormedExternals, WellFormedModule}
-use Rattle.pw_tree.specs.WellFormed as tree
-use Rattle.pw_tree.specs.declared.operator.Access.{Access}
-use Rattle.pw_tree.specs.declared.operator.Access.TheVariants as access
-use Rattle.pw_tree.specs.declared.operator.AssignOperator.{AssignOperator}
-use Rattle.pw_tree.specs.declared.operator.AssignOperator.TheVariants as assign
-use Rattle.pw_tree.specs.declared.operator.BinaryOperator.{BinaryOperator}
-use Rattle.pw_tree.specs.declared.operator.BinaryOperator.TheVariants as binary
-use Rattle.pw_tree.specs.declared.operator.StepOperator.{StepOperator}
-use Rattle.pw_tree.specs.declared.operator.StepOperator.TheVariants as stepping
-use Rattle.pw_tree.specs.declared.operator.UnaryOperator.{UnaryOperator}
-use Rattle.pw_tree.specs.declared.operator.UnaryOperator.TheVariants as unary
-use Rattle.pw_tree.specs.declared.symbol.Keyword.TheVariants as k
-use Rattle.pw_tree.specs.declared.symbol.Mark.{Mark}
+use Rattle.pw_tree.specs.Trees.{Expr, NoSuffix, Array, OpenArray, Prototype, Identifiers, Parameters, NoParameter}
+use Rattle.pw_tree.specs.WellFormed.{WellFormed, WellFormedSuffixes}
 use Rattle.pw_tree.specs.declared.symbol.Mark.TheVariants as m
-use Rattle.pw_grammar.specs.declared.place.Place.{Place}
-use Rattle.pw_grammar.specs.declared.place.Place.TheVariants.{Named, Nameless, Either}
 use Rattle.pw_grammar.specs.Input.{Input, first_of_rest, ahead, is_none_left, at_end, step_to, step, same_mark, same_keyword, is_mark, is_keyword, sees, sees_keyword, or_false, Outcome, Parser, and_then, ◌>>=◌, ◌>>◌, pure, ◌<$>◌, fault, asks, peek, here, skip, take_number, word, past, past_keyword, eat, eat_keyword, expect, expect_keyword, identifier_by, ordinary_by, ordinary, declare_all, leave, since, turns, go_on, repeat, list_of, turn_of, while_some, turn_with, one_or_more, unless_comma, Binding}
 use Rattle.pw_grammar.specs.Input as input
-use Rattle.pw_scope.specs.Visible.{visible}
-use Rattle.pw_grammar.specs.Parts.{Parts, Declared}
-use Rattle.std.specs.Option.{option_or}
-use Rattle.std.specs.Prelude.{is_some}
-use Rattle.pw_scope.specs.Visible.{visible}
+use Rattle.pw_grammar.specs.Parts.{Parts}
 use Rattle.pw_grammar.specs.Input as input
-use Rattle.pw_grammar.specs.Declarators.{Names, Behind, suffixed, Cored, prototype_of, needs_name, allows_name, spells_name, may_be_enclosed_by, may_be_enclosed, absent, name_core, may_be_absent, names_in_list, pointers, array, parameters, prototype, identifiers, listed_by, listed, parameter_list, suffix_by, suffix, suffixes, enclosed, core_by, core, declarator_of}
-use Rattle.pw_grammar.specs.Tests.{begins_specifier, opens_parameters, symbol_begins_specifier}
-use Rattle.pw_grammar.proofs.Base.{names_of, names_are, true_is_not_false}
-use Rattle.pw_grammar.proofs.Knows.{place_of, declared, text_of, bindings_of, behind_suffixes}
+use Rattle.pw_grammar.specs.Declarators.{Names, Behind, suffixed, prototype_of, names_in_list, array, parameters, prototype, identifiers, listed_by, listed, parameter_list, suffix_by, suffix, suffixes}
+use Rattle.pw_grammar.specs.Tests.{begins_specifier}
+use Rattle.pw_grammar.proofs.Base.{names_of}
+use Rattle.pw_grammar.proofs.Knows.{behind_suffixes}
 use Rattle.pw_grammar.proofs.Lengths.{length-parameters}
-use Rattle.pw_grammar.proofs.SoundBase.{Post, bind, weaken, choose, choose_parser, Reads, nothing, both, token, sign, expected, eaten, renamed}
+use Rattle.pw_grammar.proofs.SoundBase.{Post, bind, choose_parser, Reads, nothing, both, token, expected, eaten}
 use Rattle.pw_grammar.proofs.SoundLists.{IsItem, Before, while-sound}
-use Rattle.pw_grammar.proofs.SoundParts.{IsExpr, IsSpecifiers, IsDeclarator, SoundExpr, SoundDeclarator, Sound}
-use Rattle.pw_grammar.proofs.SoundPointers.{IsPointers, pointers-sound, IsNames, names_in_list-sound}
-use Rattle.pw_grammar.proofs.SoundParameters.{around_parameters, scoped, dotted, IsParameters, parameters-sound}
+use Rattle.pw_grammar.proofs.SoundParts.{IsExpr, Sound}
+use Rattle.pw_grammar.proofs.SoundPointers.{IsNames, names_in_list-sound}
+use Rattle.pw_grammar.proofs.SoundParameters.{around_parameters, scoped, IsParameters, parameters-sound}
 
 -- ---- suffixes
 
@@ -59,76 +39,112 @@ IsSuffix named = Before (IsSuffixes named)
 module _ (parts : Parts) (sound : Sound parts) where
   open_array-suffix : (named : Bool) (env : Env) (i x j : Input) → Reads i x env (λ z. Sign m.OpenBracket ∷ z) → Reads x j env (λ z. Sign m.CloseBracket ∷ z) → IsSuffix named env i (suffixed (OpenArray i.next) []) j
   unfolding spell_expr after_expr WellFormed Numbered suffixed
-  open_array-suffix named env i x j t c = (env, c.names, λ b end r. record {
+  open_array-suffix named env i x j t c = (
+    env,
+    c.names,
+    λ b end r. record {
       reads = both t (both c r.reads);
       holds = r.holds;
       numbered = (refl, subst (λ v. NumberedSuffixes v b.0) (omega (arith, t.next, c.next)) r.numbered);
-      declares = refl })
+      declares = refl;
+    },
+  )
 
   array-suffix : (named : Bool) (env : Env) (i x y j : Input) (e : Expr) → Reads i x env (λ z. Sign m.OpenBracket ∷ z) → IsExpr 14 env x e y → Reads y j (after_expr env e) (λ z. Sign m.CloseBracket ∷ z) → IsSuffix named env i (suffixed (Array i.next e) []) j
   unfolding spell_expr after_expr WellFormed Numbered suffixed
-  array-suffix named env i x y j e t q c = (after_expr env e, c.names, λ b end r. record {
+  array-suffix named env i x y j e t q c = (
+    after_expr env e,
+    c.names,
+    λ b end r. record {
       reads = both t (both q.reads (both c r.reads));
       holds = (q.low, q.holds, r.holds);
       numbered = (refl, subst (λ v. Numbered v e) t.next q.numbered, subst (λ v. NumberedSuffixes v b.0) (omega (arith, t.next, q.reads.next, c.next)) r.numbered);
-      declares = refl })
+      declares = refl;
+    },
+  )
 
   array-sound : (named : Bool) (env : Env) (i : Input) → ahead i ≡ Some (Sign m.OpenBracket) → i.names ≡ names_of env → Post (IsSuffix named env i) (array parts i)
   unfolding array
   array-sound named env i h names =
       let t = token i env (Sign m.OpenBracket) h names in
       eaten _ (step i) env m.CloseBracket (pure (suffixed (OpenArray i.next) [])) (parts.expr 14 >>= λ e. expect m.CloseBracket >> pure (suffixed (Array i.next e) [])) t.names
-          (λ j c. open_array-suffix named env i (step i) j t c)
-          (λ _. bind _ (parts.expr 14 (step i)) (λ e. expect m.CloseBracket >> pure (suffixed (Array i.next e) [])) (sound.expr 14 (omega arith) env (step i) t.names) (λ e y q.
-              expected _ y (after_expr env e) m.CloseBracket (pure (suffixed (Array i.next e) [])) q.reads.names (λ j c. array-suffix named env i (step i) y j e t q c)))
+      (λ j c. open_array-suffix named env i (step i) j t c)
+      (λ _. bind _ (parts.expr 14 (step i)) (λ e. expect m.CloseBracket >> pure (suffixed (Array i.next e) [])) (sound.expr 14 (omega arith) env (step i) t.names) (λ e y q.
+      expected _ y (after_expr env e) m.CloseBracket (pure (suffixed (Array i.next e) [])) q.reads.names (λ j c. array-suffix named env i (step i) y j e t q c)))
 
   empty-suffix : (named : Bool) (env : Env) (i x j : Input) → Reads i x env (λ z. Sign m.OpenParen ∷ z) → Reads x j env (λ z. Sign m.CloseParen ∷ z) → IsSuffix named env i (suffixed (Prototype i.next NoParameter) []) j
   unfolding spell_expr after_expr WellFormed Numbered suffixed
-  empty-suffix named env i x j t c = (env, c.names, λ b end r. record {
+  empty-suffix named env i x j t c = (
+    env,
+    c.names,
+    λ b end r. record {
       reads = both t (both c r.reads);
       holds = (tt, r.holds);
       numbered = (refl, tt, subst (λ v. NumberedSuffixes v b.0) (omega (arith, t.next, c.next)) r.numbered);
-      declares = refl })
+      declares = refl;
+    },
+  )
 
   prototype-suffix : (named : Bool) (env : Env) (i x y j : Input) (ps : Parameters) (variadic : Bool) (bindings : List Binding) → Reads i x env (λ z. Sign m.OpenParen ∷ z) → IsParameters env x (ps, variadic) y → Reads y j env (λ z. Sign m.CloseParen ∷ z)
       → bindings ≡ names_of (after_parameters [] ps) → IsSuffix named env i (suffixed (prototype_of i.next (ps, variadic)) bindings) j
   unfolding spell_expr after_expr WellFormed Numbered suffixed
-  prototype-suffix named env i x y j ps true bindings t q c e = (env, c.names, λ b end r. record {
+  prototype-suffix named env i x y j ps true bindings t q c e = (
+    env,
+    c.names,
+    λ b end r. record {
       reads = both t (both q.reads (both c r.reads));
       holds = (q.has, q.holds, r.holds);
-      numbered = (refl, subst (λ v. NumberedParameters true v ps) t.next q.numbered,
-          subst (λ v. NumberedSuffixes v b.0) (omega (arith, t.next, q.reads.next, c.next, length-parameters true ps (Sign m.Comma ∷ Sign m.Ellipsis ∷ []))) r.numbered);
-      declares = ap Some e })
-  prototype-suffix named env i x y j ps false bindings t q c e = (env, c.names, λ b end r. record {
+      numbered = (
+        refl,
+        subst (λ v. NumberedParameters true v ps) t.next q.numbered,
+        subst (λ v. NumberedSuffixes v b.0) (omega (arith, t.next, q.reads.next, c.next, length-parameters true ps (Sign m.Comma ∷ Sign m.Ellipsis ∷ []))) r.numbered,
+      );
+      declares = ap Some e;
+    },
+  )
+  prototype-suffix named env i x y j ps false bindings t q c e = (
+    env,
+    c.names,
+    λ b end r. record {
       reads = both t (both q.reads (both c r.reads));
       holds = (q.holds, r.holds);
-      numbered = (refl, subst (λ v. NumberedParameters true v ps) t.next q.numbered,
-          subst (λ v. NumberedSuffixes v b.0) (omega (arith, t.next, q.reads.next, c.next)) r.numbered);
-      declares = ap Some e })
+      numbered = (
+        refl,
+        subst (λ v. NumberedParameters true v ps) t.next q.numbered,
+        subst (λ v. NumberedSuffixes v b.0) (omega (arith, t.next, q.reads.next, c.next)) r.numbered,
+      );
+      declares = ap Some e;
+    },
+  )
 
   prototype-sound : (named : Bool) (env : Env) (i : Input) → Reads i (step i) env (λ z. Sign m.OpenParen ∷ z) → Post (IsSuffix named env i) (prototype parts i.next (step i))
   unfolding prototype
   prototype-sound named env i t =
       let outer = length (step i).names in
       bind _ (parameters parts (step i)) (λ ps. input.since outer >>= λ inner. expect m.CloseParen >> (input.leave outer >> pure (suffixed (prototype_of i.next ps) inner))) (parameters-sound parts sound env (step i) t.names) (λ ps y q.
-          expected _ y (after_parameters env ps.0) m.CloseParen (input.leave outer >> pure (suffixed (prototype_of i.next ps) (drop outer y.names))) q.reads.names (λ j c.
-              let around = around_parameters env ps.0 (step i).names j.names t.names c.names in
-              let declares = around_parameters env ps.0 (step i).names y.names t.names q.reads.names in
-              prototype-suffix named env i (step i) y (record j { names = take outer j.names }) ps.0 ps.1 (drop outer y.names) t q (scoped (take outer j.names) c around.0) declares.1))
+      expected _ y (after_parameters env ps.0) m.CloseParen (input.leave outer >> pure (suffixed (prototype_of i.next ps) (drop outer y.names))) q.reads.names (λ j c.
+      let around = around_parameters env ps.0 (step i).names j.names t.names c.names in
+      let declares = around_parameters env ps.0 (step i).names y.names t.names q.reads.names in
+      prototype-suffix named env i (step i) y (record j { names = take outer j.names }) ps.0 ps.1 (drop outer y.names) t q (scoped (take outer j.names) c around.0) declares.1))
 
   identifiers-suffix : (env : Env) (i x y j : Input) (ns : Names) → Reads i x env (λ z. Sign m.OpenParen ∷ z) → IsNames env x ns y → Reads y j env (λ z. Sign m.CloseParen ∷ z) → IsSuffix true env i (suffixed (Identifiers i.next ns.0) ns.1) j
   unfolding spell_expr after_expr WellFormed Numbered suffixed
-  identifiers-suffix env i x y j ns t q c = (env, c.names, λ b end r. record {
+  identifiers-suffix env i x y j ns t q c = (
+    env,
+    c.names,
+    λ b end r. record {
       reads = both t (both q.reads (both c r.reads));
       holds = (refl, q.has, q.none, r.holds);
       numbered = (refl, subst (λ v. NumberedIdentifiers true v ns.0) t.next q.numbered, subst (λ v. NumberedSuffixes v b.0) (omega (arith, t.next, q.reads.next, c.next)) r.numbered);
-      declares = ap Some q.declares })
+      declares = ap Some q.declares;
+    },
+  )
 
   identifiers-sound : (env : Env) (i : Input) → Reads i (step i) env (λ z. Sign m.OpenParen ∷ z) → Post (IsSuffix true env i) (identifiers parts i.next (step i))
   unfolding identifiers
   identifiers-sound env i t =
       bind _ (names_in_list (step i)) (λ ws. expect m.CloseParen >> pure (suffixed (Identifiers i.next ws.0) ws.1)) (names_in_list-sound env (step i) t.names) (λ ws y q.
-          expected _ y env m.CloseParen (pure (suffixed (Identifiers i.next ws.0) ws.1)) q.reads.names (λ j c. identifiers-suffix env i (step i) y j ws t q c))
+      expected _ y env m.CloseParen (pure (suffixed (Identifiers i.next ws.0) ws.1)) q.reads.names (λ j c. identifiers-suffix env i (step i) y j ws t q c))
 
   listed-by : (named : Bool) (env : Env) (i : Input) → Reads i (step i) env (λ z. Sign m.OpenParen ∷ z) → (s : Option Symbol) → Post (IsSuffix named env i) (listed_by parts named i.next s (step i))
   listed-by true env i t (Some (symbol.Identifier x)) = identifiers-sound env i t
@@ -141,10 +157,10 @@ module _ (parts : Parts) (sound : Sound parts) where
   list-sound named env i h names =
       let t = token i env (Sign m.OpenParen) h names in
       eaten _ (step i) env m.CloseParen (pure (suffixed (Prototype i.next NoParameter) [])) (input.asks (begins_specifier true) >>= λ typed. if typed then prototype parts i.next else listed parts named i.next) t.names
-          (λ j c. empty-suffix named env i (step i) j t c)
-          (λ _. choose_parser _ (begins_specifier true (step i)) (prototype parts i.next) (listed parts named i.next) (step i)
-              (λ _. prototype-sound named env i t)
-              (λ _. listed-by named env i t (ahead (step i))))
+      (λ j c. empty-suffix named env i (step i) j t c)
+      (λ _. choose_parser _ (begins_specifier true (step i)) (prototype parts i.next) (listed parts named i.next) (step i)
+      (λ _. prototype-sound named env i t)
+      (λ _. listed-by named env i t (ahead (step i))))
 
   no_suffix : (named : Bool) (env : Env) (i : Input) → i.names ≡ names_of env → IsSuffixes named env i (NoSuffix, None) i
   unfolding spell_expr after_expr WellFormed Numbered suffixed

@@ -4,7 +4,7 @@ use Rattle.std.specs.Str.{bytes_eq}
 use Rattle.std.proofs.lemmas.Slice.Eq.{bytes_eq-Decides}
 use Rattle.pw_token.specs.declared.token.TokenKind.{TokenKind}
 use Rattle.pw_token.specs.declared.token.TokenKind.TheVariants as kind
-use Rattle.pw_tree.specs.Symbols.{Symbol, Reserved, Sign, Identifier, Number, Floating, Character, Wide, Text, Spelled, spelled, symbol_of, symbol_with, with_text, keyword_of, keyword_text, all_keywords, mark_of, mark_text, all_marks}
+use Rattle.pw_tree.specs.Symbols.{Symbol, Reserved, Sign, Spelled, spelled, symbol_of, symbol_with, with_text, keyword_of, keyword_text, all_keywords, mark_of, mark_text, all_marks}
 use Rattle.pw_tree.specs.declared.symbol.Keyword.{Keyword}
 use Rattle.pw_tree.specs.declared.symbol.Mark.{Mark}
 
