@@ -143,7 +143,7 @@ something-left [] h = no_turns h
 something-left (s ∷ tokens) h = refl
 
 -- the names visible behind external declarations
-abbrev after_externals : Env → List External → Env
+abbrev pub after_externals : Env → List External → Env
 after_externals env [] = env
 after_externals env (x ∷ xs) = after_externals (after_external env x) xs
 

@@ -1,12 +1,12 @@
 -- Declarators that are read are trees (6.5.4, 6.5.5).
 use Rattle.std.proofs.Common.{◌≡◌, ℕ, Bool, true, false, not, List, [], ◌∷◌, map, Option, Some, None, ◌++◌, ◌||◌, arith, refl, sym, ap, ◌∙◌, subst}
 use Rattle.pw_tree.specs.Numbering.{Numbered, NumberedDeclarator, NumberedCore, NumberedSuffixes}
-use Rattle.pw_tree.specs.Scopes.{is_typedef_name, name_of, name_in, after_expr, after_declarator, after_core, Env}
+use Rattle.pw_tree.specs.Scopes.{is_typedef_name, name_in, after_expr, after_declarator, after_core, Env}
 use Rattle.pw_tree.specs.Spelling.{spell_expr, spell_declarator, spell_core, spell_suffixes}
 use Rattle.pw_tree.specs.Symbols as symbol
 use Rattle.pw_tree.specs.Symbols.{Symbol, Reserved, Sign, unary_symbol, binary_mark, assign_mark, access_mark, step_mark}
-use Rattle.pw_tree.specs.Trees.{Word, Pointer, Declarator, Declaring, Core, Absent, Name, Enclosed, NoSuffix, Array, OpenArray, Prototype, Variadic, Identifiers}
-use Rattle.pw_tree.specs.WellFormed.{IsSomething, begins_with_typedef, MayEnclose, is_named, has_name, WellFormed, WellFormedDeclarator, WellFormedCore, WellFormedSuffixes}
+use Rattle.pw_tree.specs.Trees.{Word, Pointer, Declarator, Declaring, Absent, Name, Enclosed, NoSuffix, Array, OpenArray, Prototype, Variadic, Identifiers}
+use Rattle.pw_tree.specs.WellFormed.{IsSomething, begins_with_typedef, MayEnclose, WellFormed, WellFormedDeclarator, WellFormedCore, WellFormedSuffixes}
 use Rattle.pw_tree.specs.declared.symbol.Mark.TheVariants as m
 use Rattle.pw_grammar.specs.declared.place.Place.{Place}
 use Rattle.pw_grammar.specs.declared.place.Place.TheVariants.{Named, Nameless, Either}
@@ -23,6 +23,7 @@ use Rattle.pw_grammar.specs.Tests.{opens_parameters, symbol_begins_specifier}
 use Rattle.pw_grammar.proofs.Base.{names_of, names_are, true_is_not_false}
 use Rattle.pw_grammar.proofs.Knows as knows
 use Rattle.pw_grammar.proofs.Knows.{place_of, declared, text_of, behind_suffixes, behind_of}
+use Rattle.pw_grammar.proofs.DeclaratorsRead.{core-named}
 use Rattle.pw_grammar.proofs.SoundBase.{Post, bind, choose_parser, Reads, nothing, both, token, expected}
 use Rattle.pw_grammar.proofs.SoundParts.{IsDeclarator, SoundDeclarator, Sound}
 use Rattle.pw_grammar.proofs.SoundPointers.{IsPointers, pointers-sound}
@@ -35,16 +36,6 @@ pub record IsCore (place : Place) (typed : Bool) (env : Env) (i : Input) (c : Co
   pub numbered : NumberedCore i.next c.core
   pub name : c.name ≡ text_of (name_in c.core)
   pub behind : c.behind ≡ knows.behind_core c.core
-
--- a name that is there
-mutual
-  declarator-named : (x : Declarator) → is_some (text_of (name_of x)) ≡ is_named x
-  declarator-named (Declaring ps c fs) = core-named c
-
-  core-named : (c : Core) → is_some (text_of (name_in c)) ≡ has_name c
-  core-named Absent = refl
-  core-named (Name w) = refl
-  core-named (Enclosed t x) = declarator-named x
 
 typedef_is : (env : Env) (i : Input) (x : List ℕ) → i.names ≡ names_of env → input.is_typedef_name i x ≡ is_typedef_name env x
 unfolding input.is_typedef_name

@@ -24,7 +24,7 @@ use Rattle.pw_grammar.proofs.SoundUnaries.{lifted, lift-sound, unary-sound, cast
 
 -- ---- operators
 
-no_some : {A : Type 0} (x : A) → None ≡ Some x → ⊥
+pub no_some : {A : Type 0} (x : A) → None ≡ Some x → ⊥
 no_some x h = cc
 
 abbrev binary_in : Mark → Option BinaryOperator → Mark

@@ -20,7 +20,7 @@ use Rattle.pw_grammar.specs.Modules.{or_none, goes_on_as_declaration, function, 
 use Rattle.pw_grammar.specs.Statements.{stmt, block}
 use Rattle.pw_grammar.specs.Tests.{is_empty}
 use Rattle.pw_grammar.proofs.Base.{names_of, true_is_not_false, left}
-use Rattle.pw_grammar.proofs.ModuleRead.{enter-names, in-function}
+use Rattle.pw_grammar.proofs.ModuleRead.{enter-names, in-function, after_externals}
 use Rattle.pw_grammar.proofs.Knows.{behind_of}
 use Rattle.pw_grammar.proofs.SoundBase.{Post, bind, choose_parser, Reads, both, eaten}
 use Rattle.pw_grammar.proofs.SoundLists.{IsTurn, repeat-sound}
@@ -76,11 +76,6 @@ function-whole limit env i x y y1 y2 u v j ss d ds b q r holds numbered n p s w 
         subst (λ n. NumberedBlock n b) (omega (arith, q.reads.next, r.next, n.next, p.next, s.reads.next)) w.numbered,
       );
     }
-
--- what external declarations declare
-abbrev after_externals : Env → List External → Env
-after_externals env [] = env
-after_externals env (e ∷ es) = after_externals (after_external env e) es
 
 -- external declarations, one or more, up to the end of the text
 pub record IsExternals (env : Env) (i : Input) (es : List External) (j : Input) : Type 0 where

@@ -1,5 +1,5 @@
 -- Statements that are read are trees (6.6).
-use Rattle.std.proofs.Common.{◌≡◌, ℕ, zero, suc, ◌+◌, Bool, true, false, not, if◌then◌else◌, List, [], ◌∷◌, length, Option, Some, None, ◌++◌, ◌&&◌, take, arith, refl, sym, ap, ◌∙◌, subst}
+use Rattle.std.proofs.Common.{◌≡◌, ℕ, zero, suc, ◌+◌, Bool, true, false, not, if◌then◌else◌, List, [], ◌∷◌, length, Option, Some, None, ◌&&◌, take, arith, refl, sym, ap, ◌∙◌, subst}
 use Rattle.pw_tree.specs.Numbering.{past_expr, past_optional, Numbered, NumberedOptional, NumberedDecls, NumberedLabel, NumberedLabels, NumberedStmt, NumberedAlternative, NumberedBlock, NumberedStmts}
 use Rattle.pw_tree.specs.Scopes.{after_expr, after_optional, after_decls, after_label, after_labels, after_stmt, after_alternative, Env}
 use Rattle.pw_tree.specs.Spelling.{spell_expr, spell_optional, spell_label, spell_labels, spell_stmt, spell_alternative, spell_block, spell_stmts}
@@ -21,7 +21,8 @@ use Rattle.pw_grammar.specs.Input.{More, Last}
 use Rattle.pw_grammar.specs.Declarations.{parts, declarations}
 use Rattle.pw_grammar.specs.Statements.{default_label, name_label, empty_stmt, goto_stmt, continue_stmt, break_stmt, before_label, with_labels, case_label, label_by, label, labels, expression_stmt, up_to, return_stmt, condition, else_if, behind_else, alternative, alternatives, if_stmt, switch_stmt, while_stmt, do_stmt, for_stmt, stmt_next, stmts, block, compound_by, compound, unlabeled_by, unlabeled, stmt_of, stmt}
 use Rattle.pw_grammar.proofs.Base.{names_of, names_are, true_is_not_false, left}
-use Rattle.pw_grammar.proofs.Spreads.{spreads-decls, spreads-stmt}
+use Rattle.pw_grammar.proofs.Spreads.{spreads-decls}
+use Rattle.pw_grammar.proofs.StatementsRead.{after_stmts, spreads-stmts}
 use Rattle.pw_grammar.proofs.SoundBase.{Post, bind, choose_parser, Reads, nothing, both, token, sign, word_sign, expected, expected_keyword, eaten, eaten_keyword}
 use Rattle.pw_grammar.proofs.SoundLists.{IsItem, Before, IsTurn, repeat-sound, while-sound}
 use Rattle.pw_grammar.proofs.SoundPrimaries.{ordinary-sound}
@@ -175,14 +176,6 @@ not_open false c f h = refl
 not_open true c f h = true_is_not_false (sym (f refl) ∙ h)
 
 -- ---- blocks
-
-abbrev pub after_stmts : Env → Stmts → Env
-after_stmts env NoStmt = env
-after_stmts env (Next s ss) = after_stmts (after_stmt env s) ss
-
-spreads-stmts : (more env : Env) (ss : Stmts) → after_stmts (more ++ env) ss ≡ after_stmts more ss ++ env
-spreads-stmts more env NoStmt = refl
-spreads-stmts more env (Next s ss) = ap (λ v. after_stmts v ss) (spreads-stmt more env s) ∙ spreads-stmts (after_stmt more s) env ss
 
 -- the names before a block
 around_block : (env : Env) (ds : List Decl) (ss : Stmts) (a b : List Binding) → a ≡ names_of env → b ≡ names_of (after_stmts (after_decls env ds) ss) → take (length a) b ≡ names_of env

@@ -7,9 +7,7 @@ use Rattle.pw_token.specs.declared.token.TokenKind.TheVariants as kind
 use Rattle.pw_tree.specs.Symbols.{Symbol, Reserved, Sign, Spelled, spelled, symbol_of, symbol_with, with_text, keyword_of, keyword_text, all_keywords, mark_of, mark_text, all_marks}
 use Rattle.pw_tree.specs.declared.symbol.Keyword.{Keyword}
 use Rattle.pw_tree.specs.declared.symbol.Mark.{Mark}
-
-no_some : {A : Type 0} (x : A) → None ≡ Some x → ⊥
-no_some x h = cc
+use Rattle.pw_grammar.proofs.SoundLevels.{no_some}
 
 abbrev text_in : {A : Type 0} → (A → List ℕ) → List ℕ → Option A → List ℕ
 text_in text s None = s
