@@ -34,7 +34,7 @@ mutual
   declarator-named : (x : Declarator) → is_some (text_of (name_of x)) ≡ is_named x
   declarator-named (Declaring ps c fs) = core-named c
 
-  core-named : (c : Core) → is_some (text_of (name_in c)) ≡ has_name c
+  pub core-named : (c : Core) → is_some (text_of (name_in c)) ≡ has_name c
   core-named Absent = refl
   core-named (Name w) = refl
   core-named (Enclosed t x) = declarator-named x

@@ -73,11 +73,11 @@ or-nothing : (o : Option (List Binding)) → option_or o None ≡ o
 or-nothing None = refl
 or-nothing (Some bs) = refl
 
-enter-names : (env : Env) (x : Declarator) → names_of env ++ or_none (behind_of x) ≡ names_of (enter env x)
+pub enter-names : (env : Env) (x : Declarator) → names_of env ++ or_none (behind_of x) ≡ names_of (enter env x)
 enter-names env x = ap (λ v. names_of env ++ or_none v) (sym (or-nothing (behind_of x))) ∙ sym (declarator-names env x NoSuffix)
 
 -- what a function declares in it is declared there alone
-in-function : (env : Env) (x : Declarator) (ds : List Decl) → after_decls (enter env x) ds ≡ after_decls (enter [] x) ds ++ env
+pub in-function : (env : Env) (x : Declarator) (ds : List Decl) → after_decls (enter env x) ds ≡ after_decls (enter [] x) ds ++ env
 in-function env x ds = ap (λ v. after_decls v ds) (spreads-enter_first [] env (behind_name x NoSuffix)) ∙ spreads-decls (enter [] x) env ds
 
 -- ---- what stands behind the first declarator
@@ -143,7 +143,7 @@ something-left [] h = no_turns h
 something-left (s ∷ tokens) h = refl
 
 -- the names visible behind external declarations
-abbrev after_externals : Env → List External → Env
+abbrev pub after_externals : Env → List External → Env
 after_externals env [] = env
 after_externals env (x ∷ xs) = after_externals (after_external env x) xs
 

@@ -27,7 +27,7 @@ abbrev pub after_stmts : Env → Stmts → Env
 after_stmts env NoStmt = env
 after_stmts env (Next s ss) = after_stmts (after_stmt env s) ss
 
-spreads-stmts : (more env : Env) (ss : Stmts) → after_stmts (more ++ env) ss ≡ after_stmts more ss ++ env
+pub spreads-stmts : (more env : Env) (ss : Stmts) → after_stmts (more ++ env) ss ≡ after_stmts more ss ++ env
 spreads-stmts more env NoStmt = refl
 spreads-stmts more env (Next s ss) = ap (λ v. after_stmts v ss) (spreads-stmt more env s) ∙ spreads-stmts (after_stmt more s) env ss
 

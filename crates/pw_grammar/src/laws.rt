@@ -1,4 +1,4 @@
-//! Laws of the grammar: what is written is read, and so tokens have one tree.
+//! Laws of the grammar: what is written is read, and so tokens have one tree; what is read is written.
 
 ghost use Rattle.std.specs.Prelude.{◌≡◌, List, [], map, Ok};
 ghost use Rattle.pw_tree.specs.Grammar.{IsTreeOf};
@@ -15,4 +15,9 @@ pub fn what_is_written_is_read()
 /// Tokens are the spelling of at most one well-formed tree whose nodes have their tokens' numbers.
 pub fn one_tree()
     ensures { (tokens : List Spelled) (tree other : Module) → IsTreeOf tokens tree → IsTreeOf tokens other → tree ≡ other }
+{}
+
+/// What is read from tokens is a well-formed tree whose nodes have their tokens' numbers, and the tokens are its spelling.
+pub fn what_is_read_is_written()
+    ensures { (tokens : List Spelled) (tree : Module) (behind : Input) → read (map symbol_of tokens) ≡ Ok (tree, behind) → IsTreeOf tokens tree }
 {}

@@ -5,6 +5,6 @@ mod laws;
 mod place;
 mod word;
 
-pub use laws::{one_tree, what_is_written_is_read};
+pub use laws::{one_tree, what_is_read_is_written, what_is_written_is_read};
 pub use place::Place;
 pub use word::SpecifierWord;
