@@ -37,7 +37,7 @@ pub record IsCore (place : Place) (typed : Bool) (env : Env) (i : Input) (c : Co
   pub name : c.name ≡ text_of (name_in c.core)
   pub behind : c.behind ≡ knows.behind_core c.core
 
-typedef_is : (env : Env) (i : Input) (x : List ℕ) → i.names ≡ names_of env → input.is_typedef_name i x ≡ is_typedef_name env x
+pub typedef_is : (env : Env) (i : Input) (x : List ℕ) → i.names ≡ names_of env → input.is_typedef_name i x ≡ is_typedef_name env x
 unfolding input.is_typedef_name
 typedef_is env i x names = ap (λ v. or_false (visible v x)) names ∙ names_are env x
 
@@ -131,7 +131,7 @@ module _ (parts : Parts) (sound : Sound parts) where
   absent_here Nameless typed env i h names = record { reads = nothing i env names; holds = tt; numbered = tt; name = refl; behind = refl }
   absent_here Either typed env i h names = record { reads = nothing i env names; holds = tt; numbered = tt; name = refl; behind = refl }
 
-  or_right : (a b : Bool) → (a || b) ≡ false → b ≡ false
+  pub or_right : (a b : Bool) → (a || b) ≡ false → b ≡ false
   or_right true b h = true_is_not_false (sym h)
   or_right false b h = h
 
@@ -154,7 +154,7 @@ module _ (parts : Parts) (sound : Sound parts) where
   core-by place typed env i names None h = absent-core place typed env i names
   core-by place typed env i names (Some _) h = absent-core place typed env i names
 
-  core-sound : (place : Place) (typed : Bool) (env : Env) (i : Input) → i.names ≡ names_of env → Post (IsCore place typed env i) (core parts place typed i)
+  pub core-sound : (place : Place) (typed : Bool) (env : Env) (i : Input) → i.names ≡ names_of env → Post (IsCore place typed env i) (core parts place typed i)
   unfolding core
   core-sound place typed env i names = core-by place typed env i names (ahead i) refl
 

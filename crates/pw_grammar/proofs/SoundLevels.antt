@@ -83,14 +83,14 @@ of_level_some k (Some x) op h = by (binary_level x == k) refl h
     by true e f = (f, ap level_in (sym f) ∙ eqb-true (binary_level x) k e)
     by false e f = absurd (no_some op f)
 
-operator_found : (k : ℕ) (s : Option Symbol) (op : BinaryOperator) → operator_at k s ≡ Some op → (s ≡ Some (Sign (binary_mark op))) × (binary_level op ≡ k)
+pub operator_found : (k : ℕ) (s : Option Symbol) (op : BinaryOperator) → operator_at k s ≡ Some op → (s ≡ Some (Sign (binary_mark op))) × (binary_level op ≡ k)
 operator_found k (Some (Sign s)) op h =
     let found = of_level_some k (binary_operator s) op h in
     (ap (λ v. Some (Sign v)) (sym (binary_stays s) ∙ ap (binary_in s) found.0), found.1)
 operator_found k None op h = absurd (no_some op h)
 operator_found k (Some _) op h = absurd (no_some op h)
 
-assign_found : (s : Option Symbol) (op : AssignOperator) → assigns s ≡ Some op → s ≡ Some (Sign (assign_mark op))
+pub assign_found : (s : Option Symbol) (op : AssignOperator) → assigns s ≡ Some op → s ≡ Some (Sign (assign_mark op))
 assign_found (Some (Sign s)) op h = ap (λ v. Some (Sign v)) (sym (assign_stays s) ∙ ap (assign_in s) h)
 assign_found None op h = absurd (no_some op h)
 assign_found (Some _) op h = absurd (no_some op h)
@@ -215,7 +215,7 @@ module _ (parts : Parts) (sound : Sound parts) where
       (λ _. bind _ (operations parts k j) (λ ops. pure (with_operations e ops)) (operations-sound k four (after_expr env e) j q.reads.names) (λ ops end r.
       chain-whole k env i j end e ops four q r)))
 
-  above-sound : (k : ℕ) → SoundExpr (k + 3) (above_cast parts k)
+  pub above-sound : (k : ℕ) → SoundExpr (k + 3) (above_cast parts k)
   unfolding above_cast
   above-sound zero env i names = cast-sound parts sound env i names
   above-sound (suc k) env i names =

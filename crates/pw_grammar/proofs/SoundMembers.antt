@@ -96,7 +96,7 @@ module _ (parts : Parts) (sound : Sound parts) where
       valued_enumerator-listed env i x y u (record u { names = u.names ++ (w.text, false) ∷ [] }) w e q equal s d))
       (λ _. plain_enumerator-listed env i x (record x { names = x.names ++ (w.text, false) ∷ [] }) w q (declared_plain env w x q.reads.names)))
 
-  some_enumerators-sound : (env : Env) (i : Input) → i.names ≡ names_of env → Post (IsEnumerators env i) (some_enumerators parts i)
+  pub some_enumerators-sound : (env : Env) (i : Input) → i.names ≡ names_of env → Post (IsEnumerators env i) (some_enumerators parts i)
   unfolding some_enumerators
   some_enumerators-sound env i names = comma-sound IsEnumerators NoEnumerator (enumerator parts) enumerator-sound env i names
 

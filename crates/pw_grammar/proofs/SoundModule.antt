@@ -37,15 +37,15 @@ pub record IsExternal (env : Env) (i : Input) (e : External) (j : Input) : Type 
   pub numbered : NumberedExternal i.next e
 
 -- the names of a function's parameters are visible in its body
-entered_names : (env : Env) (x : Declarator) (names bindings : List Binding) → names ≡ names_of env → bindings ≡ or_none (behind_of x) → names ++ bindings ≡ names_of (enter env x)
+pub entered_names : (env : Env) (x : Declarator) (names bindings : List Binding) → names ≡ names_of env → bindings ≡ or_none (behind_of x) → names ++ bindings ≡ names_of (enter env x)
 entered_names env x names bindings e f = ap (λ v. v ++ bindings) e ∙ ap (λ v. names_of env ++ v) f ∙ enter-names env x
 
 -- and not behind it
-around_function : (env : Env) (x : Declarator) (ds : List Decl) (a b : List Binding) → a ≡ names_of env → b ≡ names_of (after_decls (enter env x) ds) → take (length a) b ≡ names_of env
+pub around_function : (env : Env) (x : Declarator) (ds : List Decl) (a b : List Binding) → a ≡ names_of env → b ≡ names_of (after_decls (enter env x) ds) → take (length a) b ≡ names_of env
 around_function env x ds a b e f =
     ap (λ v. take (length v) b) e ∙ ap (λ v. take (length (names_of env)) v) (f ∙ ap names_of (in-function env x ds)) ∙ left (after_decls (enter [] x) ds) env
 
-has_specifier : (ss : Specifiers) → is_empty ss ≡ false → HasSpecifier ss
+pub has_specifier : (ss : Specifiers) → is_empty ss ≡ false → HasSpecifier ss
 has_specifier NoSpecifier h = true_is_not_false (sym h)
 has_specifier (Storage n c ss) h = tt
 has_specifier (Qualified n c ss) h = tt
@@ -56,7 +56,7 @@ has_specifier (Record n r w ms ss) h = tt
 has_specifier (EnumTag n w ss) h = tt
 has_specifier (Enum n w es ss) h = tt
 
-not_empty : (a b : Bool) → (not a && b) ≡ true → a ≡ false
+pub not_empty : (a b : Bool) → (not a && b) ≡ true → a ≡ false
 not_empty true b h = true_is_not_false h
 not_empty false b h = refl
 

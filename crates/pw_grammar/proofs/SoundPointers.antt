@@ -34,7 +34,7 @@ qualifier_stays (Some (Reserved k.Volatile)) = refl
 qualifier_stays None = refl
 qualifier_stays (Some _) = refl
 
-abbrev IsQualifiers : Env → Input → List Qualifier → Input → Type 0
+abbrev pub IsQualifiers : Env → Input → List Qualifier → Input → Type 0
 IsQualifiers env i qs j = Reads i j env (spell_qualifiers qs)
 
 qualifier-by : (env : Env) (i : Input) → i.names ≡ names_of env → (o : Option Qualifier) → tests.qualifier_word (ahead i) ≡ o → Post (IsItem IsQualifiers [] env i) (qualifier_by o i)
@@ -47,7 +47,7 @@ qualifier-sound : (env : Env) (i : Input) → i.names ≡ names_of env → Post 
 unfolding qualifier
 qualifier-sound env i names = qualifier-by env i names (tests.qualifier_word (ahead i)) refl
 
-qualifiers-sound : (env : Env) (i : Input) → i.names ≡ names_of env → Post (IsQualifiers env i) (qualifiers i)
+pub qualifiers-sound : (env : Env) (i : Input) → i.names ≡ names_of env → Post (IsQualifiers env i) (qualifiers i)
 unfolding qualifiers
 qualifiers-sound env i names = while-sound IsQualifiers [] qualifier qualifier-sound env i names
 

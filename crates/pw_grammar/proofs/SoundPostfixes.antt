@@ -71,7 +71,7 @@ module _ (parts : Parts) (sound : Sound parts) where
   some_arguments-sound env i names = comma-sound IsArguments NoArgument (argument parts) (λ env i names.
       bind _ (parts.expr 15 i) (λ e. pure (Argument e)) (sound.expr 15 (omega arith) env i names) (argument-listed env i)) env i names
 
-  arguments-sound : (env : Env) (i : Input) → i.names ≡ names_of env
+  pub arguments-sound : (env : Env) (i : Input) → i.names ≡ names_of env
       → Post (λ es j. Reads i j (after_arguments env es) (spell_arguments true es) × WellFormedArguments env es × NumberedArguments true i.next es) (arguments parts i)
   unfolding arguments spell_expr after_expr WellFormed Numbered
   arguments-sound env i names = choose_parser _ (sees m.CloseParen i) (pure NoArgument) (some_arguments parts) i

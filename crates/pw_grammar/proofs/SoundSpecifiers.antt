@@ -67,7 +67,7 @@ word_stays k.Union = refl
 word_stays k.Enum = refl
 word_stays _ = refl
 
-word_found : (w : Keyword) (o : SpecifierWord) → specifier_word w ≡ Some o → w ≡ word_in w (Some o)
+pub word_found : (w : Keyword) (o : SpecifierWord) → specifier_word w ≡ Some o → w ≡ word_in w (Some o)
 word_found w o h = sym (word_stays w) ∙ ap (word_in w) h
 
 -- ---- 6.5.2.1
@@ -133,7 +133,7 @@ module _ (parts : Parts) (sound : Sound parts) where
       let all = q.before ms r.inner r.list in
       record { inner = r.inner; list = all; closing = renamed r.closing (r.closing.names ∙ sym r.list.reads.names ∙ all.reads.names); has = q.has ms }
 
-  members-sound : (env : Env) (i : Input) → i.names ≡ names_of env → Post (IsMemberList env i) (members parts i)
+  pub members-sound : (env : Env) (i : Input) → i.names ≡ names_of env → Post (IsMemberList env i) (members parts i)
   unfolding members past
   members-sound env i names = repeat-sound IsMemberList (member parts >>= λ first. turn_with first <$> closes_members) turn (turns i) env i names
     where
@@ -152,7 +152,7 @@ module _ (parts : Parts) (sound : Sound parts) where
     pub reads : Reads i j env (spell_tag t)
     pub numbered : NumberedTag i.next t
 
-  tag-sound : (env : Env) (i : Input) → i.names ≡ names_of env → Post (IsTag env i) (tag i)
+  pub tag-sound : (env : Env) (i : Input) → i.names ≡ names_of env → Post (IsTag env i) (tag i)
   unfolding tag
   tag-sound env i names = by (ahead i) refl
     where
@@ -176,15 +176,15 @@ module _ (parts : Parts) (sound : Sound parts) where
     pub names : j.names ≡ names_of inner
     pub before : (ss : Specifiers) (k : Input) → IsBehind storage (typed_by typed f) inner j ss k → IsBehind storage typed env i (f ss) k
 
-  may_as : (storage : Bool) (a b : Specifiers) → (NoStorage a → NoStorage b) → MayHold storage a → MayHold storage b
+  pub may_as : (storage : Bool) (a b : Specifiers) → (NoStorage a → NoStorage b) → MayHold storage a → MayHold storage b
   may_as true a b f h = tt
   may_as false a b f h = f h
 
-  or_true : (b : Bool) → (b || true) ≡ true
+  pub or_true : (b : Bool) → (b || true) ≡ true
   or_true true = refl
   or_true false = refl
 
-  or_same : (b : Bool) → (b || false) ≡ b
+  pub or_same : (b : Bool) → (b || false) ≡ b
   or_same true = refl
   or_same false = refl
 

@@ -171,7 +171,7 @@ pub record IsAlternative (env : Env) (i : Input) (a : Alternative) (j : Input) :
   pub closed : alternative_ends_open a ≡ true → sees_keyword k.Else j ≡ false
   pub precedes : (s : Stmt) → (ends_open s ≡ true → sees_keyword k.Else i ≡ false) → MayPrecede s a
 
-not_open : (b c : Bool) → (b ≡ true → c ≡ false) → c ≡ true → b ≡ false
+pub not_open : (b c : Bool) → (b ≡ true → c ≡ false) → c ≡ true → b ≡ false
 not_open false c f h = refl
 not_open true c f h = true_is_not_false (sym (f refl) ∙ h)
 

@@ -31,7 +31,7 @@ lift-sound k l p h f env i names = weaken _ (p i) (f env i names) (λ e j q. lif
 module _ (parts : Parts) (sound : Sound parts) where
   -- ---- 6.3.3
 
-  two_or_more : (op : UnaryOperator) → 2 ≤ operand_level op
+  pub two_or_more : (op : UnaryOperator) → 2 ≤ operand_level op
   two_or_more unary.Address = omega arith
   two_or_more unary.Dereference = omega arith
   two_or_more unary.Plus = omega arith

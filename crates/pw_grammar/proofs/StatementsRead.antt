@@ -31,11 +31,11 @@ pub spreads-stmts : (more env : Env) (ss : Stmts) → after_stmts (more ++ env) 
 spreads-stmts more env NoStmt = refl
 spreads-stmts more env (Next s ss) = ap (λ v. after_stmts v ss) (spreads-stmt more env s) ∙ spreads-stmts (after_stmt more s) env ss
 
-begins-long : (env : Env) (tokens : List Symbol) → begins_stmt env (head tokens) ≡ true → 0 < length tokens
+pub begins-long : (env : Env) (tokens : List Symbol) → begins_stmt env (head tokens) ≡ true → 0 < length tokens
 begins-long env [] h = true_is_not_false h
 begins-long env (s ∷ tokens) h = omega arith
 
-label-long : (l : Label) → 0 < length (spell_label l [])
+pub label-long : (l : Label) → 0 < length (spell_label l [])
 label-long (CaseLabel t e) = omega arith
 label-long (DefaultLabel t) = omega arith
 label-long (NameLabel w) = omega arith

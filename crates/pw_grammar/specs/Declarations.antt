@@ -1,5 +1,5 @@
 -- The knot of the parts that hold one another; initializers and declarations (C90 6.5, 6.5.7).
-use Rattle.std.specs.Prelude.{ℕ, zero, suc, Bool, true, false, not, ◌&&◌, if◌then◌else◌, List, [], ◌∷◌, Option, Some, None, Ok, Err}
+use Rattle.std.specs.Prelude.{ℕ, zero, suc, Bool, true, false, if◌then◌else◌, List, [], ◌∷◌, Option, Some, None}
 use Rattle.pw_tree.specs.Levels.{assignment}
 use Rattle.pw_tree.specs.Scopes.{has_type, has_typedef}
 use Rattle.pw_tree.specs.Trees.{Specifiers, Init, Value, Braces, Inits, NoInit, Listed, Initializer, InitDeclarator, Decl}
@@ -7,7 +7,7 @@ use Rattle.pw_tree.specs.declared.symbol.Mark.TheVariants as m
 use Rattle.pw_grammar.specs.declared.place.Place.TheVariants.{Named}
 use Rattle.pw_grammar.specs.Declarators.{declarator_of, declare_name}
 use Rattle.pw_grammar.specs.Expressions.{expr_of, some_specifiers}
-use Rattle.pw_grammar.specs.Input.{Parser, ◌>>=◌, ◌>>◌, ◌<$>◌, pure, fault, asks, take_number, sees, eat, expect, while_some, one_or_more, unless_comma}
+use Rattle.pw_grammar.specs.Input.{Parser, ◌>>=◌, ◌>>◌, ◌<$>◌, pure, fault, asks, take_number, sees, eat, expect, while_some, one_or_more}
 use Rattle.pw_grammar.specs.Parts.{Parts, Declared}
 use Rattle.pw_grammar.specs.Specifiers.{specifiers_of}
 use Rattle.pw_grammar.specs.Tests.{begins_specifier}

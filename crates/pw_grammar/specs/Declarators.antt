@@ -1,17 +1,16 @@
 -- Declarators (C90 6.5.4, 6.5.5).
-use Rattle.std.specs.Prelude.{ℕ, Bool, true, false, not, ◌&&◌, ◌||◌, if◌then◌else◌, is_some, List, [], ◌∷◌, Option, Some, None, Ok, Err}
+use Rattle.std.specs.Prelude.{ℕ, Bool, true, false, not, ◌&&◌, ◌||◌, if◌then◌else◌, is_some, List, [], ◌∷◌, Option, Some, None}
 use Rattle.std.specs.Option.{option_or}
 use Rattle.pw_tree.specs.Levels.{conditional}
 use Rattle.pw_tree.specs.Scopes.{has_type}
-use Rattle.pw_tree.specs.Symbols.{Symbol, Reserved, Sign, Identifier}
-use Rattle.pw_tree.specs.Trees as tree
-use Rattle.pw_tree.specs.Trees.{Word, Pointer, Declarator, Declaring, Core, Absent, Name, Enclosed, Suffixes, NoSuffix, Array, OpenArray, Prototype, Variadic, Identifiers, Parameters, NoParameter, Parameter}
+use Rattle.pw_tree.specs.Symbols.{Symbol, Sign, Identifier}
+use Rattle.pw_tree.specs.Trees.{Word, Pointer, Declaring, Core, Absent, Name, Enclosed, Suffixes, NoSuffix, Array, OpenArray, Prototype, Variadic, Identifiers, Parameters, NoParameter, Parameter}
 use Rattle.pw_tree.specs.declared.expr.Qualifier.{Qualifier}
 use Rattle.pw_tree.specs.declared.symbol.Mark.TheVariants as m
 use Rattle.pw_grammar.specs.declared.place.Place.{Place}
 use Rattle.pw_grammar.specs.declared.place.Place.TheVariants.{Named, Nameless, Either}
 use Rattle.pw_grammar.specs.Expressions.{some_specifiers}
-use Rattle.pw_grammar.specs.Input.{Binding, Input, Parser, ◌>>=◌, ◌>>◌, ◌<$>◌, pure, fault, ahead, asks, peek, here, skip, take_number, word, sees, eat, expect, ordinary, is_typedef_name, mark, since, leave, declare, Turn, Last, More, turn_with, list_of, while_some, one_or_more, unless_comma}
+use Rattle.pw_grammar.specs.Input.{Binding, Input, Parser, ◌>>=◌, ◌>>◌, ◌<$>◌, pure, fault, ahead, asks, peek, skip, take_number, word, sees, eat, expect, ordinary, is_typedef_name, mark, since, leave, declare, while_some, one_or_more, unless_comma}
 use Rattle.pw_grammar.specs.Parts.{Parts, Declared}
 use Rattle.pw_grammar.specs.Tests.{begins_specifier, opens_parameters, qualifier_word}
 

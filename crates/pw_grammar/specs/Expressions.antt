@@ -1,5 +1,5 @@
 -- Expressions and type names (C90 6.3, 6.4, 6.5.5).
-use Rattle.std.specs.Prelude.{ℕ, zero, suc, ◌+◌, ◌-◌, ◌==◌, Bool, true, false, if◌then◌else◌, nat_le, List, [], ◌∷◌, Option, Some, None, option_map, Ok, Err}
+use Rattle.std.specs.Prelude.{ℕ, zero, suc, ◌+◌, ◌-◌, ◌==◌, Bool, false, if◌then◌else◌, nat_le, List, [], ◌∷◌, Option, Some, None}
 use Rattle.pw_tree.specs.Levels.{level, cast, unary, conditional, assignment, comma}
 use Rattle.pw_tree.specs.Scopes.{has_type}
 use Rattle.pw_tree.specs.Symbols.{Symbol, Reserved, Sign}
@@ -15,10 +15,9 @@ use Rattle.pw_tree.specs.declared.operator.StepOperator.TheVariants as stepping
 use Rattle.pw_tree.specs.declared.operator.UnaryOperator.{UnaryOperator}
 use Rattle.pw_tree.specs.declared.operator.UnaryOperator.TheVariants as operator
 use Rattle.pw_tree.specs.declared.symbol.Keyword.TheVariants as k
-use Rattle.pw_tree.specs.declared.symbol.Mark.{Mark}
 use Rattle.pw_tree.specs.declared.symbol.Mark.TheVariants as m
 use Rattle.pw_grammar.specs.declared.place.Place.TheVariants.{Nameless}
-use Rattle.pw_grammar.specs.Input.{Input, Parser, ◌>>=◌, ◌>>◌, ◌<$>◌, pure, fault, asks, peek, ahead, here, skip, take_number, word, sees, expect, identifier, ordinary, while_some, one_or_more, unless_comma}
+use Rattle.pw_grammar.specs.Input.{Parser, ◌>>=◌, ◌>>◌, ◌<$>◌, pure, fault, asks, peek, here, take_number, word, sees, expect, identifier, ordinary, while_some, one_or_more, unless_comma}
 use Rattle.pw_grammar.specs.Parts.{Parts}
 use Rattle.pw_grammar.specs.Tests.{is_empty, opens_type_name, prefix_operator, operator_at, assigns}
 

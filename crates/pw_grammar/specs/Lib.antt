@@ -7,3 +7,4 @@ pub mod Declarators
 pub mod Declarations
 pub mod Statements
 pub mod Modules
+pub mod Answers

@@ -1,5 +1,5 @@
 -- Translation units (C90 6.7).
-use Rattle.std.specs.Prelude.{ℕ, ◌+◌, Bool, true, false, not, ◌&&◌, ◌||◌, if◌then◌else◌, length, List, [], ◌∷◌, Option, Some, None, option_map, Ok, Err}
+use Rattle.std.specs.Prelude.{ℕ, ◌+◌, Bool, true, not, ◌&&◌, ◌||◌, if◌then◌else◌, length, List, [], ◌∷◌, Option, Some, None}
 use Rattle.pw_tree.specs.Scopes.{has_type, has_typedef}
 use Rattle.pw_tree.specs.Symbols.{Symbol}
 use Rattle.pw_tree.specs.Trees.{Specifiers, External, Definition, Declaration, Module}
@@ -7,7 +7,7 @@ use Rattle.pw_tree.specs.declared.symbol.Mark.TheVariants as m
 use Rattle.pw_grammar.specs.declared.place.Place.TheVariants.{Named}
 use Rattle.pw_grammar.specs.Declarations.{parts, declarations, declaration_with}
 use Rattle.pw_grammar.specs.Declarators.{declare_name}
-use Rattle.pw_grammar.specs.Input.{Binding, Input, Outcome, Parser, ◌>>=◌, ◌>>◌, ◌<$>◌, pure, fault, asks, at_end, sees, eat, mark, leave, declare_all, one_or_more}
+use Rattle.pw_grammar.specs.Input.{Binding, Input, Outcome, Parser, ◌>>=◌, ◌>>◌, ◌<$>◌, pure, asks, at_end, sees, eat, mark, leave, declare_all, one_or_more}
 use Rattle.pw_grammar.specs.Parts.{Declared}
 use Rattle.pw_grammar.specs.Statements.{stmt, block}
 use Rattle.pw_grammar.specs.Tests.{is_empty}

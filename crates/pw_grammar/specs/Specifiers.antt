@@ -1,5 +1,5 @@
 -- Specifiers (C90 6.5.1 to 6.5.3, 6.5.6).
-use Rattle.std.specs.Prelude.{ℕ, zero, suc, ◌+◌, Bool, true, false, not, ◌&&◌, ◌||◌, if◌then◌else◌, List, [], ◌∷◌, Option, Some, None, Ok, Err}
+use Rattle.std.specs.Prelude.{ℕ, zero, suc, Bool, false, not, ◌&&◌, ◌||◌, if◌then◌else◌, Option, Some, None}
 use Rattle.pw_tree.specs.Levels.{conditional}
 use Rattle.pw_tree.specs.Scopes.{has_type}
 use Rattle.pw_tree.specs.Symbols.{Symbol, Reserved, Identifier}
@@ -11,7 +11,7 @@ use Rattle.pw_grammar.specs.declared.place.Place.TheVariants.{Named}
 use Rattle.pw_grammar.specs.declared.word.SpecifierWord.{SpecifierWord}
 use Rattle.pw_grammar.specs.declared.word.SpecifierWord.TheVariants.{Storage, Qualified, Basic, Record, Enum}
 use Rattle.pw_grammar.specs.Expressions.{some_specifiers}
-use Rattle.pw_grammar.specs.Input.{Input, Parser, ◌>>=◌, ◌>>◌, ◌<$>◌, pure, fault, asks, peek, skip, take_number, word, sees, eat, expect, identifier, is_typedef_name, declare, turns, one_or_more, unless_comma}
+use Rattle.pw_grammar.specs.Input.{Parser, ◌>>=◌, ◌>>◌, ◌<$>◌, pure, fault, asks, peek, take_number, word, sees, eat, expect, identifier, is_typedef_name, declare, turns, one_or_more, unless_comma}
 use Rattle.pw_grammar.specs.Parts.{Parts}
 use Rattle.pw_grammar.specs.Tests.{specifier_word}
 

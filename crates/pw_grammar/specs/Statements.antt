@@ -1,5 +1,5 @@
 -- Statements (C90 6.6).
-use Rattle.std.specs.Prelude.{ℕ, zero, suc, Bool, true, false, not, ◌&&◌, if◌then◌else◌, List, [], ◌∷◌, Option, Some, None, Ok, Err}
+use Rattle.std.specs.Prelude.{ℕ, zero, suc, not, ◌&&◌, if◌then◌else◌, List, [], ◌∷◌, Option, Some, None}
 use Rattle.pw_tree.specs.Levels.{conditional, comma}
 use Rattle.pw_tree.specs.Symbols.{Symbol, Reserved, Sign, Identifier}
 use Rattle.pw_tree.specs.Trees.{Expr, Label, CaseLabel, DefaultLabel, NameLabel, Stmt, Compound, Expression, Empty, Labeled, If, Switch, While, Do, For, Goto, Continue, Break, Return, Alternative, NoElse, Otherwise, ElseIf, Block, Braced, Stmts, NoStmt, Next}
@@ -7,7 +7,7 @@ use Rattle.pw_tree.specs.declared.symbol.Keyword.TheVariants as k
 use Rattle.pw_tree.specs.declared.symbol.Mark.{Mark}
 use Rattle.pw_tree.specs.declared.symbol.Mark.TheVariants as m
 use Rattle.pw_grammar.specs.Declarations.{parts, declarations}
-use Rattle.pw_grammar.specs.Input.{Input, Parser, ◌>>=◌, ◌>>◌, ◌<$>◌, pure, fault, asks, peek, skip, step, take_number, word, sees, sees_keyword, eat, eat_keyword, expect, expect_keyword, ordinary, is_typedef_name, mark, leave, Turn, Last, More, list_of, while_some}
+use Rattle.pw_grammar.specs.Input.{Parser, ◌>>=◌, ◌>>◌, ◌<$>◌, pure, fault, asks, peek, skip, step, take_number, word, sees, sees_keyword, eat, eat_keyword, expect, expect_keyword, ordinary, is_typedef_name, mark, leave, Turn, Last, More, list_of, while_some}
 
 unfoldable pub default_label : Parser Label
 default_label = do

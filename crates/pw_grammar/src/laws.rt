@@ -1,9 +1,11 @@
-//! Laws of the grammar: what is written is read, and so tokens have one tree; what is read is written.
+//! Laws of the grammar: what is written is read, and so tokens have one tree; what is read is written; where reading
+//! stops, the tokens leave the grammar.
 
-ghost use Rattle.std.specs.Prelude.{◌≡◌, List, [], map, Ok};
-ghost use Rattle.pw_tree.specs.Grammar.{IsTreeOf};
+ghost use Rattle.std.specs.Prelude.{◌≡◌, ◌↔◌, ℕ, List, [], map, Result, Ok, Err};
+ghost use Rattle.pw_tree.specs.Grammar.{IsSyntaxFault, IsTreeOf};
 ghost use Rattle.pw_tree.specs.Symbols.{Spelled, symbol_of};
 ghost use Rattle.pw_tree.specs.Trees.{Module};
+ghost use Rattle.pw_grammar.specs.Answers.{IsAnswer, answer_in};
 ghost use Rattle.pw_grammar.specs.Input.{Input};
 ghost use Rattle.pw_grammar.specs.Modules.{read};
 
@@ -20,4 +22,20 @@ pub fn one_tree()
 /// What is read from tokens is a well-formed tree whose nodes have their tokens' numbers, and the tokens are its spelling.
 pub fn what_is_read_is_written()
     ensures { (tokens : List Spelled) (tree : Module) (behind : Input) → read (map symbol_of tokens) ≡ Ok (tree, behind) → IsTreeOf tokens tree }
+{}
+
+/// Tokens have at most one fault.
+pub fn one_fault()
+    ensures { (tokens : List Spelled) (number other : ℕ) → IsSyntaxFault tokens number → IsSyntaxFault tokens other → number ≡ other }
+{}
+
+/// Where reading stops, the tokens leave the grammar: those before the fault begin a well-formed tree, with the token
+/// at the fault they begin none, and all of them are the spelling of none.
+pub fn where_reading_stops()
+    ensures { (tokens : List Spelled) (at : Input) → read (map symbol_of tokens) ≡ Err at → IsSyntaxFault tokens at.next }
+{}
+
+/// What is read from tokens is their one answer: the one tree, or the one fault.
+pub fn reading_is_exact()
+    ensures { (tokens : List Spelled) (answer : Result Module ℕ) → IsAnswer tokens answer ↔ (answer ≡ answer_in (read (map symbol_of tokens))) }
 {}
