@@ -1,9 +1,9 @@
 //! The names in scope.
 
-ghost use Rattle.std.specs.Prelude.{◌≡◌, [], ◌∷◌, ◌++◌, ◌-◌, ◌↔◌, length, take, IsTrue, OnOk, OnErr};
+ghost use Rattle.std.specs.Prelude.{◌≡◌, [], ◌∷◌, ◌++◌, ◌-◌, ◌↔◌, length, map, take, drop, IsTrue, IfOk, OnOk, OnErr};
 ghost use Rattle.pw_scope.specs.Visible.{visible};
 ghost use Rattle.indexmap.specs.IndexMap.{ContainsKey, Updates};
-ghost use Rattle.pw_scope.specs.Log.{same_name};
+ghost use Rattle.pw_scope.specs.Log.{declared_by, same_name};
 
 use crate::entry::Entry;
 use indexmap::IndexMap;
@@ -84,6 +84,13 @@ impl<'a, T: Copy> Scopes<'a, T> {
         self.entries.len()
     }
 
+    /// The declarations behind the first `len`.
+    pub fn since(&self, alloc: Global, len: usize) -> Result<Vec<(&'a [u8], T)>, NoMemory>
+        ensures { IfOk result (λ declared. map (λ d. (d.0.now, d.1)) declared.items ≡ drop len self.now) }
+    {
+        pairs(alloc, behind(&self.entries, len))
+    }
+
     /// Forgets all but the first `len` declarations, so that what they hid is visible again. Where
     /// there are no more, nothing changes.
     pub fn leave(&mut self, len: usize)
@@ -119,4 +126,27 @@ fn restore<'a>(last_places: &mut IndexMap<&'a [u8], usize>, name: &'a [u8], hidd
             last_places.swap_remove(name);
         }
     }
+}
+
+fn behind<'e, 'a, T>(entries: &'e [Entry<'a, T>], len: usize) -> &'e [Entry<'a, T>]
+    ensures { declared_by result.now ≡ drop len (declared_by entries.now) }
+{
+    if len < entries.len() {
+        &entries[len..]
+    } else {
+        &[]
+    }
+}
+
+fn pairs<'a, T: Copy>(
+    alloc: Global,
+    entries: &[Entry<'a, T>],
+) -> Result<Vec<(&'a [u8], T)>, NoMemory>
+    ensures { IfOk result (λ found. map (λ d. (d.0.now, d.1)) found.items ≡ declared_by entries.now) }
+{
+    let mut found = Vec::new(alloc);
+    for entry in entries {
+        found.push((entry.name, entry.meaning))?;
+    }
+    Ok(found)
 }
