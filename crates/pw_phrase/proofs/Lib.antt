@@ -1,0 +1,7 @@
+pub mod Loops
+pub mod Shown
+pub mod Turns
+pub mod Levels
+pub mod TypedLoop
+pub mod Nodes
+pub mod Pairs

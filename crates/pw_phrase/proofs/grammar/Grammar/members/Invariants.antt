@@ -1,0 +1,11 @@
+use Rattle.std.proofs.Common.{◌-◌}
+use Rattle.pw_grammar.specs.Specifiers.{member, members}
+use Rattle.pw_grammar.specs.Input.{turn_with, ◌<$>◌, ◌>>=◌}
+use Rattle.pw_phrase.specs.Views.{member_first}
+use Rattle.pw_grammar.specs.Declarations.{parts}
+use Rattle.pw_grammar.specs.Specifiers.{closes_members}
+use Rattle.pw_phrase.proofs.Loops.{Reading, prepend}
+use Rattle.pw_phrase.proofs.grammar.Grammar.members.Given as goal
+
+abbrev pub invariant-loop-turn : goal.invariant-loop-turn
+invariant-loop-turn g l = Reading (member (parts l.self.depth) >>= λ first. turn_with first <$> closes_members) (members (parts l.self.depth) l.fn.tokens) (prepend member_first l.found.items) (l._turn-end - l._turn) l.tokens

@@ -1,0 +1,11 @@
+use Rattle.std.proofs.Common.{◌-◌}
+use Rattle.pw_grammar.specs.Specifiers.{enumerator, some_enumerators}
+use Rattle.pw_grammar.specs.Input.{turn_with, unless_comma, ◌<$>◌, ◌>>=◌}
+use Rattle.pw_tree.specs.Views.{view_enumerator}
+use Rattle.pw_tree.specs.Trees.{NoEnumerator}
+use Rattle.pw_grammar.specs.Declarations.{parts}
+use Rattle.pw_phrase.proofs.Loops.{Reading, prepend}
+use Rattle.pw_phrase.proofs.grammar.Grammar.some_enumerators.Given as goal
+
+abbrev pub invariant-loop-turn : goal.invariant-loop-turn
+invariant-loop-turn g l = Reading (enumerator (parts l.self.depth) >>= λ first. turn_with first <$> unless_comma NoEnumerator) (some_enumerators (parts l.self.depth) l.fn.tokens) (prepend view_enumerator l.found.items) (l._turn-end - l._turn) l.tokens
