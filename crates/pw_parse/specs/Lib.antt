@@ -1,0 +1,4 @@
+pub mod Views
+pub mod Branches
+pub mod NestsStmt
+pub mod Parsing

@@ -1,0 +1,12 @@
+//! The parser of C90 (ISO/IEC 9899:1990, 6.3 to 6.7).
+#![tactic(auto)]
+
+mod decl;
+mod module;
+mod parser;
+mod stmt;
+
+pub use parser::{ParseFault, parse};
+
+#[cfg(test)]
+mod tests;
