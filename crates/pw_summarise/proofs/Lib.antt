@@ -1,0 +1,9 @@
+pub mod Standing
+pub mod Orders
+pub mod Searches
+pub mod References
+pub mod WeightLaws
+pub mod ShapeLaws
+pub mod LawfulLaws
+pub mod UniqueLaws
+pub mod MakingLaws

@@ -1,0 +1,6 @@
+use Rattle.std.proofs.Common.{◌≡◌, take}
+use Rattle.pw_summarise.specs.Summarises.{taken_of}
+use Rattle.pw_summarise.proofs.taken.taken.Given as goal
+
+abbrev pub invariant-loop-name : goal.invariant-loop-name
+invariant-loop-name l = l.taken.items ≡ taken_of l.functions l.declared (take l.name-index l.names)

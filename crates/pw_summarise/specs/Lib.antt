@@ -1,0 +1,2 @@
+pub mod Summarises
+pub mod Tallies

@@ -1,0 +1,121 @@
+//! What a module defines and declares, in byte order of the names.
+
+ghost use Rattle.std.specs.Prelude.{◌≡◌, map, IfOk};
+ghost use Rattle.pw_flow.specs.FlowGraph.{global_view, function_view};
+ghost use Rattle.pw_flow.specs.ValidFlow.{AreDistinct};
+ghost use Rattle.pw_summarise.specs.Summarises.{IsOrdered, global_entry, function_entry};
+
+use pw_flow::{FlowFn, FlowGlobal};
+use pw_value::{Kind, Name, Shape};
+use std::alloc::{AllocError, Global};
+
+/// All objects, as they stand.
+fn each_global(alloc: Global, globals: &[FlowGlobal]) -> Result<Vec<&FlowGlobal>, AllocError>
+    ensures { IfOk result (λ v. map (λ g. global_entry (global_view g.now)) v.items ≡ map global_entry (map global_view globals.now)) }
+{
+    let mut all = Vec::new(alloc);
+    for global in globals {
+        all.push(global)?;
+    }
+    Ok(all)
+}
+
+/// The objects in byte order.
+fn sorted_globals(alloc: Global, globals: &[FlowGlobal]) -> Result<Vec<&FlowGlobal>, AllocError>
+    requires { AreDistinct (map (λ g. g.0) (map global_entry (map global_view globals.now))) }
+    ensures { IfOk result (λ v. IsOrdered (λ g. g.0) (map global_entry (map global_view globals.now)) (map (λ g. global_entry (global_view g.now)) v.items)) }
+{
+    let mut sorted = each_global(alloc, globals)?;
+    sorted.sort_unstable_by(|one, other| one.name.cmp(&other.name));
+    Ok(sorted)
+}
+
+/// What a summary has of objects.
+fn global_entries(
+    alloc: Global,
+    globals: &[&FlowGlobal],
+) -> Result<Vec<(Name, Shape, Option<Kind>, bool)>, AllocError>
+    ensures { IfOk result (λ v. v.items ≡ map (λ g. global_entry (global_view g.now)) globals.now) }
+{
+    let mut entries = Vec::new(alloc);
+    for global in globals {
+        let name = global.name.copy(alloc)?;
+        let shape = global.shape.copy(alloc)?;
+        entries.push((name, shape, global.kind, global.volatile))?;
+    }
+    Ok(entries)
+}
+
+/// What a summary has of a module's objects.
+pub(crate) fn globals_of(
+    alloc: Global,
+    globals: &[FlowGlobal],
+) -> Result<Vec<(Name, Shape, Option<Kind>, bool)>, AllocError>
+    requires { AreDistinct (map (λ g. g.0) (map global_entry (map global_view globals.now))) }
+    ensures { IfOk result (λ v. IsOrdered (λ g. g.0) (map global_entry (map global_view globals.now)) v.items) }
+{
+    let sorted = sorted_globals(alloc, globals)?;
+    global_entries(alloc, &sorted)
+}
+
+/// All functions, as they stand.
+fn each_function(alloc: Global, functions: &[FlowFn]) -> Result<Vec<&FlowFn>, AllocError>
+    ensures { IfOk result (λ v. map (λ f. function_view f.now) v.items ≡ map function_view functions.now) }
+{
+    let mut all = Vec::new(alloc);
+    for function in functions {
+        all.push(function)?;
+    }
+    Ok(all)
+}
+
+/// The functions in byte order.
+pub(crate) fn sorted_functions(
+    alloc: Global,
+    functions: &[FlowFn],
+) -> Result<Vec<&FlowFn>, AllocError>
+    requires { AreDistinct (map (λ f. f.name) (map function_view functions.now)) }
+    ensures { IfOk result (λ v. IsOrdered (λ f. f.name) (map function_view functions.now) (map (λ f. function_view f.now) v.items)) }
+{
+    let mut sorted = each_function(alloc, functions)?;
+    sorted.sort_unstable_by(|one, other| one.name.cmp(&other.name));
+    Ok(sorted)
+}
+
+/// What a summary has of functions.
+pub(crate) fn function_entries(
+    alloc: Global,
+    functions: &[&FlowFn],
+) -> Result<Vec<(Name, Shape)>, AllocError>
+    ensures { IfOk result (λ v. v.items ≡ map (λ f. function_entry (function_view f.now)) functions.now) }
+{
+    let mut entries = Vec::new(alloc);
+    for function in functions {
+        entries.push((function.name.copy(alloc)?, function.shape.copy(alloc)?))?;
+    }
+    Ok(entries)
+}
+
+/// Declarations, as they stand.
+fn copied(alloc: Global, declared: &[(Name, Shape)]) -> Result<Vec<(Name, Shape)>, AllocError>
+    ensures { IfOk result (λ v. v.items ≡ declared.now) }
+{
+    let mut all = Vec::new(alloc);
+    for (name, shape) in declared {
+        all.push((name.copy(alloc)?, shape.copy(alloc)?))?;
+    }
+    Ok(all)
+}
+
+/// What a module declares.
+pub(crate) fn declared_of(
+    alloc: Global,
+    declared: &[(Name, Shape)],
+) -> Result<Vec<(Name, Shape)>, AllocError>
+    requires { AreDistinct (map (λ d. d.0) declared.now) }
+    ensures { IfOk result (λ v. IsOrdered (λ d. d.0) declared.now v.items) }
+{
+    let mut sorted = copied(alloc, declared)?;
+    sorted.sort_unstable_by(|one, other| one.0.cmp(&other.0));
+    Ok(sorted)
+}

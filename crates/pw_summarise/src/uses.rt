@@ -1,0 +1,36 @@
+//! What the functions of a module use.
+
+ghost use Rattle.std.specs.Prelude.{IfOk};
+ghost use Rattle.std.specs.List.{AllZip};
+ghost use Rattle.pw_flow.specs.FlowGraph.{function_view};
+ghost use Rattle.pw_summary.specs.Summary.{uses_view};
+ghost use Rattle.pw_summarise.specs.Summarises.{IsUsesOf};
+
+use crate::names::{Part, function_names};
+use crate::shapes::called_shapes;
+use crate::weights::references;
+use pw_flow::FlowFn;
+use pw_summary::Uses;
+use std::alloc::{AllocError, Global};
+
+/// What a function uses.
+fn uses_of(alloc: Global, function: &FlowFn) -> Result<Uses, AllocError>
+    ensures { IfOk result (λ u. IsUsesOf (function_view function.now) (uses_view u)) }
+{
+    Ok(Uses {
+        calls: function_names(alloc, Part::Called, function)?,
+        shapes: called_shapes(alloc, function)?,
+        refs: references(alloc, function)?,
+    })
+}
+
+/// What functions use, in their order.
+pub(crate) fn all_uses(alloc: Global, functions: &[&FlowFn]) -> Result<Vec<Uses>, AllocError>
+    ensures { IfOk result (λ v. AllZip (λ f u. IsUsesOf (function_view f.now) (uses_view u)) functions.now v.items) }
+{
+    let mut all = Vec::new(alloc);
+    for function in functions {
+        all.push(uses_of(alloc, function)?)?;
+    }
+    Ok(all)
+}
