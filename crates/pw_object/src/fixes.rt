@@ -24,7 +24,7 @@ pub enum Symbol {
 }
 
 /// A word of a function, by its number, that takes the address of a symbol plus a number.
-#[derive(Debug, Drop)]
+#[derive(PartialEq, Eq, Debug, Drop)]
 pub struct Fix {
     pub word: u32,
     pub kind: FixKind,

@@ -14,7 +14,7 @@ use pw_value::fields::{FieldError, read_choice, read_u32};
 use std::alloc::Global;
 
 /// A function: its name, the bytes of its frame, its words and its fixes.
-#[derive(Debug, Drop)]
+#[derive(PartialEq, Eq, Debug, Drop)]
 pub struct ObjectFn {
     pub name: Name,
     pub frame: u32,

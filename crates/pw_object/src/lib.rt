@@ -16,4 +16,6 @@ pub use reading::{KIND, read};
 pub use writing::write;
 
 #[cfg(test)]
+mod object_tests;
+#[cfg(test)]
 mod tests;

@@ -5,7 +5,7 @@ use pw_flow::FlowGlobal;
 use pw_value::{Name, Shape};
 
 /// A module as words, with what it was made of.
-#[derive(Debug, Drop)]
+#[derive(PartialEq, Eq, Debug, Drop)]
 pub struct Object {
     /// The version of the form of its words: 1.
     pub version: u32,
