@@ -1,0 +1,4 @@
+pub mod FirstLaws
+pub mod LexedLaws
+pub mod FrontLaws
+pub mod CallLaws

@@ -1,0 +1,36 @@
+-- The place of a refusal in its text, and the line of a place.
+use Rattle.std.specs.Prelude.{ℕ, ◌+◌, ◌-◌, ◌==◌, List, [], length, take, count_by, Result, Ok, Err, slice_get}
+use Rattle.std.specs.Option.{option_map_or}
+use Rattle.pw_token.specs.declared.token.LexFault.TheVariants.{Bad, TooLong, TooMany, NoMemory}
+use Rattle.pw_token.specs.declared.token.Token.{Token}
+use Rattle.pw_front.specs.Lexed.{LexAnswer, lexed}
+use Rattle.pw_parse.specs.declared.parser.ParseFault.TheVariants as parse
+use Rattle.pw_front.specs.declared.refusal.Refusal.{Refusal}
+use Rattle.pw_front.specs.declared.refusal.Refusal.TheVariants.{Lex, Unsupported, Parse}
+
+-- the line of a place: 1 and the newlines before it
+abbrev pub line_at : List ℕ → ℕ → ℕ
+line_at text place = 1 + count_by (λ byte. byte == 10) (take place text)
+
+-- the tokens of a text, none where it does not lex
+abbrev pub tokens_in : LexAnswer → List Token
+tokens_in (Ok tokens) = tokens
+tokens_in (Err fault) = []
+
+-- the place of the token of a number, counted from 1; the end of the text where there is none
+abbrev pub token_place : List ℕ → ℕ → ℕ
+token_place text n = option_map_or (λ token. token.at) (slice_get (tokens_in (lexed text)) (n - 1)) (length text)
+
+abbrev pub place_of : List ℕ → Refusal → ℕ
+place_of text (Lex (Bad at)) = at
+place_of text (Lex (TooMany at)) = at
+place_of text (Lex TooLong) = 0
+place_of text (Lex NoMemory) = 0
+place_of text (Unsupported n feature) = token_place text n
+place_of text (Parse (parse.TooDeep n)) = token_place text n
+place_of text (Parse (parse.Syntax n)) = token_place text n
+place_of text (Parse parse.NoMemory) = 0
+
+-- the line of a refusal
+unfoldable pub refusal_line : List ℕ → Refusal → ℕ
+refusal_line text refusal = line_at text (place_of text refusal)

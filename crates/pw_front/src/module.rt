@@ -1,0 +1,37 @@
+//! The front: from the text of a module to its syntax tree.
+
+ghost use Rattle.std.specs.Prelude.{Ok};
+ghost use Rattle.pw_front.specs.Fronts.{by_lexing, front_of};
+ghost use Rattle.pw_front.specs.Gives.{Gives};
+ghost use Rattle.pw_token.specs.Tokenization.{IsLexed};
+ghost use Rattle.pw_tree.specs.Views.{view_module};
+
+use crate::refusal::{FrontError, Refusal};
+use pw_parse::parse;
+use pw_token::{Token, lex, unsupported};
+use pw_tree::Module;
+use std::alloc::Global;
+
+/// The syntax tree of a text's tokens.
+fn tree_of(alloc: Global, text: &[u8], tokens: &[Token]) -> Result<Module, FrontError>
+    requires { IsLexed text.now tokens.now }
+    ensures { Gives view_module (by_lexing text.now (Ok tokens.now)) result }
+{
+    if let Some((token, feature)) = unsupported(text, tokens) {
+        return Err(FrontError::Refused(Refusal::Unsupported(token, feature)));
+    }
+    Ok(parse(alloc, text, tokens)?)
+}
+
+/// The syntax tree of a text, which is tested for lexing, for tokens that are left out, for depth and for syntax, in
+/// this order.
+///
+/// # Errors
+///
+/// `Refused` with what the first of these tests finds, or `NoMemory`.
+pub fn front(alloc: Global, text: &[u8]) -> Result<Module, FrontError>
+    ensures { Gives view_module (front_of text.now) result }
+{
+    let tokens = lex(alloc, text)?;
+    tree_of(alloc, text, tokens.as_slice())
+}
