@@ -84,7 +84,6 @@ pub mod ViableModule
 pub mod ViableLaws
 pub mod OneFault
 pub mod Exact
-pub mod Renumber
 pub mod RenumberSpelling
 pub mod RenumberNumbers
 pub mod RenumberScopes

@@ -4,7 +4,7 @@ use Rattle.pw_tree.specs.Levels.{primary, unary, cast, logical_or, conditional, 
 use Rattle.pw_tree.specs.Scopes.{Env, is_typedef_name, declare_plain}
 use Rattle.pw_tree.specs.Trees.{Expr, Identifier, Number, Floating, Character, Wide, Strings, Paren, Postfix, Unary, SizeofType, Cast, Chain, Conditional, Assign, Postfixes, NoPostfix, Index, Call, Select, Step, Arguments, NoArgument, Argument, Operations, NoOperation, Operation, Specifiers, NoSpecifier, Storage, Qualified, Basic, TypedefName, RecordTag, Record, EnumTag, Enum, Members, NoMember, Member, MemberDeclarators, NoMemberDeclarator, PlainMember, BitField, Padding, Enumerators, NoEnumerator, PlainEnumerator, ValuedEnumerator, Declarator, Declaring, Core, Absent, Name, Enclosed, Suffixes, NoSuffix, Array, OpenArray, Prototype, Variadic, Identifiers, Parameters, NoParameter, Parameter}
 use Rattle.pw_tree.specs.WellFormed.{Place, Named, Nameless, Either, NotTypedef, operand_level, WellFormed, WellFormedPostfixes, WellFormedArguments, WellFormedOperations, WellFormedSpecifiers, WellFormedMembers, WellFormedMemberDeclarators, WellFormedEnumerators, WellFormedDeclarator, WellFormedCore, WellFormedSuffixes, WellFormedParameters, WellFormedOptional}
-use Rattle.pw_grammar.proofs.Renumber.{number_expr, number_postfixes, number_arguments, number_operations, number_specifiers, number_members, number_member_declarators, number_enumerators, number_declarator, number_core, number_suffixes, number_parameters, number_optional}
+use Rattle.pw_grammar.specs.TokenNumbers.{number_expr, number_postfixes, number_arguments, number_operations, number_specifiers, number_members, number_member_declarators, number_enumerators, number_declarator, number_core, number_suffixes, number_parameters, number_optional}
 use Rattle.pw_grammar.proofs.RenumberScopes.{keeps-type, declares-parameter, declares-expr, declares-arguments, declares-specifiers, declares-members, declares-member_declarators, declares-enumerators, declares-declarator, declares-core}
 use Rattle.pw_grammar.proofs.RenumberShapes.{keeps-chain, keeps-level, keeps-name, below, may-enclose, none-typedef, may-declare, has-identifier, has-string, has-postfix, has-specifier, has-member, has-member_declarator, has-enumerator, has-parameter, no-storage, is-something}
 

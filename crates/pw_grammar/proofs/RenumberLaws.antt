@@ -1,18 +1,19 @@
 -- Each well-formed tree is spelled as one whose nodes have the numbers of their tokens, and so tokens that are not read are no tree's.
-use Rattle.std.proofs.Common.{◌≡◌, List, map, Ok, Err, refl, ap, ◌∙◌}
+use Rattle.std.proofs.Common.{◌≡◌, List, map, Ok, Err, refl, sym, ap, ◌∙◌}
 use Rattle.pw_tree.specs.Grammar.{IsTreeOf}
 use Rattle.pw_tree.specs.Spelling.{spelling}
+use Rattle.pw_tree.specs.Numbering.{NumberedModule}
 use Rattle.pw_tree.specs.Symbols.{Spelled, spelled, symbol_of}
 use Rattle.pw_tree.specs.Trees.{Module}
 use Rattle.pw_tree.specs.WellFormed.{WellFormedModule}
 use Rattle.pw_grammar.specs.Input.{Input, Outcome}
 use Rattle.pw_grammar.specs.Modules.{read}
 use Rattle.pw_grammar.proofs.ModuleRead.{behind_all}
-use Rattle.pw_grammar.proofs.Renumber.{number_module}
+use Rattle.pw_grammar.specs.TokenNumbers.{number_module}
 use Rattle.pw_grammar.proofs.RenumberNumbers.{numbered-module}
 use Rattle.pw_grammar.proofs.RenumberSpelling.{respell-externals}
 use Rattle.pw_grammar.proofs.RenumberStatements.{well-module}
-use Rattle.pw_grammar.proofs.TreeLaws.{tree-read}
+use Rattle.pw_grammar.proofs.TreeLaws.{same-tree, tree-read}
 
 -- what is written with other numbers is written with the tokens' own
 pub renumbered : (tokens : List Spelled) (tree : Module) → WellFormedModule tree → spelling tree ≡ tokens → IsTreeOf tokens (number_module tree)
@@ -28,3 +29,15 @@ ok_is_no_fault x i j o h k = cc
 -- tokens whose reading ends at a fault are the spelling of no well-formed tree
 pub no-tree : (tokens : List Spelled) (at : Input) → read (map symbol_of tokens) ≡ Err at → (tree : Module) → WellFormedModule tree → spelling tree ≡ tokens → ⊥
 no-tree tokens at fault tree h e = ok_is_no_fault _ _ at (read (map symbol_of tokens)) (spelled-read tokens tree h e).2 fault
+
+-- ---- trees of one spelling
+
+-- a well-formed tree with its tokens' numbers is a tree of its tokens
+pub own-tree : (tree : Module) → WellFormedModule tree → IsTreeOf (spelling tree) (number_module tree)
+own-tree tree h = renumbered (spelling tree) tree h refl
+
+pub same-spelling : (tree other : Module) → WellFormedModule tree → WellFormedModule other → spelling tree ≡ spelling other → number_module tree ≡ number_module other
+same-spelling tree other h k e = same-tree (spelling tree) (number_module tree) (number_module other) (own-tree tree h) (renumbered (spelling tree) other k (sym e))
+
+pub numbers-kept : (tree : Module) → WellFormedModule tree → NumberedModule tree → number_module tree ≡ tree
+numbers-kept tree h n = same-tree (spelling tree) (number_module tree) tree (own-tree tree h) (record { well_formed = h; numbered = n; spells = refl })

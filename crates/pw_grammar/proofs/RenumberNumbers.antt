@@ -2,7 +2,7 @@
 use Rattle.std.proofs.Common.{ℕ, Bool, true, false, List, [], ◌∷◌, Option, Some, None, refl}
 use Rattle.pw_tree.specs.Numbering.{NumberedIdentifiers, NumberedStrings, NumberedTag, NumberedPointers, Numbered, NumberedPostfixes, NumberedArguments, NumberedOperations, NumberedSpecifiers, NumberedMembers, NumberedMemberDeclarators, NumberedEnumerators, NumberedDeclarator, NumberedCore, NumberedSuffixes, NumberedParameters, NumberedOptional, NumberedInit, NumberedInits, NumberedInitializer, NumberedInitDeclarators, NumberedDecl, NumberedDecls, NumberedLabel, NumberedLabels, NumberedStmt, NumberedAlternative, NumberedBlock, NumberedStmts, NumberedFunction, NumberedExternal, NumberedExternals, NumberedModule}
 use Rattle.pw_tree.specs.Trees.{Word, Pointer, Expr, Identifier, Number, Floating, Character, Wide, Strings, Paren, Postfix, Unary, SizeofType, Cast, Chain, Conditional, Assign, Postfixes, NoPostfix, Index, Call, Select, Step, Arguments, NoArgument, Argument, Operations, NoOperation, Operation, Specifiers, NoSpecifier, Storage, Qualified, Basic, TypedefName, RecordTag, Record, EnumTag, Enum, Members, NoMember, Member, MemberDeclarators, NoMemberDeclarator, PlainMember, BitField, Padding, Enumerators, NoEnumerator, PlainEnumerator, ValuedEnumerator, Declarator, Declaring, Core, Absent, Name, Enclosed, Suffixes, NoSuffix, Array, OpenArray, Prototype, Variadic, Identifiers, Parameters, NoParameter, Parameter, Init, Value, Braces, Inits, NoInit, Listed, Initializer, InitDeclarator, Decl, Label, CaseLabel, DefaultLabel, NameLabel, Stmt, Compound, Expression, Empty, Labeled, If, Switch, While, Do, For, Goto, Continue, Break, Return, Alternative, NoElse, Otherwise, ElseIf, Block, Braced, Stmts, NoStmt, Next, Function, External, Definition, Declaration, Module}
-use Rattle.pw_grammar.proofs.Renumber.{number_identifiers, number_strings, number_tag, number_pointers, number_expr, number_postfixes, number_arguments, number_operations, number_specifiers, number_members, number_member_declarators, number_enumerators, number_declarator, number_core, number_suffixes, number_parameters, number_optional, number_init, number_inits, number_initializer, number_init_declarators, number_decl, number_decls, number_label, number_labels, number_stmt, number_alternative, number_block, number_stmts, number_function, number_external, number_externals, number_module}
+use Rattle.pw_grammar.specs.TokenNumbers.{number_identifiers, number_strings, number_tag, number_pointers, number_expr, number_postfixes, number_arguments, number_operations, number_specifiers, number_members, number_member_declarators, number_enumerators, number_declarator, number_core, number_suffixes, number_parameters, number_optional, number_init, number_inits, number_initializer, number_init_declarators, number_decl, number_decls, number_label, number_labels, number_stmt, number_alternative, number_block, number_stmts, number_function, number_external, number_externals, number_module}
 
 -- ---- lists of words
 

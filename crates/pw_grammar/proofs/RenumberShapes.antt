@@ -4,7 +4,7 @@ use Rattle.pw_tree.specs.Levels.{level, chain_level}
 use Rattle.pw_tree.specs.Scopes.{Env}
 use Rattle.pw_tree.specs.Trees.{Word, Expr, Identifier, Number, Floating, Character, Wide, Strings, Paren, Postfix, Unary, SizeofType, Cast, Chain, Conditional, Assign, Postfixes, NoPostfix, Index, Call, Select, Step, Operations, NoOperation, Operation, Specifiers, NoSpecifier, Storage, Qualified, Basic, TypedefName, RecordTag, Record, EnumTag, Enum, Members, NoMember, Member, MemberDeclarators, NoMemberDeclarator, PlainMember, BitField, Padding, Enumerators, NoEnumerator, PlainEnumerator, ValuedEnumerator, Declarator, Declaring, Core, Absent, Name, Enclosed, NoSuffix, Array, OpenArray, Prototype, Variadic, Identifiers, Parameters, NoParameter, Parameter, Inits, NoInit, Listed, Label, Stmt, Compound, Expression, Empty, Labeled, If, Switch, While, Do, For, Goto, Continue, Break, Return, Alternative, NoElse, Otherwise, ElseIf, External}
 use Rattle.pw_tree.specs.WellFormed.{Place, Named, Nameless, Either, is_named, has_name, NotEmpty, HasPostfix, HasSpecifier, HasMember, HasMemberDeclarator, HasEnumerator, HasParameter, HasInit, NotTypedef, NoneTypedef, MayDeclare, NoStorage, IsSomething, begins_with_typedef, MayEnclose, NotLabeled, NotIf, ends_open, alternative_ends_open, MayPrecede}
-use Rattle.pw_grammar.proofs.Renumber.{number_identifiers, number_strings, number_expr, number_postfixes, number_operations, number_specifiers, number_members, number_member_declarators, number_enumerators, number_declarator, number_core, number_parameters, number_init, number_inits, number_labels, number_stmt, number_alternative, number_externals}
+use Rattle.pw_grammar.specs.TokenNumbers.{number_identifiers, number_strings, number_expr, number_postfixes, number_operations, number_specifiers, number_members, number_member_declarators, number_enumerators, number_declarator, number_core, number_parameters, number_init, number_inits, number_labels, number_stmt, number_alternative, number_externals}
 
 -- ---- levels
 

@@ -4,7 +4,7 @@ use Rattle.pw_tree.specs.Levels.{conditional, assignment}
 use Rattle.pw_tree.specs.Scopes.{Env}
 use Rattle.pw_tree.specs.Trees.{Specifiers, Init, Value, Braces, Inits, NoInit, Listed, Initializer, InitDeclarator, Decl, Label, CaseLabel, DefaultLabel, NameLabel, Stmt, Compound, Expression, Empty, Labeled, If, Switch, While, Do, For, Goto, Continue, Break, Return, Alternative, NoElse, Otherwise, ElseIf, Block, Braced, Stmts, NoStmt, Next, Function, External, Definition, Declaration, Module}
 use Rattle.pw_tree.specs.WellFormed.{Named, NotTypedef, WellFormedInit, WellFormedInits, WellFormedInitializer, WellFormedInitDeclarators, WellFormedDecl, WellFormedDecls, WellFormedLabel, WellFormedLabels, WellFormedStmt, WellFormedAlternative, WellFormedBlock, WellFormedStmts, WellFormedFunction, WellFormedExternal, WellFormedExternals, WellFormedModule}
-use Rattle.pw_grammar.proofs.Renumber.{number_specifiers, number_init, number_inits, number_initializer, number_init_declarators, number_decl, number_decls, number_label, number_labels, number_stmt, number_alternative, number_block, number_stmts, number_external, number_externals, number_function, number_module}
+use Rattle.pw_grammar.specs.TokenNumbers.{number_specifiers, number_init, number_inits, number_initializer, number_init_declarators, number_decl, number_decls, number_label, number_labels, number_stmt, number_alternative, number_block, number_stmts, number_external, number_externals, number_function, number_module}
 use Rattle.pw_grammar.proofs.RenumberScopes.{keeps-type, declares-name, declares-entered, declares-expr, declares-specifiers, declares-optional, declares-init, declares-initializer, declares-decl, declares-decls, declares-label, declares-labels, declares-stmt, declares-external}
 use Rattle.pw_grammar.proofs.RenumberShapes.{keeps-level, may-precede, has-label, has-external, has-specifier, has-init, not-labeled, not-if}
 use Rattle.pw_grammar.proofs.RenumberExpressions.{well-expr, well-specifiers, well-declarator, well-optional}

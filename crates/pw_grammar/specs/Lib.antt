@@ -8,3 +8,4 @@ pub mod Declarations
 pub mod Statements
 pub mod Modules
 pub mod Answers
+pub mod TokenNumbers

@@ -3,11 +3,15 @@
 
 ghost use Rattle.std.specs.Prelude.{◌≡◌, ◌↔◌, ℕ, List, [], map, Result, Ok, Err};
 ghost use Rattle.pw_tree.specs.Grammar.{IsSyntaxFault, IsTreeOf};
+ghost use Rattle.pw_tree.specs.Numbering.{NumberedModule};
+ghost use Rattle.pw_tree.specs.Spelling.{spelling};
 ghost use Rattle.pw_tree.specs.Symbols.{Spelled, symbol_of};
 ghost use Rattle.pw_tree.specs.Trees.{Module};
+ghost use Rattle.pw_tree.specs.WellFormed.{WellFormedModule};
 ghost use Rattle.pw_grammar.specs.Answers.{IsAnswer, answer_in};
 ghost use Rattle.pw_grammar.specs.Input.{Input};
 ghost use Rattle.pw_grammar.specs.Modules.{read};
+ghost use Rattle.pw_grammar.specs.TokenNumbers.{number_module};
 
 /// From a well-formed tree's tokens that tree is read, with the numbers of its tokens, and all tokens are read.
 pub fn what_is_written_is_read()
@@ -17,6 +21,15 @@ pub fn what_is_written_is_read()
 /// Tokens are the spelling of at most one well-formed tree whose nodes have their tokens' numbers.
 pub fn one_tree()
     ensures { (tokens : List Spelled) (tree other : Module) → IsTreeOf tokens tree → IsTreeOf tokens other → tree ≡ other }
+{}
+
+/// Two well-formed trees of one spelling are one tree but for the numbers of their nodes: with their tokens' numbers they
+/// are the same. A tree with its tokens' numbers is spelled as before, and where its nodes have them already it stays as
+/// it is.
+pub fn one_tree_but_for_numbers()
+    ensures same { (tree other : Module) → WellFormedModule tree → WellFormedModule other → spelling tree ≡ spelling other → number_module tree ≡ number_module other }
+    ensures spells { (tree : Module) → WellFormedModule tree → IsTreeOf (spelling tree) (number_module tree) }
+    ensures kept { (tree : Module) → WellFormedModule tree → NumberedModule tree → number_module tree ≡ tree }
 {}
 
 /// What is read from tokens is a well-formed tree whose nodes have their tokens' numbers, and the tokens are its spelling.

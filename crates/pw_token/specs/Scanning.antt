@@ -76,7 +76,7 @@ floating_len t =
 abbrev pub is_splice : List ℕ → Bool
 is_splice t = slice_index t 0 == 92 && slice_index t 1 == 10
 
--- how a constant goes on after its next byte; a simple escape is one of ' " ? \ a b f n r t v
+-- how a constant goes on after its next byte; a simple escape is one of ' " `?` \ a b f n r t v
 abbrev pub is_simple_escape : ℕ → Bool
 is_simple_escape b = b == 39 || b == 34 || b == 63 || b == 92 || b == 97 || b == 98 || b == 102 || b == 110 || b == 114 || b == 116 || b == 118
 

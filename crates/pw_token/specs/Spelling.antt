@@ -89,7 +89,7 @@ joined [] = []
 joined (b ∷ []) = b ∷ []
 joined (b ∷ c ∷ s) = if b == 92 && c == 10 then joined s else b ∷ joined (c ∷ s)
 
--- a backslash and one of ' " ? \ a b f n r t v
+-- a backslash and one of ' " `?` \ a b f n r t v
 abbrev pub is_simple_escape : ℕ → Bool
 is_simple_escape b = b == 39 || b == 34 || b == 63 || b == 92 || b == 97 || b == 98 || b == 102 || b == 110 || b == 114 || b == 116 || b == 118
 
