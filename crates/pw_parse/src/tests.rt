@@ -1,7 +1,8 @@
 //! Modules, and the token at which a text leaves the grammar.
 
 use crate::{ParseFault, parse};
-use pw_token::lex;
+use pw_token::{Token, lex};
+use pw_tree::{Spelled, spell};
 use std::alloc::Global;
 use std::test::Fail;
 
@@ -161,10 +162,22 @@ int main(void) {
 ",
 ];
 
+/// Whether these are the tokens of the text, in its order.
+fn are_tokens(text: &[u8], tokens: &[Token], spelled: &[Spelled]) -> bool {
+    let spells = |(token, word): (&Token, &Spelled)| {
+        let bytes = text.iter().skip(token.at).take(token.len);
+        token.kind == word.kind && bytes.eq(word.text.iter())
+    };
+    tokens.len() == spelled.len() && tokens.iter().zip(spelled).all(spells)
+}
+
 #[test]
-fn modules_parse(rt: HostRuntime) -> Result<(), Fail> {
+fn modules_round_trip(rt: HostRuntime) -> Result<(), Fail> {
+    let alloc = rt.alloc();
     for text in CALCULATOR {
-        assert_eq!(rt; fault_of(rt.alloc(), &[(text, 1)])?, None, "in {text:?}");
+        let tokens = lex(alloc, text)?;
+        let spelled = spell(alloc, &parse(alloc, text, &tokens)?)?;
+        assert!(rt; are_tokens(text, &tokens, &spelled), "in {text:?}");
     }
     Ok(())
 }
