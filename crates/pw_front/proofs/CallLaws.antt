@@ -12,7 +12,6 @@ use Rattle.pw_tree.specs.Trees.{Module}
 use Rattle.pw_front.specs.Lexed.{LexAnswer, lexed}
 use Rattle.pw_front.specs.Fronts.{by_lexing, front_of, has_feature}
 use Rattle.pw_front.specs.Gives.{Gives, error_of, parse_error_of}
-use Rattle.pw_front.specs.Places.{tokens_in}
 use Rattle.pw_front.specs.declared.refusal.FrontError.{FrontError}
 use Rattle.pw_front.proofs.LexedLaws.{lexed-lexes}
 
@@ -51,12 +50,12 @@ gives-parse_fault view text tokens parse.NoMemory e h = tt
 gives-parse_fault view text tokens (parse.TooDeep n) e h = let f = h (λ e. cc) in rw (← e, f) refl
 gives-parse_fault view text tokens (parse.Syntax n) e h = let f = h (λ e. cc) in rw (← e, f) refl
 
--- ---- the tokens of a text
+-- ---- what is made of a text's tokens
 
-pub some-tokens : (text : List ℕ) (tokens : List Token) → lexed text ≡ Ok tokens → tokens ≡ tokens_in (lexed text)
-some-tokens text tokens e = rw e refl
+pub some-tokens : (f : LexAnswer → List Token) (text : List ℕ) (tokens : List Token) → lexed text ≡ Ok tokens → f (Ok tokens) ≡ f (lexed text)
+some-tokens f text tokens e = ap f (sym e)
 
-pub no-tokens : {E : Type 0} (text : List ℕ) (fault : LexFault) (r : Result (Vec Token Global) E) → (fault ≡ NoMemory) ⊎ (lexed text ≡ Err fault)
-    → IfOk r (λ tokens. tokens.items ≡ []) → IfOk r (λ tokens. fault ≢ NoMemory) → IfOk r (λ tokens. tokens.items ≡ tokens_in (lexed text))
-no-tokens text fault (Err e) h none some = tt
-no-tokens text fault (Ok tokens) h none some = ⊎_elim (λ e. absurd (some e)) (λ e. rw e none) h
+pub no-tokens : {E : Type 0} (f : LexAnswer → List Token) (text : List ℕ) (fault : LexFault) (r : Result (Vec Token Global) E) → (fault ≡ NoMemory) ⊎ (lexed text ≡ Err fault)
+    → IfOk r (λ tokens. tokens.items ≡ f (Err fault)) → IfOk r (λ tokens. fault ≢ NoMemory) → IfOk r (λ tokens. tokens.items ≡ f (lexed text))
+no-tokens f text fault (Err e) h none some = tt
+no-tokens f text fault (Ok tokens) h none some = ⊎_elim (λ e. absurd (some e)) (λ e. rw e none) h

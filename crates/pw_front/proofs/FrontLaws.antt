@@ -6,6 +6,7 @@ use Rattle.pw_token.specs.Features.{feature_of}
 use Rattle.pw_token.specs.Nesting.{nests_of}
 use Rattle.pw_token.specs.Tokenization.{IsLexed, Lexes}
 use Rattle.pw_token.specs.declared.token.Feature.{Feature}
+use Rattle.pw_token.specs.declared.token.LexFault.TheVariants as lex
 use Rattle.pw_token.specs.declared.token.Token.{Token}
 use Rattle.pw_tree.specs.Grammar.{spelled_all}
 use Rattle.pw_tree.specs.Symbols.{symbol_of}
@@ -18,7 +19,8 @@ use Rattle.pw_parse.specs.Parsing.{answer_of, parsed, symbol_in, unless_too_deep
 use Rattle.pw_parse.specs.declared.parser.ParseFault.TheVariants.{TooDeep, Syntax, NoMemory}
 use Rattle.pw_front.specs.First.{IsFirst}
 use Rattle.pw_front.specs.Lexed.{LexAnswer, lexed}
-use Rattle.pw_front.specs.Fronts.{Front, Fronts, IsSupported, IsShallow, IsUnsupportedAt, IsTooDeepAt, IsSyntaxAt, HasTree, has_feature, is_deep, with_feature, first_feature, by_parsing, by_feature, by_lexing, front_of}
+use Rattle.pw_front.specs.Fronts.{Front, Fronts, HoldsNoWant, IsSupported, IsShallow, IsUnsupportedAt, IsTooDeepAt, IsSyntaxAt, HasTree, has_feature, is_deep, with_feature, first_feature, by_parsing, by_feature, by_lexing, front_of}
+use Rattle.pw_front.specs.declared.refusal.Refusal.{Refusal}
 use Rattle.pw_front.specs.declared.refusal.Refusal.TheVariants.{Lex, Unsupported, Parse}
 use Rattle.pw_front.proofs.FirstLaws.{none-passes, none-found, first-passes, first-found, first-there}
 use Rattle.pw_front.proofs.LexedLaws.{lexed-lexes, lexed-only}
@@ -133,3 +135,9 @@ front-only text (Err (Parse (Syntax n))) h =
     by-tokens text h.tokens (Err (Parse (Syntax n))) h.shallow.supported.lexed (by-shallow text h.tokens (Err n) h.shallow h.fault)
 front-only text (Err (Parse NoMemory)) h = absurd h
 front-only text (Ok tree) h = by-tokens text h.tokens (Ok tree) h.shallow.supported.lexed (by-shallow text h.tokens (Ok tree) h.shallow h.reads)
+
+-- no text is refused for want of memory
+pub no-want : (text : List ℕ) (refusal : Refusal) → Fronts text (Err refusal) → HoldsNoWant refusal
+no-want text (Lex lex.NoMemory) h = absurd h
+no-want text (Parse NoMemory) h = absurd h
+no-want text _ h = tt

@@ -5,6 +5,7 @@ use Rattle.pw_token.specs.Features.{feature_of}
 use Rattle.pw_token.specs.Nesting.{nests_of}
 use Rattle.pw_token.specs.Tokenization.{IsLexed, Lexes}
 use Rattle.pw_token.specs.declared.token.Feature.{Feature}
+use Rattle.pw_token.specs.declared.token.LexFault.TheVariants as lex
 use Rattle.pw_token.specs.declared.token.Token.{Token}
 use Rattle.pw_front.specs.First.{IsFirst, NonePasses}
 use Rattle.pw_front.specs.Lexed.{LexAnswer, lexed}
@@ -81,6 +82,12 @@ Fronts text (Err (Parse (TooDeep n))) = IsTooDeepAt text n
 Fronts text (Err (Parse (Syntax n))) = IsSyntaxAt text n
 Fronts text (Err (Parse NoMemory)) = ⊥
 Fronts text (Ok tree) = HasTree text tree
+
+-- The refusal is none for want of memory.
+abbrev pub HoldsNoWant : Refusal → Type 0
+HoldsNoWant (Lex lex.NoMemory) = ⊥
+HoldsNoWant (Parse NoMemory) = ⊥
+HoldsNoWant _ = Unit {0}
 
 -- ---- the answer as a function, which the public law `front_is_exact` ties to the relation
 

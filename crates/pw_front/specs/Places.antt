@@ -12,14 +12,26 @@ use Rattle.pw_front.specs.declared.refusal.Refusal.TheVariants.{Lex, Unsupported
 abbrev pub line_at : List ℕ → ℕ → ℕ
 line_at text place = 1 + count_by (λ byte. byte == 10) (take place text)
 
--- the tokens of a text, none where it does not lex
-abbrev pub tokens_in : LexAnswer → List Token
-tokens_in (Ok tokens) = tokens
-tokens_in (Err fault) = []
+-- these tokens, or none
+abbrev pub or_none : LexAnswer → List Token
+or_none (Ok tokens) = tokens
+or_none (Err fault) = []
+
+-- the tokens of a text that lexes to this answer; where it does not lex, those of the text before the fault
+abbrev pub tokens_before : List ℕ → LexAnswer → List Token
+tokens_before text (Ok tokens) = tokens
+tokens_before text (Err (Bad at)) = or_none (lexed (take at text))
+tokens_before text (Err (TooMany at)) = or_none (lexed (take at text))
+tokens_before text (Err TooLong) = []
+tokens_before text (Err NoMemory) = []
+
+-- the tokens of a text as far as it can be cut, which are looked for in the 1,048,576 bytes that a text may have
+abbrev pub tokens_in : List ℕ → List Token
+tokens_in text = tokens_before (take 1048576 text) (lexed (take 1048576 text))
 
 -- the place of the token of a number, counted from 1; the end of the text where there is none
 abbrev pub token_place : List ℕ → ℕ → ℕ
-token_place text n = option_map_or (λ token. token.at) (slice_get (tokens_in (lexed text)) (n - 1)) (length text)
+token_place text n = option_map_or (λ token. token.at) (slice_get (tokens_in text) (n - 1)) (length text)
 
 abbrev pub place_of : List ℕ → Refusal → ℕ
 place_of text (Lex (Bad at)) = at

@@ -1,9 +1,8 @@
 //! Laws of the front.
 
-ghost use Rattle.std.specs.Prelude.{◌≡◌, ◌≢◌, ◌↔◌, ℕ, List, Err};
+ghost use Rattle.std.specs.Prelude.{◌≡◌, ◌↔◌, ℕ, List, Err};
 ghost use Rattle.pw_token.specs.Tokenization.{Lexes};
-ghost use Rattle.pw_token.specs.declared.token.LexFault.{LexFault};
-ghost use Rattle.pw_front.specs.Fronts.{Front, Fronts, front_of};
+ghost use Rattle.pw_front.specs.Fronts.{Front, Fronts, HoldsNoWant, front_of};
 ghost use Rattle.pw_front.specs.Lexed.{LexAnswer, lexed};
 ghost use Rattle.pw_front.specs.declared.refusal.Refusal.{Refusal};
 
@@ -15,5 +14,5 @@ pub fn lexed_is_exact()
 /// A text has one answer, and it is that of the function. It is never want of memory.
 pub fn front_is_exact()
     ensures exact { (text : List ℕ) (answer : Front) → Fronts text answer ↔ (answer ≡ front_of text) }
-    ensures no_want { (text : List ℕ) → front_of text ≢ Err (Refusal.Lex LexFault.NoMemory) }
+    ensures no_want { (text : List ℕ) (refusal : Refusal) → front_of text ≡ Err refusal → HoldsNoWant refusal }
 {}

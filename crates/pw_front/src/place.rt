@@ -1,10 +1,10 @@
 //! The line on which a refusal stands.
 
-ghost use Rattle.std.specs.Prelude.{◌≡◌, ◌≢◌, ◌-◌, [], IfOk, slice_get};
+ghost use Rattle.std.specs.Prelude.{◌≡◌, ◌≢◌, ◌-◌, [], IfOk, Err, slice_get};
 ghost use Rattle.std.specs.Option.{option_map_or};
 ghost use Rattle.pw_token.specs.declared.token.LexFault.{LexFault};
 ghost use Rattle.pw_front.specs.Lexed.{lexed};
-ghost use Rattle.pw_front.specs.Places.{line_at, place_of, refusal_line, token_place, tokens_in};
+ghost use Rattle.pw_front.specs.Places.{line_at, or_none, place_of, refusal_line, token_place, tokens_before, tokens_in};
 
 use crate::refusal::Refusal;
 use pw_parse::ParseFault;
@@ -19,7 +19,10 @@ fn line_at(text: &[u8], place: usize) -> usize
     1 + before.iter().filter(|byte| **byte == b'\n').count()
 }
 
-/// The tokens of a text that does not lex: none. Want of memory is told on.
+/// The most bytes that a text may have.
+const MOST: usize = 1_048_576;
+
+/// No tokens, for a text that does not lex. Want of memory is told on.
 fn no_tokens(alloc: Global, fault: LexFault) -> Result<Vec<Token>, AllocError>
     ensures none { IfOk result (λ tokens. tokens.items ≡ []) }
     ensures fault { IfOk result (λ _. fault ≢ LexFault.NoMemory) }
@@ -31,13 +34,44 @@ fn no_tokens(alloc: Global, fault: LexFault) -> Result<Vec<Token>, AllocError>
 }
 
 /// The tokens of a text, none where it does not lex.
-fn tokens_in(alloc: Global, text: &[u8]) -> Result<Vec<Token>, AllocError>
-    ensures { IfOk result (λ tokens. tokens.items ≡ tokens_in (lexed text.now)) }
+fn tokens_or_none(alloc: Global, text: &[u8]) -> Result<Vec<Token>, AllocError>
+    ensures { IfOk result (λ tokens. tokens.items ≡ or_none (lexed text.now)) }
 {
     match lex(alloc, text) {
         Ok(tokens) => Ok(tokens),
         Err(fault) => no_tokens(alloc, fault),
     }
+}
+
+/// The tokens before the fault of a text. Want of memory is told on.
+fn tokens_before(alloc: Global, text: &[u8], fault: LexFault) -> Result<Vec<Token>, AllocError>
+    ensures before { IfOk result (λ tokens. tokens.items ≡ tokens_before text.now (Err fault)) }
+    ensures fault { IfOk result (λ _. fault ≢ LexFault.NoMemory) }
+{
+    match fault {
+        LexFault::NoMemory => Err(AllocError),
+        LexFault::TooLong => Ok(Vec::new(alloc)),
+        LexFault::Bad { at } | LexFault::TooMany { at } => {
+            tokens_or_none(alloc, &text[..at.min(text.len())])
+        }
+    }
+}
+
+/// The tokens of a text; where it does not lex, those before its fault.
+fn tokens_so_far(alloc: Global, text: &[u8]) -> Result<Vec<Token>, AllocError>
+    ensures { IfOk result (λ tokens. tokens.items ≡ tokens_before text.now (lexed text.now)) }
+{
+    match lex(alloc, text) {
+        Ok(tokens) => Ok(tokens),
+        Err(fault) => tokens_before(alloc, text, fault),
+    }
+}
+
+/// The tokens of a text as far as it can be cut.
+fn tokens_in(alloc: Global, text: &[u8]) -> Result<Vec<Token>, AllocError>
+    ensures { IfOk result (λ tokens. tokens.items ≡ tokens_in text.now) }
+{
+    tokens_so_far(alloc, &text[..MOST.min(text.len())])
 }
 
 /// The place of the token of this number, counted from 1, or `end` where there is none.
@@ -73,7 +107,8 @@ fn place_of(alloc: Global, text: &[u8], refusal: &Refusal) -> Result<usize, Allo
 }
 
 /// The line on which a refusal of a text stands, counted from 1: that of its byte or of its token, the first for a
-/// text that is too long, and the last where the token is behind all others.
+/// text that is too long, and the last where the token is behind all others. A text that does not lex has the tokens
+/// before its fault.
 ///
 /// # Errors
 ///

@@ -100,6 +100,11 @@ fn lines(rt: HostRuntime) -> Result<(), Fail> {
             Refusal::Unsupported(1, Feature::NotYet),
             3,
         ),
+        (
+            b"\nx\n@\n".as_slice(),
+            Refusal::Unsupported(1, Feature::NotYet),
+            2,
+        ),
         (b"\n\n".as_slice(), Refusal::Lex(LexFault::TooLong), 1),
     ] {
         assert_eq!(rt; refusal_line(alloc, text, &refusal)?, line);

@@ -1,10 +1,10 @@
 use Rattle.std.proofs.Common.{sym, subst}
 use Rattle.pw_front.specs.Fronts.{Fronts}
-use Rattle.pw_front.proofs.FrontLaws.{front-fronts, front-only}
+use Rattle.pw_front.proofs.FrontLaws.{front-fronts, front-only, no-want}
 use Rattle.pw_front.proofs.laws.front_is_exact.Goals as goal
 
 pub returns-clause-exact : goal.returns-clause-exact
 returns-clause-exact c = λ text answer. (λ h. front-only text answer h, λ e. subst (Fronts text) (sym e) (front-fronts text))
 
 pub returns-clause-no_want : goal.returns-clause-no_want
-returns-clause-no_want c = λ text e. subst (Fronts text) e (front-fronts text)
+returns-clause-no_want c = λ text refusal e. no-want text refusal (subst (Fronts text) e (front-fronts text))

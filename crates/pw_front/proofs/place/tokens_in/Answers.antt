@@ -1,9 +1,10 @@
-use Rattle.pw_front.proofs.CallLaws.{lexed-ok, lexed-err, some-tokens, no-tokens}
+use Rattle.std.proofs.Common.{◌≡◌, ◌∙◌, IfOk, ap, subst, take}
+use Rattle.std.proofs.lemmas.List.{take_min}
+use Rattle.pw_front.specs.Lexed.{lexed}
+use Rattle.pw_front.specs.Places.{tokens_before}
 use Rattle.pw_front.proofs.place.tokens_in.Goals as goal
 
-pub returns-in-Ok : goal.returns-in-Ok
-returns-in-Ok c = some-tokens c.args.text.now c.in-Ok.tokens.items (lexed-ok c.args.text.now c.in-Ok.tokens c.in-Ok.ensures.only)
-
-pub returns-in-Err : goal.returns-in-Err
-returns-in-Err c =
-    no-tokens c.args.text.now c.in-Err.fault c.no_tokens.result (lexed-err c.args.text.now c.in-Err.fault c.in-Err.ensures.only) c.no_tokens.ensures.none c.no_tokens.ensures.fault
+pub returns : goal.returns
+returns c =
+    subst (λ t. IfOk c.tokens_so_far.result (λ tokens. tokens.items ≡ tokens_before t (lexed t)))
+    (ap (λ n. take n c.args.text.now) c.min.ensures ∙ take_min 1048576 c.args.text.now) c.tokens_so_far.ensures
