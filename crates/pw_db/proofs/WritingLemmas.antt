@@ -4,31 +4,16 @@ use Rattle.std.specs.Prelude.{Contains, IfOk, OnOk}
 use Rattle.std.specs.Global.{Vec}
 use Rattle.std.specs.List.{AllByRecursion}
 use Rattle.std.proofs.lemmas.List.Concat.{flat_map-cons}
-use Rattle.std.proofs.lemmas.List.Elements.{All-from_recursion, recursion_from_All}
+use Rattle.std.proofs.lemmas.List.Elements.{All-from_recursion}
 use Rattle.pw_value.specs.Fields.{FitsU32}
 use Rattle.pw_value.specs.FieldFrame.{file, FitsFile}
 use Rattle.pw_value.specs.FieldNames.{IsTableOf}
 use Rattle.pw_value.proofs.NameLaws.{AllUsed, used_by_table}
 use Rattle.pw_files.proofs.RisingLaws.{used_front, used_back}
+use Rattle.pw_files.proofs.Views.{seen_all}
 use Rattle.pw_db.specs.declared.database.Web.{Web}
 use Rattle.pw_db.specs.declared.database.Role.{Role}
 use Rattle.pw_db.specs.Database.{DirectivesValue, IsDatabase, IsNamedBy, names_of_function, names_of, FitsDatabase, spelling, kind, IsPayload, IsDatabaseFile}
-
--- ---- a list and what it is seen as
-
-seen : {X Y : Type 0} (view : X → Y) (P : Y → Type 0) (xs : List X) → AllByRecursion P (map view xs) → AllByRecursion (λ x. P (view x)) xs
-seen view P [] all = tt
-seen view P (x ∷ xs) all = (all.0, seen view P xs all.1)
-
-pub seen_all : {X Y : Type 0} (view : X → Y) (P : Y → Type 0) (xs : List X) → AllByRecursion P (map view xs) → All (λ x. P (view x)) xs
-seen_all view P xs all = All-from_recursion (λ x. P (view x)) xs (seen view P xs all)
-
-by_seen : {X Y : Type 0} (view : X → Y) (P : Y → Type 0) (xs : List X) → AllByRecursion (λ x. P (view x)) xs → AllByRecursion P (map view xs)
-by_seen view P [] all = tt
-by_seen view P (x ∷ xs) all = (all.0, by_seen view P xs all.1)
-
-pub all_by_seen : {X Y : Type 0} (view : X → Y) (P : Y → Type 0) (xs : List X) → All (λ x. P (view x)) xs → AllByRecursion P (map view xs)
-all_by_seen view P xs all = by_seen view P xs (recursion_from_All (λ x. P (view x)) xs all)
 
 -- ---- names that stand in a table
 

@@ -1,8 +1,8 @@
 //! The directives of a module's functions.
 
-ghost use Rattle.std.specs.Prelude.{◌≡◌, map, IfOk, IfSome, IfNone, All, Contains};
+ghost use Rattle.std.specs.Prelude.{◌≡◌, ◌≢◌, map, IfOk, IfSome, IfNone, All, Contains};
 ghost use Rattle.pw_files.specs.Rising.{IsRising};
-ghost use Rattle.pw_db.specs.Database.{IsDatabase, HasDirectives, empty, directives_view, function_view, view};
+ghost use Rattle.pw_db.specs.Database.{IsDatabase, EachTwo, CanBeStored, HasDirectives, empty, directives_view, function_view, view};
 
 use crate::database::{Database, Directives, Role, Web};
 use pw_value::Name;
@@ -84,7 +84,7 @@ fn directives_of(
 }
 
 /// The functions in their order, each with its directives in the database; they are empty where the
-/// database lacks it.
+/// database lacks it. Where no name stands twice, their payload can be made.
 pub fn of_module(
     alloc: Global,
     db: &Database,
@@ -93,6 +93,7 @@ pub fn of_module(
     requires { IsDatabase (view db.now) }
     ensures functions { IfOk result (λ v. map (λ f. f.0) v.items ≡ functions.now) }
     ensures directives { IfOk result (λ v. All (λ f. HasDirectives (view db.now) (function_view f)) v.items) }
+    ensures can_be_stored { IfOk result (λ v. EachTwo (λ f g. f ≢ g) functions.now → CanBeStored (map function_view v.items)) }
 {
     let mut all = Vec::new(alloc);
     for name in functions {

@@ -1,7 +1,7 @@
 //! The laws of databases' files and payloads.
 
 ghost use Rattle.std.specs.Prelude.{◌≡◌, ℕ, List};
-ghost use Rattle.pw_db.specs.Database.{DirectivesValue, IsDatabaseFile, IsPayload};
+ghost use Rattle.pw_db.specs.Database.{DirectivesValue, IsDatabaseFile, IsPayload, IsStored};
 
 /// No bytes are the file of two databases, and no database has two files.
 pub fn databases_and_files_are_one_to_one()
@@ -13,4 +13,10 @@ pub fn databases_and_files_are_one_to_one()
 pub fn databases_and_payloads_are_one_to_one()
     ensures one_database { (bytes : List ℕ) (fs gs : List (List ℕ × DirectivesValue)) → IsPayload bytes fs → IsPayload bytes gs → fs ≡ gs }
     ensures one_payload { (bytes others : List ℕ) (fs : List (List ℕ × DirectivesValue)) → IsPayload bytes fs → IsPayload others fs → bytes ≡ others }
+{}
+
+/// A list of functions determines those of them that are stored, and so the bytes of their payload.
+pub fn one_list_is_stored()
+    ensures one_list { (fs s t : List (List ℕ × DirectivesValue)) → IsStored fs s → IsStored fs t → s ≡ t }
+    ensures one_payload { (fs s t : List (List ℕ × DirectivesValue)) (bytes others : List ℕ) → IsStored fs s → IsStored fs t → IsPayload bytes s → IsPayload others t → bytes ≡ others }
 {}

@@ -13,8 +13,10 @@ use Rattle.pw_files.specs.Start.{start, main, times, KeepsStart}
 use Rattle.pw_files.proofs.StartLaws.{stands_by_times}
 use Rattle.pw_summary.specs.Summary.{UsesValue, SummaryValue, IsUses, IsSummary, global_names as names_of_globals, function_names as names_of_functions}
 use Rattle.pw_summarise.specs.Summarises.{IsOrdered, called, called_shape, referenced, addressed, in_function, in_module, most, reference, function_shape, as_taken, taken_of, global_entry, function_entry, function_entries, IsUsesOf, AreUsesOf, Summarises}
-use Rattle.pw_summarise.proofs.Standing.{Has, contains_by, has_by, has_each, each_by, has_left, has_right, has_split, has_map, has_map_back, has_flat, has_flat_back}
-use Rattle.pw_summarise.proofs.Orders.{seen, keys_over, keys_back, not_behind}
+use Rattle.pw_files.proofs.Standing.{Has, contains_by, has_by, has_each, each_by, has_left, has_right, has_split, has_map, has_map_back, has_flat, has_flat_back}
+use Rattle.pw_files.proofs.Views.{seen}
+use Rattle.pw_files.proofs.ByteOrder.{not_behind}
+use Rattle.pw_summarise.proofs.Orders.{keys_over, keys_back}
 
 -- ---- what is called or has its address taken is named
 

@@ -1,6 +1,4 @@
-pub mod Standing
 pub mod Orders
-pub mod Searches
 pub mod References
 pub mod WeightLaws
 pub mod ShapeLaws

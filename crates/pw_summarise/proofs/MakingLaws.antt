@@ -10,8 +10,9 @@ use Rattle.pw_flow.specs.ValidFlow.{AreDistinct, IsValid}
 use Rattle.pw_summary.specs.declared.summary.Uses.{Uses}
 use Rattle.pw_summary.specs.Summary.{SummaryValue, uses_view}
 use Rattle.pw_summarise.specs.Summarises.{IsOrdered, addressed, in_module, taken_of, escaped_of, global_entry, function_entry, function_entries, IsUsesOf, AreUsesOf, Summarises}
-use Rattle.pw_summarise.proofs.Standing.{Has, contains_by}
-use Rattle.pw_summarise.proofs.Orders.{seen, ordered_map, table_ordered}
+use Rattle.pw_files.proofs.Standing.{Has, contains_by}
+use Rattle.pw_files.proofs.Views.{seen}
+use Rattle.pw_summarise.proofs.Orders.{ordered_map, table_ordered}
 use Rattle.pw_summarise.proofs.ShapeLaws.{taken_ordered, escaped_ordered}
 use Rattle.pw_summarise.proofs.UniqueLaws.{distinct_left, distinct_right}
 

@@ -1,39 +1,28 @@
--- Lists in byte order of their items' keys.
-use Rattle.std.proofs.Common.{◌≡◌, ◌≢◌, ◌⊎◌, ℕ, zero, suc, ◌+◌, ◌<◌, Bool, true, false, cond, List, [], ◌∷◌, ◌++◌, length, get_or, map, refl, sym, ap, subst, ◌∙◌, arith, inl, inr}
+-- The ordered form of a list: how it is made, and that there is one.
+use Rattle.std.proofs.Common.{◌≡◌, ◌≢◌, ◌⊎◌, ℕ, false, List, [], ◌∷◌, ◌++◌, map, sym, ap, subst, ◌∙◌, refl, inl, inr}
 use Rattle.std.specs.Prelude.{Contains, Option, Some, None}
 use Rattle.std.specs.List.{AllByRecursion, IsDistinct, flat_map}
 use Rattle.std.specs.List.Retain.{IsFiltered, DiffersFromLast}
 use Rattle.std.specs.List.Sorted.{IsPermutation, IsSortedBy, IsSorted, IsStrictlySortedBy}
 use Rattle.std.specs.Str.{bytes_eq}
-use Rattle.std.specs.Ordering.{nat_cmp, is_lt, is_eq, ordering_reverse}
+use Rattle.std.specs.Ordering.{nat_cmp, is_lt}
 use Rattle.std.specs.Cmp.Lexicographic.{slice_cmp, texts_ties}
-use Rattle.std.specs.declared.cmp.Ordering.{Ordering}
-use Rattle.std.specs.declared.cmp.Ordering.TheVariants.{Less, Equal, Greater}
-use Rattle.std.proofs.lemmas.Cmp.{nat_list_cmp_total, nat_list_eq_equiv, tied_itself}
+use Rattle.std.specs.declared.cmp.Ordering.TheVariants.{Less}
+use Rattle.std.proofs.lemmas.Cmp.{nat_list_cmp_total, nat_list_eq_equiv}
 use Rattle.std.proofs.lemmas.Slice.Eq.{bytes_eq-Decides}
 use Rattle.std.proofs.lemmas.List.{map-id}
 use Rattle.std.proofs.lemmas.List.Concat.{flat_map-cons}
 use Rattle.std.proofs.lemmas.List.Filters.{dedup_is}
 use Rattle.std.proofs.lemmas.List.Kept.{Contains-dedup, Contains-from_dedup, IsStrictlySortedBy-dedup}
-use Rattle.std.proofs.lemmas.List.Sorted.{IsPermutation-map, IsPermutation-sym, Contains-permutation}
-use Rattle.std.proofs.lemmas.Map.Keys.{IsDistinct-IsPermutation}
-use Rattle.pw_value.specs.FieldNames.{IsRisingFrom, IsTableOf}
+use Rattle.std.proofs.lemmas.List.Sorted.{IsPermutation-sym, Contains-permutation}
+use Rattle.pw_value.specs.FieldNames.{IsTableOf}
 use Rattle.pw_flow.specs.ValidFlow.{AreDistinct}
 use Rattle.pw_files.specs.Rising.{IsRising, IsRisingBehind, IsAbove}
+use Rattle.pw_files.proofs.Standing.{contains_by, has_by, has_map, has_map_back, has_flat, has_flat_back}
+use Rattle.pw_files.proofs.ByteOrder.{differ, sorted_rises, strictly_rising, table_rises, one_rising}
 use Rattle.pw_summarise.specs.Summarises.{IsOrdered}
-use Rattle.pw_summarise.proofs.Standing.{Has, contains_by, has_by, has_map, has_map_back, has_flat, has_flat_back}
 
--- ---- keys that differ, in order
-
-apart : false ≡ true → ⊥
-apart e = cc
-
-differ_by : (a b : List ℕ) (t : Bool) → bytes_eq a b ≡ t → a ≢ b → bytes_eq a b ≡ false
-differ_by a b true is differs = absurd (differs ((bytes_eq-Decides a b).0 is))
-differ_by a b false is differs = is
-
-pub differ : (a b : List ℕ) → a ≢ b → bytes_eq a b ≡ false
-differ a b differs = differ_by a b (bytes_eq a b) refl differs
+-- ---- keys that differ
 
 each_differs : (name : List ℕ) (names : List (List ℕ)) → AllByRecursion (λ other. other ≢ name) names → AllByRecursion (λ other. bytes_eq name other ≡ false) names
 each_differs name [] all = tt
@@ -44,70 +33,15 @@ unfolding IsDistinct
 distinct [] all = tt
 distinct (name ∷ names) all = (each_differs name names all.0, distinct names all.1)
 
-flips_by : (a b : List ℕ) (t u : Bool) → bytes_eq a b ≡ t → bytes_eq b a ≡ u → t ≡ u
-flips_by a b true true e d = refl
-flips_by a b true false e d = absurd (apart (sym d ∙ (bytes_eq-Decides b a).1 (sym ((bytes_eq-Decides a b).0 e))))
-flips_by a b false true e d = absurd (apart (sym e ∙ (bytes_eq-Decides a b).1 (sym ((bytes_eq-Decides b a).0 d))))
-flips_by a b false false e d = refl
-
-flips : (a b : List ℕ) → bytes_eq a b ≡ bytes_eq b a
-flips a b = flips_by a b (bytes_eq a b) (bytes_eq b a) refl refl
-
-below_by : (o p : Ordering) → o ≡ ordering_reverse p → is_lt p ≡ false → is_eq o ≡ false → o ≡ Less
-below_by Less p e l q = refl
-below_by Equal p e l q = absurd cc
-below_by Greater Less e l q = absurd cc
-below_by Greater Equal e l q = absurd cc
-below_by Greater Greater e l q = absurd cc
-
-rises : {R : Type 0} (key : R → List ℕ) (before : Option (List ℕ)) (x : R) (xs : List R) → IsAbove before (key x) → IsSortedBy (λ a b. is_lt (slice_cmp nat_cmp (key a) (key b))) (x ∷ xs) → IsDistinct bytes_eq (map key (x ∷ xs)) → IsRisingBehind before (map key (x ∷ xs))
-unfolding IsDistinct
-rises key before x [] above up apart_all = (above, tt)
-rises key before x (y ∷ xs) above up apart_all = (
-  above,
-  rises key (Some (key x)) y xs
-      (below_by (slice_cmp nat_cmp (key x) (key y)) (slice_cmp nat_cmp (key y) (key x)) (nat_list_cmp_total.antisymm (key x) (key y)) (up 0 y (omega arith) (omega arith)) (sym (texts_ties (key x) (key y)) ∙ apart_all.0.0))
-      (λ k d low high. let shift : suc k + 1 ≡ suc (k + 1) = omega arith in
-      subst (λ n. is_lt (slice_cmp nat_cmp (key (get_or (x ∷ y ∷ xs) n d)) (key (get_or (y ∷ xs) k d))) ≡ false) shift (up (suc k) d (omega arith) (omega arith)))
-      apart_all.1,
-)
-
-rising : {R : Type 0} (key : R → List ℕ) (xs : List R) → IsSortedBy (λ a b. is_lt (slice_cmp nat_cmp (key a) (key b))) xs → IsDistinct bytes_eq (map key xs) → IsRising (map key xs)
-rising key [] up apart_all = tt
-rising key (x ∷ xs) up apart_all = rises key None x xs tt up apart_all
-
-pub seen : {R X Y : Type 0} (view : R → X) (h : X → Y) (xs : List R) → map h (map view xs) ≡ map (λ x. h (view x)) xs
-seen view h [] = refl
-seen {R} {X} {Y} view h (x ∷ xs) = ap (λ (ys : List Y). h (view x) ∷ ys) (seen view h xs)
-
 -- ---- a list that is sorted
 
 pub ordered_by_sort : {R X : Type 0} (view : R → X) (key : X → List ℕ) (source : List X) (chosen sorted : List R) → map view chosen ≡ source → AreDistinct (map key source) → IsPermutation chosen sorted
     → IsSortedBy (λ a b. is_lt (slice_cmp nat_cmp (key (view a)) (key (view b)))) sorted → IsOrdered key source (map view sorted)
-ordered_by_sort {R} {X} view key source chosen sorted same differs moved up =
-    let there = IsPermutation-map view chosen sorted moved in
-    let back = IsPermutation-sym (map view chosen) (map view sorted) there in
-    let keys_moved = IsPermutation-map key (map view chosen) (map view sorted) there in
-    let apart_chosen = subst (λ (xs : List X). IsDistinct bytes_eq (map key xs)) (sym same) (distinct (map key source) differs) in
-    let apart_sorted = IsDistinct-IsPermutation bytes_eq flips (map key (map view chosen)) (map key (map view sorted)) keys_moved apart_chosen in
-    record {
-      rising = subst IsRising (sym (seen view key sorted)) (rising (λ r. key (view r)) sorted up (subst (IsDistinct bytes_eq) (seen view key sorted) apart_sorted));
-      of = λ x. (
-        λ h. subst (λ (xs : List X). Contains xs x) same (Contains-permutation (map view sorted) (map view chosen) x back h),
-        λ h. Contains-permutation (map view chosen) (map view sorted) x there (subst (λ (xs : List X). Contains xs x) (sym same) h),
-      );
-    }
+ordered_by_sort view key source chosen sorted same differs moved up =
+    let rises = sorted_rises view key source chosen sorted same (distinct (map key source) differs) moved up in
+    record { rising = rises.0; of = rises.1 }
 
 -- ---- a list that is sorted and freed of repeats
-
-strictly_rises : (before : List ℕ) (texts : List (List ℕ)) → IsStrictlySortedBy (slice_cmp nat_cmp) (before ∷ texts) → IsRisingBehind (Some before) texts
-unfolding IsStrictlySortedBy
-strictly_rises before [] up = tt
-strictly_rises before (text ∷ texts) up = (up.0.0, strictly_rises text texts up.1)
-
-pub strictly_rising : (texts : List (List ℕ)) → IsStrictlySortedBy (slice_cmp nat_cmp) texts → IsRising texts
-strictly_rising [] up = tt
-strictly_rising (text ∷ texts) up = (tt, strictly_rises text texts up)
 
 pub freed_ordered : (source sorted freed : List (List ℕ)) → IsPermutation source sorted → IsSorted (slice_cmp nat_cmp) sorted → IsFiltered (DiffersFromLast bytes_eq) [] sorted freed → IsOrdered (λ text. text) source freed
 freed_ordered source sorted freed moved up left =
@@ -121,14 +55,6 @@ freed_ordered source sorted freed moved up left =
     }
 
 -- ---- a table of names
-
-rises_behind : (before : List ℕ) (names : List (List ℕ)) → IsRisingFrom before names → IsRisingBehind (Some before) names
-rises_behind before [] up = tt
-rises_behind before (name ∷ names) up = (up.1, rises_behind name names up.2)
-
-pub table_rises : (names : List (List ℕ)) → IsRisingFrom [] names → IsRising names
-table_rises [] up = tt
-table_rises (name ∷ names) up = (tt, rises_behind name names up.2)
 
 pub table_ordered : (names source : List (List ℕ)) → IsTableOf names source → IsOrdered (λ name. name) source names
 table_ordered names source table = record { rising = subst IsRising (sym (map-id names)) (table_rises names table.rising); of = table.of }
@@ -173,19 +99,6 @@ flat_same one other same [] = refl
 flat_same {X} one other same (name ∷ names) =
     flat_map-cons one name names ∙ ap (λ (xs : List X). xs ++ flat_map one names) (same name) ∙ ap (λ (xs : List X). other name ++ xs) (flat_same one other same names) ∙ sym (flat_map-cons other name names)
 
--- ---- keys behind another
-
-pub behind : (low : List ℕ) (names : List (List ℕ)) (name : List ℕ) → IsRisingBehind (Some low) names → Has name names → slice_cmp nat_cmp low name ≡ Less
-behind low [] name up h = absurd h
-behind low (next ∷ names) name up (inl e) = subst (λ n. slice_cmp nat_cmp low n ≡ Less) e up.0
-behind low (next ∷ names) name up (inr h) = nat_list_cmp_total.trans low next name up.0 (behind next names name up.1 h)
-
-pub less_differs : (a b : List ℕ) → slice_cmp nat_cmp a b ≡ Less → a ≢ b
-less_differs a b less same = let level : slice_cmp nat_cmp a b ≡ Equal = ap (slice_cmp nat_cmp a) (sym same) ∙ tied_itself nat_list_cmp_total a in cc
-
-pub not_behind : (name : List ℕ) (names : List (List ℕ)) → IsRisingBehind (Some name) names → Has name names → ⊥
-not_behind name names up h = less_differs name name (behind name names name up h) refl
-
 -- ---- items that become others with the same keys
 
 same_keys : {X Y : Type 0} (key : X → List ℕ) (other : Y → List ℕ) (h : X → Y) → ((x : X) → other (h x) ≡ key x) → (xs : List X) → map other (map h xs) ≡ map key xs
@@ -212,30 +125,5 @@ keys_back key source xs is = mapped_over key source xs (λ x. (is.of x).1)
 
 -- ---- a source has one ordered list
 
-heads : {X : Type 0} (key : X → List ℕ) (x y : X) (xs ys : List X) → IsRisingBehind (Some (key x)) (map key xs) → IsRisingBehind (Some (key y)) (map key ys) → Has x (y ∷ ys) → Has y (x ∷ xs) → x ≡ y
-heads key x y xs ys rx ry (inl e) h = sym e
-heads key x y xs ys rx ry (inr k) (inl e) = e
-heads key x y xs ys rx ry (inr k) (inr j) =
-    let one = behind (key x) (map key xs) (key y) rx (has_map key y xs j) in
-    let two = behind (key y) (map key ys) (key x) ry (has_map key x ys k) in
-    absurd (less_differs (key x) (key x) (nat_list_cmp_total.trans (key x) (key y) (key x) one two) refl)
-
-in_tail : {X : Type 0} (key : X → List ℕ) (x y z : X) (xs ys : List X) → IsRisingBehind (Some (key x)) (map key xs) → x ≡ y → Has z xs → Has z (y ∷ ys) → Has z ys
-in_tail key x y z xs ys rx same h (inl e) = absurd (less_differs (key x) (key z) (behind (key x) (map key xs) (key z) rx (has_map key z xs h)) (ap key (same ∙ e)))
-in_tail key x y z xs ys rx same h (inr k) = k
-
-one_rising : {X : Type 0} (key : X → List ℕ) (before before' : Option (List ℕ)) (xs ys : List X) → IsRisingBehind before (map key xs) → IsRisingBehind before' (map key ys) → ((x : X) → Has x xs → Has x ys) → ((x : X) → Has x ys → Has x xs) → xs ≡ ys
-one_rising key before before' [] [] rx ry one two = refl
-one_rising key before before' [] (y ∷ ys) rx ry one two = absurd (two y (inl refl))
-one_rising key before before' (x ∷ xs) [] rx ry one two = absurd (one x (inl refl))
-one_rising {X} key before before' (x ∷ xs) (y ∷ ys) rx ry one two =
-    let e = heads key x y xs ys rx.1 ry.1 (one x (inl refl)) (two y (inl refl)) in
-    let tails = one_rising key (Some (key x)) (Some (key y)) xs ys rx.1 ry.1
-    (λ z h. in_tail key x y z xs ys rx.1 e h (one z (inr h)))
-    (λ z h. in_tail key y x z ys xs ry.1 (sym e) h (two z (inr h))) in
-    ap (λ (z : X). z ∷ xs) e ∙ ap (λ (zs : List X). y ∷ zs) tails
-
 pub one_ordered : {X : Type 0} (key : X → List ℕ) (source xs ys : List X) → IsOrdered key source xs → IsOrdered key source ys → xs ≡ ys
-one_ordered key source xs ys a b = one_rising key None None xs ys a.rising b.rising
-    (λ x h. has_by x ys ((b.of x).1 ((a.of x).0 (contains_by x xs h))))
-    (λ x h. has_by x xs ((a.of x).1 ((b.of x).0 (contains_by x ys h))))
+one_ordered key source xs ys a b = one_rising key xs ys a.rising b.rising (λ x. (λ h. (b.of x).1 ((a.of x).0 h), λ h. (a.of x).1 ((b.of x).0 h)))

@@ -8,8 +8,8 @@ use Rattle.std.specs.declared.cmp.Ordering.TheVariants.{Less}
 use Rattle.std.proofs.lemmas.Slice.Eq.{bytes_eq-Decides}
 use Rattle.pw_files.specs.Rising.{IsRising, IsRisingBehind}
 use Rattle.pw_summarise.specs.Tallies.{with_weight, with_read, with_write}
-use Rattle.pw_summarise.proofs.Standing.{Has, contains_by, has_by, has_map}
-use Rattle.pw_summarise.proofs.Orders.{differ, behind, less_differs}
+use Rattle.pw_files.proofs.Standing.{Has, contains_by, has_by, has_map}
+use Rattle.pw_files.proofs.ByteOrder.{differ, behind, less_differs}
 
 -- what leaves globals of other names as they are
 abbrev Leaves : List ℕ → (List ℕ × ℕ × ℕ → List ℕ × ℕ × ℕ) → Type 0

@@ -8,8 +8,9 @@ use Rattle.std.proofs.lemmas.Slice.Eq.{bytes_eq-Decides}
 use Rattle.pw_value.specs.FieldNames.{IsTableOf}
 use Rattle.pw_files.specs.Rising.{IsRising, IsRisingBehind}
 use Rattle.pw_summarise.specs.Summarises.{IsOrdered, shape_in, if_function, or_else, function_shape, as_taken, as_escaped, taken_of, escaped_of}
-use Rattle.pw_summarise.proofs.Standing.{Has, contains_by, has_by, has_map}
-use Rattle.pw_summarise.proofs.Orders.{IsPick, differ, behind, less_differs, picked_ordered, flat_same}
+use Rattle.pw_files.proofs.Standing.{Has, contains_by, has_by, has_map}
+use Rattle.pw_files.proofs.ByteOrder.{differ, behind, less_differs}
+use Rattle.pw_summarise.proofs.Orders.{IsPick, picked_ordered, flat_same}
 
 -- ---- a shape that is found stands there
 

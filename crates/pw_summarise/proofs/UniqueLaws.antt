@@ -8,7 +8,7 @@ use Rattle.pw_flow.specs.ValidFlow.{AreDistinct, IsValid}
 use Rattle.pw_flow.proofs.Lists.{all_left}
 use Rattle.pw_summary.specs.Summary.{UsesValue, SummaryValue}
 use Rattle.pw_summarise.specs.Summarises.{IsOrdered, called, called_shape, referenced, addressed, in_function, in_module, reference, taken_of, escaped_of, global_entry, function_entry, function_entries, IsUsesOf, AreUsesOf, Summarises}
-use Rattle.pw_summarise.proofs.Standing.{Has, has_by, has_each, has_map}
+use Rattle.pw_files.proofs.Standing.{Has, has_by, has_each, has_map}
 use Rattle.pw_summarise.proofs.Orders.{one_ordered}
 
 -- ---- names of two lists

@@ -3,7 +3,8 @@
 
 use super::*;
 use pw_value::fields::frame::seal;
-use pw_value::{FileError, Kind};
+use pw_value::{FileError, Kind, Name, Shape};
+use std::alloc::Global;
 use std::test::Fail;
 
 /// The module `b`: the function `bump` of shape `fv`, which reads and writes `n`, declared of shape `i`.
@@ -39,132 +40,184 @@ const STARTS: [usize; 77] = [
     253, 257, 261, 265, 269, 273, 277, 281, 287, 293, 297, 301, 309, 317, 321, 329,
 ];
 
+/// The globals of `FULL`, each with its shape, its kind and whether it is volatile.
+const GLOBALS: [(&[u8], &[u8], Option<Kind>, bool); 6] = [
+    (b"a", b"i", Some(Kind::W32), false),
+    (b"b", b"!c", Some(Kind::S8), true),
+    (b"c", b"[3]h", None, false),
+    (b"d", b"s", Some(Kind::S16), false),
+    (b"e", b"t", Some(Kind::U16), false),
+    (b"u", b"h", Some(Kind::U8), false),
+];
+
+/// A name with its shape.
+type Shaped = (&'static [u8], &'static [u8]);
+
+const FUNCTIONS: [Shaped; 2] = [(b"$start", b"fv"), (b"main", b"fi")];
+
+const DECLARED: [Shaped; 3] = [(b"a", b"i"), (b"f", b"fii"), (b"main", b"fi")];
+
+const TAKEN: [Shaped; 1] = [(b"f", b"fii")];
+
+const USED: [&[u8]; 3] = [b"a", b"f", b"main"];
+
+/// Bytes of a payload that are set, each with the offset of the fault in the file.
+const DAMAGES: [(&[u8], usize, u8, usize); 28] = [
+    (&FULL, 18, 36, 26),
+    (&FULL, 73, 11, 82),
+    (&FULL, 87, 6, 99),
+    (&FULL, 88, 2, 100),
+    (&FULL, 92, 1, 101),
+    (&FULL, 165, 0, 174),
+    (&FULL, 165, 8, 160),
+    (&FULL, 81, 0, 160),
+    (&FULL, 252, 7, 51),
+    (&FULL, 229, 0, 238),
+    (&FULL, 252, 0, 261),
+    (&FULL, 286, 119, 299),
+    (&FULL, 304, 1, 313),
+    (&FULL, 312, 1, 321),
+    (&FULL, 244, 11, 253),
+    (&FULL, 217, 9, 230),
+    (&PLAIN, 108, 6, 119),
+    (&PLAIN, 45, 2, 79),
+    (&PLAIN, 65, 2, 84),
+    (&PLAIN, 12, 0, 21),
+    (&PLAIN, 50, 1, 60),
+    (&PLAIN, 101, 4, 111),
+    (&PLAIN, 29, 1, 57),
+    (&PLAIN, 34, 2, 46),
+    (&PLAIN, 21, 4, 29),
+    (&PLAIN, 91, 2, 127),
+    (&PLAIN, 110, 1, 119),
+    (&PLAIN, 39, 4, 50),
+];
+
+/// Lengths to which the file of `PLAIN` is cut, each with the offset of the fault.
+const CUTS: [(usize, usize); 6] = [(0, 0), (3, 0), (4, 4), (7, 4), (8, 4), (158, 4)];
+
+/// The summary of `FULL`.
+fn full(alloc: Global) -> Result<Summary, Fail> {
+    let file = seal(alloc, KIND, 1, &FULL)?;
+    Ok(read(alloc, &file).ok().ok_or("a summary")?)
+}
+
+fn are_names(names: &[Name], rows: &[&[u8]]) -> bool {
+    for (name, row) in names.iter().zip(rows) {
+        if name.as_bytes() != *row {
+            return false;
+        }
+    }
+    names.len() == rows.len()
+}
+
+fn are_shapes(shapes: &[Shape], rows: &[&[u8]]) -> bool {
+    for (shape, row) in shapes.iter().zip(rows) {
+        if shape.as_bytes() != *row {
+            return false;
+        }
+    }
+    shapes.len() == rows.len()
+}
+
+fn are_shaped(shaped: &[(Name, Shape)], rows: &[Shaped]) -> bool {
+    for (item, row) in shaped.iter().zip(rows) {
+        if item.0.as_bytes() != row.0 || item.1.as_bytes() != row.1 {
+            return false;
+        }
+    }
+    shaped.len() == rows.len()
+}
+
+/// The offset of the file's fault.
+fn fault(alloc: Global, file: &[u8]) -> Option<usize> {
+    match read(alloc, file) {
+        Err(FileError::FileFault { at }) => Some(at),
+        _ => None,
+    }
+}
+
+/// The file of a payload of few bytes.
+fn file_of(alloc: Global, payload: &[u8]) -> Result<Vec<u8>, Fail> {
+    if payload.len() > 1000 {
+        return Err("few bytes".into());
+    }
+    Ok(seal(alloc, KIND, 1, payload)?)
+}
+
+/// The offset of the fault of a payload's file.
+fn payload_fault(alloc: Global, payload: &[u8]) -> Result<Option<usize>, Fail> {
+    let file = file_of(alloc, payload)?;
+    Ok(fault(alloc, &file))
+}
+
+/// Whether a payload's file is read, and written again as it was.
+fn is_written_again(alloc: Global, payload: &[u8]) -> Result<bool, Fail> {
+    let file = file_of(alloc, payload)?;
+    match read(alloc, &file) {
+        Ok(summary) => Ok(write(alloc, &summary)? == file),
+        Err(_) => Ok(false),
+    }
+}
+
 #[test]
 fn globals(rt: HostRuntime) -> Result<(), Fail> {
-    let file = seal(rt.alloc(), KIND, 1, &FULL)?;
-    let summary = read(rt.alloc(), &file).ok().ok_or("a summary")?;
-    assert_eq!(rt; summary.module.as_bytes(), b"m".as_slice());
-    let kinds = [
-        Some(Kind::W32),
-        Some(Kind::S8),
-        None,
-        Some(Kind::S16),
-        Some(Kind::U16),
-        Some(Kind::U8),
-    ];
+    let summary = full(rt.alloc())?;
     assert_eq!(rt; summary.globals.len(), 6);
-    for (global, kind) in summary.globals.iter().zip(kinds) {
-        assert_eq!(rt; global.2, kind);
+    for (global, row) in summary.globals.iter().zip(&GLOBALS) {
+        assert!(rt; global.0.as_bytes() == row.0 && global.1.as_bytes() == row.1);
+        assert!(rt; global.2 == row.2 && global.3 == row.3);
     }
-    let second = summary.globals.get(1).ok_or("a second global")?;
-    assert_eq!(rt; second.0.as_bytes(), b"b".as_slice());
-    assert_eq!(rt; second.1.as_bytes(), b"!c".as_slice());
-    assert!(rt; second.3);
     Ok(())
 }
 
 #[test]
 fn names(rt: HostRuntime) -> Result<(), Fail> {
-    let file = seal(rt.alloc(), KIND, 1, &FULL)?;
-    let summary = read(rt.alloc(), &file).ok().ok_or("a summary")?;
-    let main = summary.functions.get(1).ok_or("a second function")?;
-    assert_eq!(rt; main.0.as_bytes(), b"main".as_slice());
-    assert_eq!(rt; main.1.as_bytes(), b"fi".as_slice());
-    assert_eq!(rt; summary.functions.len(), 2);
-    assert_eq!(rt; summary.declared.len(), 3);
-    assert_eq!(rt; summary.used.len(), 3);
-    let taken = summary.taken.first().ok_or("a taken function")?;
-    assert_eq!(rt; taken.1.as_bytes(), b"fii".as_slice());
-    let escaped = summary.escaped.first().ok_or("an escaped global")?;
-    assert_eq!(rt; escaped.as_bytes(), b"c".as_slice());
+    let summary = full(rt.alloc())?;
+    assert!(rt; summary.module.as_bytes() == b"m".as_slice());
+    assert!(rt; are_names(&summary.used, &USED));
+    assert!(rt; are_names(&summary.escaped, &[b"c"]));
+    Ok(())
+}
+
+#[test]
+fn shaped_names(rt: HostRuntime) -> Result<(), Fail> {
+    let summary = full(rt.alloc())?;
+    assert!(rt; are_shaped(&summary.functions, &FUNCTIONS));
+    assert!(rt; are_shaped(&summary.declared, &DECLARED));
+    assert!(rt; are_shaped(&summary.taken, &TAKEN));
     Ok(())
 }
 
 #[test]
 fn uses(rt: HostRuntime) -> Result<(), Fail> {
-    let file = seal(rt.alloc(), KIND, 1, &FULL)?;
-    let summary = read(rt.alloc(), &file).ok().ok_or("a summary")?;
-    assert_eq!(rt; summary.uses.len(), 2);
-    let start = summary.uses.first().ok_or("what $start uses")?;
-    let exit = start.calls.first().ok_or("a call")?;
-    assert_eq!(rt; exit.as_bytes(), b"exit".as_slice());
-    let main = summary.uses.get(1).ok_or("what main uses")?;
-    let last = main.shapes.get(2).ok_or("a third shape")?;
-    assert_eq!(rt; last.as_bytes(), b"fv".as_slice());
-    let a = main.refs.first().ok_or("a reference")?;
-    assert_eq!(rt; a.1, 3);
-    assert_eq!(rt; a.2, 4_294_967_295);
+    let summary = full(rt.alloc())?;
+    match summary.uses.as_slice() {
+        [start, main] => {
+            assert!(rt; are_names(&start.calls, &[b"exit", b"main"]));
+            assert!(rt; are_names(&main.calls, &[b"f"]));
+            assert!(rt; are_shapes(&main.shapes, &[b"", b"fi", b"fv"]));
+            let a = main.refs.first().ok_or("a reference")?;
+            assert!(rt; a.1 == 3 && a.2 == 4_294_967_295);
+        }
+        _ => assert!(rt; false),
+    }
     Ok(())
 }
 
 #[test]
 fn written_again(rt: HostRuntime) -> Result<(), Fail> {
-    for payload in [PLAIN.as_slice(), FULL.as_slice()] {
-        let file = seal(rt.alloc(), KIND, 1, payload)?;
-        match read(rt.alloc(), &file) {
-            Ok(summary) => {
-                let written = write(rt.alloc(), &summary)?;
-                assert_eq!(rt; written.as_slice(), file.as_slice());
-            }
-            Err(e) => assert!(rt; false, "{e:?}"),
-        }
-    }
+    assert!(rt; is_written_again(rt.alloc(), &PLAIN)?);
+    assert!(rt; is_written_again(rt.alloc(), &FULL)?);
     Ok(())
 }
 
 #[test]
 fn damaged_summaries(rt: HostRuntime) -> Result<(), Fail> {
-    for (place, value, wanted) in [
-        (18usize, 36u8, 26usize),
-        (73, 11, 82),
-        (87, 6, 99),
-        (88, 2, 100),
-        (92, 1, 101),
-        (165, 0, 174),
-        (165, 8, 160),
-        (81, 0, 160),
-        (252, 7, 51),
-        (229, 0, 238),
-        (252, 0, 261),
-        (286, 119, 299),
-        (304, 1, 313),
-        (312, 1, 321),
-        (244, 11, 253),
-        (217, 9, 230),
-    ] {
-        let mut damaged = FULL;
-        assert!(rt; place < 337);
-        damaged[place] = value;
-        let file = seal(rt.alloc(), KIND, 1, &damaged)?;
-        assert_eq!(rt;
-            read(rt.alloc(), &file).err(),
-            Some(FileError::FileFault { at: wanted }),
-            "{place}"
-        );
-    }
-    for (place, value, wanted) in [
-        (108usize, 6u8, 119usize),
-        (45, 2, 79),
-        (65, 2, 84),
-        (12, 0, 21),
-        (50, 1, 60),
-        (101, 4, 111),
-        (29, 1, 57),
-        (34, 2, 46),
-        (21, 4, 29),
-        (91, 2, 127),
-        (110, 1, 119),
-        (39, 4, 50),
-    ] {
-        let mut damaged = PLAIN;
-        assert!(rt; place < 115);
-        damaged[place] = value;
-        let file = seal(rt.alloc(), KIND, 1, &damaged)?;
-        assert_eq!(rt;
-            read(rt.alloc(), &file).err(),
-            Some(FileError::FileFault { at: wanted }),
-            "{place}"
-        );
+    for (payload, place, value, at) in &DAMAGES {
+        let mut damaged = Vec::from_slice(rt.alloc(), *payload)?;
+        *damaged.get_mut(*place).ok_or("a place")? = *value;
+        assert_eq!(rt; payload_fault(rt.alloc(), &damaged)?, Some(*at), "{place}");
     }
     Ok(())
 }
@@ -174,46 +227,44 @@ fn cut_at_every_length(rt: HostRuntime) -> Result<(), Fail> {
     for field in 0..STARTS.len() {
         let end = STARTS.get(field + 1).copied().unwrap_or(FULL.len());
         for len in STARTS[field]..end {
-            assert!(rt; len < 337);
-            let file = seal(rt.alloc(), KIND, 1, &FULL[..len])?;
-            assert_eq!(rt;
-                read(rt.alloc(), &file).err(),
-                Some(FileError::FileFault {
-                    at: 12 + STARTS[field]
-                }),
-                "{len}"
-            );
+            let front = FULL.get(..len).ok_or("a front")?;
+            let fault = payload_fault(rt.alloc(), front)?;
+            assert_eq!(rt; fault, Some(12 + STARTS[field]), "{len}");
         }
     }
     Ok(())
 }
 
 #[test]
-fn damaged_frames(rt: HostRuntime) -> Result<(), Fail> {
-    let mut file = seal(rt.alloc(), KIND, 1, &PLAIN)?;
+fn another_version(rt: HostRuntime) -> Result<(), Fail> {
+    let file = seal(rt.alloc(), KIND, 2, &PLAIN)?;
+    assert_eq!(rt; fault(rt.alloc(), &file), Some(8));
+    Ok(())
+}
+
+#[test]
+fn cut_files(rt: HostRuntime) -> Result<(), Fail> {
+    let file = seal(rt.alloc(), KIND, 1, &PLAIN)?;
     assert_eq!(rt; file.len(), 159);
-    let other = seal(rt.alloc(), KIND, 2, &PLAIN)?;
-    assert_eq!(rt;
-        read(rt.alloc(), &other).err(),
-        Some(FileError::FileFault { at: 8 })
-    );
-    for (len, wanted) in [(0usize, 0usize), (3, 0), (4, 4), (7, 4), (8, 4), (158, 4)] {
-        assert_eq!(rt;
-            read(rt.alloc(), &file[..len]).err(),
-            Some(FileError::FileFault { at: wanted })
-        );
+    for (len, at) in CUTS {
+        let front = file.get(..len).ok_or("a front")?;
+        assert_eq!(rt; fault(rt.alloc(), front), Some(at), "{len}");
     }
-    file[158] ^= 1;
-    assert_eq!(rt;
-        read(rt.alloc(), &file).err(),
-        Some(FileError::FileFault { at: 127 })
-    );
+    Ok(())
+}
+
+#[test]
+fn another_digest(rt: HostRuntime) -> Result<(), Fail> {
+    let mut file = seal(rt.alloc(), KIND, 1, &PLAIN)?;
+    *file.get_mut(158).ok_or("a last byte")? ^= 1;
+    assert_eq!(rt; fault(rt.alloc(), &file), Some(127));
+    Ok(())
+}
+
+#[test]
+fn a_longer_payload(rt: HostRuntime) -> Result<(), Fail> {
     let mut longer = Vec::from_slice(rt.alloc(), &PLAIN)?;
     longer.push(0)?;
-    let file = seal(rt.alloc(), KIND, 1, &longer)?;
-    assert_eq!(rt;
-        read(rt.alloc(), &file).err(),
-        Some(FileError::FileFault { at: 127 })
-    );
+    assert_eq!(rt; payload_fault(rt.alloc(), &longer)?, Some(127));
     Ok(())
 }

@@ -5,7 +5,8 @@ use Rattle.pw_db.specs.declared.database.Directives.{Directives}
 use Rattle.std.proofs.Common.{rules}
 use Rattle.std.specs.Cmp.Lexicographic.{slice_cmp}
 use Rattle.std.proofs.lemmas.Fn.{always_returns_same}
-use Rattle.pw_db.proofs.ChoosingLaws.{found_at, found_none}
+use Rattle.pw_files.proofs.Searches.{found_none}
+use Rattle.pw_db.proofs.ChoosingLaws.{found_at}
 use Rattle.pw_db.proofs.choosing.find.Goals as goal
 
 pub returns-in-Ok-clause-found : goal.returns-in-Ok-clause-found
@@ -16,5 +17,5 @@ returns-in-Ok-clause-found c =
 
 pub returns-in-Err-clause-none : goal.returns-in-Err-clause-none
 returns-in-Err-clause-none c =
-    found_none c.args.functions.now c.args.name.now c.in-Err.field-0 c.requires
+    found_none (λ f. f.0) c.args.functions.now c.args.name.now c.in-Err.field-0 c.requires
     (c.in-Err.ensures.position (λ f. slice_cmp nat_cmp f.0 c.args.name.now) (always_returns_same _ _ _ (λ a r f h. (search rules, search rules))))

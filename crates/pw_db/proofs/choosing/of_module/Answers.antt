@@ -1,4 +1,5 @@
-use Rattle.std.proofs.Common.{List, ℕ, ◌∷◌, [], ◌++◌, All, map, take, sym, subst, ap, ◌∙◌}
+use Rattle.std.proofs.Common.{◌≡◌, List, ℕ, ◌∷◌, [], ◌++◌, All, length, map, take, arith, sym, subst, ap, ◌∙◌}
+use Rattle.std.proofs.Math.Seq.{take-length}
 use Rattle.std.proofs.lemmas.List.Elements.{All-push}
 use Rattle.std.proofs.lemmas.List.{map_push, take_more}
 use Rattle.pw_value.specs.declared.name.Name.{Name}
@@ -6,6 +7,7 @@ use Rattle.pw_files.specs.Rising.{IsRising}
 use Rattle.pw_db.specs.declared.database.Directives.{Directives}
 use Rattle.pw_db.specs.Database.{HasDirectives, function_view, directives_view}
 use Rattle.pw_db.proofs.ChoosingLaws.{names_seen}
+use Rattle.pw_db.proofs.StoringLaws.{module_stored}
 use Rattle.pw_db.proofs.choosing.of_module.Goals as goal
 
 pub directives_of-requires : goal.directives_of-requires
@@ -24,3 +26,10 @@ loop-name-preserved c =
           ∙ sym (take_more c.args.functions.now c.loop-name.name-index c.name-item.result c.loop-name-test.true);
       directives = subst (λ (gs : List (Name × Directives)). All (λ f. HasDirectives fs (function_view f)) gs) (sym c.in_ok-push.ensures.items) (All-push (λ f. HasDirectives fs (function_view f)) c.loop-name.all.items new c.loop-name.invariant.directives named);
     }
+
+pub returns-clause-can_be_stored : goal.returns-clause-can_be_stored
+returns-clause-can_be_stored c =
+    let names : List (List ℕ) = c.args.functions.now in
+    let end : c.loop-name.name-index ≡ length names = omega (arith, c.loop-name-test.false, c.loop-name.auto.name-index-end) in
+    let named : map (λ f. f.0) c.loop-name.all.items ≡ names = c.loop-name.invariant.names ∙ ap (λ n. take n names) end ∙ take-length names in
+    module_stored (map function_view c.args.db.now.functions.items) names c.loop-name.all.items c.requires named c.loop-name.invariant.directives

@@ -2,7 +2,7 @@ use Rattle.std.proofs.Common.{arith, List, All, subst}
 use Rattle.pw_value.specs.Fields.{FitsU32}
 use Rattle.pw_db.specs.declared.database.Web.{Web}
 use Rattle.pw_db.specs.declared.database.Role.{Role}
-use Rattle.pw_db.proofs.WritingLemmas.{all_by_seen}
+use Rattle.pw_files.proofs.Views.{all_by_seen}
 use Rattle.pw_db.proofs.writing.push_function.Goals as goal
 
 pub returns-clause-fits : goal.returns-clause-fits

@@ -2,7 +2,7 @@ use Rattle.std.proofs.Common.{subst, sym}
 use Rattle.std.proofs.lemmas.List.{length-map}
 use Rattle.pw_value.specs.Fields.{FitsU32}
 use Rattle.pw_db.specs.Database.{FitsFunction, function_view}
-use Rattle.pw_db.proofs.WritingLemmas.{all_by_seen}
+use Rattle.pw_files.proofs.Views.{all_by_seen}
 use Rattle.pw_db.proofs.writing.write_contents.Goals as goal
 
 pub returns-clause-fits : goal.returns-clause-fits

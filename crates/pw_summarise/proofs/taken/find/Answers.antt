@@ -1,7 +1,7 @@
 use Rattle.std.proofs.Common.{ℕ, List, nat_cmp, rules, sym}
 use Rattle.std.specs.Cmp.Lexicographic.{slice_cmp}
 use Rattle.std.proofs.lemmas.Fn.{always_returns_same}
-use Rattle.pw_summarise.proofs.Searches.{found, found_none}
+use Rattle.pw_files.proofs.Searches.{found, found_none}
 use Rattle.pw_summarise.proofs.ShapeLaws.{shape_at, none_there}
 use Rattle.pw_summarise.proofs.taken.find.Goals as goal
 

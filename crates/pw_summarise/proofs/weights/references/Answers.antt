@@ -3,7 +3,8 @@ use Rattle.std.proofs.lemmas.List.{take_at}
 use Rattle.pw_flow.specs.FlowGraph.{function_view}
 use Rattle.pw_files.specs.Rising.{IsRising}
 use Rattle.pw_summarise.specs.Summarises.{IsOrdered, referenced, in_function, reference}
-use Rattle.pw_summarise.proofs.Orders.{table_rises, table_ordered, ordered_map}
+use Rattle.pw_files.proofs.ByteOrder.{table_rises}
+use Rattle.pw_summarise.proofs.Orders.{table_ordered, ordered_map}
 use Rattle.pw_summarise.proofs.WeightLaws.{names_unweighted, references_are}
 use Rattle.pw_summarise.proofs.weights.references.Goals as goal
 

@@ -2,7 +2,7 @@ use Rattle.std.proofs.Common.{List, ℕ, All, sym, subst}
 use Rattle.std.specs.Prelude.{Contains}
 use Rattle.pw_summary.specs.declared.summary.Uses.{Uses}
 use Rattle.pw_summary.specs.Summary.{AreNamed, uses_view}
-use Rattle.pw_summary.proofs.WritingLemmas.{seen_all}
+use Rattle.pw_files.proofs.Views.{seen_all}
 use Rattle.pw_summary.proofs.writing.push_used.Goals as goal
 
 pub push_name_list-requires-clause-stand : goal.push_name_list-requires-clause-stand

@@ -1,5 +1,5 @@
 use Rattle.pw_summary.specs.Summary.{FitsUses, uses_view}
-use Rattle.pw_summary.proofs.WritingLemmas.{all_by_seen}
+use Rattle.pw_files.proofs.Views.{all_by_seen}
 use Rattle.pw_summary.proofs.writing.write_payload.Goals as goal
 
 pub returns-clause-fits : goal.returns-clause-fits

@@ -1,7 +1,9 @@
 -- Standing in a list, by the list's parts.
-use Rattle.std.proofs.Common.{◌≡◌, ◌⊎◌, ℕ, zero, suc, ◌<◌, List, [], ◌∷◌, ◌++◌, length, get_or, map, refl, sym, ap, subst, arith, inl, inr}
+use Rattle.std.proofs.Common.{◌≡◌, ◌⊎◌, ℕ, zero, suc, ◌<◌, Bool, true, false, List, [], ◌∷◌, ◌++◌, length, get_or, map, refl, sym, ap, subst, ◌∙◌, arith, inl, inr}
 use Rattle.std.specs.Prelude.{Contains}
 use Rattle.std.specs.List.{AllByRecursion, flat_map}
+use Rattle.std.specs.Str.{bytes_eq}
+use Rattle.std.proofs.lemmas.Slice.Eq.{bytes_eq-Decides}
 use Rattle.std.proofs.lemmas.List.Concat.{flat_map-cons}
 
 abbrev pub Has : {X : Type 0} → X → List X → Type 0
@@ -70,3 +72,18 @@ has_flat_back {X} {Y} h y (z ∷ zs) k =
       | inl j ↦ (z, inl refl, j)
       | inr j ↦ let p = has_flat_back h y zs j in (p.0, inr p.1, p.2)
     ]
+
+-- ---- of texts
+
+pub apart : false ≡ true → ⊥
+apart e = cc
+
+stands_by : (text other : List ℕ) (texts : List (List ℕ)) (b : Bool) → bytes_eq other text ≡ b → Has text texts ⊎ (Has text texts → ⊥) → Has text (other ∷ texts) ⊎ (Has text (other ∷ texts) → ⊥)
+stands_by text other texts true is later = inl (inl ((bytes_eq-Decides other text).0 is))
+stands_by text other texts false is (inl h) = inl (inr h)
+stands_by text other texts false is (inr lacks) = inr (λ h. elim h [ inl e ↦ apart (sym is ∙ (bytes_eq-Decides other text).1 e) | inr k ↦ lacks k ])
+
+-- a text stands in a list, or it does not
+pub stands_or_not : (text : List ℕ) (texts : List (List ℕ)) → Has text texts ⊎ (Has text texts → ⊥)
+stands_or_not text [] = inr (λ h. h)
+stands_or_not text (other ∷ texts) = stands_by text other texts (bytes_eq other text) refl (stands_or_not text texts)
