@@ -1,6 +1,6 @@
 -- The two laws of flow files: what is read is the file of a module, and the file of a module is read.
-use Rattle.std.proofs.Common.{◌≡◌, ℕ, Bool, true, false, cond, List, [], ◌∷◌, ◌++◌, length, map, Result, Ok, Err, refl, sym, ap, subst, ◌∙◌, arith, lit<}
-use Rattle.std.specs.Prelude.{Option, Some, None, IfOk, Contains}
+use Rattle.std.proofs.Common.{◌≡◌, ℕ, true, List, [], ◌∷◌, ◌++◌, length, map, Result, Ok, Err, refl, sym, ap, subst, ◌∙◌, arith, lit<}
+use Rattle.std.specs.Prelude.{None, IfOk, Contains}
 use Rattle.std.specs.List.{flat_map, AllByRecursion}
 use Rattle.std.proofs.lemmas.List.{append-nil}
 use Rattle.pw_value.specs.declared.fault.FileError.{FileError}
@@ -14,15 +14,18 @@ use Rattle.pw_value.proofs.FieldSteps.{items_spell}
 use Rattle.pw_value.proofs.FileLaws.{file_takes, file_again}
 use Rattle.pw_value.proofs.NameLaws.{names_spell, name_spells, AllUsed, all_used, none_unused, table_of_used, used_by_table}
 use Rattle.pw_value.proofs.NameTables.{one_table}
+use Rattle.pw_files.specs.Names.{shaped}
+use Rattle.pw_files.specs.Start.{KeepsStart, start_rule}
+use Rattle.pw_files.proofs.StartLaws.{sooner_none, rule_forth, rule_back}
 use Rattle.pw_flow.specs.declared.flow.FlowModule.{FlowModule}
 use Rattle.pw_flow.specs.FlowGraph.{GlobalValue, FunctionValue, ModuleValue, view, names_in_global, names_in_function, global_names, function_names, declared_names, named_in}
 use Rattle.pw_flow.specs.ValidFlow.{IsOrdinary, IsGlobal, IsFunction, IsStartLawful}
 use Rattle.pw_flow.proofs.Lists.{all_flat, all_flat_back, all_both, all_first, all_second, all_append, all_left, all_right}
-use Rattle.pw_flowfile.specs.FlowFile.{Contents, all_in_global, all_in_function, names_of, global, function, declared, spelling, FitsGlobal, FitsFunction, IsContents, IsFlowFile, kind_of_file}
-use Rattle.pw_flowfile.specs.Reading.{global_at, next_global, declared_at, next_declared, function_at, next_function, seen_after, is_start_lawful, start_fault, first_of, module_at, contents_at, flow_file_at, flow_of}
-use Rattle.pw_flowfile.proofs.FieldChains.{Takes, takes_field, takes_here, takes_ended, again_field}
+use Rattle.pw_flowfile.specs.FlowFile.{Contents, all_in_global, all_in_function, names_of, global, function, spelling, FitsGlobal, FitsFunction, IsContents, IsFlowFile, kind_of_file}
+use Rattle.pw_flowfile.specs.Reading.{global_at, next_global, declared_at, next_declared, function_at, next_function, seen_after, late_rules, module_at, contents_at, flow_file_at, flow_of}
+use Rattle.pw_flowops.proofs.FieldChains.{Takes, takes_field, takes_here, takes_ended, again_field}
 use Rattle.pw_flowfile.proofs.GraphLaws.{FunctionFits, FunctionStands, function_spells, GlobalFits, GlobalStands, global_spells, DeclaredStands, declared_spells}
-use Rattle.pw_flowfile.proofs.Turns.{InTurn, turn_forth, turn_back, turn_append, turn_left, turn_right, turn_distinct, distinct_turn, start_forth, start_back}
+use Rattle.pw_flowfile.proofs.Turns.{InTurn, turn_forth, turn_back, turn_append, turn_left, turn_right, turn_distinct, distinct_turn, start_lawful, lawful_start}
 
 -- ---- tools
 
@@ -144,21 +147,13 @@ parts_back c is =
 
 -- ---- the late rules
 
-first_none : (a b : Option ℕ) → first_of a b ≡ None → (a ≡ None) × (b ≡ None)
-first_none (Some left) b e = absurd cc
-first_none None b e = (refl, e)
-
-start_none : (b : Bool) (left : ℕ) → cond b None (Some left) ≡ None → b ≡ true
-start_none true left e = refl
-start_none false left e = absurd cc
-
-late_forth : (names : List (List ℕ)) (m : ModuleValue) (behind place : ℕ) → first_of (first_unused names (names_of m) behind) (start_fault m place) ≡ None → AllUsed names (names_of m) × IsStartLawful m
+late_forth : (names : List (List ℕ)) (m : ModuleValue) (behind place : ℕ) → late_rules names m behind place ≡ None → AllUsed names (names_of m) × IsStartLawful m
 late_forth names m behind place e =
-    let p = first_none (first_unused names (names_of m) behind) (start_fault m place) e in
-    (all_used names (names_of m) behind p.0, start_forth m (start_none (is_start_lawful m) place p.1))
+    let p = sooner_none (first_unused names (names_of m) behind) (start_rule (function_names m) (global_names m) place) e in
+    (all_used names (names_of m) behind p.0, start_lawful m (rule_forth (function_names m) (global_names m) place p.1))
 
-late_back : (names : List (List ℕ)) (m : ModuleValue) (behind place : ℕ) → AllUsed names (names_of m) → IsStartLawful m → first_of (first_unused names (names_of m) behind) (start_fault m place) ≡ None
-late_back names m behind place used start = rw (none_unused names (names_of m) behind used, start_back m start) refl
+late_back : (names : List (List ℕ)) (m : ModuleValue) (behind place : ℕ) → AllUsed names (names_of m) → KeepsStart (function_names m) (global_names m) → late_rules names m behind place ≡ None
+late_back names m behind place used start = rw (none_unused names (names_of m) behind used) (rule_back (function_names m) (global_names m) place start)
 
 -- ---- the payload
 
@@ -167,7 +162,7 @@ IsRead text rest c = (text ≡ spelling c) × (IsContents c × (rest ≡ []))
 
 -- the payload's text with other counts
 abbrev with_counts : List (List ℕ) → ModuleValue → ℕ → ℕ → ℕ → List ℕ
-with_counts names m g d f = name_table names ++ (name_index names m.name ++ (u32 g ++ (flat_map (global names) m.globals ++ (u32 d ++ (flat_map (declared names) m.declared ++ (u32 f ++ (flat_map (function names) m.functions ++ [])))))))
+with_counts names m g d f = name_table names ++ (name_index names m.name ++ (u32 g ++ (flat_map (global names) m.globals ++ (u32 d ++ (flat_map (shaped names) m.declared ++ (u32 f ++ (flat_map (function names) m.functions ++ [])))))))
 
 counted : (names : List (List ℕ)) (m : ModuleValue) (g d f : ℕ) → length m.globals ≡ g → length m.declared ≡ d → length m.functions ≡ f → with_counts names m g d f ≡ spelling (record { names = names; flow = m })
 counted names m g d f p q r = rw (← p, ← q, ← r) refl
@@ -182,8 +177,8 @@ contents_take =
     (λ global_count gc. takes_field _ (flat_map (global names)) (λ gs. (length gs ≡ global_count) × FitInTurn (GlobalStands names) next_global [] gs) (items_at (global_at names) next_global global_count []) _
     (items_spell (global names) (GlobalStands names) (global_at names) next_global (global_spells names table) global_count [])
     (λ globals g. takes_field _ u32 FitsU32 u32_at _ u32_spells
-    (λ declared_count dc. takes_field _ (flat_map (declared names)) (λ ds. (length ds ≡ declared_count) × FitInTurn (DeclaredStands names) next_declared [] ds) (items_at (declared_at names) next_declared declared_count []) _
-    (items_spell (declared names) (DeclaredStands names) (declared_at names) next_declared (declared_spells names table) declared_count [])
+    (λ declared_count dc. takes_field _ (flat_map (shaped names)) (λ ds. (length ds ≡ declared_count) × FitInTurn (DeclaredStands names) next_declared [] ds) (items_at (declared_at names) next_declared declared_count []) _
+    (items_spell (shaped names) (DeclaredStands names) (declared_at names) next_declared (declared_spells names table) declared_count [])
     (λ declared d. takes_here _ _
     (λ place. takes_field _ u32 FitsU32 u32_at _ u32_spells
     (λ function_count fc. takes_field _ (flat_map (function names)) (λ fs. (length fs ≡ function_count) × FitInTurn (FunctionStands names) next_function (seen_after [] (map (λ g. g.name) globals)) fs)
@@ -194,7 +189,7 @@ contents_take =
     let gt = turn_forth (λ (g : GlobalValue). g.name) (OneGlobal names) [] globals g.1 in
     let dt = turn_forth (λ (d : List ℕ × List ℕ). d.0) (OneDeclared names) [] declared d.1 in
     let ft = turn_forth (λ (f : FunctionValue). f.name) (FunctionFits names) (seen_after [] (map (λ g. g.name) globals)) functions f.1 in
-    takes_ended _ (first_of (first_unused names (names_of flow) behind) (start_fault flow place)) (record { names = names; flow = flow })
+    takes_ended _ (late_rules names flow behind place) (record { names = names; flow = flow })
     (λ none.
     let late = late_forth names flow behind place none in (
       counted names flow global_count declared_count function_count g.0 d.0 f.0,
@@ -224,7 +219,7 @@ contents_again c is =
     let p = parts_back c is in
     let seen = seen_after [] (global_names m) in
     let ft = flat_map (function names) m.functions ++ [] in
-    let dt = flat_map (declared names) m.declared ++ (u32 (length m.functions) ++ ft) in
+    let dt = flat_map (shaped names) m.declared ++ (u32 (length m.functions) ++ ft) in
     let gt = flat_map (global names) m.globals ++ (u32 (length m.declared) ++ dt) in
     again_field name_table IsNameTable names_at _ names_spell names p.table (name_index names m.name ++ (u32 (length m.globals) ++ gt)) [] c
     (again_field (name_index names) (Contains names) (name_at names) _ (name_spells names p.table) m.name p.name (u32 (length m.globals) ++ gt) [] c
@@ -233,14 +228,14 @@ contents_again c is =
     (items_spell (global names) (GlobalStands names) (global_at names) next_global (global_spells names p.table) (length m.globals) []) m.globals
     (refl, turn_back (λ (g : GlobalValue). g.name) (OneGlobal names) [] m.globals p.global_turn p.globals) (u32 (length m.declared) ++ dt) [] c
     (again_field u32 FitsU32 u32_at _ u32_spells (length m.declared) p.declared_count dt [] c
-    (again_field (flat_map (declared names)) (λ ds. (length ds ≡ length m.declared) × FitInTurn (DeclaredStands names) next_declared [] ds) (items_at (declared_at names) next_declared (length m.declared) []) _
-    (items_spell (declared names) (DeclaredStands names) (declared_at names) next_declared (declared_spells names p.table) (length m.declared) []) m.declared
+    (again_field (flat_map (shaped names)) (λ ds. (length ds ≡ length m.declared) × FitInTurn (DeclaredStands names) next_declared [] ds) (items_at (declared_at names) next_declared (length m.declared) []) _
+    (items_spell (shaped names) (DeclaredStands names) (declared_at names) next_declared (declared_spells names p.table) (length m.declared) []) m.declared
     (refl, turn_back (λ (d : List ℕ × List ℕ). d.0) (OneDeclared names) [] m.declared p.declared_turn p.declared) (u32 (length m.functions) ++ ft) [] c
     (again_field u32 FitsU32 u32_at _ u32_spells (length m.functions) p.function_count ft [] c
     (again_field (flat_map (function names)) (λ fs. (length fs ≡ length m.functions) × FitInTurn (FunctionStands names) next_function seen fs) (items_at (function_at names) next_function (length m.functions) seen) _
     (items_spell (function names) (FunctionStands names) (function_at names) next_function (function_spells names p.table) (length m.functions) seen) m.functions
     (refl, turn_back (λ (f : FunctionValue). f.name) (FunctionFits names) seen m.functions p.function_turn p.functions) [] [] c
-    (rw (late_back names m _ _ (used_by_table names (names_of m) is.names).0 is.valid.names.start) refl))))))))
+    (rw (late_back names m _ _ (used_by_table names (names_of m) is.names).0 (lawful_start m is.valid.names.distinct.defined is.valid.names.start)) refl))))))))
 
 payload_spells : SpellsWhole spelling IsContents contents_at
 payload_spells = record {

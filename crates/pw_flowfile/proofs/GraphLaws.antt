@@ -1,7 +1,7 @@
--- Ends, blocks, functions, global objects and declared names: what is read is spelled so and lawful, and
+-- Blocks, functions, global objects and declared names: what is read is spelled so and lawful, and
 -- what is spelled so and lawful is read again.
 use Rattle.std.proofs.Common.{◌≡◌, ℕ, ◌+◌, ◌*◌, ◌^◌, ◌<◌, ◌≤◌, Bool, true, false, List, [], ◌∷◌, ◌++◌, length, Ok, refl, sym, ap, subst, ◌∙◌, arith}
-use Rattle.std.specs.Prelude.{Option, Some, None, IfSome, Contains, nat_le, nat_lt, ◌&&◌}
+use Rattle.std.specs.Prelude.{Option, Some, None, IfSome, Contains, nat_le, nat_lt, ◌&&◌, not, slice_get}
 use Rattle.std.specs.List.{flat_map, AllByRecursion}
 use Rattle.std.specs.Cmp.{first_so, second_so}
 use Rattle.std.specs.Cmp.Derive.{both_true}
@@ -10,58 +10,38 @@ use Rattle.std.proofs.lemmas.List.{append-nil}
 use Rattle.pw_value.specs.declared.value.Kind.{Kind}
 use Rattle.pw_value.specs.Fields.{checked, u32_at, text_at, flag_at, items_at, repeated, u8, u32, text, flag, FitsU32, FitsText, FitInTurn}
 use Rattle.pw_value.specs.FieldLaws.{Spells}
-use Rattle.pw_value.specs.FieldNames.{name_index, is_among, IsNameTable}
+use Rattle.pw_value.specs.FieldNames.{name_at, name_index, is_among, IsNameTable}
 use Rattle.pw_value.proofs.FieldLaws.{checked_spells, u32_spells, text_spells, flag_spells}
+use Rattle.pw_value.proofs.NameLaws.{name_spells}
 use Rattle.pw_value.proofs.FieldSteps.{items_spell, repeated_spells}
-use Rattle.pw_flow.specs.declared.flow.End.{End}
-use Rattle.pw_flow.specs.declared.flow.End.TheVariants as end
+use Rattle.pw_files.specs.Kinds.{kind as kind_byte, kind_at}
+use Rattle.pw_files.specs.Names.{shaped}
+use Rattle.pw_files.proofs.KindLaws.{kind_spells}
 use Rattle.pw_flow.specs.FlowGraph.{ItemValue, Bytes, Address, GlobalValue, BlockValue, FunctionValue, item_names, op_names, names_in_global, names_in_block, names_in_function}
-use Rattle.pw_flow.specs.ValidFlow.{kind_size, item_size, IsItem, AreItems, IsGlobal, IsResult, IsOp, IsEnd, IsBlock, slot_room, rooms, HasFewParts, IsFunction}
+use Rattle.pw_flow.specs.ValidFlow.{kind_size, item_size, IsItem, AreItems, IsGlobal, IsOp, IsEnd, IsBlock, slot_room, rooms, HasFewParts, IsFunction}
 use Rattle.pw_flow.proofs.Lists.{all_flat, all_flat_back, all_both, all_first, all_second}
 use Rattle.pw_flow.proofs.Rooms.{grows}
-use Rattle.pw_flowfile.specs.declared.codes.EndCode.{EndCode}
-use Rattle.pw_flowfile.specs.declared.codes.EndCode.TheVariants as end_code
-use Rattle.pw_flowfile.specs.declared.codes.ItemForm.{ItemForm}
-use Rattle.pw_flowfile.specs.declared.codes.ItemForm.TheVariants as form
-use Rattle.pw_flowfile.specs.FlowFile.{optional_kind_number, item, placed_item, global_body, global, result, op, ending, block, function, declared, FitsOp, FitsBlock, FitsFunction, FitsGlobal}
-use Rattle.pw_flowfile.specs.Reading.{one_of_at, kinds, end_codes, item_forms, has_room, content_at, item_at, placed_item_at, next_free, has_kind_size, global_body_at, global_at, below_at, result_at, op_at, targets_at, end_at, block_at, slot_at, next_room, function_body_at, function_at, fresh_at, named_at, declared_body_at, declared_at}
-use Rattle.pw_flowfile.proofs.FieldChains.{Takes, takes_field, takes_done, again_field, chained}
-use Rattle.pw_flowfile.proofs.ChoiceLaws.{Any, optional_kind_spells, end_number, end_code_spells, form_number, form_spells}
-use Rattle.pw_flowfile.proofs.PartLaws.{ruled_spells, below_spells, Fresh, fresh_spells, Named, named_spells, result_spells}
-use Rattle.pw_flowfile.proofs.OpLaws.{OpFits, op_spells}
+use Rattle.pw_flowops.specs.Operations.{op, ending, FitsOp, Named, OpFits}
+use Rattle.pw_flowops.specs.Reading.{one_of_at, op_at, end_at, named_at}
+use Rattle.pw_flowops.proofs.FieldChains.{Takes, takes_field, takes_done, again_field, chained}
+use Rattle.pw_flowops.proofs.ChoiceLaws.{Any, one_spells}
+use Rattle.pw_flowops.proofs.PartLaws.{ruled_spells, not_true, true_not, named_spells}
+use Rattle.pw_flowops.proofs.OpLaws.{op_spells}
+use Rattle.pw_flowops.proofs.EndLaws.{end_spells}
+use Rattle.pw_flowfile.specs.declared.globals.ItemForm.{ItemForm}
+use Rattle.pw_flowfile.specs.declared.globals.ItemForm.TheVariants as form
+use Rattle.pw_flowfile.specs.FlowFile.{item, placed_item, global_body, global, block, function, FitsBlock, FitsFunction, FitsGlobal}
+use Rattle.pw_flowfile.specs.Reading.{item_forms, has_room, content_at, item_at, placed_item_at, next_free, has_kind_size, global_body_at, global_at, block_at, slot_at, next_room, function_body_at, function_at, fresh_at, declared_body_at, declared_at}
 
--- ---- ends
+-- ---- names that are met once
 
-targets_take : (temps blocks : ℕ) → temps < 2 ^ 31 → blocks ≤ 2 ^ 32 → (c : EndCode) → Takes (λ text rest e. (u8 (end_number c) ++ text ≡ ending e) × IsEnd temps blocks e) (targets_at temps blocks c)
-unfolding targets_at
-targets_take temps blocks small few end_code.Jump =
-    takes_field _ u32 (λ n. n < blocks) (below_at blocks) _ (below_spells blocks few) (λ b h. takes_done _ (end.Jump b) (λ rest. (refl, h)))
-targets_take temps blocks small few end_code.Branch =
-    takes_field _ u32 (λ n. n < temps) (below_at temps) _ (below_spells temps (omega arith))
-    (λ a h. takes_field _ u32 (λ n. n < blocks) (below_at blocks) _ (below_spells blocks few)
-    (λ b i. takes_field _ u32 (λ n. n < blocks) (below_at blocks) _ (below_spells blocks few) (λ c j. takes_done _ (end.Branch a b c) (λ rest. (refl, (h, i, j))))))
-targets_take temps blocks small few end_code.Return =
-    takes_field _ result (IsResult temps) (result_at temps) _ (result_spells temps small) (λ a h. takes_done _ (end.Return a) (λ rest. (refl, h)))
+abbrev pub Fresh : List (List ℕ) → List (List ℕ) → List ℕ → Type 0
+Fresh names seen name = Contains names name × (is_among seen name ≡ false)
 
-end_again : (temps blocks : ℕ) → temps < 2 ^ 31 → blocks ≤ 2 ^ 32 → (e : End) (rest : List ℕ) → IsEnd temps blocks e → end_at temps blocks (ending e ++ rest) ≡ Ok (e, rest)
-unfolding end_at targets_at
-end_again temps blocks small few (end.Jump b) rest h =
-    again_field (λ c. u8 (end_number c)) Any (one_of_at end_codes) _ end_code_spells end_code.Jump tt (u32 b ++ []) rest (end.Jump b)
-    (again_field u32 (λ n. n < blocks) (below_at blocks) _ (below_spells blocks few) b h [] rest (end.Jump b) refl)
-end_again temps blocks small few (end.Branch a b c) rest h =
-    again_field (λ c. u8 (end_number c)) Any (one_of_at end_codes) _ end_code_spells end_code.Branch tt (u32 a ++ (u32 b ++ (u32 c ++ []))) rest (end.Branch a b c)
-    (again_field u32 (λ n. n < temps) (below_at temps) _ (below_spells temps (omega arith)) a h.0 (u32 b ++ (u32 c ++ [])) rest (end.Branch a b c)
-    (again_field u32 (λ n. n < blocks) (below_at blocks) _ (below_spells blocks few) b h.1 (u32 c ++ []) rest (end.Branch a b c)
-    (again_field u32 (λ n. n < blocks) (below_at blocks) _ (below_spells blocks few) c h.2 [] rest (end.Branch a b c) refl)))
-end_again temps blocks small few (end.Return a) rest h =
-    again_field (λ c. u8 (end_number c)) Any (one_of_at end_codes) _ end_code_spells end_code.Return tt (result a ++ []) rest (end.Return a)
-    (again_field result (IsResult temps) (result_at temps) _ (result_spells temps small) a h [] rest (end.Return a) refl)
-
-pub end_spells : (temps blocks : ℕ) → temps < 2 ^ 31 → blocks ≤ 2 ^ 32 → Spells ending (IsEnd temps blocks) (end_at temps blocks)
-unfolding end_at
-end_spells temps blocks small few = chained ending (IsEnd temps blocks) _
-    (takes_field _ (λ c. u8 (end_number c)) Any (one_of_at end_codes) _ end_code_spells (λ c h. targets_take temps blocks small few c))
-    (end_again temps blocks small few)
+pub fresh_spells : (names : List (List ℕ)) → IsNameTable names → (seen : List (List ℕ)) → Spells (name_index names) (Fresh names seen) (fresh_at names seen)
+unfolding fresh_at
+fresh_spells names table seen = ruled_spells (name_index names) _ (Fresh names seen) _ (checked_spells (name_index names) (Contains names) (name_at names) (λ name. not (is_among seen name)) (name_spells names table))
+    (λ name h. (h.0, not_true _ h.1)) (λ name h. (h.0, true_not _ h.1))
 
 -- ---- blocks
 
@@ -221,6 +201,17 @@ ContentFits strict names size offset i = (offset + item_size i ≤ size) × (IsI
 bytes_spells : (size offset : ℕ) → size < 2 ^ 32 → Spells text (λ b. offset + length b ≤ size) (checked (λ b. nat_le (offset + length b) size) text_at)
 bytes_spells size offset small = ruled_spells text _ (λ b. offset + length b ≤ size) _ (checked_spells text FitsText text_at (λ b. nat_le (offset + length b) size) text_spells) (λ b h. leb-true _ _ h.1) (λ b h. (omega (arith, h), le-leb _ _ h))
 
+abbrev pub form_number : ItemForm → ℕ
+form_number form.Bytes = 0
+form_number form.Address = 1
+
+form_back : (f : ItemForm) → slice_get item_forms (form_number f) ≡ Some f
+form_back form.Bytes = refl
+form_back form.Address = refl
+
+pub form_spells : Spells (λ f. u8 (form_number f)) Any (one_of_at item_forms)
+form_spells = one_spells form_number item_forms (refl, (refl, tt)) form_back
+
 abbrev RoomFor : ℕ → ℕ → ItemForm → Type 0
 RoomFor size offset form.Bytes = Unit {0}
 RoomFor size offset form.Address = offset + 4 ≤ size
@@ -306,8 +297,8 @@ kind_back size (Some k) h = eq-eqb _ _ h
 abbrev KindFits : ℕ → Option Kind → Type 0
 KindFits size k = IfSome k (λ k. size ≡ kind_size k)
 
-sized_spells : (size : ℕ) → Spells (λ k. u8 (optional_kind_number k)) (KindFits size) (checked (has_kind_size size) (one_of_at kinds))
-sized_spells size = ruled_spells (λ k. u8 (optional_kind_number k)) _ (KindFits size) _ (checked_spells (λ k. u8 (optional_kind_number k)) Any (one_of_at kinds) (has_kind_size size) optional_kind_spells)
+sized_spells : (size : ℕ) → Spells kind_byte (KindFits size) (checked (has_kind_size size) kind_at)
+sized_spells size = ruled_spells kind_byte _ (KindFits size) _ (checked_spells kind_byte Any kind_at (has_kind_size size) kind_spells)
     (λ k h. kind_forth size k h.1) (λ k h. (tt, kind_back size k h))
 
 abbrev pub GlobalFits : Bool → List (List ℕ) → GlobalValue → Type 0
@@ -322,7 +313,7 @@ unfolding global_body_at
 body_takes strict names table name =
     takes_field _ u32 FitsU32 u32_at _ u32_spells
     (λ size size_fits. takes_field _ text FitsText text_at _ text_spells
-    (λ shape shape_fits. takes_field _ (λ k. u8 (optional_kind_number k)) (KindFits size) (checked (has_kind_size size) (one_of_at kinds)) _ (sized_spells size)
+    (λ shape shape_fits. takes_field _ kind_byte (KindFits size) (checked (has_kind_size size) kind_at) _ (sized_spells size)
     (λ kind k. takes_field _ flag (λ b. Unit {0}) flag_at _ flag_spells
     (λ volatile v. takes_field _ u32 FitsU32 u32_at _ u32_spells
     (λ count c. takes_field _ (flat_map (placed_item names)) (λ is. (length is ≡ count) × FitInTurn (PlacedFits strict names size) next_free 0 is) (items_at (placed_item_at strict names size) next_free count 0) _
@@ -330,7 +321,7 @@ body_takes strict names table name =
     (λ items i.
     let are = items_forth strict names size 0 items i.1 in
     takes_done _ (record { name = name; size = size; shape = shape; kind = kind; volatile = volatile; items = items }) (λ rest. (
-      ap (λ n. u32 size ++ (text shape ++ (u8 (optional_kind_number kind) ++ (flag volatile ++ (u32 n ++ (flat_map (placed_item names) items ++ [])))))) (sym i.0),
+      ap (λ n. u32 size ++ (text shape ++ (kind_byte kind ++ (flag volatile ++ (u32 n ++ (flat_map (placed_item names) items ++ [])))))) (sym i.0),
       (refl, (record { size = size_fits; kind = k; items = are.0 }, (record { shape = shape_fits; count = rw i.0 c }, all_flat (λ placed. item_names placed.1) (Named strict names) items are.1))),
     ))))))))
 
@@ -338,9 +329,9 @@ body_again : (strict : Bool) (names : List (List ℕ)) → IsNameTable names →
 unfolding global_body_at
 body_again strict names table g rest h =
     let items_text = flat_map (placed_item names) g.items ++ [] in
-    again_field u32 FitsU32 u32_at _ u32_spells g.size h.0.size (text g.shape ++ (u8 (optional_kind_number g.kind) ++ (flag g.volatile ++ (u32 (length g.items) ++ items_text)))) rest g
-    (again_field text FitsText text_at _ text_spells g.shape h.1.0.shape (u8 (optional_kind_number g.kind) ++ (flag g.volatile ++ (u32 (length g.items) ++ items_text))) rest g
-    (again_field (λ k. u8 (optional_kind_number k)) (KindFits g.size) (checked (has_kind_size g.size) (one_of_at kinds)) _ (sized_spells g.size) g.kind h.0.kind (flag g.volatile ++ (u32 (length g.items) ++ items_text)) rest g
+    again_field u32 FitsU32 u32_at _ u32_spells g.size h.0.size (text g.shape ++ (kind_byte g.kind ++ (flag g.volatile ++ (u32 (length g.items) ++ items_text)))) rest g
+    (again_field text FitsText text_at _ text_spells g.shape h.1.0.shape (kind_byte g.kind ++ (flag g.volatile ++ (u32 (length g.items) ++ items_text))) rest g
+    (again_field kind_byte (KindFits g.size) (checked (has_kind_size g.size) kind_at) _ (sized_spells g.size) g.kind h.0.kind (flag g.volatile ++ (u32 (length g.items) ++ items_text)) rest g
     (again_field flag (λ b. Unit {0}) flag_at _ flag_spells g.volatile tt (u32 (length g.items) ++ items_text) rest g
     (again_field u32 FitsU32 u32_at _ u32_spells (length g.items) h.1.0.count items_text rest g
     (again_field (flat_map (placed_item names)) (λ is. (length is ≡ length g.items) × FitInTurn (PlacedFits strict names g.size) next_free 0 is) (items_at (placed_item_at strict names g.size) next_free (length g.items) 0) _
@@ -380,9 +371,9 @@ global_spells names table seen = chained (global names) (GlobalStands names seen
 abbrev pub DeclaredStands : List (List ℕ) → List (List ℕ) → List ℕ × List ℕ → Type 0
 DeclaredStands names seen d = (is_among seen d.0 ≡ false) × (Contains names d.0 × FitsText d.1)
 
-pub declared_spells : (names : List (List ℕ)) → IsNameTable names → (seen : List (List ℕ)) → Spells (declared names) (DeclaredStands names seen) (declared_at names seen)
+pub declared_spells : (names : List (List ℕ)) → IsNameTable names → (seen : List (List ℕ)) → Spells (shaped names) (DeclaredStands names seen) (declared_at names seen)
 unfolding declared_at declared_body_at
-declared_spells names table seen = chained (declared names) (DeclaredStands names seen) _
+declared_spells names table seen = chained (shaped names) (DeclaredStands names seen) _
     (takes_field _ (name_index names) (Fresh names seen) (fresh_at names seen) _ (fresh_spells names table seen)
     (λ name fresh. takes_field _ text FitsText text_at _ text_spells (λ shape s. takes_done _ (name, shape) (λ rest. (refl, (fresh.1, (fresh.0, s)))))))
     (λ d rest h. again_field (name_index names) (Fresh names seen) (fresh_at names seen) _ (fresh_spells names table seen) d.0 (h.1.0, h.0) (text d.1 ++ []) rest d

@@ -1,7 +1,3 @@
-pub mod FieldChains
-pub mod ChoiceLaws
-pub mod PartLaws
-pub mod OpLaws
 pub mod GraphLaws
 pub mod Turns
 pub mod ContentLaws

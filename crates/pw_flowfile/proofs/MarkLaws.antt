@@ -10,7 +10,8 @@ use Rattle.pw_value.specs.FieldFaults.{Fails}
 use Rattle.pw_value.specs.Fields.{◌>>=◌}
 use Rattle.pw_value.specs.FieldNames.{is_among, name_at, place_of, IsRisingFrom}
 use Rattle.pw_value.proofs.NameLaws.{place-get}
-use Rattle.pw_flowfile.specs.Reading.{fresh_at, below_at, seen_after}
+use Rattle.pw_flowops.specs.Reading.{below_at}
+use Rattle.pw_flowfile.specs.Reading.{fresh_at, seen_after}
 use Rattle.pw_flowfile.specs.Marks.{Marks}
 
 pub fresh_fails : (names seen : List (List ℕ)) (bytes : List ℕ) (e : FieldError) → Fails e (below_at (length names) bytes) → Fails e (fresh_at names seen bytes)

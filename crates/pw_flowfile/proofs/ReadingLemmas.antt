@@ -1,27 +1,18 @@
 -- What reading a module finds, put together from its fields; and the late rules.
-use Rattle.std.proofs.Common.{◌≡◌, ◌≢◌, ◌↔◌, ℕ, ◌<◌, Bool, true, false, cond, List, [], ◌∷◌, length, map, All, Result, Ok, Err, refl, sym, ap, subst, ◌∙◌, arith}
-use Rattle.std.specs.Prelude.{Option, Some, None, IsTrue, not, ◌&&◌}
-use Rattle.std.specs.List.{AllByRecursion}
-use Rattle.std.specs.Str.{bytes_eq}
-use Rattle.std.proofs.lemmas.Slice.Eq.{bytes_eq-Decides}
+use Rattle.std.proofs.Common.{◌≡◌, ℕ, ◌<◌, List, [], ◌∷◌, length, map, Result, Ok, Err, refl, sym, ap, subst, ◌∙◌, arith}
+use Rattle.std.specs.Prelude.{Option, Some, None}
 use Rattle.pw_value.specs.declared.fields.fault.FieldError.{FieldError}
 use Rattle.pw_value.specs.declared.fields.fault.FieldError.TheVariants as field
 use Rattle.pw_value.specs.Fields.{u32_at, items_at}
 use Rattle.pw_value.specs.FieldFaults.{Fails}
 use Rattle.pw_value.specs.FieldFrame.{ended}
-use Rattle.pw_value.specs.FieldNames.{name_at, is_among, first_unused}
+use Rattle.pw_value.specs.FieldNames.{name_at}
 use Rattle.pw_flow.specs.declared.flow.FlowGlobal.{FlowGlobal}
-use Rattle.pw_flow.specs.declared.flow.FlowFn.{FlowFn}
-use Rattle.pw_flow.specs.FlowGraph.{GlobalValue, FunctionValue, ModuleValue, global_view, function_view}
-use Rattle.pw_flow.proofs.Lists.{mapped, unmapped}
-use Rattle.pw_flowfile.specs.FlowFile.{names_of}
-use Rattle.pw_flowfile.specs.Reading.{global_at, next_global, declared_at, next_declared, function_at, next_function, seen_after, start_fault, first_of, broken_at, module_at}
+use Rattle.pw_flow.specs.FlowGraph.{GlobalValue, FunctionValue, ModuleValue, global_view}
+use Rattle.pw_flowfile.specs.Reading.{global_at, next_global, declared_at, next_declared, function_at, next_function, seen_after, late_rules, broken_at, module_at}
 
 abbrev pub module_of : List ℕ → List GlobalValue → List FunctionValue → List (List ℕ × List ℕ) → ModuleValue
 module_of name globals functions declared = record { name = name; globals = globals; functions = functions; declared = declared }
-
-abbrev pub late_of : List (List ℕ) → ModuleValue → ℕ → ℕ → Option ℕ
-late_of names m behind place = first_of (first_unused names (names_of m) behind) (start_fault m place)
 
 abbrev pub named : List ℕ → List ℕ → Result (List ℕ × List ℕ) ℕ
 named rest name = Ok (name, rest)
@@ -29,7 +20,7 @@ named rest name = Ok (name, rest)
 pub module_by : (names : List (List ℕ)) (bytes name r1 : List ℕ) (gc : ℕ) (r2 : List ℕ) (gs : List GlobalValue) (r3 : List ℕ) (dc : ℕ) (r4 : List ℕ) (ds : List (List ℕ × List ℕ)) (r5 : List ℕ) (fc : ℕ) (r6 : List ℕ) (fs : List FunctionValue) (r7 : List ℕ)
     → name_at names bytes ≡ Ok (name, r1) → u32_at r1 ≡ Ok (gc, r2) → items_at (global_at names) next_global gc [] r2 ≡ Ok (gs, r3) → u32_at r3 ≡ Ok (dc, r4)
     → items_at (declared_at names) next_declared dc [] r4 ≡ Ok (ds, r5) → u32_at r5 ≡ Ok (fc, r6) → items_at (function_at names) next_function fc (seen_after [] (map (λ g. g.name) gs)) r6 ≡ Ok (fs, r7)
-    → module_at names bytes ≡ ended (late_of names (module_of name gs fs ds) (length bytes) (length r5)) (record { names = names; flow = module_of name gs fs ds }) r7
+    → module_at names bytes ≡ ended (late_rules names (module_of name gs fs ds) (length bytes) (length r5)) (record { names = names; flow = module_of name gs fs ds }) r7
 unfolding module_at
 module_by names bytes name r1 gc r2 gs r3 dc r4 ds r5 fc r6 fs r7 e1 e2 e3 e4 e5 e6 e7 = rw (e1, e2, e3, e4, e5, e6, e7) refl
 
@@ -69,37 +60,3 @@ ended_holds {X} late x rest none holds =
 pub names_of_globals : (gs : List FlowGlobal) → map (λ g. g.name) gs ≡ map (λ g. g.name) (map global_view gs)
 names_of_globals [] = refl
 names_of_globals (g ∷ gs) = ap (λ (names : List (List ℕ)). g.name ∷ names) (names_of_globals gs)
-
-pub names_of_functions : (fs : List FlowFn) → map (λ f. f.name) fs ≡ map (λ f. f.name) (map function_view fs)
-names_of_functions [] = refl
-names_of_functions (f ∷ fs) = ap (λ (names : List (List ℕ)). f.name ∷ names) (names_of_functions fs)
-
--- ---- which names are absent
-
-absent_by : (first name : List ℕ) (names : List (List ℕ)) (same : Bool) → bytes_eq first name ≡ same → (b : Bool) → (IsTrue b ↔ AllByRecursion (λ n. n ≢ name) (first ∷ names))
-    → ((c : Bool) → (IsTrue c ↔ AllByRecursion (λ n. n ≢ name) names) → c ≡ not (is_among names name)) → b ≡ not (is_among (first ∷ names) name)
-absent_by first name names true is true h later = absurd ((h.0 refl).0 ((bytes_eq-Decides first name).0 is))
-absent_by first name names true is false h later = rw is refl
-absent_by first name names false is b h later =
-    let differ : first ≢ name = λ e. let t : bytes_eq first name ≡ true = (bytes_eq-Decides first name).1 e in cc in
-    rw is (later b (λ t. (h.0 t).1, λ all. h.1 (differ, all)))
-
-pub absent : (names : List (List ℕ)) (name : List ℕ) (b : Bool) → (IsTrue b ↔ AllByRecursion (λ n. n ≢ name) names) → b ≡ not (is_among names name)
-absent [] name b h = h.1 tt
-absent (first ∷ names) name b h = absent_by first name names (bytes_eq first name) refl b h (absent names name)
-
-pub absent_functions : (fs : List FlowFn) (name : List ℕ) (b : Bool) → (IsTrue b ↔ All (λ f. f.name ≢ name) fs) → b ≡ not (is_among (map (λ f. f.name) (map function_view fs)) name)
-absent_functions fs name b h =
-    absent (map (λ f. f.name) fs) name b (λ t. mapped (λ f. f.name) (λ n. n ≢ name) fs (h.0 t), λ all. h.1 (unmapped (λ f. f.name) (λ n. n ≢ name) fs all))
-    ∙ ap (λ (names : List (List ℕ)). not (is_among names name)) (names_of_functions fs)
-
-pub absent_globals : (gs : List FlowGlobal) (name : List ℕ) (b : Bool) → (IsTrue b ↔ All (λ g. g.name ≢ name) gs) → b ≡ not (is_among (map (λ g. g.name) (map global_view gs)) name)
-absent_globals gs name b h =
-    absent (map (λ g. g.name) gs) name b (λ t. mapped (λ g. g.name) (λ n. n ≢ name) gs (h.0 t), λ all. h.1 (unmapped (λ g. g.name) (λ n. n ≢ name) gs all))
-    ∙ ap (λ (names : List (List ℕ)). not (is_among names name)) (names_of_globals gs)
-
-pub turned : (a b n : Bool) → (cond (not a) (not b) (not (not b)) && n) ≡ (cond a b (not b) && n)
-turned true true n = refl
-turned true false n = refl
-turned false true n = refl
-turned false false n = refl

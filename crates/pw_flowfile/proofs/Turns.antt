@@ -1,18 +1,17 @@
 -- Names that come one after the other, none of them twice; and the rule on $start.
-use Rattle.std.proofs.Common.{◌≡◌, ◌≢◌, ℕ, Bool, true, false, cond, List, [], ◌∷◌, ◌++◌, map, refl, sym, ◌∙◌}
-use Rattle.std.specs.Prelude.{Contains, ◌||◌, not}
+use Rattle.std.proofs.Common.{◌≡◌, ◌≢◌, ℕ, zero, suc, ◌+◌, ◌<◌, ◌≤◌, Bool, true, false, cond, List, [], ◌∷◌, ◌++◌, map, refl, sym, subst, arith}
+use Rattle.std.specs.Prelude.{Contains, ◌||◌}
 use Rattle.std.specs.List.{AllByRecursion}
-use Rattle.std.specs.Cmp.{first_so, second_so}
-use Rattle.std.specs.Cmp.Derive.{both_true}
 use Rattle.std.specs.Str.{bytes_eq}
 use Rattle.std.proofs.lemmas.Slice.Eq.{bytes_eq-Decides}
+use Rattle.std.proofs.lemmas.List.Sums.{sum_by-cons}
 use Rattle.pw_value.specs.Fields.{FitInTurn}
 use Rattle.pw_value.specs.FieldNames.{is_among}
-use Rattle.pw_value.proofs.NameLaws.{among_contains, contains_among}
+use Rattle.pw_files.specs.Start.{start, times, KeepsStart}
+use Rattle.pw_files.proofs.StartLaws.{stands_by_times}
 use Rattle.pw_flow.specs.FlowGraph.{ModuleValue, global_names, function_names}
-use Rattle.pw_flow.specs.ValidFlow.{start_name, main_name, IsOrdinary, AreDistinct, IsStartLawful}
-use Rattle.pw_flowfile.specs.Reading.{seen_after, is_start_lawful}
-use Rattle.pw_flowfile.proofs.PartLaws.{not_true, true_not}
+use Rattle.pw_flow.specs.ValidFlow.{IsOrdinary, AreDistinct, IsStartLawful}
+use Rattle.pw_flowfile.specs.Reading.{seen_after}
 
 -- no name is among those before it
 abbrev pub InTurn : List (List ℕ) → List (List ℕ) → Type 0
@@ -95,50 +94,42 @@ turn_distinct names turn = (distinct_forth [] names turn).0
 pub distinct_turn : (names : List (List ℕ)) → AreDistinct names → InTurn [] names
 distinct_turn names distinct = distinct_back [] names distinct (apart_from_none names)
 
--- ---- $start
+-- ---- $start: the rule of a flow graph is that of files, since names are distinct
 
-same_by : (a b : Bool) → cond a b (not b) ≡ true → a ≡ b
-same_by true b e = sym e
-same_by false b e = sym (not_true b e)
+ordinary_forth : (names : List (List ℕ)) → ¬ Contains names start → AllByRecursion IsOrdinary names
+ordinary_forth [] none = tt
+ordinary_forth (name ∷ names) none = (λ same. none (0, omega arith, same), ordinary_forth names (λ has. none (suc has.0, omega (arith, has.1), has.2)))
 
-by_same : (a b : Bool) → a ≡ b → cond a b (not b) ≡ true
-by_same true true e = refl
-by_same false false e = refl
-by_same true false e = absurd cc
-by_same false true e = absurd cc
+absent : (wanted : List ℕ) (names : List (List ℕ)) → AllByRecursion (λ other. other ≢ wanted) names → ¬ Contains names wanted
+absent wanted [] none (k, lt, e) = absurd (omega arith)
+absent wanted (name ∷ names) none (zero, lt, e) = none.0 e
+absent wanted (name ∷ names) none (suc k, lt, e) = absent wanted names none.1 (k, omega arith, e)
 
-truths : (a b : Bool) → (a ≡ true → b ≡ true) → (b ≡ true → a ≡ true) → a ≡ b
-truths true b f g = sym (f refl)
-truths false true f g = g refl
-truths false false f g = refl
+none_by : (n : ℕ) → (0 < n → ⊥) → n ≡ 0
+none_by zero h = refl
+none_by (suc n) h = absurd (h (omega arith))
 
-among : (names : List (List ℕ)) (name : List ℕ) → Contains names name → is_among names name ≡ true
-among names name has = contains_among names name has.0 has.1 has.2
+once_by : (name : List ℕ) (names : List (List ℕ)) (same : Bool) → bytes_eq name start ≡ same → AllByRecursion (λ other. other ≢ name) names → times start names ≤ 1 → cond same 1 0 + times start names ≤ 1
+once_by name names true is none few =
+    let e : name ≡ start = (bytes_eq-Decides name start).0 is in
+    let no : times start names ≡ 0 = none_by (times start names) (λ lt. absent name names none (subst (λ (n : List ℕ). Contains names n) (sym e) (stands_by_times start names lt))) in
+    omega (arith, no)
+once_by name names false is none few = omega (arith, few)
 
-ordinary_forth : (names : List (List ℕ)) → is_among names start_name ≡ false → AllByRecursion IsOrdinary names
-ordinary_forth [] e = tt
-ordinary_forth (name ∷ names) e =
-    (λ same. let t : bytes_eq name start_name ≡ true = (bytes_eq-Decides name start_name).1 same in let f : bytes_eq name start_name ≡ false = left_false (bytes_eq name start_name) (is_among names start_name) e in absurd cc, ordinary_forth names (right_false (bytes_eq name start_name) (is_among names start_name) e))
+once : (names : List (List ℕ)) → AreDistinct names → times start names ≤ 1
+once [] distinct = omega arith
+once (name ∷ names) distinct = rw (sum_by-cons (λ other. cond (bytes_eq other start) 1 0) name names) (once_by name names (bytes_eq name start) refl distinct.0 (once names distinct.1))
 
-not_start : (name : List ℕ) (b : Bool) → bytes_eq name start_name ≡ b → IsOrdinary name → b ≡ false
-not_start name true is h = absurd (h ((bytes_eq-Decides name start_name).0 is))
-not_start name false is h = refl
+distinct_right : (xs ys : List (List ℕ)) → AreDistinct (xs ++ ys) → AreDistinct ys
+distinct_right [] ys distinct = distinct
+distinct_right (x ∷ xs) ys distinct = distinct_right xs ys distinct.1
 
-ordinary_back : (names : List (List ℕ)) → AllByRecursion IsOrdinary names → is_among names start_name ≡ false
-ordinary_back [] all = refl
-ordinary_back (name ∷ names) all = both_false (bytes_eq name start_name) (is_among names start_name) (not_start name (bytes_eq name start_name) refl all.0) (ordinary_back names all.1)
+pub start_lawful : (m : ModuleValue) → KeepsStart (function_names m) (global_names m) → IsStartLawful m
+start_lawful m keeps = record { included = keeps.beside; no_global = ordinary_forth (global_names m) keeps.no_global }
 
-pub start_forth : (m : ModuleValue) → is_start_lawful m ≡ true → IsStartLawful m
-start_forth m e =
-    let fs = function_names m in
-    let same = same_by (is_among fs start_name) (is_among fs main_name) (first_so (cond (is_among fs start_name) (is_among fs main_name) (not (is_among fs main_name))) (not (is_among (global_names m) start_name)) e) in
-    record {
-      included = (λ has. among_contains fs main_name (sym same ∙ among fs start_name has), λ has. among_contains fs start_name (same ∙ among fs main_name has));
-      no_global = ordinary_forth (global_names m) (not_true _ (second_so (cond (is_among fs start_name) (is_among fs main_name) (not (is_among fs main_name))) (not (is_among (global_names m) start_name)) e));
-    }
-
-pub start_back : (m : ModuleValue) → IsStartLawful m → is_start_lawful m ≡ true
-start_back m h =
-    let fs = function_names m in
-    both_true (by_same (is_among fs start_name) (is_among fs main_name) (truths _ _ (λ e. among fs main_name (h.included.0 (among_contains fs start_name e))) (λ e. among fs start_name (h.included.1 (among_contains fs main_name e)))))
-    (true_not _ (ordinary_back (global_names m) h.no_global))
+pub lawful_start : (m : ModuleValue) → AreDistinct (global_names m ++ function_names m) → IsStartLawful m → KeepsStart (function_names m) (global_names m)
+lawful_start m distinct lawful = record {
+  beside = lawful.included;
+  once = once (function_names m) (distinct_right (global_names m) (function_names m) distinct);
+  no_global = absent start (global_names m) lawful.no_global;
+}

@@ -1,41 +1,22 @@
 -- What writing asks of a module's parts, and that a file's room bounds its counts and texts.
-use Rattle.std.proofs.Common.{◌≡◌, ℕ, zero, suc, ◌+◌, ◌^◌, ◌<◌, ◌≤◌, List, [], ◌∷◌, ◌++◌, length, map, get_or, Result, Ok, Err, refl, sym, ap, subst, ◌∙◌, append_assoc, arith}
-use Rattle.std.specs.Prelude.{Contains, IfOk}
+use Rattle.std.proofs.Common.{◌≡◌, ℕ, suc, ◌+◌, ◌^◌, ◌<◌, ◌≤◌, List, [], ◌∷◌, ◌++◌, length, map, Result, Ok, Err, refl, sym, ap, subst, ◌∙◌, append_assoc, arith}
+use Rattle.std.specs.Prelude.{Contains, IfOk, OnOk}
 use Rattle.std.specs.Global.{Vec}
 use Rattle.std.specs.List.{flat_map, AllByRecursion}
 use Rattle.std.proofs.lemmas.List.{length-append, append-nil}
 use Rattle.std.proofs.lemmas.List.Concat.{flat_map-cons}
-use Rattle.pw_value.specs.Fields.{u8, u32, text, flag, FitsText}
+use Rattle.pw_value.specs.Fields.{u32, text, flag, FitsU32, FitsText}
 use Rattle.pw_value.specs.FieldFrame.{file, FitsFile}
 use Rattle.pw_value.specs.FieldNames.{name_table, name_index, IsTableOf}
 use Rattle.pw_value.proofs.FileLaws.{length-u32}
 use Rattle.pw_value.proofs.NameLaws.{AllUsed, used_by_table}
+use Rattle.pw_files.specs.Kinds.{kind as kind_byte}
+use Rattle.pw_files.specs.Names.{shaped}
+use Rattle.pw_files.specs.Rising.{counted as counted_text}
 use Rattle.pw_flow.specs.FlowGraph.{ItemValue, GlobalValue, OpValue, Const, Copy, Un, Bin, Ext, AddrGlobal, AddrSlot, AddrFn, LoadG, StoreG, Load, Store, Move, Call, CallInd, BlockValue, FunctionValue, ModuleValue}
 use Rattle.pw_flow.specs.ValidFlow.{IsValid}
-use Rattle.pw_flow.proofs.Lists.{all_left}
-use Rattle.pw_flowfile.specs.FlowFile.{Contents, names_of, optional_kind_number, item, placed_item, global_body, global, result, arguments, op, ending, block, function, declared, spelling, FitsOp, FitsBlock, FitsFunction, FitsGlobal, FitsModule, IsContents, IsFlowFile, kind_of_file}
-
--- a fact of each name in the lists that elements make, at one element
-flat_by : {X Y : Type 0} (view : X → Y) (names : Y → List (List ℕ)) (P : List ℕ → Type 0) (xs : List X) → AllByRecursion P (flat_map names (map view xs)) → (i : ℕ) (x : X) → i < length xs → x ≡ get_or xs i x → AllByRecursion P (names (view x))
-flat_by view names P [] all i x lt is = absurd (omega arith)
-flat_by view names P (y ∷ ys) all zero x lt is =
-    let both = subst (λ (ns : List (List ℕ)). AllByRecursion P ns) (flat_map-cons names (view y) (map view ys)) all in
-    subst (λ z. AllByRecursion P (names (view z))) (sym is) (all_left P (names (view y)) (flat_map names (map view ys)) both)
-flat_by view names P (y ∷ ys) all (suc i) x lt is =
-    let both = subst (λ (ns : List (List ℕ)). AllByRecursion P ns) (flat_map-cons names (view y) (map view ys)) all in
-    flat_by view names P ys (behind (names (view y)) (flat_map names (map view ys)) both) i x (omega arith) is
-  where
-    behind : (xs ys : List (List ℕ)) → AllByRecursion P (xs ++ ys) → AllByRecursion P ys
-    behind [] ys all = all
-    behind (x ∷ xs) ys all = behind xs ys all.1
-
-pub flat_at : {X Y : Type 0} (view : X → Y) (names : Y → List (List ℕ)) (P : List ℕ → Type 0) (xs : List X) → AllByRecursion P (flat_map names (map view xs)) → (i : ℕ) (x : X) → i < length xs → x ≡ get_or xs i x → AllByRecursion P (names (view x))
-flat_at view names P xs all i x lt is = flat_by view names P xs all i x lt is
-
-pub map_at : {X : Type 0} (name : X → List ℕ) (P : List ℕ → Type 0) (xs : List X) → AllByRecursion P (map name xs) → (i : ℕ) (x : X) → i < length xs → x ≡ get_or xs i x → P (name x)
-map_at name P [] all i x lt is = absurd (omega arith)
-map_at name P (y ∷ ys) all zero x lt is = subst (λ z. P (name z)) (sym is) all.0
-map_at name P (y ∷ ys) all (suc i) x lt is = map_at name P ys all.1 i x (omega arith) is
+use Rattle.pw_flowops.specs.Operations.{result, arguments, op, ending, FitsOp}
+use Rattle.pw_flowfile.specs.FlowFile.{names_of, item, placed_item, global_body, global, block, function, spelling, FitsBlock, FitsFunction, FitsGlobal, FitsModule, IsContents, IsFlowFile, kind_of_file}
 
 -- ---- what has room fits
 
@@ -136,13 +117,13 @@ global_fits names g room =
     let items_text = flat_map (placed_item names) g.items ++ [] in
     let r4 = u32 (length g.items) ++ items_text in
     let r3 = flag g.volatile ++ r4 in
-    let r2 = u8 (optional_kind_number g.kind) ++ r3 in
+    let r2 = kind_byte g.kind ++ r3 in
     let r1 = text g.shape ++ r2 in
     let e0 = named_long names g.name (global_body names g ++ []) in
     let e1 = length-append (global_body names g) [] in
     let e2 = behind_word g.size r1 in
     let e3 = length-append (text g.shape) r2 in
-    let e4 = length-append (u8 (optional_kind_number g.kind)) r3 in
+    let e4 = length-append (kind_byte g.kind) r3 in
     let e5 = length-append (flag g.volatile) r4 in
     let e6 = behind_word (length g.items) items_text in
     let e7 = length-append (flat_map (placed_item names) g.items) [] in
@@ -152,13 +133,13 @@ global_fits names g room =
       count = omega (arith, within, counted (placed_item names) (placed_long names) g.items);
     }
 
-declared_fits : (names : List (List ℕ)) (d : List ℕ × List ℕ) → length (declared names d) < 2 ^ 32 → FitsText d.1
+declared_fits : (names : List (List ℕ)) (d : List ℕ × List ℕ) → length (shaped names d) < 2 ^ 32 → FitsText d.1
 declared_fits names d room = omega (arith, room, named_long names d.0 (text d.1 ++ []), length-append (text d.1) [], length-text d.1)
 
 global_long : (names : List (List ℕ)) (g : GlobalValue) → 1 ≤ length (global names g)
 global_long names g = omega (arith, named_long names g.name (global_body names g ++ []))
 
-declared_long : (names : List (List ℕ)) (d : List ℕ × List ℕ) → 1 ≤ length (declared names d)
+declared_long : (names : List (List ℕ)) (d : List ℕ × List ℕ) → 1 ≤ length (shaped names d)
 declared_long names d = omega (arith, named_long names d.0 (text d.1 ++ []))
 
 function_long : (names : List (List ℕ)) (f : FunctionValue) → 1 ≤ length (function names f)
@@ -168,7 +149,7 @@ module_fits : (names : List (List ℕ)) (m : ModuleValue) → length (spelling (
 module_fits names m room =
     let r6 = flat_map (function names) m.functions ++ [] in
     let r5 = u32 (length m.functions) ++ r6 in
-    let r4 = flat_map (declared names) m.declared ++ r5 in
+    let r4 = flat_map (shaped names) m.declared ++ r5 in
     let r3 = u32 (length m.declared) ++ r4 in
     let r2 = flat_map (global names) m.globals ++ r3 in
     let r1 = u32 (length m.globals) ++ r2 in
@@ -177,23 +158,20 @@ module_fits names m room =
     let e2 = behind_word (length m.globals) r2 in
     let e3 = length-append (flat_map (global names) m.globals) r3 in
     let e4 = behind_word (length m.declared) r4 in
-    let e5 = length-append (flat_map (declared names) m.declared) r5 in
+    let e5 = length-append (flat_map (shaped names) m.declared) r5 in
     let e6 = behind_word (length m.functions) r6 in
     let e7 = length-append (flat_map (function names) m.functions) [] in
     let gs : length (flat_map (global names) m.globals) < 2 ^ 32 = omega (arith, room, e0, e1, e2, e3) in
-    let ds : length (flat_map (declared names) m.declared) < 2 ^ 32 = omega (arith, room, e0, e1, e2, e3, e4, e5) in
+    let ds : length (flat_map (shaped names) m.declared) < 2 ^ 32 = omega (arith, room, e0, e1, e2, e3, e4, e5) in
     let fs : length (flat_map (function names) m.functions) < 2 ^ 32 = omega (arith, room, e0, e1, e2, e3, e4, e5, e6, e7) in
     record {
       global_count = omega (arith, gs, counted (global names) (global_long names) m.globals);
       globals = all_fit (global names) FitsGlobal (global_fits names) m.globals gs;
-      declared_count = omega (arith, ds, counted (declared names) (declared_long names) m.declared);
-      declared = all_fit (declared names) (λ d. FitsText d.1) (declared_fits names) m.declared ds;
+      declared_count = omega (arith, ds, counted (shaped names) (declared_long names) m.declared);
+      declared = all_fit (shaped names) (λ d. FitsText d.1) (declared_fits names) m.declared ds;
       function_count = omega (arith, fs, counted (function names) (function_long names) m.functions);
       functions = all_fit (function names) FitsFunction (function_fits names) m.functions fs;
     }
-
-pub contents_of : (names used : List (List ℕ)) (m : ModuleValue) → IsValid m → IsTableOf names used → used ≡ names_of m → length names < 2 ^ 32 → length (spelling (record { names = names; flow = m })) < 2 ^ 32 → IsContents (record { names = names; flow = m })
-contents_of names used m valid table same count room = record { valid = valid; fits = module_fits names m room; name_count = count; names = subst (IsTableOf names) same table }
 
 back_to : (names : List (List ℕ)) (used : List (List ℕ)) → AllUsed used names → AllByRecursion (Contains names) used
 back_to names [] all = tt
@@ -202,16 +180,24 @@ back_to names (name ∷ used) all = (all.0, back_to names used all.1)
 pub all_stand : (names used : List (List ℕ)) (m : ModuleValue) → IsTableOf names used → used ≡ names_of m → AllByRecursion (Contains names) (names_of m)
 all_stand names used m table same = back_to names (names_of m) (used_by_table names (names_of m) (subst (IsTableOf names) same table)).1
 
-pub written : {E : Type 0} (c : Contents) (payload : List ℕ) (r : Result (Vec ℕ) E) → IsContents c → FitsFile (spelling c) → payload ≡ spelling c → IfOk r (λ v. v.items ≡ file kind_of_file 1 payload)
-    → IfOk r (λ v. (names : List (List ℕ)) × IsFlowFile v.items (record { names = names; flow = c.flow }))
-written c payload (Ok v) is room same made =
-    (c.names, record { version = 1; not_below = omega arith; not_above = omega arith; fits = is; room = room; spelled = made ∙ ap (file kind_of_file 1) same })
-written c payload (Err e) is room same made = tt
+pub written : {E : Type 0} (names used : List (List ℕ)) (m : ModuleValue) (payload : List ℕ) (r : Result (Vec ℕ) E) → IsValid m → IsTableOf names used → used ≡ names_of m → FitsU32 (length names)
+    → payload ≡ spelling (record { names = names; flow = m }) → OnOk r (FitsFile payload) → IfOk r (λ v. v.items ≡ file kind_of_file 1 payload) → IfOk r (λ v. (names : List (List ℕ)) × IsFlowFile v.items (record { names = names; flow = m }))
+written names used m payload (Ok v) valid table same count made room sealed =
+    let text = spelling (record { names = names; flow = m }) in
+    let fits : FitsFile text = subst FitsFile made room in
+    let is : IsContents (record { names = names; flow = m }) = record { valid = valid; fits = module_fits names m (omega (arith, fits)); name_count = count; names = subst (IsTableOf names) same table } in
+    (names, record { version = 1; not_below = omega arith; not_above = omega arith; fits = is; room = fits; spelled = sealed ∙ ap (file kind_of_file 1) made })
+written names used m payload (Err e) valid table same count made room sealed = tt
 
 -- ---- pieces put one behind the other
 
 pub put : (o0 o1 o2 a t : List ℕ) → o1 ≡ o0 ++ a → o2 ≡ o1 ++ t → o2 ≡ o0 ++ (a ++ t)
 put o0 o1 o2 a t e d = d ∙ ap (λ (w : List ℕ). w ++ t) e ∙ append_assoc o0 a t
+
+-- a list's count and its items
+pub put_list : {X : Type 0} (spell : X → List ℕ) (xs : List X) (o0 o1 o2 t : List ℕ) → o1 ≡ o0 ++ counted_text spell xs → o2 ≡ o1 ++ t → o2 ≡ o0 ++ (u32 (length xs) ++ (flat_map spell xs ++ t))
+unfolding counted_text
+put_list spell xs o0 o1 o2 t e d = put o0 o1 o2 (u32 (length xs) ++ flat_map spell xs) t e d ∙ ap (λ (w : List ℕ). o0 ++ w) (append_assoc (u32 (length xs)) (flat_map spell xs) t)
 
 pub last_put : (o1 o2 a : List ℕ) → o2 ≡ o1 ++ a → o2 ≡ o1 ++ (a ++ [])
 last_put o1 o2 a d = d ∙ ap (λ (w : List ℕ). o1 ++ w) (sym (append-nil a))

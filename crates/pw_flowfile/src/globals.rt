@@ -5,16 +5,27 @@ ghost use Rattle.pw_value.specs.Fields.{u32_at, text_at, checked, items_at};
 ghost use Rattle.pw_value.specs.FieldFaults.{Gives};
 ghost use Rattle.pw_value.specs.FieldNames.{IsRisingFrom};
 ghost use Rattle.pw_flow.specs.FlowGraph.{item_view, placed_item_view, global_view};
-ghost use Rattle.pw_flowfile.specs.Reading.{one_of_at, item_forms, kinds, has_room, content_at, item_at, placed_item_at, next_free, has_kind_size, global_body_at, global_at, next_global, declared_body_at, declared_at, next_declared, seen_after};
+ghost use Rattle.pw_files.specs.Kinds.{kind_at};
+ghost use Rattle.pw_flowops.specs.Reading.{one_of_at};
+ghost use Rattle.pw_flowfile.specs.Reading.{item_forms, has_room, content_at, item_at, placed_item_at, next_free, has_kind_size, global_body_at, global_at, next_global, declared_body_at, declared_at, next_declared, seen_after};
 ghost use Rattle.pw_flowfile.specs.Marks.{Marks};
 
-use crate::choices::{read_item_form, read_optional_kind};
-use crate::codes::ItemForm;
-use crate::parts::{read_fresh, read_named};
+use crate::met::read_fresh;
+use pw_files::kinds::read_kind;
 use pw_flow::{FlowGlobal, Item, kind_size};
+use pw_flowops::{read_named, read_one_of};
 use pw_value::fields::{FieldError, read_flag, read_text, read_text_in_place, read_u32};
 use pw_value::{Kind, Name, Shape};
 use std::alloc::Global;
+
+/// Which item follows.
+#[derive(Clone, Copy)]
+pub enum ItemForm {
+    Bytes,
+    Address,
+}
+
+const ITEM_FORMS: [ItemForm; 2] = [ItemForm::Bytes, ItemForm::Address];
 
 /// The bytes of an item at the offset, inside the object.
 fn read_item_bytes(size: u32, offset: u32, bytes: &[u8]) -> Result<(&[u8], &[u8]), FieldError>
@@ -57,7 +68,7 @@ fn read_content<'a>(
 fn read_form(size: u32, offset: u32, bytes: &[u8]) -> Result<(ItemForm, &[u8]), FieldError>
     ensures { Gives (λ x. (x.0, x.1.now)) result (checked (λ f. has_room f size offset) (one_of_at item_forms) bytes.now) }
 {
-    let (form, rest) = read_item_form(bytes)?;
+    let (form, rest) = read_one_of(&ITEM_FORMS, bytes)?;
     match form {
         ItemForm::Address if u64::from(offset) + 4 > u64::from(size) => {
             Err(FieldError::Fault { left: bytes.len() })
@@ -146,9 +157,9 @@ fn read_items<'a>(
 
 /// The kind of an object of so many bytes.
 fn read_sized_kind(size: u32, bytes: &[u8]) -> Result<(Option<Kind>, &[u8]), FieldError>
-    ensures { Gives (λ x. (x.0, x.1.now)) result (checked (has_kind_size size) (one_of_at kinds) bytes.now) }
+    ensures { Gives (λ x. (x.0, x.1.now)) result (checked (has_kind_size size) kind_at bytes.now) }
 {
-    let (kind, rest) = read_optional_kind(bytes)?;
+    let (kind, rest) = read_kind(bytes)?;
     match kind {
         Some(scalar) if kind_size(scalar) != size => {
             Err(FieldError::Fault { left: bytes.len() })

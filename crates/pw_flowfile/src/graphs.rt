@@ -5,57 +5,18 @@ ghost use Rattle.pw_value.specs.Fields.{u32_at, checked, items_at, repeated};
 ghost use Rattle.pw_value.specs.FieldFaults.{Gives};
 ghost use Rattle.pw_value.specs.FieldNames.{IsRisingFrom};
 ghost use Rattle.pw_flow.specs.FlowGraph.{block_view, function_view};
-ghost use Rattle.pw_flowfile.specs.Reading.{targets_at, end_at, block_at, slot_at, next_room, function_body_at, function_at, next_function, seen_after};
+ghost use Rattle.pw_flowfile.specs.Reading.{block_at, slot_at, next_room, function_body_at, function_at, next_function, seen_after};
 ghost use Rattle.pw_flowfile.specs.Marks.{Marks};
 
-use crate::choices::read_end_code;
-use crate::codes::EndCode;
-use crate::ops::{Counts, read_ops};
-use crate::parts::{read_below, read_few, read_fresh, read_result};
-use pw_flow::{Block, End, FlowFn};
+use crate::met::read_fresh;
+use pw_flow::{Block, FlowFn};
+use pw_flowops::{Counts, read_end, read_few, read_ops};
 use pw_value::fields::{FieldError, read_text, read_u32};
 use pw_value::{Name, Shape};
 use std::alloc::Global;
 
 /// The most bytes that a function's temporaries and slots come to.
 const MOST_ROOM: u64 = 1_048_576;
-
-/// What stands behind an end's byte.
-#[tactic(auto, unfolding(crate::specs::Reading::targets_at))]
-fn read_targets(
-    temps: u32,
-    blocks: u32,
-    code: EndCode,
-    bytes: &[u8],
-) -> Result<(End, &[u8]), FieldError>
-    ensures { Gives (λ x. (x.0, x.1.now)) result (targets_at temps blocks code bytes.now) }
-{
-    match code {
-        EndCode::Jump => {
-            let (b, rest) = read_below(blocks as usize, bytes)?;
-            Ok((End::Jump(b), rest))
-        }
-        EndCode::Branch => {
-            let (a, rest) = read_below(temps as usize, bytes)?;
-            let (b, rest) = read_below(blocks as usize, rest)?;
-            let (c, rest) = read_below(blocks as usize, rest)?;
-            Ok((End::Branch(a, b, c), rest))
-        }
-        EndCode::Return => {
-            let (a, rest) = read_result(temps, bytes)?;
-            Ok((End::Return(a), rest))
-        }
-    }
-}
-
-/// Where a block goes on.
-#[tactic(auto, unfolding(crate::specs::Reading::end_at))]
-fn read_end(temps: u32, blocks: u32, bytes: &[u8]) -> Result<(End, &[u8]), FieldError>
-    ensures { Gives (λ x. (x.0, x.1.now)) result (end_at temps blocks bytes.now) }
-{
-    let (code, rest) = read_end_code(bytes)?;
-    read_targets(temps, blocks, code, rest)
-}
 
 /// A block, in a function of so many blocks.
 #[tactic(auto, unfolding(crate::specs::Reading::block_at))]

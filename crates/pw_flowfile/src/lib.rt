@@ -1,14 +1,10 @@
 //! The flow file: a flow graph as bytes.
 #![tactic(auto)]
 
-mod choices;
-mod codes;
 mod globals;
 mod graphs;
 pub mod laws;
-mod op_writing;
-mod ops;
-mod parts;
+mod met;
 mod reading;
 mod used;
 mod writing;
@@ -17,5 +13,7 @@ pub use globals::read_global_body;
 pub use reading::{KIND, read};
 pub use writing::{push_global, push_global_body, write};
 
+#[cfg(test)]
+mod flow_tests;
 #[cfg(test)]
 mod tests;

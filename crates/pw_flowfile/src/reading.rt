@@ -1,38 +1,28 @@
 //! Reading a flow file.
 
-ghost use Rattle.std.specs.Prelude.{◌≡◌, ◌≢◌, ◌+◌, ◌<◌, ◌^◌, ℕ, IsTrue, ◌↔◌, All, List, [], length, map, IfOk, Ok, not, ◌&&◌, if◌then◌else◌};
+ghost use Rattle.std.specs.Prelude.{◌≡◌, ◌+◌, ◌<◌, ◌^◌, ℕ, List, [], length, map, IfOk, Ok};
 ghost use Rattle.std.specs.List.{flat_map};
 ghost use Rattle.pw_value.specs.Fields.{items_at, text};
 ghost use Rattle.pw_value.specs.FieldFaults.{Gives, GivesFile};
-ghost use Rattle.pw_value.specs.FieldNames.{IsRisingFrom, first_unused};
+ghost use Rattle.pw_value.specs.FieldNames.{IsRisingFrom};
 ghost use Rattle.pw_flow.specs.FlowGraph.{global_view, function_view, view};
-ghost use Rattle.pw_flowfile.specs.FlowFile.{Contents, contents_view, names_of, IsFlowFile};
-ghost use Rattle.pw_flowfile.specs.Reading.{global_at, next_global, declared_at, next_declared, function_at, next_function, seen_after, is_start_lawful, start_fault, first_of, broken_at, module_at, contents_at, flow_file_at, flow_of};
+ghost use Rattle.pw_flowfile.specs.FlowFile.{Contents, contents_view, IsFlowFile};
+ghost use Rattle.pw_flowfile.specs.Reading.{global_at, next_global, declared_at, next_declared, function_at, next_function, seen_after, late_rules, broken_at, module_at, contents_at, flow_file_at, flow_of};
 ghost use Rattle.pw_flowfile.specs.Marks.{Marks};
 
 use crate::globals::{read_declared, read_globals};
 use crate::graphs::read_functions;
-use crate::used::used_names;
+use crate::met::unmarked;
+use crate::used::{is_start_beside_main, used_names};
 use pw_flow::{FlowFn, FlowGlobal, FlowModule};
 use pw_value::fields::frame::{check_digest, open};
 use pw_value::fields::names::{find_unused, read_name, read_names};
 use pw_value::fields::{FieldError, read_u32};
 use pw_value::{FileError, Name, Shape};
-use std::alloc::{AllocError, Global};
+use std::alloc::Global;
 
 /// `PAWF`, the first four bytes of a flow file.
 pub const KIND: u32 = 0x5041_5746;
-
-/// Marks beside a table of names, of which none was met.
-fn unmarked(alloc: Global, names: &[Name]) -> Result<Vec<bool>, AllocError>
-    ensures { IfOk result (λ v. Marks names.now [] v.items) }
-{
-    let mut met = Vec::new(alloc);
-    for _name in names {
-        met.push(false)?;
-    }
-    Ok(met)
-}
 
 /// The objects, and which names were met in them.
 fn read_first<'a>(
@@ -80,43 +70,6 @@ fn read_third<'a>(
     read_functions(alloc, names, &mut met, count, bytes)
 }
 
-/// Whether no function has the name.
-fn is_no_function(functions: &[FlowFn], name: &[u8]) -> bool
-    ensures { IsTrue result ↔ All (λ f. f.name ≢ name.now) functions.now }
-{
-    functions
-        .iter()
-        .all(|function| function.name.as_bytes() != name)
-}
-
-/// Whether no object has the name.
-fn is_no_global(globals: &[FlowGlobal], name: &[u8]) -> bool
-    ensures { IsTrue result ↔ All (λ g. g.name ≢ name.now) globals.now }
-{
-    globals.iter().all(|global| global.name.as_bytes() != name)
-}
-
-/// The rule on `$start`, from which names are absent.
-fn agree(without_start: bool, without_main: bool, no_global: bool) -> bool
-    ensures { result ≡ ((if without_start then without_main else not without_main) && no_global) }
-{
-    if without_start {
-        without_main && no_global
-    } else {
-        !without_main && no_global
-    }
-}
-
-/// Whether the functions include `$start` exactly where they include `main`, and no object is `$start`.
-fn is_start_right(flow: &FlowModule) -> bool
-    ensures { result ≡ is_start_lawful (view flow.now) }
-{
-    let without_start = is_no_function(flow.functions.as_slice(), b"$start");
-    let without_main = is_no_function(flow.functions.as_slice(), b"main");
-    let no_global = is_no_global(flow.globals.as_slice(), b"$start");
-    agree(without_start, without_main, no_global)
-}
-
 /// The rule that each name of the table is used, where so many bytes are left behind the table, and then
 /// that on `$start`, where so many are left from the count of the functions on.
 fn check_late(
@@ -127,13 +80,16 @@ fn check_late(
     place: usize,
 ) -> Result<(), FieldError>
     requires { length (flat_map text names.now) + behind < 2 ^ 64 }
-    ensures { Gives (λ x. x) result (broken_at (first_of (first_unused names.now (names_of (view flow.now)) behind) (start_fault (view flow.now) place))) }
+    ensures { Gives (λ x. x) result (broken_at (late_rules names.now (view flow.now) behind place)) }
 {
     let used = used_names(alloc, flow)?;
-    match find_unused(alloc, names, used, behind)? {
-        Some(left) => Err(FieldError::Fault { left }),
-        None if is_start_right(flow) => Ok(()),
-        None => Err(FieldError::Fault { left: place }),
+    if let Some(left) = find_unused(alloc, names, used, behind)? {
+        return Err(FieldError::Fault { left });
+    }
+    if is_start_beside_main(alloc, flow)? {
+        Ok(())
+    } else {
+        Err(FieldError::Fault { left: place })
     }
 }
 

@@ -3,6 +3,7 @@
 
 use super::*;
 use pw_value::FileError;
+use pw_value::fields::frame::seal;
 use std::test::Fail;
 
 const FILE: [u8; 183] = [
@@ -13,6 +14,12 @@ const FILE: [u8; 183] = [
     0, 0, 1, 3, 0, 0, 0, 0, 2, 0, 0, 0, 0, 0, 0, 0, 1, 9, 5, 0, 0, 0, 2, 0, 0, 0, 2, 2, 255, 255,
     255, 255, 132, 118, 244, 213, 103, 30, 40, 242, 241, 59, 193, 252, 60, 107, 168, 2, 109, 4,
     246, 111, 148, 112, 161, 251, 6, 63, 48, 132, 144, 80, 8, 230,
+];
+
+/// Where the fields of the payload begin, which stands from offset 12 to 151.
+const STARTS: [usize; 38] = [
+    0, 4, 9, 17, 22, 26, 30, 34, 38, 43, 47, 53, 57, 61, 67, 71, 75, 79, 83, 87, 91, 92, 93, 97,
+    101, 102, 106, 110, 111, 112, 116, 120, 124, 125, 126, 130, 134, 135,
 ];
 
 #[test]
@@ -53,6 +60,25 @@ fn damaged_frames(rt: HostRuntime) -> Result<(), Fail> {
             Some(FileError::FileFault { at }),
             "{len}"
         );
+    }
+    Ok(())
+}
+
+/// A payload that is cut has its fault at the last field that begins in it or at its end.
+#[test]
+fn cut_at_every_length(rt: HostRuntime) -> Result<(), Fail> {
+    for field in 0..STARTS.len() {
+        let start = STARTS[field];
+        let end = STARTS.get(field + 1).copied().unwrap_or(139);
+        for len in start..end {
+            assert!(rt; len < 139);
+            let file = seal(rt.alloc(), KIND, 1, &FILE[12..12 + len])?;
+            assert_eq!(rt;
+                read(rt.alloc(), &file).err(),
+                Some(FileError::FileFault { at: 12 + start }),
+                "{len}"
+            );
+        }
     }
     Ok(())
 }

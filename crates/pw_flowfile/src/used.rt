@@ -2,11 +2,14 @@
 
 ghost use Rattle.std.specs.Prelude.{◌≡◌, ◌++◌, ◌∷◌, ℕ, List, [], map, OnOk, IfOk};
 ghost use Rattle.std.specs.List.{flat_map};
-ghost use Rattle.pw_flow.specs.FlowGraph.{placed_item_view, global_view, op_view, block_view, function_view, view, item_names, op_names, names_in_block, names_in_function, names_in_global, declared_names};
+ghost use Rattle.pw_flow.specs.FlowGraph.{placed_item_view, global_view, op_view, block_view, function_view, view, item_names, op_names, names_in_block, names_in_function, names_in_global, global_names, function_names};
+ghost use Rattle.pw_files.specs.Start.{keeps_start};
 ghost use Rattle.pw_flowfile.specs.FlowFile.{all_in_global, all_in_function, names_of};
 
+use pw_files::start::is_start_kept;
+use pw_files::used::add_shaped;
 use pw_flow::{Block, FlowFn, FlowGlobal, FlowModule, Item, Op};
-use pw_value::{Name, Shape};
+use pw_value::Name;
 use std::alloc::{AllocError, Global};
 
 /// The name that an operation names.
@@ -78,19 +81,6 @@ fn add_globals<'a>(used: &mut Vec<&'a Name>, globals: &'a [FlowGlobal]) -> Resul
     Ok(())
 }
 
-/// Declared names.
-fn add_declared<'a>(
-    used: &mut Vec<&'a Name>,
-    declared: &'a [(Name, Shape)],
-) -> Result<(), AllocError>
-    ensures { OnOk result (map (λ name. name.now) used.new.items ≡ map (λ name. name.now) used.old.items ++ map (λ d. d.0) declared.now) }
-{
-    for (name, _) in declared {
-        used.push(name)?;
-    }
-    Ok(())
-}
-
 /// Every name of a module, in the order of the file.
 pub fn used_names(alloc: Global, flow: &FlowModule) -> Result<Vec<&Name>, AllocError>
     ensures { IfOk result (λ v. map (λ name. name.now) v.items ≡ names_of (view flow.now)) }
@@ -98,7 +88,45 @@ pub fn used_names(alloc: Global, flow: &FlowModule) -> Result<Vec<&Name>, AllocE
     let mut used = Vec::new(alloc);
     used.push(&flow.name)?;
     add_globals(&mut used, &flow.globals)?;
-    add_declared(&mut used, &flow.declared)?;
+    add_shaped(&mut used, &flow.declared)?;
     add_functions(&mut used, &flow.functions)?;
     Ok(used)
+}
+
+/// The names of objects alone.
+fn add_global_names<'a>(
+    used: &mut Vec<&'a Name>,
+    globals: &'a [FlowGlobal],
+) -> Result<(), AllocError>
+    ensures { OnOk result (map (λ name. name.now) used.new.items ≡ map (λ name. name.now) used.old.items ++ map (λ g. g.name) (map global_view globals.now)) }
+{
+    for global in globals {
+        used.push(&global.name)?;
+    }
+    Ok(())
+}
+
+/// The names of functions alone.
+fn add_function_names<'a>(
+    used: &mut Vec<&'a Name>,
+    functions: &'a [FlowFn],
+) -> Result<(), AllocError>
+    ensures { OnOk result (map (λ name. name.now) used.new.items ≡ map (λ name. name.now) used.old.items ++ map (λ f. f.name) (map function_view functions.now)) }
+{
+    for function in functions {
+        used.push(&function.name)?;
+    }
+    Ok(())
+}
+
+/// Whether the functions include `$start` exactly where they include `main`, and never twice, and no object
+/// is `$start`.
+pub fn is_start_beside_main(alloc: Global, flow: &FlowModule) -> Result<bool, AllocError>
+    ensures { IfOk result (λ kept. kept ≡ keeps_start (function_names (view flow.now)) (global_names (view flow.now))) }
+{
+    let mut functions = Vec::new(alloc);
+    add_function_names(&mut functions, &flow.functions)?;
+    let mut globals = Vec::new(alloc);
+    add_global_names(&mut globals, &flow.globals)?;
+    Ok(is_start_kept(&functions, &globals))
 }

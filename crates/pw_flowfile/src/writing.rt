@@ -1,22 +1,21 @@
 //! Writing a flow file.
 
-ghost use Rattle.std.specs.Prelude.{◌≡◌, ◌++◌, ◌<◌, ◌^◌, ℕ, List, length, map, OnOk, IfOk, Contains};
+ghost use Rattle.std.specs.Prelude.{◌≡◌, ◌++◌, ℕ, List, map, OnOk, IfOk, Contains};
 ghost use Rattle.std.specs.List.{flat_map, AllByRecursion};
 ghost use Rattle.pw_value.specs.FieldNames.{IsNameTable};
 ghost use Rattle.pw_flow.specs.FlowGraph.{placed_item_view, item_view, global_view, block_view, function_view, view, item_names, names_in_block, names_in_global};
 ghost use Rattle.pw_flow.specs.ValidFlow.{IsValid};
-ghost use Rattle.pw_flowfile.specs.FlowFile.{Contents, all_in_global, all_in_function, names_of, item as item_text, placed_item as placed_item_text, global_body as global_body_text, global as global_text, ending as ending_text, block as block_text, function as function_text, declared as declared_text, spelling, IsFlowFile};
+ghost use Rattle.pw_flowfile.specs.FlowFile.{Contents, all_in_global, all_in_function, names_of, item as item_text, placed_item as placed_item_text, global_body as global_body_text, global as global_text, block as block_text, function as function_text, spelling, IsFlowFile};
 
-use crate::op_writing::{
-    optional_kind_byte, push_count, push_long_text, push_ops, push_result, push_words,
-};
 use crate::reading::KIND;
 use crate::used::used_names;
-use pw_flow::{Block, End, FlowFn, FlowGlobal, FlowModule, Item};
-use pw_value::fields::frame::{FRAME_LEN, seal};
-use pw_value::fields::names::{push_name, push_names, table_of};
+use pw_files::kinds::push_kind;
+use pw_files::writing::{make_table, push_bytes, push_count, push_shaped_list, seal_payload};
+use pw_flow::{Block, FlowFn, FlowGlobal, FlowModule, Item};
+use pw_flowops::{push_end, push_ops, push_words};
+use pw_value::Name;
+use pw_value::fields::names::{push_name, push_names};
 use pw_value::fields::writing::{push_flag, push_u8, push_u32};
-use pw_value::{Name, Shape};
 use std::alloc::{AllocError, Global};
 
 /// An item.
@@ -28,7 +27,7 @@ fn push_item(out: &mut Vec<u8>, names: &[Name], item: &Item) -> Result<(), Alloc
     match item {
         Item::Bytes(bytes) => {
             push_u8(out, 0)?;
-            push_long_text(out, bytes)
+            push_bytes(out, bytes)
         }
         Item::Address(name, offset) => {
             push_u8(out, 1)?;
@@ -62,8 +61,8 @@ pub fn push_global_body(
     ensures { OnOk result (out.new.items ≡ out.old.items ++ global_body_text names.now (global_view global.now)) }
 {
     push_u32(out, global.size)?;
-    push_long_text(out, global.shape.as_bytes())?;
-    push_u8(out, optional_kind_byte(global.kind))?;
+    push_bytes(out, global.shape.as_bytes())?;
+    push_kind(out, global.kind)?;
     push_flag(out, global.volatile)?;
     push_count(out, global.items.as_slice().len())?;
     push_items(out, names, global.items.as_slice())
@@ -89,45 +88,6 @@ fn push_globals(out: &mut Vec<u8>, names: &[Name], globals: &[FlowGlobal]) -> Re
         push_global(out, names, global)?;
     }
     Ok(())
-}
-
-/// Declared names.
-fn push_declared(
-    out: &mut Vec<u8>,
-    names: &[Name],
-    declared: &[(Name, Shape)],
-) -> Result<(), AllocError>
-    requires table { IsNameTable names.now }
-    requires stand { AllByRecursion (Contains names.now) (map (λ d. d.0) declared.now) }
-    ensures { OnOk result (out.new.items ≡ out.old.items ++ flat_map (declared_text names.now) declared.now) }
-{
-    for declaration in declared {
-        push_name(out, names, &declaration.0)?;
-        push_long_text(out, declaration.1.as_bytes())?;
-    }
-    Ok(())
-}
-
-/// Where a block goes on.
-fn push_end(out: &mut Vec<u8>, end: End) -> Result<(), AllocError>
-    ensures { OnOk result (out.new.items ≡ out.old.items ++ ending_text end) }
-{
-    match end {
-        End::Jump(b) => {
-            push_u8(out, 0)?;
-            push_u32(out, b)
-        }
-        End::Branch(a, b, c) => {
-            push_u8(out, 1)?;
-            push_u32(out, a)?;
-            push_u32(out, b)?;
-            push_u32(out, c)
-        }
-        End::Return(a) => {
-            push_u8(out, 2)?;
-            push_result(out, a)
-        }
-    }
 }
 
 /// A block.
@@ -161,7 +121,7 @@ fn push_function(out: &mut Vec<u8>, names: &[Name], function: &FlowFn) -> Result
     ensures { OnOk result (out.new.items ≡ out.old.items ++ function_text names.now (function_view function.now)) }
 {
     push_name(out, names, &function.name)?;
-    push_long_text(out, function.shape.as_bytes())?;
+    push_bytes(out, function.shape.as_bytes())?;
     push_u32(out, function.params)?;
     push_u32(out, function.temps)?;
     push_count(out, function.slots.as_slice().len())?;
@@ -192,8 +152,7 @@ fn push_module(out: &mut Vec<u8>, names: &[Name], flow: &FlowModule) -> Result<(
     push_name(out, names, &flow.name)?;
     push_count(out, flow.globals.as_slice().len())?;
     push_globals(out, names, flow.globals.as_slice())?;
-    push_count(out, flow.declared.as_slice().len())?;
-    push_declared(out, names, flow.declared.as_slice())?;
+    push_shaped_list(out, names, flow.declared.as_slice())?;
     push_count(out, flow.functions.as_slice().len())?;
     push_functions(out, names, flow.functions.as_slice())
 }
@@ -205,16 +164,10 @@ pub fn write(alloc: Global, flow: &FlowModule) -> Result<Vec<u8>, AllocError>
     ensures { IfOk result (λ v. (names : List (List ℕ)) × IsFlowFile v.items (record { names = names; flow = view flow.now })) }
 {
     let used = used_names(alloc, flow)?;
-    let names = table_of(alloc, used)?;
+    let names = make_table(alloc, used)?;
     let table = names.as_slice();
-    if table.len() > u32::MAX as usize {
-        return Err(AllocError);
-    }
     let mut out = Vec::new(alloc);
     push_module(&mut out, table, flow)?;
     let payload = out.as_slice();
-    if payload.len() > u32::MAX as usize - FRAME_LEN {
-        return Err(AllocError);
-    }
-    seal(alloc, KIND, 1, payload)
+    seal_payload(alloc, KIND, 1, payload)
 }

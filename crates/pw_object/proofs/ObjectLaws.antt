@@ -26,7 +26,7 @@ use Rattle.pw_flow.specs.ValidFlow.{IsGlobal}
 use Rattle.pw_flowfile.specs.FlowFile.{global, global_body, all_in_global}
 use Rattle.pw_flowfile.specs.FlowFile.{FitsGlobal}
 use Rattle.pw_flowfile.specs.Reading.{global_body_at}
-use Rattle.pw_flowfile.proofs.PartLaws.{Named}
+use Rattle.pw_flowops.specs.Operations.{Named}
 use Rattle.pw_flowfile.proofs.GraphLaws.{GlobalFits, BodyFits, body_spells}
 use Rattle.pw_object.specs.declared.object.Object.{Object}
 use Rattle.pw_object.specs.Functions.{FunctionValue, IsFunction, function, names_of_function}

@@ -1,10 +1,10 @@
 -- What writing asks of an object's parts, and what it gives.
-use Rattle.std.proofs.Common.{◌≡◌, ℕ, List, [], ◌∷◌, ◌++◌, length, map, All, Result, Ok, Err, subst, sym, ap, ◌∙◌, arith}
+use Rattle.std.proofs.Common.{◌≡◌, ℕ, List, [], ◌∷◌, ◌++◌, length, map, All, Result, Ok, Err, subst, ap, ◌∙◌, arith}
 use Rattle.std.specs.Prelude.{Contains, IfOk, OnOk}
 use Rattle.std.specs.Global.{Vec}
 use Rattle.std.specs.List.{flat_map, AllByRecursion}
 use Rattle.std.proofs.lemmas.List.Concat.{flat_map-cons}
-use Rattle.std.proofs.lemmas.List.Elements.{All-from_recursion, recursion_from_All}
+use Rattle.std.proofs.lemmas.List.Elements.{All-from_recursion}
 use Rattle.pw_value.specs.Fields.{FitsU32}
 use Rattle.pw_value.specs.FieldFrame.{file, FitsFile}
 use Rattle.pw_value.specs.FieldNames.{IsTableOf}
@@ -60,22 +60,6 @@ named_by names p table =
       globals = globals_named names p.globals (used_front (flat_map all_in_global p.globals) _ names three);
       functions = functions_named names p.functions (used_back (flat_map all_in_global p.globals) _ names three);
     }
-
--- a list and what it is seen as
-
-seen : {X Y : Type 0} (view : X → Y) (P : Y → Type 0) (xs : List X) → AllByRecursion P (map view xs) → AllByRecursion (λ x. P (view x)) xs
-seen view P [] all = tt
-seen view P (x ∷ xs) all = (all.0, seen view P xs all.1)
-
-pub seen_all : {X Y : Type 0} (view : X → Y) (P : Y → Type 0) (xs : List X) → AllByRecursion P (map view xs) → All (λ x. P (view x)) xs
-seen_all view P xs all = All-from_recursion (λ x. P (view x)) xs (seen view P xs all)
-
-by_seen : {X Y : Type 0} (view : X → Y) (P : Y → Type 0) (xs : List X) → AllByRecursion (λ x. P (view x)) xs → AllByRecursion P (map view xs)
-by_seen view P [] all = tt
-by_seen view P (x ∷ xs) all = (all.0, by_seen view P xs all.1)
-
-pub all_by_seen : {X Y : Type 0} (view : X → Y) (P : Y → Type 0) (xs : List X) → All (λ x. P (view x)) xs → AllByRecursion P (map view xs)
-all_by_seen view P xs all = by_seen view P xs (recursion_from_All (λ x. P (view x)) xs all)
 
 -- the file
 

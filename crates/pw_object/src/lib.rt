@@ -18,4 +18,6 @@ pub use writing::write;
 #[cfg(test)]
 mod object_tests;
 #[cfg(test)]
+mod rows;
+#[cfg(test)]
 mod tests;

@@ -1,333 +1,331 @@
-//! Whole object files. They are built by hand, field by field, and stand in hexadecimal digits.
+//! Whole object files. They are built by hand, field by field, and stand as bytes.
 
+use super::rows::{FixRow, FunctionRow, GlobalRow, ItemRow, ObjectRow, SymbolRow, object};
 use super::*;
-use pw_flow::{FlowGlobal, Item};
 use pw_value::fields::frame::seal;
-use pw_value::{FileError, Kind, Name, Shape};
+use pw_value::{FileError, Kind};
 use std::alloc::Global;
 use std::test::Fail;
 
 /// The module `m` with nothing in it.
-const EMPTY: &str = "\
-    5041574f000000510000000100000001000000016d00000000000000000000000000000000000000000000000000000000fb61f3\
-    a9c4610974d5d4b6eb134024487620648a447be2a8d78a95bad1b68bc9";
+const EMPTY: &[u8] = b"\
+    \x50\x41\x57\x4f\x00\x00\x00\x51\x00\x00\x00\x01\x00\x00\x00\x01\x00\x00\x00\x01\x6d\x00\x00\x00\
+    \x00\x00\x00\x00\x00\x00\x00\x00\x00\x00\x00\x00\x00\x00\x00\x00\x00\x00\x00\x00\x00\x00\x00\x00\
+    \x00\xfb\x61\xf3\xa9\xc4\x61\x09\x74\xd5\xd4\xb6\xeb\x13\x40\x24\x48\x76\x20\x64\x8a\x44\x7b\xe2\
+    \xa8\xd7\x8a\x95\xba\xd1\xb6\x8b\xc9";
 
 /// The module `m` with the hidden pointer `m:x`, which points behind itself.
-const NO_FUNCTIONS: &str = "\
-    5041574f000000800000000100000002000000016d000000036d3a78000000000000000000000008000000000000000000000000\
-    0000000000000001000000010000000400000001700500000000010000000001000000010000000400000000a958345ba2556c1d\
-    1004948a886941e117227f218283a6d2de352db8a1825643";
+const NO_FUNCTIONS: &[u8] = b"\
+    \x50\x41\x57\x4f\x00\x00\x00\x80\x00\x00\x00\x01\x00\x00\x00\x02\x00\x00\x00\x01\x6d\x00\x00\x00\
+    \x03\x6d\x3a\x78\x00\x00\x00\x00\x00\x00\x00\x00\x00\x00\x00\x08\x00\x00\x00\x00\x00\x00\x00\x00\
+    \x00\x00\x00\x00\x00\x00\x00\x00\x00\x00\x00\x01\x00\x00\x00\x01\x00\x00\x00\x04\x00\x00\x00\x01\
+    \x70\x05\x00\x00\x00\x00\x01\x00\x00\x00\x00\x01\x00\x00\x00\x01\x00\x00\x00\x04\x00\x00\x00\x00\
+    \xa9\x58\x34\x5b\xa2\x55\x6c\x1d\x10\x04\x94\x8a\x88\x69\x41\xe1\x17\x22\x7f\x21\x82\x83\xa6\xd2\
+    \xde\x35\x2d\xb8\xa1\x82\x56\x43";
 
 /// The module `b` with the function `bump` of one word.
-const NO_GLOBALS: &str = "\
-    5041574f00000078000000010000000200000001620000000462756d700000000000000001460000000000000001000000010000\
-    00026676000000000000000000000001000000010000000000000001e840c002000000004bf9bd32e351c70ca548e9992c330d33\
-    112bdb132b0738808f6a00e815588a05";
+const NO_GLOBALS: &[u8] = b"\
+    \x50\x41\x57\x4f\x00\x00\x00\x78\x00\x00\x00\x01\x00\x00\x00\x02\x00\x00\x00\x01\x62\x00\x00\x00\
+    \x04\x62\x75\x6d\x70\x00\x00\x00\x00\x00\x00\x00\x01\x46\x00\x00\x00\x00\x00\x00\x00\x01\x00\x00\
+    \x00\x01\x00\x00\x00\x02\x66\x76\x00\x00\x00\x00\x00\x00\x00\x00\x00\x00\x00\x01\x00\x00\x00\x01\
+    \x00\x00\x00\x00\x00\x00\x00\x01\xe8\x40\xc0\x02\x00\x00\x00\x00\x4b\xf9\xbd\x32\xe3\x51\xc7\x0c\
+    \xa5\x48\xe9\x99\x2c\x33\x0d\x33\x11\x2b\xdb\x13\x2b\x07\x38\x80\x8f\x6a\x00\xe8\x15\x58\x8a\x05";
 
 /// The module `m` with globals of every kind, items of both forms, and fixes of every kind and symbol form.
-const FULL: &str = "\
-    5041574f00000246000000010000000b000000062473746172740000000161000000016200000001630000000164000000016500\
-    000004657869740000000166000000016d000000046d61696e000000017a00000008000000030102030000000800000000000000\
-    00000000030000000100000001690000000600000003666969000000090000000266690000000200000006000000070000000600\
-    00000100000004000000016905000000000100000000000000000400000007000000020000000100000002216301010000000000\
-    0000030000000c000000045b335d7000000000000300000000010000000700000008000000050000000002686900000008010000\
-    00000000000000000004000000020000000173030000000000000000050000000100000001680200000000000000000700000002\
-    0000000174040000000001000000010000000001ff00000002000000000000004000000000000000000000000900000080000000\
-    032020000034210000e84000000000000e00000000000000000001000000040000000101000000000affffffff00000002020000\
-    000006000000000000000000010000000100000000000000010101ffffffff000000080000000202010000000000000000000000\
-    00000200000000000000010102000000100000000202020000000000000000000300000000000000000101030100000000000000\
-    020203020000000000000002020303000000000000000202030400000000a08b7335cb28d665357667d4b8b35cb4561324a788f9\
-    c4959031f4c685bb3a5e";
+const FULL: &[u8] = b"\
+    \x50\x41\x57\x4f\x00\x00\x02\x46\x00\x00\x00\x01\x00\x00\x00\x0b\x00\x00\x00\x06\x24\x73\x74\x61\
+    \x72\x74\x00\x00\x00\x01\x61\x00\x00\x00\x01\x62\x00\x00\x00\x01\x63\x00\x00\x00\x01\x64\x00\x00\
+    \x00\x01\x65\x00\x00\x00\x04\x65\x78\x69\x74\x00\x00\x00\x01\x66\x00\x00\x00\x01\x6d\x00\x00\x00\
+    \x04\x6d\x61\x69\x6e\x00\x00\x00\x01\x7a\x00\x00\x00\x08\x00\x00\x00\x03\x01\x02\x03\x00\x00\x00\
+    \x08\x00\x00\x00\x00\x00\x00\x00\x00\x00\x00\x00\x03\x00\x00\x00\x01\x00\x00\x00\x01\x69\x00\x00\
+    \x00\x06\x00\x00\x00\x03\x66\x69\x69\x00\x00\x00\x09\x00\x00\x00\x02\x66\x69\x00\x00\x00\x02\x00\
+    \x00\x00\x06\x00\x00\x00\x07\x00\x00\x00\x06\x00\x00\x00\x01\x00\x00\x00\x04\x00\x00\x00\x01\x69\
+    \x05\x00\x00\x00\x00\x01\x00\x00\x00\x00\x00\x00\x00\x00\x04\x00\x00\x00\x07\x00\x00\x00\x02\x00\
+    \x00\x00\x01\x00\x00\x00\x02\x21\x63\x01\x01\x00\x00\x00\x00\x00\x00\x00\x03\x00\x00\x00\x0c\x00\
+    \x00\x00\x04\x5b\x33\x5d\x70\x00\x00\x00\x00\x00\x03\x00\x00\x00\x00\x01\x00\x00\x00\x07\x00\x00\
+    \x00\x08\x00\x00\x00\x05\x00\x00\x00\x00\x02\x68\x69\x00\x00\x00\x08\x01\x00\x00\x00\x00\x00\x00\
+    \x00\x00\x00\x00\x00\x04\x00\x00\x00\x02\x00\x00\x00\x01\x73\x03\x00\x00\x00\x00\x00\x00\x00\x00\
+    \x05\x00\x00\x00\x01\x00\x00\x00\x01\x68\x02\x00\x00\x00\x00\x00\x00\x00\x00\x07\x00\x00\x00\x02\
+    \x00\x00\x00\x01\x74\x04\x00\x00\x00\x00\x01\x00\x00\x00\x01\x00\x00\x00\x00\x01\xff\x00\x00\x00\
+    \x02\x00\x00\x00\x00\x00\x00\x00\x40\x00\x00\x00\x00\x00\x00\x00\x00\x00\x00\x00\x09\x00\x00\x00\
+    \x80\x00\x00\x00\x03\x20\x20\x00\x00\x34\x21\x00\x00\xe8\x40\x00\x00\x00\x00\x00\x0e\x00\x00\x00\
+    \x00\x00\x00\x00\x00\x00\x01\x00\x00\x00\x04\x00\x00\x00\x01\x01\x00\x00\x00\x00\x0a\xff\xff\xff\
+    \xff\x00\x00\x00\x02\x02\x00\x00\x00\x00\x06\x00\x00\x00\x00\x00\x00\x00\x00\x00\x01\x00\x00\x00\
+    \x01\x00\x00\x00\x00\x00\x00\x00\x01\x01\x01\xff\xff\xff\xff\x00\x00\x00\x08\x00\x00\x00\x02\x02\
+    \x01\x00\x00\x00\x00\x00\x00\x00\x00\x00\x00\x00\x00\x00\x02\x00\x00\x00\x00\x00\x00\x00\x01\x01\
+    \x02\x00\x00\x00\x10\x00\x00\x00\x02\x02\x02\x00\x00\x00\x00\x00\x00\x00\x00\x00\x03\x00\x00\x00\
+    \x00\x00\x00\x00\x00\x01\x01\x03\x01\x00\x00\x00\x00\x00\x00\x00\x02\x02\x03\x02\x00\x00\x00\x00\
+    \x00\x00\x00\x02\x02\x03\x03\x00\x00\x00\x00\x00\x00\x00\x02\x02\x03\x04\x00\x00\x00\x00\xa0\x8b\
+    \x73\x35\xcb\x28\xd6\x65\x35\x76\x67\xd4\xb8\xb3\x5c\xb4\x56\x13\x24\xa7\x88\xf9\xc4\x95\x90\x31\
+    \xf4\xc6\x85\xbb\x3a\x5e";
 
-/// What is done to the file of `FULL`: a byte is set and the digest made anew, a byte is set alone, or the file
-/// is cut to a length.
-enum Damage {
-    Set(usize, u8),
-    Alone(usize, u8),
-    Cut(usize),
-}
+/// The function of `NO_GLOBALS`.
+const BUMP: FunctionRow = FunctionRow {
+    name: b"bump",
+    frame: 0,
+    words: &[0xe840_c002],
+    fixes: &[],
+};
 
-/// Damages, each with the offset of the fault.
-const DAMAGES: [(Damage, usize); 41] = [
-    (Damage::Cut(0), 0),
-    (Damage::Cut(3), 0),
-    (Damage::Cut(4), 4),
-    (Damage::Cut(11), 4),
-    (Damage::Cut(300), 4),
-    (Damage::Cut(550), 4),
-    (Damage::Cut(581), 4),
-    // The frame.
-    (Damage::Alone(0, 81), 0),
-    (Damage::Alone(7, 71), 4),
-    (Damage::Alone(11, 2), 8),
-    (Damage::Alone(92, 9), 550),
-    (Damage::Alone(550, 0), 550),
-    (Damage::Alone(581, 0), 550),
-    // The table: `a` twice, an empty name, and `z` unused.
-    (Damage::Set(35, 97), 31),
-    (Damage::Set(34, 0), 31),
-    (Damage::Set(404, 1), 77),
-    // The module's name, the flow's length, and the lists in byte order.
-    (Damage::Set(85, 11), 82),
-    (Damage::Set(86, 1), 86),
-    (Damage::Set(121, 1), 118),
-    (Damage::Set(121, 9), 129),
-    (Damage::Set(150, 6), 147),
-    // The globals.
-    (Damage::Set(168, 6), 168),
-    (Damage::Set(168, 4), 168),
-    (Damage::Set(202, 2), 202),
-    (Damage::Set(237, 11), 234),
-    (Damage::Set(245, 3), 242),
-    (Damage::Set(245, 13), 242),
-    (Damage::Set(246, 2), 246),
-    (Damage::Set(250, 8), 247),
-    (Damage::Set(256, 9), 257),
-    // The functions.
-    (Damage::Set(336, 1), 353),
-    (Damage::Set(361, 1), 549),
-    (Damage::Set(384, 3), 381),
-    (Damage::Set(385, 3), 385),
-    (Damage::Set(386, 4), 386),
-    (Damage::Set(390, 11), 387),
-    (Damage::Set(545, 5), 545),
-    // `main` alone, `$start` twice, and a global `$start`.
-    (Damage::Set(340, 9), 333),
-    (Damage::Set(356, 0), 333),
-    (Damage::Set(158, 0), 333),
-    // More names than there are.
-    (Damage::Set(12, 1), 82),
+/// The global of `NO_FUNCTIONS`.
+const HIDDEN: GlobalRow = GlobalRow {
+    name: b"m:x",
+    size: 4,
+    shape: b"p",
+    kind: Some(Kind::W32),
+    volatile: false,
+    items: &[ItemRow::Address(0, b"m:x", 4)],
+};
+
+/// The globals of `FULL`.
+const GLOBALS: [GlobalRow; 6] = [
+    GlobalRow {
+        name: b"a",
+        size: 4,
+        shape: b"i",
+        kind: Some(Kind::W32),
+        volatile: false,
+        items: &[ItemRow::Bytes(0, &[0, 0, 0, 7])],
+    },
+    GlobalRow {
+        name: b"b",
+        size: 1,
+        shape: b"!c",
+        kind: Some(Kind::S8),
+        volatile: true,
+        items: &[],
+    },
+    GlobalRow {
+        name: b"c",
+        size: 12,
+        shape: b"[3]p",
+        kind: None,
+        volatile: false,
+        items: &[
+            ItemRow::Address(0, b"f", 8),
+            ItemRow::Bytes(5, b"hi"),
+            ItemRow::Address(8, b"$start", 0),
+        ],
+    },
+    GlobalRow {
+        name: b"d",
+        size: 2,
+        shape: b"s",
+        kind: Some(Kind::S16),
+        volatile: false,
+        items: &[],
+    },
+    GlobalRow {
+        name: b"e",
+        size: 1,
+        shape: b"h",
+        kind: Some(Kind::U8),
+        volatile: false,
+        items: &[],
+    },
+    GlobalRow {
+        name: b"f",
+        size: 2,
+        shape: b"t",
+        kind: Some(Kind::U16),
+        volatile: false,
+        items: &[ItemRow::Bytes(1, &[255])],
+    },
 ];
 
-/// The value of a hexadecimal digit.
-fn digit(byte: u8) -> Result<u8, Fail> {
-    match byte {
-        b'0'..=b'9' => Ok(byte - b'0'),
-        b'a'..=b'f' => Ok(byte - b'a' + 10),
-        _ => Err("a digit")?,
-    }
-}
-
-/// The bytes of pairs of digits.
-fn from_hex(alloc: Global, text: &str) -> Result<Vec<u8>, Fail> {
-    let mut bytes = Vec::new(alloc);
-    for pair in text.as_bytes().chunks(2) {
-        if let [high, low] = pair {
-            bytes.push((digit(*high)? << 4) | digit(*low)?)?;
-        }
-    }
-    Ok(bytes)
-}
-
-fn name(alloc: Global, text: &[u8]) -> Result<Name, Fail> {
-    Ok(Name::new(alloc, text)?)
-}
-
-fn shape(alloc: Global, text: &[u8]) -> Result<Shape, Fail> {
-    Ok(Shape::new(Vec::from_slice(alloc, text)?))
-}
-
-fn bytes_at(alloc: Global, offset: u32, bytes: &[u8]) -> Result<(u32, Item), Fail> {
-    Ok((offset, Item::Bytes(Vec::from_slice(alloc, bytes)?)))
-}
-
-fn address_at(alloc: Global, offset: u32, of: &[u8], plus: u32) -> Result<(u32, Item), Fail> {
-    Ok((offset, Item::Address(name(alloc, of)?, plus)))
-}
-
-fn fix(word: u32, kind: FixKind, symbol: Symbol, addend: u32) -> Fix {
-    Fix {
-        word,
-        kind,
-        symbol,
-        addend,
-    }
-}
-
-fn global(
-    alloc: Global,
-    named: &[u8],
-    size: u32,
-    shaped: &[u8],
-    kind: Option<Kind>,
-) -> Result<FlowGlobal, Fail> {
-    Ok(FlowGlobal {
-        name: name(alloc, named)?,
-        size,
-        shape: shape(alloc, shaped)?,
-        kind,
-        volatile: named == b"b".as_slice(),
-        items: Vec::new(alloc),
-    })
-}
-
-/// A module with nothing in it.
-fn empty(alloc: Global, module: &[u8]) -> Result<Object, Fail> {
-    Ok(Object {
-        version: 1,
-        module: name(alloc, module)?,
-        flow: Vec::new(alloc),
-        directives: Vec::new(alloc),
-        declared: Vec::new(alloc),
-        used: Vec::new(alloc),
-        globals: Vec::new(alloc),
-        functions: Vec::new(alloc),
-    })
-}
-
-fn no_functions(alloc: Global) -> Result<Object, Fail> {
-    let mut object = empty(alloc, b"m")?;
-    object.directives = Vec::from_slice(alloc, &[0; 8])?;
-    let mut x = global(alloc, b"m:x", 4, b"p", Some(Kind::W32))?;
-    x.items.push(address_at(alloc, 0, b"m:x", 4)?)?;
-    object.globals.push(x)?;
-    Ok(object)
-}
-
-fn no_globals(alloc: Global) -> Result<Object, Fail> {
-    let mut object = empty(alloc, b"b")?;
-    object.flow.push(b'F')?;
-    object
-        .declared
-        .push((name(alloc, b"bump")?, shape(alloc, b"fv")?))?;
-    object.functions.push(ObjectFn {
-        name: name(alloc, b"bump")?,
-        frame: 0,
-        words: Vec::from_slice(alloc, &[0xe840_c002u32])?,
-        fixes: Vec::new(alloc),
-    })?;
-    Ok(object)
-}
-
-fn full_globals(alloc: Global) -> Result<Vec<FlowGlobal>, Fail> {
-    let mut a = global(alloc, b"a", 4, b"i", Some(Kind::W32))?;
-    a.items.push(bytes_at(alloc, 0, &[0, 0, 0, 7])?)?;
-    let b = global(alloc, b"b", 1, b"!c", Some(Kind::S8))?;
-    let mut c = global(alloc, b"c", 12, b"[3]p", None)?;
-    c.items.push(address_at(alloc, 0, b"f", 8)?)?;
-    c.items.push(bytes_at(alloc, 5, b"hi")?)?;
-    c.items.push(address_at(alloc, 8, b"$start", 0)?)?;
-    let d = global(alloc, b"d", 2, b"s", Some(Kind::S16))?;
-    let e = global(alloc, b"e", 1, b"h", Some(Kind::U8))?;
-    let mut f = global(alloc, b"f", 2, b"t", Some(Kind::U16))?;
-    f.items.push(bytes_at(alloc, 1, &[255])?)?;
-    Ok(Vec::from_array(alloc, [a, b, c, d, e, f])?)
-}
-
 /// Fixes of every kind with every form of a symbol, and of each routine.
-fn full_fixes(alloc: Global) -> Result<Vec<Fix>, Fail> {
-    let (a, z, exit) = (
-        name(alloc, b"a")?,
-        name(alloc, b"z")?,
-        name(alloc, b"exit")?,
-    );
-    let fixes = [
-        fix(0, FixKind::Ldil, Symbol::Named(a), 4),
-        fix(1, FixKind::Im14, Symbol::Named(z), u32::MAX),
-        fix(2, FixKind::Bl, Symbol::Named(exit), 0),
-        fix(0, FixKind::Ldil, Symbol::Word(1), 0),
-        fix(1, FixKind::Im14, Symbol::Word(u32::MAX), 8),
-        fix(2, FixKind::Bl, Symbol::Word(0), 0),
-        fix(0, FixKind::Ldil, Symbol::StackLimit, 0),
-        fix(1, FixKind::Im14, Symbol::StackLimit, 16),
-        fix(2, FixKind::Bl, Symbol::StackLimit, 0),
-        fix(0, FixKind::Ldil, Symbol::Routine(0), 0),
-        fix(1, FixKind::Im14, Symbol::Routine(1), 0),
-        fix(2, FixKind::Bl, Symbol::Routine(2), 0),
-        fix(2, FixKind::Bl, Symbol::Routine(3), 0),
-        fix(2, FixKind::Bl, Symbol::Routine(4), 0),
-    ];
-    Ok(Vec::from_array(alloc, fixes)?)
-}
+const FIXES: [FixRow; 14] = [
+    (0, FixKind::Ldil, SymbolRow::Named(b"a"), 4),
+    (1, FixKind::Im14, SymbolRow::Named(b"z"), u32::MAX),
+    (2, FixKind::Bl, SymbolRow::Named(b"exit"), 0),
+    (0, FixKind::Ldil, SymbolRow::Word(1), 0),
+    (1, FixKind::Im14, SymbolRow::Word(u32::MAX), 8),
+    (2, FixKind::Bl, SymbolRow::Word(0), 0),
+    (0, FixKind::Ldil, SymbolRow::StackLimit, 0),
+    (1, FixKind::Im14, SymbolRow::StackLimit, 16),
+    (2, FixKind::Bl, SymbolRow::StackLimit, 0),
+    (0, FixKind::Ldil, SymbolRow::Routine(0), 0),
+    (1, FixKind::Im14, SymbolRow::Routine(1), 0),
+    (2, FixKind::Bl, SymbolRow::Routine(2), 0),
+    (2, FixKind::Bl, SymbolRow::Routine(3), 0),
+    (2, FixKind::Bl, SymbolRow::Routine(4), 0),
+];
 
-fn full_functions(alloc: Global) -> Result<Vec<ObjectFn>, Fail> {
-    let start = ObjectFn {
-        name: name(alloc, b"$start")?,
+/// The functions of `FULL`.
+const FUNCTIONS: [FunctionRow; 2] = [
+    FunctionRow {
+        name: b"$start",
         frame: 64,
-        words: Vec::new(alloc),
-        fixes: Vec::new(alloc),
-    };
-    let main = ObjectFn {
-        name: name(alloc, b"main")?,
+        words: &[],
+        fixes: &[],
+    },
+    FunctionRow {
+        name: b"main",
         frame: 128,
-        words: Vec::from_slice(alloc, &[0x2020_0000u32, 0x3421_0000, 0xe840_0000])?,
-        fixes: full_fixes(alloc)?,
-    };
-    Ok(Vec::from_array(alloc, [start, main])?)
+        words: &[0x2020_0000, 0x3421_0000, 0xe840_0000],
+        fixes: &FIXES,
+    },
+];
+
+/// Files with the objects that they are of.
+const OBJECTS: [(&[u8], ObjectRow); 4] = [
+    (
+        EMPTY,
+        ObjectRow {
+            module: b"m",
+            flow: &[],
+            directives: &[],
+            declared: &[],
+            used: &[],
+            globals: &[],
+            functions: &[],
+        },
+    ),
+    (
+        NO_FUNCTIONS,
+        ObjectRow {
+            module: b"m",
+            flow: &[],
+            directives: &[0; 8],
+            declared: &[],
+            used: &[],
+            globals: &[HIDDEN],
+            functions: &[],
+        },
+    ),
+    (
+        NO_GLOBALS,
+        ObjectRow {
+            module: b"b",
+            flow: b"F",
+            directives: &[],
+            declared: &[(b"bump", b"fv")],
+            used: &[],
+            globals: &[],
+            functions: &[BUMP],
+        },
+    ),
+    (
+        FULL,
+        ObjectRow {
+            module: b"m",
+            flow: &[1, 2, 3],
+            directives: &[0; 8],
+            declared: &[(b"a", b"i"), (b"exit", b"fii"), (b"main", b"fi")],
+            used: &[b"exit", b"f"],
+            globals: &GLOBALS,
+            functions: &FUNCTIONS,
+        },
+    ),
+];
+
+/// What is done to `FULL`: the byte at a place becomes another one, and the digest is made anew or stays; with
+/// the offset of the fault.
+type Damage = (usize, u8, bool, usize);
+
+const DAMAGES: [Damage; 34] = [
+    // The frame.
+    (0, 81, false, 0),
+    (7, 71, false, 4),
+    (11, 2, false, 8),
+    (92, 9, false, 550),
+    (550, 0, false, 550),
+    (581, 0, false, 550),
+    // The table: `a` twice, an empty name, and `z` unused.
+    (35, 97, true, 31),
+    (34, 0, true, 31),
+    (404, 1, true, 77),
+    // The module's name, the flow's length, and the lists in byte order.
+    (85, 11, true, 82),
+    (86, 1, true, 86),
+    (121, 1, true, 118),
+    (121, 9, true, 129),
+    (150, 6, true, 147),
+    // The globals.
+    (168, 6, true, 168),
+    (168, 4, true, 168),
+    (202, 2, true, 202),
+    (237, 11, true, 234),
+    (245, 3, true, 242),
+    (245, 13, true, 242),
+    (246, 2, true, 246),
+    (250, 8, true, 247),
+    (256, 9, true, 257),
+    // The functions.
+    (336, 1, true, 353),
+    (361, 1, true, 549),
+    (384, 3, true, 381),
+    (385, 3, true, 385),
+    (386, 4, true, 386),
+    (390, 11, true, 387),
+    (545, 5, true, 545),
+    // `main` alone, `$start` twice, and a global `$start`.
+    (340, 9, true, 333),
+    (356, 0, true, 333),
+    (158, 0, true, 333),
+    // More names than there are.
+    (12, 1, true, 82),
+];
+
+/// Whether the file is read as the object, and written again as it was.
+fn is_file_of(alloc: Global, file: &[u8], row: &ObjectRow) -> Result<bool, Fail> {
+    let wanted = object(alloc, row)?;
+    match read(alloc, file) {
+        Ok(object) => Ok(object == wanted && write(alloc, &object)?.as_slice() == file),
+        Err(_) => Ok(false),
+    }
 }
 
-fn full(alloc: Global) -> Result<Object, Fail> {
-    let mut object = empty(alloc, b"m")?;
-    object.flow = Vec::from_slice(alloc, &[1, 2, 3])?;
-    object.directives = Vec::from_slice(alloc, &[0; 8])?;
-    object
-        .declared
-        .push((name(alloc, b"a")?, shape(alloc, b"i")?))?;
-    object
-        .declared
-        .push((name(alloc, b"exit")?, shape(alloc, b"fii")?))?;
-    object
-        .declared
-        .push((name(alloc, b"main")?, shape(alloc, b"fi")?))?;
-    object.used.push(name(alloc, b"exit")?)?;
-    object.used.push(name(alloc, b"f")?)?;
-    object.globals = full_globals(alloc)?;
-    object.functions = full_functions(alloc)?;
-    Ok(object)
+/// The file with a digest made anew.
+fn sealed_anew(alloc: Global, file: &[u8]) -> Result<Vec<u8>, Fail> {
+    let payload = file.get(12..550).ok_or("a payload")?;
+    Ok(seal(alloc, KIND, 1, payload)?)
 }
 
-/// The file with a damage.
-fn damaged(alloc: Global, file: &[u8], damage: &Damage) -> Result<Vec<u8>, Fail> {
-    match damage {
-        Damage::Cut(len) => {
-            let front = file.get(..*len).ok_or("a front")?;
-            Ok(Vec::from_slice(alloc, front)?)
-        }
-        Damage::Alone(place, value) => {
-            let mut copy = Vec::from_slice(alloc, file)?;
-            *copy.get_mut(*place).ok_or("a place")? = *value;
-            Ok(copy)
-        }
-        Damage::Set(place, value) => {
-            let mut copy = Vec::from_slice(alloc, file)?;
-            *copy.get_mut(*place).ok_or("a place")? = *value;
-            let payload = copy.get(12..550).ok_or("a payload")?;
-            Ok(seal(alloc, KIND, 1, payload)?)
-        }
+/// `FULL` with a damage.
+fn damaged(alloc: Global, damage: &Damage) -> Result<Vec<u8>, Fail> {
+    let mut file = Vec::from_slice(alloc, FULL)?;
+    *file.get_mut(damage.0).ok_or("a place")? = damage.1;
+    if damage.2 {
+        file = sealed_anew(alloc, &file)?;
+    }
+    Ok(file)
+}
+
+/// The offset of the file's fault.
+fn fault(alloc: Global, file: &[u8]) -> Option<usize> {
+    match read(alloc, file) {
+        Err(FileError::FileFault { at }) => Some(at),
+        _ => None,
     }
 }
 
 #[test]
 fn objects(rt: HostRuntime) -> Result<(), Fail> {
-    let alloc = rt.alloc();
-    for (text, wanted) in [
-        (EMPTY, empty(alloc, b"m")?),
-        (NO_FUNCTIONS, no_functions(alloc)?),
-        (NO_GLOBALS, no_globals(alloc)?),
-        (FULL, full(alloc)?),
-    ] {
-        let file = from_hex(alloc, text)?;
-        match read(alloc, &file) {
-            Ok(object) => {
-                assert!(rt; object == wanted, "{text}");
-                let written = write(alloc, &object)?;
-                assert_eq!(rt; written.as_slice(), file.as_slice());
-            }
-            Err(e) => assert!(rt; false, "{e:?}"),
-        }
+    for (file, row) in &OBJECTS {
+        assert!(rt; is_file_of(rt.alloc(), *file, row)?, "{}", file.len());
     }
     Ok(())
 }
 
 #[test]
 fn damaged_objects(rt: HostRuntime) -> Result<(), Fail> {
-    let alloc = rt.alloc();
-    let file = from_hex(alloc, FULL)?;
-    for (damage, at) in &DAMAGES {
-        let bytes = damaged(alloc, &file, damage)?;
+    for damage in &DAMAGES {
+        let file = damaged(rt.alloc(), damage)?;
+        assert_eq!(rt; fault(rt.alloc(), &file), Some(damage.3), "{}", damage.0);
+    }
+    Ok(())
+}
+
+/// A file that is cut has another length than it tells, and below 4 bytes not even a kind.
+#[test]
+fn cut_objects(rt: HostRuntime) -> Result<(), Fail> {
+    for len in 0..FULL.len() {
+        let front = FULL.get(..len).ok_or("a front")?;
         assert_eq!(rt;
-            read(alloc, &bytes).err(),
-            Some(FileError::FileFault { at: *at })
+            fault(rt.alloc(), front),
+            Some(if len < 4 { 0 } else { 4 }),
+            "{len}"
         );
     }
     Ok(())

@@ -2,10 +2,12 @@
 //! are told. The bytes are written by hand.
 
 use super::functions::read_function;
+use super::rows::{FunctionRow, SymbolRow, function};
 use super::*;
 use pw_value::Name;
 use pw_value::fields::FieldError;
 use pw_value::fields::names::read_names;
+use std::alloc::Global;
 use std::test::Fail;
 
 /// The names `f` and `g`.
@@ -19,54 +21,72 @@ const FUNCTION: [u8; 73] = [
     0, 0, 0, 1, 2, 3, 2, 0, 0, 0, 0,
 ];
 
+/// What `FUNCTION` is read as.
+const F: FunctionRow = FunctionRow {
+    name: b"f",
+    frame: 64,
+    words: &[0x2020_0000, 0xe840_0000],
+    fixes: &[
+        (0, FixKind::Ldil, SymbolRow::StackLimit, 0),
+        (0, FixKind::Im14, SymbolRow::Word(1), 4),
+        (1, FixKind::Bl, SymbolRow::Named(b"g"), 0),
+        (1, FixKind::Bl, SymbolRow::Routine(2), 0),
+    ],
+};
+
+/// What a function of zeros is read as.
+const EMPTY: FunctionRow = FunctionRow {
+    name: b"f",
+    frame: 0,
+    words: &[],
+    fixes: &[],
+};
+
+/// Bytes of `FUNCTION` that are set, each with what is left at the fault.
+const DAMAGES: [(usize, u8, usize); 6] = [
+    (3, 2, 73),
+    (27, 2, 49),
+    (28, 3, 45),
+    (29, 4, 44),
+    (57, 2, 19),
+    (68, 5, 5),
+];
+
+fn names(alloc: Global) -> Result<Vec<Name>, Fail> {
+    let (names, _) = read_names(alloc, &NAMES).ok().ok_or("names")?;
+    Ok(names)
+}
+
+/// Whether the function is at the front of the bytes, and the rest behind it.
+fn is_front(alloc: Global, bytes: &[u8], row: &FunctionRow, rest: &[u8]) -> Result<bool, Fail> {
+    let wanted = function(alloc, row)?;
+    match read_function(alloc, &names(alloc)?, bytes) {
+        Ok((read, behind)) => Ok(read == wanted && behind == rest),
+        Err(_) => Ok(false),
+    }
+}
+
+/// The fault of `FUNCTION` with a byte set.
+fn fault(alloc: Global, place: usize, value: u8) -> Result<Option<FieldError>, Fail> {
+    let mut bytes = Vec::from_slice(alloc, &FUNCTION)?;
+    *bytes.get_mut(place).ok_or("a place")? = value;
+    Ok(read_function(alloc, &names(alloc)?, &bytes).err())
+}
+
 #[test]
 fn a_function(rt: HostRuntime) -> Result<(), Fail> {
-    let (names, _) = read_names(rt.alloc(), &NAMES).ok().ok_or("names")?;
     let mut bytes = Vec::from_slice(rt.alloc(), &FUNCTION)?;
     bytes.push(9)?;
-    let (f, rest) = read_function(rt.alloc(), &names, &bytes)
-        .ok()
-        .ok_or("a function")?;
-    assert_eq!(rt; rest, [9u8].as_slice());
-    assert_eq!(rt; f.name.as_bytes(), b"f".as_slice());
-    assert_eq!(rt; f.frame, 64);
-    assert_eq!(rt;
-        f.words.as_slice(),
-        [0x2020_0000u32, 0xe840_0000].as_slice()
-    );
-    assert_eq!(rt; f.fixes.len(), 4);
-    let first = f.fixes.first().ok_or("a fix")?;
-    assert_eq!(rt; first.kind, FixKind::Ldil);
-    assert!(rt; first.symbol == Symbol::StackLimit);
-    let second = f.fixes.get(1).ok_or("a second fix")?;
-    assert_eq!(rt; second.kind, FixKind::Im14);
-    assert!(rt; second.symbol == Symbol::Word(1));
-    assert_eq!(rt; second.addend, 4);
-    let third = f.fixes.get(2).ok_or("a third fix")?;
-    assert!(rt; third.symbol == Symbol::Named(Name::new(rt.alloc(), b"g")?));
-    let last = f.fixes.get(3).ok_or("a last fix")?;
-    assert_eq!(rt; last.word, 1);
-    assert!(rt; last.symbol == Symbol::Routine(2));
+    assert!(rt; is_front(rt.alloc(), &bytes, &F, &[9])?);
     Ok(())
 }
 
 #[test]
 fn damaged_functions(rt: HostRuntime) -> Result<(), Fail> {
-    let (names, _) = read_names(rt.alloc(), &NAMES).ok().ok_or("names")?;
-    for (place, value, wanted) in [
-        (3usize, 2u8, 73usize),
-        (27, 2, 49),
-        (28, 3, 45),
-        (29, 4, 44),
-        (57, 2, 19),
-        (68, 5, 5),
-    ] {
-        let mut damaged = FUNCTION;
-        assert!(rt; place < 73);
-        damaged[place] = value;
+    for (place, value, left) in DAMAGES {
         assert_eq!(rt;
-            read_function(rt.alloc(), &names, &damaged).err(),
-            Some(FieldError::Fault { left: wanted }),
+            fault(rt.alloc(), place, value)?,
+            Some(FieldError::Fault { left }),
             "{place}"
         );
     }
@@ -75,12 +95,6 @@ fn damaged_functions(rt: HostRuntime) -> Result<(), Fail> {
 
 #[test]
 fn an_empty_function(rt: HostRuntime) -> Result<(), Fail> {
-    let (names, _) = read_names(rt.alloc(), &NAMES).ok().ok_or("names")?;
-    let (f, rest) = read_function(rt.alloc(), &names, &[0; 16])
-        .ok()
-        .ok_or("a function")?;
-    assert!(rt; rest.is_empty());
-    assert!(rt; f.words.is_empty());
-    assert!(rt; f.fixes.is_empty());
+    assert!(rt; is_front(rt.alloc(), &[0; 16], &EMPTY, &[])?);
     Ok(())
 }

@@ -1,7 +1,7 @@
 use Rattle.std.specs.Prelude.{Contains}
 use Rattle.pw_flow.specs.FlowGraph.{function_view}
 use Rattle.pw_flowfile.specs.FlowFile.{all_in_function}
-use Rattle.pw_flowfile.proofs.WritingLemmas.{flat_at}
+use Rattle.pw_flowops.proofs.FlatLists.{flat_at}
 use Rattle.pw_flowfile.proofs.writing.push_functions.Goals as goal
 
 pub push_function-requires-clause-stand : goal.push_function-requires-clause-stand

@@ -8,7 +8,7 @@ use Rattle.pw_flowfile.specs.FlowFile.{all_in_global, FitsGlobal}
 use Rattle.pw_object.specs.declared.functions.ObjectFn.{ObjectFn}
 use Rattle.pw_object.specs.Functions.{IsFunctionNamed, function_view}
 use Rattle.pw_object.specs.Object.{FitsFunction}
-use Rattle.pw_object.proofs.WritingLemmas.{seen_all, all_by_seen}
+use Rattle.pw_files.proofs.Views.{seen_all, all_by_seen}
 use Rattle.pw_object.proofs.writing.push_code.Goals as goal
 
 pub push_globals-requires-clause-stand : goal.push_globals-requires-clause-stand

@@ -1,8 +1,0 @@
-use Rattle.std.proofs.Common.{◌≡◌, ◌++◌, map, take}
-use Rattle.std.specs.List.{flat_map}
-use Rattle.pw_flow.specs.FlowGraph.{op_view}
-use Rattle.pw_flowfile.specs.FlowFile.{op}
-use Rattle.pw_flowfile.proofs.op_writing.push_ops.Given as goal
-
-abbrev pub invariant-loop-op : goal.invariant-loop-op
-invariant-loop-op l = l.out.items ≡ l.fn.out.items ++ flat_map (op l.names) (map op_view (take l.op-index l.ops))

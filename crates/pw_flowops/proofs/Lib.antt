@@ -1,0 +1,6 @@
+pub mod FieldChains
+pub mod FlatLists
+pub mod ChoiceLaws
+pub mod PartLaws
+pub mod OpLaws
+pub mod EndLaws

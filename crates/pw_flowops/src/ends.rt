@@ -1,0 +1,74 @@
+//! The ends of blocks.
+
+ghost use Rattle.std.specs.Prelude.{◌≡◌, ◌++◌, OnOk};
+ghost use Rattle.pw_value.specs.FieldFaults.{Gives};
+ghost use Rattle.pw_flowops.specs.Operations.{ending as ending_text};
+ghost use Rattle.pw_flowops.specs.Reading.{targets_at, end_at};
+
+use crate::choices::read_end_code;
+use crate::codes::EndCode;
+use crate::op_writing::push_result;
+use crate::parts::{read_below, read_result};
+use pw_flow::End;
+use pw_value::fields::FieldError;
+use pw_value::fields::writing::{push_u8, push_u32};
+use std::alloc::AllocError;
+
+/// What stands behind an end's byte.
+#[tactic(auto, unfolding(crate::specs::Reading::targets_at))]
+fn read_targets(
+    temps: u32,
+    blocks: u32,
+    code: EndCode,
+    bytes: &[u8],
+) -> Result<(End, &[u8]), FieldError>
+    ensures { Gives (λ x. (x.0, x.1.now)) result (targets_at temps blocks code bytes.now) }
+{
+    match code {
+        EndCode::Jump => {
+            let (b, rest) = read_below(blocks as usize, bytes)?;
+            Ok((End::Jump(b), rest))
+        }
+        EndCode::Branch => {
+            let (a, rest) = read_below(temps as usize, bytes)?;
+            let (b, rest) = read_below(blocks as usize, rest)?;
+            let (c, rest) = read_below(blocks as usize, rest)?;
+            Ok((End::Branch(a, b, c), rest))
+        }
+        EndCode::Return => {
+            let (a, rest) = read_result(temps, bytes)?;
+            Ok((End::Return(a), rest))
+        }
+    }
+}
+
+/// Where a block goes on.
+#[tactic(auto, unfolding(crate::specs::Reading::end_at))]
+pub fn read_end(temps: u32, blocks: u32, bytes: &[u8]) -> Result<(End, &[u8]), FieldError>
+    ensures { Gives (λ x. (x.0, x.1.now)) result (end_at temps blocks bytes.now) }
+{
+    let (code, rest) = read_end_code(bytes)?;
+    read_targets(temps, blocks, code, rest)
+}
+
+/// Where a block goes on.
+pub fn push_end(out: &mut Vec<u8>, end: End) -> Result<(), AllocError>
+    ensures { OnOk result (out.new.items ≡ out.old.items ++ ending_text end) }
+{
+    match end {
+        End::Jump(b) => {
+            push_u8(out, 0)?;
+            push_u32(out, b)
+        }
+        End::Branch(a, b, c) => {
+            push_u8(out, 1)?;
+            push_u32(out, a)?;
+            push_u32(out, b)?;
+            push_u32(out, c)
+        }
+        End::Return(a) => {
+            push_u8(out, 2)?;
+            push_result(out, a)
+        }
+    }
+}

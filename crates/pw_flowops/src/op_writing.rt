@@ -1,0 +1,335 @@
+//! Writing operations.
+
+ghost use Rattle.std.specs.Prelude.{◌≡◌, ◌++◌, ℕ, List, [], map, OnOk, Contains, Option, None, Some};
+ghost use Rattle.std.specs.List.{flat_map, AllByRecursion};
+ghost use Rattle.pw_value.specs.Fields.{u32};
+ghost use Rattle.pw_value.specs.FieldNames.{IsNameTable};
+ghost use Rattle.pw_flow.specs.FlowGraph.{Const, Copy, Un, Bin, Ext, AddrGlobal, AddrSlot, AddrFn, LoadG, StoreG, Load, Store, Move, Call, CallInd, op_view, op_names};
+ghost use Rattle.pw_flowops.specs.Operations.{un_number, bin_number, ext_number, result as result_text, arguments, op as op_text};
+
+use crate::parts::ABSENT;
+use pw_files::kinds::push_scalar;
+use pw_files::writing::{push_bytes, push_count};
+use pw_flow::{BinKind, ExtKind, Op, UnKind};
+use pw_value::fields::names::push_name;
+use pw_value::fields::writing::{push_u8, push_u32};
+use pw_value::{Kind, Name, Shape};
+use std::alloc::AllocError;
+
+/// Numbers, one after the other.
+pub fn push_words(out: &mut Vec<u8>, words: &[u32]) -> Result<(), AllocError>
+    ensures { OnOk result (out.new.items ≡ out.old.items ++ flat_map u32 words.now) }
+{
+    for word in words {
+        push_u32(out, *word)?;
+    }
+    Ok(())
+}
+
+/// The arguments of a call.
+fn push_arguments(out: &mut Vec<u8>, args: &[u32]) -> Result<(), AllocError>
+    ensures { OnOk result (out.new.items ≡ out.old.items ++ arguments args.now) }
+{
+    push_count(out, args.len())?;
+    push_words(out, args)
+}
+
+/// A temporary, or none.
+pub fn push_result(out: &mut Vec<u8>, t: Option<u32>) -> Result<(), AllocError>
+    ensures { OnOk result (out.new.items ≡ out.old.items ++ result_text t) }
+{
+    match t {
+        Some(t) => push_u32(out, t),
+        None => push_u32(out, ABSENT),
+    }
+}
+
+/// The byte of an operation on one number.
+fn un_byte(kind: UnKind) -> u8
+    ensures { result ≡ un_number kind }
+{
+    match kind {
+        UnKind::Neg => 0,
+        UnKind::Not => 1,
+    }
+}
+
+/// The byte of an operation on two numbers.
+fn bin_byte(kind: BinKind) -> u8
+    ensures { result ≡ bin_number kind }
+{
+    match kind {
+        BinKind::Add => 0,
+        BinKind::Sub => 1,
+        BinKind::And => 2,
+        BinKind::Or => 3,
+        BinKind::Xor => 4,
+        BinKind::Mul => 5,
+        BinKind::DivS => 6,
+        BinKind::DivU => 7,
+        BinKind::RemS => 8,
+        BinKind::RemU => 9,
+        BinKind::Shl => 10,
+        BinKind::ShrS => 11,
+        BinKind::ShrU => 12,
+        BinKind::Eq => 13,
+        BinKind::Ne => 14,
+        BinKind::LtS => 15,
+        BinKind::LeS => 16,
+        BinKind::LtU => 17,
+        BinKind::LeU => 18,
+    }
+}
+
+/// The byte of an extension.
+fn ext_byte(kind: ExtKind) -> u8
+    ensures { result ≡ ext_number kind }
+{
+    match kind {
+        ExtKind::S8 => 0,
+        ExtKind::U8 => 1,
+        ExtKind::S16 => 2,
+        ExtKind::U16 => 3,
+    }
+}
+
+/// The operation Const.
+fn push_const(out: &mut Vec<u8>, t: u32, n: u32) -> Result<(), AllocError>
+    ensures { OnOk result (out.new.items ≡ out.old.items ++ op_text [] (Const t n)) }
+{
+    push_u8(out, 0)?;
+    push_u32(out, t)?;
+    push_u32(out, n)?;
+    Ok(())
+}
+
+/// The operation Copy.
+fn push_copy(out: &mut Vec<u8>, t: u32, a: u32) -> Result<(), AllocError>
+    ensures { OnOk result (out.new.items ≡ out.old.items ++ op_text [] (Copy t a)) }
+{
+    push_u8(out, 1)?;
+    push_u32(out, t)?;
+    push_u32(out, a)?;
+    Ok(())
+}
+
+/// The operation Un.
+fn push_un(out: &mut Vec<u8>, k: UnKind, t: u32, a: u32) -> Result<(), AllocError>
+    ensures { OnOk result (out.new.items ≡ out.old.items ++ op_text [] (Un k t a)) }
+{
+    push_u8(out, 2)?;
+    push_u8(out, un_byte(k))?;
+    push_u32(out, t)?;
+    push_u32(out, a)?;
+    Ok(())
+}
+
+/// The operation Bin.
+fn push_bin(out: &mut Vec<u8>, k: BinKind, t: u32, a: u32, b: u32) -> Result<(), AllocError>
+    ensures { OnOk result (out.new.items ≡ out.old.items ++ op_text [] (Bin k t a b)) }
+{
+    push_u8(out, 3)?;
+    push_u8(out, bin_byte(k))?;
+    push_u32(out, t)?;
+    push_u32(out, a)?;
+    push_u32(out, b)?;
+    Ok(())
+}
+
+/// The operation Ext.
+fn push_ext(out: &mut Vec<u8>, k: ExtKind, t: u32, a: u32) -> Result<(), AllocError>
+    ensures { OnOk result (out.new.items ≡ out.old.items ++ op_text [] (Ext k t a)) }
+{
+    push_u8(out, 4)?;
+    push_u8(out, ext_byte(k))?;
+    push_u32(out, t)?;
+    push_u32(out, a)?;
+    Ok(())
+}
+
+/// The operation AddrGlobal.
+fn push_addr_global(
+    out: &mut Vec<u8>,
+    names: &[Name],
+    t: u32,
+    g: &Name,
+    n: u32,
+) -> Result<(), AllocError>
+    requires table { IsNameTable names.now }
+    requires stands { Contains names.now g.now }
+    ensures { OnOk result (out.new.items ≡ out.old.items ++ op_text names.now (AddrGlobal t g.now n)) }
+{
+    push_u8(out, 5)?;
+    push_u32(out, t)?;
+    push_name(out, names, g)?;
+    push_u32(out, n)?;
+    Ok(())
+}
+
+/// The operation AddrSlot.
+fn push_addr_slot(out: &mut Vec<u8>, t: u32, s: u32) -> Result<(), AllocError>
+    ensures { OnOk result (out.new.items ≡ out.old.items ++ op_text [] (AddrSlot t s)) }
+{
+    push_u8(out, 6)?;
+    push_u32(out, t)?;
+    push_u32(out, s)?;
+    Ok(())
+}
+
+/// The operation AddrFn.
+fn push_addr_fn(out: &mut Vec<u8>, names: &[Name], t: u32, f: &Name) -> Result<(), AllocError>
+    requires table { IsNameTable names.now }
+    requires stands { Contains names.now f.now }
+    ensures { OnOk result (out.new.items ≡ out.old.items ++ op_text names.now (AddrFn t f.now)) }
+{
+    push_u8(out, 7)?;
+    push_u32(out, t)?;
+    push_name(out, names, f)?;
+    Ok(())
+}
+
+/// The operation LoadG.
+fn push_load_g(
+    out: &mut Vec<u8>,
+    names: &[Name],
+    k: Kind,
+    t: u32,
+    g: &Name,
+) -> Result<(), AllocError>
+    requires table { IsNameTable names.now }
+    requires stands { Contains names.now g.now }
+    ensures { OnOk result (out.new.items ≡ out.old.items ++ op_text names.now (LoadG t g.now k)) }
+{
+    push_u8(out, 8)?;
+    push_scalar(out, k)?;
+    push_u32(out, t)?;
+    push_name(out, names, g)?;
+    Ok(())
+}
+
+/// The operation StoreG.
+fn push_store_g(
+    out: &mut Vec<u8>,
+    names: &[Name],
+    k: Kind,
+    g: &Name,
+    a: u32,
+) -> Result<(), AllocError>
+    requires table { IsNameTable names.now }
+    requires stands { Contains names.now g.now }
+    ensures { OnOk result (out.new.items ≡ out.old.items ++ op_text names.now (StoreG g.now a k)) }
+{
+    push_u8(out, 9)?;
+    push_scalar(out, k)?;
+    push_name(out, names, g)?;
+    push_u32(out, a)?;
+    Ok(())
+}
+
+/// The operation Load.
+fn push_load(out: &mut Vec<u8>, k: Kind, t: u32, a: u32) -> Result<(), AllocError>
+    ensures { OnOk result (out.new.items ≡ out.old.items ++ op_text [] (Load k t a)) }
+{
+    push_u8(out, 10)?;
+    push_scalar(out, k)?;
+    push_u32(out, t)?;
+    push_u32(out, a)?;
+    Ok(())
+}
+
+/// The operation Store.
+fn push_store(out: &mut Vec<u8>, k: Kind, a: u32, b: u32) -> Result<(), AllocError>
+    ensures { OnOk result (out.new.items ≡ out.old.items ++ op_text [] (Store k a b)) }
+{
+    push_u8(out, 11)?;
+    push_scalar(out, k)?;
+    push_u32(out, a)?;
+    push_u32(out, b)?;
+    Ok(())
+}
+
+/// The operation Move.
+fn push_move(out: &mut Vec<u8>, a: u32, b: u32, size: u32, unit: u32) -> Result<(), AllocError>
+    ensures { OnOk result (out.new.items ≡ out.old.items ++ op_text [] (Move a b size unit)) }
+{
+    push_u8(out, 12)?;
+    push_u32(out, a)?;
+    push_u32(out, b)?;
+    push_u32(out, size)?;
+    push_u32(out, unit)?;
+    Ok(())
+}
+
+/// The operation Call.
+fn push_call(
+    out: &mut Vec<u8>,
+    names: &[Name],
+    t: Option<u32>,
+    f: &Name,
+    args: &[u32],
+) -> Result<(), AllocError>
+    requires table { IsNameTable names.now }
+    requires stands { Contains names.now f.now }
+    ensures { OnOk result (out.new.items ≡ out.old.items ++ op_text names.now (Call t f.now args.now)) }
+{
+    push_u8(out, 13)?;
+    push_result(out, t)?;
+    push_name(out, names, f)?;
+    push_arguments(out, args)?;
+    Ok(())
+}
+
+/// The operation CallInd.
+fn push_call_ind(
+    out: &mut Vec<u8>,
+    t: Option<u32>,
+    a: u32,
+    shape: &Shape,
+    args: &[u32],
+) -> Result<(), AllocError>
+    ensures { OnOk result (out.new.items ≡ out.old.items ++ op_text [] (CallInd t a shape.now args.now)) }
+{
+    push_u8(out, 14)?;
+    push_result(out, t)?;
+    push_u32(out, a)?;
+    push_bytes(out, shape.as_bytes())?;
+    push_arguments(out, args)?;
+    Ok(())
+}
+
+/// An operation.
+fn push_op(out: &mut Vec<u8>, names: &[Name], op: &Op) -> Result<(), AllocError>
+    requires table { IsNameTable names.now }
+    requires stands { AllByRecursion (Contains names.now) (op_names (op_view op.now)) }
+    ensures { OnOk result (out.new.items ≡ out.old.items ++ op_text names.now (op_view op.now)) }
+{
+    match op {
+        Op::Const(t, n) => push_const(out, *t, *n),
+        Op::Copy(t, a) => push_copy(out, *t, *a),
+        Op::Un(k, t, a) => push_un(out, *k, *t, *a),
+        Op::Bin(k, t, a, b) => push_bin(out, *k, *t, *a, *b),
+        Op::Ext(k, t, a) => push_ext(out, *k, *t, *a),
+        Op::AddrGlobal(t, g, n) => push_addr_global(out, names, *t, g, *n),
+        Op::AddrSlot(t, s) => push_addr_slot(out, *t, *s),
+        Op::AddrFn(t, f) => push_addr_fn(out, names, *t, f),
+        Op::LoadG(t, g, k) => push_load_g(out, names, *k, *t, g),
+        Op::StoreG(g, a, k) => push_store_g(out, names, *k, g, *a),
+        Op::Load(k, t, a) => push_load(out, *k, *t, *a),
+        Op::Store(k, a, b) => push_store(out, *k, *a, *b),
+        Op::Move(a, b, size, unit) => push_move(out, *a, *b, *size, *unit),
+        Op::Call(t, f, args) => push_call(out, names, *t, f, args),
+        Op::CallInd(t, a, shape, args) => push_call_ind(out, *t, *a, shape, args),
+    }
+}
+
+/// Operations.
+pub fn push_ops(out: &mut Vec<u8>, names: &[Name], ops: &[Op]) -> Result<(), AllocError>
+    requires table { IsNameTable names.now }
+    requires stand { AllByRecursion (Contains names.now) (flat_map op_names (map op_view ops.now)) }
+    ensures { OnOk result (out.new.items ≡ out.old.items ++ flat_map (op_text names.now) (map op_view ops.now)) }
+{
+    for op in ops {
+        push_op(out, names, op)?;
+    }
+    Ok(())
+}

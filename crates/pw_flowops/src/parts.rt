@@ -1,0 +1,153 @@
+//! The small parts of operations: indices, names, results, arguments, and what is copied.
+
+ghost use Rattle.std.specs.Prelude.{◌≡◌, ◌<◌, ℕ, nat_le, nat_lt, not, List, length, IfOk};
+ghost use Rattle.pw_value.specs.Fields.{u32_at, repeated, checked};
+ghost use Rattle.pw_value.specs.FieldFaults.{Gives};
+ghost use Rattle.pw_flow.specs.ValidFlow.{IsUnit};
+ghost use Rattle.pw_flowops.specs.Reading.{named_at, below_at, result_at, arguments_at, is_unit, is_whole, size_and_unit_at, moved_at};
+
+use pw_files::start::is_allowed;
+use pw_value::Name;
+use pw_value::fields::names::read_name;
+use pw_value::fields::{FieldError, read_u32};
+use std::alloc::Global;
+
+/// What stands for a result that is not there.
+pub const ABSENT: u32 = u32::MAX;
+
+/// The most arguments of a call, and the most parameters of a function.
+const MOST_ARGUMENTS: u32 = 127;
+
+/// A number below a count.
+pub fn read_below(count: usize, bytes: &[u8]) -> Result<(u32, &[u8]), FieldError>
+    ensures found { Gives (λ x. (x.0, x.1.now)) result (below_at count bytes.now) }
+    ensures below { IfOk result (λ x. x.0 < count) }
+{
+    let (number, rest) = read_u32(bytes)?;
+    if (number as usize) < count {
+        Ok((number, rest))
+    } else {
+        Err(FieldError::Fault { left: bytes.len() })
+    }
+}
+
+/// A number of at most 127.
+pub fn read_few(bytes: &[u8]) -> Result<(u32, &[u8]), FieldError>
+    ensures { Gives (λ x. (x.0, x.1.now)) result (checked (λ n. nat_le n 127) u32_at bytes.now) }
+{
+    let (number, rest) = read_u32(bytes)?;
+    if number <= MOST_ARGUMENTS {
+        Ok((number, rest))
+    } else {
+        Err(FieldError::Fault { left: bytes.len() })
+    }
+}
+
+/// A name of the table that may be named: where that is strict, it is not `$start`.
+#[tactic(auto, unfolding(crate::specs::Reading::named_at))]
+pub fn read_named<'a, 'b>(
+    strict: bool,
+    names: &'b [Name],
+    bytes: &'a [u8],
+) -> Result<(&'b Name, &'a [u8]), FieldError>
+    ensures { Gives (λ x. (x.0.now, x.1.now)) result (named_at strict names.now bytes.now) }
+{
+    let (name, rest) = read_name(names, bytes)?;
+    if is_allowed(!strict, name) {
+        Ok((name, rest))
+    } else {
+        Err(FieldError::Fault { left: bytes.len() })
+    }
+}
+
+/// A temporary, or none.
+#[tactic(auto, unfolding(crate::specs::Reading::result_at))]
+pub fn read_result(temps: u32, bytes: &[u8]) -> Result<(Option<u32>, &[u8]), FieldError>
+    ensures { Gives (λ x. (x.0, x.1.now)) result (result_at temps bytes.now) }
+{
+    let (number, rest) = read_u32(bytes)?;
+    if number == ABSENT {
+        Ok((None, rest))
+    } else if number < temps {
+        Ok((Some(number), rest))
+    } else {
+        Err(FieldError::Fault { left: bytes.len() })
+    }
+}
+
+/// So many temporaries.
+fn read_temps(
+    alloc: Global,
+    temps: u32,
+    count: u32,
+    bytes: &[u8],
+) -> Result<(Vec<u32>, &[u8]), FieldError>
+    ensures { Gives (λ x. (x.0.items, x.1.now)) result (repeated (below_at temps) count bytes.now) }
+{
+    let mut args = Vec::new(alloc);
+    let mut rest = bytes;
+    for _ in 0..count {
+        let (arg, after) = read_below(temps as usize, rest)?;
+        args.push(arg)?;
+        rest = after;
+    }
+    Ok((args, rest))
+}
+
+/// The arguments of a call.
+#[tactic(auto, unfolding(crate::specs::Reading::arguments_at))]
+pub fn read_arguments(
+    alloc: Global,
+    temps: u32,
+    bytes: &[u8],
+) -> Result<(Vec<u32>, &[u8]), FieldError>
+    ensures { Gives (λ x. (x.0.items, x.1.now)) result (arguments_at temps bytes.now) }
+{
+    let (count, rest) = read_few(bytes)?;
+    read_temps(alloc, temps, count, rest)
+}
+
+/// The unit of a copy.
+fn read_unit(bytes: &[u8]) -> Result<(u32, &[u8]), FieldError>
+    ensures found { Gives (λ x. (x.0, x.1.now)) result (checked is_unit u32_at bytes.now) }
+    ensures unit { IfOk result (λ x. IsUnit x.0) }
+{
+    let (unit, rest) = read_u32(bytes)?;
+    if unit == 1 || unit == 2 || unit == 4 {
+        Ok((unit, rest))
+    } else {
+        Err(FieldError::Fault { left: bytes.len() })
+    }
+}
+
+/// How many bytes are copied, and in which units.
+#[tactic(auto, unfolding(crate::specs::Reading::size_and_unit_at))]
+fn read_size_and_unit(bytes: &[u8]) -> Result<((u32, u32), &[u8]), FieldError>
+    ensures found { Gives (λ x. (x.0, x.1.now)) result (size_and_unit_at bytes.now) }
+    ensures unit { IfOk result (λ x. IsUnit x.0.1) }
+{
+    let (size, rest) = read_u32(bytes)?;
+    let (unit, rest) = read_unit(rest)?;
+    Ok(((size, unit), rest))
+}
+
+/// Whether so many bytes are a positive number of units, of at most a mebibyte.
+fn is_lawful_copy(size: u32, unit: u32) -> bool
+    requires { IsUnit unit }
+    ensures { result ≡ is_whole (size, unit) }
+{
+    size % unit == 0 && size > 0 && size <= 1_048_576
+}
+
+/// How many bytes are copied, and in which units. The unit is looked at first.
+#[tactic(auto, unfolding(crate::specs::Reading::moved_at))]
+pub fn read_moved(bytes: &[u8]) -> Result<((u32, u32), &[u8]), FieldError>
+    ensures { Gives (λ x. (x.0, x.1.now)) result (moved_at bytes.now) }
+{
+    let ((size, unit), rest) = read_size_and_unit(bytes)?;
+    if is_lawful_copy(size, unit) {
+        Ok(((size, unit), rest))
+    } else {
+        Err(FieldError::Fault { left: bytes.len() })
+    }
+}
