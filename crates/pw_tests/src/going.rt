@@ -48,7 +48,7 @@ fn told(alloc: Global, files: &Files, line: &str, fails: &[StoreFail]) -> Result
 const REFUSED: &str = "a.i:1: Unsupported NotYet at token 1\n";
 
 /// One module `a.i` of this text, with the command `go`.
-const TEXTS: [(&str, u8, &str); 21] = [
+const TEXTS: [(&str, u8, &str); 33] = [
     ("int main(void){return 7;}", 7, ""),
     ("int main(void){return 3+4;}", 7, ""),
     ("int main(void){return 255+2;}", 1, ""),
@@ -59,21 +59,76 @@ const TEXTS: [(&str, u8, &str); 21] = [
         6,
         "",
     ),
-    ("", 113, REFUSED),
+    ("", 113, "a.i:1: Syntax at token 1\n"),
     ("int main(void){return 8192;}", 113, REFUSED),
     ("int main(void){return 07;}", 113, REFUSED),
     ("int main(void){return 00;}", 113, REFUSED),
-    ("int main(void){return 7}", 113, REFUSED),
-    ("int main(void){return 7;};", 113, REFUSED),
+    (
+        "int main(void){return 1 }",
+        113,
+        "a.i:1: Syntax at token 9\n",
+    ),
+    (
+        "int main(void){return 7;};",
+        113,
+        "a.i:1: Syntax at token 11\n",
+    ),
     ("int main(void){return +7;}", 113, REFUSED),
-    ("int main(void){return 7+;}", 113, REFUSED),
+    (
+        "int main(void){return 7+;}",
+        113,
+        "a.i:1: Syntax at token 10\n",
+    ),
     ("int main(void){return;}", 113, REFUSED),
     ("int main(void){return 7-1;}", 113, REFUSED),
     ("int main(void){return7;}", 113, REFUSED),
-    ("int mai n(void){return 7;}", 113, REFUSED),
+    (
+        "int mai n(void){return 7;}",
+        113,
+        "a.i:1: Syntax at token 3\n",
+    ),
     ("int main(){return 7;}", 113, REFUSED),
-    ("\n\n  \n x", 113, "a.i:4: Unsupported NotYet at token 1\n"),
-    ("\n \n", 113, "a.i:3: Unsupported NotYet at token 1\n"),
+    ("\n\n  \n x", 113, "a.i:4: Syntax at token 2\n"),
+    ("\n \n", 113, "a.i:3: Syntax at token 1\n"),
+    (
+        "/* two\nlines */ int x;",
+        113,
+        "a.i:2: Unsupported NotYet at token 1\n",
+    ),
+    ("int /* a */ main(void){return 7;}", 113, REFUSED),
+    // lexing
+    ("int x;\n\n  @", 113, "a.i:3: Bad at byte 10\n"),
+    ("int x;\n/* open", 113, "a.i:2: Bad at byte 7\n"),
+    // tokens that are left out
+    ("float f;", 113, "a.i:1: Unsupported Float at token 1\n"),
+    (
+        "/* two\nlines */ float f;",
+        113,
+        "a.i:2: Unsupported Float at token 1\n",
+    ),
+    (
+        "int x;\nint y = 1.5;",
+        113,
+        "a.i:2: Unsupported Float at token 7\n",
+    ),
+    ("int x = L'x';", 113, "a.i:1: Unsupported Wide at token 4\n"),
+    (
+        "int f(int a,\n...);",
+        113,
+        "a.i:2: Unsupported Variadic at token 7\n",
+    ),
+    (
+        "int x;\n#define Y\n",
+        113,
+        "a.i:2: Unsupported Directive at token 4\n",
+    ),
+    // lexing before them, and the first of them
+    ("float f; \x01", 113, "a.i:1: Bad at byte 9\n"),
+    (
+        "\nL\"a\" float",
+        113,
+        "a.i:2: Unsupported Wide at token 1\n",
+    ),
 ];
 
 #[test]
@@ -90,7 +145,7 @@ fn one_module(rt: HostRuntime) -> Result<(), Fail> {
 }
 
 /// Files with their texts, command lines, and what these tell.
-const STORES: [(&[(&str, &str)], &str, u8, &str); 12] = [
+const STORES: [(&[(&str, &str)], &str, u8, &str); 15] = [
     (&[], "go", 114, "link: NoMain\n"),
     (&[], "frob", 112, "usage\n"),
     (&[], "", 112, "usage\n"),
@@ -134,39 +189,66 @@ const STORES: [(&[(&str, &str)], &str, u8, &str); 12] = [
         "b.i:3: Unsupported NotYet at token 1\n",
     ),
     (
-        &[("a.i", "x"), ("b.i", "int main(void){return 7;}")],
+        &[("a.i", "int main(void){return 7;}"), ("b.i", "float\n@ x")],
+        "go",
+        113,
+        "b.i:1: Unsupported NotYet at token 1\n",
+    ),
+    (
+        &[
+            ("a.i", "int main(void){return 7;}"),
+            ("b.i", "/*\n*/ float x;\n"),
+        ],
+        "go",
+        113,
+        "b.i:2: Unsupported NotYet at token 1\n",
+    ),
+    (
+        &[("a.i", "\n@"), ("b.i", "float x;")],
+        "go",
+        113,
+        "a.i:2: Bad at byte 1\n",
+    ),
+    (
+        &[("a.i", "int x;"), ("b.i", "int main(void){return 7;}")],
         "go",
         113,
         REFUSED,
     ),
     (
-        &[("a-b.i", "x"), ("a.i", "int main(void){return 7;}")],
+        &[("a-b.i", "int x;"), ("a.i", "int main(void){return 7;}")],
         "go",
         113,
         "a-b.i:1: Unsupported NotYet at token 1\n",
     ),
     (
-        &[("a-b.i", "int main(void){return 7;}"), ("a.i", "x")],
+        &[("a-b.i", "int main(void){return 7;}"), ("a.i", "int x;")],
         "go",
         113,
         REFUSED,
     ),
     (
-        &[("a.i", "x"), ("B.i", "y"), ("1.i", "z")],
+        &[("a.i", "x"), ("B.i", "y"), ("1.i", "int z;")],
         "go",
         113,
         "1.i:1: Unsupported NotYet at token 1\n",
     ),
 ];
 
+/// Files of these names and texts.
+fn files_of(alloc: Global, listed: &[(&str, &str)]) -> Result<Files, AllocError> {
+    let mut files = Vec::new(alloc);
+    for (name, text) in listed {
+        push_file(alloc, &mut files, name, text.as_bytes())?;
+    }
+    Ok(files)
+}
+
 #[test]
 fn stores(rt: HostRuntime) -> Result<(), Fail> {
     let alloc = rt.alloc();
     for (listed, words, status, line) in STORES {
-        let mut files = Vec::new(alloc);
-        for (name, text) in listed {
-            push_file(alloc, &mut files, name, text.as_bytes())?;
-        }
+        let files = files_of(alloc, listed)?;
         let told = told(alloc, &files, words, &[])?;
         assert_eq!(rt; told.0, status);
         assert_eq!(rt; told.1.as_str(), line);
@@ -219,14 +301,60 @@ fn limits(rt: HostRuntime) -> Result<(), Fail> {
             "at {bytes} bytes"
         );
     }
-    for (count, bytes) in [(1, 0), (256, 0), (257, 0), (17, 1_048_577)] {
+    for (count, bytes, line) in [
+        (1, 0, "m000.i:1: Syntax at token 1\n"),
+        (256, 0, "m000.i:1: Syntax at token 1\n"),
+        (257, 0, "m000.i:1: Syntax at token 1\n"),
+        (17, 1_048_577, "m000.i:1: TooLong\n"),
+    ] {
         let files = blank_modules(alloc, count, bytes)?;
-        let line = "m000.i:1: Unsupported NotYet at token 1\n";
         assert_eq!(rt;
             told(alloc, &files, "go", &[])?.1.as_str(),
             line,
             "at {count} modules"
         );
+    }
+    Ok(())
+}
+
+/// Puts a byte so often behind a text.
+fn push_times(text: &mut Vec<u8>, byte: u8, count: usize) -> Result<(), AllocError> {
+    for _ in 0..count {
+        text.push(byte)?;
+    }
+    Ok(())
+}
+
+/// A text of the given front with so many opening and closing parentheses round a 7.
+fn nested(alloc: Global, front: &[u8], count: usize) -> Result<Vec<u8>, AllocError> {
+    let mut text = Vec::from_slice(alloc, front)?;
+    push_times(&mut text, b'(', count)?;
+    text.push(b'7')?;
+    push_times(&mut text, b')', count)?;
+    text.extend_from_slice(b";}")?;
+    Ok(text)
+}
+
+#[test]
+fn depth_and_count(rt: HostRuntime) -> Result<(), Fail> {
+    let alloc = rt.alloc();
+    let (whole, half) = (
+        b"int main(void){return\n".as_slice(),
+        b"double f(void){return\n".as_slice(),
+    );
+    let many = vec![in alloc; b';'; 200_001]?;
+    for (text, line) in [
+        (nested(alloc, whole, 199)?, REFUSED),
+        (nested(alloc, whole, 200)?, "a.i:2: TooDeep at token 207\n"),
+        (
+            nested(alloc, half, 200)?,
+            "a.i:1: Unsupported Float at token 1\n",
+        ),
+        (many, "a.i:1: TooMany at byte 200000\n"),
+    ] {
+        let mut files = Vec::new(alloc);
+        push_file(alloc, &mut files, "a.i", text.as_slice())?;
+        assert_eq!(rt; told(alloc, &files, "go", &[])?.1.as_str(), line);
     }
     Ok(())
 }

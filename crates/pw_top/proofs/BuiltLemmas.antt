@@ -1,11 +1,11 @@
 -- Whatever program was built, its words agree with it.
-use Rattle.std.proofs.Common.{◌≡◌, ℕ, List, [], ◌∷◌, Option, Some, None, refl}
+use Rattle.std.proofs.Common.{◌≡◌, ℕ, List, [], ◌∷◌, Option, Some, None, Ok, Err, refl}
 use Rattle.std.specs.Prelude.{IfSome}
-use Rattle.std.specs.FinMap as finite
 use Rattle.pw_io.specs.Files.{Files, Told}
 use Rattle.pw_top.specs.SumProgram.{IsSumProgram, numbers_in}
-use Rattle.pw_top.specs.Modules.{Source, module_files, sources_of}
-use Rattle.pw_top.specs.FullBuild.{alone, by_numbers, build_of_sources, full_build}
+use Rattle.pw_front.specs.Fronts.{Front, front_of}
+use Rattle.pw_top.specs.Modules.{Source}
+use Rattle.pw_top.specs.FullBuild.{alone, by_numbers, by_front, build_of_sources, modules_of, full_build}
 use Rattle.pw_top.specs.Code.{words_of}
 use Rattle.pw_top.specs.Agreement.{Agree, FramesFit, frames_of, rooms_of}
 use Rattle.pw_top.specs.TopCall.{BuiltAgrees}
@@ -24,13 +24,17 @@ by_numbers_agrees : Laws → (first : Source) (found : Option (List ℕ)) (other
 by_numbers_agrees laws first None others e = tt
 by_numbers_agrees laws first (Some numbers) others e = alone_agrees laws first.1 numbers others (numbers_told first.1 numbers e)
 
+by_front_agrees : Laws → (first : Source) (front : Front) (others : List Source) → BuiltAgrees (by_front first front others)
+by_front_agrees laws first (Err refusal) others = tt
+by_front_agrees laws first (Ok passed) others = by_numbers_agrees laws first (numbers_in first.1) others refl
+
 of_sources_agrees : Laws → (sources : List Source) → BuiltAgrees (build_of_sources sources)
 of_sources_agrees laws [] = tt
-of_sources_agrees laws (first ∷ others) = by_numbers_agrees laws first (numbers_in first.1) others refl
+of_sources_agrees laws (first ∷ others) = by_front_agrees laws first (front_of first.1) others
 
 full_agrees : Laws → (files : Files) → BuiltAgrees (full_build files)
 unfolding full_build
-full_agrees laws files = of_sources_agrees laws (sources_of files (module_files (finite.keys files)))
+full_agrees laws files = of_sources_agrees laws (modules_of files)
 
 -- the words of whatever the files come to agree with the program
 pub built_agrees : ((text numbers input : List ℕ) (stack : ℕ) → IsSumProgram text numbers → Agree (frames_of numbers) stack numbers (words_of numbers) input)

@@ -9,3 +9,4 @@ pub mod AgreementMemory
 pub mod AgreementRun
 pub mod Agreement
 pub mod BuiltLemmas
+pub mod RefusalLemmas

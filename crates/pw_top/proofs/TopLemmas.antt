@@ -5,9 +5,9 @@ use Rattle.std.proofs.lemmas.List.{take-append-drop}
 use Rattle.pw_io.specs.declared.Failed.{Failed}
 use Rattle.pw_io.specs.Faults.{HasCause}
 use Rattle.pw_io.specs.Streams.{Appends, AppendsPart}
-use Rattle.pw_top.specs.declared.answer.Refusal.{Refusal}
+use Rattle.pw_front.specs.declared.refusal.Refusal.{Refusal}
 use Rattle.pw_top.specs.declared.answer.Answer.{Answer}
-use Rattle.pw_top.specs.declared.answer.Answer.TheVariants.{Usage, Refused, LinkRefused, Halted, NoMemory}
+use Rattle.pw_top.specs.declared.answer.Answer.TheVariants.{Usage, Refused, LinkRefused, Halted, StoreFault, NoMemory}
 use Rattle.pw_top.specs.FullBuild as build
 use Rattle.pw_io.specs.Files.{Told}
 use Rattle.pw_top.specs.FullBuild.{Build, full_build}
@@ -15,7 +15,7 @@ use Rattle.pw_top.specs.Answers.{line_text, NeedsMemory}
 use Rattle.pw_top.specs.Code.{words_of}
 use Rattle.pw_top.specs.Agreement.{start_of}
 use Rattle.pw_top.proofs.RunLemmas.{Ends, ends_itself, run_ends, untouched}
-use Rattle.pw_top.specs.TopCall.{is_go, run_built, build_rest, wanted_rest, WasReadInPart, LeavesInput, Answers, AnswersBuild, IsNoRefusal, Refuses, PutsOut, StoreCount, InputCount, OutputCount, Tells, TellsUnnamed, ToldAs, IsLineOf, refused_line}
+use Rattle.pw_top.specs.TopCall.{is_go, run_built, build_rest, wanted_rest, WasReadInPart, LeavesInput, Answers, AnswersBuild, IsNoRefusal, Refuses, PutsOut, StoreCount, InputCount, OutputCount, Tells, ToldAs, IsLineOf, IsRunAnswer, LeavesStreams, refused_line}
 
 -- what one put tells
 pub put_tells : (r : Result (Unit {0}) Failed) (old new : Option (List ℕ)) (before now : ℕ) (line : List ℕ) → OnOk r (Appends old new line) → OnErr r (AppendsPart old new line) → HasCause before now r → Tells line old new before now
@@ -91,10 +91,13 @@ same_line built answer (Refused name refusal) line l t =
     t
 same_line built answer _ line l t = refl
 
--- and of every answer that names no module
-pub unnamed_line : (told : Answer) (line before now : ℕ) (old new : Option (List ℕ)) → Tells (line_text line told) old new before now → TellsUnnamed told old new before now
-unnamed_line (Refused name refusal) line before now old new h = tt
-unnamed_line _ line before now old new h = h
+-- a run leaves the streams as it likes
+pub run_leaves : (answer : Answer) (input input' output output' : Option (List ℕ)) → IsRunAnswer answer → LeavesStreams answer input input' output output'
+run_leaves Usage input input' output output' h = absurd h
+run_leaves (Refused name refusal) input input' output output' h = absurd h
+run_leaves (LinkRefused fault) input input' output output' h = absurd h
+run_leaves StoreFault input input' output output' h = absurd h
+run_leaves _ input input' output output' h = tt
 
 -- what a build leaves of the input is a rest of it
 pub build_leaves : (built : Build) (input : List ℕ) → Ends input (build_rest built input)

@@ -3,10 +3,14 @@ use Rattle.std.specs.Prelude.{ℕ, List, [], ◌++◌, codes}
 use Rattle.std.specs.Fmt.{decimal}
 use Rattle.pw_machine.specs.declared.ends.Halt.{Halt}
 use Rattle.pw_machine.specs.declared.ends.Halt.TheVariants.{Illegal, Unaligned, OutOfMemoryRange, TextWrite, BadBranch, BadBreak}
-use Rattle.pw_top.specs.declared.answer.Refusal.{Refusal}
-use Rattle.pw_top.specs.declared.answer.Refusal.TheVariants.{Unsupported}
-use Rattle.pw_top.specs.declared.answer.Feature.{Feature}
-use Rattle.pw_top.specs.declared.answer.Feature.TheVariants.{NotYet}
+use Rattle.pw_token.specs.declared.token.Feature.{Feature}
+use Rattle.pw_token.specs.declared.token.Feature.TheVariants as feature
+use Rattle.pw_token.specs.declared.token.LexFault.{LexFault}
+use Rattle.pw_token.specs.declared.token.LexFault.TheVariants as lex
+use Rattle.pw_parse.specs.declared.parser.ParseFault.{ParseFault}
+use Rattle.pw_parse.specs.declared.parser.ParseFault.TheVariants as parse
+use Rattle.pw_front.specs.declared.refusal.Refusal.{Refusal}
+use Rattle.pw_front.specs.declared.refusal.Refusal.TheVariants.{Lex, Unsupported, Parse}
 use Rattle.pw_value.specs.declared.fault.LinkFault.{LinkFault}
 use Rattle.pw_value.specs.declared.fault.LinkFault.TheVariants as link
 use Rattle.pw_value.specs.declared.fault.What.{What}
@@ -34,10 +38,34 @@ abbrev pub newline : List ℕ
 newline = codes "\n"
 
 abbrev pub feature_name : Feature → List ℕ
-feature_name NotYet = codes "NotYet"
+feature_name feature.Float = codes "Float"
+feature_name feature.Wide = codes "Wide"
+feature_name feature.Variadic = codes "Variadic"
+feature_name feature.Directive = codes "Directive"
+feature_name feature.Goto = codes "Goto"
+feature_name feature.BitField = codes "BitField"
+feature_name feature.OldStyle = codes "OldStyle"
+feature_name feature.StructByValue = codes "StructByValue"
+feature_name feature.PointerCast = codes "PointerCast"
+feature_name feature.NotYet = codes "NotYet"
 
--- which feature, and at which token
+-- why a text has no tokens, and at which byte, counted from 0; want of memory refuses no text
+abbrev pub lex_text : LexFault → List ℕ
+lex_text (lex.Bad at) = codes "Bad at byte " ++ decimal at
+lex_text (lex.TooMany at) = codes "TooMany at byte " ++ decimal at
+lex_text lex.TooLong = codes "TooLong"
+lex_text lex.NoMemory = codes "NoMemory"
+
+-- why tokens have no syntax tree, and at which token, counted from 1; want of memory refuses none
+abbrev pub parse_text : ParseFault → List ℕ
+parse_text (parse.TooDeep token) = codes "TooDeep at token " ++ decimal token
+parse_text (parse.Syntax token) = codes "Syntax at token " ++ decimal token
+parse_text parse.NoMemory = codes "NoMemory"
+
+-- or which feature, and at which token
 abbrev pub refusal_text : Refusal → List ℕ
+refusal_text (Lex fault) = lex_text fault
+refusal_text (Parse fault) = parse_text fault
 refusal_text (Unsupported token feature) = codes "Unsupported " ++ feature_name feature ++ codes " at token " ++ decimal token
 
 abbrev pub what_name : What → List ℕ
@@ -65,8 +93,7 @@ halt_name TextWrite = codes "TextWrite"
 halt_name BadBranch = codes "BadBranch"
 halt_name BadBreak = codes "BadBreak"
 
--- The line of an answer, where a refused module's first token stands on this line of its text. A run that
--- ended has none.
+-- The line of an answer, where a refused module is refused on this line of its text. A run that ended has none.
 abbrev pub line_text : ℕ → Answer → List ℕ
 line_text line (Ended status) = []
 line_text line Usage = codes "usage" ++ newline

@@ -9,3 +9,4 @@ pub mod Agreement
 pub mod Answers
 pub mod Lines
 pub mod TopCall
+pub mod Refusals

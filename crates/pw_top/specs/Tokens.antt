@@ -1,5 +1,5 @@
 -- The tokens of a text: each longest run of letters, digits and underscores, and each other byte that is no blank.
-use Rattle.std.specs.Prelude.{ℕ, ◌+◌, Bool, false, ◌==◌, ◌&&◌, ◌||◌, nat_le, if◌then◌else◌, List, [], ◌∷◌, count_by, take_while}
+use Rattle.std.specs.Prelude.{ℕ, Bool, false, ◌==◌, ◌&&◌, ◌||◌, nat_le, if◌then◌else◌, List, [], ◌∷◌}
 
 -- space, tab, newline, vertical tab, form feed, carriage return (C90 5.2.1)
 abbrev pub is_blank : ℕ → Bool
@@ -25,7 +25,3 @@ tokens (byte ∷ bytes) =
     if is_blank byte then tokens bytes
     else if is_word_byte byte && begins_with_word bytes then lengthened byte (tokens bytes)
     else (byte ∷ []) ∷ tokens bytes
-
--- the line on which the first token stands, or the text's end where it has none: 1 and the newlines before it
-abbrev pub first_line : List ℕ → ℕ
-first_line text = 1 + count_by (λ byte. byte == 10) (take_while is_blank text)

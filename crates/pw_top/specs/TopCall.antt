@@ -180,7 +180,7 @@ abbrev pub Tells : List ℕ → Option (List ℕ) → Option (List ℕ) → ℕ 
 Tells line old new before now =
     IfSome new (λ after. IsSomeAnd old (λ first. (told : List ℕ) × (more : List ℕ) × (line ≡ told ++ more) × (after ≡ first ++ told) × ((more ≡ []) ⊎ Rose before now)))
 
--- where a refused module's first token stands
+-- the line on which a module is refused
 abbrev pub refused_line : Build → ℕ
 refused_line (build.Program numbers) = 1
 refused_line (build.Refused name refusal line) = line
@@ -199,10 +199,17 @@ BuiltAgrees (build.Program numbers) =
 BuiltAgrees (build.Refused name refusal line) = Unit {0}
 BuiltAgrees (build.LinkRefused fault) = Unit {0}
 
--- What is told of an answer that names no module, whatever the store tells.
-abbrev pub TellsUnnamed : Answer → Option (List ℕ) → Option (List ℕ) → ℕ → ℕ → Type 0
-TellsUnnamed (Refused name refusal) old new before now = Unit {0}
-TellsUnnamed answer old new before now = Tells (line_text 1 answer) old new before now
+-- What is told of an answer, whatever the store tells: its line, with some number where a module is refused.
+abbrev pub TellsSome : Answer → Option (List ℕ) → Option (List ℕ) → ℕ → ℕ → Type 0
+TellsSome answer old new before now = (line : ℕ) × Tells (line_text line answer) old new before now
+
+-- A refusal, a fault of the store and a wrong command line leave what the input and the output tell as it was.
+abbrev pub LeavesStreams : Answer → (input input' output output' : Option (List ℕ)) → Type 0
+LeavesStreams Usage input input' output output' = (input' ≡ input) × (output' ≡ output)
+LeavesStreams (Refused name refusal) input input' output output' = (input' ≡ input) × (output' ≡ output)
+LeavesStreams (LinkRefused fault) input input' output output' = (input' ≡ input) × (output' ≡ output)
+LeavesStreams StoreFault input input' output output' = (input' ≡ input) × (output' ≡ output)
+LeavesStreams _ input input' output output' = Unit {0}
 
 -- ---- inside the call
 
@@ -212,7 +219,7 @@ IsObeyed Usage = ⊥
 IsObeyed StoreFault = ⊥
 IsObeyed _ = Unit {0}
 
--- the line of a refused module's first token
+-- the line on which a module is refused, where the answer names one
 abbrev pub IsLineOf : Build → Answer → ℕ → Type 0
 IsLineOf built (Refused name refusal) line = line ≡ refused_line built
 IsLineOf built _ line = Unit {0}

@@ -3,22 +3,9 @@
 ghost use Rattle.std.specs.Prelude.{◌≡◌};
 ghost use Rattle.pw_top.specs.Answers.{status_of};
 
+use pw_front::Refusal;
 use pw_machine::Halt;
 use pw_value::{LinkFault, Name, Word};
-
-/// Why a module was refused.
-#[derive(Debug, Drop)]
-pub enum Refusal {
-    /// The token of this number, from 1, is the first of something that is not compiled.
-    Unsupported(usize, Feature),
-}
-
-/// What is not compiled.
-#[derive(Clone, Copy, PartialEq, Eq, Debug)]
-pub enum Feature {
-    /// A program of another form than `int main(void){return SUM;}`.
-    NotYet,
-}
 
 /// What a call of the program answers.
 #[derive(Debug, Drop)]

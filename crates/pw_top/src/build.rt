@@ -5,14 +5,16 @@ ghost use Rattle.std.specs.Option.{option_map};
 ghost use Rattle.pw_io.specs.Files.{Keeps};
 ghost use Rattle.pw_io.specs.Faults.{HasStoreCause};
 ghost use Rattle.pw_top.specs.Modules.{IsModuleFile, source_of, sources_of};
-ghost use Rattle.pw_top.specs.FullBuild.{build_of_sources, full_build, refused_source};
+ghost use Rattle.pw_top.specs.FullBuild.{build_of_sources, by_numbers, full_build, not_yet, refused_source};
+ghost use Rattle.pw_top.specs.Refusals.{IsProper};
+ghost use Rattle.pw_top.specs.SumProgram.{numbers_in};
 ghost use Rattle.pw_top.specs.BuildViews.{source, build_view};
 
-use crate::answer::{Feature, Refusal};
 use crate::form::{Sum, sum_in};
 use crate::modules::{Module, TEXT_READ, module_files, stem};
-use crate::tokens::first_line;
+use pw_front::{FrontError, Refusal, front, front_is_exact, refusal_line};
 use pw_io::{Store, StoreError};
+use pw_token::Feature;
 use pw_value::{LinkFault, Name, NameError};
 use std::alloc::{AllocError, Global};
 
@@ -21,35 +23,52 @@ use std::alloc::{AllocError, Global};
 pub enum Built {
     /// The program returns this sum.
     Program(Sum),
-    /// A module is refused; its first token stands on this line.
+    /// A module is refused, on this line.
     Refused(Name, Refusal, usize),
     /// The modules are refused together.
     LinkRefused(LinkFault),
 }
 
-/// The refusal of a module at its first token.
-fn refused(alloc: Global, which: &Module) -> Result<Built, AllocError>
-    ensures { IfOk result (λ built. build_view built ≡ refused_source (source which.now)) }
+/// The refusal of a module.
+fn refused(alloc: Global, which: &Module, refusal: Refusal) -> Result<Built, AllocError>
+    ensures { IfOk result (λ built. build_view built ≡ refused_source (source which.now) refusal) }
 {
-    Ok(Built::Refused(
-        which.name.copy(alloc)?,
-        Refusal::Unsupported(1, Feature::NotYet),
-        first_line(which.text.as_slice()),
-    ))
+    let line = refusal_line(alloc, which.text.as_slice(), &refusal)?;
+    Ok(Built::Refused(which.name.copy(alloc)?, refusal, line))
 }
 
-/// What the modules come to: the first has to be of the form, and alone.
-fn build_of(alloc: Global, modules: &[Module]) -> Result<Built, AllocError>
-    ensures { IfOk result (λ built. build_view built ≡ build_of_sources (map source modules.now)) }
+/// The refusal of a module that is not compiled so far, at its first token.
+fn refused_so_far(alloc: Global, which: &Module) -> Result<Built, AllocError>
+    ensures { IfOk result (λ built. build_view built ≡ refused_source (source which.now) not_yet) }
 {
+    refused(alloc, which, Refusal::Unsupported(1, Feature::NotYet))
+}
+
+/// What the modules come to where the first passes the front: it has to be of the form, and alone.
+fn build_passed(alloc: Global, first: &Module, others: &[Module]) -> Result<Built, AllocError>
+    ensures { IfOk result (λ built. build_view built ≡ by_numbers (source first.now) (numbers_in first.now.text.items) (map source others.now)) }
+{
+    match sum_in(alloc, first.text.as_slice())? {
+        None => refused_so_far(alloc, first),
+        Some(sum) => match others {
+            [] => Ok(Built::Program(sum)),
+            [second, ..] => refused_so_far(alloc, second),
+        },
+    }
+}
+
+/// What the modules come to: the first has to pass the front, to be of the form, and alone.
+fn build_of(alloc: Global, modules: &[Module]) -> Result<Built, AllocError>
+    ensures built { IfOk result (λ built. build_view built ≡ build_of_sources (map source modules.now)) }
+    ensures proper { IfOk result (λ built. IsProper (build_view built)) }
+{
+    front_is_exact();
     match modules {
         [] => Ok(Built::LinkRefused(LinkFault::NoMain)),
-        [first, others @ ..] => match sum_in(alloc, first.text.as_slice())? {
-            None => refused(alloc, first),
-            Some(sum) => match others {
-                [] => Ok(Built::Program(sum)),
-                [second, ..] => refused(alloc, second),
-            },
+        [first, others @ ..] => match front(alloc, first.text.as_slice()) {
+            Ok(_) => build_passed(alloc, first, others),
+            Err(FrontError::Refused(refusal)) => refused(alloc, first, refusal),
+            Err(FrontError::NoMemory) => Err(AllocError),
         },
     }
 }
@@ -118,6 +137,7 @@ fn read_sources<S: Store>(
 /// What the files of a store come to. The store stays as it is.
 pub fn build<S: Store>(alloc: Global, store: &mut S) -> Result<Built, StoreError>
     ensures built { IfSome (S.told store.old) (λ told. IfOk result (λ built. build_view built ≡ full_build told.files)) }
+    ensures proper { IfOk result (λ built. IsProper (build_view built)) }
     ensures same { Keeps (S.told store.old) (S.told store.new) }
     ensures cause { HasStoreCause (S.faults store.old) (S.faults store.new) result }
 {
@@ -136,6 +156,7 @@ fn build_files<S: Store>(
 ) -> Result<Built, StoreError>
     requires { All (λ file. IsModuleFile (string_bytes file)) files.now }
     ensures built { IfSome (S.told store.old) (λ told. IfOk result (λ built. build_view built ≡ build_of_sources (sources_of told.files (map string_bytes files.now)))) }
+    ensures proper { IfOk result (λ built. IsProper (build_view built)) }
     ensures same { Keeps (S.told store.old) (S.told store.new) }
     ensures cause { HasStoreCause (S.faults store.old) (S.faults store.new) result }
 {

@@ -11,7 +11,7 @@ mod run;
 mod tokens;
 mod top;
 
-pub use answer::{Answer, Feature, Refusal, status};
+pub use answer::{Answer, status};
 pub use code::words_agree;
 pub use form::form_is_exact;
 pub use top::pawc_top;

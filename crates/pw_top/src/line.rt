@@ -2,11 +2,14 @@
 
 ghost use Rattle.std.specs.Prelude.{◌≡◌, IfOk, OnOk, OnErr, ◌++◌, ◌<◌, ◌^◌, codes};
 ghost use Rattle.std.specs.Fmt.{decimal};
-ghost use Rattle.pw_top.specs.Answers.{feature_name, what_name, halt_name, link_text, refusal_text, line_text, NeedsMemory};
+ghost use Rattle.pw_top.specs.Answers.{feature_name, what_name, halt_name, lex_text, link_text, parse_text, refusal_text, line_text, NeedsMemory};
 ghost use Rattle.pw_top.specs.Lines.{line_bytes};
 
-use crate::answer::{Answer, Feature, Refusal};
+use crate::answer::Answer;
+use pw_front::Refusal;
 use pw_machine::Halt;
+use pw_parse::ParseFault;
+use pw_token::{Feature, LexFault};
 use pw_value::{LinkFault, Name, What, Word};
 use std::alloc::{AllocError, Global};
 
@@ -14,6 +17,15 @@ fn feature_name(feature: Feature) -> &'static [u8]
     ensures { result.now ≡ feature_name feature }
 {
     match feature {
+        Feature::Float => b"Float",
+        Feature::Wide => b"Wide",
+        Feature::Variadic => b"Variadic",
+        Feature::Directive => b"Directive",
+        Feature::Goto => b"Goto",
+        Feature::BitField => b"BitField",
+        Feature::OldStyle => b"OldStyle",
+        Feature::StructByValue => b"StructByValue",
+        Feature::PointerCast => b"PointerCast",
         Feature::NotYet => b"NotYet",
     }
 }
@@ -51,6 +63,20 @@ fn push_decimal(alloc: Global, text: &mut Vec<u8>, number: u64) -> Result<(), Al
     Ok(())
 }
 
+/// Puts a number behind a text, in decimal, behind what it counts.
+fn push_numbered(
+    alloc: Global,
+    text: &mut Vec<u8>,
+    what: &[u8],
+    number: usize,
+) -> Result<(), AllocError>
+    ensures { OnOk result (text.new.items ≡ text.old.items ++ what.now ++ decimal number) }
+{
+    text.extend_from_slice(what)?;
+    push_decimal(alloc, text, number as u64)?;
+    Ok(())
+}
+
 /// Puts behind a text what is not compiled, and at which token.
 fn push_unsupported(
     alloc: Global,
@@ -67,11 +93,51 @@ fn push_unsupported(
     Ok(())
 }
 
+/// Puts behind a text why a text has no tokens.
+fn push_lex_fault(alloc: Global, text: &mut Vec<u8>, fault: LexFault) -> Result<(), AllocError>
+    ensures { OnOk result (text.new.items ≡ text.old.items ++ lex_text fault) }
+{
+    match fault {
+        LexFault::Bad { at } => {
+            push_numbered(alloc, text, b"Bad at byte ", at)?;
+            Ok(())
+        }
+        LexFault::TooMany { at } => {
+            push_numbered(alloc, text, b"TooMany at byte ", at)?;
+            Ok(())
+        }
+        LexFault::TooLong => {
+            text.extend_from_slice(b"TooLong")?;
+            Ok(())
+        }
+        LexFault::NoMemory => {
+            text.extend_from_slice(b"NoMemory")?;
+            Ok(())
+        }
+    }
+}
+
+/// Puts behind a text why its tokens have no syntax tree.
+fn push_parse_fault(alloc: Global, text: &mut Vec<u8>, fault: ParseFault) -> Result<(), AllocError>
+    ensures { OnOk result (text.new.items ≡ text.old.items ++ parse_text fault) }
+{
+    match fault {
+        ParseFault::TooDeep { token } => push_numbered(alloc, text, b"TooDeep at token ", token),
+        ParseFault::Syntax { token } => push_numbered(alloc, text, b"Syntax at token ", token),
+        ParseFault::NoMemory => {
+            text.extend_from_slice(b"NoMemory")?;
+            Ok(())
+        }
+    }
+}
+
 fn push_refusal(alloc: Global, text: &mut Vec<u8>, refusal: &Refusal) -> Result<(), AllocError>
     ensures { OnOk result (text.new.items ≡ text.old.items ++ refusal_text refusal.now) }
 {
     match refusal {
+        Refusal::Lex(fault) => push_lex_fault(alloc, text, *fault),
         Refusal::Unsupported(token, feature) => push_unsupported(alloc, text, *token, *feature),
+        Refusal::Parse(fault) => push_parse_fault(alloc, text, *fault),
     }
 }
 
@@ -125,7 +191,7 @@ fn link_text(alloc: Global, fault: &LinkFault) -> Result<Vec<u8>, AllocError>
     Ok(text)
 }
 
-/// The line of a module that is refused, where its first token stands on line `line` of its text.
+/// The line of a module that is refused on line `line` of its text.
 fn refused_line(
     alloc: Global,
     name: &Name,
@@ -175,8 +241,8 @@ pub enum Line {
     Made(Vec<u8>),
 }
 
-/// The line of an answer, where a refused module's first token stands on line `line` of its text. Only the answers
-/// that name something need memory.
+/// The line of an answer, where a refused module is refused on line `line` of its text. Only the answers that name
+/// something need memory.
 pub fn line_of(alloc: Global, answer: &Answer, line: usize) -> Result<Line, AllocError>
     ensures text { IfOk result (λ made. line_bytes made ≡ line_text line answer.now) }
     ensures memory { OnErr result (NeedsMemory answer.now) }

@@ -1,8 +1,8 @@
 //! The tokens of a text, one after another.
 
-ghost use Rattle.std.specs.Prelude.{◌≡◌, MatchOption, [], ◌∷◌, ◌≤◌, ◌<◌, ◌^◌, length, drop};
+ghost use Rattle.std.specs.Prelude.{◌≡◌, MatchOption, [], ◌∷◌, ◌≤◌, length, drop};
 ghost use Rattle.std.specs.List.{prefix_len};
-ghost use Rattle.pw_top.specs.Tokens.{is_blank, is_word_byte, tokens, first_line};
+ghost use Rattle.pw_top.specs.Tokens.{is_blank, is_word_byte, tokens};
 
 /// Whether a byte separates tokens and is none.
 fn is_blank(byte: u8) -> bool
@@ -31,15 +31,6 @@ fn after_blanks(text: &[u8]) -> &[u8]
     ensures { result.now ≡ drop (prefix_len is_blank text.now) text.now }
 {
     text.split_at(blank_length(text)).1
-}
-
-/// The line on which a text's first token stands, from 1; the last line where the text has no token.
-pub fn first_line(text: &[u8]) -> usize
-    requires { length text.now < 2 ^ 63 }
-    ensures { result ≡ first_line text.now }
-{
-    let blanks = text.split_at(blank_length(text)).0;
-    1 + blanks.iter().filter(|byte| **byte == b'\n').count()
 }
 
 /// How many bytes of words stand at the front of a text.

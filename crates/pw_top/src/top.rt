@@ -3,10 +3,11 @@
 ghost use Rattle.std.specs.Prelude.{◌≡◌, ◌↔◌, false, IfOk, IfSome, map, string_bytes};
 ghost use Rattle.std.specs.Str.{bytes_eq};
 ghost use Rattle.pw_io.specs.Files.{Keeps};
-ghost use Rattle.pw_top.specs.FullBuild.{full_build};
+ghost use Rattle.pw_top.specs.FullBuild.{full_build, modules_of};
+ghost use Rattle.pw_top.specs.Refusals.{HoldsNoWantOfMemory, IsProper, RefusalComes, RefusalIs};
 ghost use Rattle.pw_top.specs.BuildViews.{build_view};
 ghost use Rattle.pw_top.specs.Answers.{line_text};
-ghost use Rattle.pw_top.specs.TopCall.{is_go, run_answer, run_output, run_built, run_rest, build_answer, build_output, build_rest, wanted_rest, LeavesInput, AnswersBuild, IsRunAnswer, IsObeyed, IsLineOf, wanted_answer, wanted_output, Answers, IsNoRefusal, Refuses, PutsOut, StoreCount, InputCount, OutputCount, Tells, ToldAs, BuiltAgrees, TellsUnnamed, refused_line};
+ghost use Rattle.pw_top.specs.TopCall.{is_go, run_answer, run_output, run_built, run_rest, build_answer, build_output, build_rest, wanted_rest, LeavesInput, AnswersBuild, IsRunAnswer, IsObeyed, IsLineOf, wanted_answer, wanted_output, Answers, IsNoRefusal, Refuses, PutsOut, StoreCount, InputCount, OutputCount, Tells, ToldAs, BuiltAgrees, LeavesStreams, TellsSome, refused_line};
 
 use crate::answer::Answer;
 use crate::build::{Built, build};
@@ -14,6 +15,7 @@ use crate::code::{words_agree, words_of};
 use crate::form::Sum;
 use crate::line::{Line, line_of};
 use crate::run::run_words;
+use pw_front::front_is_exact;
 use pw_io::{Sink, Source, Store, StoreError};
 use std::alloc::{AllocError, Global};
 
@@ -27,7 +29,7 @@ fn is_go(words: &[String]) -> bool
     }
 }
 
-/// What came of the words, and the line on which a refused module's first token stands.
+/// What came of the words, and the line on which a refused module is refused.
 #[derive(Drop)]
 struct Reply {
     answer: Answer,
@@ -56,6 +58,8 @@ fn answer_built<I: Source, O: Sink>(
     ensures write { OutputCount (O.faults out.old) (O.faults out.new) result.answer }
     ensures line { IsLineOf (build_view built) result.answer result.line }
     ensures obeyed { IsObeyed result.answer }
+    ensures streams { LeavesStreams result.answer (I.rest input.old) (I.rest input.new) (O.taken out.old) (O.taken out.new) }
+    ensures proper { IsProper (build_view built) → HoldsNoWantOfMemory result.answer }
 {
     match built {
         Built::Program(sum) => Reply {
@@ -106,6 +110,8 @@ fn obey<S: Store, I: Source, O: Sink>(
     ensures read { InputCount (I.faults input.old) (I.faults input.new) result.answer }
     ensures write { OutputCount (O.faults out.old) (O.faults out.new) result.answer }
     ensures line { IfSome (S.told store.old) (λ told. IsLineOf (full_build told.files) result.answer result.line) }
+    ensures streams { LeavesStreams result.answer (I.rest input.old) (I.rest input.new) (O.taken out.old) (O.taken out.new) }
+    ensures proper { HoldsNoWantOfMemory result.answer }
 {
     if !is_go(words) {
         return Reply {
@@ -163,6 +169,9 @@ pub fn pawc_top<S: Store, I: Source, O: Sink, E: Sink>(
 
     // the answer and the output
     ensures runs_image { IfSome (S.told store.old) (λ told. IfSome (I.rest input.old) (λ rest. Answers (wanted_answer (map string_bytes words.now) (full_build told.files) rest) result)) }
+    ensures refusal_is { IfSome (S.told store.old) (λ told. RefusalIs (modules_of told.files) result) }
+    ensures refusal_comes { IfSome (S.told store.old) (λ told. RefusalComes (map string_bytes words.now) (modules_of told.files) result) }
+    ensures no_want_refused { HoldsNoWantOfMemory result }
     ensures refuses { IfSome (S.told store.old) (λ told. Refuses (map string_bytes words.now) (full_build told.files) result) }
     ensures output_prefix { IfSome (S.told store.old) (λ told. IfSome (I.rest input.old) (λ rest. PutsOut (wanted_output (map string_bytes words.now) (full_build told.files) rest) result (O.taken out.old) (O.taken out.new))) }
     ensures input_after { IfSome (S.told store.old) (λ told. IfSome (I.rest input.old) (λ rest. LeavesInput (wanted_rest (map string_bytes words.now) (full_build told.files) rest) rest result (I.rest input.new))) }
@@ -171,6 +180,7 @@ pub fn pawc_top<S: Store, I: Source, O: Sink, E: Sink>(
     ensures agrees { IfSome (S.told store.old) (λ told. BuiltAgrees (full_build told.files)) }
 
     // what stays
+    ensures streams_left { LeavesStreams result (I.rest input.old) (I.rest input.new) (O.taken out.old) (O.taken out.new) }
     ensures store_after { Keeps (S.told store.old) (S.told store.new) }
 
     // faults
@@ -180,9 +190,10 @@ pub fn pawc_top<S: Store, I: Source, O: Sink, E: Sink>(
 
     // the line
     ensures line { IfSome (S.told store.old) (λ told. Tells (line_text (refused_line (full_build told.files)) result) (E.taken err.old) (E.taken err.new) (E.faults err.old) (E.faults err.new)) }
-    ensures unnamed_line { TellsUnnamed result (E.taken err.old) (E.taken err.new) (E.faults err.old) (E.faults err.new) }
+    ensures some_line { TellsSome result (E.taken err.old) (E.taken err.new) (E.faults err.old) (E.faults err.new) }
 {
     words_agree();
+    front_is_exact();
     let reply = obey(alloc, words, store, input, out);
     tell(alloc, reply, err)
 }

@@ -4,6 +4,7 @@ use Rattle.std.proofs.lemmas.Option.{IfSome_then}
 use Rattle.pw_top.specs.FullBuild.{full_build}
 use Rattle.pw_top.proofs.TopLemmas.{told_leaves}
 use Rattle.pw_top.proofs.BuiltLemmas.{built_agrees}
+use Rattle.pw_top.proofs.RefusalLemmas.{told_refusal, told_comes, told_proper}
 use Rattle.pw_top.proofs.top.pawc_top.Goals as goal
 
 pub returns-clause-agrees : goal.returns-clause-agrees
@@ -14,3 +15,17 @@ returns-clause-input_after g c =
     IfSome_then (g.S.Store.told c.args.store.now) c.obey-reply.ensures.rest
     (λ told h. IfSome_then (g.I.Source.rest c.args.input.now) h
     (λ rest left. told_leaves (map string_bytes c.args.words.now) (full_build told.files) rest _ c.obey-reply.result.answer c.tell.result c.tell.ensures.answer left))
+
+pub returns-clause-refusal_is : goal.returns-clause-refusal_is
+returns-clause-refusal_is g c =
+    told_refusal c.front_is_exact.ensures.exact (map string_bytes c.args.words.now) (g.S.Store.told c.args.store.now) c.obey-reply.result.answer c.tell.result c.tell.ensures.answer c.obey-reply.ensures.refusal
+
+pub returns-clause-refusal_comes : goal.returns-clause-refusal_comes
+returns-clause-refusal_comes g c =
+    told_comes c.front_is_exact.ensures.exact (map string_bytes c.args.words.now) (g.S.Store.told c.args.store.now) c.obey-reply.result.answer c.tell.result c.tell.ensures.answer c.obey-reply.ensures.refusal
+
+pub returns-clause-no_want_refused : goal.returns-clause-no_want_refused
+returns-clause-no_want_refused g c = told_proper c.obey-reply.result.answer c.tell.result c.tell.ensures.answer c.obey-reply.ensures.proper
+
+pub returns-clause-some_line : goal.returns-clause-some_line
+returns-clause-some_line g c = (c.obey-reply.result.line, c.tell.ensures.line)
