@@ -1,19 +1,19 @@
 -- The summary of a lawful flow graph is a lawful summary.
-use Rattle.std.proofs.Common.{◌≡◌, ◌≢◌, ◌↔◌, ℕ, zero, suc, ◌+◌, ◌<◌, ◌≤◌, ◌^◌, Bool, true, false, cond, List, [], ◌∷◌, ◌++◌, length, map, refl, sym, ap, subst, ◌∙◌, arith, inl, inr}
+use Rattle.std.proofs.Common.{◌≡◌, ℕ, zero, suc, ◌+◌, ◌<◌, ◌≤◌, ◌^◌, Bool, true, false, cond, List, [], ◌∷◌, length, map, refl, sym, ap, subst, ◌∙◌, arith, inl, inr}
 use Rattle.std.specs.Prelude.{Contains, Option, Some, None, min}
 use Rattle.std.specs.List.{AllByRecursion, flat_map}
 use Rattle.std.specs.Str.{bytes_eq}
 use Rattle.std.proofs.lemmas.Slice.Eq.{bytes_eq-Decides}
 use Rattle.std.proofs.lemmas.List.{map-id}
 use Rattle.std.proofs.lemmas.List.Sums.{sum_by-cons}
-use Rattle.pw_flow.specs.FlowGraph.{OpValue, AddrGlobal, AddrFn, LoadG, StoreG, Call, FunctionValue, BlockValue, ModuleValue, op_names, names_in_block, names_in_function, names_in_global, named_in, global_names, function_names}
+use Rattle.pw_flow.specs.FlowGraph.{OpValue, AddrGlobal, AddrFn, Call, FunctionValue, BlockValue, ModuleValue, op_names, names_in_block, names_in_function, names_in_global, named_in, global_names, function_names}
 use Rattle.pw_flow.specs.ValidFlow.{IsValid, IsOrdinary}
 use Rattle.pw_files.specs.Rising.{IsRising, IsRisingBehind}
 use Rattle.pw_files.specs.Start.{start, main, times, KeepsStart}
 use Rattle.pw_files.proofs.StartLaws.{stands_by_times}
 use Rattle.pw_summary.specs.Summary.{UsesValue, SummaryValue, IsUses, IsSummary, global_names as names_of_globals, function_names as names_of_functions}
-use Rattle.pw_summarise.specs.Summarises.{IsOrdered, called, called_shape, referenced, addressed, in_function, in_module, most, reference, function_shape, as_taken, taken_of, global_entry, function_entry, function_entries, IsUsesOf, AreUsesOf, Summarises}
-use Rattle.pw_files.proofs.Standing.{Has, contains_by, has_by, has_each, each_by, has_left, has_right, has_split, has_map, has_map_back, has_flat, has_flat_back}
+use Rattle.pw_summarise.specs.Summarises.{called, referenced, addressed, in_function, in_module, most, reference, function_shape, as_taken, taken_of, global_entry, function_entry, function_entries, IsUsesOf, AreUsesOf, Summarises}
+use Rattle.pw_files.proofs.Standing.{Has, contains_by, has_by, has_each, each_by, has_left, has_right, has_split, has_map_back, has_flat, has_flat_back}
 use Rattle.pw_files.proofs.Views.{seen}
 use Rattle.pw_files.proofs.ByteOrder.{not_behind}
 use Rattle.pw_summarise.proofs.Orders.{keys_over, keys_back}

@@ -1,13 +1,12 @@
 -- A lawful flow graph has at most one summary.
 use Rattle.std.proofs.Common.{◌≡◌, ℕ, Bool, List, [], ◌∷◌, ◌++◌, map, refl, sym, ap, subst, ◌∙◌, inl, inr}
-use Rattle.std.specs.Prelude.{Contains, Option}
-use Rattle.std.specs.List.{AllByRecursion}
+use Rattle.std.specs.Prelude.{Option}
 use Rattle.pw_value.specs.declared.value.Kind.{Kind}
 use Rattle.pw_flow.specs.FlowGraph.{FunctionValue, ModuleValue, named_in, global_names, function_names}
 use Rattle.pw_flow.specs.ValidFlow.{AreDistinct, IsValid}
 use Rattle.pw_flow.proofs.Lists.{all_left}
 use Rattle.pw_summary.specs.Summary.{UsesValue, SummaryValue}
-use Rattle.pw_summarise.specs.Summarises.{IsOrdered, called, called_shape, referenced, addressed, in_function, in_module, reference, taken_of, escaped_of, global_entry, function_entry, function_entries, IsUsesOf, AreUsesOf, Summarises}
+use Rattle.pw_summarise.specs.Summarises.{called, called_shape, referenced, addressed, in_function, in_module, reference, taken_of, escaped_of, global_entry, function_entries, IsUsesOf, AreUsesOf, Summarises}
 use Rattle.pw_files.proofs.Standing.{Has, has_by, has_each, has_map}
 use Rattle.pw_summarise.proofs.Orders.{one_ordered}
 

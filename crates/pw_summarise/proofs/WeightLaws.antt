@@ -10,7 +10,7 @@ use Rattle.pw_value.specs.declared.value.Kind.{Kind}
 use Rattle.pw_flow.specs.declared.flow.Op.{Op}
 use Rattle.pw_flow.specs.declared.flow.Op.TheVariants as variant
 use Rattle.pw_flow.specs.FlowGraph.{OpValue, LoadG, StoreG, BlockValue, FunctionValue, op_view}
-use Rattle.pw_summarise.specs.Summarises.{most, weight, is_read, is_write, weighted, reference}
+use Rattle.pw_summarise.specs.Summarises.{most, weight, is_read, is_write, reference}
 use Rattle.pw_summarise.specs.Tallies.{with_weight, with_op, with_ops, with_blocks, none_yet}
 
 -- a global whose reads and writes come to these so far

@@ -1,9 +1,9 @@
 -- What a summary says of a module's flow graph.
-use Rattle.std.specs.Prelude.{ℕ, ◌≡◌, ◌*◌, ◌^◌, ◌↔◌, ◌==◌, Bool, true, false, if◌then◌else◌, Option, Some, None, List, [], ◌∷◌, ◌++◌, map, min, count_by, Contains}
+use Rattle.std.specs.Prelude.{ℕ, ◌≡◌, ◌*◌, ◌^◌, ◌↔◌, ◌==◌, Bool, false, if◌then◌else◌, Option, Some, None, List, [], ◌∷◌, ◌++◌, map, min, count_by, Contains}
 use Rattle.std.specs.List.{flat_map, sum_by}
 use Rattle.std.specs.Str.{bytes_eq}
 use Rattle.pw_value.specs.declared.value.Kind.{Kind}
-use Rattle.pw_flow.specs.FlowGraph.{GlobalValue, OpValue, AddrGlobal, AddrFn, LoadG, StoreG, Call, CallInd, BlockValue, FunctionValue, ModuleValue, names_in_global, named_in}
+use Rattle.pw_flow.specs.FlowGraph.{GlobalValue, OpValue, AddrGlobal, AddrFn, LoadG, StoreG, Call, CallInd, FunctionValue, ModuleValue, names_in_global, named_in}
 use Rattle.pw_files.specs.Rising.{IsRising}
 use Rattle.pw_summary.specs.Summary.{UsesValue, SummaryValue}
 
