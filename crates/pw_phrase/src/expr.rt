@@ -160,9 +160,8 @@ impl<
         ensures { Reads view_expr (spec.parenthesized (parts self.now.depth) tokens.old) result tokens.new }
     {
         let token = tokens.take_number();
-        let inner = self.expr(tokens, COMMA)?;
+        let inner = Box::new(self.alloc, self.expr(tokens, COMMA)?)?;
         tokens.expect(Mark::CloseParen)?;
-        let inner = Box::new(self.alloc, inner)?;
         Ok(Expr::Paren { token, inner })
     }
 
@@ -367,10 +366,8 @@ impl<
         ensures { Reads view_expr (spec.cast_to (parts self.now.depth) tokens.old) result tokens.new }
     {
         let token = tokens.here();
-        let named = self.enclosed_type_name(tokens)?;
-        let operand = self.expr(tokens, CAST)?;
-        let named = Box::new(self.alloc, named)?;
-        let operand = Box::new(self.alloc, operand)?;
+        let named = Box::new(self.alloc, self.enclosed_type_name(tokens)?)?;
+        let operand = Box::new(self.alloc, self.expr(tokens, CAST)?)?;
         Ok(Expr::Cast {
             token,
             named,
@@ -429,13 +426,11 @@ impl<
         requires { Nests self.now.depth (E.pre self.now.expr) (E.post self.now.expr) (S.pre self.now.specifiers) (S.post self.now.specifiers) (D.pre self.now.declarator) (D.post self.now.declarator) }
         ensures { Reads view_expr (spec.conditional_behind (parts self.now.depth) (view_expr condition) tokens.old) result tokens.new }
     {
-        let token = tokens.take_number();
-        let chosen = self.expr(tokens, COMMA)?;
-        tokens.expect(Mark::Colon)?;
-        let otherwise = self.expr(tokens, CONDITIONAL)?;
         let condition = Box::new(self.alloc, condition)?;
-        let chosen = Box::new(self.alloc, chosen)?;
-        let otherwise = Box::new(self.alloc, otherwise)?;
+        let token = tokens.take_number();
+        let chosen = Box::new(self.alloc, self.expr(tokens, COMMA)?)?;
+        tokens.expect(Mark::Colon)?;
+        let otherwise = Box::new(self.alloc, self.expr(tokens, CONDITIONAL)?)?;
         Ok(Expr::Conditional {
             token,
             condition,
@@ -467,10 +462,9 @@ impl<
         requires { Nests self.now.depth (E.pre self.now.expr) (E.post self.now.expr) (S.pre self.now.specifiers) (S.post self.now.specifiers) (D.pre self.now.declarator) (D.post self.now.declarator) }
         ensures { Reads view_expr (spec.assigned (parts self.now.depth) (view_expr left) operator tokens.old) result tokens.new }
     {
-        let token = tokens.take_number();
-        let right = self.expr(tokens, ASSIGNMENT)?;
         let left = Box::new(self.alloc, left)?;
-        let right = Box::new(self.alloc, right)?;
+        let token = tokens.take_number();
+        let right = Box::new(self.alloc, self.expr(tokens, ASSIGNMENT)?)?;
         Ok(Expr::Assign {
             token,
             operator,
