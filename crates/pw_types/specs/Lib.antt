@@ -6,3 +6,5 @@ pub mod Shapes
 pub mod Rooms
 pub mod Records
 pub mod Measures
+pub mod TypeTrees
+pub mod TypedTrees
