@@ -9,6 +9,3 @@ mod valid;
 pub use flow::{BinKind, Block, End, ExtKind, FlowFn, FlowGlobal, FlowModule, Item, Op, UnKind};
 pub use names::is_ordinary;
 pub use valid::{is_valid, kind_size};
-
-#[cfg(test)]
-mod tests;
