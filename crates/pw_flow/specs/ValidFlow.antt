@@ -26,6 +26,14 @@ IsOrdinary name = name ≢ start_name
 abbrev pub main_name : List ℕ
 main_name = 109 ∷ 97 ∷ 105 ∷ 110 ∷ []
 
+-- the most parameters of a function, and the most arguments of a call
+abbrev pub most_arguments : ℕ
+most_arguments = 127
+
+-- the most bytes that a function's temporaries and slots come to, and that one operation copies
+abbrev pub most_room : ℕ
+most_room = 1048576
+
 -- a number of 32 bits
 abbrev pub IsWord : ℕ → Type 0
 IsWord n = n < 2 ^ 32
@@ -66,7 +74,7 @@ abbrev pub IsResult : ℕ → Option ℕ → Type 0
 IsResult temps t = IfSome t (λ t. t < temps)
 
 pub record AreArguments (temps : ℕ) (args : List ℕ) : Type 0 where
-  pub few : length args ≤ 127
+  pub few : length args ≤ most_arguments
   pub below : AllByRecursion (λ a. a < temps) args
 
 abbrev pub IsUnit : ℕ → Type 0
@@ -77,7 +85,7 @@ pub record IsMoved (size unit : ℕ) : Type 0 where
   pub units : IsUnit unit
   pub whole : size % unit ≡ 0
   pub positive : 0 < size
-  pub few : size ≤ 1048576
+  pub few : size ≤ most_room
 
 abbrev pub IsOp : ℕ → ℕ → Op → Type 0
 IsOp temps slots (Const t n) = (t < temps) × IsWord n
@@ -119,9 +127,9 @@ rooms room [] = room
 rooms room (size ∷ slots) = rooms (room + slot_room size) slots
 
 pub record HasFewParts (f : FlowFn) : Type 0 where
-  pub few_params : f.params ≤ 127
+  pub few_params : f.params ≤ most_arguments
   pub params : f.params ≤ f.temps
-  pub room : rooms (4 * f.temps) f.slots ≤ 1048576
+  pub room : rooms (4 * f.temps) f.slots ≤ most_room
   pub start : 0 < length f.blocks
 
 pub record IsFunction (f : FlowFn) : Type 0 where

@@ -3,7 +3,7 @@
 ghost use Rattle.std.specs.Prelude.{ℕ, ◌≡◌, ◌+◌, ◌*◌, ◌<◌, ◌≤◌, ◌^◌, ◌↔◌, List, length, map, IsTrue, IfSome, All};
 ghost use Rattle.std.specs.List.{AllByRecursion};
 ghost use Rattle.pw_flow.specs.FlowGraph.{names_in_global, names_in_block, names_in_function, op_names, item_names, global_names, function_names, declared_names, named_in};
-ghost use Rattle.pw_flow.specs.ValidFlow.{IsOrdinary, IsWord, IsItem, AreItems, IsGlobal, IsResult, AreArguments, IsMoved, IsOp, IsEnd, IsBlock, HasFewParts, IsFunction, ArePartsLawful, IsValid, kind_size as size_of_kind, item_size, rooms};
+ghost use Rattle.pw_flow.specs.ValidFlow.{IsOrdinary, IsWord, IsItem, AreItems, IsGlobal, IsResult, AreArguments, IsMoved, IsOp, IsEnd, IsBlock, HasFewParts, IsFunction, ArePartsLawful, IsValid, kind_size as size_of_kind, item_size, rooms, most_room};
 
 use crate::flow::{Block, End, FlowFn, FlowGlobal, FlowModule, Item, Op};
 use crate::names::{are_names_lawful, is_ordinary};
@@ -166,7 +166,7 @@ fn are_blocks(temps: u32, slots: usize, count: usize, blocks: &[Block]) -> bool
 
 /// Whether the temporaries and the slots come to few enough bytes.
 fn has_room(temps: u32, slots: &[u32]) -> bool
-    ensures { IsTrue result ↔ rooms (4 * temps) slots.now ≤ 1048576 }
+    ensures { IsTrue result ↔ rooms (4 * temps) slots.now ≤ most_room }
 {
     let mut room = 4 * u64::from(temps);
     for size in slots {
