@@ -1,6 +1,8 @@
 -- Which flow graphs are lawful.
-use Rattle.std.specs.Prelude.{ℕ, ◌≡◌, ◌≢◌, ◌+◌, ◌*◌, ◌/◌, ◌%◌, ◌<◌, ◌≤◌, ◌^◌, ◌↔◌, ◌⊎◌, Option, IfSome, List, [], ◌∷◌, ◌++◌, length, max, Contains}
+use Rattle.std.specs.Prelude.{ℕ, ◌≡◌, ◌≢◌, ◌+◌, ◌*◌, ◌/◌, ◌%◌, ◌<◌, ◌≤◌, ◌^◌, ◌⊎◌, Option, IfSome, List, [], ◌∷◌, ◌++◌, length, max}
 use Rattle.std.specs.List.{AllByRecursion}
+use Rattle.pw_value.specs.Limits.{size_limit, parameter_limit, room_limit}
+use Rattle.pw_value.specs.ProgramNames.{IsOrdinary, IncludesStart}
 use Rattle.pw_value.specs.declared.value.Kind.{Kind}
 use Rattle.pw_value.specs.declared.value.Kind.TheVariants as kind
 use Rattle.pw_flow.specs.declared.flow.End.{End}
@@ -14,25 +16,6 @@ use Rattle.pw_flow.specs.declared.flow.Block.{Block}
 use Rattle.pw_flow.specs.declared.flow.FlowFn.{FlowFn}
 use Rattle.pw_flow.specs.declared.flow.FlowModule.{FlowModule}
 use Rattle.pw_flow.specs.FlowGraph.{global_names, function_names, declared_names, named_in}
-
--- $start, which calls main and then exit
-abbrev pub start_name : List ℕ
-start_name = 36 ∷ 115 ∷ 116 ∷ 97 ∷ 114 ∷ 116 ∷ []
-
--- another name than $start
-abbrev pub IsOrdinary : List ℕ → Type 0
-IsOrdinary name = name ≢ start_name
-
-abbrev pub main_name : List ℕ
-main_name = 109 ∷ 97 ∷ 105 ∷ 110 ∷ []
-
--- the most parameters of a function, and the most arguments of a call
-abbrev pub most_arguments : ℕ
-most_arguments = 127
-
--- the most bytes that a function's temporaries and slots come to, and that one operation copies
-abbrev pub most_room : ℕ
-most_room = 1048576
 
 -- a number of 32 bits
 abbrev pub IsWord : ℕ → Type 0
@@ -74,18 +57,18 @@ abbrev pub IsResult : ℕ → Option ℕ → Type 0
 IsResult temps t = IfSome t (λ t. t < temps)
 
 pub record AreArguments (temps : ℕ) (args : List ℕ) : Type 0 where
-  pub few : length args ≤ most_arguments
+  pub few : length args ≤ parameter_limit
   pub below : AllByRecursion (λ a. a < temps) args
 
 abbrev pub IsUnit : ℕ → Type 0
 IsUnit unit = (unit ≡ 1) ⊎ (unit ≡ 2) ⊎ (unit ≡ 4)
 
--- a positive number of units, which come to a mebibyte at most
+-- a positive number of units, which come to no more than an object may have
 pub record IsMoved (size unit : ℕ) : Type 0 where
   pub units : IsUnit unit
   pub whole : size % unit ≡ 0
   pub positive : 0 < size
-  pub few : size ≤ most_room
+  pub few : size ≤ size_limit
 
 abbrev pub IsOp : ℕ → ℕ → Op → Type 0
 IsOp temps slots (Const t n) = (t < temps) × IsWord n
@@ -127,9 +110,9 @@ rooms room [] = room
 rooms room (size ∷ slots) = rooms (room + slot_room size) slots
 
 pub record HasFewParts (f : FlowFn) : Type 0 where
-  pub few_params : f.params ≤ most_arguments
+  pub few_params : f.params ≤ parameter_limit
   pub params : f.params ≤ f.temps
-  pub room : rooms (4 * f.temps) f.slots ≤ most_room
+  pub room : rooms (4 * f.temps) f.slots ≤ room_limit
   pub start : 0 < length f.blocks
 
 pub record IsFunction (f : FlowFn) : Type 0 where
@@ -141,10 +124,6 @@ pub record IsFunction (f : FlowFn) : Type 0 where
 abbrev pub AreDistinct : List (List ℕ) → Type 0
 AreDistinct [] = Unit {0}
 AreDistinct (name ∷ names) = AllByRecursion (λ other. other ≢ name) names × AreDistinct names
-
--- The functions include $start exactly where they include main.
-abbrev pub IncludesStart : List (List ℕ) → Type 0
-IncludesStart functions = Contains functions start_name ↔ Contains functions main_name
 
 pub record HasDistinctNames (m : FlowModule) : Type 0 where
   pub defined : AreDistinct (global_names m ++ function_names m)

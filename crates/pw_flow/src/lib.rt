@@ -7,5 +7,4 @@ mod names;
 mod valid;
 
 pub use flow::{BinKind, Block, End, ExtKind, FlowFn, FlowGlobal, FlowModule, Item, Op, UnKind};
-pub use names::is_ordinary;
-pub use valid::{MOST_ARGUMENTS, MOST_ROOM, is_valid, kind_size};
+pub use valid::{is_valid, kind_size};

@@ -3,16 +3,12 @@
 ghost use Rattle.std.specs.Prelude.{ℕ, ◌≡◌, ◌≢◌, ◌↔◌, ◌++◌, List, map, IsTrue, All};
 ghost use Rattle.std.specs.List.{AllByRecursion};
 ghost use Rattle.pw_flow.specs.FlowGraph.{global_names, function_names, declared_names};
-ghost use Rattle.pw_flow.specs.ValidFlow.{start_name, main_name, IsOrdinary, AreDistinct, IncludesStart, HasDistinctNames, IsStartLawful, AreNamesLawful};
+ghost use Rattle.pw_value.specs.ProgramNames.{start_name, main_name, IsOrdinary, IncludesStart};
+ghost use Rattle.pw_flow.specs.ValidFlow.{AreDistinct, HasDistinctNames, IsStartLawful, AreNamesLawful};
 
 use crate::flow::{FlowFn, FlowGlobal, FlowModule};
+use pw_value::program_names::{MAIN, START};
 use pw_value::{Name, Shape};
-
-/// The name of the function that calls `main` and then `exit`.
-pub const START: &[u8] = b"$start";
-
-/// The name of the function that a program starts with.
-pub const MAIN: &[u8] = b"main";
 
 /// Whether an item or an operation may name this: it is not `$start`.
 pub fn is_ordinary(name: &Name) -> bool

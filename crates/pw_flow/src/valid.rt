@@ -3,17 +3,14 @@
 ghost use Rattle.std.specs.Prelude.{ℕ, ◌≡◌, ◌+◌, ◌*◌, ◌<◌, ◌≤◌, ◌^◌, ◌↔◌, List, length, map, IsTrue, IfSome, All};
 ghost use Rattle.std.specs.List.{AllByRecursion};
 ghost use Rattle.pw_flow.specs.FlowGraph.{names_in_global, names_in_block, names_in_function, op_names, item_names, global_names, function_names, declared_names, named_in};
-ghost use Rattle.pw_flow.specs.ValidFlow.{IsOrdinary, IsWord, IsItem, AreItems, IsGlobal, IsResult, AreArguments, IsMoved, IsOp, IsEnd, IsBlock, HasFewParts, IsFunction, ArePartsLawful, IsValid, kind_size as size_of_kind, item_size, rooms, most_room};
+ghost use Rattle.pw_flow.specs.ValidFlow.{IsWord, IsItem, AreItems, IsGlobal, IsResult, AreArguments, IsMoved, IsOp, IsEnd, IsBlock, HasFewParts, IsFunction, ArePartsLawful, IsValid, kind_size as size_of_kind, item_size, rooms};
+ghost use Rattle.pw_value.specs.Limits.{room_limit};
+ghost use Rattle.pw_value.specs.ProgramNames.{IsOrdinary};
 
 use crate::flow::{Block, End, FlowFn, FlowGlobal, FlowModule, Item, Op};
 use crate::names::{are_names_lawful, is_ordinary};
 use pw_value::Kind;
-
-/// The most parameters of a function, and the most arguments of a call.
-pub const MOST_ARGUMENTS: u32 = 127;
-
-/// The most bytes that a function's temporaries and slots come to, and that one operation copies.
-pub const MOST_ROOM: u32 = 1_048_576;
+use pw_value::limits::{PARAMETER_LIMIT, ROOM_LIMIT, SIZE_LIMIT};
 
 /// The bytes of a scalar of this kind.
 pub fn kind_size(kind: Kind) -> u32
@@ -69,14 +66,14 @@ fn is_item_ordinary(item: &Item) -> bool
 fn are_arguments(temps: u32, args: &[u32]) -> bool
     ensures { IsTrue result ↔ AreArguments temps args.now }
 {
-    args.len() <= MOST_ARGUMENTS as usize && args.iter().all(|a| *a < temps)
+    args.len() <= PARAMETER_LIMIT as usize && args.iter().all(|a| *a < temps)
 }
 
 /// Whether so many bytes may be copied in such units.
 fn is_moved(size: u32, unit: u32) -> bool
     ensures { IsTrue result ↔ IsMoved size unit }
 {
-    (unit == 1 || unit == 2 || unit == 4) && size % unit == 0 && size > 0 && size <= MOST_ROOM
+    (unit == 1 || unit == 2 || unit == 4) && size % unit == 0 && size > 0 && size <= SIZE_LIMIT
 }
 
 /// Whether a temporary is one of the function, where there is one.
@@ -166,23 +163,23 @@ fn are_blocks(temps: u32, slots: usize, count: usize, blocks: &[Block]) -> bool
 
 /// Whether the temporaries and the slots come to few enough bytes.
 fn has_room(temps: u32, slots: &[u32]) -> bool
-    ensures { IsTrue result ↔ rooms (4 * temps) slots.now ≤ most_room }
+    ensures { IsTrue result ↔ rooms (4 * temps) slots.now ≤ room_limit }
 {
     let mut room = 4 * u64::from(temps);
     for size in slots {
-        if room > u64::from(MOST_ROOM) {
+        if room > u64::from(ROOM_LIMIT) {
             return false;
         }
         room += (u64::from(*size) + 8) / 8 * 8;
     }
-    room <= u64::from(MOST_ROOM)
+    room <= u64::from(ROOM_LIMIT)
 }
 
 /// Whether a function has few parameters, temporaries and slots, and a block.
 fn has_few_parts(function: &FlowFn) -> bool
     ensures { IsTrue result ↔ HasFewParts function.now }
 {
-    function.params <= MOST_ARGUMENTS
+    function.params <= PARAMETER_LIMIT
         && function.params <= function.temps
         && has_room(function.temps, function.slots.as_slice())
         && !function.blocks.is_empty()

@@ -1,6 +1,7 @@
 use Rattle.std.specs.List.{flat_map}
 use Rattle.pw_flow.specs.FlowGraph.{names_in_global, names_in_function}
-use Rattle.pw_flow.specs.ValidFlow.{IsGlobal, IsFunction, IsOrdinary}
+use Rattle.pw_value.specs.ProgramNames.{IsOrdinary}
+use Rattle.pw_flow.specs.ValidFlow.{IsGlobal, IsFunction}
 use Rattle.pw_flow.proofs.Lists.{lawful, all_append, all_left, all_right}
 use Rattle.pw_flow.proofs.valid.are_parts_lawful.Goals as goal
 

@@ -1,5 +1,6 @@
 use Rattle.pw_flow.specs.FlowGraph.{op_names}
-use Rattle.pw_flow.specs.ValidFlow.{IsOp, IsOrdinary}
+use Rattle.pw_value.specs.ProgramNames.{IsOrdinary}
+use Rattle.pw_flow.specs.ValidFlow.{IsOp}
 use Rattle.pw_flow.proofs.Lists.{lawful}
 use Rattle.pw_flow.proofs.valid.is_block.Goals as goal
 

@@ -1,6 +1,7 @@
 use Rattle.std.proofs.Common.{length}
 use Rattle.pw_flow.specs.FlowGraph.{names_in_block}
-use Rattle.pw_flow.specs.ValidFlow.{IsBlock, IsOrdinary}
+use Rattle.pw_value.specs.ProgramNames.{IsOrdinary}
+use Rattle.pw_flow.specs.ValidFlow.{IsBlock}
 use Rattle.pw_flow.proofs.Lists.{lawful}
 use Rattle.pw_flow.proofs.valid.is_function.Goals as goal
 

@@ -1,5 +1,5 @@
 use Rattle.pw_flow.specs.FlowGraph.{item_names}
-use Rattle.pw_flow.specs.ValidFlow.{IsOrdinary}
+use Rattle.pw_value.specs.ProgramNames.{IsOrdinary}
 use Rattle.pw_flow.proofs.Lists.{ordinary}
 use Rattle.pw_flow.proofs.valid.is_global.Goals as goal
 
