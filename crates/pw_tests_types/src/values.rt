@@ -37,16 +37,22 @@ fn names(rt: HostRuntime) {
 /// Names in byte order.
 const ORDER: [(&str, &str); 2] = [("ab", "b"), ("a", "ab")];
 
+/// Whether the first name comes before the second, and is equal to its copy.
+fn is_before(alloc: Global, less: &str, greater: &str) -> Result<bool, NameError> {
+    let one = Name::new(alloc, less.as_bytes())?;
+    let other = Name::new(alloc, greater.as_bytes())?;
+    Ok(one < other && one.copy(alloc)? == one)
+}
+
 #[test]
-fn order_of_names(rt: HostRuntime) -> Result<(), Fail> {
+fn order_of_names(rt: HostRuntime) {
     for (less, greater) in ORDER {
-        let one = Name::new(rt.alloc(), less.as_bytes())?;
-        let other = Name::new(rt.alloc(), greater.as_bytes())?;
-        let same = one.copy(rt.alloc())?;
-        let holds = one < other && other > one && same == one;
-        assert!(rt; holds, "{less} {greater}");
+        assert_eq!(rt;
+            is_before(rt.alloc(), less, greater),
+            Ok(true),
+            "{less} {greater}"
+        );
     }
-    Ok(())
 }
 
 /// Two shapes, and whether they agree.
@@ -66,15 +72,22 @@ const SHAPES: [(&str, &str, bool); 13] = [
     ("!i", "i", false),
 ];
 
+/// Whether two shapes agree, and whether they do the other way round.
+fn agrees(alloc: Global, one: &str, other: &str) -> Result<(bool, bool), AllocError> {
+    let a = Shape::new(Vec::from_slice(alloc, one.as_bytes())?);
+    let b = Shape::new(Vec::from_slice(alloc, other.as_bytes())?);
+    Ok((agree(&a, &b), agree(&b, &a.copy(alloc)?)))
+}
+
 #[test]
-fn shapes(rt: HostRuntime) -> Result<(), Fail> {
+fn shapes(rt: HostRuntime) {
     for (one, other, wanted) in SHAPES {
-        let a = Shape::new(Vec::from_slice(rt.alloc(), one.as_bytes())?);
-        let b = Shape::new(Vec::from_slice(rt.alloc(), other.as_bytes())?);
-        let found = (agree(&a, &b), agree(&b, &a.copy(rt.alloc())?));
-        assert_eq!(rt; found, (wanted, wanted), "{one} {other}");
+        assert_eq!(rt;
+            agrees(rt.alloc(), one, other),
+            Ok((wanted, wanted)),
+            "{one} {other}"
+        );
     }
-    Ok(())
 }
 
 const P: Pointer = Pointer::Object(7, 12);
@@ -192,7 +205,7 @@ fn pointers_in_bytes(rt: HostRuntime) {
     }
 }
 
-#[derive(Clone, Copy, PartialEq, Eq, Debug)]
+#[derive(Clone, Copy)]
 enum Operation {
     Sum,
     Difference,
@@ -273,7 +286,7 @@ const OPERATIONS: [(Operation, u32, u32, Result<u32, WordFault>); 33] = [
 #[test]
 fn operations_on_words(rt: HostRuntime) {
     for (operation, a, b, wanted) in OPERATIONS {
-        assert_eq!(rt; operate(operation, a, b), wanted, "{operation:?} {a} {b}");
+        assert_eq!(rt; operate(operation, a, b), wanted, "{a} {b}");
     }
 }
 
@@ -402,16 +415,29 @@ fn short_fields(rt: HostRuntime) {
 /// The table of the names `a` and `b`.
 const TABLE: [u8; 14] = [0, 0, 0, 2, 0, 0, 0, 1, 97, 0, 0, 0, 1, 98];
 
+/// The table of three names.
+fn table(alloc: Global, names: [&Name; 3]) -> Result<Vec<Name>, AllocError> {
+    let mut used = Vec::new(alloc);
+    for name in names {
+        used.push(name)?;
+    }
+    table_of(alloc, used)
+}
+
+/// Whether these bytes are TABLE, with nothing behind them.
+fn is_table(alloc: Global, names: &[Name]) -> bool {
+    match read_names(alloc, &TABLE) {
+        Ok((found, rest)) => rest.is_empty() && found.as_slice() == names,
+        Err(_) => false,
+    }
+}
+
 #[test]
 fn tables_made(rt: HostRuntime) -> Result<(), Fail> {
     let a = Name::new(rt.alloc(), b"a")?;
     let b = Name::new(rt.alloc(), b"b")?;
-    let table = table_of(rt.alloc(), vec![in rt.alloc(); &b, &a, &a]?)?;
-    let found = match read_names(rt.alloc(), &TABLE) {
-        Ok((names, rest)) => rest.is_empty() && names.as_slice() == table.as_slice(),
-        Err(_) => false,
-    };
-    assert!(rt; found);
+    let names = table(rt.alloc(), [&b, &a, &a])?;
+    assert!(rt; is_table(rt.alloc(), &names));
     Ok(())
 }
 
@@ -442,17 +468,22 @@ const INDICES: [([u8; 5], Result<u8, usize>); 3] = [
     ([0, 0, 0, 2, 9], Err(5)),
 ];
 
-#[test]
-fn names_by_index(rt: HostRuntime) -> Result<(), Fail> {
-    let (names, _) = read_names(rt.alloc(), &TABLE).ok().ok_or("a table")?;
-    for (bytes, wanted) in INDICES {
-        let found = match read_name(&names, &bytes) {
-            Ok((name, _)) => Ok(name.as_bytes()[0]),
-            Err(fault) => Err(left_of(Some(fault)).unwrap_or(0)),
-        };
-        assert_eq!(rt; found, wanted, "{bytes:?}");
+/// The first byte of the name at this index of TABLE, or how many bytes are left at the fault.
+fn initial_at(alloc: Global, bytes: &[u8]) -> Result<u8, usize> {
+    let Ok((names, _)) = read_names(alloc, &TABLE) else {
+        return Err(0);
+    };
+    match read_name(&names, bytes) {
+        Ok((name, _)) => Ok(name.as_bytes()[0]),
+        Err(fault) => Err(left_of(Some(fault)).unwrap_or(0)),
     }
-    Ok(())
+}
+
+#[test]
+fn names_by_index(rt: HostRuntime) {
+    for (bytes, wanted) in INDICES {
+        assert_eq!(rt; initial_at(rt.alloc(), &bytes), wanted, "{bytes:?}");
+    }
 }
 
 const TEST: u32 = 0x5445_5354;
