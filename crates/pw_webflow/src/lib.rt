@@ -1,13 +1,6 @@
-// A library with one function.
+//! Direction: a flow graph whose accesses of directed globals go to their registers.
 #![tactic(auto)]
 
-ghost use Rattle.std.specs.Prelude.{◌≡◌};
-ghost use Rattle.pw_webflow.specs.Echo.{echo_of};
+mod web;
 
-// The `ensures` clause is the contract: what `echo` returns is `echo_of` of its argument, a definition
-// in `specs/Echo.antt`, which a caller's clause can cite too.
-pub fn echo(x: usize) -> usize
-    ensures { result ≡ echo_of x }
-{
-    x
-}
+pub use web::{WebBlock, WebFn, WebOp};
