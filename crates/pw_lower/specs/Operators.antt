@@ -159,7 +159,7 @@ combined records o left right a b c = sum_or o (is_signed left) (target_size rec
 
 -- whether a number is not 0, in a temporary that is there
 abbrev pub truth_in : ℕ → ℕ → Code → Code
-truth_in r t c = let zero = constant 0 c in emit (op.Bin Ne r t (temp_of zero)) zero.code
+truth_in r t c = let x = constant 0 c in emit (op.Bin Ne r t (temp_of x)) x.code
 
 abbrev pub unary_on : UnaryOperator → ℕ → Code → Lowered
 unary_on unary.Plus a c = value_is a c
