@@ -1,12 +1,14 @@
 -- What is read is the file of a value, and the file of a value is read: of every file whose value stands
 -- behind a table of its names.
-use Rattle.std.proofs.Common.{◌≡◌, ℕ, ◌<◌, ◌^◌, List, [], ◌∷◌, ◌++◌, length, Result, Ok, Err, refl, sym, ap, subst, ◌∙◌, arith}
-use Rattle.std.specs.Prelude.{IfOk, OnOk, Option, None}
+use Rattle.std.proofs.Common.{◌≡◌, ℕ, suc, ◌<◌, ◌^◌, Bool, true, List, [], ◌∷◌, ◌++◌, length, Result, Ok, Err, refl, sym, ap, subst, ◌∙◌, arith}
+use Rattle.std.specs.Prelude.{◌==◌, IfOk, OnOk, Option, None, Some}
 use Rattle.std.specs.Global.{Vec}
+use Rattle.std.proofs.lemmas.Bool.{eqb-true}
 use Rattle.pw_value.specs.declared.fault.FileError.{FileError}
-use Rattle.pw_value.specs.Fields.{FitsU32}
-use Rattle.pw_value.specs.FieldFaults.{GivesFile}
-use Rattle.pw_value.specs.FieldFrame.{file, file_at, FitsFile}
+use Rattle.pw_value.specs.declared.fields.fault.FieldError.{FieldError}
+use Rattle.pw_value.specs.declared.fields.fault.FieldError.TheVariants as field
+use Rattle.pw_value.specs.FieldFaults.{Fails, GivesFile}
+use Rattle.pw_value.specs.FieldFrame.{ended, file, file_at, FitsFile}
 use Rattle.pw_value.specs.FieldLaws.{AreBytes, SpellsWhole}
 use Rattle.pw_value.specs.FieldNames.{names_at, name_table, first_unused, IsNameTable, IsTableOf}
 use Rattle.pw_value.proofs.FieldSteps.{Completes, Nothing, step, keep_place, payload_format}
@@ -15,7 +17,7 @@ use Rattle.pw_value.proofs.NameTables.{one_table}
 use Rattle.pw_value.proofs.NameLaws.{names_spell, AllUsed, all_used, none_unused}
 use Rattle.pw_value.specs.ProgramNames.{KeepsStart}
 use Rattle.pw_files.specs.Start.{start_rule, sooner}
-use Rattle.pw_files.specs.Contents.{Contents, IsContents, IsFileWith, module_rules, FieldsReader, contents_at, contents_file_at, value_of}
+use Rattle.pw_files.specs.Contents.{Contents, IsContents, IsFileWith, module_rules, broken_at, FieldsReader, contents_at, contents_file_at, value_of}
 use Rattle.pw_files.proofs.RisingLaws.{respell}
 use Rattle.pw_files.proofs.StartLaws.{sooner_none, rule_forth, rule_back}
 
@@ -32,6 +34,17 @@ module_rules_forth names used behind functions globals count e =
 pub module_rules_back : (names used : List (List ℕ)) (behind : ℕ) (functions globals : List (List ℕ)) (count : ℕ) → ModuleRules names used functions globals → module_rules names used behind functions globals count ≡ None
 module_rules_back names used behind functions globals count holds =
     ap (λ o. sooner o (start_rule functions globals count)) (none_unused names used behind holds.0) ∙ rule_back functions globals count holds.1
+
+-- the test that nothing is left
+pub nothing_left : (rest : List ℕ) (empty : Bool) → empty ≡ (length rest == 0) → empty ≡ true → rest ≡ []
+nothing_left [] empty is holds = refl
+nothing_left (b ∷ rest) empty is holds = let none : suc (length rest) ≡ 0 = eqb-true _ _ (sym is ∙ holds) in absurd (omega (arith, none))
+
+-- such a rule that is broken is the fault of the whole
+pub late_fault : {X : Type 0} (e : FieldError) (late : Option ℕ) (x : X) → Fails e (broken_at late) → Fails e (ended late x [])
+late_fault field.NoMemory late x fails = tt
+late_fault (field.Fault left) None x fails = absurd cc
+late_fault (field.Fault left) (Some other) x fails = cc
 
 -- ---- the table of names and the fields behind it
 

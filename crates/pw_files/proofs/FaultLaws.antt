@@ -20,19 +20,22 @@ at_is m n e = cc
 
 -- ---- a rule that is looked at last changes no fault before it
 
-abbrev pub Keeps : {X : Type 0} → (List ℕ → Result (X × List ℕ) ℕ) → (List ℕ → Result (X × List ℕ) ℕ) → Type 0
-Keeps one two = (bytes : List ℕ) (left : ℕ) → one bytes ≡ Err left → two bytes ≡ Err left
+pub record Keeps {X : Type 0} (one two : List ℕ → Result (X × List ℕ) ℕ) : Type 0 where
+  pub same : (bytes : List ℕ) (left : ℕ) → one bytes ≡ Err left → two bytes ≡ Err left
 
 keeps_by : {A X : Type 0} (next others : A → List ℕ → Result (X × List ℕ) ℕ) → ((a : A) → Keeps (next a) (others a)) → (r : Result (A × List ℕ) ℕ) (left : ℕ) → after r next ≡ Err left → after r others ≡ Err left
-keeps_by next others keeps (Ok p) left e = keeps p.0 p.1 left e
+keeps_by next others keeps (Ok p) left e = (keeps p.0).same p.1 left e
 keeps_by next others keeps (Err d) left e = ap failed (at_is d left e)
 
 pub keeps_behind : {A X : Type 0} (first : List ℕ → Result (A × List ℕ) ℕ) (next others : A → List ℕ → Result (X × List ℕ) ℕ) → ((a : A) → Keeps (next a) (others a)) → Keeps (first >>= next) (first >>= others)
-keeps_behind first next others keeps bytes left e = keeps_by next others keeps (first bytes) left e
+keeps_behind first next others keeps = record { same = λ bytes left e. keeps_by next others keeps (first bytes) left e }
+
+ended_still : {X : Type 0} (late : Option ℕ) (x : X) (bytes : List ℕ) (left : ℕ) → ended None x bytes ≡ Err left → ended late x bytes ≡ Err left
+ended_still late x [] left e = absurd cc
+ended_still late x (b ∷ bytes) left e = e
 
 pub keeps_ended : {X : Type 0} (late : Option ℕ) (x : X) → Keeps (ended None x) (ended late x)
-keeps_ended late x [] left e = absurd cc
-keeps_ended late x (b ∷ bytes) left e = e
+keeps_ended late x = record { same = λ bytes left e. ended_still late x bytes left e }
 
 -- ---- the fields behind the frame
 
@@ -146,7 +149,7 @@ module _ {V : Type 0} (kind : ℕ) (fields : FieldsReader V) (late : List (List 
             let cut : length (q.before ++ t) ≡ length ((q.before ++ t) ++ e) - 32 = payload_len ∙ ap (λ n. n - 32) (sym rest_len) in
             let payload : payload_of ((q.before ++ t) ++ e) ≡ q.before ++ t = take_at (q.before ++ t) e _ cut in
             let digest : digest_of ((q.before ++ t) ++ e) ≡ e = drop_at (q.before ++ t) e _ cut in
-            let again : contents_at fields late (payload_of ((q.before ++ t) ++ e)) ≡ Err left = ap (contents_at fields late) payload ∙ keeps (q.before ++ t) left (q.same t t_len t_same) in
+            let again : contents_at fields late (payload_of ((q.before ++ t) ++ e)) ≡ Err left = ap (contents_at fields late) payload ∙ keeps.same (q.before ++ t) left (q.same t t_len t_same) in
             let end : length others - length (digest_of ((q.before ++ t) ++ e)) ≡ length bytes - length d = ap (λ (w : List ℕ). length others - length w) digest ∙ omega (arith, len, e_len) in
             ap value_of (by_header others (Ok (v, (q.before ++ t) ++ e)) header)
             ∙ ap (λ r. value_of (sealed others (length others - length (digest_of ((q.before ++ t) ++ e))) (placed (length others - length (digest_of ((q.before ++ t) ++ e))) r))) again
@@ -159,7 +162,7 @@ module _ {V : Type 0} (kind : ℕ) (fields : FieldsReader V) (late : List (List 
       → (value_of (contents_file_at kind fields late bytes) ≡ Err at) × StaysFault (λ b. value_of (contents_file_at kind fields late b)) bytes at
   stays_by bytes at (Ok h) is e =
       let p = placed_fault (length bytes - length (digest_of h.1)) at (contents_at fields no_rule (payload_of h.1)) e in
-      let late_fault = keeps (payload_of h.1) p.0 p.1 in (
+      let late_fault = keeps.same (payload_of h.1) p.0 p.1 in (
         ap value_of (by_header bytes (Ok h) is) ∙ ap (λ r. value_of (sealed bytes (length bytes - length (digest_of h.1)) (placed (length bytes - length (digest_of h.1)) r))) late_fault ∙ ap failed p.2,
         in_payload bytes at p.0 h.0 h.1 is p.1 p.2,
       )

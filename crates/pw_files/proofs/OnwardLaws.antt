@@ -5,6 +5,7 @@ use Rattle.std.specs.Prelude.{Option, Some, None, nat_lt, ◌==◌}
 use Rattle.std.specs.Int.{Width, w32, w64, byte_len, from_be_bytes}
 use Rattle.std.proofs.lemmas.Bool.{ltb-false, le-ltb}
 use Rattle.std.proofs.lemmas.List.{take_at, drop_at, take-append-drop, length-append, length-take, append-nil}
+use Rattle.pw_value.specs.declared.program_names.StartName.{StartName}
 use Rattle.pw_value.specs.Fields.{◌>>=◌, after, done, kept, checked, number_at, u8_at, u32_at, u64_at, text_within, text_at, choice_at, flag_at, items_at, same_state, repeated}
 use Rattle.pw_value.specs.FieldFrame.{here, ended}
 use Rattle.pw_value.specs.FieldNames.{entry_at, next_entry, names_at, name_at}
@@ -347,3 +348,26 @@ kind_one = mapped_one (choice_at 6) _ (choice_one 6)
 pub scalar_one : OneField scalar_at
 unfolding scalar_at
 scalar_one = mapped_one _ _ (checked_one _ u8_at u8_one)
+
+-- ---- names and texts in byte order
+
+pub name_above_one : (names : List (List ℕ)) (start : StartName) (before : Option (List ℕ)) → OneField (name_above_at names start before)
+unfolding name_above_at
+name_above_one names start before = checked_one _ (name_at names) (name_one names)
+
+pub text_above_one : (before : Option (List ℕ)) → OneField (text_above_at before)
+unfolding text_above_at
+text_above_one before = checked_one _ text_at text_one
+
+shaped_onward : (names : List (List ℕ)) (start : StartName) (before : Option (List ℕ)) → Onward (shaped_at names start before)
+unfolding shaped_at
+shaped_onward names start before = behind _ _ (one_onward _ (name_above_one names start before)) (λ name. behind _ _ (one_onward _ text_one) (λ shape. done_onward (name, shape)))
+
+pub name_list_onward : (names : List (List ℕ)) (start : StartName) → Onward (name_list_at names start)
+name_list_onward names start = rising_onward (λ name. name) (name_above_at names start) (λ before. one_onward _ (name_above_one names start before))
+
+pub text_list_onward : Onward text_list_at
+text_list_onward = rising_onward (λ text. text) text_above_at (λ before. one_onward _ (text_above_one before))
+
+pub shaped_list_onward : (names : List (List ℕ)) (start : StartName) → Onward (shaped_list_at names start)
+shaped_list_onward names start = rising_onward (λ f. f.0) (shaped_at names start) (shaped_onward names start)
