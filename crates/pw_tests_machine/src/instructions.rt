@@ -1,7 +1,10 @@
-// Words that the GNU assembler for PA-RISC makes, and words of no form.
+//! Tests of pw_inst, against words that the GNU assembler for PA-RISC makes, and words of no form.
 
-use crate::{Inst, decode, encode, target, text};
-use std::test::Fail;
+use pw_inst::{
+    Inst, decode, encode, left_part, right_part, set_branch, set_displacement, set_long_immediate,
+    target, text,
+};
+use std::alloc::{AllocError, Global};
 
 // A word, and its text at address 4096. The first rows are words that every listing has, the rest are what
 // `hppa-linux-gnu-as` made of these texts in its own syntax, or words of no form.
@@ -178,63 +181,114 @@ static WORDS: [(u32, &str); 170] = [
     (0xffff_ffff, "?"),
 ];
 
-#[test]
-fn words_and_texts(rt: HostRuntime) -> Result<(), Fail> {
-    for (word, shown) in WORDS.iter() {
-        match decode(*word) {
-            Some(inst) => {
-                assert_eq!(rt; encode(inst), *word, "{shown}");
-                let listed = text(rt.alloc(), inst, 4096)?;
-                assert_eq!(rt; listed.as_str(), *shown);
-            }
-            None => assert_eq!(rt; "?", *shown, "{word:08x}"),
-        }
+/// Whether a word is decoded to an instruction of this text, which has that word; or to none, for `?`.
+fn is_shown(alloc: Global, word: u32, shown: &str) -> Result<bool, AllocError> {
+    match decode(word) {
+        Some(inst) => Ok(encode(inst) == word && text(alloc, inst, 4096)?.as_str() == shown),
+        None => Ok(shown == "?"),
     }
-    Ok(())
 }
 
 #[test]
-fn fields_and_targets(rt: HostRuntime) {
-    let known = [
-        (0xe840_c002, Inst::Bv { b: 2, n: true }),
-        (
-            0x4bc2_3fd9,
-            Inst::Ldw {
-                im: -20,
-                b: 30,
-                t: 2,
-            },
-        ),
-        (
-            0x6bc2_3fd9,
-            Inst::Stw {
-                r: 2,
-                im: -20,
-                b: 30,
-            },
-        ),
-        (
-            0x37de_0080,
-            Inst::Ldo {
-                im: 64,
-                b: 30,
-                t: 30,
-            },
-        ),
-        (0x341c_0002, Inst::Ldo { im: 1, b: 0, t: 28 }),
-        (0xe6c0_2000, Inst::Ble { b: 22, n: false }),
-        (0x0001_0004, Inst::Break { im5: 4, im13: 8 }),
-        (0x0800_0240, Inst::Or { r1: 0, r2: 0, t: 0 }),
-    ];
-    for (word, inst) in known {
-        assert_eq!(rt; decode(word), Some(inst));
+fn words_and_texts(rt: HostRuntime) {
+    for (word, shown) in WORDS.iter() {
+        assert_eq!(rt; is_shown(rt.alloc(), *word, shown), Ok(true), "{shown}");
     }
-    for (address, disp, to) in [
-        (4096, 0, 4104),
-        (0, -3, 0xffff_fffc),
-        (0xffff_fff8, 1, 4),
-        (4096, -65536, 0xfffc_1008),
-    ] {
+}
+
+/// Words, and their instructions.
+const KNOWN: [(u32, Inst); 8] = [
+    (0xe840_c002, Inst::Bv { b: 2, n: true }),
+    (
+        0x4bc2_3fd9,
+        Inst::Ldw {
+            im: -20,
+            b: 30,
+            t: 2,
+        },
+    ),
+    (
+        0x6bc2_3fd9,
+        Inst::Stw {
+            r: 2,
+            im: -20,
+            b: 30,
+        },
+    ),
+    (
+        0x37de_0080,
+        Inst::Ldo {
+            im: 64,
+            b: 30,
+            t: 30,
+        },
+    ),
+    (0x341c_0002, Inst::Ldo { im: 1, b: 0, t: 28 }),
+    (0xe6c0_2000, Inst::Ble { b: 22, n: false }),
+    (0x0001_0004, Inst::Break { im5: 4, im13: 8 }),
+    (0x0800_0240, Inst::Or { r1: 0, r2: 0, t: 0 }),
+];
+
+#[test]
+fn known_words(rt: HostRuntime) {
+    for (word, inst) in KNOWN {
+        assert_eq!(rt; encode(inst), word);
+    }
+}
+
+/// A branch's address and displacement, and its target.
+const TARGETS: [(u32, i32, u32); 4] = [
+    (4096, 0, 4104),
+    (0, -3, 0xffff_fffc),
+    (0xffff_fff8, 1, 4),
+    (4096, -65536, 0xfffc_1008),
+];
+
+#[test]
+fn targets(rt: HostRuntime) {
+    for (address, disp, to) in TARGETS {
         assert_eq!(rt; target(address, disp), to);
     }
+}
+
+/// A word, what its fields are set to, and the word that comes out: of LDIL, of a displacement, of BL.
+/// The last row of each is no instruction's word, and keeps its other bits.
+const LEFT: [(u32, u32, u32); 4] = [
+    (0x2020_0000, 2_097_151, 0x203f_ffff),
+    (0x22e0_0000, 74_565, 0x22f1_9122),
+    (0x203f_ffff, 0, 0x2020_0000),
+    (0xffff_ffff, 0, 0xffe0_0000),
+];
+
+const RIGHT: [(u32, i32, u32); 4] = [
+    (0x48a7_0000, -4, 0x48a7_3ff9),
+    (0x37de_0080, 0, 0x37de_0000),
+    (0x341c_0002, 8191, 0x341c_3ffe),
+    (0xffff_ffff, -8192, 0xffff_c001),
+];
+
+const BRANCH: [(u32, u32, u32); 4] = [
+    (0xe840_0000, 0xffff_fffe, 0xe85f_1ff5),
+    (0xe840_0002, 3, 0xe840_001a),
+    (0xe840_0002, 0x1_0000, 0xe840_0003),
+    (0xffff_ffff, 0, 0xffe0_e002),
+];
+
+#[test]
+fn fields_set(rt: HostRuntime) {
+    for i in 0..4 {
+        let ((a, im, left), (b, disp, right), (c, q, branch)) = (LEFT[i], RIGHT[i], BRANCH[i]);
+        let found = (
+            set_long_immediate(a, im),
+            set_displacement(b, disp),
+            set_branch(c, q),
+        );
+        assert_eq!(rt; found, (left, right, branch), "{i}");
+    }
+}
+
+#[test]
+fn parts_of_an_address(rt: HostRuntime) {
+    let found = (left_part(0x1234_5fff), right_part(0x1234_5fff));
+    assert_eq!(rt; found, (0x2_468b, 0x7ff));
 }
