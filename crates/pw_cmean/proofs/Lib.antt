@@ -1,1 +1,3 @@
 mod SanityRows
+pub mod ActLaws
+pub mod TreeLaws
