@@ -28,8 +28,10 @@ use Rattle.pw_cmean.specs.ScratchWords.{WordFault, Overflow, ZeroDivisor, ShiftC
 pub record Laws (R : (A : Type 0) → Act A → Act A → Type 0) : Type 1 where
   pub gives : (A : Type 0) (a : A) → R A (give a) (give a)
   pub stops : (A : Type 0) (e : Ending) → R A (stop e) (stop e)
+  -- the second of two is related to itself
+  pub selfs : (A : Type 0) (m m' : Act A) → R A m m' → R A m' m'
   -- what comes with no bound left is related to all that comes with one
-  pub bounds : (A : Type 0) (m : Act A) → R A (stop Bound) m
+  pub bounds : (A : Type 0) (m : Act A) → R A m m → R A (stop Bound) m
   pub looks : (A : Type 0) (f : State → A) → R A (look f) (look f)
   pub writes : (n i : ℕ) (bytes : List Byte) → R (Unit {0}) (write n i bytes) (write n i bytes)
   pub gets : R ℕ get_char get_char
@@ -253,9 +255,17 @@ module _ (R : (A : Type 0) → Act A → Act A → Type 0) (laws : Laws R) where
 
   -- what calls do at each lower bound, and at each lower bound of a greater or the same one
   abbrev pub AreRelated : Calls → Calls → Type 0
-  AreRelated [] cs' = Unit {0}
+  AreRelated [] [] = Unit {0}
+  AreRelated [] (c' ∷ cs') = ((f : Callable) (args : List Value) → R (Option Value) (c' f args) (c' f args)) × AreRelated [] cs'
   AreRelated (c ∷ cs) [] = ⊥
   AreRelated (c ∷ cs) (c' ∷ cs') = ((f : Callable) (args : List Value) → R (Option Value) (c f args) (c' f args)) × AreRelated cs cs'
+
+  -- the second of two lists is related to itself
+  pub second-r : (cs cs' : Calls) → AreRelated cs cs' → AreRelated cs' cs'
+  second-r [] [] h = tt
+  second-r [] (c' ∷ cs') h = (h.0, second-r [] cs' h.1)
+  second-r (c ∷ cs) [] h = absurd h
+  second-r (c ∷ cs) (c' ∷ cs') h = (λ f args. laws.selfs (Option Value) (c f args) (c' f args) (h.0 f args), second-r cs cs' h.1)
 
   pub take_room-r : (w : World) (name : List ℕ) → R (Unit {0}) (take_room w name) (take_room w name)
   unfolding take_room
@@ -270,7 +280,8 @@ module _ (R : (A : Type 0) → Act A → Act A → Type 0) (laws : Laws R) where
 
   bounded_call-r : (cs cs' : Calls) (f : Callable) (args : List Value) → AreRelated cs cs' → R (Option Value) (bounded_call cs f args) (bounded_call cs' f args)
   unfolding bounded_call
-  bounded_call-r [] cs' f args h = laws.bounds (Option Value) (bounded_call cs' f args)
+  bounded_call-r [] [] f args h = laws.stops (Option Value) Bound
+  bounded_call-r [] (c' ∷ cs') f args h = laws.bounds (Option Value) (c' f args) (h.0 f args)
   bounded_call-r (c ∷ cs) [] f args h = absurd h
   bounded_call-r (c ∷ cs) (c' ∷ cs') f args h = h.0 f args
 

@@ -1,3 +1,5 @@
 mod SanityRows
 pub mod ActLaws
 pub mod TreeLaws
+pub mod Keeping
+pub mod Bounding

@@ -10,7 +10,7 @@ use Rattle.pw_cmean.specs.Acts.{Act, State, Site, Bound, give, stop, ◌>>=◌, 
 use Rattle.pw_cmean.specs.Evaluation.{Env, Calls, used, answer_of, place_of, values_of}
 use Rattle.pw_cmean.specs.Execution.{Entry, Front, At_label, Flow, Normal, Breaks, Continues, Returns, Goes, go_forward, caught, taking_up, after_body, turn, loop, meet_loop, always, value_of, condition, for_condition, drop_value, switch_to, after_switch, labels_in, labels_among, labels_of_arms, labels_behind, with_locals, set_local, initialise, initialise_all, meaning, items, arms, behind_arms}
 use Rattle.pw_cmean.specs.SourceRun.{set_parameters, result_of, run_body, callee, calls}
-use Rattle.pw_cmean.proofs.ActLaws.{Laws, bind-r, branch-r, wrong-r, need-r, judge-r, within-r, put-r, truth-r, unary-r, advance-r, binary-r, local_place-r, symbol_place-r, used-r, value_at-r, cast-r, assign-r, old_value-r, update-r, step-r, AreRelated, take_room-r, call-r, call_value-r}
+use Rattle.pw_cmean.proofs.ActLaws.{Laws, bind-r, branch-r, wrong-r, need-r, judge-r, within-r, put-r, truth-r, unary-r, advance-r, binary-r, local_place-r, symbol_place-r, used-r, value_at-r, cast-r, assign-r, old_value-r, update-r, step-r, AreRelated, second-r, take_room-r, call-r, call_value-r}
 
 module _ (R : (A : Type 0) → Act A → Act A → Type 0) (laws : Laws R) where
   -- the result of an operand, which must be there
@@ -127,7 +127,8 @@ module _ (R : (A : Type 0) → Act A → Act A → Type 0) (laws : Laws R) where
       → R Flow (taking_up labels run at cs) (taking_up labels run at cs')
   unfolding taking_up
   taking_up-r labels run at [] [] h p = bind-r R laws (p at [] [] h) λ f. caught-r labels f λ l. laws.stops Flow Bound
-  taking_up-r labels run at [] (c' ∷ cs') h p = bind-r R laws (p at [] (c' ∷ cs') h) λ f. caught-r labels f λ l. laws.bounds Flow _
+  taking_up-r labels run at [] (c' ∷ cs') h p = bind-r R laws (p at [] (c' ∷ cs') h) λ f. caught-r labels f λ l.
+      laws.bounds Flow _ (taking_up-r labels run (At_label l) cs' cs' (second-r R laws [] cs' h.1) p)
   taking_up-r labels run at (c ∷ cs) [] h p = absurd h
   taking_up-r labels run at (c ∷ cs) (c' ∷ cs') h p =
       bind-r R laws (p at (c ∷ cs) (c' ∷ cs') h) λ f. caught-r labels f λ l. taking_up-r labels run (At_label l) cs cs' h.1 p
@@ -159,7 +160,8 @@ module _ (R : (A : Type 0) → Act A → Act A → Type 0) (laws : Laws R) where
   loop-r ahead body behind p [] [] h =
       bind-r R laws (p.test [] [] h) λ more. branch-r R laws more (turn-r ahead body behind p Front [] [] h (laws.stops Flow Bound)) (laws.gives Flow Normal)
   loop-r ahead body behind p [] (c' ∷ cs') h =
-      bind-r R laws (p.test [] (c' ∷ cs') h) λ more. branch-r R laws more (turn-r ahead body behind p Front [] (c' ∷ cs') h (laws.bounds Flow _)) (laws.gives Flow Normal)
+      bind-r R laws (p.test [] (c' ∷ cs') h) λ more. branch-r R laws more (turn-r ahead body behind p Front [] (c' ∷ cs') h
+        (laws.bounds Flow _ (loop-r ahead body behind p cs' cs' (second-r R laws [] cs' h.1)))) (laws.gives Flow Normal)
   loop-r ahead body behind p (c ∷ cs) [] h = absurd h
   loop-r ahead body behind p (c ∷ cs) (c' ∷ cs') h =
       bind-r R laws (p.test (c ∷ cs) (c' ∷ cs') h) λ more.
@@ -170,7 +172,8 @@ module _ (R : (A : Type 0) → Act A → Act A → Type 0) (laws : Laws R) where
   unfolding meet_loop
   meet_loop-r ahead body behind p Front cs cs' h = loop-r ahead body behind p cs cs' h
   meet_loop-r ahead body behind p (At_label l) [] [] h = turn-r ahead body behind p (At_label l) [] [] h (laws.stops Flow Bound)
-  meet_loop-r ahead body behind p (At_label l) [] (c' ∷ cs') h = turn-r ahead body behind p (At_label l) [] (c' ∷ cs') h (laws.bounds Flow _)
+  meet_loop-r ahead body behind p (At_label l) [] (c' ∷ cs') h = turn-r ahead body behind p (At_label l) [] (c' ∷ cs') h
+      (laws.bounds Flow _ (loop-r ahead body behind p cs' cs' (second-r R laws [] cs' h.1)))
   meet_loop-r ahead body behind p (At_label l) (c ∷ cs) [] h = absurd h
   meet_loop-r ahead body behind p (At_label l) (c ∷ cs) (c' ∷ cs') h =
       turn-r ahead body behind p (At_label l) (c ∷ cs) (c' ∷ cs') h (loop-r ahead body behind p cs cs' h.1)
@@ -303,7 +306,10 @@ module _ (R : (A : Type 0) → Act A → Act A → Type 0) (laws : Laws R) where
 
   pub calls-r : (w : World) (n m : ℕ) → n ≤ m → AreRelated R laws (calls w n) (calls w m)
   unfolding calls callee
-  calls-r w zero m h = tt
+  calls-r w zero zero h = tt
+  calls-r w zero (suc m) h =
+      let self : AreRelated R laws (calls w m) (calls w m) = calls-r w m m (omega arith) in
+      (λ f vs. run_body-r w (calls w m) (calls w m) f.name f.body vs self, calls-r w zero m (omega arith))
   calls-r w (suc n) zero h = absurd (omega arith)
   calls-r w (suc n) (suc m) h =
       let below : n ≤ m = omega arith in

@@ -9,3 +9,4 @@ pub mod Operators
 pub mod Evaluation
 pub mod Execution
 pub mod SourceRun
+pub mod Lasting
