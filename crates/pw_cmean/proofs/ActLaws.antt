@@ -1,13 +1,13 @@
 -- A relation between acts that holds of each primitive act, and of acts in order, holds of every expression,
 -- statement and call.
-use Rattle.std.proofs.Common.{ℕ, zero, suc, ◌+◌, ◌≡◌, refl, Bool, true, false, List, [], ◌∷◌, ◌++◌, Option, Some, None, Result, Ok, Err}
+use Rattle.std.proofs.Common.{ℕ, Bool, true, false, List, [], ◌∷◌, Option, Some, None, Result, Ok, Err}
 use Rattle.std.specs.Prelude.{ℤ}
 use Rattle.pw_value.specs.declared.value.Value.{Value}
 use Rattle.pw_value.specs.declared.value.Value.TheVariants as V
 use Rattle.pw_value.specs.declared.value.Byte.{Byte}
 use Rattle.pw_value.specs.declared.value.Pointer.TheVariants as P
 use Rattle.pw_value.specs.Objects.{Object}
-use Rattle.pw_types.specs.TypeTrees.{CType, Void, Int, Pointer, Array, Function as FunctionType, Record, QType, type_of, RecordValue}
+use Rattle.pw_types.specs.TypeTrees.{CType, Void, Int, Pointer, Array, Function as FunctionType, Record, QType, RecordValue}
 use Rattle.pw_types.specs.declared.kind.IntKind.{IntKind}
 use Rattle.pw_types.specs.declared.record.Layout.{Layout}
 use Rattle.pw_types.specs.declared.tree.UnaryOperator.{UnaryOperator}
@@ -19,7 +19,7 @@ use Rattle.pw_types.specs.TypedTrees.{Symbol}
 use Rattle.pw_cmean.specs.declared.undefined.Undef.{Undef}
 use Rattle.pw_cmean.specs.Undefined.{Finding, least}
 use Rattle.pw_cmean.specs.Worlds.{World, Callable, Body, Defined, Library, LibraryFunction, GetChar, PutChar, ExitRun}
-use Rattle.pw_cmean.specs.Acts.{Act, State, Outcome, Ending, Bound, Wrong, StackFull, Exit, Undefined, Site, give, stop, ◌>>=◌, ◌>>◌, branch, wrong, look, write, get_char, put_char, during, with_object, need, undefined, told, judge}
+use Rattle.pw_cmean.specs.Acts.{Act, State, Ending, Bound, Wrong, StackFull, Undefined, Site, give, stop, ◌>>=◌, branch, wrong, look, write, get_char, put_char, during, with_object, need, undefined, told, judge}
 use Rattle.pw_cmean.specs.Access.{Purpose, objects_now, within, load, store, copy, fetch, put}
 use Rattle.pw_cmean.specs.Operators.{truth, outcome_of, on_numbers, unary_number, unary, advance, advance_elements, difference, ordered, compared, on_pointers, pointer_and_number, number_and_pointer, binary, convert}
 use Rattle.pw_cmean.specs.Evaluation.{Env, Calls, local_place, symbol_place, used, value_at, cast, bounded_call, take_room, library_call, call_body, call, call_value, assign, old_value, update, step}

@@ -1,11 +1,10 @@
 -- A greater bound: what comes within a bound comes within each greater one, and what a bound cuts short goes on.
-use Rattle.std.proofs.Common.{ℕ, zero, suc, ◌+◌, ◌<◌, ◌≤◌, ◌≡◌, ◌≢◌, refl, sym, ap, ◌∙◌, arith, Bool, true, false, List, [], ◌∷◌, ◌++◌, length, Option, Some, None}
+use Rattle.std.proofs.Common.{ℕ, ◌≡◌, refl, sym, ◌∙◌, arith, Bool, List, [], length}
 use Rattle.std.proofs.lemmas.Grind.{common_steps}
-use Rattle.pw_value.specs.declared.value.Byte.{Byte}
-use Rattle.pw_cmean.specs.Acts.{Act, State, Outcome, Gives, Ends, Ending, Bound, give, stop, go_on, ◌>>=◌, look, make, end_object, write, next_byte, get_char, put_char, called, returned, during, with_object}
+use Rattle.pw_cmean.specs.Acts.{Act, State, Outcome, Gives, Ends, Bound, give, stop, go_on, ◌>>=◌, look, make, end_object, write, get_char, put_char, called, returned, during, with_object}
 use Rattle.pw_cmean.specs.Lasting.{state_behind, IsLater}
 use Rattle.pw_cmean.proofs.ActLaws.{Laws}
-use Rattle.pw_cmean.proofs.Keeping.{IsKept, later-trans, Keeps, during-k, with_object-k, bind-k, keeping}
+use Rattle.pw_cmean.proofs.Keeping.{later-trans, Keeps, during-k, with_object-k, bind-k, keeping}
 
 -- the first is the second, or the bound cut it short at a state before that of the second
 pub data IsCut {A : Type 0} : Outcome A → Outcome A → Type 0 where
@@ -82,4 +81,5 @@ bounding = record {
   puts = λ b. alike (put_char b) (keeping.puts b).0;
   durings = λ A name m m' p. (during-k name m' p.0, during-c name m m' p.1);
   withs = λ A size w f f' p. (with_object-k size w f' (λ n. (p n).0), with_object-c size w f f' (λ n. (p n).1));
-  binds = λ A B m m' k k' p q. (bind-k m' k' p.0 (λ a. (q a).0), bind-c m m' k k' p.1 q) }
+  binds = λ A B m m' k k' p q. (bind-k m' k' p.0 (λ a. (q a).0), bind-c m m' k k' p.1 q);
+}

@@ -1,10 +1,10 @@
 -- The output grows, the input is read, the objects and the active functions stay: by the laws of acts.
-use Rattle.std.proofs.Common.{ℕ, zero, suc, ◌+◌, ◌<◌, ◌≤◌, ◌≡◌, ◌≢◌, refl, sym, ap, ◌∙◌, arith, Bool, true, false, List, [], ◌∷◌, ◌++◌, append_assoc, length, length-append, length-set, set, get_or-set_other, Option, Some, None}
+use Rattle.std.proofs.Common.{ℕ, zero, suc, ◌+◌, ◌<◌, ◌≡◌, ◌≢◌, refl, sym, ap, ◌∙◌, arith, Bool, false, List, [], ◌∷◌, ◌++◌, append_assoc, length, length-append, length-set, set, get_or-set_other}
 use Rattle.std.proofs.lemmas.Grind.{common_steps}
 use Rattle.pw_value.specs.declared.value.Byte.{Byte}
 use Rattle.pw_value.specs.Objects.{Object, object_at, no_object, with_bytes, written, ended}
 use Rattle.pw_value.proofs.Ranges.{length-with_bytes}
-use Rattle.pw_cmean.specs.Acts.{Act, State, Outcome, Gives, Ends, Ending, Bound, Moment, give, stop, go_on, ◌>>=◌, look, make, end_object, write, next_byte, get_char, put_char, called, returned, during, with_object}
+use Rattle.pw_cmean.specs.Acts.{Act, State, Outcome, Gives, Ends, give, stop, go_on, ◌>>=◌, look, make, end_object, write, next_byte, get_char, put_char, called, returned, during, with_object}
 use Rattle.pw_cmean.specs.Lasting.{state_behind, IsLater, KeepsObjects, KeepsActive}
 use Rattle.pw_cmean.proofs.ActLaws.{Laws}
 
@@ -18,14 +18,16 @@ pub record IsKept (s t : State) : Type 0 where
 same-kept : (s t : State) → t.out ≡ s.out → t.rest ≡ s.rest → t.read ≡ s.read → KeepsObjects s t → IsKept s t
 same-kept s t o r n k = record {
   later = record { written = ([], o ∙ grind (arith, common_steps)); taken = ([], sym r, n ∙ omega arith) };
-  objects = k }
+  objects = k;
+}
 
 objects-refl : (s t : State) → t.objects ≡ s.objects → KeepsObjects s t
 objects-refl s t e = record {
   count = omega (arith, ap length e);
   sizes = λ n below. ap (λ x. length (object_at x n).bytes) e;
   living = λ n below. ap (λ x. (object_at x n).live) e;
-  writable = λ n below. ap (λ x. (object_at x n).writable) e }
+  writable = λ n below. ap (λ x. (object_at x n).writable) e;
+}
 
 pub kept-refl : (s : State) → IsKept s s
 kept-refl s = same-kept s s refl refl refl (objects-refl s s refl)
@@ -33,16 +35,20 @@ kept-refl s = same-kept s s refl refl refl (objects-refl s s refl)
 pub later-trans : (s t u : State) → IsLater s t → IsLater t u → IsLater s u
 later-trans s t u p q = record {
   written = (p.written.0 ++ q.written.0, q.written.1 ∙ ap (λ x. x ++ q.written.0) p.written.1 ∙ append_assoc s.out p.written.0 q.written.0);
-  taken = (p.taken.0 ++ q.taken.0,
+  taken = (
+    p.taken.0 ++ q.taken.0,
     p.taken.1 ∙ ap (λ x. p.taken.0 ++ x) q.taken.1 ∙ sym (append_assoc p.taken.0 q.taken.0 u.rest),
-    (let e : length (p.taken.0 ++ q.taken.0) ≡ length p.taken.0 + length q.taken.0 = length-append p.taken.0 q.taken.0 in omega (arith, e, p.taken.2, q.taken.2))) }
+    (let e : length (p.taken.0 ++ q.taken.0) ≡ length p.taken.0 + length q.taken.0 = length-append p.taken.0 q.taken.0 in omega (arith, e, p.taken.2, q.taken.2)),
+  );
+}
 
 objects-trans : (s t u : State) → KeepsObjects s t → KeepsObjects t u → KeepsObjects s u
 objects-trans s t u p q = record {
   count = omega arith;
   sizes = λ n below. q.sizes n (omega (arith, p.count)) ∙ p.sizes n below;
   living = λ n below. q.living n (omega (arith, p.count)) ∙ p.living n below;
-  writable = λ n below. q.writable n (omega (arith, p.count)) ∙ p.writable n below }
+  writable = λ n below. q.writable n (omega (arith, p.count)) ∙ p.writable n below;
+}
 
 pub kept-trans : (s t u : State) → IsKept s t → IsKept t u → IsKept s u
 kept-trans s t u p q = record { later = later-trans s t u p.later q.later; objects = objects-trans s t u p.objects q.objects }
@@ -75,20 +81,22 @@ at-set f (o ∷ os) (suc number) (suc n) x e = at-set f os number n x e
 -- the bytes of an object are others, as many
 write-k : (number offset : ℕ) (bytes : List Byte) (os : List Object) (n : ℕ)
     → (length (object_at (written number offset bytes os) n).bytes ≡ length (object_at os n).bytes)
-      × ((object_at (written number offset bytes os) n).live ≡ (object_at os n).live)
-      × ((object_at (written number offset bytes os) n).writable ≡ (object_at os n).writable)
+    × ((object_at (written number offset bytes os) n).live ≡ (object_at os n).live)
+    × ((object_at (written number offset bytes os) n).writable ≡ (object_at os n).writable)
 write-k number offset bytes os n =
-    let new : Object = record (object_at os number) { bytes = with_bytes bytes offset (object_at os number).bytes } in
-    (at-set (λ o. length o.bytes) os number n new (length-with_bytes bytes offset (object_at os number).bytes),
+    let new : Object = record (object_at os number) { bytes = with_bytes bytes offset (object_at os number).bytes } in (
+      at-set (λ o. length o.bytes) os number n new (length-with_bytes bytes offset (object_at os number).bytes),
       at-set (λ o. o.live) os number n new refl,
-      at-set (λ o. o.writable) os number n new refl)
+      at-set (λ o. o.writable) os number n new refl,
+    )
 
 written-k : (number offset : ℕ) (bytes : List Byte) (s : State) → KeepsObjects s (record s { objects = written number offset bytes s.objects })
 written-k number offset bytes s = record {
   count = omega (arith, length-set s.objects number (record (object_at s.objects number) { bytes = with_bytes bytes offset (object_at s.objects number).bytes }));
   sizes = λ n below. (write-k number offset bytes s.objects n).0;
   living = λ n below. (write-k number offset bytes s.objects n).1;
-  writable = λ n below. (write-k number offset bytes s.objects n).2 }
+  writable = λ n below. (write-k number offset bytes s.objects n).2;
+}
 
 -- an object of its own, which ends behind the act
 made-k : (s : State) (new : Object) → KeepsObjects s (record s { objects = s.objects ++ new ∷ [] })
@@ -96,7 +104,8 @@ made-k s new = record {
   count = omega (arith, length-append s.objects (new ∷ []));
   sizes = λ n below. ap (λ o. length o.bytes) (get_or-append_left n below);
   living = λ n below. ap (λ o. o.live) (get_or-append_left n below);
-  writable = λ n below. ap (λ o. o.writable) (get_or-append_left n below) }
+  writable = λ n below. ap (λ o. o.writable) (get_or-append_left n below);
+}
   where
     get_or-append_left : (n : ℕ) → n < length s.objects → object_at (s.objects ++ new ∷ []) n ≡ object_at s.objects n
     get_or-append_left n below = grind (arith, common_steps)
@@ -107,7 +116,8 @@ ended-k s t k = record {
   count = omega (arith, length-set t.objects (length s.objects) (record (object_at t.objects (length s.objects)) { live = false }));
   sizes = λ n below. ap (λ o. length o.bytes) (other n below) ∙ k.sizes n below;
   living = λ n below. ap (λ o. o.live) (other n below) ∙ k.living n below;
-  writable = λ n below. ap (λ o. o.writable) (other n below) ∙ k.writable n below }
+  writable = λ n below. ap (λ o. o.writable) (other n below) ∙ k.writable n below;
+}
   where
     other : (n : ℕ) → n < length s.objects → object_at (ended (length s.objects) t.objects) n ≡ object_at t.objects n
     other n below =
@@ -142,7 +152,8 @@ unfolding next_byte
 read-k s [] e = kept-refl s
 read-k s (b ∷ rest) e = record {
   later = record { written = ([], grind (arith, common_steps)); taken = (b ∷ [], e, omega arith) };
-  objects = objects-refl s _ refl }
+  objects = objects-refl s _ refl;
+}
 
 -- the same of one act
 both : {A : Type 0} (m : Act A) → Keeps m → IsKeeping A m m
@@ -173,7 +184,8 @@ keeping = record {
   puts = λ b. both (put_char b) λ s. record { later = record { written = (b ∷ [], refl); taken = ([], refl, omega arith) }; objects = objects-refl s _ refl };
   durings = λ A name m m' p. (during-k name m p.0, during-k name m' p.1);
   withs = λ A size w f f' p. (with_object-k size w f (λ n. (p n).0), with_object-k size w f' (λ n. (p n).1));
-  binds = λ A B m m' k k' p q. (bind-k m k p.0 (λ a. (q a).0), bind-k m' k' p.1 (λ a. (q a).1)) }
+  binds = λ A B m m' k k' p q. (bind-k m k p.0 (λ a. (q a).0), bind-k m' k' p.1 (λ a. (q a).1));
+}
 
 -- ---- active functions
 
@@ -235,4 +247,5 @@ restoring = record {
   puts = λ b. twice (put_char b) λ s. refl;
   durings = λ A name m m' p. (during-a name m, during-a name m');
   withs = λ A size w f f' p. (with_object-a size w f (λ n. (p n).0), with_object-a size w f' (λ n. (p n).1));
-  binds = λ A B m m' k k' p q. (bind-a m k p.0 (λ a. (q a).0), bind-a m' k' p.1 (λ a. (q a).1)) }
+  binds = λ A B m m' k k' p q. (bind-a m k p.0 (λ a. (q a).0), bind-a m' k' p.1 (λ a. (q a).1));
+}

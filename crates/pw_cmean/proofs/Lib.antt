@@ -3,3 +3,4 @@ pub mod ActLaws
 pub mod TreeLaws
 pub mod Keeping
 pub mod Bounding
+pub mod RunLaws

@@ -1,15 +1,14 @@
 -- Small programs and what their runs come to, by computing the definitions.
-use Rattle.std.proofs.Common.{ℕ, suc, ◌≡◌, ◌^◌, ◌-◌, refl, Bool, true, false, List, [], ◌∷◌, Option, Some, None, map}
+use Rattle.std.proofs.Common.{ℕ, suc, ◌≡◌, refl, true, false, List, [], ◌∷◌, Some}
 use Rattle.std.specs.Prelude.{codes}
-use Rattle.pw_types.specs.TypeTrees.{CType, Void, Int, Pointer, Array, Function as FunctionType, Record, QType, Qualified, QTypes, NoType, OneType}
+use Rattle.pw_types.specs.TypeTrees.{Int, Function as FunctionType, QType, Qualified, QTypes, NoType}
 use Rattle.pw_types.specs.declared.kind.IntKind.TheVariants as K
 use Rattle.pw_types.specs.declared.tree.BinaryOperator.TheVariants as O
-use Rattle.pw_types.specs.declared.tree.StepOperator.TheVariants as S
-use Rattle.pw_types.specs.TypedTrees.{Symbol, External, Internal, Hidden, Expression, Node, Form, Number, Str, Local, Global, Function, Unary, Binary, Logic, Cond, Comma, Assign, Compound, Step, Cast, Decay, Member, Deref, Address, Call, CallValue, Expressions, NoExpression, OneExpression, CaseValue, Initialiser, Value as ByValue, Bytes as ByBytes, Statement, Empty, Evaluate, Block, If, While, Do, For, Switch, Label, Goto, Break, Continue, Return, Arms, NoArm, Arm, Otherwise, NoElse, Else, Statements, NoStatement, OneStatement, LocalValue, FunctionValue, ModuleValue}
+use Rattle.pw_types.specs.TypedTrees.{External, Expression, Node, Number, Local, Binary, Assign, Cast, Call, NoExpression, OneExpression, Initialiser, Value as ByValue, Statement, Empty, Evaluate, Block, If, While, Do, Label, Goto, Return, NoArm, Arm, NoElse, Statements, NoStatement, OneStatement, LocalValue, FunctionValue}
 use Rattle.pw_cmean.specs.declared.undefined.Undef.{Undef}
 use Rattle.pw_cmean.specs.declared.undefined.Undef.TheVariants as U
-use Rattle.pw_cmean.specs.Worlds.{Program, ProgramModule}
-use Rattle.pw_cmean.specs.Acts.{Ending, Undefined, StackFull, Exit, Bound, Wrong, give, stop, go_on, ◌>>=◌, branch, wrong, look, make, end_object, write, next_byte, get_char, put_char, called, returned, during, with_object, need, undefined, told, judge}
+use Rattle.pw_cmean.specs.Worlds.{Program}
+use Rattle.pw_cmean.specs.Acts.{Undefined, StackFull, Exit, Bound, give, stop, go_on, ◌>>=◌, branch, wrong, look, make, end_object, write, next_byte, get_char, put_char, called, returned, during, with_object, need, undefined, told, judge}
 use Rattle.pw_cmean.specs.Access.{objects_now, within, load, store, copy, fetch, put}
 use Rattle.pw_cmean.specs.Operators.{truth, outcome_of, on_numbers, unary_number, unary, advance, advance_elements, difference, ordered, compared, on_pointers, pointer_and_number, number_and_pointer, binary, convert}
 use Rattle.pw_cmean.specs.Evaluation.{local_place, symbol_place, used, value_at, cast, bounded_call, take_room, library_call, call_body, call, call_value, assign, old_value, update, step, answer_of, place_of, values_of}
@@ -38,17 +37,27 @@ list (s ∷ rest) = OneStatement s (list rest)
 -- main at token 2, with these locals of its outermost block, its initialisers and statements
 abbrev main_of : List LocalValue → List Initialiser → List Statement → FunctionValue
 main_of locals initialisers body = record {
-    name = External (codes "main"); token = 2; ty = function_type NoType; params = 0; locals = locals;
-    labels = 9; named = []; body = Block 6 0 (length' locals) initialisers (list body) }
+  name = External (codes "main");
+  token = 2;
+  ty = function_type NoType;
+  params = 0;
+  locals = locals;
+  labels = 9;
+  named = [];
+  body = Block 6 0 (length' locals) initialisers (list body);
+}
   where
     length' : List LocalValue → ℕ
     length' [] = 0
     length' (l ∷ rest) = suc (length' rest)
 
 abbrev program_of : List FunctionValue → Program
-program_of functions = record { modules = record {
+program_of functions = record {
+  modules = record {
     name = codes "a";
-    tree = record { records = []; globals = []; functions = functions; declared = [] } } ∷ [] }
+    tree = record { records = []; globals = []; functions = functions; declared = [] };
+  } ∷ [];
+}
 
 abbrev run_of : List FunctionValue → List ℕ → ℕ → Run
 run_of functions input bound = source_run (program_of functions) (λ name. 100) 1000 input bound
@@ -85,7 +94,7 @@ character t = Node t int_type (Call (External (codes "getchar")) NoExpression)
 abbrev echo : List FunctionValue
 echo = main_of (the_local int_type ∷ []) []
     (While 10 (Node 18 int_type (Binary O.NotEqual (Node 13 int_type (Assign (local 12 0) (character 15))) (Node 19 int_type (Number 4294967295))))
-      (Evaluate 22 (Node 23 int_type (Call (External (codes "putchar")) (OneExpression (local 24 0) NoExpression))))
+    (Evaluate 22 (Node 23 int_type (Call (External (codes "putchar")) (OneExpression (local 24 0) NoExpression))))
     ∷ Return 27 (Some (Node 29 int_type (Binary O.Add (local 28 0) (number 30 1))))
     ∷ []) ∷ []
 

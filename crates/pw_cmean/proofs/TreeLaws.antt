@@ -1,16 +1,14 @@
 -- Such a relation holds of every expression, statement and call, by the shape of the trees.
-use Rattle.std.proofs.Common.{arith, ℕ, zero, suc, ◌+◌, ◌≤◌, ◌≡◌, refl, Bool, true, false, List, [], ◌∷◌, ◌++◌, Option, Some, None}
+use Rattle.std.proofs.Common.{arith, ℕ, zero, suc, ◌≤◌, Bool, true, List, [], ◌∷◌, Option, Some, None}
 use Rattle.pw_value.specs.declared.value.Value.{Value}
 use Rattle.pw_value.specs.declared.value.Value.TheVariants as V
-use Rattle.pw_value.specs.Objects.{object_at}
-use Rattle.pw_types.specs.TypeTrees.{type_of}
-use Rattle.pw_types.specs.TypedTrees.{Symbol, Hidden, Expression, Node, Form, Number, Str, Local, Global, Function, Unary, Binary, Logic, Cond, Comma, Assign, Compound, Step, Cast, Decay, Member, Deref, Address, Call, CallValue, Expressions, NoExpression, OneExpression, type_at, token_of, CaseValue, Initialiser, Value as ByValue, Bytes as ByBytes, Statement, Empty, Evaluate, Block, If, While, Do, For, Switch, Label, Goto, Break, Continue, Return, Arms, NoArm, Arm, Otherwise, NoElse, Else, Statements, NoStatement, OneStatement, LocalValue, FunctionValue}
-use Rattle.pw_cmean.specs.Worlds.{World, ProgramModule, Callable, Body, Defined, Library}
-use Rattle.pw_cmean.specs.Acts.{Act, State, Site, Bound, give, stop, ◌>>=◌, ◌>>◌, branch, wrong}
+use Rattle.pw_types.specs.TypedTrees.{Expression, Node, Number, Str, Local, Global, Function, Unary, Binary, Logic, Cond, Comma, Assign, Compound, Step, Cast, Decay, Member, Deref, Address, Call, CallValue, Expressions, NoExpression, OneExpression, Initialiser, Value as ByValue, Bytes as ByBytes, Statement, Empty, Evaluate, Block, If, While, Do, For, Switch, Label, Goto, Break, Continue, Return, Arms, NoArm, Arm, Otherwise, NoElse, Else, Statements, NoStatement, OneStatement}
+use Rattle.pw_cmean.specs.Worlds.{World, Body, Defined, Library}
+use Rattle.pw_cmean.specs.Acts.{Act, Site, Bound, give, ◌>>=◌, ◌>>◌}
 use Rattle.pw_cmean.specs.Evaluation.{Env, Calls, used, answer_of, place_of, values_of}
-use Rattle.pw_cmean.specs.Execution.{Entry, Front, At_label, Flow, Normal, Breaks, Continues, Returns, Goes, go_forward, caught, taking_up, after_body, turn, loop, meet_loop, always, value_of, condition, for_condition, drop_value, switch_to, after_switch, labels_in, labels_among, labels_of_arms, labels_behind, with_locals, set_local, initialise, initialise_all, meaning, items, arms, behind_arms}
-use Rattle.pw_cmean.specs.SourceRun.{set_parameters, result_of, run_body, callee, calls}
-use Rattle.pw_cmean.proofs.ActLaws.{Laws, bind-r, branch-r, wrong-r, need-r, judge-r, within-r, put-r, truth-r, unary-r, advance-r, binary-r, local_place-r, symbol_place-r, used-r, value_at-r, cast-r, assign-r, old_value-r, update-r, step-r, AreRelated, second-r, take_room-r, call-r, call_value-r}
+use Rattle.pw_cmean.specs.Execution.{Entry, Front, At_label, Flow, Normal, Breaks, Continues, Returns, Goes, go_forward, caught, taking_up, after_body, turn, loop, meet_loop, always, value_of, condition, for_condition, drop_value, switch_to, after_switch, labels_among, labels_behind, with_locals, set_local, initialise, initialise_all, meaning, items, arms, behind_arms}
+use Rattle.pw_cmean.specs.SourceRun.{set_parameters, result_of, run_body, callee, calls, finish, run_main}
+use Rattle.pw_cmean.proofs.ActLaws.{Laws, bind-r, branch-r, wrong-r, undefined-r, need-r, within-r, put-r, truth-r, unary-r, advance-r, binary-r, local_place-r, symbol_place-r, used-r, value_at-r, cast-r, assign-r, old_value-r, update-r, step-r, AreRelated, second-r, take_room-r, call-r, call_value-r}
 
 module _ (R : (A : Type 0) → Act A → Act A → Type 0) (laws : Laws R) where
   -- the result of an operand, which must be there
@@ -19,6 +17,7 @@ module _ (R : (A : Type 0) → Act A → Act A → Type 0) (laws : Laws R) where
 
   mutual
     unfolding answer_of place_of values_of
+
     pub answer-r : (a : Expression) (cs cs' : Calls) (e : Env) → AreRelated R laws cs cs' → R (Option Value) (answer_of a cs e) (answer_of a cs' e)
     answer-r (Node t ty (Number n)) cs cs' e h = laws.gives (Option Value) _
     answer-r (Node t ty (Str k)) cs cs' e h = bind-r R laws (symbol_place-r R laws e _) λ p. value_at-r R laws e t ty p
@@ -33,7 +32,7 @@ module _ (R : (A : Type 0) → Act A → Act A → Type 0) (laws : Laws R) where
     answer-r (Node t ty (Logic op a b)) cs cs' e h =
         bind-r R laws (bind-r R laws (operand-r _ (answer-r a cs cs' e h)) λ v. truth-r R laws _ v) λ x.
         branch-r R laws _ (laws.gives (Option Value) _)
-          (bind-r R laws (bind-r R laws (operand-r _ (answer-r b cs cs' e h)) λ v. truth-r R laws _ v) λ y. laws.gives (Option Value) _)
+        (bind-r R laws (bind-r R laws (operand-r _ (answer-r b cs cs' e h)) λ v. truth-r R laws _ v) λ y. laws.gives (Option Value) _)
     answer-r (Node t ty (Cond c a b)) cs cs' e h =
         bind-r R laws (bind-r R laws (operand-r _ (answer-r c cs cs' e h)) λ v. truth-r R laws _ v) λ x.
         branch-r R laws x (answer-r a cs cs' e h) (answer-r b cs cs' e h)
@@ -161,7 +160,7 @@ module _ (R : (A : Type 0) → Act A → Act A → Type 0) (laws : Laws R) where
       bind-r R laws (p.test [] [] h) λ more. branch-r R laws more (turn-r ahead body behind p Front [] [] h (laws.stops Flow Bound)) (laws.gives Flow Normal)
   loop-r ahead body behind p [] (c' ∷ cs') h =
       bind-r R laws (p.test [] (c' ∷ cs') h) λ more. branch-r R laws more (turn-r ahead body behind p Front [] (c' ∷ cs') h
-        (laws.bounds Flow _ (loop-r ahead body behind p cs' cs' (second-r R laws [] cs' h.1)))) (laws.gives Flow Normal)
+      (laws.bounds Flow _ (loop-r ahead body behind p cs' cs' (second-r R laws [] cs' h.1)))) (laws.gives Flow Normal)
   loop-r ahead body behind p (c ∷ cs) [] h = absurd h
   loop-r ahead body behind p (c ∷ cs) (c' ∷ cs') h =
       bind-r R laws (p.test (c ∷ cs) (c' ∷ cs') h) λ more.
@@ -216,6 +215,7 @@ module _ (R : (A : Type 0) → Act A → Act A → Type 0) (laws : Laws R) where
 
   mutual
     unfolding meaning items arms behind_arms
+
     pub meaning-r : (s : Statement) (at : Entry) (cs cs' : Calls) (e : Env) → AreRelated R laws cs cs' → R Flow (meaning s at cs e) (meaning s at cs' e)
     meaning-r (Empty t) at cs cs' e h = laws.gives Flow _
     meaning-r (Evaluate t a) at cs cs' e h = bind-r R laws (answer-r a cs cs' e h) λ o. laws.gives Flow _
@@ -229,23 +229,27 @@ module _ (R : (A : Type 0) → Act A → Act A → Type 0) (laws : Laws R) where
         meet_loop-r (λ ds. condition t c ds e) (λ at' ds. meaning body at' ds e) always (record {
           test = λ ds ds' k. condition-r t c ds ds' e k;
           middle = λ at' ds ds' k. meaning-r body at' ds ds' e k;
-          last = λ ds ds' k. always-r ds ds' }) at cs cs' h
+          last = λ ds ds' k. always-r ds ds';
+        }) at cs cs' h
     meaning-r (Do t body c) at cs cs' e h =
         meet_loop-r always (λ at' ds. meaning body at' ds e) (λ ds. condition t c ds e) (record {
           test = λ ds ds' k. always-r ds ds';
           middle = λ at' ds ds' k. meaning-r body at' ds ds' e k;
-          last = λ ds ds' k. condition-r t c ds ds' e k }) at cs cs' h
+          last = λ ds ds' k. condition-r t c ds ds' e k;
+        }) at cs cs' h
     meaning-r (For t first c third body) Front cs cs' e h =
         bind-r R laws (drop_value-r first cs cs' e h) λ u.
         meet_loop-r (λ ds. for_condition t c ds e) (λ at' ds. meaning body at' ds e) (λ ds. drop_value third ds e >> give true) (record {
           test = λ ds ds' k. for_condition-r t c ds ds' e k;
           middle = λ at' ds ds' k. meaning-r body at' ds ds' e k;
-          last = λ ds ds' k. bind-r R laws (drop_value-r third ds ds' e k) λ u. laws.gives Bool true }) Front cs cs' h
+          last = λ ds ds' k. bind-r R laws (drop_value-r third ds ds' e k) λ u. laws.gives Bool true;
+        }) Front cs cs' h
     meaning-r (For t first c third body) (At_label l) cs cs' e h =
         meet_loop-r (λ ds. for_condition t c ds e) (λ at' ds. meaning body at' ds e) (λ ds. drop_value third ds e >> give true) (record {
           test = λ ds ds' k. for_condition-r t c ds ds' e k;
           middle = λ at' ds ds' k. meaning-r body at' ds ds' e k;
-          last = λ ds ds' k. bind-r R laws (drop_value-r third ds ds' e k) λ u. laws.gives Bool true }) (At_label l) cs cs' h
+          last = λ ds ds' k. bind-r R laws (drop_value-r third ds ds' e k) λ u. laws.gives Bool true;
+        }) (At_label l) cs cs' h
     meaning-r (Switch t a cases default body) Front cs cs' e h =
         bind-r R laws (value-r a cs cs' e h) λ v. switch_to-r _ λ l. meaning-r body (At_label l) cs cs' e h
     meaning-r (Switch t a cases default body) (At_label l) cs cs' e h =
@@ -271,8 +275,8 @@ module _ (R : (A : Type 0) → Act A → Act A → Type 0) (laws : Laws R) where
     arms-r NoArm labels at cs cs' e h p = p at
     arms-r (Arm t c s rest) labels Front cs cs' e h p =
         bind-r R laws (condition-r t c cs cs' e h) λ x. branch-r R laws x
-          (bind-r R laws (meaning-r s Front cs cs' e h) λ f. go_forward-r _ f (λ at'. arms-r rest labels at' cs cs' e h p) (laws.gives Flow Normal))
-          (arms-r rest labels Front cs cs' e h p)
+        (bind-r R laws (meaning-r s Front cs cs' e h) λ f. go_forward-r _ f (λ at'. arms-r rest labels at' cs cs' e h p) (laws.gives Flow Normal))
+        (arms-r rest labels Front cs cs' e h p)
     arms-r (Arm t c s rest) labels (At_label l) cs cs' e h p = branch-r R laws _
         (bind-r R laws (meaning-r s (At_label l) cs cs' e h) λ f. go_forward-r _ f (λ at'. arms-r rest labels at' cs cs' e h p) (laws.gives Flow Normal))
         (arms-r rest labels (At_label l) cs cs' e h p)
@@ -314,3 +318,17 @@ module _ (R : (A : Type 0) → Act A → Act A → Type 0) (laws : Laws R) where
   calls-r w (suc n) (suc m) h =
       let below : n ≤ m = omega arith in
       (λ f vs. run_body-r w (calls w n) (calls w m) f.name f.body vs (calls-r w n m below), calls-r w n m below)
+
+  -- ---- a run
+
+  finish-r : (b : Body) (o : Option Value) → R (Unit {0}) (finish b o) (finish b o)
+  unfolding finish
+  finish-r b (Some (V.Num n)) = laws.stops (Unit {0}) _
+  finish-r (Defined home f) None = undefined-r R laws (Unit {0}) _ _
+  finish-r _ _ = wrong-r R laws (Unit {0})
+
+  pub run_main-r : (w : World) (n m : ℕ) → n ≤ m → R (Unit {0}) (run_main w n) (run_main w m)
+  unfolding run_main
+  run_main-r w n m h =
+      bind-r R laws (need-r R laws _) λ main. bind-r R laws (call-r R laws w (calls w n) (calls w m) main [] (calls-r w n m h)) λ result.
+      finish-r main.body result

@@ -8,10 +8,18 @@ abbrev pub state_behind : {A : Type 0} → Outcome A → State
 state_behind (Gives a s) = s
 state_behind (Ends ending s) = s
 
+-- bytes, and others behind them
+abbrev pub Extends : List ℕ → List ℕ → Type 0
+Extends before behind = (new : List ℕ) × (behind ≡ before ++ new)
+
+-- from the one state to the other some bytes were read, and counted
+abbrev pub HasRead : State → State → Type 0
+HasRead s t = (bytes : List ℕ) × (s.rest ≡ bytes ++ t.rest) × (t.read ≡ s.read + length bytes)
+
 -- The output only grows, and the input is only read.
 pub record IsLater (s t : State) : Type 0 where
-  pub written : (new : List ℕ) × (t.out ≡ s.out ++ new)
-  pub taken : (bytes : List ℕ) × (s.rest ≡ bytes ++ t.rest) × (t.read ≡ s.read + length bytes)
+  pub written : Extends s.out t.out
+  pub taken : HasRead s t
 
 -- The objects of a state are there in the other, with their sizes and marks: an act ends only objects that it
 -- made.

@@ -3,6 +3,7 @@
 //! the undefined operations.
 #![tactic(auto)]
 
+pub mod laws;
 mod undefined;
 
 pub use undefined::{Undef, undefined_text};
