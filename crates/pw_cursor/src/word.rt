@@ -83,6 +83,23 @@ pub fn begins_specifier(tokens: &Tokens<'_>, storage: bool) -> bool
     lexeme_begins_specifier(tokens, storage, tokens.peek())
 }
 
+/// A name and a `:` stand next.
+#[tactic(auto, unfolding(pw_grammar::specs::Tests::opens_label))]
+fn opens_label(tokens: &Tokens<'_>) -> bool
+    ensures { result ≡ test.opens_label tokens.now }
+{
+    matches!(tokens.peek(), Lexeme::Identifier(_)) && tokens.sees_second(Mark::Colon)
+}
+
+/// A declaration stands next. The flag says that statements may stand there too, so that a typedef name with a `:`
+/// behind it is a label (C90 6.6.1).
+#[tactic(auto, unfolding(pw_grammar::specs::Tests::begins_declaration))]
+pub fn begins_declaration(tokens: &Tokens<'_>, labels: bool) -> bool
+    ensures { result ≡ test.begins_declaration labels tokens.now }
+{
+    begins_specifier(tokens, true) && !(labels && opens_label(tokens))
+}
+
 /// A `(` and a type name stand next: a cast or the size of a type (C90 6.3.3.4, 6.3.4).
 #[tactic(auto, unfolding(pw_grammar::specs::Tests::opens_type_name))]
 pub fn opens_type_name(tokens: &Tokens<'_>) -> bool

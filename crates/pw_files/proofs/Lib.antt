@@ -6,3 +6,6 @@ pub mod RisingLaws
 pub mod NameLists
 pub mod KindLaws
 pub mod StartLaws
+pub mod ContentsLaws
+pub mod OnwardLaws
+pub mod FaultLaws

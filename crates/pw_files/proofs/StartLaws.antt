@@ -1,79 +1,9 @@
--- The test of the rule of $start is the rule.
-use Rattle.std.proofs.Common.{◌≡◌, ℕ, zero, suc, ◌+◌, ◌<◌, Bool, true, false, cond, List, [], ◌∷◌, refl, sym, ap, ◌∙◌, arith}
-use Rattle.std.specs.Prelude.{Option, Some, None, Contains, not, ◌&&◌, ◌==◌, nat_lt, nat_le}
-use Rattle.std.specs.Str.{bytes_eq}
-use Rattle.std.specs.Cmp.{first_so, second_so}
-use Rattle.std.specs.Cmp.Derive.{both_true}
-use Rattle.std.proofs.lemmas.Bool.{ltb-true, lt-ltb, leb-true, le-leb, eqb-true, eq-eqb}
-use Rattle.std.proofs.lemmas.Slice.Eq.{bytes_eq-Decides}
-use Rattle.std.proofs.lemmas.List.Sums.{sum_by-cons}
-use Rattle.pw_files.specs.Start.{start, main, times, KeepsStart, same_truth, keeps_start, start_rule, sooner}
-
-times_cons : (name other : List ℕ) (names : List (List ℕ)) → times name (other ∷ names) ≡ cond (bytes_eq other name) 1 0 + times name names
-times_cons name other names = sum_by-cons (λ x. cond (bytes_eq x name) 1 0) other names
-
-more_by : (name other : List ℕ) (names : List (List ℕ)) (b : Bool) → bytes_eq other name ≡ b → 0 < cond b 1 0 + times name names → (0 < times name names → Contains names name) → Contains (other ∷ names) name
-more_by name other names true is lt later = (0, omega arith, (bytes_eq-Decides other name).0 is)
-more_by name other names false is lt later = let h = later (omega arith) in (suc h.0, omega (arith, h.1), h.2)
-
-pub stands_by_times : (name : List ℕ) (names : List (List ℕ)) → 0 < times name names → Contains names name
-stands_by_times name [] lt = absurd (omega arith)
-stands_by_times name (other ∷ names) lt = more_by name other names (bytes_eq other name) refl (rw (← times_cons name other names) lt) (stands_by_times name names)
-
-pub times_by_stands : (name : List ℕ) (names : List (List ℕ)) → Contains names name → 0 < times name names
-times_by_stands name [] (k, lt, e) = absurd (omega arith)
-times_by_stands name (other ∷ names) (zero, lt, e) = rw (times_cons name other names, (bytes_eq-Decides other name).1 e) (omega arith)
-times_by_stands name (other ∷ names) (suc k, lt, e) = rw (times_cons name other names) (omega (arith, times_by_stands name names (k, omega arith, e)))
-
--- ---- two tests with one answer
-
-pub same_forth : (a b : Bool) → same_truth a b ≡ true → a ≡ b
-same_forth true b e = sym e
-same_forth false true e = absurd cc
-same_forth false false e = refl
-
-pub same_back : (a b : Bool) → a ≡ b → same_truth a b ≡ true
-same_back true b e = sym e
-same_back false b e = ap not (sym e)
-
-both_by : (a b : Bool) → (a ≡ true → b ≡ true) → (b ≡ true → a ≡ true) → a ≡ b
-both_by true b forth back = sym (forth refl)
-both_by false true forth back = back refl
-both_by false false forth back = refl
-
--- ---- the rule
-
-pub start_forth : (functions globals : List (List ℕ)) → keeps_start functions globals ≡ true → KeepsStart functions globals
-start_forth functions globals e =
-    let one = same_truth (nat_lt 0 (times start functions)) (nat_lt 0 (times main functions)) in
-    let two = nat_le (times start functions) 1 in
-    let three = times start globals == 0 in
-    let rest = second_so one (two && three) e in
-    let same = same_forth (nat_lt 0 (times start functions)) (nat_lt 0 (times main functions)) (first_so one (two && three) e) in
-    let none : times start globals ≡ 0 = eqb-true _ _ (second_so two three rest) in
-    record {
-      beside = (
-        λ h. stands_by_times main functions (ltb-true _ _ (sym same ∙ lt-ltb _ _ (times_by_stands start functions h))),
-        λ h. stands_by_times start functions (ltb-true _ _ (same ∙ lt-ltb _ _ (times_by_stands main functions h))),
-      );
-      once = leb-true _ _ (first_so two three rest);
-      no_global = λ h. let some = times_by_stands start globals h in absurd (omega arith);
-    }
-
-none_by : (n : ℕ) → (0 < n → ⊥) → n ≡ 0
-none_by zero h = refl
-none_by (suc n) h = absurd (h (omega arith))
-
-pub start_back : (functions globals : List (List ℕ)) → KeepsStart functions globals → keeps_start functions globals ≡ true
-start_back functions globals keeps =
-    both_true
-    (same_back (nat_lt 0 (times start functions)) (nat_lt 0 (times main functions))
-    (both_by _ _
-    (λ e. lt-ltb _ _ (times_by_stands main functions (keeps.beside.0 (stands_by_times start functions (ltb-true _ _ e)))))
-    (λ e. lt-ltb _ _ (times_by_stands start functions (keeps.beside.1 (stands_by_times main functions (ltb-true _ _ e)))))))
-    (both_true (le-leb _ _ keeps.once) (eq-eqb _ _ (none_by (times start globals) (λ lt. keeps.no_global (stands_by_times start globals lt)))))
-
--- ---- the same as a rule whose place is known, behind another
+-- The rule of $start as one of a file, behind another.
+use Rattle.std.proofs.Common.{◌≡◌, ℕ, Bool, true, false, cond, List, refl}
+use Rattle.std.specs.Prelude.{Option, Some, None}
+use Rattle.pw_value.specs.ProgramNames.{KeepsStart, keeps_start}
+use Rattle.pw_value.proofs.StartLaws.{start_forth, start_back}
+use Rattle.pw_files.specs.Start.{start_rule, sooner}
 
 rule_by : (b : Bool) (left : ℕ) → cond b None (Some left) ≡ None → b ≡ true
 rule_by true left e = refl

@@ -2,3 +2,5 @@ pub mod Rising
 pub mod Kinds
 pub mod Names
 pub mod Start
+pub mod Contents
+pub mod Faults

@@ -1,6 +1,6 @@
 //! The byte of a kind: 0 where there is none, and 1 to 5 for the kinds of scalars.
 
-ghost use Rattle.std.specs.Prelude.{◌≡◌, ◌++◌, OnOk};
+ghost use Rattle.std.specs.Prelude.{◌≡◌, ◌≢◌, ◌++◌, OnOk, IfErr};
 ghost use Rattle.pw_value.specs.FieldFaults.{Gives};
 ghost use Rattle.pw_files.specs.Kinds.{kind as kind_byte, scalar, scalar_code, kind_at, scalar_at, scalar_of};
 
@@ -25,7 +25,8 @@ fn scalar_from(code: u8) -> Kind
 /// A kind, or none.
 #[tactic(auto, unfolding(crate::specs::Kinds::kind_at))]
 pub fn read_kind(bytes: &[u8]) -> Result<(Option<Kind>, &[u8]), FieldError>
-    ensures { Gives (λ x. (x.0, x.1.now)) result (kind_at bytes.now) }
+    ensures found { Gives (λ x. (x.0, x.1.now)) result (kind_at bytes.now) }
+    ensures no_memory { IfErr result (λ e. e ≢ FieldError.NoMemory) }
 {
     let (code, rest) = read_choice(6, bytes)?;
     let kind = if code == 0 {
@@ -39,7 +40,8 @@ pub fn read_kind(bytes: &[u8]) -> Result<(Option<Kind>, &[u8]), FieldError>
 /// A scalar's kind.
 #[tactic(auto, unfolding(crate::specs::Kinds::scalar_at))]
 pub fn read_scalar(bytes: &[u8]) -> Result<(Kind, &[u8]), FieldError>
-    ensures { Gives (λ x. (x.0, x.1.now)) result (scalar_at bytes.now) }
+    ensures found { Gives (λ x. (x.0, x.1.now)) result (scalar_at bytes.now) }
+    ensures no_memory { IfErr result (λ e. e ≢ FieldError.NoMemory) }
 {
     let (code, rest) = read_u8(bytes)?;
     if 1 <= code && code <= 5 {

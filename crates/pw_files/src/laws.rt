@@ -1,20 +1,13 @@
 //! The laws of what files share. The proofs of a format's own laws stand on the lemmas of
-//! `proofs/RisingLaws`, `proofs/NameLists`, `proofs/KindLaws` and `proofs/StartLaws`.
+//! `proofs/RisingLaws`, `proofs/NameLists`, `proofs/KindLaws`, `proofs/ContentsLaws` and
+//! `proofs/FaultLaws`.
 
-ghost use Rattle.std.specs.Prelude.{◌≡◌, ◌↔◌, ℕ, List, Result, IsTrue, Option};
 ghost use Rattle.pw_value.specs.FieldLaws.{Spells};
 ghost use Rattle.pw_files.specs.Kinds.{kind, scalar, kind_at, scalar_at};
-ghost use Rattle.pw_files.specs.Rising.{counted, counted_at, FitsList};
-ghost use Rattle.pw_files.specs.Start.{keeps_start, KeepsStart};
 
 /// What is read of a kind is spelled so, and what is spelled so is read again, whatever follows.
 #[tactic(auto, using(crate::proofs::KindLaws::kind_spells, crate::proofs::KindLaws::scalar_spells))]
 pub fn kinds_are_spelled()
     ensures any { Spells kind (λ k. Unit {0}) kind_at }
     ensures of_scalars { Spells scalar (λ k. Unit {0}) scalar_at }
-{}
-
-/// The test of the rule of `$start` is the rule.
-pub fn the_test_is_the_rule()
-    ensures { (functions globals : List (List ℕ)) → IsTrue (keeps_start functions globals) ↔ KeepsStart functions globals }
 {}

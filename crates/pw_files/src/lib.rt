@@ -1,10 +1,11 @@
-//! What several files of the compiler share: lists, lists in byte order without repeats, the byte of a
-//! kind, names with their shapes, and the rule of the function `$start`.
+//! What several files of the compiler share: a table of names with the fields of a value behind it, lists,
+//! lists in byte order without repeats, the byte of a kind, names with their shapes, and the rules that are
+//! looked at last.
 #![tactic(auto)]
 
 pub mod kinds;
+pub mod late;
 pub mod laws;
 pub mod lists;
-pub mod start;
 pub mod used;
 pub mod writing;

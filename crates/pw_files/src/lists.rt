@@ -6,9 +6,10 @@ ghost use Rattle.pw_value.specs.FieldFaults.{Gives};
 ghost use Rattle.pw_files.specs.Rising.{is_above, next_key, rising_at};
 ghost use Rattle.pw_files.specs.Names.{name_above_at, text_above_at, shaped_at, name_list_at, text_list_at, shaped_list_at};
 
-use crate::start::is_allowed;
+use pw_items::Items;
 use pw_value::fields::names::read_name;
 use pw_value::fields::{FieldError, read_text, read_text_in_place, read_u32};
+use pw_value::program_names::{StartName, is_allowed};
 use pw_value::{Name, Shape};
 use std::alloc::Global;
 
@@ -26,14 +27,15 @@ fn is_name_above(before: Option<&Name>, name: &Name) -> bool
 #[tactic(auto, unfolding(crate::specs::Names::name_above_at))]
 pub fn read_name_above<'a, 'b>(
     names: &'b [Name],
-    with_start: bool,
+    start: StartName,
     before: Option<&Name>,
     bytes: &'a [u8],
 ) -> Result<(&'b Name, &'a [u8]), FieldError>
-    ensures { Gives (λ x. (x.0.now, x.1.now)) result (name_above_at names.now with_start (option_map (λ n. n.now) before.entry) bytes.now) }
+    ensures found { Gives (λ x. (x.0.now, x.1.now)) result (name_above_at names.now start (option_map (λ n. n.now) before.entry) bytes.now) }
+    ensures no_memory { IfErr result (λ e. e ≢ FieldError.NoMemory) }
 {
     let (name, rest) = read_name(names, bytes)?;
-    if is_name_above(before, name) && is_allowed(with_start, name) {
+    if is_name_above(before, name) && is_allowed(start, name) {
         Ok((name, rest))
     } else {
         Err(FieldError::Fault { left: bytes.len() })
@@ -56,7 +58,8 @@ pub fn read_text_above<'a>(
     before: Option<&[u8]>,
     bytes: &'a [u8],
 ) -> Result<(&'a [u8], &'a [u8]), FieldError>
-    ensures { Gives (λ x. (x.0.now, x.1.now)) result (text_above_at (option_map (λ t. t.now) before.entry) bytes.now) }
+    ensures found { Gives (λ x. (x.0.now, x.1.now)) result (text_above_at (option_map (λ t. t.now) before.entry) bytes.now) }
+    ensures no_memory { IfErr result (λ e. e ≢ FieldError.NoMemory) }
 {
     let (text, rest) = read_text_in_place(bytes)?;
     if is_text_above(before, text) {
@@ -71,13 +74,13 @@ pub fn read_text_above<'a>(
 pub fn read_shaped<'a, 'b>(
     alloc: Global,
     names: &'b [Name],
-    with_start: bool,
+    start: StartName,
     before: Option<&Name>,
     bytes: &'a [u8],
 ) -> Result<((&'b Name, Shape), &'a [u8]), FieldError>
-    ensures { Gives (λ x. ((x.0.0.now, x.0.1), x.1.now)) result (shaped_at names.now with_start (option_map (λ n. n.now) before.entry) bytes.now) }
+    ensures { Gives (λ x. ((x.0.0.now, x.0.1), x.1.now)) result (shaped_at names.now start (option_map (λ n. n.now) before.entry) bytes.now) }
 {
-    let (name, rest) = read_name_above(names, with_start, before, bytes)?;
+    let (name, rest) = read_name_above(names, start, before, bytes)?;
     let (shape, rest) = read_text(alloc, rest)?;
     Ok(((name, Shape::new(shape)), rest))
 }
@@ -86,17 +89,17 @@ pub fn read_shaped<'a, 'b>(
 fn read_name_items<'a>(
     alloc: Global,
     names: &[Name],
-    with_start: bool,
+    start: StartName,
     count: u32,
     bytes: &'a [u8],
-) -> Result<(Vec<Name>, &'a [u8]), FieldError>
-    ensures { Gives (λ x. (x.0.items, x.1.now)) result (items_at (name_above_at names.now with_start) (next_key (λ name. name)) count None bytes.now) }
+) -> Result<(Items<Name>, &'a [u8]), FieldError>
+    ensures { Gives (λ x. (x.0, x.1.now)) result (items_at (name_above_at names.now start) (next_key (λ name. name)) count None bytes.now) }
 {
-    let mut items = Vec::new(alloc);
+    let mut items = Items::new(alloc);
     let mut rest = bytes;
     let mut before: Option<&Name> = None;
     for _ in 0..count {
-        let (name, after) = read_name_above(names, with_start, before, rest)?;
+        let (name, after) = read_name_above(names, start, before, rest)?;
         items.push(name.copy(alloc)?)?;
         before = Some(name);
         rest = after;
@@ -108,17 +111,17 @@ fn read_name_items<'a>(
 fn read_shaped_items<'a>(
     alloc: Global,
     names: &[Name],
-    with_start: bool,
+    start: StartName,
     count: u32,
     bytes: &'a [u8],
-) -> Result<(Vec<(Name, Shape)>, &'a [u8]), FieldError>
-    ensures { Gives (λ x. (x.0.items, x.1.now)) result (items_at (shaped_at names.now with_start) (next_key (λ f. f.0)) count None bytes.now) }
+) -> Result<(Items<(Name, Shape)>, &'a [u8]), FieldError>
+    ensures { Gives (λ x. (x.0, x.1.now)) result (items_at (shaped_at names.now start) (next_key (λ f. f.0)) count None bytes.now) }
 {
-    let mut items = Vec::new(alloc);
+    let mut items = Items::new(alloc);
     let mut rest = bytes;
     let mut before: Option<&Name> = None;
     for _ in 0..count {
-        let ((name, shape), after) = read_shaped(alloc, names, with_start, before, rest)?;
+        let ((name, shape), after) = read_shaped(alloc, names, start, before, rest)?;
         items.push((name.copy(alloc)?, shape))?;
         before = Some(name);
         rest = after;
@@ -131,10 +134,10 @@ fn read_shape_items(
     alloc: Global,
     count: u32,
     bytes: &[u8],
-) -> Result<(Vec<Shape>, &[u8]), FieldError>
-    ensures { Gives (λ x. (x.0.items, x.1.now)) result (items_at text_above_at (next_key (λ text. text)) count None bytes.now) }
+) -> Result<(Items<Shape>, &[u8]), FieldError>
+    ensures { Gives (λ x. (x.0, x.1.now)) result (items_at text_above_at (next_key (λ text. text)) count None bytes.now) }
 {
-    let mut items = Vec::new(alloc);
+    let mut items = Items::new(alloc);
     let mut rest = bytes;
     let mut before: Option<&[u8]> = None;
     for _ in 0..count {
@@ -151,13 +154,13 @@ fn read_shape_items(
 pub fn read_name_list<'a>(
     alloc: Global,
     names: &[Name],
-    with_start: bool,
+    start: StartName,
     bytes: &'a [u8],
-) -> Result<(Vec<Name>, &'a [u8]), FieldError>
-    ensures { Gives (λ x. (x.0.items, x.1.now)) result (name_list_at names.now with_start bytes.now) }
+) -> Result<(Items<Name>, &'a [u8]), FieldError>
+    ensures { Gives (λ x. (x.0, x.1.now)) result (name_list_at names.now start bytes.now) }
 {
     let (count, rest) = read_u32(bytes)?;
-    read_name_items(alloc, names, with_start, count, rest)
+    read_name_items(alloc, names, start, count, rest)
 }
 
 /// The count of names, and the names with their shapes.
@@ -165,19 +168,19 @@ pub fn read_name_list<'a>(
 pub fn read_shaped_list<'a>(
     alloc: Global,
     names: &[Name],
-    with_start: bool,
+    start: StartName,
     bytes: &'a [u8],
-) -> Result<(Vec<(Name, Shape)>, &'a [u8]), FieldError>
-    ensures { Gives (λ x. (x.0.items, x.1.now)) result (shaped_list_at names.now with_start bytes.now) }
+) -> Result<(Items<(Name, Shape)>, &'a [u8]), FieldError>
+    ensures { Gives (λ x. (x.0, x.1.now)) result (shaped_list_at names.now start bytes.now) }
 {
     let (count, rest) = read_u32(bytes)?;
-    read_shaped_items(alloc, names, with_start, count, rest)
+    read_shaped_items(alloc, names, start, count, rest)
 }
 
 /// The count of shapes, and the shapes.
 #[tactic(auto, unfolding(crate::specs::Rising::rising_at))]
-pub fn read_shape_list(alloc: Global, bytes: &[u8]) -> Result<(Vec<Shape>, &[u8]), FieldError>
-    ensures { Gives (λ x. (x.0.items, x.1.now)) result (text_list_at bytes.now) }
+pub fn read_shape_list(alloc: Global, bytes: &[u8]) -> Result<(Items<Shape>, &[u8]), FieldError>
+    ensures { Gives (λ x. (x.0, x.1.now)) result (text_list_at bytes.now) }
 {
     let (count, rest) = read_u32(bytes)?;
     read_shape_items(alloc, count, rest)

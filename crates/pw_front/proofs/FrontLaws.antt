@@ -14,7 +14,7 @@ use Rattle.pw_tree.specs.Trees.{Module}
 use Rattle.pw_grammar.specs.Answers.{IsAnswer, answer_in}
 use Rattle.pw_grammar.specs.Input.{Outcome}
 use Rattle.pw_grammar.specs.Modules.{read}
-use Rattle.pw_grammar.proofs.Exact.{exact}
+use Rattle.pw_grammar_laws.proofs.Exact.{exact}
 use Rattle.pw_parse.specs.Parsing.{answer_of, parsed, symbol_in, unless_too_deep}
 use Rattle.pw_parse.specs.declared.parser.ParseFault.TheVariants.{TooDeep, Syntax, NoMemory}
 use Rattle.pw_front.specs.First.{IsFirst}

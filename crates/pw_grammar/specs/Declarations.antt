@@ -10,7 +10,7 @@ use Rattle.pw_grammar.specs.Expressions.{expr_of, some_specifiers}
 use Rattle.pw_grammar.specs.Input.{Parser, ◌>>=◌, ◌>>◌, ◌<$>◌, pure, fault, asks, take_number, sees, eat, expect, while_some, one_or_more}
 use Rattle.pw_grammar.specs.Parts.{Parts, Declared}
 use Rattle.pw_grammar.specs.Specifiers.{specifiers_of}
-use Rattle.pw_grammar.specs.Tests.{begins_specifier}
+use Rattle.pw_grammar.specs.Tests.{begins_declaration}
 
 -- The parts, which call one another to a depth. Between a part and a smaller one a token is read, so a depth above the count of
 -- tokens is enough.
@@ -97,10 +97,11 @@ module _ (limit : ℕ) where
     is_done ← eat m.Semicolon
     if is_done then pure (record { specifiers = ss; declarators = [] }) else (parts limit).declarator Named (has_type ss) >>= declaration_with ss
 
-  unfoldable pub declaration_next : Parser (Option (List Decl → List Decl))
-  declaration_next = do
-    begins ← asks (begins_specifier true)
+  unfoldable pub declaration_next : Bool → Parser (Option (List Decl → List Decl))
+  declaration_next labels = do
+    begins ← asks (begins_declaration labels)
     if begins then (λ d. Some (λ more. d ∷ more)) <$> declaration else pure None
 
-  unfoldable pub declarations : Parser (List Decl)
-  declarations = while_some [] declaration_next
+  -- The flag says that statements may stand behind these, which a label may begin.
+  unfoldable pub declarations : Bool → Parser (List Decl)
+  declarations labels = while_some [] (declaration_next labels)

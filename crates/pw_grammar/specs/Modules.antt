@@ -1,5 +1,5 @@
 -- Translation units (C90 6.7).
-use Rattle.std.specs.Prelude.{ℕ, ◌+◌, Bool, true, not, ◌&&◌, ◌||◌, if◌then◌else◌, length, List, [], ◌∷◌, Option, Some, None}
+use Rattle.std.specs.Prelude.{ℕ, ◌+◌, Bool, true, false, not, ◌&&◌, ◌||◌, if◌then◌else◌, length, List, [], ◌∷◌, Option, Some, None}
 use Rattle.pw_tree.specs.Scopes.{has_type, has_typedef}
 use Rattle.pw_tree.specs.Symbols.{Symbol}
 use Rattle.pw_tree.specs.Trees.{Specifiers, External, Definition, Declaration, Module}
@@ -27,7 +27,7 @@ module _ (limit : ℕ) where
     declare_name d.name (has_typedef ss)
     outer ← mark
     declare_all (or_none d.behind)
-    ds ← declarations limit
+    ds ← declarations limit false
     b ← block limit (stmt limit limit)
     leave outer
     pure (Definition (record { specifiers = ss; declarator = d.tree; declarations = ds; body = b }))

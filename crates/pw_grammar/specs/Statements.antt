@@ -1,5 +1,5 @@
 -- Statements (C90 6.6).
-use Rattle.std.specs.Prelude.{ℕ, zero, suc, not, ◌&&◌, if◌then◌else◌, List, [], ◌∷◌, Option, Some, None}
+use Rattle.std.specs.Prelude.{ℕ, zero, suc, true, ◌||◌, if◌then◌else◌, List, [], ◌∷◌, Option, Some, None}
 use Rattle.pw_tree.specs.Levels.{conditional, comma}
 use Rattle.pw_tree.specs.Symbols.{Symbol, Reserved, Sign, Identifier}
 use Rattle.pw_tree.specs.Trees.{Expr, Label, CaseLabel, DefaultLabel, NameLabel, Stmt, Compound, Expression, Empty, Labeled, If, Switch, While, Do, For, Goto, Continue, Break, Return, Alternative, NoElse, Otherwise, ElseIf, Block, Braced, Stmts, NoStmt, Next}
@@ -7,7 +7,7 @@ use Rattle.pw_tree.specs.declared.symbol.Keyword.TheVariants as k
 use Rattle.pw_tree.specs.declared.symbol.Mark.{Mark}
 use Rattle.pw_tree.specs.declared.symbol.Mark.TheVariants as m
 use Rattle.pw_grammar.specs.Declarations.{parts, declarations}
-use Rattle.pw_grammar.specs.Input.{Parser, ◌>>=◌, ◌>>◌, ◌<$>◌, pure, fault, asks, peek, skip, step, take_number, word, sees, sees_keyword, eat, eat_keyword, expect, expect_keyword, ordinary, is_typedef_name, mark, leave, Turn, Last, More, list_of, while_some}
+use Rattle.pw_grammar.specs.Input.{Parser, ◌>>=◌, ◌>>◌, ◌<$>◌, pure, fault, asks, peek, step, take_number, word, sees, sees_keyword, eat, eat_keyword, expect, expect_keyword, identifier, is_typedef_name, mark, leave, Turn, Last, More, list_of, while_some}
 
 unfoldable pub default_label : Parser Label
 default_label = do
@@ -18,7 +18,7 @@ default_label = do
 unfoldable pub name_label : List ℕ → Parser Label
 name_label text = do
   w ← word text
-  skip
+  expect m.Colon
   pure (NameLabel w)
 
 unfoldable pub empty_stmt : Parser Stmt
@@ -27,7 +27,7 @@ empty_stmt = Empty <$> take_number
 unfoldable pub goto_stmt : Parser Stmt
 goto_stmt = do
   n ← take_number
-  w ← ordinary
+  w ← identifier
   expect m.Semicolon
   pure (Goto n w)
 
@@ -66,10 +66,11 @@ module _ (limit : ℕ) where
     expect m.Colon
     pure (CaseLabel n e)
 
+  -- Where a statement begins, a name with a `:` behind it is a label, and a typedef name can be nothing else.
   abbrev pub label_by : Option Symbol → Parser (Option (List Label → List Label))
   label_by (Some (Reserved k.Case)) = before_label <$> case_label
   label_by (Some (Reserved k.Default)) = before_label <$> default_label
-  label_by (Some (Identifier x)) = λ i. (if sees m.Colon (step i) && not (is_typedef_name i x) then before_label <$> name_label x else pure None) i
+  label_by (Some (Identifier x)) = λ i. (if sees m.Colon (step i) || is_typedef_name i x then before_label <$> name_label x else pure None) i
   label_by _ = pure None
 
   unfoldable pub label : Parser (Option (List Label → List Label))
@@ -195,7 +196,7 @@ module _ (limit : ℕ) where
       n ← asks (λ i. i.next)
       expect m.OpenBrace
       outer ← mark
-      ds ← declarations limit
+      ds ← declarations limit true
       ss ← stmts
       expect m.CloseBrace
       leave outer

@@ -1,5 +1,5 @@
 -- What single tokens begin.
-use Rattle.std.specs.Prelude.{ℕ, Bool, true, false, ◌&&◌, ◌||◌, ◌==◌, if◌then◌else◌, Option, Some, None}
+use Rattle.std.specs.Prelude.{ℕ, Bool, true, false, not, ◌&&◌, ◌||◌, ◌==◌, if◌then◌else◌, Option, Some, None}
 use Rattle.pw_tree.specs.Levels.{binary_level}
 use Rattle.pw_tree.specs.Symbols.{Symbol, Reserved, Sign, Identifier}
 use Rattle.pw_tree.specs.Trees.{Specifiers, NoSpecifier}
@@ -64,6 +64,18 @@ symbol_begins_specifier storage i _ = false
 -- the next token begins a list of specifiers
 unfoldable pub begins_specifier : Bool → Input → Bool
 begins_specifier storage i = symbol_begins_specifier storage i (ahead i)
+
+abbrev pub is_name : Option Symbol → Bool
+is_name (Some (Identifier x)) = true
+is_name _ = false
+
+-- a name and a `:` stand next: a label, where a statement may begin (6.6.1)
+unfoldable pub opens_label : Input → Bool
+opens_label i = is_name (ahead i) && sees m.Colon (step i)
+
+-- A declaration stands next. The flag says that statements may stand there too, so that a typedef name with a `:` behind it is a label.
+unfoldable pub begins_declaration : Bool → Input → Bool
+begins_declaration labels i = begins_specifier true i && not (labels && opens_label i)
 
 -- a `(` and a type name stand next: a cast or the size of a type (6.3.3.4, 6.3.4)
 unfoldable pub opens_type_name : Input → Bool

@@ -8,7 +8,7 @@ use Rattle.pw_tree.specs.Trees.{Module}
 use Rattle.pw_grammar.specs.Answers.{answer_in}
 use Rattle.pw_grammar.specs.Input.{Outcome}
 use Rattle.pw_grammar.specs.Modules.{read}
-use Rattle.pw_grammar.proofs.Exact.{exact as one_answer}
+use Rattle.pw_grammar_laws.proofs.Exact.{exact as one_answer}
 use Rattle.pw_parse.specs.declared.parser.ParseFault.{ParseFault}
 use Rattle.pw_parse.specs.declared.parser.ParseFault.TheVariants.{TooDeep, Syntax, NoMemory}
 use Rattle.pw_parse.specs.Parsing.{symbol_in, answer_of, unless_too_deep, first_too_deep, read_in, parsed, Parses, ParsesAs, Answers}

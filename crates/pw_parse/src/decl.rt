@@ -7,7 +7,7 @@ ghost use Rattle.pw_phrase.specs.Views.{view_declared, view_specifier_list};
 ghost use Rattle.pw_parse.specs.Views.{before_decl, before_init_declarator, inits_last, view_decl_list, view_init_declarator_list, view_inits_end};
 ghost use Rattle.pw_tree.specs.Views.{view_decl, view_init, view_init_declarator, view_initializer};
 
-use pw_cursor::{ASSIGNMENT, Stop, Tokens, begins_specifier, has_type, has_typedef};
+use pw_cursor::{ASSIGNMENT, Stop, Tokens, begins_declaration, has_type, has_typedef};
 use pw_grammar::Place;
 use pw_phrase::{Declared, declare_name, read_declarator, read_expr, read_specifiers};
 use pw_tree::{Decl, Init, InitDeclarator, Initializer, Mark, Specifier};
@@ -226,27 +226,29 @@ fn declaration_next<'a>(
     alloc: Global,
     tokens: &mut Tokens<'a>,
     limit: usize,
+    labels: bool,
 ) -> Result<Option<Decl>, Stop>
-    ensures { Reads before_decl (spec.declaration_next limit tokens.old) result tokens.new }
+    ensures { Reads before_decl (spec.declaration_next limit labels tokens.old) result tokens.new }
 {
-    if !begins_specifier(tokens, true) {
+    if !begins_declaration(tokens, labels) {
         return Ok(None);
     }
     Ok(Some(declaration(alloc, tokens, limit)?))
 }
 
-/// Declarations, none or more.
+/// Declarations, none or more. The flag says that statements may stand behind them, which a label may begin.
 #[tactic(auto, unfolding(pw_grammar::specs::Declarations::declarations))]
 pub fn declarations<'a>(
     alloc: Global,
     tokens: &mut Tokens<'a>,
     limit: usize,
+    labels: bool,
 ) -> Result<Vec<Decl>, Stop>
-    ensures { Reads view_decl_list (spec.declarations limit tokens.old) result tokens.new }
+    ensures { Reads view_decl_list (spec.declarations limit labels tokens.old) result tokens.new }
 {
     let mut found = Vec::new(alloc);
     for _turn in 0..tokens.turns() {
-        let Some(decl) = declaration_next(alloc, tokens, limit)? else {
+        let Some(decl) = declaration_next(alloc, tokens, limit, labels)? else {
             return Ok(found);
         };
         found.push(decl)?;

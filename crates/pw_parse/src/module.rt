@@ -58,7 +58,7 @@ fn function<'a>(
     declare_name(tokens, name, has_typedef(&specifiers))?;
     let outer = tokens.mark();
     declare_behind(tokens, behind)?;
-    let declarations = declarations(alloc, tokens, limit)?;
+    let declarations = declarations(alloc, tokens, limit, false)?;
     let body = body(alloc, tokens, limit)?;
     tokens.leave(outer);
     Ok(External::Function(Function {

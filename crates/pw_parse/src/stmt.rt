@@ -40,11 +40,11 @@ fn name_label(alloc: Global, tokens: &mut Tokens<'_>, text: &[u8]) -> Result<Lab
     ensures { Reads view_label (spec.name_label text.now tokens.old) result tokens.new }
 {
     let name = tokens.word(alloc, text)?;
-    tokens.skip();
+    tokens.expect(Mark::Colon)?;
     Ok(Label::Name(name))
 }
 
-/// A label, if one stands next.
+/// A label, if one stands next. A typedef name can be nothing else where a statement begins.
 #[tactic(auto, unfolding(pw_grammar::specs::Statements::label))]
 fn label<'a>(alloc: Global, tokens: &mut Tokens<'a>, limit: usize) -> Result<Option<Label>, Stop>
     ensures { Reads before_label (spec.label limit tokens.old) result tokens.new }
@@ -53,10 +53,10 @@ fn label<'a>(alloc: Global, tokens: &mut Tokens<'a>, limit: usize) -> Result<Opt
         Lexeme::Keyword(Keyword::Case) => Ok(Some(case_label(alloc, tokens, limit)?)),
         Lexeme::Keyword(Keyword::Default) => Ok(Some(default_label(tokens)?)),
         Lexeme::Identifier(text) => {
-            if !tokens.sees_second(Mark::Colon) || tokens.is_typedef_name(text) {
-                return Ok(None);
+            if tokens.sees_second(Mark::Colon) || tokens.is_typedef_name(text) {
+                return Ok(Some(name_label(alloc, tokens, text)?));
             }
-            Ok(Some(name_label(alloc, tokens, text)?))
+            Ok(None)
         }
         _ => Ok(None),
     }
@@ -91,7 +91,7 @@ fn goto_stmt(alloc: Global, tokens: &mut Tokens<'_>) -> Result<Stmt, Stop>
     ensures { Reads view_stmt (spec.goto_stmt tokens.old) result tokens.new }
 {
     let token = tokens.take_number();
-    let label = tokens.ordinary(alloc)?;
+    let label = tokens.identifier(alloc)?;
     tokens.expect(Mark::Semicolon)?;
     Ok(Stmt::Goto { token, label })
 }
@@ -391,7 +391,7 @@ impl<'a, F: Fn(Global, &mut Tokens<'a>, usize, usize) -> Result<Stmt, Stop>> Sta
         let token = tokens.here();
         tokens.expect(Mark::OpenBrace)?;
         let outer = tokens.mark();
-        let declarations = declarations(self.alloc, tokens, self.limit)?;
+        let declarations = declarations(self.alloc, tokens, self.limit, true)?;
         let statements = self.stmts(tokens)?;
         tokens.expect(Mark::CloseBrace)?;
         tokens.leave(outer);

@@ -1,2 +1,3 @@
 pub mod SummaryLaws
+pub mod SummaryFaults
 pub mod WritingLemmas

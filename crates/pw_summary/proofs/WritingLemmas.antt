@@ -10,7 +10,11 @@ use Rattle.pw_value.specs.FieldFrame.{file, FitsFile}
 use Rattle.pw_value.specs.FieldNames.{IsTableOf}
 use Rattle.pw_value.proofs.NameLaws.{AllUsed, used_by_table}
 use Rattle.pw_files.proofs.RisingLaws.{each_by_used, used_front, used_back}
-use Rattle.pw_summary.specs.Summary.{UsesValue, SummaryValue, global_names, function_names, AreNamed, IsNamedBy, IsSummary, IsSummaryFile, FitsSummary, names_of_uses, names_of, spelling, kind}
+use Rattle.pw_files.specs.Contents.{Contents, IsContents}
+use Rattle.pw_files.proofs.ContentsLaws as files
+use Rattle.pw_summary.specs.declared.summary.Uses.{Uses}
+use Rattle.pw_summary.specs.declared.summary.Summary.{Summary}
+use Rattle.pw_summary.specs.Summary.{global_names, function_names, AreNamed, IsNamedBy, IsSummary, IsSummaryFile, FitsSummary, names_of_uses, names_of, spelling, kind}
 
 named : {X : Type 0} (key : X → List ℕ) (names : List (List ℕ)) (xs : List X) → AllUsed (map key xs) names → All (λ x. Contains names (key x)) xs
 named key names xs used = All-from_recursion (λ x. Contains names (key x)) xs (each_by_used key names xs used)
@@ -22,16 +26,16 @@ each_named names (x ∷ xs) used = (used.0, each_named names xs used.1)
 listed : (names xs : List (List ℕ)) → AllUsed xs names → All (Contains names) xs
 listed names xs used = All-from_recursion (Contains names) xs (each_named names xs used)
 
-uses_named : (names : List (List ℕ)) (u : UsesValue) → AllUsed (names_of_uses u) names → AreNamed names u
+uses_named : (names : List (List ℕ)) (u : Uses) → AllUsed (names_of_uses u) names → AreNamed names u
 uses_named names u used = (listed names u.calls (used_front u.calls (map (λ r. r.0) u.refs) names used), named (λ r. r.0) names u.refs (used_back u.calls (map (λ r. r.0) u.refs) names used))
 
-all_named : (names : List (List ℕ)) (us : List UsesValue) → AllUsed (flat_map names_of_uses us) names → AllByRecursion (AreNamed names) us
+all_named : (names : List (List ℕ)) (us : List Uses) → AllUsed (flat_map names_of_uses us) names → AllByRecursion (AreNamed names) us
 all_named names [] used = tt
 all_named names (u ∷ us) used =
     let both = subst (λ (xs : List (List ℕ)). AllUsed xs names) (flat_map-cons names_of_uses u us) used in
     (uses_named names u (used_front (names_of_uses u) (flat_map names_of_uses us) names both), all_named names us (used_back (names_of_uses u) (flat_map names_of_uses us) names both))
 
-pub named_by : (names : List (List ℕ)) (s : SummaryValue) → IsTableOf names (names_of s) → IsNamedBy names s
+pub named_by : (names : List (List ℕ)) (s : Summary) → IsTableOf names (names_of s) → IsNamedBy names s
 named_by names s table =
     let all = (used_by_table names (names_of s) table).1 in
     let one = all.1 in
@@ -54,8 +58,6 @@ named_by names s table =
 
 -- the file
 
-pub is_file : {E : Type 0} (names : List (List ℕ)) (s : SummaryValue) (payload : List ℕ) (r : Result (Vec ℕ) E) → IsSummary s → FitsSummary s → FitsU32 (length names) → IsTableOf names (names_of s)
-    → payload ≡ spelling (record { names = names; summary = s }) → OnOk r (FitsFile payload) → IfOk r (λ v. v.items ≡ file kind 1 payload) → IfOk r (λ v. IsSummaryFile v.items s)
-is_file names s payload (Ok v) is fits count table same room made =
-    (names, record { version = 1; not_below = omega arith; not_above = omega arith; fits = record { summary = is; fits = fits; name_count = count; names = table }; room = subst FitsFile same room; spelled = made ∙ ap (file kind 1) same })
-is_file names s payload (Err e) is fits count table same room made = tt
+pub is_file : {E : Type 0} (names : List (List ℕ)) (s : Summary) (payload : List ℕ) (r : Result (Vec ℕ) E) → IsSummary s → FitsSummary s → FitsU32 (length names) → IsTableOf names (names_of s)
+    → payload ≡ spelling (record { names = names; value = s }) → OnOk r (FitsFile payload) → IfOk r (λ v. v.items ≡ file kind 1 payload) → IfOk r (λ v. IsSummaryFile v.items s)
+is_file names s payload r is fits count table same room made = files.is_file kind spelling (IsContents IsSummary FitsSummary names_of) (record { names = names; value = s }) payload r (record { lawful = is; fits = fits; name_count = count; names = table }) same room made

@@ -10,6 +10,3 @@ mod writing;
 pub use reading::{KIND, read};
 pub use summary::{Summary, Uses};
 pub use writing::write;
-
-#[cfg(test)]
-mod tests;

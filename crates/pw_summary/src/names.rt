@@ -2,12 +2,15 @@
 
 ghost use Rattle.std.specs.Prelude.{◌≡◌, ◌++◌, ℕ, List, map, IfOk, OnOk};
 ghost use Rattle.std.specs.List.{flat_map};
-ghost use Rattle.pw_files.specs.Start.{keeps_start};
-ghost use Rattle.pw_summary.specs.Summary.{names_of, names_of_uses, function_names, global_names, uses_view, view};
+ghost use Rattle.pw_value.specs.FieldFaults.{Gives};
+ghost use Rattle.pw_files.specs.Start.{start_rule};
+ghost use Rattle.pw_files.specs.Contents.{broken_at};
+ghost use Rattle.pw_summary.specs.Summary.{names_of, names_of_uses, function_names, global_names};
 
 use crate::summary::{Summary, Uses};
-use pw_files::start::is_start_kept;
+use pw_files::late::check_start;
 use pw_files::used::{add_names, add_shaped};
+use pw_value::fields::FieldError;
 use pw_value::{Kind, Name, Shape};
 use std::alloc::{AllocError, Global};
 
@@ -39,15 +42,15 @@ fn add_references<'a>(
 
 /// Adds the names that a function uses.
 fn add_uses<'a>(used: &mut Vec<&'a Name>, uses: &'a Uses) -> Result<(), AllocError>
-    ensures { OnOk result (map (λ name. name.now) used.new.items ≡ map (λ name. name.now) used.old.items ++ names_of_uses (uses_view uses.now)) }
+    ensures { OnOk result (map (λ name. name.now) used.new.items ≡ map (λ name. name.now) used.old.items ++ names_of_uses uses.now) }
 {
-    add_names(used, &uses.calls)?;
-    add_references(used, &uses.refs)
+    add_names(used, uses.calls.as_slice())?;
+    add_references(used, uses.refs.as_slice())
 }
 
 /// Adds the names that all functions use.
 fn add_all_uses<'a>(used: &mut Vec<&'a Name>, all: &'a [Uses]) -> Result<(), AllocError>
-    ensures { OnOk result (map (λ name. name.now) used.new.items ≡ map (λ name. name.now) used.old.items ++ flat_map names_of_uses (map uses_view all.now)) }
+    ensures { OnOk result (map (λ name. name.now) used.new.items ≡ map (λ name. name.now) used.old.items ++ flat_map names_of_uses all.now) }
 {
     for uses in all {
         add_uses(used, uses)?;
@@ -57,27 +60,31 @@ fn add_all_uses<'a>(used: &mut Vec<&'a Name>, all: &'a [Uses]) -> Result<(), All
 
 /// The names that a summary uses, in the order of their use.
 pub(crate) fn used_names(alloc: Global, summary: &Summary) -> Result<Vec<&Name>, AllocError>
-    ensures { IfOk result (λ v. map (λ name. name.now) v.items ≡ names_of (view summary.now)) }
+    ensures { IfOk result (λ v. map (λ name. name.now) v.items ≡ names_of summary.now) }
 {
     let mut used = Vec::new(alloc);
     used.push(&summary.module)?;
-    add_globals(&mut used, &summary.globals)?;
-    add_shaped(&mut used, &summary.functions)?;
-    add_shaped(&mut used, &summary.declared)?;
-    add_names(&mut used, &summary.used)?;
-    add_shaped(&mut used, &summary.taken)?;
-    add_names(&mut used, &summary.escaped)?;
-    add_all_uses(&mut used, &summary.uses)?;
+    add_globals(&mut used, summary.globals.as_slice())?;
+    add_shaped(&mut used, summary.functions.as_slice())?;
+    add_shaped(&mut used, summary.declared.as_slice())?;
+    add_names(&mut used, summary.used.as_slice())?;
+    add_shaped(&mut used, summary.taken.as_slice())?;
+    add_names(&mut used, summary.escaped.as_slice())?;
+    add_all_uses(&mut used, summary.uses.as_slice())?;
     Ok(used)
 }
 
-/// Whether the functions include `$start` exactly where they include `main`, and no global is `$start`.
-pub(crate) fn is_start_beside_main(alloc: Global, summary: &Summary) -> Result<bool, AllocError>
-    ensures { IfOk result (λ kept. kept ≡ keeps_start (function_names (view summary.now)) (global_names (view summary.now))) }
+/// The rule of `$start`, where so many bytes are left from the count of the functions on.
+pub(crate) fn check_start_beside_main(
+    alloc: Global,
+    summary: &Summary,
+    count: usize,
+) -> Result<(), FieldError>
+    ensures { Gives (λ x. x) result (broken_at (start_rule (function_names summary.now) (global_names summary.now) count)) }
 {
     let mut functions = Vec::new(alloc);
-    add_shaped(&mut functions, &summary.functions)?;
+    add_shaped(&mut functions, summary.functions.as_slice())?;
     let mut globals = Vec::new(alloc);
-    add_globals(&mut globals, &summary.globals)?;
-    Ok(is_start_kept(&functions, &globals))
+    add_globals(&mut globals, summary.globals.as_slice())?;
+    check_start(&functions, &globals, count)
 }

@@ -1,21 +1,26 @@
 //! Reading a summary file.
 
-ghost use Rattle.std.specs.Prelude.{◌≡◌, ◌+◌, ◌<◌, ◌^◌, ℕ, List, length, map, option_map, None, IfOk, IfErr, Ok};
+ghost use Rattle.std.specs.Prelude.{◌≡◌, ◌≢◌, ◌+◌, ◌<◌, ◌^◌, ℕ, Option, length, option_map, None, IfOk, IfErr, Ok};
 ghost use Rattle.std.specs.List.{flat_map};
 ghost use Rattle.pw_value.specs.Fields.{items_at, repeated, text};
 ghost use Rattle.pw_value.specs.FieldFaults.{Gives, GivesFile, Fails};
 ghost use Rattle.pw_value.specs.FieldFrame.{ended};
 ghost use Rattle.pw_files.specs.Rising.{next_key, rising_at};
-ghost use Rattle.pw_summary.specs.Summary.{SummaryValue, IsSummary, IsSummaryFile, uses_view, view, contents_view};
-ghost use Rattle.pw_summary.specs.Reading.{global_at, weight_at, reference_at, uses_at, broken_at, last_rules, summary_at, contents_at, summary_file_at, summary_of};
+ghost use Rattle.pw_files.specs.Contents.{broken_at, contents_at, value_of};
+ghost use Rattle.pw_summary.specs.declared.summary.Summary.{Summary as AnySummary};
+ghost use Rattle.pw_summary.specs.Summary.{IsSummaryFile};
+ghost use Rattle.pw_summary.specs.Reading.{global_at, weight_at, reference_at, uses_at, last_rules, fields_at, summary_file_at};
 
-use crate::names::{is_start_beside_main, used_names};
+use crate::names::{check_start_beside_main, used_names};
 use crate::summary::{Summary, Uses};
 use pw_files::kinds::read_kind;
+use pw_files::late::check_used;
 use pw_files::lists::{read_name_above, read_name_list, read_shape_list, read_shaped_list};
+use pw_items::Items;
 use pw_value::fields::frame::{check_digest, open};
-use pw_value::fields::names::{find_unused, read_name, read_names};
+use pw_value::fields::names::{read_name, read_names};
 use pw_value::fields::{FieldError, read_flag, read_text, read_u32, read_u64};
+use pw_value::program_names::StartName;
 use pw_value::{FileError, Kind, Name, Shape};
 use std::alloc::Global;
 
@@ -25,7 +30,8 @@ pub const KIND: u32 = 0x5041_5753;
 /// A weight.
 #[tactic(auto, unfolding(crate::specs::Reading::weight_at))]
 fn read_weight(bytes: &[u8]) -> Result<(u64, &[u8]), FieldError>
-    ensures { Gives (λ x. (x.0, x.1.now)) result (weight_at bytes.now) }
+    ensures found { Gives (λ x. (x.0, x.1.now)) result (weight_at bytes.now) }
+    ensures no_memory { IfErr result (λ e. e ≢ FieldError.NoMemory) }
 {
     let (weight, rest) = read_u64(bytes)?;
     if weight <= u64::from(u32::MAX) {
@@ -45,7 +51,7 @@ fn read_global<'a, 'b>(
 ) -> Result<((&'b Name, Shape, Option<Kind>, bool), &'a [u8]), FieldError>
     ensures { Gives (λ x. ((x.0.0.now, x.0.1, x.0.2, x.0.3), x.1.now)) result (global_at names.now (option_map (λ n. n.now) before.entry) bytes.now) }
 {
-    let (name, rest) = read_name_above(names, true, before, bytes)?;
+    let (name, rest) = read_name_above(names, StartName::Allowed, before, bytes)?;
     let (shape, rest) = read_text(alloc, rest)?;
     let (kind, rest) = read_kind(rest)?;
     let (volatile, rest) = read_flag(rest)?;
@@ -59,9 +65,10 @@ fn read_reference<'a, 'b>(
     before: Option<&Name>,
     bytes: &'a [u8],
 ) -> Result<((&'b Name, u64, u64), &'a [u8]), FieldError>
-    ensures { Gives (λ x. ((x.0.0.now, x.0.1, x.0.2), x.1.now)) result (reference_at names.now (option_map (λ n. n.now) before.entry) bytes.now) }
+    ensures found { Gives (λ x. ((x.0.0.now, x.0.1, x.0.2), x.1.now)) result (reference_at names.now (option_map (λ n. n.now) before.entry) bytes.now) }
+    ensures no_memory { IfErr result (λ e. e ≢ FieldError.NoMemory) }
 {
-    let (name, rest) = read_name_above(names, true, before, bytes)?;
+    let (name, rest) = read_name_above(names, StartName::Allowed, before, bytes)?;
     let (reads, rest) = read_weight(rest)?;
     let (writes, rest) = read_weight(rest)?;
     Ok(((name, reads, writes), rest))
@@ -73,10 +80,10 @@ fn read_global_items<'a>(
     names: &[Name],
     count: u32,
     bytes: &'a [u8],
-) -> Result<(Vec<(Name, Shape, Option<Kind>, bool)>, &'a [u8]), FieldError>
-    ensures { Gives (λ x. (x.0.items, x.1.now)) result (items_at (global_at names.now) (next_key (λ g. g.0)) count None bytes.now) }
+) -> Result<(Items<(Name, Shape, Option<Kind>, bool)>, &'a [u8]), FieldError>
+    ensures { Gives (λ x. (x.0, x.1.now)) result (items_at (global_at names.now) (next_key (λ g. g.0)) count None bytes.now) }
 {
-    let mut items = Vec::new(alloc);
+    let mut items = Items::new(alloc);
     let mut rest = bytes;
     let mut before: Option<&Name> = None;
     for _ in 0..count {
@@ -94,10 +101,10 @@ fn read_reference_items<'a>(
     names: &[Name],
     count: u32,
     bytes: &'a [u8],
-) -> Result<(Vec<(Name, u64, u64)>, &'a [u8]), FieldError>
-    ensures { Gives (λ x. (x.0.items, x.1.now)) result (items_at (reference_at names.now) (next_key (λ r. r.0)) count None bytes.now) }
+) -> Result<(Items<(Name, u64, u64)>, &'a [u8]), FieldError>
+    ensures { Gives (λ x. (x.0, x.1.now)) result (items_at (reference_at names.now) (next_key (λ r. r.0)) count None bytes.now) }
 {
-    let mut items = Vec::new(alloc);
+    let mut items = Items::new(alloc);
     let mut rest = bytes;
     let mut before: Option<&Name> = None;
     for _ in 0..count {
@@ -115,8 +122,8 @@ fn read_global_list<'a>(
     alloc: Global,
     names: &[Name],
     bytes: &'a [u8],
-) -> Result<(Vec<(Name, Shape, Option<Kind>, bool)>, &'a [u8]), FieldError>
-    ensures { Gives (λ x. (x.0.items, x.1.now)) result (rising_at (λ g. g.0) (global_at names.now) bytes.now) }
+) -> Result<(Items<(Name, Shape, Option<Kind>, bool)>, &'a [u8]), FieldError>
+    ensures { Gives (λ x. (x.0, x.1.now)) result (rising_at (λ g. g.0) (global_at names.now) bytes.now) }
 {
     let (count, rest) = read_u32(bytes)?;
     read_global_items(alloc, names, count, rest)
@@ -128,8 +135,8 @@ fn read_reference_list<'a>(
     alloc: Global,
     names: &[Name],
     bytes: &'a [u8],
-) -> Result<(Vec<(Name, u64, u64)>, &'a [u8]), FieldError>
-    ensures { Gives (λ x. (x.0.items, x.1.now)) result (rising_at (λ r. r.0) (reference_at names.now) bytes.now) }
+) -> Result<(Items<(Name, u64, u64)>, &'a [u8]), FieldError>
+    ensures { Gives (λ x. (x.0, x.1.now)) result (rising_at (λ r. r.0) (reference_at names.now) bytes.now) }
 {
     let (count, rest) = read_u32(bytes)?;
     read_reference_items(alloc, names, count, rest)
@@ -142,9 +149,9 @@ fn read_uses<'a>(
     names: &[Name],
     bytes: &'a [u8],
 ) -> Result<(Uses, &'a [u8]), FieldError>
-    ensures { Gives (λ x. (uses_view x.0, x.1.now)) result (uses_at names.now bytes.now) }
+    ensures { Gives (λ x. (x.0, x.1.now)) result (uses_at names.now bytes.now) }
 {
-    let (calls, rest) = read_name_list(alloc, names, false, bytes)?;
+    let (calls, rest) = read_name_list(alloc, names, StartName::Refused, bytes)?;
     let (shapes, rest) = read_shape_list(alloc, rest)?;
     let (refs, rest) = read_reference_list(alloc, names, rest)?;
     Ok((
@@ -163,10 +170,10 @@ fn read_all_uses<'a>(
     names: &[Name],
     count: usize,
     bytes: &'a [u8],
-) -> Result<(Vec<Uses>, &'a [u8]), FieldError>
-    ensures { Gives (λ x. (map uses_view x.0.items, x.1.now)) result (repeated (uses_at names.now) count bytes.now) }
+) -> Result<(Items<Uses>, &'a [u8]), FieldError>
+    ensures { Gives (λ x. (x.0, x.1.now)) result (repeated (uses_at names.now) count bytes.now) }
 {
-    let mut all = Vec::new(alloc);
+    let mut all = Items::new(alloc);
     let mut rest = bytes;
     for _ in 0..count {
         let (uses, after) = read_uses(alloc, names, rest)?;
@@ -178,22 +185,22 @@ fn read_all_uses<'a>(
 
 /// The fields of the summary, behind the table of names: the summary, how many bytes are left from the
 /// count of its functions on, and what is left behind it.
-#[tactic(auto, unfolding(crate::specs::Reading::summary_at))]
+#[tactic(auto, unfolding(crate::specs::Reading::fields_at))]
 fn read_fields<'a>(
     alloc: Global,
     names: &[Name],
     bytes: &'a [u8],
 ) -> Result<(Summary, usize, &'a [u8]), FieldError>
-    ensures found { IfOk result (λ x. (behind : ℕ) → summary_at names.now behind bytes.now ≡ ended (last_rules names.now behind (view x.0) x.1) (record { names = names.now; summary = view x.0 }) x.2.now) }
-    ensures fault { IfErr result (λ e. (behind : ℕ) → Fails e (summary_at names.now behind bytes.now)) }
+    ensures found { IfOk result (λ x. (late : AnySummary → ℕ → Option ℕ) → fields_at names.now late bytes.now ≡ ended (late x.0 x.1) (record { names = names.now; value = x.0 }) x.2.now) }
+    ensures fault { IfErr result (λ e. (late : AnySummary → ℕ → Option ℕ) → Fails e (fields_at names.now late bytes.now)) }
 {
     let (module, rest) = read_name(names, bytes)?;
     let (globals, count) = read_global_list(alloc, names, rest)?;
-    let (functions, rest) = read_shaped_list(alloc, names, true, count)?;
-    let (declared, rest) = read_shaped_list(alloc, names, true, rest)?;
-    let (used, rest) = read_name_list(alloc, names, true, rest)?;
-    let (taken, rest) = read_shaped_list(alloc, names, false, rest)?;
-    let (escaped, rest) = read_name_list(alloc, names, true, rest)?;
+    let (functions, rest) = read_shaped_list(alloc, names, StartName::Allowed, count)?;
+    let (declared, rest) = read_shaped_list(alloc, names, StartName::Allowed, rest)?;
+    let (used, rest) = read_name_list(alloc, names, StartName::Allowed, rest)?;
+    let (taken, rest) = read_shaped_list(alloc, names, StartName::Refused, rest)?;
+    let (escaped, rest) = read_name_list(alloc, names, StartName::Allowed, rest)?;
     let (uses, rest) = read_all_uses(alloc, names, functions.len(), rest)?;
     let summary = Summary {
         module: module.copy(alloc)?,
@@ -215,7 +222,7 @@ fn read_summary<'a>(
     bytes: &'a [u8],
 ) -> Result<(Summary, &'a [u8]), FieldError>
     requires { length (flat_map text names.now) + length bytes.now < 2 ^ 64 }
-    ensures { Gives (λ x. (record { names = names.now; summary = view x.0 }, x.1.now)) result (summary_at names.now (length bytes.now) bytes.now) }
+    ensures { Gives (λ x. (record { names = names.now; value = x.0 }, x.1.now)) result (fields_at names.now (last_rules names.now (length bytes.now)) bytes.now) }
 {
     let (summary, count, rest) = read_fields(alloc, names, bytes)?;
     if !rest.is_empty() {
@@ -236,23 +243,17 @@ fn check_last(
     count: usize,
 ) -> Result<(), FieldError>
     requires { length (flat_map text names.now) + behind < 2 ^ 64 }
-    ensures { Gives (λ x. x) result (broken_at (last_rules names.now behind (view summary.now) count)) }
+    ensures { Gives (λ x. x) result (broken_at (last_rules names.now behind summary.now count)) }
 {
     let used = used_names(alloc, summary)?;
-    if let Some(left) = find_unused(alloc, names, used, behind)? {
-        return Err(FieldError::Fault { left });
-    }
-    if is_start_beside_main(alloc, summary)? {
-        Ok(())
-    } else {
-        Err(FieldError::Fault { left: count })
-    }
+    check_used(alloc, names, used, behind)?;
+    check_start_beside_main(alloc, summary, count)
 }
 
 /// The table of names and the summary.
-#[tactic(auto, unfolding(crate::specs::Reading::contents_at))]
+#[tactic(auto, unfolding(pw_files::specs::Contents::contents_at))]
 fn read_contents(alloc: Global, bytes: &[u8]) -> Result<((Vec<Name>, Summary), &[u8]), FieldError>
-    ensures { Gives (λ x. (contents_view x.0, x.1.now)) result (contents_at bytes.now) }
+    ensures { Gives (λ x. (record { names = x.0.0.items; value = x.0.1 }, x.1.now)) result (contents_at fields_at last_rules bytes.now) }
 {
     let (names, rest) = read_names(alloc, bytes)?;
     let (summary, rest) = read_summary(alloc, &names, rest)?;
@@ -260,9 +261,9 @@ fn read_contents(alloc: Global, bytes: &[u8]) -> Result<((Vec<Name>, Summary), &
 }
 
 /// The table of names and the summary of a whole file.
-#[tactic(auto, unfolding(crate::specs::Reading::summary_file_at, pw_value::specs::FieldFrame::file_at))]
+#[tactic(auto, unfolding(pw_value::specs::FieldFrame::file_at))]
 fn read_file(alloc: Global, bytes: &[u8]) -> Result<(Vec<Name>, Summary), FileError>
-    ensures { GivesFile contents_view result (summary_file_at bytes.now) }
+    ensures { GivesFile (λ x. record { names = x.0.items; value = x.1 }) result (summary_file_at bytes.now) }
 {
     let opened = open(KIND, 1, 1, bytes)?;
     match read_contents(alloc, opened.payload) {
@@ -276,7 +277,7 @@ fn read_file(alloc: Global, bytes: &[u8]) -> Result<(Vec<Name>, Summary), FileEr
 
 /// The summary of a whole file, without its table of names.
 fn read_alone(alloc: Global, bytes: &[u8]) -> Result<Summary, FileError>
-    ensures { GivesFile view result (summary_of (summary_file_at bytes.now)) }
+    ensures { GivesFile (λ s. s) result (value_of (summary_file_at bytes.now)) }
 {
     let (_names, summary) = read_file(alloc, bytes)?;
     Ok(summary)
@@ -286,11 +287,11 @@ fn read_alone(alloc: Global, bytes: &[u8]) -> Result<Summary, FileError>
 /// breaks its rule.
 pub fn read(alloc: Global, bytes: &[u8]) -> Result<Summary, FileError>
     // The bytes are the file of what is read.
-    ensures found { IfOk result (λ s. IsSummaryFile bytes.now (view s)) }
+    ensures found { IfOk result (λ s. IsSummaryFile bytes.now s) }
     // A file of a summary is read, unless memory runs out.
-    ensures only { (s : SummaryValue) → IsSummaryFile bytes.now s → GivesFile view result (Ok s) }
+    ensures only { (s : AnySummary) → IsSummaryFile bytes.now s → GivesFile (λ s. s) result (Ok s) }
     // Which fault it is.
-    ensures exact { GivesFile view result (summary_of (summary_file_at bytes.now)) }
+    ensures exact { GivesFile (λ s. s) result (value_of (summary_file_at bytes.now)) }
 {
     read_alone(alloc, bytes)
 }

@@ -1,12 +1,12 @@
 //! Writing a summary file.
 
-ghost use Rattle.std.specs.Prelude.{◌≡◌, ◌++◌, ◌<◌, ◌^◌, List, length, map, OnOk, IfOk, All, Contains};
+ghost use Rattle.std.specs.Prelude.{◌≡◌, ◌++◌, ◌<◌, ◌^◌, length, OnOk, IfOk, All, Contains};
 ghost use Rattle.std.specs.List.{flat_map};
 ghost use Rattle.pw_value.specs.Fields.{FitsU32, FitsText};
 ghost use Rattle.pw_value.specs.FieldNames.{IsNameTable};
 ghost use Rattle.pw_files.specs.Rising.{counted, FitsList};
 ghost use Rattle.pw_files.specs.Names.{FitsShapes};
-ghost use Rattle.pw_summary.specs.Summary.{IsSummary, IsSummaryFile, FitsUses, FitsSummary, AreNamed, IsNamedBy, global as global_text, reference as reference_text, uses as uses_text, own, others, spelling, uses_view, view};
+ghost use Rattle.pw_summary.specs.Summary.{IsSummary, IsSummaryFile, FitsUses, FitsSummary, AreNamed, IsNamedBy, global as global_text, reference as reference_text, uses as uses_text, own, others, spelling};
 
 use crate::names::used_names;
 use crate::reading::KIND;
@@ -120,21 +120,21 @@ fn push_reference_list(
 /// What a function uses.
 fn push_uses(out: &mut Vec<u8>, names: &[Name], uses: &Uses) -> Result<(), AllocError>
     requires table { IsNameTable names.now }
-    requires stand { AreNamed names.now (uses_view uses.now) }
-    ensures fits { OnOk result (FitsUses (uses_view uses.now)) }
-    ensures written { OnOk result (out.new.items ≡ out.old.items ++ uses_text names.now (uses_view uses.now)) }
+    requires stand { AreNamed names.now uses.now }
+    ensures fits { OnOk result (FitsUses uses.now) }
+    ensures written { OnOk result (out.new.items ≡ out.old.items ++ uses_text names.now uses.now) }
 {
-    push_name_list(out, names, &uses.calls)?;
-    push_shape_list(out, &uses.shapes)?;
-    push_reference_list(out, names, &uses.refs)
+    push_name_list(out, names, uses.calls.as_slice())?;
+    push_shape_list(out, uses.shapes.as_slice())?;
+    push_reference_list(out, names, uses.refs.as_slice())
 }
 
 /// What functions use, one after the other.
 fn push_all_uses(out: &mut Vec<u8>, names: &[Name], all: &[Uses]) -> Result<(), AllocError>
     requires table { IsNameTable names.now }
-    requires stand { All (λ u. AreNamed names.now (uses_view u)) all.now }
-    ensures fits { OnOk result (All (λ u. FitsUses (uses_view u)) all.now) }
-    ensures written { OnOk result (out.new.items ≡ out.old.items ++ flat_map (uses_text names.now) (map uses_view all.now)) }
+    requires stand { All (AreNamed names.now) all.now }
+    ensures fits { OnOk result (All FitsUses all.now) }
+    ensures written { OnOk result (out.new.items ≡ out.old.items ++ flat_map (uses_text names.now) all.now) }
 {
     for uses in all {
         push_uses(out, names, uses)?;
@@ -145,42 +145,42 @@ fn push_all_uses(out: &mut Vec<u8>, names: &[Name], all: &[Uses]) -> Result<(), 
 /// The module's name, its globals, its functions and the names that it declares.
 fn push_own(out: &mut Vec<u8>, names: &[Name], summary: &Summary) -> Result<(), AllocError>
     requires table { IsNameTable names.now }
-    requires stand { IsNamedBy names.now (view summary.now) }
-    ensures globals_fit { OnOk result (FitsList (λ g. FitsText g.1) summary.now.globals.items) }
-    ensures functions_fit { OnOk result (FitsShapes summary.now.functions.items) }
-    ensures declared_fit { OnOk result (FitsShapes summary.now.declared.items) }
-    ensures written { OnOk result (out.new.items ≡ out.old.items ++ own names.now (view summary.now)) }
+    requires stand { IsNamedBy names.now summary.now }
+    ensures globals_fit { OnOk result (FitsList (λ g. FitsText g.1) summary.now.globals) }
+    ensures functions_fit { OnOk result (FitsShapes summary.now.functions) }
+    ensures declared_fit { OnOk result (FitsShapes summary.now.declared) }
+    ensures written { OnOk result (out.new.items ≡ out.old.items ++ own names.now summary.now) }
 {
     push_name(out, names, &summary.module)?;
-    push_global_list(out, names, &summary.globals)?;
-    push_shaped_list(out, names, &summary.functions)?;
-    push_shaped_list(out, names, &summary.declared)?;
+    push_global_list(out, names, summary.globals.as_slice())?;
+    push_shaped_list(out, names, summary.functions.as_slice())?;
+    push_shaped_list(out, names, summary.declared.as_slice())?;
     Ok(())
 }
 
 /// The names that the module uses, those whose address it takes, and what each function uses.
 fn push_used(out: &mut Vec<u8>, names: &[Name], summary: &Summary) -> Result<(), AllocError>
     requires table { IsNameTable names.now }
-    requires stand { IsNamedBy names.now (view summary.now) }
-    ensures used_fit { OnOk result (FitsU32 (length summary.now.used.items)) }
-    ensures taken_fit { OnOk result (FitsShapes summary.now.taken.items) }
-    ensures escaped_fit { OnOk result (FitsU32 (length summary.now.escaped.items)) }
-    ensures uses_fit { OnOk result (All (λ u. FitsUses (uses_view u)) summary.now.uses.items) }
-    ensures written { OnOk result (out.new.items ≡ out.old.items ++ others names.now (view summary.now)) }
+    requires stand { IsNamedBy names.now summary.now }
+    ensures used_fit { OnOk result (FitsU32 (length summary.now.used)) }
+    ensures taken_fit { OnOk result (FitsShapes summary.now.taken) }
+    ensures escaped_fit { OnOk result (FitsU32 (length summary.now.escaped)) }
+    ensures uses_fit { OnOk result (All FitsUses summary.now.uses) }
+    ensures written { OnOk result (out.new.items ≡ out.old.items ++ others names.now summary.now) }
 {
-    push_name_list(out, names, &summary.used)?;
-    push_shaped_list(out, names, &summary.taken)?;
-    push_name_list(out, names, &summary.escaped)?;
-    push_all_uses(out, names, &summary.uses)?;
+    push_name_list(out, names, summary.used.as_slice())?;
+    push_shaped_list(out, names, summary.taken.as_slice())?;
+    push_name_list(out, names, summary.escaped.as_slice())?;
+    push_all_uses(out, names, summary.uses.as_slice())?;
     Ok(())
 }
 
 /// The payload of a summary file.
 fn write_payload(alloc: Global, names: &[Name], summary: &Summary) -> Result<Vec<u8>, AllocError>
     requires table { IsNameTable names.now }
-    requires stand { IsNamedBy names.now (view summary.now) }
-    ensures fits { OnOk result (FitsSummary (view summary.now)) }
-    ensures written { IfOk result (λ v. v.items ≡ spelling (record { names = names.now; summary = view summary.now })) }
+    requires stand { IsNamedBy names.now summary.now }
+    ensures fits { OnOk result (FitsSummary summary.now) }
+    ensures written { IfOk result (λ v. v.items ≡ spelling (record { names = names.now; value = summary.now })) }
 {
     let mut out = Vec::new(alloc);
     push_names(&mut out, names)?;
@@ -191,8 +191,8 @@ fn write_payload(alloc: Global, names: &[Name], summary: &Summary) -> Result<Vec
 
 /// The one file of a summary. Where it would be longer than a file can be, that is want of memory.
 pub fn write(alloc: Global, summary: &Summary) -> Result<Vec<u8>, AllocError>
-    requires { IsSummary (view summary.now) }
-    ensures { IfOk result (λ v. IsSummaryFile v.items (view summary.now)) }
+    requires { IsSummary summary.now }
+    ensures { IfOk result (λ v. IsSummaryFile v.items summary.now) }
 {
     let used = used_names(alloc, summary)?;
     let names = make_table(alloc, used)?;

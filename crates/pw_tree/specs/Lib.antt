@@ -1,3 +1,4 @@
+pub mod FirstTokens
 pub mod Grammar
 pub mod Levels
 pub mod Lexemes
@@ -8,4 +9,4 @@ pub mod Symbols
 pub mod Trees
 pub mod Views
 pub mod WellFormed
-pub mod Writing
+pub mod Words

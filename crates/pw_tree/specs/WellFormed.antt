@@ -276,11 +276,11 @@ WellFormedDecls env (d ∷ ds) = WellFormedDecl env d × WellFormedDecls (after_
 
 -- ---- statements
 
--- 6.6.1
+-- 6.6.1; a label's name may be visible as a typedef name
 abbrev pub WellFormedLabel : Env → Label → Type 0
 WellFormedLabel env (CaseLabel n e) = (level e ≤ conditional) × WellFormed env e
 WellFormedLabel env (DefaultLabel n) = Unit {0}
-WellFormedLabel env (NameLabel w) = NotTypedef env w
+WellFormedLabel env (NameLabel w) = Unit {0}
 
 abbrev pub WellFormedLabels : Env → List Label → Type 0
 WellFormedLabels env [] = Unit {0}
@@ -342,7 +342,7 @@ unfoldable mutual
       WellFormedOptional env a × WellFormedOptional (after_optional env a) b
       × WellFormedOptional (after_optional (after_optional env a) b) c
       × WellFormedStmt (after_optional (after_optional (after_optional env a) b) c) s
-  WellFormedStmt env (Goto n w) = NotTypedef env w
+  WellFormedStmt env (Goto n w) = Unit {0}
   WellFormedStmt env (Continue n) = Unit {0}
   WellFormedStmt env (Break n) = Unit {0}
   WellFormedStmt env (Return n e) = WellFormedOptional env e

@@ -9,7 +9,7 @@ use crate::operator::{Access, AssignOperator, BinaryOperator, StepOperator, Unar
 use crate::symbol::Keyword;
 
 /// A token with bytes of its own: an identifier, a constant or a string literal, with its number.
-#[derive(Debug, PartialEq, Eq, Drop)]
+#[derive(PartialEq, Eq, Drop)]
 pub struct Word {
     pub token: usize,
     pub text: Vec<u8>,
@@ -123,7 +123,7 @@ pub struct TypeName {
 }
 
 /// A storage class (C90 6.5.1).
-#[derive(Clone, Copy, Debug, PartialEq, Eq)]
+#[derive(Clone, Copy, PartialEq, Eq)]
 pub enum StorageClass {
     Typedef,
     Extern,
@@ -133,14 +133,14 @@ pub enum StorageClass {
 }
 
 /// A type qualifier (C90 6.5.3).
-#[derive(Clone, Copy, Debug, PartialEq, Eq)]
+#[derive(Clone, Copy, PartialEq, Eq)]
 pub enum Qualifier {
     Const,
     Volatile,
 }
 
 /// A type specifier that is a keyword (C90 6.5.2).
-#[derive(Clone, Copy, Debug, PartialEq, Eq)]
+#[derive(Clone, Copy, PartialEq, Eq)]
 pub enum BasicType {
     Void,
     Char,
@@ -154,7 +154,7 @@ pub enum BasicType {
 }
 
 /// A structure or a union (C90 6.5.2.1).
-#[derive(Clone, Copy, Debug, PartialEq, Eq)]
+#[derive(Clone, Copy, PartialEq, Eq)]
 pub enum RecordKind {
     Struct,
     Union,
@@ -248,7 +248,7 @@ pub struct Declarator {
 }
 
 /// A `*` with the qualifiers behind it (C90 6.5.4.1), at the `*`.
-#[derive(Debug, PartialEq, Eq, Drop)]
+#[derive(PartialEq, Eq, Drop)]
 pub struct Pointer {
     pub token: usize,
     pub qualifiers: Vec<Qualifier>,

@@ -9,7 +9,7 @@ use crate::symbol::{Keyword, Mark};
 use pw_token::{Token, TokenKind};
 
 /// A token as the grammar knows it, with its bytes where they are its own.
-#[derive(Clone, Copy, Debug)]
+#[derive(Clone, Copy)]
 pub enum Lexeme<'a> {
     Keyword(Keyword),
     Mark(Mark),

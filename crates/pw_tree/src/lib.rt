@@ -1,24 +1,16 @@
-//! The syntax trees of C90 (ISO/IEC 9899:1990, 6.3 to 6.7) and their spelling.
+//! The syntax trees of C90 (ISO/IEC 9899:1990, 6.3 to 6.7).
 #![tactic(auto)]
 
 mod decl;
 mod expr;
+mod first_token;
 mod laws;
 mod lexeme;
 mod module;
+mod node_laws;
 mod operator;
-mod spell_decl;
-mod spell_declarator;
-mod spell_expr;
-mod spell_module;
-mod spell_specifiers;
-mod spell_stmt;
-mod spell_words;
-mod spelled;
 mod stmt;
 mod symbol;
-#[cfg(test)]
-mod tests;
 
 pub use decl::{Decl, Init, InitDeclarator, Initializer};
 pub use expr::{
@@ -26,11 +18,13 @@ pub use expr::{
     Pointer, PostfixOperation, Qualifier, RecordKind, Specifier, StorageClass, Suffix, TypeName,
     Word,
 };
-pub use laws::symbols_have_one_spelling;
+pub use first_token::first_of_specifiers;
+pub use laws::{first_tokens_are_first, symbols_have_one_spelling, words_spell_what_they_are};
 pub use lexeme::{Lexeme, lexeme_of};
 pub use module::{External, Function, Module};
+pub use node_laws::{
+    declarators_show_their_lists, expressions_show_their_lists, statements_show_their_lists,
+};
 pub use operator::{Access, AssignOperator, BinaryOperator, StepOperator, UnaryOperator};
-pub use spell_module::spell;
-pub use spelled::{NoMemory, Spelled};
 pub use stmt::{Block, ElseIf, Label, Stmt};
 pub use symbol::{Keyword, Mark};

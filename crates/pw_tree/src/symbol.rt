@@ -4,7 +4,7 @@ ghost use Rattle.std.specs.Prelude.{◌≡◌};
 ghost use Rattle.pw_tree.specs.Symbols as spec;
 
 /// A keyword (C90 6.1.1).
-#[derive(Clone, Copy, Debug, PartialEq, Eq)]
+#[derive(Clone, Copy, PartialEq, Eq)]
 pub enum Keyword {
     Auto,
     Break,
@@ -41,7 +41,7 @@ pub enum Keyword {
 }
 
 /// An operator but `sizeof`, or a punctuator (C90 6.1.5, 6.1.6), without `#` and `##`, which stand in no tree.
-#[derive(Clone, Copy, Debug, PartialEq, Eq)]
+#[derive(Clone, Copy, PartialEq, Eq)]
 pub enum Mark {
     /// `[`
     OpenBracket,

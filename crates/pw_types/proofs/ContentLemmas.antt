@@ -2,12 +2,9 @@
 use Rattle.std.proofs.Common.{◌≡◌, ℕ, suc, ◌+◌, ◌-◌, ◌^◌, ◌<◌, ◌≤◌, min, List, [], ◌∷◌, length, map, get_or, replicate, refl, ap, ◌∙◌, sym, subst, arith, None, Some, IsSome, All}
 use Rattle.std.proofs.lemmas.List.Elements.{All-map}
 use Rattle.std.specs.Prelude.{unwrap_or}
-use Rattle.pw_types.specs.declared.ctype.CType.{CType}
-use Rattle.pw_types.specs.declared.record.RecordType.{RecordType}
+use Rattle.pw_types.specs.TypeTrees.{CType, type_of, MemberValue, ContentValue, RecordValue}
 use Rattle.pw_types.specs.declared.record.RecordKind.{RecordKind}
 use Rattle.pw_types.specs.declared.record.RecordKind.TheVariants.{Structure, Union}
-use Rattle.pw_types.specs.declared.record.Member.{Member}
-use Rattle.pw_types.specs.declared.record.Content.{Content}
 use Rattle.pw_types.specs.declared.record.Layout.{Layout}
 use Rattle.pw_types.specs.declared.contents.Measure.{Measure}
 use Rattle.pw_types.specs.Layouts.{layout_of, scalar_layout, round_up, record_layout, record_offsets, offsets_from, end_from, greatest, align_of, size_limit}
@@ -62,18 +59,18 @@ record_offsets-Union : (ls : List Layout) → record_offsets Union ls ≡ replic
 record_offsets-Union [] = refl
 record_offsets-Union (l ∷ rest) = ap (λ (ns : List ℕ). 0 ∷ ns) (record_offsets-Union rest)
 
-length-layouts_of : (records : List RecordType) (members : List Member) → length (layouts_of records members) ≡ length members
+length-layouts_of : (records : List RecordValue) (members : List MemberValue) → length (layouts_of records members) ≡ length members
 length-layouts_of records [] = refl
 length-layouts_of records (m ∷ rest) = ap suc (length-layouts_of records rest)
 
 -- the members of a laid list of records are aligned
 All-aligned :
-    (records : List RecordType) (members : List Member) → IsLaid records
-    → All (λ m. IsObjectType records m.ty.ty) members
+    (records : List RecordValue) (members : List MemberValue) → IsLaid records
+    → All (λ m. IsObjectType records (type_of m.ty)) members
     → All (λ l. 1 ≤ l.align) (layouts_of records members)
 All-aligned records members laid all =
-    All-map (λ (l : Layout). 1 ≤ l.align) (λ (m : Member). unwrap_or (layout_of records m.ty.ty) (scalar_layout 0)) members
-    (λ k d below. one (get_or members k d).ty.ty (IsSome-object_type records (get_or members k d).ty.ty (all k d below)))
+    All-map (λ (l : Layout). 1 ≤ l.align) (λ (m : MemberValue). unwrap_or (layout_of records (type_of m.ty)) (scalar_layout 0)) members
+    (λ k d below. one (type_of (get_or members k d).ty) (IsSome-object_type records (type_of (get_or members k d).ty) (all k d below)))
   where
     one : (ty : CType) → IsSome (layout_of records ty) → 1 ≤ (unwrap_or (layout_of records ty) (scalar_layout 0)).align
     one ty is =
@@ -97,7 +94,7 @@ pub aligned-by_measures : (ls : List Layout) (m : Measure) → Measures ls m →
 aligned-by_measures ls m is = omega (arith, is.align)
 
 offsets_by-is :
-    (kind : RecordKind) (records : List RecordType) (members : List Member) (m : Measure)
+    (kind : RecordKind) (records : List RecordValue) (members : List MemberValue) (m : Measure)
     → All (λ l. 1 ≤ l.align) (layouts_of records members)
     → Measures (layouts_of records members) m
     → (record_layout kind (layouts_of records members)).size ≤ 1048576
@@ -112,19 +109,19 @@ offsets_by-is Union records members m aligned is within =
 
 -- the same of the members as they were passed
 pub Measures-of :
-    (records : List RecordType) (members seen : List Member) (m : Measure)
+    (records : List RecordValue) (members seen : List MemberValue) (m : Measure)
     → seen ≡ members → Measures (layouts_of records seen) m → Measures (layouts_of records members) m
 Measures-of records members seen m same is = subst (λ ms. Measures (layouts_of records ms) m) same is
 
 -- a size by measures is the size by members
 pub size-by_members :
-    (records : List RecordType) (kind : RecordKind) (members : List Member) (m : Measure) (size : ℕ)
+    (records : List RecordValue) (kind : RecordKind) (members : List MemberValue) (m : Measure) (size : ℕ)
     → Measures (layouts_of records members) m → size ≡ size_by kind m → size ≡ (layout_by_members records kind members).size
 size-by_members records kind members m size is by = by ∙ size_by-is kind (layouts_of records members) m is
 
 -- a text of that size is the shape by members
 pub shape-by_members :
-    (records : List RecordType) (kind : RecordKind) (members seen : List Member) (size : ℕ) (text : List ℕ)
+    (records : List RecordValue) (kind : RecordKind) (members seen : List MemberValue) (size : ℕ) (text : List ℕ)
     → seen ≡ members
     → size ≡ (layout_by_members records kind members).size
     → text ≡ record_shape kind size (member_shapes records seen)
@@ -136,7 +133,7 @@ shape-by_members records kind members seen size text same size_is is =
 
 -- the refusals
 pub Refuses-size :
-    (records : List RecordType) (kind : RecordKind) (members : List Member) (size n : ℕ)
+    (records : List RecordValue) (kind : RecordKind) (members : List MemberValue) (size n : ℕ)
     → size ≡ (layout_by_members records kind members).size
     → size_limit < size
     → n ≡ capped size
@@ -145,7 +142,7 @@ Refuses-size records kind members size n is above number =
     (subst (λ s. size_limit < s) is above, number ∙ ap capped is)
 
 pub Refuses-shape :
-    (records : List RecordType) (kind : RecordKind) (members : List Member) (size n : ℕ) (text : List ℕ)
+    (records : List RecordValue) (kind : RecordKind) (members : List MemberValue) (size n : ℕ) (text : List ℕ)
     → size ≡ (layout_by_members records kind members).size
     → size ≤ size_limit
     → text ≡ shape_by_members records kind members
@@ -157,7 +154,7 @@ Refuses-shape records kind members size n text is within shape long above =
     (subst (λ s. s ≤ size_limit) is within, subst (λ k. shape_limit < k) all above, all)
 
 pub Refuses-depth :
-    (records : List RecordType) (kind : RecordKind) (members : List Member) (size n : ℕ) (text : List ℕ)
+    (records : List RecordValue) (kind : RecordKind) (members : List MemberValue) (size n : ℕ) (text : List ℕ)
     → size ≡ (layout_by_members records kind members).size
     → size ≤ size_limit
     → text ≡ shape_by_members records kind members
@@ -177,7 +174,7 @@ Refuses-depth records kind members size n text is within shape short deep above 
 
 -- one more than the deepest, as far as 64 bits can tell it
 pub depth-by_members :
-    (records : List RecordType) (members seen : List Member) (deep depth : ℕ)
+    (records : List RecordValue) (members seen : List MemberValue) (deep depth : ℕ)
     → seen ≡ members
     → deep ≡ capped (deepest records seen)
     → depth ≡ min (deep + 1) (2 ^ 64 - 1)
@@ -188,12 +185,12 @@ depth-by_members records members seen deep depth same is more =
 
 -- what is made of the measures is what the definition comes to
 pub Defines-by_measures :
-    (records : List RecordType) (kind : RecordKind) (members : List Member) (m : Measure) (c : Content)
+    (records : List RecordValue) (kind : RecordKind) (members : List MemberValue) (m : Measure) (c : ContentValue)
     → IsLaid records
-    → All (λ x. IsObjectType records x.ty.ty) members
+    → All (λ x. IsObjectType records (type_of x.ty)) members
     → Measures (layouts_of records members) m
-    → c.members.items ≡ members
-    → c.offsets.items ≡ offsets_by kind m.offsets.items (length members)
+    → c.members ≡ members
+    → c.offsets ≡ offsets_by kind m.offsets.items (length members)
     → c.layout.size ≡ size_by kind m
     → c.layout.align ≡ m.align
     → c.shape ≡ record_shape kind c.layout.size (member_shapes records members)
@@ -210,11 +207,11 @@ Defines-by_measures records kind members m c laid complete is kept offsets size 
     ap (λ s. let l : Layout = record { size = s; align = c.layout.align } in l) size_is
     ∙ ap (λ a. let l : Layout = record { size = (record_layout kind ls).size; align = a } in l) align_is in
     let fits : (record_layout kind ls).size ≤ 1048576 = subst (λ s. s ≤ 1048576) size_is within in
-    let placed_is : c.offsets.items ≡ record_offsets kind ls =
+    let placed_is : c.offsets ≡ record_offsets kind ls =
     offsets ∙ offsets_by-is kind records members m (All-aligned records members laid complete) is fits in
     record {
       follows = record {
-        complete = subst (λ ms. All (λ (x : Member). IsObjectType records x.ty.ty) ms) (sym kept) complete;
+        complete = subst (λ ms. All (λ (x : MemberValue). IsObjectType records (type_of x.ty)) ms) (sym kept) complete;
         laid = laid_is ∙ ap (λ ms. record_layout kind (layouts_of records ms)) (sym kept);
         placed = placed_is ∙ ap (λ ms. record_offsets kind (layouts_of records ms)) (sym kept);
         shaped = shape ∙ ap (λ ms. record_shape kind c.layout.size (member_shapes records ms)) (sym kept);

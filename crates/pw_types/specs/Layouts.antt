@@ -1,17 +1,15 @@
 -- Sizes, alignments and the places of members (ISO C90 6.1.2.5, 6.5.2.1). A structure or union type
 -- is a number, and what is known of it stands in a list of records.
 use Rattle.std.specs.Prelude.{ℕ, ◌+◌, ◌-◌, ◌*◌, ◌/◌, max, Option, None, Some, option_map, option_and_then, List, [], ◌∷◌, map, slice_get}
-use Rattle.pw_types.specs.declared.ctype.CType.{CType, Void, Int, Pointer', Array', Function', Record}
-use Rattle.pw_types.specs.declared.record.RecordType.{RecordType}
+use Rattle.pw_types.specs.TypeTrees.{CType, Void, Int, Pointer, Array, Function, Record, Qualified, RecordValue, ContentValue}
 use Rattle.pw_types.specs.declared.record.RecordKind.{RecordKind}
 use Rattle.pw_types.specs.declared.record.RecordKind.TheVariants.{Structure, Union}
-use Rattle.pw_types.specs.declared.record.Content.{Content}
 use Rattle.pw_types.specs.declared.record.Layout.{Layout}
 use Rattle.pw_types.specs.Caps.{clipped}
 use Rattle.pw_types.specs.Conversions.{size_of_kind}
 
 -- what a record's definition says; None for one that is not defined
-abbrev pub content_at : List RecordType → ℕ → Option Content
+abbrev pub content_at : List RecordValue → ℕ → Option ContentValue
 content_at records number = option_and_then (λ r. r.content) (slice_get records number)
 
 -- a scalar's alignment is its size
@@ -24,13 +22,13 @@ array_layout count element = record { size = element.size * count; align = eleme
 
 -- The layout of a type. None for void, functions, arrays of unknown length and records that are not
 -- defined, and for arrays of these.
-abbrev pub layout_of : List RecordType → CType → Option Layout
+abbrev pub layout_of : List RecordValue → CType → Option Layout
 layout_of records Void = None
 layout_of records (Int kind) = Some (scalar_layout (size_of_kind kind))
-layout_of records (Pointer' p ty constant volatile) = Some (scalar_layout 4)
-layout_of records (Array' p ty constant volatile None) = None
-layout_of records (Array' p ty constant volatile (Some count)) = option_map (array_layout count) (layout_of records ty)
-layout_of records (Function' p signature) = None
+layout_of records (Pointer target) = Some (scalar_layout 4)
+layout_of records (Array element None) = None
+layout_of records (Array (Qualified ty constant volatile) (Some count)) = option_map (array_layout count) (layout_of records ty)
+layout_of records (Function result params) = None
 layout_of records (Record number) = option_map (λ c. c.layout) (content_at records number)
 
 -- the least multiple of an alignment that is not below a number
@@ -67,7 +65,7 @@ record_offsets Structure members = offsets_from 0 members
 record_offsets Union members = map (λ _. 0) members
 
 -- the size of a type
-abbrev pub size_of : List RecordType → CType → Option ℕ
+abbrev pub size_of : List RecordValue → CType → Option ℕ
 size_of records ty = option_map (λ l. l.size) (layout_of records ty)
 
 -- a layout as far as 32 bits can tell its size

@@ -3,8 +3,9 @@ pub mod Conversions
 pub mod Layouts
 pub mod Sizes
 pub mod Shapes
-pub mod Rooms
 pub mod Records
 pub mod Measures
 pub mod TypeTrees
 pub mod TypedTrees
+pub mod Views
+pub mod Codes

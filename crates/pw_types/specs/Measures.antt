@@ -1,10 +1,8 @@
 -- What a structure or union type takes, told from its members.
 use Rattle.std.specs.Prelude.{ℕ, ◌≡◌, ◌+◌, ◌^◌, ◌<◌, ◌≤◌, List, length, map, replicate}
-use Rattle.pw_types.specs.declared.record.RecordType.{RecordType}
+use Rattle.pw_types.specs.TypeTrees.{MemberValue, ContentValue, RecordValue}
 use Rattle.pw_types.specs.declared.record.RecordKind.{RecordKind}
 use Rattle.pw_types.specs.declared.record.RecordKind.TheVariants.{Structure, Union}
-use Rattle.pw_types.specs.declared.record.Member.{Member}
-use Rattle.pw_types.specs.declared.record.Content.{Content}
 use Rattle.pw_types.specs.declared.record.Layout.{Layout}
 use Rattle.pw_types.specs.declared.contents.RecordFault.{RecordFault}
 use Rattle.pw_types.specs.declared.contents.RecordFault.TheVariants.{TooLarge, ShapeTooLong, TooDeep, NoMemory}
@@ -34,20 +32,20 @@ offsets_by Structure offsets count = offsets
 offsets_by Union offsets count = replicate count 0
 
 -- the layout and the shape that a record of these members has
-abbrev pub layout_by_members : List RecordType → RecordKind → List Member → Layout
+abbrev pub layout_by_members : List RecordValue → RecordKind → List MemberValue → Layout
 layout_by_members records kind members = record_layout kind (layouts_of records members)
 
-abbrev pub shape_by_members : List RecordType → RecordKind → List Member → List ℕ
+abbrev pub shape_by_members : List RecordValue → RecordKind → List MemberValue → List ℕ
 shape_by_members records kind members =
     record_shape kind (layout_by_members records kind members).size (member_shapes records members)
 
 -- one more than the deepest member
-abbrev pub depth_by_members : List RecordType → List Member → ℕ
+abbrev pub depth_by_members : List RecordValue → List MemberValue → ℕ
 depth_by_members records members = 1 + deepest records members
 
 -- Why a record is refused: the first of its size, its shape and its depth that passes its limit, with
 -- that number.
-abbrev pub Refuses : List RecordType → RecordKind → List Member → RecordFault → Type 0
+abbrev pub Refuses : List RecordValue → RecordKind → List MemberValue → RecordFault → Type 0
 Refuses records kind members (TooLarge n) =
     (size_limit < (layout_by_members records kind members).size)
     × (n ≡ capped (layout_by_members records kind members).size)
@@ -63,7 +61,7 @@ Refuses records kind members (TooDeep n) =
 Refuses records kind members NoMemory = Unit {0}
 
 -- what a record's definition comes to
-pub record Defines (records : List RecordType) (kind : RecordKind) (members : List Member) (c : Content) : Type 0 where
+pub record Defines (records : List RecordValue) (kind : RecordKind) (members : List MemberValue) (c : ContentValue) : Type 0 where
   pub follows : Follows records kind c
-  pub members_kept : c.members.items ≡ members
+  pub members_kept : c.members ≡ members
   pub depth : c.depth ≡ depth_by_members records members

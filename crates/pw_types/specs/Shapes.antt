@@ -1,14 +1,11 @@
 -- The shape of a type: a text by which modules compare the types of what they share.
-use Rattle.std.specs.Prelude.{ℕ, Bool, true, false, ◌||◌, Option, None, Some, List, [], ◌∷◌, ◌++◌, decimal, flat_map, map, option_map, slice_get, unwrap_or}
+use Rattle.std.specs.Prelude.{ℕ, Bool, true, false, ◌||◌, Option, None, Some, List, [], ◌∷◌, ◌++◌, decimal, flat_map, option_map, slice_get, unwrap_or}
 use Rattle.std.specs.Option.{option_map_or}
-use Rattle.pw_types.specs.declared.ctype.CType.{CType, Void, Int, Pointer', Array', Function', Record}
-use Rattle.pw_types.specs.declared.ctype.Signature.{Signature, out-Signature}
+use Rattle.pw_types.specs.TypeTrees.{CType, Void, Int, Pointer, Array, Function, Record, Qualified, QType, QTypes, NoType, OneType, type_of, is_volatile, MemberValue, RecordValue}
 use Rattle.pw_types.specs.declared.kind.IntKind.{IntKind}
 use Rattle.pw_types.specs.declared.kind.IntKind.TheVariants as K
-use Rattle.pw_types.specs.declared.record.RecordType.{RecordType}
 use Rattle.pw_types.specs.declared.record.RecordKind.{RecordKind}
 use Rattle.pw_types.specs.declared.record.RecordKind.TheVariants.{Structure, Union}
-use Rattle.pw_types.specs.declared.record.Member.{Member}
 
 -- c, a, h, s, t, i, j, l, m
 abbrev pub letter_of_kind : IntKind → ℕ
@@ -27,16 +24,19 @@ letter_of_kind K.ULong = 109
 abbrev pub letter_of : CType → ℕ
 letter_of Void = 118
 letter_of (Int kind) = letter_of_kind kind
-letter_of (Pointer' p ty constant volatile) = 112
-letter_of (Array' p ty constant volatile count) = 112
-letter_of (Function' p signature) = 112
+letter_of (Pointer target) = 112
+letter_of (Array element count) = 112
+letter_of (Function result params) = 112
 letter_of (Record number) = 112
 
+-- the letters of several types
+abbrev pub letters_of : QTypes → List ℕ
+letters_of NoType = []
+letters_of (OneType q rest) = letter_of (type_of q) ∷ letters_of rest
+
 -- `f`, the result's letter and the parameters' letters, without marks
-abbrev pub signature_shape : Signature → List ℕ
-signature_shape signature =
-    let s = out-Signature signature in
-    102 ∷ letter_of s.result.ty ∷ map (λ p. letter_of p.ty) s.params.items
+abbrev pub signature_shape : QType → QTypes → List ℕ
+signature_shape result params = 102 ∷ letter_of (type_of result) ∷ letters_of params
 
 -- `!` before the letter of a volatile type
 abbrev pub marked : Bool → ℕ → List ℕ
@@ -66,20 +66,20 @@ abbrev pub unknown_shape : RecordKind → List ℕ
 unknown_shape kind = opening kind ∷ closing kind ∷ []
 
 -- the shape of a record by what is known of it
-abbrev pub shape_of_record : RecordType → List ℕ
+abbrev pub shape_of_record : RecordValue → List ℕ
 shape_of_record r = option_map_or (λ c. c.shape) r.content (unknown_shape r.kind)
 
 -- The shape of a type, which is volatile or not. An array's qualifiers are its element's (ISO C90
 -- 6.5.3), and a record leaves no mark of its own.
-abbrev pub shape_of : List RecordType → CType → Bool → List ℕ
+abbrev pub shape_of : List RecordValue → CType → Bool → List ℕ
 shape_of records Void volatile = marked volatile 118
 shape_of records (Int kind) volatile = marked volatile (letter_of_kind kind)
-shape_of records (Pointer' p ty constant inner) volatile = marked volatile 112
-shape_of records (Array' p ty constant inner count) volatile =
+shape_of records (Pointer target) volatile = marked volatile 112
+shape_of records (Array (Qualified ty constant inner) count) volatile =
     length_text count ++ shape_of records ty (volatile || inner)
-shape_of records (Function' p signature) volatile = signature_shape signature
+shape_of records (Function result params) volatile = signature_shape result params
 shape_of records (Record number) volatile = unwrap_or (option_map shape_of_record (slice_get records number)) []
 
 -- the shapes of the members of a record, one after another
-abbrev pub member_shapes : List RecordType → List Member → List ℕ
-member_shapes records members = flat_map (λ m. shape_of records m.ty.ty m.ty.volatile) members
+abbrev pub member_shapes : List RecordValue → List MemberValue → List ℕ
+member_shapes records members = flat_map (λ m. shape_of records (type_of m.ty) (is_volatile m.ty)) members

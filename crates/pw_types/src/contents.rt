@@ -7,6 +7,8 @@ ghost use Rattle.pw_types.specs.Records.{IsObjectType, layouts_of, deepest as de
 ghost use Rattle.pw_types.specs.Caps.{capped};
 ghost use Rattle.pw_types.specs.Measures.{Measures, size_by, offsets_by, Defines, Refuses};
 ghost use Rattle.pw_types.specs.Shapes.{record_shape, member_shapes};
+ghost use Rattle.pw_types.specs.TypeTrees.{type_of};
+ghost use Rattle.pw_types.specs.Views.{view_type, view_members, view_content};
 
 use crate::depths::depth;
 use crate::layouts::{SIZE_LIMIT, cap, clip, is_object_type, layout, round_up};
@@ -55,7 +57,7 @@ pub(crate) struct Measure {
 
 /// Whether the types of members are types that objects can have.
 pub fn are_object_types(types: &Types, members: &[Member]) -> bool
-    ensures { IsTrue result ↔ All (λ m. IsObjectType types.now m.ty.ty) members.now }
+    ensures { IsTrue result ↔ All (λ m. IsObjectType types.now (type_of m.ty)) (view_members members.now) }
 {
     members
         .iter()
@@ -64,8 +66,8 @@ pub fn are_object_types(types: &Types, members: &[Member]) -> bool
 
 /// The layout of a member.
 fn member_layout(types: &Types, member: &Member) -> Layout
-    requires { IsObjectType types.now member.now.ty.ty }
-    ensures value { spec.layout_of types.now member.now.ty.ty ≡ Some result }
+    requires { IsObjectType types.now (view_type member.now.ty.ty) }
+    ensures value { spec.layout_of types.now (view_type member.now.ty.ty) ≡ Some result }
     ensures aligned { 1 ≤ result.align }
 {
     let _laid = types.records();
@@ -74,8 +76,8 @@ fn member_layout(types: &Types, member: &Member) -> Layout
 
 /// Measures members whose types are complete.
 fn measured(alloc: Global, types: &Types, members: &[Member]) -> Result<Measure, AllocError>
-    requires { All (λ m. IsObjectType types.now m.ty.ty) members.now }
-    ensures { IfOk result (Measures (layouts_of types.now members.now)) }
+    requires { All (λ m. IsObjectType types.now (type_of m.ty)) (view_members members.now) }
+    ensures { IfOk result (Measures (layouts_of types.now (view_members members.now))) }
 {
     let mut offsets = Vec::new(alloc);
     let mut end: u128 = 0;
@@ -131,7 +133,7 @@ fn record_text(
     size: u32,
     members: &[Member],
 ) -> Result<Vec<u8>, AllocError>
-    ensures { IfOk result (λ text. text.items ≡ record_shape kind size (member_shapes types.now members.now)) }
+    ensures { IfOk result (λ text. text.items ≡ record_shape kind size (member_shapes types.now (view_members members.now))) }
 {
     let mut text = Vec::new(alloc);
     text.push(opening(kind))?;
@@ -144,7 +146,7 @@ fn record_text(
 
 /// Puts the shapes of members, one after another.
 fn push_members(text: &mut Vec<u8>, types: &Types, members: &[Member]) -> Result<(), AllocError>
-    ensures { OnOk result (text.new.items ≡ text.old.items ++ member_shapes types.now members.now) }
+    ensures { OnOk result (text.new.items ≡ text.old.items ++ member_shapes types.now (view_members members.now)) }
 {
     for member in members {
         push_shape(text, types, &member.ty.ty, member.ty.volatile)?;
@@ -154,7 +156,7 @@ fn push_members(text: &mut Vec<u8>, types: &Types, members: &[Member]) -> Result
 
 /// The depth of the deepest member, as far as 64 bits can tell it.
 fn deepest(types: &Types, members: &[Member]) -> u64
-    ensures { result ≡ capped (depth_of_deepest types.now members.now) }
+    ensures { result ≡ capped (depth_of_deepest types.now (view_members members.now)) }
 {
     let mut greatest = 0;
     for member in members {
@@ -172,9 +174,9 @@ pub fn record_content(
     kind: RecordKind,
     members: Vec<Member>,
 ) -> Result<Content, RecordFault>
-    requires { All (λ m. IsObjectType types.now m.ty.ty) members.items }
-    ensures ok { IfOk result (Defines types.now kind members.items) }
-    ensures refused { IfErr result (Refuses types.now kind members.items) }
+    requires { All (λ m. IsObjectType types.now (type_of m.ty)) (view_members members.items) }
+    ensures ok { IfOk result (λ content. Defines types.now kind (view_members members.items) (view_content content)) }
+    ensures refused { IfErr result (Refuses types.now kind (view_members members.items)) }
 {
     let _laid = types.records();
     let measure = measured(alloc, types, &members)?;

@@ -5,7 +5,7 @@ use crate::kind::IntKind;
 /// A type without qualifiers of its own. The length of an array may be unknown; a structure or union
 /// is named by its number in the list of the module's records.
 #[cycle(ctype)]
-#[derive(PartialEq, Eq, Debug, Drop)]
+#[derive(Drop)]
 pub enum CType {
     Void,
     Int(IntKind),
@@ -17,7 +17,7 @@ pub enum CType {
 
 /// A type with its qualifiers `const` and `volatile` (ISO C90 6.5.3).
 #[cycle(ctype)]
-#[derive(PartialEq, Eq, Debug, Drop)]
+#[derive(Drop)]
 pub struct QType {
     pub ty: CType,
     pub constant: bool,
@@ -26,7 +26,7 @@ pub struct QType {
 
 /// The type of a function: what it returns, and its parameters in order.
 #[cycle(ctype)]
-#[derive(PartialEq, Eq, Debug, Drop)]
+#[derive(Drop)]
 pub struct Signature {
     pub result: QType,
     pub params: Vec<QType>,

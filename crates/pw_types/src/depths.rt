@@ -5,6 +5,7 @@ ghost use Rattle.std.specs.Option.{option_map_or};
 ghost use Rattle.pw_types.specs.Layouts.{content_at};
 ghost use Rattle.pw_types.specs.Caps.{capped};
 ghost use Rattle.pw_types.specs.Records as spec;
+ghost use Rattle.pw_types.specs.Views.{view_type, view_types};
 
 use crate::ctype::{CType, QType};
 use crate::record::Member;
@@ -14,15 +15,14 @@ use crate::types::Types;
 /// A record counts one more than its deepest member, and a pointer to a record ends there. It is the
 /// greatest u64 where it would be more.
 #[cycle(depth)]
+#[tactic(auto, unfolding(crate::specs::Views::view_type), using(crate::proofs::ViewLemmas::signature_view))]
 pub fn depth(types: &Types, ty: &CType) -> u64
-    ensures { result ≡ capped (spec.depth_of types.now ty.now) }
+    ensures { result ≡ capped (spec.depth_of types.now (view_type ty.now)) }
 {
     match ty {
         CType::Void | CType::Int(_) => 0,
-        CType::Pointer(target) => match &target.ty {
-            CType::Record(_) => 1,
-            other => depth(types, other).saturating_add(1),
-        },
+        CType::Pointer(target) if is_record(&target.ty) => 1,
+        CType::Pointer(target) => depth(types, &target.ty).saturating_add(1),
         CType::Array(element, _) => depth(types, &element.ty).saturating_add(1),
         CType::Function(signature) => depth(types, &signature.result.ty)
             .max(greatest_depth(types, &signature.params))
@@ -34,13 +34,21 @@ pub fn depth(types: &Types, ty: &CType) -> u64
 /// The depth of the deepest of several types, as far as 64 bits can tell it.
 #[cycle(depth)]
 fn greatest_depth(types: &Types, all: &[QType]) -> u64
-    ensures { result ≡ capped (spec.greatest_depth types.now all.now) }
+    ensures { result ≡ capped (spec.greatest_depth types.now (view_types all.now)) }
 {
     let mut greatest = 0;
     for ty in all {
         greatest = depth(types, &ty.ty).max(greatest);
     }
     greatest
+}
+
+/// Whether a type is a structure or a union.
+#[tactic(auto, unfolding(crate::specs::Views::view_type), using(crate::proofs::ViewLemmas::signature_view))]
+fn is_record(ty: &CType) -> bool
+    ensures { result ≡ spec.is_record (view_type ty.now) }
+{
+    matches!(ty, CType::Record(_))
 }
 
 /// The depth of the record of a number.

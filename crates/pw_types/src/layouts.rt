@@ -5,6 +5,7 @@ ghost use Rattle.pw_types.specs.Caps.{clipped, capped};
 ghost use Rattle.pw_types.specs.Layouts as spec;
 ghost use Rattle.pw_types.specs.Records.{IsObjectType};
 ghost use Rattle.pw_types.specs.Sizes as sizes;
+ghost use Rattle.pw_types.specs.Views.{view_type, view_types};
 
 use crate::ctype::{CType, QType};
 use crate::record::Layout;
@@ -18,10 +19,11 @@ pub const SIZE_LIMIT: u32 = 1048576;
 ///
 /// Where the limit on sizes is kept, as `oversize` tests, this is the layout itself. A size that passes
 /// it does not wrap: where 32 bits cannot tell it, it is the greatest that they can.
+#[tactic(auto, unfolding(crate::specs::Views::view_type), using(crate::proofs::ViewLemmas::signature_view))]
 pub fn layout(types: &Types, ty: &CType) -> Option<Layout>
-    ensures lawful { sizes.oversize_of types.now ty.now ≡ None → result ≡ spec.layout_of types.now ty.now }
-    ensures exact { IfSome (spec.layout_of types.now ty.now) (λ l. l.size ≤ spec.size_limit → result ≡ Some l) }
-    ensures value { result ≡ option_map spec.told (spec.layout_of types.now ty.now) }
+    ensures lawful { sizes.oversize_of types.now (view_type ty.now) ≡ None → result ≡ spec.layout_of types.now (view_type ty.now) }
+    ensures exact { IfSome (spec.layout_of types.now (view_type ty.now)) (λ l. l.size ≤ spec.size_limit → result ≡ Some l) }
+    ensures value { result ≡ option_map spec.told (spec.layout_of types.now (view_type ty.now)) }
 {
     match ty {
         CType::Void | CType::Function(_) | CType::Array(_, None) => None,
@@ -51,8 +53,9 @@ fn record_layout(types: &Types, number: u32) -> Option<Layout>
 
 /// The size of a type in bytes: None where it has no layout, and the greatest u64 where it would be
 /// more.
+#[tactic(auto, unfolding(crate::specs::Views::view_type), using(crate::proofs::ViewLemmas::signature_view))]
 pub fn size(types: &Types, ty: &CType) -> Option<u64>
-    ensures { result ≡ option_map capped (spec.size_of types.now ty.now) }
+    ensures { result ≡ option_map capped (spec.size_of types.now (view_type ty.now)) }
 {
     match ty {
         CType::Void | CType::Function(_) | CType::Array(_, None) => None,
@@ -68,7 +71,7 @@ pub fn size(types: &Types, ty: &CType) -> Option<u64>
 
 /// Whether a type is one that an object can have: it is complete and keeps the limit on sizes.
 pub fn is_object_type(types: &Types, ty: &CType) -> bool
-    ensures { IsTrue result ↔ IsObjectType types.now ty.now }
+    ensures { IsTrue result ↔ IsObjectType types.now (view_type ty.now) }
 {
     match layout(types, ty) {
         Some(layout) => layout.size <= SIZE_LIMIT,
@@ -80,7 +83,7 @@ pub fn is_object_type(types: &Types, ty: &CType) -> bool
 /// of: from its element outward, also behind pointers, and of a function the result before the
 /// parameters. None where they all keep the limit.
 pub fn oversize(types: &Types, ty: &CType) -> Option<u64>
-    ensures { result ≡ sizes.oversize_of types.now ty.now }
+    ensures { result ≡ sizes.oversize_of types.now (view_type ty.now) }
 {
     kept_size(types, ty).err()
 }
@@ -88,10 +91,11 @@ pub fn oversize(types: &Types, ty: &CType) -> Option<u64>
 /// The size of a type that keeps the limit with all that it is made of; else the size of the first that
 /// passes it.
 #[cycle(kept_size)]
+#[tactic(auto, unfolding(crate::specs::Views::view_type), using(crate::proofs::ViewLemmas::signature_view))]
 fn kept_size(types: &Types, ty: &CType) -> Result<Option<u32>, u64>
-    ensures kept { IfOk result (λ size. sizes.oversize_of types.now ty.now ≡ None) }
-    ensures size { IfOk result (λ size. size ≡ spec.size_of types.now ty.now) }
-    ensures passed { IfErr result (λ size. sizes.oversize_of types.now ty.now ≡ Some size) }
+    ensures kept { IfOk result (λ size. sizes.oversize_of types.now (view_type ty.now) ≡ None) }
+    ensures size { IfOk result (λ size. size ≡ spec.size_of types.now (view_type ty.now)) }
+    ensures passed { IfErr result (λ size. sizes.oversize_of types.now (view_type ty.now) ≡ Some size) }
 {
     match ty {
         CType::Void => Ok(None),
@@ -115,9 +119,10 @@ fn kept_size(types: &Types, ty: &CType) -> Result<Option<u32>, u64>
 
 /// The same of several types in order.
 #[cycle(kept_size)]
+#[tactic(auto, unfolding(crate::specs::Views::view_type))]
 fn keep_sizes(types: &Types, all: &[QType]) -> Result<(), u64>
-    ensures kept { OnOk result (sizes.first_oversize types.now all.now ≡ None) }
-    ensures passed { IfErr result (λ size. sizes.first_oversize types.now all.now ≡ Some size) }
+    ensures kept { OnOk result (sizes.first_oversize types.now (view_types all.now) ≡ None) }
+    ensures passed { IfErr result (λ size. sizes.first_oversize types.now (view_types all.now) ≡ Some size) }
 {
     for ty in all {
         let _ = kept_size(types, &ty.ty)?;
@@ -154,7 +159,7 @@ fn record_size(types: &Types, number: u32) -> Option<u64>
 }
 
 /// The least multiple of an alignment that is not below a number.
-pub(crate) fn round_up(number: u128, align: u32) -> u128
+pub fn round_up(number: u128, align: u32) -> u128
     requires aligned { 1 ≤ align }
     requires fits { number < 2 ^ 100 }
     ensures value { result ≡ spec.round_up number align }
@@ -172,7 +177,7 @@ pub(crate) fn clip(number: u128) -> u32
 }
 
 /// A number as far as 64 bits can tell it.
-pub(crate) fn cap(number: u128) -> u64
+pub fn cap(number: u128) -> u64
     ensures { result ≡ capped number }
 {
     number.min(18446744073709551615) as u64

@@ -7,7 +7,6 @@ pub mod depths;
 pub mod kind;
 pub mod layouts;
 pub mod record;
-pub mod rooms;
 pub mod shapes;
 pub mod tree;
 pub mod types;
@@ -16,15 +15,8 @@ pub use contents::{RecordFault, are_object_types, record_content};
 pub use ctype::{CType, QType, Signature};
 pub use depths::depth;
 pub use kind::{IntKind, convert, promote, usual};
-pub use layouts::{is_object_type, layout, oversize, size};
+pub use layouts::{cap, is_object_type, layout, oversize, round_up, size};
 pub use record::{Content, Layout, Member, RecordKind, RecordType};
-pub use rooms::{START_ROOM, expr_nodes, room, stmt_nodes};
 pub use shapes::shape;
-pub use tree::{
-    BinaryOperator, Case, Declared, Initialiser, Local, LogicOperator, StepOperator, Symbol, TExpr,
-    TForm, TFunction, TGlobal, TItem, TModule, TStmt, TStmtForm, UnaryOperator,
-};
+pub use tree::{BinaryOperator, LogicOperator, StepOperator, UnaryOperator};
 pub use types::Types;
-
-#[cfg(test)]
-mod tests;

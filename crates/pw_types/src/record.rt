@@ -4,14 +4,14 @@ use crate::ctype::QType;
 use pw_value::{Name, Shape};
 
 /// Whether members stand one after another or all at the front.
-#[derive(Clone, Copy, PartialEq, Eq, Debug)]
+#[derive(Clone, Copy, PartialEq, Eq)]
 pub enum RecordKind {
     Structure,
     Union,
 }
 
 /// The size of a type in bytes, and what the offsets of its objects are multiples of.
-#[derive(Clone, Copy, PartialEq, Eq, Debug)]
+#[derive(Clone, Copy, PartialEq, Eq)]
 pub struct Layout {
     pub size: u32,
     pub align: u32,

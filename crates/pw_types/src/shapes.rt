@@ -2,8 +2,9 @@
 
 ghost use Rattle.std.specs.Prelude.{◌≡◌, ◌∷◌, ◌++◌, List, ℕ, IfOk, OnOk, decimal, map, take, drop};
 ghost use Rattle.pw_types.specs.Shapes as spec;
+ghost use Rattle.pw_types.specs.Views.{view_type, view_qtype, view_types, view_record};
 
-use crate::ctype::{CType, QType, Signature};
+use crate::ctype::{CType, QType};
 use crate::kind::IntKind;
 use crate::record::{RecordKind, RecordType};
 use crate::types::Types;
@@ -13,7 +14,7 @@ use std::alloc::{AllocError, Global};
 
 /// The shape of a type.
 pub fn shape(alloc: Global, types: &Types, ty: &QType) -> Result<Shape, AllocError>
-    ensures { IfOk result (λ shape. shape ≡ spec.shape_of types.now ty.now.ty ty.now.volatile) }
+    ensures { IfOk result (λ shape. shape ≡ spec.shape_of types.now (view_type ty.now.ty) ty.now.volatile) }
 {
     let mut text = Vec::new(alloc);
     push_shape(&mut text, types, &ty.ty, ty.volatile)?;
@@ -21,13 +22,14 @@ pub fn shape(alloc: Global, types: &Types, ty: &QType) -> Result<Shape, AllocErr
 }
 
 /// Puts the shape of a type, which is volatile or not, behind a text.
+#[tactic(auto, unfolding(crate::specs::Views::view_type), using(crate::proofs::ViewLemmas::signature_view))]
 pub(crate) fn push_shape(
     text: &mut Vec<u8>,
     types: &Types,
     ty: &CType,
     volatile: bool,
 ) -> Result<(), AllocError>
-    ensures { OnOk result (text.new.items ≡ text.old.items ++ spec.shape_of types.now ty.now volatile) }
+    ensures { OnOk result (text.new.items ≡ text.old.items ++ spec.shape_of types.now (view_type ty.now) volatile) }
 {
     match ty {
         CType::Void => push_marked(text, volatile, b'v'),
@@ -37,7 +39,7 @@ pub(crate) fn push_shape(
             push_length(text, *count)?;
             push_shape(text, types, &element.ty, volatile || element.volatile)
         }
-        CType::Function(signature) => push_signature(text, signature),
+        CType::Function(signature) => push_signature(text, &signature.result, &signature.params),
         CType::Record(number) => match types.record(*number) {
             Some(definition) => push_record(text, definition),
             None => Ok(()),
@@ -77,12 +79,12 @@ pub(crate) fn push_decimal(text: &mut Vec<u8>, number: u32) -> Result<(), AllocE
 }
 
 /// Puts the shape of a function's type.
-fn push_signature(text: &mut Vec<u8>, signature: &Signature) -> Result<(), AllocError>
-    ensures { OnOk result (text.new.items ≡ text.old.items ++ spec.signature_shape signature.now) }
+fn push_signature(text: &mut Vec<u8>, answer: &QType, params: &[QType]) -> Result<(), AllocError>
+    ensures { OnOk result (text.new.items ≡ text.old.items ++ spec.signature_shape (view_qtype answer.now) (view_types params.now)) }
 {
     text.push(b'f')?;
-    text.push(letter_of(&signature.result.ty))?;
-    for param in &signature.params {
+    text.push(letter_of(&answer.ty))?;
+    for param in params {
         text.push(letter_of(&param.ty))?;
     }
     Ok(())
@@ -90,7 +92,7 @@ fn push_signature(text: &mut Vec<u8>, signature: &Signature) -> Result<(), Alloc
 
 /// Puts the shape of a structure or union type.
 fn push_record(text: &mut Vec<u8>, definition: &RecordType) -> Result<(), AllocError>
-    ensures { OnOk result (text.new.items ≡ text.old.items ++ spec.shape_of_record definition.now) }
+    ensures { OnOk result (text.new.items ≡ text.old.items ++ spec.shape_of_record (view_record definition.now)) }
 {
     match &definition.content {
         Some(content) => text.extend_from_slice(content.shape.as_bytes()),
@@ -123,8 +125,9 @@ pub(crate) fn closing(kind: RecordKind) -> u8
 }
 
 /// The letter of a type as a result or a parameter.
+#[tactic(auto, unfolding(crate::specs::Views::view_type), using(crate::proofs::ViewLemmas::signature_view))]
 fn letter_of(ty: &CType) -> u8
-    ensures { result ≡ spec.letter_of ty.now }
+    ensures { result ≡ spec.letter_of (view_type ty.now) }
 {
     match ty {
         CType::Void => b'v',

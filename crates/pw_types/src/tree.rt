@@ -1,31 +1,7 @@
-//! The typed tree of a module: what checking makes of its text, and what its meaning and its code are
-//! made of. `docs/TYPED-TREE.md` says of each form what the two read of it.
-//!
-//! Each implicit conversion is a `Cast` and each implicit address of an array or a function a `Decay`.
-//! An index `a[i]` is the `Deref` of an `Add`, `p->x` is a `Member` of a `Deref`, `sizeof` is a
-//! `Number`, and parentheses leave no node. A node's token is its operator's, counted from 1: of an
-//! index both nodes' is the `[`, of a call the `(`, of a member the `.` or `->`, of a number, string or
-//! name the token itself, of an implicit `Cast` or a `Decay` that of its operand. A statement's token
-//! is its first.
-
-use crate::ctype::{CType, QType};
-use crate::types::Types;
-use pw_value::Name;
-
-/// An object or function of static lifetime, as the module `m` speaks of it.
-#[derive(PartialEq, Eq, Debug, Drop)]
-pub enum Symbol {
-    /// By a name that all modules share.
-    External(Name),
-    /// By a name `x` of the module's own, `m:x` outside it.
-    Internal(Name),
-    /// The module's static local, string or local brace initialiser of this number, counted from 0 in
-    /// the order of the text: `m:.k` outside it.
-    Hidden(u32),
-}
+//! The operators of typed trees (ISO C90 6.3).
 
 /// The unary operators `+`, `-`, `~` and `!`.
-#[derive(Clone, Copy, PartialEq, Eq, Debug)]
+#[derive(Clone, Copy, PartialEq, Eq)]
 pub enum UnaryOperator {
     Plus,
     Minus,
@@ -34,7 +10,7 @@ pub enum UnaryOperator {
 }
 
 /// The binary operators on values.
-#[derive(Clone, Copy, PartialEq, Eq, Debug)]
+#[derive(Clone, Copy, PartialEq, Eq)]
 pub enum BinaryOperator {
     Add,
     Subtract,
@@ -55,176 +31,17 @@ pub enum BinaryOperator {
 }
 
 /// The operators `&&` and `||`.
-#[derive(Clone, Copy, PartialEq, Eq, Debug)]
+#[derive(Clone, Copy, PartialEq, Eq)]
 pub enum LogicOperator {
     And,
     Or,
 }
 
 /// The operators `++` and `--`, before and behind their operand.
-#[derive(Clone, Copy, PartialEq, Eq, Debug)]
+#[derive(Clone, Copy, PartialEq, Eq)]
 pub enum StepOperator {
     IncrementBefore,
     DecrementBefore,
     IncrementBehind,
     DecrementBehind,
-}
-
-/// An expression with its type: of an lvalue that of the object, which no `Cast` wraps before it is
-/// read.
-#[cycle(texpr)]
-#[derive(Drop)]
-pub struct TExpr {
-    pub token: usize,
-    pub ty: QType,
-    pub form: TForm,
-}
-
-/// The forms of expressions.
-#[cycle(texpr)]
-#[derive(Drop)]
-pub enum TForm {
-    /// A word of an integer type.
-    Number(u32),
-    /// The hidden object of this number, which holds a string.
-    Str(u32),
-    /// A parameter or local by its place among the function's locals.
-    Local(u32),
-    Global(Symbol),
-    Function(Symbol),
-    Unary(UnaryOperator, Box<TExpr>),
-    Binary(BinaryOperator, Box<TExpr>, Box<TExpr>),
-    Logic(LogicOperator, Box<TExpr>, Box<TExpr>),
-    Cond(Box<TExpr>, Box<TExpr>, Box<TExpr>),
-    Comma(Box<TExpr>, Box<TExpr>),
-    Assign(Box<TExpr>, Box<TExpr>),
-    /// `a op= b`: the type in which the operator works, to which the old value is converted and from
-    /// which the new one is; then the lvalue and the right operand.
-    Compound(BinaryOperator, CType, Box<TExpr>, Box<TExpr>),
-    Step(StepOperator, Box<TExpr>),
-    /// A conversion to the node's type: of the constant 0 to a pointer type it gives the null pointer,
-    /// and to void no value.
-    Cast(Box<TExpr>),
-    Decay(Box<TExpr>),
-    /// A member of a structure or union, by its offset in bytes.
-    Member(Box<TExpr>, u32),
-    Deref(Box<TExpr>),
-    Address(Box<TExpr>),
-    /// A call of a function that is named directly.
-    Call(Symbol, Vec<TExpr>),
-    /// A call through a value, which is a pointer to a function.
-    CallValue(Box<TExpr>, Vec<TExpr>),
-}
-
-/// A case of a switch: its value as a word, and its label.
-#[derive(Clone, Copy)]
-pub struct Case {
-    pub value: u32,
-    pub label: u32,
-}
-
-/// The initialiser of a local, by the local's place. It is a part of a declaration and no statement.
-#[derive(Drop)]
-pub enum Initialiser {
-    /// One expression, whose value is stored as an assignment stores it.
-    Value(u32, TExpr),
-    /// A list in braces or a string: the hidden object that has its bytes, and the expressions that it
-    /// is made of, which are constants and are not evaluated. A string among them that initialises an
-    /// array is the `Str` of that hidden object.
-    Bytes(u32, u32, Vec<TExpr>),
-}
-
-/// A statement.
-#[cycle(tstmt)]
-#[derive(Drop)]
-pub struct TStmt {
-    pub token: usize,
-    pub form: TStmtForm,
-}
-
-/// The forms of statements. The labels of a function, those of cases and defaults included, are
-/// numbered from 0 in the order of the text.
-#[cycle(tstmt)]
-#[derive(Drop)]
-pub enum TStmtForm {
-    Empty,
-    Expr(TExpr),
-    /// A block: as many locals as `count` from the place `first` on live in it; then its initialisers
-    /// in order, and then its statements.
-    Block {
-        first: u32,
-        count: u32,
-        initialisers: Vec<Initialiser>,
-        items: Vec<TStmt>,
-    },
-    If(TExpr, Box<TStmt>, Option<Box<TStmt>>),
-    While(TExpr, Box<TStmt>),
-    Do(Box<TStmt>, TExpr),
-    For(Option<TExpr>, Option<TExpr>, Option<TExpr>, Box<TStmt>),
-    /// A switch: its value, its cases in the order of the text, the label of its default, its body.
-    Switch(TExpr, Vec<Case>, Option<u32>, Box<TStmt>),
-    /// A statement behind a label: of a case, a default or a `goto`.
-    Label(u32, Box<TStmt>),
-    Goto(u32),
-    Break,
-    Continue,
-    Return(Option<TExpr>),
-}
-
-/// A parameter or a local of automatic lifetime. One that is defined const is not writable.
-#[derive(Drop)]
-pub struct Local {
-    pub name: Name,
-    pub ty: QType,
-    pub writable: bool,
-}
-
-/// A function's definition. `token` is its name's. The first `params` of its locals are its parameters;
-/// the others follow in the order of declaration. `labels` is the count of its labels, `named` has in
-/// order those of them that a `goto` can name, and the body is a block.
-#[derive(Drop)]
-pub struct TFunction {
-    pub name: Symbol,
-    pub token: usize,
-    pub ty: QType,
-    pub params: u32,
-    pub locals: Vec<Local>,
-    pub labels: u32,
-    pub named: Vec<u32>,
-    pub body: TStmt,
-}
-
-/// A part of an object's initial bytes.
-#[derive(Drop)]
-pub enum TItem {
-    Bytes(Vec<u8>),
-    /// The address of an object or function plus a number.
-    Address(Symbol, u32),
-}
-
-/// An object of static lifetime with its initial bytes: items at rising offsets, and zero elsewhere.
-/// Strings and objects that are defined const are not writable.
-#[derive(Drop)]
-pub struct TGlobal {
-    pub name: Symbol,
-    pub ty: QType,
-    pub writable: bool,
-    pub items: Vec<(u32, TItem)>,
-}
-
-/// A name that all modules share and that the module declares or defines, with its type.
-#[derive(Drop)]
-pub struct Declared {
-    pub name: Name,
-    pub ty: QType,
-}
-
-/// A module: its structure and union types, the objects and the functions that it defines in the order
-/// of their first definitions, and what it declares in the order of first declarations.
-#[derive(Drop)]
-pub struct TModule {
-    pub types: Types,
-    pub globals: Vec<TGlobal>,
-    pub functions: Vec<TFunction>,
-    pub declared: Vec<Declared>,
 }

@@ -5,4 +5,6 @@ pub mod FileLaws
 pub mod NameLaws
 pub mod NameTables
 pub mod Ranges
+pub mod StartLaws
 mod ShapeLemmas
+mod WordLaws

@@ -5,14 +5,15 @@ use Rattle.std.specs.Str.{bytes_eq}
 use Rattle.std.specs.Ordering.{nat_cmp, is_lt}
 use Rattle.std.specs.Cmp.Lexicographic.{slice_cmp}
 use Rattle.std.specs.declared.cmp.Ordering.TheVariants.{Less}
+use Rattle.pw_value.specs.Limits.{name_limit}
 use Rattle.pw_value.specs.Names.{IsNameLength}
 use Rattle.pw_value.specs.Fields.{◌>>=◌, done, checked, u32_at, text_at, items_at, u32, text}
 
 -- ---- the table
 
--- a text that may follow another in the table: 1 to 400 bytes, and above it in byte order
+-- a text that may follow another in the table: as long as a name may be, and above it in byte order
 abbrev pub is_entry : List ℕ → List ℕ → Bool
-is_entry before name = nat_le 1 (length name) && (nat_le (length name) 400 && is_lt (slice_cmp nat_cmp before name))
+is_entry before name = nat_le 1 (length name) && (nat_le (length name) name_limit && is_lt (slice_cmp nat_cmp before name))
 
 unfoldable pub entry_at : List ℕ → List ℕ → Result (List ℕ × List ℕ) ℕ
 entry_at before = checked (is_entry before) text_at
@@ -31,7 +32,7 @@ abbrev pub IsRisingFrom : List ℕ → List (List ℕ) → Type 0
 IsRisingFrom before [] = Unit {0}
 IsRisingFrom before (name ∷ names) = IsNameLength (length name) × (slice_cmp nat_cmp before name ≡ Less) × IsRisingFrom name names
 
--- rising names of 1 to 400 bytes
+-- rising names
 pub record IsNameTable (names : List (List ℕ)) : Type 0 where
   pub count : length names < 2 ^ 32
   pub rising : IsRisingFrom [] names

@@ -1,4 +1,6 @@
+pub mod Limits
 pub mod Names
+pub mod ProgramNames
 pub mod Fields
 pub mod FieldFaults
 pub mod FieldFrame
@@ -6,4 +8,5 @@ pub mod FieldLaws
 pub mod FieldNames
 pub mod Shapes
 pub mod Values
+pub mod Words
 pub mod Objects

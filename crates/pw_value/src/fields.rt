@@ -115,6 +115,3 @@ pub fn read_flag(bytes: &[u8]) -> Result<(bool, &[u8]), FieldError>
     let (choice, rest) = read_choice(2, bytes)?;
     Ok((choice == 1, rest))
 }
-
-#[cfg(test)]
-mod tests;

@@ -1,14 +1,17 @@
-//! The values that the whole compiler speaks of: machine words, names, shapes of types, what a C
-//! program's expressions and objects hold, and faults that several layers answer.
+//! The values that the whole compiler speaks of: machine words and their arithmetic, names, shapes of
+//! types, what a C program's expressions and objects hold, limits, and faults that several layers answer.
 #![tactic(auto)]
 
 pub mod codec;
 pub mod fault;
 pub mod fields;
 pub mod laws;
+pub mod limits;
 pub mod name;
+pub mod program_names;
 pub mod shape;
 pub mod value;
+pub mod words;
 
 pub use codec::{decode, decode_pointer, encode};
 pub use fault::{FileError, LinkFault, What};
@@ -16,9 +19,7 @@ pub use name::{Name, NameError};
 pub use shape::{Shape, agree};
 pub use std::alloc::AllocError as NoMemory;
 pub use value::{Byte, Kind, Pointer, Value};
+pub use words::WordFault;
 
 /// A word of the machine: 32 bits, read as a number from 0 to 2^32 - 1.
 pub type Word = u32;
-
-#[cfg(test)]
-mod tests;

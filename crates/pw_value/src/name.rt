@@ -8,14 +8,12 @@ ghost use Rattle.std.specs.Cmp.Lexicographic.{pointwise, slice_cmp};
 ghost use Rattle.std.specs.Ordering.{nat_cmp, as_partial_cmp};
 ghost use Rattle.pw_value.specs.Names.{IsNameLength};
 
+use crate::limits::NAME_MAX;
 use std::alloc::{AllocError, Global};
 use std::cmp::Ordering;
 use std::marker::Model;
 
-/// The greatest number of bytes of a name.
-pub const NAME_MAX: usize = 400;
-
-/// A name: 1 to 400 bytes, of any values. Names are equal where their bytes are, and they are ordered
+/// A name: 1 to `NAME_MAX` bytes, of any values. Names are equal where their bytes are, and they are ordered
 /// byte by byte, a proper prefix first. A contract sees a name as the list of its bytes.
 #[derive(Debug, Drop)]
 pub struct Name {
@@ -33,7 +31,7 @@ impl Model for Name {
     ghost invariant = { λ inside. IsNameLength (length inside.bytes.items) };
 }
 
-/// Why there is no name: the count of bytes is outside 1 to 400, or there is no memory.
+/// Why there is no name: the count of bytes is 0 or passes `NAME_MAX`, or there is no memory.
 #[derive(Clone, Copy, PartialEq, Eq, Debug)]
 pub enum NameError {
     Length,

@@ -10,10 +10,11 @@ ghost use Rattle.pw_value.specs.FieldNames.{is_entry, entry_at, next_entry, name
 
 use super::writing::{push_text, push_u32};
 use super::{FieldError, read_text_in_place, read_u32};
-use crate::name::{NAME_MAX, Name};
+use crate::limits::NAME_MAX;
+use crate::name::Name;
 use std::alloc::{AllocError, Global};
 
-/// Whether a text may follow another in the table: 1 to 400 bytes, and above it in byte order.
+/// Whether a text may follow another in the table: as long as a name may be, and above it in byte order.
 fn may_follow(before: &[u8], name: &[u8]) -> bool
     ensures { result ≡ is_entry before.now name.now }
 {
@@ -69,7 +70,7 @@ fn read_counted(alloc: Global, bytes: &[u8]) -> Result<(Vec<Name>, &[u8]), Field
     read_entries(alloc, count, rest)
 }
 
-/// The table of names: their count, and the names in rising order, each of 1 to 400 bytes.
+/// The table of names: their count, and the names in rising order, each as long as a name may be.
 pub fn read_names(alloc: Global, bytes: &[u8]) -> Result<(Vec<Name>, &[u8]), FieldError>
     ensures found { Gives (λ x. (x.0.items, x.1.now)) result (names_at bytes.now) }
     // The table takes its bytes from the front.

@@ -7,4 +7,4 @@ use Rattle.pw_files.specs.Names.{name_above_at}
 use Rattle.pw_files.proofs.lists.read_name_items.Given as goal
 
 abbrev pub invariant-loop : goal.invariant-loop
-invariant-loop l = with_front l.items.items (items_at (name_above_at l.names l.with_start) (next_key (λ name. name)) (l.count - l.counter) (option_map (λ b. b.now) l.before) l.rest) ≡ items_at (name_above_at l.names l.with_start) (next_key (λ name. name)) l.count None l.bytes
+invariant-loop l = with_front l.items (items_at (name_above_at l.names l.start) (next_key (λ name. name)) (l.count - l.counter) (option_map (λ b. b.now) l.before) l.rest) ≡ items_at (name_above_at l.names l.start) (next_key (λ name. name)) l.count None l.bytes

@@ -7,4 +7,4 @@ use Rattle.pw_files.specs.Names.{text_above_at}
 use Rattle.pw_files.proofs.lists.read_shape_items.Given as goal
 
 abbrev pub invariant-loop : goal.invariant-loop
-invariant-loop l = with_front l.items.items (items_at text_above_at (next_key (λ text. text)) (l.count - l.counter) (option_map (λ b. b.now) l.before) l.rest) ≡ items_at text_above_at (next_key (λ text. text)) l.count None l.bytes
+invariant-loop l = with_front l.items (items_at text_above_at (next_key (λ text. text)) (l.count - l.counter) (option_map (λ b. b.now) l.before) l.rest) ≡ items_at text_above_at (next_key (λ text. text)) l.count None l.bytes

@@ -7,4 +7,4 @@ use Rattle.pw_files.specs.Names.{shaped_at}
 use Rattle.pw_files.proofs.lists.read_shaped_items.Given as goal
 
 abbrev pub invariant-loop : goal.invariant-loop
-invariant-loop l = with_front l.items.items (items_at (shaped_at l.names l.with_start) (next_key (λ f. f.0)) (l.count - l.counter) (option_map (λ b. b.now) l.before) l.rest) ≡ items_at (shaped_at l.names l.with_start) (next_key (λ f. f.0)) l.count None l.bytes
+invariant-loop l = with_front l.items (items_at (shaped_at l.names l.start) (next_key (λ f. f.0)) (l.count - l.counter) (option_map (λ b. b.now) l.before) l.rest) ≡ items_at (shaped_at l.names l.start) (next_key (λ f. f.0)) l.count None l.bytes

@@ -1,9 +1,8 @@
 use Rattle.std.proofs.Common.{◌≡◌, ◌-◌, map}
 use Rattle.pw_value.specs.Fields.{repeated}
 use Rattle.pw_value.proofs.FieldLoops.{with_front}
-use Rattle.pw_summary.specs.Summary.{uses_view}
 use Rattle.pw_summary.specs.Reading.{uses_at}
 use Rattle.pw_summary.proofs.reading.read_all_uses.Given as goal
 
 abbrev pub invariant-loop : goal.invariant-loop
-invariant-loop l = with_front (map uses_view l.all.items) (repeated (uses_at l.names) (l.count - l.counter) l.rest) ≡ repeated (uses_at l.names) l.count l.bytes
+invariant-loop l = with_front l.all (repeated (uses_at l.names) (l.count - l.counter) l.rest) ≡ repeated (uses_at l.names) l.count l.bytes

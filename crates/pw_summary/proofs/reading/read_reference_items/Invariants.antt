@@ -7,4 +7,4 @@ use Rattle.pw_summary.specs.Reading.{reference_at}
 use Rattle.pw_summary.proofs.reading.read_reference_items.Given as goal
 
 abbrev pub invariant-loop : goal.invariant-loop
-invariant-loop l = with_front l.items.items (items_at (reference_at l.names) (next_key (λ r. r.0)) (l.count - l.counter) (option_map (λ b. b.now) l.before) l.rest) ≡ items_at (reference_at l.names) (next_key (λ r. r.0)) l.count None l.bytes
+invariant-loop l = with_front l.items (items_at (reference_at l.names) (next_key (λ r. r.0)) (l.count - l.counter) (option_map (λ b. b.now) l.before) l.rest) ≡ items_at (reference_at l.names) (next_key (λ r. r.0)) l.count None l.bytes

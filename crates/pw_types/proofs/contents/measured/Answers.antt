@@ -1,5 +1,5 @@
 use Rattle.std.proofs.Common.{arith}
-use Rattle.pw_types.proofs.MeasureLemmas.{Measured-take_more}
+use Rattle.pw_types.proofs.MeasureLemmas.{Measured-take_more, object_type-at}
 use Rattle.pw_types.proofs.contents.measured.Goals as goal
 
 pub loop-member-preserved : goal.loop-member-preserved
@@ -13,3 +13,7 @@ loop-member-preserved c = (
       c.max-largest.ensures c.max-align.ensures,
   omega (arith, c.loop-member.invariant.1, c.round_up-offset.ensures.near),
 )
+
+pub member_layout-layout-requires : goal.member_layout-layout-requires
+member_layout-layout-requires c =
+    object_type-at c.args.types.now c.args.members.now c.loop-member.member-index c.member-item.result c.loop-member-test.true c.member-item.is c.requires

@@ -1,0 +1,42 @@
+-- Allocation in its first form: each temporary has a place of its own in the frame.
+use Rattle.std.specs.Prelude.{ℕ, zero, suc, ◌+◌, ◌==◌, ◌&&◌, Bool, true, false, if◌then◌else◌, List, [], ◌∷◌, ◌++◌, length}
+use Rattle.pw_db.specs.declared.database.Web.{Web}
+use Rattle.pw_db.specs.declared.database.Role.{Role}
+use Rattle.pw_db.specs.declared.database.Role.TheVariants.{Entry, Member}
+use Rattle.pw_webflow.specs.declared.web.WebFn.{WebFn}
+use Rattle.pw_alloc.specs.declared.located.Place.{Place}
+use Rattle.pw_alloc.specs.declared.located.Place.TheVariants.{Slot, Reg}
+use Rattle.pw_alloc.specs.declared.located.Located.{Located}
+use Rattle.pw_alloc.specs.Frames.{head_size, temp_offset, slots_begin, last_reach}
+
+abbrev pub is_entry : Role → Bool
+is_entry Entry = true
+is_entry Member = false
+
+-- whether the function enters a web of this register
+abbrev pub is_entered : List (Web × Role) → ℕ → Bool
+is_entered [] r = false
+is_entered (w ∷ rest) r = if (w.0.reg == r) && is_entry w.1 then true else is_entered rest r
+
+-- so many registers from one on, those that are entered
+abbrev pub entered_from : List (Web × Role) → ℕ → ℕ → List ℕ
+entered_from webs r zero = []
+entered_from webs r (suc more) =
+    if is_entered webs r then r ∷ entered_from webs (suc r) more else entered_from webs (suc r) more
+
+-- the registers that a function saves are those of the webs that it enters, of 3 to 18
+abbrev pub saved_of : WebFn → List ℕ
+saved_of f = entered_from f.directives.webs 3 16
+
+-- the places of so many temporaries from a number on
+abbrev pub slots_from : ℕ → ℕ → ℕ → ℕ → List Place
+slots_from head saved i zero = []
+slots_from head saved i (suc more) = Slot (temp_offset head saved i) ∷ slots_from head saved (suc i) more
+
+unfoldable pub allocated : WebFn → Located
+allocated f = record {
+  body = f;
+  places = slots_from (head_size f) (length (saved_of f)) 0 f.temps;
+  saved = saved_of f;
+  frame = last_reach (slots_begin (head_size f) (length (saved_of f)) f.temps) f.slots;
+}

@@ -1,0 +1,100 @@
+-- Items as words (PA-RISC 1.1: branches, delay slots, nullification).
+use Rattle.std.specs.Prelude.{ℕ, ℤ, pos, ◌+◌, ◌*◌, ◌-ℤ◌, ◌==◌, nat_lt, Bool, true, false, if◌then◌else◌, Option, Some, None, List, [], ◌∷◌, ◌++◌, length, map, sum_by}
+use Rattle.std.specs.List.{flat_map}
+use Rattle.pw_inst.specs.declared.Inst.{Inst}
+use Rattle.pw_inst.specs.declared.Inst.TheVariants.{Or, Combt, Combf, Bl, Bv, Ble}
+use Rattle.pw_inst.specs.InstructionTable.{word_of}
+use Rattle.pw_inst.specs.declared.line.Line.{Line}
+use Rattle.pw_inst.specs.declared.relocation.Fix.{Fix}
+use Rattle.pw_inst.specs.declared.relocation.FixKind.TheVariants as kind
+use Rattle.pw_inst.specs.declared.relocation.Symbol.{Symbol}
+use Rattle.pw_inst.specs.declared.relocation.Symbol.TheVariants as symbol
+use Rattle.pw_delay.specs.declared.code.Code.{Code}
+use Rattle.pw_delay.specs.Items.{Relocation, Word, bare, Turn, Back, Goto, If, CallTo, CallReg, Leave, Item, Plain, Turns, Mark, slotted}
+
+-- the instruction that does nothing
+abbrev pub nop : Word
+nop = bare (Or 0 0 0)
+
+abbrev pub in_slot : Option Word → Word
+in_slot None = nop
+in_slot (Some w) = w
+
+-- ---- how many words there are
+
+-- A return needs no slot where nothing stands in it; a long conditional branch is one over a jump.
+abbrev pub turn_size : Bool → Turn → Option Word → ℕ
+turn_size long Leave None = 1
+turn_size true (If r b) slot = 4
+turn_size long turn slot = 2
+
+abbrev pub size : Bool → Item → ℕ
+size long (Plain w) = 1
+size long (Turns turn slot) = turn_size long turn slot
+size long (Mark b) = 0
+
+abbrev pub sizes : Bool → List Item → ℕ
+sizes long items = sum_by (size long) items
+
+-- the number of the word at which a block begins, where the items begin at the word of a number
+abbrev pub mark_at : Bool → ℕ → List Item → ℕ → ℕ
+mark_at long at [] b = at
+mark_at long at (Mark n ∷ rest) b = if n == b then at else mark_at long at rest b
+mark_at long at (item ∷ rest) b = mark_at long (at + size long item) rest b
+
+-- ---- the words
+
+abbrev pub to_block : ℕ → Word
+to_block word = record {
+  inst = Bl (pos 0) 0 false;
+  relocation = Some (record { kind = kind.Bl; symbol = symbol.Word word; addend = 0 });
+}
+
+-- the displacement from the word of a number to another: a branch counts from two words behind it
+abbrev pub displacement : ℕ → ℕ → ℤ
+displacement at to = pos to -ℤ pos (at + 2)
+
+-- the words of a turn that stands at the word of a number, by the words at which the blocks begin
+abbrev pub turn_words : Bool → (ℕ → ℕ) → ℕ → Turn → Option Word → List Word
+turn_words long begins at (Back branch) slot = bare branch ∷ in_slot slot ∷ []
+turn_words long begins at (Goto b) slot = to_block (begins b) ∷ in_slot slot ∷ []
+turn_words false begins at (If r b) slot = bare (Combf 1 r 0 (displacement at (begins b))) ∷ in_slot slot ∷ []
+turn_words true begins at (If r b) slot = bare (Combt 1 r 0 (pos 2)) ∷ in_slot slot ∷ to_block (begins b) ∷ nop ∷ []
+turn_words long begins at (CallTo s link) slot =
+    record { inst = Bl (pos 0) link false; relocation = Some (record { kind = kind.Bl; symbol = s; addend = 0 }) }
+    ∷ in_slot slot ∷ []
+turn_words long begins at CallReg slot = bare (Ble 22 false) ∷ in_slot slot ∷ []
+turn_words long begins at Leave None = bare (Bv 2 true) ∷ []
+turn_words long begins at Leave (Some w) = bare (Bv 2 false) ∷ w ∷ []
+
+abbrev pub words_from : Bool → (ℕ → ℕ) → ℕ → List Item → List Word
+words_from long begins at [] = []
+words_from long begins at (Plain w ∷ rest) = w ∷ words_from long begins (at + 1) rest
+words_from long begins at (Turns turn slot ∷ rest) =
+    turn_words long begins at turn slot ++ words_from long begins (at + turn_size long turn slot) rest
+words_from long begins at (Mark b ∷ rest) = words_from long begins at rest
+
+-- ---- code
+
+abbrev pub fix_at : ℕ → Option Relocation → List Fix
+fix_at at None = []
+fix_at at (Some r) = record { word = at; kind = r.kind; symbol = r.symbol; addend = r.addend } ∷ []
+
+-- the relocations of words, the first of which has a number
+abbrev pub fixes_from : ℕ → List Word → List Fix
+fixes_from at [] = []
+fixes_from at (w ∷ rest) = fix_at at w.relocation ++ fixes_from (at + 1) rest
+
+abbrev pub code_of : List Word → Code
+code_of words = record { words = map (λ w. word_of w.inst) words; fixes = fixes_from 0 words }
+
+unfoldable pub laid : Bool → List Item → Code
+laid long items = code_of (words_from long (mark_at long 0 items) 0 items)
+
+-- how many words short conditional branches can reach over
+abbrev pub short_limit : ℕ
+short_limit = 2040
+
+-- Conditional branches are long where the words with short ones are too many.
+unfoldable pub placed : List Line → Code
+placed lines = let items = slotted lines in laid (nat_lt short_limit (sizes false items)) items

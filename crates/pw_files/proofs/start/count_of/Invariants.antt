@@ -1,9 +1,0 @@
-use Rattle.std.proofs.Common.{◌≡◌, ◌≤◌, map, take}
-use Rattle.pw_files.specs.Start.{times}
-use Rattle.pw_files.proofs.start.count_of.Given as goal
-
-abbrev pub invariant-loop-name : goal.invariant-loop-name
-invariant-loop-name l = record {
-  counted : l.count ≡ times l.wanted (map (λ name. name.now) (take l.name-index l.names));
-  few : l.count ≤ l.name-index;
-}

@@ -1,0 +1,44 @@
+//! The rules of a file that are looked at last, where no field before the digest is faulty.
+
+ghost use Rattle.std.specs.Prelude.{◌≡◌, ◌≢◌, ◌+◌, ◌<◌, ◌^◌, length, map, IfErr};
+ghost use Rattle.std.specs.List.{flat_map};
+ghost use Rattle.pw_value.specs.Fields.{text};
+ghost use Rattle.pw_value.specs.FieldFaults.{Gives};
+ghost use Rattle.pw_value.specs.FieldNames.{first_unused};
+ghost use Rattle.pw_files.specs.Start.{start_rule};
+ghost use Rattle.pw_files.specs.Contents.{broken_at};
+
+use pw_value::Name;
+use pw_value::fields::FieldError;
+use pw_value::fields::names::find_unused;
+use pw_value::program_names::is_start_kept;
+use std::alloc::Global;
+
+/// The rule that each name of the table is used, where so many bytes are left behind the table. `used` are
+/// the names that are used, in whatever order and however often.
+pub fn check_used(
+    alloc: Global,
+    names: &[Name],
+    used: Vec<&Name>,
+    behind: usize,
+) -> Result<(), FieldError>
+    requires { length (flat_map text names.now) + behind < 2 ^ 64 }
+    ensures { Gives (λ x. x) result (broken_at (first_unused names.now (map (λ name. name.now) used.entry.items) behind)) }
+{
+    match find_unused(alloc, names, used, behind)? {
+        Some(left) => Err(FieldError::Fault { left }),
+        None => Ok(()),
+    }
+}
+
+/// The rule of `$start`, where so many bytes are left from the count of the functions on.
+pub fn check_start(functions: &[&Name], globals: &[&Name], count: usize) -> Result<(), FieldError>
+    ensures found { Gives (λ x. x) result (broken_at (start_rule (map (λ name. name.now) functions.now) (map (λ name. name.now) globals.now) count)) }
+    ensures no_memory { IfErr result (λ e. e ≢ FieldError.NoMemory) }
+{
+    if is_start_kept(functions, globals) {
+        Ok(())
+    } else {
+        Err(FieldError::Fault { left: count })
+    }
+}

@@ -1,0 +1,5 @@
+pub mod Values
+pub mod Memory
+pub mod Programs
+pub mod Commands
+pub mod FlowRun

@@ -1,0 +1,2 @@
+//! The meaning of flow graphs: the run of a list of flow modules.
+#![tactic(auto)]

@@ -1,0 +1,10 @@
+pub mod Trees
+pub mod Written
+pub mod Sound
+pub mod Progress
+pub mod Local
+pub mod Viable
+pub mod OneFault
+pub mod Exact
+pub mod Renumber
+pub mod FaultLaw

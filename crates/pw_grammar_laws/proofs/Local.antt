@@ -1,0 +1,16 @@
+pub mod Base
+pub mod Lists
+pub mod Names
+pub mod Parts
+pub mod Opens
+pub mod Tests
+pub mod Expressions
+pub mod Levels
+pub mod Specifiers
+pub mod Suffixes
+pub mod Declarators
+pub mod Knot
+pub mod Declarations
+pub mod Labels
+pub mod Statements
+pub mod Module

@@ -1,0 +1,16 @@
+pub mod Knows
+pub mod Primaries
+pub mod Postfixes
+pub mod Unaries
+pub mod Levels
+pub mod Members
+pub mod Specifiers
+pub mod Pointers
+pub mod Parameters
+pub mod Declarators
+pub mod Knot
+pub mod Declarations
+pub mod Statements
+pub mod Module
+pub mod Symbols
+pub mod Laws

@@ -1,0 +1,5 @@
+use Rattle.pw_grammar_laws.proofs.Written.Laws.{same-tree}
+use Rattle.pw_grammar_laws.proofs.laws.one_tree.Goals as goal
+
+pub returns : goal.returns
+returns c = same-tree

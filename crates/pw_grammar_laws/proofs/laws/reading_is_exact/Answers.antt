@@ -1,0 +1,5 @@
+use Rattle.pw_grammar_laws.proofs.Exact.{exact}
+use Rattle.pw_grammar_laws.proofs.laws.reading_is_exact.Goals as goal
+
+pub returns : goal.returns
+returns c = exact

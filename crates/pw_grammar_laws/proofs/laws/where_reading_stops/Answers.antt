@@ -1,0 +1,5 @@
+use Rattle.pw_grammar_laws.proofs.FaultLaw.{fault-sound}
+use Rattle.pw_grammar_laws.proofs.laws.where_reading_stops.Goals as goal
+
+pub returns : goal.returns
+returns c = fault-sound

@@ -1,0 +1,9 @@
+//! A `Vec` and a `Box` that contracts see as what they hold, so that a type that holds them is plain data
+//! there.
+#![tactic(auto)]
+
+mod boxed;
+mod items;
+
+pub use boxed::Boxed;
+pub use items::Items;

@@ -1,0 +1,154 @@
+-- Lowering of functions, objects and modules (C90 6.7).
+use Rattle.std.specs.Prelude.{ℕ, zero, suc, ◌+◌, ◌*◌, ◌==◌, max, if◌then◌else◌, Bool, true, false, Option, Some, None, unwrap_or, List, [], ◌∷◌, ◌++◌, map, length, sum_by, codes, bytes_eq}
+use Rattle.std.specs.List.{flat_map}
+use Rattle.pw_value.specs.declared.value.Kind.{Kind}
+use Rattle.pw_types.specs.Layouts.{round_up}
+use Rattle.pw_types.specs.Shapes.{shape_of}
+use Rattle.pw_types.specs.TypeTrees.{CType, QType, type_of, is_volatile, RecordValue}
+use Rattle.pw_types.specs.TypedTrees.{Symbol, External, Internal, Hidden, LocalValue, FunctionValue, ItemValue, ItemBytes, ItemAddress, PlacedItem, GlobalValue, DeclaredValue, ModuleValue}
+use Rattle.pw_flow.specs.declared.flow.Item.{Item}
+use Rattle.pw_flow.specs.declared.flow.Item.TheVariants as item
+use Rattle.pw_flow.specs.declared.flow.FlowGlobal.{FlowGlobal}
+use Rattle.pw_flow.specs.declared.flow.FlowFn.{FlowFn}
+use Rattle.pw_flow.specs.declared.flow.FlowModule.{FlowModule}
+use Rattle.pw_flow.specs.declared.flow.Op.{Op}
+use Rattle.pw_flow.specs.declared.flow.Op.TheVariants as op
+use Rattle.pw_flow.specs.declared.flow.Block.{Block}
+use Rattle.pw_flow.specs.declared.flow.End.TheVariants.{Return}
+use Rattle.pw_lower.specs.Codes.{Code, Lowered, temp_of, emit, fresh, cut_here, Numbered, bare, blocks_below}
+use Rattle.pw_lower.specs.Places.{Place, InTemp, InSlot, places_of, temps_from}
+use Rattle.pw_lower.specs.Operators.{kind_of, bytes_of}
+use Rattle.pw_lower.specs.Expressions.{Home, full_name, scalar_kind}
+use Rattle.pw_lower.specs.Statements.{Frame, LabelBlock, numbered, lower_statement}
+
+-- ---- functions
+
+-- A parameter that stands in a slot is stored there first, in the order of the parameters.
+abbrev pub parameters_stored : List LocalValue → List Place → ℕ → ℕ → Code → Code
+parameters_stored (local ∷ locals) (InSlot s ∷ places) k (suc left) c =
+    let x = fresh (λ t. op.AddrSlot t s) c in
+    parameters_stored locals places (k + 1) left
+    (emit (op.Store (scalar_kind (type_of local.ty)) (temp_of x) k) x.code)
+parameters_stored (local ∷ locals) (InTemp t ∷ places) k (suc left) c = parameters_stored locals places (k + 1) left c
+parameters_stored locals places k left c = c
+
+-- The labels that a `goto` can name have the blocks behind the first, in the order of the text; behind these
+-- stands a block to which nothing goes, so that each of them is another block than the next by number.
+abbrev pub start_code : List ℕ → ℕ → Code
+start_code [] temps = record { closed = []; cur = 0; depth = 0; ops = []; blocks = 1; temps = temps }
+start_code (l ∷ rest) temps = record {
+  closed = record { number = length rest + 2; block = bare } ∷ [];
+  cur = 0;
+  depth = 0;
+  ops = [];
+  blocks = length rest + 3;
+  temps = temps;
+}
+
+-- the sizes of the slots, in order
+abbrev pub slots_of : List RecordValue → List LocalValue → List Place → List ℕ
+slots_of records (local ∷ locals) (InSlot s ∷ places) = bytes_of records (type_of local.ty) ∷ slots_of records locals places
+slots_of records (local ∷ locals) (InTemp t ∷ places) = slots_of records locals places
+slots_of records locals places = []
+
+-- what is the same for the whole function
+abbrev pub frame_of : List ℕ → List RecordValue → FunctionValue → Frame
+frame_of home records f = record {
+  home = record { name = home; records = records; places = places_of f };
+  locals = f.locals;
+}
+
+-- the code at the beginning of a function: the parameters are where they stand
+abbrev pub entered : FunctionValue → Code
+entered f = parameters_stored f.locals (places_of f) 0 f.params (start_code f.named (temps_from f.params (places_of f)))
+
+-- the code of a function, its last block closed; outside a loop nothing goes anywhere by `break` or `continue`
+abbrev pub function_code : List ℕ → List RecordValue → FunctionValue → Code
+function_code home records f =
+    cut_here (Return None) 0
+    (lower_statement (frame_of home records f) (numbered 1 f.named) (record { out = 0; on = 0 }) f.body (entered f))
+
+unfoldable pub lowered_function : List ℕ → List RecordValue → FunctionValue → FlowFn
+lowered_function home records f =
+    let c = function_code home records f in record {
+      name = full_name home f.name;
+      shape = shape_of records (type_of f.ty) false;
+      params = f.params;
+      temps = c.temps;
+      slots = slots_of records f.locals (places_of f);
+      blocks = blocks_below c.closed c.blocks;
+    }
+
+-- what the program starts with: it calls `main`, and passes the result to `exit`
+abbrev pub start_function : FlowFn
+start_function = record {
+  name = codes "$start";
+  shape = codes "fv";
+  params = 0;
+  temps = 1;
+  slots = [];
+  blocks = record {
+    depth = 0;
+    ops = op.Call (Some 0) (codes "main") [] ∷ op.Call None (codes "exit") (0 ∷ []) ∷ [];
+    end = Return None;
+  } ∷ [];
+}
+
+abbrev pub is_main : Symbol → Bool
+is_main (External x) = bytes_eq x (codes "main")
+is_main _ = false
+
+-- it stands last in the module that defines a function `main`
+abbrev pub start_of : List FunctionValue → List FlowFn
+start_of [] = []
+start_of (f ∷ rest) = if is_main f.name then start_function ∷ [] else start_of rest
+
+-- ---- objects
+
+abbrev pub item_of : List ℕ → ItemValue → Item
+item_of home (ItemBytes bytes) = item.Bytes bytes
+item_of home (ItemAddress s n) = item.Address (full_name home s) n
+
+abbrev pub lowered_item : List ℕ → PlacedItem → ℕ × Item
+lowered_item home placed = (placed.offset, item_of home placed.item)
+
+abbrev pub lowered_global : List ℕ → List RecordValue → GlobalValue → FlowGlobal
+lowered_global home records g = record {
+  name = full_name home g.name;
+  size = bytes_of records (type_of g.ty);
+  shape = shape_of records (type_of g.ty) (is_volatile g.ty);
+  kind = kind_of (type_of g.ty);
+  volatile = is_volatile g.ty;
+  items = map (lowered_item home) g.items;
+}
+
+-- ---- modules
+
+abbrev pub lowered_declared : List RecordValue → DeclaredValue → List ℕ × List ℕ
+lowered_declared records d = (d.name, shape_of records (type_of d.ty) (is_volatile d.ty))
+
+-- the flow graph of a module
+unfoldable pub lowered : List ℕ → ModuleValue → FlowModule
+lowered name m = record {
+  name = name;
+  globals = map (lowered_global name m.records) m.globals;
+  functions = map (lowered_function name m.records) m.functions ++ start_of m.functions;
+  declared = map (lowered_declared m.records) m.declared;
+}
+
+-- ---- room
+
+-- the arguments of a call
+abbrev pub argument_count : Op → ℕ
+argument_count (op.Call t f args) = length args
+argument_count (op.CallInd t a shape args) = length args
+argument_count _ = 0
+
+abbrev pub most_arguments : List Op → ℕ
+most_arguments [] = 0
+most_arguments (o ∷ rest) = max (argument_count o) (most_arguments rest)
+
+-- A bound on the frame of a flow function: 128 bytes, 4 for each temporary and for each argument of the call that
+-- has most, and for each slot its size and one byte, rounded up to a multiple of 8.
+abbrev pub flow_room : FlowFn → ℕ
+flow_room f = 128 + 4 * f.temps + 4 * most_arguments (flat_map (λ b. b.ops) f.blocks) + sum_by (λ size. round_up (size + 1) 8) f.slots

@@ -1,0 +1,2 @@
+//! Selection: from placed graphs to lines of instructions.
+#![tactic(auto)]

@@ -1,0 +1,201 @@
+//! Arithmetic on words of 32 bits, as C has it for int and unsigned int (ISO C90 6.3). An int is given and
+//! answered as the word that it stands in.
+
+ghost use Rattle.std.specs.Prelude.{ℕ, ◌≡◌, ◌+◌, ◌-◌, ◌*◌, ◌%◌, ◌^◌, ◌<◌, Ok};
+ghost use Rattle.pw_value.specs.Words as spec;
+
+/// Why an operation on words has no result: the exact result is no int, the divisor is zero, or the count
+/// of a shift is not from 0 to 31.
+#[derive(Clone, Copy, PartialEq, Eq, Debug)]
+pub enum WordFault {
+    Overflow,
+    ZeroDivisor,
+    ShiftCount,
+}
+
+/// The sum of unsigned ints.
+pub fn unsigned_sum(a: u32, b: u32) -> u32
+    ensures { result ≡ spec.unsigned_sum a b }
+{
+    a.wrapping_add(b)
+}
+
+/// The difference of unsigned ints.
+pub fn unsigned_difference(a: u32, b: u32) -> u32
+    ensures { result ≡ spec.unsigned_difference a b }
+{
+    a.wrapping_sub(b)
+}
+
+/// The product of unsigned ints.
+pub fn unsigned_product(a: u32, b: u32) -> u32
+    ensures { result ≡ spec.unsigned_product a b }
+{
+    a.wrapping_mul(b)
+}
+
+/// The negation of an unsigned int.
+pub fn unsigned_negation(a: u32) -> u32
+    ensures { result ≡ spec.unsigned_negation a }
+{
+    unsigned_difference(0, a)
+}
+
+/// The quotient of unsigned ints.
+pub fn unsigned_quotient(a: u32, b: u32) -> Result<u32, WordFault>
+    ensures { result ≡ spec.unsigned_quotient a b }
+{
+    if b == 0 {
+        return Err(WordFault::ZeroDivisor);
+    }
+    Ok(a / b)
+}
+
+/// The remainder of unsigned ints.
+pub fn unsigned_remainder(a: u32, b: u32) -> Result<u32, WordFault>
+    ensures { result ≡ spec.unsigned_remainder a b }
+{
+    if b == 0 {
+        return Err(WordFault::ZeroDivisor);
+    }
+    Ok(a % b)
+}
+
+/// Whether an unsigned int is less than another.
+pub fn unsigned_less(a: u32, b: u32) -> bool
+    ensures { result ≡ spec.unsigned_less a b }
+{
+    a < b
+}
+
+/// Whether an unsigned int is less than another or equal to it.
+pub fn unsigned_at_most(a: u32, b: u32) -> bool
+    ensures { result ≡ spec.unsigned_at_most a b }
+{
+    a <= b
+}
+
+/// The sum of ints.
+pub fn signed_sum(a: u32, b: u32) -> Result<u32, WordFault>
+    ensures { result ≡ spec.signed_sum a b }
+{
+    match a.cast_signed().checked_add(b.cast_signed()) {
+        Some(sum) => Ok(sum.cast_unsigned()),
+        None => Err(WordFault::Overflow),
+    }
+}
+
+/// The difference of ints.
+pub fn signed_difference(a: u32, b: u32) -> Result<u32, WordFault>
+    ensures { result ≡ spec.signed_difference a b }
+{
+    match a.cast_signed().checked_sub(b.cast_signed()) {
+        Some(difference) => Ok(difference.cast_unsigned()),
+        None => Err(WordFault::Overflow),
+    }
+}
+
+/// The product of ints.
+pub fn signed_product(a: u32, b: u32) -> Result<u32, WordFault>
+    ensures { result ≡ spec.signed_product a b }
+{
+    match a.cast_signed().checked_mul(b.cast_signed()) {
+        Some(product) => Ok(product.cast_unsigned()),
+        None => Err(WordFault::Overflow),
+    }
+}
+
+/// The negation of an int.
+pub fn signed_negation(a: u32) -> Result<u32, WordFault>
+    ensures { result ≡ spec.signed_negation a }
+{
+    match a.cast_signed().checked_neg() {
+        Some(negation) => Ok(negation.cast_unsigned()),
+        None => Err(WordFault::Overflow),
+    }
+}
+
+/// The quotient of ints, toward zero.
+pub fn signed_quotient(a: u32, b: u32) -> Result<u32, WordFault>
+    ensures { result ≡ spec.signed_quotient a b }
+{
+    if b == 0 {
+        return Err(WordFault::ZeroDivisor);
+    }
+    match a.cast_signed().checked_div(b.cast_signed()) {
+        Some(quotient) => Ok(quotient.cast_unsigned()),
+        None => Err(WordFault::Overflow),
+    }
+}
+
+/// What the quotient of ints leaves, where an int can hold the quotient.
+pub fn signed_remainder(a: u32, b: u32) -> Result<u32, WordFault>
+    ensures { result ≡ spec.signed_remainder a b }
+{
+    if b == 0 {
+        return Err(WordFault::ZeroDivisor);
+    }
+    match a.cast_signed().checked_rem(b.cast_signed()) {
+        Some(remainder) => Ok(remainder.cast_unsigned()),
+        None => Err(WordFault::Overflow),
+    }
+}
+
+/// Whether an int is less than another.
+pub fn signed_less(a: u32, b: u32) -> bool
+    ensures { result ≡ spec.signed_less a b }
+{
+    a.cast_signed() < b.cast_signed()
+}
+
+/// Whether an int is less than another or equal to it.
+pub fn signed_at_most(a: u32, b: u32) -> bool
+    ensures { result ≡ spec.signed_at_most a b }
+{
+    a.cast_signed() <= b.cast_signed()
+}
+
+/// The bits of a word moved to the left.
+pub fn shift_left(a: u32, count: u32) -> Result<u32, WordFault>
+    ensures { result ≡ spec.shift_left a count }
+{
+    if count > 31 {
+        return Err(WordFault::ShiftCount);
+    }
+    Ok(a << count)
+}
+
+/// The bits of an unsigned int moved to the right.
+pub fn unsigned_shift_right(a: u32, count: u32) -> Result<u32, WordFault>
+    ensures { result ≡ spec.unsigned_shift_right a count }
+{
+    if count > 31 {
+        return Err(WordFault::ShiftCount);
+    }
+    Ok(a >> count)
+}
+
+/// The bits of an int moved to the right, with its sign behind them.
+pub fn signed_shift_right(a: u32, count: u32) -> Result<u32, WordFault>
+    ensures { result ≡ spec.signed_shift_right a count }
+{
+    if count > 31 {
+        return Err(WordFault::ShiftCount);
+    }
+    Ok((a.cast_signed() >> count).cast_unsigned())
+}
+
+/// Where an int can hold the exact result, it is the unsigned result of the same words.
+pub fn signed_results_are_unsigned()
+    ensures sum { (a b s : ℕ) → a < 2 ^ 32 → b < 2 ^ 32 → spec.signed_sum a b ≡ Ok s → s ≡ spec.unsigned_sum a b }
+    ensures difference { (a b s : ℕ) → a < 2 ^ 32 → b < 2 ^ 32 → spec.signed_difference a b ≡ Ok s → s ≡ spec.unsigned_difference a b }
+    ensures product { (a b s : ℕ) → a < 2 ^ 32 → b < 2 ^ 32 → spec.signed_product a b ≡ Ok s → s ≡ spec.unsigned_product a b }
+    ensures negation { (a s : ℕ) → a < 2 ^ 32 → spec.signed_negation a ≡ Ok s → s ≡ spec.unsigned_negation a }
+{}
+
+/// A result that there is, is a word.
+pub fn results_are_words()
+    ensures quotient { (a b s : ℕ) → a < 2 ^ 32 → b < 2 ^ 32 → spec.signed_quotient a b ≡ Ok s → s < 2 ^ 32 }
+    ensures remainder { (a b s : ℕ) → a < 2 ^ 32 → b < 2 ^ 32 → spec.signed_remainder a b ≡ Ok s → s < 2 ^ 32 }
+    ensures shift { (a count s : ℕ) → a < 2 ^ 32 → spec.signed_shift_right a count ≡ Ok s → s < 2 ^ 32 }
+{}
