@@ -1,2 +1,3 @@
 pub mod NodeLemmas
 pub mod Rows
+pub mod SpineLaws
