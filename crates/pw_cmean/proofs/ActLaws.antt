@@ -1,0 +1,299 @@
+-- A relation between acts that holds of each primitive act, and of acts in order, holds of every expression,
+-- statement and call.
+use Rattle.std.proofs.Common.{ℕ, Bool, true, false, List, [], ◌∷◌, Option, Some, None, Result, Ok, Err}
+use Rattle.std.specs.Prelude.{ℤ}
+use Rattle.pw_value.specs.declared.value.Value.{Value}
+use Rattle.pw_value.specs.declared.value.Value.TheVariants as V
+use Rattle.pw_value.specs.declared.value.Byte.{Byte}
+use Rattle.pw_value.specs.declared.value.Pointer.TheVariants as P
+use Rattle.pw_value.specs.Objects.{Object}
+use Rattle.pw_types.specs.TypeTrees.{CType, Void, Int, Pointer, Array, Function as FunctionType, Record, QType, RecordValue}
+use Rattle.pw_types.specs.declared.kind.IntKind.{IntKind}
+use Rattle.pw_types.specs.declared.record.Layout.{Layout}
+use Rattle.pw_types.specs.declared.tree.UnaryOperator.{UnaryOperator}
+use Rattle.pw_types.specs.declared.tree.UnaryOperator.TheVariants.{Plus, Minus, Complement, Not}
+use Rattle.pw_types.specs.declared.tree.BinaryOperator.{BinaryOperator}
+use Rattle.pw_types.specs.declared.tree.BinaryOperator.TheVariants as O
+use Rattle.pw_types.specs.declared.tree.StepOperator.{StepOperator}
+use Rattle.pw_types.specs.TypedTrees.{Symbol}
+use Rattle.pw_cmean.specs.declared.undefined.Undef.{Undef}
+use Rattle.pw_cmean.specs.Undefined.{Finding, least}
+use Rattle.pw_cmean.specs.Worlds.{World, Callable, Body, Defined, Library, LibraryFunction, GetChar, PutChar, ExitRun}
+use Rattle.pw_cmean.specs.Acts.{Act, State, Ending, Bound, Wrong, StackFull, Undefined, Site, give, stop, ◌>>=◌, branch, wrong, look, write, get_char, put_char, during, with_object, need, undefined, told, judge}
+use Rattle.pw_cmean.specs.Access.{Purpose, objects_now, within, load, store, copy, fetch, put}
+use Rattle.pw_cmean.specs.Operators.{truth, outcome_of, on_numbers, unary_number, unary, advance, advance_elements, difference, ordered, compared, on_pointers, pointer_and_number, number_and_pointer, binary, convert}
+use Rattle.pw_cmean.specs.Evaluation.{Env, Calls, local_place, symbol_place, used, value_at, cast, bounded_call, take_room, library_call, call_body, call, call_value, assign, old_value, update, step}
+use Rattle.pw_cmean.specs.ScratchWords.{WordFault, Overflow, ZeroDivisor, ShiftCount}
+
+pub record Laws (R : (A : Type 0) → Act A → Act A → Type 0) : Type 1 where
+  pub gives : (A : Type 0) (a : A) → R A (give a) (give a)
+  pub stops : (A : Type 0) (e : Ending) → R A (stop e) (stop e)
+  -- the second of two is related to itself
+  pub selfs : (A : Type 0) (m m' : Act A) → R A m m' → R A m' m'
+  -- what comes with no bound left is related to all that comes with one
+  pub bounds : (A : Type 0) (m : Act A) → R A m m → R A (stop Bound) m
+  pub looks : (A : Type 0) (f : State → A) → R A (look f) (look f)
+  pub writes : (n i : ℕ) (bytes : List Byte) → R (Unit {0}) (write n i bytes) (write n i bytes)
+  pub gets : R ℕ get_char get_char
+  pub puts : (b : ℕ) → R (Unit {0}) (put_char b) (put_char b)
+  pub durings : (A : Type 0) (name : List ℕ) (m m' : Act A) → R A m m' → R A (during name m) (during name m')
+  pub withs : (A : Type 0) (size : ℕ) (w : Bool) (f f' : ℕ → Act A) → ((n : ℕ) → R A (f n) (f' n)) → R A (with_object size w f) (with_object size w f')
+  pub binds : (A B : Type 0) (m m' : Act A) (k k' : A → Act B) → R A m m' → ((a : A) → R B (k a) (k' a)) → R B (m >>= k) (m' >>= k')
+
+module _ (R : (A : Type 0) → Act A → Act A → Type 0) (laws : Laws R) where
+  -- ---- acts
+
+  pub bind-r : {A B : Type 0} {m m' : Act A} {k k' : A → Act B} → R A m m' → ((a : A) → R B (k a) (k' a)) → R B (m >>= k) (m' >>= k')
+  bind-r {A} {B} {m} {m'} {k} {k'} p q = laws.binds A B m m' k k' p q
+
+  pub branch-r : {A : Type 0} (b : Bool) {m m' n n' : Act A} → R A m m' → R A n n' → R A (branch b m n) (branch b m' n')
+  unfolding branch
+  branch-r true p q = p
+  branch-r false p q = q
+
+  pub wrong-r : (A : Type 0) → R A wrong wrong
+  unfolding wrong
+  wrong-r A = laws.stops A Wrong
+
+  pub need-r : {A : Type 0} (o : Option A) → R A (need o) (need o)
+  unfolding need
+  need-r {A} (Some a) = laws.gives A a
+  need-r {A} None = wrong-r A
+
+  pub undefined-r : (A : Type 0) (at : Site) (k : Undef) → R A (undefined at k) (undefined at k)
+  unfolding undefined
+  undefined-r A at k = laws.stops A (Undefined k at.home at.token)
+
+  told-r : (at : Site) (o : Option Undef) → R (Unit {0}) (told at o) (told at o)
+  unfolding told
+  told-r at None = laws.gives (Unit {0}) tt
+  told-r at (Some k) = undefined-r (Unit {0}) at k
+
+  pub judge-r : (at : Site) (fs : List Finding) → R (Unit {0}) (judge at fs) (judge at fs)
+  unfolding judge
+  judge-r at fs = told-r at (least fs)
+
+  -- ---- accesses
+
+  pub objects_now-r : R (List Object) objects_now objects_now
+  unfolding objects_now
+  objects_now-r = laws.looks (List Object) (λ s. s.objects)
+
+  pub within-r : {A : Type 0} (v : Value) {f f' : ℕ → ℕ → Act A} → ((n i : ℕ) → R A (f n i) (f' n i)) → R A (within v f) (within v f')
+  unfolding within
+  within-r (V.At (P.Object n i)) p = p n i
+  within-r {A} (V.At (P.Function n)) p = wrong-r A
+  within-r {A} V.Undefined p = wrong-r A
+  within-r {A} (V.Num n) p = wrong-r A
+  within-r {A} V.Null p = wrong-r A
+  within-r {A} (V.Piece q i) p = wrong-r A
+
+  pub load-r : (at : Site) (ty : CType) (p : Value) → R Value (load at ty p) (load at ty p)
+  unfolding load
+  load-r at ty p = bind-r objects_now-r λ os. bind-r (judge-r at _) λ u. within-r p λ n i. laws.gives Value _
+
+  pub store-r : (w : Purpose) (at : Site) (ty : CType) (p v : Value) → R (Unit {0}) (store w at ty p v) (store w at ty p v)
+  unfolding store
+  store-r w at ty p v = bind-r objects_now-r λ os. bind-r (judge-r at _) λ u. within-r p λ n i. laws.writes n i _
+
+  pub copy-r : (w : Purpose) (at : Site) (l : Layout) (p q : Value) → R (Unit {0}) (copy w at l p q) (copy w at l p q)
+  unfolding copy
+  copy-r w at l p q = bind-r objects_now-r λ os. bind-r (judge-r at _) λ u. within-r q λ from i. within-r p λ to j. laws.writes to j _
+
+  pub fetch-r : (at : Site) (ty : CType) (p : Value) → R Value (fetch at ty p) (fetch at ty p)
+  unfolding fetch
+  fetch-r at (Int k) p = load-r at (Int k) p
+  fetch-r at (Pointer q) p = load-r at (Pointer q) p
+  fetch-r at Void p = laws.gives Value p
+  fetch-r at (Array q n) p = laws.gives Value p
+  fetch-r at (FunctionType q ps) p = laws.gives Value p
+  fetch-r at (Record n) p = laws.gives Value p
+
+  pub put-r : (w : Purpose) (at : Site) (rs : List RecordValue) (ty : CType) (p v : Value) → R (Unit {0}) (put w at rs ty p v) (put w at rs ty p v)
+  unfolding put
+  put-r w at rs (Int k) p v = store-r w at (Int k) p v
+  put-r w at rs (Pointer q) p v = store-r w at (Pointer q) p v
+  put-r w at rs (Record n) p v = bind-r (need-r _) λ l. copy-r w at l p v
+  put-r w at rs Void p v = wrong-r (Unit {0})
+  put-r w at rs (Array q n) p v = wrong-r (Unit {0})
+  put-r w at rs (FunctionType q ps) p v = wrong-r (Unit {0})
+
+  -- ---- operators
+
+  pub truth-r : (at : Site) (v : Value) → R Bool (truth at v) (truth at v)
+  unfolding truth
+  truth-r at v = bind-r objects_now-r λ os. bind-r (judge-r at _) λ u. need-r _
+
+  outcome_of-r : (at : Site) (r : Result ℕ WordFault) → R Value (outcome_of at r) (outcome_of at r)
+  unfolding outcome_of
+  outcome_of-r at (Ok n) = laws.gives Value _
+  outcome_of-r at (Err Overflow) = undefined-r Value at _
+  outcome_of-r at (Err ZeroDivisor) = undefined-r Value at _
+  outcome_of-r at (Err ShiftCount) = undefined-r Value at _
+
+  on_numbers-r : (at : Site) (op : BinaryOperator) (k : IntKind) (v w : Value) → R Value (on_numbers at op k v w) (on_numbers at op k v w)
+  unfolding on_numbers
+  on_numbers-r at op k (V.Num a) (V.Num b) = outcome_of-r at _
+  on_numbers-r at op k _ _ = wrong-r Value
+
+  unary_number-r : (at : Site) (op : UnaryOperator) (ty : CType) (v : Value) → R Value (unary_number at op ty v) (unary_number at op ty v)
+  unfolding unary_number
+  unary_number-r at Minus (Int k) (V.Num n) = outcome_of-r at _
+  unary_number-r at Plus (Int k) (V.Num n) = laws.gives Value _
+  unary_number-r at Complement (Int k) (V.Num n) = laws.gives Value _
+  unary_number-r at _ _ _ = wrong-r Value
+
+  pub unary-r : (at : Site) (op : UnaryOperator) (ty : CType) (v : Value) → R Value (unary at op ty v) (unary at op ty v)
+  unfolding unary
+  unary-r at Not ty v = bind-r (truth-r at v) λ b. laws.gives Value _
+  unary-r at Plus ty v = unary_number-r at Plus ty v
+  unary-r at Minus ty v = unary_number-r at Minus ty v
+  unary-r at Complement ty v = unary_number-r at Complement ty v
+
+  pub advance-r : (at : Site) (p : Value) (n : ℤ) → R Value (advance at p n) (advance at p n)
+  unfolding advance
+  advance-r at p n = bind-r objects_now-r λ os. bind-r (judge-r at _) λ u. need-r _
+
+  advance_elements-r : (at : Site) (rs : List RecordValue) (q : QType) (sign : ℤ → ℤ) (p : Value) (k : IntKind) (v : Value) → R Value (advance_elements at rs q sign p k v) (advance_elements at rs q sign p k v)
+  unfolding advance_elements
+  advance_elements-r at rs q sign p k v = bind-r (need-r _) λ l. bind-r objects_now-r λ os. bind-r (judge-r at _) λ u. need-r _
+
+  difference-r : (at : Site) (size : ℕ) (p q : Value) → R Value (difference at size p q) (difference at size p q)
+  unfolding difference
+  difference-r at size p q = bind-r objects_now-r λ os. bind-r (judge-r at _) λ u. laws.gives Value _
+
+  ordered-r : (at : Site) (op : BinaryOperator) (p q : Value) → R Value (ordered at op p q) (ordered at op p q)
+  unfolding ordered
+  ordered-r at op p q = bind-r objects_now-r λ os. bind-r (judge-r at _) λ u. outcome_of-r at _
+
+  compared-r : (at : Site) (f : Bool → Bool) (p q : Value) → R Value (compared at f p q) (compared at f p q)
+  unfolding compared
+  compared-r at f p q = bind-r objects_now-r λ os. bind-r (judge-r at _) λ u. bind-r (need-r _) λ b. laws.gives Value _
+
+  on_pointers-r : (at : Site) (rs : List RecordValue) (q : QType) (op : BinaryOperator) (v w : Value) → R Value (on_pointers at rs q op v w) (on_pointers at rs q op v w)
+  unfolding on_pointers
+  on_pointers-r at rs q O.Subtract v w = bind-r (need-r _) λ l. difference-r at _ v w
+  on_pointers-r at rs q O.Less v w = ordered-r at O.Less v w
+  on_pointers-r at rs q O.Greater v w = ordered-r at O.Greater v w
+  on_pointers-r at rs q O.LessEqual v w = ordered-r at O.LessEqual v w
+  on_pointers-r at rs q O.GreaterEqual v w = ordered-r at O.GreaterEqual v w
+  on_pointers-r at rs q O.Equal v w = compared-r at _ v w
+  on_pointers-r at rs q O.NotEqual v w = compared-r at _ v w
+  on_pointers-r at rs q _ v w = wrong-r Value
+
+  pointer_and_number-r : (at : Site) (rs : List RecordValue) (q : QType) (op : BinaryOperator) (p : Value) (k : IntKind) (v : Value) → R Value (pointer_and_number at rs q op p k v) (pointer_and_number at rs q op p k v)
+  unfolding pointer_and_number
+  pointer_and_number-r at rs q O.Add p k v = advance_elements-r at rs q _ p k v
+  pointer_and_number-r at rs q O.Subtract p k v = advance_elements-r at rs q _ p k v
+  pointer_and_number-r at rs q _ p k v = wrong-r Value
+
+  number_and_pointer-r : (at : Site) (rs : List RecordValue) (q : QType) (op : BinaryOperator) (k : IntKind) (v p : Value) → R Value (number_and_pointer at rs q op k v p) (number_and_pointer at rs q op k v p)
+  unfolding number_and_pointer
+  number_and_pointer-r at rs q O.Add k v p = advance_elements-r at rs q _ p k v
+  number_and_pointer-r at rs q _ k v p = wrong-r Value
+
+  pub binary-r : (at : Site) (rs : List RecordValue) (op : BinaryOperator) (a b : CType) (v w : Value) → R Value (binary at rs op a b v w) (binary at rs op a b v w)
+  unfolding binary
+  binary-r at rs op (Int a) (Int b) v w = on_numbers-r at op a v w
+  binary-r at rs op (Pointer a) (Int b) v w = pointer_and_number-r at rs a op v b w
+  binary-r at rs op (Int a) (Pointer b) v w = number_and_pointer-r at rs b op a v w
+  binary-r at rs op (Pointer a) (Pointer b) v w = on_pointers-r at rs a op v w
+  binary-r at rs op _ _ v w = wrong-r Value
+
+  pub convert-r : (at : Site) (ty : CType) (v : Value) → R Value (convert at ty v) (convert at ty v)
+  unfolding convert
+  convert-r at (Int k) v = bind-r (judge-r at _) λ u. laws.gives Value _
+  convert-r at (Pointer q) v = need-r _
+  convert-r at _ v = wrong-r Value
+
+  -- ---- parts of expressions
+
+  pub local_place-r : (e : Env) (k : ℕ) → R Value (local_place e k) (local_place e k)
+  unfolding local_place
+  local_place-r e k = need-r _
+
+  pub symbol_place-r : (e : Env) (s : Symbol) → R Value (symbol_place e s) (symbol_place e s)
+  unfolding symbol_place
+  symbol_place-r e s = need-r _
+
+  pub used-r : (at : Site) (o : Option Value) → R Value (used at o) (used at o)
+  unfolding used
+  used-r at (Some v) = laws.gives Value v
+  used-r at None = undefined-r Value at _
+
+  pub value_at-r : (e : Env) (t : ℕ) (ty : QType) (p : Value) → R (Option Value) (value_at e t ty p) (value_at e t ty p)
+  unfolding value_at
+  value_at-r e t ty p = bind-r (fetch-r _ _ p) λ v. laws.gives (Option Value) _
+
+  pub cast-r : (at : Site) (ty : CType) (o : Option Value) → R (Option Value) (cast at ty o) (cast at ty o)
+  unfolding cast
+  cast-r at Void o = laws.gives (Option Value) None
+  cast-r at (Int k) o = bind-r (used-r at o) λ v. bind-r (convert-r at _ v) λ w. laws.gives (Option Value) _
+  cast-r at (Pointer q) o = bind-r (used-r at o) λ v. bind-r (convert-r at _ v) λ w. laws.gives (Option Value) _
+  cast-r at (Array q n) o = bind-r (used-r at o) λ v. bind-r (convert-r at _ v) λ w. laws.gives (Option Value) _
+  cast-r at (FunctionType q ps) o = bind-r (used-r at o) λ v. bind-r (convert-r at _ v) λ w. laws.gives (Option Value) _
+  cast-r at (Record n) o = bind-r (used-r at o) λ v. bind-r (convert-r at _ v) λ w. laws.gives (Option Value) _
+
+  pub assign-r : (e : Env) (t : ℕ) (ty : CType) (p v : Value) → R Value (assign e t ty p v) (assign e t ty p v)
+  unfolding assign
+  assign-r e t ty p v = bind-r (put-r _ _ _ ty p v) λ u. laws.gives Value _
+
+  pub old_value-r : (e : Env) (t : ℕ) (ty working : CType) (p : Value) → R Value (old_value e t ty working p) (old_value e t ty working p)
+  unfolding old_value
+  old_value-r e t ty working p = bind-r (load-r _ ty p) λ v. convert-r _ working v
+
+  pub update-r : (e : Env) (t : ℕ) (ty working : CType) (p : Value) (op : BinaryOperator) (right : CType) (old w : Value) → R Value (update e t ty working p op right old w) (update e t ty working p op right old w)
+  unfolding update
+  update-r e t ty working p op right old w =
+      bind-r (binary-r _ _ op working right old w) λ new. bind-r (convert-r _ ty new) λ v. bind-r (put-r _ _ _ ty p v) λ u. laws.gives Value v
+
+  pub step-r : (e : Env) (t : ℕ) (op : StepOperator) (ty : CType) (p : Value) → R Value (step e t op ty p) (step e t op ty p)
+  unfolding step
+  step-r e t op ty p = bind-r (load-r _ ty p) λ old. bind-r (convert-r _ _ old) λ v. bind-r (update-r e t ty _ p _ _ v _) λ new. laws.gives Value _
+
+  -- ---- calls
+
+  -- what calls do at each lower bound, and at each lower bound of a greater or the same one
+  abbrev pub AreRelated : Calls → Calls → Type 0
+  AreRelated [] [] = Unit {0}
+  AreRelated [] (c' ∷ cs') = ((f : Callable) (args : List Value) → R (Option Value) (c' f args) (c' f args)) × AreRelated [] cs'
+  AreRelated (c ∷ cs) [] = ⊥
+  AreRelated (c ∷ cs) (c' ∷ cs') = ((f : Callable) (args : List Value) → R (Option Value) (c f args) (c' f args)) × AreRelated cs cs'
+
+  -- the second of two lists is related to itself
+  pub second-r : (cs cs' : Calls) → AreRelated cs cs' → AreRelated cs' cs'
+  second-r [] [] h = tt
+  second-r [] (c' ∷ cs') h = (h.0, second-r [] cs' h.1)
+  second-r (c ∷ cs) [] h = absurd h
+  second-r (c ∷ cs) (c' ∷ cs') h = (λ f args. laws.selfs (Option Value) (c f args) (c' f args) (h.0 f args), second-r cs cs' h.1)
+
+  pub take_room-r : (w : World) (name : List ℕ) → R (Unit {0}) (take_room w name) (take_room w name)
+  unfolding take_room
+  take_room-r w name = bind-r (laws.looks (List (List ℕ)) (λ s. s.active)) λ active. branch-r _ (laws.stops (Unit {0}) StackFull) (laws.gives (Unit {0}) tt)
+
+  library_call-r : (g : LibraryFunction) (args : List Value) → R (Option Value) (library_call g args) (library_call g args)
+  unfolding library_call
+  library_call-r GetChar [] = bind-r laws.gets λ b. laws.gives (Option Value) _
+  library_call-r PutChar (V.Num n ∷ []) = bind-r (laws.puts _) λ u. laws.gives (Option Value) _
+  library_call-r ExitRun (V.Num n ∷ []) = laws.stops (Option Value) _
+  library_call-r _ _ = wrong-r (Option Value)
+
+  bounded_call-r : (cs cs' : Calls) (f : Callable) (args : List Value) → AreRelated cs cs' → R (Option Value) (bounded_call cs f args) (bounded_call cs' f args)
+  unfolding bounded_call
+  bounded_call-r [] [] f args h = laws.stops (Option Value) Bound
+  bounded_call-r [] (c' ∷ cs') f args h = laws.bounds (Option Value) (c' f args) (h.0 f args)
+  bounded_call-r (c ∷ cs) [] f args h = absurd h
+  bounded_call-r (c ∷ cs) (c' ∷ cs') f args h = h.0 f args
+
+  call_body-r : (w : World) (cs cs' : Calls) (b : Body) (f : Callable) (args : List Value) → AreRelated cs cs' → R (Option Value) (call_body w cs b f args) (call_body w cs' b f args)
+  unfolding call_body
+  call_body-r w cs cs' (Library g) f args h = bind-r (take_room-r w f.name) λ u. library_call-r g args
+  call_body-r w cs cs' (Defined m d) f args h = bounded_call-r cs cs' f args h
+
+  pub call-r : (w : World) (cs cs' : Calls) (f : Callable) (args : List Value) → AreRelated cs cs' → R (Option Value) (call w cs f args) (call w cs' f args)
+  unfolding call
+  call-r w cs cs' f args h = call_body-r w cs cs' f.body f args h
+
+  pub call_value-r : (e : Env) (cs cs' : Calls) (t : ℕ) (ty : CType) (p : Value) (args : List Value) → AreRelated cs cs' → R (Option Value) (call_value e cs t ty p args) (call_value e cs' t ty p args)
+  unfolding call_value
+  call_value-r e cs cs' t ty p args h = bind-r (judge-r _ _) λ u. bind-r (need-r _) λ f. call-r e.world cs cs' f args h

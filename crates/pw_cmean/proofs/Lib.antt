@@ -1,0 +1,6 @@
+mod SanityRows
+pub mod ActLaws
+pub mod TreeLaws
+pub mod Keeping
+pub mod Bounding
+pub mod RunLaws

@@ -1,0 +1,12 @@
+pub mod ScratchWords
+pub mod ScratchNames
+pub mod ScratchTypes
+pub mod Undefined
+pub mod Worlds
+pub mod Acts
+pub mod Access
+pub mod Operators
+pub mod Evaluation
+pub mod Execution
+pub mod SourceRun
+pub mod Lasting
