@@ -23,7 +23,8 @@ use Rattle.pw_cmean.specs.Acts.{Act, State, Ending, Bound, Wrong, StackFull, Und
 use Rattle.pw_cmean.specs.Access.{Purpose, objects_now, within, load, store, copy, fetch, put}
 use Rattle.pw_cmean.specs.Operators.{truth, outcome_of, on_numbers, unary_number, unary, advance, advance_elements, difference, ordered, compared, on_pointers, pointer_and_number, number_and_pointer, binary, convert}
 use Rattle.pw_cmean.specs.Evaluation.{Env, Calls, local_place, symbol_place, used, value_at, cast, bounded_call, take_room, library_call, call_body, call, call_value, assign, old_value, update, step}
-use Rattle.pw_cmean.specs.ScratchWords.{WordFault, Overflow, ZeroDivisor, ShiftCount}
+use Rattle.pw_value.specs.declared.words.WordFault.{WordFault}
+use Rattle.pw_value.specs.declared.words.WordFault.TheVariants.{Overflow, ZeroDivisor, ShiftCount}
 
 pub record Laws (R : (A : Type 0) → Act A → Act A → Type 0) : Type 1 where
   pub gives : (A : Type 0) (a : A) → R A (give a) (give a)

@@ -15,7 +15,7 @@ use Rattle.pw_types.specs.declared.record.Layout.{Layout}
 use Rattle.pw_cmean.specs.declared.undefined.Undef.TheVariants.{UndefinedValue, NullPointer, OutsideObject, EndedObject, Alignment, ReadOnlyObject, PointerBytes, OverlappingCopy, FunctionAccess}
 use Rattle.pw_cmean.specs.Undefined.{Finding, ◌when◌}
 use Rattle.pw_cmean.specs.Acts.{Act, Site, ◌>>=◌, ◌>>◌, give, look, need, judge, write, wrong}
-use Rattle.pw_cmean.specs.ScratchTypes.{layout_of}
+use Rattle.pw_types.specs.Layouts.{layout_of}
 
 unfoldable pub objects_now : Act (List Object)
 objects_now = look (λ s. s.objects)

@@ -21,7 +21,7 @@ use Rattle.pw_cmean.specs.Worlds.{Program, ProgramModule, World, Callable, Body,
 use Rattle.pw_cmean.specs.Acts.{Act, Site, StackFull, Exit, Bound, ◌>>=◌, ◌>>◌, give, stop, branch, look, need, judge, undefined, wrong, get_char, put_char}
 use Rattle.pw_cmean.specs.Access.{Assigning, load, fetch, put}
 use Rattle.pw_cmean.specs.Operators.{truth, number_for, unary, binary, convert, advance}
-use Rattle.pw_cmean.specs.ScratchTypes.{shape_of}
+use Rattle.pw_types.specs.Shapes.{shape_of}
 
 -- ---- where an expression stands
 

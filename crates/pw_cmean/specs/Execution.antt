@@ -10,7 +10,7 @@ use Rattle.pw_cmean.specs.Acts.{Act, Site, Bound, ◌>>=◌, ◌>>◌, give, sto
 use Rattle.pw_cmean.specs.Access.{Initialising, within, put}
 use Rattle.pw_cmean.specs.Operators.{truth}
 use Rattle.pw_cmean.specs.Evaluation.{Env, Calls, site, records_of, local_place, symbol_place, used, answer_of}
-use Rattle.pw_cmean.specs.ScratchTypes.{layout_of}
+use Rattle.pw_types.specs.Layouts.{layout_of}
 
 -- where a statement is met
 pub data Entry : Type 0 where

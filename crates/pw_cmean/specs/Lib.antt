@@ -1,6 +1,3 @@
-pub mod ScratchWords
-pub mod ScratchNames
-pub mod ScratchTypes
 pub mod Undefined
 pub mod Worlds
 pub mod Acts

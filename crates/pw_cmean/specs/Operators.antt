@@ -16,8 +16,10 @@ use Rattle.pw_cmean.specs.declared.undefined.Undef.TheVariants as U
 use Rattle.pw_cmean.specs.Undefined.{◌when◌}
 use Rattle.pw_cmean.specs.Acts.{Act, Site, ◌>>=◌, ◌>>◌, give, need, judge, undefined, wrong}
 use Rattle.pw_cmean.specs.Access.{objects_now}
-use Rattle.pw_cmean.specs.ScratchTypes.{layout_of}
-use Rattle.pw_cmean.specs.ScratchWords.{WordFault, Overflow, ZeroDivisor, ShiftCount, signed, word, unsigned_sum, unsigned_difference, unsigned_product, unsigned_negation, unsigned_quotient, unsigned_remainder, unsigned_less, unsigned_at_most, signed_sum, signed_difference, signed_product, signed_negation, signed_quotient, signed_remainder, signed_less, signed_at_most, shift_left, unsigned_shift_right, signed_shift_right}
+use Rattle.pw_types.specs.Layouts.{layout_of}
+use Rattle.pw_value.specs.declared.words.WordFault.{WordFault}
+use Rattle.pw_value.specs.declared.words.WordFault.TheVariants.{Overflow, ZeroDivisor, ShiftCount}
+use Rattle.pw_value.specs.Words.{signed, word, unsigned_sum, unsigned_difference, unsigned_product, unsigned_negation, unsigned_quotient, unsigned_remainder, unsigned_less, unsigned_at_most, signed_sum, signed_difference, signed_product, signed_negation, signed_quotient, signed_remainder, signed_less, signed_at_most, shift_left, unsigned_shift_right, signed_shift_right}
 
 -- ---- values
 

@@ -8,7 +8,7 @@ use Rattle.pw_cmean.specs.Worlds.{Program, ProgramModule, World, Callable, Body,
 use Rattle.pw_cmean.specs.Acts.{Act, State, Site, Ending, Exit, Outcome, Gives, Ends, ◌>>=◌, ◌>>◌, give, stop, need, undefined, wrong, during}
 use Rattle.pw_cmean.specs.Evaluation.{Env, Calls, site, take_room, call}
 use Rattle.pw_cmean.specs.Execution.{Flow, Normal, Breaks, Continues, Returns, Goes, Front, meaning, with_locals, set_local}
-use Rattle.pw_cmean.specs.ScratchNames.{start_name, main_name}
+use Rattle.pw_value.specs.ProgramNames.{start_name, main_name}
 
 -- ---- calls
 

@@ -14,8 +14,9 @@ use Rattle.pw_value.specs.Values.{pieces_of}
 use Rattle.pw_value.specs.Objects.{Object, with_bytes}
 use Rattle.pw_types.specs.TypeTrees.{type_of}
 use Rattle.pw_types.specs.TypedTrees.{Symbol, External, Internal, Hidden, FunctionValue, GlobalValue, ItemValue, ItemBytes, ItemAddress, PlacedItem, ModuleValue}
-use Rattle.pw_cmean.specs.ScratchTypes.{layout_of, shape_of}
-use Rattle.pw_cmean.specs.ScratchNames.{start_name, exit_name, getchar_name, putchar_name}
+use Rattle.pw_types.specs.Layouts.{layout_of}
+use Rattle.pw_types.specs.Shapes.{shape_of}
+use Rattle.pw_value.specs.ProgramNames.{start_name, exit_name, getchar_name, putchar_name}
 
 -- a module of a program, by its name
 pub record ProgramModule : Type 0 where
