@@ -7,7 +7,7 @@ use Rattle.pw_value.specs.declared.value.Value.TheVariants as V
 use Rattle.pw_value.specs.declared.value.Byte.{Byte}
 use Rattle.pw_value.specs.declared.value.Pointer.TheVariants as P
 use Rattle.pw_value.specs.Objects.{Object}
-use Rattle.pw_types.specs.TypeTrees.{CType, Void, Int, Pointer, Array, Function as FunctionType, Record, QType, RecordValue}
+use Rattle.pw_types.specs.TypeTrees.{CType, Void, Int, Pointer, Array, Function as FunctionType, Record, QType, type_of, RecordValue}
 use Rattle.pw_types.specs.declared.kind.IntKind.{IntKind}
 use Rattle.pw_types.specs.declared.record.Layout.{Layout}
 use Rattle.pw_types.specs.declared.tree.UnaryOperator.{UnaryOperator}
@@ -22,7 +22,7 @@ use Rattle.pw_cmean.specs.Worlds.{World, Callable, Body, Defined, Library, Libra
 use Rattle.pw_cmean.specs.Acts.{Act, State, Ending, Bound, Wrong, StackFull, Undefined, Site, give, stop, ◌>>=◌, branch, wrong, look, write, get_char, put_char, during, with_object, need, undefined, told, judge}
 use Rattle.pw_cmean.specs.Access.{Purpose, objects_now, within, load, store, copy, fetch, put}
 use Rattle.pw_cmean.specs.Operators.{truth, outcome_of, on_numbers, unary_number, unary, advance, advance_elements, difference, ordered, compared, on_pointers, pointer_and_number, number_and_pointer, binary, convert}
-use Rattle.pw_cmean.specs.Evaluation.{Env, Calls, local_place, symbol_place, used, value_at, cast, bounded_call, take_room, library_call, call_body, call, call_value, assign, old_value, update, step}
+use Rattle.pw_cmean.specs.Evaluation.{Env, Calls, local_place, symbol_place, used, value_by, value_at, cast, bounded_call, take_room, library_call, call_body, call, call_value, assign, old_value, update, step}
 use Rattle.pw_value.specs.declared.words.WordFault.{WordFault}
 use Rattle.pw_value.specs.declared.words.WordFault.TheVariants.{Overflow, ZeroDivisor, ShiftCount}
 
@@ -222,9 +222,18 @@ module _ (R : (A : Type 0) → Act A → Act A → Type 0) (laws : Laws R) where
   used-r at (Some v) = laws.gives Value v
   used-r at None = undefined-r Value at _
 
+  value_by-r : (at : Site) (ty : CType) (p : Value) → R (Option Value) (value_by at ty p) (value_by at ty p)
+  unfolding value_by
+  value_by-r at Void p = laws.gives (Option Value) None
+  value_by-r at (Int k) p = bind-r (fetch-r at _ p) λ v. laws.gives (Option Value) _
+  value_by-r at (Pointer q) p = bind-r (fetch-r at _ p) λ v. laws.gives (Option Value) _
+  value_by-r at (Array q n) p = bind-r (fetch-r at _ p) λ v. laws.gives (Option Value) _
+  value_by-r at (FunctionType q ps) p = bind-r (fetch-r at _ p) λ v. laws.gives (Option Value) _
+  value_by-r at (Record n) p = bind-r (fetch-r at _ p) λ v. laws.gives (Option Value) _
+
   pub value_at-r : (e : Env) (t : ℕ) (ty : QType) (p : Value) → R (Option Value) (value_at e t ty p) (value_at e t ty p)
   unfolding value_at
-  value_at-r e t ty p = bind-r (fetch-r _ _ p) λ v. laws.gives (Option Value) _
+  value_at-r e t ty p = value_by-r _ (type_of ty) p
 
   pub cast-r : (at : Site) (ty : CType) (o : Option Value) → R (Option Value) (cast at ty o) (cast at ty o)
   unfolding cast

@@ -4,3 +4,4 @@ pub mod TreeLaws
 pub mod Keeping
 pub mod Bounding
 pub mod RunLaws
+pub mod ValueLaws

@@ -84,14 +84,14 @@ module _ (R : (A : Type 0) → Act A → Act A → Type 0) (laws : Laws R) where
   unfolding value_of
   value-r a cs cs' e h = operand-r _ (answer-r a cs cs' e h)
 
-  condition-r : (t : ℕ) (a : Expression) (cs cs' : Calls) (e : Env) → AreRelated R laws cs cs' → R Bool (condition t a cs e) (condition t a cs' e)
+  condition-r : (a : Expression) (cs cs' : Calls) (e : Env) → AreRelated R laws cs cs' → R Bool (condition a cs e) (condition a cs' e)
   unfolding condition
-  condition-r t a cs cs' e h = bind-r R laws (value-r a cs cs' e h) λ v. truth-r R laws _ v
+  condition-r a cs cs' e h = bind-r R laws (value-r a cs cs' e h) λ v. truth-r R laws _ v
 
-  for_condition-r : (t : ℕ) (o : Option Expression) (cs cs' : Calls) (e : Env) → AreRelated R laws cs cs' → R Bool (for_condition t o cs e) (for_condition t o cs' e)
+  for_condition-r : (o : Option Expression) (cs cs' : Calls) (e : Env) → AreRelated R laws cs cs' → R Bool (for_condition o cs e) (for_condition o cs' e)
   unfolding for_condition
-  for_condition-r t None cs cs' e h = laws.gives Bool true
-  for_condition-r t (Some a) cs cs' e h = condition-r t a cs cs' e h
+  for_condition-r None cs cs' e h = laws.gives Bool true
+  for_condition-r (Some a) cs cs' e h = condition-r a cs cs' e h
 
   drop_value-r : (o : Option Expression) (cs cs' : Calls) (e : Env) → AreRelated R laws cs cs' → R (Unit {0}) (drop_value o cs e) (drop_value o cs' e)
   unfolding drop_value
@@ -226,27 +226,27 @@ module _ (R : (A : Type 0) → Act A → Act A → Type 0) (laws : Laws R) where
         taking_up-r _ (λ at' ds. arms list (labels_behind otherwise) (λ last. behind_arms otherwise last ds e) at' ds e) at cs cs' h λ at' ds ds' k.
         arms-r list (labels_behind otherwise) at' ds ds' e k λ last. behind_arms-r otherwise last ds ds' e k
     meaning-r (While t c body) at cs cs' e h =
-        meet_loop-r (λ ds. condition t c ds e) (λ at' ds. meaning body at' ds e) always (record {
-          test = λ ds ds' k. condition-r t c ds ds' e k;
+        meet_loop-r (λ ds. condition c ds e) (λ at' ds. meaning body at' ds e) always (record {
+          test = λ ds ds' k. condition-r c ds ds' e k;
           middle = λ at' ds ds' k. meaning-r body at' ds ds' e k;
           last = λ ds ds' k. always-r ds ds';
         }) at cs cs' h
     meaning-r (Do t body c) at cs cs' e h =
-        meet_loop-r always (λ at' ds. meaning body at' ds e) (λ ds. condition t c ds e) (record {
+        meet_loop-r always (λ at' ds. meaning body at' ds e) (λ ds. condition c ds e) (record {
           test = λ ds ds' k. always-r ds ds';
           middle = λ at' ds ds' k. meaning-r body at' ds ds' e k;
-          last = λ ds ds' k. condition-r t c ds ds' e k;
+          last = λ ds ds' k. condition-r c ds ds' e k;
         }) at cs cs' h
     meaning-r (For t first c third body) Front cs cs' e h =
         bind-r R laws (drop_value-r first cs cs' e h) λ u.
-        meet_loop-r (λ ds. for_condition t c ds e) (λ at' ds. meaning body at' ds e) (λ ds. drop_value third ds e >> give true) (record {
-          test = λ ds ds' k. for_condition-r t c ds ds' e k;
+        meet_loop-r (λ ds. for_condition c ds e) (λ at' ds. meaning body at' ds e) (λ ds. drop_value third ds e >> give true) (record {
+          test = λ ds ds' k. for_condition-r c ds ds' e k;
           middle = λ at' ds ds' k. meaning-r body at' ds ds' e k;
           last = λ ds ds' k. bind-r R laws (drop_value-r third ds ds' e k) λ u. laws.gives Bool true;
         }) Front cs cs' h
     meaning-r (For t first c third body) (At_label l) cs cs' e h =
-        meet_loop-r (λ ds. for_condition t c ds e) (λ at' ds. meaning body at' ds e) (λ ds. drop_value third ds e >> give true) (record {
-          test = λ ds ds' k. for_condition-r t c ds ds' e k;
+        meet_loop-r (λ ds. for_condition c ds e) (λ at' ds. meaning body at' ds e) (λ ds. drop_value third ds e >> give true) (record {
+          test = λ ds ds' k. for_condition-r c ds ds' e k;
           middle = λ at' ds ds' k. meaning-r body at' ds ds' e k;
           last = λ ds ds' k. bind-r R laws (drop_value-r third ds ds' e k) λ u. laws.gives Bool true;
         }) (At_label l) cs cs' h
@@ -274,7 +274,7 @@ module _ (R : (A : Type 0) → Act A → Act A → Type 0) (laws : Laws R) where
         → ((at : Entry) → R Flow (last at) (last' at)) → R Flow (arms list labels last at cs e) (arms list labels last' at cs' e)
     arms-r NoArm labels at cs cs' e h p = p at
     arms-r (Arm t c s rest) labels Front cs cs' e h p =
-        bind-r R laws (condition-r t c cs cs' e h) λ x. branch-r R laws x
+        bind-r R laws (condition-r c cs cs' e h) λ x. branch-r R laws x
         (bind-r R laws (meaning-r s Front cs cs' e h) λ f. go_forward-r _ f (λ at'. arms-r rest labels at' cs cs' e h p) (laws.gives Flow Normal))
         (arms-r rest labels Front cs cs' e h p)
     arms-r (Arm t c s rest) labels (At_label l) cs cs' e h p = branch-r R laws _

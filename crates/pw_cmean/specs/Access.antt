@@ -73,11 +73,12 @@ abbrev pub value_in : CType → List Byte → Value
 value_in (Int kind) bytes = scalar_in bytes (is_signed_kind kind)
 value_in _ bytes = pointer_in bytes
 
--- reading a scalar: each byte has a value, and together they are one of the type
+-- Reading a scalar: each byte has a value, and together they are one of the type. Both are looked at only where
+-- the access is wholly inside an object.
 abbrev pub reading : List Object → CType → Value → List Finding
 reading objects ty place =
     UndefinedValue when (is_within objects (width_of ty) place && list_any is_undefined_byte (bytes_at objects (width_of ty) place))
-    ∷ PointerBytes when has_no_value (value_in ty (bytes_at objects (width_of ty) place))
+    ∷ PointerBytes when (is_within objects (width_of ty) place && has_no_value (value_in ty (bytes_at objects (width_of ty) place)))
     ∷ access objects (width_of ty) (width_of ty) place
 
 -- an object that may not be written

@@ -55,11 +55,15 @@ unfoldable pub used : Site → Option Value → Act Value
 used at (Some v) = give v
 used at None = undefined at MissingResult
 
--- the value of an lvalue at a place, by its type
-unfoldable pub value_at : Env → ℕ → QType → Value → Act (Option Value)
-value_at e token ty place = do
-  v ← fetch (site e token) (type_of ty) place
+-- the value of an lvalue at a place, by its type; what a pointer to void points to has none (6.2.2.1, 6.2.2.2)
+unfoldable pub value_by : Site → CType → Value → Act (Option Value)
+value_by at Void place = give None
+value_by at ty place = do
+  v ← fetch at ty place
   give (Some v)
+
+unfoldable pub value_at : Env → ℕ → QType → Value → Act (Option Value)
+value_at e token ty place = value_by (site e token) (type_of ty) place
 
 -- what a conversion makes of an operand's result; to void there is none, nor need there be one (6.3.4)
 unfoldable pub cast : Site → CType → Option Value → Act (Option Value)

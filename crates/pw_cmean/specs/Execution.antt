@@ -116,18 +116,18 @@ always cs = give true
 
 -- ---- conditions and values of statements
 
--- the value of an expression of a statement; that it is missing is met by the expression
+-- the value of an expression of a statement, which meets that it is missing
 unfoldable pub value_of : Expression → Calls → Env → Act Value
 value_of a cs e = answer_of a cs e >>= used (site e (token_of a))
 
--- a condition of the statement of a token, which meets a fault of the comparison with 0
-unfoldable pub condition : ℕ → Expression → Calls → Env → Act Bool
-condition token a cs e = value_of a cs e >>= truth (site e token)
+-- a condition, which meets a fault of its comparison with 0 (6.6.4.1, 6.6.5)
+unfoldable pub condition : Expression → Calls → Env → Act Bool
+condition a cs e = value_of a cs e >>= truth (site e (token_of a))
 
 -- the condition of a `for`, which may be left out (6.6.5.3)
-unfoldable pub for_condition : ℕ → Option Expression → Calls → Env → Act Bool
-for_condition token None cs e = give true
-for_condition token (Some a) cs e = condition token a cs e
+unfoldable pub for_condition : Option Expression → Calls → Env → Act Bool
+for_condition None cs e = give true
+for_condition (Some a) cs e = condition a cs e
 
 -- an expression whose result is dropped
 unfoldable pub drop_value : Option Expression → Calls → Env → Act (Unit {0})
@@ -212,14 +212,14 @@ unfoldable mutual
   meaning (If t list otherwise) at cs e =
       taking_up (labels_of_arms list ++ labels_behind otherwise) (λ at' cs'. arms list (labels_behind otherwise) (λ last. behind_arms otherwise last cs' e) at' cs' e) at cs
   meaning (While t c body) at cs e =
-      meet_loop (λ cs'. condition t c cs' e) (λ at' cs'. meaning body at' cs' e) always at cs
+      meet_loop (λ cs'. condition c cs' e) (λ at' cs'. meaning body at' cs' e) always at cs
   meaning (Do t body c) at cs e =
-      meet_loop always (λ at' cs'. meaning body at' cs' e) (λ cs'. condition t c cs' e) at cs
+      meet_loop always (λ at' cs'. meaning body at' cs' e) (λ cs'. condition c cs' e) at cs
   meaning (For t first c third body) Front cs e = do
     drop_value first cs e
-    meet_loop (λ cs'. for_condition t c cs' e) (λ at' cs'. meaning body at' cs' e) (λ cs'. drop_value third cs' e >> give true) Front cs
+    meet_loop (λ cs'. for_condition c cs' e) (λ at' cs'. meaning body at' cs' e) (λ cs'. drop_value third cs' e >> give true) Front cs
   meaning (For t first c third body) (At_label l) cs e =
-      meet_loop (λ cs'. for_condition t c cs' e) (λ at' cs'. meaning body at' cs' e) (λ cs'. drop_value third cs' e >> give true) (At_label l) cs
+      meet_loop (λ cs'. for_condition c cs' e) (λ at' cs'. meaning body at' cs' e) (λ cs'. drop_value third cs' e >> give true) (At_label l) cs
   meaning (Switch t a cases default body) Front cs e = do
     v ← value_of a cs e
     switch_to (label_for cases default v) (λ l. meaning body (At_label l) cs e)
@@ -248,7 +248,7 @@ unfoldable mutual
   pub arms : Arms → List ℕ → (Entry → Act Flow) → Entry → Calls → Env → Act Flow
   arms NoArm labels last at cs e = last at
   arms (Arm t c s rest) labels last Front cs e = do
-    holds' ← condition t c cs e
+    holds' ← condition c cs e
     branch holds'
         (meaning s Front cs e >>= go_forward (labels_of_arms rest ++ labels) (λ at'. arms rest labels last at' cs e) (give Normal))
         (arms rest labels last Front cs e)

@@ -7,3 +7,4 @@ pub mod Evaluation
 pub mod Execution
 pub mod SourceRun
 pub mod Lasting
+pub mod Typed
