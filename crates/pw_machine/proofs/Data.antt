@@ -3,6 +3,7 @@ use Rattle.std.proofs.Common.{ℕ, ◌+◌, ◌-◌, ◌<◌, ◌≤◌, ◌≡�
 use Rattle.std.proofs.lemmas.List.{take-append-drop, length-take, length-take-le, get_or-take, get_or-append-add, get_or-replicate, length-replicate}
 use Rattle.std.proofs.Math.ListN.{get_or-append}
 use Rattle.std.specs.List.{AllByRecursion}
+use Rattle.pw_value.specs.Limits.{text_start, memory_size}
 use Rattle.pw_image.specs.Image.{Item, MemoryValue, IsMemory, AreItems, free_behind}
 use Rattle.pw_machine.specs.Core.{word_at}
 use Rattle.pw_machine.specs.Start.{overwritten, with_items, bytes_of, zeros, data_start_of, start_memory, IsOutside}
@@ -99,12 +100,12 @@ length-zeros : (n : ℕ) → length (zeros n) ≡ n
 unfolding zeros
 length-zeros n = length-replicate n 0
 
-item_placed : (blank : List ℕ) (m : MemoryValue) (before after : List Item) (i : Item) (k : ℕ) → length blank ≡ 67108864 → IsMemory m → m.items ≡ before ++ i ∷ after → k < length i.bytes
-    → get_or (with_items (overwritten blank 4096 (bytes_of m.words)) (data_start_of m.words) m.items) (data_start_of m.words + i.offset + k) 0 ≡ get_or i.bytes k 0
+item_placed : (blank : List ℕ) (m : MemoryValue) (before after : List Item) (i : Item) (k : ℕ) → length blank ≡ memory_size → IsMemory m → m.items ≡ before ++ i ∷ after → k < length i.bytes
+    → get_or (with_items (overwritten blank text_start (bytes_of m.words)) (data_start_of m.words) m.items) (data_start_of m.words + i.offset + k) 0 ≡ get_or i.bytes k 0
 item_placed blank m before after i k size is same within =
-    let text = overwritten blank 4096 (bytes_of m.words) in
+    let text = overwritten blank text_start (bytes_of m.words) in
     let a = data_start_of m.words in
-    let room : a + m.data_size ≤ length text = omega (arith, is.data_fits, is.stack_end, length-overwritten-grows blank 4096 (bytes_of m.words)) in
+    let room : a + m.data_size ≤ length text = omega (arith, is.data_fits, is.stack_end, length-overwritten-grows blank text_start (bytes_of m.words)) in
     let are : AreItems m.data_size 0 (before ++ i ∷ after) = subst (AreItems m.data_size 0) same is.items in
     subst (λ (items : List Item). get_or (with_items text a items) (a + i.offset + k) 0 ≡ get_or i.bytes k 0) (sym same)
     (inside_items text a m.data_size 0 before after i k are room within)
@@ -112,16 +113,16 @@ item_placed blank m before after i k size is same within =
 -- the bytes of an item stand at its offset
 pub item_at_start : (m : MemoryValue) (before after : List Item) (i : Item) (k : ℕ) → IsMemory m → m.items ≡ before ++ i ∷ after → k < length i.bytes
     → get_or (start_memory m.words m.items) (data_start_of m.words + i.offset + k) 0 ≡ get_or i.bytes k 0
-item_at_start m before after i k is same within = item_placed (zeros 67108864) m before after i k (length-zeros 67108864) is same within
+item_at_start m before after i k is same within = item_placed (zeros memory_size) m before after i k (length-zeros memory_size) is same within
 
-other_placed : (blank : List ℕ) (m : MemoryValue) (p : ℕ) → length blank ≡ 67108864 → get_or blank p 0 ≡ 0 → IsMemory m → data_start_of m.words ≤ p → p < 67108864 → AllByRecursion (IsOutside (data_start_of m.words) p) m.items
-    → get_or (with_items (overwritten blank 4096 (bytes_of m.words)) (data_start_of m.words) m.items) p 0 ≡ 0
+other_placed : (blank : List ℕ) (m : MemoryValue) (p : ℕ) → length blank ≡ memory_size → get_or blank p 0 ≡ 0 → IsMemory m → data_start_of m.words ≤ p → p < memory_size → AllByRecursion (IsOutside (data_start_of m.words) p) m.items
+    → get_or (with_items (overwritten blank text_start (bytes_of m.words)) (data_start_of m.words) m.items) p 0 ≡ 0
 other_placed blank m p size zero is above within outside =
-    let text = overwritten blank 4096 (bytes_of m.words) in
-    outside_items text (data_start_of m.words) m.items p (omega (arith, length-overwritten-grows blank 4096 (bytes_of m.words))) outside
-    ∙ byte_above blank 4096 (bytes_of m.words) p (omega (arith, length-bytes_of m.words)) (omega arith)
+    let text = overwritten blank text_start (bytes_of m.words) in
+    outside_items text (data_start_of m.words) m.items p (omega (arith, length-overwritten-grows blank text_start (bytes_of m.words))) outside
+    ∙ byte_above blank text_start (bytes_of m.words) p (omega (arith, length-bytes_of m.words)) (omega arith)
     ∙ zero
 
 -- any other byte of the data is 0
-pub other_at_start : (m : MemoryValue) (p : ℕ) → IsMemory m → data_start_of m.words ≤ p → p < 67108864 → AllByRecursion (IsOutside (data_start_of m.words) p) m.items → get_or (start_memory m.words m.items) p 0 ≡ 0
-other_at_start m p is above within outside = other_placed (zeros 67108864) m p (length-zeros 67108864) (zero_at 67108864 p within) is above within outside
+pub other_at_start : (m : MemoryValue) (p : ℕ) → IsMemory m → data_start_of m.words ≤ p → p < memory_size → AllByRecursion (IsOutside (data_start_of m.words) p) m.items → get_or (start_memory m.words m.items) p 0 ≡ 0
+other_at_start m p is above within outside = other_placed (zeros memory_size) m p (length-zeros memory_size) (zero_at memory_size p within) is above within outside

@@ -3,6 +3,7 @@ use Rattle.std.proofs.Common.{ℕ, zero, suc, ◌+◌, ◌*◌, ◌^◌, ◌<◌
 use Rattle.std.proofs.lemmas.List.{take-append-drop, length-take-le, get_or-append-add, length-replicate}
 use Rattle.std.proofs.Math.ListN.{get_or-append}
 use Rattle.std.specs.Int.{to_be_bytes, w32}
+use Rattle.pw_value.specs.Limits.{text_start, word_limit, memory_size}
 use Rattle.pw_machine.specs.Core.{word_at}
 use Rattle.pw_image.specs.Image.{Item}
 use Rattle.pw_machine.specs.Start.{overwritten, with_items, bytes_of, start_memory, zeros, data_start_of}
@@ -84,17 +85,17 @@ length-zeros : (n : ℕ) → length (zeros n) ≡ n
 unfolding zeros
 length-zeros n = length-replicate n 0
 
-placed : (words : List ℕ) (items : List Item) (i : ℕ) (memory : List ℕ) → length memory ≡ 67108864 → length words ≤ 65536 → i < length words → get_or words i 0 < 2 ^ 32 → word_at (with_items (overwritten memory 4096 (bytes_of words)) (data_start_of words) items) (4096 + 4 * i) ≡ get_or words i 0
+placed : (words : List ℕ) (items : List Item) (i : ℕ) (memory : List ℕ) → length memory ≡ memory_size → length words ≤ word_limit → i < length words → get_or words i 0 < 2 ^ 32 → word_at (with_items (overwritten memory text_start (bytes_of words)) (data_start_of words) items) (text_start + 4 * i) ≡ get_or words i 0
 placed words items i memory size few lt small =
     let len : length (bytes_of words) ≡ 4 * length words = length-bytes_of words in
-    let text = overwritten memory 4096 (bytes_of words) in
-    let kept : length text ≡ length memory = length-overwritten memory 4096 (bytes_of words) (omega (arith, len)) in
-    let above : 4096 + 4 * i + 4 ≤ data_start_of words = omega arith in
-    let low : 4096 ≤ length memory = omega arith in
-    word_below_items text (data_start_of words) items (4096 + 4 * i) above (omega (arith, kept))
-    ∙ word_at_inside memory 4096 (bytes_of words) (4 * i) low (omega (arith, len))
+    let text = overwritten memory text_start (bytes_of words) in
+    let kept : length text ≡ length memory = length-overwritten memory text_start (bytes_of words) (omega (arith, len)) in
+    let above : text_start + 4 * i + 4 ≤ data_start_of words = omega arith in
+    let low : text_start ≤ length memory = omega arith in
+    word_below_items text (data_start_of words) items (text_start + 4 * i) above (omega (arith, kept))
+    ∙ word_at_inside memory text_start (bytes_of words) (4 * i) low (omega (arith, len))
     ∙ word_at_bytes_of words i lt small
 
 -- the words of a program stand in its memory from 4096 on
-pub word_at_start : (words : List ℕ) (items : List Item) (i : ℕ) → length words ≤ 65536 → i < length words → get_or words i 0 < 2 ^ 32 → word_at (start_memory words items) (4096 + 4 * i) ≡ get_or words i 0
-word_at_start words items i few lt small = placed words items i (zeros 67108864) (length-zeros 67108864) few lt small
+pub word_at_start : (words : List ℕ) (items : List Item) (i : ℕ) → length words ≤ word_limit → i < length words → get_or words i 0 < 2 ^ 32 → word_at (start_memory words items) (text_start + 4 * i) ≡ get_or words i 0
+word_at_start words items i few lt small = placed words items i (zeros memory_size) (length-zeros memory_size) few lt small

@@ -15,7 +15,7 @@ pub record Core : Type 0 where
   pub shift : ℕ
   -- the 64 MiB of memory, byte by byte
   pub memory : List ℕ
-  -- how many words of text there are, from address 4096 on
+  -- how many words of text there are
   pub text : ℕ
   -- the address below which nothing is stored
   pub data_start : ℕ

@@ -2,6 +2,7 @@
 -- read before one is written.
 use Rattle.std.specs.Prelude.{ℕ, ℤ, ◌+◌, ◌-◌, ◌*◌, ◌/◌, ◌%◌, ◌^◌, List, Option, Some, None, Bool, true, false, not, ◌&&◌, ◌||◌, ◌==◌, nat_lt, nat_le, int_lt, int_le, bit_and, bit_or, bit_xor, if◌then◌else◌}
 use Rattle.std.specs.Int.{cast_signed, cast_unsigned, w32}
+use Rattle.pw_value.specs.Limits.{text_start, memory_size}
 use Rattle.pw_inst.specs.declared.Inst.{Inst}
 use Rattle.pw_inst.specs.declared.Inst.TheVariants.{Ldb, Ldh, Ldw, Ldo, Stb, Sth, Stw, Ldil, And, Or, Xor, Sub, Addl, Vshd, Mtctl, Comclr, Subi, Extru, Extrs, Zdep, Combt, Combf, Bl, Bv, Ble, Break}
 use Rattle.pw_inst.specs.InstructionTable.{decoded}
@@ -61,12 +62,12 @@ address core b im = (register core b + cast_unsigned w32 im) % 2 ^ 32
 abbrev pub halts : Core → Halt → Effect
 halts core halt = Stops (Halted halt core.front)
 
--- An access to `size` bytes is tested in this order: whether it is aligned, whether it lies in 4,096 to
--- 67,108,863, and whether a store lies at or above the start of data.
+-- An access to `size` bytes is tested in this order: whether it is aligned, whether it lies in the memory
+-- from the start of the text on, and whether a store lies at or above the start of data.
 abbrev pub access_fault : Core → ℕ → ℕ → Bool → Option Halt
 access_fault core a size stores =
     if not (a % size == 0) then Some Unaligned
-    else if nat_lt a 4096 || nat_lt 67108864 (a + size) then Some OutOfMemoryRange
+    else if nat_lt a text_start || nat_lt memory_size (a + size) then Some OutOfMemoryRange
     else if stores && nat_lt a core.data_start then Some TextWrite
     else None
 
@@ -137,9 +138,9 @@ executed core (Break im5 im13) = breaks core im5 im13
 
 -- ---- the step at front
 
--- an address is a multiple of 4 inside the text, which begins at 4096
+-- an address is a multiple of 4 inside the text
 abbrev pub is_in_text : Core → ℕ → Bool
-is_in_text core a = (a % 4 == 0) && nat_le 4096 a && nat_lt a (4096 + 4 * core.text)
+is_in_text core a = (a % 4 == 0) && nat_le text_start a && nat_lt a (text_start + 4 * core.text)
 
 -- a word that is no instruction halts the run
 abbrev pub effect_of_inst : Core → Option Inst → Effect

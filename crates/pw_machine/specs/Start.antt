@@ -1,6 +1,7 @@
 -- The state in which a program begins: its words as text, its data, and a stack above them.
 use Rattle.std.specs.Prelude.{ℕ, ◌+◌, ◌-◌, ◌*◌, ◌/◌, ◌%◌, ◌^◌, ◌<◌, ◌≤◌, ◌⊎◌, List, [], ◌∷◌, ◌++◌, length, take, drop, replicate, None, false, slice_set}
 use Rattle.std.specs.Int.{to_be_bytes, w32}
+use Rattle.pw_value.specs.Limits.{text_start, memory_size}
 use Rattle.pw_image.specs.Image.{Item, MemoryValue, data_start}
 use Rattle.pw_machine.specs.Core.{Core}
 
@@ -38,9 +39,9 @@ data_start_of words = data_start (length words)
 abbrev pub stack_start_of : List ℕ → ℕ → ℕ
 stack_start_of words data_size = rounded_up 64 (data_start_of words + data_size) + 64
 
--- The memory is 0 but for the text, from 4096 on, and the items of the data, at their offsets.
+-- The memory is 0 but for the text, at its start, and the items of the data, at their offsets.
 abbrev pub start_memory : List ℕ → List Item → List ℕ
-start_memory words items = with_items (overwritten (zeros 67108864) 4096 (bytes_of words)) (data_start_of words) items
+start_memory words items = with_items (overwritten (zeros memory_size) text_start (bytes_of words)) (data_start_of words) items
 
 -- Front is at the entry and back 4 beyond. Register 30 points to the stack, and the other registers are 0.
 unfoldable pub start_core : ℕ → List ℕ → ℕ → List Item → Core

@@ -10,7 +10,7 @@ pub enum Halt {
     Illegal,
     /// An address is no multiple of the size of its access.
     Unaligned,
-    /// An access is not wholly in the bytes 4,096 to 67,108,863.
+    /// An access is not wholly in the memory from the start of the text on.
     OutOfMemoryRange,
     /// A store lies below the start of data.
     TextWrite,
@@ -21,7 +21,7 @@ pub enum Halt {
 }
 
 /// How a run ends.
-#[derive(Clone, Copy, PartialEq, Eq, Debug)]
+#[derive(Clone, Copy)]
 pub enum End {
     /// The program ended with this status.
     Ended(u8),

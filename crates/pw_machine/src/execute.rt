@@ -5,7 +5,6 @@ ghost use Rattle.pw_inst.specs.InstructionTable.{IsInRange};
 ghost use Rattle.pw_machine.specs.Effect.{executed, effect_of};
 ghost use Rattle.pw_machine.specs.Outcomes.{Does};
 
-use crate::bits;
 use crate::ends::Halt;
 use crate::processor::{Outcome, Processor};
 use pw_inst::{Inst, decode};
@@ -41,37 +40,25 @@ pub(crate) fn execute(p: &mut Processor, inst: Inst) -> Outcome
         Inst::Ldb { im, b, t } => p.load_byte(im, b, t),
         Inst::Ldh { im, b, t } => p.load_half(im, b, t),
         Inst::Ldw { im, b, t } => p.load_word(im, b, t),
-        Inst::Ldo { im, b, t } => p.put(t, p.address(b, im)),
+        Inst::Ldo { im, b, t } => p.load_offset(im, b, t),
         Inst::Stb { r, im, b } => p.store_byte(r, im, b),
         Inst::Sth { r, im, b } => p.store_half(r, im, b),
         Inst::Stw { r, im, b } => p.store_word(r, im, b),
-        Inst::Ldil { im, t } => p.put(t, im * 2048),
-        Inst::And { r1, r2, t } => p.put(t, p.register(r1) & p.register(r2)),
-        Inst::Or { r1, r2, t } => p.put(t, p.register(r1) | p.register(r2)),
-        Inst::Xor { r1, r2, t } => p.put(t, p.register(r1) ^ p.register(r2)),
-        Inst::Sub { r1, r2, t } => p.put(t, p.register(r1).wrapping_sub(p.register(r2))),
-        Inst::Addl { r1, r2, t } => p.put(t, p.register(r1).wrapping_add(p.register(r2))),
+        Inst::Ldil { im, t } => p.load_left(im, t),
+        Inst::And { r1, r2, t } => p.and(r1, r2, t),
+        Inst::Or { r1, r2, t } => p.or(r1, r2, t),
+        Inst::Xor { r1, r2, t } => p.exclusive_or(r1, r2, t),
+        Inst::Sub { r1, r2, t } => p.subtract(r1, r2, t),
+        Inst::Addl { r1, r2, t } => p.add(r1, r2, t),
         Inst::Vshd { r1, r2, t } => p.shift_double(r1, r2, t),
         Inst::Mtctl { r } => p.set_shift(r),
-        Inst::Comclr { c, f, r1, r2, t } => {
-            let holds = bits::condition(c, p.register(r1), p.register(r2));
-            p.compare_and_clear(holds != f, t)
-        }
-        Inst::Subi { im, r, t } => p.put(t, im.cast_unsigned().wrapping_sub(p.register(r))),
-        Inst::Extru { r, p: at, len, t } => p.put(t, bits::extracted(p.register(r), at, len)),
-        Inst::Extrs { r, p: at, len, t } => p.put(
-            t,
-            bits::extracted_signed(p.register(r), at, len),
-        ),
-        Inst::Zdep { r, p: at, len, t } => p.put(t, bits::deposited(p.register(r), at, len)),
-        Inst::Combt { c, r1, r2, disp } => {
-            let holds = bits::condition(c, p.register(r1), p.register(r2));
-            p.branch_if(holds, disp)
-        }
-        Inst::Combf { c, r1, r2, disp } => {
-            let holds = bits::condition(c, p.register(r1), p.register(r2));
-            p.branch_if(!holds, disp)
-        }
+        Inst::Comclr { c, f, r1, r2, t } => p.compare_and_clear(c, f, r1, r2, t),
+        Inst::Subi { im, r, t } => p.subtract_from(im, r, t),
+        Inst::Extru { r, p: at, len, t } => p.extract(r, at, len, t),
+        Inst::Extrs { r, p: at, len, t } => p.extract_signed(r, at, len, t),
+        Inst::Zdep { r, p: at, len, t } => p.deposit(r, at, len, t),
+        Inst::Combt { c, r1, r2, disp } => p.branch_where(c, r1, r2, disp),
+        Inst::Combf { c, r1, r2, disp } => p.branch_unless(c, r1, r2, disp),
         Inst::Bl { disp, t, n } => p.branch_and_link(disp, t, n),
         Inst::Bv { b, n } => p.branch_to(b, n),
         Inst::Ble { b, n } => p.link_and_branch_to(b, n),

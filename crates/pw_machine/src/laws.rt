@@ -2,6 +2,7 @@
 
 ghost use Rattle.std.specs.Prelude.{◌≡◌, ℕ, ◌+◌, ◌*◌, ◌^◌, ◌<◌, ◌≤◌, List, ◌∷◌, ◌++◌, None, length, slice_index};
 ghost use Rattle.std.specs.List.{AllByRecursion};
+ghost use Rattle.pw_value.specs.Limits.{text_start, word_limit, memory_size};
 ghost use Rattle.pw_image.specs.Image.{Item, MemoryValue, IsMemory};
 ghost use Rattle.pw_machine.specs.declared.ends.End.{End};
 ghost use Rattle.pw_machine.specs.Core.{byte_at, word_at};
@@ -44,14 +45,14 @@ pub fn data_bytes()
         IsMemory m → m.items ≡ before ++ i ∷ after → k < length i.bytes →
         byte_at (image_start m).memory (data_start_of m.words + i.offset + k) ≡ slice_index i.bytes k }
     ensures other { (m : MemoryValue) (place : ℕ) →
-        IsMemory m → data_start_of m.words ≤ place → place < 67108864 →
+        IsMemory m → data_start_of m.words ≤ place → place < memory_size →
         AllByRecursion (IsOutside (data_start_of m.words) place) m.items →
         byte_at (image_start m).memory place ≡ 0 }
 {}
 
-/// At the start the words of a program stand in the memory from 4096 on.
+/// At the start the words of a program stand in the memory from the start of the text on.
 #[tactic(auto, using(crate::proofs::Loaded::word_at_start))]
 pub fn text_words()
-    ensures { (words : List ℕ) (items : List Item) (i : ℕ) → length words ≤ 65536 → i < length words →
-        slice_index words i < 2 ^ 32 → word_at (start_memory words items) (4096 + 4 * i) ≡ slice_index words i }
+    ensures { (words : List ℕ) (items : List Item) (i : ℕ) → length words ≤ word_limit → i < length words →
+        slice_index words i < 2 ^ 32 → word_at (start_memory words items) (text_start + 4 * i) ≡ slice_index words i }
 {}

@@ -6,6 +6,7 @@
 #![tactic(auto)]
 
 mod bits;
+mod computing;
 mod ends;
 mod execute;
 mod laws;
@@ -19,8 +20,3 @@ pub use ends::{End, Halt, Stop};
 pub use laws::{data_bytes, overwritten_words, runs_add_up, runs_go_on, text_words};
 pub use machine::Machine;
 pub use pw_image::LoadError;
-
-#[cfg(test)]
-mod load_tests;
-#[cfg(test)]
-mod tests;

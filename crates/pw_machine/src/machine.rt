@@ -1,6 +1,7 @@
 // The machine as its callers see it.
 
-ghost use Rattle.std.specs.Prelude.{◌≡◌, ◌%◌, ◌<◌, ◌≤◌, ◌≢◌, ◌⊎◌, ◌↔◌, [], length, IfOk, IfSome, IsNone, Ok};
+ghost use Rattle.std.specs.Prelude.{◌≡◌, ◌+◌, ◌%◌, ◌<◌, ◌≤◌, ◌≢◌, ◌⊎◌, ◌↔◌, [], length, IfOk, IfSome, IsNone, Ok};
+ghost use Rattle.pw_value.specs.Limits.{stack_least, stack_most, text_start, word_limit, memory_size};
 ghost use Rattle.pw_image.specs.Image.{Contents, IsImageFile};
 ghost use Rattle.pw_image.specs.Reading.{image_file_at};
 ghost use Rattle.pw_image.specs.Loading.{GivesLoad, loaded_as};
@@ -9,10 +10,11 @@ ghost use Rattle.pw_machine.specs.Start.{start_core};
 ghost use Rattle.pw_machine.specs.Stops.{loaded, IsRun, IsBeforeBreak, StaysStopped, ReadCount, WriteCount, end_of};
 
 use crate::ends::Stop;
-use crate::processor::{MEMORY, Processor, TEXT};
+use crate::processor::Processor;
 use crate::run;
 use pw_image::{Image, LoadError, read_image};
 use pw_io::{NoMemory, Sink, Source};
+use pw_value::limits::{MEMORY_SIZE, TEXT_START};
 use std::alloc::Global;
 use std::marker::Model;
 
@@ -67,15 +69,15 @@ impl Machine {
     /// No rule of the machine looks at the size of a stack, so `stack` is not used.
     pub fn from_words(alloc: Global, words: &[u32], stack: u32) -> Result<Machine, NoMemory>
         requires some_words { 0 < length words.now }
-        requires few_words { length words.now ≤ 65536 }
-        requires stack_from { 4096 ≤ stack }
-        requires stack_to { stack ≤ 16777216 }
-        ensures start { IfOk result (λ machine. machine.core ≡ start_core 4096 words.now 0 []) }
+        requires few_words { length words.now ≤ word_limit }
+        requires stack_from { stack_least ≤ stack }
+        requires stack_to { stack ≤ stack_most }
+        ensures start { IfOk result (λ machine. machine.core ≡ start_core text_start words.now 0 []) }
         ensures steps { IfOk result (λ machine. machine.steps ≡ 0) }
     {
         let _ = stack;
         Ok(Machine {
-            processor: Processor::start(alloc, TEXT, words, 0, &[])?,
+            processor: Processor::start(alloc, TEXT_START, words, 0, &[])?,
             steps: 0,
         })
     }
@@ -109,13 +111,13 @@ impl Machine {
         self.processor.register(r)
     }
 
-    /// The word in memory at an address; `None` exactly where the address is no multiple of 4 or above
-    /// 67,108,860. Takes no memory.
+    /// The word in memory at an address; `None` exactly where the address is no multiple of 4 or the
+    /// word would pass the memory's end. Takes no memory.
     pub fn word_at(&self, address: u32) -> Option<u32>
-        ensures none { IsNone result ↔ ((address % 4 ≢ 0) ⊎ (67108860 < address)) }
+        ensures none { IsNone result ↔ ((address % 4 ≢ 0) ⊎ (memory_size < address + 4)) }
         ensures word { IfSome result (λ word. word ≡ core.word_at self.now.core.memory address) }
     {
-        if address % 4 != 0 || address > MEMORY - 4 {
+        if address % 4 != 0 || address > MEMORY_SIZE - 4 {
             return None;
         }
         Some(self.processor.word_at(address))

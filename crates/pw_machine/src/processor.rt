@@ -2,23 +2,19 @@
 
 ghost use Rattle.std.specs.Prelude.{◌≡◌, ◌+◌, ◌-◌, ◌*◌, ◌^◌, ◌%◌, ◌<◌, ◌≤◌, IfNone, IfOk, length, map};
 ghost use Rattle.std.specs.Bool.{OnTrue};
+ghost use Rattle.pw_value.specs.Limits.{word_limit, memory_size};
 
 use crate::ends::{End, Halt};
 use crate::{bits, memory, start};
 use pw_image::DataItem;
 use pw_inst::Inst;
 use pw_io::NoMemory;
+use pw_value::limits::{MEMORY_SIZE, TEXT_START};
 use std::alloc::Global;
 use std::marker::Model;
 
-/// How many bytes of memory there are.
-pub(crate) const MEMORY: u32 = 0x400_0000;
-
-/// The address at which the text begins, and the lowest that may be accessed.
-pub(crate) const TEXT: u32 = 4096;
-
 /// What a step did to the processor: it went on, or left all as it was and asks for input or output, or ends the run.
-#[derive(Clone, Copy, PartialEq, Eq, Debug)]
+#[derive(Clone, Copy)]
 pub enum Outcome {
     Goes,
     Reads,
@@ -41,13 +37,14 @@ pub struct Processor {
 
 impl Model for Processor {
     ghost use Rattle.std.specs.Prelude.{◌≡◌, ◌<◌, ◌≤◌, vec_len, slice_index};
+    ghost use Rattle.pw_value.specs.Limits.{word_limit, memory_size};
     ghost use Rattle.pw_machine.specs.Core.{Core};
 
     ghost Value = { Core };
 
     ghost view = { λ p. record { registers = p.registers; front = p.front; back = p.back; nullify = p.nullify; shift = p.shift; memory = p.memory.items; text = p.text; data_start = p.data_start; stopped = p.stopped } };
 
-    ghost invariant = { λ p. (slice_index p.registers 0 ≡ 0) × (p.shift < 32) × (vec_len p.memory ≡ 67108864) × (p.text ≤ 65536) };
+    ghost invariant = { λ p. (slice_index p.registers 0 ≡ 0) × (p.shift < 32) × (vec_len p.memory ≡ memory_size) × (p.text ≤ word_limit) };
 }
 
 impl Processor {
@@ -64,17 +61,17 @@ impl Processor {
         data_size: u32,
         items: &[DataItem],
     ) -> Result<Processor, NoMemory>
-        requires few_words { length words.now ≤ 65536 }
-        requires data_fits { data_start (length words.now) + data_size ≤ 67108864 }
+        requires few_words { length words.now ≤ word_limit }
+        requires data_fits { data_start (length words.now) + data_size ≤ memory_size }
         requires items { AreItems data_size 0 (map item_view items.now) }
         ensures { IfOk result (λ p. p ≡ start_core entry words.now data_size (map item_view items.now)) }
     {
         let text = words.len() as u32;
-        let data_start = start::rounded_up(8, TEXT + 4 * text);
+        let data_start = start::rounded_up(8, TEXT_START + 4 * text);
         let mut registers = [0; 32];
         registers[30] = start::rounded_up(64, data_start + data_size) + 64;
-        let mut memory = start::blank(alloc, MEMORY as usize)?;
-        start::put_words(&mut memory, TEXT as usize, words);
+        let mut memory = start::blank(alloc, MEMORY_SIZE as usize)?;
+        start::put_words(&mut memory, TEXT_START as usize, words);
         start::put_items(&mut memory, data_start as usize, data_size, items);
         Ok(Processor {
             registers,
@@ -175,12 +172,12 @@ impl Processor {
         requires small { size ≤ 4 }
         requires positive { 0 < size }
         ensures fault { result ≡ access_fault self.now a size stores }
-        ensures within { IfNone result (a + size ≤ 67108864) }
+        ensures within { IfNone result (a + size ≤ memory_size) }
     {
         if a % size != 0 {
             return Some(Halt::Unaligned);
         }
-        if a < TEXT || a > MEMORY - size {
+        if a < TEXT_START || a > MEMORY_SIZE - size {
             return Some(Halt::OutOfMemoryRange);
         }
         if stores && a < self.data_start {
@@ -193,15 +190,15 @@ impl Processor {
     #[inline(always)]
     pub(crate) fn is_in_text(&self, a: u32) -> bool
         ensures inside { result ≡ is_in_text self.now a }
-        ensures within { OnTrue result (a + 4 ≤ 67108864) }
+        ensures within { OnTrue result (a + 4 ≤ memory_size) }
     {
-        a % 4 == 0 && TEXT <= a && a < TEXT + 4 * self.text
+        a % 4 == 0 && TEXT_START <= a && a < TEXT_START + 4 * self.text
     }
 
     /// The byte at an address.
     #[inline(always)]
     fn byte_at(&self, a: u32) -> u32
-        requires { a < 67108864 }
+        requires { a < memory_size }
         ensures { result ≡ byte_at self.now.memory a }
     {
         memory::byte_at(&self.memory, a as usize)
@@ -210,7 +207,7 @@ impl Processor {
     /// The half word at an address.
     #[inline(always)]
     fn half_at(&self, a: u32) -> u32
-        requires { a + 2 ≤ 67108864 }
+        requires { a + 2 ≤ memory_size }
         ensures { result ≡ half_at self.now.memory a }
     {
         memory::half_at(&self.memory, a as usize)
@@ -219,7 +216,7 @@ impl Processor {
     /// The word at an address.
     #[inline(always)]
     pub(crate) fn word_at(&self, a: u32) -> u32
-        requires { a + 4 ≤ 67108864 }
+        requires { a + 4 ≤ memory_size }
         ensures { result ≡ word_at self.now.memory a }
     {
         memory::word_at(&self.memory, a as usize)
@@ -228,7 +225,7 @@ impl Processor {
     /// Puts the low byte of a word at an address.
     #[inline(always)]
     fn put_byte(&mut self, a: u32, value: u32)
-        requires { a < 67108864 }
+        requires { a < memory_size }
         ensures { self.new ≡ record self.old { memory = with_byte self.old.memory a value } }
     {
         memory::put_byte(&mut self.memory, a as usize, value);
@@ -237,7 +234,7 @@ impl Processor {
     /// Puts the low half word of a word at an address.
     #[inline(always)]
     fn put_half(&mut self, a: u32, value: u32)
-        requires { a + 2 ≤ 67108864 }
+        requires { a + 2 ≤ memory_size }
         ensures { self.new ≡ record self.old { memory = with_half self.old.memory a value } }
     {
         memory::put_half(&mut self.memory, a as usize, value);
@@ -246,7 +243,7 @@ impl Processor {
     /// Puts a word at an address.
     #[inline(always)]
     fn put_word(&mut self, a: u32, value: u32)
-        requires { a + 4 ≤ 67108864 }
+        requires { a + 4 ≤ memory_size }
         ensures { self.new ≡ record self.old { memory = with_word self.old.memory a value } }
     {
         memory::put_word(&mut self.memory, a as usize, value);
@@ -374,9 +371,9 @@ impl Processor {
         self.front.wrapping_add(8).wrapping_add(bytes)
     }
 
-    /// COMCLR.
+    /// Puts 0 into a register, and goes on, the next instruction nullified or not.
     #[inline(always)]
-    pub(crate) fn compare_and_clear(&mut self, nullify: bool, t: u8) -> Outcome
+    pub(crate) fn clear(&mut self, nullify: bool, t: u8) -> Outcome
         requires { t < 32 }
         ensures { Does (Goes (with_register (moved self.old (next self.old) nullify) t 0)) self.old result self.new }
     {
@@ -386,7 +383,7 @@ impl Processor {
         Outcome::Goes
     }
 
-    /// COMBT and COMBF.
+    /// Branches, or goes on.
     #[inline(always)]
     pub(crate) fn branch_if(&mut self, taken: bool, disp: i32) -> Outcome
         ensures { Does (branches_if self.old taken disp) self.old result self.new }

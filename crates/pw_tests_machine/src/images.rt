@@ -64,10 +64,13 @@ fn is_map_read(alloc: Global, file: &[u8]) -> bool {
         return false;
     };
     match (map.functions.as_slice(), map.globals.as_slice()) {
-        ([(main, 4096, 64), (exit, 4100, 0)], [(g, 4104)]) => {
-            main.as_bytes() == b"main".as_slice()
-                && exit.as_bytes() == b"exit".as_slice()
-                && g.as_bytes() == b"g".as_slice()
+        ([main, exit], [g]) => {
+            main.0.as_bytes() == b"main".as_slice()
+                && (main.1, main.2) == (4096, 64)
+                && exit.0.as_bytes() == b"exit".as_slice()
+                && (exit.1, exit.2) == (4100, 0)
+                && g.0.as_bytes() == b"g".as_slice()
+                && g.1 == 4104
         }
         _ => false,
     }

@@ -6,3 +6,7 @@
 mod images;
 #[cfg(test)]
 mod instructions;
+#[cfg(test)]
+mod loading;
+#[cfg(test)]
+mod programs;

@@ -1,4 +1,5 @@
 use Rattle.std.proofs.Common.{◌≡◌, List, ℕ, ap, ◌∙◌, arith, length, map}
+use Rattle.pw_value.specs.Limits.{text_start, memory_size}
 use Rattle.pw_image.specs.Image.{item_view}
 use Rattle.pw_machine.specs.Start.{zeros, overwritten, with_items, bytes_of, start_memory}
 use Rattle.pw_machine.proofs.Memories.{take_whole, start_core_is}
@@ -8,11 +9,11 @@ pub returns : goal.returns
 returns c =
     let words = c.args.words.now in
     let items = map item_view c.args.items.now in
-    let text = overwritten (zeros 67108864) 4096 (bytes_of words) in
-    let blank : c.deref_mut.result.now ≡ zeros 67108864 = c.deref_mut.ensures.value ∙ c.in_ok-memory.ensures.zeros in
+    let text = overwritten (zeros memory_size) text_start (bytes_of words) in
+    let blank : c.deref_mut.result.now ≡ zeros memory_size = c.deref_mut.ensures.value ∙ c.in_ok-memory.ensures.zeros in
     let first : c.in_ok-memory.memory.len ≡ length c.put_words.new.memory = omega arith in
     let with_text : c.deref_mut-2.result.now ≡ text =
-    c.deref_mut-2.ensures.value ∙ take_whole _ _ _ first ∙ c.put_words.ensures ∙ ap (λ (m : List ℕ). overwritten m 4096 (bytes_of words)) blank in
+    c.deref_mut-2.ensures.value ∙ take_whole _ _ _ first ∙ c.put_words.ensures ∙ ap (λ (m : List ℕ). overwritten m text_start (bytes_of words)) blank in
     let memory : c.put_items.new.memory ≡ start_memory words items =
     c.put_items.ensures
     ∙ ap (λ (m : List ℕ). with_items m c.rounded_up-data_start.result items) with_text

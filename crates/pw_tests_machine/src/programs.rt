@@ -1,10 +1,9 @@
-// Programs by their words, with the ends, the outputs and the registers that the rules of the instructions
-// give by hand.
+//! Tests of pw_machine: programs by their words, with the ends, the outputs and the registers that the rules
+//! of the instructions give by hand.
 
-use crate::{Machine, Stop};
-use pw_io::{MemSink, MemSource, Sink, Source, SureSink, SureSource};
-use std::alloc::Global;
-use std::process::Abort;
+use pw_io::{MemSink, MemSource, SureSink, SureSource};
+use pw_machine::{Machine, Stop};
+use std::alloc::{AllocError, Global};
 use std::test::Fail;
 
 /// A program a line: its words, its input, then its stop, how many steps it takes and the bytes of its
@@ -133,19 +132,15 @@ e8400010 e8600020 34a50002 34a50004 34a50008 34a50010 34a50020 00008000||StackSt
 34010006 34a5000a 34213fff 88013fe5 34c60002 00008000||StackStop 14 []|1=0 5=f 6=3";
 
 /// The words of a program.
-fn program(rt: &impl Abort, alloc: Global, text: &str) -> Result<Machine, Fail> {
+fn program(alloc: Global, text: &str) -> Result<Machine, Fail> {
     let mut words = Vec::new(alloc);
     for word in text.split_whitespace() {
         words.push(u32::from_str_radix(word, 16)?)?;
     }
-    assert!(rt; !words.is_empty());
-    assert!(rt; words.len() <= 65_536);
+    if words.is_empty() || words.len() > 65_536 {
+        return Err(Fail::from("no program"));
+    }
     Ok(Machine::from_words(alloc, &words, 4096)?)
-}
-
-/// What `run` answers, and nothing more that a proof would have to carry.
-fn run<I: Source, O: Sink>(machine: &mut Machine, input: &mut I, out: &mut O, budget: u64) -> Stop {
-    machine.run(input, out, budget)
 }
 
 /// Runs a program in turns of `budget` steps, and then again, to a text of what it did.
@@ -154,51 +149,54 @@ pub(crate) fn run_in_turns(
     machine: &mut Machine,
     input: &[u8],
     budget: u64,
-) -> Result<String, Fail> {
+) -> Result<String, AllocError> {
     let mut input = SureSource::new(alloc, input)?;
     let mut out = SureSink::new(alloc, 100)?;
     let mut stop = Stop::Spent;
     for _ in 0..100 {
-        stop = run(machine, &mut input, &mut out, budget);
+        stop = machine.run(&mut input, &mut out, budget);
     }
     let steps = machine.steps();
     let output = out.bytes();
-    Ok(format!(in alloc; "{stop:?} {steps} {output:?}")?)
+    format!(in alloc; "{stop:?} {steps} {output:?}")
 }
 
 /// Whether a register is as a text says, as `5=1f`.
-fn check_register(rt: &impl Abort, machine: &Machine, pair: &str) -> Result<(), Fail> {
+fn is_register(machine: &Machine, pair: &str) -> Result<bool, Fail> {
     let (r, word) = pair.split_once('=').ok_or("no register")?;
     let r = r.parse::<u8>()?;
     let word = u32::from_str_radix(word, 16)?;
-    assert!(rt; r < 32);
-    assert_eq!(rt; machine.reg(r), word, "{pair}");
-    Ok(())
+    Ok(r < 32 && machine.reg(r) == word)
 }
 
-/// Compares a program's end, steps, output and registers with those of its line.
-fn check_line(rt: &impl Abort, alloc: Global, line: &str, budget: u64) -> Result<(), Fail> {
-    let mut fields = line.split('|');
-    let text = fields.next().ok_or("no words")?;
-    let input = fields.next().ok_or("no input")?;
-    let end = fields.next().ok_or("no end")?;
-    let registers = fields.next().ok_or("no registers")?;
-    let mut machine = program(rt, alloc, text)?;
-    let told = run_in_turns(alloc, &mut machine, input.as_bytes(), budget)?;
-    assert_eq!(rt; told.as_str(), end, "in turns of {budget}: {line}");
-    for pair in registers.split_whitespace() {
-        check_register(rt, &machine, pair)?;
+/// Whether all registers are as a text says.
+fn are_registers(machine: &Machine, text: &str) -> Result<bool, Fail> {
+    for pair in text.split_whitespace() {
+        if !is_register(machine, pair)? {
+            return Ok(false);
+        }
     }
-    Ok(())
+    Ok(true)
+}
+
+/// Whether a program ends, in so many steps and with such output and registers, as its line says.
+fn is_line_right(alloc: Global, line: &str, budget: u64) -> Result<bool, Fail> {
+    let mut fields = line.split('|');
+    let text = fields.next().unwrap_or("");
+    let input = fields.next().unwrap_or("");
+    let end = fields.next().unwrap_or("");
+    let registers = fields.next().unwrap_or("0=1");
+    let mut machine = program(alloc, text)?;
+    let told = run_in_turns(alloc, &mut machine, input.as_bytes(), budget)?;
+    Ok(told.as_str() == end && are_registers(&machine, registers)?)
 }
 
 #[test]
 fn programs(rt: HostRuntime) -> Result<(), Fail> {
     for line in PROGRAMS.lines() {
-        if !line.starts_with('#') {
-            check_line(&rt, rt.alloc(), line, 1)?;
-            check_line(&rt, rt.alloc(), line, 1000)?;
-        }
+        let is_right = line.starts_with('#')
+            || is_line_right(rt.alloc(), line, 1)? && is_line_right(rt.alloc(), line, 1000)?;
+        assert!(rt; is_right, "{line}");
     }
     Ok(())
 }
@@ -206,68 +204,83 @@ fn programs(rt: HostRuntime) -> Result<(), Fail> {
 /// LDO 97(0),26; BREAK 0,2; BREAK 0,1; OR 28,0,26; BREAK 0,2; BREAK 0,3
 const ECHO: &str = "341a00c2 00004000 00002000 081c025a 00004000 00006000";
 
-// The output `a`, and then a fault of the input; the next call reads.
+/// A machine's answer, its front, its count of steps, its register 28, and the output.
+fn told(alloc: Global, stop: Stop, machine: &Machine, output: &[u8]) -> Result<String, AllocError> {
+    let front = machine.front();
+    let steps = machine.steps();
+    let answer = machine.reg(28);
+    format!(in alloc; "{stop:?} {front} {steps} {answer} {output:?}")
+}
+
+/// Budgets of calls one after another, and what is told after each: the output `a`, and then a fault of the
+/// input; the next call reads.
+const READS: [(u64, &str); 5] = [
+    (0, "Spent 4096 0 0 []"),
+    (100, "ReadFault 4104 2 97 [97]"),
+    (1, "Spent 4108 3 98 [97]"),
+    (3, "Ended(98) 4116 6 98 [97, 98]"),
+    (0, "Ended(98) 4116 6 98 [97, 98]"),
+];
+
 #[test]
 fn read_fault(rt: HostRuntime) -> Result<(), Fail> {
-    let mut machine = program(&rt, rt.alloc(), ECHO)?;
+    let mut machine = program(rt.alloc(), ECHO)?;
     let mut input = MemSource::new(rt.alloc(), b"b", &[1])?;
     let mut out = MemSink::new(rt.alloc(), 2, &[])?;
-    assert_eq!(rt; run(&mut machine, &mut input, &mut out, 0), Stop::Spent);
-    assert_eq!(rt;
-        run(&mut machine, &mut input, &mut out, 100),
-        Stop::ReadFault
-    );
-    assert_eq!(rt; out.bytes(), b"a".as_slice());
-    assert_eq!(rt; (machine.front(), machine.steps()), (4104, 2));
-    assert_eq!(rt; run(&mut machine, &mut input, &mut out, 1), Stop::Spent);
-    assert_eq!(rt; machine.reg(28), 98);
-    assert_eq!(rt; run(&mut machine, &mut input, &mut out, 3), Stop::Ended(98));
-    assert_eq!(rt; out.bytes(), b"ab".as_slice());
-    assert_eq!(rt; run(&mut machine, &mut input, &mut out, 0), Stop::Ended(98));
+    for (budget, wanted) in READS {
+        let stop = machine.run(&mut input, &mut out, budget);
+        let found = told(rt.alloc(), stop, &machine, out.bytes())?;
+        assert_eq!(rt; found.as_str(), wanted);
+    }
     Ok(())
 }
 
-// The output `a`, and then a fault of the output, for which there is no room; the next call writes.
+/// The same of the output, which has room for one byte and a fault at the second; the next call writes.
+const WRITES: [(u64, &str); 2] = [
+    (100, "WriteFault 4112 4 98 [97]"),
+    (100, "WriteFault 4112 4 98 [97]"),
+];
+
 #[test]
 fn write_fault(rt: HostRuntime) -> Result<(), Fail> {
-    let mut machine = program(&rt, rt.alloc(), ECHO)?;
-    let mut input = SureSource::new(rt.alloc(), b"b")?;
-    let mut out = MemSink::new(rt.alloc(), 1, &[2])?;
-    assert_eq!(rt;
-        run(&mut machine, &mut input, &mut out, 100),
-        Stop::WriteFault
-    );
-    assert_eq!(rt;
-        run(&mut machine, &mut input, &mut out, 100),
-        Stop::WriteFault
-    );
-    assert_eq!(rt; out.bytes(), b"a".as_slice());
-    assert_eq!(rt; (machine.front(), machine.steps()), (4112, 4));
-    let mut out = SureSink::new(rt.alloc(), 2)?;
-    assert_eq!(rt;
-        run(&mut machine, &mut input, &mut out, 100),
-        Stop::Ended(98)
-    );
-    assert_eq!(rt; out.bytes(), b"b".as_slice());
+    let mut machine = program(rt.alloc(), ECHO)?;
+    let found = write_twice(rt.alloc(), &mut machine)?;
+    assert_eq!(rt; found.as_str(), "Ended(98) 4116 6 98 [98]");
     Ok(())
 }
 
-// The words of the text, from 4096 on, and the places without a word. The stack begins 64 bytes above the
-// end of the data, 4120, rounded up to 64.
+/// Writes to a sink that has a fault, and then to another.
+fn write_twice(alloc: Global, machine: &mut Machine) -> Result<String, Fail> {
+    let mut input = SureSource::new(alloc, b"b")?;
+    let mut out = MemSink::new(alloc, 1, &[2])?;
+    for (budget, wanted) in WRITES {
+        let stop = machine.run(&mut input, &mut out, budget);
+        if told(alloc, stop, machine, out.bytes())?.as_str() != wanted {
+            return Err(Fail::from("no fault"));
+        }
+    }
+    let mut other = SureSink::new(alloc, 2)?;
+    let stop = machine.run(&mut input, &mut other, 100);
+    Ok(told(alloc, stop, machine, other.bytes())?)
+}
+
+/// Addresses, and the words there: those of the text, from 4096 on, and the places without a word.
+const WORDS: [(u32, Option<u32>); 7] = [
+    (0, Some(0)),
+    (4096, Some(0x341a_00c2)),
+    (4116, Some(0x0000_6000)),
+    (4120, Some(0)),
+    (4098, None),
+    (67_108_860, Some(0)),
+    (67_108_864, None),
+];
+
+// The stack begins 64 bytes above the end of the data, 4120, rounded up to 64.
 #[test]
 fn words(rt: HostRuntime) -> Result<(), Fail> {
-    let machine = program(&rt, rt.alloc(), ECHO)?;
-    for (address, word) in [
-        (0, Some(0)),
-        (4096, Some(0x341a_00c2)),
-        (4116, Some(0x0000_6000)),
-        (4120, Some(0)),
-        (4098, None),
-        (67_108_860, Some(0)),
-        (67_108_864, None),
-    ] {
-        assert_eq!(rt; machine.word_at(address), word, "at {address}");
+    let machine = program(rt.alloc(), ECHO)?;
+    for (address, word) in WORDS {
+        assert_eq!(rt; (machine.word_at(address), machine.reg(30)), (word, 4224));
     }
-    assert_eq!(rt; machine.reg(30), 4224);
     Ok(())
 }

@@ -1,0 +1,4 @@
+pub mod StoreLaws
+pub mod StepLaws
+pub mod RunLaws
+pub mod Starts
