@@ -4,7 +4,8 @@ use Rattle.std.specs.Prelude.{Contains, IsTrue}
 use Rattle.std.specs.List.{AllByRecursion}
 use Rattle.std.specs.Str.{bytes_eq}
 use Rattle.std.proofs.lemmas.Slice.Eq.{bytes_eq-Decides}
-use Rattle.pw_flow.specs.ValidFlow.{start_name, main_name, AreDistinct, IncludesStart}
+use Rattle.pw_value.specs.ProgramNames.{start_name, main_name, IncludesStart}
+use Rattle.pw_flow.specs.ValidFlow.{AreDistinct}
 
 abbrev pub IsNone : List (List ℕ) → List ℕ → Type 0
 IsNone names name = AllByRecursion (λ other. other ≢ name) names

@@ -1,4 +1,3 @@
 pub mod Lists
 pub mod Rooms
 mod Distinct
-mod ViewNames

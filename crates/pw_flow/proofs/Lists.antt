@@ -1,5 +1,5 @@
 -- A fact of each element of a list, where the list is made from another.
-use Rattle.std.proofs.Common.{List, [], ◌∷◌, ◌++◌, map, All, sym, subst}
+use Rattle.std.proofs.Common.{List, [], ◌∷◌, ◌++◌, ◌↔◌, map, All, sym, subst}
 use Rattle.std.specs.List.{flat_map, AllByRecursion}
 use Rattle.std.proofs.lemmas.List.Elements.{recursion_from_All, All-from_recursion}
 use Rattle.std.proofs.lemmas.List.Concat.{flat_map-cons}
@@ -57,13 +57,19 @@ all_second P Q [] all = tt
 all_second P Q (x ∷ xs) all = (all.0.1, all_second P Q xs all.1)
 
 -- what a code's test says of each element of a list and of what the elements name
-pub all_lawful : {X Y Z : Type 0} (view : X → Y) (Is : Y → Type 0) (names : Y → List Z) (P : Z → Type 0) (xs : List X)
-    → All (λ x. Is (view x) × AllByRecursion P (names (view x))) xs → AllByRecursion Is (map view xs) × AllByRecursion P (flat_map names (map view xs))
-all_lawful view Is names P xs all =
-    let both = mapped view (λ y. Is y × AllByRecursion P (names y)) xs all in
-    (all_first Is (λ y. AllByRecursion P (names y)) (map view xs) both, all_flat names P (map view xs) (all_second Is (λ y. AllByRecursion P (names y)) (map view xs) both))
+pub lawful : {X Y : Type 0} (Is : X → Type 0) (names : X → List Y) (P : Y → Type 0) (xs : List X)
+    → All (λ x. Is x × AllByRecursion P (names x)) xs ↔ AllByRecursion Is xs × AllByRecursion P (flat_map names xs)
+lawful Is names P xs = (
+  λ all.
+      let both = recursion_from_All (λ x. Is x × AllByRecursion P (names x)) xs all in
+      (all_first Is (λ x. AllByRecursion P (names x)) xs both, all_flat names P xs (all_second Is (λ x. AllByRecursion P (names x)) xs both)),
+  λ both. All-from_recursion (λ x. Is x × AllByRecursion P (names x)) xs (all_both Is (λ x. AllByRecursion P (names x)) xs both.0 (all_flat_back names P xs both.1)),
+)
 
-pub all_lawful_back : {X Y Z : Type 0} (view : X → Y) (Is : Y → Type 0) (names : Y → List Z) (P : Z → Type 0) (xs : List X)
-    → AllByRecursion Is (map view xs) → AllByRecursion P (flat_map names (map view xs)) → All (λ x. Is (view x) × AllByRecursion P (names (view x))) xs
-all_lawful_back view Is names P xs one two =
-    unmapped view (λ y. Is y × AllByRecursion P (names y)) xs (all_both Is (λ y. AllByRecursion P (names y)) (map view xs) one (all_flat_back names P (map view xs) two))
+-- the same where the elements are lawful in any case
+pub ordinary : {X Y : Type 0} (names : X → List Y) (P : Y → Type 0) (xs : List X)
+    → All (λ x. AllByRecursion P (names x)) xs ↔ AllByRecursion P (flat_map names xs)
+ordinary names P xs = (
+  λ all. all_flat names P xs (recursion_from_All (λ x. AllByRecursion P (names x)) xs all),
+  λ all. All-from_recursion (λ x. AllByRecursion P (names x)) xs (all_flat_back names P xs all),
+)

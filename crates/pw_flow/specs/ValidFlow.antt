@@ -1,22 +1,21 @@
 -- Which flow graphs are lawful.
-use Rattle.std.specs.Prelude.{ℕ, ◌≡◌, ◌≢◌, ◌+◌, ◌*◌, ◌/◌, ◌%◌, ◌<◌, ◌≤◌, ◌^◌, ◌↔◌, ◌⊎◌, Option, IfSome, List, [], ◌∷◌, ◌++◌, length, max, Contains}
+use Rattle.std.specs.Prelude.{ℕ, ◌≡◌, ◌≢◌, ◌+◌, ◌*◌, ◌/◌, ◌%◌, ◌<◌, ◌≤◌, ◌^◌, ◌⊎◌, Option, IfSome, List, [], ◌∷◌, ◌++◌, length, max}
 use Rattle.std.specs.List.{AllByRecursion}
+use Rattle.pw_value.specs.Limits.{size_limit, parameter_limit, room_limit}
+use Rattle.pw_value.specs.ProgramNames.{IsOrdinary, IncludesStart}
 use Rattle.pw_value.specs.declared.value.Kind.{Kind}
 use Rattle.pw_value.specs.declared.value.Kind.TheVariants as kind
 use Rattle.pw_flow.specs.declared.flow.End.{End}
 use Rattle.pw_flow.specs.declared.flow.End.TheVariants as end
-use Rattle.pw_flow.specs.FlowGraph.{ItemValue, Bytes, Address, GlobalValue, OpValue, Const, Copy, Un, Bin, Ext, AddrGlobal, AddrSlot, AddrFn, LoadG, StoreG, Load, Store, Move, Call, CallInd, BlockValue, FunctionValue, ModuleValue, global_names, function_names, declared_names, named_in}
-
--- $start, which calls main and then exit
-abbrev pub start_name : List ℕ
-start_name = 36 ∷ 115 ∷ 116 ∷ 97 ∷ 114 ∷ 116 ∷ []
-
--- another name than $start
-abbrev pub IsOrdinary : List ℕ → Type 0
-IsOrdinary name = name ≢ start_name
-
-abbrev pub main_name : List ℕ
-main_name = 109 ∷ 97 ∷ 105 ∷ 110 ∷ []
+use Rattle.pw_flow.specs.declared.flow.Item.{Item}
+use Rattle.pw_flow.specs.declared.flow.Item.TheVariants.{Bytes, Address}
+use Rattle.pw_flow.specs.declared.flow.FlowGlobal.{FlowGlobal}
+use Rattle.pw_flow.specs.declared.flow.Op.{Op}
+use Rattle.pw_flow.specs.declared.flow.Op.TheVariants.{Const, Copy, Un, Bin, Ext, AddrGlobal, AddrSlot, AddrFn, LoadG, StoreG, Load, Store, Move, Call, CallInd}
+use Rattle.pw_flow.specs.declared.flow.Block.{Block}
+use Rattle.pw_flow.specs.declared.flow.FlowFn.{FlowFn}
+use Rattle.pw_flow.specs.declared.flow.FlowModule.{FlowModule}
+use Rattle.pw_flow.specs.FlowGraph.{global_names, function_names, declared_names, named_in}
 
 -- a number of 32 bits
 abbrev pub IsWord : ℕ → Type 0
@@ -32,22 +31,22 @@ kind_size kind.U16 = 2
 kind_size kind.W32 = 4
 
 -- how many bytes an item fills: an address has four
-abbrev pub item_size : ItemValue → ℕ
+abbrev pub item_size : Item → ℕ
 item_size (Bytes bytes) = length bytes
 item_size (Address name offset) = 4
 
-abbrev pub IsItem : ItemValue → Type 0
+abbrev pub IsItem : Item → Type 0
 IsItem (Bytes bytes) = Unit {0}
 IsItem (Address name offset) = IsWord offset
 
 -- Items rise and do not overlap, each inside so many bytes. Offsets rise strictly, behind an empty item
 -- too.
-abbrev pub AreItems : ℕ → ℕ → List (ℕ × ItemValue) → Type 0
+abbrev pub AreItems : ℕ → ℕ → List (ℕ × Item) → Type 0
 AreItems size free [] = Unit {0}
 AreItems size free (i ∷ items) = ((free ≤ i.0) × (i.0 + item_size i.1 ≤ size) × IsItem i.1) × AreItems size (i.0 + max 1 (item_size i.1)) items
 
 -- a scalar has the size of its kind
-pub record IsGlobal (g : GlobalValue) : Type 0 where
+pub record IsGlobal (g : FlowGlobal) : Type 0 where
   pub size : IsWord g.size
   pub kind : IfSome g.kind (λ k. g.size ≡ kind_size k)
   pub items : AreItems g.size 0 g.items
@@ -58,20 +57,20 @@ abbrev pub IsResult : ℕ → Option ℕ → Type 0
 IsResult temps t = IfSome t (λ t. t < temps)
 
 pub record AreArguments (temps : ℕ) (args : List ℕ) : Type 0 where
-  pub few : length args ≤ 127
+  pub few : length args ≤ parameter_limit
   pub below : AllByRecursion (λ a. a < temps) args
 
 abbrev pub IsUnit : ℕ → Type 0
 IsUnit unit = (unit ≡ 1) ⊎ (unit ≡ 2) ⊎ (unit ≡ 4)
 
--- a positive number of units, which come to a mebibyte at most
+-- a positive number of units, which come to no more than an object may have
 pub record IsMoved (size unit : ℕ) : Type 0 where
   pub units : IsUnit unit
   pub whole : size % unit ≡ 0
   pub positive : 0 < size
-  pub few : size ≤ 1048576
+  pub few : size ≤ size_limit
 
-abbrev pub IsOp : ℕ → ℕ → OpValue → Type 0
+abbrev pub IsOp : ℕ → ℕ → Op → Type 0
 IsOp temps slots (Const t n) = (t < temps) × IsWord n
 IsOp temps slots (Copy t a) = (t < temps) × (a < temps)
 IsOp temps slots (Un k t a) = (t < temps) × (a < temps)
@@ -96,7 +95,7 @@ IsEnd temps blocks (end.Jump b) = b < blocks
 IsEnd temps blocks (end.Branch a b c) = (a < temps) × (b < blocks) × (c < blocks)
 IsEnd temps blocks (end.Return a) = IsResult temps a
 
-pub record IsBlock (temps slots blocks : ℕ) (b : BlockValue) : Type 0 where
+pub record IsBlock (temps slots blocks : ℕ) (b : Block) : Type 0 where
   pub depth : IsWord b.depth
   pub ops : AllByRecursion (IsOp temps slots) b.ops
   pub end : IsEnd temps blocks b.end
@@ -110,13 +109,13 @@ abbrev pub rooms : ℕ → List ℕ → ℕ
 rooms room [] = room
 rooms room (size ∷ slots) = rooms (room + slot_room size) slots
 
-pub record HasFewParts (f : FunctionValue) : Type 0 where
-  pub few_params : f.params ≤ 127
+pub record HasFewParts (f : FlowFn) : Type 0 where
+  pub few_params : f.params ≤ parameter_limit
   pub params : f.params ≤ f.temps
-  pub room : rooms (4 * f.temps) f.slots ≤ 1048576
+  pub room : rooms (4 * f.temps) f.slots ≤ room_limit
   pub start : 0 < length f.blocks
 
-pub record IsFunction (f : FunctionValue) : Type 0 where
+pub record IsFunction (f : FlowFn) : Type 0 where
   pub few : HasFewParts f
   pub blocks : AllByRecursion (IsBlock f.temps (length f.slots) (length f.blocks)) f.blocks
 
@@ -126,29 +125,25 @@ abbrev pub AreDistinct : List (List ℕ) → Type 0
 AreDistinct [] = Unit {0}
 AreDistinct (name ∷ names) = AllByRecursion (λ other. other ≢ name) names × AreDistinct names
 
--- The functions include $start exactly where they include main.
-abbrev pub IncludesStart : List (List ℕ) → Type 0
-IncludesStart functions = Contains functions start_name ↔ Contains functions main_name
-
-pub record HasDistinctNames (m : ModuleValue) : Type 0 where
+pub record HasDistinctNames (m : FlowModule) : Type 0 where
   pub defined : AreDistinct (global_names m ++ function_names m)
   pub declared : AreDistinct (declared_names m)
 
-pub record IsStartLawful (m : ModuleValue) : Type 0 where
+pub record IsStartLawful (m : FlowModule) : Type 0 where
   pub included : IncludesStart (function_names m)
   pub no_global : AllByRecursion IsOrdinary (global_names m)
 
 -- what a module defines and declares
-pub record AreNamesLawful (m : ModuleValue) : Type 0 where
+pub record AreNamesLawful (m : FlowModule) : Type 0 where
   pub distinct : HasDistinctNames m
   pub start : IsStartLawful m
 
 -- each object and function by itself, and what they name
-pub record ArePartsLawful (m : ModuleValue) : Type 0 where
+pub record ArePartsLawful (m : FlowModule) : Type 0 where
   pub globals : AllByRecursion IsGlobal m.globals
   pub functions : AllByRecursion IsFunction m.functions
   pub ordinary : AllByRecursion IsOrdinary (named_in m)
 
-pub record IsValid (m : ModuleValue) : Type 0 where
+pub record IsValid (m : FlowModule) : Type 0 where
   pub parts : ArePartsLawful m
   pub names : AreNamesLawful m

@@ -1,18 +1,19 @@
 //! The parts of a flow graph.
 
+use pw_items::Items;
 use pw_value::{Kind, Name, Shape};
 
 /// What a global object holds at an offset when the program starts: bytes, or the address of a name
 /// plus a number.
-#[derive(Debug, Drop, PartialEq, Eq)]
+#[derive(Drop)]
 pub enum Item {
-    Bytes(Vec<u8>),
+    Bytes(Items<u8>),
     Address(Name, u32),
 }
 
 /// An object with static lifetime. Its items stand with their offsets in rising order, and what no item
 /// fills is 0. It has a kind where it is a scalar.
-#[derive(Debug, Drop, PartialEq, Eq)]
+#[derive(Drop)]
 pub struct FlowGlobal {
     pub name: Name,
     /// In bytes.
@@ -20,11 +21,11 @@ pub struct FlowGlobal {
     pub shape: Shape,
     pub kind: Option<Kind>,
     pub volatile: bool,
-    pub items: Vec<(u32, Item)>,
+    pub items: Items<(u32, Item)>,
 }
 
 /// An operation on one number: its negative, or its bits turned.
-#[derive(Clone, Copy, PartialEq, Eq, PartialOrd, Ord, Debug)]
+#[derive(Clone, Copy)]
 pub enum UnKind {
     Neg,
     Not,
@@ -32,7 +33,7 @@ pub enum UnKind {
 
 /// An operation on two numbers of 32 bits. A name that ends in S takes them as signed, one that ends in
 /// U as unsigned; the last six give 1 or 0.
-#[derive(Clone, Copy, PartialEq, Eq, PartialOrd, Ord, Debug)]
+#[derive(Clone, Copy)]
 pub enum BinKind {
     Add,
     Sub,
@@ -56,7 +57,7 @@ pub enum BinKind {
 }
 
 /// The low bits of a number, extended by their sign or by zeros.
-#[derive(Clone, Copy, PartialEq, Eq, PartialOrd, Ord, Debug)]
+#[derive(Clone, Copy)]
 pub enum ExtKind {
     S8,
     U8,
@@ -66,7 +67,7 @@ pub enum ExtKind {
 
 /// An operation. Temporaries and slots stand by their index in the function, and where an operation has
 /// a result, its temporary is the first of them.
-#[derive(Debug, Drop, PartialEq, Eq)]
+#[derive(Drop)]
 pub enum Op {
     /// t becomes the number.
     Const(u32, u32),
@@ -90,13 +91,13 @@ pub enum Op {
     /// So many bytes are copied to the first address from the second, in units of 1, 2 or 4.
     Move(u32, u32, u32, u32),
     /// A function is called by its name, with arguments.
-    Call(Option<u32>, Name, Vec<u32>),
+    Call(Option<u32>, Name, Items<u32>),
     /// The function that a temporary holds is called, as one of this shape.
-    CallInd(Option<u32>, u32, Shape, Vec<u32>),
+    CallInd(Option<u32>, u32, Shape, Items<u32>),
 }
 
 /// Where a block goes on.
-#[derive(Clone, Copy, PartialEq, Eq, Debug)]
+#[derive(Clone, Copy)]
 pub enum End {
     Jump(u32),
     /// To the first block where the temporary is not 0, and else to the second.
@@ -105,31 +106,31 @@ pub enum End {
 }
 
 /// Operations and the way on. The depth is that of the loops around it.
-#[derive(Debug, Drop, PartialEq, Eq)]
+#[derive(Drop)]
 pub struct Block {
     pub depth: u32,
-    pub ops: Vec<Op>,
+    pub ops: Items<Op>,
     pub end: End,
 }
 
 /// A function. Its parameters are the temporaries from 0 on, a slot is an object that lives as long as
 /// its call, of so many bytes, and it starts at block 0.
-#[derive(Debug, Drop, PartialEq, Eq)]
+#[derive(Drop)]
 pub struct FlowFn {
     pub name: Name,
     pub shape: Shape,
     pub params: u32,
     pub temps: u32,
-    pub slots: Vec<u32>,
-    pub blocks: Vec<Block>,
+    pub slots: Items<u32>,
+    pub blocks: Items<Block>,
 }
 
 /// A module: the objects and functions that it defines, and each external name that it declares or
 /// defines, with its shape.
-#[derive(Debug, Drop, PartialEq, Eq)]
+#[derive(Drop)]
 pub struct FlowModule {
     pub name: Name,
-    pub globals: Vec<FlowGlobal>,
-    pub functions: Vec<FlowFn>,
-    pub declared: Vec<(Name, Shape)>,
+    pub globals: Items<FlowGlobal>,
+    pub functions: Items<FlowFn>,
+    pub declared: Items<(Name, Shape)>,
 }

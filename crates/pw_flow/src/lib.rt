@@ -7,8 +7,4 @@ mod names;
 mod valid;
 
 pub use flow::{BinKind, Block, End, ExtKind, FlowFn, FlowGlobal, FlowModule, Item, Op, UnKind};
-pub use names::is_ordinary;
 pub use valid::{is_valid, kind_size};
-
-#[cfg(test)]
-mod tests;

@@ -2,17 +2,13 @@
 
 ghost use Rattle.std.specs.Prelude.{ℕ, ◌≡◌, ◌≢◌, ◌↔◌, ◌++◌, List, map, IsTrue, All};
 ghost use Rattle.std.specs.List.{AllByRecursion};
-ghost use Rattle.pw_flow.specs.FlowGraph.{view, global_names, function_names, declared_names};
-ghost use Rattle.pw_flow.specs.ValidFlow.{start_name, main_name, IsOrdinary, AreDistinct, IncludesStart, HasDistinctNames, IsStartLawful, AreNamesLawful};
+ghost use Rattle.pw_flow.specs.FlowGraph.{global_names, function_names, declared_names};
+ghost use Rattle.pw_value.specs.ProgramNames.{start_name, main_name, IsOrdinary, IncludesStart};
+ghost use Rattle.pw_flow.specs.ValidFlow.{AreDistinct, HasDistinctNames, IsStartLawful, AreNamesLawful};
 
 use crate::flow::{FlowFn, FlowGlobal, FlowModule};
+use pw_value::program_names::{MAIN, START};
 use pw_value::{Name, Shape};
-
-/// The name of the function that calls `main` and then `exit`.
-pub const START: &[u8] = b"$start";
-
-/// The name of the function that a program starts with.
-pub const MAIN: &[u8] = b"main";
 
 /// Whether an item or an operation may name this: it is not `$start`.
 pub fn is_ordinary(name: &Name) -> bool
@@ -109,21 +105,22 @@ fn are_globals_ordinary(globals: &[FlowGlobal]) -> bool
 
 /// Whether names are distinct: those of what a module defines, and those that it declares.
 fn has_distinct_names(flow: &FlowModule) -> bool
-    ensures { IsTrue result ↔ HasDistinctNames (view flow.now) }
+    ensures { IsTrue result ↔ HasDistinctNames flow.now }
 {
-    are_defined_distinct(&flow.globals, &flow.functions) && are_declared_distinct(&flow.declared)
+    are_defined_distinct(flow.globals.as_slice(), flow.functions.as_slice())
+        && are_declared_distinct(flow.declared.as_slice())
 }
 
 /// Whether the functions include `$start` exactly where they include `main`, and no object does.
 fn is_start_lawful(flow: &FlowModule) -> bool
-    ensures { IsTrue result ↔ IsStartLawful (view flow.now) }
+    ensures { IsTrue result ↔ IsStartLawful flow.now }
 {
-    is_start_included(&flow.functions) && are_globals_ordinary(&flow.globals)
+    is_start_included(flow.functions.as_slice()) && are_globals_ordinary(flow.globals.as_slice())
 }
 
 /// Whether the names of what a module defines and declares are lawful.
 pub fn are_names_lawful(flow: &FlowModule) -> bool
-    ensures { IsTrue result ↔ AreNamesLawful (view flow.now) }
+    ensures { IsTrue result ↔ AreNamesLawful flow.now }
 {
     has_distinct_names(flow) && is_start_lawful(flow)
 }

@@ -1,5 +1,5 @@
 -- What writing asks of a module's parts, and that a file's room bounds its counts and texts.
-use Rattle.std.proofs.Common.{◌≡◌, ℕ, suc, ◌+◌, ◌^◌, ◌<◌, ◌≤◌, List, [], ◌∷◌, ◌++◌, length, map, Result, Ok, Err, refl, sym, ap, subst, ◌∙◌, append_assoc, arith}
+use Rattle.std.proofs.Common.{◌≡◌, ℕ, ◌+◌, ◌^◌, ◌<◌, ◌≤◌, List, [], ◌∷◌, ◌++◌, length, Result, Ok, Err, sym, ap, subst, ◌∙◌, append_assoc, arith}
 use Rattle.std.specs.Prelude.{Contains, IfOk, OnOk}
 use Rattle.std.specs.Global.{Vec}
 use Rattle.std.specs.List.{flat_map, AllByRecursion}
@@ -13,10 +13,18 @@ use Rattle.pw_value.proofs.NameLaws.{AllUsed, used_by_table}
 use Rattle.pw_files.specs.Kinds.{kind as kind_byte}
 use Rattle.pw_files.specs.Names.{shaped}
 use Rattle.pw_files.specs.Rising.{counted as counted_text}
-use Rattle.pw_flow.specs.FlowGraph.{ItemValue, GlobalValue, OpValue, Const, Copy, Un, Bin, Ext, AddrGlobal, AddrSlot, AddrFn, LoadG, StoreG, Load, Store, Move, Call, CallInd, BlockValue, FunctionValue, ModuleValue}
+use Rattle.pw_files.specs.Contents.{IsContents}
+use Rattle.pw_files.proofs.ContentsLaws.{is_file}
+use Rattle.pw_flow.specs.declared.flow.Item.{Item}
+use Rattle.pw_flow.specs.declared.flow.FlowGlobal.{FlowGlobal}
+use Rattle.pw_flow.specs.declared.flow.Op.{Op}
+use Rattle.pw_flow.specs.declared.flow.Block.{Block}
+use Rattle.pw_flow.specs.declared.flow.FlowFn.{FlowFn}
+use Rattle.pw_flow.specs.declared.flow.FlowModule.{FlowModule}
+use Rattle.pw_flow.specs.declared.flow.Op.TheVariants.{Const, Copy, Un, Bin, Ext, AddrGlobal, AddrSlot, AddrFn, LoadG, StoreG, Load, Store, Move, Call, CallInd}
 use Rattle.pw_flow.specs.ValidFlow.{IsValid}
 use Rattle.pw_flowops.specs.Operations.{result, arguments, op, ending, FitsOp}
-use Rattle.pw_flowfile.specs.FlowFile.{names_of, item, placed_item, global_body, global, block, function, spelling, FitsBlock, FitsFunction, FitsGlobal, FitsModule, IsContents, IsFlowFile, kind_of_file}
+use Rattle.pw_flowfile.specs.FlowFile.{names_of, item, placed_item, global_body, global, block, function, spelling, FitsBlock, FitsFunction, FitsGlobal, FitsModule, IsFlowFile, kind_of_file}
 
 -- ---- what has room fits
 
@@ -37,7 +45,7 @@ length-text : (bytes : List ℕ) → length (text bytes) ≡ 4 + length bytes
 unfolding text
 length-text bytes = behind_word (length bytes) bytes
 
-op_long : (names : List (List ℕ)) (o : OpValue) → 1 ≤ length (op names o)
+op_long : (names : List (List ℕ)) (o : Op) → 1 ≤ length (op names o)
 op_long names (Const t n) = omega arith
 op_long names (Copy t a) = omega arith
 op_long names (Un k t a) = omega arith
@@ -54,7 +62,7 @@ op_long names (Move a b size unit) = omega arith
 op_long names (Call t f args) = omega arith
 op_long names (CallInd t a shape args) = omega arith
 
-op_fits : (names : List (List ℕ)) (o : OpValue) → length (op names o) < 2 ^ 32 → FitsOp o
+op_fits : (names : List (List ℕ)) (o : Op) → length (op names o) < 2 ^ 32 → FitsOp o
 op_fits names (Const t n) room = tt
 op_fits names (Copy t a) room = tt
 op_fits names (Un k t a) room = tt
@@ -72,10 +80,10 @@ op_fits names (Call t f args) room = tt
 op_fits names (CallInd t a shape args) room =
     omega (arith, room, length-append (result t) (u32 a ++ (text shape ++ (arguments args ++ []))), behind_word a (text shape ++ (arguments args ++ [])), length-append (text shape) (arguments args ++ []), length-text shape)
 
-block_long : (names : List (List ℕ)) (b : BlockValue) → 1 ≤ length (block names b)
+block_long : (names : List (List ℕ)) (b : Block) → 1 ≤ length (block names b)
 block_long names b = omega (arith, behind_word b.depth (u32 (length b.ops) ++ (flat_map (op names) b.ops ++ (ending b.end ++ []))))
 
-block_fits : (names : List (List ℕ)) (b : BlockValue) → length (block names b) < 2 ^ 32 → FitsBlock b
+block_fits : (names : List (List ℕ)) (b : Block) → length (block names b) < 2 ^ 32 → FitsBlock b
 block_fits names b room =
     let one = behind_word b.depth (u32 (length b.ops) ++ (flat_map (op names) b.ops ++ (ending b.end ++ []))) in
     let two = behind_word (length b.ops) (flat_map (op names) b.ops ++ (ending b.end ++ [])) in
@@ -86,7 +94,7 @@ block_fits names b room =
 named_long : (names : List (List ℕ)) (name rest : List ℕ) → length (name_index names name ++ rest) ≡ 4 + length rest
 named_long names name rest = behind_word _ rest
 
-function_fits : (names : List (List ℕ)) (f : FunctionValue) → length (function names f) < 2 ^ 32 → FitsFunction f
+function_fits : (names : List (List ℕ)) (f : FlowFn) → length (function names f) < 2 ^ 32 → FitsFunction f
 function_fits names f room =
     let blocks_text = flat_map (block names) f.blocks ++ [] in
     let r5 = u32 (length f.blocks) ++ blocks_text in
@@ -109,10 +117,10 @@ function_fits names f room =
       blocks = all_fit (block names) FitsBlock (block_fits names) f.blocks within;
     }
 
-placed_long : (names : List (List ℕ)) (i : ℕ × ItemValue) → 1 ≤ length (placed_item names i)
+placed_long : (names : List (List ℕ)) (i : ℕ × Item) → 1 ≤ length (placed_item names i)
 placed_long names i = omega (arith, behind_word i.0 (item names i.1 ++ []))
 
-global_fits : (names : List (List ℕ)) (g : GlobalValue) → length (global names g) < 2 ^ 32 → FitsGlobal g
+global_fits : (names : List (List ℕ)) (g : FlowGlobal) → length (global names g) < 2 ^ 32 → FitsGlobal g
 global_fits names g room =
     let items_text = flat_map (placed_item names) g.items ++ [] in
     let r4 = u32 (length g.items) ++ items_text in
@@ -136,34 +144,32 @@ global_fits names g room =
 declared_fits : (names : List (List ℕ)) (d : List ℕ × List ℕ) → length (shaped names d) < 2 ^ 32 → FitsText d.1
 declared_fits names d room = omega (arith, room, named_long names d.0 (text d.1 ++ []), length-append (text d.1) [], length-text d.1)
 
-global_long : (names : List (List ℕ)) (g : GlobalValue) → 1 ≤ length (global names g)
+global_long : (names : List (List ℕ)) (g : FlowGlobal) → 1 ≤ length (global names g)
 global_long names g = omega (arith, named_long names g.name (global_body names g ++ []))
 
 declared_long : (names : List (List ℕ)) (d : List ℕ × List ℕ) → 1 ≤ length (shaped names d)
 declared_long names d = omega (arith, named_long names d.0 (text d.1 ++ []))
 
-function_long : (names : List (List ℕ)) (f : FunctionValue) → 1 ≤ length (function names f)
+function_long : (names : List (List ℕ)) (f : FlowFn) → 1 ≤ length (function names f)
 function_long names f = omega (arith, named_long names f.name (text f.shape ++ (u32 f.params ++ (u32 f.temps ++ (u32 (length f.slots) ++ (flat_map u32 f.slots ++ (u32 (length f.blocks) ++ (flat_map (block names) f.blocks ++ []))))))))
 
-module_fits : (names : List (List ℕ)) (m : ModuleValue) → length (spelling (record { names = names; flow = m })) < 2 ^ 32 → FitsModule m
+length-counted : {X : Type 0} (spell : X → List ℕ) (xs : List X) (rest : List ℕ) → length (counted_text spell xs ++ rest) ≡ 4 + length (flat_map spell xs) + length rest
+unfolding counted_text
+length-counted spell xs rest = length-append (u32 (length xs) ++ flat_map spell xs) rest ∙ omega (arith, behind_word (length xs) (flat_map spell xs))
+
+module_fits : (names : List (List ℕ)) (m : FlowModule) → length (spelling (record { names = names; value = m })) < 2 ^ 32 → FitsModule m
 module_fits names m room =
-    let r6 = flat_map (function names) m.functions ++ [] in
-    let r5 = u32 (length m.functions) ++ r6 in
-    let r4 = flat_map (shaped names) m.declared ++ r5 in
-    let r3 = u32 (length m.declared) ++ r4 in
-    let r2 = flat_map (global names) m.globals ++ r3 in
-    let r1 = u32 (length m.globals) ++ r2 in
+    let r3 = counted_text (function names) m.functions ++ [] in
+    let r2 = counted_text (shaped names) m.declared ++ r3 in
+    let r1 = counted_text (global names) m.globals ++ r2 in
     let e0 = length-append (name_table names) (name_index names m.name ++ r1) in
     let e1 = named_long names m.name r1 in
-    let e2 = behind_word (length m.globals) r2 in
-    let e3 = length-append (flat_map (global names) m.globals) r3 in
-    let e4 = behind_word (length m.declared) r4 in
-    let e5 = length-append (flat_map (shaped names) m.declared) r5 in
-    let e6 = behind_word (length m.functions) r6 in
-    let e7 = length-append (flat_map (function names) m.functions) [] in
-    let gs : length (flat_map (global names) m.globals) < 2 ^ 32 = omega (arith, room, e0, e1, e2, e3) in
-    let ds : length (flat_map (shaped names) m.declared) < 2 ^ 32 = omega (arith, room, e0, e1, e2, e3, e4, e5) in
-    let fs : length (flat_map (function names) m.functions) < 2 ^ 32 = omega (arith, room, e0, e1, e2, e3, e4, e5, e6, e7) in
+    let e2 = length-counted (global names) m.globals r2 in
+    let e3 = length-counted (shaped names) m.declared r3 in
+    let e4 = length-counted (function names) m.functions [] in
+    let gs : length (flat_map (global names) m.globals) < 2 ^ 32 = omega (arith, room, e0, e1, e2) in
+    let ds : length (flat_map (shaped names) m.declared) < 2 ^ 32 = omega (arith, room, e0, e1, e2, e3) in
+    let fs : length (flat_map (function names) m.functions) < 2 ^ 32 = omega (arith, room, e0, e1, e2, e3, e4) in
     record {
       global_count = omega (arith, gs, counted (global names) (global_long names) m.globals);
       globals = all_fit (global names) FitsGlobal (global_fits names) m.globals gs;
@@ -177,16 +183,15 @@ back_to : (names : List (List ℕ)) (used : List (List ℕ)) → AllUsed used na
 back_to names [] all = tt
 back_to names (name ∷ used) all = (all.0, back_to names used all.1)
 
-pub all_stand : (names used : List (List ℕ)) (m : ModuleValue) → IsTableOf names used → used ≡ names_of m → AllByRecursion (Contains names) (names_of m)
+pub all_stand : (names used : List (List ℕ)) (m : FlowModule) → IsTableOf names used → used ≡ names_of m → AllByRecursion (Contains names) (names_of m)
 all_stand names used m table same = back_to names (names_of m) (used_by_table names (names_of m) (subst (IsTableOf names) same table)).1
 
-pub written : {E : Type 0} (names used : List (List ℕ)) (m : ModuleValue) (payload : List ℕ) (r : Result (Vec ℕ) E) → IsValid m → IsTableOf names used → used ≡ names_of m → FitsU32 (length names)
-    → payload ≡ spelling (record { names = names; flow = m }) → OnOk r (FitsFile payload) → IfOk r (λ v. v.items ≡ file kind_of_file 1 payload) → IfOk r (λ v. (names : List (List ℕ)) × IsFlowFile v.items (record { names = names; flow = m }))
-written names used m payload (Ok v) valid table same count made room sealed =
-    let text = spelling (record { names = names; flow = m }) in
-    let fits : FitsFile text = subst FitsFile made room in
-    let is : IsContents (record { names = names; flow = m }) = record { valid = valid; fits = module_fits names m (omega (arith, fits)); name_count = count; names = subst (IsTableOf names) same table } in
-    (names, record { version = 1; not_below = omega arith; not_above = omega arith; fits = is; room = fits; spelled = sealed ∙ ap (file kind_of_file 1) made })
+pub written : {E : Type 0} (names used : List (List ℕ)) (m : FlowModule) (payload : List ℕ) (r : Result (Vec ℕ) E) → IsValid m → IsTableOf names used → used ≡ names_of m → FitsU32 (length names)
+    → payload ≡ spelling (record { names = names; value = m }) → OnOk r (FitsFile payload) → IfOk r (λ v. v.items ≡ file kind_of_file 1 payload) → IfOk r (λ v. IsFlowFile v.items m)
+written {E} names used m payload (Ok v) valid table same count made room sealed =
+    let fits : FitsFile (spelling (record { names = names; value = m })) = subst FitsFile made room in
+    is_file {E = E} kind_of_file spelling (IsContents IsValid FitsModule names_of) (record { names = names; value = m }) payload (Ok v)
+    (record { lawful = valid; fits = module_fits names m (omega (arith, fits)); name_count = count; names = subst (IsTableOf names) same table }) made room sealed
 written names used m payload (Err e) valid table same count made room sealed = tt
 
 -- ---- pieces put one behind the other
@@ -201,10 +206,3 @@ put_list spell xs o0 o1 o2 t e d = put o0 o1 o2 (u32 (length xs) ++ flat_map spe
 
 pub last_put : (o1 o2 a : List ℕ) → o2 ≡ o1 ++ a → o2 ≡ o1 ++ (a ++ [])
 last_put o1 o2 a d = d ∙ ap (λ (w : List ℕ). o1 ++ w) (sym (append-nil a))
-
-pub count_of : {X Y : Type 0} (f : X → Y) (xs ys : List X) → xs ≡ ys → u32 (length xs) ≡ u32 (length (map f ys))
-count_of f xs ys same = ap (λ n. u32 n) (ap length same ∙ sym (mapped_length f ys))
-  where
-    mapped_length : {X Y : Type 0} (f : X → Y) (ys : List X) → length (map f ys) ≡ length ys
-    mapped_length f [] = refl
-    mapped_length f (y ∷ ys) = ap suc (mapped_length f ys)

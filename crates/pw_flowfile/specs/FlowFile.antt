@@ -1,84 +1,80 @@
 -- The file of a flow graph: how a module is spelled as bytes, and which modules have a spelling.
-use Rattle.std.specs.Prelude.{ℕ, ◌<◌, ◌^◌, List, [], ◌∷◌, ◌++◌, length, Vec}
+use Rattle.std.specs.Prelude.{ℕ, List, [], ◌∷◌, ◌++◌, length}
 use Rattle.std.specs.List.{flat_map, AllByRecursion}
-use Rattle.std.specs.declared.alloc.Global.{Global}
-use Rattle.pw_value.specs.declared.name.Name.{Name}
 use Rattle.pw_value.specs.Fields.{u8, u32, text, flag, parts, FitsU32, FitsText}
-use Rattle.pw_value.specs.FieldFrame.{IsFileOf}
-use Rattle.pw_value.specs.FieldNames.{name_table, name_index, IsTableOf}
+use Rattle.pw_value.specs.FieldNames.{name_table, name_index}
 use Rattle.pw_files.specs.Kinds.{kind as kind_byte}
 use Rattle.pw_files.specs.Names.{shaped}
+use Rattle.pw_files.specs.Rising.{counted}
+use Rattle.pw_files.specs.Contents.{Contents, IsContents, IsFileWith}
 use Rattle.pw_flow.specs.declared.flow.FlowModule.{FlowModule}
-use Rattle.pw_flow.specs.FlowGraph.{ItemValue, Bytes, Address, GlobalValue, BlockValue, FunctionValue, ModuleValue, view, names_in_global, names_in_function, declared_names}
+use Rattle.pw_flow.specs.declared.flow.Item.{Item}
+use Rattle.pw_flow.specs.declared.flow.FlowGlobal.{FlowGlobal}
+use Rattle.pw_flow.specs.declared.flow.Block.{Block}
+use Rattle.pw_flow.specs.declared.flow.FlowFn.{FlowFn}
+use Rattle.pw_flow.specs.declared.flow.Item.TheVariants.{Bytes, Address}
+use Rattle.pw_flow.specs.FlowGraph.{names_in_global, names_in_function, declared_names}
 use Rattle.pw_flow.specs.ValidFlow.{IsValid}
 use Rattle.pw_flowops.specs.Operations.{op, ending, FitsOp}
 
 -- ---- global objects, under a table of names
 
-abbrev pub item : List (List ℕ) → ItemValue → List ℕ
+abbrev pub item : List (List ℕ) → Item → List ℕ
 item names (Bytes bytes) = parts (u8 0 ∷ text bytes ∷ [])
 item names (Address name offset) = parts (u8 1 ∷ name_index names name ∷ u32 offset ∷ [])
 
-abbrev pub placed_item : List (List ℕ) → ℕ × ItemValue → List ℕ
+abbrev pub placed_item : List (List ℕ) → ℕ × Item → List ℕ
 placed_item names placed = parts (u32 placed.0 ∷ item names placed.1 ∷ [])
 
 -- what stands behind an object's name
-abbrev pub global_body : List (List ℕ) → GlobalValue → List ℕ
+abbrev pub global_body : List (List ℕ) → FlowGlobal → List ℕ
 global_body names g = parts (u32 g.size ∷ text g.shape ∷ kind_byte g.kind ∷ flag g.volatile ∷ u32 (length g.items) ∷ flat_map (placed_item names) g.items ∷ [])
 
-abbrev pub global : List (List ℕ) → GlobalValue → List ℕ
+abbrev pub global : List (List ℕ) → FlowGlobal → List ℕ
 global names g = parts (name_index names g.name ∷ global_body names g ∷ [])
 
 -- ---- functions
 
-abbrev pub block : List (List ℕ) → BlockValue → List ℕ
+abbrev pub block : List (List ℕ) → Block → List ℕ
 block names b = parts (u32 b.depth ∷ u32 (length b.ops) ∷ flat_map (op names) b.ops ∷ ending b.end ∷ [])
 
-abbrev pub function : List (List ℕ) → FunctionValue → List ℕ
+abbrev pub function : List (List ℕ) → FlowFn → List ℕ
 function names f = parts (name_index names f.name ∷ text f.shape ∷ u32 f.params ∷ u32 f.temps ∷ u32 (length f.slots) ∷ flat_map u32 f.slots
     ∷ u32 (length f.blocks) ∷ flat_map (block names) f.blocks ∷ [])
 
 -- ---- the whole
 
 -- the names of an object or a function, and those that it names
-abbrev pub all_in_global : GlobalValue → List (List ℕ)
+abbrev pub all_in_global : FlowGlobal → List (List ℕ)
 all_in_global g = g.name ∷ names_in_global g
 
-abbrev pub all_in_function : FunctionValue → List (List ℕ)
+abbrev pub all_in_function : FlowFn → List (List ℕ)
 all_in_function f = f.name ∷ names_in_function f
 
 -- every name of a module, in the order of the file
-abbrev pub names_of : ModuleValue → List (List ℕ)
+abbrev pub names_of : FlowModule → List (List ℕ)
 names_of m = m.name ∷ (flat_map all_in_global m.globals ++ (declared_names m ++ flat_map all_in_function m.functions))
 
--- a module and the table of its names
-pub record Contents : Type 0 where
-  pub names : List (List ℕ)
-  pub flow : ModuleValue
-
-abbrev pub contents_view : Vec Name Global × FlowModule → Contents
-contents_view x = record { names = x.0.items; flow = view x.1 }
-
-abbrev pub spelling : Contents → List ℕ
-spelling c = parts (name_table c.names ∷ name_index c.names c.flow.name ∷ u32 (length c.flow.globals) ∷ flat_map (global c.names) c.flow.globals
-    ∷ u32 (length c.flow.declared) ∷ flat_map (shaped c.names) c.flow.declared ∷ u32 (length c.flow.functions) ∷ flat_map (function c.names) c.flow.functions ∷ [])
+abbrev pub spelling : Contents FlowModule → List ℕ
+spelling c = parts (name_table c.names ∷ name_index c.names c.value.name ∷ counted (global c.names) c.value.globals ∷ counted (shaped c.names) c.value.declared
+    ∷ counted (function c.names) c.value.functions ∷ [])
 
 -- ---- which modules have a spelling: counts and texts have lengths of 32 bits
 
-pub record FitsBlock (b : BlockValue) : Type 0 where
+pub record FitsBlock (b : Block) : Type 0 where
   pub count : FitsU32 (length b.ops)
   pub ops : AllByRecursion FitsOp b.ops
 
-pub record FitsFunction (f : FunctionValue) : Type 0 where
+pub record FitsFunction (f : FlowFn) : Type 0 where
   pub shape : FitsText f.shape
   pub count : FitsU32 (length f.blocks)
   pub blocks : AllByRecursion FitsBlock f.blocks
 
-pub record FitsGlobal (g : GlobalValue) : Type 0 where
+pub record FitsGlobal (g : FlowGlobal) : Type 0 where
   pub shape : FitsText g.shape
   pub count : FitsU32 (length g.items)
 
-pub record FitsModule (m : ModuleValue) : Type 0 where
+pub record FitsModule (m : FlowModule) : Type 0 where
   pub global_count : FitsU32 (length m.globals)
   pub globals : AllByRecursion FitsGlobal m.globals
   pub declared_count : FitsU32 (length m.declared)
@@ -86,16 +82,10 @@ pub record FitsModule (m : ModuleValue) : Type 0 where
   pub function_count : FitsU32 (length m.functions)
   pub functions : AllByRecursion FitsFunction m.functions
 
-pub record IsContents (c : Contents) : Type 0 where
-  pub valid : IsValid c.flow
-  pub fits : FitsModule c.flow
-  pub name_count : length c.names < 2 ^ 32
-  pub names : IsTableOf c.names (names_of c.flow)
-
 -- PAWF
 abbrev pub kind_of_file : ℕ
 kind_of_file = 0x50415746
 
--- the bytes are the flow file of the contents
-abbrev pub IsFlowFile : List ℕ → Contents → Type 0
-IsFlowFile bytes c = IsFileOf kind_of_file 1 1 (λ version. spelling) (λ version. IsContents) bytes c
+-- the bytes are the file of the flow graph
+abbrev pub IsFlowFile : List ℕ → FlowModule → Type 0
+IsFlowFile = IsFileWith kind_of_file spelling (IsContents IsValid FitsModule names_of)

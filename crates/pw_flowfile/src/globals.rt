@@ -1,10 +1,9 @@
 //! Reading the global objects and the declared names of a flow file.
 
-ghost use Rattle.std.specs.Prelude.{◌≡◌, ◌+◌, ◌∷◌, ◌≤◌, ◌&&◌, ℕ, Bool, nat_le, List, [], length, map, IfOk};
+ghost use Rattle.std.specs.Prelude.{◌≡◌, ◌+◌, ◌∷◌, ◌≤◌, ◌&&◌, ℕ, nat_le, List, [], length, map, IfOk, IfErr, ◌≢◌};
 ghost use Rattle.pw_value.specs.Fields.{u32_at, text_at, checked, items_at};
 ghost use Rattle.pw_value.specs.FieldFaults.{Gives};
 ghost use Rattle.pw_value.specs.FieldNames.{IsRisingFrom};
-ghost use Rattle.pw_flow.specs.FlowGraph.{item_view, placed_item_view, global_view};
 ghost use Rattle.pw_files.specs.Kinds.{kind_at};
 ghost use Rattle.pw_flowops.specs.Reading.{one_of_at};
 ghost use Rattle.pw_flowfile.specs.Reading.{item_forms, has_room, content_at, item_at, placed_item_at, next_free, has_kind_size, global_body_at, global_at, next_global, declared_body_at, declared_at, next_declared, seen_after};
@@ -14,7 +13,9 @@ use crate::met::read_fresh;
 use pw_files::kinds::read_kind;
 use pw_flow::{FlowGlobal, Item, kind_size};
 use pw_flowops::{read_named, read_one_of};
+use pw_items::Items;
 use pw_value::fields::{FieldError, read_flag, read_text, read_text_in_place, read_u32};
+use pw_value::program_names::StartName;
 use pw_value::{Kind, Name, Shape};
 use std::alloc::Global;
 
@@ -29,7 +30,8 @@ const ITEM_FORMS: [ItemForm; 2] = [ItemForm::Bytes, ItemForm::Address];
 
 /// The bytes of an item at the offset, inside the object.
 fn read_item_bytes(size: u32, offset: u32, bytes: &[u8]) -> Result<(&[u8], &[u8]), FieldError>
-    ensures { Gives (λ x. (x.0.now, x.1.now)) result (checked (λ b. nat_le (offset + length b) size) text_at bytes.now) }
+    ensures found { Gives (λ x. (x.0.now, x.1.now)) result (checked (λ b. nat_le (offset + length b) size) text_at bytes.now) }
+    ensures no_memory { IfErr result (λ e. e ≢ FieldError.NoMemory) }
 {
     let (text, rest) = read_text_in_place(bytes)?;
     if offset <= size && text.len() <= (size - offset) as usize {
@@ -43,21 +45,24 @@ fn read_item_bytes(size: u32, offset: u32, bytes: &[u8]) -> Result<(&[u8], &[u8]
 #[tactic(auto, unfolding(crate::specs::Reading::content_at))]
 fn read_content<'a>(
     alloc: Global,
-    strict: bool,
+    start: StartName,
     names: &[Name],
     place: (u32, u32),
     form: ItemForm,
     bytes: &'a [u8],
 ) -> Result<(Item, &'a [u8]), FieldError>
-    ensures { Gives (λ x. (item_view x.0, x.1.now)) result (content_at strict names.now place.0 place.1 form bytes.now) }
+    ensures { Gives (λ x. (x.0, x.1.now)) result (content_at start names.now place.0 place.1 form bytes.now) }
 {
     match form {
         ItemForm::Bytes => {
             let (text, rest) = read_item_bytes(place.0, place.1, bytes)?;
-            Ok((Item::Bytes(Vec::from_slice(alloc, text)?), rest))
+            Ok((
+                Item::Bytes(Items::from_vec(Vec::from_slice(alloc, text)?)),
+                rest,
+            ))
         }
         ItemForm::Address => {
-            let (name, rest) = read_named(strict, names, bytes)?;
+            let (name, rest) = read_named(start, names, bytes)?;
             let (offset, rest) = read_u32(rest)?;
             Ok((Item::Address(name.copy(alloc)?, offset), rest))
         }
@@ -66,7 +71,8 @@ fn read_content<'a>(
 
 /// The form of an item, for which there is room.
 fn read_form(size: u32, offset: u32, bytes: &[u8]) -> Result<(ItemForm, &[u8]), FieldError>
-    ensures { Gives (λ x. (x.0, x.1.now)) result (checked (λ f. has_room f size offset) (one_of_at item_forms) bytes.now) }
+    ensures found { Gives (λ x. (x.0, x.1.now)) result (checked (λ f. has_room f size offset) (one_of_at item_forms) bytes.now) }
+    ensures no_memory { IfErr result (λ e. e ≢ FieldError.NoMemory) }
 {
     let (form, rest) = read_one_of(&ITEM_FORMS, bytes)?;
     match form {
@@ -81,20 +87,21 @@ fn read_form(size: u32, offset: u32, bytes: &[u8]) -> Result<(ItemForm, &[u8]), 
 #[tactic(auto, unfolding(crate::specs::Reading::item_at))]
 fn read_item<'a>(
     alloc: Global,
-    strict: bool,
+    start: StartName,
     names: &[Name],
     place: (u32, u32),
     bytes: &'a [u8],
 ) -> Result<(Item, &'a [u8]), FieldError>
-    ensures { Gives (λ x. (item_view x.0, x.1.now)) result (item_at strict names.now place.0 place.1 bytes.now) }
+    ensures { Gives (λ x. (x.0, x.1.now)) result (item_at start names.now place.0 place.1 bytes.now) }
 {
     let (form, rest) = read_form(place.0, place.1, bytes)?;
-    read_content(alloc, strict, names, place, form, rest)
+    read_content(alloc, start, names, place, form, rest)
 }
 
 /// The offset of an item, from `free` to the object's size.
 fn read_offset(size: u32, free: u64, bytes: &[u8]) -> Result<(u32, &[u8]), FieldError>
-    ensures { Gives (λ x. (x.0, x.1.now)) result (checked (λ o. nat_le free o && nat_le o size) u32_at bytes.now) }
+    ensures found { Gives (λ x. (x.0, x.1.now)) result (checked (λ o. nat_le free o && nat_le o size) u32_at bytes.now) }
+    ensures no_memory { IfErr result (λ e. e ≢ FieldError.NoMemory) }
 {
     let (offset, rest) = read_u32(bytes)?;
     if free <= u64::from(offset) && offset <= size {
@@ -108,25 +115,25 @@ fn read_offset(size: u32, free: u64, bytes: &[u8]) -> Result<(u32, &[u8]), Field
 #[tactic(auto, unfolding(crate::specs::Reading::placed_item_at))]
 fn read_placed_item<'a>(
     alloc: Global,
-    strict: bool,
+    start: StartName,
     names: &[Name],
     size: u32,
     free: u64,
     bytes: &'a [u8],
 ) -> Result<((u32, Item), &'a [u8]), FieldError>
-    ensures { Gives (λ x. (placed_item_view x.0, x.1.now)) result (placed_item_at strict names.now size free bytes.now) }
+    ensures { Gives (λ x. (x.0, x.1.now)) result (placed_item_at start names.now size free bytes.now) }
 {
     let (offset, rest) = read_offset(size, free, bytes)?;
-    let (item, rest) = read_item(alloc, strict, names, (size, offset), rest)?;
+    let (item, rest) = read_item(alloc, start, names, (size, offset), rest)?;
     Ok(((offset, item), rest))
 }
 
 /// The least offset of an item behind this one.
 fn free_behind(placed: &(u32, Item), free: u64) -> u64
-    ensures { result ≡ next_free free (placed_item_view placed.now) }
+    ensures { result ≡ next_free free placed.now }
 {
     let len = match &placed.1 {
-        Item::Bytes(bytes) => bytes.len() as u64,
+        Item::Bytes(bytes) => bytes.as_slice().len() as u64,
         Item::Address(_, _) => 4,
     };
     u64::from(placed.0) + len.max(1)
@@ -135,19 +142,19 @@ fn free_behind(placed: &(u32, Item), free: u64) -> u64
 /// So many items of an object.
 fn read_items<'a>(
     alloc: Global,
-    strict: bool,
+    start: StartName,
     names: &[Name],
     size: u32,
     count: u32,
     bytes: &'a [u8],
-) -> Result<(Vec<(u32, Item)>, &'a [u8]), FieldError>
-    ensures { Gives (λ x. (map placed_item_view x.0.items, x.1.now)) result (items_at (placed_item_at strict names.now size) next_free count 0 bytes.now) }
+) -> Result<(Items<(u32, Item)>, &'a [u8]), FieldError>
+    ensures { Gives (λ x. (x.0, x.1.now)) result (items_at (placed_item_at start names.now size) next_free count 0 bytes.now) }
 {
-    let mut items = Vec::new(alloc);
+    let mut items = Items::new(alloc);
     let mut rest = bytes;
     let mut free = 0u64;
     for _ in 0..count {
-        let (item, after) = read_placed_item(alloc, strict, names, size, free, rest)?;
+        let (item, after) = read_placed_item(alloc, start, names, size, free, rest)?;
         free = free_behind(&item, free);
         items.push(item)?;
         rest = after;
@@ -157,7 +164,8 @@ fn read_items<'a>(
 
 /// The kind of an object of so many bytes.
 fn read_sized_kind(size: u32, bytes: &[u8]) -> Result<(Option<Kind>, &[u8]), FieldError>
-    ensures { Gives (λ x. (x.0, x.1.now)) result (checked (has_kind_size size) kind_at bytes.now) }
+    ensures found { Gives (λ x. (x.0, x.1.now)) result (checked (has_kind_size size) kind_at bytes.now) }
+    ensures no_memory { IfErr result (λ e. e ≢ FieldError.NoMemory) }
 {
     let (kind, rest) = read_kind(bytes)?;
     match kind {
@@ -168,16 +176,16 @@ fn read_sized_kind(size: u32, bytes: &[u8]) -> Result<(Option<Kind>, &[u8]), Fie
     }
 }
 
-/// What stands behind an object's name. Where that is strict, no item names `$start`.
+/// What stands behind an object's name. Whether an item may name `$start` is told.
 #[tactic(auto, unfolding(crate::specs::Reading::global_body_at))]
 pub fn read_global_body<'a>(
     alloc: Global,
-    strict: bool,
+    start: StartName,
     names: &[Name],
     name: &Name,
     bytes: &'a [u8],
 ) -> Result<(FlowGlobal, &'a [u8]), FieldError>
-    ensures found { Gives (λ x. (global_view x.0, x.1.now)) result (global_body_at strict names.now name.now bytes.now) }
+    ensures found { Gives (λ x. (x.0, x.1.now)) result (global_body_at start names.now name.now bytes.now) }
     ensures named { IfOk result (λ x. x.0.name ≡ name.now) }
 {
     let (size, rest) = read_u32(bytes)?;
@@ -185,7 +193,7 @@ pub fn read_global_body<'a>(
     let (kind, rest) = read_sized_kind(size, rest)?;
     let (volatile, rest) = read_flag(rest)?;
     let (count, rest) = read_u32(rest)?;
-    let (items, rest) = read_items(alloc, strict, names, size, count, rest)?;
+    let (items, rest) = read_items(alloc, start, names, size, count, rest)?;
     let global = FlowGlobal {
         name: name.copy(alloc)?,
         size,
@@ -205,11 +213,11 @@ fn read_global<'a>(
     bytes: &'a [u8],
 ) -> Result<(FlowGlobal, &'a [u8]), FieldError>
     requires { length met.old ≡ length names.now }
-    ensures found { (seen : List (List ℕ)) → Marks names.now seen met.old → Gives (λ x. (global_view x.0, x.1.now)) result (global_at names.now seen bytes.now) }
+    ensures found { (seen : List (List ℕ)) → Marks names.now seen met.old → Gives (λ x. (x.0, x.1.now)) result (global_at names.now seen bytes.now) }
     ensures marked { IfOk result (λ x. (seen : List (List ℕ)) → IsRisingFrom [] names.now → Marks names.now seen met.old → Marks names.now (x.0.name ∷ seen) met.new) }
 {
     let (name, rest) = read_fresh(names, met, bytes)?;
-    read_global_body(alloc, true, names, name, rest)
+    read_global_body(alloc, StartName::Refused, names, name, rest)
 }
 
 /// So many objects.
@@ -219,13 +227,13 @@ pub fn read_globals<'a>(
     met: &mut [bool],
     count: u32,
     bytes: &'a [u8],
-) -> Result<(Vec<FlowGlobal>, &'a [u8]), FieldError>
+) -> Result<(Items<FlowGlobal>, &'a [u8]), FieldError>
     requires count { length met.old ≡ length names.now }
     requires rising { IsRisingFrom [] names.now }
-    ensures found { (seen : List (List ℕ)) → Marks names.now seen met.old → Gives (λ x. (map global_view x.0.items, x.1.now)) result (items_at (global_at names.now) next_global count seen bytes.now) }
-    ensures marked { IfOk result (λ x. (seen : List (List ℕ)) → Marks names.now seen met.old → Marks names.now (seen_after seen (map (λ g. g.name) x.0.items)) met.new) }
+    ensures found { (seen : List (List ℕ)) → Marks names.now seen met.old → Gives (λ x. (x.0, x.1.now)) result (items_at (global_at names.now) next_global count seen bytes.now) }
+    ensures marked { IfOk result (λ x. (seen : List (List ℕ)) → Marks names.now seen met.old → Marks names.now (seen_after seen (map (λ g. g.name) x.0)) met.new) }
 {
-    let mut globals = Vec::new(alloc);
+    let mut globals = Items::new(alloc);
     let mut rest = bytes;
     for _ in 0..count {
         let (global, after) = read_global(alloc, names, met, rest)?;
@@ -271,12 +279,12 @@ pub fn read_declared<'a>(
     met: &mut [bool],
     count: u32,
     bytes: &'a [u8],
-) -> Result<(Vec<(Name, Shape)>, &'a [u8]), FieldError>
+) -> Result<(Items<(Name, Shape)>, &'a [u8]), FieldError>
     requires count { length met.old ≡ length names.now }
     requires rising { IsRisingFrom [] names.now }
-    ensures { (seen : List (List ℕ)) → Marks names.now seen met.old → Gives (λ x. (x.0.items, x.1.now)) result (items_at (declared_at names.now) next_declared count seen bytes.now) }
+    ensures { (seen : List (List ℕ)) → Marks names.now seen met.old → Gives (λ x. (x.0, x.1.now)) result (items_at (declared_at names.now) next_declared count seen bytes.now) }
 {
-    let mut declared = Vec::new(alloc);
+    let mut declared = Items::new(alloc);
     let mut rest = bytes;
     for _ in 0..count {
         let (declaration, after) = read_declaration(alloc, names, met, rest)?;

@@ -1,10 +1,14 @@
 //! The laws of flow files.
 
 ghost use Rattle.std.specs.Prelude.{◌≡◌, ℕ, List};
-ghost use Rattle.pw_flowfile.specs.FlowFile.{Contents, IsFlowFile};
+ghost use Rattle.pw_files.specs.Contents.{value_of};
+ghost use Rattle.pw_files.specs.Faults.{FaultsStay};
+ghost use Rattle.pw_flow.specs.declared.flow.FlowModule.{FlowModule};
+ghost use Rattle.pw_flowfile.specs.FlowFile.{IsFlowFile, kind_of_file};
+ghost use Rattle.pw_flowfile.specs.Reading.{fields_at, flow_file_at};
 
 /// No bytes are the file of two flow graphs, and no flow graph has two files.
 pub fn flow_graphs_and_files_are_one_to_one()
-    ensures one_module { (bytes : List ℕ) (c d : Contents) → IsFlowFile bytes c → IsFlowFile bytes d → c ≡ d }
-    ensures one_file { (bytes others : List ℕ) (c d : Contents) → IsFlowFile bytes c → IsFlowFile others d → c.flow ≡ d.flow → bytes ≡ others }
+    ensures one_module { (bytes : List ℕ) (m n : FlowModule) → IsFlowFile bytes m → IsFlowFile bytes n → m ≡ n }
+    ensures one_file { (bytes others : List ℕ) (m : FlowModule) → IsFlowFile bytes m → IsFlowFile others m → bytes ≡ others }
 {}

@@ -1,6 +1,6 @@
 //! Names that are met once.
 
-ghost use Rattle.std.specs.Prelude.{◌≡◌, ◌∷◌, ℕ, List, [], length, IfOk};
+ghost use Rattle.std.specs.Prelude.{◌≡◌, ◌∷◌, ℕ, List, [], length, IfOk, IfErr, ◌≢◌};
 ghost use Rattle.pw_value.specs.FieldFaults.{Gives};
 ghost use Rattle.pw_value.specs.FieldNames.{IsRisingFrom};
 ghost use Rattle.pw_flowfile.specs.Reading.{fresh_at};
@@ -31,6 +31,7 @@ pub fn read_fresh<'a, 'b>(
     requires { length met.old ≡ length names.now }
     ensures found { (seen : List (List ℕ)) → Marks names.now seen met.old → Gives (λ x. (x.0.now, x.1.now)) result (fresh_at names.now seen bytes.now) }
     ensures marked { IfOk result (λ x. (seen : List (List ℕ)) → IsRisingFrom [] names.now → Marks names.now seen met.old → Marks names.now (x.0.now ∷ seen) met.new) }
+    ensures no_memory { IfErr result (λ e. e ≢ FieldError.NoMemory) }
 {
     let (number, rest) = read_below(names.len(), bytes)?;
     let index = number as usize;

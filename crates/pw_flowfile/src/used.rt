@@ -2,19 +2,22 @@
 
 ghost use Rattle.std.specs.Prelude.{◌≡◌, ◌++◌, ◌∷◌, ℕ, List, [], map, OnOk, IfOk};
 ghost use Rattle.std.specs.List.{flat_map};
-ghost use Rattle.pw_flow.specs.FlowGraph.{placed_item_view, global_view, op_view, block_view, function_view, view, item_names, op_names, names_in_block, names_in_function, names_in_global, global_names, function_names};
-ghost use Rattle.pw_files.specs.Start.{keeps_start};
+ghost use Rattle.pw_flow.specs.FlowGraph.{item_names, op_names, names_in_block, names_in_function, names_in_global, global_names, function_names};
+ghost use Rattle.pw_value.specs.FieldFaults.{Gives};
+ghost use Rattle.pw_files.specs.Start.{start_rule};
+ghost use Rattle.pw_files.specs.Contents.{broken_at};
 ghost use Rattle.pw_flowfile.specs.FlowFile.{all_in_global, all_in_function, names_of};
 
-use pw_files::start::is_start_kept;
+use pw_files::late::check_start;
 use pw_files::used::add_shaped;
 use pw_flow::{Block, FlowFn, FlowGlobal, FlowModule, Item, Op};
 use pw_value::Name;
+use pw_value::fields::FieldError;
 use std::alloc::{AllocError, Global};
 
 /// The name that an operation names.
 fn add_op<'a>(used: &mut Vec<&'a Name>, op: &'a Op) -> Result<(), AllocError>
-    ensures { OnOk result (map (λ name. name.now) used.new.items ≡ map (λ name. name.now) used.old.items ++ op_names (op_view op.now)) }
+    ensures { OnOk result (map (λ name. name.now) used.new.items ≡ map (λ name. name.now) used.old.items ++ op_names op.now) }
 {
     match op {
         Op::AddrGlobal(_, name, _)
@@ -29,7 +32,7 @@ fn add_op<'a>(used: &mut Vec<&'a Name>, op: &'a Op) -> Result<(), AllocError>
 
 /// The names that operations name.
 fn add_ops<'a>(used: &mut Vec<&'a Name>, ops: &'a [Op]) -> Result<(), AllocError>
-    ensures { OnOk result (map (λ name. name.now) used.new.items ≡ map (λ name. name.now) used.old.items ++ flat_map op_names (map op_view ops.now)) }
+    ensures { OnOk result (map (λ name. name.now) used.new.items ≡ map (λ name. name.now) used.old.items ++ flat_map op_names ops.now) }
 {
     for op in ops {
         add_op(used, op)?;
@@ -39,28 +42,28 @@ fn add_ops<'a>(used: &mut Vec<&'a Name>, ops: &'a [Op]) -> Result<(), AllocError
 
 /// The names that blocks name.
 fn add_blocks<'a>(used: &mut Vec<&'a Name>, blocks: &'a [Block]) -> Result<(), AllocError>
-    ensures { OnOk result (map (λ name. name.now) used.new.items ≡ map (λ name. name.now) used.old.items ++ flat_map names_in_block (map block_view blocks.now)) }
+    ensures { OnOk result (map (λ name. name.now) used.new.items ≡ map (λ name. name.now) used.old.items ++ flat_map names_in_block blocks.now) }
 {
     for block in blocks {
-        add_ops(used, &block.ops)?;
+        add_ops(used, block.ops.as_slice())?;
     }
     Ok(())
 }
 
 /// The names of functions, and those that they name.
 fn add_functions<'a>(used: &mut Vec<&'a Name>, functions: &'a [FlowFn]) -> Result<(), AllocError>
-    ensures { OnOk result (map (λ name. name.now) used.new.items ≡ map (λ name. name.now) used.old.items ++ flat_map all_in_function (map function_view functions.now)) }
+    ensures { OnOk result (map (λ name. name.now) used.new.items ≡ map (λ name. name.now) used.old.items ++ flat_map all_in_function functions.now) }
 {
     for function in functions {
         used.push(&function.name)?;
-        add_blocks(used, &function.blocks)?;
+        add_blocks(used, function.blocks.as_slice())?;
     }
     Ok(())
 }
 
 /// The names that items name.
-fn add_items<'a>(used: &mut Vec<&'a Name>, items: &'a [(u32, Item)]) -> Result<(), AllocError>
-    ensures { OnOk result (map (λ name. name.now) used.new.items ≡ map (λ name. name.now) used.old.items ++ flat_map (λ placed. item_names placed.1) (map placed_item_view items.now)) }
+pub fn add_items<'a>(used: &mut Vec<&'a Name>, items: &'a [(u32, Item)]) -> Result<(), AllocError>
+    ensures { OnOk result (map (λ name. name.now) used.new.items ≡ map (λ name. name.now) used.old.items ++ flat_map (λ placed. item_names placed.1) items.now) }
 {
     for (_, item) in items {
         if let Item::Address(name, _) = item {
@@ -70,35 +73,45 @@ fn add_items<'a>(used: &mut Vec<&'a Name>, items: &'a [(u32, Item)]) -> Result<(
     Ok(())
 }
 
+/// The name of an object, and those that it names.
+fn add_global<'a>(used: &mut Vec<&'a Name>, global: &'a FlowGlobal) -> Result<(), AllocError>
+    ensures { OnOk result (map (λ name. name.now) used.new.items ≡ map (λ name. name.now) used.old.items ++ all_in_global global.now) }
+{
+    used.push(&global.name)?;
+    add_items(used, global.items.as_slice())
+}
+
 /// The names of objects, and those that they name.
-fn add_globals<'a>(used: &mut Vec<&'a Name>, globals: &'a [FlowGlobal]) -> Result<(), AllocError>
-    ensures { OnOk result (map (λ name. name.now) used.new.items ≡ map (λ name. name.now) used.old.items ++ flat_map all_in_global (map global_view globals.now)) }
+pub fn add_globals<'a>(
+    used: &mut Vec<&'a Name>,
+    globals: &'a [FlowGlobal],
+) -> Result<(), AllocError>
+    ensures { OnOk result (map (λ name. name.now) used.new.items ≡ map (λ name. name.now) used.old.items ++ flat_map all_in_global globals.now) }
 {
     for global in globals {
-        used.push(&global.name)?;
-        add_items(used, &global.items)?;
+        add_global(used, global)?;
     }
     Ok(())
 }
 
 /// Every name of a module, in the order of the file.
 pub fn used_names(alloc: Global, flow: &FlowModule) -> Result<Vec<&Name>, AllocError>
-    ensures { IfOk result (λ v. map (λ name. name.now) v.items ≡ names_of (view flow.now)) }
+    ensures { IfOk result (λ v. map (λ name. name.now) v.items ≡ names_of flow.now) }
 {
     let mut used = Vec::new(alloc);
     used.push(&flow.name)?;
-    add_globals(&mut used, &flow.globals)?;
-    add_shaped(&mut used, &flow.declared)?;
-    add_functions(&mut used, &flow.functions)?;
+    add_globals(&mut used, flow.globals.as_slice())?;
+    add_shaped(&mut used, flow.declared.as_slice())?;
+    add_functions(&mut used, flow.functions.as_slice())?;
     Ok(used)
 }
 
 /// The names of objects alone.
-fn add_global_names<'a>(
+pub fn add_global_names<'a>(
     used: &mut Vec<&'a Name>,
     globals: &'a [FlowGlobal],
 ) -> Result<(), AllocError>
-    ensures { OnOk result (map (λ name. name.now) used.new.items ≡ map (λ name. name.now) used.old.items ++ map (λ g. g.name) (map global_view globals.now)) }
+    ensures { OnOk result (map (λ name. name.now) used.new.items ≡ map (λ name. name.now) used.old.items ++ map (λ g. g.name) globals.now) }
 {
     for global in globals {
         used.push(&global.name)?;
@@ -111,7 +124,7 @@ fn add_function_names<'a>(
     used: &mut Vec<&'a Name>,
     functions: &'a [FlowFn],
 ) -> Result<(), AllocError>
-    ensures { OnOk result (map (λ name. name.now) used.new.items ≡ map (λ name. name.now) used.old.items ++ map (λ f. f.name) (map function_view functions.now)) }
+    ensures { OnOk result (map (λ name. name.now) used.new.items ≡ map (λ name. name.now) used.old.items ++ map (λ f. f.name) functions.now) }
 {
     for function in functions {
         used.push(&function.name)?;
@@ -119,14 +132,17 @@ fn add_function_names<'a>(
     Ok(())
 }
 
-/// Whether the functions include `$start` exactly where they include `main`, and never twice, and no object
-/// is `$start`.
-pub fn is_start_beside_main(alloc: Global, flow: &FlowModule) -> Result<bool, AllocError>
-    ensures { IfOk result (λ kept. kept ≡ keeps_start (function_names (view flow.now)) (global_names (view flow.now))) }
+/// The rule of `$start`, where so many bytes are left from the count of the functions on.
+pub fn check_start_beside_main(
+    alloc: Global,
+    flow: &FlowModule,
+    place: usize,
+) -> Result<(), FieldError>
+    ensures { Gives (λ x. x) result (broken_at (start_rule (function_names flow.now) (global_names flow.now) place)) }
 {
     let mut functions = Vec::new(alloc);
-    add_function_names(&mut functions, &flow.functions)?;
+    add_function_names(&mut functions, flow.functions.as_slice())?;
     let mut globals = Vec::new(alloc);
-    add_global_names(&mut globals, &flow.globals)?;
-    Ok(is_start_kept(&functions, &globals))
+    add_global_names(&mut globals, flow.globals.as_slice())?;
+    check_start(&functions, &globals, place)
 }

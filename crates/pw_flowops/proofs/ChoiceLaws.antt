@@ -14,7 +14,7 @@ use Rattle.pw_flowops.specs.declared.codes.OpCode.{OpCode}
 use Rattle.pw_flowops.specs.declared.codes.OpCode.TheVariants as code
 use Rattle.pw_flowops.specs.declared.codes.EndCode.{EndCode}
 use Rattle.pw_flowops.specs.declared.codes.EndCode.TheVariants as end_code
-use Rattle.pw_flowops.specs.Operations.{un_number, bin_number, ext_number}
+use Rattle.pw_flowops.specs.Operations.{un_number, bin_number, ext_number, code_number, end_number}
 use Rattle.pw_flowops.specs.Reading.{chosen, one_of_at, un_kinds, bin_kinds, ext_kinds, op_codes, end_codes}
 
 abbrev pub Any : {X : Type 0} → X → Type 0
@@ -95,23 +95,6 @@ ext_back ext.U16 = refl
 pub ext_spells : Spells (λ k. u8 (ext_number k)) Any (one_of_at ext_kinds)
 ext_spells = one_spells ext_number ext_kinds (refl, (refl, (refl, (refl, tt)))) ext_back
 
-abbrev pub code_number : OpCode → ℕ
-code_number code.Const = 0
-code_number code.Copy = 1
-code_number code.Un = 2
-code_number code.Bin = 3
-code_number code.Ext = 4
-code_number code.AddrGlobal = 5
-code_number code.AddrSlot = 6
-code_number code.AddrFn = 7
-code_number code.LoadG = 8
-code_number code.StoreG = 9
-code_number code.Load = 10
-code_number code.Store = 11
-code_number code.Move = 12
-code_number code.Call = 13
-code_number code.CallInd = 14
-
 code_back : (c : OpCode) → slice_get op_codes (code_number c) ≡ Some c
 code_back code.Const = refl
 code_back code.Copy = refl
@@ -131,11 +114,6 @@ code_back code.CallInd = refl
 
 pub code_spells : Spells (λ c. u8 (code_number c)) Any (one_of_at op_codes)
 code_spells = one_spells code_number op_codes (refl, (refl, (refl, (refl, (refl, (refl, (refl, (refl, (refl, (refl, (refl, (refl, (refl, (refl, (refl, tt))))))))))))))) code_back
-
-abbrev pub end_number : EndCode → ℕ
-end_number end_code.Jump = 0
-end_number end_code.Branch = 1
-end_number end_code.Return = 2
 
 end_back : (c : EndCode) → slice_get end_codes (end_number c) ≡ Some c
 end_back end_code.Jump = refl

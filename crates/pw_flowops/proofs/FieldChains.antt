@@ -29,7 +29,7 @@ takes_done P x holds = record {
 pub takes_here : {X : Type 0} (P : List ℕ → List ℕ → X → Type 0) (others : ℕ → List ℕ → Result (X × List ℕ) ℕ) → ((left : ℕ) → Takes P (others left)) → Takes P (here >>= others)
 takes_here P others laws = record { run = λ bytes x rest fits e. (laws (length bytes)).run bytes x rest fits e }
 
-ended_is : {X : Type 0} (late : Option ℕ) (x y : X) (bytes rest : List ℕ) → ended late x bytes ≡ Ok (y, rest) → (bytes ≡ []) × (late ≡ None) × (x ≡ y) × (rest ≡ [])
+pub ended_is : {X : Type 0} (late : Option ℕ) (x y : X) (bytes rest : List ℕ) → ended late x bytes ≡ Ok (y, rest) → (bytes ≡ []) × (late ≡ None) × (x ≡ y) × (rest ≡ [])
 ended_is late x y (b ∷ bytes) rest e = absurd (not_found _ y rest e)
 ended_is (Some left) x y [] rest e = absurd (not_found left y rest e)
 ended_is None x y [] rest e = let p = found_is x y [] rest e in (refl, refl, p.0, sym p.1)

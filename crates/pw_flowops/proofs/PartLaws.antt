@@ -1,21 +1,22 @@
 -- The small parts of operations: indices, names, results, arguments, and what is copied.
-use Rattle.std.proofs.Common.{◌≡◌, ◌≢◌, ℕ, ◌%◌, ◌^◌, ◌<◌, ◌≤◌, Bool, true, false, cond, List, [], ◌++◌, length, Result, refl, sym, ap, ◌∙◌, arith, lit<, inl, inr, ◌⊎◌}
-use Rattle.std.specs.Prelude.{Option, Some, None, IsTrue, Contains, nat_le, nat_lt, ◌==◌, ◌&&◌, ◌||◌, not}
+use Rattle.std.proofs.Common.{◌≡◌, ℕ, ◌%◌, ◌^◌, ◌<◌, ◌≤◌, Bool, true, false, cond, List, [], ◌++◌, length, Result, refl, sym, ap, ◌∙◌, arith, lit<, inl, inr, ◌⊎◌}
+use Rattle.std.specs.Prelude.{Option, Some, None, IsTrue, Contains, nat_le, nat_lt, ◌==◌, ◌&&◌, ◌||◌}
 use Rattle.std.specs.List.{flat_map, AllByRecursion}
 use Rattle.std.specs.Cmp.{first_so, second_so}
 use Rattle.std.specs.Cmp.Derive.{both_true}
-use Rattle.std.specs.Str.{bytes_eq}
 use Rattle.std.proofs.lemmas.Bool.{eqb-true, eq-eqb, leb-true, le-leb, ltb-true, lt-ltb}
-use Rattle.std.proofs.lemmas.Slice.Eq.{bytes_eq-Decides}
 use Rattle.pw_value.specs.Fields.{checked, u32_at, repeated, u32, FitsU32}
 use Rattle.pw_value.specs.FieldLaws.{Spells}
 use Rattle.pw_value.specs.FieldNames.{name_at, name_index, IsNameTable}
 use Rattle.pw_value.proofs.FieldLaws.{checked_spells, u32_spells, mapped_spells}
 use Rattle.pw_value.proofs.FieldSteps.{repeated_spells}
 use Rattle.pw_value.proofs.NameLaws.{name_spells}
-use Rattle.pw_files.specs.Names.{may_stand}
-use Rattle.pw_flow.specs.ValidFlow.{start_name, IsResult, AreArguments, IsUnit, IsMoved}
-use Rattle.pw_flowops.specs.Operations.{result, arguments, Allowed, Named}
+use Rattle.pw_value.specs.Limits.{size_limit, parameter_limit}
+use Rattle.pw_value.specs.declared.program_names.StartName.{StartName}
+use Rattle.pw_value.specs.ProgramNames.{may_stand}
+use Rattle.pw_value.proofs.StartLaws.{place_forth, place_back}
+use Rattle.pw_flow.specs.ValidFlow.{IsResult, AreArguments, IsUnit, IsMoved}
+use Rattle.pw_flowops.specs.Operations.{result, arguments, Named}
 use Rattle.pw_flowops.specs.Reading.{named_at, below_at, as_result, result_at, arguments_at, is_unit, is_whole, size_and_unit_at, moved_at}
 use Rattle.pw_flowops.proofs.FieldChains.{takes_field, takes_done, again_field, chained}
 
@@ -27,13 +28,6 @@ ruled_spells spelling FitsField Fits read laws to from = record {
 }
 
 -- ---- tests
-
-pub not_true : (b : Bool) → not b ≡ true → b ≡ false
-not_true true e = absurd cc
-not_true false e = refl
-
-pub true_not : (b : Bool) → b ≡ false → not b ≡ true
-true_not b e = rw e refl
 
 pub either_true : (a b : Bool) → (a || b) ≡ true → (a ≡ true) ⊎ (b ≡ true)
 either_true true b e = inl refl
@@ -52,22 +46,10 @@ pub below_spells : (count : ℕ) → count ≤ 2 ^ 32 → Spells u32 (λ n. n < 
 below_spells count small = ruled_spells u32 _ (λ n. n < count) (below_at count) (checked_spells u32 FitsU32 u32_at (λ n. nat_lt n count) u32_spells)
     (λ n h. ltb-true _ _ h.1) (λ n h. (omega (arith, h), lt-ltb _ _ h))
 
-allowed_to : (strict : Bool) (name : List ℕ) → may_stand (not strict) name ≡ true → Allowed strict name
-allowed_to false name e = tt
-allowed_to true name e = λ same. let t : bytes_eq name start_name ≡ true = (bytes_eq-Decides name start_name).1 same in let f : bytes_eq name start_name ≡ false = not_true _ e in absurd cc
-
-unequal : (name other : List ℕ) (b : Bool) → bytes_eq name other ≡ b → name ≢ other → b ≡ false
-unequal name other true is h = absurd (h ((bytes_eq-Decides name other).0 is))
-unequal name other false is h = refl
-
-allowed_from : (strict : Bool) (name : List ℕ) → Allowed strict name → may_stand (not strict) name ≡ true
-allowed_from false name h = refl
-allowed_from true name h = true_not _ (unequal name start_name (bytes_eq name start_name) refl h)
-
-pub named_spells : (strict : Bool) (names : List (List ℕ)) → IsNameTable names → Spells (name_index names) (Named strict names) (named_at strict names)
+pub named_spells : (start : StartName) (names : List (List ℕ)) → IsNameTable names → Spells (name_index names) (Named start names) (named_at start names)
 unfolding named_at
-named_spells strict names table = ruled_spells (name_index names) _ (Named strict names) _ (checked_spells (name_index names) (Contains names) (name_at names) (λ name. may_stand (not strict) name) (name_spells names table))
-    (λ name h. (h.0, allowed_to strict name h.1)) (λ name h. (h.0, allowed_from strict name h.1))
+named_spells start names table = ruled_spells (name_index names) _ (Named start names) _ (checked_spells (name_index names) (Contains names) (name_at names) (may_stand start) (name_spells names table))
+    (λ name h. (h.0, place_forth start name h.1)) (λ name h. (h.0, place_back start name h.1))
 
 -- ---- results and arguments
 
@@ -107,16 +89,16 @@ result_spells temps small = respelled (λ o. u32 (back_from o)) result (IsResult
     (λ t h. result_forth temps t (t == 4294967295) refl h.1)
     (λ o h. result_back temps small o h))
 
-few_spells : Spells u32 (λ n. n ≤ 127) (checked (λ n. nat_le n 127) u32_at)
-few_spells = ruled_spells u32 _ (λ n. n ≤ 127) _ (checked_spells u32 FitsU32 u32_at (λ n. nat_le n 127) u32_spells) (λ n h. leb-true _ _ h.1) (λ n h. (omega (arith, h), le-leb _ _ h))
+few_spells : Spells u32 (λ n. n ≤ parameter_limit) (checked (λ n. nat_le n parameter_limit) u32_at)
+few_spells = ruled_spells u32 _ (λ n. n ≤ parameter_limit) _ (checked_spells u32 FitsU32 u32_at (λ n. nat_le n parameter_limit) u32_spells) (λ n h. leb-true _ _ h.1) (λ n h. (omega (arith, h), le-leb _ _ h))
 
 pub arguments_spells : (temps : ℕ) → temps < 2 ^ 31 → Spells arguments (AreArguments temps) (arguments_at temps)
 unfolding arguments_at
 arguments_spells temps small = chained arguments (AreArguments temps) _
-    (takes_field _ u32 (λ n. n ≤ 127) (checked (λ n. nat_le n 127) u32_at) _ few_spells
+    (takes_field _ u32 (λ n. n ≤ parameter_limit) (checked (λ n. nat_le n parameter_limit) u32_at) _ few_spells
     (λ count few. takes_field _ (flat_map u32) (λ args. (length args ≡ count) × AllByRecursion (λ n. n < temps) args) (repeated (below_at temps) count) _ (repeated_spells u32 (λ n. n < temps) (below_at temps) (below_spells temps (omega arith)) count)
     (λ args fit. takes_done _ args (λ rest. (ap (λ n. u32 n ++ (flat_map u32 args ++ [])) (sym fit.0), record { few = omega (arith, fit.0, few); below = fit.1 })))))
-    (λ args rest h. again_field u32 (λ n. n ≤ 127) (checked (λ n. nat_le n 127) u32_at) _ few_spells (length args) h.few (flat_map u32 args ++ []) rest args
+    (λ args rest h. again_field u32 (λ n. n ≤ parameter_limit) (checked (λ n. nat_le n parameter_limit) u32_at) _ few_spells (length args) h.few (flat_map u32 args ++ []) rest args
     (again_field (flat_map u32) (λ xs. (length xs ≡ length args) × AllByRecursion (λ n. n < temps) xs) (repeated (below_at temps) (length args)) _ (repeated_spells u32 (λ n. n < temps) (below_at temps) (below_spells temps (omega arith)) (length args)) args (refl, h.below) [] rest args refl))
 
 -- ---- what is copied
@@ -152,8 +134,8 @@ size_and_unit_spells = chained moved_text (λ m. FitsU32 m.0 × IsUnit m.1) _
 
 moved_forth : (m : ℕ × ℕ) → IsUnit m.1 → is_whole m ≡ true → IsMoved m.0 m.1
 moved_forth m unit e =
-    let rest = second_so (m.0 % m.1 == 0) (nat_lt 0 m.0 && nat_le m.0 1048576) e in
-    record { units = unit; whole = eqb-true _ _ (first_so (m.0 % m.1 == 0) (nat_lt 0 m.0 && nat_le m.0 1048576) e); positive = ltb-true _ _ (first_so (nat_lt 0 m.0) (nat_le m.0 1048576) rest); few = leb-true _ _ (second_so (nat_lt 0 m.0) (nat_le m.0 1048576) rest) }
+    let rest = second_so (m.0 % m.1 == 0) (nat_lt 0 m.0 && nat_le m.0 size_limit) e in
+    record { units = unit; whole = eqb-true _ _ (first_so (m.0 % m.1 == 0) (nat_lt 0 m.0 && nat_le m.0 size_limit) e); positive = ltb-true _ _ (first_so (nat_lt 0 m.0) (nat_le m.0 size_limit) rest); few = leb-true _ _ (second_so (nat_lt 0 m.0) (nat_le m.0 size_limit) rest) }
 
 pub moved_spells : Spells moved_text (λ m. IsMoved m.0 m.1) moved_at
 unfolding moved_at

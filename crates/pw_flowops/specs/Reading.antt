@@ -1,10 +1,13 @@
 -- Reading the operations of a flow graph and the ends of its blocks from left to right, with the first fault
 -- that is met.
-use Rattle.std.specs.Prelude.{ℕ, ◌%◌, List, [], ◌∷◌, length, Result, Ok, Err, Option, Some, None, Bool, true, nat_le, nat_lt, ◌==◌, ◌&&◌, ◌||◌, if◌then◌else◌, slice_get, not}
+use Rattle.std.specs.Prelude.{ℕ, ◌%◌, List, [], ◌∷◌, length, Result, Ok, Err, Option, Some, None, Bool, nat_le, nat_lt, ◌==◌, ◌&&◌, ◌||◌, if◌then◌else◌, slice_get}
 use Rattle.pw_value.specs.Fields.{◌>>=◌, done, checked, u32_at, text_at, repeated}
 use Rattle.pw_value.specs.FieldNames.{name_at}
 use Rattle.pw_files.specs.Kinds.{scalar_at}
-use Rattle.pw_files.specs.Names.{may_stand}
+use Rattle.pw_value.specs.Limits.{size_limit, parameter_limit}
+use Rattle.pw_value.specs.declared.program_names.StartName.{StartName}
+use Rattle.pw_value.specs.declared.program_names.StartName.TheVariants.{Refused}
+use Rattle.pw_value.specs.ProgramNames.{may_stand}
 use Rattle.pw_flow.specs.declared.flow.UnKind.{UnKind}
 use Rattle.pw_flow.specs.declared.flow.UnKind.TheVariants as un
 use Rattle.pw_flow.specs.declared.flow.BinKind.{BinKind}
@@ -13,7 +16,8 @@ use Rattle.pw_flow.specs.declared.flow.ExtKind.{ExtKind}
 use Rattle.pw_flow.specs.declared.flow.ExtKind.TheVariants as ext
 use Rattle.pw_flow.specs.declared.flow.End.{End}
 use Rattle.pw_flow.specs.declared.flow.End.TheVariants as end
-use Rattle.pw_flow.specs.FlowGraph.{OpValue, Const, Copy, Un, Bin, Ext, AddrGlobal, AddrSlot, AddrFn, LoadG, StoreG, Load, Store, Move, Call, CallInd}
+use Rattle.pw_flow.specs.declared.flow.Op.{Op}
+use Rattle.pw_flow.specs.declared.flow.Op.TheVariants.{Const, Copy, Un, Bin, Ext, AddrGlobal, AddrSlot, AddrFn, LoadG, StoreG, Load, Store, Move, Call, CallInd}
 use Rattle.pw_flowops.specs.declared.codes.OpCode.{OpCode}
 use Rattle.pw_flowops.specs.declared.codes.OpCode.TheVariants as code
 use Rattle.pw_flowops.specs.declared.codes.EndCode.{EndCode}
@@ -46,9 +50,9 @@ end_codes = end_code.Jump ∷ end_code.Branch ∷ end_code.Return ∷ []
 
 -- ---- names
 
--- a name that may be named: where that is strict, it is not $start
-unfoldable pub named_at : Bool → List (List ℕ) → List ℕ → Result (List ℕ × List ℕ) ℕ
-named_at strict names = checked (λ name. may_stand (not strict) name) (name_at names)
+-- a name of the table that may be named
+unfoldable pub named_at : StartName → List (List ℕ) → List ℕ → Result (List ℕ × List ℕ) ℕ
+named_at start names = checked (may_stand start) (name_at names)
 
 -- ---- operations
 
@@ -65,7 +69,7 @@ result_at temps = do
 
 unfoldable pub arguments_at : ℕ → List ℕ → Result (List ℕ × List ℕ) ℕ
 arguments_at temps = do
-  count ← checked (λ n. nat_le n 127) u32_at
+  count ← checked (λ n. nat_le n parameter_limit) u32_at
   args ← repeated (below_at temps) count
   done args
 
@@ -73,7 +77,7 @@ abbrev pub is_unit : ℕ → Bool
 is_unit unit = (unit == 1) || ((unit == 2) || (unit == 4))
 
 abbrev pub is_whole : ℕ × ℕ → Bool
-is_whole moved = (moved.0 % moved.1 == 0) && (nat_lt 0 moved.0 && nat_le moved.0 1048576)
+is_whole moved = (moved.0 % moved.1 == 0) && (nat_lt 0 moved.0 && nat_le moved.0 size_limit)
 
 unfoldable pub size_and_unit_at : List ℕ → Result ((ℕ × ℕ) × List ℕ) ℕ
 size_and_unit_at = do
@@ -86,7 +90,7 @@ unfoldable pub moved_at : List ℕ → Result ((ℕ × ℕ) × List ℕ) ℕ
 moved_at = checked is_whole size_and_unit_at
 
 -- what stands behind an operation's byte
-unfoldable pub operands_at : List (List ℕ) → ℕ → ℕ → OpCode → List ℕ → Result (OpValue × List ℕ) ℕ
+unfoldable pub operands_at : List (List ℕ) → ℕ → ℕ → OpCode → List ℕ → Result (Op × List ℕ) ℕ
 operands_at names temps slots code.Const = do
   t ← below_at temps
   n ← u32_at
@@ -113,7 +117,7 @@ operands_at names temps slots code.Ext = do
   done (Ext k t a)
 operands_at names temps slots code.AddrGlobal = do
   t ← below_at temps
-  g ← named_at true names
+  g ← named_at Refused names
   n ← u32_at
   done (AddrGlobal t g n)
 operands_at names temps slots code.AddrSlot = do
@@ -122,16 +126,16 @@ operands_at names temps slots code.AddrSlot = do
   done (AddrSlot t s)
 operands_at names temps slots code.AddrFn = do
   t ← below_at temps
-  f ← named_at true names
+  f ← named_at Refused names
   done (AddrFn t f)
 operands_at names temps slots code.LoadG = do
   k ← scalar_at
   t ← below_at temps
-  g ← named_at true names
+  g ← named_at Refused names
   done (LoadG t g k)
 operands_at names temps slots code.StoreG = do
   k ← scalar_at
-  g ← named_at true names
+  g ← named_at Refused names
   a ← below_at temps
   done (StoreG g a k)
 operands_at names temps slots code.Load = do
@@ -151,7 +155,7 @@ operands_at names temps slots code.Move = do
   done (Move a b moved.0 moved.1)
 operands_at names temps slots code.Call = do
   t ← result_at temps
-  f ← named_at true names
+  f ← named_at Refused names
   args ← arguments_at temps
   done (Call t f args)
 operands_at names temps slots code.CallInd = do
@@ -161,7 +165,7 @@ operands_at names temps slots code.CallInd = do
   args ← arguments_at temps
   done (CallInd t a shape args)
 
-unfoldable pub op_at : List (List ℕ) → ℕ → ℕ → List ℕ → Result (OpValue × List ℕ) ℕ
+unfoldable pub op_at : List (List ℕ) → ℕ → ℕ → List ℕ → Result (Op × List ℕ) ℕ
 op_at names temps slots = one_of_at op_codes >>= λ code. operands_at names temps slots code
 
 -- ---- ends of blocks

@@ -1,6 +1,6 @@
 //! The ends of blocks.
 
-ghost use Rattle.std.specs.Prelude.{◌≡◌, ◌++◌, OnOk};
+ghost use Rattle.std.specs.Prelude.{◌≡◌, ◌≢◌, ◌++◌, OnOk, IfErr};
 ghost use Rattle.pw_value.specs.FieldFaults.{Gives};
 ghost use Rattle.pw_flowops.specs.Operations.{ending as ending_text};
 ghost use Rattle.pw_flowops.specs.Reading.{targets_at, end_at};
@@ -22,7 +22,8 @@ fn read_targets(
     code: EndCode,
     bytes: &[u8],
 ) -> Result<(End, &[u8]), FieldError>
-    ensures { Gives (λ x. (x.0, x.1.now)) result (targets_at temps blocks code bytes.now) }
+    ensures found { Gives (λ x. (x.0, x.1.now)) result (targets_at temps blocks code bytes.now) }
+    ensures no_memory { IfErr result (λ e. e ≢ FieldError.NoMemory) }
 {
     match code {
         EndCode::Jump => {
@@ -45,7 +46,8 @@ fn read_targets(
 /// Where a block goes on.
 #[tactic(auto, unfolding(crate::specs::Reading::end_at))]
 pub fn read_end(temps: u32, blocks: u32, bytes: &[u8]) -> Result<(End, &[u8]), FieldError>
-    ensures { Gives (λ x. (x.0, x.1.now)) result (end_at temps blocks bytes.now) }
+    ensures found { Gives (λ x. (x.0, x.1.now)) result (end_at temps blocks bytes.now) }
+    ensures no_memory { IfErr result (λ e. e ≢ FieldError.NoMemory) }
 {
     let (code, rest) = read_end_code(bytes)?;
     read_targets(temps, blocks, code, rest)
@@ -57,17 +59,17 @@ pub fn push_end(out: &mut Vec<u8>, end: End) -> Result<(), AllocError>
 {
     match end {
         End::Jump(b) => {
-            push_u8(out, 0)?;
+            push_u8(out, EndCode::Jump as u8)?;
             push_u32(out, b)
         }
         End::Branch(a, b, c) => {
-            push_u8(out, 1)?;
+            push_u8(out, EndCode::Branch as u8)?;
             push_u32(out, a)?;
             push_u32(out, b)?;
             push_u32(out, c)
         }
         End::Return(a) => {
-            push_u8(out, 2)?;
+            push_u8(out, EndCode::Return as u8)?;
             push_result(out, a)
         }
     }

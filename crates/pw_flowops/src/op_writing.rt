@@ -1,12 +1,14 @@
 //! Writing operations.
 
-ghost use Rattle.std.specs.Prelude.{◌≡◌, ◌++◌, ℕ, List, [], map, OnOk, Contains, Option, None, Some};
+ghost use Rattle.std.specs.Prelude.{◌≡◌, ◌++◌, ℕ, List, [], OnOk, Contains, Option, None, Some};
 ghost use Rattle.std.specs.List.{flat_map, AllByRecursion};
 ghost use Rattle.pw_value.specs.Fields.{u32};
 ghost use Rattle.pw_value.specs.FieldNames.{IsNameTable};
-ghost use Rattle.pw_flow.specs.FlowGraph.{Const, Copy, Un, Bin, Ext, AddrGlobal, AddrSlot, AddrFn, LoadG, StoreG, Load, Store, Move, Call, CallInd, op_view, op_names};
-ghost use Rattle.pw_flowops.specs.Operations.{un_number, bin_number, ext_number, result as result_text, arguments, op as op_text};
+ghost use Rattle.pw_flow.specs.declared.flow.Op.TheVariants.{Const, Copy, Un, Bin, Ext, AddrGlobal, AddrSlot, AddrFn, LoadG, StoreG, Load, Store, Move, Call, CallInd};
+ghost use Rattle.pw_flow.specs.FlowGraph.{op_names};
+ghost use Rattle.pw_flowops.specs.Operations.{result as result_text, arguments, op as op_text};
 
+use crate::codes::OpCode;
 use crate::parts::ABSENT;
 use pw_files::kinds::push_scalar;
 use pw_files::writing::{push_bytes, push_count};
@@ -44,60 +46,11 @@ pub fn push_result(out: &mut Vec<u8>, t: Option<u32>) -> Result<(), AllocError>
     }
 }
 
-/// The byte of an operation on one number.
-fn un_byte(kind: UnKind) -> u8
-    ensures { result ≡ un_number kind }
-{
-    match kind {
-        UnKind::Neg => 0,
-        UnKind::Not => 1,
-    }
-}
-
-/// The byte of an operation on two numbers.
-fn bin_byte(kind: BinKind) -> u8
-    ensures { result ≡ bin_number kind }
-{
-    match kind {
-        BinKind::Add => 0,
-        BinKind::Sub => 1,
-        BinKind::And => 2,
-        BinKind::Or => 3,
-        BinKind::Xor => 4,
-        BinKind::Mul => 5,
-        BinKind::DivS => 6,
-        BinKind::DivU => 7,
-        BinKind::RemS => 8,
-        BinKind::RemU => 9,
-        BinKind::Shl => 10,
-        BinKind::ShrS => 11,
-        BinKind::ShrU => 12,
-        BinKind::Eq => 13,
-        BinKind::Ne => 14,
-        BinKind::LtS => 15,
-        BinKind::LeS => 16,
-        BinKind::LtU => 17,
-        BinKind::LeU => 18,
-    }
-}
-
-/// The byte of an extension.
-fn ext_byte(kind: ExtKind) -> u8
-    ensures { result ≡ ext_number kind }
-{
-    match kind {
-        ExtKind::S8 => 0,
-        ExtKind::U8 => 1,
-        ExtKind::S16 => 2,
-        ExtKind::U16 => 3,
-    }
-}
-
 /// The operation Const.
 fn push_const(out: &mut Vec<u8>, t: u32, n: u32) -> Result<(), AllocError>
     ensures { OnOk result (out.new.items ≡ out.old.items ++ op_text [] (Const t n)) }
 {
-    push_u8(out, 0)?;
+    push_u8(out, OpCode::Const as u8)?;
     push_u32(out, t)?;
     push_u32(out, n)?;
     Ok(())
@@ -107,7 +60,7 @@ fn push_const(out: &mut Vec<u8>, t: u32, n: u32) -> Result<(), AllocError>
 fn push_copy(out: &mut Vec<u8>, t: u32, a: u32) -> Result<(), AllocError>
     ensures { OnOk result (out.new.items ≡ out.old.items ++ op_text [] (Copy t a)) }
 {
-    push_u8(out, 1)?;
+    push_u8(out, OpCode::Copy as u8)?;
     push_u32(out, t)?;
     push_u32(out, a)?;
     Ok(())
@@ -117,8 +70,8 @@ fn push_copy(out: &mut Vec<u8>, t: u32, a: u32) -> Result<(), AllocError>
 fn push_un(out: &mut Vec<u8>, k: UnKind, t: u32, a: u32) -> Result<(), AllocError>
     ensures { OnOk result (out.new.items ≡ out.old.items ++ op_text [] (Un k t a)) }
 {
-    push_u8(out, 2)?;
-    push_u8(out, un_byte(k))?;
+    push_u8(out, OpCode::Un as u8)?;
+    push_u8(out, k as u8)?;
     push_u32(out, t)?;
     push_u32(out, a)?;
     Ok(())
@@ -128,8 +81,8 @@ fn push_un(out: &mut Vec<u8>, k: UnKind, t: u32, a: u32) -> Result<(), AllocErro
 fn push_bin(out: &mut Vec<u8>, k: BinKind, t: u32, a: u32, b: u32) -> Result<(), AllocError>
     ensures { OnOk result (out.new.items ≡ out.old.items ++ op_text [] (Bin k t a b)) }
 {
-    push_u8(out, 3)?;
-    push_u8(out, bin_byte(k))?;
+    push_u8(out, OpCode::Bin as u8)?;
+    push_u8(out, k as u8)?;
     push_u32(out, t)?;
     push_u32(out, a)?;
     push_u32(out, b)?;
@@ -140,8 +93,8 @@ fn push_bin(out: &mut Vec<u8>, k: BinKind, t: u32, a: u32, b: u32) -> Result<(),
 fn push_ext(out: &mut Vec<u8>, k: ExtKind, t: u32, a: u32) -> Result<(), AllocError>
     ensures { OnOk result (out.new.items ≡ out.old.items ++ op_text [] (Ext k t a)) }
 {
-    push_u8(out, 4)?;
-    push_u8(out, ext_byte(k))?;
+    push_u8(out, OpCode::Ext as u8)?;
+    push_u8(out, k as u8)?;
     push_u32(out, t)?;
     push_u32(out, a)?;
     Ok(())
@@ -159,7 +112,7 @@ fn push_addr_global(
     requires stands { Contains names.now g.now }
     ensures { OnOk result (out.new.items ≡ out.old.items ++ op_text names.now (AddrGlobal t g.now n)) }
 {
-    push_u8(out, 5)?;
+    push_u8(out, OpCode::AddrGlobal as u8)?;
     push_u32(out, t)?;
     push_name(out, names, g)?;
     push_u32(out, n)?;
@@ -170,7 +123,7 @@ fn push_addr_global(
 fn push_addr_slot(out: &mut Vec<u8>, t: u32, s: u32) -> Result<(), AllocError>
     ensures { OnOk result (out.new.items ≡ out.old.items ++ op_text [] (AddrSlot t s)) }
 {
-    push_u8(out, 6)?;
+    push_u8(out, OpCode::AddrSlot as u8)?;
     push_u32(out, t)?;
     push_u32(out, s)?;
     Ok(())
@@ -182,7 +135,7 @@ fn push_addr_fn(out: &mut Vec<u8>, names: &[Name], t: u32, f: &Name) -> Result<(
     requires stands { Contains names.now f.now }
     ensures { OnOk result (out.new.items ≡ out.old.items ++ op_text names.now (AddrFn t f.now)) }
 {
-    push_u8(out, 7)?;
+    push_u8(out, OpCode::AddrFn as u8)?;
     push_u32(out, t)?;
     push_name(out, names, f)?;
     Ok(())
@@ -200,7 +153,7 @@ fn push_load_g(
     requires stands { Contains names.now g.now }
     ensures { OnOk result (out.new.items ≡ out.old.items ++ op_text names.now (LoadG t g.now k)) }
 {
-    push_u8(out, 8)?;
+    push_u8(out, OpCode::LoadG as u8)?;
     push_scalar(out, k)?;
     push_u32(out, t)?;
     push_name(out, names, g)?;
@@ -219,7 +172,7 @@ fn push_store_g(
     requires stands { Contains names.now g.now }
     ensures { OnOk result (out.new.items ≡ out.old.items ++ op_text names.now (StoreG g.now a k)) }
 {
-    push_u8(out, 9)?;
+    push_u8(out, OpCode::StoreG as u8)?;
     push_scalar(out, k)?;
     push_name(out, names, g)?;
     push_u32(out, a)?;
@@ -230,7 +183,7 @@ fn push_store_g(
 fn push_load(out: &mut Vec<u8>, k: Kind, t: u32, a: u32) -> Result<(), AllocError>
     ensures { OnOk result (out.new.items ≡ out.old.items ++ op_text [] (Load k t a)) }
 {
-    push_u8(out, 10)?;
+    push_u8(out, OpCode::Load as u8)?;
     push_scalar(out, k)?;
     push_u32(out, t)?;
     push_u32(out, a)?;
@@ -241,7 +194,7 @@ fn push_load(out: &mut Vec<u8>, k: Kind, t: u32, a: u32) -> Result<(), AllocErro
 fn push_store(out: &mut Vec<u8>, k: Kind, a: u32, b: u32) -> Result<(), AllocError>
     ensures { OnOk result (out.new.items ≡ out.old.items ++ op_text [] (Store k a b)) }
 {
-    push_u8(out, 11)?;
+    push_u8(out, OpCode::Store as u8)?;
     push_scalar(out, k)?;
     push_u32(out, a)?;
     push_u32(out, b)?;
@@ -252,7 +205,7 @@ fn push_store(out: &mut Vec<u8>, k: Kind, a: u32, b: u32) -> Result<(), AllocErr
 fn push_move(out: &mut Vec<u8>, a: u32, b: u32, size: u32, unit: u32) -> Result<(), AllocError>
     ensures { OnOk result (out.new.items ≡ out.old.items ++ op_text [] (Move a b size unit)) }
 {
-    push_u8(out, 12)?;
+    push_u8(out, OpCode::Move as u8)?;
     push_u32(out, a)?;
     push_u32(out, b)?;
     push_u32(out, size)?;
@@ -272,7 +225,7 @@ fn push_call(
     requires stands { Contains names.now f.now }
     ensures { OnOk result (out.new.items ≡ out.old.items ++ op_text names.now (Call t f.now args.now)) }
 {
-    push_u8(out, 13)?;
+    push_u8(out, OpCode::Call as u8)?;
     push_result(out, t)?;
     push_name(out, names, f)?;
     push_arguments(out, args)?;
@@ -289,7 +242,7 @@ fn push_call_ind(
 ) -> Result<(), AllocError>
     ensures { OnOk result (out.new.items ≡ out.old.items ++ op_text [] (CallInd t a shape.now args.now)) }
 {
-    push_u8(out, 14)?;
+    push_u8(out, OpCode::CallInd as u8)?;
     push_result(out, t)?;
     push_u32(out, a)?;
     push_bytes(out, shape.as_bytes())?;
@@ -300,8 +253,8 @@ fn push_call_ind(
 /// An operation.
 fn push_op(out: &mut Vec<u8>, names: &[Name], op: &Op) -> Result<(), AllocError>
     requires table { IsNameTable names.now }
-    requires stands { AllByRecursion (Contains names.now) (op_names (op_view op.now)) }
-    ensures { OnOk result (out.new.items ≡ out.old.items ++ op_text names.now (op_view op.now)) }
+    requires stands { AllByRecursion (Contains names.now) (op_names op.now) }
+    ensures { OnOk result (out.new.items ≡ out.old.items ++ op_text names.now op.now) }
 {
     match op {
         Op::Const(t, n) => push_const(out, *t, *n),
@@ -317,16 +270,16 @@ fn push_op(out: &mut Vec<u8>, names: &[Name], op: &Op) -> Result<(), AllocError>
         Op::Load(k, t, a) => push_load(out, *k, *t, *a),
         Op::Store(k, a, b) => push_store(out, *k, *a, *b),
         Op::Move(a, b, size, unit) => push_move(out, *a, *b, *size, *unit),
-        Op::Call(t, f, args) => push_call(out, names, *t, f, args),
-        Op::CallInd(t, a, shape, args) => push_call_ind(out, *t, *a, shape, args),
+        Op::Call(t, f, args) => push_call(out, names, *t, f, args.as_slice()),
+        Op::CallInd(t, a, shape, args) => push_call_ind(out, *t, *a, shape, args.as_slice()),
     }
 }
 
 /// Operations.
 pub fn push_ops(out: &mut Vec<u8>, names: &[Name], ops: &[Op]) -> Result<(), AllocError>
     requires table { IsNameTable names.now }
-    requires stand { AllByRecursion (Contains names.now) (flat_map op_names (map op_view ops.now)) }
-    ensures { OnOk result (out.new.items ≡ out.old.items ++ flat_map (op_text names.now) (map op_view ops.now)) }
+    requires stand { AllByRecursion (Contains names.now) (flat_map op_names ops.now) }
+    ensures { OnOk result (out.new.items ≡ out.old.items ++ flat_map (op_text names.now) ops.now) }
 {
     for op in ops {
         push_op(out, names, op)?;

@@ -1,9 +1,8 @@
 //! Reading operations.
 
-ghost use Rattle.std.specs.Prelude.{◌≡◌, ℕ, List, length, map};
+ghost use Rattle.std.specs.Prelude.{◌≡◌, ◌≢◌, ℕ, List, length, IfErr};
 ghost use Rattle.pw_value.specs.Fields.{repeated};
 ghost use Rattle.pw_value.specs.FieldFaults.{Gives};
-ghost use Rattle.pw_flow.specs.FlowGraph.{op_view};
 ghost use Rattle.pw_flowops.specs.Reading.{operands_at, op_at};
 ghost use Rattle.pw_flowops.specs.declared.codes.OpCode.TheVariants as code;
 
@@ -12,7 +11,9 @@ use crate::codes::OpCode;
 use crate::parts::{read_arguments, read_below, read_moved, read_named, read_result};
 use pw_files::kinds::read_scalar;
 use pw_flow::Op;
+use pw_items::Items;
 use pw_value::fields::{FieldError, read_text, read_u32};
+use pw_value::program_names::StartName;
 use pw_value::{Name, Shape};
 use std::alloc::Global;
 
@@ -26,7 +27,8 @@ pub struct Counts {
 /// A number.
 #[tactic(auto, unfolding(crate::specs::Reading::operands_at))]
 fn read_const(at: Counts, bytes: &[u8]) -> Result<(Op, &[u8]), FieldError>
-    ensures { (names : List (List ℕ)) → Gives (λ x. (op_view x.0, x.1.now)) result (operands_at names at.temps at.slots code.Const bytes.now) }
+    ensures found { (names : List (List ℕ)) → Gives (λ x. (x.0, x.1.now)) result (operands_at names at.temps at.slots code.Const bytes.now) }
+    ensures no_memory { IfErr result (λ e. e ≢ FieldError.NoMemory) }
 {
     let (t, rest) = read_below(at.temps as usize, bytes)?;
     let (n, rest) = read_u32(rest)?;
@@ -36,7 +38,8 @@ fn read_const(at: Counts, bytes: &[u8]) -> Result<(Op, &[u8]), FieldError>
 /// A copy of a temporary.
 #[tactic(auto, unfolding(crate::specs::Reading::operands_at))]
 fn read_copy(at: Counts, bytes: &[u8]) -> Result<(Op, &[u8]), FieldError>
-    ensures { (names : List (List ℕ)) → Gives (λ x. (op_view x.0, x.1.now)) result (operands_at names at.temps at.slots code.Copy bytes.now) }
+    ensures found { (names : List (List ℕ)) → Gives (λ x. (x.0, x.1.now)) result (operands_at names at.temps at.slots code.Copy bytes.now) }
+    ensures no_memory { IfErr result (λ e. e ≢ FieldError.NoMemory) }
 {
     let (t, rest) = read_below(at.temps as usize, bytes)?;
     let (a, rest) = read_below(at.temps as usize, rest)?;
@@ -46,7 +49,8 @@ fn read_copy(at: Counts, bytes: &[u8]) -> Result<(Op, &[u8]), FieldError>
 /// An operation on one number.
 #[tactic(auto, unfolding(crate::specs::Reading::operands_at))]
 fn read_un(at: Counts, bytes: &[u8]) -> Result<(Op, &[u8]), FieldError>
-    ensures { (names : List (List ℕ)) → Gives (λ x. (op_view x.0, x.1.now)) result (operands_at names at.temps at.slots code.Un bytes.now) }
+    ensures found { (names : List (List ℕ)) → Gives (λ x. (x.0, x.1.now)) result (operands_at names at.temps at.slots code.Un bytes.now) }
+    ensures no_memory { IfErr result (λ e. e ≢ FieldError.NoMemory) }
 {
     let (k, rest) = read_un_kind(bytes)?;
     let (t, rest) = read_below(at.temps as usize, rest)?;
@@ -57,7 +61,8 @@ fn read_un(at: Counts, bytes: &[u8]) -> Result<(Op, &[u8]), FieldError>
 /// An operation on two numbers.
 #[tactic(auto, unfolding(crate::specs::Reading::operands_at))]
 fn read_bin(at: Counts, bytes: &[u8]) -> Result<(Op, &[u8]), FieldError>
-    ensures { (names : List (List ℕ)) → Gives (λ x. (op_view x.0, x.1.now)) result (operands_at names at.temps at.slots code.Bin bytes.now) }
+    ensures found { (names : List (List ℕ)) → Gives (λ x. (x.0, x.1.now)) result (operands_at names at.temps at.slots code.Bin bytes.now) }
+    ensures no_memory { IfErr result (λ e. e ≢ FieldError.NoMemory) }
 {
     let (k, rest) = read_bin_kind(bytes)?;
     let (t, rest) = read_below(at.temps as usize, rest)?;
@@ -69,7 +74,8 @@ fn read_bin(at: Counts, bytes: &[u8]) -> Result<(Op, &[u8]), FieldError>
 /// Low bits, extended.
 #[tactic(auto, unfolding(crate::specs::Reading::operands_at))]
 fn read_ext(at: Counts, bytes: &[u8]) -> Result<(Op, &[u8]), FieldError>
-    ensures { (names : List (List ℕ)) → Gives (λ x. (op_view x.0, x.1.now)) result (operands_at names at.temps at.slots code.Ext bytes.now) }
+    ensures found { (names : List (List ℕ)) → Gives (λ x. (x.0, x.1.now)) result (operands_at names at.temps at.slots code.Ext bytes.now) }
+    ensures no_memory { IfErr result (λ e. e ≢ FieldError.NoMemory) }
 {
     let (k, rest) = read_ext_kind(bytes)?;
     let (t, rest) = read_below(at.temps as usize, rest)?;
@@ -85,10 +91,10 @@ fn read_addr_global<'a>(
     at: Counts,
     bytes: &'a [u8],
 ) -> Result<(Op, &'a [u8]), FieldError>
-    ensures { Gives (λ x. (op_view x.0, x.1.now)) result (operands_at names.now at.temps at.slots code.AddrGlobal bytes.now) }
+    ensures { Gives (λ x. (x.0, x.1.now)) result (operands_at names.now at.temps at.slots code.AddrGlobal bytes.now) }
 {
     let (t, rest) = read_below(at.temps as usize, bytes)?;
-    let (g, rest) = read_named(true, names, rest)?;
+    let (g, rest) = read_named(StartName::Refused, names, rest)?;
     let (n, rest) = read_u32(rest)?;
     Ok((Op::AddrGlobal(t, g.copy(alloc)?, n), rest))
 }
@@ -96,7 +102,8 @@ fn read_addr_global<'a>(
 /// The address of a slot.
 #[tactic(auto, unfolding(crate::specs::Reading::operands_at))]
 fn read_addr_slot(at: Counts, bytes: &[u8]) -> Result<(Op, &[u8]), FieldError>
-    ensures { (names : List (List ℕ)) → Gives (λ x. (op_view x.0, x.1.now)) result (operands_at names at.temps at.slots code.AddrSlot bytes.now) }
+    ensures found { (names : List (List ℕ)) → Gives (λ x. (x.0, x.1.now)) result (operands_at names at.temps at.slots code.AddrSlot bytes.now) }
+    ensures no_memory { IfErr result (λ e. e ≢ FieldError.NoMemory) }
 {
     let (t, rest) = read_below(at.temps as usize, bytes)?;
     let (s, rest) = read_below(at.slots, rest)?;
@@ -111,10 +118,10 @@ fn read_addr_fn<'a>(
     at: Counts,
     bytes: &'a [u8],
 ) -> Result<(Op, &'a [u8]), FieldError>
-    ensures { Gives (λ x. (op_view x.0, x.1.now)) result (operands_at names.now at.temps at.slots code.AddrFn bytes.now) }
+    ensures { Gives (λ x. (x.0, x.1.now)) result (operands_at names.now at.temps at.slots code.AddrFn bytes.now) }
 {
     let (t, rest) = read_below(at.temps as usize, bytes)?;
-    let (f, rest) = read_named(true, names, rest)?;
+    let (f, rest) = read_named(StartName::Refused, names, rest)?;
     Ok((Op::AddrFn(t, f.copy(alloc)?), rest))
 }
 
@@ -126,11 +133,11 @@ fn read_load_g<'a>(
     at: Counts,
     bytes: &'a [u8],
 ) -> Result<(Op, &'a [u8]), FieldError>
-    ensures { Gives (λ x. (op_view x.0, x.1.now)) result (operands_at names.now at.temps at.slots code.LoadG bytes.now) }
+    ensures { Gives (λ x. (x.0, x.1.now)) result (operands_at names.now at.temps at.slots code.LoadG bytes.now) }
 {
     let (k, rest) = read_scalar(bytes)?;
     let (t, rest) = read_below(at.temps as usize, rest)?;
-    let (g, rest) = read_named(true, names, rest)?;
+    let (g, rest) = read_named(StartName::Refused, names, rest)?;
     Ok((Op::LoadG(t, g.copy(alloc)?, k), rest))
 }
 
@@ -142,10 +149,10 @@ fn read_store_g<'a>(
     at: Counts,
     bytes: &'a [u8],
 ) -> Result<(Op, &'a [u8]), FieldError>
-    ensures { Gives (λ x. (op_view x.0, x.1.now)) result (operands_at names.now at.temps at.slots code.StoreG bytes.now) }
+    ensures { Gives (λ x. (x.0, x.1.now)) result (operands_at names.now at.temps at.slots code.StoreG bytes.now) }
 {
     let (k, rest) = read_scalar(bytes)?;
-    let (g, rest) = read_named(true, names, rest)?;
+    let (g, rest) = read_named(StartName::Refused, names, rest)?;
     let (a, rest) = read_below(at.temps as usize, rest)?;
     Ok((Op::StoreG(g.copy(alloc)?, a, k), rest))
 }
@@ -153,7 +160,8 @@ fn read_store_g<'a>(
 /// A read at an address.
 #[tactic(auto, unfolding(crate::specs::Reading::operands_at))]
 fn read_load(at: Counts, bytes: &[u8]) -> Result<(Op, &[u8]), FieldError>
-    ensures { (names : List (List ℕ)) → Gives (λ x. (op_view x.0, x.1.now)) result (operands_at names at.temps at.slots code.Load bytes.now) }
+    ensures found { (names : List (List ℕ)) → Gives (λ x. (x.0, x.1.now)) result (operands_at names at.temps at.slots code.Load bytes.now) }
+    ensures no_memory { IfErr result (λ e. e ≢ FieldError.NoMemory) }
 {
     let (k, rest) = read_scalar(bytes)?;
     let (t, rest) = read_below(at.temps as usize, rest)?;
@@ -164,7 +172,8 @@ fn read_load(at: Counts, bytes: &[u8]) -> Result<(Op, &[u8]), FieldError>
 /// A write at an address.
 #[tactic(auto, unfolding(crate::specs::Reading::operands_at))]
 fn read_store(at: Counts, bytes: &[u8]) -> Result<(Op, &[u8]), FieldError>
-    ensures { (names : List (List ℕ)) → Gives (λ x. (op_view x.0, x.1.now)) result (operands_at names at.temps at.slots code.Store bytes.now) }
+    ensures found { (names : List (List ℕ)) → Gives (λ x. (x.0, x.1.now)) result (operands_at names at.temps at.slots code.Store bytes.now) }
+    ensures no_memory { IfErr result (λ e. e ≢ FieldError.NoMemory) }
 {
     let (k, rest) = read_scalar(bytes)?;
     let (a, rest) = read_below(at.temps as usize, rest)?;
@@ -175,7 +184,8 @@ fn read_store(at: Counts, bytes: &[u8]) -> Result<(Op, &[u8]), FieldError>
 /// A copy of bytes.
 #[tactic(auto, unfolding(crate::specs::Reading::operands_at))]
 fn read_move(at: Counts, bytes: &[u8]) -> Result<(Op, &[u8]), FieldError>
-    ensures { (names : List (List ℕ)) → Gives (λ x. (op_view x.0, x.1.now)) result (operands_at names at.temps at.slots code.Move bytes.now) }
+    ensures found { (names : List (List ℕ)) → Gives (λ x. (x.0, x.1.now)) result (operands_at names at.temps at.slots code.Move bytes.now) }
+    ensures no_memory { IfErr result (λ e. e ≢ FieldError.NoMemory) }
 {
     let (a, rest) = read_below(at.temps as usize, bytes)?;
     let (b, rest) = read_below(at.temps as usize, rest)?;
@@ -191,10 +201,10 @@ fn read_call<'a>(
     at: Counts,
     bytes: &'a [u8],
 ) -> Result<(Op, &'a [u8]), FieldError>
-    ensures { Gives (λ x. (op_view x.0, x.1.now)) result (operands_at names.now at.temps at.slots code.Call bytes.now) }
+    ensures { Gives (λ x. (x.0, x.1.now)) result (operands_at names.now at.temps at.slots code.Call bytes.now) }
 {
     let (t, rest) = read_result(at.temps, bytes)?;
-    let (f, rest) = read_named(true, names, rest)?;
+    let (f, rest) = read_named(StartName::Refused, names, rest)?;
     let (args, rest) = read_arguments(alloc, at.temps, rest)?;
     Ok((Op::Call(t, f.copy(alloc)?, args), rest))
 }
@@ -202,7 +212,7 @@ fn read_call<'a>(
 /// A call through a value.
 #[tactic(auto, unfolding(crate::specs::Reading::operands_at))]
 fn read_call_ind(alloc: Global, at: Counts, bytes: &[u8]) -> Result<(Op, &[u8]), FieldError>
-    ensures { (names : List (List ℕ)) → Gives (λ x. (op_view x.0, x.1.now)) result (operands_at names at.temps at.slots code.CallInd bytes.now) }
+    ensures { (names : List (List ℕ)) → Gives (λ x. (x.0, x.1.now)) result (operands_at names at.temps at.slots code.CallInd bytes.now) }
 {
     let (t, rest) = read_result(at.temps, bytes)?;
     let (a, rest) = read_below(at.temps as usize, rest)?;
@@ -219,7 +229,7 @@ fn read_operands<'a>(
     code: OpCode,
     bytes: &'a [u8],
 ) -> Result<(Op, &'a [u8]), FieldError>
-    ensures { Gives (λ x. (op_view x.0, x.1.now)) result (operands_at names.now at.temps at.slots code bytes.now) }
+    ensures { Gives (λ x. (x.0, x.1.now)) result (operands_at names.now at.temps at.slots code bytes.now) }
 {
     match code {
         OpCode::Const => read_const(at, bytes),
@@ -248,7 +258,7 @@ fn read_op<'a>(
     at: Counts,
     bytes: &'a [u8],
 ) -> Result<(Op, &'a [u8]), FieldError>
-    ensures { Gives (λ x. (op_view x.0, x.1.now)) result (op_at names.now at.temps at.slots bytes.now) }
+    ensures { Gives (λ x. (x.0, x.1.now)) result (op_at names.now at.temps at.slots bytes.now) }
 {
     let (code, rest) = read_op_code(bytes)?;
     read_operands(alloc, names, at, code, rest)
@@ -261,10 +271,10 @@ pub fn read_ops<'a>(
     at: Counts,
     count: u32,
     bytes: &'a [u8],
-) -> Result<(Vec<Op>, &'a [u8]), FieldError>
-    ensures { Gives (λ x. (map op_view x.0.items, x.1.now)) result (repeated (op_at names.now at.temps at.slots) count bytes.now) }
+) -> Result<(Items<Op>, &'a [u8]), FieldError>
+    ensures { Gives (λ x. (x.0, x.1.now)) result (repeated (op_at names.now at.temps at.slots) count bytes.now) }
 {
-    let mut ops = Vec::new(alloc);
+    let mut ops = Items::new(alloc);
     let mut rest = bytes;
     for _ in 0..count {
         let (op, after) = read_op(alloc, names, at, rest)?;

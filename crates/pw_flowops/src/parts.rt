@@ -1,27 +1,28 @@
 //! The small parts of operations: indices, names, results, arguments, and what is copied.
 
-ghost use Rattle.std.specs.Prelude.{◌≡◌, ◌<◌, ℕ, nat_le, nat_lt, not, List, length, IfOk};
+ghost use Rattle.std.specs.Prelude.{◌≡◌, ◌<◌, ℕ, nat_le, nat_lt, List, length, IfOk, IfErr, ◌≢◌};
 ghost use Rattle.pw_value.specs.Fields.{u32_at, repeated, checked};
+ghost use Rattle.pw_value.specs.Limits.{parameter_limit};
 ghost use Rattle.pw_value.specs.FieldFaults.{Gives};
 ghost use Rattle.pw_flow.specs.ValidFlow.{IsUnit};
 ghost use Rattle.pw_flowops.specs.Reading.{named_at, below_at, result_at, arguments_at, is_unit, is_whole, size_and_unit_at, moved_at};
 
-use pw_files::start::is_allowed;
+use pw_items::Items;
 use pw_value::Name;
 use pw_value::fields::names::read_name;
 use pw_value::fields::{FieldError, read_u32};
+use pw_value::limits::{PARAMETER_LIMIT, SIZE_LIMIT};
+use pw_value::program_names::{StartName, is_allowed};
 use std::alloc::Global;
 
 /// What stands for a result that is not there.
 pub const ABSENT: u32 = u32::MAX;
 
-/// The most arguments of a call, and the most parameters of a function.
-const MOST_ARGUMENTS: u32 = 127;
-
 /// A number below a count.
 pub fn read_below(count: usize, bytes: &[u8]) -> Result<(u32, &[u8]), FieldError>
     ensures found { Gives (λ x. (x.0, x.1.now)) result (below_at count bytes.now) }
     ensures below { IfOk result (λ x. x.0 < count) }
+    ensures no_memory { IfErr result (λ e. e ≢ FieldError.NoMemory) }
 {
     let (number, rest) = read_u32(bytes)?;
     if (number as usize) < count {
@@ -31,29 +32,31 @@ pub fn read_below(count: usize, bytes: &[u8]) -> Result<(u32, &[u8]), FieldError
     }
 }
 
-/// A number of at most 127.
+/// A count of parameters or arguments.
 pub fn read_few(bytes: &[u8]) -> Result<(u32, &[u8]), FieldError>
-    ensures { Gives (λ x. (x.0, x.1.now)) result (checked (λ n. nat_le n 127) u32_at bytes.now) }
+    ensures found { Gives (λ x. (x.0, x.1.now)) result (checked (λ n. nat_le n parameter_limit) u32_at bytes.now) }
+    ensures no_memory { IfErr result (λ e. e ≢ FieldError.NoMemory) }
 {
     let (number, rest) = read_u32(bytes)?;
-    if number <= MOST_ARGUMENTS {
+    if number <= PARAMETER_LIMIT {
         Ok((number, rest))
     } else {
         Err(FieldError::Fault { left: bytes.len() })
     }
 }
 
-/// A name of the table that may be named: where that is strict, it is not `$start`.
+/// A name of the table that may be named.
 #[tactic(auto, unfolding(crate::specs::Reading::named_at))]
 pub fn read_named<'a, 'b>(
-    strict: bool,
+    start: StartName,
     names: &'b [Name],
     bytes: &'a [u8],
 ) -> Result<(&'b Name, &'a [u8]), FieldError>
-    ensures { Gives (λ x. (x.0.now, x.1.now)) result (named_at strict names.now bytes.now) }
+    ensures found { Gives (λ x. (x.0.now, x.1.now)) result (named_at start names.now bytes.now) }
+    ensures no_memory { IfErr result (λ e. e ≢ FieldError.NoMemory) }
 {
     let (name, rest) = read_name(names, bytes)?;
-    if is_allowed(!strict, name) {
+    if is_allowed(start, name) {
         Ok((name, rest))
     } else {
         Err(FieldError::Fault { left: bytes.len() })
@@ -63,7 +66,8 @@ pub fn read_named<'a, 'b>(
 /// A temporary, or none.
 #[tactic(auto, unfolding(crate::specs::Reading::result_at))]
 pub fn read_result(temps: u32, bytes: &[u8]) -> Result<(Option<u32>, &[u8]), FieldError>
-    ensures { Gives (λ x. (x.0, x.1.now)) result (result_at temps bytes.now) }
+    ensures found { Gives (λ x. (x.0, x.1.now)) result (result_at temps bytes.now) }
+    ensures no_memory { IfErr result (λ e. e ≢ FieldError.NoMemory) }
 {
     let (number, rest) = read_u32(bytes)?;
     if number == ABSENT {
@@ -81,10 +85,10 @@ fn read_temps(
     temps: u32,
     count: u32,
     bytes: &[u8],
-) -> Result<(Vec<u32>, &[u8]), FieldError>
-    ensures { Gives (λ x. (x.0.items, x.1.now)) result (repeated (below_at temps) count bytes.now) }
+) -> Result<(Items<u32>, &[u8]), FieldError>
+    ensures { Gives (λ x. (x.0, x.1.now)) result (repeated (below_at temps) count bytes.now) }
 {
-    let mut args = Vec::new(alloc);
+    let mut args = Items::new(alloc);
     let mut rest = bytes;
     for _ in 0..count {
         let (arg, after) = read_below(temps as usize, rest)?;
@@ -100,8 +104,8 @@ pub fn read_arguments(
     alloc: Global,
     temps: u32,
     bytes: &[u8],
-) -> Result<(Vec<u32>, &[u8]), FieldError>
-    ensures { Gives (λ x. (x.0.items, x.1.now)) result (arguments_at temps bytes.now) }
+) -> Result<(Items<u32>, &[u8]), FieldError>
+    ensures { Gives (λ x. (x.0, x.1.now)) result (arguments_at temps bytes.now) }
 {
     let (count, rest) = read_few(bytes)?;
     read_temps(alloc, temps, count, rest)
@@ -111,6 +115,7 @@ pub fn read_arguments(
 fn read_unit(bytes: &[u8]) -> Result<(u32, &[u8]), FieldError>
     ensures found { Gives (λ x. (x.0, x.1.now)) result (checked is_unit u32_at bytes.now) }
     ensures unit { IfOk result (λ x. IsUnit x.0) }
+    ensures no_memory { IfErr result (λ e. e ≢ FieldError.NoMemory) }
 {
     let (unit, rest) = read_u32(bytes)?;
     if unit == 1 || unit == 2 || unit == 4 {
@@ -125,6 +130,7 @@ fn read_unit(bytes: &[u8]) -> Result<(u32, &[u8]), FieldError>
 fn read_size_and_unit(bytes: &[u8]) -> Result<((u32, u32), &[u8]), FieldError>
     ensures found { Gives (λ x. (x.0, x.1.now)) result (size_and_unit_at bytes.now) }
     ensures unit { IfOk result (λ x. IsUnit x.0.1) }
+    ensures no_memory { IfErr result (λ e. e ≢ FieldError.NoMemory) }
 {
     let (size, rest) = read_u32(bytes)?;
     let (unit, rest) = read_unit(rest)?;
@@ -136,13 +142,14 @@ fn is_lawful_copy(size: u32, unit: u32) -> bool
     requires { IsUnit unit }
     ensures { result ≡ is_whole (size, unit) }
 {
-    size % unit == 0 && size > 0 && size <= 1_048_576
+    size % unit == 0 && size > 0 && size <= SIZE_LIMIT
 }
 
 /// How many bytes are copied, and in which units. The unit is looked at first.
 #[tactic(auto, unfolding(crate::specs::Reading::moved_at))]
 pub fn read_moved(bytes: &[u8]) -> Result<((u32, u32), &[u8]), FieldError>
-    ensures { Gives (λ x. (x.0, x.1.now)) result (moved_at bytes.now) }
+    ensures found { Gives (λ x. (x.0, x.1.now)) result (moved_at bytes.now) }
+    ensures no_memory { IfErr result (λ e. e ≢ FieldError.NoMemory) }
 {
     let ((size, unit), rest) = read_size_and_unit(bytes)?;
     if is_lawful_copy(size, unit) {

@@ -4,3 +4,4 @@ pub mod HexadecimalLemmas
 pub mod Inverse
 pub mod Signs
 pub mod Words
+pub mod SettingLaws

@@ -1,3 +1,4 @@
 pub mod Fields
 pub mod InstructionTable
 pub mod Listing
+pub mod Setting

@@ -54,6 +54,15 @@ compare_clear c f r1 r2 t =
 abbrev pub branch_and_link : Bool → ℕ → ℕ → List ℕ
 branch_and_link n to t = parts (codes "BL" ∷ nullification n ∷ codes " " ∷ hexadecimal 8 to ∷ codes "," ∷ decimal t ∷ [])
 
+abbrev pub pair : List ℕ → ℕ → ℕ → List ℕ
+pair name m n = parts (name ∷ codes " " ∷ decimal m ∷ codes "," ∷ decimal n ∷ [])
+
+abbrev pub subtract : ℤ → ℕ → ℕ → List ℕ
+subtract im r t = parts (codes "SUBI " ∷ signed_decimal im ∷ codes "," ∷ decimal r ∷ codes "," ∷ decimal t ∷ [])
+
+abbrev pub register_branch : List ℕ → Bool → List ℕ → ℕ → List ℕ
+register_branch name n space b = parts (name ∷ nullification n ∷ codes " 0(" ∷ space ∷ decimal b ∷ codes ")" ∷ [])
+
 -- the text of an instruction at an address
 unfoldable pub listed : Inst → ℕ → List ℕ
 listed (Ldb im b t) address = load (codes "LDB") im b t
@@ -63,22 +72,22 @@ listed (Ldo im b t) address = load (codes "LDO") im b t
 listed (Stb r im b) address = store (codes "STB") r im b
 listed (Sth r im b) address = store (codes "STH") r im b
 listed (Stw r im b) address = store (codes "STW") r im b
-listed (Ldil im t) address = parts (codes "LDIL " ∷ decimal im ∷ codes "," ∷ decimal t ∷ [])
+listed (Ldil im t) address = pair (codes "LDIL") im t
 listed (And r1 r2 t) address = registers (codes "AND") r1 r2 t
 listed (Or r1 r2 t) address = registers (codes "OR") r1 r2 t
 listed (Xor r1 r2 t) address = registers (codes "XOR") r1 r2 t
 listed (Sub r1 r2 t) address = registers (codes "SUB") r1 r2 t
 listed (Addl r1 r2 t) address = registers (codes "ADDL") r1 r2 t
 listed (Vshd r1 r2 t) address = registers (codes "VSHD") r1 r2 t
-listed (Mtctl r) address = parts (codes "MTCTL " ∷ decimal r ∷ codes ",11" ∷ [])
+listed (Mtctl r) address = pair (codes "MTCTL") r 11
 listed (Comclr c f r1 r2 t) address = compare_clear c f r1 r2 t
-listed (Subi im r t) address = parts (codes "SUBI " ∷ signed_decimal im ∷ codes "," ∷ decimal r ∷ codes "," ∷ decimal t ∷ [])
+listed (Subi im r t) address = subtract im r t
 listed (Extru r p len t) address = bit_field (codes "EXTRU") r p len t
 listed (Extrs r p len t) address = bit_field (codes "EXTRS") r p len t
 listed (Zdep r p len t) address = bit_field (codes "ZDEP") r p len t
 listed (Combt c r1 r2 disp) address = compare_branch (codes "COMBT") c r1 r2 (target address disp)
 listed (Combf c r1 r2 disp) address = compare_branch (codes "COMBF") c r1 r2 (target address disp)
 listed (Bl disp t n) address = branch_and_link n (target address disp) t
-listed (Bv b n) address = parts (codes "BV" ∷ nullification n ∷ codes " 0(" ∷ decimal b ∷ codes ")" ∷ [])
-listed (Ble b n) address = parts (codes "BLE" ∷ nullification n ∷ codes " 0(4," ∷ decimal b ∷ codes ")" ∷ [])
-listed (Break im5 im13) address = parts (codes "BREAK " ∷ decimal im5 ∷ codes "," ∷ decimal im13 ∷ [])
+listed (Bv b n) address = register_branch (codes "BV") n [] b
+listed (Ble b n) address = register_branch (codes "BLE") n (codes "4,") b
+listed (Break im5 im13) address = pair (codes "BREAK") im5 im13

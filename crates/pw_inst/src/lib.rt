@@ -1,15 +1,25 @@
 //! Instruction words of PA-RISC 1.1, as far as this system's code uses them: 26 forms of instruction, the
-//! word of each and the instruction of a word.
+//! word of each and the instruction of a word; and what stands between instructions and words: the lines of
+//! a function, and relocations.
 #![tactic(auto)]
 
 mod decoding;
 mod encoding;
 mod fields;
+mod line;
 mod listing;
+mod relocation;
+mod setting;
 
 pub use decoding::{decode, word_is_decoded_again, words_differ};
 pub use encoding::encode;
+pub use line::Line;
 pub use listing::{target, text};
+pub use relocation::{Fix, FixKind, Symbol};
+pub use setting::{
+    left_part, parts_make_the_address, right_part, set_branch, set_displacement,
+    set_long_immediate, set_words_are_encodings,
+};
 pub use std::alloc::AllocError as NoMemory;
 
 /// An instruction of PA-RISC 1.1, in one of the 26 forms that this system knows.
@@ -18,7 +28,7 @@ pub use std::alloc::AllocError as NoMemory;
 /// `c` is a condition on `r1` and `r2`, from 0 to 5: never, equal, signed less, signed less or equal,
 /// unsigned less, unsigned less or equal. A displacement `disp` counts words: the target is the
 /// instruction's own address + 8 + 4 * disp. A set `n` nullifies the next instruction.
-#[derive(Clone, Copy, PartialEq, Eq, Debug)]
+#[derive(Clone, Copy)]
 pub enum Inst {
     /// Loads the byte at `b` + `im`, extended by zeros. `im` is from -8192 to 8191.
     Ldb {
@@ -178,6 +188,3 @@ pub enum Inst {
         im13: u16,
     },
 }
-
-#[cfg(test)]
-mod tests;

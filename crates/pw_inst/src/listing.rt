@@ -2,7 +2,7 @@
 ghost use Rattle.std.specs.Prelude.{◌≡◌, IfOk};
 ghost use Rattle.std.specs.String.{string_bytes};
 ghost use Rattle.pw_inst.specs.InstructionTable.{IsInRange, IsCondition};
-ghost use Rattle.pw_inst.specs.Listing.{target, condition, negated, nullification, load, store, registers, bit_field, compare_clear, compare_branch, branch_and_link, listed};
+ghost use Rattle.pw_inst.specs.Listing.{target, condition, negated, nullification, load, store, registers, bit_field, compare_clear, compare_branch, branch_and_link, pair, subtract, register_branch, listed};
 
 use crate::{Inst, NoMemory};
 use std::alloc::Global;
@@ -33,16 +33,16 @@ pub fn text(alloc: Global, inst: Inst, address: u32) -> Result<String, NoMemory>
         Inst::Stb { r, im, b } => store_text(alloc, "STB", r, im, b),
         Inst::Sth { r, im, b } => store_text(alloc, "STH", r, im, b),
         Inst::Stw { r, im, b } => store_text(alloc, "STW", r, im, b),
-        Inst::Ldil { im, t } => format!(in alloc; "LDIL {im},{t}"),
+        Inst::Ldil { im, t } => pair_text(alloc, "LDIL", im, u32::from(t)),
         Inst::And { r1, r2, t } => registers_text(alloc, "AND", r1, r2, t),
         Inst::Or { r1, r2, t } => registers_text(alloc, "OR", r1, r2, t),
         Inst::Xor { r1, r2, t } => registers_text(alloc, "XOR", r1, r2, t),
         Inst::Sub { r1, r2, t } => registers_text(alloc, "SUB", r1, r2, t),
         Inst::Addl { r1, r2, t } => registers_text(alloc, "ADDL", r1, r2, t),
         Inst::Vshd { r1, r2, t } => registers_text(alloc, "VSHD", r1, r2, t),
-        Inst::Mtctl { r } => format!(in alloc; "MTCTL {r},11"),
+        Inst::Mtctl { r } => pair_text(alloc, "MTCTL", u32::from(r), 11),
         Inst::Comclr { c, f, r1, r2, t } => compare_clear_text(alloc, c, f, r1, r2, t),
-        Inst::Subi { im, r, t } => format!(in alloc; "SUBI {im},{r},{t}"),
+        Inst::Subi { im, r, t } => subtract_text(alloc, im, r, t),
         Inst::Extru { r, p, len, t } => bit_field_text(alloc, "EXTRU", r, p, len, t),
         Inst::Extrs { r, p, len, t } => bit_field_text(alloc, "EXTRS", r, p, len, t),
         Inst::Zdep { r, p, len, t } => bit_field_text(alloc, "ZDEP", r, p, len, t),
@@ -63,10 +63,34 @@ pub fn text(alloc: Global, inst: Inst, address: u32) -> Result<String, NoMemory>
             target(address, disp),
         ),
         Inst::Bl { disp, t, n } => branch_and_link_text(alloc, n, target(address, disp), t),
-        Inst::Bv { b, n } => format!(in alloc; "BV{} 0({b})", nullification_name(n)),
-        Inst::Ble { b, n } => format!(in alloc; "BLE{} 0(4,{b})", nullification_name(n)),
-        Inst::Break { im5, im13 } => format!(in alloc; "BREAK {im5},{im13}"),
+        Inst::Bv { b, n } => register_branch_text(alloc, "BV", n, "", b),
+        Inst::Ble { b, n } => register_branch_text(alloc, "BLE", n, "4,", b),
+        Inst::Break { im5, im13 } => pair_text(alloc, "BREAK", u32::from(im5), u32::from(im13)),
     }
+}
+
+fn pair_text(alloc: Global, name: &str, first: u32, second: u32) -> Result<String, NoMemory>
+    ensures { IfOk result (λ s. string_bytes s ≡ pair name.now first second) }
+{
+    format!(in alloc; "{name} {first},{second}")
+}
+
+fn subtract_text(alloc: Global, im: i32, r: u8, t: u8) -> Result<String, NoMemory>
+    ensures { IfOk result (λ s. string_bytes s ≡ subtract im r t) }
+{
+    format!(in alloc; "SUBI {im},{r},{t}")
+}
+
+fn register_branch_text(
+    alloc: Global,
+    name: &str,
+    n: bool,
+    space: &str,
+    b: u8,
+) -> Result<String, NoMemory>
+    ensures { IfOk result (λ s. string_bytes s ≡ register_branch name.now n space.now b) }
+{
+    format!(in alloc; "{name}{} 0({space}{b})", nullification_name(n))
 }
 
 fn load_text(alloc: Global, name: &str, im: i32, b: u8, t: u8) -> Result<String, NoMemory>

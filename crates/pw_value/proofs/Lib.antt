@@ -7,3 +7,4 @@ pub mod NameTables
 pub mod Ranges
 pub mod StartLaws
 mod ShapeLemmas
+mod WordLaws

@@ -34,7 +34,7 @@ pub enum What {
 }
 
 /// Why modules do not make a program.
-#[derive(PartialEq, Eq, Debug, Drop)]
+#[derive(Debug, Drop)]
 pub enum LinkFault {
     /// A name is used and defined nowhere.
     Undefined(Name),

@@ -189,6 +189,7 @@ pub fn signed_shift_right(a: u32, count: u32) -> Result<u32, WordFault>
 pub fn signed_results_are_unsigned()
     ensures sum { (a b s : ℕ) → a < 2 ^ 32 → b < 2 ^ 32 → spec.signed_sum a b ≡ Ok s → s ≡ spec.unsigned_sum a b }
     ensures difference { (a b s : ℕ) → a < 2 ^ 32 → b < 2 ^ 32 → spec.signed_difference a b ≡ Ok s → s ≡ spec.unsigned_difference a b }
+    ensures product { (a b s : ℕ) → a < 2 ^ 32 → b < 2 ^ 32 → spec.signed_product a b ≡ Ok s → s ≡ spec.unsigned_product a b }
     ensures negation { (a s : ℕ) → a < 2 ^ 32 → spec.signed_negation a ≡ Ok s → s ≡ spec.unsigned_negation a }
 {}
 

@@ -1,4 +1,4 @@
-use Rattle.pw_flow.specs.ValidFlow.{IsOrdinary}
+use Rattle.pw_value.specs.ProgramNames.{IsOrdinary}
 use Rattle.pw_flow.proofs.Lists.{mapped, unmapped}
 use Rattle.pw_flow.proofs.names.are_globals_ordinary.Goals as goal
 

@@ -1,7 +1,7 @@
 use Rattle.std.proofs.Common.{◌↔◌, ◌≢◌, ◌≡◌, Bool, true, false, map, refl}
 use mathlib.Core.Bool.{beq}
 use Rattle.std.specs.Prelude.{IsTrue}
-use Rattle.pw_flow.specs.ValidFlow.{start_name, main_name}
+use Rattle.pw_value.specs.ProgramNames.{start_name, main_name}
 use Rattle.pw_flow.proofs.Lists.{mapped, unmapped}
 use Rattle.pw_flow.proofs.Distinct.{IsNone, start_by, start_back}
 use Rattle.pw_flow.proofs.names.is_start_included.Goals as goal

@@ -1,9 +1,8 @@
-use Rattle.std.proofs.Common.{◌≡◌, ◌-◌, map}
+use Rattle.std.proofs.Common.{◌≡◌, ◌-◌}
 use Rattle.pw_value.specs.Fields.{items_at}
 use Rattle.pw_value.proofs.FieldLoops.{with_front}
-use Rattle.pw_flow.specs.FlowGraph.{placed_item_view}
 use Rattle.pw_flowfile.specs.Reading.{placed_item_at, next_free}
 use Rattle.pw_flowfile.proofs.globals.read_items.Given as goal
 
 abbrev pub invariant-loop : goal.invariant-loop
-invariant-loop l = with_front (map placed_item_view l.items.items) (items_at (placed_item_at l.strict l.names l.size) next_free (l.count - l.counter) l.free l.rest) ≡ items_at (placed_item_at l.strict l.names l.size) next_free l.count 0 l.bytes
+invariant-loop l = with_front l.items (items_at (placed_item_at l.start l.names l.size) next_free (l.count - l.counter) l.free l.rest) ≡ items_at (placed_item_at l.start l.names l.size) next_free l.count 0 l.bytes

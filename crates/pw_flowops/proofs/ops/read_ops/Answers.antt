@@ -1,20 +1,16 @@
-use Rattle.std.proofs.Common.{◌≡◌, ◌++◌, ◌∷◌, [], map}
 use Rattle.std.proofs.lemmas.Result.{err_from_is_err_and}
-use Rattle.std.proofs.lemmas.List.{map_push}
 use Rattle.pw_value.proofs.FieldLoops.{repeat_goes_on, repeat_ends, repeat_is_done}
 use Rattle.pw_flowops.specs.Reading.{op_at}
-use Rattle.pw_flow.specs.FlowGraph.{op_view}
 use Rattle.pw_flowops.proofs.ops.read_ops.Goals as goal
 
 pub returns-in_err-op : goal.returns-in_err-op
 returns-in_err-op c =
     let p = err_from_is_err_and c.from_residual.result c.from_residual.ensures.1 in
-    rw (p.1, p.2) (repeat_ends (op_at c.args.names.now c.args.at.temps c.args.at.slots) c.in_err-op.field-0.0 (map op_view c.loop.ops.items) c.args.count c.loop.counter c.loop.rest.now _ c.loop-test.true c.in_err-op.ensures c.loop.invariant)
+    rw (p.1, p.2) (repeat_ends (op_at c.args.names.now c.args.at.temps c.args.at.slots) c.in_err-op.field-0.0 c.loop.ops c.args.count c.loop.counter c.loop.rest.now _ c.loop-test.true c.in_err-op.ensures c.loop.invariant)
 
 pub loop-preserved : goal.loop-preserved
 loop-preserved c =
-    let more : map op_view c.push.new.self.items ≡ map op_view c.loop.ops.items ++ op_view c.in_ok-op.op ∷ [] = rw c.in_ok-push.ensures.items (map_push _ c.loop.ops.items c.in_ok-op.op) in
-    rw more (repeat_goes_on (op_at c.args.names.now c.args.at.temps c.args.at.slots) (map op_view c.loop.ops.items) c.args.count c.loop.counter c.loop.rest.now (op_view c.in_ok-op.op) c.in_ok-op.after.now _ c.loop-test.true c.in_ok-op.ensures c.loop.invariant)
+    rw c.in_ok-push.ensures (repeat_goes_on (op_at c.args.names.now c.args.at.temps c.args.at.slots) c.loop.ops c.args.count c.loop.counter c.loop.rest.now c.in_ok-op.op c.in_ok-op.after.now _ c.loop-test.true c.in_ok-op.ensures c.loop.invariant)
 
 pub returns : goal.returns
-returns c = repeat_is_done (op_at c.args.names.now c.args.at.temps c.args.at.slots) (map op_view c.loop.ops.items) c.args.count c.loop.counter c.loop.rest.now _ c.loop-test.false c.loop.invariant
+returns c = repeat_is_done (op_at c.args.names.now c.args.at.temps c.args.at.slots) c.loop.ops c.args.count c.loop.counter c.loop.rest.now _ c.loop-test.false c.loop.invariant

@@ -5,4 +5,4 @@ use Rattle.pw_flowops.specs.Reading.{below_at}
 use Rattle.pw_flowops.proofs.parts.read_temps.Given as goal
 
 abbrev pub invariant-loop : goal.invariant-loop
-invariant-loop l = with_front l.args.items (repeated (below_at l.temps) (l.count - l.counter) l.rest) ≡ repeated (below_at l.temps) l.count l.bytes
+invariant-loop l = with_front l.args (repeated (below_at l.temps) (l.count - l.counter) l.rest) ≡ repeated (below_at l.temps) l.count l.bytes

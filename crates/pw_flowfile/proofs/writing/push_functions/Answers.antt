@@ -1,8 +1,0 @@
-use Rattle.std.specs.Prelude.{Contains}
-use Rattle.pw_flow.specs.FlowGraph.{function_view}
-use Rattle.pw_flowfile.specs.FlowFile.{all_in_function}
-use Rattle.pw_flowops.proofs.FlatLists.{flat_at}
-use Rattle.pw_flowfile.proofs.writing.push_functions.Goals as goal
-
-pub push_function-requires-clause-stand : goal.push_function-requires-clause-stand
-push_function-requires-clause-stand c = flat_at function_view all_in_function (Contains c.args.names.now) c.args.functions.now c.requires.stand c.loop-function.function-index c.function-item.result c.loop-function-test.true c.function-item.is

@@ -1,8 +1,0 @@
-use Rattle.std.proofs.Common.{◌≡◌, ◌++◌, map, take}
-use Rattle.std.specs.List.{flat_map}
-use Rattle.pw_flow.specs.FlowGraph.{function_view}
-use Rattle.pw_flowfile.specs.FlowFile.{function}
-use Rattle.pw_flowfile.proofs.writing.push_functions.Given as goal
-
-abbrev pub invariant-loop-function : goal.invariant-loop-function
-invariant-loop-function l = l.out.items ≡ l.fn.out.items ++ flat_map (function l.names) (map function_view (take l.function-index l.functions))

@@ -1,8 +1,0 @@
-use Rattle.std.proofs.Common.{◌≡◌, ◌++◌, map, take}
-use Rattle.std.specs.List.{flat_map}
-use Rattle.pw_flow.specs.FlowGraph.{global_view}
-use Rattle.pw_flowfile.specs.FlowFile.{global}
-use Rattle.pw_flowfile.proofs.writing.push_globals.Given as goal
-
-abbrev pub invariant-loop-global : goal.invariant-loop-global
-invariant-loop-global l = l.out.items ≡ l.fn.out.items ++ flat_map (global l.names) (map global_view (take l.global-index l.globals))

@@ -1,0 +1,6 @@
+//! Tests of the machine and of what it stands on: instructions, images, the outside, runs and routines. What
+//! the contracts do not say, as tables whose expected values come from outside. It has no code of its own.
+#![tactic(auto)]
+
+#[cfg(test)]
+mod instructions;
