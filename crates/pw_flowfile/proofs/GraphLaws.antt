@@ -1,6 +1,6 @@
 -- Blocks, functions, global objects and declared names: what is read is spelled so and lawful, and
 -- what is spelled so and lawful is read again.
-use Rattle.std.proofs.Common.{◌≡◌, ℕ, ◌+◌, ◌*◌, ◌^◌, ◌<◌, ◌≤◌, Bool, true, false, List, [], ◌∷◌, ◌++◌, length, Ok, refl, sym, ap, subst, ◌∙◌, arith}
+use Rattle.std.proofs.Common.{◌≡◌, ℕ, ◌+◌, ◌*◌, ◌^◌, ◌<◌, ◌≤◌, Bool, true, false, List, [], ◌∷◌, ◌++◌, length, Result, Ok, refl, sym, ap, subst, ◌∙◌, arith}
 use Rattle.std.specs.Prelude.{Option, Some, None, IfSome, Contains, nat_le, nat_lt, ◌&&◌, not, slice_get}
 use Rattle.std.specs.List.{flat_map, AllByRecursion}
 use Rattle.std.specs.Cmp.{first_so, second_so}
@@ -11,10 +11,10 @@ use Rattle.pw_value.specs.Limits.{parameter_limit, room_limit}
 use Rattle.pw_value.specs.declared.program_names.StartName.{StartName}
 use Rattle.pw_value.specs.declared.program_names.StartName.TheVariants.{Refused}
 use Rattle.pw_value.specs.declared.value.Kind.{Kind}
-use Rattle.pw_value.specs.Fields.{checked, u32_at, text_at, flag_at, items_at, repeated, u8, u32, text, flag, FitsU32, FitsText, FitInTurn}
+use Rattle.pw_value.specs.Fields.{◌>>=◌, done, checked, u32_at, text_at, flag_at, items_at, repeated, u8, u32, text, flag, FitsU32, FitsText, FitInTurn}
 use Rattle.pw_value.specs.FieldLaws.{Spells}
 use Rattle.pw_value.specs.FieldNames.{name_at, name_index, is_among, IsNameTable}
-use Rattle.pw_value.proofs.FieldLaws.{checked_spells, u32_spells, text_spells, flag_spells}
+use Rattle.pw_value.proofs.FieldLaws.{checked_spells, u32_spells, text_spells, flag_spells, found_is, after_passes}
 use Rattle.pw_value.proofs.NameLaws.{name_spells}
 use Rattle.pw_value.proofs.FieldSteps.{items_spell, repeated_spells}
 use Rattle.pw_files.specs.Kinds.{kind as kind_byte, kind_at}
@@ -39,7 +39,21 @@ use Rattle.pw_flowops.proofs.EndLaws.{end_spells}
 use Rattle.pw_flowfile.specs.declared.globals.ItemForm.{ItemForm}
 use Rattle.pw_flowfile.specs.declared.globals.ItemForm.TheVariants as form
 use Rattle.pw_flowfile.specs.FlowFile.{item, placed_item, global_body, global, block, function, FitsBlock, FitsFunction, FitsGlobal}
-use Rattle.pw_flowfile.specs.Reading.{item_forms, has_room, content_at, item_at, placed_item_at, next_free, has_kind_size, global_body_at, global_at, block_at, slot_at, next_room, function_body_at, function_at, fresh_at, declared_body_at, declared_at}
+use Rattle.pw_flowfile.specs.Reading.{item_forms, has_room, content_at, item_at, placed_item_at, next_free, has_kind_size, global_body_at, global_at, block_at, slot_at, next_room, code_at, function_body_at, function_at, fresh_at, declared_body_at, declared_at}
+
+-- ---- a value that is made of what was read
+
+takes_map : {A X : Type 0} (P : List ℕ → List ℕ → X → Type 0) (read : List ℕ → Result (A × List ℕ) ℕ) (f : A → X) → Takes (λ text rest a. P text rest (f a)) read → Takes P (read >>= λ a. done (f a))
+takes_map P read f laws = record {
+  run = λ bytes x rest fits e.
+      let p = after_passes (read bytes) (λ a. done (f a)) x rest e in
+      let q = found_is (f p.0) x p.1 rest p.3 in
+      let t = laws.run bytes p.0 p.1 fits p.2 in
+      (t.0, t.1 ∙ ap (λ (w : List ℕ). t.0 ++ w) q.1, subst (λ (r : List ℕ). P t.0 r x) q.1 (subst (λ y. P t.0 p.1 y) q.0 t.2));
+}
+
+again_map : {A X : Type 0} (read : List ℕ → Result (A × List ℕ) ℕ) (f : A → X) (text rest : List ℕ) (a : A) → read (text ++ rest) ≡ Ok (a, rest) → (read >>= λ a. done (f a)) (text ++ rest) ≡ Ok (f a, rest)
+again_map read f text rest a e = rw e refl
 
 -- ---- names that are met once
 
@@ -162,13 +176,14 @@ its_blocks names f h =
     all_both P (λ b. FitsBlock b × Q b) f.blocks h.0.blocks (all_both FitsBlock Q f.blocks h.1.0.blocks (all_flat_back names_in_block (Named Refused names) f.blocks h.1.1.1))
 
 function_takes : (names : List (List ℕ)) → IsNameTable names → (seen : List (List ℕ)) → Takes (λ text rest f. (text ≡ function names f) × FunctionStands names seen f) (function_at names seen)
-unfolding function_at function_body_at
+unfolding function_at function_body_at code_at
 function_takes names table seen =
     takes_field _ (name_index names) (Fresh names seen) (fresh_at names seen) _ (fresh_spells names table seen)
     (λ name fresh. takes_field _ text FitsText text_at _ text_spells
     (λ shape shape_fits. takes_field _ u32 (λ p. p ≤ parameter_limit) (checked (λ p. nat_le p parameter_limit) u32_at) _ params_spells
     (λ params p. takes_field _ u32 (TempsFit params) (checked (λ t. nat_le params t && nat_le (4 * t) room_limit) u32_at) _ (temps_spells params)
-    (λ temps t. takes_field _ u32 FitsU32 u32_at _ u32_spells
+    (λ temps t. takes_map _ (code_at names temps) (λ c. record { name = name; shape = shape; params = params; temps = temps; slots = c.0; blocks = c.1 })
+    (takes_field _ u32 FitsU32 u32_at _ u32_spells
     (λ slot_count sc. takes_field _ (flat_map u32) (λ ss. (length ss ≡ slot_count) × FitInTurn SlotFits next_room (4 * temps) ss) (items_at slot_at next_room slot_count (4 * temps)) _
     (items_spell u32 SlotFits slot_at next_room slot_spells slot_count (4 * temps))
     (λ slots s. takes_field _ u32 (λ n. FitsU32 n × (0 < n)) (checked (λ n. nat_lt 0 n) u32_at) _ count_spells
@@ -176,16 +191,17 @@ function_takes names table seen =
     let room = slots_forth (4 * temps) slots t.1 s.1 in
     takes_field _ (flat_map (block names)) (λ bs. (length bs ≡ count) × AllByRecursion (BlockFits names temps slot_count count) bs) (repeated (block_at names temps slot_count count) count) _
     (repeated_spells (block names) (BlockFits names temps slot_count count) (block_at names temps slot_count count) (block_spells names table temps slot_count count (omega (arith, t.1)) (few_by temps slots slot_count s.0 room) (omega (arith, c.0))) count)
-    (λ blocks b. takes_done _ (record { name = name; shape = shape; params = params; temps = temps; slots = slots; blocks = blocks }) (λ rest. (
+    (λ blocks b. takes_done _ (slots, blocks) (λ rest. (
       ap (λ m. name_index names name ++ (text shape ++ (u32 params ++ (u32 temps ++ (u32 m ++ (flat_map u32 slots ++ (u32 count ++ (flat_map (block names) blocks ++ [])))))))) (sym s.0)
           ∙ ap (λ n. name_index names name ++ (text shape ++ (u32 params ++ (u32 temps ++ (u32 (length slots) ++ (flat_map u32 slots ++ (u32 n ++ (flat_map (block names) blocks ++ [])))))))) (sym b.0),
       (fresh.1, is_function names (record { name = name; shape = shape; params = params; temps = temps; slots = slots; blocks = blocks }) (record { few_params = p; params = t.0; room = room; start = rw b.0 c.1 }) shape_fits (rw b.0 c.0) fresh.0 (blocks_fit names temps slot_count count (length slots) blocks s.0 b.0 b.1)),
-    ))))))))))
+    )))))))))))
 
 function_again : (names : List (List ℕ)) → IsNameTable names → (seen : List (List ℕ)) (f : FlowFn) (rest : List ℕ) → FunctionStands names seen f → function_at names seen (function names f ++ rest) ≡ Ok (f, rest)
-unfolding function_at function_body_at
+unfolding function_at function_body_at code_at
 function_again names table seen f rest h =
     let few = h.1.0.few in
+    let code : List ℕ × List Block = (f.slots, f.blocks) in
     let temps_few : 4 * f.temps ≤ room_limit = omega (arith, few.room, grows (4 * f.temps) f.slots) in
     let slots_few = few_by f.temps f.slots (length f.slots) refl few.room in
     let blocks_text = flat_map (block names) f.blocks ++ [] in
@@ -194,13 +210,14 @@ function_again names table seen f rest h =
     (again_field text FitsText text_at _ text_spells f.shape h.1.1.0.shape (u32 f.params ++ (u32 f.temps ++ (u32 (length f.slots) ++ slots_text))) rest f
     (again_field u32 (λ p. p ≤ parameter_limit) (checked (λ p. nat_le p parameter_limit) u32_at) _ params_spells f.params few.few_params (u32 f.temps ++ (u32 (length f.slots) ++ slots_text)) rest f
     (again_field u32 (TempsFit f.params) (checked (λ t. nat_le f.params t && nat_le (4 * t) room_limit) u32_at) _ (temps_spells f.params) f.temps (few.params, temps_few) (u32 (length f.slots) ++ slots_text) rest f
-    (again_field u32 FitsU32 u32_at _ u32_spells (length f.slots) (omega (arith, slots_few)) slots_text rest f
+    (again_map (code_at names f.temps) (λ c. record { name = f.name; shape = f.shape; params = f.params; temps = f.temps; slots = c.0; blocks = c.1 }) (u32 (length f.slots) ++ slots_text) rest code
+    (again_field u32 FitsU32 u32_at _ u32_spells (length f.slots) (omega (arith, slots_few)) slots_text rest code
     (again_field (flat_map u32) (λ ss. (length ss ≡ length f.slots) × FitInTurn SlotFits next_room (4 * f.temps) ss) (items_at slot_at next_room (length f.slots) (4 * f.temps)) _
-    (items_spell u32 SlotFits slot_at next_room slot_spells (length f.slots) (4 * f.temps)) f.slots (refl, slots_back (4 * f.temps) f.slots few.room) (u32 (length f.blocks) ++ blocks_text) rest f
-    (again_field u32 (λ n. FitsU32 n × (0 < n)) (checked (λ n. nat_lt 0 n) u32_at) _ count_spells (length f.blocks) (h.1.1.0.count, few.start) blocks_text rest f
+    (items_spell u32 SlotFits slot_at next_room slot_spells (length f.slots) (4 * f.temps)) f.slots (refl, slots_back (4 * f.temps) f.slots few.room) (u32 (length f.blocks) ++ blocks_text) rest code
+    (again_field u32 (λ n. FitsU32 n × (0 < n)) (checked (λ n. nat_lt 0 n) u32_at) _ count_spells (length f.blocks) (h.1.1.0.count, few.start) blocks_text rest code
     (again_field (flat_map (block names)) (λ bs. (length bs ≡ length f.blocks) × AllByRecursion (BlockFits names f.temps (length f.slots) (length f.blocks)) bs) (repeated (block_at names f.temps (length f.slots) (length f.blocks)) (length f.blocks)) _
     (repeated_spells (block names) (BlockFits names f.temps (length f.slots) (length f.blocks)) (block_at names f.temps (length f.slots) (length f.blocks)) (block_spells names table f.temps (length f.slots) (length f.blocks) (omega (arith, temps_few)) slots_few (omega (arith, h.1.1.0.count))) (length f.blocks))
-    f.blocks (refl, its_blocks names f h.1) [] rest f refl)))))))
+    f.blocks (refl, its_blocks names f h.1) [] rest code refl))))))))
 
 pub function_spells : (names : List (List ℕ)) → IsNameTable names → (seen : List (List ℕ)) → Spells (function names) (FunctionStands names seen) (function_at names seen)
 function_spells names table seen = chained (function names) (FunctionStands names seen) (function_at names seen) (function_takes names table seen) (function_again names table seen)

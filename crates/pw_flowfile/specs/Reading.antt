@@ -99,16 +99,22 @@ slot_at room = checked (λ s. nat_le (room + slot_room s) room_limit) u32_at
 abbrev pub next_room : ℕ → ℕ → ℕ
 next_room room size = room + slot_room size
 
+-- the slots and the blocks of a function with so many temporaries
+unfoldable pub code_at : List (List ℕ) → ℕ → List ℕ → Result ((List ℕ × List Block) × List ℕ) ℕ
+code_at names temps = do
+  slot_count ← u32_at
+  slots ← items_at slot_at next_room slot_count (4 * temps)
+  count ← checked (λ n. nat_lt 0 n) u32_at
+  blocks ← repeated (block_at names temps slot_count count) count
+  done (slots, blocks)
+
 unfoldable pub function_body_at : List (List ℕ) → List ℕ → List ℕ → Result (FlowFn × List ℕ) ℕ
 function_body_at names name = do
   shape ← text_at
   params ← checked (λ p. nat_le p parameter_limit) u32_at
   temps ← checked (λ t. nat_le params t && nat_le (4 * t) room_limit) u32_at
-  slot_count ← u32_at
-  slots ← items_at slot_at next_room slot_count (4 * temps)
-  count ← checked (λ n. nat_lt 0 n) u32_at
-  blocks ← repeated (block_at names temps slot_count count) count
-  done (record { name = name; shape = shape; params = params; temps = temps; slots = slots; blocks = blocks })
+  code ← code_at names temps
+  done (record { name = name; shape = shape; params = params; temps = temps; slots = code.0; blocks = code.1 })
 
 unfoldable pub function_at : List (List ℕ) → List (List ℕ) → List ℕ → Result (FlowFn × List ℕ) ℕ
 function_at names seen = fresh_at names seen >>= λ name. function_body_at names name

@@ -5,7 +5,7 @@ ghost use Rattle.pw_value.specs.Limits.{room_limit};
 ghost use Rattle.pw_value.specs.Fields.{u32_at, checked, items_at, repeated};
 ghost use Rattle.pw_value.specs.FieldFaults.{Gives};
 ghost use Rattle.pw_value.specs.FieldNames.{IsRisingFrom};
-ghost use Rattle.pw_flowfile.specs.Reading.{block_at, slot_at, next_room, function_body_at, function_at, next_function, seen_after};
+ghost use Rattle.pw_flowfile.specs.Reading.{block_at, slot_at, next_room, code_at, function_body_at, function_at, next_function, seen_after};
 ghost use Rattle.pw_flowfile.specs.Marks.{Marks};
 
 use crate::met::read_fresh;
@@ -121,6 +121,27 @@ fn read_block_count(bytes: &[u8]) -> Result<(u32, &[u8]), FieldError>
     }
 }
 
+/// The slots and the blocks of a function with so many temporaries.
+#[tactic(auto, unfolding(crate::specs::Reading::code_at))]
+fn read_code<'a>(
+    alloc: Global,
+    names: &[Name],
+    temps: u32,
+    bytes: &'a [u8],
+) -> Result<((Items<u32>, Items<Block>), &'a [u8]), FieldError>
+    ensures { Gives (λ x. ((x.0.0, x.0.1), x.1.now)) result (code_at names.now temps bytes.now) }
+{
+    let (slot_count, rest) = read_u32(bytes)?;
+    let (slots, rest) = read_slots(alloc, 4 * u64::from(temps), slot_count, rest)?;
+    let (count, rest) = read_block_count(rest)?;
+    let at = Counts {
+        temps,
+        slots: slot_count as usize,
+    };
+    let (blocks, rest) = read_blocks(alloc, names, at, count, rest)?;
+    Ok(((slots, blocks), rest))
+}
+
 /// A function of this name, whose name was read.
 #[tactic(auto, unfolding(crate::specs::Reading::function_body_at))]
 fn read_function_body<'a>(
@@ -135,14 +156,7 @@ fn read_function_body<'a>(
     let (shape, rest) = read_text_in_place(bytes)?;
     let (params, rest) = read_few(rest)?;
     let (temps, rest) = read_temp_count(params, rest)?;
-    let (slot_count, rest) = read_u32(rest)?;
-    let (slots, rest) = read_slots(alloc, 4 * u64::from(temps), slot_count, rest)?;
-    let (count, rest) = read_block_count(rest)?;
-    let at = Counts {
-        temps,
-        slots: slot_count as usize,
-    };
-    let (blocks, rest) = read_blocks(alloc, names, at, count, rest)?;
+    let ((slots, blocks), rest) = read_code(alloc, names, temps, rest)?;
     let function = FlowFn {
         name: name.copy(alloc)?,
         shape: Shape::new(Vec::from_slice(alloc, shape)?),

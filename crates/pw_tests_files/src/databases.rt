@@ -240,7 +240,11 @@ fn cut_at_every_length(rt: HostRuntime) -> Result<(), Fail> {
         let end = STARTS.get(field + 1).copied().unwrap_or(FULL.len());
         for len in STARTS[field]..end {
             let front = FULL.get(..len).ok_or("a front")?;
-            assert_eq!(rt; payload_fault(rt.alloc(), front), Some(STARTS[field]), "{len}");
+            assert_eq!(rt;
+                payload_fault(rt.alloc(), front),
+                Some(STARTS[field]),
+                "{len}"
+            );
         }
     }
     Ok(())

@@ -4,4 +4,6 @@
 #[cfg(test)]
 mod databases;
 #[cfg(test)]
+mod modules;
+#[cfg(test)]
 mod summaries;
