@@ -6,4 +6,4 @@ use Rattle.pw_phrase.proofs.Loops.{Reading, prepend}
 use Rattle.pw_parse.proofs.decl.declarations.Given as goal
 
 abbrev pub invariant-loop-turn : goal.invariant-loop-turn
-invariant-loop-turn l = Reading (turn_of [] <$> declaration_next l.limit) (declarations l.limit l.fn.tokens) (prepend decl_first l.found.items) (l._turn-end - l._turn) l.tokens
+invariant-loop-turn l = Reading (turn_of [] <$> declaration_next l.limit l.labels) (declarations l.limit l.labels l.fn.tokens) (prepend decl_first l.found.items) (l._turn-end - l._turn) l.tokens

@@ -1,8 +1,0 @@
--- A node with a list in it: its spelling is that of its parts.
-use Rattle.std.proofs.Common.{arith}
-use Rattle.std.proofs.lemmas.Grind.{common_steps}
-use Rattle.pw_spell.proofs.Nodes.{spell_braces_node}
-use Rattle.pw_spell.proofs.spelled.Writer.+init.Goals as goal
-
-pub init-returns-in_ok-end_list-in-List : goal.init-returns-in_ok-end_list-in-List
-init-returns-in_ok-end_list-in-List t c = grind (arith, common_steps, spell_braces_node)
