@@ -1,13 +1,11 @@
 -- What a run keeps, step by step.
-use Rattle.std.proofs.Common.{ℕ, zero, suc, ◌≡◌, ◌+◌, ◌-◌, ◌^◌, ◌<◌, ◌≤◌, List, [], ◌∷◌, ◌++◌, Option, Some, None, length, get_or, refl, sym, ap, subst, ◌∙◌, arith, append_assoc, append-nil}
-use Rattle.std.proofs.lemmas.Grind.{common_steps}
+use Rattle.std.proofs.Common.{ℕ, zero, suc, ◌≡◌, ◌+◌, ◌^◌, ◌<◌, List, [], ◌∷◌, ◌++◌, Option, Some, None, refl, sym, ap, subst, ◌∙◌, arith, append_assoc, append-nil}
 use Rattle.pw_machine.specs.declared.ends.End.{End}
-use Rattle.pw_machine.specs.Core.{Core, advanced, with_register}
 use Rattle.pw_machine.specs.Effect.{Effect, Goes, Reads, Writes, Stops, effect_of}
-use Rattle.pw_machine.specs.Run.{State, Progress, Running, Stopped, answered, input_word, reads, taken, step, goes_on, began, run_of, continued}
+use Rattle.pw_machine.specs.Run.{State, Progress, Running, Stopped, input_word, reads, taken, step, goes_on, began, run_of, continued}
 use Rattle.pw_machine.proofs.Runs.{run_of_sum}
-use Rattle.pw_machine_laws.specs.Lawful.{AreBytes, IsLawfulCore, IsLawful, HasSameText, HasGoneOn, IsLater, state_of}
-use Rattle.pw_machine_laws.proofs.StepLaws.{Follows, FollowsBy, same_text, same_twice, effect_follows, answered_follows}
+use Rattle.pw_machine_laws.specs.Lawful.{AreBytes, IsLawful, IsLater, state_of}
+use Rattle.pw_machine_laws.proofs.StepLaws.{FollowsBy, same_text, same_twice, effect_follows, answered_follows}
 
 no_bytes : AreBytes []
 no_bytes i = omega arith
@@ -22,7 +20,7 @@ byte_of byte rest bytes = bytes 0
 rest_of : (byte : ℕ) (rest : List ℕ) → AreBytes (byte ∷ rest) → AreBytes rest
 rest_of byte rest bytes i = bytes (suc i)
 
-both_bytes : (xs ys : List ℕ) → AreBytes xs → AreBytes ys → AreBytes (xs ++ ys)
+pub both_bytes : (xs ys : List ℕ) → AreBytes xs → AreBytes ys → AreBytes (xs ++ ys)
 both_bytes [] ys one two i = two i
 both_bytes (x ∷ xs) ys one two zero = one 0
 both_bytes (x ∷ xs) ys one two (suc i) = both_bytes xs ys (λ k. one (suc k)) two i

@@ -1,24 +1,26 @@
 -- The program of an image starts in a lawful state.
-use Rattle.std.proofs.Common.{ℕ, zero, suc, ◌≡◌, ◌+◌, ◌*◌, ◌/◌, ◌%◌, ◌^◌, ◌<◌, ◌≤◌, List, [], ◌∷◌, ◌++◌, length, take, drop, get_or, set, refl, sym, ap, subst, ◌∙◌, arith, length-set, length-append}
-use Rattle.std.specs.Prelude.{replicate, slice_set}
+use Rattle.std.proofs.Common.{ℕ, zero, suc, ◌≡◌, ◌+◌, ◌^◌, ◌<◌, ◌≤◌, List, [], ◌∷◌, ◌++◌, length, take, drop, get_or, set, refl, sym, subst, ◌∙◌, arith, length-set}
+use Rattle.std.specs.Prelude.{replicate}
 use Rattle.std.specs.Int.{to_be_bytes, w32}
-use Rattle.pw_value.specs.Limits.{text_start, word_limit, memory_size}
-use Rattle.pw_image.specs.Image.{Item, MemoryValue, IsMemory, AreItems, free_behind, data_start}
-use Rattle.pw_machine.specs.Core.{Core}
-use Rattle.pw_machine.specs.Start.{zeros, overwritten, with_items, bytes_of, rounded_up, stack_start_of, data_start_of, start_memory, start_core, image_start}
+use Rattle.pw_value.specs.Limits.{text_start, memory_size}
+use Rattle.pw_image.specs.Image.{Item, MemoryValue, IsMemory, AreItems, free_behind}
+use Rattle.pw_machine.specs.Start.{zeros, overwritten, with_items, bytes_of, stack_start_of, data_start_of, start_core, image_start}
 use Rattle.pw_machine.proofs.Memories.{length-bytes_of}
-use Rattle.pw_machine_laws.specs.Lawful.{AreBytes, AreRegistersLawful, IsMemoryLawful, IsLawfulCore}
+use Rattle.pw_machine_laws.specs.Lawful.{AreBytes, IsLawfulCore}
 use Rattle.std.specs.List.{AllByRecursion}
-use Rattle.std.proofs.lemmas.List.{get_or_default}
+use Rattle.std.proofs.lemmas.List.{length-replicate}
 use Rattle.pw_machine.proofs.Loaded.{length-overwritten}
-use Rattle.pw_machine.proofs.Data.{length-zeros}
 use Rattle.pw_machine_laws.proofs.StepLaws.{set_bound}
 use Rattle.pw_machine_laws.proofs.RunLaws.{both_bytes}
 
-zero_at : (n k : ℕ) → get_or (replicate n 0) k 0 ≡ 0
+zero_at : (n k : ℕ) → get_or {A = ℕ} (replicate n 0) k 0 ≡ 0
 zero_at zero k = refl
 zero_at (suc n) zero = refl
 zero_at (suc n) (suc k) = zero_at n k
+
+length-zeros : (n : ℕ) → length (zeros n) ≡ n
+unfolding zeros
+length-zeros n = length-replicate n 0
 
 -- ---- bytes
 
@@ -26,8 +28,8 @@ none : AreBytes []
 none i = omega arith
 
 taken : (n : ℕ) (xs : List ℕ) → AreBytes xs → AreBytes (take n xs)
-taken zero xs bytes = none
-taken (suc n) [] bytes = none
+taken zero xs bytes i = omega arith
+taken (suc n) [] bytes i = omega arith
 taken (suc n) (x ∷ xs) bytes zero = bytes 0
 taken (suc n) (x ∷ xs) bytes (suc i) = taken n xs (λ k. bytes (suc k)) i
 

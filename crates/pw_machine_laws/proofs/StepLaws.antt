@@ -1,26 +1,24 @@
 -- A step from a lawful state leads to a lawful one, and leaves the text as it was.
-use Rattle.std.proofs.Common.{ℕ, ℤ, zero, suc, ◌≡◌, ◌+◌, ◌-◌, ◌*◌, ◌/◌, ◌%◌, ◌^◌, ◌<◌, ◌≤◌, ◌⊎◌, inl, inr, Bool, true, false, cond, List, [], ◌∷◌, ◌++◌, length, get_or, set, arith, refl, sym, ap, subst, ◌∙◌, length-set, get_or-set_same, get_or-set_other}
-use Rattle.std.specs.Prelude.{Option, Some, None, IfSome, not, ◌&&◌, ◌||◌, ◌==◌, nat_lt, nat_le, bit_and, bit_or, bit_xor, if◌then◌else◌}
+use Rattle.std.proofs.Common.{ℕ, ℤ, zero, suc, ◌≡◌, ◌+◌, ◌-◌, ◌*◌, ◌/◌, ◌%◌, ◌^◌, ◌<◌, ◌≤◌, ◌⊎◌, inl, inr, Bool, true, false, List, [], ◌∷◌, length, get_or, set, arith, refl, ap, ◌∙◌, length-set, get_or-set_same, get_or-set_other}
+use Rattle.std.specs.Prelude.{Option, Some, None, IfSome, not, ◌&&◌, ◌||◌, ◌==◌, nat_lt, bit_and, bit_or, bit_xor, if◌then◌else◌}
 use Rattle.std.specs.Int.{cast_unsigned, w32}
 use Rattle.std.proofs.Math.Nat.{mod-lt, mod-le, div-le_self}
 use Rattle.std.proofs.Math.Pow.{pow_mono}
 use Rattle.std.proofs.lemmas.Nat.{and_le_l, or_lt, xor_lt, pow_pos}
-use Rattle.std.proofs.lemmas.List.{get_or_default}
-use Rattle.std.proofs.lemmas.Bool.{cases_lt, cases_eq, ltb-true, leb-true}
-use Rattle.pw_value.specs.Limits.{text_start, word_limit, memory_size}
+use Rattle.std.proofs.lemmas.Bool.{cases_lt, cases_eq}
+use Rattle.pw_value.specs.Limits.{text_start, memory_size}
 use Rattle.pw_inst.specs.declared.Inst.{Inst}
 use Rattle.pw_inst.specs.declared.Inst.TheVariants.{Ldb, Ldh, Ldw, Ldo, Stb, Sth, Stw, Ldil, And, Or, Xor, Sub, Addl, Vshd, Mtctl, Comclr, Subi, Extru, Extrs, Zdep, Combt, Combf, Bl, Bv, Ble, Break}
 use Rattle.pw_inst.specs.InstructionTable.{decoded, IsInRange, IsWordOf}
 use Rattle.pw_inst.proofs.Found.{decoded-found}
-use Rattle.pw_machine.specs.declared.ends.End.{End}
 use Rattle.pw_machine.specs.declared.ends.End.TheVariants.{Ended, StackStop}
 use Rattle.pw_machine.specs.declared.ends.Halt.{Halt}
 use Rattle.pw_machine.specs.declared.ends.Halt.TheVariants.{Unaligned, OutOfMemoryRange, TextWrite, BadBranch, BadBreak}
 use Rattle.pw_machine.specs.Core.{Core, register, with_register, next, moved, advanced, byte_at, half_at, word_at, with_byte, with_half, with_word}
 use Rattle.pw_machine.specs.Effect.{Effect, Goes, Reads, Writes, Stops, executed, effect_of, effect_of_inst, unless, puts, loads, stores, breaks, halts, address, access_fault, condition, extracted, sign_extended, deposited, difference, is_in_text, target}
 use Rattle.pw_machine.proofs.FieldSizes.{deposited_small}
-use Rattle.pw_machine_laws.specs.Lawful.{AreBytes, AreRegistersLawful, IsMemoryLawful, IsLawfulCore, HasSameText}
-use Rattle.pw_machine_laws.proofs.StoreLaws.{byte_size, half_size, word_size, byte_stored, byte_other, half_other, word_other}
+use Rattle.pw_machine_laws.specs.Lawful.{AreBytes, AreRegistersLawful, IsLawfulCore, HasSameText}
+use Rattle.pw_machine_laws.proofs.StoreLaws.{byte_size, half_size, word_size, byte_other, half_other, word_other}
 
 -- what a step leaves
 pub record Follows (old new : Core) : Type 0 where
@@ -45,14 +43,22 @@ same_twice a b c one two = record {
 
 -- ---- registers
 
-set_bound : (xs : List ℕ) (i value bound j : ℕ) → ((k : ℕ) → get_or xs k 0 < bound) → value < bound → get_or (set xs i value) j 0 < bound
-set_bound xs i value bound j each small = elim (cases_eq j i) [
-    | inl same ↦ elim (cases_lt i (length xs)) [
-      | inl within ↦ subst (λ (n : ℕ). n < bound) (sym (ap (λ k. get_or (set xs i value) k 0) same ∙ get_or-set_same xs i value 0 within)) small
-      | inr outside ↦ subst (λ (n : ℕ). n < bound) (sym (get_or_default (set xs i value) j 0 (omega (arith, same, outside, length-set xs i value)))) (omega (arith, each 0))
-    ]
-    | inr other ↦ subst (λ (n : ℕ). n < bound) (sym (get_or-set_other xs i j value 0 other)) (each j)
-  ]
+-- a place past a list's end reads the default
+past_end : (xs : List ℕ) (i : ℕ) → length xs ≤ i → get_or xs i 0 ≡ 0
+past_end [] i past = refl
+past_end (x ∷ xs) zero past = absurd (omega arith)
+past_end (x ∷ xs) (suc i) past = past_end xs i (omega arith)
+
+set_at : (xs : List ℕ) (i value bound j : ℕ) → j ≡ i → 0 < bound → value < bound → (i < length xs) ⊎ (length xs ≤ i) → get_or (set xs i value) j 0 < bound
+set_at xs i value bound j same some small (inl within) = omega (arith, small, ap (λ k. get_or (set xs i value) k 0) same ∙ get_or-set_same xs i value 0 within)
+set_at xs i value bound j same some small (inr outside) = omega (arith, some, past_end (set xs i value) j (omega (arith, same, outside, length-set xs i value)))
+
+set_by : (xs : List ℕ) (i value bound j : ℕ) → ((k : ℕ) → get_or xs k 0 < bound) → value < bound → (j ≡ i) ⊎ (j ≡ i → ⊥) → get_or (set xs i value) j 0 < bound
+set_by xs i value bound j each small (inl same) = set_at xs i value bound j same (omega (arith, small)) small (cases_lt i (length xs))
+set_by xs i value bound j each small (inr other) = omega (arith, each j, get_or-set_other xs i j value 0 other)
+
+pub set_bound : (xs : List ℕ) (i value bound j : ℕ) → ((k : ℕ) → get_or xs k 0 < bound) → value < bound → get_or (set xs i value) j 0 < bound
+set_bound xs i value bound j each small = set_by xs i value bound j each small (cases_eq j i)
 
 register_by : (core : Core) (r : ℕ) (b : Bool) → ((k : ℕ) → get_or core.registers k 0 < 2 ^ 32) → (if b then 0 else get_or core.registers r 0) < 2 ^ 32
 register_by core r true each = omega arith
@@ -128,7 +134,7 @@ if_none false h rest e = (refl, e)
 
 not_below : (core : Core) (a : ℕ) (b : Bool) → nat_lt a core.data_start ≡ b → (true && b) ≡ false → core.data_start ≤ a
 not_below core a true is e = absurd cc
-not_below core a false is e = elim (cases_lt a core.data_start) [ | inl lt ↦ absurd (let t : nat_lt a core.data_start ≡ true = grind arith in cc) | inr le ↦ le ]
+not_below core a false is e = elim (cases_lt a core.data_start) [ inl lt ↦ absurd (let t : nat_lt a core.data_start ≡ true = grind arith in cc) | inr le ↦ le ]
 
 -- a store that has no fault lies at or above the start of data
 pub store_above : (core : Core) (a size : ℕ) → access_fault core a size true ≡ None → core.data_start ≤ a
@@ -160,20 +166,20 @@ word_bytes memory a value bytes = half_bytes (with_half memory a (value / 2 ^ 16
 stores_byte : (core : Core) (a value : ℕ) → IsLawfulCore core → FollowsBy core (stores core a 1 (with_byte core.memory a value))
 stores_byte core a value is = unless_by core (access_fault core a 1 true) (Goes (record (advanced core) { memory = with_byte core.memory a value }))
     (λ none. let above = store_above core a 1 none in
-      stored_follows core (with_byte core.memory a value) is (byte_size core.memory a value) (byte_bytes core.memory a value is.memory.bytes)
-        (λ p below. byte_other core.memory a p value (λ e. omega (arith, e, above, below))))
+    stored_follows core (with_byte core.memory a value) is (byte_size core.memory a value) (byte_bytes core.memory a value is.memory.bytes)
+    (λ p below. byte_other core.memory a p value (λ e. omega (arith, e, above, below))))
 
 stores_half : (core : Core) (a value : ℕ) → IsLawfulCore core → FollowsBy core (stores core a 2 (with_half core.memory a value))
 stores_half core a value is = unless_by core (access_fault core a 2 true) (Goes (record (advanced core) { memory = with_half core.memory a value }))
     (λ none. let above = store_above core a 2 none in
-      stored_follows core (with_half core.memory a value) is (half_size core.memory a value) (half_bytes core.memory a value is.memory.bytes)
-        (λ p below. half_other core.memory a p value (inl (omega (arith, above, below)))))
+    stored_follows core (with_half core.memory a value) is (half_size core.memory a value) (half_bytes core.memory a value is.memory.bytes)
+    (λ p below. half_other core.memory a p value (inl (omega (arith, above, below)))))
 
 stores_word : (core : Core) (a value : ℕ) → IsLawfulCore core → FollowsBy core (stores core a 4 (with_word core.memory a value))
 stores_word core a value is = unless_by core (access_fault core a 4 true) (Goes (record (advanced core) { memory = with_word core.memory a value }))
     (λ none. let above = store_above core a 4 none in
-      stored_follows core (with_word core.memory a value) is (word_size core.memory a value) (word_bytes core.memory a value is.memory.bytes)
-        (λ p below. word_other core.memory a p value (inl (omega (arith, above, below)))))
+    stored_follows core (with_word core.memory a value) is (word_size core.memory a value) (word_bytes core.memory a value is.memory.bytes)
+    (λ p below. word_other core.memory a p value (inl (omega (arith, above, below)))))
 
 -- ---- words that are read and computed
 

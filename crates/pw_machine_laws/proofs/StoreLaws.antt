@@ -1,5 +1,5 @@
 -- Reading and storing in memory.
-use Rattle.std.proofs.Common.{ℕ, ◌≡◌, ◌≢◌, ◌+◌, ◌*◌, ◌/◌, ◌%◌, ◌^◌, ◌<◌, ◌≤◌, ◌⊎◌, inl, inr, List, length, get_or, set, arith, refl, sym, ap, ◌∙◌, length-set, get_or-set_same, get_or-set_other}
+use Rattle.std.proofs.Common.{ℕ, ◌≡◌, ◌≢◌, ◌+◌, ◌/◌, ◌%◌, ◌^◌, ◌<◌, ◌≤◌, ◌⊎◌, inl, inr, List, length, arith, refl, ◌∙◌, length-set, get_or-set_same, get_or-set_other}
 use Rattle.pw_machine.specs.Core.{Core, byte_at, half_at, word_at, with_byte, with_half, with_word}
 use Rattle.pw_machine_laws.specs.Lawful.{HasSameText}
 

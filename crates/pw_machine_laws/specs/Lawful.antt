@@ -1,5 +1,5 @@
 -- Which states of the machine are lawful, and how a later state of a run stands to an earlier one.
-use Rattle.std.specs.Prelude.{ℕ, ◌≡◌, ◌+◌, ◌<◌, ◌≤◌, ◌^◌, List, ◌++◌, length, slice_index}
+use Rattle.std.specs.Prelude.{ℕ, ◌≡◌, ◌<◌, ◌≤◌, ◌^◌, List, ◌++◌, length, slice_index}
 use Rattle.pw_value.specs.Limits.{word_limit, memory_size}
 use Rattle.pw_image.specs.Image.{data_start}
 use Rattle.pw_machine.specs.Core.{Core, byte_at}

@@ -12,7 +12,6 @@ ghost use Rattle.std.specs.List.{AllByRecursion};
 
 /// The program of an image starts in a lawful state, and every state of a run from a lawful one is lawful:
 /// the text and all below the data stay, the output only grows, and the rest of the input only shrinks.
-#[tactic(auto, using(crate::proofs::Starts::starts_lawful, crate::proofs::RunLaws::later_from_start, crate::proofs::RunLaws::later_in_run))]
 pub fn runs_keep_lawful_states()
     ensures start { (m : MemoryValue) → IsMemory m → AllByRecursion (λ i. AreBytes i.bytes) m.items → IsLawfulCore (image_start m) }
     ensures run { (m : ℕ) (s : State) → IsLawful s → IsLater s (state_of (run_of m s)) }
