@@ -27,8 +27,18 @@ pub fn summarise(alloc: Global, flow: &FlowModule) -> Result<Summary, AllocError
     Ok(Summary {
         module: flow.name.copy(alloc)?,
         used: module_names(alloc, Part::Named, flow)?,
-        taken: taken(alloc, functions.as_slice(), declared.as_slice(), addressed.as_slice())?,
-        escaped: escaped(alloc, functions.as_slice(), declared.as_slice(), addressed.as_slice())?,
+        taken: taken(
+            alloc,
+            functions.as_slice(),
+            declared.as_slice(),
+            addressed.as_slice(),
+        )?,
+        escaped: escaped(
+            alloc,
+            functions.as_slice(),
+            declared.as_slice(),
+            addressed.as_slice(),
+        )?,
         uses: all_uses(alloc, &sorted)?,
         globals,
         functions,

@@ -14,7 +14,7 @@ use pw_value::fields::names::table_of;
 use std::alloc::{AllocError, Global};
 
 /// Which names of operations are asked for.
-#[derive(Clone, Copy, PartialEq, Eq, Debug)]
+#[derive(Clone, Copy)]
 pub(crate) enum Part {
     /// Every name.
     Named,
