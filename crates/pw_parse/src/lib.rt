@@ -1,12 +1,9 @@
 //! The parser of C90 (ISO/IEC 9899:1990, 6.3 to 6.7).
 #![tactic(auto)]
 
-mod decl;
+mod knot;
 mod module;
 mod parser;
-mod stmt;
+mod phrases;
 
 pub use parser::{ParseFault, parse};
-
-#[cfg(test)]
-mod tests;

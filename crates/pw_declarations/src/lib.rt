@@ -1,0 +1,6 @@
+//! The parser of C90's declarations and initializers (ISO/IEC 9899:1990, 6.5, 6.5.7).
+#![tactic(auto)]
+
+mod decl;
+
+pub use decl::{declaration_with, declarations};
