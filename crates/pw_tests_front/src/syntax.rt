@@ -52,7 +52,7 @@ const TEXTS: [(&[u8], usize); 40] = [
     (b"int a[] = {};", 7),
     (b"int f(void){a: b: case 1: default: ;}", 0),
     (b"int f(void){a:}", 9),
-    (b"typedef int T; int f(void){goto T;}", 12),
+    (b"typedef int T; int f(void){goto T;}", 0),
     (b"int f(a,b) int a; {return a;}", 0),
     (b"int f(int a,b);", 7),
     (b"int f(int a,...){}", 0),
