@@ -3,7 +3,7 @@
 ghost use Rattle.std.specs.Prelude.{◌≡◌, Ok, IfOk, IfErr};
 ghost use Rattle.pw_statements.specs.Branches.{branch_turn, view_alternatives};
 ghost use Rattle.pw_cursor.specs.Reads.{Reads};
-ghost use Rattle.pw_grammar.specs.Declarations.{parts};
+ghost use Rattle.pw_grammar.specs.Declarations as decls;
 ghost use Rattle.pw_grammar.specs.Statements as spec;
 ghost use Rattle.pw_parts.specs.Closed.{closed};
 ghost use Rattle.pw_parts.specs.Views.{view_boxed};
@@ -27,7 +27,7 @@ fn closed_expr<'a, P: StmtParts<'a>>(
     end: Mark,
 ) -> Result<Expr, Stop>
     requires { P.can_read parts.now }
-    ensures { Reads view_expr (closed ((parts (P.limit parts.now)).expr level) end tokens.old) result tokens.new }
+    ensures { Reads view_expr (closed ((decls.parts (P.limit parts.now)).expr level) end tokens.old) result tokens.new }
 {
     let expr = parts.expr(alloc, tokens, level)?;
     tokens.expect(end)?;
