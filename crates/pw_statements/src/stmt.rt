@@ -192,7 +192,7 @@ fn up_to<'a, P: StmtParts<'a>>(
 
 /// An expression out of its box, if there is one.
 fn unboxed(found: Option<Box<Expr>>) -> Option<Expr>
-    ensures { view_optional result ≡ view_optional_box found.entry }
+    ensures { view_optional result ≡ view_optional_box found }
 {
     match found {
         Some(found) => Some(Box::into_inner(found)),
