@@ -2,5 +2,7 @@
 #![tactic(auto)]
 
 mod decl;
+mod parts;
 
-pub use decl::{declaration_with, declarations};
+pub use decl::{declaration_with, declarations, init_of};
+pub use parts::{DeclParts, InitParts};

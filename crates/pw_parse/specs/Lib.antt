@@ -1,3 +1,3 @@
 pub mod Views
-pub mod NestsStmt
+pub mod Nests
 pub mod Parsing

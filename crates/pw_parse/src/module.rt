@@ -9,8 +9,8 @@ ghost use Rattle.pw_parts.specs.Views.{view_behind, view_declared, view_specifie
 ghost use Rattle.pw_parse.specs.Views.{external_first, view_external_list};
 ghost use Rattle.pw_tree.specs.Views.{view_external};
 
-use crate::knot::body;
-use crate::phrases::ToDepth;
+use crate::decl::ToDepth;
+use crate::stmt::body;
 use pw_cursor::{Binding, Stop, Tokens, has_type, has_typedef};
 use pw_declarations::{declaration_with, declarations};
 use pw_grammar::Place;

@@ -3,9 +3,7 @@
 #![tactic(auto)]
 
 mod declared;
-mod phrases;
 mod smaller;
 
 pub use declared::{Declared, declare_name};
-pub use phrases::Phrases;
 pub use smaller::{SmallerParts, boxed_expr, closed_expr, some_specifiers};

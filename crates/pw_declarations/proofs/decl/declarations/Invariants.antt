@@ -6,4 +6,4 @@ use Rattle.pw_parts.proofs.Loops.{Reading, prepend}
 use Rattle.pw_declarations.proofs.decl.declarations.Given as goal
 
 abbrev pub invariant-loop-turn : goal.invariant-loop-turn
-invariant-loop-turn g l = Reading (turn_of [] <$> declaration_next (g.P.Phrases.limit l.phrases) l.labels) (declarations (g.P.Phrases.limit l.phrases) l.labels l.fn.tokens) (prepend decl_first l.found.items) (l._turn-end - l._turn) l.tokens
+invariant-loop-turn g l = Reading (turn_of [] <$> declaration_next (g.P.DeclParts.limit l.parts) l.labels) (declarations (g.P.DeclParts.limit l.parts) l.labels l.fn.tokens) (prepend decl_first l.found.items) (l._turn-end - l._turn) l.tokens

@@ -8,5 +8,5 @@ use Rattle.pw_declarations.proofs.decl.init_declarators.Given as goal
 
 abbrev pub invariant-loop-turn : goal.invariant-loop-turn
 invariant-loop-turn g l =
-    Reading (turn_of [] <$> other_declarator (g.P.Phrases.limit l.phrases) l.typed l.is_typedef) (init_declarators (g.P.Phrases.limit l.phrases) l.typed l.is_typedef (view_init_declarator l.fn.first) l.fn.tokens)
+    Reading (turn_of [] <$> other_declarator (g.P.DeclParts.limit l.parts) l.typed l.is_typedef) (init_declarators (g.P.DeclParts.limit l.parts) l.typed l.is_typedef (view_init_declarator l.fn.first) l.fn.tokens)
     (prepend init_declarator_first l.found.items) (l._turn-end - l._turn) l.tokens

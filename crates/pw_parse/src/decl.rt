@@ -1,26 +1,19 @@
-//! The parsers of expressions, specifiers and declarators, to a depth.
+//! The parsers of the parts of declarations, to a depth.
 
+use crate::init::init;
 use pw_cursor::{Stop, Tokens};
+use pw_declarations::DeclParts;
 use pw_grammar::Place;
-use pw_parts::Phrases;
-use pw_phrase::{Declared, read_declarator, read_expr, read_specifiers};
-use pw_tree::{Expr, Specifier};
+use pw_phrase::{Declared, read_declarator, read_specifiers};
+use pw_tree::{Init, Specifier};
 use std::alloc::Global;
 
-/// They hold one another to this depth.
+/// The parts of each hold one another to this depth.
 #[derive(Clone, Copy)]
 pub struct ToDepth(pub usize);
 
-impl<'a> Phrases<'a> for ToDepth {
+impl<'a> DeclParts<'a> for ToDepth {
     ghost limit = { λ d. d.0 };
-
-    fn depth(&self) -> usize {
-        self.0
-    }
-
-    fn expr(&self, alloc: Global, tokens: &mut Tokens<'a>, level: u8) -> Result<Expr, Stop> {
-        read_expr(alloc, tokens, self.0, level)
-    }
 
     fn specifiers(
         &self,
@@ -39,5 +32,9 @@ impl<'a> Phrases<'a> for ToDepth {
         typed: bool,
     ) -> Result<Declared<'a>, Stop> {
         read_declarator(alloc, tokens, self.0, place, typed)
+    }
+
+    fn init(&self, alloc: Global, tokens: &mut Tokens<'a>) -> Result<Init, Stop> {
+        init(alloc, tokens, self.0, self.0)
     }
 }

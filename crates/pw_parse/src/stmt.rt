@@ -2,10 +2,10 @@
 
 ghost use Rattle.pw_cursor.specs.Reads.{Reads};
 ghost use Rattle.pw_grammar.specs.Statements as spec;
-ghost use Rattle.pw_parse.specs.NestsStmt.{NestsStmt};
+ghost use Rattle.pw_parse.specs.Nests.{Nests};
 ghost use Rattle.pw_tree.specs.Views.{view_block, view_stmt};
 
-use crate::phrases::ToDepth;
+use crate::decl::ToDepth;
 use pw_cursor::{Stop, Tokens};
 use pw_declarations::declarations;
 use pw_phrase::read_expr;
@@ -29,7 +29,7 @@ impl<'a, F: Fn(Global, &mut Tokens<'a>, usize, usize) -> Result<Stmt, Stop>> Stm
 
     ghost parser = { λ k. spec.stmt k.limit k.depth };
 
-    ghost can_read = { λ k. NestsStmt k.limit k.depth (F.pre k.stmt) (F.post k.stmt) };
+    ghost can_read = { λ k. Nests view_stmt spec.stmt k.limit k.depth (F.pre k.stmt) (F.post k.stmt) };
 
     fn expr(&self, alloc: Global, tokens: &mut Tokens<'a>, level: u8) -> Result<Expr, Stop> {
         read_expr(alloc, tokens, self.limit, level)

@@ -1,4 +1,4 @@
-use Rattle.pw_parse.proofs.knot.+stmt.Given as goal
+use Rattle.pw_parse.proofs.stmt.+stmt.Given as goal
 
 abbrev pub decreases-stmt : goal.decreases-stmt
 decreases-stmt l = l.depth
