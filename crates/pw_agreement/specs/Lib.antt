@@ -1,0 +1,2 @@
+pub mod MachineStages
+pub mod Agreement

@@ -1,0 +1,2 @@
+//! Agreement of a source run with the machine's run.
+#![tactic(auto)]
