@@ -2,19 +2,20 @@
 use Rattle.std.proofs.Common.{ℕ, zero, suc, ℤ, ◌+◌, ◌-◌, ◌*◌, ◌/◌, ◌%◌, ◌^◌, ◌<◌, ◌≤◌, ◌≡◌, ◌⊎◌, inl, inr, Bool, true, false, List, Option, Some, None, length, refl, sym, ap, subst, ◌∙◌, arith, add-one}
 use Rattle.std.specs.Prelude.{◌==◌, ◌&&◌, nat_lt, nat_le, bit_and, if◌then◌else◌, slice_index, slice_set}
 use Rattle.std.specs.Int.{cast_unsigned, w32}
-use Rattle.std.proofs.lemmas.Bool.{cases_eq, and_parts, ltb-true, leb-true, le-leb, lt-ltb, ne_eqb, eq-eqb}
+use Rattle.std.proofs.lemmas.Bool.{cases_eq, cases_lt, and_parts, ltb-true, leb-true, le-leb, lt-ltb, ne_eqb, eq-eqb}
 use Rattle.std.proofs.lemmas.Bool.Decides.{nat_tests}
 use Rattle.std.proofs.lemmas.List.{get_or-set_same, get_or-set_other}
 use Rattle.std.proofs.lemmas.Nat.{and_le_l, or_of_32, xor_of_32, mod_below, pow_pos, shl_below}
 use Rattle.std.proofs.Math.ListN.{length-set}
 use Rattle.std.proofs.Math.Nat.{pow-le-pow_right, add-zero}
+use Rattle.pw_value.specs.Limits.{text_start, word_limit}
 use Rattle.pw_inst.specs.declared.Inst.{Inst}
 use Rattle.pw_inst.specs.declared.Inst.TheVariants.{Ldb, Ldh, Ldw, Ldo, Stb, Sth, Stw, Ldil, And, Or, Xor, Sub, Addl, Vshd, Mtctl, Comclr, Subi, Extru, Extrs, Zdep, Combt, Combf, Bl, Bv, Ble, Break}
 use Rattle.pw_inst.specs.InstructionTable.{decoded}
 use Rattle.pw_machine.specs.Core.{Core, register, with_register, next, moved, advanced, word_at}
 use Rattle.pw_machine.specs.Effect.{Effect, Goes, puts, difference, extracted, sign_extended, deposited, executed, effect_of, is_in_text, branches_if}
 use Rattle.pw_machine.specs.Run.{State, Running, goes_on, taken, run_of}
-use Rattle.pw_milli.specs.Calls.{is_scratch}
+use Rattle.pw_milli.specs.Calls.{is_scratch, is_access, IsInside, StaysInside}
 use Rattle.pw_milli.proofs.Small.{Small, at, read, set, when, writes, hop, jumps, skips, is_field, does, inst_at, does_some, passed, small_step, then_run, small_run}
 
 -- ---- registers
@@ -79,10 +80,10 @@ when-some true x y e = (refl, cc)
 when-some false x y e = absurd cc
 
 -- the addresses of places no further than the end of the code, and the one behind
-after_back : (a k size : ℕ) → a + 4 * size < 4096 + 4 * 65536 → k ≤ size → (a + 4 * k + 4) % 2 ^ 32 ≡ a + 4 * (k + 1)
+after_back : (a k size : ℕ) → a + 4 * size < text_start + 4 * word_limit → k ≤ size → (a + 4 * k + 4) % 2 ^ 32 ≡ a + 4 * (k + 1)
 after_back a k size lt le = omega arith
 
-writes-step : (base : Core) (a size : ℕ) (w w' : Small) (registers : List ℕ) (t v u : ℕ) → a + 4 * size < 4096 + 4 * 65536 → w.back ≤ size → Holds base.registers w.registers registers → u ≡ v → v < 2 ^ 32 → writes w t v ≡ Some w' → Steps base a w' (puts (shown base a w registers) t u)
+writes-step : (base : Core) (a size : ℕ) (w w' : Small) (registers : List ℕ) (t v u : ℕ) → a + 4 * size < text_start + 4 * word_limit → w.back ≤ size → Holds base.registers w.registers registers → u ≡ v → v < 2 ^ 32 → writes w t v ≡ Some w' → Steps base a w' (puts (shown base a w registers) t u)
 writes-step base a size w w' registers t v u lt le h same range e =
     let is = when-some (is_scratch t) _ w' e in
     let small = scratch_small t is.0 in
@@ -97,7 +98,7 @@ writes-step base a size w w' registers t v u lt le h same range e =
 
 -- ---- the forms
 
-jumps-step : (base : Core) (a size k : ℕ) (w w' : Small) (registers : List ℕ) (taken taken' : Bool) (disp : ℤ) → a + 4 * size < 4096 + 4 * 65536 → w.back ≤ size → Holds base.registers w.registers registers → taken' ≡ taken → w.front ≡ k → jumps size w taken (hop k disp) ≡ Some w' → Steps base a w' (branches_if (shown base a w registers) taken' disp)
+jumps-step : (base : Core) (a size k : ℕ) (w w' : Small) (registers : List ℕ) (taken taken' : Bool) (disp : ℤ) → a + 4 * size < text_start + 4 * word_limit → w.back ≤ size → Holds base.registers w.registers registers → taken' ≡ taken → w.front ≡ k → jumps size w taken (hop k disp) ≡ Some w' → Steps base a w' (branches_if (shown base a w registers) taken' disp)
 jumps-step base a size k w w' registers taken taken' disp lt le h same front e =
     let is = when-some (nat_le (hop k disp) size) _ w' e in
     let to : hop k disp ≤ size = leb-true (hop k disp) size is.0 in
@@ -112,7 +113,7 @@ jumps-step base a size k w w' registers taken taken' disp lt le h same front e =
       holds = h;
     })
 
-skips-step : (base : Core) (a size : ℕ) (w w' : Small) (registers : List ℕ) (t : ℕ) (skip skip' : Bool) → a + 4 * size < 4096 + 4 * 65536 → w.back ≤ size → Holds base.registers w.registers registers → skip' ≡ skip → skips w t skip ≡ Some w' → Steps base a w' (Goes (with_register (moved (shown base a w registers) (next (shown base a w registers)) skip') t 0))
+skips-step : (base : Core) (a size : ℕ) (w w' : Small) (registers : List ℕ) (t : ℕ) (skip skip' : Bool) → a + 4 * size < text_start + 4 * word_limit → w.back ≤ size → Holds base.registers w.registers registers → skip' ≡ skip → skips w t skip ≡ Some w' → Steps base a w' (Goes (with_register (moved (shown base a w registers) (next (shown base a w registers)) skip') t 0))
 skips-step base a size w w' registers t skip skip' lt le h same e =
     let is = when-some (t == 0) _ w' e in
     let next_is : (a + 4 * w.back + 4) % 2 ^ 32 ≡ a + 4 * (w.back + 1) = after_back a w.back size lt le in
@@ -160,7 +161,7 @@ difference_range a b = omega arith
 and_range : (a b : ℕ) → a < 2 ^ 32 → bit_and a b < 2 ^ 32
 and_range a b lt = let le : bit_and a b ≤ a = and_le_l a b in omega arith
 
-pub does-step : (base : Core) (a size : ℕ) (w w' : Small) (registers : List ℕ) → a + 4 * size < 4096 + 4 * 65536 → w.back ≤ size → Holds base.registers w.registers registers → (i : Inst) → does size w i ≡ Some w' → Steps base a w' (executed (shown base a w registers) i)
+pub does-step : (base : Core) (a size : ℕ) (w w' : Small) (registers : List ℕ) → a + 4 * size < text_start + 4 * word_limit → w.back ≤ size → Holds base.registers w.registers registers → (i : Inst) → does size w i ≡ Some w' → Steps base a w' (executed (shown base a w registers) i)
 does-step base a size w w' registers lt le h (And r1 r2 t) e =
     let r = read-shown base a w registers h in
     writes-step base a size w w' registers t _ _ lt le h (rw (r r1, r r2) refl) (and_range _ _ (read_range w.registers r1 h.in_range)) e
@@ -223,16 +224,16 @@ does-step base a size w w' registers lt le h (Break im5 im13) e = absurd cc
 -- the instructions of the code stand as words from an address on, and the text goes on behind them
 pub record Stands (code : List Inst) (a : ℕ) (core : Core) : Type 0 where
   pub aligned : a % 4 ≡ 0
-  pub above : 4096 ≤ a
-  pub within : a + 4 * length code < 4096 + 4 * core.text
-  pub text : core.text ≤ 65536
+  pub above : text_start ≤ a
+  pub within : a + 4 * length code < text_start + 4 * core.text
+  pub text : core.text ≤ word_limit
   pub each : (k : ℕ) (i : Inst) → inst_at code k ≡ Some i → decoded (word_at core.memory (a + 4 * k)) ≡ Some i
 
 pub in_text : (core : Core) (code : List Inst) (a k : ℕ) → Stands code a core → k ≤ length code → is_in_text core (a + 4 * k) ≡ true
 in_text core code a k h le =
     let one : ((a + 4 * k) % 4 == 0) ≡ true = eq-eqb ((a + 4 * k) % 4) 0 (omega (arith, h.aligned)) in
-    let two : nat_le 4096 (a + 4 * k) ≡ true = le-leb 4096 (a + 4 * k) (omega (arith, h.above)) in
-    let three : nat_lt (a + 4 * k) (4096 + 4 * core.text) ≡ true = lt-ltb (a + 4 * k) (4096 + 4 * core.text) (omega (arith, h.within)) in
+    let two : nat_le text_start (a + 4 * k) ≡ true = le-leb text_start (a + 4 * k) (omega (arith, h.above)) in
+    let three : nat_lt (a + 4 * k) (text_start + 4 * core.text) ≡ true = lt-ltb (a + 4 * k) (text_start + 4 * core.text) (omega (arith, h.within)) in
     rw (one, two, three) refl
 
 -- what the machine does at an instruction that is not nullified, and at one that is
@@ -254,7 +255,7 @@ does_some-is size w w' (Some i) e = (i, refl, e)
 
 choice_step : (base : Core) (a : ℕ) (code : List Inst) (w w' : Small) (registers : List ℕ) → Stands code a base → w.front < length code → w.back ≤ length code → Holds base.registers w.registers registers → (n : Bool) → w.nullify ≡ n → (if n then Some (passed w) else does_some (length code) w (inst_at code w.front)) ≡ Some w' → Steps base a w' (effect_of (shown base a w registers))
 choice_step base a code w w' registers st lt le h true n e =
-    let low : a + 4 * length code < 4096 + 4 * 65536 = omega (arith, st.within, st.text) in
+    let low : a + 4 * length code < text_start + 4 * word_limit = omega (arith, st.within, st.text) in
     let next_is : (a + 4 * w.back + 4) % 2 ^ 32 ≡ a + 4 * (w.back + 1) = after_back a w.back (length code) low le in
     let same : passed w ≡ w' = cc in
     subst (λ (x : Small). Steps base a x (effect_of (shown base a w registers))) same
@@ -264,7 +265,7 @@ choice_step base a code w w' registers st lt le h true n e =
       holds = h;
     })
 choice_step base a code w w' registers st lt le h false n e =
-    let low : a + 4 * length code < 4096 + 4 * 65536 = omega (arith, st.within, st.text) in
+    let low : a + 4 * length code < text_start + 4 * word_limit = omega (arith, st.within, st.text) in
     let is = does_some-is (length code) w w' (inst_at code w.front) e in
     let does = does-step base a (length code) w w' registers low le h is.0 is.2 in
     let runs : effect_of (shown base a w registers) ≡ executed (shown base a w registers) is.0 =
@@ -281,42 +282,103 @@ step_small base a code w w' registers st h e =
     let both = and_parts (nat_lt w.front (length code)) (nat_le w.back (length code)) is.0 in
     choice_step base a code w w' registers st (ltb-true w.front (length code) both.0) (leb-true w.back (length code) both.1) h w.nullify refl is.1
 
+-- ---- steps inside
+
+-- the code stands inside: from where the run begins on, and up to an address
+pub record Lies (top : ℕ) (code : List Inst) (a : ℕ) (core : Core) : Type 0 where
+  pub stands : Stands code a core
+  pub low : core.front ≤ a
+  pub high : a + 4 * length code ≤ top
+
+-- what the small machine does is no access
+quiet_form : (size : ℕ) (w w' : Small) (i : Inst) → does size w i ≡ Some w' → is_access (Some i) ≡ false
+quiet_form size w w' (Ldb im b t) e = absurd cc
+quiet_form size w w' (Ldh im b t) e = absurd cc
+quiet_form size w w' (Ldw im b t) e = absurd cc
+quiet_form size w w' (Stb r im b) e = absurd cc
+quiet_form size w w' (Sth r im b) e = absurd cc
+quiet_form size w w' (Stw r im b) e = absurd cc
+quiet_form size w w' _ e = refl
+
+quiet_some : (size : ℕ) (w w' : Small) (o : Option Inst) → does_some size w o ≡ Some w' → (i : Inst) × (o ≡ Some i) × (is_access (Some i) ≡ false)
+quiet_some size w w' None e = absurd cc
+quiet_some size w w' (Some i) e = (i, refl, quiet_form size w w' i e)
+
+quiet_step : (code : List Inst) (w w' : Small) (n : Bool) → w.nullify ≡ n → (if n then Some (passed w) else does_some (length code) w (inst_at code w.front)) ≡ Some w' → w.nullify ≡ false → (i : Inst) × (inst_at code w.front ≡ Some i) × (is_access (Some i) ≡ false)
+quiet_step code w w' true n e unset = absurd cc
+quiet_step code w w' false n e unset = quiet_some (length code) w w' (inst_at code w.front) e
+
+-- the machine is inside where the small machine takes a step
+step_inside : (top a : ℕ) (code : List Inst) (core : Core) (w w' : Small) (registers : List ℕ) → Lies top code a core → small_step code w ≡ Some w' → IsInside core.front top (shown core a w registers)
+step_inside top a code core w w' registers l e =
+    let is = if_some (nat_lt w.front (length code) && nat_le w.back (length code)) _ w' e in
+    let both = and_parts (nat_lt w.front (length code)) (nat_le w.back (length code)) is.0 in
+    let lt : w.front < length code = ltb-true w.front (length code) both.0 in
+    record {
+      above = omega (arith, l.low);
+      below = omega (arith, l.high, lt);
+      quiet = λ unset.
+          let q = quiet_step code w w' w.nullify refl is.1 unset in
+          (omega (arith, l.high, lt), ap is_access (l.stands.each w.front q.0 q.1) ∙ q.2);
+    }
+
+-- the same of an instruction that is known
+pub inst_inside : (top a k : ℕ) (code : List Inst) (core : Core) (i : Inst) (f : ℕ → ℕ) (registers : List ℕ) → Lies top code a core → k + 1 ≤ length code → inst_at code k ≡ Some i → is_access (Some i) ≡ false → IsInside core.front top (shown core a (at k f) registers)
+inst_inside top a k code core i f registers l le e quiet = record {
+  above = omega (arith, l.low);
+  below = omega (arith, l.high, le);
+  quiet = λ unset. (omega (arith, l.high, le), ap is_access (l.stands.each k i e) ∙ quiet);
+}
+
+-- one step more
+pub inside_more : (address top m : ℕ) (s t : State) → StaysInside address top m s → run_of m s ≡ Running t → IsInside address top t.core → StaysInside address top (m + 1) s
+inside_more address top m s t path r is k mid lt e = elim (cases_lt k m) [
+  | inl before ↦ path k mid before e
+  | inr behind ↦
+      let at_m : k ≡ m = omega arith in
+      let here : run_of m s ≡ Running mid = subst (λ (n : ℕ). run_of n s ≡ Running mid) at_m e in
+      let same : t ≡ mid = cc in
+      subst (λ (u : State). IsInside address top u.core) same is
+]
+
 -- after m steps the run from a state shows a state of the small machine
-pub record Reaches (s : State) (a m : ℕ) (w : Small) : Type 0 where
+pub record Reaches (top : ℕ) (s : State) (a m : ℕ) (w : Small) : Type 0 where
   pub registers : List ℕ
   pub runs : run_of m s ≡ Running (record s { core = shown s.core a w registers })
   pub holds : Holds s.core.registers w.registers registers
+  pub path : StaysInside s.core.front top m s
 
 pub one_more : (s : State) (m : ℕ) (core new : Core) → run_of m s ≡ Running (record s { core = core }) → effect_of core ≡ Goes new → run_of (m + 1) s ≡ Running (record s { core = new })
 unfolding run_of
 one_more s m core new r e = rw add-one (ap goes_on r ∙ ap (λ (x : Effect). taken x (record s { core = core })) e)
 
-reaches_step : (s : State) (a m : ℕ) (code : List Inst) (w w' : Small) → Stands code a s.core → Reaches s a m w → small_step code w ≡ Some w' → Reaches s a (m + 1) w'
-reaches_step s a m code w w' st r e =
-    let one = step_small s.core a code w w' r.registers st r.holds e in
+reaches_step : (top : ℕ) (s : State) (a m : ℕ) (code : List Inst) (w w' : Small) → Lies top code a s.core → Reaches top s a m w → small_step code w ≡ Some w' → Reaches top s a (m + 1) w'
+reaches_step top s a m code w w' st r e =
+    let one = step_small s.core a code w w' r.registers st.stands r.holds e in
     record {
       registers = one.registers;
       runs = one_more s m (shown s.core a w r.registers) (shown s.core a w' one.registers) r.runs one.goes;
       holds = one.holds;
+      path = inside_more s.core.front top m s (record s { core = shown s.core a w r.registers }) r.path r.runs (step_inside top a code s.core w w' r.registers st e);
     }
 
-reaches_more : (s : State) (a m n : ℕ) (code : List Inst) (w w' : Small) → ((m : ℕ) (w w' : Small) → Reaches s a m w → small_run code n w ≡ Some w' → Reaches s a (m + n) w') → Stands code a s.core → Reaches s a m w → (o : Option Small) → small_step code w ≡ o → then_run (small_run code n) o ≡ Some w' → Reaches s a (m + suc n) w'
-reaches_more s a m n code w w' h st r None o e = absurd cc
-reaches_more s a m n code w w' h st r (Some mid) o e =
+reaches_more : (top : ℕ) (s : State) (a m n : ℕ) (code : List Inst) (w w' : Small) → ((m : ℕ) (w w' : Small) → Reaches top s a m w → small_run code n w ≡ Some w' → Reaches top s a (m + n) w') → Lies top code a s.core → Reaches top s a m w → (o : Option Small) → small_step code w ≡ o → then_run (small_run code n) o ≡ Some w' → Reaches top s a (m + suc n) w'
+reaches_more top s a m n code w w' h st r None o e = absurd cc
+reaches_more top s a m n code w w' h st r (Some mid) o e =
     let count : m + 1 + n ≡ m + suc n = omega arith in
-    subst (λ (k : ℕ). Reaches s a k w') count (h (m + 1) mid w' (reaches_step s a m code w mid st r o) e)
+    subst (λ (k : ℕ). Reaches top s a k w') count (h (m + 1) mid w' (reaches_step top s a m code w mid st r o) e)
 
 -- a run of the small machine is one of the machine
-pub reaches : (n : ℕ) (s : State) (a : ℕ) (code : List Inst) → Stands code a s.core → (m : ℕ) (w w' : Small) → Reaches s a m w → small_run code n w ≡ Some w' → Reaches s a (m + n) w'
-reaches zero s a code st m w w' r e =
+pub reaches : (top n : ℕ) (s : State) (a : ℕ) (code : List Inst) → Lies top code a s.core → (m : ℕ) (w w' : Small) → Reaches top s a m w → small_run code n w ≡ Some w' → Reaches top s a (m + n) w'
+reaches top zero s a code st m w w' r e =
     let same : w ≡ w' = cc in
-    rw add-zero (subst (λ (x : Small). Reaches s a m x) same r)
-reaches (suc n) s a code st m w w' r e = reaches_more s a m n code w w' (reaches n s a code st) st r (small_step code w) refl e
+    rw add-zero (subst (λ (x : Small). Reaches top s a m x) same r)
+reaches top (suc n) s a code st m w w' r e = reaches_more top s a m n code w w' (reaches top n s a code st) st r (small_step code w) refl e
 
 -- ---- branches through registers
 
 -- the address behind a branch, which it puts into a register
-links-step : (base : Core) (a size : ℕ) (w : Small) (registers : List ℕ) (t : ℕ) (disp : ℤ) → a + 4 * size < 4096 + 4 * 65536 → w.back ≤ size → hop w.front disp ≤ size → is_scratch t ≡ true → Holds base.registers w.registers registers → Steps base a (record { registers = set w.registers t (a + 4 * (w.back + 1)); front = w.back; back = hop w.front disp; nullify = false }) (executed (shown base a w registers) (Bl disp t false))
+links-step : (base : Core) (a size : ℕ) (w : Small) (registers : List ℕ) (t : ℕ) (disp : ℤ) → a + 4 * size < text_start + 4 * word_limit → w.back ≤ size → hop w.front disp ≤ size → is_scratch t ≡ true → Holds base.registers w.registers registers → Steps base a (record { registers = set w.registers t (a + 4 * (w.back + 1)); front = w.back; back = hop w.front disp; nullify = false }) (executed (shown base a w registers) (Bl disp t false))
 links-step base a size w registers t disp lt le to s h =
     let small = scratch_small t s in
     let zero_not : (t == 0) ≡ false = ne_eqb t 0 (λ z. omega (arith, small.1)) in
@@ -328,26 +390,28 @@ links-step base a size w registers t disp lt le to s h =
       holds = Holds-set base.registers w.registers registers t (a + 4 * (w.back + 1)) h s (omega arith);
     }
 
-pub links : (s : State) (a m k : ℕ) (f : ℕ → ℕ) (code : List Inst) (t : ℕ) (disp : ℤ) → Stands code a s.core → Reaches s a m (at k f) → k + 1 ≤ length code → hop k disp ≤ length code → is_scratch t ≡ true → inst_at code k ≡ Some (Bl disp t false) → Reaches s a (m + 1) (record { registers = set f t (a + 4 * (k + 1 + 1)); front = k + 1; back = hop k disp; nullify = false })
-links s a m k f code t disp st r le to sc e =
-    let low : a + 4 * length code < 4096 + 4 * 65536 = omega (arith, st.within, st.text) in
+pub links : (top : ℕ) (s : State) (a m k : ℕ) (f : ℕ → ℕ) (code : List Inst) (t : ℕ) (disp : ℤ) → Lies top code a s.core → Reaches top s a m (at k f) → k + 1 ≤ length code → hop k disp ≤ length code → is_scratch t ≡ true → inst_at code k ≡ Some (Bl disp t false) → Reaches top s a (m + 1) (record { registers = set f t (a + 4 * (k + 1 + 1)); front = k + 1; back = hop k disp; nullify = false })
+links top s a m k f code t disp st r le to sc e =
+    let low : a + 4 * length code < text_start + 4 * word_limit = omega (arith, st.stands.within, st.stands.text) in
     let one = links-step s.core a (length code) (at k f) r.registers t disp low le to sc r.holds in
     let next : Small = record { registers = set f t (a + 4 * (k + 1 + 1)); front = k + 1; back = hop k disp; nullify = false } in
     record {
       registers = one.registers;
       runs = one_more s m (shown s.core a (at k f) r.registers) (shown s.core a next one.registers) r.runs
-          (effect_runs (shown s.core a (at k f) r.registers) (Bl disp t false) (in_text s.core code a k st (omega arith)) refl (st.each k (Bl disp t false) e) ∙ one.goes);
+          (effect_runs (shown s.core a (at k f) r.registers) (Bl disp t false) (in_text s.core code a k st.stands (omega arith)) refl (st.stands.each k (Bl disp t false) e) ∙ one.goes);
       holds = one.holds;
+      path = inside_more s.core.front top m s (record s { core = shown s.core a (at k f) r.registers }) r.path r.runs (inst_inside top a k code s.core (Bl disp t false) f r.registers st le e refl);
     }
 
 -- a branch to a place whose address is in a register
-pub computed : (s : State) (a m k b to : ℕ) (f : ℕ → ℕ) (code : List Inst) → Stands code a s.core → Reaches s a m (at k f) → k + 1 ≤ length code → inst_at code k ≡ Some (Bv b false) → read f b ≡ a + 4 * to → Reaches s a (m + 1) (record { registers = f; front = k + 1; back = to; nullify = false })
-computed s a m k b to f code st r le e is =
+pub computed : (top : ℕ) (s : State) (a m k b to : ℕ) (f : ℕ → ℕ) (code : List Inst) → Lies top code a s.core → Reaches top s a m (at k f) → k + 1 ≤ length code → inst_at code k ≡ Some (Bv b false) → read f b ≡ a + 4 * to → Reaches top s a (m + 1) (record { registers = f; front = k + 1; back = to; nullify = false })
+computed top s a m k b to f code st r le e is =
     let core = shown s.core a (at k f) r.registers in
     let there : register core b ≡ a + 4 * to = read-shown s.core a (at k f) r.registers r.holds b ∙ is in
     record {
       registers = r.registers;
       runs = one_more s m core (shown s.core a (record { registers = f; front = k + 1; back = to; nullify = false }) r.registers) r.runs
-          (effect_runs core (Bv b false) (in_text s.core code a k st (omega arith)) refl (st.each k (Bv b false) e) ∙ ap (λ (n : ℕ). Goes (moved core n false)) there);
+          (effect_runs core (Bv b false) (in_text s.core code a k st.stands (omega arith)) refl (st.stands.each k (Bv b false) e) ∙ ap (λ (n : ℕ). Goes (moved core n false)) there);
       holds = r.holds;
+      path = inside_more s.core.front top m s (record s { core = core }) r.path r.runs (inst_inside top a k code s.core (Bv b false) f r.registers st le e refl);
     }

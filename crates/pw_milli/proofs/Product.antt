@@ -1,5 +1,5 @@
 -- `$mul` multiplies.
-use Rattle.std.proofs.Common.{ℕ, pos, ◌+◌, ◌*◌, ◌%◌, ◌^◌, ◌<◌, ◌≤◌, ◌≡◌, Bool, true, false, Some, refl, ap, ◌∙◌, arith}
+use Rattle.std.proofs.Common.{ℕ, pos, ◌+◌, ◌*◌, ◌%◌, ◌^◌, ◌<◌, ◌≤◌, ◌≡◌, Bool, true, false, Some, length, refl, ap, ◌∙◌, arith}
 use Rattle.std.specs.Prelude.{nat_le, slice_index, bit_or, if◌then◌else◌}
 use Rattle.std.specs.Int.Bits.{or_zero_r}
 use Rattle.std.proofs.Math.Nat.{mul_comm}
@@ -10,7 +10,7 @@ use Rattle.pw_milli.specs.Calls.{Enters, Computes, IsProduct}
 use Rattle.pw_milli.proofs.Codes.{multiplying}
 use Rattle.pw_milli.proofs.Small.{at, set, small_run, run_on}
 use Rattle.pw_milli.proofs.Bridge.{reaches, links}
-use Rattle.pw_milli.proofs.Returns.{Decodes, front_stands, enters, computes}
+use Rattle.pw_milli.proofs.Returns.{Decodes, front_lies, enters, computes}
 use Rattle.pw_milli.proofs.Multiplying.{mul_loop}
 
 decodes : Decodes mul_words multiplying
@@ -51,20 +51,21 @@ total_is acc x y x' y' p none e h k =
     let product : x * y ≡ p = ap (λ (n : ℕ). n * y) e ∙ ap (λ (n : ℕ). x' * n) h ∙ k in
     omega (arith, product, none)
 
-pub mul_computes : (address : ℕ) (s : State) → Enters mul_words address s → Computes s 240 (IsProduct s)
+pub mul_computes : (address : ℕ) (s : State) → Enters mul_words address s → Computes mul_words address s 240 (IsProduct s)
 mul_computes a s h =
     let f = slice_index s.core.registers in
-    let st = front_stands mul_words multiplying a s.core h.stands decodes (omega arith) in
+    let top = a + 4 * length mul_words in
+    let st = front_lies mul_words multiplying a s h decodes (omega arith) in
     let ordered = orders f (nat_le (f 26) (f 25)) refl in
-    let r1 = reaches ordered.steps s a multiplying st 0 (at 0 f) (at 4 ordered.last) (enters mul_words a s h) ordered.runs in
-    let r2 = links s a (0 + ordered.steps) 4 ordered.last multiplying 22 (pos 128) st r1 (omega arith) (omega arith) refl refl in
+    let r1 = reaches top ordered.steps s a multiplying st 0 (at 0 f) (at 4 ordered.last) (enters top mul_words a s h) ordered.runs in
+    let r2 = links top s a (0 + ordered.steps) 4 ordered.last multiplying 22 (pos 128) st r1 (omega arith) (omega arith) refl refl in
     let clear = clears (set ordered.last 22 (a + 4 * 6)) in
-    let r3 = reaches 1 s a multiplying st (0 + ordered.steps + 1) (record { registers = set ordered.last 22 (a + 4 * 6); front = 5; back = 134; nullify = false }) (at 134 clear.0) r2 clear.1 in
+    let r3 = reaches top 1 s a multiplying st (0 + ordered.steps + 1) (record { registers = set ordered.last 22 (a + 4 * 6); front = 5; back = 134; nullify = false }) (at 134 clear.0) r2 clear.1 in
     let table : clear.0 22 ≡ a + 24 = clear.4 in
     let x : clear.0 26 < 2 ^ 32 = r3.holds.in_range 26 in
-    let done = mul_loop 7 s a (0 + ordered.steps + 1 + 1) clear.0 st r3 table x (omega arith) in
+    let done = mul_loop top 7 s a (0 + ordered.steps + 1 + 1) clear.0 st r3 table x (omega arith) in
     let few : ordered.steps ≤ 4 = ordered.soon in
     let soon : done.steps ≤ 11 * (7 + 1) = done.soon in
     let total : (clear.0 29 + clear.0 26 * clear.0 25) % 2 ^ 32 ≡ f 26 * f 25 % 2 ^ 32 = total_is (clear.0 29) (clear.0 26) (clear.0 25) (ordered.last 26) (ordered.last 25) (f 26 * f 25) clear.5 clear.2 clear.3 ordered.same in
     let product : done.last 29 ≡ f 26 * f 25 % 2 ^ 32 = cc in
-    computes s a (0 + ordered.steps + 1 + 1 + done.steps) done.place 240 multiplying done.last (IsProduct s) st done.reach (omega (arith, done.inside)) done.is_return (omega arith) product
+    computes mul_words a s a (0 + ordered.steps + 1 + 1 + done.steps) done.place 240 multiplying done.last (IsProduct s) st done.reach h.front (omega (arith, done.inside)) done.is_return (omega arith) product

@@ -9,9 +9,9 @@ use Rattle.pw_machine.specs.declared.ends.End.{End}
 use Rattle.pw_machine.specs.Core.{Core, register, moved, advanced, word_at}
 use Rattle.pw_machine.specs.Effect.{Goes, effect_of}
 use Rattle.pw_machine.specs.Run.{State, Running, began, run_of}
-use Rattle.pw_milli.specs.Calls.{StandsAt, Enters, returned, is_scratch, Computes}
+use Rattle.pw_milli.specs.Calls.{StandsAt, Enters, returned, is_scratch, IsInside, StaysInside, Computes}
 use Rattle.pw_milli.proofs.Small.{Small, at, inst_at, Arrives}
-use Rattle.pw_milli.proofs.Bridge.{shown, Stands, Reaches, in_text, effect_runs, effect_passes, one_more, reaches}
+use Rattle.pw_milli.proofs.Bridge.{shown, Stands, Lies, Reaches, in_text, effect_runs, effect_passes, one_more, reaches, inst_inside, inside_more}
 
 -- ---- code that stands
 
@@ -57,8 +57,8 @@ started : (words : List ℕ) (a : ℕ) (s : State) → Enters words a s → run_
 unfolding run_of
 started words a s h = ap (λ (o : Option End). began o s) h.stopped
 
-pub enters : (words : List ℕ) (a : ℕ) (s : State) → Enters words a s → Reaches s a 0 (at 0 (slice_index s.core.registers))
-enters words a s h =
+pub enters : (top : ℕ) (words : List ℕ) (a : ℕ) (s : State) → Enters words a s → Reaches top s a 0 (at 0 (slice_index s.core.registers))
+enters top words a s h =
     let front : s.core.front ≡ a + 4 * 0 = omega (arith, h.front) in
     let back : s.core.back ≡ a + 4 * (0 + 1) = omega (arith, h.back) in
     let core : shown s.core a (at 0 (slice_index s.core.registers)) s.core.registers ≡ s.core =
@@ -72,12 +72,13 @@ enters words a s h =
         kept = λ r k. refl;
         in_range = h.registers.words;
       };
+      path = λ k mid lt e. absurd (omega arith);
     }
 
 -- ---- from one part of the code to the next
 
-pub moves : (s : State) (a p m : ℕ) (f : ℕ → ℕ) → Reaches s a m (at p f) → Reaches s (a + 4 * p) m (at 0 f)
-moves s a p m f r =
+pub moves : (top : ℕ) (s : State) (a p m : ℕ) (f : ℕ → ℕ) → Reaches top s a m (at p f) → Reaches top s (a + 4 * p) m (at 0 f)
+moves top s a p m f r =
     let front : a + 4 * p ≡ a + 4 * p + 4 * 0 = omega arith in
     let back : a + 4 * (p + 1) ≡ a + 4 * p + 4 * (0 + 1) = omega arith in
     let placed = λ (f b : ℕ). record s.core { registers = r.registers; front = f; back = b; nullify = false } in
@@ -85,23 +86,29 @@ moves s a p m f r =
       registers = r.registers;
       runs = r.runs ∙ ap (λ (n : ℕ). Running (record s { core = placed n (a + 4 * (p + 1)) })) front ∙ ap (λ (n : ℕ). Running (record s { core = placed (a + 4 * p + 4 * 0) n })) back;
       holds = r.holds;
+      path = r.path;
     }
 
 -- ---- the return
 
 -- the two steps of `BV,n 0(link)`: the branch, and the nullified word behind it
-pub returns : (s : State) (a m k link : ℕ) (code : List Inst) (f : ℕ → ℕ) → Stands code a s.core → (r : Reaches s a m (at k f)) → k + 1 ≤ length code → inst_at code k ≡ Some (Bv link true) → is_scratch link ≡ false → run_of (m + 2) s ≡ Running (returned s link r.registers)
-returns s a m k link code f st r le e sc =
+pub returns : (top : ℕ) (s : State) (a m k link : ℕ) (code : List Inst) (f : ℕ → ℕ) → Lies top code a s.core → (r : Reaches top s a m (at k f)) → k + 1 ≤ length code → inst_at code k ≡ Some (Bv link true) → is_scratch link ≡ false → (run_of (m + 2) s ≡ Running (returned s link r.registers)) × StaysInside s.core.front top (m + 2) s
+returns top s a m k link code f st r le e sc =
     let core = shown s.core a (at k f) r.registers in
     let to = register s.core link in
     let same : register core link ≡ to = ap (λ (v : ℕ). if link == 0 then 0 else v) (r.holds.kept link sc) in
     let one : effect_of core ≡ Goes (moved core to true) =
-    effect_runs core (Bv link true) (in_text s.core code a k st (omega arith)) refl (st.each k (Bv link true) e) ∙ ap (λ (n : ℕ). Goes (moved core n true)) same in
+    effect_runs core (Bv link true) (in_text s.core code a k st.stands (omega arith)) refl (st.stands.each k (Bv link true) e) ∙ ap (λ (n : ℕ). Goes (moved core n true)) same in
     let two : effect_of (moved core to true) ≡ Goes (advanced (moved core to true)) =
-    effect_passes (moved core to true) (in_text s.core code a (k + 1) st le) refl in
+    effect_passes (moved core to true) (in_text s.core code a (k + 1) st.stands le) refl in
     let count : m + 1 + 1 ≡ m + 2 = omega arith in
-    subst (λ (n : ℕ). run_of n s ≡ Running (returned s link r.registers)) count
-    (one_more s (m + 1) (moved core to true) (advanced (moved core to true)) (one_more s m core (moved core to true) r.runs one) two)
+    let branched : run_of (m + 1) s ≡ Running (record s { core = moved core to true }) = one_more s m core (moved core to true) r.runs one in
+    let first : StaysInside s.core.front top (m + 1) s =
+    inside_more s.core.front top m s (record s { core = core }) r.path r.runs (inst_inside top a k code s.core (Bv link true) f r.registers st le e refl) in
+    let last : IsInside s.core.front top (moved core to true) = record { above = omega (arith, st.low); below = omega (arith, st.high, le); quiet = λ unset. absurd cc } in (
+      subst (λ (n : ℕ). run_of n s ≡ Running (returned s link r.registers)) count (one_more s (m + 1) (moved core to true) (advanced (moved core to true)) branched two),
+      subst (λ (n : ℕ). StaysInside s.core.front top n s) count (inside_more s.core.front top (m + 1) s (record s { core = moved core to true }) first branched last),
+    )
 
 -- ---- whole calls
 
@@ -111,30 +118,38 @@ front_stands words code a core st d fits =
     let place : a + 4 * 0 ≡ a = omega arith in
     subst (λ (n : ℕ). Stands code n core) place (part_stands words code a 0 core st d (omega arith))
 
+-- the same with where they stand
+pub part_lies : (words : List ℕ) (code : List Inst) (a p : ℕ) (s : State) → Enters words a s → Decodes (drop p words) code → p + length code ≤ length words → Lies (a + 4 * length words) code (a + 4 * p) s.core
+part_lies words code a p s h d fits = record { stands = part_stands words code a p s.core h.stands d fits; low = omega (arith, h.front); high = omega (arith, fits) }
+
+pub front_lies : (words : List ℕ) (code : List Inst) (a : ℕ) (s : State) → Enters words a s → Decodes words code → length code ≤ length words → Lies (a + 4 * length words) code a s.core
+front_lies words code a s h d fits = record { stands = front_stands words code a s.core h.stands d fits; low = omega (arith, h.front); high = omega (arith, fits) }
+
 -- the machine comes where the small machine arrives
-pub comes : (s : State) (a m bound place : ℕ) (code : List Inst) (w : Small) (Q : (ℕ → ℕ) → Type 0) → Stands code a s.core → Reaches s a m w → (h : Arrives code bound w place Q) → Reaches s a (m + h.steps) (at place h.last)
-comes s a m bound place code w Q st r h = reaches h.steps s a code st m w (at place h.last) r h.runs
+pub comes : (top : ℕ) (s : State) (a m bound place : ℕ) (code : List Inst) (w : Small) (Q : (ℕ → ℕ) → Type 0) → Lies top code a s.core → Reaches top s a m w → (h : Arrives code bound w place Q) → Reaches top s a (m + h.steps) (at place h.last)
+comes top s a m bound place code w Q st r h = reaches top h.steps s a code st m w (at place h.last) r h.runs
 
 -- a return after the result is there
-pub computes : (s : State) (a m k bound : ℕ) (code : List Inst) (f : ℕ → ℕ) (IsResult : ℕ → Type 0) → Stands code a s.core → Reaches s a m (at k f) → k + 1 ≤ length code → inst_at code k ≡ Some (Bv 31 true) → m + 2 ≤ bound → IsResult (f 29) → Computes s bound IsResult
-computes s a m k bound code f IsResult st r le e soon result = record {
+pub computes : (words : List ℕ) (address : ℕ) (s : State) (a m k bound : ℕ) (code : List Inst) (f : ℕ → ℕ) (IsResult : ℕ → Type 0) → Lies (address + 4 * length words) code a s.core → Reaches (address + 4 * length words) s a m (at k f) → s.core.front ≡ address → k + 1 ≤ length code → inst_at code k ≡ Some (Bv 31 true) → m + 2 ≤ bound → IsResult (f 29) → Computes words address s bound IsResult
+computes words address s a m k bound code f IsResult st r starts le e soon result = record {
   steps = m + 2;
   soon = soon;
   registers = r.registers;
-  runs = returns s a m k 31 code f st r le e refl;
+  runs = (returns (address + 4 * length words) s a m k 31 code f st r le e refl).0;
+  inside = subst (λ (n : ℕ). StaysInside n (address + 4 * length words) (m + 2) s) starts (returns (address + 4 * length words) s a m k 31 code f st r le e refl).1;
   result = subst IsResult (sym (r.holds.reads 29)) result;
   kept = r.holds.kept;
   words = record { count = r.holds.count; words = λ n. subst (λ (v : ℕ). v < 2 ^ 32) (sym (r.holds.reads n)) (r.holds.in_range n) };
 }
 
 -- the next part of the code
-pub on : (s : State) (a p n q m : ℕ) (f : ℕ → ℕ) → p + n ≡ q → Reaches s (a + 4 * p) m (at n f) → Reaches s (a + 4 * q) m (at 0 f)
-on s a p n q m f e r =
+pub on : (top : ℕ) (s : State) (a p n q m : ℕ) (f : ℕ → ℕ) → p + n ≡ q → Reaches top s (a + 4 * p) m (at n f) → Reaches top s (a + 4 * q) m (at 0 f)
+on top s a p n q m f e r =
     let place : a + 4 * p + 4 * n ≡ a + 4 * q = omega arith in
-    subst (λ (k : ℕ). Reaches s k m (at 0 f)) place (moves s (a + 4 * p) n m f r)
+    subst (λ (k : ℕ). Reaches top s k m (at 0 f)) place (moves top s (a + 4 * p) n m f r)
 
 -- the first part
-pub enters_part : (words : List ℕ) (a : ℕ) (s : State) → Enters words a s → Reaches s (a + 4 * 0) 0 (at 0 (slice_index s.core.registers))
-enters_part words a s h =
+pub enters_part : (top : ℕ) (words : List ℕ) (a : ℕ) (s : State) → Enters words a s → Reaches top s (a + 4 * 0) 0 (at 0 (slice_index s.core.registers))
+enters_part top words a s h =
     let place : a ≡ a + 4 * 0 = omega arith in
-    subst (λ (k : ℕ). Reaches s k 0 (at 0 (slice_index s.core.registers))) place (enters words a s h)
+    subst (λ (k : ℕ). Reaches top s k 0 (at 0 (slice_index s.core.registers))) place (enters top words a s h)

@@ -1,16 +1,20 @@
 -- Calls of the routines: the state of the machine in which one is entered, and what it leaves.
-use Rattle.std.specs.Prelude.{ℕ, ℤ, ◌≡◌, ◌≢◌, ◌+◌, ◌*◌, ◌/◌, ◌%◌, ◌^◌, ◌<◌, ◌≤◌, Bool, false, ◌==◌, ◌||◌, List, length, None, slice_index, slice_set, int_div, int_rem}
+use Rattle.std.specs.Prelude.{ℕ, ℤ, Option, Some, None, true, ◌≡◌, ◌≢◌, ◌+◌, ◌*◌, ◌/◌, ◌%◌, ◌^◌, ◌<◌, ◌≤◌, Bool, false, ◌==◌, ◌||◌, List, length, slice_index, slice_set, int_div, int_rem}
 use Rattle.std.specs.Int.{cast_signed, cast_unsigned, w32}
+use Rattle.pw_value.specs.Limits.{text_start, word_limit}
+use Rattle.pw_inst.specs.declared.Inst.{Inst}
+use Rattle.pw_inst.specs.declared.Inst.TheVariants.{Ldb, Ldh, Ldw, Stb, Sth, Stw}
+use Rattle.pw_inst.specs.InstructionTable.{decoded}
 use Rattle.pw_machine.specs.Core.{Core, register, word_at}
 use Rattle.pw_machine.specs.Run.{State, Running, run_of}
 
 -- The words stand in the text from an address on, and the text goes on behind them: a return's last step
--- passes over the word there. A text has at most 65,536 words.
+-- passes over the word there.
 pub record StandsAt (words : List ℕ) (address : ℕ) (core : Core) : Type 0 where
   pub aligned : address % 4 ≡ 0
-  pub above : 4096 ≤ address
-  pub within : address + 4 * length words < 4096 + 4 * core.text
-  pub text : core.text ≤ 65536
+  pub above : text_start ≤ address
+  pub within : address + 4 * length words < text_start + 4 * core.text
+  pub text : core.text ≤ word_limit
   pub each : (i : ℕ) → i < length words → word_at core.memory (address + 4 * i) ≡ slice_index words i
 
 -- 32 registers, each a word
@@ -38,13 +42,36 @@ returned s link registers =
 abbrev pub is_scratch : ℕ → Bool
 is_scratch r = (r == 1) || (r == 21) || (r == 22) || (r == 25) || (r == 26) || (r == 28) || (r == 29)
 
+-- a load or a store
+abbrev pub is_access : Option Inst → Bool
+is_access (Some (Ldb im b t)) = true
+is_access (Some (Ldh im b t)) = true
+is_access (Some (Ldw im b t)) = true
+is_access (Some (Stb r im b)) = true
+is_access (Some (Sth r im b)) = true
+is_access (Some (Stw r im b)) = true
+is_access _ = false
+
+-- The next instruction stands at an address or behind it, below another, and neither loads nor stores; or it
+-- is nullified, and then it may stand right behind.
+pub record IsInside (address top : ℕ) (core : Core) : Type 0 where
+  pub above : address ≤ core.front
+  pub below : core.front ≤ top
+  pub quiet : core.nullify ≡ false → (core.front < top) × (is_access (decoded (word_at core.memory core.front)) ≡ false)
+
+-- it does so at each of the run's first steps
+abbrev pub StaysInside : ℕ → ℕ → ℕ → State → Type 0
+StaysInside address top steps s = (k : ℕ) (mid : State) → k < steps → run_of k s ≡ Running mid → IsInside address top mid.core
+
 -- The run returns to the address in register 31 within so many steps, with a word in register 29 that is a
--- result, and with the scratch registers alone changed.
-pub record Computes (s : State) (bound : ℕ) (IsResult : ℕ → Type 0) : Type 0 where
+-- result, and with the scratch registers alone changed. Until then each step is inside the routine's words,
+-- and none loads or stores.
+pub record Computes (routine : List ℕ) (address : ℕ) (s : State) (bound : ℕ) (IsResult : ℕ → Type 0) : Type 0 where
   pub steps : ℕ
   pub soon : steps ≤ bound
   pub registers : List ℕ
   pub runs : run_of steps s ≡ Running (returned s 31 registers)
+  pub inside : StaysInside address (address + 4 * length routine) steps s
   pub result : IsResult (slice_index registers 29)
   pub kept : (r : ℕ) → is_scratch r ≡ false → slice_index registers r ≡ slice_index s.core.registers r
   pub words : AreRegisters registers

@@ -9,33 +9,33 @@ ghost use Rattle.pw_milli.specs.Calls.{Enters, Computes, IsProduct, IsQuotient, 
 /// `$mul` puts the product of registers 26 and 25 modulo 2^32 into register 29, in at most 240 steps.
 #[tactic(auto, using(crate::proofs::Product::mul_computes))]
 pub fn mul_multiplies()
-    ensures { (address : ℕ) (s : State) → Enters mul_words address s → Computes s 240 (IsProduct s) }
+    ensures { (address : ℕ) (s : State) → Enters mul_words address s → Computes mul_words address s 240 (IsProduct s) }
 {}
 
 /// `$divu` puts the unsigned quotient of register 26 by register 25 into register 29, in at most 512 steps.
 #[tactic(auto, using(crate::proofs::Quotients::divu_computes))]
 pub fn divu_divides()
-    ensures { (address : ℕ) (s : State) → Enters divu_words address s → Computes s 512 (IsQuotient s) }
+    ensures { (address : ℕ) (s : State) → Enters divu_words address s → Computes divu_words address s 512 (IsQuotient s) }
 {}
 
 /// `$remu` puts the unsigned remainder of register 26 by register 25 into register 29, in at most 512 steps.
 #[tactic(auto, using(crate::proofs::Quotients::remu_computes))]
 pub fn remu_divides()
-    ensures { (address : ℕ) (s : State) → Enters remu_words address s → Computes s 512 (IsRemainder s) }
+    ensures { (address : ℕ) (s : State) → Enters remu_words address s → Computes remu_words address s 512 (IsRemainder s) }
 {}
 
 /// `$divs` puts the signed quotient of register 26 by register 25, truncated towards 0, into register 29,
 /// in at most 512 steps.
 #[tactic(auto, using(crate::proofs::Quotients::divs_computes))]
 pub fn divs_divides()
-    ensures { (address : ℕ) (s : State) → Enters divs_words address s → Computes s 512 (IsSignedQuotient s) }
+    ensures { (address : ℕ) (s : State) → Enters divs_words address s → Computes divs_words address s 512 (IsSignedQuotient s) }
 {}
 
 /// `$rems` puts the signed remainder of register 26 by register 25, which has the dividend's sign, into
 /// register 29, in at most 512 steps.
 #[tactic(auto, using(crate::proofs::Quotients::rems_computes))]
 pub fn rems_divides()
-    ensures { (address : ℕ) (s : State) → Enters rems_words address s → Computes s 512 (IsSignedRemainder s) }
+    ensures { (address : ℕ) (s : State) → Enters rems_words address s → Computes rems_words address s 512 (IsSignedRemainder s) }
 {}
 
 /// `exit` ends the run with the low 8 bits of register 26 as its status.

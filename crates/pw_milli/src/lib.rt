@@ -14,8 +14,3 @@ pub use laws::{
     rems_divides, remu_divides,
 };
 pub use routine::{Routine, library};
-
-#[cfg(test)]
-mod pairs;
-#[cfg(test)]
-mod tests;

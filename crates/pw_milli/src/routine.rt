@@ -6,7 +6,7 @@ ghost use Rattle.pw_milli.specs.Library.{listed, routines};
 use crate::words;
 
 /// A routine: its name, and its words in order.
-#[derive(Clone, Copy, Debug, PartialEq, Eq)]
+#[derive(Clone, Copy)]
 pub struct Routine {
     pub name: &'static str,
     pub words: &'static [u32],

@@ -9,4 +9,8 @@ mod instructions;
 #[cfg(test)]
 mod loading;
 #[cfg(test)]
+mod pairs;
+#[cfg(test)]
 mod programs;
+#[cfg(test)]
+mod routines;

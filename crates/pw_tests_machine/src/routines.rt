@@ -1,12 +1,11 @@
-// The routines on the machine: a program reads pairs of operands, calls a routine and writes what it gave.
-// The results are from gcc.
+//! Tests of pw_milli: the routines on the machine. A program reads pairs of operands, calls a routine and
+//! writes what it gave. The results are from gcc.
 
 use crate::pairs::PAIRS;
-use crate::{Routine, library};
 use pw_io::{SureSink, SureSource};
 use pw_machine::{Machine, Stop};
-use std::alloc::Global;
-use std::process::Abort;
+use pw_milli::{Routine, library};
+use std::alloc::{AllocError, Global};
 use std::test::Fail;
 
 /// Puts 1001 to 1030 into the registers 1 to 30. Then, as long as there is input: reads four bytes into
@@ -40,12 +39,7 @@ const NOP: u32 = 0x0800_0240;
 const SCRATCH: [usize; 7] = [1, 21, 22, 25, 26, 28, 29];
 
 /// A program with routines behind it.
-fn program(
-    rt: &impl Abort,
-    alloc: Global,
-    text: &str,
-    routines: &[Routine],
-) -> Result<Machine, Fail> {
+fn program(alloc: Global, text: &str, routines: &[Routine]) -> Result<Machine, Fail> {
     let mut words = Vec::new(alloc);
     for word in text.split_whitespace() {
         words.push(u32::from_str_radix(word, 16)?)?;
@@ -56,7 +50,9 @@ fn program(
         }
     }
     words.push(NOP)?;
-    assert!(rt; words.len() <= 65_536);
+    if words.len() > 65_536 {
+        return Err(Fail::from("no program"));
+    }
     Ok(Machine::from_words(alloc, &words, 4096)?)
 }
 
@@ -105,23 +101,26 @@ fn written(alloc: Global, bytes: &[u8]) -> Result<Vec<u32>, Fail> {
     Ok(words)
 }
 
-/// Runs a routine on all pairs, and compares what it gave with a column of the table.
-fn check_results(rt: &impl Abort, alloc: Global, name: &str, index: usize) -> Result<(), Fail> {
-    let routine = named(name)?;
+/// Whether a routine gives, on all pairs, what a column of the table has.
+fn are_results(alloc: Global, name: &str, index: usize) -> Result<bool, Fail> {
     let wanted = column(alloc, index)?;
+    let got = results_of(alloc, name)?;
+    let same = got
+        .iter()
+        .zip(wanted.iter())
+        .all(|(word, want)| want.is_none() || *want == Some(*word));
+    Ok(same && got.len() == wanted.len())
+}
+
+/// What a routine gives on all pairs.
+fn results_of(alloc: Global, name: &str) -> Result<Vec<u32>, Fail> {
     let mut input = SureSource::new(alloc, &operands(alloc)?)?;
     let mut out = SureSink::new(alloc, 4000)?;
-    let mut machine = program(rt, alloc, CALLER, &[routine])?;
-    let stop = run(&mut machine, &mut input, &mut out, 1_000_000);
-    assert_eq!(rt; stop, Stop::Ended(44), "{name}");
-    let got = written(alloc, out.bytes())?;
-    assert_eq!(rt; got.len(), wanted.len(), "{name}");
-    for (i, (word, want)) in got.iter().zip(wanted.iter()).enumerate() {
-        if let Some(want) = want {
-            assert_eq!(rt; *word, *want, "{name} at pair {i}");
-        }
+    let mut machine = program(alloc, CALLER, &[named(name)?])?;
+    match run(&mut machine, &mut input, &mut out, 1_000_000) {
+        Stop::Ended(44) => written(alloc, out.bytes()),
+        _ => Err(Fail::from("no end")),
     }
-    Ok(())
 }
 
 /// The routine of a name.
@@ -135,7 +134,7 @@ fn named(name: &str) -> Result<Routine, Fail> {
 }
 
 /// All registers.
-fn registers(alloc: Global, machine: &Machine) -> Result<Vec<u32>, Fail> {
+fn registers(alloc: Global, machine: &Machine) -> Result<Vec<u32>, AllocError> {
     let mut words = Vec::new(alloc);
     for r in 0u8..32 {
         words.push(machine.reg(r))?;
@@ -144,7 +143,7 @@ fn registers(alloc: Global, machine: &Machine) -> Result<Vec<u32>, Fail> {
 }
 
 /// The words of the memory from the text to beyond the start of the stack.
-fn memory(alloc: Global, machine: &Machine) -> Result<Vec<Option<u32>>, Fail> {
+fn memory(alloc: Global, machine: &Machine) -> Result<Vec<Option<u32>>, AllocError> {
     let mut words = Vec::new(alloc);
     for i in 0u32..1000 {
         words.push(machine.word_at(4096 + 4 * i))?;
@@ -189,76 +188,104 @@ fn kept(before: &[u32], after: &[u32]) -> bool {
     true
 }
 
-/// Steps through calls on all pairs: each takes no more than `bound` steps and changes scratch registers
-/// alone. Answers the greatest count of steps.
-fn check_steps(rt: &impl Abort, alloc: Global, name: &str, bound: u32) -> Result<u32, Fail> {
-    let routine = named(name)?;
+/// Steps to the next call of the routine and through it: how many steps it takes, if no more than the bound,
+/// and if it changes scratch registers alone.
+fn next_call(
+    alloc: Global,
+    machine: &mut Machine,
+    input: &mut SureSource,
+    out: &mut SureSink,
+    bound: u32,
+) -> Result<Option<u32>, AllocError> {
+    if !comes_to_call(machine, input, out) {
+        return Ok(None);
+    }
+    let before = registers(alloc, machine)?;
+    let steps = call_steps(machine, input, out, bound.saturating_add(1));
+    let after = registers(alloc, machine)?;
+    Ok(steps.filter(|_| kept(&before, &after)))
+}
+
+/// Steps through calls on all pairs: the greatest count of steps of one, if each takes no more than `bound`
+/// steps and changes scratch registers alone, and if the memory is as before.
+fn most_steps(alloc: Global, name: &str, bound: u32) -> Result<Option<u32>, Fail> {
     let mut input = SureSource::new(alloc, &operands(alloc)?)?;
     let mut out = SureSink::new(alloc, 4000)?;
-    let mut machine = program(rt, alloc, CALLER, &[routine])?;
+    let mut machine = program(alloc, CALLER, &[named(name)?])?;
     let start = memory(alloc, &machine)?;
-    let mut most = 0u32;
-    for line in PAIRS.lines() {
-        assert!(rt; comes_to_call(&mut machine, &mut input, &mut out), "{name}");
-        let before = registers(alloc, &machine)?;
-        let steps = call_steps(&mut machine, &mut input, &mut out, bound.saturating_add(1));
-        let steps = steps.ok_or("too many steps")?;
-        let after = registers(alloc, &machine)?;
-        assert!(rt;
-            kept(&before, &after),
-            "{name}: a register is lost at {line}"
-        );
-        most = most.max(steps);
-    }
-    assert!(rt;
-        memory(alloc, &machine)? == start,
-        "{name}: the memory changed"
-    );
-    Ok(most)
+    let most = most_in_turn(alloc, &mut machine, &mut input, &mut out, bound)?;
+    let end = memory(alloc, &machine)?;
+    Ok(most.filter(|_| end == start))
 }
+
+/// The greatest count of steps of the calls on all pairs, if each is as it should be.
+fn most_in_turn(
+    alloc: Global,
+    machine: &mut Machine,
+    input: &mut SureSource,
+    out: &mut SureSink,
+    bound: u32,
+) -> Result<Option<u32>, AllocError> {
+    let mut most = 0u32;
+    for _ in PAIRS.lines() {
+        match next_call(alloc, machine, input, out, bound)? {
+            Some(steps) => most = most.max(steps),
+            None => return Ok(None),
+        }
+    }
+    Ok(Some(most))
+}
+
+/// Routines, and their columns in the table.
+const COLUMNS: [(&str, usize); 5] = [
+    ("$mul", 2),
+    ("$divu", 3),
+    ("$remu", 4),
+    ("$divs", 5),
+    ("$rems", 6),
+];
 
 #[test]
 fn results(rt: HostRuntime) -> Result<(), Fail> {
-    for (name, index) in [
-        ("$mul", 2),
-        ("$divu", 3),
-        ("$remu", 4),
-        ("$divs", 5),
-        ("$rems", 6),
-    ] {
-        check_results(&rt, rt.alloc(), name, index)?;
+    for (name, index) in COLUMNS {
+        assert!(rt; are_results(rt.alloc(), name, index)?, "{name}");
     }
     Ok(())
 }
 
-// The greatest counts of steps over the table, of a simulation of the same words in another language.
+/// Routines, the most steps that they may take, and the greatest counts over the table, of a simulation of
+/// the same words in another language.
+const STEPS: [(&str, u32, u32); 5] = [
+    ("$mul", 240, 86),
+    ("$divu", 512, 173),
+    ("$remu", 512, 174),
+    ("$divs", 512, 176),
+    ("$rems", 512, 177),
+];
+
 #[test]
 fn steps(rt: HostRuntime) -> Result<(), Fail> {
-    for (name, bound, greatest) in [
-        ("$mul", 240, 86),
-        ("$divu", 512, 173),
-        ("$remu", 512, 174),
-        ("$divs", 512, 176),
-        ("$rems", 512, 177),
-    ] {
-        let most = check_steps(&rt, rt.alloc(), name, bound)?;
-        assert_eq!(rt; most, greatest, "{name}");
+    for (name, bound, greatest) in STEPS {
+        assert_eq!(rt; most_steps(rt.alloc(), name, bound)?, Some(greatest), "{name}");
     }
     Ok(())
 }
 
-// The library echoes its input and ends with the low 8 bits of 300.
+/// What the library's three functions echo of an input before the program ends with the low 8 bits of 300.
+fn echoed(alloc: Global, text: &[u8]) -> Result<Vec<u8>, Fail> {
+    let routines = [named("exit")?, named("getchar")?, named("putchar")?];
+    let mut machine = program(alloc, ECHO, &routines)?;
+    let mut input = SureSource::new(alloc, text)?;
+    let mut out = SureSink::new(alloc, 100)?;
+    match run(&mut machine, &mut input, &mut out, 1000) {
+        Stop::Ended(44) => Ok(Vec::from_slice(alloc, out.bytes())?),
+        _ => Err(Fail::from("no end")),
+    }
+}
+
 #[test]
 fn echo(rt: HostRuntime) -> Result<(), Fail> {
-    let mut routines = Vec::new(rt.alloc());
-    for name in ["exit", "getchar", "putchar"] {
-        routines.push(named(name)?)?;
-    }
-    let mut machine = program(&rt, rt.alloc(), ECHO, &routines)?;
-    let mut input = SureSource::new(rt.alloc(), b"to be, or not")?;
-    let mut out = SureSink::new(rt.alloc(), 100)?;
-    let stop = run(&mut machine, &mut input, &mut out, 1000);
-    assert_eq!(rt; stop, Stop::Ended(44));
-    assert_eq!(rt; out.bytes(), b"to be, or not".as_slice());
+    let found = echoed(rt.alloc(), b"to be, or not")?;
+    assert_eq!(rt; found.as_slice(), b"to be, or not".as_slice());
     Ok(())
 }
