@@ -58,63 +58,57 @@ fn one_more(alloc: Global, e: TExpr) -> Result<TExpr, NoMemory> {
     Ok(expr(TForm::Binary(BinaryOperator::Add, e, one)))
 }
 
+/// Its `case 1: return 7;`
+fn case(alloc: Global) -> Result<TStmt, NoMemory> {
+    let labels = vec![in alloc; 0]?;
+    let answer = stmt(TStmtForm::Return(Some(expr(TForm::Number(7)))));
+    Ok(stmt(TStmtForm::Label(labels, Box::new(alloc, answer)?)))
+}
+
+/// The block of its switch.
+fn inside(alloc: Global) -> Result<Box<TStmt>, NoMemory> {
+    let items = vec![in alloc; case(alloc)?]?;
+    Ok(Box::new(
+        alloc,
+        stmt(TStmtForm::Block {
+            first: 3,
+            count: 0,
+            initialisers: Vec::new(alloc),
+            items,
+        }),
+    )?)
+}
+
 /// Its switch.
 fn switch(alloc: Global) -> Result<TStmt, NoMemory> {
-    let answer = stmt(TStmtForm::Return(Some(expr(TForm::Number(7)))));
-    let labels = vec![in alloc; 0]?;
-    let case = stmt(TStmtForm::Label(labels, Box::new(alloc, answer)?));
-    let inside = stmt(TStmtForm::Block {
-        first: 3,
-        count: 0,
-        initialisers: Vec::new(alloc),
-        items: vec![in alloc; case]?,
-    });
     let cases = vec![in alloc; Case { value: 1, label: 0 }]?;
-    let inside = Box::new(alloc, inside)?;
+    let inside = inside(alloc)?;
     Ok(stmt(TStmtForm::Switch(expr(TForm::Local(2)), cases, None, inside)))
+}
+
+/// Its `k = n + 1`.
+fn initialisers(alloc: Global) -> Result<Vec<Initialiser>, NoMemory> {
+    let sum = one_more(alloc, expr(TForm::Local(0)))?;
+    Ok(vec![in alloc; Initialiser::Value(2, sum)]?)
+}
+
+/// Its statements.
+fn items(alloc: Global) -> Result<Vec<TStmt>, NoMemory> {
+    let mut items = vec![in alloc; switch(alloc)?]?;
+    items.push(stmt(TStmtForm::Return(Some(expr(TForm::Number(0))))))?;
+    Ok(items)
 }
 
 /// Its body.
 fn body(alloc: Global) -> Result<TStmt, NoMemory> {
-    let sum = one_more(alloc, expr(TForm::Local(0)))?;
-    let answer = stmt(TStmtForm::Return(Some(expr(TForm::Number(0)))));
+    let initialisers = initialisers(alloc)?;
+    let items = items(alloc)?;
     Ok(stmt(TStmtForm::Block {
         first: 1,
         count: 2,
-        initialisers: vec![in alloc; Initialiser::Value(2, sum)]?,
-        items: vec![in alloc; switch(alloc)?, answer]?,
+        initialisers,
+        items,
     }))
-}
-
-/// A function of an int that returns an int.
-fn function(alloc: Global, body: TStmt) -> Result<TFunction, Fail> {
-    let signature = Signature {
-        result: int(),
-        params: vec![in alloc; int()]?,
-    };
-    Ok(TFunction {
-        name: Symbol::External(Name::new(alloc, b"f")?),
-        token: 2,
-        ty: plain(CType::Function(Box::new(alloc, signature)?)),
-        params: 1,
-        locals: locals(alloc)?,
-        labels: 1,
-        named: Vec::new(alloc),
-        body,
-    })
-}
-
-/// `int f(int n){char a[5]; int k = n + 1; switch (k) {case 1: return 7;} return 0;}`
-///
-/// 8 for each of the three locals, whose 4, 5 and 4 bytes and one more are rounded up, 8 for the
-/// parameter, and 256. 16 for each node: the body; `+`, `n`, `1`; the switch, `k`, its block, the case,
-/// a return, `7`; a return, `0`.
-#[test]
-fn room_of_function(rt: HostRuntime) -> Result<(), Fail> {
-    let f = function(rt.alloc(), body(rt.alloc())?)?;
-    let types = Types::new(rt.alloc());
-    assert_eq!(rt; room(&types, &f), 256 + 3 * 8 + 8 + 12 * 16);
-    Ok(())
 }
 
 /// `1 + 1 + ..` with so many operands.
@@ -126,40 +120,92 @@ fn chain(alloc: Global, operands: u32) -> Result<TExpr, NoMemory> {
     Ok(sum)
 }
 
-/// The leaf at the front of an expression has no first operand, and the expression itself has one.
-fn leans(alloc: Global, e: &TExpr, operands: usize) -> Result<bool, NoMemory> {
-    let edge = spine(alloc, e)?;
-    let leaf = match edge.last() {
-        Some(leaf) => first_operand(*leaf).is_none(),
-        None => false,
-    };
-    Ok(leaf && edge.len() == operands && first_operand(e).is_some())
+/// Its body, or `return 1 + 1 + ..` with so many operands.
+fn body_of(alloc: Global, operands: u32) -> Result<TStmt, NoMemory> {
+    if operands == 0 {
+        return body(alloc);
+    }
+    Ok(stmt(TStmtForm::Return(Some(chain(alloc, operands)?))))
 }
 
-/// Within the limit on nodes stand 10,000 operands; a constant expression has no such limit.
-const OPERANDS: [u32; 3] = [2, 10_000, 100_000];
+/// The type of a function of an int that returns an int.
+fn function_type(alloc: Global) -> Result<QType, NoMemory> {
+    let params = vec![in alloc; int()]?;
+    let signature = Signature {
+        result: int(),
+        params,
+    };
+    Ok(plain(CType::Function(Box::new(alloc, signature)?)))
+}
+
+/// The function with one of these bodies.
+fn function(alloc: Global, operands: u32) -> Result<TFunction, Fail> {
+    let name = Name::new(alloc, b"f")?;
+    let ty = function_type(alloc)?;
+    let locals = locals(alloc)?;
+    let body = body_of(alloc, operands)?;
+    Ok(TFunction {
+        name: Symbol::External(name),
+        token: 2,
+        ty,
+        params: 1,
+        locals,
+        labels: 1,
+        named: Vec::new(alloc),
+        body,
+    })
+}
+
+fn room_of(alloc: Global, operands: u32) -> Result<u64, Fail> {
+    let f = function(alloc, operands)?;
+    let types = Types::new(alloc);
+    Ok(room(&types, &f))
+}
+
+/// By its body, the room of
+///
+///     int f(int n){char a[5]; int k = n + 1; switch (k) {case 1: return 7;} return 0;}
+///
+/// or of one with the same locals and `return 1 + 1 + ..` in it.
+///
+/// 8 for each of the three locals, whose 4, 5 and 4 bytes and one more are rounded up, 8 for the
+/// parameter, and 256. 16 for each node: the body; `+`, `n`, `1`; the switch, `k`, its block, the case,
+/// a return, `7`; a return, `0`. In the other the return and two for each operand but the first.
+const ROOMS: [(u32, u64); 3] = [
+    (0, 256 + 3 * 8 + 8 + 12 * 16),
+    (1, 256 + 3 * 8 + 8 + 2 * 16),
+    (100_000, 256 + 3 * 8 + 8 + 200_000 * 16),
+];
 
 #[test]
-fn chains(rt: HostRuntime) -> Result<(), Fail> {
-    for operands in OPERANDS {
-        let sum = chain(rt.alloc(), operands)?;
-        let leaning = leans(rt.alloc(), &sum, operands as usize)?;
-        let nodes = expr_nodes(&sum);
-        assert!(rt;
-            leaning && nodes + 1 == 2 * u64::from(operands),
-            "{operands}"
-        );
+fn rooms(rt: HostRuntime) -> Result<(), Fail> {
+    for (operands, wanted) in ROOMS {
+        assert!(rt; room_of(rt.alloc(), operands)? == wanted, "{operands}");
     }
     Ok(())
 }
 
-/// `return 1 + 1 + ..`
+/// The nodes of a chain, and those along its left edge, of which the last has no operand.
+fn counts(alloc: Global, operands: u32) -> Result<(u64, usize, bool), NoMemory> {
+    let sum = chain(alloc, operands)?;
+    let edge = spine(alloc, &sum)?;
+    let leaf = match edge.last() {
+        Some(leaf) => first_operand(*leaf).is_none(),
+        None => false,
+    };
+    Ok((expr_nodes(&sum), edge.len(), leaf))
+}
+
+/// Operands of a chain, and its nodes. Within the limit on nodes stand 10,000 operands; a constant
+/// expression has no such limit.
+const CHAINS: [(u32, u64); 4] = [(1, 1), (2, 3), (10_000, 19_999), (100_000, 199_999)];
+
 #[test]
-fn room_of_chain(rt: HostRuntime) -> Result<(), Fail> {
-    let sum = chain(rt.alloc(), 100_000)?;
-    let f = function(rt.alloc(), stmt(TStmtForm::Return(Some(sum))))?;
-    let types = Types::new(rt.alloc());
-    assert_eq!(rt; room(&types, &f), 256 + 3 * 8 + 8 + 200_000 * 16);
+fn chains(rt: HostRuntime) -> Result<(), Fail> {
+    for (operands, nodes) in CHAINS {
+        let found = counts(rt.alloc(), operands)?;
+        assert!(rt; found == (nodes, operands as usize, true), "{operands}");
+    }
     Ok(())
 }
 
@@ -177,24 +223,39 @@ fn arms(alloc: Global, count: u32) -> Result<TStmt, NoMemory> {
     Ok(stmt(TStmtForm::If(arms, Some(otherwise))))
 }
 
+fn nodes_of_arms(alloc: Global, count: u32) -> Result<u64, NoMemory> {
+    Ok(stmt_nodes(&arms(alloc, count)?))
+}
+
+/// Arms of an `if`, and its nodes: an arm has three, its condition and its statement among them.
+const ARMS: [(u32, u64); 2] = [(1, 4), (6_600, 19_801)];
+
+#[test]
+fn else_ifs(rt: HostRuntime) -> Result<(), Fail> {
+    for (count, nodes) in ARMS {
+        assert!(rt; nodes_of_arms(rt.alloc(), count)? == nodes, "{count}");
+    }
+    Ok(())
+}
+
 /// `case ..: case ..: ;` with so many labels.
-fn labels(alloc: Global, count: u32) -> Result<TStmt, NoMemory> {
+fn labelled(alloc: Global, count: u32) -> Result<TStmt, NoMemory> {
     let labels = Vec::from_iter(alloc, 0..count)?;
     let body = Box::new(alloc, stmt(TStmtForm::Empty))?;
     Ok(stmt(TStmtForm::Label(labels, body)))
 }
 
-/// Counts of arms and labels, and the nodes of both statements: an arm has three, its condition and its
-/// statement among them.
-const LISTS: [(u32, u64, u64); 3] = [(1, 4, 2), (6_600, 19_801, 6_601), (19_000, 57_001, 19_001)];
+fn nodes_of_labels(alloc: Global, count: u32) -> Result<u64, NoMemory> {
+    Ok(stmt_nodes(&labelled(alloc, count)?))
+}
+
+/// Labels of a statement, and its nodes.
+const LABELS: [(u32, u64); 2] = [(1, 2), (19_000, 19_001)];
 
 #[test]
-fn lists(rt: HostRuntime) -> Result<(), Fail> {
-    for (count, with_arms, with_labels) in LISTS {
-        let arms = arms(rt.alloc(), count)?;
-        let labels = labels(rt.alloc(), count)?;
-        let nodes = (stmt_nodes(&arms), stmt_nodes(&labels));
-        assert!(rt; nodes == (with_arms, with_labels), "{count}");
+fn labels(rt: HostRuntime) -> Result<(), Fail> {
+    for (count, nodes) in LABELS {
+        assert!(rt; nodes_of_labels(rt.alloc(), count)? == nodes, "{count}");
     }
     Ok(())
 }

@@ -2,7 +2,7 @@
 use Rattle.std.proofs.Common.{◌≡◌, Option, Some, option_map, [], refl, ap, ◌∙◌, sym}
 use Rattle.std.specs.Option.{option_map_or}
 use Rattle.pw_types.specs.TypedTrees.{Expression, Node, Form, Number, Str, Local, Global, Function, Unary, Binary, Logic, Cond, Comma, Assign, Compound, Step, Cast, Decay, Member, Deref, Address, Call, CallValue}
-use Rattle.pw_typed.specs.Spines.{first_of, first_in, spine_of, spine_in, made_along}
+use Rattle.pw_types.specs.Spines.{first_of, first_in, spine_of, spine_in, made_along}
 
 -- an expression's left edge is the expression and the left edge of its first operand
 pub spine_below : (form : Form) → spine_in form ≡ option_map_or spine_of (first_in form) []
