@@ -8,7 +8,7 @@ use Rattle.pw_value.specs.declared.fault.FileError.{FileError}
 use Rattle.pw_value.specs.declared.fields.fault.FieldError.{FieldError}
 use Rattle.pw_value.specs.declared.fields.fault.FieldError.TheVariants as field
 use Rattle.pw_value.specs.FieldFaults.{Fails, GivesFile}
-use Rattle.pw_value.specs.FieldFrame.{ended, file, file_at, FitsFile}
+use Rattle.pw_value.specs.FieldFrame.{ended, file, FitsFile}
 use Rattle.pw_value.specs.FieldLaws.{AreBytes, SpellsWhole}
 use Rattle.pw_value.specs.FieldNames.{names_at, name_table, first_unused, IsNameTable, IsTableOf}
 use Rattle.pw_value.proofs.FieldSteps.{Completes, Nothing, step, keep_place, payload_format}
@@ -17,7 +17,7 @@ use Rattle.pw_value.proofs.NameTables.{one_table}
 use Rattle.pw_value.proofs.NameLaws.{names_spell, AllUsed, all_used, none_unused}
 use Rattle.pw_value.specs.ProgramNames.{KeepsStart}
 use Rattle.pw_files.specs.Start.{start_rule, sooner}
-use Rattle.pw_files.specs.Contents.{Contents, IsContents, IsFileWith, module_rules, broken_at, FieldsReader, contents_at, contents_file_at, value_of}
+use Rattle.pw_files.specs.Contents.{Contents, IsFileWith, module_rules, broken_at, FieldsReader, contents_at, contents_file_at, value_of}
 use Rattle.pw_files.proofs.RisingLaws.{respell}
 use Rattle.pw_files.proofs.StartLaws.{sooner_none, rule_forth, rule_back}
 

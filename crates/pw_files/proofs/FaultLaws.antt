@@ -1,16 +1,16 @@
 -- The faults of a file: each lies within the bytes, and one of the fields rests on the bytes up to the
 -- faulty field's end.
-use Rattle.std.proofs.Common.{◌≡◌, ◌⊎◌, ℕ, zero, suc, ◌+◌, ◌-◌, ◌<◌, ◌≤◌, Bool, true, false, cond, List, [], ◌∷◌, ◌++◌, length, take, drop, Result, Ok, Err, refl, sym, ap, subst, ◌∙◌, append_assoc, arith, inl, inr}
+use Rattle.std.proofs.Common.{◌≡◌, ℕ, suc, ◌+◌, ◌-◌, ◌≤◌, Bool, true, false, cond, List, [], ◌∷◌, ◌++◌, length, take, drop, Result, Ok, Err, refl, sym, ap, subst, ◌∙◌, append_assoc, arith, inl, inr}
 use Rattle.std.specs.Prelude.{Option, None, nat_le, ◌==◌, ◌&&◌}
 use Rattle.std.specs.Int.{w32, from_be_bytes}
 use Rattle.std.proofs.lemmas.Bool.{cases_lt}
 use Rattle.std.proofs.lemmas.List.{take_at, drop_at, take-append-drop, length-append, length-take, length-drop, take-take, take_all, take-append-le}
-use Rattle.pw_value.specs.Fields.{◌>>=◌, after, done, checked, u32_at}
+use Rattle.pw_value.specs.Fields.{◌>>=◌, after, u32_at}
 use Rattle.pw_value.specs.FieldFrame.{here, ended, header_at, payload_of, digest_of, opened, opened_at, placed, is_sealed, sealed, framed, file_at}
 use Rattle.pw_value.specs.FieldNames.{names_at}
 use Rattle.pw_files.specs.Contents.{Contents, FieldsReader, contents_at, contents_file_at, value_of}
-use Rattle.pw_files.specs.Faults.{IsFieldLength, StaysFault, no_rule, unsealed, fields_file_at, FaultsStay}
-use Rattle.pw_files.proofs.OnwardLaws.{Found, Faulty, Onward, one_onward, checked_one, u32_one, behind, done_onward, here_onward, names_onward}
+use Rattle.pw_files.specs.Faults.{IsFieldLength, StaysFault, no_rule, unsealed, FaultsStay}
+use Rattle.pw_files.proofs.OnwardLaws.{Onward, one_onward, checked_one, u32_one, behind, done_onward, here_onward, names_onward}
 
 abbrev failed : {X : Type 0} → ℕ → Result X ℕ
 failed at = Err at

@@ -1,11 +1,9 @@
 -- Names in byte order, names with their shapes, and names other than $start.
-use Rattle.std.proofs.Common.{◌≡◌, ◌≢◌, ℕ, zero, suc, Bool, true, false, List, [], ◌∷◌, map, refl, sym, ◌∙◌, arith}
-use Rattle.std.specs.Prelude.{IsTrue, Option, Contains, not, ◌&&◌}
+use Rattle.std.proofs.Common.{ℕ, zero, suc, List, [], ◌∷◌, map, refl, sym, arith}
+use Rattle.std.specs.Prelude.{IsTrue, Option, Contains, ◌&&◌}
 use Rattle.std.specs.List.{AllByRecursion}
-use Rattle.std.specs.Str.{bytes_eq}
 use Rattle.std.specs.Cmp.{first_so, second_so}
 use Rattle.std.specs.Cmp.Derive.{both_true}
-use Rattle.std.proofs.lemmas.Slice.Eq.{bytes_eq-Decides}
 use Rattle.pw_value.specs.Fields.{text_at, text, FitsText}
 use Rattle.pw_value.specs.FieldLaws.{Spells}
 use Rattle.pw_value.specs.FieldNames.{name_at, name_index, IsNameTable}

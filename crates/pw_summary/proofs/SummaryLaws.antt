@@ -1,6 +1,6 @@
 -- What is read is the file of a summary, and the file of a summary is read.
-use Rattle.std.proofs.Common.{◌≡◌, ℕ, ◌<◌, ◌^◌, Bool, List, [], ◌∷◌, ◌++◌, length, map, Result, Ok, Err, refl, sym, ap, subst, ◌∙◌, append_assoc, arith, lit<}
-use Rattle.std.specs.Prelude.{IsTrue, IfOk, Option, None, Contains, nat_lt}
+use Rattle.std.proofs.Common.{◌≡◌, ℕ, ◌<◌, ◌^◌, Bool, List, [], ◌∷◌, ◌++◌, length, map, Result, Ok, refl, sym, ap, subst, ◌∙◌, append_assoc, arith, lit<}
+use Rattle.std.specs.Prelude.{IsTrue, IfOk, Option, Contains, nat_lt}
 use Rattle.std.specs.List.{flat_map, AllByRecursion}
 use Rattle.std.proofs.lemmas.Bool.{ltb-true, lt-ltb}
 use Rattle.std.proofs.lemmas.List.{append-nil}
@@ -18,7 +18,6 @@ use Rattle.pw_value.proofs.FieldLaws.{checked_spells, u64_spells, text_spells, f
 use Rattle.pw_value.proofs.FieldSteps.{Completes, Nothing, finish, finish_whole, step, step_where, keep_place, format, repeated_spells}
 use Rattle.pw_value.proofs.NameLaws.{name_spells, AllUsed, table_of_used, used_by_table}
 use Rattle.pw_files.specs.Contents.{Contents, IsContents, contents_at, value_of}
-use Rattle.pw_files.specs.Faults.{FaultsStay, no_rule}
 use Rattle.pw_files.specs.Rising.{IsRising, counted, rising_at}
 use Rattle.pw_files.specs.Kinds.{kind_at, kind as kind_byte}
 use Rattle.pw_files.specs.Names.{shaped, name_above_at, name_list_at, text_list_at, shaped_list_at}

@@ -1,5 +1,5 @@
 -- What writing asks of a summary's parts, and what it gives.
-use Rattle.std.proofs.Common.{◌≡◌, ℕ, List, [], ◌∷◌, length, map, All, Result, Ok, Err, subst, ap, ◌∙◌, arith}
+use Rattle.std.proofs.Common.{◌≡◌, ℕ, List, [], ◌∷◌, length, map, All, Result, subst}
 use Rattle.std.specs.Prelude.{Contains, IfOk, OnOk}
 use Rattle.std.specs.Global.{Vec}
 use Rattle.std.specs.List.{flat_map, AllByRecursion}
@@ -10,7 +10,7 @@ use Rattle.pw_value.specs.FieldFrame.{file, FitsFile}
 use Rattle.pw_value.specs.FieldNames.{IsTableOf}
 use Rattle.pw_value.proofs.NameLaws.{AllUsed, used_by_table}
 use Rattle.pw_files.proofs.RisingLaws.{each_by_used, used_front, used_back}
-use Rattle.pw_files.specs.Contents.{Contents, IsContents}
+use Rattle.pw_files.specs.Contents.{IsContents}
 use Rattle.pw_files.proofs.ContentsLaws as files
 use Rattle.pw_summary.specs.declared.summary.Uses.{Uses}
 use Rattle.pw_summary.specs.declared.summary.Summary.{Summary}

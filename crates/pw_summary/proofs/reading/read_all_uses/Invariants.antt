@@ -1,4 +1,4 @@
-use Rattle.std.proofs.Common.{◌≡◌, ◌-◌, map}
+use Rattle.std.proofs.Common.{◌≡◌, ◌-◌}
 use Rattle.pw_value.specs.Fields.{repeated}
 use Rattle.pw_value.proofs.FieldLoops.{with_front}
 use Rattle.pw_summary.specs.Reading.{uses_at}

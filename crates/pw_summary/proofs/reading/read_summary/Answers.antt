@@ -1,7 +1,6 @@
-use Rattle.std.proofs.Common.{◌≡◌, [], arith}
+use Rattle.std.proofs.Common.{◌≡◌, []}
 use Rattle.std.proofs.lemmas.Result.{err_from_is_err_and}
 use Rattle.pw_files.proofs.ContentsLaws.{late_fault, nothing_left}
-use Rattle.pw_summary.specs.Reading.{last_rules}
 use Rattle.pw_summary.proofs.reading.read_summary.Goals as goal
 
 pub returns-in_err-check_last : goal.returns-in_err-check_last
