@@ -8,7 +8,7 @@ ghost use Rattle.pw_value.specs.FieldFrame.{ended};
 ghost use Rattle.pw_files.specs.Rising.{counted_at};
 ghost use Rattle.pw_files.specs.Contents.{broken_at, contents_at, value_of};
 ghost use Rattle.pw_object.specs.declared.object.Object.{Object as AnyObject};
-ghost use Rattle.pw_object.specs.Object.{IsObjectFile};
+ghost use Rattle.pw_object.specs.Object.{object_version, IsObjectFile};
 ghost use Rattle.pw_object.specs.Reading.{global_at, function_at, last_rules, fields_at, object_file_at};
 
 use crate::functions::{ObjectFn, read_function};
@@ -23,8 +23,8 @@ use pw_value::fields::frame::{check_digest, open};
 use pw_value::fields::names::{read_name, read_names};
 use pw_value::fields::{FieldError, read_text_in_place, read_u32};
 use pw_value::program_names::StartName;
-use pw_value::{FileError, Name};
-use std::alloc::Global;
+use pw_value::{FileError, Name, Shape};
+use std::alloc::{AllocError, Global};
 
 /// `PAWO`, the first four bytes of an object file.
 pub const KIND: u32 = 0x5041_574f;
@@ -106,6 +106,30 @@ fn read_functions<'a>(
     read_function_items(alloc, names, count, rest)
 }
 
+/// An object of these parts, of which texts and the name are copied.
+fn object_of(
+    alloc: Global,
+    texts: (&Name, &[u8], &[u8]),
+    declared: Items<(Name, Shape)>,
+    used: Items<Name>,
+    globals: Items<FlowGlobal>,
+    functions: Items<ObjectFn>,
+) -> Result<Object, AllocError>
+    ensures { IfOk result (λ o. o ≡ record { version = object_version; «module» = texts.0.now; flow = texts.1.now; directives = texts.2.now; declared = declared; used = used; globals = globals; functions = functions }) }
+{
+    let (module, flow, directives) = texts;
+    Ok(Object {
+        version: VERSION,
+        module: module.copy(alloc)?,
+        flow: Items::from_vec(Vec::from_slice(alloc, flow)?),
+        directives: Items::from_vec(Vec::from_slice(alloc, directives)?),
+        declared,
+        used,
+        globals,
+        functions,
+    })
+}
+
 /// The fields behind the table of names: the object, how many bytes are left from the count of its functions
 /// on, and what is left behind it.
 #[tactic(auto, unfolding(crate::specs::Reading::fields_at))]
@@ -124,16 +148,8 @@ fn read_parts<'a>(
     let (used, rest) = read_name_list(alloc, names, StartName::Allowed, rest)?;
     let (globals, count) = read_globals(alloc, names, rest)?;
     let (functions, rest) = read_functions(alloc, names, count)?;
-    let object = Object {
-        version: VERSION,
-        module: module.copy(alloc)?,
-        flow: Items::from_vec(Vec::from_slice(alloc, flow)?),
-        directives: Items::from_vec(Vec::from_slice(alloc, directives)?),
-        declared,
-        used,
-        globals,
-        functions,
-    };
+    let texts = (module, flow, directives);
+    let object = object_of(alloc, texts, declared, used, globals, functions)?;
     Ok((object, count.len(), rest))
 }
 
