@@ -1,9 +1,10 @@
 //! Directives, and the database of them.
 
+use pw_items::Items;
 use pw_value::{Kind, Name};
 
 /// A web: a global that functions keep in a register, under a number of its own.
-#[derive(Debug, Drop)]
+#[derive(Drop)]
 pub struct Web {
     pub id: u32,
     pub global: Name,
@@ -16,7 +17,7 @@ pub struct Web {
 
 /// What a function is in a web: one that loads the global and stores it back, or one that finds it in
 /// its register.
-#[derive(Clone, Copy, PartialEq, Eq, Debug)]
+#[derive(Clone, Copy, PartialEq)]
 pub enum Role {
     Entry,
     Member,
@@ -24,14 +25,14 @@ pub enum Role {
 
 /// What a function is told: its webs in the order of their numbers, each with its role in it, and the
 /// registers that it need not save, of which there are none yet.
-#[derive(Debug, Drop)]
+#[derive(Drop)]
 pub struct Directives {
-    pub webs: Vec<(Web, Role)>,
-    pub free: Vec<u8>,
+    pub webs: Items<(Web, Role)>,
+    pub free: Items<u8>,
 }
 
 /// Functions in byte order of their names, each with its directives. Webs of one number are one web.
-#[derive(Debug, Drop)]
+#[derive(Drop)]
 pub struct Database {
-    pub functions: Vec<(Name, Directives)>,
+    pub functions: Items<(Name, Directives)>,
 }

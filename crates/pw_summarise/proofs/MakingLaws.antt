@@ -5,10 +5,11 @@ use Rattle.std.specs.List.{AllZip}
 use Rattle.std.proofs.lemmas.List.{take_more}
 use Rattle.pw_value.specs.FieldNames.{IsTableOf}
 use Rattle.pw_flow.specs.declared.flow.FlowFn.{FlowFn}
-use Rattle.pw_flow.specs.FlowGraph.{FunctionValue, ModuleValue, function_view, named_in, global_names, function_names}
+use Rattle.pw_flow.specs.declared.flow.FlowModule.{FlowModule}
+use Rattle.pw_flow.specs.FlowGraph.{named_in, global_names, function_names}
 use Rattle.pw_flow.specs.ValidFlow.{AreDistinct, IsValid}
 use Rattle.pw_summary.specs.declared.summary.Uses.{Uses}
-use Rattle.pw_summary.specs.Summary.{SummaryValue, uses_view}
+use Rattle.pw_summary.specs.declared.summary.Summary.{Summary}
 use Rattle.pw_summarise.specs.Summarises.{IsOrdered, addressed, in_module, taken_of, escaped_of, global_entry, function_entry, function_entries, IsUsesOf, AreUsesOf, Summarises}
 use Rattle.pw_files.proofs.Standing.{Has, contains_by}
 use Rattle.pw_files.proofs.Views.{seen}
@@ -18,30 +19,30 @@ use Rattle.pw_summarise.proofs.UniqueLaws.{distinct_left, distinct_right}
 
 -- ---- the names of what a lawful module defines differ
 
-pub globals_differ : (m : ModuleValue) → IsValid m → AreDistinct (map (λ g. g.0) (map global_entry m.globals))
+pub globals_differ : (m : FlowModule) → IsValid m → AreDistinct (map (λ g. g.0) (map global_entry m.globals))
 globals_differ m valid = subst AreDistinct (sym (seen global_entry (λ g. g.0) m.globals)) (distinct_left (global_names m) (function_names m) valid.names.distinct.defined)
 
-pub functions_differ : (m : ModuleValue) → IsValid m → AreDistinct (map (λ f. f.name) m.functions)
+pub functions_differ : (m : FlowModule) → IsValid m → AreDistinct (map (λ f. f.name) m.functions)
 functions_differ m valid = distinct_right (global_names m) (function_names m) valid.names.distinct.defined
 
 -- ---- functions in order
 
 abbrev entry : Bor FlowFn → List ℕ × List ℕ
-entry f = function_entry (function_view f.now)
+entry f = function_entry f.now
 
-pub entries_ordered : (fs : List FunctionValue) (sorted : List (Bor FlowFn)) → IsOrdered (λ f. f.name) fs (map (λ f. function_view f.now) sorted) → IsOrdered (λ f. f.0) (map function_entry fs) (map entry sorted)
+pub entries_ordered : (fs : List FlowFn) (sorted : List (Bor FlowFn)) → IsOrdered (λ f. f.name) fs (map (λ f. f.now) sorted) → IsOrdered (λ f. f.0) (map function_entry fs) (map entry sorted)
 entries_ordered fs sorted is =
-    subst (λ (xs : List (List ℕ × List ℕ)). IsOrdered (λ f. f.0) (map function_entry fs) xs) (seen (λ (f : Bor FlowFn). function_view f.now) function_entry sorted)
-    (ordered_map (λ (f : FunctionValue). f.name) (λ (e : List ℕ × List ℕ). e.0) function_entry (λ f. refl) fs (map (λ f. function_view f.now) sorted) is)
+    subst (λ (xs : List (List ℕ × List ℕ)). IsOrdered (λ f. f.0) (map function_entry fs) xs) (seen (λ (f : Bor FlowFn). f.now) function_entry sorted)
+    (ordered_map (λ (f : FlowFn). f.name) (λ (e : List ℕ × List ℕ). e.0) function_entry (λ f. refl) fs (map (λ f. f.now) sorted) is)
 
-uses_each : (fs : List FunctionValue) (sorted : List (Bor FlowFn)) (us : List Uses) → AllZip (λ f u. IsUsesOf (function_view f.now) (uses_view u)) sorted us → ((f : FunctionValue) → Has f (map (λ f. function_view f.now) sorted) → Contains fs f) → AreUsesOf fs (map entry sorted) (map uses_view us)
+uses_each : (fs : List FlowFn) (sorted : List (Bor FlowFn)) (us : List Uses) → AllZip (λ f u. IsUsesOf f.now u) sorted us → ((f : FlowFn) → Has f (map (λ f. f.now) sorted) → Contains fs f) → AreUsesOf fs (map entry sorted) us
 uses_each fs [] [] zip there = tt
 uses_each fs [] (u ∷ us) zip there = absurd zip
 uses_each fs (f ∷ sorted) [] zip there = absurd zip
-uses_each fs (f ∷ sorted) (u ∷ us) zip there = ((function_view f.now, there (function_view f.now) (inl refl), refl, zip.0), uses_each fs sorted us zip.1 (λ g h. there g (inr h)))
+uses_each fs (f ∷ sorted) (u ∷ us) zip there = ((f.now, there f.now (inl refl), refl, zip.0), uses_each fs sorted us zip.1 (λ g h. there g (inr h)))
 
-uses_ordered : (fs : List FunctionValue) (sorted : List (Bor FlowFn)) (us : List Uses) → AllZip (λ f u. IsUsesOf (function_view f.now) (uses_view u)) sorted us → IsOrdered (λ f. f.name) fs (map (λ f. function_view f.now) sorted) → AreUsesOf fs (map entry sorted) (map uses_view us)
-uses_ordered fs sorted us zip is = uses_each fs sorted us zip (λ f h. (is.of f).0 (contains_by f (map (λ f. function_view f.now) sorted) h))
+uses_ordered : (fs : List FlowFn) (sorted : List (Bor FlowFn)) (us : List Uses) → AllZip (λ f u. IsUsesOf f.now u) sorted us → IsOrdered (λ f. f.name) fs (map (λ f. f.now) sorted) → AreUsesOf fs (map entry sorted) us
+uses_ordered fs sorted us zip is = uses_each fs sorted us zip (λ f h. (is.of f).0 (contains_by f (map (λ f. f.now) sorted) h))
 
 zip_push : {A B : Type 0} (R : A → B → Type 0) (xs : List A) (ys : List B) (x : A) (y : B) → AllZip R xs ys → R x y → AllZip R (xs ++ x ∷ []) (ys ++ y ∷ [])
 zip_push R [] [] x y zip one = (one, tt)
@@ -57,20 +58,20 @@ zip_more {A} {B} R xs ys i x y lt is zip one =
 -- ---- all lists together
 
 -- what the code has in its lists, for a module
-pub record AreLists (m : ModuleValue) (sorted : List (Bor FlowFn)) (addresses : List (List ℕ)) (us : List Uses) (s : SummaryValue) : Type 0 where
+pub record AreLists (m : FlowModule) (sorted : List (Bor FlowFn)) (addresses : List (List ℕ)) (us : List Uses) (s : Summary) : Type 0 where
   pub of_module : s.module ≡ m.name
   pub globals : IsOrdered (λ g. g.0) (map global_entry m.globals) s.globals
-  pub in_order : IsOrdered (λ f. f.name) m.functions (map (λ f. function_view f.now) sorted)
-  pub functions : s.functions ≡ map (λ f. function_entry (function_view f.now)) sorted
+  pub in_order : IsOrdered (λ f. f.name) m.functions (map (λ f. f.now) sorted)
+  pub functions : s.functions ≡ map (λ f. function_entry f.now) sorted
   pub declared : IsOrdered (λ d. d.0) m.declared s.declared
   pub addressed : IsTableOf addresses (in_module addressed m)
   pub used : IsTableOf s.used (named_in m)
   pub taken : s.taken ≡ taken_of s.functions s.declared addresses
   pub escaped : s.escaped ≡ escaped_of s.functions s.declared addresses
-  pub zip : AllZip (λ f u. IsUsesOf (function_view f.now) (uses_view u)) sorted us
-  pub uses : s.uses ≡ map uses_view us
+  pub zip : AllZip (λ f u. IsUsesOf f.now u) sorted us
+  pub uses : s.uses ≡ us
 
-pub summarised : (m : ModuleValue) (sorted : List (Bor FlowFn)) (addresses : List (List ℕ)) (us : List Uses) (s : SummaryValue) → AreLists m sorted addresses us s → Summarises m s
+pub summarised : (m : FlowModule) (sorted : List (Bor FlowFn)) (addresses : List (List ℕ)) (us : List Uses) (s : Summary) → AreLists m sorted addresses us s → Summarises m s
 summarised m sorted addresses us s are =
     let entries = entries_ordered m.functions sorted are.in_order in
     let functions = subst (λ (fs : List (List ℕ × List ℕ)). IsOrdered (λ f. f.0) (function_entries m) fs) (sym are.functions) entries in

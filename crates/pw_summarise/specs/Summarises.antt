@@ -3,9 +3,15 @@ use Rattle.std.specs.Prelude.{ℕ, ◌≡◌, ◌*◌, ◌^◌, ◌↔◌, ◌==
 use Rattle.std.specs.List.{flat_map, sum_by}
 use Rattle.std.specs.Str.{bytes_eq}
 use Rattle.pw_value.specs.declared.value.Kind.{Kind}
-use Rattle.pw_flow.specs.FlowGraph.{GlobalValue, OpValue, AddrGlobal, AddrFn, LoadG, StoreG, Call, CallInd, FunctionValue, ModuleValue, names_in_global, named_in}
+use Rattle.pw_flow.specs.declared.flow.FlowGlobal.{FlowGlobal}
+use Rattle.pw_flow.specs.declared.flow.Op.{Op}
+use Rattle.pw_flow.specs.declared.flow.FlowFn.{FlowFn}
+use Rattle.pw_flow.specs.declared.flow.FlowModule.{FlowModule}
+use Rattle.pw_flow.specs.declared.flow.Op.TheVariants.{AddrGlobal, AddrFn, LoadG, StoreG, Call, CallInd}
+use Rattle.pw_flow.specs.FlowGraph.{names_in_global, named_in}
 use Rattle.pw_files.specs.Rising.{IsRising}
-use Rattle.pw_summary.specs.Summary.{UsesValue, SummaryValue}
+use Rattle.pw_summary.specs.declared.summary.Uses.{Uses}
+use Rattle.pw_summary.specs.declared.summary.Summary.{Summary}
 
 -- What a list has, each item once, in byte order of keys by which the items differ.
 pub record IsOrdered {X : Type 0} (key : X → List ℕ) (source ordered : List X) : Type 0 where
@@ -15,33 +21,33 @@ pub record IsOrdered {X : Type 0} (key : X → List ℕ) (source ordered : List 
 -- ---- operations
 
 -- the function that an operation calls by its name
-abbrev pub called : OpValue → List (List ℕ)
+abbrev pub called : Op → List (List ℕ)
 called (Call t f args) = f ∷ []
 called _ = []
 
 -- the shape of a call through a value
-abbrev pub called_shape : OpValue → List (List ℕ)
+abbrev pub called_shape : Op → List (List ℕ)
 called_shape (CallInd t a shape args) = shape ∷ []
 called_shape _ = []
 
 -- the global that an operation reads or writes by its name
-abbrev pub referenced : OpValue → List (List ℕ)
+abbrev pub referenced : Op → List (List ℕ)
 referenced (LoadG t g k) = g ∷ []
 referenced (StoreG g a k) = g ∷ []
 referenced _ = []
 
 -- the name whose address an operation takes
-abbrev pub addressed : OpValue → List (List ℕ)
+abbrev pub addressed : Op → List (List ℕ)
 addressed (AddrGlobal t g n) = g ∷ []
 addressed (AddrFn t f) = f ∷ []
 addressed _ = []
 
 -- what the operations of a function have of these
-abbrev pub in_function : (OpValue → List (List ℕ)) → FunctionValue → List (List ℕ)
+abbrev pub in_function : (Op → List (List ℕ)) → FlowFn → List (List ℕ)
 in_function parts f = flat_map (λ b. flat_map parts b.ops) f.blocks
 
 -- what the items and the operations of a module have, where each name in an item counts
-abbrev pub in_module : (OpValue → List (List ℕ)) → ModuleValue → List (List ℕ)
+abbrev pub in_module : (Op → List (List ℕ)) → FlowModule → List (List ℕ)
 in_module parts m = flat_map names_in_global m.globals ++ flat_map (in_function parts) m.functions
 
 -- ---- weights
@@ -53,20 +59,20 @@ most = 4294967295
 abbrev pub weight : ℕ → ℕ
 weight depth = 8 ^ min 4 depth
 
-abbrev pub is_read : List ℕ → OpValue → Bool
+abbrev pub is_read : List ℕ → Op → Bool
 is_read name (LoadG t g k) = bytes_eq g name
 is_read name _ = false
 
-abbrev pub is_write : List ℕ → OpValue → Bool
+abbrev pub is_write : List ℕ → Op → Bool
 is_write name (StoreG g a k) = bytes_eq g name
 is_write name _ = false
 
 -- the sum of the weights of the operations that pass a test, as far as a summary can hold it
-abbrev pub weighted : (OpValue → Bool) → FunctionValue → ℕ
+abbrev pub weighted : (Op → Bool) → FlowFn → ℕ
 weighted test f = min most (sum_by (λ b. weight b.depth * count_by test b.ops) f.blocks)
 
 -- a global with its weighted reads and its weighted writes
-abbrev pub reference : FunctionValue → List ℕ → List ℕ × ℕ × ℕ
+abbrev pub reference : FlowFn → List ℕ → List ℕ × ℕ × ℕ
 reference f name = (name, weighted (is_read name) f, weighted (is_write name) f)
 
 -- ---- names whose address is taken
@@ -110,28 +116,28 @@ escaped_of functions declared names = flat_map (λ name. as_escaped name (functi
 
 -- ---- the summary
 
-abbrev pub global_entry : GlobalValue → List ℕ × List ℕ × Option Kind × Bool
+abbrev pub global_entry : FlowGlobal → List ℕ × List ℕ × Option Kind × Bool
 global_entry g = (g.name, g.shape, g.kind, g.volatile)
 
-abbrev pub function_entry : FunctionValue → List ℕ × List ℕ
+abbrev pub function_entry : FlowFn → List ℕ × List ℕ
 function_entry f = (f.name, f.shape)
 
-abbrev pub function_entries : ModuleValue → List (List ℕ × List ℕ)
+abbrev pub function_entries : FlowModule → List (List ℕ × List ℕ)
 function_entries m = map function_entry m.functions
 
-pub record IsUsesOf (f : FunctionValue) (u : UsesValue) : Type 0 where
+pub record IsUsesOf (f : FlowFn) (u : Uses) : Type 0 where
   pub calls : IsOrdered (λ name. name) (in_function called f) u.calls
   pub shapes : IsOrdered (λ shape. shape) (in_function called_shape f) u.shapes
   pub refs : IsOrdered (λ r. r.0) (map (reference f) (in_function referenced f)) u.refs
 
 -- what functions use, in the order of the functions: each is one of these
-abbrev pub AreUsesOf : List FunctionValue → List (List ℕ × List ℕ) → List UsesValue → Type 0
+abbrev pub AreUsesOf : List FlowFn → List (List ℕ × List ℕ) → List Uses → Type 0
 AreUsesOf fs [] [] = Unit {0}
 AreUsesOf fs [] (u ∷ us) = ⊥
 AreUsesOf fs (entry ∷ entries) [] = ⊥
-AreUsesOf fs (entry ∷ entries) (u ∷ us) = ((f : FunctionValue) × Contains fs f × (function_entry f ≡ entry) × IsUsesOf f u) × AreUsesOf fs entries us
+AreUsesOf fs (entry ∷ entries) (u ∷ us) = ((f : FlowFn) × Contains fs f × (function_entry f ≡ entry) × IsUsesOf f u) × AreUsesOf fs entries us
 
-pub record Summarises (m : ModuleValue) (s : SummaryValue) : Type 0 where
+pub record Summarises (m : FlowModule) (s : Summary) : Type 0 where
   pub of_module : s.module ≡ m.name
   pub globals : IsOrdered (λ g. g.0) (map global_entry m.globals) s.globals
   pub functions : IsOrdered (λ f. f.0) (function_entries m) s.functions

@@ -11,6 +11,3 @@ mod uses;
 mod weights;
 
 pub use making::summarise;
-
-#[cfg(test)]
-mod tests;

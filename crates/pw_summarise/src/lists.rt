@@ -1,17 +1,17 @@
 //! What a module defines and declares, in byte order of the names.
 
 ghost use Rattle.std.specs.Prelude.{◌≡◌, map, IfOk};
-ghost use Rattle.pw_flow.specs.FlowGraph.{global_view, function_view};
 ghost use Rattle.pw_flow.specs.ValidFlow.{AreDistinct};
 ghost use Rattle.pw_summarise.specs.Summarises.{IsOrdered, global_entry, function_entry};
 
 use pw_flow::{FlowFn, FlowGlobal};
+use pw_items::Items;
 use pw_value::{Kind, Name, Shape};
 use std::alloc::{AllocError, Global};
 
 /// All objects, as they stand.
 fn each_global(alloc: Global, globals: &[FlowGlobal]) -> Result<Vec<&FlowGlobal>, AllocError>
-    ensures { IfOk result (λ v. map (λ g. global_entry (global_view g.now)) v.items ≡ map global_entry (map global_view globals.now)) }
+    ensures { IfOk result (λ v. map (λ g. global_entry g.now) v.items ≡ map global_entry globals.now) }
 {
     let mut all = Vec::new(alloc);
     for global in globals {
@@ -22,8 +22,8 @@ fn each_global(alloc: Global, globals: &[FlowGlobal]) -> Result<Vec<&FlowGlobal>
 
 /// The objects in byte order.
 fn sorted_globals(alloc: Global, globals: &[FlowGlobal]) -> Result<Vec<&FlowGlobal>, AllocError>
-    requires { AreDistinct (map (λ g. g.0) (map global_entry (map global_view globals.now))) }
-    ensures { IfOk result (λ v. IsOrdered (λ g. g.0) (map global_entry (map global_view globals.now)) (map (λ g. global_entry (global_view g.now)) v.items)) }
+    requires { AreDistinct (map (λ g. g.0) (map global_entry globals.now)) }
+    ensures { IfOk result (λ v. IsOrdered (λ g. g.0) (map global_entry globals.now) (map (λ g. global_entry g.now) v.items)) }
 {
     let mut sorted = each_global(alloc, globals)?;
     sorted.sort_unstable_by(|one, other| one.name.cmp(&other.name));
@@ -34,10 +34,10 @@ fn sorted_globals(alloc: Global, globals: &[FlowGlobal]) -> Result<Vec<&FlowGlob
 fn global_entries(
     alloc: Global,
     globals: &[&FlowGlobal],
-) -> Result<Vec<(Name, Shape, Option<Kind>, bool)>, AllocError>
-    ensures { IfOk result (λ v. v.items ≡ map (λ g. global_entry (global_view g.now)) globals.now) }
+) -> Result<Items<(Name, Shape, Option<Kind>, bool)>, AllocError>
+    ensures { IfOk result (λ v. v ≡ map (λ g. global_entry g.now) globals.now) }
 {
-    let mut entries = Vec::new(alloc);
+    let mut entries = Items::new(alloc);
     for global in globals {
         let name = global.name.copy(alloc)?;
         let shape = global.shape.copy(alloc)?;
@@ -50,9 +50,9 @@ fn global_entries(
 pub(crate) fn globals_of(
     alloc: Global,
     globals: &[FlowGlobal],
-) -> Result<Vec<(Name, Shape, Option<Kind>, bool)>, AllocError>
-    requires { AreDistinct (map (λ g. g.0) (map global_entry (map global_view globals.now))) }
-    ensures { IfOk result (λ v. IsOrdered (λ g. g.0) (map global_entry (map global_view globals.now)) v.items) }
+) -> Result<Items<(Name, Shape, Option<Kind>, bool)>, AllocError>
+    requires { AreDistinct (map (λ g. g.0) (map global_entry globals.now)) }
+    ensures { IfOk result (λ v. IsOrdered (λ g. g.0) (map global_entry globals.now) v) }
 {
     let sorted = sorted_globals(alloc, globals)?;
     global_entries(alloc, &sorted)
@@ -60,7 +60,7 @@ pub(crate) fn globals_of(
 
 /// All functions, as they stand.
 fn each_function(alloc: Global, functions: &[FlowFn]) -> Result<Vec<&FlowFn>, AllocError>
-    ensures { IfOk result (λ v. map (λ f. function_view f.now) v.items ≡ map function_view functions.now) }
+    ensures { IfOk result (λ v. map (λ f. f.now) v.items ≡ functions.now) }
 {
     let mut all = Vec::new(alloc);
     for function in functions {
@@ -74,8 +74,8 @@ pub(crate) fn sorted_functions(
     alloc: Global,
     functions: &[FlowFn],
 ) -> Result<Vec<&FlowFn>, AllocError>
-    requires { AreDistinct (map (λ f. f.name) (map function_view functions.now)) }
-    ensures { IfOk result (λ v. IsOrdered (λ f. f.name) (map function_view functions.now) (map (λ f. function_view f.now) v.items)) }
+    requires { AreDistinct (map (λ f. f.name) functions.now) }
+    ensures { IfOk result (λ v. IsOrdered (λ f. f.name) functions.now (map (λ f. f.now) v.items)) }
 {
     let mut sorted = each_function(alloc, functions)?;
     sorted.sort_unstable_by(|one, other| one.name.cmp(&other.name));
@@ -86,10 +86,10 @@ pub(crate) fn sorted_functions(
 pub(crate) fn function_entries(
     alloc: Global,
     functions: &[&FlowFn],
-) -> Result<Vec<(Name, Shape)>, AllocError>
-    ensures { IfOk result (λ v. v.items ≡ map (λ f. function_entry (function_view f.now)) functions.now) }
+) -> Result<Items<(Name, Shape)>, AllocError>
+    ensures { IfOk result (λ v. v ≡ map (λ f. function_entry f.now) functions.now) }
 {
-    let mut entries = Vec::new(alloc);
+    let mut entries = Items::new(alloc);
     for function in functions {
         entries.push((function.name.copy(alloc)?, function.shape.copy(alloc)?))?;
     }
@@ -111,11 +111,11 @@ fn copied(alloc: Global, declared: &[(Name, Shape)]) -> Result<Vec<(Name, Shape)
 pub(crate) fn declared_of(
     alloc: Global,
     declared: &[(Name, Shape)],
-) -> Result<Vec<(Name, Shape)>, AllocError>
+) -> Result<Items<(Name, Shape)>, AllocError>
     requires { AreDistinct (map (λ d. d.0) declared.now) }
-    ensures { IfOk result (λ v. IsOrdered (λ d. d.0) declared.now v.items) }
+    ensures { IfOk result (λ v. IsOrdered (λ d. d.0) declared.now v) }
 {
     let mut sorted = copied(alloc, declared)?;
     sorted.sort_unstable_by(|one, other| one.0.cmp(&other.0));
-    Ok(sorted)
+    Ok(Items::from_vec(sorted))
 }

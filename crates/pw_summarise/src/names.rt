@@ -2,18 +2,19 @@
 
 ghost use Rattle.std.specs.Prelude.{◌≡◌, ◌++◌, map, OnOk, IfOk};
 ghost use Rattle.std.specs.List.{flat_map};
-ghost use Rattle.pw_flow.specs.FlowGraph.{placed_item_view, global_view, op_view, block_view, function_view, view, item_names, op_names, names_in_global};
+ghost use Rattle.pw_flow.specs.FlowGraph.{item_names, op_names, names_in_global};
 ghost use Rattle.pw_value.specs.FieldNames.{IsTableOf};
 ghost use Rattle.pw_summarise.specs.Summarises.{called, referenced, addressed, in_function, in_module};
 ghost use Rattle.pw_summarise.specs.Tallies.{names_as};
 
 use pw_flow::{Block, FlowFn, FlowGlobal, FlowModule, Item, Op};
+use pw_items::Items;
 use pw_value::Name;
 use pw_value::fields::names::table_of;
 use std::alloc::{AllocError, Global};
 
 /// Which names of operations are asked for.
-#[derive(Clone, Copy, PartialEq, Eq, Debug)]
+#[derive(Clone, Copy)]
 pub(crate) enum Part {
     /// Every name.
     Named,
@@ -27,7 +28,7 @@ pub(crate) enum Part {
 
 /// The name that an operation names.
 fn add_named<'a>(names: &mut Vec<&'a Name>, op: &'a Op) -> Result<(), AllocError>
-    ensures { OnOk result (map (λ name. name.now) names.new.items ≡ map (λ name. name.now) names.old.items ++ op_names (op_view op.now)) }
+    ensures { OnOk result (map (λ name. name.now) names.new.items ≡ map (λ name. name.now) names.old.items ++ op_names op.now) }
 {
     match op {
         Op::AddrGlobal(_, name, _)
@@ -42,7 +43,7 @@ fn add_named<'a>(names: &mut Vec<&'a Name>, op: &'a Op) -> Result<(), AllocError
 
 /// The function that an operation calls by its name.
 fn add_called<'a>(names: &mut Vec<&'a Name>, op: &'a Op) -> Result<(), AllocError>
-    ensures { OnOk result (map (λ name. name.now) names.new.items ≡ map (λ name. name.now) names.old.items ++ called (op_view op.now)) }
+    ensures { OnOk result (map (λ name. name.now) names.new.items ≡ map (λ name. name.now) names.old.items ++ called op.now) }
 {
     if let Op::Call(_, name, _) = op {
         names.push(name)?;
@@ -52,7 +53,7 @@ fn add_called<'a>(names: &mut Vec<&'a Name>, op: &'a Op) -> Result<(), AllocErro
 
 /// The global that an operation reads or writes by its name.
 fn add_referenced<'a>(names: &mut Vec<&'a Name>, op: &'a Op) -> Result<(), AllocError>
-    ensures { OnOk result (map (λ name. name.now) names.new.items ≡ map (λ name. name.now) names.old.items ++ referenced (op_view op.now)) }
+    ensures { OnOk result (map (λ name. name.now) names.new.items ≡ map (λ name. name.now) names.old.items ++ referenced op.now) }
 {
     if let Op::LoadG(_, name, _) | Op::StoreG(name, _, _) = op {
         names.push(name)?;
@@ -62,7 +63,7 @@ fn add_referenced<'a>(names: &mut Vec<&'a Name>, op: &'a Op) -> Result<(), Alloc
 
 /// The name whose address an operation takes.
 fn add_addressed<'a>(names: &mut Vec<&'a Name>, op: &'a Op) -> Result<(), AllocError>
-    ensures { OnOk result (map (λ name. name.now) names.new.items ≡ map (λ name. name.now) names.old.items ++ addressed (op_view op.now)) }
+    ensures { OnOk result (map (λ name. name.now) names.new.items ≡ map (λ name. name.now) names.old.items ++ addressed op.now) }
 {
     if let Op::AddrGlobal(_, name, _) | Op::AddrFn(_, name) = op {
         names.push(name)?;
@@ -72,7 +73,7 @@ fn add_addressed<'a>(names: &mut Vec<&'a Name>, op: &'a Op) -> Result<(), AllocE
 
 /// The name of an operation, where it is asked for.
 fn add_op<'a>(names: &mut Vec<&'a Name>, part: Part, op: &'a Op) -> Result<(), AllocError>
-    ensures { OnOk result (map (λ name. name.now) names.new.items ≡ map (λ name. name.now) names.old.items ++ names_as part (op_view op.now)) }
+    ensures { OnOk result (map (λ name. name.now) names.new.items ≡ map (λ name. name.now) names.old.items ++ names_as part op.now) }
 {
     match part {
         Part::Named => add_named(names, op),
@@ -84,7 +85,7 @@ fn add_op<'a>(names: &mut Vec<&'a Name>, part: Part, op: &'a Op) -> Result<(), A
 
 /// The names of operations that are asked for.
 fn add_ops<'a>(names: &mut Vec<&'a Name>, part: Part, ops: &'a [Op]) -> Result<(), AllocError>
-    ensures { OnOk result (map (λ name. name.now) names.new.items ≡ map (λ name. name.now) names.old.items ++ flat_map (names_as part) (map op_view ops.now)) }
+    ensures { OnOk result (map (λ name. name.now) names.new.items ≡ map (λ name. name.now) names.old.items ++ flat_map (names_as part) ops.now) }
 {
     for op in ops {
         add_op(names, part, op)?;
@@ -98,10 +99,10 @@ fn add_blocks<'a>(
     part: Part,
     blocks: &'a [Block],
 ) -> Result<(), AllocError>
-    ensures { OnOk result (map (λ name. name.now) names.new.items ≡ map (λ name. name.now) names.old.items ++ flat_map (λ b. flat_map (names_as part) b.ops) (map block_view blocks.now)) }
+    ensures { OnOk result (map (λ name. name.now) names.new.items ≡ map (λ name. name.now) names.old.items ++ flat_map (λ b. flat_map (names_as part) b.ops) blocks.now) }
 {
     for block in blocks {
-        add_ops(names, part, &block.ops)?;
+        add_ops(names, part, block.ops.as_slice())?;
     }
     Ok(())
 }
@@ -112,17 +113,17 @@ fn add_functions<'a>(
     part: Part,
     functions: &'a [FlowFn],
 ) -> Result<(), AllocError>
-    ensures { OnOk result (map (λ name. name.now) names.new.items ≡ map (λ name. name.now) names.old.items ++ flat_map (in_function (names_as part)) (map function_view functions.now)) }
+    ensures { OnOk result (map (λ name. name.now) names.new.items ≡ map (λ name. name.now) names.old.items ++ flat_map (in_function (names_as part)) functions.now) }
 {
     for function in functions {
-        add_blocks(names, part, &function.blocks)?;
+        add_blocks(names, part, function.blocks.as_slice())?;
     }
     Ok(())
 }
 
 /// The names of items.
 fn add_items<'a>(names: &mut Vec<&'a Name>, items: &'a [(u32, Item)]) -> Result<(), AllocError>
-    ensures { OnOk result (map (λ name. name.now) names.new.items ≡ map (λ name. name.now) names.old.items ++ flat_map (λ placed. item_names placed.1) (map placed_item_view items.now)) }
+    ensures { OnOk result (map (λ name. name.now) names.new.items ≡ map (λ name. name.now) names.old.items ++ flat_map (λ placed. item_names placed.1) items.now) }
 {
     for (_, item) in items {
         if let Item::Address(name, _) = item {
@@ -134,10 +135,10 @@ fn add_items<'a>(names: &mut Vec<&'a Name>, items: &'a [(u32, Item)]) -> Result<
 
 /// The names in the items of objects.
 fn add_globals<'a>(names: &mut Vec<&'a Name>, globals: &'a [FlowGlobal]) -> Result<(), AllocError>
-    ensures { OnOk result (map (λ name. name.now) names.new.items ≡ map (λ name. name.now) names.old.items ++ flat_map names_in_global (map global_view globals.now)) }
+    ensures { OnOk result (map (λ name. name.now) names.new.items ≡ map (λ name. name.now) names.old.items ++ flat_map names_in_global globals.now) }
 {
     for global in globals {
-        add_items(names, &global.items)?;
+        add_items(names, global.items.as_slice())?;
     }
     Ok(())
 }
@@ -147,12 +148,12 @@ pub(crate) fn function_names(
     alloc: Global,
     part: Part,
     function: &FlowFn,
-) -> Result<Vec<Name>, AllocError>
-    ensures { IfOk result (λ v. IsTableOf v.items (in_function (names_as part) (function_view function.now))) }
+) -> Result<Items<Name>, AllocError>
+    ensures { IfOk result (λ v. IsTableOf v (in_function (names_as part) function.now)) }
 {
     let mut names = Vec::new(alloc);
-    add_blocks(&mut names, part, &function.blocks)?;
-    table_of(alloc, names)
+    add_blocks(&mut names, part, function.blocks.as_slice())?;
+    Ok(Items::from_vec(table_of(alloc, names)?))
 }
 
 /// The names of a module's items and those of its operations that are asked for, each once and in byte
@@ -161,11 +162,11 @@ pub(crate) fn module_names(
     alloc: Global,
     part: Part,
     flow: &FlowModule,
-) -> Result<Vec<Name>, AllocError>
-    ensures { IfOk result (λ v. IsTableOf v.items (in_module (names_as part) (view flow.now))) }
+) -> Result<Items<Name>, AllocError>
+    ensures { IfOk result (λ v. IsTableOf v (in_module (names_as part) flow.now)) }
 {
     let mut names = Vec::new(alloc);
-    add_globals(&mut names, &flow.globals)?;
-    add_functions(&mut names, part, &flow.functions)?;
-    table_of(alloc, names)
+    add_globals(&mut names, flow.globals.as_slice())?;
+    add_functions(&mut names, part, flow.functions.as_slice())?;
+    Ok(Items::from_vec(table_of(alloc, names)?))
 }

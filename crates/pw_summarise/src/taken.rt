@@ -4,6 +4,7 @@ ghost use Rattle.std.specs.Prelude.{◌≡◌, map, option_map, IfOk};
 ghost use Rattle.pw_files.specs.Rising.{IsRising};
 ghost use Rattle.pw_summarise.specs.Summarises.{shape_in, is_function_shape, if_function, function_shape as shape_of_function, taken_of, escaped_of};
 
+use pw_items::Items;
 use pw_value::{Name, Shape};
 use std::alloc::{AllocError, Global};
 
@@ -61,12 +62,12 @@ pub(crate) fn taken(
     functions: &[(Name, Shape)],
     declared: &[(Name, Shape)],
     names: &[Name],
-) -> Result<Vec<(Name, Shape)>, AllocError>
+) -> Result<Items<(Name, Shape)>, AllocError>
     requires functions { IsRising (map (λ f. f.0) functions.now) }
     requires declared { IsRising (map (λ d. d.0) declared.now) }
-    ensures { IfOk result (λ v. v.items ≡ taken_of functions.now declared.now names.now) }
+    ensures { IfOk result (λ v. v ≡ taken_of functions.now declared.now names.now) }
 {
-    let mut taken = Vec::new(alloc);
+    let mut taken = Items::new(alloc);
     for name in names {
         if let Some(shape) = function_shape(functions, declared, name) {
             taken.push((name.copy(alloc)?, shape.copy(alloc)?))?;
@@ -81,12 +82,12 @@ pub(crate) fn escaped(
     functions: &[(Name, Shape)],
     declared: &[(Name, Shape)],
     names: &[Name],
-) -> Result<Vec<Name>, AllocError>
+) -> Result<Items<Name>, AllocError>
     requires functions { IsRising (map (λ f. f.0) functions.now) }
     requires declared { IsRising (map (λ d. d.0) declared.now) }
-    ensures { IfOk result (λ v. v.items ≡ escaped_of functions.now declared.now names.now) }
+    ensures { IfOk result (λ v. v ≡ escaped_of functions.now declared.now names.now) }
 {
-    let mut escaped = Vec::new(alloc);
+    let mut escaped = Items::new(alloc);
     for name in names {
         if function_shape(functions, declared, name).is_none() {
             escaped.push(name.copy(alloc)?)?;

@@ -2,20 +2,19 @@
 
 ghost use Rattle.std.specs.Prelude.{IfOk};
 ghost use Rattle.std.specs.List.{AllZip};
-ghost use Rattle.pw_flow.specs.FlowGraph.{function_view};
-ghost use Rattle.pw_summary.specs.Summary.{uses_view};
 ghost use Rattle.pw_summarise.specs.Summarises.{IsUsesOf};
 
 use crate::names::{Part, function_names};
 use crate::shapes::called_shapes;
 use crate::weights::references;
 use pw_flow::FlowFn;
+use pw_items::Items;
 use pw_summary::Uses;
 use std::alloc::{AllocError, Global};
 
 /// What a function uses.
 fn uses_of(alloc: Global, function: &FlowFn) -> Result<Uses, AllocError>
-    ensures { IfOk result (λ u. IsUsesOf (function_view function.now) (uses_view u)) }
+    ensures { IfOk result (λ u. IsUsesOf function.now u) }
 {
     Ok(Uses {
         calls: function_names(alloc, Part::Called, function)?,
@@ -25,10 +24,10 @@ fn uses_of(alloc: Global, function: &FlowFn) -> Result<Uses, AllocError>
 }
 
 /// What functions use, in their order.
-pub(crate) fn all_uses(alloc: Global, functions: &[&FlowFn]) -> Result<Vec<Uses>, AllocError>
-    ensures { IfOk result (λ v. AllZip (λ f u. IsUsesOf (function_view f.now) (uses_view u)) functions.now v.items) }
+pub(crate) fn all_uses(alloc: Global, functions: &[&FlowFn]) -> Result<Items<Uses>, AllocError>
+    ensures { IfOk result (λ v. AllZip (λ f u. IsUsesOf f.now u) functions.now v) }
 {
-    let mut all = Vec::new(alloc);
+    let mut all = Items::new(alloc);
     for function in functions {
         all.push(uses_of(alloc, function)?)?;
     }

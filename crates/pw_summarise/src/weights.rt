@@ -2,13 +2,13 @@
 
 ghost use Rattle.std.specs.Prelude.{◌≡◌, ◌<◌, map, length, IfOk, IfSome, IfNone, Contains};
 ghost use Rattle.std.specs.List.{HoldsAt};
-ghost use Rattle.pw_flow.specs.FlowGraph.{op_view, block_view, function_view};
 ghost use Rattle.pw_files.specs.Rising.{IsRising};
 ghost use Rattle.pw_summarise.specs.Summarises.{weight as weight_of, IsOrdered, reference, referenced, in_function};
 ghost use Rattle.pw_summarise.specs.Tallies.{with_weight as sum_with, with_read, with_write, with_op, with_ops, with_blocks, none_yet};
 
 use crate::names::{Part, function_names};
 use pw_flow::{Block, FlowFn, Op};
+use pw_items::Items;
 use pw_value::Name;
 use std::alloc::{AllocError, Global};
 
@@ -70,7 +70,7 @@ fn add_write(refs: &mut [(Name, u64, u64)], weight: u64, name: &Name)
 /// What an operation of this weight reads or writes.
 fn add_op(refs: &mut [(Name, u64, u64)], weight: u64, op: &Op)
     requires { IsRising (map (λ r. r.0) refs.old) }
-    ensures { refs.new ≡ map (λ r. with_op weight r (op_view op.now)) refs.old }
+    ensures { refs.new ≡ map (λ r. with_op weight r op.now) refs.old }
 {
     match op {
         Op::LoadG(_, name, _) => add_read(refs, weight, name),
@@ -82,7 +82,7 @@ fn add_op(refs: &mut [(Name, u64, u64)], weight: u64, op: &Op)
 /// What operations of this weight read and write.
 fn add_ops(refs: &mut [(Name, u64, u64)], weight: u64, ops: &[Op])
     requires { IsRising (map (λ r. r.0) refs.old) }
-    ensures { refs.new ≡ map (with_ops weight (map op_view ops.now)) refs.old }
+    ensures { refs.new ≡ map (with_ops weight ops.now) refs.old }
 {
     for op in ops {
         add_op(refs, weight, op);
@@ -92,19 +92,19 @@ fn add_ops(refs: &mut [(Name, u64, u64)], weight: u64, ops: &[Op])
 /// What blocks read and write.
 fn add_blocks(refs: &mut [(Name, u64, u64)], blocks: &[Block])
     requires { IsRising (map (λ r. r.0) refs.old) }
-    ensures { refs.new ≡ map (with_blocks (map block_view blocks.now)) refs.old }
+    ensures { refs.new ≡ map (with_blocks blocks.now) refs.old }
 {
     for block in blocks {
-        add_ops(refs, weight(block.depth), &block.ops);
+        add_ops(refs, weight(block.depth), block.ops.as_slice());
     }
 }
 
 /// Globals that no operation has read or written yet.
-fn unweighted(alloc: Global, names: Vec<Name>) -> Result<Vec<(Name, u64, u64)>, AllocError>
-    ensures { IfOk result (λ v. v.items ≡ map none_yet names.items) }
+fn unweighted(alloc: Global, names: Items<Name>) -> Result<Vec<(Name, u64, u64)>, AllocError>
+    ensures { IfOk result (λ v. v.items ≡ map none_yet names) }
 {
     let mut refs = Vec::new(alloc);
-    for name in names {
+    for name in names.into_vec() {
         refs.push((name, 0, 0))?;
     }
     Ok(refs)
@@ -114,11 +114,11 @@ fn unweighted(alloc: Global, names: Vec<Name>) -> Result<Vec<(Name, u64, u64)>, 
 pub(crate) fn references(
     alloc: Global,
     function: &FlowFn,
-) -> Result<Vec<(Name, u64, u64)>, AllocError>
-    ensures { IfOk result (λ v. IsOrdered (λ r. r.0) (map (reference (function_view function.now)) (in_function referenced (function_view function.now))) v.items) }
+) -> Result<Items<(Name, u64, u64)>, AllocError>
+    ensures { IfOk result (λ v. IsOrdered (λ r. r.0) (map (reference function.now) (in_function referenced function.now)) v) }
 {
     let names = function_names(alloc, Part::Referenced, function)?;
     let mut refs = unweighted(alloc, names)?;
-    add_blocks(&mut refs, &function.blocks);
-    Ok(refs)
+    add_blocks(&mut refs, function.blocks.as_slice());
+    Ok(Items::from_vec(refs))
 }

@@ -4,7 +4,7 @@ use pw_items::Items;
 use pw_value::{Kind, Name, Shape};
 
 /// What one function uses. Each list is in byte order without repeats.
-#[derive(Debug, Drop)]
+#[derive(Drop)]
 pub struct Uses {
     /// The functions that it calls by name.
     pub calls: Items<Name>,
@@ -17,7 +17,7 @@ pub struct Uses {
 
 /// What the program analyser needs to know of a module. Each list but the last is in byte order of the
 /// names, without repeats.
-#[derive(Debug, Drop)]
+#[derive(Drop)]
 pub struct Summary {
     pub module: Name,
     /// The globals that it defines: shape, kind where it is a scalar, and whether it is volatile.

@@ -12,5 +12,5 @@ use Rattle.pw_summarise.proofs.lists.declared_of.Goals as goal
 pub returns : goal.returns
 returns c =
     let up = c.sort_unstable_by.ensures.sorted (λ a b. is_lt (slice_cmp nat_cmp a.0 b.0)) (ranks_by nat_list_cmp_total (λ (d : List ℕ × List ℕ). d.0)) (always_returns_same _ _ _ (λ a r f h. (search rules, search rules))) in
-    subst (λ (ds : List (List ℕ × List ℕ)). IsOrdered (λ d. d.0) c.args.declared.now ds) (map-id c.sort_unstable_by.new.self.items)
-    (ordered_by_sort (λ (d : List ℕ × List ℕ). d) (λ d. d.0) c.args.declared.now c.in_ok-sorted.sorted.items c.sort_unstable_by.new.self.items (map-id c.in_ok-sorted.sorted.items ∙ c.in_ok-sorted.ensures) c.requires c.sort_unstable_by.ensures.permutation up)
+    rw c.from_vec.ensures (subst (λ (ds : List (List ℕ × List ℕ)). IsOrdered (λ d. d.0) c.args.declared.now ds) (map-id c.sort_unstable_by.new.self.items)
+    (ordered_by_sort (λ (d : List ℕ × List ℕ). d) (λ d. d.0) c.args.declared.now c.in_ok-sorted.sorted.items c.sort_unstable_by.new.self.items (map-id c.in_ok-sorted.sorted.items ∙ c.in_ok-sorted.ensures) c.requires c.sort_unstable_by.ensures.permutation up))

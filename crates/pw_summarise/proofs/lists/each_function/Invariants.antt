@@ -1,6 +1,5 @@
 use Rattle.std.proofs.Common.{◌≡◌, map, take}
-use Rattle.pw_flow.specs.FlowGraph.{function_view}
 use Rattle.pw_summarise.proofs.lists.each_function.Given as goal
 
 abbrev pub invariant-loop-function : goal.invariant-loop-function
-invariant-loop-function l = map (λ f. function_view f.now) l.all.items ≡ map function_view (take l.function-index l.functions)
+invariant-loop-function l = map (λ f. f.now) l.all.items ≡ take l.function-index l.functions

@@ -1,7 +1,6 @@
 use Rattle.std.proofs.Common.{◌≡◌, map, take}
-use Rattle.pw_flow.specs.FlowGraph.{global_view}
 use Rattle.pw_summarise.specs.Summarises.{global_entry}
 use Rattle.pw_summarise.proofs.lists.global_entries.Given as goal
 
 abbrev pub invariant-loop-global : goal.invariant-loop-global
-invariant-loop-global l = l.entries.items ≡ map (λ g. global_entry (global_view g.now)) (take l.global-index l.globals)
+invariant-loop-global l = l.entries ≡ map (λ g. global_entry g.now) (take l.global-index l.globals)

@@ -5,7 +5,6 @@ use Rattle.std.proofs.lemmas.Cmp.{nat_list_cmp_total}
 use Rattle.std.proofs.lemmas.Fn.{always_returns_same}
 use Rattle.std.proofs.lemmas.List.Sorted.{ranks_by}
 use Rattle.pw_flow.specs.declared.flow.FlowGlobal.{FlowGlobal}
-use Rattle.pw_flow.specs.FlowGraph.{global_view}
 use Rattle.pw_summarise.specs.Summarises.{global_entry}
 use Rattle.pw_summarise.proofs.Orders.{ordered_by_sort}
 use Rattle.pw_summarise.proofs.lists.sorted_globals.Goals as goal
@@ -13,4 +12,4 @@ use Rattle.pw_summarise.proofs.lists.sorted_globals.Goals as goal
 pub returns : goal.returns
 returns c =
     let up = c.sort_unstable_by.ensures.sorted (λ a b. is_lt (slice_cmp nat_cmp a.now.name b.now.name)) (ranks_by nat_list_cmp_total (λ (g : Bor FlowGlobal). g.now.name)) (always_returns_same _ _ _ (λ a r f h. (search rules, search rules))) in
-    ordered_by_sort (λ (g : Bor FlowGlobal). global_entry (global_view g.now)) (λ g. g.0) (map global_entry (map global_view c.args.globals.now)) c.in_ok-sorted.sorted.items c.sort_unstable_by.new.self.items c.in_ok-sorted.ensures c.requires c.sort_unstable_by.ensures.permutation up
+    ordered_by_sort (λ (g : Bor FlowGlobal). global_entry g.now) (λ g. g.0) (map global_entry c.args.globals.now) c.in_ok-sorted.sorted.items c.sort_unstable_by.new.self.items c.in_ok-sorted.ensures c.requires c.sort_unstable_by.ensures.permutation up

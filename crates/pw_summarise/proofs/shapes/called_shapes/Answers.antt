@@ -5,6 +5,6 @@ use Rattle.pw_summarise.proofs.shapes.called_shapes.Goals as goal
 
 pub returns : goal.returns
 returns c =
-    let source = rw (c.new-shapes.ensures.items, c.deref.ensures.value) at c.in_ok-add_blocks.ensures in
-    subst (λ (texts : List (List ℕ)). IsOrdered (λ text. text) texts c.dedup.new.self.items) source
-    (freed_ordered c.add_blocks.new.shapes.items c.sort_unstable.new.self.items c.dedup.new.self.items c.sort_unstable.ensures.permutation c.sort_unstable.ensures.sorted c.dedup.ensures.filtered)
+    let source = rw (c.new-shapes.ensures.items, c.as_slice.ensures) at c.in_ok-add_blocks.ensures in
+    rw c.from_vec.ensures (subst (λ (texts : List (List ℕ)). IsOrdered (λ text. text) texts c.dedup.new.self.items) source
+    (freed_ordered c.add_blocks.new.shapes.items c.sort_unstable.new.self.items c.dedup.new.self.items c.sort_unstable.ensures.permutation c.sort_unstable.ensures.sorted c.dedup.ensures.filtered))

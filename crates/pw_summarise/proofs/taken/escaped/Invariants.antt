@@ -3,4 +3,4 @@ use Rattle.pw_summarise.specs.Summarises.{escaped_of}
 use Rattle.pw_summarise.proofs.taken.escaped.Given as goal
 
 abbrev pub invariant-loop-name : goal.invariant-loop-name
-invariant-loop-name l = l.escaped.items ≡ escaped_of l.functions l.declared (take l.name-index l.names)
+invariant-loop-name l = l.escaped ≡ escaped_of l.functions l.declared (take l.name-index l.names)

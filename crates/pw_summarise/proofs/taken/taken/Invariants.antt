@@ -3,4 +3,4 @@ use Rattle.pw_summarise.specs.Summarises.{taken_of}
 use Rattle.pw_summarise.proofs.taken.taken.Given as goal
 
 abbrev pub invariant-loop-name : goal.invariant-loop-name
-invariant-loop-name l = l.taken.items ≡ taken_of l.functions l.declared (take l.name-index l.names)
+invariant-loop-name l = l.taken ≡ taken_of l.functions l.declared (take l.name-index l.names)

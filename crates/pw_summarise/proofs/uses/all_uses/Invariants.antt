@@ -1,9 +1,7 @@
 use Rattle.std.proofs.Common.{take}
 use Rattle.std.specs.List.{AllZip}
-use Rattle.pw_flow.specs.FlowGraph.{function_view}
-use Rattle.pw_summary.specs.Summary.{uses_view}
 use Rattle.pw_summarise.specs.Summarises.{IsUsesOf}
 use Rattle.pw_summarise.proofs.uses.all_uses.Given as goal
 
 abbrev pub invariant-loop-function : goal.invariant-loop-function
-invariant-loop-function l = AllZip (λ f u. IsUsesOf (function_view f.now) (uses_view u)) (take l.function-index l.functions) l.all.items
+invariant-loop-function l = AllZip (λ f u. IsUsesOf f.now u) (take l.function-index l.functions) l.all

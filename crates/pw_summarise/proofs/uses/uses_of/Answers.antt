@@ -1,11 +1,10 @@
-use Rattle.pw_flow.specs.FlowGraph.{function_view}
 use Rattle.pw_summarise.specs.Summarises.{called, in_function}
 use Rattle.pw_summarise.proofs.Orders.{table_ordered}
 use Rattle.pw_summarise.proofs.uses.uses_of.Goals as goal
 
 pub returns : goal.returns
 returns c = record {
-  calls = table_ordered c.in_ok-function_names.field-0.items (in_function called (function_view c.args.function.now)) c.in_ok-function_names.ensures;
+  calls = table_ordered c.in_ok-function_names.field-0 (in_function called c.args.function.now) c.in_ok-function_names.ensures;
   shapes = c.in_ok-called_shapes.ensures;
   refs = c.in_ok-references.ensures;
 }

@@ -1,7 +1,6 @@
 use Rattle.std.proofs.Common.{◌≡◌, map, take}
-use Rattle.pw_flow.specs.FlowGraph.{block_view}
 use Rattle.pw_summarise.specs.Tallies.{with_blocks}
 use Rattle.pw_summarise.proofs.weights.add_blocks.Given as goal
 
 abbrev pub invariant-loop-block : goal.invariant-loop-block
-invariant-loop-block l = l.refs ≡ map (with_blocks (map block_view (take l.block-index l.blocks))) l.fn.refs
+invariant-loop-block l = l.refs ≡ map (with_blocks (take l.block-index l.blocks)) l.fn.refs
