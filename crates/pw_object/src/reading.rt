@@ -115,7 +115,7 @@ fn object_of(
     globals: Items<FlowGlobal>,
     functions: Items<ObjectFn>,
 ) -> Result<Object, AllocError>
-    ensures { IfOk result (λ o. o ≡ record { version = object_version; «module» = texts.0.now; flow = texts.1.now; directives = texts.2.now; declared = declared; used = used; globals = globals; functions = functions }) }
+    ensures { IfOk result (λ o. o ≡ record { version = object_version; «module» = texts.entry.0.now; flow = texts.entry.1.now; directives = texts.entry.2.now; declared = declared; used = used; globals = globals; functions = functions }) }
 {
     let (module, flow, directives) = texts;
     Ok(Object {
