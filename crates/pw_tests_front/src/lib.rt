@@ -1,0 +1,6 @@
+//! Tests of the crates that read a text: tokens, names in scope, syntax trees and the front end. It has no code of its
+//! own. Each test is a table of cases.
+#![tactic(auto)]
+
+#[cfg(test)]
+mod spelling;
