@@ -1,8 +1,9 @@
 -- What writing a tree's tokens does to the tokens that stand already.
-use Rattle.std.specs.Prelude.{◌≡◌, List, ◌++◌, map}
+use Rattle.std.specs.Prelude.{◌≡◌, false, List, ◌++◌, map}
 use Rattle.pw_tree.specs.Symbols as symbol
 use Rattle.pw_tree.specs.Symbols.{Symbol, spelled}
 use Rattle.pw_spell.specs.declared.spelled.Spelled.{Spelled}
+use Rattle.pw_spell.specs.declared.spelled.Writer.{Writer}
 
 abbrev pub view_spelled : Spelled → symbol.Spelled
 view_spelled t = record { kind = t.kind; text = t.text.items }
@@ -11,10 +12,14 @@ view_spelled t = record { kind = t.kind; text = t.text.items }
 unfoldable pub followed : List Spelled → List Symbol → List symbol.Spelled
 followed tokens z = map view_spelled tokens ++ map spelled z
 
--- The new tokens are the old ones with what `spell` puts before whatever follows.
-abbrev pub Writes : (List Symbol → List Symbol) → List Spelled → List Spelled → Type 0
-Writes spell old new = (z : List Symbol) → followed new z ≡ followed old (spell z)
+-- Unless the writer is full, the new tokens are the old ones with what `spell` puts before whatever follows.
+abbrev pub Writes : (List Symbol → List Symbol) → Writer → Writer → Type 0
+Writes spell old new = new.full ≡ false → (old.full ≡ false) × ((z : List Symbol) → followed new.tokens.items z ≡ followed old.tokens.items (spell z))
 
--- The new tokens with what is still to come are the old ones with all of it.
-abbrev pub Goes : (List Symbol → List Symbol) → (List Symbol → List Symbol) → List Spelled → List Spelled → Type 0
-Goes rest whole old new = (z : List Symbol) → followed new (rest z) ≡ followed old (whole z)
+-- Unless it is full, the new tokens with what is still to come are the old ones with all of it.
+abbrev pub Goes : (List Symbol → List Symbol) → (List Symbol → List Symbol) → Writer → Writer → Type 0
+Goes rest whole old new = new.full ≡ false → (old.full ≡ false) × ((z : List Symbol) → followed new.tokens.items (rest z) ≡ followed old.tokens.items (whole z))
+
+-- The same for whatever rest of a list is still to come.
+abbrev pub GoesBefore : {A : Type 0} → (A → List Symbol → List Symbol) → (A → List Symbol → List Symbol) → Writer → Writer → Type 0
+GoesBefore {A = A} rest whole old new = new.full ≡ false → (old.full ≡ false) × ((more : A) (z : List Symbol) → followed new.tokens.items (rest more z) ≡ followed old.tokens.items (whole more z))

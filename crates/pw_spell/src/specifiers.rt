@@ -1,30 +1,28 @@
 //! The tokens of specifiers (C90 6.5.1 to 6.5.3).
 
-ghost use Rattle.std.specs.Prelude.{◌≡◌, ◌∷◌, List, OnOk, true, false};
+ghost use Rattle.std.specs.Prelude.{◌≡◌, ◌∷◌, List, true, false};
 ghost use Rattle.pw_tree.specs.Spelling as spell;
-ghost use Rattle.pw_tree.specs.Trees as tree;
 ghost use Rattle.pw_tree.specs.Views as view;
-ghost use Rattle.pw_spell.specs.Writing.{Writes, Goes};
+ghost use Rattle.pw_spell.specs.Writing.{Writes, GoesBefore};
 
-use crate::spelled::{NoMemory, Writer};
+use crate::spelled::Writer;
 use pw_tree::{Enumerator, Keyword, Mark, Member, MemberDeclarator, Specifier};
 
 impl Writer {
     #[cycle(spell)]
     #[tactic(auto, unfolding(pw_tree::specs::Views::view_expr, pw_tree::specs::Spelling::spell_expr))]
-    pub fn specifiers(&mut self, specifiers: &[Specifier]) -> Result<(), NoMemory>
-        ensures { OnOk result (Writes (spell.spell_specifiers (view.view_specifiers specifiers.now)) self.old.tokens.items self.new.tokens.items) }
+    pub fn specifiers(&mut self, specifiers: &[Specifier])
+        ensures { Writes (spell.spell_specifiers (view.view_specifiers specifiers.now)) self.old self.new }
     {
         for specifier in specifiers {
-            self.specifier(specifier)?;
+            self.specifier(specifier);
         }
-        Ok(())
     }
 
     #[cycle(spell)]
     #[tactic(auto, unfolding(pw_tree::specs::Views::view_expr, pw_tree::specs::Spelling::spell_expr))]
-    fn specifier(&mut self, specifier: &Specifier) -> Result<(), NoMemory>
-        ensures { OnOk result ((rest : tree.Specifiers) → Goes (spell.spell_specifiers rest) (spell.spell_specifiers (view.view_specifier specifier.now rest)) self.old.tokens.items self.new.tokens.items) }
+    fn specifier(&mut self, specifier: &Specifier)
+        ensures { GoesBefore spell.spell_specifiers (λ rest. spell.spell_specifiers (view.view_specifier specifier.now rest)) self.old self.new }
     {
         match specifier {
             Specifier::Storage { token: _, class } => self.keyword(class.keyword()),
@@ -39,8 +37,8 @@ impl Writer {
                 kind,
                 tag,
             } => {
-                self.keyword(kind.keyword())?;
-                self.identifier(tag)
+                self.keyword(kind.keyword());
+                self.identifier(tag);
             }
             Specifier::Record {
                 token: _,
@@ -48,66 +46,60 @@ impl Writer {
                 tag,
                 members,
             } => {
-                self.keyword(kind.keyword())?;
-                self.tag(tag)?;
-                self.mark(Mark::OpenBrace)?;
-                self.members(members)?;
-                self.mark(Mark::CloseBrace)
+                self.keyword(kind.keyword());
+                self.tag(tag);
+                self.mark(Mark::OpenBrace);
+                self.members(members);
+                self.mark(Mark::CloseBrace);
             }
             Specifier::EnumTag { token: _, tag } => {
-                self.keyword(Keyword::Enum)?;
-                self.identifier(tag)
+                self.keyword(Keyword::Enum);
+                self.identifier(tag);
             }
             Specifier::Enum {
                 token: _,
                 tag,
                 enumerators,
             } => {
-                self.keyword(Keyword::Enum)?;
-                self.tag(tag)?;
-                self.mark(Mark::OpenBrace)?;
-                self.enumerators(enumerators)?;
-                self.mark(Mark::CloseBrace)
+                self.keyword(Keyword::Enum);
+                self.tag(tag);
+                self.mark(Mark::OpenBrace);
+                self.enumerators(enumerators);
+                self.mark(Mark::CloseBrace);
             }
         }
     }
 
     #[cycle(spell)]
     #[tactic(auto, unfolding(pw_tree::specs::Views::view_expr, pw_tree::specs::Spelling::spell_expr))]
-    fn members(&mut self, members: &[Member]) -> Result<(), NoMemory>
-        ensures { OnOk result (Writes (spell.spell_members (view.view_members members.now)) self.old.tokens.items self.new.tokens.items) }
+    fn members(&mut self, members: &[Member])
+        ensures { Writes (spell.spell_members (view.view_members members.now)) self.old self.new }
     {
         for member in members {
-            self.specifiers(&member.specifiers)?;
-            self.member_declarators(&member.declarators)?;
-            self.mark(Mark::Semicolon)?;
+            self.specifiers(&member.specifiers);
+            self.member_declarators(&member.declarators);
+            self.mark(Mark::Semicolon);
         }
-        Ok(())
     }
 
     #[cycle(spell)]
     #[tactic(auto, unfolding(pw_tree::specs::Views::view_expr, pw_tree::specs::Spelling::spell_expr))]
-    fn member_declarators(&mut self, declarators: &[MemberDeclarator]) -> Result<(), NoMemory>
-        ensures { OnOk result (Writes (spell.spell_member_declarators true (view.view_member_declarators declarators.now)) self.old.tokens.items self.new.tokens.items) }
+    fn member_declarators(&mut self, declarators: &[MemberDeclarator])
+        ensures { Writes (spell.spell_member_declarators true (view.view_member_declarators declarators.now)) self.old self.new }
     {
         let mut first = true;
         for declarator in declarators {
-            self.member_declarator(first, declarator)?;
+            self.member_declarator(first, declarator);
             first = false;
         }
-        Ok(())
     }
 
     #[cycle(spell)]
     #[tactic(auto, unfolding(pw_tree::specs::Views::view_expr, pw_tree::specs::Spelling::spell_expr))]
-    fn member_declarator(
-        &mut self,
-        first: bool,
-        declarator: &MemberDeclarator,
-    ) -> Result<(), NoMemory>
-        ensures { OnOk result ((rest : tree.MemberDeclarators) → Goes (spell.spell_member_declarators false rest) (spell.spell_member_declarators first (view.view_member_declarator declarator.now rest)) self.old.tokens.items self.new.tokens.items) }
+    fn member_declarator(&mut self, first: bool, declarator: &MemberDeclarator)
+        ensures { GoesBefore (spell.spell_member_declarators false) (λ rest. spell.spell_member_declarators first (view.view_member_declarator declarator.now rest)) self.old self.new }
     {
-        self.separate(first)?;
+        self.separate(first);
         match declarator {
             MemberDeclarator::Plain(declarator) => self.declarator(declarator),
             MemberDeclarator::BitField {
@@ -115,42 +107,41 @@ impl Writer {
                 token: _,
                 width,
             } => {
-                self.declarator(declarator)?;
-                self.mark(Mark::Colon)?;
-                self.expr(width)
+                self.declarator(declarator);
+                self.mark(Mark::Colon);
+                self.expr(width);
             }
             MemberDeclarator::Padding { token: _, width } => {
-                self.mark(Mark::Colon)?;
-                self.expr(width)
+                self.mark(Mark::Colon);
+                self.expr(width);
             }
         }
     }
 
     #[cycle(spell)]
     #[tactic(auto, unfolding(pw_tree::specs::Views::view_expr, pw_tree::specs::Spelling::spell_expr))]
-    fn enumerators(&mut self, enumerators: &[Enumerator]) -> Result<(), NoMemory>
-        ensures { OnOk result (Writes (spell.spell_enumerators true (view.view_enumerators enumerators.now)) self.old.tokens.items self.new.tokens.items) }
+    fn enumerators(&mut self, enumerators: &[Enumerator])
+        ensures { Writes (spell.spell_enumerators true (view.view_enumerators enumerators.now)) self.old self.new }
     {
         let mut first = true;
         for enumerator in enumerators {
-            self.enumerator(first, enumerator)?;
+            self.enumerator(first, enumerator);
             first = false;
         }
-        Ok(())
     }
 
     #[cycle(spell)]
     #[tactic(auto, unfolding(pw_tree::specs::Views::view_expr, pw_tree::specs::Spelling::spell_expr))]
-    fn enumerator(&mut self, first: bool, enumerator: &Enumerator) -> Result<(), NoMemory>
-        ensures { OnOk result ((rest : tree.Enumerators) → Goes (spell.spell_enumerators false rest) (spell.spell_enumerators first (view.view_enumerator enumerator.now rest)) self.old.tokens.items self.new.tokens.items) }
+    fn enumerator(&mut self, first: bool, enumerator: &Enumerator)
+        ensures { GoesBefore (spell.spell_enumerators false) (λ rest. spell.spell_enumerators first (view.view_enumerator enumerator.now rest)) self.old self.new }
     {
-        self.separate(first)?;
+        self.separate(first);
         match enumerator {
             Enumerator::Plain(name) => self.identifier(name),
             Enumerator::Valued { name, value } => {
-                self.identifier(name)?;
-                self.mark(Mark::Equal)?;
-                self.expr(value)
+                self.identifier(name);
+                self.mark(Mark::Equal);
+                self.expr(value);
             }
         }
     }

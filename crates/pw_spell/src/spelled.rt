@@ -1,11 +1,11 @@
 //! Tokens that are spelled out, and the writer that collects them.
 
-ghost use Rattle.std.specs.Prelude.{◌≡◌, ◌∷◌, List, OnOk};
+ghost use Rattle.std.specs.Prelude.{◌≡◌, ◌∷◌, List, OnOk, false};
 ghost use Rattle.pw_tree.specs.Symbols as spec;
 ghost use Rattle.pw_tree.specs.Symbols.{Symbol, spelled};
 ghost use Rattle.pw_tree.specs.Spelling.{identifier, separated};
 ghost use Rattle.pw_tree.specs.Views.{view_word};
-ghost use Rattle.pw_spell.specs.Writing.{Writes};
+ghost use Rattle.pw_spell.specs.Writing.{Writes, followed};
 
 use pw_token::TokenKind;
 use pw_tree::{Keyword, Mark, Word};
@@ -21,49 +21,61 @@ pub struct Spelled {
     pub text: Vec<u8>,
 }
 
-/// Collects the tokens of a tree.
+/// Collects the tokens of a tree, until memory runs out: from then on it is full and takes no more.
 #[derive(Drop)]
 pub struct Writer {
     pub alloc: Global,
     pub tokens: Vec<Spelled>,
+    pub full: bool,
 }
 
 impl Writer {
     #[tactic(auto, unfolding(crate::specs::Writing::followed))]
-    pub fn push(&mut self, kind: TokenKind, text: &[u8]) -> Result<(), NoMemory>
-        ensures { OnOk result ((symbol : Symbol) → spelled symbol ≡ record { kind = kind; text = text.now }
-            → Writes (λ z. symbol ∷ z) self.old.tokens.items self.new.tokens.items) }
+    fn try_push(&mut self, kind: TokenKind, text: &[u8]) -> Result<(), NoMemory>
+        ensures full { self.new.full ≡ self.old.full }
+        ensures pushed { OnOk result ((symbol : Symbol) → spelled symbol ≡ record { kind = kind; text = text.now }
+            → (z : List Symbol) → followed self.new.tokens.items z ≡ followed self.old.tokens.items (symbol ∷ z)) }
     {
         let text = text.to_vec(self.alloc)?;
         self.tokens.push(Spelled { kind, text })?;
         Ok(())
     }
 
-    pub fn keyword(&mut self, keyword: Keyword) -> Result<(), NoMemory>
-        ensures { OnOk result (Writes (λ z. spec.Reserved keyword ∷ z) self.old.tokens.items self.new.tokens.items) }
+    /// A token of this kind with these bytes.
+    pub fn push(&mut self, kind: TokenKind, text: &[u8])
+        ensures full { self.new.full ≡ false → self.old.full ≡ false }
+        ensures pushed { (symbol : Symbol) → spelled symbol ≡ record { kind = kind; text = text.now }
+            → self.new.full ≡ false → (z : List Symbol) → followed self.new.tokens.items z ≡ followed self.old.tokens.items (symbol ∷ z) }
     {
-        self.push(TokenKind::Keyword, keyword.text())
+        if !self.full && self.try_push(kind, text).is_err() {
+            self.full = true;
+        }
     }
 
-    pub fn mark(&mut self, mark: Mark) -> Result<(), NoMemory>
-        ensures { OnOk result (Writes (λ z. spec.Sign mark ∷ z) self.old.tokens.items self.new.tokens.items) }
+    pub fn keyword(&mut self, keyword: Keyword)
+        ensures { Writes (λ z. spec.Reserved keyword ∷ z) self.old self.new }
     {
-        self.push(TokenKind::Mark, mark.text())
+        self.push(TokenKind::Keyword, keyword.text());
     }
 
-    pub fn identifier(&mut self, word: &Word) -> Result<(), NoMemory>
-        ensures { OnOk result (Writes (λ z. identifier (view_word word.now) ∷ z) self.old.tokens.items self.new.tokens.items) }
+    pub fn mark(&mut self, mark: Mark)
+        ensures { Writes (λ z. spec.Sign mark ∷ z) self.old self.new }
     {
-        self.push(TokenKind::Identifier, &word.text)
+        self.push(TokenKind::Mark, mark.text());
+    }
+
+    pub fn identifier(&mut self, word: &Word)
+        ensures { Writes (λ z. identifier (view_word word.now) ∷ z) self.old self.new }
+    {
+        self.push(TokenKind::Identifier, &word.text);
     }
 
     /// A comma, unless the item behind it is the first of its list.
-    pub fn separate(&mut self, first: bool) -> Result<(), NoMemory>
-        ensures { OnOk result (Writes (separated first) self.old.tokens.items self.new.tokens.items) }
+    pub fn separate(&mut self, first: bool)
+        ensures { Writes (separated first) self.old self.new }
     {
-        if first {
-            return Ok(());
+        if !first {
+            self.mark(Mark::Comma);
         }
-        self.mark(Mark::Comma)
     }
 }

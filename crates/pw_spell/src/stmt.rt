@@ -1,75 +1,72 @@
 //! The tokens of statements (C90 6.6).
 
-ghost use Rattle.std.specs.Prelude.{◌≡◌, ◌∷◌, List, OnOk, true};
+ghost use Rattle.std.specs.Prelude.{◌≡◌, ◌∷◌, List, true};
 ghost use Rattle.pw_tree.specs.declared.symbol.Keyword.TheVariants as keyword;
 ghost use Rattle.pw_tree.specs.declared.symbol.Mark.TheVariants as mark;
 ghost use Rattle.pw_tree.specs.Spelling as spell;
 ghost use Rattle.pw_tree.specs.Symbols as symbol;
-ghost use Rattle.pw_tree.specs.Trees as tree;
 ghost use Rattle.pw_tree.specs.Views as view;
-ghost use Rattle.pw_spell.specs.Writing.{Writes, Goes};
+ghost use Rattle.pw_spell.specs.Writing.{Writes, GoesBefore};
 
-use crate::spelled::{NoMemory, Writer};
+use crate::spelled::Writer;
 use pw_tree::{Block, ElseIf, Expr, Keyword, Label, Mark, Stmt};
 
 impl Writer {
-    fn optional(&mut self, e: &Option<Expr>) -> Result<(), NoMemory>
-        ensures { OnOk result (Writes (spell.spell_optional (view.view_optional e.now)) self.old.tokens.items self.new.tokens.items) }
+    fn optional(&mut self, e: &Option<Expr>)
+        ensures { Writes (spell.spell_optional (view.view_optional e.now)) self.old self.new }
     {
-        match e {
-            Some(e) => self.expr(e),
-            None => Ok(()),
+        if let Some(e) = e {
+            self.expr(e);
         }
     }
 
-    fn label(&mut self, label: &Label) -> Result<(), NoMemory>
-        ensures { OnOk result (Writes (spell.spell_label (view.view_label label.now)) self.old.tokens.items self.new.tokens.items) }
+    fn label(&mut self, label: &Label)
+        ensures { Writes (spell.spell_label (view.view_label label.now)) self.old self.new }
     {
         match label {
             Label::Case { token: _, value } => {
-                self.keyword(Keyword::Case)?;
-                self.expr(value)?;
+                self.keyword(Keyword::Case);
+                self.expr(value);
             }
-            Label::Default { token: _ } => self.keyword(Keyword::Default)?,
-            Label::Name(name) => self.identifier(name)?,
+            Label::Default { token: _ } => self.keyword(Keyword::Default),
+            Label::Name(name) => self.identifier(name),
         }
-        self.mark(Mark::Colon)
+        self.mark(Mark::Colon);
     }
 
-    fn labels(&mut self, labels: &[Label]) -> Result<(), NoMemory>
-        ensures { OnOk result (Writes (spell.spell_labels (view.view_labels labels.now)) self.old.tokens.items self.new.tokens.items) }
+    fn labels(&mut self, labels: &[Label])
+        ensures { Writes (spell.spell_labels (view.view_labels labels.now)) self.old self.new }
     {
         for label in labels {
-            self.label(label)?;
+            self.label(label);
         }
-        Ok(())
     }
 
     /// A keyword and an expression in parentheses.
-    fn head(&mut self, keyword: Keyword, e: &Expr) -> Result<(), NoMemory>
-        ensures { OnOk result (Writes (λ z. symbol.Reserved keyword ∷ symbol.Sign mark.OpenParen ∷ spell.spell_expr (view.view_expr e.now) (symbol.Sign mark.CloseParen ∷ z)) self.old.tokens.items self.new.tokens.items) }
+    fn head(&mut self, keyword: Keyword, e: &Expr)
+        ensures { Writes (λ z. symbol.Reserved keyword ∷ symbol.Sign mark.OpenParen ∷ spell.spell_expr (view.view_expr e.now) (symbol.Sign mark.CloseParen ∷ z)) self.old self.new }
     {
-        self.keyword(keyword)?;
-        self.mark(Mark::OpenParen)?;
-        self.expr(e)?;
-        self.mark(Mark::CloseParen)
+        self.keyword(keyword);
+        self.mark(Mark::OpenParen);
+        self.expr(e);
+        self.mark(Mark::CloseParen);
     }
 
     #[cycle(stmt)]
     #[tactic(auto, unfolding(pw_tree::specs::Views::view_stmt, pw_tree::specs::Spelling::spell_stmt))]
-    fn stmt(&mut self, stmt: &Stmt) -> Result<(), NoMemory>
-        ensures { OnOk result (Writes (spell.spell_stmt (view.view_stmt stmt.now)) self.old.tokens.items self.new.tokens.items) }
+    fn stmt(&mut self, stmt: &Stmt)
+        ensures { Writes (spell.spell_stmt (view.view_stmt stmt.now)) self.old self.new }
     {
         match stmt {
             Stmt::Block(block) => self.block(block),
             Stmt::Expression(value) => {
-                self.expr(value)?;
-                self.mark(Mark::Semicolon)
+                self.expr(value);
+                self.mark(Mark::Semicolon);
             }
             Stmt::Empty { token: _ } => self.mark(Mark::Semicolon),
             Stmt::Labeled { labels, statement } => {
-                self.labels(labels)?;
-                self.stmt(statement)
+                self.labels(labels);
+                self.stmt(statement);
             }
             Stmt::If {
                 token: _,
@@ -78,36 +75,36 @@ impl Writer {
                 else_ifs,
                 otherwise,
             } => {
-                self.head(Keyword::If, condition)?;
-                self.stmt(chosen)?;
-                self.else_ifs(else_ifs)?;
-                self.otherwise(otherwise)
+                self.head(Keyword::If, condition);
+                self.stmt(chosen);
+                self.else_ifs(else_ifs);
+                self.otherwise(otherwise);
             }
             Stmt::Switch {
                 token: _,
                 value,
                 body,
             } => {
-                self.head(Keyword::Switch, value)?;
-                self.stmt(body)
+                self.head(Keyword::Switch, value);
+                self.stmt(body);
             }
             Stmt::While {
                 token: _,
                 condition,
                 body,
             } => {
-                self.head(Keyword::While, condition)?;
-                self.stmt(body)
+                self.head(Keyword::While, condition);
+                self.stmt(body);
             }
             Stmt::Do {
                 token: _,
                 body,
                 condition,
             } => {
-                self.keyword(Keyword::Do)?;
-                self.stmt(body)?;
-                self.head(Keyword::While, condition)?;
-                self.mark(Mark::Semicolon)
+                self.keyword(Keyword::Do);
+                self.stmt(body);
+                self.head(Keyword::While, condition);
+                self.mark(Mark::Semicolon);
             }
             Stmt::For {
                 token: _,
@@ -116,94 +113,84 @@ impl Writer {
                 step,
                 body,
             } => {
-                self.for_head(start, condition, step)?;
-                self.stmt(body)
+                self.for_head(start, condition, step);
+                self.stmt(body);
             }
             Stmt::Goto { token: _, label } => {
-                self.keyword(Keyword::Goto)?;
-                self.identifier(label)?;
-                self.mark(Mark::Semicolon)
+                self.keyword(Keyword::Goto);
+                self.identifier(label);
+                self.mark(Mark::Semicolon);
             }
             Stmt::Continue { token: _ } => {
-                self.keyword(Keyword::Continue)?;
-                self.mark(Mark::Semicolon)
+                self.keyword(Keyword::Continue);
+                self.mark(Mark::Semicolon);
             }
             Stmt::Break { token: _ } => {
-                self.keyword(Keyword::Break)?;
-                self.mark(Mark::Semicolon)
+                self.keyword(Keyword::Break);
+                self.mark(Mark::Semicolon);
             }
             Stmt::Return { token: _, value } => {
-                self.keyword(Keyword::Return)?;
-                self.optional(value)?;
-                self.mark(Mark::Semicolon)
+                self.keyword(Keyword::Return);
+                self.optional(value);
+                self.mark(Mark::Semicolon);
             }
         }
     }
 
-    fn for_head(
-        &mut self,
-        start: &Option<Expr>,
-        condition: &Option<Expr>,
-        step: &Option<Expr>,
-    ) -> Result<(), NoMemory>
-        ensures { OnOk result (Writes (λ z. symbol.Reserved keyword.For ∷ symbol.Sign mark.OpenParen ∷ spell.spell_optional (view.view_optional start.now) (symbol.Sign mark.Semicolon ∷ spell.spell_optional (view.view_optional condition.now) (symbol.Sign mark.Semicolon ∷ spell.spell_optional (view.view_optional step.now) (symbol.Sign mark.CloseParen ∷ z)))) self.old.tokens.items self.new.tokens.items) }
+    fn for_head(&mut self, start: &Option<Expr>, condition: &Option<Expr>, step: &Option<Expr>)
+        ensures { Writes (λ z. symbol.Reserved keyword.For ∷ symbol.Sign mark.OpenParen ∷ spell.spell_optional (view.view_optional start.now) (symbol.Sign mark.Semicolon ∷ spell.spell_optional (view.view_optional condition.now) (symbol.Sign mark.Semicolon ∷ spell.spell_optional (view.view_optional step.now) (symbol.Sign mark.CloseParen ∷ z)))) self.old self.new }
     {
-        self.keyword(Keyword::For)?;
-        self.mark(Mark::OpenParen)?;
-        self.optional(start)?;
-        self.mark(Mark::Semicolon)?;
-        self.optional(condition)?;
-        self.mark(Mark::Semicolon)?;
-        self.optional(step)?;
-        self.mark(Mark::CloseParen)
+        self.keyword(Keyword::For);
+        self.mark(Mark::OpenParen);
+        self.optional(start);
+        self.mark(Mark::Semicolon);
+        self.optional(condition);
+        self.mark(Mark::Semicolon);
+        self.optional(step);
+        self.mark(Mark::CloseParen);
     }
 
     #[cycle(stmt)]
     #[tactic(auto, unfolding(pw_tree::specs::Views::view_stmt, pw_tree::specs::Spelling::spell_stmt))]
-    fn else_ifs(&mut self, else_ifs: &[ElseIf]) -> Result<(), NoMemory>
-        ensures { OnOk result ((rest : tree.Alternative) → Goes (spell.spell_alternative rest) (spell.spell_alternative (view.view_else_ifs else_ifs.now rest)) self.old.tokens.items self.new.tokens.items) }
+    fn else_ifs(&mut self, else_ifs: &[ElseIf])
+        ensures { GoesBefore spell.spell_alternative (λ rest. spell.spell_alternative (view.view_else_ifs else_ifs.now rest)) self.old self.new }
     {
         for else_if in else_ifs {
-            self.keyword(Keyword::Else)?;
-            self.head(Keyword::If, &else_if.condition)?;
-            self.stmt(&else_if.chosen)?;
-        }
-        Ok(())
-    }
-
-    #[cycle(stmt)]
-    #[tactic(auto, unfolding(pw_tree::specs::Views::view_stmt, pw_tree::specs::Spelling::spell_stmt))]
-    fn otherwise(&mut self, otherwise: &Option<Box<Stmt>>) -> Result<(), NoMemory>
-        ensures { OnOk result (Writes (spell.spell_alternative (view.view_otherwise otherwise.now)) self.old.tokens.items self.new.tokens.items) }
-    {
-        match otherwise {
-            Some(otherwise) => {
-                self.keyword(Keyword::Else)?;
-                self.stmt(otherwise)
-            }
-            None => Ok(()),
+            self.keyword(Keyword::Else);
+            self.head(Keyword::If, &else_if.condition);
+            self.stmt(&else_if.chosen);
         }
     }
 
     #[cycle(stmt)]
     #[tactic(auto, unfolding(pw_tree::specs::Views::view_stmt, pw_tree::specs::Spelling::spell_stmt))]
-    pub fn block(&mut self, block: &Block) -> Result<(), NoMemory>
-        ensures { OnOk result (Writes (spell.spell_block (view.view_block block.now)) self.old.tokens.items self.new.tokens.items) }
+    fn otherwise(&mut self, otherwise: &Option<Box<Stmt>>)
+        ensures { Writes (spell.spell_alternative (view.view_otherwise otherwise.now)) self.old self.new }
     {
-        self.mark(Mark::OpenBrace)?;
-        self.decls(&block.declarations)?;
-        self.stmts(&block.statements)?;
-        self.mark(Mark::CloseBrace)
+        if let Some(otherwise) = otherwise {
+            self.keyword(Keyword::Else);
+            self.stmt(otherwise);
+        }
     }
 
     #[cycle(stmt)]
     #[tactic(auto, unfolding(pw_tree::specs::Views::view_stmt, pw_tree::specs::Spelling::spell_stmt))]
-    fn stmts(&mut self, statements: &[Stmt]) -> Result<(), NoMemory>
-        ensures { OnOk result (Writes (spell.spell_stmts (view.view_stmts statements.now)) self.old.tokens.items self.new.tokens.items) }
+    pub fn block(&mut self, block: &Block)
+        ensures { Writes (spell.spell_block (view.view_block block.now)) self.old self.new }
+    {
+        self.mark(Mark::OpenBrace);
+        self.decls(&block.declarations);
+        self.stmts(&block.statements);
+        self.mark(Mark::CloseBrace);
+    }
+
+    #[cycle(stmt)]
+    #[tactic(auto, unfolding(pw_tree::specs::Views::view_stmt, pw_tree::specs::Spelling::spell_stmt))]
+    fn stmts(&mut self, statements: &[Stmt])
+        ensures { Writes (spell.spell_stmts (view.view_stmts statements.now)) self.old self.new }
     {
         for statement in statements {
-            self.stmt(statement)?;
+            self.stmt(statement);
         }
-        Ok(())
     }
 }

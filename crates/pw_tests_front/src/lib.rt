@@ -14,3 +14,4 @@ mod spelling;
 mod syntax;
 #[cfg(test)]
 mod tokens;
+mod spelling;

@@ -7,4 +7,4 @@ use Rattle.pw_spell.proofs.spelled.Writer.+init.Given as goal
 
 abbrev pub invariant-inits-loop-init : goal.invariant-inits-loop-init
 invariant-inits-loop-init l =
-    Goes (spell.spell_inits l.first (view.view_inits (drop l.init-index l.inits))) (spell.spell_inits true (view.view_inits l.inits)) l.initial.self.tokens.items l.self.tokens.items
+    Goes (spell.spell_inits l.first (view.view_inits (drop l.init-index l.inits))) (spell.spell_inits true (view.view_inits l.inits)) l.initial.self l.self

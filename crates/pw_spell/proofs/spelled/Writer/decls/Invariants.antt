@@ -7,4 +7,4 @@ use Rattle.pw_spell.proofs.spelled.Writer.decls.Given as goal
 
 abbrev pub invariant-loop-decl : goal.invariant-loop-decl
 invariant-loop-decl l =
-    Goes (spell.spell_decls (view.view_decls (drop l.decl-index l.decls))) (spell.spell_decls (view.view_decls l.decls)) l.initial.self.tokens.items l.self.tokens.items
+    Goes (spell.spell_decls (view.view_decls (drop l.decl-index l.decls))) (spell.spell_decls (view.view_decls l.decls)) l.initial.self l.self

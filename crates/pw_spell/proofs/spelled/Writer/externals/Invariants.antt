@@ -7,4 +7,4 @@ use Rattle.pw_spell.proofs.spelled.Writer.externals.Given as goal
 
 abbrev pub invariant-loop-external : goal.invariant-loop-external
 invariant-loop-external l =
-    Goes (spell.spell_externals (view.view_externals (drop l.external-index l.externals))) (spell.spell_externals (view.view_externals l.externals)) l.initial.self.tokens.items l.self.tokens.items
+    Goes (spell.spell_externals (view.view_externals (drop l.external-index l.externals))) (spell.spell_externals (view.view_externals l.externals)) l.initial.self l.self

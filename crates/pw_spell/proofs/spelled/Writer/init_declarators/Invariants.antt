@@ -7,4 +7,4 @@ use Rattle.pw_spell.proofs.spelled.Writer.init_declarators.Given as goal
 
 abbrev pub invariant-loop-declarator : goal.invariant-loop-declarator
 invariant-loop-declarator l =
-    Goes (spell.spell_init_declarators l.first (view.view_init_declarators (drop l.declarator-index l.declarators))) (spell.spell_init_declarators true (view.view_init_declarators l.declarators)) l.initial.self.tokens.items l.self.tokens.items
+    Goes (spell.spell_init_declarators l.first (view.view_init_declarators (drop l.declarator-index l.declarators))) (spell.spell_init_declarators true (view.view_init_declarators l.declarators)) l.initial.self l.self

@@ -7,4 +7,4 @@ use Rattle.pw_spell.proofs.spelled.Writer.labels.Given as goal
 
 abbrev pub invariant-loop-label : goal.invariant-loop-label
 invariant-loop-label l =
-    Goes (spell.spell_labels (view.view_labels (drop l.label-index l.labels))) (spell.spell_labels (view.view_labels l.labels)) l.initial.self.tokens.items l.self.tokens.items
+    Goes (spell.spell_labels (view.view_labels (drop l.label-index l.labels))) (spell.spell_labels (view.view_labels l.labels)) l.initial.self l.self
