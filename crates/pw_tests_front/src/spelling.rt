@@ -1,14 +1,14 @@
 //! Trees that were written by hand, and the tokens that C90's grammar spells them with. Spelling does not look at
 //! the tokens' numbers, so that they are 0 here.
 
-use crate::{
+use pw_spell::{Spelled, spell};
+use pw_token::lex;
+use pw_tree::{
     Access, AssignOperator, BasicType, BinaryOperator, Block, Core, Decl, Declarator, ElseIf,
     Enumerator, Expr, External, Function, Init, InitDeclarator, Initializer, Label, Member,
     MemberDeclarator, Module, Operation, Parameter, Pointer, PostfixOperation, Qualifier,
-    RecordKind, Specifier, Spelled, StepOperator, Stmt, StorageClass, Suffix, TypeName,
-    UnaryOperator, Word, spell,
+    RecordKind, Specifier, StepOperator, Stmt, StorageClass, Suffix, TypeName, UnaryOperator, Word,
 };
-use pw_token::lex;
 use std::alloc::{AllocError, Global};
 use std::process::Abort;
 use std::test::Fail;
