@@ -14,4 +14,3 @@ mod spelling;
 mod syntax;
 #[cfg(test)]
 mod tokens;
-mod spelling;
