@@ -5,3 +5,4 @@ pub mod Keeping
 pub mod Bounding
 pub mod RunLaws
 pub mod ValueLaws
+pub mod WordLaws
