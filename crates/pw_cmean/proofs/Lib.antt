@@ -6,3 +6,4 @@ pub mod Bounding
 pub mod RunLaws
 pub mod ValueLaws
 pub mod WordLaws
+pub mod SoundActs
