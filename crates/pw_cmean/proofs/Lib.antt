@@ -7,3 +7,4 @@ pub mod RunLaws
 pub mod ValueLaws
 pub mod WordLaws
 pub mod SoundActs
+pub mod SoundOperators

@@ -67,7 +67,7 @@ divided-word b r h = if-word (b == 0) (Err ZeroDivisor) r tt h
 shifted-word : (count n : ℕ) → n < 2 ^ 32 → GivesWord (shifted count n)
 shifted-word count n h = if-word (nat_lt count 32) (Ok n) (Err ShiftCount) h tt
 
-number_for-word : (b : Bool) → number_for b < 2 ^ 32
+pub number_for-word : (b : Bool) → number_for b < 2 ^ 32
 number_for-word true = omega arith
 number_for-word false = omega arith
 
