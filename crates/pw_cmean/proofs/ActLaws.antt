@@ -161,7 +161,7 @@ module _ (R : (A : Type 0) → Act A → Act A → Type 0) (laws : Laws R) where
 
   difference-r : (at : Site) (size : ℕ) (p q : Value) → R Value (difference at size p q) (difference at size p q)
   unfolding difference
-  difference-r at size p q = bind-r objects_now-r λ os. bind-r (judge-r at _) λ u. laws.gives Value _
+  difference-r at size p q = bind-r objects_now-r λ os. bind-r (judge-r at _) λ u. outcome_of-r at _
 
   ordered-r : (at : Site) (op : BinaryOperator) (p q : Value) → R Value (ordered at op p q) (ordered at op p q)
   unfolding ordered

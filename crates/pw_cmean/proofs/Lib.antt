@@ -5,3 +5,6 @@ pub mod Keeping
 pub mod Bounding
 pub mod RunLaws
 pub mod ValueLaws
+pub mod WordLaws
+pub mod SoundActs
+pub mod SoundOperators

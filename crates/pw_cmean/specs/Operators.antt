@@ -19,7 +19,7 @@ use Rattle.pw_cmean.specs.Access.{objects_now}
 use Rattle.pw_types.specs.Layouts.{layout_of}
 use Rattle.pw_value.specs.declared.words.WordFault.{WordFault}
 use Rattle.pw_value.specs.declared.words.WordFault.TheVariants.{Overflow, ZeroDivisor, ShiftCount}
-use Rattle.pw_value.specs.Words.{signed, word, unsigned_sum, unsigned_difference, unsigned_product, unsigned_negation, unsigned_quotient, unsigned_remainder, unsigned_less, unsigned_at_most, signed_sum, signed_difference, signed_product, signed_negation, signed_quotient, signed_remainder, signed_less, signed_at_most, shift_left, unsigned_shift_right, signed_shift_right}
+use Rattle.pw_value.specs.Words.{signed, exact, unsigned_sum, unsigned_difference, unsigned_product, unsigned_negation, unsigned_quotient, unsigned_remainder, unsigned_less, unsigned_at_most, signed_sum, signed_difference, signed_product, signed_negation, signed_quotient, signed_remainder, signed_less, signed_at_most, shift_left, unsigned_shift_right, signed_shift_right}
 
 -- ---- values
 
@@ -167,7 +167,7 @@ unfoldable pub difference : Site → ℕ → Value → Value → Act Value
 difference site size p q = do
   objects ← objects_now
   judge site (U.EndedObject when (is_ended objects p || is_ended objects q) ∷ U.DifferentObjects when not (into_one_object p q) ∷ U.PointerDifference when not (unsigned_abs (distance p q) % size == 0) ∷ [])
-  give (V.Num (word (int_div (distance p q) (pos size))))
+  outcome_of site (exact (int_div (distance p q) (pos size)))
 
 -- pointers into one object are in the order of their offsets (6.3.8)
 unfoldable pub ordered : Site → BinaryOperator → Value → Value → Act Value
