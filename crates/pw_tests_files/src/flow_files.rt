@@ -394,15 +394,17 @@ fn is_global(global: &FlowGlobal, row: &GlobalRow) -> bool {
 }
 
 fn are_globals(globals: &[FlowGlobal], rows: &[GlobalRow]) -> bool {
-    globals.len() == rows.len() && globals.iter().zip(rows).all(|(global, row)| is_global(global, row))
+    globals.len() == rows.len()
+        && globals
+            .iter()
+            .zip(rows)
+            .all(|(global, row)| is_global(global, row))
 }
 
 fn are_declared(declared: &[(Name, Shape)], rows: &[(&[u8], &[u8])]) -> bool {
     declared.len() == rows.len()
-        && declared
-            .iter()
-            .zip(rows)
-            .all(|(one, row)| one.0.as_bytes() == row.0 && one.1.as_bytes() == row.1)
+        && declared.iter().zip(rows).all(|(one, row)| one.0.as_bytes() == row.0
+            && one.1.as_bytes() == row.1)
 }
 
 /// Whether an operation on numbers is that of the row.
@@ -459,10 +461,9 @@ fn is_call(op: &Op, row: &OpRow) -> bool {
 
 fn are_ops(ops: &[Op], rows: &[OpRow]) -> bool {
     ops.len() == rows.len()
-        && ops
-            .iter()
-            .zip(rows)
-            .all(|(op, row)| is_sum(op, row) || is_access(op, row) || is_call(op, row))
+        && ops.iter().zip(rows).all(|(op, row)| is_sum(op, row)
+            || is_access(op, row)
+            || is_call(op, row))
 }
 
 fn is_end(end: End, wanted: End) -> bool {
@@ -477,9 +478,7 @@ fn is_end(end: End, wanted: End) -> bool {
 fn are_blocks(blocks: &[Block], rows: &[BlockRow]) -> bool {
     blocks.len() == rows.len()
         && blocks.iter().zip(rows).all(|(block, row)| {
-            block.depth == row.0
-                && are_ops(block.ops.as_slice(), row.1)
-                && is_end(block.end, row.2)
+            block.depth == row.0 && are_ops(block.ops.as_slice(), row.1) && is_end(block.end, row.2)
         })
 }
 
@@ -533,7 +532,11 @@ fn is_read_and_written(alloc: Global, text: &str, row: &ModuleRow) -> Result<boo
 #[test]
 fn modules(rt: HostRuntime) -> Result<(), Fail> {
     for (text, row) in &MODULES {
-        assert!(rt; is_read_and_written(rt.alloc(), *text, row)?, "{}", text.len());
+        assert!(rt;
+            is_read_and_written(rt.alloc(), *text, row)?,
+            "{}",
+            text.len()
+        );
     }
     Ok(())
 }

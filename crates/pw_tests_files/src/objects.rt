@@ -384,14 +384,16 @@ fn are_globals(globals: &[FlowGlobal], rows: &[GlobalRow]) -> bool {
 
 fn are_declared(declared: &[(Name, Shape)], rows: &[(&[u8], &[u8])]) -> bool {
     declared.len() == rows.len()
-        && declared
-            .iter()
-            .zip(rows)
-            .all(|(one, row)| one.0.as_bytes() == row.0 && one.1.as_bytes() == row.1)
+        && declared.iter().zip(rows).all(|(one, row)| one.0.as_bytes() == row.0
+            && one.1.as_bytes() == row.1)
 }
 
 fn are_used(used: &[Name], rows: &[&[u8]]) -> bool {
-    used.len() == rows.len() && used.iter().zip(rows).all(|(name, row)| name.as_bytes() == *row)
+    used.len() == rows.len()
+        && used
+            .iter()
+            .zip(rows)
+            .all(|(name, row)| name.as_bytes() == *row)
 }
 
 /// Whether the object is the row's.
