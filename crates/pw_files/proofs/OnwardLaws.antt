@@ -139,7 +139,7 @@ kept_is : {X : Type 0} (rule : X → Bool) (n : ℕ) (y x : X) (behind rest : Li
 kept_is rule n y x behind rest true is e = (e, ap rule (sym (found_is y x behind rest e).0) ∙ is)
 kept_is rule n y x behind rest false is e = absurd (not_found n x rest e)
 
-kept_found : {X : Type 0} (rule : X → Bool) (n : ℕ) (x : X) (rest : List ℕ) (r : Result (X × List ℕ) ℕ) → kept rule n r ≡ Ok (x, rest) → (r ≡ Ok (x, rest)) × (rule x ≡ true)
+pub kept_found : {X : Type 0} (rule : X → Bool) (n : ℕ) (x : X) (rest : List ℕ) (r : Result (X × List ℕ) ℕ) → kept rule n r ≡ Ok (x, rest) → (r ≡ Ok (x, rest)) × (rule x ≡ true)
 kept_found rule n x rest (Ok y) e = kept_is rule n y.0 x y.1 rest (rule y.0) refl e
 kept_found rule n x rest (Err d) e = absurd (not_found d x rest e)
 
@@ -147,7 +147,7 @@ abbrev SameFault : {X : Type 0} → (List ℕ → Result (X × List ℕ) ℕ) �
 SameFault read bytes left = (left ≡ length bytes) × (count : ℕ) × IsFieldLength bytes count × ((other : List ℕ) → length other ≡ length bytes → take count other ≡ take count bytes → read other ≡ Err left)
 
 -- other bytes that begin alike
-begins_alike : (front rest other : List ℕ) → length other ≡ length (front ++ rest) → take (length front) other ≡ take (length front) (front ++ rest) → (other ≡ front ++ drop (length front) other) × (length (drop (length front) other) ≡ length rest)
+pub begins_alike : (front rest other : List ℕ) → length other ≡ length (front ++ rest) → take (length front) other ≡ take (length front) (front ++ rest) → (other ≡ front ++ drop (length front) other) × (length (drop (length front) other) ≡ length rest)
 begins_alike front rest other len alike =
     let is : other ≡ front ++ drop (length front) other = sym (take-append-drop (length front) other) ∙ ap (λ (w : List ℕ). w ++ drop (length front) other) (alike ∙ take_at front rest (length front) refl) in
     (is, omega (arith, ap length is, length-append front (drop (length front) other), length-append front rest, len))

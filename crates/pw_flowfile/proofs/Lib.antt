@@ -2,5 +2,5 @@ pub mod GraphLaws
 pub mod Turns
 pub mod ContentLaws
 pub mod MarkLaws
-pub mod ReadingLemmas
 pub mod WritingLemmas
+pub mod FlowFaults

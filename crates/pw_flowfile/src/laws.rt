@@ -12,3 +12,8 @@ pub fn flow_graphs_and_files_are_one_to_one()
     ensures one_module { (bytes : List ℕ) (m n : FlowModule) → IsFlowFile bytes m → IsFlowFile bytes n → m ≡ n }
     ensures one_file { (bytes others : List ℕ) (m : FlowModule) → IsFlowFile bytes m → IsFlowFile others m → bytes ≡ others }
 {}
+
+/// A fault lies within the bytes, and one of the fields rests on the bytes up to the faulty field's end.
+pub fn faults_stay()
+    ensures { FaultsStay kind_of_file fields_at (λ bytes. value_of (flow_file_at bytes)) }
+{}

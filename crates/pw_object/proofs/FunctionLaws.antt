@@ -13,12 +13,13 @@ use Rattle.pw_value.proofs.FieldSteps.{finish, step, step_where, format}
 use Rattle.pw_value.proofs.NameLaws.{name_spells, AllUsed}
 use Rattle.pw_files.specs.Rising.{counted, counted_at, FitsList}
 use Rattle.pw_files.proofs.RisingLaws.{counted_spells, each_weaker, used_append, used_front, used_back}
-use Rattle.pw_object.specs.declared.fixes.FixKind.{FixKind}
-use Rattle.pw_object.specs.declared.fixes.FixKind.TheVariants as kind
-use Rattle.pw_object.specs.declared.fixes.Symbol.{Symbol}
-use Rattle.pw_object.specs.declared.fixes.Symbol.TheVariants as symbol
-use Rattle.pw_object.specs.declared.fixes.Fix.{Fix}
-use Rattle.pw_object.specs.Functions.{FunctionValue, IsSymbol, IsFix, IsFunction, kind_code, symbol_spelling, fix, function, names_of_symbol, names_of_function}
+use Rattle.pw_inst.specs.declared.relocation.FixKind.{FixKind}
+use Rattle.pw_inst.specs.declared.relocation.FixKind.TheVariants as kind
+use Rattle.pw_inst.specs.declared.relocation.Symbol.{Symbol}
+use Rattle.pw_inst.specs.declared.relocation.Symbol.TheVariants as symbol
+use Rattle.pw_inst.specs.declared.relocation.Fix.{Fix}
+use Rattle.pw_object.specs.declared.functions.ObjectFn.{ObjectFn}
+use Rattle.pw_object.specs.Functions.{IsSymbol, IsFix, IsFunction, kind_code, symbol_spelling, fix, function, names_of_symbol, names_of_function}
 use Rattle.pw_object.specs.Reading.{kind_of, kind_at, named_at, word_at, routine_at, symbol_of_form_at, symbol_at, fix_at, function_at}
 
 -- ---- kinds
@@ -116,7 +117,7 @@ fix_spells names table words = format (fix names) (FitsFix names words) (fix nam
 
 -- ---- functions
 
-abbrev pub FitsFunction : List (List ℕ) → FunctionValue → Type 0
+abbrev pub FitsFunction : List (List ℕ) → ObjectFn → Type 0
 FitsFunction names f = Contains names f.name × (FitsU32 f.frame × (FitsList FitsU32 f.words × (FitsList (FitsFix names (length f.words)) f.fixes × Unit {0})))
 
 pub function_spells : (names : List (List ℕ)) → IsNameTable names → Spells (function names) (FitsFunction names) (function_at names)
@@ -138,7 +139,7 @@ symbol_lawful names (symbol.Word word) fits = fits
 symbol_lawful names symbol.StackLimit fits = tt
 symbol_lawful names (symbol.Routine number) fits = fits
 
-pub lawful : (names : List (List ℕ)) (f : FunctionValue) → FitsFunction names f → IsFunction f
+pub lawful : (names : List (List ℕ)) (f : ObjectFn) → FitsFunction names f → IsFunction f
 lawful names f fits = record {
   frame = fits.1.0;
   words = fits.1.1.0.1;
@@ -159,7 +160,7 @@ fixes_used names words (f ∷ fs) all =
     subst (λ (ns : List (List ℕ)). AllUsed ns names) (sym (flat_map-cons (λ (x : Fix). names_of_symbol x.symbol) f fs))
     (used_append (names_of_symbol f.symbol) (flat_map (λ x. names_of_symbol x.symbol) fs) names (symbol_used names f.symbol all.0.1.1.0) (fixes_used names words fs all.1))
 
-pub function_used : (names : List (List ℕ)) (f : FunctionValue) → FitsFunction names f → AllUsed (names_of_function f) names
+pub function_used : (names : List (List ℕ)) (f : ObjectFn) → FitsFunction names f → AllUsed (names_of_function f) names
 function_used names f fits = (fits.0, fixes_used names (length f.words) f.fixes fits.1.1.1.0.1)
 
 symbol_back : (names : List (List ℕ)) (s : Symbol) → IsSymbol s → AllUsed (names_of_symbol s) names → FitsSymbol names s
@@ -176,5 +177,5 @@ fixes_back names words (f ∷ fs) few is used =
       fixes_back names words fs few is.1 (used_back (names_of_symbol f.symbol) (flat_map (λ x. names_of_symbol x.symbol) fs) names both),
     )
 
-pub function_back : (names : List (List ℕ)) (f : FunctionValue) → IsFunction f → FitsU32 (length f.words) → FitsU32 (length f.fixes) → AllUsed (names_of_function f) names → FitsFunction names f
+pub function_back : (names : List (List ℕ)) (f : ObjectFn) → IsFunction f → FitsU32 (length f.words) → FitsU32 (length f.fixes) → AllUsed (names_of_function f) names → FitsFunction names f
 function_back names f is words fixes used = (used.0, (is.frame, ((words, is.words), ((fixes, fixes_back names (length f.words) f.fixes words is.fixes used.1), tt))))

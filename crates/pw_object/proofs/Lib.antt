@@ -1,3 +1,5 @@
 pub mod FunctionLaws
 pub mod ObjectLaws
 pub mod WritingLemmas
+mod ReadingLemmas
+mod ObjectFaults

@@ -1,5 +1,5 @@
 -- What writing asks of an object's parts, and what it gives.
-use Rattle.std.proofs.Common.{◌≡◌, ℕ, List, [], ◌∷◌, ◌++◌, length, map, All, Result, Ok, Err, subst, ap, ◌∙◌, arith}
+use Rattle.std.proofs.Common.{◌≡◌, ℕ, List, [], ◌∷◌, length, map, Result, subst}
 use Rattle.std.specs.Prelude.{Contains, IfOk, OnOk}
 use Rattle.std.specs.Global.{Vec}
 use Rattle.std.specs.List.{flat_map, AllByRecursion}
@@ -10,19 +10,23 @@ use Rattle.pw_value.specs.FieldFrame.{file, FitsFile}
 use Rattle.pw_value.specs.FieldNames.{IsTableOf}
 use Rattle.pw_value.proofs.NameLaws.{AllUsed, used_by_table}
 use Rattle.pw_files.proofs.RisingLaws.{each_by_used, used_front, used_back}
-use Rattle.pw_flow.specs.FlowGraph.{GlobalValue}
+use Rattle.pw_flow.specs.declared.flow.FlowGlobal.{FlowGlobal}
 use Rattle.pw_flowfile.specs.FlowFile.{all_in_global}
-use Rattle.pw_object.specs.declared.fixes.Symbol.{Symbol}
-use Rattle.pw_object.specs.declared.fixes.Symbol.TheVariants as symbol
-use Rattle.pw_object.specs.declared.fixes.Fix.{Fix}
-use Rattle.pw_object.specs.Functions.{FunctionValue, names_of_symbol, names_of_function, IsSymbolNamed, IsFunctionNamed}
-use Rattle.pw_object.specs.Object.{PartsValue, ObjectValue, IsObject, IsNamedBy, names_of, FitParts, IsContents, spelling, kind, IsObjectFile}
+use Rattle.pw_inst.specs.declared.relocation.Symbol.{Symbol}
+use Rattle.pw_inst.specs.declared.relocation.Symbol.TheVariants as symbol
+use Rattle.pw_inst.specs.declared.relocation.Fix.{Fix}
+use Rattle.pw_object.specs.declared.functions.ObjectFn.{ObjectFn}
+use Rattle.pw_object.specs.Functions.{names_of_symbol, names_of_function, IsSymbolNamed, IsFunctionNamed}
+use Rattle.pw_object.specs.declared.object.Object.{Object}
+use Rattle.pw_object.specs.Object.{object_version, IsObject, IsNamedBy, names_of, FitsObject, spelling, kind, IsObjectFile}
+use Rattle.pw_files.specs.Contents.{IsContents}
+use Rattle.pw_files.proofs.ContentsLaws.{is_file}
 
 each_named : (names ns : List (List ℕ)) → AllUsed ns names → AllByRecursion (Contains names) ns
 each_named names [] used = tt
 each_named names (n ∷ ns) used = (used.0, each_named names ns used.1)
 
-globals_named : (names : List (List ℕ)) (gs : List GlobalValue) → AllUsed (flat_map all_in_global gs) names → AllByRecursion (λ g. AllByRecursion (Contains names) (all_in_global g)) gs
+globals_named : (names : List (List ℕ)) (gs : List FlowGlobal) → AllUsed (flat_map all_in_global gs) names → AllByRecursion (λ g. AllByRecursion (Contains names) (all_in_global g)) gs
 globals_named names [] used = tt
 globals_named names (g ∷ gs) used =
     let both = subst (λ (ns : List (List ℕ)). AllUsed ns names) (flat_map-cons all_in_global g gs) used in
@@ -40,14 +44,14 @@ fixes_named names (f ∷ fs) used =
     let both = subst (λ (ns : List (List ℕ)). AllUsed ns names) (flat_map-cons (λ (x : Fix). names_of_symbol x.symbol) f fs) used in
     (symbol_named names f.symbol (used_front (names_of_symbol f.symbol) (flat_map (λ x. names_of_symbol x.symbol) fs) names both), fixes_named names fs (used_back (names_of_symbol f.symbol) (flat_map (λ x. names_of_symbol x.symbol) fs) names both))
 
-functions_named : (names : List (List ℕ)) (fs : List FunctionValue) → AllUsed (flat_map names_of_function fs) names → AllByRecursion (IsFunctionNamed names) fs
+functions_named : (names : List (List ℕ)) (fs : List ObjectFn) → AllUsed (flat_map names_of_function fs) names → AllByRecursion (IsFunctionNamed names) fs
 functions_named names [] used = tt
 functions_named names (f ∷ fs) used =
     let both = subst (λ (ns : List (List ℕ)). AllUsed ns names) (flat_map-cons names_of_function f fs) used in
     let here = used_front (names_of_function f) (flat_map names_of_function fs) names both in
     (record { name = here.0; fixes = All-from_recursion (λ x. IsSymbolNamed names x.symbol) f.fixes (fixes_named names f.fixes here.1) }, functions_named names fs (used_back (names_of_function f) (flat_map names_of_function fs) names both))
 
-pub named_by : (names : List (List ℕ)) (p : PartsValue) → IsTableOf names (names_of p) → IsNamedBy names p
+pub named_by : (names : List (List ℕ)) (p : Object) → IsTableOf names (names_of p) → IsNamedBy names p
 named_by names p table =
     let all = (used_by_table names (names_of p) table).1 in
     let one = all.1 in
@@ -61,13 +65,9 @@ named_by names p table =
       functions = functions_named names p.functions (used_back (flat_map all_in_global p.globals) _ names three);
     }
 
--- the file
+-- ---- the file
 
-pub is_file : {E : Type 0} (names : List (List ℕ)) (o : ObjectValue) (payload : List ℕ) (r : Result (Vec ℕ) E) → IsObject o → FitParts o.parts → FitsU32 (length names) → IsTableOf names (names_of o.parts)
-    → payload ≡ spelling (record { names = names; «parts» = o.parts }) → OnOk r (FitsFile payload) → IfOk r (λ v. v.items ≡ file kind 1 payload) → IfOk r (λ v. IsObjectFile v.items o)
-is_file names o payload (Ok v) is fits count table same room made = record {
-  version = is.version;
-  names = names;
-  file = record { version = 1; not_below = omega arith; not_above = omega arith; fits = record { «parts» = is.parts; fits = fits; name_count = count; names = table }; room = subst FitsFile same room; spelled = made ∙ ap (file kind 1) same };
-}
-is_file names o payload (Err e) is fits count table same room made = tt
+pub made : {E : Type 0} (names : List (List ℕ)) (o : Object) (payload : List ℕ) (r : Result (Vec ℕ) E) → IsObject o → FitsObject o → FitsU32 (length names) → IsTableOf names (names_of o)
+    → payload ≡ spelling (record { names = names; value = o }) → OnOk r (FitsFile payload) → IfOk r (λ v. v.items ≡ file kind object_version payload) → IfOk r (λ v. IsObjectFile v.items o)
+made names o payload r is fits count table same room sealed =
+    is_file kind spelling (IsContents IsObject FitsObject names_of) (record { names = names; value = o }) payload r (record { lawful = is; fits = fits; name_count = count; names = table }) same room sealed

@@ -4,22 +4,12 @@ use Rattle.std.specs.List.{flat_map, AllByRecursion}
 use Rattle.pw_value.specs.Fields.{u8, u32, parts, FitsU32}
 use Rattle.pw_value.specs.FieldNames.{name_index}
 use Rattle.pw_files.specs.Rising.{counted}
-use Rattle.pw_object.specs.declared.fixes.FixKind.{FixKind}
-use Rattle.pw_object.specs.declared.fixes.FixKind.TheVariants as kind
-use Rattle.pw_object.specs.declared.fixes.Symbol.{Symbol}
-use Rattle.pw_object.specs.declared.fixes.Symbol.TheVariants as symbol
-use Rattle.pw_object.specs.declared.fixes.Fix.{Fix}
+use Rattle.pw_inst.specs.declared.relocation.FixKind.{FixKind}
+use Rattle.pw_inst.specs.declared.relocation.FixKind.TheVariants as kind
+use Rattle.pw_inst.specs.declared.relocation.Symbol.{Symbol}
+use Rattle.pw_inst.specs.declared.relocation.Symbol.TheVariants as symbol
+use Rattle.pw_inst.specs.declared.relocation.Fix.{Fix}
 use Rattle.pw_object.specs.declared.functions.ObjectFn.{ObjectFn}
-
--- a function: its name, the bytes of its frame, its words and its fixes
-pub record FunctionValue : Type 0 where
-  pub name : List ℕ
-  pub frame : ℕ
-  pub words : List ℕ
-  pub fixes : List Fix
-
-abbrev pub function_view : ObjectFn → FunctionValue
-function_view f = record { name = f.name; frame = f.frame; words = f.words.items; fixes = f.fixes.items }
 
 -- ---- the rules
 
@@ -37,7 +27,7 @@ pub record IsFix (words : ℕ) (f : Fix) : Type 0 where
   pub addend : FitsU32 f.addend
 
 -- numbers are of 32 bits
-pub record IsFunction (f : FunctionValue) : Type 0 where
+pub record IsFunction (f : ObjectFn) : Type 0 where
   pub frame : FitsU32 f.frame
   pub words : AllByRecursion FitsU32 f.words
   pub fixes : AllByRecursion (IsFix (length f.words)) f.fixes
@@ -58,7 +48,7 @@ symbol_spelling names (symbol.Routine number) = parts (u8 3 ∷ u8 number ∷ []
 abbrev pub fix : List (List ℕ) → Fix → List ℕ
 fix names f = parts (u32 f.word ∷ u8 (kind_code f.kind) ∷ symbol_spelling names f.symbol ∷ u32 f.addend ∷ [])
 
-abbrev pub function : List (List ℕ) → FunctionValue → List ℕ
+abbrev pub function : List (List ℕ) → ObjectFn → List ℕ
 function names f = parts (name_index names f.name ∷ u32 f.frame ∷ counted u32 f.words ∷ counted (fix names) f.fixes ∷ [])
 
 -- the names that a function uses, its own first
@@ -68,7 +58,7 @@ names_of_symbol (symbol.Word word) = []
 names_of_symbol symbol.StackLimit = []
 names_of_symbol (symbol.Routine number) = []
 
-abbrev pub names_of_function : FunctionValue → List (List ℕ)
+abbrev pub names_of_function : ObjectFn → List (List ℕ)
 names_of_function f = f.name ∷ flat_map (λ x. names_of_symbol x.symbol) f.fixes
 
 -- these names stand in a table
@@ -78,6 +68,6 @@ IsSymbolNamed names (symbol.Word word) = Unit {0}
 IsSymbolNamed names symbol.StackLimit = Unit {0}
 IsSymbolNamed names (symbol.Routine number) = Unit {0}
 
-pub record IsFunctionNamed (names : List (List ℕ)) (f : FunctionValue) : Type 0 where
+pub record IsFunctionNamed (names : List (List ℕ)) (f : ObjectFn) : Type 0 where
   pub name : Contains names f.name
   pub fixes : All (λ x. IsSymbolNamed names x.symbol) f.fixes

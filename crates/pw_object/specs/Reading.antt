@@ -1,20 +1,22 @@
 -- Reading an object file from left to right, with the first fault that is met.
-use Rattle.std.specs.Prelude.{ℕ, zero, suc, true, false, nat_lt, List, length, Option, Some, None, Result, Ok, Err}
+use Rattle.std.specs.Prelude.{ℕ, zero, suc, nat_lt, List, length, Option, Result}
 use Rattle.pw_value.specs.Fields.{◌>>=◌, done, checked, u32_at, text_at, choice_at}
 use Rattle.pw_value.specs.FieldFrame.{here, ended, file_at}
-use Rattle.pw_value.specs.FieldNames.{names_at, name_at, first_unused}
+use Rattle.pw_value.specs.FieldNames.{name_at}
 use Rattle.pw_files.specs.Rising.{counted_at}
 use Rattle.pw_files.specs.Names.{name_list_at, shaped_list_at}
-use Rattle.pw_files.specs.Start.{start_rule, sooner}
-use Rattle.pw_flow.specs.FlowGraph.{GlobalValue}
+use Rattle.pw_files.specs.Contents.{Contents, module_rules, contents_at}
+use Rattle.pw_value.specs.declared.program_names.StartName.TheVariants.{Allowed}
+use Rattle.pw_flow.specs.declared.flow.FlowGlobal.{FlowGlobal}
 use Rattle.pw_flowfile.specs.Reading.{global_body_at}
-use Rattle.pw_object.specs.declared.fixes.FixKind.{FixKind}
-use Rattle.pw_object.specs.declared.fixes.FixKind.TheVariants as kind
-use Rattle.pw_object.specs.declared.fixes.Symbol.{Symbol}
-use Rattle.pw_object.specs.declared.fixes.Symbol.TheVariants as symbol
-use Rattle.pw_object.specs.declared.fixes.Fix.{Fix}
-use Rattle.pw_object.specs.Functions.{FunctionValue}
-use Rattle.pw_object.specs.Object.{PartsValue, ObjectValue, Contents, global_names, function_names, names_of}
+use Rattle.pw_inst.specs.declared.relocation.FixKind.{FixKind}
+use Rattle.pw_inst.specs.declared.relocation.FixKind.TheVariants as kind
+use Rattle.pw_inst.specs.declared.relocation.Symbol.{Symbol}
+use Rattle.pw_inst.specs.declared.relocation.Symbol.TheVariants as symbol
+use Rattle.pw_inst.specs.declared.relocation.Fix.{Fix}
+use Rattle.pw_object.specs.declared.functions.ObjectFn.{ObjectFn}
+use Rattle.pw_object.specs.declared.object.Object.{Object}
+use Rattle.pw_object.specs.Object.{object_version, global_names, function_names, names_of}
 use Rattle.pw_object.specs.Object.{kind as kind_of_file}
 
 abbrev pub kind_of : ℕ → FixKind
@@ -63,7 +65,7 @@ fix_at names words = do
   addend ← u32_at
   done (record { word = word; kind = kind; symbol = symbol; addend = addend })
 
-unfoldable pub function_at : List (List ℕ) → List ℕ → Result (FunctionValue × List ℕ) ℕ
+unfoldable pub function_at : List (List ℕ) → List ℕ → Result (ObjectFn × List ℕ) ℕ
 function_at names = do
   name ← name_at names
   frame ← u32_at
@@ -72,41 +74,26 @@ function_at names = do
   done (record { name = name; frame = frame; words = words; fixes = fixes })
 
 -- a global, which may have an item that names $start
-unfoldable pub global_at : List (List ℕ) → List ℕ → Result (GlobalValue × List ℕ) ℕ
-global_at names = name_at names >>= λ name. global_body_at false names name
+unfoldable pub global_at : List (List ℕ) → List ℕ → Result (FlowGlobal × List ℕ) ℕ
+global_at names = name_at names >>= λ name. global_body_at Allowed names name
 
--- The rules that are looked at last: each name of the table is used, where so many bytes are left behind
--- the table; and $start stands beside main, where so many are left from the count of the functions on.
-abbrev pub last_rules : List (List ℕ) → ℕ → PartsValue → ℕ → Option ℕ
-last_rules names behind p count = sooner (first_unused names (names_of p) behind) (start_rule (function_names p) (global_names p) count)
-
-unfoldable pub parts_at : List (List ℕ) → ℕ → List ℕ → Result (Contents × List ℕ) ℕ
-parts_at names behind = do
+-- the fields to their end, under a rule that is looked at last
+unfoldable pub fields_at : List (List ℕ) → (Object → ℕ → Option ℕ) → List ℕ → Result (Contents Object × List ℕ) ℕ
+fields_at names late = do
   «module» ← name_at names
   flow ← text_at
   directives ← text_at
-  declared ← shaped_list_at names true
-  used ← name_list_at names true
+  declared ← shaped_list_at names Allowed
+  used ← name_list_at names Allowed
   globals ← counted_at (global_at names)
   count ← here
   functions ← counted_at (function_at names)
-  let p : PartsValue = record { «module» = «module»; flow = flow; directives = directives; declared = declared; used = used; globals = globals; functions = functions } in ended (last_rules names behind p count) (record { names = names; «parts» = p })
+  let o : Object = record { version = object_version; «module» = «module»; flow = flow; directives = directives; declared = declared; used = used; globals = globals; functions = functions } in ended (late o count) (record { names = names; value = o })
 
-unfoldable pub contents_at : List ℕ → Result (Contents × List ℕ) ℕ
-contents_at = do
-  names ← names_at
-  behind ← here
-  parts_at names behind
+-- The rules that are looked at last: each name of the table is used, where so many bytes are left behind
+-- the table; and $start stands beside main, where so many are left from the count of the functions on.
+abbrev pub last_rules : List (List ℕ) → ℕ → Object → ℕ → Option ℕ
+last_rules names behind o count = module_rules names (names_of o) behind (function_names o) (global_names o) count
 
-unfoldable pub object_file_at : List ℕ → Result Contents ℕ
-object_file_at bytes = file_at kind_of_file 1 1 (λ version. contents_at) bytes
-
--- the object alone, of version 1
-abbrev pub object_of : Result Contents ℕ → Result ObjectValue ℕ
-object_of (Ok c) = Ok (record { version = 1; «parts» = c.parts })
-object_of (Err at) = Err at
-
--- a rule that is looked at last, where it is broken at a place
-abbrev pub broken_at : Option ℕ → Result (Unit {0}) ℕ
-broken_at None = Ok tt
-broken_at (Some left) = Err left
+abbrev pub object_file_at : List ℕ → Result (Contents Object) ℕ
+object_file_at bytes = file_at kind_of_file object_version object_version (λ version. contents_at fields_at last_rules) bytes

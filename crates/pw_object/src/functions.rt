@@ -1,31 +1,33 @@
 //! The functions of an object file.
 
-ghost use Rattle.std.specs.Prelude.{◌≡◌, ◌&&◌, nat_lt, List, length};
-ghost use Rattle.pw_value.specs.Fields.{u32_at, repeated, checked};
+ghost use Rattle.std.specs.Prelude.{◌≡◌, ◌≢◌, List, length, IfErr};
+ghost use Rattle.pw_value.specs.Fields.{u32_at, repeated};
 ghost use Rattle.pw_value.specs.FieldFaults.{Gives};
 ghost use Rattle.pw_files.specs.Rising.{counted_at};
-ghost use Rattle.pw_object.specs.Functions.{function_view};
 ghost use Rattle.pw_object.specs.Reading.{kind_at, named_at, word_at, routine_at, symbol_of_form_at, symbol_at, fix_at, function_at};
 
-use crate::fixes::{Fix, FixKind, Symbol};
+use pw_flowops::read_below;
+use pw_inst::{Fix, FixKind, Symbol};
+use pw_items::Items;
 use pw_value::Name;
 use pw_value::fields::names::read_name;
 use pw_value::fields::{FieldError, read_choice, read_u32};
 use std::alloc::Global;
 
 /// A function: its name, the bytes of its frame, its words and its fixes.
-#[derive(PartialEq, Eq, Debug, Drop)]
+#[derive(Drop)]
 pub struct ObjectFn {
     pub name: Name,
     pub frame: u32,
-    pub words: Vec<u32>,
-    pub fixes: Vec<Fix>,
+    pub words: Items<u32>,
+    pub fixes: Items<Fix>,
 }
 
 /// A fix's kind.
 #[tactic(auto, unfolding(crate::specs::Reading::kind_at))]
 fn read_kind(bytes: &[u8]) -> Result<(FixKind, &[u8]), FieldError>
-    ensures { Gives (λ x. (x.0, x.1.now)) result (kind_at bytes.now) }
+    ensures found { Gives (λ x. (x.0, x.1.now)) result (kind_at bytes.now) }
+    ensures no_memory { IfErr result (λ e. e ≢ FieldError.NoMemory) }
 {
     let (code, rest) = read_choice(3, bytes)?;
     let kind = match code {
@@ -52,7 +54,8 @@ fn read_named<'a>(
 /// A symbol that is a word of the function.
 #[tactic(auto, unfolding(crate::specs::Reading::word_at))]
 fn read_word(bytes: &[u8]) -> Result<(Symbol, &[u8]), FieldError>
-    ensures { Gives (λ x. (x.0, x.1.now)) result (word_at bytes.now) }
+    ensures found { Gives (λ x. (x.0, x.1.now)) result (word_at bytes.now) }
+    ensures no_memory { IfErr result (λ e. e ≢ FieldError.NoMemory) }
 {
     let (word, rest) = read_u32(bytes)?;
     Ok((Symbol::Word(word), rest))
@@ -61,7 +64,8 @@ fn read_word(bytes: &[u8]) -> Result<(Symbol, &[u8]), FieldError>
 /// A symbol that is a routine.
 #[tactic(auto, unfolding(crate::specs::Reading::routine_at))]
 fn read_routine(bytes: &[u8]) -> Result<(Symbol, &[u8]), FieldError>
-    ensures { Gives (λ x. (x.0, x.1.now)) result (routine_at bytes.now) }
+    ensures found { Gives (λ x. (x.0, x.1.now)) result (routine_at bytes.now) }
+    ensures no_memory { IfErr result (λ e. e ≢ FieldError.NoMemory) }
 {
     let (number, rest) = read_choice(5, bytes)?;
     Ok((Symbol::Routine(number), rest))
@@ -85,18 +89,6 @@ fn read_symbol<'a>(
     }
 }
 
-/// The number of a word, of so many.
-fn read_place(words: usize, bytes: &[u8]) -> Result<(u32, &[u8]), FieldError>
-    ensures { Gives (λ x. (x.0, x.1.now)) result (checked (λ w. nat_lt w words) u32_at bytes.now) }
-{
-    let (word, rest) = read_u32(bytes)?;
-    if (word as usize) < words {
-        Ok((word, rest))
-    } else {
-        Err(FieldError::Fault { left: bytes.len() })
-    }
-}
-
 /// A fix of a function of so many words.
 #[tactic(auto, unfolding(crate::specs::Reading::fix_at))]
 fn read_fix<'a>(
@@ -107,7 +99,7 @@ fn read_fix<'a>(
 ) -> Result<(Fix, &'a [u8]), FieldError>
     ensures { Gives (λ x. (x.0, x.1.now)) result (fix_at names.now words bytes.now) }
 {
-    let (word, rest) = read_place(words, bytes)?;
+    let (word, rest) = read_below(words, bytes)?;
     let (kind, rest) = read_kind(rest)?;
     let (symbol, rest) = read_symbol(alloc, names, rest)?;
     let (addend, rest) = read_u32(rest)?;
@@ -121,10 +113,14 @@ fn read_fix<'a>(
 }
 
 /// So many words.
-fn read_word_items(alloc: Global, count: u32, bytes: &[u8]) -> Result<(Vec<u32>, &[u8]), FieldError>
-    ensures { Gives (λ x. (x.0.items, x.1.now)) result (repeated u32_at count bytes.now) }
+fn read_word_items(
+    alloc: Global,
+    count: u32,
+    bytes: &[u8],
+) -> Result<(Items<u32>, &[u8]), FieldError>
+    ensures { Gives (λ x. (x.0, x.1.now)) result (repeated u32_at count bytes.now) }
 {
-    let mut items = Vec::new(alloc);
+    let mut items = Items::new(alloc);
     let mut rest = bytes;
     for _ in 0..count {
         let (word, after) = read_u32(rest)?;
@@ -141,10 +137,10 @@ fn read_fix_items<'a>(
     words: usize,
     count: u32,
     bytes: &'a [u8],
-) -> Result<(Vec<Fix>, &'a [u8]), FieldError>
-    ensures { Gives (λ x. (x.0.items, x.1.now)) result (repeated (fix_at names.now words) count bytes.now) }
+) -> Result<(Items<Fix>, &'a [u8]), FieldError>
+    ensures { Gives (λ x. (x.0, x.1.now)) result (repeated (fix_at names.now words) count bytes.now) }
 {
-    let mut items = Vec::new(alloc);
+    let mut items = Items::new(alloc);
     let mut rest = bytes;
     for _ in 0..count {
         let (fix, after) = read_fix(alloc, names, words, rest)?;
@@ -156,8 +152,8 @@ fn read_fix_items<'a>(
 
 /// The count of words, and the words.
 #[tactic(auto, unfolding(pw_files::specs::Rising::counted_at))]
-fn read_words(alloc: Global, bytes: &[u8]) -> Result<(Vec<u32>, &[u8]), FieldError>
-    ensures { Gives (λ x. (x.0.items, x.1.now)) result (counted_at u32_at bytes.now) }
+fn read_words(alloc: Global, bytes: &[u8]) -> Result<(Items<u32>, &[u8]), FieldError>
+    ensures { Gives (λ x. (x.0, x.1.now)) result (counted_at u32_at bytes.now) }
 {
     let (count, rest) = read_u32(bytes)?;
     read_word_items(alloc, count, rest)
@@ -170,8 +166,8 @@ fn read_fixes<'a>(
     names: &[Name],
     words: usize,
     bytes: &'a [u8],
-) -> Result<(Vec<Fix>, &'a [u8]), FieldError>
-    ensures { Gives (λ x. (x.0.items, x.1.now)) result (counted_at (fix_at names.now words) bytes.now) }
+) -> Result<(Items<Fix>, &'a [u8]), FieldError>
+    ensures { Gives (λ x. (x.0, x.1.now)) result (counted_at (fix_at names.now words) bytes.now) }
 {
     let (count, rest) = read_u32(bytes)?;
     read_fix_items(alloc, names, words, count, rest)
@@ -184,7 +180,7 @@ pub fn read_function<'a>(
     names: &[Name],
     bytes: &'a [u8],
 ) -> Result<(ObjectFn, &'a [u8]), FieldError>
-    ensures { Gives (λ x. (function_view x.0, x.1.now)) result (function_at names.now bytes.now) }
+    ensures { Gives (λ x. (x.0, x.1.now)) result (function_at names.now bytes.now) }
 {
     let (name, rest) = read_name(names, bytes)?;
     let (frame, rest) = read_u32(rest)?;

@@ -1,20 +1,29 @@
-//! The laws of an object file's functions.
+//! The laws of object files and of their functions.
 
 ghost use Rattle.std.specs.Prelude.{◌≡◌, ◌++◌, ℕ, List, Ok};
 ghost use Rattle.pw_value.specs.FieldLaws.{AreBytes};
 ghost use Rattle.pw_value.specs.FieldNames.{IsNameTable};
-ghost use Rattle.pw_object.specs.Functions.{FunctionValue, IsFunction, function};
-ghost use Rattle.pw_object.specs.Object.{ObjectValue, IsObjectFile};
-ghost use Rattle.pw_object.specs.Reading.{function_at};
+ghost use Rattle.pw_files.specs.Contents.{value_of};
+ghost use Rattle.pw_files.specs.Faults.{FaultsStay};
+ghost use Rattle.pw_object.specs.declared.functions.ObjectFn.{ObjectFn};
+ghost use Rattle.pw_object.specs.Functions.{IsFunction, function};
+ghost use Rattle.pw_object.specs.declared.object.Object.{Object};
+ghost use Rattle.pw_object.specs.Object.{kind, IsObjectFile};
+ghost use Rattle.pw_object.specs.Reading.{function_at, fields_at, object_file_at};
 
 /// What is read of a function is spelled so, and its fixes name words of it.
 pub fn functions_are_spelled()
-    ensures spelled { (names : List (List ℕ)) (bytes : List ℕ) (f : FunctionValue) (rest : List ℕ) → IsNameTable names → AreBytes bytes → function_at names bytes ≡ Ok (f, rest) → bytes ≡ function names f ++ rest }
-    ensures lawful { (names : List (List ℕ)) (bytes : List ℕ) (f : FunctionValue) (rest : List ℕ) → IsNameTable names → AreBytes bytes → function_at names bytes ≡ Ok (f, rest) → IsFunction f }
+    ensures spelled { (names : List (List ℕ)) (bytes : List ℕ) (f : ObjectFn) (rest : List ℕ) → IsNameTable names → AreBytes bytes → function_at names bytes ≡ Ok (f, rest) → bytes ≡ function names f ++ rest }
+    ensures lawful { (names : List (List ℕ)) (bytes : List ℕ) (f : ObjectFn) (rest : List ℕ) → IsNameTable names → AreBytes bytes → function_at names bytes ≡ Ok (f, rest) → IsFunction f }
 {}
 
 /// No bytes are the file of two objects, and no object has two files.
 pub fn objects_and_files_are_one_to_one()
-    ensures one_object { (bytes : List ℕ) (o p : ObjectValue) → IsObjectFile bytes o → IsObjectFile bytes p → o ≡ p }
-    ensures one_file { (bytes others : List ℕ) (o : ObjectValue) → IsObjectFile bytes o → IsObjectFile others o → bytes ≡ others }
+    ensures one_object { (bytes : List ℕ) (o p : Object) → IsObjectFile bytes o → IsObjectFile bytes p → o ≡ p }
+    ensures one_file { (bytes others : List ℕ) (o : Object) → IsObjectFile bytes o → IsObjectFile others o → bytes ≡ others }
+{}
+
+/// A fault lies within the bytes, and one of the fields rests on the bytes up to the faulty field's end.
+pub fn faults_stay()
+    ensures { FaultsStay kind fields_at (λ bytes. value_of (object_file_at bytes)) }
 {}

@@ -2,22 +2,26 @@
 
 use crate::functions::ObjectFn;
 use pw_flow::FlowGlobal;
+use pw_items::Items;
 use pw_value::{Name, Shape};
 
+/// The version of the form of an object's words.
+pub const VERSION: u32 = 1;
+
 /// A module as words, with what it was made of.
-#[derive(PartialEq, Eq, Debug, Drop)]
+#[derive(Drop)]
 pub struct Object {
-    /// The version of the form of its words: 1.
+    /// The version of the form of its words.
     pub version: u32,
     pub module: Name,
     /// The bytes of the flow file.
-    pub flow: Vec<u8>,
+    pub flow: Items<u8>,
     /// The payload of the directives.
-    pub directives: Vec<u8>,
+    pub directives: Items<u8>,
     /// The external names that it declares or defines, in byte order.
-    pub declared: Vec<(Name, Shape)>,
+    pub declared: Items<(Name, Shape)>,
     /// The names that it uses, in byte order.
-    pub used: Vec<Name>,
-    pub globals: Vec<FlowGlobal>,
-    pub functions: Vec<ObjectFn>,
+    pub used: Items<Name>,
+    pub globals: Items<FlowGlobal>,
+    pub functions: Items<ObjectFn>,
 }

@@ -1,27 +1,30 @@
 //! Reading an object file.
 
-ghost use Rattle.std.specs.Prelude.{◌≡◌, ◌+◌, ◌<◌, ◌^◌, ℕ, List, length, map, IfOk, IfErr, Ok};
+ghost use Rattle.std.specs.Prelude.{◌≡◌, ◌+◌, ◌<◌, ◌^◌, ℕ, List, length, Option, IfOk, IfErr, Ok};
 ghost use Rattle.std.specs.List.{flat_map};
 ghost use Rattle.pw_value.specs.Fields.{text, repeated};
 ghost use Rattle.pw_value.specs.FieldFaults.{Gives, GivesFile, Fails};
 ghost use Rattle.pw_value.specs.FieldFrame.{ended};
 ghost use Rattle.pw_files.specs.Rising.{counted_at};
-ghost use Rattle.pw_flow.specs.FlowGraph.{global_view};
-ghost use Rattle.pw_object.specs.Functions.{function_view};
-ghost use Rattle.pw_object.specs.Object.{ObjectValue, IsObjectFile, contents_view, parts_view, view};
-ghost use Rattle.pw_object.specs.Reading.{global_at, function_at, last_rules, broken_at, parts_at, contents_at, object_file_at, object_of};
+ghost use Rattle.pw_files.specs.Contents.{broken_at, contents_at, value_of};
+ghost use Rattle.pw_object.specs.declared.object.Object.{Object as AnyObject};
+ghost use Rattle.pw_object.specs.Object.{object_version, IsObjectFile};
+ghost use Rattle.pw_object.specs.Reading.{global_at, function_at, last_rules, fields_at, object_file_at};
 
 use crate::functions::{ObjectFn, read_function};
-use crate::names::{is_start_beside_main, used_names};
-use crate::object::Object;
+use crate::names::{check_start_beside_main, used_names};
+use crate::object::{Object, VERSION};
+use pw_files::late::check_used;
 use pw_files::lists::{read_name_list, read_shaped_list};
 use pw_flow::FlowGlobal;
 use pw_flowfile::read_global_body;
+use pw_items::Items;
 use pw_value::fields::frame::{check_digest, open};
-use pw_value::fields::names::{find_unused, read_name, read_names};
-use pw_value::fields::{FieldError, read_text, read_u32};
-use pw_value::{FileError, Name};
-use std::alloc::Global;
+use pw_value::fields::names::{read_name, read_names};
+use pw_value::fields::{FieldError, read_text_in_place, read_u32};
+use pw_value::program_names::StartName;
+use pw_value::{FileError, Name, Shape};
+use std::alloc::{AllocError, Global};
 
 /// `PAWO`, the first four bytes of an object file.
 pub const KIND: u32 = 0x5041_574f;
@@ -33,10 +36,10 @@ fn read_global<'a>(
     names: &[Name],
     bytes: &'a [u8],
 ) -> Result<(FlowGlobal, &'a [u8]), FieldError>
-    ensures { Gives (λ x. (global_view x.0, x.1.now)) result (global_at names.now bytes.now) }
+    ensures { Gives (λ x. (x.0, x.1.now)) result (global_at names.now bytes.now) }
 {
     let (name, rest) = read_name(names, bytes)?;
-    read_global_body(alloc, false, names, name, rest)
+    read_global_body(alloc, StartName::Allowed, names, name, rest)
 }
 
 /// So many globals.
@@ -45,10 +48,10 @@ fn read_global_items<'a>(
     names: &[Name],
     count: u32,
     bytes: &'a [u8],
-) -> Result<(Vec<FlowGlobal>, &'a [u8]), FieldError>
-    ensures { Gives (λ x. (map global_view x.0.items, x.1.now)) result (repeated (global_at names.now) count bytes.now) }
+) -> Result<(Items<FlowGlobal>, &'a [u8]), FieldError>
+    ensures { Gives (λ x. (x.0, x.1.now)) result (repeated (global_at names.now) count bytes.now) }
 {
-    let mut items = Vec::new(alloc);
+    let mut items = Items::new(alloc);
     let mut rest = bytes;
     for _ in 0..count {
         let (item, after) = read_global(alloc, names, rest)?;
@@ -64,10 +67,10 @@ fn read_function_items<'a>(
     names: &[Name],
     count: u32,
     bytes: &'a [u8],
-) -> Result<(Vec<ObjectFn>, &'a [u8]), FieldError>
-    ensures { Gives (λ x. (map function_view x.0.items, x.1.now)) result (repeated (function_at names.now) count bytes.now) }
+) -> Result<(Items<ObjectFn>, &'a [u8]), FieldError>
+    ensures { Gives (λ x. (x.0, x.1.now)) result (repeated (function_at names.now) count bytes.now) }
 {
-    let mut items = Vec::new(alloc);
+    let mut items = Items::new(alloc);
     let mut rest = bytes;
     for _ in 0..count {
         let (item, after) = read_function(alloc, names, rest)?;
@@ -83,8 +86,8 @@ fn read_globals<'a>(
     alloc: Global,
     names: &[Name],
     bytes: &'a [u8],
-) -> Result<(Vec<FlowGlobal>, &'a [u8]), FieldError>
-    ensures { Gives (λ x. (map global_view x.0.items, x.1.now)) result (counted_at (global_at names.now) bytes.now) }
+) -> Result<(Items<FlowGlobal>, &'a [u8]), FieldError>
+    ensures { Gives (λ x. (x.0, x.1.now)) result (counted_at (global_at names.now) bytes.now) }
 {
     let (count, rest) = read_u32(bytes)?;
     read_global_items(alloc, names, count, rest)
@@ -96,43 +99,57 @@ fn read_functions<'a>(
     alloc: Global,
     names: &[Name],
     bytes: &'a [u8],
-) -> Result<(Vec<ObjectFn>, &'a [u8]), FieldError>
-    ensures { Gives (λ x. (map function_view x.0.items, x.1.now)) result (counted_at (function_at names.now) bytes.now) }
+) -> Result<(Items<ObjectFn>, &'a [u8]), FieldError>
+    ensures { Gives (λ x. (x.0, x.1.now)) result (counted_at (function_at names.now) bytes.now) }
 {
     let (count, rest) = read_u32(bytes)?;
     read_function_items(alloc, names, count, rest)
 }
 
-/// The fields behind the table of names: the object of this version, how many bytes are left from the count
-/// of its functions on, and what is left behind it.
-#[tactic(auto, unfolding(crate::specs::Reading::parts_at))]
-fn read_fields<'a>(
+/// An object of these parts, of which texts and the name are copied.
+fn object_of(
     alloc: Global,
-    version: u32,
-    names: &[Name],
-    bytes: &'a [u8],
-) -> Result<(Object, usize, &'a [u8]), FieldError>
-    ensures found { IfOk result (λ x. (behind : ℕ) → parts_at names.now behind bytes.now ≡ ended (last_rules names.now behind (parts_view x.0) x.1) (record { names = names.now; «parts» = parts_view x.0 }) x.2.now) }
-    ensures version { IfOk result (λ x. x.0.version ≡ version) }
-    ensures fault { IfErr result (λ e. (behind : ℕ) → Fails e (parts_at names.now behind bytes.now)) }
+    texts: (&Name, &[u8], &[u8]),
+    declared: Items<(Name, Shape)>,
+    used: Items<Name>,
+    globals: Items<FlowGlobal>,
+    functions: Items<ObjectFn>,
+) -> Result<Object, AllocError>
+    ensures { IfOk result (λ o. o ≡ record { version = object_version; «module» = texts.entry.0.now; flow = texts.entry.1.now; directives = texts.entry.2.now; declared = declared; used = used; globals = globals; functions = functions }) }
 {
-    let (module, rest) = read_name(names, bytes)?;
-    let (flow, rest) = read_text(alloc, rest)?;
-    let (directives, rest) = read_text(alloc, rest)?;
-    let (declared, rest) = read_shaped_list(alloc, names, true, rest)?;
-    let (used, rest) = read_name_list(alloc, names, true, rest)?;
-    let (globals, count) = read_globals(alloc, names, rest)?;
-    let (functions, rest) = read_functions(alloc, names, count)?;
-    let object = Object {
-        version,
+    let (module, flow, directives) = texts;
+    Ok(Object {
+        version: VERSION,
         module: module.copy(alloc)?,
-        flow,
-        directives,
+        flow: Items::from_vec(Vec::from_slice(alloc, flow)?),
+        directives: Items::from_vec(Vec::from_slice(alloc, directives)?),
         declared,
         used,
         globals,
         functions,
-    };
+    })
+}
+
+/// The fields behind the table of names: the object, how many bytes are left from the count of its functions
+/// on, and what is left behind it.
+#[tactic(auto, unfolding(crate::specs::Reading::fields_at))]
+fn read_parts<'a>(
+    alloc: Global,
+    names: &[Name],
+    bytes: &'a [u8],
+) -> Result<(Object, usize, &'a [u8]), FieldError>
+    ensures found { IfOk result (λ x. (late : AnyObject → ℕ → Option ℕ) → fields_at names.now late bytes.now ≡ ended (late x.0 x.1) (record { names = names.now; value = x.0 }) x.2.now) }
+    ensures fault { IfErr result (λ e. (late : AnyObject → ℕ → Option ℕ) → Fails e (fields_at names.now late bytes.now)) }
+{
+    let (module, rest) = read_name(names, bytes)?;
+    let (flow, rest) = read_text_in_place(rest)?;
+    let (directives, rest) = read_text_in_place(rest)?;
+    let (declared, rest) = read_shaped_list(alloc, names, StartName::Allowed, rest)?;
+    let (used, rest) = read_name_list(alloc, names, StartName::Allowed, rest)?;
+    let (globals, count) = read_globals(alloc, names, rest)?;
+    let (functions, rest) = read_functions(alloc, names, count)?;
+    let texts = (module, flow, directives);
+    let object = object_of(alloc, texts, declared, used, globals, functions)?;
     Ok((object, count.len(), rest))
 }
 
@@ -146,31 +163,23 @@ fn check_last(
     count: usize,
 ) -> Result<(), FieldError>
     requires { length (flat_map text names.now) + behind < 2 ^ 64 }
-    ensures { Gives (λ x. x) result (broken_at (last_rules names.now behind (parts_view object.now) count)) }
+    ensures { Gives (λ x. x) result (broken_at (last_rules names.now behind object.now count)) }
 {
     let used = used_names(alloc, object)?;
-    if let Some(left) = find_unused(alloc, names, used, behind)? {
-        return Err(FieldError::Fault { left });
-    }
-    if is_start_beside_main(alloc, object)? {
-        Ok(())
-    } else {
-        Err(FieldError::Fault { left: count })
-    }
+    check_used(alloc, names, used, behind)?;
+    check_start_beside_main(alloc, object, count)
 }
 
 /// The object behind the table of names.
-fn read_object<'a>(
+fn read_fields<'a>(
     alloc: Global,
-    version: u32,
     names: &[Name],
     bytes: &'a [u8],
 ) -> Result<(Object, &'a [u8]), FieldError>
     requires { length (flat_map text names.now) + length bytes.now < 2 ^ 64 }
-    ensures found { Gives (λ x. (record { names = names.now; «parts» = parts_view x.0 }, x.1.now)) result (parts_at names.now (length bytes.now) bytes.now) }
-    ensures version { IfOk result (λ x. x.0.version ≡ version) }
+    ensures { Gives (λ x. (record { names = names.now; value = x.0 }, x.1.now)) result (fields_at names.now (last_rules names.now (length bytes.now)) bytes.now) }
 {
-    let (object, count, rest) = read_fields(alloc, version, names, bytes)?;
+    let (object, count, rest) = read_parts(alloc, names, bytes)?;
     if !rest.is_empty() {
         return Err(FieldError::Fault { left: rest.len() });
     }
@@ -179,28 +188,22 @@ fn read_object<'a>(
 }
 
 /// The table of names and the object.
-#[tactic(auto, unfolding(crate::specs::Reading::contents_at))]
-fn read_contents(
-    alloc: Global,
-    version: u32,
-    bytes: &[u8],
-) -> Result<((Vec<Name>, Object), &[u8]), FieldError>
-    ensures found { Gives (λ x. (contents_view x.0, x.1.now)) result (contents_at bytes.now) }
-    ensures version { IfOk result (λ x. x.0.1.version ≡ version) }
+#[tactic(auto, unfolding(pw_files::specs::Contents::contents_at))]
+fn read_contents(alloc: Global, bytes: &[u8]) -> Result<((Vec<Name>, Object), &[u8]), FieldError>
+    ensures { Gives (λ x. (record { names = x.0.0.items; value = x.0.1 }, x.1.now)) result (contents_at fields_at last_rules bytes.now) }
 {
     let (names, rest) = read_names(alloc, bytes)?;
-    let (object, rest) = read_object(alloc, version, &names, rest)?;
+    let (object, rest) = read_fields(alloc, &names, rest)?;
     Ok(((names, object), rest))
 }
 
 /// The table of names and the object of a whole file.
-#[tactic(auto, unfolding(crate::specs::Reading::object_file_at, pw_value::specs::FieldFrame::file_at))]
+#[tactic(auto, unfolding(pw_value::specs::FieldFrame::file_at))]
 fn read_file(alloc: Global, bytes: &[u8]) -> Result<(Vec<Name>, Object), FileError>
-    ensures found { GivesFile contents_view result (object_file_at bytes.now) }
-    ensures version { IfOk result (λ x. x.1.version ≡ 1) }
+    ensures { GivesFile (λ x. record { names = x.0.items; value = x.1 }) result (object_file_at bytes.now) }
 {
-    let opened = open(KIND, 1, 1, bytes)?;
-    match read_contents(alloc, 1, opened.payload) {
+    let opened = open(KIND, VERSION, VERSION, bytes)?;
+    match read_contents(alloc, opened.payload) {
         Err(e) => Err(e.at(opened.end)),
         Ok((contents, _)) => {
             check_digest(bytes, opened.end)?;
@@ -211,7 +214,7 @@ fn read_file(alloc: Global, bytes: &[u8]) -> Result<(Vec<Name>, Object), FileErr
 
 /// The object of a whole file, without its table of names.
 fn read_alone(alloc: Global, bytes: &[u8]) -> Result<Object, FileError>
-    ensures { GivesFile view result (object_of (object_file_at bytes.now)) }
+    ensures { GivesFile (λ o. o) result (value_of (object_file_at bytes.now)) }
 {
     let (_names, object) = read_file(alloc, bytes)?;
     Ok(object)
@@ -221,11 +224,11 @@ fn read_alone(alloc: Global, bytes: &[u8]) -> Result<Object, FileError>
 /// its rule.
 pub fn read(alloc: Global, bytes: &[u8]) -> Result<Object, FileError>
     // The bytes are the file of what is read.
-    ensures found { IfOk result (λ o. IsObjectFile bytes.now (view o)) }
+    ensures found { IfOk result (λ o. IsObjectFile bytes.now o) }
     // A file of an object is read, unless memory runs out.
-    ensures only { (o : ObjectValue) → IsObjectFile bytes.now o → GivesFile view result (Ok o) }
+    ensures only { (o : AnyObject) → IsObjectFile bytes.now o → GivesFile (λ o. o) result (Ok o) }
     // Which fault it is.
-    ensures exact { GivesFile view result (object_of (object_file_at bytes.now)) }
+    ensures exact { GivesFile (λ o. o) result (value_of (object_file_at bytes.now)) }
 {
     read_alone(alloc, bytes)
 }

@@ -1,26 +1,26 @@
 //! Writing an object file.
 
-ghost use Rattle.std.specs.Prelude.{◌≡◌, ◌++◌, List, length, map, IsTrue, OnOk, IfOk, All, Contains};
+ghost use Rattle.std.specs.Prelude.{◌≡◌, ◌++◌, List, length, IsTrue, OnOk, IfOk, All, Contains};
 ghost use Rattle.std.specs.List.{flat_map, AllByRecursion};
 ghost use Rattle.pw_value.specs.Fields.{u8, u32, FitsU32, FitsText};
 ghost use Rattle.pw_value.specs.FieldNames.{IsNameTable};
 ghost use Rattle.pw_files.specs.Rising.{counted, FitsList};
 ghost use Rattle.pw_files.specs.Names.{FitsShapes};
-ghost use Rattle.pw_flow.specs.FlowGraph.{global_view};
 ghost use Rattle.pw_flowfile.specs.FlowFile.{global as global_text, all_in_global, FitsGlobal};
-ghost use Rattle.pw_object.specs.Functions.{IsSymbolNamed, IsFunctionNamed, kind_code, symbol_spelling, fix as fix_text, function as function_text, function_view};
-ghost use Rattle.pw_object.specs.Object.{IsObject, IsObjectFile, IsNamedBy, FitsFunction, FitParts, own, code, spelling, parts_view, view};
+ghost use Rattle.pw_object.specs.Functions.{IsSymbolNamed, IsFunctionNamed, kind_code, symbol_spelling, fix as fix_text, function as function_text};
+ghost use Rattle.pw_object.specs.Object.{IsObject, IsObjectFile, IsNamedBy, FitsFunction, FitsObject, own, code, spelling};
 
-use crate::fixes::{Fix, FixKind, Symbol};
 use crate::functions::ObjectFn;
 use crate::names::used_names;
-use crate::object::Object;
+use crate::object::{Object, VERSION};
 use crate::reading::KIND;
 use pw_files::writing::{
     make_table, push_bytes, push_count, push_name_list, push_shaped_list, seal_payload,
 };
 use pw_flow::FlowGlobal;
 use pw_flowfile::push_global;
+use pw_flowops::push_words;
+use pw_inst::{Fix, FixKind, Symbol};
 use pw_value::Name;
 use pw_value::fields::names::{push_name, push_names};
 use pw_value::fields::writing::{push_u8, push_u32};
@@ -56,11 +56,7 @@ fn push_symbol(out: &mut Vec<u8>, names: &[Name], symbol: &Symbol) -> Result<(),
 fn push_kind(out: &mut Vec<u8>, kind: FixKind) -> Result<(), AllocError>
     ensures { OnOk result (out.new.items ≡ out.old.items ++ u8 (kind_code kind)) }
 {
-    match kind {
-        FixKind::Ldil => push_u8(out, 0),
-        FixKind::Im14 => push_u8(out, 1),
-        FixKind::Bl => push_u8(out, 2),
-    }
+    push_u8(out, kind as u8)
 }
 
 /// A fix.
@@ -73,16 +69,6 @@ fn push_fix(out: &mut Vec<u8>, names: &[Name], fix: &Fix) -> Result<(), AllocErr
     push_kind(out, fix.kind)?;
     push_symbol(out, names, &fix.symbol)?;
     push_u32(out, fix.addend)
-}
-
-/// Words, one after the other.
-fn push_words(out: &mut Vec<u8>, words: &[u32]) -> Result<(), AllocError>
-    ensures { OnOk result (out.new.items ≡ out.old.items ++ flat_map u32 words.now) }
-{
-    for word in words {
-        push_u32(out, *word)?;
-    }
-    Ok(())
 }
 
 /// Fixes, one after the other.
@@ -105,33 +91,33 @@ pub fn push_function(
     function: &ObjectFn,
 ) -> Result<(), AllocError>
     requires table { IsNameTable names.now }
-    requires stand { IsFunctionNamed names.now (function_view function.now) }
-    ensures words_fit { OnOk result (FitsU32 (length function.now.words.items)) }
-    ensures fixes_fit { OnOk result (FitsU32 (length function.now.fixes.items)) }
-    ensures written { OnOk result (out.new.items ≡ out.old.items ++ function_text names.now (function_view function.now)) }
+    requires stand { IsFunctionNamed names.now function.now }
+    ensures words_fit { OnOk result (FitsU32 (length function.now.words)) }
+    ensures fixes_fit { OnOk result (FitsU32 (length function.now.fixes)) }
+    ensures written { OnOk result (out.new.items ≡ out.old.items ++ function_text names.now function.now) }
 {
     push_name(out, names, &function.name)?;
     push_u32(out, function.frame)?;
     push_count(out, function.words.len())?;
-    push_words(out, &function.words)?;
+    push_words(out, function.words.as_slice())?;
     push_count(out, function.fixes.len())?;
-    push_fixes(out, names, &function.fixes)?;
+    push_fixes(out, names, function.fixes.as_slice())?;
     Ok(())
 }
 
 /// Whether a file can hold the counts and texts of a global.
 fn has_room(global: &FlowGlobal) -> bool
-    ensures { IsTrue result → FitsGlobal (global_view global.now) }
+    ensures { IsTrue result → FitsGlobal global.now }
 {
-    global.shape.as_bytes().len() <= MOST && global.items.as_slice().len() <= MOST
+    global.shape.as_bytes().len() <= MOST && global.items.len() <= MOST
 }
 
 /// Globals, one after the other.
 fn push_globals(out: &mut Vec<u8>, names: &[Name], globals: &[FlowGlobal]) -> Result<(), AllocError>
     requires table { IsNameTable names.now }
-    requires stand { All (λ g. AllByRecursion (Contains names.now) (all_in_global (global_view g))) globals.now }
-    ensures fits { OnOk result (All (λ g. FitsGlobal (global_view g)) globals.now) }
-    ensures written { OnOk result (out.new.items ≡ out.old.items ++ flat_map (global_text names.now) (map global_view globals.now)) }
+    requires stand { All (λ g. AllByRecursion (Contains names.now) (all_in_global g)) globals.now }
+    ensures fits { OnOk result (All (λ g. FitsGlobal g) globals.now) }
+    ensures written { OnOk result (out.new.items ≡ out.old.items ++ flat_map (global_text names.now) globals.now) }
 {
     for global in globals {
         if !has_room(global) {
@@ -149,9 +135,9 @@ fn push_functions(
     functions: &[ObjectFn],
 ) -> Result<(), AllocError>
     requires table { IsNameTable names.now }
-    requires stand { All (λ f. IsFunctionNamed names.now (function_view f)) functions.now }
-    ensures fits { OnOk result (All (λ f. FitsFunction (function_view f)) functions.now) }
-    ensures written { OnOk result (out.new.items ≡ out.old.items ++ flat_map (function_text names.now) (map function_view functions.now)) }
+    requires stand { All (λ f. IsFunctionNamed names.now f) functions.now }
+    ensures fits { OnOk result (All (λ f. FitsFunction f) functions.now) }
+    ensures written { OnOk result (out.new.items ≡ out.old.items ++ flat_map (function_text names.now) functions.now) }
 {
     for function in functions {
         push_function(out, names, function)?;
@@ -162,18 +148,18 @@ fn push_functions(
 /// What stands before the globals.
 fn push_own(out: &mut Vec<u8>, names: &[Name], object: &Object) -> Result<(), AllocError>
     requires table { IsNameTable names.now }
-    requires stand { IsNamedBy names.now (parts_view object.now) }
-    ensures flow_fits { OnOk result (FitsText object.now.flow.items) }
-    ensures directives_fit { OnOk result (FitsText object.now.directives.items) }
-    ensures declared_fit { OnOk result (FitsShapes object.now.declared.items) }
-    ensures used_fit { OnOk result (FitsU32 (length object.now.used.items)) }
-    ensures written { OnOk result (out.new.items ≡ out.old.items ++ own names.now (parts_view object.now)) }
+    requires stand { IsNamedBy names.now object.now }
+    ensures flow_fits { OnOk result (FitsText object.now.flow) }
+    ensures directives_fit { OnOk result (FitsText object.now.directives) }
+    ensures declared_fit { OnOk result (FitsShapes object.now.declared) }
+    ensures used_fit { OnOk result (FitsU32 (length object.now.used)) }
+    ensures written { OnOk result (out.new.items ≡ out.old.items ++ own names.now object.now) }
 {
     push_name(out, names, &object.module)?;
-    push_bytes(out, &object.flow)?;
-    push_bytes(out, &object.directives)?;
-    push_shaped_list(out, names, &object.declared)?;
-    push_name_list(out, names, &object.used)?;
+    push_bytes(out, object.flow.as_slice())?;
+    push_bytes(out, object.directives.as_slice())?;
+    push_shaped_list(out, names, object.declared.as_slice())?;
+    push_name_list(out, names, object.used.as_slice())?;
     Ok(())
 }
 
@@ -181,24 +167,24 @@ fn push_own(out: &mut Vec<u8>, names: &[Name], object: &Object) -> Result<(), Al
 #[tactic(auto, unfolding(pw_files::specs::Rising::counted))]
 fn push_code(out: &mut Vec<u8>, names: &[Name], object: &Object) -> Result<(), AllocError>
     requires table { IsNameTable names.now }
-    requires stand { IsNamedBy names.now (parts_view object.now) }
-    ensures globals_fit { OnOk result (FitsList FitsGlobal (map global_view object.now.globals.items)) }
-    ensures functions_fit { OnOk result (FitsList FitsFunction (map function_view object.now.functions.items)) }
-    ensures written { OnOk result (out.new.items ≡ out.old.items ++ code names.now (parts_view object.now)) }
+    requires stand { IsNamedBy names.now object.now }
+    ensures globals_fit { OnOk result (FitsList FitsGlobal object.now.globals) }
+    ensures functions_fit { OnOk result (FitsList FitsFunction object.now.functions) }
+    ensures written { OnOk result (out.new.items ≡ out.old.items ++ code names.now object.now) }
 {
     push_count(out, object.globals.len())?;
-    push_globals(out, names, &object.globals)?;
+    push_globals(out, names, object.globals.as_slice())?;
     push_count(out, object.functions.len())?;
-    push_functions(out, names, &object.functions)?;
+    push_functions(out, names, object.functions.as_slice())?;
     Ok(())
 }
 
 /// The payload of an object file.
 fn write_payload(alloc: Global, names: &[Name], object: &Object) -> Result<Vec<u8>, AllocError>
     requires table { IsNameTable names.now }
-    requires stand { IsNamedBy names.now (parts_view object.now) }
-    ensures fits { OnOk result (FitParts (parts_view object.now)) }
-    ensures written { IfOk result (λ v. v.items ≡ spelling (record { names = names.now; «parts» = parts_view object.now })) }
+    requires stand { IsNamedBy names.now object.now }
+    ensures fits { OnOk result (FitsObject object.now) }
+    ensures written { IfOk result (λ v. v.items ≡ spelling (record { names = names.now; value = object.now })) }
 {
     let mut out = Vec::new(alloc);
     push_names(&mut out, names)?;
@@ -209,11 +195,11 @@ fn write_payload(alloc: Global, names: &[Name], object: &Object) -> Result<Vec<u
 
 /// The one file of an object. Where it would be longer than a file can be, that is want of memory.
 pub fn write(alloc: Global, object: &Object) -> Result<Vec<u8>, AllocError>
-    requires { IsObject (view object.now) }
-    ensures { IfOk result (λ v. IsObjectFile v.items (view object.now)) }
+    requires { IsObject object.now }
+    ensures { IfOk result (λ v. IsObjectFile v.items object.now) }
 {
     let used = used_names(alloc, object)?;
     let names = make_table(alloc, used)?;
     let payload = write_payload(alloc, &names, object)?;
-    seal_payload(alloc, KIND, 1, &payload)
+    seal_payload(alloc, KIND, VERSION, &payload)
 }

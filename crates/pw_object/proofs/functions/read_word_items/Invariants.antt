@@ -4,4 +4,4 @@ use Rattle.pw_value.specs.Fields.{u32_at, repeated}
 use Rattle.pw_object.proofs.functions.read_word_items.Given as goal
 
 abbrev pub invariant-loop : goal.invariant-loop
-invariant-loop l = with_front l.items.items (repeated u32_at (l.count - l.counter) l.rest) ≡ repeated u32_at l.count l.bytes
+invariant-loop l = with_front l.items (repeated u32_at (l.count - l.counter) l.rest) ≡ repeated u32_at l.count l.bytes

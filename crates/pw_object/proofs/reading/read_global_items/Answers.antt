@@ -1,21 +1,17 @@
-use Rattle.std.proofs.Common.{◌≡◌, ◌++◌, ◌∷◌, [], map}
 use Rattle.std.proofs.lemmas.Result.{err_from_is_err_and}
-use Rattle.std.proofs.lemmas.List.{map_push}
 use Rattle.pw_value.proofs.FieldLoops.{repeat_goes_on, repeat_ends, repeat_is_done}
-use Rattle.pw_flow.specs.FlowGraph.{global_view}
 use Rattle.pw_object.specs.Reading.{global_at}
 use Rattle.pw_object.proofs.reading.read_global_items.Goals as goal
 
 pub returns-in_err-item : goal.returns-in_err-item
 returns-in_err-item c =
     let p = err_from_is_err_and c.from_residual.result c.from_residual.ensures.1 in
-    rw (p.1, p.2) (repeat_ends (global_at c.args.names.now) c.in_err-item.field-0.0 (map global_view c.loop.items.items) c.args.count c.loop.counter c.loop.rest.now _ c.loop-test.true c.in_err-item.ensures c.loop.invariant)
+    rw (p.1, p.2) (repeat_ends (global_at c.args.names.now) c.in_err-item.field-0.0 c.loop.items c.args.count c.loop.counter c.loop.rest.now _ c.loop-test.true c.in_err-item.ensures c.loop.invariant)
 
 pub loop-preserved : goal.loop-preserved
 loop-preserved c =
     let item = c.in_ok-item.item in
-    let more : map global_view c.push.new.self.items ≡ map global_view c.loop.items.items ++ global_view item ∷ [] = rw c.in_ok-push.ensures.items (map_push _ c.loop.items.items item) in
-    rw more (repeat_goes_on (global_at c.args.names.now) (map global_view c.loop.items.items) c.args.count c.loop.counter c.loop.rest.now (global_view item) c.in_ok-item.after.now _ c.loop-test.true c.in_ok-item.ensures c.loop.invariant)
+    rw c.in_ok-push.ensures (repeat_goes_on (global_at c.args.names.now) c.loop.items c.args.count c.loop.counter c.loop.rest.now item c.in_ok-item.after.now _ c.loop-test.true c.in_ok-item.ensures c.loop.invariant)
 
 pub returns : goal.returns
-returns c = repeat_is_done (global_at c.args.names.now) (map global_view c.loop.items.items) c.args.count c.loop.counter c.loop.rest.now _ c.loop-test.false c.loop.invariant
+returns c = repeat_is_done (global_at c.args.names.now) c.loop.items c.args.count c.loop.counter c.loop.rest.now _ c.loop-test.false c.loop.invariant

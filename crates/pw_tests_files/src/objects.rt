@@ -1,11 +1,58 @@
-//! Whole object files. They are built by hand, field by field, and stand as bytes.
+//! Tests of pw_object: whole object files and single functions, built by hand, field by field, as bytes; with
+//! damages and the faults that they make.
 
-use super::rows::{FixRow, FunctionRow, GlobalRow, ItemRow, ObjectRow, SymbolRow, object};
-use super::*;
+use pw_flow::{FlowGlobal, Item};
+use pw_object::functions::read_function;
+use pw_object::{Fix, FixKind, KIND, Object, ObjectFn, Symbol, VERSION, read, write};
+use pw_value::fields::FieldError;
 use pw_value::fields::frame::seal;
-use pw_value::{FileError, Kind};
+use pw_value::fields::names::read_names;
+use pw_value::{FileError, Kind, Name, Shape};
 use std::alloc::Global;
 use std::test::Fail;
+
+/// What an address is of.
+enum SymbolRow {
+    Named(&'static [u8]),
+    Word(u32),
+    StackLimit,
+    Routine(u8),
+}
+
+/// A fix: its word, kind, symbol and addend.
+type FixRow = (u32, FixKind, SymbolRow, u32);
+
+struct FunctionRow {
+    name: &'static [u8],
+    frame: u32,
+    words: &'static [u32],
+    fixes: &'static [FixRow],
+}
+
+/// An item of a global: its offset with its bytes, or with the name and the number of its address.
+enum ItemRow {
+    Bytes(u32, &'static [u8]),
+    Address(u32, &'static [u8], u32),
+}
+
+struct GlobalRow {
+    name: &'static [u8],
+    size: u32,
+    shape: &'static [u8],
+    kind: Option<Kind>,
+    volatile: bool,
+    items: &'static [ItemRow],
+}
+
+struct ObjectRow {
+    module: &'static [u8],
+    flow: &'static [u8],
+    directives: &'static [u8],
+    declared: &'static [(&'static [u8], &'static [u8])],
+    used: &'static [&'static [u8]],
+    globals: &'static [GlobalRow],
+    functions: &'static [FunctionRow],
+}
 
 /// The module `m` with nothing in it.
 const EMPTY: &[u8] = b"\
@@ -267,11 +314,104 @@ const DAMAGES: [Damage; 34] = [
     (12, 1, true, 82),
 ];
 
+fn is_symbol(symbol: &Symbol, row: &SymbolRow) -> bool {
+    match (symbol, row) {
+        (Symbol::Named(name), SymbolRow::Named(wanted)) => name.as_bytes() == *wanted,
+        (Symbol::Word(word), SymbolRow::Word(wanted)) => *word == *wanted,
+        (Symbol::StackLimit, SymbolRow::StackLimit) => true,
+        (Symbol::Routine(number), SymbolRow::Routine(wanted)) => *number == *wanted,
+        _ => false,
+    }
+}
+
+fn is_fix(fix: &Fix, row: &FixRow) -> bool {
+    fix.word == row.0 && fix.kind == row.1 && is_symbol(&fix.symbol, &row.2) && fix.addend == row.3
+}
+
+fn is_function(function: &ObjectFn, row: &FunctionRow) -> bool {
+    function.name.as_bytes() == row.name
+        && function.frame == row.frame
+        && function.words.as_slice() == row.words
+        && function.fixes.len() == row.fixes.len()
+        && function
+            .fixes
+            .as_slice()
+            .iter()
+            .zip(row.fixes)
+            .all(|(fix, wanted)| is_fix(fix, wanted))
+}
+
+fn are_functions(functions: &[ObjectFn], rows: &[FunctionRow]) -> bool {
+    functions.len() == rows.len()
+        && functions
+            .iter()
+            .zip(rows)
+            .all(|(function, row)| is_function(function, row))
+}
+
+fn is_item(placed: &(u32, Item), row: &ItemRow) -> bool {
+    match (&placed.1, row) {
+        (Item::Bytes(bytes), ItemRow::Bytes(offset, wanted)) => {
+            placed.0 == *offset && bytes.as_slice() == *wanted
+        }
+        (Item::Address(name, plus), ItemRow::Address(offset, of, wanted)) => {
+            placed.0 == *offset && name.as_bytes() == *of && *plus == *wanted
+        }
+        _ => false,
+    }
+}
+
+fn are_items(items: &[(u32, Item)], rows: &[ItemRow]) -> bool {
+    items.len() == rows.len() && items.iter().zip(rows).all(|(item, row)| is_item(item, row))
+}
+
+fn is_global(global: &FlowGlobal, row: &GlobalRow) -> bool {
+    global.name.as_bytes() == row.name
+        && global.size == row.size
+        && global.shape.as_bytes() == row.shape
+        && global.kind == row.kind
+        && global.volatile == row.volatile
+        && are_items(global.items.as_slice(), row.items)
+}
+
+fn are_globals(globals: &[FlowGlobal], rows: &[GlobalRow]) -> bool {
+    globals.len() == rows.len()
+        && globals
+            .iter()
+            .zip(rows)
+            .all(|(global, row)| is_global(global, row))
+}
+
+fn are_declared(declared: &[(Name, Shape)], rows: &[(&[u8], &[u8])]) -> bool {
+    declared.len() == rows.len()
+        && declared.iter().zip(rows).all(|(one, row)| one.0.as_bytes() == row.0
+            && one.1.as_bytes() == row.1)
+}
+
+fn are_used(used: &[Name], rows: &[&[u8]]) -> bool {
+    used.len() == rows.len()
+        && used
+            .iter()
+            .zip(rows)
+            .all(|(name, row)| name.as_bytes() == *row)
+}
+
+/// Whether the object is the row's.
+fn is_object(object: &Object, row: &ObjectRow) -> bool {
+    object.version == 1
+        && object.module.as_bytes() == row.module
+        && object.flow.as_slice() == row.flow
+        && object.directives.as_slice() == row.directives
+        && are_declared(object.declared.as_slice(), row.declared)
+        && are_used(object.used.as_slice(), row.used)
+        && are_globals(object.globals.as_slice(), row.globals)
+        && are_functions(object.functions.as_slice(), row.functions)
+}
+
 /// Whether the file is read as the object, and written again as it was.
 fn is_file_of(alloc: Global, file: &[u8], row: &ObjectRow) -> Result<bool, Fail> {
-    let wanted = object(alloc, row)?;
     match read(alloc, file) {
-        Ok(object) => Ok(object == wanted && write(alloc, &object)?.as_slice() == file),
+        Ok(object) => Ok(is_object(&object, row) && write(alloc, &object)?.as_slice() == file),
         Err(_) => Ok(false),
     }
 }
@@ -279,7 +419,7 @@ fn is_file_of(alloc: Global, file: &[u8], row: &ObjectRow) -> Result<bool, Fail>
 /// The file with a digest made anew.
 fn sealed_anew(alloc: Global, file: &[u8]) -> Result<Vec<u8>, Fail> {
     let payload = file.get(12..550).ok_or("a payload")?;
-    Ok(seal(alloc, KIND, 1, payload)?)
+    Ok(seal(alloc, KIND, VERSION, payload)?)
 }
 
 /// `FULL` with a damage.
@@ -328,5 +468,95 @@ fn cut_objects(rt: HostRuntime) -> Result<(), Fail> {
             "{len}"
         );
     }
+    Ok(())
+}
+
+// ---- single functions
+
+/// The names `f` and `g`.
+const NAMES: [u8; 14] = [0, 0, 0, 2, 0, 0, 0, 1, 102, 0, 0, 0, 1, 103];
+
+/// The function `f` with a frame of 64 bytes, the words LDIL 0,1 and BL 8,2, and the fixes LDIL of the end of
+/// the stack in word 0, im14 of word 1 and 4 in word 0, BL of `g` in word 1, and BL of `$mul` in word 1.
+const FUNCTION: [u8; 73] = [
+    0, 0, 0, 0, 0, 0, 0, 64, 0, 0, 0, 2, 32, 32, 0, 0, 232, 64, 0, 0, 0, 0, 0, 4, 0, 0, 0, 0, 0, 2,
+    0, 0, 0, 0, 0, 0, 0, 0, 1, 1, 0, 0, 0, 1, 0, 0, 0, 4, 0, 0, 0, 1, 2, 0, 0, 0, 0, 1, 0, 0, 0, 0,
+    0, 0, 0, 1, 2, 3, 2, 0, 0, 0, 0,
+];
+
+/// What `FUNCTION` is read as.
+const F: FunctionRow = FunctionRow {
+    name: b"f",
+    frame: 64,
+    words: &[0x2020_0000, 0xe840_0000],
+    fixes: &[
+        (0, FixKind::Ldil, SymbolRow::StackLimit, 0),
+        (0, FixKind::Im14, SymbolRow::Word(1), 4),
+        (1, FixKind::Bl, SymbolRow::Named(b"g"), 0),
+        (1, FixKind::Bl, SymbolRow::Routine(2), 0),
+    ],
+};
+
+/// What a function of zeros is read as.
+const EMPTY_FUNCTION: FunctionRow = FunctionRow {
+    name: b"f",
+    frame: 0,
+    words: &[],
+    fixes: &[],
+};
+
+/// Bytes of `FUNCTION` that are set, each with what is left at the fault.
+const DAMAGES_OF_FUNCTION: [(usize, u8, usize); 6] = [
+    (3, 2, 73),
+    (27, 2, 49),
+    (28, 3, 45),
+    (29, 4, 44),
+    (57, 2, 19),
+    (68, 5, 5),
+];
+
+fn names(alloc: Global) -> Result<Vec<Name>, Fail> {
+    let (names, _) = read_names(alloc, &NAMES).ok().ok_or("names")?;
+    Ok(names)
+}
+
+/// Whether the function is at the front of the bytes, and the rest behind it.
+fn is_front(alloc: Global, bytes: &[u8], row: &FunctionRow, rest: &[u8]) -> Result<bool, Fail> {
+    match read_function(alloc, &names(alloc)?, bytes) {
+        Ok((read, behind)) => Ok(is_function(&read, row) && behind == rest),
+        Err(_) => Ok(false),
+    }
+}
+
+/// The fault of `FUNCTION` with a byte set.
+fn fault_of_function(alloc: Global, place: usize, value: u8) -> Result<Option<FieldError>, Fail> {
+    let mut bytes = Vec::from_slice(alloc, &FUNCTION)?;
+    *bytes.get_mut(place).ok_or("a place")? = value;
+    Ok(read_function(alloc, &names(alloc)?, &bytes).err())
+}
+
+#[test]
+fn a_function(rt: HostRuntime) -> Result<(), Fail> {
+    let mut bytes = Vec::from_slice(rt.alloc(), &FUNCTION)?;
+    bytes.push(9)?;
+    assert!(rt; is_front(rt.alloc(), &bytes, &F, &[9])?);
+    Ok(())
+}
+
+#[test]
+fn damaged_functions(rt: HostRuntime) -> Result<(), Fail> {
+    for (place, value, left) in DAMAGES_OF_FUNCTION {
+        assert_eq!(rt;
+            fault_of_function(rt.alloc(), place, value)?,
+            Some(FieldError::Fault { left }),
+            "{place}"
+        );
+    }
+    Ok(())
+}
+
+#[test]
+fn an_empty_function(rt: HostRuntime) -> Result<(), Fail> {
+    assert!(rt; is_front(rt.alloc(), &[0; 16], &EMPTY_FUNCTION, &[])?);
     Ok(())
 }

@@ -1,15 +1,11 @@
 -- The end of a payload, and the rules that are looked at last.
-use Rattle.std.proofs.Common.{◌≡◌, ℕ, ◌<◌, List, [], ◌∷◌, length, Result, Ok, Err, refl, sym, ap, subst, ◌∙◌, arith}
+use Rattle.std.proofs.Common.{◌≡◌, ℕ, List, [], ◌∷◌, length, Result, Err, refl, sym, ap, subst, arith}
 use Rattle.std.specs.Prelude.{Option, Some, None}
 use Rattle.pw_value.specs.declared.fields.fault.FieldError.{FieldError}
 use Rattle.pw_value.specs.declared.fields.fault.FieldError.TheVariants as field
 use Rattle.pw_value.specs.FieldFaults.{Fails}
 use Rattle.pw_value.specs.FieldFrame.{ended}
 use Rattle.pw_files.specs.Contents.{broken_at}
-
-pub ended_more : {X : Type 0} (late : Option ℕ) (x : X) (rest : List ℕ) → 0 < length rest → ended late x rest ≡ Err (length rest)
-ended_more late x [] more = absurd (omega arith)
-ended_more late x (b ∷ rest) more = refl
 
 no_bytes : (rest : List ℕ) → length rest ≡ 0 → rest ≡ []
 no_bytes [] e = refl
@@ -18,9 +14,6 @@ no_bytes (b ∷ rest) e = absurd (omega (arith, e))
 abbrev fault_of : (X : Type 0) → ℕ → Result (X × List ℕ) ℕ
 fault_of X n = Err n
 
-abbrev found_with : (X : Type 0) → X → List ℕ → Result (X × List ℕ) ℕ
-found_with X x r = Ok (x, r)
-
 late_fails : {X : Type 0} (late : Option ℕ) (x : X) (e : FieldError) → Fails e (broken_at late) → Fails e (ended late x [])
 late_fails late x field.NoMemory fails = tt
 late_fails None x (field.Fault left) fails = absurd cc
@@ -28,12 +21,3 @@ late_fails {X} (Some place) x (field.Fault left) fails = let same : place ≡ le
 
 pub ended_fails : {X : Type 0} (late : Option ℕ) (x : X) (rest : List ℕ) (e : FieldError) → length rest ≡ 0 → Fails e (broken_at late) → Fails e (ended late x rest)
 ended_fails late x rest e none fails = subst (λ (r : List ℕ). Fails e (ended late x r)) (sym (no_bytes rest none)) (late_fails late x e fails)
-
-late_holds : {X : Type 0} (late : Option ℕ) (x : X) → broken_at late ≡ Ok tt → ended late x [] ≡ Ok (x, [])
-late_holds None x e = refl
-late_holds (Some place) x e = absurd cc
-
-pub ended_holds : {X : Type 0} (late : Option ℕ) (x : X) (rest : List ℕ) → length rest ≡ 0 → broken_at late ≡ Ok tt → ended late x rest ≡ Ok (x, rest)
-ended_holds {X} late x rest none holds =
-    let e : rest ≡ [] = no_bytes rest none in
-    ap (ended late x) e ∙ late_holds late x holds ∙ ap (found_with X x) (sym e)

@@ -1,7 +1,0 @@
-use Rattle.std.proofs.Common.{◌≡◌, ◌++◌, map, take}
-use Rattle.std.specs.List.{flat_map}
-use Rattle.pw_flow.specs.FlowGraph.{global_view}
-use Rattle.pw_object.proofs.names.add_global_names.Given as goal
-
-abbrev pub invariant-loop-global : goal.invariant-loop-global
-invariant-loop-global l = map (λ name. name.now) l.used.items ≡ map (λ name. name.now) l.fn.used.items ++ map (λ g. g.name) (map global_view (take l.global-index l.globals))
