@@ -1,7 +1,7 @@
 -- A fault of a database's fields rests on the bytes up to the faulty field's end.
 use Rattle.std.proofs.Common.{ℕ, List, []}
 use Rattle.std.specs.Prelude.{Option, None}
-use Rattle.pw_value.specs.Fields.{u8_at, u32_at, flag_at, items_at}
+use Rattle.pw_value.specs.Fields.{u8_at, u32_at, flag_at}
 use Rattle.pw_value.specs.FieldFrame.{here}
 use Rattle.pw_value.specs.FieldNames.{name_at}
 use Rattle.pw_value.specs.declared.program_names.StartName.TheVariants.{Allowed}
@@ -14,7 +14,7 @@ use Rattle.pw_files.proofs.FaultLaws as files
 use Rattle.pw_db.specs.declared.database.Web.{Web}
 use Rattle.pw_db.specs.declared.database.Directives.{Directives}
 use Rattle.pw_db.specs.Database.{kind}
-use Rattle.pw_db.specs.Reading.{first_with, number_at, global_at, kind_at, register_at, writes_at, role_at, web_at, next_web, webs_at, no_free_at, Before, function_at, next_function, nothing_before, functions_at, unused_rule, fields_at, database_file_at}
+use Rattle.pw_db.specs.Reading.{number_at, global_at, kind_at, register_at, writes_at, role_at, web_at, next_web, webs_at, no_free_at, Before, function_at, next_function, nothing_before, functions_at, unused_rule, fields_at, database_file_at}
 
 web_onward : (names : List (List ℕ)) (seen own : List Web) → Onward (web_at names seen own)
 unfolding web_at number_at global_at kind_at register_at writes_at role_at

@@ -1,5 +1,5 @@
 -- What writing asks of a database's parts, and what it gives.
-use Rattle.std.proofs.Common.{◌≡◌, ℕ, List, [], ◌∷◌, length, map, All, Result, Ok, Err, subst, ap, ◌∙◌, arith}
+use Rattle.std.proofs.Common.{◌≡◌, ℕ, List, [], ◌∷◌, length, map, All, Result, Ok, Err, subst}
 use Rattle.std.specs.Prelude.{Contains, IfOk, OnOk}
 use Rattle.std.specs.Global.{Vec}
 use Rattle.std.specs.List.{AllByRecursion}

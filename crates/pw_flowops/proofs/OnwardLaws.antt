@@ -4,10 +4,10 @@ use Rattle.std.proofs.Common.{◌≡◌, ℕ, ◌+◌, Bool, true, false, cond, 
 use Rattle.std.specs.Prelude.{Option, Some, None, slice_get}
 use Rattle.std.specs.Int.{w32, from_be_bytes}
 use Rattle.std.proofs.lemmas.Bool.{ltb-false}
-use Rattle.std.proofs.lemmas.List.{length-append, length-drop, take_at}
+use Rattle.std.proofs.lemmas.List.{length-append, length-drop}
 use Rattle.pw_value.specs.declared.program_names.StartName.{StartName}
 use Rattle.pw_value.specs.declared.program_names.StartName.TheVariants.{Refused}
-use Rattle.pw_value.specs.Fields.{◌>>=◌, kept, checked, u32_at, repeated}
+use Rattle.pw_value.specs.Fields.{kept, checked, u32_at}
 use Rattle.pw_value.specs.FieldNames.{name_at}
 use Rattle.pw_value.proofs.FieldLaws.{found_is, not_found, after_passes, guard_passes}
 use Rattle.pw_files.specs.Faults.{IsFieldLength}

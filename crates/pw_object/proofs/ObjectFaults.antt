@@ -2,7 +2,7 @@
 use Rattle.std.proofs.Common.{ℕ, zero, suc, List, length}
 use Rattle.std.specs.Prelude.{Option, None}
 use Rattle.pw_value.specs.declared.program_names.StartName.TheVariants.{Allowed}
-use Rattle.pw_value.specs.Fields.{◌>>=◌, done, u32_at, text_at, choice_at}
+use Rattle.pw_value.specs.Fields.{u32_at, text_at, choice_at}
 use Rattle.pw_value.specs.FieldFrame.{here}
 use Rattle.pw_value.specs.FieldNames.{name_at}
 use Rattle.pw_files.specs.Rising.{counted_at}
@@ -12,8 +12,6 @@ use Rattle.pw_files.specs.Faults.{FaultsStay}
 use Rattle.pw_files.proofs.OnwardLaws.{Onward, OneField, one_onward, behind, done_onward, here_onward, ended_onward, checked_one, mapped_one, choice_one, u32_one, text_one, name_one, counted_onward, name_list_onward, shaped_list_onward}
 use Rattle.pw_files.proofs.FaultLaws.{Keeps, keeps_behind, keeps_ended, contents_onward, contents_keep}
 use Rattle.pw_files.proofs.FaultLaws as files
-use Rattle.pw_inst.specs.declared.relocation.FixKind.{FixKind}
-use Rattle.pw_inst.specs.declared.relocation.Symbol.{Symbol}
 use Rattle.pw_inst.specs.declared.relocation.Symbol.TheVariants as symbol
 use Rattle.pw_flow.specs.declared.flow.FlowGlobal.{FlowGlobal}
 use Rattle.pw_flowfile.proofs.FlowFaults.{global_body_onward}

@@ -1,5 +1,5 @@
 -- What is read is the file of an object, and the file of an object is read.
-use Rattle.std.proofs.Common.{◌≡◌, ℕ, List, [], ◌∷◌, ◌++◌, length, map, Result, Ok, refl, sym, ap, subst, ◌∙◌, append_assoc, lit<}
+use Rattle.std.proofs.Common.{◌≡◌, ℕ, List, [], ◌∷◌, ◌++◌, map, Result, Ok, refl, sym, ap, subst, ◌∙◌, append_assoc, lit<}
 use Rattle.std.specs.Prelude.{IsTrue, IfOk, None, Contains}
 use Rattle.std.specs.List.{flat_map, AllByRecursion}
 use Rattle.std.proofs.lemmas.List.{append-nil}
@@ -7,7 +7,7 @@ use Rattle.std.proofs.lemmas.List.Concat.{flat_map-cons}
 use Rattle.pw_value.specs.declared.fault.FileError.{FileError}
 use Rattle.pw_value.specs.declared.program_names.StartName.TheVariants.{Allowed}
 use Rattle.pw_value.specs.ProgramNames.{KeepsStart, may_stand}
-use Rattle.pw_value.specs.Fields.{done, text_at, text, FitsU32, FitsText}
+use Rattle.pw_value.specs.Fields.{done, text_at, text, FitsText}
 use Rattle.pw_value.specs.FieldFaults.{GivesFile}
 use Rattle.pw_value.specs.FieldLaws.{AreBytes, Spells, SpellsWhole}
 use Rattle.pw_value.specs.FieldNames.{name_at, name_table, name_index, IsNameTable}
@@ -27,11 +27,11 @@ use Rattle.pw_flow.specs.ValidFlow.{IsGlobal}
 use Rattle.pw_flowfile.specs.FlowFile.{global, global_body, all_in_global, FitsGlobal}
 use Rattle.pw_flowfile.specs.Reading.{global_body_at}
 use Rattle.pw_flowops.specs.Operations.{Named}
-use Rattle.pw_flowfile.proofs.GraphLaws.{GlobalFits, BodyFits, body_spells}
+use Rattle.pw_flowfile.proofs.GraphLaws.{GlobalFits, body_spells}
 use Rattle.pw_object.specs.declared.functions.ObjectFn.{ObjectFn}
 use Rattle.pw_object.specs.declared.object.Object.{Object}
 use Rattle.pw_object.specs.Functions.{IsFunction, function, names_of_function}
-use Rattle.pw_object.specs.Object.{object_version, global_names, function_names, IsObject, names_of, FitsFunction, FitsObject, own, code, spelling, kind, IsObjectFile}
+use Rattle.pw_object.specs.Object.{object_version, global_names, function_names, IsObject, names_of, FitsFunction, FitsObject, code, spelling, kind, IsObjectFile}
 use Rattle.pw_object.specs.Reading.{function_at, global_at, last_rules, fields_at, object_file_at}
 use Rattle.pw_object.proofs.FunctionLaws.{function_spells, lawful, function_used, function_back}
 use Rattle.pw_object.proofs.FunctionLaws.{FitsFunction as FunctionSteps}

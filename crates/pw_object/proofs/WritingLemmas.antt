@@ -1,5 +1,5 @@
 -- What writing asks of an object's parts, and what it gives.
-use Rattle.std.proofs.Common.{◌≡◌, ℕ, List, [], ◌∷◌, ◌++◌, length, map, All, Result, subst}
+use Rattle.std.proofs.Common.{◌≡◌, ℕ, List, [], ◌∷◌, length, map, Result, subst}
 use Rattle.std.specs.Prelude.{Contains, IfOk, OnOk}
 use Rattle.std.specs.Global.{Vec}
 use Rattle.std.specs.List.{flat_map, AllByRecursion}
@@ -19,7 +19,7 @@ use Rattle.pw_object.specs.declared.functions.ObjectFn.{ObjectFn}
 use Rattle.pw_object.specs.Functions.{names_of_symbol, names_of_function, IsSymbolNamed, IsFunctionNamed}
 use Rattle.pw_object.specs.declared.object.Object.{Object}
 use Rattle.pw_object.specs.Object.{object_version, IsObject, IsNamedBy, names_of, FitsObject, spelling, kind, IsObjectFile}
-use Rattle.pw_files.specs.Contents.{Contents, IsContents}
+use Rattle.pw_files.specs.Contents.{IsContents}
 use Rattle.pw_files.proofs.ContentsLaws.{is_file}
 
 each_named : (names ns : List (List ℕ)) → AllUsed ns names → AllByRecursion (Contains names) ns

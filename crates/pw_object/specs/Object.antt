@@ -2,14 +2,13 @@
 -- uses, its globals, and its functions as words.
 use Rattle.std.specs.Prelude.{All, ℕ, ◌≡◌, List, [], ◌∷◌, ◌++◌, length, map, Contains}
 use Rattle.std.specs.List.{flat_map, AllByRecursion}
-use Rattle.pw_value.specs.Fields.{u32, text, parts, FitsU32, FitsText}
+use Rattle.pw_value.specs.Fields.{text, parts, FitsU32, FitsText}
 use Rattle.pw_value.specs.FieldFrame.{IsFileOf}
 use Rattle.pw_value.specs.FieldNames.{name_table, name_index}
 use Rattle.pw_files.specs.Rising.{IsRising, counted, FitsList}
 use Rattle.pw_files.specs.Names.{shaped, FitsShapes}
 use Rattle.pw_files.specs.Contents.{Contents, IsContents}
 use Rattle.pw_value.specs.ProgramNames.{KeepsStart}
-use Rattle.pw_flow.specs.declared.flow.FlowGlobal.{FlowGlobal}
 use Rattle.pw_flow.specs.ValidFlow.{IsGlobal}
 use Rattle.pw_flowfile.specs.FlowFile.{global, all_in_global, FitsGlobal}
 use Rattle.pw_object.specs.declared.object.Object.{Object}

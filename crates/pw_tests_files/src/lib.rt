@@ -4,6 +4,12 @@
 #[cfg(test)]
 mod databases;
 #[cfg(test)]
+mod flow_files;
+#[cfg(test)]
+mod flow_graphs;
+#[cfg(test)]
 mod modules;
+#[cfg(test)]
+mod objects;
 #[cfg(test)]
 mod summaries;

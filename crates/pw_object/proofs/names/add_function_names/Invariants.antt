@@ -1,5 +1,4 @@
 use Rattle.std.proofs.Common.{◌≡◌, ◌++◌, map, take}
-use Rattle.std.specs.List.{flat_map}
 use Rattle.pw_object.proofs.names.add_function_names.Given as goal
 
 abbrev pub invariant-loop-function : goal.invariant-loop-function
