@@ -7,19 +7,22 @@ top=$(cd "$(dirname "$0")/.." && pwd)
 work=$(mktemp -d /tmp/bench-flowfile.XXXXXX)
 trap 'rm -rf "$work"' EXIT
 mkdir -p "$work/crates/bench_flowfile/src"
-for crate in pw_value pw_flow pw_files pw_flowops pw_flowfile; do
+for crate in pw_value pw_items pw_flow pw_files pw_flowops pw_flowfile; do
     mkdir "$work/crates/$crate"
-    cp -r "$top/crates/$crate"/{src,specs,proofs} "$work/crates/$crate/"
+    for part in src specs proofs; do
+        if [ -d "$top/crates/$crate/$part" ]; then cp -r "$top/crates/$crate/$part" "$work/crates/$crate/"; fi
+    done
 done
 cp "$top/HANDLES" "$work/HANDLES"
-grep -E '^pw_(value|flow|files|flowops|flowfile):' "$top/crates.txt" > "$work/crates.txt"
-echo 'bench_flowfile: pw_flowfile pw_flow pw_value' >> "$work/crates.txt"
+grep -E '^pw_(value|items|flow|files|flowops|flowfile):' "$top/crates.txt" > "$work/crates.txt"
+echo 'bench_flowfile: pw_flowfile pw_flow pw_items pw_value' >> "$work/crates.txt"
 cat > "$work/crates/bench_flowfile/src/main.rt" <<'RATTLE'
 //! A run of the flow file's reader and writer whose time is taken.
 #![tactic(auto)]
 
 use pw_flow::{BinKind, Block, End, ExtKind, FlowFn, FlowGlobal, FlowModule, Op, is_valid};
 use pw_flowfile::{read, write};
+use pw_items::Items;
 use pw_value::{Kind, Name, Shape};
 use std::alloc::{AllocError, Global};
 use std::io;
@@ -69,7 +72,7 @@ fn op(alloc: Global, parts: u32, number: u32) -> Result<Op, AllocError> {
         5 => Op::Call(
             Some(t),
             named(alloc, b'f', part)?,
-            Vec::from_slice(alloc, &[a, b])?,
+            Items::from_vec(Vec::from_slice(alloc, &[a, b])?),
         ),
         6 => Op::Ext(ExtKind::U8, t, a),
         _ => Op::Copy(t, a),
@@ -77,7 +80,7 @@ fn op(alloc: Global, parts: u32, number: u32) -> Result<Op, AllocError> {
 }
 
 fn block(alloc: Global, sizes: &Sizes, number: u32) -> Result<Block, AllocError> {
-    let mut ops = Vec::new(alloc);
+    let mut ops = Items::new(alloc);
     for i in 0..OPS {
         ops.push(op(alloc, sizes.parts, number.wrapping_mul(37).wrapping_add(i * 7))?)?;
     }
@@ -94,7 +97,7 @@ fn block(alloc: Global, sizes: &Sizes, number: u32) -> Result<Block, AllocError>
 }
 
 fn function(alloc: Global, sizes: &Sizes, number: u32) -> Result<FlowFn, AllocError> {
-    let mut blocks = Vec::new(alloc);
+    let mut blocks = Items::new(alloc);
     for i in 0..sizes.blocks {
         let at = number.wrapping_mul(sizes.blocks).wrapping_add(i);
         blocks.push(block(alloc, sizes, at)?)?;
@@ -104,7 +107,7 @@ fn function(alloc: Global, sizes: &Sizes, number: u32) -> Result<FlowFn, AllocEr
         shape: shape(alloc, b"fiii")?,
         params: 2,
         temps: 8,
-        slots: Vec::from_slice(alloc, &[4u32, 12])?,
+        slots: Items::from_vec(Vec::from_slice(alloc, &[4u32, 12])?),
         blocks,
     })
 }
@@ -116,14 +119,14 @@ fn global(alloc: Global, number: u32) -> Result<FlowGlobal, AllocError> {
         shape: shape(alloc, b"i")?,
         kind: Some(Kind::W32),
         volatile: false,
-        items: Vec::new(alloc),
+        items: Items::new(alloc),
     })
 }
 
 /// A module of these sizes.
 fn module(alloc: Global, sizes: &Sizes) -> Result<FlowModule, AllocError> {
-    let mut globals = Vec::new(alloc);
-    let mut functions = Vec::new(alloc);
+    let mut globals = Items::new(alloc);
+    let mut functions = Items::new(alloc);
     for number in 0..sizes.parts {
         globals.push(global(alloc, number)?)?;
         functions.push(function(alloc, sizes, number)?)?;
@@ -132,7 +135,7 @@ fn module(alloc: Global, sizes: &Sizes) -> Result<FlowModule, AllocError> {
         name: named(alloc, b'm', 0)?,
         globals,
         functions,
-        declared: Vec::new(alloc),
+        declared: Items::new(alloc),
     })
 }
 
