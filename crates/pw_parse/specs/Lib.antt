@@ -1,4 +1,3 @@
 pub mod Views
-pub mod Branches
-pub mod NestsStmt
+pub mod Nests
 pub mod Parsing

@@ -2,11 +2,9 @@
 #![tactic(auto)]
 
 mod decl;
+mod init;
 mod module;
 mod parser;
 mod stmt;
 
 pub use parser::{ParseFault, parse};
-
-#[cfg(test)]
-mod tests;

@@ -5,13 +5,14 @@ ghost use Rattle.pw_grammar.specs.Input.{declare_all};
 ghost use Rattle.pw_grammar.specs.Modules as spec;
 ghost use Rattle.pw_cursor.specs.Reads.{Reads, unit};
 ghost use Rattle.pw_cursor.specs.Views.{view_binding};
-ghost use Rattle.pw_phrase.specs.Views.{view_behind, view_declared, view_specifier_list};
+ghost use Rattle.pw_parts.specs.Views.{view_behind, view_declared, view_specifier_list};
 ghost use Rattle.pw_parse.specs.Views.{external_first, view_external_list};
 ghost use Rattle.pw_tree.specs.Views.{view_external};
 
-use crate::decl::{declaration_with, declarations};
+use crate::decl::ToDepth;
 use crate::stmt::body;
 use pw_cursor::{Binding, Stop, Tokens, has_type, has_typedef};
+use pw_declarations::{declaration_with, declarations};
 use pw_grammar::Place;
 use pw_phrase::{Declared, declare_name, read_declarator, read_specifiers};
 use pw_tree::{Decl, External, Function, Mark, Specifier};
@@ -58,7 +59,7 @@ fn function<'a>(
     declare_name(tokens, name, has_typedef(&specifiers))?;
     let outer = tokens.mark();
     declare_behind(tokens, behind)?;
-    let declarations = declarations(alloc, tokens, limit, false)?;
+    let declarations = declarations(alloc, &ToDepth(limit), tokens, false)?;
     let body = body(alloc, tokens, limit)?;
     tokens.leave(outer);
     Ok(External::Function(Function {
@@ -80,7 +81,7 @@ fn external_with<'a>(
     ensures { Reads view_external (spec.external_with limit (view_specifier_list specifiers) (view_declared declared.entry) tokens.old) result tokens.new }
 {
     if !specifiers.is_empty() && goes_on_as_declaration(tokens) {
-        let decl = declaration_with(alloc, tokens, limit, specifiers, declared)?;
+        let decl = declaration_with(alloc, &ToDepth(limit), tokens, specifiers, declared)?;
         return Ok(External::Declaration(decl));
     }
     function(alloc, tokens, limit, specifiers, declared)

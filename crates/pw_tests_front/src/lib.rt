@@ -3,4 +3,14 @@
 #![tactic(auto)]
 
 #[cfg(test)]
+mod fronts;
+#[cfg(test)]
+mod modules;
+#[cfg(test)]
+mod scopes;
+#[cfg(test)]
 mod spelling;
+#[cfg(test)]
+mod syntax;
+#[cfg(test)]
+mod tokens;

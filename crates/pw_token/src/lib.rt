@@ -20,6 +20,3 @@ pub use laws::{one_cutting, tokens_stand_in_order};
 pub use lexer::{MAX_TEXT, MAX_TOKENS, lex};
 pub use nesting::{MAX_NEST, nest_fault};
 pub use token::{Feature, LexFault, Token, TokenKind};
-
-#[cfg(test)]
-mod tests;

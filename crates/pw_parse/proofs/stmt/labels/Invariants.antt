@@ -1,9 +1,0 @@
-use Rattle.std.proofs.Common.{◌-◌, [], Some, None}
-use Rattle.pw_grammar.specs.Statements.{label, labels}
-use Rattle.pw_grammar.specs.Input.{turn_of, ◌<$>◌}
-use Rattle.pw_parse.specs.Views.{label_first}
-use Rattle.pw_phrase.proofs.Loops.{Reading, prepend}
-use Rattle.pw_parse.proofs.stmt.labels.Given as goal
-
-abbrev pub invariant-loop-turn : goal.invariant-loop-turn
-invariant-loop-turn l = Reading (turn_of [] <$> label l.limit) (labels l.limit l.fn.tokens) (prepend label_first l.found.items) (l._turn-end - l._turn) l.tokens

@@ -1,0 +1,4 @@
+pub mod Loops
+pub mod Shown
+pub mod Closed
+pub mod Turns

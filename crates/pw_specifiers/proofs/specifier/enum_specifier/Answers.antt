@@ -1,0 +1,9 @@
+use Rattle.std.proofs.Common.{rules, arith}
+use Rattle.std.proofs.lemmas.Grind.{common_steps}
+use Rattle.pw_grammar.specs.Specifiers.{enum_specifier}
+use Rattle.pw_specifiers.proofs.Shown.{enum_shown}
+use Rattle.pw_specifiers.proofs.specifier.enum_specifier.Goals as goal
+
+pub returns-then-eat : goal.returns-then-eat
+unfolding enum_specifier
+returns-then-eat g c = first_of (search (rules, enum_shown), grind (arith, common_steps, enum_shown))

@@ -1,0 +1,10 @@
+use Rattle.std.proofs.Common.{◌-◌, [], Some, None}
+use Rattle.pw_grammar.specs.Statements.{stmt_next, stmts}
+use Rattle.pw_grammar.specs.Input.{turn_of, ◌<$>◌}
+use Rattle.pw_statements.specs.Views.{stmt_first}
+use Rattle.pw_tree.specs.Trees.{NoStmt}
+use Rattle.pw_parts.proofs.Loops.{Reading, prepend}
+use Rattle.pw_statements.proofs.stmt.stmts.Given as goal
+
+abbrev pub invariant-loop-turn : goal.invariant-loop-turn
+invariant-loop-turn g l = Reading (turn_of NoStmt <$> stmt_next (g.P.StmtParts.limit l.parts) (g.P.StmtParts.parser l.parts)) (stmts (g.P.StmtParts.limit l.parts) (g.P.StmtParts.parser l.parts) l.fn.tokens) (prepend stmt_first l.found.items) (l._turn-end - l._turn) l.tokens
