@@ -61,8 +61,8 @@ pub fn shown(alloc: Global, answer: &Answer) -> Result<Vec<u8>, AllocError> {
     match answer {
         Answer::Tree(module) => {
             let mut shape = Shape::new(alloc);
-            shape.module(module)?;
-            Ok(shape.into_text())
+            shape.module(module);
+            shape.into_text()
         }
         _ => verdict(alloc, answer),
     }

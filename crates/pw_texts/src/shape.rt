@@ -3,94 +3,100 @@
 use pw_tree::{Keyword, Mark, Word};
 use std::alloc::{AllocError, Global};
 
-/// Memory was refused.
-pub type NoMemory = AllocError;
-
 /// Collects the pieces of a shape, with a blank between each two of them.
 #[derive(Drop)]
 pub struct Shape {
     text: Vec<u8>,
+    /// Memory was refused, and the text is not the whole shape.
+    is_cut: bool,
 }
 
 impl Shape {
     pub fn new(alloc: Global) -> Self {
         Shape {
             text: Vec::new(alloc),
+            is_cut: false,
         }
     }
 
-    pub fn into_text(self) -> Vec<u8> {
-        self.text
+    /// The shape, or want of memory.
+    pub fn into_text(self) -> Result<Vec<u8>, AllocError> {
+        if self.is_cut {
+            return Err(AllocError);
+        }
+        Ok(self.text)
+    }
+
+    fn push(&mut self, bytes: &[u8]) {
+        if self.text.extend_from_slice(bytes).is_err() {
+            self.is_cut = true;
+        }
     }
 
     /// A blank, unless this is the beginning of the shape or of a node.
-    fn blank(&mut self) -> Result<(), NoMemory> {
+    fn blank(&mut self) {
         match self.text.last() {
             None | Some(b'(') => {}
-            Some(_) => self.text.push(b' ')?,
+            Some(_) => self.push(b" "),
         }
-        Ok(())
     }
 
-    pub fn piece(&mut self, piece: &[u8]) -> Result<(), NoMemory> {
-        self.blank()?;
-        self.text.extend_from_slice(piece)
+    pub fn piece(&mut self, piece: &[u8]) {
+        self.blank();
+        self.push(piece);
     }
 
     /// The beginning of a node of a kind.
-    pub fn open(&mut self, kind: &[u8]) -> Result<(), NoMemory> {
-        self.open_list()?;
-        self.piece(kind)
+    pub fn open(&mut self, kind: &[u8]) {
+        self.open_list();
+        self.piece(kind);
     }
 
     /// The beginning of a list.
-    pub fn open_list(&mut self) -> Result<(), NoMemory> {
-        self.blank()?;
-        self.text.push(b'(')?;
-        Ok(())
+    pub fn open_list(&mut self) {
+        self.blank();
+        self.push(b"(");
     }
 
-    pub fn close(&mut self) -> Result<(), NoMemory> {
-        self.text.push(b')')?;
-        Ok(())
+    pub fn close(&mut self) {
+        self.push(b")");
     }
 
     /// A node without parts.
-    pub fn leaf(&mut self, kind: &[u8]) -> Result<(), NoMemory> {
-        self.open(kind)?;
-        self.close()
+    pub fn leaf(&mut self, kind: &[u8]) {
+        self.open(kind);
+        self.close();
     }
 
     /// In place of a part that is left out.
-    pub fn absent(&mut self) -> Result<(), NoMemory> {
-        self.piece(b"-")
+    pub fn absent(&mut self) {
+        self.piece(b"-");
     }
 
-    pub fn keyword(&mut self, keyword: Keyword) -> Result<(), NoMemory> {
-        self.piece(keyword.text())
+    pub fn keyword(&mut self, keyword: Keyword) {
+        self.piece(keyword.text());
     }
 
-    pub fn mark(&mut self, mark: Mark) -> Result<(), NoMemory> {
-        self.piece(mark.text())
+    pub fn mark(&mut self, mark: Mark) {
+        self.piece(mark.text());
     }
 
-    pub fn word(&mut self, word: &Word) -> Result<(), NoMemory> {
-        self.piece(&word.text)
+    pub fn word(&mut self, word: &Word) {
+        self.piece(&word.text);
     }
 
     /// A node of a kind with one word in it.
-    pub fn word_of(&mut self, kind: &[u8], word: &Word) -> Result<(), NoMemory> {
-        self.open(kind)?;
-        self.word(word)?;
-        self.close()
+    pub fn word_of(&mut self, kind: &[u8], word: &Word) {
+        self.open(kind);
+        self.word(word);
+        self.close();
     }
 
     /// The beginning of a node of a kind, and words.
-    pub fn open_words(&mut self, kind: &[u8], words: &[Word]) -> Result<(), NoMemory> {
-        self.open(kind)?;
+    pub fn open_words(&mut self, kind: &[u8], words: &[Word]) {
+        self.open(kind);
         for word in words {
-            self.word(word)?;
+            self.word(word);
         }
-        Ok(())
     }
 }

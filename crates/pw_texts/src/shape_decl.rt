@@ -1,39 +1,38 @@
 //! The shapes of declarations and initializers.
 
-use crate::shape::{NoMemory, Shape};
+use crate::shape::Shape;
 use pw_tree::{Decl, Init, InitDeclarator};
 
 impl Shape {
-    pub fn decls(&mut self, decls: &[Decl]) -> Result<(), NoMemory> {
+    pub fn decls(&mut self, decls: &[Decl]) {
         for decl in decls {
-            self.decl(decl)?;
+            self.decl(decl);
         }
-        Ok(())
     }
 
-    pub fn decl(&mut self, decl: &Decl) -> Result<(), NoMemory> {
-        self.open(b"declare")?;
-        self.specifiers(&decl.specifiers)?;
+    pub fn decl(&mut self, decl: &Decl) {
+        self.open(b"declare");
+        self.specifiers(&decl.specifiers);
         for declarator in &decl.declarators {
-            self.init_declarator(declarator)?;
+            self.init_declarator(declarator);
         }
-        self.close()
+        self.close();
     }
 
-    fn init_declarator(&mut self, declarator: &InitDeclarator) -> Result<(), NoMemory> {
+    fn init_declarator(&mut self, declarator: &InitDeclarator) {
         match &declarator.initializer {
             Some(initializer) => {
-                self.open(b"=")?;
-                self.declarator(&declarator.declarator)?;
-                self.init(&initializer.init)?;
-                self.close()
+                self.open(b"=");
+                self.declarator(&declarator.declarator);
+                self.init(&initializer.init);
+                self.close();
             }
             None => self.declarator(&declarator.declarator),
         }
     }
 
     #[cycle(init)]
-    fn init(&mut self, init: &Init) -> Result<(), NoMemory> {
+    fn init(&mut self, init: &Init) {
         match init {
             Init::Value(value) => self.expr(value),
             Init::List {
@@ -46,14 +45,14 @@ impl Shape {
 
     /// A list with its items, and a comma where one stands before its end.
     #[cycle(init)]
-    fn init_list(&mut self, items: &[Init], trailing_comma: bool) -> Result<(), NoMemory> {
-        self.open(b"list")?;
+    fn init_list(&mut self, items: &[Init], trailing_comma: bool) {
+        self.open(b"list");
         for item in items {
-            self.init(item)?;
+            self.init(item);
         }
         if trailing_comma {
-            self.piece(b",")?;
+            self.piece(b",");
         }
-        self.close()
+        self.close();
     }
 }

@@ -1,6 +1,6 @@
 //! The shapes of expressions.
 
-use crate::shape::{NoMemory, Shape};
+use crate::shape::Shape;
 use pw_tree::{Expr, Operation, PostfixOperation, TypeName, UnaryOperator};
 
 /// How an operator before its operand is spelled.
@@ -20,35 +20,35 @@ fn unary_text(operator: UnaryOperator) -> &'static [u8] {
 
 impl Shape {
     #[cycle(shape)]
-    pub fn expr(&mut self, e: &Expr) -> Result<(), NoMemory> {
+    pub fn expr(&mut self, e: &Expr) {
         match e {
             Expr::Identifier(word)
             | Expr::Number(word)
             | Expr::Floating(word)
             | Expr::Character(word)
             | Expr::Wide(word) => return self.word(word),
-            Expr::Strings(pieces) => self.open_words(b"strings", pieces)?,
-            Expr::Paren { inner, .. } => self.open_expr(b"paren", inner)?,
+            Expr::Strings(pieces) => self.open_words(b"strings", pieces),
+            Expr::Paren { inner, .. } => self.open_expr(b"paren", inner),
             Expr::Postfix {
                 operand,
                 operations,
             } => {
-                self.open_expr(b"postfix", operand)?;
-                self.postfixes(operations)?;
+                self.open_expr(b"postfix", operand);
+                self.postfixes(operations);
             }
             Expr::Unary {
                 operator,
                 operand,
                 ..
-            } => self.open_expr(unary_text(*operator), operand)?,
-            Expr::SizeofType { named, .. } => self.open_type(b"sizeof", named)?,
+            } => self.open_expr(unary_text(*operator), operand),
+            Expr::SizeofType { named, .. } => self.open_type(b"sizeof", named),
             Expr::Cast { named, operand, .. } => {
-                self.open_type(b"cast", named)?;
-                self.expr(operand)?;
+                self.open_type(b"cast", named);
+                self.expr(operand);
             }
             Expr::Chain { first, rest } => {
-                self.open_expr(b"chain", first)?;
-                self.operations(rest)?;
+                self.open_expr(b"chain", first);
+                self.operations(rest);
             }
             Expr::Conditional {
                 condition,
@@ -56,9 +56,9 @@ impl Shape {
                 otherwise,
                 ..
             } => {
-                self.open_expr(b"?", condition)?;
-                self.expr(chosen)?;
-                self.expr(otherwise)?;
+                self.open_expr(b"?", condition);
+                self.expr(chosen);
+                self.expr(otherwise);
             }
             Expr::Assign {
                 operator,
@@ -66,56 +66,54 @@ impl Shape {
                 right,
                 ..
             } => {
-                self.open_expr(operator.mark().text(), left)?;
-                self.expr(right)?;
+                self.open_expr(operator.mark().text(), left);
+                self.expr(right);
             }
         }
-        self.close()
+        self.close();
     }
 
     /// The beginning of a node of a kind, and an expression.
     #[cycle(shape)]
-    pub fn open_expr(&mut self, kind: &[u8], e: &Expr) -> Result<(), NoMemory> {
-        self.open(kind)?;
+    pub fn open_expr(&mut self, kind: &[u8], e: &Expr) {
+        self.open(kind);
         self.expr(e)
     }
 
     /// A node of a kind with one expression in it.
     #[cycle(shape)]
-    pub fn expr_of(&mut self, kind: &[u8], e: &Expr) -> Result<(), NoMemory> {
-        self.open_expr(kind, e)?;
-        self.close()
+    pub fn expr_of(&mut self, kind: &[u8], e: &Expr) {
+        self.open_expr(kind, e);
+        self.close();
     }
 
     /// The beginning of a node of a kind, and a type name.
     #[cycle(shape)]
-    fn open_type(&mut self, kind: &[u8], named: &TypeName) -> Result<(), NoMemory> {
-        self.open(kind)?;
-        self.open(b"type")?;
-        self.specifiers(&named.specifiers)?;
-        self.declarator(&named.declarator)?;
-        self.close()
+    fn open_type(&mut self, kind: &[u8], named: &TypeName) {
+        self.open(kind);
+        self.open(b"type");
+        self.specifiers(&named.specifiers);
+        self.declarator(&named.declarator);
+        self.close();
     }
 
     #[cycle(shape)]
-    fn operations(&mut self, operations: &[Operation]) -> Result<(), NoMemory> {
+    fn operations(&mut self, operations: &[Operation]) {
         for operation in operations {
-            self.mark(operation.operator.mark())?;
-            self.expr(&operation.operand)?;
+            self.mark(operation.operator.mark());
+            self.expr(&operation.operand);
         }
-        Ok(())
     }
 
     #[cycle(shape)]
-    fn postfixes(&mut self, operations: &[PostfixOperation]) -> Result<(), NoMemory> {
+    fn postfixes(&mut self, operations: &[PostfixOperation]) {
         for operation in operations {
-            self.postfix(operation)?;
+            self.postfix(operation);
         }
-        Ok(())
     }
 
     #[cycle(shape)]
-    fn postfix(&mut self, operation: &PostfixOperation) -> Result<(), NoMemory> {
+    fn postfix(&mut self, operation: &PostfixOperation) {
         match operation {
             PostfixOperation::Index { index, .. } => self.expr_of(b"index", index),
             PostfixOperation::Call { arguments, .. } => self.call(arguments),
@@ -127,11 +125,11 @@ impl Shape {
     }
 
     #[cycle(shape)]
-    fn call(&mut self, arguments: &[Expr]) -> Result<(), NoMemory> {
-        self.open(b"call")?;
+    fn call(&mut self, arguments: &[Expr]) {
+        self.open(b"call");
         for argument in arguments {
-            self.expr(argument)?;
+            self.expr(argument);
         }
-        self.close()
+        self.close();
     }
 }

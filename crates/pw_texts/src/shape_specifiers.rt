@@ -1,21 +1,21 @@
 //! The shapes of specifiers.
 
-use crate::shape::{NoMemory, Shape};
+use crate::shape::Shape;
 use pw_tree::{Enumerator, Keyword, Member, MemberDeclarator, Specifier, Word};
 
 impl Shape {
     /// The specifiers in one list. A typedef name in it is its name alone.
     #[cycle(shape)]
-    pub fn specifiers(&mut self, specifiers: &[Specifier]) -> Result<(), NoMemory> {
-        self.open_list()?;
+    pub fn specifiers(&mut self, specifiers: &[Specifier]) {
+        self.open_list();
         for specifier in specifiers {
-            self.specifier(specifier)?;
+            self.specifier(specifier);
         }
-        self.close()
+        self.close();
     }
 
     #[cycle(shape)]
-    fn specifier(&mut self, specifier: &Specifier) -> Result<(), NoMemory> {
+    fn specifier(&mut self, specifier: &Specifier) {
         match specifier {
             Specifier::Storage { class, .. } => self.keyword(class.keyword()),
             Specifier::Qualifier { qualifier, .. } => self.keyword(qualifier.keyword()),
@@ -28,9 +28,9 @@ impl Shape {
                 members,
                 ..
             } => {
-                self.open_tagged(kind.keyword(), tag)?;
-                self.members(members)?;
-                self.close()
+                self.open_tagged(kind.keyword(), tag);
+                self.members(members);
+                self.close();
             }
             Specifier::EnumTag { tag, .. } => self.word_of(Keyword::Enum.text(), tag),
             Specifier::Enum {
@@ -38,16 +38,16 @@ impl Shape {
                 enumerators,
                 ..
             } => {
-                self.open_tagged(Keyword::Enum, tag)?;
-                self.enumerators(enumerators)?;
-                self.close()
+                self.open_tagged(Keyword::Enum, tag);
+                self.enumerators(enumerators);
+                self.close();
             }
         }
     }
 
     /// The beginning of a node with a keyword and a tag where it has one.
-    fn open_tagged(&mut self, keyword: Keyword, tag: &Option<Word>) -> Result<(), NoMemory> {
-        self.open(keyword.text())?;
+    fn open_tagged(&mut self, keyword: Keyword, tag: &Option<Word>) {
+        self.open(keyword.text());
         match tag {
             Some(tag) => self.word(tag),
             None => self.absent(),
@@ -55,25 +55,24 @@ impl Shape {
     }
 
     #[cycle(shape)]
-    fn members(&mut self, members: &[Member]) -> Result<(), NoMemory> {
+    fn members(&mut self, members: &[Member]) {
         for member in members {
-            self.member(member)?;
+            self.member(member);
         }
-        Ok(())
     }
 
     #[cycle(shape)]
-    fn member(&mut self, member: &Member) -> Result<(), NoMemory> {
-        self.open(b"member")?;
-        self.specifiers(&member.specifiers)?;
+    fn member(&mut self, member: &Member) {
+        self.open(b"member");
+        self.specifiers(&member.specifiers);
         for declarator in &member.declarators {
-            self.member_declarator(declarator)?;
+            self.member_declarator(declarator);
         }
-        self.close()
+        self.close();
     }
 
     #[cycle(shape)]
-    fn member_declarator(&mut self, declarator: &MemberDeclarator) -> Result<(), NoMemory> {
+    fn member_declarator(&mut self, declarator: &MemberDeclarator) {
         match declarator {
             MemberDeclarator::Plain(declarator) => self.declarator(declarator),
             MemberDeclarator::BitField {
@@ -81,33 +80,32 @@ impl Shape {
                 width,
                 ..
             } => {
-                self.open(b"bits")?;
-                self.declarator(declarator)?;
-                self.expr(width)?;
-                self.close()
+                self.open(b"bits");
+                self.declarator(declarator);
+                self.expr(width);
+                self.close();
             }
             MemberDeclarator::Padding { width, .. } => self.expr_of(b"padding", width),
         }
     }
 
     #[cycle(shape)]
-    fn enumerators(&mut self, enumerators: &[Enumerator]) -> Result<(), NoMemory> {
+    fn enumerators(&mut self, enumerators: &[Enumerator]) {
         for enumerator in enumerators {
-            self.enumerator(enumerator)?;
+            self.enumerator(enumerator);
         }
-        Ok(())
     }
 
     #[cycle(shape)]
-    fn enumerator(&mut self, enumerator: &Enumerator) -> Result<(), NoMemory> {
-        self.open(b"enumerator")?;
+    fn enumerator(&mut self, enumerator: &Enumerator) {
+        self.open(b"enumerator");
         match enumerator {
-            Enumerator::Plain(name) => self.word(name)?,
+            Enumerator::Plain(name) => self.word(name),
             Enumerator::Valued { name, value } => {
-                self.word(name)?;
-                self.expr(value)?;
+                self.word(name);
+                self.expr(value);
             }
         }
-        self.close()
+        self.close();
     }
 }
