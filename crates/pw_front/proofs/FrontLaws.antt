@@ -20,6 +20,10 @@ use Rattle.pw_parse.specs.declared.parser.ParseFault.TheVariants.{TooDeep, Synta
 use Rattle.pw_front.specs.First.{IsFirst}
 use Rattle.pw_front.specs.Lexed.{LexAnswer, lexed}
 use Rattle.pw_front.specs.Fronts.{Front, Fronts, HoldsNoWant, IsSupported, IsShallow, IsUnsupportedAt, IsTooDeepAt, IsSyntaxAt, HasTree, has_feature, is_deep, with_feature, first_feature, by_parsing, by_feature, by_lexing, front_of}
+use Rattle.pw_front.specs.Gives.{FrontsAs, Gives}
+use Rattle.pw_front.specs.declared.refusal.FrontError.{FrontError}
+use Rattle.pw_front.specs.declared.refusal.FrontError.TheVariants.{Refused}
+use Rattle.pw_front.specs.declared.refusal.FrontError.TheVariants as error
 use Rattle.pw_front.specs.declared.refusal.Refusal.{Refusal}
 use Rattle.pw_front.specs.declared.refusal.Refusal.TheVariants.{Lex, Unsupported, Parse}
 use Rattle.pw_front.proofs.FirstLaws.{none-passes, none-found, first-passes, first-found, first-there}
@@ -141,3 +145,16 @@ pub no-want : (text : List ℕ) (refusal : Refusal) → Fronts text (Err refusal
 no-want text (Lex lex.NoMemory) h = absurd h
 no-want text (Parse NoMemory) h = absurd h
 no-want text _ h = tt
+
+-- ---- what a call gives
+
+pub fronts-as : {V : Type 0} (view : V → Module) (text : List ℕ) (result : Result V FrontError) → Gives view (front_of text) result → FrontsAs view text result
+fronts-as view text (Ok v) e = subst (Fronts text) e (front-fronts text)
+fronts-as view text (Err (Refused refusal)) e = subst (Fronts text) e (front-fronts text)
+fronts-as view text (Err error.NoMemory) e = tt
+
+pub only-answer : {V : Type 0} (view : V → Module) (text : List ℕ) (result : Result V FrontError) → Gives view (front_of text) result
+    → (answer : Front) → Fronts text answer → Gives view answer result
+only-answer view text (Ok v) e answer h = front-only text answer h ∙ e
+only-answer view text (Err (Refused refusal)) e answer h = front-only text answer h ∙ e
+only-answer view text (Err error.NoMemory) e answer h = tt

@@ -1,11 +1,11 @@
 -- What a call of the front gives.
-use Rattle.std.specs.Prelude.{◌≡◌, Result, Ok, Err}
+use Rattle.std.specs.Prelude.{◌≡◌, ℕ, List, Result, Ok, Err}
 use Rattle.pw_parse.specs.declared.parser.ParseFault.{ParseFault}
 use Rattle.pw_parse.specs.declared.parser.ParseFault.TheVariants as parse
 use Rattle.pw_token.specs.declared.token.LexFault.{LexFault}
 use Rattle.pw_token.specs.declared.token.LexFault.TheVariants as lex
 use Rattle.pw_tree.specs.Trees.{Module}
-use Rattle.pw_front.specs.Fronts.{Front}
+use Rattle.pw_front.specs.Fronts.{Front, Fronts}
 use Rattle.pw_front.specs.declared.refusal.FrontError.{FrontError}
 use Rattle.pw_front.specs.declared.refusal.FrontError.TheVariants.{Refused, NoMemory}
 use Rattle.pw_front.specs.declared.refusal.Refusal.TheVariants.{Lex, Parse}
@@ -28,3 +28,9 @@ abbrev pub Gives : {V : Type 0} → (V → Module) → Front → Result V FrontE
 Gives view answer (Ok v) = answer ≡ Ok (view v)
 Gives view answer (Err (Refused refusal)) = answer ≡ Err refusal
 Gives view answer (Err NoMemory) = Unit {0}
+
+-- what a call gave, seen by view, is the text's answer, or memory ran out
+abbrev pub FrontsAs : {V : Type 0} → (V → Module) → List ℕ → Result V FrontError → Type 0
+FrontsAs view text (Ok v) = Fronts text (Ok (view v))
+FrontsAs view text (Err (Refused refusal)) = Fronts text (Err refusal)
+FrontsAs view text (Err NoMemory) = Unit {0}

@@ -11,6 +11,3 @@ pub use laws::{front_is_exact, lexed_is_exact};
 pub use module::front;
 pub use place::refusal_line;
 pub use refusal::{FrontError, Refusal};
-
-#[cfg(test)]
-mod tests;

@@ -1,8 +1,8 @@
 //! The front: from the text of a module to its syntax tree.
 
-ghost use Rattle.std.specs.Prelude.{Ok};
-ghost use Rattle.pw_front.specs.Fronts.{by_lexing, front_of};
-ghost use Rattle.pw_front.specs.Gives.{Gives};
+ghost use Rattle.std.specs.Prelude.{◌≡◌, Ok};
+ghost use Rattle.pw_front.specs.Fronts.{Front, Fronts, by_lexing, front_of};
+ghost use Rattle.pw_front.specs.Gives.{FrontsAs, Gives};
 ghost use Rattle.pw_token.specs.Tokenization.{IsLexed};
 ghost use Rattle.pw_tree.specs.Views.{view_module};
 
@@ -23,6 +23,14 @@ fn tree_of(alloc: Global, text: &[u8], tokens: &[Token]) -> Result<Module, Front
     Ok(parse(alloc, text, tokens)?)
 }
 
+/// The syntax tree of a text, or why it has none.
+fn fronted(alloc: Global, text: &[u8]) -> Result<Module, FrontError>
+    ensures { Gives view_module (front_of text.now) result }
+{
+    let tokens = lex(alloc, text)?;
+    tree_of(alloc, text, tokens.as_slice())
+}
+
 /// The syntax tree of a text, which is tested for lexing, for tokens that are left out, for depth and for syntax, in
 /// this order.
 ///
@@ -30,8 +38,17 @@ fn tree_of(alloc: Global, text: &[u8], tokens: &[Token]) -> Result<Module, Front
 ///
 /// `Refused` with what the first of these tests finds, or `NoMemory`.
 pub fn front(alloc: Global, text: &[u8]) -> Result<Module, FrontError>
-    ensures { Gives view_module (front_of text.now) result }
+    // The answer as a function of the text, unless memory ran out.
+    ensures function { Gives view_module (front_of text.now) result }
+
+    // In the words of the text: the tree that it has, or the refusal that it has.
+    ensures fronts { FrontsAs view_module text.now result }
+
+    // The answer that a text has, that is given, unless memory ran out.
+    ensures only { (answer : Front) → Fronts text.now answer → Gives view_module answer result }
+
+    // A text has no other answer.
+    ensures one { (answer other : Front) → Fronts text.now answer → Fronts text.now other → answer ≡ other }
 {
-    let tokens = lex(alloc, text)?;
-    tree_of(alloc, text, tokens.as_slice())
+    fronted(alloc, text)
 }
