@@ -1,3 +1,4 @@
 pub mod Views
 pub mod Branches
+pub mod Closed
 pub mod Heads

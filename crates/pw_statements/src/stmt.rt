@@ -5,7 +5,7 @@ ghost use Rattle.pw_statements.specs.Branches.{branch_turn, view_alternatives};
 ghost use Rattle.pw_cursor.specs.Reads.{Reads};
 ghost use Rattle.pw_grammar.specs.Declarations as decls;
 ghost use Rattle.pw_grammar.specs.Statements as spec;
-ghost use Rattle.pw_parts.specs.Closed.{closed};
+ghost use Rattle.pw_statements.specs.Closed.{closed};
 ghost use Rattle.pw_parts.specs.Views.{view_boxed};
 ghost use Rattle.pw_statements.specs.Heads.{for_head, view_for_head};
 ghost use Rattle.pw_statements.specs.Views.{before_label, before_stmt, else_if_first, view_boxed_stmt, view_label_list, view_optional_box, view_stmt_list};
@@ -18,7 +18,7 @@ use pw_tree::{Block, ElseIf, Expr, Keyword, Label, Lexeme, Mark, Stmt};
 use std::alloc::Global;
 
 /// An expression of a level, or one that binds more tightly, with a mark behind it.
-#[tactic(auto, unfolding(pw_parts::specs::Closed::closed))]
+#[tactic(auto, unfolding(crate::specs::Closed::closed))]
 fn closed_expr<'a, P: StmtParts<'a>>(
     alloc: Global,
     parts: &P,
@@ -219,7 +219,7 @@ fn return_stmt<'a, P: StmtParts<'a>>(
 }
 
 /// An expression in parentheses.
-#[tactic(auto, unfolding(pw_grammar::specs::Statements::condition, pw_parts::specs::Closed::closed))]
+#[tactic(auto, unfolding(pw_grammar::specs::Statements::condition, crate::specs::Closed::closed))]
 fn condition<'a, P: StmtParts<'a>>(
     alloc: Global,
     parts: &P,
