@@ -15,7 +15,7 @@ use pw_cursor::{
     qualifier_word,
 };
 use pw_grammar::Place;
-use pw_parts::{Declared, SmallerParts, closed_expr, declare_name, some_specifiers};
+use pw_parts::{Declared, SmallerParts, declare_name, some_specifiers};
 use pw_tree::{Core, Declarator, Lexeme, Mark, Parameter, Pointer, Qualifier, Suffix, Word};
 use std::alloc::Global;
 
@@ -250,7 +250,8 @@ fn array<'a, P: SmallerParts<'a>>(
             bindings: Vec::new(alloc),
         });
     }
-    let length = closed_expr(alloc, parts, tokens, CONDITIONAL, Mark::CloseBracket)?;
+    let length = parts.expr(alloc, tokens, CONDITIONAL)?;
+    tokens.expect(Mark::CloseBracket)?;
     Ok(Suffixed {
         suffix: Suffix::Array { token, length },
         bindings: Vec::new(alloc),

@@ -13,7 +13,7 @@ use pw_cursor::{
     operand_level, operator_at, prefix_operator,
 };
 use pw_grammar::Place;
-use pw_parts::{SmallerParts, boxed_expr, closed_expr, some_specifiers};
+use pw_parts::{SmallerParts, boxed_expr, some_specifiers};
 use pw_tree::{
     Access, AssignOperator, Expr, Keyword, Lexeme, Mark, Operation, PostfixOperation, StepOperator,
     TypeName, UnaryOperator, Word,
@@ -231,7 +231,8 @@ fn index<'a, P: SmallerParts<'a>>(
     ensures { Reads view_postfix (spec.index (P.parsers parts.now) tokens.old) result tokens.new }
 {
     let token = tokens.take_number();
-    let index = closed_expr(alloc, parts, tokens, COMMA, Mark::CloseBracket)?;
+    let index = parts.expr(alloc, tokens, COMMA)?;
+    tokens.expect(Mark::CloseBracket)?;
     Ok(PostfixOperation::Index { token, index })
 }
 

@@ -1,4 +1,3 @@
 pub mod Loops
 pub mod Shown
-pub mod Closed
 pub mod Turns

@@ -6,4 +6,4 @@ mod declared;
 mod smaller;
 
 pub use declared::{Declared, declare_name};
-pub use smaller::{SmallerParts, boxed_expr, closed_expr, some_specifiers};
+pub use smaller::{SmallerParts, boxed_expr, some_specifiers};

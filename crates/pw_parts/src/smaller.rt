@@ -3,14 +3,13 @@
 ghost use Rattle.pw_grammar.specs.Expressions as spec;
 ghost use Rattle.pw_grammar.specs.Parts.{Parts};
 ghost use Rattle.pw_cursor.specs.Reads.{Reads};
-ghost use Rattle.pw_parts.specs.Closed.{closed};
 ghost use Rattle.pw_parts.specs.Views.{view_boxed, view_declared, view_specifier_list};
 ghost use Rattle.pw_tree.specs.Views.{view_expr};
 
 use crate::declared::Declared;
 use pw_cursor::{Stop, Tokens};
 use pw_grammar::Place;
-use pw_tree::{Expr, Mark, Specifier};
+use pw_tree::{Expr, Specifier};
 use std::alloc::Global;
 
 /// Reads expressions, specifiers and declarators within a larger one.
@@ -78,21 +77,4 @@ pub fn boxed_expr<'a, P: SmallerParts<'a>>(
 {
     let expr = parts.expr(alloc, tokens, level)?;
     Ok(Box::new(alloc, expr)?)
-}
-
-/// An expression of a level, or one that binds more tightly, with a mark behind it.
-#[tactic(auto, unfolding(crate::specs::Closed::closed))]
-pub fn closed_expr<'a, P: SmallerParts<'a>>(
-    alloc: Global,
-    parts: &P,
-    tokens: &mut Tokens<'a>,
-    level: u8,
-    end: Mark,
-) -> Result<Expr, Stop>
-    requires { P.can_read parts.now }
-    ensures { Reads view_expr (closed ((P.parsers parts.now).expr level) end tokens.old) result tokens.new }
-{
-    let expr = parts.expr(alloc, tokens, level)?;
-    tokens.expect(end)?;
-    Ok(expr)
 }

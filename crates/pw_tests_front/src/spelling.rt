@@ -1,9 +1,10 @@
 //! Texts whose trees are spelled out again: each form of a tree stands in one of them. The table of `pw_texts` has the
 //! shapes of such trees.
 
+use crate::modules::{CALCULATOR, are_tokens};
 use pw_parse::parse;
-use pw_spell::{Spelled, spell};
-use pw_token::{Token, lex};
+use pw_spell::spell;
+use pw_token::lex;
 use std::test::Fail;
 
 /// Texts of every form: declarations and initializers, expressions, specifiers and declarators, statements.
@@ -14,19 +15,21 @@ const TEXTS: [&[u8]; 4] = [
     b"f ( ) { l : case 1 : default : if ( a ) ; else if ( b ) break ; else continue ; { int ; switch ( a ) ; while ( a ) ; do ; while ( a ) ; for ( a ; ; b ) ; } goto l ; return 0 ; return ; }",
 ];
 
-/// Whether these are the tokens of the text, in its order.
-fn are_tokens(text: &[u8], tokens: &[Token], spelled: &[Spelled]) -> bool {
-    let spells = |(token, word): (&Token, &Spelled)| {
-        let bytes = text.iter().skip(token.at).take(token.len);
-        token.kind == word.kind && bytes.eq(word.text.iter())
-    };
-    tokens.len() == spelled.len() && tokens.iter().zip(spelled).all(spells)
-}
-
 #[test]
 fn trees_are_spelled_as_they_were_read(rt: HostRuntime) -> Result<(), Fail> {
     let alloc = rt.alloc();
     for text in TEXTS {
+        let tokens = lex(alloc, text)?;
+        let spelled = spell(alloc, &parse(alloc, text, &tokens)?)?;
+        assert!(rt; are_tokens(text, &tokens, &spelled), "in {text:?}");
+    }
+    Ok(())
+}
+
+#[test]
+fn modules_round_trip(rt: HostRuntime) -> Result<(), Fail> {
+    let alloc = rt.alloc();
+    for (text, _) in CALCULATOR {
         let tokens = lex(alloc, text)?;
         let spelled = spell(alloc, &parse(alloc, text, &tokens)?)?;
         assert!(rt; are_tokens(text, &tokens, &spelled), "in {text:?}");

@@ -1,9 +1,8 @@
 //! Modules, and the token at which a text leaves the grammar.
 
-use crate::modules::{CALCULATOR, Parts, text_of};
+use crate::modules::{Parts, text_of};
 use pw_parse::{ParseFault, parse};
-use pw_spell::{Spelled, spell};
-use pw_token::{LexFault, Token, lex};
+use pw_token::{LexFault, lex};
 use std::alloc::Global;
 use std::test::Fail;
 
@@ -108,26 +107,6 @@ fn texts_are_not_nested_too_deep(rt: HostRuntime) -> Result<(), Fail> {
     for (parts, wanted) in DEEP {
         let text = text_of(rt.alloc(), parts)?;
         assert_eq!(rt; fault_of(rt.alloc(), &text)?, wanted, "in {parts:?}");
-    }
-    Ok(())
-}
-
-/// Whether these are the tokens of the text, in its order.
-fn are_tokens(text: &[u8], tokens: &[Token], spelled: &[Spelled]) -> bool {
-    let spells = |(token, word): (&Token, &Spelled)| {
-        let bytes = text.iter().skip(token.at).take(token.len);
-        token.kind == word.kind && bytes.eq(word.text.iter())
-    };
-    tokens.len() == spelled.len() && tokens.iter().zip(spelled).all(spells)
-}
-
-#[test]
-fn modules_round_trip(rt: HostRuntime) -> Result<(), Fail> {
-    let alloc = rt.alloc();
-    for (text, _) in CALCULATOR {
-        let tokens = lex(alloc, text)?;
-        let spelled = spell(alloc, &parse(alloc, text, &tokens)?)?;
-        assert!(rt; are_tokens(text, &tokens, &spelled), "in {text:?}");
     }
     Ok(())
 }
