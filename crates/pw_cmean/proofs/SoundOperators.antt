@@ -109,7 +109,7 @@ abbrev pub IsSmall : Value → Type 0
 IsSmall (V.Num n) = n < 2 ^ 32
 IsSmall _ = Unit {0}
 
-small-pointer : (v : Value) → IsPointer v → IsSmall v
+pub small-pointer : (v : Value) → IsPointer v → IsSmall v
 small-pointer V.Undefined h = tt
 small-pointer (V.Num n) h = absurd h
 small-pointer V.Null h = tt
@@ -135,7 +135,7 @@ outcome_of-s at (Err Overflow) h = undefined-s IsWord at _
 outcome_of-s at (Err ZeroDivisor) h = undefined-s IsWord at _
 outcome_of-s at (Err ShiftCount) h = undefined-s IsWord at _
 
-on_numbers-s : (at : Site) (op : BinaryOperator) (k : IntKind) (v w : Value) → IsSmall v → IsSmall w → Sound IsWord (on_numbers at op k v w)
+pub on_numbers-s : (at : Site) (op : BinaryOperator) (k : IntKind) (v w : Value) → IsSmall v → IsSmall w → Sound IsWord (on_numbers at op k v w)
 unfolding on_numbers
 on_numbers-s at op k (V.Num a) (V.Num b) h h' = outcome_of-s at _ (arithmetic-word op _ a b h h')
 on_numbers-s at op k _ _ h h' = wrong-s IsWord
@@ -252,7 +252,7 @@ on_pointers-s at rs q O.Equal v w = compared-s at _ v w
 on_pointers-s at rs q O.NotEqual v w = compared-s at _ v w
 on_pointers-s at rs q _ v w = wrong-s IsWord
 
-pointer_and_number-s : (at : Site) (rs : List RecordValue) (q : QType) (op : BinaryOperator) (p : Value) (k : IntKind) (v : Value) → Sound IsPointer (pointer_and_number at rs q op p k v)
+pub pointer_and_number-s : (at : Site) (rs : List RecordValue) (q : QType) (op : BinaryOperator) (p : Value) (k : IntKind) (v : Value) → Sound IsPointer (pointer_and_number at rs q op p k v)
 unfolding pointer_and_number
 pointer_and_number-s at rs q O.Add p k v = advance_elements-s at rs q _ p k v
 pointer_and_number-s at rs q O.Subtract p k v = advance_elements-s at rs q _ p k v
