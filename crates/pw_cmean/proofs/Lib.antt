@@ -9,3 +9,4 @@ pub mod WordLaws
 pub mod SoundActs
 pub mod SoundOperators
 pub mod SoundTrees
+pub mod SoundRuns

@@ -179,7 +179,7 @@ unary-s at Plus ty v o h w = weaker (unary_number-s at Plus ty v w) (λ a. word-
 unary-s at Minus ty v o h w = weaker (unary_number-s at Minus ty v w) (λ a. word-value ty a h)
 unary-s at Complement ty v o h w = weaker (unary_number-s at Complement ty v w) (λ a. word-value ty a h)
 
-truth-number : (b : Bool) → IsNumberOf K.Int (V.Num (number_for b))
+pub truth-number : (b : Bool) → IsNumberOf K.Int (V.Num (number_for b))
 truth-number true = refl
 truth-number false = refl
 
@@ -283,7 +283,7 @@ kind_given-promoted O.And k h = h
 kind_given-promoted O.ExclusiveOr k h = h
 kind_given-promoted O.Or k h = h
 
-pointer-value : (ty : CType) (v : Value) → IsPointerType ty → IsPointer v → IsValueOf ty v
+pub pointer-value : (ty : CType) (v : Value) → IsPointerType ty → IsPointer v → IsValueOf ty v
 pointer-value (Pointer q) v h k = k
 pointer-value (Int i) v h k = absurd h
 pointer-value Void v h k = absurd h
