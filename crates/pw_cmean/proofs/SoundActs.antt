@@ -129,9 +129,15 @@ objects_now-s = look-s HoldBytes (λ s. s.objects) (λ s h. h.objects)
 
 pub write-s : (n i : ℕ) (bytes : List Byte) → All IsByte bytes → Sound Any (write n i bytes)
 unfolding write
-write-s n i bytes b = record { run = λ s h. (tt, record {
-  objects = set-bytes s.objects n _ (with_bytes-are bytes i (object_at s.objects n).bytes b (object-bytes s.objects n h.objects)) h.objects;
-  input = h.input }) }
+write-s n i bytes b = record {
+  run = λ s h. (
+    tt,
+    record {
+      objects = set-bytes s.objects n _ (with_bytes-are bytes i (object_at s.objects n).bytes b (object-bytes s.objects n h.objects)) h.objects;
+      input = h.input;
+    },
+  );
+}
 
 read-s : (rest : List ℕ) (s : State) → HoldsBytes s → s.rest ≡ rest → IfGives (λ n. n < 2 ^ 32) (next_byte rest s)
 unfolding next_byte
@@ -165,7 +171,10 @@ ended-s P n (Ends ending s) h = tt
 
 pub with_object-s : {A : Type 0} {P : A → Type 0} (size : ℕ) (w : Bool) {f : ℕ → Act A} → ((n : ℕ) → Sound P (f n)) → Sound P (with_object size w f)
 unfolding with_object make ◌>>=◌ go_on
-with_object-s {A} {P} size w {f} p = record { run = λ s h. ended-s P (length s.objects) (f (length s.objects) _) ((p (length s.objects)).run _ (record {
-  objects = All-append (λ o. All IsByte o.bytes) s.objects _ h.objects
-    (All-cons (λ o. All IsByte o.bytes) _ [] (All-replicate IsByte size B.Undefined tt) (All-nil (λ o. All IsByte o.bytes)));
-  input = h.input })) }
+with_object-s {A} {P} size w {f} p = record {
+  run = λ s h. ended-s P (length s.objects) (f (length s.objects) _) ((p (length s.objects)).run _ (record {
+    objects = All-append (λ o. All IsByte o.bytes) s.objects _ h.objects
+        (All-cons (λ o. All IsByte o.bytes) _ [] (All-replicate IsByte size B.Undefined tt) (All-nil (λ o. All IsByte o.bytes)));
+    input = h.input;
+  }));
+}

@@ -33,7 +33,7 @@ use Rattle.pw_cmean.proofs.SoundActs.{Sound, Any, bind-s, give-s, branch-s, wron
 
 -- ---- accesses
 
-within-s : {A : Type 0} {P : A → Type 0} (v : Value) {f : ℕ → ℕ → Act A} → ((n i : ℕ) → Sound P (f n i)) → Sound P (within v f)
+pub within-s : {A : Type 0} {P : A → Type 0} (v : Value) {f : ℕ → ℕ → Act A} → ((n i : ℕ) → Sound P (f n i)) → Sound P (within v f)
 unfolding within
 within-s (V.At (Ptr.Object n i)) p = p n i
 within-s {A} {P} (V.At (Ptr.Function n)) p = wrong-s P
@@ -51,12 +51,12 @@ loaded : (os : List Object) (ty : CType) (n i : ℕ) → IsScalar ty → HoldByt
     → IsValueOf ty (value_in ty (bytes_from (width_of ty) i (object_at os n).bytes))
 loaded os (Int k) n i sc h none =
     scalar-of k (bytes_from (size_of_kind k) i (object_at os n).bytes) (length-bytes_from (size_of_kind k) i (object_at os n).bytes)
-      (bytes_from-are (size_of_kind k) i (object_at os n).bytes (object-bytes os n h))
-      (second-of (is_inside (size_of_kind k) i (object_at os n).bytes) _ none.1.1.0 none.1.0)
+    (bytes_from-are (size_of_kind k) i (object_at os n).bytes (object-bytes os n h))
+    (second-of (is_inside (size_of_kind k) i (object_at os n).bytes) _ none.1.1.0 none.1.0)
 loaded os (Pointer q) n i sc h none =
     let bytes : List Byte = (object_at os n).bytes in
     pointer-of (byte_at bytes i) (byte_at bytes (suc i)) (byte_at bytes (suc (suc i))) (byte_at bytes (suc (suc (suc i))))
-      (second-of (is_inside 4 i bytes) _ none.1.1.0 none.1.0)
+    (second-of (is_inside 4 i bytes) _ none.1.1.0 none.1.0)
 loaded os Void n i sc h none = absurd sc
 loaded os (Array q c) n i sc h none = absurd sc
 loaded os (FunctionType q ps) n i sc h none = absurd sc

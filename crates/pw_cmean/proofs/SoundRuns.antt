@@ -1,6 +1,6 @@
 -- Every expression gives a value of its type, every function a result of its own.
 use Rattle.std.proofs.Common.{ℕ, zero, suc, ◌+◌, ◌≤◌, ◌≡◌, ◌≢◌, refl, sym, ap, subst, ◌∙◌, arith, Bool, true, false, not, List, [], ◌∷◌, ◌++◌, length, Option, Some, None}
-use Rattle.std.specs.Prelude.{pos}
+use Rattle.std.specs.Prelude.{pos, All}
 use Rattle.pw_value.specs.declared.value.Value.{Value}
 use Rattle.pw_value.specs.declared.value.Value.TheVariants as V
 use Rattle.pw_value.specs.Objects.{object_at}
@@ -12,11 +12,13 @@ use Rattle.pw_types.specs.TypedTrees.{Symbol, Hidden, Expression, Node, Form, Nu
 use Rattle.pw_cmean.specs.Worlds.{Program, World, Callable, Body, Defined, Library, full_name, function_named}
 use Rattle.pw_cmean.specs.Acts.{Act, State, Site, Bound, give, stop, ◌>>=◌, ◌>>◌, branch, wrong}
 use Rattle.pw_cmean.specs.Operators.{number_for}
-use Rattle.pw_cmean.specs.Evaluation.{Env, Calls as CallList, site, used, answer_of, place_of, values_of}
-use Rattle.pw_cmean.specs.Typed.{IsPointer, IsValueOf, IsResultOf, CanUpdate, IsScalar, result_letter, IsTyped, AreTyped}
-use Rattle.pw_cmean.proofs.SoundActs.{Sound, Any, bind-s, give-s, stop-s, branch-s, wrong-s, need-s}
-use Rattle.pw_cmean.proofs.SoundOperators.{weaker, truth-s, truth-number, unary-s, not-s, binary-s, advance-s, small-value, put-s, pointer-value}
-use Rattle.pw_cmean.proofs.SoundTrees.{IsFine, named-typed, letter-result, call-s, call_value-s, used-s, operand-s, symbol_place-s, local_place-s, value_at-s, cast-s, old_value-s, update-s, step-s, assigned-of, pointer-from}
+use Rattle.pw_cmean.specs.Evaluation.{Env, Calls as CallList, Calling, site, used, answer_of, place_of, values_of}
+use Rattle.pw_cmean.specs.Execution.{Entry, Front, At_label, Flow, Normal, Breaks, Continues, Returns, Goes, go_forward, caught, taking_up, after_body, turn, loop, meet_loop, always, value_of, condition, for_condition, drop_value, switch_to, after_switch, labels_among, labels_behind, with_number, with_locals, set_local, initialise, initialise_all, meaning, items, arms, behind_arms}
+use Rattle.pw_cmean.specs.SourceRun.{set_parameters, result_of, outermost, run_body, callee, calls}
+use Rattle.pw_cmean.specs.Typed.{IsPointer, IsValueOf, IsResultOf, CanUpdate, IsScalar, result_letter, IsTyped, AreTyped, IsTypedIfAny, AreTypedInitialisers, IsTypedStatement, AreTypedStatements, AreTypedArms, IsTypedElse, IsTypedBody, IsTypedCallable, IsTypedProgram, IsByte}
+use Rattle.pw_cmean.proofs.SoundActs.{Sound, Any, bind-s, give-s, stop-s, branch-s, wrong-s, need-s, look-s, write-s, with_object-s, during-s, object-bytes}
+use Rattle.pw_cmean.proofs.SoundOperators.{weaker, truth-s, truth-number, unary-s, not-s, binary-s, advance-s, small-value, put-s, pointer-value, within-s}
+use Rattle.pw_cmean.proofs.SoundTrees.{IsFine, AreSound, IsLetterResult, take_room-s, named-typed, letter-result, call-s, call_value-s, used-s, operand-s, symbol_place-s, local_place-s, value_at-s, cast-s, old_value-s, update-s, step-s, assigned-of, pointer-from}
 
 -- a truth value as a number
 number_for-s : (b : Bool) → Sound (IsResultOf (Int K.Int)) (give (Some (V.Num (number_for b))))
@@ -32,6 +34,7 @@ some-s ty p = bind-s p λ v h. give-s (IsResultOf ty) (Some v) h
 
 mutual
   unfolding answer_of place_of values_of
+
   pub answer-s : (a : Expression) (cs : CallList) (e : Env) → IsTyped e.world.program e.home.name a → IsFine e.world.program cs
       → Sound (IsResultOf (type_of (type_at a))) (answer_of a cs e)
   answer-s (Node t ty (Number n)) cs e w h = give-s (IsResultOf (type_of ty)) _ w
@@ -50,7 +53,7 @@ mutual
   answer-s (Node t ty (Binary op a b)) cs e w h =
       bind-s (operand-s _ (type_of (type_at a)) (answer-s a cs e w.0 h)) λ v i. bind-s (operand-s _ (type_of (type_at b)) (answer-s b cs e w.1 h)) λ x j.
       some-s (type_of ty) (binary-s _ _ op (type_of (type_at a)) (type_of (type_at b)) (type_of ty) v x w.2
-        (small-value (type_of (type_at a)) v i) (small-value (type_of (type_at b)) x j))
+      (small-value (type_of (type_at a)) v i) (small-value (type_of (type_at b)) x j))
   answer-s (Node t ty (Logic op a b)) cs e w h =
       typed-as (sym w.2) (bind-s (bind-s (operand-s _ _ (answer-s a cs e w.0 h)) λ v i. truth-s _ v) λ x u.
       branch-s _ (number_for-s x) (bind-s (bind-s (operand-s _ _ (answer-s b cs e w.1 h)) λ v i. truth-s _ v) λ y u. number_for-s y))
@@ -82,7 +85,7 @@ mutual
       bind-s (values-s args t cs e w.0 h) λ vs u.
       bind-s (need-s (λ f. function_named e.world.program (full_name e.home.name s) ≡ Some f) _ λ f same. same) λ f same.
       weaker (call-s e.world.program e.world cs f vs (named-typed e.world.program (full_name e.home.name s) f h.program same) h.calls)
-        λ r k. letter-result (result_letter f.shape) (type_of ty) r (w.1 f same) k
+      λ r k. letter-result (result_letter f.shape) (type_of ty) r (w.1 f same) k
   answer-s (Node t ty (CallValue a args)) cs e w h =
       bind-s (operand-s _ (type_of (type_at a)) (answer-s a cs e w.0 h)) λ p i. bind-s (values-s args t cs e w.1 h) λ vs u.
       call_value-s e cs t (type_of (type_at a)) (type_of ty) p vs w.2 h
@@ -107,3 +110,245 @@ mutual
   values-s NoExpression t cs e w h = give-s Any [] tt
   values-s (OneExpression a rest) t cs e w h =
       bind-s (operand-s _ (type_of (type_at a)) (answer-s a cs e w.0 h)) λ v i. bind-s (values-s rest t cs e w.1 h) λ vs u. give-s Any _ tt
+
+-- ---- statements
+
+-- what comes of a statement of a function whose result has a letter
+abbrev pub IsFlow : ℕ → Flow → Type 0
+IsFlow letter (Returns r) = IsLetterResult letter r
+IsFlow letter _ = Unit {0}
+
+value-s : (a : Expression) (cs : CallList) (e : Env) → IsTyped e.world.program e.home.name a → IsFine e.world.program cs → Sound (IsValueOf (type_of (type_at a))) (value_of a cs e)
+unfolding value_of
+value-s a cs e w h = operand-s _ (type_of (type_at a)) (answer-s a cs e w h)
+
+condition-s : (a : Expression) (cs : CallList) (e : Env) → IsTyped e.world.program e.home.name a → IsFine e.world.program cs → Sound Any (condition a cs e)
+unfolding condition
+condition-s a cs e w h = bind-s (value-s a cs e w h) λ v i. truth-s _ v
+
+for_condition-s : (o : Option Expression) (cs : CallList) (e : Env) → IsTypedIfAny e.world.program e.home.name o → IsFine e.world.program cs → Sound Any (for_condition o cs e)
+unfolding for_condition
+for_condition-s None cs e w h = give-s Any true tt
+for_condition-s (Some a) cs e w h = condition-s a cs e w h
+
+drop_value-s : (o : Option Expression) (cs : CallList) (e : Env) → IsTypedIfAny e.world.program e.home.name o → IsFine e.world.program cs → Sound Any (drop_value o cs e)
+unfolding drop_value
+drop_value-s None cs e w h = give-s Any tt tt
+drop_value-s (Some a) cs e w h = bind-s (answer-s a cs e w h) λ o i. give-s Any tt tt
+
+always-s : (cs : CallList) → Sound Any (always cs)
+unfolding always
+always-s cs = give-s Any true tt
+
+go_forward-s : (letter : ℕ) (labels : List ℕ) {later : Entry → Act Flow} {next : Act Flow} (flow : Flow) → IsFlow letter flow
+    → ((at : Entry) → Sound (IsFlow letter) (later at)) → Sound (IsFlow letter) next → Sound (IsFlow letter) (go_forward labels later next flow)
+unfolding go_forward
+go_forward-s letter labels Normal f p q = q
+go_forward-s letter labels Breaks f p q = give-s (IsFlow letter) Breaks tt
+go_forward-s letter labels Continues f p q = give-s (IsFlow letter) Continues tt
+go_forward-s letter labels (Returns r) f p q = give-s (IsFlow letter) (Returns r) f
+go_forward-s letter labels (Goes l) f p q = branch-s _ (p (At_label l)) (give-s (IsFlow letter) (Goes l) tt)
+
+caught-s : (letter : ℕ) (labels : List ℕ) {again : ℕ → Act Flow} (flow : Flow) → IsFlow letter flow → ((l : ℕ) → Sound (IsFlow letter) (again l))
+    → Sound (IsFlow letter) (caught labels again flow)
+unfolding caught
+caught-s letter labels Normal f p = give-s (IsFlow letter) Normal tt
+caught-s letter labels Breaks f p = give-s (IsFlow letter) Breaks tt
+caught-s letter labels Continues f p = give-s (IsFlow letter) Continues tt
+caught-s letter labels (Returns r) f p = give-s (IsFlow letter) (Returns r) f
+caught-s letter labels (Goes l) f p = branch-s _ (p l) (give-s (IsFlow letter) (Goes l) tt)
+
+-- a lower bound
+lower-fine : (p : Program) (c : Calling) (cs : CallList) → IsFine p (c ∷ cs) → IsFine p cs
+lower-fine p c cs h = record { program = h.program; calls = h.calls.1 }
+
+taking_up-s : (p : Program) (letter : ℕ) (labels : List ℕ) (run : Entry → CallList → Act Flow) (at : Entry) (cs : CallList) → IsFine p cs
+    → ((at : Entry) (cs : CallList) → IsFine p cs → Sound (IsFlow letter) (run at cs)) → Sound (IsFlow letter) (taking_up labels run at cs)
+unfolding taking_up
+taking_up-s p letter labels run at [] h r = bind-s (r at [] h) λ f i. caught-s letter labels f i λ l. stop-s (IsFlow letter) Bound
+taking_up-s p letter labels run at (c ∷ cs) h r =
+    bind-s (r at (c ∷ cs) h) λ f i. caught-s letter labels f i λ l. taking_up-s p letter labels run (At_label l) cs (lower-fine p c cs h) r
+
+after_body-s : (letter : ℕ) {again : Act Flow} (flow : Flow) → IsFlow letter flow → Sound (IsFlow letter) again → Sound (IsFlow letter) (after_body again flow)
+unfolding after_body
+after_body-s letter Normal f p = p
+after_body-s letter Continues f p = p
+after_body-s letter Breaks f p = give-s (IsFlow letter) Normal tt
+after_body-s letter (Returns r) f p = give-s (IsFlow letter) (Returns r) f
+after_body-s letter (Goes l) f p = give-s (IsFlow letter) (Goes l) tt
+
+record SoundParts (p : Program) (letter : ℕ) (ahead : CallList → Act Bool) (body : Entry → CallList → Act Flow) (behind : CallList → Act Bool) : Type 0 where
+  test : (cs : CallList) → IsFine p cs → Sound Any (ahead cs)
+  middle : (at : Entry) (cs : CallList) → IsFine p cs → Sound (IsFlow letter) (body at cs)
+  last : (cs : CallList) → IsFine p cs → Sound Any (behind cs)
+
+turn-s : (p : Program) (letter : ℕ) (ahead : CallList → Act Bool) (body : Entry → CallList → Act Flow) (behind : CallList → Act Bool) → SoundParts p letter ahead body behind
+    → (at : Entry) (cs : CallList) → IsFine p cs → {top : Act Flow} → Sound (IsFlow letter) top → Sound (IsFlow letter) (turn body behind at cs top)
+unfolding turn
+turn-s p letter ahead body behind parts at cs h q =
+    bind-s (parts.middle at cs h) λ f i. after_body-s letter f i (bind-s (parts.last cs h) λ more u. branch-s more q (give-s (IsFlow letter) Normal tt))
+
+loop-s : (p : Program) (letter : ℕ) (ahead : CallList → Act Bool) (body : Entry → CallList → Act Flow) (behind : CallList → Act Bool) → SoundParts p letter ahead body behind
+    → (cs : CallList) → IsFine p cs → Sound (IsFlow letter) (loop ahead body behind cs)
+unfolding loop
+loop-s p letter ahead body behind parts [] h =
+    bind-s (parts.test [] h) λ more u. branch-s more (turn-s p letter ahead body behind parts Front [] h (stop-s (IsFlow letter) Bound)) (give-s (IsFlow letter) Normal tt)
+loop-s p letter ahead body behind parts (c ∷ cs) h =
+    bind-s (parts.test (c ∷ cs) h) λ more u.
+    branch-s more (turn-s p letter ahead body behind parts Front (c ∷ cs) h (loop-s p letter ahead body behind parts cs (lower-fine p c cs h))) (give-s (IsFlow letter) Normal tt)
+
+meet_loop-s : (p : Program) (letter : ℕ) (ahead : CallList → Act Bool) (body : Entry → CallList → Act Flow) (behind : CallList → Act Bool) → SoundParts p letter ahead body behind
+    → (at : Entry) (cs : CallList) → IsFine p cs → Sound (IsFlow letter) (meet_loop ahead body behind at cs)
+unfolding meet_loop
+meet_loop-s p letter ahead body behind parts Front cs h = loop-s p letter ahead body behind parts cs h
+meet_loop-s p letter ahead body behind parts (At_label l) [] h = turn-s p letter ahead body behind parts (At_label l) [] h (stop-s (IsFlow letter) Bound)
+meet_loop-s p letter ahead body behind parts (At_label l) (c ∷ cs) h =
+    turn-s p letter ahead body behind parts (At_label l) (c ∷ cs) h (loop-s p letter ahead body behind parts cs (lower-fine p c cs h))
+
+after_switch-s : (letter : ℕ) (flow : Flow) → IsFlow letter flow → Sound (IsFlow letter) (after_switch flow)
+unfolding after_switch
+after_switch-s letter Breaks f = give-s (IsFlow letter) Normal tt
+after_switch-s letter flow f = give-s (IsFlow letter) flow f
+
+switch_to-s : (letter : ℕ) (o : Option ℕ) {body : ℕ → Act Flow} → ((l : ℕ) → Sound (IsFlow letter) (body l)) → Sound (IsFlow letter) (switch_to o body)
+unfolding switch_to
+switch_to-s letter None p = give-s (IsFlow letter) Normal tt
+switch_to-s letter (Some l) p = bind-s (p l) λ f i. after_switch-s letter f i
+
+-- in an environment where other locals have objects
+with_locals-s : {A : Type 0} {P : A → Type 0} (count first : ℕ) (act : Env → Act A) (e : Env)
+    → ((numbers : List (Option ℕ)) → Sound P (act (record e { numbers = numbers }))) → Sound P (with_locals count first act e)
+unfolding with_locals
+with_locals-s zero first act e p = p e.numbers
+with_locals-s {A} {P} (suc count) first act e p =
+    bind-s (need-s Any _ λ l x. tt) λ l u. bind-s (need-s Any _ λ layout x. tt) λ layout u.
+    with_object-s _ _ λ n. with_locals-s count (suc first) act (with_number first n e) p
+
+set_local-s : (a : Site) (k : ℕ) (v : Value) (e : Env) → Sound Any (set_local a k v e)
+unfolding set_local
+set_local-s a k v e = bind-s (need-s Any _ λ l x. tt) λ l u. bind-s (local_place-s e k) λ p i. put-s _ a _ _ p v
+
+initialise-s : (i : Initialiser) (cs : CallList) (e : Env) → AreTypedInitialisers e.world.program e.home.name (i ∷ []) → IsFine e.world.program cs → Sound Any (initialise i cs e)
+unfolding initialise
+initialise-s (ByValue k a) cs e w h = bind-s (value-s a cs e w.0 h) λ v i. set_local-s _ k v e
+initialise-s (ByBytes k hidden parts) cs e w h =
+    bind-s (symbol_place-s e _) λ source i. bind-s (local_place-s e k) λ p j.
+    within-s source λ from x. within-s p λ to y.
+    bind-s (look-s (All IsByte) (λ s. (object_at s.objects from).bytes) (λ s held. object-bytes s.objects from held.objects)) λ bytes are. write-s to y bytes are
+
+initialise_all-s : (is : List Initialiser) (at : Entry) (cs : CallList) (e : Env) → AreTypedInitialisers e.world.program e.home.name is → IsFine e.world.program cs
+    → Sound Any (initialise_all is at cs e)
+unfolding initialise_all
+initialise_all-s [] at cs e w h = give-s Any tt tt
+initialise_all-s (ByValue k a ∷ rest) Front cs e w h = bind-s (initialise-s (ByValue k a) cs e (w.0, tt) h) λ u x. initialise_all-s rest Front cs e w.1 h
+initialise_all-s (ByBytes k hidden parts ∷ rest) Front cs e w h = bind-s (initialise-s (ByBytes k hidden parts) cs e tt h) λ u x. initialise_all-s rest Front cs e w h
+initialise_all-s (i ∷ rest) (At_label l) cs e w h = give-s Any tt tt
+
+mutual
+  unfolding meaning items arms behind_arms
+
+  pub meaning-s : (s : Statement) (letter : ℕ) (at : Entry) (cs : CallList) (e : Env) → IsTypedStatement e.world.program e.home.name letter s → IsFine e.world.program cs
+      → Sound (IsFlow letter) (meaning s at cs e)
+  meaning-s (Empty t) letter at cs e w h = give-s (IsFlow letter) Normal tt
+  meaning-s (Evaluate t a) letter at cs e w h = bind-s (answer-s a cs e w h) λ o i. give-s (IsFlow letter) Normal tt
+  meaning-s (Block t first count initialisers list) letter at cs e w h =
+      with_locals-s count first _ e λ numbers.
+      bind-s (initialise_all-s initialisers at cs (record e { numbers = numbers }) w.0 h) λ u x.
+      taking_up-s e.world.program letter (labels_among list) (λ at' ds. items list at' ds (record e { numbers = numbers })) at cs h
+      λ at' ds k. items-s list letter at' ds (record e { numbers = numbers }) w.1 k
+  meaning-s (If t list otherwise) letter at cs e w h =
+      taking_up-s e.world.program letter _ (λ at' ds. arms list (labels_behind otherwise) (λ last. behind_arms otherwise last ds e) at' ds e) at cs h
+      λ at' ds k. arms-s list letter (labels_behind otherwise) at' ds e w.0 k λ last. behind_arms-s otherwise letter last ds e w.1 k
+  meaning-s (While t c body) letter at cs e w h =
+      meet_loop-s e.world.program letter (λ ds. condition c ds e) (λ at' ds. meaning body at' ds e) always (record {
+        test = λ ds k. condition-s c ds e w.0 k;
+        middle = λ at' ds k. meaning-s body letter at' ds e w.1 k;
+        last = λ ds k. always-s ds;
+      }) at cs h
+  meaning-s (Do t body c) letter at cs e w h =
+      meet_loop-s e.world.program letter always (λ at' ds. meaning body at' ds e) (λ ds. condition c ds e) (record {
+        test = λ ds k. always-s ds;
+        middle = λ at' ds k. meaning-s body letter at' ds e w.0 k;
+        last = λ ds k. condition-s c ds e w.1 k;
+      }) at cs h
+  meaning-s (For t first c third body) letter Front cs e w h =
+      bind-s (drop_value-s first cs e w.0 h) λ u x.
+      meet_loop-s e.world.program letter (λ ds. for_condition c ds e) (λ at' ds. meaning body at' ds e) (λ ds. drop_value third ds e >> give true) (record {
+        test = λ ds k. for_condition-s c ds e w.1 k;
+        middle = λ at' ds k. meaning-s body letter at' ds e w.3 k;
+        last = λ ds k. bind-s (drop_value-s third ds e w.2 k) λ u x. give-s Any true tt;
+      }) Front cs h
+  meaning-s (For t first c third body) letter (At_label l) cs e w h =
+      meet_loop-s e.world.program letter (λ ds. for_condition c ds e) (λ at' ds. meaning body at' ds e) (λ ds. drop_value third ds e >> give true) (record {
+        test = λ ds k. for_condition-s c ds e w.1 k;
+        middle = λ at' ds k. meaning-s body letter at' ds e w.3 k;
+        last = λ ds k. bind-s (drop_value-s third ds e w.2 k) λ u x. give-s Any true tt;
+      }) (At_label l) cs h
+  meaning-s (Switch t a cases default body) letter Front cs e w h =
+      bind-s (value-s a cs e w.0 h) λ v i. switch_to-s letter _ λ l. meaning-s body letter (At_label l) cs e w.1 h
+  meaning-s (Switch t a cases default body) letter (At_label l) cs e w h =
+      bind-s (meaning-s body letter (At_label l) cs e w.1 h) λ f i. after_switch-s letter f i
+  meaning-s (Label t labels body) letter at cs e w h =
+      taking_up-s e.world.program letter labels _ at cs h λ at' ds k. meaning-s body letter _ ds e w k
+  meaning-s (Goto t l) letter at cs e w h = give-s (IsFlow letter) (Goes l) tt
+  meaning-s (Break t) letter at cs e w h = give-s (IsFlow letter) Breaks tt
+  meaning-s (Continue t) letter at cs e w h = give-s (IsFlow letter) Continues tt
+  meaning-s (Return t None) letter at cs e w h = give-s (IsFlow letter) (Returns None) tt
+  meaning-s (Return t (Some a)) letter at cs e w h =
+      bind-s (value-s a cs e w.0 h) λ v i. give-s (IsFlow letter) (Returns (Some v)) (type_of (type_at a), w.1, i)
+
+  pub items-s : (ss : Statements) (letter : ℕ) (at : Entry) (cs : CallList) (e : Env) → AreTypedStatements e.world.program e.home.name letter ss → IsFine e.world.program cs
+      → Sound (IsFlow letter) (items ss at cs e)
+  items-s NoStatement letter at cs e w h = give-s (IsFlow letter) Normal tt
+  items-s (OneStatement s rest) letter Front cs e w h =
+      bind-s (meaning-s s letter Front cs e w.0 h) λ f i. go_forward-s letter _ f i (λ at'. items-s rest letter at' cs e w.1 h) (items-s rest letter Front cs e w.1 h)
+  items-s (OneStatement s rest) letter (At_label l) cs e w h = branch-s _
+      (bind-s (meaning-s s letter (At_label l) cs e w.0 h) λ f i. go_forward-s letter _ f i (λ at'. items-s rest letter at' cs e w.1 h) (items-s rest letter Front cs e w.1 h))
+      (items-s rest letter (At_label l) cs e w.1 h)
+
+  pub arms-s : (list : Arms) (letter : ℕ) (labels : List ℕ) {last : Entry → Act Flow} (at : Entry) (cs : CallList) (e : Env) → AreTypedArms e.world.program e.home.name letter list
+      → IsFine e.world.program cs → ((at : Entry) → Sound (IsFlow letter) (last at)) → Sound (IsFlow letter) (arms list labels last at cs e)
+  arms-s NoArm letter labels at cs e w h p = p at
+  arms-s (Arm t c s rest) letter labels Front cs e w h p =
+      bind-s (condition-s c cs e w.0 h) λ x u. branch-s x
+      (bind-s (meaning-s s letter Front cs e w.1 h) λ f i. go_forward-s letter _ f i (λ at'. arms-s rest letter labels at' cs e w.2 h p) (give-s (IsFlow letter) Normal tt))
+      (arms-s rest letter labels Front cs e w.2 h p)
+  arms-s (Arm t c s rest) letter labels (At_label l) cs e w h p = branch-s _
+      (bind-s (meaning-s s letter (At_label l) cs e w.1 h) λ f i. go_forward-s letter _ f i (λ at'. arms-s rest letter labels at' cs e w.2 h p) (give-s (IsFlow letter) Normal tt))
+      (arms-s rest letter labels (At_label l) cs e w.2 h p)
+
+  pub behind_arms-s : (o : Otherwise) (letter : ℕ) (at : Entry) (cs : CallList) (e : Env) → IsTypedElse e.world.program e.home.name letter o → IsFine e.world.program cs
+      → Sound (IsFlow letter) (behind_arms o at cs e)
+  behind_arms-s NoElse letter at cs e w h = give-s (IsFlow letter) Normal tt
+  behind_arms-s (Else s) letter at cs e w h = meaning-s s letter at cs e w h
+
+-- ---- calls
+
+set_parameters-s : (a : Site) (k : ℕ) (vs : List Value) (e : Env) → Sound Any (set_parameters a k vs e)
+unfolding set_parameters
+set_parameters-s a k [] e = give-s Any tt tt
+set_parameters-s a k (v ∷ vs) e = bind-s (set_local-s a k v e) λ u x. set_parameters-s a (suc k) vs e
+
+result_of-s : (letter : ℕ) (f : Flow) → IsFlow letter f → Sound (IsLetterResult letter) (result_of f)
+unfolding result_of
+result_of-s letter Normal h = give-s (IsLetterResult letter) None tt
+result_of-s letter (Returns r) h = give-s (IsLetterResult letter) r h
+result_of-s letter Breaks h = wrong-s (IsLetterResult letter)
+result_of-s letter Continues h = wrong-s (IsLetterResult letter)
+result_of-s letter (Goes l) h = wrong-s (IsLetterResult letter)
+
+run_body-s : (w : World) (cs : CallList) (name shape : List ℕ) (b : Body) (vs : List Value) → IsTypedBody w.program shape b → IsFine w.program cs
+    → Sound (IsLetterResult (result_letter shape)) (run_body w cs name b vs)
+unfolding run_body
+run_body-s w cs name shape (Defined home f) vs t h =
+    bind-s (take_room-s w name) λ u x. during-s name (with_locals-s f.params 0 _ (outermost w home f) λ numbers.
+    bind-s (set_parameters-s _ 0 vs (record (outermost w home f) { numbers = numbers })) λ u x.
+    bind-s (meaning-s f.body (result_letter shape) Front cs (record (outermost w home f) { numbers = numbers }) t h) λ flow i. result_of-s (result_letter shape) flow i)
+run_body-s w cs name shape (Library g) vs t h = wrong-s (IsLetterResult (result_letter shape))
+
+pub calls-s : (w : World) (n : ℕ) → IsTypedProgram w.program → IsFine w.program (calls w n)
+unfolding calls callee
+calls-s w zero h = record { program = h; calls = tt }
+calls-s w (suc n) h =
+    let lower : IsFine w.program (calls w n) = calls-s w n h in
+    record { program = h; calls = ((λ f args t. run_body-s w (calls w n) f.name f.shape f.body args t lower), lower.calls) }

@@ -41,6 +41,7 @@ small-rem (negsuc a) z h = small-negated (suc a) _
     small-neg : (m : ℕ) → IsSmall (neg_ℤ (pos m))
     small-neg zero = omega arith
     small-neg (suc m) = tt
+
     small-negated : (n d : ℕ) → IsSmall (neg_ℤ (pos (n % d)))
     small-negated n d = small-neg (n % d)
 
@@ -82,7 +83,7 @@ arithmetic-word Divide true a b h k = divided-word b _ (exact-word (int_div (sig
 arithmetic-word Divide false a b h k = divided-word b (Ok (a / b)) (omega (arith, div-le_self a b))
 arithmetic-word Remainder true a b h k =
     divided-word b _ (if-word _ (Ok (word (int_rem (signed a) (signed b)))) (Err Overflow)
-      (word-below (int_rem (signed a) (signed b)) (small-rem (signed a) (signed b) (small-signed a h))) tt)
+    (word-below (int_rem (signed a) (signed b)) (small-rem (signed a) (signed b) (small-signed a h))) tt)
 arithmetic-word Remainder false a b h k = divided-word b (Ok (a % b)) (omega (arith, mod-le a b))
 arithmetic-word ShiftLeft sign a b h k = shifted-word b _ (omega arith)
 arithmetic-word ShiftRight true a b h k =
