@@ -29,7 +29,7 @@ use Rattle.pw_cmean.specs.Acts.{Act, State, Site, StackFull, Bound, give, stop, 
 use Rattle.pw_cmean.specs.Access.{fetch, load, put}
 use Rattle.pw_cmean.specs.Operators.{binary, convert}
 use Rattle.pw_cmean.specs.Evaluation.{Env, Calls as CallList, records_of, local_place, symbol_place, used, value_by, value_at, cast, bounded_call, take_room, library_call, call_body, call, callee_of, pointed, call_value, assigned, old_value, update, step_type, step_operator, step_result, step}
-use Rattle.pw_cmean.specs.Typed.{IsNumberOf, IsPointer, IsValueOf, IsResultOf, IsScalar, IsPointerType, CanUpdate, CanCast, Calls, result_letter, library_letter, IsTypedBody, IsTypedCallable, IsTypedProgram}
+use Rattle.pw_cmean.specs.Typed.{IsNumberOf, IsPointer, IsValueOf, IsResultOf, IsScalar, IsPointerType, CanUpdate, CanCast, Calls, IsLetterResult, result_letter, library_letter, IsTypedBody, IsTypedCallable, IsTypedProgram}
 use Rattle.pw_cmean.proofs.ValueLaws.{word-of}
 use Rattle.pw_cmean.proofs.SoundActs.{Sound, Any, bind-s, give-s, stop-s, branch-s, wrong-s, need-s, undefined-s, NoneHold, judge-s, look-s, get_char-s, put_char-s}
 use Rattle.pw_cmean.proofs.SoundOperators.{weaker, load-s, put-s, fetch-s, IsWord, IsSmall, small-value, small-pointer, pointer_and_number-s, on_numbers-s, IsInteger, Converts, convert-s}
@@ -90,11 +90,6 @@ same-letter (Pointer p) b v e h = to-pointer b v e h
 same-letter (Array p m) b v e h = to-pointer b v e h
 same-letter (FunctionType p ps) b v e h = to-pointer b v e h
 same-letter (Record m) b v e h = to-pointer b v e h
-
--- a result of a type with the letter
-abbrev pub IsLetterResult : ℕ → Option Value → Type 0
-IsLetterResult letter None = Unit {0}
-IsLetterResult letter (Some v) = (ty : CType) × (letter_of ty ≡ letter) × IsValueOf ty v
 
 pub letter-result : (letter : ℕ) (ty : CType) (r : Option Value) → letter_of ty ≡ letter → IsLetterResult letter r → IsResultOf ty r
 letter-result letter ty None e h = tt
