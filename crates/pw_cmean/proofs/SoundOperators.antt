@@ -1,6 +1,6 @@
 -- Accesses, operators and conversions give values of their types.
-use Rattle.std.proofs.Common.{ℕ, zero, suc, ◌+◌, ◌-◌, ◌%◌, ◌^◌, ◌<◌, ◌≤◌, ◌≡◌, ◌≢◌, refl, sym, ap, subst, ◌∙◌, arith, Bool, true, false, not, List, [], ◌∷◌, ◌++◌, length, Option, Some, None, Result, Ok, Err}
-use Rattle.std.specs.Prelude.{ℤ, pos, int_div, All, ◌&&◌, ◌==◌, option_map, if◌then◌else◌}
+use Rattle.std.proofs.Common.{ℕ, zero, suc, ◌^◌, ◌<◌, ◌≡◌, ◌≢◌, refl, sym, subst, arith, Bool, true, false, not, List, [], ◌∷◌, Option, Some, None, Result, Ok, Err}
+use Rattle.std.specs.Prelude.{ℤ, pos, int_div, ◌&&◌, ◌==◌, option_map}
 use Rattle.std.proofs.lemmas.Bool.{true≢false}
 use Rattle.std.proofs.lemmas.Bool.Decides.{nat_tests}
 use Rattle.pw_value.specs.declared.value.Value.{Value}
@@ -12,7 +12,7 @@ use Rattle.pw_value.specs.declared.words.WordFault.{WordFault}
 use Rattle.pw_value.specs.declared.words.WordFault.TheVariants.{Overflow, ZeroDivisor, ShiftCount}
 use Rattle.pw_value.specs.Objects.{Object, object_at, byte_at, bytes_from}
 use Rattle.pw_value.proofs.Ranges.{length-bytes_from}
-use Rattle.pw_types.specs.TypeTrees.{CType, Void, Int, Pointer, Array, Function as FunctionType, Record, QType, type_of, RecordValue}
+use Rattle.pw_types.specs.TypeTrees.{CType, Void, Int, Pointer, Array, Function as FunctionType, Record, QType, RecordValue}
 use Rattle.pw_types.specs.Conversions.{size_of_kind, promoted, converted}
 use Rattle.pw_types.specs.declared.kind.IntKind.{IntKind}
 use Rattle.pw_types.specs.declared.kind.IntKind.TheVariants as K
@@ -22,14 +22,14 @@ use Rattle.pw_types.specs.declared.tree.UnaryOperator.TheVariants.{Plus, Minus, 
 use Rattle.pw_types.specs.declared.tree.BinaryOperator.{BinaryOperator}
 use Rattle.pw_types.specs.declared.tree.BinaryOperator.TheVariants as O
 use Rattle.pw_cmean.specs.declared.undefined.Undef.TheVariants as U
-use Rattle.pw_cmean.specs.Undefined.{Finding, ◌when◌}
-use Rattle.pw_cmean.specs.Acts.{Act, Outcome, Gives, Ends, Site, give, ◌>>=◌, wrong, need, judge}
-use Rattle.pw_cmean.specs.Access.{Purpose, objects_now, within, width_of, value_in, reading, has_no_value, is_inside, load, store, copy, fetch, put}
-use Rattle.pw_cmean.specs.Operators.{truth, number_for, outcome_of, on_numbers, unary_number, unary, further, kept_in, moved, advance, advance_elements, difference, ordered, compared, on_pointers, pointer_and_number, number_and_pointer, binary, as_pointer, convert, is_piece, arithmetic, negation, distance, offset_of}
-use Rattle.pw_cmean.specs.Typed.{IsNumberOf, IsPointer, IsValueOf, IsResultOf, IsScalar, IsPointerType, IsPromoted, kind_given, BinaryGives, IsByte, IfGives}
+use Rattle.pw_cmean.specs.Undefined.{◌when◌}
+use Rattle.pw_cmean.specs.Acts.{Act, Outcome, Gives, Ends, Site}
+use Rattle.pw_cmean.specs.Access.{Purpose, within, width_of, value_in, reading, is_inside, load, store, copy, fetch, put}
+use Rattle.pw_cmean.specs.Operators.{truth, number_for, outcome_of, on_numbers, unary_number, unary, further, kept_in, moved, advance, advance_elements, difference, ordered, compared, on_pointers, pointer_and_number, number_and_pointer, binary, as_pointer, convert, is_piece, arithmetic, distance, offset_of}
+use Rattle.pw_cmean.specs.Typed.{IsNumberOf, IsPointer, IsValueOf, IsScalar, IsPointerType, IsPromoted, kind_given, BinaryGives, IfGives}
 use Rattle.pw_cmean.proofs.ValueLaws.{scalar-of, pointer-of, encoding-are, converted-of, below-word, word-of}
 use Rattle.pw_cmean.proofs.WordLaws.{GivesWord, arithmetic-word, negation-word, exact-word, number_for-word}
-use Rattle.pw_cmean.proofs.SoundActs.{Sound, Any, bind-s, give-s, branch-s, wrong-s, need-s, undefined-s, NoneHold, judge-s, HoldBytes, object-bytes, bytes_from-are, objects_now-s, write-s}
+use Rattle.pw_cmean.proofs.SoundActs.{Sound, Any, bind-s, give-s, wrong-s, need-s, undefined-s, NoneHold, judge-s, HoldBytes, object-bytes, bytes_from-are, objects_now-s, write-s}
 
 -- ---- accesses
 

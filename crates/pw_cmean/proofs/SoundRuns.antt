@@ -1,24 +1,23 @@
 -- Every expression gives a value of its type, every function a result of its own.
-use Rattle.std.proofs.Common.{ℕ, zero, suc, ◌+◌, ◌≤◌, ◌≡◌, ◌≢◌, refl, sym, ap, subst, ◌∙◌, arith, Bool, true, false, not, List, [], ◌∷◌, ◌++◌, length, Option, Some, None}
-use Rattle.std.specs.Prelude.{pos, All}
+use Rattle.std.proofs.Common.{ℕ, zero, suc, ◌≡◌, sym, subst, ◌∙◌, Bool, true, List, [], ◌∷◌, Option, Some, None}
+use Rattle.std.specs.Prelude.{All}
 use Rattle.pw_value.specs.declared.value.Value.{Value}
 use Rattle.pw_value.specs.declared.value.Value.TheVariants as V
 use Rattle.pw_value.specs.Objects.{object_at}
 use Rattle.pw_types.specs.TypeTrees.{CType, Int, type_of}
-use Rattle.pw_types.specs.Shapes.{letter_of}
 use Rattle.pw_types.specs.declared.kind.IntKind.TheVariants as K
 use Rattle.pw_types.specs.declared.tree.UnaryOperator.TheVariants.{Plus, Minus, Complement, Not}
-use Rattle.pw_types.specs.TypedTrees.{Symbol, Hidden, Expression, Node, Form, Number, Str, Local, Global, Function, Unary, Binary, Logic, Cond, Comma, Assign, Compound, Step, Cast, Decay, Member, Deref, Address, Call, CallValue, Expressions, NoExpression, OneExpression, type_at, token_of, CaseValue, Initialiser, Value as ByValue, Bytes as ByBytes, Statement, Empty, Evaluate, Block, If, While, Do, For, Switch, Label, Goto, Break, Continue, Return, Arms, NoArm, Arm, Otherwise, NoElse, Else, Statements, NoStatement, OneStatement, LocalValue, FunctionValue}
-use Rattle.pw_cmean.specs.Worlds.{Program, World, Callable, Body, Defined, Library, full_name, function_named}
-use Rattle.pw_cmean.specs.Acts.{Act, State, Site, Bound, give, stop, ◌>>=◌, ◌>>◌, branch, wrong}
+use Rattle.pw_types.specs.TypedTrees.{Expression, Node, Number, Str, Local, Global, Function, Unary, Binary, Logic, Cond, Comma, Assign, Compound, Step, Cast, Decay, Member, Deref, Address, Call, CallValue, Expressions, NoExpression, OneExpression, type_at, Initialiser, Value as ByValue, Bytes as ByBytes, Statement, Empty, Evaluate, Block, If, While, Do, For, Switch, Label, Goto, Break, Continue, Return, Arms, NoArm, Arm, Otherwise, NoElse, Else, Statements, NoStatement, OneStatement}
+use Rattle.pw_cmean.specs.Worlds.{Program, World, Body, Defined, Library, full_name, function_named}
+use Rattle.pw_cmean.specs.Acts.{Act, Site, Bound, give, ◌>>=◌, ◌>>◌}
 use Rattle.pw_cmean.specs.Operators.{number_for}
-use Rattle.pw_cmean.specs.Evaluation.{Env, Calls as CallList, Calling, site, used, answer_of, place_of, values_of}
+use Rattle.pw_cmean.specs.Evaluation.{Env, Calls as CallList, Calling, answer_of, place_of, values_of}
 use Rattle.pw_cmean.specs.Execution.{Entry, Front, At_label, Flow, Normal, Breaks, Continues, Returns, Goes, go_forward, caught, taking_up, after_body, turn, loop, meet_loop, always, value_of, condition, for_condition, drop_value, switch_to, after_switch, labels_among, labels_behind, with_number, with_locals, set_local, initialise, initialise_all, meaning, items, arms, behind_arms}
 use Rattle.pw_cmean.specs.SourceRun.{set_parameters, result_of, outermost, run_body, callee, calls}
-use Rattle.pw_cmean.specs.Typed.{IsPointer, IsValueOf, IsResultOf, CanUpdate, IsScalar, result_letter, IsLetterResult, IsFlowOf, IsTyped, AreTyped, IsTypedIfAny, AreTypedInitialisers, IsTypedStatement, AreTypedStatements, AreTypedArms, IsTypedElse, IsTypedBody, IsTypedCallable, IsTypedProgram, IsByte}
+use Rattle.pw_cmean.specs.Typed.{IsPointer, IsValueOf, IsResultOf, CanUpdate, IsScalar, result_letter, IsLetterResult, IsFlowOf, IsTyped, AreTyped, IsTypedIfAny, AreTypedInitialisers, IsTypedStatement, AreTypedStatements, AreTypedArms, IsTypedElse, IsTypedBody, IsTypedProgram, IsByte}
 use Rattle.pw_cmean.proofs.SoundActs.{Sound, Any, bind-s, give-s, stop-s, branch-s, wrong-s, need-s, look-s, write-s, with_object-s, during-s, object-bytes}
 use Rattle.pw_cmean.proofs.SoundOperators.{weaker, truth-s, truth-number, unary-s, not-s, binary-s, advance-s, small-value, put-s, pointer-value, within-s}
-use Rattle.pw_cmean.proofs.SoundTrees.{IsFine, AreSound, take_room-s, named-typed, letter-result, call-s, call_value-s, used-s, operand-s, symbol_place-s, local_place-s, value_at-s, cast-s, old_value-s, update-s, step-s, assigned-of, pointer-from}
+use Rattle.pw_cmean.proofs.SoundTrees.{IsFine, take_room-s, named-typed, letter-result, call-s, call_value-s, operand-s, symbol_place-s, local_place-s, value_at-s, cast-s, old_value-s, update-s, step-s, assigned-of, pointer-from}
 
 -- a truth value as a number
 number_for-s : (b : Bool) → Sound (IsResultOf (Int K.Int)) (give (Some (V.Num (number_for b))))

@@ -1,7 +1,7 @@
 -- Expressions give values of their types, functions results of theirs, by the shape of the trees.
-use Rattle.std.proofs.Common.{ℕ, zero, suc, ◌+◌, ◌%◌, ◌^◌, ◌<◌, ◌≤◌, ◌≡◌, ◌≢◌, refl, sym, ap, subst, ◌∙◌, arith, Bool, true, false, not, List, [], ◌∷◌, ◌++◌, length, Option, Some, None}
+use Rattle.std.proofs.Common.{ℕ, ◌%◌, ◌^◌, ◌<◌, ◌≡◌, ◌≢◌, refl, sym, ap, subst, ◌∙◌, arith, Bool, true, false, not, List, [], ◌∷◌, Option, Some, None}
 use Rattle.std.proofs.Common.{Decides}
-use Rattle.std.specs.Prelude.{All, find, ◌==◌, if◌then◌else◌, option_map, pos}
+use Rattle.std.specs.Prelude.{All, find, ◌==◌, if◌then◌else◌, option_map}
 use Rattle.std.specs.Option.{option_map_or}
 use Rattle.std.specs.Str.{bytes_eq}
 use Rattle.std.proofs.lemmas.Bool.{true≢false}
@@ -11,28 +11,24 @@ use Rattle.pw_value.specs.declared.value.Value.{Value}
 use Rattle.pw_value.specs.declared.value.Value.TheVariants as V
 use Rattle.pw_value.specs.declared.value.Pointer.{Pointer as AnyPointer}
 use Rattle.pw_value.specs.declared.value.Pointer.TheVariants as Ptr
-use Rattle.pw_value.specs.Objects.{object_at}
 use Rattle.pw_types.specs.TypeTrees.{CType, Void, Int, Pointer, Array, Function as FunctionType, Record, QType, Qualified, type_of, RecordValue}
-use Rattle.pw_types.specs.Conversions.{size_of_kind, promoted}
 use Rattle.pw_types.specs.Shapes.{letter_of, letter_of_kind, shape_of}
 use Rattle.pw_types.specs.declared.kind.IntKind.{IntKind}
 use Rattle.pw_types.specs.declared.kind.IntKind.TheVariants as K
-use Rattle.pw_types.specs.declared.tree.UnaryOperator.TheVariants.{Plus, Minus, Complement, Not}
 use Rattle.pw_types.specs.declared.tree.BinaryOperator.{BinaryOperator}
 use Rattle.pw_types.specs.declared.tree.StepOperator.{StepOperator}
 use Rattle.pw_types.specs.declared.tree.StepOperator.TheVariants.{IncrementBefore, DecrementBefore, IncrementBehind, DecrementBehind}
 use Rattle.pw_types.specs.TypedTrees.{Symbol}
-use Rattle.pw_cmean.specs.declared.undefined.Undef.TheVariants.{NotAFunction, FunctionShape, MissingResult}
-use Rattle.pw_cmean.specs.Undefined.{Finding, ◌when◌}
-use Rattle.pw_cmean.specs.Worlds.{Program, World, Callable, Body, Defined, Library, LibraryFunction, GetChar, PutChar, ExitRun, functions_of, function_named, function_number, function_at}
-use Rattle.pw_cmean.specs.Acts.{Act, State, Site, StackFull, Bound, give, stop, ◌>>=◌, branch, wrong, look, need, judge, undefined}
-use Rattle.pw_cmean.specs.Access.{fetch, load, put}
+use Rattle.pw_cmean.specs.declared.undefined.Undef.TheVariants.{MissingResult}
+use Rattle.pw_cmean.specs.Worlds.{Program, World, Callable, Body, Defined, Library, LibraryFunction, GetChar, PutChar, ExitRun, functions_of, function_named, function_number}
+use Rattle.pw_cmean.specs.Acts.{Act, Site, StackFull, Bound, give, ◌>>=◌}
+use Rattle.pw_cmean.specs.Access.{fetch, load}
 use Rattle.pw_cmean.specs.Operators.{binary, convert}
 use Rattle.pw_cmean.specs.Evaluation.{Env, Calls as CallList, records_of, local_place, symbol_place, used, value_by, value_at, cast, bounded_call, take_room, library_call, call_body, call, callee_of, pointed, call_value, assigned, old_value, update, step_type, step_operator, step_result, step}
 use Rattle.pw_cmean.specs.Typed.{IsNumberOf, IsPointer, IsValueOf, IsResultOf, IsScalar, IsPointerType, CanUpdate, CanCast, Calls, IsLetterResult, result_letter, library_letter, IsTypedBody, IsTypedCallable, IsTypedProgram}
 use Rattle.pw_cmean.proofs.ValueLaws.{word-of}
-use Rattle.pw_cmean.proofs.SoundActs.{Sound, Any, bind-s, give-s, stop-s, branch-s, wrong-s, need-s, undefined-s, NoneHold, judge-s, look-s, get_char-s, put_char-s}
-use Rattle.pw_cmean.proofs.SoundOperators.{weaker, load-s, put-s, fetch-s, IsWord, IsSmall, small-value, small-pointer, pointer_and_number-s, on_numbers-s, IsInteger, Converts, convert-s}
+use Rattle.pw_cmean.proofs.SoundActs.{Sound, Any, bind-s, give-s, stop-s, branch-s, wrong-s, need-s, undefined-s, judge-s, look-s, get_char-s, put_char-s}
+use Rattle.pw_cmean.proofs.SoundOperators.{weaker, load-s, put-s, fetch-s, IsWord, IsSmall, small-value, pointer_and_number-s, on_numbers-s, IsInteger, Converts, convert-s}
 
 -- ---- letters
 

@@ -1,6 +1,6 @@
 -- Values of a type: what bytes hold, what conversions and operators give.
-use Rattle.std.proofs.Common.{ℕ, zero, suc, ◌+◌, ◌-◌, ◌*◌, ◌/◌, ◌%◌, ◌^◌, ◌<◌, ◌≤◌, ◌≡◌, ◌≢◌, ◌⊎◌, inl, inr, refl, sym, ap, subst, ◌∙◌, arith, Bool, true, false, List, [], ◌∷◌, ◌++◌, length, Option, Some, None, Result, Ok, Err}
-use Rattle.std.specs.Prelude.{All, nat_le, if◌then◌else◌, option_map}
+use Rattle.std.proofs.Common.{ℕ, zero, suc, ◌+◌, ◌*◌, ◌/◌, ◌%◌, ◌^◌, ◌<◌, ◌≤◌, ◌≡◌, refl, sym, ap, subst, ◌∙◌, arith, Bool, true, false, List, [], ◌∷◌, length, Option, Some, None}
+use Rattle.std.specs.Prelude.{All, if◌then◌else◌, option_map}
 use Rattle.std.proofs.Math.Nat.{mul-le-mul_right}
 use Rattle.std.proofs.lemmas.Grind.{common_steps}
 use Rattle.std.proofs.lemmas.Bool.{true≢false}
@@ -12,13 +12,11 @@ use Rattle.pw_value.specs.declared.value.Pointer.{Pointer as AnyPointer}
 use Rattle.pw_value.specs.declared.value.Byte.{Byte}
 use Rattle.pw_value.specs.declared.value.Byte.TheVariants as B
 use Rattle.pw_value.specs.Values.{extended, number_in, scalar_in, pointer_in, number_bytes, encoding}
-use Rattle.pw_types.specs.TypeTrees.{CType, Void, Int, Pointer, Array, Function as FunctionType, Record, QType, type_of}
 use Rattle.pw_types.specs.Conversions.{size_of_kind, is_signed_kind, promoted, converted}
-use Rattle.pw_types.specs.Shapes.{letter_of, letter_of_kind}
 use Rattle.pw_types.specs.declared.kind.IntKind.{IntKind}
 use Rattle.pw_types.specs.declared.kind.IntKind.TheVariants as K
-use Rattle.pw_cmean.specs.Access.{has_no_value, value_in, width_of}
-use Rattle.pw_cmean.specs.Typed.{IsNumberOf, IsPointer, IsValueOf, IsResultOf, IsByte, IsPromoted}
+use Rattle.pw_cmean.specs.Access.{has_no_value}
+use Rattle.pw_cmean.specs.Typed.{IsNumberOf, IsPointer, IsByte}
 
 -- ---- numbers of a type
 
