@@ -1,33 +1,34 @@
 -- What is read is the payload of a database, and the payload of a database is read; the same of a file.
-use Rattle.std.proofs.Common.{◌≡◌, ◌≢◌, ℕ, ◌<◌, true, List, [], ◌∷◌, ◌++◌, length, map, Result, Ok, Err, refl, sym, ap, subst, ◌∙◌, append_assoc, arith, lit<}
+use Rattle.std.proofs.Common.{◌≡◌, ◌≢◌, ℕ, ◌<◌, List, [], ◌∷◌, ◌++◌, length, map, Result, Ok, Err, refl, sym, ap, subst, ◌∙◌, append_assoc, arith, lit<}
 use Rattle.std.specs.Prelude.{IfOk, Contains, ◌==◌}
-use Rattle.std.specs.Global.{Vec}
 use Rattle.std.specs.List.{flat_map, AllByRecursion}
 use Rattle.std.proofs.lemmas.Bool.{eqb-true}
 use Rattle.std.proofs.lemmas.List.{append-nil}
 use Rattle.std.proofs.lemmas.List.Concat.{flat_map-cons}
 use Rattle.pw_value.specs.declared.fault.FileError.{FileError}
-use Rattle.pw_value.specs.declared.name.Name.{Name}
+use Rattle.pw_value.specs.declared.program_names.StartName.TheVariants.{Allowed}
 use Rattle.pw_value.specs.Fields.{checked, u32_at, items_at, u8, u32, FitsU32, FitInTurn}
 use Rattle.pw_value.specs.FieldFaults.{GivesFile}
-use Rattle.pw_value.specs.FieldFrame.{file, placed}
+use Rattle.pw_value.specs.FieldFrame.{placed}
 use Rattle.pw_value.specs.FieldLaws.{AreBytes, Spells, SpellsWhole}
-use Rattle.pw_value.specs.FieldNames.{names_at, name_table, name_index, first_unused, IsNameTable}
+use Rattle.pw_value.specs.FieldNames.{name_index, first_unused, IsNameTable}
 use Rattle.pw_value.proofs.FieldLaws.{checked_spells, u32_spells, after_passes, found_is}
-use Rattle.pw_value.proofs.FieldSteps.{finish, finish_whole, step, step_where, keep_place, format, payload_format, items_spell}
-use Rattle.pw_value.proofs.FileLaws.{file_takes, file_again}
+use Rattle.pw_value.proofs.FieldSteps.{Completes, Nothing, finish, finish_whole, step, step_where, keep_place, format, items_spell}
 use Rattle.pw_value.proofs.NameTables.{one_table}
-use Rattle.pw_value.proofs.NameLaws.{names_spell, AllUsed, all_used, none_unused, table_of_used, used_by_table}
+use Rattle.pw_value.proofs.NameLaws.{AllUsed, all_used, none_unused, table_of_used, used_by_table}
+use Rattle.pw_files.specs.Contents.{Contents, value_of}
 use Rattle.pw_files.specs.Rising.{IsRisingBehind, counted}
 use Rattle.pw_files.specs.Names.{name_above_at}
 use Rattle.pw_files.proofs.NameLists.{FitsName, name_above_spells}
-use Rattle.pw_files.proofs.RisingLaws.{refit_whole, respell, FitsBehind, used_append, used_front, used_back, above_forth, above_back}
+use Rattle.pw_files.proofs.RisingLaws.{FitsBehind, used_append, used_front, used_back, above_forth, above_back}
+use Rattle.pw_files.proofs.ContentsLaws.{contents_spell}
+use Rattle.pw_files.proofs.ContentsLaws as files
 use Rattle.pw_db.specs.declared.database.Web.{Web}
 use Rattle.pw_db.specs.declared.database.Role.{Role}
 use Rattle.pw_db.specs.declared.database.Database.{Database}
 use Rattle.pw_db.specs.declared.database.Directives.{Directives}
-use Rattle.pw_db.specs.Database.{DirectivesValue, EachTwo, IsWeb, webs_of, IsDirectives, all_webs, Agree, web, function, names_of_function, names_of, FitsFunction, Contents, spelling, IsContents, kind, IsDatabaseFile, IsPayload, function_view, view}
-use Rattle.pw_db.specs.Reading.{web_at, next_web, webs_at, no_free_at, Before, function_at, next_function, nothing_before, functions_at, contents_at, database_file_at, functions_of}
+use Rattle.pw_db.specs.Database.{EachTwo, IsWeb, webs_of, IsDirectives, all_webs, Agree, web, function, names_of_function, names_of, FitsFunction, spelling, IsDatabaseContents, kind, IsDatabaseFile, IsPayload}
+use Rattle.pw_db.specs.Reading.{web_at, next_web, webs_at, no_free_at, Before, function_at, next_function, nothing_before, functions_at, unused_rule, fields_at, payload_at, database_file_at}
 use Rattle.pw_db.proofs.EachTwoLaws.{two_push, two_last, two_front, agree_all, first_same}
 use Rattle.pw_db.proofs.WebLaws.{FitsWeb, web_spells}
 
@@ -133,13 +134,13 @@ no_free_spells = record { takes = no_free_takes; again = no_free_again }
 
 -- ---- functions
 
-abbrev FunctionSteps : List (List ℕ) → Before → List ℕ × DirectivesValue → Type 0
-FunctionSteps names before f = FitsBehind (λ name. name) (FitsName names true) before.name f.0 × (FitsU32 (length f.1.webs) × (FitInTurn (FitsNext names before.webs) next_web [] f.1.webs × ((f.1.free ≡ []) × Unit {0})))
+abbrev FunctionSteps : List (List ℕ) → Before → List ℕ × Directives → Type 0
+FunctionSteps names before f = FitsBehind (λ name. name) (FitsName names Allowed) before.name f.0 × (FitsU32 (length f.1.webs) × (FitInTurn (FitsNext names before.webs) next_web [] f.1.webs × ((f.1.free ≡ []) × Unit {0})))
 
 function_steps : (names : List (List ℕ)) → IsNameTable names → (before : Before) → Spells (function names) (FunctionSteps names before) (function_at names before)
 unfolding function_at counted
 function_steps names table before = format (function names) (FunctionSteps names before) (λ f. name_index names f.0 ++ (u32 (length f.1.webs) ++ (flat_map (web names) f.1.webs ++ (counted u8 f.1.free ++ [])))) (FunctionSteps names before) _
-    (step _ _ (name_index names) (FitsBehind (λ name. name) (FitsName names true) before.name) (name_above_at names true before.name) _ _ _ (λ f. f.0) (name_above_spells names table true before.name)
+    (step _ _ (name_index names) (FitsBehind (λ name. name) (FitsName names Allowed) before.name) (name_above_at names Allowed before.name) _ _ _ (λ f. f.0) (name_above_spells names table Allowed before.name)
     (λ name name_fits. step _ _ u32 FitsU32 u32_at _ _ _ (λ f. length f.1.webs) u32_spells
     (λ count count_fits. step_where _ _ (flat_map (web names)) (λ ws. (length ws ≡ count) × FitInTurn (FitsNext names before.webs) next_web [] ws) (webs_at names before.webs count) _ (λ f. FitInTurn (FitsNext names before.webs) next_web [] f.1.webs) _ _ (λ f. f.1.webs)
     (webs_spell names table before.webs count)
@@ -150,7 +151,7 @@ function_steps names table before = format (function names) (FunctionSteps names
     (λ f h. h) (λ f h. h)
 
 -- the rules of functions behind others
-pub record FitFunctions (names : List (List ℕ)) (before : Before) (fs : List (List ℕ × DirectivesValue)) : Type 0 where
+pub record FitFunctions (names : List (List ℕ)) (before : Before) (fs : List (List ℕ × Directives)) : Type 0 where
   pub order : IsRisingBehind before.name (map (λ f. f.0) fs)
   pub directives : AllByRecursion (λ f. IsDirectives f.1) fs
   pub fits : AllByRecursion FitsFunction fs
@@ -165,13 +166,13 @@ used_webs : (names : List (List ℕ)) (ws : List Web) → AllUsed (map (λ w. w.
 used_webs names [] used = tt
 used_webs names (w ∷ ws) used = (used.0, used_webs names ws used.1)
 
-functions_forth : (names : List (List ℕ)) (before : Before) (fs : List (List ℕ × DirectivesValue)) → EachTwo Agree before.webs → FitInTurn (FunctionSteps names) next_function before fs → FitFunctions names before fs
+functions_forth : (names : List (List ℕ)) (before : Before) (fs : List (List ℕ × Directives)) → EachTwo Agree before.webs → FitInTurn (FunctionSteps names) next_function before fs → FitFunctions names before fs
 functions_forth names before [] known fit = record { order = tt; directives = tt; fits = tt; agree = subst (EachTwo Agree) (sym (append-nil before.webs)) known; named = tt }
 functions_forth names before (f ∷ fs) known fit =
     let h = fit.0 in
     let webs = webs_forth names before.webs [] f.1.webs (record { numbers = tt; globals = tt; registers = tt; agree = subst (EachTwo Agree) (sym (append-nil before.webs)) known }) h.1.1.0 in
     let later = functions_forth names (next_function before f) fs webs.agree fit.1 in
-    let cons = flat_map-cons (λ (g : List ℕ × DirectivesValue). webs_of g.1) f fs in
+    let cons = flat_map-cons (λ (g : List ℕ × Directives). webs_of g.1) f fs in
     let name_cons = flat_map-cons names_of_function f fs in
     record {
       order = (above_forth before.name f.0 h.0.1, later.order);
@@ -181,10 +182,10 @@ functions_forth names before (f ∷ fs) known fit =
       named = subst (λ (ns : List (List ℕ)). AllUsed ns names) (sym name_cons) (used_append (names_of_function f) (names_of fs) names (h.0.0.0, webs_used names (webs_of f.1) webs.named) later.named);
     }
 
-functions_back : (names : List (List ℕ)) (before : Before) (fs : List (List ℕ × DirectivesValue)) → FitFunctions names before fs → FitInTurn (FunctionSteps names) next_function before fs
+functions_back : (names : List (List ℕ)) (before : Before) (fs : List (List ℕ × Directives)) → FitFunctions names before fs → FitInTurn (FunctionSteps names) next_function before fs
 functions_back names before [] fit = tt
 functions_back names before (f ∷ fs) fit =
-    let cons = flat_map-cons (λ (g : List ℕ × DirectivesValue). webs_of g.1) f fs in
+    let cons = flat_map-cons (λ (g : List ℕ × Directives). webs_of g.1) f fs in
     let name_cons = flat_map-cons names_of_function f fs in
     let agree = subst (EachTwo Agree) (sym (append_assoc before.webs (webs_of f.1) (all_webs fs))) (subst (λ (ws : List Web). EachTwo Agree (before.webs ++ ws)) cons fit.agree) in
     let named = subst (λ (ns : List (List ℕ)). AllUsed ns names) name_cons fit.named in
@@ -203,7 +204,7 @@ functions_back names before (f ∷ fs) fit =
       functions_back names (next_function before f) fs (record { order = fit.order.1; directives = fit.directives.1; fits = fit.fits.1; agree = agree; named = used_back (names_of_function f) (names_of fs) names named }),
     )
 
-abbrev ListSteps : List (List ℕ) → List (List ℕ × DirectivesValue) → Type 0
+abbrev ListSteps : List (List ℕ) → List (List ℕ × Directives) → Type 0
 ListSteps names fs = FitsU32 (length fs) × FitInTurn (FunctionSteps names) next_function nothing_before fs
 
 functions_spell : (names : List (List ℕ)) → IsNameTable names → Spells (counted (function names)) (ListSteps names) (functions_at names)
@@ -219,118 +220,97 @@ functions_spell names table = format (counted (function names)) (ListSteps names
 
 -- ---- the payload
 
-abbrev ContentsSteps : Contents → Type 0
-ContentsSteps c = IsNameTable c.names × (ListSteps c.names c.functions × AllUsed c.names (names_of c.functions))
+abbrev Functions : Type 0
+Functions = List (List ℕ × Directives)
 
-abbrev body : List (List ℕ) → Contents → List ℕ
-body names c = counted (function names) c.functions ++ []
+abbrev body : List (List ℕ) → Functions → List ℕ
+body names fs = counted (function names) fs ++ []
 
-contents_steps : SpellsWhole spelling ContentsSteps contents_at
-unfolding contents_at
-contents_steps = payload_format spelling ContentsSteps spelling ContentsSteps _
-    (step _ _ name_table IsNameTable names_at _ _ _ (λ c. c.names) names_spell
-    (λ names table. keep_place _ _ _ _ _
-    (λ behind. respell _ _ (body names) (λ c. body c.names c) (λ c. ListSteps names c.functions × AllUsed c.names (names_of c.functions)) (λ c. ListSteps c.names c.functions × AllUsed c.names (names_of c.functions)) _
-    (λ c k. ap (λ (ns : List (List ℕ)). body ns c) (sym k.1))
-    (λ c k h. (subst (λ (ns : List (List ℕ)). ListSteps ns c.functions) (sym k.1) h.0, h.1))
-    (λ c k h. (subst (λ (ns : List (List ℕ)). ListSteps ns c.functions) k.1 h.0, h.1))
-    (step _ _ (counted (function names)) (ListSteps names) (functions_at names) _ _ _ (λ c. c.functions) (functions_spell names table)
-    (λ functions fit. finish_whole _ (λ c. AllUsed c.names (names_of c.functions)) (first_unused names (names_of functions) behind) (record { names = names; functions = functions }) ((tt, refl), refl)
-    (λ c k. sym (λ j. record { names = k.0.1 j; functions = k.1 j }))
-    (all_used names (names_of functions) behind) (none_unused names (names_of functions) behind))))))
-    (λ c. refl) (λ c h. h) (λ c h. h)
+abbrev Steps : List (List ℕ) → Functions → Type 0
+Steps names fs = ListSteps names fs × AllUsed names (names_of fs)
 
-contents_forth : (c : Contents) → ContentsSteps c → IsContents c
+fields_steps : (names : List (List ℕ)) → IsNameTable names → (behind : ℕ) → Completes {X = Contents Functions} Nothing (λ c. Unit {0} × (c.names ≡ names)) (λ c. body names c.value) (λ c. Steps names c.value) (fields_at names (unused_rule names behind))
+unfolding fields_at
+fields_steps names table behind = keep_place _ _ _ _ _
+    (λ count. step _ _ (counted (function names)) (ListSteps names) (functions_at names) _ _ _ (λ c. c.value) (functions_spell names table)
+    (λ functions fit. finish_whole _ (λ c. AllUsed names (names_of c.value)) (first_unused names (names_of functions) behind) (record { names = names; value = functions }) ((tt, refl), refl)
+    (λ c k. sym (λ j. record { names = k.0.1 j; value = k.1 j }))
+    (all_used names (names_of functions) behind) (none_unused names (names_of functions) behind)))
+
+contents_forth : (c : Contents Functions) → IsNameTable c.names × Steps c.names c.value → IsDatabaseContents c
 contents_forth c h =
-    let fit = functions_forth c.names nothing_before c.functions tt h.1.0.1 in
+    let fit = functions_forth c.names nothing_before c.value tt h.1.0.1 in
     record {
-      database = record { functions = fit.order; directives = fit.directives; agree = fit.agree };
+      lawful = record { functions = fit.order; directives = fit.directives; agree = fit.agree };
       fits = record { count = h.1.0.0; each = fit.fits };
       name_count = h.0.count;
-      names = table_of_used c.names (names_of c.functions) h.0 h.1.1 fit.named;
+      names = table_of_used c.names (names_of c.value) h.0 h.1.1 fit.named;
     }
 
-contents_back : (c : Contents) → IsContents c → ContentsSteps c
+contents_back : (c : Contents Functions) → IsDatabaseContents c → IsNameTable c.names × Steps c.names c.value
 contents_back c is =
-    let both = used_by_table c.names (names_of c.functions) is.names in (
+    let both = used_by_table c.names (names_of c.value) is.names in (
       record { count = is.name_count; rising = is.names.rising },
       (
-        (is.fits.count, functions_back c.names nothing_before c.functions (record { order = is.database.functions; directives = is.database.directives; fits = is.fits.each; agree = is.database.agree; named = both.1 })),
+        (is.fits.count, functions_back c.names nothing_before c.value (record { order = is.lawful.functions; directives = is.lawful.directives; fits = is.fits.each; agree = is.lawful.agree; named = both.1 })),
         both.0,
       ),
     )
 
-pub contents_spells : SpellsWhole spelling IsContents contents_at
-contents_spells = refit_whole spelling ContentsSteps IsContents contents_at contents_forth contents_back contents_steps
+pub contents_spells : SpellsWhole spelling IsDatabaseContents payload_at
+contents_spells = contents_spell fields_at unused_rule spelling body Steps IsDatabaseContents fields_steps (λ c. refl) contents_forth contents_back
 
 -- ---- the file
 
-functions_found : (fs : List (List ℕ × DirectivesValue)) (r : Result Contents ℕ) → functions_of r ≡ Ok fs → (c : Contents) × (r ≡ Ok c) × (c.functions ≡ fs)
-functions_found fs (Ok c) e = (c, refl, cc)
-functions_found fs (Err at) e = absurd cc
-
-file_found : (bytes : List ℕ) (c : Contents) → AreBytes bytes → database_file_at bytes ≡ Ok c → IsDatabaseFile bytes c.functions
-unfolding database_file_at
-file_found bytes c fits e = (c.names, file_takes kind 1 1 (λ version. spelling) (λ version. IsContents) (λ version. contents_at) (λ v f l. contents_spells) bytes c fits e)
-
-pub file_again_is : (bytes : List ℕ) (fs : List (List ℕ × DirectivesValue)) → IsDatabaseFile bytes fs → functions_of (database_file_at bytes) ≡ Ok fs
-unfolding database_file_at
-file_again_is bytes fs is = ap functions_of (file_again kind 1 1 (λ version. spelling) (λ version. IsContents) (λ version. contents_at) (lit< tt) (lit< tt) (λ v f l. contents_spells) bytes (record { names = is.0; functions = fs }) is.1)
-
-pub found_by : (bytes : List ℕ) (r : Result Database FileError) → AreBytes bytes → GivesFile view r (functions_of (database_file_at bytes)) → IfOk r (λ db. IsDatabaseFile bytes (view db))
-found_by bytes (Ok db) fits given =
-    let p = functions_found (view db) (database_file_at bytes) given in
-    subst (λ (fs : List (List ℕ × DirectivesValue)). IsDatabaseFile bytes fs) p.2 (file_found bytes p.0 fits p.1)
+pub found_by : (bytes : List ℕ) (r : Result Database FileError) → AreBytes bytes → GivesFile (λ db. db.functions) r (value_of (database_file_at bytes)) → IfOk r (λ db. IsDatabaseFile bytes db.functions)
+found_by bytes (Ok db) fits given = files.found_by kind fields_at unused_rule spelling IsDatabaseContents contents_spells bytes (Ok db.functions) fits given
 found_by bytes (Err e) fits given = tt
 
-pub only_by : (bytes : List ℕ) (r : Result Database FileError) → GivesFile view r (functions_of (database_file_at bytes)) → (fs : List (List ℕ × DirectivesValue)) → IsDatabaseFile bytes fs → GivesFile view r (Ok fs)
-only_by bytes r given fs is = subst (GivesFile view r) (file_again_is bytes fs is) given
+pub only_by : (bytes : List ℕ) (r : Result Database FileError) → GivesFile (λ db. db.functions) r (value_of (database_file_at bytes)) → (fs : Functions) → IsDatabaseFile bytes fs → GivesFile (λ db. db.functions) r (Ok fs)
+only_by bytes r given fs is = subst (GivesFile (λ db. db.functions) r) (files.value_again kind fields_at unused_rule spelling IsDatabaseContents contents_spells (lit< tt) bytes fs is) given
 
 -- ---- the payload alone
 
-abbrev alone : List ℕ → Result (List (List ℕ × DirectivesValue)) ℕ
-alone bytes = functions_of (placed (length bytes) (contents_at bytes))
+abbrev alone : List ℕ → Result Functions ℕ
+alone bytes = value_of (placed (length bytes) (payload_at bytes))
 
-whole_by : (end : ℕ) (r : Result (Contents × List ℕ) ℕ) (fs : List (List ℕ × DirectivesValue)) → functions_of (placed end r) ≡ Ok fs → (c : Contents) × (rest : List ℕ) × (r ≡ Ok (c, rest)) × (c.functions ≡ fs)
+whole_by : (end : ℕ) (r : Result (Contents Functions × List ℕ) ℕ) (fs : Functions) → value_of (placed end r) ≡ Ok fs → (c : Contents Functions) × (rest : List ℕ) × (r ≡ Ok (c, rest)) × (c.value ≡ fs)
 whole_by end (Ok x) fs e = (x.0, x.1, refl, cc)
 whole_by end (Err left) fs e = absurd cc
 
-payload_found : (bytes : List ℕ) (fs : List (List ℕ × DirectivesValue)) → AreBytes bytes → alone bytes ≡ Ok fs → IsPayload bytes fs
+payload_found : (bytes : List ℕ) (fs : Functions) → AreBytes bytes → alone bytes ≡ Ok fs → IsPayload bytes fs
 payload_found bytes fs fits e =
-    let p = whole_by (length bytes) (contents_at bytes) fs e in
+    let p = whole_by (length bytes) (payload_at bytes) fs e in
     let t = contents_spells.takes bytes p.0 p.1 fits p.2 in
-    subst (λ (gs : List (List ℕ × DirectivesValue)). IsPayload bytes gs) p.3 (p.0.names, t.1, t.0)
+    subst (λ (gs : Functions). IsPayload bytes gs) p.3 (p.0.names, t.1, t.0)
 
-pub payload_again : (bytes : List ℕ) (fs : List (List ℕ × DirectivesValue)) → IsPayload bytes fs → alone bytes ≡ Ok fs
+pub payload_again : (bytes : List ℕ) (fs : Functions) → IsPayload bytes fs → alone bytes ≡ Ok fs
 payload_again bytes fs is =
-    let read = ap contents_at is.2 ∙ contents_spells.again (record { names = is.0; functions = fs }) is.1 in
-    rw read refl
+    let read = ap payload_at is.2 ∙ contents_spells.again (record { names = is.0; value = fs }) is.1 in
+    ap (λ r. value_of (placed (length bytes) r)) read
 
-pub payload_found_by : (bytes : List ℕ) (r : Result (Vec (Name × Directives)) FileError) → AreBytes bytes → GivesFile (λ v. map function_view v.items) r (alone bytes) → IfOk r (λ v. IsPayload bytes (map function_view v.items))
-payload_found_by bytes (Ok v) fits given = payload_found bytes (map function_view v.items) fits given
+pub payload_found_by : (bytes : List ℕ) (r : Result Functions FileError) → AreBytes bytes → GivesFile (λ fs. fs) r (alone bytes) → IfOk r (IsPayload bytes)
+payload_found_by bytes (Ok fs) fits given = payload_found bytes fs fits given
 payload_found_by bytes (Err e) fits given = tt
 
-pub payload_only_by : (bytes : List ℕ) (r : Result (Vec (Name × Directives)) FileError) → GivesFile (λ v. map function_view v.items) r (alone bytes) → (fs : List (List ℕ × DirectivesValue)) → IsPayload bytes fs → GivesFile (λ v. map function_view v.items) r (Ok fs)
-payload_only_by bytes r given fs is = subst (GivesFile (λ v. map function_view v.items) r) (payload_again bytes fs is) given
+pub payload_only_by : (bytes : List ℕ) (r : Result Functions FileError) → GivesFile (λ fs. fs) r (alone bytes) → (fs : Functions) → IsPayload bytes fs → GivesFile (λ fs. fs) r (Ok fs)
+payload_only_by bytes r given fs is = subst (GivesFile (λ gs. gs) r) (payload_again bytes fs is) given
 
 -- ---- one for each, and each for one
 
-abbrev value : List (List ℕ × DirectivesValue) → Result (List (List ℕ × DirectivesValue)) ℕ
+pub one_database : (bytes : List ℕ) (fs gs : Functions) → IsDatabaseFile bytes fs → IsDatabaseFile bytes gs → fs ≡ gs
+one_database = files.one_value kind fields_at unused_rule spelling IsDatabaseContents contents_spells (lit< tt)
+
+pub one_file : (bytes others : List ℕ) (fs : Functions) → IsDatabaseFile bytes fs → IsDatabaseFile others fs → bytes ≡ others
+one_file = files.one_file kind spelling IsDatabaseContents names_of (λ c is. is.names)
+
+abbrev value : Functions → Result Functions ℕ
 value fs = Ok fs
 
-pub one_database : (bytes : List ℕ) (fs gs : List (List ℕ × DirectivesValue)) → IsDatabaseFile bytes fs → IsDatabaseFile bytes gs → fs ≡ gs
-one_database bytes fs gs p q = let both : value fs ≡ value gs = sym (file_again_is bytes fs p) ∙ file_again_is bytes gs q in cc
-
-pub one_file : (bytes others : List ℕ) (fs : List (List ℕ × DirectivesValue)) → IsDatabaseFile bytes fs → IsDatabaseFile others fs → bytes ≡ others
-one_file bytes others fs p q =
-    let names : p.0 ≡ q.0 = one_table p.0 q.0 (names_of fs) p.1.fits.names q.1.fits.names in
-    let version : p.1.version ≡ q.1.version = omega (arith, p.1.not_below, p.1.not_above, q.1.not_below, q.1.not_above) in
-    p.1.spelled ∙ ap (λ n. file kind n (spelling (record { names = p.0; functions = fs }))) version ∙ ap (λ (ns : List (List ℕ)). file kind q.1.version (spelling (record { names = ns; functions = fs }))) names ∙ sym q.1.spelled
-
-pub one_list : (bytes : List ℕ) (fs gs : List (List ℕ × DirectivesValue)) → IsPayload bytes fs → IsPayload bytes gs → fs ≡ gs
+pub one_list : (bytes : List ℕ) (fs gs : Functions) → IsPayload bytes fs → IsPayload bytes gs → fs ≡ gs
 one_list bytes fs gs p q = let both : value fs ≡ value gs = sym (payload_again bytes fs p) ∙ payload_again bytes gs q in cc
 
-pub one_payload : (bytes others : List ℕ) (fs : List (List ℕ × DirectivesValue)) → IsPayload bytes fs → IsPayload others fs → bytes ≡ others
+pub one_payload : (bytes others : List ℕ) (fs : Functions) → IsPayload bytes fs → IsPayload others fs → bytes ≡ others
 one_payload bytes others fs p q =
     let names : p.0 ≡ q.0 = one_table p.0 q.0 (names_of fs) p.1.names q.1.names in
-    p.2 ∙ ap (λ (ns : List (List ℕ)). spelling (record { names = ns; functions = fs })) names ∙ sym q.2
+    p.2 ∙ ap (λ (ns : List (List ℕ)). spelling (record { names = ns; value = fs })) names ∙ sym q.2

@@ -2,6 +2,7 @@ pub mod EachTwoLaws
 pub mod WebLaws
 pub mod SeenLaws
 pub mod DatabaseLaws
+pub mod DatabaseFaults
 pub mod WritingLemmas
 pub mod ChoosingLaws
 pub mod StoringLaws

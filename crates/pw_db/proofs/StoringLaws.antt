@@ -7,14 +7,13 @@ use Rattle.std.specs.List.Sorted.{IsPermutation, IsSortedBy}
 use Rattle.std.specs.Str.{bytes_eq}
 use Rattle.std.specs.Ordering.{nat_cmp, is_lt}
 use Rattle.std.specs.Cmp.Lexicographic.{slice_cmp}
-use Rattle.pw_value.specs.declared.name.Name.{Name}
 use Rattle.pw_files.specs.Rising.{IsRisingBehind}
 use Rattle.pw_files.proofs.Standing.{Has, apart, contains_by, has_by, has_each, each_by, has_map, has_flat, has_flat_back, stands_or_not}
-use Rattle.pw_files.proofs.Views.{all_by_seen}
+use Rattle.std.proofs.lemmas.List.Elements.{recursion_from_All}
 use Rattle.pw_files.proofs.ByteOrder.{differ, sorted_rises, behind, less_differs, one_rising}
 use Rattle.pw_db.specs.declared.database.Web.{Web}
 use Rattle.pw_db.specs.declared.database.Directives.{Directives}
-use Rattle.pw_db.specs.Database.{DirectivesValue, EachTwo, Agree, webs_of, all_webs, IsDirectives, IsDatabase, CanBeStored, IsStored, HasDirectives, empty, has_web, IsPayload, function_view}
+use Rattle.pw_db.specs.Database.{EachTwo, Agree, webs_of, all_webs, IsDirectives, IsDatabase, CanBeStored, IsStored, HasDirectives, empty, has_web, IsPayload}
 use Rattle.pw_db.proofs.DatabaseLaws.{one_payload}
 
 -- ---- webs of functions
@@ -31,7 +30,7 @@ two_by [] f = tt
 two_by (x ∷ xs) f = (each_by (Agree x) xs (λ y h. f x y (inl refl) (inr h)), two_by xs (λ a b h k. f a b (inr h) (inr k)))
 
 -- the webs of functions agree, where all of them stand among webs that agree
-webs_agree : (fs gs : List (List ℕ × DirectivesValue)) → EachTwo Agree (all_webs fs) → ((f : List ℕ × DirectivesValue) (w : Web) → Has f gs → Has w (webs_of f.1) → Has w (all_webs fs)) → EachTwo Agree (all_webs gs)
+webs_agree : (fs gs : List (List ℕ × Directives)) → EachTwo Agree (all_webs fs) → ((f : List ℕ × Directives) (w : Web) → Has f gs → Has w (webs_of f.1) → Has w (all_webs fs)) → EachTwo Agree (all_webs gs)
 webs_agree fs gs agree there = two_by (all_webs gs) (λ a b h k. let p = has_flat_back (λ f. webs_of f.1) a gs h in let q = has_flat_back (λ f. webs_of f.1) b gs k in
     two_of (all_webs fs) a b agree (there p.0 a p.1 p.2) (there q.0 b q.1 q.2))
 
@@ -80,12 +79,12 @@ distinct (f ∷ fs) two = (all_differ f fs two.0, distinct fs two.1)
 
 -- ---- what is stored
 
-pub is_stored : {R : Type 0} (view : R → List ℕ × DirectivesValue) (fs : List (List ℕ × DirectivesValue)) (chosen sorted : List R) → CanBeStored fs → map view chosen ≡ filter has_web fs → IsPermutation chosen sorted
+pub is_stored : {R : Type 0} (view : R → List ℕ × Directives) (fs : List (List ℕ × Directives)) (chosen sorted : List R) → CanBeStored fs → map view chosen ≡ filter has_web fs → IsPermutation chosen sorted
     → IsSortedBy (λ a b. is_lt (slice_cmp nat_cmp (view a).0 (view b).0)) sorted → IsStored fs (map view sorted) × IsDatabase (map view sorted)
 is_stored view fs chosen sorted can same moved up =
     let source = filter has_web fs in
     let rises = sorted_rises view (λ f. f.0) source chosen sorted same (distinct source (two_filter has_web (λ f g. f.0 ≢ g.0) fs can.distinct)) moved up in
-    let from : (f : List ℕ × DirectivesValue) → Has f (map view sorted) → Has f fs × IsTrue (has_web f) = λ f h. passes has_web f fs (has_by f source ((rises.1 f).0 (contains_by f (map view sorted) h))) in (
+    let from : (f : List ℕ × Directives) → Has f (map view sorted) → Has f fs × IsTrue (has_web f) = λ f h. passes has_web f fs (has_by f source ((rises.1 f).0 (contains_by f (map view sorted) h))) in (
       record {
         order = rises.0;
         of = λ f. (
@@ -100,16 +99,16 @@ is_stored view fs chosen sorted can same moved up =
       },
     )
 
-pub stored_payload : {E : Type 0} (fs stored : List (List ℕ × DirectivesValue)) (r : Result (Vec ℕ) E) → IsStored fs stored → IfOk r (λ v. IsPayload v.items stored) → IfOk r (λ v. (gs : List (List ℕ × DirectivesValue)) × IsStored fs gs × IsPayload v.items gs)
+pub stored_payload : {E : Type 0} (fs stored : List (List ℕ × Directives)) (r : Result (Vec ℕ) E) → IsStored fs stored → IfOk r (λ v. IsPayload v.items stored) → IfOk r (λ v. (gs : List (List ℕ × Directives)) × IsStored fs gs × IsPayload v.items gs)
 stored_payload fs stored (Ok v) is made = (stored, is, made)
 stored_payload fs stored (Err e) is made = tt
 
 -- ---- the functions to store are determined by the list
 
-pub one_stored : (fs s t : List (List ℕ × DirectivesValue)) → IsStored fs s → IsStored fs t → s ≡ t
+pub one_stored : (fs s t : List (List ℕ × Directives)) → IsStored fs s → IsStored fs t → s ≡ t
 one_stored fs s t one two = one_rising (λ f. f.0) s t one.order two.order (λ f. (λ h. (two.of f).1 ((one.of f).0 h), λ h. (one.of f).1 ((two.of f).0 h)))
 
-pub one_stored_payload : (fs s t : List (List ℕ × DirectivesValue)) (bytes others : List ℕ) → IsStored fs s → IsStored fs t → IsPayload bytes s → IsPayload others t → bytes ≡ others
+pub one_stored_payload : (fs s t : List (List ℕ × Directives)) (bytes others : List ℕ) → IsStored fs s → IsStored fs t → IsPayload bytes s → IsPayload others t → bytes ≡ others
 one_stored_payload fs s t bytes others one two written again = one_payload bytes others t (subst (IsPayload bytes) (one_stored fs s t one two) written) again
 
 -- ---- a database can be stored again
@@ -121,32 +120,32 @@ rising_differ {D} before (f ∷ fs) up = (
   rising_differ (Some f.0) fs up.1,
 )
 
-pub can_be_stored : (fs : List (List ℕ × DirectivesValue)) → IsDatabase fs → CanBeStored fs
+pub can_be_stored : (fs : List (List ℕ × Directives)) → IsDatabase fs → CanBeStored fs
 can_be_stored fs is = record { distinct = rising_differ None fs is.functions; directives = is.directives; agree = is.agree }
 
 -- ---- functions whose directives a database gives can be stored
 
-given : (fs : List (List ℕ × DirectivesValue)) (f : List ℕ × DirectivesValue) → HasDirectives fs f → Has f.0 (map (λ g. g.0) fs) ⊎ (Has f.0 (map (λ g. g.0) fs) → ⊥) → Has f fs ⊎ (f.1 ≡ empty)
+given : (fs : List (List ℕ × Directives)) (f : List ℕ × Directives) → HasDirectives fs f → Has f.0 (map (λ g. g.0) fs) ⊎ (Has f.0 (map (λ g. g.0) fs) → ⊥) → Has f fs ⊎ (f.1 ≡ empty)
 given fs f has (inl there) = inl (has_by f fs (has.found (contains_by f.0 (map (λ g. g.0) fs) there)))
 given fs f has (inr lacks) = inr (has.lacks (λ h. lacks (has_by f.0 (map (λ g. g.0) fs) h)))
 
-there_or_empty : (fs : List (List ℕ × DirectivesValue)) (f : List ℕ × DirectivesValue) → HasDirectives fs f → Has f fs ⊎ (f.1 ≡ empty)
+there_or_empty : (fs : List (List ℕ × Directives)) (f : List ℕ × Directives) → HasDirectives fs f → Has f fs ⊎ (f.1 ≡ empty)
 there_or_empty fs f has = given fs f has (stands_or_not f.0 (map (λ g. g.0) fs))
 
 none_lawful : IsDirectives empty
 none_lawful = record { each = tt; numbers = tt; globals = tt; registers = tt; free = refl }
 
-directives_lawful : (fs : List (List ℕ × DirectivesValue)) (f : List ℕ × DirectivesValue) → IsDatabase fs → Has f fs ⊎ (f.1 ≡ empty) → IsDirectives f.1
+directives_lawful : (fs : List (List ℕ × Directives)) (f : List ℕ × Directives) → IsDatabase fs → Has f fs ⊎ (f.1 ≡ empty) → IsDirectives f.1
 directives_lawful fs f is (inl h) = has_each (λ g. IsDirectives g.1) fs f is.directives h
 directives_lawful fs f is (inr e) = subst IsDirectives (sym e) none_lawful
 
-web_there : (fs : List (List ℕ × DirectivesValue)) (f : List ℕ × DirectivesValue) (w : Web) → Has f fs ⊎ (f.1 ≡ empty) → Has w (webs_of f.1) → Has w (all_webs fs)
+web_there : (fs : List (List ℕ × Directives)) (f : List ℕ × Directives) (w : Web) → Has f fs ⊎ (f.1 ≡ empty) → Has w (webs_of f.1) → Has w (all_webs fs)
 web_there fs f w (inl h) k = has_flat (λ g. webs_of g.1) f w fs h k
 web_there fs f w (inr e) k = absurd (subst (λ d. Has w (webs_of d)) e k)
 
-all_given : (fs gs : List (List ℕ × DirectivesValue)) → IsDatabase fs → AllByRecursion (HasDirectives fs) gs → EachTwo (λ f g. f.0 ≢ g.0) gs → CanBeStored gs
+all_given : (fs gs : List (List ℕ × Directives)) → IsDatabase fs → AllByRecursion (HasDirectives fs) gs → EachTwo (λ f g. f.0 ≢ g.0) gs → CanBeStored gs
 all_given fs gs is has differ =
-    let from : (f : List ℕ × DirectivesValue) → Has f gs → Has f fs ⊎ (f.1 ≡ empty) = λ f h. there_or_empty fs f (has_each (HasDirectives fs) gs f has h) in
+    let from : (f : List ℕ × Directives) → Has f gs → Has f fs ⊎ (f.1 ≡ empty) = λ f h. there_or_empty fs f (has_each (HasDirectives fs) gs f has h) in
     record {
       distinct = differ;
       directives = each_by (λ f. IsDirectives f.1) gs (λ f h. directives_lawful fs f is (from f h));
@@ -155,14 +154,14 @@ all_given fs gs is has differ =
 
 -- ---- the same of functions in memory
 
-name_differs : (f : Name × Directives) (fs : List (Name × Directives)) → AllByRecursion (λ n. f.0 ≢ n) (map (λ g. g.0) fs) → AllByRecursion (λ g. f.0 ≢ g.0) (map function_view fs)
+name_differs : (f : List ℕ × Directives) (fs : List (List ℕ × Directives)) → AllByRecursion (λ n. f.0 ≢ n) (map (λ g. g.0) fs) → AllByRecursion (λ g. f.0 ≢ g.0) fs
 name_differs f [] all = tt
 name_differs f (g ∷ fs) all = (all.0, name_differs f fs all.1)
 
-names_differ : (fs : List (Name × Directives)) → EachTwo (λ f g. f ≢ g) (map (λ f. f.0) fs) → EachTwo (λ f g. f.0 ≢ g.0) (map function_view fs)
+names_differ : (fs : List (List ℕ × Directives)) → EachTwo (λ f g. f ≢ g) (map (λ f. f.0) fs) → EachTwo (λ f g. f.0 ≢ g.0) fs
 names_differ [] two = tt
 names_differ (f ∷ fs) two = (name_differs f fs two.0, names_differ fs two.1)
 
-pub module_stored : (db : List (List ℕ × DirectivesValue)) (names : List (List ℕ)) (fs : List (Name × Directives)) → IsDatabase db → map (λ f. f.0) fs ≡ names → All (λ f. HasDirectives db (function_view f)) fs → EachTwo (λ f g. f ≢ g) names → CanBeStored (map function_view fs)
+pub module_stored : (db : List (List ℕ × Directives)) (names : List (List ℕ)) (fs : List (List ℕ × Directives)) → IsDatabase db → map (λ f. f.0) fs ≡ names → All (λ f. HasDirectives db f) fs → EachTwo (λ f g. f ≢ g) names → CanBeStored fs
 module_stored db names fs is named has differ =
-    all_given db (map function_view fs) is (all_by_seen function_view (HasDirectives db) fs has) (names_differ fs (subst (EachTwo (λ (f g : List ℕ). f ≢ g)) (sym named) differ))
+    all_given db fs is (recursion_from_All (HasDirectives db) fs has) (names_differ fs (subst (EachTwo (λ (f g : List ℕ). f ≢ g)) (sym named) differ))

@@ -15,9 +15,9 @@ use Rattle.pw_value.proofs.FieldLaws.{checked_spells, u8_spells, u32_spells, fla
 use Rattle.pw_value.proofs.FieldSteps.{finish, step, step_where, format}
 use Rattle.pw_value.proofs.NameLaws.{name_spells}
 use Rattle.pw_files.specs.Kinds.{scalar, scalar_code, scalar_of, scalar_at}
-use Rattle.pw_files.specs.Start.{same_truth}
+use Rattle.pw_value.specs.ProgramNames.{same_truth}
 use Rattle.pw_files.proofs.KindLaws.{scalar_spells, scalar_again}
-use Rattle.pw_files.proofs.StartLaws.{same_forth, same_back}
+use Rattle.pw_value.proofs.StartLaws.{same_forth, same_back}
 use Rattle.pw_files.proofs.RisingLaws.{refit}
 use Rattle.pw_db.specs.declared.database.Web.{Web}
 use Rattle.pw_db.specs.declared.database.Role.{Role}

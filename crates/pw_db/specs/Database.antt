@@ -1,36 +1,16 @@
--- The database of directives: which globals each function keeps in which registers. Its file, and the
--- payload alone, are one spelling of it.
-use Rattle.std.specs.Prelude.{Bool, ℕ, ◌≡◌, ◌≢◌, ◌<◌, ◌≤◌, List, [], ◌∷◌, length, map, All, Contains, Vec, ◌↔◌, IsTrue, nat_lt}
+-- The database of directives, as functions each with its directives: which globals each keeps in which
+-- registers. Its file, and the payload alone, are one spelling of it.
+use Rattle.std.specs.Prelude.{Bool, ℕ, ◌≡◌, ◌≢◌, ◌<◌, ◌≤◌, List, [], ◌∷◌, length, map, All, Contains, ◌↔◌, IsTrue, nat_lt}
 use Rattle.std.specs.List.{flat_map, AllByRecursion}
-use Rattle.std.specs.declared.alloc.Global.{Global}
-use Rattle.pw_value.specs.declared.name.Name.{Name}
 use Rattle.pw_value.specs.Fields.{u8, u32, flag, parts, FitsU32}
-use Rattle.pw_value.specs.FieldFrame.{IsFileOf}
-use Rattle.pw_value.specs.FieldNames.{name_table, name_index, IsTableOf}
+use Rattle.pw_value.specs.FieldNames.{name_table, name_index}
 use Rattle.pw_files.specs.Rising.{IsRising, counted}
 use Rattle.pw_files.specs.Kinds.{scalar}
+use Rattle.pw_files.specs.Contents.{Contents, IsContents, IsFileWith, IsContentsOf}
 use Rattle.pw_db.specs.declared.database.Web.{Web}
 use Rattle.pw_db.specs.declared.database.Role.{Role}
 use Rattle.pw_db.specs.declared.database.Role.TheVariants.{Entry, Member}
 use Rattle.pw_db.specs.declared.database.Directives.{Directives}
-use Rattle.pw_db.specs.declared.database.Database.{Database}
-
--- ---- values, without where they lie in memory
-
--- the directives of a function: its webs, each with its role, and registers that it need not save
-pub record DirectivesValue : Type 0 where
-  pub webs : List (Web × Role)
-  pub free : List ℕ
-
-abbrev pub directives_view : Directives → DirectivesValue
-directives_view d = record { webs = d.webs.items; free = d.free.items }
-
-abbrev pub function_view : Name × Directives → List ℕ × DirectivesValue
-function_view f = (f.0, directives_view f.1)
-
--- a database: functions, each with its directives
-abbrev pub view : Database → List (List ℕ × DirectivesValue)
-view db = map function_view db.functions.items
 
 -- ---- the rules
 
@@ -44,11 +24,11 @@ pub record IsWeb (w : Web) : Type 0 where
   pub low : 3 ≤ w.reg
   pub high : w.reg ≤ 18
 
-abbrev pub webs_of : DirectivesValue → List Web
+abbrev pub webs_of : Directives → List Web
 webs_of d = map (λ w. w.0) d.webs
 
 -- the numbers of a function's webs rise, and no two have one global or one register
-pub record IsDirectives (d : DirectivesValue) : Type 0 where
+pub record IsDirectives (d : Directives) : Type 0 where
   pub each : AllByRecursion IsWeb (webs_of d)
   pub numbers : EachTwo (λ a b. a.id < b.id) (webs_of d)
   pub globals : EachTwo (λ a b. a.global ≢ b.global) (webs_of d)
@@ -56,7 +36,7 @@ pub record IsDirectives (d : DirectivesValue) : Type 0 where
   pub free : d.free ≡ []
 
 -- the webs of all functions, in order
-abbrev pub all_webs : List (List ℕ × DirectivesValue) → List Web
+abbrev pub all_webs : List (List ℕ × Directives) → List Web
 all_webs fs = flat_map (λ f. webs_of f.1) fs
 
 -- webs of one number are one web: they have one global, one kind and one register, and are alike in
@@ -65,7 +45,7 @@ abbrev pub Agree : Web → Web → Type 0
 Agree a b = a.id ≡ b.id → a ≡ b
 
 -- the functions stand in byte order without repeats
-pub record IsDatabase (fs : List (List ℕ × DirectivesValue)) : Type 0 where
+pub record IsDatabase (fs : List (List ℕ × Directives)) : Type 0 where
   pub functions : IsRising (map (λ f. f.0) fs)
   pub directives : AllByRecursion (λ f. IsDirectives f.1) fs
   pub agree : EachTwo Agree (all_webs fs)
@@ -80,81 +60,71 @@ role_code Member = 1
 abbrev pub web : List (List ℕ) → Web × Role → List ℕ
 web names w = parts (u32 w.0.id ∷ name_index names w.0.global ∷ scalar w.0.kind ∷ u8 w.0.reg ∷ flag w.0.writes ∷ u8 (role_code w.1) ∷ [])
 
-abbrev pub function : List (List ℕ) → List ℕ × DirectivesValue → List ℕ
+abbrev pub function : List (List ℕ) → List ℕ × Directives → List ℕ
 function names f = parts (name_index names f.0 ∷ counted (web names) f.1.webs ∷ counted u8 f.1.free ∷ [])
 
 -- the names that a database uses, in the order of their use
-abbrev pub names_of_function : List ℕ × DirectivesValue → List (List ℕ)
+abbrev pub names_of_function : List ℕ × Directives → List (List ℕ)
 names_of_function f = f.0 ∷ map (λ w. w.global) (webs_of f.1)
 
-abbrev pub names_of : List (List ℕ × DirectivesValue) → List (List ℕ)
+abbrev pub names_of : List (List ℕ × Directives) → List (List ℕ)
 names_of fs = flat_map names_of_function fs
 
 -- the names that a function uses stand in a table
-pub record IsNamedBy (names : List (List ℕ)) (f : List ℕ × DirectivesValue) : Type 0 where
+pub record IsNamedBy (names : List (List ℕ)) (f : List ℕ × Directives) : Type 0 where
   pub name : Contains names f.0
   pub globals : All (λ w. Contains names w.0.global) f.1.webs
 
 -- counts and numbers that a file can hold
-pub record FitsFunction (f : List ℕ × DirectivesValue) : Type 0 where
+pub record FitsFunction (f : List ℕ × Directives) : Type 0 where
   pub count : FitsU32 (length f.1.webs)
   pub numbers : AllByRecursion (λ w. FitsU32 w.id) (webs_of f.1)
 
-pub record FitsDatabase (fs : List (List ℕ × DirectivesValue)) : Type 0 where
+pub record FitsDatabase (fs : List (List ℕ × Directives)) : Type 0 where
   pub count : FitsU32 (length fs)
   pub each : AllByRecursion FitsFunction fs
 
--- a database and the table of its names
-pub record Contents : Type 0 where
-  pub names : List (List ℕ)
-  pub functions : List (List ℕ × DirectivesValue)
-
-abbrev pub contents_view : Vec Name Global × Vec (Name × Directives) Global → Contents
-contents_view x = record { names = x.0.items; functions = map function_view x.1.items }
-
-abbrev pub spelling : Contents → List ℕ
-spelling c = parts (name_table c.names ∷ counted (function c.names) c.functions ∷ [])
-
-pub record IsContents (c : Contents) : Type 0 where
-  pub database : IsDatabase c.functions
-  pub fits : FitsDatabase c.functions
-  pub name_count : FitsU32 (length c.names)
-  pub names : IsTableOf c.names (names_of c.functions)
+abbrev pub spelling : Contents (List (List ℕ × Directives)) → List ℕ
+spelling c = parts (name_table c.names ∷ counted (function c.names) c.value ∷ [])
 
 -- PAWD
 abbrev pub kind : ℕ
 kind = 0x50415744
 
+-- a lawful database that its fields can hold, with the table of its names
+abbrev pub IsDatabaseContents : Contents (List (List ℕ × Directives)) → Type 0
+IsDatabaseContents = IsContents IsDatabase FitsDatabase names_of
+
 -- the bytes are the file of the database
-abbrev pub IsDatabaseFile : List ℕ → List (List ℕ × DirectivesValue) → Type 0
-IsDatabaseFile bytes fs = (names : List (List ℕ)) × IsFileOf kind 1 1 (λ version. spelling) (λ version. IsContents) bytes (record { names = names; functions = fs })
+abbrev pub IsDatabaseFile : List ℕ → List (List ℕ × Directives) → Type 0
+IsDatabaseFile = IsFileWith kind spelling IsDatabaseContents
 
 -- the bytes are the payload of the database, alone
-abbrev pub IsPayload : List ℕ → List (List ℕ × DirectivesValue) → Type 0
-IsPayload bytes fs = (names : List (List ℕ)) × IsContents (record { names = names; functions = fs }) × (bytes ≡ spelling (record { names = names; functions = fs }))
+abbrev pub IsPayload : List ℕ → List (List ℕ × Directives) → Type 0
+IsPayload = IsContentsOf spelling IsDatabaseContents
 
 -- ---- what is put into a database
 
 -- directives that hold a web
-abbrev pub has_web : List ℕ × DirectivesValue → Bool
+abbrev pub has_web : List ℕ × Directives → Bool
 has_web f = nat_lt 0 (length f.1.webs)
 
 -- no name stands twice, and the directives are those of a database
-pub record CanBeStored (fs : List (List ℕ × DirectivesValue)) : Type 0 where
+pub record CanBeStored (fs : List (List ℕ × Directives)) : Type 0 where
   pub distinct : EachTwo (λ f g. f.0 ≢ g.0) fs
   pub directives : AllByRecursion (λ f. IsDirectives f.1) fs
   pub agree : EachTwo Agree (all_webs fs)
 
 -- the functions whose directives hold a web, in byte order of their names
-pub record IsStored (fs stored : List (List ℕ × DirectivesValue)) : Type 0 where
+pub record IsStored (fs stored : List (List ℕ × Directives)) : Type 0 where
   pub order : IsRising (map (λ f. f.0) stored)
-  pub of : (f : List ℕ × DirectivesValue) → Contains stored f ↔ (Contains fs f × IsTrue (has_web f))
+  pub of : (f : List ℕ × Directives) → Contains stored f ↔ (Contains fs f × IsTrue (has_web f))
 
 -- the directives of a function, which are empty where the database lacks it
-abbrev pub empty : DirectivesValue
+abbrev pub empty : Directives
 empty = record { webs = []; free = [] }
 
 -- a function's directives in a database
-pub record HasDirectives (fs : List (List ℕ × DirectivesValue)) (f : List ℕ × DirectivesValue) : Type 0 where
+pub record HasDirectives (fs : List (List ℕ × Directives)) (f : List ℕ × Directives) : Type 0 where
   pub found : Contains (map (λ g. g.0) fs) f.0 → Contains fs f
   pub lacks : ¬ Contains (map (λ g. g.0) fs) f.0 → f.1 ≡ empty

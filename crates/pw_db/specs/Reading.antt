@@ -1,18 +1,21 @@
 -- Reading a database from left to right, with the first fault that is met.
-use Rattle.std.specs.Prelude.{ℕ, zero, suc, ◌==◌, ◌&&◌, nat_le, nat_lt, not, Bool, true, List, [], ◌∷◌, ◌++◌, Option, Some, None, Result, Ok, Err, if◌then◌else◌}
+use Rattle.std.specs.Prelude.{ℕ, zero, suc, ◌==◌, ◌&&◌, nat_le, nat_lt, not, Bool, true, List, [], ◌∷◌, ◌++◌, Option, Some, None, Result, if◌then◌else◌}
 use Rattle.std.specs.List.{list_all}
 use Rattle.std.specs.Str.{bytes_eq}
 use Rattle.pw_value.specs.declared.value.Kind.{Kind}
 use Rattle.pw_value.specs.Fields.{◌>>=◌, done, checked, u8_at, u32_at, flag_at, choice_at, items_at}
-use Rattle.pw_value.specs.FieldFrame.{here, ended, file_at}
-use Rattle.pw_value.specs.FieldNames.{names_at, name_at, first_unused}
+use Rattle.pw_value.specs.FieldFrame.{here, ended}
+use Rattle.pw_value.specs.FieldNames.{name_at, first_unused}
+use Rattle.pw_value.specs.ProgramNames.{same_truth}
+use Rattle.pw_value.specs.declared.program_names.StartName.TheVariants.{Allowed}
 use Rattle.pw_files.specs.Kinds.{scalar_code, scalar_at}
 use Rattle.pw_files.specs.Names.{name_above_at}
-use Rattle.pw_files.specs.Start.{same_truth}
+use Rattle.pw_files.specs.Contents.{Contents, contents_at, contents_file_at}
 use Rattle.pw_db.specs.declared.database.Web.{Web}
 use Rattle.pw_db.specs.declared.database.Role.{Role}
 use Rattle.pw_db.specs.declared.database.Role.TheVariants.{Entry, Member}
-use Rattle.pw_db.specs.Database.{DirectivesValue, Contents, webs_of, names_of, kind}
+use Rattle.pw_db.specs.declared.database.Directives.{Directives}
+use Rattle.pw_db.specs.Database.{webs_of, names_of, kind}
 
 -- ---- webs that were read before
 
@@ -86,15 +89,15 @@ pub record Before : Type 0 where
   pub name : Option (List ℕ)
   pub webs : List Web
 
-unfoldable pub function_at : List (List ℕ) → Before → List ℕ → Result ((List ℕ × DirectivesValue) × List ℕ) ℕ
+unfoldable pub function_at : List (List ℕ) → Before → List ℕ → Result ((List ℕ × Directives) × List ℕ) ℕ
 function_at names before = do
-  name ← name_above_at names true before.name
+  name ← name_above_at names Allowed before.name
   count ← u32_at
   webs ← webs_at names before.webs count
   free ← no_free_at
   done (name, record { webs = webs; free = free })
 
-abbrev pub next_function : Before → List ℕ × DirectivesValue → Before
+abbrev pub next_function : Before → List ℕ × Directives → Before
 next_function before f = record { name = Some f.0; webs = before.webs ++ webs_of f.1 }
 
 abbrev pub nothing_before : Before
@@ -102,28 +105,25 @@ nothing_before = record { name = None; webs = [] }
 
 -- ---- the payload
 
-unfoldable pub functions_at : List (List ℕ) → List ℕ → Result (List (List ℕ × DirectivesValue) × List ℕ) ℕ
+unfoldable pub functions_at : List (List ℕ) → List ℕ → Result (List (List ℕ × Directives) × List ℕ) ℕ
 functions_at names = do
   count ← u32_at
   functions ← items_at (function_at names) next_function count nothing_before
   done functions
 
--- a rule that is looked at last, where it is broken at a place
-abbrev pub broken_at : Option ℕ → Result (Unit {0}) ℕ
-broken_at None = Ok tt
-broken_at (Some left) = Err left
+-- the rule that is looked at last: each name of the table is used, where so many bytes are left behind it
+abbrev pub unused_rule : List (List ℕ) → ℕ → List (List ℕ × Directives) → ℕ → Option ℕ
+unused_rule names behind fs count = first_unused names (names_of fs) behind
 
-unfoldable pub contents_at : List ℕ → Result (Contents × List ℕ) ℕ
-contents_at = do
-  names ← names_at
-  behind ← here
+-- the fields to their end, under such a rule
+unfoldable pub fields_at : List (List ℕ) → (List (List ℕ × Directives) → ℕ → Option ℕ) → List ℕ → Result (Contents (List (List ℕ × Directives)) × List ℕ) ℕ
+fields_at names late = do
+  count ← here
   functions ← functions_at names
-  ended (first_unused names (names_of functions) behind) (record { names = names; functions = functions })
+  ended (late functions count) (record { names = names; value = functions })
 
-unfoldable pub database_file_at : List ℕ → Result Contents ℕ
-database_file_at bytes = file_at kind 1 1 (λ version. contents_at) bytes
+abbrev pub payload_at : List ℕ → Result (Contents (List (List ℕ × Directives)) × List ℕ) ℕ
+payload_at = contents_at fields_at unused_rule
 
--- the functions alone
-abbrev pub functions_of : Result Contents ℕ → Result (List (List ℕ × DirectivesValue)) ℕ
-functions_of (Ok c) = Ok c.functions
-functions_of (Err at) = Err at
+abbrev pub database_file_at : List ℕ → Result (Contents (List (List ℕ × Directives))) ℕ
+database_file_at = contents_file_at kind fields_at unused_rule

@@ -2,9 +2,10 @@
 
 ghost use Rattle.std.specs.Prelude.{◌≡◌, ◌≢◌, map, IfOk, IfSome, IfNone, All, Contains};
 ghost use Rattle.pw_files.specs.Rising.{IsRising};
-ghost use Rattle.pw_db.specs.Database.{IsDatabase, EachTwo, CanBeStored, HasDirectives, empty, directives_view, function_view, view};
+ghost use Rattle.pw_db.specs.Database.{IsDatabase, EachTwo, CanBeStored, HasDirectives, empty};
 
 use crate::database::{Database, Directives, Role, Web};
+use pw_items::Items;
 use pw_value::Name;
 use std::alloc::{AllocError, Global};
 
@@ -24,10 +25,10 @@ impl Web {
 }
 
 /// The same webs again.
-fn copy_webs(alloc: Global, webs: &[(Web, Role)]) -> Result<Vec<(Web, Role)>, AllocError>
-    ensures { IfOk result (λ v. v.items ≡ webs.now) }
+fn copy_webs(alloc: Global, webs: &[(Web, Role)]) -> Result<Items<(Web, Role)>, AllocError>
+    ensures { IfOk result (λ v. v ≡ webs.now) }
 {
-    let mut copies = Vec::new(alloc);
+    let mut copies = Items::new(alloc);
     for web in webs {
         copies.push((web.0.copy(alloc)?, web.1))?;
     }
@@ -37,21 +38,21 @@ fn copy_webs(alloc: Global, webs: &[(Web, Role)]) -> Result<Vec<(Web, Role)>, Al
 impl Directives {
     /// No webs, and no free registers.
     pub fn none(alloc: Global) -> Directives
-        ensures { directives_view result ≡ empty }
+        ensures { result ≡ empty }
     {
         Directives {
-            webs: Vec::new(alloc),
-            free: Vec::new(alloc),
+            webs: Items::new(alloc),
+            free: Items::new(alloc),
         }
     }
 
     /// The same directives again.
     pub fn copy(&self, alloc: Global) -> Result<Directives, AllocError>
-        ensures { IfOk result (λ d. directives_view d ≡ directives_view self.now) }
+        ensures { IfOk result (λ d. d ≡ self.now) }
     {
         Ok(Directives {
-            webs: copy_webs(alloc, &self.webs)?,
-            free: Vec::from_slice(alloc, &self.free)?,
+            webs: copy_webs(alloc, self.webs.as_slice())?,
+            free: Items::from_vec(Vec::from_slice(alloc, self.free.as_slice())?),
         })
     }
 }
@@ -75,7 +76,7 @@ fn directives_of(
     name: &Name,
 ) -> Result<Directives, AllocError>
     requires { IsRising (map (λ f. f.0) functions.now) }
-    ensures { IfOk result (λ d. HasDirectives (map function_view functions.now) (name.now, directives_view d)) }
+    ensures { IfOk result (λ d. HasDirectives functions.now (name.now, d)) }
 {
     match find(functions, name) {
         Some(directives) => directives.copy(alloc),
@@ -90,14 +91,14 @@ pub fn of_module(
     db: &Database,
     functions: &[Name],
 ) -> Result<Vec<(Name, Directives)>, AllocError>
-    requires { IsDatabase (view db.now) }
+    requires { IsDatabase db.now.functions }
     ensures functions { IfOk result (λ v. map (λ f. f.0) v.items ≡ functions.now) }
-    ensures directives { IfOk result (λ v. All (λ f. HasDirectives (view db.now) (function_view f)) v.items) }
-    ensures can_be_stored { IfOk result (λ v. EachTwo (λ f g. f ≢ g) functions.now → CanBeStored (map function_view v.items)) }
+    ensures directives { IfOk result (λ v. All (λ f. HasDirectives db.now.functions f) v.items) }
+    ensures can_be_stored { IfOk result (λ v. EachTwo (λ f g. f ≢ g) functions.now → CanBeStored v.items) }
 {
     let mut all = Vec::new(alloc);
     for name in functions {
-        let directives = directives_of(alloc, &db.functions, name)?;
+        let directives = directives_of(alloc, db.functions.as_slice(), name)?;
         all.push((name.copy(alloc)?, directives))?;
     }
     Ok(all)

@@ -1,5 +1,6 @@
 //! Directives, and the database of them.
 
+use pw_items::Items;
 use pw_value::{Kind, Name};
 
 /// A web: a global that functions keep in a register, under a number of its own.
@@ -26,12 +27,12 @@ pub enum Role {
 /// registers that it need not save, of which there are none yet.
 #[derive(Debug, Drop)]
 pub struct Directives {
-    pub webs: Vec<(Web, Role)>,
-    pub free: Vec<u8>,
+    pub webs: Items<(Web, Role)>,
+    pub free: Items<u8>,
 }
 
 /// Functions in byte order of their names, each with its directives. Webs of one number are one web.
 #[derive(Debug, Drop)]
 pub struct Database {
-    pub functions: Vec<(Name, Directives)>,
+    pub functions: Items<(Name, Directives)>,
 }

@@ -15,6 +15,3 @@ pub use database::{Database, Directives, Role, Web};
 pub use reading::{KIND, read, read_payload};
 pub use storing::payload;
 pub use writing::write;
-
-#[cfg(test)]
-mod tests;

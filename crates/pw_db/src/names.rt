@@ -2,7 +2,7 @@
 
 ghost use Rattle.std.specs.Prelude.{◌≡◌, ◌++◌, map, IfOk, OnOk};
 ghost use Rattle.std.specs.List.{flat_map};
-ghost use Rattle.pw_db.specs.Database.{names_of, names_of_function, function_view};
+ghost use Rattle.pw_db.specs.Database.{names_of, names_of_function};
 
 use crate::database::{Directives, Role, Web};
 use pw_value::Name;
@@ -13,7 +13,7 @@ pub(crate) fn refs_of(
     alloc: Global,
     functions: &[(Name, Directives)],
 ) -> Result<Vec<&(Name, Directives)>, AllocError>
-    ensures { IfOk result (λ v. map (λ f. function_view f.now) v.items ≡ map function_view functions.now) }
+    ensures { IfOk result (λ v. map (λ f. f.now) v.items ≡ functions.now) }
 {
     let mut refs = Vec::new(alloc);
     for function in functions {
@@ -37,10 +37,10 @@ fn add_function<'a>(
     used: &mut Vec<&'a Name>,
     function: &'a (Name, Directives),
 ) -> Result<(), AllocError>
-    ensures { OnOk result (map (λ name. name.now) used.new.items ≡ map (λ name. name.now) used.old.items ++ names_of_function (function_view function.now)) }
+    ensures { OnOk result (map (λ name. name.now) used.new.items ≡ map (λ name. name.now) used.old.items ++ names_of_function function.now) }
 {
     used.push(&function.0)?;
-    add_webs(used, &function.1.webs)
+    add_webs(used, function.1.webs.as_slice())
 }
 
 /// The names that functions use, in the order of their use.
@@ -48,7 +48,7 @@ pub(crate) fn used_names<'a>(
     alloc: Global,
     functions: &[&'a (Name, Directives)],
 ) -> Result<Vec<&'a Name>, AllocError>
-    ensures { IfOk result (λ v. map (λ name. name.now) v.items ≡ names_of (map (λ f. function_view f.now) functions.now)) }
+    ensures { IfOk result (λ v. map (λ name. name.now) v.items ≡ names_of (map (λ f. f.now) functions.now)) }
 {
     let mut used = Vec::new(alloc);
     for function in functions {

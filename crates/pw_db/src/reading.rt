@@ -1,6 +1,6 @@
 //! Reading a database.
 
-ghost use Rattle.std.specs.Prelude.{◌≡◌, ◌==◌, ◌++◌, ◌&&◌, ◌+◌, ◌<◌, ◌^◌, not, nat_lt, nat_le, ℕ, List, length, map, option_map, IfOk, Ok};
+ghost use Rattle.std.specs.Prelude.{◌≡◌, ◌≢◌, ◌==◌, ◌++◌, ◌&&◌, ◌+◌, ◌<◌, ◌^◌, not, nat_lt, nat_le, ℕ, List, length, map, option_map, IfOk, IfErr, Ok};
 ghost use Rattle.std.specs.List.{list_all, flat_map};
 ghost use Rattle.std.specs.Str.{bytes_eq};
 ghost use Rattle.pw_value.specs.Fields.{text, items_at};
@@ -8,19 +8,24 @@ ghost use Rattle.pw_value.specs.FieldFaults.{Gives, GivesFile};
 ghost use Rattle.pw_value.specs.FieldFrame.{placed};
 ghost use Rattle.pw_value.specs.FieldNames.{first_unused};
 ghost use Rattle.pw_files.specs.Kinds.{scalar_code};
-ghost use Rattle.pw_files.specs.Start.{same_truth};
-ghost use Rattle.pw_db.specs.Database.{DirectivesValue, IsDatabaseFile, IsPayload, directives_view, function_view, view, contents_view, webs_of, names_of};
-ghost use Rattle.pw_db.specs.Reading.{fits_first, number_at, global_at, kind_at, register_at, writes_at, role_at, web_at, webs_at, no_free_at, function_at, next_function, nothing_before, functions_at, broken_at, contents_at, database_file_at, functions_of};
+ghost use Rattle.pw_value.specs.ProgramNames.{same_truth};
+ghost use Rattle.pw_files.specs.Contents.{broken_at, value_of};
+ghost use Rattle.pw_db.specs.declared.database.Directives.{Directives as AnyDirectives};
+ghost use Rattle.pw_db.specs.Database.{IsDatabaseFile, IsPayload, webs_of, names_of};
+ghost use Rattle.pw_db.specs.Reading.{fits_first, number_at, global_at, kind_at, register_at, writes_at, role_at, web_at, webs_at, no_free_at, function_at, next_function, nothing_before, functions_at, unused_rule, fields_at, payload_at, database_file_at};
 ghost use Rattle.pw_db.specs.Seen.{known_web};
 
 use crate::database::{Database, Directives, Role, Web};
 use crate::names::{refs_of, used_names};
 use crate::seen::{Known, Seen};
 use pw_files::kinds::{code_of, read_scalar};
+use pw_files::late::check_used;
 use pw_files::lists::read_name_above;
+use pw_items::Items;
 use pw_value::fields::frame::{check_digest, open};
-use pw_value::fields::names::{find_unused, read_name, read_names};
+use pw_value::fields::names::{read_name, read_names};
 use pw_value::fields::{FieldError, read_choice, read_flag, read_u8, read_u32};
+use pw_value::program_names::StartName;
 use pw_value::{FileError, Kind, Name};
 use std::alloc::Global;
 
@@ -110,7 +115,8 @@ fn fits_writes(first: Option<Known>, writes: bool) -> bool
 /// A number above those of the function's webs before it.
 #[tactic(auto, unfolding(crate::specs::Reading::number_at))]
 fn read_number<'a>(own: &[(Web, Role)], bytes: &'a [u8]) -> Result<(u32, &'a [u8]), FieldError>
-    ensures { Gives (λ x. (x.0, x.1.now)) result (number_at (map (λ w. w.0) own.now) bytes.now) }
+    ensures found { Gives (λ x. (x.0, x.1.now)) result (number_at (map (λ w. w.0) own.now) bytes.now) }
+    ensures no_memory { IfErr result (λ e. e ≢ FieldError.NoMemory) }
 {
     let (id, rest) = read_u32(bytes)?;
     if is_number_above(own, id) {
@@ -128,7 +134,8 @@ fn read_global<'a, 'b>(
     own: &[(Web, Role)],
     bytes: &'a [u8],
 ) -> Result<(&'b Name, &'a [u8]), FieldError>
-    ensures { Gives (λ x. (x.0.now, x.1.now)) result (global_at names.now (option_map known_web first.entry) (map (λ w. w.0) own.now) bytes.now) }
+    ensures found { Gives (λ x. (x.0.now, x.1.now)) result (global_at names.now (option_map known_web first.entry) (map (λ w. w.0) own.now) bytes.now) }
+    ensures no_memory { IfErr result (λ e. e ≢ FieldError.NoMemory) }
 {
     let (global, rest) = read_name(names, bytes)?;
     if fits_global(first, global) && is_global_free(own, global) {
@@ -141,7 +148,8 @@ fn read_global<'a, 'b>(
 /// The kind of the global.
 #[tactic(auto, unfolding(crate::specs::Reading::kind_at))]
 fn read_kind<'a>(first: Option<Known>, bytes: &'a [u8]) -> Result<(Kind, &'a [u8]), FieldError>
-    ensures { Gives (λ x. (x.0, x.1.now)) result (kind_at (option_map known_web first.entry) bytes.now) }
+    ensures found { Gives (λ x. (x.0, x.1.now)) result (kind_at (option_map known_web first.entry) bytes.now) }
+    ensures no_memory { IfErr result (λ e. e ≢ FieldError.NoMemory) }
 {
     let (kind, rest) = read_scalar(bytes)?;
     if fits_kind(first, kind) {
@@ -158,7 +166,8 @@ fn read_register<'a>(
     own: &[(Web, Role)],
     bytes: &'a [u8],
 ) -> Result<(u8, &'a [u8]), FieldError>
-    ensures { Gives (λ x. (x.0, x.1.now)) result (register_at (option_map known_web first.entry) (map (λ w. w.0) own.now) bytes.now) }
+    ensures found { Gives (λ x. (x.0, x.1.now)) result (register_at (option_map known_web first.entry) (map (λ w. w.0) own.now) bytes.now) }
+    ensures no_memory { IfErr result (λ e. e ≢ FieldError.NoMemory) }
 {
     let (reg, rest) = read_u8(bytes)?;
     if 3 <= reg && reg <= 18 && fits_register(first, reg) && is_register_free(own, reg) {
@@ -171,7 +180,8 @@ fn read_register<'a>(
 /// Whether a function of the web writes the global.
 #[tactic(auto, unfolding(crate::specs::Reading::writes_at))]
 fn read_writes<'a>(first: Option<Known>, bytes: &'a [u8]) -> Result<(bool, &'a [u8]), FieldError>
-    ensures { Gives (λ x. (x.0, x.1.now)) result (writes_at (option_map known_web first.entry) bytes.now) }
+    ensures found { Gives (λ x. (x.0, x.1.now)) result (writes_at (option_map known_web first.entry) bytes.now) }
+    ensures no_memory { IfErr result (λ e. e ≢ FieldError.NoMemory) }
 {
     let (writes, rest) = read_flag(bytes)?;
     if fits_writes(first, writes) {
@@ -184,7 +194,8 @@ fn read_writes<'a>(first: Option<Known>, bytes: &'a [u8]) -> Result<(bool, &'a [
 /// A role.
 #[tactic(auto, unfolding(crate::specs::Reading::role_at))]
 fn read_role(bytes: &[u8]) -> Result<(Role, &[u8]), FieldError>
-    ensures { Gives (λ x. (x.0, x.1.now)) result (role_at bytes.now) }
+    ensures found { Gives (λ x. (x.0, x.1.now)) result (role_at bytes.now) }
+    ensures no_memory { IfErr result (λ e. e ≢ FieldError.NoMemory) }
 {
     let (code, rest) = read_choice(2, bytes)?;
     Ok((if code == 0 { Role::Entry } else { Role::Member }, rest))
@@ -198,7 +209,8 @@ fn read_web<'a, 'b>(
     own: &[(Web, Role)],
     bytes: &'a [u8],
 ) -> Result<((Known<'b>, Role), &'a [u8]), FieldError>
-    ensures { Gives (λ x. ((known_web x.0.0, x.0.1), x.1.now)) result (web_at names.now (map known_web seen.now.webs.items) (map (λ w. w.0) own.now) bytes.now) }
+    ensures found { Gives (λ x. ((known_web x.0.0, x.0.1), x.1.now)) result (web_at names.now (map known_web seen.now.webs.items) (map (λ w. w.0) own.now) bytes.now) }
+    ensures no_memory { IfErr result (λ e. e ≢ FieldError.NoMemory) }
 {
     let (id, rest) = read_number(own, bytes)?;
     let first = seen.first(id);
@@ -224,15 +236,15 @@ fn read_webs<'a, 'b>(
     before: Seen<'b>,
     count: u32,
     bytes: &'a [u8],
-) -> Result<(Vec<(Web, Role)>, Seen<'b>, &'a [u8]), FieldError>
-    ensures found { Gives (λ x. (x.0.items, x.2.now)) result (webs_at names.now (map known_web before.entry.webs.items) count bytes.now) }
-    ensures seen { IfOk result (λ x. map known_web x.1.webs.items ≡ map known_web before.entry.webs.items ++ map (λ w. w.0) x.0.items) }
+) -> Result<(Items<(Web, Role)>, Seen<'b>, &'a [u8]), FieldError>
+    ensures found { Gives (λ x. (x.0, x.2.now)) result (webs_at names.now (map known_web before.entry.webs.items) count bytes.now) }
+    ensures seen { IfOk result (λ x. map known_web x.1.webs.items ≡ map known_web before.entry.webs.items ++ map (λ w. w.0) x.0) }
 {
-    let mut webs: Vec<(Web, Role)> = Vec::new(alloc);
+    let mut webs: Items<(Web, Role)> = Items::new(alloc);
     let mut seen = before;
     let mut rest = bytes;
     for _ in 0..count {
-        let ((known, role), after) = read_web(names, &seen, &webs, rest)?;
+        let ((known, role), after) = read_web(names, &seen, webs.as_slice(), rest)?;
         webs.push((known.web(alloc)?, role))?;
         seen = seen.with(known)?;
         rest = after;
@@ -242,12 +254,13 @@ fn read_webs<'a, 'b>(
 
 /// No free registers.
 #[tactic(auto, unfolding(crate::specs::Reading::no_free_at))]
-fn read_no_free(alloc: Global, bytes: &[u8]) -> Result<(Vec<u8>, &[u8]), FieldError>
-    ensures { Gives (λ x. (x.0.items, x.1.now)) result (no_free_at bytes.now) }
+fn read_no_free(alloc: Global, bytes: &[u8]) -> Result<(Items<u8>, &[u8]), FieldError>
+    ensures found { Gives (λ x. (x.0, x.1.now)) result (no_free_at bytes.now) }
+    ensures no_memory { IfErr result (λ e. e ≢ FieldError.NoMemory) }
 {
     let (count, rest) = read_u32(bytes)?;
     if count == 0 {
-        Ok((Vec::new(alloc), rest))
+        Ok((Items::new(alloc), rest))
     } else {
         Err(FieldError::Fault { left: bytes.len() })
     }
@@ -262,10 +275,10 @@ fn read_function<'a, 'b>(
     seen: Seen<'b>,
     bytes: &'a [u8],
 ) -> Result<((&'b Name, Directives), Seen<'b>, &'a [u8]), FieldError>
-    ensures found { Gives (λ x. ((x.0.0.now, directives_view x.0.1), x.2.now)) result (function_at names.now (record { name = option_map (λ n. n.now) before.entry; webs = map known_web seen.entry.webs.items }) bytes.now) }
-    ensures seen { IfOk result (λ x. map known_web x.1.webs.items ≡ map known_web seen.entry.webs.items ++ webs_of (directives_view x.0.1)) }
+    ensures found { Gives (λ x. ((x.0.0.now, x.0.1), x.2.now)) result (function_at names.now (record { name = option_map (λ n. n.now) before.entry; webs = map known_web seen.entry.webs.items }) bytes.now) }
+    ensures seen { IfOk result (λ x. map known_web x.1.webs.items ≡ map known_web seen.entry.webs.items ++ webs_of x.0.1) }
 {
-    let (name, rest) = read_name_above(names, true, before, bytes)?;
+    let (name, rest) = read_name_above(names, StartName::Allowed, before, bytes)?;
     let (count, rest) = read_u32(rest)?;
     let (webs, seen, rest) = read_webs(alloc, names, seen, count, rest)?;
     let (free, rest) = read_no_free(alloc, rest)?;
@@ -278,10 +291,10 @@ fn read_function_items<'a>(
     names: &[Name],
     count: u32,
     bytes: &'a [u8],
-) -> Result<(Vec<(Name, Directives)>, &'a [u8]), FieldError>
-    ensures { Gives (λ x. (map function_view x.0.items, x.1.now)) result (items_at (function_at names.now) next_function count nothing_before bytes.now) }
+) -> Result<(Items<(Name, Directives)>, &'a [u8]), FieldError>
+    ensures { Gives (λ x. (x.0, x.1.now)) result (items_at (function_at names.now) next_function count nothing_before bytes.now) }
 {
-    let mut functions = Vec::new(alloc);
+    let mut functions = Items::new(alloc);
     let mut seen = Seen::new(alloc);
     let mut before: Option<&Name> = None;
     let mut rest = bytes;
@@ -301,8 +314,8 @@ fn read_functions<'a>(
     alloc: Global,
     names: &[Name],
     bytes: &'a [u8],
-) -> Result<(Vec<(Name, Directives)>, &'a [u8]), FieldError>
-    ensures { Gives (λ x. (map function_view x.0.items, x.1.now)) result (functions_at names.now bytes.now) }
+) -> Result<(Items<(Name, Directives)>, &'a [u8]), FieldError>
+    ensures { Gives (λ x. (x.0, x.1.now)) result (functions_at names.now bytes.now) }
 {
     let (count, rest) = read_u32(bytes)?;
     read_function_items(alloc, names, count, rest)
@@ -310,45 +323,60 @@ fn read_functions<'a>(
 
 // ---- the payload
 
-/// The rule that each name of the table is used, where so many bytes are left behind the table.
-fn check_used(
+/// The rule that is looked at last: each name of the table is used, where so many bytes are left behind the
+/// table.
+fn check_last(
     alloc: Global,
     names: &[Name],
     functions: &[(Name, Directives)],
     behind: usize,
 ) -> Result<(), FieldError>
     requires { length (flat_map text names.now) + behind < 2 ^ 64 }
-    ensures { Gives (λ x. x) result (broken_at (first_unused names.now (names_of (map function_view functions.now)) behind)) }
+    ensures { Gives (λ x. x) result (broken_at (first_unused names.now (names_of functions.now) behind)) }
 {
     let refs = refs_of(alloc, functions)?;
     let used = used_names(alloc, &refs)?;
-    match find_unused(alloc, names, used, behind)? {
-        Some(left) => Err(FieldError::Fault { left }),
-        None => Ok(()),
-    }
+    check_used(alloc, names, used, behind)
 }
 
-/// The table of names and the functions.
-#[tactic(auto, unfolding(crate::specs::Reading::contents_at))]
-fn read_contents(
+/// The functions behind the table of names.
+#[tactic(auto, unfolding(crate::specs::Reading::fields_at))]
+fn read_fields<'a>(
     alloc: Global,
-    bytes: &[u8],
-) -> Result<((Vec<Name>, Vec<(Name, Directives)>), &[u8]), FieldError>
-    ensures { Gives (λ x. (contents_view x.0, x.1.now)) result (contents_at bytes.now) }
+    names: &[Name],
+    bytes: &'a [u8],
+) -> Result<(Items<(Name, Directives)>, &'a [u8]), FieldError>
+    requires { length (flat_map text names.now) + length bytes.now < 2 ^ 64 }
+    ensures { Gives (λ x. (record { names = names.now; value = x.0 }, x.1.now)) result (fields_at names.now (unused_rule names.now (length bytes.now)) bytes.now) }
 {
-    let (names, behind) = read_names(alloc, bytes)?;
-    let (functions, rest) = read_functions(alloc, &names, behind)?;
+    let (functions, rest) = read_functions(alloc, names, bytes)?;
     if !rest.is_empty() {
         return Err(FieldError::Fault { left: rest.len() });
     }
-    check_used(alloc, &names, &functions, behind.len())?;
+    check_last(alloc, names, functions.as_slice(), bytes.len())?;
+    Ok((functions, rest))
+}
+
+/// The table of names and the functions.
+#[tactic(auto, unfolding(pw_files::specs::Contents::contents_at))]
+fn read_contents(
+    alloc: Global,
+    bytes: &[u8],
+) -> Result<((Vec<Name>, Items<(Name, Directives)>), &[u8]), FieldError>
+    ensures { Gives (λ x. (record { names = x.0.0.items; value = x.0.1 }, x.1.now)) result (payload_at bytes.now) }
+{
+    let (names, rest) = read_names(alloc, bytes)?;
+    let (functions, rest) = read_fields(alloc, &names, rest)?;
     Ok(((names, functions), rest))
 }
 
 /// The table of names and the functions of a whole file.
-#[tactic(auto, unfolding(crate::specs::Reading::database_file_at, pw_value::specs::FieldFrame::file_at))]
-fn read_file(alloc: Global, bytes: &[u8]) -> Result<(Vec<Name>, Vec<(Name, Directives)>), FileError>
-    ensures { GivesFile contents_view result (database_file_at bytes.now) }
+#[tactic(auto, unfolding(pw_value::specs::FieldFrame::file_at))]
+fn read_file(
+    alloc: Global,
+    bytes: &[u8],
+) -> Result<(Vec<Name>, Items<(Name, Directives)>), FileError>
+    ensures { GivesFile (λ x. record { names = x.0.items; value = x.1 }) result (database_file_at bytes.now) }
 {
     let opened = open(KIND, 1, 1, bytes)?;
     match read_contents(alloc, opened.payload) {
@@ -362,7 +390,7 @@ fn read_file(alloc: Global, bytes: &[u8]) -> Result<(Vec<Name>, Vec<(Name, Direc
 
 /// The database of a whole file, without its table of names.
 fn read_alone(alloc: Global, bytes: &[u8]) -> Result<Database, FileError>
-    ensures { GivesFile view result (functions_of (database_file_at bytes.now)) }
+    ensures { GivesFile (λ db. db.functions) result (value_of (database_file_at bytes.now)) }
 {
     let (_names, functions) = read_file(alloc, bytes)?;
     Ok(Database { functions })
@@ -372,18 +400,18 @@ fn read_alone(alloc: Global, bytes: &[u8]) -> Result<Database, FileError>
 /// breaks its rule.
 pub fn read(alloc: Global, bytes: &[u8]) -> Result<Database, FileError>
     // The bytes are the file of what is read.
-    ensures found { IfOk result (λ db. IsDatabaseFile bytes.now (view db)) }
+    ensures found { IfOk result (λ db. IsDatabaseFile bytes.now db.functions) }
     // A file of a database is read, unless memory runs out.
-    ensures only { (fs : List (List ℕ × DirectivesValue)) → IsDatabaseFile bytes.now fs → GivesFile view result (Ok fs) }
+    ensures only { (fs : List (List ℕ × AnyDirectives)) → IsDatabaseFile bytes.now fs → GivesFile (λ db. db.functions) result (Ok fs) }
     // Which fault it is.
-    ensures exact { GivesFile view result (functions_of (database_file_at bytes.now)) }
+    ensures exact { GivesFile (λ db. db.functions) result (value_of (database_file_at bytes.now)) }
 {
     read_alone(alloc, bytes)
 }
 
 /// The functions of a payload, without its table of names.
-fn read_payload_alone(alloc: Global, bytes: &[u8]) -> Result<Vec<(Name, Directives)>, FileError>
-    ensures { GivesFile (λ v. map function_view v.items) result (functions_of (placed (length bytes.now) (contents_at bytes.now))) }
+fn read_payload_alone(alloc: Global, bytes: &[u8]) -> Result<Items<(Name, Directives)>, FileError>
+    ensures { GivesFile (λ fs. fs) result (value_of (placed (length bytes.now) (payload_at bytes.now))) }
 {
     match read_contents(alloc, bytes) {
         Err(e) => Err(e.at(bytes.len())),
@@ -393,13 +421,13 @@ fn read_payload_alone(alloc: Global, bytes: &[u8]) -> Result<Vec<(Name, Directiv
 
 /// The functions that the bytes are the payload of. A fault is the first field, in order, that is short
 /// or breaks its rule, told by its offset in the payload.
-pub fn read_payload(alloc: Global, bytes: &[u8]) -> Result<Vec<(Name, Directives)>, FileError>
+pub fn read_payload(alloc: Global, bytes: &[u8]) -> Result<Items<(Name, Directives)>, FileError>
     // The bytes are the payload of what is read.
-    ensures found { IfOk result (λ v. IsPayload bytes.now (map function_view v.items)) }
+    ensures found { IfOk result (λ fs. IsPayload bytes.now fs) }
     // A payload is read, unless memory runs out.
-    ensures only { (fs : List (List ℕ × DirectivesValue)) → IsPayload bytes.now fs → GivesFile (λ v. map function_view v.items) result (Ok fs) }
+    ensures only { (fs : List (List ℕ × AnyDirectives)) → IsPayload bytes.now fs → GivesFile (λ fs. fs) result (Ok fs) }
     // Which fault it is.
-    ensures exact { GivesFile (λ v. map function_view v.items) result (functions_of (placed (length bytes.now) (contents_at bytes.now))) }
+    ensures exact { GivesFile (λ fs. fs) result (value_of (placed (length bytes.now) (payload_at bytes.now))) }
 {
     read_payload_alone(alloc, bytes)
 }

@@ -1,7 +1,8 @@
 //! The payload of a module's functions.
 
 ghost use Rattle.std.specs.Prelude.{◌≡◌, List, ℕ, map, filter, IfOk};
-ghost use Rattle.pw_db.specs.Database.{CanBeStored, DirectivesValue, IsPayload, IsStored, function_view, has_web};
+ghost use Rattle.pw_db.specs.declared.database.Directives.{Directives as AnyDirectives};
+ghost use Rattle.pw_db.specs.Database.{CanBeStored, IsPayload, IsStored, has_web};
 
 use crate::database::Directives;
 use crate::writing::write_payload;
@@ -13,7 +14,7 @@ fn with_webs(
     alloc: Global,
     functions: &[(Name, Directives)],
 ) -> Result<Vec<&(Name, Directives)>, AllocError>
-    ensures { IfOk result (λ v. map (λ f. function_view f.now) v.items ≡ filter has_web (map function_view functions.now)) }
+    ensures { IfOk result (λ v. map (λ f. f.now) v.items ≡ filter has_web functions.now) }
 {
     let mut stored = Vec::new(alloc);
     for function in functions {
@@ -26,8 +27,8 @@ fn with_webs(
 
 /// The payload of the functions whose directives hold a web, in byte order of their names.
 pub fn payload(alloc: Global, functions: &[(Name, Directives)]) -> Result<Vec<u8>, AllocError>
-    requires { CanBeStored (map function_view functions.now) }
-    ensures { IfOk result (λ v. (stored : List (List ℕ × DirectivesValue)) × IsStored (map function_view functions.now) stored × IsPayload v.items stored) }
+    requires { CanBeStored functions.now }
+    ensures { IfOk result (λ v. (stored : List (List ℕ × AnyDirectives)) × IsStored functions.now stored × IsPayload v.items stored) }
 {
     let mut stored = with_webs(alloc, functions)?;
     stored.sort_unstable_by(|one, other| one.0.cmp(&other.0));

@@ -5,7 +5,7 @@ ghost use Rattle.std.specs.List.{flat_map};
 ghost use Rattle.pw_value.specs.Fields.{u8, FitsU32};
 ghost use Rattle.pw_value.specs.FieldNames.{IsNameTable, IsTableOf};
 ghost use Rattle.pw_files.specs.Rising.{counted};
-ghost use Rattle.pw_db.specs.Database.{IsDatabase, IsDatabaseFile, IsPayload, FitsFunction, FitsDatabase, IsNamedBy, web as web_text, function as function_text, names_of, spelling, function_view, view};
+ghost use Rattle.pw_db.specs.Database.{IsDatabase, IsDatabaseFile, IsPayload, FitsFunction, FitsDatabase, IsNamedBy, web as web_text, function as function_text, names_of, spelling};
 
 use crate::database::{Database, Directives, Role, Web};
 use crate::names::{refs_of, used_names};
@@ -69,15 +69,15 @@ fn push_function(
     function: &(Name, Directives),
 ) -> Result<(), AllocError>
     requires table { IsNameTable names.now }
-    requires stand { IsNamedBy names.now (function_view function.now) }
-    ensures fits { OnOk result (FitsFunction (function_view function.now)) }
-    ensures written { OnOk result (out.new.items ≡ out.old.items ++ function_text names.now (function_view function.now)) }
+    requires stand { IsNamedBy names.now function.now }
+    ensures fits { OnOk result (FitsFunction function.now) }
+    ensures written { OnOk result (out.new.items ≡ out.old.items ++ function_text names.now function.now) }
 {
     push_name(out, names, &function.0)?;
     push_count(out, function.1.webs.len())?;
-    push_webs(out, names, &function.1.webs)?;
+    push_webs(out, names, function.1.webs.as_slice())?;
     push_count(out, function.1.free.len())?;
-    push_registers(out, &function.1.free)?;
+    push_registers(out, function.1.free.as_slice())?;
     Ok(())
 }
 
@@ -88,9 +88,9 @@ fn push_functions(
     functions: &[&(Name, Directives)],
 ) -> Result<(), AllocError>
     requires table { IsNameTable names.now }
-    requires stand { All (λ f. IsNamedBy names.now (function_view f.now)) functions.now }
-    ensures fits { OnOk result (All (λ f. FitsFunction (function_view f.now)) functions.now) }
-    ensures written { OnOk result (out.new.items ≡ out.old.items ++ flat_map (function_text names.now) (map (λ f. function_view f.now) functions.now)) }
+    requires stand { All (λ f. IsNamedBy names.now f.now) functions.now }
+    ensures fits { OnOk result (All (λ f. FitsFunction f.now) functions.now) }
+    ensures written { OnOk result (out.new.items ≡ out.old.items ++ flat_map (function_text names.now) (map (λ f. f.now) functions.now)) }
 {
     for function in functions {
         push_function(out, names, function)?;
@@ -106,9 +106,9 @@ fn write_contents(
     functions: &[&(Name, Directives)],
 ) -> Result<Vec<u8>, AllocError>
     requires table { IsNameTable names.now }
-    requires stand { All (λ f. IsNamedBy names.now (function_view f.now)) functions.now }
-    ensures fits { OnOk result (FitsDatabase (map (λ f. function_view f.now) functions.now)) }
-    ensures written { IfOk result (λ v. v.items ≡ spelling (record { names = names.now; functions = map (λ f. function_view f.now) functions.now })) }
+    requires stand { All (λ f. IsNamedBy names.now f.now) functions.now }
+    ensures fits { OnOk result (FitsDatabase (map (λ f. f.now) functions.now)) }
+    ensures written { IfOk result (λ v. v.items ≡ spelling (record { names = names.now; value = map (λ f. f.now) functions.now })) }
 {
     let mut out = Vec::new(alloc);
     push_names(&mut out, names)?;
@@ -122,8 +122,8 @@ pub(crate) fn write_payload(
     alloc: Global,
     functions: &[&(Name, Directives)],
 ) -> Result<Vec<u8>, AllocError>
-    requires { IsDatabase (map (λ f. function_view f.now) functions.now) }
-    ensures { IfOk result (λ v. IsPayload v.items (map (λ f. function_view f.now) functions.now)) }
+    requires { IsDatabase (map (λ f. f.now) functions.now) }
+    ensures { IfOk result (λ v. IsPayload v.items (map (λ f. f.now) functions.now)) }
 {
     let used = used_names(alloc, functions)?;
     let names = make_table(alloc, used)?;
@@ -132,10 +132,10 @@ pub(crate) fn write_payload(
 
 /// The one file of a database. Where it would be longer than a file can be, that is want of memory.
 pub fn write(alloc: Global, db: &Database) -> Result<Vec<u8>, AllocError>
-    requires { IsDatabase (view db.now) }
-    ensures { IfOk result (λ v. IsDatabaseFile v.items (view db.now)) }
+    requires { IsDatabase db.now.functions }
+    ensures { IfOk result (λ v. IsDatabaseFile v.items db.now.functions) }
 {
-    let refs = refs_of(alloc, &db.functions)?;
+    let refs = refs_of(alloc, db.functions.as_slice())?;
     let payload = write_payload(alloc, &refs)?;
     seal_payload(alloc, KIND, 1, &payload)
 }

@@ -1,6 +1,6 @@
 -- What stands behind a file's header: the table of the names that its value uses, and the value's fields,
 -- to their end.
-use Rattle.std.specs.Prelude.{ℕ, List, length, Option, Some, None, Result, Ok, Err}
+use Rattle.std.specs.Prelude.{◌≡◌, ℕ, List, length, Option, Some, None, Result, Ok, Err}
 use Rattle.pw_value.specs.Fields.{◌>>=◌, FitsU32}
 use Rattle.pw_value.specs.FieldFrame.{here, IsFileOf, file_at}
 use Rattle.pw_value.specs.FieldNames.{names_at, first_unused, IsTableOf}
@@ -21,6 +21,10 @@ pub record IsContents {V : Type 0} (IsLawful Fits : V → Type 0) (names_of : V 
 -- the bytes are the file of the value, in version 1
 abbrev pub IsFileWith : {V : Type 0} → ℕ → (Contents V → List ℕ) → (Contents V → Type 0) → List ℕ → V → Type 0
 IsFileWith {V = V} kind spelling Is bytes v = (names : List (List ℕ)) × IsFileOf {X = Contents V} kind 1 1 (λ version. spelling) (λ version. Is) bytes (record { names = names; value = v })
+
+-- the bytes are the contents of the value, alone
+abbrev pub IsContentsOf : {V : Type 0} → (Contents V → List ℕ) → (Contents V → Type 0) → List ℕ → V → Type 0
+IsContentsOf spelling Is bytes v = (names : List (List ℕ)) × Is (record { names = names; value = v }) × (bytes ≡ spelling (record { names = names; value = v }))
 
 -- ---- the rules that are looked at last
 

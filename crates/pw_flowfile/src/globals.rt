@@ -189,7 +189,7 @@ pub fn read_global_body<'a>(
     ensures named { IfOk result (λ x. x.0.name ≡ name.now) }
 {
     let (size, rest) = read_u32(bytes)?;
-    let (shape, rest) = read_text(alloc, rest)?;
+    let (shape, rest) = read_text_in_place(rest)?;
     let (kind, rest) = read_sized_kind(size, rest)?;
     let (volatile, rest) = read_flag(rest)?;
     let (count, rest) = read_u32(rest)?;
@@ -197,7 +197,7 @@ pub fn read_global_body<'a>(
     let global = FlowGlobal {
         name: name.copy(alloc)?,
         size,
-        shape: Shape::new(shape),
+        shape: Shape::new(Vec::from_slice(alloc, shape)?),
         kind,
         volatile,
         items,

@@ -12,7 +12,7 @@ use crate::met::read_fresh;
 use pw_flow::{Block, FlowFn};
 use pw_flowops::{Counts, read_end, read_few, read_ops};
 use pw_items::Items;
-use pw_value::fields::{FieldError, read_text, read_u32};
+use pw_value::fields::{FieldError, read_text_in_place, read_u32};
 use pw_value::limits::ROOM_LIMIT;
 use pw_value::{Name, Shape};
 use std::alloc::Global;
@@ -132,7 +132,7 @@ fn read_function_body<'a>(
     ensures found { Gives (λ x. (x.0, x.1.now)) result (function_body_at names.now name.now bytes.now) }
     ensures named { IfOk result (λ x. x.0.name ≡ name.now) }
 {
-    let (shape, rest) = read_text(alloc, bytes)?;
+    let (shape, rest) = read_text_in_place(bytes)?;
     let (params, rest) = read_few(rest)?;
     let (temps, rest) = read_temp_count(params, rest)?;
     let (slot_count, rest) = read_u32(rest)?;
@@ -145,7 +145,7 @@ fn read_function_body<'a>(
     let (blocks, rest) = read_blocks(alloc, names, at, count, rest)?;
     let function = FlowFn {
         name: name.copy(alloc)?,
-        shape: Shape::new(shape),
+        shape: Shape::new(Vec::from_slice(alloc, shape)?),
         params,
         temps,
         slots,

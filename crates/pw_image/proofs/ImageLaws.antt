@@ -1,5 +1,5 @@
 -- The two laws of image files: what is read is the file of an image, and the file of an image is read.
-use Rattle.std.proofs.Common.{◌≡◌, ℕ, ◌+◌, ◌*◌, ◌%◌, ◌^◌, ◌<◌, ◌≤◌, Bool, true, false, cond, List, [], ◌∷◌, ◌++◌, length, map, Result, Ok, Err, refl, sym, ap, subst, ◌∙◌, append_assoc, arith, lit<}
+use Rattle.std.proofs.Common.{◌≡◌, ℕ, ◌+◌, ◌-◌, ◌*◌, ◌%◌, ◌^◌, ◌<◌, ◌≤◌, Bool, true, false, cond, List, [], ◌∷◌, ◌++◌, length, map, Result, Ok, Err, refl, sym, ap, subst, ◌∙◌, append_assoc, arith, lit<}
 use Rattle.std.specs.Prelude.{IsTrue, IfOk, Contains, nat_le, nat_lt, ◌==◌, ◌&&◌}
 use Rattle.std.specs.List.{flat_map, AllByRecursion}
 use Rattle.std.specs.Cmp.{first_so, second_so}
@@ -7,6 +7,7 @@ use Rattle.std.specs.Cmp.Derive.{both_true}
 use Rattle.std.proofs.lemmas.Bool.{eqb-true, eq-eqb, leb-true, le-leb, ltb-true, lt-ltb}
 use Rattle.std.proofs.lemmas.List.{length-append}
 use Rattle.pw_value.specs.declared.fault.FileError.{FileError}
+use Rattle.pw_value.specs.Limits.{text_start, word_limit, memory_size}
 use Rattle.pw_value.specs.Fields.{checked, u32_at, text_at, items_at, repeated, u32, text, FitsU32, FitsText, FitInTurn}
 use Rattle.pw_value.specs.FieldFaults.{GivesFile}
 use Rattle.pw_value.specs.FieldLaws.{AreBytes, Spells, SpellsWhole}
@@ -27,11 +28,11 @@ use Rattle.pw_image.specs.Reading.{is_in_text, item_at, next_free, memory_at, fu
 
 text_forth : (words address : ℕ) → is_in_text words address ≡ true → IsInText words address
 text_forth words address e =
-    let rest = second_so (address % 4 == 0) (nat_le 4096 address && nat_lt address (4096 + 4 * words)) e in
+    let rest = second_so (address % 4 == 0) (nat_le text_start address && nat_lt address (text_start + 4 * words)) e in
     record {
-      aligned = eqb-true _ _ (first_so (address % 4 == 0) (nat_le 4096 address && nat_lt address (4096 + 4 * words)) e);
-      start = leb-true _ _ (first_so (nat_le 4096 address) (nat_lt address (4096 + 4 * words)) rest);
-      within = ltb-true _ _ (second_so (nat_le 4096 address) (nat_lt address (4096 + 4 * words)) rest);
+      aligned = eqb-true _ _ (first_so (address % 4 == 0) (nat_le text_start address && nat_lt address (text_start + 4 * words)) e);
+      start = leb-true _ _ (first_so (nat_le text_start address) (nat_lt address (text_start + 4 * words)) rest);
+      within = ltb-true _ _ (second_so (nat_le text_start address) (nat_lt address (text_start + 4 * words)) rest);
     }
 
 text_back : (words address : ℕ) → IsInText words address → is_in_text words address ≡ true
@@ -72,7 +73,7 @@ items_back size free (i ∷ items) are = ((are.0, are.1), items_back size (free_
 -- ---- the memory, but for the rule of the entry
 
 abbrev MemorySteps : MemoryValue → Type 0
-MemorySteps m = FitsU32 m.entry × (FitsU32 m.stack × ((m.stack_end ≤ 67108864) × ((length m.words ≤ 65536) × (AllByRecursion FitsU32 m.words
+MemorySteps m = FitsU32 m.entry × (FitsU32 m.stack × ((m.stack_end ≤ memory_size) × ((length m.words ≤ word_limit) × (AllByRecursion FitsU32 m.words
     × ((data_start (length m.words) + m.data_size ≤ m.stack_end) × (FitsU32 (length m.items) × (AreItems m.data_size 0 m.items × Unit {0})))))))
 
 data_again : (words count size end stack_end : ℕ) → words ≡ count → end ≡ stack_end → stack_end < 2 ^ 32 → data_start words + size ≤ end → FitsU32 size × IsTrue (nat_le (data_start count + size) stack_end)
@@ -85,10 +86,10 @@ unfolding memory_at
 memory_spells = format memory MemorySteps memory MemorySteps _
     (step _ _ u32 FitsU32 u32_at _ _ _ (λ m. m.entry) u32_spells
     (λ entry entry_fits. step _ _ u32 FitsU32 u32_at _ _ _ (λ m. m.stack) u32_spells
-    (λ stack stack_fits. step_where _ _ u32 (λ e. FitsU32 e × IsTrue (nat_le e 67108864)) (checked (λ e. nat_le e 67108864) u32_at) _ (λ m. m.stack_end ≤ 67108864) _ _ (λ m. m.stack_end)
-    (checked_spells u32 FitsU32 u32_at (λ e. nat_le e 67108864) u32_spells) (λ m k h. leb-true _ _ h.1) (λ m k h. (omega arith, le-leb _ _ h))
-    (λ stack_end end_fits. step_where _ _ u32 (λ n. FitsU32 n × IsTrue (nat_le n 65536)) (checked (λ n. nat_le n 65536) u32_at) _ (λ m. length m.words ≤ 65536) _ _ (λ m. length m.words)
-    (checked_spells u32 FitsU32 u32_at (λ n. nat_le n 65536) u32_spells) (λ m k h. leb-true _ _ h.1) (λ m k h. (omega arith, le-leb _ _ h))
+    (λ stack stack_fits. step_where _ _ u32 (λ e. FitsU32 e × IsTrue (nat_le e memory_size)) (checked (λ e. nat_le e memory_size) u32_at) _ (λ m. m.stack_end ≤ memory_size) _ _ (λ m. m.stack_end)
+    (checked_spells u32 FitsU32 u32_at (λ e. nat_le e memory_size) u32_spells) (λ m k h. leb-true _ _ h.1) (λ m k h. (omega arith, le-leb _ _ h))
+    (λ stack_end end_fits. step_where _ _ u32 (λ n. FitsU32 n × IsTrue (nat_le n word_limit)) (checked (λ n. nat_le n word_limit) u32_at) _ (λ m. length m.words ≤ word_limit) _ _ (λ m. length m.words)
+    (checked_spells u32 FitsU32 u32_at (λ n. nat_le n word_limit) u32_spells) (λ m k h. leb-true _ _ h.1) (λ m k h. (omega arith, le-leb _ _ h))
     (λ count count_fits. step_where _ _ (flat_map u32) (λ ws. (length ws ≡ count) × AllByRecursion FitsU32 ws) (repeated u32_at count) _ (λ m. AllByRecursion FitsU32 m.words) _ _ (λ m. m.words)
     (repeated_spells u32 FitsU32 u32_at u32_spells count) (λ m k h. h.1) (λ m k h. (k.1, h))
     (λ words words_fit. step_where _ _ u32 (λ s. FitsU32 s × IsTrue (nat_le (data_start count + s) stack_end)) (checked (λ s. nat_le (data_start count + s) stack_end) u32_at) _ (λ m. data_start (length m.words) + m.data_size ≤ m.stack_end) _ _ (λ m. m.data_size)
@@ -110,10 +111,10 @@ memory_spells = format memory MemorySteps memory MemorySteps _
 abbrev FitsFunction : List (List ℕ) → ℕ → Function → Type 0
 FitsFunction names words f = Contains names f.name × (IsInText words f.address × (FitsU32 f.frame × Unit {0}))
 
-address_fits : (words address : ℕ) → words ≤ 65536 → IsInText words address → FitsU32 address
+address_fits : (words address : ℕ) → words ≤ word_limit → IsInText words address → FitsU32 address
 address_fits words address few h = omega (arith, h.within)
 
-function_spells : (names : List (List ℕ)) → IsNameTable names → (words : ℕ) → words ≤ 65536 → Spells (function names) (FitsFunction names words) (function_at names words)
+function_spells : (names : List (List ℕ)) → IsNameTable names → (words : ℕ) → words ≤ word_limit → Spells (function names) (FitsFunction names words) (function_at names words)
 unfolding function_at
 function_spells names table words few = format (function names) (FitsFunction names words) (function names) (FitsFunction names words) _
     (step _ _ (name_index names) (Contains names) (name_at names) _ _ _ (λ f. f.name) (name_spells names table)
@@ -245,30 +246,40 @@ contents_forth c s entry =
     let m = s.0 in
     record {
       image = record {
-        memory = record { entry = entry; stack = m.1.0; stack_end = m.1.1.0; count = m.1.1.1.0; words = m.1.1.1.1.0; data_fits = m.1.1.1.1.1.0; item_count = m.1.1.1.1.1.1.0; items = m.1.1.1.1.1.1.1.0 };
-        function_count = s.1.1.0;
+        memory = record { entry = entry; stack = m.1.0; stack_end = m.1.1.0; count = m.1.1.1.0; words = m.1.1.1.1.0; data_fits = m.1.1.1.1.1.0; items = m.1.1.1.1.1.1.1.0 };
         functions = functions_forth c.names n c.image.functions s.1.1.1.0;
-        global_count = s.1.1.1.1.0;
         globals = globals_forth c.names c.image.globals s.1.1.1.1.1.0;
       };
+      function_count = s.1.1.0;
+      global_count = s.1.1.1.1.0;
       name_count = s.1.0.count;
       names = table_of_used c.names (names_of c.image) s.1.0 s.1.1.1.1.1.1 (used_in_map c.names n c.image.functions c.image.globals s.1.1.1.0 s.1.1.1.1.1.0);
     }
+
+-- items in rising order are no more than there are offsets
+items_within : (size free : ℕ) (items : List Item) → AreItems size free items → length items ≤ size + 1 - free
+items_within size free [] are = omega arith
+items_within size free (i ∷ items) are = omega (arith, are.0, are.1, items_within size (free_behind i) items are.2)
+
+items_few : (c : Contents) → IsContents c → FitsU32 (length c.image.memory.items)
+items_few c is =
+    let m = is.image.memory in
+    omega (arith, items_within c.image.memory.data_size 0 c.image.memory.items m.items, m.data_fits, m.stack_end)
 
 contents_back : (c : Contents) → IsContents c → ContentsSteps c
 contents_back c is =
     let n = length c.image.memory.words in
     let m = is.image.memory in
     let used = used_by_table c.names (names_of c.image) is.names in (
-      (omega (arith, m.entry.within, m.count), (m.stack, (m.stack_end, (m.count, (m.words, (m.data_fits, (m.item_count, (m.items, tt)))))))),
+      (omega (arith, m.entry.within, m.count), (m.stack, (m.stack_end, (m.count, (m.words, (m.data_fits, (items_few c is, (m.items, tt)))))))),
       (
         record { count = is.name_count; rising = is.names.rising },
         (
-          is.image.function_count,
+          is.function_count,
           (
             functions_back c.names n c.image.functions c.image.globals used.1 is.image.functions,
             (
-              is.image.global_count,
+              is.global_count,
               (globals_back c.names c.image.functions c.image.globals used.1 is.image.globals, used.0),
             ),
           ),

@@ -1,6 +1,7 @@
 -- The image of a linked program: what a machine starts with, and where functions and globals stand.
 use Rattle.std.specs.Prelude.{◌≡◌, ℕ, ◌+◌, ◌*◌, ◌/◌, ◌%◌, ◌<◌, ◌≤◌, ◌^◌, List, [], ◌∷◌, ◌++◌, length, map, max}
 use Rattle.std.specs.List.{flat_map, AllByRecursion}
+use Rattle.pw_value.specs.Limits.{text_start, word_limit, memory_size}
 use Rattle.pw_value.specs.Fields.{u32, text, parts, FitsU32}
 use Rattle.pw_value.specs.FieldFrame.{IsFileOf}
 use Rattle.pw_value.specs.FieldNames.{name_table, name_index, IsTableOf}
@@ -44,15 +45,15 @@ view i = record { memory = memory_view i.memory; functions = i.functions.items; 
 
 -- ---- the rules
 
--- a word's address: the text has so many words from 4,096 on
+-- a word's address, where the text has so many words
 pub record IsInText (words address : ℕ) : Type 0 where
   pub aligned : address % 4 ≡ 0
-  pub start : 4096 ≤ address
-  pub within : address < 4096 + 4 * words
+  pub start : text_start ≤ address
+  pub within : address < text_start + 4 * words
 
 -- the data start behind the text, at the next multiple of 8
 abbrev pub data_start : ℕ → ℕ
-data_start words = (4096 + 4 * words + 7) / 8 * 8
+data_start words = (text_start + 4 * words + 7) / 8 * 8
 
 -- the least offset that the next item may have: offsets rise, and items do not overlap
 abbrev pub free_behind : Item → ℕ
@@ -66,18 +67,15 @@ AreItems size free (i ∷ items) = (free ≤ i.offset) × (i.offset + length i.b
 pub record IsMemory (m : MemoryValue) : Type 0 where
   pub entry : IsInText (length m.words) m.entry
   pub stack : m.stack < 2 ^ 32
-  pub stack_end : m.stack_end ≤ 67108864
-  pub count : length m.words ≤ 65536
+  pub stack_end : m.stack_end ≤ memory_size
+  pub count : length m.words ≤ word_limit
   pub words : AllByRecursion FitsU32 m.words
   pub data_fits : data_start (length m.words) + m.data_size ≤ m.stack_end
-  pub item_count : length m.items < 2 ^ 32
   pub items : AreItems m.data_size 0 m.items
 
 pub record IsImage (v : ImageValue) : Type 0 where
   pub memory : IsMemory v.memory
-  pub function_count : length v.functions < 2 ^ 32
   pub functions : AllByRecursion (λ f. IsInText (length v.memory.words) f.address × FitsU32 f.frame) v.functions
-  pub global_count : length v.globals < 2 ^ 32
   pub globals : AllByRecursion (λ g. FitsU32 g.address) v.globals
 
 -- ---- the spelling
@@ -112,9 +110,12 @@ spelling c = parts (memory c.image.memory ∷ name_table c.names
     ∷ u32 (length c.image.functions) ∷ flat_map (function c.names) c.image.functions
     ∷ u32 (length c.image.globals) ∷ flat_map (global c.names) c.image.globals ∷ [])
 
+-- the image is lawful, its lists fit into the file's counts, and the table has the names that it uses
 pub record IsContents (c : Contents) : Type 0 where
   pub image : IsImage c.image
-  pub name_count : length c.names < 2 ^ 32
+  pub function_count : FitsU32 (length c.image.functions)
+  pub global_count : FitsU32 (length c.image.globals)
+  pub name_count : FitsU32 (length c.names)
   pub names : IsTableOf c.names (names_of c.image)
 
 -- PAWI

@@ -1,5 +1,6 @@
 -- Reading an image file from left to right, with the first fault that is met.
 use Rattle.std.specs.Prelude.{ℕ, ◌+◌, ◌*◌, ◌%◌, List, length, Result, Ok, Err, Option, Some, None, Bool, false, nat_le, nat_lt, ◌==◌, ◌&&◌, if◌then◌else◌}
+use Rattle.pw_value.specs.Limits.{text_start, word_limit, memory_size}
 use Rattle.pw_value.specs.Fields.{◌>>=◌, done, checked, u32_at, bytes_at, text_at, items_at, repeated}
 use Rattle.pw_value.specs.FieldFrame.{here, ended, file_at}
 use Rattle.pw_value.specs.FieldNames.{names_at, name_at, first_unused}
@@ -8,7 +9,7 @@ use Rattle.pw_image.specs.declared.image.GlobalObject.{GlobalObject}
 use Rattle.pw_image.specs.Image.{Item, MemoryValue, ImageValue, Contents, data_start, free_behind, names_of, kind}
 
 abbrev pub is_in_text : ℕ → ℕ → Bool
-is_in_text words address = (address % 4 == 0) && (nat_le 4096 address && nat_lt address (4096 + 4 * words))
+is_in_text words address = (address % 4 == 0) && (nat_le text_start address && nat_lt address (text_start + 4 * words))
 
 -- ---- the memory
 
@@ -25,8 +26,8 @@ unfoldable pub memory_at : List ℕ → Result (MemoryValue × List ℕ) ℕ
 memory_at = do
   entry ← u32_at
   stack ← u32_at
-  stack_end ← checked (λ e. nat_le e 67108864) u32_at
-  count ← checked (λ n. nat_le n 65536) u32_at
+  stack_end ← checked (λ e. nat_le e memory_size) u32_at
+  count ← checked (λ n. nat_le n word_limit) u32_at
   words ← repeated u32_at count
   data_size ← checked (λ s. nat_le (data_start count + s) stack_end) u32_at
   item_count ← u32_at

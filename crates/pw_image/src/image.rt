@@ -3,15 +3,15 @@
 use pw_value::Name;
 
 /// Bytes at an offset from the start of the data.
-#[derive(Debug, Drop)]
+#[derive(Drop)]
 pub struct DataItem {
     pub offset: u32,
     pub bytes: Vec<u8>,
 }
 
-/// What a machine starts with. The text has its words from the address 4,096 on, and the data start
+/// What a machine starts with. The text has its words from the address `TEXT_START` on, and the data start
 /// behind it at the next multiple of 8; what no item of the data fills is 0.
-#[derive(Debug, Drop)]
+#[derive(Drop)]
 pub struct Memory {
     /// The address at which the run starts.
     pub entry: u32,
@@ -26,7 +26,7 @@ pub struct Memory {
 }
 
 /// Where a function stands, and the bytes of its frame.
-#[derive(Debug, Drop)]
+#[derive(Drop)]
 pub struct Function {
     pub name: Name,
     pub address: u32,
@@ -34,14 +34,14 @@ pub struct Function {
 }
 
 /// Where an object with static lifetime stands.
-#[derive(Debug, Drop)]
+#[derive(Drop)]
 pub struct GlobalObject {
     pub name: Name,
     pub address: u32,
 }
 
 /// A program's memory, and the map of its functions and global objects in the order of linking.
-#[derive(Debug, Drop)]
+#[derive(Drop)]
 pub struct Image {
     pub memory: Memory,
     pub functions: Vec<Function>,

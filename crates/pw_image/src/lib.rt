@@ -11,6 +11,3 @@ pub use image::{DataItem, Function, GlobalObject, Image, Memory};
 pub use load::{LoadError, Map, read_map};
 pub use reading::{KIND, read_image};
 pub use writing::write_image;
-
-#[cfg(test)]
-mod tests;

@@ -42,7 +42,7 @@ impl From<FileError> for LoadError {
 }
 
 /// Where a program's names stand, in the order of linking.
-#[derive(Debug, Drop)]
+#[derive(Drop)]
 pub struct Map {
     /// Each function's name, its address and the bytes of its frame.
     pub functions: Vec<(Name, u32, u32)>,

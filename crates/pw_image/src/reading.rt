@@ -5,6 +5,7 @@ ghost use Rattle.pw_value.specs.Fields.{u32_at, text_at, items_at, repeated, che
 ghost use Rattle.std.specs.Prelude.{◌<◌, ◌^◌};
 ghost use Rattle.std.specs.List.{flat_map};
 ghost use Rattle.pw_value.specs.Fields.{text};
+ghost use Rattle.pw_value.specs.FieldFrame.{ended};
 ghost use Rattle.pw_value.specs.FieldNames.{first_unused};
 ghost use Rattle.pw_value.specs.FieldFaults.{Gives, GivesFile};
 ghost use Rattle.pw_image.specs.Image.{Contents, ImageValue, data_start, free_behind, item_view, memory_view, view, contents_view, names_of, IsImageFile};
@@ -14,23 +15,18 @@ use crate::image::{DataItem, Function, GlobalObject, Image, Memory};
 use pw_value::fields::frame::{check_digest, open};
 use pw_value::fields::names::{find_unused, read_name, read_names};
 use pw_value::fields::{FieldError, read_bytes, read_text_in_place, read_u32};
+use pw_value::limits::{MEMORY_SIZE, TEXT_START, WORD_LIMIT};
 use pw_value::{FileError, Name};
 use std::alloc::{AllocError, Global};
 
 /// `PAWI`, the first four bytes of an image file.
 pub const KIND: u32 = 0x5041_5749;
 
-/// The greatest address that may stand behind the stack.
-const MEMORY_END: u32 = 67_108_864;
-
-/// The most words of a text.
-const MOST_WORDS: u32 = 65_536;
-
 /// Whether an address is that of a word, in a text of so many words.
 fn is_word_address(words: u64, address: u32) -> bool
     ensures { result ≡ is_in_text words address }
 {
-    address % 4 == 0 && 4096 <= address && u64::from((address - 4096) / 4) < words
+    address % 4 == 0 && TEXT_START <= address && u64::from((address - TEXT_START) / 4) < words
 }
 
 /// A number, of at most so many.
@@ -64,7 +60,7 @@ fn read_data_size(words: u32, stack_end: u32, bytes: &[u8]) -> Result<(u32, &[u8
     ensures { Gives (λ x. (x.0, x.1.now)) result (checked (λ s. nat_le (data_start words + s) stack_end) u32_at bytes.now) }
 {
     let (size, rest) = read_u32(bytes)?;
-    let start = (4096 + 4 * u64::from(words) + 7) / 8 * 8;
+    let start = (u64::from(TEXT_START) + 4 * u64::from(words) + 7) / 8 * 8;
     if start + u64::from(size) <= u64::from(stack_end) {
         Ok((size, rest))
     } else {
@@ -147,8 +143,8 @@ fn read_memory(alloc: Global, bytes: &[u8]) -> Result<(Memory, &[u8]), FieldErro
 {
     let (entry, rest) = read_u32(bytes)?;
     let (stack, rest) = read_u32(rest)?;
-    let (stack_end, rest) = read_at_most(MEMORY_END, rest)?;
-    let (count, rest) = read_at_most(MOST_WORDS, rest)?;
+    let (stack_end, rest) = read_at_most(MEMORY_SIZE, rest)?;
+    let (count, rest) = read_at_most(WORD_LIMIT, rest)?;
     let (words, rest) = read_words(alloc, count, rest)?;
     let (data_size, rest) = read_data_size(count, stack_end, rest)?;
     let (item_count, rest) = read_u32(rest)?;
@@ -315,10 +311,24 @@ fn read_contents(alloc: Global, bytes: &[u8]) -> Result<((Vec<Name>, Image), &[u
         functions,
         globals,
     };
+    end_contents(alloc, names, image, behind.len(), rest)
+}
+
+/// The table of names and the image, where nothing is left behind them and no late rule is broken.
+fn end_contents(
+    alloc: Global,
+    names: Vec<Name>,
+    image: Image,
+    behind: usize,
+    rest: &[u8],
+) -> Result<((Vec<Name>, Image), &[u8]), FieldError>
+    requires { length (flat_map text names.items) + behind < 2 ^ 64 }
+    ensures { Gives (λ x. (contents_view x.0, x.1.now)) result (ended (first_unused names.items (names_of (view image)) behind) (contents_view (names, image)) rest.now) }
+{
     if !rest.is_empty() {
         return Err(FieldError::Fault { left: rest.len() });
     }
-    check_used(alloc, &names, &image, behind.len())?;
+    check_used(alloc, &names, &image, behind)?;
     Ok(((names, image), rest))
 }
 

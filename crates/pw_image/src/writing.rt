@@ -2,16 +2,16 @@
 
 ghost use Rattle.std.specs.Prelude.{◌≡◌, [], ◌∷◌, ◌++◌, ◌<◌, ◌^◌, ℕ, List, length, map, OnOk, IfOk, All, Contains};
 ghost use Rattle.std.specs.List.{flat_map};
-ghost use Rattle.pw_value.specs.Fields.{u32, parts, FitsText};
+ghost use Rattle.pw_value.specs.Fields.{u32, parts, FitsText, FitsU32};
 ghost use Rattle.pw_value.specs.FieldFrame.{FitsFile};
 ghost use Rattle.pw_value.specs.FieldNames.{IsNameTable, IsTableOf};
 ghost use Rattle.pw_image.specs.Image.{Contents, IsMemory, IsImage, IsContents, IsImageFile, item as item_text, memory as memory_text, function as function_text, global as global_text, item_view, memory_view, view, names_of, spelling};
 
 use crate::image::{DataItem, Function, GlobalObject, Image, Memory};
 use crate::reading::{KIND, used_names};
+use pw_files::writing::{make_table, push_count, seal_payload};
 use pw_value::Name;
-use pw_value::fields::frame::seal;
-use pw_value::fields::names::{push_name, push_names, table_of};
+use pw_value::fields::names::{push_name, push_names};
 use pw_value::fields::writing::{push_text, push_u32};
 use std::alloc::{AllocError, Global};
 
@@ -113,22 +113,20 @@ fn push_start(out: &mut Vec<u8>, memory: &Memory) -> Result<(), AllocError>
 
 /// The text.
 fn push_code(out: &mut Vec<u8>, words: &[u32]) -> Result<(), AllocError>
-    requires { length words.now < 2 ^ 32 }
     ensures { OnOk result (out.new.items ≡ out.old.items ++ parts (u32 (length words.now) ∷ flat_map u32 words.now ∷ [])) }
 {
-    push_u32(out, words.len() as u32)?;
+    push_count(out, words.len())?;
     push_words(out, words)?;
     Ok(())
 }
 
 /// The data.
 fn push_data(out: &mut Vec<u8>, size: u32, items: &[DataItem]) -> Result<(), AllocError>
-    requires count { length items.now < 2 ^ 32 }
-    requires texts { All (λ i. FitsText i.bytes.items) items.now }
+    requires { All (λ i. FitsText i.bytes.items) items.now }
     ensures { OnOk result (out.new.items ≡ out.old.items ++ parts (u32 size ∷ u32 (length items.now) ∷ flat_map item_text (map item_view items.now) ∷ [])) }
 {
     push_u32(out, size)?;
-    push_u32(out, items.len() as u32)?;
+    push_count(out, items.len())?;
     push_items(out, items)?;
     Ok(())
 }
@@ -146,21 +144,27 @@ fn push_memory(out: &mut Vec<u8>, memory: &Memory) -> Result<(), AllocError>
 
 /// The functions and the global objects of the map.
 fn push_map(out: &mut Vec<u8>, names: &[Name], image: &Image) -> Result<(), AllocError>
-    requires { IsContents (record { names = names.now; image = view image.now }) }
-    ensures { OnOk result (out.new.items ≡ out.old.items ++ parts (u32 (length image.now.functions.items) ∷ flat_map (function_text names.now) image.now.functions.items
+    requires count { FitsU32 (length names.now) }
+    requires table { IsTableOf names.now (names_of (view image.now)) }
+    ensures functions { OnOk result (FitsU32 (length image.now.functions.items)) }
+    ensures globals { OnOk result (FitsU32 (length image.now.globals.items)) }
+    ensures written { OnOk result (out.new.items ≡ out.old.items ++ parts (u32 (length image.now.functions.items) ∷ flat_map (function_text names.now) image.now.functions.items
         ∷ u32 (length image.now.globals.items) ∷ flat_map (global_text names.now) image.now.globals.items ∷ [])) }
 {
-    push_u32(out, image.functions.len() as u32)?;
+    push_count(out, image.functions.len())?;
     push_functions(out, names, &image.functions)?;
-    push_u32(out, image.globals.len() as u32)?;
+    push_count(out, image.globals.len())?;
     push_globals(out, names, &image.globals)?;
     Ok(())
 }
 
 /// The payload of an image file.
 fn write_payload(alloc: Global, names: &[Name], image: &Image) -> Result<Vec<u8>, AllocError>
-    requires { IsContents (record { names = names.now; image = view image.now }) }
-    ensures { IfOk result (λ v. v.items ≡ spelling (record { names = names.now; image = view image.now })) }
+    requires image { IsImage (view image.now) }
+    requires count { FitsU32 (length names.now) }
+    requires table { IsTableOf names.now (names_of (view image.now)) }
+    ensures contents { OnOk result (IsContents (record { names = names.now; image = view image.now })) }
+    ensures spelled { IfOk result (λ v. v.items ≡ spelling (record { names = names.now; image = view image.now })) }
 {
     let mut out = Vec::new(alloc);
     push_memory(&mut out, &image.memory)?;
@@ -169,15 +173,13 @@ fn write_payload(alloc: Global, names: &[Name], image: &Image) -> Result<Vec<u8>
     Ok(out)
 }
 
-/// The one file of an image.
+/// The one file of an image. A file that would be too long for its fields is answered as want of memory.
 pub fn write_image(alloc: Global, image: &Image) -> Result<Vec<u8>, AllocError>
-    requires image { IsImage (view image.now) }
-    // The file is not too long for its field of length.
-    requires room { (names : List (List ℕ)) → IsTableOf names (names_of (view image.now)) → FitsFile (spelling (record { names = names; image = view image.now })) }
+    requires { IsImage (view image.now) }
     ensures { IfOk result (λ v. (names : List (List ℕ)) × IsImageFile v.items (record { names = names; image = view image.now })) }
 {
     let used = used_names(alloc, image)?;
-    let names = table_of(alloc, used)?;
+    let names = make_table(alloc, used)?;
     let payload = write_payload(alloc, &names, image)?;
-    seal(alloc, KIND, 1, &payload)
+    seal_payload(alloc, KIND, 1, &payload)
 }

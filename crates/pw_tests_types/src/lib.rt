@@ -3,4 +3,8 @@
 #![tactic(auto)]
 
 #[cfg(test)]
+mod typed;
+#[cfg(test)]
+mod types;
+#[cfg(test)]
 mod values;

@@ -1,3 +1,2 @@
 pub mod NodeLemmas
 pub mod Rows
-pub mod SpineLaws

@@ -5,8 +5,8 @@ use Rattle.std.specs.Option.{option_map_or}
 use Rattle.pw_types.specs.TypedTrees.{Expression, Node, Number, Str, Local, Global, Function, Unary, Binary, Logic, Cond, Comma, Assign, Compound, Step, Cast, Decay, Member, Deref, Address, Call, CallValue}
 use Rattle.pw_typed.specs.Views.{view_expr, view_exprs}
 use Rattle.pw_typed.specs.declared.tree.TExpr.{TExpr}
-use Rattle.pw_typed.specs.Rooms.{expr_nodes, nodes_of_all}
-use Rattle.pw_typed.specs.Spines.{first_of, others_of}
+use Rattle.pw_types.specs.Rooms.{expr_nodes, nodes_of_all}
+use Rattle.pw_types.specs.Spines.{first_of, others_of}
 
 -- the nodes of the first operand
 abbrev pub first_nodes : Expression → ℕ

@@ -1,3 +1,1 @@
-pub mod Rooms
-pub mod Spines
 pub mod Views

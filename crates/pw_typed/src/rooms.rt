@@ -2,8 +2,8 @@
 
 ghost use Rattle.std.specs.Prelude.{◌≡◌, ◌+◌, sum_by};
 ghost use Rattle.pw_types.specs.Caps.{capped};
-ghost use Rattle.pw_typed.specs.Rooms as spec;
-ghost use Rattle.pw_typed.specs.Spines.{others_of};
+ghost use Rattle.pw_types.specs.Rooms as spec;
+ghost use Rattle.pw_types.specs.Spines.{others_of};
 ghost use Rattle.pw_typed.specs.Views as view;
 
 use crate::spines::first_operand;

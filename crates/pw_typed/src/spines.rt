@@ -3,7 +3,7 @@
 
 ghost use Rattle.std.specs.Prelude.{◌≡◌, ◌<◌, IfOk, IfSome, map, option_map};
 ghost use Rattle.std.specs.Option.{option_copied};
-ghost use Rattle.pw_typed.specs.Spines as spec;
+ghost use Rattle.pw_types.specs.Spines as spec;
 ghost use Rattle.pw_typed.specs.Views.{view_expr};
 ghost use Rattle.pw_typed.specs.declared.tree.TForm.{size-TForm};
 

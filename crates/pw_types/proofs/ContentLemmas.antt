@@ -7,9 +7,11 @@ use Rattle.pw_types.specs.declared.record.RecordKind.{RecordKind}
 use Rattle.pw_types.specs.declared.record.RecordKind.TheVariants.{Structure, Union}
 use Rattle.pw_types.specs.declared.record.Layout.{Layout}
 use Rattle.pw_types.specs.declared.contents.Measure.{Measure}
-use Rattle.pw_types.specs.Layouts.{layout_of, scalar_layout, round_up, record_layout, record_offsets, offsets_from, end_from, greatest, align_of, size_limit}
+use Rattle.pw_types.specs.Layouts.{layout_of, scalar_layout, round_up, record_layout, record_offsets, offsets_from, end_from, greatest, align_of}
+use Rattle.pw_value.specs.Limits.{size_limit}
 use Rattle.pw_types.specs.Shapes.{record_shape, member_shapes}
-use Rattle.pw_types.specs.Records.{IsLaid, IsObjectType, layouts_of, deepest, shape_limit, depth_limit}
+use Rattle.pw_types.specs.Records.{IsLaid, IsObjectType, layouts_of, deepest}
+use Rattle.pw_value.specs.Limits.{shape_limit, depth_limit}
 use Rattle.pw_types.specs.Caps.{clipped}
 use Rattle.pw_types.specs.Measures.{Measures, size_by, offsets_by, layout_by_members, shape_by_members, depth_by_members, Defines, Refuses}
 use Rattle.pw_types.specs.declared.contents.RecordFault.TheVariants.{TooLarge, ShapeTooLong, TooDeep}

@@ -4,3 +4,4 @@ pub mod MeasureLemmas
 pub mod RecordLemmas
 mod SizeLemmas
 mod ViewLemmas
+pub mod SpineLaws

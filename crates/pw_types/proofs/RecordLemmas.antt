@@ -16,7 +16,8 @@ use Rattle.pw_types.specs.declared.record.Layout.{Layout}
 use Rattle.pw_types.specs.Conversions.{size_of_kind}
 use Rattle.pw_types.specs.declared.kind.IntKind.{IntKind}
 use Rattle.pw_types.specs.declared.kind.IntKind.TheVariants as K
-use Rattle.pw_types.specs.Layouts.{content_at, layout_of, scalar_layout, array_layout, record_layout, record_offsets, size_limit}
+use Rattle.pw_types.specs.Layouts.{content_at, layout_of, scalar_layout, array_layout, record_layout, record_offsets}
+use Rattle.pw_value.specs.Limits.{size_limit}
 use Rattle.pw_types.specs.Shapes.{shape_of, shape_of_record, length_text, unknown_shape, record_shape, member_shapes}
 use Rattle.pw_types.specs.Records.{IsLaid, Follows, declared, defined, kind_at, layouts_of, IsObjectType}
 

@@ -71,7 +71,3 @@ size_of records ty = option_map (λ l. l.size) (layout_of records ty)
 -- a layout as far as 32 bits can tell its size
 abbrev pub told : Layout → Layout
 told l = record { size = clipped l.size; align = l.align }
-
--- the greatest size of an object and of every other complete type
-abbrev pub size_limit : ℕ
-size_limit = 1048576

@@ -9,3 +9,8 @@ pub mod TypeTrees
 pub mod TypedTrees
 pub mod Views
 pub mod Codes
+pub mod Rooms
+pub mod Spines
+pub mod Labels
+pub mod WellTyped
+pub mod TypedModules

@@ -7,9 +7,11 @@ use Rattle.pw_types.specs.declared.record.Layout.{Layout}
 use Rattle.pw_types.specs.declared.contents.RecordFault.{RecordFault}
 use Rattle.pw_types.specs.declared.contents.RecordFault.TheVariants.{TooLarge, ShapeTooLong, TooDeep, NoMemory}
 use Rattle.pw_types.specs.declared.contents.Measure.{Measure}
-use Rattle.pw_types.specs.Layouts.{record_layout, round_up, offsets_from, end_from, greatest, align_of, size_limit}
+use Rattle.pw_types.specs.Layouts.{record_layout, round_up, offsets_from, end_from, greatest, align_of}
+use Rattle.pw_value.specs.Limits.{size_limit}
 use Rattle.pw_types.specs.Shapes.{record_shape, member_shapes}
-use Rattle.pw_types.specs.Records.{layouts_of, deepest, Follows, shape_limit, depth_limit}
+use Rattle.pw_types.specs.Records.{layouts_of, deepest, Follows}
+use Rattle.pw_value.specs.Limits.{shape_limit, depth_limit}
 use Rattle.pw_types.specs.Caps.{clipped, capped}
 
 -- The members of these layouts, one after another: their offsets, where the last one ends, the

@@ -5,16 +5,9 @@ use Rattle.pw_types.specs.TypeTrees.{CType, Void, Int, Pointer, Array, Function,
 use Rattle.pw_types.specs.declared.record.RecordKind.{RecordKind}
 use Rattle.pw_types.specs.declared.record.RecordKind.TheVariants.{Structure}
 use Rattle.pw_types.specs.declared.record.Layout.{Layout}
-use Rattle.pw_types.specs.Layouts.{content_at, layout_of, scalar_layout, record_layout, record_offsets, size_limit, greatest}
+use Rattle.pw_types.specs.Layouts.{content_at, layout_of, scalar_layout, record_layout, record_offsets, greatest}
+use Rattle.pw_value.specs.Limits.{size_limit, shape_limit, depth_limit}
 use Rattle.pw_types.specs.Shapes.{record_shape, member_shapes}
-
--- the greatest length of the shape of a record or of a declared name
-abbrev pub shape_limit : ℕ
-shape_limit = 4096
-
--- the greatest depth of a type
-abbrev pub depth_limit : ℕ
-depth_limit = 200
 
 -- whether a type is a structure or a union
 abbrev pub is_record : CType → Bool

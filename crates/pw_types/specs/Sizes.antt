@@ -2,7 +2,8 @@
 use Rattle.std.specs.Prelude.{ℕ, nat_lt, if◌then◌else◌, Option, None, Some, List}
 use Rattle.std.specs.Option.{option_or}
 use Rattle.pw_types.specs.TypeTrees.{CType, Void, Int, Pointer, Array, Function, Record, Qualified, QTypes, NoType, OneType, RecordValue}
-use Rattle.pw_types.specs.Layouts.{size_of, size_limit}
+use Rattle.pw_types.specs.Layouts.{size_of}
+use Rattle.pw_value.specs.Limits.{size_limit}
 
 -- a size that passes the limit
 abbrev pub passing : Option ℕ → Option ℕ

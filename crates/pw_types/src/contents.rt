@@ -11,18 +11,13 @@ ghost use Rattle.pw_types.specs.TypeTrees.{type_of};
 ghost use Rattle.pw_types.specs.Views.{view_type, view_members, view_content};
 
 use crate::depths::depth;
-use crate::layouts::{SIZE_LIMIT, cap, clip, is_object_type, layout, round_up};
+use crate::layouts::{cap, clip, is_object_type, layout, round_up};
 use crate::record::{Content, Layout, Member, RecordKind};
 use crate::shapes::{closing, opening, push_decimal, push_shape};
 use crate::types::Types;
 use pw_value::Shape;
+use pw_value::limits::{DEPTH_LIMIT, SHAPE_LIMIT, SIZE_LIMIT};
 use std::alloc::{AllocError, Global};
-
-/// The greatest length of the shape of a record or of a declared name, in bytes.
-pub const SHAPE_LIMIT: usize = 4096;
-
-/// The greatest depth of a type.
-pub const DEPTH_LIMIT: u64 = 200;
 
 /// Why a structure or union type is refused: its size, the length of its shape or its depth passes the
 /// limit, with that number, or there is no memory.

@@ -3,6 +3,7 @@
 ghost use Rattle.std.specs.Prelude.{◌≡◌, ◌≤◌, ◌<◌, ◌+◌, ◌*◌, ◌^◌, ◌↔◌, IsTrue, option_map, option_and_then, IfSome, IfOk, IfErr, OnOk};
 ghost use Rattle.pw_types.specs.Caps.{clipped, capped};
 ghost use Rattle.pw_types.specs.Layouts as spec;
+ghost use Rattle.pw_value.specs.Limits.{size_limit};
 ghost use Rattle.pw_types.specs.Records.{IsObjectType};
 ghost use Rattle.pw_types.specs.Sizes as sizes;
 ghost use Rattle.pw_types.specs.Views.{view_type, view_types};
@@ -10,9 +11,7 @@ ghost use Rattle.pw_types.specs.Views.{view_type, view_types};
 use crate::ctype::{CType, QType};
 use crate::record::Layout;
 use crate::types::Types;
-
-/// The greatest size of an object and of every other complete type, in bytes.
-pub const SIZE_LIMIT: u32 = 1048576;
+use pw_value::limits::SIZE_LIMIT;
 
 /// The size and alignment of a type: None exactly for void, functions, arrays of unknown length,
 /// records that are not defined, and arrays of these.
@@ -22,7 +21,7 @@ pub const SIZE_LIMIT: u32 = 1048576;
 #[tactic(auto, unfolding(crate::specs::Views::view_type), using(crate::proofs::ViewLemmas::signature_view))]
 pub fn layout(types: &Types, ty: &CType) -> Option<Layout>
     ensures lawful { sizes.oversize_of types.now (view_type ty.now) ≡ None → result ≡ spec.layout_of types.now (view_type ty.now) }
-    ensures exact { IfSome (spec.layout_of types.now (view_type ty.now)) (λ l. l.size ≤ spec.size_limit → result ≡ Some l) }
+    ensures exact { IfSome (spec.layout_of types.now (view_type ty.now)) (λ l. l.size ≤ size_limit → result ≡ Some l) }
     ensures value { result ≡ option_map spec.told (spec.layout_of types.now (view_type ty.now)) }
 {
     match ty {

@@ -1,6 +1,5 @@
 use Rattle.std.proofs.Common.{◌≡◌, map, take}
-use Rattle.pw_db.specs.Database.{function_view}
 use Rattle.pw_db.proofs.names.refs_of.Given as goal
 
 abbrev pub invariant-loop-function : goal.invariant-loop-function
-invariant-loop-function l = map (λ f. function_view f.now) l.refs.items ≡ map function_view (take l.function-index l.functions)
+invariant-loop-function l = map (λ f. f.now) l.refs.items ≡ take l.function-index l.functions

@@ -9,6 +9,6 @@ abbrev pub invariant-loop : goal.invariant-loop
 invariant-loop l =
     let earlier = map known_web l.fn.before.webs.items in
     record {
-      seen : map known_web l.seen.webs.items ≡ earlier ++ map (λ w. w.0) l.webs.items;
-      found : with_front l.webs.items (items_at (λ own. web_at l.names (earlier ++ own) own) next_web (l.count - l.counter) (map (λ w. w.0) l.webs.items) l.rest) ≡ items_at (λ own. web_at l.names (earlier ++ own) own) next_web l.count [] l.bytes;
+      seen : map known_web l.seen.webs.items ≡ earlier ++ map (λ w. w.0) l.webs;
+      found : with_front l.webs (items_at (λ own. web_at l.names (earlier ++ own) own) next_web (l.count - l.counter) (map (λ w. w.0) l.webs) l.rest) ≡ items_at (λ own. web_at l.names (earlier ++ own) own) next_web l.count [] l.bytes;
     }

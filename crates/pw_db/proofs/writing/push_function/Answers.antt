@@ -7,6 +7,6 @@ use Rattle.pw_db.proofs.writing.push_function.Goals as goal
 
 pub returns-clause-fits : goal.returns-clause-fits
 returns-clause-fits c = record {
-  count = let ok = c.args.function.now.1.webs.ok in omega (arith, c.in_ok-push_count.ensures.fits, c.len.ensures);
-  numbers = all_by_seen (λ (w : Web × Role). w.0) (λ w. FitsU32 w.id) c.args.function.now.1.webs.items (subst (λ (ws : List (Web × Role)). All (λ w. FitsU32 w.0.id) ws) c.deref.ensures.value c.in_ok-push_webs.ensures.fits);
+  count = omega (arith, c.in_ok-push_count.ensures.fits, c.len.ensures);
+  numbers = all_by_seen (λ (w : Web × Role). w.0) (λ w. FitsU32 w.id) c.args.function.now.1.webs (subst (λ (ws : List (Web × Role)). All (λ w. FitsU32 w.0.id) ws) c.as_slice.ensures c.in_ok-push_webs.ensures.fits);
 }

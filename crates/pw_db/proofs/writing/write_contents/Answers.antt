@@ -1,12 +1,12 @@
 use Rattle.std.proofs.Common.{subst, sym}
 use Rattle.std.proofs.lemmas.List.{length-map}
 use Rattle.pw_value.specs.Fields.{FitsU32}
-use Rattle.pw_db.specs.Database.{FitsFunction, function_view}
+use Rattle.pw_db.specs.Database.{FitsFunction}
 use Rattle.pw_files.proofs.Views.{all_by_seen}
 use Rattle.pw_db.proofs.writing.write_contents.Goals as goal
 
 pub returns-clause-fits : goal.returns-clause-fits
 returns-clause-fits c = record {
-  count = subst FitsU32 (sym (length-map c.args.functions.now (λ f. function_view f.now))) c.in_ok-push_count.ensures.fits;
-  each = all_by_seen (λ f. function_view f.now) FitsFunction c.args.functions.now c.in_ok-push_functions.ensures.fits;
+  count = subst FitsU32 (sym (length-map c.args.functions.now (λ f. f.now))) c.in_ok-push_count.ensures.fits;
+  each = all_by_seen (λ f. f.now) FitsFunction c.args.functions.now c.in_ok-push_functions.ensures.fits;
 }

@@ -1,18 +1,18 @@
 use Rattle.std.proofs.Common.{ℕ, List, length, map, sym, subst}
 use Rattle.pw_value.specs.Fields.{FitsU32}
 use Rattle.pw_value.specs.FieldNames.{IsTableOf}
-use Rattle.pw_db.specs.Database.{function_view, names_of}
+use Rattle.pw_db.specs.Database.{names_of}
 use Rattle.pw_db.proofs.WritingLemmas.{all_named, is_payload}
 use Rattle.pw_db.proofs.writing.write_payload.Goals as goal
 
 pub write_contents-requires-clause-stand : goal.write_contents-requires-clause-stand
 write_contents-requires-clause-stand c =
     let table = subst (IsTableOf c.in_ok-names.names.items) c.in_ok-used.ensures c.in_ok-names.ensures.table in
-    all_named (λ f. function_view f.now) c.deref.result.now c.args.functions.now (subst (λ (names : List (List ℕ)). IsTableOf names (names_of (map (λ f. function_view f.now) c.args.functions.now))) (sym c.deref.ensures.value) table)
+    all_named (λ f. f.now) c.deref.result.now c.args.functions.now (subst (λ (names : List (List ℕ)). IsTableOf names (names_of (map (λ f. f.now) c.args.functions.now))) (sym c.deref.ensures.value) table)
 
 pub returns : goal.returns
 returns c =
-    let fs = map (λ f. function_view f.now) c.args.functions.now in
+    let fs = map (λ f. f.now) c.args.functions.now in
     let table = subst (IsTableOf c.in_ok-names.names.items) c.in_ok-used.ensures c.in_ok-names.ensures.table in
     is_payload c.deref.result.now fs c.write_contents.result c.requires
     (subst (λ (names : List (List ℕ)). FitsU32 (length names)) (sym c.deref.ensures.value) c.in_ok-names.ensures.fits)

@@ -1,6 +1,6 @@
 use Rattle.std.proofs.Common.{◌≡◌, ◌++◌, [], map}
 use Rattle.std.specs.Option.{option_map_or}
-use Rattle.pw_typed.specs.Spines as spec
+use Rattle.pw_types.specs.Spines as spec
 use Rattle.pw_typed.specs.Views.{view_expr}
 use Rattle.pw_typed.specs.declared.tree.TForm.{size-TForm}
 use Rattle.pw_typed.proofs.spines.spine.Given as goal

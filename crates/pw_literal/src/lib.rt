@@ -1,0 +1,2 @@
+//! Constants and strings: their values, types and bytes (C90 6.1.3, 6.1.4).
+#![tactic(auto)]
