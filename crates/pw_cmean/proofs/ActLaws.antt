@@ -22,7 +22,7 @@ use Rattle.pw_cmean.specs.Worlds.{World, Callable, Body, Defined, Library, Libra
 use Rattle.pw_cmean.specs.Acts.{Act, State, Ending, Bound, Wrong, StackFull, Undefined, Site, give, stop, ◌>>=◌, branch, wrong, look, write, get_char, put_char, during, with_object, need, undefined, told, judge}
 use Rattle.pw_cmean.specs.Access.{Purpose, objects_now, within, load, store, copy, fetch, put}
 use Rattle.pw_cmean.specs.Operators.{truth, outcome_of, on_numbers, unary_number, unary, advance, advance_elements, difference, ordered, compared, on_pointers, pointer_and_number, number_and_pointer, binary, convert}
-use Rattle.pw_cmean.specs.Evaluation.{Env, Calls, local_place, symbol_place, used, value_by, value_at, cast, bounded_call, take_room, library_call, call_body, call, call_value, assign, old_value, update, step}
+use Rattle.pw_cmean.specs.Evaluation.{Env, Calls, local_place, symbol_place, used, value_by, value_at, cast, bounded_call, take_room, library_call, call_body, call, call_value, old_value, update, step}
 use Rattle.pw_value.specs.declared.words.WordFault.{WordFault}
 use Rattle.pw_value.specs.declared.words.WordFault.TheVariants.{Overflow, ZeroDivisor, ShiftCount}
 
@@ -243,10 +243,6 @@ module _ (R : (A : Type 0) → Act A → Act A → Type 0) (laws : Laws R) where
   cast-r at (Array q n) o = bind-r (used-r at o) λ v. bind-r (convert-r at _ v) λ w. laws.gives (Option Value) _
   cast-r at (FunctionType q ps) o = bind-r (used-r at o) λ v. bind-r (convert-r at _ v) λ w. laws.gives (Option Value) _
   cast-r at (Record n) o = bind-r (used-r at o) λ v. bind-r (convert-r at _ v) λ w. laws.gives (Option Value) _
-
-  pub assign-r : (e : Env) (t : ℕ) (ty : CType) (p v : Value) → R Value (assign e t ty p v) (assign e t ty p v)
-  unfolding assign
-  assign-r e t ty p v = bind-r (put-r _ _ _ ty p v) λ u. laws.gives Value _
 
   pub old_value-r : (e : Env) (t : ℕ) (ty working : CType) (p : Value) → R Value (old_value e t ty working p) (old_value e t ty working p)
   unfolding old_value

@@ -8,3 +8,5 @@ pub mod ValueLaws
 pub mod WordLaws
 pub mod SoundActs
 pub mod SoundOperators
+pub mod SoundTrees
+pub mod SoundRuns

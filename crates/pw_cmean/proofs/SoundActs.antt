@@ -1,26 +1,15 @@
 -- Acts that give values of a type and leave bytes in the objects.
-use Rattle.std.proofs.Common.{ℕ, zero, suc, ◌+◌, ◌-◌, ◌%◌, ◌^◌, ◌<◌, ◌≤◌, ◌≡◌, ◌≢◌, refl, sym, ap, subst, ◌∙◌, arith, Bool, true, false, not, List, [], ◌∷◌, ◌++◌, length, get_or, set, replicate, Option, Some, None, Result, Ok, Err}
-use Rattle.std.specs.Prelude.{ℤ, pos, All, ◌&&◌, nat_eq, ◌==◌, if◌then◌else◌, option_map}
-use Rattle.std.proofs.lemmas.Bool.{true≢false}
-use Rattle.std.proofs.lemmas.Bool.Decides.{nat_tests}
+use Rattle.std.proofs.Common.{ℕ, zero, suc, ◌^◌, ◌<◌, ◌≡◌, refl, subst, arith, Bool, true, false, List, [], ◌∷◌, length, get_or, set, Option, Some, None}
+use Rattle.std.specs.Prelude.{All, if◌then◌else◌}
 use Rattle.std.proofs.lemmas.List.Elements.{All-head, All-tail, All-nil, All-cons, All-append, All-set, All-replicate}
-use Rattle.pw_value.specs.declared.value.Value.{Value}
-use Rattle.pw_value.specs.declared.value.Value.TheVariants as V
 use Rattle.pw_value.specs.declared.value.Byte.{Byte}
 use Rattle.pw_value.specs.declared.value.Byte.TheVariants as B
-use Rattle.pw_value.specs.declared.value.Pointer.TheVariants as P
-use Rattle.pw_value.specs.Values.{encoding}
-use Rattle.pw_value.specs.Objects.{Object, object_at, no_object, byte_at, bytes_from, with_bytes, written, ended}
-use Rattle.pw_value.proofs.Ranges.{length-bytes_from}
-use Rattle.pw_types.specs.TypeTrees.{CType, Void, Int, Pointer, Array, Function as FunctionType, Record, RecordValue}
-use Rattle.pw_types.specs.Conversions.{size_of_kind}
-use Rattle.pw_types.specs.declared.record.Layout.{Layout}
+use Rattle.pw_value.specs.Objects.{Object, object_at, no_object, byte_at, bytes_from, with_bytes}
 use Rattle.pw_cmean.specs.declared.undefined.Undef.{Undef}
 use Rattle.pw_cmean.specs.Undefined.{Finding, lesser, least}
-use Rattle.pw_cmean.specs.Acts.{Act, State, Outcome, Gives, Ends, Ending, Wrong, Site, give, stop, go_on, ◌>>=◌, ◌>>◌, branch, wrong, look, make, end_object, write, next_byte, get_char, put_char, called, returned, during, with_object, need, undefined, told, judge}
-use Rattle.pw_cmean.specs.Access.{Purpose, objects_now, within, width_of, value_in, reading, has_no_value, load, store, copy, fetch, put}
-use Rattle.pw_cmean.specs.Typed.{IsPointer, IsValueOf, IsResultOf, IsScalar, IsByte, HoldsBytes, IfGives}
-use Rattle.pw_cmean.proofs.ValueLaws.{scalar-of, pointer-of, encoding-are}
+use Rattle.pw_cmean.specs.Acts.{Act, State, Outcome, Gives, Ends, Ending, Wrong, Site, give, stop, go_on, ◌>>=◌, branch, wrong, look, make, end_object, write, next_byte, get_char, put_char, called, returned, during, with_object, need, undefined, told, judge}
+use Rattle.pw_cmean.specs.Access.{objects_now}
+use Rattle.pw_cmean.specs.Typed.{IsByte, HoldsBytes, IfGives}
 
 pub record Sound {A : Type 0} (P : A → Type 0) (m : Act A) : Type 0 where
   pub run : (s : State) → HoldsBytes s → IfGives P (m s)
@@ -129,9 +118,15 @@ objects_now-s = look-s HoldBytes (λ s. s.objects) (λ s h. h.objects)
 
 pub write-s : (n i : ℕ) (bytes : List Byte) → All IsByte bytes → Sound Any (write n i bytes)
 unfolding write
-write-s n i bytes b = record { run = λ s h. (tt, record {
-  objects = set-bytes s.objects n _ (with_bytes-are bytes i (object_at s.objects n).bytes b (object-bytes s.objects n h.objects)) h.objects;
-  input = h.input }) }
+write-s n i bytes b = record {
+  run = λ s h. (
+    tt,
+    record {
+      objects = set-bytes s.objects n _ (with_bytes-are bytes i (object_at s.objects n).bytes b (object-bytes s.objects n h.objects)) h.objects;
+      input = h.input;
+    },
+  );
+}
 
 read-s : (rest : List ℕ) (s : State) → HoldsBytes s → s.rest ≡ rest → IfGives (λ n. n < 2 ^ 32) (next_byte rest s)
 unfolding next_byte
@@ -165,7 +160,10 @@ ended-s P n (Ends ending s) h = tt
 
 pub with_object-s : {A : Type 0} {P : A → Type 0} (size : ℕ) (w : Bool) {f : ℕ → Act A} → ((n : ℕ) → Sound P (f n)) → Sound P (with_object size w f)
 unfolding with_object make ◌>>=◌ go_on
-with_object-s {A} {P} size w {f} p = record { run = λ s h. ended-s P (length s.objects) (f (length s.objects) _) ((p (length s.objects)).run _ (record {
-  objects = All-append (λ o. All IsByte o.bytes) s.objects _ h.objects
-    (All-cons (λ o. All IsByte o.bytes) _ [] (All-replicate IsByte size B.Undefined tt) (All-nil (λ o. All IsByte o.bytes)));
-  input = h.input })) }
+with_object-s {A} {P} size w {f} p = record {
+  run = λ s h. ended-s P (length s.objects) (f (length s.objects) _) ((p (length s.objects)).run _ (record {
+    objects = All-append (λ o. All IsByte o.bytes) s.objects _ h.objects
+        (All-cons (λ o. All IsByte o.bytes) _ [] (All-replicate IsByte size B.Undefined tt) (All-nil (λ o. All IsByte o.bytes)));
+    input = h.input;
+  }));
+}

@@ -1,6 +1,6 @@
 -- Accesses, operators and conversions give values of their types.
-use Rattle.std.proofs.Common.{ℕ, zero, suc, ◌+◌, ◌-◌, ◌%◌, ◌^◌, ◌<◌, ◌≤◌, ◌≡◌, ◌≢◌, refl, sym, ap, subst, ◌∙◌, arith, Bool, true, false, not, List, [], ◌∷◌, ◌++◌, length, Option, Some, None, Result, Ok, Err}
-use Rattle.std.specs.Prelude.{ℤ, pos, int_div, All, ◌&&◌, ◌==◌, option_map, if◌then◌else◌}
+use Rattle.std.proofs.Common.{ℕ, zero, suc, ◌^◌, ◌<◌, ◌≡◌, ◌≢◌, refl, sym, subst, arith, Bool, true, false, not, List, [], ◌∷◌, Option, Some, None, Result, Ok, Err}
+use Rattle.std.specs.Prelude.{ℤ, pos, int_div, ◌&&◌, ◌==◌, option_map}
 use Rattle.std.proofs.lemmas.Bool.{true≢false}
 use Rattle.std.proofs.lemmas.Bool.Decides.{nat_tests}
 use Rattle.pw_value.specs.declared.value.Value.{Value}
@@ -12,7 +12,7 @@ use Rattle.pw_value.specs.declared.words.WordFault.{WordFault}
 use Rattle.pw_value.specs.declared.words.WordFault.TheVariants.{Overflow, ZeroDivisor, ShiftCount}
 use Rattle.pw_value.specs.Objects.{Object, object_at, byte_at, bytes_from}
 use Rattle.pw_value.proofs.Ranges.{length-bytes_from}
-use Rattle.pw_types.specs.TypeTrees.{CType, Void, Int, Pointer, Array, Function as FunctionType, Record, QType, type_of, RecordValue}
+use Rattle.pw_types.specs.TypeTrees.{CType, Void, Int, Pointer, Array, Function as FunctionType, Record, QType, RecordValue}
 use Rattle.pw_types.specs.Conversions.{size_of_kind, promoted, converted}
 use Rattle.pw_types.specs.declared.kind.IntKind.{IntKind}
 use Rattle.pw_types.specs.declared.kind.IntKind.TheVariants as K
@@ -22,18 +22,18 @@ use Rattle.pw_types.specs.declared.tree.UnaryOperator.TheVariants.{Plus, Minus, 
 use Rattle.pw_types.specs.declared.tree.BinaryOperator.{BinaryOperator}
 use Rattle.pw_types.specs.declared.tree.BinaryOperator.TheVariants as O
 use Rattle.pw_cmean.specs.declared.undefined.Undef.TheVariants as U
-use Rattle.pw_cmean.specs.Undefined.{Finding, ◌when◌}
-use Rattle.pw_cmean.specs.Acts.{Act, Outcome, Gives, Ends, Site, give, ◌>>=◌, wrong, need, judge}
-use Rattle.pw_cmean.specs.Access.{Purpose, objects_now, within, width_of, value_in, reading, has_no_value, is_inside, load, store, copy, fetch, put}
-use Rattle.pw_cmean.specs.Operators.{truth, number_for, outcome_of, on_numbers, unary_number, unary, further, kept_in, moved, advance, advance_elements, difference, ordered, compared, on_pointers, pointer_and_number, number_and_pointer, binary, as_pointer, convert, is_piece, arithmetic, negation, distance, offset_of}
-use Rattle.pw_cmean.specs.Typed.{IsNumberOf, IsPointer, IsValueOf, IsResultOf, IsScalar, IsPointerType, IsPromoted, kind_given, BinaryGives, IsByte, IfGives}
+use Rattle.pw_cmean.specs.Undefined.{◌when◌}
+use Rattle.pw_cmean.specs.Acts.{Act, Outcome, Gives, Ends, Site}
+use Rattle.pw_cmean.specs.Access.{Purpose, within, width_of, value_in, reading, is_inside, load, store, copy, fetch, put}
+use Rattle.pw_cmean.specs.Operators.{truth, number_for, outcome_of, on_numbers, unary_number, unary, further, kept_in, moved, advance, advance_elements, difference, ordered, compared, on_pointers, pointer_and_number, number_and_pointer, binary, as_pointer, convert, is_piece, arithmetic, distance, offset_of}
+use Rattle.pw_cmean.specs.Typed.{IsNumberOf, IsPointer, IsValueOf, IsScalar, IsPointerType, IsPromoted, kind_given, BinaryGives, IfGives}
 use Rattle.pw_cmean.proofs.ValueLaws.{scalar-of, pointer-of, encoding-are, converted-of, below-word, word-of}
 use Rattle.pw_cmean.proofs.WordLaws.{GivesWord, arithmetic-word, negation-word, exact-word, number_for-word}
-use Rattle.pw_cmean.proofs.SoundActs.{Sound, Any, bind-s, give-s, branch-s, wrong-s, need-s, undefined-s, NoneHold, judge-s, HoldBytes, object-bytes, bytes_from-are, objects_now-s, write-s}
+use Rattle.pw_cmean.proofs.SoundActs.{Sound, Any, bind-s, give-s, wrong-s, need-s, undefined-s, NoneHold, judge-s, HoldBytes, object-bytes, bytes_from-are, objects_now-s, write-s}
 
 -- ---- accesses
 
-within-s : {A : Type 0} {P : A → Type 0} (v : Value) {f : ℕ → ℕ → Act A} → ((n i : ℕ) → Sound P (f n i)) → Sound P (within v f)
+pub within-s : {A : Type 0} {P : A → Type 0} (v : Value) {f : ℕ → ℕ → Act A} → ((n i : ℕ) → Sound P (f n i)) → Sound P (within v f)
 unfolding within
 within-s (V.At (Ptr.Object n i)) p = p n i
 within-s {A} {P} (V.At (Ptr.Function n)) p = wrong-s P
@@ -51,12 +51,12 @@ loaded : (os : List Object) (ty : CType) (n i : ℕ) → IsScalar ty → HoldByt
     → IsValueOf ty (value_in ty (bytes_from (width_of ty) i (object_at os n).bytes))
 loaded os (Int k) n i sc h none =
     scalar-of k (bytes_from (size_of_kind k) i (object_at os n).bytes) (length-bytes_from (size_of_kind k) i (object_at os n).bytes)
-      (bytes_from-are (size_of_kind k) i (object_at os n).bytes (object-bytes os n h))
-      (second-of (is_inside (size_of_kind k) i (object_at os n).bytes) _ none.1.1.0 none.1.0)
+    (bytes_from-are (size_of_kind k) i (object_at os n).bytes (object-bytes os n h))
+    (second-of (is_inside (size_of_kind k) i (object_at os n).bytes) _ none.1.1.0 none.1.0)
 loaded os (Pointer q) n i sc h none =
     let bytes : List Byte = (object_at os n).bytes in
     pointer-of (byte_at bytes i) (byte_at bytes (suc i)) (byte_at bytes (suc (suc i))) (byte_at bytes (suc (suc (suc i))))
-      (second-of (is_inside 4 i bytes) _ none.1.1.0 none.1.0)
+    (second-of (is_inside 4 i bytes) _ none.1.1.0 none.1.0)
 loaded os Void n i sc h none = absurd sc
 loaded os (Array q c) n i sc h none = absurd sc
 loaded os (FunctionType q ps) n i sc h none = absurd sc
@@ -109,7 +109,7 @@ abbrev pub IsSmall : Value → Type 0
 IsSmall (V.Num n) = n < 2 ^ 32
 IsSmall _ = Unit {0}
 
-small-pointer : (v : Value) → IsPointer v → IsSmall v
+pub small-pointer : (v : Value) → IsPointer v → IsSmall v
 small-pointer V.Undefined h = tt
 small-pointer (V.Num n) h = absurd h
 small-pointer V.Null h = tt
@@ -135,7 +135,7 @@ outcome_of-s at (Err Overflow) h = undefined-s IsWord at _
 outcome_of-s at (Err ZeroDivisor) h = undefined-s IsWord at _
 outcome_of-s at (Err ShiftCount) h = undefined-s IsWord at _
 
-on_numbers-s : (at : Site) (op : BinaryOperator) (k : IntKind) (v w : Value) → IsSmall v → IsSmall w → Sound IsWord (on_numbers at op k v w)
+pub on_numbers-s : (at : Site) (op : BinaryOperator) (k : IntKind) (v w : Value) → IsSmall v → IsSmall w → Sound IsWord (on_numbers at op k v w)
 unfolding on_numbers
 on_numbers-s at op k (V.Num a) (V.Num b) h h' = outcome_of-s at _ (arithmetic-word op _ a b h h')
 on_numbers-s at op k _ _ h h' = wrong-s IsWord
@@ -179,7 +179,7 @@ unary-s at Plus ty v o h w = weaker (unary_number-s at Plus ty v w) (λ a. word-
 unary-s at Minus ty v o h w = weaker (unary_number-s at Minus ty v w) (λ a. word-value ty a h)
 unary-s at Complement ty v o h w = weaker (unary_number-s at Complement ty v w) (λ a. word-value ty a h)
 
-truth-number : (b : Bool) → IsNumberOf K.Int (V.Num (number_for b))
+pub truth-number : (b : Bool) → IsNumberOf K.Int (V.Num (number_for b))
 truth-number true = refl
 truth-number false = refl
 
@@ -252,7 +252,7 @@ on_pointers-s at rs q O.Equal v w = compared-s at _ v w
 on_pointers-s at rs q O.NotEqual v w = compared-s at _ v w
 on_pointers-s at rs q _ v w = wrong-s IsWord
 
-pointer_and_number-s : (at : Site) (rs : List RecordValue) (q : QType) (op : BinaryOperator) (p : Value) (k : IntKind) (v : Value) → Sound IsPointer (pointer_and_number at rs q op p k v)
+pub pointer_and_number-s : (at : Site) (rs : List RecordValue) (q : QType) (op : BinaryOperator) (p : Value) (k : IntKind) (v : Value) → Sound IsPointer (pointer_and_number at rs q op p k v)
 unfolding pointer_and_number
 pointer_and_number-s at rs q O.Add p k v = advance_elements-s at rs q _ p k v
 pointer_and_number-s at rs q O.Subtract p k v = advance_elements-s at rs q _ p k v
@@ -283,7 +283,7 @@ kind_given-promoted O.And k h = h
 kind_given-promoted O.ExclusiveOr k h = h
 kind_given-promoted O.Or k h = h
 
-pointer-value : (ty : CType) (v : Value) → IsPointerType ty → IsPointer v → IsValueOf ty v
+pub pointer-value : (ty : CType) (v : Value) → IsPointerType ty → IsPointer v → IsValueOf ty v
 pointer-value (Pointer q) v h k = k
 pointer-value (Int i) v h k = absurd h
 pointer-value Void v h k = absurd h

@@ -8,7 +8,7 @@ use Rattle.pw_cmean.specs.Acts.{Act, Site, Bound, give, ◌>>=◌, ◌>>◌}
 use Rattle.pw_cmean.specs.Evaluation.{Env, Calls, used, answer_of, place_of, values_of}
 use Rattle.pw_cmean.specs.Execution.{Entry, Front, At_label, Flow, Normal, Breaks, Continues, Returns, Goes, go_forward, caught, taking_up, after_body, turn, loop, meet_loop, always, value_of, condition, for_condition, drop_value, switch_to, after_switch, labels_among, labels_behind, with_locals, set_local, initialise, initialise_all, meaning, items, arms, behind_arms}
 use Rattle.pw_cmean.specs.SourceRun.{set_parameters, result_of, run_body, callee, calls, finish, run_main}
-use Rattle.pw_cmean.proofs.ActLaws.{Laws, bind-r, branch-r, wrong-r, undefined-r, need-r, within-r, put-r, truth-r, unary-r, advance-r, binary-r, local_place-r, symbol_place-r, used-r, value_at-r, cast-r, assign-r, old_value-r, update-r, step-r, AreRelated, second-r, take_room-r, call-r, call_value-r}
+use Rattle.pw_cmean.proofs.ActLaws.{Laws, bind-r, branch-r, wrong-r, undefined-r, need-r, within-r, put-r, truth-r, unary-r, advance-r, binary-r, local_place-r, symbol_place-r, used-r, value_at-r, cast-r, old_value-r, update-r, step-r, AreRelated, second-r, take_room-r, call-r, call_value-r}
 
 module _ (R : (A : Type 0) → Act A → Act A → Type 0) (laws : Laws R) where
   -- the result of an operand, which must be there
@@ -39,7 +39,7 @@ module _ (R : (A : Type 0) → Act A → Act A → Type 0) (laws : Laws R) where
     answer-r (Node t ty (Comma a b)) cs cs' e h = bind-r R laws (answer-r a cs cs' e h) λ o. answer-r b cs cs' e h
     answer-r (Node t ty (Assign a b)) cs cs' e h =
         bind-r R laws (place-r a cs cs' e h) λ p. bind-r R laws (operand-r _ (answer-r b cs cs' e h)) λ v.
-        bind-r R laws (assign-r R laws e t _ p v) λ r. laws.gives (Option Value) _
+        bind-r R laws (put-r R laws _ _ _ _ p v) λ u. laws.gives (Option Value) _
     answer-r (Node t ty (Compound op working a b)) cs cs' e h =
         bind-r R laws (place-r a cs cs' e h) λ p. bind-r R laws (old_value-r R laws e t _ working p) λ old.
         bind-r R laws (operand-r _ (answer-r b cs cs' e h)) λ w.
@@ -70,7 +70,8 @@ module _ (R : (A : Type 0) → Act A → Act A → Type 0) (laws : Laws R) where
         branch-r R laws x (place-r a cs cs' e h) (place-r b cs cs' e h)
     place-r (Node t ty (Comma a b)) cs cs' e h = bind-r R laws (answer-r a cs cs' e h) λ o. place-r b cs cs' e h
     place-r (Node t ty (Assign a b)) cs cs' e h =
-        bind-r R laws (place-r a cs cs' e h) λ p. bind-r R laws (operand-r _ (answer-r b cs cs' e h)) λ v. assign-r R laws e t _ p v
+        bind-r R laws (place-r a cs cs' e h) λ p. bind-r R laws (operand-r _ (answer-r b cs cs' e h)) λ v.
+        bind-r R laws (put-r R laws _ _ _ _ p v) λ u. laws.gives Value p
     place-r (Node t ty _) cs cs' e h = wrong-r R laws Value
 
     pub values-r : (args : Expressions) (t : ℕ) (cs cs' : Calls) (e : Env) → AreRelated R laws cs cs' → R (List Value) (values_of args t cs e) (values_of args t cs' e)

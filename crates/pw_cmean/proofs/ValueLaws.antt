@@ -1,6 +1,6 @@
 -- Values of a type: what bytes hold, what conversions and operators give.
-use Rattle.std.proofs.Common.{ℕ, zero, suc, ◌+◌, ◌-◌, ◌*◌, ◌/◌, ◌%◌, ◌^◌, ◌<◌, ◌≤◌, ◌≡◌, ◌≢◌, ◌⊎◌, inl, inr, refl, sym, ap, subst, ◌∙◌, arith, Bool, true, false, List, [], ◌∷◌, ◌++◌, length, Option, Some, None, Result, Ok, Err}
-use Rattle.std.specs.Prelude.{All, nat_le, if◌then◌else◌, option_map}
+use Rattle.std.proofs.Common.{ℕ, zero, suc, ◌+◌, ◌*◌, ◌/◌, ◌%◌, ◌^◌, ◌<◌, ◌≤◌, ◌≡◌, refl, sym, ap, subst, ◌∙◌, arith, Bool, true, false, List, [], ◌∷◌, length, Option, Some, None}
+use Rattle.std.specs.Prelude.{All, if◌then◌else◌, option_map}
 use Rattle.std.proofs.Math.Nat.{mul-le-mul_right}
 use Rattle.std.proofs.lemmas.Grind.{common_steps}
 use Rattle.std.proofs.lemmas.Bool.{true≢false}
@@ -12,13 +12,11 @@ use Rattle.pw_value.specs.declared.value.Pointer.{Pointer as AnyPointer}
 use Rattle.pw_value.specs.declared.value.Byte.{Byte}
 use Rattle.pw_value.specs.declared.value.Byte.TheVariants as B
 use Rattle.pw_value.specs.Values.{extended, number_in, scalar_in, pointer_in, number_bytes, encoding}
-use Rattle.pw_types.specs.TypeTrees.{CType, Void, Int, Pointer, Array, Function as FunctionType, Record, QType, type_of}
 use Rattle.pw_types.specs.Conversions.{size_of_kind, is_signed_kind, promoted, converted}
-use Rattle.pw_types.specs.Shapes.{letter_of, letter_of_kind}
 use Rattle.pw_types.specs.declared.kind.IntKind.{IntKind}
 use Rattle.pw_types.specs.declared.kind.IntKind.TheVariants as K
-use Rattle.pw_cmean.specs.Access.{has_no_value, value_in, width_of}
-use Rattle.pw_cmean.specs.Typed.{IsNumberOf, IsPointer, IsValueOf, IsResultOf, IsByte, IsPromoted}
+use Rattle.pw_cmean.specs.Access.{has_no_value}
+use Rattle.pw_cmean.specs.Typed.{IsNumberOf, IsPointer, IsByte}
 
 -- ---- numbers of a type
 
@@ -139,11 +137,11 @@ scalar-of k (B.Num n ∷ []) len h held =
     let low : n < 256 = All-head IsByte (B.Num n) [] h in
     let below : n < 256 ^ size_of_kind k = subst (λ w. n < 256 ^ w) len low in
     let e : scalar_in (B.Num n ∷ []) (is_signed_kind k) ≡ V.Num (extended (size_of_kind k) (is_signed_kind k) n) =
-        ap (λ x. V.Num (extended 1 (is_signed_kind k) x)) (one-byte n) ∙ ap (λ w. V.Num (extended w (is_signed_kind k) n)) len in
+    ap (λ x. V.Num (extended 1 (is_signed_kind k) x)) (one-byte n) ∙ ap (λ w. V.Num (extended w (is_signed_kind k) n)) len in
     subst (IsNumberOf k) (sym e) (extended-of k n below)
 scalar-of k (b ∷ c ∷ rest) len h held =
     let e : scalar_in (b ∷ c ∷ rest) (is_signed_kind k) ≡ as_scalar (size_of_kind k) (is_signed_kind k) (number_in (b ∷ c ∷ rest)) =
-        scalar-several b c rest (is_signed_kind k) ∙ ap (λ w. as_scalar w (is_signed_kind k) (number_in (b ∷ c ∷ rest))) len in
+    scalar-several b c rest (is_signed_kind k) ∙ ap (λ w. as_scalar w (is_signed_kind k) (number_in (b ∷ c ∷ rest))) len in
     let below : IsBelow (number_in (b ∷ c ∷ rest)) (256 ^ size_of_kind k) = subst (λ w. IsBelow (number_in (b ∷ c ∷ rest)) (256 ^ w)) len (number-below (b ∷ c ∷ rest) h) in
     subst (IsNumberOf k) (sym e) (as_scalar-of k (number_in (b ∷ c ∷ rest)) below (ap has_no_value (sym e) ∙ held))
 
@@ -173,7 +171,7 @@ encoding-are (V.Num n) width = number_bytes-are width n
 encoding-are V.Null width = number_bytes-are 4 0
 encoding-are (V.At p) width =
     piece-first p 0 (B.Piece p 1 ∷ B.Piece p 2 ∷ B.Piece p 3 ∷ []) (piece-first p 1 (B.Piece p 2 ∷ B.Piece p 3 ∷ [])
-      (piece-first p 2 (B.Piece p 3 ∷ []) (piece-first p 3 [] (All-nil IsByte))))
+    (piece-first p 2 (B.Piece p 3 ∷ []) (piece-first p 3 [] (All-nil IsByte))))
 encoding-are (V.Piece p i) width = piece-first p i [] (All-nil IsByte)
 
 -- ---- conversions

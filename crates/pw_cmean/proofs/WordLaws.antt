@@ -1,15 +1,14 @@
 -- Operations on words give words.
-use Rattle.std.proofs.Common.{ℕ, zero, suc, ◌+◌, ◌-◌, ◌*◌, ◌/◌, ◌%◌, ◌^◌, ◌<◌, ◌≤◌, ◌≡◌, refl, sym, ap, subst, ◌∙◌, arith, Bool, true, false, List, [], ◌∷◌, Result, Ok, Err}
-use Rattle.std.specs.Prelude.{ℤ, pos, negsuc, neg_ℤ, ◌+ℤ◌, ◌-ℤ◌, ◌*ℤ◌, nat_lt, ◌==◌, if◌then◌else◌, bit_and, bit_or, bit_xor, int_div, int_rem}
+use Rattle.std.proofs.Common.{ℕ, zero, suc, ◌/◌, ◌%◌, ◌^◌, ◌<◌, ◌≡◌, refl, arith, Bool, true, false, Result, Ok, Err}
+use Rattle.std.specs.Prelude.{ℤ, pos, negsuc, neg_ℤ, ◌+ℤ◌, ◌-ℤ◌, ◌*ℤ◌, nat_lt, ◌==◌, if◌then◌else◌, int_div, int_rem}
 use Rattle.std.specs.Int.{int_shr}
-use Rattle.std.proofs.lemmas.Grind.{common_steps}
 use Rattle.std.proofs.lemmas.Bool.Decides.{nat_tests}
 use Rattle.std.proofs.lemmas.Int.{ints}
 use Rattle.std.proofs.lemmas.Nat.{or_of_32, xor_lt, and_le_l}
 use Rattle.std.proofs.Math.Nat.{div-le_self, mod-le}
 use Rattle.pw_value.specs.declared.words.WordFault.{WordFault}
 use Rattle.pw_value.specs.declared.words.WordFault.TheVariants.{Overflow, ZeroDivisor, ShiftCount}
-use Rattle.pw_value.specs.Words.{signed, word, fits, exact, divided, shifted, signed_remainder, signed_quotient, unsigned_quotient, unsigned_remainder}
+use Rattle.pw_value.specs.Words.{signed, word, exact, divided, shifted}
 use Rattle.pw_types.specs.declared.tree.BinaryOperator.{BinaryOperator}
 use Rattle.pw_types.specs.declared.tree.BinaryOperator.TheVariants.{Add, Subtract, Multiply, Divide, Remainder, ShiftLeft, ShiftRight, Less, Greater, LessEqual, GreaterEqual, Equal, NotEqual, And, ExclusiveOr, Or}
 use Rattle.pw_cmean.specs.Operators.{arithmetic, negation, number_for}
@@ -41,6 +40,7 @@ small-rem (negsuc a) z h = small-negated (suc a) _
     small-neg : (m : ℕ) → IsSmall (neg_ℤ (pos m))
     small-neg zero = omega arith
     small-neg (suc m) = tt
+
     small-negated : (n d : ℕ) → IsSmall (neg_ℤ (pos (n % d)))
     small-negated n d = small-neg (n % d)
 
@@ -82,7 +82,7 @@ arithmetic-word Divide true a b h k = divided-word b _ (exact-word (int_div (sig
 arithmetic-word Divide false a b h k = divided-word b (Ok (a / b)) (omega (arith, div-le_self a b))
 arithmetic-word Remainder true a b h k =
     divided-word b _ (if-word _ (Ok (word (int_rem (signed a) (signed b)))) (Err Overflow)
-      (word-below (int_rem (signed a) (signed b)) (small-rem (signed a) (signed b) (small-signed a h))) tt)
+    (word-below (int_rem (signed a) (signed b)) (small-rem (signed a) (signed b) (small-signed a h))) tt)
 arithmetic-word Remainder false a b h k = divided-word b (Ok (a % b)) (omega (arith, mod-le a b))
 arithmetic-word ShiftLeft sign a b h k = shifted-word b _ (omega arith)
 arithmetic-word ShiftRight true a b h k =

@@ -139,11 +139,6 @@ abbrev pub assigned : CType → Value → Value → Value
 assigned (Record number) place v = place
 assigned _ place v = v
 
-unfoldable pub assign : Env → ℕ → CType → Value → Value → Act Value
-assign e token ty place v = do
-  put Assigning (site e token) (records_of e) ty place v
-  give (assigned ty place v)
-
 -- the old value of an lvalue in the type in which an operator works
 unfoldable pub old_value : Env → ℕ → CType → CType → Value → Act Value
 old_value e token ty working place = do
@@ -230,8 +225,8 @@ unfoldable mutual
   answer_of (Node t ty (Assign a b)) cs e = do
     place ← place_of a cs e
     v ← answer_of b cs e >>= used (site e t)
-    result ← assign e t (type_of (type_at a)) place v
-    give (Some result)
+    put Assigning (site e t) (records_of e) (type_of (type_at a)) place v
+    give (Some (assigned (type_of (type_at a)) place v))
   answer_of (Node t ty (Compound op working a b)) cs e = do
     place ← place_of a cs e
     old ← old_value e t (type_of (type_at a)) working place
@@ -283,7 +278,8 @@ unfoldable mutual
   place_of (Node t ty (Assign a b)) cs e = do
     place ← place_of a cs e
     v ← answer_of b cs e >>= used (site e t)
-    assign e t (type_of (type_at a)) place v
+    put Assigning (site e t) (records_of e) (type_of (type_at a)) place v
+    give place
   place_of (Node t ty _) cs e = wrong
 
   -- the arguments of a call, whose node meets that one is missing

@@ -5,18 +5,18 @@ use Rattle.pw_value.specs.declared.value.Value.{Value}
 use Rattle.pw_value.specs.declared.value.Value.TheVariants as V
 use Rattle.pw_value.specs.declared.value.Byte.{Byte}
 use Rattle.pw_value.specs.declared.value.Byte.TheVariants as B
-use Rattle.pw_types.specs.TypeTrees.{CType, Void, Int, Pointer, Array, Function as FunctionType, Record, QType, Qualified, type_of}
+use Rattle.pw_types.specs.TypeTrees.{CType, Void, Int, Pointer, Function as FunctionType, Qualified, type_of}
 use Rattle.pw_types.specs.Conversions.{size_of_kind, promoted, converted}
 use Rattle.pw_types.specs.Shapes.{letter_of}
 use Rattle.pw_types.specs.declared.kind.IntKind.{IntKind}
 use Rattle.pw_types.specs.declared.kind.IntKind.TheVariants as K
-use Rattle.pw_types.specs.declared.tree.UnaryOperator.{UnaryOperator}
-use Rattle.pw_types.specs.declared.tree.UnaryOperator.TheVariants.{Plus, Minus, Complement, Not}
+use Rattle.pw_types.specs.declared.tree.UnaryOperator.TheVariants.{Not}
 use Rattle.pw_types.specs.declared.tree.BinaryOperator.{BinaryOperator}
 use Rattle.pw_types.specs.declared.tree.BinaryOperator.TheVariants.{Less, Greater, LessEqual, GreaterEqual, Equal, NotEqual}
-use Rattle.pw_types.specs.TypedTrees.{Symbol, Expression, Node, Form, Number, Str, Local, Global, Function, Unary, Binary, Logic, Cond, Comma, Assign, Compound, Step, Cast, Decay, Member, Deref, Address, Call, CallValue, Expressions, NoExpression, OneExpression, type_at, Initialiser, Value as ByValue, Bytes as ByBytes, Statement, Empty, Evaluate, Block, If, While, Do, For, Switch, Label, Goto, Break, Continue, Return, Arms, NoArm, Arm, Otherwise, NoElse, Else, Statements, NoStatement, OneStatement, FunctionValue}
-use Rattle.pw_cmean.specs.Worlds.{Program, ProgramModule, Callable, Body, Defined, Library, LibraryFunction, GetChar, PutChar, ExitRun, full_name, function_named, functions_of}
+use Rattle.pw_types.specs.TypedTrees.{Expression, Node, Number, Str, Local, Global, Function, Unary, Binary, Logic, Cond, Comma, Assign, Compound, Step, Cast, Decay, Member, Deref, Address, Call, CallValue, Expressions, NoExpression, OneExpression, type_at, Initialiser, Value as ByValue, Bytes as ByBytes, Statement, Empty, Evaluate, Block, If, While, Do, For, Switch, Label, Goto, Break, Continue, Return, Arms, NoArm, Arm, Otherwise, NoElse, Else, Statements, NoStatement, OneStatement}
+use Rattle.pw_cmean.specs.Worlds.{Program, Callable, Body, Defined, Library, LibraryFunction, GetChar, PutChar, ExitRun, full_name, function_named, functions_of}
 use Rattle.pw_cmean.specs.Acts.{State, Outcome, Gives, Ends}
+use Rattle.pw_cmean.specs.Execution.{Flow, Returns}
 
 -- ---- values
 
@@ -193,6 +193,18 @@ IsTypedCallable p f = IsTypedBody p f.shape f.body
 
 abbrev pub IsTypedProgram : Program → Type 0
 IsTypedProgram p = All (IsTypedCallable p) (functions_of p)
+
+-- ---- results of functions
+
+-- of a type with the letter
+abbrev pub IsLetterResult : ℕ → Option Value → Type 0
+IsLetterResult letter None = Unit {0}
+IsLetterResult letter (Some v) = (ty : CType) × (letter_of ty ≡ letter) × IsValueOf ty v
+
+-- what comes of a statement of a function whose result has a letter
+abbrev pub IsFlowOf : ℕ → Flow → Type 0
+IsFlowOf letter (Returns result) = IsLetterResult letter result
+IsFlowOf letter _ = Unit {0}
 
 -- ---- states
 
