@@ -48,11 +48,10 @@ asking_of AGlobal b =
     AsExternal
 asking_of _ b = if is_static b.storage then AsInternal else AsBefore
 
--- an object of no linkage is complete, or gets its length from its initialiser
+-- an object of no linkage is complete, or an array that gets its length from its initialiser
 abbrev pub object_point : List RecordValue → Spot → Bool → QType → Point
-object_point records spot initialised q =
-    if initialised then needs InitialisedKind spot.token (is_complete records (type_of q) || is_open_array (type_of q)) ∷ []
-    else completed records spot CompleteObject (type_of q) ∷ []
+object_point records spot true q = if is_open_array (type_of q) then [] else completed records spot InitialisedKind (type_of q) ∷ []
+object_point records spot false q = completed records spot CompleteObject (type_of q) ∷ []
 
 -- One with linkage may be completed later, unless it is void, or static where it is defined tentatively (6.7.2).
 abbrev pub global_point : List RecordValue → Spot → Bool → Specified → QType → Point

@@ -3,7 +3,7 @@
 use Rattle.std.specs.Prelude.{ℕ, ◌≡◌, ◌<◌, ◌≤◌, true, false, Result, Ok, Err, List, [], ◌∷◌, ◌++◌, All}
 use Rattle.pw_walk.specs.declared.fault.CheckFault.{CheckFault}
 use Rattle.pw_walk.specs.Causes.{Constraint, Cause, Point, rank, fault_of}
-use Rattle.pw_walk.specs.Walks.{Walk, Done, Passing, Closed, outcome}
+use Rattle.pw_walk.specs.Walks.{Walk, Done, Passing, Closed}
 
 -- no constraint of the point is broken
 abbrev pub IsMet : Point → Type 0

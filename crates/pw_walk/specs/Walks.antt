@@ -1,6 +1,6 @@
 -- Walks: what is checked on the way to what is made. A walk is a list of points that ends in a value, or where
 -- nothing can be made. It is refused at its first point with a broken constraint, with the fault of least rank there.
-use Rattle.std.specs.Prelude.{ℕ, Bool, true, false, nat_lt, if◌then◌else◌, Option, None, Some, Result, Ok, Err, List, [], ◌∷◌}
+use Rattle.std.specs.Prelude.{ℕ, true, nat_lt, if◌then◌else◌, Option, None, Some, Result, Ok, Err, [], ◌∷◌}
 use Rattle.pw_walk.specs.declared.fault.CheckFault.{CheckFault}
 use Rattle.pw_walk.specs.Causes.{Constraint, Cause, Point, rank, fault_of}
 
@@ -39,11 +39,9 @@ outcome (Closed constraint token) = Err (fault_of (record { constraint = constra
 
 -- ---- rules: walks that read and change a state
 
-
 -- a rule over a state of type S that makes an A
 abbrev pub RuleOver : Type 0 → Type 0 → Type 0
 RuleOver S A = S → Walk (A × S)
-
 
 unfoldable pub pure : {S A : Type 0} → A → S → Walk (A × S)
 pure a s = Done (a, s)

@@ -3,7 +3,7 @@
 #![tactic(auto)]
 
 mod fault;
-
+mod laws;
 
 pub use fault::{CheckFault, CheckKind, Which};
-
+pub use laws::one_answer;
