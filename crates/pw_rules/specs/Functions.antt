@@ -5,7 +5,7 @@ use Rattle.pw_tree.specs.Trees.{Word, Function, Decl}
 use Rattle.pw_tree.specs.Trees as S
 use Rattle.pw_types.specs.TypeTrees.{QType, type_of, RecordValue}
 use Rattle.pw_types.specs.TypedTrees.{FunctionValue, LocalValue, Statement}
-use Rattle.pw_types.specs.Rooms.{nodes_of, room_of}
+use Rattle.pw_typed.specs.Rooms.{nodes_of, room_of}
 use Rattle.pw_value.specs.Limits.{node_limit, room_limit}
 use Rattle.pw_walk.specs.Causes.{Point, Cause, needs, keeps, FunctionDeclarator, DefinitionStorage, NamedParameters, NoDeclarationList}
 use Rattle.pw_walk.specs.declared.fault.Which.TheVariants.{Nodes, Room}

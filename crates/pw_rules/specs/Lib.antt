@@ -17,3 +17,4 @@ pub mod Statements
 pub mod Functions
 pub mod Modules
 pub mod Checks
+pub mod Samples

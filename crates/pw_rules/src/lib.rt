@@ -1,3 +1,7 @@
 //! The static semantics of C as rules: the constraints of ISO C90 6.1 to 6.7, and the typed tree of a module that
 //! meets them. Definitions and their laws; the code that follows them stands in the crates above.
 #![tactic(auto)]
+
+mod laws;
+
+pub use laws::{checks_is_exact, samples};

@@ -1,2 +1,3 @@
 pub mod Points
 pub mod WalkLaws
+pub mod KindLaws
