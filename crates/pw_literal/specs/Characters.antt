@@ -1,6 +1,6 @@
 -- Character constants and string literals (ISO C90 6.1.3.4, 6.1.4): the characters that they hold. The texts are those of
 -- constants that stand in a text, quotes included.
-use Rattle.std.specs.Prelude.{ℕ, ◌+◌, ◌-◌, ◌*◌, ◌==◌, ◌^◌, Bool, true, false, not, ◌&&◌, ◌||◌, nat_le, nat_lt, if◌then◌else◌, Option, None, Some, List, [], ◌∷◌, ◌++◌, drop, fold, length, map, reverse, take, flat_map}
+use Rattle.std.specs.Prelude.{ℕ, ◌+◌, ◌-◌, ◌*◌, ◌==◌, ◌^◌, Bool, not, ◌&&◌, ◌||◌, nat_le, nat_lt, if◌then◌else◌, List, [], ◌∷◌, ◌++◌, drop, fold, length, reverse, take, flat_map}
 use Rattle.std.specs.List.{list_any}
 use Rattle.pw_literal.specs.Integers.{digit_value}
 

@@ -1,5 +1,5 @@
 -- Integer constants (ISO C90 6.1.3.2): their values and types. The texts are those of constants that stand in a text.
-use Rattle.std.specs.Prelude.{ℕ, ◌+◌, ◌-◌, ◌*◌, ◌==◌, ◌^◌, Bool, true, false, not, ◌&&◌, ◌||◌, nat_le, nat_lt, if◌then◌else◌, Option, None, Some, List, [], ◌∷◌, fold, take_while, find}
+use Rattle.std.specs.Prelude.{ℕ, ◌+◌, ◌-◌, ◌*◌, ◌==◌, ◌^◌, Bool, true, false, not, ◌||◌, nat_le, if◌then◌else◌, Option, List, [], ◌∷◌, fold, take_while, find}
 use Rattle.std.specs.List.{list_any}
 use Rattle.pw_types.specs.declared.kind.IntKind.{IntKind}
 use Rattle.pw_types.specs.declared.kind.IntKind.TheVariants as K
@@ -61,4 +61,4 @@ greatest_of_kind _ = 0
 abbrev pub integer_type : List ℕ → Option IntKind
 integer_type text =
     find (λ kind. nat_le (integer_value text) (greatest_of_kind kind))
-      (types_of_constant (is_decimal text) (list_any is_unsigned_mark text) (list_any is_long_mark text))
+    (types_of_constant (is_decimal text) (list_any is_unsigned_mark text) (list_any is_long_mark text))

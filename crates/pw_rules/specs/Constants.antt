@@ -1,22 +1,21 @@
 -- Constant expressions (ISO C90 6.4), told from typed trees.
-use Rattle.std.specs.Prelude.{ℕ, ◌+◌, ◌-◌, ◌*◌, ◌%◌, ◌^◌, ◌==◌, Bool, true, false, not, ◌&&◌, ◌||◌, nat_le, nat_lt, if◌then◌else◌, Option, None, Some, is_some, option_map, option_and_then, unwrap_or, Result, Ok, Err, List, [], ◌∷◌, bit_and, bit_or, bit_xor}
+use Rattle.std.specs.Prelude.{ℕ, ◌+◌, ◌-◌, ◌*◌, ◌%◌, ◌^◌, ◌==◌, Bool, true, false, not, ◌&&◌, ◌||◌, nat_le, if◌then◌else◌, Option, None, Some, option_and_then, unwrap_or, Result, Ok, Err, List, bit_and, bit_or, bit_xor}
 use Rattle.pw_types.specs.Conversions.{size_of_kind, is_signed_kind}
 use Rattle.pw_types.specs.declared.kind.IntKind.{IntKind}
-use Rattle.pw_types.specs.declared.kind.IntKind.TheVariants as K
 use Rattle.pw_types.specs.declared.tree.BinaryOperator.{BinaryOperator}
 use Rattle.pw_types.specs.declared.tree.BinaryOperator.TheVariants as B
 use Rattle.pw_types.specs.declared.tree.LogicOperator.{LogicOperator}
 use Rattle.pw_types.specs.declared.tree.LogicOperator.TheVariants as L
 use Rattle.pw_types.specs.declared.tree.UnaryOperator.{UnaryOperator}
 use Rattle.pw_types.specs.declared.tree.UnaryOperator.TheVariants as U
-use Rattle.pw_types.specs.TypeTrees.{CType, Void, Int, Pointer, Array, Function, Record, QType, Qualified, type_of, RecordValue}
+use Rattle.pw_types.specs.TypeTrees.{CType, Void, Int, Pointer, Qualified, type_of, RecordValue}
 use Rattle.pw_types.specs.TypedTrees.{Symbol, Hidden, Expression, Node, type_at}
 use Rattle.pw_types.specs.TypedTrees as T
 use Rattle.pw_types.specs.Layouts.{size_of}
 use Rattle.pw_value.specs.Values.{extended}
 use Rattle.pw_value.specs.Words.{signed_sum, signed_difference, signed_product, signed_negation, signed_quotient, signed_remainder, signed_less, signed_at_most, signed_shift_right, unsigned_sum, unsigned_difference, unsigned_product, unsigned_negation, unsigned_quotient, unsigned_remainder, unsigned_less, unsigned_at_most, unsigned_shift_right, shift_left}
 use Rattle.pw_value.specs.declared.words.WordFault.{WordFault}
-use Rattle.pw_rules.specs.Kinds.{is_pointer, is_integral, is_void, kind_in, pointee, same_type}
+use Rattle.pw_rules.specs.Kinds.{is_pointer, kind_in, pointee}
 use Rattle.pw_rules.specs.Operands.{type_in}
 
 -- what an expression is: a constant with its value as a word, no constant expression, or one in which something that is
@@ -123,12 +122,12 @@ constant_of (Node t (Qualified (Int kind) c v) (T.Unary op a)) =
     then_known (constant_of a) (λ n. if_integral (type_in a) (unary_word op (kind_in (type_in a)) n))
 constant_of (Node t (Qualified (Int kind) c v) (T.Binary op a b)) =
     if_integral (type_in a) (if_integral (type_in b)
-      (both_known (constant_of a) (constant_of b) (λ n m. binary_word op (is_signed_kind (kind_in (type_in a))) n m)))
+    (both_known (constant_of a) (constant_of b) (λ n m. binary_word op (is_signed_kind (kind_in (type_in a))) n m)))
 constant_of (Node t (Qualified (Int kind) c v) (T.Logic op a b)) =
     then_formed (constant_of b) (then_known (constant_of a) (λ n. logic_word op n (constant_of b)))
 constant_of (Node t (Qualified (Int kind) c v) (T.Cond a b d)) =
     then_formed (constant_of b) (then_formed (constant_of d)
-      (then_known (constant_of a) (λ n. choice_word n (constant_of b) (constant_of d))))
+    (then_known (constant_of a) (λ n. choice_word n (constant_of b) (constant_of d))))
 constant_of (Node t (Qualified (Int kind) c v) (T.Cast a)) =
     if_integral (type_in a) (then_known (constant_of a) (λ n. Known (convert_word kind n)))
 constant_of _ = NoConstant
@@ -196,7 +195,7 @@ step_of records ty = unwrap_or (size_of records (type_of (pointee ty))) 0
 abbrev pub moved_by : (IntKind → ℕ → ℕ → Place → Option Place) → List RecordValue → Expression → Expression → Option Place → Option Place
 moved_by move records address number p =
     option_and_then (λ n. option_and_then (move (kind_in (type_in number)) (step_of records (type_in address)) n) p)
-      (constant_value number)
+    (constant_value number)
 
 -- Whether an expression is asked for its value, as an address, or for the place that it denotes.
 pub data Asked : Type 0 where

@@ -1,23 +1,23 @@
 -- Declarations (ISO C90 6.5, 6.7.2): what is declared, its storage and linkage, and its initialiser.
-use Rattle.std.specs.Prelude.{ℕ, ◌+◌, ◌==◌, Bool, true, false, not, ◌&&◌, ◌||◌, if◌then◌else◌, Option, None, Some, is_some, is_none, unwrap_or, option_map, List, [], ◌∷◌, ◌++◌, length}
+use Rattle.std.specs.Prelude.{ℕ, Bool, true, false, not, ◌&&◌, ◌||◌, if◌then◌else◌, Option, None, Some, is_some, is_none, unwrap_or, List, [], ◌∷◌, ◌++◌}
 use Rattle.std.specs.Option.{option_map_or}
 use Rattle.pw_tree.specs.Trees.{Word, Decl, InitDeclarator, Initializer, Init, Specifiers, Declarator}
 use Rattle.pw_tree.specs.Trees as S
-use Rattle.pw_types.specs.TypeTrees.{CType, QType, type_of, RecordValue}
+use Rattle.pw_types.specs.TypeTrees.{QType, type_of, RecordValue}
 use Rattle.pw_types.specs.TypedTrees.{Expression, Initialiser, LocalValue, PlacedItem}
 use Rattle.pw_types.specs.TypedTrees as T
-use Rattle.pw_walk.specs.Causes.{Point, Cause, needs, LawfulStorage, DeclaresSomething, CompleteObject, BlockFunction, InitialisedKind, InitialisedHere}
+use Rattle.pw_walk.specs.Causes.{Point, needs, LawfulStorage, DeclaresSomething, CompleteObject, BlockFunction, InitialisedKind, InitialisedHere}
 use Rattle.pw_walk.specs.Walks.{meets, pure, asks, change, ◌>>=◌, ◌>>◌}
-use Rattle.pw_rules.specs.Kinds.{is_function, is_void, is_complete, is_open_array, is_scalar, is_const_object}
-use Rattle.pw_rules.specs.Firsts.{first_specifier, first_of_declaration}
-use Rattle.pw_rules.specs.States.{Rule, State, Entity, TypeName, LocalObject, StaticObject, Linked, Entry, records_in, is_file_scope, enter, put_entity, put_at, add_hidden, put_hidden, next_hidden, add_local, next_local, entry_here, with_body, HiddenObject}
+use Rattle.pw_rules.specs.Kinds.{is_function, is_void, is_open_array, is_const_object}
+use Rattle.pw_rules.specs.Firsts.{first_specifier}
+use Rattle.pw_rules.specs.States.{Rule, State, TypeName, LocalObject, StaticObject, records_in, is_file_scope, enter, put_entity, put_at, add_hidden, put_hidden, next_hidden, add_local, next_local, entry_here, with_body, HiddenObject}
 use Rattle.pw_rules.specs.Limits.{Spot, completed, name_within, type_within}
 use Rattle.pw_rules.specs.Linkage.{Asking, AsInternal, AsBefore, AsExternal, fresh_name, linkage_point, is_internal_by, declare_linked, undefined_yet, define_tentatively, define_object, initialise_linked, note_here}
 use Rattle.pw_rules.specs.SpecifierLists.{Specified, specified, nothing_gathered, is_typedef, is_extern, is_static, is_auto, is_register}
 use Rattle.pw_rules.specs.Derivations.{Declared, built, spot_of}
 use Rattle.pw_rules.specs.Phrases.{specifiers_rule, declarator_rule}
-use Rattle.pw_rules.specs.Leaves.{alone_rule, record_kind, name_text}
-use Rattle.pw_rules.specs.Initialisers.{Context, Initialised, object_rule, is_by_bytes}
+use Rattle.pw_rules.specs.Leaves.{alone_rule, record_kind}
+use Rattle.pw_rules.specs.Initialisers.{Context, object_rule, is_by_bytes}
 
 -- ---- what is declared
 
@@ -91,8 +91,8 @@ unfoldable pub name_rule : Sort → Spot → Word → Bool → Specified → QTy
 name_rule sort spot w initialised b q =
     asks (λ s. s) >>= λ s.
     meets (
-      sort_point s sort spot w initialised b q ++
-      (name_within w.token w.text ∷ type_within (records_in s) w.token q))
+    sort_point s sort spot w initialised b q ++
+    (name_within w.token w.text ∷ type_within (records_in s) w.token q))
 
 -- ---- what it makes
 

@@ -1,13 +1,13 @@
 -- Declarators (ISO C90 6.5.4): what they make of a type, from the type of the specifiers outward.
-use Rattle.std.specs.Prelude.{ℕ, ◌+◌, Bool, true, false, not, ◌&&◌, ◌||◌, nat_le, if◌then◌else◌, Option, None, Some, is_some, is_none, unwrap_or, option_map, List, [], ◌∷◌, ◌++◌, map, count_by}
+use Rattle.std.specs.Prelude.{ℕ, Bool, true, false, not, ◌&&◌, ◌||◌, nat_le, Option, None, Some, List, [], ◌∷◌, count_by}
 use Rattle.pw_tree.specs.declared.expr.Qualifier.{Qualifier}
 use Rattle.pw_tree.specs.declared.expr.Qualifier.TheVariants as Q
 use Rattle.pw_tree.specs.Trees.{Word}
 use Rattle.pw_tree.specs.Trees as S
-use Rattle.pw_types.specs.TypeTrees.{CType, Void, Int, Pointer, Array, Function, Record, QType, Qualified, QTypes, type_of, RecordValue}
-use Rattle.pw_walk.specs.Causes.{Point, Cause, needs, OnePointerQualifier, ElementType, ResultType, NoRecordByValue}
+use Rattle.pw_types.specs.TypeTrees.{Pointer, Array, Function, QType, Qualified, QTypes, type_of, RecordValue}
+use Rattle.pw_walk.specs.Causes.{Point, needs, OnePointerQualifier, ElementType, ResultType, NoRecordByValue}
 use Rattle.pw_walk.specs.Walks.{meets, pure, asks, ◌>>=◌, ◌>>◌}
-use Rattle.pw_rules.specs.Kinds.{plain, is_array, is_function, is_record, is_void}
+use Rattle.pw_rules.specs.Kinds.{plain, is_array, is_function, is_record}
 use Rattle.pw_rules.specs.Limits.{Spot, completed}
 use Rattle.pw_rules.specs.States.{Rule, records_in, Entry, TagEntry}
 

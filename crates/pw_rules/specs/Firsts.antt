@@ -1,6 +1,6 @@
 -- The first tokens of specifiers and declarators.
-use Rattle.std.specs.Prelude.{ℕ, Option, None, Some, List, [], ◌∷◌, unwrap_or}
-use Rattle.pw_tree.specs.Trees.{Word, Specifiers, NoSpecifier, Storage, Qualified, Basic, TypedefName, RecordTag, Record, EnumTag, Enum, Declarator, Declaring, Core, Absent, Name, Enclosed, Suffixes, NoSuffix, Array, OpenArray, Prototype, Variadic, Identifiers}
+use Rattle.std.specs.Prelude.{ℕ, Option, None, Some, [], ◌∷◌, unwrap_or}
+use Rattle.pw_tree.specs.Trees.{Specifiers, NoSpecifier, Storage, Qualified, Basic, TypedefName, RecordTag, Record, EnumTag, Enum, Declarator, Declaring, Core, Absent, Name, Enclosed, Suffixes, NoSuffix, Array, OpenArray, Prototype, Variadic, Identifiers}
 
 abbrev pub first_specifier : Specifiers → Option ℕ
 first_specifier NoSpecifier = None

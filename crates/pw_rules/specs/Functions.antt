@@ -1,19 +1,19 @@
 -- Function definitions (ISO C90 6.7.1).
-use Rattle.std.specs.Prelude.{ℕ, zero, suc, ◌+◌, Bool, true, false, not, ◌&&◌, ◌||◌, nat_lt, if◌then◌else◌, Option, None, Some, is_some, is_none, unwrap_or, option_map, List, [], ◌∷◌, ◌++◌, length, map}
+use Rattle.std.specs.Prelude.{ℕ, zero, suc, Bool, true, false, not, ◌||◌, if◌then◌else◌, is_some, is_none, unwrap_or, List, [], ◌∷◌, ◌++◌, length, map}
 use Rattle.std.specs.List.{list_all}
 use Rattle.pw_tree.specs.Trees.{Word, Function, Decl}
 use Rattle.pw_tree.specs.Trees as S
-use Rattle.pw_types.specs.TypeTrees.{QType, type_of, RecordValue}
+use Rattle.pw_types.specs.TypeTrees.{QType, type_of}
 use Rattle.pw_types.specs.TypedTrees.{FunctionValue, LocalValue, Statement}
 use Rattle.pw_typed.specs.Rooms.{nodes_of, room_of}
 use Rattle.pw_value.specs.Limits.{node_limit, room_limit}
-use Rattle.pw_walk.specs.Causes.{Point, Cause, needs, keeps, FunctionDeclarator, DefinitionStorage, NamedParameters, NoDeclarationList}
+use Rattle.pw_walk.specs.Causes.{Point, needs, keeps, FunctionDeclarator, DefinitionStorage, NamedParameters, NoDeclarationList}
 use Rattle.pw_walk.specs.declared.fault.Which.TheVariants.{Nodes, Room}
-use Rattle.pw_walk.specs.Walks.{meets, pure, asks, change, ◌>>=◌, ◌>>◌}
+use Rattle.pw_walk.specs.Walks.{meets, asks, change, ◌>>=◌, ◌>>◌}
 use Rattle.pw_rules.specs.Kinds.{result_of, is_const_object}
 use Rattle.pw_rules.specs.Firsts.{first_of_declaration}
-use Rattle.pw_rules.specs.States.{Rule, State, BodyState, ScopeState, no_body, records_in, one_deeper, back_to, with_body, with_scopes, with_made}
-use Rattle.pw_rules.specs.Limits.{Spot, name_within, type_within}
+use Rattle.pw_rules.specs.States.{Rule, State, no_body, records_in, one_deeper, back_to, with_body, with_scopes, with_made}
+use Rattle.pw_rules.specs.Limits.{name_within, type_within}
 use Rattle.pw_rules.specs.Linkage.{AsInternal, AsBefore, Asking, linkage_point, is_internal_by, declare_linked, undefined_yet, define_function, symbol_at}
 use Rattle.pw_rules.specs.SpecifierLists.{Specified, is_static, is_extern}
 use Rattle.pw_rules.specs.Derivations.{Declared, Derivation, ToPointer, ToArray, ToFunction, ParameterValue, Bindings, built, spot_of}
@@ -58,12 +58,12 @@ parameter_local p = record { name = name_text p.name; ty = p.ty; writable = not 
 abbrev pub enter_body : QType → Bindings → List (List ℕ) → State → State
 enter_body q bindings names s =
     with_body (λ old. record no_body {
-        result = result_of (type_of q);
-        locals = map parameter_local bindings.parameters;
-        names = names;
-        labels = length names
-      })
-      (with_scopes (λ c. record c { ordinary = c.ordinary ++ bindings.ordinary; tags = c.tags ++ bindings.tags }) (one_deeper s))
+      result = result_of (type_of q);
+      locals = map parameter_local bindings.parameters;
+      names = names;
+      labels = length names;
+    })
+    (with_scopes (λ c. record c { ordinary = c.ordinary ++ bindings.ordinary; tags = c.tags ++ bindings.tags }) (one_deeper s))
 
 abbrev pub numbers_below : ℕ → List ℕ
 numbers_below zero = []
@@ -79,7 +79,7 @@ function_of s w place q bindings body =
       locals = s.body.locals;
       labels = s.body.labels;
       named = numbers_below (length s.body.names);
-      body = body
+      body = body;
     }
 
 abbrev pub add_function : FunctionValue → State → State

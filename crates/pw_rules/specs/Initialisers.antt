@@ -1,6 +1,6 @@
 -- Initialisers (ISO C90 6.5.7). A list in braces initialises the parts of an object in their order. Where it has no braces for
 -- a part that has parts of its own, it goes on inside that part, and takes only as many initialisers as it has.
-use Rattle.std.specs.Prelude.{ℕ, zero, suc, ◌+◌, ◌-◌, ◌*◌, ◌/◌, ◌%◌, ◌==◌, Bool, true, false, not, ◌&&◌, ◌||◌, nat_le, nat_lt, if◌then◌else◌, Option, None, Some, is_some, is_none, unwrap_or, option_map, option_and_then, List, [], ◌∷◌, ◌++◌, length, map, slice_get, take, zip}
+use Rattle.std.specs.Prelude.{ℕ, zero, suc, ◌+◌, ◌*◌, ◌/◌, ◌%◌, ◌==◌, Bool, true, false, not, ◌&&◌, ◌||◌, nat_le, nat_lt, if◌then◌else◌, Option, None, Some, is_some, unwrap_or, option_map, option_and_then, List, [], ◌∷◌, ◌++◌, length, slice_get, take, zip}
 use Rattle.std.specs.Option.{option_map_or}
 use Rattle.pw_literal.specs.Characters.{characters_of_strings, string_bytes_of}
 use Rattle.pw_tree.specs.Trees.{Word, Expr, Init, Inits}
@@ -8,18 +8,18 @@ use Rattle.pw_tree.specs.Trees as S
 use Rattle.pw_types.specs.Conversions.{size_of_kind}
 use Rattle.pw_types.specs.declared.record.RecordKind.{RecordKind}
 use Rattle.pw_types.specs.declared.record.RecordKind.TheVariants.{Structure, Union}
-use Rattle.pw_types.specs.TypeTrees.{CType, Void, Int, Pointer, Array, Function, Record, QType, Qualified, type_of, MemberValue, RecordValue, ContentValue}
+use Rattle.pw_types.specs.TypeTrees.{CType, Int, Pointer, Array, Record, QType, Qualified, type_of, MemberValue, RecordValue}
 use Rattle.pw_types.specs.TypedTrees.{Expression, Node, PlacedItem, ItemValue, ItemBytes, ItemAddress}
 use Rattle.pw_types.specs.TypedTrees as T
 use Rattle.pw_types.specs.Layouts.{content_at, size_of}
 use Rattle.pw_types.specs.Records.{kind_at}
 use Rattle.pw_value.specs.Limits.{depth_limit}
-use Rattle.pw_walk.specs.Causes.{Point, Cause, needs, InitialiserType, InitialiserForm, InitialiserCount, ConstantInitialiser}
-use Rattle.pw_walk.specs.Walks.{meets, granted, refused, pure, asks, ◌>>=◌, ◌>>◌}
-use Rattle.pw_rules.specs.Kinds.{plain, is_scalar, is_record, is_array, is_character_array, is_open_array, kind_in}
+use Rattle.pw_walk.specs.Causes.{needs, InitialiserType, InitialiserForm, InitialiserCount, ConstantInitialiser}
+use Rattle.pw_walk.specs.Walks.{meets, granted, pure, asks, ◌>>=◌, ◌>>◌}
+use Rattle.pw_rules.specs.Kinds.{plain, is_scalar, is_array, is_character_array}
 use Rattle.pw_rules.specs.Constants.{constant_value, is_null_pointer, address_of, Place}
-use Rattle.pw_rules.specs.Operands.{Operand, type_in, cast_to}
-use Rattle.pw_rules.specs.Operators.{value_rule, is_assignable, same_record, content_in}
+use Rattle.pw_rules.specs.Operands.{type_in, cast_to}
+use Rattle.pw_rules.specs.Operators.{value_rule, is_assignable, same_record}
 use Rattle.pw_rules.specs.Leaves.{first_word, texts_of, string_type, string_point, is_nil}
 use Rattle.pw_rules.specs.States.{Rule, records_in}
 use Rattle.pw_rules.specs.Phrases.{expr_rule}
@@ -62,7 +62,7 @@ target_at q offset = record { ty = q; offset = offset }
 abbrev pub element_of : List RecordValue → QType → Option ℕ → Frame → Option Target
 element_of records q count f =
     if option_map_or (nat_lt f.next) count true then
-      Some (target_at q (f.offset + f.next * unwrap_or (size_of records (type_of q)) 0))
+    Some (target_at q (f.offset + f.next * unwrap_or (size_of records (type_of q)) 0))
     else None
 
 abbrev pub member_target : ℕ → MemberValue × ℕ → Target
@@ -114,9 +114,9 @@ reached zero records takes cursor = None
 reached (suc deep) records takes [] = None
 reached (suc deep) records takes (f ∷ outer) =
     option_and_then
-      (λ t. if is_scalar (type_of t.ty) || takes (type_of t.ty) then Some (record { target = t; cursor = f ∷ outer })
-            else reached deep records takes (frame_of t ∷ f ∷ outer))
-      (next_part records f)
+    (λ t. if is_scalar (type_of t.ty) || takes (type_of t.ty) then Some (record { target = t; cursor = f ∷ outer })
+    else reached deep records takes (frame_of t ∷ f ∷ outer))
+    (next_part records f)
 
 abbrev pub reach : List RecordValue → (CType → Bool) → Cursor → Option Reached
 reach records takes cursor = reached (depth_limit + 1) records takes cursor
@@ -163,10 +163,10 @@ value_filled cx first t e filled =
     let part = cast_to (type_of t.ty) e in
     let item = item_of records (type_of t.ty) part in
     meets (
-      needs InitialiserForm cx.token (not (is_array (type_of t.ty)))
-      ∷ needs InitialiserType cx.token (is_assignable (type_of t.ty) e)
-      ∷ needs ConstantInitialiser first (not cx.constant || is_some item)
-      ∷ []) >>
+    needs InitialiserForm cx.token (not (is_array (type_of t.ty)))
+    ∷ needs InitialiserType cx.token (is_assignable (type_of t.ty) e)
+    ∷ needs ConstantInitialiser first (not cx.constant || is_some item)
+    ∷ []) >>
     pure (fill (item_list t.offset item) part filled)
 
 -- the bytes of a string in an array of so many: its zero may be left out
@@ -184,7 +184,7 @@ string_filled cx ws t filled =
     string_point ws >>
     meets (needs InitialiserCount cx.token (string_fits (type_of t.ty) (length (characters_of_strings (texts_of ws)))) ∷ []) >>
     pure (fill (item_list t.offset (Some (ItemBytes (bytes_within (type_of t.ty) bytes))))
-      (Node (first_word ws) (string_type bytes) (T.Str cx.hidden)) filled)
+    (Node (first_word ws) (string_type bytes) (T.Str cx.hidden)) filled)
 
 -- ---- lists
 
@@ -283,7 +283,7 @@ unfoldable mutual
   init_rule (S.Braces token is trailing) cx cursor filled =
       braced_target cx cursor >>= λ t.
       braced_by (fills_characters (type_of t.ty) (braced_string is)) cx t filled (words_in (braced_string is))
-        (inits_rule is cx (frame_of t ∷ []) filled) >>= λ r.
+      (inits_rule is cx (frame_of t ∷ []) filled) >>= λ r.
       asks records_in >>= λ records.
       pure (passed records cursor, r.1)
 

@@ -1,9 +1,9 @@
 -- What types are (ISO C90 6.1.2.5, 6.2.1): the tests that constraints speak of.
-use Rattle.std.specs.Prelude.{ℕ, zero, suc, ◌+◌, ◌==◌, Bool, true, false, not, ◌&&◌, ◌||◌, if◌then◌else◌, Option, None, Some, is_some, is_none, List, [], ◌∷◌, option_map, unwrap_or}
+use Rattle.std.specs.Prelude.{ℕ, zero, suc, ◌+◌, ◌==◌, Bool, true, false, not, ◌&&◌, ◌||◌, Option, None, Some, is_some, List, [], ◌∷◌, option_map, unwrap_or}
 use Rattle.std.specs.List.{list_any}
 use Rattle.pw_types.specs.declared.kind.IntKind.{IntKind}
 use Rattle.pw_types.specs.declared.kind.IntKind.TheVariants as K
-use Rattle.pw_types.specs.TypeTrees.{CType, Void, Int, Pointer, Array, Function, Record, QType, Qualified, QTypes, NoType, OneType, type_of, is_constant, is_volatile, MemberValue, RecordValue, ContentValue}
+use Rattle.pw_types.specs.TypeTrees.{CType, Void, Int, Pointer, Array, Function, Record, QType, Qualified, QTypes, NoType, OneType, type_of, MemberValue, RecordValue}
 use Rattle.pw_types.specs.Layouts.{content_at, size_of}
 use Rattle.pw_value.specs.Limits.{depth_limit}
 

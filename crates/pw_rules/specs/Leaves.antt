@@ -1,5 +1,5 @@
 -- What single names, constants and parts of declarators say, where no phrase within them is read any more.
-use Rattle.std.specs.Prelude.{ℕ, ◌+◌, ◌-◌, ◌%◌, ◌^◌, ◌==◌, Bool, true, false, not, ◌&&◌, ◌||◌, nat_le, nat_lt, if◌then◌else◌, Option, None, Some, is_some, is_none, unwrap_or, option_map, option_and_then, List, [], ◌∷◌, ◌++◌, length, map, filter, slice_get}
+use Rattle.std.specs.Prelude.{ℕ, ◌+◌, ◌-◌, ◌%◌, ◌^◌, ◌==◌, Bool, true, false, not, ◌&&◌, ◌||◌, nat_le, nat_lt, if◌then◌else◌, Option, None, Some, is_some, is_none, unwrap_or, option_and_then, List, [], ◌∷◌, ◌++◌, length, map, filter}
 use Rattle.std.specs.List.{list_any}
 use Rattle.std.specs.Option.{option_map_or}
 use Rattle.std.specs.Str.{bytes_eq}
@@ -12,22 +12,21 @@ use Rattle.pw_types.specs.Conversions.{is_signed_kind}
 use Rattle.pw_types.specs.declared.kind.IntKind.TheVariants as K
 use Rattle.pw_types.specs.declared.record.RecordKind.{RecordKind}
 use Rattle.pw_types.specs.declared.record.RecordKind.TheVariants.{Structure, Union}
-use Rattle.pw_types.specs.TypeTrees.{CType, Void, Int, Pointer, Array, Function, Record, QType, Qualified, QTypes, type_of, is_constant, is_volatile, MemberValue, RecordValue, ContentValue}
+use Rattle.pw_types.specs.TypeTrees.{CType, Int, Pointer, Array, Function, Record, QType, Qualified, QTypes, type_of, is_constant, is_volatile, MemberValue, RecordValue, ContentValue}
 use Rattle.pw_types.specs.TypedTrees.{Expression, Node, Hidden, PlacedItem, ItemBytes, token_of}
 use Rattle.pw_types.specs.TypedTrees as T
-use Rattle.pw_types.specs.Layouts.{content_at, record_layout, record_offsets}
+use Rattle.pw_types.specs.Layouts.{record_layout, record_offsets}
 use Rattle.pw_types.specs.Records.{kind_at, layouts_of, deepest, declared, defined}
 use Rattle.pw_types.specs.Shapes.{record_shape, member_shapes}
-use Rattle.pw_types.specs.Sizes.{passing}
 use Rattle.pw_value.specs.Limits.{depth_limit, shape_limit, size_limit}
-use Rattle.pw_walk.specs.Causes.{Point, Cause, needs, keeps, DeclaredIdentifier, DeclaredTag, OneMeaning, OneKindOfTag, OneContent, OneMember, LawfulStorage, VoidAlone, CompleteMember, IntegerFits, OneCharacter, EscapeFits, ConstantExpression, PositiveLength, EnumeratorFits, NoRecordByValue}
+use Rattle.pw_walk.specs.Causes.{Point, Cause, needs, keeps, DeclaredIdentifier, DeclaredTag, OneKindOfTag, OneContent, OneMember, LawfulStorage, VoidAlone, CompleteMember, IntegerFits, OneCharacter, EscapeFits, ConstantExpression, PositiveLength, EnumeratorFits, NoRecordByValue}
 use Rattle.pw_walk.specs.declared.fault.Which.TheVariants.{ObjectSize, ShapeLength, TypeDepth}
 use Rattle.pw_walk.specs.Walks.{meets, granted, refused, pure, asks, change, ◌>>=◌, ◌>>◌}
-use Rattle.pw_rules.specs.Kinds.{plain, int_type, is_function, is_record, is_void, is_complete, types_in, kind_in}
+use Rattle.pw_rules.specs.Kinds.{plain, int_type, is_function, is_record, is_void, types_in, kind_in}
 use Rattle.pw_rules.specs.Constants.{constant_value}
 use Rattle.pw_rules.specs.Operands.{Operand, value_operand, type_in}
-use Rattle.pw_rules.specs.States.{Rule, State, Entity, TypeName, EnumerationConstant, LocalObject, StaticObject, Linked, Tag, RecordTagged, Enumerated, Entry, TagEntry, records_in, entity_of, tag_of, tag_here, enter, enter_tag, add_record, put_record, add_hidden, next_hidden, with_types}
-use Rattle.pw_rules.specs.Limits.{Spot, completed, name_within, type_within}
+use Rattle.pw_rules.specs.States.{Rule, State, Entity, TypeName, EnumerationConstant, LocalObject, StaticObject, Linked, Tag, RecordTagged, Enumerated, records_in, entity_of, tag_of, tag_here, enter, enter_tag, add_record, put_record, add_hidden, next_hidden, with_types}
+use Rattle.pw_rules.specs.Limits.{completed, name_within, type_within}
 use Rattle.pw_rules.specs.Linkage.{fresh_name, symbol_at}
 use Rattle.pw_rules.specs.SpecifierLists.{Specified, is_register}
 use Rattle.pw_rules.specs.Derivations.{Declared, ParameterValue, Bindings, built, spot_of}
@@ -60,15 +59,15 @@ unfoldable pub number_rule : Word → Rule Operand
 number_rule w =
     meets (needs IntegerFits w.token (is_some (integer_type w.text)) ∷ []) >>
     pure (value_operand w.token
-      (Node w.token (plain (Int (unwrap_or (integer_type w.text) K.Int))) (T.Number (integer_value w.text))))
+    (Node w.token (plain (Int (unwrap_or (integer_type w.text) K.Int))) (T.Number (integer_value w.text))))
 
 -- 6.1.3.4
 unfoldable pub character_rule : Word → Rule Operand
 character_rule w =
     meets (
-      needs OneCharacter w.token (length (characters_of w.text) == 1)
-      ∷ needs EscapeFits w.token (fits_bytes (characters_of w.text))
-      ∷ []) >>
+    needs OneCharacter w.token (length (characters_of w.text) == 1)
+    ∷ needs EscapeFits w.token (fits_bytes (characters_of w.text))
+    ∷ []) >>
     pure (value_operand w.token (Node w.token int_type (T.Number (character_constant (characters_of w.text)))))
 
 abbrev pub first_word : List Word → ℕ
@@ -93,7 +92,7 @@ string_point ws = meets (needs EscapeFits (first_word ws) (fits_bytes (character
 abbrev pub note_string : List ℕ → State → State
 note_string bytes s =
     if s.made.counting then
-      add_hidden (record { ty = string_type bytes; writable = false; items = bytes_at_start bytes }) s
+    add_hidden (record { ty = string_type bytes; writable = false; items = bytes_at_start bytes }) s
     else s
 
 -- 6.1.4
@@ -103,7 +102,7 @@ string_rule ws =
     asks next_hidden >>= λ k.
     change (note_string (string_bytes_of (texts_of ws))) >>
     pure (lvalue_operand (first_word ws) false
-      (Node (first_word ws) (string_type (string_bytes_of (texts_of ws))) (T.Str k)))
+    (Node (first_word ws) (string_type (string_bytes_of (texts_of ws))) (T.Str k)))
 
 -- ---- constant expressions (6.4)
 
@@ -123,9 +122,9 @@ is_int ty n = is_signed_kind (kind_in ty) || nat_lt n (2 ^ 31)
 unfoldable pub length_rule : ℕ → Expression → Rule ℕ
 length_rule first e =
     meets (
-      constant_point first e
-      ∷ needs PositiveLength first (option_map_or (is_positive (type_in e)) (constant_value e) true)
-      ∷ []) >>
+    constant_point first e
+    ∷ needs PositiveLength first (option_map_or (is_positive (type_in e)) (constant_value e) true)
+    ∷ []) >>
     pure (unwrap_or (constant_value e) 1)
 
 -- ---- structures and unions (6.5.2.1, 6.5.2.3)
@@ -184,9 +183,9 @@ opening_by kind w None = new_tag kind w
 opening_by kind w (Some (RecordTagged n)) =
     asks (λ s. s) >>= λ s.
     meets (
-      kind_point (records_in s) kind n w.token
-      ∷ needs OneContent w.token (not (is_opened s n))
-      ∷ []) >>
+    kind_point (records_in s) kind n w.token
+    ∷ needs OneContent w.token (not (is_opened s n))
+    ∷ []) >>
     pure n
 opening_by kind w (Some Enumerated) = refused OneKindOfTag w.token
 
@@ -216,11 +215,11 @@ member_rule b d members =
     built spot d.derivations b.ty >>= λ q.
     asks records_in >>= λ records.
     meets (
-      needs OneMember spot.token (not (has_member members (name_text d.name)))
-      ∷ needs CompleteMember spot.token (not (is_function (type_of q)))
-      ∷ completed records spot CompleteMember (type_of q)
-      ∷ name_within spot.token (name_text d.name)
-      ∷ type_within records spot.token q) >>
+    needs OneMember spot.token (not (has_member members (name_text d.name)))
+    ∷ needs CompleteMember spot.token (not (is_function (type_of q)))
+    ∷ completed records spot CompleteMember (type_of q)
+    ∷ name_within spot.token (name_text d.name)
+    ∷ type_within records spot.token q) >>
     pure (members ++ record { name = name_text d.name; ty = q } ∷ [])
 
 abbrev pub content_by : List RecordValue → RecordKind → List MemberValue → ContentValue
@@ -231,7 +230,7 @@ content_by records kind members =
       offsets = record_offsets kind layouts;
       layout = record_layout kind layouts;
       shape = record_shape kind (record_layout kind layouts).size (member_shapes records members);
-      depth = 1 + deepest records members
+      depth = 1 + deepest records members;
     }
 
 -- a record's own limits stand at its tag, or at the first specifier
@@ -273,19 +272,19 @@ enumerating_rule None = pure tt
 enumerating_rule (Some w) =
     asks (λ s. tag_here s w.text) >>= λ tag.
     meets (
-      needs OneKindOfTag w.token (not (is_record_tag tag))
-      ∷ needs OneContent w.token (is_none tag)
-      ∷ name_within w.token w.text
-      ∷ []) >>
+    needs OneKindOfTag w.token (not (is_record_tag tag))
+    ∷ needs OneContent w.token (is_none tag)
+    ∷ name_within w.token w.text
+    ∷ []) >>
     change (enter_tag w.text Enumerated)
 
 -- the value of an enumerator is an int
 unfoldable pub enumerator_value : ℕ → Expression → Rule ℕ
 enumerator_value first e =
     meets (
-      constant_point first e
-      ∷ needs EnumeratorFits first (option_map_or (is_int (type_in e)) (constant_value e) true)
-      ∷ []) >>
+    constant_point first e
+    ∷ needs EnumeratorFits first (option_map_or (is_int (type_in e)) (constant_value e) true)
+    ∷ []) >>
     pure (unwrap_or (constant_value e) 0)
 
 -- one more than the value before, unless that is the greatest int
@@ -297,10 +296,10 @@ unfoldable pub enumerator_rule : Word → Option ℕ → Rule (Option ℕ)
 enumerator_rule w value =
     asks (λ s. fresh_name s w.text w.token) >>= λ fresh.
     meets (
-      fresh
-      ∷ needs EnumeratorFits w.token (is_some value)
-      ∷ name_within w.token w.text
-      ∷ []) >>
+    fresh
+    ∷ needs EnumeratorFits w.token (is_some value)
+    ∷ name_within w.token w.text
+    ∷ []) >>
     change (enter w.text (EnumerationConstant (unwrap_or value 0))) >>
     pure (value_after (unwrap_or value 0))
 
@@ -351,10 +350,10 @@ parameter_rule sole b d parameters =
     built spot d.derivations b.ty >>= λ q.
     asks (λ s. s) >>= λ s.
     meets (
-      named_point s d.name ++
-      (needs VoidAlone spot.token (not (is_void (type_of q)) || says_none sole b d.name q)
-      ∷ needs NoRecordByValue b.first (not (is_record (type_of q)))
-      ∷ type_within (records_in s) spot.token (adjusted q))) >>
+    named_point s d.name ++
+    (needs VoidAlone spot.token (not (is_void (type_of q)) || says_none sole b d.name q)
+    ∷ needs NoRecordByValue b.first (not (is_record (type_of q)))
+    ∷ type_within (records_in s) spot.token (adjusted q))) >>
     change (enter_parameter d.name (LocalObject (length parameters) (adjusted q) (is_register b.storage))) >>
     pure (parameters ++ record { name = d.name; ty = adjusted q } ∷ [])
 
@@ -371,5 +370,5 @@ bindings_rule parameters =
     asks (λ s. record {
       parameters = without_void parameters;
       ordinary = filter (λ e. e.1.depth == s.scopes.depth) s.scopes.ordinary;
-      tags = filter (λ e. e.1.depth == s.scopes.depth) s.scopes.tags
+      tags = filter (λ e. e.1.depth == s.scopes.depth) s.scopes.tags;
     })

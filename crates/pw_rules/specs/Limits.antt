@@ -1,7 +1,7 @@
 -- The limits on types and names that are declared (ISO C90 5.2.4.1), and what is to be complete.
-use Rattle.std.specs.Prelude.{ℕ, ◌+◌, Bool, true, false, nat_lt, if◌then◌else◌, Option, None, Some, is_some, is_none, unwrap_or, List, [], ◌∷◌, ◌++◌, length}
+use Rattle.std.specs.Prelude.{ℕ, Bool, nat_lt, if◌then◌else◌, Option, None, Some, is_some, unwrap_or, List, [], ◌∷◌, length}
 use Rattle.std.specs.Option.{option_or}
-use Rattle.pw_types.specs.TypeTrees.{CType, Void, Int, Pointer, Array, Function, Record, QType, Qualified, QTypes, type_of, is_volatile, RecordValue}
+use Rattle.pw_types.specs.TypeTrees.{CType, Pointer, Array, Function, QType, Qualified, type_of, is_volatile, RecordValue}
 use Rattle.pw_types.specs.Records.{depth_of}
 use Rattle.pw_value.specs.Limits.{depth_limit, shape_limit, parameter_limit}
 use Rattle.pw_types.specs.Shapes.{shape_of}
@@ -61,6 +61,6 @@ pub record Spot : Type 0 where
 abbrev pub completed : List RecordValue → Spot → Constraint → CType → Cause
 completed records spot constraint ty =
     if is_some spot.tag then
-      (if is_record (innermost ty) then needs DeclaredTag (unwrap_or spot.tag 0) (is_complete records (innermost ty))
-       else needs constraint spot.token (is_complete records ty))
+    (if is_record (innermost ty) then needs DeclaredTag (unwrap_or spot.tag 0) (is_complete records (innermost ty))
+    else needs constraint spot.token (is_complete records ty))
     else needs constraint spot.token (is_complete records ty)

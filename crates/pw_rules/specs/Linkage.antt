@@ -1,14 +1,13 @@
 -- Declarations of names (ISO C90 6.1.2.2, 6.5, 6.7): what a declaration makes of its name, and what else the name may be in the
 -- same scope and in others.
-use Rattle.std.specs.Prelude.{ℕ, ◌+◌, ◌==◌, Bool, true, false, not, ◌&&◌, ◌||◌, if◌then◌else◌, Option, None, Some, is_some, is_none, unwrap_or, option_map, option_and_then, List, [], ◌∷◌, ◌++◌, length}
-use Rattle.std.specs.Option.{option_map_or, option_or}
-use Rattle.pw_types.specs.TypeTrees.{CType, QType, Qualified, type_of, RecordValue}
+use Rattle.std.specs.Prelude.{ℕ, Bool, true, false, not, ◌||◌, if◌then◌else◌, Option, None, is_none, unwrap_or, option_map, option_and_then, List, [], ◌∷◌, length}
+use Rattle.std.specs.Option.{option_map_or}
+use Rattle.pw_types.specs.TypeTrees.{QType}
 use Rattle.pw_types.specs.TypedTrees.{Symbol, External, Internal, PlacedItem}
 use Rattle.pw_walk.specs.Causes.{Point, Cause, needs, OneMeaning, OneType, OneLinkage, OneDefinition}
-use Rattle.pw_walk.specs.Walks.{meets, pure, asks, change, ◌>>=◌, ◌>>◌}
-use Rattle.pw_rules.specs.Kinds.{is_function, int_type}
+use Rattle.pw_walk.specs.Walks.{pure, asks, change, ◌>>=◌, ◌>>◌}
 use Rattle.pw_rules.specs.Compatible.{compatible, composite}
-use Rattle.pw_rules.specs.States.{Rule, State, Entity, TypeName, EnumerationConstant, LocalObject, StaticObject, Linked, Entry, LinkedName, entity_here, entry_here, entity_of, place_of_linked, linked_at, put_entity, put_linked, add_linked, add_slot, enter, Slot, NamedSlot, linked_in, is_file_scope}
+use Rattle.pw_rules.specs.States.{Rule, State, Entity, TypeName, Linked, LinkedName, entity_here, entry_here, entity_of, place_of_linked, linked_at, put_entity, put_linked, add_linked, add_slot, enter, NamedSlot, linked_in}
 
 -- ---- names without linkage: typedef names, enumeration constants, parameters, locals
 
@@ -71,7 +70,7 @@ place_for s name = unwrap_or (place_of_linked s name) (length (linked_in s))
 abbrev pub note_linked : List ℕ → Bool → QType → ℕ → Option ℕ → State → State
 note_linked name internal ty token tag s =
     option_map_or (λ l. put_linked (place_for s name) (linked_again ty l) s) (linked_before s name)
-      (add_linked (linked_anew name internal ty token tag) s)
+    (add_linked (linked_anew name internal ty token tag) s)
 
 -- In its scope the name has the composite of the types that it is declared with there (6.1.2.6).
 abbrev pub type_here : QType → Entity → QType
@@ -81,8 +80,8 @@ type_here ty _ = ty
 abbrev pub note_here : List ℕ → ℕ → QType → State → State
 note_here name place ty s =
     option_map_or (λ e. put_entity e.place (Linked place (type_here ty (unwrap_or (entity_here s name) (TypeName ty)))) s)
-      (entry_here s name)
-      (enter name (Linked place ty) s)
+    (entry_here s name)
+    (enter name (Linked place ty) s)
 
 -- a declaration of a name with linkage; the answer is its place
 unfoldable pub declare_linked : List ℕ → ℕ → Option ℕ → Asking → QType → Rule ℕ

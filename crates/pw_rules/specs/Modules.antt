@@ -1,12 +1,12 @@
 -- Modules (ISO C90 6.7): external declarations in their order, and what stands at a module's end.
-use Rattle.std.specs.Prelude.{ℕ, ◌==◌, Bool, true, false, not, ◌&&◌, ◌||◌, if◌then◌else◌, Option, None, Some, is_some, unwrap_or, option_map, List, [], ◌∷◌, ◌++◌, map, filter, flat_map, slice_get}
+use Rattle.std.specs.Prelude.{ℕ, true, not, ◌&&◌, if◌then◌else◌, Option, None, Some, unwrap_or, List, [], ◌∷◌, map, filter, flat_map, slice_get}
 use Rattle.std.specs.Option.{option_map_or}
 use Rattle.pw_tree.specs.Trees.{External, Definition, Declaration, Module}
-use Rattle.pw_types.specs.TypeTrees.{QType, type_of, RecordValue}
-use Rattle.pw_types.specs.TypedTrees.{Symbol, Hidden, GlobalValue, DeclaredValue, ModuleValue, External as ExternalName}
-use Rattle.pw_walk.specs.Causes.{Point, Cause, needs, CompleteAtEnd}
+use Rattle.pw_types.specs.TypeTrees.{QType, type_of}
+use Rattle.pw_types.specs.TypedTrees.{Hidden, GlobalValue, DeclaredValue, ModuleValue}
+use Rattle.pw_walk.specs.Causes.{Cause, needs, CompleteAtEnd}
 use Rattle.pw_walk.specs.Walks.{meets, pure, asks, ◌>>=◌, ◌>>◌}
-use Rattle.pw_rules.specs.Kinds.{int_type, is_const_object, is_function}
+use Rattle.pw_rules.specs.Kinds.{is_const_object}
 use Rattle.pw_rules.specs.States.{Rule, State, Entity, Linked, LinkedName, HiddenObject, Slot, NamedSlot, HiddenSlot, entity_of, linked_at, linked_in, records_in}
 use Rattle.pw_rules.specs.Limits.{Spot, completed}
 use Rattle.pw_rules.specs.Linkage.{symbol_of_linked}
@@ -55,7 +55,7 @@ named_global s l =
       name = symbol_of_linked l;
       ty = final_type s l;
       writable = not (is_const_object (final_type s l));
-      items = l.items
+      items = l.items;
     }
 
 abbrev pub hidden_global : ℕ → HiddenObject → GlobalValue
@@ -74,7 +74,7 @@ module_in s =
       records = records_in s;
       globals = flat_map (global_in s) s.made.slots;
       functions = s.made.functions;
-      declared = map declared_value (filter (λ l. not l.internal) (linked_in s))
+      declared = map declared_value (filter (λ l. not l.internal) (linked_in s));
     }
 
 unfoldable pub module_rule : Module → Rule ModuleValue

@@ -1,12 +1,11 @@
 -- Operands: typed expressions with what constraints ask of them beside their types, and the conversions of operands
 -- (ISO C90 6.2).
-use Rattle.std.specs.Prelude.{ℕ, Bool, true, false, not, ◌&&◌, if◌then◌else◌, List, [], ◌∷◌}
+use Rattle.std.specs.Prelude.{ℕ, Bool, true, false, ◌&&◌, if◌then◌else◌}
 use Rattle.pw_types.specs.Conversions.{promoted, usual_of}
-use Rattle.pw_types.specs.declared.kind.IntKind.{IntKind}
-use Rattle.pw_types.specs.TypeTrees.{CType, Void, Int, Pointer, Array, Function, Record, QType, Qualified, type_of}
+use Rattle.pw_types.specs.TypeTrees.{CType, Int, Pointer, Array, Function, type_of}
 use Rattle.pw_types.specs.TypedTrees.{Expression, Node, token_of, type_at}
 use Rattle.pw_types.specs.TypedTrees as T
-use Rattle.pw_rules.specs.Kinds.{plain, unqualified, same_type, is_array, kind_in, is_integral}
+use Rattle.pw_rules.specs.Kinds.{plain, same_type, is_array, kind_in}
 
 -- Its node, whether it is an lvalue, whether it is one of an object that is declared `register`, and its first token.
 pub record Operand : Type 0 where

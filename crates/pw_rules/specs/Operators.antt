@@ -1,10 +1,7 @@
 -- Operators (ISO C90 6.3): what each asks of its operands, and the node that it makes of them. Operands come with their
 -- values taken, as 6.2.2.1 says, except those of `&`, `++`, `--`, `sizeof`, `.` and the left one of an assignment.
-use Rattle.std.specs.Prelude.{ℕ, ◌+◌, ◌==◌, Bool, true, false, not, ◌&&◌, ◌||◌, if◌then◌else◌, Option, None, Some, is_some, is_none, unwrap_or, option_map, option_and_then, List, [], ◌∷◌, ◌++◌, length, find, zip}
+use Rattle.std.specs.Prelude.{ℕ, ◌==◌, Bool, true, false, not, ◌&&◌, ◌||◌, if◌then◌else◌, Option, None, unwrap_or, option_and_then, List, [], ◌∷◌, length, find, zip}
 use Rattle.std.specs.Str.{bytes_eq}
-use Rattle.std.specs.Option.{option_map_or, option_or}
-use Rattle.pw_tree.specs.declared.operator.Access.{Access}
-use Rattle.pw_tree.specs.declared.operator.Access.TheVariants.{Dot, Arrow}
 use Rattle.pw_tree.specs.declared.operator.AssignOperator.{AssignOperator}
 use Rattle.pw_tree.specs.declared.operator.AssignOperator.TheVariants as A
 use Rattle.pw_tree.specs.declared.operator.BinaryOperator.{BinaryOperator}
@@ -18,16 +15,15 @@ use Rattle.pw_types.specs.declared.tree.BinaryOperator.{BinaryOperator as TypedO
 use Rattle.pw_types.specs.declared.tree.LogicOperator.{LogicOperator}
 use Rattle.pw_types.specs.declared.tree.LogicOperator.TheVariants as L
 use Rattle.pw_types.specs.declared.tree.StepOperator.{StepOperator}
-use Rattle.pw_types.specs.declared.tree.StepOperator.TheVariants as Q
 use Rattle.pw_types.specs.declared.tree.UnaryOperator.TheVariants as U
 use Rattle.pw_types.specs.declared.tree.UnaryOperator.{UnaryOperator as TypedUnary}
-use Rattle.pw_types.specs.TypeTrees.{CType, Void, Int, Pointer, Array, Function, Record, QType, Qualified, QTypes, NoType, OneType, type_of, is_constant, is_volatile, MemberValue, RecordValue, ContentValue}
+use Rattle.pw_types.specs.TypeTrees.{CType, Void, Int, Pointer, Record, QType, Qualified, QTypes, NoType, OneType, type_of, is_constant, is_volatile, MemberValue, RecordValue, ContentValue}
 use Rattle.pw_types.specs.TypedTrees.{Expression, Expressions, NoExpression, OneExpression, Node, Symbol, token_of, type_at}
 use Rattle.pw_types.specs.TypedTrees as T
 use Rattle.pw_types.specs.Layouts.{content_at, size_of}
-use Rattle.pw_walk.specs.Causes.{Point, Cause, needs, DecayingArray, SubscriptOperands, CalledFunction, ArgumentCount, ArgumentTypes, RecordOperand, DeclaredMember, StepOperand, ModifiableLvalue, AddressOperand, PointerOperand, UnaryOperand, SizedOperand, CastTypes, NoPointerCast, BinaryOperands, LogicOperands, ConditionalOperands, AssignedType, CompoundOperands}
+use Rattle.pw_walk.specs.Causes.{needs, DecayingArray, SubscriptOperands, CalledFunction, ArgumentCount, ArgumentTypes, RecordOperand, DeclaredMember, StepOperand, ModifiableLvalue, AddressOperand, PointerOperand, UnaryOperand, SizedOperand, CastTypes, NoPointerCast, BinaryOperands, LogicOperands, ConditionalOperands, AssignedType, CompoundOperands}
 use Rattle.pw_walk.specs.Walks.{meets, granted, pure, asks, ◌>>=◌, ◌>>◌}
-use Rattle.pw_rules.specs.Kinds.{plain, unqualified, int_type, same_type, is_integral, is_pointer, is_scalar, is_void, is_array, is_function, is_record, is_complete, points_to_object, points_to_function, points_to_void, pointee, kind_in, qualify, is_free_of_const, parameters_of, result_of, count_of_types}
+use Rattle.pw_rules.specs.Kinds.{plain, unqualified, int_type, is_integral, is_pointer, is_scalar, is_void, is_array, is_function, is_record, is_complete, points_to_object, points_to_function, points_to_void, pointee, qualify, is_free_of_const, parameters_of, result_of, count_of_types}
 use Rattle.pw_rules.specs.Compatible.{compatible_types, composite_type, qualified_within}
 use Rattle.pw_rules.specs.Constants.{is_null_constant, is_zero_constant}
 use Rattle.pw_rules.specs.Operands.{Operand, type_in, value_operand, cast_to, promote, common_type, value_of, is_register_array}
@@ -72,7 +68,7 @@ deref first t e =
       node = Node t (pointee (type_in e)) (T.Deref e);
       lvalue = not (is_function (type_of (pointee (type_in e)))) && not (is_void (type_of (pointee (type_in e))));
       register = false;
-      first = first
+      first = first;
     }
 
 unfoldable pub deref_rule : ℕ → ℕ → Expression → Rule Operand
@@ -103,9 +99,9 @@ unfoldable pub step_rule : ℕ → ℕ → StepOperator → Operand → Rule Ope
 step_rule first t op a =
     asks records_in >>= λ records.
     meets (
-      needs StepOperand t (can_step records (type_in a.node))
-      ∷ needs ModifiableLvalue t (is_modifiable records a)
-      ∷ []) >>
+    needs StepOperand t (can_step records (type_in a.node))
+    ∷ needs ModifiableLvalue t (is_modifiable records a)
+    ∷ []) >>
     pure (value_operand first (Node t (unqualified (type_at a.node)) (T.Step op a.node)))
 
 -- ---- `sizeof` (6.3.3.4)
@@ -138,8 +134,8 @@ abbrev pub fits_cast : CType → Expression → Bool
 fits_cast to e =
     is_void to
     || (is_scalar to && is_scalar (type_in e)
-        && not (is_pointer to && is_pointer (type_in e) && not (is_null_constant e)
-                && not (both_alike (points_to_function to) (points_to_function (type_in e)))))
+    && not (is_pointer to && is_pointer (type_in e) && not (is_null_constant e)
+    && not (both_alike (points_to_function to) (points_to_function (type_in e)))))
 
 -- between a pointer and a number only the constant 0 is converted
 abbrev pub mixes_pointer : CType → Expression → Bool
@@ -150,9 +146,9 @@ mixes_pointer to e =
 unfoldable pub cast_rule : ℕ → QType → Expression → Rule Operand
 cast_rule t q e =
     meets (
-      needs CastTypes t (fits_cast (type_of q) e)
-      ∷ needs NoPointerCast t (not (mixes_pointer (type_of q) e))
-      ∷ []) >>
+    needs CastTypes t (fits_cast (type_of q) e)
+    ∷ needs NoPointerCast t (not (mixes_pointer (type_of q) e))
+    ∷ []) >>
     pure (value_operand t (Node t (unqualified q) (T.Cast e)))
 
 -- ---- binary operators (6.3.5 to 6.3.14, 6.3.17)
@@ -250,7 +246,7 @@ chosen_pointer a b =
     if is_null_constant b && is_pointer (type_in a) then type_in a else
     if is_null_constant a then type_in b else
     if points_to_void (type_in a) || points_to_void (type_in b) then
-      pointer_with_both Void (pointee (type_in a)) (pointee (type_in b)) else
+    pointer_with_both Void (pointee (type_in a)) (pointee (type_in b)) else
     pointer_with_both (composite_type (type_of (pointee (type_in a))) (type_of (pointee (type_in b)))) (pointee (type_in a)) (pointee (type_in b))
 
 -- what two compared pointers become
@@ -332,7 +328,7 @@ unfoldable pub conditional_rule : ℕ → ℕ → Expression → Expression → 
 conditional_rule first t c a b =
     meets (needs ConditionalOperands t (is_scalar (type_in c) && fits_choice a b) ∷ []) >>
     pure (value_operand first
-      (Node t (plain (choice_type a b)) (T.Cond c (cast_to (choice_type a b) a) (cast_to (choice_type a b) b))))
+    (Node t (plain (choice_type a b)) (T.Cond c (cast_to (choice_type a b) a) (cast_to (choice_type a b) b))))
 
 -- ---- assignments (6.3.16)
 
@@ -342,20 +338,20 @@ is_assignable to e =
     (is_integral to && is_integral (type_in e))
     || same_record to (type_in e)
     || (is_pointer to && is_pointer (type_in e) && qualified_within (pointee (type_in e)) (pointee to)
-        && (compatible_types (type_of (pointee to)) (type_of (pointee (type_in e)))
-            || (points_to_void to && not (points_to_function (type_in e)))
-            || (points_to_void (type_in e) && not (points_to_function to))))
+    && (compatible_types (type_of (pointee to)) (type_of (pointee (type_in e)))
+    || (points_to_void to && not (points_to_function (type_in e)))
+    || (points_to_void (type_in e) && not (points_to_function to))))
     || (is_pointer to && is_null_constant e)
 
 unfoldable pub assign_rule : ℕ → ℕ → Operand → Expression → Rule Operand
 assign_rule first t a b =
     asks records_in >>= λ records.
     meets (
-      needs ModifiableLvalue t (is_modifiable records a)
-      ∷ needs AssignedType t (is_assignable (type_in a.node) b)
-      ∷ []) >>
+    needs ModifiableLvalue t (is_modifiable records a)
+    ∷ needs AssignedType t (is_assignable (type_in a.node) b)
+    ∷ []) >>
     pure (value_operand first
-      (Node t (unqualified (type_at a.node)) (T.Assign a.node (cast_to (type_in a.node) b))))
+    (Node t (unqualified (type_at a.node)) (T.Assign a.node (cast_to (type_in a.node) b))))
 
 -- the operator of a compound assignment
 abbrev pub compound_operator : AssignOperator → BinaryOperator
@@ -393,9 +389,9 @@ unfoldable pub compound_rule : ℕ → ℕ → BinaryOperator → Operand → Ex
 compound_rule first t op a b =
     asks records_in >>= λ records.
     meets (
-      needs ModifiableLvalue t (is_modifiable records a)
-      ∷ needs CompoundOperands t (fits_compound records op (type_in a.node) b)
-      ∷ []) >>
+    needs ModifiableLvalue t (is_modifiable records a)
+    ∷ needs CompoundOperands t (fits_compound records op (type_in a.node) b)
+    ∷ []) >>
     pure (value_operand first (compound_node t op a.node b))
 
 unfoldable pub assignment_rule : ℕ → ℕ → AssignOperator → Operand → Expression → Rule Operand
@@ -435,10 +431,10 @@ call_node t e es =
 unfoldable pub call_rule : ℕ → ℕ → Expression → List Expression → Rule Operand
 call_rule first t e es =
     meets (
-      needs CalledFunction t (points_to_function (type_in e))
-      ∷ needs ArgumentCount t (count_of_types (parameters_of (callee_type e)) == length es)
-      ∷ needs ArgumentTypes t (arguments_fit (parameters_of (callee_type e)) es)
-      ∷ []) >>
+    needs CalledFunction t (points_to_function (type_in e))
+    ∷ needs ArgumentCount t (count_of_types (parameters_of (callee_type e)) == length es)
+    ∷ needs ArgumentTypes t (arguments_fit (parameters_of (callee_type e)) es)
+    ∷ []) >>
     pure (value_operand first (call_node t e es))
 
 -- a member with its offset
@@ -459,7 +455,7 @@ member_operand first t a m =
       node = Node t (qualify (is_constant (type_at a.node)) (is_volatile (type_at a.node)) m.0.ty) (T.Member a.node m.1);
       lvalue = a.lvalue;
       register = a.register;
-      first = first
+      first = first;
     }
 
 unfoldable pub select_rule : ℕ → ℕ → Word → Operand → Rule Operand

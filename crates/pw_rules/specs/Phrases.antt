@@ -1,6 +1,6 @@
 -- Expressions, specifiers and declarators (ISO C90 6.3, 6.5.1 to 6.5.5): the order in which they are read. What each phrase
 -- asks and makes stands with the operators and the leaves.
-use Rattle.std.specs.Prelude.{ℕ, Bool, true, false, ◌&&◌, Option, None, Some, option_map, option_and_then, unwrap_or, List, [], ◌∷◌, ◌++◌, map}
+use Rattle.std.specs.Prelude.{ℕ, ◌&&◌, Option, None, Some, option_and_then, unwrap_or, List, [], ◌∷◌, ◌++◌, map}
 use Rattle.std.specs.Option.{option_or}
 use Rattle.pw_tree.specs.declared.expr.BasicType.TheVariants as W
 use Rattle.pw_tree.specs.declared.operator.Access.TheVariants.{Dot, Arrow}
@@ -11,15 +11,14 @@ use Rattle.pw_tree.specs.Trees as S
 use Rattle.pw_types.specs.declared.tree.StepOperator.TheVariants as Q
 use Rattle.pw_types.specs.TypeTrees.{QType, MemberValue}
 use Rattle.pw_types.specs.TypedTrees.{Expression}
-use Rattle.pw_walk.specs.Causes.{needs, NoFloating, NoWide, NoVariadic, NoBitField, NoOldStyle, DeclaredIdentifier}
+use Rattle.pw_walk.specs.Causes.{NoFloating, NoWide, NoVariadic, NoBitField, NoOldStyle, DeclaredIdentifier}
 use Rattle.pw_walk.specs.Walks.{granted, refused, pure, asks, ◌>>=◌, ◌>>◌}
 use Rattle.pw_rules.specs.Kinds.{int_type}
 use Rattle.pw_rules.specs.Operands.{Operand}
-use Rattle.pw_rules.specs.States.{Rule, State, Entity, TypeName, entity_of, scoped, uncounted}
+use Rattle.pw_rules.specs.States.{Rule, Entity, TypeName, entity_of, scoped, uncounted}
 use Rattle.pw_rules.specs.Firsts.{first_specifier, first_of_declarator, first_of_declaration}
-use Rattle.pw_rules.specs.Limits.{Spot}
 use Rattle.pw_rules.specs.SpecifierLists.{Gathered, nothing_gathered, gather_storage, gather_qualifier, gather_word, gather_type, Specified, specified}
-use Rattle.pw_rules.specs.Derivations.{Derivation, ToPointer, ToArray, ToFunction, Declared, Suffixed, ParameterValue, Bindings, pointer_step, spot_of}
+use Rattle.pw_rules.specs.Derivations.{Derivation, ToArray, ToFunction, Declared, Suffixed, ParameterValue, Bindings, pointer_step, spot_of}
 use Rattle.pw_rules.specs.Operators.{value_rule, sign_rule, deref_rule, address_rule, step_rule, size_rule, type_size_rule, cast_rule, operation_rule, conditional_rule, assignment_rule, index_rule, call_rule, dot_rule, arrow_rule}
 use Rattle.pw_rules.specs.Leaves.{identifier_rule, number_rule, character_rule, string_rule, length_rule, record_kind, reference_rule, opening_rule, member_rule, record_spot, closing_rule, enumeration_rule, enumerating_rule, enumerator_value, enumerator_rule, named_type, is_last, is_nil, parameter_storage, parameter_rule, parameter_types, bindings_rule, first_word}
 
@@ -43,7 +42,7 @@ joined pointers inner outer =
     record {
       name = inner.name;
       derivations = map pointer_step pointers ++ (outer.derivations ++ inner.derivations);
-      bindings = option_or inner.bindings outer.bindings
+      bindings = option_or inner.bindings outer.bindings;
     }
 
 -- what stands behind a name, from the last one outward
@@ -54,7 +53,7 @@ abbrev pub behind_list : Bindings → Suffixed → Suffixed
 behind_list bindings rest =
     record {
       derivations = rest.derivations ++ ToFunction (parameter_types bindings.parameters) ∷ [];
-      bindings = Some bindings
+      bindings = Some bindings;
     }
 
 unfoldable mutual
@@ -75,11 +74,11 @@ unfoldable mutual
   expr_rule (S.Unary t op e) = expr_rule e >>= λ a. value_rule a >>= λ x. sign_rule t t op x
   expr_rule (S.SizeofType t specifiers d) =
       uncounted (
-        specifiers_rule specifiers (first_of_declaration specifiers d) nothing_gathered >>= λ g.
-        specified (first_of_declaration specifiers d) g >>= λ b.
-        declarator_rule d >>= λ c.
-        named_type b c >>= λ q.
-        type_size_rule t (spot_of None b.first b.tag) q)
+      specifiers_rule specifiers (first_of_declaration specifiers d) nothing_gathered >>= λ g.
+      specified (first_of_declaration specifiers d) g >>= λ b.
+      declarator_rule d >>= λ c.
+      named_type b c >>= λ q.
+      type_size_rule t (spot_of None b.first b.tag) q)
   expr_rule (S.Cast t specifiers d e) =
       specifiers_rule specifiers (first_of_declaration specifiers d) nothing_gathered >>= λ g.
       specified (first_of_declaration specifiers d) g >>= λ b.

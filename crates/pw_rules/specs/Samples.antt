@@ -1,5 +1,5 @@
 -- Two tiny modules: what the rules say of them is a law.
-use Rattle.std.specs.Prelude.{ℕ, ◌≡◌, false, Some, Ok, Err, List, [], ◌∷◌, codes}
+use Rattle.std.specs.Prelude.{ℕ, false, Some, List, [], ◌∷◌, codes}
 use Rattle.pw_tree.specs.declared.expr.BasicType.TheVariants as W
 use Rattle.pw_tree.specs.Trees.{Module}
 use Rattle.pw_tree.specs.Trees as S
@@ -16,16 +16,16 @@ abbrev pub main_returning : S.Expr → Module
 main_returning e =
     record {
       externals =
-        S.Definition (record {
-          specifiers = S.Basic 1 W.Int S.NoSpecifier;
-          declarator =
-            S.Declaring [] (S.Name (word 2 (codes "main")))
-              (S.Prototype 3
+          S.Definition (record {
+            specifiers = S.Basic 1 W.Int S.NoSpecifier;
+            declarator =
+                S.Declaring [] (S.Name (word 2 (codes "main")))
+                (S.Prototype 3
                 (S.Parameter (S.Basic 4 W.Void S.NoSpecifier) (S.Declaring [] S.Absent S.NoSuffix) S.NoParameter)
                 S.NoSuffix);
-          declarations = [];
-          body = S.Braced 6 [] (S.Next (S.Return 7 (Some e)) S.NoStmt)
-        }) ∷ []
+            declarations = [];
+            body = S.Braced 6 [] (S.Next (S.Return 7 (Some e)) S.NoStmt);
+          }) ∷ [];
     }
 
 -- `7`, and a name that nothing declares
@@ -54,7 +54,7 @@ main_of_seven =
         locals = [];
         labels = 0;
         named = [];
-        body = T.Block 6 0 0 [] (T.OneStatement (T.Return 7 (Some (Node 8 int_type (T.Number 7)))) T.NoStatement)
+        body = T.Block 6 0 0 [] (T.OneStatement (T.Return 7 (Some (Node 8 int_type (T.Number 7)))) T.NoStatement);
       } ∷ [];
-      declared = record { name = codes "main"; ty = main_type } ∷ []
+      declared = record { name = codes "main"; ty = main_type } ∷ [];
     }

@@ -1,5 +1,5 @@
 -- Lists of specifiers (ISO C90 6.5.1 to 6.5.3).
-use Rattle.std.specs.Prelude.{ℕ, ◌+◌, ◌==◌, Bool, true, false, not, ◌&&◌, ◌||◌, nat_le, if◌then◌else◌, Option, None, Some, is_some, is_none, unwrap_or, option_map, List, [], ◌∷◌, ◌++◌, length, map, find, count_by}
+use Rattle.std.specs.Prelude.{ℕ, ◌+◌, ◌==◌, Bool, true, false, not, ◌&&◌, ◌||◌, nat_le, Option, None, Some, is_some, unwrap_or, option_map, List, [], ◌∷◌, ◌++◌, length, find, count_by}
 use Rattle.std.specs.List.{list_all}
 use Rattle.std.specs.Option.{option_or}
 use Rattle.pw_tree.specs.declared.expr.BasicType.{BasicType}
@@ -9,8 +9,8 @@ use Rattle.pw_tree.specs.declared.expr.Qualifier.TheVariants as Q
 use Rattle.pw_tree.specs.declared.expr.StorageClass.{StorageClass}
 use Rattle.pw_tree.specs.declared.expr.StorageClass.TheVariants as C
 use Rattle.pw_types.specs.declared.kind.IntKind.TheVariants as K
-use Rattle.pw_types.specs.TypeTrees.{CType, Void, Int, QType, Qualified, type_of}
-use Rattle.pw_walk.specs.Causes.{Point, needs, OneStorageClass, ListOfSpecifiers, OneQualifier, UnqualifiedFunction}
+use Rattle.pw_types.specs.TypeTrees.{CType, Void, Int, QType, type_of}
+use Rattle.pw_walk.specs.Causes.{needs, OneStorageClass, ListOfSpecifiers, OneQualifier, UnqualifiedFunction}
 use Rattle.pw_walk.specs.Walks.{meets, pure, ◌>>◌}
 use Rattle.pw_rules.specs.Kinds.{plain, qualify, is_const_object, is_volatile_object, is_function, int_type}
 use Rattle.pw_rules.specs.States.{Rule}
@@ -124,16 +124,16 @@ unfoldable pub specified : ℕ → Gathered → Rule Specified
 specified first g =
     let ty = unwrap_or (type_listed g.words g.others) int_type in
     meets (
-      needs OneStorageClass first (nat_le (length g.storages) 1)
-      ∷ needs ListOfSpecifiers first (is_some (type_listed g.words g.others))
-      ∷ needs OneQualifier first (qualifiers_once g ty)
-      ∷ needs UnqualifiedFunction first (not (is_qualified_by g && is_function (type_of ty)))
-      ∷ []) >>
+    needs OneStorageClass first (nat_le (length g.storages) 1)
+    ∷ needs ListOfSpecifiers first (is_some (type_listed g.words g.others))
+    ∷ needs OneQualifier first (qualifiers_once g ty)
+    ∷ needs UnqualifiedFunction first (not (is_qualified_by g && is_function (type_of ty)))
+    ∷ []) >>
     pure (record {
       storage = first_storage g.storages;
       ty = qualify (not (g.constants == 0)) (not (g.volatiles == 0)) ty;
       tag = g.tag;
-      first = first
+      first = first;
     })
 
 abbrev pub is_typedef : Option StorageClass → Bool

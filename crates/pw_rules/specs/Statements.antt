@@ -1,5 +1,5 @@
 -- Statements (ISO C90 6.6).
-use Rattle.std.specs.Prelude.{ℕ, zero, suc, ◌+◌, ◌-◌, ◌==◌, Bool, true, false, not, ◌&&◌, ◌||◌, nat_lt, if◌then◌else◌, Option, None, Some, is_some, is_none, unwrap_or, option_map, List, [], ◌∷◌, ◌++◌, length, position}
+use Rattle.std.specs.Prelude.{ℕ, ◌+◌, ◌-◌, ◌==◌, Bool, true, false, not, ◌||◌, nat_lt, Option, None, Some, is_some, unwrap_or, option_map, List, [], ◌∷◌, ◌++◌, position}
 use Rattle.std.specs.List.{list_any}
 use Rattle.std.specs.Option.{option_map_or}
 use Rattle.std.specs.Str.{bytes_eq}
@@ -7,16 +7,16 @@ use Rattle.pw_tree.specs.Trees.{Word, Expr, Stmt, Alternative, Block, Stmts, Lab
 use Rattle.pw_tree.specs.Trees as S
 use Rattle.pw_types.specs.declared.kind.IntKind.{IntKind}
 use Rattle.pw_types.specs.declared.kind.IntKind.TheVariants as K
-use Rattle.pw_types.specs.TypeTrees.{CType, QType, type_of}
+use Rattle.pw_types.specs.TypeTrees.{type_of}
 use Rattle.pw_types.specs.TypedTrees.{Expression, Statement, Statements, Arms, Otherwise, CaseValue}
 use Rattle.pw_types.specs.TypedTrees as T
-use Rattle.pw_walk.specs.Causes.{Point, Cause, needs, CaseInSwitch, OneDefault, ScalarCondition, IntegralSwitch, BreakInside, ContinueInside, ReturnedValue, ReturnedType, OneCase, OneLabel, DeclaredLabel}
+use Rattle.pw_walk.specs.Causes.{needs, CaseInSwitch, OneDefault, ScalarCondition, IntegralSwitch, BreakInside, ContinueInside, ReturnedValue, ReturnedType, OneCase, OneLabel, DeclaredLabel}
 use Rattle.pw_walk.specs.Walks.{meets, pure, asks, change, ◌>>=◌, ◌>>◌}
 use Rattle.pw_rules.specs.Kinds.{is_integral, is_scalar, is_void, kind_in}
 use Rattle.pw_rules.specs.Constants.{constant_value, convert_word}
-use Rattle.pw_rules.specs.Operands.{Operand, type_in, cast_to, promote}
+use Rattle.pw_rules.specs.Operands.{type_in, cast_to, promote}
 use Rattle.pw_rules.specs.Operators.{value_rule, is_assignable}
-use Rattle.pw_rules.specs.States.{Rule, State, SwitchState, BodyState, scoped, with_body, next_local}
+use Rattle.pw_rules.specs.States.{Rule, State, SwitchState, scoped, with_body, next_local}
 use Rattle.pw_rules.specs.Limits.{name_within}
 use Rattle.pw_rules.specs.Leaves.{constant_point, is_nil}
 use Rattle.pw_rules.specs.Phrases.{expr_rule}
@@ -102,9 +102,9 @@ case_rule first e =
     asks innermost_switch >>= λ w.
     let value = option_map (convert_word (switch_kind w)) (constant_value e) in
     meets (
-      constant_point first e
-      ∷ needs OneCase first (not (option_map_or (has_case w) value false))
-      ∷ []) >>
+    constant_point first e
+    ∷ needs OneCase first (not (option_map_or (has_case w) value false))
+    ∷ []) >>
     new_label >>= λ n.
     change (with_switch (λ x. record x { cases = x.cases ++ record { value = unwrap_or value 0; label = n } ∷ [] })) >>
     pure n
@@ -238,9 +238,9 @@ return_rule t (Some e) =
     whole_rule e >>= λ x.
     asks (λ s. type_of s.body.result) >>= λ result.
     meets (
-      needs ReturnedValue t (not (is_void result))
-      ∷ needs ReturnedType t (is_assignable result x)
-      ∷ []) >>
+    needs ReturnedValue t (not (is_void result))
+    ∷ needs ReturnedType t (is_assignable result x)
+    ∷ []) >>
     pure (T.Return t (Some (cast_to result x)))
 
 -- the arms behind an `if`, and its `else`

@@ -1,12 +1,12 @@
 -- What is known while a module is checked: its types and the names that have linkage, the names in scope (ISO C90 6.1.2.1,
 -- 6.1.2.3), what was made, and the function that is read.
-use Rattle.std.specs.Prelude.{ℕ, zero, suc, ◌+◌, ◌-◌, ◌==◌, Bool, true, false, not, nat_lt, if◌then◌else◌, Option, None, Some, option_map, option_and_then, unwrap_or, List, [], ◌∷◌, ◌++◌, length, position, slice_get}
+use Rattle.std.specs.Prelude.{ℕ, zero, suc, ◌+◌, ◌==◌, Bool, true, false, if◌then◌else◌, Option, None, Some, option_map, option_and_then, List, [], ◌∷◌, ◌++◌, length, position, slice_get}
 use Rattle.std.specs.Str.{bytes_eq}
 use Rattle.pw_scope.specs.Visible.{visible}
 use Rattle.pw_types.specs.declared.kind.IntKind.{IntKind}
-use Rattle.pw_types.specs.TypeTrees.{CType, QType, RecordValue}
+use Rattle.pw_types.specs.TypeTrees.{QType, RecordValue}
 use Rattle.pw_types.specs.TypedTrees.{CaseValue, FunctionValue, LocalValue, PlacedItem}
-use Rattle.pw_walk.specs.Walks.{Walk, RuleOver, pure, change, asks, ◌>>=◌, ◌>>◌}
+use Rattle.pw_walk.specs.Walks.{RuleOver, pure, change, asks, ◌>>=◌, ◌>>◌}
 use Rattle.pw_rules.specs.Kinds.{int_type}
 
 -- ---- names
@@ -122,7 +122,7 @@ start =
       types = record { records = []; opened = []; linked = [] };
       scopes = record { ordinary = []; tags = []; entities = []; depth = 0 };
       made = record { slots = []; hidden = []; functions = []; counting = true };
-      body = no_body
+      body = no_body;
     }
 
 -- ---- lists
@@ -199,7 +199,7 @@ abbrev pub enter : List ℕ → Entity → State → State
 enter name entity =
     with_scopes (λ c. record c {
       ordinary = c.ordinary ++ (name, record { place = length c.entities; depth = c.depth }) ∷ [];
-      entities = c.entities ++ entity ∷ []
+      entities = c.entities ++ entity ∷ [];
     })
 
 abbrev pub enter_tag : List ℕ → Tag → State → State
