@@ -30,43 +30,46 @@ pub data Escape : Type 0 where
   Octal : ℕ → ℕ → Escape
   Hexadecimal : ℕ → Escape
 
--- the characters so far, the last one first, and the escape that is read
-pub record Reading : Type 0 where
-  pub characters : List ℕ
-  pub escape : Escape
+-- a byte where no escape goes on: the character that it is, or a backslash, which begins an escape
+abbrev pub plainly : ℕ → List ℕ
+plainly c = if c == 92 then [] else c ∷ []
 
-abbrev pub read_so : List ℕ → Escape → Reading
-read_so characters escape = record { characters = characters; escape = escape }
+abbrev pub begun_by : ℕ → Escape
+begun_by c = if c == 92 then Backslash else NoEscape
 
--- a character where no escape is read
-abbrev pub read_plain : List ℕ → ℕ → Reading
-read_plain characters c = if c == 92 then read_so characters Backslash else read_so (c ∷ characters) NoEscape
+-- an octal escape has three digits at most
+abbrev pub goes_on : ℕ → ℕ → Bool
+goes_on digits c = nat_lt digits 3 && is_octal_digit c
 
--- one byte more: an escape goes on as long as it can, an octal one to its third digit
-abbrev pub read_by : Escape → List ℕ → ℕ → Reading
-read_by NoEscape characters c = read_plain characters c
-read_by Backslash characters c =
-    if is_octal_digit c then read_so characters (Octal (digit_value c) 1) else
-    if c == 120 then read_so characters (Hexadecimal 0) else
-    read_so (simple_escape c ∷ characters) NoEscape
-read_by (Octal value digits) characters c =
-    if is_octal_digit c && nat_lt digits 3 then read_so characters (Octal (value * 8 + digit_value c) (digits + 1))
-    else read_plain (value ∷ characters) c
-read_by (Hexadecimal value) characters c =
-    if is_hexadecimal_digit c then read_so characters (Hexadecimal (value * 16 + digit_value c))
-    else read_plain (value ∷ characters) c
+-- the characters that are known with a byte more
+abbrev pub known_with : Escape → ℕ → List ℕ
+known_with NoEscape c = plainly c
+known_with Backslash c = if is_octal_digit c || c == 120 then [] else simple_escape c ∷ []
+known_with (Octal value digits) c = if goes_on digits c then [] else value ∷ plainly c
+known_with (Hexadecimal value) c = if is_hexadecimal_digit c then [] else value ∷ plainly c
 
-abbrev pub read_one : Reading → ℕ → Reading
-read_one r c = read_by r.escape r.characters c
+-- the escape that is then read: it goes on as long as it can
+abbrev pub escape_after : Escape → ℕ → Escape
+escape_after NoEscape c = begun_by c
+escape_after Backslash c =
+    if is_octal_digit c then Octal (digit_value c) 1 else
+    if c == 120 then Hexadecimal 0 else
+    NoEscape
+escape_after (Octal value digits) c =
+    if goes_on digits c then Octal (value * 8 + digit_value c) (digits + 1) else begun_by c
+escape_after (Hexadecimal value) c =
+    if is_hexadecimal_digit c then Hexadecimal (value * 16 + digit_value c) else begun_by c
 
--- all characters, once the text ends
-abbrev pub read_all : Escape → List ℕ → List ℕ
-read_all (Octal value digits) characters = value ∷ characters
-read_all (Hexadecimal value) characters = value ∷ characters
-read_all _ characters = characters
+-- the character of an escape that the text ends in
+abbrev pub known_at_end : Escape → List ℕ
+known_at_end (Octal value digits) = value ∷ []
+known_at_end (Hexadecimal value) = value ∷ []
+known_at_end _ = []
 
-abbrev pub characters_read : Reading → List ℕ
-characters_read r = reverse (read_all r.escape r.characters)
+-- the characters of a text whose bytes go on with an escape
+abbrev pub characters_from : Escape → List ℕ → List ℕ
+characters_from escape [] = known_at_end escape
+characters_from escape (c ∷ rest) = known_with escape c ++ characters_from (escape_after escape c) rest
 
 -- a backslash directly before a newline is nothing
 abbrev pub spliced : List ℕ → List ℕ
@@ -80,7 +83,7 @@ between_quotes text = take (length text - 2) (drop 1 text)
 
 -- the characters of a constant or a literal, each with its value
 abbrev pub characters_of : List ℕ → List ℕ
-characters_of text = characters_read (fold read_one (read_so [] NoEscape) (spliced (between_quotes text)))
+characters_of text = characters_from NoEscape (spliced (between_quotes text))
 
 -- no escape is above 255
 abbrev pub fits_bytes : List ℕ → Bool

@@ -1,6 +1,7 @@
 -- Integer constants (ISO C90 6.1.3.2): their values and types. The texts are those of constants that stand in a text.
-use Rattle.std.specs.Prelude.{ℕ, ◌+◌, ◌-◌, ◌*◌, ◌==◌, ◌^◌, Bool, true, false, not, ◌||◌, nat_le, if◌then◌else◌, Option, List, [], ◌∷◌, fold, take_while, find}
+use Rattle.std.specs.Prelude.{ℕ, ◌+◌, ◌-◌, ◌*◌, ◌==◌, ◌^◌, Bool, true, false, not, ◌||◌, nat_le, if◌then◌else◌, Option, List, [], ◌∷◌, fold, find, option_map}
 use Rattle.std.specs.List.{list_any}
+use Rattle.pw_literal.specs.declared.integers.IntegerConstant.{IntegerConstant}
 use Rattle.pw_types.specs.declared.kind.IntKind.{IntKind}
 use Rattle.pw_types.specs.declared.kind.IntKind.TheVariants as K
 
@@ -23,7 +24,8 @@ is_long_mark c = c == 108 || c == 76
 
 -- the constant without its suffix
 abbrev pub without_suffix : List ℕ → List ℕ
-without_suffix text = take_while (λ c. not (is_unsigned_mark c || is_long_mark c)) text
+without_suffix [] = []
+without_suffix (c ∷ rest) = if is_unsigned_mark c || is_long_mark c then [] else c ∷ without_suffix rest
 
 -- whether it is decimal, and its value: `0x` begins a hexadecimal one, and `0` an octal one
 abbrev pub is_decimal : List ℕ → Bool
@@ -62,3 +64,10 @@ abbrev pub integer_type : List ℕ → Option IntKind
 integer_type text =
     find (λ kind. nat_le (integer_value text) (greatest_of_kind kind))
     (types_of_constant (is_decimal text) (list_any is_unsigned_mark text) (list_any is_long_mark text))
+
+abbrev pub constant_of_type : List ℕ → IntKind → IntegerConstant
+constant_of_type text kind = record { value = integer_value text; kind = kind }
+
+-- a constant with its value and its type; None where it is too wide
+abbrev pub integer_constant : List ℕ → Option IntegerConstant
+integer_constant text = option_map (constant_of_type text) (integer_type text)
