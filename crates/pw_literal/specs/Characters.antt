@@ -1,6 +1,6 @@
 -- Character constants and string literals (ISO C90 6.1.3.4, 6.1.4): the characters that they hold. The texts are those of
 -- constants that stand in a text, quotes included.
-use Rattle.std.specs.Prelude.{ℕ, ◌+◌, ◌-◌, ◌*◌, ◌==◌, ◌^◌, Bool, not, ◌&&◌, ◌||◌, nat_le, nat_lt, if◌then◌else◌, List, [], ◌∷◌, ◌++◌, drop, fold, length, reverse, take, flat_map}
+use Rattle.std.specs.Prelude.{ℕ, ◌+◌, ◌-◌, ◌*◌, ◌==◌, ◌^◌, Bool, not, ◌&&◌, ◌||◌, nat_le, nat_lt, if◌then◌else◌, Option, None, Some, List, [], ◌∷◌, ◌++◌, drop, length, take, flat_map}
 use Rattle.std.specs.List.{list_any}
 use Rattle.pw_literal.specs.Integers.{digit_value}
 
@@ -103,3 +103,9 @@ characters_of_strings texts = flat_map characters_of texts
 
 abbrev pub string_bytes_of : List (List ℕ) → List ℕ
 string_bytes_of texts = characters_of_strings texts ++ 0 ∷ []
+
+-- the value of a character constant; None where it has none or several characters, or an escape that is no character
+abbrev pub character_constant_of : List ℕ → Option ℕ
+character_constant_of text =
+    if length (characters_of text) == 1 && fits_bytes (characters_of text) then Some (character_constant (characters_of text))
+    else None

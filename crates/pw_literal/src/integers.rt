@@ -17,7 +17,7 @@ pub struct IntegerConstant {
 const TOO_WIDE: u64 = 1 << 32;
 
 /// What a digit is worth.
-fn digit_value(c: u8) -> u8
+pub fn digit_value(c: u8) -> u8
     ensures { result ≡ spec.digit_value c }
 {
     if c >= 97 {
