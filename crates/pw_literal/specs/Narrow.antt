@@ -1,5 +1,5 @@
 -- Values of escapes as far as the code tells them apart: 256 stands for every greater one, which no character has.
-use Rattle.std.specs.Prelude.{ℕ, min, List, map}
+use Rattle.std.specs.Prelude.{ℕ, min}
 use Rattle.pw_literal.specs.Characters.{Escape, NoEscape, Backslash, Octal, Hexadecimal}
 use Rattle.pw_literal.specs.declared.characters.Escape.{Escape as CodeEscape}
 use Rattle.pw_literal.specs.declared.characters.Escape.TheVariants as E

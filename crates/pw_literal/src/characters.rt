@@ -1,12 +1,12 @@
 //! Character constants and string literals (C90 6.1.3.4, 6.1.4).
 
-ghost use Rattle.std.specs.Prelude.{◌≡◌, ◌+◌, ◌*◌, ◌++◌, ◌∷◌, map, IfOk, OnOk};
+ghost use Rattle.std.specs.Prelude.{◌≡◌, ◌≤◌, ◌+◌, ◌*◌, ◌++◌, ◌∷◌, ◌<◌, true, false, length, map, IfOk, OnOk};
 ghost use Rattle.pw_literal.specs.Characters as spec;
 ghost use Rattle.pw_literal.specs.Integers as digits;
 ghost use Rattle.pw_literal.specs.Narrow.{narrow, narrowed, view_escape};
 
 use crate::integers::digit_value;
-use std::alloc::AllocError as NoMemory;
+use std::alloc::{AllocError as NoMemory, Global};
 
 /// The least value that no character has.
 const NONE_SUCH: u16 = 256;
@@ -124,4 +124,111 @@ fn push_end(escape: Escape, out: &mut Vec<u16>) -> Result<(), NoMemory>
             Ok(())
         }
     }
+}
+
+/// What stands between the quotes.
+fn between_quotes(text: &[u8]) -> &[u8]
+    ensures { result.now ≡ spec.between_quotes text.now }
+{
+    match text {
+        [_, between @ .., _] => between,
+        _ => &[],
+    }
+}
+
+/// Whether a backslash stands directly before a newline.
+fn begins_splice(text: &[u8]) -> bool
+    ensures { result ≡ spec.begins_splice text.now }
+{
+    matches!(text, [b'\\', b'\n', ..])
+}
+
+/// The text behind each backslash that stands directly before a newline.
+#[tactic(auto, using(crate::proofs::Splices::behind_splice, crate::proofs::Splices::splice_length))]
+fn skip_splices(text: &[u8]) -> &[u8]
+    ensures same { spec.spliced result.now ≡ spec.spliced text.now }
+    ensures none { spec.begins_splice result.now ≡ false }
+    ensures shorter { length result.now ≤ length text.now }
+{
+    let mut rest = text;
+    while begins_splice(rest) {
+        rest = &rest[2..];
+    }
+    rest
+}
+
+/// The characters of a constant, in which 256 stands for every greater value.
+#[tactic(auto, using(crate::proofs::Splices::byte_step))]
+fn characters(alloc: Global, text: &[u8]) -> Result<Vec<u16>, NoMemory>
+    ensures { IfOk result (λ characters. characters.items ≡ map narrow (spec.characters_of text.now)) }
+{
+    let mut characters = Vec::new(alloc);
+    let mut escape = Escape::None;
+    let mut rest = skip_splices(between_quotes(text));
+    while let [c, after @ ..] = rest {
+        escape = push_byte(escape, *c, &mut characters)?;
+        rest = skip_splices(after);
+    }
+    push_end(escape, &mut characters)?;
+    Ok(characters)
+}
+
+/// Characters as bytes, pushed behind others; false where one is no byte, and then some of them may
+/// stand there.
+fn push_bytes(characters: &[u16], bytes: &mut Vec<u8>) -> Result<bool, NoMemory>
+    ensures fits { IfOk result (λ fits. fits ≡ spec.fits_bytes characters.now) }
+    ensures pushed { IfOk result (λ fits. fits ≡ true → bytes.new.items ≡ bytes.old.items ++ characters.now) }
+{
+    let mut rest = characters;
+    while let [c, after @ ..] = rest {
+        if *c > 255 {
+            return Ok(false);
+        }
+        bytes.push(*c as u8)?;
+        rest = after;
+    }
+    Ok(true)
+}
+
+/// The characters of a string literal, pushed behind others as bytes; false where an escape is above
+/// 255, and then some of them may stand there.
+#[tactic(auto, using(crate::proofs::Bytes::narrow_fits, crate::proofs::Bytes::narrow_same))]
+pub fn push_characters(alloc: Global, text: &[u8], bytes: &mut Vec<u8>) -> Result<bool, NoMemory>
+    ensures fits { IfOk result (λ fits. fits ≡ spec.fits_bytes (spec.characters_of text.now)) }
+    ensures pushed { IfOk result (λ fits. fits ≡ true → bytes.new.items ≡ bytes.old.items ++ spec.characters_of text.now) }
+{
+    let characters = characters(alloc, text)?;
+    push_bytes(characters.as_slice(), bytes)
+}
+
+/// A character as an int: a char is signed.
+fn character_value(c: u16) -> u32
+    requires { c < 256 }
+    ensures { result ≡ spec.character_value c }
+{
+    if c < 128 {
+        c as u32
+    } else {
+        u32::MAX - 255 + c as u32
+    }
+}
+
+/// The value of the one character, or None where there is none or several, or it is no byte.
+fn one_value(characters: &[u16]) -> Option<u32>
+    ensures { result ≡ spec.one_character characters.now }
+{
+    match characters {
+        [c] if *c < NONE_SUCH => Some(character_value(*c)),
+        _ => None,
+    }
+}
+
+/// The value of a character constant, or None where it has none or several characters, or an escape
+/// above 255.
+#[tactic(auto, using(crate::proofs::Bytes::narrow_one))]
+pub fn character_constant(alloc: Global, text: &[u8]) -> Result<Option<u32>, NoMemory>
+    ensures { IfOk result (λ value. value ≡ spec.one_character (spec.characters_of text.now)) }
+{
+    let characters = characters(alloc, text)?;
+    Ok(one_value(characters.as_slice()))
 }

@@ -41,7 +41,6 @@ fn is_long_mark(c: u8) -> bool
     c == b'l' || c == b'L'
 }
 
-
 /// The number that the digits before the suffix stand for, or `TOO_WIDE` where it is no less.
 #[tactic(auto, using(crate::proofs::Numbers::digit_more, crate::proofs::Numbers::digits_end))]
 fn number(base: u8, digits: &[u8]) -> u64

@@ -4,4 +4,6 @@
 mod characters;
 mod integers;
 
+pub use characters::{character_constant, push_characters};
 pub use integers::{IntegerConstant, integer_constant};
+pub use std::alloc::AllocError as NoMemory;
