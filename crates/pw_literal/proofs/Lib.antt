@@ -1,1 +1,4 @@
 pub mod Numbers
+pub mod Narrowing
+pub mod Splices
+pub mod Bytes

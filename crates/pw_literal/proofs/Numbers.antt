@@ -1,5 +1,5 @@
 -- A number that is capped at each digit is the number, capped.
-use Rattle.std.proofs.Common.{◌≡◌, ◌≢◌, ℕ, zero, suc, ◌+◌, ◌*◌, ◌^◌, ◌≤◌, ◌<◌, ◌⊎◌, inl, inr, min, List, [], ◌∷◌, fold, ◌||◌, refl, arith, length, get_or, take, drop, ◌-◌, ◌∙◌, sym, ap, Bool, true, false, if◌then◌else◌}
+use Rattle.std.proofs.Common.{◌≡◌, ◌≢◌, ℕ, zero, suc, ◌+◌, ◌*◌, ◌^◌, ◌≤◌, min, List, [], ◌∷◌, fold, ◌||◌, refl, arith, length, get_or, take, drop, ◌-◌, ◌∙◌, sym, ap, Bool, true, false, if◌then◌else◌}
 use Rattle.std.proofs.lemmas.List.{take_rest}
 use Rattle.pw_literal.specs.Integers.{digit_value, without_suffix, number_in, value_behind_zero, is_unsigned_mark, is_long_mark}
 
@@ -11,7 +11,7 @@ capped_step zero m d h = absurd (omega arith)
 capped_step (suc k) m d h = grind arith
 
 pub capped_fold : (base : ℕ) → 1 ≤ base → (m : ℕ) (xs : List ℕ)
-  → min (fold (with_digit base) (min m (2 ^ 32)) xs) (2 ^ 32) ≡ min (fold (with_digit base) m xs) (2 ^ 32)
+    → min (fold (with_digit base) (min m (2 ^ 32)) xs) (2 ^ 32) ≡ min (fold (with_digit base) m xs) (2 ^ 32)
 capped_fold base h m [] = grind arith
 capped_fold base h m (c ∷ xs) =
     sym (capped_fold base h (min m (2 ^ 32) * base + digit_value c) xs)
@@ -20,12 +20,12 @@ capped_fold base h m (c ∷ xs) =
 
 -- one digit more
 pub digit_more : (base n c : ℕ) (rest : List ℕ) → 1 ≤ base → (is_unsigned_mark c || is_long_mark c) ≡ false
-  → min (fold (with_digit base) (min (n * base + digit_value c) (2 ^ 32)) (without_suffix rest)) (2 ^ 32)
+    → min (fold (with_digit base) (min (n * base + digit_value c) (2 ^ 32)) (without_suffix rest)) (2 ^ 32)
     ≡ min (fold (with_digit base) n (without_suffix (c ∷ rest))) (2 ^ 32)
 digit_more base n c rest h e = capped_fold base h (n * base + digit_value c) (without_suffix rest) ∙ sym (ap (λ b. min (fold (with_digit base) n (if b then [] else c ∷ without_suffix rest)) (2 ^ 32)) e)
 
 pub digits_end : (base n c : ℕ) (rest : List ℕ) → n ≤ 2 ^ 32 → (is_unsigned_mark c || is_long_mark c) ≡ true
-  → n ≡ min (fold (with_digit base) n (without_suffix (c ∷ rest))) (2 ^ 32)
+    → n ≡ min (fold (with_digit base) n (without_suffix (c ∷ rest))) (2 ^ 32)
 digits_end base n c rest h e = at_end ∙ sym (ap (λ b. min (fold (with_digit base) n (if b then [] else c ∷ without_suffix rest)) (2 ^ 32)) e)
   where
     at_end : n ≡ min n (2 ^ 32)
@@ -41,8 +41,8 @@ octal_front rest c a b = by_suffix (is_unsigned_mark c || is_long_mark c)
 
 -- the same of what is left of a slice
 pub number_step : (base n d : ℕ) (xs : List ℕ) → 1 ≤ base → 1 ≤ length xs
-  → (is_unsigned_mark (get_or xs 0 d) || is_long_mark (get_or xs 0 d)) ≡ false
-  → min (fold (with_digit base) (min (n * base + digit_value (get_or xs 0 d)) (2 ^ 32)) (without_suffix (take (length xs - 1) (drop 1 xs)))) (2 ^ 32)
+    → (is_unsigned_mark (get_or xs 0 d) || is_long_mark (get_or xs 0 d)) ≡ false
+    → min (fold (with_digit base) (min (n * base + digit_value (get_or xs 0 d)) (2 ^ 32)) (without_suffix (take (length xs - 1) (drop 1 xs)))) (2 ^ 32)
     ≡ min (fold (with_digit base) n (without_suffix xs)) (2 ^ 32)
 number_step base n d [] h l e = absurd (omega arith)
 number_step base n d (c ∷ rest) h l e =

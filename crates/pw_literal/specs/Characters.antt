@@ -1,6 +1,6 @@
 -- Character constants and string literals (ISO C90 6.1.3.4, 6.1.4): the characters that they hold. The texts are those of
 -- constants that stand in a text, quotes included.
-use Rattle.std.specs.Prelude.{ℕ, ◌+◌, ◌-◌, ◌*◌, ◌==◌, ◌^◌, Bool, not, ◌&&◌, ◌||◌, nat_le, nat_lt, if◌then◌else◌, List, [], ◌∷◌, ◌++◌, drop, fold, length, reverse, take, flat_map}
+use Rattle.std.specs.Prelude.{ℕ, ◌+◌, ◌-◌, ◌*◌, ◌==◌, ◌^◌, Bool, false, not, ◌&&◌, ◌||◌, nat_le, nat_lt, if◌then◌else◌, Option, None, Some, List, [], ◌∷◌, ◌++◌, drop, length, take, flat_map}
 use Rattle.std.specs.List.{list_any}
 use Rattle.pw_literal.specs.Integers.{digit_value}
 
@@ -72,10 +72,14 @@ characters_from escape [] = known_at_end escape
 characters_from escape (c ∷ rest) = known_with escape c ++ characters_from (escape_after escape c) rest
 
 -- a backslash directly before a newline is nothing
+abbrev pub begins_splice : List ℕ → Bool
+begins_splice (c ∷ d ∷ rest) = c == 92 && d == 10
+begins_splice _ = false
+
 abbrev pub spliced : List ℕ → List ℕ
 spliced [] = []
 spliced (c ∷ []) = c ∷ []
-spliced (c ∷ d ∷ rest) = if c == 92 && d == 10 then spliced rest else c ∷ spliced (d ∷ rest)
+spliced (c ∷ d ∷ rest) = if begins_splice (c ∷ d ∷ rest) then spliced rest else c ∷ spliced (d ∷ rest)
 
 -- what stands between the quotes
 abbrev pub between_quotes : List ℕ → List ℕ
@@ -103,3 +107,8 @@ characters_of_strings texts = flat_map characters_of texts
 
 abbrev pub string_bytes_of : List (List ℕ) → List ℕ
 string_bytes_of texts = characters_of_strings texts ++ 0 ∷ []
+
+-- the value of one character; None where there is none or several, or it is an escape that is no character
+abbrev pub one_character : List ℕ → Option ℕ
+one_character (c ∷ []) = if nat_lt 255 c then None else Some (character_value c)
+one_character _ = None

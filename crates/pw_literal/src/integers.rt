@@ -17,7 +17,7 @@ pub struct IntegerConstant {
 const TOO_WIDE: u64 = 1 << 32;
 
 /// What a digit is worth.
-fn digit_value(c: u8) -> u8
+pub fn digit_value(c: u8) -> u8
     ensures { result ≡ spec.digit_value c }
 {
     if c >= 97 {
@@ -40,7 +40,6 @@ fn is_long_mark(c: u8) -> bool
 {
     c == b'l' || c == b'L'
 }
-
 
 /// The number that the digits before the suffix stand for, or `TOO_WIDE` where it is no less.
 #[tactic(auto, using(crate::proofs::Numbers::digit_more, crate::proofs::Numbers::digits_end))]

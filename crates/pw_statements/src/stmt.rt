@@ -5,11 +5,7 @@ ghost use Rattle.pw_statements.specs.Branches.{branch_turn, view_alternatives};
 ghost use Rattle.pw_cursor.specs.Reads.{Reads};
 ghost use Rattle.pw_grammar.specs.Declarations as decls;
 ghost use Rattle.pw_grammar.specs.Statements as spec;
-<<<<<<< HEAD
-ghost use Rattle.pw_parts.specs.Closed.{closed};
-=======
 ghost use Rattle.pw_statements.specs.Closed.{closed};
->>>>>>> a19629a41549308e08310f2d49541b22044e3aaf
 ghost use Rattle.pw_parts.specs.Views.{view_boxed};
 ghost use Rattle.pw_statements.specs.Heads.{for_head, view_for_head};
 ghost use Rattle.pw_statements.specs.Views.{before_label, before_stmt, else_if_first, view_boxed_stmt, view_label_list, view_optional_box, view_stmt_list};
@@ -22,11 +18,7 @@ use pw_tree::{Block, ElseIf, Expr, Keyword, Label, Lexeme, Mark, Stmt};
 use std::alloc::Global;
 
 /// An expression of a level, or one that binds more tightly, with a mark behind it.
-<<<<<<< HEAD
-#[tactic(auto, unfolding(pw_parts::specs::Closed::closed))]
-=======
 #[tactic(auto, unfolding(crate::specs::Closed::closed))]
->>>>>>> a19629a41549308e08310f2d49541b22044e3aaf
 fn closed_expr<'a, P: StmtParts<'a>>(
     alloc: Global,
     parts: &P,
@@ -227,11 +219,7 @@ fn return_stmt<'a, P: StmtParts<'a>>(
 }
 
 /// An expression in parentheses.
-<<<<<<< HEAD
-#[tactic(auto, unfolding(pw_grammar::specs::Statements::condition, pw_parts::specs::Closed::closed))]
-=======
 #[tactic(auto, unfolding(pw_grammar::specs::Statements::condition, crate::specs::Closed::closed))]
->>>>>>> a19629a41549308e08310f2d49541b22044e3aaf
 fn condition<'a, P: StmtParts<'a>>(
     alloc: Global,
     parts: &P,

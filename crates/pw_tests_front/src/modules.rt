@@ -1,10 +1,7 @@
 //! Texts that several tests read.
 
-<<<<<<< HEAD
-=======
 use pw_spell::Spelled;
 use pw_token::Token;
->>>>>>> a19629a41549308e08310f2d49541b22044e3aaf
 use std::alloc::{AllocError, Global};
 
 /// Parts of a text, with how often each stands.
@@ -21,8 +18,6 @@ pub fn text_of(alloc: Global, parts: &[(&[u8], usize)]) -> Result<Vec<u8>, Alloc
     Ok(text)
 }
 
-<<<<<<< HEAD
-=======
 /// Whether these are the tokens of the text, in its order.
 pub fn are_tokens(text: &[u8], tokens: &[Token], spelled: &[Spelled]) -> bool {
     let spells = |(token, word): (&Token, &Spelled)| {
@@ -32,7 +27,6 @@ pub fn are_tokens(text: &[u8], tokens: &[Token], spelled: &[Spelled]) -> bool {
     tokens.len() == spelled.len() && tokens.iter().zip(spelled).all(spells)
 }
 
->>>>>>> a19629a41549308e08310f2d49541b22044e3aaf
 /// The modules of a desk calculator, each with its count of tokens, as clang counts them.
 pub const CALCULATOR: [(&[u8], usize); 3] = [
     (

@@ -1,4 +1,4 @@
-use Rattle.std.proofs.Common.{◌≡◌, ◌≤◌, ◌^◌, min, ℕ, fold, length}
+use Rattle.std.proofs.Common.{◌≡◌, ◌≤◌, ◌^◌, min, fold, length}
 use Rattle.pw_literal.specs.Integers as spec
 use Rattle.pw_literal.proofs.Numbers.{with_digit}
 use Rattle.pw_literal.proofs.integers.number.Given as goal

@@ -6,11 +6,7 @@ use Rattle.pw_tree.specs.declared.symbol.Mark.TheVariants as m
 use Rattle.pw_grammar.specs.Declarations.{parts}
 use Rattle.pw_grammar.specs.Input.{pure}
 use Rattle.pw_grammar.specs.Statements.{case_label}
-<<<<<<< HEAD
-use Rattle.pw_parts.proofs.Closed.{behind_closed}
-=======
 use Rattle.pw_statements.proofs.Closed.{behind_closed}
->>>>>>> a19629a41549308e08310f2d49541b22044e3aaf
 use Rattle.pw_statements.proofs.stmt.case_label.Goals as goal
 
 pub returns-in_err-value : goal.returns-in_err-value

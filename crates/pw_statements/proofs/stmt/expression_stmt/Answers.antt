@@ -7,11 +7,7 @@ use Rattle.pw_tree.specs.declared.symbol.Mark.TheVariants as m
 use Rattle.pw_grammar.specs.Declarations.{parts}
 use Rattle.pw_grammar.specs.Input.{pure}
 use Rattle.pw_grammar.specs.Statements.{expression_stmt}
-<<<<<<< HEAD
-use Rattle.pw_parts.proofs.Closed.{behind_closed}
-=======
 use Rattle.pw_statements.proofs.Closed.{behind_closed}
->>>>>>> a19629a41549308e08310f2d49541b22044e3aaf
 use Rattle.pw_statements.proofs.stmt.expression_stmt.Goals as goal
 
 pub returns-in_err-expression : goal.returns-in_err-expression
