@@ -10,6 +10,3 @@ pub use laws::{
 };
 pub use scopes::Scopes;
 pub use std::alloc::AllocError as NoMemory;
-
-#[cfg(test)]
-mod tests;
