@@ -1,4 +1,3 @@
-pub mod Flat
 pub mod Iteration
 pub mod Order
 pub mod Row

@@ -9,7 +9,7 @@ use crate::words::{covers_words, full_words, meet_words, subtract_words, union_w
 use std::alloc::{AllocError as NoMemory, Global};
 
 /// A set of numbers below `len`: it holds i where bit i mod 64 of word i / 64 is 1.
-#[derive(Debug, Drop)]
+#[derive(Drop)]
 pub struct BitRow {
     pub len: usize,
     pub words: Vec<u64>,

@@ -7,7 +7,7 @@ use crate::bit_row::BitRow;
 use std::alloc::{AllocError as NoMemory, Global};
 
 /// A list of sets of numbers below `len`.
-#[derive(Debug, Drop)]
+#[derive(Drop)]
 pub struct BitRows {
     pub len: usize,
     pub rows: Vec<BitRow>,

@@ -6,7 +6,7 @@ use std::alloc::{AllocError as NoMemory, Global};
 
 /// A directed graph. The nodes are the numbers below `nodes`, and each edge goes from its first
 /// node to its second. An edge may stand there several times, and may go from a node to itself.
-#[derive(Debug, Drop)]
+#[derive(Drop)]
 pub struct Graph {
     pub nodes: usize,
     pub edges: Vec<(usize, usize)>,

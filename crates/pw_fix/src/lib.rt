@@ -22,6 +22,3 @@ pub use problem::Problem;
 pub use rows::{Rows, joins_are_unions};
 pub use solver::solve;
 pub use std::alloc::AllocError as NoMemory;
-
-#[cfg(test)]
-mod tests;

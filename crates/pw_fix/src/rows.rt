@@ -10,7 +10,7 @@ use crate::lattice::Lattice;
 use std::alloc::{AllocError as NoMemory, Global};
 
 /// The sets of numbers below `len`. Each chain that rises has at most `len` steps.
-#[derive(Clone, Copy, Debug)]
+#[derive(Clone, Copy)]
 pub struct Rows {
     pub len: usize,
 }

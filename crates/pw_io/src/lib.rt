@@ -21,8 +21,6 @@ mod shelf;
 mod sinks;
 mod sources;
 mod sure_store;
-#[cfg(test)]
-mod tests;
 
 pub use mem_store::{Left, MemStore, StoreFail};
 pub use sinks::{DropSink, MemSink, SureSink};

@@ -1,5 +1,6 @@
 -- The routines in the order in which a linked program has them.
 use Rattle.std.specs.Prelude.{ℕ, List, [], ◌∷◌, codes}
+use Rattle.pw_value.specs.ProgramNames.{exit_name, getchar_name, putchar_name}
 use Rattle.pw_milli.specs.declared.routine.Routine.{Routine}
 use Rattle.pw_milli.specs.Words.{exit_words, getchar_words, putchar_words, divs_words, divu_words, mul_words, rems_words, remu_words}
 
@@ -9,9 +10,9 @@ listed routine = (routine.name.now, routine.words.now)
 
 abbrev pub routines : List (List ℕ × List ℕ)
 routines =
-    (codes "exit", exit_words) ∷
-    (codes "getchar", getchar_words) ∷
-    (codes "putchar", putchar_words) ∷
+    (exit_name, exit_words) ∷
+    (getchar_name, getchar_words) ∷
+    (putchar_name, putchar_words) ∷
     (codes "$divs", divs_words) ∷
     (codes "$divu", divu_words) ∷
     (codes "$mul", mul_words) ∷

@@ -196,44 +196,40 @@ fn words_and_texts(rt: HostRuntime) {
     }
 }
 
-/// Words, and their instructions.
-const KNOWN: [(u32, Inst); 8] = [
-    (0xe840_c002, Inst::Bv { b: 2, n: true }),
-    (
-        0x4bc2_3fd9,
-        Inst::Ldw {
-            im: -20,
-            b: 30,
-            t: 2,
-        },
-    ),
-    (
-        0x6bc2_3fd9,
-        Inst::Stw {
-            r: 2,
-            im: -20,
-            b: 30,
-        },
-    ),
-    (
-        0x37de_0080,
-        Inst::Ldo {
-            im: 64,
-            b: 30,
-            t: 30,
-        },
-    ),
-    (0x341c_0002, Inst::Ldo { im: 1, b: 0, t: 28 }),
-    (0xe6c0_2000, Inst::Ble { b: 22, n: false }),
-    (0x0001_0004, Inst::Break { im5: 4, im13: 8 }),
-    (0x0800_0240, Inst::Or { r1: 0, r2: 0, t: 0 }),
-];
-
 #[test]
 fn known_words(rt: HostRuntime) {
-    for (word, inst) in KNOWN {
-        assert_eq!(rt; encode(inst), word);
-    }
+    let found = [
+        matches!(decode(0xe840_c002), Some(Inst::Bv { b: 2, n: true })),
+        matches!(
+            decode(0x4bc2_3fd9),
+            Some(Inst::Ldw {
+                im: -20,
+                b: 30,
+                t: 2
+            })
+        ),
+        matches!(
+            decode(0x6bc2_3fd9),
+            Some(Inst::Stw {
+                r: 2,
+                im: -20,
+                b: 30
+            })
+        ),
+        matches!(
+            decode(0x37de_0080),
+            Some(Inst::Ldo {
+                im: 64,
+                b: 30,
+                t: 30
+            })
+        ),
+        matches!(decode(0x341c_0002), Some(Inst::Ldo { im: 1, b: 0, t: 28 })),
+        matches!(decode(0xe6c0_2000), Some(Inst::Ble { b: 22, n: false })),
+        matches!(decode(0x0001_0004), Some(Inst::Break { im5: 4, im13: 8 })),
+        matches!(decode(0x0800_0240), Some(Inst::Or { r1: 0, r2: 0, t: 0 })),
+    ];
+    assert_eq!(rt; found, [true; 8]);
 }
 
 /// A branch's address and displacement, and its target.

@@ -1,7 +1,7 @@
 //! Tests of pw_machine: images that are loaded and run, and damaged files. The files were written by hand,
 //! with digests by another implementation of SHA-256.
 
-use crate::programs::run_in_turns;
+use crate::programs::{has_words, run_in_turns};
 use pw_machine::{LoadError, Machine};
 use std::alloc::{AllocError, Global};
 use std::test::Fail;
@@ -51,31 +51,29 @@ fn runs(rt: HostRuntime) -> Result<(), Fail> {
 }
 
 /// Addresses, and the words there when the program is loaded.
-const WORDS: [(u32, u32); 8] = [
-    (4092, 0),
-    (4096, 1),
-    (4100, 0x2020_2000),
-    (4124, 0x0800_0240),
-    (4128, 0x6162_0000),
-    (4132, 42),
-    (4136, 0),
-    (67_108_860, 0),
+const WORDS: [(u32, Option<u32>); 8] = [
+    (4092, Some(0)),
+    (4096, Some(1)),
+    (4100, Some(0x2020_2000)),
+    (4124, Some(0x0800_0240)),
+    (4128, Some(0x6162_0000)),
+    (4132, Some(42)),
+    (4136, Some(0)),
+    (67_108_860, Some(0)),
 ];
+
+/// The front, the count of steps and the stack of the program that is loaded, and whether it has its words.
+fn loaded(alloc: Global) -> Option<(u32, u128, u32, bool)> {
+    match Machine::load(alloc, &PROGRAM) {
+        Ok(m) => Some((m.front(), m.steps(), m.reg(30), has_words(&m, &WORDS))),
+        Err(_) => None,
+    }
+}
 
 // The data start at 4,128 and end at 4,144, so that the stack begins at 4,224.
 #[test]
-fn a_program(rt: HostRuntime) -> Result<(), Fail> {
-    let machine = Machine::load(rt.alloc(), &PROGRAM)
-        .ok()
-        .ok_or("no machine")?;
-    assert_eq!(rt;
-        (machine.front(), machine.steps(), machine.reg(30)),
-        (4100, 0, 4224)
-    );
-    for (address, word) in WORDS {
-        assert_eq!(rt; machine.word_at(address), Some(word), "at {address}");
-    }
-    Ok(())
+fn a_program(rt: HostRuntime) {
+    assert_eq!(rt; loaded(rt.alloc()), Some((4100, 0, 4224, true)));
 }
 
 /// The word at 4,136 after the program has run.

@@ -266,7 +266,11 @@ const STEPS: [(&str, u32, u32); 5] = [
 #[test]
 fn steps(rt: HostRuntime) -> Result<(), Fail> {
     for (name, bound, greatest) in STEPS {
-        assert_eq!(rt; most_steps(rt.alloc(), name, bound)?, Some(greatest), "{name}");
+        assert_eq!(rt;
+            most_steps(rt.alloc(), name, bound)?,
+            Some(greatest),
+            "{name}"
+        );
     }
     Ok(())
 }

@@ -1,16 +1,15 @@
-//! Problems over hand-made graphs.
+//! Tests of pw_fix: problems over hand-made graphs.
 
 ghost use Rattle.std.specs.Prelude.{◌≡◌, ℕ, ◌<◌, ◌≤◌, ◌⊎◌, ◌↔◌, All, IfOk, IsTrue, vec_len, nat_lt, ◌+◌, if◌then◌else◌};
 ghost use Rattle.std.proofs.Common.{inl, inr};
-ghost use Rattle.pw_fix.specs.Flat.{IsFlatBelow, flat_order, flat_rank, flat_rank_fits, choice_monotone};
+ghost use Rattle.pw_tests_base.specs.Flat.{IsFlatBelow, flat_order, flat_rank, flat_rank_fits, choice_monotone};
 ghost use Rattle.pw_fix.specs.Row.{Holds};
 ghost use Rattle.pw_fix.specs.RowLaws.{insert_monotone, members_fit};
 ghost use Rattle.pw_fix.specs.Table.{HoldsAt};
 ghost use Rattle.pw_fix.specs.Walks.{Reaches};
 
-use crate::{BitRow, BitRows, Graph, Lattice, NoMemory, Problem, Rows, solve};
+use pw_fix::{BitRow, BitRows, Graph, Lattice, NoMemory, Problem, Rows, solve};
 use std::alloc::Global;
-use std::process::Abort;
 use std::test::Fail;
 
 /// The nodes from which each node is reached.
@@ -49,67 +48,79 @@ impl Problem for Reached {
 }
 
 /// A graph of these nodes and edges.
-fn graph_of(
-    rt: &impl Abort,
-    alloc: Global,
-    nodes: usize,
-    ends: &[(usize, usize)],
-) -> Result<Graph, NoMemory>
+fn graph_of(alloc: Global, nodes: usize, ends: &[(usize, usize)]) -> Result<Graph, NoMemory>
     ensures { IfOk result (λ graph. graph.nodes ≡ nodes) }
 {
     let mut edges = Vec::new(alloc);
     for &(from, to) in ends {
-        assert!(rt; from < nodes && to < nodes);
-        edges.push((from, to))?;
+        if from < nodes && to < nodes {
+            edges.push((from, to))?;
+        }
     }
     Ok(Graph { nodes, edges })
 }
 
+/// How many nodes there are, the edges, and for each node those from which it is reached.
+const GRAPHS: [(usize, &[(usize, usize)], &[&[usize]]); 3] = [
+    // No nodes.
+    (0, &[], &[]),
+    // No edges.
+    (3, &[], &[&[0], &[1], &[2]]),
+    // A cycle of 0, 1 and 2, which leads to 5; a node with an edge to itself; one that nothing reaches.
+    (
+        6,
+        &[(0, 1), (1, 2), (2, 0), (3, 3), (2, 5), (2, 5)],
+        &[
+            &[0, 1, 2],
+            &[0, 1, 2],
+            &[0, 1, 2],
+            &[3],
+            &[4],
+            &[0, 1, 2, 5],
+        ],
+    ),
+];
+
+/// Whether these are the sets of numbers.
+fn are_rows(alloc: Global, rows: &[BitRow], expected: &[&[usize]]) -> Result<bool, NoMemory> {
+    let mut all = rows.len() == expected.len();
+    for (row, numbers) in rows.iter().zip(expected.iter()) {
+        let held: Vec<usize> = row.iter().collect(alloc)?;
+        all = all && held.as_slice() == *numbers;
+    }
+    Ok(all)
+}
+
+/// Whether the sets are those of the definition.
+fn are_walks(rows: &[BitRow], edges: &[(usize, usize)], nodes: usize) -> bool {
+    let mut all = true;
+    for (to, row) in rows.iter().enumerate() {
+        for from in 0..nodes {
+            all = all && row.contains(from) == reaches_within(edges, nodes, from, to);
+        }
+    }
+    all
+}
+
+/// The nodes from which each node of a graph is reached.
+fn reached_rows(
+    alloc: Global,
+    nodes: usize,
+    edges: &[(usize, usize)],
+) -> Result<Vec<BitRow>, NoMemory> {
+    let graph = graph_of(alloc, nodes, edges)?;
+    let problem = Reached {
+        rows: Rows { len: nodes },
+    };
+    solve(alloc, &graph, &problem)
+}
+
 #[test]
 fn reached_nodes(rt: HostRuntime) -> Result<(), Fail> {
-    let alloc = rt.alloc();
-    let table: [(usize, &[(usize, usize)], &[&[usize]]); 3] = [
-        // No nodes.
-        (0, &[], &[]),
-        // No edges.
-        (3, &[], &[&[0], &[1], &[2]]),
-        // A cycle of 0, 1 and 2, which leads to 5; a node with an edge to itself; one that nothing reaches.
-        (
-            6,
-            &[(0, 1), (1, 2), (2, 0), (3, 3), (2, 5), (2, 5)],
-            &[
-                &[0, 1, 2],
-                &[0, 1, 2],
-                &[0, 1, 2],
-                &[3],
-                &[4],
-                &[0, 1, 2, 5],
-            ],
-        ),
-    ];
-    for (nodes, edges, expected) in table {
-        let graph = graph_of(&rt, alloc, nodes, edges)?;
-        let rows = solve(
-            alloc,
-            &graph,
-            &Reached {
-                rows: Rows { len: nodes },
-            },
-        )?;
-        assert_eq!(rt; rows.len(), expected.len());
-        for (row, numbers) in rows.iter().zip(expected) {
-            let held: Vec<usize> = row.iter().collect(alloc)?;
-            assert_eq!(rt; held.as_slice(), *numbers);
-        }
-        for (to, row) in rows.iter().enumerate() {
-            for from in 0..nodes {
-                assert_eq!(rt;
-                    row.contains(from),
-                    reaches_within(edges, nodes, from, to),
-                    "from {from} to {to}"
-                );
-            }
-        }
+    for (nodes, edges, expected) in GRAPHS {
+        let rows = reached_rows(rt.alloc(), nodes, edges)?;
+        let are_right = are_rows(rt.alloc(), &rows, expected)? && are_walks(&rows, edges, nodes);
+        assert!(rt; are_right, "{nodes}");
     }
     Ok(())
 }
@@ -246,7 +257,6 @@ impl Problem for Constants {
 
 /// `count` sets of numbers below `len`, with these marks.
 fn table_of(
-    rt: &impl Abort,
     alloc: Global,
     count: usize,
     len: usize,
@@ -257,64 +267,62 @@ fn table_of(
 {
     let mut table = BitRows::new(alloc, count, len)?;
     for &(n, i) in marks {
-        assert!(rt; n < count && i < len);
-        table.insert(n, i);
+        if n < count && i < len {
+            table.insert(n, i);
+        }
     }
     Ok(table)
 }
 
-// a := 0; do { b := a + 1; c := c + b; a := b * 2 } while (a < 9); return c
-#[test]
-fn live_variables(rt: HostRuntime) -> Result<(), Fail> {
-    let alloc = rt.alloc();
-    let reads = table_of(
-        &rt,
-        alloc,
-        6,
-        3,
-        &[(1, 0), (2, 1), (2, 2), (3, 1), (4, 0), (5, 2)],
-    )?;
-    let writes = table_of(&rt, alloc, 6, 3, &[(0, 0), (1, 1), (2, 2), (3, 0)])?;
+/// The variables that each node reads and writes, the edges backward, and what is live: of
+/// a := 0; do { b := a + 1; c := c + b; a := b * 2 } while (a < 9); return c
+const READS: [(usize, usize); 6] = [(1, 0), (2, 1), (2, 2), (3, 1), (4, 0), (5, 2)];
+
+const WRITES: [(usize, usize); 4] = [(0, 0), (1, 1), (2, 2), (3, 0)];
+
+const BACKWARD: [(usize, usize); 6] = [(1, 0), (2, 1), (3, 2), (4, 3), (1, 4), (5, 4)];
+
+const LIVE: [&[usize]; 6] = [&[2], &[0, 2], &[1, 2], &[1, 2], &[0, 2], &[2]];
+
+/// The variables that are live as each node begins.
+fn live_rows(alloc: Global) -> Result<Vec<BitRow>, NoMemory> {
+    let reads = table_of(alloc, 6, 3, &READS)?;
+    let writes = table_of(alloc, 6, 3, &WRITES)?;
     let problem = Live {
         reads,
         writes,
         rows: Rows { len: 3 },
     };
-    let graph = graph_of(
-        &rt,
-        alloc,
-        6,
-        &[(1, 0), (2, 1), (3, 2), (4, 3), (1, 4), (5, 4)],
-    )?;
-    let live = solve(alloc, &graph, &problem)?;
-    let expected: [&[usize]; 6] = [&[2], &[0, 2], &[1, 2], &[1, 2], &[0, 2], &[2]];
-    assert_eq!(rt; live.len(), expected.len());
-    for (row, numbers) in live.iter().zip(expected.iter()) {
-        let held: Vec<usize> = row.iter().collect(alloc)?;
-        assert_eq!(rt; held.as_slice(), *numbers);
-    }
+    let graph = graph_of(alloc, 6, &BACKWARD)?;
+    solve(alloc, &graph, &problem)
+}
+
+#[test]
+fn live_variables(rt: HostRuntime) -> Result<(), Fail> {
+    let rows = live_rows(rt.alloc())?;
+    assert!(rt; are_rows(rt.alloc(), &rows, &LIVE)?);
     Ok(())
+}
+
+/// The numbers of nodes where two give their own.
+fn numbers(alloc: Global) -> Result<Vec<u32>, NoMemory> {
+    let graph = graph_of(alloc, 6, &[(0, 2), (1, 3), (0, 4), (1, 4), (4, 4)])?;
+    let problem = Constants {
+        nodes: 6,
+        numbers: FlatNumbers,
+    };
+    solve(alloc, &graph, &problem)
 }
 
 #[test]
 fn flat_numbers(rt: HostRuntime) -> Result<(), Fail> {
-    let alloc = rt.alloc();
-    let graph = graph_of(&rt, alloc, 6, &[(0, 2), (1, 3), (0, 4), (1, 4), (4, 4)])?;
-    let values = solve(
-        alloc,
-        &graph,
-        &Constants {
-            nodes: 6,
-            numbers: FlatNumbers,
-        },
-    )?;
+    let values = numbers(rt.alloc())?;
     assert_eq!(rt; values.as_slice(), [1, 2, 1, 2, u32::MAX, 0].as_slice());
     Ok(())
 }
 
-#[test]
-fn sets_of_numbers(rt: HostRuntime) -> Result<(), Fail> {
-    let alloc = rt.alloc();
+/// The set of 1, 64 and 69 among 70 numbers, and whether each is new as it is put in.
+fn some_of(alloc: Global) -> Result<(BitRow, [bool; 4]), NoMemory> {
     let mut some = BitRow::new(alloc, 70)?;
     let added = [
         some.insert(1),
@@ -322,20 +330,42 @@ fn sets_of_numbers(rt: HostRuntime) -> Result<(), Fail> {
         some.insert(69),
         some.insert(64),
     ];
-    let held: Vec<usize> = some.iter().collect(alloc)?;
-    let mut all = BitRow::full(alloc, 70)?;
-    let before: Vec<usize> = all.iter().collect(alloc)?;
-    let subsets = [some.is_subset(&all), all.is_subset(&some)];
-    all.subtract(&some);
-    let next = [all.next_from(64), all.next_from(69)];
-    let meets = all.intersects(&some);
-    let risen = [all.union_with(&some), all.union_with(&some)];
-    assert_eq!(rt; added, [true, true, true, false]);
-    assert_eq!(rt; held.as_slice(), [1, 64, 69].as_slice());
-    assert_eq!(rt; before.len(), 70);
-    assert_eq!(rt; subsets, [true, false]);
-    assert_eq!(rt; next, [Some(65), None]);
-    assert!(rt; !meets);
-    assert_eq!(rt; risen, [true, false]);
+    Ok((some, added))
+}
+
+/// Whether a set of three numbers is as it should be against the set of all.
+fn is_part(some: &BitRow, mut all: BitRow) -> bool
+    requires { some.now.len ≡ all.len }
+{
+    let subsets = some.is_subset(&all) && !all.is_subset(some);
+    all.subtract(some);
+    let next = all.next_from(64) == Some(65) && all.next_from(69).is_none();
+    let meets = all.intersects(some);
+    let risen = all.union_with(some) && !all.union_with(some);
+    subsets && next && !meets && risen
+}
+
+#[test]
+fn sets_of_numbers(rt: HostRuntime) -> Result<(), Fail> {
+    let (some, added) = some_of(rt.alloc())?;
+    let held: Vec<usize> = some.iter().collect(rt.alloc())?;
+    let is_held = held.as_slice() == [1usize, 64, 69].as_slice();
+    assert_eq!(rt; (added, is_held), ([true, true, true, false], true));
     Ok(())
+}
+
+/// Whether the set of all 70 numbers has them, and is as it should be against one of three.
+fn is_full(alloc: Global) -> Result<bool, NoMemory> {
+    let mut some = BitRow::new(alloc, 70)?;
+    for i in [1usize, 64, 69] {
+        some.insert(i);
+    }
+    let all = BitRow::full(alloc, 70)?;
+    let before: Vec<usize> = all.iter().collect(alloc)?;
+    Ok(before.len() == 70 && is_part(&some, all))
+}
+
+#[test]
+fn set_of_all_numbers(rt: HostRuntime) {
+    assert_eq!(rt; is_full(rt.alloc()), Ok(true));
 }

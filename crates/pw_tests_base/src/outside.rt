@@ -1,5 +1,6 @@
-// The objects in memory through their traits: what each call answers, and what it leaves.
-use crate::{
+//! Tests of pw_io: the objects in memory through their traits, what each call answers, and what it leaves.
+
+use pw_io::{
     DropSink, Failed, Left, MemSink, MemSource, MemStore, NoMemory, Sink, Source, Store,
     StoreError, StoreFail, SureSink, SureSource, SureStore,
 };
@@ -14,23 +15,33 @@ fn give<O: Sink>(out: &mut O, piece: &[u8]) -> bool {
     out.put(piece).is_ok()
 }
 
+/// What a sure source answers, and one with faults at its calls 2 and 5.
+const SURE: [Result<Option<u8>, Failed>; 4] = [Ok(Some(b'a')), Ok(Some(b'b')), Ok(None), Ok(None)];
+
+const FAILING: [Result<Option<u8>, Failed>; 6] = [
+    Ok(Some(b'a')),
+    Err(Failed),
+    Ok(Some(b'b')),
+    Ok(None),
+    Err(Failed),
+    Ok(None),
+];
+
+/// Whether a source answers these.
+fn answers<I: Source>(input: &mut I, wanted: &[Result<Option<u8>, Failed>]) -> bool {
+    let mut all = true;
+    for want in wanted {
+        all = take(input) == *want && all;
+    }
+    all
+}
+
 #[test]
 fn sources(rt: HostRuntime) -> Result<(), Fail> {
     let mut sure = SureSource::new(rt.alloc(), b"ab")?;
-    for want in [Some(b'a'), Some(b'b'), None, None] {
-        assert_eq!(rt; take(&mut sure), Ok(want));
-    }
     let mut failing = MemSource::new(rt.alloc(), b"ab", &[2, 5])?;
-    for want in [
-        Ok(Some(b'a')),
-        Err(Failed),
-        Ok(Some(b'b')),
-        Ok(None),
-        Err(Failed),
-        Ok(None),
-    ] {
-        assert_eq!(rt; take(&mut failing), want);
-    }
+    let found = (answers(&mut sure, &SURE), answers(&mut failing, &FAILING));
+    assert_eq!(rt; found, (true, true));
     Ok(())
 }
 
@@ -45,16 +56,20 @@ const PIECES: [(&str, &str, bool, &str); 7] = [
     ("", "abc", true, "abcd"),
 ];
 
+/// Whether the two sinks take a piece, or do not, and have these bytes then.
+fn takes(kept: &mut SureSink, full: &mut MemSink, row: (&str, &str, bool, &str)) -> bool {
+    let piece = row.0.as_bytes();
+    let all_taken = give(kept, piece) && give(&mut DropSink::new(), piece);
+    let is_taken = give(full, piece) == row.2;
+    all_taken && is_taken && kept.bytes() == row.1.as_bytes() && full.bytes() == row.3.as_bytes()
+}
+
 #[test]
 fn sinks(rt: HostRuntime) -> Result<(), Fail> {
     let mut kept = SureSink::new(rt.alloc(), 3)?;
     let mut full = MemSink::new(rt.alloc(), 4, &[2, 3])?;
-    for (piece, sure_bytes, taken, bytes) in PIECES {
-        let piece = piece.as_bytes();
-        let all_taken = give(&mut kept, piece) && give(&mut DropSink::new(), piece);
-        assert!(rt; all_taken && kept.bytes() == sure_bytes.as_bytes());
-        let is_taken = give(&mut full, piece) == taken;
-        assert!(rt; is_taken && full.bytes() == bytes.as_bytes());
+    for row in PIECES {
+        assert!(rt; takes(&mut kept, &mut full, row));
     }
     Ok(())
 }
@@ -178,24 +193,32 @@ fn refuses(store: &mut MemStore, alloc: Global) -> bool {
     names && get && remove && store.puts().is_empty()
 }
 
+/// Whether the puts of a store that is to fail leave what they should.
+fn all_left(store: &mut MemStore, alloc: Global) -> bool {
+    let mut all = true;
+    for (text, left) in PUTS {
+        all = leaves(store, alloc, text, left) && all;
+    }
+    all
+}
+
 #[test]
 fn failing_store(rt: HostRuntime) -> Result<(), Fail> {
-    let mut store = MemStore::new(rt.alloc(), &files(rt.alloc())?, &CALLS)?;
-    for (text, left) in PUTS {
-        assert!(rt; leaves(&mut store, rt.alloc(), text, left), "{text}");
-    }
-    assert!(rt; refuses(&mut store, rt.alloc()));
+    let files = files(rt.alloc())?;
+    let mut store = MemStore::new(rt.alloc(), &files, &CALLS)?;
+    let first = all_left(&mut store, rt.alloc()) && refuses(&mut store, rt.alloc());
     store.put(rt.alloc(), "b", b"new")?;
-    assert!(rt; serves(&mut store, rt.alloc())?);
-    assert!(rt; are_same(store.puts(), &["b", "c", "B"]));
+    let second = serves(&mut store, rt.alloc())? && are_same(store.puts(), &["b", "c", "B"]);
+    assert_eq!(rt; (first, second), (true, true));
     Ok(())
 }
 
 #[test]
 fn sure_store(rt: HostRuntime) -> Result<(), Fail> {
-    let mut store = SureStore::new(rt.alloc(), &files(rt.alloc())?)?;
-    assert_eq!(rt; store.bytes_of("b"), Some(b"new".as_slice()));
-    assert!(rt; serves(&mut store, rt.alloc())?);
-    assert!(rt; are_same(store.puts(), &["c", "B"]));
+    let files = files(rt.alloc())?;
+    let mut store = SureStore::new(rt.alloc(), &files)?;
+    let is_last = store.bytes_of("b") == Some(b"new".as_slice());
+    let second = serves(&mut store, rt.alloc())? && are_same(store.puts(), &["c", "B"]);
+    assert_eq!(rt; (is_last, second), (true, true));
     Ok(())
 }
