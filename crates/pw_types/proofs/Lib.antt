@@ -5,3 +5,4 @@ pub mod RecordLemmas
 mod SizeLemmas
 mod ViewLemmas
 pub mod SpineLaws
+mod WellTypedExample
