@@ -156,10 +156,14 @@ fn function(alloc: Global, operands: u32) -> Result<TFunction, Fail> {
     })
 }
 
-fn room_of(alloc: Global, operands: u32) -> Result<u64, Fail> {
-    let f = function(alloc, operands)?;
+/// The room of a function of a module without records.
+fn room_in(alloc: Global, f: TFunction) -> u64 {
     let types = Types::new(alloc);
-    Ok(room(&types, &f))
+    room(&types, &f)
+}
+
+fn room_of(alloc: Global, operands: u32) -> Result<u64, Fail> {
+    Ok(room_in(alloc, function(alloc, operands)?))
 }
 
 /// By its body, the room of
@@ -223,8 +227,12 @@ fn arms(alloc: Global, count: u32) -> Result<TStmt, NoMemory> {
     Ok(stmt(TStmtForm::If(arms, Some(otherwise))))
 }
 
+fn nodes_in(s: TStmt) -> u64 {
+    stmt_nodes(&s)
+}
+
 fn nodes_of_arms(alloc: Global, count: u32) -> Result<u64, NoMemory> {
-    Ok(stmt_nodes(&arms(alloc, count)?))
+    Ok(nodes_in(arms(alloc, count)?))
 }
 
 /// Arms of an `if`, and its nodes: an arm has three, its condition and its statement among them.
@@ -246,7 +254,7 @@ fn labelled(alloc: Global, count: u32) -> Result<TStmt, NoMemory> {
 }
 
 fn nodes_of_labels(alloc: Global, count: u32) -> Result<u64, NoMemory> {
-    Ok(stmt_nodes(&labelled(alloc, count)?))
+    Ok(nodes_in(labelled(alloc, count)?))
 }
 
 /// Labels of a statement, and its nodes.
