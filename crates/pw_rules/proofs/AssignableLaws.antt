@@ -29,12 +29,12 @@ null_back (Node t (Qualified (Pointer (Qualified Void false false)) c v) (T.Cast
     ZeroAsVoidPointer t c v a (zero_back (constant_value a) h) refl
 null_back e h = Zero (zero_back (constant_value e) h)
 
-none_zero : None ≡ Some 0 → false ≡ true
-none_zero e = grind arith
+none_zero : (n : ℕ) → None ≡ Some n → false ≡ true
+none_zero n e = grind arith
 
 zero_null : (e : Expression) → constant_value e ≡ Some 0 → is_null_constant e ≡ true
 unfolding constant_of
-zero_null (Node t (Qualified (Pointer (Qualified Void false false)) c v) (T.Cast a)) h = no (none_zero h)
+zero_null (Node t (Qualified (Pointer (Qualified Void false false)) c v) (T.Cast a)) h = no (none_zero 0 h)
 zero_null e h = zero_forth (constant_value e) h
 
 cast_null : (t : ℕ) (c v : Bool) (a : Expression) → constant_value a ≡ Some 0

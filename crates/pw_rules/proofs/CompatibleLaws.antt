@@ -67,8 +67,9 @@ lengths_forth (Some n) (Some m) h = eq-eqb n m (h n m refl refl)
 -- ---- from the relation to the test
 
 mutual
-  pub types_forth : {a b : CType} → CompatibleTypes a b → compatible_types a b ≡ true
   unfolding compatible_types
+
+  pub types_forth : {a b : CType} → CompatibleTypes a b → compatible_types a b ≡ true
   types_forth VoidTypes = refl
   types_forth (IntegerTypes kind) = same_kinds kind
   types_forth (PointerTypes a b h) = forth h
@@ -77,13 +78,11 @@ mutual
   types_forth (RecordTypes n) = eq-eqb n n refl
 
   pub forth : {a b : QType} → Compatible a b → compatible a b ≡ true
-  unfolding compatible_types
   forth (QualifiedAlike a b c v h) =
       both (compatible_types a b && same_truth c c) (same_truth v v)
         (both (compatible_types a b) (same_truth c c) (types_forth h) (same_truths c)) (same_truths v)
 
   pub parameters_forth : {ps qs : QTypes} → CompatibleParameters ps qs → compatible_parameters ps qs ≡ true
-  unfolding compatible_types
   parameters_forth NoParameters = refl
   parameters_forth (OneParameter a b c v d w ps qs h p) =
       both (compatible_types a b) (compatible_parameters ps qs) (types_forth h) (parameters_forth p)
@@ -96,8 +95,9 @@ alike a b c d v w e f h =
       (subst (λ x. Compatible (Qualified a c v) (Qualified b c x)) f (QualifiedAlike a b c v h))
 
 mutual
-  pub types_back : (a b : CType) → compatible_types a b ≡ true → CompatibleTypes a b
   unfolding compatible_types
+
+  pub types_back : (a b : CType) → compatible_types a b ≡ true → CompatibleTypes a b
   types_back Void Void e = VoidTypes
   types_back (Int k) (Int l) e = subst (λ x. CompatibleTypes (Int k) (Int x)) (kinds_same k l e) (IntegerTypes k)
   types_back (Pointer a) (Pointer b) e = PointerTypes a b (back a b e)
@@ -110,7 +110,6 @@ mutual
   types_back _ _ e = no e
 
   pub back : (a b : QType) → compatible a b ≡ true → Compatible a b
-  unfolding compatible_types
   back (Qualified a c v) (Qualified b d w) e =
       let first : (compatible_types a b && same_truth c d) ≡ true = left (compatible_types a b && same_truth c d) (same_truth v w) e in
       alike a b c d v w
@@ -119,7 +118,6 @@ mutual
         (types_back a b (left (compatible_types a b) (same_truth c d) first))
 
   pub parameters_back : (ps qs : QTypes) → compatible_parameters ps qs ≡ true → CompatibleParameters ps qs
-  unfolding compatible_types
   parameters_back NoType NoType e = NoParameters
   parameters_back (OneType (Qualified a c v) ps) (OneType (Qualified b d w) qs) e =
       OneParameter a b c v d w ps qs (types_back a b (left (compatible_types a b) (compatible_parameters ps qs) e))

@@ -54,3 +54,4 @@ linkage_back s name AsExternal e = no e
 pub linkage_forth : (s : State) (name : List ℕ) (asking : Asking) → InternalLinkage s name asking → is_internal_by s name asking ≡ true
 linkage_forth s name AsInternal h = refl
 linkage_forth s name AsBefore (ByVisible e) = true_some (visible_linkage s name) e
+linkage_forth s name AsExternal h = elim h [ ]
