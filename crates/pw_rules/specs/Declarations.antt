@@ -9,14 +9,13 @@ use Rattle.pw_types.specs.TypedTrees as T
 use Rattle.pw_walk.specs.Causes.{Point, needs, LawfulStorage, DeclaresSomething, CompleteObject, BlockFunction, InitialisedKind, InitialisedHere}
 use Rattle.pw_walk.specs.Walks.{meets, pure, asks, change, ◌>>=◌, ◌>>◌}
 use Rattle.pw_rules.specs.Kinds.{is_function, is_void, is_open_array, is_const_object}
-use Rattle.pw_rules.specs.Firsts.{first_specifier}
 use Rattle.pw_rules.specs.States.{Rule, State, TypeName, LocalObject, StaticObject, records_in, is_file_scope, enter, put_entity, put_at, add_hidden, put_hidden, next_hidden, add_local, next_local, entry_here, with_body, HiddenObject}
 use Rattle.pw_rules.specs.Limits.{Spot, completed, name_within, type_within}
 use Rattle.pw_rules.specs.Linkage.{Asking, AsInternal, AsBefore, AsExternal, fresh_name, linkage_point, is_internal_by, declare_linked, undefined_yet, define_tentatively, define_object, initialise_linked, note_here}
 use Rattle.pw_rules.specs.SpecifierLists.{Specified, specified, nothing_gathered, is_typedef, is_extern, is_static, is_auto, is_register}
 use Rattle.pw_rules.specs.Derivations.{Declared, built, spot_of}
 use Rattle.pw_rules.specs.Phrases.{specifiers_rule, declarator_rule}
-use Rattle.pw_rules.specs.Leaves.{alone_rule, record_kind}
+use Rattle.pw_rules.specs.Leaves.{alone_rule, record_kind, first_of_list}
 use Rattle.pw_rules.specs.Initialisers.{Context, object_rule, is_by_bytes}
 
 -- ---- what is declared
@@ -240,9 +239,6 @@ declares_something (S.Enum t w es rest) = true
 
 unfoldable pub specified_rule : Specifiers → ℕ → Rule Specified
 specified_rule specifiers first = specifiers_rule specifiers first nothing_gathered >>= λ g. specified first g
-
-abbrev pub first_of_list : Specifiers → ℕ
-first_of_list specifiers = unwrap_or (first_specifier specifiers) 0
 
 unfoldable pub bare_rule : Specifiers → Rule (List Initialiser)
 bare_rule (S.RecordTag t kind w S.NoSpecifier) = alone_rule (record_kind kind) w >> pure []

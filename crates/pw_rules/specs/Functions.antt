@@ -5,20 +5,19 @@ use Rattle.pw_tree.specs.Trees.{Word, Function, Decl}
 use Rattle.pw_tree.specs.Trees as S
 use Rattle.pw_types.specs.TypeTrees.{QType, type_of}
 use Rattle.pw_types.specs.TypedTrees.{FunctionValue, LocalValue, Statement}
-use Rattle.pw_typed.specs.Rooms.{nodes_of, room_of}
+use Rattle.pw_types.specs.Rooms.{nodes_of, room_of}
 use Rattle.pw_value.specs.Limits.{node_limit, room_limit}
 use Rattle.pw_walk.specs.Causes.{Point, needs, keeps, FunctionDeclarator, DefinitionStorage, NamedParameters, NoDeclarationList}
 use Rattle.pw_walk.specs.declared.fault.Which.TheVariants.{Nodes, Room}
 use Rattle.pw_walk.specs.Walks.{meets, asks, change, ◌>>=◌, ◌>>◌}
 use Rattle.pw_rules.specs.Kinds.{result_of, is_const_object}
-use Rattle.pw_rules.specs.Firsts.{first_of_declaration}
 use Rattle.pw_rules.specs.States.{Rule, State, no_body, records_in, one_deeper, back_to, with_body, with_scopes, with_made}
 use Rattle.pw_rules.specs.Limits.{name_within, type_within}
 use Rattle.pw_rules.specs.Linkage.{AsInternal, AsBefore, Asking, linkage_point, is_internal_by, declare_linked, undefined_yet, define_function, symbol_at}
 use Rattle.pw_rules.specs.SpecifierLists.{Specified, is_static, is_extern}
 use Rattle.pw_rules.specs.Derivations.{Declared, Derivation, ToPointer, ToArray, ToFunction, ParameterValue, Bindings, built, spot_of}
 use Rattle.pw_rules.specs.Phrases.{declarator_rule}
-use Rattle.pw_rules.specs.Leaves.{is_nil, name_text}
+use Rattle.pw_rules.specs.Leaves.{is_nil, name_text, first_of_declaration}
 use Rattle.pw_rules.specs.Declarations.{specified_rule, name_of}
 use Rattle.pw_rules.specs.Statements.{block_rule, labels_in_block}
 

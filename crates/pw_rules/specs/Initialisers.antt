@@ -3,6 +3,7 @@
 use Rattle.std.specs.Prelude.{ℕ, zero, suc, ◌+◌, ◌*◌, ◌/◌, ◌%◌, ◌==◌, Bool, true, false, not, ◌&&◌, ◌||◌, nat_le, nat_lt, if◌then◌else◌, Option, None, Some, is_some, unwrap_or, option_map, option_and_then, List, [], ◌∷◌, ◌++◌, length, slice_get, take, zip}
 use Rattle.std.specs.Option.{option_map_or}
 use Rattle.pw_literal.specs.Characters.{characters_of_strings, string_bytes_of}
+use Rattle.pw_tree.specs.FirstTokens.{first_of_expr, first_of_words}
 use Rattle.pw_tree.specs.Trees.{Word, Expr, Init, Inits}
 use Rattle.pw_tree.specs.Trees as S
 use Rattle.pw_types.specs.Conversions.{size_of_kind}
@@ -20,7 +21,7 @@ use Rattle.pw_rules.specs.Kinds.{plain, is_scalar, is_array, is_character_array}
 use Rattle.pw_rules.specs.Constants.{constant_value, is_null_pointer, address_of, Place}
 use Rattle.pw_rules.specs.Operands.{type_in, cast_to}
 use Rattle.pw_rules.specs.Operators.{value_rule, is_assignable, same_record}
-use Rattle.pw_rules.specs.Leaves.{first_word, texts_of, string_type, string_point, is_nil}
+use Rattle.pw_rules.specs.Leaves.{texts_of, string_type, string_point, is_nil}
 use Rattle.pw_rules.specs.States.{Rule, records_in}
 use Rattle.pw_rules.specs.Phrases.{expr_rule}
 
@@ -184,7 +185,7 @@ string_filled cx ws t filled =
     string_point ws >>
     meets (needs InitialiserCount cx.token (string_fits (type_of t.ty) (length (characters_of_strings (texts_of ws)))) ∷ []) >>
     pure (fill (item_list t.offset (Some (ItemBytes (bytes_within (type_of t.ty) bytes))))
-    (Node (first_word ws) (string_type bytes) (T.Str cx.hidden)) filled)
+    (Node (first_of_words ws) (string_type bytes) (T.Str cx.hidden)) filled)
 
 -- ---- lists
 
@@ -230,7 +231,7 @@ unfoldable pub listed_expression : Context → Cursor → Filled → Expr → Ru
 listed_expression cx cursor filled e =
     expr_rule e >>= λ a.
     value_rule a >>= λ x.
-    listed_value cx cursor filled a.first x
+    listed_value cx cursor filled (first_of_expr e) x
 
 unfoldable pub listed_by : Bool → Context → Cursor → Filled → Expr → List Word → Rule (Cursor × Filled)
 listed_by true cx cursor filled e ws = listed_string cx cursor filled ws
@@ -311,7 +312,7 @@ unfoldable pub object_value : Context → QType → Expr → Rule Initialised
 object_value cx q e =
     expr_rule e >>= λ a.
     value_rule a >>= λ x.
-    value_filled cx a.first (target_at q 0) x nothing_filled >>= λ filled.
+    value_filled cx (first_of_expr e) (target_at q 0) x nothing_filled >>= λ filled.
     pure (initialised_as q filled)
 
 unfoldable pub object_list : Context → QType → Inits → Rule Initialised

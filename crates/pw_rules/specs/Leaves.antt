@@ -7,7 +7,8 @@ use Rattle.pw_literal.specs.Characters.{character_constant, characters_of, chara
 use Rattle.pw_literal.specs.Integers.{integer_type, integer_value}
 use Rattle.pw_tree.specs.declared.expr.RecordKind.{RecordKind as TreeKind}
 use Rattle.pw_tree.specs.declared.expr.RecordKind.TheVariants as X
-use Rattle.pw_tree.specs.Trees.{Word, Parameters, NoParameter, Parameter}
+use Rattle.pw_tree.specs.FirstTokens.{first_of_words, first_of_specifiers, first_of_parameter}
+use Rattle.pw_tree.specs.Trees.{Word, Specifiers, Declarator, Parameters, NoParameter, Parameter}
 use Rattle.pw_types.specs.Conversions.{is_signed_kind}
 use Rattle.pw_types.specs.declared.kind.IntKind.TheVariants as K
 use Rattle.pw_types.specs.declared.record.RecordKind.{RecordKind}
@@ -31,22 +32,31 @@ use Rattle.pw_rules.specs.Linkage.{fresh_name, symbol_at}
 use Rattle.pw_rules.specs.SpecifierLists.{Specified, is_register}
 use Rattle.pw_rules.specs.Derivations.{Declared, ParameterValue, Bindings, built, spot_of}
 
+-- ---- the tokens at which lists of specifiers stand
+
+-- the first of a list, and of a declaration whose list may have none
+abbrev pub first_of_list : Specifiers → ℕ
+first_of_list specifiers = unwrap_or (first_of_specifiers specifiers) 0
+
+abbrev pub first_of_declaration : Specifiers → Declarator → ℕ
+first_of_declaration specifiers d = unwrap_or (first_of_parameter specifiers d) 0
+
 -- ---- primary expressions (6.3.1)
 
-abbrev pub lvalue_operand : ℕ → Bool → Expression → Operand
-lvalue_operand first register node = record { node = node; lvalue = true; register = register; first = first }
+abbrev pub lvalue_operand : Bool → Expression → Operand
+lvalue_operand register node = record { node = node; lvalue = true; register = register }
 
 abbrev pub linked_operand : State → ℕ → ℕ → QType → Operand
 linked_operand s t place ty =
-    if is_function (type_of ty) then value_operand t (Node t ty (T.Function (symbol_at s place)))
-    else lvalue_operand t false (Node t ty (T.Global (symbol_at s place)))
+    if is_function (type_of ty) then value_operand (Node t ty (T.Function (symbol_at s place)))
+    else lvalue_operand false (Node t ty (T.Global (symbol_at s place)))
 
 -- what a name denotes: an object is an lvalue; a typedef name is no expression
 abbrev pub entity_operand : State → ℕ → Entity → Option Operand
 entity_operand s t (TypeName ty) = None
-entity_operand s t (EnumerationConstant n) = Some (value_operand t (Node t int_type (T.Number n)))
-entity_operand s t (LocalObject k ty register) = Some (lvalue_operand t register (Node t ty (T.Local k)))
-entity_operand s t (StaticObject k ty) = Some (lvalue_operand t false (Node t ty (T.Global (Hidden k))))
+entity_operand s t (EnumerationConstant n) = Some (value_operand (Node t int_type (T.Number n)))
+entity_operand s t (LocalObject k ty register) = Some (lvalue_operand register (Node t ty (T.Local k)))
+entity_operand s t (StaticObject k ty) = Some (lvalue_operand false (Node t ty (T.Global (Hidden k))))
 entity_operand s t (Linked place ty) = Some (linked_operand s t place ty)
 
 unfoldable pub identifier_rule : Word → Rule Operand
@@ -58,7 +68,7 @@ identifier_rule w =
 unfoldable pub number_rule : Word → Rule Operand
 number_rule w =
     meets (needs IntegerFits w.token (is_some (integer_type w.text)) ∷ []) >>
-    pure (value_operand w.token
+    pure (value_operand
     (Node w.token (plain (Int (unwrap_or (integer_type w.text) K.Int))) (T.Number (integer_value w.text))))
 
 -- 6.1.3.4
@@ -68,11 +78,7 @@ character_rule w =
     needs OneCharacter w.token (length (characters_of w.text) == 1)
     ∷ needs EscapeFits w.token (fits_bytes (characters_of w.text))
     ∷ []) >>
-    pure (value_operand w.token (Node w.token int_type (T.Number (character_constant (characters_of w.text)))))
-
-abbrev pub first_word : List Word → ℕ
-first_word [] = 0
-first_word (w ∷ rest) = w.token
+    pure (value_operand (Node w.token int_type (T.Number (character_constant (characters_of w.text)))))
 
 abbrev pub texts_of : List Word → List (List ℕ)
 texts_of ws = map (λ w. w.text) ws
@@ -86,7 +92,7 @@ bytes_at_start bytes = record { offset = 0; item = ItemBytes bytes } ∷ []
 
 -- no escape of a string is above 255
 unfoldable pub string_point : List Word → Rule (Unit {0})
-string_point ws = meets (needs EscapeFits (first_word ws) (fits_bytes (characters_of_strings (texts_of ws))) ∷ [])
+string_point ws = meets (needs EscapeFits (first_of_words ws) (fits_bytes (characters_of_strings (texts_of ws))) ∷ [])
 
 -- a string is an object that is not to be written, where it is counted
 abbrev pub note_string : List ℕ → State → State
@@ -101,8 +107,8 @@ string_rule ws =
     string_point ws >>
     asks next_hidden >>= λ k.
     change (note_string (string_bytes_of (texts_of ws))) >>
-    pure (lvalue_operand (first_word ws) false
-    (Node (first_word ws) (string_type (string_bytes_of (texts_of ws))) (T.Str k)))
+    pure (lvalue_operand false
+    (Node (first_of_words ws) (string_type (string_bytes_of (texts_of ws))) (T.Str k)))
 
 -- ---- constant expressions (6.4)
 

@@ -3,7 +3,6 @@ pub mod Compatible
 pub mod Operands
 pub mod Constants
 pub mod States
-pub mod Firsts
 pub mod Limits
 pub mod Linkage
 pub mod SpecifierLists
@@ -18,3 +17,4 @@ pub mod Functions
 pub mod Modules
 pub mod Checks
 pub mod Samples
+pub mod Judgements

@@ -7,20 +7,19 @@ use Rattle.pw_types.specs.TypedTrees.{Expression, Node, token_of, type_at}
 use Rattle.pw_types.specs.TypedTrees as T
 use Rattle.pw_rules.specs.Kinds.{plain, same_type, is_array, kind_in}
 
--- Its node, whether it is an lvalue, whether it is one of an object that is declared `register`, and its first token.
+-- Its node, whether it is an lvalue, and whether it is one of an object that is declared `register`.
 pub record Operand : Type 0 where
   pub node : Expression
   pub lvalue : Bool
   pub register : Bool
-  pub first : ℕ
 
 -- the type of a node, qualifiers aside
 abbrev pub type_in : Expression → CType
 type_in e = type_of (type_at e)
 
 -- an operand that is no lvalue
-abbrev pub value_operand : ℕ → Expression → Operand
-value_operand first node = record { node = node; lvalue = false; register = false; first = first }
+abbrev pub value_operand : Expression → Operand
+value_operand node = record { node = node; lvalue = false; register = false }
 
 -- a conversion, where the types differ; it stands at the operand's token
 abbrev pub cast_to : CType → Expression → Expression

@@ -56,31 +56,30 @@ abbrev pub unary_node : ℕ → UnaryOperator → Expression → Expression
 unary_node t P.Not e = Node t int_type (T.Unary U.Not e)
 unary_node t op e = Node t (plain (type_in (promote e))) (T.Unary (typed_unary op) (promote e))
 
-unfoldable pub sign_rule : ℕ → ℕ → UnaryOperator → Expression → Rule Operand
-sign_rule first t op e =
+unfoldable pub sign_rule : ℕ → UnaryOperator → Expression → Rule Operand
+sign_rule t op e =
     meets (needs UnaryOperand t (fits_unary op (type_in e)) ∷ []) >>
-    pure (value_operand first (unary_node t op e))
+    pure (value_operand (unary_node t op e))
 
 -- what a pointer points to; it is an lvalue unless it is a function or void
-abbrev pub deref : ℕ → ℕ → Expression → Operand
-deref first t e =
+abbrev pub deref : ℕ → Expression → Operand
+deref t e =
     record {
       node = Node t (pointee (type_in e)) (T.Deref e);
       lvalue = not (is_function (type_of (pointee (type_in e)))) && not (is_void (type_of (pointee (type_in e))));
-      register = false;
-      first = first;
+      register = false
     }
 
-unfoldable pub deref_rule : ℕ → ℕ → Expression → Rule Operand
-deref_rule first t e =
+unfoldable pub deref_rule : ℕ → Expression → Rule Operand
+deref_rule t e =
     meets (needs PointerOperand t (is_pointer (type_in e)) ∷ []) >>
-    pure (deref first t e)
+    pure (deref t e)
 
 -- the address of a function, or of an lvalue of no object that is declared `register`
-unfoldable pub address_rule : ℕ → ℕ → Operand → Rule Operand
-address_rule first t a =
+unfoldable pub address_rule : ℕ → Operand → Rule Operand
+address_rule t a =
     meets (needs AddressOperand t (is_function (type_in a.node) || (a.lvalue && not a.register)) ∷ []) >>
-    pure (value_operand first (Node t (plain (Pointer (type_at a.node))) (T.Address a.node)))
+    pure (value_operand (Node t (plain (Pointer (type_at a.node))) (T.Address a.node)))
 
 -- ---- `++` and `--` (6.3.2.4, 6.3.3.1)
 
@@ -95,14 +94,14 @@ is_modifiable records a =
 abbrev pub can_step : List RecordValue → CType → Bool
 can_step records ty = is_integral ty || points_to_object records ty
 
-unfoldable pub step_rule : ℕ → ℕ → StepOperator → Operand → Rule Operand
-step_rule first t op a =
+unfoldable pub step_rule : ℕ → StepOperator → Operand → Rule Operand
+step_rule t op a =
     asks records_in >>= λ records.
     meets (
     needs StepOperand t (can_step records (type_in a.node))
     ∷ needs ModifiableLvalue t (is_modifiable records a)
     ∷ []) >>
-    pure (value_operand first (Node t (unqualified (type_at a.node)) (T.Step op a.node)))
+    pure (value_operand (Node t (unqualified (type_at a.node)) (T.Step op a.node)))
 
 -- ---- `sizeof` (6.3.3.4)
 
@@ -114,14 +113,14 @@ unfoldable pub size_rule : ℕ → Operand → Rule Operand
 size_rule t a =
     asks records_in >>= λ records.
     meets (needs SizedOperand t (is_complete records (type_in a.node)) ∷ []) >>
-    pure (value_operand t (size_node t (unwrap_or (size_of records (type_in a.node)) 0)))
+    pure (value_operand (size_node t (unwrap_or (size_of records (type_in a.node)) 0)))
 
 -- of a type, which the specifiers may have brought in
 unfoldable pub type_size_rule : ℕ → Spot → QType → Rule Operand
 type_size_rule t spot q =
     asks records_in >>= λ records.
     meets (completed records (record spot { token = t }) SizedOperand (type_of q) ∷ []) >>
-    pure (value_operand t (size_node t (unwrap_or (size_of records (type_of q)) 0)))
+    pure (value_operand (size_node t (unwrap_or (size_of records (type_of q)) 0)))
 
 -- ---- casts (6.3.4)
 
@@ -149,7 +148,7 @@ cast_rule t q e =
     needs CastTypes t (fits_cast (type_of q) e)
     ∷ needs NoPointerCast t (not (mixes_pointer (type_of q) e))
     ∷ []) >>
-    pure (value_operand t (Node t (unqualified q) (T.Cast e)))
+    pure (value_operand (Node t (unqualified q) (T.Cast e)))
 
 -- ---- binary operators (6.3.5 to 6.3.14, 6.3.17)
 
@@ -283,27 +282,27 @@ binary_node t O.Equal a b = comparison_node t B.Equal a b
 binary_node t O.NotEqual a b = comparison_node t B.NotEqual a b
 binary_node t op a b = arithmetic_node t (typed_binary op) a b
 
-unfoldable pub binary_rule : ℕ → ℕ → BinaryOperator → Expression → Expression → Rule Operand
-binary_rule first t op a b =
+unfoldable pub binary_rule : ℕ → BinaryOperator → Expression → Expression → Rule Operand
+binary_rule t op a b =
     asks records_in >>= λ records.
     meets (needs BinaryOperands t (fits_binary records op a b) ∷ []) >>
-    pure (value_operand first (binary_node t op a b))
+    pure (value_operand (binary_node t op a b))
 
 -- `&&` and `||` convert nothing (6.3.13, 6.3.14)
-unfoldable pub logic_rule : ℕ → ℕ → LogicOperator → Expression → Expression → Rule Operand
-logic_rule first t op a b =
+unfoldable pub logic_rule : ℕ → LogicOperator → Expression → Expression → Rule Operand
+logic_rule t op a b =
     meets (needs LogicOperands t (is_scalar (type_in a) && is_scalar (type_in b)) ∷ []) >>
-    pure (value_operand first (Node t int_type (T.Logic op a b)))
+    pure (value_operand (Node t int_type (T.Logic op a b)))
 
 abbrev pub comma_node : ℕ → Expression → Expression → Expression
 comma_node t a b = Node t (unqualified (type_at b)) (T.Comma a b)
 
 -- an operator that groups to the left
-unfoldable pub operation_rule : ℕ → ℕ → BinaryOperator → Expression → Expression → Rule Operand
-operation_rule first t O.And a b = logic_rule first t L.And a b
-operation_rule first t O.Or a b = logic_rule first t L.Or a b
-operation_rule first t O.Comma a b = pure (value_operand first (comma_node t a b))
-operation_rule first t op a b = binary_rule first t op a b
+unfoldable pub operation_rule : ℕ → BinaryOperator → Expression → Expression → Rule Operand
+operation_rule t O.And a b = logic_rule t L.And a b
+operation_rule t O.Or a b = logic_rule t L.Or a b
+operation_rule t O.Comma a b = pure (value_operand (comma_node t a b))
+operation_rule t op a b = binary_rule t op a b
 
 -- ---- `?:` (6.3.15)
 
@@ -324,10 +323,10 @@ choice_type a b =
     if is_pointer (type_in a) || is_pointer (type_in b) then chosen_pointer a b else
     type_in a
 
-unfoldable pub conditional_rule : ℕ → ℕ → Expression → Expression → Expression → Rule Operand
-conditional_rule first t c a b =
+unfoldable pub conditional_rule : ℕ → Expression → Expression → Expression → Rule Operand
+conditional_rule t c a b =
     meets (needs ConditionalOperands t (is_scalar (type_in c) && fits_choice a b) ∷ []) >>
-    pure (value_operand first
+    pure (value_operand
     (Node t (plain (choice_type a b)) (T.Cond c (cast_to (choice_type a b) a) (cast_to (choice_type a b) b))))
 
 -- ---- assignments (6.3.16)
@@ -343,14 +342,14 @@ is_assignable to e =
     || (points_to_void (type_in e) && not (points_to_function to))))
     || (is_pointer to && is_null_constant e)
 
-unfoldable pub assign_rule : ℕ → ℕ → Operand → Expression → Rule Operand
-assign_rule first t a b =
+unfoldable pub assign_rule : ℕ → Operand → Expression → Rule Operand
+assign_rule t a b =
     asks records_in >>= λ records.
     meets (
     needs ModifiableLvalue t (is_modifiable records a)
     ∷ needs AssignedType t (is_assignable (type_in a.node) b)
     ∷ []) >>
-    pure (value_operand first
+    pure (value_operand
     (Node t (unqualified (type_at a.node)) (T.Assign a.node (cast_to (type_in a.node) b))))
 
 -- the operator of a compound assignment
@@ -385,27 +384,27 @@ compound_node t op a b =
     if is_pointer (type_in a) then Node t (unqualified (type_at a)) (T.Compound (typed_binary op) (type_in a) a b)
     else Node t (unqualified (type_at a)) (T.Compound (typed_binary op) (common_type a b) a (cast_to (common_type a b) b))
 
-unfoldable pub compound_rule : ℕ → ℕ → BinaryOperator → Operand → Expression → Rule Operand
-compound_rule first t op a b =
+unfoldable pub compound_rule : ℕ → BinaryOperator → Operand → Expression → Rule Operand
+compound_rule t op a b =
     asks records_in >>= λ records.
     meets (
     needs ModifiableLvalue t (is_modifiable records a)
     ∷ needs CompoundOperands t (fits_compound records op (type_in a.node) b)
     ∷ []) >>
-    pure (value_operand first (compound_node t op a.node b))
+    pure (value_operand (compound_node t op a.node b))
 
-unfoldable pub assignment_rule : ℕ → ℕ → AssignOperator → Operand → Expression → Rule Operand
-assignment_rule first t A.Plain a b = assign_rule first t a b
-assignment_rule first t op a b = compound_rule first t (compound_operator op) a b
+unfoldable pub assignment_rule : ℕ → AssignOperator → Operand → Expression → Rule Operand
+assignment_rule t A.Plain a b = assign_rule t a b
+assignment_rule t op a b = compound_rule t (compound_operator op) a b
 
 -- ---- postfixes (6.3.2)
 
 -- `a[b]` is `*(a + b)` (6.3.2.1)
-unfoldable pub index_rule : ℕ → ℕ → Expression → Expression → Rule Operand
-index_rule first t a b =
+unfoldable pub index_rule : ℕ → Expression → Expression → Rule Operand
+index_rule t a b =
     asks records_in >>= λ records.
     meets (needs SubscriptOperands t (pointer_and_number records a b || pointer_and_number records b a) ∷ []) >>
-    pure (deref first t (sum_node t B.Add a b))
+    pure (deref t (sum_node t B.Add a b))
 
 -- each argument as an assignment to the parameter converts it (6.3.2.2)
 abbrev pub arguments_fit : QTypes → List Expression → Bool
@@ -428,14 +427,14 @@ call_node t (Node u q (T.Decay (Node w p (T.Function symbol)))) es =
 call_node t e es =
     Node t (unqualified (result_of (callee_type e))) (T.CallValue e (arguments_cast (parameters_of (callee_type e)) es))
 
-unfoldable pub call_rule : ℕ → ℕ → Expression → List Expression → Rule Operand
-call_rule first t e es =
+unfoldable pub call_rule : ℕ → Expression → List Expression → Rule Operand
+call_rule t e es =
     meets (
     needs CalledFunction t (points_to_function (type_in e))
     ∷ needs ArgumentCount t (count_of_types (parameters_of (callee_type e)) == length es)
     ∷ needs ArgumentTypes t (arguments_fit (parameters_of (callee_type e)) es)
     ∷ []) >>
-    pure (value_operand first (call_node t e es))
+    pure (value_operand (call_node t e es))
 
 -- a member with its offset
 abbrev pub member_in : List ℕ → ContentValue → Option (MemberValue × ℕ)
@@ -449,29 +448,28 @@ abbrev pub member_of : List RecordValue → CType → List ℕ → Option (Membe
 member_of records ty name = option_and_then (member_in name) (content_in records ty)
 
 -- a member of an operand has the operand's qualifiers too
-abbrev pub member_operand : ℕ → ℕ → Operand → MemberValue × ℕ → Operand
-member_operand first t a m =
+abbrev pub member_operand : ℕ → Operand → MemberValue × ℕ → Operand
+member_operand t a m =
     record {
       node = Node t (qualify (is_constant (type_at a.node)) (is_volatile (type_at a.node)) m.0.ty) (T.Member a.node m.1);
       lvalue = a.lvalue;
-      register = a.register;
-      first = first;
+      register = a.register
     }
 
-unfoldable pub select_rule : ℕ → ℕ → Word → Operand → Rule Operand
-select_rule first t w a =
+unfoldable pub select_rule : ℕ → Word → Operand → Rule Operand
+select_rule t w a =
     asks records_in >>= λ records.
     granted DeclaredMember w.token [] (member_of records (type_in a.node) w.text) >>= λ m.
-    pure (member_operand first t a m)
+    pure (member_operand t a m)
 
 -- `.` of a structure or union
-unfoldable pub dot_rule : ℕ → ℕ → Word → Operand → Rule Operand
-dot_rule first t w a =
+unfoldable pub dot_rule : ℕ → Word → Operand → Rule Operand
+dot_rule t w a =
     meets (needs RecordOperand t (is_record (type_in a.node)) ∷ []) >>
-    select_rule first t w a
+    select_rule t w a
 
 -- `->` of a pointer to one (6.3.2.3)
-unfoldable pub arrow_rule : ℕ → ℕ → Word → Expression → Rule Operand
-arrow_rule first t w e =
+unfoldable pub arrow_rule : ℕ → Word → Expression → Rule Operand
+arrow_rule t w e =
     meets (needs RecordOperand t (is_pointer (type_in e) && is_record (type_of (pointee (type_in e)))) ∷ []) >>
-    select_rule first t w (deref first t e)
+    select_rule t w (deref t e)

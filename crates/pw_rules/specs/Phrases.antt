@@ -6,6 +6,7 @@ use Rattle.pw_tree.specs.declared.expr.BasicType.TheVariants as W
 use Rattle.pw_tree.specs.declared.operator.Access.TheVariants.{Dot, Arrow}
 use Rattle.pw_tree.specs.declared.operator.StepOperator.TheVariants as J
 use Rattle.pw_tree.specs.declared.operator.UnaryOperator.TheVariants as P
+use Rattle.pw_tree.specs.FirstTokens.{first_of_expr, first_of_words, first_of_declarator}
 use Rattle.pw_tree.specs.Trees.{Expr, Postfixes, Arguments, Operations, Specifiers, Members, MemberDeclarators, Enumerators, Declarator, Core, Suffixes, Parameters, Word}
 use Rattle.pw_tree.specs.Trees as S
 use Rattle.pw_types.specs.declared.tree.StepOperator.TheVariants as Q
@@ -16,15 +17,10 @@ use Rattle.pw_walk.specs.Walks.{granted, refused, pure, asks, ◌>>=◌, ◌>>�
 use Rattle.pw_rules.specs.Kinds.{int_type}
 use Rattle.pw_rules.specs.Operands.{Operand}
 use Rattle.pw_rules.specs.States.{Rule, Entity, TypeName, entity_of, scoped, uncounted}
-use Rattle.pw_rules.specs.Firsts.{first_specifier, first_of_declarator, first_of_declaration}
 use Rattle.pw_rules.specs.SpecifierLists.{Gathered, nothing_gathered, gather_storage, gather_qualifier, gather_word, gather_type, Specified, specified}
 use Rattle.pw_rules.specs.Derivations.{Derivation, ToArray, ToFunction, Declared, Suffixed, ParameterValue, Bindings, pointer_step, spot_of}
 use Rattle.pw_rules.specs.Operators.{value_rule, sign_rule, deref_rule, address_rule, step_rule, size_rule, type_size_rule, cast_rule, operation_rule, conditional_rule, assignment_rule, index_rule, call_rule, dot_rule, arrow_rule}
-use Rattle.pw_rules.specs.Leaves.{identifier_rule, number_rule, character_rule, string_rule, length_rule, record_kind, reference_rule, opening_rule, member_rule, record_spot, closing_rule, enumeration_rule, enumerating_rule, enumerator_value, enumerator_rule, named_type, is_last, is_nil, parameter_storage, parameter_rule, parameter_types, bindings_rule, first_word}
-
--- in parentheses an operand begins at its `(`
-abbrev pub enclosed : ℕ → Operand → Operand
-enclosed t a = record a { first = t }
+use Rattle.pw_rules.specs.Leaves.{identifier_rule, number_rule, character_rule, string_rule, length_rule, record_kind, reference_rule, opening_rule, member_rule, record_spot, closing_rule, enumeration_rule, enumerating_rule, enumerator_value, enumerator_rule, named_type, is_last, is_nil, parameter_storage, parameter_rule, parameter_types, bindings_rule, first_of_list, first_of_declaration}
 
 abbrev pub typedef_type : Entity → Option QType
 typedef_type (TypeName q) = Some q
@@ -64,14 +60,14 @@ unfoldable mutual
   expr_rule (S.Character w) = character_rule w
   expr_rule (S.Wide w) = refused NoWide w.token
   expr_rule (S.Strings ws) = string_rule ws
-  expr_rule (S.Paren t e) = expr_rule e >>= λ a. pure (enclosed t a)
+  expr_rule (S.Paren t e) = expr_rule e
   expr_rule (S.Postfix e rest) = expr_rule e >>= λ a. postfixes_rule rest a
   expr_rule (S.Unary t P.Sizeof e) = uncounted (expr_rule e) >>= λ a. size_rule t a
-  expr_rule (S.Unary t P.Address e) = expr_rule e >>= λ a. address_rule t t a
-  expr_rule (S.Unary t P.Increment e) = expr_rule e >>= λ a. step_rule t t Q.IncrementBefore a
-  expr_rule (S.Unary t P.Decrement e) = expr_rule e >>= λ a. step_rule t t Q.DecrementBefore a
-  expr_rule (S.Unary t P.Dereference e) = expr_rule e >>= λ a. value_rule a >>= λ x. deref_rule t t x
-  expr_rule (S.Unary t op e) = expr_rule e >>= λ a. value_rule a >>= λ x. sign_rule t t op x
+  expr_rule (S.Unary t P.Address e) = expr_rule e >>= λ a. address_rule t a
+  expr_rule (S.Unary t P.Increment e) = expr_rule e >>= λ a. step_rule t Q.IncrementBefore a
+  expr_rule (S.Unary t P.Decrement e) = expr_rule e >>= λ a. step_rule t Q.DecrementBefore a
+  expr_rule (S.Unary t P.Dereference e) = expr_rule e >>= λ a. value_rule a >>= λ x. deref_rule t x
+  expr_rule (S.Unary t op e) = expr_rule e >>= λ a. value_rule a >>= λ x. sign_rule t op x
   expr_rule (S.SizeofType t specifiers d) =
       uncounted (
       specifiers_rule specifiers (first_of_declaration specifiers d) nothing_gathered >>= λ g.
@@ -92,36 +88,36 @@ unfoldable mutual
       expr_rule c >>= λ x. value_rule x >>= λ u.
       expr_rule a >>= λ y. value_rule y >>= λ v.
       expr_rule b >>= λ z. value_rule z >>= λ w.
-      conditional_rule x.first t u v w
+      conditional_rule t u v w
   expr_rule (S.Assign t op a b) =
       expr_rule a >>= λ x.
       expr_rule b >>= λ y. value_rule y >>= λ v.
-      assignment_rule x.first t op x v
+      assignment_rule t op x v
 
   pub postfixes_rule : Postfixes → Operand → Rule Operand
   postfixes_rule S.NoPostfix a = pure a
   postfixes_rule (S.Index t e rest) a =
       value_rule a >>= λ x.
       expr_rule e >>= λ b. value_rule b >>= λ y.
-      index_rule a.first t x y >>= λ c.
+      index_rule t x y >>= λ c.
       postfixes_rule rest c
   postfixes_rule (S.Call t args rest) a =
       value_rule a >>= λ x.
       arguments_rule args >>= λ es.
-      call_rule a.first t x es >>= λ c.
+      call_rule t x es >>= λ c.
       postfixes_rule rest c
   postfixes_rule (S.Select t Dot w rest) a =
-      dot_rule a.first t w a >>= λ c.
+      dot_rule t w a >>= λ c.
       postfixes_rule rest c
   postfixes_rule (S.Select t Arrow w rest) a =
       value_rule a >>= λ x.
-      arrow_rule a.first t w x >>= λ c.
+      arrow_rule t w x >>= λ c.
       postfixes_rule rest c
   postfixes_rule (S.Step t J.Increment rest) a =
-      step_rule a.first t Q.IncrementBehind a >>= λ c.
+      step_rule t Q.IncrementBehind a >>= λ c.
       postfixes_rule rest c
   postfixes_rule (S.Step t J.Decrement rest) a =
-      step_rule a.first t Q.DecrementBehind a >>= λ c.
+      step_rule t Q.DecrementBehind a >>= λ c.
       postfixes_rule rest c
 
   -- the values of the arguments
@@ -137,7 +133,7 @@ unfoldable mutual
   operations_rule (S.Operation t op e rest) a =
       value_rule a >>= λ x.
       expr_rule e >>= λ b. value_rule b >>= λ y.
-      operation_rule a.first t op x y >>= λ c.
+      operation_rule t op x y >>= λ c.
       operations_rule rest c
 
   -- what a list has, behind what was gathered of it; its first token stands for it
@@ -171,8 +167,8 @@ unfoldable mutual
   pub members_rule : Members → List MemberValue → Rule (List MemberValue)
   members_rule S.NoMember ms = pure ms
   members_rule (S.Member specifiers ds rest) ms =
-      specifiers_rule specifiers (unwrap_or (first_specifier specifiers) 0) nothing_gathered >>= λ g.
-      specified (unwrap_or (first_specifier specifiers) 0) g >>= λ b.
+      specifiers_rule specifiers (first_of_list specifiers) nothing_gathered >>= λ g.
+      specified (first_of_list specifiers) g >>= λ b.
       member_declarators_rule ds b ms >>= λ more.
       members_rule rest more
 
@@ -184,7 +180,7 @@ unfoldable mutual
       member_declarators_rule rest b more
   member_declarators_rule (S.BitField d t e rest) b ms =
       declarator_rule d >>= λ c.
-      refused NoBitField (first_of_declarator d)
+      refused NoBitField (unwrap_or (first_of_declarator d) t)
   member_declarators_rule (S.Padding t e rest) b ms = refused NoBitField t
 
   -- each has the value that it is given, or the one after the value before
@@ -195,7 +191,7 @@ unfoldable mutual
       enumerators_rule rest next
   enumerators_rule (S.ValuedEnumerator w e rest) value =
       expr_rule e >>= λ a. value_rule a >>= λ x.
-      enumerator_value a.first x >>= λ n.
+      enumerator_value (first_of_expr e) x >>= λ n.
       enumerator_rule w (Some n) >>= λ next.
       enumerators_rule rest next
 
@@ -214,7 +210,7 @@ unfoldable mutual
   suffixes_rule S.NoSuffix = pure (record { derivations = []; bindings = None })
   suffixes_rule (S.Array t e rest) =
       expr_rule e >>= λ a. value_rule a >>= λ x.
-      length_rule a.first x >>= λ n.
+      length_rule (first_of_expr e) x >>= λ n.
       suffixes_rule rest >>= λ c.
       pure (behind (ToArray (Some n)) c)
   suffixes_rule (S.OpenArray t rest) =
@@ -225,7 +221,7 @@ unfoldable mutual
       suffixes_rule rest >>= λ c.
       pure (behind_list bindings c)
   suffixes_rule (S.Variadic t parameters rest) = refused NoVariadic t
-  suffixes_rule (S.Identifiers t ws rest) = refused NoOldStyle (first_word ws)
+  suffixes_rule (S.Identifiers t ws rest) = refused NoOldStyle (first_of_words ws)
 
   -- the parameters, behind those before
   pub parameters_rule : Parameters → List ParameterValue → Rule (List ParameterValue)

@@ -3,6 +3,7 @@ use Rattle.std.specs.Prelude.{ℕ, ◌+◌, ◌-◌, ◌==◌, Bool, true, false
 use Rattle.std.specs.List.{list_any}
 use Rattle.std.specs.Option.{option_map_or}
 use Rattle.std.specs.Str.{bytes_eq}
+use Rattle.pw_tree.specs.FirstTokens.{first_of_expr, first_of_labels}
 use Rattle.pw_tree.specs.Trees.{Word, Expr, Stmt, Alternative, Block, Stmts, Label, Decl}
 use Rattle.pw_tree.specs.Trees as S
 use Rattle.pw_types.specs.declared.kind.IntKind.{IntKind}
@@ -131,7 +132,7 @@ unfoldable pub label_rule : Label → Rule ℕ
 label_rule (S.CaseLabel t e) =
     inside_switch t >>
     expr_rule e >>= λ a. value_rule a >>= λ x.
-    case_rule a.first x
+    case_rule (first_of_expr e) x
 label_rule (S.DefaultLabel t) = default_rule t
 label_rule (S.NameLabel w) = name_label_rule w
 
@@ -141,15 +142,6 @@ labels_rule (l ∷ rest) =
     label_rule l >>= λ n.
     labels_rule rest >>= λ ns.
     pure (n ∷ ns)
-
-abbrev pub label_token : Label → ℕ
-label_token (S.CaseLabel t e) = t
-label_token (S.DefaultLabel t) = t
-label_token (S.NameLabel w) = w.token
-
-abbrev pub first_label : List Label → ℕ
-first_label [] = 0
-first_label (l ∷ rest) = label_token l
 
 -- ---- parts of statements
 
@@ -256,12 +248,12 @@ arms_behind arms otherwise = record { arms = arms; otherwise = otherwise }
 unfoldable mutual
   pub stmt_rule : Stmt → Rule Statement
   stmt_rule (S.Compound b) = scoped (block_rule b)
-  stmt_rule (S.Expression e) = expr_rule e >>= λ a. value_rule a >>= λ x. pure (T.Evaluate a.first x)
+  stmt_rule (S.Expression e) = expr_rule e >>= λ a. value_rule a >>= λ x. pure (T.Evaluate (first_of_expr e) x)
   stmt_rule (S.Empty t) = pure (T.Empty t)
   stmt_rule (S.Labeled ls s) =
       labels_rule ls >>= λ ns.
       stmt_rule s >>= λ body.
-      pure (T.Label (first_label ls) ns body)
+      pure (T.Label (first_of_labels ls 0) ns body)
   stmt_rule (S.If t c s a) =
       condition_rule t c >>= λ x.
       stmt_rule s >>= λ body.
