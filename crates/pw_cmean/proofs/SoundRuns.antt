@@ -12,7 +12,8 @@ use Rattle.pw_cmean.specs.Worlds.{Program, World, Body, Defined, Library, full_n
 use Rattle.pw_cmean.specs.Acts.{Act, Site, Bound, give, ◌>>=◌, ◌>>◌}
 use Rattle.pw_cmean.specs.Operators.{number_for}
 use Rattle.pw_cmean.specs.Evaluation.{Env, Calls as CallList, Calling, answer_of, place_of, values_of}
-use Rattle.pw_cmean.specs.Execution.{Entry, Front, At_label, Flow, Normal, Breaks, Continues, Returns, Goes, go_forward, caught, taking_up, after_body, turn, loop, meet_loop, always, value_of, condition, for_condition, drop_value, switch_to, after_switch, labels_among, labels_behind, with_number, with_locals, set_local, initialise, initialise_all, meaning, items, arms, behind_arms}
+use Rattle.pw_types.specs.Labels.{labels_among, labels_behind}
+use Rattle.pw_cmean.specs.Execution.{Entry, Front, At_label, Flow, Normal, Breaks, Continues, Returns, Goes, go_forward, caught, taking_up, after_body, turn, loop, meet_loop, always, value_of, condition, for_condition, drop_value, switch_to, after_switch, with_number, with_locals, set_local, initialise, initialise_all, meaning, items, arms, behind_arms}
 use Rattle.pw_cmean.specs.SourceRun.{set_parameters, result_of, outermost, run_body, callee, calls}
 use Rattle.pw_cmean.specs.Typed.{IsPointer, IsValueOf, IsResultOf, CanUpdate, IsScalar, result_letter, IsLetterResult, IsFlowOf, IsTyped, AreTyped, IsTypedIfAny, AreTypedInitialisers, IsTypedStatement, AreTypedStatements, AreTypedArms, IsTypedElse, IsTypedBody, IsTypedProgram, IsByte}
 use Rattle.pw_cmean.proofs.SoundActs.{Sound, Any, bind-s, give-s, stop-s, branch-s, wrong-s, need-s, look-s, write-s, with_object-s, during-s, object-bytes}

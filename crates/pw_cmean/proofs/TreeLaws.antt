@@ -6,7 +6,8 @@ use Rattle.pw_types.specs.TypedTrees.{Expression, Node, Number, Str, Local, Glob
 use Rattle.pw_cmean.specs.Worlds.{World, Body, Defined, Library}
 use Rattle.pw_cmean.specs.Acts.{Act, Site, Bound, give, ◌>>=◌, ◌>>◌}
 use Rattle.pw_cmean.specs.Evaluation.{Env, Calls, used, answer_of, place_of, values_of}
-use Rattle.pw_cmean.specs.Execution.{Entry, Front, At_label, Flow, Normal, Breaks, Continues, Returns, Goes, go_forward, caught, taking_up, after_body, turn, loop, meet_loop, always, value_of, condition, for_condition, drop_value, switch_to, after_switch, labels_among, labels_behind, with_locals, set_local, initialise, initialise_all, meaning, items, arms, behind_arms}
+use Rattle.pw_types.specs.Labels.{labels_among, labels_behind}
+use Rattle.pw_cmean.specs.Execution.{Entry, Front, At_label, Flow, Normal, Breaks, Continues, Returns, Goes, go_forward, caught, taking_up, after_body, turn, loop, meet_loop, always, value_of, condition, for_condition, drop_value, switch_to, after_switch, with_locals, set_local, initialise, initialise_all, meaning, items, arms, behind_arms}
 use Rattle.pw_cmean.specs.SourceRun.{set_parameters, result_of, run_body, callee, calls, finish, run_main}
 use Rattle.pw_cmean.proofs.ActLaws.{Laws, bind-r, branch-r, wrong-r, undefined-r, need-r, within-r, put-r, truth-r, unary-r, advance-r, binary-r, local_place-r, symbol_place-r, used-r, value_at-r, cast-r, old_value-r, update-r, step-r, AreRelated, second-r, take_room-r, call-r, call_value-r}
 

@@ -6,6 +6,7 @@ use Rattle.pw_value.specs.declared.value.Value.TheVariants as V
 use Rattle.pw_value.specs.Objects.{object_at}
 use Rattle.pw_types.specs.TypeTrees.{type_of}
 use Rattle.pw_types.specs.TypedTrees.{Hidden, Expression, token_of, CaseValue, Initialiser, Value as ByValue, Bytes as ByBytes, Statement, Empty, Evaluate, Block, If, While, Do, For, Switch, Label, Goto, Break, Continue, Return, Arms, NoArm, Arm, Otherwise, NoElse, Else, Statements, NoStatement, OneStatement}
+use Rattle.pw_types.specs.Labels.{labels_in, labels_among, labels_of_arms, labels_behind}
 use Rattle.pw_cmean.specs.Acts.{Act, Site, Bound, ◌>>=◌, ◌>>◌, give, stop, branch, look, need, write, with_object}
 use Rattle.pw_cmean.specs.Access.{Initialising, within, put}
 use Rattle.pw_cmean.specs.Operators.{truth}
@@ -29,35 +30,6 @@ pub data Flow : Type 0 where
 
 abbrev pub holds : List ℕ → ℕ → Bool
 holds labels l = list_any (λ other. other == l) labels
-
--- the labels that stand in a statement, in the order of the text
-abbrev mutual
-  pub labels_in : Statement → List ℕ
-  labels_in (Empty t) = []
-  labels_in (Evaluate t a) = []
-  labels_in (Block t first count initialisers items) = labels_among items
-  labels_in (If t arms otherwise) = labels_of_arms arms ++ labels_behind otherwise
-  labels_in (While t c body) = labels_in body
-  labels_in (Do t body c) = labels_in body
-  labels_in (For t first c third body) = labels_in body
-  labels_in (Switch t a cases default body) = labels_in body
-  labels_in (Label t labels body) = labels ++ labels_in body
-  labels_in (Goto t l) = []
-  labels_in (Break t) = []
-  labels_in (Continue t) = []
-  labels_in (Return t a) = []
-
-  pub labels_among : Statements → List ℕ
-  labels_among NoStatement = []
-  labels_among (OneStatement s rest) = labels_in s ++ labels_among rest
-
-  pub labels_of_arms : Arms → List ℕ
-  labels_of_arms NoArm = []
-  labels_of_arms (Arm t c s rest) = labels_in s ++ labels_of_arms rest
-
-  pub labels_behind : Otherwise → List ℕ
-  labels_behind NoElse = []
-  labels_behind (Else s) = labels_in s
 
 -- Behind a part of a list or of an `if`: to a label that stands later in it a goto goes on, and costs
 -- nothing.
