@@ -1,20 +1,12 @@
-//! Tests of pw_scope: declarations, uses and scopes of a C text. What a name stands for is the size of the
-//! object.
+//! Declarations, uses and scopes of a C text. What a name stands for is the size of the object.
 
 use pw_scope::{
-<<<<<<<< HEAD:crates/pw_tests_front/src/scopes.rt
     Scopes, declared_is_visible, inner_hides_outer, leaving_restores, nothing_at_first, others_stay,
 };
 use std::alloc::{AllocError, Global};
 use std::test::Fail;
-========
-    NoMemory, Scopes, declared_is_visible, inner_hides_outer, leaving_restores, nothing_at_first,
-    others_stay,
-};
-use std::alloc::Global;
->>>>>>>> cf4fc30c3760ddbbafaaa896898e355d4767990a:crates/pw_tests_base/src/scopes.rt
 
-#[derive(Clone, Copy)]
+#[derive(Clone, Copy, Debug)]
 enum Step {
     /// `char NAME[SIZE];`, or with no size `extern char NAME[];`
     Declare(&'static [u8], Option<u32>),
@@ -86,7 +78,6 @@ const STEPS: [Step; 50] = [
     Use(b"f", None),
 ];
 
-<<<<<<<< HEAD:crates/pw_tests_front/src/scopes.rt
 /// Takes a step, and says whether the names are as it says.
 fn take(
     scopes: &mut Scopes<'static, Option<u32>>,
@@ -113,33 +104,6 @@ fn names_stand_for_their_last_declaration(rt: HostRuntime) -> Result<(), Fail> {
         assert!(rt; holds, "at {step:?}");
     }
     Ok(())
-========
-/// How many of the steps find what they should, and what is left when all scopes are closed.
-fn found(alloc: Global) -> Result<(u32, bool), NoMemory> {
-    let mut scopes: Scopes<Option<u32>> = Scopes::new(alloc);
-    let mut starts = Vec::new(alloc);
-    let mut count = 0u32;
-    for step in STEPS {
-        match step {
-            Declare(name, size) => scopes.declare(name, size)?,
-            Use(name, size) => count = count.saturating_add(u32::from(
-                scopes.visible(name) == size,
-            )),
-            Enter => starts.push(scopes.len())?,
-            Leave => scopes.leave(starts.pop().unwrap_or(0)),
-        }
-    }
-    Ok((count, is_left(&mut scopes)))
-}
-
-/// Whether two names are left, a longer log is no fault, and the empty log has none.
-fn is_left(scopes: &mut Scopes<Option<u32>>) -> bool {
-    let two = scopes.len() == 2;
-    scopes.leave(3);
-    let stays = scopes.visible(b"f") == Some(Some(2));
-    scopes.leave(0);
-    two && stays && scopes.is_empty() && scopes.visible(b"f").is_none()
->>>>>>>> cf4fc30c3760ddbbafaaa896898e355d4767990a:crates/pw_tests_base/src/scopes.rt
 }
 
 /// What `T` and `t` stand for at other places of a text than where it declares them.
@@ -154,7 +118,6 @@ fn typedefs(
 }
 
 #[test]
-<<<<<<<< HEAD:crates/pw_tests_front/src/scopes.rt
 fn names_are_bytes_and_no_places(rt: HostRuntime) -> Result<(), Fail> {
     let told = typedefs(rt.alloc(), b"typedef int T; T t;")?;
     assert!(rt; told == (Some(true), Some(false)));
@@ -163,24 +126,6 @@ fn names_are_bytes_and_no_places(rt: HostRuntime) -> Result<(), Fail> {
 
 #[test]
 fn laws() {
-========
-fn names_stand_for_their_last_declaration(rt: HostRuntime) {
-    assert_eq!(rt; found(rt.alloc()), Ok((24, true)));
-}
-
-/// What two names stand for that are read at several places of a text.
-fn typedefs(alloc: Global) -> Result<(Option<bool>, Option<bool>), NoMemory> {
-    let text = b"typedef int T; T t;";
-    let mut typedefs = Scopes::new(alloc);
-    typedefs.declare(&text[12..13], true)?;
-    typedefs.declare(&text[17..18], false)?;
-    Ok((typedefs.visible(&text[15..16]), typedefs.visible(b"t")))
-}
-
-#[test]
-fn names_are_bytes_and_no_places(rt: HostRuntime) {
-    assert_eq!(rt; typedefs(rt.alloc()), Ok((Some(true), Some(false))));
->>>>>>>> cf4fc30c3760ddbbafaaa896898e355d4767990a:crates/pw_tests_base/src/scopes.rt
     nothing_at_first::<bool>();
     declared_is_visible::<bool>();
     others_stay::<bool>();
