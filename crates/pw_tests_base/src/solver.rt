@@ -357,9 +357,9 @@ fn sets_of_numbers(rt: HostRuntime) -> Result<(), Fail> {
 /// Whether the set of all 70 numbers has them, and is as it should be against one of three.
 fn is_full(alloc: Global) -> Result<bool, NoMemory> {
     let mut some = BitRow::new(alloc, 70)?;
-    for i in [1usize, 64, 69] {
-        some.insert(i);
-    }
+    some.insert(1);
+    some.insert(64);
+    some.insert(69);
     let all = BitRow::full(alloc, 70)?;
     let before: Vec<usize> = all.iter().collect(alloc)?;
     Ok(before.len() == 70 && is_part(&some, all))
