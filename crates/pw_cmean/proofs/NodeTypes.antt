@@ -1,12 +1,9 @@
 -- Trees whose nodes have the types that C gives them, as far as values rest on it: what follows from well-typed
 -- modules, in the form in which an induction over the trees goes through.
-use Rattle.std.specs.Prelude.{ℕ, ◌≡◌, ◌<◌, Option, Some, None, List, [], ◌∷◌, All}
-use Rattle.pw_value.specs.declared.value.Value.{Value}
+use Rattle.std.specs.Prelude.{ℕ, ◌≡◌, Option, Some, None, List, [], ◌∷◌, All}
 use Rattle.pw_value.specs.declared.value.Value.TheVariants as V
-use Rattle.pw_value.specs.declared.value.Byte.{Byte}
-use Rattle.pw_value.specs.declared.value.Byte.TheVariants as B
 use Rattle.pw_types.specs.TypeTrees.{CType, Void, Int, Pointer, Function as FunctionType, Qualified, type_of}
-use Rattle.pw_types.specs.Conversions.{size_of_kind, promoted, converted}
+use Rattle.pw_types.specs.Conversions.{promoted}
 use Rattle.pw_types.specs.Shapes.{letter_of}
 use Rattle.pw_types.specs.declared.kind.IntKind.{IntKind}
 use Rattle.pw_types.specs.declared.kind.IntKind.TheVariants as K

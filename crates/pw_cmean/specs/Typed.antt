@@ -1,6 +1,6 @@
 -- Values of a type (ISO C90 6.1.2.5), programs whose modules are well typed and agree on functions, and states
 -- whose objects hold bytes.
-use Rattle.std.specs.Prelude.{ℕ, ◌≡◌, ◌<◌, Option, Some, None, List, [], ◌∷◌, All, Contains}
+use Rattle.std.specs.Prelude.{ℕ, ◌≡◌, ◌<◌, Option, Some, None, List, ◌∷◌, All, Contains}
 use Rattle.pw_value.specs.declared.value.Value.{Value}
 use Rattle.pw_value.specs.declared.value.Value.TheVariants as V
 use Rattle.pw_value.specs.declared.value.Byte.{Byte}
