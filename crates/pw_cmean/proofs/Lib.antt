@@ -4,6 +4,8 @@ pub mod TreeLaws
 pub mod Keeping
 pub mod Bounding
 pub mod RunLaws
+pub mod NodeTypes
+pub mod Judged
 pub mod ValueLaws
 pub mod WordLaws
 pub mod SoundActs

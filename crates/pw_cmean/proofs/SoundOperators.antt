@@ -26,7 +26,9 @@ use Rattle.pw_cmean.specs.Undefined.{◌when◌}
 use Rattle.pw_cmean.specs.Acts.{Act, Outcome, Gives, Ends, Site}
 use Rattle.pw_cmean.specs.Access.{Purpose, within, width_of, value_in, reading, is_inside, load, store, copy, fetch, put}
 use Rattle.pw_cmean.specs.Operators.{truth, number_for, outcome_of, on_numbers, unary_number, unary, further, kept_in, moved, advance, advance_elements, difference, ordered, compared, on_pointers, pointer_and_number, number_and_pointer, binary, as_pointer, convert, is_piece, arithmetic, distance, offset_of}
-use Rattle.pw_cmean.specs.Typed.{IsNumberOf, IsPointer, IsValueOf, IsScalar, IsPointerType, IsPromoted, kind_given, BinaryGives, IfGives}
+use Rattle.pw_cmean.specs.Typed.{IsNumberOf, IsPointer, IsValueOf, IfGives}
+use Rattle.pw_types.specs.WellTyped.{IsScalar, IsPromoted}
+use Rattle.pw_cmean.proofs.NodeTypes.{IsPointerType, kind_given, BinaryGives}
 use Rattle.pw_cmean.proofs.ValueLaws.{scalar-of, pointer-of, encoding-are, converted-of, below-word, word-of}
 use Rattle.pw_cmean.proofs.WordLaws.{GivesWord, arithmetic-word, negation-word, exact-word, number_for-word}
 use Rattle.pw_cmean.proofs.SoundActs.{Sound, Any, bind-s, give-s, wrong-s, need-s, undefined-s, NoneHold, judge-s, HoldBytes, object-bytes, bytes_from-are, objects_now-s, write-s}

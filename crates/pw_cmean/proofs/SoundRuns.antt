@@ -5,6 +5,7 @@ use Rattle.pw_value.specs.declared.value.Value.{Value}
 use Rattle.pw_value.specs.declared.value.Value.TheVariants as V
 use Rattle.pw_value.specs.Objects.{object_at}
 use Rattle.pw_types.specs.TypeTrees.{CType, Int, type_of}
+use Rattle.pw_types.specs.Shapes.{letter_of}
 use Rattle.pw_types.specs.declared.kind.IntKind.TheVariants as K
 use Rattle.pw_types.specs.declared.tree.UnaryOperator.TheVariants.{Plus, Minus, Complement, Not}
 use Rattle.pw_types.specs.TypedTrees.{Expression, Node, Number, Str, Local, Global, Function, Unary, Binary, Logic, Cond, Comma, Assign, Compound, Step, Cast, Decay, Member, Deref, Address, Call, CallValue, Expressions, NoExpression, OneExpression, type_at, Initialiser, Value as ByValue, Bytes as ByBytes, Statement, Empty, Evaluate, Block, If, While, Do, For, Switch, Label, Goto, Break, Continue, Return, Arms, NoArm, Arm, Otherwise, NoElse, Else, Statements, NoStatement, OneStatement}
@@ -15,7 +16,9 @@ use Rattle.pw_cmean.specs.Evaluation.{Env, Calls as CallList, Calling, answer_of
 use Rattle.pw_types.specs.Labels.{labels_among, labels_behind}
 use Rattle.pw_cmean.specs.Execution.{Entry, Front, At_label, Flow, Normal, Breaks, Continues, Returns, Goes, go_forward, caught, taking_up, after_body, turn, loop, meet_loop, always, value_of, condition, for_condition, drop_value, switch_to, after_switch, with_number, with_locals, set_local, initialise, initialise_all, meaning, items, arms, behind_arms}
 use Rattle.pw_cmean.specs.SourceRun.{set_parameters, result_of, outermost, run_body, callee, calls}
-use Rattle.pw_cmean.specs.Typed.{IsPointer, IsValueOf, IsResultOf, CanUpdate, IsScalar, result_letter, IsLetterResult, IsFlowOf, IsTyped, AreTyped, IsTypedIfAny, AreTypedInitialisers, IsTypedStatement, AreTypedStatements, AreTypedArms, IsTypedElse, IsTypedBody, IsTypedProgram, IsByte}
+use Rattle.pw_cmean.specs.Typed.{IsPointer, IsValueOf, IsResultOf, result_letter, IsLetterResult, IsByte, IsFlowOf}
+use Rattle.pw_types.specs.WellTyped.{IsScalar}
+use Rattle.pw_cmean.proofs.NodeTypes.{CanUpdate, IsTyped, AreTyped, IsTypedIfAny, AreTypedInitialisers, IsTypedStatement, AreTypedStatements, AreTypedArms, IsTypedElse, IsTypedBody, IsTypedProgram}
 use Rattle.pw_cmean.proofs.SoundActs.{Sound, Any, bind-s, give-s, stop-s, branch-s, wrong-s, need-s, look-s, write-s, with_object-s, during-s, object-bytes}
 use Rattle.pw_cmean.proofs.SoundOperators.{weaker, truth-s, truth-number, unary-s, not-s, binary-s, advance-s, small-value, put-s, pointer-value, within-s}
 use Rattle.pw_cmean.proofs.SoundTrees.{IsFine, take_room-s, named-typed, letter-result, call-s, call_value-s, operand-s, symbol_place-s, local_place-s, value_at-s, cast-s, old_value-s, update-s, step-s, assigned-of, pointer-from}
@@ -113,6 +116,11 @@ mutual
 
 -- ---- statements
 
+-- what comes of a statement of a function whose result has a letter
+abbrev pub IsFlow : ℕ → Flow → Type 0
+IsFlow letter (Returns r) = IsLetterResult letter r
+IsFlow letter _ = Unit {0}
+
 value-s : (a : Expression) (cs : CallList) (e : Env) → IsTyped e.world.program e.home.name a → IsFine e.world.program cs → Sound (IsValueOf (type_of (type_at a))) (value_of a cs e)
 unfolding value_of
 value-s a cs e w h = operand-s _ (type_of (type_at a)) (answer-s a cs e w h)
@@ -135,79 +143,79 @@ always-s : (cs : CallList) → Sound Any (always cs)
 unfolding always
 always-s cs = give-s Any true tt
 
-go_forward-s : (letter : ℕ) (labels : List ℕ) {later : Entry → Act Flow} {next : Act Flow} (flow : Flow) → IsFlowOf letter flow
-    → ((at : Entry) → Sound (IsFlowOf letter) (later at)) → Sound (IsFlowOf letter) next → Sound (IsFlowOf letter) (go_forward labels later next flow)
+go_forward-s : (letter : ℕ) (labels : List ℕ) {later : Entry → Act Flow} {next : Act Flow} (flow : Flow) → IsFlow letter flow
+    → ((at : Entry) → Sound (IsFlow letter) (later at)) → Sound (IsFlow letter) next → Sound (IsFlow letter) (go_forward labels later next flow)
 unfolding go_forward
 go_forward-s letter labels Normal f p q = q
-go_forward-s letter labels Breaks f p q = give-s (IsFlowOf letter) Breaks tt
-go_forward-s letter labels Continues f p q = give-s (IsFlowOf letter) Continues tt
-go_forward-s letter labels (Returns r) f p q = give-s (IsFlowOf letter) (Returns r) f
-go_forward-s letter labels (Goes l) f p q = branch-s _ (p (At_label l)) (give-s (IsFlowOf letter) (Goes l) tt)
+go_forward-s letter labels Breaks f p q = give-s (IsFlow letter) Breaks tt
+go_forward-s letter labels Continues f p q = give-s (IsFlow letter) Continues tt
+go_forward-s letter labels (Returns r) f p q = give-s (IsFlow letter) (Returns r) f
+go_forward-s letter labels (Goes l) f p q = branch-s _ (p (At_label l)) (give-s (IsFlow letter) (Goes l) tt)
 
-caught-s : (letter : ℕ) (labels : List ℕ) {again : ℕ → Act Flow} (flow : Flow) → IsFlowOf letter flow → ((l : ℕ) → Sound (IsFlowOf letter) (again l))
-    → Sound (IsFlowOf letter) (caught labels again flow)
+caught-s : (letter : ℕ) (labels : List ℕ) {again : ℕ → Act Flow} (flow : Flow) → IsFlow letter flow → ((l : ℕ) → Sound (IsFlow letter) (again l))
+    → Sound (IsFlow letter) (caught labels again flow)
 unfolding caught
-caught-s letter labels Normal f p = give-s (IsFlowOf letter) Normal tt
-caught-s letter labels Breaks f p = give-s (IsFlowOf letter) Breaks tt
-caught-s letter labels Continues f p = give-s (IsFlowOf letter) Continues tt
-caught-s letter labels (Returns r) f p = give-s (IsFlowOf letter) (Returns r) f
-caught-s letter labels (Goes l) f p = branch-s _ (p l) (give-s (IsFlowOf letter) (Goes l) tt)
+caught-s letter labels Normal f p = give-s (IsFlow letter) Normal tt
+caught-s letter labels Breaks f p = give-s (IsFlow letter) Breaks tt
+caught-s letter labels Continues f p = give-s (IsFlow letter) Continues tt
+caught-s letter labels (Returns r) f p = give-s (IsFlow letter) (Returns r) f
+caught-s letter labels (Goes l) f p = branch-s _ (p l) (give-s (IsFlow letter) (Goes l) tt)
 
 -- a lower bound
 lower-fine : (p : Program) (c : Calling) (cs : CallList) → IsFine p (c ∷ cs) → IsFine p cs
 lower-fine p c cs h = record { program = h.program; calls = h.calls.1 }
 
 taking_up-s : (p : Program) (letter : ℕ) (labels : List ℕ) (run : Entry → CallList → Act Flow) (at : Entry) (cs : CallList) → IsFine p cs
-    → ((at : Entry) (cs : CallList) → IsFine p cs → Sound (IsFlowOf letter) (run at cs)) → Sound (IsFlowOf letter) (taking_up labels run at cs)
+    → ((at : Entry) (cs : CallList) → IsFine p cs → Sound (IsFlow letter) (run at cs)) → Sound (IsFlow letter) (taking_up labels run at cs)
 unfolding taking_up
-taking_up-s p letter labels run at [] h r = bind-s (r at [] h) λ f i. caught-s letter labels f i λ l. stop-s (IsFlowOf letter) Bound
+taking_up-s p letter labels run at [] h r = bind-s (r at [] h) λ f i. caught-s letter labels f i λ l. stop-s (IsFlow letter) Bound
 taking_up-s p letter labels run at (c ∷ cs) h r =
     bind-s (r at (c ∷ cs) h) λ f i. caught-s letter labels f i λ l. taking_up-s p letter labels run (At_label l) cs (lower-fine p c cs h) r
 
-after_body-s : (letter : ℕ) {again : Act Flow} (flow : Flow) → IsFlowOf letter flow → Sound (IsFlowOf letter) again → Sound (IsFlowOf letter) (after_body again flow)
+after_body-s : (letter : ℕ) {again : Act Flow} (flow : Flow) → IsFlow letter flow → Sound (IsFlow letter) again → Sound (IsFlow letter) (after_body again flow)
 unfolding after_body
 after_body-s letter Normal f p = p
 after_body-s letter Continues f p = p
-after_body-s letter Breaks f p = give-s (IsFlowOf letter) Normal tt
-after_body-s letter (Returns r) f p = give-s (IsFlowOf letter) (Returns r) f
-after_body-s letter (Goes l) f p = give-s (IsFlowOf letter) (Goes l) tt
+after_body-s letter Breaks f p = give-s (IsFlow letter) Normal tt
+after_body-s letter (Returns r) f p = give-s (IsFlow letter) (Returns r) f
+after_body-s letter (Goes l) f p = give-s (IsFlow letter) (Goes l) tt
 
 record SoundParts (p : Program) (letter : ℕ) (ahead : CallList → Act Bool) (body : Entry → CallList → Act Flow) (behind : CallList → Act Bool) : Type 0 where
   test : (cs : CallList) → IsFine p cs → Sound Any (ahead cs)
-  middle : (at : Entry) (cs : CallList) → IsFine p cs → Sound (IsFlowOf letter) (body at cs)
+  middle : (at : Entry) (cs : CallList) → IsFine p cs → Sound (IsFlow letter) (body at cs)
   last : (cs : CallList) → IsFine p cs → Sound Any (behind cs)
 
 turn-s : (p : Program) (letter : ℕ) (ahead : CallList → Act Bool) (body : Entry → CallList → Act Flow) (behind : CallList → Act Bool) → SoundParts p letter ahead body behind
-    → (at : Entry) (cs : CallList) → IsFine p cs → {top : Act Flow} → Sound (IsFlowOf letter) top → Sound (IsFlowOf letter) (turn body behind at cs top)
+    → (at : Entry) (cs : CallList) → IsFine p cs → {top : Act Flow} → Sound (IsFlow letter) top → Sound (IsFlow letter) (turn body behind at cs top)
 unfolding turn
 turn-s p letter ahead body behind parts at cs h q =
-    bind-s (parts.middle at cs h) λ f i. after_body-s letter f i (bind-s (parts.last cs h) λ more u. branch-s more q (give-s (IsFlowOf letter) Normal tt))
+    bind-s (parts.middle at cs h) λ f i. after_body-s letter f i (bind-s (parts.last cs h) λ more u. branch-s more q (give-s (IsFlow letter) Normal tt))
 
 loop-s : (p : Program) (letter : ℕ) (ahead : CallList → Act Bool) (body : Entry → CallList → Act Flow) (behind : CallList → Act Bool) → SoundParts p letter ahead body behind
-    → (cs : CallList) → IsFine p cs → Sound (IsFlowOf letter) (loop ahead body behind cs)
+    → (cs : CallList) → IsFine p cs → Sound (IsFlow letter) (loop ahead body behind cs)
 unfolding loop
 loop-s p letter ahead body behind parts [] h =
-    bind-s (parts.test [] h) λ more u. branch-s more (turn-s p letter ahead body behind parts Front [] h (stop-s (IsFlowOf letter) Bound)) (give-s (IsFlowOf letter) Normal tt)
+    bind-s (parts.test [] h) λ more u. branch-s more (turn-s p letter ahead body behind parts Front [] h (stop-s (IsFlow letter) Bound)) (give-s (IsFlow letter) Normal tt)
 loop-s p letter ahead body behind parts (c ∷ cs) h =
     bind-s (parts.test (c ∷ cs) h) λ more u.
-    branch-s more (turn-s p letter ahead body behind parts Front (c ∷ cs) h (loop-s p letter ahead body behind parts cs (lower-fine p c cs h))) (give-s (IsFlowOf letter) Normal tt)
+    branch-s more (turn-s p letter ahead body behind parts Front (c ∷ cs) h (loop-s p letter ahead body behind parts cs (lower-fine p c cs h))) (give-s (IsFlow letter) Normal tt)
 
 meet_loop-s : (p : Program) (letter : ℕ) (ahead : CallList → Act Bool) (body : Entry → CallList → Act Flow) (behind : CallList → Act Bool) → SoundParts p letter ahead body behind
-    → (at : Entry) (cs : CallList) → IsFine p cs → Sound (IsFlowOf letter) (meet_loop ahead body behind at cs)
+    → (at : Entry) (cs : CallList) → IsFine p cs → Sound (IsFlow letter) (meet_loop ahead body behind at cs)
 unfolding meet_loop
 meet_loop-s p letter ahead body behind parts Front cs h = loop-s p letter ahead body behind parts cs h
-meet_loop-s p letter ahead body behind parts (At_label l) [] h = turn-s p letter ahead body behind parts (At_label l) [] h (stop-s (IsFlowOf letter) Bound)
+meet_loop-s p letter ahead body behind parts (At_label l) [] h = turn-s p letter ahead body behind parts (At_label l) [] h (stop-s (IsFlow letter) Bound)
 meet_loop-s p letter ahead body behind parts (At_label l) (c ∷ cs) h =
     turn-s p letter ahead body behind parts (At_label l) (c ∷ cs) h (loop-s p letter ahead body behind parts cs (lower-fine p c cs h))
 
-after_switch-s : (letter : ℕ) (flow : Flow) → IsFlowOf letter flow → Sound (IsFlowOf letter) (after_switch flow)
+after_switch-s : (letter : ℕ) (flow : Flow) → IsFlow letter flow → Sound (IsFlow letter) (after_switch flow)
 unfolding after_switch
-after_switch-s letter Breaks f = give-s (IsFlowOf letter) Normal tt
-after_switch-s letter flow f = give-s (IsFlowOf letter) flow f
+after_switch-s letter Breaks f = give-s (IsFlow letter) Normal tt
+after_switch-s letter flow f = give-s (IsFlow letter) flow f
 
-switch_to-s : (letter : ℕ) (o : Option ℕ) {body : ℕ → Act Flow} → ((l : ℕ) → Sound (IsFlowOf letter) (body l)) → Sound (IsFlowOf letter) (switch_to o body)
+switch_to-s : (letter : ℕ) (o : Option ℕ) {body : ℕ → Act Flow} → ((l : ℕ) → Sound (IsFlow letter) (body l)) → Sound (IsFlow letter) (switch_to o body)
 unfolding switch_to
-switch_to-s letter None p = give-s (IsFlowOf letter) Normal tt
+switch_to-s letter None p = give-s (IsFlow letter) Normal tt
 switch_to-s letter (Some l) p = bind-s (p l) λ f i. after_switch-s letter f i
 
 -- in an environment where other locals have objects
@@ -243,9 +251,9 @@ mutual
   unfolding meaning items arms behind_arms
 
   pub meaning-s : (s : Statement) (letter : ℕ) (at : Entry) (cs : CallList) (e : Env) → IsTypedStatement e.world.program e.home.name letter s → IsFine e.world.program cs
-      → Sound (IsFlowOf letter) (meaning s at cs e)
-  meaning-s (Empty t) letter at cs e w h = give-s (IsFlowOf letter) Normal tt
-  meaning-s (Evaluate t a) letter at cs e w h = bind-s (answer-s a cs e w h) λ o i. give-s (IsFlowOf letter) Normal tt
+      → Sound (IsFlow letter) (meaning s at cs e)
+  meaning-s (Empty t) letter at cs e w h = give-s (IsFlow letter) Normal tt
+  meaning-s (Evaluate t a) letter at cs e w h = bind-s (answer-s a cs e w h) λ o i. give-s (IsFlow letter) Normal tt
   meaning-s (Block t first count initialisers list) letter at cs e w h =
       with_locals-s count first _ e λ numbers.
       bind-s (initialise_all-s initialisers at cs (record e { numbers = numbers }) w.0 h) λ u x.
@@ -285,16 +293,16 @@ mutual
       bind-s (meaning-s body letter (At_label l) cs e w.1 h) λ f i. after_switch-s letter f i
   meaning-s (Label t labels body) letter at cs e w h =
       taking_up-s e.world.program letter labels _ at cs h λ at' ds k. meaning-s body letter _ ds e w k
-  meaning-s (Goto t l) letter at cs e w h = give-s (IsFlowOf letter) (Goes l) tt
-  meaning-s (Break t) letter at cs e w h = give-s (IsFlowOf letter) Breaks tt
-  meaning-s (Continue t) letter at cs e w h = give-s (IsFlowOf letter) Continues tt
-  meaning-s (Return t None) letter at cs e w h = give-s (IsFlowOf letter) (Returns None) tt
+  meaning-s (Goto t l) letter at cs e w h = give-s (IsFlow letter) (Goes l) tt
+  meaning-s (Break t) letter at cs e w h = give-s (IsFlow letter) Breaks tt
+  meaning-s (Continue t) letter at cs e w h = give-s (IsFlow letter) Continues tt
+  meaning-s (Return t None) letter at cs e w h = give-s (IsFlow letter) (Returns None) tt
   meaning-s (Return t (Some a)) letter at cs e w h =
-      bind-s (value-s a cs e w.0 h) λ v i. give-s (IsFlowOf letter) (Returns (Some v)) (type_of (type_at a), w.1, i)
+      bind-s (value-s a cs e w.0 h) λ v i. give-s (IsFlow letter) (Returns (Some v)) (type_of (type_at a), w.1, i)
 
   pub items-s : (ss : Statements) (letter : ℕ) (at : Entry) (cs : CallList) (e : Env) → AreTypedStatements e.world.program e.home.name letter ss → IsFine e.world.program cs
-      → Sound (IsFlowOf letter) (items ss at cs e)
-  items-s NoStatement letter at cs e w h = give-s (IsFlowOf letter) Normal tt
+      → Sound (IsFlow letter) (items ss at cs e)
+  items-s NoStatement letter at cs e w h = give-s (IsFlow letter) Normal tt
   items-s (OneStatement s rest) letter Front cs e w h =
       bind-s (meaning-s s letter Front cs e w.0 h) λ f i. go_forward-s letter _ f i (λ at'. items-s rest letter at' cs e w.1 h) (items-s rest letter Front cs e w.1 h)
   items-s (OneStatement s rest) letter (At_label l) cs e w h = branch-s _
@@ -302,19 +310,19 @@ mutual
       (items-s rest letter (At_label l) cs e w.1 h)
 
   pub arms-s : (list : Arms) (letter : ℕ) (labels : List ℕ) {last : Entry → Act Flow} (at : Entry) (cs : CallList) (e : Env) → AreTypedArms e.world.program e.home.name letter list
-      → IsFine e.world.program cs → ((at : Entry) → Sound (IsFlowOf letter) (last at)) → Sound (IsFlowOf letter) (arms list labels last at cs e)
+      → IsFine e.world.program cs → ((at : Entry) → Sound (IsFlow letter) (last at)) → Sound (IsFlow letter) (arms list labels last at cs e)
   arms-s NoArm letter labels at cs e w h p = p at
   arms-s (Arm t c s rest) letter labels Front cs e w h p =
       bind-s (condition-s c cs e w.0 h) λ x u. branch-s x
-      (bind-s (meaning-s s letter Front cs e w.1 h) λ f i. go_forward-s letter _ f i (λ at'. arms-s rest letter labels at' cs e w.2 h p) (give-s (IsFlowOf letter) Normal tt))
+      (bind-s (meaning-s s letter Front cs e w.1 h) λ f i. go_forward-s letter _ f i (λ at'. arms-s rest letter labels at' cs e w.2 h p) (give-s (IsFlow letter) Normal tt))
       (arms-s rest letter labels Front cs e w.2 h p)
   arms-s (Arm t c s rest) letter labels (At_label l) cs e w h p = branch-s _
-      (bind-s (meaning-s s letter (At_label l) cs e w.1 h) λ f i. go_forward-s letter _ f i (λ at'. arms-s rest letter labels at' cs e w.2 h p) (give-s (IsFlowOf letter) Normal tt))
+      (bind-s (meaning-s s letter (At_label l) cs e w.1 h) λ f i. go_forward-s letter _ f i (λ at'. arms-s rest letter labels at' cs e w.2 h p) (give-s (IsFlow letter) Normal tt))
       (arms-s rest letter labels (At_label l) cs e w.2 h p)
 
   pub behind_arms-s : (o : Otherwise) (letter : ℕ) (at : Entry) (cs : CallList) (e : Env) → IsTypedElse e.world.program e.home.name letter o → IsFine e.world.program cs
-      → Sound (IsFlowOf letter) (behind_arms o at cs e)
-  behind_arms-s NoElse letter at cs e w h = give-s (IsFlowOf letter) Normal tt
+      → Sound (IsFlow letter) (behind_arms o at cs e)
+  behind_arms-s NoElse letter at cs e w h = give-s (IsFlow letter) Normal tt
   behind_arms-s (Else s) letter at cs e w h = meaning-s s letter at cs e w h
 
 -- ---- calls
@@ -324,7 +332,7 @@ unfolding set_parameters
 set_parameters-s a k [] e = give-s Any tt tt
 set_parameters-s a k (v ∷ vs) e = bind-s (set_local-s a k v e) λ u x. set_parameters-s a (suc k) vs e
 
-result_of-s : (letter : ℕ) (f : Flow) → IsFlowOf letter f → Sound (IsLetterResult letter) (result_of f)
+result_of-s : (letter : ℕ) (f : Flow) → IsFlow letter f → Sound (IsLetterResult letter) (result_of f)
 unfolding result_of
 result_of-s letter Normal h = give-s (IsLetterResult letter) None tt
 result_of-s letter (Returns r) h = give-s (IsLetterResult letter) r h
@@ -347,3 +355,11 @@ calls-s w zero h = record { program = h; calls = tt }
 calls-s w (suc n) h =
     let lower : IsFine w.program (calls w n) = calls-s w n h in
     record { program = h; calls = ((λ f args t. run_body-s w (calls w n) f.name f.shape f.body args t lower), lower.calls) }
+
+-- what comes of a statement, by the type with the letter
+pub flow-of : (letter : ℕ) (ty : CType) (flow : Flow) → letter_of ty ≡ letter → IsFlow letter flow → IsFlowOf ty flow
+flow-of letter ty (Returns r) e h = letter-result letter ty r e h
+flow-of letter ty Normal e h = tt
+flow-of letter ty Breaks e h = tt
+flow-of letter ty Continues e h = tt
+flow-of letter ty (Goes l) e h = tt

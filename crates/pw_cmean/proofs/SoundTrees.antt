@@ -25,7 +25,9 @@ use Rattle.pw_cmean.specs.Acts.{Act, Site, StackFull, Bound, give, ◌>>=◌}
 use Rattle.pw_cmean.specs.Access.{fetch, load}
 use Rattle.pw_cmean.specs.Operators.{binary, convert}
 use Rattle.pw_cmean.specs.Evaluation.{Env, Calls as CallList, records_of, local_place, symbol_place, used, value_by, value_at, cast, bounded_call, take_room, library_call, call_body, call, callee_of, pointed, call_value, assigned, old_value, update, step_type, step_operator, step_result, step}
-use Rattle.pw_cmean.specs.Typed.{IsNumberOf, IsPointer, IsValueOf, IsResultOf, IsScalar, IsPointerType, CanUpdate, CanCast, Calls, IsLetterResult, result_letter, library_letter, IsTypedBody, IsTypedCallable, IsTypedProgram}
+use Rattle.pw_cmean.specs.Typed.{IsNumberOf, IsPointer, IsValueOf, IsResultOf, IsLetterResult, result_letter}
+use Rattle.pw_types.specs.WellTyped.{IsScalar}
+use Rattle.pw_cmean.proofs.NodeTypes.{IsPointerType, CanUpdate, CanCast, Calls, library_letter, IsTypedBody, IsTypedCallable, IsTypedProgram}
 use Rattle.pw_cmean.proofs.ValueLaws.{word-of}
 use Rattle.pw_cmean.proofs.SoundActs.{Sound, Any, bind-s, give-s, stop-s, branch-s, wrong-s, need-s, undefined-s, judge-s, look-s, get_char-s, put_char-s}
 use Rattle.pw_cmean.proofs.SoundOperators.{weaker, load-s, put-s, fetch-s, IsWord, IsSmall, small-value, pointer_and_number-s, on_numbers-s, IsInteger, Converts, convert-s}

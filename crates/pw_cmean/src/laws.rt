@@ -1,17 +1,19 @@
 //! Laws of the meaning that the layers above build on: functions that do nothing, and whose contracts state
 //! them.
 
-ghost use Rattle.std.specs.Prelude.{◌≡◌, ◌≢◌, ◌≤◌, ℕ, List};
+ghost use Rattle.std.specs.Prelude.{◌≡◌, ◌≢◌, ◌≤◌, ℕ, Bool, List, Some, Contains};
 ghost use Rattle.pw_value.specs.declared.value.Value.{Value};
-ghost use Rattle.pw_types.specs.TypeTrees.{type_of};
-ghost use Rattle.pw_types.specs.TypedTrees.{Expression, Statement, type_at};
-ghost use Rattle.pw_cmean.specs.Worlds.{Program, World, Callable};
+ghost use Rattle.pw_types.specs.TypeTrees.{QType, QTypes, Function, type_of};
+ghost use Rattle.pw_types.specs.TypedTrees.{Expression, Statement, FunctionValue};
+ghost use Rattle.pw_types.specs.WellTyped.{type_in, IsTyped};
+ghost use Rattle.pw_types.specs.TypedModules.{IsStatement};
+ghost use Rattle.pw_cmean.specs.Worlds.{Program, World, Callable, function_named};
 ghost use Rattle.pw_cmean.specs.Acts.{State, Bound};
 ghost use Rattle.pw_cmean.specs.Evaluation.{Env, answer_of, place_of, call};
 ghost use Rattle.pw_cmean.specs.Execution.{Entry, meaning};
 ghost use Rattle.pw_cmean.specs.SourceRun.{calls, source_run};
 ghost use Rattle.pw_cmean.specs.Lasting.{state_behind, Extends, HasRead, KeepsObjects, KeepsActive};
-ghost use Rattle.pw_cmean.specs.Typed.{IsPointer, IsResultOf, result_letter, IsTyped, IsTypedStatement, IsTypedCallable, IsTypedProgram, IsLetterResult, IsFlowOf, HoldsBytes, IfGives};
+ghost use Rattle.pw_cmean.specs.Typed.{IsPointer, IsResultOf, IsLetterResult, IsFlowOf, IsWellTyped, result_letter, HoldsBytes, IfGives};
 
 /// What a run comes to within a bound it comes to within every greater one, unless the bound cut it short.
 pub fn bound_is_monotone()
@@ -65,19 +67,21 @@ pub fn objects_keep_their_size()
         KeepsObjects s (state_behind (call world (calls world n) f args s)) }
 {}
 
-/// A result is one of its expression's type, a place is a pointer, and a function's result is one of the type
-/// in its shape, where the trees are typed as C types them; the objects go on to hold bytes.
+/// In a program whose modules are well typed and agree on functions, a result is one of its expression's type,
+/// a place is a pointer, and what a function returns is of its result's type. The objects go on to hold bytes.
 pub fn values_have_types()
     ensures expressions { (n : ℕ) (a : Expression) (e : Env) (s : State) →
-        IsTypedProgram e.world.program → IsTyped e.world.program e.home.name a → HoldsBytes s →
-        IfGives (IsResultOf (type_of (type_at a))) (answer_of a (calls e.world n) e s) }
+        IsWellTyped e.world.program → Contains e.world.program.modules e.home → IsTyped e.home.tree e.locals a →
+        HoldsBytes s → IfGives (IsResultOf (type_in a)) (answer_of a (calls e.world n) e s) }
     ensures places { (n : ℕ) (a : Expression) (e : Env) (s : State) →
-        IsTypedProgram e.world.program → IsTyped e.world.program e.home.name a → HoldsBytes s →
-        IfGives IsPointer (place_of a (calls e.world n) e s) }
-    ensures statements { (n letter : ℕ) (a : Statement) (entry : Entry) (e : Env) (s : State) →
-        IsTypedProgram e.world.program → IsTypedStatement e.world.program e.home.name letter a → HoldsBytes s →
-        IfGives (IsFlowOf letter) (meaning a entry (calls e.world n) e s) }
-    ensures calls { (world : World) (n : ℕ) (f : Callable) (args : List Value) (s : State) →
-        IsTypedProgram world.program → IsTypedCallable world.program f → HoldsBytes s →
-        IfGives (IsLetterResult (result_letter f.shape)) (call world (calls world n) f args s) }
+        IsWellTyped e.world.program → Contains e.world.program.modules e.home → IsTyped e.home.tree e.locals a →
+        HoldsBytes s → IfGives IsPointer (place_of a (calls e.world n) e s) }
+    ensures statements { (n : ℕ) (f : FunctionValue) (result : QType) (params : QTypes) (breaks continues : Bool)
+        (from : ℕ) (a : Statement) (entry : Entry) (e : Env) (s : State) →
+        IsWellTyped e.world.program → Contains e.world.program.modules e.home →
+        type_of f.ty ≡ Function result params → IsStatement e.home.tree f breaks continues from a →
+        HoldsBytes s → IfGives (IsFlowOf (type_of result)) (meaning a entry (calls e.world n) e s) }
+    ensures calls { (world : World) (n : ℕ) (name : List ℕ) (f : Callable) (args : List Value) (s : State) →
+        IsWellTyped world.program → function_named world.program name ≡ Some f →
+        HoldsBytes s → IfGives (IsLetterResult (result_letter f.shape)) (call world (calls world n) f args s) }
 {}
