@@ -97,8 +97,8 @@ prologue f =
     ++ Plain (i.Comclr 5 false help second 0) ∷ Plain (i.Break 0 4)
     ∷ Plain (i.Stw return_address (neg_ℤ (pos 20)) stack_pointer) ∷ Plain (i.Or help 0 stack_pointer)
     ∷ (saved_lines store_to (head_size f.body) 0 f.saved
-       ++ web_lines (λ w. read_global w.global w.kind w.reg) f.body.directives.webs
-       ++ parameters_in f.frame f.places 0 f.body.params)
+    ++ web_lines (λ w. read_global w.global w.kind w.reg) f.body.directives.webs
+    ++ parameters_in f.frame f.places 0 f.body.params)
 
 abbrev pub frame_left : ℕ → List Line
 frame_left frame =

@@ -492,11 +492,16 @@ fn is_function(function: &FlowFn, row: &FnRow) -> bool {
 }
 
 fn are_functions(functions: &[FlowFn], rows: &[FnRow]) -> bool {
-    functions.len() == rows.len()
-        && functions
-            .iter()
-            .zip(rows)
-            .all(|(function, row)| is_function(function, row))
+    let mut left = functions;
+    let mut wanted = rows;
+    while let ([function, after @ ..], [row, behind @ ..]) = (left, wanted) {
+        if !is_function(function, row) {
+            return false;
+        }
+        left = after;
+        wanted = behind;
+    }
+    left.is_empty() && wanted.is_empty()
 }
 
 /// A module: its objects, the names that it declares, and its functions.

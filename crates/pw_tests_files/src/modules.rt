@@ -379,7 +379,16 @@ const USES: [UsesRow; 3] = [
 ];
 
 fn are_all_uses(uses: &[Uses], rows: &[UsesRow]) -> bool {
-    uses.len() == rows.len() && uses.iter().zip(rows).all(|(uses, row)| are_uses(uses, row))
+    let mut left = uses;
+    let mut wanted = rows;
+    while let ([uses, after @ ..], [row, behind @ ..]) = (left, wanted) {
+        if !are_uses(uses, row) {
+            return false;
+        }
+        left = after;
+        wanted = behind;
+    }
+    left.is_empty() && wanted.is_empty()
 }
 
 #[test]
