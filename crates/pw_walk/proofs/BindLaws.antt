@@ -11,7 +11,7 @@ behind (Ok a) next = outcome (next a)
 behind (Err fault) next = Err fault
 
 stopped_behind : {A B : Type 0} (c : Option Cause) (r : Result A CheckFault) (next : A → Walk B)
-  → stopped c (behind r next) ≡ behind (stopped c r) next
+    → stopped c (behind r next) ≡ behind (stopped c r) next
 stopped_behind None r next = refl
 stopped_behind (Some c) r next = refl
 
