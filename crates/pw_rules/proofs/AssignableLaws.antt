@@ -1,15 +1,15 @@
 -- What may be assigned, and null pointer constants: the tests are the relations.
 use Rattle.std.specs.Prelude.{ℕ, ◌≡◌, ◌⊎◌, ◌==◌, Bool, true, false, not, ◌&&◌, ◌||◌, Option, None, Some, refl}
-use Rattle.std.proofs.Common.{arith, ap, sym, subst, ◌∙◌, inl, inr}
+use Rattle.std.proofs.Common.{arith, ap, sym, ◌∙◌, inl, inr}
 use Rattle.std.proofs.lemmas.Bool.{eqb-true, eq-eqb}
 use Rattle.pw_types.specs.declared.kind.IntKind.{IntKind}
-use Rattle.pw_types.specs.TypeTrees.{CType, Void, Int, Pointer, Array, Function, Record, QType, Qualified, QTypes, NoType, OneType, type_of, is_constant, is_volatile}
+use Rattle.pw_types.specs.TypeTrees.{CType, Void, Int, Pointer, Function, Record, QType, Qualified, type_of, is_constant, is_volatile}
 use Rattle.pw_types.specs.TypedTrees.{Expression, Node, type_at}
 use Rattle.pw_types.specs.TypedTrees as T
 use Rattle.pw_rules.specs.Compatible.{compatible_types, qualified_within}
-use Rattle.pw_rules.specs.Constants.{constant_of, constant_value, is_zero, is_zero_constant, is_null_constant}
-use Rattle.pw_rules.specs.Judgements.{CompatibleTypes, IsIntegral, IsPointerTo, IsFunctionType, NullPointerConstant, Zero, ZeroAsVoidPointer, QualifiedWithin, Assignable, Arithmetic, SameRecord, CompatiblePointers, ToVoidPointer, FromVoidPointer, NullPointer}
-use Rattle.pw_rules.specs.Kinds.{is_integral, is_pointer, is_void, is_function, is_record, points_to_function, points_to_void, pointee}
+use Rattle.pw_rules.specs.Constants.{constant_of, constant_value, is_zero, is_null_constant}
+use Rattle.pw_rules.specs.Judgements.{CompatibleTypes, IsIntegral, IsFunctionType, NullPointerConstant, Zero, ZeroAsVoidPointer, QualifiedWithin, Assignable, Arithmetic, SameRecord, CompatiblePointers, ToVoidPointer, FromVoidPointer, NullPointer}
+use Rattle.pw_rules.specs.Kinds.{is_integral, is_pointer, is_void, is_function, points_to_function, points_to_void, pointee}
 use Rattle.pw_rules.specs.Operands.{type_in}
 use Rattle.pw_rules.specs.Operators.{is_assignable, same_record}
 use Rattle.pw_rules.proofs.Booleans.{no, both, left, right, one_of, first, second, opposite}
@@ -38,7 +38,7 @@ zero_null (Node t (Qualified (Pointer (Qualified Void false false)) c v) (T.Cast
 zero_null e h = zero_forth (constant_value e) h
 
 cast_null : (t : ℕ) (c v : Bool) (a : Expression) → constant_value a ≡ Some 0
-  → is_null_constant (Node t (Qualified (Pointer (Qualified Void false false)) c v) (T.Cast a)) ≡ true
+    → is_null_constant (Node t (Qualified (Pointer (Qualified Void false false)) c v) (T.Cast a)) ≡ true
 cast_null t c v a h = zero_forth (constant_value a) h
 
 pub null_forth : (e : Expression) → NullPointerConstant e → is_null_constant e ≡ true
@@ -82,14 +82,15 @@ implies_forth true b h = h refl
 implies_forth false b h = refl
 
 within_back : (a b : QType) → qualified_within a b ≡ true → QualifiedWithin a b
-within_back a b e =
-    (implies_back (is_constant a) (is_constant b) (left (not (is_constant a) || is_constant b) (not (is_volatile a) || is_volatile b) e),
-     implies_back (is_volatile a) (is_volatile b) (right (not (is_constant a) || is_constant b) (not (is_volatile a) || is_volatile b) e))
+within_back a b e = (
+  implies_back (is_constant a) (is_constant b) (left (not (is_constant a) || is_constant b) (not (is_volatile a) || is_volatile b) e),
+  implies_back (is_volatile a) (is_volatile b) (right (not (is_constant a) || is_constant b) (not (is_volatile a) || is_volatile b) e),
+)
 
 within_forth : (a b : QType) → QualifiedWithin a b → qualified_within a b ≡ true
 within_forth a b h =
     both (not (is_constant a) || is_constant b) (not (is_volatile a) || is_volatile b)
-      (implies_forth (is_constant a) (is_constant b) h.0) (implies_forth (is_volatile a) (is_volatile b) h.1)
+    (implies_forth (is_constant a) (is_constant b) h.0) (implies_forth (is_volatile a) (is_volatile b) h.1)
 
 -- ---- pointers
 
@@ -113,13 +114,13 @@ points_back q r h = by_last (one_of (compatible_types (type_of q) (type_of r) ||
     by_first (inl e) = Alike (types_back (type_of q) (type_of r) e)
     by_first (inr e) =
         ToVoid (void_back (type_of q) (left (is_void (type_of q)) (not (is_function (type_of r))) e))
-          (no_function_back (type_of r) (opposite (is_function (type_of r)) (right (is_void (type_of q)) (not (is_function (type_of r))) e)))
+        (no_function_back (type_of r) (opposite (is_function (type_of r)) (right (is_void (type_of q)) (not (is_function (type_of r))) e)))
 
     by_last : ((compatible_types (type_of q) (type_of r) || (is_void (type_of q) && not (is_function (type_of r)))) ≡ true) ⊎ ((is_void (type_of r) && not (is_function (type_of q))) ≡ true) → Points q r
     by_last (inl e) = by_first (one_of (compatible_types (type_of q) (type_of r)) (is_void (type_of q) && not (is_function (type_of r))) e)
     by_last (inr e) =
         FromVoid (void_back (type_of r) (left (is_void (type_of r)) (not (is_function (type_of q))) e))
-          (no_function_back (type_of q) (opposite (is_function (type_of q)) (right (is_void (type_of r)) (not (is_function (type_of q))) e)))
+        (no_function_back (type_of q) (opposite (is_function (type_of q)) (right (is_void (type_of r)) (not (is_function (type_of q))) e)))
 
 not_true : (b : Bool) → b ≡ false → not b ≡ true
 not_true true e = sym e
@@ -129,14 +130,14 @@ points_forth : (q r : QType) → Points q r → pointers_by q r ≡ true
 unfolding pointers_by
 points_forth q r (Alike h) =
     first (compatible_types (type_of q) (type_of r) || (is_void (type_of q) && not (is_function (type_of r)))) (is_void (type_of r) && not (is_function (type_of q)))
-      (first (compatible_types (type_of q) (type_of r)) (is_void (type_of q) && not (is_function (type_of r))) (types_forth h))
+    (first (compatible_types (type_of q) (type_of r)) (is_void (type_of q) && not (is_function (type_of r))) (types_forth h))
 points_forth q r (ToVoid same h) =
     first (compatible_types (type_of q) (type_of r) || (is_void (type_of q) && not (is_function (type_of r)))) (is_void (type_of r) && not (is_function (type_of q)))
-      (second (compatible_types (type_of q) (type_of r)) (is_void (type_of q) && not (is_function (type_of r)))
-        (both (is_void (type_of q)) (not (is_function (type_of r))) (ap is_void same) (not_true (is_function (type_of r)) (no_function_forth (type_of r) h))))
+    (second (compatible_types (type_of q) (type_of r)) (is_void (type_of q) && not (is_function (type_of r)))
+    (both (is_void (type_of q)) (not (is_function (type_of r))) (ap is_void same) (not_true (is_function (type_of r)) (no_function_forth (type_of r) h))))
 points_forth q r (FromVoid same h) =
     second (compatible_types (type_of q) (type_of r) || (is_void (type_of q) && not (is_function (type_of r)))) (is_void (type_of r) && not (is_function (type_of q)))
-      (both (is_void (type_of r)) (not (is_function (type_of q))) (ap is_void same) (not_true (is_function (type_of q)) (no_function_forth (type_of q) h)))
+    (both (is_void (type_of r)) (not (is_function (type_of q))) (ap is_void same) (not_true (is_function (type_of q)) (no_function_forth (type_of q) h)))
 
 -- ---- assignment
 
@@ -146,13 +147,13 @@ assignable_by to from null =
     (is_integral to && is_integral from)
     || same_record to from
     || (is_pointer to && is_pointer from && qualified_within (pointee from) (pointee to)
-        && (compatible_types (type_of (pointee to)) (type_of (pointee from))
-            || (points_to_void to && not (points_to_function from))
-            || (points_to_void from && not (points_to_function to))))
+    && (compatible_types (type_of (pointee to)) (type_of (pointee from))
+    || (points_to_void to && not (points_to_function from))
+    || (points_to_void from && not (points_to_function to))))
     || (is_pointer to && null)
 
 pointers_compute : (a b : CType) (c v d w null : Bool)
-  → assignable_by (Pointer (Qualified a c v)) (Pointer (Qualified b d w)) null
+    → assignable_by (Pointer (Qualified a c v)) (Pointer (Qualified b d w)) null
     ≡ ((qualified_within (Qualified b d w) (Qualified a c v) && pointers_by (Qualified a c v) (Qualified b d w)) || null)
 unfolding assignable_by pointers_by
 pointers_compute a b c v d w null = refl
@@ -175,10 +176,10 @@ by_points q r e s w (ToVoid same h) = ToVoidPointer q r refl s same h w
 by_points q r e s w (FromVoid same h) = FromVoidPointer q r refl s same h w
 
 by_pointers : (q r : QType) (e : Expression) → type_in e ≡ Pointer r
-  → ((qualified_within r q && pointers_by q r) ≡ true) ⊎ (is_null_constant e ≡ true) → Assignable (Pointer q) e
+    → ((qualified_within r q && pointers_by q r) ≡ true) ⊎ (is_null_constant e ≡ true) → Assignable (Pointer q) e
 by_pointers q r e s (inl h) =
     by_points q r e s (within_back r q (left (qualified_within r q) (pointers_by q r) h))
-      (points_back q r (right (qualified_within r q) (pointers_by q r) h))
+    (points_back q r (right (qualified_within r q) (pointers_by q r) h))
 by_pointers q r e s (inr h) = NullPointer q refl (null_back e h)
 
 back_by : (to from : CType) (e : Expression) → type_in e ≡ from → assignable_by to from (is_null_constant e) ≡ true → Assignable to e
@@ -188,8 +189,8 @@ back_by (Record n) (Record m) e s h =
     SameRecord n refl (s ∙ ap Record (sym (eqb-true n m (drop_false (n == m) (drop_false ((n == m) || false) h)))))
 back_by (Pointer (Qualified a c v)) (Pointer (Qualified b d w)) e s h =
     by_pointers (Qualified a c v) (Qualified b d w) e s
-      (one_of (qualified_within (Qualified b d w) (Qualified a c v) && pointers_by (Qualified a c v) (Qualified b d w)) (is_null_constant e)
-        (sym (pointers_compute a b c v d w (is_null_constant e)) ∙ h))
+    (one_of (qualified_within (Qualified b d w) (Qualified a c v) && pointers_by (Qualified a c v) (Qualified b d w)) (is_null_constant e)
+    (sym (pointers_compute a b c v d w (is_null_constant e)) ∙ h))
 back_by (Pointer q) _ e s h = NullPointer q refl (null_back e h)
 back_by _ _ e s h = no h
 
@@ -198,7 +199,7 @@ unfolding assignable_by
 assignable_back to e h = back_by to (type_in e) e refl h
 
 at_types : (to from : CType) (e : Expression) (to' from' : CType) → to ≡ to' → from ≡ from'
-  → assignable_by to' from' (is_null_constant e) ≡ true → assignable_by to from (is_null_constant e) ≡ true
+    → assignable_by to' from' (is_null_constant e) ≡ true → assignable_by to from (is_null_constant e) ≡ true
 at_types to from e to' from' p q h =
     ap (λ x. assignable_by x from (is_null_constant e)) p ∙ (ap (λ x. assignable_by to' x (is_null_constant e)) q ∙ h)
 
@@ -206,9 +207,9 @@ pointers_case : (q r : QType) (null : Bool) → QualifiedWithin r q → Points q
 pointers_case (Qualified a c v) (Qualified b d w) null within h =
     pointers_compute a b c v d w null
     ∙ first (qualified_within (Qualified b d w) (Qualified a c v) && pointers_by (Qualified a c v) (Qualified b d w)) null
-        (both (qualified_within (Qualified b d w) (Qualified a c v)) (pointers_by (Qualified a c v) (Qualified b d w))
-          (within_forth (Qualified b d w) (Qualified a c v) within)
-          (points_forth (Qualified a c v) (Qualified b d w) h))
+    (both (qualified_within (Qualified b d w) (Qualified a c v)) (pointers_by (Qualified a c v) (Qualified b d w))
+    (within_forth (Qualified b d w) (Qualified a c v) within)
+    (points_forth (Qualified a c v) (Qualified b d w) h))
 
 integers_case : (k l : IntKind) (null : Bool) → assignable_by (Int k) (Int l) null ≡ true
 unfolding assignable_by

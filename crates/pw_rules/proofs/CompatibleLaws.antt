@@ -1,11 +1,11 @@
 -- The test of compatible types is the relation.
-use Rattle.std.specs.Prelude.{ℕ, zero, suc, ◌≡◌, ◌==◌, Bool, true, false, ◌&&◌, Option, None, Some, refl}
+use Rattle.std.specs.Prelude.{ℕ, zero, suc, ◌≡◌, Bool, true, false, ◌&&◌, Option, None, Some, refl}
 use Rattle.std.proofs.Common.{arith, ap, sym, subst, ◌∙◌}
 use Rattle.std.proofs.lemmas.Bool.{eqb-true, eq-eqb}
 use Rattle.pw_types.specs.declared.kind.IntKind.{IntKind}
 use Rattle.pw_types.specs.declared.kind.IntKind.TheVariants as K
 use Rattle.pw_types.specs.TypeTrees.{CType, Void, Int, Pointer, Array, Function, Record, QType, Qualified, QTypes, NoType, OneType}
-use Rattle.pw_rules.specs.Compatible.{compatible_types, compatible, compatible_parameters, compatible_plainly, lengths_agree}
+use Rattle.pw_rules.specs.Compatible.{compatible_types, compatible, compatible_parameters, lengths_agree}
 use Rattle.pw_rules.specs.Judgements.{LengthsAgree, CompatibleTypes, VoidTypes, IntegerTypes, PointerTypes, ArrayTypes, FunctionTypes, RecordTypes, Compatible, QualifiedAlike, CompatibleParameters, NoParameters, OneParameter}
 use Rattle.pw_rules.proofs.Booleans.{no, both, left, right}
 use Rattle.pw_rules.specs.Kinds.{same_kind, number_of_kind, same_truth}
@@ -80,7 +80,7 @@ mutual
   pub forth : {a b : QType} → Compatible a b → compatible a b ≡ true
   forth (QualifiedAlike a b c v h) =
       both (compatible_types a b && same_truth c c) (same_truth v v)
-        (both (compatible_types a b) (same_truth c c) (types_forth h) (same_truths c)) (same_truths v)
+      (both (compatible_types a b) (same_truth c c) (types_forth h) (same_truths c)) (same_truths v)
 
   pub parameters_forth : {ps qs : QTypes} → CompatibleParameters ps qs → compatible_parameters ps qs ≡ true
   parameters_forth NoParameters = refl
@@ -92,7 +92,7 @@ mutual
 alike : (a b : CType) (c d v w : Bool) → c ≡ d → v ≡ w → CompatibleTypes a b → Compatible (Qualified a c v) (Qualified b d w)
 alike a b c d v w e f h =
     subst (λ x. Compatible (Qualified a c v) (Qualified b x w)) e
-      (subst (λ x. Compatible (Qualified a c v) (Qualified b c x)) f (QualifiedAlike a b c v h))
+    (subst (λ x. Compatible (Qualified a c v) (Qualified b c x)) f (QualifiedAlike a b c v h))
 
 mutual
   unfolding compatible_types
@@ -105,7 +105,7 @@ mutual
       ArrayTypes a b n m (back a b (left (compatible a b) (lengths_agree n m) e)) (lengths_back n m (right (compatible a b) (lengths_agree n m) e))
   types_back (Function a ps) (Function b qs) e =
       FunctionTypes a b ps qs (back a b (left (compatible a b) (compatible_parameters ps qs) e))
-        (parameters_back ps qs (right (compatible a b) (compatible_parameters ps qs) e))
+      (parameters_back ps qs (right (compatible a b) (compatible_parameters ps qs) e))
   types_back (Record n) (Record m) e = subst (λ x. CompatibleTypes (Record n) (Record x)) (eqb-true n m e) (RecordTypes n)
   types_back _ _ e = no e
 
@@ -113,13 +113,13 @@ mutual
   back (Qualified a c v) (Qualified b d w) e =
       let first : (compatible_types a b && same_truth c d) ≡ true = left (compatible_types a b && same_truth c d) (same_truth v w) e in
       alike a b c d v w
-        (truths_same c d (right (compatible_types a b) (same_truth c d) first))
-        (truths_same v w (right (compatible_types a b && same_truth c d) (same_truth v w) e))
-        (types_back a b (left (compatible_types a b) (same_truth c d) first))
+      (truths_same c d (right (compatible_types a b) (same_truth c d) first))
+      (truths_same v w (right (compatible_types a b && same_truth c d) (same_truth v w) e))
+      (types_back a b (left (compatible_types a b) (same_truth c d) first))
 
   pub parameters_back : (ps qs : QTypes) → compatible_parameters ps qs ≡ true → CompatibleParameters ps qs
   parameters_back NoType NoType e = NoParameters
   parameters_back (OneType (Qualified a c v) ps) (OneType (Qualified b d w) qs) e =
       OneParameter a b c v d w ps qs (types_back a b (left (compatible_types a b) (compatible_parameters ps qs) e))
-        (parameters_back ps qs (right (compatible_types a b) (compatible_parameters ps qs) e))
+      (parameters_back ps qs (right (compatible_types a b) (compatible_parameters ps qs) e))
   parameters_back _ _ e = no e

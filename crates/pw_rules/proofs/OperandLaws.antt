@@ -1,6 +1,6 @@
 -- Modifiable lvalues, and the linkage of a declaration: the tests are the relations.
 use Rattle.std.specs.Prelude.{ℕ, ◌≡◌, ◌≢◌, Bool, true, false, not, ◌&&◌, Option, None, Some, List, unwrap_or, refl}
-use Rattle.std.proofs.Common.{arith, ap, sym, ◌∙◌}
+use Rattle.std.proofs.Common.{ap, sym, ◌∙◌}
 use Rattle.pw_types.specs.TypeTrees.{CType, Array, QType, RecordValue}
 use Rattle.pw_types.specs.TypedTrees.{type_at}
 use Rattle.pw_rules.specs.Judgements.{ModifiableLvalue, InternalLinkage, ByStatic, ByVisible}
@@ -21,23 +21,23 @@ array_forth _ h = refl
 pub modifiable_back : (records : List RecordValue) (a : Operand) → is_modifiable records a ≡ true → ModifiableLvalue records a
 modifiable_back records a e =
     let three : (a.lvalue && not (is_array (type_in a.node)) && is_complete records (type_in a.node)) ≡ true =
-      left (a.lvalue && not (is_array (type_in a.node)) && is_complete records (type_in a.node)) (is_free_of_const records (type_at a.node)) e in
+    left (a.lvalue && not (is_array (type_in a.node)) && is_complete records (type_in a.node)) (is_free_of_const records (type_at a.node)) e in
     let two : (a.lvalue && not (is_array (type_in a.node))) ≡ true =
-      left (a.lvalue && not (is_array (type_in a.node))) (is_complete records (type_in a.node)) three in
+    left (a.lvalue && not (is_array (type_in a.node))) (is_complete records (type_in a.node)) three in
     record {
       lvalue = left a.lvalue (not (is_array (type_in a.node))) two;
       no_array = array_back (type_in a.node) (right a.lvalue (not (is_array (type_in a.node))) two);
       complete = right (a.lvalue && not (is_array (type_in a.node))) (is_complete records (type_in a.node)) three;
-      without_const = right (a.lvalue && not (is_array (type_in a.node)) && is_complete records (type_in a.node)) (is_free_of_const records (type_at a.node)) e
+      without_const = right (a.lvalue && not (is_array (type_in a.node)) && is_complete records (type_in a.node)) (is_free_of_const records (type_at a.node)) e;
     }
 
 pub modifiable_forth : (records : List RecordValue) (a : Operand) → ModifiableLvalue records a → is_modifiable records a ≡ true
 modifiable_forth records a h =
     both (a.lvalue && not (is_array (type_in a.node)) && is_complete records (type_in a.node)) (is_free_of_const records (type_at a.node))
-      (both (a.lvalue && not (is_array (type_in a.node))) (is_complete records (type_in a.node))
-        (both a.lvalue (not (is_array (type_in a.node))) h.lvalue (array_forth (type_in a.node) h.no_array))
-        h.complete)
-      h.without_const
+    (both (a.lvalue && not (is_array (type_in a.node))) (is_complete records (type_in a.node))
+    (both a.lvalue (not (is_array (type_in a.node))) h.lvalue (array_forth (type_in a.node) h.no_array))
+    h.complete)
+    h.without_const
 
 some_true : (o : Option Bool) → unwrap_or o false ≡ true → o ≡ Some true
 some_true None e = no e

@@ -1,6 +1,6 @@
 -- The judgements of the rules as relations, each by the cases in which the standard lists it. The tests by which the rules
 -- decide them stand with the operators; the laws say that the two are one.
-use Rattle.std.specs.Prelude.{ℕ, ◌≡◌, ◌≢◌, ◌↔◌, ◌⊎◌, Bool, true, false, Option, None, Some, List}
+use Rattle.std.specs.Prelude.{ℕ, ◌≡◌, ◌≢◌, Bool, true, false, Option, Some, List}
 use Rattle.pw_types.specs.declared.kind.IntKind.{IntKind}
 use Rattle.pw_types.specs.TypeTrees.{CType, Void, Int, Pointer, Array, Function, Record, QType, Qualified, QTypes, NoType, OneType, type_of, is_constant, is_volatile, RecordValue}
 use Rattle.pw_types.specs.TypedTrees.{Expression, Node, type_at}
@@ -8,7 +8,7 @@ use Rattle.pw_types.specs.TypedTrees as T
 use Rattle.pw_rules.specs.Constants.{constant_value}
 use Rattle.pw_rules.specs.Kinds.{is_complete, is_free_of_const}
 use Rattle.pw_rules.specs.Operands.{Operand, type_in}
-use Rattle.pw_rules.specs.Linkage.{Asking, AsInternal, AsBefore, AsExternal, visible_linkage}
+use Rattle.pw_rules.specs.Linkage.{Asking, AsInternal, AsBefore, visible_linkage}
 use Rattle.pw_rules.specs.States.{State}
 
 -- ---- compatible types (6.1.2.6)
@@ -38,7 +38,7 @@ mutual
   pub data CompatibleParameters : QTypes → QTypes → Type 0 where
     NoParameters : CompatibleParameters NoType NoType
     OneParameter : (a b : CType) (c v d w : Bool) (ps qs : QTypes) → CompatibleTypes a b → CompatibleParameters ps qs
-      → CompatibleParameters (OneType (Qualified a c v) ps) (OneType (Qualified b d w) qs)
+        → CompatibleParameters (OneType (Qualified a c v) ps) (OneType (Qualified b d w) qs)
 
 -- ---- operands
 
@@ -55,7 +55,7 @@ IsFunctionType ty = (result : QType) × (ps : QTypes) × (ty ≡ Function result
 pub data NullPointerConstant (e : Expression) : Type 0 where
   Zero : constant_value e ≡ Some 0 → NullPointerConstant e
   ZeroAsVoidPointer : (t : ℕ) (c v : Bool) (a : Expression) → constant_value a ≡ Some 0
-    → e ≡ Node t (Qualified (Pointer (Qualified Void false false)) c v) (T.Cast a) → NullPointerConstant e
+      → e ≡ Node t (Qualified (Pointer (Qualified Void false false)) c v) (T.Cast a) → NullPointerConstant e
 
 -- a modifiable lvalue (6.2.2.1)
 pub record ModifiableLvalue (records : List RecordValue) (a : Operand) : Type 0 where
@@ -73,12 +73,12 @@ pub data Assignable (to : CType) (e : Expression) : Type 0 where
   Arithmetic : IsIntegral to → IsIntegral (type_in e) → Assignable to e
   SameRecord : (n : ℕ) → to ≡ Record n → type_in e ≡ Record n → Assignable to e
   CompatiblePointers : (q r : QType) → IsPointerTo to q → IsPointerTo (type_in e) r
-    → CompatibleTypes (type_of q) (type_of r) → QualifiedWithin r q → Assignable to e
+      → CompatibleTypes (type_of q) (type_of r) → QualifiedWithin r q → Assignable to e
   -- to a pointer to void from one to an object or incomplete type, and the other way round
   ToVoidPointer : (q r : QType) → IsPointerTo to q → IsPointerTo (type_in e) r
-    → type_of q ≡ Void → (IsFunctionType (type_of r) → ⊥) → QualifiedWithin r q → Assignable to e
+      → type_of q ≡ Void → (IsFunctionType (type_of r) → ⊥) → QualifiedWithin r q → Assignable to e
   FromVoidPointer : (q r : QType) → IsPointerTo to q → IsPointerTo (type_in e) r
-    → type_of r ≡ Void → (IsFunctionType (type_of q) → ⊥) → QualifiedWithin r q → Assignable to e
+      → type_of r ≡ Void → (IsFunctionType (type_of q) → ⊥) → QualifiedWithin r q → Assignable to e
   NullPointer : (q : QType) → IsPointerTo to q → NullPointerConstant e → Assignable to e
 
 -- ---- linkage (6.1.2.2)

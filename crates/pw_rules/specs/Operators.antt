@@ -67,7 +67,7 @@ deref t e =
     record {
       node = Node t (pointee (type_in e)) (T.Deref e);
       lvalue = not (is_function (type_of (pointee (type_in e)))) && not (is_void (type_of (pointee (type_in e))));
-      register = false
+      register = false;
     }
 
 unfoldable pub deref_rule : ℕ → Expression → Rule Operand
@@ -453,7 +453,7 @@ member_operand t a m =
     record {
       node = Node t (qualify (is_constant (type_at a.node)) (is_volatile (type_at a.node)) m.0.ty) (T.Member a.node m.1);
       lvalue = a.lvalue;
-      register = a.register
+      register = a.register;
     }
 
 unfoldable pub select_rule : ℕ → Word → Operand → Rule Operand

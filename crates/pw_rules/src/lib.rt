@@ -5,6 +5,6 @@
 mod laws;
 
 pub use laws::{
-    assignable_is_tested, checks_is_exact, compatible_is_tested, linkage_is_tested, modifiable_is_tested,
-    null_constant_is_tested, samples,
+    assignable_is_tested, checks_is_exact, compatible_is_tested, linkage_is_tested,
+    modifiable_is_tested, null_constant_is_tested, samples,
 };

@@ -1,3 +1,4 @@
 pub mod Points
 pub mod WalkLaws
 pub mod KindLaws
+pub mod BindLaws

@@ -1,3 +1,4 @@
 pub mod Causes
 pub mod Walks
 pub mod Answers
+pub mod Calls

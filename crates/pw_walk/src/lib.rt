@@ -6,4 +6,4 @@ mod fault;
 mod laws;
 
 pub use fault::{CheckFault, CheckKind, Which};
-pub use laws::{memory_is_no_fault, one_answer};
+pub use laws::{memory_is_no_fault, one_answer, walks_follow};
