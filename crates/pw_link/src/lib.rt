@@ -1,0 +1,2 @@
+//! Linking: from object files to an image, as a plain function.
+#![tactic(auto)]
