@@ -107,10 +107,8 @@ fn names_stand_for_their_last_declaration(rt: HostRuntime) -> Result<(), Fail> {
 }
 
 /// What `T` and `t` stand for at other places of a text than where it declares them.
-fn typedefs(
-    alloc: Global,
-    text: &'static [u8],
-) -> Result<(Option<bool>, Option<bool>), AllocError> {
+fn typedefs(alloc: Global) -> Result<(Option<bool>, Option<bool>), AllocError> {
+    let text = b"typedef int T; T t;";
     let mut scopes = Scopes::new(alloc);
     scopes.declare(&text[12..13], true)?;
     scopes.declare(&text[17..18], false)?;
@@ -119,7 +117,7 @@ fn typedefs(
 
 #[test]
 fn names_are_bytes_and_no_places(rt: HostRuntime) -> Result<(), Fail> {
-    let told = typedefs(rt.alloc(), b"typedef int T; T t;")?;
+    let told = typedefs(rt.alloc())?;
     assert!(rt; told == (Some(true), Some(false)));
     Ok(())
 }
