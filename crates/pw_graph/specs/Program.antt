@@ -1,0 +1,75 @@
+-- What summaries say of a program: its functions, who calls whom, and which globals are eligible; and the call
+-- graph that says the same by places.
+use Rattle.std.specs.Prelude.{ℕ, ◌≡◌, ◌<◌, ◌⊎◌, ◌↔◌, Option, Some, false, List, ◌++◌, length, map, Contains, slice_get}
+use Rattle.std.specs.List.{flat_map, AllByRecursion}
+use Rattle.std.specs.List.Sorted.{IsStrictlyIncreasing}
+use Rattle.pw_value.specs.declared.value.Kind.{Kind}
+use Rattle.pw_files.specs.Rising.{IsRising}
+use Rattle.pw_summary.specs.declared.summary.Summary.{Summary}
+use Rattle.pw_summary.specs.declared.summary.Uses.{Uses}
+use Rattle.pw_program.specs.Linking.{library_declarations}
+use Rattle.pw_graph.specs.declared.graph.CallGraph.{CallGraph}
+use Rattle.pw_graph.specs.CallGraph.{Calls, Weighs}
+
+-- ---- what summaries say
+
+-- all functions with their shapes, the library's included
+abbrev pub functions_of : List Summary → List (List ℕ × List ℕ)
+functions_of ss = library_declarations ++ flat_map (λ s. s.functions) ss
+
+-- some module defines the function f, which uses this
+pub record IsUseOf (ss : List Summary) (f : List ℕ) (u : Uses) : Type 0 where
+  pub summary : Summary
+  pub stands : Contains ss summary
+  pub place : ℕ
+  pub shape : List ℕ
+  pub at : slice_get summary.functions place ≡ Some (f, shape)
+  pub uses : slice_get summary.uses place ≡ Some u
+
+-- some module takes the address of the function, or of the global, in code or data
+pub record IsTaken (ss : List Summary) (name : List ℕ) : Type 0 where
+  pub summary : Summary
+  pub stands : Contains ss summary
+  pub taken : Contains (map (λ f. f.0) summary.taken) name
+
+pub record IsEscaped (ss : List Summary) (name : List ℕ) : Type 0 where
+  pub summary : Summary
+  pub stands : Contains ss summary
+  pub escaped : Contains summary.escaped name
+
+-- f calls g: by its name, or perhaps through a value, which may be each function of the call's shape whose
+-- address is taken
+pub data IsCall (ss : List Summary) (f g : List ℕ) : Type 0 where
+  by_name : (u : Uses) → IsUseOf ss f u → Contains u.calls g → IsCall ss f g
+  through_value : (u : Uses) (shape : List ℕ) → IsUseOf ss f u → Contains u.shapes shape → Contains (functions_of ss) (g, shape) → IsTaken ss g → IsCall ss f g
+
+-- f has these weighted reads and weighted writes of the global
+pub record HasWeights (ss : List Summary) (f global : List ℕ) (reads writes : ℕ) : Type 0 where
+  pub u : Uses
+  pub uses : IsUseOf ss f u
+  pub stands : Contains u.refs (global, reads, writes)
+
+-- a scalar global that is not volatile and whose address no module takes
+pub record IsEligible (ss : List Summary) (global : List ℕ) (kind : Kind) : Type 0 where
+  pub summary : Summary
+  pub stands : Contains ss summary
+  pub shape : List ℕ
+  pub defined : Contains summary.globals (global, shape, Some kind, false)
+  pub kept : ¬ IsEscaped ss global
+  pub no_function : ¬ IsTaken ss global
+
+-- ---- the same by places
+
+pub record IsGraphOf (ss : List Summary) (g : CallGraph) : Type 0 where
+  pub functions : IsRising g.functions
+  pub each_function : (f : List ℕ) → Contains g.functions f ↔ Contains (map (λ h. h.0) (functions_of ss)) f
+  pub globals : IsRising (map (λ v. v.0) g.globals)
+  pub each_global : (v : List ℕ) (kind : Kind) → Contains g.globals (v, kind) ↔ IsEligible ss v kind
+  pub call_rows : length g.calls ≡ length g.functions
+  pub calls_rise : AllByRecursion IsStrictlyIncreasing g.calls
+  pub calls_within : (a b : ℕ) → Calls g a b → b < length g.functions
+  pub calls : (a b : ℕ) (f h : List ℕ) → slice_get g.functions a ≡ Some f → slice_get g.functions b ≡ Some h → Calls g a b ↔ IsCall ss f h
+  pub ref_rows : length g.refs ≡ length g.functions
+  pub refs_rise : AllByRecursion (λ row. IsStrictlyIncreasing (map (λ r. r.0) row)) g.refs
+  pub refs_within : (a v reads writes : ℕ) → Weighs g a v reads writes → v < length g.globals
+  pub refs : (a v reads writes : ℕ) (f : List ℕ) (global : List ℕ × Kind) → slice_get g.functions a ≡ Some f → slice_get g.globals v ≡ Some global → Weighs g a v reads writes ↔ HasWeights ss f global.0 reads writes
