@@ -492,16 +492,15 @@ fn is_function(function: &FlowFn, row: &FnRow) -> bool {
 }
 
 fn are_functions(functions: &[FlowFn], rows: &[FnRow]) -> bool {
-    let mut left = functions;
-    let mut wanted = rows;
-    while let ([function, after @ ..], [row, behind @ ..]) = (left, wanted) {
+    if functions.len() != rows.len() {
+        return false;
+    }
+    for (function, row) in functions.iter().zip(rows) {
         if !is_function(function, row) {
             return false;
         }
-        left = after;
-        wanted = behind;
     }
-    left.is_empty() && wanted.is_empty()
+    true
 }
 
 /// A module: its objects, the names that it declares, and its functions.

@@ -379,16 +379,15 @@ const USES: [UsesRow; 3] = [
 ];
 
 fn are_all_uses(uses: &[Uses], rows: &[UsesRow]) -> bool {
-    let mut left = uses;
-    let mut wanted = rows;
-    while let ([uses, after @ ..], [row, behind @ ..]) = (left, wanted) {
+    if uses.len() != rows.len() {
+        return false;
+    }
+    for (uses, row) in uses.iter().zip(rows) {
         if !are_uses(uses, row) {
             return false;
         }
-        left = after;
-        wanted = behind;
     }
-    left.is_empty() && wanted.is_empty()
+    true
 }
 
 #[test]
