@@ -1,6 +1,9 @@
 //! Direction: a flow graph whose accesses of directed globals go to their registers.
 #![tactic(auto)]
 
+mod copying;
+mod directing;
 mod web;
 
+pub use directing::direct;
 pub use web::{WebBlock, WebFn, WebOp};
