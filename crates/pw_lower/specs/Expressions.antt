@@ -1,28 +1,32 @@
 -- Lowering of expressions (C90 6.3): operands from left to right, each side effect at once.
-use Rattle.std.specs.Prelude.{ℕ, ◌+◌, ◌==◌, Bool, true, false, if◌then◌else◌, Option, Some, None, option_map, unwrap_or, List, [], ◌∷◌, ◌++◌, decimal}
+use Rattle.std.specs.Prelude.{ℕ, ◌+◌, ◌==◌, Bool, true, false, if◌then◌else◌, Option, Some, None, unwrap_or, List, [], ◌∷◌, ◌++◌, decimal}
 use Rattle.pw_value.specs.declared.value.Kind.{Kind}
 use Rattle.pw_value.specs.declared.value.Kind.TheVariants.{W32}
-use Rattle.pw_types.specs.Conversions.{promoted}
+use Rattle.pw_types.specs.Records.{is_record}
 use Rattle.pw_types.specs.Shapes.{shape_of}
-use Rattle.pw_types.specs.TypeTrees.{CType, Void, Int, Pointer, Record, QType, Qualified, type_of, RecordValue}
+use Rattle.pw_types.specs.TypeTrees.{CType, Void, Pointer, QType, Qualified, type_of, is_volatile, RecordValue}
 use Rattle.pw_types.specs.TypedTrees.{Symbol, External, Internal, Hidden, Expression, Node, type_at, Number, Str, Local, Global, Function, Unary, Binary, Logic, Cond, Comma, Assign, Compound, Step, Cast, Decay, Member, Deref, Address, Call, CallValue, Expressions, NoExpression, OneExpression}
 use Rattle.pw_types.specs.declared.tree.BinaryOperator.{BinaryOperator}
-use Rattle.pw_types.specs.declared.tree.LogicOperator.{LogicOperator}
 use Rattle.pw_types.specs.declared.tree.LogicOperator.TheVariants as logic
 use Rattle.pw_types.specs.declared.tree.StepOperator.{StepOperator}
 use Rattle.pw_flow.specs.declared.flow.Op.{Op}
 use Rattle.pw_flow.specs.declared.flow.Op.TheVariants as op
 use Rattle.pw_flow.specs.declared.flow.BinKind.TheVariants.{Add}
 use Rattle.pw_flow.specs.declared.flow.End.TheVariants.{Jump, Branch}
-use Rattle.pw_lower.specs.Codes.{Code, Lowered, temp_of, emit, fresh, constant, reserve, cut_here}
-use Rattle.pw_lower.specs.Places.{Place, InTemp, InSlot, place_at}
-use Rattle.pw_lower.specs.Operators.{with, value_is, kind_of, bytes_of, unit_of, converted, combined, truth_in, unary_on, step_operator, is_behind}
+use Rattle.pw_lower.specs.declared.code.Code.{Code}
+use Rattle.pw_lower.specs.Codes.{Lowered, lowered_as, temp_of, emit, fresh, constant, reserve, reserve_temps, cut_here, value_is}
+use Rattle.pw_lower.specs.declared.place.Target.{Target}
+use Rattle.pw_lower.specs.declared.place.Target.TheVariants.{Kept, Named, Led}
+use Rattle.pw_lower.specs.declared.place.LocalPlace.{LocalPlace}
+use Rattle.pw_lower.specs.declared.place.LocalPlace.TheVariants.{Temp, Slot}
+use Rattle.pw_lower.specs.Places.{place_at}
+use Rattle.pw_lower.specs.Operators.{with, kind_of, bytes_of, unit_of, converted, combined, truth_in, unary_on, step_operator, step_type, is_behind}
 
 -- what an expression is lowered in: the module's name and record types, and the places of the function's locals
 pub record Home : Type 0 where
   pub name : List ℕ
   pub records : List RecordValue
-  pub places : List Place
+  pub places : List LocalPlace
 
 -- the name of an object or function among all modules: `x`, `m:x`, `m:.k`
 abbrev pub full_name : List ℕ → Symbol → List ℕ
@@ -31,17 +35,12 @@ full_name home (Internal x) = home ++ 58 ∷ x
 full_name home (Hidden k) = home ++ 58 ∷ 46 ∷ decimal k
 
 abbrev pub shape_at : List RecordValue → QType → List ℕ
-shape_at records (Qualified (Pointer (Qualified ty constant inner)) outer volatile) = shape_of records ty false
-shape_at records q = shape_of records (type_of q) false
+shape_at records (Qualified (Pointer (Qualified ty constant inner)) outer volatile) = shape_of records ty inner
+shape_at records q = shape_of records (type_of q) (is_volatile q)
 
 -- ---- lvalues
 
--- where a scalar lvalue is: a temporary that keeps it, a global by its name, or what an address leads to
-pub data Target : Type 0 where
-  Kept : (temp : ℕ) → Target
-  Named : (name : List ℕ) → Target
-  Led : (address : ℕ) → Target
-
+-- code behind which a scalar lvalue is there
 pub record Placed : Type 0 where
   pub code : Code
   pub target : Target
@@ -77,13 +76,13 @@ address_of_global g c = fresh (λ t. op.AddrGlobal t g 0) c
 abbrev pub address_of_function : List ℕ → Code → Lowered
 address_of_function f c = fresh (λ t. op.AddrFn t f) c
 
-abbrev pub address_of_local : Place → Code → Lowered
-address_of_local (InTemp x) c = value_is x c
-address_of_local (InSlot s) c = fresh (λ t. op.AddrSlot t s) c
+abbrev pub address_of_local : LocalPlace → Code → Lowered
+address_of_local (Temp x) c = value_is x c
+address_of_local (Slot s) c = fresh (λ t. op.AddrSlot t s) c
 
-abbrev pub target_of_local : Place → Code → Placed
-target_of_local (InTemp x) c = still (Kept x) c
-target_of_local (InSlot s) c = led (address_of_local (InSlot s) c)
+abbrev pub target_of_local : LocalPlace → Code → Placed
+target_of_local (Temp x) c = still (Kept x) c
+target_of_local (Slot s) c = led (address_of_local (Slot s) c)
 
 -- the value of an lvalue at an address: a scalar is read, and of all else the value is the address
 abbrev pub value_at : Option Kind → Lowered → Lowered
@@ -96,10 +95,10 @@ value_of_global (Some k) g c = read k (still (Named g) c)
 value_of_global None g c = address_of_global g c
 
 -- the value of a local: a scalar in a temporary is copied
-abbrev pub value_of_local : Option Kind → Place → Code → Lowered
-value_of_local (Some k) (InTemp x) c = read k (still (Kept x) c)
-value_of_local None (InTemp x) c = value_is x c
-value_of_local kind (InSlot s) c = value_at kind (address_of_local (InSlot s) c)
+abbrev pub value_of_local : Option Kind → LocalPlace → Code → Lowered
+value_of_local (Some k) (Temp x) c = read k (still (Kept x) c)
+value_of_local None (Temp x) c = value_is x c
+value_of_local kind (Slot s) c = value_at kind (address_of_local (Slot s) c)
 
 -- ---- assignments (C90 6.3.16, 6.3.2.4, 6.3.3.1)
 
@@ -122,11 +121,6 @@ abbrev pub updated : List RecordValue → BinaryOperator → CType → CType →
 updated records o ty right own target old x =
     stored own target (converted (kind_of ty) (Some own) (combined records o ty right old (temp_of x) x.code))
 
--- the type in which `++` and `--` work
-abbrev pub step_type : CType → CType
-step_type (Int kind) = Int (promoted kind)
-step_type ty = ty
-
 -- the value of `++` and `--`: what is stored, or, behind the operand, what was read
 abbrev pub step_value : StepOperator → ℕ → Lowered → Lowered
 step_value o old x = if is_behind o then record x { temp = Some old } else x
@@ -145,7 +139,7 @@ pub record Fork : Type 0 where
 abbrev pub fork : ℕ → Lowered → Fork
 fork results x = record {
   code = cut_here (Branch (temp_of x) x.code.blocks (x.code.blocks + 1)) x.code.blocks
-      (reserve 3 (record x.code { temps = x.code.temps + results }));
+      (reserve 3 (reserve_temps results x.code));
   result = x.code.temps;
   if_so = x.code.blocks;
   if_not = x.code.blocks + 1;
@@ -176,11 +170,15 @@ abbrev pub is_void : CType → Bool
 is_void Void = true
 is_void _ = false
 
+-- a value of one type as one of another; as one of void it is none (C90 6.3.4)
+abbrev pub cast_to : CType → CType → Lowered → Lowered
+cast_to to from x = if is_void to then lowered_as None x.code else converted (kind_of from) (kind_of to) x
+
 -- a call's result stands in a new temporary, unless its type is void
 abbrev pub called : CType → (Option ℕ → Op) → Code → Lowered
 called ty o c =
     if is_void ty
-    then record { code = emit (o None) c; temp = None }
+    then lowered_as None (emit (o None) c)
     else fresh (λ t. o (Some t)) c
 
 -- ---- expressions
@@ -206,19 +204,19 @@ unfoldable mutual
       let f = fork 1 (lower h a c) in
       let yes = cut_here (Jump f.join) f.if_not (says f.result 1 f.code) in
       in_result f.result (cut_here (Jump f.join) f.join (decides f.result (lower h b yes)))
-  lower h (Node t (Qualified Void constant volatile) (Cond a b d)) c =
-      let f = fork 0 (lower h a c) in
-      let yes = cut_here (Jump f.join) f.if_not (lower h b f.code).code in
-      record { code = cut_here (Jump f.join) f.join (lower h d yes).code; temp = None }
   lower h (Node t ty (Cond a b d)) c =
-      let f = fork 1 (lower h a c) in
+      if is_void (type_of ty)
+      then (let f = fork 0 (lower h a c) in
+      let yes = cut_here (Jump f.join) f.if_not (lower h b f.code).code in
+      lowered_as None (cut_here (Jump f.join) f.join (lower h d yes).code))
+      else (let f = fork 1 (lower h a c) in
       let yes = cut_here (Jump f.join) f.if_not (gives f.result (lower h b f.code)) in
-      in_result f.result (cut_here (Jump f.join) f.join (gives f.result (lower h d yes)))
+      in_result f.result (cut_here (Jump f.join) f.join (gives f.result (lower h d yes))))
   lower h (Node t ty (Comma a b)) c = lower h b (lower h a c).code
-  lower h (Node t (Qualified (Record number) constant volatile) (Assign a b)) c =
-      let x = lower h a c in copied h.records (Record number) (temp_of x) (lower h b x.code)
   lower h (Node t ty (Assign a b)) c =
-      let p = place h a c in stored (scalar_kind (type_of ty)) p.target (lower h b p.code)
+      if is_record (type_of ty)
+      then (let x = lower h a c in copied h.records (type_of ty) (temp_of x) (lower h b x.code))
+      else (let p = place h a c in stored (scalar_kind (type_of ty)) p.target (lower h b p.code))
   lower h (Node t ty (Compound o work a b)) c =
       let p = place h a c in
       let old = read (scalar_kind (type_of ty)) p in
@@ -228,8 +226,7 @@ unfoldable mutual
       let old = read (scalar_kind (type_of ty)) p in
       step_value o (temp_of old)
       (updated h.records (step_operator o) (step_type (type_of ty)) Void (scalar_kind (type_of ty)) p.target (temp_of old) (constant 1 old.code))
-  lower h (Node t (Qualified Void constant volatile) (Cast a)) c = record { code = (lower h a c).code; temp = None }
-  lower h (Node t ty (Cast a)) c = converted (kind_of (type_of (type_at a))) (kind_of (type_of ty)) (lower h a c)
+  lower h (Node t ty (Cast a)) c = cast_to (type_of ty) (type_of (type_at a)) (lower h a c)
   lower h (Node t ty (Decay a)) c = lower h a c
   lower h (Node t ty (Member a offset)) c = value_at (kind_of (type_of ty)) (further offset (lower h a c))
   lower h (Node t ty (Deref a)) c = value_at (kind_of (type_of ty)) (lower h a c)

@@ -1,11 +1,10 @@
 -- Lowering of functions, objects and modules (C90 6.7).
-use Rattle.std.specs.Prelude.{ℕ, zero, suc, ◌+◌, ◌*◌, ◌==◌, max, if◌then◌else◌, Bool, true, false, Option, Some, None, unwrap_or, List, [], ◌∷◌, ◌++◌, map, length, sum_by, codes, bytes_eq}
+use Rattle.std.specs.Prelude.{ℕ, suc, ◌+◌, ◌*◌, max, if◌then◌else◌, Bool, false, Some, None, List, [], ◌∷◌, ◌++◌, map, length, sum_by, replicate, codes, bytes_eq}
 use Rattle.std.specs.List.{flat_map}
-use Rattle.pw_value.specs.declared.value.Kind.{Kind}
 use Rattle.pw_types.specs.Layouts.{round_up}
 use Rattle.pw_types.specs.Shapes.{shape_of}
-use Rattle.pw_types.specs.TypeTrees.{CType, QType, type_of, is_volatile, RecordValue}
-use Rattle.pw_types.specs.TypedTrees.{Symbol, External, Internal, Hidden, LocalValue, FunctionValue, ItemValue, ItemBytes, ItemAddress, PlacedItem, GlobalValue, DeclaredValue, ModuleValue}
+use Rattle.pw_types.specs.TypeTrees.{type_of, is_volatile, RecordValue}
+use Rattle.pw_types.specs.TypedTrees.{Symbol, External, LocalValue, FunctionValue, ItemValue, ItemBytes, ItemAddress, PlacedItem, GlobalValue, DeclaredValue, ModuleValue}
 use Rattle.pw_flow.specs.declared.flow.Item.{Item}
 use Rattle.pw_flow.specs.declared.flow.Item.TheVariants as item
 use Rattle.pw_flow.specs.declared.flow.FlowGlobal.{FlowGlobal}
@@ -13,42 +12,55 @@ use Rattle.pw_flow.specs.declared.flow.FlowFn.{FlowFn}
 use Rattle.pw_flow.specs.declared.flow.FlowModule.{FlowModule}
 use Rattle.pw_flow.specs.declared.flow.Op.{Op}
 use Rattle.pw_flow.specs.declared.flow.Op.TheVariants as op
-use Rattle.pw_flow.specs.declared.flow.Block.{Block}
 use Rattle.pw_flow.specs.declared.flow.End.TheVariants.{Return}
-use Rattle.pw_lower.specs.Codes.{Code, Lowered, temp_of, emit, fresh, cut_here, Numbered, bare, blocks_below}
-use Rattle.pw_lower.specs.Places.{Place, InTemp, InSlot, places_of, temps_from}
+use Rattle.pw_lower.specs.declared.code.Code.{Code}
+use Rattle.pw_lower.specs.declared.code.Numbered.{Numbered}
+use Rattle.pw_lower.specs.Codes.{temp_of, emit, fresh, cut_here, bare, numbered, blocks_below}
+use Rattle.pw_lower.specs.declared.place.LocalPlace.{LocalPlace}
+use Rattle.pw_lower.specs.declared.place.LocalPlace.TheVariants.{Temp, Slot}
+use Rattle.pw_lower.specs.Places.{places_of, temps_from}
 use Rattle.pw_lower.specs.Operators.{kind_of, bytes_of}
-use Rattle.pw_lower.specs.Expressions.{Home, full_name, scalar_kind}
-use Rattle.pw_lower.specs.Statements.{Frame, LabelBlock, numbered, lower_statement}
+use Rattle.pw_lower.specs.Expressions.{full_name, scalar_kind}
+use Rattle.pw_lower.specs.Statements.{Frame, lower_statement}
 
 -- ---- functions
 
 -- A parameter that stands in a slot is stored there first, in the order of the parameters.
-abbrev pub parameters_stored : List LocalValue → List Place → ℕ → ℕ → Code → Code
-parameters_stored (local ∷ locals) (InSlot s ∷ places) k (suc left) c =
+abbrev pub parameters_stored : List LocalValue → List LocalPlace → ℕ → ℕ → Code → Code
+parameters_stored (local ∷ locals) (Slot s ∷ places) k (suc left) c =
     let x = fresh (λ t. op.AddrSlot t s) c in
     parameters_stored locals places (k + 1) left
     (emit (op.Store (scalar_kind (type_of local.ty)) (temp_of x) k) x.code)
-parameters_stored (local ∷ locals) (InTemp t ∷ places) k (suc left) c = parameters_stored locals places (k + 1) left c
+parameters_stored (local ∷ locals) (Temp t ∷ places) k (suc left) c = parameters_stored locals places (k + 1) left c
 parameters_stored locals places k left c = c
 
--- The labels that a `goto` can name have the blocks behind the first, in the order of the text; behind these
--- stands a block to which nothing goes, so that each of them is another block than the next by number.
-abbrev pub start_code : List ℕ → ℕ → Code
-start_code [] temps = record { closed = []; cur = 0; depth = 0; ops = []; blocks = 1; temps = temps }
-start_code (l ∷ rest) temps = record {
-  closed = record { number = length rest + 2; block = bare } ∷ [];
+-- Behind the blocks of the labels that a `goto` can name, where there are any, stands a block to which nothing
+-- goes, so that each of them is another block than the next by number.
+abbrev pub closed_at_start : List ℕ → List Numbered
+closed_at_start [] = []
+closed_at_start (l ∷ rest) = record { number = length rest + 2; block = bare } ∷ []
+
+abbrev pub blocks_at_start : List ℕ → ℕ
+blocks_at_start [] = 1
+blocks_at_start (l ∷ rest) = length rest + 3
+
+-- The code at the start. The labels that a `goto` can name have the blocks behind the first, in the order of the
+-- text.
+abbrev pub start_code : FunctionValue → ℕ → Code
+start_code f temps = record {
+  closed = closed_at_start f.named;
   cur = 0;
   depth = 0;
   ops = [];
-  blocks = length rest + 3;
+  blocks = blocks_at_start f.named;
   temps = temps;
+  labels = numbered 1 f.named (replicate f.labels 0);
 }
 
 -- the sizes of the slots, in order
-abbrev pub slots_of : List RecordValue → List LocalValue → List Place → List ℕ
-slots_of records (local ∷ locals) (InSlot s ∷ places) = bytes_of records (type_of local.ty) ∷ slots_of records locals places
-slots_of records (local ∷ locals) (InTemp t ∷ places) = slots_of records locals places
+abbrev pub slots_of : List RecordValue → List LocalValue → List LocalPlace → List ℕ
+slots_of records (local ∷ locals) (Slot s ∷ places) = bytes_of records (type_of local.ty) ∷ slots_of records locals places
+slots_of records (local ∷ locals) (Temp t ∷ places) = slots_of records locals places
 slots_of records locals places = []
 
 -- what is the same for the whole function
@@ -60,19 +72,19 @@ frame_of home records f = record {
 
 -- the code at the beginning of a function: the parameters are where they stand
 abbrev pub entered : FunctionValue → Code
-entered f = parameters_stored f.locals (places_of f) 0 f.params (start_code f.named (temps_from f.params (places_of f)))
+entered f = parameters_stored f.locals (places_of f) 0 f.params (start_code f (temps_from f.params (places_of f)))
 
 -- the code of a function, its last block closed; outside a loop nothing goes anywhere by `break` or `continue`
 abbrev pub function_code : List ℕ → List RecordValue → FunctionValue → Code
 function_code home records f =
     cut_here (Return None) 0
-    (lower_statement (frame_of home records f) (numbered 1 f.named) (record { out = 0; on = 0 }) f.body (entered f))
+    (lower_statement (frame_of home records f) (record { out = 0; on = 0 }) f.body (entered f))
 
 unfoldable pub lowered_function : List ℕ → List RecordValue → FunctionValue → FlowFn
 lowered_function home records f =
     let c = function_code home records f in record {
       name = full_name home f.name;
-      shape = shape_of records (type_of f.ty) false;
+      shape = shape_of records (type_of f.ty) (is_volatile f.ty);
       params = f.params;
       temps = c.temps;
       slots = slots_of records f.locals (places_of f);

@@ -1,12 +1,12 @@
 -- What lowering makes of operators on values that stand in temporaries.
-use Rattle.std.specs.Prelude.{ℕ, ◌+◌, ◌==◌, ◌||◌, Bool, true, false, if◌then◌else◌, Option, Some, None, option_map, unwrap_or, List, [], ◌∷◌}
+use Rattle.std.specs.Prelude.{ℕ, ◌==◌, Bool, true, false, if◌then◌else◌, Option, Some, None, option_map, unwrap_or, List}
 use Rattle.pw_value.specs.declared.value.Kind.{Kind}
 use Rattle.pw_value.specs.declared.value.Kind.TheVariants.{S8, U8, S16, U16, W32}
 use Rattle.pw_types.specs.declared.kind.IntKind.{IntKind}
 use Rattle.pw_types.specs.declared.kind.IntKind.TheVariants.{Char, SChar, UChar, Short, UShort, Int as KInt, UInt, Long, ULong}
-use Rattle.pw_types.specs.Conversions.{is_signed_kind}
+use Rattle.pw_types.specs.Conversions.{is_signed_kind, promoted}
 use Rattle.pw_types.specs.Layouts.{size_of, layout_of}
-use Rattle.pw_types.specs.TypeTrees.{CType, Void, Int, Pointer, Array, Function, Record, QType, Qualified, type_of, RecordValue}
+use Rattle.pw_types.specs.TypeTrees.{CType, Int, Pointer, Qualified, RecordValue}
 use Rattle.pw_types.specs.declared.tree.UnaryOperator.{UnaryOperator}
 use Rattle.pw_types.specs.declared.tree.UnaryOperator.TheVariants as unary
 use Rattle.pw_types.specs.declared.tree.BinaryOperator.{BinaryOperator}
@@ -19,7 +19,9 @@ use Rattle.pw_flow.specs.declared.flow.BinKind.{BinKind}
 use Rattle.pw_flow.specs.declared.flow.BinKind.TheVariants.{Add, Sub, And, Or, Xor, Mul, DivS, DivU, RemS, RemU, Shl, ShrS, ShrU, Eq, Ne, LtS, LeS, LtU, LeU}
 use Rattle.pw_flow.specs.declared.flow.ExtKind.{ExtKind}
 use Rattle.pw_flow.specs.declared.flow.ExtKind.TheVariants as ext
-use Rattle.pw_lower.specs.Codes.{Code, Lowered, temp_of, emit, fresh, constant}
+use Rattle.pw_lower.specs.declared.code.Code.{Code}
+use Rattle.pw_lower.specs.declared.operators.Side.{Side}
+use Rattle.pw_lower.specs.Codes.{Lowered, temp_of, value_is, emit, fresh, constant}
 
 -- ---- types
 
@@ -57,6 +59,15 @@ abbrev pub target_size : List RecordValue → CType → Option ℕ
 target_size records (Pointer (Qualified ty constant volatile)) = Some (bytes_of records ty)
 target_size records _ = None
 
+-- the type in which `++` and `--` work
+abbrev pub step_type : CType → CType
+step_type (Int kind) = Int (promoted kind)
+step_type ty = ty
+
+-- what an operator's work depends on in the type of an operand
+abbrev pub side_of : List RecordValue → CType → Side
+side_of records ty = record { signed = is_signed ty; size = target_size records ty; kind = kind_of ty }
+
 -- ---- conversions (C90 6.2)
 
 -- The extension that a conversion to a character or short type needs, where that type does not hold every value
@@ -76,7 +87,7 @@ extension U16 U16 = None
 extension from U16 = Some ext.U16
 
 abbrev pub extended : Option ExtKind → ℕ → Code → Lowered
-extended None t c = record { code = c; temp = Some t }
+extended None t c = value_is t c
 extended (Some k) t c = fresh (λ r. op.Ext k r t) c
 
 -- a scalar of one type as one of another
@@ -125,9 +136,6 @@ on_numbers o s a b c =
 -- an operation on a temporary and on what was lowered last
 abbrev pub with : BinKind → ℕ → Lowered → Lowered
 with k a x = fresh (λ t. op.Bin k t a (temp_of x)) x.code
-
-abbrev pub value_is : ℕ → Code → Lowered
-value_is t c = record { code = c; temp = Some t }
 
 -- a number times a size
 abbrev pub scaled : ℕ → ℕ → Code → Lowered

@@ -1,8 +1,10 @@
 -- Where the parameters and locals of a function stand.
 use Rattle.std.specs.Prelude.{ℕ, ◌+◌, ◌==◌, nat_lt, not, ◌&&◌, Bool, true, false, if◌then◌else◌, Option, Some, None, unwrap_or, List, [], ◌∷◌, ◌++◌, slice_get}
 use Rattle.std.specs.List.{flat_map}
-use Rattle.pw_types.specs.TypeTrees.{CType, Void, Int, Pointer, QType, Qualified, type_of, is_volatile}
-use Rattle.pw_types.specs.TypedTrees.{Expression, Node, Form, Number, Str, Local, Global, Function, Unary, Binary, Logic, Cond, Comma, Assign, Compound, Step, Cast, Decay, Member, Deref, Address, Call, CallValue, Expressions, NoExpression, OneExpression, Initialiser, Value, Bytes, Statement, Empty, Evaluate, Block, If, While, Do, For, Switch, Label, Goto, Break, Continue, Return, Arms, NoArm, Arm, Otherwise, NoElse, Else, Statements, NoStatement, OneStatement, LocalValue, FunctionValue}
+use Rattle.pw_types.specs.TypeTrees.{CType, Int, Pointer, type_of, is_volatile}
+use Rattle.pw_types.specs.TypedTrees.{Expression, Node, Form, Local, Unary, Binary, Logic, Cond, Comma, Assign, Compound, Step, Cast, Decay, Member, Deref, Address, Call, CallValue, Expressions, NoExpression, OneExpression, Initialiser, Value, Bytes, Statement, Evaluate, Block, If, While, Do, For, Switch, Label, Return, Arms, NoArm, Arm, Otherwise, NoElse, Else, Statements, NoStatement, OneStatement, LocalValue, FunctionValue}
+use Rattle.pw_lower.specs.declared.place.LocalPlace.{LocalPlace}
+use Rattle.pw_lower.specs.declared.place.LocalPlace.TheVariants.{Temp, Slot}
 
 -- ---- the locals whose address is taken
 
@@ -71,11 +73,6 @@ mutual
 
 -- ---- places
 
--- a temporary, or a slot
-pub data Place : Type 0 where
-  InTemp : (temp : ℕ) → Place
-  InSlot : (slot : ℕ) → Place
-
 abbrev pub is_scalar : CType → Bool
 is_scalar (Int kind) = true
 is_scalar (Pointer target) = true
@@ -92,23 +89,23 @@ is_kept addressed k local =
 
 -- The places of the locals from number k on. The temporary of a parameter has the parameter's number; those of
 -- the other locals, and the slots, are numbered in the order of declaration.
-abbrev pub places_from : List ℕ → ℕ → ℕ → ℕ → ℕ → List LocalValue → List Place
+abbrev pub places_from : List ℕ → ℕ → ℕ → ℕ → ℕ → List LocalValue → List LocalPlace
 places_from addressed params k temp slot [] = []
 places_from addressed params k temp slot (local ∷ rest) =
     if is_kept addressed k local
     then (if nat_lt k params
-    then InTemp k ∷ places_from addressed params (k + 1) temp slot rest
-    else InTemp temp ∷ places_from addressed params (k + 1) (temp + 1) slot rest)
-    else InSlot slot ∷ places_from addressed params (k + 1) temp (slot + 1) rest
+    then Temp k ∷ places_from addressed params (k + 1) temp slot rest
+    else Temp temp ∷ places_from addressed params (k + 1) (temp + 1) slot rest)
+    else Slot slot ∷ places_from addressed params (k + 1) temp (slot + 1) rest
 
-abbrev pub places_of : FunctionValue → List Place
+abbrev pub places_of : FunctionValue → List LocalPlace
 places_of f = places_from (addressed_in_statement f.body) f.params 0 f.params 0 f.locals
 
-abbrev pub place_at : List Place → ℕ → Place
-place_at places k = unwrap_or (slice_get places k) (InTemp 0)
+abbrev pub place_at : List LocalPlace → ℕ → LocalPlace
+place_at places k = unwrap_or (slice_get places k) (Temp 0)
 
 -- how many temporaries the parameters and the kept locals have
-abbrev pub temps_from : ℕ → List Place → ℕ
+abbrev pub temps_from : ℕ → List LocalPlace → ℕ
 temps_from temps [] = temps
-temps_from temps (InTemp t ∷ rest) = temps_from (if nat_lt t temps then temps else t + 1) rest
-temps_from temps (InSlot s ∷ rest) = temps_from temps rest
+temps_from temps (Temp t ∷ rest) = temps_from (if nat_lt t temps then temps else t + 1) rest
+temps_from temps (Slot s ∷ rest) = temps_from temps rest

@@ -1,2 +1,11 @@
-//! Lowering: the flow graph of a module's typed tree, as a plain function.
+//! Lowering: the flow graph of a module's typed tree, as a plain function, and the steps by which code is
+//! made.
 #![tactic(auto)]
+
+pub mod code;
+pub mod operators;
+pub mod place;
+
+pub use code::{Code, Numbered};
+pub use operators::Side;
+pub use place::{LocalPlace, Target, Ways};
