@@ -84,7 +84,7 @@ at_rank defined_once = refl
 at_rank all_agree = refl
 at_rank has_main = refl
 
-one_test : (one other : Test) → rank one ≡ rank other → one ≡ other
+pub one_test : (one other : Test) → rank one ≡ rank other → one ≡ other
 one_test one other e = sym (at_rank one) ∙ ap test_at e ∙ at_rank other
 
 pub not_both : (modules : List Interface) (fault : LinkFault) → Links modules → Refusal modules fault → ⊥
