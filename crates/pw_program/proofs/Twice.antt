@@ -1,5 +1,5 @@
 -- Names that are defined twice, by the places of sorted definitions.
-use Rattle.std.proofs.Common.{◌≡◌, ◌≢◌, ℕ, suc, ◌+◌, ◌-◌, ◌<◌, ◌≤◌, List, [], ◌∷◌, length, refl, sym, ap, subst, ◌∙◌, arith, inl, inr}
+use Rattle.std.proofs.Common.{◌≡◌, ◌≢◌, ℕ, ◌+◌, ◌-◌, ◌<◌, ◌≤◌, List, length, refl, sym, ap, subst, ◌∙◌, arith, inl, inr}
 use Rattle.std.specs.Prelude.{Some, slice_get}
 use Rattle.std.specs.List.Sorted.{IsPermutation}
 use Rattle.std.proofs.lemmas.Bool.{cases_lt}
@@ -10,7 +10,7 @@ use Rattle.std.proofs.lemmas.Bool.{cases_eq}
 use Rattle.pw_value.specs.ProgramNames.{IsOrdinary}
 use Rattle.pw_program.specs.declared.interface.Interface.{Interface}
 use Rattle.pw_program.specs.Linking.{definitions, IsDefinedTwice, IsLeastPair, Fails, defined_once}
-use Rattle.pw_program.specs.Entries.{IsAgain, Two, AreFirst, AreNone, stands_before}
+use Rattle.pw_program.specs.Entries.{IsAgain, Two, AreFirst, AreNone}
 use Rattle.pw_program.proofs.Sorted.{IsSortedAs, one_item, get_some, some_at, before_at, up_at, up_both, Up, least_any, none_any}
 use Rattle.pw_program.proofs.Moved.{moved, places_by, get_at}
 

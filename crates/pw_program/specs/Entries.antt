@@ -1,6 +1,5 @@
 -- What the tests look at: the names of all modules in one list, sorted, and two places of it.
 use Rattle.std.specs.Prelude.{ℕ, ◌≡◌, ◌≢◌, ◌<◌, ◌≤◌, Bool, false, Some, List, length, slice_get}
-use Rattle.std.specs.List.Sorted.{IsSortedBy}
 use Rattle.std.specs.Ordering.{nat_cmp, is_lt, ordering_then}
 use Rattle.std.specs.Cmp.Lexicographic.{slice_cmp}
 use Rattle.pw_value.specs.ProgramNames.{IsOrdinary}

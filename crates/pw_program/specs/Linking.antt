@@ -1,7 +1,7 @@
 -- When modules make a program: each name that is used is defined, and once (ISO C90 6.7), all declarations
 -- of a name are of one type (6.1.2.6), and the program has a `main` that takes nothing and returns an int
 -- (5.1.2.2.1). The library is one more module.
-use Rattle.std.specs.Prelude.{ℕ, ◌≡◌, ◌≢◌, ◌<◌, ◌≤◌, ◌⊎◌, ◌-◌, ◌^◌, min, Result, MatchResult, Option, Some, None, List, [], ◌∷◌, ◌++◌, length, map, Contains, slice_get}
+use Rattle.std.specs.Prelude.{ℕ, ◌≡◌, ◌≢◌, ◌<◌, ◌≤◌, ◌⊎◌, ◌-◌, ◌^◌, min, Result, MatchResult, Some, None, List, [], ◌∷◌, ◌++◌, length, map, Contains, slice_get}
 use Rattle.std.specs.List.{flat_map, sum_by}
 use Rattle.std.specs.Ordering.{nat_cmp}
 use Rattle.std.specs.Cmp.Lexicographic.{slice_cmp}

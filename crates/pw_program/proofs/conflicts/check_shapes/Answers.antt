@@ -1,4 +1,4 @@
-use Rattle.std.proofs.Common.{◌++◌, List, ℕ, length, map, subst, ap, inr, sym, ◌∙◌}
+use Rattle.std.proofs.Common.{◌++◌, List, ℕ, map, subst, ap, inr, ◌∙◌}
 use Rattle.std.specs.List.{flat_map}
 use Rattle.std.specs.List.Sorted.{IsPermutation}
 use Rattle.pw_program.specs.declared.interface.Interface.{Interface}

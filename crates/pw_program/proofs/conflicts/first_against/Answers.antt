@@ -1,4 +1,4 @@
-use Rattle.std.proofs.Common.{◌≡◌, ◌<◌, ◌≤◌, ◌+◌, length, map, arith, true, false}
+use Rattle.std.proofs.Common.{◌≡◌, ◌≤◌, ◌+◌, map, arith, true, false}
 use Rattle.std.proofs.lemmas.List.{length-map}
 use Rattle.pw_program.specs.Entries.{declaration}
 use Rattle.pw_program.proofs.Sorted.{get_mapped}

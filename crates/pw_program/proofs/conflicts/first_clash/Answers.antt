@@ -1,4 +1,4 @@
-use Rattle.std.proofs.Common.{map, length, arith}
+use Rattle.std.proofs.Common.{map, arith}
 use Rattle.std.proofs.lemmas.List.{length-map}
 use Rattle.pw_program.specs.Entries.{declaration}
 use Rattle.pw_program.proofs.Sorted.{get_some}

@@ -1,7 +1,7 @@
-use Rattle.std.proofs.Common.{◌≡◌, ◌<◌, ◌≤◌, ◌+◌, length, map, arith, true, false, sym, ap, ◌∙◌, List, ℕ}
+use Rattle.std.proofs.Common.{◌≡◌, ◌≤◌, ◌+◌, length, map, arith, true, false, sym}
 use Rattle.std.proofs.lemmas.List.{length-map}
-use Rattle.pw_program.specs.Entries.{declaration, key}
-use Rattle.pw_program.proofs.Sorted.{get_mapped, one_item, get_some}
+use Rattle.pw_program.specs.Entries.{declaration}
+use Rattle.pw_program.proofs.Sorted.{get_mapped}
 use Rattle.pw_program.proofs.Clashes.{run_first, run_further, run_ends, run_all}
 use Rattle.pw_program.proofs.conflicts.run_end.Goals as goal
 

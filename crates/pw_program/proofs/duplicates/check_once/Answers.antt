@@ -1,8 +1,8 @@
-use Rattle.std.proofs.Common.{◌++◌, ◌+◌, ◌<◌, List, ℕ, length, map, subst, ap, inr, sym, ◌∙◌}
+use Rattle.std.proofs.Common.{◌++◌, ◌+◌, List, ℕ, map, subst, ap, inr, ◌∙◌}
 use Rattle.std.specs.List.{flat_map}
 use Rattle.std.specs.List.Sorted.{IsPermutation}
 use Rattle.pw_program.specs.declared.interface.Interface.{Interface}
-use Rattle.pw_program.specs.Linking.{defined_in, definitions}
+use Rattle.pw_program.specs.Linking.{defined_in}
 use Rattle.pw_program.specs.Entries.{definition}
 use Rattle.pw_program.proofs.Sorted.{get_mapped, mapped_within}
 use Rattle.pw_program.proofs.Twice.{told_twice, none_twice}

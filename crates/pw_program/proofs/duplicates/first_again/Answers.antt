@@ -1,6 +1,6 @@
-use Rattle.std.proofs.Common.{◌≡◌, ◌-◌, ◌<◌, ◌≤◌, length, map, arith, true, sym, ◌∙◌}
+use Rattle.std.proofs.Common.{◌≡◌, ◌-◌, ◌<◌, ◌≤◌, length, map, arith, true}
 use Rattle.std.proofs.lemmas.List.{length-map}
-use Rattle.pw_program.specs.Entries.{definition, IsAgain}
+use Rattle.pw_program.specs.Entries.{definition}
 use Rattle.pw_program.proofs.Sorted.{get_mapped}
 use Rattle.pw_program.proofs.Twice.{none_again, first_two_at, more_others}
 use Rattle.pw_program.proofs.duplicates.first_again.Goals as goal

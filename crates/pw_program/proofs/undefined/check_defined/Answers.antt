@@ -1,9 +1,9 @@
-use Rattle.std.proofs.Common.{◌++◌, List, ℕ, subst, ap, inr, sym, ◌∙◌}
+use Rattle.std.proofs.Common.{◌++◌, subst, ap, inr, ◌∙◌}
 use Rattle.std.specs.List.{flat_map}
 use Rattle.pw_value.specs.FieldNames.{IsTableOf}
 use Rattle.pw_program.specs.declared.interface.Interface.{Interface}
 use Rattle.pw_value.specs.declared.fault.LinkFault.TheVariants.{Undefined}
-use Rattle.pw_program.specs.Linking.{used_names, defined_names, names_in}
+use Rattle.pw_program.specs.Linking.{names_in}
 use Rattle.pw_program.proofs.Unknown.{undefined, all_known}
 use Rattle.pw_program.proofs.undefined.check_defined.Goals as goal
 
