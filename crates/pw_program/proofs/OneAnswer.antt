@@ -1,7 +1,6 @@
 -- A list of modules has one answer.
-use Rattle.std.proofs.Common.{◌≡◌, ◌≢◌, ℕ, zero, suc, ◌<◌, ◌≤◌, List, [], ◌∷◌, refl, sym, ap, subst, ◌∙◌, arith, inl, inr}
+use Rattle.std.proofs.Common.{◌≡◌, ◌≢◌, ℕ, zero, suc, List, [], ◌∷◌, refl, sym, ap, subst, ◌∙◌, arith, inl, inr}
 use Rattle.std.specs.Ordering.{nat_cmp, ordering_reverse, ordering_then}
-use Rattle.std.specs.Cmp.{IsTotalOrder}
 use Rattle.std.specs.Cmp.Lexicographic.{slice_cmp}
 use Rattle.std.specs.declared.cmp.Ordering.{Ordering}
 use Rattle.std.specs.declared.cmp.Ordering.TheVariants.{Less, Equal, Greater}
@@ -84,7 +83,7 @@ at_rank defined_once = refl
 at_rank all_agree = refl
 at_rank has_main = refl
 
-one_test : (one other : Test) → rank one ≡ rank other → one ≡ other
+pub one_test : (one other : Test) → rank one ≡ rank other → one ≡ other
 one_test one other e = sym (at_rank one) ∙ ap test_at e ∙ at_rank other
 
 pub not_both : (modules : List Interface) (fault : LinkFault) → Links modules → Refusal modules fault → ⊥

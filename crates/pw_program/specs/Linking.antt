@@ -1,7 +1,7 @@
 -- When modules make a program: each name that is used is defined, and once (ISO C90 6.7), all declarations
 -- of a name are of one type (6.1.2.6), and the program has a `main` that takes nothing and returns an int
 -- (5.1.2.2.1). The library is one more module.
-use Rattle.std.specs.Prelude.{ℕ, ◌≡◌, ◌≢◌, ◌<◌, ◌≤◌, Option, Some, None, List, [], ◌∷◌, ◌++◌, length, map, Contains, slice_get}
+use Rattle.std.specs.Prelude.{ℕ, ◌≡◌, ◌≢◌, ◌<◌, ◌≤◌, ◌⊎◌, ◌-◌, ◌^◌, min, Result, MatchResult, Some, None, List, [], ◌∷◌, ◌++◌, length, map, Contains, slice_get}
 use Rattle.std.specs.List.{flat_map, sum_by}
 use Rattle.std.specs.Ordering.{nat_cmp}
 use Rattle.std.specs.Cmp.Lexicographic.{slice_cmp}
@@ -27,24 +27,34 @@ library = record { «module» = library_name; functions = library_functions; glo
 abbrev pub main_shape : List ℕ
 main_shape = 102 ∷ 105 ∷ []
 
+abbrev pub names_in : Interface → List (List ℕ)
+names_in i = i.functions ++ i.globals
+
 -- what a module defines, and what it declares, each with the module's name
 abbrev pub defined_in : Interface → List (List ℕ × List ℕ)
-defined_in i = map (λ name. (name, i.module)) (i.functions ++ i.globals)
+defined_in i = map (λ name. (name, i.module)) i.functions ++ map (λ name. (name, i.module)) i.globals
 
 abbrev pub declared_in : Interface → List (List ℕ × List ℕ × List ℕ)
 declared_in i = map (λ d. (d.0, i.module, d.1)) i.declared
 
 -- those of the library and of all modules
 abbrev pub definitions : List Interface → List (List ℕ × List ℕ)
-definitions modules = flat_map defined_in (library ∷ modules)
+definitions modules = defined_in library ++ flat_map defined_in modules
 
 abbrev pub declarations : List Interface → List (List ℕ × List ℕ × List ℕ)
-declarations modules = flat_map declared_in (library ∷ modules)
+declarations modules = declared_in library ++ flat_map declared_in modules
+
+abbrev pub defined_names : List Interface → List (List ℕ)
+defined_names modules = names_in library ++ flat_map names_in modules
 
 abbrev pub used_names : List Interface → List (List ℕ)
 used_names modules = flat_map (λ i. i.used) modules
 
--- how many functions and how many objects the modules define, $start included and the library not
+-- how many functions and how many objects the modules define, $start included and the library not; a count
+-- stands still at its end
+abbrev pub told_count : ℕ → ℕ
+told_count n = min n (2 ^ 64 - 1)
+
 abbrev pub function_count : List Interface → ℕ
 function_count modules = sum_by (λ i. length i.functions) modules
 
@@ -57,7 +67,7 @@ global_count modules = sum_by (λ i. length i.globals) modules
 pub record IsUndefined (modules : List Interface) (name : List ℕ) : Type 0 where
   pub ordinary : IsOrdinary name
   pub used : Contains (used_names modules) name
-  pub nowhere : ¬ Contains (map (λ d. d.0) (definitions modules)) name
+  pub nowhere : ¬ Contains (defined_names modules) name
 
 -- it is defined by one module, and again by another or by the same
 pub record IsDefinedTwice (modules : List Interface) (name one other : List ℕ) : Type 0 where
@@ -123,8 +133,8 @@ Passes has_main modules = HasMain modules
 
 -- what a test that fails tells
 abbrev pub Fails : Test → List Interface → LinkFault → Type 0
-Fails few_functions modules fault = (function_limit < function_count modules) × (fault ≡ F.TooMany Functions (function_count modules))
-Fails few_globals modules fault = (global_limit < global_count modules) × (fault ≡ F.TooMany Globals (global_count modules))
+Fails few_functions modules fault = (function_limit < function_count modules) × (fault ≡ F.TooMany Functions (told_count (function_count modules)))
+Fails few_globals modules fault = (global_limit < global_count modules) × (fault ≡ F.TooMany Globals (told_count (global_count modules)))
 Fails all_defined modules fault = (name : List ℕ) × IsLeastName (IsUndefined modules) name × (fault ≡ F.Undefined name)
 Fails defined_once modules fault = (name : List ℕ) × (one : List ℕ) × (other : List ℕ) × IsLeastPair (IsDefinedTwice modules) name one other × (fault ≡ F.Duplicate name one other)
 Fails all_agree modules fault = (name : List ℕ) × (one : List ℕ) × (other : List ℕ) × IsLeastPair (IsInConflict modules) name one other × (fault ≡ F.Conflict name one other)
@@ -139,3 +149,7 @@ pub record Refusal (modules : List Interface) (fault : LinkFault) : Type 0 where
   pub failed : Test
   pub fails : Fails failed modules fault
   pub earlier : (test : Test) → rank test < rank failed → Passes test modules
+
+-- what a call answers that makes a test
+abbrev pub Answers : Test → List Interface → Result (Unit {0}) LinkFault → Type 0
+Answers test modules r = MatchResult r (λ _. Passes test modules) (λ fault. (fault ≡ F.NoMemory) ⊎ Fails test modules fault)

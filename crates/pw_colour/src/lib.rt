@@ -1,0 +1,2 @@
+//! Registers for webs, and the database of directives that they give.
+#![tactic(auto)]

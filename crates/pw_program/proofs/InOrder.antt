@@ -1,0 +1,47 @@
+-- The tests one after the other.
+use Rattle.std.proofs.Common.{◌≡◌, ℕ, suc, ◌<◌, List, subst, arith, inl, inr}
+use Rattle.std.specs.Prelude.{◌⊎◌, Result, Ok, Err, OnOk, IfErr}
+use Rattle.std.proofs.lemmas.Bool.{cases_lt}
+use Rattle.pw_value.specs.declared.fault.LinkFault.{LinkFault}
+use Rattle.pw_value.specs.declared.fault.LinkFault.TheVariants.{NoMemory}
+use Rattle.pw_program.specs.declared.interface.Interface.{Interface}
+use Rattle.pw_program.specs.Linking.{Test, few_functions, few_globals, all_defined, defined_once, all_agree, has_main, rank, Passes, Fails, Links, Refusal, Answers}
+use Rattle.pw_program.proofs.OneAnswer.{one_test}
+
+-- the first tests, so many of them, are passed
+abbrev pub Passed : ℕ → List Interface → Type 0
+Passed n modules = (test : Test) → rank test < n → Passes test modules
+
+pub none_passed : (modules : List Interface) → Passed 0 modules
+none_passed modules test low = absurd (omega (arith, low))
+
+pub one_more : (test : Test) (modules : List Interface) → Passed (rank test) modules → Passes test modules → Passed (suc (rank test)) modules
+one_more test modules passed here other low =
+    elim (cases_lt (rank other) (rank test)) [
+      | inl less ↦ passed other less
+      | inr more ↦ let e : rank test ≡ rank other = omega (arith, low, more) in subst (λ (t : Test). Passes t modules) (one_test test other e) here
+    ]
+
+below_six : (test : Test) → rank test < 6
+below_six few_functions = omega arith
+below_six few_globals = omega arith
+below_six all_defined = omega arith
+below_six defined_once = omega arith
+below_six all_agree = omega arith
+below_six has_main = omega arith
+
+pub all_passed : (modules : List Interface) → Passed 6 modules → Links modules
+all_passed modules passed test = passed test (below_six test)
+
+pub refused : (test : Test) (modules : List Interface) (fault : LinkFault) → Passed (rank test) modules → (fault ≡ NoMemory) ⊎ Fails test modules fault → (fault ≡ NoMemory) ⊎ Refusal modules fault
+refused test modules fault passed (inl none) = inl none
+refused test modules fault passed (inr fails) = inr (record { failed = test; fails = fails; earlier = passed })
+
+-- the last test tells what all of them do
+pub last_links : (modules : List Interface) (r : Result (Unit {0}) LinkFault) → Passed 5 modules → Answers has_main modules r → OnOk r (Links modules)
+last_links modules (Ok x) passed h = all_passed modules (one_more has_main modules passed h)
+last_links modules (Err e) passed h = tt
+
+pub last_refused : (modules : List Interface) (r : Result (Unit {0}) LinkFault) → Passed 5 modules → Answers has_main modules r → IfErr r (λ fault. (fault ≡ NoMemory) ⊎ Refusal modules fault)
+last_refused modules (Ok x) passed h = tt
+last_refused modules (Err e) passed h = refused has_main modules e passed h

@@ -1,0 +1,31 @@
+//! Whether there is a `main`.
+
+ghost use Rattle.std.specs.Prelude.{◌≡◌, ◌↔◌, IsTrue, Some};
+ghost use Rattle.pw_program.specs.Linking.{HasMain, main_shape};
+
+use crate::interface::Interface;
+
+/// The shape of `int main(void)`.
+const MAIN_SHAPE: &[u8] = b"fi";
+
+/// Whether a module defines `main` as a function of no parameters that returns an int.
+fn is_main_in(each: &Interface) -> bool
+    ensures { IsTrue result ↔ (each.now.main ≡ Some main_shape) }
+{
+    match &each.main {
+        Some(shape) => shape.as_bytes() == MAIN_SHAPE,
+        None => false,
+    }
+}
+
+/// Whether some module does.
+pub(crate) fn is_main_anywhere(modules: &[Interface]) -> bool
+    ensures { IsTrue result ↔ HasMain modules.now }
+{
+    for each in modules {
+        if is_main_in(each) {
+            return true;
+        }
+    }
+    false
+}
