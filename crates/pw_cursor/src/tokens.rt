@@ -1,6 +1,7 @@
 //! A cursor over the tokens of a module, with the names in scope.
 
 ghost use Rattle.std.specs.Prelude.{◌≡◌, ◌≢◌, ◌≤◌, ◌+◌, [], ◌∷◌, length, map, take, drop, true, false, Some, Ok, OnOk};
+ghost use Rattle.pw_token.specs.Limits.{token_limit};
 ghost use Rattle.pw_tree.specs.Lexemes.{view_lexeme};
 ghost use Rattle.pw_tree.specs.Views.{view_word};
 ghost use Rattle.pw_grammar.specs.Input as spec;
@@ -54,7 +55,7 @@ fn same_keyword(a: Keyword, b: Keyword) -> bool
 
 impl<'a> Tokens<'a> {
     pub fn new(alloc: Global, lexemes: &'a [Lexeme<'a>]) -> Self
-        requires { length lexemes.now ≤ 200000 }
+        requires { length lexemes.now ≤ token_limit }
         ensures { result ≡ record { names = []; rest = map view_lexeme lexemes.now; next = 1 } }
     {
         Tokens {

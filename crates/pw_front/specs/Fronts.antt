@@ -1,5 +1,6 @@
 -- What the front makes of a module's text: its syntax tree, or a refusal.
 use Rattle.std.specs.Prelude.{◌≡◌, ℕ, ◌-◌, Bool, List, nat_lt, Option, Some, None, Result, Ok, Err, is_some, slice_get, option_and_then, option_map}
+use Rattle.pw_token.specs.Limits.{nest_limit}
 use Rattle.std.specs.List.{position_from}
 use Rattle.pw_token.specs.Features.{feature_of}
 use Rattle.pw_token.specs.Nesting.{nests_of}
@@ -29,7 +30,7 @@ has_feature text token = is_some (feature_of text token)
 
 -- a nesting deeper than a text may have
 abbrev pub is_deep : ℕ → Bool
-is_deep nest = nat_lt 200 nest
+is_deep nest = nat_lt nest_limit nest
 
 -- ---- the relation
 

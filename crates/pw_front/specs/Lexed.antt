@@ -1,5 +1,6 @@
 -- The tokens of a text as a function, piece by piece from its front.
 use Rattle.std.specs.Prelude.{ℕ, zero, suc, ◌+◌, Bool, true, false, ◌==◌, nat_le, nat_lt, if◌then◌else◌, List, [], ◌++◌, length, take, drop, Option, Some, None, Result, Ok, Err}
+use Rattle.pw_token.specs.Limits.{text_limit}
 use Rattle.pw_token.specs.Pieces.{piece_at}
 use Rattle.pw_token.specs.Tokenization.{line_start_after, token_in}
 use Rattle.pw_token.specs.declared.piece.PieceKind.{PieceKind}
@@ -35,4 +36,4 @@ lexed_from (suc most) text at line_start tokens =
 
 -- A piece has one byte or more, so that no text has more pieces than bytes.
 unfoldable pub lexed : List ℕ → LexAnswer
-lexed text = if nat_lt 1048576 (length text) then Err TooLong else lexed_from (length text) text 0 true []
+lexed text = if nat_lt text_limit (length text) then Err TooLong else lexed_from (length text) text 0 true []

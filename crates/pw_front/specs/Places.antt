@@ -1,5 +1,6 @@
 -- The place of a refusal in its text, and the line of a place.
 use Rattle.std.specs.Prelude.{ℕ, ◌+◌, ◌-◌, ◌==◌, List, [], length, take, count_by, Result, Ok, Err, slice_get}
+use Rattle.pw_token.specs.Limits.{text_limit}
 use Rattle.std.specs.Option.{option_map_or}
 use Rattle.pw_token.specs.declared.token.LexFault.TheVariants.{Bad, TooLong, TooMany, NoMemory}
 use Rattle.pw_token.specs.declared.token.Token.{Token}
@@ -25,9 +26,9 @@ tokens_before text (Err (TooMany at)) = or_none (lexed (take at text))
 tokens_before text (Err TooLong) = []
 tokens_before text (Err NoMemory) = []
 
--- the tokens of a text as far as it can be cut, which are looked for in the 1,048,576 bytes that a text may have
+-- the tokens of a text as far as it can be cut, which are looked for in the bytes that a text may have
 abbrev pub tokens_in : List ℕ → List Token
-tokens_in text = tokens_before (take 1048576 text) (lexed (take 1048576 text))
+tokens_in text = tokens_before (take text_limit text) (lexed (take text_limit text))
 
 -- the place of the token of a number, counted from 1; the end of the text where there is none
 abbrev pub token_place : List ℕ → ℕ → ℕ

@@ -8,7 +8,7 @@ ghost use Rattle.pw_front.specs.Places.{line_at, or_none, place_of, refusal_line
 
 use crate::refusal::Refusal;
 use pw_parse::ParseFault;
-use pw_token::{LexFault, Token, lex};
+use pw_token::{LexFault, MAX_TEXT, Token, lex};
 use std::alloc::{AllocError, Global};
 
 /// The line of a place, counted from 1; past the end of the text its last line.
@@ -18,9 +18,6 @@ fn line_at(text: &[u8], place: usize) -> usize
     let before = &text[..place.min(text.len())];
     1 + before.iter().filter(|byte| **byte == b'\n').count()
 }
-
-/// The most bytes that a text may have.
-const MOST: usize = 1_048_576;
 
 /// No tokens, for a text that does not lex. Want of memory is told on.
 fn no_tokens(alloc: Global, fault: LexFault) -> Result<Vec<Token>, AllocError>
@@ -71,7 +68,7 @@ fn tokens_so_far(alloc: Global, text: &[u8]) -> Result<Vec<Token>, AllocError>
 fn tokens_in(alloc: Global, text: &[u8]) -> Result<Vec<Token>, AllocError>
     ensures { IfOk result (λ tokens. tokens.items ≡ tokens_in text.now) }
 {
-    tokens_so_far(alloc, &text[..MOST.min(text.len())])
+    tokens_so_far(alloc, &text[..MAX_TEXT.min(text.len())])
 }
 
 /// The place of the token of this number, counted from 1, or `end` where there is none.

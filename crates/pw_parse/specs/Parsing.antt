@@ -1,5 +1,6 @@
 -- What a text's tokens are: a tree, or a fault.
 use Rattle.std.specs.Prelude.{◌≡◌, ◌≢◌, ℕ, List, length, map, nat_lt, Option, Some, None, Result, Ok, Err}
+use Rattle.pw_token.specs.Limits.{nest_limit}
 use Rattle.std.specs.List.{position_from}
 use Rattle.pw_token.specs.Nesting.{nests_of}
 use Rattle.pw_token.specs.declared.token.Token.{Token}
@@ -29,7 +30,7 @@ unless_too_deep None outcome = answer_of outcome
 
 -- the first token that is nested deeper than 200, counted from 1
 abbrev pub first_too_deep : List ℕ → List Token → Option ℕ
-first_too_deep text tokens = position_from (λ nest. nat_lt 200 nest) 1 (nests_of text tokens)
+first_too_deep text tokens = position_from (λ nest. nat_lt nest_limit nest) 1 (nests_of text tokens)
 
 -- what is read from the tokens
 abbrev pub read_in : List ℕ → List Token → Outcome Module

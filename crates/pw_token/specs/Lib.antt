@@ -1,6 +1,7 @@
 pub mod Bytes
 pub mod Features
 pub mod Levels
+pub mod Limits
 pub mod Nesting
 pub mod Pieces
 pub mod Roles

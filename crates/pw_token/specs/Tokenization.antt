@@ -1,5 +1,6 @@
 -- Tokenization: a text is cut into blanks, comments, line markers and tokens.
 use Rattle.std.specs.Prelude.{◌≡◌, ℕ, ◌+◌, ◌<◌, ◌≤◌, Bool, true, false, ◌&&◌, ◌||◌, ◌==◌, ◌⊎◌, List, [], ◌∷◌, ◌++◌, length, Result, Ok, Err, ⊤}
+use Rattle.pw_token.specs.Limits.{text_limit, token_limit}
 use Rattle.std.specs.List.{list_any}
 use Rattle.pw_token.specs.Bytes.{is_in, AllIn}
 use Rattle.pw_token.specs.Spelling.{Spells}
@@ -109,14 +110,14 @@ pub record IsBadAt (text : List ℕ) (at : ℕ) : Type 0 where
   pub before_end : 0 < length rest
   pub nothing : NothingStands line_start rest
 
--- The text is cut up to a place with 200,000 tokens, and there stands another.
+-- The text is cut up to a place with as many tokens as a text may have, and there stands another.
 pub record IsTooManyAt (text : List ℕ) (at : ℕ) : Type 0 where
   pub pieces : List Piece
   pub line_start : Bool
   pub rest : List ℕ
   pub cut : Cuts true text pieces line_start rest
   pub place : at + length rest ≡ length text
-  pub full : length (tokens_of 0 pieces) ≡ 200000
+  pub full : length (tokens_of 0 pieces) ≡ token_limit
   pub kind : TokenKind
   pub spelled : List ℕ
   pub after : List ℕ
@@ -126,17 +127,17 @@ pub record IsTooManyAt (text : List ℕ) (at : ℕ) : Type 0 where
 -- ---- the answer
 
 abbrev pub IsLexed : List ℕ → List Token → Type 0
-IsLexed text tokens = (length text ≤ 1048576) × AreTokens text tokens × (length tokens ≤ 200000)
+IsLexed text tokens = (length text ≤ text_limit) × AreTokens text tokens × (length tokens ≤ token_limit)
 
 abbrev pub IsTooLong : List ℕ → Type 0
-IsTooLong text = 1048576 < length text
+IsTooLong text = text_limit < length text
 
 -- of the two faults that have a place, the one at the earlier place is answered
 abbrev pub IsBad : List ℕ → ℕ → Type 0
-IsBad text at = (length text ≤ 1048576) × IsBadAt text at × ((other : ℕ) → IsTooManyAt text other → at < other)
+IsBad text at = (length text ≤ text_limit) × IsBadAt text at × ((other : ℕ) → IsTooManyAt text other → at < other)
 
 abbrev pub IsTooMany : List ℕ → ℕ → Type 0
-IsTooMany text at = (length text ≤ 1048576) × IsTooManyAt text at × ((other : ℕ) → IsBadAt text other → at < other)
+IsTooMany text at = (length text ≤ text_limit) × IsTooManyAt text at × ((other : ℕ) → IsBadAt text other → at < other)
 
 -- the text's one answer
 abbrev pub Lexes : List ℕ → Result (List Token) LexFault → Type 0
@@ -164,9 +165,9 @@ Gives text view (Err TooLong) = Lexes text (Err TooLong)
 Gives text view (Err (Bad at)) = Lexes text (Err (Bad at))
 Gives text view (Err (TooMany at)) = Lexes text (Err (TooMany at))
 
--- why a piece was not kept behind `count` tokens: there are 200,000, and it is another, or memory ran out
+-- why a piece was not kept behind `count` tokens: there are as many as may be, and it is another, or memory ran out
 abbrev pub Keeps : PieceKind → ℕ → ℕ → LexFault → Type 0
 Keeps kind at count NoMemory = ⊤
-Keeps kind at count (TooMany place) = (place ≡ at) × (count ≡ 200000) × ((token : TokenKind) × (kind ≡ piece.Token token))
+Keeps kind at count (TooMany place) = (place ≡ at) × (count ≡ token_limit) × ((token : TokenKind) × (kind ≡ piece.Token token))
 Keeps kind at count TooLong = ⊥
 Keeps kind at count (Bad place) = ⊥

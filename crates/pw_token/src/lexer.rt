@@ -1,6 +1,7 @@
 //! The tokens of a text.
 
 ghost use Rattle.std.specs.Prelude.{◌≡◌, ◌≤◌, ◌++◌, ◌⊎◌, ℕ, List, Result, Ok, length, vec_len, IfOk, OnOk, IfErr, IsErrOf};
+ghost use Rattle.pw_token.specs.Limits.{text_limit, token_limit};
 ghost use Rattle.pw_token.specs.Tokenization.{Answers, Gives, IsBad, IsLexed, IsTooLong, IsTooMany, Lexes, Keeps, line_start_after, token_in};
 ghost use Rattle.pw_token.specs.declared.token.LexFault.{LexFault};
 ghost use Rattle.pw_token.specs.declared.token.Token.{Token};
@@ -26,9 +27,9 @@ fn line_start_after(line_start: bool, kind: PieceKind, text: &[u8]) -> bool
 
 /// Adds the token that a piece is, if it is one.
 fn keep(tokens: &mut Vec<Token>, kind: PieceKind, at: usize, len: usize) -> Result<(), LexFault>
-    requires { vec_len tokens.old ≤ 200000 }
+    requires { vec_len tokens.old ≤ token_limit }
     ensures kept { OnOk result (tokens.new.items ≡ tokens.old.items ++ token_in kind at len) }
-    ensures few { OnOk result (length tokens.new.items ≤ 200000) }
+    ensures few { OnOk result (length tokens.new.items ≤ token_limit) }
     ensures fault { IfErr result (λ fault. Keeps kind at (vec_len tokens.old) fault) }
 {
     if let PieceKind::Token(kind) = kind {

@@ -16,7 +16,7 @@ mod roles;
 mod token;
 
 pub use features::unsupported;
-pub use laws::{one_cutting, tokens_stand_in_order};
+pub use laws::{limits_of_a_text, one_cutting, tokens_stand_in_order};
 pub use lexer::{MAX_TEXT, MAX_TOKENS, lex};
 pub use nesting::{MAX_NEST, nest_fault};
 pub use token::{Feature, LexFault, Token, TokenKind};

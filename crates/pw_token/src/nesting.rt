@@ -1,6 +1,7 @@
 //! How deep a text goes.
 
 ghost use Rattle.std.specs.Prelude.{◌≡◌, ◌≤◌, ◌<◌, ◌+◌, if◌then◌else◌, All, drop, length, map, nat_lt};
+ghost use Rattle.pw_token.specs.Limits.{nest_limit};
 ghost use Rattle.std.specs.List.{position_from};
 ghost use Rattle.pw_token.specs.Levels.{IsSound, levels_of};
 ghost use Rattle.pw_token.specs.Nesting.{State, begins_operand, effect, ends_do, ends_statement, first_role, innermost_is, is_closing, is_else, is_question, nest_at, nests_of, operand_after, outer_of, with_control, with_expression, without_bracket};
@@ -54,7 +55,7 @@ fn ends_do(levels: &Levels, before: Role, operand: bool) -> bool
 
 fn close_question(levels: &mut Levels)
     requires sound { IsSound levels.old }
-    requires low { levels.old.nest ≤ 201 }
+    requires low { levels.old.nest ≤ nest_limit + 1 }
     ensures sound { IsSound levels.new }
     ensures levels { levels_of levels.new ≡ (if innermost_is is_question (levels_of levels.old) then with_expression (outer_of (levels_of levels.old)) else levels_of levels.old) }
     ensures rise { levels.new.nest ≤ levels.old.nest + 1 }
@@ -67,7 +68,7 @@ fn close_question(levels: &mut Levels)
 
 fn close_paren(levels: &mut Levels, next: Role)
     requires sound { IsSound levels.old }
-    requires low { levels.old.nest ≤ 201 }
+    requires low { levels.old.nest ≤ nest_limit + 1 }
     ensures sound { IsSound levels.new }
     ensures levels { levels_of levels.new ≡ (if begins_operand next then with_expression (without_bracket (levels_of levels.old)) else without_bracket (levels_of levels.old)) }
     ensures rise { levels.new.nest ≤ levels.old.nest + 1 }
@@ -80,7 +81,7 @@ fn close_paren(levels: &mut Levels, next: Role)
 
 fn add_unless(levels: &mut Levels, operand: bool)
     requires sound { IsSound levels.old }
-    requires low { levels.old.nest ≤ 201 }
+    requires low { levels.old.nest ≤ nest_limit + 1 }
     ensures sound { IsSound levels.new }
     ensures levels { levels_of levels.new ≡ (if operand then levels_of levels.old else with_expression (levels_of levels.old)) }
     ensures rise { levels.new.nest ≤ levels.old.nest + 1 }
@@ -92,7 +93,7 @@ fn add_unless(levels: &mut Levels, operand: bool)
 
 fn begin_if(levels: &mut Levels, before: Role)
     requires sound { IsSound levels.old }
-    requires low { levels.old.nest ≤ 201 }
+    requires low { levels.old.nest ≤ nest_limit + 1 }
     ensures sound { IsSound levels.new }
     ensures levels { levels_of levels.new ≡ (if is_else before then levels_of levels.old else with_control (levels_of levels.old)) }
     ensures rise { levels.new.nest ≤ levels.old.nest + 1 }
@@ -104,7 +105,7 @@ fn begin_if(levels: &mut Levels, before: Role)
 
 fn meet_while(levels: &mut Levels, before: Role, operand: bool)
     requires sound { IsSound levels.old }
-    requires low { levels.old.nest ≤ 201 }
+    requires low { levels.old.nest ≤ nest_limit + 1 }
     ensures sound { IsSound levels.new }
     ensures levels { levels_of levels.new ≡ (if ends_do (record { before = before; operand = operand; levels = levels_of levels.old }) then outer_of (levels_of levels.old) else with_control (levels_of levels.old)) }
     ensures rise { levels.new.nest ≤ levels.old.nest + 1 }
@@ -119,7 +120,7 @@ fn meet_while(levels: &mut Levels, before: Role, operand: bool)
 /// What a token does to the open levels.
 fn take(levels: &mut Levels, role: Role, next: Role, before: Role, operand: bool)
     requires sound { IsSound levels.old }
-    requires low { levels.old.nest ≤ 201 }
+    requires low { levels.old.nest ≤ nest_limit + 1 }
     ensures sound { IsSound levels.new }
     ensures levels { levels_of levels.new ≡ effect role next (record { before = before; operand = operand; levels = levels_of levels.old }) }
     ensures rise { levels.new.nest ≤ levels.old.nest + 1 }
@@ -163,11 +164,11 @@ fn is_closing(levels: &Levels, role: Role, before: Role, operand: bool) -> bool
 /// Takes a token, and answers the nesting at it.
 fn step(levels: &mut Levels, role: Role, next: Role, before: Role, operand: bool) -> usize
     requires sound { IsSound levels.old }
-    requires low { levels.old.nest ≤ 201 }
+    requires low { levels.old.nest ≤ nest_limit + 1 }
     ensures sound { IsSound levels.new }
     ensures levels { levels_of levels.new ≡ effect role next (record { before = before; operand = operand; levels = levels_of levels.old }) }
     ensures nest { result ≡ nest_at role next (record { before = before; operand = operand; levels = levels_of levels.old }) }
-    ensures low { result ≤ 200 → levels.new.nest ≤ 201 }
+    ensures low { result ≤ nest_limit → levels.new.nest ≤ nest_limit + 1 }
 {
     let nest = levels.nest;
     if is_closing(levels, role, before, operand) {
@@ -189,10 +190,10 @@ fn role_at(text: &[u8], tokens: &[Token], at: usize) -> Role
     }
 }
 
-/// The first token whose nesting exceeds 200, counted from 1.
+/// The first token whose nesting exceeds the limit, counted from 1.
 pub fn nest_fault(text: &[u8], tokens: &[Token]) -> Option<usize>
     requires { IsLexed text.now tokens.now }
-    ensures { result ≡ position_from (λ nest. nat_lt 200 nest) 1 (nests_of text.now tokens.now) }
+    ensures { result ≡ position_from (λ nest. nat_lt nest_limit nest) 1 (nests_of text.now tokens.now) }
 {
     let mut levels = Levels::new();
     let mut before = Role::Other;

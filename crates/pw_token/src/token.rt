@@ -42,7 +42,7 @@ pub enum LexFault {
     Bad { at: usize },
     /// The text has more than 1,048,576 bytes.
     TooLong,
-    /// The first byte of token 200,001.
+    /// The first byte of the token behind the last that a text may have.
     TooMany { at: usize },
     /// There was no memory for the tokens.
     NoMemory,
