@@ -1,5 +1,5 @@
 -- Allocation in its first form: each temporary has a place of its own in the frame.
-use Rattle.std.specs.Prelude.{ℕ, zero, suc, ◌+◌, ◌==◌, ◌&&◌, Bool, true, false, if◌then◌else◌, List, [], ◌∷◌, ◌++◌, length}
+use Rattle.std.specs.Prelude.{ℕ, zero, suc, ◌+◌, ◌==◌, ◌&&◌, Bool, true, false, if◌then◌else◌, List, [], ◌∷◌, length}
 use Rattle.pw_db.specs.declared.database.Web.{Web}
 use Rattle.pw_db.specs.declared.database.Role.{Role}
 use Rattle.pw_db.specs.declared.database.Role.TheVariants.{Entry, Member}
@@ -19,7 +19,7 @@ is_entered [] r = false
 is_entered (w ∷ rest) r = if (w.0.reg == r) && is_entry w.1 then true else is_entered rest r
 
 -- so many registers from one on, those that are entered
-abbrev pub entered_from : List (Web × Role) → ℕ → ℕ → List ℕ
+unfoldable pub entered_from : List (Web × Role) → ℕ → ℕ → List ℕ
 entered_from webs r zero = []
 entered_from webs r (suc more) =
     if is_entered webs r then r ∷ entered_from webs (suc r) more else entered_from webs (suc r) more
@@ -40,3 +40,9 @@ allocated f = record {
   saved = saved_of f;
   frame = last_reach (slots_begin (head_size f) (length (saved_of f)) f.temps) f.slots;
 }
+
+-- the temporaries that stand in the frame
+abbrev pub in_frame : List Place → ℕ
+in_frame [] = 0
+in_frame (Slot offset ∷ rest) = 1 + in_frame rest
+in_frame (Reg r ∷ rest) = in_frame rest

@@ -1,8 +1,7 @@
 -- The frame of a function, below the stack pointer: 48 bytes and the arguments of its calls behind the fourth; the
 -- saved registers; the temporaries that stand in the frame; the slots.
-use Rattle.std.specs.Prelude.{ℕ, zero, suc, ℤ, pos, neg_ℤ, ◌+◌, ◌-◌, ◌*◌, ◌/◌, max, List, [], ◌∷◌, length}
+use Rattle.std.specs.Prelude.{ℕ, ℤ, pos, neg_ℤ, ◌+◌, ◌-◌, ◌*◌, ◌/◌, max, List, [], ◌∷◌, length}
 use Rattle.std.specs.List.{flat_map}
-use Rattle.pw_flow.specs.declared.flow.Op.{Op}
 use Rattle.pw_flow.specs.declared.flow.Op.TheVariants.{Call, CallInd}
 use Rattle.pw_webflow.specs.declared.web.WebOp.{WebOp}
 use Rattle.pw_webflow.specs.declared.web.WebOp.TheVariants.{Flow}

@@ -1,6 +1,10 @@
 //! Allocation: where the temporaries of a function stand, and its frame.
 #![tactic(auto)]
 
+mod allocating;
+mod frames;
 mod located;
 
+pub use allocating::{allocate, is_entry};
+pub use frames::{below, head_size, slot_offsets, slots_begin};
 pub use located::{Located, Place};

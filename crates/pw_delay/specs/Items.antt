@@ -1,43 +1,16 @@
 -- Lines as items: words, turns of control with what stands in their delay slots, and the places where blocks begin.
 -- Short and long branches, and slots that are filled or not, are one list of items.
-use Rattle.std.specs.Prelude.{ℕ, ◌==◌, Bool, true, false, if◌then◌else◌, Option, Some, None, List, [], ◌∷◌}
+use Rattle.std.specs.Prelude.{ℕ, ◌==◌, Bool, false, if◌then◌else◌, Option, Some, None, List, [], ◌∷◌}
 use Rattle.pw_inst.specs.declared.Inst.{Inst}
 use Rattle.pw_inst.specs.declared.Inst.TheVariants.{Or, Combf}
 use Rattle.pw_inst.specs.declared.line.Line.{Line}
 use Rattle.pw_inst.specs.declared.line.Line.TheVariants as line
 use Rattle.pw_inst.specs.declared.relocation.FixKind.{FixKind}
 use Rattle.pw_inst.specs.declared.relocation.Symbol.{Symbol}
-
--- what a linker puts into a word: the address of a symbol plus a number
-pub record Relocation : Type 0 where
-  pub kind : FixKind
-  pub symbol : Symbol
-  pub addend : ℕ
-
--- a word that is no branch, and its relocation where it has one
-pub record Word : Type 0 where
-  pub inst : Inst
-  pub relocation : Option Relocation
-
--- where control may go elsewhere than to the next word
-pub data Turn : Type 0 where
-  -- a loop inside a block goes back by a branch that is placed already
-  Back : Inst → Turn
-  -- to a block; to a block where a register does not hold 0
-  Goto : (block : ℕ) → Turn
-  If : (register block : ℕ) → Turn
-  -- a call of a symbol, whose return address goes to a register; of the address in register 22
-  CallTo : Symbol → (link : ℕ) → Turn
-  CallReg : Turn
-  -- the return
-  Leave : Turn
-
-pub data Item : Type 0 where
-  Plain : Word → Item
-  -- a turn, and the word in its delay slot
-  Turns : Turn → Option Word → Item
-  -- a block begins here
-  Mark : (block : ℕ) → Item
+use Rattle.pw_delay.specs.declared.items.Word.{Word}
+use Rattle.pw_delay.specs.declared.items.Turn.TheVariants.{Back, Goto, If, CallTo, CallReg, Leave}
+use Rattle.pw_delay.specs.declared.items.Item.{Item}
+use Rattle.pw_delay.specs.declared.items.Item.TheVariants.{Plain, Turns, Mark}
 
 abbrev pub bare : Inst → Word
 bare i = record { inst = i; relocation = None }
@@ -56,14 +29,28 @@ abbrev pub plain_item : Inst → Item
 plain_item (Combf c r1 r2 disp) = Turns (Back (Combf c r1 r2 disp)) None
 plain_item i = Plain (bare i)
 
+abbrev pub fixed_item : Inst → FixKind → Symbol → ℕ → Item
+fixed_item i k s n = Plain (record { inst = i; relocation = Some (record { kind = k; symbol = s; addend = n }) })
+
+-- a jump to the block that begins at the next line is no item
+abbrev pub jump_item : ℕ → List Line → Option Item
+jump_item b rest = if begins_next b rest then None else Some (Turns (Goto b) None)
+
+-- the item of a line, where it has one, by the lines behind it
+abbrev pub item_of : Line → List Line → Option Item
+item_of (line.Plain i) rest = Some (plain_item i)
+item_of (line.Fixed i k s n) rest = Some (fixed_item i k s n)
+item_of (line.Jump b) rest = jump_item b rest
+item_of (line.BranchNonZero r b) rest = Some (Turns (If r b) None)
+item_of (line.Label b) rest = Some (Mark b)
+item_of (line.CallTo s r) rest = Some (Turns (CallTo s r) None)
+item_of line.CallReg rest = Some (Turns CallReg (Some link_moved))
+item_of line.Leave rest = Some (Turns Leave None)
+
+abbrev pub before : Option Item → List Item → List Item
+before None rest = rest
+before (Some item) rest = item ∷ rest
+
 abbrev pub slotted : List Line → List Item
 slotted [] = []
-slotted (line.Plain i ∷ rest) = plain_item i ∷ slotted rest
-slotted (line.Fixed i k s n ∷ rest) =
-    Plain (record { inst = i; relocation = Some (record { kind = k; symbol = s; addend = n }) }) ∷ slotted rest
-slotted (line.Jump b ∷ rest) = if begins_next b rest then slotted rest else Turns (Goto b) None ∷ slotted rest
-slotted (line.BranchNonZero r b ∷ rest) = Turns (If r b) None ∷ slotted rest
-slotted (line.Label b ∷ rest) = Mark b ∷ slotted rest
-slotted (line.CallTo s r ∷ rest) = Turns (CallTo s r) None ∷ slotted rest
-slotted (line.CallReg ∷ rest) = Turns CallReg (Some link_moved) ∷ slotted rest
-slotted (line.Leave ∷ rest) = Turns Leave None ∷ slotted rest
+slotted (l ∷ rest) = before (item_of l rest) (slotted rest)

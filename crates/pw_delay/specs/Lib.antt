@@ -1,2 +1,5 @@
 pub mod Items
 pub mod Placement
+pub mod Marks
+pub mod Lines
+pub mod Lawful

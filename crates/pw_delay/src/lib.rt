@@ -2,5 +2,14 @@
 #![tactic(auto)]
 
 mod code;
+mod items;
+mod laying;
+mod marking;
+mod placing;
+mod slotting;
 
 pub use code::Code;
+pub use items::{Item, Relocation, Turn, Word};
+pub use marking::Blocks;
+pub use placing::place;
+pub use slotting::copy_symbol;

@@ -1,0 +1,130 @@
+//! The frame of a function.
+
+ghost use Rattle.std.specs.Prelude.{ℤ, List, ◌∷◌, ◌≡◌, ◌≤◌, ◌<◌, ◌+◌, ◌*◌, ◌^◌, max, map, IfOk};
+ghost use Rattle.pw_value.specs.Limits.{parameter_limit};
+ghost use Rattle.std.specs.List.{flat_map};
+ghost use Rattle.pw_webflow.specs.declared.web.WebBlock.{WebBlock as BlockValue};
+ghost use Rattle.pw_alloc.specs.Frames.{argument_count, most_arguments, ops_of, head_size, below, round8, last_reach, slots_begin, reaches_from};
+
+use pw_flow::Op;
+use pw_items::Items;
+use pw_webflow::{WebBlock, WebFn, WebOp};
+use std::alloc::{AllocError, Global};
+
+/// How many arguments an operation has, where it is a call.
+fn argument_count(op: &WebOp) -> usize
+    ensures { result ≡ argument_count op.now }
+{
+    match op {
+        WebOp::Flow(Op::Call(_, _, args)) => args.len(),
+        WebOp::Flow(Op::CallInd(_, _, _, args)) => args.len(),
+        _ => 0,
+    }
+}
+
+/// The greatest of a count and those of the arguments of operations.
+fn most_of_ops(least: usize, ops: &[WebOp]) -> usize
+    ensures { result ≡ max least (most_arguments ops.now) }
+{
+    let mut most = least;
+    let mut rest = ops;
+    while let [op, after @ ..] = rest {
+        most = most.max(argument_count(op));
+        rest = after;
+    }
+    most
+}
+
+/// The greatest of a count and those of the arguments of the calls of a block.
+fn most_of_block(least: usize, block: &WebBlock) -> usize
+    ensures { (rest : List BlockValue) → max result (most_arguments (flat_map (λ b. b.ops) rest)) ≡ max least (most_arguments (flat_map (λ b. b.ops) (block.now ∷ rest))) }
+{
+    most_of_ops(least, block.ops.as_slice())
+}
+
+/// The greatest count of arguments of the calls of blocks.
+fn most_arguments(blocks: &[WebBlock]) -> usize
+    ensures { result ≡ most_arguments (flat_map (λ b. b.ops) blocks.now) }
+{
+    let mut most = 0;
+    let mut rest = blocks;
+    while let [block, after @ ..] = rest {
+        most = most_of_block(most, block);
+        rest = after;
+    }
+    most
+}
+
+/// What stands nearest to the stack pointer: the callee's words, and the arguments of calls behind the
+/// fourth.
+pub fn head_size(f: &WebFn) -> u32
+    requires { most_arguments (ops_of f.now) ≤ parameter_limit }
+    ensures value { result ≡ head_size f.now }
+    ensures small { result ≤ 48 + 4 * parameter_limit }
+{
+    let most = most_arguments(f.blocks.as_slice()) as u32;
+    48 + 4 * most.saturating_sub(4)
+}
+
+/// The offset of the word that ends so many bytes below the stack pointer.
+pub fn below(bytes: u32) -> i32
+    requires { bytes < 2 ^ 31 }
+    ensures { result ≡ below bytes }
+{
+    -(bytes as i32)
+}
+
+fn round8(bytes: u32) -> u32
+    requires { bytes < 2 ^ 31 }
+    ensures value { result ≡ round8 bytes }
+    ensures up { bytes ≤ result }
+{
+    (bytes + 7) / 8 * 8
+}
+
+/// Where the slots begin, with so many saved registers and temporaries in the frame.
+pub fn slots_begin(head: u32, saved: u32, temps: u32) -> u32
+    requires { head + 4 * saved + 4 * temps < 2 ^ 31 }
+    ensures { result ≡ slots_begin head saved temps }
+{
+    round8(head + 4 * saved + 4 * temps)
+}
+
+/// How far a slot reaches behind others.
+fn next_reach(at: u32, size: u32) -> u32
+    requires { at + round8 (size + 1) < 2 ^ 31 }
+    ensures value { result ≡ at + round8 (size + 1) }
+    ensures small { result < 2 ^ 31 }
+{
+    at + round8(size + 1)
+}
+
+/// How far the last slot reaches.
+pub fn last_reach(begin: u32, slots: &[u32]) -> u32
+    requires { last_reach begin slots.now < 2 ^ 31 }
+    ensures { result ≡ last_reach begin slots.now }
+{
+    let mut at = begin;
+    let mut rest = slots;
+    while let [size, after @ ..] = rest {
+        at = next_reach(at, *size);
+        rest = after;
+    }
+    at
+}
+
+/// The offsets of slots from the stack pointer.
+pub fn slot_offsets(alloc: Global, begin: u32, slots: &[u32]) -> Result<Items<i32>, AllocError>
+    requires { last_reach begin slots.now < 2 ^ 31 }
+    ensures { IfOk result (λ offsets. offsets ≡ map below (reaches_from begin slots.now)) }
+{
+    let mut offsets = Items::new(alloc);
+    let mut at = begin;
+    let mut rest = slots;
+    while let [size, after @ ..] = rest {
+        at = next_reach(at, *size);
+        offsets.push(below(at))?;
+        rest = after;
+    }
+    Ok(offsets)
+}

@@ -1,0 +1,4 @@
+pub mod Extending
+pub mod Sizes
+pub mod MarkLaws
+pub mod LayingLaws

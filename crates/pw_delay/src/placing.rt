@@ -1,0 +1,57 @@
+//! Placement.
+
+ghost use Rattle.std.specs.Prelude.{true, ◌≡◌, IfOk};
+ghost use Rattle.pw_delay.specs.Lines.{AreLines};
+ghost use Rattle.pw_delay.specs.Placement.{laid, placed_items, placed};
+ghost use Rattle.pw_delay.specs.Lawful.{AreItems};
+
+use crate::code::Code;
+use crate::items::Item;
+use crate::laying::lay;
+use crate::marking::count_words;
+use crate::slotting::slot;
+use pw_inst::Line;
+use std::alloc::{AllocError, Global};
+
+/// How many words short conditional branches can reach over.
+const SHORT_LIMIT: usize = 2040;
+
+/// The greatest count of words of a function's code.
+const WORDS_MAX: usize = 4_294_967_000;
+
+/// The words and relocations of items with long conditional branches.
+fn lay_long(alloc: Global, items: &[Item]) -> Result<Code, AllocError>
+    requires { AreItems items.now }
+    ensures { IfOk result (λ code. code ≡ laid true items.now) }
+{
+    let count = count_words(true, items);
+    if count > WORDS_MAX {
+        return Err(AllocError);
+    }
+    lay(alloc, true, items, count as u32)
+}
+
+/// The words and relocations of items. Conditional branches are long where the words with short ones are
+/// too many.
+fn place_items(alloc: Global, items: &[Item]) -> Result<Code, AllocError>
+    requires { AreItems items.now }
+    ensures { IfOk result (λ code. code ≡ placed_items items.now) }
+{
+    let count = count_words(false, items);
+    if count > SHORT_LIMIT {
+        lay_long(alloc, items)
+    } else {
+        lay(alloc, false, items, count as u32)
+    }
+}
+
+/// The words and relocations of the lines of a function's code.
+#[tactic(auto, using(crate::proofs::Sizes::slotted_lawful), unfolding(crate::specs::Placement::placed))]
+pub fn place(alloc: Global, lines: &[Line]) -> Result<Code, AllocError>
+    requires { AreLines lines.now }
+    ensures { IfOk result (λ code. code ≡ placed lines.now) }
+{
+    let items = slot(alloc, lines)?;
+    let code = place_items(alloc, items.as_slice())?;
+    Ok(code)
+}
