@@ -279,7 +279,7 @@ start p input = starts (function_named p (codes "$start"))
         result = None;
       };
       callers = [];
-      objects = start_objects p;
+      objects = with_slots f.slots (start_objects p);
       rest = input;
       read = 0;
       out = [];

@@ -1,0 +1,2 @@
+pub mod CallGraphs
+pub mod Sound

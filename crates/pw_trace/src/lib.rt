@@ -1,0 +1,2 @@
+//! What runs below the flow graphs note.
+#![tactic(auto)]

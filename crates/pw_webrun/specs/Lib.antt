@@ -1,0 +1,5 @@
+pub mod Programs
+pub mod PlacedRun
+pub mod Direction
+pub mod Serving
+pub mod Laws

@@ -1,0 +1,166 @@
+-- When places serve a function: no value is lost that is still needed. What is needed is said by paths over what is
+-- left of the code.
+use Rattle.std.specs.Prelude.{ℕ, ◌≡◌, ◌≢◌, ◌≤◌, ◌<◌, Option, Some, None, List, [], ◌∷◌, ◌++◌, length, slice_get, Contains, ◌↔◌}
+use Rattle.pw_db.specs.declared.database.Role.{Role}
+use Rattle.pw_db.specs.declared.database.Web.{Web}
+use Rattle.pw_db.specs.declared.database.Role.TheVariants.{Entry}
+use Rattle.pw_flow.specs.declared.flow.Op.{Op}
+use Rattle.pw_flow.specs.declared.flow.Op.TheVariants as op
+use Rattle.pw_flow.specs.declared.flow.End.{End}
+use Rattle.pw_flow.specs.declared.flow.End.TheVariants.{Jump, Branch, Return}
+use Rattle.pw_webflow.specs.declared.web.WebOp.{WebOp}
+use Rattle.pw_webflow.specs.declared.web.WebOp.TheVariants.{Flow, Read, Write}
+use Rattle.pw_webflow.specs.declared.web.WebBlock.{WebBlock}
+use Rattle.pw_webflow.specs.declared.web.WebFn.{WebFn}
+use Rattle.pw_webflow.specs.ValidWebs.{HasRegister}
+use Rattle.pw_alloc.specs.declared.located.Place.{Place}
+use Rattle.pw_alloc.specs.declared.located.Place.TheVariants.{Slot, Reg}
+use Rattle.pw_alloc.specs.declared.located.Located.{Located}
+use Rattle.pw_alloc.specs.Allocation.{slots_from}
+use Rattle.pw_alloc.specs.Frames.{head_size, slots_begin, last_reach}
+
+-- ---- uses and definitions
+
+abbrev pub op_uses : Op → List ℕ
+op_uses (op.Const t n) = []
+op_uses (op.Copy t a) = a ∷ []
+op_uses (op.Un k t a) = a ∷ []
+op_uses (op.Bin k t a b) = a ∷ b ∷ []
+op_uses (op.Ext k t a) = a ∷ []
+op_uses (op.AddrGlobal t g n) = []
+op_uses (op.AddrSlot t s) = []
+op_uses (op.AddrFn t f) = []
+op_uses (op.LoadG t g k) = []
+op_uses (op.StoreG g a k) = a ∷ []
+op_uses (op.Load k t a) = a ∷ []
+op_uses (op.Store k a b) = a ∷ b ∷ []
+op_uses (op.Move a b size unit) = a ∷ b ∷ []
+op_uses (op.Call t f args) = args
+op_uses (op.CallInd t a shape args) = a ∷ args
+
+abbrev pub op_defines : Op → Option ℕ
+op_defines (op.Const t n) = Some t
+op_defines (op.Copy t a) = Some t
+op_defines (op.Un k t a) = Some t
+op_defines (op.Bin k t a b) = Some t
+op_defines (op.Ext k t a) = Some t
+op_defines (op.AddrGlobal t g n) = Some t
+op_defines (op.AddrSlot t s) = Some t
+op_defines (op.AddrFn t f) = Some t
+op_defines (op.LoadG t g k) = Some t
+op_defines (op.StoreG g a k) = None
+op_defines (op.Load k t a) = Some t
+op_defines (op.Store k a b) = None
+op_defines (op.Move a b size unit) = None
+op_defines (op.Call t f args) = t
+op_defines (op.CallInd t a shape args) = t
+
+abbrev pub uses : WebOp → List ℕ
+uses (Flow o) = op_uses o
+uses (Read t r) = []
+uses (Write r a) = a ∷ []
+
+abbrev pub defines : WebOp → Option ℕ
+defines (Flow o) = op_defines o
+defines (Read t r) = Some t
+defines (Write r a) = None
+
+abbrev pub end_uses : End → List ℕ
+end_uses (Jump b) = []
+end_uses (Branch a b c) = a ∷ []
+end_uses (Return None) = []
+end_uses (Return (Some a)) = a ∷ []
+
+abbrev pub successors : End → List ℕ
+successors (Jump b) = b ∷ []
+successors (Branch a b c) = b ∷ c ∷ []
+successors (Return t) = []
+
+pub data IsCall : WebOp → Type 0 where
+  direct : (t : Option ℕ) (f : List ℕ) (args : List ℕ) → IsCall (Flow (op.Call t f args))
+  indirect : (t : Option ℕ) (a : ℕ) (shape : List ℕ) (args : List ℕ) → IsCall (Flow (op.CallInd t a shape args))
+
+-- ---- what is needed
+
+-- some path from what is left of a block leads to a use of the temporary with no definition of it before
+pub data Live (f : WebFn) (t : ℕ) : List WebOp → End → Type 0 where
+  used : (o : WebOp) (ops : List WebOp) (end : End) → Contains (uses o) t → Live f t (o ∷ ops) end
+  past : (o : WebOp) (ops : List WebOp) (end : End) → defines o ≢ Some t → Live f t ops end → Live f t (o ∷ ops) end
+  at_end : (end : End) → Contains (end_uses end) t → Live f t [] end
+  on : (end : End) (b : ℕ) (block : WebBlock) → Contains (successors end) b → slice_get f.blocks b ≡ Some block
+      → Live f t block.ops block.end → Live f t [] end
+
+-- an operation of a block, and what is left behind it
+pub record StandsIn (f : WebFn) (o : WebOp) (after : List WebOp) (end : End) : Type 0 where
+  pub block : WebBlock
+  pub there : Contains f.blocks block
+  pub before : List WebOp
+  pub ops : block.ops ≡ before ++ o ∷ after
+  pub is : block.end ≡ end
+
+-- one is defined where the other is needed directly after; the start defines all parameters, and any two of them
+-- interfere
+pub data Interfere (f : WebFn) (d t : ℕ) : Type 0 where
+  by_operation : (o : WebOp) (after : List WebOp) (end : End) → StandsIn f o after end → defines o ≡ Some d
+      → Live f t after end → d ≢ t → Interfere f d t
+  by_start : (block : WebBlock) → slice_get f.blocks 0 ≡ Some block → d < f.params → Live f t block.ops block.end
+      → d ≢ t → Interfere f d t
+  parameters : d < f.params → t < f.params → d ≢ t → Interfere f d t
+
+-- it is needed directly after a call that does not define it
+pub record IsHeld (f : WebFn) (t : ℕ) : Type 0 where
+  pub op : WebOp
+  pub after : List WebOp
+  pub end : End
+  pub there : StandsIn f op after end
+  pub call : IsCall op
+  pub lives : Live f t after end
+  pub other : defines op ≢ Some t
+
+-- ---- places
+
+-- the registers that temporaries may have; a callee keeps those from 3 to 18
+pub record IsTempRegister (r : ℕ) : Type 0 where
+  pub low : 3 ≤ r
+  pub high : r ≤ 20
+
+abbrev pub IsKept : Place → Type 0
+IsKept (Reg r) = (3 ≤ r) × (r ≤ 18)
+IsKept (Slot offset) = Unit {0}
+
+-- the places that are words of the frame
+abbrev pub slots_alone : List Place → List Place
+slots_alone [] = []
+slots_alone (Slot offset ∷ rest) = Slot offset ∷ slots_alone rest
+slots_alone (Reg r ∷ rest) = slots_alone rest
+
+-- the register of a web in which the function has the role
+pub record HasWebIn (f : WebFn) (role : Role) (r : ℕ) : Type 0 where
+  pub web : Web
+  pub there : Contains f.directives.webs (web, role)
+  pub is : web.reg ≡ r
+
+-- a register that the function has to save: a temporary's, or that of a web that it enters
+pub data Changes (f : WebFn) (l : Located) (r : ℕ) : Type 0 where
+  places : Contains l.places (Reg r) → r ≤ 18 → Changes f l r
+  enters : HasWebIn f Entry r → Changes f l r
+
+pub record Serves (f : WebFn) (l : Located) : Type 0 where
+  pub body : l.body ≡ f
+  pub count : length l.places ≡ f.temps
+  -- what is needed is not overwritten, and survives calls
+  pub apart : (d t : ℕ) → t < f.temps → Interfere f d t → slice_get l.places t ≢ slice_get l.places d
+  pub held : (t : ℕ) (place : Place) → IsHeld f t → slice_get l.places t ≡ Some place → IsKept place
+  -- registers are those of temporaries, and of no web of the function
+  pub registers : (r : ℕ) → Contains l.places (Reg r) → IsTempRegister r × (¬ HasRegister f.directives r)
+  -- exactly those are saved that the function changes and its callers may hold
+  pub saved : (r : ℕ) → Contains l.saved r ↔ Changes f l r
+  -- the words of the frame, from the stack pointer downward: arguments, saved registers, temporaries, slots
+  pub words : slots_alone l.places ≡ slots_from (head_size f) (length l.saved) 0 (length (slots_alone l.places))
+  pub frame : l.frame ≡ last_reach (slots_begin (head_size f) (length l.saved) (length (slots_alone l.places))) f.slots
+
+-- the functions one by one
+abbrev pub AllServe : List WebFn → List Located → Type 0
+AllServe [] [] = Unit {0}
+AllServe (f ∷ fs) (l ∷ ls) = Serves f l × AllServe fs ls
+AllServe fs ls = ⊥

@@ -1,0 +1,2 @@
+//! The run of directed functions, with places of temporaries and without.
+#![tactic(auto)]
