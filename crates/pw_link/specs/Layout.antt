@@ -1,5 +1,5 @@
 -- Where the functions, the routines and the global objects of a linked program stand.
-use Rattle.std.specs.Prelude.{Bool, ℕ, ◌+◌, ◌-◌, ◌*◌, ◌/◌, ◌%◌, ◌^◌, min, Option, List, [], ◌∷◌, ◌++◌, map, length, drop, fold, insert, unwrap_or, slice_index_or}
+use Rattle.std.specs.Prelude.{Bool, ℕ, ◌+◌, ◌-◌, ◌*◌, ◌/◌, ◌%◌, ◌^◌, min, List, [], ◌∷◌, ◌++◌, map, length, drop, fold, insert, unwrap_or}
 use Rattle.std.specs.List.{flat_map, sum_by, position_or_len}
 use Rattle.std.specs.Map.{lookup}
 use Rattle.std.specs.Str.{bytes_eq}

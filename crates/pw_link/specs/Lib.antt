@@ -1,2 +1,4 @@
 pub mod Layout
 pub mod Linking
+pub mod Sizes
+pub mod Views

@@ -1,5 +1,5 @@
 -- Linking: the words with their relocations done, the data with its addresses, and the map.
-use Rattle.std.specs.Prelude.{ℕ, pos, ◌+◌, ◌-◌, ◌*◌, ◌/◌, ◌%◌, ◌^◌, nat_lt, if◌then◌else◌, Option, Some, None, List, [], ◌∷◌, ◌++◌, map, length, slice_index_or, slice_set}
+use Rattle.std.specs.Prelude.{◌≡◌, ℕ, pos, ◌+◌, ◌-◌, ◌*◌, ◌/◌, ◌%◌, ◌^◌, nat_lt, if◌then◌else◌, Option, Some, None, List, [], ◌∷◌, ◌++◌, map, slice_index_or, slice_set}
 use Rattle.std.specs.List.{flat_map}
 use Rattle.std.specs.Int.{to_be_bytes, w32}
 use Rattle.pw_value.specs.Limits.{memory_size, word_limit}
@@ -18,6 +18,8 @@ use Rattle.pw_object.specs.declared.object.Object.{Object}
 use Rattle.pw_image.specs.Image.{Item, MemoryValue, ImageValue}
 use Rattle.pw_image.specs.declared.image.Function.{Function}
 use Rattle.pw_image.specs.declared.image.GlobalObject.{GlobalObject}
+use Rattle.pw_interface.specs.Interface.{interface}
+use Rattle.pw_program.specs.Linking.{Links, Refusal}
 use Rattle.pw_link.specs.Layout.{Placed, text_of, word_count, Standing, data_of, data_size, data_begin, stack_end, told, address_in, Sites, sites_by}
 
 -- ---- relocations
@@ -117,3 +119,15 @@ fault_by words end =
 
 abbrev pub size_fault : List Object → ℕ → Option LinkFault
 size_fault objects stack = fault_by (word_count objects) (stack_end objects stack)
+
+-- ---- whether objects are linked
+
+-- the modules make a program, for which text and memory are large enough
+pub record AreLinked (objects : List Object) (stack : ℕ) : Type 0 where
+  pub program : Links (map interface objects)
+  pub fits : size_fault objects stack ≡ None
+
+-- what is refused first: a rule of the language's linking, or a size
+pub data IsRefusal (objects : List Object) (stack : ℕ) (fault : LinkFault) : Type 0 where
+  no_program : Refusal (map interface objects) fault → IsRefusal objects stack fault
+  too_large : Links (map interface objects) → size_fault objects stack ≡ Some fault → IsRefusal objects stack fault

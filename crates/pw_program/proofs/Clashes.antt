@@ -27,6 +27,17 @@ clash_same a b clash = clash.1
 clash_back : (a b : Entry) → Clash a b → Clash b a
 clash_back a b clash = (subst IsOrdinary clash.1 clash.0, sym clash.1, λ agrees. clash.2 (agree_back b.2 a.2 agrees))
 
+-- what repeats the one before it clashes with no later one, where none before it does
+pub none_repeated : (ds : List Entry) (i : ℕ) (a b : Entry) → 0 < i → slice_get ds (i - 1) ≡ Some a → slice_get ds i ≡ Some b → a.0 ≡ b.0 → a.2 ≡ b.2 → ((p q : ℕ) → Two Clash ds p q → i ≤ p) → (k : ℕ) → Two Clash ds i k → ⊥
+none_repeated ds i a b some at_a at_b name shape before k t =
+    let low_is : b ≡ t.low = one_item ds i b t.low at_b t.at_low in
+    let name_is : a.0 ≡ t.low.0 = name ∙ ap (λ (d : Entry). d.0) low_is in
+    let shape_is : t.low.2 ≡ a.2 = sym (shape ∙ ap (λ (d : Entry). d.2) low_is) in
+    let wrong : Clash a t.high = (subst IsOrdinary (sym name_is) t.wrong.0, name_is ∙ t.wrong.1, λ agrees. t.wrong.2 (subst (λ (s : List ℕ). Agree s t.high.2) (sym shape_is) agrees)) in
+    let earlier : Two Clash ds (i - 1) k = record { low = a; high = t.high; rise = omega (arith, t.rise, some); at_low = at_a; at_high = t.at_high; wrong = wrong } in
+    let le = before (i - 1) k earlier in
+    omega (arith, le, some)
+
 -- ---- the first against one
 
 -- behind the first of another name none is of this one

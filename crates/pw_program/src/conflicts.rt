@@ -46,13 +46,34 @@ fn first_against(all: &[Declared], i: usize) -> Option<usize>
     None
 }
 
+/// Whether the other one declares the same name with the same shape.
+fn is_repeated(one: &Declared, other: &Declared) -> bool
+    ensures { IsTrue result → ((one.now.name.now ≡ other.now.name.now) × (one.now.shape.now ≡ other.now.shape.now)) }
+{
+    is_same(one.name, other.name) && one.shape.as_bytes() == other.shape.as_bytes()
+}
+
+/// The same, where all before agree with each later one. What repeats the one before it agrees with the same
+/// ones, so that many declarations of one shape are gone through once.
+fn next_against(all: &[Declared], i: usize) -> Option<usize>
+    requires place { i < length all.now }
+    requires order { IsSortedBy (λ a b. stands_before (key a) (key b)) (map declaration all.now) }
+    requires before { (a b : ℕ) → Two Clash (map declaration all.now) a b → i ≤ a }
+    ensures { MatchOption result ((j : ℕ) → ¬ Two Clash (map declaration all.now) i j) (λ j. IsNext Clash (map declaration all.now) i j) }
+{
+    if i > 0 && is_repeated(&all[i - 1], &all[i]) {
+        return None;
+    }
+    first_against(all, i)
+}
+
 /// The first declaration with which a later one does not agree, and the first such.
 fn first_clash(all: &[Declared]) -> Option<(usize, usize)>
     requires { IsSortedBy (λ a b. stands_before (key a) (key b)) (map declaration all.now) }
     ensures { MatchOption result (AreNone Clash (map declaration all.now)) (λ p. IsNext Clash (map declaration all.now) p.0 p.1 × ((a b : ℕ) → Two Clash (map declaration all.now) a b → p.0 ≤ a)) }
 {
     for i in 0..all.len() {
-        match first_against(all, i) {
+        match next_against(all, i) {
             Some(j) => return Some((i, j)),
             None => {}
         }

@@ -1,0 +1,45 @@
+//! The linker.
+
+ghost use Rattle.std.specs.Prelude.{◌≡◌, ◌⊎◌, map, IfOk, IfErr, OnOk};
+ghost use Rattle.pw_image.specs.Image.{view};
+ghost use Rattle.pw_interface.specs.Interface.{interface};
+ghost use Rattle.pw_program.specs.Linking.{Links, Refusal};
+ghost use Rattle.pw_link.specs.Linking.{linked, AreLinked, IsRefusal};
+
+use crate::layout::laid_out;
+use pw_image::Image;
+use pw_interface::interfaces;
+use pw_object::Object;
+use pw_program::check_program;
+use pw_value::LinkFault;
+use std::alloc::Global;
+
+/// Whether modules make a program, by their objects.
+fn check_objects(alloc: Global, objects: &[Object]) -> Result<(), LinkFault>
+    ensures links { OnOk result (Links (map interface objects.now)) }
+    ensures refused { IfErr result (λ fault. (fault ≡ LinkFault.NoMemory) ⊎ Refusal (map interface objects.now) fault) }
+{
+    let shown = interfaces(alloc, objects)?;
+    check_program(alloc, &shown)
+}
+
+/// The image of the program that modules' objects make, with so many bytes of stack.
+///
+/// The text has the functions of the modules in byte order of the modules' names, each module's in its own
+/// order, behind them the library's functions and the routines, and last an instruction that does nothing.
+/// The global objects stand behind it in the same order. Objects of one module name stand in the order given.
+///
+/// # Errors
+///
+/// The first of these that holds, in the order of `LinkFault`'s tests: too many functions or global objects,
+/// a name that is used and defined nowhere, one that is defined twice, declarations that disagree, no `main`;
+/// then `TextTooLarge` with the bytes of the text, and `MemoryTooLarge` with the end of the stack.
+/// `NoMemory` may come at any point.
+pub fn link(alloc: Global, objects: &[Object], stack: u32) -> Result<Image, LinkFault>
+    ensures image { IfOk result (λ image. view image ≡ linked objects.now stack) }
+    ensures accepted { OnOk result (AreLinked objects.now stack) }
+    ensures refused { IfErr result (λ fault. (fault ≡ LinkFault.NoMemory) ⊎ IsRefusal objects.now stack fault) }
+{
+    check_objects(alloc, objects)?;
+    laid_out(alloc, objects, stack)
+}
