@@ -21,7 +21,8 @@ place name =
     if bytes_eq name (codes "$start") then 1 else if bytes_eq name (codes "main") then 2 else
     if bytes_eq name (codes "putchar") then 3 else if bytes_eq name (codes "exit") then 4 else
     if bytes_eq name (codes "n") then 16 else if bytes_eq name (codes "m") then 17 else
-    if bytes_eq name (codes "h") then 5 else if bytes_eq name (codes "k") then 6 else 7
+    if bytes_eq name (codes "h") then 5 else if bytes_eq name (codes "k") then 6 else
+    if bytes_eq name (codes "g") then 7 else 8
 
 -- functions from 4352 on, each in 256 bytes; n at 8192, m at 8448; a stack of so many bytes from 16384 on
 abbrev addresses : ℕ → Addresses

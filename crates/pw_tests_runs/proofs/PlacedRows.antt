@@ -1,5 +1,5 @@
 -- What the programs do as flow graphs, and under their directives.
-use Rattle.std.specs.Prelude.{ℕ, ◌≡◌, List, [], ◌∷◌, codes}
+use Rattle.std.specs.Prelude.{◌≡◌, [], ◌∷◌, codes}
 use Rattle.std.proofs.Common.{refl}
 use Rattle.pw_value.specs.declared.value.Value.TheVariants.{Num}
 use Rattle.pw_value.specs.declared.value.Byte.TheVariants as B

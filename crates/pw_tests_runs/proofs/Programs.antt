@@ -1,7 +1,7 @@
 -- Small programs as flow graphs, and directives for them.
-use Rattle.std.specs.Prelude.{ℕ, false, true, Option, Some, None, List, [], ◌∷◌, ◌++◌, length, codes, if◌then◌else◌}
+use Rattle.std.specs.Prelude.{ℕ, false, true, Some, None, List, [], ◌∷◌, ◌++◌, codes, if◌then◌else◌}
 use Rattle.std.specs.Str.{bytes_eq}
-use Rattle.pw_value.specs.declared.value.Kind.TheVariants.{W32, U8}
+use Rattle.pw_value.specs.declared.value.Kind.TheVariants.{W32}
 use Rattle.pw_flow.specs.declared.flow.BinKind.TheVariants.{Add, Sub}
 use Rattle.pw_flow.specs.declared.flow.Op.{Op}
 use Rattle.pw_flow.specs.declared.flow.Op.TheVariants.{Const, Bin, AddrFn, LoadG, StoreG, Call, CallInd}
@@ -10,7 +10,6 @@ use Rattle.pw_flow.specs.declared.flow.End.TheVariants.{Jump, Branch, Return}
 use Rattle.pw_flow.specs.declared.flow.Block.{Block}
 use Rattle.pw_flow.specs.declared.flow.FlowGlobal.{FlowGlobal}
 use Rattle.pw_flow.specs.declared.flow.FlowFn.{FlowFn}
-use Rattle.pw_flow.specs.declared.flow.FlowModule.{FlowModule}
 use Rattle.pw_db.specs.declared.database.Web.{Web}
 use Rattle.pw_db.specs.declared.database.Role.{Role}
 use Rattle.pw_db.specs.declared.database.Role.TheVariants.{Entry, Member}

@@ -1,7 +1,7 @@
 -- A stage as a text: for each event, from the first, a sign and the name; then how the run stands.
 use Rattle.std.specs.Prelude.{ℕ, ◌+◌, List, [], ◌∷◌, ◌++◌, codes, if◌then◌else◌}
 use Rattle.std.specs.Str.{bytes_eq}
-use Rattle.pw_run.specs.Runs.{View, Stage, Going, Over, Wrong, Ended, StackFull}
+use Rattle.pw_run.specs.Runs.{Stage, Going, Over, Wrong, Ended, StackFull}
 use Rattle.pw_trace.specs.Traces.{Standing, Event, Called, Refused, Returned, Loaded, Stored}
 use Rattle.pw_flowrun.specs.FlowRun as flow
 
