@@ -1,0 +1,41 @@
+-- Where the functions and the global objects of a program stand, as the lines of its functions see it: an argument,
+-- for which every lawful choice will do.
+use Rattle.std.specs.Prelude.{ℕ, ◌≡◌, ◌≢◌, ◌+◌, ◌%◌, ◌^◌, ◌<◌, ◌≤◌, ◌⊎◌, List, Contains}
+use Rattle.pw_value.specs.Limits.{memory_size, text_start}
+use Rattle.pw_flow.specs.declared.flow.FlowGlobal.{FlowGlobal}
+use Rattle.pw_alloc.specs.Frames.{round8}
+use Rattle.pw_flowrun.specs.Programs.{Program, globals_of, names_of}
+
+pub record Addresses : Type 0 where
+  -- of functions and global objects, by their names; of routines, by their places
+  pub named : List ℕ → ℕ
+  pub routine : ℕ → ℕ
+  -- the return address of a call in a function, by how many turns are left behind it
+  pub behind : List ℕ → ℕ → ℕ
+  -- below this nothing is loaded or stored; where the stack begins, and where it ends
+  pub data_start : ℕ
+  pub base : ℕ
+  pub limit : ℕ
+
+-- how many bytes a global takes
+abbrev pub taken : FlowGlobal → ℕ
+taken g = round8 (g.size + 1)
+
+-- Global objects have multiples of 8 and bytes of their own, below the stack; functions have multiples of 4 of their
+-- own, below the data; so have return addresses, which are of one call each. The stack has its size.
+pub record AreLawful (p : Program) (w : Addresses) : Type 0 where
+  pub aligned : (g : FlowGlobal) → Contains (globals_of p) g → w.named g.name % 8 ≡ 0
+  pub above : (g : FlowGlobal) → Contains (globals_of p) g → w.data_start ≤ w.named g.name
+  pub below : (g : FlowGlobal) → Contains (globals_of p) g → w.named g.name + taken g + 64 ≤ w.base
+  pub apart : (g h : FlowGlobal) → Contains (globals_of p) g → Contains (globals_of p) h → g.name ≢ h.name
+      → (w.named g.name + taken g ≤ w.named h.name) ⊎ (w.named h.name + taken h ≤ w.named g.name)
+  pub function_aligned : (f : List ℕ) → Contains (names_of p) f → w.named f % 4 ≡ 0
+  pub function_above : (f : List ℕ) → Contains (names_of p) f → text_start ≤ w.named f
+  pub function_below : (f : List ℕ) → Contains (names_of p) f → w.named f < w.data_start
+  pub function_own : (f g : List ℕ) → Contains (names_of p) f → Contains (names_of p) g → w.named f ≡ w.named g → f ≡ g
+  pub behind_own : (f g : List ℕ) (n m : ℕ) → w.behind f n ≡ w.behind g m → (f ≡ g) × (n ≡ m)
+  pub behind_word : (f : List ℕ) (n : ℕ) → w.behind f n < 2 ^ 32
+  pub data_above : text_start ≤ w.data_start
+  pub base_aligned : w.base % 64 ≡ 0
+  pub stack : w.limit ≡ w.base + p.stack
+  pub memory : w.limit ≤ memory_size

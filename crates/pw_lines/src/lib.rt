@@ -1,0 +1,2 @@
+//! The run of lines.
+#![tactic(auto)]

@@ -1,0 +1,4 @@
+mod Stories
+mod Programs
+mod PlacedRows
+mod LineRows

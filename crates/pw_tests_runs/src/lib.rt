@@ -1,0 +1,2 @@
+//! Small programs, whose runs are computed by their definitions.
+#![tactic(auto)]
