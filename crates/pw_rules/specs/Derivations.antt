@@ -9,7 +9,8 @@ use Rattle.pw_walk.specs.Causes.{Point, needs, OnePointerQualifier, ElementType,
 use Rattle.pw_walk.specs.Walks.{meets, pure, asks, ◌>>=◌, ◌>>◌}
 use Rattle.pw_rules.specs.Kinds.{plain, is_array, is_function, is_record}
 use Rattle.pw_rules.specs.Limits.{Spot, completed}
-use Rattle.pw_rules.specs.States.{Rule, records_in, Entry, TagEntry}
+use Rattle.pw_rules.specs.States.{Rule, records_in}
+use Rattle.pw_rules.specs.declared.names.Tag.{Tag}
 
 -- one step outward: a pointer with its `*` and its qualifiers, an array with its length, a function with its parameters
 pub data Derivation : Type 0 where
@@ -22,11 +23,12 @@ pub record ParameterValue : Type 0 where
   pub name : Option Word
   pub ty : QType
 
--- What a parameter list declares, for the function's body: its parameters, and the names and tags in its scope.
+-- What a parameter list declares, for the function's body: its parameters, and the names in its scope with the places of
+-- their entities, and the tags.
 pub record Bindings : Type 0 where
   pub parameters : List ParameterValue
-  pub ordinary : List (List ℕ × Entry)
-  pub tags : List (List ℕ × TagEntry)
+  pub ordinary : List (List ℕ × ℕ)
+  pub tags : List (List ℕ × Tag)
 
 -- What a declarator says: its name, its steps from the type of the specifiers outward, and what the parameter list nearest
 -- to the name declares.

@@ -11,7 +11,7 @@ use Rattle.pw_walk.specs.Causes.{Point, needs, keeps, FunctionDeclarator, Defini
 use Rattle.pw_walk.specs.declared.fault.Which.TheVariants.{Nodes, Room}
 use Rattle.pw_walk.specs.Walks.{meets, asks, change, ◌>>=◌, ◌>>◌}
 use Rattle.pw_rules.specs.Kinds.{result_of, is_const_object}
-use Rattle.pw_rules.specs.States.{Rule, State, no_body, records_in, one_deeper, back_to, with_body, with_scopes, with_made}
+use Rattle.pw_rules.specs.States.{Rule, State, ScopeState, no_body, records_in, one_deeper, leave_scope, with_body, with_scopes, with_made}
 use Rattle.pw_rules.specs.Limits.{name_within, type_within}
 use Rattle.pw_rules.specs.Linkage.{AsInternal, AsBefore, Asking, linkage_point, is_internal_by, declare_linked, undefined_yet, define_function, symbol_at}
 use Rattle.pw_rules.specs.SpecifierLists.{Specified, is_static, is_extern}
@@ -53,6 +53,14 @@ definition_rules s w b d declarations q =
 abbrev pub parameter_local : ParameterValue → LocalValue
 parameter_local p = record { name = name_text p.name; ty = p.ty; writable = not (is_const_object p.ty) }
 
+-- the names of a parameter list in the scope that is read
+abbrev pub declared_again : Bindings → ScopeState → ScopeState
+declared_again bindings c =
+    record c {
+      ordinary = c.ordinary ++ map (λ e. (e.0, record { place = e.1; depth = c.depth })) bindings.ordinary;
+      tags = c.tags ++ map (λ e. (e.0, record { tag = e.1; depth = c.depth })) bindings.tags;
+    }
+
 -- the body is read in the scope of its parameters
 abbrev pub enter_body : QType → Bindings → List (List ℕ) → State → State
 enter_body q bindings names s =
@@ -62,7 +70,7 @@ enter_body q bindings names s =
       names = names;
       labels = length names;
     })
-    (with_scopes (λ c. record c { ordinary = c.ordinary ++ bindings.ordinary; tags = c.tags ++ bindings.tags }) (one_deeper s))
+    (with_scopes (declared_again bindings) (one_deeper s))
 
 abbrev pub numbers_below : ℕ → List ℕ
 numbers_below zero = []
@@ -92,11 +100,10 @@ measured_rule w f =
 
 unfoldable pub body_rule : Word → ℕ → QType → Bindings → S.Block → Rule (Unit {0})
 body_rule w place q bindings block =
-    asks (λ s. s.scopes) >>= λ outer.
     change (enter_body q bindings (labels_in_block block)) >>
     block_rule block >>= λ body.
     asks (λ s. function_of s w place q bindings body) >>= λ f.
-    change (back_to outer) >>
+    change leave_scope >>
     measured_rule w f >>
     change (add_function f)
 

@@ -1,5 +1,5 @@
 -- What single names, constants and parts of declarators say, where no phrase within them is read any more.
-use Rattle.std.specs.Prelude.{ℕ, ◌+◌, ◌-◌, ◌%◌, ◌^◌, ◌==◌, Bool, true, false, not, ◌&&◌, ◌||◌, nat_le, nat_lt, if◌then◌else◌, Option, None, Some, is_some, is_none, unwrap_or, option_and_then, List, [], ◌∷◌, ◌++◌, length, map, filter}
+use Rattle.std.specs.Prelude.{ℕ, ◌+◌, ◌-◌, ◌%◌, ◌^◌, ◌==◌, Bool, true, false, not, ◌&&◌, ◌||◌, nat_le, nat_lt, if◌then◌else◌, Option, None, Some, is_some, is_none, unwrap_or, option_and_then, List, [], ◌∷◌, ◌++◌, length, map, filter, slice_get}
 use Rattle.std.specs.List.{list_any}
 use Rattle.std.specs.Option.{option_map_or}
 use Rattle.std.specs.Str.{bytes_eq}
@@ -26,11 +26,13 @@ use Rattle.pw_walk.specs.Walks.{meets, granted, refused, pure, asks, change, ◌
 use Rattle.pw_rules.specs.Kinds.{plain, int_type, is_function, is_record, is_void, types_in, kind_in}
 use Rattle.pw_rules.specs.Constants.{constant_value}
 use Rattle.pw_rules.specs.Operands.{Operand, value_operand, type_in}
-use Rattle.pw_rules.specs.States.{Rule, State, Entity, TypeName, EnumerationConstant, LocalObject, StaticObject, Linked, Tag, RecordTagged, Enumerated, records_in, entity_of, tag_of, tag_here, enter, enter_tag, add_record, put_record, add_hidden, next_hidden, with_types}
+use Rattle.pw_rules.specs.States.{Rule, State, Entity, TypeName, EnumerationConstant, LocalObject, StaticObject, Linked, records_in, entity_of, tag_of, tag_here, enter, enter_tag, add_record, put_record, add_hidden, next_hidden, with_types, put_at}
 use Rattle.pw_rules.specs.Limits.{completed, name_within, type_within}
 use Rattle.pw_rules.specs.Linkage.{fresh_name, symbol_at}
 use Rattle.pw_rules.specs.SpecifierLists.{Specified, is_register}
 use Rattle.pw_rules.specs.Derivations.{Declared, ParameterValue, Bindings, built, spot_of}
+use Rattle.pw_rules.specs.declared.names.Tag.{Tag}
+use Rattle.pw_rules.specs.declared.names.Tag.TheVariants as G
 
 -- ---- the tokens at which lists of specifiers stand
 
@@ -155,7 +157,7 @@ unfoldable pub new_tag : RecordKind → Word → Rule ℕ
 new_tag kind w =
     meets (name_within w.token w.text ∷ []) >>
     new_record kind >>= λ n.
-    change (enter_tag w.text (RecordTagged n)) >>
+    change (enter_tag w.text (G.Record n)) >>
     pure n
 
 abbrev pub kind_point : List RecordValue → RecordKind → ℕ → ℕ → Cause
@@ -164,11 +166,11 @@ kind_point records kind n token = needs OneKindOfTag token (same_record_kind kin
 -- a structure or union by its tag, which is declared here where it is not visible; then its token tells that
 unfoldable pub reference_by : RecordKind → Word → Option Tag → Rule (QType × Option ℕ)
 reference_by kind w None = new_tag kind w >>= λ n. pure (plain (Record n), Some w.token)
-reference_by kind w (Some (RecordTagged n)) =
+reference_by kind w (Some (G.Record n)) =
     asks records_in >>= λ records.
     meets (kind_point records kind n w.token ∷ []) >>
     pure (plain (Record n), None)
-reference_by kind w (Some Enumerated) = refused OneKindOfTag w.token
+reference_by kind w (Some G.Enumeration) = refused OneKindOfTag w.token
 
 unfoldable pub reference_rule : RecordKind → Word → Rule (QType × Option ℕ)
 reference_rule kind w = asks (λ s. tag_of s w.text) >>= λ tag. reference_by kind w tag
@@ -182,21 +184,21 @@ unfoldable pub alone_rule : RecordKind → Word → Rule (Unit {0})
 alone_rule kind w = asks (λ s. tag_here s w.text) >>= λ tag. alone_by kind w tag
 
 abbrev pub is_opened : State → ℕ → Bool
-is_opened s n = list_any (λ m. m == n) s.types.opened
+is_opened s n = unwrap_or (slice_get s.types.opened n) false
 
 unfoldable pub opening_by : RecordKind → Word → Option Tag → Rule ℕ
 opening_by kind w None = new_tag kind w
-opening_by kind w (Some (RecordTagged n)) =
+opening_by kind w (Some (G.Record n)) =
     asks (λ s. s) >>= λ s.
     meets (
     kind_point (records_in s) kind n w.token
     ∷ needs OneContent w.token (not (is_opened s n))
     ∷ []) >>
     pure n
-opening_by kind w (Some Enumerated) = refused OneKindOfTag w.token
+opening_by kind w (Some G.Enumeration) = refused OneKindOfTag w.token
 
 abbrev pub open_record : ℕ → State → State
-open_record n = with_types (λ t. record t { opened = n ∷ t.opened })
+open_record n = with_types (λ t. record t { opened = put_at n true t.opened })
 
 -- the type that a list of members defines
 unfoldable pub opening_rule : RecordKind → Option Word → Rule ℕ
@@ -263,14 +265,14 @@ closing_rule kind token n members =
 -- an enumeration is an int
 unfoldable pub enumeration_by : Word → Option Tag → Rule QType
 enumeration_by w None = refused DeclaredTag w.token
-enumeration_by w (Some (RecordTagged n)) = refused OneKindOfTag w.token
-enumeration_by w (Some Enumerated) = pure int_type
+enumeration_by w (Some (G.Record n)) = refused OneKindOfTag w.token
+enumeration_by w (Some G.Enumeration) = pure int_type
 
 unfoldable pub enumeration_rule : Word → Rule QType
 enumeration_rule w = asks (λ s. tag_of s w.text) >>= λ tag. enumeration_by w tag
 
 abbrev pub is_record_tag : Option Tag → Bool
-is_record_tag (Some (RecordTagged n)) = true
+is_record_tag (Some (G.Record n)) = true
 is_record_tag _ = false
 
 unfoldable pub enumerating_rule : Option Word → Rule (Unit {0})
@@ -282,7 +284,7 @@ enumerating_rule (Some w) =
     ∷ needs OneContent w.token (is_none tag)
     ∷ name_within w.token w.text
     ∷ []) >>
-    change (enter_tag w.text Enumerated)
+    change (enter_tag w.text G.Enumeration)
 
 -- the value of an enumerator is an int
 unfoldable pub enumerator_value : ℕ → Expression → Rule ℕ
@@ -375,6 +377,6 @@ unfoldable pub bindings_rule : List ParameterValue → Rule Bindings
 bindings_rule parameters =
     asks (λ s. record {
       parameters = without_void parameters;
-      ordinary = filter (λ e. e.1.depth == s.scopes.depth) s.scopes.ordinary;
-      tags = filter (λ e. e.1.depth == s.scopes.depth) s.scopes.tags;
+      ordinary = map (λ e. (e.0, e.1.place)) (filter (λ e. e.1.depth == s.scopes.depth) s.scopes.ordinary);
+      tags = map (λ e. (e.0, e.1.tag)) (filter (λ e. e.1.depth == s.scopes.depth) s.scopes.tags);
     })

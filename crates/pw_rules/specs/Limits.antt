@@ -1,5 +1,5 @@
 -- The limits on types and names that are declared (ISO C90 5.2.4.1), and what is to be complete.
-use Rattle.std.specs.Prelude.{ℕ, Bool, nat_lt, if◌then◌else◌, Option, None, Some, is_some, unwrap_or, List, [], ◌∷◌, length}
+use Rattle.std.specs.Prelude.{ℕ, Bool, not, ◌&&◌, nat_le, nat_lt, if◌then◌else◌, Option, None, Some, is_some, unwrap_or, List, [], ◌∷◌, length}
 use Rattle.std.specs.Option.{option_or}
 use Rattle.pw_types.specs.TypeTrees.{CType, Pointer, Array, Function, QType, Qualified, type_of, is_volatile, RecordValue}
 use Rattle.pw_types.specs.Records.{depth_of}
@@ -37,8 +37,14 @@ many_parameters (Array (Qualified ty c v) n) = many_parameters ty
 many_parameters (Function (Qualified ty c v) ps) = option_or (many_parameters ty) (above parameter_limit (count_of_types ps))
 many_parameters _ = None
 
+-- no name of a text is without bytes
 abbrev pub name_within : ℕ → List ℕ → Cause
-name_within token name = keeps NameLength identifier_limit token (length name)
+name_within token name =
+    record {
+      constraint = Within NameLength (length name);
+      token = token;
+      broken = not (nat_le 1 (length name) && nat_le (length name) identifier_limit);
+    }
 
 -- the limits of a type that a declarator builds
 abbrev pub type_within : List RecordValue → ℕ → QType → Point

@@ -7,7 +7,8 @@ use Rattle.pw_types.specs.TypedTrees.{Symbol, External, Internal, PlacedItem}
 use Rattle.pw_walk.specs.Causes.{Point, Cause, needs, OneMeaning, OneType, OneLinkage, OneDefinition}
 use Rattle.pw_walk.specs.Walks.{pure, asks, change, ◌>>=◌, ◌>>◌}
 use Rattle.pw_rules.specs.Compatible.{compatible, composite}
-use Rattle.pw_rules.specs.States.{Rule, State, Entity, TypeName, Linked, LinkedName, entity_here, entry_here, entity_of, place_of_linked, linked_at, put_entity, put_linked, add_linked, add_slot, enter, NamedSlot, linked_in}
+use Rattle.pw_rules.specs.States.{Rule, State, Entity, TypeName, Linked, LinkedName, entity_here, entry_here, entity_of, place_of_linked, linked_at, put_entity, put_linked, add_linked, add_slot, enter, linked_in}
+use Rattle.pw_rules.specs.declared.names.Slot.TheVariants as slot
 
 -- ---- names without linkage: typedef names, enumeration constants, parameters, locals
 
@@ -106,7 +107,7 @@ abbrev pub has_slot : State → ℕ → Bool
 has_slot s place = option_map_or (λ l. l.tentative || l.defined) (linked_at s place) false
 
 abbrev pub slot_for : ℕ → State → State
-slot_for place s = if has_slot s place then s else add_slot (NamedSlot place) s
+slot_for place s = if has_slot s place then s else add_slot (slot.Named place) s
 
 -- 6.7.2
 abbrev pub define_tentatively : ℕ → State → State

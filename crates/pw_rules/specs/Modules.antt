@@ -7,7 +7,9 @@ use Rattle.pw_types.specs.TypedTrees.{Hidden, GlobalValue, DeclaredValue, Module
 use Rattle.pw_walk.specs.Causes.{Cause, needs, CompleteAtEnd}
 use Rattle.pw_walk.specs.Walks.{meets, pure, asks, ◌>>=◌, ◌>>◌}
 use Rattle.pw_rules.specs.Kinds.{is_const_object}
-use Rattle.pw_rules.specs.States.{Rule, State, Entity, Linked, LinkedName, HiddenObject, Slot, NamedSlot, HiddenSlot, entity_of, linked_at, linked_in, records_in}
+use Rattle.pw_rules.specs.declared.names.Slot.{Slot}
+use Rattle.pw_rules.specs.declared.names.Slot.TheVariants as slot
+use Rattle.pw_rules.specs.States.{Rule, State, Entity, Linked, LinkedName, HiddenObject, entity_of, linked_at, linked_in, records_in}
 use Rattle.pw_rules.specs.Limits.{Spot, completed}
 use Rattle.pw_rules.specs.Linkage.{symbol_of_linked}
 use Rattle.pw_rules.specs.Declarations.{decl_rule}
@@ -62,8 +64,8 @@ abbrev pub hidden_global : ℕ → HiddenObject → GlobalValue
 hidden_global k h = record { name = Hidden k; ty = h.ty; writable = h.writable; items = h.items }
 
 abbrev pub global_in : State → Slot → List GlobalValue
-global_in s (NamedSlot place) = option_map_or (λ l. named_global s l ∷ []) (linked_at s place) []
-global_in s (HiddenSlot k) = option_map_or (λ h. hidden_global k h ∷ []) (slice_get s.made.hidden k) []
+global_in s (slot.Named place) = option_map_or (λ l. named_global s l ∷ []) (linked_at s place) []
+global_in s (slot.Hidden k) = option_map_or (λ h. hidden_global k h ∷ []) (slice_get s.made.hidden k) []
 
 abbrev pub declared_value : LinkedName → DeclaredValue
 declared_value l = record { name = l.name; ty = l.ty }

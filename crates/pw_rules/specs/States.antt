@@ -1,6 +1,6 @@
 -- What is known while a module is checked: its types and the names that have linkage, the names in scope (ISO C90 6.1.2.1,
 -- 6.1.2.3), what was made, and the function that is read.
-use Rattle.std.specs.Prelude.{ℕ, zero, suc, ◌+◌, ◌==◌, Bool, true, false, if◌then◌else◌, Option, None, Some, option_map, option_and_then, List, [], ◌∷◌, ◌++◌, length, position, slice_get}
+use Rattle.std.specs.Prelude.{ℕ, zero, suc, ◌+◌, ◌-◌, ◌==◌, nat_lt, filter, Bool, true, false, if◌then◌else◌, Option, None, Some, option_map, option_and_then, List, [], ◌∷◌, ◌++◌, length, position, slice_get}
 use Rattle.std.specs.Str.{bytes_eq}
 use Rattle.pw_scope.specs.Visible.{visible}
 use Rattle.pw_types.specs.declared.kind.IntKind.{IntKind}
@@ -8,6 +8,11 @@ use Rattle.pw_types.specs.TypeTrees.{QType, RecordValue}
 use Rattle.pw_types.specs.TypedTrees.{CaseValue, FunctionValue, LocalValue, PlacedItem}
 use Rattle.pw_walk.specs.Walks.{RuleOver, pure, change, asks, ◌>>=◌, ◌>>◌}
 use Rattle.pw_rules.specs.Kinds.{int_type}
+use Rattle.pw_rules.specs.declared.names.Entry.{Entry}
+use Rattle.pw_rules.specs.declared.names.Tag.{Tag}
+use Rattle.pw_rules.specs.declared.names.TagEntry.{TagEntry}
+use Rattle.pw_rules.specs.declared.names.Slot.{Slot}
+use Rattle.pw_rules.specs.declared.names.Slot.TheVariants as slot
 
 -- ---- names
 
@@ -22,19 +27,6 @@ pub data Entity : Type 0 where
   StaticObject : ℕ → QType → Entity
   -- its place among the names with linkage, and the type that it has in this scope
   Linked : ℕ → QType → Entity
-
--- a name in scope: the place of its entity, and how deep its scope is
-pub record Entry : Type 0 where
-  pub place : ℕ
-  pub depth : ℕ
-
-pub data Tag : Type 0 where
-  RecordTagged : ℕ → Tag
-  Enumerated : Tag
-
-pub record TagEntry : Type 0 where
-  pub tag : Tag
-  pub depth : ℕ
 
 -- An object or function with linkage (6.1.2.2): its type by all its declarations so far; whether it is tentatively
 -- defined, and whether it is defined; its first bytes; the token of its first declaration, and that of the tag that this
@@ -57,11 +49,6 @@ pub record HiddenObject : Type 0 where
   pub writable : Bool
   pub items : List PlacedItem
 
--- the objects of static lifetime in the order of their first definitions
-pub data Slot : Type 0 where
-  NamedSlot : ℕ → Slot
-  HiddenSlot : ℕ → Slot
-
 -- ---- the function that is read
 
 -- a switch around: the type of its value, its cases so far, and its default
@@ -83,10 +70,10 @@ pub record BodyState : Type 0 where
 
 -- ---- the state
 
--- `opened` has the numbers of the records whose members were begun
+-- `opened` says of each record whether its members were begun
 pub record TypeState : Type 0 where
   pub records : List RecordValue
-  pub opened : List ℕ
+  pub opened : List Bool
   pub linked : List LinkedName
 
 pub record ScopeState : Type 0 where
@@ -97,6 +84,7 @@ pub record ScopeState : Type 0 where
 
 -- `counting` is false in an operand of `sizeof`, where a string is no object
 pub record MadeState : Type 0 where
+  -- the objects of static lifetime in the order of their first definitions
   pub slots : List Slot
   pub hidden : List HiddenObject
   pub functions : List FunctionValue
@@ -216,7 +204,7 @@ abbrev pub add_linked : LinkedName → State → State
 add_linked l = with_types (λ t. record t { linked = t.linked ++ l ∷ [] })
 
 abbrev pub add_record : RecordValue → State → State
-add_record r = with_types (λ t. record t { records = t.records ++ r ∷ [] })
+add_record r = with_types (λ t. record t { records = t.records ++ r ∷ []; opened = t.opened ++ false ∷ [] })
 
 abbrev pub put_record : ℕ → RecordValue → State → State
 put_record place r = with_types (λ t. record t { records = put_at place r t.records })
@@ -224,7 +212,7 @@ put_record place r = with_types (λ t. record t { records = put_at place r t.rec
 -- a hidden object more, with its slot; its number is how many there were
 abbrev pub add_hidden : HiddenObject → State → State
 add_hidden h =
-    with_made (λ m. record m { slots = m.slots ++ HiddenSlot (length m.hidden) ∷ []; hidden = m.hidden ++ h ∷ [] })
+    with_made (λ m. record m { slots = m.slots ++ slot.Hidden (length m.hidden) ∷ []; hidden = m.hidden ++ h ∷ [] })
 
 abbrev pub put_hidden : ℕ → HiddenObject → State → State
 put_hidden place h = with_made (λ m. record m { hidden = put_at place h m.hidden })
@@ -233,7 +221,7 @@ abbrev pub next_hidden : State → ℕ
 next_hidden s = length s.made.hidden
 
 abbrev pub add_slot : Slot → State → State
-add_slot slot = with_made (λ m. record m { slots = m.slots ++ slot ∷ [] })
+add_slot more = with_made (λ m. record m { slots = m.slots ++ more ∷ [] })
 
 abbrev pub add_local : LocalValue → State → State
 add_local local = with_body (λ b. record b { locals = b.locals ++ local ∷ [] })
@@ -247,17 +235,20 @@ abbrev pub one_deeper : State → State
 one_deeper = with_scopes (λ c. record c { depth = c.depth + 1 })
 
 -- at a scope's end its names are gone, and what they hid is visible again
-abbrev pub back_to : ScopeState → State → State
-back_to outer =
-    with_scopes (λ c. record c { ordinary = outer.ordinary; tags = outer.tags; depth = outer.depth })
+abbrev pub leave_scope : State → State
+leave_scope =
+    with_scopes (λ c. record c {
+      ordinary = filter (λ e. nat_lt e.1.depth c.depth) c.ordinary;
+      tags = filter (λ e. nat_lt e.1.depth c.depth) c.tags;
+      depth = c.depth - 1;
+    })
 
 -- in a scope of its own
 unfoldable pub scoped : {A : Type 0} → Rule A → Rule A
 scoped inside =
-    asks (λ s. s.scopes) >>= λ outer.
     change one_deeper >>
     inside >>= λ a.
-    change (back_to outer) >>
+    change leave_scope >>
     pure a
 
 -- not counted: in an operand of `sizeof` (6.3.3.4)

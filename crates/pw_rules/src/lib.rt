@@ -3,8 +3,10 @@
 #![tactic(auto)]
 
 mod laws;
+mod names;
 
 pub use laws::{
     assignable_is_tested, checks_is_exact, compatible_is_tested, linkage_is_tested,
     modifiable_is_tested, null_constant_is_tested, samples,
 };
+pub use names::{Entry, Slot, Tag, TagEntry};

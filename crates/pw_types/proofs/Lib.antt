@@ -3,5 +3,5 @@ pub mod ListLemmas
 pub mod MeasureLemmas
 pub mod RecordLemmas
 mod SizeLemmas
-mod ViewLemmas
+pub mod ViewLemmas
 pub mod SpineLaws

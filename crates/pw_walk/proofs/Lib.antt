@@ -2,3 +2,4 @@ pub mod Points
 pub mod WalkLaws
 pub mod KindLaws
 pub mod BindLaws
+pub mod CallLaws

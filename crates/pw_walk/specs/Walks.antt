@@ -43,33 +43,33 @@ outcome (Closed constraint token) = Err (fault_of (record { constraint = constra
 abbrev pub RuleOver : Type 0 → Type 0 → Type 0
 RuleOver S A = S → Walk (A × S)
 
-unfoldable pub pure : {S A : Type 0} → A → S → Walk (A × S)
+abbrev pub pure : {S A : Type 0} → A → S → Walk (A × S)
 pure a s = Done (a, s)
 
-unfoldable pub ◌>>=◌ : {S A B : Type 0} → (S → Walk (A × S)) → (A → S → Walk (B × S)) → S → Walk (B × S)
+abbrev pub ◌>>=◌ : {S A B : Type 0} → (S → Walk (A × S)) → (A → S → Walk (B × S)) → S → Walk (B × S)
 ◌>>=◌ first next s = bind (first s) (λ t. next t.0 t.1)
 
-unfoldable pub ◌>>◌ : {S A B : Type 0} → (S → Walk (A × S)) → (S → Walk (B × S)) → S → Walk (B × S)
+abbrev pub ◌>>◌ : {S A B : Type 0} → (S → Walk (A × S)) → (S → Walk (B × S)) → S → Walk (B × S)
 ◌>>◌ first next s = bind (first s) (λ t. next t.1)
 
 -- a point
-unfoldable pub meets : {S : Type 0} → Point → S → Walk (Unit {0} × S)
+abbrev pub meets : {S : Type 0} → Point → S → Walk (Unit {0} × S)
 meets p s = Passing p (Done (tt, s))
 
 -- a point, and then what is there; where it is not, this constraint is broken
-unfoldable pub granted : {S A : Type 0} → Constraint → ℕ → Point → Option A → S → Walk (A × S)
+abbrev pub granted : {S A : Type 0} → Constraint → ℕ → Point → Option A → S → Walk (A × S)
 granted constraint token p None s = Passing p (Closed constraint token)
 granted constraint token p (Some a) s = Passing p (Done (a, s))
 
 -- what cannot stand here at all
-unfoldable pub refused : {S A : Type 0} → Constraint → ℕ → S → Walk (A × S)
+abbrev pub refused : {S A : Type 0} → Constraint → ℕ → S → Walk (A × S)
 refused constraint token s = Closed constraint token
 
 -- what the state says, and a change of it
-unfoldable pub asks : {S A : Type 0} → (S → A) → S → Walk (A × S)
+abbrev pub asks : {S A : Type 0} → (S → A) → S → Walk (A × S)
 asks look s = Done (look s, s)
 
-unfoldable pub change : {S : Type 0} → (S → S) → S → Walk (Unit {0} × S)
+abbrev pub change : {S : Type 0} → (S → S) → S → Walk (Unit {0} × S)
 change f s = Done (tt, f s)
 
 infixl 10 ◌>>=◌ ◌>>◌

@@ -1,6 +1,7 @@
 //! What checking answers where it refuses a module.
 
 use pw_token::Feature;
+use std::alloc::{AllocError, AllocFailed};
 
 /// The limit that a count passes.
 #[derive(Clone, Copy, Debug, PartialEq, Eq)]
@@ -37,4 +38,32 @@ pub enum CheckKind {
 pub struct CheckFault {
     pub kind: CheckKind,
     pub token: usize,
+}
+
+impl From<AllocError> for CheckFault {
+    ghost use Rattle.std.specs.Prelude.{◌≡◌};
+    ghost use Rattle.pw_walk.specs.declared.fault.CheckKind.TheVariants.{NoMemory};
+
+    ghost from_gives = { λ _ fault. fault.kind ≡ NoMemory };
+
+    fn from(_none: AllocError) -> CheckFault {
+        CheckFault {
+            kind: CheckKind::NoMemory,
+            token: 0,
+        }
+    }
+}
+
+impl<T: Drop> From<AllocFailed<T>> for CheckFault {
+    ghost use Rattle.std.specs.Prelude.{◌≡◌};
+    ghost use Rattle.pw_walk.specs.declared.fault.CheckKind.TheVariants.{NoMemory};
+
+    ghost from_gives = { λ _ fault. fault.kind ≡ NoMemory };
+
+    fn from(_none: AllocFailed<T>) -> CheckFault {
+        CheckFault {
+            kind: CheckKind::NoMemory,
+            token: 0,
+        }
+    }
 }
