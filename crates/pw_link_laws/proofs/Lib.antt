@@ -1,0 +1,6 @@
+pub mod Fitting
+pub mod Kept
+pub mod Lawful
+pub mod OneAnswer
+pub mod Places
+pub mod Starting

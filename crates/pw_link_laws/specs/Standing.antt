@@ -1,0 +1,40 @@
+-- What stands where in a linked program.
+use Rattle.std.specs.Prelude.{ℕ, ◌≡◌, ◌+◌, ◌*◌, ◌%◌, ◌≤◌, List, [], ◌∷◌, ◌++◌, length}
+use Rattle.std.specs.List.{AllByRecursion}
+use Rattle.pw_value.specs.Limits.{text_start}
+use Rattle.pw_object.specs.declared.object.Object.{Object}
+use Rattle.pw_image.specs.Image.{Item}
+use Rattle.pw_link.specs.Layout.{Placed, Standing, Sites, sites_by, text_of, data_of, data_begin, stack_end}
+use Rattle.pw_link.specs.Linking.{item_at}
+
+-- the addresses of a linked program
+abbrev pub sites : List Object → ℕ → Sites
+sites objects stack = sites_by (text_of objects) (data_begin objects) (data_of objects) (stack_end objects stack)
+
+-- these words stand at an address, in a text that begins at its own
+pub record StandsInText (words : List ℕ) (address : ℕ) (own : List ℕ) : Type 0 where
+  pub before : List ℕ
+  pub after : List ℕ
+  pub is : words ≡ before ++ (own ++ after)
+  pub at : address ≡ text_start + 4 * length before
+
+-- this is one of the items of the data
+pub record StandsInData (items : List Item) (i : Item) : Type 0 where
+  pub before : List Item
+  pub after : List Item
+  pub is : items ≡ before ++ i ∷ after
+
+-- an object's items stand in the data, each at the object's offset and its own
+abbrev pub ItemsStand : List Object → ℕ → List Item → Standing → Type 0
+ItemsStand objects stack items s = AllByRecursion (λ i. StandsInData items (item_at (sites objects stack).named s.offset i)) s.global.items
+
+-- What is placed one behind the other: each at a multiple of 4 from an address on, with its words before the next.
+abbrev pub AreApart : ℕ → List Placed → Type 0
+AreApart free [] = Unit {0}
+AreApart free (p ∷ rest) = (free ≤ p.address) × (p.address % 4 ≡ 0) × AreApart (p.address + 4 * length p.piece.words) rest
+
+-- each object at a multiple of 8 from an offset on, with its own bytes, one more than its size, before the next;
+-- and the last ends at the end of the data
+abbrev pub OwnTheirBytes : ℕ → ℕ → List Standing → Type 0
+OwnTheirBytes end free [] = free ≤ end
+OwnTheirBytes end free (s ∷ rest) = (free ≤ s.offset) × (s.offset % 8 ≡ 0) × OwnTheirBytes end (s.offset + (s.global.size + 1)) rest

@@ -1,0 +1,48 @@
+//! Laws of linked programs.
+
+ghost use Rattle.std.specs.Prelude.{◌≡◌, ℕ, ◌+◌, ◌<◌, ◌≤◌, ◌^◌, List, map};
+ghost use Rattle.std.specs.List.{AllByRecursion};
+ghost use Rattle.pw_value.specs.declared.fault.LinkFault.{LinkFault};
+ghost use Rattle.pw_value.specs.Limits.{text_start};
+ghost use Rattle.pw_object.specs.declared.object.Object.{Object};
+ghost use Rattle.pw_object.specs.Object.{IsObject};
+ghost use Rattle.pw_image.specs.Image.{IsImage};
+ghost use Rattle.pw_link.specs.Layout.{pieces_of, globals_of, text_of, data_of, data_begin, data_size, stack_end};
+ghost use Rattle.pw_link.specs.Linking.{linked, piece_words, function_of, global_of, AreLinked, IsRefusal};
+ghost use Rattle.pw_link_laws.specs.Standing.{sites, StandsInText, ItemsStand, AreApart, OwnTheirBytes};
+
+use pw_program::laws::modules_have_one_answer;
+
+/// Objects that are linked are not refused, and others are refused for one reason.
+pub fn objects_have_one_answer()
+    ensures not_both { (objects : List Object) (stack : ℕ) (fault : LinkFault) → AreLinked objects stack → ¬ IsRefusal objects stack fault }
+    ensures one_fault { (objects : List Object) (stack : ℕ) (fault other : LinkFault) → IsRefusal objects stack fault → IsRefusal objects stack other → fault ≡ other }
+{
+    modules_have_one_answer();
+}
+
+/// The image of objects that are lawful for their files is lawful for its own.
+pub fn linked_images_are_lawful()
+    ensures { (objects : List Object) (stack : ℕ) → AllByRecursion IsObject objects → AreLinked objects stack → stack < 2 ^ 32 → IsImage (linked objects stack) }
+{}
+
+/// The words of each function and routine, its relocations done, stand in the text at its address, which the
+/// map tells; none but the functions of the modules and the routines stand there, each at a multiple of 4 behind
+/// the words of the one before it.
+pub fn words_stand_at_their_addresses()
+    ensures words { (objects : List Object) (stack : ℕ) → AllByRecursion (λ p. StandsInText (linked objects stack).memory.words p.address (piece_words (sites objects stack) p)) (text_of objects) }
+    ensures map { (objects : List Object) (stack : ℕ) → (linked objects stack).functions ≡ map function_of (text_of objects) }
+    ensures pieces { (objects : List Object) → map (λ p. p.piece) (text_of objects) ≡ pieces_of objects }
+    ensures apart { (objects : List Object) → AreApart text_start (text_of objects) }
+{}
+
+/// The items of each object stand in the data at the object's offset, and the map tells its address; each object
+/// has a multiple of 8 and bytes of its own, one more than its size, and all end 64 bytes below the stack. What
+/// no item fills is 0 at the start, by the law of the machine's start.
+pub fn data_stand_at_their_addresses()
+    ensures items { (objects : List Object) (stack : ℕ) → AllByRecursion (ItemsStand objects stack (linked objects stack).memory.items) (data_of objects) }
+    ensures map { (objects : List Object) (stack : ℕ) → (linked objects stack).globals ≡ map (global_of (data_begin objects)) (data_of objects) }
+    ensures globals { (objects : List Object) → map (λ s. s.global) (data_of objects) ≡ globals_of objects }
+    ensures apart { (objects : List Object) → OwnTheirBytes (data_size objects) 0 (data_of objects) }
+    ensures below { (objects : List Object) (stack : ℕ) → data_begin objects + data_size objects + 64 + stack ≤ stack_end objects stack }
+{}
