@@ -1,0 +1,3 @@
+pub mod MachineRun
+pub mod CodeStands
+pub mod Laws
