@@ -10,6 +10,13 @@ pub enum Place {
     Reg(u8),
 }
 
+/// Where nothing else is said, the register that holds 0.
+impl Default for Place {
+    fn default() -> Place {
+        Place::Reg(0)
+    }
+}
+
 /// A function with the places of its temporaries, the registers that it saves, in rising order, and the
 /// size of its frame in bytes.
 #[derive(Drop)]

@@ -1,0 +1,2 @@
+pub mod Placeable
+pub mod PlaceableArithmetic
