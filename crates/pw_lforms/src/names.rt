@@ -1,0 +1,43 @@
+//! The names of objects and functions among all modules.
+
+ghost use Rattle.std.specs.Prelude.{◌≡◌, ◌++◌, ◌∷◌, [], decimal, IfOk, OnOk};
+ghost use Rattle.pw_lower.specs.Expressions as spec;
+ghost use Rattle.pw_typed.specs.Views.{view_symbol};
+ghost use Rattle.pw_types.specs.TypedTrees as tree;
+
+use itoa::Buffer;
+use pw_typed::Symbol;
+use pw_value::{Name, NoMemory};
+use std::alloc::Global;
+
+/// The name of an object or function among all modules: `x`, `m:x` or `m:.k`.
+pub fn full_name(alloc: Global, home: &Name, symbol: &Symbol) -> Result<Name, NoMemory>
+    ensures { IfOk result (λ name. name ≡ spec.full_name home.now (view_symbol symbol.now)) }
+{
+    match symbol {
+        Symbol::External(name) => name.copy(alloc),
+        Symbol::Internal(name) => own_name(alloc, home, name.as_bytes()),
+        Symbol::Hidden(number) => hidden_name(alloc, home, *number),
+    }
+}
+
+/// The name `m:x` of a module's own `x`. There is no memory for one that passes the limit on names.
+fn own_name(alloc: Global, home: &Name, name: &[u8]) -> Result<Name, NoMemory>
+    ensures { IfOk result (λ full. full ≡ home.now ++ 58 ∷ name.now) }
+{
+    let mut bytes = Vec::from_slice(alloc, home.as_bytes())?;
+    bytes.push(b':')?;
+    bytes.extend_from_slice(name)?;
+    Name::new(alloc, &bytes).ok().ok_or(NoMemory)
+}
+
+/// The name `m:.k` of a module's hidden object.
+pub fn hidden_name(alloc: Global, home: &Name, number: u32) -> Result<Name, NoMemory>
+    ensures { IfOk result (λ name. name ≡ spec.full_name home.now (tree.Hidden number)) }
+{
+    let mut bytes = Vec::new(alloc);
+    bytes.push(b'.')?;
+    let mut buffer = Buffer::new();
+    bytes.extend_from_slice(buffer.format(number).as_bytes())?;
+    own_name(alloc, home, &bytes)
+}
