@@ -1,30 +1,48 @@
--- Likeness of events and of logs: it composes, and what is shown of like logs is alike.
-use Rattle.std.specs.Prelude.{ℕ, Bool, true, false, if◌then◌else◌, List, ◌∷◌}
-use Rattle.std.proofs.Common.{ap}
-use Rattle.pw_run.specs.Runs.{Stage, Going, Over, Wrong, AreAlike, none, also, Met, Refines}
-use Rattle.pw_trace.specs.Traces.{Event, EventAlike, called, refused, returned, loaded, stored, is_of_source, calls_alone, calls_of, shown_by}
+-- Likeness of events and of logs: what is shown of like logs is alike.
+use Rattle.std.specs.Prelude.{ℕ, ◌≡◌, Bool, true, false, if◌then◌else◌, List, [], ◌∷◌}
+use Rattle.std.proofs.Common.{subst, sym, ap, refl}
+use Rattle.pw_run.specs.Runs.{View, Stage, Going, Over, Wrong, AreAlike, none, also, SameIn, GoesOn, EndsSo, Met, Refines}
+use Rattle.pw_trace.specs.Traces.{Standing, Event, Called, Refused, Returned, Loaded, Stored, EventAlike, called, refused, returned, loaded, stored, SameKind, call, refusal, return, load, store, is_shown, calls_alone, calls_of, shown_by}
+
+-- like events are the same event
+pub kind_of_alike : {B C V W : Type 0} (Byte : B → C → Type 0) (Word : V → W → Type 0) (e : Event B V) (f : Event C W)
+    → EventAlike Byte Word e f → SameKind e f
+kind_of_alike Byte Word e f (called g gs hs rs ss a) = call g gs hs rs ss
+kind_of_alike Byte Word e f (refused g) = refusal g
+kind_of_alike Byte Word e f (returned g gs hs rs ss ts us a) = return g gs hs rs ss ts us
+kind_of_alike Byte Word e f (loaded v) = load v
+kind_of_alike Byte Word e f (stored v) = store v
+
+pub kind_of_itself : {B V : Type 0} (e : Event B V) → SameKind e e
+kind_of_itself (Called f gs rs) = call f gs gs rs rs
+kind_of_itself (Refused f) = refusal f
+kind_of_itself (Returned f gs rs ss) = return f gs gs rs ss rs ss
+kind_of_itself (Loaded v) = load v
+kind_of_itself (Stored v) = store v
+
+shown_alike : {B C V W : Type 0} (e : Event B V) (f : Event C W) → SameKind e f → is_shown e ≡ is_shown f
+shown_alike e f (call g gs hs rs ss) = refl
+shown_alike e f (refusal g) = refl
+shown_alike e f (return g gs hs rs ss ts us) = refl
+shown_alike e f (load v) = refl
+shown_alike e f (store v) = refl
 
 -- one event on top, where it is shown
-shown : {B C V W : Type 0} (Byte : B → C → Type 0) (Word : V → W → Type 0) (b : Bool) (e : Event B V) (f : Event C W)
-    (l : List (Event B V)) (m : List (Event C W))
-    → EventAlike Byte Word e f → AreAlike (EventAlike Byte Word) l m
-    → AreAlike (EventAlike Byte Word) (if b then e ∷ l else l) (if b then f ∷ m else m)
-shown Byte Word true e f l m p q = also e f l m p q
-shown Byte Word false e f l m p q = q
+on_top : {M N : Type 0} (F : M → N → Type 0) (b : Bool) (e : M) (f : N) (l : List M) (m : List N)
+    → F e f → AreAlike F l m → AreAlike F (if b then e ∷ l else l) (if b then f ∷ m else m)
+on_top F true e f l m p q = also e f l m p q
+on_top F false e f l m p q = q
 
-calls_alike : {B C V W : Type 0} (Byte : B → C → Type 0) (Word : V → W → Type 0) (l : List (Event B V)) (m : List (Event C W))
-    → AreAlike (EventAlike Byte Word) l m → AreAlike (EventAlike Byte Word) (calls_alone l) (calls_alone m)
-calls_alike Byte Word l m none = none
-calls_alike Byte Word l m (also e f l' m' (called g gs hs rs ss a) q) =
-    shown Byte Word (is_of_source g) e f (calls_alone l') (calls_alone m') (called g gs hs rs ss a) (calls_alike Byte Word l' m' q)
-calls_alike Byte Word l m (also e f l' m' (returned g gs hs rs ss ts us a) q) =
-    shown Byte Word (is_of_source g) e f (calls_alone l') (calls_alone m') (returned g gs hs rs ss ts us a) (calls_alike Byte Word l' m' q)
-calls_alike Byte Word l m (also e f l' m' (refused g) q) = calls_alike Byte Word l' m' q
-calls_alike Byte Word l m (also e f l' m' (loaded v) q) = calls_alike Byte Word l' m' q
-calls_alike Byte Word l m (also e f l' m' (stored v) q) = calls_alike Byte Word l' m' q
+calls_alike : {B C V W : Type 0} (F : Event B V → Event C W → Type 0) → ((e : Event B V) (f : Event C W) → F e f → SameKind e f)
+    → (l : List (Event B V)) (m : List (Event C W)) → AreAlike F l m → AreAlike F (calls_alone l) (calls_alone m)
+calls_alike F kind l m none = none
+calls_alike F kind l m (also e f l' m' p q) =
+    subst (λ b. AreAlike F (if is_shown e then e ∷ calls_alone l' else calls_alone l') (if b then f ∷ calls_alone m' else calls_alone m'))
+    (shown_alike e f (kind e f p))
+    (on_top F (is_shown e) e f (calls_alone l') (calls_alone m') p (calls_alike F kind l' m' q))
 
 -- what is shown of a run meets what is shown of another that the run refines
-met_shown : {M N K L : Type 0} (F : M → N → Type 0) (G : K → L → Type 0) (f : List M → List K) (g : List N → List L)
+pub met_shown : {M N K L : Type 0} (F : M → N → Type 0) (G : K → L → Type 0) (f : List M → List K) (g : List N → List L)
     → ((l : List M) (m : List N) → AreAlike F l m → AreAlike G (f l) (g m))
     → (s : Stage M) (b : ℕ → Stage N) → Met F s b → Met G (shown_by f s) (λ n. shown_by g (b n))
 met_shown F G f g h (Going v) b p = record {
@@ -44,8 +62,6 @@ met_shown F G f g h (Over end v) b p = record {
 met_shown F G f g h Wrong b p = tt
 
 -- where a run refines another, its calls refine the other's
-pub calls_refine : {B C V W : Type 0} (Byte : B → C → Type 0) (Word : V → W → Type 0)
-    (a : ℕ → Stage (Event B V)) (b : ℕ → Stage (Event C W))
-    → Refines (EventAlike Byte Word) a b → Refines (EventAlike Byte Word) (calls_of a) (calls_of b)
-calls_refine Byte Word a b p =
-    λ n. met_shown (EventAlike Byte Word) (EventAlike Byte Word) calls_alone calls_alone (calls_alike Byte Word) (a n) b (p n)
+pub calls_refine : {B C V W : Type 0} (F : Event B V → Event C W → Type 0) → ((e : Event B V) (f : Event C W) → F e f → SameKind e f)
+    → (a : ℕ → Stage (Event B V)) (b : ℕ → Stage (Event C W)) → Refines F a b → Refines F (calls_of a) (calls_of b)
+calls_refine F kind a b p = λ n. met_shown F F calls_alone calls_alone (calls_alike F kind) (a n) b (p n)

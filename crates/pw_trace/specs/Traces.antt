@@ -1,6 +1,6 @@
 -- What runs below the flow graphs note: calls and returns, each with where the global objects stand and what the
 -- registers hold that a callee keeps; and the loads and stores of the globals that a register may hold.
-use Rattle.std.specs.Prelude.{ℕ, ◌≡◌, ◌≤◌, ◌-◌, Bool, not, if◌then◌else◌, List, [], ◌∷◌, slice_get}
+use Rattle.std.specs.Prelude.{ℕ, ◌≡◌, ◌≤◌, ◌-◌, Bool, false, not, if◌then◌else◌, List, [], ◌∷◌, slice_get}
 use Rattle.std.specs.List.{list_any}
 use Rattle.std.specs.Str.{bytes_eq}
 use Rattle.pw_value.specs.ProgramNames.{start_name, library_functions}
@@ -41,6 +41,15 @@ pub data EventAlike {B C V W : Type 0} (Byte : B → C → Type 0) (Word : V →
   loaded : (v : List ℕ) → EventAlike Byte Word (Loaded v) (Loaded v)
   stored : (v : List ℕ) → EventAlike Byte Word (Stored v) (Stored v)
 
+-- the same event, wherever globals stand and whatever registers hold
+pub data SameKind {B C V W : Type 0} : Event B V → Event C W → Type 0 where
+  call : (f : List ℕ) (gs : List (Standing B V)) (hs : List (Standing C W)) (rs : List V) (ss : List W) → SameKind (Called f gs rs) (Called f hs ss)
+  refusal : (f : List ℕ) → SameKind (Refused f) (Refused f)
+  return : (f : List ℕ) (gs : List (Standing B V)) (hs : List (Standing C W)) (rs ss : List V) (ts us : List W)
+      → SameKind (Returned f gs rs ss) (Returned f hs ts us)
+  load : (v : List ℕ) → SameKind (Loaded v) (Loaded v)
+  store : (v : List ℕ) → SameKind (Stored v) (Stored v)
+
 -- ---- runs of which less is shown
 
 abbrev pub shown_by : {M N : Type 0} → (List M → List N) → Stage M → Stage N
@@ -53,13 +62,14 @@ abbrev pub is_of_source : List ℕ → Bool
 is_of_source f = not (list_any (bytes_eq f) (start_name ∷ library_functions))
 
 -- the calls of such functions, and the returns from them
+abbrev pub is_shown : {B V : Type 0} → Event B V → Bool
+is_shown (Called f globals registers) = is_of_source f
+is_shown (Returned f globals before after) = is_of_source f
+is_shown e = false
+
 abbrev pub calls_alone : {B V : Type 0} → List (Event B V) → List (Event B V)
 calls_alone [] = []
-calls_alone (Called f gs rs ∷ l) = if is_of_source f then Called f gs rs ∷ calls_alone l else calls_alone l
-calls_alone (Returned f gs rs ss ∷ l) = if is_of_source f then Returned f gs rs ss ∷ calls_alone l else calls_alone l
-calls_alone (Refused f ∷ l) = calls_alone l
-calls_alone (Loaded v ∷ l) = calls_alone l
-calls_alone (Stored v ∷ l) = calls_alone l
+calls_alone (e ∷ l) = if is_shown e then e ∷ calls_alone l else calls_alone l
 
 abbrev pub calls_of : {B V : Type 0} → (ℕ → Stage (Event B V)) → ℕ → Stage (Event B V)
 calls_of run n = shown_by calls_alone (run n)

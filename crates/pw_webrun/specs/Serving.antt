@@ -1,6 +1,7 @@
 -- When places serve a function: no value is lost that is still needed. What is needed is said by paths over what is
 -- left of the code.
 use Rattle.std.specs.Prelude.{ℕ, ◌≡◌, ◌≢◌, ◌≤◌, ◌<◌, Option, Some, None, List, [], ◌∷◌, ◌++◌, length, slice_get, Contains, ◌↔◌}
+use Rattle.pw_db.specs.Database.{EachTwo}
 use Rattle.pw_db.specs.declared.database.Role.{Role}
 use Rattle.pw_db.specs.declared.database.Web.{Web}
 use Rattle.pw_db.specs.declared.database.Role.TheVariants.{Entry}
@@ -153,8 +154,9 @@ pub record Serves (f : WebFn) (l : Located) : Type 0 where
   pub held : (t : ℕ) (place : Place) → IsHeld f t → slice_get l.places t ≡ Some place → IsKept place
   -- registers are those of temporaries, and of no web of the function
   pub registers : (r : ℕ) → Contains l.places (Reg r) → IsTempRegister r × (¬ HasRegister f.directives r)
-  -- exactly those are saved that the function changes and its callers may hold
+  -- exactly those are saved that the function changes and its callers may hold, each once, rising
   pub saved : (r : ℕ) → Contains l.saved r ↔ Changes f l r
+  pub order : EachTwo (λ r q. r < q) l.saved
   -- the words of the frame, from the stack pointer downward: arguments, saved registers, temporaries, slots
   pub words : slots_alone l.places ≡ slots_from (head_size f) (length l.saved) 0 (length (slots_alone l.places))
   pub frame : l.frame ≡ last_reach (slots_begin (head_size f) (length l.saved) (length (slots_alone l.places))) f.slots

@@ -1,0 +1,4 @@
+pub mod Source
+pub mod Lowering
+pub mod Rooms
+pub mod Whole

@@ -1,0 +1,2 @@
+//! What the laws of all layers give together.
+#![tactic(auto)]
