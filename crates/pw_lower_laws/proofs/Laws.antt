@@ -1,0 +1,28 @@
+-- The laws of lowering, from what its code adds.
+use Rattle.std.proofs.Common.{◌≡◌, ℕ, ◌≤◌, List}
+use Rattle.pw_types.specs.Rooms.{room_of, start_room}
+use Rattle.pw_types.specs.TypedModules.{IsFunction}
+use Rattle.pw_types.specs.TypedTrees.{Expression, Statement, FunctionValue, ModuleValue}
+use Rattle.pw_lower.specs.declared.code.Code.{Code}
+use Rattle.pw_lower.specs.declared.place.Ways.{Ways}
+use Rattle.pw_lower.specs.Expressions.{Home, lower}
+use Rattle.pw_lower.specs.Statements.{Frame, lower_statement}
+use Rattle.pw_lower.specs.Modules.{flow_room, lowered_function, start_function}
+use Rattle.pw_lower_laws.specs.Kept.{Keeps}
+use Rattle.pw_lower_laws.specs.Parts.{partless}
+use Rattle.pw_lower_laws.proofs.Expressions.{lower-adds}
+use Rattle.pw_lower_laws.proofs.Statements.{statement-adds}
+use Rattle.pw_lower_laws.proofs.CaseLabels.{few_cases}
+use Rattle.pw_lower_laws.proofs.Rooms.{function-fits, start-fits}
+
+pub expression_keeps : (h : Home) (e : Expression) (c : Code) → Keeps c (lower h e c).code
+expression_keeps h e c = (lower-adds h e c).keeps
+
+pub statement_keeps : (f : Frame) (ways : Ways) (s : Statement) (c : Code) → Keeps c (lower_statement f ways s c)
+statement_keeps f ways s c = (statement-adds f ways s c).keeps
+
+pub function_fits : (home : List ℕ) (m : ModuleValue) (f : FunctionValue) → IsFunction m f → partless f.body ≡ 0 → flow_room (lowered_function home m.records f) ≤ room_of m.records f
+function_fits home m f h p = function-fits home m.records f (few_cases m f h) p
+
+pub start_fits : flow_room start_function ≤ start_room
+start_fits = start-fits

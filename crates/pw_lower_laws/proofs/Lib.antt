@@ -1,0 +1,6 @@
+pub mod CaseLabels
+pub mod Expressions
+pub mod Growth
+pub mod Laws
+pub mod Rooms
+pub mod Statements

@@ -1,0 +1,28 @@
+//! Laws of lowering: what its result keeps, as the contracts of functions that do nothing.
+#![tactic(auto)]
+
+ghost use Rattle.std.specs.Prelude.{◌≡◌, ◌≤◌, ℕ, List};
+ghost use Rattle.pw_lower.specs.Expressions.{Home, lower};
+ghost use Rattle.pw_lower.specs.Modules.{flow_room, lowered_function, start_function};
+ghost use Rattle.pw_lower.specs.Statements.{Frame, lower_statement};
+ghost use Rattle.pw_lower.specs.declared.code.Code.{Code};
+ghost use Rattle.pw_lower.specs.declared.place.Ways.{Ways};
+ghost use Rattle.pw_lower_laws.specs.Kept.{Keeps};
+ghost use Rattle.pw_lower_laws.specs.Parts.{partless};
+ghost use Rattle.pw_types.specs.Rooms.{room_of, start_room};
+ghost use Rattle.pw_types.specs.TypedModules.{IsFunction};
+ghost use Rattle.pw_types.specs.TypedTrees.{Expression, FunctionValue, ModuleValue, Statement};
+
+/// The code behind an expression or a statement has what the code before it has, in its place.
+pub fn later_code_keeps()
+    ensures expressions { (h : Home) (e : Expression) (c : Code) → Keeps c (lower h e c).code }
+    ensures statements { (f : Frame) (ways : Ways) (s : Statement) (c : Code) → Keeps c (lower_statement f ways s c) }
+{}
+
+/// The frame of a function's flow graph fits in the function's room, and that of the function that the
+/// program starts with in its own.
+pub fn frames_fit()
+    ensures functions { (home : List ℕ) (m : ModuleValue) (f : FunctionValue) → IsFunction m f → partless f.body ≡ 0
+        → flow_room (lowered_function home m.records f) ≤ room_of m.records f }
+    ensures start { flow_room start_function ≤ start_room }
+{}
