@@ -1,0 +1,133 @@
+//! A folder of files, whose calls answer with the library's errors.
+
+ghost use Rattle.std.specs.Prelude.{◌≡◌, Option, None, Some, Ok, IfOk, IfErr, OnOk, OnErr};
+ghost use Rattle.std.specs.IoError.{error_kind};
+ghost use Rattle.pw_io.specs.Files.{Told, Keeps, ListsNames, Puts, PutsPart, Removes};
+ghost use Rattle.pw_system.specs.Folders.{IsAbsent, Opens};
+
+use std::alloc::Global;
+use std::fs;
+use std::fs::{DirEntry, OpenFile};
+use std::io::{self, ErrorKind, Read};
+use std::rt::Files;
+
+/// Files by name. A folder that tells what it holds goes on telling it after every call.
+pub trait Folder {
+    /// An open file, from which its bytes are read.
+    type File: Read + Drop;
+
+    /// The files and the names written so far, or `None` where the folder does not tell them.
+    ghost told: { Self → Option Told };
+
+    /// The names of all files, in byte order.
+    fn names(&mut self, alloc: Global) -> io::Result<Vec<String>>
+        ensures names { IfOk result (λ names. ListsNames (told self.old) names.items) }
+        ensures same { Keeps (told self.old) (told self.new) };
+
+    /// Opens a file. The kind of an error is not found only where no file has the name.
+    fn open(&mut self, name: &str) -> io::Result<Self::File>
+        ensures file { IfOk result (λ file. Opens (told self.old) name.now (Self.File.Read.remaining file)) }
+        ensures absent { IfErr result (λ e. error_kind e ≡ ErrorKind.NotFound → IsAbsent (told self.old) name.now) }
+        ensures same { Keeps (told self.old) (told self.new) };
+
+    /// Gives the file of that name these bytes. After an error it is as before, absent, or a proper prefix of them.
+    fn write(&mut self, name: &str, bytes: &[u8]) -> io::Result<()>
+        ensures ok { OnOk result (Puts (told self.old) (told self.new) name.now bytes.now) }
+        ensures failed { OnErr result (PutsPart (told self.old) (told self.new) name.now bytes.now) };
+
+    /// Takes the file of that name out. An error leaves the files as they were.
+    fn remove(&mut self, name: &str) -> io::Result<()>
+        ensures ok { OnOk result (Removes (told self.old) (told self.new) name.now) }
+        ensures absent { IfErr result (λ e. error_kind e ≡ ErrorKind.NotFound → Removes (told self.old) (told self.new) name.now) }
+        ensures failed { OnErr result (Keeps (told self.old) (told self.new)) };
+}
+
+/// The current folder of the system, which tells nothing.
+#[derive(Drop)]
+pub struct CurrentFolder<'a, R> {
+    rt: &'a R,
+}
+
+impl<'a, R> CurrentFolder<'a, R> {
+    pub fn new(rt: &'a R) -> Self {
+        CurrentFolder { rt }
+    }
+}
+
+/// Whether the name is that of a file or of a link to one. A folder, a link to one and a link to nothing are no files.
+fn is_file<R: Files>(rt: &R, name: &str) -> io::Result<bool> {
+    match fs::metadata(rt, name) {
+        Ok(metadata) => Ok(!metadata.is_dir()),
+        Err(fault) if fault.kind() == ErrorKind::NotFound => Ok(false),
+        Err(fault) => Err(fault),
+    }
+}
+
+/// An entry of a folder, or `None` where its name is no text.
+fn with_text<E: Drop>(entry: io::Result<E>) -> io::Result<Option<E>>
+    ensures text { IfOk entry (λ found. result ≡ Ok (Some found)) }
+    ensures none { IfErr entry (λ e. error_kind e ≡ ErrorKind.InvalidFilename → result ≡ Ok None) }
+{
+    match entry {
+        Ok(entry) => Ok(Some(entry)),
+        Err(fault) if fault.kind() == ErrorKind::InvalidFilename => Ok(None),
+        Err(fault) => Err(fault),
+    }
+}
+
+/// Puts the name of an entry behind others, where it is a text and that of a file.
+fn push_entry<R: Files + AllocGlobal + Clone + Drop>(
+    alloc: Global,
+    rt: &R,
+    names: &mut Vec<String>,
+    entry: io::Result<DirEntry<R, R::A>>,
+) -> io::Result<()> {
+    let Some(entry) = with_text(entry)? else {
+        return Ok(());
+    };
+    if is_file(rt, entry.file_name())? {
+        names.push(String::from_str(alloc, entry.file_name())?)?;
+    }
+    Ok(())
+}
+
+/// The names of the files in the current folder. A name that is no text is left out.
+fn file_names<R: Files + AllocGlobal + Clone + Drop>(
+    alloc: Global,
+    rt: &R,
+) -> io::Result<Vec<String>> {
+    let mut names = Vec::new(alloc);
+    for entry in fs::read_dir(rt, ".")? {
+        push_entry(alloc, rt, &mut names, entry)?;
+    }
+    Ok(names)
+}
+
+impl<'a, R: Files + AllocGlobal + Clone + Drop> Folder for CurrentFolder<'a, R> {
+    type File = R::File;
+
+    ghost told = { λ _. None };
+
+    fn names(&mut self, alloc: Global) -> io::Result<Vec<String>> {
+        let mut names = file_names(alloc, self.rt)?;
+        names.sort()?;
+        Ok(names)
+    }
+
+    /// A folder of the name is not found.
+    fn open(&mut self, name: &str) -> io::Result<R::File> {
+        let file = fs::open(self.rt, name)?;
+        if file.metadata()?.is_dir() {
+            return Err(io::Error::from(ErrorKind::NotFound));
+        }
+        Ok(file)
+    }
+
+    fn write(&mut self, name: &str, bytes: &[u8]) -> io::Result<()> {
+        fs::write(self.rt, name, bytes)
+    }
+
+    fn remove(&mut self, name: &str) -> io::Result<()> {
+        fs::remove_file(self.rt, name)
+    }
+}

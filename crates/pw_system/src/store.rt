@@ -1,0 +1,102 @@
+//! A folder's files as a store, which tells what the folder tells.
+
+ghost use Rattle.std.specs.Prelude.{◌≡◌, ◌↔◌, IfOk, IfSome, take};
+ghost use Rattle.std.specs.IoError.{error_kind};
+ghost use Rattle.pw_system.specs.Faults.{IsCounted};
+
+use crate::folder::Folder;
+use crate::streams::raised;
+use pw_io::{Store, StoreError};
+use std::alloc::Global;
+use std::io::{self, ErrorKind, Read};
+
+/// The files of a folder.
+#[derive(Drop)]
+pub struct FileStore<F> {
+    folder: F,
+    faults: u64,
+}
+
+/// The first `most` bytes that a reader has left.
+fn front_of<R: Read + Drop>(alloc: Global, reader: R, most: usize) -> io::Result<Vec<u8>>
+    ensures { IfOk result (λ bytes. IfSome (R.remaining reader) (λ rest. bytes.items ≡ take most rest)) }
+{
+    let mut bytes = Vec::new(alloc);
+    reader.take(most as u64).read_to_end(&mut bytes)?;
+    Ok(bytes)
+}
+
+impl<F> FileStore<F> {
+    pub fn new(folder: F) -> Self {
+        FileStore { folder, faults: 0 }
+    }
+
+    /// A fault that counts.
+    fn failed(&mut self) -> StoreError
+        ensures value { result ≡ StoreError.Failed }
+        ensures counted { IsCounted self.old.faults self.new.faults result }
+        ensures folder { self.new.folder ≡ self.old.folder }
+    {
+        self.faults = raised(self.faults);
+        StoreError::Failed
+    }
+
+    /// What a fault of the system is to the store: want of memory exactly where its kind is that, which is no fault,
+    /// and any other counts.
+    fn fault(&mut self, fault: io::Error) -> StoreError
+        ensures memory { (result ≡ StoreError.NoMemory) ↔ (error_kind fault ≡ ErrorKind.OutOfMemory) }
+        ensures counted { IsCounted self.old.faults self.new.faults result }
+        ensures folder { self.new.folder ≡ self.old.folder }
+    {
+        if fault.kind() == ErrorKind::OutOfMemory {
+            return StoreError::NoMemory;
+        }
+        self.failed()
+    }
+}
+
+impl<F: Folder> Store for FileStore<F> {
+    ghost told = { λ store. F.told store.folder };
+
+    ghost faults = { λ store. store.faults };
+
+    fn names(&mut self, alloc: Global) -> Result<Vec<String>, StoreError> {
+        match self.folder.names(alloc) {
+            Ok(names) => Ok(names),
+            Err(fault) => Err(self.fault(fault)),
+        }
+    }
+
+    fn get(
+        &mut self,
+        alloc: Global,
+        name: &str,
+        most: usize,
+    ) -> Result<Option<Vec<u8>>, StoreError> {
+        let file = match self.folder.open(name) {
+            Ok(file) => file,
+            Err(fault) if fault.kind() == ErrorKind::NotFound => return Ok(None),
+            Err(fault) => return Err(self.fault(fault)),
+        };
+        match front_of(alloc, file, most) {
+            Ok(bytes) => Ok(Some(bytes)),
+            Err(fault) => Err(self.fault(fault)),
+        }
+    }
+
+    /// A failed write may have changed the file, so that it is a fault for want of memory too.
+    fn put(&mut self, _alloc: Global, name: &str, bytes: &[u8]) -> Result<(), StoreError> {
+        match self.folder.write(name, bytes) {
+            Ok(()) => Ok(()),
+            Err(_) => Err(self.failed()),
+        }
+    }
+
+    fn remove(&mut self, _alloc: Global, name: &str) -> Result<(), StoreError> {
+        match self.folder.remove(name) {
+            Ok(()) => Ok(()),
+            Err(fault) if fault.kind() == ErrorKind::NotFound => Ok(()),
+            Err(fault) => Err(self.fault(fault)),
+        }
+    }
+}

@@ -1,0 +1,129 @@
+//! The system's files and streams, tried in a folder of the program's own: what each call answers, line by line.
+#![tactic(auto)]
+
+use pw_io::{Sink, Source, Store, StoreError};
+use pw_system::{CurrentFolder, FileStore, StdSink, StdSource};
+use std::fs;
+use std::io::{self, BufWriter};
+use std::os::unix::fs::symlink;
+use std::rt::Files;
+
+/// The files of which the fronts are read, and how many bytes.
+const GETS: [(&str, usize); 9] = [
+    ("a.i", 100),
+    ("a.i", 4),
+    ("a.i", 3),
+    ("a.i", 0),
+    ("gone.i", 9),
+    ("folder.i", 9),
+    ("to_folder.i", 9),
+    ("to_nothing.i", 9),
+    ("to_a.i", 2),
+];
+
+/// The files that are written.
+const PUTS: [(&str, &str); 4] = [
+    ("new", "one"),
+    ("new", ""),
+    ("new", "three"),
+    ("folder.i", "x"),
+];
+
+/// The files that are taken out.
+const REMOVALS: [&str; 4] = ["new", "new", "folder.i", "to_a.i"];
+
+/// A folder and links to it, to nothing and to a file.
+fn make_folder(rt: &HostRuntime) -> io::Result<()> {
+    fs::create_dir(rt, "folder.i")?;
+    symlink(rt, "folder.i", "to_folder.i")?;
+    symlink(rt, "gone.i", "to_nothing.i")?;
+    symlink(rt, "a.i", "to_a.i")
+}
+
+/// What a read of a file answered.
+fn got(file: &Result<Option<Vec<u8>>, StoreError>) -> &str {
+    match file {
+        Ok(Some(bytes)) => str::from_utf8(bytes.as_slice()).unwrap_or("no text"),
+        Ok(None) => "absent",
+        Err(StoreError::Failed) => "fault",
+        Err(StoreError::NoMemory) => "no memory",
+    }
+}
+
+/// What a change of a file answered.
+fn changed(change: &Result<(), StoreError>) -> &str {
+    match change {
+        Ok(()) => "done",
+        Err(StoreError::Failed) => "fault",
+        Err(StoreError::NoMemory) => "no memory",
+    }
+}
+
+fn tell_names<S: Store>(rt: &HostRuntime, store: &mut S) -> io::Result<()> {
+    match store.names(rt.alloc()) {
+        Ok(names) => {
+            for name in &names {
+                println!(rt; "{name}")?;
+            }
+            Ok(())
+        }
+        Err(_) => println!(rt; "fault"),
+    }
+}
+
+fn tell_gets<S: Store>(rt: &HostRuntime, store: &mut S) -> io::Result<()> {
+    for (name, most) in GETS {
+        let file = store.get(rt.alloc(), name, most);
+        println!(rt; "get {name} {most}: {}", got(&file))?;
+    }
+    Ok(())
+}
+
+fn tell_puts<S: Store>(rt: &HostRuntime, store: &mut S) -> io::Result<()> {
+    for (name, text) in PUTS {
+        let change = store.put(rt.alloc(), name, text.as_bytes());
+        let file = store.get(rt.alloc(), name, 9);
+        println!(rt; "put {name}: {}, {}", changed(&change), got(&file))?;
+    }
+    Ok(())
+}
+
+fn tell_removals<S: Store>(rt: &HostRuntime, store: &mut S) -> io::Result<()> {
+    for name in REMOVALS {
+        let change = store.remove(rt.alloc(), name);
+        println!(rt; "remove {name}: {}", changed(&change))?;
+    }
+    Ok(())
+}
+
+/// Passes the input on to the output, byte by byte, through both adapters.
+fn pass_on(rt: &HostRuntime) -> io::Result<()> {
+    let mut input = StdSource::new(rt.stdin());
+    let mut out = StdSink::new(BufWriter::new(rt.alloc(), rt.stdout())?);
+    for _ in 0..u64::MAX {
+        let Ok(Some(byte)) = input.next() else {
+            break;
+        };
+        if out.put(&[byte]).is_err() {
+            break;
+        }
+    }
+    let _ = out.flush();
+    Ok(())
+}
+
+/// Tries all calls of the store of the current folder.
+fn tell_all<R: Files + AllocGlobal + Clone + Drop>(rt: &HostRuntime, files: &R) -> io::Result<()> {
+    let mut store = FileStore::new(CurrentFolder::new(files));
+    tell_names(rt, &mut store)?;
+    tell_gets(rt, &mut store)?;
+    tell_puts(rt, &mut store)?;
+    tell_removals(rt, &mut store)?;
+    tell_names(rt, &mut store)
+}
+
+fn main(rt: HostRuntime) -> io::Result<()> {
+    make_folder(&rt)?;
+    tell_all(&rt, &rt)?;
+    pass_on(&rt)
+}
