@@ -1,1 +1,3 @@
 pub mod Likeness
+pub mod Meeting
+pub mod Traffic

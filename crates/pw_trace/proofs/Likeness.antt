@@ -1,8 +1,8 @@
 -- Likeness of events and of logs: what is shown of like logs is alike.
-use Rattle.std.specs.Prelude.{ℕ, ◌≡◌, Bool, true, false, if◌then◌else◌, List, [], ◌∷◌}
-use Rattle.std.proofs.Common.{subst, sym, ap, refl}
-use Rattle.pw_run.specs.Runs.{View, Stage, Going, Over, Wrong, AreAlike, none, also, SameIn, GoesOn, EndsSo, Met, Refines}
-use Rattle.pw_trace.specs.Traces.{Standing, Event, Called, Refused, Returned, Loaded, Stored, EventAlike, called, refused, returned, loaded, stored, SameKind, call, refusal, return, load, store, is_shown, calls_alone, calls_of, shown_by}
+use Rattle.std.specs.Prelude.{ℕ, ◌≡◌, Bool, true, false, if◌then◌else◌, List, ◌∷◌}
+use Rattle.std.proofs.Common.{subst, ap, refl}
+use Rattle.pw_run.specs.Runs.{Stage, Going, Over, Wrong, AreAlike, none, also, Met, Refines}
+use Rattle.pw_trace.specs.Traces.{Event, Called, Refused, Returned, Loaded, Stored, EventAlike, called, refused, returned, loaded, stored, SameKind, call, refusal, return, load, store, is_shown, calls_alone, calls_of, shown_by}
 
 -- like events are the same event
 pub kind_of_alike : {B C V W : Type 0} (Byte : B → C → Type 0) (Word : V → W → Type 0) (e : Event B V) (f : Event C W)
