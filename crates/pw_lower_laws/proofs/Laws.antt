@@ -13,6 +13,8 @@ use Rattle.pw_lower_laws.specs.Parts.{partless}
 use Rattle.pw_lower_laws.proofs.Expressions.{lower-adds}
 use Rattle.pw_lower_laws.proofs.Statements.{statement-adds}
 use Rattle.pw_lower_laws.proofs.CaseLabels.{few_cases}
+use Rattle.pw_lower_laws.specs.Ranges.{IsFunctionInRange}
+use Rattle.pw_lower_laws.proofs.SoundFunctions.{function-in}
 use Rattle.pw_lower_laws.proofs.Rooms.{function-fits, start-fits}
 
 pub expression_keeps : (h : Home) (e : Expression) (c : Code) → Keeps c (lower h e c).code
@@ -26,3 +28,6 @@ function_fits home m f h p = function-fits home m.records f (few_cases m f h) p
 
 pub start_fits : flow_room start_function ≤ start_room
 start_fits = start-fits
+
+pub function_in_range : (home : List ℕ) (m : ModuleValue) (f : FunctionValue) → IsFunction m f → IsFunctionInRange (lowered_function home m.records f)
+function_in_range = function-in

@@ -3,4 +3,8 @@ pub mod Expressions
 pub mod Growth
 pub mod Laws
 pub mod Rooms
+pub mod Sound
+pub mod SoundExpressions
+pub mod SoundFunctions
+pub mod SoundStatements
 pub mod Statements

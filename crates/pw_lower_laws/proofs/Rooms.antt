@@ -70,10 +70,10 @@ local_room-positive records l = omega arith
 abbrev taken : List RecordValue → List LocalValue → ℕ → List LocalPlace → ℕ
 taken records locals temps places = 4 * temps_from temps places + sum_by (λ (size : ℕ). round_up (size + 1) 8) (slots_of records locals places)
 
-still_below : (k n : ℕ) → k < n → (if nat_lt k n then n else k + 1) ≡ n
+pub still_below : (k n : ℕ) → k < n → (if nat_lt k n then n else k + 1) ≡ n
 still_below k n h = grind (arith, nat_tests)
 
-one_more : (k n : ℕ) → n ≤ k → (if nat_lt k n then n else k + 1) ≡ k + 1
+pub one_more : (k n : ℕ) → n ≤ k → (if nat_lt k n then n else k + 1) ≡ k + 1
 one_more k n h = grind (arith, nat_tests)
 
 -- by whether a local is kept in a temporary, and whether it is a parameter

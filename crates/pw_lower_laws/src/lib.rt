@@ -9,6 +9,7 @@ ghost use Rattle.pw_lower.specs.declared.code.Code.{Code};
 ghost use Rattle.pw_lower.specs.declared.place.Ways.{Ways};
 ghost use Rattle.pw_lower_laws.specs.Kept.{Keeps};
 ghost use Rattle.pw_lower_laws.specs.Parts.{partless};
+ghost use Rattle.pw_lower_laws.specs.Ranges.{IsFunctionInRange};
 ghost use Rattle.pw_types.specs.Rooms.{room_of, start_room};
 ghost use Rattle.pw_types.specs.TypedModules.{IsFunction};
 ghost use Rattle.pw_types.specs.TypedTrees.{Expression, FunctionValue, ModuleValue, Statement};
@@ -25,4 +26,10 @@ pub fn frames_fit()
     ensures functions { (home : List ℕ) (m : ModuleValue) (f : FunctionValue) → IsFunction m f → partless f.body ≡ 0
         → flow_room (lowered_function home m.records f) ≤ room_of m.records f }
     ensures start { flow_room start_function ≤ start_room }
+{}
+
+/// In the flow graph of a well-typed function each operation names temporaries and slots that there are,
+/// and each block ends at blocks that there are.
+pub fn functions_stay_in_range()
+    ensures { (home : List ℕ) (m : ModuleValue) (f : FunctionValue) → IsFunction m f → IsFunctionInRange (lowered_function home m.records f) }
 {}
