@@ -8,7 +8,7 @@ use Rattle.pw_lower.specs.declared.place.LocalPlace.TheVariants.{Temp, Slot}
 
 -- ---- the locals whose address is taken
 
-mutual
+abbrev mutual
   pub addressed_in : Expression → List ℕ
   addressed_in (Node t ty form) = addressed_by form
 
@@ -44,7 +44,7 @@ abbrev pub addressed_in_initialiser : Initialiser → List ℕ
 addressed_in_initialiser (Value local a) = addressed_in a
 addressed_in_initialiser (Bytes local hidden parts) = []
 
-mutual
+abbrev mutual
   pub addressed_in_statement : Statement → List ℕ
   addressed_in_statement (Evaluate t e) = addressed_in e
   addressed_in_statement (Block t first count initialisers items) =

@@ -1,0 +1,4 @@
+pub mod MarkLaws
+pub mod PairLoops
+pub mod PlaceLoops
+pub mod PlacingLaws
