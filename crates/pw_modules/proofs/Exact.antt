@@ -1,5 +1,5 @@
 -- The map of the modules holds exactly what the files hold.
-use Rattle.std.proofs.Common.{◌≡◌, ◌↔◌, ◌≢◌, ◌⊎◌, ⊎_elim, inl, inr, ℕ, zero, suc, ◌+◌, ◌-◌, ◌<◌, ◌≤◌, Bool, true, false, cond, ◌&&◌, nat_le, List, [], ◌∷◌, ◌++◌, length, take, drop, codes, Option, Some, None, IsSome, Contains, refl, sym, ap, ◌∙◌, subst, arith, length-append}
+use Rattle.std.proofs.Common.{◌≡◌, ◌↔◌, ◌⊎◌, ⊎_elim, inl, inr, ℕ, zero, suc, ◌+◌, ◌-◌, ◌≤◌, Bool, true, false, cond, ◌&&◌, nat_le, List, [], ◌∷◌, ◌++◌, length, take, drop, codes, Option, Some, None, IsSome, Contains, refl, sym, ap, ◌∙◌, subst, arith, length-append}
 use Rattle.std.specs.Prelude.{fold}
 use Rattle.std.specs.Option.{option_map, option_map_or}
 use Rattle.std.specs.Ordering.{nat_cmp}
@@ -72,8 +72,8 @@ inserted : (modules : Files) (key value name text : List ℕ) → finite.get (fi
 inserted modules key value name text g =
     elim (bytes_eq name key) as (λ b. bytes_eq name key ≡ b → (finite.get modules name ≡ Some text) ⊎ ((name ≡ key) × (value ≡ text))) [
       | true ↦ λ e.
-        let same : name ≡ key = (bytes_eq-Decides name key).0 e in
-        inr (same, some_same value text (sym (get-insert_same modules key value) ∙ ap (λ (n : List ℕ). finite.get (finite.insert modules key value) n) (sym same) ∙ g))
+          let same : name ≡ key = (bytes_eq-Decides name key).0 e in
+          inr (same, some_same value text (sym (get-insert_same modules key value) ∙ ap (λ (n : List ℕ). finite.get (finite.insert modules key value) n) (sym same) ∙ g))
       | false ↦ λ e. inl (sym (get-insert_other modules key value name (not_from_Decides (bytes_eq name key) (bytes_eq-Decides name key) e)) ∙ g)
     ] refl
 
@@ -82,8 +82,8 @@ stays : (modules : Files) (key value name text : List ℕ) → finite.get module
 stays modules key value name text g own =
     elim (bytes_eq name key) as (λ b. bytes_eq name key ≡ b → finite.get (finite.insert modules key value) name ≡ Some text) [
       | true ↦ λ e.
-        let same : name ≡ key = (bytes_eq-Decides name key).0 e in
-        ap (λ (n : List ℕ). finite.get (finite.insert modules key value) n) same ∙ get-insert_same modules key value ∙ ap Some (own same)
+          let same : name ≡ key = (bytes_eq-Decides name key).0 e in
+          ap (λ (n : List ℕ). finite.get (finite.insert modules key value) n) same ∙ get-insert_same modules key value ∙ ap Some (own same)
       | false ↦ λ e. get-insert_other modules key value name (not_from_Decides (bytes_eq name key) (bytes_eq-Decides name key) e) ∙ g
     ] refl
 

@@ -1,6 +1,6 @@
 -- The modules that are read in order are those of the map.
 use Rattle.std.proofs.Common.{◌≡◌, ℕ, zero, suc, ◌+◌, Bool, true, false, cond, not, List, [], ◌∷◌, ◌++◌, length, codes, Option, Some, None, IsSome, Contains, refl, sym, ap, ◌∙◌, subst, arith}
-use Rattle.std.specs.Prelude.{fold, insert, All}
+use Rattle.std.specs.Prelude.{fold, insert}
 use Rattle.std.specs.Option.{option_map, option_map_or}
 use Rattle.std.specs.Ordering.{nat_cmp, is_lt}
 use Rattle.std.specs.declared.cmp.Ordering.{Ordering}
@@ -63,8 +63,8 @@ placed_put files file text names (x ∷ xs) is found ((own, some, (less, later))
       | Less ↦ λ r. sources_first files file text (x ∷ xs) found ∙ ap (λ (l : List Source). (k, v) ∷ l) (sources_first files x t.0 xs t.1)
       | Equal ↦ λ r. absurd (apart file x is own less r)
       | Greater ↦ λ r.
-        ap (sources_of files) (insert_behind x xs p file) ∙ sources_first files x t.0 (insert xs p file) t.1
-        ∙ ap (λ (l : List Source). e ∷ l) (placed_put files file text names xs is found all)
+          ap (sources_of files) (insert_behind x xs p file) ∙ sources_first files x t.0 (insert xs p file) t.1
+          ∙ ap (λ (l : List Source). e ∷ l) (placed_put files file text names xs is found all)
     ] refl
     ∙ sym (ap (put by_bytes k v) (sources_first files x t.0 xs t.1))
 

@@ -1,5 +1,5 @@
 -- The modules of a store: each file named `NAME.i` is the module NAME, and their order is that of these names.
-use Rattle.std.specs.Prelude.{◌≡◌, ℕ, ◌-◌, Bool, true, ◌==◌, ◌&&◌, ◌||◌, nat_le, List, length, take, drop, fold, codes, ◌++◌, Option, Some, if◌then◌else◌}
+use Rattle.std.specs.Prelude.{◌≡◌, ℕ, ◌-◌, Bool, true, ◌==◌, ◌&&◌, ◌||◌, nat_le, List, length, take, drop, fold, codes, ◌++◌, Some, if◌then◌else◌}
 use Rattle.std.specs.Option.{option_map, option_map_or}
 use Rattle.std.specs.List.{list_all}
 use Rattle.std.specs.Char.{is_ascii_alphanumeric}

@@ -9,14 +9,13 @@ use Rattle.pw_inst.specs.declared.Inst.{Inst}
 use Rattle.pw_inst.specs.declared.Inst.TheVariants.{Ldo}
 use Rattle.pw_inst.specs.InstructionTable.{word_of}
 use Rattle.pw_machine.specs.Core.{Core}
-use Rattle.pw_machine.specs.declared.ends.End.TheVariants as machine
 use Rattle.pw_machine.specs.Run.{State, Running, began, run_of}
 use Rattle.pw_machine.specs.Start.{start_core, start_memory, data_start_of, stack_start_of}
 use Rattle.pw_sum.specs.SumProgram.{IsSumProgram}
 use Rattle.pw_sum.specs.Code.{term_code, end_code, words_of}
-use Rattle.pw_run.specs.Runs.{Met, Whatever, Over, Going, Ended, none}
+use Rattle.pw_run.specs.Runs.{Met, Whatever, none}
 use Rattle.pw_agreement.specs.MachineStages.{shown, staged, machine_run}
-use Rattle.pw_agreement.specs.Agreement.{SourceEnd, SourceRun, Ends, Stack, Bound, stage_by, Agree}
+use Rattle.pw_agreement.specs.Agreement.{SourceRun, Ends, Stack, Bound, stage_by, Agree}
 use Rattle.pw_sum.specs.SourceRun.{source_run, silent}
 use Rattle.pw_sum.specs.Built.{core_of, start_of, EndsWithin, frames_of}
 use Rattle.pw_sum.proofs.AgreementMemory.{start-has_text}
