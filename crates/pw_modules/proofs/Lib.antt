@@ -1,0 +1,4 @@
+pub mod ModuleLemmas
+pub mod Exact
+pub mod Order
+pub mod ReadingLemmas

@@ -1,0 +1,10 @@
+//! The modules of a store: which files they are, their order, and their texts.
+#![tactic(auto)]
+
+mod laws;
+mod modules;
+mod sources;
+
+pub use laws::modules_are_exact;
+pub use modules::Module;
+pub use sources::read_modules;

@@ -1,0 +1,92 @@
+//! The texts of a store's modules, in the order of their names.
+
+ghost use Rattle.std.specs.Prelude.{◌≡◌, ◌≤◌, IfOk, OnOk, IfSome, All, map, ◌++◌, option_to_list, length, string_bytes};
+ghost use Rattle.std.specs.Option.{option_map};
+ghost use Rattle.pw_io.specs.Files.{Keeps};
+ghost use Rattle.pw_io.specs.Faults.{HasStoreCause};
+ghost use Rattle.pw_modules.specs.Modules.{IsModuleFile, modules_of};
+ghost use Rattle.pw_modules.specs.Reading.{source_of, sources_of};
+ghost use Rattle.pw_modules.specs.Views.{source};
+
+use crate::modules::{Module, module_files, stem};
+use pw_io::{Store, StoreError};
+use pw_value::{Name, NameError};
+use std::alloc::{AllocError, Global};
+
+/// The greatest count of bytes that is read of a module's text: one more than a text may have.
+const TEXT_READ: usize = 1_048_577;
+
+/// Reads a module's text.
+fn read_source<S: Store>(
+    alloc: Global,
+    store: &mut S,
+    file: &str,
+) -> Result<Option<Module>, StoreError>
+    requires { IsModuleFile file.now }
+    ensures read { IfSome (S.told store.old) (λ told. IfOk result (λ found. option_map source found ≡ source_of told.files file.now)) }
+    ensures same { Keeps (S.told store.old) (S.told store.new) }
+    ensures cause { HasStoreCause (S.faults store.old) (S.faults store.new) result }
+{
+    let Some(mut text) = store.get(alloc, file, TEXT_READ)? else {
+        return Ok(None);
+    };
+    text.truncate(TEXT_READ);
+    match Name::new(alloc, stem(file)) {
+        Ok(name) => Ok(Some(Module { name, text })),
+        Err(NameError::NoMemory) => Err(StoreError::NoMemory),
+        Err(NameError::Length) => unreachable!(),
+    }
+}
+
+/// Reads a module's text and puts the module behind others. A file that is gone is left out.
+fn add_source<S: Store>(
+    alloc: Global,
+    store: &mut S,
+    modules: &mut Vec<Module>,
+    file: &str,
+) -> Result<(), StoreError>
+    requires { IsModuleFile file.now }
+    ensures read { IfSome (S.told store.old) (λ told. OnOk result (map source modules.new.items ≡ map source modules.old.items ++ option_to_list (source_of told.files file.now))) }
+    ensures same { Keeps (S.told store.old) (S.told store.new) }
+    ensures cause { HasStoreCause (S.faults store.old) (S.faults store.new) result }
+{
+    match read_source(alloc, store, file)? {
+        None => Ok(()),
+        Some(found) => match modules.push(found) {
+            Ok(()) => Ok(()),
+            Err(_) => Err(StoreError::NoMemory),
+        },
+    }
+}
+
+/// Reads the texts of the modules in order. A file that is gone is left out.
+fn read_sources<S: Store>(
+    alloc: Global,
+    store: &mut S,
+    files: &[String],
+) -> Result<Vec<Module>, StoreError>
+    requires { All (λ file. IsModuleFile (string_bytes file)) files.now }
+    ensures read { IfSome (S.told store.old) (λ told. IfOk result (λ modules. map source modules.items ≡ sources_of told.files (map string_bytes files.now))) }
+    ensures same { Keeps (S.told store.old) (S.told store.new) }
+    ensures cause { HasStoreCause (S.faults store.old) (S.faults store.new) result }
+{
+    let mut modules = Vec::new(alloc);
+    for file in files {
+        add_source(alloc, store, &mut modules, file.as_str())?;
+    }
+    Ok(modules)
+}
+
+/// The modules of a store: each file `NAME.i` with a name of 1 to 64 letters, digits, `_` and `-`, in the byte order of
+/// the names, with its text up to one byte more than a text may have. The store stays as it is.
+pub fn read_modules<S: Store>(alloc: Global, store: &mut S) -> Result<Vec<Module>, StoreError>
+    ensures read { IfSome (S.told store.old) (λ told. IfOk result (λ modules. map source modules.items ≡ modules_of told.files)) }
+    ensures same { Keeps (S.told store.old) (S.told store.new) }
+    ensures cause { HasStoreCause (S.faults store.old) (S.faults store.new) result }
+{
+    let names = store.names(alloc)?;
+    match module_files(alloc, &names) {
+        Ok(files) => read_sources(alloc, store, &files),
+        Err(AllocError) => Err(StoreError::NoMemory),
+    }
+}

@@ -1,0 +1,5 @@
+pub mod Tokens
+pub mod SumProgram
+pub mod Code
+pub mod SourceRun
+pub mod Built
