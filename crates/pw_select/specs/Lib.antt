@@ -1,3 +1,2 @@
-pub mod Registers
-pub mod Operations
 pub mod Selection
+pub mod Selectable

@@ -1,5 +1,5 @@
 -- Selection: the prologue, the blocks in order, and at each return the epilogue.
-use Rattle.std.specs.Prelude.{ℕ, zero, suc, ℤ, pos, neg_ℤ, ◌+◌, ◌-◌, ◌*◌, ◌==◌, ◌&&◌, nat_lt, Bool, true, false, if◌then◌else◌, Option, Some, None, List, [], ◌∷◌, ◌++◌, map}
+use Rattle.std.specs.Prelude.{ℕ, zero, suc, ℤ, pos, neg_ℤ, ◌+◌, ◌-◌, ◌*◌, ◌==◌, ◌&&◌, nat_lt, false, if◌then◌else◌, Option, Some, None, List, [], ◌∷◌, ◌++◌, map, length}
 use Rattle.std.specs.List.{flat_map}
 use Rattle.pw_flow.specs.declared.flow.End.{End}
 use Rattle.pw_flow.specs.declared.flow.End.TheVariants as end
@@ -9,39 +9,25 @@ use Rattle.pw_inst.specs.declared.Inst.TheVariants as i
 use Rattle.pw_inst.specs.declared.line.Line.{Line}
 use Rattle.pw_inst.specs.declared.line.Line.TheVariants.{Plain, Jump, BranchNonZero, Label, Leave}
 use Rattle.pw_inst.specs.declared.relocation.Symbol.TheVariants.{StackLimit}
-use Rattle.pw_webflow.specs.declared.web.WebFn.{WebFn}
 use Rattle.pw_webflow.specs.declared.web.WebBlock.{WebBlock}
 use Rattle.pw_alloc.specs.declared.located.Place.{Place}
 use Rattle.pw_alloc.specs.declared.located.Place.TheVariants.{Slot, Reg}
 use Rattle.pw_alloc.specs.declared.located.Located.{Located}
 use Rattle.pw_alloc.specs.Frames.{head_size, saved_offset, slots_begin, reaches_from, below}
-use Rattle.pw_alloc.specs.Allocation.{is_entry}
-use Rattle.pw_select.specs.Registers.{word, copied, constant, address_of, load_from, store_to, place_of, operand_register, operand_lines, loaded, read_global, write_global, help, first, second, answer, return_address, stack_pointer, argument_register}
-use Rattle.pw_select.specs.Operations.{Layout, web_op_lines}
+use Rattle.pw_alloc.specs.Allocation.{is_entry, in_frame}
+use Rattle.pw_registers.specs.Registers.{word, copied, constant, address_of, load_from, store_to, place_of, operand_register, operand_lines, loaded, read_global, write_global, help, first, second, answer, return_address, stack_pointer, argument_register}
+use Rattle.pw_oplines.specs.Operations.{layout, web_op_lines}
 
 -- ---- the frame
 
--- the temporaries that stand in the frame
-abbrev pub in_frame : List Place → ℕ
-in_frame [] = 0
-in_frame (Slot offset ∷ rest) = 1 + in_frame rest
-in_frame (Reg r ∷ rest) = in_frame rest
-
+-- the offsets of the function's slots
 abbrev pub slot_offsets : Located → List ℤ
-slot_offsets f =
-    map below (reaches_from (slots_begin (head_size f.body) (saved_count f.saved) (in_frame f.places)) f.body.slots)
-  where
-    saved_count : List ℕ → ℕ
-    saved_count [] = 0
-    saved_count (r ∷ rest) = 1 + saved_count rest
-
-abbrev pub layout_of : Located → Layout
-layout_of f = record { places = f.places; slots = slot_offsets f }
+slot_offsets f = map below (reaches_from (slots_begin (head_size f.body) (length f.saved) (in_frame f.places)) f.body.slots)
 
 -- the saved registers, each at its place
 abbrev pub saved_lines : (ℤ → ℕ → List Line) → ℕ → ℕ → List ℕ → List Line
 saved_lines move head k [] = []
-saved_lines move head k (r ∷ rest) = move (saved_offset head k) r ++ saved_lines move head (suc k) rest
+saved_lines move head k (r ∷ rest) = move (saved_offset head k) r ++ saved_lines move head (k + 1) rest
 
 -- ---- webs that the function enters
 
@@ -50,31 +36,39 @@ abbrev pub entered_web : List (Web × Role) → ℕ → Option Web
 entered_web [] r = None
 entered_web (w ∷ rest) r = if (w.0.reg == r) && is_entry w.1 then Some w.0 else entered_web rest r
 
+abbrev pub lines_of_web : (Web → List Line) → Option Web → List Line
+lines_of_web lines None = []
+lines_of_web lines (Some w) = lines w
+
 -- for each of so many registers from one on, lines for the web that is entered in it
-abbrev pub entered_lines : (Web → List Line) → List (Web × Role) → ℕ → ℕ → List Line
+unfoldable pub entered_lines : (Web → List Line) → List (Web × Role) → ℕ → ℕ → List Line
 entered_lines lines webs r zero = []
-entered_lines lines webs r (suc more) = of (entered_web webs r) ++ entered_lines lines webs (suc r) more
-  where
-    of : Option Web → List Line
-    of None = []
-    of (Some w) = lines w
+entered_lines lines webs r (suc more) = lines_of_web lines (entered_web webs r) ++ entered_lines lines webs (suc r) more
 
--- the registers that a web may have
-abbrev pub web_lines : (Web → List Line) → List (Web × Role) → List Line
-web_lines lines webs = entered_lines lines webs 3 16
-
+-- a web that writes goes back to its global
 abbrev pub stored_back : Web → List Line
 stored_back w = if w.writes then write_global w.global w.kind w.reg else []
+
+abbrev pub loaded_web : Web → List Line
+loaded_web w = read_global w.global w.kind w.reg
+
+-- the registers that a web may have
+abbrev pub webs_loaded : List (Web × Role) → List Line
+webs_loaded webs = entered_lines loaded_web webs 3 16
+
+abbrev pub webs_stored : List (Web × Role) → List Line
+webs_stored webs = entered_lines stored_back webs 3 16
 
 -- ---- parameters
 
 -- the first four come in registers; the others from the caller's frame
+abbrev pub incoming : ℕ → ℕ → ℕ → List Line
+incoming frame k d =
+    if nat_lt k 4 then copied (argument_register k) d else load_from (below (frame + 52 + 4 * (k - 4))) d
+
 abbrev pub parameter_in : ℕ → ℕ → Place → List Line
-parameter_in frame k (Reg r) =
-    if nat_lt k 4 then copied (argument_register k) r else load_from (neg_ℤ (pos (frame + 52 + 4 * (k - 4)))) r
-parameter_in frame k (Slot offset) =
-    (if nat_lt k 4 then copied (argument_register k) first else load_from (neg_ℤ (pos (frame + 52 + 4 * (k - 4)))) first)
-    ++ store_to offset first
+parameter_in frame k (Reg r) = incoming frame k r
+parameter_in frame k (Slot offset) = incoming frame k first ++ store_to offset first
 
 abbrev pub parameters_in : ℕ → List Place → ℕ → ℕ → List Line
 parameters_in frame places k zero = []
@@ -90,27 +84,29 @@ frame_end frame =
     then constant frame help ++ word (i.Addl stack_pointer help help)
     else word (i.Ldo (pos frame) stack_pointer help)
 
+-- the stack is checked, the return address goes into the caller's frame, and the stack pointer over the frame
+abbrev pub entry_lines : ℕ → List Line
+entry_lines frame =
+    address_of StackLimit 0 second ++ frame_end frame
+    ++ Plain (i.Comclr 5 false help second 0) ∷ Plain (i.Break 0 4)
+    ∷ Plain (i.Stw return_address (neg_ℤ (pos 20)) stack_pointer) ∷ copied help stack_pointer
+
 abbrev pub prologue : Located → List Line
 prologue f =
-    address_of StackLimit 0 second
-    ++ frame_end f.frame
-    ++ Plain (i.Comclr 5 false help second 0) ∷ Plain (i.Break 0 4)
-    ∷ Plain (i.Stw return_address (neg_ℤ (pos 20)) stack_pointer) ∷ Plain (i.Or help 0 stack_pointer)
-    ∷ (saved_lines store_to (head_size f.body) 0 f.saved
-    ++ web_lines (λ w. read_global w.global w.kind w.reg) f.body.directives.webs
-    ++ parameters_in f.frame f.places 0 f.body.params)
+    entry_lines f.frame ++ saved_lines store_to (head_size f.body) 0 f.saved
+    ++ webs_loaded f.body.directives.webs ++ parameters_in f.frame f.places 0 f.body.params
 
 abbrev pub frame_left : ℕ → List Line
 frame_left frame =
     if nat_lt 8192 frame
     then constant frame help ++ word (i.Sub stack_pointer help stack_pointer)
-    else word (i.Ldo (neg_ℤ (pos frame)) stack_pointer stack_pointer)
+    else word (i.Ldo (below frame) stack_pointer stack_pointer)
 
 abbrev pub epilogue : Located → List Line
 epilogue f =
-    web_lines stored_back f.body.directives.webs
+    webs_stored f.body.directives.webs
     ++ saved_lines load_from (head_size f.body) 0 f.saved
-    ++ load_from (neg_ℤ (pos (f.frame + 20))) return_address
+    ++ load_from (below (f.frame + 20)) return_address
     ++ frame_left f.frame
     ++ Leave ∷ []
 
@@ -124,12 +120,12 @@ end_lines f (end.Branch a b c) =
 end_lines f (end.Return None) = epilogue f
 end_lines f (end.Return (Some a)) = loaded (place_of f.places a) answer ++ epilogue f
 
-abbrev pub block_lines : Located → ℕ → WebBlock → List Line
-block_lines f n b = Label n ∷ (flat_map (web_op_lines (layout_of f)) b.ops ++ end_lines f b.end)
+abbrev pub block_lines : Located → List ℤ → ℕ → WebBlock → List Line
+block_lines f slots n b = Label n ∷ (flat_map (web_op_lines (layout f.places slots)) b.ops ++ end_lines f b.end)
 
-abbrev pub blocks_lines : Located → ℕ → List WebBlock → List Line
-blocks_lines f n [] = []
-blocks_lines f n (b ∷ rest) = block_lines f n b ++ blocks_lines f (suc n) rest
+abbrev pub blocks_lines : Located → List ℤ → ℕ → List WebBlock → List Line
+blocks_lines f slots n [] = []
+blocks_lines f slots n (b ∷ rest) = block_lines f slots n b ++ blocks_lines f slots (n + 1) rest
 
 unfoldable pub selected : Located → List Line
-selected f = prologue f ++ blocks_lines f 0 f.body.blocks
+selected f = prologue f ++ blocks_lines f (slot_offsets f) 0 f.body.blocks
