@@ -10,7 +10,8 @@ use Rattle.pw_inst.specs.declared.relocation.FixKind.TheVariants as kind
 use Rattle.pw_inst.specs.declared.relocation.Symbol.{Symbol}
 use Rattle.pw_inst.specs.declared.relocation.Symbol.TheVariants as symbol
 use Rattle.pw_machine.specs.Effect.{difference, condition, extracted, sign_extended, deposited}
-use Rattle.pw_delay.specs.Items.{Relocation, Word}
+use Rattle.pw_delay.specs.declared.items.Relocation.{Relocation}
+use Rattle.pw_delay.specs.declared.items.Word.{Word}
 use Rattle.pw_lines.specs.Addresses.{Addresses}
 
 -- ---- words with their addresses

@@ -14,7 +14,11 @@ use Rattle.pw_flow.specs.declared.flow.Item.{Item as FlowItem}
 use Rattle.pw_flow.specs.declared.flow.Item.TheVariants.{Bytes, Address}
 use Rattle.pw_alloc.specs.declared.located.Located.{Located}
 use Rattle.pw_machine.specs.Effect.{condition}
-use Rattle.pw_delay.specs.Items.{Word, Turn, Back, Goto, If, CallTo, CallReg, Leave, Item, Plain, Turns, Mark}
+use Rattle.pw_delay.specs.declared.items.Word.{Word}
+use Rattle.pw_delay.specs.declared.items.Turn.{Turn}
+use Rattle.pw_delay.specs.declared.items.Item.{Item}
+use Rattle.pw_delay.specs.declared.items.Turn.TheVariants.{Back, Goto, If, CallTo, CallReg, Leave}
+use Rattle.pw_delay.specs.declared.items.Item.TheVariants.{Plain, Turns, Mark}
 use Rattle.pw_run.specs.Runs.{View, Stage, Going, Over, Wrong, Ended, StackFull}
 use Rattle.pw_run.specs.Runs as run
 use Rattle.pw_trace.specs.Traces.{Standing, Event, Called, Refused, Returned, Loaded, Stored}

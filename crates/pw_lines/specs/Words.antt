@@ -5,7 +5,11 @@ use Rattle.std.specs.Int.{cast_unsigned, w32}
 use Rattle.pw_inst.specs.declared.Inst.{Inst}
 use Rattle.pw_inst.specs.declared.Inst.TheVariants.{Combt, Combf, Bl, Bv, Ble}
 use Rattle.pw_inst.specs.declared.relocation.Symbol.{Symbol}
-use Rattle.pw_delay.specs.Items.{Word, Turn, Back, Goto, If, CallTo, CallReg, Leave, Item, Plain, Turns, Mark}
+use Rattle.pw_delay.specs.declared.items.Word.{Word}
+use Rattle.pw_delay.specs.declared.items.Turn.{Turn}
+use Rattle.pw_delay.specs.declared.items.Item.{Item}
+use Rattle.pw_delay.specs.declared.items.Turn.TheVariants.{Back, Goto, If, CallTo, CallReg, Leave}
+use Rattle.pw_delay.specs.declared.items.Item.TheVariants.{Plain, Turns, Mark}
 use Rattle.pw_delay.specs.Placement.{in_slot, turn_size}
 use Rattle.pw_lines.specs.Addresses.{Addresses}
 use Rattle.pw_lines.specs.Acts.{settled, symbol_address}

@@ -11,7 +11,11 @@ use Rattle.pw_inst.specs.declared.relocation.Symbol.TheVariants as symbol
 use Rattle.pw_inst.specs.declared.relocation.Fix.{Fix}
 use Rattle.pw_inst.specs.declared.relocation.FixKind.{FixKind}
 use Rattle.pw_inst.specs.declared.relocation.FixKind.TheVariants as kind
-use Rattle.pw_delay.specs.Items.{Word, Turn, Item, Turns, slotted}
+use Rattle.pw_delay.specs.declared.items.Word.{Word}
+use Rattle.pw_delay.specs.declared.items.Turn.{Turn}
+use Rattle.pw_delay.specs.declared.items.Item.{Item}
+use Rattle.pw_delay.specs.declared.items.Item.TheVariants.{Turns}
+use Rattle.pw_delay.specs.Items.{slotted}
 use Rattle.pw_delay.specs.Placement.{sizes, mark_at, short_limit, placed}
 use Rattle.pw_link.specs.Layout.{Sites}
 use Rattle.pw_link.specs.Linking.{symbol_address, with_fixes}
