@@ -1,6 +1,6 @@
 -- The call graph by places: what stands in its rows.
 use Rattle.std.proofs.Common.{◌≡◌, ℕ, ◌+◌, ◌<◌, ◌≤◌, ◌^◌, Bool, true, List, [], ◌∷◌, length, map, refl, sym, ap, subst, ◌∙◌, arith, inl, inr, All}
-use Rattle.std.specs.Prelude.{Option, Some, None, option_map, slice_get, Contains, ◌↔◌, if◌then◌else◌}
+use Rattle.std.specs.Prelude.{Result, Ok, Err, IfOk, Option, Some, None, option_map, slice_get, Contains, ◌↔◌, if◌then◌else◌}
 use Rattle.std.specs.List.{filter_map, cons_option, flat_map, AllByRecursion, AllZip}
 use Rattle.std.specs.List.Sorted.{IsStrictlyIncreasing}
 use Rattle.std.specs.Str.{bytes_eq}
@@ -23,7 +23,7 @@ use Rattle.pw_graph.specs.CallGraph.{Calls, Weighs, IsGraph}
 use Rattle.pw_graph.proofs.Counts.{few_homes, few_scalars}
 use Rattle.std.proofs.lemmas.List.{length-map}
 use Rattle.pw_graph.specs.Program.{AreLinked, functions_of, IsUseOf, IsCall, by_name, through_value, HasWeights, IsEligible, IsGraphOf}
-use Rattle.pw_graph.specs.Making.{IsOrdered, all_homes, all_taken, all_escaped, all_eligible, place_in, targets_from, place_if, of_shape, callees, IsCallRow, with_weights, placed, ref_row}
+use Rattle.pw_graph.specs.Making.{IsOrdered, all_homes, all_taken, all_escaped, all_eligible, place_in, targets_from, place_if, of_shape, callees, IsCallRow, with_weights, placed, ref_row, HasRefs}
 use Rattle.pw_graph.proofs.Lists.{has_at, at_has, mapped_at, at_mapped, zip_at, at_zip, zip_length, zip_each, has_filtered, has_filtered_back}
 use Rattle.pw_graph.proofs.Members.{Ups, increasing}
 use Rattle.pw_graph.proofs.Placing.{one_place, lesser_place, name_at_place, place_of_name}
@@ -32,7 +32,7 @@ use Rattle.pw_graph.proofs.IsGraph.{Entry, use_forth, use_back, functions_forth,
 
 -- ---- the names of a list in order
 
-names_one : {X : Type 0} (key : X → List ℕ) (names : List (List ℕ)) (xs : List X) → IsRising (map key xs) → IsTableOf names (map key xs) → names ≡ map key xs
+pub names_one : {X : Type 0} (key : X → List ℕ) (names : List (List ℕ)) (xs : List X) → IsRising (map key xs) → IsTableOf names (map key xs) → names ≡ map key xs
 names_one key names xs up table = one_rising (λ n. n) names (map key xs) (subst IsRising (sym (map_id names)) (table_rises names table.rising)) (subst IsRising (sym (map_id (map key xs))) up) table.of
 
 -- ---- weights
@@ -359,3 +359,17 @@ made ss lawful linked H names taken escaped G globals homes count of_names of_ta
       is_graph ss lawful H names taken escaped G globals homes of_names of_taken of_escaped ordered of_globals rows zipped,
       well_made ss lawful H names taken escaped G globals homes of_names of_taken of_escaped ordered of_globals rows zipped (omega (arith, few, count)) (omega (arith, few_g, count_globals)),
     )))
+
+pub few_scalars_of : (ss : List Summary) → AreLinked ss → (taken escaped : List (List ℕ)) (G : List (List ℕ × Kind)) → length G ≡ length (all_eligible taken escaped ss) → length G ≤ 8192
+few_scalars_of ss linked taken escaped G count = let few = few_scalars taken escaped ss linked in omega (arith, few, count)
+
+pub graph_result : {E : Type 0} (ss : List Summary) → All IsSummary ss → AreLinked ss → (H : List Entry) (names taken escaped : List (List ℕ)) (G : List (List ℕ × Kind))
+    → IsOrdered (λ h. h.0) (all_homes ss) H → length H ≡ length (all_homes ss) → IsTableOf names (map (λ h. h.0) H)
+    → IsTableOf taken (all_taken ss) → IsTableOf escaped (all_escaped ss)
+    → IsOrdered (λ v. v.0) (all_eligible taken escaped ss) G → length G ≡ length (all_eligible taken escaped ss)
+    → (ts : List (List ℕ × ℕ)) → ts ≡ targets_from taken 0 H → (r : Result CallGraph E)
+    → IfOk r (λ g. g.functions ≡ names) → IfOk r (λ g. g.globals ≡ G) → IfOk r (λ g. AllZip (IsCallRow names ts) H g.calls) → IfOk r (λ g. HasRefs G H g.refs)
+    → IfOk r (IsGraphOf ss) × IfOk r IsGraph
+graph_result ss lawful linked H names taken escaped G homes count of_names of_taken of_escaped ordered countG ts targets_are (Ok g) functions globals calls refs =
+    made ss lawful linked H names taken escaped G refs.globals homes count of_names of_taken of_escaped ordered countG refs.table ts targets_are g.calls calls g.functions functions g.globals globals g.refs refs.rows
+graph_result ss lawful linked H names taken escaped G homes count of_names of_taken of_escaped ordered countG ts targets_are (Err e) functions globals calls refs = (tt, tt)

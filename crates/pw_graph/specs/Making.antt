@@ -1,11 +1,11 @@
 -- How the lists of a call graph are made: functions with what they use, eligible globals, and what each function
 -- calls and refers to, by places.
-use Rattle.std.specs.Prelude.{ℕ, suc, ◌↔◌, ◌||◌, nat_lt, Bool, true, false, Option, Some, None, option_map, List, [], ◌∷◌, ◌++◌, length, map, Contains, if◌then◌else◌}
+use Rattle.std.specs.Prelude.{ℕ, suc, ◌≡◌, ◌↔◌, ◌||◌, nat_lt, Bool, true, false, Option, Some, None, option_map, List, [], ◌∷◌, ◌++◌, length, map, Contains, if◌then◌else◌}
 use Rattle.std.specs.List.{flat_map, filter_map}
 use Rattle.std.specs.List.Sorted.{IsStrictlyIncreasing}
 use Rattle.std.specs.Str.{bytes_eq}
 use Rattle.pw_value.specs.declared.value.Kind.{Kind}
-use Rattle.pw_value.specs.FieldNames.{is_among, place_of}
+use Rattle.pw_value.specs.FieldNames.{is_among, place_of, IsTableOf}
 use Rattle.pw_files.specs.Rising.{IsRising}
 use Rattle.pw_summary.specs.declared.summary.Summary.{Summary}
 use Rattle.pw_summary.specs.declared.summary.Uses.{Uses}
@@ -109,3 +109,9 @@ placed globals r = option_map (with_weights r) (place_in globals r.0)
 abbrev pub ref_row : List (List ℕ) → Option Uses → List (ℕ × ℕ × ℕ)
 ref_row globals None = []
 ref_row globals (Some u) = filter_map (placed globals) u.refs
+
+-- what each function refers to, by the places of eligible globals
+pub record HasRefs (scalars : List (List ℕ × Kind)) (homes : List (List ℕ × List ℕ × Option Uses)) (refs : List (List (ℕ × ℕ × ℕ))) : Type 0 where
+  pub globals : List (List ℕ)
+  pub table : IsTableOf globals (map (λ v. v.0) scalars)
+  pub rows : refs ≡ map (λ h. ref_row globals h.2) homes
