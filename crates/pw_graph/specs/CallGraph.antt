@@ -1,6 +1,9 @@
 -- A call graph: its calls, its paths, and who refers to a global. Functions and globals go by their places
 -- in byte order.
-use Rattle.std.specs.Prelude.{ℕ, ◌≡◌, ◌<◌, ◌⊎◌, ◌↔◌, Some, List, length, Contains, slice_get, vec_len}
+use Rattle.std.specs.Prelude.{ℕ, ◌≡◌, ◌<◌, ◌≤◌, ◌+◌, ◌^◌, ◌⊎◌, ◌↔◌, Some, List, length, map, Contains, slice_get, vec_len}
+use Rattle.std.specs.List.{AllByRecursion}
+use Rattle.std.specs.List.Sorted.{IsStrictlyIncreasing}
+use Rattle.pw_value.specs.Limits.{function_limit, global_limit}
 use Rattle.pw_fix.specs.Table.{HoldsAt}
 use Rattle.pw_fix.specs.declared.bit_rows.BitRows.{BitRows}
 use Rattle.pw_graph.specs.declared.graph.CallGraph.{CallGraph}
@@ -36,6 +39,18 @@ pub record Writes (g : CallGraph) (f v : ℕ) : Type 0 where
   pub writes : ℕ
   pub weighs : Weighs g f v reads writes
   pub some : 0 < writes
+
+-- each function has a row of calls and a row of references, which lead to functions and globals of the graph;
+-- there are no more functions and globals than a program has, and no weight that does not fit 32 bits
+pub record IsGraph (g : CallGraph) : Type 0 where
+  pub functions : length g.functions ≤ function_limit + 3
+  pub globals : length g.globals ≤ global_limit
+  pub call_rows : length g.calls ≡ length g.functions
+  pub calls_within : (a b : ℕ) → Calls g a b → b < length g.functions
+  pub ref_rows : length g.refs ≡ length g.functions
+  pub refs_rise : AllByRecursion (λ row. IsStrictlyIncreasing (map (λ r. r.0) row)) g.refs
+  pub refs_within : (a v reads writes : ℕ) → Weighs g a v reads writes → v < length g.globals
+  pub weights : (a v reads writes : ℕ) → Weighs g a v reads writes → (reads < 2 ^ 32) × (writes < 2 ^ 32)
 
 -- some function that refers to v reaches f, and is reached from f
 pub record IsReachedFromUser (g : CallGraph) (f v : ℕ) : Type 0 where

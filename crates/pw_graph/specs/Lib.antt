@@ -1,2 +1,3 @@
 pub mod CallGraph
 pub mod Program
+pub mod Making

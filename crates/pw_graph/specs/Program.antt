@@ -1,15 +1,37 @@
 -- What summaries say of a program: its functions, who calls whom, and which globals are eligible; and the call
 -- graph that says the same by places.
-use Rattle.std.specs.Prelude.{ℕ, ◌≡◌, ◌<◌, ◌⊎◌, ◌↔◌, Option, Some, false, List, ◌++◌, length, map, Contains, slice_get}
+use Rattle.std.specs.Prelude.{ℕ, ◌≡◌, ◌<◌, ◌↔◌, Option, Some, None, if◌then◌else◌, false, List, [], ◌∷◌, ◌++◌, length, map, Contains, slice_get}
 use Rattle.std.specs.List.{flat_map, AllByRecursion}
 use Rattle.std.specs.List.Sorted.{IsStrictlyIncreasing}
 use Rattle.pw_value.specs.declared.value.Kind.{Kind}
+use Rattle.pw_value.specs.declared.fault.LinkFault.{LinkFault}
 use Rattle.pw_files.specs.Rising.{IsRising}
 use Rattle.pw_summary.specs.declared.summary.Summary.{Summary}
 use Rattle.pw_summary.specs.declared.summary.Uses.{Uses}
-use Rattle.pw_program.specs.Linking.{library_declarations}
+use Rattle.std.specs.Str.{bytes_eq}
+use Rattle.pw_value.specs.ProgramNames.{main_name}
+use Rattle.pw_program.specs.declared.interface.Interface.{Interface}
+use Rattle.pw_program.specs.Linking.{library_declarations, Links, Refusal}
 use Rattle.pw_graph.specs.declared.graph.CallGraph.{CallGraph}
 use Rattle.pw_graph.specs.CallGraph.{Calls, Weighs}
+
+-- ---- modules that make a program
+
+-- the shape of `main`, where it is one of the functions
+abbrev pub main_in : List (List ℕ × List ℕ) → Option (List ℕ)
+main_in [] = None
+main_in (f ∷ fs) = if bytes_eq f.0 main_name then Some f.1 else main_in fs
+
+-- what the summary's module shows to the others
+abbrev pub interface_of : Summary → Interface
+interface_of s = record { «module» = s.module; functions = map (λ f. f.0) s.functions; globals = map (λ g. g.0) s.globals; declared = s.declared; used = s.used; main = main_in s.functions }
+
+-- the modules make a program, or they break a rule of linking
+abbrev pub AreLinked : List Summary → Type 0
+AreLinked ss = Links (map interface_of ss)
+
+abbrev pub AreRefused : List Summary → LinkFault → Type 0
+AreRefused ss fault = Refusal (map interface_of ss) fault
 
 -- ---- what summaries say
 

@@ -2,6 +2,14 @@
 //! to, itself and through others.
 #![tactic(auto)]
 
+mod building;
+mod calls;
+mod eligible;
 mod graph;
+mod homes;
+mod places;
+mod references;
+mod views;
 
+pub use building::build_graph;
 pub use graph::{CallGraph, RefSets};

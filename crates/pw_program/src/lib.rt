@@ -15,3 +15,4 @@ mod undefined;
 
 pub use checking::check_program;
 pub use interface::Interface;
+pub use library::built_in;

@@ -56,7 +56,7 @@ fn declarations(alloc: Global) -> Result<Items<(Name, Shape)>, AllocError>
 }
 
 /// The library as a module.
-pub(crate) fn built_in(alloc: Global) -> Result<Interface, AllocError>
+pub fn built_in(alloc: Global) -> Result<Interface, AllocError>
     ensures { IfOk result (λ i. i ≡ library) }
 {
     Ok(Interface {
