@@ -2,5 +2,6 @@ pub mod Fitting
 pub mod Kept
 pub mod Lawful
 pub mod OneAnswer
+pub mod Ordered
 pub mod Places
 pub mod Starting

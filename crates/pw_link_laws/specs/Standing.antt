@@ -1,10 +1,10 @@
 -- What stands where in a linked program.
-use Rattle.std.specs.Prelude.{ℕ, ◌≡◌, ◌+◌, ◌*◌, ◌%◌, ◌≤◌, List, [], ◌∷◌, ◌++◌, length}
+use Rattle.std.specs.Prelude.{ℕ, ◌≡◌, false, ◌+◌, ◌*◌, ◌%◌, ◌≤◌, List, [], ◌∷◌, ◌++◌, length}
 use Rattle.std.specs.List.{AllByRecursion}
 use Rattle.pw_value.specs.Limits.{text_start}
 use Rattle.pw_object.specs.declared.object.Object.{Object}
 use Rattle.pw_image.specs.Image.{Item}
-use Rattle.pw_link.specs.Layout.{Placed, Standing, Sites, sites_by, text_of, data_of, data_begin, stack_end}
+use Rattle.pw_link.specs.Layout.{is_before, Placed, Standing, Sites, sites_by, text_of, data_of, data_begin, stack_end}
 use Rattle.pw_link.specs.Linking.{item_at}
 
 -- the addresses of a linked program
@@ -38,3 +38,8 @@ AreApart free (p ∷ rest) = (free ≤ p.address) × (p.address % 4 ≡ 0) × Ar
 abbrev pub OwnTheirBytes : ℕ → ℕ → List Standing → Type 0
 OwnTheirBytes end free [] = free ≤ end
 OwnTheirBytes end free (s ∷ rest) = (free ≤ s.offset) × (s.offset % 8 ≡ 0) × OwnTheirBytes end (s.offset + (s.global.size + 1)) rest
+
+-- no module's name is before that of one in front of it
+abbrev pub AreInOrder : List Object → Type 0
+AreInOrder [] = Unit {0}
+AreInOrder (o ∷ rest) = AllByRecursion (λ p. is_before p.module o.module ≡ false) rest × AreInOrder rest

@@ -1,15 +1,16 @@
 //! Laws of linked programs.
 
 ghost use Rattle.std.specs.Prelude.{◌≡◌, ℕ, ◌+◌, ◌<◌, ◌≤◌, ◌^◌, List, map};
-ghost use Rattle.std.specs.List.{AllByRecursion};
+ghost use Rattle.std.specs.List.{AllByRecursion, filter};
+ghost use Rattle.std.specs.Str.{bytes_eq};
 ghost use Rattle.pw_value.specs.declared.fault.LinkFault.{LinkFault};
 ghost use Rattle.pw_value.specs.Limits.{text_start};
 ghost use Rattle.pw_object.specs.declared.object.Object.{Object};
 ghost use Rattle.pw_object.specs.Object.{IsObject};
 ghost use Rattle.pw_image.specs.Image.{IsImage};
-ghost use Rattle.pw_link.specs.Layout.{pieces_of, globals_of, text_of, data_of, data_begin, data_size, stack_end};
+ghost use Rattle.pw_link.specs.Layout.{in_order, pieces_of, globals_of, text_of, data_of, data_begin, data_size, stack_end};
 ghost use Rattle.pw_link.specs.Linking.{linked, piece_words, function_of, global_of, AreLinked, IsRefusal};
-ghost use Rattle.pw_link_laws.specs.Standing.{sites, StandsInText, ItemsStand, AreApart, OwnTheirBytes};
+ghost use Rattle.pw_link_laws.specs.Standing.{AreInOrder, sites, StandsInText, ItemsStand, AreApart, OwnTheirBytes};
 
 use pw_program::laws::modules_have_one_answer;
 
@@ -24,6 +25,12 @@ pub fn objects_have_one_answer()
 /// The image of objects that are lawful for their files is lawful for its own.
 pub fn linked_images_are_lawful()
     ensures { (objects : List Object) (stack : ℕ) → AllByRecursion IsObject objects → AreLinked objects stack → stack < 2 ^ 32 → IsImage (linked objects stack) }
+{}
+
+/// The modules stand in byte order of their names, and the objects of one name in the order given.
+pub fn modules_stand_in_order()
+    ensures order { (objects : List Object) → AreInOrder (in_order objects) }
+    ensures names { (objects : List Object) (name : List ℕ) → filter (λ o. bytes_eq name o.module) (in_order objects) ≡ filter (λ o. bytes_eq name o.module) objects }
 {}
 
 /// The words of each function and routine, its relocations done, stand in the text at its address, which the
