@@ -36,10 +36,10 @@ source_stages run n = stage_by n (run n) (run n).end
 abbrev pub Agree : (ℕ → SourceRun) → Core → List ℕ → Type 0
 Agree run core input = Refines Whatever (source_stages run) (machine_run core input)
 
+abbrev pub IsMeaningful : SourceEnd → Type 0
+IsMeaningful Undefined = ⊥
+IsMeaningful _ = Unit {0}
+
 -- the source meets no undefined operation, whatever the bound
 abbrev pub IsDefined : (ℕ → SourceRun) → Type 0
 IsDefined run = (n : ℕ) → IsMeaningful (run n).end
-  where
-    IsMeaningful : SourceEnd → Type 0
-    IsMeaningful Undefined = ⊥
-    IsMeaningful _ = Unit {0}

@@ -36,24 +36,30 @@ alike_wider F G h l k (also m n ms ns p q) = also m n ms ns (h m n p) (alike_wid
 met_wider : {M N : Type 0} (F G : M → N → Type 0) → ((m : M) (n : N) → F m n → G m n)
     → (s : Stage M) (b : ℕ → Stage N) → Met F s b → Met G s b
 met_wider F G h (Going v) b p = record {
-  at = p.at; view = p.view; is = p.is; counted = p.counted;
+  at = p.at;
+  view = p.view;
+  is = p.is;
+  counted = p.counted;
   same = record { output = p.same.output; read = p.same.read; log = alike_wider F G h v.log p.view.log p.same.log };
 }
 met_wider F G h (Over end v) b p = record {
-  at = p.at; view = p.view; is = p.is; counted = p.counted;
+  at = p.at;
+  view = p.view;
+  is = p.is;
+  counted = p.counted;
   same = record { output = p.same.output; read = p.same.read; log = alike_wider F G h v.log p.view.log p.same.log };
 }
 met_wider F G h run.Wrong b p = tt
 
 -- ---- the runs one after another
 
-same_kind : (e f : Event ℕ ℕ) → Same e f → SameKind e f
+pub same_kind : (e f : Event ℕ ℕ) → Same e f → SameKind e f
 same_kind e f p = subst (λ f. SameKind e f) p (kind_of_itself e)
 
-words_kind : (p : Program) (named : List ℕ → ℕ) (e : Event Byte Value) (f : Event ℕ ℕ) → EventInWords p named e f → SameKind e f
+pub words_kind : (p : Program) (named : List ℕ → ℕ) (e : Event Byte Value) (f : Event ℕ ℕ) → EventInWords p named e f → SameKind e f
 words_kind p named e f w = kind_of_alike _ _ e f w.alike
 
-places_kind : (e f : Event Byte Value) → EventAlike Same Same e f → SameKind e f
+pub places_kind : (e f : Event Byte Value) → EventAlike Same Same e f → SameKind e f
 places_kind e f w = kind_of_alike Same Same e f w
 
 -- from the source to the machine
@@ -64,16 +70,33 @@ pub source_to_machine : (p : Program) (named : List ℕ → ℕ)
     → Refines (InMachine p named) source (calls_of machine)
 source_to_machine p named source flows webs places lines machine a b c d e =
     λ n. met_wider (Through (MomentKept p) (Through (MomentAlike p) (Through (EventAlike Same Same) (Through (EventInWords p named) Same))))
-      (InMachine p named) (all_layers p named) (source n) (calls_of machine)
-      (refines_twice (MomentKept p) (Through (MomentAlike p) (Through (EventAlike Same Same) (Through (EventInWords p named) Same)))
-        source flows (calls_of machine) a
-        (refines_twice (MomentAlike p) (Through (EventAlike Same Same) (Through (EventInWords p named) Same))
-          flows (calls_of webs) (calls_of machine) b
-          (refines_twice (EventAlike Same Same) (Through (EventInWords p named) Same) (calls_of webs) (calls_of places) (calls_of machine)
-            (calls_refine (EventAlike Same Same) places_kind webs places c)
-            (refines_twice (EventInWords p named) Same (calls_of places) (calls_of lines) (calls_of machine)
-              (calls_refine (EventInWords p named) (words_kind p named) places lines d)
-              (calls_refine Same same_kind lines machine e)))) n)
+    (InMachine p named) (all_layers p named) (source n) (calls_of machine)
+    (refines_twice (MomentKept p) (Through (MomentAlike p) (Through (EventAlike Same Same) (Through (EventInWords p named) Same)))
+    source flows (calls_of machine) a
+    (refines_twice (MomentAlike p) (Through (EventAlike Same Same) (Through (EventInWords p named) Same))
+    flows (calls_of webs) (calls_of machine) b
+    (refines_twice (EventAlike Same Same) (Through (EventInWords p named) Same) (calls_of webs) (calls_of places) (calls_of machine)
+    (calls_refine (EventAlike Same Same) places_kind webs places c)
+    (refines_twice (EventInWords p named) Same (calls_of places) (calls_of lines) (calls_of machine)
+    (calls_refine (EventInWords p named) (words_kind p named) places lines d)
+    (calls_refine Same same_kind lines machine e)))) n)
+
+-- from the source to the directed run, and to the lines
+pub source_to_webs : (p : Program) (source : ℕ → Stage Moment) (flows : ℕ → Stage flow.Moment) (webs : ℕ → Stage (Event Byte Value))
+    → Refines (MomentKept p) source flows → Refines (MomentAlike p) flows (calls_of webs)
+    → Refines (Through (MomentKept p) (MomentAlike p)) source (calls_of webs)
+source_to_webs p source flows webs a b = refines_twice (MomentKept p) (MomentAlike p) source flows (calls_of webs) a b
+
+pub source_to_lines : (p : Program) (named : List ℕ → ℕ)
+    (source : ℕ → Stage Moment) (webs places : ℕ → Stage (Event Byte Value)) (lines : ℕ → Stage (Event ℕ ℕ))
+    → Refines (Through (MomentKept p) (MomentAlike p)) source (calls_of webs)
+    → Refines (EventAlike Same Same) webs places → Refines (EventInWords p named) places lines
+    → Refines (Through (Through (MomentKept p) (MomentAlike p)) (Through (EventAlike Same Same) (EventInWords p named))) source (calls_of lines)
+source_to_lines p named source webs places lines a c d =
+    refines_twice (Through (MomentKept p) (MomentAlike p)) (Through (EventAlike Same Same) (EventInWords p named)) source (calls_of webs) (calls_of lines) a
+    (refines_twice (EventAlike Same Same) (EventInWords p named) (calls_of webs) (calls_of places) (calls_of lines)
+    (calls_refine (EventAlike Same Same) places_kind webs places c)
+    (calls_refine (EventInWords p named) (words_kind p named) places lines d))
 
 -- ---- without what is noted
 
@@ -112,8 +135,8 @@ pub agrees : (p : source.Program) (frame_of : List ℕ → ℕ) (stack : ℕ) (i
     → Agree (source_runs p frame_of stack input) c input
 agrees p frame_of stack input q named m c r =
     λ n. subst (λ s. Met Whatever s (machine_run c input)) (source_forgets p frame_of stack input n)
-      (met_by Whatever (shown_by forgotten (source_stages p frame_of stack input n))
-        (λ k. shown_by forgotten (calls_of (traced_run m c input) k)) (machine_run c input)
-        (λ k. calls_forget (traced_run m c input k) ∙ run_forgets m c input k)
-        (met_shown (InMachine q named) Whatever forgotten forgotten (nothing_alike (InMachine q named))
-          (source_stages p frame_of stack input n) (calls_of (traced_run m c input)) (r n)))
+    (met_by Whatever (shown_by forgotten (source_stages p frame_of stack input n))
+    (λ k. shown_by forgotten (calls_of (traced_run m c input) k)) (machine_run c input)
+    (λ k. calls_forget (traced_run m c input k) ∙ run_forgets m c input k)
+    (met_shown (InMachine q named) Whatever forgotten forgotten (nothing_alike (InMachine q named))
+    (source_stages p frame_of stack input n) (calls_of (traced_run m c input)) (r n)))

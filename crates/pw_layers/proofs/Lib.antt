@@ -1,2 +1,5 @@
 mod Places
 mod Agreement
+mod Noted
+mod Composition
+mod Frames

@@ -93,10 +93,11 @@ globals_follow : (p : Program) (named : List ℕ → ℕ) (place objects : ℕ �
 globals_follow p named place objects things kept [] n ss ts us h names stand none none = tt
 globals_follow p named place objects things kept (g ∷ gs) n ss ts us h names stand none none = stand
 globals_follow p named place objects things kept [] n ss ts us h names stand (also s t ss' ts' a as') (also _ u _ us' b bs) = absurd stand
-globals_follow p named place objects things kept (g ∷ gs) n ss ts us h names stand (also s t ss' ts' a as') (also _ u _ us' b bs) =
-    (ap objects h.0 ∙ names.0
-    , global_follows p named place objects things g (object_at things n).bytes (object_at kept n) s t u h.1 stand.0 a b
-    , globals_follow p named place objects things kept gs (suc n) ss' ts' us' h.2 names.1 stand.1 as' bs)
+globals_follow p named place objects things kept (g ∷ gs) n ss ts us h names stand (also s t ss' ts' a as') (also _ u _ us' b bs) = (
+  ap objects h.0 ∙ names.0,
+  global_follows p named place objects things g (object_at things n).bytes (object_at kept n) s t u h.1 stand.0 a b,
+  globals_follow p named place objects things kept gs (suc n) ss' ts' us' h.2 names.1 stand.1 as' bs,
+)
 
 all_follow : (p : Program) (named : List ℕ → ℕ) (things kept : List Object) (ss ts : List (Standing Byte Value)) (us : List (Standing ℕ ℕ))
     (objects : ℕ → ℕ) → SameGlobals p things kept → GlobalsAreNamed named objects 0 (globals_of p) → AllStand (globals_of p) 0 kept ss
@@ -150,4 +151,4 @@ pub all_layers : (p : Program) (named : List ℕ → ℕ) (m : source.Moment) (c
 all_layers p named m c t =
     subst (λ c. InMachine p named m c) t.second.second.second.second
     (moment_follows p named m t.between t.second.between t.second.second.between t.second.second.second.between
-      t.first t.second.first t.second.second.first t.second.second.second.first)
+    t.first t.second.first t.second.second.first t.second.second.second.first)

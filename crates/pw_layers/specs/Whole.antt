@@ -18,6 +18,7 @@ use Rattle.pw_object.specs.declared.object.Object.{Object}
 use Rattle.pw_image.specs.Image.{ImageValue}
 use Rattle.pw_link.specs.Linking.{linked, size_fault}
 use Rattle.pw_machine.specs.Start.{image_start}
+use Rattle.pw_lower.specs.Modules.{start_of, start_function}
 use Rattle.pw_cmean.specs.Worlds.{Program, ProgramModule, full_name}
 use Rattle.pw_cmean.specs.Acts as source
 use Rattle.pw_run.specs.Runs.{Refines, AreAlike}
@@ -34,7 +35,11 @@ use Rattle.pw_webrun.specs.Serving.{AllServe}
 use Rattle.pw_lines.specs.Standing.{pointer_address, byte_of}
 use Rattle.pw_linkrun.specs.Laws.{AreObjectsOf, address_of, frame_in, image_run}
 use Rattle.pw_layers.specs.Source.{source_stages, source_runs}
-use Rattle.pw_layers.specs.Lowering.{flow_program, IsAccepted}
+use Rattle.pw_webrun.specs.Laws.{DirectionKeepsRuns, PlacesKeepRuns}
+use Rattle.pw_lines.specs.Laws.{AreBytes, SelectionKeepsRuns}
+use Rattle.pw_linkrun.specs.Laws.{LinkKeepsRuns}
+use Rattle.pw_layers.specs.Lowering.{flow_program, IsAccepted, LoweringKeepsRuns}
+use Rattle.pw_layers.specs.Rooms.{MapHasFrames, LoweringFits, PlacesFit}
 
 -- ---- C values in the machine's words
 
@@ -123,4 +128,19 @@ pub record Holds (p : Program) (d : List (List ℕ × Directives)) (functions : 
 pub record FramesFit (p : Program) (v : ImageValue) : Type 0 where
   pub functions : (m : ProgramModule) (f : FunctionValue) → Contains p.modules m → Contains m.tree.functions f →
       frame_in v (full_name m.name f.name) ≤ room_of m.tree.records f
-  pub start : frame_in v start_name ≤ start_room
+  pub start : (m : ProgramModule) → Contains p.modules m → Contains (start_of m.tree.functions) start_function →
+      frame_in v start_name ≤ start_room
+
+-- ---- what follows from the laws of the layers
+
+abbrev pub LayersCompose : Type 0
+LayersCompose =
+    LoweringKeepsRuns → DirectionKeepsRuns → PlacesKeepRuns → SelectionKeepsRuns → LinkKeepsRuns → MapHasFrames →
+    (p : Program) (d : List (List ℕ × Directives)) (functions : List Located) (objects : List Object) (stack : ℕ) (input : List ℕ) →
+    IsBuilt p d functions objects stack → AreBytes input → Holds p d functions objects stack input
+
+abbrev pub FramesCompose : Type 0
+FramesCompose =
+    LoweringFits → PlacesFit → MapHasFrames →
+    (p : Program) (d : List (List ℕ × Directives)) (functions : List Located) (objects : List Object) (stack : ℕ) →
+    IsBuilt p d functions objects stack → FramesFit p (image_of objects stack)

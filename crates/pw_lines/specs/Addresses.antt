@@ -22,7 +22,7 @@ abbrev pub taken : FlowGlobal → ℕ
 taken g = round8 (g.size + 1)
 
 -- Global objects have multiples of 8 and bytes of their own, below the stack; functions have multiples of 4 of their
--- own, below the data; so have return addresses, which are of one call each. The stack has its size.
+-- own, below the data. Return addresses are words. The stack has its size.
 pub record AreLawful (p : Program) (w : Addresses) : Type 0 where
   pub aligned : (g : FlowGlobal) → Contains (globals_of p) g → w.named g.name % 8 ≡ 0
   pub above : (g : FlowGlobal) → Contains (globals_of p) g → w.data_start ≤ w.named g.name
@@ -33,7 +33,6 @@ pub record AreLawful (p : Program) (w : Addresses) : Type 0 where
   pub function_above : (f : List ℕ) → Contains (names_of p) f → text_start ≤ w.named f
   pub function_below : (f : List ℕ) → Contains (names_of p) f → w.named f < w.data_start
   pub function_own : (f g : List ℕ) → Contains (names_of p) f → Contains (names_of p) g → w.named f ≡ w.named g → f ≡ g
-  pub behind_own : (f g : List ℕ) (n m : ℕ) → w.behind f n ≡ w.behind g m → (f ≡ g) × (n ≡ m)
   pub behind_word : (f : List ℕ) (n : ℕ) → w.behind f n < 2 ^ 32
   pub data_above : text_start ≤ w.data_start
   pub base_aligned : w.base % 64 ≡ 0
