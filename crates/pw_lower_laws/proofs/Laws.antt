@@ -1,5 +1,9 @@
 -- The laws of lowering, from what its code adds.
-use Rattle.std.proofs.Common.{◌≡◌, ℕ, ◌≤◌, List}
+use Rattle.std.proofs.Common.{◌≡◌, ℕ, ◌≤◌, List, arith}
+use Rattle.pw_value.specs.Limits.{room_limit}
+use Rattle.pw_flow.specs.ValidFlow.{IsFunction as IsFlowFunction}
+use Rattle.pw_lower_laws.specs.Bounds.{IsFunctionBounded}
+use Rattle.pw_lower_laws.proofs.Lawful.{lawful_function}
 use Rattle.pw_types.specs.Rooms.{room_of, start_room}
 use Rattle.pw_types.specs.TypedModules.{IsFunction}
 use Rattle.pw_types.specs.TypedTrees.{Expression, Statement, FunctionValue, ModuleValue}
@@ -31,3 +35,10 @@ start_fits = start-fits
 
 pub function_in_range : (home : List ℕ) (m : ModuleValue) (f : FunctionValue) → IsFunction m f → IsFunctionInRange (lowered_function home m.records f)
 function_in_range = function-in
+
+pub function_lawful :
+    (home : List ℕ) (m : ModuleValue) (f : FunctionValue)
+    → IsFunction m f → partless f.body ≡ 0 → room_of m.records f ≤ room_limit → IsFunctionBounded (lowered_function home m.records f)
+    → IsFlowFunction (lowered_function home m.records f)
+function_lawful home m f h p r b =
+    lawful_function (lowered_function home m.records f) (function-in home m f h) b (omega (arith, r, function_fits home m f h p))

@@ -1,6 +1,7 @@
 pub mod CaseLabels
 pub mod Expressions
 pub mod Growth
+pub mod Lawful
 pub mod Laws
 pub mod Rooms
 pub mod Sound

@@ -1,3 +1,4 @@
+pub mod Bounds
 pub mod Kept
 pub mod Parts
 pub mod Ranges

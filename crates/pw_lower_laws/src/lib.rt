@@ -8,6 +8,9 @@ ghost use Rattle.pw_lower.specs.Statements.{Frame, lower_statement};
 ghost use Rattle.pw_lower.specs.declared.code.Code.{Code};
 ghost use Rattle.pw_lower.specs.declared.place.Ways.{Ways};
 ghost use Rattle.pw_lower_laws.specs.Kept.{Keeps};
+ghost use Rattle.pw_flow.specs.ValidFlow.{IsFunction as IsFlowFunction};
+ghost use Rattle.pw_lower_laws.specs.Bounds.{IsFunctionBounded};
+ghost use Rattle.pw_value.specs.Limits.{room_limit};
 ghost use Rattle.pw_lower_laws.specs.Parts.{partless};
 ghost use Rattle.pw_lower_laws.specs.Ranges.{IsFunctionInRange};
 ghost use Rattle.pw_types.specs.Rooms.{room_of, start_room};
@@ -32,4 +35,11 @@ pub fn frames_fit()
 /// and each block ends at blocks that there are.
 pub fn functions_stay_in_range()
     ensures { (home : List ℕ) (m : ModuleValue) (f : FunctionValue) → IsFunction m f → IsFunctionInRange (lowered_function home m.records f) }
+{}
+
+/// The flow graph of a well-typed function whose room keeps the limit is lawful, if its numbers are words,
+/// its moves are lawful and its calls have no more arguments than a function may.
+pub fn functions_are_lawful()
+    ensures { (home : List ℕ) (m : ModuleValue) (f : FunctionValue) → IsFunction m f → partless f.body ≡ 0 → room_of m.records f ≤ room_limit
+        → IsFunctionBounded (lowered_function home m.records f) → IsFlowFunction (lowered_function home m.records f) }
 {}
