@@ -1,0 +1,3 @@
+pub mod Flowing
+pub mod Edges
+pub mod Marks
