@@ -1,3 +1,4 @@
 pub mod Frames
 pub mod Allocation
 pub mod ValidPlaces
+pub mod Room

@@ -3,6 +3,7 @@
 
 mod allocating;
 mod frames;
+pub mod laws;
 mod located;
 
 pub use allocating::{allocate, is_entry};

@@ -2,3 +2,4 @@ pub mod Extending
 pub mod Sizes
 pub mod MarkLaws
 pub mod LayingLaws
+pub mod BranchLaws

@@ -3,3 +3,4 @@ pub mod Placement
 pub mod Marks
 pub mod Lines
 pub mod Lawful
+pub mod Branches

@@ -3,6 +3,7 @@
 
 mod code;
 mod items;
+pub mod laws;
 mod laying;
 mod marking;
 mod placing;

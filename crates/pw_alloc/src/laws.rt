@@ -1,0 +1,11 @@
+//! The law of frames.
+
+ghost use Rattle.std.specs.Prelude.{◌≤◌};
+ghost use Rattle.pw_webflow.specs.declared.web.WebFn.{WebFn};
+ghost use Rattle.pw_alloc.specs.Room.{frame_room};
+ghost use Rattle.pw_alloc.specs.Allocation.{allocated};
+
+/// A frame is no larger than its room.
+pub fn frames_fit_their_room()
+    ensures { (f : WebFn) → (allocated f).frame ≤ frame_room f }
+{}
