@@ -1,12 +1,4 @@
-pub mod TokenLemmas
-pub mod SumLemmas
-pub mod SumLaw
-pub mod ModuleLemmas
-pub mod BuildLemmas
 pub mod TopLemmas
 pub mod RunLemmas
-pub mod AgreementMemory
-pub mod AgreementRun
-pub mod Agreement
 pub mod BuiltLemmas
 pub mod RefusalLemmas

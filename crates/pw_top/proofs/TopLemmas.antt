@@ -12,8 +12,8 @@ use Rattle.pw_top.specs.FullBuild as build
 use Rattle.pw_io.specs.Files.{Told}
 use Rattle.pw_top.specs.FullBuild.{Build, full_build}
 use Rattle.pw_top.specs.Answers.{line_text, NeedsMemory}
-use Rattle.pw_top.specs.Code.{words_of}
-use Rattle.pw_top.specs.Agreement.{start_of}
+use Rattle.pw_sum.specs.Code.{words_of}
+use Rattle.pw_sum.specs.Built.{start_of}
 use Rattle.pw_top.proofs.RunLemmas.{Ends, ends_itself, run_ends, untouched}
 use Rattle.pw_top.specs.TopCall.{is_go, run_built, build_rest, wanted_rest, WasReadInPart, LeavesInput, Answers, AnswersBuild, IsNoRefusal, Refuses, PutsOut, StoreCount, InputCount, OutputCount, Tells, ToldAs, IsLineOf, IsRunAnswer, LeavesStreams, refused_line}
 

@@ -1,12 +1,7 @@
--- What the code's modules and builds stand for.
-use Rattle.pw_top.specs.declared.modules.Module.{Module}
+-- What the code's builds stand for.
 use Rattle.pw_top.specs.declared.build.Built.{Built}
 use Rattle.pw_top.specs.declared.build.Built.TheVariants as built
-use Rattle.pw_top.specs.Modules.{Source}
 use Rattle.pw_top.specs.FullBuild.{Build, Program, Refused, LinkRefused}
-
-abbrev pub source : Module → Source
-source read = (read.name, read.text.items)
 
 abbrev pub build_view : Built → Build
 build_view (built.Program sum) = Program sum.numbers.items

@@ -1,6 +1,5 @@
 -- The full build: what the files of a store are, a program or a refusal.
 use Rattle.std.specs.Prelude.{ℕ, List, [], ◌∷◌, Option, Some, None, Ok, Err}
-use Rattle.std.specs.FinMap as finite
 use Rattle.pw_io.specs.Files.{Files}
 use Rattle.pw_token.specs.declared.token.Feature.TheVariants.{NotYet}
 use Rattle.pw_front.specs.Fronts.{Front, front_of}
@@ -9,8 +8,8 @@ use Rattle.pw_front.specs.declared.refusal.Refusal.{Refusal}
 use Rattle.pw_front.specs.declared.refusal.Refusal.TheVariants.{Unsupported}
 use Rattle.pw_value.specs.declared.fault.LinkFault.{LinkFault}
 use Rattle.pw_value.specs.declared.fault.LinkFault.TheVariants.{NoMain}
-use Rattle.pw_top.specs.SumProgram.{numbers_in}
-use Rattle.pw_top.specs.Modules.{Source, module_files, sources_of}
+use Rattle.pw_sum.specs.SumProgram.{numbers_in}
+use Rattle.pw_modules.specs.Modules.{Source, modules_of}
 
 -- what a build comes to
 pub data Build : Type 0 where
@@ -48,10 +47,6 @@ by_front first (Ok passed) others = by_numbers first (numbers_in first.1) others
 abbrev pub build_of_sources : List Source → Build
 build_of_sources [] = LinkRefused NoMain
 build_of_sources (first ∷ others) = by_front first (front_of first.1) others
-
--- the modules of all files
-abbrev pub modules_of : Files → List Source
-modules_of files = sources_of files (module_files (finite.keys files))
 
 -- all files
 unfoldable pub full_build : Files → Build

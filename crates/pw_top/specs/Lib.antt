@@ -1,11 +1,5 @@
-pub mod Tokens
-pub mod SumProgram
-pub mod Modules
 pub mod FullBuild
 pub mod BuildViews
-pub mod Code
-pub mod SourceRun
-pub mod Agreement
 pub mod Answers
 pub mod Lines
 pub mod TopCall

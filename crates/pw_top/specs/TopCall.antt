@@ -1,5 +1,5 @@
 -- What a call of the program answers, puts out and leaves.
-use Rattle.std.specs.Prelude.{◌≡◌, ℕ, ◌⊎◌, Bool, false, if◌then◌else◌, MatchBool, List, [], ◌∷◌, ◌++◌, codes, Option, Some, IfSome, IsSomeAnd}
+use Rattle.std.specs.Prelude.{◌≡◌, ℕ, ◌%◌, ◌⊎◌, Bool, true, false, if◌then◌else◌, MatchBool, List, [], ◌∷◌, ◌++◌, codes, Option, Some, IfSome, IsSomeAnd, sum}
 use Rattle.std.specs.Str.{bytes_eq}
 use Rattle.pw_io.specs.Faults.{Rose}
 use Rattle.pw_io.specs.Streams.{Appends}
@@ -12,8 +12,10 @@ use Rattle.pw_top.specs.declared.answer.Answer.{Answer}
 use Rattle.pw_top.specs.declared.answer.Answer.TheVariants.{Ended, Usage, Refused, LinkRefused, StackStop, Spent, Halted, ReadFault, WriteFault, StoreFault, NoMemory}
 use Rattle.pw_top.specs.FullBuild as build
 use Rattle.pw_top.specs.FullBuild.{Build, full_build}
-use Rattle.pw_top.specs.Code.{words_of}
-use Rattle.pw_top.specs.Agreement.{Agree, FramesFit, start_of, frames_of, rooms_of}
+use Rattle.pw_sum.specs.Code.{words_of}
+use Rattle.pw_agreement.specs.Agreement.{Agree}
+use Rattle.pw_sum.specs.SourceRun.{source_run}
+use Rattle.pw_sum.specs.Built.{EndsWithin, FramesFit, core_of, start_of, frames_of, rooms_of}
 use Rattle.pw_top.specs.Answers.{line_text, NeedsMemory}
 
 -- the one command line: the word `go`
@@ -193,11 +195,24 @@ ToldAs answer told = (told ≡ answer) ⊎ (NeedsMemory answer × (told ≡ NoMe
 
 -- ---- agreement of source and machine, for every input
 
+-- The words of a sum program agree with it at every bound, on a stack of 1,048,576 bytes. Their run ends within 402
+-- steps with the low 8 bits of the sum, and each frame is within its function's room.
+pub record SumAgrees (numbers : List ℕ) : Type 0 where
+  pub agree : (input : List ℕ) → Agree (source_run (frames_of numbers) 1048576 numbers) (core_of (words_of numbers)) input
+  pub end : (input : List ℕ) → EndsWithin 402 (sum numbers % 256) (words_of numbers) input
+  pub fit : FramesFit (frames_of numbers) (rooms_of numbers)
+
 abbrev pub BuiltAgrees : Build → Type 0
-BuiltAgrees (build.Program numbers) =
-    ((input : List ℕ) → Agree (frames_of numbers) 1048576 numbers (words_of numbers) input) × FramesFit (frames_of numbers) (rooms_of numbers)
+BuiltAgrees (build.Program numbers) = SumAgrees numbers
 BuiltAgrees (build.Refused name refusal line) = Unit {0}
 BuiltAgrees (build.LinkRefused fault) = Unit {0}
+
+-- Where the words are the command and the build is a program, it ends with the low 8 bits of its sum; faults and want
+-- of memory may come in place of that answer.
+abbrev pub ReturnsSum : List (List ℕ) → Build → Answer → Type 0
+ReturnsSum words (build.Program numbers) answer = is_go words ≡ true → Answers (Ended (sum numbers % 256)) answer
+ReturnsSum words (build.Refused name refusal line) answer = Unit {0}
+ReturnsSum words (build.LinkRefused fault) answer = Unit {0}
 
 -- What is told of an answer, whatever the store tells: its line, with some number where a module is refused.
 abbrev pub TellsSome : Answer → Option (List ℕ) → Option (List ℕ) → ℕ → ℕ → Type 0

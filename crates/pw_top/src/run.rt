@@ -2,7 +2,7 @@
 
 ghost use Rattle.std.specs.Prelude.{◌≡◌, ◌<◌, ◌≤◌, IfSome, length};
 ghost use Rattle.pw_machine.specs.Run.{run_of};
-ghost use Rattle.pw_top.specs.Agreement.{start_of};
+ghost use Rattle.pw_sum.specs.Built.{start_of};
 ghost use Rattle.pw_top.specs.TopCall.{run_answer, run_output, run_rest, LeavesInput, stop_answer, Answers, IsRunAnswer, PutsOut, InputCount, OutputCount};
 
 use crate::answer::Answer;

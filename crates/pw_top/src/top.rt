@@ -3,20 +3,20 @@
 ghost use Rattle.std.specs.Prelude.{◌≡◌, ◌↔◌, false, IfOk, IfSome, map, string_bytes};
 ghost use Rattle.std.specs.Str.{bytes_eq};
 ghost use Rattle.pw_io.specs.Files.{Keeps};
-ghost use Rattle.pw_top.specs.FullBuild.{full_build, modules_of};
-ghost use Rattle.pw_top.specs.Refusals.{HoldsNoWantOfMemory, IsProper, RefusalComes, RefusalIs};
+ghost use Rattle.pw_top.specs.FullBuild.{full_build};
+ghost use Rattle.pw_modules.specs.Modules.{modules_of};
+ghost use Rattle.pw_top.specs.Refusals.{HoldsNoWantOfMemory, IsProper, NoMainComes, NoMainIs, RefusalComes, RefusalIs};
 ghost use Rattle.pw_top.specs.BuildViews.{build_view};
 ghost use Rattle.pw_top.specs.Answers.{line_text};
-ghost use Rattle.pw_top.specs.TopCall.{is_go, run_answer, run_output, run_built, run_rest, build_answer, build_output, build_rest, wanted_rest, LeavesInput, AnswersBuild, IsRunAnswer, IsObeyed, IsLineOf, wanted_answer, wanted_output, Answers, IsNoRefusal, Refuses, PutsOut, StoreCount, InputCount, OutputCount, Tells, ToldAs, BuiltAgrees, LeavesStreams, TellsSome, refused_line};
+ghost use Rattle.pw_top.specs.TopCall.{is_go, run_answer, run_output, run_built, run_rest, build_answer, build_output, build_rest, wanted_rest, LeavesInput, AnswersBuild, IsRunAnswer, IsObeyed, IsLineOf, wanted_answer, wanted_output, Answers, IsNoRefusal, Refuses, PutsOut, StoreCount, InputCount, OutputCount, Tells, ToldAs, BuiltAgrees, ReturnsSum, LeavesStreams, TellsSome, refused_line};
 
 use crate::answer::Answer;
 use crate::build::{Built, build};
-use crate::code::{words_agree, words_of};
-use crate::form::Sum;
 use crate::line::{Line, line_of};
 use crate::run::run_words;
 use pw_front::front_is_exact;
 use pw_io::{Sink, Source, Store, StoreError};
+use pw_sum::{Sum, form_is_exact, words_agree, words_of};
 use std::alloc::{AllocError, Global};
 
 /// Whether the words are the one command line, `go`.
@@ -171,12 +171,15 @@ pub fn pawc_top<S: Store, I: Source, O: Sink, E: Sink>(
     ensures runs_image { IfSome (S.told store.old) (λ told. IfSome (I.rest input.old) (λ rest. Answers (wanted_answer (map string_bytes words.now) (full_build told.files) rest) result)) }
     ensures refusal_is { IfSome (S.told store.old) (λ told. RefusalIs (modules_of told.files) result) }
     ensures refusal_comes { IfSome (S.told store.old) (λ told. RefusalComes (map string_bytes words.now) (modules_of told.files) result) }
+    ensures no_main_is { IfSome (S.told store.old) (λ told. NoMainIs (modules_of told.files) result) }
+    ensures no_main_comes { IfSome (S.told store.old) (λ told. NoMainComes (map string_bytes words.now) (modules_of told.files) result) }
     ensures no_want_refused { HoldsNoWantOfMemory result }
     ensures refuses { IfSome (S.told store.old) (λ told. Refuses (map string_bytes words.now) (full_build told.files) result) }
     ensures output_prefix { IfSome (S.told store.old) (λ told. IfSome (I.rest input.old) (λ rest. PutsOut (wanted_output (map string_bytes words.now) (full_build told.files) rest) result (O.taken out.old) (O.taken out.new))) }
     ensures input_after { IfSome (S.told store.old) (λ told. IfSome (I.rest input.old) (λ rest. LeavesInput (wanted_rest (map string_bytes words.now) (full_build told.files) rest) rest result (I.rest input.new))) }
 
     // source and machine
+    ensures returns_sum { IfSome (S.told store.old) (λ told. IfSome (I.rest input.old) (λ rest. ReturnsSum (map string_bytes words.now) (full_build told.files) result)) }
     ensures agrees { IfSome (S.told store.old) (λ told. BuiltAgrees (full_build told.files)) }
 
     // what stays
@@ -193,6 +196,7 @@ pub fn pawc_top<S: Store, I: Source, O: Sink, E: Sink>(
     ensures some_line { TellsSome result (E.taken err.old) (E.taken err.new) (E.faults err.old) (E.faults err.new) }
 {
     words_agree();
+    form_is_exact();
     front_is_exact();
     let reply = obey(alloc, words, store, input, out);
     tell(alloc, reply, err)

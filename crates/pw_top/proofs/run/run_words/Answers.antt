@@ -1,6 +1,6 @@
 use Rattle.std.proofs.lemmas.Option.{IfSome_then}
 use Rattle.pw_machine.specs.Run.{run_of}
-use Rattle.pw_top.specs.Agreement.{start_of}
+use Rattle.pw_sum.specs.Built.{start_of}
 use Rattle.pw_top.specs.TopCall.{run_rest}
 use Rattle.pw_top.proofs.RunLemmas.{run_puts, run_leaves, untouched, run_ends}
 use Rattle.pw_top.proofs.run.run_words.Goals as goal

@@ -1,5 +1,5 @@
-use Rattle.pw_top.specs.Code.{words_of}
-use Rattle.pw_top.specs.Agreement.{start_of}
+use Rattle.pw_sum.specs.Code.{words_of}
+use Rattle.pw_sum.specs.Built.{start_of}
 use Rattle.pw_top.specs.TopCall.{run_built, run_rest}
 use Rattle.pw_top.proofs.RunLemmas.{untouched, run_ends}
 use Rattle.pw_top.proofs.top.run_sum.Goals as goal
