@@ -1,16 +1,16 @@
 -- The refinements of all layers as one, and the agreement of source and machine from it.
-use Rattle.std.specs.Prelude.{ℕ, ◌≡◌, ◌≤◌, List, []}
-use Rattle.std.proofs.Common.{subst, sym, ap, refl, ◌∙◌}
+use Rattle.std.specs.Prelude.{ℕ, ◌≡◌, List}
+use Rattle.std.proofs.Common.{subst, sym, refl, ◌∙◌}
 use Rattle.pw_value.specs.declared.value.Value.{Value}
 use Rattle.pw_value.specs.declared.value.Byte.{Byte}
 use Rattle.pw_machine.specs.Core.{Core}
 use Rattle.pw_cmean.specs.Worlds as source
-use Rattle.pw_cmean.specs.Acts.{Moment, State, Ending, Undefined, StackFull, Exit, Bound, Wrong, Outcome, Gives, Ends}
+use Rattle.pw_cmean.specs.Acts.{Moment, Undefined, StackFull, Exit, Bound, Wrong, Outcome, Gives, Ends}
 use Rattle.pw_cmean.specs.SourceRun.{run_main, start_state, source_run, seen}
 use Rattle.pw_run.specs.Runs.{Stage, Going, Over, AreAlike, none, also, SameIn, GoesOn, EndsSo, Met, Refines, Through, Same, Whatever}
 use Rattle.pw_run.specs.Runs as run
 use Rattle.pw_run.proofs.Composition.{refines_twice}
-use Rattle.pw_agreement.specs.MachineStages.{Nothing, machine_run}
+use Rattle.pw_agreement.specs.MachineStages.{machine_run}
 use Rattle.pw_agreement.specs.Agreement as agreement
 use Rattle.pw_agreement.specs.Agreement.{Agree}
 use Rattle.pw_trace.specs.Traces.{Event, EventAlike, SameKind, calls_of, calls_alone, shown_by}

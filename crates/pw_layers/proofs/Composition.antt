@@ -1,39 +1,34 @@
 -- The laws of the layers, one after another, give what holds of a built program.
-use Rattle.std.specs.Prelude.{ℕ, ◌≡◌, List}
-use Rattle.std.proofs.Common.{subst, sym, ap, refl}
+use Rattle.std.specs.Prelude.{ℕ, List}
+use Rattle.std.proofs.Common.{subst}
 use Rattle.pw_value.specs.declared.value.Value.{Value}
 use Rattle.pw_value.specs.declared.value.Byte.{Byte}
 use Rattle.pw_db.specs.declared.database.Directives.{Directives}
 use Rattle.pw_alloc.specs.declared.located.Located.{Located}
-use Rattle.pw_object.specs.declared.object.Object.{Object}
 use Rattle.pw_image.specs.Image.{ImageValue}
 use Rattle.pw_machine.specs.Start.{image_start}
 use Rattle.pw_cmean.specs.Worlds as source
 use Rattle.pw_cmean.specs.Acts.{Moment}
-use Rattle.pw_run.specs.Runs.{Stage, AreAlike, Refines, Same, Through}
+use Rattle.pw_run.specs.Runs.{Stage, Refines, Same, Through}
 use Rattle.pw_agreement.specs.Agreement.{Agree, IsDefined}
 use Rattle.pw_sound.specs.CallGraphs.{Graph}
-use Rattle.pw_trace.specs.Traces.{Event, EventAlike, SameKind, calls_alone, calls_of, Notes, KeepRegisters}
+use Rattle.pw_trace.specs.Traces.{Event, EventAlike, calls_alone, calls_of, Notes, KeepRegisters}
 use Rattle.pw_trace.specs.Traffic.{ObeysTraffic}
-use Rattle.pw_trace.proofs.Likeness.{kind_of_itself}
 use Rattle.pw_trace.proofs.Meeting.{MetWith, met_with, carried}
 use Rattle.pw_trace.proofs.Traffic.{traffic_alike}
 use Rattle.pw_flowrun.specs.Programs.{Program}
-use Rattle.pw_flowrun.specs.FlowRun as flow
 use Rattle.pw_flowrun.specs.FlowRun.{flow_run}
 use Rattle.pw_webrun.specs.Programs.{graph_of}
 use Rattle.pw_webrun.specs.PlacedRun.{placed_run}
 use Rattle.pw_webrun.specs.Direction.{web_run, with_functions, MomentAlike}
-use Rattle.pw_webrun.specs.Laws.{DirectionKeeps, PlacesKeep, DirectionKeepsRuns, PlacesKeepRuns}
+use Rattle.pw_webrun.specs.Laws.{DirectionKeeps, PlacesKeep}
 use Rattle.pw_lines.specs.Standing.{EventInWords}
 use Rattle.pw_lines.specs.LineRun.{line_run}
-use Rattle.pw_lines.specs.Laws.{line_program, SelectionKeeps, SelectionKeepsRuns, AreBytes}
-use Rattle.pw_linkrun.specs.MachineRun.{traced_run}
-use Rattle.pw_linkrun.specs.Laws.{LinkKeeps, LinkKeepsRuns, address_of, frame_in, map_of, image_run}
+use Rattle.pw_lines.specs.Laws.{line_program, SelectionKeeps}
+use Rattle.pw_linkrun.specs.Laws.{LinkKeeps, address_of, frame_in, map_of, image_run}
 use Rattle.pw_layers.specs.Source.{source_stages, source_runs}
-use Rattle.pw_layers.specs.Lowering.{MomentKept, LoweringKeepsRuns}
-use Rattle.pw_layers.specs.Rooms.{MapHasFrames}
-use Rattle.pw_layers.specs.Whole.{InMachine, image_of, program_of, IsBuilt, Holds, LayersCompose}
+use Rattle.pw_layers.specs.Lowering.{MomentKept}
+use Rattle.pw_layers.specs.Whole.{InMachine, image_of, program_of, LayersCompose}
 use Rattle.pw_layers.proofs.Agreement.{source_to_machine, source_to_webs, source_to_lines, agrees, places_kind, words_kind, same_kind}
 use Rattle.pw_layers.proofs.Noted.{defined_notes, registers_closed, traffic_closed, same_logs, same_kinds}
 

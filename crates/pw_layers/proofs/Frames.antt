@@ -1,5 +1,5 @@
 -- Frames are within rooms, by the laws of lowering, places and the map.
-use Rattle.std.specs.Prelude.{ℕ, ◌≡◌, ◌≤◌, ◌<◌, Bool, true, false, if◌then◌else◌, List, [], ◌∷◌, ◌++◌, map, length, Contains}
+use Rattle.std.specs.Prelude.{ℕ, ◌≡◌, ◌≤◌, ◌<◌, Bool, true, false, if◌then◌else◌, List, [], ◌∷◌, map, Contains}
 use Rattle.std.specs.List.{flat_map, AllByRecursion}
 use Rattle.std.specs.Str.{bytes_eq}
 use Rattle.std.proofs.Common.{arith, subst, sym, ap, refl, inl, inr, ◌∙◌}
@@ -7,10 +7,10 @@ use Rattle.std.proofs.lemmas.List.Elements.{All-contains, All-from_recursion, Co
 use Rattle.std.proofs.lemmas.List.Concat.{flat_map-cons}
 use Rattle.pw_value.specs.ProgramNames.{start_name}
 use Rattle.pw_types.specs.TypedTrees.{Symbol, External, Internal, Hidden, FunctionValue, ModuleValue}
-use Rattle.pw_types.specs.Rooms.{room_of, start_room}
+use Rattle.pw_types.specs.Rooms.{room_of}
 use Rattle.pw_types.specs.TypedModules.{WellTyped}
 use Rattle.pw_db.specs.declared.database.Directives.{Directives}
-use Rattle.pw_db.specs.Database.{IsDirectives, empty}
+use Rattle.pw_db.specs.Database.{IsDirectives}
 use Rattle.pw_flow.specs.declared.flow.FlowFn.{FlowFn}
 use Rattle.pw_flow.specs.declared.flow.FlowModule.{FlowModule}
 use Rattle.pw_flow.specs.ValidFlow.{IsFunction, IsValid}
@@ -19,16 +19,15 @@ use Rattle.pw_webflow.specs.Direction.{directed}
 use Rattle.pw_lower.specs.Modules.{lowered, lowered_function, start_of, start_function, flow_room}
 use Rattle.pw_lower.specs.Expressions as lower
 use Rattle.pw_alloc.specs.declared.located.Located.{Located}
-use Rattle.pw_object.specs.declared.object.Object.{Object}
-use Rattle.pw_cmean.specs.Worlds.{Program, ProgramModule, full_name}
+use Rattle.pw_cmean.specs.Worlds.{ProgramModule, full_name}
 use Rattle.pw_flowrun.specs.Programs as flows
 use Rattle.pw_flowrun.specs.Programs.{functions_of}
 use Rattle.pw_webrun.specs.Direction.{directives_of, directed_by}
 use Rattle.pw_webrun.specs.Serving.{Serves, AllServe}
 use Rattle.pw_lines.specs.Laws.{FramesAre}
 use Rattle.pw_linkrun.specs.Laws.{frame_in}
-use Rattle.pw_layers.specs.Rooms.{LoweringFits, PlacesFit, MapHasFrames}
-use Rattle.pw_layers.specs.Whole.{image_of, program_of, IsBuilt, FramesFit, FramesCompose}
+use Rattle.pw_layers.specs.Rooms.{PlacesFit}
+use Rattle.pw_layers.specs.Whole.{image_of, program_of, FramesCompose}
 
 -- ---- elements
 

@@ -1,22 +1,18 @@
 -- What holds of all that a run notes between source and machine holds of the machine, where the source is defined.
-use Rattle.std.specs.Prelude.{ℕ, ◌≡◌, ◌≤◌, List, [], ◌∷◌}
-use Rattle.std.proofs.Common.{arith, subst, sym, ap, refl, ◌∙◌}
-use Rattle.pw_value.specs.declared.value.Value.{Value}
-use Rattle.pw_value.specs.declared.value.Byte.{Byte}
+use Rattle.std.specs.Prelude.{ℕ, ◌≡◌, List, [], ◌∷◌}
+use Rattle.std.proofs.Common.{arith, subst, ap, refl}
 use Rattle.pw_db.specs.declared.database.Directives.{Directives}
 use Rattle.pw_machine.specs.Core.{Core}
 use Rattle.pw_cmean.specs.Worlds as source
-use Rattle.pw_cmean.specs.Acts.{Moment, State, Ending, Undefined, StackFull, Exit, Bound, Wrong, Outcome, Gives, Ends}
+use Rattle.pw_cmean.specs.Acts.{Undefined, StackFull, Exit, Bound, Wrong, Outcome, Gives, Ends}
 use Rattle.pw_cmean.specs.SourceRun.{run_main, start_state, source_run, seen}
 use Rattle.pw_run.specs.Runs.{Stage, AreAlike, none, also, Refines, Same, Ended}
 use Rattle.pw_run.specs.Runs as run
 use Rattle.pw_agreement.specs.Agreement.{IsMeaningful, IsDefined}
 use Rattle.pw_sound.specs.CallGraphs.{Graph}
-use Rattle.pw_trace.specs.Traces.{Event, Called, Refused, Returned, Loaded, Stored, EventAlike, SameKind, calls_of, Notes, KeepsRegisters, KeepRegisters}
-use Rattle.pw_trace.specs.Traffic.{Obeys, ObeysTraffic}
-use Rattle.pw_trace.proofs.Likeness.{kind_of_alike, kind_of_itself}
-use Rattle.pw_trace.proofs.Meeting.{MetWith, carried}
-use Rattle.pw_trace.proofs.Traffic.{traffic_alike}
+use Rattle.pw_trace.specs.Traces.{Event, Called, Refused, Returned, Loaded, Stored, SameKind, Notes, KeepRegisters}
+use Rattle.pw_trace.specs.Traffic.{ObeysTraffic}
+use Rattle.pw_trace.proofs.Meeting.{MetWith}
 use Rattle.pw_lines.specs.LineRun.{refused}
 use Rattle.pw_linkrun.specs.MachineRun.{Map, traced_run}
 use Rattle.pw_linkrun.proofs.Growing.{IsClosed, notes_where_going, notes_where_over}

@@ -1,25 +1,24 @@
 -- From a global's value in the C meaning to its place in the machine, through the moments of all runs between.
-use Rattle.std.specs.Prelude.{ℕ, suc, ◌≡◌, ◌+◌, ◌%◌, ◌^◌, true, Option, Some, None, List, [], ◌∷◌}
-use Rattle.std.proofs.Common.{subst, sym, ap, refl, ◌∙◌}
+use Rattle.std.specs.Prelude.{ℕ, suc, ◌≡◌, Option, Some, None, List, [], ◌∷◌}
+use Rattle.std.proofs.Common.{subst, sym, ap, ◌∙◌}
 use Rattle.pw_value.specs.declared.value.Kind.{Kind}
 use Rattle.pw_value.specs.declared.value.Value.{Value}
 use Rattle.pw_value.specs.declared.value.Value.TheVariants as V
 use Rattle.pw_value.specs.declared.value.Byte.{Byte}
 use Rattle.pw_value.specs.declared.value.Byte.TheVariants as B
-use Rattle.pw_value.specs.declared.value.Pointer.{Pointer}
 use Rattle.pw_value.specs.declared.value.Pointer.TheVariants as P
 use Rattle.pw_value.specs.Objects.{Object, object_at}
 use Rattle.pw_flow.specs.declared.flow.FlowGlobal.{FlowGlobal}
 use Rattle.pw_cmean.specs.Acts as source
 use Rattle.pw_run.specs.Runs.{AreAlike, none, also, Through, Same}
-use Rattle.pw_trace.specs.Traces.{Standing, InMemory, InPlace, Event, Called, Refused, Returned, Loaded, Stored, StandAlike, in_memory, in_place, EventAlike, called, refused, returned, loaded, stored}
+use Rattle.pw_trace.specs.Traces.{Standing, Event, StandAlike, in_memory, in_place, EventAlike, called, refused, returned, loaded, stored}
 use Rattle.pw_flowrun.specs.Memory.{scalar_of}
 use Rattle.pw_flowrun.specs.Programs.{Program, globals_of}
 use Rattle.pw_flowrun.specs.FlowRun as flow
 use Rattle.pw_webrun.specs.Direction.{HoldsAs, StandsFor, AllStand, MomentAlike}
-use Rattle.pw_lines.specs.Standing.{pointer_address, byte_of, ByteStands, ValueStands, GlobalsAreNamed, EventInWords}
-use Rattle.pw_layers.specs.Lowering.{Follows, ByteKept, ValueKept, ScalarKept, GlobalKept, GlobalsKept, SameGlobals, MomentKept}
-use Rattle.pw_layers.specs.Whole.{OfLive, ByteInMachine, ValueInMachine, ScalarInMachine, GlobalInMachine, GlobalsInMachine, AllInMachine, InMachine}
+use Rattle.pw_lines.specs.Standing.{pointer_address, ByteStands, ValueStands, GlobalsAreNamed, EventInWords}
+use Rattle.pw_layers.specs.Lowering.{ByteKept, ValueKept, ScalarKept, GlobalKept, GlobalsKept, SameGlobals, MomentKept}
+use Rattle.pw_layers.specs.Whole.{ByteInMachine, ValueInMachine, ScalarInMachine, GlobalInMachine, GlobalsInMachine, AllInMachine, InMachine}
 
 -- where the object that stands for one stands
 abbrev through : (ℕ → ℕ) → (ℕ → ℕ) → ℕ → ℕ

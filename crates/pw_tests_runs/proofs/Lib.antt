@@ -2,3 +2,4 @@ mod Stories
 mod Programs
 mod PlacedRows
 mod LineRows
+mod LawfulRows
