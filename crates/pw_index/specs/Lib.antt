@@ -1,0 +1,4 @@
+pub mod Names
+pub mod Cases
+pub mod Scoping
+pub mod Nesting
