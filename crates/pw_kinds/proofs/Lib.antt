@@ -1,0 +1,3 @@
+pub mod TypeLists
+pub mod PairLemmas
+mod SizeLemmas
