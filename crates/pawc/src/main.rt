@@ -45,7 +45,7 @@ fn after_flush(answer: Answer, flushed: Result<(), Failed>) -> Answer
     ensures { result ≡ after_flush answer flushed }
 {
     match (answer, flushed) {
-        (Answer::Ended(_), Err(Failed)) => Answer::WriteFault,
+        (Answer::Done | Answer::Ended(_), Err(Failed)) => Answer::WriteFault,
         (answer, _) => answer,
     }
 }
@@ -63,7 +63,7 @@ fn obey<F: Files + AllocGlobal + Clone + Drop, I: Read + Drop, O: Write + Drop, 
     let mut out = StdSink::new(writer);
     let answer = pawc_top(files.alloc(), words, &mut store, &mut input, &mut out, err);
     let flushed = out.flush();
-    if flushed.is_err() && matches!(answer, Answer::Ended(_)) {
+    if flushed.is_err() && matches!(answer, Answer::Done | Answer::Ended(_)) {
         let _ = err.put(b"WriteFault\n");
     }
     after_flush(answer, flushed)

@@ -1,5 +1,5 @@
 -- The modules that are read in order are those of the map.
-use Rattle.std.proofs.Common.{◌≡◌, ℕ, zero, suc, ◌+◌, Bool, true, false, cond, not, List, [], ◌∷◌, ◌++◌, length, codes, Option, Some, None, IsSome, Contains, refl, sym, ap, ◌∙◌, subst, arith}
+use Rattle.std.proofs.Common.{◌≡◌, ℕ, zero, suc, ◌+◌, Bool, true, false, cond, not, List, [], ◌∷◌, ◌++◌, length, map, codes, Option, Some, None, IsSome, Contains, refl, sym, ap, ◌∙◌, subst, arith}
 use Rattle.std.specs.Prelude.{fold, insert}
 use Rattle.std.specs.Option.{option_map, option_map_or}
 use Rattle.std.specs.Ordering.{nat_cmp, is_lt}
@@ -15,7 +15,7 @@ use Rattle.std.proofs.lemmas.Cmp.{nat_list_cmp_total, tied_itself}
 use Rattle.std.proofs.lemmas.List.Elements.{All-contains_itself, All-weaker, recursion_from_All}
 use Rattle.pw_io.specs.Files.{Files, front_of}
 use Rattle.pw_io.proofs.FileMaps.{keys-order, keys-exact}
-use Rattle.pw_modules.specs.Modules.{Source, stem, is_module_file, with_module, module_map, modules_of}
+use Rattle.pw_modules.specs.Modules.{Source, stem, is_module_file, with_module, module_map, modules_of, names_of_modules}
 use Rattle.pw_modules.specs.Reading.{is_before, placed, with_file, module_files, sources_of}
 use Rattle.pw_modules.proofs.Exact.{file_split}
 
@@ -96,9 +96,9 @@ stepped files modules file names acc true text e found less all same = (
     is_some_of {o} h = subst (λ (q : Option (List ℕ)). IsSome q) (sym h) refl
 
 folded : (files modules : Files) (names acc : List (List ℕ)) → IsStrictlySortedBy by_bytes names → AllByRecursion (λ name. IsSome (finite.get files name)) names → AllByRecursion (Stands files names) acc
-    → sources_of files acc ≡ finite.entries modules → sources_of files (fold with_file acc names) ≡ finite.entries (fold (with_module files) modules names)
+    → sources_of files acc ≡ finite.entries modules → AllByRecursion (Stands files []) (fold with_file acc names) × (sources_of files (fold with_file acc names) ≡ finite.entries (fold (with_module files) modules names))
 unfolding IsStrictlySortedBy
-folded files modules [] acc sorted some all same = same
+folded files modules [] acc sorted some all same = (all, same)
 folded files modules (file ∷ names) acc (less, sorted) (here, some) all same =
     let t = there (finite.get files file) here in
     let step = stepped files modules file names acc (is_module_file file) t.0 refl t.1 less all same in
@@ -116,6 +116,21 @@ all_there files =
     recursion_from_All (λ name. IsSome (finite.get files name)) (finite.keys files)
     (All-weaker (Contains (finite.keys files)) (λ name. IsSome (finite.get files name)) (λ name within. (keys-exact files name).0 within) (finite.keys files) (All-contains_itself (finite.keys files)))
 
-pub read_in_order : (files : Files) → sources_of files (module_files (finite.keys files)) ≡ modules_of files
+-- the modules' files in order are there, and hold the modules
+in_order : (files : Files) → AllByRecursion (Stands files []) (module_files (finite.keys files)) × (sources_of files (module_files (finite.keys files)) ≡ modules_of files)
 unfolding module_map
-read_in_order files = folded files finite.empty (finite.keys files) [] (keys-order files) (all_there files) tt (sym entries-empty)
+in_order files = folded files finite.empty (finite.keys files) [] (keys-order files) (all_there files) tt (sym entries-empty)
+
+pub read_in_order : (files : Files) → sources_of files (module_files (finite.keys files)) ≡ modules_of files
+read_in_order files = (in_order files).1
+
+-- files that are there, by their names
+stems_of : (files : Files) (acc : List (List ℕ)) → AllByRecursion (Stands files []) acc → map stem acc ≡ map (λ (s : Source). s.0) (sources_of files acc)
+stems_of files [] all = refl
+stems_of files (x ∷ xs) ((own, some, none), all) =
+    let t = there (finite.get files x) some in
+    ap (λ (l : List (List ℕ)). stem x ∷ l) (stems_of files xs all) ∙ ap (map (λ (s : Source). s.0)) (sym (sources_first files x t.0 xs t.1))
+
+-- the names of the modules' files in order are the modules' names
+pub names_in_order : (files : Files) → map stem (module_files (finite.keys files)) ≡ names_of_modules files
+names_in_order files = stems_of files (module_files (finite.keys files)) (in_order files).0 ∙ ap (map (λ (s : Source). s.0)) (read_in_order files)

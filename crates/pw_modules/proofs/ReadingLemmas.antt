@@ -1,17 +1,19 @@
 -- Reading modules, one after another.
-use Rattle.std.proofs.Common.{◌≡◌, ℕ, zero, suc, List, [], ◌∷◌, ◌++◌, map, take, Option, Some, None, refl, sym, ap, ◌∙◌, subst, append_assoc}
-use Rattle.std.specs.Prelude.{IfSome, IfOk, Result, Vec, option_to_list}
+use Rattle.std.proofs.Common.{◌≡◌, ℕ, zero, suc, true, List, [], ◌∷◌, ◌++◌, map, take, Option, Some, None, refl, sym, ap, ◌∙◌, subst, append_assoc}
+use Rattle.std.specs.Prelude.{All, IfSome, IfOk, Result, Vec, option_to_list}
 use Rattle.std.specs.Option.{option_map}
 use Rattle.std.specs.List.{cons_option}
+use Rattle.std.proofs.lemmas.List.Elements.{All-map, All-weaker}
 use Rattle.std.specs.FinMap as finite
 use Rattle.pw_io.specs.Files.{Files, Told, Keeps, front_of}
 use Rattle.pw_io.specs.declared.StoreError.{StoreError}
 use Rattle.std.specs.declared.alloc.Global.{Global}
 use Rattle.pw_modules.specs.declared.modules.Module.{Module}
-use Rattle.pw_modules.specs.Modules.{Source, modules_of}
+use Rattle.pw_modules.specs.Modules.{Source, IsModuleFile, is_module_name, modules_of, names_of_modules, stem}
 use Rattle.pw_modules.specs.Reading.{source_of, sources_of, module_files}
 use Rattle.pw_modules.specs.Views.{source}
-use Rattle.pw_modules.proofs.Order.{read_in_order}
+use Rattle.pw_modules.proofs.Order.{read_in_order, names_in_order}
+use Rattle.pw_modules.proofs.Exact.{file_split}
 
 take_take_same : (n : ℕ) (xs : List ℕ) → take n (take n xs) ≡ take n xs
 take_take_same zero xs = refl
@@ -69,3 +71,18 @@ modules_of_names (Some told) now names files result e same f h =
     let P : Option Told → Type 0 = λ o. IfSome o (λ t. IfOk result (λ modules. map source modules.items ≡ sources_of t.files files)) in
     let Q : List Source → Type 0 = λ sources. IfOk result (λ modules. map source modules.items ≡ sources) in
     subst Q (ap (sources_of told.files) (f ∙ ap module_files e) ∙ read_in_order told.files) (subst P same h)
+
+-- the names so far with one more, before those of the files that are left
+pub names_step : (old new : List (List ℕ)) (file name : List ℕ) (rest left all : List (List ℕ)) → old ++ map stem left ≡ all → left ≡ file ∷ rest → new ≡ old ++ name ∷ [] → name ≡ stem file → new ++ map stem rest ≡ all
+names_step old new file name rest left all inv e f g =
+    ap (λ xs. xs ++ map stem rest) f ∙ append_assoc old (name ∷ []) (map stem rest)
+    ∙ ap (λ n. old ++ n ∷ map stem rest) g ∙ ap (λ xs. old ++ map stem xs) (sym e) ∙ inv
+
+-- the names of the modules, by the names of all files that a store tells
+pub names_of_files : (first : Option Told) (all files names : List (List ℕ)) → IfSome first (λ told. all ≡ finite.keys told.files) → files ≡ module_files all → names ≡ map stem files → IfSome first (λ told. names ≡ names_of_modules told.files)
+names_of_files None all files names e f g = tt
+names_of_files (Some told) all files names e f g = g ∙ ap (map stem) (f ∙ ap module_files e) ∙ names_in_order told.files
+
+-- the names of modules' files are modules' names
+pub stems_are_names : (files : List (List ℕ)) → All IsModuleFile files → All (λ name. is_module_name name ≡ true) (map stem files)
+stems_are_names files all = All-map (λ name. is_module_name name ≡ true) stem files (All-weaker IsModuleFile (λ file. is_module_name (stem file) ≡ true) (λ file h. (file_split file h).1) files all)

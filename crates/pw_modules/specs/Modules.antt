@@ -1,5 +1,5 @@
 -- The modules of a store: each file named `NAME.i` is the module NAME, and their order is that of these names.
-use Rattle.std.specs.Prelude.{◌≡◌, ℕ, ◌-◌, Bool, true, ◌==◌, ◌&&◌, ◌||◌, nat_le, List, length, take, drop, fold, codes, ◌++◌, Some, if◌then◌else◌}
+use Rattle.std.specs.Prelude.{◌≡◌, ℕ, ◌-◌, Bool, true, ◌==◌, ◌&&◌, ◌||◌, nat_le, List, length, take, drop, map, fold, codes, ◌++◌, Some, if◌then◌else◌}
 use Rattle.std.specs.Option.{option_map, option_map_or}
 use Rattle.std.specs.List.{list_all}
 use Rattle.std.specs.Char.{is_ascii_alphanumeric}
@@ -50,3 +50,7 @@ Source = List ℕ × List ℕ
 -- the modules in the byte order of their names
 abbrev pub modules_of : Files → List Source
 modules_of files = finite.entries (module_map files)
+
+-- the names of the modules, in byte order
+abbrev pub names_of_modules : Files → List (List ℕ)
+names_of_modules files = map (λ source. source.0) (modules_of files)

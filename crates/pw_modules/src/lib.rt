@@ -7,4 +7,4 @@ mod sources;
 
 pub use laws::modules_are_exact;
 pub use modules::Module;
-pub use sources::read_modules;
+pub use sources::{module_names, read_modules};

@@ -1,10 +1,10 @@
 //! The texts of a store's modules, in the order of their names.
 
-ghost use Rattle.std.specs.Prelude.{◌≡◌, ◌≤◌, IfOk, OnOk, IfSome, All, map, ◌++◌, option_to_list, length, string_bytes};
+ghost use Rattle.std.specs.Prelude.{◌≡◌, ◌≤◌, IfOk, OnOk, IfSome, All, map, ◌++◌, true, option_to_list, length, string_bytes};
 ghost use Rattle.std.specs.Option.{option_map};
 ghost use Rattle.pw_io.specs.Files.{Keeps};
 ghost use Rattle.pw_io.specs.Faults.{HasStoreCause};
-ghost use Rattle.pw_modules.specs.Modules.{IsModuleFile, modules_of};
+ghost use Rattle.pw_modules.specs.Modules.{IsModuleFile, is_module_name, modules_of, names_of_modules, stem};
 ghost use Rattle.pw_modules.specs.Reading.{source_of, sources_of};
 ghost use Rattle.pw_modules.specs.Views.{source};
 
@@ -89,4 +89,38 @@ pub fn read_modules<S: Store>(alloc: Global, store: &mut S) -> Result<Vec<Module
         Ok(files) => read_sources(alloc, store, &files),
         Err(AllocError) => Err(StoreError::NoMemory),
     }
+}
+
+/// A module's name, from its file's.
+fn name_of(file: &String) -> Result<String, AllocError>
+    requires { IsModuleFile (string_bytes file.now) }
+    ensures { IfOk result (λ name. string_bytes name ≡ stem (string_bytes file.now)) }
+{
+    let mut name = file.clone()?;
+    name.truncate(name.len() - 2);
+    Ok(name)
+}
+
+/// The names of modules, from their files' names.
+fn names_of(alloc: Global, files: &[String]) -> Result<Vec<String>, AllocError>
+    requires { All (λ file. IsModuleFile (string_bytes file)) files.now }
+    ensures { IfOk result (λ names. map string_bytes names.items ≡ map stem (map string_bytes files.now)) }
+{
+    let mut names = Vec::new(alloc);
+    for file in files {
+        names.push(name_of(file)?)?;
+    }
+    Ok(names)
+}
+
+/// The names of the modules of a store, in byte order. The store stays as it is.
+pub fn module_names<S: Store>(alloc: Global, store: &mut S) -> Result<Vec<String>, StoreError>
+    ensures names { IfSome (S.told store.old) (λ told. IfOk result (λ names. map string_bytes names.items ≡ names_of_modules told.files)) }
+    ensures named { IfOk result (λ names. All (λ name. is_module_name (string_bytes name) ≡ true) names.items) }
+    ensures same { Keeps (S.told store.old) (S.told store.new) }
+    ensures cause { HasStoreCause (S.faults store.old) (S.faults store.new) result }
+{
+    let all = store.names(alloc)?;
+    let files = module_files(alloc, &all)?;
+    Ok(names_of(alloc, &files)?)
 }

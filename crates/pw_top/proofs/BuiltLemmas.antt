@@ -10,11 +10,13 @@ use Rattle.pw_sum.specs.Built.{EndsWithin, FramesFit, core_of, frames_of, rooms_
 use Rattle.pw_agreement.specs.Agreement.{Agree}
 use Rattle.pw_front.specs.Fronts.{Front, front_of}
 use Rattle.pw_modules.specs.Modules.{Source, modules_of}
-use Rattle.pw_top.specs.declared.answer.Answer.{Answer}
-use Rattle.pw_top.specs.declared.answer.Answer.TheVariants.{Ended}
+use Rattle.pw_answer.specs.declared.answer.Answer.{Answer}
+use Rattle.pw_answer.specs.declared.answer.Answer.TheVariants.{Ended}
 use Rattle.pw_top.specs.FullBuild as build
 use Rattle.pw_top.specs.FullBuild.{Build, alone, by_numbers, by_front, build_of_sources, full_build}
-use Rattle.pw_top.specs.TopCall.{is_go, run_answer, run_built, wanted_answer, Answers, ToldAs, BuiltAgrees, ReturnsSum}
+use Rattle.pw_top.specs.TopCall.{is_go, run_built, wanted_answer, BuiltAgrees, ReturnsSum}
+use Rattle.pw_running.specs.Running.{run_answer}
+use Rattle.pw_answer.specs.Outcomes.{Answers, ToldAs}
 use Rattle.pw_top.proofs.TopLemmas.{told_by}
 
 -- what the public laws say of each sum program

@@ -1,4 +1,3 @@
 pub mod TopLemmas
-pub mod RunLemmas
 pub mod BuiltLemmas
 pub mod RefusalLemmas

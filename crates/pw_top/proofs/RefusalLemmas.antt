@@ -5,15 +5,17 @@ use Rattle.pw_io.specs.Files.{Files, Told}
 use Rattle.pw_front.specs.Fronts.{Front, Fronts, HoldsNoWant, Passes, front_of}
 use Rattle.pw_front.specs.Places.{refusal_line}
 use Rattle.pw_front.specs.declared.refusal.Refusal.{Refusal}
-use Rattle.pw_top.specs.declared.answer.Answer.{Answer}
-use Rattle.pw_top.specs.declared.answer.Answer.TheVariants.{Refused, LinkRefused}
+use Rattle.pw_answer.specs.declared.answer.Answer.{Answer}
+use Rattle.pw_answer.specs.declared.answer.Answer.TheVariants.{Refused, LinkRefused}
 use Rattle.pw_top.specs.FullBuild as build
 use Rattle.pw_top.specs.FullBuild.{Build, alone, by_numbers, by_front, build_of_sources, full_build, not_yet, refused_source}
 use Rattle.pw_modules.specs.Modules.{Source, modules_of}
 use Rattle.pw_value.specs.declared.fault.LinkFault.TheVariants.{NoMain}
 use Rattle.pw_top.specs.Refusals.{RefusesOne, RefusalIs, RefusalComes, NoMainIs, NoMainComes, HoldsNoWantOfMemory, IsProper}
 use Rattle.pw_sum.specs.SumProgram.{IsSumProgram, numbers_in}
-use Rattle.pw_top.specs.TopCall.{AnswersBuild, IsNoRefusal, IsRunAnswer, Refuses, ToldAs, is_go}
+use Rattle.pw_top.specs.TopCall.{AnswersBuild, Refuses, is_go}
+use Rattle.pw_answer.specs.Outcomes.{IsNoRefusal, ToldAs}
+use Rattle.pw_running.specs.Running.{IsRunAnswer}
 use Rattle.pw_top.proofs.TopLemmas.{told_by}
 
 -- what the public laws of the front and of the form say

@@ -6,25 +6,18 @@ use Rattle.pw_io.specs.declared.Failed.{Failed}
 use Rattle.pw_io.specs.Faults.{HasCause}
 use Rattle.pw_io.specs.Streams.{Appends, AppendsPart}
 use Rattle.pw_front.specs.declared.refusal.Refusal.{Refusal}
-use Rattle.pw_top.specs.declared.answer.Answer.{Answer}
-use Rattle.pw_top.specs.declared.answer.Answer.TheVariants.{Usage, Refused, LinkRefused, Halted, StoreFault, NoMemory}
+use Rattle.pw_answer.specs.declared.answer.Answer.{Answer}
+use Rattle.pw_answer.specs.declared.answer.Answer.TheVariants.{Usage, Refused, LinkRefused, Halted, StoreFault, NoMemory, BadFile}
 use Rattle.pw_top.specs.FullBuild as build
 use Rattle.pw_io.specs.Files.{Told}
 use Rattle.pw_top.specs.FullBuild.{Build, full_build}
-use Rattle.pw_top.specs.Answers.{line_text, NeedsMemory}
+use Rattle.pw_answer.specs.Answers.{line_text, NeedsMemory}
 use Rattle.pw_sum.specs.Code.{words_of}
 use Rattle.pw_sum.specs.Built.{start_of}
-use Rattle.pw_top.proofs.RunLemmas.{Ends, ends_itself, run_ends, untouched}
-use Rattle.pw_top.specs.TopCall.{is_go, run_built, build_rest, wanted_rest, WasReadInPart, LeavesInput, Answers, AnswersBuild, IsNoRefusal, Refuses, PutsOut, StoreCount, InputCount, OutputCount, Tells, ToldAs, IsLineOf, IsRunAnswer, LeavesStreams, refused_line}
-
--- what one put tells
-pub put_tells : (r : Result (Unit {0}) Failed) (old new : Option (List ℕ)) (before now : ℕ) (line : List ℕ) → OnOk r (Appends old new line) → OnErr r (AppendsPart old new line) → HasCause before now r → Tells line old new before now
-put_tells r old None before now line ok failed cause = tt
-put_tells (Ok u) None (Some after) before now line ok failed cause = absurd ok
-put_tells (Ok u) (Some first) (Some after) before now line ok failed cause = (line, [], sym (append-nil line), ok, inl refl)
-put_tells (Err e) None (Some after) before now line ok failed cause = absurd failed
-put_tells (Err e) (Some first) (Some after) before now line ok failed cause =
-    (take failed.0 line, drop failed.0 line, sym (take-append-drop failed.0 line), failed.2, inr cause)
+use Rattle.pw_running.proofs.RunLemmas.{Ends, ends_itself, run_ends, untouched}
+use Rattle.pw_top.specs.TopCall.{is_go, run_built, build_rest, wanted_rest, AnswersBuild, Refuses, IsLineOf, refused_line}
+use Rattle.pw_answer.specs.Outcomes.{WasReadInPart, LeavesInput, Answers, IsNoRefusal, PutsOut, StoreCount, InputCount, OutputCount, Tells, ToldAs, LeavesStreams}
+use Rattle.pw_running.specs.Running.{IsRunAnswer}
 
 no_memory_is_no_usage : NoMemory ≡ Usage → ⊥
 no_memory_is_no_usage e = cc
@@ -68,18 +61,21 @@ pub store_no_memory : (before now : ℕ) (answer : Answer) → NeedsMemory answe
 store_no_memory before now (Refused name refusal) n h = h
 store_no_memory before now (LinkRefused fault) n h = h
 store_no_memory before now (Halted halt at) n h = h
+store_no_memory before now (BadFile name at) n h = h
 store_no_memory before now _ n h = absurd n
 
 pub input_no_memory : (before now : ℕ) (answer : Answer) → NeedsMemory answer → InputCount before now answer → now ≡ before
 input_no_memory before now (Refused name refusal) n h = h
 input_no_memory before now (LinkRefused fault) n h = h
 input_no_memory before now (Halted halt at) n h = h
+input_no_memory before now (BadFile name at) n h = h
 input_no_memory before now _ n h = absurd n
 
 pub output_no_memory : (before now : ℕ) (answer : Answer) → NeedsMemory answer → OutputCount before now answer → now ≡ before
 output_no_memory before now (Refused name refusal) n h = h
 output_no_memory before now (LinkRefused fault) n h = h
 output_no_memory before now (Halted halt at) n h = h
+output_no_memory before now (BadFile name at) n h = h
 output_no_memory before now _ n h = absurd n
 
 -- the line that was told is the line of the build
@@ -96,6 +92,7 @@ pub run_leaves : (answer : Answer) (input input' output output' : Option (List �
 run_leaves Usage input input' output output' h = absurd h
 run_leaves (Refused name refusal) input input' output output' h = absurd h
 run_leaves (LinkRefused fault) input input' output output' h = absurd h
+run_leaves (BadFile name at) input input' output output' h = absurd h
 run_leaves StoreFault input input' output output' h = absurd h
 run_leaves _ input input' output output' h = tt
 
@@ -117,6 +114,7 @@ leaves_no_memory : (input wanted : List ℕ) (new : Option (List ℕ)) (answer :
 leaves_no_memory input wanted new (Refused name refusal) e n h = part_of_wanted input wanted new e h
 leaves_no_memory input wanted new (LinkRefused fault) e n h = part_of_wanted input wanted new e h
 leaves_no_memory input wanted new (Halted halt at) e n h = part_of_wanted input wanted new e h
+leaves_no_memory input wanted new (BadFile name at) e n h = part_of_wanted input wanted new e h
 leaves_no_memory input wanted new _ e n h = absurd n
 
 -- what the answer that is told leaves of the input

@@ -4,13 +4,14 @@ use Rattle.pw_front.specs.Fronts.{Fronts, HoldsNoWant, Passes}
 use Rattle.pw_front.specs.declared.refusal.Refusal.{Refusal}
 use Rattle.pw_value.specs.declared.fault.LinkFault.{LinkFault}
 use Rattle.pw_value.specs.declared.fault.LinkFault.TheVariants as link
-use Rattle.pw_top.specs.declared.answer.Answer.{Answer}
-use Rattle.pw_top.specs.declared.answer.Answer.TheVariants.{Refused, LinkRefused}
+use Rattle.pw_answer.specs.declared.answer.Answer.{Answer}
+use Rattle.pw_answer.specs.declared.answer.Answer.TheVariants.{Refused, LinkRefused}
 use Rattle.pw_top.specs.FullBuild as build
 use Rattle.pw_top.specs.FullBuild.{Build, not_yet}
 use Rattle.pw_modules.specs.Modules.{Source}
 use Rattle.pw_sum.specs.SumProgram.{IsSumProgram}
-use Rattle.pw_top.specs.TopCall.{is_go, RefusesAs}
+use Rattle.pw_top.specs.TopCall.{is_go}
+use Rattle.pw_answer.specs.Outcomes.{RefusesAs}
 
 -- The front refuses the module's text.
 abbrev pub IsRefusedByFront : Source → List ℕ → Refusal → Type 0

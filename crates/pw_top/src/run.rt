@@ -3,11 +3,13 @@
 ghost use Rattle.std.specs.Prelude.{◌≡◌, ◌<◌, ◌≤◌, IfSome, length};
 ghost use Rattle.pw_machine.specs.Run.{run_of};
 ghost use Rattle.pw_sum.specs.Built.{start_of};
-ghost use Rattle.pw_top.specs.TopCall.{run_answer, run_output, run_rest, LeavesInput, stop_answer, Answers, IsRunAnswer, PutsOut, InputCount, OutputCount};
+ghost use Rattle.pw_answer.specs.Outcomes.{Answers, InputCount, LeavesInput, OutputCount, PutsOut};
+ghost use Rattle.pw_running.specs.Running.{IsRunAnswer, run_answer, run_output, run_rest};
 
-use crate::answer::Answer;
+use pw_answer::Answer;
 use pw_io::{Sink, Source};
-use pw_machine::{Machine, Stop};
+use pw_machine::Machine;
+use pw_running::run_machine;
 use std::alloc::{AllocError, Global};
 
 /// The bytes of the stack.
@@ -15,20 +17,6 @@ const STACK: u32 = 1_048_576;
 
 /// The greatest count of instructions of a run.
 const BUDGET: u64 = 100_000_000;
-
-/// The answer to how a run stopped.
-fn answer_of(stop: Stop) -> Answer
-    ensures { result ≡ stop_answer stop }
-{
-    match stop {
-        Stop::Ended(status) => Answer::Ended(status),
-        Stop::StackStop => Answer::StackStop,
-        Stop::Spent => Answer::Spent,
-        Stop::Halted(halt, at) => Answer::Halted(halt, at),
-        Stop::ReadFault => Answer::ReadFault,
-        Stop::WriteFault => Answer::WriteFault,
-    }
-}
 
 /// Runs words from their first on.
 pub fn run_words<I: Source, O: Sink>(
@@ -47,7 +35,7 @@ pub fn run_words<I: Source, O: Sink>(
     ensures run { IsRunAnswer result }
 {
     match Machine::from_words(alloc, words, STACK) {
-        Ok(mut machine) => answer_of(machine.run(input, out, BUDGET)),
+        Ok(mut machine) => run_machine(&mut machine, input, out, BUDGET),
         Err(AllocError) => Answer::NoMemory,
     }
 }

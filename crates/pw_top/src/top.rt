@@ -7,13 +7,14 @@ ghost use Rattle.pw_top.specs.FullBuild.{full_build};
 ghost use Rattle.pw_modules.specs.Modules.{modules_of};
 ghost use Rattle.pw_top.specs.Refusals.{HoldsNoWantOfMemory, IsProper, NoMainComes, NoMainIs, RefusalComes, RefusalIs};
 ghost use Rattle.pw_top.specs.BuildViews.{build_view};
-ghost use Rattle.pw_top.specs.Answers.{line_text};
-ghost use Rattle.pw_top.specs.TopCall.{is_go, run_answer, run_output, run_built, run_rest, build_answer, build_output, build_rest, wanted_rest, LeavesInput, AnswersBuild, IsRunAnswer, IsObeyed, IsLineOf, wanted_answer, wanted_output, Answers, IsNoRefusal, Refuses, PutsOut, StoreCount, InputCount, OutputCount, Tells, ToldAs, BuiltAgrees, ReturnsSum, LeavesStreams, TellsSome, refused_line};
+ghost use Rattle.pw_answer.specs.Answers.{line_text};
+ghost use Rattle.pw_top.specs.TopCall.{is_go, run_built, build_answer, build_output, build_rest, wanted_rest, AnswersBuild, IsObeyed, IsLineOf, wanted_answer, wanted_output, Refuses, BuiltAgrees, ReturnsSum, refused_line};
+ghost use Rattle.pw_running.specs.Running.{run_answer, run_output, run_rest, IsRunAnswer};
+ghost use Rattle.pw_answer.specs.Outcomes.{LeavesInput, Answers, IsNoRefusal, PutsOut, StoreCount, InputCount, OutputCount, Tells, ToldAs, LeavesStreams, TellsSome};
 
-use crate::answer::Answer;
 use crate::build::{Built, build};
-use crate::line::{Line, line_of};
 use crate::run::run_words;
+use pw_answer::{Answer, tell};
 use pw_front::front_is_exact;
 use pw_io::{Sink, Source, Store, StoreError};
 use pw_sum::{Sum, form_is_exact, words_agree, words_of};
@@ -34,13 +35,6 @@ fn is_go(words: &[String]) -> bool
 struct Reply {
     answer: Answer,
     line: usize,
-}
-
-/// Puts a line, as far as the sink takes it.
-fn put_line<E: Sink>(err: &mut E, line: &[u8])
-    ensures { Tells line.now (E.taken err.old) (E.taken err.new) (E.faults err.old) (E.faults err.new) }
-{
-    let _ = err.put(line);
 }
 
 /// What the build came to: the answer to a refusal, or to the run of the program.
@@ -132,22 +126,6 @@ fn obey<S: Store, I: Source, O: Sink>(
     }
 }
 
-/// Tells an answer in its line. Where there is no memory for the line, the answer is that.
-fn tell<E: Sink>(alloc: Global, reply: Reply, err: &mut E) -> Answer
-    ensures answer { ToldAs reply.answer result }
-    ensures line { Tells (line_text reply.line result) (E.taken err.old) (E.taken err.new) (E.faults err.old) (E.faults err.new) }
-{
-    match line_of(alloc, &reply.answer, reply.line) {
-        Ok(Line::Fixed(text)) => put_line(err, text),
-        Ok(Line::Made(text)) => put_line(err, text.as_slice()),
-        Err(AllocError) => {
-            put_line(err, b"NoMemory\n");
-            return Answer::NoMemory;
-        }
-    }
-    reply.answer
-}
-
 /// Does what the words say with the store, the input and the output, and tells the answer on `err` in one line; an
 /// answer that the program ended has none. A fault of `err` changes nothing.
 ///
@@ -199,5 +177,5 @@ pub fn pawc_top<S: Store, I: Source, O: Sink, E: Sink>(
     form_is_exact();
     front_is_exact();
     let reply = obey(alloc, words, store, input, out);
-    tell(alloc, reply, err)
+    tell(alloc, reply.answer, reply.line, err)
 }

@@ -1,7 +1,8 @@
 use Rattle.pw_sum.specs.Code.{words_of}
 use Rattle.pw_sum.specs.Built.{start_of}
-use Rattle.pw_top.specs.TopCall.{run_built, run_rest}
-use Rattle.pw_top.proofs.RunLemmas.{untouched, run_ends}
+use Rattle.pw_top.specs.TopCall.{run_built}
+use Rattle.pw_running.specs.Running.{run_rest}
+use Rattle.pw_running.proofs.RunLemmas.{untouched, run_ends}
 use Rattle.pw_top.proofs.top.run_sum.Goals as goal
 
 pub returns-in-Ok-clause-answer : goal.returns-in-Ok-clause-answer

@@ -1,5 +1,5 @@
 use Rattle.std.proofs.Common.{append_assoc}
-use Rattle.pw_top.proofs.line.push_unsupported.Goals as goal
+use Rattle.pw_answer.proofs.line.push_unsupported.Goals as goal
 
 pub returns : goal.returns
 returns c =

@@ -1,15 +1,19 @@
-//! What the top call answers.
+//! What a call of the program answers.
 
 ghost use Rattle.std.specs.Prelude.{◌≡◌};
-ghost use Rattle.pw_top.specs.Answers.{status_of};
+ghost use Rattle.pw_answer.specs.Answers.{status_of};
 
 use pw_front::Refusal;
+use pw_io::StoreError;
 use pw_machine::Halt;
 use pw_value::{LinkFault, Name, Word};
+use std::alloc::AllocError;
 
 /// What a call of the program answers.
 #[derive(Debug, Drop)]
 pub enum Answer {
+    /// The command did what it is for.
+    Done,
     /// The program ran and ended with this status.
     Ended(u8),
     /// The words are no command line.
@@ -32,13 +36,42 @@ pub enum Answer {
     StoreFault,
     /// Memory ran out.
     NoMemory,
+    /// The file of this name, which the command needs, is absent, or is refused at this offset.
+    BadFile(Name, Option<usize>),
 }
 
-/// The status with which the process ends: that of the run where it ended, else one from 112 on.
+impl From<AllocError> for Answer {
+    ghost use Rattle.std.specs.Prelude.{◌≡◌};
+    ghost use Rattle.pw_answer.specs.declared.answer.Answer.TheVariants.{NoMemory};
+
+    ghost from_gives = { λ _ answer. answer ≡ NoMemory };
+
+    fn from(_none: AllocError) -> Answer {
+        Answer::NoMemory
+    }
+}
+
+impl From<StoreError> for Answer {
+    ghost use Rattle.std.specs.Prelude.{◌≡◌};
+    ghost use Rattle.pw_answer.specs.Outcomes.{store_answer};
+
+    ghost from_gives = { λ error answer. answer ≡ store_answer error };
+
+    fn from(error: StoreError) -> Answer {
+        match error {
+            StoreError::Failed => Answer::StoreFault,
+            StoreError::NoMemory => Answer::NoMemory,
+        }
+    }
+}
+
+/// The status with which the process ends: 0 where the command did what it is for, that of the run where it ended, else
+/// one from 112 on.
 pub fn status(answer: &Answer) -> u8
     ensures { result ≡ status_of answer.now }
 {
     match answer {
+        Answer::Done => 0,
         Answer::Ended(status) => *status,
         Answer::Usage => 112,
         Answer::Refused(_, _) => 113,
@@ -50,5 +83,6 @@ pub fn status(answer: &Answer) -> u8
         Answer::WriteFault => 119,
         Answer::StoreFault => 120,
         Answer::NoMemory => 121,
+        Answer::BadFile(_, _) => 122,
     }
 }

@@ -2,8 +2,8 @@
 
 ghost use Rattle.std.specs.Prelude.{◌≡◌, IfOk, OnOk, OnErr, ◌++◌, ◌<◌, ◌^◌, codes};
 ghost use Rattle.std.specs.Fmt.{decimal};
-ghost use Rattle.pw_top.specs.Answers.{feature_name, what_name, halt_name, lex_text, link_text, parse_text, refusal_text, line_text, NeedsMemory};
-ghost use Rattle.pw_top.specs.Lines.{line_bytes};
+ghost use Rattle.pw_answer.specs.Answers.{feature_name, what_name, bad_file_text, halt_name, lex_text, link_text, parse_text, refusal_text, line_text, NeedsMemory};
+ghost use Rattle.pw_answer.specs.Lines.{line_bytes};
 
 use crate::answer::Answer;
 use pw_front::Refusal;
@@ -232,6 +232,19 @@ fn halted_line(alloc: Global, halt: Halt, at: Word) -> Result<Vec<u8>, AllocErro
     Ok(text)
 }
 
+/// The line of a file that is absent or refused.
+fn bad_file_line(alloc: Global, name: &Name, at: Option<usize>) -> Result<Vec<u8>, AllocError>
+    ensures { IfOk result (λ text. text.items ≡ bad_file_text name.now at ++ codes "\n") }
+{
+    let mut text = Vec::from_slice(alloc, b"BadFile ")?;
+    text.extend_from_slice(name.as_bytes())?;
+    if let Some(offset) = at {
+        push_numbered(alloc, &mut text, b" at ", offset)?;
+    }
+    text.extend_from_slice(b"\n")?;
+    Ok(text)
+}
+
 /// A line that is told.
 #[derive(Debug, Drop)]
 pub enum Line {
@@ -251,7 +264,8 @@ pub fn line_of(alloc: Global, answer: &Answer, line: usize) -> Result<Line, Allo
         Answer::Refused(name, refusal) => Ok(Line::Made(refused_line(alloc, name, refusal, line)?)),
         Answer::LinkRefused(fault) => Ok(Line::Made(link_refused_line(alloc, fault)?)),
         Answer::Halted(halt, at) => Ok(Line::Made(halted_line(alloc, *halt, *at)?)),
-        Answer::Ended(_) => Ok(Line::Fixed(b"")),
+        Answer::BadFile(name, at) => Ok(Line::Made(bad_file_line(alloc, name, *at)?)),
+        Answer::Done | Answer::Ended(_) => Ok(Line::Fixed(b"")),
         Answer::Usage => Ok(Line::Fixed(b"usage\n")),
         Answer::StackStop => Ok(Line::Fixed(b"StackStop\n")),
         Answer::Spent => Ok(Line::Fixed(b"Spent\n")),

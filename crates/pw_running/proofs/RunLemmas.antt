@@ -10,7 +10,8 @@ use Rattle.pw_machine.specs.Effect.{Effect, Goes, Reads, Writes, Stops, effect_o
 use Rattle.pw_machine.specs.Run.{State, Progress, Running, Stopped, taken, reads, began, goes_on, run_of}
 use Rattle.pw_machine.specs.Stops.{IsRunFrom}
 use Rattle.pw_io.specs.Streams.{Appends}
-use Rattle.pw_top.specs.TopCall.{run_output, run_rest, stop_answer, IsWhole, PutsOut, LeavesInput, WasReadInPart}
+use Rattle.pw_answer.specs.Outcomes.{IsWhole, PutsOut, LeavesInput, WasReadInPart}
+use Rattle.pw_running.specs.Running.{run_output, run_rest, started, stop_answer}
 
 -- one list begins with another
 abbrev Begins : List ℕ → List ℕ → Type 0
@@ -45,10 +46,6 @@ run_grows s n (suc m) h =
     (λ less. let same : n ≡ suc m = omega arith in let P : ℕ → Type 0 = λ k. Begins (run_output (run_of k s)) (run_output (goes_on (run_of m s))) in subst P (sym same) (begins_itself _))
     (λ more. begins_longer (run_output (run_of n s)) (run_output (run_of m s)) _ (run_grows s n m more) (step_grows (run_of m s)))
     (cases_lt m n)
-
--- the state in which a run over an input starts
-abbrev pub started : Core → List ℕ → State
-started core input = record { core = core; rest = input; output = [] }
 
 -- all that was wanted was put out
 all_out : (budget : ℕ) (start last : State) (answer : _) (old new : Option (List ℕ)) → Appends old new last.output → run_output (run_of budget start) ≡ last.output → IsWhole answer [] → PutsOut (run_output (run_of budget start)) answer old new

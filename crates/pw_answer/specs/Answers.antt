@@ -1,5 +1,5 @@
 -- The status and the line of each answer.
-use Rattle.std.specs.Prelude.{ℕ, List, [], ◌++◌, codes}
+use Rattle.std.specs.Prelude.{ℕ, List, [], ◌++◌, codes, Option, Some, None}
 use Rattle.std.specs.Fmt.{decimal}
 use Rattle.pw_machine.specs.declared.ends.Halt.{Halt}
 use Rattle.pw_machine.specs.declared.ends.Halt.TheVariants.{Illegal, Unaligned, OutOfMemoryRange, TextWrite, BadBranch, BadBreak}
@@ -15,11 +15,12 @@ use Rattle.pw_value.specs.declared.fault.LinkFault.{LinkFault}
 use Rattle.pw_value.specs.declared.fault.LinkFault.TheVariants as link
 use Rattle.pw_value.specs.declared.fault.What.{What}
 use Rattle.pw_value.specs.declared.fault.What.TheVariants.{Modules, TextBytes, Functions, Globals}
-use Rattle.pw_top.specs.declared.answer.Answer.{Answer}
-use Rattle.pw_top.specs.declared.answer.Answer.TheVariants.{Ended, Usage, Refused, LinkRefused, StackStop, Spent, Halted, ReadFault, WriteFault, StoreFault, NoMemory}
+use Rattle.pw_answer.specs.declared.answer.Answer.{Answer}
+use Rattle.pw_answer.specs.declared.answer.Answer.TheVariants.{Done, Ended, Usage, Refused, LinkRefused, StackStop, Spent, Halted, ReadFault, WriteFault, StoreFault, NoMemory, BadFile}
 
 -- the status with which the process ends
 abbrev pub status_of : Answer → ℕ
+status_of Done = 0
 status_of (Ended status) = status
 status_of Usage = 112
 status_of (Refused name refusal) = 113
@@ -31,6 +32,7 @@ status_of ReadFault = 118
 status_of WriteFault = 119
 status_of StoreFault = 120
 status_of NoMemory = 121
+status_of (BadFile name at) = 122
 
 -- ---- the line that is told
 
@@ -93,8 +95,14 @@ halt_name TextWrite = codes "TextWrite"
 halt_name BadBranch = codes "BadBranch"
 halt_name BadBreak = codes "BadBreak"
 
--- The line of an answer, where a refused module is refused on this line of its text. A run that ended has none.
+-- the file, and where it is refused
+abbrev pub bad_file_text : List ℕ → Option ℕ → List ℕ
+bad_file_text name None = codes "BadFile " ++ name
+bad_file_text name (Some offset) = codes "BadFile " ++ name ++ codes " at " ++ decimal offset
+
+-- The line of an answer, where a refused module is refused on this line of its text. A command that is done and a run that ended have none.
 abbrev pub line_text : ℕ → Answer → List ℕ
+line_text line Done = []
 line_text line (Ended status) = []
 line_text line Usage = codes "usage" ++ newline
 line_text line (Refused name refusal) = name ++ codes ".i:" ++ decimal line ++ codes ": " ++ refusal_text refusal ++ newline
@@ -106,9 +114,11 @@ line_text line ReadFault = codes "ReadFault" ++ newline
 line_text line WriteFault = codes "WriteFault" ++ newline
 line_text line StoreFault = codes "StoreFault" ++ newline
 line_text line NoMemory = codes "NoMemory" ++ newline
+line_text line (BadFile name at) = bad_file_text name at ++ newline
 
 -- the answers whose lines name something, and are made for them
 abbrev pub NeedsMemory : Answer → Type 0
+NeedsMemory Done = ⊥
 NeedsMemory (Ended status) = ⊥
 NeedsMemory Usage = ⊥
 NeedsMemory (Refused name refusal) = Unit {0}
@@ -120,3 +130,4 @@ NeedsMemory ReadFault = ⊥
 NeedsMemory WriteFault = ⊥
 NeedsMemory StoreFault = ⊥
 NeedsMemory NoMemory = ⊥
+NeedsMemory (BadFile name at) = Unit {0}

@@ -1,5 +1,5 @@
 use Rattle.std.proofs.Common.{append_assoc}
-use Rattle.pw_top.proofs.line.push_lex_fault.Goals as goal
+use Rattle.pw_answer.proofs.line.push_lex_fault.Goals as goal
 
 pub returns-in_ok-push_numbered-in-Bad : goal.returns-in_ok-push_numbered-in-Bad
 returns-in_ok-push_numbered-in-Bad c = rw (c.in-Bad.is, c.in_ok-push_numbered-in-Bad.ensures) (simp append_assoc)

@@ -1,0 +1,10 @@
+//! What a call of the program answers: its status, the line that is told, and what an answer says of the store, the
+//! input and the output.
+#![tactic(auto)]
+
+mod answer;
+mod line;
+mod telling;
+
+pub use answer::{Answer, status};
+pub use telling::tell;

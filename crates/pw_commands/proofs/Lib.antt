@@ -1,0 +1,4 @@
+pub mod StopLemmas
+pub mod NeededLemmas
+pub mod RunningLemmas
+pub mod ObeysLemmas

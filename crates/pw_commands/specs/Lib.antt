@@ -1,0 +1,4 @@
+pub mod Needed
+pub mod Linking
+pub mod Running
+pub mod Outcome

@@ -1,0 +1,11 @@
+//! The separate commands over the files of a store: each reads the files that it needs, and puts or prints what it makes
+//! of them.
+#![tactic(auto)]
+
+mod kept;
+mod linking;
+mod needed;
+mod running;
+
+pub use linking::link_modules;
+pub use running::run_image;

@@ -1,0 +1,65 @@
+//! The files that a command needs: what stands in them, or the answer in its place.
+
+ghost use Rattle.std.specs.Prelude.{◌≡◌, ◌++◌, IfErr, IfOk, IfSome, length, string_bytes};
+ghost use Rattle.pw_io.specs.Files.{Keeps};
+ghost use Rattle.pw_value.specs.Names.{IsNameLength};
+ghost use Rattle.pw_commands.specs.Needed.{IsBadFile, IsRefusedFile, Needs, needed_bytes};
+ghost use Rattle.pw_commands.specs.Outcome.{IsFileStop, StopCount};
+
+use pw_answer::Answer;
+use pw_io::{Store, StoreError};
+use pw_value::{FileError, Name, NameError};
+use std::alloc::{AllocError, Global};
+
+/// How many bytes of a kept file are read, and count as the file.
+const KEPT_READ: usize = 268_435_456;
+
+/// The answer where a needed file is absent, or refused at an offset.
+pub fn bad_file(alloc: Global, name: &str, at: Option<usize>) -> Answer
+    requires { IsNameLength (length name.now) }
+    ensures bad { IsBadFile name.now at result }
+    ensures stop { IsFileStop result }
+{
+    match Name::new(alloc, name.as_bytes()) {
+        Ok(name) => Answer::BadFile(name, at),
+        Err(NameError::NoMemory) => Answer::NoMemory,
+        Err(NameError::Length) => unreachable!(),
+    }
+}
+
+/// The answer where a needed file was not read.
+pub fn refused(alloc: Global, name: &str, error: FileError) -> Answer
+    requires { IsNameLength (length name.now) }
+    ensures fault { IsRefusedFile name.now error result }
+    ensures stop { IsFileStop result }
+{
+    match error {
+        FileError::FileFault { at } => bad_file(alloc, name, Some(at)),
+        FileError::NoMemory => Answer::NoMemory,
+    }
+}
+
+/// The bytes of a needed file, as far as they count.
+pub fn read_needed<S: Store>(alloc: Global, store: &mut S, name: &str) -> Result<Vec<u8>, Answer>
+    requires { IsNameLength (length name.now) }
+    ensures bytes { IfSome (S.told store.old) (λ told. Needs (λ bytes. bytes.items) result (needed_bytes told.files name.now)) }
+    ensures same { Keeps (S.told store.old) (S.told store.new) }
+    ensures count { StopCount (S.faults store.old) (S.faults store.new) result }
+    ensures stop { IfErr result IsFileStop }
+{
+    match store.get(alloc, name, KEPT_READ) {
+        Ok(Some(bytes)) => Ok(bytes),
+        Ok(None) => Err(bad_file(alloc, name, None)),
+        Err(StoreError::Failed) => Err(Answer::StoreFault),
+        Err(StoreError::NoMemory) => Err(Answer::NoMemory),
+    }
+}
+
+/// The file of a module of one kind.
+pub fn file_of(alloc: Global, stem: &str, ending: &str) -> Result<String, AllocError>
+    ensures { IfOk result (λ name. string_bytes name ≡ stem.now ++ ending.now) }
+{
+    let mut name = String::from_str(alloc, stem)?;
+    name.push_str(ending)?;
+    Ok(name)
+}
