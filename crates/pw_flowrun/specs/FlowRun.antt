@@ -15,7 +15,7 @@ use Rattle.pw_flow.specs.declared.flow.FlowGlobal.{FlowGlobal}
 use Rattle.pw_flow.specs.declared.flow.FlowFn.{FlowFn}
 use Rattle.pw_run.specs.Runs.{View, Stage, Going, Over, Wrong, Ended, StackFull}
 use Rattle.pw_run.specs.Runs as run
-use Rattle.pw_flowrun.specs.Values.{binary}
+use Rattle.pw_flowrun.specs.Values.{binary, is_somewhere}
 use Rattle.pw_flowrun.specs.Memory.{is_of_kind, look, look_in, poke, poke_in, copy}
 use Rattle.pw_flowrun.specs.Programs.{Program, Library, GetChar, PutChar, Exit, library_at, function_named, block_at, global_named, global_number, start_objects}
 use Rattle.pw_flowrun.specs.Commands.{Command, Give, Combine, Look, Poke, Copied, GetGlobal, PutGlobal, Enter, Fail, command}
@@ -192,11 +192,11 @@ jumps b m = to_block (block_at m.frame.function b)
     to_block (Some next) = On (if b == m.frame.block + 1 then goes next else counted (goes next))
     to_block None = Astray
 
--- 0 goes one way, every other number and every pointer the other
+-- 0 goes one way, every other number and every pointer that leads anywhere the other
 abbrev pub branches : Value → ℕ → ℕ → Machine → Step
 branches (Num zero) b c m = jumps c m
 branches (Num (suc n)) b c m = jumps b m
-branches (At p) b c m = jumps b m
+branches (At p) b c m = if is_somewhere m.objects p then jumps b m else Astray
 branches v b c m = Astray
 
 -- all objects that were made from a number on end

@@ -5,6 +5,7 @@ ghost use Rattle.std.specs.List.{AllByRecursion, filter};
 ghost use Rattle.std.specs.Str.{bytes_eq};
 ghost use Rattle.pw_value.specs.declared.fault.LinkFault.{LinkFault};
 ghost use Rattle.pw_value.specs.Limits.{text_start};
+ghost use Rattle.pw_files.specs.Rising.{IsRising};
 ghost use Rattle.pw_object.specs.declared.object.Object.{Object};
 ghost use Rattle.pw_object.specs.Object.{IsObject};
 ghost use Rattle.pw_image.specs.Image.{IsImage};
@@ -27,10 +28,12 @@ pub fn linked_images_are_lawful()
     ensures { (objects : List Object) (stack : ℕ) → AllByRecursion IsObject objects → AreLinked objects stack → stack < 2 ^ 32 → IsImage (linked objects stack) }
 {}
 
-/// The modules stand in byte order of their names, and the objects of one name in the order given.
+/// The modules stand in byte order of their names, and the objects of one name in the order given; objects whose names
+/// rise stand as they are given.
 pub fn modules_stand_in_order()
     ensures order { (objects : List Object) → AreInOrder (in_order objects) }
     ensures names { (objects : List Object) (name : List ℕ) → filter (λ o. bytes_eq name o.module) (in_order objects) ≡ filter (λ o. bytes_eq name o.module) objects }
+    ensures stay { (objects : List Object) → IsRising (map (λ o. o.module) objects) → in_order objects ≡ objects }
 {}
 
 /// The words of each function and routine, its relocations done, stand in the text at its address, which the

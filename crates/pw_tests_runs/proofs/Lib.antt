@@ -3,3 +3,4 @@ mod Programs
 mod PlacedRows
 mod LineRows
 mod LawfulRows
+mod LawRows
