@@ -1,2 +1,4 @@
-pub mod ViewLemmas
-pub mod ChainSteps
+pub mod PlaceLemmas
+pub mod LinkedLemmas
+pub mod StateLemmas
+pub mod SwitchLemmas
