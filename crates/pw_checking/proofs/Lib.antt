@@ -1,4 +1,5 @@
 pub mod PlaceLemmas
 pub mod LinkedLemmas
+pub mod RecordLemmas
 pub mod StateLemmas
 pub mod SwitchLemmas

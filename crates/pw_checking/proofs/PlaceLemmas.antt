@@ -27,12 +27,13 @@ module _ {X : Type 0} where
       by None = refl
       by (Some y) = refl
 
-  pub changed_past : (n : ℕ) (f : X → X) (xs : List X) → length xs ≤ n → changed_at n f xs ≡ xs
-  changed_past n f [] past = refl
-  changed_past zero f (y ∷ rest) past = absurd (omega arith)
-  changed_past (suc n) f (y ∷ rest) past = ap (λ ys. y ∷ ys) (changed_past n f rest (omega arith))
-
 module _ {X Y : Type 0} (f : X → Y) where
+  -- a change past the end, which does not show
+  pub map_past : (g : Y → Y) (xs : List X) (n : ℕ) → length xs ≤ n → map f xs ≡ changed_at n g (map f xs)
+  map_past g [] n past = refl
+  map_past g (x ∷ xs) zero past = absurd (omega arith)
+  map_past g (x ∷ xs) (suc n) past = ap (λ ys. f x ∷ ys) (map_past g xs n (omega arith))
+
   pub map_put_at : (n : ℕ) (x : X) (xs : List X) → map f (put_at n x xs) ≡ put_at n (f x) (map f xs)
   map_put_at n x [] = refl
   map_put_at zero x (y ∷ rest) = refl

@@ -6,6 +6,7 @@ ghost use Rattle.std.specs.Option.{option_copied, option_map_or};
 ghost use Rattle.pw_types.specs.declared.kind.IntKind.TheVariants as K;
 ghost use Rattle.pw_rules.specs.States as spec;
 ghost use Rattle.pw_rules.specs.Declarations.{put_local};
+ghost use Rattle.pw_rules.specs.Functions.{declared_again};
 ghost use Rattle.pw_rules.specs.Leaves.{is_nil};
 ghost use Rattle.pw_rules.specs.Statements as statements;
 ghost use Rattle.pw_checking.specs.Changes as changes;
@@ -38,20 +39,18 @@ impl<'a> State<'a> {
     ) -> Result<(), AllocError>
         ensures { OnOk result (view_state self.new ≡ changes.entered_body (view_qtype result_type) (view_locals locals.items) (view_bindings bindings.now) names.entry (view_state self.old)) }
     {
-        let Ok(labels) = u32::try_from(names.len()) else {
-            return Err(AllocError);
-        };
+        let body = BodyState::begun(alloc, result_type, locals, names)?;
+        self.enter_parameters(bindings)?;
+        self.body = body;
+        Ok(())
+    }
+
+    // A scope is entered with the names and tags of the parameter list.
+    fn enter_parameters(&mut self, bindings: &Bindings<'a>) -> Result<(), AllocError>
+        ensures { OnOk result (view_state self.new ≡ spec.with_scopes (declared_again (view_bindings bindings.now)) (spec.one_deeper (view_state self.old))) }
+    {
         self.one_deeper()?;
         self.declare_again(bindings)?;
-        self.body = BodyState {
-            result: result_type,
-            locals,
-            names,
-            met: NameList::new(alloc),
-            labels,
-            switches: Vec::new(alloc),
-            loops: 0,
-        };
         Ok(())
     }
 
@@ -139,10 +138,12 @@ impl<'a> State<'a> {
     pub fn note_label(&mut self, name: &'a [u8]) -> Result<(), AllocError>
         ensures { OnOk result (view_state self.new ≡ changes.with_met name.now (view_state self.old)) }
     {
-        self.body.met.push(name)
+        self.body.met.push(name)?;
+        Ok(())
     }
 
     /// The innermost switch around.
+    #[tactic(auto, unfolding(crate::specs::StateViews::view_state), using(crate::proofs::SwitchLemmas::first_last))]
     pub fn innermost_switch(&self) -> Option<&SwitchState>
         ensures { option_map view_switch (option_copied result) ≡ statements.innermost_switch (view_state self.now) }
     {
@@ -162,6 +163,7 @@ impl<'a> State<'a> {
     }
 
     /// Leaves a switch, and answers what is known of it; of none that it has no cases.
+    #[tactic(auto, unfolding(crate::specs::StateViews::view_state), using(crate::proofs::PlaceLemmas::reverse_push))]
     pub fn leave_switch(&mut self, alloc: Global) -> SwitchState
         ensures switch { view_switch result ≡ option_map_or (λ w. w) (statements.innermost_switch (view_state self.old)) (statements.switch_of K.Int) }
         ensures state { view_state self.new ≡ statements.leave_switch (view_state self.old) }
@@ -177,6 +179,7 @@ impl<'a> State<'a> {
     }
 
     /// The innermost switch has a case more.
+    #[tactic(auto, unfolding(crate::specs::StateViews::view_state), using(crate::proofs::SwitchLemmas::none_changed))]
     pub fn add_case(&mut self, case: Case) -> Result<(), AllocError>
         ensures { OnOk result (view_state self.new ≡ changes.with_case (view_case case) (view_state self.old)) }
     {
@@ -187,6 +190,7 @@ impl<'a> State<'a> {
     }
 
     /// The default of the innermost switch is this label.
+    #[tactic(auto, unfolding(crate::specs::StateViews::view_state), using(crate::proofs::SwitchLemmas::none_changed))]
     pub fn set_default(&mut self, label: u32)
         ensures { view_state self.new ≡ changes.with_default label (view_state self.old) }
     {
@@ -203,10 +207,11 @@ impl<'a> State<'a> {
     }
 
     /// Whether a loop or a switch is around.
+    #[tactic(auto, unfolding(crate::specs::StateViews::view_state), using(crate::proofs::SwitchLemmas::some_shown, crate::proofs::SwitchLemmas::some_innermost))]
     pub fn is_breakable(&self) -> bool
         ensures { result ≡ (nat_lt 0 (view_state self.now).body.loops || not (is_nil (view_state self.now).body.switches)) }
     {
-        self.body.loops > 0 || !self.body.switches.is_empty()
+        self.body.loops > 0 || self.innermost_switch().is_some()
     }
 
     /// Enters a loop.

@@ -1,6 +1,6 @@
 //! Types, names with linkage and what is made, as the state knows them.
 
-ghost use Rattle.std.specs.Prelude.{◌≡◌, true, map, length, option_map, OnOk, IfOk};
+ghost use Rattle.std.specs.Prelude.{◌≡◌, true, Some, map, length, option_map, slice_get, OnOk, IfOk};
 ghost use Rattle.std.specs.Option.{option_copied};
 ghost use Rattle.pw_rules.specs.States as spec;
 ghost use Rattle.pw_rules.specs.Leaves as leaves;
@@ -59,6 +59,7 @@ impl<'a> State<'a> {
 
     /// Defines a structure or union of this kind. One that is defined already, or of another kind, no rule lets come:
     /// it answers want of memory.
+    #[tactic(auto, unfolding(crate::specs::StateViews::view_state), using(crate::proofs::RecordLemmas::kind_found, crate::proofs::RecordLemmas::kind_is, crate::proofs::RecordLemmas::defined_put))]
     pub fn define_record(
         &mut self,
         number: u32,
@@ -68,9 +69,8 @@ impl<'a> State<'a> {
         requires follows { Follows (spec.records_in (view_state self.old)) kind (view_content content) }
         ensures { OnOk result (view_state self.new ≡ spec.put_record number (defined kind (view_content content)) (view_state self.old)) }
     {
-        match self.types.records.record(number) {
-            Some(record) if record.content.is_none() && record.kind == kind => {}
-            _ => return Err(AllocError),
+        if !is_undefined(&self.types.records, number, kind) {
+            return Err(AllocError);
         }
         self.types.records.define(number, content);
         Ok(())
@@ -101,7 +101,8 @@ impl<'a> State<'a> {
     pub fn add_linked(&mut self, linked: LinkedName<'a>) -> Result<(), AllocError>
         ensures { OnOk result (view_state self.new ≡ spec.add_linked (view_linked linked.entry) (view_state self.old)) }
     {
-        self.types.linked.push(linked)
+        self.types.linked.push(linked)?;
+        Ok(())
     }
 
     /// The type of a name with linkage is this from here on.
@@ -187,5 +188,16 @@ impl<'a> State<'a> {
         ensures { view_state self.new ≡ spec.with_made (λ m. record m { counting = counting }) (view_state self.old) }
     {
         self.made.counting = counting;
+    }
+}
+
+// Whether this is a structure or union of the kind that is not defined yet.
+#[tactic(auto, using(crate::proofs::RecordLemmas::declared_shown))]
+fn is_undefined(records: &Types, number: u32, kind: RecordKind) -> bool
+    ensures { result ≡ true → slice_get records.now number ≡ Some (declared kind) }
+{
+    match records.record(number) {
+        Some(record) => record.content.is_none() && record.kind == kind,
+        None => false,
     }
 }

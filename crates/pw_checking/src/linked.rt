@@ -67,6 +67,7 @@ impl<'a> LinkedNames<'a> {
     }
 
     /// The type of a name is this from here on.
+    #[tactic(auto, using(crate::proofs::PlaceLemmas::map_same, crate::proofs::PlaceLemmas::map_changed, crate::proofs::PlaceLemmas::map_past))]
     pub fn set_type(&mut self, place: u32, ty: QType)
         ensures { linked_names self.new ≡ changed_at place (λ l. record l { ty = view_qtype ty }) (linked_names self.old) }
     {
@@ -76,6 +77,7 @@ impl<'a> LinkedNames<'a> {
     }
 
     /// A name is tentatively defined.
+    #[tactic(auto, using(crate::proofs::PlaceLemmas::map_same, crate::proofs::PlaceLemmas::map_changed, crate::proofs::PlaceLemmas::map_past))]
     pub fn set_tentative(&mut self, place: u32)
         ensures { linked_names self.new ≡ changed_at place (λ l. record l { tentative = true }) (linked_names self.old) }
     {
@@ -85,6 +87,7 @@ impl<'a> LinkedNames<'a> {
     }
 
     /// A name is defined.
+    #[tactic(auto, using(crate::proofs::PlaceLemmas::map_same, crate::proofs::PlaceLemmas::map_changed, crate::proofs::PlaceLemmas::map_past))]
     pub fn set_defined(&mut self, place: u32)
         ensures { linked_names self.new ≡ changed_at place (λ l. record l { defined = true }) (linked_names self.old) }
     {
@@ -94,6 +97,7 @@ impl<'a> LinkedNames<'a> {
     }
 
     /// The type and the first bytes of a name are these from here on.
+    #[tactic(auto, using(crate::proofs::PlaceLemmas::map_same, crate::proofs::PlaceLemmas::map_changed, crate::proofs::PlaceLemmas::map_past))]
     pub fn set_items(&mut self, place: u32, ty: QType, items: Vec<(u32, TItem)>)
         ensures { linked_names self.new ≡ changed_at place (λ l. record l { ty = view_qtype ty; items = map view_placed items.items }) (linked_names self.old) }
     {

@@ -105,7 +105,8 @@ impl<'a> State<'a> {
     pub fn enter_tag(&mut self, name: &'a [u8], tag: Tag) -> Result<(), AllocError>
         ensures { OnOk result (view_state self.new ≡ spec.enter_tag name.now tag (view_state self.old)) }
     {
-        self.scopes.names.declare_tag(name, tag)
+        self.scopes.names.declare_tag(name, tag)?;
+        Ok(())
     }
 
     /// What is declared at a place is another from here on, in its own scope.
@@ -119,7 +120,8 @@ impl<'a> State<'a> {
     pub fn one_deeper(&mut self) -> Result<(), AllocError>
         ensures { OnOk result (view_state self.new ≡ spec.one_deeper (view_state self.old)) }
     {
-        self.scopes.names.enter()
+        self.scopes.names.enter()?;
+        Ok(())
     }
 
     /// Leaves a scope: its names are gone, and what they hid is visible again.

@@ -1,8 +1,10 @@
 //! What is known while a module is checked.
 
-ghost use Rattle.std.specs.Prelude.{◌≡◌};
+ghost use Rattle.std.specs.Prelude.{◌≡◌, length, IfOk};
 ghost use Rattle.pw_rules.specs.States as spec;
 ghost use Rattle.pw_checking.specs.StateViews.{view_body_state, view_state};
+ghost use Rattle.pw_typed.specs.Views.{view_locals};
+ghost use Rattle.pw_types.specs.Views.{view_qtype};
 
 use crate::entity::{Entity, HiddenObject, SwitchState};
 use crate::linked::LinkedNames;
@@ -11,7 +13,7 @@ use pw_kinds::plain;
 use pw_rules::Slot;
 use pw_typed::{Local, TFunction};
 use pw_types::{CType, IntKind, QType, Types};
-use std::alloc::Global;
+use std::alloc::{AllocError, Global};
 
 /// The structures and unions, of each whether its members were begun, and the names with linkage in the order of their
 /// first declarations.
@@ -103,5 +105,28 @@ impl<'a> BodyState<'a> {
             switches: Vec::new(alloc),
             loops: 0,
         }
+    }
+
+    /// A function is read that has this result, these parameters and these names of labels.
+    pub(crate) fn begun(
+        alloc: Global,
+        result_type: QType,
+        locals: Vec<Local>,
+        names: NameList<'a>,
+    ) -> Result<BodyState<'a>, AllocError>
+        ensures { IfOk result (λ b. view_body_state b ≡ record spec.no_body { result = view_qtype result_type; locals = view_locals locals.items; names = names.entry; labels = length names.entry }) }
+    {
+        let Ok(labels) = u32::try_from(names.len()) else {
+            return Err(AllocError);
+        };
+        Ok(BodyState {
+            result: result_type,
+            locals,
+            names,
+            met: NameList::new(alloc),
+            labels,
+            switches: Vec::new(alloc),
+            loops: 0,
+        })
     }
 }
