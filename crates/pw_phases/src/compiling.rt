@@ -4,9 +4,12 @@ ghost use Rattle.std.specs.Prelude.{◌≡◌, IfOk};
 ghost use Rattle.std.specs.List.{AllByRecursion};
 ghost use Rattle.pw_flow.specs.ValidFlow.{IsFunction};
 ghost use Rattle.pw_db.specs.Database.{IsDirectives};
-ghost use Rattle.pw_phases.specs.Phases.{compiled, all_compiled};
+ghost use Rattle.pw_webflow.specs.Direction.{directed};
+ghost use Rattle.pw_alloc.specs.Allocation.{allocated};
+ghost use Rattle.pw_alloc.specs.ValidPlaces.{IsLocated};
+ghost use Rattle.pw_phases.specs.Phases.{code_of, compiled, all_compiled};
 
-use pw_alloc::allocate;
+use pw_alloc::{Located, allocate};
 use pw_db::Directives;
 use pw_delay::{Code, place};
 use pw_flow::FlowFn;
@@ -17,16 +20,34 @@ use pw_value::Name;
 use pw_webflow::direct;
 use std::alloc::{AllocError, Global};
 
+/// A function under its directives, with places.
+fn locate(alloc: Global, f: &FlowFn, d: &Directives) -> Result<Located, AllocError>
+    requires function { IsFunction f.now }
+    requires directives { IsDirectives d.now }
+    ensures value { IfOk result (λ l. l ≡ allocated (directed f.now d.now)) }
+    ensures lawful { IfOk result (λ l. IsLocated l) }
+{
+    let directed = direct(alloc, f, d)?;
+    allocate(alloc, &directed)
+}
+
+/// The code of a function with places.
+fn code_of(alloc: Global, located: &Located) -> Result<Code, AllocError>
+    requires { IsLocated located.now }
+    ensures { IfOk result (λ code. code ≡ code_of located.now) }
+{
+    let lines = select(alloc, located)?;
+    place(alloc, lines.as_slice())
+}
+
 /// A function as words, under its directives.
 fn compile(alloc: Global, f: &FlowFn, d: &Directives) -> Result<ObjectFn, AllocError>
     requires function { IsFunction f.now }
     requires directives { IsDirectives d.now }
     ensures { IfOk result (λ r. r ≡ compiled f.now d.now) }
 {
-    let directed = direct(alloc, f, d)?;
-    let located = allocate(alloc, &directed)?;
-    let lines = select(alloc, &located)?;
-    let Code { words, fixes } = place(alloc, lines.as_slice())?;
+    let located = locate(alloc, f, d)?;
+    let Code { words, fixes } = code_of(alloc, &located)?;
     Ok(ObjectFn {
         name: f.name.copy(alloc)?,
         frame: located.frame,

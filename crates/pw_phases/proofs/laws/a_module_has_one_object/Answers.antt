@@ -1,4 +1,4 @@
-use Rattle.std.proofs.Common.{◌≡◌, sym, ◌∙◌}
+use Rattle.std.proofs.Common.{sym, ◌∙◌}
 use Rattle.pw_flow.specs.FlowGraph.{named_in}
 use Rattle.pw_summarise.proofs.Orders.{one_ordered}
 use Rattle.pw_phases.proofs.laws.a_module_has_one_object.Goals as goal
