@@ -1,2 +1,5 @@
-pub mod ViewLemmas
-pub mod ChainSteps
+pub mod PlaceLemmas
+pub mod LinkedLemmas
+pub mod RecordLemmas
+pub mod StateLemmas
+pub mod SwitchLemmas

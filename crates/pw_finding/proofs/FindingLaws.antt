@@ -97,11 +97,11 @@ found_append best (c ∷ rest) q = found_append (with_cause best c.broken (fault
 
 -- ---- code that tests a point
 
-end_ok : (o : Option CheckFault) (x : Unit {0}) → told o (Ok tt) ≡ Ok x → o ≡ None
+pub end_ok : (o : Option CheckFault) (x : Unit {0}) → told o (Ok tt) ≡ Ok x → o ≡ None
 end_ok None x e = refl
 end_ok (Some f) x e = absurd (cc)
 
-end_err : (o : Option CheckFault) (fault : CheckFault) → told {A = Unit {0}} o (Ok tt) ≡ Err fault → o ≡ Some fault
+pub end_err : (o : Option CheckFault) (fault : CheckFault) → told {A = Unit {0}} o (Ok tt) ≡ Err fault → o ≡ Some fault
 end_err None fault e = absurd (cc)
 end_err (Some f) fault e = cc
 

@@ -1,10 +1,10 @@
 -- The run of a list of flow modules, by small steps. Counted as events are calls, those of the library too, and
 -- ends of blocks that go to another block than the next by number.
-use Rattle.std.specs.Prelude.{ℕ, zero, suc, ◌+◌, ◌-◌, ◌%◌, ◌^◌, ◌==◌, nat_lt, nat_le, ◌&&◌, Bool, true, false, if◌then◌else◌, Option, Some, None, List, [], ◌∷◌, ◌++◌, map, length, replicate, slice_get, slice_set, slice_index_or, sum_by, codes}
+use Rattle.std.specs.Prelude.{ℕ, zero, suc, ◌+◌, ◌-◌, ◌%◌, ◌^◌, ◌==◌, nat_lt, ◌&&◌, Bool, true, false, if◌then◌else◌, Option, Some, None, List, [], ◌∷◌, ◌++◌, length, replicate, slice_set, slice_index_or, sum_by, codes}
 use Rattle.pw_value.specs.declared.value.Kind.{Kind}
 use Rattle.pw_value.specs.declared.value.Kind.TheVariants.{S8, U8, S16, U16, W32}
 use Rattle.pw_value.specs.declared.value.Value.{Value}
-use Rattle.pw_value.specs.declared.value.Value.TheVariants.{Undefined, Num, Null, At, Piece}
+use Rattle.pw_value.specs.declared.value.Value.TheVariants.{Undefined, Num, At}
 use Rattle.pw_value.specs.declared.value.Byte.TheVariants as B
 use Rattle.pw_value.specs.Objects.{Object, with_object, ended}
 use Rattle.pw_flow.specs.declared.flow.Op.{Op}
@@ -15,7 +15,7 @@ use Rattle.pw_flow.specs.declared.flow.FlowGlobal.{FlowGlobal}
 use Rattle.pw_flow.specs.declared.flow.FlowFn.{FlowFn}
 use Rattle.pw_run.specs.Runs.{View, Stage, Going, Over, Wrong, Ended, StackFull}
 use Rattle.pw_run.specs.Runs as run
-use Rattle.pw_flowrun.specs.Values.{binary}
+use Rattle.pw_flowrun.specs.Values.{binary, is_somewhere}
 use Rattle.pw_flowrun.specs.Memory.{is_of_kind, look, look_in, poke, poke_in, copy}
 use Rattle.pw_flowrun.specs.Programs.{Program, Library, GetChar, PutChar, Exit, library_at, function_named, block_at, global_named, global_number, start_objects}
 use Rattle.pw_flowrun.specs.Commands.{Command, Give, Combine, Look, Poke, Copied, GetGlobal, PutGlobal, Enter, Fail, command}
@@ -192,11 +192,11 @@ jumps b m = to_block (block_at m.frame.function b)
     to_block (Some next) = On (if b == m.frame.block + 1 then goes next else counted (goes next))
     to_block None = Astray
 
--- 0 goes one way, every other number and every pointer the other
+-- 0 goes one way, every other number and every pointer that leads anywhere the other
 abbrev pub branches : Value → ℕ → ℕ → Machine → Step
 branches (Num zero) b c m = jumps c m
 branches (Num (suc n)) b c m = jumps b m
-branches (At p) b c m = jumps b m
+branches (At p) b c m = if is_somewhere m.objects p then jumps b m else Astray
 branches v b c m = Astray
 
 -- all objects that were made from a number on end

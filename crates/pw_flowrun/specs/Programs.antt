@@ -1,6 +1,6 @@
 -- A list of flow modules as a program: its functions and objects by their names and numbers.
-use Rattle.std.specs.Prelude.{ℕ, ◌+◌, ◌==◌, Bool, true, false, if◌then◌else◌, Option, Some, None, option_map, unwrap_or, List, [], ◌∷◌, ◌++◌, map, find, position, count_by, replicate, slice_get, codes, bytes_eq}
-use Rattle.std.specs.List.{flat_map}
+use Rattle.std.specs.Prelude.{ℕ, ◌≡◌, ◌<◌, ◌==◌, true, if◌then◌else◌, Option, Some, None, option_map, List, [], ◌∷◌, ◌++◌, map, find, position, count_by, replicate, slice_get, codes, bytes_eq, Contains}
+use Rattle.std.specs.List.{flat_map, AllByRecursion}
 use Rattle.std.specs.Cmp.Lexicographic.{slice_cmp}
 use Rattle.std.specs.Ordering.{nat_cmp, is_lt}
 use Rattle.pw_value.specs.declared.value.Byte.{Byte}
@@ -8,6 +8,7 @@ use Rattle.pw_value.specs.declared.value.Byte.TheVariants as B
 use Rattle.pw_value.specs.declared.value.Pointer.{Pointer}
 use Rattle.pw_value.specs.declared.value.Pointer.TheVariants as P
 use Rattle.pw_value.specs.Objects.{Object, with_bytes}
+use Rattle.pw_value.specs.ProgramNames.{library_functions}
 use Rattle.pw_value.specs.Values.{pieces_of}
 use Rattle.pw_flow.specs.declared.flow.Item.{Item}
 use Rattle.pw_flow.specs.declared.flow.Item.TheVariants.{Bytes, Address}
@@ -21,6 +22,16 @@ pub record Program : Type 0 where
   pub modules : List FlowModule
   pub frame_of : List ℕ → ℕ
   pub stack : ℕ
+
+-- ---- what a run is given
+
+-- the input is of bytes
+abbrev pub AreBytes : List ℕ → Type 0
+AreBytes input = AllByRecursion (λ byte. byte < 256) input
+
+-- the library's functions need no stack
+abbrev pub NoneForLibrary : (List ℕ → ℕ) → Type 0
+NoneForLibrary frame_of = (name : List ℕ) → Contains library_functions name → frame_of name ≡ 0
 
 -- ---- functions
 

@@ -1,7 +1,8 @@
 -- The laws of the layers, one after another, give what holds of a built program.
-use Rattle.std.specs.Prelude.{ℕ, List}
-use Rattle.std.proofs.Common.{subst}
+use Rattle.std.specs.Prelude.{ℕ, ◌≤◌, List}
+use Rattle.std.proofs.Common.{arith, subst}
 use Rattle.pw_value.specs.declared.value.Value.{Value}
+use Rattle.pw_value.specs.ProgramNames.{start_name}
 use Rattle.pw_value.specs.declared.value.Byte.{Byte}
 use Rattle.pw_db.specs.declared.database.Directives.{Directives}
 use Rattle.pw_alloc.specs.declared.located.Located.{Located}
@@ -14,7 +15,8 @@ use Rattle.pw_agreement.specs.Agreement.{Agree, IsDefined}
 use Rattle.pw_sound.specs.CallGraphs.{Graph}
 use Rattle.pw_trace.specs.Traces.{Event, EventAlike, calls_alone, calls_of, Notes, KeepRegisters}
 use Rattle.pw_trace.specs.Traffic.{ObeysTraffic}
-use Rattle.pw_trace.proofs.Meeting.{MetWith, met_with, carried}
+use Rattle.pw_trace.specs.Meeting.{MetWith}
+use Rattle.pw_trace.proofs.Meeting.{met_with, met_through, of_shown, carried}
 use Rattle.pw_trace.proofs.Traffic.{traffic_alike}
 use Rattle.pw_flowrun.specs.Programs.{Program}
 use Rattle.pw_flowrun.specs.FlowRun.{flow_run}
@@ -29,7 +31,10 @@ use Rattle.pw_linkrun.specs.Laws.{LinkKeeps, address_of, frame_in, map_of, image
 use Rattle.pw_layers.specs.Source.{source_stages, source_runs}
 use Rattle.pw_layers.specs.Lowering.{MomentKept}
 use Rattle.pw_layers.specs.Whole.{InMachine, image_of, program_of, LayersCompose}
-use Rattle.pw_layers.proofs.Agreement.{source_to_machine, source_to_webs, source_to_lines, agrees, places_kind, words_kind, same_kind}
+use Rattle.pw_layers.specs.Rooms.{MapHasFrames}
+use Rattle.pw_layers.proofs.Fitting.{places_fit}
+use Rattle.pw_layers.proofs.Starts.{starts, start_fits}
+use Rattle.pw_layers.proofs.Agreement.{source_to_machine, source_to_webs, source_to_places, agrees, places_kind, words_kind, same_kind}
 use Rattle.pw_layers.proofs.Noted.{defined_notes, registers_closed, traffic_closed, same_logs, same_kinds}
 
 -- what the lines note of registers holds of the machine
@@ -78,32 +83,45 @@ whole p q d functions v frame_of stack input l words =
     let all = source_to_machine q (address_of v) source (flow_run q input) webs places lines machine
     l.low l.direction.runs l.places.runs words l.link.runs in
     let to_webs = source_to_webs q source (flow_run q input) webs l.low l.direction.runs in
+    let to_places = source_to_places q source webs places to_webs l.places.runs in
     record {
       agree = agrees p frame_of stack input q (address_of v) (map_of q functions v) (image_start v.memory) all;
       places = all;
       registers = λ defined n. defined_notes (KeepRegisters d) (registers_closed d) p frame_of stack input (map_of q functions v) (image_start v.memory) defined
           (λ k. registers_down d (source k) lines machine l.link.runs
-          (met_with (Through (Through (MomentKept q) (MomentAlike q)) (Through (EventAlike Same Same) (EventInWords q (address_of v)))) (KeepRegisters d) calls_alone
-          (source k) lines l.selection.registers (source_to_lines q (address_of v) source webs places lines to_webs l.places.runs words k))) n;
+          (met_through (Through (Through (MomentKept q) (MomentAlike q)) (EventAlike Same Same)) (KeepRegisters d) (source k) (calls_of places) lines
+          (to_places k) (λ j. of_shown (KeepRegisters d) calls_alone (places j) lines (l.selection.registers j)))) n;
       traffic = λ defined n. defined_notes (ObeysTraffic (graph_of q) d) (traffic_closed (graph_of q) d) p frame_of stack input (map_of q functions v) (image_start v.memory) defined
           (λ k. traffic_down q (address_of v) (graph_of q) d (source k) webs places lines machine l.places.runs words l.link.runs
           (met_with (Through (MomentKept q) (MomentAlike q)) (ObeysTraffic (graph_of q) d) calls_alone (source k) webs l.direction.traffic (to_webs k))) n;
     }
 
-pub composes : LayersCompose
-composes low direction places selection link map p d functions objects stack input built bytes =
+-- by the law on the map
+pub composes : MapHasFrames → LayersCompose
+composes map sense low direction places selection link p d functions objects stack input built bytes =
     let q = program_of p objects stack in
     let v = image_of objects stack in
-    let frames = map q functions objects built.accepted.program built.made in
-    let l = link q d functions objects input built.accepted.program built.sound built.serve frames built.made built.fits bytes in
-    let s = selection q d functions l.addresses l.scratch input built.accepted.program built.sound built.serve frames l.lawful bytes in
+    let program = built.accepted.program in
+    let frames = map q d functions objects program built.serve built.made in
+    let first : frame_in v start_name ≤ 4096 =
+    start_fits places_fit q d functions frames built.serve program.modules built.database.directives (starts p.modules program.modules program.start) in
+    let enough : 4096 ≤ stack = built.enough in
+    let start : frame_in v start_name ≤ stack = omega (arith, first, enough) in
+    let l = link q d functions objects input program built.names built.database built.sound built.serve frames start built.made built.fits bytes in
+    let s = selection q d functions l.addresses l.scratch input program built.database built.sound built.serve frames start l.lawful bytes in
     let h = whole p q d functions v (frame_in v) stack input
     (record {
-      low = low p (frame_in v) stack input built.accepted;
-      direction = direction q d input built.accepted.program built.sound;
-      places = places q d functions input built.accepted.program built.sound built.serve;
+      low = low p (frame_in v) stack input built.accepted frames.library bytes;
+      direction = direction q d input program built.database built.sound;
+      places = places q d functions input program built.database built.sound built.serve;
       link = l;
       selection = s;
     })
     (subst (λ named. Refines (EventInWords q named) (placed_run (with_functions q functions) input) (line_run (line_program q functions) l.addresses l.scratch input)) l.named s.runs) in
-    record { agree = h.agree; places = h.places; registers = h.registers; traffic = h.traffic }
+    record {
+      sense = sense p (frame_in v) stack input built.checked built.accepted bytes;
+      agree = h.agree;
+      places = h.places;
+      registers = h.registers;
+      traffic = h.traffic;
+    }

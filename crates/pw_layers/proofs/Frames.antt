@@ -8,7 +8,8 @@ use Rattle.std.proofs.lemmas.List.Concat.{flat_map-cons}
 use Rattle.pw_value.specs.ProgramNames.{start_name}
 use Rattle.pw_types.specs.TypedTrees.{Symbol, External, Internal, Hidden, FunctionValue, ModuleValue}
 use Rattle.pw_types.specs.Rooms.{room_of}
-use Rattle.pw_types.specs.TypedModules.{WellTyped}
+use Rattle.pw_types.specs.TypedModules.{WellTyped, IsFunction as IsSourceFunction}
+use Rattle.pw_types.specs.Rooms.{start_room}
 use Rattle.pw_db.specs.declared.database.Directives.{Directives}
 use Rattle.pw_db.specs.Database.{IsDirectives}
 use Rattle.pw_flow.specs.declared.flow.FlowFn.{FlowFn}
@@ -26,18 +27,19 @@ use Rattle.pw_webrun.specs.Direction.{directives_of, directed_by}
 use Rattle.pw_webrun.specs.Serving.{Serves, AllServe}
 use Rattle.pw_lines.specs.Laws.{FramesAre}
 use Rattle.pw_linkrun.specs.Laws.{frame_in}
-use Rattle.pw_layers.specs.Rooms.{PlacesFit}
-use Rattle.pw_layers.specs.Whole.{image_of, program_of, FramesCompose}
+use Rattle.pw_lower_laws.specs.Parts.{partless}
+use Rattle.pw_layers.specs.Rooms.{MapHasFrames, PlacesFit}
+use Rattle.pw_layers.specs.Whole.{image_of, program_of, AllFramesFit}
 
 -- ---- elements
 
-nowhere : {X : Type 0} (x : X) → Contains [] x → ⊥
+pub nowhere : {X : Type 0} (x : X) → Contains [] x → ⊥
 nowhere x c = let h : c.0 < 0 = c.1 in omega (arith, h)
 
-first_there : {X : Type 0} (x : X) (xs : List X) → Contains (x ∷ xs) x
+pub first_there : {X : Type 0} (x : X) (xs : List X) → Contains (x ∷ xs) x
 first_there x xs = Contains-append_left (x ∷ []) xs x (0, omega arith, refl)
 
-map_there : {X Y : Type 0} (h : X → Y) (xs : List X) (x : X) → Contains xs x → Contains (map h xs) (h x)
+pub map_there : {X Y : Type 0} (h : X → Y) (xs : List X) (x : X) → Contains xs x → Contains (map h xs) (h x)
 map_there h [] x c = absurd (nowhere x c)
 map_there h (y ∷ ys) x c = elim (Contains-append_cases (y ∷ []) ys x c) [
   | inl first ↦ elim (Contains-push_cases [] y x first) [
@@ -83,12 +85,12 @@ are_directives : (d : List (List ℕ × Directives)) → AllByRecursion (λ f. I
 are_directives [] all name = record { each = tt; numbers = tt; globals = tt; registers = tt; free = refl }
 are_directives (g ∷ rest) all name = chosen (bytes_eq g.0 name) g.1 (directives_of rest name) all.0 (are_directives rest all.1 name)
 
-directed_name : (f : FlowFn) (d : Directives) → (directed f d).name ≡ f.name
+pub directed_name : (f : FlowFn) (d : Directives) → (directed f d).name ≡ f.name
 unfolding directed
 directed_name f d = refl
 
 -- the frame of a function in the map is at most the room of its flow graph
-frame_fits : PlacesFit → (q : flows.Program) (d : List (List ℕ × Directives)) (functions : List Located)
+pub frame_fits : PlacesFit → (q : flows.Program) (d : List (List ℕ × Directives)) (functions : List Located)
     → FramesAre q functions → AllServe (map (directed_by d) (functions_of q)) functions
     → AllByRecursion IsValid q.modules → AllByRecursion (λ f. IsDirectives f.1) d
     → (f : FlowFn) → Contains (functions_of q) f → q.frame_of f.name ≤ flow_room f
@@ -132,26 +134,30 @@ one_name home (External x) = refl
 one_name home (Internal x) = refl
 one_name home (Hidden k) = refl
 
-lowered_name : (name : List ℕ) (m : ModuleValue) (f : FunctionValue) → (lowered_function name m.records f).name ≡ full_name name f.name
+pub lowered_name : (name : List ℕ) (m : ModuleValue) (f : FunctionValue) → (lowered_function name m.records f).name ≡ full_name name f.name
 unfolding lowered_function
 lowered_name name m f = one_name name f.name
 
-pub composes : FramesCompose
-composes lowering fit map p d functions objects stack built =
+-- by the laws on the rooms of flow graphs, on places and on the map
+pub all_fit : ((home : List ℕ) (m : ModuleValue) (f : FunctionValue) → IsSourceFunction m f → partless f.body ≡ 0
+    → flow_room (lowered_function home m.records f) ≤ room_of m.records f)
+    → flow_room start_function ≤ start_room → PlacesFit → MapHasFrames → AllFramesFit
+all_fit lowering starts fit map p d functions objects stack built =
     let q = program_of p objects stack in
-    let frames = map q functions objects built.accepted.program built.made in
-    let fits = frame_fits fit q d functions frames built.serve built.accepted.program.modules built.sound.database.directives in
+    let frames = map q d functions objects built.accepted.program built.serve built.made in
+    let fits = frame_fits fit q d functions frames built.serve built.accepted.program.modules built.database.directives in
     record {
       functions = λ m f c h.
           let g = lowered_function m.name m.tree.records f in
           let a : frame_in (image_of objects stack) g.name ≤ flow_room g = fits g (in_modules p.modules m g c (in_module m.name m.tree f h)) in
+          let typed = All-contains (λ m. WellTyped m.tree) p.modules m built.accepted.typed.modules c in
           let b : flow_room g ≤ room_of m.tree.records f =
-          lowering m.name m.tree f (All-contains (λ m. WellTyped m.tree) p.modules m built.accepted.typed.modules c) h in
+          lowering m.name m.tree f (All-contains (IsSourceFunction m.tree) m.tree.functions f typed.functions h) (built.parts m f c h) in
           let both : frame_in (image_of objects stack) g.name ≤ room_of m.tree.records f = omega (arith, a, b) in
           subst (λ n. frame_in (image_of objects stack) n ≤ room_of m.tree.records f) (lowered_name m.name m.tree f) both;
       start = λ m c h.
           let a : frame_in (image_of objects stack) start_name ≤ flow_room start_function =
           fits start_function (in_modules p.modules m start_function c (start_in_module m.name m.tree h)) in
-          let b : flow_room start_function ≡ 136 = refl in
+          let b : flow_room start_function ≤ start_room = starts in
           omega (arith, a, b);
     }

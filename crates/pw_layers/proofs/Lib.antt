@@ -3,3 +3,6 @@ mod Agreement
 mod Noted
 mod Composition
 mod Frames
+pub mod Starts
+pub mod Fitting
+pub mod MapFrames

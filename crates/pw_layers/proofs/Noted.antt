@@ -10,10 +10,9 @@ use Rattle.pw_run.specs.Runs.{Stage, AreAlike, none, also, Refines, Same, Ended}
 use Rattle.pw_run.specs.Runs as run
 use Rattle.pw_agreement.specs.Agreement.{IsMeaningful, IsDefined}
 use Rattle.pw_sound.specs.CallGraphs.{Graph}
-use Rattle.pw_trace.specs.Traces.{Event, Called, Refused, Returned, Loaded, Stored, SameKind, Notes, KeepRegisters}
+use Rattle.pw_trace.specs.Traces.{Event, Called, Refused, Returned, Loaded, Stored, SameKind, Notes, KeepRegisters, with_refusal}
 use Rattle.pw_trace.specs.Traffic.{ObeysTraffic}
-use Rattle.pw_trace.proofs.Meeting.{MetWith}
-use Rattle.pw_lines.specs.LineRun.{refused}
+use Rattle.pw_trace.specs.Meeting.{MetWith}
 use Rattle.pw_linkrun.specs.MachineRun.{Map, traced_run}
 use Rattle.pw_linkrun.proofs.Growing.{IsClosed, notes_where_going, notes_where_over}
 use Rattle.pw_layers.specs.Source.{source_stages, source_runs, staged, shown, end_of}
@@ -39,38 +38,38 @@ defined_notes P closed p frame_of stack input m c defined met n =
 
 -- ---- the two properties
 
-registers_refused : (d : List (List ℕ × Directives)) (l : List (Event ℕ ℕ)) → KeepRegisters d (refused l) → KeepRegisters d l
+registers_refused : (d : List (List ℕ × Directives)) (l : List (Event ℕ ℕ)) → KeepRegisters d (with_refusal l) → KeepRegisters d l
 registers_refused d [] h = h
 registers_refused d (Called f gs rs ∷ l) h = h
 registers_refused d (Refused f ∷ l) h = h
-registers_refused d (Returned f gs rs ss ∷ l) h = h
+registers_refused d (Returned f k gs rs ss ∷ l) h = h
 registers_refused d (Loaded v ∷ l) h = h
 registers_refused d (Stored v ∷ l) h = h
 
-refused_registers : (d : List (List ℕ × Directives)) (l : List (Event ℕ ℕ)) → KeepRegisters d l → KeepRegisters d (refused l)
+refused_registers : (d : List (List ℕ × Directives)) (l : List (Event ℕ ℕ)) → KeepRegisters d l → KeepRegisters d (with_refusal l)
 refused_registers d [] h = h
 refused_registers d (Called f gs rs ∷ l) h = h
 refused_registers d (Refused f ∷ l) h = h
-refused_registers d (Returned f gs rs ss ∷ l) h = h
+refused_registers d (Returned f k gs rs ss ∷ l) h = h
 refused_registers d (Loaded v ∷ l) h = h
 refused_registers d (Stored v ∷ l) h = h
 
 pub registers_closed : (d : List (List ℕ × Directives)) → IsClosed (KeepRegisters d)
 registers_closed d = record { earlier = λ e l h. h.1; of_refused = registers_refused d; to_refused = refused_registers d }
 
-traffic_refused : (g : Graph) (d : List (List ℕ × Directives)) (l : List (Event ℕ ℕ)) → ObeysTraffic g d (refused l) → ObeysTraffic g d l
+traffic_refused : (g : Graph) (d : List (List ℕ × Directives)) (l : List (Event ℕ ℕ)) → ObeysTraffic g d (with_refusal l) → ObeysTraffic g d l
 traffic_refused g d [] h = h
 traffic_refused g d (Called f gs rs ∷ l) h = h
 traffic_refused g d (Refused f ∷ l) h = h
-traffic_refused g d (Returned f gs rs ss ∷ l) h = h
+traffic_refused g d (Returned f k gs rs ss ∷ l) h = h
 traffic_refused g d (Loaded v ∷ l) h = h
 traffic_refused g d (Stored v ∷ l) h = h
 
-refused_traffic : (g : Graph) (d : List (List ℕ × Directives)) (l : List (Event ℕ ℕ)) → ObeysTraffic g d l → ObeysTraffic g d (refused l)
+refused_traffic : (g : Graph) (d : List (List ℕ × Directives)) (l : List (Event ℕ ℕ)) → ObeysTraffic g d l → ObeysTraffic g d (with_refusal l)
 refused_traffic g d [] h = h
 refused_traffic g d (Called f gs rs ∷ l) h = h
 refused_traffic g d (Refused f ∷ l) h = h
-refused_traffic g d (Returned f gs rs ss ∷ l) h = h
+refused_traffic g d (Returned f k gs rs ss ∷ l) h = h
 refused_traffic g d (Loaded v ∷ l) h = h
 refused_traffic g d (Stored v ∷ l) h = h
 

@@ -118,7 +118,7 @@ called_follows : (p : Program) (named : List ℕ → ℕ) (f g : List ℕ) (thin
 called_follows p named f g things kept e d c objects same h names m (called k ss ts rs qs a) (called _ _ us _ ws b) =
     (m.0 ∙ same, all_follow p named things kept ss ts us objects h names m.1 a b)
 called_follows p named f g things kept e d c objects same h names m (refused k) b = absurd m
-called_follows p named f g things kept e d c objects same h names m (returned k ss ts rs qs xs ys a) b = absurd m
+called_follows p named f g things kept e d c objects same h names m (returned k i ss ts rs qs xs ys a) b = absurd m
 called_follows p named f g things kept e d c objects same h names m (loaded v) b = absurd m
 called_follows p named f g things kept e d c objects same h names m (stored v) b = absurd m
 
@@ -127,8 +127,8 @@ returned_follows : (p : Program) (named : List ℕ → ℕ) (f g : List ℕ) (th
     → MomentAlike p (flow.Returned g kept) e → EventAlike Same Same e d
     → EventAlike (ByteStands (pointer_address p named objects)) (ValueStands (pointer_address p named objects)) d c
     → InMachine p named (source.Returned f things) c
-returned_follows p named f g things kept e d c objects same h names m (returned k ss ts rs qs xs ys a) (returned _ _ us _ _ ws zs b) =
-    (m.0 ∙ same, all_follow p named things kept ss ts us objects h names m.1 a b)
+returned_follows p named f g things kept e d c objects same h names m (returned k i ss ts rs qs xs ys a) (returned _ _ _ us _ _ ws zs b) =
+    (m.0 ∙ same, m.1, all_follow p named things kept ss ts us objects h names m.2 a b)
 returned_follows p named f g things kept e d c objects same h names m (refused k) b = absurd m
 returned_follows p named f g things kept e d c objects same h names m (called k ss ts rs qs a) b = absurd m
 returned_follows p named f g things kept e d c objects same h names m (loaded v) b = absurd m

@@ -1,6 +1,6 @@
 -- What lowering owes: the flow graphs of a program do what the program means, and at each call and return the
 -- globals have the values that the C meaning gives them.
-use Rattle.std.specs.Prelude.{ℕ, suc, ◌≡◌, true, Option, Some, None, List, [], ◌∷◌, map, codes, Contains}
+use Rattle.std.specs.Prelude.{ℕ, suc, ◌≡◌, ◌≢◌, true, Option, Some, None, Ok, List, [], ◌∷◌, map, codes, Contains}
 use Rattle.pw_value.specs.declared.value.Kind.{Kind}
 use Rattle.pw_value.specs.declared.value.Value.{Value}
 use Rattle.pw_value.specs.declared.value.Value.TheVariants as V
@@ -15,13 +15,18 @@ use Rattle.pw_flow.specs.declared.flow.FlowGlobal.{FlowGlobal}
 use Rattle.pw_flow.specs.declared.flow.FlowFn.{FlowFn}
 use Rattle.pw_flow.specs.declared.flow.FlowModule.{FlowModule}
 use Rattle.pw_lower.specs.Modules.{lowered}
-use Rattle.pw_cmean.specs.Worlds.{Program}
+use Rattle.pw_tree.specs.Trees.{Module}
+use Rattle.pw_types.specs.TypedTrees.{FunctionValue}
+use Rattle.pw_rules.specs.Checks.{Checks}
+use Rattle.pw_lower_laws.specs.Parts.{partless}
+use Rattle.pw_cmean.specs.Worlds.{Program, ProgramModule}
 use Rattle.pw_cmean.specs.Acts as source
 use Rattle.pw_cmean.specs.Typed.{IsWellTyped}
+use Rattle.pw_cmean.specs.SourceRun.{source_run}
 use Rattle.pw_run.specs.Runs.{Refines, AreAlike}
 use Rattle.pw_flowrun.specs.Memory.{scalar_of}
 use Rattle.pw_flowrun.specs.Programs as flows
-use Rattle.pw_flowrun.specs.Programs.{globals_of, function_named}
+use Rattle.pw_flowrun.specs.Programs.{Library, library_at, library_shape, globals_of, function_named, AreBytes, NoneForLibrary}
 use Rattle.pw_flowrun.specs.FlowRun as flow
 use Rattle.pw_flowrun.specs.FlowRun.{flow_run}
 use Rattle.pw_webrun.specs.Programs.{IsProgram}
@@ -32,10 +37,13 @@ use Rattle.pw_layers.specs.Source.{source_stages}
 abbrev pub flow_program : Program → (List ℕ → ℕ) → ℕ → flows.Program
 flow_program p frame_of stack = record { modules = map (λ m. lowered m.name m.tree) p.modules; frame_of = frame_of; stack = stack }
 
--- all declarations of a name have shapes that agree, and `main` takes nothing and gives an int
+-- all declarations of a name, the library's among them, have shapes that agree, and `main` takes nothing and gives an
+-- int
 pub record DeclareAlike (p : flows.Program) : Type 0 where
   pub declared : (m n : FlowModule) (name s t : List ℕ) → Contains p.modules m → Contains p.modules n
       → Contains m.declared (name, s) → Contains n.declared (name, t) → Agree s t
+  pub library : (m : FlowModule) (g : Library) (name s : List ℕ) → Contains p.modules m → Contains m.declared (name, s)
+      → library_at name ≡ Some g → Agree s (library_shape g)
   pub main : (f : FlowFn) → function_named p main_name ≡ Some f → f.shape ≡ codes "fi"
 
 -- the modules are well typed, and their graphs make a program
@@ -43,6 +51,18 @@ pub record IsAccepted (p : Program) (frame_of : List ℕ → ℕ) (stack : ℕ) 
   pub typed : IsWellTyped p
   pub program : IsProgram (flow_program p frame_of stack)
   pub alike : DeclareAlike (flow_program p frame_of stack)
+
+-- each typed tree is what checking answers for a module
+pub record IsChecked (m : ProgramModule) : Type 0 where
+  pub syntax : Module
+  pub is : Checks syntax (Ok m.tree)
+
+abbrev pub AreChecked : Program → Type 0
+AreChecked p = (m : ProgramModule) → Contains p.modules m → IsChecked m
+
+-- no initialiser of a local by a list in braces or by a string is without parts
+abbrev pub HaveParts : Program → Type 0
+HaveParts p = (m : ProgramModule) (f : FunctionValue) → Contains p.modules m → Contains m.tree.functions f → partless f.body ≡ 0
 
 -- ---- the globals at calls and returns
 
@@ -90,10 +110,18 @@ MomentKept p (source.Called f objects) (flow.Called g kept) = (g ≡ f) × SameG
 MomentKept p (source.Returned f objects) (flow.Returned g kept) = (g ≡ f) × SameGlobals p objects kept
 MomentKept p m n = ⊥
 
--- ---- the law
+-- ---- the laws
+
+-- what the meaning of C owes: the run of an accepted program comes nowhere but to the ends that the meaning has
+abbrev pub SourceIsNeverWrong : Type 0
+SourceIsNeverWrong =
+    (p : Program) (frame_of : List ℕ → ℕ) (stack : ℕ) (input : List ℕ) →
+    AreChecked p → IsAccepted p frame_of stack → AreBytes input →
+    (n : ℕ) → (source_run p frame_of stack input n).end ≢ source.Wrong
 
 abbrev pub LoweringKeepsRuns : Type 0
 LoweringKeepsRuns =
-    (p : Program) (frame_of : List ℕ → ℕ) (stack : ℕ) (input : List ℕ) → IsAccepted p frame_of stack →
+    (p : Program) (frame_of : List ℕ → ℕ) (stack : ℕ) (input : List ℕ) →
+    IsAccepted p frame_of stack → NoneForLibrary frame_of → AreBytes input →
     Refines (MomentKept (flow_program p frame_of stack))
     (source_stages p frame_of stack input) (flow_run (flow_program p frame_of stack) input)

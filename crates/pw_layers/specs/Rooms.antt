@@ -1,29 +1,21 @@
--- What lowering, allocation and linking owe on frames: a frame is at most the room of its function, and the map has
--- the frames that allocation made.
-use Rattle.std.specs.Prelude.{ℕ, ◌≤◌, List, Contains}
-use Rattle.pw_types.specs.TypedTrees.{FunctionValue, ModuleValue}
-use Rattle.pw_types.specs.TypedModules.{WellTyped}
-use Rattle.pw_types.specs.Rooms.{room_of}
+-- What allocation and linking give on frames: a frame is at most the room of its flow graph, and the map has the
+-- frames that allocation made.
+use Rattle.std.specs.Prelude.{ℕ, ◌≤◌, List}
 use Rattle.pw_db.specs.declared.database.Directives.{Directives}
 use Rattle.pw_db.specs.Database.{IsDirectives}
 use Rattle.pw_flow.specs.declared.flow.FlowFn.{FlowFn}
 use Rattle.pw_flow.specs.ValidFlow.{IsFunction}
 use Rattle.pw_webflow.specs.Direction.{directed}
-use Rattle.pw_lower.specs.Modules.{lowered_function, flow_room}
+use Rattle.pw_lower.specs.Modules.{flow_room}
 use Rattle.pw_alloc.specs.declared.located.Located.{Located}
 use Rattle.pw_object.specs.declared.object.Object.{Object}
 use Rattle.pw_link.specs.Linking.{linked}
 use Rattle.pw_flowrun.specs.Programs.{Program}
 use Rattle.pw_webrun.specs.Programs.{IsProgram}
-use Rattle.pw_webrun.specs.Serving.{Serves}
+use Rattle.pw_webrun.specs.Direction.{directed_functions}
+use Rattle.pw_webrun.specs.Serving.{Serves, AllServe}
 use Rattle.pw_lines.specs.Laws.{FramesAre}
 use Rattle.pw_linkrun.specs.Laws.{AreObjectsOf, frame_in}
-
--- the room of a function's flow graph is at most that of its typed tree
-abbrev pub LoweringFits : Type 0
-LoweringFits =
-    (name : List ℕ) (m : ModuleValue) (f : FunctionValue) → WellTyped m → Contains m.functions f →
-    flow_room (lowered_function name m.records f) ≤ room_of m.records f
 
 -- the frame of a function whose places serve it is at most the room of its flow graph
 abbrev pub PlacesFit : Type 0
@@ -33,5 +25,6 @@ PlacesFit =
 -- the map of a linked image has the frames of its functions, and none for the library's
 abbrev pub MapHasFrames : Type 0
 MapHasFrames =
-    (p : Program) (functions : List Located) (objects : List Object) → IsProgram p → AreObjectsOf p functions objects →
+    (p : Program) (d : List (List ℕ × Directives)) (functions : List Located) (objects : List Object) →
+    IsProgram p → AllServe (directed_functions p d) functions → AreObjectsOf p functions objects →
     FramesAre (record p { frame_of = frame_in (linked objects p.stack) }) functions

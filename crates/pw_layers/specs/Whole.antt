@@ -1,5 +1,5 @@
 -- From the source to the machine: what the layers' laws give together.
-use Rattle.std.specs.Prelude.{ℕ, suc, ◌≡◌, ◌≤◌, ◌%◌, true, Option, Some, None, List, [], ◌∷◌, Contains}
+use Rattle.std.specs.Prelude.{ℕ, suc, ◌≡◌, ◌≢◌, ◌≤◌, ◌%◌, true, Option, Some, None, List, [], ◌∷◌, Contains}
 use Rattle.pw_value.specs.declared.value.Kind.{Kind}
 use Rattle.pw_value.specs.declared.value.Value.{Value}
 use Rattle.pw_value.specs.declared.value.Value.TheVariants as V
@@ -9,9 +9,11 @@ use Rattle.pw_value.specs.declared.value.Pointer.{Pointer}
 use Rattle.pw_value.specs.declared.value.Pointer.TheVariants as P
 use Rattle.pw_value.specs.Objects.{Object as Thing, object_at}
 use Rattle.pw_value.specs.ProgramNames.{start_name}
+use Rattle.pw_value.specs.Limits.{stack_least}
 use Rattle.pw_types.specs.TypedTrees.{FunctionValue}
 use Rattle.pw_types.specs.Rooms.{room_of, start_room}
 use Rattle.pw_db.specs.declared.database.Directives.{Directives}
+use Rattle.pw_db.specs.Database.{IsDatabase}
 use Rattle.pw_flow.specs.declared.flow.FlowGlobal.{FlowGlobal}
 use Rattle.pw_alloc.specs.declared.located.Located.{Located}
 use Rattle.pw_object.specs.declared.object.Object.{Object}
@@ -21,25 +23,26 @@ use Rattle.pw_machine.specs.Start.{image_start}
 use Rattle.pw_lower.specs.Modules.{start_of, start_function}
 use Rattle.pw_cmean.specs.Worlds.{Program, ProgramModule, full_name}
 use Rattle.pw_cmean.specs.Acts as source
-use Rattle.pw_run.specs.Runs.{Refines, AreAlike}
+use Rattle.pw_cmean.specs.SourceRun.{source_run}
+use Rattle.pw_run.specs.Runs.{Stage, Refines, AreAlike, Same}
 use Rattle.pw_agreement.specs.Agreement.{Agree, IsDefined}
 use Rattle.pw_sound.specs.Sound.{Sound}
-use Rattle.pw_trace.specs.Traces.{Standing, InMemory, InPlace, Event, Called, Returned, calls_of, Notes, KeepRegisters}
+use Rattle.pw_trace.specs.Traces.{Standing, InMemory, InPlace, Event, Called, Returned, EventAlike, calls_of, Notes, KeepRegisters}
 use Rattle.pw_trace.specs.Traffic.{ObeysTraffic}
 use Rattle.pw_flowrun.specs.Memory.{scalar_of}
 use Rattle.pw_flowrun.specs.Programs as flows
-use Rattle.pw_flowrun.specs.Programs.{globals_of}
+use Rattle.pw_flowrun.specs.FlowRun as flow
+use Rattle.pw_flowrun.specs.Programs.{globals_of, AreBytes}
 use Rattle.pw_webrun.specs.Programs.{graph_of}
-use Rattle.pw_webrun.specs.Direction.{directed_functions}
+use Rattle.pw_webrun.specs.Direction.{directed_functions, MomentAlike}
 use Rattle.pw_webrun.specs.Serving.{AllServe}
-use Rattle.pw_lines.specs.Standing.{pointer_address, byte_of}
-use Rattle.pw_linkrun.specs.Laws.{AreObjectsOf, address_of, frame_in, image_run}
+use Rattle.pw_lines.specs.Standing.{pointer_address, byte_of, EventInWords}
+use Rattle.pw_linkrun.specs.Laws.{AreObjectsOf, AreNamesApart, address_of, frame_in, image_run}
 use Rattle.pw_layers.specs.Source.{source_stages, source_runs}
 use Rattle.pw_webrun.specs.Laws.{DirectionKeepsRuns, PlacesKeepRuns}
-use Rattle.pw_lines.specs.Laws.{AreBytes, SelectionKeepsRuns}
+use Rattle.pw_lines.specs.Laws.{SelectionKeepsRuns}
 use Rattle.pw_linkrun.specs.Laws.{LinkKeepsRuns}
-use Rattle.pw_layers.specs.Lowering.{flow_program, IsAccepted, LoweringKeepsRuns}
-use Rattle.pw_layers.specs.Rooms.{MapHasFrames, LoweringFits, PlacesFit}
+use Rattle.pw_layers.specs.Lowering.{MomentKept, flow_program, IsAccepted, AreChecked, HaveParts, SourceIsNeverWrong, LoweringKeepsRuns}
 
 -- ---- C values in the machine's words
 
@@ -86,10 +89,11 @@ pub record AllInMachine (p : flows.Program) (named : List ℕ → ℕ) (objects 
   pub place : ℕ → ℕ
   pub each : GlobalsInMachine p named place objects (globals_of p) 0 globals
 
--- a call or a return of the source, and one of the machine
+-- a call or a return of the source, and one of the machine, where a return is that of the innermost call
 abbrev pub InMachine : flows.Program → (List ℕ → ℕ) → source.Moment → Event ℕ ℕ → Type 0
 InMachine p named (source.Called f objects) (Called g globals registers) = (g ≡ f) × AllInMachine p named objects globals
-InMachine p named (source.Returned f objects) (Returned g globals before after) = (g ≡ f) × AllInMachine p named objects globals
+InMachine p named (source.Returned f objects) (Returned g inner globals before after) =
+    (g ≡ f) × (inner ≡ 0) × AllInMachine p named objects globals
 InMachine p named m e = ⊥
 
 -- ---- a program and what was made of it
@@ -101,9 +105,15 @@ image_of objects stack = linked objects stack
 abbrev pub program_of : Program → List Object → ℕ → flows.Program
 program_of p objects stack = flow_program p (frame_in (image_of objects stack)) stack
 
--- an accepted program, sound directives, places that serve, and the objects made with them, which fit into the memory
+-- An accepted program, a lawful stack, sound directives, places that serve, and the objects made with them, which fit
+-- into the memory.
 pub record IsBuilt (p : Program) (d : List (List ℕ × Directives)) (functions : List Located) (objects : List Object) (stack : ℕ) : Type 0 where
+  pub checked : AreChecked p
+  pub parts : HaveParts p
   pub accepted : IsAccepted p (frame_in (image_of objects stack)) stack
+  pub names : AreNamesApart (program_of p objects stack)
+  pub enough : stack_least ≤ stack
+  pub database : IsDatabase d
   pub sound : Sound (graph_of (program_of p objects stack)) d
   pub serve : AllServe (directed_functions (program_of p objects stack) d) functions
   pub made : AreObjectsOf (program_of p objects stack) functions objects
@@ -112,6 +122,8 @@ pub record IsBuilt (p : Program) (d : List (List ℕ × Directives)) (functions 
 -- ---- what holds of them
 
 pub record Holds (p : Program) (d : List (List ℕ × Directives)) (functions : List Located) (objects : List Object) (stack : ℕ) (input : List ℕ) : Type 0 where
+  -- the source has no other ends than those of which agreement speaks
+  pub sense : (n : ℕ) → (source_run p (frame_in (image_of objects stack)) stack input n).end ≢ source.Wrong
   -- the source agrees with the machine
   pub agree : Agree (source_runs p (frame_in (image_of objects stack)) stack input) (image_start (image_of objects stack).memory) input
   -- each global has its value in its place at each call and return
@@ -133,14 +145,23 @@ pub record FramesFit (p : Program) (v : ImageValue) : Type 0 where
 
 -- ---- what follows from the laws of the layers
 
+-- runs each of which refines the one before it, from the source to the machine: the last refines the first
+abbrev pub RefinementGoesThrough : Type 0
+RefinementGoesThrough =
+    (p : flows.Program) (named : List ℕ → ℕ) (meaning : ℕ → Stage source.Moment) (graphs : ℕ → Stage flow.Moment)
+    (webs places : ℕ → Stage (Event Byte Value)) (lines machine : ℕ → Stage (Event ℕ ℕ)) →
+    Refines (MomentKept p) meaning graphs → Refines (MomentAlike p) graphs (calls_of webs) →
+    Refines (EventAlike Same Same) webs places → Refines (EventInWords p named) places lines → Refines Same lines machine →
+    Refines (InMachine p named) meaning (calls_of machine)
+
 abbrev pub LayersCompose : Type 0
 LayersCompose =
-    LoweringKeepsRuns → DirectionKeepsRuns → PlacesKeepRuns → SelectionKeepsRuns → LinkKeepsRuns → MapHasFrames →
+    SourceIsNeverWrong → LoweringKeepsRuns → DirectionKeepsRuns → PlacesKeepRuns → SelectionKeepsRuns → LinkKeepsRuns →
     (p : Program) (d : List (List ℕ × Directives)) (functions : List Located) (objects : List Object) (stack : ℕ) (input : List ℕ) →
     IsBuilt p d functions objects stack → AreBytes input → Holds p d functions objects stack input
 
-abbrev pub FramesCompose : Type 0
-FramesCompose =
-    LoweringFits → PlacesFit → MapHasFrames →
+-- of each built program, each frame is at most its function's room
+abbrev pub AllFramesFit : Type 0
+AllFramesFit =
     (p : Program) (d : List (List ℕ × Directives)) (functions : List Located) (objects : List Object) (stack : ℕ) →
     IsBuilt p d functions objects stack → FramesFit p (image_of objects stack)

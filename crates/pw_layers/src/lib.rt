@@ -1,18 +1,44 @@
 //! What the laws of all layers give together.
 #![tactic(auto)]
 
-ghost use Rattle.pw_layers.specs.Whole.{LayersCompose, FramesCompose};
+ghost use Rattle.pw_layers.specs.Rooms.{PlacesFit, MapHasFrames};
+ghost use Rattle.pw_layers.specs.Whole.{LayersCompose, AllFramesFit, RefinementGoesThrough};
 
-/// From the laws of lowering, direction, places, selection and linking follows of each built program: the source agrees
-/// with the machine; each global has its value in its place at each call and return; and where the source is defined,
-/// each return keeps the registers, and the traffic law holds.
+use pw_link_laws::laws::modules_stand_in_order;
+use pw_lower_laws::frames_fit;
+
+/// Where each run from the source to the machine refines the one before it, the machine's refines the source's.
+pub fn refinement_goes_through()
+    ensures { RefinementGoesThrough }
+{}
+
+/// The frame of a function whose places serve it is at most the room of its flow graph.
+#[tactic(auto, using(crate::proofs::Fitting::places_fit))]
+pub fn places_fit_their_rooms()
+    ensures { PlacesFit }
+{}
+
+/// The map of a linked image has the frames that its functions take, and none for the library's.
+pub fn maps_have_frames()
+    ensures { MapHasFrames }
+{
+    modules_stand_in_order();
+}
+
+/// From the laws of the meaning of C, of lowering, direction, places, selection and linking follows of each built
+/// program: the source agrees with the machine; each global has its value in its place at each call and return; and
+/// where the source is defined, each return keeps the registers, and the traffic law holds.
 pub fn layers_compose()
     ensures { LayersCompose }
-{}
+{
+    maps_have_frames();
+}
 
-/// From the laws of lowering, places and linking on frames follows of each built program: the frame of each function in
-/// the image's map is at most the function's room.
-#[tactic(auto, using(crate::proofs::Frames::composes))]
-pub fn frames_compose()
-    ensures { FramesCompose }
-{}
+/// Of each built program the frame of each function in the image's map is at most the function's room.
+pub fn frames_are_within_rooms()
+    ensures { AllFramesFit }
+{
+    frames_fit();
+    places_fit_their_rooms();
+    maps_have_frames();
+}

@@ -1,5 +1,5 @@
 -- What a word of a function does to registers and memory, as PA-RISC 1.1 has it. Branches stand apart.
-use Rattle.std.specs.Prelude.{ℕ, zero, suc, ℤ, pos, ◌+◌, ◌*◌, ◌/◌, ◌%◌, ◌^◌, ◌==◌, nat_lt, nat_le, ◌&&◌, not, Bool, false, if◌then◌else◌, bit_and, bit_or, bit_xor, Option, Some, None, List, [], ◌∷◌}
+use Rattle.std.specs.Prelude.{ℕ, zero, suc, ℤ, pos, ◌+◌, ◌*◌, ◌/◌, ◌%◌, ◌^◌, ◌==◌, nat_le, ◌&&◌, not, Bool, false, if◌then◌else◌, bit_and, bit_or, bit_xor, Option, Some, None, List, [], ◌∷◌}
 use Rattle.std.specs.Int.{cast_unsigned, w32}
 use Rattle.pw_value.specs.Limits.{memory_size}
 use Rattle.pw_inst.specs.declared.Inst.{Inst}
@@ -146,8 +146,3 @@ stored_at (Stb r im b) c = Some (address c b im, 1)
 stored_at (Sth r im b) c = Some (address c b im, 2)
 stored_at (Stw r im b) c = Some (address c b im, 4)
 stored_at i c = None
-
--- an access has a byte in common with so many bytes from an address on
-abbrev pub touches : Option (ℕ × ℕ) → ℕ → ℕ → Bool
-touches None a size = false
-touches (Some x) a size = nat_lt x.0 (a + size) && nat_lt a (x.0 + x.1)

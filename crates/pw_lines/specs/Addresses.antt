@@ -22,7 +22,8 @@ abbrev pub taken : FlowGlobal → ℕ
 taken g = round8 (g.size + 1)
 
 -- Global objects have multiples of 8 and bytes of their own, below the stack; functions have multiples of 4 of their
--- own, below the data. Return addresses are words. The stack has its size.
+-- own, below the data. Return addresses are words. The stack has its size, and 64 bytes before it that are above the
+-- beginning of the data.
 pub record AreLawful (p : Program) (w : Addresses) : Type 0 where
   pub aligned : (g : FlowGlobal) → Contains (globals_of p) g → w.named g.name % 8 ≡ 0
   pub above : (g : FlowGlobal) → Contains (globals_of p) g → w.data_start ≤ w.named g.name
@@ -36,5 +37,6 @@ pub record AreLawful (p : Program) (w : Addresses) : Type 0 where
   pub behind_word : (f : List ℕ) (n : ℕ) → w.behind f n < 2 ^ 32
   pub data_above : text_start ≤ w.data_start
   pub base_aligned : w.base % 64 ≡ 0
+  pub stack_above : w.data_start + 64 ≤ w.base
   pub stack : w.limit ≡ w.base + p.stack
   pub memory : w.limit ≤ memory_size

@@ -1,16 +1,16 @@
 -- What selection owes to the layers between which it stands: the statement of its law.
-use Rattle.std.specs.Prelude.{ℕ, ◌≡◌, ◌<◌, List, map, Contains}
-use Rattle.std.specs.List.{AllByRecursion}
-use Rattle.pw_value.specs.ProgramNames.{library_functions}
+use Rattle.std.specs.Prelude.{ℕ, ◌≡◌, List, map, Contains}
 use Rattle.pw_db.specs.declared.database.Directives.{Directives}
+use Rattle.pw_db.specs.Database.{IsDatabase}
 use Rattle.pw_alloc.specs.declared.located.Located.{Located}
 use Rattle.pw_select.specs.Selection.{selected}
 use Rattle.pw_delay.specs.Items.{slotted}
 use Rattle.pw_run.specs.Runs.{Refines}
 use Rattle.pw_sound.specs.Sound.{Sound}
-use Rattle.pw_trace.specs.Traces.{Notes, KeepRegisters}
-use Rattle.pw_flowrun.specs.Programs.{Program}
-use Rattle.pw_webrun.specs.Programs.{IsProgram, graph_of, eligible_names}
+use Rattle.pw_trace.specs.Traces.{KeepRegisters}
+use Rattle.pw_trace.specs.Meeting.{MetWith}
+use Rattle.pw_flowrun.specs.Programs.{Program, AreBytes, NoneForLibrary}
+use Rattle.pw_webrun.specs.Programs.{IsProgram, StartFits, graph_of, eligible_names}
 use Rattle.pw_webrun.specs.PlacedRun.{placed_run}
 use Rattle.pw_webrun.specs.Direction.{directed_functions, with_functions}
 use Rattle.pw_webrun.specs.Serving.{AllServe}
@@ -28,19 +28,17 @@ line_program p functions = record { flow = p; functions = map with_lines functio
 -- the frames on the stack are those that allocation made, and the library needs none
 pub record FramesAre (p : Program) (functions : List Located) : Type 0 where
   pub defined : (f : Located) → Contains functions f → p.frame_of f.body.name ≡ f.frame
-  pub library : (name : List ℕ) → Contains library_functions name → p.frame_of name ≡ 0
-
-abbrev pub AreBytes : List ℕ → Type 0
-AreBytes input = AllByRecursion (λ byte. byte < 256) input
+  pub library : NoneForLibrary p.frame_of
 
 -- The run of lines does what the placed run does, wherever functions and globals stand, whatever the routines leave
--- in scratch registers; what it notes is the same with words that stand for the values; returns keep the registers.
+-- in scratch registers; what it notes is the same with words that stand for the values; where it does what the placed
+-- run does, returns keep the registers.
 pub record SelectionKeeps (p : Program) (d : List (List ℕ × Directives)) (functions : List Located) (w : Addresses) (scratch : ℕ → ℕ → ℕ) (input : List ℕ) : Type 0 where
   pub runs : Refines (EventInWords p w.named) (placed_run (with_functions p functions) input) (line_run (line_program p functions) w scratch input)
-  pub registers : (n : ℕ) → Notes (KeepRegisters d) (line_run (line_program p functions) w scratch input n)
+  pub registers : (n : ℕ) → MetWith (KeepRegisters d) (placed_run (with_functions p functions) input n) (line_run (line_program p functions) w scratch input)
 
 abbrev pub SelectionKeepsRuns : Type 0
 SelectionKeepsRuns =
     (p : Program) (d : List (List ℕ × Directives)) (functions : List Located) (w : Addresses) (scratch : ℕ → ℕ → ℕ) (input : List ℕ) →
-    IsProgram p → Sound (graph_of p) d → AllServe (directed_functions p d) functions → FramesAre p functions →
-    AreLawful p w → AreBytes input → SelectionKeeps p d functions w scratch input
+    IsProgram p → IsDatabase d → Sound (graph_of p) d → AllServe (directed_functions p d) functions → FramesAre p functions →
+    StartFits p → AreLawful p w → AreBytes input → SelectionKeeps p d functions w scratch input

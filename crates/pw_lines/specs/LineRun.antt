@@ -21,11 +21,10 @@ use Rattle.pw_delay.specs.declared.items.Turn.TheVariants.{Back, Goto, If, CallT
 use Rattle.pw_delay.specs.declared.items.Item.TheVariants.{Plain, Turns, Mark}
 use Rattle.pw_run.specs.Runs.{View, Stage, Going, Over, Wrong, Ended, StackFull}
 use Rattle.pw_run.specs.Runs as run
-use Rattle.pw_trace.specs.Traces.{Standing, Event, Called, Refused, Returned, Loaded, Stored}
+use Rattle.pw_trace.specs.Traces.{Standing, Event, Called, Returned, Loaded, Stored, kept_registers, with_refusal, touches}
 use Rattle.pw_flowrun.specs.Programs.{Program, Library, GetChar, PutChar, Exit, library_at, library_names, globals_of}
-use Rattle.pw_webrun.specs.PlacedRun.{kept_registers}
 use Rattle.pw_lines.specs.Addresses.{Addresses}
-use Rattle.pw_lines.specs.Acts.{Core, register, put, with_register, Act, Acts, Full, Fails, acts, settled, loaded_at, stored_at, touches}
+use Rattle.pw_lines.specs.Acts.{Core, register, put, with_register, Act, Acts, Full, Fails, acts, settled, loaded_at, stored_at}
 use Rattle.pw_lines.specs.Standing.{Active, globals_now}
 
 -- ---- programs and their state
@@ -183,7 +182,7 @@ answers p w f answer m =
     let c = with_register 28 answer m.core in
     On (record (counted m) {
       core = c;
-      trace = Returned f (globals_in p w c (m.frame ∷ m.callers)) (kept m.core) (kept c) ∷ m.trace;
+      trace = Returned f 0 (globals_in p w c (m.frame ∷ m.callers)) (kept m.core) (kept c) ∷ m.trace;
     })
 
 abbrev pub library : LineProgram → Addresses → Library → Machine → Step
@@ -267,7 +266,7 @@ returns p w to m = returns_to m.callers
     given_back caller callers = On (record m {
       frame = caller;
       callers = callers;
-      trace = Returned (name_of m.frame) (globals_in p w m.core (caller ∷ callers)) m.frame.before (kept m.core) ∷ m.trace;
+      trace = Returned (name_of m.frame) 0 (globals_in p w m.core (caller ∷ callers)) m.frame.before (kept m.core) ∷ m.trace;
     })
 
     returns_to : List Frame → Step
@@ -369,17 +368,12 @@ start p w input = starts (function_named p start_name)
 
 -- ---- as it is seen from outside
 
--- where the stack is full, the last call is one that was refused
-abbrev pub refused : List (Event ℕ ℕ) → List (Event ℕ ℕ)
-refused (Called f globals registers ∷ l) = Refused f ∷ l
-refused l = l
-
 abbrev pub shown : Machine → List (Event ℕ ℕ) → View (Event ℕ ℕ)
 shown m log = record { output = m.out; read = m.read; events = m.events; log = log }
 
 abbrev pub staged : Step → Stage (Event ℕ ℕ)
 staged (On m) = Going (shown m m.trace)
-staged (Stopped StackFull m) = Over StackFull (shown m (refused m.trace))
+staged (Stopped StackFull m) = Over StackFull (shown m (with_refusal m.trace))
 staged (Stopped end m) = Over end (shown m m.trace)
 staged Astray = Wrong
 

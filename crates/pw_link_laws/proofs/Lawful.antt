@@ -47,7 +47,7 @@ texts_length s at (p ∷ ps) =
     ∙ both_sums (length own) (length p.words) (length rest) (size_of ps) (fix_length s at p.fixes p.words) (texts_length s (at + 4 * length p.words) ps)
     ∙ sym (sum_by-cons (λ q. length q.words) p ps)
 
-words_length : (s : Sites) (at : ℕ) (ps : List Piece) → length (linked_words s (placed_from at ps)) ≡ size_of ps + 1
+pub words_length : (s : Sites) (at : ℕ) (ps : List Piece) → length (linked_words s (placed_from at ps)) ≡ size_of ps + 1
 words_length s at ps =
     length-append (flat_map (piece_words s) (placed_from at ps)) (nop ∷ []) ∙ both_sums _ (size_of ps) 1 1 (texts_length s at ps) refl
 
@@ -104,11 +104,11 @@ globals_lawful objects all = all_flat IsGlobal (λ o. o.globals) (in_order objec
 
 -- ---- sizes
 
-record Sized (words end : ℕ) : Type 0 where
-  text : words ≤ word_limit
-  memory : end ≤ memory_size
+pub record Sized (words end : ℕ) : Type 0 where
+  pub text : words ≤ word_limit
+  pub memory : end ≤ memory_size
 
-sized : (words end : ℕ) → fault_by words end ≡ None → Sized words end
+pub sized : (words end : ℕ) → fault_by words end ≡ None → Sized words end
 sized words end none = by (nat_lt word_limit words) (nat_lt memory_size end) refl refl none
   where
     by : (a b : Bool) → nat_lt word_limit words ≡ a → nat_lt memory_size end ≡ b → (if a then Some (TextTooLarge (told (4 * words))) else if b then Some (MemoryTooLarge (told end)) else None) ≡ None → Sized words end

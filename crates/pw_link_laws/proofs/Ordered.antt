@@ -1,6 +1,6 @@
 -- The modules stand in byte order of their names, and those of one name in the order given.
-use Rattle.std.proofs.Common.{◌≡◌, ℕ, suc, ◌+◌, Bool, true, false, not, cond, List, [], ◌∷◌, ◌++◌, insert, refl, sym, ap, subst, ◌∙◌, arith, append_assoc, append-nil, if◌then◌else◌}
-use Rattle.std.specs.Prelude.{fold}
+use Rattle.std.proofs.Common.{◌≡◌, ℕ, suc, ◌+◌, Bool, true, false, not, cond, List, [], ◌∷◌, ◌++◌, insert, refl, sym, ap, subst, ◌∙◌, arith, append_assoc, append-nil, map, if◌then◌else◌}
+use Rattle.std.specs.Prelude.{fold, Option, Some, None}
 use Rattle.std.specs.List.{AllByRecursion, filter}
 use Rattle.std.specs.Str.{bytes_eq}
 use Rattle.std.specs.Ordering.{nat_cmp, is_lt, ordering_reverse}
@@ -10,10 +10,11 @@ use Rattle.std.specs.declared.cmp.Ordering.TheVariants.{Less, Equal, Greater}
 use Rattle.std.proofs.lemmas.Cmp.{nat_list_cmp_total, tied_itself}
 use Rattle.std.proofs.lemmas.List.Sorted.{ranks_by}
 use Rattle.std.proofs.lemmas.Slice.Eq.{bytes_eq-Decides}
+use Rattle.pw_files.specs.Rising.{IsRising, IsRisingBehind}
 use Rattle.pw_object.specs.declared.object.Object.{Object}
 use Rattle.pw_link.specs.Layout.{is_before, inserted, in_order}
 use Rattle.pw_link_laws.specs.Standing.{AreInOrder}
-use Rattle.pw_link_laws.proofs.Kept.{all_insert, all_by}
+use Rattle.pw_link_laws.proofs.Kept.{all_append, all_insert, all_by}
 use Rattle.pw_link_laws.proofs.Fitting.{place_of}
 
 -- a name that is not below another
@@ -133,3 +134,39 @@ all_behind name (x ∷ xs) order before =
 
 pub modules_of_a_name : (objects : List Object) (name : List ℕ) → filter (λ o. bytes_eq name o.module) (in_order objects) ≡ filter (λ o. bytes_eq name o.module) objects
 modules_of_a_name objects name = all_behind name objects [] tt
+
+-- ---- objects that are in order stay so
+
+last_in_order : (o : Object) (xs : List Object) → AllByRecursion (λ x. Up x.module o.module) xs → inserted o xs ≡ xs ++ o ∷ []
+last_in_order o [] behind = refl
+last_in_order o (x ∷ xs) behind = later o x xs behind.0 ∙ ap (λ (rest : List Object). x ∷ rest) (last_in_order o xs behind.1)
+
+one_behind : (x : Object) (order xs : List Object) → AllByRecursion (λ (o : Object). AllByRecursion (λ (y : Object). Up y.module o.module) order) xs
+    → AllByRecursion (λ o. Up x.module o.module) xs → AllByRecursion (λ (o : Object). AllByRecursion (λ (y : Object). Up y.module o.module) (order ++ x ∷ [])) xs
+one_behind x order [] behind first = tt
+one_behind x order (o ∷ xs) behind first =
+    (all_append (λ (y : Object). Up y.module o.module) order (x ∷ []) behind.0 (first.0, tt), one_behind x order xs behind.1 first.1)
+
+stay : (xs order : List Object) → AreInOrder xs → AllByRecursion (λ (o : Object). AllByRecursion (λ (y : Object). Up y.module o.module) order) xs
+    → fold (λ before o. inserted o before) order xs ≡ order ++ xs
+stay [] order sorted behind = sym (append-nil order)
+stay (x ∷ xs) order sorted behind =
+    ap (λ (next : List Object). fold (λ before o. inserted o before) next xs) (last_in_order x order behind.0)
+    ∙ (stay xs (order ++ x ∷ []) sorted.1 (one_behind x order xs behind.1 sorted.0) ∙ append_assoc order (x ∷ []) xs)
+
+nothing_before : (xs : List Object) → AllByRecursion (λ (o : Object). AllByRecursion (λ (y : Object). Up y.module o.module) []) xs
+nothing_before [] = tt
+nothing_before (x ∷ xs) = (tt, nothing_before xs)
+
+behind_all : (before : List ℕ) (xs : List Object) → IsRisingBehind (Some before) (map (λ o. o.module) xs) → AllByRecursion (λ o. Up before o.module) xs
+behind_all before [] rising = tt
+behind_all before (x ∷ xs) rising =
+    let up : Up before x.module = below_up before x.module (ap is_lt rising.0) in
+    (up, all_by (λ (o : Object). Up x.module o.module) (λ (o : Object). Up before o.module) xs (λ o h. up_over before x.module o.module up h) (behind_all x.module xs rising.1))
+
+rising_in_order : (before : Option (List ℕ)) (xs : List Object) → IsRisingBehind before (map (λ o. o.module) xs) → AreInOrder xs
+rising_in_order before [] rising = tt
+rising_in_order before (x ∷ xs) rising = (behind_all x.module xs rising.1, rising_in_order (Some x.module) xs rising.1)
+
+pub modules_stay : (objects : List Object) → IsRising (map (λ o. o.module) objects) → in_order objects ≡ objects
+modules_stay objects rising = stay objects [] (rising_in_order None objects rising) (nothing_before objects)

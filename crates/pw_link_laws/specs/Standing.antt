@@ -1,11 +1,12 @@
 -- What stands where in a linked program.
-use Rattle.std.specs.Prelude.{ℕ, ◌≡◌, false, ◌+◌, ◌*◌, ◌%◌, ◌≤◌, List, [], ◌∷◌, ◌++◌, length}
+use Rattle.std.specs.Prelude.{ℕ, ◌≡◌, false, ◌+◌, ◌*◌, ◌%◌, ◌<◌, ◌≤◌, List, [], ◌∷◌, ◌++◌, length, slice_index}
 use Rattle.std.specs.List.{AllByRecursion}
 use Rattle.pw_value.specs.Limits.{text_start}
 use Rattle.pw_object.specs.declared.object.Object.{Object}
 use Rattle.pw_image.specs.Image.{Item}
+use Rattle.pw_machine.specs.Core.{byte_at, word_at}
 use Rattle.pw_link.specs.Layout.{is_before, Placed, Standing, Sites, sites_by, text_of, data_of, data_begin, stack_end}
-use Rattle.pw_link.specs.Linking.{item_at}
+use Rattle.pw_link.specs.Linking.{item_at, item_bytes}
 
 -- the addresses of a linked program
 abbrev pub sites : List Object → ℕ → Sites
@@ -43,3 +44,17 @@ OwnTheirBytes end free (s ∷ rest) = (free ≤ s.offset) × (s.offset % 8 ≡ 0
 abbrev pub AreInOrder : List Object → Type 0
 AreInOrder [] = Unit {0}
 AreInOrder (o ∷ rest) = AllByRecursion (λ p. is_before p.module o.module ≡ false) rest × AreInOrder rest
+
+-- ---- in the memory of a machine
+
+-- the words stand there from an address on
+abbrev pub HasWords : List ℕ → ℕ → List ℕ → Type 0
+HasWords memory address words = (i : ℕ) → i < length words → word_at memory (address + 4 * i) ≡ slice_index words i
+
+abbrev pub HasBytes : List ℕ → ℕ → List ℕ → Type 0
+HasBytes memory address bytes = (k : ℕ) → k < length bytes → byte_at memory (address + k) ≡ slice_index bytes k
+
+-- an object's items, where the data begin at an address
+abbrev pub HasItems : List Object → ℕ → List ℕ → Standing → Type 0
+HasItems objects stack memory s =
+    AllByRecursion (λ i. HasBytes memory (data_begin objects + (item_at (sites objects stack).named s.offset i).offset) (item_bytes (sites objects stack).named i.1)) s.global.items

@@ -4,14 +4,18 @@ ghost use Rattle.std.specs.Prelude.{◌≡◌, ℕ, ◌+◌, ◌<◌, ◌≤◌,
 ghost use Rattle.std.specs.List.{AllByRecursion, filter};
 ghost use Rattle.std.specs.Str.{bytes_eq};
 ghost use Rattle.pw_value.specs.declared.fault.LinkFault.{LinkFault};
-ghost use Rattle.pw_value.specs.Limits.{text_start};
+ghost use Rattle.pw_value.specs.Limits.{text_start, memory_size};
+ghost use Rattle.pw_files.specs.Rising.{IsRising};
 ghost use Rattle.pw_object.specs.declared.object.Object.{Object};
 ghost use Rattle.pw_object.specs.Object.{IsObject};
 ghost use Rattle.pw_image.specs.Image.{IsImage};
+ghost use Rattle.pw_machine.specs.Core.{byte_at};
+ghost use Rattle.pw_machine.specs.Start.{image_start, IsOutside};
 ghost use Rattle.pw_link.specs.Layout.{in_order, pieces_of, globals_of, text_of, data_of, data_begin, data_size, stack_end};
 ghost use Rattle.pw_link.specs.Linking.{linked, piece_words, function_of, global_of, AreLinked, IsRefusal};
-ghost use Rattle.pw_link_laws.specs.Standing.{AreInOrder, sites, StandsInText, ItemsStand, AreApart, OwnTheirBytes};
+ghost use Rattle.pw_link_laws.specs.Standing.{AreInOrder, sites, StandsInText, ItemsStand, AreApart, OwnTheirBytes, HasWords, HasItems};
 
+use pw_machine::{data_bytes, text_words};
 use pw_program::laws::modules_have_one_answer;
 
 /// Objects that are linked are not refused, and others are refused for one reason.
@@ -27,10 +31,12 @@ pub fn linked_images_are_lawful()
     ensures { (objects : List Object) (stack : ℕ) → AllByRecursion IsObject objects → AreLinked objects stack → stack < 2 ^ 32 → IsImage (linked objects stack) }
 {}
 
-/// The modules stand in byte order of their names, and the objects of one name in the order given.
+/// The modules stand in byte order of their names, and the objects of one name in the order given; objects whose names
+/// rise stand as they are given.
 pub fn modules_stand_in_order()
     ensures order { (objects : List Object) → AreInOrder (in_order objects) }
     ensures names { (objects : List Object) (name : List ℕ) → filter (λ o. bytes_eq name o.module) (in_order objects) ≡ filter (λ o. bytes_eq name o.module) objects }
+    ensures stay { (objects : List Object) → IsRising (map (λ o. o.module) objects) → in_order objects ≡ objects }
 {}
 
 /// The words of each function and routine, its relocations done, stand in the text at its address, which the
@@ -44,8 +50,7 @@ pub fn words_stand_at_their_addresses()
 {}
 
 /// The items of each object stand in the data at the object's offset, and the map tells its address; each object
-/// has a multiple of 8 and bytes of its own, one more than its size, and all end 64 bytes below the stack. What
-/// no item fills is 0 at the start, by the law of the machine's start.
+/// has a multiple of 8 and bytes of its own, one more than its size, and all end 64 bytes below the stack.
 pub fn data_stand_at_their_addresses()
     ensures items { (objects : List Object) (stack : ℕ) → AllByRecursion (ItemsStand objects stack (linked objects stack).memory.items) (data_of objects) }
     ensures map { (objects : List Object) (stack : ℕ) → (linked objects stack).globals ≡ map (global_of (data_begin objects)) (data_of objects) }
@@ -53,3 +58,20 @@ pub fn data_stand_at_their_addresses()
     ensures apart { (objects : List Object) → OwnTheirBytes (data_size objects) 0 (data_of objects) }
     ensures below { (objects : List Object) (stack : ℕ) → data_begin objects + data_size objects + 64 + stack ≤ stack_end objects stack }
 {}
+
+/// In the memory in which a machine begins the program of lawful objects, the words of each function and routine,
+/// its relocations done, stand at its address, the items of each global object at theirs, and every other byte
+/// from the beginning of the data on is 0.
+pub fn the_memory_holds_the_program()
+    ensures words { (objects : List Object) (stack : ℕ) → AllByRecursion IsObject objects → AreLinked objects stack → stack < 2 ^ 32 →
+        AllByRecursion (λ p. HasWords (image_start (linked objects stack).memory).memory p.address (piece_words (sites objects stack) p)) (text_of objects) }
+    ensures items { (objects : List Object) (stack : ℕ) → AllByRecursion IsObject objects → AreLinked objects stack → stack < 2 ^ 32 →
+        AllByRecursion (HasItems objects stack (image_start (linked objects stack).memory).memory) (data_of objects) }
+    ensures zero { (objects : List Object) (stack place : ℕ) → AllByRecursion IsObject objects → AreLinked objects stack → stack < 2 ^ 32 →
+        data_begin objects ≤ place → place < memory_size →
+        AllByRecursion (IsOutside (data_begin objects) place) (linked objects stack).memory.items →
+        byte_at (image_start (linked objects stack).memory).memory place ≡ 0 }
+{
+    text_words();
+    data_bytes();
+}

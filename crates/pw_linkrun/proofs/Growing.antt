@@ -1,5 +1,5 @@
 -- What a machine has noted stays: what holds of a later log holds of every earlier one.
-use Rattle.std.specs.Prelude.{ℕ, zero, suc, ◌≡◌, ◌≤◌, Bool, true, false, if◌then◌else◌, Option, Some, None, List, [], ◌∷◌, ◌++◌}
+use Rattle.std.specs.Prelude.{ℕ, zero, suc, ◌≡◌, ◌≤◌, ◌+◌, Bool, true, false, if◌then◌else◌, Option, Some, None, List, [], ◌∷◌, ◌++◌}
 use Rattle.std.proofs.Common.{arith, subst, sym, ap, refl, inl, inr}
 use Rattle.std.proofs.Math.Nat.{le-suc_iff}
 use Rattle.std.proofs.lemmas.Bool.{cases_lt}
@@ -8,30 +8,30 @@ use Rattle.pw_machine.specs.declared.ends.End.TheVariants as machine
 use Rattle.pw_machine.specs.Core.{Core}
 use Rattle.pw_machine.specs.Run.{State, Progress, Running, Stopped, run_of, goes_on}
 use Rattle.pw_run.specs.Runs.{End, View, Stage, Going, Over, Wrong}
-use Rattle.pw_trace.specs.Traces.{Event, Called, Returned, Notes}
-use Rattle.pw_trace.proofs.Meeting.{GoesWith, EndsWith}
-use Rattle.pw_lines.specs.LineRun.{refused}
+use Rattle.pw_trace.specs.Traces.{Event, Called, Returned, Notes, with_refusal}
+use Rattle.pw_trace.specs.Meeting.{GoesWith, EndsWith}
 use Rattle.pw_linkrun.specs.MachineRun.{Map, Call, Noted, has_returned, globals_in, kept, with_returns, left, called, function_at, arrived, accesses_in, stepped, noted, staged, start_state, traced_run}
 
 -- what holds of the earlier part of each log of which it holds, whether a last call was refused or not
 pub record IsClosed (P : List (Event ℕ ℕ) → Type 0) : Type 0 where
   pub earlier : (e : Event ℕ ℕ) (l : List (Event ℕ ℕ)) → P (e ∷ l) → P l
-  pub of_refused : (l : List (Event ℕ ℕ)) → P (refused l) → P l
-  pub to_refused : (l : List (Event ℕ ℕ)) → P l → P (refused l)
+  pub of_refused : (l : List (Event ℕ ℕ)) → P (with_refusal l) → P l
+  pub to_refused : (l : List (Event ℕ ℕ)) → P l → P (with_refusal l)
 
 -- ---- one step
 
-if_under : (P : List (Event ℕ ℕ) → Type 0) → IsClosed P → (b : Bool) (e : Event ℕ ℕ) (l : List (Event ℕ ℕ)) → P (if b then e ∷ l else l) → P l
-if_under P c true e l h = c.earlier e l h
-if_under P c false e l h = h
+either : (P : List (Event ℕ ℕ) → Type 0) (b : Bool) (l m log : List (Event ℕ ℕ)) → (P l → P log) → (P m → P log) → P (if b then l else m) → P log
+either P true l m log first second h = first h
+either P false l m log first second h = second h
 
-returns_under : (P : List (Event ℕ ℕ) → Type 0) → IsClosed P → (m : Map) (core : Core) (calls : List Call) (log : List (Event ℕ ℕ))
-    → P (with_returns m core calls log) → P log
-returns_under P c m core [] log h = h
-returns_under P c m core (call ∷ callers) log h =
-    if_under P c (has_returned core call) (Returned call.function (globals_in m core callers) call.before (kept core)) log
-    (returns_under P c m core callers
-    (if has_returned core call then Returned call.function (globals_in m core callers) call.before (kept core) ∷ log else log) h)
+returns_under : (P : List (Event ℕ ℕ) → Type 0) → IsClosed P → (m : Map) (core : Core) (inner : ℕ) (calls : List Call) (log : List (Event ℕ ℕ))
+    → P (with_returns m core inner calls log) → P log
+returns_under P c m core inner [] log h = h
+returns_under P c m core inner (call ∷ callers) log h =
+    let e = Returned call.function inner (globals_in m core callers) call.before (kept core) in
+    either P (has_returned core call) (with_returns m core inner callers (e ∷ log)) (with_returns m core (inner + 1) callers log) log
+    (λ k. c.earlier e log (returns_under P c m core inner callers (e ∷ log) k))
+    (λ k. returns_under P c m core (inner + 1) callers log k) h
 
 called_under : (P : List (Event ℕ ℕ) → Type 0) → IsClosed P → (m : Map) (core : Core) (f : Option (List ℕ)) (n : Noted)
     → P (called m core f n).log → P n.log
@@ -45,8 +45,8 @@ arrived_by P c m core false f n h = called_under P c m core f n h
 
 arrived_under : (P : List (Event ℕ ℕ) → Type 0) → IsClosed P → (m : Map) (core : Core) (n : Noted) → P (arrived m core n).log → P n.log
 arrived_under P c m core n h =
-    returns_under P c m core n.calls n.log
-    (arrived_by P c m core core.nullify (function_at m core.front) (record { calls = left core n.calls; log = with_returns m core n.calls n.log }) h)
+    returns_under P c m core 0 n.calls n.log
+    (arrived_by P c m core core.nullify (function_at m core.front) (record { calls = left core n.calls; log = with_returns m core 0 n.calls n.log }) h)
 
 prefix_under : (P : List (Event ℕ ℕ) → Type 0) → IsClosed P → (es l : List (Event ℕ ℕ)) → P (es ++ l) → P l
 prefix_under P c [] l h = h

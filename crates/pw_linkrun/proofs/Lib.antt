@@ -1,2 +1,3 @@
 pub mod Forgetting
 pub mod Growing
+pub mod OwnCalls

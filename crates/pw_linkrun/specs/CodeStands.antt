@@ -11,6 +11,14 @@ use Rattle.pw_inst.specs.declared.relocation.Symbol.TheVariants as symbol
 use Rattle.pw_inst.specs.declared.relocation.Fix.{Fix}
 use Rattle.pw_inst.specs.declared.relocation.FixKind.{FixKind}
 use Rattle.pw_inst.specs.declared.relocation.FixKind.TheVariants as kind
+use Rattle.pw_flow.specs.declared.flow.FlowFn.{FlowFn}
+use Rattle.pw_flow.specs.ValidFlow.{IsFunction}
+use Rattle.pw_db.specs.declared.database.Directives.{Directives}
+use Rattle.pw_db.specs.Database.{IsDirectives}
+use Rattle.pw_webflow.specs.Direction.{directed}
+use Rattle.pw_alloc.specs.declared.located.Located.{Located}
+use Rattle.pw_select.specs.Selection.{selected}
+use Rattle.pw_webrun.specs.Serving.{Serves}
 use Rattle.pw_delay.specs.declared.items.Word.{Word}
 use Rattle.pw_delay.specs.declared.items.Turn.{Turn}
 use Rattle.pw_delay.specs.declared.items.Item.{Item}
@@ -25,12 +33,17 @@ use Rattle.pw_lines.specs.Words.{Text, StandsAt}
 
 -- ---- lines that words can be made of
 
+-- what lines name are functions, globals, routines and the end of the stack; words are named by placement alone
+abbrev pub IsOfProgram : Symbol → Type 0
+IsOfProgram (symbol.Word k) = ⊥
+IsOfProgram _ = Unit {0}
+
 -- each instruction has its fields in range, and takes the address that is to go into it
 abbrev pub IsReady : Line → Type 0
 IsReady (line.Plain i) = IsInRange i
-IsReady (line.Fixed i k s n) = IsInRange i × (lines.with_address k 0 i ≢ None)
+IsReady (line.Fixed i k s n) = IsInRange i × (lines.with_address k 0 i ≢ None) × IsOfProgram s
 IsReady (line.BranchNonZero r b) = IsRegister r
-IsReady (line.CallTo s link) = IsRegister link
+IsReady (line.CallTo s link) = IsRegister link × IsOfProgram s
 IsReady _ = Unit {0}
 
 abbrev pub labels : List Line → List ℕ
@@ -46,6 +59,11 @@ AreApart (b ∷ bs) = AllByRecursion (λ c. b ≢ c) bs × AreApart bs
 pub record AreReady (lines : List Line) : Type 0 where
   pub each : AllByRecursion IsReady lines
   pub labels : AreApart (labels lines)
+
+-- what selection owes: its lines are such, of a lawful function whose places serve it
+abbrev pub SelectionIsReady : Type 0
+SelectionIsReady =
+    (f : FlowFn) (d : Directives) (l : Located) → IsFunction f → IsDirectives d → Serves (directed f d) l → AreReady (selected l)
 
 -- ---- where they stand
 

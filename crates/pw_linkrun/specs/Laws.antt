@@ -1,7 +1,10 @@
 -- What linking owes: the linked image runs as the lines of the program do, at the addresses of its map.
 use Rattle.std.specs.Prelude.{ℕ, ◌≡◌, ◌++◌, None, List, map}
 use Rattle.std.specs.List.{flat_map}
+use Rattle.pw_flow.specs.ValidFlow.{AreDistinct}
+use Rattle.pw_milli.specs.Library.{routines}
 use Rattle.pw_db.specs.declared.database.Directives.{Directives}
+use Rattle.pw_db.specs.Database.{IsDatabase}
 use Rattle.pw_alloc.specs.declared.located.Located.{Located}
 use Rattle.pw_select.specs.Selection.{selected}
 use Rattle.pw_delay.specs.Placement.{placed}
@@ -14,13 +17,13 @@ use Rattle.pw_machine.specs.Start.{image_start}
 use Rattle.pw_run.specs.Runs.{Stage, Refines, Same}
 use Rattle.pw_trace.specs.Traces.{Event}
 use Rattle.pw_sound.specs.Sound.{Sound}
-use Rattle.pw_flowrun.specs.Programs.{Program, globals_of}
-use Rattle.pw_webrun.specs.Programs.{IsProgram, graph_of, eligible_names}
+use Rattle.pw_flowrun.specs.Programs.{Program, functions_of, globals_of, AreBytes}
+use Rattle.pw_webrun.specs.Programs.{IsProgram, StartFits, graph_of, eligible_names}
 use Rattle.pw_webrun.specs.Direction.{directed_functions}
 use Rattle.pw_webrun.specs.Serving.{AllServe}
 use Rattle.pw_lines.specs.Addresses.{Addresses, AreLawful}
 use Rattle.pw_lines.specs.LineRun.{line_run}
-use Rattle.pw_lines.specs.Laws.{line_program, FramesAre, AreBytes}
+use Rattle.pw_lines.specs.Laws.{line_program, FramesAre}
 use Rattle.pw_linkrun.specs.MachineRun.{Map, traced_run}
 
 -- ---- objects of a program
@@ -34,6 +37,11 @@ pub record AreObjectsOf (p : Program) (functions : List Located) (objects : List
   pub modules : map (λ o. o.module) objects ≡ map (λ m. m.name) p.modules
   pub globals : flat_map (λ o. o.globals) objects ≡ globals_of p
   pub code : flat_map (λ o. o.functions) objects ≡ map compiled functions
+
+-- no function and no global has the name of another one or of a routine
+abbrev pub AreNamesApart : Program → Type 0
+AreNamesApart p =
+    AreDistinct (map (λ r. r.0) routines ++ (map (λ f. f.name) (functions_of p) ++ map (λ g. g.name) (globals_of p)))
 
 -- ---- the image
 
@@ -65,6 +73,6 @@ pub record LinkKeeps (p : Program) (functions : List Located) (v : ImageValue) (
 abbrev pub LinkKeepsRuns : Type 0
 LinkKeepsRuns =
     (p : Program) (d : List (List ℕ × Directives)) (functions : List Located) (objects : List Object) (input : List ℕ) →
-    IsProgram p → Sound (graph_of p) d → AllServe (directed_functions p d) functions → FramesAre p functions →
-    AreObjectsOf p functions objects → size_fault objects p.stack ≡ None → AreBytes input →
+    IsProgram p → AreNamesApart p → IsDatabase d → Sound (graph_of p) d → AllServe (directed_functions p d) functions →
+    FramesAre p functions → StartFits p → AreObjectsOf p functions objects → size_fault objects p.stack ≡ None → AreBytes input →
     LinkKeeps p functions (linked objects p.stack) input

@@ -1,7 +1,7 @@
 -- The machine's run with what it notes. A function is called where the next step stands at its address and is not
 -- nullified. The call is active until a later step stands at the address that register 2 held at the call, with
 -- register 30 as it was then. A step loads or stores a global where its access has a byte of it.
-use Rattle.std.specs.Prelude.{ℕ, zero, suc, ◌-◌, ◌==◌, ◌&&◌, not, nat_lt, Bool, if◌then◌else◌, Option, Some, None, List, [], ◌∷◌, ◌++◌, map, filter, find, length, count_by}
+use Rattle.std.specs.Prelude.{ℕ, zero, suc, ◌+◌, ◌-◌, ◌==◌, ◌&&◌, not, nat_lt, Bool, if◌then◌else◌, Option, Some, None, List, [], ◌∷◌, ◌++◌, map, filter, find, length, count_by}
 use Rattle.std.specs.List.{flat_map}
 use Rattle.std.specs.Str.{bytes_eq}
 use Rattle.pw_inst.specs.declared.Inst.{Inst}
@@ -13,13 +13,12 @@ use Rattle.pw_machine.specs.Core.{Core, byte_at, word_at}
 use Rattle.pw_machine.specs.Core as core
 use Rattle.pw_machine.specs.Run.{State, Progress, Running, Stopped, run_of}
 use Rattle.pw_run.specs.Runs.{View, Stage, Going, Over, Wrong, Ended, StackFull}
-use Rattle.pw_trace.specs.Traces.{Standing, Event, Called, Returned, Loaded, Stored}
+use Rattle.pw_trace.specs.Traces.{Standing, Event, Called, Returned, Loaded, Stored, kept_registers, with_refusal, touches}
+use Rattle.pw_trace.specs.Traffic.{active}
 use Rattle.pw_flowrun.specs.Programs.{Program, names_of, globals_of}
-use Rattle.pw_webrun.specs.PlacedRun.{kept_registers}
 use Rattle.pw_lines.specs.Acts as lines
-use Rattle.pw_lines.specs.Acts.{loaded_at, stored_at, touches}
+use Rattle.pw_lines.specs.Acts.{loaded_at, stored_at}
 use Rattle.pw_lines.specs.Standing.{Active, globals_now}
-use Rattle.pw_lines.specs.LineRun.{refused}
 
 -- What is known of the program that runs: its functions with their directives and frames, the globals that a register
 -- may hold, and where functions and globals stand.
@@ -65,12 +64,13 @@ globals_in m c calls = globals_now m.flow m.named (byte_at c.memory) (core.regis
 abbrev pub has_returned : Core → Call → Bool
 has_returned c call = (c.front == call.link) && (core.register c 30 == call.stack)
 
--- the returns, the innermost call first
-abbrev pub with_returns : Map → Core → List Call → List (Event ℕ ℕ) → List (Event ℕ ℕ)
-with_returns m c [] log = log
-with_returns m c (call ∷ callers) log =
-    with_returns m c callers
-    (if has_returned c call then Returned call.function (globals_in m c callers) call.before (kept c) ∷ log else log)
+-- the returns, the innermost call first, where so many calls inside these are still active
+abbrev pub with_returns : Map → Core → ℕ → List Call → List (Event ℕ ℕ) → List (Event ℕ ℕ)
+with_returns m c inner [] log = log
+with_returns m c inner (call ∷ callers) log =
+    if has_returned c call
+    then with_returns m c inner callers (Returned call.function inner (globals_in m c callers) call.before (kept c) ∷ log)
+    else with_returns m c (inner + 1) callers log
 
 abbrev pub left : Core → List Call → List Call
 left c calls = filter (λ call. not (has_returned c call)) calls
@@ -88,22 +88,22 @@ called m c (Some f) n = record {
 -- a state whose step is next: first what returned there, then what is called there
 abbrev pub arrived : Map → Core → Noted → Noted
 arrived m c n =
-    let back : Noted = record { calls = left c n.calls; log = with_returns m c n.calls n.log } in
+    let back : Noted = record { calls = left c n.calls; log = with_returns m c 0 n.calls n.log } in
     if c.nullify then back else called m c (function_at m c.front) back
 
 -- ---- what a step loads and stores
 
+abbrev pub is_eligible : Map → FlowGlobal → Bool
+is_eligible m g = nat_lt 0 (count_by (bytes_eq g.name) m.eligible)
+
+abbrev pub accesses_to : Map → Inst → lines.Core → FlowGlobal → List (Event ℕ ℕ)
+accesses_to m i c g =
+    (if is_eligible m g && touches (loaded_at i c) (m.named g.name) g.size then Loaded g.name ∷ [] else [])
+    ++ (if is_eligible m g && touches (stored_at i c) (m.named g.name) g.size then Stored g.name ∷ [] else [])
+
 abbrev pub accesses_of : Map → Option Inst → lines.Core → List (Event ℕ ℕ)
 accesses_of m None c = []
-accesses_of m (Some i) c = flat_map accesses (globals_of m.flow)
-  where
-    is_eligible : FlowGlobal → Bool
-    is_eligible g = nat_lt 0 (count_by (bytes_eq g.name) m.eligible)
-
-    accesses : FlowGlobal → List (Event ℕ ℕ)
-    accesses g =
-        (if is_eligible g && touches (loaded_at i c) (m.named g.name) g.size then Loaded g.name ∷ [] else [])
-        ++ (if is_eligible g && touches (stored_at i c) (m.named g.name) g.size then Stored g.name ∷ [] else [])
+accesses_of m (Some i) c = flat_map (accesses_to m i c) (globals_of m.flow)
 
 abbrev pub accesses_in : Map → Core → List (Event ℕ ℕ)
 accesses_in m c = if c.nullify then [] else accesses_of m (decoded (word_at c.memory c.front)) (core_of c)
@@ -131,7 +131,7 @@ shown input steps s log = record { output = s.output; read = length input - leng
 abbrev pub staged : List ℕ → ℕ → Progress → List (Event ℕ ℕ) → Stage (Event ℕ ℕ)
 staged input steps (Running s) log = Going (shown input steps s log)
 staged input steps (Stopped (machine.Ended status) s) log = Over (Ended status) (shown input steps s log)
-staged input steps (Stopped machine.StackStop s) log = Over StackFull (shown input steps s (refused log))
+staged input steps (Stopped machine.StackStop s) log = Over StackFull (shown input steps s (with_refusal log))
 staged input steps (Stopped (machine.Halted halt at) s) log = Wrong
 
 abbrev pub start_state : Core → List ℕ → State
@@ -141,3 +141,12 @@ start_state c input = record { core = c; rest = input; output = [] }
 unfoldable pub traced_run : Map → Core → List ℕ → ℕ → Stage (Event ℕ ℕ)
 traced_run m c input n =
     staged input n (run_of n (start_state c input)) (noted m (start_state c input) n).log
+
+-- ---- the calls that are active
+
+-- those by what a list of events tells, and those that the machine has
+abbrev pub told_active : List (Event ℕ ℕ) → List (List ℕ)
+told_active log = map (λ o. o.function) (active log)
+
+abbrev pub own_active : List Call → List (List ℕ)
+own_active calls = map (λ c. c.function) calls

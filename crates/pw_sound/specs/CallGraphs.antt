@@ -1,6 +1,6 @@
 -- What the rules of webs see of a program: which scalar globals a register may hold, which functions each function
 -- calls, and which of these globals it reads and writes; all by names.
-use Rattle.std.specs.Prelude.{ℕ, ◌≡◌, ◌⊎◌, Bool, List, Contains}
+use Rattle.std.specs.Prelude.{ℕ, ◌≡◌, ◌⊎◌, ◌↔◌, Bool, List, Contains}
 use Rattle.pw_value.specs.declared.value.Kind.{Kind}
 
 pub record Node : Type 0 where
@@ -45,3 +45,10 @@ pub record Writes (g : Graph) (f v : List ℕ) : Type 0 where
 
 abbrev pub References : Graph → List ℕ → List ℕ → Type 0
 References g f v = Reads g f v ⊎ Writes g f v
+
+-- two graphs that say the same of calls, reads, writes and eligible globals
+pub record SayTheSame (g h : Graph) : Type 0 where
+  pub calls : (a b : List ℕ) → Calls g a b ↔ Calls h a b
+  pub reads : (f v : List ℕ) → Reads g f v ↔ Reads h f v
+  pub writes : (f v : List ℕ) → Writes g f v ↔ Writes h f v
+  pub eligible : (v : List ℕ) (k : Kind) → Contains g.eligible (v, k) ↔ Contains h.eligible (v, k)

@@ -1,12 +1,11 @@
 -- Directives under which functions may keep globals in registers across calls: from the graph of calls and from the
 -- directives alone.
-use Rattle.std.specs.Prelude.{ℕ, ◌≡◌, ◌≢◌, true, List, Contains}
+use Rattle.std.specs.Prelude.{ℕ, ◌≡◌, ◌≢◌, true, List, [], Contains}
 use Rattle.pw_value.specs.ProgramNames.{start_name}
 use Rattle.pw_db.specs.declared.database.Web.{Web}
 use Rattle.pw_db.specs.declared.database.Role.{Role}
 use Rattle.pw_db.specs.declared.database.Role.TheVariants.{Entry, Member}
 use Rattle.pw_db.specs.declared.database.Directives.{Directives}
-use Rattle.pw_db.specs.Database.{IsDatabase}
 use Rattle.pw_sound.specs.CallGraphs.{Graph, Calls, Path, Writes, References}
 
 -- a function is in a web, in this role
@@ -39,6 +38,5 @@ pub record Sound (g : Graph) (d : List (List ℕ × Directives)) : Type 0 where
   -- the global of a web is eligible, and has the web's kind; the web tells where it is written
   pub eligible : (w : Web) (f : List ℕ) → In d w f → Contains g.eligible (w.global, w.kind)
   pub writes : (w : Web) (f : List ℕ) → In d w f → Writes g f w.global → w.writes ≡ true
-  -- no register is free, a function's webs stand once each and have different globals, and webs of one number
-  -- are one web
-  pub database : IsDatabase d
+  -- no register is free
+  pub free : (f : List ℕ) (directives : Directives) → Contains d (f, directives) → directives.free ≡ []

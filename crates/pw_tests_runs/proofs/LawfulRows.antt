@@ -1,8 +1,8 @@
--- Lawful addresses exist: those of bump and main.
-use Rattle.std.specs.Prelude.{ℕ, ◌≡◌, ◌≢◌, ◌≤◌, ◌<◌, ◌+◌, ◌*◌, ◌%◌, ◌^◌, ◌==◌, List, [], ◌∷◌, codes, Contains, if◌then◌else◌}
+-- Lawful addresses exist: those of bump and main. A stack that begins below the data is not lawful.
+use Rattle.std.specs.Prelude.{ℕ, ◌≡◌, ◌≤◌, ◌<◌, ◌+◌, ◌%◌, ◌==◌, List, codes, Contains, if◌then◌else◌}
 use Rattle.std.specs.List.{AllByRecursion}
 use Rattle.std.specs.Str.{bytes_eq}
-use Rattle.std.proofs.Common.{arith, subst, sym, ap, refl, ◌∙◌}
+use Rattle.std.proofs.Common.{arith, sym, ap, refl, ◌∙◌}
 use Rattle.std.proofs.lemmas.List.Elements.{All-contains, All-from_recursion}
 use Rattle.pw_flow.specs.declared.flow.FlowGlobal.{FlowGlobal}
 use Rattle.pw_flowrun.specs.Programs.{globals_of, names_of}
@@ -46,6 +46,14 @@ lawful = record {
   behind_word = λ f n. omega arith;
   data_above = omega arith;
   base_aligned = refl;
+  stack_above = omega arith;
   stack = refl;
   memory = omega arith;
 }
+
+low : Addresses
+low = record { named = place; routine = λ k. 7424; behind = λ name turns. 6144; data_start = 33554432; base = 0; limit = 4096 }
+
+unlawful : AreLawful bumping low → ⊥
+unfolding low
+unlawful l = let h : 33554432 + 64 ≤ 0 = l.stack_above in omega (arith, h)

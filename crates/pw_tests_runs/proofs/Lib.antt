@@ -3,3 +3,5 @@ mod Programs
 mod PlacedRows
 mod LineRows
 mod LawfulRows
+mod LawRows
+mod ProgramRows

@@ -12,7 +12,7 @@ use Rattle.pw_flowrun.specs.FlowRun.{flow_run}
 use Rattle.pw_webrun.specs.PlacedRun.{placed_run, step, steps}
 use Rattle.pw_webrun.specs.Direction.{web_run}
 use Rattle.pw_tests_runs.proofs.Stories.{story, flow_story, globals_at}
-use Rattle.pw_tests_runs.proofs.Programs.{bumping, bump_directives, recursion, recursion_directives, starting, start_directives, nesting, nest_directives, pointing, pointing_directives}
+use Rattle.pw_tests_runs.proofs.Programs.{bumping, bump_directives, recursion, recursion_directives, starting, start_directives, nesting, nest_directives, pointing, pointing_directives, losing}
 
 bump_flows : flow_story (flow_run bumping [] 40) ≡ codes " (main (bump )bump (bump )bump )main = 2 2"
 unfolding flow_run flow.steps flow.step command.command
@@ -71,3 +71,12 @@ nest_inside = refl
 nest_before : globals_at (codes "k") (web_run nesting nest_directives [] 60) ≡ InPlace (Num 5) ∷ InMemory (B.Num 0 ∷ B.Num 0 ∷ B.Num 0 ∷ B.Num 0 ∷ []) ∷ []
 unfolding web_run placed_run steps step command.command directed entered_from
 nest_before = refl
+
+-- a branch on a pointer that leads nowhere has no meaning
+lost_flows : flow_story (flow_run losing [] 10) ≡ codes "wrong"
+unfolding flow_run flow.steps flow.step command.command
+lost_flows = refl
+
+lost_runs : story (web_run losing [] [] 10) ≡ codes "wrong"
+unfolding web_run placed_run steps step command.command directed entered_from
+lost_runs = refl

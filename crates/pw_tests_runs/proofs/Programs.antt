@@ -4,7 +4,7 @@ use Rattle.std.specs.Str.{bytes_eq}
 use Rattle.pw_value.specs.declared.value.Kind.TheVariants.{W32}
 use Rattle.pw_flow.specs.declared.flow.BinKind.TheVariants.{Add, Sub}
 use Rattle.pw_flow.specs.declared.flow.Op.{Op}
-use Rattle.pw_flow.specs.declared.flow.Op.TheVariants.{Const, Bin, AddrFn, LoadG, StoreG, Call, CallInd}
+use Rattle.pw_flow.specs.declared.flow.Op.TheVariants.{Const, Bin, AddrGlobal, AddrFn, LoadG, StoreG, Call, CallInd}
 use Rattle.pw_flow.specs.declared.flow.End.{End}
 use Rattle.pw_flow.specs.declared.flow.End.TheVariants.{Jump, Branch, Return}
 use Rattle.pw_flow.specs.declared.flow.Block.{Block}
@@ -130,3 +130,12 @@ pointing = program (global (codes "n") ∷ []) (pointed ∷ pointing_main ∷ []
 
 abbrev pub pointing_directives : List (List ℕ × Directives)
 pointing_directives = (codes "g", only (web 0 (codes "n") 3) Member) ∷ (codes "main", only (web 0 (codes "n") 3) Entry) ∷ []
+
+-- ---- main branches on a pointer that leads nowhere: the address of n less 8192, which is where n stands in words
+
+abbrev pub losing_main : FlowFn
+losing_main = function (codes "main") (codes "fi") 0 2
+    (block (Const 1 3 ∷ AddrGlobal 0 (codes "n") 4294959104 ∷ []) (Branch 0 1 1) ∷ block [] (Return (Some 1)) ∷ [])
+
+abbrev pub losing : Program
+losing = program (global (codes "n") ∷ []) (losing_main ∷ []) 4096

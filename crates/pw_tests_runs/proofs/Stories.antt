@@ -8,7 +8,7 @@ use Rattle.pw_flowrun.specs.FlowRun as flow
 abbrev pub sign : {B V : Type 0} → Event B V → List ℕ
 sign (Called f gs rs) = codes " (" ++ f
 sign (Refused f) = codes " !" ++ f
-sign (Returned f gs rs ss) = codes " )" ++ f
+sign (Returned f inner gs rs ss) = codes " )" ++ f
 sign (Loaded v) = codes " <" ++ v
 sign (Stored v) = codes " >" ++ v
 

@@ -9,21 +9,21 @@ pub kind_of_alike : {B C V W : Type 0} (Byte : B → C → Type 0) (Word : V →
     → EventAlike Byte Word e f → SameKind e f
 kind_of_alike Byte Word e f (called g gs hs rs ss a) = call g gs hs rs ss
 kind_of_alike Byte Word e f (refused g) = refusal g
-kind_of_alike Byte Word e f (returned g gs hs rs ss ts us a) = return g gs hs rs ss ts us
+kind_of_alike Byte Word e f (returned g k gs hs rs ss ts us a) = return g k gs hs rs ss ts us
 kind_of_alike Byte Word e f (loaded v) = load v
 kind_of_alike Byte Word e f (stored v) = store v
 
 pub kind_of_itself : {B V : Type 0} (e : Event B V) → SameKind e e
 kind_of_itself (Called f gs rs) = call f gs gs rs rs
 kind_of_itself (Refused f) = refusal f
-kind_of_itself (Returned f gs rs ss) = return f gs gs rs ss rs ss
+kind_of_itself (Returned f k gs rs ss) = return f k gs gs rs ss rs ss
 kind_of_itself (Loaded v) = load v
 kind_of_itself (Stored v) = store v
 
 shown_alike : {B C V W : Type 0} (e : Event B V) (f : Event C W) → SameKind e f → is_shown e ≡ is_shown f
 shown_alike e f (call g gs hs rs ss) = refl
 shown_alike e f (refusal g) = refl
-shown_alike e f (return g gs hs rs ss ts us) = refl
+shown_alike e f (return g k gs hs rs ss ts us) = refl
 shown_alike e f (load v) = refl
 shown_alike e f (store v) = refl
 

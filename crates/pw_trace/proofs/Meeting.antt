@@ -1,27 +1,9 @@
--- A run meets a stage of another with what holds of all that it notes; and what it meets so, a run that refines it
--- meets too.
-use Rattle.std.specs.Prelude.{ℕ, ◌≡◌, ◌≤◌, List}
+-- How what holds of all that a run notes goes from run to run.
+use Rattle.std.specs.Prelude.{ℕ, ◌≡◌, List}
 use Rattle.std.proofs.Common.{arith, subst, sym, ap, refl}
 use Rattle.pw_run.specs.Runs.{End, View, Stage, Going, Over, Wrong, AreAlike, GoesOn, EndsSo, Met, Refines}
 use Rattle.pw_trace.specs.Traces.{shown_by, Notes}
-
-pub record GoesWith {M N : Type 0} (P : List N → Type 0) (a : View M) (b : ℕ → Stage N) : Type 0 where
-  pub at : ℕ
-  pub view : View N
-  pub is : b at ≡ Going view
-  pub counted : a.events ≤ view.events
-  pub holds : P view.log
-
-pub record EndsWith {N : Type 0} (P : List N → Type 0) (end : End) (b : ℕ → Stage N) : Type 0 where
-  pub at : ℕ
-  pub view : View N
-  pub is : b at ≡ Over end view
-  pub holds : P view.log
-
-abbrev pub MetWith : {M N : Type 0} → (List N → Type 0) → Stage M → (ℕ → Stage N) → Type 0
-MetWith P (Going v) b = GoesWith P v b
-MetWith P (Over end v) b = EndsWith P end b
-MetWith P Wrong b = Unit {0}
+use Rattle.pw_trace.specs.Meeting.{GoesWith, EndsWith, MetWith}
 
 -- ---- from a run of which less is shown
 
@@ -103,3 +85,25 @@ carried F P Q h (Over end v) b c r p =
       holds = h p.view.log m.view.log m.same.log p.holds;
     }
 carried F P Q h Wrong b c r p = tt
+
+-- ---- to a run that meets, so, each stage of one that is met
+
+pub met_through : {L M N : Type 0} (F : L → M → Type 0) (P : List N → Type 0) (s : Stage L) (b : ℕ → Stage M) (c : ℕ → Stage N)
+    → Met F s b → ((n : ℕ) → MetWith P (b n) c) → MetWith P s c
+met_through F P (Going v) b c p h =
+    let m : GoesWith P p.view c = subst (λ s. MetWith P s c) p.is (h p.at) in record {
+      at = m.at;
+      view = m.view;
+      is = m.is;
+      counted = omega (arith, p.counted, m.counted);
+      holds = m.holds;
+    }
+met_through F P (Over end v) b c p h =
+    let m : EndsWith P end c = subst (λ s. MetWith P s c) p.is (h p.at) in record { at = m.at; view = m.view; is = m.is; holds = m.holds }
+met_through F P Wrong b c p h = tt
+
+-- as much is met of a run of which less is shown
+pub of_shown : {K M N : Type 0} (P : List N → Type 0) (f : List M → List K) (s : Stage M) (c : ℕ → Stage N) → MetWith P s c → MetWith P (shown_by f s) c
+of_shown P f (Going v) c m = record { at = m.at; view = m.view; is = m.is; counted = m.counted; holds = m.holds }
+of_shown P f (Over end v) c m = m
+of_shown P f Wrong c m = tt

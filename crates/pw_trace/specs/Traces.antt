@@ -1,6 +1,6 @@
 -- What runs below the flow graphs note: calls and returns, each with where the global objects stand and what the
 -- registers hold that a callee keeps; and the loads and stores of the globals that a register may hold.
-use Rattle.std.specs.Prelude.{ℕ, ◌≡◌, ◌≤◌, ◌-◌, Bool, false, not, if◌then◌else◌, List, [], ◌∷◌, slice_get}
+use Rattle.std.specs.Prelude.{ℕ, ◌≡◌, ◌≤◌, ◌+◌, ◌-◌, ◌&&◌, nat_lt, Bool, false, not, if◌then◌else◌, Option, Some, None, List, [], ◌∷◌, slice_get}
 use Rattle.std.specs.List.{list_any}
 use Rattle.std.specs.Str.{bytes_eq}
 use Rattle.pw_value.specs.ProgramNames.{start_name, library_functions}
@@ -21,8 +21,8 @@ pub data Event (B V : Type 0) : Type 0 where
   Called : (f : List ℕ) (globals : List (Standing B V)) (registers : List V) → Event B V
   -- a call for which there is no stack left
   Refused : (f : List ℕ) → Event B V
-  -- the registers at the call, and now
-  Returned : (f : List ℕ) (globals : List (Standing B V)) (before after : List V) → Event B V
+  -- a call is active no more, and of those made after it so many still are; the registers at the call, and now
+  Returned : (f : List ℕ) (inner : ℕ) (globals : List (Standing B V)) (before after : List V) → Event B V
   Loaded : (v : List ℕ) → Event B V
   Stored : (v : List ℕ) → Event B V
 
@@ -36,8 +36,8 @@ pub data EventAlike {B C V W : Type 0} (Byte : B → C → Type 0) (Word : V →
   called : (f : List ℕ) (gs : List (Standing B V)) (hs : List (Standing C W)) (rs : List V) (ss : List W)
       → AreAlike (StandAlike Byte Word) gs hs → EventAlike Byte Word (Called f gs rs) (Called f hs ss)
   refused : (f : List ℕ) → EventAlike Byte Word (Refused f) (Refused f)
-  returned : (f : List ℕ) (gs : List (Standing B V)) (hs : List (Standing C W)) (rs ss : List V) (ts us : List W)
-      → AreAlike (StandAlike Byte Word) gs hs → EventAlike Byte Word (Returned f gs rs ss) (Returned f hs ts us)
+  returned : (f : List ℕ) (inner : ℕ) (gs : List (Standing B V)) (hs : List (Standing C W)) (rs ss : List V) (ts us : List W)
+      → AreAlike (StandAlike Byte Word) gs hs → EventAlike Byte Word (Returned f inner gs rs ss) (Returned f inner hs ts us)
   loaded : (v : List ℕ) → EventAlike Byte Word (Loaded v) (Loaded v)
   stored : (v : List ℕ) → EventAlike Byte Word (Stored v) (Stored v)
 
@@ -45,8 +45,8 @@ pub data EventAlike {B C V W : Type 0} (Byte : B → C → Type 0) (Word : V →
 pub data SameKind {B C V W : Type 0} : Event B V → Event C W → Type 0 where
   call : (f : List ℕ) (gs : List (Standing B V)) (hs : List (Standing C W)) (rs : List V) (ss : List W) → SameKind (Called f gs rs) (Called f hs ss)
   refusal : (f : List ℕ) → SameKind (Refused f) (Refused f)
-  return : (f : List ℕ) (gs : List (Standing B V)) (hs : List (Standing C W)) (rs ss : List V) (ts us : List W)
-      → SameKind (Returned f gs rs ss) (Returned f hs ts us)
+  return : (f : List ℕ) (inner : ℕ) (gs : List (Standing B V)) (hs : List (Standing C W)) (rs ss : List V) (ts us : List W)
+      → SameKind (Returned f inner gs rs ss) (Returned f inner hs ts us)
   load : (v : List ℕ) → SameKind (Loaded v) (Loaded v)
   store : (v : List ℕ) → SameKind (Stored v) (Stored v)
 
@@ -64,7 +64,7 @@ is_of_source f = not (list_any (bytes_eq f) (start_name ∷ library_functions))
 -- the calls of such functions, and the returns from them
 abbrev pub is_shown : {B V : Type 0} → Event B V → Bool
 is_shown (Called f globals registers) = is_of_source f
-is_shown (Returned f globals before after) = is_of_source f
+is_shown (Returned f inner globals before after) = is_of_source f
 is_shown e = false
 
 abbrev pub calls_alone : {B V : Type 0} → List (Event B V) → List (Event B V)
@@ -80,7 +80,23 @@ Notes Holds (Going v) = Holds v.log
 Notes Holds (Over end v) = Holds v.log
 Notes Holds Wrong = Unit {0}
 
+-- where the stack is full, the last call is one that was refused
+abbrev pub with_refusal : {B V : Type 0} → List (Event B V) → List (Event B V)
+with_refusal (Called f globals registers ∷ l) = Refused f ∷ l
+with_refusal l = l
+
+-- ---- accesses
+
+-- an access has a byte in common with so many bytes from an address on
+abbrev pub touches : Option (ℕ × ℕ) → ℕ → ℕ → Bool
+touches None a size = false
+touches (Some x) a size = nat_lt x.0 (a + size) && nat_lt a (x.0 + x.1)
+
 -- ---- registers that are kept
+
+-- those that a callee keeps
+abbrev pub kept_registers : List ℕ
+kept_registers = 3 ∷ 4 ∷ 5 ∷ 6 ∷ 7 ∷ 8 ∷ 9 ∷ 10 ∷ 11 ∷ 12 ∷ 13 ∷ 14 ∷ 15 ∷ 16 ∷ 17 ∷ 18 ∷ []
 
 -- the register of a web in which a function is a member
 pub record IsMembers (d : List (List ℕ × Directives)) (f : List ℕ) (r : ℕ) : Type 0 where
@@ -91,7 +107,7 @@ pub record IsMembers (d : List (List ℕ × Directives)) (f : List ℕ) (r : ℕ
 -- On the return from a function each register from 3 to 18 holds what it held at the call, but those of the webs in
 -- which the function is a member.
 abbrev pub KeepsRegisters : {B V : Type 0} → List (List ℕ × Directives) → Event B V → Type 0
-KeepsRegisters d (Returned f gs before after) =
+KeepsRegisters d (Returned f inner gs before after) =
     (r : ℕ) → 3 ≤ r → r ≤ 18 → ¬ IsMembers d f r → slice_get after (r - 3) ≡ slice_get before (r - 3)
 KeepsRegisters d _ = Unit {0}
 

@@ -1,6 +1,6 @@
 -- The traffic of globals that registers hold: the memory is loaded from and stored to by entries of their webs
 -- alone, once a call, and nothing is called behind the store.
-use Rattle.std.specs.Prelude.{ℕ, ◌≡◌, true, List, [], ◌∷◌, map, Contains}
+use Rattle.std.specs.Prelude.{ℕ, zero, suc, ◌≡◌, true, List, [], ◌∷◌, map, Contains}
 use Rattle.pw_value.specs.declared.value.Kind.{Kind}
 use Rattle.pw_db.specs.declared.database.Web.{Web}
 use Rattle.pw_db.specs.declared.database.Role.TheVariants.{Entry}
@@ -19,15 +19,17 @@ pub record Open (B V : Type 0) : Type 0 where
 abbrev pub with_event : {B V : Type 0} → Event B V → Open B V → Open B V
 with_event e c = record c { inside = e ∷ c.inside }
 
-abbrev pub tail : {X : Type 0} → List X → List X
-tail [] = []
-tail (x ∷ xs) = xs
+-- without the one behind so many
+abbrev pub without : {X : Type 0} → ℕ → List X → List X
+without n [] = []
+without zero (x ∷ xs) = xs
+without (suc n) (x ∷ xs) = x ∷ without n xs
 
 -- the calls that are active after what was noted, the innermost first
 abbrev pub active : {B V : Type 0} → List (Event B V) → List (Open B V)
 active [] = []
 active (Called f gs rs ∷ l) = record { function = f; inside = [] } ∷ map (with_event (Called f gs rs)) (active l)
-active (Returned f gs rs ss ∷ l) = map (with_event (Returned f gs rs ss)) (tail (active l))
+active (Returned f inner gs rs ss ∷ l) = map (with_event (Returned f inner gs rs ss)) (without inner (active l))
 active (e ∷ l) = map (with_event e) (active l)
 
 -- ---- the law
@@ -71,7 +73,7 @@ Obeys g d (Loaded v) calls = IsCovered g d v → StandsInEntry d v (Loaded v) ca
 Obeys g d (Stored v) calls = IsCovered g d v → StandsInEntry d v (Stored v) calls × OnlyWhereWritten d v calls
 Obeys g d (Called f gs rs) calls = (v : List ℕ) → IsCovered g d v → NoneHasStored d v calls
 Obeys g d (Refused f) calls = (v : List ℕ) → IsCovered g d v → NoneHasStored d v calls
-Obeys g d (Returned f gs rs ss) calls = Unit {0}
+Obeys g d (Returned f inner gs rs ss) calls = Unit {0}
 
 -- the law of a trace, the latest event first
 abbrev pub ObeysTraffic : {B V : Type 0} → Graph → List (List ℕ × Directives) → List (Event B V) → Type 0

@@ -66,6 +66,6 @@ AllStand gs n objects ss = ⊥
 abbrev pub MomentAlike : Program → flow.Moment → Event Byte Value → Type 0
 MomentAlike p (flow.Called f objects) (Called g globals registers) =
     (g ≡ f) × AllStand (globals_of p) 0 objects globals
-MomentAlike p (flow.Returned f objects) (Returned g globals before after) =
-    (g ≡ f) × AllStand (globals_of p) 0 objects globals
+MomentAlike p (flow.Returned f objects) (Returned g inner globals before after) =
+    (g ≡ f) × (inner ≡ 0) × AllStand (globals_of p) 0 objects globals
 MomentAlike p m e = ⊥

@@ -1,7 +1,12 @@
 -- What direction and allocation owe to the layers between which they stand: the statements of their laws.
 use Rattle.std.specs.Prelude.{ℕ, List}
 use Rattle.pw_db.specs.declared.database.Directives.{Directives}
+use Rattle.pw_db.specs.Database.{IsDatabase, IsDirectives}
+use Rattle.pw_flow.specs.declared.flow.FlowFn.{FlowFn}
+use Rattle.pw_flow.specs.ValidFlow.{IsFunction}
+use Rattle.pw_webflow.specs.Direction.{directed}
 use Rattle.pw_alloc.specs.declared.located.Located.{Located}
+use Rattle.pw_alloc.specs.Allocation.{allocated}
 use Rattle.pw_run.specs.Runs.{Refines, Same}
 use Rattle.pw_sound.specs.Sound.{Sound}
 use Rattle.pw_trace.specs.Traces.{EventAlike, calls_of, Notes, KeepRegisters}
@@ -11,7 +16,7 @@ use Rattle.pw_flowrun.specs.FlowRun.{flow_run}
 use Rattle.pw_webrun.specs.Programs.{IsProgram, graph_of}
 use Rattle.pw_webrun.specs.PlacedRun.{placed_run}
 use Rattle.pw_webrun.specs.Direction.{web_run, directed_functions, with_functions, MomentAlike}
-use Rattle.pw_webrun.specs.Serving.{AllServe}
+use Rattle.pw_webrun.specs.Serving.{Serves, AllServe}
 
 -- The directed run does what the flow run does, with each global in its place at each call and return; returns keep
 -- the registers; and the traffic law holds of all that it notes.
@@ -23,7 +28,7 @@ pub record DirectionKeeps (p : Program) (d : List (List ℕ × Directives)) (inp
 abbrev pub DirectionKeepsRuns : Type 0
 DirectionKeepsRuns =
     (p : Program) (d : List (List ℕ × Directives)) (input : List ℕ) →
-    IsProgram p → Sound (graph_of p) d → DirectionKeeps p d input
+    IsProgram p → IsDatabase d → Sound (graph_of p) d → DirectionKeeps p d input
 
 -- Where places serve, the placed run does what the directed run does and notes the same; returns keep the
 -- registers.
@@ -34,4 +39,8 @@ pub record PlacesKeep (p : Program) (d : List (List ℕ × Directives)) (functio
 abbrev pub PlacesKeepRuns : Type 0
 PlacesKeepRuns =
     (p : Program) (d : List (List ℕ × Directives)) (functions : List Located) (input : List ℕ) →
-    IsProgram p → Sound (graph_of p) d → AllServe (directed_functions p d) functions → PlacesKeep p d functions input
+    IsProgram p → IsDatabase d → Sound (graph_of p) d → AllServe (directed_functions p d) functions → PlacesKeep p d functions input
+
+-- The places that allocation gives, in its first form, serve.
+abbrev pub AllocationServes : Type 0
+AllocationServes = (f : FlowFn) (d : Directives) → IsFunction f → IsDirectives d → Serves (directed f d) (allocated (directed f d))

@@ -25,8 +25,8 @@ use Rattle.pw_alloc.specs.declared.located.Located.{Located}
 use Rattle.pw_alloc.specs.Allocation.{is_entry}
 use Rattle.pw_run.specs.Runs.{View, Stage, Going, Over, Wrong, Ended, StackFull}
 use Rattle.pw_run.specs.Runs as run
-use Rattle.pw_trace.specs.Traces.{Standing, InMemory, InPlace, Event, Called, Refused, Returned, Loaded, Stored}
-use Rattle.pw_flowrun.specs.Values.{binary}
+use Rattle.pw_trace.specs.Traces.{Standing, InMemory, InPlace, Event, Called, Refused, Returned, Loaded, Stored, kept_registers}
+use Rattle.pw_flowrun.specs.Values.{binary, is_somewhere}
 use Rattle.pw_flowrun.specs.Memory.{look, poke, copy}
 use Rattle.pw_flowrun.specs.Programs.{Program, Library, GetChar, PutChar, Exit, library_at, globals_of, global_number, start_objects}
 use Rattle.pw_flowrun.specs.Commands as command
@@ -39,10 +39,6 @@ pub record PlacedProgram : Type 0 where
   pub flow : Program
   pub functions : List Located
   pub eligible : List (List ℕ)
-
--- the registers that a callee keeps
-abbrev pub kept_registers : List ℕ
-kept_registers = 3 ∷ 4 ∷ 5 ∷ 6 ∷ 7 ∷ 8 ∷ 9 ∷ 10 ∷ 11 ∷ 12 ∷ 13 ∷ 14 ∷ 15 ∷ 16 ∷ 17 ∷ 18 ∷ []
 
 -- A function that is active: what is left of its block; its temporaries by their numbers; the number of the object
 -- of its first slot; where its result goes; what it saved; and what the kept registers held at its call.
@@ -207,7 +203,7 @@ library_call p f m =
 
 abbrev pub library_return : PlacedProgram → List ℕ → Machine → Machine
 library_return p f m =
-    noted (Returned f (globals_now p m.registers (m.frame ∷ m.callers) m.objects) (kept m.registers) (kept m.registers)) m
+    noted (Returned f 0 (globals_now p m.registers (m.frame ∷ m.callers) m.objects) (kept m.registers) (kept m.registers)) m
 
 -- Registers 19 and 20 are kept over no call.
 abbrev pub without_scratch : (ℕ → Value) → ℕ → Value
@@ -331,7 +327,7 @@ jumps b m = to_block (slice_get m.frame.function.body.blocks b)
 abbrev pub branches : Value → ℕ → ℕ → Machine → Step
 branches (Num zero) b c m = jumps c m
 branches (Num (suc n)) b c m = jumps b m
-branches (At p) b c m = jumps b m
+branches (At p) b c m = if is_somewhere m.objects p then jumps b m else Astray
 branches v b c m = Astray
 
 -- what was saved is there again, and the caller goes on with the result
@@ -340,7 +336,7 @@ given_back p v caller callers m =
     let registers = without_scratch (with_registers m.frame.saved m.registers) in
     let objects = end_from (length m.objects - m.frame.base) m.frame.base m.objects in
     On (takes_result m.frame.result v (noted
-    (Returned (name_of m.frame) (globals_now p registers (caller ∷ callers) objects) m.frame.before (kept registers))
+    (Returned (name_of m.frame) 0 (globals_now p registers (caller ∷ callers) objects) m.frame.before (kept registers))
     (record m { frame = caller; callers = callers; registers = registers; objects = objects })))
 
 abbrev pub returns : PlacedProgram → Option ℕ → Machine → Step

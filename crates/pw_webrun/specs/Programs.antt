@@ -1,11 +1,13 @@
 -- What a lawful program of flow modules is, what the rules of webs see of it, and the same program under directives.
-use Rattle.std.specs.Prelude.{ℕ, ◌≤◌, Bool, true, false, ◌&&◌, if◌then◌else◌, Option, Some, None, List, [], ◌∷◌, ◌++◌, map, filter, Contains}
+use Rattle.std.specs.Prelude.{ℕ, ◌≡◌, ◌<◌, ◌≤◌, Bool, true, false, ◌&&◌, if◌then◌else◌, Option, Some, None, List, [], ◌∷◌, ◌++◌, map, filter, Contains}
 use Rattle.std.specs.List.{flat_map, list_any, AllByRecursion}
 use Rattle.std.specs.Str.{bytes_eq}
 use Rattle.pw_value.specs.ProgramNames.{start_name}
 use Rattle.pw_value.specs.Limits.{stack_most}
 use Rattle.pw_value.specs.declared.value.Kind.{Kind}
 use Rattle.pw_files.specs.Rising.{IsRising}
+use Rattle.pw_flow.specs.declared.flow.Item.{Item}
+use Rattle.pw_flow.specs.declared.flow.Item.TheVariants.{Bytes, Address}
 use Rattle.pw_flow.specs.declared.flow.Op.{Op}
 use Rattle.pw_flow.specs.declared.flow.Op.TheVariants.{AddrGlobal, AddrFn, LoadG, StoreG, Call, CallInd}
 use Rattle.pw_flow.specs.declared.flow.FlowGlobal.{FlowGlobal}
@@ -17,22 +19,48 @@ use Rattle.pw_flowrun.specs.Programs.{Program, functions_of, globals_of, names_o
 
 -- ---- lawful programs
 
+abbrev pub ops_of : FlowFn → List Op
+ops_of f = flat_map (λ b. b.ops) f.blocks
+
+abbrev pub IsFunctionName : Program → List ℕ → Type 0
+IsFunctionName p name = Contains (names_of p) name
+
+abbrev pub IsGlobalName : Program → List ℕ → Type 0
+IsGlobalName p name = Contains (map (λ g. g.name) (globals_of p)) name
+
+-- a name that an operation names is that of a function, or of a global, as the operation wants one
+abbrev pub NamesRightly : Program → Op → Type 0
+NamesRightly p (AddrGlobal t g n) = IsGlobalName p g
+NamesRightly p (AddrFn t f) = IsFunctionName p f
+NamesRightly p (LoadG t g k) = IsGlobalName p g
+NamesRightly p (StoreG g a k) = IsGlobalName p g
+NamesRightly p (Call t f args) = IsFunctionName p f
+NamesRightly p _ = Unit {0}
+
+-- An item is of bytes, or an address, to which nothing is added where it is that of a function.
+abbrev pub IsItem : Program → Item → Type 0
+IsItem p (Bytes bytes) = AllByRecursion (λ byte. byte < 256) bytes
+IsItem p (Address name offset) = IsFunctionName p name → offset ≡ 0
+
 -- The modules are lawful and stand in byte order. No name is defined twice, and every name that they use is
--- defined. The program has a `$start`, whose frame the stack can hold, and the stack is no
--- greater than may be asked for.
+-- defined, as what it is used for. The program has a `$start`, which takes nothing, and the stack is no greater than may
+-- be asked for.
 pub record IsProgram (p : Program) : Type 0 where
   pub modules : AllByRecursion IsValid p.modules
   pub order : IsRising (map (λ m. m.name) p.modules)
   pub names : AreDistinct (names_of p ++ map (λ g. g.name) (globals_of p))
   pub defined : (name : List ℕ) → Contains (flat_map named_in p.modules) name → Contains (names_of p ++ map (λ g. g.name) (globals_of p)) name
+  pub ops : (f : FlowFn) (o : Op) → Contains (functions_of p) f → Contains (ops_of f) o → NamesRightly p o
+  pub items : (g : FlowGlobal) → Contains (globals_of p) g → AllByRecursion (λ i. IsItem p i.1) g.items
   pub start : Contains (map (λ f. f.name) (functions_of p)) start_name
+  pub start_takes_nothing : (f : FlowFn) → Contains (functions_of p) f → f.name ≡ start_name → f.params ≡ 0
   pub stack : p.stack ≤ stack_most
-  pub start_fits : p.frame_of start_name ≤ p.stack
+
+-- the stack can hold the frame of `$start`
+abbrev pub StartFits : Program → Type 0
+StartFits p = p.frame_of start_name ≤ p.stack
 
 -- ---- what the rules of webs see
-
-abbrev pub ops_of : FlowFn → List Op
-ops_of f = flat_map (λ b. b.ops) f.blocks
 
 abbrev pub has_name : List (List ℕ) → List ℕ → Bool
 has_name names name = list_any (bytes_eq name) names

@@ -2,17 +2,17 @@
 use Rattle.std.proofs.Common.{ℕ, List, inl, inr}
 use Rattle.std.specs.Prelude.{Contains, ◌⊎◌}
 use Rattle.pw_graph.specs.declared.graph.CallGraph.{CallGraph}
-use Rattle.pw_graph.specs.CallGraph.{Calls, Path, call, on, References}
+use Rattle.pw_graph.specs.CallGraph.{Calls, Path, call, on}
 use Rattle.pw_webs.specs.Webs.{Region, refers, between, outside, Joined, self, forth, back, HasCaller, IsWeb, IsClosed}
 
 -- what is joined stands in the region
-in_region : {g : CallGraph} {v r f : ℕ} → Joined g v r f → Region g v f
+pub in_region : {g : CallGraph} {v r f : ℕ} → Joined g v r f → Region g v f
 in_region (self a region) = region
 in_region (forth a b c joined calls region) = region
 in_region (back a b c joined calls region) = region
 
 -- each function on a path to one of the region stands in it, and is joined
-along : (g : CallGraph) (v r : ℕ) {a f : ℕ} → Path g a f → Joined g v r a → Region g v f → Joined g v r f
+pub along : (g : CallGraph) (v r : ℕ) {a f : ℕ} → Path g a f → Joined g v r a → Region g v f → Joined g v r f
 along g v r (call b c calls) joined region = forth r b c joined calls region
 along g v r (on b c d calls path) joined region =
     along g v r path (forth r b c joined calls (between b c d (in_region joined) (call b c calls) path region)) region

@@ -1,1 +1,2 @@
 pub mod Webs
+pub mod Walking

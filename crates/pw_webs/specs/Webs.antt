@@ -2,8 +2,9 @@
 -- allocation of 1990; the rules are this compiler's own).
 use Rattle.std.specs.Prelude.{ℕ, ◌≡◌, ◌<◌, ◌≤◌, ◌+◌, ◌*◌, ◌⊎◌, ◌↔◌, ◌==◌, if◌then◌else◌, Bool, true, false, Some, List, length, Contains, slice_get, IsTrue}
 use Rattle.std.specs.List.{sum_by}
-use Rattle.std.specs.Prelude.{ℤ, pos, ◌+ℤ◌, slice_index_or, []}
+use Rattle.std.specs.Prelude.{pos, ◌+ℤ◌, slice_index_or, []}
 use Rattle.pw_fix.specs.Row.{Holds, members as numbers}
+use Rattle.pw_fix.specs.declared.bit_row.BitRow.{BitRow}
 use Rattle.pw_graph.specs.declared.graph.CallGraph.{CallGraph}
 use Rattle.pw_graph.specs.CallGraph.{Calls, Path, References, Writes}
 use Rattle.pw_webs.specs.declared.web.RawWeb.{RawWeb}
@@ -30,6 +31,7 @@ pub record HasCaller (g : CallGraph) (v f : ℕ) : Type 0 where
 -- a connected part of the region, with its entries, which have no caller in the region
 pub record IsWeb (g : CallGraph) (v : ℕ) (members entries : List ℕ) : Type 0 where
   pub root : ℕ
+  pub within : Region g v root
   pub of : (f : ℕ) → Contains members f ↔ Joined g v root f
   pub entries_within : (f : ℕ) → Contains entries f → Contains members f
   pub entry : (f : ℕ) → Contains entries f → ¬ HasCaller g v f
@@ -87,3 +89,21 @@ pub record Interfere (a b : RawWeb) : Type 0 where
   pub in_one : Holds a.members function
   pub in_other : Holds b.members function
   pub differ : ¬ IsSameWeb a b
+
+-- ---- the webs of one global
+
+pub record IsWebAt (g : CallGraph) (v : ℕ) (w : RawWeb) : Type 0 where
+  pub raw : IsRawWeb g w
+  pub its : w.global ≡ v
+
+-- a web with this function, which is in none that is done
+pub record IsNextWeb (g : CallGraph) (v : ℕ) (done : BitRow) (root : ℕ) (w : RawWeb) : Type 0 where
+  pub web : IsWebAt g v w
+  pub of : (f : ℕ) → Holds w.members f ↔ Joined g v root f
+  pub free : ¬ Holds done root
+  pub within : Region g v root
+
+pub record AreWebsAt (g : CallGraph) (v : ℕ) (ws : List RawWeb) : Type 0 where
+  pub each : (i : ℕ) (w : RawWeb) → slice_get ws i ≡ Some w → IsWebAt g v w
+  pub order : (i j : ℕ) (w u : RawWeb) → i < j → slice_get ws i ≡ Some w → slice_get ws j ≡ Some u → (f h : ℕ) → IsLeastMember w f → IsLeastMember u h → f < h
+  pub all : (f : ℕ) → Region g v f → (w : RawWeb) × Contains ws w × Holds w.members f

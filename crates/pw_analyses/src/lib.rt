@@ -1,0 +1,17 @@
+//! What the laws of the analyser give for the layers between C and words.
+#![tactic(auto)]
+
+ghost use Rattle.pw_analyses.specs.Laws.{AnalysesCompose};
+
+use pw_sound::soundness_rests_on_relations;
+use pw_trace::traffic_rests_on_relations;
+
+/// From the laws of the analyser follows: the database that it makes of the summaries of an accepted program is lawful,
+/// and sound for the program's flow graphs; what obeys the law of traffic over the flow graphs obeys it over the
+/// summaries; and of a global all of whose webs have a register, that law speaks.
+pub fn analyses_compose()
+    ensures { AnalysesCompose }
+{
+    soundness_rests_on_relations();
+    traffic_rests_on_relations();
+}

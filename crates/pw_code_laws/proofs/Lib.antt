@@ -1,0 +1,9 @@
+pub mod Branching
+pub mod Taking
+pub mod LinkedWords
+pub mod ReadyItems
+pub mod PlacedCode
+pub mod SelectedLines
+pub mod FirstForm
+pub mod NamedAddresses
+pub mod Addresses

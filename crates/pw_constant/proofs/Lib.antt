@@ -1,0 +1,4 @@
+mod FrameLemmas
+mod MoveLemmas
+mod NullLemmas
+mod PlaceLemmas

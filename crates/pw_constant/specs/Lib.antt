@@ -1,0 +1,4 @@
+pub mod Views
+pub mod Frames
+pub mod Moves
+pub mod Nulls

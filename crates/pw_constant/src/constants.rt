@@ -1,0 +1,103 @@
+//! Integral constant expressions (ISO C90 6.4). A chain of operators may be longer than the stack is deep, so the first
+//! operands are gone down by a loop.
+
+ghost use Rattle.std.specs.Prelude.{◌≡◌, IfOk};
+ghost use Rattle.pw_constant.specs.Frames.{constancy_by, IsPartOf};
+ghost use Rattle.pw_constant.specs.Views.{view_constancy};
+ghost use Rattle.pw_rules.specs.Constants as spec;
+ghost use Rattle.pw_typed.specs.Views.{view_expr};
+
+use crate::constancy::Constancy;
+use crate::frames::{Frame, unwind};
+use pw_kinds::{is_integral, kind_in};
+use pw_typed::{TExpr, TForm};
+use std::alloc::{AllocError, Global};
+
+/// Where the value of an expression is to be sought: it is known, or an operator makes it of the first operand.
+#[derive(Clone, Copy)]
+pub enum Turn<'a> {
+    Ends(Constancy),
+    Goes(Frame, &'a TExpr),
+}
+
+/// What an expression is as a constant.
+#[cycle(constants)]
+#[tactic(auto, using(crate::proofs::FrameLemmas::unwound_push))]
+pub fn constant_of(alloc: Global, e: &TExpr) -> Result<Constancy, AllocError>
+    ensures { IfOk result (λ c. view_constancy c ≡ spec.constant_of (view_expr e.now)) }
+{
+    let mut frames = Vec::new(alloc);
+    let mut node = e;
+    loop {
+        match next_turn(alloc, node)? {
+            Turn::Ends(head) => return Ok(unwind(frames, head)),
+            Turn::Goes(frame, first) => {
+                frames.push(frame)?;
+                node = first;
+            }
+        }
+    }
+}
+
+/// One step down the first operands, with the other operands of the node.
+#[cycle(constants)]
+#[tactic(auto, unfolding(pw_typed::specs::Views::view_form), using(crate::proofs::FrameLemmas::not_integral, crate::proofs::FrameLemmas::by_form))]
+fn next_turn<'a>(alloc: Global, e: &'a TExpr) -> Result<Turn<'a>, AllocError>
+    ensures value { IfOk result (λ way. constancy_by way ≡ spec.constant_of (view_expr e.now)) }
+    ensures smaller { IfOk result (λ way. IsPartOf way e.now) }
+{
+    if !is_integral(&e.ty.ty) {
+        return Ok(Turn::Ends(Constancy::NoConstant));
+    }
+    match &e.form {
+        TForm::Number(n) => Ok(Turn::Ends(Constancy::Known(*n))),
+        TForm::Unary(operator, a) => {
+            Ok(Turn::Goes(Frame::Unary(*operator, kind_in(&a.ty.ty)), a))
+        }
+        TForm::Cast(a) => {
+            if !is_integral(&a.ty.ty) {
+                return Ok(Turn::Ends(Constancy::NoConstant));
+            }
+            Ok(Turn::Goes(Frame::Cast(kind_in(&e.ty.ty)), a))
+        }
+        TForm::Binary(operator, a, b) => {
+            if !is_integral(&a.ty.ty) || !is_integral(&b.ty.ty) {
+                return Ok(Turn::Ends(Constancy::NoConstant));
+            }
+            let signed = kind_in(&a.ty.ty).is_signed();
+            let second = constant_of(alloc, b)?;
+            Ok(Turn::Goes(Frame::Binary(*operator, signed, second), a))
+        }
+        TForm::Logic(operator, a, b) => {
+            let second = constant_of(alloc, b)?;
+            Ok(Turn::Goes(Frame::Logic(*operator, second), a))
+        }
+        TForm::Cond(a, b, c) => {
+            let second = constant_of(alloc, b)?;
+            let third = constant_of(alloc, c)?;
+            Ok(Turn::Goes(Frame::Choice(second, third), a))
+        }
+        TForm::Str(_) | TForm::Local(_) | TForm::Global(_) | TForm::Function(_) => {
+            Ok(Turn::Ends(Constancy::NoConstant))
+        }
+        TForm::Comma(_, _) | TForm::Assign(_, _) | TForm::Compound(_, _, _, _) => {
+            Ok(Turn::Ends(Constancy::NoConstant))
+        }
+        TForm::Step(_, _) | TForm::Decay(_) | TForm::Member(_, _) | TForm::Deref(_) => {
+            Ok(Turn::Ends(Constancy::NoConstant))
+        }
+        TForm::Address(_) | TForm::Call(_, _) | TForm::CallValue(_, _) => {
+            Ok(Turn::Ends(Constancy::NoConstant))
+        }
+    }
+}
+
+/// The value of a constant expression that has one.
+pub fn constant_value(alloc: Global, e: &TExpr) -> Result<Option<u32>, AllocError>
+    ensures { IfOk result (λ n. n ≡ spec.constant_value (view_expr e.now)) }
+{
+    match constant_of(alloc, e)? {
+        Constancy::Known(n) => Ok(Some(n)),
+        Constancy::NoConstant | Constancy::NoValue => Ok(None),
+    }
+}

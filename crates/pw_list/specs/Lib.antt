@@ -1,0 +1,3 @@
+pub mod DatabaseText
+pub mod Gathering
+pub mod Listing

@@ -1,0 +1,2 @@
+mod SameLaws
+pub mod CastLaws

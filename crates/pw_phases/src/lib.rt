@@ -1,0 +1,11 @@
+//! The second phase of the compiler: from a flow graph and its directives to an object.
+#![tactic(auto)]
+
+mod compiling;
+mod copying;
+mod directives;
+pub mod laws;
+mod phases;
+
+pub use directives::directives_for;
+pub use phases::phase_two;
