@@ -2,7 +2,7 @@
 
 ghost use Rattle.std.specs.Prelude.{◌≡◌, ◌+◌, ◌<◌, ◌^◌, length, IfOk, OnOk};
 ghost use Rattle.pw_lower.specs.Modules as spec;
-ghost use Rattle.pw_lower.specs.Places.{temps_from};
+ghost use Rattle.pw_lower.specs.Places.{places_of as placed, temps_from};
 ghost use Rattle.pw_typed.specs.Views.{view_function, view_locals};
 
 use crate::statements::lower_statement;
@@ -75,28 +75,43 @@ pub fn entered(alloc: Global, f: &TFunction, places: &[LocalPlace]) -> Result<Co
     Ok(code)
 }
 
-/// The flow graph of a function.
-#[tactic(auto, unfolding(pw_lower::specs::Modules::lowered_function))]
-pub fn lower_function<'a>(
+/// The code of a function whose locals have places, its last block closed.
+fn function_code<'a>(
     alloc: Global,
     name: &'a Name,
     types: &'a Types,
     f: &'a TFunction,
-) -> Result<FlowFn, NoMemory>
-    ensures { IfOk result (λ flow. flow ≡ spec.lowered_function name.now types.now (view_function f.now)) }
+    places: &'a [LocalPlace],
+) -> Result<Code, NoMemory>
+    requires { places.now ≡ placed (view_function f.now) }
+    ensures { IfOk result (λ code. code ≡ spec.function_code name.now types.now (view_function f.now)) }
 {
-    let places = places_of(alloc, f)?;
-    let mut code = entered(alloc, f, &places)?;
+    let mut code = entered(alloc, f, places)?;
     let frame = Frame {
         home: Home {
             name,
             types,
-            places: &places,
+            places,
         },
         locals: &f.locals,
     };
     lower_statement(alloc, frame, Ways { out: 0, on: 0 }, &f.body, &mut code)?;
     code.cut_here(alloc, End::Return(None), 0)?;
+    Ok(code)
+}
+
+/// The flow graph of a function.
+#[tactic(auto, unfolding(pw_lower::specs::Modules::lowered_function))]
+pub fn lower_function(
+    alloc: Global,
+    name: &Name,
+    types: &Types,
+    f: &TFunction,
+) -> Result<FlowFn, NoMemory>
+    ensures { IfOk result (λ flow. flow ≡ spec.lowered_function name.now types.now (view_function f.now)) }
+{
+    let places = places_of(alloc, f)?;
+    let code = function_code(alloc, name, types, f, &places)?;
     Ok(FlowFn {
         name: full_name(alloc, name, &f.name)?,
         shape: shape(alloc, types, &f.ty)?,
