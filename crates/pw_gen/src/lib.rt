@@ -1,0 +1,7 @@
+//! Programs made from a number, for measuring: modules whose functions count in the globals of one another, and a main.
+#![tactic(auto)]
+
+mod functions;
+mod modules;
+
+pub use modules::generate;
