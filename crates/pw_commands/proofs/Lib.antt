@@ -2,3 +2,4 @@ pub mod StopLemmas
 pub mod NeededLemmas
 pub mod RunningLemmas
 pub mod ObeysLemmas
+pub mod ShowingLemmas

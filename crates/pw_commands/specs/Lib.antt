@@ -2,3 +2,4 @@ pub mod Needed
 pub mod Linking
 pub mod Running
 pub mod Outcome
+pub mod Showing

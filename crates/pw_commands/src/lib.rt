@@ -6,6 +6,8 @@ mod kept;
 mod linking;
 mod needed;
 mod running;
+mod showing;
 
 pub use linking::link_modules;
 pub use running::run_image;
+pub use showing::{list_image, show_database};
