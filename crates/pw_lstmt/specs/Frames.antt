@@ -1,13 +1,13 @@
--- What statements are lowered in, as plain data, and the arms of an `if`.
-use Rattle.std.specs.Prelude.{ℕ, ◌+◌, Bool, true, if◌then◌else◌, List, [], ◌∷◌}
+-- What statements are lowered in, as plain data; the parts of an `if` and of a `for`.
+use Rattle.std.specs.Prelude.{ℕ, ◌+◌, Bool, true, if◌then◌else◌, Option, List, [], ◌∷◌}
 use Rattle.pw_flow.specs.declared.flow.End.TheVariants.{Jump, Branch}
 use Rattle.pw_typed.specs.Views.{view_locals}
 use Rattle.pw_lower.specs.declared.code.Code.{Code}
-use Rattle.pw_lower.specs.Codes.{Lowered, temp_of, reserve, cut_here}
+use Rattle.pw_lower.specs.Codes.{Lowered, temp_of, reserve, cut, cut_here}
 use Rattle.pw_lower.specs.declared.place.Ways.{Ways}
-use Rattle.pw_lower.specs.Expressions.{lower}
+use Rattle.pw_lower.specs.Expressions.{Home, lower}
 use Rattle.pw_lower.specs.Statements as spec
-use Rattle.pw_lower.specs.Statements.{lower_statement}
+use Rattle.pw_lower.specs.Statements.{effects, test_or_go, lower_statement}
 use Rattle.pw_types.specs.TypedTrees.{Expression, Statement, Arms, NoArm, Arm, Otherwise, NoElse, Else}
 use Rattle.pw_lexpr.specs.Homes.{view_home}
 use Rattle.pw_lparts.specs.declared.frame.Frame.{Frame}
@@ -62,3 +62,14 @@ else_code f ways (Else s) c = lower_statement f ways s c
 abbrev pub all_joined : List ℕ → Code → Code
 all_joined [] c = c
 all_joined (join ∷ rest) c = cut_here (Jump join) join (all_joined rest c)
+
+-- A `for` up to its body, and behind it: its four blocks are numbered from its head on.
+abbrev pub for_opened : Home → Option Expression → Option Expression → Code → Code
+for_opened h first condition c =
+    let head = c.blocks in
+    test_or_go h condition (head + 1) (head + 3) (c.depth + 1)
+    (cut (Jump head) head (c.depth + 1) (effects h first (reserve 4 c)))
+
+abbrev pub for_closed : Home → Option Expression → ℕ → ℕ → Code → Code
+for_closed h third head outer c =
+    cut (Jump head) (head + 3) outer (effects h third (cut (Jump (head + 2)) (head + 2) (outer + 1) c))

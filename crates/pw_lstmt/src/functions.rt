@@ -100,6 +100,23 @@ fn function_code<'a>(
     Ok(code)
 }
 
+/// The code of a function, and the sizes of its slots.
+fn code_and_slots(
+    alloc: Global,
+    name: &Name,
+    types: &Types,
+    f: &TFunction,
+) -> Result<(Code, Items<u32>), NoMemory>
+    ensures code { IfOk result (λ made. made.0 ≡ spec.function_code name.now types.now (view_function f.now)) }
+    ensures slots { IfOk result (λ made. made.1
+        ≡ spec.slots_of types.now (view_locals f.now.locals.items) (placed (view_function f.now))) }
+{
+    let places = places_of(alloc, f)?;
+    let code = function_code(alloc, name, types, f, &places)?;
+    let slots = slots_of(alloc, types, &f.locals, &places)?;
+    Ok((code, slots))
+}
+
 /// The flow graph of a function.
 #[tactic(auto, unfolding(pw_lower::specs::Modules::lowered_function))]
 pub fn lower_function(
@@ -110,14 +127,14 @@ pub fn lower_function(
 ) -> Result<FlowFn, NoMemory>
     ensures { IfOk result (λ flow. flow ≡ spec.lowered_function name.now types.now (view_function f.now)) }
 {
-    let places = places_of(alloc, f)?;
-    let code = function_code(alloc, name, types, f, &places)?;
+    let (code, slots) = code_and_slots(alloc, name, types, f)?;
+    let blocks = in_order(alloc, code.closed, code.blocks)?;
     Ok(FlowFn {
         name: full_name(alloc, name, &f.name)?,
         shape: shape(alloc, types, &f.ty)?,
         params: f.params,
         temps: code.temps,
-        slots: slots_of(alloc, types, &f.locals, &places)?,
-        blocks: in_order(alloc, code.closed, code.blocks)?,
+        slots,
+        blocks,
     })
 }

@@ -5,7 +5,7 @@ ghost use Rattle.pw_lexpr.specs.Homes.{view_home};
 ghost use Rattle.pw_lower.specs.Codes as codes;
 ghost use Rattle.pw_lower.specs.Expressions.{lower as lowered};
 ghost use Rattle.pw_lower.specs.Statements as spec;
-ghost use Rattle.pw_lstmt.specs.Frames.{view_frame, all_joined, arm_closed, arm_code, arm_opened, arms_code, else_code, join_from, join_of, joins_of};
+ghost use Rattle.pw_lstmt.specs.Frames.{view_frame, all_joined, arm_closed, arm_code, arm_opened, arms_code, else_code, for_closed, for_opened, join_from, join_of, joins_of};
 ghost use Rattle.pw_typed.specs.Views.{view_expr, view_optional, view_stmt, view_stmts, view_arms, view_cases, view_otherwise};
 
 use pw_flow::End;
@@ -312,6 +312,44 @@ fn lower_do(
     test(alloc, frame.home, e, (inner, out), out, outer, code)
 }
 
+/// A `for` up to its body. Its blocks are numbered one after another: the head, which is answered, that of
+/// the body, that of the third part, and what stands behind the loop.
+fn open_for(
+    alloc: Global,
+    home: Home,
+    first: &Option<TExpr>,
+    condition: &Option<TExpr>,
+    code: &mut Code,
+) -> Result<u32, NoMemory>
+    ensures head { IfOk result (λ head. head ≡ code.old.blocks) }
+    ensures code { OnOk result (code.new ≡ for_opened (view_home home.entry) (view_optional first.now) (view_optional condition.now) code.old) }
+{
+    let depth = further(code.depth, 1)?;
+    let head = code.reserve(4)?;
+    effects(alloc, home, first, code)?;
+    code.cut(alloc, End::Jump(head), head, depth)?;
+    let (inner, out) = (further(head, 1)?, further(head, 3)?);
+    test_or_go(alloc, home, condition, inner, out, depth, code)?;
+    Ok(head)
+}
+
+/// A `for` behind its body, by its head and the depth around it.
+fn close_for(
+    alloc: Global,
+    home: Home,
+    third: &Option<TExpr>,
+    head: u32,
+    outer: u32,
+    code: &mut Code,
+) -> Result<(), NoMemory>
+    ensures { OnOk result (code.new ≡ for_closed (view_home home.entry) (view_optional third.now) head outer code.old) }
+{
+    let (on, out) = (further(head, 2)?, further(head, 3)?);
+    code.cut(alloc, End::Jump(on), on, further(outer, 1)?)?;
+    effects(alloc, home, third, code)?;
+    code.cut(alloc, End::Jump(head), out, outer)
+}
+
 /// Lowers a `for`.
 #[cycle(statement)]
 fn lower_for(
@@ -327,17 +365,10 @@ fn lower_for(
         ≡ spec.counting (view_home frame.entry.home) (view_optional first.now) (view_optional condition.now) (view_optional third.now) (λ own d. spec.lower_statement (view_frame frame.entry) own (view_stmt body.now) d) code.old) }
 {
     let outer = code.depth;
-    let depth = further(outer, 1)?;
-    let head = code.reserve(4)?;
-    let (inner, on) = (further(head, 1)?, further(head, 2)?);
-    let out = further(head, 3)?;
-    effects(alloc, frame.home, first, code)?;
-    code.cut(alloc, End::Jump(head), head, depth)?;
-    test_or_go(alloc, frame.home, condition, inner, out, depth, code)?;
+    let head = open_for(alloc, frame.home, first, condition, code)?;
+    let (on, out) = (further(head, 2)?, further(head, 3)?);
     lower_statement(alloc, frame, Ways { out, on }, body, code)?;
-    code.cut(alloc, End::Jump(on), on, depth)?;
-    effects(alloc, frame.home, third, code)?;
-    code.cut(alloc, End::Jump(head), out, outer)
+    close_for(alloc, frame.home, third, head, outer, code)
 }
 
 /// Lowers a `switch`.
