@@ -1,5 +1,5 @@
 -- The graph of summaries, which goes by places, as the rules of directives see it, by names.
-use Rattle.std.specs.Prelude.{ℕ, zero, suc, ◌≡◌, ◌≢◌, Bool, nat_lt, if◌then◌else◌, None, List, [], ◌∷◌, map, length, slice_index_or, Contains}
+use Rattle.std.specs.Prelude.{ℕ, zero, suc, ◌≢◌, Bool, nat_lt, if◌then◌else◌, None, List, [], ◌∷◌, map, length, slice_index_or, Contains}
 use Rattle.std.specs.List.{flat_map, list_any}
 use Rattle.std.specs.Str.{bytes_eq}
 use Rattle.pw_value.specs.declared.value.Kind.TheVariants.{W32}

@@ -1,5 +1,5 @@
 -- A list of flow modules as a program: its functions and objects by their names and numbers.
-use Rattle.std.specs.Prelude.{ℕ, ◌≡◌, ◌<◌, ◌+◌, ◌==◌, Bool, true, false, if◌then◌else◌, Option, Some, None, option_map, unwrap_or, List, [], ◌∷◌, ◌++◌, map, find, position, count_by, replicate, slice_get, codes, bytes_eq, Contains}
+use Rattle.std.specs.Prelude.{ℕ, ◌≡◌, ◌<◌, ◌==◌, true, if◌then◌else◌, Option, Some, None, option_map, List, [], ◌∷◌, ◌++◌, map, find, position, count_by, replicate, slice_get, codes, bytes_eq, Contains}
 use Rattle.std.specs.List.{flat_map, AllByRecursion}
 use Rattle.std.specs.Cmp.Lexicographic.{slice_cmp}
 use Rattle.std.specs.Ordering.{nat_cmp, is_lt}

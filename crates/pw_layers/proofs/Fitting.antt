@@ -1,5 +1,5 @@
 -- The frame of a function whose places serve it is at most the room of its flow graph.
-use Rattle.std.proofs.Common.{◌≡◌, ℕ, ◌+◌, ◌-◌, ◌*◌, ◌/◌, ◌≤◌, ◌<◌, List, [], ◌∷◌, ◌++◌, length, refl, ap, sym, ◌∙◌, subst, arith}
+use Rattle.std.proofs.Common.{◌≡◌, ℕ, ◌+◌, ◌-◌, ◌*◌, ◌≤◌, ◌<◌, List, [], ◌∷◌, ◌++◌, length, refl, ap, sym, ◌∙◌, subst, arith}
 use Rattle.std.specs.Prelude.{suc, max, Option, Some, None, map, Contains}
 use Rattle.std.specs.List.{flat_map, sum_by}
 use Rattle.std.proofs.lemmas.List.{map-append}
@@ -23,7 +23,7 @@ use Rattle.pw_lower.specs.Modules.{flow_room}
 use Rattle.pw_alloc.specs.declared.located.Place.{Place}
 use Rattle.pw_alloc.specs.declared.located.Place.TheVariants.{Slot, Reg}
 use Rattle.pw_alloc.specs.declared.located.Located.{Located}
-use Rattle.pw_alloc.specs.Frames.{argument_count, most_arguments, ops_of, head_size, round8, slots_begin, last_reach}
+use Rattle.pw_alloc.specs.Frames.{argument_count, most_arguments, ops_of, round8, slots_begin, last_reach}
 use Rattle.pw_webrun.specs.Serving.{slots_alone, Changes, places, enters, Serves}
 use Rattle.pw_layers.specs.Rooms.{PlacesFit}
 use Rattle.pw_layers.proofs.Frames.{first_there, map_there}

@@ -16,8 +16,7 @@ use Rattle.pw_flow.specs.ValidFlow.{AreDistinct}
 use Rattle.pw_webflow.specs.declared.web.WebFn.{WebFn}
 use Rattle.pw_alloc.specs.declared.located.Located.{Located}
 use Rattle.pw_object.specs.declared.object.Object.{Object}
-use Rattle.pw_object.specs.declared.functions.ObjectFn.{ObjectFn}
-use Rattle.pw_link.specs.Layout.{Piece, piece_of, routine_pieces, function_pieces, pieces_of, placed_from, text_of, in_order}
+use Rattle.pw_link.specs.Layout.{Piece, piece_of, routine_pieces, function_pieces, pieces_of, placed_from, in_order}
 use Rattle.pw_link.specs.Linking.{function_of, linked}
 use Rattle.pw_flowrun.specs.Programs.{functions_of, globals_of}
 use Rattle.pw_webrun.specs.Direction.{directed_by}

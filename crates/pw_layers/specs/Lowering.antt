@@ -1,6 +1,6 @@
 -- What lowering owes: the flow graphs of a program do what the program means, and at each call and return the
 -- globals have the values that the C meaning gives them.
-use Rattle.std.specs.Prelude.{ℕ, suc, ◌≡◌, ◌≢◌, true, Option, Some, None, Result, Ok, List, [], ◌∷◌, map, codes, Contains}
+use Rattle.std.specs.Prelude.{ℕ, suc, ◌≡◌, ◌≢◌, true, Option, Some, None, Ok, List, [], ◌∷◌, map, codes, Contains}
 use Rattle.pw_value.specs.declared.value.Kind.{Kind}
 use Rattle.pw_value.specs.declared.value.Value.{Value}
 use Rattle.pw_value.specs.declared.value.Value.TheVariants as V

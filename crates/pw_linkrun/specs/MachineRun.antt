@@ -1,7 +1,7 @@
 -- The machine's run with what it notes. A function is called where the next step stands at its address and is not
 -- nullified. The call is active until a later step stands at the address that register 2 held at the call, with
 -- register 30 as it was then. A step loads or stores a global where its access has a byte of it.
-use Rattle.std.specs.Prelude.{ℕ, zero, suc, ◌≡◌, ◌+◌, ◌-◌, ◌==◌, ◌&&◌, not, nat_lt, Bool, if◌then◌else◌, Option, Some, None, List, [], ◌∷◌, ◌++◌, map, filter, find, length, count_by}
+use Rattle.std.specs.Prelude.{ℕ, zero, suc, ◌+◌, ◌-◌, ◌==◌, ◌&&◌, not, nat_lt, Bool, if◌then◌else◌, Option, Some, None, List, [], ◌∷◌, ◌++◌, map, filter, find, length, count_by}
 use Rattle.std.specs.List.{flat_map}
 use Rattle.std.specs.Str.{bytes_eq}
 use Rattle.pw_inst.specs.declared.Inst.{Inst}

@@ -2,7 +2,7 @@
 use Rattle.std.specs.Prelude.{ℕ, List}
 use Rattle.std.proofs.Common.{inl, inr}
 use Rattle.pw_db.specs.declared.database.Directives.{Directives}
-use Rattle.pw_sound.specs.CallGraphs.{Graph, Calls, Path, call, on, Reads, Writes, References, SayTheSame}
+use Rattle.pw_sound.specs.CallGraphs.{Graph, Path, call, on, References, SayTheSame}
 use Rattle.pw_sound.specs.Sound.{Needs, refers, keeps, Sound}
 
 -- ---- from the second graph back to the first

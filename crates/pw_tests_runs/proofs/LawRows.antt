@@ -1,20 +1,18 @@
 -- What the statements of laws take in and leave out.
-use Rattle.std.specs.Prelude.{ℕ, ◌≡◌, ◌≤◌, ◌<◌, true, false, Bool, None, List, [], ◌∷◌, map, codes, Contains}
-use Rattle.std.specs.List.{AllByRecursion}
+use Rattle.std.specs.Prelude.{ℕ, ◌≡◌, ◌≤◌, ◌<◌, true, false, Bool, None, List, [], ◌∷◌, map, codes}
 use Rattle.std.specs.Str.{bytes_eq}
-use Rattle.std.proofs.Common.{arith, subst, sym, refl, ◌∙◌}
+use Rattle.std.proofs.Common.{arith, subst, refl}
 use Rattle.std.proofs.lemmas.List.Elements.{All-contains, All-from_recursion}
 use Rattle.pw_inst.specs.declared.Inst.TheVariants.{Ldil}
 use Rattle.pw_inst.specs.declared.line.Line.TheVariants.{Fixed, CallTo}
 use Rattle.pw_inst.specs.declared.relocation.FixKind.TheVariants as kind
 use Rattle.pw_inst.specs.declared.relocation.Symbol.TheVariants as symbol
 use Rattle.pw_flow.specs.declared.flow.Item.TheVariants.{Bytes, Address}
-use Rattle.pw_flow.specs.declared.flow.Op.TheVariants.{AddrFn, AddrGlobal, LoadG, Call}
-use Rattle.pw_value.specs.declared.value.Kind.TheVariants.{W32}
+use Rattle.pw_flow.specs.declared.flow.Op.TheVariants.{AddrFn, Call}
 use Rattle.pw_trace.specs.Traces.{Event, Called, Returned}
 use Rattle.pw_trace.specs.Traffic.{active}
-use Rattle.pw_flowrun.specs.Programs.{Program, names_of, AreBytes, NoneForLibrary}
-use Rattle.pw_webrun.specs.Programs.{IsGlobalName, IsFunctionName, NamesRightly, IsItem, StartFits}
+use Rattle.pw_flowrun.specs.Programs.{Program, names_of, AreBytes}
+use Rattle.pw_webrun.specs.Programs.{IsFunctionName, NamesRightly, IsItem, StartFits}
 use Rattle.pw_linkrun.specs.CodeStands.{IsReady}
 use Rattle.pw_linkrun.specs.Laws.{AreNamesApart}
 use Rattle.pw_tests_runs.proofs.Programs.{bumping, bump, program, global}

@@ -4,3 +4,4 @@ mod PlacedRows
 mod LineRows
 mod LawfulRows
 mod LawRows
+mod ProgramRows

@@ -1,5 +1,5 @@
 -- How what holds of all that a run notes goes from run to run.
-use Rattle.std.specs.Prelude.{ℕ, ◌≡◌, ◌≤◌, List}
+use Rattle.std.specs.Prelude.{ℕ, ◌≡◌, List}
 use Rattle.std.proofs.Common.{arith, subst, sym, ap, refl}
 use Rattle.pw_run.specs.Runs.{End, View, Stage, Going, Over, Wrong, AreAlike, GoesOn, EndsSo, Met, Refines}
 use Rattle.pw_trace.specs.Traces.{shown_by, Notes}
