@@ -4,6 +4,6 @@ pub mod LinkedWords
 pub mod ReadyItems
 pub mod PlacedCode
 pub mod SelectedLines
-pub mod FirstForm
+pub mod ServedLines
 pub mod NamedAddresses
 pub mod Addresses

@@ -498,12 +498,15 @@ unfolding numbers
 numbers_apart n [] = tt
 numbers_apart n (b ∷ rest) = (numbers_above n (n + 1) rest (omega arith), numbers_apart (n + 1) rest)
 
-pub selected_ready : (f : Located) → IsLocated f → AreReady (selected f)
+pub ready_by : (f : Located) → AreLines (selected f) → AreReady (selected f)
 unfolding selected
-selected_ready f h =
+ready_by f lines =
     let blocks = blocks_lines f (slot_offsets f) 0 f.body.blocks in
-    let apart = lines_apart (prologue f) blocks (lawful_lines f h) in
+    let apart = lines_apart (prologue f) blocks lines in
     record {
       each = all_ready (prologue f) blocks (inside_ready (prologue f) apart.0 (prologue_in f)) (blocks_ready f (slot_offsets f) 0 f.body.blocks apart.1);
       labels = subst AreApart (sym (inside_labels (prologue f) blocks (prologue_in f) ∙ block_labels f (slot_offsets f) 0 f.body.blocks)) (numbers_apart 0 f.body.blocks);
     }
+
+pub selected_ready : (f : Located) → IsLocated f → AreReady (selected f)
+selected_ready f h = ready_by f (lawful_lines f h)

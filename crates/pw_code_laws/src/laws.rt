@@ -1,4 +1,4 @@
-//! Laws of allocation, selection, placement and the linker's addresses.
+//! Laws of selection, placement and the linker's addresses.
 
 ghost use Rattle.std.specs.Prelude.{ℕ, ◌≡◌, ◌<◌, ◌^◌, None, List};
 ghost use Rattle.pw_db.specs.declared.database.Directives.{Directives};
@@ -7,25 +7,17 @@ ghost use Rattle.pw_link.specs.Linking.{size_fault};
 ghost use Rattle.pw_flowrun.specs.Programs.{Program};
 ghost use Rattle.pw_webrun.specs.Programs.{IsProgram};
 ghost use Rattle.pw_webrun.specs.Direction.{directed_functions};
-ghost use Rattle.pw_webrun.specs.Serving.{Serves, AllServe};
+ghost use Rattle.pw_webrun.specs.Serving.{AllServe};
 ghost use Rattle.pw_lines.specs.Addresses.{AreLawful};
 ghost use Rattle.pw_linkrun.specs.Laws.{AreObjectsOf, AreNamesApart};
 ghost use Rattle.pw_code_laws.specs.LinkedAddresses.{linked_addresses};
-ghost use Rattle.pw_webflow.specs.declared.web.WebFn.{WebFn};
-ghost use Rattle.pw_webflow.specs.ValidWebs.{IsWebFn};
 ghost use Rattle.pw_alloc.specs.declared.located.Located.{Located};
-ghost use Rattle.pw_alloc.specs.Allocation.{allocated};
 ghost use Rattle.pw_alloc.specs.ValidPlaces.{IsLocated};
 ghost use Rattle.pw_select.specs.Selection.{selected};
 ghost use Rattle.pw_delay.specs.Branches.{AreSent};
-ghost use Rattle.pw_linkrun.specs.CodeStands.{AreReady, PlacedCodeStands};
+ghost use Rattle.pw_linkrun.specs.CodeStands.{AreReady, SelectionIsReady, PlacedCodeStands};
 
 use pw_delay::laws::calls_and_jumps_are_relocated;
-
-/// A word of the frame for each temporary serves every function: no value is lost that is still needed.
-pub fn first_form_serves()
-    ensures { (f : WebFn) → IsWebFn f → Serves f (allocated f) }
-{}
 
 /// The code of selected lines is made of words of which each call and each jump has its relocation.
 pub fn selected_calls_are_relocated()
@@ -37,7 +29,8 @@ pub fn selected_calls_are_relocated()
 /// What is selected of a lawful function can be made words: each instruction has its fields in range and takes
 /// what a linker puts into it, lines name no word, and no block begins twice.
 pub fn selected_lines_are_ready()
-    ensures { (f : Located) → IsLocated f → AreReady (selected f) }
+    ensures located { (f : Located) → IsLocated f → AreReady (selected f) }
+    ensures served { SelectionIsReady }
 {}
 
 /// Wherever the words of placed lines stand in a text, with their relocations done, the lines stand as items:

@@ -41,8 +41,8 @@ use Rattle.pw_oplines.proofs.PlaceableOps.{moved_good, places_good, called_good,
 
 -- the places are registers, and the offsets numbers of 32 bits
 pub record LayoutGood (l : Layout) : Type 0 where
-  places : AllByRecursion PlaceGood l.places
-  slots : AllByRecursion Fits l.slots
+  pub places : AllByRecursion PlaceGood l.places
+  pub slots : AllByRecursion Fits l.slots
 
 slot_fits : (slots : List ℤ) (s : ℕ) → AllByRecursion Fits slots → Fits (unwrap_or (slice_get slots s) (pos 0))
 slot_fits [] s h = omega arith
@@ -181,10 +181,10 @@ entry_good frame h =
 
 -- what is known of a lawful function
 pub record Good (f : Located) : Type 0 where
-  body : IsWebFn f.body
-  frame : f.frame < 2 ^ 21
-  saved : AllByRecursion (λ r. r < 32) f.saved
-  layout : LayoutGood (layout f.places (slot_offsets f))
+  pub body : IsWebFn f.body
+  pub frame : f.frame < 2 ^ 21
+  pub saved : AllByRecursion (λ r. r < 32) f.saved
+  pub layout : LayoutGood (layout f.places (slot_offsets f))
 
 prologue_good : (f : Located) → Good f → AreLines (prologue f)
 prologue_good f g =
