@@ -1,5 +1,5 @@
 -- Names with linkage by their places, and changes of one of them.
-use Rattle.std.proofs.Common.{◌≡◌, ℕ, suc, ◌+◌, ◌<◌, Bool, cond, not, nat_lt, List, [], ◌∷◌, ◌++◌, length, map, set, get_or, position, bytes_eq, Option, None, Some, slice_get, refl, ap, sym, ◌∙◌}
+use Rattle.std.proofs.Common.{◌≡◌, ℕ, suc, ◌+◌, cond, not, nat_lt, List, [], ◌∷◌, length, map, position, bytes_eq, Option, None, Some, slice_get, refl, ap, sym, ◌∙◌}
 use Rattle.std.specs.Cmp.Lexicographic.{nat_list_eq_equiv}
 use Rattle.std.specs.List.{position_or_len}
 use Rattle.std.specs.Option.{option_map_or}

@@ -1,8 +1,6 @@
 -- Lists with one of their items changed, and with one more behind them.
-use Rattle.std.proofs.Common.{◌≡◌, ℕ, zero, suc, ◌-◌, ◌<◌, ◌≤◌, List, [], ◌∷◌, ◌++◌, length, map, reverse, set, take, get_or, position, bytes_eq, Option, None, Some, slice_get, refl, ap, sym, subst, ◌∙◌, arith}
-use Rattle.std.proofs.lemmas.Grind.{common_steps}
+use Rattle.std.proofs.Common.{◌≡◌, ℕ, zero, suc, ◌<◌, ◌≤◌, List, [], ◌∷◌, ◌++◌, length, map, reverse, set, get_or, Option, None, Some, slice_get, refl, ap, ◌∙◌, arith}
 use Rattle.std.proofs.lemmas.List.{reverse-append}
-use Rattle.std.proofs.lemmas.Option.{none-some, same_Some}
 use Rattle.std.specs.Option.{option_map_or}
 use Rattle.pw_rules.specs.States.{put_at}
 use Rattle.pw_checking.specs.LinkedViews.{changed_at}

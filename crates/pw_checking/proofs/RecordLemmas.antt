@@ -1,5 +1,5 @@
 -- Structures and unions that are not defined yet.
-use Rattle.std.proofs.Common.{◌≡◌, ℕ, Bool, true, false, List, set, Option, None, Some, is_some, slice_get, refl, ap, sym, ◌∙◌}
+use Rattle.std.proofs.Common.{◌≡◌, ℕ, false, List, set, Option, None, Some, is_some, slice_get, refl, ap, sym, ◌∙◌}
 use Rattle.std.specs.Option.{option_map_or}
 use Rattle.pw_types.specs.TypeTrees.{RecordValue, ContentValue}
 use Rattle.pw_types.specs.Records.{declared, defined, kind_at}

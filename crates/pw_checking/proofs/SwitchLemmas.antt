@@ -1,5 +1,5 @@
 -- The switches around, of which the innermost stands last in the code's list and first in the rules'.
-use Rattle.std.proofs.Common.{◌≡◌, ℕ, zero, suc, ◌-◌, ◌<◌, ◌==◌, Bool, not, List, [], ◌∷◌, ◌++◌, length, map, reverse, set, take, get_or, Option, None, Some, is_some, slice_get, option_map, refl, ap, sym, subst, ◌∙◌, arith}
+use Rattle.std.proofs.Common.{◌≡◌, ℕ, suc, ◌-◌, not, List, [], ◌∷◌, ◌++◌, length, map, reverse, set, take, get_or, Option, None, Some, is_some, slice_get, option_map, refl, ap, sym, subst, ◌∙◌, arith}
 use Rattle.std.proofs.lemmas.Grind.{common_steps}
 use Rattle.std.proofs.lemmas.Option.{none-some, slice_get_within, slice_get-get_or, slice_get_read}
 use Rattle.std.specs.Borrow.{Bor}

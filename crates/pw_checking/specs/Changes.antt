@@ -1,8 +1,8 @@
 -- Changes of the state that are parts of rules.
-use Rattle.std.specs.Prelude.{ℕ, ◌+◌, ◌-◌, ◌==◌, List, [], ◌∷◌, ◌++◌, length, map, filter, Option, Some}
+use Rattle.std.specs.Prelude.{ℕ, ◌+◌, ◌-◌, ◌==◌, List, [], ◌∷◌, ◌++◌, length, map, filter, Some}
 use Rattle.pw_types.specs.TypeTrees.{QType}
 use Rattle.pw_types.specs.TypedTrees.{CaseValue, LocalValue, PlacedItem}
-use Rattle.pw_rules.specs.States.{State, no_body, with_body, with_made, with_scopes, one_deeper}
+use Rattle.pw_rules.specs.States.{State, no_body, with_body, with_scopes, one_deeper}
 use Rattle.pw_rules.specs.Linkage.{change_linked}
 use Rattle.pw_rules.specs.Statements.{with_switch}
 use Rattle.pw_rules.specs.Functions.{declared_again}

@@ -1,5 +1,5 @@
 -- The plain data that specifiers, declarators and their parts show.
-use Rattle.std.specs.Prelude.{ℕ, Option, None, Some, List, map}
+use Rattle.std.specs.Prelude.{Option, None, Some, List, map}
 use Rattle.std.specs.Borrow.{Bor}
 use Rattle.pw_tree.specs.declared.expr.Word.{Word}
 use Rattle.pw_tree.specs.Trees as tree

@@ -12,7 +12,7 @@ ghost use Rattle.pw_rules.specs.Statements as statements;
 ghost use Rattle.pw_checking.specs.Changes as changes;
 ghost use Rattle.pw_checking.specs.EntityViews.{view_switch};
 ghost use Rattle.pw_checking.specs.PhraseViews.{view_bindings};
-ghost use Rattle.pw_checking.specs.StateViews.{view_state};
+ghost use Rattle.pw_checking.specs.StateViews.{view_body_state, view_state};
 ghost use Rattle.pw_typed.specs.Views.{view_case, view_local, view_locals};
 ghost use Rattle.pw_types.specs.Views.{view_qtype};
 
@@ -41,8 +41,15 @@ impl<'a> State<'a> {
     {
         let body = BodyState::begun(alloc, result_type, locals, names)?;
         self.enter_parameters(bindings)?;
-        self.body = body;
+        self.put_body(body);
         Ok(())
+    }
+
+    // Another body is read.
+    fn put_body(&mut self, body: BodyState<'a>)
+        ensures { view_state self.new ≡ spec.with_body (λ _. view_body_state body.entry) (view_state self.old) }
+    {
+        self.body = body;
     }
 
     // A scope is entered with the names and tags of the parameter list.

@@ -1,4 +1,4 @@
-use Rattle.std.proofs.Common.{◌≡◌, ℕ, [], ◌∷◌, ◌++◌, ap, rules, arith}
+use Rattle.std.proofs.Common.{[], ◌∷◌, ◌++◌, ap, rules, arith}
 use Rattle.pw_typed.specs.Views.{view_case}
 use Rattle.pw_rules.specs.States.{with_body}
 use Rattle.pw_checking.specs.EntityViews.{view_switch}

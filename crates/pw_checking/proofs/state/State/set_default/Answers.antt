@@ -1,4 +1,4 @@
-use Rattle.std.proofs.Common.{◌≡◌, ℕ, Some, refl, ap, rules, arith}
+use Rattle.std.proofs.Common.{Some, refl, ap, rules, arith}
 use Rattle.pw_rules.specs.States.{with_body}
 use Rattle.pw_checking.specs.EntityViews.{view_switch}
 use Rattle.pw_checking.specs.StateViews.{view_state}

@@ -1,0 +1,10 @@
+//! What declarators make of a type, and the limits on types and names that are declared (C90 5.2.4.1, 6.5.4).
+#![tactic(auto)]
+
+pub mod completeness;
+pub mod derivations;
+pub mod limits;
+
+pub use completeness::{completed, spot_of};
+pub use derivations::{STEPS_MAX, built, step_point, step_type};
+pub use limits::{IDENTIFIER_LIMIT, long_shape_of, many_parameters, name_within, type_within};
