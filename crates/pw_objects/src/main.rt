@@ -7,11 +7,25 @@
 
 mod shown;
 
+ghost use Rattle.pw_flow.specs.ValidFlow.{IsValid};
+ghost use Rattle.pw_db.specs.Database.{IsDatabase};
+
 use pw_db::{Database, read_payload};
+use pw_flow::FlowModule;
+use pw_object::Object;
 use pw_phases::{directives_for, phase_two};
 use shown::push_object;
 use std::alloc::{AllocError, Global};
 use std::io::{self, BufRead, BufReader};
+
+/// The object of a lawful module, with its directives in a database.
+fn compiled(alloc: Global, flow: &FlowModule, db: &Database) -> Result<Object, AllocError>
+    requires lawful { IsValid flow.now }
+    requires database { IsDatabase db.now.functions }
+{
+    let directives = directives_for(alloc, flow, db)?;
+    phase_two(alloc, flow, &directives)
+}
 
 /// Adds what is printed for a flow file under directives.
 fn push_answer(
@@ -24,8 +38,7 @@ fn push_answer(
     else {
         return output.extend_from_slice(b"no files");
     };
-    let directives = directives_for(alloc, &flow, &Database { functions })?;
-    let object = phase_two(alloc, &flow, &directives)?;
+    let object = compiled(alloc, &flow, &Database { functions })?;
     push_object(alloc, output, &object)
 }
 
