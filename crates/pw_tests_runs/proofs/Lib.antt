@@ -5,3 +5,5 @@ mod LineRows
 mod LawfulRows
 mod LawRows
 mod ProgramRows
+mod RegisterRows
+mod WordRows
