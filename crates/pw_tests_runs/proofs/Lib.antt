@@ -7,3 +7,5 @@ mod LawRows
 mod ProgramRows
 mod RegisterRows
 mod WordRows
+mod SourceRows
+mod AcceptedRows

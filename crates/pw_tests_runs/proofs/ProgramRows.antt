@@ -37,7 +37,7 @@ all_differ name (x ∷ rest) e =
     let k = both_hold (not (bytes_eq x name)) (list_all (λ other. not (bytes_eq other name)) rest) e in
     (differ x name k.0, all_differ name rest k.1)
 
-pub are_distinct : List (List ℕ) → Bool
+unfoldable pub are_distinct : List (List ℕ) → Bool
 are_distinct [] = true
 are_distinct (name ∷ rest) = list_all (λ other. not (bytes_eq other name)) rest && are_distinct rest
 
