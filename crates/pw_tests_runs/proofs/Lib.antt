@@ -5,3 +5,7 @@ mod LineRows
 mod LawfulRows
 mod LawRows
 mod ProgramRows
+mod RegisterRows
+mod WordRows
+mod SourceRows
+mod AcceptedRows

@@ -25,23 +25,23 @@ both_hold true true e = (refl, refl)
 both_hold true false e = absurd cc
 both_hold false b e = absurd cc
 
-differ : (a b : List ℕ) → not (bytes_eq a b) ≡ true → a ≢ b
+pub differ : (a b : List ℕ) → not (bytes_eq a b) ≡ true → a ≢ b
 differ a b e same =
     let is : bytes_eq a b ≡ true = (bytes_eq-Decides a b).1 same in
     let wrong : not true ≡ true = subst (λ (t : Bool). not t ≡ true) is e in
     absurd cc
 
-all_differ : (name : List ℕ) (others : List (List ℕ)) → list_all (λ other. not (bytes_eq other name)) others ≡ true → AllByRecursion (λ other. other ≢ name) others
+pub all_differ : (name : List ℕ) (others : List (List ℕ)) → list_all (λ other. not (bytes_eq other name)) others ≡ true → AllByRecursion (λ other. other ≢ name) others
 all_differ name [] e = tt
 all_differ name (x ∷ rest) e =
     let k = both_hold (not (bytes_eq x name)) (list_all (λ other. not (bytes_eq other name)) rest) e in
     (differ x name k.0, all_differ name rest k.1)
 
-are_distinct : List (List ℕ) → Bool
+unfoldable pub are_distinct : List (List ℕ) → Bool
 are_distinct [] = true
 are_distinct (name ∷ rest) = list_all (λ other. not (bytes_eq other name)) rest && are_distinct rest
 
-distinct : (names : List (List ℕ)) → are_distinct names ≡ true → AreDistinct names
+pub distinct : (names : List (List ℕ)) → are_distinct names ≡ true → AreDistinct names
 unfolding are_distinct
 distinct [] e = tt
 distinct (name ∷ rest) e =
@@ -56,7 +56,7 @@ module_of = record { name = codes "a"; globals = global (codes "n") ∷ []; func
 lawful_global : IsGlobal (global (codes "n"))
 lawful_global = record { size = omega arith; kind = refl; items = tt }
 
-lawful_bump : IsFunction bump
+pub lawful_bump : IsFunction bump
 lawful_bump = record {
   few = record { few_params = omega arith; params = omega arith; room = omega arith; start = omega arith };
   blocks = (
@@ -103,7 +103,7 @@ lawful_main = record {
   );
 }
 
-lawful_start : IsFunction start
+pub lawful_start : IsFunction start
 lawful_start = record {
   few = record { few_params = omega arith; params = omega arith; room = omega arith; start = omega arith };
   blocks = (
