@@ -15,4 +15,3 @@ put_tells (Ok u) (Some first) (Some after) before now line ok failed cause = (li
 put_tells (Err e) None (Some after) before now line ok failed cause = absurd failed
 put_tells (Err e) (Some first) (Some after) before now line ok failed cause =
     (take failed.0 line, drop failed.0 line, sym (take-append-drop failed.0 line), failed.2, inr cause)
-

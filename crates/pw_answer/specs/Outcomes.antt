@@ -114,4 +114,3 @@ LeavesStreams (LinkRefused fault) input input' output output' = (input' ≡ inpu
 LeavesStreams (BadFile name at) input input' output output' = (input' ≡ input) × (output' ≡ output)
 LeavesStreams StoreFault input input' output output' = (input' ≡ input) × (output' ≡ output)
 LeavesStreams _ input input' output output' = Unit {0}
-

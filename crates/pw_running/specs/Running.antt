@@ -49,4 +49,3 @@ IsRunAnswer (LinkRefused fault) = ⊥
 IsRunAnswer StoreFault = ⊥
 IsRunAnswer (BadFile name at) = ⊥
 IsRunAnswer _ = Unit {0}
-
