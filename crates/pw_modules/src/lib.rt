@@ -6,5 +6,5 @@ mod modules;
 mod sources;
 
 pub use laws::modules_are_exact;
-pub use modules::Module;
+pub use modules::{Module, is_module_name};
 pub use sources::{module_names, read_modules};

@@ -31,7 +31,7 @@ fn are_name_bytes(name: &[u8]) -> bool
 }
 
 /// Whether a module may have this name: 1 to 64 letters, digits, `_` or `-`.
-fn is_module_name(name: &[u8]) -> bool
+pub fn is_module_name(name: &[u8]) -> bool
     ensures { result ≡ is_module_name name.now }
 {
     if name.is_empty() || name.len() > 64 {

@@ -8,7 +8,7 @@ use std::alloc::Global;
 use std::test::Fail;
 
 /// The payload of an image, and its listing.
-const ROWS: [(&[u8], &str); 3] = [
+const ROWS: &[(&[u8], &str)] = &[
     (
         b"\x00\x00\x10\x00\x00\x00\x10\x00\x00\x000\x00\x00\x00\x00\x037\xde\x00\x80k\xc2?\xd9\xe8@\xc0\x02\x00\x00\x00\x00\x00\x00\x00\x00\x00\x00\x00\x01\x00\x00\x00\x04main\x00\x00\x00\x01\x00\x00\x00\x00\x00\x00\x10\x00\x00\x00\x00@\x00\x00\x00\x00",
         "main frame 64\n00001000 37de0080 LDO 64(30),30\n00001004 6bc23fd9 STW 2,-20(30)\n00001008 e840c002 BV,n 0(2)\n",
@@ -40,11 +40,15 @@ fn fault(alloc: Global, file: &[u8]) -> Option<usize> {
     }
 }
 
+/// Whether an image has this listing.
+fn is_listing(alloc: Global, payload: &[u8], wanted: &str) -> Result<bool, Fail> {
+    Ok(text(alloc, payload)?.as_slice() == wanted.as_bytes())
+}
+
 #[test]
 fn listings(rt: HostRuntime) -> Result<(), Fail> {
     for (payload, wanted) in ROWS {
-        let made = text(rt.alloc(), payload)?;
-        assert_eq!(rt; made.as_slice(), wanted.as_bytes());
+        assert!(rt; is_listing(rt.alloc(), payload, wanted)?);
     }
     Ok(())
 }

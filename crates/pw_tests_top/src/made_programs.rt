@@ -4,7 +4,7 @@ use pw_gen::generate;
 use std::test::Fail;
 
 /// The files of the program.
-const FILES: [(&str, &str); 3] = [
+const FILES: &[(&str, &str)] = &[
     (
         "m0.i",
         "unsigned g0;\nextern unsigned g1;\nunsigned f1_0(unsigned x);\nunsigned f0_1(unsigned x);\nunsigned f0_0(unsigned x){g0=g0*496u+x; g0=g0^200u; return f0_1(x+g0);}\nunsigned f0_2(unsigned x);\nunsigned f0_1(unsigned x){g0=g0*195u+x; g0=g0^312u; return f0_2(x+g0);}\nunsigned f0_3(unsigned x);\nunsigned f0_2(unsigned x){g0=g0*774u+x; g0=g0^450u; return f0_3(x+g0);}\nunsigned f0_4(unsigned x);\nunsigned f0_3(unsigned x){g0=g0*893u+x; g0=g0^413u; return f0_4(x+g0);}\nunsigned f0_5(unsigned x);\nunsigned f0_4(unsigned x){g0=g0*711u+x; g1=g1^849u; return f0_5(x+g0);}\nunsigned f0_6(unsigned x);\nunsigned f0_5(unsigned x){g0=g0*280u+x; g0=g0^419u; return f0_6(x+g0);}\nunsigned f0_7(unsigned x);\nunsigned f0_6(unsigned x){g0=g0*735u+x; g1=g1^829u; return f0_7(x+g0);}\nunsigned f0_7(unsigned x){g0=g0*850u+x; g0=g0^623u; return f1_0(x+g0);}\n",
@@ -19,12 +19,19 @@ const FILES: [(&str, &str); 3] = [
     ),
 ];
 
+/// Whether files have these names and texts.
+fn are_files(files: &[(String, Vec<u8>)], wanted: &[(&str, &str)]) -> bool {
+    for (file, row) in files.iter().zip(wanted) {
+        if file.0.as_str() != row.0 || file.1.as_slice() != row.1.as_bytes() {
+            return false;
+        }
+    }
+    files.len() == wanted.len()
+}
+
 #[test]
 fn two_modules(rt: HostRuntime) -> Result<(), Fail> {
     let files = generate(rt.alloc(), 1, 2)?;
-    assert_eq!(rt; files.len(), FILES.len());
-    for (file, wanted) in files.iter().zip(FILES) {
-        assert!(rt; file.0.as_str() == wanted.0 && file.1.as_slice() == wanted.1.as_bytes());
-    }
+    assert!(rt; are_files(&files, FILES));
     Ok(())
 }

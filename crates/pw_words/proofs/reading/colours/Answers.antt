@@ -1,0 +1,16 @@
+use Rattle.std.proofs.Common.{◌≡◌, ℕ, Option, Some, refl, sym, ap, subst, ◌∙◌, rules}
+use Rattle.clap.specs.Matches.{first_value, found_of}
+use Rattle.pw_words.specs.CommandLine.{colours, number_or}
+use Rattle.pw_words.specs.Reading.{Reads}
+use Rattle.pw_words.proofs.Said.{option_said}
+use Rattle.pw_words.proofs.reading.colours.Goals as goal
+
+pub returns-in_err-number_or : goal.returns-in_err-number_or
+returns-in_err-number_or c = λ parts same.
+    let told : Reads (number_or 0 8 8 (first_value (found_of c.args.matches.now) colours)) c.from_residual.result = search rules in
+    subst (λ (o : Option ℕ). Reads o c.from_residual.result) (ap (number_or 0 8 8) (option_said colours parts c.args.matches.now refl same)) told
+
+pub returns : goal.returns
+returns c = λ parts same.
+    let told : number_or 0 8 8 (first_value (found_of c.args.matches.now) colours) ≡ Some c.in_ok-number_or.field-0 = c.in_ok-number_or.ensures.read in
+    sym (ap (number_or 0 8 8) (option_said colours parts c.args.matches.now refl same)) ∙ told

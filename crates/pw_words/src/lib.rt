@@ -1,0 +1,12 @@
+//! The words of a command line: which command they say.
+#![tactic(auto)]
+
+mod commands;
+mod fault;
+mod numbers;
+mod reader;
+mod reading;
+
+pub use commands::Command;
+pub use fault::WordsFault;
+pub use reading::command;
