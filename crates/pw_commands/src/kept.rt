@@ -61,7 +61,11 @@ impl Kept for Summary {
 }
 
 /// The value in a needed file.
-fn needed_value<S: Store, K: Kept>(alloc: Global, store: &mut S, name: &str) -> Result<K, Answer>
+fn needed_value<S: Store, K: Kept + Drop>(
+    alloc: Global,
+    store: &mut S,
+    name: &str,
+) -> Result<K, Answer>
     requires { IsNameLength (length name.now) }
     ensures value { IfSome (S.told store.old) (λ told. Needs (λ v. v) result (needed K.stands told.files name.now)) }
     ensures lawful { IfOk result K.lawful }
@@ -77,7 +81,7 @@ fn needed_value<S: Store, K: Kept>(alloc: Global, store: &mut S, name: &str) -> 
 }
 
 /// Reads the value of a module, and puts it behind others.
-fn add_value<S: Store, K: Kept>(
+fn add_value<S: Store, K: Kept + Drop>(
     alloc: Global,
     store: &mut S,
     values: &mut Vec<K>,
@@ -101,7 +105,7 @@ fn add_value<S: Store, K: Kept>(
 }
 
 /// The values of modules, in their order.
-fn read_values<S: Store, K: Kept>(
+fn read_values<S: Store, K: Kept + Drop>(
     alloc: Global,
     store: &mut S,
     modules: &[String],
@@ -143,7 +147,7 @@ fn few_modules<S: Store>(alloc: Global, store: &mut S) -> Result<Vec<String>, An
 
 /// What stands in the files of one kind of all modules, in the order of their names.
 #[tactic(auto, using(crate::proofs::StopLemmas::file_stop_stops))]
-pub fn kept_of_modules<S: Store, K: Kept>(
+pub fn kept_of_modules<S: Store, K: Kept + Drop>(
     alloc: Global,
     store: &mut S,
     ending: &str,
