@@ -8,8 +8,14 @@ use std::test::Fail;
 
 type Files = Vec<(String, Vec<u8>)>;
 
-/// A status, and the line on `err`.
-type Told = (u8, String);
+/// Bytes as text, each a character.
+fn text_of(alloc: Global, bytes: &[u8]) -> Result<String, AllocError> {
+    let mut text = String::new(alloc);
+    for byte in bytes {
+        text.push(char::from(*byte))?;
+    }
+    Ok(text)
+}
 
 /// The words of a command line.
 fn words_of(alloc: Global, line: &str) -> Result<Vec<String>, AllocError> {
@@ -20,35 +26,51 @@ fn words_of(alloc: Global, line: &str) -> Result<Vec<String>, AllocError> {
     Ok(words)
 }
 
-/// Puts a file behind others.
-fn push_file(alloc: Global, files: &mut Files, name: &str, text: &[u8]) -> Result<(), AllocError> {
-    let file = (
-        String::from_str(alloc, name)?,
-        Vec::from_slice(alloc, text)?,
-    );
-    files.push(file)?;
-    Ok(())
+/// A file of this name and text.
+fn file(alloc: Global, name: &str, text: &[u8]) -> Result<(String, Vec<u8>), AllocError> {
+    let name = String::from_str(alloc, name)?;
+    Ok((name, Vec::from_slice(alloc, text)?))
 }
 
-/// The status and the line that the words give over these files.
-fn told(alloc: Global, files: &Files, line: &str, fails: &[StoreFail]) -> Result<Told, Fail> {
-    let words = words_of(alloc, line)?;
-    let mut store = MemStore::new(alloc, files.as_slice(), fails)?;
+/// A command line, at which calls the store fails, how many bytes `err` takes, and what is told: the status,
+/// and the line on `err`.
+type Call = (&'static str, &'static [StoreFail], usize, u8, &'static str);
+
+/// The status that the words give over a store, whose line is written to `err`.
+fn status_over(
+    alloc: Global,
+    store: &mut MemStore,
+    words: &[String],
+    err: &mut MemSink,
+) -> Result<u8, AllocError> {
     let mut input = MemSource::new(alloc, b"", &[])?;
     let mut out = MemSink::new(alloc, 0, &[])?;
-    let mut err = MemSink::new(alloc, 1000, &[])?;
-    let answer = pawc_top(alloc, &words, &mut store, &mut input, &mut out, &mut err);
-    let mut text = String::new(alloc);
-    for byte in err.bytes() {
-        text.push(char::from(*byte))?;
-    }
-    Ok((status(&answer), text))
+    let answer = pawc_top(alloc, words, store, &mut input, &mut out, err);
+    Ok(status(&answer))
 }
+
+/// Whether a call over these files tells what it should.
+fn tells(alloc: Global, files: &Files, call: &Call) -> Result<bool, AllocError> {
+    let (line, fails, room, wanted, told) = *call;
+    let words = words_of(alloc, line)?;
+    let mut store = MemStore::new(alloc, files.as_slice(), fails)?;
+    let mut err = MemSink::new(alloc, room, &[])?;
+    let status = status_over(alloc, &mut store, &words, &mut err)?;
+    Ok(status == wanted && text_of(alloc, err.bytes())?.as_str() == told)
+}
+
+/// Whether a call over the module `a.i` of this text alone tells what it should.
+fn module_tells(alloc: Global, text: &[u8], call: &Call) -> Result<bool, AllocError> {
+    let files = vec![in alloc; file(alloc, "a.i", text)?]?;
+    tells(alloc, &files, call)
+}
+
+/// A text, the status of `go` over the module `a.i` of it, and its line.
+type TextRow = (&'static str, u8, &'static str);
 
 const REFUSED: &str = "a.i:1: Unsupported NotYet at token 1\n";
 
-/// One module `a.i` of this text, with the command `go`.
-const TEXTS: [(&str, u8, &str); 33] = [
+static TEXTS: [TextRow; 33] = [
     ("int main(void){return 7;}", 7, ""),
     ("int main(void){return 3+4;}", 7, ""),
     ("int main(void){return 255+2;}", 1, ""),
@@ -133,19 +155,22 @@ const TEXTS: [(&str, u8, &str); 33] = [
 
 #[test]
 fn one_module(rt: HostRuntime) -> Result<(), Fail> {
-    let alloc = rt.alloc();
-    for (text, status, line) in TEXTS {
-        let mut files = Vec::new(alloc);
-        push_file(alloc, &mut files, "a.i", text.as_bytes())?;
-        let told = told(alloc, &files, "go", &[])?;
-        assert_eq!(rt; told.0, status, "of {text}");
-        assert_eq!(rt; told.1.as_str(), line, "of {text}");
+    for (text, status, line) in TEXTS.iter() {
+        let call: Call = ("go", &[], 1000, *status, *line);
+        assert!(rt; module_tells(rt.alloc(), text.as_bytes(), &call)?, "{text}");
     }
     Ok(())
 }
 
-/// Files with their texts, command lines, and what these tell.
-const STORES: [(&[(&str, &str)], &str, u8, &str); 15] = [
+/// Files with their texts, a command line, its status and its line.
+type StoreRow = (
+    &'static [(&'static str, &'static str)],
+    &'static str,
+    u8,
+    &'static str,
+);
+
+static STORES: [StoreRow; 15] = [
     (&[], "go", 114, "link: NoMain\n"),
     (&[], "frob", 112, "usage\n"),
     (&[], "", 112, "usage\n"),
@@ -239,31 +264,103 @@ const STORES: [(&[(&str, &str)], &str, u8, &str); 15] = [
 fn files_of(alloc: Global, listed: &[(&str, &str)]) -> Result<Files, AllocError> {
     let mut files = Vec::new(alloc);
     for (name, text) in listed {
-        push_file(alloc, &mut files, name, text.as_bytes())?;
+        files.push(file(alloc, name, text.as_bytes())?)?;
     }
     Ok(files)
 }
 
 #[test]
 fn stores(rt: HostRuntime) -> Result<(), Fail> {
-    let alloc = rt.alloc();
-    for (listed, words, status, line) in STORES {
-        let files = files_of(alloc, listed)?;
-        let told = told(alloc, &files, words, &[])?;
-        assert_eq!(rt; told.0, status);
-        assert_eq!(rt; told.1.as_str(), line);
+    for (listed, words, status, line) in STORES.iter() {
+        let files = files_of(rt.alloc(), listed)?;
+        let call: Call = (*words, &[], 1000, *status, *line);
+        assert!(rt; tells(rt.alloc(), &files, &call)?, "{line}");
     }
     Ok(())
 }
 
-/// A text of the form with this count of ones.
-fn ones(alloc: Global, count: usize) -> Result<Vec<u8>, AllocError> {
-    let mut text = Vec::from_slice(alloc, b"int main(void){return 1")?;
-    for _ in 1..count {
-        text.extend_from_slice(b"+1")?;
+/// Parts of a text with how often each stands, the status of `go` over the module `a.i` of it, and its line.
+type LongRow = (&'static [(&'static [u8], usize)], u8, &'static str);
+
+/// Sums of 1, 200 and 201 numbers; texts of the greatest length and of one byte more; parentheses as deep as
+/// they may nest, and deeper; and one token more than a text may have.
+static LONG: [LongRow; 9] = [
+    (&[(b"int main(void){return 1;}", 1)], 1, ""),
+    (
+        &[(b"int main(void){return 1", 1), (b"+1", 199), (b";}", 1)],
+        200,
+        "",
+    ),
+    (
+        &[(b"int main(void){return 1", 1), (b"+1", 200), (b";}", 1)],
+        113,
+        REFUSED,
+    ),
+    (
+        &[(b" ", 1_048_551), (b"int main(void){return 7;}", 1)],
+        7,
+        "",
+    ),
+    (
+        &[(b" ", 1_048_551), (b"int main(void){return 7;} ", 1)],
+        113,
+        "a.i:1: TooLong\n",
+    ),
+    (
+        &[
+            (b"int main(void){return\n", 1),
+            (b"(", 199),
+            (b"7", 1),
+            (b")", 199),
+            (b";}", 1),
+        ],
+        113,
+        REFUSED,
+    ),
+    (
+        &[
+            (b"int main(void){return\n", 1),
+            (b"(", 200),
+            (b"7", 1),
+            (b")", 200),
+            (b";}", 1),
+        ],
+        113,
+        "a.i:2: TooDeep at token 207\n",
+    ),
+    (
+        &[
+            (b"double f(void){return\n", 1),
+            (b"(", 200),
+            (b"7", 1),
+            (b")", 200),
+            (b";}", 1),
+        ],
+        113,
+        "a.i:1: Unsupported Float at token 1\n",
+    ),
+    (&[(b";", 200_001)], 113, "a.i:1: TooMany at byte 200000\n"),
+];
+
+/// The text of the parts.
+fn joined(alloc: Global, parts: &[(&[u8], usize)]) -> Result<Vec<u8>, AllocError> {
+    let mut text = Vec::new(alloc);
+    for (part, count) in parts {
+        for _ in 0..*count {
+            text.extend_from_slice(part)?;
+        }
     }
-    text.extend_from_slice(b";}")?;
     Ok(text)
+}
+
+#[test]
+fn long_texts(rt: HostRuntime) -> Result<(), Fail> {
+    for (parts, status, line) in LONG.iter() {
+        let text = joined(rt.alloc(), parts)?;
+        let call: Call = ("go", &[], 1000, *status, *line);
+        assert!(rt; module_tells(rt.alloc(), &text, &call)?, "{line}");
+    }
+    Ok(())
 }
 
 /// This count of modules, each of this many blanks.
@@ -272,131 +369,61 @@ fn blank_modules(alloc: Global, count: u32, bytes: usize) -> Result<Files, Alloc
     let mut files = Vec::new(alloc);
     for number in 0..count {
         let name = format!(in alloc; "m{number:03}.i")?;
-        push_file(alloc, &mut files, name.as_str(), text.as_slice())?;
+        files.push(file(alloc, name.as_str(), &text)?)?;
     }
     Ok(files)
 }
 
-#[test]
-fn limits(rt: HostRuntime) -> Result<(), Fail> {
-    let alloc = rt.alloc();
-    for (count, status) in [(1, 1), (200, 200), (201, 113)] {
-        let mut files = Vec::new(alloc);
-        push_file(alloc, &mut files, "a.i", ones(alloc, count)?.as_slice())?;
-        assert_eq!(rt;
-            told(alloc, &files, "go", &[])?.0,
-            status,
-            "at {count} numbers"
-        );
-    }
-    for (bytes, status) in [(1_048_576, 7), (1_048_577, 113)] {
-        let mut text = vec![in alloc; b' '; 1_048_551]?;
-        text.extend_from_slice(b"int main(void){return 7;}")?;
-        text.resize(bytes, b' ')?;
-        let mut files = Vec::new(alloc);
-        push_file(alloc, &mut files, "a.i", text.as_slice())?;
-        assert_eq!(rt;
-            told(alloc, &files, "go", &[])?.0,
-            status,
-            "at {bytes} bytes"
-        );
-    }
-    for (count, bytes, line) in [
-        (1, 0, "m000.i:1: Syntax at token 1\n"),
-        (256, 0, "m000.i:1: Syntax at token 1\n"),
-        (257, 0, "m000.i:1: Syntax at token 1\n"),
-        (17, 1_048_577, "m000.i:1: TooLong\n"),
-    ] {
-        let files = blank_modules(alloc, count, bytes)?;
-        assert_eq!(rt;
-            told(alloc, &files, "go", &[])?.1.as_str(),
-            line,
-            "at {count} modules"
-        );
-    }
-    Ok(())
-}
-
-/// Puts a byte so often behind a text.
-fn push_times(text: &mut Vec<u8>, byte: u8, count: usize) -> Result<(), AllocError> {
-    for _ in 0..count {
-        text.push(byte)?;
-    }
-    Ok(())
-}
-
-/// A text of the given front with so many opening and closing parentheses round a 7.
-fn nested(alloc: Global, front: &[u8], count: usize) -> Result<Vec<u8>, AllocError> {
-    let mut text = Vec::from_slice(alloc, front)?;
-    push_times(&mut text, b'(', count)?;
-    text.push(b'7')?;
-    push_times(&mut text, b')', count)?;
-    text.extend_from_slice(b";}")?;
-    Ok(text)
-}
+/// How many modules there are, of how many blanks, and the line of `go`.
+const BLANKS: [(u32, usize, &str); 4] = [
+    (1, 0, "m000.i:1: Syntax at token 1\n"),
+    (256, 0, "m000.i:1: Syntax at token 1\n"),
+    (257, 0, "m000.i:1: Syntax at token 1\n"),
+    (17, 1_048_577, "m000.i:1: TooLong\n"),
+];
 
 #[test]
-fn depth_and_count(rt: HostRuntime) -> Result<(), Fail> {
-    let alloc = rt.alloc();
-    let (whole, half) = (
-        b"int main(void){return\n".as_slice(),
-        b"double f(void){return\n".as_slice(),
-    );
-    let many = vec![in alloc; b';'; 200_001]?;
-    for (text, line) in [
-        (nested(alloc, whole, 199)?, REFUSED),
-        (nested(alloc, whole, 200)?, "a.i:2: TooDeep at token 207\n"),
-        (
-            nested(alloc, half, 200)?,
-            "a.i:1: Unsupported Float at token 1\n",
-        ),
-        (many, "a.i:1: TooMany at byte 200000\n"),
-    ] {
-        let mut files = Vec::new(alloc);
-        push_file(alloc, &mut files, "a.i", text.as_slice())?;
-        assert_eq!(rt; told(alloc, &files, "go", &[])?.1.as_str(), line);
+fn many_modules(rt: HostRuntime) -> Result<(), Fail> {
+    for (count, bytes, line) in &BLANKS {
+        let files = blank_modules(rt.alloc(), *count, *bytes)?;
+        let call: Call = ("go", &[], 1000, 113, *line);
+        assert!(rt; tells(rt.alloc(), &files, &call)?, "{count}");
     }
     Ok(())
 }
+
+const SEVEN: &str = "int main(void){return 7;}";
+
+/// A store that fails at its first call and leaves what it has; at its second; at its third.
+const FIRST: StoreFail = StoreFail {
+    call: 1,
+    leaves: Left::Old,
+};
+
+const SECOND: StoreFail = StoreFail {
+    call: 2,
+    leaves: Left::Old,
+};
+
+const THIRD: StoreFail = StoreFail {
+    call: 3,
+    leaves: Left::Old,
+};
+
+/// A text, and a call over the module `a.i` of it: stores that fail, and `err` that takes nothing.
+static CALLS: [(&str, Call); 6] = [
+    (SEVEN, ("go", &[FIRST], 1000, 120, "StoreFault\n")),
+    (SEVEN, ("go", &[SECOND], 1000, 120, "StoreFault\n")),
+    (SEVEN, ("go", &[THIRD], 1000, 7, "")),
+    (SEVEN, ("go", &[], 0, 7, "")),
+    ("", ("go", &[], 0, 113, "")),
+    (SEVEN, ("frob", &[], 0, 112, "")),
+];
 
 #[test]
 fn faults(rt: HostRuntime) -> Result<(), Fail> {
-    let alloc = rt.alloc();
-    let mut files = Vec::new(alloc);
-    push_file(alloc, &mut files, "a.i", b"int main(void){return 7;}")?;
-    for (call, status, line) in [
-        (1, 120, "StoreFault\n"),
-        (2, 120, "StoreFault\n"),
-        (3, 7, ""),
-    ] {
-        let fails = [StoreFail {
-            call,
-            leaves: Left::Old,
-        }];
-        let told = told(alloc, &files, "go", &fails)?;
-        assert_eq!(rt; told.0, status, "at call {call}");
-        assert_eq!(rt; told.1.as_str(), line);
-    }
-    Ok(())
-}
-
-#[test]
-fn nobody_listens(rt: HostRuntime) -> Result<(), Fail> {
-    let alloc = rt.alloc();
-    for (text, line, wanted) in [
-        ("int main(void){return 7;}", "go", 7),
-        ("", "go", 113),
-        ("int main(void){return 7;}", "frob", 112),
-    ] {
-        let mut files = Vec::new(alloc);
-        push_file(alloc, &mut files, "a.i", text.as_bytes())?;
-        let words = words_of(alloc, line)?;
-        let mut store = MemStore::new(alloc, files.as_slice(), &[])?;
-        let mut input = MemSource::new(alloc, b"", &[])?;
-        let mut out = MemSink::new(alloc, 0, &[])?;
-        let mut err = MemSink::new(alloc, 0, &[])?;
-        let answer = pawc_top(alloc, &words, &mut store, &mut input, &mut out, &mut err);
-        assert_eq!(rt; status(&answer), wanted, "of {line}");
+    for (text, call) in CALLS.iter() {
+        assert!(rt; module_tells(rt.alloc(), text.as_bytes(), call)?);
     }
     Ok(())
 }

@@ -41,7 +41,7 @@ fn sources(rt: HostRuntime) -> Result<(), Fail> {
     let mut sure = SureSource::new(rt.alloc(), b"ab")?;
     let mut failing = MemSource::new(rt.alloc(), b"ab", &[2, 5])?;
     let found = (answers(&mut sure, &SURE), answers(&mut failing, &FAILING));
-    assert_eq!(rt; found, (true, true));
+    assert!(rt; found == (true, true));
     Ok(())
 }
 
@@ -209,7 +209,7 @@ fn failing_store(rt: HostRuntime) -> Result<(), Fail> {
     let first = all_left(&mut store, rt.alloc()) && refuses(&mut store, rt.alloc());
     store.put(rt.alloc(), "b", b"new")?;
     let second = serves(&mut store, rt.alloc())? && are_same(store.puts(), &["b", "c", "B"]);
-    assert_eq!(rt; (first, second), (true, true));
+    assert!(rt; (first, second) == (true, true));
     Ok(())
 }
 
@@ -219,6 +219,6 @@ fn sure_store(rt: HostRuntime) -> Result<(), Fail> {
     let mut store = SureStore::new(rt.alloc(), &files)?;
     let is_last = store.bytes_of("b") == Some(b"new".as_slice());
     let second = serves(&mut store, rt.alloc())? && are_same(store.puts(), &["c", "B"]);
-    assert_eq!(rt; (is_last, second), (true, true));
+    assert!(rt; (is_last, second) == (true, true));
     Ok(())
 }

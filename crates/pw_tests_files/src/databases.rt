@@ -52,7 +52,7 @@ const FUNCTIONS: [(&[u8], &[WebRow]); 3] = [
 ];
 
 /// Bytes of `FULL` that are set, each with the offset of the fault in the payload.
-const DAMAGES: [(usize, u8, usize); 19] = [
+static DAMAGES: [(usize, u8, usize); 19] = [
     (61, 0, 58),
     (65, 0, 62),
     (54, 0, 54),
@@ -75,7 +75,7 @@ const DAMAGES: [(usize, u8, usize); 19] = [
 ];
 
 /// Bytes of `PLAIN` that are set, each with the offset of the fault in the file.
-const FILE_DAMAGES: [(usize, u8, usize); 12] = [
+static FILE_DAMAGES: [(usize, u8, usize); 12] = [
     (1, 1, 26),
     (5, 1, 16),
     (11, 1, 21),
@@ -156,10 +156,15 @@ fn is_written_again(alloc: Global, bytes: &[u8]) -> Result<bool, Fail> {
     }
 }
 
+/// Whether `FULL` is read as it should be.
+fn is_full_read(alloc: Global) -> Result<bool, Fail> {
+    let db = full(alloc)?;
+    Ok(are_functions(db.functions.as_slice(), &FUNCTIONS))
+}
+
 #[test]
 fn a_database(rt: HostRuntime) -> Result<(), Fail> {
-    let db = full(rt.alloc())?;
-    assert!(rt; are_functions(db.functions.as_slice(), &FUNCTIONS));
+    assert!(rt; is_full_read(rt.alloc())?);
     Ok(())
 }
 
@@ -171,11 +176,22 @@ fn written_again(rt: HostRuntime) -> Result<(), Fail> {
     Ok(())
 }
 
+/// Whether a payload is read as a list of so many functions, and written again as it was.
+fn is_payload_read(alloc: Global, bytes: &[u8], count: usize) -> Result<bool, Fail> {
+    match read_payload(alloc, bytes) {
+        Ok(list) => Ok(list.len() == count && payload(alloc, list.as_slice())?.as_slice() == bytes),
+        Err(_) => Ok(false),
+    }
+}
+
 #[test]
 fn payloads(rt: HostRuntime) -> Result<(), Fail> {
-    for (bytes, wanted) in [(FULL.as_slice(), 3usize), ([0; 8].as_slice(), 0)] {
-        let list = read_payload(rt.alloc(), bytes).ok().ok_or("a payload")?;
-        assert_eq!(rt; list.len(), wanted);
+    for (bytes, count) in [
+        (FULL.as_slice(), 3usize),
+        (PLAIN.as_slice(), 1),
+        ([0; 8].as_slice(), 0),
+    ] {
+        assert!(rt; is_payload_read(rt.alloc(), bytes, count)?, "{count}");
     }
     Ok(())
 }
@@ -183,53 +199,41 @@ fn payloads(rt: HostRuntime) -> Result<(), Fail> {
 #[test]
 fn a_payload_of_nothing(rt: HostRuntime) -> Result<(), Fail> {
     let made = payload(rt.alloc(), &[])?;
-    assert_eq!(rt; made.as_slice(), [0u8; 8].as_slice());
+    assert!(rt; made.as_slice() == [0u8; 8].as_slice());
     Ok(())
 }
 
-#[test]
-fn a_payload_again(rt: HostRuntime) -> Result<(), Fail> {
-    match read_payload(rt.alloc(), &PLAIN) {
-        Ok(list) => {
-            let made = payload(rt.alloc(), list.as_slice())?;
-            assert_eq!(rt; made.as_slice(), PLAIN.as_slice());
-        }
-        Err(e) => assert!(rt; false, "{e:?}"),
-    }
-    Ok(())
+/// Whether the functions `z` and `g` are told their webs by the database of `FULL`.
+fn are_told(alloc: Global) -> Result<bool, Fail> {
+    let names = [Name::new(alloc, b"z")?, Name::new(alloc, b"g")?];
+    let db = full(alloc)?;
+    let list = of_module(alloc, &db, &names)?;
+    Ok(are_functions(&list, &[(b"z", &[]), FUNCTIONS[1]]))
 }
 
 #[test]
 fn of_a_module(rt: HostRuntime) -> Result<(), Fail> {
-    let names = [Name::new(rt.alloc(), b"z")?, Name::new(rt.alloc(), b"g")?];
-    let file = seal(rt.alloc(), KIND, 1, &FULL)?;
-    match read(rt.alloc(), &file) {
-        Ok(db) => {
-            let list = of_module(rt.alloc(), &db, &names)?;
-            assert!(rt; are_functions(&list, &[(b"z", &[]), FUNCTIONS[1]]));
-        }
-        Err(e) => assert!(rt; false, "{e:?}"),
-    }
+    assert!(rt; are_told(rt.alloc())?);
     Ok(())
 }
 
 #[test]
 fn damaged_payloads(rt: HostRuntime) -> Result<(), Fail> {
-    for (place, value, at) in DAMAGES {
+    for (place, value, at) in DAMAGES.iter() {
         let mut damaged = FULL;
-        *damaged.get_mut(place).ok_or("a place")? = value;
-        assert_eq!(rt; payload_fault(rt.alloc(), &damaged), Some(at), "{place}");
+        *damaged.get_mut(*place).ok_or("a place")? = *value;
+        assert!(rt; payload_fault(rt.alloc(), &damaged) == Some(*at), "{place}");
     }
     Ok(())
 }
 
 #[test]
 fn damaged_databases(rt: HostRuntime) -> Result<(), Fail> {
-    for (place, value, at) in FILE_DAMAGES {
+    for (place, value, at) in FILE_DAMAGES.iter() {
         let mut damaged = PLAIN;
-        *damaged.get_mut(place).ok_or("a place")? = value;
+        *damaged.get_mut(*place).ok_or("a place")? = *value;
         let file = file_of(rt.alloc(), &damaged)?;
-        assert_eq!(rt; fault(rt.alloc(), &file), Some(at), "{place}");
+        assert!(rt; fault(rt.alloc(), &file) == Some(*at), "{place}");
     }
     Ok(())
 }
@@ -240,9 +244,8 @@ fn cut_at_every_length(rt: HostRuntime) -> Result<(), Fail> {
         let end = STARTS.get(field + 1).copied().unwrap_or(FULL.len());
         for len in STARTS[field]..end {
             let front = FULL.get(..len).ok_or("a front")?;
-            assert_eq!(rt;
-                payload_fault(rt.alloc(), front),
-                Some(STARTS[field]),
+            assert!(rt;
+                payload_fault(rt.alloc(), front) == Some(STARTS[field]),
                 "{len}"
             );
         }
@@ -253,17 +256,23 @@ fn cut_at_every_length(rt: HostRuntime) -> Result<(), Fail> {
 #[test]
 fn another_version(rt: HostRuntime) -> Result<(), Fail> {
     let file = seal(rt.alloc(), KIND, 2, &PLAIN)?;
-    assert_eq!(rt; fault(rt.alloc(), &file), Some(8));
+    assert!(rt; fault(rt.alloc(), &file) == Some(8));
     Ok(())
+}
+
+/// The offset of the fault of the file of `PLAIN`, which has 86 bytes, cut to this length.
+fn cut_fault(alloc: Global, len: usize) -> Result<Option<usize>, Fail> {
+    let file = seal(alloc, KIND, 1, &PLAIN)?;
+    if file.len() != 86 {
+        return Ok(None);
+    }
+    Ok(fault(alloc, file.get(..len).ok_or("a front")?))
 }
 
 #[test]
 fn cut_files(rt: HostRuntime) -> Result<(), Fail> {
-    let file = seal(rt.alloc(), KIND, 1, &PLAIN)?;
-    assert_eq!(rt; file.len(), 86);
     for (len, at) in CUTS {
-        let front = file.get(..len).ok_or("a front")?;
-        assert_eq!(rt; fault(rt.alloc(), front), Some(at), "{len}");
+        assert!(rt; cut_fault(rt.alloc(), len)? == Some(at), "{len}");
     }
     Ok(())
 }
@@ -272,7 +281,7 @@ fn cut_files(rt: HostRuntime) -> Result<(), Fail> {
 fn another_digest(rt: HostRuntime) -> Result<(), Fail> {
     let mut file = seal(rt.alloc(), KIND, 1, &PLAIN)?;
     *file.get_mut(85).ok_or("a last byte")? ^= 1;
-    assert_eq!(rt; fault(rt.alloc(), &file), Some(54));
+    assert!(rt; fault(rt.alloc(), &file) == Some(54));
     Ok(())
 }
 
@@ -280,6 +289,6 @@ fn another_digest(rt: HostRuntime) -> Result<(), Fail> {
 fn a_longer_payload(rt: HostRuntime) -> Result<(), Fail> {
     let mut longer = Vec::from_slice(rt.alloc(), &PLAIN)?;
     longer.push(0)?;
-    assert_eq!(rt; payload_fault(rt.alloc(), &longer), Some(42));
+    assert!(rt; payload_fault(rt.alloc(), &longer) == Some(42));
     Ok(())
 }

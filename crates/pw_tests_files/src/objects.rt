@@ -215,7 +215,7 @@ const FUNCTIONS: [FunctionRow; 2] = [
 ];
 
 /// Files with the objects that they are of.
-const OBJECTS: [(&[u8], ObjectRow); 4] = [
+static OBJECTS: [(&[u8], ObjectRow); 4] = [
     (
         EMPTY,
         ObjectRow {
@@ -270,7 +270,7 @@ const OBJECTS: [(&[u8], ObjectRow); 4] = [
 /// the offset of the fault.
 type Damage = (usize, u8, bool, usize);
 
-const DAMAGES: [Damage; 34] = [
+static DAMAGES: [Damage; 34] = [
     // The frame.
     (0, 81, false, 0),
     (7, 71, false, 4),
@@ -442,7 +442,7 @@ fn fault(alloc: Global, file: &[u8]) -> Option<usize> {
 
 #[test]
 fn objects(rt: HostRuntime) -> Result<(), Fail> {
-    for (file, row) in &OBJECTS {
+    for (file, row) in OBJECTS.iter() {
         assert!(rt; is_file_of(rt.alloc(), *file, row)?, "{}", file.len());
     }
     Ok(())
@@ -450,9 +450,9 @@ fn objects(rt: HostRuntime) -> Result<(), Fail> {
 
 #[test]
 fn damaged_objects(rt: HostRuntime) -> Result<(), Fail> {
-    for damage in &DAMAGES {
+    for damage in DAMAGES.iter() {
         let file = damaged(rt.alloc(), damage)?;
-        assert_eq!(rt; fault(rt.alloc(), &file), Some(damage.3), "{}", damage.0);
+        assert!(rt; fault(rt.alloc(), &file) == Some(damage.3), "{}", damage.0);
     }
     Ok(())
 }
@@ -462,9 +462,8 @@ fn damaged_objects(rt: HostRuntime) -> Result<(), Fail> {
 fn cut_objects(rt: HostRuntime) -> Result<(), Fail> {
     for len in 0..FULL.len() {
         let front = FULL.get(..len).ok_or("a front")?;
-        assert_eq!(rt;
-            fault(rt.alloc(), front),
-            Some(if len < 4 { 0 } else { 4 }),
+        assert!(rt;
+            fault(rt.alloc(), front) == Some(if len < 4 { 0 } else { 4 }),
             "{len}"
         );
     }
@@ -546,9 +545,8 @@ fn a_function(rt: HostRuntime) -> Result<(), Fail> {
 #[test]
 fn damaged_functions(rt: HostRuntime) -> Result<(), Fail> {
     for (place, value, left) in DAMAGES_OF_FUNCTION {
-        assert_eq!(rt;
-            fault_of_function(rt.alloc(), place, value)?,
-            Some(FieldError::Fault { left }),
+        assert!(rt;
+            fault_of_function(rt.alloc(), place, value)? == Some(FieldError::Fault { left }),
             "{place}"
         );
     }

@@ -7,30 +7,26 @@ use pw_token::{Feature, LexFault};
 use std::alloc::{AllocError, Global};
 use std::test::Fail;
 
-/// The refusal of a text, if it has one, and the line of that, or 1.
-fn told(alloc: Global, text: &[u8]) -> Result<(Option<FrontError>, usize), AllocError> {
+/// Whether a text is refused so and on this line, or not refused.
+fn is_told(
+    alloc: Global,
+    text: &[u8],
+    wanted: Option<Refusal>,
+    line: usize,
+) -> Result<bool, AllocError> {
     match front(alloc, text) {
-        Err(FrontError::Refused(refusal)) => {
-            let line = refusal_line(alloc, text, &refusal)?;
-            Ok((Some(FrontError::Refused(refusal)), line))
+        Ok(_) => Ok(wanted.is_none()),
+        Err(FrontError::Refused(found)) => {
+            Ok(refusal_line(alloc, text, &found)? == line && wanted == Some(found))
         }
-        Err(error) => Ok((Some(error), 1)),
-        Ok(_) => Ok((None, 1)),
-    }
-}
-
-/// A refusal as an error.
-fn error_of(refusal: Option<Refusal>) -> Option<FrontError> {
-    match refusal {
-        Some(refusal) => Some(FrontError::Refused(refusal)),
-        None => None,
+        Err(FrontError::NoMemory) => Err(AllocError),
     }
 }
 
 /// A text, its refusal if it has one, and the line of that.
 type Row = (&'static [u8], Option<Refusal>, usize);
 
-const TEXTS: [Row; 10] = [
+static TEXTS: [Row; 10] = [
     (b"int x;", None, 1),
     (b"int main(void){return 1;}", None, 1),
     (
@@ -73,9 +69,8 @@ const TEXTS: [Row; 10] = [
 
 #[test]
 fn texts_have_their_refusals(rt: HostRuntime) -> Result<(), Fail> {
-    for (text, refusal, line) in TEXTS {
-        let holds = told(rt.alloc(), text)? == (error_of(refusal), line);
-        assert!(rt; holds, "in {text:?}");
+    for (at, (text, refusal, line)) in TEXTS.iter().enumerate() {
+        assert!(rt; is_told(rt.alloc(), text, *refusal, *line)?, "{at}");
     }
     Ok(())
 }
@@ -91,11 +86,7 @@ const LINES: [(&[u8], Refusal, usize); 4] = [
 #[test]
 fn refusals_have_their_lines(rt: HostRuntime) -> Result<(), Fail> {
     for (text, refusal, line) in LINES {
-        assert_eq!(rt;
-            refusal_line(rt.alloc(), text, &refusal)?,
-            line,
-            "in {text:?}"
-        );
+        assert!(rt; refusal_line(rt.alloc(), text, &refusal)? == line, "{line}");
     }
     Ok(())
 }
@@ -113,8 +104,7 @@ const OPENED: [(Parts, ParseFault); 2] = [
 fn depth_before_syntax(rt: HostRuntime) -> Result<(), Fail> {
     for (parts, fault) in OPENED {
         let text = text_of(rt.alloc(), parts)?;
-        let wanted = error_of(Some(Refusal::Parse(fault)));
-        assert_eq!(rt; told(rt.alloc(), &text)?.0, wanted, "in {parts:?}");
+        assert!(rt; is_told(rt.alloc(), &text, Some(Refusal::Parse(fault)), 1)?);
     }
     Ok(())
 }

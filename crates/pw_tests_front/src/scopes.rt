@@ -6,7 +6,7 @@ use pw_scope::{
 use std::alloc::{AllocError, Global};
 use std::test::Fail;
 
-#[derive(Clone, Copy, Debug)]
+#[derive(Clone, Copy)]
 enum Step {
     /// `char NAME[SIZE];`, or with no size `extern char NAME[];`
     Declare(&'static [u8], Option<u32>),
@@ -24,7 +24,7 @@ enum Step {
 
 use Step::{Count, Cut, Declare, Enter, Leave, Use};
 
-const STEPS: [Step; 50] = [
+static STEPS: [Step; 50] = [
     Use(b"i", None),
     Declare(b"i", Some(1)),
     Declare(b"f", Some(2)),
@@ -99,26 +99,24 @@ fn take(
 fn names_stand_for_their_last_declaration(rt: HostRuntime) -> Result<(), Fail> {
     let mut scopes = Scopes::new(rt.alloc());
     let mut starts = Vec::new(rt.alloc());
-    for step in STEPS {
-        let holds = take(&mut scopes, &mut starts, step)?;
-        assert!(rt; holds, "at {step:?}");
+    for (at, step) in STEPS.iter().enumerate() {
+        assert!(rt; take(&mut scopes, &mut starts, *step)?, "{at}");
     }
     Ok(())
 }
 
-/// What `T` and `t` stand for at other places of a text than where it declares them.
-fn typedefs(alloc: Global) -> Result<(Option<bool>, Option<bool>), AllocError> {
+/// Whether `T` and `t` stand for what they should at other places of a text than where it declares them.
+fn are_typedefs(alloc: Global) -> Result<bool, AllocError> {
     let text = b"typedef int T; T t;";
     let mut scopes = Scopes::new(alloc);
     scopes.declare(&text[12..13], true)?;
     scopes.declare(&text[17..18], false)?;
-    Ok((scopes.visible(&text[15..16]), scopes.visible(b"t")))
+    Ok(scopes.visible(&text[15..16]) == Some(true) && scopes.visible(b"t") == Some(false))
 }
 
 #[test]
 fn names_are_bytes_and_no_places(rt: HostRuntime) -> Result<(), Fail> {
-    let told = typedefs(rt.alloc())?;
-    assert!(rt; told == (Some(true), Some(false)));
+    assert!(rt; are_typedefs(rt.alloc())?);
     Ok(())
 }
 

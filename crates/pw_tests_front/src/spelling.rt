@@ -5,6 +5,7 @@ use crate::modules::{CALCULATOR, are_tokens};
 use pw_parse::parse;
 use pw_spell::spell;
 use pw_token::lex;
+use std::alloc::Global;
 use std::test::Fail;
 
 /// Texts of every form: declarations and initializers, expressions, specifiers and declarators, statements.
@@ -15,24 +16,26 @@ const TEXTS: [&[u8]; 4] = [
     b"f ( ) { l : case 1 : default : if ( a ) ; else if ( b ) break ; else continue ; { int ; switch ( a ) ; while ( a ) ; do ; while ( a ) ; for ( a ; ; b ) ; } goto l ; return 0 ; return ; }",
 ];
 
+/// Whether the tree of a text is spelled as the text's tokens.
+fn is_spelled(alloc: Global, text: &[u8]) -> Result<bool, Fail> {
+    let tokens = lex(alloc, text)?;
+    let tree = Box::new(alloc, parse(alloc, text, &tokens)?)?;
+    let spelled = spell(alloc, &tree)?;
+    Ok(are_tokens(text, &tokens, &spelled))
+}
+
 #[test]
 fn trees_are_spelled_as_they_were_read(rt: HostRuntime) -> Result<(), Fail> {
-    let alloc = rt.alloc();
-    for text in TEXTS {
-        let tokens = lex(alloc, text)?;
-        let spelled = spell(alloc, &parse(alloc, text, &tokens)?)?;
-        assert!(rt; are_tokens(text, &tokens, &spelled), "in {text:?}");
+    for (at, text) in TEXTS.iter().enumerate() {
+        assert!(rt; is_spelled(rt.alloc(), text)?, "{at}");
     }
     Ok(())
 }
 
 #[test]
 fn modules_round_trip(rt: HostRuntime) -> Result<(), Fail> {
-    let alloc = rt.alloc();
-    for (text, _) in CALCULATOR {
-        let tokens = lex(alloc, text)?;
-        let spelled = spell(alloc, &parse(alloc, text, &tokens)?)?;
-        assert!(rt; are_tokens(text, &tokens, &spelled), "in {text:?}");
+    for (text, count) in CALCULATOR {
+        assert!(rt; is_spelled(rt.alloc(), text)?, "{count}");
     }
     Ok(())
 }

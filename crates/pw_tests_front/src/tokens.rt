@@ -15,7 +15,7 @@ type Row = (
     Option<(usize, Feature)>,
 );
 
-const TEXTS: [Row; 31] = [
+static TEXTS: [Row; 31] = [
     (
         b"a+++++b",
         &[
@@ -131,10 +131,10 @@ fn are_tokens(tokens: &[Token], wanted: &[(TokenKind, usize, usize)]) -> bool {
 
 #[test]
 fn texts_have_their_tokens(rt: HostRuntime) -> Result<(), Fail> {
-    for (text, wanted, feature) in TEXTS {
+    for (at, (text, wanted, feature)) in TEXTS.iter().enumerate() {
         let tokens = lex(rt.alloc(), text)?;
-        let holds = are_tokens(&tokens, wanted) && unsupported(text, &tokens) == feature;
-        assert!(rt; holds, "in {text:?}");
+        let holds = are_tokens(&tokens, wanted) && unsupported(text, &tokens) == *feature;
+        assert!(rt; holds, "{at}");
     }
     Ok(())
 }
@@ -145,7 +145,7 @@ fn fault_of(alloc: Global, text: &[u8]) -> Option<LexFault> {
 }
 
 /// Texts with the byte at which nothing starts.
-const FAULTS: [(&[u8], usize); 13] = [
+static FAULTS: [(&[u8], usize); 13] = [
     (b"a /* b", 2),
     (b"/*/", 0),
     (b"x \"ab", 2),
@@ -162,15 +162,13 @@ const FAULTS: [(&[u8], usize); 13] = [
 ];
 
 #[test]
-fn texts_have_their_faults(rt: HostRuntime) -> Result<(), Fail> {
-    for (text, at) in FAULTS {
-        assert_eq!(rt;
-            fault_of(rt.alloc(), text),
-            Some(LexFault::Bad { at }),
-            "in {text:?}"
+fn texts_have_their_faults(rt: HostRuntime) {
+    for (text, at) in FAULTS.iter() {
+        assert!(rt;
+            fault_of(rt.alloc(), text) == Some(LexFault::Bad { at: *at }),
+            "{at}"
         );
     }
-    Ok(())
 }
 
 /// A byte that stands so often, what stands behind, and the text's fault.
@@ -203,7 +201,7 @@ fn fault_of_long(
 fn long_texts_have_their_faults(rt: HostRuntime) -> Result<(), Fail> {
     for (byte, count, behind, fault) in LONG {
         let found = fault_of_long(rt.alloc(), byte, count, behind)?;
-        assert_eq!(rt; found, fault, "of {count}");
+        assert!(rt; found == fault, "of {count}");
     }
     Ok(())
 }
@@ -211,7 +209,7 @@ fn long_texts_have_their_faults(rt: HostRuntime) -> Result<(), Fail> {
 /// A text, and the first token that is nested too deep.
 type Deep = (Parts, Option<usize>);
 
-const DEPTHS: [Deep; 23] = [
+static DEPTHS: [Deep; 23] = [
     (&[(b"(", 199), (b"x", 1), (b")", 199)], None),
     (&[(b"(", 200), (b"x", 1), (b")", 200)], None),
     (&[(b"(", 201), (b"x", 1)], Some(201)),
@@ -237,12 +235,17 @@ const DEPTHS: [Deep; 23] = [
     (&[(b"(a?b;", 150), (b")", 150)], None),
 ];
 
+/// Whether this is the first token of a text that is nested too deep.
+fn is_nested(alloc: Global, parts: Parts, wanted: Option<usize>) -> Result<bool, Fail> {
+    let text = text_of(alloc, parts)?;
+    let tokens = lex(alloc, &text)?;
+    Ok(nest_fault(&text, &tokens) == wanted)
+}
+
 #[test]
 fn texts_are_not_nested_too_deep(rt: HostRuntime) -> Result<(), Fail> {
-    for (parts, wanted) in DEPTHS {
-        let text = text_of(rt.alloc(), parts)?;
-        let tokens = lex(rt.alloc(), &text)?;
-        assert_eq!(rt; nest_fault(&text, &tokens), wanted, "in {parts:?}");
+    for (at, (parts, wanted)) in DEPTHS.iter().enumerate() {
+        assert!(rt; is_nested(rt.alloc(), parts, *wanted)?, "{at}");
     }
     Ok(())
 }
@@ -251,12 +254,10 @@ fn texts_are_not_nested_too_deep(rt: HostRuntime) -> Result<(), Fail> {
 fn modules_have_their_tokens(rt: HostRuntime) -> Result<(), Fail> {
     for (text, count) in CALCULATOR {
         let tokens = lex(rt.alloc(), text)?;
-        let told = (
-            tokens.len(),
-            unsupported(text, &tokens),
-            nest_fault(text, &tokens),
-        );
-        assert!(rt; told == (count, None, None), "in {text:?}");
+        let holds = tokens.len() == count
+            && unsupported(text, &tokens).is_none()
+            && nest_fault(text, &tokens).is_none();
+        assert!(rt; holds, "{count}");
     }
     Ok(())
 }

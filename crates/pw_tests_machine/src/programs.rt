@@ -309,7 +309,6 @@ pub(crate) fn has_words(machine: &Machine, words: &[(u32, Option<u32>)]) -> bool
 #[test]
 fn words(rt: HostRuntime) -> Result<(), Fail> {
     let machine = program(rt.alloc(), ECHO)?;
-    let found = (has_words(&machine, &WORDS), machine.reg(30));
-    assert_eq!(rt; found, (true, 4224));
+    assert!(rt; has_words(&machine, &WORDS) && machine.reg(30) == 4224);
     Ok(())
 }

@@ -266,11 +266,8 @@ const STEPS: [(&str, u32, u32); 5] = [
 #[test]
 fn steps(rt: HostRuntime) -> Result<(), Fail> {
     for (name, bound, greatest) in STEPS {
-        assert_eq!(rt;
-            most_steps(rt.alloc(), name, bound)?,
-            Some(greatest),
-            "{name}"
-        );
+        let most = most_steps(rt.alloc(), name, bound)?;
+        assert!(rt; most == Some(greatest), "{name}");
     }
     Ok(())
 }
@@ -290,6 +287,6 @@ fn echoed(alloc: Global, text: &[u8]) -> Result<Vec<u8>, Fail> {
 #[test]
 fn echo(rt: HostRuntime) -> Result<(), Fail> {
     let found = echoed(rt.alloc(), b"to be, or not")?;
-    assert_eq!(rt; found.as_slice(), b"to be, or not".as_slice());
+    assert!(rt; found.as_slice() == b"to be, or not".as_slice());
     Ok(())
 }

@@ -329,46 +329,32 @@ fn made(alloc: Global, flow: &FlowModule) -> Result<Summary, Fail>
     Ok(summarise(alloc, flow)?)
 }
 
-#[test]
-fn lists_of_the_module(rt: HostRuntime) -> Result<(), Fail> {
-    let summary = made(rt.alloc(), &module(rt.alloc(), &SAMPLE)?)?;
-    assert!(rt; summary.module.as_bytes() == b"m".as_slice());
-    assert!(rt;
-        are_globals(
+/// Whether these are the names and the objects of the sample.
+fn has_lists(summary: &Summary) -> bool {
+    summary.module.as_bytes() == b"m".as_slice()
+        && are_globals(
             summary.globals.as_slice(),
             &[
                 ("a", "[2]p", None, false),
-                ("n", "i", Some(Kind::W32), true)
-            ]
+                ("n", "i", Some(Kind::W32), true),
+            ],
         )
-    );
-    assert!(rt;
-        are(
+        && are(
             summary.used.as_slice(),
-            &["c", "exit", "ext", "f", "g", "h", "k", "main", "n"]
+            &["c", "exit", "ext", "f", "g", "h", "k", "main", "n"],
         )
-    );
-    assert!(rt; are(summary.escaped.as_slice(), &["c", "ext", "k", "n"]));
-    Ok(())
+        && are(summary.escaped.as_slice(), &["c", "ext", "k", "n"])
 }
 
-#[test]
-fn shaped_lists_of_the_module(rt: HostRuntime) -> Result<(), Fail> {
-    let summary = made(rt.alloc(), &module(rt.alloc(), &SAMPLE)?)?;
-    assert!(rt;
-        are_shaped(
-            summary.functions.as_slice(),
-            &[("$start", "fv"), ("f", "fv"), ("main", "fi")]
-        )
-    );
-    assert!(rt;
-        are_shaped(
-            summary.declared.as_slice(),
-            &[("c", "i"), ("exit", "fvi"), ("h", "fv"), ("main", "fi")]
-        )
-    );
-    assert!(rt; are_shaped(summary.taken.as_slice(), &[("f", "fv"), ("h", "fv")]));
-    Ok(())
+/// Whether these are the names with shapes of the sample.
+fn has_shaped_lists(summary: &Summary) -> bool {
+    are_shaped(
+        summary.functions.as_slice(),
+        &[("$start", "fv"), ("f", "fv"), ("main", "fi")],
+    ) && are_shaped(
+        summary.declared.as_slice(),
+        &[("c", "i"), ("exit", "fvi"), ("h", "fv"), ("main", "fi")],
+    ) && are_shaped(summary.taken.as_slice(), &[("f", "fv"), ("h", "fv")])
 }
 
 /// What `$start`, `f` and `main` use. The weights of `n` are 1 + 8 + 64 + 512 + 3 * 4096 and 1 + 64 + 2 * 4096.
@@ -390,10 +376,16 @@ fn are_all_uses(uses: &[Uses], rows: &[UsesRow]) -> bool {
     true
 }
 
+/// Whether the sample is summed up as it should be.
+fn is_sample_summed_up(alloc: Global) -> Result<bool, Fail> {
+    let summary = made(alloc, &module(alloc, &SAMPLE)?)?;
+    let uses = are_all_uses(summary.uses.as_slice(), &USES);
+    Ok(uses && has_lists(&summary) && has_shaped_lists(&summary))
+}
+
 #[test]
-fn uses_of_functions(rt: HostRuntime) -> Result<(), Fail> {
-    let summary = made(rt.alloc(), &module(rt.alloc(), &SAMPLE)?)?;
-    assert!(rt; are_all_uses(summary.uses.as_slice(), &USES));
+fn sample(rt: HostRuntime) -> Result<(), Fail> {
+    assert!(rt; is_sample_summed_up(rt.alloc())?);
     Ok(())
 }
 
@@ -411,15 +403,14 @@ fn weighs(alloc: Global, count: u32, wanted: u64) -> Result<bool, Fail> {
     Ok(has_weights(&summary, wanted, 0))
 }
 
-#[test]
-fn weight_below_the_greatest(rt: HostRuntime) -> Result<(), Fail> {
-    assert!(rt; weighs(rt.alloc(), 1_048_575, 4_294_963_200)?);
-    Ok(())
-}
+/// How many reads there are, and their weight: below the greatest, and the greatest.
+const WEIGHTS: [(u32, u64); 2] = [(1_048_575, 4_294_963_200), (1_048_576, 4_294_967_295)];
 
 #[test]
-fn greatest_weight(rt: HostRuntime) -> Result<(), Fail> {
-    assert!(rt; weighs(rt.alloc(), 1_048_576, 4_294_967_295)?);
+fn weights(rt: HostRuntime) -> Result<(), Fail> {
+    for (count, wanted) in WEIGHTS {
+        assert!(rt; weighs(rt.alloc(), count, wanted)?, "{count}");
+    }
     Ok(())
 }
 
@@ -433,10 +424,14 @@ const FILE: [u8; 159] = [
     182, 29, 143, 249, 38, 74, 139, 243, 104, 102, 46, 102, 193, 236, 12, 50, 249,
 ];
 
+/// Whether the summary of `bump` is written as its file.
+fn is_bump_written(alloc: Global) -> Result<bool, Fail> {
+    let summary = made(alloc, &module(alloc, &BUMP)?)?;
+    Ok(write(alloc, &summary)?.as_slice() == FILE.as_slice())
+}
+
 #[test]
 fn written(rt: HostRuntime) -> Result<(), Fail> {
-    let summary = made(rt.alloc(), &module(rt.alloc(), &BUMP)?)?;
-    let file = write(rt.alloc(), &summary)?;
-    assert_eq!(rt; file.as_slice(), FILE.as_slice());
+    assert!(rt; is_bump_written(rt.alloc())?);
     Ok(())
 }

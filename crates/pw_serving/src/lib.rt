@@ -1,0 +1,10 @@
+//! Places of temporaries that serve: laws of allocation.
+#![tactic(auto)]
+
+ghost use Rattle.pw_webrun.specs.Laws.{AllocationServes};
+
+/// The places that allocation gives in its first form serve: no value is lost that is still needed, and exactly those
+/// registers are saved that the function changes and its callers may hold.
+pub fn first_allocation_serves()
+    ensures { AllocationServes }
+{}
