@@ -1,6 +1,6 @@
 -- The order in which webs get registers, the register of each, and the database that says so.
 use Rattle.std.specs.Prelude.{ℕ, suc, ◌≡◌, ◌<◌, ◌≤◌, ◌+◌, ◌⊎◌, ◌↔◌, ◌==◌, if◌then◌else◌, Bool, Option, Some, None, List, [], ◌∷◌, length, map, Contains, slice_get, slice_index_or}
-use Rattle.std.specs.Prelude.{ℤ, pos, ◌<ℤ◌, ◌≤ℤ◌}
+use Rattle.std.specs.Prelude.{pos, ◌<ℤ◌, ◌≤ℤ◌}
 use Rattle.std.specs.List.{flat_map, list_any}
 use Rattle.std.specs.List.Sorted.{IsPermutation}
 use Rattle.pw_value.specs.declared.value.Kind.{Kind}

@@ -1,2 +1,10 @@
 //! Registers for webs, and the database of directives that they give.
 #![tactic(auto)]
+
+mod analysing;
+mod colouring;
+mod directing;
+pub mod laws;
+mod ranking;
+
+pub use analysing::analyse;

@@ -129,7 +129,7 @@ fn reversed(alloc: Global, edges: &[(usize, usize)]) -> Result<Vec<(usize, usize
 }
 
 /// Joins a row into one of a table.
-fn join(table: &mut BitRows, place: usize, row: &BitRow)
+pub fn join(table: &mut BitRows, place: usize, row: &BitRow)
     requires place { place < vec_len table.old.rows }
     requires row { row.now.len ≡ table.old.len }
     ensures count { vec_len table.new.rows ≡ vec_len table.old.rows }

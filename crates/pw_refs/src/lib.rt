@@ -3,4 +3,4 @@
 
 mod flows;
 
-pub use flows::ref_sets;
+pub use flows::{join, ref_sets};

@@ -1,0 +1,10 @@
+pub mod Ranks
+pub mod Same
+pub mod Given
+pub mod Numbered
+pub mod Entries
+pub mod GraphOne
+pub mod Unique
+pub mod Lawful
+pub mod Sounding
+pub mod Start

@@ -1,0 +1,28 @@
+//! The laws of databases.
+
+ghost use Rattle.std.specs.Prelude.{◌≡◌, ◌≤◌, ℕ, List, All};
+ghost use Rattle.pw_db.specs.declared.database.Directives.{Directives};
+ghost use Rattle.pw_db.specs.Database.{IsDatabase};
+ghost use Rattle.pw_summary.specs.declared.summary.Summary.{Summary};
+ghost use Rattle.pw_summary.specs.Summary.{IsSummary};
+ghost use Rattle.pw_graph.specs.declared.graph.CallGraph.{CallGraph};
+ghost use Rattle.pw_graph.specs.Program.{IsGraphOf};
+ghost use Rattle.pw_sound.specs.CallGraphs.{Graph};
+ghost use Rattle.pw_sound.specs.Sound.{Sound};
+ghost use Rattle.pw_colour.specs.Colours.{IsDatabaseOf};
+ghost use Rattle.pw_colour.specs.Naming.{IsNamed};
+
+/// Summaries have at most one database for so many registers.
+pub fn databases_are_one()
+    ensures { (ss : List Summary) (colours : ℕ) (d e : List (List ℕ × Directives)) → IsDatabaseOf ss colours d → IsDatabaseOf ss colours e → d ≡ e }
+{}
+
+/// The database of summaries keeps the rules of databases.
+pub fn databases_are_lawful()
+    ensures { (ss : List Summary) (colours : ℕ) (d : List (List ℕ × Directives)) → colours ≤ 8 → IsDatabaseOf ss colours d → IsDatabase d }
+{}
+
+/// The database of summaries is sound for the call graph that they make, said by names.
+pub fn databases_are_sound()
+    ensures { (ss : List Summary) (colours : ℕ) (d : List (List ℕ × Directives)) (g : CallGraph) (n : Graph) → colours ≤ 8 → All IsSummary ss → IsDatabaseOf ss colours d → IsGraphOf ss g → IsNamed g n → Sound n d }
+{}
