@@ -10,11 +10,11 @@ ghost use Rattle.pw_commands.specs.Outcome.{IsStop, IsStoreAnswer, Obeys, StopCo
 use crate::kept::kept_of_modules;
 use crate::linking::put_file;
 use pw_answer::Answer;
-use pw_colour::laws::{databases_are_lawful, databases_are_one};
 use pw_colour::analyse;
+use pw_colour::laws::{databases_are_lawful, databases_are_one};
 use pw_db::laws::databases_and_files_are_one_to_one;
-use pw_graph::laws::summaries_have_one_answer;
 use pw_io::Store;
+use pw_program::laws::modules_have_one_answer;
 use pw_summary::Summary;
 use pw_value::LinkFault;
 use std::alloc::Global;
@@ -64,7 +64,7 @@ pub fn analyse_modules<S: Store>(alloc: Global, store: &mut S, colours: u8) -> A
 {
     databases_are_one();
     databases_and_files_are_one_to_one();
-    summaries_have_one_answer();
+    modules_have_one_answer();
     match analysed_file(alloc, store, colours) {
         Ok(bytes) => put_file(alloc, store, "prog.db", &bytes),
         Err(answer) => answer,
