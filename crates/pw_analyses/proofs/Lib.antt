@@ -1,1 +1,2 @@
 mod Composition
+mod Joined

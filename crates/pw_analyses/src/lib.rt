@@ -1,8 +1,9 @@
 //! What the laws of the analyser give for the layers between C and words.
 #![tactic(auto)]
 
-ghost use Rattle.pw_analyses.specs.Laws.{AnalysesCompose};
+ghost use Rattle.pw_analyses.specs.Laws.{AnalysesCompose, AllLawsCompose};
 
+use pw_layers::layers_compose;
 use pw_sound::soundness_rests_on_relations;
 use pw_trace::traffic_rests_on_relations;
 
@@ -14,4 +15,14 @@ pub fn analyses_compose()
 {
     soundness_rests_on_relations();
     traffic_rests_on_relations();
+}
+
+/// From the laws of the layers and of the analyser follows of each program that was built with the database that the
+/// analyser makes of it: what holds of built programs; and where the source is defined, the law of traffic holds over the
+/// summaries, which speaks of each global all of whose webs have a register.
+pub fn all_laws_compose()
+    ensures { AllLawsCompose }
+{
+    layers_compose();
+    analyses_compose();
 }

@@ -26,7 +26,7 @@ use Rattle.pw_colour.specs.Colours.{global_of, web_of, has_number, webs_of, dire
 use Rattle.pw_colour.specs.Naming.{IsNamed}
 use Rattle.pw_colour.proofs.GraphOne.{map_same}
 use Rattle.pw_colour.proofs.Numbered.{number_there}
-use Rattle.pw_colour.proofs.Lawful.{once_there, two_of, AreApart, IsWebOf, web_from, web_to, holds_number, IsMade, global_at, one_global, lawful}
+use Rattle.pw_colour.proofs.Lawful.{once_there, two_of, AreApart, IsWebOf, web_from, web_to, holds_number, IsMade, global_at, one_global}
 
 module _ (g : CallGraph) (colours : ℕ) (qs : List (ℕ × RawWeb × ℕ)) (db : List (List ℕ × Directives)) (n : Graph) (made : IsMade g colours qs db) (named : IsNamed g n) where
   one_place : (i j : ℕ) (f : List ℕ) → slice_get g.functions i ≡ Some f → slice_get g.functions j ≡ Some f → i ≡ j
@@ -217,5 +217,5 @@ module _ (g : CallGraph) (colours : ℕ) (qs : List (ℕ × RawWeb × ℕ)) (db 
     registers = registers;
     eligible = eligible;
     writes = written;
-    database = lawful g colours qs db few made;
+    free = λ f directives has. ap (λ (d : Directives). d.free) ((made.of f directives).0 has).2;
   }

@@ -111,7 +111,7 @@ composes map sense low direction places selection link p d functions objects sta
     let s = selection q d functions l.addresses l.scratch input program built.database built.sound built.serve frames start l.lawful bytes in
     let h = whole p q d functions v (frame_in v) stack input
     (record {
-      low = low p (frame_in v) stack input built.accepted frames.library bytes;
+      low = low p (frame_in v) stack input built.checked built.accepted frames.library bytes;
       direction = direction q d input program built.database built.sound;
       places = places q d functions input program built.database built.sound built.serve;
       link = l;

@@ -1,4 +1,5 @@
 pub mod Source
 pub mod Lowering
+pub mod Accepting
 pub mod Rooms
 pub mod Whole

@@ -15,6 +15,9 @@ use Rattle.pw_flow.specs.declared.flow.FlowGlobal.{FlowGlobal}
 use Rattle.pw_flow.specs.declared.flow.FlowFn.{FlowFn}
 use Rattle.pw_flow.specs.declared.flow.FlowModule.{FlowModule}
 use Rattle.pw_lower.specs.Modules.{lowered}
+use Rattle.pw_token.specs.declared.token.Token.{Token}
+use Rattle.pw_token.specs.Tokenization.{IsLexed}
+use Rattle.pw_tree.specs.Grammar.{IsTreeOf, spelled_all}
 use Rattle.pw_tree.specs.Trees.{Module}
 use Rattle.pw_types.specs.TypedTrees.{FunctionValue}
 use Rattle.pw_rules.specs.Checks.{Checks}
@@ -52,9 +55,13 @@ pub record IsAccepted (p : Program) (frame_of : List ℕ → ℕ) (stack : ℕ) 
   pub program : IsProgram (flow_program p frame_of stack)
   pub alike : DeclareAlike (flow_program p frame_of stack)
 
--- each typed tree is what checking answers for a module
+-- the typed tree is what checking answers for a text
 pub record IsChecked (m : ProgramModule) : Type 0 where
+  pub text : List ℕ
+  pub tokens : List Token
   pub syntax : Module
+  pub lexed : IsLexed text tokens
+  pub parsed : IsTreeOf (spelled_all text tokens) syntax
   pub is : Checks syntax (Ok m.tree)
 
 abbrev pub AreChecked : Program → Type 0
@@ -122,6 +129,6 @@ SourceIsNeverWrong =
 abbrev pub LoweringKeepsRuns : Type 0
 LoweringKeepsRuns =
     (p : Program) (frame_of : List ℕ → ℕ) (stack : ℕ) (input : List ℕ) →
-    IsAccepted p frame_of stack → NoneForLibrary frame_of → AreBytes input →
+    AreChecked p → IsAccepted p frame_of stack → NoneForLibrary frame_of → AreBytes input →
     Refines (MomentKept (flow_program p frame_of stack))
     (source_stages p frame_of stack input) (flow_run (flow_program p frame_of stack) input)

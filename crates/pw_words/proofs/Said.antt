@@ -8,7 +8,7 @@ use Rattle.clap.specs.Walk.{Text, first_of}
 use Rattle.clap.specs.Matches.{first_value, found_of}
 use Rattle.clap.specs.declared.parser.matches.ArgMatches.{ArgMatches}
 use Rattle.clap.proofs.WalkLemmas.{first_value-rows}
-use Rattle.pw_words.specs.CommandLine.{Part, Given, Plain, named, module_in, module_named, plain_word, value_of}
+use Rattle.pw_words.specs.CommandLine.{Part, Given, Plain, command_by_name, module_in, module_named, plain_word, value_of}
 use Rattle.pw_words.specs.Reading.{HasNoModule, IsMatchOf, module_id, part_row}
 
 -- a name that is no word's
@@ -54,6 +54,6 @@ different x y apart = go (bytes_eq x y) refl
 
 pub unknown : (word : Text) (words : List Text) → bytes_eq word (codes "go") ≡ false → bytes_eq word (codes "phase1") ≡ false → bytes_eq word (codes "analyse") ≡ false
     → bytes_eq word (codes "phase2") ≡ false → bytes_eq word (codes "link") ≡ false → bytes_eq word (codes "run") ≡ false → bytes_eq word (codes "list") ≡ false
-    → bytes_eq word (codes "db") ≡ false → named word words ≡ None
-unfolding named
+    → bytes_eq word (codes "db") ≡ false → command_by_name word words ≡ None
+unfolding command_by_name
 unknown word words a b c d e f g h = rw (a, b, c, d, e, f, g, h) refl

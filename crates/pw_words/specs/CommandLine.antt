@@ -1,11 +1,13 @@
 -- The words of a command line, and the command that they say.
-use Rattle.std.specs.Prelude.{ℕ, zero, suc, ◌==◌, ◌&&◌, not, Bool, true, false, nat_le, if◌then◌else◌, List, [], ◌∷◌, map, filter, drop, length, codes, Option, Some, None, option_map, option_and_then}
+use Rattle.std.specs.Prelude.{◌≡◌, ℕ, zero, suc, ◌==◌, ◌&&◌, not, Bool, true, false, nat_le, if◌then◌else◌, List, [], ◌∷◌, map, filter, drop, length, codes, Option, Some, None, option_map, option_and_then, Result, Ok, Err}
 use Rattle.std.specs.List.{list_any, list_all, before_first, after_first}
 use Rattle.std.specs.Char.{is_ascii_digit}
 use Rattle.std.specs.Str.{bytes_eq}
 use Rattle.std.specs.Str.Parse.{digits_value}
 use Rattle.pw_value.specs.Limits.{stack_least, stack_most}
 use Rattle.pw_modules.specs.Modules.{is_module_name}
+use Rattle.pw_words.specs.declared.fault.WordsFault.{WordsFault}
+use Rattle.pw_words.specs.declared.fault.WordsFault.TheVariants.{Usage, NoMemory}
 use Rattle.pw_words.specs.declared.commands.Command.{Command}
 use Rattle.pw_words.specs.declared.commands.Command.TheVariants.{Go, PhaseOne, Analyse, PhaseTwo, Link, Run, List as ListImage, Db}
 
@@ -175,8 +177,8 @@ abbrev pub db_of : List Text → Option Command
 db_of words = option_map (λ parts. Db) (parts_of [] 0 words)
 
 -- the command of a name, and what the words behind it say
-unfoldable pub named : Text → List Text → Option Command
-named name words =
+unfoldable pub command_by_name : Text → List Text → Option Command
+command_by_name name words =
     if bytes_eq name (codes "go") then go_of words else
     if bytes_eq name (codes "phase1") then phase_one_of words else
     if bytes_eq name (codes "analyse") then analyse_of words else
@@ -190,4 +192,12 @@ named name words =
 -- the command that words say
 abbrev pub command_of : List Text → Option Command
 command_of [] = None
-command_of (name ∷ words) = named name words
+command_of (name ∷ words) = command_by_name name words
+
+-- ---- what a call answers
+
+-- what is read, unless memory ran out
+abbrev pub Reads : {X : Type 0} → Option X → Result X WordsFault → Type 0
+Reads wanted (Ok x) = wanted ≡ Some x
+Reads wanted (Err Usage) = wanted ≡ None
+Reads wanted (Err NoMemory) = Unit {0}

@@ -1,5 +1,5 @@
 -- What is asked of `clap` for a command line, and what its matches say.
-use Rattle.std.specs.Prelude.{◌≡◌, ◌++◌, ◌∷◌, [], ℕ, ◌&&◌, not, Bool, true, false, if◌then◌else◌, List, map, drop, codes, Option, Some, None, Result, Ok, Err}
+use Rattle.std.specs.Prelude.{◌≡◌, ◌++◌, ◌∷◌, [], ℕ, ◌&&◌, not, Bool, true, false, if◌then◌else◌, List, map, drop, codes, Option, Some, None}
 use Rattle.std.specs.Str.{bytes_eq}
 use Rattle.clap.specs.Walk.{Row, Rule, rows_of}
 use Rattle.clap.specs.Matches.{found_of}
@@ -84,9 +84,3 @@ fault_of_kind _ = Usage
 abbrev pub are_distinct : List Text → Bool
 are_distinct [] = true
 are_distinct (name ∷ names) = not (bytes_eq name module_id) && (not (is_among name names) && are_distinct names)
-
--- what is read, unless memory ran out
-abbrev pub Reads : {X : Type 0} → Option X → Result X WordsFault → Type 0
-Reads wanted (Ok x) = wanted ≡ Some x
-Reads wanted (Err Usage) = wanted ≡ None
-Reads wanted (Err NoMemory) = Unit {0}

@@ -2,8 +2,8 @@
 
 ghost use Rattle.std.specs.Prelude.{◌≡◌, ◌≤◌, ℕ, List, IfOk, drop, map, string_bytes, codes, option_map, option_and_then, Option};
 ghost use Rattle.clap.specs.Matches.{first_value, found_of};
-ghost use Rattle.pw_words.specs.CommandLine.{Part, colours_in, command_of, go_of, go_in, module_in, named, number_or, parts_of, stack_in, steps_in, phase_one_of, phase_two_of, analyse_of, link_of, run_of, list_of, db_of};
-ghost use Rattle.pw_words.specs.Reading.{IsMatchOf, Reads};
+ghost use Rattle.pw_words.specs.CommandLine.{Part, Reads, colours_in, command_of, go_of, go_in, command_by_name, module_in, number_or, parts_of, stack_in, steps_in, phase_one_of, phase_two_of, analyse_of, link_of, run_of, list_of, db_of};
+ghost use Rattle.pw_words.specs.Reading.{IsMatchOf};
 
 use crate::commands::Command;
 use crate::fault::WordsFault;
@@ -174,9 +174,9 @@ fn db(alloc: Global, words: &[String]) -> Result<Command, WordsFault>
 }
 
 /// The command of a name, by the words, of which the first is the name.
-#[tactic(auto, unfolding(crate::specs::CommandLine::named))]
+#[tactic(auto, unfolding(crate::specs::CommandLine::command_by_name))]
 fn command_named(alloc: Global, name: &str, words: &[String]) -> Result<Command, WordsFault>
-    ensures { Reads (named name.now (drop 1 (map string_bytes words.now))) result }
+    ensures { Reads (command_by_name name.now (drop 1 (map string_bytes words.now))) result }
 {
     match name {
         "go" => go(alloc, words),

@@ -1,7 +1,6 @@
 use Rattle.std.proofs.Common.{◌≡◌, ℕ, Option, Some, refl, sym, ap, subst, ◌∙◌, rules}
 use Rattle.clap.specs.Matches.{first_value, found_of}
-use Rattle.pw_words.specs.CommandLine.{colours, number_or}
-use Rattle.pw_words.specs.Reading.{Reads}
+use Rattle.pw_words.specs.CommandLine.{Reads, colours, number_or}
 use Rattle.pw_words.proofs.Said.{option_said}
 use Rattle.pw_words.proofs.reading.colours.Goals as goal
 

@@ -1,8 +1,7 @@
 use Rattle.std.proofs.Common.{◌≡◌, ℕ, Option, refl, sym, ap, ap₂, subst, ◌∙◌, rules}
 use Rattle.clap.specs.Matches.{first_value, found_of}
 use Rattle.pw_value.specs.Limits.{stack_least, stack_most}
-use Rattle.pw_words.specs.CommandLine.{stack, number_or}
-use Rattle.pw_words.specs.Reading.{Reads}
+use Rattle.pw_words.specs.CommandLine.{Reads, stack, number_or}
 use Rattle.pw_words.proofs.Said.{option_said}
 use Rattle.pw_words.proofs.reading.stack.Goals as goal
 

@@ -1,6 +1,5 @@
 use Rattle.std.proofs.Common.{ℕ, Option, refl, ap, subst}
-use Rattle.pw_words.specs.CommandLine.{number_or, steps}
-use Rattle.pw_words.specs.Reading.{Reads}
+use Rattle.pw_words.specs.CommandLine.{Reads, number_or, steps}
 use Rattle.pw_words.proofs.Said.{option_said}
 use Rattle.pw_words.proofs.reading.steps.Goals as goal
 
