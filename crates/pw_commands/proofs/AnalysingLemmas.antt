@@ -29,19 +29,19 @@ pub record Laws : Type 0 where
 
 one_file : Laws → (ss : List Summary) (colours : ℕ) (bytes others : List ℕ) → IsDatabaseFileOf ss colours bytes → IsDatabaseFileOf ss colours others → bytes ≡ others
 one_file laws ss colours bytes others a b =
-    let same : b.0 ≡ a.0 = laws.database ss colours b.0 a.0 b.1.0 a.1.0 in
-    laws.file bytes others a.0 a.1.1 (subst (IsDatabaseFile others) same b.1.1)
+    let same : b.0 ≡ a.0 = laws.database ss colours b.0 a.0 b.1 a.1 in
+    laws.file bytes others a.0 a.2 (subst (IsDatabaseFile others) same b.2)
 
 analysed_alone : Laws → (ss : List Summary) (colours : ℕ) (input bytes : List ℕ) → AreLinked ss → IsDatabaseFileOf ss colours bytes → (e : Effect) → ComesOfSummaries ss colours input e → e ≡ puts_files ((codes "prog.db", bytes) ∷ []) input
 analysed_alone laws ss colours input bytes linked file e c =
     ⊎_elim {C = e ≡ puts_files ((codes "prog.db", bytes) ∷ []) input}
-    (λ r. absurd (laws.not_both (map interface_of ss) r.0 linked r.1.0))
-    (λ l. l.1.1.1 ∙ ap (λ (b : List ℕ). puts_files ((codes "prog.db", b) ∷ []) input) (one_file laws ss colours l.1.0 bytes l.1.1.0 file))
+    (λ r. absurd (laws.not_both (map interface_of ss) r.0 linked r.1))
+    (λ l. l.1.2 ∙ ap (λ (b : List ℕ). puts_files ((codes "prog.db", b) ∷ []) input) (one_file laws ss colours l.1.0 bytes l.1.1 file))
     c
 
 over_analysed : Laws → (wanted : Result (List Summary) Answer) (colours : ℕ) (bytes : List ℕ) (answer : Answer) (told : Told) (new : Option Told) (input : List ℕ) → AnalysedFile wanted colours bytes → IsPutAnswer answer → PutsFiles ((codes "prog.db", bytes) ∷ []) answer told new → Obeys (AnalyseOver wanted colours input) answer told new
 over_analysed laws (Ok ss) colours bytes answer told new input file h puts =
-    obeys_one (AnalyseOver (Ok ss) colours input) (puts_files ((codes "prog.db", bytes) ∷ []) input) answer told new (inr (file.0, (bytes, (file.1, refl))))
+    obeys_one (AnalyseOver (Ok ss) colours input) (puts_files ((codes "prog.db", bytes) ∷ []) input) answer told new (inr (file.0, (bytes, file.1, refl)))
     (analysed_alone laws ss colours input bytes file.0 file.1) (put_answers answer h) puts
 over_analysed laws (Err refusal) colours bytes answer told new input file h puts = absurd file
 
@@ -56,7 +56,7 @@ obeys_analysed laws (Some told) now new colours bytes answer file same puts h =
 refused_alone : Laws → (ss : List Summary) (colours : ℕ) (input : List ℕ) (fault : LinkFault) → AreRefused ss fault → (e : Effect) → ComesOfSummaries ss colours input e → e ≡ answers_alone (LinkRefused fault) input
 refused_alone laws ss colours input fault refusal e c =
     ⊎_elim {C = e ≡ answers_alone (LinkRefused fault) input}
-    (λ r. r.1.1 ∙ ap (λ (f : LinkFault). answers_alone (LinkRefused f) input) (laws.one_fault (map interface_of ss) r.0 fault r.1.0 refusal))
+    (λ r. r.2 ∙ ap (λ (f : LinkFault). answers_alone (LinkRefused f) input) (laws.one_fault (map interface_of ss) r.0 fault r.1 refusal))
     (λ l. absurd (laws.not_both (map interface_of ss) fault l.0 refusal))
     c
 
@@ -64,7 +64,7 @@ over_refused : Laws → (wanted : Result (List Summary) Answer) (colours : ℕ) 
 over_refused laws (Err refusal) colours answer told new input h is e =
     obeys_one (AnalyseOver (Err refusal) colours input) (answers_alone refusal input) answer told new refl (λ x d. d) (subst (λ (a : Answer). Answers a answer) is (stop_is_answer answer h)) (puts_none answer told new e)
 over_refused laws (Ok ss) colours (LinkRefused fault) told new input h is e =
-    obeys_one (AnalyseOver (Ok ss) colours input) (answers_alone (LinkRefused fault) input) (LinkRefused fault) told new (inl (fault, (is, refl))) (refused_alone laws ss colours input fault is) refl e
+    obeys_one (AnalyseOver (Ok ss) colours input) (answers_alone (LinkRefused fault) input) (LinkRefused fault) told new (inl (fault, is, refl)) (refused_alone laws ss colours input fault is) refl e
 over_refused laws (Ok ss) colours _ told new input h is e = absurd is
 
 by_answer : Laws → (wanted : Result (List Summary) Answer) (colours : ℕ) (answer : Answer) (told : Told) (new : Option Told) (input : List ℕ) → IsStop answer → AnalysesOver wanted colours (Err answer) → new ≡ Some told → Obeys (AnalyseOver wanted colours input) answer told new
