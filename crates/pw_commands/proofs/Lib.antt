@@ -3,3 +3,4 @@ pub mod NeededLemmas
 pub mod RunningLemmas
 pub mod ObeysLemmas
 pub mod ShowingLemmas
+pub mod AnalysingLemmas

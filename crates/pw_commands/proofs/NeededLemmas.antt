@@ -1,11 +1,9 @@
 -- Reading needed files, one after another.
 use Rattle.std.proofs.Common.{◌≡◌, ℕ, suc, ◌+◌, ◌<◌, List, [], ◌∷◌, ◌++◌, length, get_or, drop, map, codes, Option, Some, None, Result, Ok, Err, refl, sym, ap, ◌∙◌, subst, append_assoc, append-nil, arith}
-use Rattle.std.specs.Prelude.{IfSome, Vec}
-use Rattle.std.specs.declared.alloc.Global.{Global}
+use Rattle.std.specs.Prelude.{IfSome}
 use Rattle.std.proofs.lemmas.List.{drop-map}
 use Rattle.std.proofs.Math.Seq.{drop-cons}
-use Rattle.pw_object.specs.declared.object.Object.{Object}
-use Rattle.pw_commands.specs.Linking.{few_names, object_at, objects_of, of_names}
+use Rattle.pw_commands.specs.Linking.{few_names, of_names}
 use Rattle.pw_io.specs.Files.{Files, Told, Keeps}
 use Rattle.pw_answer.specs.declared.answer.Answer.{Answer}
 use Rattle.pw_answer.specs.declared.answer.Answer.TheVariants.{StoreFault, NoMemory}
@@ -89,13 +87,13 @@ next_left f xs i x h e =
     drop-map f i xs ∙ ap (map f) (drop-cons xs i x h) ∙ ap (λ v. f v ∷ map f (drop (suc i) xs)) (sym e)
     ∙ ap (λ l. f x ∷ l) (sym (drop-map f (suc i) xs)) ∙ ap (λ k. f x ∷ drop k (map f xs)) more
 
--- the objects of all modules, by the names of the modules
-pub objects_needed : (first now : Option Told) (names : List (List ℕ)) (files : List (List ℕ)) (result : Result (Vec Object Global) Answer) →
-    IfSome first (λ t. few_names t.files ≡ Ok names) → Keeps first now → files ≡ map (λ name. name ++ codes ".obj") names
-    → IfSome now (λ t. Needs (λ objects. objects.items) result (all_needed object_at t.files files))
-    → IfSome first (λ t. Needs (λ objects. objects.items) result (objects_of t.files))
-objects_needed None now names files result few same e h = tt
-objects_needed (Some told) now names files result few same e h =
-    let P : Option Told → Type 0 = λ o. IfSome o (λ t. Needs (λ (objects : Vec Object Global). objects.items) result (all_needed object_at t.files files)) in
-    let Q : Result (List Object) Answer → Type 0 = λ w. Needs (λ (objects : Vec Object Global). objects.items) result w in
-    subst Q (ap (all_needed object_at told.files) e ∙ sym (ap (of_names object_at (codes ".obj") told.files) few)) (subst P same h)
+-- what all modules have, by the names of the modules
+pub needed_of_names : {V T : Type 0} (view : T → List V) (reader : List ℕ → Result V ℕ) (ending : List ℕ) (first now : Option Told) (names files : List (List ℕ)) (result : Result T Answer) →
+    IfSome first (λ t. few_names t.files ≡ Ok names) → Keeps first now → files ≡ map (λ name. name ++ ending) names
+    → IfSome now (λ t. Needs view result (all_needed reader t.files files))
+    → IfSome first (λ t. Needs view result (of_names reader ending t.files (few_names t.files)))
+needed_of_names view reader ending None now names files result few same e h = tt
+needed_of_names {V = V} view reader ending (Some told) now names files result few same e h =
+    let P : Option Told → Type 0 = λ o. IfSome o (λ t. Needs view result (all_needed reader t.files files)) in
+    let Q : Result (List V) Answer → Type 0 = λ w. Needs view result w in
+    subst Q (ap (all_needed reader told.files) e ∙ sym (ap (of_names reader ending told.files) few)) (subst P same h)

@@ -68,7 +68,7 @@ linked_alone one not_both objects stack input bytes linked image e c =
     (λ l. l.1.2 ∙ ap (λ (b : List ℕ). puts_files ((codes "prog.img", b) ∷ []) input) (one l.1.0 bytes _ _ l.1.1.1 image.1 refl))
     c
 
-put_answers : (answer : Answer) → IsPutAnswer answer → Answers Done answer
+pub put_answers : (answer : Answer) → IsPutAnswer answer → Answers Done answer
 put_answers Done h = refl
 put_answers StoreFault h = tt
 put_answers NoMemory h = tt
@@ -95,7 +95,7 @@ refused_alone not_both one objects stack input fault refusal e c =
     (λ l. absurd (not_both objects stack fault l.0 refusal))
     c
 
-stop_is_answer : (answer : Answer) → IsStop answer → Answers answer answer
+pub stop_is_answer : (answer : Answer) → IsStop answer → Answers answer answer
 stop_is_answer StoreFault h = tt
 stop_is_answer NoMemory h = tt
 stop_is_answer ReadFault h = tt
@@ -103,7 +103,7 @@ stop_is_answer WriteFault h = tt
 stop_is_answer _ h = refl
 
 -- what a refusal puts
-puts_none : (answer : Answer) (told : Told) (new : Option Told) → new ≡ Some told → PutsFiles [] answer told new
+pub puts_none : (answer : Answer) (told : Told) (new : Option Told) → new ≡ Some told → PutsFiles [] answer told new
 puts_none StoreFault told new e = record { done = []; more = []; split = refl; left = e }
 puts_none NoMemory told new e = record { done = []; more = []; split = refl; left = e }
 puts_none _ told new e = e

@@ -3,3 +3,4 @@ pub mod Linking
 pub mod Running
 pub mod Outcome
 pub mod Showing
+pub mod Analysing

@@ -2,12 +2,14 @@
 //! of them.
 #![tactic(auto)]
 
+mod analysing;
 mod kept;
 mod linking;
 mod needed;
 mod running;
 mod showing;
 
+pub use analysing::analyse_modules;
 pub use linking::link_modules;
 pub use running::run_image;
 pub use showing::{list_image, show_database};

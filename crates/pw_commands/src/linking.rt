@@ -10,7 +10,7 @@ ghost use Rattle.pw_answer.specs.Outcomes.{StoreCount};
 ghost use Rattle.pw_commands.specs.Linking.{LinkComes, LinksInto, LinksOver, objects_of};
 ghost use Rattle.pw_commands.specs.Outcome.{IsPutAnswer, IsStop, IsStoreAnswer, Obeys, StopCount};
 
-use crate::kept::needed_objects;
+use crate::kept::kept_of_modules;
 use pw_answer::Answer;
 use pw_image::laws::images_and_files_are_one_to_one;
 use pw_image::write_image;
@@ -54,7 +54,7 @@ fn linked_file<S: Store>(alloc: Global, store: &mut S, stack: u32) -> Result<Vec
     ensures count { StopCount (S.faults store.old) (S.faults store.new) result }
     ensures stop { IfErr result IsStop }
 {
-    match needed_objects(alloc, store) {
+    match kept_of_modules(alloc, store, ".obj") {
         Ok(objects) => image_file(alloc, &objects, stack),
         Err(answer) => Err(answer),
     }

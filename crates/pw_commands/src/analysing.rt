@@ -1,0 +1,72 @@
+//! The command `analyse`.
+
+ghost use Rattle.std.specs.Prelude.{◌≤◌, ℕ, List, All, IfErr, IfSome};
+ghost use Rattle.pw_io.specs.Files.{Keeps};
+ghost use Rattle.pw_answer.specs.Outcomes.{StoreCount};
+ghost use Rattle.pw_summary.specs.Summary.{IsSummary};
+ghost use Rattle.pw_commands.specs.Analysing.{AnalyseComes, AnalysesInto, AnalysesOver, summaries_of};
+ghost use Rattle.pw_commands.specs.Outcome.{IsStop, IsStoreAnswer, Obeys, StopCount};
+
+use crate::kept::kept_of_modules;
+use crate::linking::put_file;
+use pw_answer::Answer;
+use pw_colour::analyse;
+use pw_colour::laws::{databases_are_lawful, databases_are_one};
+use pw_db::laws::databases_and_files_are_one_to_one;
+use pw_io::Store;
+use pw_program::laws::modules_have_one_answer;
+use pw_summary::Summary;
+use pw_value::LinkFault;
+use std::alloc::Global;
+
+/// The file of the database of summaries; or the refusal.
+fn database_file(alloc: Global, summaries: &[Summary], colours: u8) -> Result<Vec<u8>, Answer>
+    requires lawful { All IsSummary summaries.now }
+    requires few { colours ≤ 8 }
+    ensures file { AnalysesInto summaries.now colours result }
+    ensures stop { IfErr result IsStop }
+{
+    databases_are_lawful();
+    match analyse(alloc, summaries, colours) {
+        Ok(db) => match pw_db::write(alloc, &db) {
+            Ok(bytes) => Ok(bytes),
+            Err(_none) => Err(Answer::NoMemory),
+        },
+        Err(LinkFault::NoMemory) => Err(Answer::NoMemory),
+        Err(fault) => Err(Answer::LinkRefused(fault)),
+    }
+}
+
+/// The file of the database of all modules; or the answer in its place.
+fn analysed_file<S: Store>(alloc: Global, store: &mut S, colours: u8) -> Result<Vec<u8>, Answer>
+    requires { colours ≤ 8 }
+    ensures file { IfSome (S.told store.old) (λ told. AnalysesOver (summaries_of told.files) colours result) }
+    ensures same { Keeps (S.told store.old) (S.told store.new) }
+    ensures count { StopCount (S.faults store.old) (S.faults store.new) result }
+    ensures stop { IfErr result IsStop }
+{
+    match kept_of_modules(alloc, store, ".sum") {
+        Ok(summaries) => database_file(alloc, &summaries, colours),
+        Err(answer) => Err(answer),
+    }
+}
+
+/// Analyses the summaries of all modules into `prog.db`, with so many registers for webs.
+///
+/// The modules are those of the files `NAME.i`, in byte order; the summary of each is read from `NAME.sum`. The answer
+/// is `Done` where the database was put; `LinkRefused` where there are too many modules or the summaries are refused
+/// together; `BadFile` for the first summary's file that is absent or refused; nothing is put then.
+pub fn analyse_modules<S: Store>(alloc: Global, store: &mut S, colours: u8) -> Answer
+    requires { colours ≤ 8 }
+    ensures obeys { IfSome (S.told store.old) (λ told. (input : List ℕ) → Obeys (AnalyseComes told.files colours input) result told (S.told store.new)) }
+    ensures answer { IsStoreAnswer result }
+    ensures count { StoreCount (S.faults store.old) (S.faults store.new) result }
+{
+    databases_are_one();
+    databases_and_files_are_one_to_one();
+    modules_have_one_answer();
+    match analysed_file(alloc, store, colours) {
+        Ok(bytes) => put_file(alloc, store, "prog.db", &bytes),
+        Err(answer) => answer,
+    }
+}
