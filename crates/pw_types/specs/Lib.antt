@@ -7,6 +7,7 @@ pub mod Records
 pub mod Measures
 pub mod TypeTrees
 pub mod TypedTrees
+pub mod FullNames
 pub mod Views
 pub mod Codes
 pub mod Rooms
