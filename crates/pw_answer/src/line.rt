@@ -2,7 +2,7 @@
 
 ghost use Rattle.std.specs.Prelude.{◌≡◌, IfOk, OnOk, OnErr, ◌++◌, ◌<◌, ◌^◌, codes};
 ghost use Rattle.std.specs.Fmt.{decimal};
-ghost use Rattle.pw_answer.specs.Answers.{feature_name, what_name, bad_file_text, halt_name, lex_text, link_text, parse_text, refusal_text, line_text, NeedsMemory};
+ghost use Rattle.pw_answer.specs.Answers.{feature_name, what_name, which_name, kind_text, check_text, bad_file_text, halt_name, lex_text, link_text, parse_text, refusal_text, line_text, NeedsMemory};
 ghost use Rattle.pw_answer.specs.Lines.{line_bytes};
 
 use crate::answer::Answer;
@@ -11,6 +11,7 @@ use pw_machine::Halt;
 use pw_parse::ParseFault;
 use pw_token::{Feature, LexFault};
 use pw_value::{LinkFault, Name, What, Word};
+use pw_walk::{CheckFault, CheckKind, Which};
 use std::alloc::{AllocError, Global};
 
 fn feature_name(feature: Feature) -> &'static [u8]
@@ -38,6 +39,20 @@ fn what_name(what: What) -> &'static [u8]
         What::TextBytes => b"TextBytes",
         What::Functions => b"Functions",
         What::Globals => b"Globals",
+    }
+}
+
+fn which_name(which: Which) -> &'static [u8]
+    ensures { result.now ≡ which_name which }
+{
+    match which {
+        Which::NameLength => b"NameLength",
+        Which::Nodes => b"Nodes",
+        Which::ObjectSize => b"ObjectSize",
+        Which::ShapeLength => b"ShapeLength",
+        Which::Room => b"Room",
+        Which::TypeDepth => b"TypeDepth",
+        Which::Parameters => b"Parameters",
     }
 }
 
@@ -131,6 +146,44 @@ fn push_parse_fault(alloc: Global, text: &mut Vec<u8>, fault: ParseFault) -> Res
     }
 }
 
+/// Puts behind a text which limit a count passes, and the count.
+fn push_limit(alloc: Global, text: &mut Vec<u8>, which: Which, count: u64) -> Result<(), AllocError>
+    ensures { OnOk result (text.new.items ≡ text.old.items ++ kind_text (CheckKind.Limit which count)) }
+{
+    text.extend_from_slice(b"Limit ")?;
+    text.extend_from_slice(which_name(which))?;
+    text.extend_from_slice(b" ")?;
+    push_decimal(alloc, text, count)?;
+    Ok(())
+}
+
+/// Puts behind a text what is wrong with its tree.
+fn push_kind(alloc: Global, text: &mut Vec<u8>, kind: CheckKind) -> Result<(), AllocError>
+    ensures { OnOk result (text.new.items ≡ text.old.items ++ kind_text kind) }
+{
+    match kind {
+        CheckKind::Unsupported(feature) => {
+            text.extend_from_slice(b"Unsupported ")?;
+            text.extend_from_slice(feature_name(feature))?;
+        }
+        CheckKind::Limit(which, count) => push_limit(alloc, text, which, count)?,
+        CheckKind::UnknownName => text.extend_from_slice(b"UnknownName")?,
+        CheckKind::Redeclared => text.extend_from_slice(b"Redeclared")?,
+        CheckKind::Typing => text.extend_from_slice(b"Typing")?,
+        CheckKind::Constant => text.extend_from_slice(b"Constant")?,
+        CheckKind::NoMemory => text.extend_from_slice(b"NoMemory")?,
+    }
+    Ok(())
+}
+
+/// Puts behind a text what is wrong with its tree, and at which token.
+fn push_check_fault(alloc: Global, text: &mut Vec<u8>, fault: CheckFault) -> Result<(), AllocError>
+    ensures { OnOk result (text.new.items ≡ text.old.items ++ check_text fault) }
+{
+    push_kind(alloc, text, fault.kind)?;
+    push_numbered(alloc, text, b" at token ", fault.token)
+}
+
 fn push_refusal(alloc: Global, text: &mut Vec<u8>, refusal: &Refusal) -> Result<(), AllocError>
     ensures { OnOk result (text.new.items ≡ text.old.items ++ refusal_text refusal.now) }
 {
@@ -138,6 +191,7 @@ fn push_refusal(alloc: Global, text: &mut Vec<u8>, refusal: &Refusal) -> Result<
         Refusal::Lex(fault) => push_lex_fault(alloc, text, *fault),
         Refusal::Unsupported(token, feature) => push_unsupported(alloc, text, *token, *feature),
         Refusal::Parse(fault) => push_parse_fault(alloc, text, *fault),
+        Refusal::Check(fault) => push_check_fault(alloc, text, *fault),
     }
 }
 
