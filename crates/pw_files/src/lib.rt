@@ -3,6 +3,7 @@
 //! looked at last.
 #![tactic(auto)]
 
+pub mod format;
 pub mod kinds;
 pub mod late;
 pub mod laws;

@@ -1,2 +1,3 @@
 pub mod FlowGraph
 pub mod ValidFlow
+pub mod FrameRooms

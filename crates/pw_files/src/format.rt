@@ -1,0 +1,79 @@
+//! Reading a file of version 1 that holds a table of names and behind it the fields of a value, to their
+//! end: what is the same whichever format it is.
+
+ghost use Rattle.std.specs.Prelude.{◌+◌, ◌<◌, ◌^◌, ℕ, List, [], length, Option};
+ghost use Rattle.std.specs.List.{flat_map};
+ghost use Rattle.pw_value.specs.Fields.{text};
+ghost use Rattle.pw_value.specs.FieldFaults.{Gives, GivesFile};
+ghost use Rattle.pw_value.specs.FieldNames.{IsRisingFrom};
+ghost use Rattle.pw_files.specs.Contents.{FieldsReader, contents_at, contents_file_at, value_of};
+
+use pw_value::fields::FieldError;
+use pw_value::fields::frame::{check_digest, open};
+use pw_value::fields::names::read_names;
+use pw_value::{FileError, Name};
+use std::alloc::Global;
+
+/// A format: the number of its kind, and how the fields behind the table of names are read.
+pub trait Format {
+    /// What a file of the format holds.
+    type Value: Drop;
+
+    /// The first four bytes of a file.
+    const KIND: u32;
+
+    ghost KIND: { ℕ };
+
+    /// How the fields are read behind a table of names, under a rule that is looked at last.
+    ghost fields: { FieldsReader Self.Value };
+
+    /// The rule that is looked at last, for the table of names and so many bytes behind it.
+    ghost late: { List (List ℕ) → ℕ → Self.Value → ℕ → Option ℕ };
+
+    /// The value behind the table of names.
+    fn read_fields<'a>(
+        alloc: Global,
+        names: &[Name],
+        bytes: &'a [u8],
+    ) -> Result<(Self::Value, &'a [u8]), FieldError>
+        requires rising { IsRisingFrom [] names.now }
+        requires room { length (flat_map text names.now) + length bytes.now < 2 ^ 64 }
+        ensures { Gives (λ x. (record { names = names.now; value = x.0 }, x.1.now)) result (fields names.now (late names.now (length bytes.now)) bytes.now) };
+}
+
+/// The table of names and the value.
+#[tactic(auto, unfolding(crate::specs::Contents::contents_at))]
+pub fn read_contents<F: Format>(
+    alloc: Global,
+    bytes: &[u8],
+) -> Result<((Vec<Name>, F::Value), &[u8]), FieldError>
+    ensures { Gives (λ x. (record { names = x.0.0.items; value = x.0.1 }, x.1.now)) result (contents_at F.fields F.late bytes.now) }
+{
+    let (names, behind) = read_names(alloc, bytes)?;
+    let (value, rest) = F::read_fields(alloc, &names, behind)?;
+    Ok(((names, value), rest))
+}
+
+/// The table of names and the value of a whole file.
+#[tactic(auto, unfolding(pw_value::specs::FieldFrame::file_at))]
+fn read_named<F: Format>(alloc: Global, bytes: &[u8]) -> Result<(Vec<Name>, F::Value), FileError>
+    ensures { GivesFile (λ x. record { names = x.0.items; value = x.1 }) result (contents_file_at F.KIND F.fields F.late bytes.now) }
+{
+    let opened = open(F::KIND, 1, 1, bytes)?;
+    match read_contents::<F>(alloc, opened.payload) {
+        Err(e) => Err(e.at(opened.end)),
+        Ok((contents, _)) => {
+            check_digest(bytes, opened.end)?;
+            Ok(contents)
+        }
+    }
+}
+
+/// The value of a whole file, without its table of names. A fault is the first field, in order, that is
+/// short or breaks its rule; the digest is looked at last.
+pub fn read_value<F: Format>(alloc: Global, bytes: &[u8]) -> Result<F::Value, FileError>
+    ensures { GivesFile (λ v. v) result (value_of (contents_file_at F.KIND F.fields F.late bytes.now)) }
+{
+    let (_names, value) = read_named::<F>(alloc, bytes)?;
+    Ok(value)
+}
