@@ -2,21 +2,22 @@
 use Rattle.std.proofs.Common.{◌≡◌, ℕ, ◌+◌, ◌-◌, ◌*◌, ◌/◌, ◌≤◌, List, [], ◌∷◌, length, arith}
 use Rattle.std.specs.List.{sum_by}
 use Rattle.std.proofs.lemmas.List.Sums.{sum_by-cons}
+use Rattle.pw_flow.specs.ValidFlow.{slot_room}
 use Rattle.pw_webflow.specs.declared.web.WebFn.{WebFn}
-use Rattle.pw_alloc.specs.Frames.{most_arguments, ops_of, head_size, round8, slots_begin, last_reach}
+use Rattle.pw_alloc.specs.Frames.{head_size, round8, slots_begin, last_reach}
 use Rattle.pw_alloc.specs.Allocation.{saved_of, allocated}
-use Rattle.pw_alloc.specs.Room.{frame_room}
+use Rattle.pw_alloc.specs.Room.{web_room}
 use Rattle.pw_alloc.proofs.AllocationLaws.{few_saved}
 
 -- slots reach as far as their sizes come to
-reach_of_sizes : (at : ℕ) (slots : List ℕ) → last_reach at slots ≡ at + sum_by (λ size. round8 (size + 1)) slots
+pub reach_of_sizes : (at : ℕ) (slots : List ℕ) → last_reach at slots ≡ at + sum_by slot_room slots
 reach_of_sizes at [] = omega arith
 reach_of_sizes at (size ∷ slots) =
-    let e = sum_by-cons (λ (size : ℕ). round8 (size + 1)) size slots in
+    let e = sum_by-cons slot_room size slots in
     let h = reach_of_sizes (at + round8 (size + 1)) slots in
     omega arith
 
-pub frame_fits_room : (f : WebFn) → (allocated f).frame ≤ frame_room f
+pub frame_fits_room : (f : WebFn) → (allocated f).frame ≤ web_room f
 unfolding allocated
 frame_fits_room f =
     let few = few_saved f in

@@ -1,10 +1,9 @@
 -- The room of a frame.
-use Rattle.std.specs.Prelude.{ℕ, ◌+◌, ◌*◌}
-use Rattle.std.specs.List.{sum_by}
+use Rattle.std.specs.Prelude.{ℕ}
+use Rattle.pw_flow.specs.FrameRooms.{frame_room}
 use Rattle.pw_webflow.specs.declared.web.WebFn.{WebFn}
-use Rattle.pw_alloc.specs.Frames.{most_arguments, ops_of, round8}
+use Rattle.pw_alloc.specs.Frames.{most_arguments, ops_of}
 
--- What a frame has at most: 128 bytes, four for each temporary and for each argument of the call that has most, and
--- its slots.
-abbrev pub frame_room : WebFn → ℕ
-frame_room f = 128 + 4 * f.temps + 4 * most_arguments (ops_of f) + sum_by (λ size. round8 (size + 1)) f.slots
+-- what a function's frame has at most
+abbrev pub web_room : WebFn → ℕ
+web_room f = frame_room f.temps (most_arguments (ops_of f)) f.slots

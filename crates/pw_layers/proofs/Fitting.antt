@@ -3,11 +3,9 @@ use Rattle.std.proofs.Common.{◌≡◌, ℕ, ◌+◌, ◌-◌, ◌*◌, ◌≤�
 use Rattle.std.specs.Prelude.{suc, max, Option, Some, None, map, Contains}
 use Rattle.std.specs.List.{flat_map, sum_by}
 use Rattle.std.proofs.lemmas.List.{map-append}
-use Rattle.std.proofs.lemmas.List.Sums.{sum_by-cons}
 use Rattle.std.proofs.lemmas.List.Concat.{flat_map-cons}
 use Rattle.std.proofs.lemmas.List.Elements.{All-contains, All-from_recursion, Contains-append_right}
 use Rattle.pw_value.specs.declared.value.Kind.{Kind}
-use Rattle.pw_types.specs.Layouts.{round_up}
 use Rattle.pw_db.specs.declared.database.Web.{Web}
 use Rattle.pw_db.specs.declared.database.Role.{Role}
 use Rattle.pw_db.specs.declared.database.Role.TheVariants.{Entry}
@@ -18,32 +16,19 @@ use Rattle.pw_flow.specs.declared.flow.Op.TheVariants.{LoadG, StoreG}
 use Rattle.pw_flow.specs.declared.flow.Block.{Block}
 use Rattle.pw_flow.specs.declared.flow.FlowFn.{FlowFn}
 use Rattle.pw_webflow.specs.Direction.{register_of, read_of, write_of, directed_op, directed_block, directed}
-use Rattle.pw_lower.specs.Modules as flow
-use Rattle.pw_lower.specs.Modules.{flow_room}
+use Rattle.pw_flow.specs.FrameRooms as flow
+use Rattle.pw_flow.specs.FrameRooms.{flow_room}
+use Rattle.pw_flow.specs.ValidFlow.{slot_room}
 use Rattle.pw_alloc.specs.declared.located.Place.{Place}
 use Rattle.pw_alloc.specs.declared.located.Place.TheVariants.{Slot, Reg}
 use Rattle.pw_alloc.specs.declared.located.Located.{Located}
-use Rattle.pw_alloc.specs.Frames.{argument_count, most_arguments, ops_of, round8, slots_begin, last_reach}
+use Rattle.pw_alloc.specs.Frames.{argument_count, most_arguments, ops_of, slots_begin}
+use Rattle.pw_alloc.proofs.RoomLaws.{reach_of_sizes}
 use Rattle.pw_webrun.specs.Serving.{slots_alone, Changes, places, enters, Serves}
 use Rattle.pw_layers.specs.Rooms.{PlacesFit}
 use Rattle.pw_layers.proofs.Frames.{first_there, map_there}
 
 -- ---- the parts of a frame
-
-reach_of_sizes : (at : ℕ) (slots : List ℕ) → last_reach at slots ≡ at + sum_by (λ size. round8 (size + 1)) slots
-reach_of_sizes at [] = omega arith
-reach_of_sizes at (size ∷ slots) =
-    let e = sum_by-cons (λ (size : ℕ). round8 (size + 1)) size slots in
-    let h = reach_of_sizes (at + round8 (size + 1)) slots in
-    omega arith
-
-same_sizes : (slots : List ℕ) → sum_by (λ size. round8 (size + 1)) slots ≡ sum_by (λ size. round_up (size + 1) 8) slots
-same_sizes [] = refl
-same_sizes (size ∷ slots) =
-    let a = sum_by-cons (λ (size : ℕ). round8 (size + 1)) size slots in
-    let b = sum_by-cons (λ (size : ℕ). round_up (size + 1) 8) size slots in
-    let h = same_sizes slots in
-    omega arith
 
 few_slots : (ps : List Place) → length (slots_alone ps) ≤ length ps
 few_slots [] = omega arith
@@ -116,10 +101,9 @@ places_fit f d l lawful ds s =
     let n : ℕ = flow.most_arguments (flat_map (λ b. b.ops) f.blocks) in
     let args : m ≡ n = ap most_arguments (directed_ops d.webs f.blocks) ∙ most d.webs (flat_map (λ b. b.ops) f.blocks) in
     let begin : ℕ = slots_begin (48 + 4 * (m - 4)) (length l.saved) (length (slots_alone l.places)) in
-    let sizes : ℕ = sum_by (λ size. round8 (size + 1)) f.slots in
+    let sizes : ℕ = sum_by slot_room f.slots in
     let frame : l.frame ≡ begin + sizes = s.frame ∙ reach_of_sizes begin f.slots in
     let least : begin + sizes ≤ 128 + 4 * f.temps + 4 * m + sizes =
     bound m (length l.saved) (length (slots_alone l.places)) f.temps sizes few words in
-    let same : sizes ≡ sum_by (λ size. round_up (size + 1) 8) f.slots = same_sizes f.slots in
-    let room : flow_room f ≡ 128 + 4 * f.temps + 4 * n + sum_by (λ size. round_up (size + 1) 8) f.slots = refl in
-    omega (arith, args, frame, least, same, room)
+    let room : flow_room f ≡ 128 + 4 * f.temps + 4 * n + sizes = refl in
+    omega (arith, args, frame, least, room)

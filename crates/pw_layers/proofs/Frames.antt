@@ -17,7 +17,8 @@ use Rattle.pw_flow.specs.declared.flow.FlowModule.{FlowModule}
 use Rattle.pw_flow.specs.ValidFlow.{IsFunction, IsValid}
 use Rattle.pw_webflow.specs.declared.web.WebFn.{WebFn}
 use Rattle.pw_webflow.specs.Direction.{directed}
-use Rattle.pw_lower.specs.Modules.{lowered, lowered_function, start_of, start_function, flow_room}
+use Rattle.pw_flow.specs.FrameRooms.{flow_room}
+use Rattle.pw_lower.specs.Modules.{lowered, lowered_function, start_of, start_function}
 use Rattle.pw_lower.specs.Expressions as lower
 use Rattle.pw_alloc.specs.declared.located.Located.{Located}
 use Rattle.pw_cmean.specs.Worlds.{ProgramModule, full_name}

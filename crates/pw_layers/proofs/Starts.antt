@@ -13,7 +13,8 @@ use Rattle.pw_flow.specs.declared.flow.FlowFn.{FlowFn}
 use Rattle.pw_flow.specs.declared.flow.FlowModule.{FlowModule}
 use Rattle.pw_flow.specs.ValidFlow.{IsValid}
 use Rattle.pw_flow.specs.FlowGraph.{function_names}
-use Rattle.pw_lower.specs.Modules.{lowered, lowered_function, start_of, start_function, is_main, flow_room}
+use Rattle.pw_flow.specs.FrameRooms.{flow_room}
+use Rattle.pw_lower.specs.Modules.{lowered, lowered_function, start_of, start_function, is_main}
 use Rattle.pw_alloc.specs.declared.located.Located.{Located}
 use Rattle.pw_cmean.specs.Worlds.{ProgramModule, full_name}
 use Rattle.pw_flowrun.specs.Programs as flows

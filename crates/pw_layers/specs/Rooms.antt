@@ -6,7 +6,7 @@ use Rattle.pw_db.specs.Database.{IsDirectives}
 use Rattle.pw_flow.specs.declared.flow.FlowFn.{FlowFn}
 use Rattle.pw_flow.specs.ValidFlow.{IsFunction}
 use Rattle.pw_webflow.specs.Direction.{directed}
-use Rattle.pw_lower.specs.Modules.{flow_room}
+use Rattle.pw_flow.specs.FrameRooms.{flow_room}
 use Rattle.pw_alloc.specs.declared.located.Located.{Located}
 use Rattle.pw_object.specs.declared.object.Object.{Object}
 use Rattle.pw_link.specs.Linking.{linked}

@@ -1,7 +1,5 @@
 -- Lowering of functions, objects and modules (C90 6.7).
-use Rattle.std.specs.Prelude.{ℕ, suc, ◌+◌, ◌*◌, max, if◌then◌else◌, Bool, false, Some, None, List, [], ◌∷◌, ◌++◌, map, length, sum_by, replicate, codes, bytes_eq}
-use Rattle.std.specs.List.{flat_map}
-use Rattle.pw_types.specs.Layouts.{round_up}
+use Rattle.std.specs.Prelude.{ℕ, suc, ◌+◌, if◌then◌else◌, Bool, false, Some, None, List, [], ◌∷◌, ◌++◌, map, length, replicate, codes, bytes_eq}
 use Rattle.pw_types.specs.Shapes.{shape_of}
 use Rattle.pw_types.specs.TypeTrees.{type_of, is_volatile, RecordValue}
 use Rattle.pw_types.specs.TypedTrees.{Symbol, External, LocalValue, FunctionValue, ItemValue, ItemBytes, ItemAddress, PlacedItem, GlobalValue, DeclaredValue, ModuleValue}
@@ -10,7 +8,6 @@ use Rattle.pw_flow.specs.declared.flow.Item.TheVariants as item
 use Rattle.pw_flow.specs.declared.flow.FlowGlobal.{FlowGlobal}
 use Rattle.pw_flow.specs.declared.flow.FlowFn.{FlowFn}
 use Rattle.pw_flow.specs.declared.flow.FlowModule.{FlowModule}
-use Rattle.pw_flow.specs.declared.flow.Op.{Op}
 use Rattle.pw_flow.specs.declared.flow.Op.TheVariants as op
 use Rattle.pw_flow.specs.declared.flow.End.TheVariants.{Return}
 use Rattle.pw_lower.specs.declared.code.Code.{Code}
@@ -147,20 +144,3 @@ lowered name m = record {
   functions = map (lowered_function name m.records) m.functions ++ start_of m.functions;
   declared = map (lowered_declared m.records) m.declared;
 }
-
--- ---- room
-
--- the arguments of a call
-abbrev pub argument_count : Op → ℕ
-argument_count (op.Call t f args) = length args
-argument_count (op.CallInd t a shape args) = length args
-argument_count _ = 0
-
-abbrev pub most_arguments : List Op → ℕ
-most_arguments [] = 0
-most_arguments (o ∷ rest) = max (argument_count o) (most_arguments rest)
-
--- A bound on the frame of a flow function: 128 bytes, 4 for each temporary and for each argument of the call that
--- has most, and for each slot its size and one byte, rounded up to a multiple of 8.
-abbrev pub flow_room : FlowFn → ℕ
-flow_room f = 128 + 4 * f.temps + 4 * most_arguments (flat_map (λ b. b.ops) f.blocks) + sum_by (λ size. round_up (size + 1) 8) f.slots

@@ -24,7 +24,7 @@ use Rattle.pw_lower.specs.declared.place.Target.TheVariants.{Kept, Named, Led}
 use Rattle.pw_lower.specs.Codes.{Lowered, lowered_as, temp_of, emit, fresh, constant, reserve, reserve_temps, cut_here, value_is}
 use Rattle.pw_lower.specs.Places.{place_at}
 use Rattle.pw_lower.specs.Operators.{kind_of, with, scaled, moved_by, distance, on_numbers, operation_of, is_turned, sum_or, combined, is_signed, target_size, truth_in, unary_on, extension, extended, converted, step_operator, step_type, is_behind, bytes_of, unit_of}
-use Rattle.pw_lower.specs.Modules.{argument_count}
+use Rattle.pw_flow.specs.FrameRooms.{argument_count}
 use Rattle.pw_lower.specs.Expressions.{Home, Placed, full_name, shape_at, read_target, read, write, further, address_of_global, address_of_local, target_of_local, value_at, value_of_global, value_of_local, stored, copied, scalar_kind, updated, fork, in_result, decides, says, gives, is_void, lower, place, arguments}
 use Rattle.pw_lower_laws.proofs.Growth.{Grows, joins, within, same, emits, reserves_temps, reserves, cuts, turns, adds}
 

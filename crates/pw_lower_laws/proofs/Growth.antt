@@ -5,7 +5,7 @@ use Rattle.pw_flow.specs.declared.flow.End.{End}
 use Rattle.pw_lower.specs.declared.code.Code.{Code}
 use Rattle.pw_lower.specs.declared.code.Numbered.{Numbered}
 use Rattle.pw_lower.specs.Codes.{emit, fresh, reserve, reserve_temps, cut, cut_here, leave, named_from}
-use Rattle.pw_lower.specs.Modules.{argument_count}
+use Rattle.pw_flow.specs.FrameRooms.{argument_count}
 use Rattle.pw_lower_laws.specs.Kept.{IsStillFilled, IsClosedNext, Keeps}
 
 -- ---- what stays

@@ -4,13 +4,12 @@ use Rattle.std.proofs.lemmas.List.Sums.{sum_by-cons}
 use Rattle.std.specs.Prelude.{sum_by}
 use Rattle.std.specs.List.{AllByRecursion}
 use Rattle.pw_value.specs.Limits.{room_limit}
-use Rattle.pw_types.specs.Layouts.{round_up}
 use Rattle.pw_flow.specs.declared.flow.Op.{Op}
 use Rattle.pw_flow.specs.declared.flow.Op.TheVariants.{Const, Copy, Un, Bin, Ext, AddrGlobal, AddrSlot, AddrFn, LoadG, StoreG, Load, Store, Move, Call, CallInd}
 use Rattle.pw_flow.specs.declared.flow.Block.{Block}
 use Rattle.pw_flow.specs.declared.flow.FlowFn.{FlowFn}
+use Rattle.pw_flow.specs.FrameRooms.{flow_room}
 use Rattle.pw_flow.specs.ValidFlow.{IsOp, IsBlock, IsFunction, rooms, slot_room}
-use Rattle.pw_lower.specs.Modules.{flow_room}
 use Rattle.pw_lower_laws.specs.Bounds.{IsBounded, IsBlockBounded, IsFunctionBounded}
 use Rattle.pw_lower_laws.specs.Ranges.{IsInRange, IsBlockInRange, IsFunctionInRange}
 
@@ -43,9 +42,9 @@ lawful_block temps slots blocks b h i = record {
 }
 
 -- the frame without the arguments
-rooms_sum : (room : ℕ) (slots : List ℕ) → rooms room slots ≡ room + sum_by (λ (size : ℕ). round_up (size + 1) 8) slots
+rooms_sum : (room : ℕ) (slots : List ℕ) → rooms room slots ≡ room + sum_by slot_room slots
 rooms_sum room [] = omega arith
-rooms_sum room (size ∷ rest) = omega (arith, rooms_sum (room + slot_room size) rest, sum_by-cons (λ (size : ℕ). round_up (size + 1) 8) size rest)
+rooms_sum room (size ∷ rest) = omega (arith, rooms_sum (room + slot_room size) rest, sum_by-cons slot_room size rest)
 
 pub lawful_function : (f : FlowFn) → IsFunctionInRange f → IsFunctionBounded f → flow_room f ≤ room_limit → IsFunction f
 lawful_function f h i r = record {

@@ -11,7 +11,8 @@ use Rattle.pw_lower.specs.declared.code.Code.{Code}
 use Rattle.pw_lower.specs.declared.place.Ways.{Ways}
 use Rattle.pw_lower.specs.Expressions.{Home, lower}
 use Rattle.pw_lower.specs.Statements.{Frame, lower_statement}
-use Rattle.pw_lower.specs.Modules.{flow_room, lowered_function, start_function}
+use Rattle.pw_flow.specs.FrameRooms.{flow_room}
+use Rattle.pw_lower.specs.Modules.{lowered_function, start_function}
 use Rattle.pw_lower_laws.specs.Kept.{Keeps}
 use Rattle.pw_lower_laws.specs.Parts.{partless}
 use Rattle.pw_lower_laws.proofs.Expressions.{lower-adds}

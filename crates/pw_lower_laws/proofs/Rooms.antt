@@ -6,7 +6,6 @@ use Rattle.std.proofs.lemmas.Grind.{flat_map-append}
 use Rattle.std.proofs.lemmas.List.Sums.{sum_by-cons}
 use Rattle.std.specs.Prelude.{sum_by}
 use Rattle.std.specs.List.{flat_map}
-use Rattle.pw_types.specs.Layouts.{round_up}
 use Rattle.pw_types.specs.Labels.{labels_in, cases_in}
 use Rattle.pw_types.specs.Rooms.{local_room, stmt_nodes, room_of, start_room}
 use Rattle.pw_types.specs.TypeTrees.{type_of, RecordValue}
@@ -15,6 +14,8 @@ use Rattle.pw_flow.specs.declared.flow.Op.{Op}
 use Rattle.pw_flow.specs.declared.flow.Op.TheVariants as op
 use Rattle.pw_flow.specs.declared.flow.Block.{Block}
 use Rattle.pw_flow.specs.declared.flow.End.TheVariants.{Return}
+use Rattle.pw_flow.specs.FrameRooms.{most_arguments, flow_room}
+use Rattle.pw_flow.specs.ValidFlow.{slot_room}
 use Rattle.pw_lower.specs.declared.code.Code.{Code}
 use Rattle.pw_lower.specs.declared.code.Numbered.{Numbered}
 use Rattle.pw_lower.specs.declared.place.LocalPlace.{LocalPlace}
@@ -25,7 +26,7 @@ use Rattle.pw_lower.specs.Places.{is_kept, places_from, places_of, temps_from, a
 use Rattle.pw_lower.specs.Operators.{bytes_of}
 use Rattle.pw_lower.specs.Expressions.{scalar_kind}
 use Rattle.pw_lower.specs.Statements.{lower_statement}
-use Rattle.pw_lower.specs.Modules.{parameters_stored, closed_at_start, start_code, slots_of, frame_of, entered, function_code, lowered_function, most_arguments, flow_room, start_function}
+use Rattle.pw_lower.specs.Modules.{parameters_stored, closed_at_start, start_code, slots_of, frame_of, entered, function_code, lowered_function, start_function}
 use Rattle.pw_lower_laws.specs.Parts.{partless}
 use Rattle.pw_lower_laws.proofs.Growth.{Grows, joins, within, same, emits, adds, turns, argument_total, closed_total}
 use Rattle.pw_lower_laws.proofs.Statements.{statement-adds}
@@ -68,7 +69,7 @@ local_room-positive records l = omega arith
 
 -- what the temporaries of the locals and the slots come to
 abbrev taken : List RecordValue → List LocalValue → ℕ → List LocalPlace → ℕ
-taken records locals temps places = 4 * temps_from temps places + sum_by (λ (size : ℕ). round_up (size + 1) 8) (slots_of records locals places)
+taken records locals temps places = 4 * temps_from temps places + sum_by slot_room (slots_of records locals places)
 
 pub still_below : (k n : ℕ) → k < n → (if nat_lt k n then n else k + 1) ≡ n
 still_below k n h = grind (arith, nat_tests)
@@ -90,7 +91,7 @@ taken-by true true records local locals k temp temps bound first next slot other
 taken-by true false records local locals k temp temps bound first next slot others p t f g h =
     omega (arith, g, local_room-positive records local, ap (λ (n : ℕ). 4 * temps_from n next) (one_more temp temps t))
 taken-by false param records local locals k temp temps bound first next slot others p t f g h =
-    omega (arith, h, sum_by-cons (λ (size : ℕ). round_up (size + 1) 8) (bytes_of records (type_of local.ty)) (slots_of records locals others))
+    omega (arith, h, sum_by-cons slot_room (bytes_of records (type_of local.ty)) (slots_of records locals others))
 
 taken-fits :
     (records : List RecordValue) (addressed : List ℕ) (params k temp slot temps : ℕ) (locals : List LocalValue)

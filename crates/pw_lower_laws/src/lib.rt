@@ -3,11 +3,12 @@
 
 ghost use Rattle.std.specs.Prelude.{◌≡◌, ◌≤◌, ℕ, List};
 ghost use Rattle.pw_lower.specs.Expressions.{Home, lower};
-ghost use Rattle.pw_lower.specs.Modules.{flow_room, lowered_function, start_function};
+ghost use Rattle.pw_lower.specs.Modules.{lowered_function, start_function};
 ghost use Rattle.pw_lower.specs.Statements.{Frame, lower_statement};
 ghost use Rattle.pw_lower.specs.declared.code.Code.{Code};
 ghost use Rattle.pw_lower.specs.declared.place.Ways.{Ways};
 ghost use Rattle.pw_lower_laws.specs.Kept.{Keeps};
+ghost use Rattle.pw_flow.specs.FrameRooms.{flow_room};
 ghost use Rattle.pw_flow.specs.ValidFlow.{IsFunction as IsFlowFunction};
 ghost use Rattle.pw_lower_laws.specs.Bounds.{IsFunctionBounded};
 ghost use Rattle.pw_value.specs.Limits.{room_limit};

@@ -6,19 +6,19 @@ ghost use Rattle.pw_value.specs.Fields.{items_at, repeated, text};
 ghost use Rattle.pw_value.specs.FieldFaults.{Gives, GivesFile, Fails};
 ghost use Rattle.pw_value.specs.FieldFrame.{ended};
 ghost use Rattle.pw_files.specs.Rising.{next_key, rising_at};
-ghost use Rattle.pw_files.specs.Contents.{broken_at, contents_at, value_of};
+ghost use Rattle.pw_files.specs.Contents.{broken_at, value_of};
 ghost use Rattle.pw_summary.specs.declared.summary.Summary.{Summary as AnySummary};
-ghost use Rattle.pw_summary.specs.Summary.{IsSummaryFile};
+ghost use Rattle.pw_summary.specs.Summary.{IsSummaryFile, kind as kind_of_file};
 ghost use Rattle.pw_summary.specs.Reading.{global_at, weight_at, reference_at, uses_at, last_rules, fields_at, summary_file_at};
 
 use crate::names::{check_start_beside_main, used_names};
 use crate::summary::{Summary, Uses};
+use pw_files::format::{Format, read_value};
 use pw_files::kinds::read_kind;
 use pw_files::late::check_used;
 use pw_files::lists::{read_name_above, read_name_list, read_shape_list, read_shaped_list};
 use pw_items::Items;
-use pw_value::fields::frame::{check_digest, open};
-use pw_value::fields::names::{read_name, read_names};
+use pw_value::fields::names::read_name;
 use pw_value::fields::{FieldError, read_flag, read_text, read_u32, read_u64};
 use pw_value::program_names::StartName;
 use pw_value::{FileError, Kind, Name, Shape};
@@ -250,37 +250,27 @@ fn check_last(
     check_start_beside_main(alloc, summary, count)
 }
 
-/// The table of names and the summary.
-#[tactic(auto, unfolding(pw_files::specs::Contents::contents_at))]
-fn read_contents(alloc: Global, bytes: &[u8]) -> Result<((Vec<Name>, Summary), &[u8]), FieldError>
-    ensures { Gives (λ x. (record { names = x.0.0.items; value = x.0.1 }, x.1.now)) result (contents_at fields_at last_rules bytes.now) }
-{
-    let (names, rest) = read_names(alloc, bytes)?;
-    let (summary, rest) = read_summary(alloc, &names, rest)?;
-    Ok(((names, summary), rest))
-}
+/// Summary files, which are read as all files of the compiler are.
+struct SummaryFormat;
 
-/// The table of names and the summary of a whole file.
-#[tactic(auto, unfolding(pw_value::specs::FieldFrame::file_at))]
-fn read_file(alloc: Global, bytes: &[u8]) -> Result<(Vec<Name>, Summary), FileError>
-    ensures { GivesFile (λ x. record { names = x.0.items; value = x.1 }) result (summary_file_at bytes.now) }
-{
-    let opened = open(KIND, 1, 1, bytes)?;
-    match read_contents(alloc, opened.payload) {
-        Err(e) => Err(e.at(opened.end)),
-        Ok((contents, _)) => {
-            check_digest(bytes, opened.end)?;
-            Ok(contents)
-        }
+impl Format for SummaryFormat {
+    type Value = Summary;
+
+    const KIND: u32 = KIND;
+
+    ghost KIND = { kind_of_file };
+
+    ghost fields = { fields_at };
+
+    ghost late = { last_rules };
+
+    fn read_fields<'a>(
+        alloc: Global,
+        names: &[Name],
+        bytes: &'a [u8],
+    ) -> Result<(Summary, &'a [u8]), FieldError> {
+        read_summary(alloc, names, bytes)
     }
-}
-
-/// The summary of a whole file, without its table of names.
-fn read_alone(alloc: Global, bytes: &[u8]) -> Result<Summary, FileError>
-    ensures { GivesFile (λ s. s) result (value_of (summary_file_at bytes.now)) }
-{
-    let (_names, summary) = read_file(alloc, bytes)?;
-    Ok(summary)
 }
 
 /// The summary that the bytes are the file of. A fault is the first field, in order, that is short or
@@ -293,5 +283,5 @@ pub fn read(alloc: Global, bytes: &[u8]) -> Result<Summary, FileError>
     // Which fault it is.
     ensures exact { GivesFile (λ s. s) result (value_of (summary_file_at bytes.now)) }
 {
-    read_alone(alloc, bytes)
+    read_value::<SummaryFormat>(alloc, bytes)
 }
