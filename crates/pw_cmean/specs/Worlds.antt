@@ -1,7 +1,6 @@
 -- A program, and what is there when it starts: the full names of its functions and objects, the functions
 -- with their numbers, and the objects of static lifetime (ISO C90 5.1.2, 6.1.2.2, 6.1.2.4).
 use Rattle.std.specs.Prelude.{ℕ, ◌+◌, ◌==◌, Bool, true, false, Option, Some, None, option_map, unwrap_or, List, [], ◌∷◌, ◌++◌, map, find, position, count_by, replicate}
-use Rattle.std.specs.Fmt.{decimal}
 use Rattle.std.specs.List.{flat_map}
 use Rattle.std.specs.Str.{bytes_eq}
 use Rattle.std.specs.Ordering.{nat_cmp, is_lt}
@@ -13,7 +12,8 @@ use Rattle.pw_value.specs.declared.value.Pointer.TheVariants as P
 use Rattle.pw_value.specs.Values.{pieces_of}
 use Rattle.pw_value.specs.Objects.{Object, with_bytes}
 use Rattle.pw_types.specs.TypeTrees.{type_of}
-use Rattle.pw_types.specs.TypedTrees.{Symbol, External, Internal, Hidden, FunctionValue, GlobalValue, ItemValue, ItemBytes, ItemAddress, PlacedItem, ModuleValue}
+pub use Rattle.pw_types.specs.FullNames.{full_name}
+use Rattle.pw_types.specs.TypedTrees.{FunctionValue, GlobalValue, ItemValue, ItemBytes, ItemAddress, PlacedItem, ModuleValue}
 use Rattle.pw_types.specs.Layouts.{layout_of}
 use Rattle.pw_types.specs.Shapes.{shape_of}
 use Rattle.pw_value.specs.ProgramNames.{start_name, exit_name, getchar_name, putchar_name}
@@ -26,15 +26,6 @@ pub record ProgramModule : Type 0 where
 -- the modules in byte order of their names
 pub record Program : Type 0 where
   pub modules : List ProgramModule
-
--- ---- names
-
--- The name of a symbol of a module in the whole program: `x` where all modules share it, and else `m:x`,
--- or `m:.k` of the module's hidden object of number k.
-abbrev pub full_name : List ℕ → Symbol → List ℕ
-full_name home (External x) = x
-full_name home (Internal x) = home ++ 58 ∷ x
-full_name home (Hidden k) = home ++ 58 ∷ 46 ∷ decimal k
 
 -- in byte order
 abbrev pub is_before : List ℕ → List ℕ → Bool

@@ -18,7 +18,7 @@ use pw_value::NoMemory;
 use std::alloc::Global;
 
 /// Whether a type is a structure or a union.
-#[tactic(auto, unfolding(pw_types::specs::Views::view_type), using(pw_lower::proofs::TypeViews::signature_view))]
+#[tactic(auto, unfolding(pw_types::specs::Views::view_type), using(pw_types::proofs::ViewLemmas::signature_view))]
 pub fn is_record(ty: &CType) -> bool
     ensures { result ≡ record_type (view_type ty.now) }
 {
@@ -26,7 +26,7 @@ pub fn is_record(ty: &CType) -> bool
 }
 
 /// What gives the address of a scalar lvalue; None where it is known by itself.
-#[tactic(auto, unfolding(pw_typed::specs::Views::view_form, pw_types::specs::Views::view_type), using(pw_typed::proofs::Rows::call_view, pw_typed::proofs::Rows::call_value_view, pw_lower::proofs::TypeViews::signature_view))]
+#[tactic(auto, unfolding(pw_typed::specs::Views::view_form, pw_types::specs::Views::view_type), using(pw_typed::proofs::Rows::call_view, pw_typed::proofs::Rows::call_value_view, pw_types::proofs::ViewLemmas::signature_view))]
 fn address_in(a: &TExpr) -> Option<&TExpr>
     ensures first { option_map view_expr (option_copied result) ≡ spec.address_in (view_form a.now.form) }
     ensures smaller { IfSome (option_copied result) (λ b. size-TForm b.form < size-TForm a.now.form) }
@@ -38,7 +38,7 @@ fn address_in(a: &TExpr) -> Option<&TExpr>
 }
 
 /// What gives the value of an lvalue's address; None where it is known by itself.
-#[tactic(auto, unfolding(pw_typed::specs::Views::view_form, pw_types::specs::Views::view_type), using(pw_typed::proofs::Rows::call_view, pw_typed::proofs::Rows::call_value_view, pw_lower::proofs::TypeViews::signature_view))]
+#[tactic(auto, unfolding(pw_typed::specs::Views::view_form, pw_types::specs::Views::view_type), using(pw_typed::proofs::Rows::call_view, pw_typed::proofs::Rows::call_value_view, pw_types::proofs::ViewLemmas::signature_view))]
 fn addressed_in(a: &TExpr) -> Option<&TExpr>
     ensures first { option_map view_expr (option_copied result) ≡ spec.addressed_in (view_expr a.now) }
     ensures smaller { IfSome (option_copied result) (λ b. size-TForm b.form ≤ size-TForm a.now.form) }
@@ -52,7 +52,7 @@ fn addressed_in(a: &TExpr) -> Option<&TExpr>
 
 /// The part of an expression that is evaluated first: its first operand, but of a scalar that is
 /// written and of an lvalue whose address is taken what gives the address.
-#[tactic(auto, unfolding(pw_typed::specs::Views::view_form, pw_types::specs::Views::view_type), using(pw_typed::proofs::Rows::call_view, pw_typed::proofs::Rows::call_value_view, pw_lower::proofs::TypeViews::signature_view))]
+#[tactic(auto, unfolding(pw_typed::specs::Views::view_form, pw_types::specs::Views::view_type), using(pw_typed::proofs::Rows::call_view, pw_typed::proofs::Rows::call_value_view, pw_types::proofs::ViewLemmas::signature_view))]
 pub fn first_evaluated(e: &TExpr) -> Option<&TExpr>
     ensures first { option_map view_expr (option_copied result) ≡ spec.first_part (view_expr e.now) }
     ensures smaller { IfSome (option_copied result) (λ a. size-TForm a.form < size-TForm e.now.form) }

@@ -8,6 +8,7 @@ ghost use Rattle.pw_lower.specs.Places.{place_at};
 ghost use Rattle.pw_lforms.specs.Homes.{view_home};
 ghost use Rattle.pw_lforms.specs.Steps as steps;
 ghost use Rattle.pw_typed.specs.Views.{view_expr, view_form, view_symbol};
+ghost use Rattle.pw_types.specs.FullNames as symbols;
 ghost use Rattle.pw_types.specs.TypedTrees as tree;
 ghost use Rattle.pw_types.specs.Views.{view_type, view_qtype};
 
@@ -82,7 +83,7 @@ fn number(n: u32, code: &mut Code) -> Result<Option<u32>, NoMemory>
 /// The address of a string.
 fn string(alloc: Global, home: Home, k: u32, code: &mut Code) -> Result<Option<u32>, NoMemory>
     ensures { IfOk result (λ t. lowered_as t code.new
-        ≡ spec.address_of_global (spec.full_name home.entry.name.now (tree.Hidden k)) code.old) }
+        ≡ spec.address_of_global (symbols.full_name home.entry.name.now (tree.Hidden k)) code.old) }
 {
     let name = hidden_name(alloc, home.name, k)?;
     Ok(Some(code.global_address(name)?))
@@ -106,7 +107,7 @@ fn global(
     code: &mut Code,
 ) -> Result<Option<u32>, NoMemory>
     ensures { IfOk result (λ t. lowered_as t code.new
-        ≡ spec.value_of_global (kind (view_type ty.now)) (spec.full_name home.entry.name.now (view_symbol symbol.now)) code.old) }
+        ≡ spec.value_of_global (kind (view_type ty.now)) (symbols.full_name home.entry.name.now (view_symbol symbol.now)) code.old) }
 {
     let name = full_name(alloc, home.name, symbol)?;
     Ok(Some(value_of_global(kind_of(ty), name, code)?))
@@ -120,7 +121,7 @@ fn function(
     code: &mut Code,
 ) -> Result<Option<u32>, NoMemory>
     ensures { IfOk result (λ t. lowered_as t code.new
-        ≡ spec.address_of_function (spec.full_name home.entry.name.now (view_symbol symbol.now)) code.old) }
+        ≡ spec.address_of_function (symbols.full_name home.entry.name.now (view_symbol symbol.now)) code.old) }
 {
     let name = full_name(alloc, home.name, symbol)?;
     Ok(Some(code.function_address(name)?))

@@ -19,7 +19,7 @@ use pw_value::{NoMemory, Shape};
 use std::alloc::Global;
 
 /// Whether a type is void.
-#[tactic(auto, unfolding(pw_types::specs::Views::view_type), using(pw_lower::proofs::TypeViews::signature_view))]
+#[tactic(auto, unfolding(pw_types::specs::Views::view_type), using(pw_types::proofs::ViewLemmas::signature_view))]
 pub fn is_void(ty: &CType) -> bool
     ensures { result ≡ spec.is_void (view_type ty.now) }
 {
@@ -37,7 +37,7 @@ fn result_of(ty: &CType, code: &mut Code) -> Result<Option<u32>, NoMemory>
 }
 
 /// The shape of the function that a value of a type points to.
-#[tactic(auto, unfolding(pw_types::specs::Views::view_type), using(pw_lower::proofs::TypeViews::signature_view))]
+#[tactic(auto, unfolding(pw_types::specs::Views::view_type), using(pw_types::proofs::ViewLemmas::signature_view))]
 fn shape_at(alloc: Global, types: &Types, ty: &QType) -> Result<Shape, NoMemory>
     ensures { IfOk result (λ shape. shape ≡ spec.shape_at types.now (view_qtype ty.now)) }
 {

@@ -1,8 +1,8 @@
 //! The names of objects and functions among all modules.
 
 ghost use Rattle.std.specs.Prelude.{◌≡◌, ◌++◌, ◌∷◌, [], decimal, IfOk, OnOk};
-ghost use Rattle.pw_lower.specs.Expressions as spec;
 ghost use Rattle.pw_typed.specs.Views.{view_symbol};
+ghost use Rattle.pw_types.specs.FullNames as symbols;
 ghost use Rattle.pw_types.specs.TypedTrees as tree;
 
 use itoa::Buffer;
@@ -12,7 +12,7 @@ use std::alloc::Global;
 
 /// The name of an object or function among all modules: `x`, `m:x` or `m:.k`.
 pub fn full_name(alloc: Global, home: &Name, symbol: &Symbol) -> Result<Name, NoMemory>
-    ensures { IfOk result (λ name. name ≡ spec.full_name home.now (view_symbol symbol.now)) }
+    ensures { IfOk result (λ name. name ≡ symbols.full_name home.now (view_symbol symbol.now)) }
 {
     match symbol {
         Symbol::External(name) => name.copy(alloc),
@@ -33,7 +33,7 @@ fn own_name(alloc: Global, home: &Name, name: &[u8]) -> Result<Name, NoMemory>
 
 /// The name `m:.k` of a module's hidden object.
 pub fn hidden_name(alloc: Global, home: &Name, number: u32) -> Result<Name, NoMemory>
-    ensures { IfOk result (λ name. name ≡ spec.full_name home.now (tree.Hidden number)) }
+    ensures { IfOk result (λ name. name ≡ symbols.full_name home.now (tree.Hidden number)) }
 {
     let mut bytes = Vec::new(alloc);
     bytes.push(b'.')?;

@@ -1,11 +1,12 @@
 -- Lowering of expressions (C90 6.3): operands from left to right, each side effect at once.
-use Rattle.std.specs.Prelude.{ℕ, ◌+◌, ◌==◌, Bool, true, false, if◌then◌else◌, Option, Some, None, unwrap_or, List, [], ◌∷◌, ◌++◌, decimal}
+use Rattle.std.specs.Prelude.{ℕ, ◌+◌, ◌==◌, Bool, true, false, if◌then◌else◌, Option, Some, None, unwrap_or, List, [], ◌∷◌}
 use Rattle.pw_value.specs.declared.value.Kind.{Kind}
 use Rattle.pw_value.specs.declared.value.Kind.TheVariants.{W32}
 use Rattle.pw_types.specs.Records.{is_record}
 use Rattle.pw_types.specs.Shapes.{shape_of}
 use Rattle.pw_types.specs.TypeTrees.{CType, Void, Pointer, QType, Qualified, type_of, is_volatile, RecordValue}
-use Rattle.pw_types.specs.TypedTrees.{Symbol, External, Internal, Hidden, Expression, Node, type_at, Number, Str, Local, Global, Function, Unary, Binary, Logic, Cond, Comma, Assign, Compound, Step, Cast, Decay, Member, Deref, Address, Call, CallValue, Expressions, NoExpression, OneExpression}
+pub use Rattle.pw_types.specs.FullNames.{full_name}
+use Rattle.pw_types.specs.TypedTrees.{Hidden, Expression, Node, type_at, Number, Str, Local, Global, Function, Unary, Binary, Logic, Cond, Comma, Assign, Compound, Step, Cast, Decay, Member, Deref, Address, Call, CallValue, Expressions, NoExpression, OneExpression}
 use Rattle.pw_types.specs.declared.tree.BinaryOperator.{BinaryOperator}
 use Rattle.pw_types.specs.declared.tree.LogicOperator.TheVariants as logic
 use Rattle.pw_types.specs.declared.tree.StepOperator.{StepOperator}
@@ -27,12 +28,6 @@ pub record Home : Type 0 where
   pub name : List ℕ
   pub records : List RecordValue
   pub places : List LocalPlace
-
--- the name of an object or function among all modules: `x`, `m:x`, `m:.k`
-abbrev pub full_name : List ℕ → Symbol → List ℕ
-full_name home (External x) = x
-full_name home (Internal x) = home ++ 58 ∷ x
-full_name home (Hidden k) = home ++ 58 ∷ 46 ∷ decimal k
 
 abbrev pub shape_at : List RecordValue → QType → List ℕ
 shape_at records (Qualified (Pointer (Qualified ty constant inner)) outer volatile) = shape_of records ty inner

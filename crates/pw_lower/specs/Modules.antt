@@ -17,7 +17,8 @@ use Rattle.pw_lower.specs.declared.place.LocalPlace.{LocalPlace}
 use Rattle.pw_lower.specs.declared.place.LocalPlace.TheVariants.{Temp, Slot}
 use Rattle.pw_lower.specs.Places.{places_of, temps_from}
 use Rattle.pw_lower.specs.Operators.{kind_of, bytes_of}
-use Rattle.pw_lower.specs.Expressions.{full_name, scalar_kind}
+use Rattle.pw_types.specs.FullNames.{full_name}
+use Rattle.pw_lower.specs.Expressions.{scalar_kind}
 use Rattle.pw_lower.specs.Statements.{Frame, lower_statement}
 
 -- ---- functions

@@ -35,7 +35,7 @@ fn kind_of_int(kind: IntKind) -> Kind
 }
 
 /// How a scalar type stands in memory: pointers and numbers of four bytes alike.
-#[tactic(auto, unfolding(pw_types::specs::Views::view_type), using(crate::proofs::TypeViews::signature_view))]
+#[tactic(auto, unfolding(pw_types::specs::Views::view_type), using(pw_types::proofs::ViewLemmas::signature_view))]
 pub fn kind_of(ty: &CType) -> Option<Kind>
     ensures { result ≡ spec.kind_of (view_type ty.now) }
 {
@@ -47,7 +47,7 @@ pub fn kind_of(ty: &CType) -> Option<Kind>
 }
 
 /// Whether an operator takes operands of the type as signed; pointers are ordered as unsigned numbers.
-#[tactic(auto, unfolding(pw_types::specs::Views::view_type), using(crate::proofs::TypeViews::signature_view))]
+#[tactic(auto, unfolding(pw_types::specs::Views::view_type), using(pw_types::proofs::ViewLemmas::signature_view))]
 fn is_signed(ty: &CType) -> bool
     ensures { result ≡ spec.is_signed (view_type ty.now) }
 {
@@ -79,7 +79,7 @@ pub fn unit_of(types: &Types, ty: &CType) -> u32
 }
 
 /// The size of what a pointer points to; of no pointer, none.
-#[tactic(auto, unfolding(pw_types::specs::Views::view_type), using(crate::proofs::TypeViews::signature_view))]
+#[tactic(auto, unfolding(pw_types::specs::Views::view_type), using(pw_types::proofs::ViewLemmas::signature_view))]
 fn target_size(types: &Types, ty: &CType) -> Result<Option<u32>, NoMemory>
     ensures { IfOk result (λ n. n ≡ spec.target_size types.now (view_type ty.now)) }
 {
@@ -102,7 +102,7 @@ pub fn side_of(types: &Types, ty: &CType) -> Result<Side, NoMemory>
 }
 
 /// The same of the type in which `++` and `--` work on an operand of a type.
-#[tactic(auto, unfolding(pw_types::specs::Views::view_type), using(crate::proofs::TypeViews::signature_view))]
+#[tactic(auto, unfolding(pw_types::specs::Views::view_type), using(pw_types::proofs::ViewLemmas::signature_view))]
 pub fn step_side(types: &Types, ty: &CType) -> Result<Side, NoMemory>
     ensures { IfOk result (λ side. side ≡ spec.side_of types.now (spec.step_type (view_type ty.now))) }
 {

@@ -30,7 +30,7 @@ pub fn places_of(alloc: Global, f: &TFunction) -> Result<Vec<LocalPlace>, NoMemo
 }
 
 /// Whether a type is scalar: an integer type or a pointer.
-#[tactic(auto, unfolding(pw_types::specs::Views::view_type), using(pw_lower::proofs::TypeViews::signature_view))]
+#[tactic(auto, unfolding(pw_types::specs::Views::view_type), using(pw_types::proofs::ViewLemmas::signature_view))]
 fn is_scalar(ty: &CType) -> bool
     ensures { result ≡ scalar (view_type ty.now) }
 {

@@ -11,7 +11,7 @@ use Rattle.pw_inst.specs.InstructionTable.{word_of}
 use Rattle.pw_machine.specs.Core.{Core}
 use Rattle.pw_machine.specs.Run.{State, Running, began, run_of}
 use Rattle.pw_machine.specs.Start.{start_core, start_memory, data_start_of, stack_start_of}
-use Rattle.pw_sum.specs.SumProgram.{IsSumProgram}
+use Rattle.pw_sum.specs.SumProgram.{number_limit, IsSumProgram}
 use Rattle.pw_sum.specs.Code.{term_code, end_code, words_of}
 use Rattle.pw_run.specs.Runs.{Met, Whatever, none}
 use Rattle.pw_agreement.specs.MachineStages.{shown, staged, machine_run}
@@ -80,7 +80,7 @@ comes_first words input small insts e = record {
 
 -- ---- the end
 
-ends : (numbers input : List ℕ) (small : length (words_of numbers) ≤ 65536) → 1 ≤ length numbers → AllByRecursion (λ n. n ≤ 8191) numbers → EndsWith (program_of (words_of numbers) input small) (sum numbers % 2 ^ 8)
+ends : (numbers input : List ℕ) (small : length (words_of numbers) ≤ 65536) → 1 ≤ length numbers → AllByRecursion (λ n. n ≤ number_limit) numbers → EndsWith (program_of (words_of numbers) input small) (sum numbers % 2 ^ 8)
 ends [] input small some low = absurd (omega arith)
 ends (n ∷ numbers) input small some low =
     let words = words_of (n ∷ numbers) in
@@ -133,7 +133,7 @@ source_run-some stack numbers n = ap (λ (b : Bool). silent (if b then Stack els
 
 -- ---- the agreement
 
-agree_at : (numbers input : List ℕ) (stack : ℕ) → 1 ≤ length numbers → length (words_of numbers) ≤ 65536 → AllByRecursion (λ n. n ≤ 8191) numbers
+agree_at : (numbers input : List ℕ) (stack : ℕ) → 1 ≤ length numbers → length (words_of numbers) ≤ 65536 → AllByRecursion (λ n. n ≤ number_limit) numbers
     → (n : ℕ) → Meets (words_of numbers) input n (source_run (frames_of numbers) stack numbers n)
 agree_at numbers input stack some small low zero =
     subst (λ (source : SourceRun). Meets (words_of numbers) input 0 source) (sym (source_run-none stack numbers)) (meets_bound (words_of numbers) input)

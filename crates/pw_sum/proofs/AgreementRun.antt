@@ -15,6 +15,7 @@ use Rattle.pw_machine.specs.Core.{Core, word_at}
 use Rattle.pw_machine.specs.Effect.{Effect, Goes, effect_of, effect_of_inst, executed, is_in_text, halts}
 use Rattle.pw_machine.specs.Run.{State, Running, Stopped, run_of, taken}
 use Rattle.pw_machine.proofs.Runs.{run_of-more}
+use Rattle.pw_sum.specs.SumProgram.{number_limit}
 use Rattle.pw_sum.specs.Code.{term_code, end_code}
 use Rattle.pw_sum.proofs.AgreementMemory.{HasText, text_word}
 
@@ -110,11 +111,11 @@ goes_on_with p registers changed front inst insts h in_range fits e =
 
 -- ---- the four instructions
 
-ldo-in_range : (n t : ℕ) → n ≤ 8191 → t < 32 → IsInRange (Ldo (pos n) 0 t)
+ldo-in_range : (n t : ℕ) → n ≤ number_limit → t < 32 → IsInRange (Ldo (pos n) 0 t)
 unfolding IsInRange
 ldo-in_range n t small low = search rules
 
-ldo-fits : (n t : ℕ) → n ≤ 8191 → t < 32 → word_of (Ldo (pos n) 0 t) < 2 ^ 32
+ldo-fits : (n t : ℕ) → n ≤ number_limit → t < 32 → word_of (Ldo (pos n) 0 t) < 2 ^ 32
 unfolding word_of
 ldo-fits n t small low = omega arith
 
@@ -142,18 +143,18 @@ break-fits : word_of (Break 0 3) < 2 ^ 32
 unfolding word_of
 break-fits = omega arith
 
-loaded : (n : ℕ) → n ≤ 8191 → (0 + n) % 2 ^ 32 ≡ n
+loaded : (n : ℕ) → n ≤ number_limit → (0 + n) % 2 ^ 32 ≡ n
 loaded n small = omega arith
 
 -- LDO n(0),28
-pub after_first : (p : Program) (registers front : List ℕ) (n : ℕ) (insts : List Inst) → n ≤ 8191 → Comes p registers front (Ldo (pos n) 0 28 ∷ insts)
+pub after_first : (p : Program) (registers front : List ℕ) (n : ℕ) (insts : List Inst) → n ≤ number_limit → Comes p registers front (Ldo (pos n) 0 28 ∷ insts)
     → Comes p (slice_set registers 28 n) (front ++ word_of (Ldo (pos n) 0 28) ∷ []) insts
 after_first p registers front n insts small h =
     goes_on_with p registers (slice_set registers 28 n) front (Ldo (pos n) 0 28) insts h (ldo-in_range n 28 small (omega arith)) (ldo-fits n 28 small (omega arith))
     (ap (λ (v : ℕ). Goes (core_at p (slice_set registers 28 v) (h.a + 4) ((h.a + 4 + 4) % 2 ^ 32))) (loaded n small))
 
 -- LDO n(0),1
-after_load : (p : Program) (registers front : List ℕ) (n : ℕ) (insts : List Inst) → n ≤ 8191 → Comes p registers front (Ldo (pos n) 0 1 ∷ insts)
+after_load : (p : Program) (registers front : List ℕ) (n : ℕ) (insts : List Inst) → n ≤ number_limit → Comes p registers front (Ldo (pos n) 0 1 ∷ insts)
     → Comes p (slice_set registers 1 n) (front ++ word_of (Ldo (pos n) 0 1) ∷ []) insts
 after_load p registers front n insts small h =
     goes_on_with p registers (slice_set registers 1 n) front (Ldo (pos n) 0 1) insts h (ldo-in_range n 1 small (omega arith)) (ldo-fits n 1 small (omega arith))
@@ -209,7 +210,7 @@ low_bits : (s n rest : ℕ) → ((s + n) % 2 ^ 32 + rest) % 2 ^ 8 ≡ (s + (n + 
 low_bits s n rest = omega arith
 
 -- the code of numbers adds them to what stands in register 28
-pub summed : (p : Program) (numbers registers front : List ℕ) → AllByRecursion (λ n. n ≤ 8191) numbers → length registers ≡ 32
+pub summed : (p : Program) (numbers registers front : List ℕ) → AllByRecursion (λ n. n ≤ number_limit) numbers → length registers ≡ 32
     → Comes p registers front (flat_map term_code numbers ++ end_code) → EndsWith p ((get_or registers 28 0 + sum numbers) % 2 ^ 8)
 summed p [] registers front small size h =
     let none : get_or registers 28 0 + sum [] ≡ get_or registers 28 0 = omega arith in

@@ -11,7 +11,8 @@ use Rattle.std.proofs.lemmas.Fmt.{decimal-digits_value, digits_decimal, digits_v
 use Rattle.std.proofs.lemmas.Slice.Eq.{bytes_eq-Decides}
 use Rattle.std.proofs.lemmas.Bool.Decides.{nat_tests}
 use Rattle.pw_sum.specs.Tokens.{tokens}
-use Rattle.pw_sum.specs.SumProgram.{IsSumProgram, opening, closing, sum_tokens, read_digits, has_no_number, number_in, is_last_brace, term_at, sum_from, terms, without_front, numbers_in}
+use Rattle.pw_token.specs.Limits.{text_limit}
+use Rattle.pw_sum.specs.SumProgram.{sum_limit, number_limit, IsSumProgram, opening, closing, sum_tokens, read_digits, has_no_number, number_in, is_last_brace, term_at, sum_from, terms, without_front, numbers_in}
 
 -- the number that digits spell, read on from a number
 abbrev read_on : ℕ → List ℕ → ℕ
@@ -44,7 +45,7 @@ reads_no_less n [] = omega arith
 reads_no_less n (d ∷ ds) = omega (arith, reads_no_less (10 * n + (d - 48)) ds)
 
 -- digits of a number that is small enough are read
-digits_are_read : (n : ℕ) (ds : List ℕ) → all_ascii_digits ds ≡ true → read_on n ds ≤ 8191 → read_digits n ds ≡ Some (read_on n ds)
+digits_are_read : (n : ℕ) (ds : List ℕ) → all_ascii_digits ds ≡ true → read_on n ds ≤ number_limit → read_digits n ds ≡ Some (read_on n ds)
 digits_are_read n [] h small = refl
 digits_are_read n (d ∷ ds) h small =
     let p = halves (is_ascii_digit d) (all_ascii_digits ds) h in
@@ -73,15 +74,15 @@ alone_if_zero (d ∷ []) e h = refl
 alone_if_zero (d ∷ c ∷ ds) e h = grind (arith, nat_tests)
 
 -- a number's token is its decimal
-pub number_is_decimal : (t : List ℕ) (n : ℕ) → number_in t ≡ Some n → (t ≡ decimal n) × (n ≤ 8191)
+pub number_is_decimal : (t : List ℕ) (n : ℕ) → number_in t ≡ Some n → (t ≡ decimal n) × (n ≤ number_limit)
 unfolding number_in
 number_is_decimal t n e =
     let some = allowed (has_no_number t) _ n e in
-    let read = bound (λ m. cond (nat_le m 8191) (Some m) None) (read_digits 0 t) n some.1 in
-    let fits = passed (nat_le read.0 8191) (Some read.0) n read.2 in
+    let read = bound (λ m. cond (nat_le m number_limit) (Some m) None) (read_digits 0 t) n some.1 in
+    let fits = passed (nat_le read.0 number_limit) (Some read.0) n read.2 in
     let same = some_equal read.0 n fits.1 in
     let digits = digits_read 0 t read.0 read.1 in
-    let small : read.0 ≤ 8191 = grind (arith, nat_tests) in
+    let small : read.0 ≤ number_limit = grind (arith, nat_tests) in
     let value : read_on 0 t < 2 ^ 64 = omega arith in
     let spelled = decimal-digits_value own t digits.0 (not_empty t some.0) (alone_if_zero t some.0) value in
     (sym spelled ∙ ap decimal (sym digits.1 ∙ same), omega arith)
@@ -91,18 +92,18 @@ has_number [] h f = absurd (omega arith)
 has_number (d ∷ []) h f = refl
 has_number (d ∷ c ∷ ds) h f = grind (arith, nat_tests)
 
-decimal_has_number : (n : ℕ) → n ≤ 8191 → has_no_number (decimal n) ≡ false
+decimal_has_number : (n : ℕ) → n ≤ number_limit → has_no_number (decimal n) ≡ false
 decimal_has_number zero small = ap has_no_number (decimal_digit 0 (omega arith))
 decimal_has_number (suc n) small = has_number (decimal (suc n)) (decimal_nonempty (suc n) (omega arith)) (first_decimal (suc n) (omega arith) (omega arith))
 
 -- and each small number's decimal is its token
-pub decimal_is_number : (n : ℕ) → n ≤ 8191 → number_in (decimal n) ≡ Some n
+pub decimal_is_number : (n : ℕ) → n ≤ number_limit → number_in (decimal n) ≡ Some n
 unfolding number_in
 decimal_is_number n small =
     let lt : n < 2 ^ 64 = omega arith in
     let value = digits_value-decimal own n lt in
     let read = digits_are_read 0 (decimal n) (digits_decimal own n lt) (omega (arith, value)) ∙ ap Some value in
-    let fits : nat_le n 8191 ≡ true = grind (arith, nat_tests) in
+    let fits : nat_le n number_limit ≡ true = grind (arith, nat_tests) in
     rw (decimal_has_number n small, read, fits) refl
 
 -- the front of the tokens
@@ -122,15 +123,15 @@ front_again [] rest = refl
 front_again (w ∷ ws) rest = rw (same_bytes w) (front_again ws rest)
 
 -- a last term
-last_term : (n : ℕ) → n ≤ 8191 → term_at (decimal n ∷ closing) ≡ Some (n, None)
+last_term : (n : ℕ) → n ≤ number_limit → term_at (decimal n ∷ closing) ≡ Some (n, None)
 last_term n small = rw (decimal_is_number n small) refl
 
 -- a term before others
-more_term : (n : ℕ) (ts : List (List ℕ)) → n ≤ 8191 → term_at (decimal n ∷ codes "+" ∷ ts) ≡ Some (n, Some ts)
+more_term : (n : ℕ) (ts : List (List ℕ)) → n ≤ number_limit → term_at (decimal n ∷ codes "+" ∷ ts) ≡ Some (n, Some ts)
 more_term n ts small = rw (decimal_is_number n small) refl
 
 -- the numbers of a spelled sum are found
-terms_found : (k : ℕ) (numbers : List ℕ) → 1 ≤ length numbers → length numbers ≤ k → AllByRecursion (λ n. n ≤ 8191) numbers → terms k (sum_tokens numbers ++ closing) ≡ Some numbers
+terms_found : (k : ℕ) (numbers : List ℕ) → 1 ≤ length numbers → length numbers ≤ k → AllByRecursion (λ n. n ≤ number_limit) numbers → terms k (sum_tokens numbers ++ closing) ≡ Some numbers
 unfolding terms
 terms_found zero numbers some few small = absurd (omega arith)
 terms_found (suc k) [] some few small = absurd (omega arith)
@@ -142,7 +143,7 @@ terms_found (suc k) (n ∷ m ∷ numbers) some few small =
 record Spells (k : ℕ) (ts : List (List ℕ)) (numbers : List ℕ) : Type 0 where
   some : 1 ≤ length numbers
   few : length numbers ≤ k
-  small : AllByRecursion (λ n. n ≤ 8191) numbers
+  small : AllByRecursion (λ n. n ≤ number_limit) numbers
   spelled : ts ≡ sum_tokens numbers ++ closing
 
 joined_sum : (n : ℕ) (numbers : List ℕ) → 1 ≤ length numbers → sum_tokens (n ∷ numbers) ≡ decimal n ∷ codes "+" ∷ sum_tokens numbers
@@ -151,7 +152,7 @@ joined_sum n (m ∷ numbers) h = refl
 
 -- one term, by what follows it
 record IsTerm (ts : List (List ℕ)) (n : ℕ) (rest : Option (List (List ℕ))) : Type 0 where
-  small : n ≤ 8191
+  small : n ≤ number_limit
   last : rest ≡ None → ts ≡ decimal n ∷ closing
   more : (others : List (List ℕ)) → rest ≡ Some others → ts ≡ decimal n ∷ codes "+" ∷ others
 
@@ -163,7 +164,7 @@ brace_is_last (t ∷ u ∷ ts) e = cc
 -- how a term's joint was told
 joint_told : (u : List ℕ) (ts : List (List ℕ)) (n : ℕ) (x : ℕ × Option (List (List ℕ))) → (plus end : Bool)
     → (plus ≡ true → u ≡ codes "+") → (end ≡ true → u ∷ ts ≡ closing)
-    → cond plus (Some (n, Some ts)) (cond end (Some (n, None)) None) ≡ Some x → (t : List ℕ) → t ≡ decimal n → n ≤ 8191 → IsTerm (t ∷ u ∷ ts) x.0 x.1
+    → cond plus (Some (n, Some ts)) (cond end (Some (n, None)) None) ≡ Some x → (t : List ℕ) → t ≡ decimal n → n ≤ number_limit → IsTerm (t ∷ u ∷ ts) x.0 x.1
 joint_told u ts n x true end p q e t d small =
     let P : ℕ × Option (List (List ℕ)) → Type 0 = λ y. IsTerm (t ∷ u ∷ ts) y.0 y.1 in
     subst P (some_equal _ _ e) (record {
@@ -196,7 +197,7 @@ mapped f None y e = cc
 mapped f (Some x) y e = (x, refl, some_equal _ _ e)
 
 -- a sum with one more number at its front
-spells_more : (k n : ℕ) (ts others : List (List ℕ)) (numbers : List ℕ) → n ≤ 8191 → ts ≡ decimal n ∷ codes "+" ∷ others → Spells k others numbers → Spells (suc k) ts (n ∷ numbers)
+spells_more : (k n : ℕ) (ts others : List (List ℕ)) (numbers : List ℕ) → n ≤ number_limit → ts ≡ decimal n ∷ codes "+" ∷ others → Spells k others numbers → Spells (suc k) ts (n ∷ numbers)
 spells_more k n ts others numbers small e s = record {
   some = omega arith;
   few = omega (arith, s.few);
@@ -204,7 +205,7 @@ spells_more k n ts others numbers small e s = record {
   spelled = e ∙ ap (λ rest. decimal n ∷ codes "+" ∷ rest) s.spelled ∙ ap (λ front. front ++ closing) (sym (joined_sum n numbers s.some));
 }
 
-spells_one : (k n : ℕ) (ts : List (List ℕ)) → n ≤ 8191 → ts ≡ decimal n ∷ closing → Spells (suc k) ts (n ∷ [])
+spells_one : (k n : ℕ) (ts : List (List ℕ)) → n ≤ number_limit → ts ≡ decimal n ∷ closing → Spells (suc k) ts (n ∷ [])
 spells_one k n ts small e = record { some = omega arith; few = omega arith; small = (small, tt); spelled = e }
 
 -- by what follows the first number
@@ -227,9 +228,9 @@ terms_told (suc k) ts numbers e =
 pub numbers_told : (text numbers : List ℕ) → numbers_in text ≡ Some numbers → IsSumProgram text numbers
 unfolding numbers_in
 numbers_told text numbers e =
-    let size = passed (nat_le (length text) 1048576) _ numbers e in
-    let b = bound (terms 200) (without_front opening (tokens text)) numbers size.1 in
-    let s = terms_told 200 b.0 numbers b.2 in
+    let size = passed (nat_le (length text) text_limit) _ numbers e in
+    let b = bound (terms sum_limit) (without_front opening (tokens text)) numbers size.1 in
+    let s = terms_told sum_limit b.0 numbers b.2 in
     record {
       size = grind (arith, nat_tests);
       some = s.some;
@@ -242,9 +243,9 @@ numbers_told text numbers e =
 pub numbers_found : (text numbers : List ℕ) → IsSumProgram text numbers → numbers_in text ≡ Some numbers
 unfolding numbers_in
 numbers_found text numbers p =
-    let fits : nat_le (length text) 1048576 ≡ true = grind (arith, nat_tests, p.size) in
+    let fits : nat_le (length text) text_limit ≡ true = grind (arith, nat_tests, p.size) in
     let front = ap (without_front opening) p.spelled ∙ front_again opening (sum_tokens numbers ++ closing) in
-    rw (fits, front) (terms_found 200 numbers p.some p.few p.small)
+    rw (fits, front) (terms_found sum_limit numbers p.some p.few p.small)
 
 -- exactly the sum programs
 pub numbers_are_exact : (text numbers : List ℕ) → (numbers_in text ≡ Some numbers) ↔ IsSumProgram text numbers

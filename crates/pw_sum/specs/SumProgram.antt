@@ -1,11 +1,19 @@
--- The programs that are compiled: `int main(void){return SUM;}` with SUM one to 200 decimal numbers from 0 to 8191, joined by `+`.
+-- The programs that are compiled: `int main(void){return SUM;}` with SUM decimal numbers, joined by `+`.
 use Rattle.std.specs.Prelude.{◌≡◌, ℕ, zero, suc, ◌+◌, ◌*◌, ◌-◌, ◌≤◌, Bool, true, false, ◌==◌, ◌&&◌, nat_le, if◌then◌else◌, List, [], ◌∷◌, ◌++◌, length, codes, Option, Some, None, option_and_then}
 use Rattle.std.specs.List.{AllByRecursion}
 use Rattle.std.specs.Option.{option_map, option_map_or}
 use Rattle.std.specs.Fmt.{decimal}
 use Rattle.std.specs.Str.{bytes_eq}
 use Rattle.std.specs.Char.{is_ascii_digit}
+use Rattle.pw_token.specs.Limits.{text_limit}
 use Rattle.pw_sum.specs.Tokens.{tokens}
+
+-- the most numbers of a sum, and the greatest of them
+abbrev pub sum_limit : ℕ
+sum_limit = 200
+
+abbrev pub number_limit : ℕ
+number_limit = 8191
 
 -- the tokens before the sum and behind it
 abbrev pub opening : List (List ℕ)
@@ -22,10 +30,10 @@ sum_tokens (n ∷ m ∷ numbers) = decimal n ∷ codes "+" ∷ sum_tokens (m ∷
 
 -- the text is the program that returns the sum of the numbers
 pub record IsSumProgram (text numbers : List ℕ) : Type 0 where
-  pub size : length text ≤ 1048576
+  pub size : length text ≤ text_limit
   pub some : 1 ≤ length numbers
-  pub few : length numbers ≤ 200
-  pub small : AllByRecursion (λ n. n ≤ 8191) numbers
+  pub few : length numbers ≤ sum_limit
+  pub small : AllByRecursion (λ n. n ≤ number_limit) numbers
   pub spelled : tokens text ≡ opening ++ sum_tokens numbers ++ closing
 
 -- What of a text the program's form is, said as a function: `numbers_in text` is `Some numbers` exactly where `IsSumProgram text numbers`, which the public law `form_is_exact` states.
@@ -43,7 +51,7 @@ has_no_number (digit ∷ next ∷ digits) = digit == 48
 
 -- the number that the token spells
 unfoldable pub number_in : List ℕ → Option ℕ
-number_in token = if has_no_number token then None else option_and_then (λ n. if nat_le n 8191 then Some n else None) (read_digits 0 token)
+number_in token = if has_no_number token then None else option_and_then (λ n. if nat_le n number_limit then Some n else None) (read_digits 0 token)
 
 -- the closing brace and nothing behind it
 abbrev pub is_last_brace : List (List ℕ) → Bool
@@ -75,4 +83,4 @@ without_front (w ∷ ws) (t ∷ ts) = if bytes_eq t w then without_front ws ts e
 
 unfoldable pub numbers_in : List ℕ → Option (List ℕ)
 numbers_in text =
-    if nat_le (length text) 1048576 then option_and_then (terms 200) (without_front opening (tokens text)) else None
+    if nat_le (length text) text_limit then option_and_then (terms sum_limit) (without_front opening (tokens text)) else None

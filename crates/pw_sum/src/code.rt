@@ -4,7 +4,7 @@ ghost use Rattle.std.specs.Prelude.{◌≡◌, ◌≤◌, ◌<◌, ◌+◌, pos,
 ghost use Rattle.std.specs.List.{AllByRecursion, flat_map};
 ghost use Rattle.pw_inst.specs.declared.Inst.TheVariants.{Ldo};
 ghost use Rattle.pw_inst.specs.InstructionTable.{word_of};
-ghost use Rattle.pw_sum.specs.SumProgram.{IsSumProgram};
+ghost use Rattle.pw_sum.specs.SumProgram.{IsSumProgram, number_limit};
 ghost use Rattle.pw_sum.specs.Code.{words_of, term_code, end_code};
 ghost use Rattle.pw_agreement.specs.Agreement.{Agree};
 ghost use Rattle.pw_sum.specs.SourceRun.{source_run};
@@ -25,7 +25,7 @@ const STATUS: u8 = 26;
 /// The word that puts a number into a register.
 #[tactic(auto, unfolding(pw_inst::specs::InstructionTable::IsInRange))]
 fn load(number: u16, register: u8) -> u32
-    requires small { number ≤ 8191 }
+    requires small { number ≤ number_limit }
     requires register { register < 32 }
     ensures { result ≡ word_of (Ldo (pos number) 0 register) }
 {
@@ -39,7 +39,7 @@ fn load(number: u16, register: u8) -> u32
 /// Appends the words that add numbers to the sum so far.
 #[tactic(auto, unfolding(pw_inst::specs::InstructionTable::IsInRange))]
 fn push_terms(words: &mut Vec<u32>, numbers: &[u16]) -> Result<(), AllocError>
-    requires small { AllByRecursion (λ n. n ≤ 8191) numbers.now }
+    requires small { AllByRecursion (λ n. n ≤ number_limit) numbers.now }
     ensures { OnOk result (words.new.items ≡ words.old.items ++ map word_of (flat_map term_code numbers.now)) }
 {
     for number in numbers {
@@ -70,7 +70,7 @@ fn push_end(words: &mut Vec<u32>) -> Result<(), AllocError>
 /// The words of a program that returns the sum of the numbers, from address 4096 on, which is the entry.
 pub fn words_of(alloc: Global, numbers: &[u16]) -> Result<Vec<u32>, AllocError>
     requires some { 1 ≤ length numbers.now }
-    requires small { AllByRecursion (λ n. n ≤ 8191) numbers.now }
+    requires small { AllByRecursion (λ n. n ≤ number_limit) numbers.now }
     ensures words { IfOk result (λ words. words.items ≡ words_of numbers.now) }
     ensures count { IfOk result (λ words. length words.items ≡ 2 * length numbers.now + 1) }
 {

@@ -4,19 +4,23 @@ ghost use Rattle.std.specs.Prelude.{◌≡◌, ◌↔◌, ◌≤◌, ℕ, List, 
 ghost use Rattle.std.specs.Option.{option_map};
 ghost use Rattle.std.specs.Str.{bytes_eq};
 ghost use Rattle.pw_sum.specs.Tokens.{tokens};
-ghost use Rattle.pw_sum.specs.SumProgram.{IsSumProgram, numbers_in, number_in, read_digits, has_no_number, without_front, opening, terms, is_last_brace, term_at};
+ghost use Rattle.pw_sum.specs.SumProgram.{IsSumProgram, sum_limit, number_limit, numbers_in, number_in, read_digits, has_no_number, without_front, opening, terms, is_last_brace, term_at};
 
 use crate::tokens::next_token;
+use pw_token::MAX_TEXT;
 use std::alloc::{AllocError, Global};
 
-/// The greatest length of a text in bytes.
-pub const TEXT_MAX: usize = 1_048_576;
-
 /// The greatest count of numbers in a sum.
-const NUMBERS_MAX: usize = 200;
+pub const SUM_LIMIT: usize = 200;
 
 /// The greatest number of a sum.
-const NUMBER_MAX: u16 = 8191;
+pub const NUMBER_LIMIT: u16 = 8191;
+
+/// The limits are those that the definitions speak of.
+pub fn limits_of_a_sum()
+    ensures sum { SUM_LIMIT ≡ sum_limit }
+    ensures number { NUMBER_LIMIT ≡ number_limit }
+{}
 
 /// The number that decimal digits spell, `None` where one is no digit or the number passes 8199.
 fn read_digits(digits: &[u8]) -> Option<u16>
@@ -41,7 +45,7 @@ fn number_in(token: &[u8]) -> Option<u16>
         return None;
     }
     let number = read_digits(token)?;
-    if number <= NUMBER_MAX {
+    if number <= NUMBER_LIMIT {
         Some(number)
     } else {
         None
@@ -98,11 +102,11 @@ fn term(text: &[u8]) -> Option<(u16, Option<&[u8]>)>
 
 /// The numbers of a sum and the closing of the program.
 fn terms(alloc: Global, text: &[u8]) -> Result<Option<Vec<u16>>, AllocError>
-    ensures { IfOk result (λ found. option_map (λ numbers. numbers.items) found ≡ terms 200 (tokens text.now)) }
+    ensures { IfOk result (λ found. option_map (λ numbers. numbers.items) found ≡ terms sum_limit (tokens text.now)) }
 {
     let mut numbers = Vec::new(alloc);
     let mut rest = text;
-    for _turn in 0..NUMBERS_MAX {
+    for _turn in 0..SUM_LIMIT {
         let Some((number, behind)) = term(rest) else {
             return Ok(None);
         };
@@ -116,12 +120,12 @@ fn terms(alloc: Global, text: &[u8]) -> Result<Option<Vec<u16>>, AllocError>
 }
 
 /// The numbers of a program that returns their sum.
-#[derive(Debug, Drop)]
+#[derive(Drop)]
 pub struct Sum {
     pub numbers: Vec<u16>,
     ghost some: { 1 ≤ length numbers.items },
-    ghost few: { length numbers.items ≤ 200 },
-    ghost small: { All (λ n. n ≤ 8191) numbers.items },
+    ghost few: { length numbers.items ≤ sum_limit },
+    ghost small: { All (λ n. n ≤ number_limit) numbers.items },
 }
 
 /// The numbers that a text's program adds, or `None` where the text is no such program.
@@ -129,7 +133,7 @@ pub struct Sum {
 fn summands(alloc: Global, text: &[u8]) -> Result<Option<Vec<u16>>, AllocError>
     ensures { IfOk result (λ found. option_map (λ numbers. numbers.items) found ≡ numbers_in text.now) }
 {
-    if text.len() > TEXT_MAX {
+    if text.len() > MAX_TEXT {
         return Ok(None);
     }
     match after_opening(text) {
