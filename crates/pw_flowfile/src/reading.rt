@@ -1,13 +1,13 @@
 //! Reading a flow file.
 
-ghost use Rattle.std.specs.Prelude.{◌≡◌, ◌+◌, ◌<◌, ◌^◌, ℕ, List, [], length, map, IfOk, Ok};
+ghost use Rattle.std.specs.Prelude.{◌+◌, ◌<◌, ◌^◌, [], length, map, IfOk, Ok};
 ghost use Rattle.std.specs.List.{flat_map};
 ghost use Rattle.pw_value.specs.Fields.{text};
 ghost use Rattle.pw_value.specs.FieldFaults.{Gives, GivesFile};
 ghost use Rattle.pw_value.specs.FieldNames.{IsRisingFrom};
-ghost use Rattle.pw_files.specs.Contents.{broken_at, contents_at, value_of};
+ghost use Rattle.pw_files.specs.Contents.{broken_at, value_of};
 ghost use Rattle.pw_flow.specs.declared.flow.FlowModule.{FlowModule as AnyModule};
-ghost use Rattle.pw_flowfile.specs.FlowFile.{IsFlowFile};
+ghost use Rattle.pw_flowfile.specs.FlowFile.{IsFlowFile, kind_of_file};
 ghost use Rattle.pw_flowfile.specs.Reading.{global_at, next_global, declared_at, next_declared, function_at, next_function, seen_after, list_at, parts_at, fields_at, late_rules, flow_file_at};
 ghost use Rattle.pw_flowfile.specs.Marks.{Marks};
 
@@ -15,11 +15,11 @@ use crate::globals::{read_declared, read_globals};
 use crate::graphs::read_functions;
 use crate::met::unmarked;
 use crate::used::{check_start_beside_main, used_names};
+use pw_files::format::{Format, read_value};
 use pw_files::late::check_used;
 use pw_flow::{FlowFn, FlowGlobal, FlowModule};
 use pw_items::Items;
-use pw_value::fields::frame::{check_digest, open};
-use pw_value::fields::names::{read_name, read_names};
+use pw_value::fields::names::read_name;
 use pw_value::fields::{FieldError, read_u32};
 use pw_value::{FileError, Name, Shape};
 use std::alloc::Global;
@@ -135,40 +135,27 @@ fn read_fields<'a>(
     Ok((flow, rest))
 }
 
-/// The table of names and the module.
-#[tactic(auto, unfolding(pw_files::specs::Contents::contents_at))]
-fn read_contents(
-    alloc: Global,
-    bytes: &[u8],
-) -> Result<((Vec<Name>, FlowModule), &[u8]), FieldError>
-    ensures { Gives (λ x. (record { names = x.0.0.items; value = x.0.1 }, x.1.now)) result (contents_at fields_at late_rules bytes.now) }
-{
-    let (names, behind) = read_names(alloc, bytes)?;
-    let (flow, rest) = read_fields(alloc, names.as_slice(), behind)?;
-    Ok(((names, flow), rest))
-}
+/// Flow files, which are read as all files of the compiler are.
+struct FlowFormat;
 
-/// The table of names and the module of a whole file.
-#[tactic(auto, unfolding(pw_value::specs::FieldFrame::file_at))]
-fn read_file(alloc: Global, bytes: &[u8]) -> Result<(Vec<Name>, FlowModule), FileError>
-    ensures { GivesFile (λ x. record { names = x.0.items; value = x.1 }) result (flow_file_at bytes.now) }
-{
-    let opened = open(KIND, 1, 1, bytes)?;
-    match read_contents(alloc, opened.payload) {
-        Err(e) => Err(e.at(opened.end)),
-        Ok((contents, _)) => {
-            check_digest(bytes, opened.end)?;
-            Ok(contents)
-        }
+impl Format for FlowFormat {
+    type Value = FlowModule;
+
+    const KIND: u32 = KIND;
+
+    ghost KIND = { kind_of_file };
+
+    ghost fields = { fields_at };
+
+    ghost late = { late_rules };
+
+    fn read_fields<'a>(
+        alloc: Global,
+        names: &[Name],
+        bytes: &'a [u8],
+    ) -> Result<(FlowModule, &'a [u8]), FieldError> {
+        read_fields(alloc, names, bytes)
     }
-}
-
-/// The module of a whole file, without its table of names.
-fn read_alone(alloc: Global, bytes: &[u8]) -> Result<FlowModule, FileError>
-    ensures { GivesFile (λ m. m) result (value_of (flow_file_at bytes.now)) }
-{
-    let (_names, flow) = read_file(alloc, bytes)?;
-    Ok(flow)
 }
 
 /// The flow graph that the bytes are the file of. A fault is the first field, in order, that is short or
@@ -182,5 +169,5 @@ pub fn read(alloc: Global, bytes: &[u8]) -> Result<FlowModule, FileError>
     // Which fault it is.
     ensures exact { GivesFile (λ m. m) result (value_of (flow_file_at bytes.now)) }
 {
-    read_alone(alloc, bytes)
+    read_value::<FlowFormat>(alloc, bytes)
 }

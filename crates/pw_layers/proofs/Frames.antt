@@ -6,7 +6,7 @@ use Rattle.std.proofs.Common.{arith, subst, sym, ap, refl, inl, inr, ◌∙◌}
 use Rattle.std.proofs.lemmas.List.Elements.{All-contains, All-from_recursion, Contains-append_left, Contains-append_right, Contains-append_cases, Contains-push_cases}
 use Rattle.std.proofs.lemmas.List.Concat.{flat_map-cons}
 use Rattle.pw_value.specs.ProgramNames.{start_name}
-use Rattle.pw_types.specs.TypedTrees.{Symbol, External, Internal, Hidden, FunctionValue, ModuleValue}
+use Rattle.pw_types.specs.TypedTrees.{FunctionValue, ModuleValue}
 use Rattle.pw_types.specs.Rooms.{room_of}
 use Rattle.pw_types.specs.TypedModules.{WellTyped, IsFunction as IsSourceFunction}
 use Rattle.pw_types.specs.Rooms.{start_room}
@@ -19,7 +19,6 @@ use Rattle.pw_webflow.specs.declared.web.WebFn.{WebFn}
 use Rattle.pw_webflow.specs.Direction.{directed}
 use Rattle.pw_flow.specs.FrameRooms.{flow_room}
 use Rattle.pw_lower.specs.Modules.{lowered, lowered_function, start_of, start_function}
-use Rattle.pw_lower.specs.Expressions as lower
 use Rattle.pw_alloc.specs.declared.located.Located.{Located}
 use Rattle.pw_cmean.specs.Worlds.{ProgramModule, full_name}
 use Rattle.pw_flowrun.specs.Programs as flows
@@ -130,14 +129,9 @@ start_in_module : (name : List ℕ) (m : ModuleValue) → Contains (start_of m.f
 unfolding lowered
 start_in_module name m c = Contains-append_right (map (lowered_function name m.records) m.functions) (start_of m.functions) start_function c
 
-one_name : (home : List ℕ) (s : Symbol) → lower.full_name home s ≡ full_name home s
-one_name home (External x) = refl
-one_name home (Internal x) = refl
-one_name home (Hidden k) = refl
-
 pub lowered_name : (name : List ℕ) (m : ModuleValue) (f : FunctionValue) → (lowered_function name m.records f).name ≡ full_name name f.name
 unfolding lowered_function
-lowered_name name m f = one_name name f.name
+lowered_name name m f = refl
 
 -- by the laws on the rooms of flow graphs, on places and on the map
 pub all_fit : ((home : List ℕ) (m : ModuleValue) (f : FunctionValue) → IsSourceFunction m f → partless f.body ≡ 0
