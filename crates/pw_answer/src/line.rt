@@ -157,15 +157,21 @@ fn push_limit(alloc: Global, text: &mut Vec<u8>, which: Which, count: u64) -> Re
     Ok(())
 }
 
+/// Puts behind a text what is not compiled.
+fn push_left_out(text: &mut Vec<u8>, feature: Feature) -> Result<(), AllocError>
+    ensures { OnOk result (text.new.items ≡ text.old.items ++ kind_text (CheckKind.Unsupported feature)) }
+{
+    text.extend_from_slice(b"Unsupported ")?;
+    text.extend_from_slice(feature_name(feature))?;
+    Ok(())
+}
+
 /// Puts behind a text what is wrong with its tree.
 fn push_kind(alloc: Global, text: &mut Vec<u8>, kind: CheckKind) -> Result<(), AllocError>
     ensures { OnOk result (text.new.items ≡ text.old.items ++ kind_text kind) }
 {
     match kind {
-        CheckKind::Unsupported(feature) => {
-            text.extend_from_slice(b"Unsupported ")?;
-            text.extend_from_slice(feature_name(feature))?;
-        }
+        CheckKind::Unsupported(feature) => push_left_out(text, feature)?,
         CheckKind::Limit(which, count) => push_limit(alloc, text, which, count)?,
         CheckKind::UnknownName => text.extend_from_slice(b"UnknownName")?,
         CheckKind::Redeclared => text.extend_from_slice(b"Redeclared")?,

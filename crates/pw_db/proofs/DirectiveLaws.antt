@@ -23,7 +23,7 @@ one_given fs is f g one two e =
     let names : List (List ℕ) = map (λ k. k.0) fs in
     ⊎_elim {C = f ≡ g}
     (λ there. one_of_two fs (rising_differ None fs is.functions) f g (has_by f fs (one.found (contains_by f.0 names there)))
-        (has_by g fs (two.found (contains_by g.0 names (subst (λ (n : List ℕ). Has n names) e there)))) e)
+    (has_by g fs (two.found (contains_by g.0 names (subst (λ (n : List ℕ). Has n names) e there)))) e)
     (λ lacks. both_same f g e (one.lacks (λ h. lacks (has_by f.0 names h)) ∙ sym (two.lacks (λ h. lacks (subst (λ (n : List ℕ). Has n names) (sym e) (has_by g.0 names h))))))
     (stands_or_not f.0 names)
 
@@ -38,6 +38,7 @@ one_list fs is (g ∷ gs) (h ∷ hs) one two e =
   where
     cons_first : (n m : List ℕ) (ns ms : List (List ℕ)) → n ∷ ns ≡ m ∷ ms → n ≡ m
     cons_first n m ns ms e = cc
+
     cons_rest : (n m : List ℕ) (ns ms : List (List ℕ)) → n ∷ ns ≡ m ∷ ms → ns ≡ ms
     cons_rest n m ns ms e = cc
 

@@ -22,6 +22,7 @@ some_within one h command e = subst_command one command h e
   where
     some_is : (a b : Command) → ◌≡◌ {A = Option Command} (Some a) (Some b) → a ≡ b
     some_is a b e = cc
+
     subst_command : (a b : Command) → IsWithin a → ◌≡◌ {A = Option Command} (Some a) (Some b) → IsWithin b
     subst_command a b h e = subst IsWithin (some_is a b e) h
 
