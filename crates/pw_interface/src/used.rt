@@ -3,13 +3,12 @@
 ghost use Rattle.std.specs.Prelude.{◌≡◌, ◌++◌, map, IfOk, OnOk};
 ghost use Rattle.std.specs.List.{flat_map};
 ghost use Rattle.pw_flow.specs.FlowGraph.{item_names, names_in_global};
-ghost use Rattle.pw_object.specs.Functions.{names_of_symbol};
 ghost use Rattle.pw_interface.specs.Interface.{names_of_fixes, used_names};
 
 use pw_files::used::add_names;
 use pw_flow::{FlowGlobal, Item};
 use pw_items::Items;
-use pw_object::{Fix, Object, ObjectFn, Symbol};
+use pw_object::{Object, ObjectFn, add_fixes};
 use pw_value::Name;
 use std::alloc::{AllocError, Global};
 
@@ -31,18 +30,6 @@ fn add_globals<'a>(used: &mut Vec<&'a Name>, globals: &'a [FlowGlobal]) -> Resul
 {
     for each in globals {
         add_items(used, each.items.as_slice())?;
-    }
-    Ok(())
-}
-
-/// Adds the names in relocations.
-fn add_fixes<'a>(used: &mut Vec<&'a Name>, fixes: &'a [Fix]) -> Result<(), AllocError>
-    ensures { OnOk result (map (λ name. name.now) used.new.items ≡ map (λ name. name.now) used.old.items ++ flat_map (λ x. names_of_symbol x.symbol) fixes.now) }
-{
-    for fix in fixes {
-        if let Symbol::Named(name) = &fix.symbol {
-            used.push(name)?;
-        }
     }
     Ok(())
 }

@@ -9,6 +9,7 @@ mod reading;
 pub mod writing;
 
 pub use functions::ObjectFn;
+pub use names::add_fixes;
 pub use object::{Object, VERSION};
 pub use pw_inst::{Fix, FixKind, Symbol};
 pub use reading::{KIND, read};

@@ -19,7 +19,7 @@ use pw_value::fields::FieldError;
 use std::alloc::{AllocError, Global};
 
 /// Adds the names of fixes.
-fn add_fixes<'a>(used: &mut Vec<&'a Name>, fixes: &'a [Fix]) -> Result<(), AllocError>
+pub fn add_fixes<'a>(used: &mut Vec<&'a Name>, fixes: &'a [Fix]) -> Result<(), AllocError>
     ensures { OnOk result (map (λ name. name.now) used.new.items ≡ map (λ name. name.now) used.old.items ++ flat_map (λ x. names_of_symbol x.symbol) fixes.now) }
 {
     for fix in fixes {

@@ -1,26 +1,26 @@
 //! Reading an object file.
 
-ghost use Rattle.std.specs.Prelude.{◌≡◌, ◌+◌, ◌<◌, ◌^◌, ℕ, List, length, Option, IfOk, IfErr, Ok};
+ghost use Rattle.std.specs.Prelude.{◌≡◌, ◌+◌, ◌<◌, ◌^◌, ℕ, length, Option, IfOk, IfErr, Ok};
 ghost use Rattle.std.specs.List.{flat_map};
 ghost use Rattle.pw_value.specs.Fields.{text, repeated};
 ghost use Rattle.pw_value.specs.FieldFaults.{Gives, GivesFile, Fails};
 ghost use Rattle.pw_value.specs.FieldFrame.{ended};
 ghost use Rattle.pw_files.specs.Rising.{counted_at};
-ghost use Rattle.pw_files.specs.Contents.{broken_at, contents_at, value_of};
+ghost use Rattle.pw_files.specs.Contents.{broken_at, value_of};
 ghost use Rattle.pw_object.specs.declared.object.Object.{Object as AnyObject};
-ghost use Rattle.pw_object.specs.Object.{object_version, IsObjectFile};
+ghost use Rattle.pw_object.specs.Object.{kind as kind_of_file, object_version, IsObjectFile};
 ghost use Rattle.pw_object.specs.Reading.{global_at, function_at, last_rules, fields_at, object_file_at};
 
 use crate::functions::{ObjectFn, read_function};
 use crate::names::{check_start_beside_main, used_names};
 use crate::object::{Object, VERSION};
+use pw_files::format::{Format, read_value};
 use pw_files::late::check_used;
 use pw_files::lists::{read_name_list, read_shaped_list};
 use pw_flow::FlowGlobal;
 use pw_flowfile::read_global_body;
 use pw_items::Items;
-use pw_value::fields::frame::{check_digest, open};
-use pw_value::fields::names::{read_name, read_names};
+use pw_value::fields::names::read_name;
 use pw_value::fields::{FieldError, read_text_in_place, read_u32};
 use pw_value::program_names::StartName;
 use pw_value::{FileError, Name, Shape};
@@ -187,37 +187,27 @@ fn read_fields<'a>(
     Ok((object, rest))
 }
 
-/// The table of names and the object.
-#[tactic(auto, unfolding(pw_files::specs::Contents::contents_at))]
-fn read_contents(alloc: Global, bytes: &[u8]) -> Result<((Vec<Name>, Object), &[u8]), FieldError>
-    ensures { Gives (λ x. (record { names = x.0.0.items; value = x.0.1 }, x.1.now)) result (contents_at fields_at last_rules bytes.now) }
-{
-    let (names, rest) = read_names(alloc, bytes)?;
-    let (object, rest) = read_fields(alloc, &names, rest)?;
-    Ok(((names, object), rest))
-}
+/// Object files, which are read as all files of the compiler are.
+struct ObjectFormat;
 
-/// The table of names and the object of a whole file.
-#[tactic(auto, unfolding(pw_value::specs::FieldFrame::file_at))]
-fn read_file(alloc: Global, bytes: &[u8]) -> Result<(Vec<Name>, Object), FileError>
-    ensures { GivesFile (λ x. record { names = x.0.items; value = x.1 }) result (object_file_at bytes.now) }
-{
-    let opened = open(KIND, VERSION, VERSION, bytes)?;
-    match read_contents(alloc, opened.payload) {
-        Err(e) => Err(e.at(opened.end)),
-        Ok((contents, _)) => {
-            check_digest(bytes, opened.end)?;
-            Ok(contents)
-        }
+impl Format for ObjectFormat {
+    type Value = Object;
+
+    const KIND: u32 = KIND;
+
+    ghost KIND = { kind_of_file };
+
+    ghost fields = { fields_at };
+
+    ghost late = { last_rules };
+
+    fn read_fields<'a>(
+        alloc: Global,
+        names: &[Name],
+        bytes: &'a [u8],
+    ) -> Result<(Object, &'a [u8]), FieldError> {
+        read_fields(alloc, names, bytes)
     }
-}
-
-/// The object of a whole file, without its table of names.
-fn read_alone(alloc: Global, bytes: &[u8]) -> Result<Object, FileError>
-    ensures { GivesFile (λ o. o) result (value_of (object_file_at bytes.now)) }
-{
-    let (_names, object) = read_file(alloc, bytes)?;
-    Ok(object)
 }
 
 /// The object that the bytes are the file of. A fault is the first field, in order, that is short or breaks
@@ -230,5 +220,5 @@ pub fn read(alloc: Global, bytes: &[u8]) -> Result<Object, FileError>
     // Which fault it is.
     ensures exact { GivesFile (λ o. o) result (value_of (object_file_at bytes.now)) }
 {
-    read_alone(alloc, bytes)
+    read_value::<ObjectFormat>(alloc, bytes)
 }

@@ -3,7 +3,7 @@ use Rattle.pw_object.proofs.ObjectLaws.{found_by, only_by}
 use Rattle.pw_object.proofs.reading.read.Goals as goal
 
 pub returns-clause-found : goal.returns-clause-found
-returns-clause-found c = found_by c.args.bytes.now c.read_alone.result (λ i. omega (arith, c.type_inv.bytes i)) c.read_alone.ensures
+returns-clause-found c = found_by c.args.bytes.now c.read_value.result (λ i. omega (arith, c.type_inv.bytes i)) c.read_value.ensures
 
 pub returns-clause-only : goal.returns-clause-only
-returns-clause-only c = only_by c.args.bytes.now c.read_alone.result c.read_alone.ensures
+returns-clause-only c = only_by c.args.bytes.now c.read_value.result c.read_value.ensures
