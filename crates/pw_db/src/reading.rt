@@ -1,6 +1,6 @@
 //! Reading a database.
 
-ghost use Rattle.std.specs.Prelude.{◌≡◌, ◌≢◌, ◌==◌, ◌++◌, ◌&&◌, ◌+◌, ◌<◌, ◌^◌, not, nat_lt, nat_le, ℕ, List, length, map, option_map, IfOk, IfErr, Ok};
+ghost use Rattle.std.specs.Prelude.{◌≡◌, ◌≢◌, ◌==◌, ◌++◌, ◌&&◌, ◌+◌, ◌<◌, ◌^◌, not, nat_lt, ℕ, List, length, map, option_map, IfOk, IfErr, Ok};
 ghost use Rattle.std.specs.List.{list_all, flat_map};
 ghost use Rattle.std.specs.Str.{bytes_eq};
 ghost use Rattle.pw_value.specs.Fields.{text, items_at};
@@ -11,19 +11,19 @@ ghost use Rattle.pw_files.specs.Kinds.{scalar_code};
 ghost use Rattle.pw_value.specs.ProgramNames.{same_truth};
 ghost use Rattle.pw_files.specs.Contents.{broken_at, value_of};
 ghost use Rattle.pw_db.specs.declared.database.Directives.{Directives as AnyDirectives};
-ghost use Rattle.pw_db.specs.Database.{IsDatabaseFile, IsPayload, webs_of, names_of};
+ghost use Rattle.pw_db.specs.Database.{IsDatabaseFile, IsPayload, kind as kind_of_file, webs_of, names_of};
 ghost use Rattle.pw_db.specs.Reading.{fits_first, number_at, global_at, kind_at, register_at, writes_at, role_at, web_at, webs_at, no_free_at, function_at, next_function, nothing_before, functions_at, unused_rule, fields_at, payload_at, database_file_at};
 ghost use Rattle.pw_db.specs.Seen.{known_web};
 
 use crate::database::{Database, Directives, Role, Web};
 use crate::names::{refs_of, used_names};
 use crate::seen::{Known, Seen};
+use pw_files::format::{Format, read_contents, read_value};
 use pw_files::kinds::{code_of, read_scalar};
 use pw_files::late::check_used;
 use pw_files::lists::read_name_above;
 use pw_items::Items;
-use pw_value::fields::frame::{check_digest, open};
-use pw_value::fields::names::{read_name, read_names};
+use pw_value::fields::names::read_name;
 use pw_value::fields::{FieldError, read_choice, read_flag, read_u8, read_u32};
 use pw_value::program_names::StartName;
 use pw_value::{FileError, Kind, Name};
@@ -357,42 +357,34 @@ fn read_fields<'a>(
     Ok((functions, rest))
 }
 
-/// The table of names and the functions.
-#[tactic(auto, unfolding(pw_files::specs::Contents::contents_at))]
-fn read_contents(
-    alloc: Global,
-    bytes: &[u8],
-) -> Result<((Vec<Name>, Items<(Name, Directives)>), &[u8]), FieldError>
-    ensures { Gives (λ x. (record { names = x.0.0.items; value = x.0.1 }, x.1.now)) result (payload_at bytes.now) }
-{
-    let (names, rest) = read_names(alloc, bytes)?;
-    let (functions, rest) = read_fields(alloc, &names, rest)?;
-    Ok(((names, functions), rest))
-}
+/// Database files, which are read as all files of the compiler are.
+struct DatabaseFormat;
 
-/// The table of names and the functions of a whole file.
-#[tactic(auto, unfolding(pw_value::specs::FieldFrame::file_at))]
-fn read_file(
-    alloc: Global,
-    bytes: &[u8],
-) -> Result<(Vec<Name>, Items<(Name, Directives)>), FileError>
-    ensures { GivesFile (λ x. record { names = x.0.items; value = x.1 }) result (database_file_at bytes.now) }
-{
-    let opened = open(KIND, 1, 1, bytes)?;
-    match read_contents(alloc, opened.payload) {
-        Err(e) => Err(e.at(opened.end)),
-        Ok((contents, _)) => {
-            check_digest(bytes, opened.end)?;
-            Ok(contents)
-        }
+impl Format for DatabaseFormat {
+    type Value = Items<(Name, Directives)>;
+
+    const KIND: u32 = KIND;
+
+    ghost KIND = { kind_of_file };
+
+    ghost fields = { fields_at };
+
+    ghost late = { unused_rule };
+
+    fn read_fields<'a>(
+        alloc: Global,
+        names: &[Name],
+        bytes: &'a [u8],
+    ) -> Result<(Items<(Name, Directives)>, &'a [u8]), FieldError> {
+        read_fields(alloc, names, bytes)
     }
 }
 
-/// The database of a whole file, without its table of names.
+/// The database of a whole file.
 fn read_alone(alloc: Global, bytes: &[u8]) -> Result<Database, FileError>
     ensures { GivesFile (λ db. db.functions) result (value_of (database_file_at bytes.now)) }
 {
-    let (_names, functions) = read_file(alloc, bytes)?;
+    let functions = read_value::<DatabaseFormat>(alloc, bytes)?;
     Ok(Database { functions })
 }
 
@@ -413,7 +405,7 @@ pub fn read(alloc: Global, bytes: &[u8]) -> Result<Database, FileError>
 fn read_payload_alone(alloc: Global, bytes: &[u8]) -> Result<Items<(Name, Directives)>, FileError>
     ensures { GivesFile (λ fs. fs) result (value_of (placed (length bytes.now) (payload_at bytes.now))) }
 {
-    match read_contents(alloc, bytes) {
+    match read_contents::<DatabaseFormat>(alloc, bytes) {
         Err(e) => Err(e.at(bytes.len())),
         Ok(((_names, functions), _)) => Ok(functions),
     }
