@@ -1,16 +1,9 @@
 -- What is found of a member.
-use Rattle.std.proofs.Common.{◌≡◌, ℕ, Bool, not, Option, None, Result, Ok, Err, List, [], ◌∷◌, ◌++◌, refl, ap, sym, ◌∙◌}
-use Rattle.pw_types.specs.TypeTrees.{MemberValue, QType}
-use Rattle.pw_walk.specs.Calls.{Obeys}
+use Rattle.std.proofs.Common.{◌≡◌, Bool, not, Option, None, [], ◌∷◌, ap, sym, ◌∙◌}
 use Rattle.pw_walk.specs.Causes.{Cause, Point, fault_of}
-use Rattle.pw_walk.specs.Walks.{asks, bind, meets, pure, ◌>>=◌, ◌>>◌}
 use Rattle.pw_walk.specs.declared.fault.CheckFault.{CheckFault}
-use Rattle.pw_finding.specs.Found.{found, found_behind, lesser_found, told, with_cause}
-use Rattle.pw_finding.proofs.FindingLaws.{found_after, point_ok, point_err}
-use Rattle.pw_rules.specs.Limits.{Spot}
-use Rattle.pw_rules.specs.States.{Rule, State, records_in}
-use Rattle.pw_members.specs.Parts.{member_point}
-use Rattle.pw_members.proofs.RuleLaws.{made_ok}
+use Rattle.pw_finding.specs.Found.{found, found_behind, lesser_found, with_cause}
+use Rattle.pw_finding.proofs.FindingLaws.{found_after}
 
 -- two constraints by what their tests say
 pub two_needed : (n o p : Option CheckFault) (a b x y : Bool) (f g : CheckFault) → n ≡ None → o ≡ with_cause n (not a) f → p ≡ with_cause o (not b) g

@@ -1,4 +1,4 @@
-use Rattle.std.proofs.Common.{◌≡◌, Err, refl, ap, sym, subst, ◌∙◌, rules}
+use Rattle.std.proofs.Common.{Err, ap, sym, subst, ◌∙◌}
 use Rattle.pw_types.specs.Measures.{Defines, Refuses}
 use Rattle.pw_types.specs.Records.{Follows, defined}
 use Rattle.pw_types.specs.TypeTrees.{Record}

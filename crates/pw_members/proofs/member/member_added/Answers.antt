@@ -1,7 +1,5 @@
-use Rattle.std.proofs.Common.{ℕ, [], ◌∷◌, ◌++◌, sym, refl, rules}
+use Rattle.std.proofs.Common.{[], ◌∷◌, ◌++◌, sym, refl, rules}
 use Rattle.pw_types.specs.Views.{view_qtype}
-use Rattle.pw_types.specs.TypeTrees.{MemberValue, QType}
-use Rattle.pw_checking.specs.StateViews.{view_state}
 use Rattle.pw_walk.specs.Walks.{Done, bind}
 use Rattle.pw_walk.proofs.CallLaws.{step_ok, step_err}
 use Rattle.pw_members.specs.Views.{view_member_list}

@@ -1,4 +1,4 @@
-use Rattle.std.proofs.Common.{◌≡◌, ap, ◌∙◌}
+use Rattle.std.proofs.Common.{ap, ◌∙◌}
 use Rattle.pw_types.specs.Views.{view_qtype}
 use Rattle.pw_checking.specs.PhraseViews.{view_spot}
 use Rattle.pw_checking.specs.StateViews.{view_state}

@@ -5,7 +5,7 @@ use Rattle.pw_checking.specs.StateViews.{view_state}
 use Rattle.pw_walk.specs.Calls.{Obeys}
 use Rattle.pw_walk.proofs.CallLaws.{step_ok, step_err}
 use Rattle.pw_rules.specs.Derivations.{built, spot_of}
-use Rattle.pw_rules.specs.Leaves.{member_rule, name_text}
+use Rattle.pw_rules.specs.Leaves.{member_rule}
 use Rattle.pw_members.specs.Parts.{member_behind}
 use Rattle.pw_members.specs.Views.{view_member_list}
 use Rattle.pw_members.proofs.member.member_rule.Goals as goal
