@@ -157,12 +157,12 @@ fn push_limit(alloc: Global, text: &mut Vec<u8>, which: Which, count: u64) -> Re
     Ok(())
 }
 
-/// Puts behind a text what is not compiled.
-fn push_left_out(text: &mut Vec<u8>, feature: Feature) -> Result<(), AllocError>
-    ensures { OnOk result (text.new.items ≡ text.old.items ++ kind_text (CheckKind.Unsupported feature)) }
+/// Puts two pieces behind a text.
+fn push_both(text: &mut Vec<u8>, first: &[u8], second: &[u8]) -> Result<(), AllocError>
+    ensures { OnOk result (text.new.items ≡ text.old.items ++ first.now ++ second.now) }
 {
-    text.extend_from_slice(b"Unsupported ")?;
-    text.extend_from_slice(feature_name(feature))?;
+    text.extend_from_slice(first)?;
+    text.extend_from_slice(second)?;
     Ok(())
 }
 
@@ -171,7 +171,7 @@ fn push_kind(alloc: Global, text: &mut Vec<u8>, kind: CheckKind) -> Result<(), A
     ensures { OnOk result (text.new.items ≡ text.old.items ++ kind_text kind) }
 {
     match kind {
-        CheckKind::Unsupported(feature) => push_left_out(text, feature)?,
+        CheckKind::Unsupported(feature) => push_both(text, b"Unsupported ", feature_name(feature))?,
         CheckKind::Limit(which, count) => push_limit(alloc, text, which, count)?,
         CheckKind::UnknownName => text.extend_from_slice(b"UnknownName")?,
         CheckKind::Redeclared => text.extend_from_slice(b"Redeclared")?,
