@@ -166,12 +166,19 @@ fn push_both(text: &mut Vec<u8>, first: &[u8], second: &[u8]) -> Result<(), Allo
     Ok(())
 }
 
+/// Puts behind a text what is not compiled.
+fn push_left_out(text: &mut Vec<u8>, feature: Feature) -> Result<(), AllocError>
+    ensures { OnOk result (text.new.items ≡ text.old.items ++ kind_text (CheckKind.Unsupported feature)) }
+{
+    push_both(text, b"Unsupported ", feature_name(feature))
+}
+
 /// Puts behind a text what is wrong with its tree.
 fn push_kind(alloc: Global, text: &mut Vec<u8>, kind: CheckKind) -> Result<(), AllocError>
     ensures { OnOk result (text.new.items ≡ text.old.items ++ kind_text kind) }
 {
     match kind {
-        CheckKind::Unsupported(feature) => push_both(text, b"Unsupported ", feature_name(feature))?,
+        CheckKind::Unsupported(feature) => push_left_out(text, feature)?,
         CheckKind::Limit(which, count) => push_limit(alloc, text, which, count)?,
         CheckKind::UnknownName => text.extend_from_slice(b"UnknownName")?,
         CheckKind::Redeclared => text.extend_from_slice(b"Redeclared")?,
