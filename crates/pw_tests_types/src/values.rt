@@ -17,20 +17,21 @@ use std::test::Fail;
 /// How many bytes a name has, and whether there is such a name.
 const NAMES: [(usize, bool); 5] = [(0, false), (1, true), (2, true), (400, true), (401, false)];
 
+/// How many bytes the name of so many bytes has, or nothing where it is refused for its length.
+fn length_of_name(alloc: Global, count: usize) -> Option<usize> {
+    let bytes = [b'x'; 401];
+    match Name::new(alloc, &bytes[..count.min(401)]) {
+        Ok(name) => Some(name.as_bytes().len()),
+        Err(NameError::Length) => None,
+        Err(_) => Some(usize::MAX),
+    }
+}
+
 #[test]
 fn names(rt: HostRuntime) {
-    let bytes = [b'x'; 401];
     for (count, lawful) in NAMES {
-        let found = match Name::new(rt.alloc(), &bytes[..count]) {
-            Ok(name) => Ok(name.as_bytes().len()),
-            Err(fault) => Err(fault),
-        };
-        let wanted = if lawful {
-            Ok(count)
-        } else {
-            Err(NameError::Length)
-        };
-        assert_eq!(rt; found, wanted, "{count}");
+        let wanted = if lawful { Some(count) } else { None };
+        assert!(rt; length_of_name(rt.alloc(), count) == wanted, "{count}");
     }
 }
 
@@ -45,18 +46,15 @@ fn is_before(alloc: Global, less: &str, greater: &str) -> Result<bool, NameError
 }
 
 #[test]
-fn order_of_names(rt: HostRuntime) {
+fn order_of_names(rt: HostRuntime) -> Result<(), Fail> {
     for (less, greater) in ORDER {
-        assert_eq!(rt;
-            is_before(rt.alloc(), less, greater),
-            Ok(true),
-            "{less} {greater}"
-        );
+        assert!(rt; is_before(rt.alloc(), less, greater)?, "{less}");
     }
+    Ok(())
 }
 
 /// Two shapes, and whether they agree.
-const SHAPES: [(&str, &str, bool); 13] = [
+static SHAPES: [(&str, &str, bool); 13] = [
     ("i", "i", true),
     ("i", "j", false),
     ("[]i", "[3]i", true),
@@ -72,22 +70,19 @@ const SHAPES: [(&str, &str, bool); 13] = [
     ("!i", "i", false),
 ];
 
-/// Whether two shapes agree, and whether they do the other way round.
-fn agrees(alloc: Global, one: &str, other: &str) -> Result<(bool, bool), AllocError> {
+/// Whether the answer to whether two shapes agree is this one, also the other way round.
+fn answers(alloc: Global, one: &str, other: &str, wanted: bool) -> Result<bool, AllocError> {
     let a = Shape::new(Vec::from_slice(alloc, one.as_bytes())?);
     let b = Shape::new(Vec::from_slice(alloc, other.as_bytes())?);
-    Ok((agree(&a, &b), agree(&b, &a.copy(alloc)?)))
+    Ok(agree(&a, &b) == wanted && agree(&b, &a.copy(alloc)?) == wanted)
 }
 
 #[test]
-fn shapes(rt: HostRuntime) {
-    for (one, other, wanted) in SHAPES {
-        assert_eq!(rt;
-            agrees(rt.alloc(), one, other),
-            Ok((wanted, wanted)),
-            "{one} {other}"
-        );
+fn shapes(rt: HostRuntime) -> Result<(), Fail> {
+    for (one, other, wanted) in SHAPES.iter() {
+        assert!(rt; answers(rt.alloc(), one, other, *wanted)?, "{one}");
     }
+    Ok(())
 }
 
 const P: Pointer = Pointer::Object(7, 12);
@@ -132,7 +127,7 @@ const ENCODINGS: [(Value, u8, [Byte; 4]); 7] = [
 #[test]
 fn values_to_bytes(rt: HostRuntime) {
     for (value, width, wanted) in ENCODINGS {
-        assert_eq!(rt; encode(value, width), wanted, "{value:?}");
+        assert!(rt; encode(value, width) == wanted);
     }
 }
 
@@ -176,7 +171,7 @@ const SCALARS: [([Byte; 4], u8, bool, Value); 9] = [
 #[test]
 fn scalars_in_bytes(rt: HostRuntime) {
     for (bytes, width, signed, wanted) in SCALARS {
-        assert_eq!(rt; decode(bytes, width, signed), wanted, "{bytes:?}");
+        assert!(rt; decode(bytes, width, signed) == wanted);
     }
 }
 
@@ -201,7 +196,7 @@ const POINTERS: [([Byte; 4], Value); 5] = [
 #[test]
 fn pointers_in_bytes(rt: HostRuntime) {
     for (bytes, wanted) in POINTERS {
-        assert_eq!(rt; decode_pointer(bytes), wanted, "{bytes:?}");
+        assert!(rt; decode_pointer(bytes) == wanted);
     }
 }
 
@@ -247,7 +242,7 @@ const M3: u32 = 0xffff_fffd;
 const M7: u32 = 0xffff_fff9;
 
 /// An operation, two words, and what it answers.
-const OPERATIONS: [(Operation, u32, u32, Result<u32, WordFault>); 33] = [
+static OPERATIONS: [(Operation, u32, u32, Result<u32, WordFault>); 33] = [
     (Operation::Sum, GREATEST, 1, Err(Overflow)),
     (Operation::Sum, LEAST, M1, Err(Overflow)),
     (Operation::Sum, GREATEST, LEAST, Ok(M1)),
@@ -285,8 +280,8 @@ const OPERATIONS: [(Operation, u32, u32, Result<u32, WordFault>); 33] = [
 
 #[test]
 fn operations_on_words(rt: HostRuntime) {
-    for (operation, a, b, wanted) in OPERATIONS {
-        assert_eq!(rt; operate(operation, a, b), wanted, "{a} {b}");
+    for (operation, a, b, wanted) in OPERATIONS.iter() {
+        assert!(rt; operate(*operation, *a, *b) == *wanted, "{a} {b}");
     }
 }
 
@@ -302,9 +297,11 @@ const ORDERS: [(u32, u32, (bool, bool), (bool, bool)); 5] = [
 #[test]
 fn order_of_words(rt: HostRuntime) {
     for (a, b, signed, unsigned) in ORDERS {
-        let found = (words::signed_less(a, b), words::signed_at_most(a, b));
-        let other = (words::unsigned_less(a, b), words::unsigned_at_most(a, b));
-        assert_eq!(rt; (found, other), (signed, unsigned), "{a} {b}");
+        let holds = words::signed_less(a, b) == signed.0
+            && words::signed_at_most(a, b) == signed.1
+            && words::unsigned_less(a, b) == unsigned.0
+            && words::unsigned_at_most(a, b) == unsigned.1;
+        assert!(rt; holds, "{a} {b}");
     }
 }
 
@@ -319,8 +316,8 @@ const NEGATIONS: [(u32, Result<u32, WordFault>, u32); 4] = [
 #[test]
 fn negations(rt: HostRuntime) {
     for (a, signed, unsigned) in NEGATIONS {
-        let found = (words::signed_negation(a), words::unsigned_negation(a));
-        assert_eq!(rt; found, (signed, unsigned), "{a}");
+        let holds = words::signed_negation(a) == signed && words::unsigned_negation(a) == unsigned;
+        assert!(rt; holds, "{a}");
     }
 }
 
@@ -334,17 +331,17 @@ const REDUCED: [(u32, u32, u32, u32, u32); 3] = [
 #[test]
 fn unsigned_results(rt: HostRuntime) {
     for (a, b, sum, difference, product) in REDUCED {
-        let one = words::unsigned_sum(a, b);
-        let two = words::unsigned_difference(a, b);
-        let three = words::unsigned_product(a, b);
-        assert_eq!(rt; (one, two, three), (sum, difference, product), "{a} {b}");
+        let holds = words::unsigned_sum(a, b) == sum
+            && words::unsigned_difference(a, b) == difference
+            && words::unsigned_product(a, b) == product;
+        assert!(rt; holds, "{a} {b}");
     }
 }
 
 #[test]
 fn fields_written(rt: HostRuntime) -> Result<(), Fail> {
     let out = fields(rt.alloc())?;
-    assert_eq!(rt; out.as_slice(), FIELDS.as_slice());
+    assert!(rt; out.as_slice() == FIELDS.as_slice());
     Ok(())
 }
 
@@ -363,37 +360,20 @@ fn fields(alloc: Global) -> Result<Vec<u8>, AllocError> {
     Ok(out)
 }
 
-/// What stands in FIELDS, and what is left behind it.
-type Fields<'a> = (u8, u32, u64, bool, Vec<u8>, &'a [u8]);
-
-fn read_fields(alloc: Global, bytes: &[u8]) -> Result<Fields<'_>, FieldError> {
+/// Whether the fields are read from the bytes, with nothing behind them.
+fn are_fields(alloc: Global, bytes: &[u8]) -> Result<bool, FieldError> {
     let (byte, rest) = read_u8(bytes)?;
     let (four, rest) = read_u32(rest)?;
     let (eight, rest) = read_u64(rest)?;
     let (truth, rest) = read_flag(rest)?;
     let (text, rest) = read_text(alloc, rest)?;
-    Ok((byte, four, eight, truth, text, rest))
+    let numbers = byte == 171 && four == 0x0102_0304 && eight == 0x0506_0708_090a_0b0c && truth;
+    Ok(numbers && text.as_slice() == b"hi".as_slice() && rest.is_empty())
 }
 
 #[test]
 fn fields_read(rt: HostRuntime) {
-    let found = match read_fields(rt.alloc(), &FIELDS) {
-        Ok((byte, four, eight, truth, text, rest)) => {
-            (
-                byte,
-                four,
-                eight,
-                truth,
-                text.as_slice() == b"hi".as_slice(),
-                rest.len(),
-            )
-        }
-        Err(_) => (0, 0, 0, false, false, 0),
-    };
-    assert_eq!(rt;
-        found,
-        (171, 0x0102_0304, 0x0506_0708_090a_0b0c, true, true, 0)
-    );
+    assert!(rt; matches!(are_fields(rt.alloc(), &FIELDS), Ok(true)));
 }
 
 /// How many bytes are left where a fault is.
@@ -409,7 +389,7 @@ fn short_fields(rt: HostRuntime) {
     let flag = left_of(read_flag(&[2, 1]).err());
     let number = left_of(read_u32(&[2, 1]).err());
     let text = left_of(read_text(rt.alloc(), &[0, 0, 0, 3, 1, 2]).err());
-    assert_eq!(rt; (flag, number, text), (Some(2), Some(2), Some(6)));
+    assert!(rt; flag == Some(2) && number == Some(2) && text == Some(6));
 }
 
 /// The table of the names `a` and `b`.
@@ -452,11 +432,7 @@ const TABLES: [([u8; 14], usize); 4] = [
 #[test]
 fn tables_refused(rt: HostRuntime) {
     for (bytes, left) in TABLES {
-        assert_eq!(rt;
-            left_of(read_names(rt.alloc(), &bytes).err()),
-            Some(left),
-            "{bytes:?}"
-        );
+        assert!(rt; left_of(read_names(rt.alloc(), &bytes).err()) == Some(left));
     }
 }
 
@@ -482,7 +458,7 @@ fn initial_at(alloc: Global, bytes: &[u8]) -> Result<u8, usize> {
 #[test]
 fn names_by_index(rt: HostRuntime) {
     for (bytes, wanted) in INDICES {
-        assert_eq!(rt; initial_at(rt.alloc(), &bytes), wanted, "{bytes:?}");
+        assert!(rt; initial_at(rt.alloc(), &bytes) == wanted);
     }
 }
 
@@ -498,7 +474,7 @@ const FILE: [u8; 47] = [
 #[test]
 fn files_sealed(rt: HostRuntime) -> Result<(), Fail> {
     let made = seal(rt.alloc(), TEST, 1, b"abc")?;
-    assert_eq!(rt; made.as_slice(), FILE.as_slice());
+    assert!(rt; made.as_slice() == FILE.as_slice());
     Ok(())
 }
 
@@ -509,6 +485,14 @@ fn files_opened(rt: HostRuntime) {
         Err(_) => false,
     };
     assert!(rt; found && check_digest(&FILE, 15).is_ok());
+}
+
+/// Whether a fault is that of the field at this offset.
+fn is_fault_at(fault: Option<FileError>, offset: usize) -> bool {
+    match fault {
+        Some(FileError::FileFault { at }) => at == offset,
+        _ => false,
+    }
 }
 
 /// How many bytes of FILE there are, a place and what is turned there, and the offset of the fault in the
@@ -531,7 +515,7 @@ fn headers_refused(rt: HostRuntime) {
         let mut damaged = FILE;
         damaged[place] ^= turned;
         let found = open(TEST, 1, 1, &damaged[..len]).err();
-        assert_eq!(rt; found, Some(FileError::FileFault { at }), "{len} {place}");
+        assert!(rt; is_fault_at(found, at), "{len} {place}");
     }
 }
 
@@ -540,7 +524,9 @@ fn digests_refused(rt: HostRuntime) {
     for place in [12usize, 15, 46] {
         let mut damaged = FILE;
         damaged[place] ^= 1;
-        let found = check_digest(&damaged, 15).err();
-        assert_eq!(rt; found, Some(FileError::FileFault { at: 15 }), "{place}");
+        assert!(rt;
+            is_fault_at(check_digest(&damaged, 15).err(), 15),
+            "{place}"
+        );
     }
 }
