@@ -4,7 +4,6 @@
 mod chains;
 mod expr;
 mod names;
-mod primary;
 mod unary;
 
 pub use expr::expr_of;
