@@ -1,0 +1,57 @@
+-- Code that tests the constraints of one point, behind which nothing is made.
+use Rattle.std.proofs.Common.{◌≡◌, nat_lt, ℕ, Option, None, Some, Result, Ok, [], ◌∷◌, ◌++◌, ap, sym, subst, ◌∙◌}
+use mathlib.Core.Logic.{inr}
+use Rattle.pw_walk.specs.declared.fault.CheckFault.{CheckFault}
+use Rattle.pw_walk.specs.Calls.{Obeys}
+use Rattle.pw_value.specs.Limits.{node_limit, room_limit}
+use Rattle.pw_walk.specs.declared.fault.CheckKind.TheVariants.{Limit}
+use Rattle.pw_walk.specs.declared.fault.Which.TheVariants.{Nodes, Room}
+use Rattle.pw_walk.specs.Causes.{Cause, Point, keeps}
+use Rattle.pw_walk.specs.Walks.{Walk, Done, Passing, outcome}
+use Rattle.pw_finding.specs.Found.{found, found_behind, lesser_found, told, with_cause}
+use Rattle.pw_finding.proofs.FindingLaws.{found_after, found_append, stopped_by_found}
+
+ended : {S : Type 0} (p : Point) (s : S) (o : Option CheckFault) → o ≡ found p → outcome {A = Unit {0} × S} (Passing p (Done (tt, s))) ≡ told o (Ok (tt, s))
+unfolding outcome
+ended p s o e = stopped_by_found p (Ok (tt, s)) ∙ ap (λ x. told x (Ok (tt, s))) (sym e)
+
+obeyed : {S : Type 0} (w : Walk (Unit {0} × S)) (s : S) (o : Option CheckFault) → outcome w ≡ told o (Ok (tt, s))
+    → Obeys (λ (u : Unit {0}). u) w (told o (Ok tt)) s
+obeyed w s None e = record { made = e; told = tt }
+obeyed w s (Some fault) e = record { made = tt; told = inr e }
+
+pub point_end : {S : Type 0} (p : Point) (s : S) (o : Option CheckFault) (r : Result (Unit {0}) CheckFault)
+    → o ≡ found p → r ≡ told o (Ok tt) → Obeys (λ (u : Unit {0}). u) (Passing p (Done (tt, s))) r s
+point_end p s o r e is =
+    subst (λ x. Obeys (λ (u : Unit {0}). u) (Passing p (Done (tt, s))) x s) (sym is)
+    (obeyed (Passing p (Done (tt, s))) s o (ended p s o e))
+
+-- ---- constraints found one behind the other
+
+append_behind : (best : Option CheckFault) (p q : Point) → found_behind best (p ++ q) ≡ found_behind (found_behind best p) q
+append_behind best p q = found_append best p q ∙ sym (found_after (found_behind best p) q)
+
+pub found_chain : (p : Point) (u : Cause) (a : Point) (n : Cause) (t : Point) (one two three four limits all : Option CheckFault)
+    → one ≡ found p → two ≡ found_behind one (u ∷ []) → three ≡ found_behind two a → four ≡ found_behind three (n ∷ []) → limits ≡ found t
+    → all ≡ lesser_found four limits → all ≡ found (p ++ (u ∷ (a ++ (n ∷ t))))
+found_chain p u a n t one two three four limits all e f g h i j =
+    j ∙ ap (lesser_found four) i
+    ∙ ap (λ x. lesser_found x (found t))
+    (h ∙ ap (λ x. found_behind x (n ∷ [])) (g ∙ ap (λ x. found_behind x a) (f ∙ ap (λ x. found_behind x (u ∷ [])) e)))
+    ∙ sym
+    (append_behind None p (u ∷ (a ++ (n ∷ t)))
+    ∙ append_behind (found_behind (found p) (u ∷ [])) a (n ∷ t)
+    ∙ found_after (found_behind (found_behind (found_behind (found p) (u ∷ [])) a) (n ∷ [])) t)
+
+-- two limits that are kept or not
+pub measured : (t n m most nodes bytes : ℕ) (begun one two : Option CheckFault) → begun ≡ None
+    → one ≡ with_cause begun (nat_lt node_limit n) (record { kind = Limit Nodes n; token = t })
+    → two ≡ with_cause one (nat_lt most m) (record { kind = Limit Room m; token = t })
+    → n ≡ nodes → m ≡ bytes → most ≡ room_limit
+    → two ≡ found (keeps Nodes node_limit t nodes ∷ keeps Room room_limit t bytes ∷ [])
+measured t n m most nodes bytes begun one two e f g h i k =
+    g ∙ ap (λ x. with_cause one (nat_lt x m) (record { kind = Limit Room m; token = t })) k
+    ∙ ap (λ o. with_cause o (nat_lt room_limit m) (record { kind = Limit Room m; token = t }))
+    (f ∙ ap (λ o. with_cause o (nat_lt node_limit n) (record { kind = Limit Nodes n; token = t })) e)
+    ∙ ap (λ x. found (keeps Nodes node_limit t x ∷ keeps Room room_limit t m ∷ [])) h
+    ∙ ap (λ x. found (keeps Nodes node_limit t nodes ∷ keeps Room room_limit t x ∷ [])) i

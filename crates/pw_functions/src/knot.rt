@@ -1,0 +1,103 @@
+//! The knot of statements, which hold one another: each is checked with the rules of the smaller ones, to a depth. A
+//! tree of greater depth is want of memory: the stack is memory.
+
+ghost use Rattle.pw_functions.specs.Nests.{Nests};
+ghost use Rattle.pw_checking.specs.Follows.{Leads};
+ghost use Rattle.pw_checking.specs.StateViews.{view_state};
+ghost use Rattle.pw_rules.specs.Statements as spec;
+ghost use Rattle.pw_tree.specs.Views.{view_block, view_stmt};
+ghost use Rattle.pw_typed.specs.Views as typed;
+
+use pw_body::{block_rule, stmt_of};
+use pw_checking::{State, fault, whole_rule};
+use pw_declared::decls_rule;
+use pw_labels::BodyParts;
+use pw_token::MAX_NEST;
+use pw_tree::{Block, Decl, Expr, Stmt};
+use pw_typed::{Initialiser, TExpr, TStmt};
+use pw_typing::Knot;
+use pw_walk::{CheckFault, CheckKind};
+use std::alloc::Global;
+
+/// How deep the phrases and statements of a module may hold one another: within a token of nesting an expression has one
+/// level for each of the levels of operators.
+pub(crate) const DEPTH: usize = 20 * MAX_NEST;
+
+/// The rules of phrases, to the depth.
+pub fn phrases() -> Knot {
+    Knot { depth: DEPTH }
+}
+
+/// A function that checks statements to a depth.
+#[derive(Clone, Copy)]
+struct Smaller<F> {
+    /// How deep the statements may still hold one another.
+    depth: usize,
+    stmt: F,
+}
+
+impl<'a, F: Fn(Global, &mut State<'a>, usize, &'a Stmt) -> Result<TStmt, CheckFault>> BodyParts<'a>
+    for Smaller<F> {
+    ghost can_check = { λ k. Nests k.depth (F.pre k.stmt) (F.post k.stmt) };
+
+    fn whole(
+        &self,
+        alloc: Global,
+        state: &mut State<'a>,
+        expr: &'a Expr,
+    ) -> Result<Box<TExpr>, CheckFault> {
+        whole_rule(alloc, &phrases(), state, expr)
+    }
+
+    fn decls(
+        &self,
+        alloc: Global,
+        state: &mut State<'a>,
+        decls: &'a [Decl],
+    ) -> Result<Vec<Initialiser>, CheckFault> {
+        decls_rule(alloc, &phrases(), state, decls)
+    }
+
+    fn stmt(
+        &self,
+        alloc: Global,
+        state: &mut State<'a>,
+        stmt: &'a Stmt,
+    ) -> Result<TStmt, CheckFault> {
+        (self.stmt)(alloc, state, self.depth, stmt)
+    }
+}
+
+/// A statement (C90 6.6).
+fn check_stmt<'a>(
+    alloc: Global,
+    state: &mut State<'a>,
+    depth: usize,
+    stmt: &'a Stmt,
+) -> Result<TStmt, CheckFault>
+    ensures { Leads typed.view_stmt (spec.stmt_rule (view_stmt stmt.now)) (view_state state.old) result (view_state state.new) }
+{
+    if depth == 0 {
+        return Err(fault(CheckKind::NoMemory, 0));
+    }
+    let smaller = Smaller {
+        depth: depth - 1,
+        stmt: check_stmt,
+    };
+    stmt_of(alloc, &smaller, state, stmt)
+}
+
+/// The block of a function, in the scope of its parameters.
+pub(crate) fn check_body<'a>(
+    alloc: Global,
+    state: &mut State<'a>,
+    block: &'a Block,
+) -> Result<TStmt, CheckFault>
+    ensures { Leads typed.view_stmt (spec.block_rule (view_block block.now)) (view_state state.old) result (view_state state.new) }
+{
+    let smaller = Smaller {
+        depth: DEPTH,
+        stmt: check_stmt,
+    };
+    block_rule(alloc, &smaller, state, block)
+}

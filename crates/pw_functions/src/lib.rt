@@ -1,0 +1,10 @@
+//! Function definitions (C90 6.7.1), and the knot of the statements within them.
+#![tactic(auto)]
+
+mod functions;
+mod heads;
+mod knot;
+mod locals;
+
+pub use functions::function_rule;
+pub use knot::phrases;
