@@ -1,0 +1,27 @@
+use Rattle.std.proofs.Common.{[], ◌∷◌, refl, ap, sym, ◌∙◌}
+use Rattle.pw_checking.specs.EntityViews.{view_linked}
+use Rattle.pw_checking.specs.StateViews.{view_state}
+use Rattle.pw_finding.specs.Found.{found}
+use Rattle.pw_rules.specs.Limits.{completed}
+use Rattle.pw_rules.specs.Modules.{end_spot}
+use Rattle.pw_rules.specs.States.{records_in}
+use Rattle.pw_types.specs.TypeTrees.{type_of}
+use Rattle.pw_types.specs.Views.{view_type}
+use Rattle.pw_walk.specs.Causes.{CompleteAtEnd}
+use Rattle.pw_check.proofs.ModuleLaws.{no_cause, some_cause}
+use Rattle.pw_check.proofs.modules.end_cause.Goals as goal
+
+pub returns-then-not-is_tentative_alone : goal.returns-then-not-is_tentative_alone
+returns-then-not-is_tentative_alone c =
+    c.none.ensures
+    ∙ no_cause (view_state c.args.state.now) (view_linked c.args.linked.now)
+    (sym c.is_tentative_alone.ensures ∙ c.if-not-is_tentative_alone.true)
+
+pub returns : goal.returns
+returns c =
+    let s = view_state c.args.state.now in
+    let l = view_linked c.args.linked.now in
+    c.completed.ensures CompleteAtEnd refl
+    ∙ ap (λ r. found (completed r (end_spot l) CompleteAtEnd (view_type c.final_type-ty.result.now.ty) ∷ [])) c.records.ensures
+    ∙ ap (λ q. found (completed (records_in s) (end_spot l) CompleteAtEnd (type_of q) ∷ [])) c.final_type-ty.ensures
+    ∙ sym (some_cause s l (sym c.is_tentative_alone.ensures ∙ c.if-not-is_tentative_alone.false))

@@ -1,0 +1,106 @@
+//! Modules (C90 6.7): external declarations in their order, and what stands at a module's end.
+
+ghost use Rattle.std.specs.Prelude.{◌≡◌, ◌≢◌, [], ◌∷◌, Ok, Err, IfOk, IfErr, map, not, ◌&&◌};
+ghost use Rattle.pw_walk.specs.declared.fault.CheckKind.TheVariants.{NoMemory};
+ghost use Rattle.pw_check.specs.Parts.{met_rule};
+ghost use Rattle.pw_checking.specs.EntityViews.{view_linked};
+ghost use Rattle.pw_checking.specs.Follows.{Follows, Leads};
+ghost use Rattle.pw_checking.specs.StateViews.{view_state};
+ghost use Rattle.pw_finding.specs.Found.{found};
+ghost use Rattle.pw_rules.specs.Checks.{Checks};
+ghost use Rattle.pw_rules.specs.Modules as spec;
+ghost use Rattle.pw_tree.specs.Views.{view_external, view_externals, view_module};
+ghost use Rattle.pw_typed.specs.Views as typed;
+
+use pw_checking::{Finding, LinkedName, Spot, State};
+use pw_declared::decl_rule;
+use pw_functions::{function_rule, phrases};
+use pw_limits::completed;
+use pw_results::{final_type, module_in};
+use pw_tree::{External, Module};
+use pw_typed::TModule;
+use pw_walk::{CheckFault, CheckKind};
+use std::alloc::Global;
+
+/// An external declaration. At file scope no local is initialised.
+fn external_rule<'a>(
+    alloc: Global,
+    state: &mut State<'a>,
+    external: &'a External,
+) -> Result<(), CheckFault>
+    ensures { Leads (λ u. u) (spec.external_rule (view_external external.now)) (view_state state.old) result (view_state state.new) }
+{
+    match external {
+        External::Function(f) => function_rule(alloc, state, f),
+        External::Declaration(d) => {
+            decl_rule(alloc, &phrases(), state, d)?;
+            Ok(())
+        }
+    }
+}
+
+/// The external declarations in their order.
+fn externals_rule<'a>(
+    alloc: Global,
+    state: &mut State<'a>,
+    externals: &'a [External],
+) -> Result<(), CheckFault>
+    ensures { Leads (λ u. u) (spec.externals_rule (view_externals externals.now)) (view_state state.old) result (view_state state.new) }
+{
+    for external in externals {
+        external_rule(alloc, state, external)?;
+    }
+    Ok(())
+}
+
+/// Whether a name is defined tentatively alone (C90 6.7.2).
+fn is_tentative_alone(linked: &LinkedName<'_>) -> bool
+    ensures { result ≡ (linked.now.tentative && not linked.now.defined) }
+{
+    linked.tentative && !linked.defined
+}
+
+/// An object that is defined tentatively is complete by the end of the module (C90 6.7.2).
+fn end_cause(state: &State<'_>, linked: &LinkedName<'_>) -> Finding
+    ensures { result.least ≡ found (spec.end_cause (view_state state.now) (view_linked linked.now) ∷ []) }
+{
+    if !is_tentative_alone(linked) {
+        return Finding::none();
+    }
+    let spot = Spot {
+        token: linked.token,
+        specifier: linked.token,
+        tag: linked.tag,
+    };
+    let ty = final_type(state, linked);
+    completed(state.records(), &spot, CheckKind::Typing, &ty.ty)
+}
+
+/// What is asked at the end of the module of each name with linkage, in the order of first declarations.
+fn end_rule(state: &State<'_>, linked: &[LinkedName<'_>]) -> Result<(), CheckFault>
+    ensures { Follows (λ u. u) (spec.end_rule (map view_linked linked.now)) (view_state state.now) result }
+{
+    for next in linked {
+        end_cause(state, next).end()?;
+    }
+    Ok(())
+}
+
+/// The constraints of a module: those of its external declarations, and those at its end.
+fn met_rule<'a>(alloc: Global, state: &mut State<'a>, tree: &'a Module) -> Result<(), CheckFault>
+    ensures { Leads (λ u. u) (met_rule (view_module tree.now)) (view_state state.old) result (view_state state.new) }
+{
+    externals_rule(alloc, state, &tree.externals)?;
+    end_rule(state, state.linked())
+}
+
+/// Checks a module: the answer is its typed tree where every constraint is met, or the fault of least rank at the first
+/// point where one is not; or that memory ran out.
+pub fn check(alloc: Global, tree: &Module) -> Result<TModule, CheckFault>
+    ensures typed { IfOk result (λ made. Checks (view_module tree.now) (Ok (typed.view_module made))) }
+    ensures refused { IfErr result (λ fault. fault.kind ≢ NoMemory → Checks (view_module tree.now) (Err fault)) }
+{
+    let mut state = State::new(alloc);
+    met_rule(alloc, &mut state, tree)?;
+    Ok(module_in(alloc, state)?)
+}

@@ -1,0 +1,129 @@
+-- The function gives the one answer of each module.
+use Rattle.std.proofs.Common.{◌≡◌, ◌≢◌, ℕ, List, Result, Ok, Err, refl, sym, ap, ◌∙◌, subst}
+use Rattle.std.specs.Prelude.{◌↔◌}
+use Rattle.pw_tree.specs.Trees.{Module}
+use Rattle.pw_front.specs.Fronts.{Front, Fronts, HasTree, front_of}
+use Rattle.pw_front.specs.Gives as front
+use Rattle.pw_front.specs.declared.refusal.FrontError.{FrontError}
+use Rattle.pw_front.specs.declared.refusal.FrontError.TheVariants.{Refused, NoMemory}
+use Rattle.pw_front.specs.declared.refusal.Refusal.{Refusal}
+use Rattle.pw_front.specs.declared.refusal.Refusal.TheVariants.{Lex, Unsupported, Parse, Check}
+use Rattle.pw_walk.specs.declared.fault.CheckFault.{CheckFault}
+use Rattle.pw_walk.specs.declared.fault.CheckKind.{CheckKind}
+use Rattle.pw_walk.specs.declared.fault.CheckKind.TheVariants as check
+use Rattle.pw_rules.specs.Checks.{Checks, checked}
+use Rattle.pw_types.specs.TypedTrees.{ModuleValue}
+use Rattle.pw_flow.specs.declared.flow.FlowModule.{FlowModule}
+use Rattle.pw_lower.specs.Modules.{lowered}
+use Rattle.pw_phase_one.specs.FirstPhase.{Compiles, Gives, Phase, by_checking, by_front, compiled, error_of, told, told_kind}
+
+abbrev pub FrontExact : Type 0
+FrontExact = (text : List ℕ) (answer : Front) → Fronts text answer ↔ (answer ≡ front_of text)
+
+abbrev pub ChecksExact : Type 0
+ChecksExact = (m : Module) (answer : Result ModuleValue CheckFault) → Checks m answer ↔ (answer ≡ checked m)
+
+-- ---- the relation and the function
+
+pub compiled_only : FrontExact → ChecksExact → (name text : List ℕ) (answer : Phase) → Compiles name text answer → answer ≡ compiled name text
+unfolding compiled
+compiled_only front checks name text (Ok flow) h =
+    ap (λ (f : FlowModule). Ok f) h.is ∙ ap (by_checking name) ((checks h.tree (Ok h.typed)).0 h.checks) ∙ ap (by_front name) ((front text (Ok h.tree)).0 h.has_tree)
+compiled_only front checks name text (Err (Check fault)) h =
+    ap (by_checking name) ((checks h.tree (Err fault)).0 h.checks) ∙ ap (by_front name) ((front text (Ok h.tree)).0 h.has_tree)
+compiled_only front checks name text (Err (Lex fault)) h = ap (by_front name) ((front text (Err (Lex fault))).0 h)
+compiled_only front checks name text (Err (Unsupported token feature)) h = ap (by_front name) ((front text (Err (Unsupported token feature))).0 h)
+compiled_only front checks name text (Err (Parse fault)) h = ap (by_front name) ((front text (Err (Parse fault))).0 h)
+
+checked_is : (name text : List ℕ) (tree : Module) (answer : Result ModuleValue CheckFault) → HasTree text tree → Checks tree answer → Compiles name text (by_checking name answer)
+checked_is name text tree (Ok typed) h k = record { tree = tree; typed = typed; has_tree = h; checks = k; is = refl }
+checked_is name text tree (Err fault) h k = record { tree = tree; has_tree = h; checks = k }
+
+front_is : ChecksExact → (name text : List ℕ) (answer : Front) → Fronts text answer → Compiles name text (by_front name answer)
+front_is checks name text (Ok tree) h = checked_is name text tree (checked tree) h ((checks tree (checked tree)).1 refl)
+front_is checks name text (Err (Lex fault)) h = h
+front_is checks name text (Err (Unsupported token feature)) h = h
+front_is checks name text (Err (Parse fault)) h = h
+front_is checks name text (Err (Check fault)) h = absurd h
+
+pub compiled_is : FrontExact → ChecksExact → (name text : List ℕ) (answer : Phase) → answer ≡ compiled name text → Compiles name text answer
+unfolding compiled
+compiled_is front checks name text answer e = subst (Compiles name text) (sym e) (front_is checks name text (front_of text) ((front text (front_of text)).1 refl))
+
+-- ---- what the calls give
+
+pub front_failed : {V : Type 0} (view : V → Module) (name text : List ℕ) (error : FrontError) → front.Gives view (front_of text) (Err error) → Gives {V = FlowModule} (λ flow. flow) (compiled name text) (Err error)
+unfolding compiled
+front_failed view name text (Refused refusal) h = ap (by_front name) h
+front_failed view name text NoMemory h = tt
+
+pub front_passed : (name text : List ℕ) (tree : Module) (result : Result FlowModule FrontError) → front_of text ≡ Ok tree → Gives (λ flow. flow) (by_checking name (checked tree)) result → Gives (λ flow. flow) (compiled name text) result
+unfolding compiled
+front_passed name text tree result e h = subst (λ (p : Phase). Gives (λ flow. flow) p result) (sym (ap (by_front name) e)) h
+
+no_value : (typed : ModuleValue) (refusal : Refusal) → ◌≡◌ {A = Result ModuleValue Refusal} (Ok typed) (Err refusal) → ⊥
+no_value typed refusal e = cc
+
+err_is : (one other : Refusal) → ◌≡◌ {A = Result ModuleValue Refusal} (Err one) (Err other) → one ≡ other
+err_is one other e = cc
+
+failed_by : {V : Type 0} (view : V → ModuleValue) (name : List ℕ) (found : Result ModuleValue CheckFault) (error : FrontError) → Gives view (told found) (Err error) → Gives {V = FlowModule} (λ flow. flow) (by_checking name found) (Err error)
+failed_by view name (Ok typed) (Refused refusal) h = absurd (no_value typed refusal h)
+failed_by view name (Err fault) (Refused refusal) h = ap (λ (r : Refusal). Err r) (err_is (Check fault) refusal h)
+failed_by view name found NoMemory h = tt
+
+pub check_failed : {V : Type 0} (view : V → ModuleValue) (name : List ℕ) (tree : Module) (error : FrontError) → Gives view (told (checked tree)) (Err error) → Gives {V = FlowModule} (λ flow. flow) (by_checking name (checked tree)) (Err error)
+check_failed view name tree error h = failed_by view name (checked tree) error h
+
+ok_is : (one other : ModuleValue) → ◌≡◌ {A = Result ModuleValue Refusal} (Ok one) (Ok other) → one ≡ other
+ok_is one other e = cc
+
+no_fault : (refusal : Refusal) (typed : ModuleValue) → ◌≡◌ {A = Result ModuleValue Refusal} (Err refusal) (Ok typed) → ⊥
+no_fault refusal typed e = cc
+
+passed_by : (name : List ℕ) (found : Result ModuleValue CheckFault) (typed : ModuleValue) (flow : FlowModule) → told found ≡ Ok typed → flow ≡ lowered name typed → by_checking name found ≡ Ok flow
+passed_by name (Ok own) typed flow e f = ap (λ (m : ModuleValue). Ok (lowered name m)) (ok_is own typed e) ∙ ap (λ (x : FlowModule). Ok x) (sym f)
+passed_by name (Err fault) typed flow e f = absurd (no_fault (Check fault) typed e)
+
+pub check_passed : (name : List ℕ) (tree : Module) (typed : ModuleValue) (flow : FlowModule) → told (checked tree) ≡ Ok typed → flow ≡ lowered name typed → by_checking name (checked tree) ≡ Ok flow
+check_passed name tree typed flow e f = passed_by name (checked tree) typed flow e f
+
+-- ---- faults of checking
+
+pub checked_ok : ChecksExact → (tree : Module) (typed : ModuleValue) → Checks tree (Ok typed) → told (checked tree) ≡ Ok typed
+checked_ok exact tree typed h = ap told (sym ((exact tree (Ok typed)).0 h))
+
+fault_told : ChecksExact → (tree : Module) (fault : CheckFault) → Checks tree (Err fault) → told (checked tree) ≡ Err (Check fault)
+fault_told exact tree fault h = ap told (sym ((exact tree (Err fault)).0 h))
+
+by_kind : {V : Type 0} (view : V → ModuleValue) → ChecksExact → (tree : Module) (fault : CheckFault) (kind : CheckKind) → fault.kind ≡ kind → (fault.kind ≢ check.NoMemory → Checks tree (Err fault))
+    → Gives view (told (checked tree)) (Err (told_kind kind fault))
+by_kind view exact tree fault check.NoMemory e h = tt
+by_kind view exact tree fault check.UnknownName e h = fault_told exact tree fault (h (λ n. other (sym e ∙ n)))
+  where
+    other : check.UnknownName ≡ check.NoMemory → ⊥
+    other n = cc
+by_kind view exact tree fault check.Redeclared e h = fault_told exact tree fault (h (λ n. other (sym e ∙ n)))
+  where
+    other : check.Redeclared ≡ check.NoMemory → ⊥
+    other n = cc
+by_kind view exact tree fault check.Typing e h = fault_told exact tree fault (h (λ n. other (sym e ∙ n)))
+  where
+    other : check.Typing ≡ check.NoMemory → ⊥
+    other n = cc
+by_kind view exact tree fault check.Constant e h = fault_told exact tree fault (h (λ n. other (sym e ∙ n)))
+  where
+    other : check.Constant ≡ check.NoMemory → ⊥
+    other n = cc
+by_kind view exact tree fault (check.Unsupported feature) e h = fault_told exact tree fault (h (λ n. other (sym e ∙ n)))
+  where
+    other : check.Unsupported feature ≡ check.NoMemory → ⊥
+    other n = cc
+by_kind view exact tree fault (check.Limit which number) e h = fault_told exact tree fault (h (λ n. other (sym e ∙ n)))
+  where
+    other : check.Limit which number ≡ check.NoMemory → ⊥
+    other n = cc
+
+pub checked_err : {V : Type 0} (view : V → ModuleValue) → ChecksExact → (tree : Module) (fault : CheckFault) (error : FrontError) → error ≡ error_of fault → (fault.kind ≢ check.NoMemory → Checks tree (Err fault))
+    → Gives view (told (checked tree)) (Err error)
+checked_err view exact tree fault error e h = subst (λ (x : FrontError). Gives view (told (checked tree)) (Err x)) (sym e) (by_kind view exact tree fault fault.kind refl h)

@@ -1,0 +1,15 @@
+//! Laws of the first phase.
+
+ghost use Rattle.std.specs.Prelude.{◌≡◌, ◌↔◌, ℕ, List};
+ghost use Rattle.pw_phase_one.specs.FirstPhase.{Compiles, Phase, compiled};
+
+use pw_front::front_is_exact;
+use pw_rules::checks_is_exact;
+
+/// A module has one answer, and it is that of the function.
+pub fn phase_one_is_exact()
+    ensures { (name text : List ℕ) (answer : Phase) → Compiles name text answer ↔ (answer ≡ compiled name text) }
+{
+    front_is_exact();
+    checks_is_exact();
+}

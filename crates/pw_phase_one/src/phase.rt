@@ -1,0 +1,96 @@
+//! The first phase.
+
+ghost use Rattle.std.specs.Prelude.{◌≡◌, IfOk};
+ghost use Rattle.pw_flow.specs.ValidFlow.{IsValid};
+ghost use Rattle.pw_lower.specs.Modules.{lowered};
+ghost use Rattle.pw_phase_one.specs.FirstPhase.{Gives, by_checking, compiled, error_of, told};
+ghost use Rattle.pw_rules.specs.Checks.{checked};
+ghost use Rattle.pw_tree.specs.Views.{view_module};
+ghost use Rattle.pw_typed.specs.Views as typed;
+
+use pw_check::check;
+use pw_flow::{FlowModule, is_valid};
+use pw_front::{FrontError, Refusal, front};
+use pw_lstmt::lower_module;
+use pw_rules::checks_is_exact;
+use pw_tree::Module;
+use pw_typed::TModule;
+use pw_value::{Name, NoMemory};
+use pw_walk::{CheckFault, CheckKind};
+use std::alloc::Global;
+
+/// Why the first phase gives no flow graph: the text is refused, or memory ran out.
+pub type PhaseError = FrontError;
+
+/// How a fault of checking is told.
+fn error_of(fault: CheckFault) -> PhaseError
+    ensures { result ≡ error_of fault }
+{
+    match fault.kind {
+        CheckKind::NoMemory => FrontError::NoMemory,
+        CheckKind::UnknownName
+        | CheckKind::Redeclared
+        | CheckKind::Typing
+        | CheckKind::Constant
+        | CheckKind::Unsupported(_)
+        | CheckKind::Limit(_, _) => FrontError::Refused(Refusal::Check(fault)),
+    }
+}
+
+/// The typed tree of a tree; or the fault that checking finds.
+fn typed_tree(alloc: Global, tree: &Module) -> Result<TModule, PhaseError>
+    ensures { Gives typed.view_module (told (checked (view_module tree.now))) result }
+{
+    checks_is_exact();
+    match check(alloc, tree) {
+        Ok(typed) => Ok(typed),
+        Err(fault) => Err(error_of(fault)),
+    }
+}
+
+/// The flow graph of a typed tree. One that is not lawful is never made of an accepted module; it is told as want of
+/// memory.
+fn flow_graph(alloc: Global, name: &Name, module: &TModule) -> Result<FlowModule, NoMemory>
+    ensures flow { IfOk result (λ flow. flow ≡ lowered name.now (typed.view_module «module».now)) }
+    ensures lawful { IfOk result (λ flow. IsValid flow) }
+{
+    let flow = lower_module(alloc, name, module)?;
+    if is_valid(&flow) {
+        Ok(flow)
+    } else {
+        Err(NoMemory)
+    }
+}
+
+/// The flow graph of a module, by its name and its tree.
+fn compile(alloc: Global, name: &Name, tree: &Module) -> Result<FlowModule, PhaseError>
+    ensures function { Gives (λ flow. flow) (by_checking name.now (checked (view_module tree.now))) result }
+    ensures lawful { IfOk result (λ flow. IsValid flow) }
+{
+    match typed_tree(alloc, tree) {
+        Ok(typed) => match flow_graph(alloc, name, &typed) {
+            Ok(flow) => Ok(flow),
+            Err(_none) => Err(FrontError::NoMemory),
+        },
+        Err(error) => Err(error),
+    }
+}
+
+/// The flow graph of a module, by its name and its text, which is tested for lexing, for tokens that are left out, for
+/// depth, for syntax and for the constraints of the language, in this order.
+///
+/// # Errors
+///
+/// `Refused` with what the first of these tests finds, or `NoMemory`.
+pub fn phase_one(alloc: Global, name: &Name, text: &[u8]) -> Result<FlowModule, PhaseError>
+    // The answer as a function of the name and the text, unless memory ran out.
+    ensures function { Gives (λ flow. flow) (compiled name.now text.now) result }
+
+    // A flow graph that is given is lawful.
+    ensures lawful { IfOk result (λ flow. IsValid flow) }
+{
+    match front(alloc, text) {
+        Ok(tree) => compile(alloc, name, &tree),
+        Err(error) => Err(error),
+    }
+}
