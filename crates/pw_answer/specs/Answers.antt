@@ -78,18 +78,18 @@ which_name which.Room = codes "Room"
 which_name which.TypeDepth = codes "TypeDepth"
 which_name which.Parameters = codes "Parameters"
 
--- what is wrong with a tree, a limit with the number that passes it; want of memory refuses none
-abbrev pub kind_text : CheckKind → List ℕ
-kind_text check.UnknownName = codes "UnknownName"
-kind_text check.Redeclared = codes "Redeclared"
-kind_text check.Typing = codes "Typing"
-kind_text check.Constant = codes "Constant"
-kind_text (check.Unsupported feature) = codes "Unsupported " ++ feature_name feature
-kind_text (check.Limit which number) = codes "Limit " ++ which_name which ++ codes " " ++ decimal number
-kind_text check.NoMemory = codes "NoMemory"
+-- what is wrong with a tree, and at which token; a limit with the number that passes it; want of memory refuses none
+abbrev pub kind_text : CheckKind → ℕ → List ℕ
+kind_text check.UnknownName token = codes "UnknownName" ++ codes " at token " ++ decimal token
+kind_text check.Redeclared token = codes "Redeclared" ++ codes " at token " ++ decimal token
+kind_text check.Typing token = codes "Typing" ++ codes " at token " ++ decimal token
+kind_text check.Constant token = codes "Constant" ++ codes " at token " ++ decimal token
+kind_text (check.Unsupported feature) token = codes "Unsupported " ++ feature_name feature ++ codes " at token " ++ decimal token
+kind_text (check.Limit which number) token = codes "Limit " ++ which_name which ++ codes " " ++ decimal number ++ codes " at token " ++ decimal token
+kind_text check.NoMemory token = codes "NoMemory" ++ codes " at token " ++ decimal token
 
 abbrev pub check_text : CheckFault → List ℕ
-check_text fault = kind_text fault.kind ++ codes " at token " ++ decimal fault.token
+check_text fault = kind_text fault.kind fault.token
 
 -- or which feature, and at which token
 abbrev pub refusal_text : Refusal → List ℕ

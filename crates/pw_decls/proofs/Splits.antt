@@ -1,5 +1,5 @@
 -- A list of specifiers, of members or of enumerators is its first, and then the rest.
-use Rattle.std.proofs.Common.{◌≡◌, ℕ, Option, None, Some, List, [], ◌∷◌, Result, Ok, refl, ap, sym, ◌∙◌}
+use Rattle.std.proofs.Common.{◌≡◌, ℕ, Option, List, Ok, refl}
 use Rattle.pw_tree.specs.Trees as S
 use Rattle.pw_tree.specs.declared.expr.BasicType.{BasicType}
 use Rattle.pw_tree.specs.declared.expr.BasicType.TheVariants as W

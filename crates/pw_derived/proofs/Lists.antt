@@ -1,12 +1,11 @@
 -- Steps, bindings and parameters as they show.
-use Rattle.std.proofs.Common.{◌≡◌, ℕ, ◌+◌, eqb, Option, None, Some, List, [], ◌∷◌, ◌++◌, length, map, reverse, refl, ap, sym, arith}
+use Rattle.std.proofs.Common.{◌≡◌, eqb, Option, None, Some, List, [], ◌∷◌, ◌++◌, length, map, reverse, refl, ap, sym, arith}
 use Rattle.std.proofs.Math.Dec.{eqb-suc-zero}
 use Rattle.std.proofs.lemmas.List.{reverse-append, length-reverse}
 use Rattle.std.specs.Option.{option_or}
 use Rattle.pw_types.specs.TypeTrees as tree
 use Rattle.pw_types.specs.Views.{view_qtype, view_types}
 use Rattle.pw_types.specs.declared.ctype.QType.{QType}
-use Rattle.pw_rules.specs.Derivations.{Derivation}
 use Rattle.pw_rules.specs.Kinds.{types_in}
 use Rattle.pw_rules.specs.Leaves.{is_nil}
 use Rattle.pw_checking.specs.PhraseViews.{view_bound, view_derivation, view_derivations, view_parameters}
@@ -20,7 +19,7 @@ empty_of_length (x ∷ xs) none = absurd (omega arith)
 
 -- no steps
 pub turned_none : [] ≡ view_derivations (reverse [])
-turned_none = ap view_derivations (sym (empty_of_length (reverse []) (length-reverse [])))
+turned_none = ap view_derivations (sym (empty_of_length {X = code.Derivation} (reverse []) (length-reverse {A = code.Derivation} [])))
 
 -- a step more, in the order of the text
 pub turned_push : (xs : List code.Derivation) (x : code.Derivation) → view_derivations (reverse (xs ++ x ∷ [])) ≡ view_derivation x ∷ view_derivations (reverse xs)

@@ -1,5 +1,5 @@
 -- What stands behind a name is its first and then the rest, and so are parameters.
-use Rattle.std.proofs.Common.{◌≡◌, ℕ, Bool, true, false, ◌&&◌, ◌+◌, ◌<◌, eqb, Option, None, Some, List, [], ◌∷◌, ◌++◌, ◌-◌, length, drop, Result, Ok, Err, refl, ap, sym, ◌∙◌, append_assoc, arith}
+use Rattle.std.proofs.Common.{◌≡◌, ℕ, ◌&&◌, ◌+◌, eqb, Option, None, Some, List, [], ◌∷◌, ◌-◌, length, drop, Result, Ok, Err, refl, ap, sym, ◌∙◌, append_assoc, arith}
 use Rattle.std.specs.Option.{option_or}
 use Rattle.std.proofs.Math.Dec.{eqb-suc-zero}
 use Rattle.std.proofs.lemmas.List.{append-nil, length-drop}

@@ -1,5 +1,5 @@
 -- Members with their offsets.
-use Rattle.std.proofs.Common.{◌≡◌, ℕ, zero, suc, List, [], ◌∷◌, map, Option, None, Some, option_map, slice_get, zip, refl, ap, ◌∙◌}
+use Rattle.std.proofs.Common.{◌≡◌, ℕ, zero, suc, List, [], ◌∷◌, None, Some, option_map, slice_get, zip, refl, ap, ◌∙◌}
 use Rattle.std.proofs.lemmas.Option.{none-some, slice_get-map}
 use Rattle.pw_types.specs.Views.{view_member, view_members}
 use Rattle.pw_types.specs.declared.record.Member.{Member}

@@ -4,7 +4,6 @@
 use pw_files::writing::seal_payload;
 use pw_flow::{BinKind, Block, End, ExtKind, FlowFn, FlowGlobal, FlowModule, Item, Op, UnKind};
 use pw_flowfile::{KIND, read, write};
-use pw_value::fields::frame::seal;
 use pw_value::{FileError, Kind, Name, Shape};
 use std::alloc::Global;
 use std::test::Fail;
@@ -59,7 +58,7 @@ const OTHER: &str = "\
 type Damage = (&'static [(usize, u8)], bool, Option<usize>);
 
 /// Damages of `FULL`, by the rules of the format.
-const OF_FULL: [Damage; 52] = [
+static OF_FULL: [Damage; 52] = [
     // The table: `b` twice, `m` unused, `$start` unused before its rule, more names than there are.
     (&[(40, 98)], true, Some(36)),
     (&[(85, 10)], true, Some(69)),
@@ -125,7 +124,7 @@ const OF_FULL: [Damage; 52] = [
 ];
 
 /// Damages of `OTHER`, with the faults that an independent reader found.
-const OF_OTHER: [Damage; 25] = [
+static OF_OTHER: [Damage; 25] = [
     (&[(12, 1)], true, Some(57)),
     (&[(41, 6)], false, Some(41)),
     (&[(29, 2)], true, Some(29)),
@@ -162,14 +161,20 @@ fn digit(byte: u8) -> Result<u8, Fail> {
     }
 }
 
-/// The bytes of pairs of digits.
-fn from_hex(alloc: Global, text: &str) -> Result<Vec<u8>, Fail> {
-    let mut bytes = Vec::new(alloc);
+/// Appends the bytes of pairs of digits.
+fn push_hex(bytes: &mut Vec<u8>, text: &str) -> Result<(), Fail> {
     for pair in text.as_bytes().chunks(2) {
         if let [high, low] = pair {
             bytes.push((digit(*high)? << 4) | digit(*low)?)?;
         }
     }
+    Ok(())
+}
+
+/// The bytes of pairs of digits.
+fn from_hex(alloc: Global, text: &str) -> Result<Vec<u8>, Fail> {
+    let mut bytes = Vec::new(alloc);
+    push_hex(&mut bytes, text)?;
     Ok(bytes)
 }
 
@@ -182,7 +187,7 @@ fn sealed_anew(alloc: Global, file: &[u8]) -> Result<Vec<u8>, Fail> {
 }
 
 /// The fault of the file with these bytes set, if it has one.
-fn fault_of(alloc: Global, text: &str, damage: &Damage) -> Result<Option<FileError>, Fail> {
+fn fault_of(alloc: Global, text: &str, damage: &Damage) -> Result<Option<usize>, Fail> {
     let mut file = from_hex(alloc, text)?;
     for (place, value) in damage.0 {
         *file.get_mut(*place).ok_or("a place")? = *value;
@@ -190,7 +195,7 @@ fn fault_of(alloc: Global, text: &str, damage: &Damage) -> Result<Option<FileErr
     if damage.1 {
         file = sealed_anew(alloc, &file)?;
     }
-    Ok(read(alloc, &file).err())
+    Ok(fault_in(alloc, &file))
 }
 
 /// An item of a global: its offset with its bytes, or with the name and the number of its address.
@@ -422,14 +427,21 @@ fn is_sum(op: &Op, row: &OpRow) -> bool {
     }
 }
 
-/// Whether an operation on objects, slots and memory is that of the row.
-fn is_access(op: &Op, row: &OpRow) -> bool {
+/// Whether an address is that of the row.
+fn is_address(op: &Op, row: &OpRow) -> bool {
     match (op, row) {
         (Op::AddrGlobal(t, g, n), OpRow::AddrGlobal(u, h, m)) => {
             *t == *u && g.as_bytes() == *h && *n == *m
         }
         (Op::AddrSlot(t, s), OpRow::AddrSlot(u, r)) => *t == *u && *s == *r,
         (Op::AddrFn(t, f), OpRow::AddrFn(u, g)) => *t == *u && f.as_bytes() == *g,
+        _ => false,
+    }
+}
+
+/// Whether an operation on objects and memory is that of the row.
+fn is_access(op: &Op, row: &OpRow) -> bool {
+    match (op, row) {
         (Op::LoadG(t, g, k), OpRow::LoadG(u, h, l)) => {
             *t == *u && g.as_bytes() == *h && *k == *l
         }
@@ -462,6 +474,7 @@ fn is_call(op: &Op, row: &OpRow) -> bool {
 fn are_ops(ops: &[Op], rows: &[OpRow]) -> bool {
     ops.len() == rows.len()
         && ops.iter().zip(rows).all(|(op, row)| is_sum(op, row)
+            || is_address(op, row)
             || is_access(op, row)
             || is_call(op, row))
 }
@@ -511,7 +524,7 @@ type ModuleRow = (
 );
 
 /// Files of modules that are named `m`.
-const MODULES: [(&str, ModuleRow); 2] = [
+static MODULES: [(&str, ModuleRow); 2] = [
     (EMPTY, (&[], &[], &[])),
     (FULL, (&GLOBALS, &DECLARED, &FUNCTIONS)),
 ];
@@ -535,7 +548,7 @@ fn is_read_and_written(alloc: Global, text: &str, row: &ModuleRow) -> Result<boo
 
 #[test]
 fn modules(rt: HostRuntime) -> Result<(), Fail> {
-    for (text, row) in &MODULES {
+    for (text, row) in MODULES.iter() {
         assert!(rt;
             is_read_and_written(rt.alloc(), *text, row)?,
             "{}",
@@ -547,25 +560,23 @@ fn modules(rt: HostRuntime) -> Result<(), Fail> {
 
 #[test]
 fn damages_by_the_rules(rt: HostRuntime) -> Result<(), Fail> {
-    for damage in &OF_FULL {
-        let wanted = damage.2.map(|at| FileError::FileFault { at });
-        assert_eq!(rt; fault_of(rt.alloc(), FULL, damage)?, wanted);
+    for damage in OF_FULL.iter() {
+        assert!(rt; fault_of(rt.alloc(), FULL, damage)? == damage.2);
     }
     Ok(())
 }
 
 #[test]
 fn damages_by_another_reader(rt: HostRuntime) -> Result<(), Fail> {
-    for damage in &OF_OTHER {
-        let wanted = damage.2.map(|at| FileError::FileFault { at });
-        assert_eq!(rt; fault_of(rt.alloc(), OTHER, damage)?, wanted);
+    for damage in OF_OTHER.iter() {
+        assert!(rt; fault_of(rt.alloc(), OTHER, damage)? == damage.2);
     }
     Ok(())
 }
 
 // The flow of `extern int n; void bump(void){n=n+1;}` by an independent writer of the format.
 
-const FILE: [u8; 183] = [
+static FILE: [u8; 183] = [
     80, 65, 87, 70, 0, 0, 0, 183, 0, 0, 0, 1, 0, 0, 0, 3, 0, 0, 0, 1, 98, 0, 0, 0, 4, 98, 117, 109,
     112, 0, 0, 0, 1, 110, 0, 0, 0, 0, 0, 0, 0, 0, 0, 0, 0, 2, 0, 0, 0, 2, 0, 0, 0, 1, 105, 0, 0, 0,
     1, 0, 0, 0, 2, 102, 118, 0, 0, 0, 1, 0, 0, 0, 1, 0, 0, 0, 2, 102, 118, 0, 0, 0, 0, 0, 0, 0, 3,
@@ -582,7 +593,7 @@ const STARTS: [usize; 38] = [
 ];
 
 /// What the file of `bump` is read as.
-const BUMP: ModuleRow = (
+static BUMP: ModuleRow = (
     &[],
     &[(b"n", b"i"), (b"bump", b"fv")],
     &[(
@@ -603,43 +614,63 @@ const BUMP: ModuleRow = (
     )],
 );
 
-#[test]
-fn read_and_written(rt: HostRuntime) -> Result<(), Fail> {
-    let written = match read(rt.alloc(), &FILE) {
-        Ok(flow) => {
-            are_declared(flow.declared.as_slice(), BUMP.1)
-                && are_functions(flow.functions.as_slice(), BUMP.2)
-                && flow.name.as_bytes() == b"b".as_slice()
-                && flow.globals.is_empty()
-                && write(rt.alloc(), &flow)?.as_slice() == FILE.as_slice()
-        }
-        Err(_) => false,
-    };
-    assert!(rt; written);
-    Ok(())
+/// Whether a module is that of `bump`.
+fn is_bump(flow: &FlowModule) -> bool {
+    are_declared(flow.declared.as_slice(), BUMP.1)
+        && are_functions(flow.functions.as_slice(), BUMP.2)
+        && flow.name.as_bytes() == b"b".as_slice()
+        && flow.globals.is_empty()
+}
+
+/// Whether the file of `bump` is read, and written again as it was.
+fn is_bump_read(alloc: Global) -> Result<bool, Fail> {
+    match read(alloc, &FILE) {
+        Ok(flow) => Ok(is_bump(&flow) && write(alloc, &flow)?.as_slice() == FILE.as_slice()),
+        Err(_) => Ok(false),
+    }
 }
 
 #[test]
-fn damaged_frames(rt: HostRuntime) -> Result<(), Fail> {
-    for (place, wanted) in [(0usize, 0usize), (7, 4), (11, 8), (182, 151)] {
-        let mut damaged = FILE;
-        assert!(rt; place < 183);
-        damaged[place] ^= 1;
-        assert_eq!(rt;
-            read(rt.alloc(), &damaged).err(),
-            Some(FileError::FileFault { at: wanted }),
-            "{place}"
-        );
+fn read_and_written(rt: HostRuntime) -> Result<(), Fail> {
+    assert!(rt; is_bump_read(rt.alloc())?);
+    Ok(())
+}
+
+/// The offset of the fault in these bytes, if they are no file; the greatest of all for want of memory.
+fn fault_in(alloc: Global, bytes: &[u8]) -> Option<usize> {
+    match read(alloc, bytes) {
+        Ok(_) => None,
+        Err(FileError::FileFault { at }) => Some(at),
+        Err(FileError::NoMemory) => Some(usize::MAX),
     }
+}
+
+/// A byte of the file that is turned, and the offset of the fault.
+const TURNED: [(usize, usize); 4] = [(0, 0), (7, 4), (11, 8), (182, 151)];
+
+#[test]
+fn damaged_frames(rt: HostRuntime) {
+    for (place, at) in TURNED {
+        let mut damaged = FILE;
+        damaged[place % 183] ^= 1;
+        assert!(rt; fault_in(rt.alloc(), &damaged) == Some(at), "{place}");
+    }
+}
+
+/// A file that is cut has another length than it tells, and below 4 bytes not even a kind.
+#[test]
+fn cut_frames(rt: HostRuntime) {
     for len in 0..183usize {
         let at = if len < 4 { 0 } else { 4 };
-        assert_eq!(rt;
-            read(rt.alloc(), &FILE[..len]).err(),
-            Some(FileError::FileFault { at }),
-            "{len}"
-        );
+        assert!(rt; fault_in(rt.alloc(), &FILE[..len]) == Some(at), "{len}");
     }
-    Ok(())
+}
+
+/// The offset of the fault of a file whose payload is cut to this length.
+fn cut_fault(alloc: Global, len: usize) -> Result<Option<usize>, Fail> {
+    let payload = FILE.get(12..len.saturating_add(12)).ok_or("a payload")?;
+    let file = seal_payload(alloc, KIND, 1, payload)?;
+    Ok(fault_in(alloc, &file))
 }
 
 /// A payload that is cut has its fault at the last field that begins in it or at its end.
@@ -649,11 +680,8 @@ fn cut_at_every_length(rt: HostRuntime) -> Result<(), Fail> {
         let start = STARTS[field];
         let end = STARTS.get(field + 1).copied().unwrap_or(139);
         for len in start..end {
-            assert!(rt; len < 139);
-            let file = seal(rt.alloc(), KIND, 1, &FILE[12..12 + len])?;
-            assert_eq!(rt;
-                read(rt.alloc(), &file).err(),
-                Some(FileError::FileFault { at: 12 + start }),
+            assert!(rt;
+                cut_fault(rt.alloc(), len)? == Some(start.wrapping_add(12)),
                 "{len}"
             );
         }

@@ -95,9 +95,8 @@ const MODULES: [(bool, usize, bool); 3] = [(true, 1, true), (false, 1, false), (
 #[test]
 fn lawful_and_not(rt: HostRuntime) -> Result<(), Fail> {
     for (with_start, times, wanted) in MODULES {
-        assert_eq!(rt;
-            is_lawful(rt.alloc(), with_start, times)?,
-            wanted,
+        assert!(rt;
+            is_lawful(rt.alloc(), with_start, times)? == wanted,
             "{times}"
         );
     }

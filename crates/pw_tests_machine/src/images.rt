@@ -1,7 +1,9 @@
 //! Tests of pw_image: that an image is read and written again, and where the faults of damaged files are
 //! told. The payload is written by hand.
 
-use pw_image::{KIND, LoadError, read_image, read_map, write_image};
+use pw_image::{
+    Function, GlobalObject, KIND, LoadError, Map, Memory, read_image, read_map, write_image,
+};
 use pw_value::FileError;
 use pw_value::fields::frame::seal;
 use std::alloc::{AllocError, Global};
@@ -17,36 +19,23 @@ const PAYLOAD: [u8; 117] = [
     16, 8,
 ];
 
-/// The bytes of a memory's first words: the entry, the stack, its end, and the size of the data.
-type Numbers = (u32, u32, u32, u32);
-
-/// What a machine starts with, in the file of these bytes: numbers, words, and the second item of the data.
-fn is_memory_read(alloc: Global, file: &[u8]) -> bool {
-    let Ok(image) = read_image(alloc, file) else {
-        return false;
-    };
-    let memory = &image.memory;
-    let numbers: Numbers = (
-        memory.entry,
-        memory.stack,
-        memory.stack_end,
-        memory.data_size,
-    );
+/// Whether a memory has the numbers, the words and the second item of the data of the payload.
+fn is_memory(memory: &Memory) -> bool {
     let is_item = match memory.items.as_slice() {
         [_, item] => item.offset == 4 && item.bytes.as_slice() == b"cd".as_slice(),
         _ => false,
     };
-    numbers == (4096, 4096, 8448, 16)
+    is_item
+        && memory.entry == 4096
+        && memory.stack == 4096
+        && memory.stack_end == 8448
+        && memory.data_size == 16
         && memory.words.as_slice() == [0x0800_0240u32, 0x341c_0002].as_slice()
-        && is_item
 }
 
-/// Whether the functions and the object of an image are read from the file of these bytes.
-fn are_names_read(alloc: Global, file: &[u8]) -> bool {
-    let Ok(image) = read_image(alloc, file) else {
-        return false;
-    };
-    match (image.functions.as_slice(), image.globals.as_slice()) {
+/// Whether these are the functions and the object of the payload.
+fn are_names(functions: &[Function], globals: &[GlobalObject]) -> bool {
+    match (functions, globals) {
         ([main, exit], [g]) => {
             main.name.as_bytes() == b"main".as_slice()
                 && main.frame == 64
@@ -58,17 +47,28 @@ fn are_names_read(alloc: Global, file: &[u8]) -> bool {
     }
 }
 
-/// Whether the map of an image is read from the file of these bytes.
-fn is_map_read(alloc: Global, file: &[u8]) -> bool {
-    let Ok(map) = read_map(alloc, file) else {
-        return false;
-    };
+/// Whether the image of the payload is read from the file of these bytes, and written again as these bytes.
+fn is_image_read(alloc: Global, file: &[u8]) -> Result<bool, AllocError> {
+    match read_image(alloc, file) {
+        Ok(image) => Ok(
+            write_image(alloc, &image)?.as_slice() == file
+                && is_memory(&image.memory)
+                && are_names(&image.functions, &image.globals),
+        ),
+        Err(_) => Ok(false),
+    }
+}
+
+/// Whether a map is that of the payload.
+fn is_map(map: &Map) -> bool {
     match (map.functions.as_slice(), map.globals.as_slice()) {
         ([main, exit], [g]) => {
             main.0.as_bytes() == b"main".as_slice()
-                && (main.1, main.2) == (4096, 64)
+                && main.1 == 4096
+                && main.2 == 64
                 && exit.0.as_bytes() == b"exit".as_slice()
-                && (exit.1, exit.2) == (4100, 0)
+                && exit.1 == 4100
+                && exit.2 == 0
                 && g.0.as_bytes() == b"g".as_slice()
                 && g.1 == 4104
         }
@@ -76,26 +76,53 @@ fn is_map_read(alloc: Global, file: &[u8]) -> bool {
     }
 }
 
-/// Whether what is read from these bytes is written as these bytes.
-fn is_written_again(alloc: Global, file: &[u8]) -> Result<bool, AllocError> {
-    match read_image(alloc, file) {
-        Ok(image) => Ok(write_image(alloc, &image)?.as_slice() == file),
-        Err(_) => Ok(false),
+/// Whether the map of the payload is read from the file of these bytes.
+fn is_map_read(alloc: Global, file: &[u8]) -> bool {
+    match read_map(alloc, file) {
+        Ok(map) => is_map(&map),
+        Err(_) => false,
     }
+}
+
+/// Whether the file of the payload is read and written as it should be.
+fn is_payload_read(alloc: Global) -> Result<bool, AllocError> {
+    let file = seal(alloc, KIND, 1, &PAYLOAD)?;
+    Ok(is_map_read(alloc, &file) && is_image_read(alloc, &file)?)
 }
 
 #[test]
 fn an_image(rt: HostRuntime) -> Result<(), Fail> {
-    let file = seal(rt.alloc(), KIND, 1, &PAYLOAD)?;
-    let is_read = is_memory_read(rt.alloc(), &file) && are_names_read(rt.alloc(), &file);
-    let is_map = is_map_read(rt.alloc(), &file);
-    let is_written = is_written_again(rt.alloc(), &file)?;
-    assert_eq!(rt; (is_read, is_map, is_written), (true, true, true));
+    assert!(rt; is_payload_read(rt.alloc())?);
     Ok(())
 }
 
+/// The offset of the fault in a file that is no image's.
+fn fault_in(alloc: Global, file: &[u8]) -> Option<usize> {
+    match read_image(alloc, file) {
+        Err(FileError::FileFault { at }) => Some(at),
+        _ => None,
+    }
+}
+
+/// The offset of the fault in a file that has no image's map.
+fn map_fault_in(alloc: Global, file: &[u8]) -> Option<usize> {
+    match read_map(alloc, file) {
+        Err(LoadError::LoadFault { at }) => Some(at),
+        _ => None,
+    }
+}
+
+/// The offset of the fault in the file of a payload of few bytes.
+fn fault_of(alloc: Global, payload: &[u8]) -> Result<Option<usize>, AllocError> {
+    if payload.len() > 1000 {
+        return Ok(None);
+    }
+    let file = seal(alloc, KIND, 1, payload)?;
+    Ok(fault_in(alloc, &file))
+}
+
 /// A byte of the payload, what it becomes, and the offset of the fault.
-const DAMAGES: [(usize, u8, usize); 18] = [
+static DAMAGES: [(usize, u8, usize); 18] = [
     (3, 1, 12),
     (8, 5, 20),
     (13, 1, 24),
@@ -118,12 +145,10 @@ const DAMAGES: [(usize, u8, usize); 18] = [
 
 #[test]
 fn damaged_images(rt: HostRuntime) -> Result<(), Fail> {
-    for (place, value, at) in DAMAGES {
+    for (place, value, at) in DAMAGES.iter() {
         let mut damaged = PAYLOAD;
-        damaged[place % 117] = value;
-        let file = seal(rt.alloc(), KIND, 1, &damaged)?;
-        let found = read_image(rt.alloc(), &file).err();
-        assert_eq!(rt; found, Some(FileError::FileFault { at }), "{place}");
+        damaged[*place % 117] = *value;
+        assert!(rt; fault_of(rt.alloc(), &damaged)? == Some(*at), "{place}");
     }
     Ok(())
 }
@@ -134,9 +159,7 @@ const LENGTHS: [(usize, usize); 4] = [(0, 12), (15, 12), (16, 28), (116, 125)];
 #[test]
 fn short_images(rt: HostRuntime) -> Result<(), Fail> {
     for (len, at) in LENGTHS {
-        let file = seal(rt.alloc(), KIND, 1, &PAYLOAD[..len])?;
-        let found = read_image(rt.alloc(), &file).err();
-        assert_eq!(rt; found, Some(FileError::FileFault { at }), "{len}");
+        assert!(rt; fault_of(rt.alloc(), &PAYLOAD[..len])? == Some(at), "{len}");
     }
     Ok(())
 }
@@ -150,21 +173,29 @@ const FRAMES: [(u32, usize, u8, usize); 4] = [
     (1, 3, 0, 0),
 ];
 
+/// Whether such a file has the fault at this offset, for its image and for its map.
+fn is_frame_refused(
+    alloc: Global,
+    version: u32,
+    len: usize,
+    turned: u8,
+    at: usize,
+) -> Result<bool, AllocError> {
+    let mut file = seal(alloc, KIND, version, &PAYLOAD)?;
+    if let Some(last) = file.last_mut() {
+        *last ^= turned;
+    }
+    file.truncate(len);
+    Ok(fault_in(alloc, &file) == Some(at) && map_fault_in(alloc, &file) == Some(at))
+}
+
 #[test]
 fn damaged_frames(rt: HostRuntime) -> Result<(), Fail> {
     for (version, len, turned, at) in FRAMES {
-        let mut file = seal(rt.alloc(), KIND, version, &PAYLOAD)?;
-        if let Some(last) = file.last_mut() {
-            *last ^= turned;
-        }
-        file.truncate(len);
-        let found = read_image(rt.alloc(), &file).err();
-        let loaded = read_map(rt.alloc(), &file).err();
-        let wanted = (
-            Some(FileError::FileFault { at }),
-            Some(LoadError::LoadFault { at }),
+        assert!(rt;
+            is_frame_refused(rt.alloc(), version, len, turned, at)?,
+            "{len}"
         );
-        assert_eq!(rt; (found, loaded), wanted, "{version} {len}");
     }
     Ok(())
 }
@@ -174,11 +205,6 @@ const SHORT: [u8; 11] = [80, 65, 87, 73, 0, 0, 0, 11, 0, 0, 0];
 
 #[test]
 fn no_file(rt: HostRuntime) {
-    let short = read_image(rt.alloc(), &SHORT).err();
-    let other = read_map(rt.alloc(), &PAYLOAD).err();
-    let wanted = (
-        Some(FileError::FileFault { at: 8 }),
-        Some(LoadError::LoadFault { at: 0 }),
-    );
-    assert_eq!(rt; (short, other), wanted);
+    let short = fault_in(rt.alloc(), &SHORT) == Some(8);
+    assert!(rt; short && map_fault_in(rt.alloc(), &PAYLOAD) == Some(0));
 }

@@ -5,6 +5,7 @@ use pw_inst::{
     target, text,
 };
 use std::alloc::{AllocError, Global};
+use std::test::Fail;
 
 // A word, and its text at address 4096. The first rows are words that every listing has, the rest are what
 // `hppa-linux-gnu-as` made of these texts in its own syntax, or words of no form.
@@ -190,46 +191,45 @@ fn is_shown(alloc: Global, word: u32, shown: &str) -> Result<bool, AllocError> {
 }
 
 #[test]
-fn words_and_texts(rt: HostRuntime) {
+fn words_and_texts(rt: HostRuntime) -> Result<(), Fail> {
     for (word, shown) in WORDS.iter() {
-        assert_eq!(rt; is_shown(rt.alloc(), *word, shown), Ok(true), "{shown}");
+        assert!(rt; is_shown(rt.alloc(), *word, shown)?, "{shown}");
+    }
+    Ok(())
+}
+
+/// Words whose instructions are known field by field.
+const KNOWN: [u32; 8] = [
+    0xe840_c002,
+    0x4bc2_3fd9,
+    0x6bc2_3fd9,
+    0x37de_0080,
+    0x341c_0002,
+    0xe6c0_2000,
+    0x0001_0004,
+    0x0800_0240,
+];
+
+/// Whether a word is decoded to its known instruction.
+fn is_known(word: u32) -> bool {
+    match decode(word) {
+        Some(Inst::Bv { b, n }) => word == 0xe840_c002 && b == 2 && n,
+        Some(Inst::Ldw { im, b, t }) => word == 0x4bc2_3fd9 && im == -20 && b == 30 && t == 2,
+        Some(Inst::Stw { r, im, b }) => word == 0x6bc2_3fd9 && r == 2 && im == -20 && b == 30,
+        Some(Inst::Ldo { im: 64, b, t }) => word == 0x37de_0080 && b == 30 && t == 30,
+        Some(Inst::Ldo { im, b, t }) => word == 0x341c_0002 && im == 1 && b == 0 && t == 28,
+        Some(Inst::Ble { b, n }) => word == 0xe6c0_2000 && b == 22 && !n,
+        Some(Inst::Break { im5, im13 }) => word == 0x0001_0004 && im5 == 4 && im13 == 8,
+        Some(Inst::Or { r1, r2, t }) => word == 0x0800_0240 && r1 == 0 && r2 == 0 && t == 0,
+        _ => false,
     }
 }
 
 #[test]
 fn known_words(rt: HostRuntime) {
-    let found = [
-        matches!(decode(0xe840_c002), Some(Inst::Bv { b: 2, n: true })),
-        matches!(
-            decode(0x4bc2_3fd9),
-            Some(Inst::Ldw {
-                im: -20,
-                b: 30,
-                t: 2
-            })
-        ),
-        matches!(
-            decode(0x6bc2_3fd9),
-            Some(Inst::Stw {
-                r: 2,
-                im: -20,
-                b: 30
-            })
-        ),
-        matches!(
-            decode(0x37de_0080),
-            Some(Inst::Ldo {
-                im: 64,
-                b: 30,
-                t: 30
-            })
-        ),
-        matches!(decode(0x341c_0002), Some(Inst::Ldo { im: 1, b: 0, t: 28 })),
-        matches!(decode(0xe6c0_2000), Some(Inst::Ble { b: 22, n: false })),
-        matches!(decode(0x0001_0004), Some(Inst::Break { im5: 4, im13: 8 })),
-        matches!(decode(0x0800_0240), Some(Inst::Or { r1: 0, r2: 0, t: 0 })),
-    ];
-    assert_eq!(rt; found, [true; 8]);
+    for word in KNOWN {
+        assert!(rt; is_known(word), "{word:x}");
+    }
 }
 
 /// A branch's address and displacement, and its target.
@@ -243,48 +243,48 @@ const TARGETS: [(u32, i32, u32); 4] = [
 #[test]
 fn targets(rt: HostRuntime) {
     for (address, disp, to) in TARGETS {
-        assert_eq!(rt; target(address, disp), to);
+        assert!(rt; target(address, disp) == to);
     }
 }
 
 /// A word, what its fields are set to, and the word that comes out: of LDIL, of a displacement, of BL.
-/// The last row of each is no instruction's word, and keeps its other bits.
-const LEFT: [(u32, u32, u32); 4] = [
-    (0x2020_0000, 2_097_151, 0x203f_ffff),
-    (0x22e0_0000, 74_565, 0x22f1_9122),
-    (0x203f_ffff, 0, 0x2020_0000),
-    (0xffff_ffff, 0, 0xffe0_0000),
-];
+type SetRow = ((u32, u32, u32), (u32, i32, u32), (u32, u32, u32));
 
-const RIGHT: [(u32, i32, u32); 4] = [
-    (0x48a7_0000, -4, 0x48a7_3ff9),
-    (0x37de_0080, 0, 0x37de_0000),
-    (0x341c_0002, 8191, 0x341c_3ffe),
-    (0xffff_ffff, -8192, 0xffff_c001),
-];
-
-const BRANCH: [(u32, u32, u32); 4] = [
-    (0xe840_0000, 0xffff_fffe, 0xe85f_1ff5),
-    (0xe840_0002, 3, 0xe840_001a),
-    (0xe840_0002, 0x1_0000, 0xe840_0003),
-    (0xffff_ffff, 0, 0xffe0_e002),
+// The last row is of no instruction's word, whose other bits are kept.
+const SET: [SetRow; 4] = [
+    (
+        (0x2020_0000, 2_097_151, 0x203f_ffff),
+        (0x48a7_0000, -4, 0x48a7_3ff9),
+        (0xe840_0000, 0xffff_fffe, 0xe85f_1ff5),
+    ),
+    (
+        (0x22e0_0000, 74_565, 0x22f1_9122),
+        (0x37de_0080, 0, 0x37de_0000),
+        (0xe840_0002, 3, 0xe840_001a),
+    ),
+    (
+        (0x203f_ffff, 0, 0x2020_0000),
+        (0x341c_0002, 8191, 0x341c_3ffe),
+        (0xe840_0002, 0x1_0000, 0xe840_0003),
+    ),
+    (
+        (0xffff_ffff, 0, 0xffe0_0000),
+        (0xffff_ffff, -8192, 0xffff_c001),
+        (0xffff_ffff, 0, 0xffe0_e002),
+    ),
 ];
 
 #[test]
 fn fields_set(rt: HostRuntime) {
-    for i in 0..4 {
-        let ((a, im, left), (b, disp, right), (c, q, branch)) = (LEFT[i], RIGHT[i], BRANCH[i]);
-        let found = (
-            set_long_immediate(a, im),
-            set_displacement(b, disp),
-            set_branch(c, q),
-        );
-        assert_eq!(rt; found, (left, right, branch), "{i}");
+    for (left, right, branch) in SET {
+        let holds = set_long_immediate(left.0, left.1) == left.2
+            && set_displacement(right.0, right.1) == right.2
+            && set_branch(branch.0, branch.1) == branch.2;
+        assert!(rt; holds);
     }
 }
 
 #[test]
 fn parts_of_an_address(rt: HostRuntime) {
-    let found = (left_part(0x1234_5fff), right_part(0x1234_5fff));
-    assert_eq!(rt; found, (0x2_468b, 0x7ff));
+    assert!(rt; left_part(0x1234_5fff) == 0x2_468b && right_part(0x1234_5fff) == 0x7ff);
 }

@@ -35,18 +35,23 @@ fn run_loaded(alloc: Global, file: &[u8], budget: u64) -> Result<String, AllocEr
     }
 }
 
+/// Whether the program in a file does this, in turns of so many steps.
+fn does_as_told(alloc: Global, file: &[u8], budget: u64, wanted: &str) -> Result<bool, AllocError> {
+    Ok(run_loaded(alloc, file, budget)?.as_str() == wanted)
+}
+
+/// A file, how many steps a turn has, and what the program in it does.
+const RUNS: [(&[u8], u64, &str); 3] = [
+    (&BAD_BREAK, 100, "Halted(BadBreak, 4096) 1 []"),
+    (&PROGRAM, 1, "Ended(42) 6 [97]"),
+    (&PROGRAM, 100, "Ended(42) 6 [97]"),
+];
+
 #[test]
 fn runs(rt: HostRuntime) -> Result<(), Fail> {
-    let one = run_loaded(rt.alloc(), &BAD_BREAK, 100)?;
-    let two = run_loaded(rt.alloc(), &PROGRAM, 1)?;
-    let three = run_loaded(rt.alloc(), &PROGRAM, 100)?;
-    let found = (one.as_str(), two.as_str(), three.as_str());
-    let wanted = (
-        "Halted(BadBreak, 4096) 1 []",
-        "Ended(42) 6 [97]",
-        "Ended(42) 6 [97]",
-    );
-    assert_eq!(rt; found, wanted);
+    for (file, budget, wanted) in RUNS {
+        assert!(rt; does_as_told(rt.alloc(), file, budget, wanted)?, "{wanted}");
+    }
     Ok(())
 }
 
@@ -62,52 +67,55 @@ const WORDS: [(u32, Option<u32>); 8] = [
     (67_108_860, Some(0)),
 ];
 
-/// The front, the count of steps and the stack of the program that is loaded, and whether it has its words.
-fn loaded(alloc: Global) -> Option<(u32, u128, u32, bool)> {
+/// Whether the program is loaded with its front, no steps, its stack and its words.
+fn is_program_loaded(alloc: Global) -> bool {
     match Machine::load(alloc, &PROGRAM) {
-        Ok(m) => Some((m.front(), m.steps(), m.reg(30), has_words(&m, &WORDS))),
-        Err(_) => None,
+        Ok(m) => {
+            m.front() == 4100 && m.steps() == 0 && m.reg(30) == 4224 && has_words(&m, &WORDS)
+        }
+        Err(_) => false,
     }
 }
 
 // The data start at 4,128 and end at 4,144, so that the stack begins at 4,224.
 #[test]
 fn a_program(rt: HostRuntime) {
-    assert_eq!(rt; loaded(rt.alloc()), Some((4100, 0, 4224, true)));
+    assert!(rt; is_program_loaded(rt.alloc()));
 }
 
-/// The word at 4,136 after the program has run.
-fn stored(alloc: Global) -> Result<Option<u32>, Fail> {
-    let mut machine = Machine::load(alloc, &PROGRAM).ok().ok_or("no machine")?;
-    let _ = run_in_turns(alloc, &mut machine, b"", 100)?;
-    Ok(machine.word_at(4136))
+/// Whether the word at 4,136 is 42 after the program has run.
+fn is_word_stored(alloc: Global) -> Result<bool, AllocError> {
+    match Machine::load(alloc, &PROGRAM) {
+        Ok(mut machine) => {
+            let _ = run_in_turns(alloc, &mut machine, b"", 100)?;
+            Ok(machine.word_at(4136) == Some(42))
+        }
+        Err(_) => Ok(false),
+    }
 }
 
 #[test]
 fn a_stored_word(rt: HostRuntime) -> Result<(), Fail> {
-    assert_eq!(rt; stored(rt.alloc())?, Some(42));
+    assert!(rt; is_word_stored(rt.alloc())?);
     Ok(())
 }
 
-/// The front of a machine that is loaded.
-fn front_of(alloc: Global, file: &[u8]) -> Option<u32> {
+/// Whether a machine that is loaded begins at this address.
+fn begins_at(alloc: Global, file: &[u8], front: u32) -> bool {
     match Machine::load(alloc, file) {
-        Ok(machine) => Some(machine.front()),
-        Err(_) => None,
+        Ok(machine) => machine.front() == front,
+        Err(_) => false,
     }
 }
 
 #[test]
 fn entries(rt: HostRuntime) {
-    let found = (
-        front_of(rt.alloc(), &BAD_BREAK),
-        front_of(rt.alloc(), &PROGRAM),
-    );
-    assert_eq!(rt; found, (Some(4096), Some(4100)));
+    let bad = begins_at(rt.alloc(), &BAD_BREAK, 4096);
+    assert!(rt; bad && begins_at(rt.alloc(), &PROGRAM, 4100));
 }
 
 /// A byte of the file, what it becomes, and the offset of the first field that breaks its rule by it.
-const DAMAGES: [(usize, u8, usize); 30] = [
+static DAMAGES: [(usize, u8, usize); 30] = [
     // kind, length, version
     (0, 81, 0),
     (7, 166, 4),
@@ -148,18 +156,23 @@ const DAMAGES: [(usize, u8, usize); 30] = [
     (166, 0, 135),
 ];
 
-/// What loading damaged bytes answers.
-fn fault_of(alloc: Global, bytes: &[u8]) -> Option<LoadError> {
-    Machine::load(alloc, bytes).err()
+/// The offset of the fault in damaged bytes.
+fn fault_of(alloc: Global, bytes: &[u8]) -> Option<usize> {
+    match Machine::load(alloc, bytes) {
+        Err(LoadError::LoadFault { at }) => Some(at),
+        _ => None,
+    }
 }
 
 #[test]
 fn damaged_files(rt: HostRuntime) {
-    for (place, byte, at) in DAMAGES {
+    for (place, byte, at) in DAMAGES.iter() {
         let mut damaged = PROGRAM;
-        damaged[place % 167] = byte;
-        let found = fault_of(rt.alloc(), &damaged);
-        assert_eq!(rt; found, Some(LoadError::LoadFault { at }), "{place} {byte}");
+        damaged[*place % 167] = *byte;
+        assert!(rt;
+            fault_of(rt.alloc(), &damaged) == Some(*at),
+            "{place} {byte}"
+        );
     }
 }
 
@@ -170,7 +183,6 @@ const LENGTHS: [(usize, usize); 5] = [(0, 0), (3, 0), (7, 4), (10, 4), (11, 8)];
 fn short_files(rt: HostRuntime) {
     let short = [80u8, 65, 87, 73, 0, 0, 0, 11, 0, 0, 0];
     for (len, at) in LENGTHS {
-        let found = fault_of(rt.alloc(), &short[..len]);
-        assert_eq!(rt; found, Some(LoadError::LoadFault { at }), "{len}");
+        assert!(rt; fault_of(rt.alloc(), &short[..len]) == Some(at), "{len}");
     }
 }

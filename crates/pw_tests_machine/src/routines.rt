@@ -2,6 +2,7 @@
 //! writes what it gave. The results are from gcc.
 
 use crate::pairs::PAIRS;
+use crate::programs::{machine_of, words_of};
 use pw_io::{SureSink, SureSource};
 use pw_machine::{Machine, Stop};
 use pw_milli::{Routine, library};
@@ -38,47 +39,41 @@ const NOP: u32 = 0x0800_0240;
 /// The registers that a routine of arithmetic may change.
 const SCRATCH: [usize; 7] = [1, 21, 22, 25, 26, 28, 29];
 
-/// A program with routines behind it.
-fn program(alloc: Global, text: &str, routines: &[Routine]) -> Result<Machine, Fail> {
-    let mut words = Vec::new(alloc);
-    for word in text.split_whitespace() {
-        words.push(u32::from_str_radix(word, 16)?)?;
-    }
+/// Appends the words of routines, and one behind them.
+fn push_routines(words: &mut Vec<u32>, routines: &[Routine]) -> Result<(), AllocError> {
     for routine in routines {
-        for word in routine.words {
-            words.push(*word)?;
-        }
+        words.extend_from_slice(routine.words)?;
     }
     words.push(NOP)?;
-    if words.len() > 65_536 {
-        return Err(Fail::from("no program"));
-    }
-    Ok(Machine::from_words(alloc, &words, 4096)?)
+    Ok(())
 }
 
-/// A column of the table, and what stands in place of `-`.
-fn column(alloc: Global, index: usize) -> Result<Vec<Option<u32>>, Fail> {
-    let mut numbers = Vec::new(alloc);
-    for line in PAIRS.lines() {
-        let text = line.split_whitespace().nth(index).ok_or("no column")?;
-        if text == "-" {
-            numbers.push(None)?;
-        } else {
-            numbers.push(Some(u32::from_str_radix(text, 16)?))?;
-        }
+/// The words of a text with routines behind them.
+fn words_with(alloc: Global, text: &str, routines: &[Routine]) -> Result<Vec<u32>, Fail> {
+    let mut words = words_of(alloc, text)?;
+    push_routines(&mut words, routines)?;
+    Ok(words)
+}
+
+/// A program with routines behind it.
+fn program(alloc: Global, text: &str, routines: &[Routine]) -> Result<Machine, Fail> {
+    let words = words_with(alloc, text, routines)?;
+    machine_of(alloc, &words)
+}
+
+/// Appends the operands of a line of the table.
+fn push_operands(bytes: &mut Vec<u8>, line: &str) -> Result<(), Fail> {
+    for text in line.split_whitespace().take(2) {
+        bytes.extend_from_slice(&u32::from_str_radix(text, 16)?.to_be_bytes())?;
     }
-    Ok(numbers)
+    Ok(())
 }
 
 /// The operands as the caller reads them.
 fn operands(alloc: Global) -> Result<Vec<u8>, Fail> {
     let mut bytes = Vec::new(alloc);
     for line in PAIRS.lines() {
-        for text in line.split_whitespace().take(2) {
-            for byte in u32::from_str_radix(text, 16)?.to_be_bytes() {
-                bytes.push(byte)?;
-            }
-        }
+        push_operands(&mut bytes, line)?;
     }
     Ok(bytes)
 }
@@ -88,39 +83,54 @@ fn run(machine: &mut Machine, input: &mut SureSource, out: &mut SureSink, budget
     machine.run(input, out, budget)
 }
 
-/// The words that the caller wrote.
-fn written(alloc: Global, bytes: &[u8]) -> Result<Vec<u32>, Fail> {
-    let mut words = Vec::new(alloc);
-    let mut word = 0u32;
-    for (i, byte) in bytes.iter().enumerate() {
-        word = (word << 8) | u32::from(*byte);
-        if i % 4 == 3 {
-            words.push(word)?;
-        }
+/// What a machine writes before it ends with 300, of which the low 8 bits are left.
+fn output(alloc: Global, machine: &mut Machine, text: &[u8]) -> Result<SureSink, Fail> {
+    let mut input = SureSource::new(alloc, text)?;
+    let mut out = SureSink::new(alloc, 4000)?;
+    match run(machine, &mut input, &mut out, 1_000_000) {
+        Stop::Ended(44) => Ok(out),
+        _ => Err(Fail::from("no end")),
     }
-    Ok(words)
+}
+
+/// Whether four bytes are the word that a column of a line of the table has; whatever they are where that
+/// has `-`.
+fn is_wanted(line: &str, index: usize, bytes: &[u8]) -> bool {
+    match line.split_whitespace().nth(index) {
+        Some("-") => true,
+        Some(text) => match u32::from_str_radix(text, 16) {
+            Ok(word) => word.to_be_bytes().as_slice() == bytes,
+            Err(_) => false,
+        },
+        None => false,
+    }
+}
+
+/// Whether bytes are, line for line, the words that a column of the table has.
+fn are_wanted(bytes: &[u8], index: usize) -> bool {
+    let mut rest = bytes;
+    for line in PAIRS.lines() {
+        let Some((word, behind)) = rest.split_at_checked(4) else {
+            return false;
+        };
+        if !is_wanted(line, index, word) {
+            return false;
+        }
+        rest = behind;
+    }
+    rest.is_empty()
+}
+
+/// The caller with a routine behind it.
+fn caller(alloc: Global, name: &str) -> Result<Machine, Fail> {
+    program(alloc, CALLER, &[named(name)?])
 }
 
 /// Whether a routine gives, on all pairs, what a column of the table has.
 fn are_results(alloc: Global, name: &str, index: usize) -> Result<bool, Fail> {
-    let wanted = column(alloc, index)?;
-    let got = results_of(alloc, name)?;
-    let same = got
-        .iter()
-        .zip(wanted.iter())
-        .all(|(word, want)| want.is_none() || *want == Some(*word));
-    Ok(same && got.len() == wanted.len())
-}
-
-/// What a routine gives on all pairs.
-fn results_of(alloc: Global, name: &str) -> Result<Vec<u32>, Fail> {
-    let mut input = SureSource::new(alloc, &operands(alloc)?)?;
-    let mut out = SureSink::new(alloc, 4000)?;
-    let mut machine = program(alloc, CALLER, &[named(name)?])?;
-    match run(&mut machine, &mut input, &mut out, 1_000_000) {
-        Stop::Ended(44) => written(alloc, out.bytes()),
-        _ => Err(Fail::from("no end")),
-    }
+    let bytes = operands(alloc)?;
+    let mut machine = caller(alloc, name)?;
+    Ok(are_wanted(output(alloc, &mut machine, &bytes)?.bytes(), index))
 }
 
 /// The routine of a name.
@@ -151,6 +161,16 @@ fn memory(alloc: Global, machine: &Machine) -> Result<Vec<Option<u32>>, AllocErr
     Ok(words)
 }
 
+/// Whether these are the words of that memory.
+fn has_memory(machine: &Machine, words: &[Option<u32>]) -> bool {
+    for i in 0u32..1000 {
+        if words.get(i as usize).copied() != Some(machine.word_at(4096 + 4 * i)) {
+            return false;
+        }
+    }
+    true
+}
+
 /// Steps to the next call of the routine; whether there is one.
 fn comes_to_call(machine: &mut Machine, input: &mut SureSource, out: &mut SureSink) -> bool {
     for _ in 0u32..200 {
@@ -178,10 +198,11 @@ fn call_steps(
     None
 }
 
-/// Whether registers differ in scratch registers alone.
-fn kept(before: &[u32], after: &[u32]) -> bool {
-    for (r, (old, new)) in before.iter().zip(after.iter()).enumerate() {
-        if old != new && !SCRATCH.contains(&r) {
+/// Whether registers differ from what they were in scratch registers alone.
+fn kept(before: &[u32], machine: &Machine) -> bool {
+    for r in 0u8..32 {
+        let place = usize::from(r);
+        if before.get(place).copied() != Some(machine.reg(r)) && !SCRATCH.contains(&place) {
             return false;
         }
     }
@@ -202,20 +223,7 @@ fn next_call(
     }
     let before = registers(alloc, machine)?;
     let steps = call_steps(machine, input, out, bound.saturating_add(1));
-    let after = registers(alloc, machine)?;
-    Ok(steps.filter(|_| kept(&before, &after)))
-}
-
-/// Steps through calls on all pairs: the greatest count of steps of one, if each takes no more than `bound`
-/// steps and changes scratch registers alone, and if the memory is as before.
-fn most_steps(alloc: Global, name: &str, bound: u32) -> Result<Option<u32>, Fail> {
-    let mut input = SureSource::new(alloc, &operands(alloc)?)?;
-    let mut out = SureSink::new(alloc, 4000)?;
-    let mut machine = program(alloc, CALLER, &[named(name)?])?;
-    let start = memory(alloc, &machine)?;
-    let most = most_in_turn(alloc, &mut machine, &mut input, &mut out, bound)?;
-    let end = memory(alloc, &machine)?;
-    Ok(most.filter(|_| end == start))
+    Ok(if kept(&before, machine) { steps } else { None })
 }
 
 /// The greatest count of steps of the calls on all pairs, if each is as it should be.
@@ -234,6 +242,32 @@ fn most_in_turn(
         }
     }
     Ok(Some(most))
+}
+
+/// The same of the calls with these operands.
+fn most_on(
+    alloc: Global,
+    machine: &mut Machine,
+    operands: &[u8],
+    bound: u32,
+) -> Result<Option<u32>, AllocError> {
+    let mut input = SureSource::new(alloc, operands)?;
+    let mut out = SureSink::new(alloc, 4000)?;
+    most_in_turn(alloc, machine, &mut input, &mut out, bound)
+}
+
+/// Steps through calls on all pairs: the greatest count of steps of one, if each takes no more than `bound`
+/// steps and changes scratch registers alone, and if the memory is as before.
+fn most_steps(alloc: Global, name: &str, bound: u32) -> Result<Option<u32>, Fail> {
+    let bytes = operands(alloc)?;
+    let mut machine = caller(alloc, name)?;
+    let start = memory(alloc, &machine)?;
+    let most = most_on(alloc, &mut machine, &bytes, bound)?;
+    Ok(if has_memory(&machine, &start) {
+        most
+    } else {
+        None
+    })
 }
 
 /// Routines, and their columns in the table.
@@ -266,30 +300,21 @@ const STEPS: [(&str, u32, u32); 5] = [
 #[test]
 fn steps(rt: HostRuntime) -> Result<(), Fail> {
     for (name, bound, greatest) in STEPS {
-        assert_eq!(rt;
-            most_steps(rt.alloc(), name, bound)?,
-            Some(greatest),
-            "{name}"
-        );
+        let most = most_steps(rt.alloc(), name, bound)?;
+        assert!(rt; most == Some(greatest), "{name}");
     }
     Ok(())
 }
 
-/// What the library's three functions echo of an input before the program ends with the low 8 bits of 300.
-fn echoed(alloc: Global, text: &[u8]) -> Result<Vec<u8>, Fail> {
+/// Whether the library's three functions echo an input before the program ends.
+fn is_echoed(alloc: Global, text: &[u8]) -> Result<bool, Fail> {
     let routines = [named("exit")?, named("getchar")?, named("putchar")?];
     let mut machine = program(alloc, ECHO, &routines)?;
-    let mut input = SureSource::new(alloc, text)?;
-    let mut out = SureSink::new(alloc, 100)?;
-    match run(&mut machine, &mut input, &mut out, 1000) {
-        Stop::Ended(44) => Ok(Vec::from_slice(alloc, out.bytes())?),
-        _ => Err(Fail::from("no end")),
-    }
+    Ok(output(alloc, &mut machine, text)?.bytes() == text)
 }
 
 #[test]
 fn echo(rt: HostRuntime) -> Result<(), Fail> {
-    let found = echoed(rt.alloc(), b"to be, or not")?;
-    assert_eq!(rt; found.as_slice(), b"to be, or not".as_slice());
+    assert!(rt; is_echoed(rt.alloc(), b"to be, or not")?);
     Ok(())
 }

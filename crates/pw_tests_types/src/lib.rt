@@ -1,4 +1,4 @@
-//! Tests of values and of types: what the contracts do not say, as tables whose expected values are
+//! Tests of types and typed trees: what the contracts do not say, as tables whose expected values are
 //! written by hand. It has no code of its own.
 #![tactic(auto)]
 
@@ -6,5 +6,3 @@
 mod typed;
 #[cfg(test)]
 mod types;
-#[cfg(test)]
-mod values;

@@ -156,14 +156,15 @@ fn function(alloc: Global, operands: u32) -> Result<TFunction, Fail> {
     })
 }
 
-/// The room of a function of a module without records.
-fn room_in(alloc: Global, f: TFunction) -> u64 {
-    let types = Types::new(alloc);
-    room(&types, &f)
+/// The same in a box.
+fn boxed_function(alloc: Global, operands: u32) -> Result<Box<TFunction>, Fail> {
+    Ok(Box::new(alloc, function(alloc, operands)?)?)
 }
 
+/// The room of the function in a module without records.
 fn room_of(alloc: Global, operands: u32) -> Result<u64, Fail> {
-    Ok(room_in(alloc, function(alloc, operands)?))
+    let f = boxed_function(alloc, operands)?;
+    Ok(room(&Types::new(alloc), &f))
 }
 
 /// By its body, the room of
@@ -227,12 +228,9 @@ fn arms(alloc: Global, count: u32) -> Result<TStmt, NoMemory> {
     Ok(stmt(TStmtForm::If(arms, Some(otherwise))))
 }
 
-fn nodes_in(s: TStmt) -> u64 {
-    stmt_nodes(&s)
-}
-
 fn nodes_of_arms(alloc: Global, count: u32) -> Result<u64, NoMemory> {
-    Ok(nodes_in(arms(alloc, count)?))
+    let s = Box::new(alloc, arms(alloc, count)?)?;
+    Ok(stmt_nodes(&s))
 }
 
 /// Arms of an `if`, and its nodes: an arm has three, its condition and its statement among them.
@@ -254,7 +252,8 @@ fn labelled(alloc: Global, count: u32) -> Result<TStmt, NoMemory> {
 }
 
 fn nodes_of_labels(alloc: Global, count: u32) -> Result<u64, NoMemory> {
-    Ok(nodes_in(labelled(alloc, count)?))
+    let s = Box::new(alloc, labelled(alloc, count)?)?;
+    Ok(stmt_nodes(&s))
 }
 
 /// Labels of a statement, and its nodes.

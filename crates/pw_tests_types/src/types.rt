@@ -73,7 +73,7 @@ fn promotions(rt: HostRuntime) {
 const PIECE: Value = Value::Piece(Pointer::Function(1), 2);
 
 /// A value, an integer type, and the value converted to it.
-const CONVERTED: [(Value, IntKind, Value); 8] = [
+static CONVERTED: [(Value, IntKind, Value); 8] = [
     (Value::Num(200), IntKind::Char, Value::Num(0xffff_ffc8)),
     (Value::Num(200), IntKind::UChar, Value::Num(200)),
     (Value::Num(0xffff_ffff), IntKind::UShort, Value::Num(65535)),
@@ -94,8 +94,8 @@ const CONVERTED: [(Value, IntKind, Value); 8] = [
 
 #[test]
 fn conversions(rt: HostRuntime) {
-    for (value, to, wanted) in CONVERTED {
-        assert!(rt; convert(value, to) == wanted);
+    for (value, to, wanted) in CONVERTED.iter() {
+        assert!(rt; convert(*value, *to) == *wanted);
     }
 }
 
@@ -197,7 +197,7 @@ type Row = (
     bool,
 );
 
-const TYPES: [Row; 25] = [
+static TYPES: [Row; 25] = [
     ("c", Some(1), 1, "c", 0, None, true),
     ("a", Some(1), 1, "a", 0, None, true),
     ("h", Some(1), 1, "h", 0, None, true),
@@ -285,7 +285,7 @@ fn holds(alloc: Global, types: &Types, row: &Row) -> Result<bool, NoMemory> {
 #[test]
 fn types(rt: HostRuntime) -> Result<(), Fail> {
     let types = Types::new(rt.alloc());
-    for row in &TYPES {
+    for row in TYPES.iter() {
         assert!(rt; holds(rt.alloc(), &types, row)?, "{}", row.0);
     }
     Ok(())
@@ -308,7 +308,7 @@ type RecordRow = (
 ///     struct point { char a; volatile short b; }
 ///     union both { struct point p; int c; }
 ///     struct { char tag; struct point many[3]; short v; union both x; }
-const RECORDS: [RecordRow; 4] = [
+static RECORDS: [RecordRow; 4] = [
     (
         RecordKind::Structure,
         "cs3]i",
@@ -400,7 +400,7 @@ fn is_record_as(
 #[test]
 fn records(rt: HostRuntime) -> Result<(), Fail> {
     let mut types = Types::new(rt.alloc());
-    for row in &RECORDS {
+    for row in RECORDS.iter() {
         let number = define(&rt, rt.alloc(), &mut types, row)?;
         assert!(rt; is_record_as(rt.alloc(), &types, number, row)?, "{}", row.1);
     }

@@ -1,4 +1,4 @@
-use Rattle.std.proofs.Common.{◌≡◌, [], Some, drop}
+use Rattle.std.proofs.Common.{◌≡◌, drop}
 use Rattle.pw_walk.specs.Walks.{outcome}
 use Rattle.pw_checking.specs.StateViews.{view_state}
 use Rattle.pw_rules.specs.Phrases.{member_declarators_rule}

@@ -1,7 +1,8 @@
-use Rattle.std.proofs.Common.{arith, rules, None, ap, sym, ◌∙◌}
+use Rattle.std.proofs.Common.{arith, rules, None, reverse, ap, sym, ◌∙◌}
 use Rattle.pw_turns.proofs.Turns.{turn_kept, turn_stopped, turns_over}
 use Rattle.pw_tree.specs.Views.{view_suffixes}
 use Rattle.pw_walk.specs.Walks.{outcome}
+use Rattle.pw_checking.specs.PhraseViews.{view_derivations}
 use Rattle.pw_checking.specs.StateViews.{view_state}
 use Rattle.pw_derived.specs.Declaring.{suffixes_behind}
 use Rattle.pw_derived.specs.Views.{view_suffixed}
@@ -13,6 +14,8 @@ pub loop-next-init : goal.loop-next-init
 loop-next-init g c =
     ap outcome (sym (all_suffixes (view_suffixes c.args.list.now) (view_state c.args.state.now)))
     ∙ ap (λ ds. outcome (suffixes_behind (view_suffixes c.args.list.now) (record { derivations = ds; bindings = None }) (view_state c.args.state.now))) turned_none
+    ∙ ap (λ steps. outcome (suffixes_behind (view_suffixes c.args.list.now) (record { derivations = view_derivations (reverse steps); bindings = None }) (view_state c.args.state.now)))
+    (sym c.new.ensures.items)
 
 pub loop-next-preserved : goal.loop-next-preserved
 loop-next-preserved g c =

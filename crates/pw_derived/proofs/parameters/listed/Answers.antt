@@ -1,4 +1,4 @@
-use Rattle.std.proofs.Common.{◌≡◌, Ok, ap, sym, ◌∙◌, rules, arith}
+use Rattle.std.proofs.Common.{Ok, ap, sym, ◌∙◌, rules}
 use Rattle.pw_walk.proofs.CallLaws.{made_by}
 use Rattle.pw_checking.specs.PhraseViews.{view_bindings}
 use Rattle.pw_checking.specs.StateViews.{view_state}

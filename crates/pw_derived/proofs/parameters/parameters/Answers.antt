@@ -1,4 +1,4 @@
-use Rattle.std.proofs.Common.{◌≡◌, ◌+◌, ◌-◌, ◌&&◌, arith, rules, drop, refl, ◌∙◌}
+use Rattle.std.proofs.Common.{◌≡◌, ◌+◌, ◌&&◌, arith, rules, drop, refl, ◌∙◌}
 use Rattle.pw_turns.proofs.Turns.{turn_kept, turn_stopped, turns_over}
 use Rattle.pw_tree.specs.Views.{view_parameters}
 use Rattle.pw_checking.specs.StateViews.{view_state}

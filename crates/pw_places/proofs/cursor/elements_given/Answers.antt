@@ -1,4 +1,4 @@
-use Rattle.std.proofs.Common.{◌≡◌, ◌∙◌, sym, arith}
+use Rattle.std.proofs.Common.{◌∙◌, sym, arith}
 use Rattle.std.proofs.lemmas.Grind.{common_steps}
 use Rattle.pw_places.proofs.CursorLemmas.{given_within}
 use Rattle.pw_places.proofs.cursor.elements_given.Goals as goal

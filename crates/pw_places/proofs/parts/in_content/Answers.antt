@@ -1,4 +1,4 @@
-use Rattle.std.proofs.Common.{◌≡◌, sym, arith}
+use Rattle.std.proofs.Common.{sym, arith}
 use Rattle.std.proofs.lemmas.Grind.{common_steps}
 use Rattle.pw_places.proofs.MemberLemmas.{both_found, no_member, no_offset}
 use Rattle.pw_places.proofs.parts.in_content.Goals as goal

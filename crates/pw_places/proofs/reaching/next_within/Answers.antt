@@ -1,4 +1,4 @@
-use Rattle.std.proofs.Common.{◌≡◌, sym}
+use Rattle.std.proofs.Common.{sym}
 use Rattle.pw_places.specs.Views.{view_cursor, view_frame}
 use Rattle.pw_places.proofs.ReachLemmas.{next_inner, next_outer}
 use Rattle.pw_places.proofs.reaching.next_within.Goals as goal

@@ -1,0 +1,6 @@
+//! Tests of values: what the contracts do not say, as tables whose expected values are written by hand. It
+//! has no code of its own.
+#![tactic(auto)]
+
+#[cfg(test)]
+mod values;
