@@ -1,7 +1,8 @@
 //! A folder's files as a store, which tells what the folder tells.
 
-ghost use Rattle.std.specs.Prelude.{◌≡◌, ◌↔◌, IfOk, IfSome, take};
+ghost use Rattle.std.specs.Prelude.{◌≡◌, ◌↔◌, IfOk, IfErr, IsOk, OnOk, IfSome, take};
 ghost use Rattle.std.specs.IoError.{error_kind};
+ghost use Rattle.pw_io.specs.Faults.{HasStoreCause};
 ghost use Rattle.pw_system.specs.Faults.{IsCounted};
 
 use crate::folder::Folder;
@@ -27,7 +28,11 @@ fn front_of<R: Read + Drop>(alloc: Global, reader: R, most: usize) -> io::Result
 }
 
 impl<F> FileStore<F> {
-    pub fn new(folder: F) -> Self {
+    /// The files of this folder. No fault came so far.
+    pub fn new(folder: F) -> Self
+        ensures folder { result.folder ≡ folder }
+        ensures faults { result.faults ≡ 0 }
+    {
         FileStore { folder, faults: 0 }
     }
 
@@ -53,6 +58,20 @@ impl<F> FileStore<F> {
         }
         self.failed()
     }
+
+    /// What a fault is to a call for which an absent file is none: exactly where its kind is not found it is no fault.
+    fn unless_absent(&mut self, fault: io::Error) -> Result<(), StoreError>
+        ensures absent { error_kind fault ≡ ErrorKind.NotFound → IsOk result }
+        ensures found { OnOk result (error_kind fault ≡ ErrorKind.NotFound) }
+        ensures memory { IfErr result (λ e. (e ≡ StoreError.NoMemory) ↔ (error_kind fault ≡ ErrorKind.OutOfMemory)) }
+        ensures counted { HasStoreCause self.old.faults self.new.faults result }
+        ensures folder { self.new.folder ≡ self.old.folder }
+    {
+        if fault.kind() == ErrorKind::NotFound {
+            return Ok(());
+        }
+        Err(self.fault(fault))
+    }
 }
 
 impl<F: Folder> Store for FileStore<F> {
@@ -75,8 +94,10 @@ impl<F: Folder> Store for FileStore<F> {
     ) -> Result<Option<Vec<u8>>, StoreError> {
         let file = match self.folder.open(name) {
             Ok(file) => file,
-            Err(fault) if fault.kind() == ErrorKind::NotFound => return Ok(None),
-            Err(fault) => return Err(self.fault(fault)),
+            Err(fault) => {
+                self.unless_absent(fault)?;
+                return Ok(None);
+            }
         };
         match front_of(alloc, file, most) {
             Ok(bytes) => Ok(Some(bytes)),
@@ -95,8 +116,7 @@ impl<F: Folder> Store for FileStore<F> {
     fn remove(&mut self, _alloc: Global, name: &str) -> Result<(), StoreError> {
         match self.folder.remove(name) {
             Ok(()) => Ok(()),
-            Err(fault) if fault.kind() == ErrorKind::NotFound => Ok(()),
-            Err(fault) => Err(self.fault(fault)),
+            Err(fault) => self.unless_absent(fault),
         }
     }
 }

@@ -95,6 +95,7 @@ impl<R: Read> StdSource<R> {
     pub fn new(reader: R) -> Self
         ensures reader { result.reader ≡ reader }
         ensures block { result.block ≡ [] }
+        ensures faults { result.faults ≡ 0 }
     {
         StdSource {
             reader,
@@ -134,6 +135,7 @@ pub struct StdSink<W> {
 impl<W: Write> StdSink<W> {
     pub fn new(writer: W) -> Self
         ensures writer { result.writer ≡ writer }
+        ensures faults { result.faults ≡ 0 }
     {
         StdSink { writer, faults: 0 }
     }
