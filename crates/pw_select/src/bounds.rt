@@ -1,6 +1,7 @@
 //! The prologue and the epilogue.
 
 ghost use Rattle.std.specs.Prelude.{◌≡◌, ◌<◌, ◌+◌, ◌*◌, ◌^◌, ◌++◌, length, OnOk};
+ghost use Rattle.pw_alloc.specs.Frames.{head_size};
 ghost use Rattle.pw_registers.specs.Registers.{load_from, store_to};
 ghost use Rattle.pw_select.specs.Selection.{saved_lines, incoming, parameter_in, parameters_in, frame_end, frame_left, entry_lines, prologue, epilogue};
 ghost use Rattle.pw_select.specs.Selectable.{IsFrame};
@@ -177,13 +178,19 @@ fn put_frame_left(out: &mut Items<Line>, frame: u32) -> Result<(), AllocError>
     }
 }
 
-/// The epilogue.
-pub fn put_epilogue(alloc: Global, out: &mut Items<Line>, f: &Located) -> Result<(), AllocError>
-    requires { IsFrame f.now }
+/// The epilogue, by the size of the frame's head.
+pub fn put_epilogue(
+    alloc: Global,
+    out: &mut Items<Line>,
+    f: &Located,
+    head: u32,
+) -> Result<(), AllocError>
+    requires frame { IsFrame f.now }
+    requires head { head ≡ head_size f.now.body }
     ensures { OnOk result (out.new ≡ out.old ++ epilogue f.now) }
 {
     put_webs_stored(alloc, out, f.body.directives.webs.as_slice())?;
-    put_restores(out, head_size(&f.body), f.saved.as_slice())?;
+    put_restores(out, head, f.saved.as_slice())?;
     put_load(out, below(f.frame + 20), RETURN_ADDRESS)?;
     put_frame_left(out, f.frame)?;
     out.push(Line::Leave)

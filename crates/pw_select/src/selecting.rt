@@ -7,6 +7,7 @@ ghost use Rattle.pw_select.specs.Selection.{end_lines, block_lines, blocks_lines
 ghost use Rattle.pw_oplines.specs.Selectable.{IsSelectable};
 ghost use Rattle.pw_select.specs.Selectable.{IsFrame, IsSelectableBlock};
 ghost use Rattle.pw_alloc.specs.Allocation.{in_frame};
+ghost use Rattle.pw_alloc.specs.Frames.{head_size};
 ghost use Rattle.pw_alloc.specs.ValidPlaces.{IsLocated};
 ghost use Rattle.pw_delay.specs.Lines.{AreLines};
 
@@ -36,9 +37,16 @@ fn in_frame(places: &[Place]) -> u32
     count
 }
 
-/// The way on from a block.
-fn put_end(alloc: Global, out: &mut Items<Line>, f: &Located, end: End) -> Result<(), AllocError>
-    requires { IsFrame f.now }
+/// The way on from a block, by the size of the frame's head.
+fn put_end(
+    alloc: Global,
+    out: &mut Items<Line>,
+    f: &Located,
+    head: u32,
+    end: End,
+) -> Result<(), AllocError>
+    requires frame { IsFrame f.now }
+    requires head { head ≡ head_size f.now.body }
     ensures { OnOk result (out.new ≡ out.old ++ end_lines f.now end) }
 {
     match end {
@@ -48,10 +56,10 @@ fn put_end(alloc: Global, out: &mut Items<Line>, f: &Located, end: End) -> Resul
             out.push(Line::BranchNonZero(r, yes))?;
             out.push(Line::Jump(no))
         }
-        End::Return(None) => put_epilogue(alloc, out, f),
+        End::Return(None) => put_epilogue(alloc, out, f, head),
         End::Return(Some(a)) => {
             put_loaded(out, place_of(f.places.as_slice(), a), ANSWER)?;
-            put_epilogue(alloc, out, f)
+            put_epilogue(alloc, out, f, head)
         }
     }
 }
@@ -79,17 +87,19 @@ fn put_block(
     alloc: Global,
     out: &mut Items<Line>,
     f: &Located,
+    head: u32,
     slots: &[i32],
     number: u32,
     block: &WebBlock,
 ) -> Result<(), AllocError>
     requires frame { IsFrame f.now }
+    requires head { head ≡ head_size f.now.body }
     requires ops { IsSelectableBlock block.now }
     ensures { OnOk result (out.new ≡ out.old ++ block_lines f.now slots.now number block.now) }
 {
     out.push(Line::Label(number))?;
     put_ops(alloc, out, f.places.as_slice(), slots, block.ops.as_slice())?;
-    put_end(alloc, out, f, block.end)
+    put_end(alloc, out, f, head, block.end)
 }
 
 /// The lines of blocks, the first of which has the number 0.
@@ -97,21 +107,31 @@ fn put_blocks(
     alloc: Global,
     out: &mut Items<Line>,
     f: &Located,
+    head: u32,
     slots: &[i32],
     blocks: &[WebBlock],
 ) -> Result<(), AllocError>
     requires frame { IsFrame f.now }
+    requires head { head ≡ head_size f.now.body }
     requires ops { AllByRecursion IsSelectableBlock blocks.now }
     ensures { OnOk result (out.new ≡ out.old ++ blocks_lines f.now slots.now 0 blocks.now) }
 {
     let mut number: u32 = 0;
     let mut rest = blocks;
     while let [block, after @ ..] = rest {
-        put_block(alloc, out, f, slots, number, block)?;
+        put_block(alloc, out, f, head, slots, number, block)?;
         number = number.checked_add(1).ok_or(AllocError)?;
         rest = after;
     }
     Ok(())
+}
+
+/// The size of the frame's head. It is taken once, since it reads every operation.
+fn frame_head(f: &Located) -> u32
+    requires { IsLocated f.now }
+    ensures { result ≡ head_size f.now.body }
+{
+    head_size(&f.body)
 }
 
 /// The offsets of the slots of the frame.
@@ -133,12 +153,14 @@ fn select_lines(alloc: Global, f: &Located) -> Result<Items<Line>, AllocError>
     ensures { IfOk result (λ lines. lines ≡ selected f.now) }
 {
     let slots = frame_slots(alloc, f)?;
+    let head = frame_head(f);
     let mut out = Items::new(alloc);
     put_prologue(alloc, &mut out, f)?;
     put_blocks(
         alloc,
         &mut out,
         f,
+        head,
         slots.as_slice(),
         f.body.blocks.as_slice(),
     )?;
