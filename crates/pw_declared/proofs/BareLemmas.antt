@@ -1,5 +1,5 @@
 -- Declarations without declarators.
-use Rattle.std.proofs.Common.{◌≡◌, ℕ, Option, None, Some, List, [], ◌∷◌, length, get_or, refl, ap, sym, ◌∙◌, arith}
+use Rattle.std.proofs.Common.{◌≡◌, ℕ, None, Some, List, [], ◌∷◌, length, get_or, refl, ap, sym, ◌∙◌, arith}
 use Rattle.std.proofs.lemmas.Option.{none-some, same_Some}
 use Rattle.pw_tree.specs.Trees as S
 use Rattle.pw_tree.specs.Views.{view_expr, view_specifier, view_specifiers, view_word}

@@ -1,5 +1,5 @@
 -- The rules of declarations, as the code joins them: a declaration, or a declarator, behind what those before it gave.
-use Rattle.std.proofs.Common.{◌≡◌, ℕ, ◌<◌, Ok, Option, None, Some, is_some, List, [], ◌∷◌, ◌++◌, length, map, append_assoc, refl, ap, sym, ◌∙◌, arith}
+use Rattle.std.proofs.Common.{◌≡◌, ◌<◌, Ok, Option, None, Some, is_some, List, [], ◌∷◌, ◌++◌, length, append_assoc, refl, ap, sym, ◌∙◌, arith}
 use Rattle.std.proofs.lemmas.List.{append-nil, map-append}
 use Rattle.pw_tree.specs.Trees as S
 use Rattle.pw_tree.specs.Views.{view_decl, view_decls, view_init_declarator, view_init_declarators, view_initializer}

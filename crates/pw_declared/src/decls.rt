@@ -1,18 +1,21 @@
 //! Declarations (C90 6.5).
 
 ghost use Rattle.std.specs.Prelude.{◌≡◌, ◌++◌, IfOk};
-ghost use Rattle.pw_checking.specs.Follows.{Leads};
-ghost use Rattle.pw_checking.specs.PhraseViews.{view_specified, view_spot};
+ghost use Rattle.pw_checking.specs.Follows.{Follows, Leads};
+ghost use Rattle.pw_checking.specs.PhraseViews.{view_derivations, view_specified, view_spot};
 ghost use Rattle.pw_checking.specs.StateViews.{view_state};
 ghost use Rattle.pw_declared.specs.Parts as part;
 ghost use Rattle.pw_declared.specs.Views.{view_made};
 ghost use Rattle.pw_named.specs.Views.{view_sort};
 ghost use Rattle.pw_rules.specs.Declarations as spec;
+ghost use Rattle.pw_rules.specs.Derivations as building;
 ghost use Rattle.pw_tree.specs.Views.{view_decl, view_decls, view_init_declarator, view_init_declarators, view_initializer, view_specifiers, view_word};
 ghost use Rattle.pw_types.specs.Views.{view_qtype};
 
 use crate::bare::{bare_rule, storage_rule};
-use pw_checking::{Declared, Entity, Phrases, Specified, Spot, State, fault, first_of_list};
+use pw_checking::{
+    Declared, Derivation, Entity, Phrases, Specified, Spot, State, fault, first_of_list,
+};
 use pw_defined::{global_rule, linked_only, local_rule, static_rule};
 use pw_kinds::copy_qtype;
 use pw_limits::{built, spot_of};
@@ -97,6 +100,20 @@ fn named_rule<'a, P: Phrases<'a>>(
     declare_rule(alloc, phrases, state, sort, word, specified, q, initializer)
 }
 
+/// The type that a declarator makes of the type of its specifiers.
+fn type_built<'a>(
+    alloc: Global,
+    state: &State<'a>,
+    specified: &Specified,
+    spot: &Spot,
+    derivations: Vec<Derivation<'a>>,
+) -> Result<QType, CheckFault>
+    ensures { Follows view_qtype (building.built (view_spot spot.now) (view_derivations derivations.entry.items) (view_qtype specified.now.ty)) (view_state state.now) result }
+{
+    let base = copy_qtype(alloc, &specified.ty)?;
+    built(alloc, state, spot, derivations, base)
+}
+
 /// A declarator of a declaration, with its initialiser. The grammar gives it a name; without one it answers want of
 /// memory.
 fn init_declarator_rule<'a, P: Phrases<'a>>(
@@ -116,8 +133,7 @@ fn init_declarator_rule<'a, P: Phrases<'a>>(
         ..
     } = declared;
     let spot = spot_of(name, specified.first, specified.tag);
-    let base = copy_qtype(alloc, &specified.ty)?;
-    let q = built(alloc, state, &spot, derivations, base)?;
+    let q = type_built(alloc, state, specified, &spot, derivations)?;
     let Some(word) = name else {
         return Err(fault(CheckKind::NoMemory, spot.token));
     };

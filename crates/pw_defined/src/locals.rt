@@ -1,6 +1,6 @@
 //! Locals of automatic storage duration.
 
-ghost use Rattle.std.specs.Prelude.{◌≡◌, [], ◌∷◌, map, IfOk, OnOk};
+ghost use Rattle.std.specs.Prelude.{◌≡◌, false, [], ◌∷◌, map, IfOk, OnOk};
 ghost use Rattle.pw_checking.specs.Follows.{Leads};
 ghost use Rattle.pw_checking.specs.PhraseViews.{view_specified};
 ghost use Rattle.pw_checking.specs.StateViews.{view_state};
@@ -62,6 +62,17 @@ fn by_bytes(
     Ok(initialisers)
 }
 
+/// A hidden object for the bytes of a local, which are not known yet. The answer is its number.
+fn bytes_begun(alloc: Global, state: &mut State<'_>, q: &QType) -> Result<u32, AllocError>
+    ensures number { IfOk result (λ h. h ≡ states.next_hidden (view_state state.old)) }
+    ensures state { IfOk result (λ h. view_state state.new ≡ states.add_hidden (spec.hidden_of (view_qtype q.now) [] false) (view_state state.old)) }
+{
+    let hidden = state.next_hidden()?;
+    let begun = hidden_begun(alloc, q, false)?;
+    state.add_hidden(begun)?;
+    Ok(hidden)
+}
+
 /// By the bytes of a hidden object, which is made before what is in it.
 fn bytes_rule<'a, P: Phrases<'a>>(
     alloc: Global,
@@ -75,9 +86,7 @@ fn bytes_rule<'a, P: Phrases<'a>>(
     requires { P.can_check phrases.now }
     ensures { Leads view_local_made (spec.bytes_rule (view_word word.now) place (view_qtype q) (view_init init.now)) (view_state state.old) result (view_state state.new) }
 {
-    let hidden = state.next_hidden()?;
-    let begun = hidden_begun(alloc, &q, false)?;
-    state.add_hidden(begun)?;
+    let hidden = bytes_begun(alloc, state, &q)?;
     let cx = Context {
         token: word.token,
         constant: true,

@@ -1,13 +1,9 @@
-use Rattle.std.proofs.Common.{rules, refl, sym, ap, ◌∙◌, arith}
-use Rattle.std.proofs.lemmas.Grind.{common_steps}
-use Rattle.pw_checking.specs.PhraseViews.{view_specified}
+use Rattle.std.proofs.Common.{rules, refl}
 use Rattle.pw_checking.specs.StateViews.{view_state}
-use Rattle.pw_tree.specs.Views.{view_decl, view_init, view_init_declarator, view_init_declarators, view_initializer, view_specifiers, view_word}
+use Rattle.pw_tree.specs.Views.{view_init, view_word}
 use Rattle.pw_types.specs.Views.{view_qtype}
 use Rattle.pw_walk.proofs.CallLaws.{step_ok, step_err}
-use Rattle.pw_initial.specs.Views.{view_context}
 use Rattle.pw_initial.proofs.WalkLemmas.{same_walk, done_with}
-use Rattle.pw_defined.specs.Views.{view_made}
 use Rattle.pw_defined.proofs.ObjectLemmas.{single_joined}
 use Rattle.pw_defined.proofs.locals.single_rule.Goals as goal
 
