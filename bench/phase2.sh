@@ -22,10 +22,14 @@ cat > "$work/crates/bench_phase2/src/main.rt" <<'RATTLE'
 //! Runs of the second phase whose time is taken.
 #![tactic(auto)]
 
-use pw_db::Directives;
+ghost use Rattle.std.specs.Prelude.{IfOk};
+ghost use Rattle.pw_flow.specs.ValidFlow.{IsValid};
+ghost use Rattle.pw_phases.specs.Phases.{AreDirectivesOf};
+
+use pw_db::{Database, Directives, read_payload};
 use pw_flow::{BinKind, Block, End, ExtKind, FlowFn, FlowGlobal, FlowModule, Op, is_valid};
 use pw_items::Items;
-use pw_phases::phase_two;
+use pw_phases::{directives_for, phase_two};
 use pw_value::{Kind, Name, Shape};
 use std::alloc::{AllocError, Global};
 use std::io;
@@ -141,30 +145,32 @@ fn module(alloc: Global, sizes: &Sizes) -> Result<FlowModule, AllocError> {
     })
 }
 
-/// Each function without a web.
-fn directives(alloc: Global, flow: &FlowModule) -> Result<Vec<(Name, Directives)>, AllocError> {
-    let mut all = Vec::new(alloc);
-    for f in flow.functions.as_slice() {
-        all.push((f.name.copy(alloc)?, Directives::none(alloc)))?;
-    }
-    Ok(all)
+/// Each function of a lawful module without a web: its directives in a database of nothing.
+fn directives(alloc: Global, flow: &FlowModule) -> Result<Vec<(Name, Directives)>, AllocError>
+    requires { IsValid flow.now }
+    ensures { IfOk result (λ all. AreDirectivesOf flow.now all.items) }
+{
+    let Ok(functions) = read_payload(alloc, &[0; 8]) else {
+        return Err(AllocError);
+    };
+    directives_for(alloc, flow, &Database { functions })
 }
 
 /// Makes the object of a module.
 fn run(rt: &HostRuntime, sizes: &Sizes) -> io::Result<()> {
     let flow = module(rt.alloc(), sizes)?;
-    let directives = directives(rt.alloc(), &flow)?;
     if !is_valid(&flow) {
         return println!(rt; "the module is not lawful");
     }
+    let directives = directives(rt.alloc(), &flow)?;
     let start = rt.thread_cpu_time()?;
     let object = phase_two(rt.alloc(), &flow, &directives)?;
     let end = rt.thread_cpu_time()?;
-    let mut words = 0;
+    let mut words = 0usize;
     for f in object.functions.as_slice() {
-        words += f.words.len();
+        words = f.words.len().wrapping_add(words);
     }
-    println!(rt; "{} functions, {} operations, {words} words: {} milliseconds", sizes.parts, sizes.parts * sizes.blocks * OPS, end.saturating_sub(start).as_millis())
+    println!(rt; "{} functions, {} operations, {words} words: {} milliseconds", sizes.parts, sizes.parts.wrapping_mul(sizes.blocks).wrapping_mul(OPS), end.saturating_sub(start).as_millis())
 }
 
 fn main(rt: HostRuntime) -> io::Result<()> {

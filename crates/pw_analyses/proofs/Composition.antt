@@ -7,16 +7,17 @@ use Rattle.pw_trace.specs.Traces.{Event}
 use Rattle.pw_trace.specs.Traffic.{ObeysTraffic}
 use Rattle.pw_webrun.specs.Programs.{graph_of}
 use Rattle.pw_layers.specs.Lowering.{flow_program}
-use Rattle.pw_analyses.specs.Graphs.{named_graph}
+use Rattle.pw_graph_laws.specs.Graphs.{named_graph}
+use Rattle.pw_graph_laws.specs.Laws.{SummariesSayTheSame}
 use Rattle.pw_analyses.specs.Laws.{AnalysesCompose}
 
--- by what soundness and traffic rest on
+-- by what soundness and traffic rest on, and the one call graph
 pub composes : ((g h : Graph) (d : List (List ℕ × Directives)) → SayTheSame g h → Sound g d → Sound h d)
     → ((g h : Graph) (d : List (List ℕ × Directives)) (l : List (Event ℕ ℕ)) → SayTheSame g h → ObeysTraffic h d l → ObeysTraffic g d l)
-    → AnalysesCompose
-composes sound_again traffic_again lawful sound same covered p frame_of stack ss colours db accepted summarise linked few i =
+    → SummariesSayTheSame → AnalysesCompose
+composes sound_again traffic_again same lawful sound covered p frame_of stack ss colours db accepted summarise linked few i =
     let q = flow_program p frame_of stack in
-    let one : SayTheSame (named_graph ss i.graph) (graph_of q) = same p frame_of stack ss i.graph accepted summarise linked i.graph_of in
+    let one : SayTheSame (named_graph ss i.graph) (graph_of q) = same p frame_of stack ss i.graph accepted summarise i.graph_of in
     record {
       database = lawful ss colours db linked few i;
       sound = sound_again (named_graph ss i.graph) (graph_of q) db one (sound ss colours db linked i);

@@ -1,13 +1,12 @@
 -- The laws of the layers and those of the analyser together.
-use Rattle.std.specs.Prelude.{ℕ, List}
-use Rattle.pw_db.specs.declared.database.Directives.{Directives}
+use Rattle.std.specs.Prelude.{List}
 use Rattle.pw_run.specs.Runs.{Stage, Going, Over, Wrong}
 use Rattle.pw_trace.specs.Traces.{Notes}
 use Rattle.pw_trace.specs.Traffic.{ObeysTraffic}
 use Rattle.pw_webrun.specs.Programs.{graph_of}
 use Rattle.pw_linkrun.specs.Laws.{frame_in, image_run}
 use Rattle.pw_layers.specs.Whole.{image_of, program_of, Holds, LayersCompose}
-use Rattle.pw_analyses.specs.Graphs.{named_graph}
+use Rattle.pw_graph_laws.specs.Graphs.{named_graph}
 use Rattle.pw_analyses.specs.Laws.{Serves, AnalysesCompose, AllLawsCompose}
 
 -- what holds of logs of which another thing holds
@@ -17,11 +16,11 @@ notes P Q from (Over end v) h = from v.log h
 notes P Q from Wrong h = tt
 
 pub joined : LayersCompose → AnalysesCompose → AllLawsCompose
-joined layers analyses sense low direction places selection link lawful sound same covered p ss colours db functions objects stack input built bytes =
+joined layers analyses sense low direction places selection link lawful sound covered p ss colours db functions objects stack input built bytes =
     let v = image_of objects stack in
     let q = program_of p objects stack in
     let s : Serves p (frame_in v) stack ss colours db built.database =
-    analyses lawful sound same covered p (frame_in v) stack ss colours db built.accepted built.summarised built.linked built.few built.database in
+    analyses lawful sound covered p (frame_in v) stack ss colours db built.accepted built.summarised built.linked built.few built.database in
     let h : Holds p db functions objects stack input =
     layers sense low direction places selection link p db functions objects stack input
     (record {

@@ -7,10 +7,8 @@ use Rattle.pw_db.specs.declared.database.Directives.{Directives}
 use Rattle.pw_db.specs.Database.{IsDatabase}
 use Rattle.pw_summary.specs.declared.summary.Summary.{Summary}
 use Rattle.pw_summary.specs.Summary.{IsSummary}
-use Rattle.pw_graph.specs.declared.graph.CallGraph.{CallGraph}
-use Rattle.pw_graph.specs.Program.{IsGraphOf, AreLinked}
+use Rattle.pw_graph.specs.Program.{AreLinked}
 use Rattle.pw_colour.specs.Colours.{IsDatabaseOf}
-use Rattle.pw_sound.specs.CallGraphs.{SayTheSame}
 use Rattle.pw_sound.specs.Sound.{Sound}
 use Rattle.pw_trace.specs.Traces.{Event, Notes}
 use Rattle.pw_trace.specs.Traffic.{IsCovered, ObeysTraffic}
@@ -29,7 +27,8 @@ use Rattle.pw_cmean.specs.Worlds.{Program}
 use Rattle.pw_layers.specs.Lowering.{flow_program, IsAccepted, AreChecked, HaveParts, SourceIsNeverWrong, LoweringKeepsRuns}
 use Rattle.pw_layers.specs.Source.{source_runs}
 use Rattle.pw_layers.specs.Whole.{image_of, program_of, Holds}
-use Rattle.pw_analyses.specs.Graphs.{named_graph, AllSummarise, AreColoured}
+use Rattle.pw_graph_laws.specs.Graphs.{named_graph, AllSummarise}
+use Rattle.pw_analyses.specs.Graphs.{AreColoured}
 
 -- ---- the laws
 
@@ -50,13 +49,6 @@ DatabaseIsSound =
     (ss : List Summary) (colours : ℕ) (db : List (List ℕ × Directives)) → AreSummaries ss →
     (i : IsDatabaseOf ss colours db) → Sound (named_graph ss i.graph) db
 
--- the graph of the summaries of flow modules is that of the flow modules
-abbrev pub SummariesSayTheSame : Type 0
-SummariesSayTheSame =
-    (p : Program) (frame_of : List ℕ → ℕ) (stack : ℕ) (ss : List Summary) (g : CallGraph) →
-    IsAccepted p frame_of stack → AllSummarise (flow_program p frame_of stack).modules ss → AreSummaries ss → IsGraphOf ss g →
-    SayTheSame (named_graph ss g) (graph_of (flow_program p frame_of stack))
-
 -- every function that refers to a global all of whose webs have a register is in one of these
 abbrev pub ColouredIsCovered : Type 0
 ColouredIsCovered =
@@ -76,7 +68,7 @@ pub record Serves (p : Program) (frame_of : List ℕ → ℕ) (stack : ℕ) (ss 
 
 abbrev pub AnalysesCompose : Type 0
 AnalysesCompose =
-    DatabaseIsLawful → DatabaseIsSound → SummariesSayTheSame → ColouredIsCovered →
+    DatabaseIsLawful → DatabaseIsSound → ColouredIsCovered →
     (p : Program) (frame_of : List ℕ → ℕ) (stack : ℕ) (ss : List Summary) (colours : ℕ) (db : List (List ℕ × Directives)) →
     IsAccepted p frame_of stack → AllSummarise (flow_program p frame_of stack).modules ss → AreSummaries ss → colours ≤ 16 →
     (i : IsDatabaseOf ss colours db) → Serves p frame_of stack ss colours db i
@@ -109,7 +101,7 @@ pub record HoldsOver (p : Program) (ss : List Summary) (colours : ℕ) (db : Lis
 abbrev pub AllLawsCompose : Type 0
 AllLawsCompose =
     SourceIsNeverWrong → LoweringKeepsRuns → DirectionKeepsRuns → PlacesKeepRuns → SelectionKeepsRuns → LinkKeepsRuns →
-    DatabaseIsLawful → DatabaseIsSound → SummariesSayTheSame → ColouredIsCovered →
+    DatabaseIsLawful → DatabaseIsSound → ColouredIsCovered →
     (p : Program) (ss : List Summary) (colours : ℕ) (db : List (List ℕ × Directives)) (functions : List Located) (objects : List Object) (stack : ℕ) (input : List ℕ) →
     (built : IsAnalysed p ss colours db functions objects stack) → AreBytes input →
     HoldsOver p ss colours db functions objects stack input built.database

@@ -3,6 +3,7 @@
 
 ghost use Rattle.pw_analyses.specs.Laws.{AnalysesCompose, AllLawsCompose};
 
+use pw_graph_laws::summaries_say_the_same;
 use pw_layers::layers_compose;
 use pw_sound::soundness_rests_on_relations;
 use pw_trace::traffic_rests_on_relations;
@@ -15,6 +16,7 @@ pub fn analyses_compose()
 {
     soundness_rests_on_relations();
     traffic_rests_on_relations();
+    summaries_say_the_same();
 }
 
 /// From the laws of the layers and of the analyser follows of each program that was built with the database that the

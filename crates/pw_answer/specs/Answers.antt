@@ -10,7 +10,12 @@ use Rattle.pw_token.specs.declared.token.LexFault.TheVariants as lex
 use Rattle.pw_parse.specs.declared.parser.ParseFault.{ParseFault}
 use Rattle.pw_parse.specs.declared.parser.ParseFault.TheVariants as parse
 use Rattle.pw_front.specs.declared.refusal.Refusal.{Refusal}
-use Rattle.pw_front.specs.declared.refusal.Refusal.TheVariants.{Lex, Unsupported, Parse}
+use Rattle.pw_front.specs.declared.refusal.Refusal.TheVariants.{Lex, Unsupported, Parse, Check}
+use Rattle.pw_walk.specs.declared.fault.CheckFault.{CheckFault}
+use Rattle.pw_walk.specs.declared.fault.CheckKind.{CheckKind}
+use Rattle.pw_walk.specs.declared.fault.CheckKind.TheVariants as check
+use Rattle.pw_walk.specs.declared.fault.Which.{Which}
+use Rattle.pw_walk.specs.declared.fault.Which.TheVariants as which
 use Rattle.pw_value.specs.declared.fault.LinkFault.{LinkFault}
 use Rattle.pw_value.specs.declared.fault.LinkFault.TheVariants as link
 use Rattle.pw_value.specs.declared.fault.What.{What}
@@ -64,8 +69,31 @@ parse_text (parse.TooDeep token) = codes "TooDeep at token " ++ decimal token
 parse_text (parse.Syntax token) = codes "Syntax at token " ++ decimal token
 parse_text parse.NoMemory = codes "NoMemory"
 
+abbrev pub which_name : Which → List ℕ
+which_name which.NameLength = codes "NameLength"
+which_name which.Nodes = codes "Nodes"
+which_name which.ObjectSize = codes "ObjectSize"
+which_name which.ShapeLength = codes "ShapeLength"
+which_name which.Room = codes "Room"
+which_name which.TypeDepth = codes "TypeDepth"
+which_name which.Parameters = codes "Parameters"
+
+-- what is wrong with a tree, and at which token; a limit with the number that passes it; want of memory refuses none
+abbrev pub kind_text : CheckKind → ℕ → List ℕ
+kind_text check.UnknownName token = codes "UnknownName" ++ codes " at token " ++ decimal token
+kind_text check.Redeclared token = codes "Redeclared" ++ codes " at token " ++ decimal token
+kind_text check.Typing token = codes "Typing" ++ codes " at token " ++ decimal token
+kind_text check.Constant token = codes "Constant" ++ codes " at token " ++ decimal token
+kind_text (check.Unsupported feature) token = codes "Unsupported " ++ feature_name feature ++ codes " at token " ++ decimal token
+kind_text (check.Limit which number) token = codes "Limit " ++ which_name which ++ codes " " ++ decimal number ++ codes " at token " ++ decimal token
+kind_text check.NoMemory token = codes "NoMemory" ++ codes " at token " ++ decimal token
+
+abbrev pub check_text : CheckFault → List ℕ
+check_text fault = kind_text fault.kind fault.token
+
 -- or which feature, and at which token
 abbrev pub refusal_text : Refusal → List ℕ
+refusal_text (Check fault) = check_text fault
 refusal_text (Lex fault) = lex_text fault
 refusal_text (Parse fault) = parse_text fault
 refusal_text (Unsupported token feature) = codes "Unsupported " ++ feature_name feature ++ codes " at token " ++ decimal token

@@ -40,6 +40,13 @@ pub enum Answer {
     BadFile(Name, Option<usize>),
 }
 
+/// What came of a command, and the line on which a refused module is refused.
+#[derive(Drop)]
+pub struct Reply {
+    pub answer: Answer,
+    pub line: usize,
+}
+
 impl From<AllocError> for Answer {
     ghost use Rattle.std.specs.Prelude.{◌≡◌};
     ghost use Rattle.pw_answer.specs.declared.answer.Answer.TheVariants.{NoMemory};

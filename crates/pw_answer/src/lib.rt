@@ -6,5 +6,5 @@ mod answer;
 mod line;
 mod telling;
 
-pub use answer::{Answer, status};
+pub use answer::{Answer, Reply, status};
 pub use telling::tell;

@@ -2,7 +2,7 @@
 
 ghost use Rattle.std.specs.Prelude.{◌≡◌, IfOk, OnOk, OnErr, ◌++◌, ◌<◌, ◌^◌, codes};
 ghost use Rattle.std.specs.Fmt.{decimal};
-ghost use Rattle.pw_answer.specs.Answers.{feature_name, what_name, bad_file_text, halt_name, lex_text, link_text, parse_text, refusal_text, line_text, NeedsMemory};
+ghost use Rattle.pw_answer.specs.Answers.{feature_name, what_name, which_name, kind_text, bad_file_text, halt_name, lex_text, link_text, parse_text, refusal_text, line_text, NeedsMemory};
 ghost use Rattle.pw_answer.specs.Lines.{line_bytes};
 
 use crate::answer::Answer;
@@ -11,6 +11,7 @@ use pw_machine::Halt;
 use pw_parse::ParseFault;
 use pw_token::{Feature, LexFault};
 use pw_value::{LinkFault, Name, What, Word};
+use pw_walk::{CheckKind, Which};
 use std::alloc::{AllocError, Global};
 
 fn feature_name(feature: Feature) -> &'static [u8]
@@ -38,6 +39,20 @@ fn what_name(what: What) -> &'static [u8]
         What::TextBytes => b"TextBytes",
         What::Functions => b"Functions",
         What::Globals => b"Globals",
+    }
+}
+
+fn which_name(which: Which) -> &'static [u8]
+    ensures { result.now ≡ which_name which }
+{
+    match which {
+        Which::NameLength => b"NameLength",
+        Which::Nodes => b"Nodes",
+        Which::ObjectSize => b"ObjectSize",
+        Which::ShapeLength => b"ShapeLength",
+        Which::Room => b"Room",
+        Which::TypeDepth => b"TypeDepth",
+        Which::Parameters => b"Parameters",
     }
 }
 
@@ -131,6 +146,54 @@ fn push_parse_fault(alloc: Global, text: &mut Vec<u8>, fault: ParseFault) -> Res
     }
 }
 
+/// Puts behind a text which limit a count passes, the count, and at which token.
+fn push_limit(
+    alloc: Global,
+    text: &mut Vec<u8>,
+    which: Which,
+    count: u64,
+    token: usize,
+) -> Result<(), AllocError>
+    ensures { OnOk result (text.new.items ≡ text.old.items ++ kind_text (CheckKind.Limit which count) token) }
+{
+    text.extend_from_slice(b"Limit ")?;
+    text.extend_from_slice(which_name(which))?;
+    text.extend_from_slice(b" ")?;
+    push_decimal(alloc, text, count)?;
+    text.extend_from_slice(b" at token ")?;
+    push_decimal(alloc, text, token as u64)?;
+    Ok(())
+}
+
+/// Puts a word behind a text, and at which token.
+fn push_at(alloc: Global, text: &mut Vec<u8>, word: &[u8], token: usize) -> Result<(), AllocError>
+    ensures { OnOk result (text.new.items ≡ text.old.items ++ word.now ++ codes " at token " ++ decimal token) }
+{
+    text.extend_from_slice(word)?;
+    push_numbered(alloc, text, b" at token ", token)?;
+    Ok(())
+}
+
+/// Puts behind a text what is wrong with its tree, and at which token.
+fn push_kind(
+    alloc: Global,
+    text: &mut Vec<u8>,
+    kind: &CheckKind,
+    token: usize,
+) -> Result<(), AllocError>
+    ensures { OnOk result (text.new.items ≡ text.old.items ++ kind_text kind.now token) }
+{
+    match kind {
+        CheckKind::UnknownName => push_at(alloc, text, b"UnknownName", token),
+        CheckKind::Redeclared => push_at(alloc, text, b"Redeclared", token),
+        CheckKind::Typing => push_at(alloc, text, b"Typing", token),
+        CheckKind::Constant => push_at(alloc, text, b"Constant", token),
+        CheckKind::Unsupported(feature) => push_unsupported(alloc, text, token, *feature),
+        CheckKind::Limit(which, count) => push_limit(alloc, text, *which, *count, token),
+        CheckKind::NoMemory => push_at(alloc, text, b"NoMemory", token),
+    }
+}
+
 fn push_refusal(alloc: Global, text: &mut Vec<u8>, refusal: &Refusal) -> Result<(), AllocError>
     ensures { OnOk result (text.new.items ≡ text.old.items ++ refusal_text refusal.now) }
 {
@@ -138,6 +201,7 @@ fn push_refusal(alloc: Global, text: &mut Vec<u8>, refusal: &Refusal) -> Result<
         Refusal::Lex(fault) => push_lex_fault(alloc, text, *fault),
         Refusal::Unsupported(token, feature) => push_unsupported(alloc, text, *token, *feature),
         Refusal::Parse(fault) => push_parse_fault(alloc, text, *fault),
+        Refusal::Check(fault) => push_kind(alloc, text, &fault.kind, fault.token),
     }
 }
 

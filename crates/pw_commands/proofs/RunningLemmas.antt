@@ -45,7 +45,7 @@ pub core_of_fault : (bytes : List ℕ) (at : ℕ) → loaded_as loaded (image_fi
 core_of_fault bytes at e = fault_core (image_file_at bytes) at e
 
 -- what is left of the input is a rest of it
-runs_end : (found : Result Core Answer) (budget : ℕ) (input : List ℕ) → Ends input (runs found budget input).rest
+pub runs_end : (found : Result Core Answer) (budget : ℕ) (input : List ℕ) → Ends input (runs found budget input).rest
 runs_end (Err answer) budget input = ends_itself input
 runs_end (Ok core) budget input = run_ends (started core input) budget
 

@@ -6,11 +6,11 @@ use Rattle.pw_image.specs.Reading.{image_file_at}
 use Rattle.pw_image.specs.Loading.{loaded_as}
 use Rattle.pw_machine.specs.Core.{Core}
 use Rattle.pw_machine.specs.Start.{image_start}
-use Rattle.pw_machine.specs.Run.{Progress, run_of}
+use Rattle.pw_machine.specs.Run.{run_of}
 use Rattle.pw_answer.specs.declared.answer.Answer.{Answer}
 use Rattle.pw_answer.specs.declared.answer.Answer.TheVariants.{Done, Usage, Refused, LinkRefused}
 use Rattle.pw_answer.specs.Effects.{Effect, answers_alone}
-use Rattle.pw_running.specs.Running.{run_answer, run_output, run_rest, started}
+use Rattle.pw_running.specs.Running.{ran, started}
 use Rattle.pw_commands.specs.Needed.{needed}
 
 -- the machine at the start of the image that stands in a file
@@ -20,10 +20,6 @@ core_at bytes = loaded_as (λ image. image_start image.memory) (image_file_at by
 -- the machine at the start of the program that stands there
 abbrev pub core_in : Files → Result Core Answer
 core_in files = needed core_at files (codes "prog.img")
-
--- a run, as far as it went
-abbrev pub ran : Progress → Effect
-ran progress = record { answer = run_answer progress; puts = []; output = run_output progress; rest = run_rest progress }
 
 abbrev pub runs : Result Core Answer → ℕ → List ℕ → Effect
 runs (Err answer) budget input = answers_alone answer input

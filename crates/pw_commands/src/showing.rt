@@ -1,8 +1,8 @@
 //! The commands `list` and `db`.
 
-ghost use Rattle.std.specs.Prelude.{ℕ, List, IfErr, IfSome};
+ghost use Rattle.std.specs.Prelude.{ℕ, List, Option, IfErr, IfSome};
 ghost use Rattle.pw_io.specs.Files.{Keeps};
-ghost use Rattle.pw_answer.specs.Outcomes.{OutputCount, PutsOut, StoreCount};
+ghost use Rattle.pw_answer.specs.Outcomes.{LeavesStreams, OutputCount, PutsOut, StoreCount};
 ghost use Rattle.pw_commands.specs.Needed.{Needs};
 ghost use Rattle.pw_commands.specs.Outcome.{IsFileStop, StopCount};
 ghost use Rattle.pw_commands.specs.Showing.{DatabaseComes, IsPrintAnswer, IsShowAnswer, ListComes, ListsOver, Shows, database_text, image_in};
@@ -71,6 +71,7 @@ pub fn list_image<S: Store, O: Sink>(alloc: Global, store: &mut S, out: &mut O) 
     ensures same { Keeps (S.told store.old) (S.told store.new) }
     ensures count { StoreCount (S.faults store.old) (S.faults store.new) result }
     ensures write { OutputCount (O.faults out.old) (O.faults out.new) result }
+    ensures streams { (input : Option (List ℕ)) → LeavesStreams result input input (O.taken out.old) (O.taken out.new) }
     ensures answer { IsShowAnswer result }
 {
     an_image_has_one_listing();
@@ -88,6 +89,7 @@ pub fn show_database<S: Store, O: Sink>(alloc: Global, store: &mut S, out: &mut 
     ensures same { Keeps (S.told store.old) (S.told store.new) }
     ensures count { StoreCount (S.faults store.old) (S.faults store.new) result }
     ensures write { OutputCount (O.faults out.old) (O.faults out.new) result }
+    ensures streams { (input : Option (List ℕ)) → LeavesStreams result input input (O.taken out.old) (O.taken out.new) }
     ensures answer { IsShowAnswer result }
 {
     match texted(alloc, store) {

@@ -6,3 +6,4 @@ pub mod DatabaseFaults
 pub mod WritingLemmas
 pub mod ChoosingLaws
 pub mod StoringLaws
+pub mod DirectiveLaws

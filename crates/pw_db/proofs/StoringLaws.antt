@@ -113,7 +113,7 @@ one_stored_payload fs s t bytes others one two written again = one_payload bytes
 
 -- ---- a database can be stored again
 
-rising_differ : {D : Type 0} (before : Option (List ℕ)) (fs : List (List ℕ × D)) → IsRisingBehind before (map (λ f. f.0) fs) → EachTwo (λ f g. f.0 ≢ g.0) fs
+pub rising_differ : {D : Type 0} (before : Option (List ℕ)) (fs : List (List ℕ × D)) → IsRisingBehind before (map (λ f. f.0) fs) → EachTwo (λ f g. f.0 ≢ g.0) fs
 rising_differ before [] up = tt
 rising_differ {D} before (f ∷ fs) up = (
   each_by (λ g. f.0 ≢ g.0) fs (λ g h. less_differs f.0 g.0 (behind f.0 (map (λ k. k.0) fs) g.0 up.1 (has_map (λ (k : List ℕ × D). k.0) g fs h))),

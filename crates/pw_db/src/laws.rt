@@ -1,10 +1,10 @@
 //! The laws of databases' files and payloads.
 
-ghost use Rattle.std.specs.Prelude.{◌≡◌, ℕ, List};
+ghost use Rattle.std.specs.Prelude.{◌≡◌, ℕ, List, All, map};
 ghost use Rattle.pw_files.specs.Contents.{value_of};
 ghost use Rattle.pw_files.specs.Faults.{FaultsStay};
 ghost use Rattle.pw_db.specs.declared.database.Directives.{Directives};
-ghost use Rattle.pw_db.specs.Database.{IsDatabaseFile, IsPayload, IsStored, kind};
+ghost use Rattle.pw_db.specs.Database.{HasDirectives, IsDatabase, IsDatabaseFile, IsPayload, IsStored, kind};
 ghost use Rattle.pw_db.specs.Reading.{fields_at, database_file_at};
 
 /// No bytes are the file of two databases, and no database has two files.
@@ -23,6 +23,11 @@ pub fn databases_and_payloads_are_one_to_one()
 pub fn one_list_is_stored()
     ensures one_list { (fs s t : List (List ℕ × Directives)) → IsStored fs s → IsStored fs t → s ≡ t }
     ensures one_payload { (fs s t : List (List ℕ × Directives)) (bytes others : List ℕ) → IsStored fs s → IsStored fs t → IsPayload bytes s → IsPayload others t → bytes ≡ others }
+{}
+
+/// A database gives each function one list of directives.
+pub fn directives_are_one()
+    ensures { (fs : List (List ℕ × Directives)) → IsDatabase fs → (gs hs : List (List ℕ × Directives)) → All (HasDirectives fs) gs → All (HasDirectives fs) hs → map (λ f. f.0) gs ≡ map (λ f. f.0) hs → gs ≡ hs }
 {}
 
 /// A fault of a file lies within the bytes, and one of the fields rests on the bytes up to the faulty field's

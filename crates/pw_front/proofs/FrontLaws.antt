@@ -25,7 +25,7 @@ use Rattle.pw_front.specs.declared.refusal.FrontError.{FrontError}
 use Rattle.pw_front.specs.declared.refusal.FrontError.TheVariants.{Refused}
 use Rattle.pw_front.specs.declared.refusal.FrontError.TheVariants as error
 use Rattle.pw_front.specs.declared.refusal.Refusal.{Refusal}
-use Rattle.pw_front.specs.declared.refusal.Refusal.TheVariants.{Lex, Unsupported, Parse}
+use Rattle.pw_front.specs.declared.refusal.Refusal.TheVariants.{Lex, Unsupported, Parse, Check}
 use Rattle.pw_front.proofs.FirstLaws.{none-passes, none-found, first-passes, first-found, first-there}
 use Rattle.pw_front.proofs.LexedLaws.{lexed-lexes, lexed-only}
 
@@ -138,12 +138,14 @@ front-only text (Err (Parse (TooDeep n))) h = by-tokens text h.tokens (Err (Pars
 front-only text (Err (Parse (Syntax n))) h =
     by-tokens text h.tokens (Err (Parse (Syntax n))) h.shallow.supported.lexed (by-shallow text h.tokens (Err n) h.shallow h.fault)
 front-only text (Err (Parse NoMemory)) h = absurd h
+front-only text (Err (Check fault)) h = absurd h
 front-only text (Ok tree) h = by-tokens text h.tokens (Ok tree) h.shallow.supported.lexed (by-shallow text h.tokens (Ok tree) h.shallow h.reads)
 
 -- no text is refused for want of memory
 pub no-want : (text : List ℕ) (refusal : Refusal) → Fronts text (Err refusal) → HoldsNoWant refusal
 no-want text (Lex lex.NoMemory) h = absurd h
 no-want text (Parse NoMemory) h = absurd h
+no-want text (Check fault) h = absurd h
 no-want text _ h = tt
 
 -- ---- what a call gives

@@ -1,5 +1,5 @@
 -- What the front makes of a module's text: its syntax tree, or a refusal.
-use Rattle.std.specs.Prelude.{◌≡◌, ℕ, ◌-◌, Bool, List, nat_lt, Option, Some, None, Result, Ok, Err, is_some, slice_get, option_and_then, option_map}
+use Rattle.std.specs.Prelude.{◌≡◌, ◌≢◌, ℕ, ◌-◌, Bool, List, nat_lt, Option, Some, None, Result, Ok, Err, is_some, slice_get, option_and_then, option_map}
 use Rattle.pw_token.specs.Limits.{nest_limit}
 use Rattle.std.specs.List.{position_from}
 use Rattle.pw_token.specs.Features.{feature_of}
@@ -8,6 +8,7 @@ use Rattle.pw_token.specs.Tokenization.{IsLexed, Lexes}
 use Rattle.pw_token.specs.declared.token.Feature.{Feature}
 use Rattle.pw_token.specs.declared.token.LexFault.TheVariants as lex
 use Rattle.pw_token.specs.declared.token.Token.{Token}
+use Rattle.pw_walk.specs.declared.fault.CheckKind.TheVariants as check
 use Rattle.pw_front.specs.First.{IsFirst, NonePasses}
 use Rattle.pw_front.specs.Lexed.{LexAnswer, lexed}
 use Rattle.pw_parse.specs.Parsing.{parsed}
@@ -16,7 +17,7 @@ use Rattle.pw_parse.specs.declared.parser.ParseFault.TheVariants.{TooDeep, Synta
 use Rattle.pw_tree.specs.Grammar.{IsSyntaxFault, IsTreeOf, spelled_all}
 use Rattle.pw_tree.specs.Trees.{Module}
 use Rattle.pw_front.specs.declared.refusal.Refusal.{Refusal}
-use Rattle.pw_front.specs.declared.refusal.Refusal.TheVariants.{Lex, Unsupported, Parse}
+use Rattle.pw_front.specs.declared.refusal.Refusal.TheVariants.{Lex, Unsupported, Parse, Check}
 
 -- the answer to a text
 abbrev pub Front : Type 0
@@ -82,12 +83,14 @@ Fronts text (Err (Unsupported n feature)) = IsUnsupportedAt text n feature
 Fronts text (Err (Parse (TooDeep n))) = IsTooDeepAt text n
 Fronts text (Err (Parse (Syntax n))) = IsSyntaxAt text n
 Fronts text (Err (Parse NoMemory)) = ⊥
+Fronts text (Err (Check fault)) = ⊥
 Fronts text (Ok tree) = HasTree text tree
 
 -- The refusal is none for want of memory.
 abbrev pub HoldsNoWant : Refusal → Type 0
 HoldsNoWant (Lex lex.NoMemory) = ⊥
 HoldsNoWant (Parse NoMemory) = ⊥
+HoldsNoWant (Check fault) = fault.kind ≢ check.NoMemory
 HoldsNoWant _ = Unit {0}
 
 -- ---- the answer as a function, which the public law `front_is_exact` ties to the relation

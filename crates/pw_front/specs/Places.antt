@@ -7,7 +7,7 @@ use Rattle.pw_token.specs.declared.token.Token.{Token}
 use Rattle.pw_front.specs.Lexed.{LexAnswer, lexed}
 use Rattle.pw_parse.specs.declared.parser.ParseFault.TheVariants as parse
 use Rattle.pw_front.specs.declared.refusal.Refusal.{Refusal}
-use Rattle.pw_front.specs.declared.refusal.Refusal.TheVariants.{Lex, Unsupported, Parse}
+use Rattle.pw_front.specs.declared.refusal.Refusal.TheVariants.{Lex, Unsupported, Parse, Check}
 
 -- the line of a place: 1 and the newlines before it
 abbrev pub line_at : List ℕ → ℕ → ℕ
@@ -43,6 +43,7 @@ place_of text (Unsupported n feature) = token_place text n
 place_of text (Parse (parse.TooDeep n)) = token_place text n
 place_of text (Parse (parse.Syntax n)) = token_place text n
 place_of text (Parse parse.NoMemory) = 0
+place_of text (Check fault) = token_place text fault.token
 
 -- the line of a refusal
 unfoldable pub refusal_line : List ℕ → Refusal → ℕ

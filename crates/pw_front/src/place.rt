@@ -97,6 +97,7 @@ fn place_of(alloc: Global, text: &[u8], refusal: &Refusal) -> Result<usize, Allo
         Refusal::Lex(LexFault::TooLong | LexFault::NoMemory)
         | Refusal::Parse(ParseFault::NoMemory) => Ok(0),
         Refusal::Unsupported(token, _) => token_place(alloc, text, *token),
+        Refusal::Check(fault) => token_place(alloc, text, fault.token),
         Refusal::Parse(ParseFault::TooDeep { token } | ParseFault::Syntax { token }) => {
             token_place(alloc, text, *token)
         }

@@ -4,6 +4,7 @@ ghost use Rattle.std.specs.Prelude.{◌≡◌};
 
 use pw_parse::ParseFault;
 use pw_token::{Feature, LexFault};
+use pw_walk::CheckFault;
 
 /// Why a module is refused.
 #[derive(Clone, Copy, Debug, PartialEq, Eq)]
@@ -14,6 +15,8 @@ pub enum Refusal {
     Unsupported(usize, Feature),
     /// The tokens have no syntax tree.
     Parse(ParseFault),
+    /// The tree breaks a constraint of the language or passes a limit. The front by itself never says so.
+    Check(CheckFault),
 }
 
 /// Why the front gives no syntax tree.

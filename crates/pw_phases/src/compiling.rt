@@ -4,11 +4,13 @@ ghost use Rattle.std.specs.Prelude.{◌≡◌, IfOk};
 ghost use Rattle.std.specs.List.{AllByRecursion};
 ghost use Rattle.pw_flow.specs.ValidFlow.{IsFunction};
 ghost use Rattle.pw_db.specs.Database.{IsDirectives};
+ghost use Rattle.pw_object.specs.Functions as object;
 ghost use Rattle.pw_webflow.specs.Direction.{directed};
 ghost use Rattle.pw_alloc.specs.Allocation.{allocated};
 ghost use Rattle.pw_alloc.specs.ValidPlaces.{IsLocated};
 ghost use Rattle.pw_phases.specs.Phases.{code_of, compiled, all_compiled};
 
+use crate::lawful::is_function;
 use pw_alloc::{Located, allocate};
 use pw_db::Directives;
 use pw_delay::{Code, place};
@@ -41,7 +43,7 @@ fn code_of(alloc: Global, located: &Located) -> Result<Code, AllocError>
 }
 
 /// A function as words, under its directives.
-fn compile(alloc: Global, f: &FlowFn, d: &Directives) -> Result<ObjectFn, AllocError>
+fn made(alloc: Global, f: &FlowFn, d: &Directives) -> Result<ObjectFn, AllocError>
     requires function { IsFunction f.now }
     requires directives { IsDirectives d.now }
     ensures { IfOk result (λ r. r ≡ compiled f.now d.now) }
@@ -56,6 +58,22 @@ fn compile(alloc: Global, f: &FlowFn, d: &Directives) -> Result<ObjectFn, AllocE
     })
 }
 
+/// A function as words that can stand in an object's file, under its directives. No other is ever made; it would be told
+/// as want of memory.
+fn compile(alloc: Global, f: &FlowFn, d: &Directives) -> Result<ObjectFn, AllocError>
+    requires function { IsFunction f.now }
+    requires directives { IsDirectives d.now }
+    ensures value { IfOk result (λ r. r ≡ compiled f.now d.now) }
+    ensures lawful { IfOk result (λ r. object.IsFunction r) }
+{
+    let made = made(alloc, f, d)?;
+    if is_function(&made) {
+        Ok(made)
+    } else {
+        Err(AllocError)
+    }
+}
+
 /// Functions as words, each under the directives that stand at its place.
 pub fn compile_all(
     alloc: Global,
@@ -64,7 +82,8 @@ pub fn compile_all(
 ) -> Result<Items<ObjectFn>, AllocError>
     requires functions { AllByRecursion IsFunction functions.now }
     requires directives { AllByRecursion (λ d. IsDirectives d.1) directives.now }
-    ensures { IfOk result (λ v. v ≡ all_compiled functions.now directives.now) }
+    ensures value { IfOk result (λ v. v ≡ all_compiled functions.now directives.now) }
+    ensures lawful { IfOk result (λ v. AllByRecursion object.IsFunction v) }
 {
     let mut compiled = Items::new(alloc);
     let mut rest = functions;

@@ -4,6 +4,7 @@
 mod compiling;
 mod copying;
 mod directives;
+mod lawful;
 pub mod laws;
 mod phases;
 

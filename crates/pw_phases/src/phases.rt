@@ -1,8 +1,11 @@
 //! The second phase.
 
 ghost use Rattle.std.specs.Prelude.{IfOk};
+ghost use Rattle.std.specs.List.{AllByRecursion};
 ghost use Rattle.pw_flow.specs.ValidFlow.{IsValid};
 ghost use Rattle.pw_flow.specs.FlowGraph.{named_in};
+ghost use Rattle.pw_object.specs.Functions as object;
+ghost use Rattle.pw_object.specs.Object.{IsObject};
 ghost use Rattle.pw_summarise.specs.Summarises.{IsOrdered};
 ghost use Rattle.pw_phases.specs.Phases.{AreDirectivesOf, IsObjectOf};
 
@@ -30,15 +33,16 @@ fn interface(
     Ok((declared, used))
 }
 
-/// The object of a lawful module under the directives of its functions.
-pub fn phase_two(
+/// The object of a lawful module, each of whose functions can stand in its file.
+fn made(
     alloc: Global,
     flow: &FlowModule,
     directives: &[(Name, Directives)],
 ) -> Result<Object, AllocError>
     requires lawful { IsValid flow.now }
     requires directives { AreDirectivesOf flow.now directives.now }
-    ensures { IfOk result (λ o. IsObjectOf flow.now directives.now o) }
+    ensures object { IfOk result (λ o. IsObjectOf flow.now directives.now o) }
+    ensures functions { IfOk result (λ o. AllByRecursion object.IsFunction o.functions) }
 {
     let functions = compile_all(alloc, flow.functions.as_slice(), directives)?;
     let globals = copy_globals(alloc, flow.globals.as_slice())?;
@@ -55,4 +59,19 @@ pub fn phase_two(
         globals,
         functions,
     })
+}
+
+/// The object of a lawful module under the directives of its functions, which keeps the rules of its file.
+pub fn phase_two(
+    alloc: Global,
+    flow: &FlowModule,
+    directives: &[(Name, Directives)],
+) -> Result<Object, AllocError>
+    requires lawful { IsValid flow.now }
+    requires directives { AreDirectivesOf flow.now directives.now }
+    ensures object { IfOk result (λ o. IsObjectOf flow.now directives.now o) }
+    ensures lawful { IfOk result (λ o. IsObject o) }
+{
+    let object = made(alloc, flow, directives)?;
+    Ok(object)
 }

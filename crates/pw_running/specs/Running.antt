@@ -6,6 +6,7 @@ use Rattle.pw_machine.specs.declared.ends.Stop.{Stop}
 use Rattle.pw_machine.specs.declared.ends.Stop.TheVariants as stop
 use Rattle.pw_machine.specs.Core.{Core}
 use Rattle.pw_machine.specs.Run.{State, Progress, Running, Stopped, run_of}
+use Rattle.pw_answer.specs.Effects.{Effect}
 use Rattle.pw_answer.specs.declared.answer.Answer.{Answer}
 use Rattle.pw_answer.specs.declared.answer.Answer.TheVariants.{Done, Ended, Usage, Refused, LinkRefused, StackStop, Spent, Halted, ReadFault, WriteFault, StoreFault, NoMemory, BadFile}
 
@@ -30,6 +31,10 @@ run_output (Stopped end state) = state.output
 abbrev pub run_rest : Progress → List ℕ
 run_rest (Running state) = state.rest
 run_rest (Stopped end state) = state.rest
+
+-- a run, as far as it went
+abbrev pub ran : Progress → Effect
+ran progress = record { answer = run_answer progress; puts = []; output = run_output progress; rest = run_rest progress }
 
 -- what a call of the machine's run answers
 abbrev pub stop_answer : Stop → Answer

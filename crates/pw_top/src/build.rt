@@ -18,7 +18,7 @@ use pw_value::{LinkFault, Name};
 use std::alloc::{AllocError, Global};
 
 /// What came of a build.
-#[derive(Debug, Drop)]
+#[derive(Drop)]
 pub enum Built {
     /// The program returns this sum.
     Program(Sum),

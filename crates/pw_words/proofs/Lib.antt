@@ -4,3 +4,4 @@ pub mod Numerals
 pub mod Parses
 pub mod Said
 pub mod Walks
+pub mod Within

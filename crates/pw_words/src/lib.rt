@@ -3,6 +3,7 @@
 
 mod commands;
 mod fault;
+pub mod laws;
 mod numbers;
 mod reader;
 mod reading;

@@ -1,0 +1,428 @@
+//! Statements (C90 6.6). Each form's rule is written for any parts; `stmt_of` chooses by the form.
+
+ghost use Rattle.std.specs.Prelude.{◌≡◌};
+ghost use Rattle.pw_rules.specs.Statements as spec;
+ghost use Rattle.pw_tree.specs.FirstTokens as first;
+ghost use Rattle.pw_body.specs.Parts as part;
+ghost use Rattle.pw_body.specs.Views.{view_arm, view_arm_list, view_behind, view_body, view_items, view_switched};
+ghost use Rattle.pw_checking.specs.Follows.{Leads};
+ghost use Rattle.pw_checking.specs.StateViews.{view_state};
+ghost use Rattle.pw_tree.specs.Trees as tree;
+ghost use Rattle.pw_tree.specs.Views.{view_block, view_else_ifs, view_expr, view_labels, view_optional, view_otherwise, view_stmt, view_stmts};
+ghost use Rattle.pw_typed.specs.Views as typed;
+
+use crate::jumps::{break_rule, continue_rule, goto_rule, return_rule};
+use crate::values::{condition_rule, optional_condition, optional_rule, switch_rule, value};
+use pw_checking::{State, SwitchState};
+use pw_kinds::kind_in;
+use pw_labels::{BodyParts, labels_rule};
+use pw_tree::{Block, ElseIf, Expr, Label, Stmt};
+use pw_typed::{Arm, TExpr, TStmt, TStmtForm};
+use pw_walk::CheckFault;
+use std::alloc::Global;
+
+/// The body of a switch, and what is known of the switch behind it.
+#[derive(Drop)]
+pub(crate) struct Switched {
+    pub(crate) body: Box<TStmt>,
+    pub(crate) switch: SwitchState,
+}
+
+/// The arms of an `if`, and what stands behind a last `else`.
+#[derive(Drop)]
+pub(crate) struct Behind {
+    pub(crate) arms: Vec<Arm>,
+    pub(crate) otherwise: Option<Box<TStmt>>,
+}
+
+/// A statement in a box.
+fn boxed_stmt<'a, P: BodyParts<'a>>(
+    alloc: Global,
+    parts: &P,
+    state: &mut State<'a>,
+    stmt: &'a Stmt,
+) -> Result<Box<TStmt>, CheckFault>
+    requires { P.can_check parts.now }
+    ensures { Leads view_body (spec.stmt_rule (view_stmt stmt.now)) (view_state state.old) result (view_state state.new) }
+{
+    let made = parts.stmt(alloc, state, stmt)?;
+    Ok(Box::new(alloc, made)?)
+}
+
+/// Statements in their order.
+fn stmts_rule<'a, P: BodyParts<'a>>(
+    alloc: Global,
+    parts: &P,
+    state: &mut State<'a>,
+    statements: &'a [Stmt],
+) -> Result<Vec<TStmt>, CheckFault>
+    requires { P.can_check parts.now }
+    ensures { Leads view_items (spec.stmts_rule (view_stmts statements.now)) (view_state state.old) result (view_state state.new) }
+{
+    let mut items = Vec::new(alloc);
+    for next in statements {
+        let made = parts.stmt(alloc, state, next)?;
+        items.push(made)?;
+    }
+    Ok(items)
+}
+
+/// A block, in the scope that is read.
+pub fn block_rule<'a, P: BodyParts<'a>>(
+    alloc: Global,
+    parts: &P,
+    state: &mut State<'a>,
+    block: &'a Block,
+) -> Result<TStmt, CheckFault>
+    requires { P.can_check parts.now }
+    ensures { Leads typed.view_stmt (spec.block_rule (view_block block.now)) (view_state state.old) result (view_state state.new) }
+{
+    let first = state.next_local()?;
+    let initialisers = parts.decls(alloc, state, &block.declarations)?;
+    let end = state.next_local()?;
+    let items = stmts_rule(alloc, parts, state, &block.statements)?;
+    Ok(TStmt {
+        token: block.token,
+        form: TStmtForm::Block {
+            first,
+            count: end.saturating_sub(first),
+            initialisers,
+            items,
+        },
+    })
+}
+
+/// A block in a scope of its own (C90 6.6.2).
+fn scoped_block<'a, P: BodyParts<'a>>(
+    alloc: Global,
+    parts: &P,
+    state: &mut State<'a>,
+    block: &'a Block,
+) -> Result<TStmt, CheckFault>
+    requires { P.can_check parts.now }
+    ensures { Leads typed.view_stmt (spec.stmt_rule (tree.Compound (view_block block.now))) (view_state state.old) result (view_state state.new) }
+{
+    state.one_deeper()?;
+    let made = block_rule(alloc, parts, state, block)?;
+    state.leave_scope();
+    Ok(made)
+}
+
+/// An expression statement (C90 6.6.3).
+fn expression_stmt<'a, P: BodyParts<'a>>(
+    alloc: Global,
+    parts: &P,
+    state: &mut State<'a>,
+    expr: &'a Expr,
+) -> Result<TStmt, CheckFault>
+    requires { P.can_check parts.now }
+    ensures { Leads typed.view_stmt (spec.stmt_rule (tree.Expression (view_expr expr.now))) (view_state state.old) result (view_state state.new) }
+{
+    let value = value(alloc, parts, state, expr)?;
+    Ok(TStmt {
+        token: expr.first_token(),
+        form: TStmtForm::Expr(value),
+    })
+}
+
+/// The number of the first token of labels, 0 where there are none.
+fn first_of_labels(labels: &[Label]) -> usize
+    ensures { result ≡ first.first_of_labels (view_labels labels.now) 0 }
+{
+    match labels.first() {
+        Some(label) => label.first_token(),
+        None => 0,
+    }
+}
+
+/// A statement behind its labels (C90 6.6.1).
+fn labeled_stmt<'a, P: BodyParts<'a>>(
+    alloc: Global,
+    parts: &P,
+    state: &mut State<'a>,
+    labels: &'a [Label],
+    statement: &'a Stmt,
+) -> Result<TStmt, CheckFault>
+    requires { P.can_check parts.now }
+    ensures { Leads typed.view_stmt (spec.stmt_rule (tree.Labeled (view_labels labels.now) (view_stmt statement.now))) (view_state state.old) result (view_state state.new) }
+{
+    let numbers = labels_rule(alloc, parts, state, labels)?;
+    let body = boxed_stmt(alloc, parts, state, statement)?;
+    Ok(TStmt {
+        token: first_of_labels(labels),
+        form: TStmtForm::Label(numbers, body),
+    })
+}
+
+/// An arm of an `if`: its condition and its statement.
+fn arm_rule<'a, P: BodyParts<'a>>(
+    alloc: Global,
+    parts: &P,
+    state: &mut State<'a>,
+    token: usize,
+    condition: &'a Expr,
+    chosen: &'a Stmt,
+) -> Result<Arm, CheckFault>
+    requires { P.can_check parts.now }
+    ensures { Leads view_arm (part.arm_rule token (view_expr condition.now) (view_stmt chosen.now)) (view_state state.old) result (view_state state.new) }
+{
+    let condition = condition_rule(alloc, parts, state, token, condition)?;
+    let body = parts.stmt(alloc, state, chosen)?;
+    Ok(Arm {
+        token,
+        condition,
+        body,
+    })
+}
+
+/// What stands behind a last `else`.
+fn otherwise_rule<'a, P: BodyParts<'a>>(
+    alloc: Global,
+    parts: &P,
+    state: &mut State<'a>,
+    arms: Vec<Arm>,
+    otherwise: &'a Option<Box<Stmt>>,
+) -> Result<Behind, CheckFault>
+    requires { P.can_check parts.now }
+    ensures { Leads view_behind (part.alternative_after (view_arm_list arms.items) (view_otherwise otherwise.now)) (view_state state.old) result (view_state state.new) }
+{
+    match otherwise {
+        Some(last) => {
+            let body = boxed_stmt(alloc, parts, state, last)?;
+            Ok(Behind {
+                arms,
+                otherwise: Some(body),
+            })
+        }
+        None => Ok(Behind {
+            arms,
+            otherwise: None,
+        }),
+    }
+}
+
+/// Each `else if` and the last `else`, with the arms before them.
+fn alternative_rule<'a, P: BodyParts<'a>>(
+    alloc: Global,
+    parts: &P,
+    state: &mut State<'a>,
+    before: Vec<Arm>,
+    else_ifs: &'a [ElseIf],
+    otherwise: &'a Option<Box<Stmt>>,
+) -> Result<Behind, CheckFault>
+    requires { P.can_check parts.now }
+    ensures { Leads view_behind (part.alternative_after (view_arm_list before.items) (view_else_ifs else_ifs.now (view_otherwise otherwise.now))) (view_state state.old) result (view_state state.new) }
+{
+    let mut arms = before;
+    for next in else_ifs {
+        let arm = arm_rule(
+            alloc,
+            parts,
+            state,
+            next.token,
+            &next.condition,
+            &next.chosen,
+        )?;
+        arms.push(arm)?;
+    }
+    otherwise_rule(alloc, parts, state, arms, otherwise)
+}
+
+/// An `if` with what stands behind it (C90 6.6.4.1).
+fn if_stmt<'a, P: BodyParts<'a>>(
+    alloc: Global,
+    parts: &P,
+    state: &mut State<'a>,
+    token: usize,
+    condition: &'a Expr,
+    chosen: &'a Stmt,
+    else_ifs: &'a [ElseIf],
+    otherwise: &'a Option<Box<Stmt>>,
+) -> Result<TStmt, CheckFault>
+    requires { P.can_check parts.now }
+    ensures { Leads typed.view_stmt (spec.stmt_rule (tree.If token (view_expr condition.now) (view_stmt chosen.now) (view_else_ifs else_ifs.now (view_otherwise otherwise.now)))) (view_state state.old) result (view_state state.new) }
+{
+    let first = arm_rule(alloc, parts, state, token, condition, chosen)?;
+    let mut arms = Vec::new(alloc);
+    arms.push(first)?;
+    let behind = alternative_rule(alloc, parts, state, arms, else_ifs, otherwise)?;
+    let Behind { arms, otherwise } = behind;
+    Ok(TStmt {
+        token,
+        form: TStmtForm::If(arms, otherwise),
+    })
+}
+
+/// The body of a switch over this value.
+fn in_switch<'a, P: BodyParts<'a>>(
+    alloc: Global,
+    parts: &P,
+    state: &mut State<'a>,
+    value: &TExpr,
+    body: &'a Stmt,
+) -> Result<Switched, CheckFault>
+    requires { P.can_check parts.now }
+    ensures { Leads view_switched (spec.in_switch (typed.view_expr value.now) (spec.stmt_rule (view_stmt body.now))) (view_state state.old) result (view_state state.new) }
+{
+    state.enter_switch(alloc, kind_in(&value.ty.ty))?;
+    let body = boxed_stmt(alloc, parts, state, body)?;
+    let switch = state.leave_switch(alloc);
+    Ok(Switched { body, switch })
+}
+
+/// C90 6.6.4.2
+fn switch_stmt<'a, P: BodyParts<'a>>(
+    alloc: Global,
+    parts: &P,
+    state: &mut State<'a>,
+    token: usize,
+    value: &'a Expr,
+    body: &'a Stmt,
+) -> Result<TStmt, CheckFault>
+    requires { P.can_check parts.now }
+    ensures { Leads typed.view_stmt (spec.stmt_rule (tree.Switch token (view_expr value.now) (view_stmt body.now))) (view_state state.old) result (view_state state.new) }
+{
+    let value = switch_rule(alloc, parts, state, token, value)?;
+    let switched = in_switch(alloc, parts, state, &value, body)?;
+    let Switched { body, switch } = switched;
+    let SwitchState { cases, default, .. } = switch;
+    Ok(TStmt {
+        token,
+        form: TStmtForm::Switch(value, cases.into_cases(), default, body),
+    })
+}
+
+/// The body of a loop.
+fn in_loop<'a, P: BodyParts<'a>>(
+    alloc: Global,
+    parts: &P,
+    state: &mut State<'a>,
+    body: &'a Stmt,
+) -> Result<Box<TStmt>, CheckFault>
+    requires { P.can_check parts.now }
+    ensures { Leads view_body (spec.in_loop (spec.stmt_rule (view_stmt body.now))) (view_state state.old) result (view_state state.new) }
+{
+    state.enter_loop()?;
+    let made = boxed_stmt(alloc, parts, state, body)?;
+    state.leave_loop();
+    Ok(made)
+}
+
+/// C90 6.6.5.1
+fn while_stmt<'a, P: BodyParts<'a>>(
+    alloc: Global,
+    parts: &P,
+    state: &mut State<'a>,
+    token: usize,
+    condition: &'a Expr,
+    body: &'a Stmt,
+) -> Result<TStmt, CheckFault>
+    requires { P.can_check parts.now }
+    ensures { Leads typed.view_stmt (spec.stmt_rule (tree.While token (view_expr condition.now) (view_stmt body.now))) (view_state state.old) result (view_state state.new) }
+{
+    let condition = condition_rule(alloc, parts, state, token, condition)?;
+    let body = in_loop(alloc, parts, state, body)?;
+    Ok(TStmt {
+        token,
+        form: TStmtForm::While(condition, body),
+    })
+}
+
+/// C90 6.6.5.2
+fn do_stmt<'a, P: BodyParts<'a>>(
+    alloc: Global,
+    parts: &P,
+    state: &mut State<'a>,
+    token: usize,
+    body: &'a Stmt,
+    condition: &'a Expr,
+) -> Result<TStmt, CheckFault>
+    requires { P.can_check parts.now }
+    ensures { Leads typed.view_stmt (spec.stmt_rule (tree.Do token (view_stmt body.now) (view_expr condition.now))) (view_state state.old) result (view_state state.new) }
+{
+    let body = in_loop(alloc, parts, state, body)?;
+    let condition = condition_rule(alloc, parts, state, token, condition)?;
+    Ok(TStmt {
+        token,
+        form: TStmtForm::Do(body, condition),
+    })
+}
+
+/// C90 6.6.5.3
+fn for_stmt<'a, P: BodyParts<'a>>(
+    alloc: Global,
+    parts: &P,
+    state: &mut State<'a>,
+    token: usize,
+    start: &'a Option<Expr>,
+    condition: &'a Option<Expr>,
+    step: &'a Option<Expr>,
+    body: &'a Stmt,
+) -> Result<TStmt, CheckFault>
+    requires { P.can_check parts.now }
+    ensures { Leads typed.view_stmt (spec.stmt_rule (tree.For token (view_optional start.now) (view_optional condition.now) (view_optional step.now) (view_stmt body.now))) (view_state state.old) result (view_state state.new) }
+{
+    let start = optional_rule(alloc, parts, state, start)?;
+    let condition = optional_condition(alloc, parts, state, token, condition)?;
+    let step = optional_rule(alloc, parts, state, step)?;
+    let body = in_loop(alloc, parts, state, body)?;
+    Ok(TStmt {
+        token,
+        form: TStmtForm::For(start, condition, step, body),
+    })
+}
+
+/// A statement (C90 6.6).
+#[tactic(auto, unfolding(pw_tree::specs::Views::view_stmt), using(pw_tree::proofs::Rows::compound_view))]
+pub fn stmt_of<'a, P: BodyParts<'a>>(
+    alloc: Global,
+    parts: &P,
+    state: &mut State<'a>,
+    stmt: &'a Stmt,
+) -> Result<TStmt, CheckFault>
+    requires { P.can_check parts.now }
+    ensures { Leads typed.view_stmt (spec.stmt_rule (view_stmt stmt.now)) (view_state state.old) result (view_state state.new) }
+{
+    match stmt {
+        Stmt::Block(block) => scoped_block(alloc, parts, state, block),
+        Stmt::Expression(e) => expression_stmt(alloc, parts, state, e),
+        Stmt::Empty { token } => Ok(TStmt {
+            token: *token,
+            form: TStmtForm::Empty,
+        }),
+        Stmt::Labeled { labels, statement } => labeled_stmt(alloc, parts, state, labels, statement),
+        Stmt::If {
+            token,
+            condition,
+            chosen,
+            else_ifs,
+            otherwise,
+        } => if_stmt(
+            alloc, parts, state, *token, condition, chosen, else_ifs, otherwise,
+        ),
+        Stmt::Switch { token, value, body } => {
+            switch_stmt(alloc, parts, state, *token, value, body)
+        }
+        Stmt::While {
+            token,
+            condition,
+            body,
+        } => while_stmt(alloc, parts, state, *token, condition, body),
+        Stmt::Do {
+            token,
+            body,
+            condition,
+        } => do_stmt(alloc, parts, state, *token, body, condition),
+        Stmt::For {
+            token,
+            start,
+            condition,
+            step,
+            body,
+        } => for_stmt(alloc, parts, state, *token, start, condition, step, body),
+        Stmt::Goto { token, label } => goto_rule(state, *token, label),
+        Stmt::Continue { token } => continue_rule(state, *token),
+        Stmt::Break { token } => break_rule(state, *token),
+        Stmt::Return { token, value } => return_rule(alloc, parts, state, *token, value),
+    }
+}

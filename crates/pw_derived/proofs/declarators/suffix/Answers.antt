@@ -1,0 +1,18 @@
+use Rattle.std.proofs.Common.{rules}
+use Rattle.pw_tree.proofs.Rows.{prototype_view}
+use Rattle.pw_tree.specs.Views.{view_expr}
+use Rattle.pw_walk.proofs.CallLaws.{step_ok, step_err}
+use Rattle.pw_derived.specs.Declaring.{first_suffix}
+use Rattle.pw_derived.proofs.declarators.suffix.Goals as goal
+
+pub returns-in_err-length-in-Array : goal.returns-in_err-length-in-Array
+unfolding view_expr first_suffix
+returns-in_err-length-in-Array g c = rw c.in-Array.is (step_err _ c.array_length.ensures c.in_err-length-in-Array.was (search rules))
+
+pub returns-in_ok-length-in-Array : goal.returns-in_ok-length-in-Array
+unfolding view_expr first_suffix
+returns-in_ok-length-in-Array g c = rw c.in-Array.is (step_ok _ c.array_length.ensures c.in_ok-length-in-Array.was c.array_step.ensures)
+
+pub returns-in-Parameters : goal.returns-in-Parameters
+unfolding first_suffix
+returns-in-Parameters g c = rw (c.in-Parameters.is, prototype_view) (rw c.deref.ensures.value at c.prototype.ensures)

@@ -1,0 +1,11 @@
+mod TakingExpressions
+mod TakingStatements
+mod TakingFunctions
+mod Lists
+mod Declared
+mod Addresses
+mod Places
+mod Shapes
+mod Used
+mod Eligible
+mod Same

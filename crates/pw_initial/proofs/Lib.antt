@@ -1,0 +1,7 @@
+mod ByteLemmas
+mod FormLemmas
+mod ListLemmas
+mod ObjectLemmas
+mod ReadingLemmas
+mod StringLemmas
+pub mod WalkLemmas

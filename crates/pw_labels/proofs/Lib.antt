@@ -1,0 +1,4 @@
+pub mod Steps
+pub mod Gathering
+pub mod LabelNames
+pub mod LabelLaws

@@ -1,0 +1,65 @@
+//! Constants that lengths and enumerators are (C90 6.4, 6.5.2.2, 6.5.4.2).
+
+ghost use Rattle.std.specs.Prelude.{◌≡◌};
+ghost use Rattle.pw_checking.specs.Follows.{Follows};
+ghost use Rattle.pw_checking.specs.StateViews.{view_state};
+ghost use Rattle.pw_checking.specs.Views.{view_node};
+ghost use Rattle.pw_rules.specs.Leaves as spec;
+ghost use Rattle.pw_types.specs.Views.{view_type};
+
+use pw_checking::{State, fault};
+use pw_constant::constant_value;
+use pw_kinds::kind_in;
+use pw_typed::TExpr;
+use pw_types::CType;
+use pw_walk::{CheckFault, CheckKind};
+use std::alloc::Global;
+
+/// The least number above those of an `int`.
+const ABOVE_INT: u32 = 1 << 31;
+
+/// Whether a number of the type is above 0.
+fn is_positive(ty: &CType, n: u32) -> bool
+    ensures { result ≡ spec.is_positive (view_type ty.now) n }
+{
+    n >= 1 && (!kind_in(ty).is_signed() || n < ABOVE_INT)
+}
+
+/// Whether an `int` can hold a number of the type.
+fn is_int(ty: &CType, n: u32) -> bool
+    ensures { result ≡ spec.is_int (view_type ty.now) n }
+{
+    kind_in(ty).is_signed() || n < ABOVE_INT
+}
+
+/// The length of an array, which is at least 1 (C90 6.5.4.2), by the expression's first token.
+#[tactic(auto, unfolding(pw_walk::specs::Walks::bind, pw_walk::specs::Walks::outcome, pw_rules::specs::Leaves::length_rule))]
+pub fn length_rule(
+    alloc: Global,
+    state: &State,
+    first: usize,
+    e: Box<TExpr>,
+) -> Result<u32, CheckFault>
+    ensures { Follows (λ n. n) (spec.length_rule first (view_node e)) (view_state state.now) result }
+{
+    match constant_value(alloc, &e)? {
+        Some(n) if is_positive(&e.ty.ty, n) => Ok(n),
+        _ => Err(fault(CheckKind::Constant, first)),
+    }
+}
+
+/// The value of an enumerator, which is an `int` (C90 6.5.2.2), by the expression's first token.
+#[tactic(auto, unfolding(pw_walk::specs::Walks::bind, pw_walk::specs::Walks::outcome, pw_rules::specs::Leaves::enumerator_value))]
+pub fn enumerator_value(
+    alloc: Global,
+    state: &State,
+    first: usize,
+    e: Box<TExpr>,
+) -> Result<u32, CheckFault>
+    ensures { Follows (λ n. n) (spec.enumerator_value first (view_node e)) (view_state state.now) result }
+{
+    match constant_value(alloc, &e)? {
+        Some(n) if is_int(&e.ty.ty, n) => Ok(n),
+        _ => Err(fault(CheckKind::Constant, first)),
+    }
+}

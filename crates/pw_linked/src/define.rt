@@ -1,0 +1,104 @@
+//! Definitions of names with linkage (C90 6.7).
+
+ghost use Rattle.std.specs.Prelude.{◌≡◌, map, OnOk, IfOk};
+ghost use Rattle.pw_checking.specs.EntityViews.{view_linked};
+ghost use Rattle.pw_checking.specs.StateViews.{view_state};
+ghost use Rattle.pw_rules.specs.Linkage as spec;
+ghost use Rattle.pw_typed.specs.Views.{view_placed, view_symbol};
+ghost use Rattle.pw_types.specs.Views.{view_qtype};
+
+use pw_checking::{LinkedName, State};
+use pw_kinds::composite;
+use pw_rules::Slot;
+use pw_typed::{Symbol, TItem};
+use pw_types::QType;
+use pw_value::Name;
+use std::alloc::{AllocError, Global};
+
+// Whether an object has its place among those of static lifetime.
+fn has_slot(state: &State, place: u32) -> bool
+    ensures { result ≡ spec.has_slot (view_state state.now) place }
+{
+    match state.linked_at(place) {
+        Some(linked) => linked.tentative || linked.defined,
+        None => false,
+    }
+}
+
+// An object stands at its first definition, tentative or not.
+fn slot_for(state: &mut State, place: u32) -> Result<(), AllocError>
+    ensures { OnOk result (view_state state.new ≡ spec.slot_for place (view_state state.old)) }
+{
+    if !has_slot(state, place) {
+        state.add_slot(Slot::Named(place))?;
+    }
+    Ok(())
+}
+
+/// A tentative definition of an object (C90 6.7.2), by its place among the names with linkage.
+pub fn define_tentatively(state: &mut State, place: u32) -> Result<(), AllocError>
+    ensures { OnOk result (view_state state.new ≡ spec.define_tentatively place (view_state state.old)) }
+{
+    slot_for(state, place)?;
+    state.set_tentative(place);
+    Ok(())
+}
+
+/// The definition of an object, by its place among the names with linkage.
+pub fn define_object(state: &mut State, place: u32) -> Result<(), AllocError>
+    ensures { OnOk result (view_state state.new ≡ spec.define_object place (view_state state.old)) }
+{
+    slot_for(state, place)?;
+    state.set_defined(place);
+    Ok(())
+}
+
+/// The definition of a function, by its place among the names with linkage.
+pub fn define_function(state: &mut State, place: u32)
+    ensures { view_state state.new ≡ spec.define_function place (view_state state.old) }
+{
+    state.set_defined(place);
+}
+
+/// The first bytes of an object with linkage, and its type, where its initialiser gives the length.
+pub fn initialise_linked(
+    alloc: Global,
+    state: &mut State,
+    place: u32,
+    ty: &QType,
+    items: Vec<(u32, TItem)>,
+) -> Result<(), AllocError>
+    ensures { OnOk result (view_state state.new ≡ spec.initialise_linked place (view_qtype ty.now) (map view_placed items.items) (view_state state.old)) }
+{
+    let Some(linked) = state.linked_at(place) else {
+        return Ok(());
+    };
+    let both = composite(alloc, &linked.ty, ty)?;
+    state.set_linked_items(place, both, items);
+    Ok(())
+}
+
+/// How a module speaks of a name with linkage. One that no symbol may have, no rule lets come: it answers want of
+/// memory.
+pub fn symbol_of_linked(alloc: Global, linked: &LinkedName) -> Result<Symbol, AllocError>
+    ensures { IfOk result (λ symbol. view_symbol symbol ≡ spec.symbol_of_linked (view_linked linked.now)) }
+{
+    let Ok(name) = Name::new(alloc, linked.name) else {
+        return Err(AllocError);
+    };
+    if linked.internal {
+        Ok(Symbol::Internal(name))
+    } else {
+        Ok(Symbol::External(name))
+    }
+}
+
+/// How a module speaks of a name with linkage, by its place; one that is not there answers want of memory.
+pub fn symbol_at(alloc: Global, state: &State, place: u32) -> Result<Symbol, AllocError>
+    ensures { IfOk result (λ symbol. view_symbol symbol ≡ spec.symbol_at (view_state state.now) place) }
+{
+    match state.linked_at(place) {
+        Some(linked) => symbol_of_linked(alloc, linked),
+        None => Err(AllocError),
+    }
+}

@@ -1,0 +1,4 @@
+pub mod RuleLaws
+pub mod PointLemmas
+pub mod ClosingLemmas
+pub mod NameLemmas

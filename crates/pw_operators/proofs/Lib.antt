@@ -1,0 +1,2 @@
+mod CompoundLaws
+mod PointLaws

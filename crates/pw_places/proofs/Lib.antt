@@ -1,0 +1,3 @@
+mod CursorLemmas
+mod MemberLemmas
+mod ReachLemmas

@@ -1,0 +1,18 @@
+-- Rows of keywords with the integer types that they say, and the qualifiers that fit a type.
+use Rattle.std.specs.Prelude.{ℕ, ◌+◌, ◌==◌, Bool, not, ◌&&◌, ◌||◌, nat_le, Option, List, find, option_map}
+use Rattle.pw_tree.specs.declared.expr.BasicType.{BasicType}
+use Rattle.pw_types.specs.declared.kind.IntKind.{IntKind}
+use Rattle.pw_types.specs.TypeTrees.{QType, type_of}
+use Rattle.pw_rules.specs.Kinds.{is_const_object, is_volatile_object, is_function}
+use Rattle.pw_rules.specs.SpecifierLists.{same_words, one_if}
+
+-- the first row with these keywords
+abbrev pub row_found : List (List BasicType × Option IntKind) → List BasicType → Option (Option IntKind)
+row_found table words = option_map (λ row. row.1) (find (λ row. same_words row.0 words) table)
+
+-- each qualifier once, a typedef name's included, and none at a function
+abbrev pub lawful_qualifiers : ℕ → ℕ → QType → Bool
+lawful_qualifiers constants volatiles ty =
+    nat_le (constants + one_if (is_const_object ty)) 1
+    && (nat_le (volatiles + one_if (is_volatile_object ty)) 1
+    && not ((not (constants == 0) || not (volatiles == 0)) && is_function (type_of ty)))

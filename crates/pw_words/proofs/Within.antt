@@ -1,0 +1,132 @@
+-- The numbers that words say lie within their limits.
+use Rattle.std.proofs.Common.{◌≡◌, ℕ, ◌≤◌, ◌&&◌, subst, Bool, true, false, nat_le, List, [], ◌∷◌, codes, Option, Some, None, option_map, option_and_then, refl, if◌then◌else◌, arith}
+use Rattle.std.specs.Str.{bytes_eq}
+use Rattle.std.specs.Str.Parse.{digits_value}
+use Rattle.std.proofs.lemmas.Bool.Decides.{nat_tests}
+use Rattle.pw_value.specs.Limits.{stack_least, stack_most}
+use Rattle.pw_modules.specs.Modules.{is_module_name}
+use Rattle.pw_words.specs.declared.commands.Command.{Command}
+use Rattle.pw_words.specs.declared.commands.Command.TheVariants.{Go, PhaseOne, Analyse, PhaseTwo, Link, Run, List as ListImage, Db}
+use Rattle.pw_words.specs.CommandLine.{Text, Part, is_numeral, number_in, number_or, value_of, colours, stack, steps, colours_in, stack_in, steps_in, module_named, module_in, plain_word, parts_of, go_in, go_of, phase_one_of, analyse_of, phase_two_of, link_of, run_of, list_of, db_of, command_by_name, command_of}
+use Rattle.pw_words.specs.Limits.{IsStack, IsWithin}
+
+-- each command that is found is within the limits
+abbrev Within : Option Command → Type 0
+Within found = (command : Command) → found ≡ Some command → IsWithin command
+
+none_within : Within None
+none_within command e = cc
+
+some_within : (one : Command) → IsWithin one → Within (Some one)
+some_within one h command e = subst_command one command h e
+  where
+    some_is : (a b : Command) → ◌≡◌ {A = Option Command} (Some a) (Some b) → a ≡ b
+    some_is a b e = cc
+
+    subst_command : (a b : Command) → IsWithin a → ◌≡◌ {A = Option Command} (Some a) (Some b) → IsWithin b
+    subst_command a b h e = subst IsWithin (some_is a b e) h
+
+if_within : (test : Bool) (found other : Option Command) → Within found → Within other → Within (if test then found else other)
+if_within true found other h k = h
+if_within false found other h k = k
+
+-- ---- numbers
+
+abbrev IsIn : ℕ → ℕ → Option ℕ → Type 0
+IsIn least most None = Unit {0}
+IsIn least most (Some n) = (least ≤ n) × (n ≤ most)
+
+tested_in : (test : Bool) (least most n : ℕ) → test && (nat_le least n && nat_le n most) ≡ true → (least ≤ n) × (n ≤ most)
+tested_in test least most n e = grind (arith, nat_tests, e)
+
+number_is_in : (least most : ℕ) (text : Text) → IsIn least most (number_in least most text)
+number_is_in least most text = by_test (is_numeral text && (nat_le least (digits_value 10 text) && nat_le (digits_value 10 text) most)) refl
+  where
+    by_test : (test : Bool) → is_numeral text && (nat_le least (digits_value 10 text) && nat_le (digits_value 10 text) most) ≡ test → IsIn least most (if test then Some (digits_value 10 text) else None)
+    by_test true e = tested_in (is_numeral text) least most (digits_value 10 text) e
+    by_test false e = tt
+
+number_or_is_in : (least most default : ℕ) (given : Option Text) → least ≤ default → default ≤ most → IsIn least most (number_or least most default given)
+number_or_is_in least most default None h k = (h, k)
+number_or_is_in least most default (Some text) h k = number_is_in least most text
+
+colours_are_in : (parts : List Part) → IsIn 0 8 (colours_in parts)
+colours_are_in parts = number_or_is_in 0 8 8 (value_of colours parts) (omega arith) (omega arith)
+
+stack_is_in : (parts : List Part) → IsIn stack_least stack_most (stack_in parts)
+stack_is_in parts = number_or_is_in stack_least stack_most 1048576 (value_of stack parts) (omega arith) (omega arith)
+
+-- ---- names
+
+module_is_named : (found : Option Text) (name : Text) → option_and_then module_named found ≡ Some name → is_module_name name ≡ true
+module_is_named None name e = cc
+module_is_named (Some word) name e = by_test (is_module_name word) refl e
+  where
+    by_test : (test : Bool) → is_module_name word ≡ test → (if test then Some word else None) ≡ Some name → is_module_name name ≡ true
+    by_test true t e = let same : word ≡ name = cc in rw same at t
+    by_test false t e = cc
+
+-- ---- the commands
+
+map_within : (make : ℕ → Command) (least most : ℕ) (found : Option ℕ) → IsIn least most found → ((n : ℕ) → least ≤ n → n ≤ most → IsWithin (make n)) → Within (option_map make found)
+map_within make least most None h k = none_within
+map_within make least most (Some n) h k = some_within (make n) (k n h.0 h.1)
+
+named_within : (make : Text → Command) (found : Option Text) → ((name : Text) → found ≡ Some name → IsWithin (make name)) → Within (option_map make found)
+named_within make None k = none_within
+named_within make (Some name) k = some_within (make name) (k name refl)
+
+parts_within : (found : Option (List Part)) (say : List Part → Option Command) → ((parts : List Part) → Within (say parts)) → Within (option_and_then say found)
+parts_within None say k = none_within
+parts_within (Some parts) say k = k parts
+
+listed_within : (found : Option (List Part)) (one : Command) → IsWithin one → Within (option_map (λ parts. one) found)
+listed_within None one h = none_within
+listed_within (Some parts) one h = some_within one h
+
+-- the steps of a run may be any number
+any_within : (make : ℕ → Command) (found : Option ℕ) → ((n : ℕ) → IsWithin (make n)) → Within (option_map make found)
+any_within make None k = none_within
+any_within make (Some n) k = some_within (make n) (k n)
+
+stacked : (c : ℕ) (given : Option ℕ) (parts : List Part) → c ≤ 8 → IsIn stack_least stack_most given → Within (option_and_then (λ s. option_map (λ n. Go c s n) (steps_in parts)) given)
+stacked c None parts h k = none_within
+stacked c (Some s) parts h k = any_within (λ n. Go c s n) (steps_in parts) (λ n. (h, k))
+
+coloured : (given : Option ℕ) (parts : List Part) → IsIn 0 8 given → Within (option_and_then (λ c. option_and_then (λ s. option_map (λ n. Go c s n) (steps_in parts)) (stack_in parts)) given)
+coloured None parts h = none_within
+coloured (Some c) parts h = stacked c (stack_in parts) parts h.1 (stack_is_in parts)
+
+go_within : (words : List Text) → Within (go_of words)
+go_within words = parts_within (parts_of (colours ∷ stack ∷ steps ∷ []) 0 words) go_in (λ parts. coloured (colours_in parts) parts (colours_are_in parts))
+
+phase_within : (make : Text → Command) (words : List Text) → ((name : Text) → is_module_name name ≡ true → IsWithin (make name)) → Within (option_and_then (λ parts. option_map make (module_in parts)) (parts_of [] 1 words))
+phase_within make words k =
+    parts_within (parts_of [] 1 words) (λ parts. option_map make (module_in parts))
+    (λ parts. named_within make (module_in parts) (λ name e. k name (module_is_named (plain_word parts) name e)))
+
+analyse_within : (words : List Text) → Within (analyse_of words)
+analyse_within words = parts_within (parts_of (colours ∷ []) 0 words) (λ parts. option_map Analyse (colours_in parts)) (λ parts. map_within Analyse 0 8 (colours_in parts) (colours_are_in parts) (λ n h k. k))
+
+link_within : (words : List Text) → Within (link_of words)
+link_within words = parts_within (parts_of (stack ∷ []) 0 words) (λ parts. option_map Link (stack_in parts)) (λ parts. map_within Link stack_least stack_most (stack_in parts) (stack_is_in parts) (λ n h k. (h, k)))
+
+run_within : (words : List Text) → Within (run_of words)
+run_within words = parts_within (parts_of (steps ∷ []) 0 words) (λ parts. option_map Run (steps_in parts)) (λ parts. any_within Run (steps_in parts) (λ n. tt))
+
+name_within : (name : Text) (words : List Text) → Within (command_by_name name words)
+unfolding command_by_name
+name_within name words =
+    if_within (bytes_eq name (codes "go")) _ _ (go_within words)
+    (if_within (bytes_eq name (codes "phase1")) _ _ (phase_within PhaseOne words (λ n h. h))
+    (if_within (bytes_eq name (codes "analyse")) _ _ (analyse_within words)
+    (if_within (bytes_eq name (codes "phase2")) _ _ (phase_within PhaseTwo words (λ n h. h))
+    (if_within (bytes_eq name (codes "link")) _ _ (link_within words)
+    (if_within (bytes_eq name (codes "run")) _ _ (run_within words)
+    (if_within (bytes_eq name (codes "list")) _ _ (listed_within (parts_of [] 0 words) ListImage tt)
+    (if_within (bytes_eq name (codes "db")) _ _ (listed_within (parts_of [] 0 words) Db tt)
+    none_within)))))))
+
+pub words_within : (words : List Text) → Within (command_of words)
+words_within [] = none_within
+words_within (name ∷ words) = name_within name words
