@@ -1,5 +1,5 @@
-//! Tests of the machine and of what it stands on: instructions, images, the outside, runs and routines. What
-//! the contracts do not say, as tables whose expected values come from outside. It has no code of its own.
+//! Tests of the machine and of what it stands on: instructions, images, the outside and runs. What the
+//! contracts do not say, as tables whose expected values come from outside. It has no code of its own.
 #![tactic(auto)]
 
 #[cfg(test)]
@@ -9,8 +9,4 @@ mod instructions;
 #[cfg(test)]
 mod loading;
 #[cfg(test)]
-mod pairs;
-#[cfg(test)]
 mod programs;
-#[cfg(test)]
-mod routines;

@@ -41,7 +41,7 @@ fn does_as_told(alloc: Global, file: &[u8], budget: u64, wanted: &str) -> Result
 }
 
 /// A file, how many steps a turn has, and what the program in it does.
-const RUNS: [(&[u8], u64, &str); 3] = [
+static RUNS: [(&[u8], u64, &str); 3] = [
     (&BAD_BREAK, 100, "Halted(BadBreak, 4096) 1 []"),
     (&PROGRAM, 1, "Ended(42) 6 [97]"),
     (&PROGRAM, 100, "Ended(42) 6 [97]"),
@@ -49,8 +49,11 @@ const RUNS: [(&[u8], u64, &str); 3] = [
 
 #[test]
 fn runs(rt: HostRuntime) -> Result<(), Fail> {
-    for (file, budget, wanted) in RUNS {
-        assert!(rt; does_as_told(rt.alloc(), file, budget, wanted)?, "{wanted}");
+    for (file, budget, wanted) in RUNS.iter() {
+        assert!(rt;
+            does_as_told(rt.alloc(), *file, *budget, *wanted)?,
+            "{wanted}"
+        );
     }
     Ok(())
 }

@@ -233,14 +233,14 @@ fn push_words(words: &mut Vec<u32>, text: &str) -> Result<(), Fail> {
 }
 
 /// The words of a text.
-pub(crate) fn words_of(alloc: Global, text: &str) -> Result<Vec<u32>, Fail> {
+fn words_of(alloc: Global, text: &str) -> Result<Vec<u32>, Fail> {
     let mut words = Vec::new(alloc);
     push_words(&mut words, text)?;
     Ok(words)
 }
 
 /// A machine with these words at its start.
-pub(crate) fn machine_of(alloc: Global, words: &[u32]) -> Result<Machine, Fail> {
+fn machine_of(alloc: Global, words: &[u32]) -> Result<Machine, Fail> {
     if words.is_empty() || words.len() > 65_536 {
         return Err(Fail::from("no program"));
     }

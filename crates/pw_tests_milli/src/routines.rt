@@ -2,7 +2,6 @@
 //! writes what it gave. The results are from gcc.
 
 use crate::pairs::PAIRS;
-use crate::programs::{machine_of, words_of};
 use pw_io::{SureSink, SureSource};
 use pw_machine::{Machine, Stop};
 use pw_milli::{Routine, library};
@@ -12,15 +11,80 @@ use std::test::Fail;
 /// Puts 1001 to 1030 into the registers 1 to 30. Then, as long as there is input: reads four bytes into
 /// register 3 and four into register 4, puts these into registers 26 and 25, calls the routine behind the
 /// program through register 31 and writes the four bytes of register 29. Ends with status 300.
-const CALLER: &str = "\
-340107d2 340207d4 340307d6 340407d8 340507da 340607dc 340707de 340807e0 340907e2 340a07e4
-340b07e6 340c07e8 340d07ea 340e07ec 340f07ee 341007f0 341107f2 341207f4 341307f6 341407f8
-341507fa 341607fc 341707fe 34180800 34190802 341a0804 341b0806 341c0808 341d080a 341e080c
-00002000 801c4128 08000240 d4630908 0b830243 00002000 d4630908 0b830243 00002000 d4630908
-0b830243 00002000 d4630908 0b830243 00002000 d4840908 0b840244 00002000 d4840908 0b840244
-00002000 d4840908 0b840244 00002000 d4840908 0b840244 0803025a 08040259 ebe00060 08000240
-d3ba18f8 00004000 d3ba19f8 00004000 d3ba1af8 00004000 d3ba1bf8 00004000 e81f1ec5 08000240
-341a0258 00006000";
+static CALLER: [u32; 72] = [
+    0x3401_07d2,
+    0x3402_07d4,
+    0x3403_07d6,
+    0x3404_07d8,
+    0x3405_07da,
+    0x3406_07dc,
+    0x3407_07de,
+    0x3408_07e0,
+    0x3409_07e2,
+    0x340a_07e4,
+    0x340b_07e6,
+    0x340c_07e8,
+    0x340d_07ea,
+    0x340e_07ec,
+    0x340f_07ee,
+    0x3410_07f0,
+    0x3411_07f2,
+    0x3412_07f4,
+    0x3413_07f6,
+    0x3414_07f8,
+    0x3415_07fa,
+    0x3416_07fc,
+    0x3417_07fe,
+    0x3418_0800,
+    0x3419_0802,
+    0x341a_0804,
+    0x341b_0806,
+    0x341c_0808,
+    0x341d_080a,
+    0x341e_080c,
+    0x0000_2000,
+    0x801c_4128,
+    0x0800_0240,
+    0xd463_0908,
+    0x0b83_0243,
+    0x0000_2000,
+    0xd463_0908,
+    0x0b83_0243,
+    0x0000_2000,
+    0xd463_0908,
+    0x0b83_0243,
+    0x0000_2000,
+    0xd463_0908,
+    0x0b83_0243,
+    0x0000_2000,
+    0xd484_0908,
+    0x0b84_0244,
+    0x0000_2000,
+    0xd484_0908,
+    0x0b84_0244,
+    0x0000_2000,
+    0xd484_0908,
+    0x0b84_0244,
+    0x0000_2000,
+    0xd484_0908,
+    0x0b84_0244,
+    0x0803_025a,
+    0x0804_0259,
+    0xebe0_0060,
+    0x0800_0240,
+    0xd3ba_18f8,
+    0x0000_4000,
+    0xd3ba_19f8,
+    0x0000_4000,
+    0xd3ba_1af8,
+    0x0000_4000,
+    0xd3ba_1bf8,
+    0x0000_4000,
+    0xe81f_1ec5,
+    0x0800_0240,
+    0x341a_0258,
+    0x0000_6000,
+];
 
 /// Where the caller's routine begins, and where it returns to.
 const ROUTINE: u32 = 4096 + 4 * 72;
@@ -29,9 +93,20 @@ const RETURN: u32 = 4096 + 4 * 60;
 
 /// Reads a byte by `getchar`, and as long as there is one, writes it by `putchar`; then calls `exit` with 300.
 /// The three stand behind the program in the order of the library.
-const ECHO: &str = "\
-e8400060 08000240 801c4028 08000240 081c025a e8400048 08000240 e81f1fbd 08000240 341a0258
-e8400000 08000240";
+static ECHO: [u32; 12] = [
+    0xe840_0060,
+    0x0800_0240,
+    0x801c_4028,
+    0x0800_0240,
+    0x081c_025a,
+    0xe840_0048,
+    0x0800_0240,
+    0xe81f_1fbd,
+    0x0800_0240,
+    0x341a_0258,
+    0xe840_0000,
+    0x0800_0240,
+];
 
 /// OR 0,0,0
 const NOP: u32 = 0x0800_0240;
@@ -48,17 +123,20 @@ fn push_routines(words: &mut Vec<u32>, routines: &[Routine]) -> Result<(), Alloc
     Ok(())
 }
 
-/// The words of a text with routines behind them.
-fn words_with(alloc: Global, text: &str, routines: &[Routine]) -> Result<Vec<u32>, Fail> {
-    let mut words = words_of(alloc, text)?;
+/// These words with routines behind them.
+fn words_with(alloc: Global, front: &[u32], routines: &[Routine]) -> Result<Vec<u32>, AllocError> {
+    let mut words = Vec::from_slice(alloc, front)?;
     push_routines(&mut words, routines)?;
     Ok(words)
 }
 
 /// A program with routines behind it.
-fn program(alloc: Global, text: &str, routines: &[Routine]) -> Result<Machine, Fail> {
-    let words = words_with(alloc, text, routines)?;
-    machine_of(alloc, &words)
+fn program(alloc: Global, front: &[u32], routines: &[Routine]) -> Result<Machine, Fail> {
+    let words = words_with(alloc, front, routines)?;
+    if words.is_empty() || words.len() > 65_536 {
+        return Err(Fail::from("no program"));
+    }
+    Ok(Machine::from_words(alloc, &words, 4096)?)
 }
 
 /// Appends the operands of a line of the table.
@@ -123,7 +201,7 @@ fn are_wanted(bytes: &[u8], index: usize) -> bool {
 
 /// The caller with a routine behind it.
 fn caller(alloc: Global, name: &str) -> Result<Machine, Fail> {
-    program(alloc, CALLER, &[named(name)?])
+    program(alloc, &CALLER, &[named(name)?])
 }
 
 /// Whether a routine gives, on all pairs, what a column of the table has.
@@ -309,7 +387,7 @@ fn steps(rt: HostRuntime) -> Result<(), Fail> {
 /// Whether the library's three functions echo an input before the program ends.
 fn is_echoed(alloc: Global, text: &[u8]) -> Result<bool, Fail> {
     let routines = [named("exit")?, named("getchar")?, named("putchar")?];
-    let mut machine = program(alloc, ECHO, &routines)?;
+    let mut machine = program(alloc, &ECHO, &routines)?;
     Ok(output(alloc, &mut machine, text)?.bytes() == text)
 }
 
