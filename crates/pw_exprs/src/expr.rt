@@ -9,13 +9,12 @@ ghost use Rattle.pw_tree.specs.Views.{view_expr, view_operations, view_postfixes
 
 use crate::chains::{operations, postfixes};
 use crate::names::{cast, size_of_type};
+use crate::primary::primary;
 use crate::unary::unary;
-use pw_checking::{Operand, Phrases, State, fault, whole_rule};
-use pw_leaves::{character_rule, identifier_rule, number_rule, string_rule};
+use pw_checking::{Operand, Phrases, State, whole_rule};
 use pw_operators::{assignment_rule, conditional_rule};
-use pw_token::Feature;
 use pw_tree::{AssignOperator, Expr, Operation, PostfixOperation};
-use pw_walk::{CheckFault, CheckKind};
+use pw_walk::CheckFault;
 use std::alloc::Global;
 
 /// An operand with what stands behind it.
@@ -86,7 +85,7 @@ fn assignment<'a, P: Phrases<'a>>(
 }
 
 /// An expression (C90 6.3), by the rules of the phrases within it.
-#[tactic(auto, unfolding(pw_tree::specs::Views::view_expr), using(pw_tree::proofs::Rows::postfix_view, pw_tree::proofs::Rows::chain_view, pw_tree::proofs::Rows::sizeof_view, pw_tree::proofs::Rows::cast_view))]
+#[tactic(auto, unfolding(pw_tree::specs::Views::view_expr))]
 pub fn expr_of<'a, P: Phrases<'a>>(
     alloc: Global,
     phrases: &P,
@@ -97,13 +96,6 @@ pub fn expr_of<'a, P: Phrases<'a>>(
     ensures { Leads view_operand (spec.expr_rule (view_expr expr.now)) (view_state state.old) result (view_state state.new) }
 {
     match expr {
-        Expr::Identifier(word) => identifier_rule(alloc, state, word),
-        Expr::Number(word) => number_rule(alloc, state, word),
-        Expr::Character(word) => character_rule(alloc, state, word),
-        Expr::Strings(words) => string_rule(alloc, state, words),
-        Expr::Floating(word) => Err(fault(CheckKind::Unsupported(Feature::Float), word.token)),
-        Expr::Wide(word) => Err(fault(CheckKind::Unsupported(Feature::Wide), word.token)),
-        Expr::Paren { inner, .. } => phrases.expr(alloc, state, inner),
         Expr::Postfix {
             operand,
             operations,
@@ -132,5 +124,6 @@ pub fn expr_of<'a, P: Phrases<'a>>(
             left,
             right,
         } => assignment(alloc, phrases, state, *token, *operator, left, right),
+        _ => primary(alloc, phrases, state, expr),
     }
 }

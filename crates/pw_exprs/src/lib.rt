@@ -4,6 +4,7 @@
 mod chains;
 mod expr;
 mod names;
+mod primary;
 mod unary;
 
 pub use expr::expr_of;
