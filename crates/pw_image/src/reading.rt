@@ -31,7 +31,8 @@ fn is_word_address(words: u64, address: u32) -> bool
 
 /// A number, of at most so many.
 fn read_at_most(most: u32, bytes: &[u8]) -> Result<(u32, &[u8]), FieldError>
-    ensures { Gives (λ x. (x.0, x.1.now)) result (checked (λ n. nat_le n most) u32_at bytes.now) }
+    ensures read { Gives (λ x. (x.0, x.1.now)) result (checked (λ n. nat_le n most) u32_at bytes.now) }
+    ensures no_memory { IfErr result (λ e. e ≢ FieldError.NoMemory) }
 {
     let (number, rest) = read_u32(bytes)?;
     if number <= most {
@@ -57,7 +58,8 @@ fn read_words(alloc: Global, count: u32, bytes: &[u8]) -> Result<(Vec<u32>, &[u8
 
 /// The data's size, where the data end before the stack does.
 fn read_data_size(words: u32, stack_end: u32, bytes: &[u8]) -> Result<(u32, &[u8]), FieldError>
-    ensures { Gives (λ x. (x.0, x.1.now)) result (checked (λ s. nat_le (data_start words + s) stack_end) u32_at bytes.now) }
+    ensures read { Gives (λ x. (x.0, x.1.now)) result (checked (λ s. nat_le (data_start words + s) stack_end) u32_at bytes.now) }
+    ensures no_memory { IfErr result (λ e. e ≢ FieldError.NoMemory) }
 {
     let (size, rest) = read_u32(bytes)?;
     let start = (u64::from(TEXT_START) + 4 * u64::from(words) + 7) / 8 * 8;
@@ -70,7 +72,8 @@ fn read_data_size(words: u32, stack_end: u32, bytes: &[u8]) -> Result<(u32, &[u8
 
 /// The offset of an item, from `free` to the data's size.
 fn read_offset(size: u32, free: u64, bytes: &[u8]) -> Result<(u32, &[u8]), FieldError>
-    ensures { Gives (λ x. (x.0, x.1.now)) result (checked (λ o. nat_le free o && nat_le o size) u32_at bytes.now) }
+    ensures read { Gives (λ x. (x.0, x.1.now)) result (checked (λ o. nat_le free o && nat_le o size) u32_at bytes.now) }
+    ensures no_memory { IfErr result (λ e. e ≢ FieldError.NoMemory) }
 {
     let (offset, rest) = read_u32(bytes)?;
     if free <= u64::from(offset) && offset <= size {
@@ -82,7 +85,8 @@ fn read_offset(size: u32, free: u64, bytes: &[u8]) -> Result<(u32, &[u8]), Field
 
 /// The bytes of an item at the offset, inside the data.
 fn read_item_bytes(size: u32, offset: u32, bytes: &[u8]) -> Result<(&[u8], &[u8]), FieldError>
-    ensures { Gives (λ x. (x.0.now, x.1.now)) result (checked (λ b. nat_le (offset + length b) size) text_at bytes.now) }
+    ensures read { Gives (λ x. (x.0.now, x.1.now)) result (checked (λ b. nat_le (offset + length b) size) text_at bytes.now) }
+    ensures no_memory { IfErr result (λ e. e ≢ FieldError.NoMemory) }
 {
     let (text, rest) = read_text_in_place(bytes)?;
     if offset <= size && text.len() <= (size - offset) as usize {
@@ -186,7 +190,8 @@ fn read_function<'a>(
 
 /// A number that is a word's address.
 fn read_address(words: u64, bytes: &[u8]) -> Result<(u32, &[u8]), FieldError>
-    ensures { Gives (λ x. (x.0, x.1.now)) result (checked (is_in_text words) u32_at bytes.now) }
+    ensures read { Gives (λ x. (x.0, x.1.now)) result (checked (is_in_text words) u32_at bytes.now) }
+    ensures no_memory { IfErr result (λ e. e ≢ FieldError.NoMemory) }
 {
     let (address, rest) = read_u32(bytes)?;
     if is_word_address(words, address) {

@@ -1,6 +1,6 @@
 //! When modules make a program.
 
-ghost use Rattle.std.specs.Prelude.{◌≡◌, ◌⊎◌, OnOk, IfErr};
+ghost use Rattle.std.specs.Prelude.{◌≡◌, ◌≢◌, ◌⊎◌, OnOk, IfErr};
 ghost use Rattle.pw_program.specs.Linking.{Links, Refusal, Answers, few_functions, few_globals, has_main};
 
 use crate::conflicts::check_shapes;
@@ -16,7 +16,8 @@ use std::alloc::Global;
 
 /// The test of the count of functions.
 fn check_functions(modules: &[Interface]) -> Result<(), LinkFault>
-    ensures { Answers few_functions modules.now result }
+    ensures answers { Answers few_functions modules.now result }
+    ensures no_memory { IfErr result (λ fault. fault ≢ LinkFault.NoMemory) }
 {
     let count = count_functions(modules);
     if count > FUNCTION_LIMIT {
@@ -27,7 +28,8 @@ fn check_functions(modules: &[Interface]) -> Result<(), LinkFault>
 
 /// The test of the count of objects.
 fn check_globals(modules: &[Interface]) -> Result<(), LinkFault>
-    ensures { Answers few_globals modules.now result }
+    ensures answers { Answers few_globals modules.now result }
+    ensures no_memory { IfErr result (λ fault. fault ≢ LinkFault.NoMemory) }
 {
     let count = count_globals(modules);
     if count > GLOBAL_LIMIT {
@@ -38,7 +40,8 @@ fn check_globals(modules: &[Interface]) -> Result<(), LinkFault>
 
 /// The test that there is a `main`.
 fn check_main(modules: &[Interface]) -> Result<(), LinkFault>
-    ensures { Answers has_main modules.now result }
+    ensures answers { Answers has_main modules.now result }
+    ensures no_memory { IfErr result (λ fault. fault ≢ LinkFault.NoMemory) }
 {
     if is_main_anywhere(modules) {
         Ok(())

@@ -1,6 +1,6 @@
 //! The command that words say.
 
-ghost use Rattle.std.specs.Prelude.{◌≡◌, ◌≤◌, ℕ, List, IfOk, drop, map, string_bytes, codes, option_map, option_and_then, Option};
+ghost use Rattle.std.specs.Prelude.{◌≡◌, ◌≢◌, ◌≤◌, ℕ, List, IfErr, IfOk, drop, map, string_bytes, codes, option_map, option_and_then, Option};
 ghost use Rattle.clap.specs.Matches.{first_value, found_of};
 ghost use Rattle.pw_words.specs.CommandLine.{Part, Reads, colours_in, command_of, go_of, go_in, command_by_name, module_in, number_or, parts_of, stack_in, steps_in, phase_one_of, phase_two_of, analyse_of, link_of, run_of, list_of, db_of};
 ghost use Rattle.pw_words.specs.Reading.{IsMatchOf};
@@ -56,6 +56,7 @@ fn number_or(
     requires { usual ≤ most }
     ensures read { Reads (number_or least most usual (first_value (found_of matches.now) option.now)) result }
     ensures within { IfOk result (λ n. n ≤ most) }
+    ensures no_memory { IfErr result (λ fault. fault ≢ WordsFault.NoMemory) }
 {
     match matches.get_str(option) {
         None => Ok(usual),
@@ -65,14 +66,16 @@ fn number_or(
 
 /// How many registers webs may have, by the words.
 fn colours(matches: &ArgMatches) -> Result<u8, WordsFault>
-    ensures { (parts : List Part) → IsMatchOf parts matches.now → Reads (colours_in parts) result }
+    ensures read { (parts : List Part) → IsMatchOf parts matches.now → Reads (colours_in parts) result }
+    ensures no_memory { IfErr result (λ fault. fault ≢ WordsFault.NoMemory) }
 {
     Ok(number_or(matches, COLOURS, 0, MOST_COLOURS, MOST_COLOURS)? as u8)
 }
 
 /// The bytes of the stack, by the words.
 fn stack(matches: &ArgMatches) -> Result<u32, WordsFault>
-    ensures { (parts : List Part) → IsMatchOf parts matches.now → Reads (stack_in parts) result }
+    ensures read { (parts : List Part) → IsMatchOf parts matches.now → Reads (stack_in parts) result }
+    ensures no_memory { IfErr result (λ fault. fault ≢ WordsFault.NoMemory) }
 {
     Ok(number_or(
         matches,
@@ -85,7 +88,8 @@ fn stack(matches: &ArgMatches) -> Result<u32, WordsFault>
 
 /// How many instructions a run may take, by the words.
 fn steps(matches: &ArgMatches) -> Result<u64, WordsFault>
-    ensures { (parts : List Part) → IsMatchOf parts matches.now → Reads (steps_in parts) result }
+    ensures read { (parts : List Part) → IsMatchOf parts matches.now → Reads (steps_in parts) result }
+    ensures no_memory { IfErr result (λ fault. fault ≢ WordsFault.NoMemory) }
 {
     number_or(matches, STEPS, 1, MOST_STEPS, USUAL_STEPS)
 }

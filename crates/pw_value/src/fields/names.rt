@@ -24,7 +24,8 @@ fn may_follow(before: &[u8], name: &[u8]) -> bool
 /// A name of the table behind the one before it, in place.
 #[tactic(auto, unfolding(crate::specs::FieldNames::entry_at))]
 fn read_entry<'a>(before: &[u8], bytes: &'a [u8]) -> Result<(&'a [u8], &'a [u8]), FieldError>
-    ensures { Gives (λ x. (x.0.now, x.1.now)) result (entry_at before.now bytes.now) }
+    ensures read { Gives (λ x. (x.0.now, x.1.now)) result (entry_at before.now bytes.now) }
+    ensures no_memory { IfErr result (λ e. e ≢ FieldError.NoMemory) }
 {
     let (name, rest) = read_text_in_place(bytes)?;
     if may_follow(before, name) {

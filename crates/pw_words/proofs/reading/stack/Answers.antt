@@ -5,13 +5,13 @@ use Rattle.pw_words.specs.CommandLine.{Reads, stack, number_or}
 use Rattle.pw_words.proofs.Said.{option_said}
 use Rattle.pw_words.proofs.reading.stack.Goals as goal
 
-pub returns-in_err-number_or : goal.returns-in_err-number_or
-returns-in_err-number_or c = λ parts same.
+pub returns-in_err-number_or-clause-read : goal.returns-in_err-number_or-clause-read
+returns-in_err-number_or-clause-read c = λ parts same.
     let told : Reads (number_or stack_least stack_most 1048576 (first_value (found_of c.args.matches.now) stack)) c.from_residual.result = search rules in
     subst (λ (o : Option ℕ). Reads o c.from_residual.result) (ap (number_or stack_least stack_most 1048576) (option_said stack parts c.args.matches.now refl same)) told
 
-pub returns : goal.returns
-returns c = λ parts same.
+pub returns-clause-read : goal.returns-clause-read
+returns-clause-read c = λ parts same.
     let given = first_value (found_of c.args.matches.now) stack in
     let low : c.from.result ≡ stack_least = search rules in
     let high : c.from-2.result ≡ stack_most = search rules in
