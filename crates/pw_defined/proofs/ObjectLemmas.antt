@@ -15,14 +15,19 @@ use Rattle.pw_rules.specs.Linkage.{Asking, declare_linked, define_object, define
 use Rattle.pw_rules.specs.SpecifierLists.{Specified}
 use Rattle.pw_rules.specs.States.{State, add_hidden, next_hidden, next_local, put_hidden}
 use Rattle.pw_rules.specs.Initialisers.{Context, is_by_bytes, object_rule}
-use Rattle.pw_rules.specs.Declarations.{AGlobal, asking_of, bytes_rule, completed_rule, context_of, first_part, global_rule, hidden_of, is_tentative, local_initialiser, local_rule, place_here, single_rule, static_rule}
+use Rattle.pw_rules.specs.Declarations.{AGlobal, asking_of, bytes_rule, completed_rule, context_of, first_part, fitting_rule, global_rule, hidden_of, is_tentative, local_initialiser, local_rule, place_here, single_rule, static_rule}
 use Rattle.pw_initial.proofs.WalkLemmas.{same_behind}
-use Rattle.pw_defined.specs.Parts.{global_filled, global_rest, linked_only, local_begun, local_filled, local_rest, object_completed, static_begun, static_filled, static_rest}
+use Rattle.pw_defined.specs.Parts.{global_filled, global_rest, linked_only, local_begun, local_filled, local_rest, object_completed, object_fitted, static_begun, static_filled, static_rest}
 
 pub object_joined : (w : Word) (cx : Context) (q : QType) (i : Init) (s : State)
     → object_completed w cx q i s ≡ bind (object_rule cx q i s) (λ o. bind (completed_rule w o.0.ty o.1) (λ t. Done (o.0, t.1)))
 unfolding object_completed
 object_joined w cx q i s = refl
+
+pub fitted_joined : (w : Word) (place : ℕ) (cx : Context) (q : QType) (i : Init) (s : State)
+    → object_fitted w place cx q i s ≡ bind (object_rule cx q i s) (λ o. bind (fitting_rule w place o.0.ty o.1) (λ t. Done (o.0, t.1)))
+unfolding object_fitted
+fitted_joined w place cx q i s = refl
 
 pub only_linked : (w : Word) (b : Specified) (asking : Asking) (q : QType) (s : State)
     → linked_only w b asking q s ≡ bind (declare_linked w.text w.token b.tag asking q s) (λ t. Done ([], t.1))
@@ -39,7 +44,7 @@ module _ (w : Word) (b : Specified) (spot : Spot) (q : QType) (o : Option Initia
 
   pub global_some : (i : Initializer) → o ≡ Some i → global_rule w b spot q (view_initializer o) s
       ≡ bind (declare_linked w.text w.token b.tag (asking_of AGlobal b) q s) (λ p. global_rest w p.0 q (view_init i.init) p.1)
-  unfolding bind global_rule global_rest object_completed completed_rule
+  unfolding bind global_rule global_rest object_fitted fitting_rule
   global_some i is =
       ap (λ x. global_rule w b spot q (view_initializer x) s) is
       ∙ same_behind (declare_linked w.text w.token b.tag (asking_of AGlobal b) q s) _ _
@@ -56,7 +61,7 @@ global_either w b spot q None s = global_none w b spot q None s refl
 global_either w b spot q (Some i) s = global_some w b spot q (Some i) s i refl
 
 pub global_joined : (w : Word) (place : ℕ) (q : QType) (i : Init) (s mid : State) → mid ≡ define_object place s
-    → global_rest w place q i s ≡ bind (object_completed w (context_of w true 0) q i mid) (λ o. Done ([], global_filled w place o.0 o.1))
+    → global_rest w place q i s ≡ bind (object_fitted w place (context_of w true 0) q i mid) (λ o. Done ([], global_filled w place o.0 o.1))
 unfolding bind global_rest
 global_joined w place q i s mid e = rw e refl
 

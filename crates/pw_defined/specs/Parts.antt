@@ -9,7 +9,7 @@ use Rattle.pw_rules.specs.States.{Rule, State, LocalObject, StaticObject, add_hi
 use Rattle.pw_rules.specs.SpecifierLists.{Specified, is_register}
 use Rattle.pw_rules.specs.Linkage.{Asking, declare_linked, define_object, initialise_linked, note_here}
 use Rattle.pw_rules.specs.Initialisers.{Context, Initialised, object_rule, is_by_bytes}
-use Rattle.pw_rules.specs.Declarations.{completed_rule, context_of, hidden_of, local_of, local_initialiser, place_here, put_local}
+use Rattle.pw_rules.specs.Declarations.{completed_rule, context_of, fitting_rule, hidden_of, local_of, local_initialiser, place_here, put_local}
 
 -- a declaration that gives a name linkage, and no more
 unfoldable pub linked_only : Word → Specified → Asking → QType → Rule (List Initialiser)
@@ -59,10 +59,17 @@ local_rest w b k q i =
 abbrev pub global_filled : Word → ℕ → Initialised → State → State
 global_filled w place o s = note_here w.text place o.ty (initialise_linked place o.ty o.filled.items s)
 
+-- the initialiser of an object with linkage, whose type it may complete
+unfoldable pub object_fitted : Word → ℕ → Context → QType → Init → Rule Initialised
+object_fitted w place cx q i =
+    object_rule cx q i >>= λ o.
+    fitting_rule w place o.ty >>
+    pure o
+
 -- the definition of an object with linkage, by its initialiser
 unfoldable pub global_rest : Word → ℕ → QType → Init → Rule (List Initialiser)
 global_rest w place q i =
     change (define_object place) >>
-    object_completed w (context_of w true 0) q i >>= λ o.
+    object_fitted w place (context_of w true 0) q i >>= λ o.
     change (global_filled w place o) >>
     pure []

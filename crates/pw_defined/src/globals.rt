@@ -6,21 +6,20 @@ ghost use Rattle.pw_checking.specs.PhraseViews.{view_specified};
 ghost use Rattle.pw_checking.specs.StateViews.{view_state};
 ghost use Rattle.pw_defined.specs.Parts as part;
 ghost use Rattle.pw_defined.specs.Views.{view_made};
-ghost use Rattle.pw_initial.specs.Views.{view_initialised};
+ghost use Rattle.pw_initial.specs.Views.{view_context, view_initialised};
 ghost use Rattle.pw_linked.specs.Views.{view_asking};
 ghost use Rattle.pw_rules.specs.Declarations as spec;
 ghost use Rattle.pw_rules.specs.Linkage as linkage;
 ghost use Rattle.pw_tree.specs.Views.{view_init, view_initializer, view_word};
 ghost use Rattle.pw_types.specs.Views.{view_qtype};
 
-use crate::statics::object_completed;
 use pw_checking::{Phrases, Specified, State};
-use pw_initial::{Context, Initialised};
+use pw_initial::{Context, Initialised, object_rule};
 use pw_kinds::copy_qtype;
 use pw_linked::{
     Asking, declare_linked, define_object, define_tentatively, initialise_linked, note_here,
 };
-use pw_named::{Sort, asking_of, is_tentative};
+use pw_named::{Sort, asking_of, fitting_rule, is_tentative};
 use pw_tree::{Init, Initializer, Word};
 use pw_typed::Initialiser;
 use pw_types::QType;
@@ -68,6 +67,26 @@ fn global_filled<'a>(
     Ok(())
 }
 
+/// The initialiser of an object with linkage, whose type it may complete: the type has to fit the name's other
+/// declarations, and a limit on it counts at the object's name.
+fn object_fitted<'a, P: Phrases<'a>>(
+    alloc: Global,
+    phrases: &P,
+    state: &mut State<'a>,
+    word: &Word,
+    place: u32,
+    cx: &Context,
+    q: QType,
+    init: &'a Init,
+) -> Result<Initialised, CheckFault>
+    requires { P.can_check phrases.now }
+    ensures { Leads view_initialised (part.object_fitted (view_word word.now) place (view_context cx.now) (view_qtype q) (view_init init.now)) (view_state state.old) result (view_state state.new) }
+{
+    let made = object_rule(alloc, phrases, state, cx, q, init)?;
+    fitting_rule(alloc, state, word, place, &made.ty)?;
+    Ok(made)
+}
+
 /// The definition of an object with linkage, by its initialiser.
 fn global_rest<'a, P: Phrases<'a>>(
     alloc: Global,
@@ -87,7 +106,7 @@ fn global_rest<'a, P: Phrases<'a>>(
         constant: true,
         hidden: 0,
     };
-    let made = object_completed(alloc, phrases, state, word, &cx, q, init)?;
+    let made = object_fitted(alloc, phrases, state, word, place, &cx, q, init)?;
     global_filled(alloc, state, word, place, made)?;
     Ok(Vec::new(alloc))
 }

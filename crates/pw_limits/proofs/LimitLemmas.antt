@@ -6,8 +6,8 @@ use Rattle.pw_types.specs.Caps.{capped}
 use Rattle.pw_types.specs.TypeTrees.{CType, RecordValue}
 use Rattle.pw_finding.specs.Found.{found, lesser_found}
 use Rattle.pw_finding.proofs.FindingLaws.{found_append}
-use Rattle.pw_rules.specs.Kinds.{innermost, is_complete, is_record}
-use Rattle.pw_rules.specs.Limits.{Spot, completed}
+use Rattle.pw_rules.specs.Kinds.{is_complete}
+use Rattle.pw_rules.specs.Limits.{Spot, completed, lacks_content}
 
 -- a number that the greatest of 64 bits does not stand for is the number itself
 pub uncapped : (d n : ℕ) → d ≡ capped n → d ≢ 2 ^ 64 - 1 → d ≡ n
@@ -31,15 +31,15 @@ untagged false (Some k) record_here other e = refl
 untagged false None record_here other e = refl
 
 module _ (records : List RecordValue) (spot : Spot) (constraint : Constraint) (ty : CType) where
-  -- the specifiers brought in the tag of what is to be complete
-  pub completed_tagged : (tag : ℕ) → (if is_record (innermost ty) then spot.tag else None) ≡ Some tag
-      → completed records spot constraint ty ≡ needs DeclaredTag tag (is_complete records (innermost ty))
+  -- the specifiers brought in the tag of a record that has no content
+  pub completed_tagged : (tag : ℕ) → (if lacks_content records ty then spot.tag else None) ≡ Some tag
+      → completed records spot constraint ty ≡ needs DeclaredTag tag false
   completed_tagged tag e =
-      tagged (is_record (innermost ty)) spot.tag tag (λ t. needs DeclaredTag t (is_complete records (innermost ty)))
+      tagged (lacks_content records ty) spot.tag tag (λ t. needs DeclaredTag t false)
       (needs constraint spot.token (is_complete records ty)) e
 
-  pub completed_plainly : (if is_record (innermost ty) then spot.tag else None) ≡ None
+  pub completed_plainly : (if lacks_content records ty then spot.tag else None) ≡ None
       → completed records spot constraint ty ≡ needs constraint spot.token (is_complete records ty)
   completed_plainly e =
-      untagged (is_record (innermost ty)) spot.tag (λ t. needs DeclaredTag t (is_complete records (innermost ty)))
+      untagged (lacks_content records ty) spot.tag (λ t. needs DeclaredTag t false)
       (needs constraint spot.token (is_complete records ty)) e

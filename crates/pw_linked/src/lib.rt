@@ -10,4 +10,4 @@ pub use define::{
     define_function, define_object, define_tentatively, initialise_linked, symbol_at,
     symbol_of_linked,
 };
-pub use meanings::{fresh_name, linkage_point, undefined_yet};
+pub use meanings::{fitting, fresh_name, linkage_point, undefined_yet};

@@ -105,3 +105,12 @@ pub fn undefined_yet(finding: Finding, state: &State, name: &[u8], token: usize)
     let defined = is_defined(linked_before(state, name));
     finding.needs(CheckKind::Redeclared, token, !defined)
 }
+
+/// The type that an initialiser gives an object is compatible with the one that its name has by all its declarations
+/// (C90 6.5).
+pub fn fitting(state: &State, place: u32, token: usize, ty: &QType) -> Finding
+    ensures { result.least ≡ found (spec.fitting (view_state state.now) place token (view_qtype ty.now) ∷ []) }
+{
+    let fits = keeps_type(state.linked_at(place), ty);
+    Finding::none().needs(CheckKind::Redeclared, token, fits)
+}

@@ -4,7 +4,7 @@
 pub mod points;
 pub mod sorts;
 
-pub use points::{completed_rule, name_rule};
+pub use points::{completed_rule, fitting_rule, name_rule};
 pub use sorts::{
     Sort, asking_of, is_auto, is_extern, is_register, is_static, is_tentative, sort_of,
 };

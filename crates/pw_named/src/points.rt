@@ -16,7 +16,7 @@ use crate::sorts::{Sort, asking_of, is_extern, is_static};
 use pw_checking::{Finding, Specified, Spot, State};
 use pw_kinds::{is_open_array, is_void};
 use pw_limits::{completed, name_within, type_within};
-use pw_linked::{Asking, fresh_name, is_internal_by, linkage_point, undefined_yet};
+use pw_linked::{Asking, fitting, fresh_name, is_internal_by, linkage_point, undefined_yet};
 use pw_tree::Word;
 use pw_types::{QType, Types};
 use pw_walk::{CheckFault, CheckKind};
@@ -196,4 +196,19 @@ pub fn completed_rule(
     ensures { Follows (λ u. u) (spec.completed_rule (view_word word.now) (view_qtype q.now)) (view_state state.now) result }
 {
     type_within(alloc, state.records(), word.token, q)?.end()
+}
+
+/// The type that an initialiser gives an object with linkage fits what else the name is declared with, and keeps its
+/// limits.
+pub fn fitting_rule(
+    alloc: Global,
+    state: &State<'_>,
+    word: &Word,
+    place: u32,
+    q: &QType,
+) -> Result<(), CheckFault>
+    ensures { Follows (λ u. u) (spec.fitting_rule (view_word word.now) place (view_qtype q.now)) (view_state state.now) result }
+{
+    let fits = fitting(state, place, word.token, q);
+    fits.and(type_within(alloc, state.records(), word.token, q)?).end()
 }

@@ -1,5 +1,5 @@
 -- The limits on types and names that are declared (ISO C90 5.2.4.1), and what is to be complete.
-use Rattle.std.specs.Prelude.{ℕ, Bool, not, ◌&&◌, nat_le, nat_lt, if◌then◌else◌, Option, None, Some, is_some, unwrap_or, List, [], ◌∷◌, length}
+use Rattle.std.specs.Prelude.{ℕ, Bool, false, not, ◌&&◌, nat_le, nat_lt, if◌then◌else◌, Option, None, Some, is_some, unwrap_or, List, [], ◌∷◌, length}
 use Rattle.std.specs.Option.{option_or}
 use Rattle.pw_types.specs.TypeTrees.{CType, Pointer, Array, Function, QType, Qualified, type_of, is_volatile, RecordValue}
 use Rattle.pw_types.specs.Records.{depth_of}
@@ -62,11 +62,15 @@ pub record Spot : Type 0 where
   pub specifier : ℕ
   pub tag : Option ℕ
 
--- A type that is to be complete: where its specifiers brought in the tag of what is incomplete, that tag is not declared
--- (6.5.2.3); else the constraint is broken.
+-- a structure or union without content, or an array of such
+abbrev pub lacks_content : List RecordValue → CType → Bool
+lacks_content records ty = is_record (innermost ty) && not (is_complete records (innermost ty))
+
+-- A type that is to be complete: where its specifiers brought in the tag of a record that has no content, that tag is not
+-- declared (6.5.2.3); else the constraint is broken.
 abbrev pub completed : List RecordValue → Spot → Constraint → CType → Cause
 completed records spot constraint ty =
     if is_some spot.tag then
-    (if is_record (innermost ty) then needs DeclaredTag (unwrap_or spot.tag 0) (is_complete records (innermost ty))
+    (if lacks_content records ty then needs DeclaredTag (unwrap_or spot.tag 0) false
     else needs constraint spot.token (is_complete records ty))
     else needs constraint spot.token (is_complete records ty)

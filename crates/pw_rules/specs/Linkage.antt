@@ -123,6 +123,10 @@ define_function place = change_linked place (λ l. record l { defined = true })
 abbrev pub initialise_linked : ℕ → QType → List PlacedItem → State → State
 initialise_linked place ty items = change_linked place (λ l. record l { ty = composite l.ty ty; items = items })
 
+-- the type that an initialiser gives fits the one that the name has by all its declarations (6.5)
+abbrev pub fitting : State → ℕ → ℕ → QType → Cause
+fitting s place token ty = needs OneType token (option_map_or (λ l. compatible l.ty ty) (linked_at s place) true)
+
 -- how a module speaks of it
 abbrev pub symbol_of_linked : LinkedName → Symbol
 symbol_of_linked l = if l.internal then Internal l.name else External l.name
