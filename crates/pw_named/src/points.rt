@@ -210,5 +210,6 @@ pub fn fitting_rule(
     ensures { Follows (λ u. u) (spec.fitting_rule (view_word word.now) place (view_qtype q.now)) (view_state state.now) result }
 {
     let fits = fitting(state, place, word.token, q);
-    fits.and(type_within(alloc, state.records(), word.token, q)?).end()
+    fits.and(type_within(alloc, state.records(), word.token, q)?)
+        .end()
 }
