@@ -1,0 +1,19 @@
+use Rattle.pw_compiling.proofs.SecondLemmas.{obeys_made, obeys_stopped, put_is_store, stop_is_store}
+use Rattle.pw_compiling.proofs.flows.compile_flow.Goals as goal
+
+pub returns-in-Ok-clause-obeys : goal.returns-in-Ok-clause-obeys
+returns-in-Ok-clause-obeys g c =
+    obeys_made (record { directives = c.directives_are_one.ensures; object = c.a_module_has_one_object.ensures; file = c.objects_and_files_are_one_to_one.ensures.one_file })
+    (g.S.Store.told c.args.store.now) _ _ c.args.name.now c.in-Ok.bytes.items c.put_bytes.result
+    c.in-Ok.ensures.object c.object_bytes.ensures.same (rw c.deref.ensures.value at c.put_bytes.ensures.put) c.put_bytes.ensures.answer
+
+pub returns-in-Err-clause-obeys : goal.returns-in-Err-clause-obeys
+returns-in-Err-clause-obeys g c =
+    obeys_stopped (g.S.Store.told c.args.store.now) _ c.args.name.now c.in-Err.answer
+    c.in-Err.ensures.object c.object_bytes.ensures.same c.in-Err.ensures.stop
+
+pub returns-in-Ok-clause-answer : goal.returns-in-Ok-clause-answer
+returns-in-Ok-clause-answer g c = put_is_store c.put_bytes.result c.put_bytes.ensures.answer
+
+pub returns-in-Err-clause-answer : goal.returns-in-Err-clause-answer
+returns-in-Err-clause-answer g c = stop_is_store c.in-Err.answer c.in-Err.ensures.stop

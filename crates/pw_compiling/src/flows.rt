@@ -1,0 +1,135 @@
+//! The command `phase2`.
+
+ghost use Rattle.std.specs.Prelude.{◌≡◌, ℕ, List, Ok, ◌++◌, true, IfErr, IfOk, IfSome, codes, length};
+ghost use Rattle.pw_io.specs.Files.{Keeps};
+ghost use Rattle.pw_answer.specs.Outcomes.{StoreCount};
+ghost use Rattle.pw_db.specs.Database.{IsDatabase};
+ghost use Rattle.pw_flow.specs.ValidFlow.{IsValid};
+ghost use Rattle.pw_modules.specs.Modules.{is_module_name};
+ghost use Rattle.pw_object.specs.Object.{IsObject};
+ghost use Rattle.pw_value.specs.Names.{IsNameLength};
+ghost use Rattle.pw_commands.specs.Needed.{Needs, needed};
+ghost use Rattle.pw_commands.specs.Outcome.{IsFileStop, IsStoreAnswer, Obeys, StopCount};
+ghost use Rattle.pw_compiling.specs.Second.{IsFileOfFlow, IsObjectUnder, PhaseTwoComes, database_at, flow_at};
+ghost use Rattle.pw_compiling.specs.Made.{MakesObject};
+
+use crate::files::{module_file, put_bytes};
+use pw_answer::Answer;
+use pw_commands::{read_needed, refused};
+use pw_db::Database;
+use pw_db::laws::directives_are_one;
+use pw_flow::FlowModule;
+use pw_io::Store;
+use pw_object::Object;
+use pw_object::laws::objects_and_files_are_one_to_one;
+use pw_phases::laws::a_module_has_one_object;
+use pw_phases::{directives_for, phase_two};
+use pw_value::Name;
+use std::alloc::{AllocError, Global};
+
+/// The flow graph in a file.
+fn flow_in<S: Store>(alloc: Global, store: &mut S, file: &str) -> Result<FlowModule, Answer>
+    requires { IsNameLength (length file.now) }
+    ensures flow { IfSome (S.told store.old) (λ told. Needs (λ flow. flow) result (needed flow_at told.files file.now)) }
+    ensures lawful { IfOk result (λ flow. IsValid flow) }
+    ensures same { Keeps (S.told store.old) (S.told store.new) }
+    ensures count { StopCount (S.faults store.old) (S.faults store.new) result }
+    ensures stop { IfErr result IsFileStop }
+{
+    let bytes = read_needed(alloc, store, file)?;
+    match pw_flowfile::read(alloc, &bytes) {
+        Ok(flow) => Ok(flow),
+        Err(error) => Err(refused(alloc, file, error)),
+    }
+}
+
+/// The database.
+fn needed_database<S: Store>(alloc: Global, store: &mut S) -> Result<Database, Answer>
+    ensures database { IfSome (S.told store.old) (λ told. Needs (λ db. db.functions) result (needed database_at told.files (codes "prog.db"))) }
+    ensures lawful { IfOk result (λ db. IsDatabase db.functions) }
+    ensures same { Keeps (S.told store.old) (S.told store.new) }
+    ensures count { StopCount (S.faults store.old) (S.faults store.new) result }
+    ensures stop { IfErr result IsFileStop }
+{
+    let bytes = read_needed(alloc, store, "prog.db")?;
+    match pw_db::read(alloc, &bytes) {
+        Ok(db) => Ok(db),
+        Err(error) => Err(refused(alloc, "prog.db", error)),
+    }
+}
+
+/// The object of a flow graph under the directives of a database.
+fn object_of(alloc: Global, flow: &FlowModule, db: &Database) -> Result<Object, AllocError>
+    requires lawful { IsValid flow.now }
+    requires database { IsDatabase db.now.functions }
+    ensures object { IfOk result (λ object. IsObjectUnder flow.now db.now.functions object) }
+    ensures lawful { IfOk result (λ object. IsObject object) }
+{
+    let directives = directives_for(alloc, flow, db)?;
+    phase_two(alloc, flow, &directives)
+}
+
+/// The object's file.
+fn file_of_flow(alloc: Global, flow: &FlowModule, db: &Database) -> Result<Vec<u8>, AllocError>
+    requires lawful { IsValid flow.now }
+    requires database { IsDatabase db.now.functions }
+    ensures { IfOk result (λ bytes. IsFileOfFlow flow.now db.now.functions bytes.items) }
+{
+    let object = object_of(alloc, flow, db)?;
+    pw_object::write(alloc, &object)
+}
+
+/// The object's file of a flow graph, or the answer in its place.
+fn file_under<S: Store>(alloc: Global, store: &mut S, flow: &FlowModule) -> Result<Vec<u8>, Answer>
+    requires { IsValid flow.now }
+    ensures object { IfSome (S.told store.old) (λ told. MakesObject (Ok flow.now) (needed database_at told.files (codes "prog.db")) result) }
+    ensures same { Keeps (S.told store.old) (S.told store.new) }
+    ensures count { StopCount (S.faults store.old) (S.faults store.new) result }
+    ensures stop { IfErr result IsFileStop }
+{
+    let db = needed_database(alloc, store)?;
+    Ok(file_of_flow(alloc, flow, &db)?)
+}
+
+/// The object's file of the flow graph in a file, or the answer in its place.
+fn object_file<S: Store>(alloc: Global, store: &mut S, file: &str) -> Result<Vec<u8>, Answer>
+    requires { IsNameLength (length file.now) }
+    ensures object { IfSome (S.told store.old) (λ told. MakesObject (needed flow_at told.files file.now) (needed database_at told.files (codes "prog.db")) result) }
+    ensures same { Keeps (S.told store.old) (S.told store.new) }
+    ensures count { StopCount (S.faults store.old) (S.faults store.new) result }
+    ensures stop { IfErr result IsFileStop }
+{
+    let flow = flow_in(alloc, store, file)?;
+    file_under(alloc, store, &flow)
+}
+
+/// The file of a module's object, or the answer in its place.
+fn object_bytes<S: Store>(alloc: Global, store: &mut S, name: &Name) -> Result<Vec<u8>, Answer>
+    requires { is_module_name name.now ≡ true }
+    ensures object { IfSome (S.told store.old) (λ told. MakesObject (needed flow_at told.files (name.now ++ codes ".flow")) (needed database_at told.files (codes "prog.db")) result) }
+    ensures same { Keeps (S.told store.old) (S.told store.new) }
+    ensures count { StopCount (S.faults store.old) (S.faults store.new) result }
+    ensures stop { IfErr result IsFileStop }
+{
+    let file = module_file(alloc, name, ".flow")?;
+    object_file(alloc, store, file.as_str())
+}
+
+/// Compiles the flow graph of a module into its object, under the directives of the database.
+///
+/// The flow graph is read from `NAME.flow`, the database from `prog.db`, and `NAME.obj` is put. The answer is `Done`
+/// where it was put; `BadFile` for the first of the two files that is absent or refused; nothing is put then.
+pub fn compile_flow<S: Store>(alloc: Global, store: &mut S, name: &Name) -> Answer
+    requires { is_module_name name.now ≡ true }
+    ensures obeys { IfSome (S.told store.old) (λ told. (input : List ℕ) → Obeys (PhaseTwoComes told.files name.now input) result told (S.told store.new)) }
+    ensures answer { IsStoreAnswer result }
+    ensures count { StoreCount (S.faults store.old) (S.faults store.new) result }
+{
+    directives_are_one();
+    a_module_has_one_object();
+    objects_and_files_are_one_to_one();
+    match object_bytes(alloc, store, name) {
+        Ok(bytes) => put_bytes(alloc, store, name, ".obj", &bytes),
+        Err(answer) => answer,
+    }
+}
