@@ -8,7 +8,7 @@ use Rattle.pw_top.proofs.ToldLemmas.{memory_refuses, no_memory_is_no_usage}
 use Rattle.pw_top.proofs.top.obey_words.Goals as goal
 
 pub obey-requires : goal.obey-requires
-obey-requires c = c.commands_are_within.ensures (map string_bytes c.args.words.now) c.in-Ok.command c.in-Ok.ensures
+obey-requires g c = c.commands_are_within.ensures (map string_bytes c.args.words.now) c.in-Ok.command c.in-Ok.ensures
 
 pub returns-in-Ok-clause-does : goal.returns-in-Ok-clause-does
 returns-in-Ok-clause-does g c = rw c.in-Ok.ensures c.obey.ensures.does
@@ -32,10 +32,14 @@ pub returns-in-Ok-clause-line : goal.returns-in-Ok-clause-line
 returns-in-Ok-clause-line g c = rw c.in-Ok.ensures c.obey.ensures.line
 
 pub returns-in-Err-Usage-clause-does : goal.returns-in-Err-Usage-clause-does
-returns-in-Err-Usage-clause-does g c = rw c.in-Err-Usage.ensures (usage_does (g.S.Store.told c.args.store.now) (g.I.Source.rest c.args.input.now) (g.O.Sink.taken c.args.out.now))
+returns-in-Err-Usage-clause-does g c =
+    let none = rw c.in-Err-Usage.field-0-is at c.in-Err-Usage.ensures in
+    rw none (usage_does (g.S.Store.told c.args.store.now) (g.I.Source.rest c.args.input.now) (g.O.Sink.taken c.args.out.now))
 
 pub returns-in-Err-Usage-clause-refusal : goal.returns-in-Err-Usage-clause-refusal
-returns-in-Err-Usage-clause-refusal g c = rw c.in-Err-Usage.ensures (of_other _ (g.S.Store.told c.args.store.now))
+returns-in-Err-Usage-clause-refusal g c =
+    let none = rw c.in-Err-Usage.field-0-is at c.in-Err-Usage.ensures in
+    rw none (of_other _ (g.S.Store.told c.args.store.now))
 
 pub returns-in-Err-Usage-clause-reads : goal.returns-in-Err-Usage-clause-reads
 returns-in-Err-Usage-clause-reads g c = λ h. kept_alone (g.S.Store.told c.args.store.now)

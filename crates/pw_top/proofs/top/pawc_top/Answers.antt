@@ -75,7 +75,7 @@ returns-clause-output_faults g c = output_told _ _ c.obey_words-reply.result.ans
 pub returns-clause-line : goal.returns-clause-line
 returns-clause-line g c =
     told_line (λ files. line_of (command_of (map string_bytes c.args.words.now)) files) (g.S.Store.told c.args.store.now) c.obey_words-reply.result.answer c.tell.result c.obey_words-reply.result.line
-    (λ (text : List ℕ). Tells text (g.E.Sink.taken c.args.err.now) _ (g.E.Sink.faults c.args.err.now) _) c.tell.ensures.answer c.obey_words-reply.ensures.line c.tell.ensures.line
+    (λ (text : List ℕ). Tells text (g.E.Sink.taken c.args.err.now) (g.E.Sink.taken c.tell.new.err) (g.E.Sink.faults c.args.err.now) (g.E.Sink.faults c.tell.new.err)) c.tell.ensures.answer c.obey_words-reply.ensures.line c.tell.ensures.line
 
 pub returns-clause-some_line : goal.returns-clause-some_line
 returns-clause-some_line g c = (c.obey_words-reply.result.line, c.tell.ensures.line)
