@@ -70,7 +70,7 @@ type TextRow = (&'static str, u8, &'static str);
 
 const REFUSED: &str = "a.i:1: Unsupported NotYet at token 1\n";
 
-static TEXTS: [TextRow; 33] = [
+static TEXTS: [TextRow; 39] = [
     ("int main(void){return 7;}", 7, ""),
     ("int main(void){return 3+4;}", 7, ""),
     ("int main(void){return 255+2;}", 1, ""),
@@ -103,7 +103,11 @@ static TEXTS: [TextRow; 33] = [
     ),
     ("int main(void){return;}", 113, REFUSED),
     ("int main(void){return 7-1;}", 113, REFUSED),
-    ("int main(void){return7;}", 113, REFUSED),
+    (
+        "int main(void){return7;}",
+        113,
+        "a.i:1: UnknownName at token 7\n",
+    ),
     (
         "int mai n(void){return 7;}",
         113,
@@ -151,6 +155,37 @@ static TEXTS: [TextRow; 33] = [
         113,
         "a.i:2: Unsupported Wide at token 1\n",
     ),
+    // checking, before the form is looked at
+    (
+        "int x=1;\nint x=2;",
+        113,
+        "a.i:2: Redeclared at token 7\n",
+    ),
+    (
+        "const int k=1;\nint f(void){\nk=1;return 0;}",
+        113,
+        "a.i:3: Typing at token 14\n",
+    ),
+    (
+        "int f(void){zz;return 0;}",
+        113,
+        "a.i:1: UnknownName at token 7\n",
+    ),
+    (
+        "int f(void){sizeof(4294967296);return 0;}",
+        113,
+        "a.i:1: Constant at token 9\n",
+    ),
+    (
+        "int f(x);",
+        113,
+        "a.i:1: Unsupported OldStyle at token 4\n",
+    ),
+    (
+        "\nchar x[1048577];",
+        113,
+        "a.i:2: Limit ObjectSize 1048577 at token 2\n",
+    ),
 ];
 
 #[test]
@@ -170,7 +205,7 @@ type StoreRow = (
     &'static str,
 );
 
-static STORES: [StoreRow; 15] = [
+static STORES: [StoreRow; 17] = [
     (&[], "go", 114, "link: NoMain\n"),
     (&[], "frob", 112, "usage\n"),
     (&[], "", 112, "usage\n"),
@@ -211,13 +246,13 @@ static STORES: [StoreRow; 15] = [
         &[("a.i", "int main(void){return 7;}"), ("b.i", "\n\nx")],
         "go",
         113,
-        "b.i:3: Unsupported NotYet at token 1\n",
+        "b.i:3: Syntax at token 2\n",
     ),
     (
         &[("a.i", "int main(void){return 7;}"), ("b.i", "float\n@ x")],
         "go",
         113,
-        "b.i:1: Unsupported NotYet at token 1\n",
+        "b.i:2: Bad at byte 6\n",
     ),
     (
         &[
@@ -226,7 +261,7 @@ static STORES: [StoreRow; 15] = [
         ],
         "go",
         113,
-        "b.i:2: Unsupported NotYet at token 1\n",
+        "b.i:2: Unsupported Float at token 1\n",
     ),
     (
         &[("a.i", "\n@"), ("b.i", "float x;")],
@@ -253,10 +288,25 @@ static STORES: [StoreRow; 15] = [
         REFUSED,
     ),
     (
+        &[
+            ("a.i", "int main(void){return 7;}"),
+            ("b.i", "int x=1;\nint x=2;"),
+        ],
+        "go",
+        113,
+        "b.i:2: Redeclared at token 7\n",
+    ),
+    (
+        &[("a.i", "int x;"), ("b.i", "int y=z;")],
+        "go",
+        113,
+        "b.i:1: UnknownName at token 4\n",
+    ),
+    (
         &[("a.i", "x"), ("B.i", "y"), ("1.i", "int z;")],
         "go",
         113,
-        "1.i:1: Unsupported NotYet at token 1\n",
+        "B.i:1: Syntax at token 2\n",
     ),
 ];
 

@@ -1,3 +1,3 @@
-pub mod TopLemmas
-pub mod BuiltLemmas
-pub mod RefusalLemmas
+pub mod DoesLemmas
+pub mod CommandLemmas
+pub mod ToldLemmas

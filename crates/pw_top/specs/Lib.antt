@@ -1,4 +1,2 @@
-pub mod FullBuild
-pub mod BuildViews
-pub mod TopCall
-pub mod Refusals
+pub mod Commands
+pub mod Does

@@ -1,8 +1,6 @@
 //! The top call: what the program `pawc` does with its words, its store and its streams.
 #![tactic(auto)]
 
-mod build;
-mod run;
 mod top;
 
 pub use pw_answer::{Answer, status};

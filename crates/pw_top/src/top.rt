@@ -1,125 +1,107 @@
 //! The top call: obeys the words, and tells its answer in one line.
 
-ghost use Rattle.std.specs.Prelude.{◌≡◌, ◌↔◌, false, IfOk, IfSome, map, string_bytes};
-ghost use Rattle.std.specs.Str.{bytes_eq};
+ghost use Rattle.std.specs.Prelude.{◌≡◌, ◌⊎◌, ℕ, IfSome, None, Some, map, string_bytes};
 ghost use Rattle.pw_io.specs.Files.{Keeps};
-ghost use Rattle.pw_top.specs.FullBuild.{full_build};
-ghost use Rattle.pw_modules.specs.Modules.{modules_of};
-ghost use Rattle.pw_top.specs.Refusals.{HoldsNoWantOfMemory, IsProper, NoMainComes, NoMainIs, RefusalComes, RefusalIs};
-ghost use Rattle.pw_top.specs.BuildViews.{build_view};
 ghost use Rattle.pw_answer.specs.Answers.{line_text};
-ghost use Rattle.pw_top.specs.TopCall.{is_go, run_built, build_answer, build_output, build_rest, wanted_rest, AnswersBuild, IsObeyed, IsLineOf, wanted_answer, wanted_output, Refuses, BuiltAgrees, ReturnsSum, refused_line};
-ghost use Rattle.pw_running.specs.Running.{run_answer, run_output, run_rest, IsRunAnswer};
-ghost use Rattle.pw_answer.specs.Outcomes.{LeavesInput, Answers, IsNoRefusal, PutsOut, StoreCount, InputCount, OutputCount, Tells, ToldAs, LeavesStreams, TellsSome};
+ghost use Rattle.pw_answer.specs.Outcomes.{InputCount, LeavesStreams, OutputCount, StoreCount, Tells, TellsSome};
+ghost use Rattle.pw_go.specs.FullBuild.{full_build};
+ghost use Rattle.pw_go.specs.Going.{AnswersBuild, BuiltAgrees, IsNoUsage, ReturnsSum};
+ghost use Rattle.pw_go.specs.Refusals.{HoldsNoWantOfMemory, NoMainComes, NoMainIs, RefusalComes, RefusalIs};
+ghost use Rattle.pw_modules.specs.Modules.{modules_of};
+ghost use Rattle.pw_compiling.specs.First.{IsLine};
+ghost use Rattle.pw_top.specs.Commands.{Comes, IsGo, OnlyReads, line_of};
+ghost use Rattle.pw_top.specs.Does.{Does};
+ghost use Rattle.pw_words.specs.CommandLine.{command_of};
+ghost use Rattle.pw_words.specs.Limits.{IsWithin};
 
-use crate::build::{Built, build};
-use crate::run::run_words;
-use pw_answer::{Answer, tell};
-use pw_front::front_is_exact;
-use pw_io::{Sink, Source, Store, StoreError};
-use pw_sum::{Sum, form_is_exact, words_agree, words_of};
-use std::alloc::{AllocError, Global};
+use pw_answer::{Answer, Reply, tell};
+use pw_commands::{analyse_modules, link_modules, list_image, run_image, show_database};
+use pw_compiling::{compile_flow, compile_text};
+use pw_go::go;
+use pw_go::laws::{builds_agree, refusals_are_due};
+use pw_io::{Sink, Source, Store};
+use pw_words::laws::commands_are_within;
+use pw_words::{Command, WordsFault, command};
+use std::alloc::Global;
 
-/// Whether the words are the one command line, `go`.
-fn is_go(words: &[String]) -> bool
-    ensures { result ≡ is_go (map string_bytes words.now) }
-{
-    match words {
-        [word] => word.as_str() == "go",
-        _ => false,
-    }
-}
-
-/// What came of the words, and the line on which a refused module is refused.
-#[derive(Drop)]
-struct Reply {
-    answer: Answer,
-    line: usize,
-}
-
-/// What the build came to: the answer to a refusal, or to the run of the program.
-fn answer_built<I: Source, O: Sink>(
+/// Obeys a command.
+fn obey<S: Store, I: Source, O: Sink>(
     alloc: Global,
-    built: Built,
+    command: &Command,
+    store: &mut S,
     input: &mut I,
     out: &mut O,
 ) -> Reply
-    ensures answer { IfSome (I.rest input.old) (λ rest. Answers (build_answer (build_view built) rest) result.answer) }
-    ensures refusal { AnswersBuild (build_view built) result.answer }
-    ensures output { IfSome (I.rest input.old) (λ rest. PutsOut (build_output (build_view built) rest) result.answer (O.taken out.old) (O.taken out.new)) }
-    ensures rest { IfSome (I.rest input.old) (λ rest. LeavesInput (build_rest (build_view built) rest) rest result.answer (I.rest input.new)) }
+    requires { IsWithin command.now }
+    ensures does { IfSome (S.told store.old) (λ told. IfSome (I.rest input.old) (λ rest. Does (Comes (Some command.now) told.files rest) result.answer told (S.told store.new) rest (I.rest input.new) (O.taken out.old) (O.taken out.new))) }
+    ensures words { IsNoUsage result.answer }
+    ensures refusal { IfSome (S.told store.old) (λ told. IsGo (Some command.now) → AnswersBuild (full_build told.files) result.answer) }
+    ensures proper { IsGo (Some command.now) → HoldsNoWantOfMemory result.answer }
+    ensures reads { OnlyReads (Some command.now) → Keeps (S.told store.old) (S.told store.new) }
+    ensures store { StoreCount (S.faults store.old) (S.faults store.new) result.answer }
     ensures read { InputCount (I.faults input.old) (I.faults input.new) result.answer }
     ensures write { OutputCount (O.faults out.old) (O.faults out.new) result.answer }
-    ensures line { IsLineOf (build_view built) result.answer result.line }
-    ensures obeyed { IsObeyed result.answer }
     ensures streams { LeavesStreams result.answer (I.rest input.old) (I.rest input.new) (O.taken out.old) (O.taken out.new) }
-    ensures proper { IsProper (build_view built) → HoldsNoWantOfMemory result.answer }
+    ensures line { IfSome (S.told store.old) (λ told. IsLine (line_of (Some command.now) told.files) result.answer result.line) }
 {
-    match built {
-        Built::Program(sum) => Reply {
-            answer: run_sum(alloc, &sum, input, out),
+    match command {
+        Command::Go { steps, .. } => go(alloc, store, *steps, input, out),
+        Command::PhaseOne(name) => compile_text(alloc, store, name),
+        Command::Analyse { colours } => Reply {
+            answer: analyse_modules(alloc, store, *colours),
             line: 1,
         },
-        Built::Refused(name, refusal, line) => Reply {
-            answer: Answer::Refused(name, refusal),
-            line,
+        Command::PhaseTwo(name) => Reply {
+            answer: compile_flow(alloc, store, name),
+            line: 1,
         },
-        Built::LinkRefused(fault) => Reply {
-            answer: Answer::LinkRefused(fault),
+        Command::Link { stack } => Reply {
+            answer: link_modules(alloc, store, *stack),
+            line: 1,
+        },
+        Command::Run { steps } => Reply {
+            answer: run_image(alloc, store, input, out, *steps),
+            line: 1,
+        },
+        Command::List => Reply {
+            answer: list_image(alloc, store, out),
+            line: 1,
+        },
+        Command::Db => Reply {
+            answer: show_database(alloc, store, out),
             line: 1,
         },
     }
 }
 
-/// Builds and runs the program that returns a sum.
-fn run_sum<I: Source, O: Sink>(alloc: Global, sum: &Sum, input: &mut I, out: &mut O) -> Answer
-    ensures answer { IfSome (I.rest input.old) (λ rest. Answers (run_answer (run_built sum.now.numbers.items rest)) result) }
-    ensures output { IfSome (I.rest input.old) (λ rest. PutsOut (run_output (run_built sum.now.numbers.items rest)) result (O.taken out.old) (O.taken out.new)) }
-    ensures rest { IfSome (I.rest input.old) (λ rest. LeavesInput (run_rest (run_built sum.now.numbers.items rest)) rest result (I.rest input.new)) }
-    ensures read { InputCount (I.faults input.old) (I.faults input.new) result }
-    ensures write { OutputCount (O.faults out.old) (O.faults out.new) result }
-    ensures run { IsRunAnswer result }
-{
-    match words_of(alloc, sum.numbers.as_slice()) {
-        Ok(words) => run_words(alloc, words.as_slice(), input, out),
-        Err(AllocError) => Answer::NoMemory,
-    }
-}
-
-/// Obeys the words: builds what the store holds, and runs it.
-fn obey<S: Store, I: Source, O: Sink>(
+/// Obeys the words.
+fn obey_words<S: Store, I: Source, O: Sink>(
     alloc: Global,
     words: &[String],
     store: &mut S,
     input: &mut I,
     out: &mut O,
 ) -> Reply
-    ensures usage { (result.answer ≡ Answer.Usage) ↔ (is_go (map string_bytes words.now) ≡ false) }
-    ensures answer { IfSome (S.told store.old) (λ told. IfSome (I.rest input.old) (λ rest. Answers (wanted_answer (map string_bytes words.now) (full_build told.files) rest) result.answer)) }
-    ensures refusal { IfSome (S.told store.old) (λ told. Refuses (map string_bytes words.now) (full_build told.files) result.answer) }
-    ensures output { IfSome (S.told store.old) (λ told. IfSome (I.rest input.old) (λ rest. PutsOut (wanted_output (map string_bytes words.now) (full_build told.files) rest) result.answer (O.taken out.old) (O.taken out.new))) }
-    ensures rest { IfSome (S.told store.old) (λ told. IfSome (I.rest input.old) (λ rest. LeavesInput (wanted_rest (map string_bytes words.now) (full_build told.files) rest) rest result.answer (I.rest input.new))) }
-    ensures files { Keeps (S.told store.old) (S.told store.new) }
+    ensures does { IfSome (S.told store.old) (λ told. IfSome (I.rest input.old) (λ rest. Does (Comes (command_of (map string_bytes words.now)) told.files rest) result.answer told (S.told store.new) rest (I.rest input.new) (O.taken out.old) (O.taken out.new))) }
+    ensures usage_is { result.answer ≡ Answer.Usage → command_of (map string_bytes words.now) ≡ None }
+    ensures usage_comes { command_of (map string_bytes words.now) ≡ None → (result.answer ≡ Answer.Usage) ⊎ (result.answer ≡ Answer.NoMemory) }
+    ensures refusal { IfSome (S.told store.old) (λ told. IsGo (command_of (map string_bytes words.now)) → AnswersBuild (full_build told.files) result.answer) }
+    ensures proper { IsGo (command_of (map string_bytes words.now)) → HoldsNoWantOfMemory result.answer }
+    ensures reads { OnlyReads (command_of (map string_bytes words.now)) → Keeps (S.told store.old) (S.told store.new) }
     ensures store { StoreCount (S.faults store.old) (S.faults store.new) result.answer }
     ensures read { InputCount (I.faults input.old) (I.faults input.new) result.answer }
     ensures write { OutputCount (O.faults out.old) (O.faults out.new) result.answer }
-    ensures line { IfSome (S.told store.old) (λ told. IsLineOf (full_build told.files) result.answer result.line) }
     ensures streams { LeavesStreams result.answer (I.rest input.old) (I.rest input.new) (O.taken out.old) (O.taken out.new) }
-    ensures proper { HoldsNoWantOfMemory result.answer }
+    ensures line { IfSome (S.told store.old) (λ told. IsLine (line_of (command_of (map string_bytes words.now)) told.files) result.answer result.line) }
 {
-    if !is_go(words) {
-        return Reply {
+    commands_are_within();
+    match command(alloc, words) {
+        Ok(command) => obey(alloc, &command, store, input, out),
+        Err(WordsFault::Usage) => Reply {
             answer: Answer::Usage,
             line: 1,
-        };
-    }
-    match build(alloc, store) {
-        Ok(built) => answer_built(alloc, built, input, out),
-        Err(StoreError::Failed) => Reply {
-            answer: Answer::StoreFault,
-            line: 1,
         },
-        Err(StoreError::NoMemory) => Reply {
+        Err(WordsFault::NoMemory) => Reply {
             answer: Answer::NoMemory,
             line: 1,
         },
@@ -127,13 +109,12 @@ fn obey<S: Store, I: Source, O: Sink>(
 }
 
 /// Does what the words say with the store, the input and the output, and tells the answer on `err` in one line; an
-/// answer that the program ended has none. A fault of `err` changes nothing.
+/// answer that a command is done, or that the program ended, has none. A fault of `err` changes nothing.
 ///
-/// The one command line is `go`: it builds the program of the one module `NAME.i` of the store and runs it. What is
-/// promised of a store that tells its files, an input that tells its rest and an output that tells what it took:
-/// the answer and the output are those of the machine's run of the full build, and the built words agree with the
-/// program at every bound. Want of memory may come in place of an answer, and so may a fault of the store, the input
-/// or the output: only where that object's count of faults rose, and every other answer leaves the counts as they were.
+/// What is promised of a store that tells its files, an input that tells its rest and an output that tells what it
+/// took: the answer, the files that are put, the output and what is left of the input are those to which the command
+/// comes. Want of memory may come in place of an answer, and so may a fault of the store, the input or the output:
+/// only where that object's count of faults rose, and every other answer leaves the counts as they were.
 pub fn pawc_top<S: Store, I: Source, O: Sink, E: Sink>(
     alloc: Global,
     words: &[String],
@@ -143,26 +124,27 @@ pub fn pawc_top<S: Store, I: Source, O: Sink, E: Sink>(
     err: &mut E,
 ) -> Answer
     // the words
-    ensures usage { (result ≡ Answer.Usage) ↔ (is_go (map string_bytes words.now) ≡ false) }
+    ensures usage_is { result ≡ Answer.Usage → command_of (map string_bytes words.now) ≡ None }
+    ensures usage_comes { command_of (map string_bytes words.now) ≡ None → (result ≡ Answer.Usage) ⊎ (result ≡ Answer.NoMemory) }
 
-    // the answer and the output
-    ensures runs_image { IfSome (S.told store.old) (λ told. IfSome (I.rest input.old) (λ rest. Answers (wanted_answer (map string_bytes words.now) (full_build told.files) rest) result)) }
-    ensures refusal_is { IfSome (S.told store.old) (λ told. RefusalIs (modules_of told.files) result) }
-    ensures refusal_comes { IfSome (S.told store.old) (λ told. RefusalComes (map string_bytes words.now) (modules_of told.files) result) }
-    ensures no_main_is { IfSome (S.told store.old) (λ told. NoMainIs (modules_of told.files) result) }
-    ensures no_main_comes { IfSome (S.told store.old) (λ told. NoMainComes (map string_bytes words.now) (modules_of told.files) result) }
-    ensures no_want_refused { HoldsNoWantOfMemory result }
-    ensures refuses { IfSome (S.told store.old) (λ told. Refuses (map string_bytes words.now) (full_build told.files) result) }
-    ensures output_prefix { IfSome (S.told store.old) (λ told. IfSome (I.rest input.old) (λ rest. PutsOut (wanted_output (map string_bytes words.now) (full_build told.files) rest) result (O.taken out.old) (O.taken out.new))) }
-    ensures input_after { IfSome (S.told store.old) (λ told. IfSome (I.rest input.old) (λ rest. LeavesInput (wanted_rest (map string_bytes words.now) (full_build told.files) rest) rest result (I.rest input.new))) }
+    // the answer, the files, the output and the input
+    ensures does { IfSome (S.told store.old) (λ told. IfSome (I.rest input.old) (λ rest. Does (Comes (command_of (map string_bytes words.now)) told.files rest) result told (S.told store.new) rest (I.rest input.new) (O.taken out.old) (O.taken out.new))) }
+
+    // the refusals of `go`
+    ensures refusal_is { IfSome (S.told store.old) (λ told. IsGo (command_of (map string_bytes words.now)) → RefusalIs (modules_of told.files) result) }
+    ensures refusal_comes { IfSome (S.told store.old) (λ told. IsGo (command_of (map string_bytes words.now)) → RefusalComes (modules_of told.files) result) }
+    ensures no_main_is { IfSome (S.told store.old) (λ told. IsGo (command_of (map string_bytes words.now)) → NoMainIs (modules_of told.files) result) }
+    ensures no_main_comes { IfSome (S.told store.old) (λ told. IsGo (command_of (map string_bytes words.now)) → NoMainComes (modules_of told.files) result) }
+    ensures no_want_refused { IsGo (command_of (map string_bytes words.now)) → HoldsNoWantOfMemory result }
+    ensures refuses { IfSome (S.told store.old) (λ told. IsGo (command_of (map string_bytes words.now)) → AnswersBuild (full_build told.files) result) }
 
     // source and machine
-    ensures returns_sum { IfSome (S.told store.old) (λ told. IfSome (I.rest input.old) (λ rest. ReturnsSum (map string_bytes words.now) (full_build told.files) result)) }
+    ensures returns_sum { IfSome (S.told store.old) (λ told. IfSome (I.rest input.old) (λ rest. (colours stack steps : ℕ) → command_of (map string_bytes words.now) ≡ Some (Command.Go colours stack steps) → ReturnsSum steps (full_build told.files) result)) }
     ensures agrees { IfSome (S.told store.old) (λ told. BuiltAgrees (full_build told.files)) }
 
     // what stays
     ensures streams_left { LeavesStreams result (I.rest input.old) (I.rest input.new) (O.taken out.old) (O.taken out.new) }
-    ensures store_after { Keeps (S.told store.old) (S.told store.new) }
+    ensures store_after { OnlyReads (command_of (map string_bytes words.now)) → Keeps (S.told store.old) (S.told store.new) }
 
     // faults
     ensures store_faults { StoreCount (S.faults store.old) (S.faults store.new) result }
@@ -170,12 +152,11 @@ pub fn pawc_top<S: Store, I: Source, O: Sink, E: Sink>(
     ensures output_faults { OutputCount (O.faults out.old) (O.faults out.new) result }
 
     // the line
-    ensures line { IfSome (S.told store.old) (λ told. Tells (line_text (refused_line (full_build told.files)) result) (E.taken err.old) (E.taken err.new) (E.faults err.old) (E.faults err.new)) }
+    ensures line { IfSome (S.told store.old) (λ told. Tells (line_text (line_of (command_of (map string_bytes words.now)) told.files) result) (E.taken err.old) (E.taken err.new) (E.faults err.old) (E.faults err.new)) }
     ensures some_line { TellsSome result (E.taken err.old) (E.taken err.new) (E.faults err.old) (E.faults err.new) }
 {
-    words_agree();
-    form_is_exact();
-    front_is_exact();
-    let reply = obey(alloc, words, store, input, out);
+    builds_agree();
+    refusals_are_due();
+    let reply = obey_words(alloc, words, store, input, out);
     tell(alloc, reply.answer, reply.line, err)
 }

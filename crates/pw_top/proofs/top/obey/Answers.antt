@@ -1,10 +1,202 @@
-use Rattle.std.proofs.Common.{map}
-use Rattle.std.specs.Prelude.{string_bytes}
-use Rattle.pw_top.proofs.TopLemmas.{told_untouched}
+use Rattle.pw_top.proofs.CommandLemmas.{analyse_does, db_does, go_does, go_line, left_alone, link_does, list_does, of_go, of_other, phase_no_usage, phase_one_does, phase_reads, phase_two_does, phase_writes, plain_line, run_does, run_no_usage, show_no_usage, show_reads, store_no_usage, store_reads, store_writes}
 use Rattle.pw_top.proofs.top.obey.Goals as goal
 
-pub returns-in-Err-Failed-clause-rest : goal.returns-in-Err-Failed-clause-rest
-returns-in-Err-Failed-clause-rest g c = told_untouched (map string_bytes c.args.words.now) (g.S.Store.told c.args.store.now) (g.I.Source.rest c.args.input.now)
+pub returns-in-Go-clause-does : goal.returns-in-Go-clause-does
+returns-in-Go-clause-does g c =
+    rw c.in-Go.is (go_does (g.S.Store.told c.args.store.now) _ (g.I.Source.rest c.args.input.now) _ (g.O.Sink.taken c.args.out.now) _ _ _ c.go.ensures.files c.go.ensures.answer c.go.ensures.output c.go.ensures.rest)
 
-pub returns-in-Err-NoMemory-clause-rest : goal.returns-in-Err-NoMemory-clause-rest
-returns-in-Err-NoMemory-clause-rest g c = told_untouched (map string_bytes c.args.words.now) (g.S.Store.told c.args.store.now) (g.I.Source.rest c.args.input.now)
+pub returns-in-Go-clause-refusal : goal.returns-in-Go-clause-refusal
+returns-in-Go-clause-refusal g c = rw c.in-Go.is (of_go _ (g.S.Store.told c.args.store.now) c.go.ensures.refusal)
+
+pub returns-in-Go-clause-proper : goal.returns-in-Go-clause-proper
+returns-in-Go-clause-proper g c = rw c.in-Go.is (λ h. c.go.ensures.proper)
+
+pub returns-in-Go-clause-reads : goal.returns-in-Go-clause-reads
+returns-in-Go-clause-reads g c = rw c.in-Go.is (λ h. c.go.ensures.files)
+
+pub returns-in-Go-clause-line : goal.returns-in-Go-clause-line
+returns-in-Go-clause-line g c = rw c.in-Go.is (go_line (g.S.Store.told c.args.store.now) _ _ c.go.ensures.line)
+
+pub returns-in-PhaseOne-clause-does : goal.returns-in-PhaseOne-clause-does
+returns-in-PhaseOne-clause-does g c =
+    rw c.in-PhaseOne.is (phase_one_does (g.S.Store.told c.args.store.now) _ (g.I.Source.rest c.args.input.now) (g.O.Sink.taken c.args.out.now) _ _ c.compile_text.ensures.obeys)
+
+pub returns-in-PhaseOne-clause-words : goal.returns-in-PhaseOne-clause-words
+returns-in-PhaseOne-clause-words g c = phase_no_usage _ c.compile_text.ensures.answer
+
+pub returns-in-PhaseOne-clause-refusal : goal.returns-in-PhaseOne-clause-refusal
+returns-in-PhaseOne-clause-refusal g c = rw c.in-PhaseOne.is (of_other _ (g.S.Store.told c.args.store.now))
+
+pub returns-in-PhaseOne-clause-proper : goal.returns-in-PhaseOne-clause-proper
+returns-in-PhaseOne-clause-proper g c = rw c.in-PhaseOne.is (λ h. absurd h)
+
+pub returns-in-PhaseOne-clause-reads : goal.returns-in-PhaseOne-clause-reads
+returns-in-PhaseOne-clause-reads g c = rw c.in-PhaseOne.is (λ h. absurd h)
+
+pub returns-in-PhaseOne-clause-read : goal.returns-in-PhaseOne-clause-read
+returns-in-PhaseOne-clause-read g c = phase_reads _ _ c.compile_text.ensures.answer
+
+pub returns-in-PhaseOne-clause-write : goal.returns-in-PhaseOne-clause-write
+returns-in-PhaseOne-clause-write g c = phase_writes _ _ c.compile_text.ensures.answer
+
+pub returns-in-PhaseOne-clause-streams : goal.returns-in-PhaseOne-clause-streams
+returns-in-PhaseOne-clause-streams g c =
+    left_alone _ (g.I.Source.rest c.args.input.now) (g.O.Sink.taken c.args.out.now)
+
+pub returns-in-PhaseOne-clause-line : goal.returns-in-PhaseOne-clause-line
+returns-in-PhaseOne-clause-line g c = rw c.in-PhaseOne.is (c.compile_text.ensures.line)
+
+pub returns-in-Analyse-clause-does : goal.returns-in-Analyse-clause-does
+returns-in-Analyse-clause-does g c =
+    rw c.in-Analyse.is (analyse_does (g.S.Store.told c.args.store.now) _ (g.I.Source.rest c.args.input.now) (g.O.Sink.taken c.args.out.now) _ _ c.analyse_modules.ensures.obeys)
+
+pub returns-in-Analyse-clause-words : goal.returns-in-Analyse-clause-words
+returns-in-Analyse-clause-words g c = store_no_usage _ c.analyse_modules.ensures.answer
+
+pub returns-in-Analyse-clause-refusal : goal.returns-in-Analyse-clause-refusal
+returns-in-Analyse-clause-refusal g c = rw c.in-Analyse.is (of_other _ (g.S.Store.told c.args.store.now))
+
+pub returns-in-Analyse-clause-proper : goal.returns-in-Analyse-clause-proper
+returns-in-Analyse-clause-proper g c = rw c.in-Analyse.is (λ h. absurd h)
+
+pub returns-in-Analyse-clause-reads : goal.returns-in-Analyse-clause-reads
+returns-in-Analyse-clause-reads g c = rw c.in-Analyse.is (λ h. absurd h)
+
+pub returns-in-Analyse-clause-read : goal.returns-in-Analyse-clause-read
+returns-in-Analyse-clause-read g c = store_reads _ _ c.analyse_modules.ensures.answer
+
+pub returns-in-Analyse-clause-write : goal.returns-in-Analyse-clause-write
+returns-in-Analyse-clause-write g c = store_writes _ _ c.analyse_modules.ensures.answer
+
+pub returns-in-Analyse-clause-streams : goal.returns-in-Analyse-clause-streams
+returns-in-Analyse-clause-streams g c =
+    left_alone _ (g.I.Source.rest c.args.input.now) (g.O.Sink.taken c.args.out.now)
+
+pub returns-in-Analyse-clause-line : goal.returns-in-Analyse-clause-line
+returns-in-Analyse-clause-line g c = rw c.in-Analyse.is (plain_line (g.S.Store.told c.args.store.now) _)
+
+pub returns-in-PhaseTwo-clause-does : goal.returns-in-PhaseTwo-clause-does
+returns-in-PhaseTwo-clause-does g c =
+    rw c.in-PhaseTwo.is (phase_two_does (g.S.Store.told c.args.store.now) _ (g.I.Source.rest c.args.input.now) (g.O.Sink.taken c.args.out.now) _ _ c.compile_flow.ensures.obeys)
+
+pub returns-in-PhaseTwo-clause-words : goal.returns-in-PhaseTwo-clause-words
+returns-in-PhaseTwo-clause-words g c = store_no_usage _ c.compile_flow.ensures.answer
+
+pub returns-in-PhaseTwo-clause-refusal : goal.returns-in-PhaseTwo-clause-refusal
+returns-in-PhaseTwo-clause-refusal g c = rw c.in-PhaseTwo.is (of_other _ (g.S.Store.told c.args.store.now))
+
+pub returns-in-PhaseTwo-clause-proper : goal.returns-in-PhaseTwo-clause-proper
+returns-in-PhaseTwo-clause-proper g c = rw c.in-PhaseTwo.is (λ h. absurd h)
+
+pub returns-in-PhaseTwo-clause-reads : goal.returns-in-PhaseTwo-clause-reads
+returns-in-PhaseTwo-clause-reads g c = rw c.in-PhaseTwo.is (λ h. absurd h)
+
+pub returns-in-PhaseTwo-clause-read : goal.returns-in-PhaseTwo-clause-read
+returns-in-PhaseTwo-clause-read g c = store_reads _ _ c.compile_flow.ensures.answer
+
+pub returns-in-PhaseTwo-clause-write : goal.returns-in-PhaseTwo-clause-write
+returns-in-PhaseTwo-clause-write g c = store_writes _ _ c.compile_flow.ensures.answer
+
+pub returns-in-PhaseTwo-clause-streams : goal.returns-in-PhaseTwo-clause-streams
+returns-in-PhaseTwo-clause-streams g c =
+    left_alone _ (g.I.Source.rest c.args.input.now) (g.O.Sink.taken c.args.out.now)
+
+pub returns-in-PhaseTwo-clause-line : goal.returns-in-PhaseTwo-clause-line
+returns-in-PhaseTwo-clause-line g c = rw c.in-PhaseTwo.is (plain_line (g.S.Store.told c.args.store.now) _)
+
+pub returns-in-Link-clause-does : goal.returns-in-Link-clause-does
+returns-in-Link-clause-does g c =
+    rw c.in-Link.is (link_does (g.S.Store.told c.args.store.now) _ (g.I.Source.rest c.args.input.now) (g.O.Sink.taken c.args.out.now) _ _ c.link_modules.ensures.obeys)
+
+pub returns-in-Link-clause-words : goal.returns-in-Link-clause-words
+returns-in-Link-clause-words g c = store_no_usage _ c.link_modules.ensures.answer
+
+pub returns-in-Link-clause-refusal : goal.returns-in-Link-clause-refusal
+returns-in-Link-clause-refusal g c = rw c.in-Link.is (of_other _ (g.S.Store.told c.args.store.now))
+
+pub returns-in-Link-clause-proper : goal.returns-in-Link-clause-proper
+returns-in-Link-clause-proper g c = rw c.in-Link.is (λ h. absurd h)
+
+pub returns-in-Link-clause-reads : goal.returns-in-Link-clause-reads
+returns-in-Link-clause-reads g c = rw c.in-Link.is (λ h. absurd h)
+
+pub returns-in-Link-clause-read : goal.returns-in-Link-clause-read
+returns-in-Link-clause-read g c = store_reads _ _ c.link_modules.ensures.answer
+
+pub returns-in-Link-clause-write : goal.returns-in-Link-clause-write
+returns-in-Link-clause-write g c = store_writes _ _ c.link_modules.ensures.answer
+
+pub returns-in-Link-clause-streams : goal.returns-in-Link-clause-streams
+returns-in-Link-clause-streams g c = left_alone _ (g.I.Source.rest c.args.input.now) (g.O.Sink.taken c.args.out.now)
+
+pub returns-in-Link-clause-line : goal.returns-in-Link-clause-line
+returns-in-Link-clause-line g c = rw c.in-Link.is (plain_line (g.S.Store.told c.args.store.now) _)
+
+pub returns-in-Run-clause-does : goal.returns-in-Run-clause-does
+returns-in-Run-clause-does g c =
+    rw c.in-Run.is (run_does (g.S.Store.told c.args.store.now) _ (g.I.Source.rest c.args.input.now) _ (g.O.Sink.taken c.args.out.now) _ _ _ c.run_image.ensures.same c.run_image.ensures.answer c.run_image.ensures.output c.run_image.ensures.rest)
+
+pub returns-in-Run-clause-words : goal.returns-in-Run-clause-words
+returns-in-Run-clause-words g c = run_no_usage _ c.run_image.ensures.run
+
+pub returns-in-Run-clause-refusal : goal.returns-in-Run-clause-refusal
+returns-in-Run-clause-refusal g c = rw c.in-Run.is (of_other _ (g.S.Store.told c.args.store.now))
+
+pub returns-in-Run-clause-proper : goal.returns-in-Run-clause-proper
+returns-in-Run-clause-proper g c = rw c.in-Run.is (λ h. absurd h)
+
+pub returns-in-Run-clause-reads : goal.returns-in-Run-clause-reads
+returns-in-Run-clause-reads g c = rw c.in-Run.is (λ h. c.run_image.ensures.same)
+
+pub returns-in-Run-clause-line : goal.returns-in-Run-clause-line
+returns-in-Run-clause-line g c = rw c.in-Run.is (plain_line (g.S.Store.told c.args.store.now) _)
+
+pub returns-in-List-clause-does : goal.returns-in-List-clause-does
+returns-in-List-clause-does g c =
+    rw c.in-List.is (list_does (g.S.Store.told c.args.store.now) _ (g.I.Source.rest c.args.input.now) (g.O.Sink.taken c.args.out.now) _ _ c.list_image.ensures.same c.list_image.ensures.shows)
+
+pub returns-in-List-clause-words : goal.returns-in-List-clause-words
+returns-in-List-clause-words g c = show_no_usage _ c.list_image.ensures.answer
+
+pub returns-in-List-clause-refusal : goal.returns-in-List-clause-refusal
+returns-in-List-clause-refusal g c = rw c.in-List.is (of_other _ (g.S.Store.told c.args.store.now))
+
+pub returns-in-List-clause-proper : goal.returns-in-List-clause-proper
+returns-in-List-clause-proper g c = rw c.in-List.is (λ h. absurd h)
+
+pub returns-in-List-clause-reads : goal.returns-in-List-clause-reads
+returns-in-List-clause-reads g c = rw c.in-List.is (λ h. c.list_image.ensures.same)
+
+pub returns-in-List-clause-read : goal.returns-in-List-clause-read
+returns-in-List-clause-read g c = show_reads _ _ c.list_image.ensures.answer
+
+pub returns-in-List-clause-streams : goal.returns-in-List-clause-streams
+returns-in-List-clause-streams g c = c.list_image.ensures.streams (g.I.Source.rest c.args.input.now)
+
+pub returns-in-List-clause-line : goal.returns-in-List-clause-line
+returns-in-List-clause-line g c = rw c.in-List.is (plain_line (g.S.Store.told c.args.store.now) _)
+
+pub returns-in-Db-clause-does : goal.returns-in-Db-clause-does
+returns-in-Db-clause-does g c =
+    rw c.in-Db.is (db_does (g.S.Store.told c.args.store.now) _ (g.I.Source.rest c.args.input.now) (g.O.Sink.taken c.args.out.now) _ _ c.show_database.ensures.same c.show_database.ensures.shows)
+
+pub returns-in-Db-clause-words : goal.returns-in-Db-clause-words
+returns-in-Db-clause-words g c = show_no_usage _ c.show_database.ensures.answer
+
+pub returns-in-Db-clause-refusal : goal.returns-in-Db-clause-refusal
+returns-in-Db-clause-refusal g c = rw c.in-Db.is (of_other _ (g.S.Store.told c.args.store.now))
+
+pub returns-in-Db-clause-proper : goal.returns-in-Db-clause-proper
+returns-in-Db-clause-proper g c = rw c.in-Db.is (λ h. absurd h)
+
+pub returns-in-Db-clause-reads : goal.returns-in-Db-clause-reads
+returns-in-Db-clause-reads g c = rw c.in-Db.is (λ h. c.show_database.ensures.same)
+
+pub returns-in-Db-clause-read : goal.returns-in-Db-clause-read
+returns-in-Db-clause-read g c = show_reads _ _ c.show_database.ensures.answer
+
+pub returns-in-Db-clause-streams : goal.returns-in-Db-clause-streams
+returns-in-Db-clause-streams g c = c.show_database.ensures.streams (g.I.Source.rest c.args.input.now)
+
+pub returns-in-Db-clause-line : goal.returns-in-Db-clause-line
+returns-in-Db-clause-line g c = rw c.in-Db.is (plain_line (g.S.Store.told c.args.store.now) _)

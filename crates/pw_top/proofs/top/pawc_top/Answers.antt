@@ -1,45 +1,81 @@
-use Rattle.std.proofs.Common.{map}
-use Rattle.std.specs.Prelude.{string_bytes}
-use Rattle.std.proofs.lemmas.Option.{IfSome_then}
-use Rattle.pw_top.specs.FullBuild.{full_build}
-use Rattle.pw_top.proofs.TopLemmas.{told_leaves}
-use Rattle.pw_top.proofs.BuiltLemmas.{built_agrees, told_returns_sum}
-use Rattle.pw_top.proofs.RefusalLemmas.{told_refusal, told_comes, told_no_main, told_no_main_comes, told_proper}
+use Rattle.std.proofs.Common.{◌≡◌, ℕ, List, map}
+use Rattle.std.specs.Prelude.{None, string_bytes}
+use Rattle.pw_modules.specs.Modules.{modules_of}
+use Rattle.pw_answer.specs.Outcomes.{Tells}
+use Rattle.pw_go.specs.FullBuild.{full_build}
+use Rattle.pw_go.specs.Going.{BuiltAgrees}
+use Rattle.pw_go.specs.Refusals.{NoMainComes, NoMainIs, RefusalComes, RefusalIs}
+use Rattle.pw_words.specs.CommandLine.{command_of}
+use Rattle.pw_top.specs.Commands.{IsGo, line_of}
+use Rattle.pw_top.proofs.ToldLemmas.{by_law, input_told, of_files, output_told, returns_sum, store_told, streams_told, told_does, told_line, told_proper, told_refuses, usage_comes, usage_is}
 use Rattle.pw_top.proofs.top.pawc_top.Goals as goal
 
-pub returns-clause-agrees : goal.returns-clause-agrees
-returns-clause-agrees g c =
-    built_agrees (record { form = c.form_is_exact.ensures; agree = c.words_agree.ensures.agree; end = c.words_agree.ensures.end; fit = c.words_agree.ensures.fit }) (g.S.Store.told c.args.store.now)
+pub returns-clause-usage_is : goal.returns-clause-usage_is
+returns-clause-usage_is g c =
+    usage_is c.obey_words-reply.result.answer c.tell.result (command_of (map string_bytes c.args.words.now) ≡ None) c.tell.ensures.answer c.obey_words-reply.ensures.usage_is
 
-pub returns-clause-returns_sum : goal.returns-clause-returns_sum
-returns-clause-returns_sum g c =
-    told_returns_sum (map string_bytes c.args.words.now) (g.S.Store.told c.args.store.now) (g.I.Source.rest c.args.input.now) c.obey-reply.result.answer c.tell.result c.tell.ensures.answer
-    (returns-clause-agrees g c) c.obey-reply.ensures.answer
+pub returns-clause-usage_comes : goal.returns-clause-usage_comes
+returns-clause-usage_comes g c =
+    usage_comes c.obey_words-reply.result.answer c.tell.result (command_of (map string_bytes c.args.words.now) ≡ None) c.tell.ensures.answer c.obey_words-reply.ensures.usage_comes
 
-pub returns-clause-input_after : goal.returns-clause-input_after
-returns-clause-input_after g c =
-    IfSome_then (g.S.Store.told c.args.store.now) c.obey-reply.ensures.rest
-    (λ told h. IfSome_then (g.I.Source.rest c.args.input.now) h
-    (λ rest left. told_leaves (map string_bytes c.args.words.now) (full_build told.files) rest _ c.obey-reply.result.answer c.tell.result c.tell.ensures.answer left))
+pub returns-clause-does : goal.returns-clause-does
+returns-clause-does g c =
+    told_does (command_of (map string_bytes c.args.words.now)) (g.S.Store.told c.args.store.now) _ (g.I.Source.rest c.args.input.now) _ (g.O.Sink.taken c.args.out.now) _
+    c.obey_words-reply.result.answer c.tell.result c.tell.ensures.answer c.obey_words-reply.ensures.does
+
+pub returns-clause-refuses : goal.returns-clause-refuses
+returns-clause-refuses g c =
+    told_refuses (IsGo (command_of (map string_bytes c.args.words.now))) (g.S.Store.told c.args.store.now) c.obey_words-reply.result.answer c.tell.result c.tell.ensures.answer c.obey_words-reply.ensures.refusal
 
 pub returns-clause-refusal_is : goal.returns-clause-refusal_is
 returns-clause-refusal_is g c =
-    told_refusal (record { front = c.front_is_exact.ensures.exact; form = c.form_is_exact.ensures }) (map string_bytes c.args.words.now) (g.S.Store.told c.args.store.now) c.obey-reply.result.answer c.tell.result c.tell.ensures.answer c.obey-reply.ensures.refusal
+    by_law (IsGo (command_of (map string_bytes c.args.words.now))) (λ files answer. RefusalIs (modules_of files) answer) (g.S.Store.told c.args.store.now) c.tell.result c.refusals_are_due.ensures.is
+    (returns-clause-refuses g c)
 
 pub returns-clause-refusal_comes : goal.returns-clause-refusal_comes
 returns-clause-refusal_comes g c =
-    told_comes (record { front = c.front_is_exact.ensures.exact; form = c.form_is_exact.ensures }) (map string_bytes c.args.words.now) (g.S.Store.told c.args.store.now) c.obey-reply.result.answer c.tell.result c.tell.ensures.answer c.obey-reply.ensures.refusal
-
-pub returns-clause-no_want_refused : goal.returns-clause-no_want_refused
-returns-clause-no_want_refused g c = told_proper c.obey-reply.result.answer c.tell.result c.tell.ensures.answer c.obey-reply.ensures.proper
-
-pub returns-clause-some_line : goal.returns-clause-some_line
-returns-clause-some_line g c = (c.obey-reply.result.line, c.tell.ensures.line)
+    by_law (IsGo (command_of (map string_bytes c.args.words.now))) (λ files answer. RefusalComes (modules_of files) answer) (g.S.Store.told c.args.store.now) c.tell.result c.refusals_are_due.ensures.comes
+    (returns-clause-refuses g c)
 
 pub returns-clause-no_main_is : goal.returns-clause-no_main_is
 returns-clause-no_main_is g c =
-    told_no_main (map string_bytes c.args.words.now) (g.S.Store.told c.args.store.now) c.obey-reply.result.answer c.tell.result c.tell.ensures.answer c.obey-reply.ensures.refusal
+    by_law (IsGo (command_of (map string_bytes c.args.words.now))) (λ files answer. NoMainIs (modules_of files) answer) (g.S.Store.told c.args.store.now) c.tell.result c.refusals_are_due.ensures.no_main_is
+    (returns-clause-refuses g c)
 
 pub returns-clause-no_main_comes : goal.returns-clause-no_main_comes
 returns-clause-no_main_comes g c =
-    told_no_main_comes (map string_bytes c.args.words.now) (g.S.Store.told c.args.store.now) c.obey-reply.result.answer c.tell.result c.tell.ensures.answer c.obey-reply.ensures.refusal
+    by_law (IsGo (command_of (map string_bytes c.args.words.now))) (λ files answer. NoMainComes (modules_of files) answer) (g.S.Store.told c.args.store.now) c.tell.result c.refusals_are_due.ensures.no_main_comes
+    (returns-clause-refuses g c)
+
+pub returns-clause-no_want_refused : goal.returns-clause-no_want_refused
+returns-clause-no_want_refused g c =
+    told_proper (IsGo (command_of (map string_bytes c.args.words.now))) c.obey_words-reply.result.answer c.tell.result c.tell.ensures.answer c.obey_words-reply.ensures.proper
+
+pub returns-clause-returns_sum : goal.returns-clause-returns_sum
+returns-clause-returns_sum g c =
+    returns_sum (command_of (map string_bytes c.args.words.now)) (g.S.Store.told c.args.store.now) _ (g.I.Source.rest c.args.input.now) _ (g.O.Sink.taken c.args.out.now) _ c.tell.result c.builds_agree.ensures.sum
+    (returns-clause-does g c)
+
+pub returns-clause-agrees : goal.returns-clause-agrees
+returns-clause-agrees g c = of_files (λ files. BuiltAgrees (full_build files)) (g.S.Store.told c.args.store.now) c.builds_agree.ensures.agree
+
+pub returns-clause-streams_left : goal.returns-clause-streams_left
+returns-clause-streams_left g c =
+    streams_told c.obey_words-reply.result.answer c.tell.result (g.I.Source.rest c.args.input.now) _ (g.O.Sink.taken c.args.out.now) _ c.tell.ensures.answer c.obey_words-reply.ensures.streams
+
+pub returns-clause-store_faults : goal.returns-clause-store_faults
+returns-clause-store_faults g c = store_told _ _ c.obey_words-reply.result.answer c.tell.result c.tell.ensures.answer c.obey_words-reply.ensures.store
+
+pub returns-clause-input_faults : goal.returns-clause-input_faults
+returns-clause-input_faults g c = input_told _ _ c.obey_words-reply.result.answer c.tell.result c.tell.ensures.answer c.obey_words-reply.ensures.read
+
+pub returns-clause-output_faults : goal.returns-clause-output_faults
+returns-clause-output_faults g c = output_told _ _ c.obey_words-reply.result.answer c.tell.result c.tell.ensures.answer c.obey_words-reply.ensures.write
+
+pub returns-clause-line : goal.returns-clause-line
+returns-clause-line g c =
+    told_line (λ files. line_of (command_of (map string_bytes c.args.words.now)) files) (g.S.Store.told c.args.store.now) c.obey_words-reply.result.answer c.tell.result c.obey_words-reply.result.line
+    (λ (text : List ℕ). Tells text (g.E.Sink.taken c.args.err.now) (g.E.Sink.taken c.tell.new.err) (g.E.Sink.faults c.args.err.now) (g.E.Sink.faults c.tell.new.err)) c.tell.ensures.answer c.obey_words-reply.ensures.line c.tell.ensures.line
+
+pub returns-clause-some_line : goal.returns-clause-some_line
+returns-clause-some_line g c = (c.obey_words-reply.result.line, c.tell.ensures.line)

@@ -1,0 +1,262 @@
+-- What each command did, by its own clauses.
+use Rattle.std.proofs.Common.{◌≡◌, ℕ, ⊎_elim, List, [], ◌∷◌, ◌++◌, codes, Option, Some, None, Result, Ok, Err, refl, sym, ap, ◌∙◌, subst}
+use Rattle.std.specs.Prelude.{IfSome}
+use Rattle.pw_io.specs.Files.{Files, Told, Keeps}
+use Rattle.pw_object.specs.declared.object.Object.{Object}
+use Rattle.pw_db.specs.declared.database.Directives.{Directives}
+use Rattle.pw_flow.specs.declared.flow.FlowModule.{FlowModule}
+use Rattle.pw_phase_one.specs.FirstPhase.{Phase, compiled}
+use Rattle.pw_summary.specs.declared.summary.Summary.{Summary}
+use Rattle.pw_image.specs.Image.{ImageValue}
+use Rattle.pw_machine.specs.Core.{Core}
+use Rattle.pw_answer.specs.declared.answer.Answer.{Answer}
+use Rattle.pw_answer.specs.declared.answer.Answer.TheVariants.{Done, Ended, Usage, Refused, LinkRefused, StackStop, Spent, Halted, ReadFault, WriteFault, StoreFault, NoMemory, BadFile}
+use Rattle.pw_answer.specs.Effects.{Effect, NamedFile, PutsFiles, answers_alone, prints}
+use Rattle.pw_answer.specs.Outcomes.{Answers, InputCount, LeavesInput, LeavesStreams, OutputCount, PutsOut}
+use Rattle.pw_running.proofs.RunLemmas.{Ends, ends_itself}
+use Rattle.pw_go.specs.FullBuild.{Build, full_build}
+use Rattle.pw_go.specs.FullBuild as build
+use Rattle.pw_go.specs.Going.{IsLineOf, IsNoUsage, build_effect, refused_line}
+use Rattle.pw_go.proofs.GoLemmas.{build_leaves}
+use Rattle.pw_commands.specs.Analysing.{AnalyseComes, AnalyseOver, summaries_of}
+use Rattle.pw_commands.specs.Linking.{LinkComes, LinkOver, objects_of}
+use Rattle.pw_commands.specs.Needed.{needed, needed_bytes}
+use Rattle.pw_commands.specs.Outcome.{IsStoreAnswer, Obeys}
+use Rattle.pw_commands.specs.Running.{IsRunOrStop, core_in, run_effect, runs}
+use Rattle.pw_commands.specs.Showing.{DatabaseComes, IsShowAnswer, ListComes, ListOver, Shows, database_text, image_in, printed}
+use Rattle.pw_commands.proofs.RunningLemmas.{runs_end}
+use Rattle.pw_words.specs.declared.commands.Command.{Command}
+use Rattle.pw_words.specs.declared.commands.Command.TheVariants.{Go, PhaseOne, Analyse, PhaseTwo, Link, Run, List as ListImage, Db}
+use Rattle.pw_compiling.specs.First.{ComesOfPhase, IsLine, PhaseOneComes, PhaseOneOver, text_name}
+use Rattle.pw_compiling.specs.Made.{IsPhaseAnswer}
+use Rattle.pw_compiling.specs.Second.{PhaseTwoComes, PhaseTwoOver, database_at, flow_at}
+use Rattle.pw_top.specs.Commands.{Comes}
+use Rattle.pw_top.specs.Does.{Does}
+use Rattle.pw_top.proofs.DoesLemmas.{Prints, Quiet, nothing_put, one_does, prints_does, quiet_does}
+
+-- ---- the store's commands
+
+quiet_answer : (answer : Answer) (input : List ℕ) (e : Effect) → e ≡ answers_alone answer input → Quiet input e
+quiet_answer answer input e h = subst (Quiet input) (sym h) (record { output = refl; rest = refl })
+
+analyse_quiet : (wanted : Result (List Summary) Answer) (colours : ℕ) (input : List ℕ) (e : Effect) → AnalyseOver wanted colours input e → Quiet input e
+analyse_quiet (Err answer) colours input e h = quiet_answer answer input e h
+analyse_quiet (Ok summaries) colours input e h =
+    ⊎_elim {C = Quiet input e}
+    (λ r. subst (Quiet input) (sym r.2) (record { output = refl; rest = refl }))
+    (λ l. subst (Quiet input) (sym l.1.2) (record { output = refl; rest = refl }))
+    h
+
+link_quiet : (wanted : Result (List Object) Answer) (stack : ℕ) (input : List ℕ) (e : Effect) → LinkOver wanted stack input e → Quiet input e
+link_quiet (Err answer) stack input e h = quiet_answer answer input e h
+link_quiet (Ok objects) stack input e h =
+    ⊎_elim {C = Quiet input e}
+    (λ r. subst (Quiet input) (sym r.2) (record { output = refl; rest = refl }))
+    (λ l. subst (Quiet input) (sym l.1.2) (record { output = refl; rest = refl }))
+    h
+
+phase_quiet : (name : List ℕ) (phase : Phase) (input : List ℕ) (e : Effect) → ComesOfPhase name phase input e → Quiet input e
+phase_quiet name (Err refusal) input e h = quiet_answer (Refused name refusal) input e h
+phase_quiet name (Ok flow) input e h = subst (Quiet input) (sym h.3) (record { output = refl; rest = refl })
+
+phase_one_quiet : (name : List ℕ) (text : Result (List ℕ) Answer) (input : List ℕ) (e : Effect) → PhaseOneOver name text input e → Quiet input e
+phase_one_quiet name (Err answer) input e h = quiet_answer answer input e h
+phase_one_quiet name (Ok text) input e h = phase_quiet name (compiled name text) input e h
+
+phase_two_quiet : (name : List ℕ) (flow : Result FlowModule Answer) (db : Result (List (List ℕ × Directives)) Answer) (input : List ℕ) (e : Effect) → PhaseTwoOver name flow db input e → Quiet input e
+phase_two_quiet name (Err answer) db input e h = quiet_answer answer input e h
+phase_two_quiet name (Ok flow) (Err answer) input e h = quiet_answer answer input e h
+phase_two_quiet name (Ok flow) (Ok db) input e h = subst (Quiet input) (sym h.2) (record { output = refl; rest = refl })
+
+store_does : (comes : Files → List ℕ → Effect → Type 0) (told new : Option Told) (rest taken : Option (List ℕ)) (answer : Answer) → ((files : Files) (input : List ℕ) (e : Effect) → comes files input e → Quiet input e)
+    → IfSome told (λ t. (input : List ℕ) → Obeys (comes t.files input) answer t new) → IfSome told (λ t. IfSome rest (λ input. Does (comes t.files input) answer t new input rest taken taken))
+store_does comes None new rest taken answer quiet h = tt
+store_does comes (Some t) new None taken answer quiet h = tt
+store_does comes (Some t) new (Some input) taken answer quiet h = quiet_does (comes t.files input) answer t new input taken (quiet t.files input) (h input)
+
+pub phase_one_does : (told new : Option Told) (rest taken : Option (List ℕ)) (name : List ℕ) (answer : Answer) → IfSome told (λ t. (input : List ℕ) → Obeys (PhaseOneComes t.files name input) answer t new)
+    → IfSome told (λ t. IfSome rest (λ input. Does (PhaseOneComes t.files name input) answer t new input rest taken taken))
+phase_one_does told new rest taken name answer h =
+    store_does (λ files input. PhaseOneComes files name input) told new rest taken answer (λ files input e d. phase_one_quiet name (needed_bytes files (text_name name)) input e d) h
+
+pub analyse_does : (told new : Option Told) (rest taken : Option (List ℕ)) (colours : ℕ) (answer : Answer) → IfSome told (λ t. (input : List ℕ) → Obeys (AnalyseComes t.files colours input) answer t new)
+    → IfSome told (λ t. IfSome rest (λ input. Does (AnalyseComes t.files colours input) answer t new input rest taken taken))
+analyse_does told new rest taken colours answer h =
+    store_does (λ files input. AnalyseComes files colours input) told new rest taken answer (λ files input e d. analyse_quiet (summaries_of files) colours input e d) h
+
+pub phase_two_does : (told new : Option Told) (rest taken : Option (List ℕ)) (name : List ℕ) (answer : Answer) → IfSome told (λ t. (input : List ℕ) → Obeys (PhaseTwoComes t.files name input) answer t new)
+    → IfSome told (λ t. IfSome rest (λ input. Does (PhaseTwoComes t.files name input) answer t new input rest taken taken))
+phase_two_does told new rest taken name answer h =
+    store_does (λ files input. PhaseTwoComes files name input) told new rest taken answer
+    (λ files input e d. phase_two_quiet name (needed flow_at files (name ++ codes ".flow")) (needed database_at files (codes "prog.db")) input e d) h
+
+pub link_does : (told new : Option Told) (rest taken : Option (List ℕ)) (stack : ℕ) (answer : Answer) → IfSome told (λ t. (input : List ℕ) → Obeys (LinkComes t.files stack input) answer t new)
+    → IfSome told (λ t. IfSome rest (λ input. Does (LinkComes t.files stack input) answer t new input rest taken taken))
+link_does told new rest taken stack answer h =
+    store_does (λ files input. LinkComes files stack input) told new rest taken answer (λ files input e d. link_quiet (objects_of files) stack input e d) h
+
+-- ---- the commands that print
+
+list_prints : (wanted : Result ImageValue Answer) (input : List ℕ) (e : Effect) → ListOver wanted input e → Prints input e
+list_prints (Err answer) input e h = subst (Prints input) (sym h) (record { puts = refl; rest = refl })
+list_prints (Ok image) input e h = subst (Prints input) (sym h.2) (record { puts = refl; rest = refl })
+
+printed_prints : (text : Result (List ℕ) Answer) (input : List ℕ) → Prints input (printed text input)
+printed_prints (Ok text) input = record { puts = refl; rest = refl }
+printed_prints (Err answer) input = record { puts = refl; rest = refl }
+
+show_does : (comes : Files → List ℕ → Effect → Type 0) (told new : Option Told) (rest taken taken' : Option (List ℕ)) (answer : Answer) → ((files : Files) (input : List ℕ) (e : Effect) → comes files input e → Prints input e)
+    → Keeps told new → IfSome told (λ t. (input : List ℕ) → Shows (comes t.files input) answer taken taken') → IfSome told (λ t. IfSome rest (λ input. Does (comes t.files input) answer t new input rest taken taken'))
+show_does comes None new rest taken taken' answer prints same h = tt
+show_does comes (Some t) new None taken taken' answer prints same h = tt
+show_does comes (Some t) new (Some input) taken taken' answer prints same h = prints_does (comes t.files input) answer t new input taken taken' (prints t.files input) same (h input)
+
+pub list_does : (told new : Option Told) (rest taken taken' : Option (List ℕ)) (answer : Answer) → Keeps told new → IfSome told (λ t. (input : List ℕ) → Shows (ListComes t.files input) answer taken taken')
+    → IfSome told (λ t. IfSome rest (λ input. Does (ListComes t.files input) answer t new input rest taken taken'))
+list_does told new rest taken taken' answer same h = show_does (λ files input. ListComes files input) told new rest taken taken' answer (λ files input e d. list_prints (image_in files) input e d) same h
+
+pub db_does : (told new : Option Told) (rest taken taken' : Option (List ℕ)) (answer : Answer) → Keeps told new → IfSome told (λ t. (input : List ℕ) → Shows (DatabaseComes t.files input) answer taken taken')
+    → IfSome told (λ t. IfSome rest (λ input. Does (DatabaseComes t.files input) answer t new input rest taken taken'))
+db_does told new rest taken taken' answer same h =
+    show_does (λ files input. DatabaseComes files input) told new rest taken taken' answer (λ files input e d. subst (Prints input) (sym d) (printed_prints (database_text files) input)) same h
+
+-- ---- the commands that run
+
+ran_does : (one : Effect) (answer : Answer) (told : Told) (new : Option Told) (input : List ℕ) (rest taken taken' : Option (List ℕ)) → one.puts ≡ [] → new ≡ Some told → Answers one.answer answer → PutsOut one.output answer taken taken'
+    → LeavesInput one.rest input answer rest → Does (λ e. e ≡ one) answer told new input rest taken taken'
+ran_does one answer told new input rest taken taken' none same h out left =
+    one_does one answer told new input rest taken taken' h (subst (λ (fs : List NamedFile). PutsFiles fs answer told new) (sym none) (nothing_put answer told new same)) out left
+
+build_puts : (built : Build) (budget : ℕ) (input : List ℕ) → (build_effect built budget input).puts ≡ []
+build_puts (build.Program numbers) budget input = refl
+build_puts (build.Refused name refusal line) budget input = refl
+build_puts (build.LinkRefused fault) budget input = refl
+
+pub go_does : (told new : Option Told) (old rest taken taken' : Option (List ℕ)) (budget : ℕ) (answer : Answer) → Keeps told new
+    → IfSome told (λ t. IfSome old (λ input. Answers (build_effect (full_build t.files) budget input).answer answer))
+    → IfSome told (λ t. IfSome old (λ input. PutsOut (build_effect (full_build t.files) budget input).output answer taken taken'))
+    → IfSome told (λ t. IfSome old (λ input. LeavesInput (build_effect (full_build t.files) budget input).rest input answer rest))
+    → IfSome told (λ t. IfSome old (λ input. Does (λ e. e ≡ build_effect (full_build t.files) budget input) answer t new input rest taken taken'))
+go_does None new old rest taken taken' budget answer same h out left = tt
+go_does (Some t) new None rest taken taken' budget answer same h out left = tt
+go_does (Some t) new (Some input) rest taken taken' budget answer same h out left =
+    ran_does (build_effect (full_build t.files) budget input) answer t new input rest taken taken' (build_puts (full_build t.files) budget input) same h out left
+
+runs_puts : (found : Result Core Answer) (budget : ℕ) (input : List ℕ) → (runs found budget input).puts ≡ []
+runs_puts (Err answer) budget input = refl
+runs_puts (Ok core) budget input = refl
+
+pub run_does : (told new : Option Told) (old rest taken taken' : Option (List ℕ)) (budget : ℕ) (answer : Answer) → Keeps told new
+    → IfSome told (λ t. IfSome old (λ input. Answers (run_effect t.files budget input).answer answer))
+    → IfSome told (λ t. IfSome old (λ input. PutsOut (run_effect t.files budget input).output answer taken taken'))
+    → IfSome told (λ t. IfSome old (λ input. LeavesInput (run_effect t.files budget input).rest input answer rest))
+    → IfSome told (λ t. IfSome old (λ input. Does (λ e. e ≡ run_effect t.files budget input) answer t new input rest taken taken'))
+run_does None new old rest taken taken' budget answer same h out left = tt
+run_does (Some t) new None rest taken taken' budget answer same h out left = tt
+run_does (Some t) new (Some input) rest taken taken' budget answer same h out left =
+    ran_does (run_effect t.files budget input) answer t new input rest taken taken' (runs_puts (core_in t.files) budget input) same h out left
+
+-- ---- what each command leaves of the input is a rest of it
+
+left_all : (input : List ℕ) (e : Effect) → e.rest ≡ input → Ends input e.rest
+left_all input e h = subst (Ends input) (sym h) (ends_itself input)
+
+pub comes_ends : (command : Option Command) (files : Files) (input : List ℕ) (e : Effect) → Comes command files input e → Ends input e.rest
+comes_ends None files input e h = left_all input e (ap (λ (x : Effect). x.rest) h)
+comes_ends (Some (Go colours stack steps)) files input e h = subst (λ (x : Effect). Ends input x.rest) (sym h) (build_leaves (full_build files) steps input)
+comes_ends (Some (PhaseOne name)) files input e h = left_all input e (phase_one_quiet name (needed_bytes files (text_name name)) input e h).rest
+comes_ends (Some (Analyse colours)) files input e h = left_all input e (analyse_quiet (summaries_of files) colours input e h).rest
+comes_ends (Some (PhaseTwo name)) files input e h = left_all input e (phase_two_quiet name (needed flow_at files (name ++ codes ".flow")) (needed database_at files (codes "prog.db")) input e h).rest
+comes_ends (Some (Link stack)) files input e h = left_all input e (link_quiet (objects_of files) stack input e h).rest
+comes_ends (Some (Run steps)) files input e h = subst (λ (x : Effect). Ends input x.rest) (sym h) (runs_end (core_in files) steps input)
+comes_ends (Some ListImage) files input e h = left_all input e (list_prints (image_in files) input e h).rest
+comes_ends (Some Db) files input e h = left_all input e (subst (Prints input) (sym h) (printed_prints (database_text files) input)).rest
+
+-- ---- streams, counts, lines
+
+pub left_alone : (answer : Answer) (input taken : Option (List ℕ)) → LeavesStreams answer input input taken taken
+left_alone Usage input taken = (refl, refl)
+left_alone (Refused name refusal) input taken = (refl, refl)
+left_alone (LinkRefused fault) input taken = (refl, refl)
+left_alone (BadFile name at) input taken = (refl, refl)
+left_alone StoreFault input taken = (refl, refl)
+left_alone _ input taken = tt
+
+pub store_reads : (count : ℕ) (answer : Answer) → IsStoreAnswer answer → InputCount count count answer
+store_reads count ReadFault h = absurd h
+store_reads count _ h = refl
+
+pub store_writes : (count : ℕ) (answer : Answer) → IsStoreAnswer answer → OutputCount count count answer
+store_writes count WriteFault h = absurd h
+store_writes count _ h = refl
+
+pub show_reads : (count : ℕ) (answer : Answer) → IsShowAnswer answer → InputCount count count answer
+show_reads count ReadFault h = absurd h
+show_reads count _ h = refl
+
+pub phase_reads : (count : ℕ) (answer : Answer) → IsPhaseAnswer answer → InputCount count count answer
+phase_reads count ReadFault h = absurd h
+phase_reads count _ h = refl
+
+pub phase_writes : (count : ℕ) (answer : Answer) → IsPhaseAnswer answer → OutputCount count count answer
+phase_writes count WriteFault h = absurd h
+phase_writes count _ h = refl
+
+pub store_no_usage : (answer : Answer) → IsStoreAnswer answer → IsNoUsage answer
+store_no_usage Usage h = h
+store_no_usage _ h = tt
+
+pub phase_no_usage : (answer : Answer) → IsPhaseAnswer answer → IsNoUsage answer
+phase_no_usage Usage h = h
+phase_no_usage _ h = tt
+
+pub show_no_usage : (answer : Answer) → IsShowAnswer answer → IsNoUsage answer
+show_no_usage Usage h = h
+show_no_usage _ h = tt
+
+pub run_no_usage : (answer : Answer) → IsRunOrStop answer → IsNoUsage answer
+run_no_usage Usage h = h
+run_no_usage _ h = tt
+
+pub no_usage : (P : Type 0) (answer : Answer) → IsNoUsage answer → answer ≡ Usage → P
+no_usage P answer h e = absurd (subst IsNoUsage e h)
+
+first_line : (answer : Answer) → IsLine 1 answer 1
+first_line (Refused name refusal) = refl
+first_line _ = tt
+
+-- an answer of a command that refuses no module
+pub plain_line : (told : Option Told) (answer : Answer) → IfSome told (λ t. IsLine 1 answer 1)
+plain_line None answer = tt
+plain_line (Some t) answer = first_line answer
+
+built_line : (built : Build) (answer : Answer) (line : ℕ) → IsLineOf built answer line → IsLine (refused_line built) answer line
+built_line built (Refused name refusal) line h = h
+built_line built _ line h = tt
+
+pub go_line : (told : Option Told) (answer : Answer) (line : ℕ) → IfSome told (λ t. IsLineOf (full_build t.files) answer line) → IfSome told (λ t. IsLine (refused_line (full_build t.files)) answer line)
+go_line None answer line h = tt
+go_line (Some t) answer line h = built_line (full_build t.files) answer line h
+
+-- ---- what holds of `go` alone
+
+pub of_go : (P : Told → Type 0) (told : Option Told) → IfSome told P → IfSome told (λ t. Unit {0} → P t)
+of_go P None h = tt
+of_go P (Some t) h = λ u. h
+
+pub of_other : (P : Told → Type 0) (told : Option Told) → IfSome told (λ t. ⊥ → P t)
+of_other P None = tt
+of_other P (Some t) = λ h. absurd h
+
+-- ---- words that say no command
+
+pub none_and_some : {X : Type 0} (o : Option X) (x : X) → o ≡ None → o ≡ Some x → ⊥
+none_and_some o x n s = cc
+
+pub kept_alone : (told : Option Told) → Keeps told told
+kept_alone None = tt
+kept_alone (Some t) = refl
+
+pub no_line : (told : Option Told) → IfSome told (λ t. Unit {0})
+no_line None = tt
+no_line (Some t) = tt

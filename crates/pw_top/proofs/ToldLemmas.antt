@@ -1,0 +1,184 @@
+-- What holds of the answer that is told: it is the answer, or want of memory for its line.
+use Rattle.std.proofs.Common.{◌≡◌, ℕ, ◌⊎◌, ⊎_elim, inl, inr, List, [], ◌++◌, Option, Some, None, refl, sym, ap, ◌∙◌, subst, append-nil}
+use Rattle.std.specs.Prelude.{IfSome}
+use Rattle.pw_io.specs.Files.{Files, Told}
+use Rattle.pw_front.specs.declared.refusal.Refusal.{Refusal}
+use Rattle.pw_answer.specs.declared.answer.Answer.{Answer}
+use Rattle.pw_answer.specs.declared.answer.Answer.TheVariants.{Usage, Refused, LinkRefused, Halted, NoMemory, BadFile}
+use Rattle.pw_answer.specs.Answers.{line_text, NeedsMemory}
+use Rattle.pw_answer.specs.Effects.{Effect, NamedFile, PutsFiles, PutFront}
+use Rattle.pw_answer.specs.Outcomes.{Answers, InputCount, LeavesInput, LeavesStreams, OutputCount, PutsOut, StoreCount, ToldAs, WasReadInPart}
+use Rattle.pw_running.proofs.RunLemmas.{Ends}
+use Rattle.pw_modules.specs.Modules.{modules_of}
+use Rattle.pw_go.specs.FullBuild as build
+use Rattle.pw_go.specs.FullBuild.{Build, full_build}
+use Rattle.pw_go.specs.Going.{AnswersBuild, ReturnsSum, build_effect}
+use Rattle.pw_go.specs.Refusals.{HoldsNoWantOfMemory}
+use Rattle.pw_words.specs.declared.commands.Command.{Command}
+use Rattle.pw_words.specs.declared.commands.Command.TheVariants.{Go}
+use Rattle.pw_compiling.specs.First.{IsLine}
+use Rattle.pw_top.specs.Commands.{Comes}
+use Rattle.pw_top.specs.Does.{Does}
+use Rattle.pw_top.proofs.CommandLemmas.{comes_ends}
+
+refused_is_some_memory : (name : List ℕ) (refusal : Refusal) → Refused name refusal ≡ NoMemory → ⊥
+refused_is_some_memory name refusal e = cc
+
+pub no_memory_is_no_usage : NoMemory ≡ Usage → ⊥
+no_memory_is_no_usage e = cc
+
+usage_needs_none : (answer : Answer) → answer ≡ Usage → NeedsMemory answer → ⊥
+usage_needs_none answer e n = subst NeedsMemory e n
+
+-- what holds of the answer told, where it holds of the answer, and of want of memory besides
+pub told_by : (P : Answer → Type 0) (answer told : Answer) → ToldAs answer told → P answer → (NeedsMemory answer → P answer → P NoMemory) → P told
+told_by P answer told t p q = ⊎_elim (λ e. subst P (sym e) p) (λ n. subst P (sym n.1) (q n.0 p)) t
+
+-- ---- the words
+
+pub usage_is : (answer told : Answer) (P : Type 0) → ToldAs answer told → (answer ≡ Usage → P) → told ≡ Usage → P
+usage_is answer told P t h u = ⊎_elim (λ e. h (sym e ∙ u)) (λ n. absurd (no_memory_is_no_usage (sym n.1 ∙ u))) t
+
+usage_told : (answer told : Answer) → ToldAs answer told → (answer ≡ Usage) ⊎ (answer ≡ NoMemory) → (told ≡ Usage) ⊎ (told ≡ NoMemory)
+usage_told answer told t h = ⊎_elim {C = (told ≡ Usage) ⊎ (told ≡ NoMemory)} (λ e. ⊎_elim {C = (told ≡ Usage) ⊎ (told ≡ NoMemory)} (λ u. inl (e ∙ u)) (λ n. inr (e ∙ n)) h) (λ n. inr n.1) t
+
+pub usage_comes : (answer told : Answer) (P : Type 0) → ToldAs answer told → (P → (answer ≡ Usage) ⊎ (answer ≡ NoMemory)) → P → (told ≡ Usage) ⊎ (told ≡ NoMemory)
+usage_comes answer told P t h p = usage_told answer told t (h p)
+
+-- ---- what the call did
+
+puts_all : (answer : Answer) (files : List NamedFile) (told : Told) (new : Option Told) → NeedsMemory answer → PutsFiles files answer told new → PutFront told files new
+puts_all (Refused name refusal) files told new n h = record { done = files; more = []; split = sym (append-nil files); left = h }
+puts_all (LinkRefused fault) files told new n h = record { done = files; more = []; split = sym (append-nil files); left = h }
+puts_all (Halted halt at) files told new n h = record { done = files; more = []; split = sym (append-nil files); left = h }
+puts_all (BadFile name at) files told new n h = record { done = files; more = []; split = sym (append-nil files); left = h }
+puts_all _ files told new n h = absurd n
+
+part_of_wanted : (input wanted : List ℕ) (new : Option (List ℕ)) → Ends input wanted → new ≡ Some wanted → WasReadInPart wanted input new
+part_of_wanted input wanted new e h = let P : Option (List ℕ) → Type 0 = λ o. WasReadInPart wanted input o in subst P (sym h) (e.0, [], (e.1, refl))
+
+left_part : (input wanted : List ℕ) (new : Option (List ℕ)) (answer : Answer) → Ends input wanted → NeedsMemory answer → LeavesInput wanted input answer new → WasReadInPart wanted input new
+left_part input wanted new (Refused name refusal) e n h = part_of_wanted input wanted new e h
+left_part input wanted new (LinkRefused fault) e n h = part_of_wanted input wanted new e h
+left_part input wanted new (Halted halt at) e n h = part_of_wanted input wanted new e h
+left_part input wanted new (BadFile name at) e n h = part_of_wanted input wanted new e h
+left_part input wanted new _ e n h = absurd n
+
+out_part : (wanted : List ℕ) (answer : Answer) (old new : Option (List ℕ)) → PutsOut wanted answer old new → PutsOut wanted NoMemory old new
+out_part wanted answer old new p = record { output = p.output; more = p.more; taken = p.taken; front = p.front; whole = tt }
+
+does_no_memory : (comes : Effect → Type 0) (answer : Answer) (told : Told) (new : Option Told) (input : List ℕ) (rest taken taken' : Option (List ℕ)) → ((e : Effect) → comes e → Ends input e.rest) → NeedsMemory answer
+    → Does comes answer told new input rest taken taken' → Does comes NoMemory told new input rest taken taken'
+does_no_memory comes answer told new input rest taken taken' ends n h = record {
+  answers = λ e d. tt;
+  puts = λ e d. puts_all answer e.puts told new n (h.puts e d);
+  output = λ e d. out_part e.output answer taken taken' (h.output e d);
+  rest = λ e d. left_part input e.rest rest answer (ends e d) n (h.rest e d);
+  found = tt;
+}
+
+pub told_does : (command : Option Command) (first new : Option Told) (old rest taken taken' : Option (List ℕ)) (answer last : Answer) → ToldAs answer last
+    → IfSome first (λ t. IfSome old (λ input. Does (Comes command t.files input) answer t new input rest taken taken'))
+    → IfSome first (λ t. IfSome old (λ input. Does (Comes command t.files input) last t new input rest taken taken'))
+told_does command None new old rest taken taken' answer last t h = tt
+told_does command (Some now) new None rest taken taken' answer last t h = tt
+told_does command (Some now) new (Some input) rest taken taken' answer last t h =
+    let comes : Effect → Type 0 = Comes command now.files input in
+    told_by (λ a. Does comes a now new input rest taken taken') answer last t h
+    (λ n d. does_no_memory comes answer now new input rest taken taken' (λ e c. comes_ends command now.files input e c) n d)
+
+-- ---- the refusals of `go`
+
+build_no_memory : (built : Build) → AnswersBuild built NoMemory
+build_no_memory (build.Program numbers) = tt
+build_no_memory (build.Refused name refusal line) = tt
+build_no_memory (build.LinkRefused fault) = tt
+
+pub memory_refuses : (P : Type 0) (told : Option Told) → IfSome told (λ t. P → AnswersBuild (full_build t.files) NoMemory)
+memory_refuses P None = tt
+memory_refuses P (Some t) = λ p. build_no_memory (full_build t.files)
+
+pub told_refuses : (P : Type 0) (first : Option Told) (answer last : Answer) → ToldAs answer last → IfSome first (λ t. P → AnswersBuild (full_build t.files) answer) → IfSome first (λ t. P → AnswersBuild (full_build t.files) last)
+told_refuses P None answer last t h = tt
+told_refuses P (Some now) answer last t h = λ p. told_by (AnswersBuild (full_build now.files)) answer last t (h p) (λ n a. build_no_memory (full_build now.files))
+
+pub by_law : (P : Type 0) (Q : Files → Answer → Type 0) (first : Option Told) (last : Answer) → ((files : Files) (answer : Answer) → AnswersBuild (full_build files) answer → Q files answer)
+    → IfSome first (λ t. P → AnswersBuild (full_build t.files) last) → IfSome first (λ t. P → Q t.files last)
+by_law P Q None last law h = tt
+by_law P Q (Some now) last law h = λ p. law now.files last (h p)
+
+pub told_proper : (P : Type 0) (answer last : Answer) → ToldAs answer last → (P → HoldsNoWantOfMemory answer) → P → HoldsNoWantOfMemory last
+told_proper P answer last t h p = told_by HoldsNoWantOfMemory answer last t (h p) (λ n x. tt)
+
+-- ---- source and machine
+
+sum_of : (command : Option Command) (files : Files) (input : List ℕ) (last : Answer) (told : Told) (new : Option Told) (rest taken taken' : Option (List ℕ)) (colours stack steps : ℕ)
+    → ((files : Files) (budget : ℕ) (input : List ℕ) (answer : Answer) → Answers (build_effect (full_build files) budget input).answer answer → ReturnsSum budget (full_build files) answer)
+    → command ≡ Some (Go colours stack steps) → Does (Comes command files input) last told new input rest taken taken' → ReturnsSum steps (full_build files) last
+sum_of command files input last told new rest taken taken' colours stack steps law e h =
+    let P : Option Command → Type 0 = λ c. Does (Comes c files input) last told new input rest taken taken' in
+    let d = subst P e h in
+    law files steps input last (d.answers (build_effect (full_build files) steps input) refl)
+
+pub returns_sum : (command : Option Command) (first new : Option Told) (old rest taken taken' : Option (List ℕ)) (last : Answer)
+    → ((files : Files) (budget : ℕ) (input : List ℕ) (answer : Answer) → Answers (build_effect (full_build files) budget input).answer answer → ReturnsSum budget (full_build files) answer)
+    → IfSome first (λ t. IfSome old (λ input. Does (Comes command t.files input) last t new input rest taken taken'))
+    → IfSome first (λ t. IfSome old (λ input. (colours stack steps : ℕ) → command ≡ Some (Go colours stack steps) → ReturnsSum steps (full_build t.files) last))
+returns_sum command None new old rest taken taken' last law h = tt
+returns_sum command (Some now) new None rest taken taken' last law h = tt
+returns_sum command (Some now) new (Some input) rest taken taken' last law h =
+    λ colours stack steps e. sum_of command now.files input last now new rest taken taken' colours stack steps law e h
+
+pub of_files : (P : Files → Type 0) (first : Option Told) → ((files : Files) → P files) → IfSome first (λ t. P t.files)
+of_files P None law = tt
+of_files P (Some now) law = law now.files
+
+-- ---- counts and streams
+
+pub store_told : (before now : ℕ) (answer last : Answer) → ToldAs answer last → StoreCount before now answer → StoreCount before now last
+store_told before now answer last t h = told_by (λ a. StoreCount before now a) answer last t h (λ n c. kept answer n c)
+  where
+    kept : (answer : Answer) → NeedsMemory answer → StoreCount before now answer → now ≡ before
+    kept (Refused name refusal) n h = h
+    kept (LinkRefused fault) n h = h
+    kept (Halted halt at) n h = h
+    kept (BadFile name at) n h = h
+    kept _ n h = absurd n
+
+pub input_told : (before now : ℕ) (answer last : Answer) → ToldAs answer last → InputCount before now answer → InputCount before now last
+input_told before now answer last t h = told_by (λ a. InputCount before now a) answer last t h (λ n c. kept answer n c)
+  where
+    kept : (answer : Answer) → NeedsMemory answer → InputCount before now answer → now ≡ before
+    kept (Refused name refusal) n h = h
+    kept (LinkRefused fault) n h = h
+    kept (Halted halt at) n h = h
+    kept (BadFile name at) n h = h
+    kept _ n h = absurd n
+
+pub output_told : (before now : ℕ) (answer last : Answer) → ToldAs answer last → OutputCount before now answer → OutputCount before now last
+output_told before now answer last t h = told_by (λ a. OutputCount before now a) answer last t h (λ n c. kept answer n c)
+  where
+    kept : (answer : Answer) → NeedsMemory answer → OutputCount before now answer → now ≡ before
+    kept (Refused name refusal) n h = h
+    kept (LinkRefused fault) n h = h
+    kept (Halted halt at) n h = h
+    kept (BadFile name at) n h = h
+    kept _ n h = absurd n
+
+pub streams_told : (answer last : Answer) (i i' o o' : Option (List ℕ)) → ToldAs answer last → LeavesStreams answer i i' o o' → LeavesStreams last i i' o o'
+streams_told answer last i i' o o' t h = told_by (λ a. LeavesStreams a i i' o o') answer last t h (λ n c. tt)
+
+-- ---- the line
+
+same_line : (due : ℕ) (answer last : Answer) (line : ℕ) → IsLine due answer line → ToldAs answer last → line_text line last ≡ line_text due last
+same_line due answer (Refused name refusal) line l t =
+    ⊎_elim
+    (λ e. let P : Answer → Type 0 = λ a. IsLine due a line in ap (λ n. line_text n (Refused name refusal)) (subst P (sym e) l))
+    (λ n. absurd (refused_is_some_memory name refusal n.1))
+    t
+same_line due answer _ line l t = refl
+
+pub told_line : (due : Files → ℕ) (first : Option Told) (answer last : Answer) (line : ℕ) (Q : List ℕ → Type 0) → ToldAs answer last → IfSome first (λ t. IsLine (due t.files) answer line) → Q (line_text line last)
+    → IfSome first (λ t. Q (line_text (due t.files) last))
+told_line due None answer last line Q t l h = tt
+told_line due (Some now) answer last line Q t l h = subst Q (same_line (due now.files) answer last line l t) h

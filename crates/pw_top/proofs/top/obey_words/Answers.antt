@@ -1,0 +1,68 @@
+use Rattle.std.proofs.Common.{map, inr, refl}
+use Rattle.std.specs.Prelude.{string_bytes}
+use Rattle.pw_words.specs.CommandLine.{command_of}
+use Rattle.pw_top.specs.Commands.{Comes}
+use Rattle.pw_top.proofs.DoesLemmas.{memory_does, usage_does}
+use Rattle.pw_top.proofs.CommandLemmas.{comes_ends, kept_alone, no_line, no_usage, none_and_some, of_other}
+use Rattle.pw_top.proofs.ToldLemmas.{memory_refuses, no_memory_is_no_usage}
+use Rattle.pw_top.proofs.top.obey_words.Goals as goal
+
+pub obey-requires : goal.obey-requires
+obey-requires g c = c.commands_are_within.ensures (map string_bytes c.args.words.now) c.in-Ok.command c.in-Ok.ensures
+
+pub returns-in-Ok-clause-does : goal.returns-in-Ok-clause-does
+returns-in-Ok-clause-does g c = rw c.in-Ok.ensures c.obey.ensures.does
+
+pub returns-in-Ok-clause-usage_is : goal.returns-in-Ok-clause-usage_is
+returns-in-Ok-clause-usage_is g c = no_usage _ _ c.obey.ensures.words
+
+pub returns-in-Ok-clause-usage_comes : goal.returns-in-Ok-clause-usage_comes
+returns-in-Ok-clause-usage_comes g c = λ e. absurd (none_and_some _ _ e c.in-Ok.ensures)
+
+pub returns-in-Ok-clause-refusal : goal.returns-in-Ok-clause-refusal
+returns-in-Ok-clause-refusal g c = rw c.in-Ok.ensures c.obey.ensures.refusal
+
+pub returns-in-Ok-clause-proper : goal.returns-in-Ok-clause-proper
+returns-in-Ok-clause-proper g c = rw c.in-Ok.ensures c.obey.ensures.proper
+
+pub returns-in-Ok-clause-reads : goal.returns-in-Ok-clause-reads
+returns-in-Ok-clause-reads g c = rw c.in-Ok.ensures c.obey.ensures.reads
+
+pub returns-in-Ok-clause-line : goal.returns-in-Ok-clause-line
+returns-in-Ok-clause-line g c = rw c.in-Ok.ensures c.obey.ensures.line
+
+pub returns-in-Err-Usage-clause-does : goal.returns-in-Err-Usage-clause-does
+returns-in-Err-Usage-clause-does g c =
+    let none = rw c.in-Err-Usage.field-0-is at c.in-Err-Usage.ensures in
+    rw none (usage_does (g.S.Store.told c.args.store.now) (g.I.Source.rest c.args.input.now) (g.O.Sink.taken c.args.out.now))
+
+pub returns-in-Err-Usage-clause-refusal : goal.returns-in-Err-Usage-clause-refusal
+returns-in-Err-Usage-clause-refusal g c =
+    let none = rw c.in-Err-Usage.field-0-is at c.in-Err-Usage.ensures in
+    rw none (of_other _ (g.S.Store.told c.args.store.now))
+
+pub returns-in-Err-Usage-clause-reads : goal.returns-in-Err-Usage-clause-reads
+returns-in-Err-Usage-clause-reads g c = λ h. kept_alone (g.S.Store.told c.args.store.now)
+
+pub returns-in-Err-Usage-clause-line : goal.returns-in-Err-Usage-clause-line
+returns-in-Err-Usage-clause-line g c = no_line (g.S.Store.told c.args.store.now)
+
+pub returns-in-Err-NoMemory-clause-does : goal.returns-in-Err-NoMemory-clause-does
+returns-in-Err-NoMemory-clause-does g c =
+    let command = command_of (map string_bytes c.args.words.now) in
+    memory_does (λ t input. Comes command t.files input) (g.S.Store.told c.args.store.now) (g.I.Source.rest c.args.input.now) (g.O.Sink.taken c.args.out.now) (λ t input e d. comes_ends command t.files input e d)
+
+pub returns-in-Err-NoMemory-clause-usage_is : goal.returns-in-Err-NoMemory-clause-usage_is
+returns-in-Err-NoMemory-clause-usage_is g c = λ e. absurd (no_memory_is_no_usage e)
+
+pub returns-in-Err-NoMemory-clause-usage_comes : goal.returns-in-Err-NoMemory-clause-usage_comes
+returns-in-Err-NoMemory-clause-usage_comes g c = λ e. inr refl
+
+pub returns-in-Err-NoMemory-clause-refusal : goal.returns-in-Err-NoMemory-clause-refusal
+returns-in-Err-NoMemory-clause-refusal g c = memory_refuses _ (g.S.Store.told c.args.store.now)
+
+pub returns-in-Err-NoMemory-clause-reads : goal.returns-in-Err-NoMemory-clause-reads
+returns-in-Err-NoMemory-clause-reads g c = λ h. kept_alone (g.S.Store.told c.args.store.now)
+
+pub returns-in-Err-NoMemory-clause-line : goal.returns-in-Err-NoMemory-clause-line
+returns-in-Err-NoMemory-clause-line g c = no_line (g.S.Store.told c.args.store.now)
