@@ -4,3 +4,9 @@ pub mod Types
 pub mod States
 pub mod Conversions
 pub mod Nodes
+pub mod Places
+pub mod Calls
+pub mod Operations
+pub mod Changes
+pub mod Leaves
+pub mod Phrases

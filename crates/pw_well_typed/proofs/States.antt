@@ -118,10 +118,10 @@ value_later g f = λ m locals d w. f m locals (denotes_back g d) w
 abbrev pub Runs : {A : Type 0} → State → Walk (A × State) → (State → A → Type 0) → Type 0
 Runs s w Good = Post w (λ r. IsLawful r.1 × Grows s r.1 × Good r.1 r.0)
 
-pub then : {A B : Type 0} {s : State} (w : Walk (A × State)) (next : A × State → Walk (B × State))
+pub goes_on : {A B : Type 0} {s : State} (w : Walk (A × State)) (next : A × State → Walk (B × State))
     (Good : State → A → Type 0) (Best : State → B → Type 0) → Runs s w Good
     → ((r : A × State) → IsLawful r.1 → Grows s r.1 → Good r.1 r.0 → Runs r.1 (next r) Best) → Runs s (bind w next) Best
-then {A} {B} {s} w next Good Best h k =
+goes_on {A} {B} {s} w next Good Best h k =
     post_bind w next (λ r. IsLawful r.1 × Grows s r.1 × Good r.1 r.0) (λ r. IsLawful r.1 × Grows s r.1 × Best r.1 r.0) h
     (λ r g. post_weaken (next r) (λ u. IsLawful u.1 × Grows r.1 u.1 × Best u.1 u.0) (λ u. IsLawful u.1 × Grows s u.1 × Best u.1 u.0)
     (k r g.0 g.1 g.2) (λ u f. (f.0, grows_trans g.1 f.1, f.2)))
