@@ -1,17 +1,17 @@
 -- Calls: by a name, and through a pointer (ISO C90 6.3.2.2).
-use Rattle.std.specs.Prelude.{ℕ, zero, suc, ◌≡◌, ◌+◌, ◌⊎◌, ◌==◌, Bool, true, false, ◌&&◌, List, [], ◌∷◌, length, refl}
-use Rattle.std.proofs.Common.{arith, ap, sym, subst, ◌∙◌, inl, inr}
+use Rattle.std.specs.Prelude.{ℕ, suc, ◌≡◌, ◌+◌, ◌==◌, Bool, true, false, List, [], ◌∷◌, length, refl}
+use Rattle.std.proofs.Common.{arith, sym, subst, ◌∙◌, inl, inr}
 use Rattle.std.proofs.lemmas.Bool.{eqb-true}
-use Rattle.pw_types.specs.TypeTrees.{CType, Void, Int, Pointer, Array, Function, Record, QType, Qualified, QTypes, NoType, OneType, type_of, RecordValue}
+use Rattle.pw_types.specs.TypeTrees.{CType, Void, Int, Pointer, Array, Function, Record, QType, Qualified, QTypes, NoType, OneType, type_of}
 use Rattle.pw_types.specs.TypedTrees.{Symbol, External, Internal, Hidden, Expression, Node, Form, Expressions, NoExpression, OneExpression, LocalValue, ModuleValue, type_at, form_of}
 use Rattle.pw_types.specs.TypedTrees as T
-use Rattle.pw_types.specs.WellTyped.{IsTyped, HasForm, AreArguments, IsScalar, IsResult, IsFunctionType, IsFunctionOf, Decays}
+use Rattle.pw_types.specs.WellTyped.{IsTyped, AreArguments, IsResult, IsFunctionType, IsFunctionOf, Decays}
 use Rattle.pw_rules.specs.Kinds.{plain, unqualified, is_function, points_to_function, pointee, parameters_of, result_of, count_of_types}
-use Rattle.pw_rules.specs.Operands.{Operand, type_in, value_operand, cast_to}
+use Rattle.pw_rules.specs.Operands.{type_in, value_operand}
 use Rattle.pw_rules.specs.Operators.{is_assignable, arguments_fit, arguments_cast, callee_type, call_node}
 use Rattle.pw_well_typed.specs.Lawful.{IsLawfulType, AreLawfulTypes, AreWords, AreWordsOf}
 use Rattle.pw_well_typed.proofs.States.{GoodOperand, GoodValue}
-use Rattle.pw_well_typed.proofs.Types.{no, left, right, lawful_known}
+use Rattle.pw_well_typed.proofs.Types.{no, left, right}
 use Rattle.pw_well_typed.proofs.Conversions.{no_function, scalar_no_function, cast_type, cast_words, node_good}
 use Rattle.pw_well_typed.proofs.Places.{assignable_typed}
 
@@ -25,10 +25,12 @@ unfolding IsTyped
 arguments_good m locals NoType [] lawful n f g w = tt
 arguments_good m locals NoType (e ∷ es) lawful n f g w = grind (arith, n)
 arguments_good m locals (OneType (Qualified ty c v) ps) [] lawful n f g w = grind (arith, n)
-arguments_good m locals (OneType (Qualified ty c v) ps) (e ∷ es) lawful n f g w =
-    (assignable_typed m locals ty e (g.0 (cast_words ty e w.0)) lawful.0 (left (is_assignable ty e) (arguments_fit ps es) f),
-      lawful.1, cast_type ty e,
-      arguments_good m locals ps es lawful.2 (let k : 1 + count_of_types ps ≡ suc (length es) = n in omega (arith, k)) (right (is_assignable ty e) (arguments_fit ps es) f) g.1 w.1)
+arguments_good m locals (OneType (Qualified ty c v) ps) (e ∷ es) lawful n f g w = (
+  assignable_typed m locals ty e (g.0 (cast_words ty e w.0)) lawful.0 (left (is_assignable ty e) (arguments_fit ps es) f),
+  lawful.1,
+  cast_type ty e,
+  arguments_good m locals ps es lawful.2 (let k : 1 + count_of_types ps ≡ suc (length es) = n in omega (arith, k)) (right (is_assignable ty e) (arguments_fit ps es) f) g.1 w.1,
+)
 
 result_object : (ty : CType) → IsResult ty → IsFunctionType ty → ⊥
 result_object ty (inl e) f = subst (λ x. IsFunctionType x → ⊥) (sym e) (no_function Void refl) f
@@ -44,9 +46,19 @@ unfolding IsTyped
 through_good m locals t e es (Pointer (Qualified (Function (Qualified result rc rv) params) c v)) same ge ges p n f w =
     let va : GoodValue m locals e = ge w.0 in
     let lawful : IsLawfulType m.records (Function (Qualified result rc rv) params) = subst (IsLawfulType m.records) same va.lawful in
-    node_good m locals t result (T.CallValue e (arguments_cast params es)) lawful.0 (result_object result lawful.1)
-    (va.typed, (Qualified result rc rv, params, c, v, same, lawful.1, refl,
-      arguments_good m locals params es lawful.2 (eqb-true (count_of_types params) (length es) n) f ges w.1))
+    node_good m locals t result (T.CallValue e (arguments_cast params es)) lawful.0 (result_object result lawful.1) (
+      va.typed,
+      (
+        Qualified result rc rv,
+        params,
+        c,
+        v,
+        same,
+        lawful.1,
+        refl,
+        arguments_good m locals params es lawful.2 (eqb-true (count_of_types params) (length es) n) f ges w.1,
+      ),
+    )
 through_good m locals t e es (Pointer (Qualified Void c v)) same ge ges p n f w = no p
 through_good m locals t e es (Pointer (Qualified (Int k) c v)) same ge ges p n f w = no p
 through_good m locals t e es (Pointer (Qualified (Pointer q) c v)) same ge ges p n f w = no p
@@ -86,9 +98,14 @@ direct_good m locals t u w q symbol result rc rv params c v es g ges ty is n f w
         let lawful : IsLawfulType m.records (Function (Qualified result rc rv) params) = subst (IsLawfulType m.records) h.2 g.lawful in
         let count : (count_of_types params == length es) ≡ true = subst (λ x. (count_of_types (parameters_of (type_of (pointee x))) == length es) ≡ true) same n in
         let fit : arguments_fit params es ≡ true = subst (λ x. arguments_fit (parameters_of (type_of (pointee x))) es ≡ true) same f in
-        node_good m locals t result (T.Call symbol (arguments_cast params es)) lawful.0 (result_object result lawful.1)
-        (Qualified result rc rv, params, plain_function m symbol (Qualified result rc rv) params c v g.typed.1.0.1.1, lawful.1, refl,
-          arguments_good m locals params es lawful.2 (eqb-true (count_of_types params) (length es) count) fit ges words)
+        node_good m locals t result (T.Call symbol (arguments_cast params es)) lawful.0 (result_object result lawful.1) (
+          Qualified result rc rv,
+          params,
+          plain_function m symbol (Qualified result rc rv) params c v g.typed.1.0.1.1,
+          lawful.1,
+          refl,
+          arguments_good m locals params es lawful.2 (eqb-true (count_of_types params) (length es) count) fit ges words,
+        )
 
 no_designator : (m : ModuleValue) (locals : List LocalValue) (u w : ℕ) (q p : QType) (symbol : Symbol) → is_function (type_of p) ≡ false
     → GoodValue m locals (Node u q (T.Decay (Node w p (T.Function symbol)))) → ⊥

@@ -1,24 +1,23 @@
 -- Changes of the state: each leaves it lawful, and forgets nothing.
-use Rattle.std.specs.Prelude.{ℕ, zero, suc, ◌≡◌, ◌+◌, ◌-◌, ◌<◌, ◌≤◌, ◌⊎◌, ◌==◌, nat_lt, Bool, true, false, Option, None, Some, option_map, option_and_then, List, [], ◌∷◌, ◌++◌, length, filter, slice_get, if◌then◌else◌, refl}
+use Rattle.std.specs.Prelude.{ℕ, zero, suc, ◌≡◌, ◌+◌, ◌<◌, ◌≤◌, ◌⊎◌, nat_lt, Bool, true, false, Option, None, Some, option_and_then, List, [], ◌∷◌, ◌++◌, length, filter, slice_get, refl}
 use Rattle.std.proofs.Common.{arith, ap, sym, subst, ◌∙◌, inl, inr, append-nil, length-append}
 use Rattle.std.proofs.lemmas.Bool.{ltb-true, ltb-false}
 use Rattle.pw_types.specs.declared.record.RecordKind.{RecordKind}
 use Rattle.pw_types.specs.Layouts.{content_at}
 use Rattle.pw_types.specs.Records.{declared, defined}
-use Rattle.pw_types.specs.TypeTrees.{CType, QType, type_of, MemberValue, ContentValue, RecordValue}
-use Rattle.pw_types.specs.TypedTrees.{LocalValue, ModuleValue, Hidden}
-use Rattle.pw_walk.specs.Walks.{Walk, Done, bind}
+use Rattle.pw_types.specs.TypeTrees.{QType, type_of, MemberValue, ContentValue, RecordValue}
+use Rattle.pw_walk.specs.Walks.{bind}
 use Rattle.pw_rules.specs.Leaves.{open_record}
-use Rattle.pw_rules.specs.States.{State, Rule, Entity, TypeName, EnumerationConstant, LocalObject, StaticObject, Linked, HiddenObject, enter, enter_tag, add_record, put_record, add_hidden, with_made, with_scopes, one_deeper, leave_scope, scoped, uncounted, put_at}
+use Rattle.pw_rules.specs.States.{State, Rule, Entity, TypeName, EnumerationConstant, LocalObject, StaticObject, Linked, HiddenObject, enter, enter_tag, add_record, put_record, add_hidden, with_made, one_deeper, leave_scope, scoped, uncounted, put_at}
 use Rattle.pw_rules.specs.declared.names.Entry.{Entry}
 use Rattle.pw_rules.specs.declared.names.Tag.{Tag}
 use Rattle.pw_rules.specs.declared.names.Tag.TheVariants as G
 use Rattle.pw_rules.specs.declared.names.TagEntry.{TagEntry}
-use Rattle.pw_well_typed.specs.Lawful.{IsLawful, IsLawfulType, IsObjectLike, HasLawfulMembers, IsLawfulEntity, IsLawfulTag, Extends}
-use Rattle.pw_well_typed.proofs.Walking.{Post, post_bind, post_weaken}
-use Rattle.pw_well_typed.proofs.States.{Grows, grows_same, grows_trans, Runs}
-use Rattle.pw_well_typed.proofs.Lists.{some_same, never_some, Longer, get_append, get_either, get_one, get_within, get_filter, filter_front, length_put, put_same, put_either}
-use Rattle.pw_well_typed.proofs.Types.{no, extends_trans, extends_same, lawful_later}
+use Rattle.pw_well_typed.specs.Lawful.{IsLawful, IsObjectLike, HasLawfulMembers, IsLawfulEntity, IsLawfulTag, Extends}
+use Rattle.pw_well_typed.proofs.Walking.{post_bind}
+use Rattle.pw_well_typed.proofs.States.{Grows, Runs}
+use Rattle.pw_well_typed.proofs.Lists.{some_same, never_some, get_append, get_either, get_one, get_within, get_filter, filter_front, length_put, put_same, put_either}
+use Rattle.pw_well_typed.proofs.Types.{extends_trans, extends_same, lawful_later}
 
 -- ---- what is lawful stays lawful
 
@@ -67,10 +66,10 @@ more_records kind xs = record {
 pub record_added : (s : State) (kind : RecordKind) → IsLawful s → IsLawful (add_record (declared kind) s)
 record_added s kind l = record {
   contents = λ n c e i m h.
-  like_later (more_records kind s.types.records) (l.contents n c (content_of_more kind s.types.records n c e) i m h);
+      like_later (more_records kind s.types.records) (l.contents n c (content_of_more kind s.types.records n c e) i m h);
   begun = λ n c e. get_append s.types.opened (false ∷ []) n true (l.begun n c (content_of_more kind s.types.records n c e));
   counted =
-  length-append s.types.opened (false ∷ []) ∙ (ap (λ n. n + 1) l.counted ∙ sym (length-append s.types.records (declared kind ∷ [])));
+      length-append s.types.opened (false ∷ []) ∙ (ap (λ n. n + 1) l.counted ∙ sym (length-append s.types.records (declared kind ∷ [])));
   entities = λ k e h. entity_later s.types.records (s.types.records ++ declared kind ∷ []) (more_records kind s.types.records) e (l.entities k e h);
   tags = λ i t h. tag_later s.types.records (s.types.records ++ declared kind ∷ []) (more_records kind s.types.records) t.1.tag (l.tags i t h);
   depths = l.depths;
@@ -79,10 +78,11 @@ record_added s kind l = record {
 pub record_grows : (s : State) (kind : RecordKind) → IsLawful s → Grows s (add_record (declared kind) s)
 record_grows s kind l = record {
   extends = more_records kind s.types.records;
-  begun = λ n e.
-  (get_append s.types.opened (false ∷ []) n true e,
+  begun = λ n e. (
+    get_append s.types.opened (false ∷ []) n true e,
     content_by (s.types.records ++ declared kind ∷ []) s.types.records n
-    (get_front s.types.records (declared kind ∷ []) n (subst (λ k. n < k) l.counted (get_within s.types.opened n true e))));
+        (get_front s.types.records (declared kind ∷ []) n (subst (λ k. n < k) l.counted (get_within s.types.opened n true e))),
+  );
   linked = refl;
   entities = λ i x e. e;
   depth = refl;
@@ -327,21 +327,22 @@ pub sizeof_lawful : (s : State) → IsLawful s → IsLawful (in_sizeof s)
 sizeof_lawful s l = record { contents = l.contents; begun = l.begun; counted = l.counted; entities = l.entities; tags = l.tags; depths = l.depths }
 
 restored : (s t : State) → IsLawful t → Grows (in_sizeof s) t → IsLawful (with_made (λ m. record m { counting = s.made.counting }) t) × Grows s (with_made (λ m. record m { counting = s.made.counting }) t)
-restored s t l g =
-    (record { contents = l.contents; begun = l.begun; counted = l.counted; entities = l.entities; tags = l.tags; depths = l.depths },
-      record {
-        extends = g.extends;
-        begun = g.begun;
-        linked = g.linked;
-        entities = g.entities;
-        depth = g.depth;
-        more = g.more;
-        ordinary = g.ordinary;
-        deep = g.deep;
-        hidden = g.hidden;
-        counting = refl;
-        body = g.body;
-      })
+restored s t l g = (
+  record { contents = l.contents; begun = l.begun; counted = l.counted; entities = l.entities; tags = l.tags; depths = l.depths },
+  record {
+    extends = g.extends;
+    begun = g.begun;
+    linked = g.linked;
+    entities = g.entities;
+    depth = g.depth;
+    more = g.more;
+    ordinary = g.ordinary;
+    deep = g.deep;
+    hidden = g.hidden;
+    counting = refl;
+    body = g.body;
+  },
+)
 
 pub uncounted_runs : {A : Type 0} (s : State) (inside : Rule A) (Good : A → Type 0) → Runs (in_sizeof s) (inside (in_sizeof s)) (λ t a. Good a)
     → Runs s (uncounted inside s) (λ t a. Good a)
@@ -381,11 +382,11 @@ left_behind s t l g =
     ap (λ xs. filter (λ (e : List ℕ × Entry). nat_lt e.1.depth t.scopes.depth) xs) g.ordinary
     ∙ filter_front (λ (e : List ℕ × Entry). nat_lt e.1.depth t.scopes.depth) s.scopes.ordinary g.more
     (λ i e h.
-      let k : e.1.depth ≤ s.scopes.depth = l.depths i e h in
-      let d : t.scopes.depth ≡ s.scopes.depth + 1 = g.depth in
-      lt_so e.1.depth t.scopes.depth (omega (arith, k, d)))
+    let k : e.1.depth ≤ s.scopes.depth = l.depths i e h in
+    let d : t.scopes.depth ≡ s.scopes.depth + 1 = g.depth in
+    lt_so e.1.depth t.scopes.depth (omega (arith, k, d)))
     (λ i e h.
-      subst (λ n. nat_lt n t.scopes.depth ≡ false) (sym (g.deep i e h ∙ sym g.depth)) (lt_not t.scopes.depth))
+    subst (λ n. nat_lt n t.scopes.depth ≡ false) (sym (g.deep i e h ∙ sym g.depth)) (lt_not t.scopes.depth))
 
 left_lawful : (s t : State) → IsLawful s → IsLawful t → Grows (one_deeper s) t → IsLawful (leave_scope t)
 left_lawful s t ls l g = record {
@@ -395,9 +396,9 @@ left_lawful s t ls l g = record {
   entities = l.entities;
   tags = λ i x h. let k = get_filter (λ (e : List ℕ × TagEntry). nat_lt e.1.depth t.scopes.depth) t.scopes.tags i x h in l.tags k.0 x k.1;
   depths = λ i e h.
-  let k = get_filter (λ (x : List ℕ × Entry). nat_lt x.1.depth t.scopes.depth) t.scopes.ordinary i e h in
-  let m : e.1.depth < t.scopes.depth = ltb-true e.1.depth t.scopes.depth k.2 in
-  omega (arith, m);
+      let k = get_filter (λ (x : List ℕ × Entry). nat_lt x.1.depth t.scopes.depth) t.scopes.ordinary i e h in
+      let m : e.1.depth < t.scopes.depth = ltb-true e.1.depth t.scopes.depth k.2 in
+      omega (arith, m);
 }
 
 left_grows : (s t : State) → IsLawful s → Grows (one_deeper s) t → Grows s (leave_scope t)

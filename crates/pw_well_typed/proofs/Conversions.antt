@@ -1,18 +1,18 @@
 -- Conversions of operands: what they keep, and the types that they give.
-use Rattle.std.specs.Prelude.{ℕ, zero, suc, ◌≡◌, ◌+◌, ◌-◌, ◌*◌, ◌%◌, ◌^◌, ◌<◌, ◌⊎◌, Bool, true, false, not, ◌&&◌, ◌||◌, Option, None, Some, List, if◌then◌else◌, refl}
-use Rattle.std.proofs.Common.{arith, ap, sym, subst, ◌∙◌, inl, inr}
+use Rattle.std.specs.Prelude.{ℕ, ◌≡◌, Bool, true, false, ◌&&◌, ◌||◌, List, if◌then◌else◌, refl}
+use Rattle.std.proofs.Common.{ap, sym, subst, ◌∙◌, inl, inr}
 use Rattle.pw_types.specs.Conversions.{promoted, usual_of, is_ulong, is_long, is_uint}
 use Rattle.pw_types.specs.declared.kind.IntKind.{IntKind}
 use Rattle.pw_types.specs.declared.kind.IntKind.TheVariants as K
-use Rattle.pw_types.specs.TypeTrees.{CType, Void, Int, Pointer, Array, Function, Record, QType, Qualified, QTypes, type_of, RecordValue}
+use Rattle.pw_types.specs.TypeTrees.{CType, Void, Int, Pointer, Array, Function, Record}
 use Rattle.pw_types.specs.TypedTrees.{Expression, Node, Form, LocalValue, ModuleValue, token_of, type_at, form_of}
 use Rattle.pw_types.specs.TypedTrees as T
-use Rattle.pw_types.specs.WellTyped.{IsTyped, HasForm, IsKnownType, IsArithmetic, IsPromoted, IsScalar, IsFunctionType, FitsCast, Decays, IsLvalue, IsDesignator}
-use Rattle.pw_rules.specs.Kinds.{plain, same_type, is_integral, is_pointer, is_scalar, is_array, is_function, is_record, is_void, kind_in, pointee}
-use Rattle.pw_rules.specs.Operands.{Operand, type_in, value_operand, cast_to, promoted_type, promote, common_type, value_by, value_of}
+use Rattle.pw_types.specs.WellTyped.{IsTyped, HasForm, IsArithmetic, IsScalar, IsFunctionType, FitsCast}
+use Rattle.pw_rules.specs.Kinds.{plain, same_type, is_integral, is_pointer, is_scalar, is_function, is_record, is_void, pointee}
+use Rattle.pw_rules.specs.Operands.{Operand, type_in, value_operand, cast_to, promoted_type, promote, value_by, value_of}
 use Rattle.pw_well_typed.specs.Lawful.{IsLawfulType, AreWords}
 use Rattle.pw_well_typed.proofs.States.{GoodOperand, GoodValue}
-use Rattle.pw_well_typed.proofs.Types.{no, left, right, one_of, types_same, type_itself, lawful_known, lawful_element, lawful_pointer}
+use Rattle.pw_well_typed.proofs.Types.{no, types_same, type_itself, lawful_known, lawful_element, lawful_pointer}
 
 -- ---- what tests of types say
 

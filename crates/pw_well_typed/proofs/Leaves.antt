@@ -1,24 +1,23 @@
 -- The rules of names, constants and parts of declarators: what they make is lawful, and so is the state behind them.
-use Rattle.std.specs.Prelude.{ℕ, zero, suc, ◌≡◌, ◌+◌, ◌<◌, ◌≤◌, ◌⊎◌, ◌==◌, Bool, true, false, not, ◌&&◌, ◌||◌, Option, None, Some, is_some, is_none, unwrap_or, option_map, option_and_then, List, [], ◌∷◌, ◌++◌, length, map, filter, find, slice_get, cond, if◌then◌else◌, refl}
-use Rattle.std.specs.Option.{option_map_or, option_or}
+use Rattle.std.specs.Prelude.{ℕ, ◌≡◌, ◌<◌, ◌⊎◌, ◌==◌, Bool, true, false, not, ◌&&◌, ◌||◌, Option, None, Some, unwrap_or, option_map, option_and_then, List, [], ◌∷◌, ◌++◌, length, find, slice_get, cond, if◌then◌else◌, refl}
 use Rattle.std.proofs.Common.{arith, ap, sym, subst, ◌∙◌, inl, inr}
 use Rattle.pw_literal.specs.Characters.{string_bytes_of}
 use Rattle.pw_literal.specs.Integers.{integer_type, integer_value}
 use Rattle.pw_tree.specs.declared.expr.BasicType.{BasicType}
-use Rattle.pw_tree.specs.Trees.{Word, Parameters, NoParameter, Parameter}
+use Rattle.pw_tree.specs.Trees.{Word}
 use Rattle.pw_types.specs.declared.kind.IntKind.TheVariants as K
 use Rattle.pw_types.specs.declared.record.RecordKind.{RecordKind}
 use Rattle.pw_types.specs.Layouts.{content_at}
 use Rattle.pw_types.specs.Records.{declared, defined}
-use Rattle.pw_types.specs.TypeTrees.{CType, Void, Int, Pointer, Array, Function, Record, QType, Qualified, QTypes, NoType, OneType, type_of, MemberValue, ContentValue, RecordValue}
+use Rattle.pw_types.specs.TypeTrees.{CType, Void, Int, Pointer, Array, Function, Record, QType, Qualified, OneType, type_of, MemberValue, ContentValue, RecordValue}
 use Rattle.pw_types.specs.TypedTrees.{Symbol, Expression, Node, Hidden, LocalValue, ModuleValue, type_at}
 use Rattle.pw_types.specs.TypedTrees as T
 use Rattle.pw_types.specs.WellTyped.{IsTyped, IsScalar, IsResult, IsFunctionType, IsFunctionOf, IsObject}
-use Rattle.pw_walk.specs.Causes.{Point, DeclaredIdentifier}
-use Rattle.pw_walk.specs.Walks.{Walk, Done, bind, granted}
-use Rattle.pw_rules.specs.Kinds.{plain, int_type, is_function, is_array, is_record, is_void, is_scalar, qualify, types_in}
-use Rattle.pw_rules.specs.Operands.{Operand, value_operand}
-use Rattle.pw_rules.specs.States.{State, Rule, Entity, TypeName, EnumerationConstant, LocalObject, StaticObject, Linked, HiddenObject, entity_of, entry_of, entity_at, tag_of, tag_here, tag_if_here, records_in, add_hidden, add_record, put_record, enter, enter_tag, next_hidden}
+use Rattle.pw_walk.specs.Causes.{DeclaredIdentifier}
+use Rattle.pw_walk.specs.Walks.{Walk, Done, bind}
+use Rattle.pw_rules.specs.Kinds.{plain, int_type, is_function, is_array, is_record, is_void}
+use Rattle.pw_rules.specs.Operands.{Operand}
+use Rattle.pw_rules.specs.States.{State, Entity, TypeName, EnumerationConstant, LocalObject, StaticObject, Linked, HiddenObject, entity_of, entry_of, entity_at, tag_of, tag_here, tag_if_here, add_hidden, add_record}
 use Rattle.pw_rules.specs.declared.names.Entry.{Entry}
 use Rattle.pw_rules.specs.declared.names.Tag.{Tag}
 use Rattle.pw_rules.specs.declared.names.Tag.TheVariants as G
@@ -29,14 +28,14 @@ use Rattle.pw_rules.specs.SpecifierLists.{Gathered, nothing_gathered, gather_sto
 use Rattle.pw_rules.specs.Derivations.{Derivation, ToPointer, ToArray, ToFunction, ParameterValue, Bindings, Declared, built, step_type, spot_of}
 use Rattle.pw_rules.specs.Phrases.{typedef_type, typedef_rule}
 use Rattle.pw_rules.specs.Leaves.{entity_operand, linked_operand, lvalue_operand, identifier_rule, number_rule, character_rule, string_rule, string_point, note_string, string_type, bytes_at_start, texts_of, length_rule, new_record, new_tag, reference_by, reference_rule, opening_by, opening_rule, open_record, is_opened, member_rule, content_by, closing_rule, enumeration_by, enumeration_rule, enumerating_rule, enumerator_value, enumerator_rule, named_type, is_last, is_nil, adjusted, parameter_storage, parameter_rule, enter_parameter, without_void, parameter_types, bindings_rule, says_none, name_text}
-use Rattle.pw_well_typed.specs.Lawful.{IsLawful, IsLawfulType, AreLawfulTypes, IsObjectLike, HasLawfulMembers, IsLawfulEntity, IsLawfulTag, Extends, Denotes, StandsFor, HasLocal, IsNamed, AreWords}
-use Rattle.pw_well_typed.proofs.Walking.{Post, AreMet, truth, met_left, met_right, post_bind, post_weaken, post_granted}
-use Rattle.pw_well_typed.proofs.States.{GoodOperand, GoodValue, Fine, FineValue, Runs, Grows, grows_same, grows_trans}
+use Rattle.pw_well_typed.specs.Lawful.{IsLawful, IsLawfulType, AreLawfulTypes, IsObjectLike, IsLawfulEntity, IsLawfulTag, Extends, HasLocal, IsNamed}
+use Rattle.pw_well_typed.proofs.Walking.{Post, truth, met_right, post_bind, post_granted}
+use Rattle.pw_well_typed.proofs.States.{GoodOperand, Fine, Runs, Grows, grows_same, grows_trans}
 use Rattle.pw_well_typed.proofs.Lists.{some_same, never_some, get_append, get_either, get_one, get_last, get_filter, visible_at}
-use Rattle.pw_well_typed.proofs.Types.{no, left, right, one_of, not_true, lawful_known, lawful_later, all_lawful_later, lawful_qualify, lawful_pointer, lawful_element}
-use Rattle.pw_well_typed.proofs.Conversions.{no_function, void_is, node_good}
+use Rattle.pw_well_typed.proofs.Types.{no, left, not_true, lawful_known, lawful_later, all_lawful_later, lawful_qualify, lawful_pointer}
+use Rattle.pw_well_typed.proofs.Conversions.{no_function}
 use Rattle.pw_well_typed.proofs.Places.{number_good, constant_wide}
-use Rattle.pw_well_typed.proofs.Changes.{like_later, record_added, record_grows, entered, entered_grows, tagged, tagged_grows, hidden_added, hidden_grows, Opened, Closed, opening_lawful, opening_grows, opened_now, opened_later, defined_lawful, defined_grows}
+use Rattle.pw_well_typed.proofs.Changes.{like_later, record_added, record_grows, entered, entered_grows, tagged, tagged_grows, hidden_added, hidden_grows, Opened, Closed, opening_lawful, opening_grows, opened_now, defined_lawful, defined_grows}
 
 -- ---- what an option gives
 
@@ -105,36 +104,40 @@ entity_good s t name (EnumerationConstant n) a l e f =
     subst (Fine s) (some_same f) (λ m locals d w. number_good m locals t K.Int n refl w)
 entity_good s t name (LocalObject k q register) a l e f =
     subst (Fine s) (some_same f) (λ m locals d w.
-      let x = found s name (LocalObject k q register) e in
-      let like : IsObjectLike s.types.records q = l.entities x.entry.place (LocalObject k q register) x.there in
-      local_good m locals register t k q (lawful_later s.types.records m.records d.records (type_of q) like.lawful) like.object
-      (d.locals_are x.index (x.spelled, x.entry) k q register x.listed x.there))
+    let x = found s name (LocalObject k q register) e in
+    let like : IsObjectLike s.types.records q = l.entities x.entry.place (LocalObject k q register) x.there in
+    local_good m locals register t k q (lawful_later s.types.records m.records d.records (type_of q) like.lawful) like.object
+    (d.locals_are x.index (x.spelled, x.entry) k q register x.listed x.there))
 entity_good s t name (StaticObject k q) a l e f =
     subst (Fine s) (some_same f) (λ m locals d w.
-      let x = found s name (StaticObject k q) e in
-      let like : IsObjectLike s.types.records q = l.entities x.entry.place (StaticObject k q) x.there in
-      object_place m locals false t q (Hidden k) (lawful_later s.types.records m.records d.records (type_of q) like.lawful) like.object
-      (d.entities x.entry.place (StaticObject k q) x.there))
+    let x = found s name (StaticObject k q) e in
+    let like : IsObjectLike s.types.records q = l.entities x.entry.place (StaticObject k q) x.there in
+    object_place m locals false t q (Hidden k) (lawful_later s.types.records m.records d.records (type_of q) like.lawful) like.object
+    (d.entities x.entry.place (StaticObject k q) x.there))
 entity_good s t name (Linked place q) a l e f =
     subst (Fine s) (some_same f) (λ m locals d w.
-      let x = found s name (Linked place q) e in
-      linked_good s m locals t place q (lawful_later s.types.records m.records d.records (type_of q) (l.entities x.entry.place (Linked place q) x.there))
-      (d.entities x.entry.place (Linked place q) x.there))
+    let x = found s name (Linked place q) e in
+    linked_good s m locals t place q (lawful_later s.types.records m.records d.records (type_of q) (l.entities x.entry.place (Linked place q) x.there))
+    (d.entities x.entry.place (Linked place q) x.there))
 
 pub identifier_runs : (s : State) (w : Word) → IsLawful s → Runs s (identifier_rule w s) Fine
 unfolding identifier_rule bind
 identifier_runs s w l =
     post_granted DeclaredIdentifier w.token [] (option_and_then (entity_operand s w.token) (entity_of s w.text)) s (λ r. IsLawful r.1 × Grows s r.1 × Fine r.1 r.0)
     (λ a e met.
-      let x = and_then_some (entity_operand s w.token) (entity_of s w.text) a e in
-      (l, grows_same s, entity_good s w.token w.text x.0 a l x.1 x.2))
+    let x = and_then_some (entity_operand s w.token) (entity_of s w.text) a e in
+    (l, grows_same s, entity_good s w.token w.text x.0 a l x.1 x.2))
 
 -- ---- constants
 
 pub number_runs : (s : State) (w : Word) → IsLawful s → Runs s (number_rule w s) Fine
 unfolding number_rule bind
-number_runs s w l = λ met. (l, grows_same s, λ m locals d words.
-  number_good m locals w.token (unwrap_or (integer_type w.text) K.Int) (integer_value w.text) (constant_wide w.text) words)
+number_runs s w l = λ met. (
+  l,
+  grows_same s,
+  λ m locals d words.
+      number_good m locals w.token (unwrap_or (integer_type w.text) K.Int) (integer_value w.text) (constant_wide w.text) words,
+)
 
 pub character_runs : (s : State) (w : Word) → IsLawful s → Runs s (character_rule w s) Fine
 unfolding character_rule bind
@@ -164,11 +167,13 @@ string_runs s ws l = λ met. by s.made.counting refl
         → IsLawful (if b then add_hidden (string_object (string_bytes_of (texts_of ws))) s else s)
         × Grows s (if b then add_hidden (string_object (string_bytes_of (texts_of ws))) s else s)
         × Fine (if b then add_hidden (string_object (string_bytes_of (texts_of ws))) s else s)
-          (lvalue_operand false (Node (Rattle.pw_tree.specs.FirstTokens.first_of_words ws) (string_type (string_bytes_of (texts_of ws))) (T.Str (length s.made.hidden))))
-    by true c =
-        (hidden_added s (string_object (string_bytes_of (texts_of ws))) l, hidden_grows s (string_object (string_bytes_of (texts_of ws))),
-          λ m locals d w. string_good m locals _ (length s.made.hidden) (string_bytes_of (texts_of ws))
-          (d.strings (length s.made.hidden) (string_object (string_bytes_of (texts_of ws))) (get_last s.made.hidden (string_object (string_bytes_of (texts_of ws))))))
+        (lvalue_operand false (Node (Rattle.pw_tree.specs.FirstTokens.first_of_words ws) (string_type (string_bytes_of (texts_of ws))) (T.Str (length s.made.hidden))))
+    by true c = (
+      hidden_added s (string_object (string_bytes_of (texts_of ws))) l,
+      hidden_grows s (string_object (string_bytes_of (texts_of ws))),
+      λ m locals d w. string_good m locals _ (length s.made.hidden) (string_bytes_of (texts_of ws))
+          (d.strings (length s.made.hidden) (string_object (string_bytes_of (texts_of ws))) (get_last s.made.hidden (string_object (string_bytes_of (texts_of ws))))),
+    )
     by false c = (l, grows_same s, λ m locals d w. no (sym c ∙ d.counting))
 
 abbrev pub Nothing : {A : Type 0} → State → A → Type 0
@@ -260,10 +265,11 @@ new_record_runs s kind l = (record_added s kind l, record_grows s kind l, (new_c
 pub new_tag_runs : (s : State) (kind : RecordKind) (w : Word) → IsLawful s → Runs s (new_tag kind w s) (Fresh s)
 unfolding new_tag new_record bind
 new_tag_runs s kind w l = λ met.
-    let c : Closed (add_record (declared kind) s) (length s.types.records) = new_closed s kind l in
-    (tagged (add_record (declared kind) s) w.text (G.Record (length s.types.records)) (record_added s kind l) c.there,
+    let c : Closed (add_record (declared kind) s) (length s.types.records) = new_closed s kind l in (
+      tagged (add_record (declared kind) s) w.text (G.Record (length s.types.records)) (record_added s kind l) c.there,
       grows_trans (record_grows s kind l) (tagged_grows (add_record (declared kind) s) w.text (G.Record (length s.types.records))),
-      (record { there = c.there; unknown = c.unknown; fresh = c.fresh }, never_begun s l))
+      (record { there = c.there; unknown = c.unknown; fresh = c.fresh }, never_begun s l),
+    )
 
 abbrev pub GoodReference : State → QType × Option ℕ → Type 0
 GoodReference s r = IsLawfulType s.types.records (type_of r.0)
@@ -305,7 +311,7 @@ begins : (s : State) (w : Walk (ℕ × State)) → Runs s w (Fresh s) → Runs s
 begins s w h =
     post_bind w (λ r. Done (r.0, open_record r.0 r.1)) (λ r. IsLawful r.1 × Grows s r.1 × Fresh s r.1 r.0) (λ r. IsLawful r.1 × Grows s r.1 × Opened s r.1 r.0) h
     (λ r g.
-      (opening_lawful r.1 r.0 g.0 g.2.0, grows_trans g.1 (opening_grows r.1 r.0 g.0 g.2.0), opened_now s r.1 r.0 g.0 g.2.0 g.2.1))
+    (opening_lawful r.1 r.0 g.0 g.2.0, grows_trans g.1 (opening_grows r.1 r.0 g.0 g.2.0), opened_now s r.1 r.0 g.0 g.2.0 g.2.1))
 
 pub opening_runs : (s : State) (kind : RecordKind) (w : Option Word) → IsLawful s → Runs s (opening_rule kind w s) (Opened s)
 unfolding opening_rule bind
@@ -319,11 +325,12 @@ pub closing_runs : (s t : State) (kind : RecordKind) (token n : ℕ) (ms : List 
     → Post (closing_rule kind token n ms t) (λ r. IsLawful r.1 × Grows s r.1 × GoodType r.1 r.0)
 unfolding closing_rule bind
 closing_runs s t kind token n ms l g o members = λ met.
-    let c : ContentValue = content_by t.types.records kind ms in
-    (defined_lawful s t kind n (content_by t.types.records kind ms) l o members,
+    let c : ContentValue = content_by t.types.records kind ms in (
+      defined_lawful s t kind n (content_by t.types.records kind ms) l o members,
       defined_grows s t kind n (content_by t.types.records kind ms) g o,
       let h = Rattle.pw_well_typed.proofs.Lists.length_put n (defined kind (content_by t.types.records kind ms)) t.types.records in
-      subst (λ k. n < k) (sym h) o.there)
+          subst (λ k. n < k) (sym h) o.there,
+    )
 
 -- ---- lists of specifiers
 
@@ -377,18 +384,20 @@ GoodSpecified s b = IsLawfulType s.types.records (type_of b.ty)
 
 pub specified_runs : (s : State) (first : ℕ) (g : Gathered) → IsLawful s → GoodGathered s g → Runs s (specified first g s) GoodSpecified
 unfolding specified bind
-specified_runs s first g l h = λ met.
-    (l, grows_same s,
-      lawful_qualify s.types.records (not (g.constants == 0)) (not (g.volatiles == 0)) (unwrap_or (type_listed g.words g.others) int_type)
-      (unwrapped s.types.records (type_listed g.words g.others) (λ q e. listed_lawful s.types.records g.words g.others q h e)))
+specified_runs s first g l h = λ met. (
+  l,
+  grows_same s,
+  lawful_qualify s.types.records (not (g.constants == 0)) (not (g.volatiles == 0)) (unwrap_or (type_listed g.words g.others) int_type)
+      (unwrapped s.types.records (type_listed g.words g.others) (λ q e. listed_lawful s.types.records g.words g.others q h e)),
+)
 
 pub typedef_runs : (s : State) (w : Word) → IsLawful s → Runs s (typedef_rule w s) GoodType
 unfolding typedef_rule bind
 typedef_runs s w l =
     post_granted DeclaredIdentifier w.token [] (option_and_then typedef_type (entity_of s w.text)) s (λ r. IsLawful r.1 × Grows s r.1 × GoodType r.1 r.0)
     (λ q e met.
-      let x = and_then_some typedef_type (entity_of s w.text) q e in
-      (l, grows_same s, by x.0 q x.2 (let f = found s w.text x.0 x.1 in l.entities f.entry.place x.0 f.there)))
+    let x = and_then_some typedef_type (entity_of s w.text) q e in
+    (l, grows_same s, by x.0 q x.2 (let f = found s w.text x.0 x.1 in l.entities f.entry.place x.0 f.there)))
   where
     by : (entity : Entity) (q : QType) → typedef_type entity ≡ Some q → IsLawfulEntity s.types.records entity → IsLawfulType s.types.records (type_of q)
     by (TypeName p) q e h = subst (λ y. IsLawfulType s.types.records (type_of y)) (some_same e) h
@@ -460,9 +469,12 @@ unfolding member_rule bind
 member_runs s b d ms l h k members =
     post_bind (built (spot_of d.name b.first b.tag) d.derivations b.ty s) _ (λ r. IsLawful r.1 × Grows s r.1 × GoodType r.1 r.0) (λ r. IsLawful r.1 × Grows s r.1 × GoodMembers r.1 r.0)
     (built_runs s (spot_of d.name b.first b.tag) d.derivations b.ty l k h)
-    (λ r g met.
-      (g.0, g.1, members_more r.1 ms (record { name = name_text d.name; ty = r.0 }) (members_later ms g.1 members)
-      (record { lawful = g.2; object = no_function (type_of r.0) (not_true (is_function (type_of r.0)) (truth _ met.1.0)) })))
+    (λ r g met. (
+      g.0,
+      g.1,
+      members_more r.1 ms (record { name = name_text d.name; ty = r.0 }) (members_later ms g.1 members)
+          (record { lawful = g.2; object = no_function (type_of r.0) (not_true (is_function (type_of r.0)) (truth _ met.1.0)) }),
+    ))
 
 -- ---- parameters (6.5.4.3)
 
@@ -543,12 +555,14 @@ parameter_runs s ended b d ps l h k scalars =
     (λ r. IsLawful r.1 × Grows s r.1 × GoodParameters r.1.types.records ended r.0)
     (built_runs s (spot_of d.name b.first b.tag) d.derivations b.ty l k h)
     (λ r g met.
-      let entity : Entity = LocalObject (length ps) (adjusted r.0) (Rattle.pw_rules.specs.SpecifierLists.is_register b.storage) in
-      let like : IsObjectLike r.1.types.records (adjusted r.0) = record { lawful = adjusted_lawful r.1.types.records r.0 g.2; object = adjusted_object r.0 } in
-      let own = met_right (Rattle.pw_rules.specs.Leaves.named_point r.1 d.name) _ met in
-      (parameter_entered r.1 d.name entity g.0 like, grows_trans g.1 (parameter_grows r.1 d.name entity),
-        subst (λ x. GoodParameters x ended (ps ++ record { name = d.name; ty = adjusted r.0 } ∷ [])) (sym (same_records r.1 d.name entity))
-        (by r.1.types.records r.0 g.2 (scalars_later s.types.records r.1.types.records g.1.extends ps scalars) (truth _ own.0) (adjusted_is r.0 (truth _ own.1.0)))))
+    let entity : Entity = LocalObject (length ps) (adjusted r.0) (Rattle.pw_rules.specs.SpecifierLists.is_register b.storage) in
+    let like : IsObjectLike r.1.types.records (adjusted r.0) = record { lawful = adjusted_lawful r.1.types.records r.0 g.2; object = adjusted_object r.0 } in
+    let own = met_right (Rattle.pw_rules.specs.Leaves.named_point r.1 d.name) _ met in (
+      parameter_entered r.1 d.name entity g.0 like,
+      grows_trans g.1 (parameter_grows r.1 d.name entity),
+      subst (λ x. GoodParameters x ended (ps ++ record { name = d.name; ty = adjusted r.0 } ∷ [])) (sym (same_records r.1 d.name entity))
+          (by r.1.types.records r.0 g.2 (scalars_later s.types.records r.1.types.records g.1.extends ps scalars) (truth _ own.0) (adjusted_is r.0 (truth _ own.1.0))),
+    ))
   where
     by : (x : List RecordValue) (q : QType) → IsLawfulType x (type_of q) → AreScalars x ps
         → (not (is_void (type_of q)) || says_none (is_nil ps && ended) b d.name q) ≡ true

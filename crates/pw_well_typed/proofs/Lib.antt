@@ -10,3 +10,4 @@ pub mod Operations
 pub mod Changes
 pub mod Leaves
 pub mod Phrases
+pub mod Laws

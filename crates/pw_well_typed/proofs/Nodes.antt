@@ -1,30 +1,29 @@
 -- The nodes that operators make of values: each is well typed where its constraint is met.
-use Rattle.std.specs.Prelude.{ℕ, zero, suc, ◌≡◌, ◌⊎◌, ◌==◌, Bool, true, false, not, ◌&&◌, ◌||◌, Option, None, Some, List, if◌then◌else◌, refl}
-use Rattle.std.proofs.Common.{arith, ap, sym, subst, subst₂, ◌∙◌, inl, inr}
+use Rattle.std.specs.Prelude.{ℕ, ◌≡◌, ◌⊎◌, Bool, true, false, not, ◌&&◌, ◌||◌, List, if◌then◌else◌, refl}
+use Rattle.std.proofs.Common.{ap, sym, subst, subst₂, ◌∙◌, inl, inr}
 use Rattle.std.proofs.lemmas.Bool.{eqb-true}
 use Rattle.pw_tree.specs.declared.operator.BinaryOperator.{BinaryOperator}
 use Rattle.pw_tree.specs.declared.operator.BinaryOperator.TheVariants as O
-use Rattle.pw_types.specs.Conversions.{promoted, usual_of}
-use Rattle.pw_types.specs.declared.kind.IntKind.{IntKind}
+use Rattle.pw_types.specs.Conversions.{promoted}
 use Rattle.pw_types.specs.declared.kind.IntKind.TheVariants as K
 use Rattle.pw_types.specs.declared.tree.BinaryOperator.TheVariants as B
 use Rattle.pw_types.specs.declared.tree.BinaryOperator.{BinaryOperator as TypedOperator}
 use Rattle.pw_types.specs.declared.tree.LogicOperator.{LogicOperator}
 use Rattle.pw_types.specs.declared.tree.UnaryOperator.TheVariants as U
 use Rattle.pw_types.specs.declared.tree.UnaryOperator.{UnaryOperator as TypedUnary}
-use Rattle.pw_types.specs.TypeTrees.{CType, Void, Int, Pointer, Array, Function, Record, QType, Qualified, QTypes, type_of, RecordValue}
+use Rattle.pw_types.specs.TypeTrees.{CType, Void, Int, Pointer, Array, Function, Record, Qualified, type_of, RecordValue}
 use Rattle.pw_types.specs.TypedTrees.{Expression, Node, Form, LocalValue, ModuleValue, token_of, type_at, form_of}
 use Rattle.pw_types.specs.TypedTrees as T
-use Rattle.pw_types.specs.WellTyped.{IsTyped, HasForm, IsKnownType, IsArithmetic, IsPromoted, IsPointer, IsScalar, IsComplete, PointsToObject, IsFunctionType, FitsUnary, FitsBinary, FitsCast, AreNumbers, MovesPointer, AreApart, AreShifted, AreCompared}
-use Rattle.pw_rules.specs.Compatible.{compatible_types, composite_type}
-use Rattle.pw_rules.specs.Constants.{constant_of, constant_value, is_zero, is_zero_constant, is_null_constant}
-use Rattle.pw_rules.specs.Kinds.{plain, unqualified, int_type, is_integral, is_pointer, is_scalar, is_void, is_function, is_record, is_complete, points_to_object, points_to_function, points_to_void, pointee}
-use Rattle.pw_rules.specs.Operands.{Operand, type_in, value_operand, cast_to, promote, common_type}
+use Rattle.pw_types.specs.WellTyped.{IsTyped, IsPromoted, IsPointer, IsScalar, PointsToObject, IsFunctionType, FitsUnary, FitsBinary, FitsCast, AreNumbers, MovesPointer, AreShifted, AreCompared}
+use Rattle.pw_rules.specs.Compatible.{composite_type}
+use Rattle.pw_rules.specs.Constants.{constant_of, is_null_constant}
+use Rattle.pw_rules.specs.Kinds.{plain, unqualified, int_type, is_integral, is_pointer, is_scalar, is_void, points_to_object, points_to_function, points_to_void, pointee}
+use Rattle.pw_rules.specs.Operands.{type_in, value_operand, cast_to, promote, common_type}
 use Rattle.pw_rules.specs.Operators.{deref, both_integral, pointer_and_number, pointers_agree, points_into_objects, pointer_and_void, pointer_and_null, pointers_meet, fits_order, fits_binary, in_common, arithmetic_node, shift_node, pointer_with_both, chosen_pointer, met_type, comparison_node, sum_node, difference_node, binary_node, typed_binary, comma_node, same_record, fits_choice, choice_type}
 use Rattle.pw_well_typed.specs.Lawful.{IsLawfulType, AreWords, Extends}
 use Rattle.pw_well_typed.proofs.States.{GoodOperand, GoodValue}
-use Rattle.pw_well_typed.proofs.Types.{no, left, right, one_of, not_true, lawful_known, lawful_element, lawful_pointer, lawful_target, lawful_composite, complete_later, is_complete_so}
-use Rattle.pw_well_typed.proofs.Conversions.{integral_is, pointer_is, function_is, record_is, void_is, scalar_is, integral_scalar, pointer_scalar, integral_arithmetic, no_function, scalar_no_function, promoted_twice, usual_promoted, usual_again, cast_type, cast_words, cast_typed, promote_type, promote_typed, same_typed, node_good}
+use Rattle.pw_well_typed.proofs.Types.{no, left, right, one_of, lawful_known, lawful_target, lawful_composite, complete_later, is_complete_so}
+use Rattle.pw_well_typed.proofs.Conversions.{integral_is, pointer_is, void_is, scalar_is, pointer_scalar, integral_arithmetic, no_function, promoted_twice, usual_promoted, cast_type, cast_words, cast_typed, promote_type, promote_typed, same_typed, node_good}
 
 -- ---- unary operators
 
@@ -74,10 +73,11 @@ pub common_good : (m : ModuleValue) (locals : List LocalValue) (t : ℕ) (ty : C
     → AreWords (in_common t ty op a b) → GoodOperand m locals (value_operand (in_common t ty op a b))
 unfolding IsTyped
 common_good m locals t ty op a b ga gb i lawful object fits w =
-    node_good m locals t ty (T.Binary op (cast_to (common_type a b) a) (cast_to (common_type a b) b)) lawful object
-    (common_cast m locals a b a (ga (cast_words (common_type a b) a w.0)).typed (left (is_integral (type_in a)) (is_integral (type_in b)) i),
+    node_good m locals t ty (T.Binary op (cast_to (common_type a b) a) (cast_to (common_type a b) b)) lawful object (
+      common_cast m locals a b a (ga (cast_words (common_type a b) a w.0)).typed (left (is_integral (type_in a)) (is_integral (type_in b)) i),
       common_cast m locals a b b (gb (cast_words (common_type a b) b w.1)).typed (right (is_integral (type_in a)) (is_integral (type_in b)) i),
-      subst₂ (λ x y. FitsBinary m.records op x y ty) (sym (cast_type (common_type a b) a)) (sym (cast_type (common_type a b) b)) fits)
+      subst₂ (λ x y. FitsBinary m.records op x y ty) (sym (cast_type (common_type a b) a)) (sym (cast_type (common_type a b) b)) fits,
+    )
 
 pub arithmetic_good : (m : ModuleValue) (locals : List LocalValue) (t : ℕ) (op : TypedOperator) (a b : Expression)
     → (AreWords a → GoodValue m locals a) → (AreWords b → GoodValue m locals b) → both_integral a b ≡ true
@@ -99,11 +99,12 @@ shift_good m locals t op a b ga gb i so w =
     let sb : type_in (promote b) ≡ Int (promoted ib.0) = promote_type b ib.0 ib.1 in
     node_good m locals t (type_in (promote a)) (T.Binary op (promote a) (promote b))
     (subst (IsLawfulType m.records) (sym sa) tt)
-    (subst (λ ty. IsFunctionType ty → ⊥) (sym sa) (no_function (Int (promoted ia.0)) refl))
-    (promote_typed m locals a ia.0 ia.1 (ga (cast_words _ a w.0)).typed,
+    (subst (λ ty. IsFunctionType ty → ⊥) (sym sa) (no_function (Int (promoted ia.0)) refl)) (
+      promote_typed m locals a ia.0 ia.1 (ga (cast_words _ a w.0)).typed,
       promote_typed m locals b ib.0 ib.1 (gb (cast_words _ b w.1)).typed,
       so (type_in (promote a)) (type_in (promote b)) (type_in (promote a))
-      (subst IsPromoted (sym sa) (promoted_twice ia.0), subst IsPromoted (sym sb) (promoted_twice ib.0), refl))
+          (subst IsPromoted (sym sa) (promoted_twice ia.0), subst IsPromoted (sym sb) (promoted_twice ib.0), refl),
+    )
 
 -- ---- pointers that meet
 
@@ -225,11 +226,12 @@ comparison_good m locals t op a b ga gb fits so = by_test (both_integral a b) re
         let s = meeting_scalars a b f in
         let sa : type_in (cast_to (met_type a b) a) ≡ met_type a b = cast_type (met_type a b) a in
         let sb : type_in (cast_to (met_type a b) b) ≡ met_type a b = cast_type (met_type a b) b in
-        node_good m locals t (Int K.Int) (T.Binary op (cast_to (met_type a b) a) (cast_to (met_type a b) b)) tt (no_function (Int K.Int) refl)
-        (pointer_cast m locals (met_type a b) a va.typed s.0 c.0 c.1,
+        node_good m locals t (Int K.Int) (T.Binary op (cast_to (met_type a b) a) (cast_to (met_type a b) b)) tt (no_function (Int K.Int) refl) (
+          pointer_cast m locals (met_type a b) a va.typed s.0 c.0 c.1,
           pointer_cast m locals (met_type a b) b vb.typed s.1 c.0 c.1,
           so (type_in (cast_to (met_type a b) a)) (type_in (cast_to (met_type a b) b)) (Int K.Int)
-          (inr (subst IsPointer (sym sa) c.0), sb ∙ sym sa, refl))
+              (inr (subst IsPointer (sym sa) c.0), sb ∙ sym sa, refl),
+        )
 
 -- ---- sums and differences
 
@@ -326,10 +328,15 @@ subtract_good r m locals t a b x ga gb e = by_test (is_pointer (type_in a) && is
     by_test true h (inl i) w = absurd (integral_or_pointer (type_in a) (left (is_integral (type_in a)) (is_integral (type_in b)) i) (left (is_pointer (type_in a)) (is_pointer (type_in b)) h))
     by_test true h (inr (inl f)) w = absurd (integral_or_pointer (type_in b) f.1 (right (is_pointer (type_in a)) (is_pointer (type_in b)) h))
     by_test true h (inr (inr f)) w =
-        node_good m locals t (Int K.Int) (T.Binary B.Subtract a b) tt (no_function (Int K.Int) refl)
-        ((ga w.0).typed, (gb w.1).typed,
-          inr (inr (points_so r m x (type_in a) (right (pointers_agree a b) (points_to_object r (type_in a)) (left (pointers_agree a b && points_to_object r (type_in a)) (points_to_object r (type_in b)) f)),
-          points_so r m x (type_in b) (right (pointers_agree a b && points_to_object r (type_in a)) (points_to_object r (type_in b)) f), refl)))
+        node_good m locals t (Int K.Int) (T.Binary B.Subtract a b) tt (no_function (Int K.Int) refl) (
+          (ga w.0).typed,
+          (gb w.1).typed,
+          inr (inr (
+            points_so r m x (type_in a) (right (pointers_agree a b) (points_to_object r (type_in a)) (left (pointers_agree a b && points_to_object r (type_in a)) (points_to_object r (type_in b)) f)),
+            points_so r m x (type_in b) (right (pointers_agree a b && points_to_object r (type_in a)) (points_to_object r (type_in b)) f),
+            refl,
+          )),
+        )
     by_test false h (inl i) w = sum_good m locals t B.Subtract a b ga gb (inl i) (λ ty n. inl n) (λ p q k. inr (inl k)) w
     by_test false h (inr (inl f)) w = sum_good m locals t B.Subtract a b ga gb (inr (inl f)) (λ ty n. inl n) (λ p q k. inr (inl k)) w
     by_test false h (inr (inr f)) w =
@@ -370,9 +377,13 @@ pub logic_good : (m : ModuleValue) (locals : List LocalValue) (t : ℕ) (op : Lo
     → (is_scalar (type_in a) && is_scalar (type_in b)) ≡ true → GoodOperand m locals (value_operand (Node t int_type (T.Logic op a b)))
 unfolding IsTyped
 logic_good m locals t op a b va vb e =
-    node_good m locals t (Int K.Int) (T.Logic op a b) tt (no_function (Int K.Int) refl)
-    (va.typed, vb.typed, scalar_is (type_in a) (left (is_scalar (type_in a)) (is_scalar (type_in b)) e),
-      scalar_is (type_in b) (right (is_scalar (type_in a)) (is_scalar (type_in b)) e), refl)
+    node_good m locals t (Int K.Int) (T.Logic op a b) tt (no_function (Int K.Int) refl) (
+      va.typed,
+      vb.typed,
+      scalar_is (type_in a) (left (is_scalar (type_in a)) (is_scalar (type_in b)) e),
+      scalar_is (type_in b) (right (is_scalar (type_in a)) (is_scalar (type_in b)) e),
+      refl,
+    )
 
 pub comma_good : (m : ModuleValue) (locals : List LocalValue) (t : ℕ) (a b : Expression) → GoodValue m locals a → GoodValue m locals b
     → GoodOperand m locals (value_operand (comma_node t a b))
@@ -442,7 +453,7 @@ choice_good m locals t c a b vc ga gb e wa wb =
 
     by_tests : (x : Bool) → both_integral a b ≡ x → (y : Bool) → (is_pointer (type_in a) || is_pointer (type_in b)) ≡ y → Choice a b
         → GoodOperand m locals (value_operand (Node t (plain (if x then common_type a b else if y then chosen_pointer a b else type_in a))
-          (T.Cond c (cast_to (if x then common_type a b else if y then chosen_pointer a b else type_in a) a) (cast_to (if x then common_type a b else if y then chosen_pointer a b else type_in a) b))))
+        (T.Cond c (cast_to (if x then common_type a b else if y then chosen_pointer a b else type_in a) a) (cast_to (if x then common_type a b else if y then chosen_pointer a b else type_in a) b))))
     by_tests true h y k f =
         chosen_good m locals t (common_type a b) c a b vc sc tt (no_function (common_type a b) refl)
         (common_cast m locals a b a va.typed (left (is_integral (type_in a)) (is_integral (type_in b)) h))

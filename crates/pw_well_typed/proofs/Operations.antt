@@ -1,11 +1,10 @@
 -- The rules of operators: each keeps the state, and makes a good operand of good ones.
-use Rattle.std.specs.Prelude.{ℕ, ◌≡◌, ◌==◌, ◌&&◌, ◌||◌, ◌⊎◌, if◌then◌else◌, Bool, true, false, not, Option, None, Some, option_and_then, unwrap_or, List, [], ◌∷◌, length, find, refl}
-use Rattle.std.proofs.Common.{arith, ap, sym, subst, ◌∙◌, inl, inr}
+use Rattle.std.specs.Prelude.{ℕ, ◌≡◌, ◌||◌, ◌⊎◌, if◌then◌else◌, Bool, true, false, Option, None, Some, List, [], ◌∷◌, refl}
+use Rattle.std.proofs.Common.{sym, ◌∙◌, inl, inr}
 use Rattle.pw_tree.specs.declared.operator.BinaryOperator.{BinaryOperator}
 use Rattle.pw_tree.specs.declared.operator.BinaryOperator.TheVariants as O
 use Rattle.pw_tree.specs.declared.operator.AssignOperator.{AssignOperator}
 use Rattle.pw_tree.specs.declared.operator.AssignOperator.TheVariants as A
-use Rattle.pw_tree.specs.declared.operator.UnaryOperator.{UnaryOperator}
 use Rattle.pw_tree.specs.declared.operator.UnaryOperator.TheVariants as P
 use Rattle.pw_tree.specs.Trees.{Word}
 use Rattle.pw_types.specs.declared.kind.IntKind.TheVariants as K
@@ -13,22 +12,21 @@ use Rattle.pw_types.specs.declared.tree.StepOperator.{StepOperator}
 use Rattle.pw_types.specs.declared.tree.LogicOperator.{LogicOperator}
 use Rattle.pw_types.specs.declared.tree.LogicOperator.TheVariants as L
 use Rattle.pw_types.specs.declared.tree.UnaryOperator.TheVariants as U
-use Rattle.pw_types.specs.TypeTrees.{CType, Int, Pointer, QType, type_of, MemberValue, RecordValue}
+use Rattle.pw_types.specs.TypeTrees.{CType, Pointer, QType, type_of, MemberValue, RecordValue}
 use Rattle.pw_types.specs.TypedTrees.{Expression, Node, Form, LocalValue, ModuleValue, type_at}
 use Rattle.pw_types.specs.TypedTrees as T
-use Rattle.pw_types.specs.WellTyped.{IsTyped}
 use Rattle.pw_walk.specs.Causes.{DeclaredMember}
 use Rattle.pw_walk.specs.Walks.{bind, granted}
-use Rattle.pw_rules.specs.Kinds.{is_scalar, is_integral, is_pointer, is_record, is_function, is_complete, points_to_object, points_to_function, unqualified, count_of_types, parameters_of, pointee, plain}
+use Rattle.pw_rules.specs.Kinds.{is_integral, is_pointer, points_to_object, unqualified}
 use Rattle.pw_rules.specs.Limits.{Spot}
-use Rattle.pw_rules.specs.Operands.{Operand, type_in, value_operand, value_of, cast_to, promote}
-use Rattle.pw_rules.specs.Operators.{value_rule, sign_rule, unary_node, deref, deref_rule, address_rule, step_rule, can_step, is_modifiable, size_node, size_rule, type_size_rule, cast_rule, fits_cast, mixes_pointer, binary_rule, fits_binary, binary_node, logic_rule, operation_rule, comma_node, conditional_rule, fits_choice, choice_type, is_assignable, assign_rule, compound_rule, compound_operator, compound_node, fits_compound, assignment_rule, index_rule, both_integral, pointer_and_number, arithmetic_node, sum_node, arguments_fit, callee_type, call_node, call_rule, member_of, member_operand, select_rule, dot_rule, arrow_rule}
+use Rattle.pw_rules.specs.Operands.{Operand, type_in, value_operand}
+use Rattle.pw_rules.specs.Operators.{value_rule, sign_rule, deref, deref_rule, address_rule, step_rule, size_rule, type_size_rule, cast_rule, binary_rule, logic_rule, operation_rule, conditional_rule, assign_rule, compound_rule, compound_operator, assignment_rule, index_rule, both_integral, pointer_and_number, arithmetic_node, sum_node, call_rule, member_of, member_operand, select_rule, dot_rule, arrow_rule}
 use Rattle.pw_rules.specs.States.{State, records_in}
 use Rattle.pw_types.specs.declared.tree.BinaryOperator.TheVariants as B
 use Rattle.pw_well_typed.specs.Lawful.{IsLawful, IsLawfulType, AreWords, Denotes}
-use Rattle.pw_well_typed.proofs.Walking.{Post, AreMet, truth, post_bind, post_granted}
-use Rattle.pw_well_typed.proofs.States.{GoodOperand, GoodValue, Fine, FineValue, Runs, grows_same, Grows}
-use Rattle.pw_well_typed.proofs.Types.{no, left, right, one_of, lawful_later}
+use Rattle.pw_well_typed.proofs.Walking.{truth}
+use Rattle.pw_well_typed.proofs.States.{GoodOperand, Fine, FineValue, Runs, grows_same}
+use Rattle.pw_well_typed.proofs.Types.{no, left, one_of, lawful_later}
 use Rattle.pw_well_typed.proofs.Conversions.{value_words, value_good, cast_words}
 use Rattle.pw_well_typed.proofs.Nodes.{not_good, promoted_good, deref_good, add_good, binary_good, logic_good, comma_good, choice_good}
 use Rattle.pw_well_typed.proofs.Places.{number_good, address_good, step_good, cast_good, assign_good, compound_good, member_good}
@@ -84,9 +82,12 @@ type_size_runs s t spot q l = λ met. (l, grows_same s, λ m locals w. number_go
 
 pub cast_runs : (s : State) (t : ℕ) (q : QType) (e : Expression) → IsLawful s → IsLawfulType s.types.records (type_of q) → FineValue s e → Runs s (cast_rule t q e s) Fine
 unfolding cast_rule bind
-cast_runs s t q e l lawful f = λ met.
-    (l, grows_same s, λ m locals d w.
-      cast_good m locals t q e (f m locals d w) (lawful_later s.types.records m.records d.records (type_of q) lawful) (truth _ met.0) (truth _ met.1.0))
+cast_runs s t q e l lawful f = λ met. (
+  l,
+  grows_same s,
+  λ m locals d w.
+      cast_good m locals t q e (f m locals d w) (lawful_later s.types.records m.records d.records (type_of q) lawful) (truth _ met.0) (truth _ met.1.0),
+)
 
 -- ---- binary operators
 
@@ -116,9 +117,12 @@ conditional_runs s t c a b l h f g = λ met.
 
 assign_runs : (s : State) (t : ℕ) (a : Operand) (b : Expression) → IsLawful s → Fine s a → FineValue s b → Runs s (assign_rule t a b s) Fine
 unfolding assign_rule bind
-assign_runs s t a b l f g = λ met.
-    (l, grows_same s, λ m locals d w.
-      assign_good (records_in s) m locals t a b d.records (f m locals d w.0) (g m locals d (cast_words _ b w.1)) (truth _ met.0) (truth _ met.1.0))
+assign_runs s t a b l f g = λ met. (
+  l,
+  grows_same s,
+  λ m locals d w.
+      assign_good (records_in s) m locals t a b d.records (f m locals d w.0) (g m locals d (cast_words _ b w.1)) (truth _ met.0) (truth _ met.1.0),
+)
 
 compound_runs : (s : State) (t : ℕ) (op : AssignOperator) (a : Operand) (b : Expression) → IsLawful s → Fine s a → FineValue s b → Runs s (compound_rule t (compound_operator op) a b s) Fine
 unfolding compound_rule bind
@@ -174,9 +178,12 @@ all_good s m locals d (e ∷ es) f = (f.0 m locals d, all_good s m locals d es f
 
 pub call_runs : (s : State) (t : ℕ) (e : Expression) (es : List Expression) → IsLawful s → FineValue s e → AreFine s es → Runs s (call_rule t e es s) Fine
 unfolding call_rule bind
-call_runs s t e es l f fs = λ met.
-    (l, grows_same s, λ m locals d w.
-      call_good m locals t e es (f m locals d) (all_good s m locals d es fs) (truth _ met.0) (truth _ met.1.0) (truth _ met.1.1.0) w)
+call_runs s t e es l f fs = λ met. (
+  l,
+  grows_same s,
+  λ m locals d w.
+      call_good m locals t e es (f m locals d) (all_good s m locals d es fs) (truth _ met.0) (truth _ met.1.0) (truth _ met.1.1.0) w,
+)
 
 pub select_runs : (s : State) (t : ℕ) (w : Word) (a : Operand) → IsLawful s → Fine s a → Runs s (select_rule t w a s) Fine
 unfolding select_rule bind
@@ -185,9 +192,12 @@ select_runs s t w a l f = by_member (member_of (records_in s) (type_in a.node) w
     by_member : (o : Option (MemberValue × ℕ)) → member_of (records_in s) (type_in a.node) w.text ≡ o
         → Runs s (bind (granted DeclaredMember w.token [] o s) (λ r. Rattle.pw_walk.specs.Walks.Done (member_operand t a r.0, r.1))) Fine
     by_member None same = λ met. tt
-    by_member (Some x) same = λ met.
-        (l, grows_same s, λ m locals d words.
-          member_good (records_in s) m locals t w.text a x d.records l.contents same (f m locals d words))
+    by_member (Some x) same = λ met. (
+      l,
+      grows_same s,
+      λ m locals d words.
+          member_good (records_in s) m locals t w.text a x d.records l.contents same (f m locals d words),
+    )
 
 pub dot_runs : (s : State) (t : ℕ) (w : Word) (a : Operand) → IsLawful s → Fine s a → Runs s (dot_rule t w a s) Fine
 unfolding dot_rule bind

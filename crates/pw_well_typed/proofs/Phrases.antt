@@ -1,7 +1,7 @@
 -- Expressions, specifiers and declarators: by induction over the tree, what each rule makes of a lawful state is lawful, and the
 -- operands of expressions are good.
-use Rattle.std.specs.Prelude.{ℕ, ◌≡◌, ◌⊎◌, ◌&&◌, Bool, true, false, Option, None, Some, List, [], ◌∷◌, ◌++◌, map, refl}
-use Rattle.std.proofs.Common.{arith, ap, sym, subst, ◌∙◌, inl, inr}
+use Rattle.std.specs.Prelude.{ℕ, true, false, Option, None, Some, List, [], ◌∷◌, ◌++◌, map}
+use Rattle.std.proofs.Common.{inl, inr}
 use Rattle.pw_tree.specs.declared.expr.BasicType.TheVariants as W
 use Rattle.pw_tree.specs.declared.expr.Qualifier.{Qualifier}
 use Rattle.pw_tree.specs.declared.expr.Qualifier.TheVariants as R
@@ -14,24 +14,23 @@ use Rattle.pw_tree.specs.Trees as S
 use Rattle.pw_types.specs.declared.tree.StepOperator.TheVariants as Q
 use Rattle.pw_types.specs.TypeTrees.{QType, type_of, MemberValue, RecordValue}
 use Rattle.pw_types.specs.TypedTrees.{Expression}
-use Rattle.pw_walk.specs.Walks.{Walk, Done, bind}
+use Rattle.pw_walk.specs.Walks.{Walk, bind}
 use Rattle.pw_rules.specs.Kinds.{int_type}
 use Rattle.pw_rules.specs.Operands.{Operand}
 use Rattle.pw_rules.specs.Operators.{value_rule}
-use Rattle.pw_rules.specs.States.{State, Rule, one_deeper}
-use Rattle.pw_rules.specs.SpecifierLists.{Gathered, nothing_gathered, gather_storage, gather_qualifier, gather_word, gather_type, Specified, specified}
-use Rattle.pw_rules.specs.Derivations.{Derivation, ToPointer, ToArray, ToFunction, Declared, Suffixed, ParameterValue, Bindings, pointer_step, spot_of}
-use Rattle.pw_rules.specs.Leaves.{record_kind, record_spot, is_last, is_nil, parameter_types, first_of_list, first_of_declaration, closing_rule, bindings_rule, named_type}
-use Rattle.pw_rules.specs.Operators.{type_size_rule}
-use Rattle.pw_rules.specs.Phrases.{expr_rule, postfixes_rule, arguments_rule, operations_rule, specifiers_rule, members_rule, member_declarators_rule, enumerators_rule, declarator_rule, core_rule, suffixes_rule, parameters_rule, joined, behind, behind_list}
-use Rattle.pw_well_typed.specs.Lawful.{IsLawful, IsLawfulType, AreLawfulTypes, Extends}
-use Rattle.pw_well_typed.proofs.Walking.{Post, post_bind, post_weaken}
+use Rattle.pw_rules.specs.States.{State, one_deeper}
+use Rattle.pw_rules.specs.SpecifierLists.{Gathered, nothing_gathered, gather_storage, gather_qualifier, gather_word, gather_type, Specified}
+use Rattle.pw_rules.specs.Derivations.{Derivation, ToArray, ToFunction, Suffixed, ParameterValue, pointer_step, spot_of}
+use Rattle.pw_rules.specs.Leaves.{record_kind, record_spot, is_last, parameter_types, first_of_list, first_of_declaration}
+use Rattle.pw_rules.specs.Phrases.{expr_rule, postfixes_rule, arguments_rule, operations_rule, specifiers_rule, members_rule, member_declarators_rule, enumerators_rule, declarator_rule, core_rule, suffixes_rule, parameters_rule}
+use Rattle.pw_well_typed.specs.Lawful.{IsLawful, IsLawfulType}
+use Rattle.pw_well_typed.proofs.Walking.{post_bind, post_weaken}
 use Rattle.pw_well_typed.proofs.Lists.{never_some}
 use Rattle.pw_well_typed.proofs.States.{Fine, FineValue, fine_later, value_later, Runs, goes_on, Grows, grows_same, grows_trans}
 use Rattle.pw_well_typed.proofs.Types.{no, lawful_later, all_lawful_later}
 use Rattle.pw_well_typed.proofs.Operations.{value_runs, plus_runs, minus_runs, complement_runs, not_runs, deref_runs, address_runs, step_runs, Whole, size_runs, type_size_runs, cast_runs, operation_runs, conditional_runs, assignment_runs, index_runs, AreFine, call_runs, dot_runs, arrow_runs}
 use Rattle.pw_well_typed.proofs.Changes.{in_sizeof, sizeof_lawful, uncounted_runs, deeper_lawful, scoped_runs, Opened, opened_later}
-use Rattle.pw_well_typed.proofs.Leaves.{identifier_runs, number_runs, character_runs, string_runs, Nothing, length_runs, enumerator_value_runs, enumerator_runs, enumerating_runs, GoodType, enumeration_runs, GoodReference, reference_runs, opening_runs, GoodMembers, closing_runs, GoodTypes, types_later, types_more, GoodGathered, GoodSpecified, specified_runs, typedef_runs, GoodStep, GoodSteps, steps_later, steps_more, GoodDeclared, named_type_runs, members_later, member_runs, parameter_storage_runs, AreScalars, scalars_later, GoodParameters, parameter_runs, GoodBindings, bindings_runs}
+use Rattle.pw_well_typed.proofs.Leaves.{identifier_runs, number_runs, character_runs, string_runs, Nothing, length_runs, enumerator_value_runs, enumerator_runs, enumerating_runs, GoodType, enumeration_runs, GoodReference, reference_runs, opening_runs, GoodMembers, closing_runs, GoodTypes, types_later, types_more, GoodGathered, GoodSpecified, specified_runs, typedef_runs, GoodSteps, steps_later, steps_more, GoodDeclared, named_type_runs, members_later, member_runs, parameter_storage_runs, AreScalars, scalars_later, GoodParameters, parameter_runs, GoodBindings, bindings_runs}
 
 -- an operand, and then its value
 valued : {B : Type 0} {s : State} (w : Walk (Operand × State)) (next : Expression × State → Walk (B × State)) (Best : State → B → Type 0) → Runs s w Fine
@@ -228,10 +227,12 @@ mutual
   pub declarator_post : (d : Declarator) (s : State) → IsLawful s → Runs s (declarator_rule d s) GoodDeclared
   declarator_post (S.Declaring pointers core suffixes) s l =
       goes_on _ _ GoodDeclared GoodDeclared (core_post core s l) (λ r1 m1 g1 f1.
-      goes_on _ _ GoodSuffixed GoodDeclared (suffixes_post suffixes r1.1 m1) (λ r2 m2 g2 f2.
-      (m2, grows_same r2.1,
+      goes_on _ _ GoodSuffixed GoodDeclared (suffixes_post suffixes r1.1 m1) (λ r2 m2 g2 f2. (
+        m2,
+        grows_same r2.1,
         steps_more r2.1.types.records (map pointer_step pointers) (r2.0.derivations ++ r1.0.derivations) (pointer_steps r2.1.types.records pointers)
-        (steps_more r2.1.types.records r2.0.derivations r1.0.derivations f2 (later_steps r1.0.derivations g2 f1)))))
+            (steps_more r2.1.types.records r2.0.derivations r1.0.derivations f2 (later_steps r1.0.derivations g2 f1)),
+      )))
 
   core_post : (core : Core) (s : State) → IsLawful s → Runs s (core_rule core s) GoodDeclared
   core_post S.Absent s l = (l, grows_same s, tt)
@@ -253,10 +254,12 @@ mutual
       (scoped_runs s _ GoodBindings l
       (goes_on _ _ (λ u ps. GoodParameters u.types.records true ps) (λ u b. GoodBindings u.types.records b)
       (parameters_post parameters [] (one_deeper s) (deeper_lawful s l) (inl tt)) (λ r m g f. bindings_runs r.1 true r.0 m f))) (λ r1 m1 g1 f1.
-      goes_on _ _ GoodSuffixed GoodSuffixed (suffixes_post rest r1.1 m1) (λ r2 m2 g2 f2.
-      (m2, grows_same r2.1,
+      goes_on _ _ GoodSuffixed GoodSuffixed (suffixes_post rest r1.1 m1) (λ r2 m2 g2 f2. (
+        m2,
+        grows_same r2.1,
         steps_more r2.1.types.records r2.0.derivations (ToFunction (parameter_types r1.0.parameters) ∷ []) f2
-        (all_lawful_later r1.1.types.records r2.1.types.records g2.extends (parameter_types r1.0.parameters) f1, tt))))
+            (all_lawful_later r1.1.types.records r2.1.types.records g2.extends (parameter_types r1.0.parameters) f1, tt),
+      )))
   suffixes_post (S.Variadic t parameters rest) s l = tt
   suffixes_post (S.Identifiers t ws rest) s l = tt
 

@@ -1,37 +1,35 @@
 -- The nodes that need places: assignments, steps, addresses and members; and numbers and casts.
-use Rattle.std.specs.Prelude.{ℕ, zero, suc, ◌≡◌, ◌+◌, ◌-◌, ◌*◌, ◌%◌, ◌^◌, ◌<◌, ◌⊎◌, ◌==◌, Bool, true, false, not, ◌&&◌, ◌||◌, nat_le, Option, None, Some, is_some, unwrap_or, option_map, option_and_then, List, [], ◌∷◌, find, zip, slice_get, cond, if◌then◌else◌, refl}
+use Rattle.std.specs.Prelude.{ℕ, suc, ◌≡◌, ◌-◌, ◌*◌, ◌%◌, ◌^◌, ◌<◌, ◌⊎◌, Bool, true, false, not, ◌&&◌, ◌||◌, nat_le, Option, None, Some, unwrap_or, option_and_then, List, [], ◌∷◌, find, zip, slice_get, cond, if◌then◌else◌, refl}
 use Rattle.std.specs.List.{list_any}
 use Rattle.std.specs.Str.{bytes_eq}
 use Rattle.std.proofs.Common.{arith, ap, sym, subst, subst₂, ◌∙◌, inl, inr, mod-eq_of_lt}
 use Rattle.pw_literal.specs.Integers.{integer_type, integer_value, types_of_constant, greatest_of_kind, is_decimal, is_unsigned_mark, is_long_mark}
-use Rattle.pw_tree.specs.declared.operator.BinaryOperator.{BinaryOperator}
-use Rattle.pw_tree.specs.declared.operator.BinaryOperator.TheVariants as O
 use Rattle.pw_tree.specs.declared.operator.AssignOperator.{AssignOperator}
 use Rattle.pw_tree.specs.declared.operator.AssignOperator.TheVariants as A
-use Rattle.pw_types.specs.Conversions.{promoted, usual_of, converted, size_of_kind, is_signed_kind}
+use Rattle.pw_types.specs.Conversions.{usual_of, converted, size_of_kind, is_signed_kind}
 use Rattle.pw_types.specs.declared.kind.IntKind.{IntKind}
 use Rattle.pw_types.specs.declared.kind.IntKind.TheVariants as K
 use Rattle.pw_types.specs.declared.tree.BinaryOperator.TheVariants as B
 use Rattle.pw_types.specs.declared.tree.BinaryOperator.{BinaryOperator as TypedOperator}
 use Rattle.pw_types.specs.declared.tree.StepOperator.{StepOperator}
 use Rattle.pw_types.specs.Layouts.{content_at}
-use Rattle.pw_types.specs.TypeTrees.{CType, Void, Int, Pointer, Array, Function, Record, QType, Qualified, QTypes, type_of, is_constant, is_volatile, MemberValue, ContentValue, RecordValue}
+use Rattle.pw_types.specs.TypeTrees.{CType, Void, Int, Pointer, Array, Function, Record, QType, Qualified, type_of, is_constant, is_volatile, MemberValue, ContentValue, RecordValue}
 use Rattle.pw_types.specs.TypedTrees.{Expression, Node, Form, LocalValue, ModuleValue, token_of, type_at, form_of}
 use Rattle.pw_types.specs.TypedTrees as T
-use Rattle.pw_types.specs.WellTyped.{IsTyped, HasForm, IsArithmetic, IsPromoted, IsPointer, IsScalar, IsComplete, PointsToObject, IsFunctionType, FitsCast, FitsCompound, WorksInCommon, WorksPromoted, MovesPointer, IsModifiable, IsMember, IsNumber}
+use Rattle.pw_types.specs.WellTyped.{IsTyped, IsArithmetic, IsPromoted, IsScalar, IsComplete, PointsToObject, IsFunctionType, FitsCast, FitsCompound, WorksInCommon, WorksPromoted, MovesPointer, IsModifiable}
 use Rattle.pw_value.specs.declared.value.Value.TheVariants.{Num}
 use Rattle.pw_value.specs.Values.{extended}
 use Rattle.pw_rules.specs.Constants.{is_null_constant}
 use Rattle.pw_rules.specs.Kinds.{plain, unqualified, int_type, is_integral, is_pointer, is_scalar, is_void, is_array, is_function, is_record, is_complete, points_to_object, points_to_function, points_to_void, pointee, qualify, is_const_object, holds_const, is_free_of_const, members_of, innermost}
 use Rattle.pw_rules.specs.Operands.{Operand, type_in, value_operand, cast_to, promote, common_type}
 use Rattle.pw_rules.specs.Compatible.{compatible_types, qualified_within}
-use Rattle.pw_rules.specs.Operators.{is_modifiable, can_step, size_node, fits_cast, mixes_pointer, both_alike, same_record, is_assignable, compound_operator, compound_node, fits_sum, fits_compound, typed_binary, member_in, content_in, member_of, member_operand}
+use Rattle.pw_rules.specs.Operators.{is_modifiable, can_step, fits_cast, mixes_pointer, same_record, is_assignable, compound_operator, compound_node, fits_sum, fits_compound, member_in, member_of, member_operand}
 use Rattle.pw_well_typed.specs.Lawful.{IsLawfulType, IsObjectLike, HasLawfulMembers, AreWords, Extends}
 use Rattle.pw_well_typed.proofs.States.{GoodOperand, GoodValue}
 use Rattle.pw_well_typed.proofs.Lists.{some_same, never_some}
 use Rattle.pw_well_typed.proofs.Types.{no, left, right, one_of, not_true, lawful_known, lawful_later, lawful_qualify, lawful_pointer, object_qualify, qualify_same, complete_later, is_complete_so}
-use Rattle.pw_well_typed.proofs.Conversions.{integral_is, pointer_is, function_is, scalar_is, pointer_scalar, integral_arithmetic, no_function, scalar_no_function, promoted_twice, usual_promoted, usual_again, cast_type, cast_words, cast_typed, promote_type, promote_typed, same_typed, node_good}
-use Rattle.pw_well_typed.proofs.Nodes.{null_scalar, points_so, records_are, common_promoted}
+use Rattle.pw_well_typed.proofs.Conversions.{integral_is, pointer_is, function_is, scalar_is, pointer_scalar, integral_arithmetic, no_function, promoted_twice, usual_promoted, usual_again, cast_type, cast_words, cast_typed, promote_type, promote_typed, same_typed, node_good}
+use Rattle.pw_well_typed.proofs.Nodes.{null_scalar, points_so, records_are}
 
 -- ---- numbers
 
@@ -257,9 +255,13 @@ unfolding IsTyped
 compound_number m locals t op a b g changed v ia ib so =
     let i = integral_is (type_in a.node) ia in
     let j = integral_is (type_in b) ib in
-    node_good m locals t (type_in a.node) (T.Compound op (common_type a.node b) a.node (cast_to (common_type a.node b) b)) g.lawful (complete_object m.records (type_in a.node) changed.complete)
-    (g.typed, cast_typed m locals (common_type a.node b) b v.typed tt (integral_arithmetic (type_in b) ib), changed, refl,
-      so (common_type a.node b) (type_in a.node) (type_in (cast_to (common_type a.node b) b)) (works a.node b i.0 j.0 i.1 j.1))
+    node_good m locals t (type_in a.node) (T.Compound op (common_type a.node b) a.node (cast_to (common_type a.node b) b)) g.lawful (complete_object m.records (type_in a.node) changed.complete) (
+      g.typed,
+      cast_typed m locals (common_type a.node b) b v.typed tt (integral_arithmetic (type_in b) ib),
+      changed,
+      refl,
+      so (common_type a.node b) (type_in a.node) (type_in (cast_to (common_type a.node b) b)) (works a.node b i.0 j.0 i.1 j.1),
+    )
 
 compound_shift : (m : ModuleValue) (locals : List LocalValue) (t : ℕ) (op : TypedOperator) (a : Operand) (b : Expression) → GoodOperand m locals a → IsModifiable m.records a.node
     → GoodValue m locals b → is_integral (type_in a.node) ≡ true → is_integral (type_in b) ≡ true
@@ -269,11 +271,15 @@ unfolding IsTyped
 compound_shift m locals t op a b g changed v ia ib so =
     let i = integral_is (type_in a.node) ia in
     let j = integral_is (type_in b) ib in
-    node_good m locals t (type_in a.node) (T.Compound op (type_in (promote a.node)) a.node (promote b)) g.lawful (complete_object m.records (type_in a.node) changed.complete)
-    (g.typed, promote_typed m locals b j.0 j.1 v.typed, changed, refl,
+    node_good m locals t (type_in a.node) (T.Compound op (type_in (promote a.node)) a.node (promote b)) g.lawful (complete_object m.records (type_in a.node) changed.complete) (
+      g.typed,
+      promote_typed m locals b j.0 j.1 v.typed,
+      changed,
+      refl,
       so (type_in (promote a.node)) (type_in a.node) (type_in (promote b))
-      (subst (λ x. WorksPromoted (type_in (promote a.node)) x (type_in (promote b))) (sym i.1)
-      (promote_type a.node i.0 i.1, subst IsPromoted (sym (promote_type b j.0 j.1)) (promoted_twice j.0))))
+          (subst (λ x. WorksPromoted (type_in (promote a.node)) x (type_in (promote b))) (sym i.1)
+          (promote_type a.node i.0 i.1, subst IsPromoted (sym (promote_type b j.0 j.1)) (promoted_twice j.0))),
+    )
 
 integral_no_pointer : (ty : CType) → is_integral ty ≡ true → is_pointer ty ≡ false
 integral_no_pointer (Int k) e = refl
@@ -374,17 +380,23 @@ member_good r m locals t name a x later lawful e g = by_type (type_in a.node) re
         let whole : IsLawfulType m.records (type_of (qualify (is_constant (type_at a.node)) (is_volatile (type_at a.node)) x.0.ty)) =
         lawful_qualify m.records (is_constant (type_at a.node)) (is_volatile (type_at a.node)) x.0.ty known in
         record {
-          typed = (lawful_known m.records (type_of (qualify (is_constant (type_at a.node)) (is_volatile (type_at a.node)) x.0.ty)) whole, (g.typed, record {
-            number = n;
-            content = c;
-            place = at.0;
-            member = x.0;
-            type_is = same;
-            defined = later.kept n c defined;
-            there = at.1;
-            offset_is = at.2;
-            qualified = qualify_same (is_constant (type_at a.node)) (is_volatile (type_at a.node)) x.0.ty;
-          }));
+          typed = (
+            lawful_known m.records (type_of (qualify (is_constant (type_at a.node)) (is_volatile (type_at a.node)) x.0.ty)) whole,
+            (
+              g.typed,
+              record {
+                number = n;
+                content = c;
+                place = at.0;
+                member = x.0;
+                type_is = same;
+                defined = later.kept n c defined;
+                there = at.1;
+                offset_is = at.2;
+                qualified = qualify_same (is_constant (type_at a.node)) (is_volatile (type_at a.node)) x.0.ty;
+              },
+            ),
+          );
           lawful = whole;
           lvalue = g.lvalue;
           designates = λ h. absurd (object_qualify (is_constant (type_at a.node)) (is_volatile (type_at a.node)) x.0.ty like.object h);

@@ -1,16 +1,16 @@
 -- How the state of checking grows within expressions and types: it forgets nothing, and the names that are entered stand in the
 -- scope that is read.
-use Rattle.std.specs.Prelude.{ℕ, ◌≡◌, ◌<◌, ◌≤◌, ◌⊎◌, Bool, true, false, Option, None, Some, List, [], ◌∷◌, ◌++◌, length, slice_get, refl}
+use Rattle.std.specs.Prelude.{ℕ, ◌≡◌, ◌⊎◌, true, Some, List, [], ◌++◌, slice_get, refl}
 use Rattle.std.specs.Option.{option_map_or}
 use Rattle.std.proofs.Common.{arith, ap, sym, subst, ◌∙◌, inl, inr, append_assoc, append-nil}
 use Rattle.pw_types.specs.Layouts.{content_at}
-use Rattle.pw_types.specs.TypeTrees.{CType, Function, QType, Qualified, type_of, RecordValue, ContentValue}
+use Rattle.pw_types.specs.TypeTrees.{type_of}
 use Rattle.pw_types.specs.TypedTrees.{External, LocalValue, ModuleValue, Expression, type_at, form_of}
 use Rattle.pw_types.specs.WellTyped.{IsTyped, IsLvalue, IsDesignator, IsFunctionType}
 use Rattle.pw_walk.specs.Walks.{Walk, bind}
 use Rattle.pw_rules.specs.Linkage.{symbol_at, symbol_of_linked}
 use Rattle.pw_rules.specs.Operands.{Operand}
-use Rattle.pw_rules.specs.States.{State, BodyState, LinkedName, Entity, TypeName, EnumerationConstant, LocalObject, StaticObject, Linked, HiddenObject}
+use Rattle.pw_rules.specs.States.{State, Entity, TypeName, EnumerationConstant, LocalObject, StaticObject, Linked}
 use Rattle.pw_rules.specs.declared.names.Entry.{Entry}
 use Rattle.pw_well_typed.specs.Lawful.{IsLawful, IsLawfulType, Extends, Denotes, StandsFor, IsNamed, AreWords}
 use Rattle.pw_well_typed.proofs.Walking.{Post, post_bind, post_weaken}
@@ -83,9 +83,9 @@ denotes_back {s} {t} {m} {locals} g d = record {
   strings = λ k h e. d.strings k h (g.hidden k h e);
   entities = λ k e h. stands_back s t m g.linked e (d.entities k e (g.entities k e h));
   locals_are = λ i e k q register h f.
-  d.locals_are i e k q register
-  (subst (λ xs. slice_get xs i ≡ Some e) (sym g.ordinary) (get_append s.scopes.ordinary g.more i e h))
-  (g.entities e.1.place (LocalObject k q register) f);
+      d.locals_are i e k q register
+      (subst (λ xs. slice_get xs i ≡ Some e) (sym g.ordinary) (get_append s.scopes.ordinary g.more i e h))
+      (g.entities e.1.place (LocalObject k q register) f);
 }
 
 -- ---- what operands and values are in a module and among locals

@@ -1,17 +1,16 @@
 -- Lawful types: in records of which more is known, with qualifiers more, and composites.
-use Rattle.std.specs.Prelude.{ℕ, zero, suc, ◌≡◌, ◌<◌, ◌≤◌, ◌⊎◌, ◌==◌, Bool, true, false, ◌&&◌, ◌||◌, not, Option, None, Some, is_some, IsSome, option_map, option_and_then, List, length, slice_get, refl}
+use Rattle.std.specs.Prelude.{ℕ, zero, suc, ◌≡◌, ◌⊎◌, Bool, true, false, ◌&&◌, ◌||◌, not, Option, None, Some, is_some, option_map, List, refl}
 use Rattle.std.proofs.Common.{arith, ap, sym, subst, ◌∙◌, inl, inr}
 use Rattle.std.proofs.lemmas.Bool.{eqb-true, eq-eqb}
 use Rattle.pw_types.specs.declared.kind.IntKind.{IntKind}
 use Rattle.pw_types.specs.declared.kind.IntKind.TheVariants as K
 use Rattle.pw_types.specs.declared.record.Layout.{Layout}
-use Rattle.pw_types.specs.Layouts.{content_at, layout_of, array_layout, size_of}
+use Rattle.pw_types.specs.Layouts.{content_at, layout_of, array_layout}
 use Rattle.pw_types.specs.TypeTrees.{CType, Void, Int, Pointer, Array, Function, Record, QType, Qualified, QTypes, NoType, OneType, type_of, ContentValue, RecordValue}
 use Rattle.pw_types.specs.WellTyped.{IsScalar, IsResult, IsComplete, IsKnownType, AreKnownTypes, IsFunctionType, so_qualified}
-use Rattle.pw_rules.specs.Compatible.{composite_type, composite, composite_parameters}
+use Rattle.pw_rules.specs.Compatible.{composite_type, composite_parameters}
 use Rattle.pw_rules.specs.Kinds.{same_type, same_qualified, same_types, same_kind, same_truth, same_length, number_of_kind, is_complete, qualify}
 use Rattle.pw_well_typed.specs.Lawful.{IsLawfulType, AreLawfulTypes, Extends}
-use Rattle.pw_well_typed.proofs.Lists.{some_same, never_some}
 
 pub no : {A : Type 0} → false ≡ true → A
 no e = grind arith

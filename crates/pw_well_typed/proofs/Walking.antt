@@ -1,8 +1,8 @@
 -- What holds of all that a walk makes where every point of it is met.
 use Rattle.std.specs.Prelude.{ℕ, ◌≡◌, Bool, true, false, not, Option, None, Some, List, [], ◌∷◌, ◌++◌, All, refl}
-use Rattle.std.proofs.Common.{arith, ap, sym, subst, ◌∙◌}
+use Rattle.std.proofs.Common.{arith, subst}
 use Rattle.std.proofs.lemmas.List.Elements.{All-head, All-tail}
-use Rattle.pw_walk.specs.Causes.{Constraint, Cause, Point, needs}
+use Rattle.pw_walk.specs.Causes.{Constraint, Cause, Point}
 use Rattle.pw_walk.specs.Walks.{Walk, Done, Passing, Closed, bind, granted}
 use Rattle.pw_walk.specs.Answers.{IsMet, Ends, by_points}
 
