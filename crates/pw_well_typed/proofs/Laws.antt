@@ -1,0 +1,34 @@
+-- The laws, from what holds of all that the walks make.
+use Rattle.std.specs.Prelude.{List, Ok, refl}
+use Rattle.pw_tree.specs.Trees.{Expr}
+use Rattle.pw_types.specs.TypedTrees.{LocalValue, ModuleValue}
+use Rattle.pw_types.specs.WellTyped.{IsTyped}
+use Rattle.pw_walk.specs.Answers.{Answers}
+use Rattle.pw_rules.specs.Operands.{Operand}
+use Rattle.pw_rules.specs.Phrases.{expr_rule}
+use Rattle.pw_rules.specs.States.{State, start}
+use Rattle.pw_well_typed.specs.Lawful.{AreWords, Denotes, IsLawful}
+use Rattle.pw_well_typed.proofs.Walking.{post_end}
+use Rattle.pw_well_typed.proofs.Lists.{never_some}
+use Rattle.pw_well_typed.proofs.States.{Fine, Grows}
+use Rattle.pw_well_typed.proofs.Phrases.{expr_post}
+
+pub start_lawful : IsLawful start
+start_lawful = record {
+  contents = λ n c e. never_some e;
+  begun = λ n c e. never_some e;
+  counted = refl;
+  entities = λ k e h. never_some h;
+  tags = λ i t h. never_some h;
+  depths = λ i e h. never_some h;
+}
+
+ends : (e : Expr) (s t : State) (a : Operand) → IsLawful s → Answers (expr_rule e s) (Ok (a, t)) → IsLawful t × Grows s t × Fine t a
+ends e s t a l h = post_end (expr_rule e s) (a, t) (λ r. IsLawful r.1 × Grows s r.1 × Fine r.1 r.0) h (expr_post e s l)
+
+pub expression_lawful : (e : Expr) (s t : State) (a : Operand) → IsLawful s → Answers (expr_rule e s) (Ok (a, t)) → IsLawful t
+expression_lawful e s t a l h = (ends e s t a l h).0
+
+pub expression_typed : (e : Expr) (s t : State) (a : Operand) → IsLawful s → Answers (expr_rule e s) (Ok (a, t))
+    → (m : ModuleValue) (locals : List LocalValue) → Denotes t m locals → AreWords a.node → IsTyped m locals a.node
+expression_typed e s t a l h m locals d w = ((ends e s t a l h).2 m locals d w).typed

@@ -1,0 +1,13 @@
+pub mod Walking
+pub mod Lists
+pub mod Types
+pub mod States
+pub mod Conversions
+pub mod Nodes
+pub mod Places
+pub mod Calls
+pub mod Operations
+pub mod Changes
+pub mod Leaves
+pub mod Phrases
+pub mod Laws

@@ -1,0 +1,119 @@
+-- Places of lists: of one that grew, of one that was filtered, of one in which one place was put anew.
+use Rattle.std.specs.Prelude.{ℕ, zero, suc, ◌≡◌, ◌<◌, ◌⊎◌, Bool, true, false, Option, None, Some, List, [], ◌∷◌, ◌++◌, length, filter, slice_get, if◌then◌else◌, cond, refl}
+use Rattle.std.specs.Option.{option_or}
+use Rattle.std.specs.Str.{bytes_eq}
+use Rattle.std.proofs.Common.{arith, ap, subst, ◌∙◌, inl, inr}
+use Rattle.pw_rules.specs.States.{put_at}
+use Rattle.pw_scope.specs.Visible.{visible}
+
+pub some_same : {X : Type 0} {x y : X} → Some x ≡ Some y → x ≡ y
+some_same {X} {x} {y} e = ap (λ o. unwrap o) e
+  where
+    unwrap : Option X → X
+    unwrap None = x
+    unwrap (Some z) = z
+
+pub never_some : {X : Type 0} {A : Type 0} {x : X} → None ≡ Some x → A
+never_some {X} {A} {x} e = absurd (subst (λ o. P o) e tt)
+  where
+    P : Option X → Type 0
+    P None = Unit {0}
+    P (Some z) = ⊥
+
+-- what stands in the first list stands at the same place in the second
+abbrev pub Longer : {X : Type 0} → List X → List X → Type 0
+Longer {X} xs ys = (i : ℕ) (x : X) → slice_get xs i ≡ Some x → slice_get ys i ≡ Some x
+
+pub get_append : {X : Type 0} (xs ys : List X) (i : ℕ) (x : X) → slice_get xs i ≡ Some x → slice_get (xs ++ ys) i ≡ Some x
+get_append [] ys i x e = never_some e
+get_append (z ∷ xs) ys zero x e = e
+get_append (z ∷ xs) ys (suc i) x e = get_append xs ys i x e
+
+pub get_either : {X : Type 0} (xs ys : List X) (i : ℕ) (x : X) → slice_get (xs ++ ys) i ≡ Some x
+    → (slice_get xs i ≡ Some x) ⊎ ((j : ℕ) × (slice_get ys j ≡ Some x))
+get_either [] ys i x e = inr (i, e)
+get_either (z ∷ xs) ys zero x e = inl e
+get_either (z ∷ xs) ys (suc i) x e = get_either xs ys i x e
+
+pub get_one : {X : Type 0} (y : X) (i : ℕ) (x : X) → slice_get (y ∷ []) i ≡ Some x → y ≡ x
+get_one y zero x e = some_same e
+get_one y (suc i) x e = never_some e
+
+-- the element that was put behind the others
+pub get_last : {X : Type 0} (xs : List X) (y : X) → slice_get (xs ++ y ∷ []) (length xs) ≡ Some y
+get_last [] y = refl
+get_last (z ∷ xs) y = get_last xs y
+
+pub get_within : {X : Type 0} (xs : List X) (i : ℕ) (x : X) → slice_get xs i ≡ Some x → i < length xs
+get_within [] i x e = never_some e
+get_within (z ∷ xs) zero x e = omega arith
+get_within (z ∷ xs) (suc i) x e = let h : i < length xs = get_within xs i x e in omega (arith, h)
+
+pub get_filter : {X : Type 0} (p : X → Bool) (xs : List X) (i : ℕ) (x : X) → slice_get (filter p xs) i ≡ Some x → (j : ℕ) × (slice_get xs j ≡ Some x) × (p x ≡ true)
+get_filter p [] i x e = never_some e
+get_filter {X} p (z ∷ xs) i x e = by_test (p z) refl i e (get_filter p xs)
+  where
+    by_test : (b : Bool) → p z ≡ b → (k : ℕ) → slice_get (cond b (z ∷ filter p xs) (filter p xs)) k ≡ Some x
+        → ((i : ℕ) (x : X) → slice_get (filter p xs) i ≡ Some x → (j : ℕ) × (slice_get xs j ≡ Some x) × (p x ≡ true))
+        → (j : ℕ) × (slice_get (z ∷ xs) j ≡ Some x) × (p x ≡ true)
+    by_test true h zero f rest = (0, f, subst (λ y. p y ≡ true) (some_same f) h)
+    by_test true h (suc k) f rest = let r = rest k x f in (suc r.0, r.1, r.2)
+    by_test false h k f rest = let r = rest k x f in (suc r.0, r.1, r.2)
+
+pub filter_all : {X : Type 0} (p : X → Bool) (xs : List X) → ((i : ℕ) (x : X) → slice_get xs i ≡ Some x → p x ≡ true) → filter p xs ≡ xs
+filter_all p [] h = refl
+filter_all p (z ∷ xs) h =
+    ap (λ b. cond b (z ∷ filter p xs) (filter p xs)) (h 0 z refl) ∙ ap (λ r. z ∷ r) (filter_all p xs (λ i x e. h (suc i) x e))
+
+pub filter_none : {X : Type 0} (p : X → Bool) (xs : List X) → ((i : ℕ) (x : X) → slice_get xs i ≡ Some x → p x ≡ false) → filter p xs ≡ []
+filter_none p [] h = refl
+filter_none p (z ∷ xs) h =
+    ap (λ b. cond b (z ∷ filter p xs) (filter p xs)) (h 0 z refl) ∙ filter_none p xs (λ i x e. h (suc i) x e)
+
+pub filter_front : {X : Type 0} (p : X → Bool) (xs ys : List X) → ((i : ℕ) (x : X) → slice_get xs i ≡ Some x → p x ≡ true)
+    → ((i : ℕ) (x : X) → slice_get ys i ≡ Some x → p x ≡ false) → filter p (xs ++ ys) ≡ xs
+filter_front p [] ys h k = filter_none p ys k
+filter_front p (z ∷ xs) ys h k =
+    ap (λ b. cond b (z ∷ filter p (xs ++ ys)) (filter p (xs ++ ys))) (h 0 z refl)
+    ∙ ap (λ r. z ∷ r) (filter_front p xs ys (λ i x e. h (suc i) x e) k)
+
+-- ---- a place put anew
+
+pub length_put : {X : Type 0} (n : ℕ) (x : X) (xs : List X) → length (put_at n x xs) ≡ length xs
+length_put n x [] = refl
+length_put zero x (y ∷ xs) = refl
+length_put (suc n) x (y ∷ xs) = ap suc (length_put n x xs)
+
+pub put_same : {X : Type 0} (n : ℕ) (x : X) (xs : List X) → n < length xs → slice_get (put_at n x xs) n ≡ Some x
+put_same n x [] h = grind arith
+put_same zero x (y ∷ xs) h = refl
+put_same (suc n) x (y ∷ xs) h = put_same n x xs (omega (arith, h))
+
+-- what stands at a place afterwards: what was put there, or what stood there before at another place
+pub put_either : {X : Type 0} (n : ℕ) (x : X) (xs : List X) (i : ℕ)
+    → ((i ≡ n) × (slice_get (put_at n x xs) i ≡ Some x)) ⊎ (slice_get (put_at n x xs) i ≡ slice_get xs i)
+put_either n x [] i = inr refl
+put_either zero x (y ∷ xs) zero = inl (refl, refl)
+put_either zero x (y ∷ xs) (suc i) = inr refl
+put_either (suc n) x (y ∷ xs) zero = inr refl
+put_either (suc n) x (y ∷ xs) (suc i) = lift (put_either n x xs i)
+  where
+    lift : ((i ≡ n) × (slice_get (put_at n x xs) i ≡ Some x)) ⊎ (slice_get (put_at n x xs) i ≡ slice_get xs i)
+        → ((suc i ≡ suc n) × (slice_get (put_at n x xs) i ≡ Some x)) ⊎ (slice_get (put_at n x xs) i ≡ slice_get xs i)
+    lift (inl h) = inl (ap suc h.0, h.1)
+    lift (inr h) = inr h
+
+-- ---- what a name stands for is in the list
+
+pub visible_at : {X : Type 0} (xs : List (List ℕ × X)) (name : List ℕ) (x : X) → visible xs name ≡ Some x
+    → (i : ℕ) × ((n : List ℕ) × (slice_get xs i ≡ Some (n, x)))
+visible_at [] name x e = never_some e
+visible_at {X} (entry ∷ later) name x e = by_later (visible later name) refl (bytes_eq name entry.0) e (visible_at later name x)
+  where
+    by_later : (o : Option X) → visible later name ≡ o → (b : Bool)
+        → option_or o (if b then Some entry.1 else None) ≡ Some x
+        → (visible later name ≡ Some x → (i : ℕ) × ((n : List ℕ) × (slice_get later i ≡ Some (n, x))))
+        → (i : ℕ) × ((n : List ℕ) × (slice_get (entry ∷ later) i ≡ Some (n, x)))
+    by_later None h true f rest = (0, (entry.0, ap (λ y. Some (entry.0, y)) (some_same f)))
+    by_later None h false f rest = never_some f
+    by_later (Some y) h b f rest = let r = rest (h ∙ f) in (suc r.0, (r.1.0, r.1.1))

@@ -1,0 +1,25 @@
+//! What checking promises of its result, said of typed trees alone: laws, as the contracts of functions that do nothing.
+#![tactic(auto)]
+
+ghost use Rattle.std.specs.Prelude.{List, Ok};
+ghost use Rattle.pw_tree.specs.Trees.{Expr};
+ghost use Rattle.pw_types.specs.TypedTrees.{LocalValue, ModuleValue};
+ghost use Rattle.pw_types.specs.WellTyped.{IsTyped};
+ghost use Rattle.pw_walk.specs.Answers.{Answers};
+ghost use Rattle.pw_rules.specs.Operands.{Operand};
+ghost use Rattle.pw_rules.specs.Phrases.{expr_rule};
+ghost use Rattle.pw_rules.specs.States.{State, start};
+ghost use Rattle.pw_well_typed.specs.Lawful.{AreWords, Denotes, IsLawful};
+
+/// Nothing is declared at a module's start, so nothing that is known there is unlawful.
+pub fn start_is_lawful()
+    ensures { IsLawful start }
+{}
+
+/// An expression that checking accepts leaves the state lawful, and its typed tree is well typed in every module and among all
+/// locals that the names of the state stand for, if each number in it is one of 32 bits, as it is in each tree that the code makes.
+pub fn expressions_are_well_typed()
+    ensures lawful { (e : Expr) (s t : State) (a : Operand) → IsLawful s → Answers (expr_rule e s) (Ok (a, t)) → IsLawful t }
+    ensures typed { (e : Expr) (s t : State) (a : Operand) → IsLawful s → Answers (expr_rule e s) (Ok (a, t))
+        → (m : ModuleValue) (locals : List LocalValue) → Denotes t m locals → AreWords a.node → IsTyped m locals a.node }
+{}
