@@ -1,1 +1,3 @@
 pub mod ModuleLaws
+pub mod KindsListed
+pub mod RefusalLaws

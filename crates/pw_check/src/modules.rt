@@ -1,13 +1,17 @@
 //! Modules (C90 6.7): external declarations in their order, and what stands at a module's end.
 
-ghost use Rattle.std.specs.Prelude.{◌≡◌, ◌≢◌, [], ◌∷◌, Ok, Err, IfOk, IfErr, map, not, ◌&&◌};
-ghost use Rattle.pw_walk.specs.declared.fault.CheckKind.TheVariants.{NoMemory};
+ghost use Rattle.std.specs.Prelude.{◌≡◌, ◌≢◌, ◌⊎◌, ℕ, [], ◌∷◌, Ok, Err, IfOk, IfErr, map, not, ◌&&◌};
+ghost use Rattle.pw_token.specs.declared.token.Feature.{Feature};
+ghost use Rattle.pw_types.specs.TypedTrees.{ModuleValue};
+ghost use Rattle.pw_walk.specs.declared.fault.CheckKind.TheVariants.{UnknownName, Redeclared, Typing, Constant, Unsupported, Limit, NoMemory};
+ghost use Rattle.pw_walk.specs.declared.fault.Which.{Which};
 ghost use Rattle.pw_check.specs.Parts.{met_rule};
+ghost use Rattle.pw_check.specs.Refusals.{IsMade, RanOut, TellsExactly, on_constants, on_declarations, on_feature, on_limit, on_names, on_types};
 ghost use Rattle.pw_checking.specs.EntityViews.{view_linked};
 ghost use Rattle.pw_checking.specs.Follows.{Follows, Leads};
 ghost use Rattle.pw_checking.specs.StateViews.{view_state};
 ghost use Rattle.pw_finding.specs.Found.{found};
-ghost use Rattle.pw_rules.specs.Checks.{Checks};
+ghost use Rattle.pw_rules.specs.Checks.{Checks, checking};
 ghost use Rattle.pw_rules.specs.Modules as spec;
 ghost use Rattle.pw_tree.specs.Views.{view_external, view_externals, view_module};
 ghost use Rattle.pw_typed.specs.Views as typed;
@@ -94,13 +98,38 @@ fn met_rule<'a>(alloc: Global, state: &mut State<'a>, tree: &'a Module) -> Resul
     end_rule(state, state.linked())
 }
 
-/// Checks a module: the answer is its typed tree where every constraint is met, or the fault of least rank at the first
-/// point where one is not; or that memory ran out.
-pub fn check(alloc: Global, tree: &Module) -> Result<TModule, CheckFault>
+/// The answer of the rules, or want of memory.
+fn answer_of(alloc: Global, tree: &Module) -> Result<TModule, CheckFault>
     ensures typed { IfOk result (λ made. Checks (view_module tree.now) (Ok (typed.view_module made))) }
     ensures refused { IfErr result (λ fault. fault.kind ≢ NoMemory → Checks (view_module tree.now) (Err fault)) }
 {
     let mut state = State::new(alloc);
     met_rule(alloc, &mut state, tree)?;
     Ok(module_in(alloc, state)?)
+}
+
+/// Checks a module: the answer is its typed tree where every constraint is met, or the fault of least rank at the first
+/// point where one is not; or that memory ran out.
+///
+/// # Errors
+///
+/// Each kind of fault comes exactly where the module is refused for a constraint of this kind, and names the token at
+/// which that constraint stands.
+pub fn check(alloc: Global, tree: &Module) -> Result<TModule, CheckFault>
+    // The answer is that of the rules.
+    ensures typed { IfOk result (λ made. Checks (view_module tree.now) (Ok (typed.view_module made))) }
+    ensures refused { IfErr result (λ fault. fault.kind ≢ NoMemory → Checks (view_module tree.now) (Err fault)) }
+
+    // A module that the rules accept is refused for want of memory alone.
+    ensures accepted { (made : ModuleValue) → Checks (view_module tree.now) (Ok made) → RanOut result ⊎ IsMade typed.view_module made result }
+
+    // When each kind of fault comes.
+    ensures unknown_name { TellsExactly (checking (view_module tree.now)) UnknownName on_names result }
+    ensures redeclared { TellsExactly (checking (view_module tree.now)) Redeclared on_declarations result }
+    ensures typing { TellsExactly (checking (view_module tree.now)) Typing on_types result }
+    ensures constant { TellsExactly (checking (view_module tree.now)) Constant on_constants result }
+    ensures unsupported { (feature : Feature) → TellsExactly (checking (view_module tree.now)) (Unsupported feature) (on_feature feature) result }
+    ensures limit { (limit : Which) (count : ℕ) → TellsExactly (checking (view_module tree.now)) (Limit limit count) (on_limit limit count) result }
+{
+    answer_of(alloc, tree)
 }

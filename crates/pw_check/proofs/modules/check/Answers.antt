@@ -1,18 +1,33 @@
-use Rattle.std.proofs.Common.{rules}
-use Rattle.pw_checking.specs.StateViews.{view_state}
+use Rattle.pw_rules.specs.Checks.{checking}
 use Rattle.pw_tree.specs.Views.{view_module}
 use Rattle.pw_typed.specs.Views as typed
-use Rattle.pw_walk.proofs.CallLaws.{made_by}
-use Rattle.pw_check.proofs.ModuleLaws.{refused_after, typed_by}
+use Rattle.pw_check.proofs.RefusalLaws.{names_told, declarations_told, types_told, constants_told, features_told, limits_told, made_told}
 use Rattle.pw_check.proofs.modules.check.Goals as goal
 
-pub returns-in_err-met_rule-clause-refused : goal.returns-in_err-met_rule-clause-refused
-returns-in_err-met_rule-clause-refused c =
-    refused_after (view_module c.args.tree.now) (view_state c.new-state.result) c.new-state.ensures c.met_rule.ensures c.in_err-met_rule.was
-    (first_of (search (rules, c.from_residual.ensures), cc (c.from_residual.ensures)))
+pub returns-clause-accepted : goal.returns-clause-accepted
+returns-clause-accepted c =
+    made_told typed.view_module (checking (view_module c.args.tree.now)) c.answer_of.result c.answer_of.ensures.typed c.answer_of.ensures.refused
 
-pub returns-clause-typed : goal.returns-clause-typed
-returns-clause-typed c =
-    typed_by
-    (view_module c.args.tree.now) (view_state c.new-state.result) (view_state c.met_rule.new.state) _ (typed.view_module c.in_ok-module_in.field-0)
-    c.new-state.ensures (made_by c.met_rule.ensures c.in_ok-met_rule.was) c.in_ok-module_in.ensures
+pub returns-clause-unknown_name : goal.returns-clause-unknown_name
+returns-clause-unknown_name c =
+    names_told typed.view_module (checking (view_module c.args.tree.now)) c.answer_of.result c.answer_of.ensures.typed c.answer_of.ensures.refused
+
+pub returns-clause-redeclared : goal.returns-clause-redeclared
+returns-clause-redeclared c =
+    declarations_told typed.view_module (checking (view_module c.args.tree.now)) c.answer_of.result c.answer_of.ensures.typed c.answer_of.ensures.refused
+
+pub returns-clause-typing : goal.returns-clause-typing
+returns-clause-typing c =
+    types_told typed.view_module (checking (view_module c.args.tree.now)) c.answer_of.result c.answer_of.ensures.typed c.answer_of.ensures.refused
+
+pub returns-clause-constant : goal.returns-clause-constant
+returns-clause-constant c =
+    constants_told typed.view_module (checking (view_module c.args.tree.now)) c.answer_of.result c.answer_of.ensures.typed c.answer_of.ensures.refused
+
+pub returns-clause-unsupported : goal.returns-clause-unsupported
+returns-clause-unsupported c =
+    features_told typed.view_module (checking (view_module c.args.tree.now)) c.answer_of.result c.answer_of.ensures.typed c.answer_of.ensures.refused
+
+pub returns-clause-limit : goal.returns-clause-limit
+returns-clause-limit c =
+    limits_told typed.view_module (checking (view_module c.args.tree.now)) c.answer_of.result c.answer_of.ensures.typed c.answer_of.ensures.refused
