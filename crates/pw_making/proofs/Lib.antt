@@ -1,0 +1,4 @@
+pub mod LoopLemmas
+pub mod OneAnswer
+pub mod GenuineLaws
+pub mod MadeLemmas

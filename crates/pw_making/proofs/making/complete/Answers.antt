@@ -1,0 +1,14 @@
+use Rattle.std.proofs.Common.{⊎_elim, inl, inr}
+use Rattle.std.proofs.lemmas.Result.{IfErr-weaker}
+use Rattle.pw_making.proofs.making.complete.Goals as goal
+
+pub returns-clause-refused : goal.returns-clause-refused
+returns-clause-refused g c =
+    IfErr-weaker c.linked.result _ _
+    (λ fault h. ⊎_elim {C = _} (λ none. inl none)
+    (λ refusal. inr (inr (
+      record { database = c.in_ok-database.database.functions; objects = c.in_ok-made.made.objects.items; fresh = c.in_ok-made.made.fresh.items },
+      record { lawful = c.requires.lawful; database = c.in_ok-database.ensures.database; objects = c.in_ok-made.ensures.objects },
+      refusal,
+    ))) h)
+    c.linked.ensures.refused

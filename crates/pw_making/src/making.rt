@@ -1,0 +1,82 @@
+//! Programs, by the flow graphs of their modules and what was kept.
+
+ghost use Rattle.std.specs.Prelude.{◌≡◌, ◌+◌, ◌⊎◌, ◌≤◌, Ok, Err, IfErr, IfOk, IfSome, OnErr, OnOk, count_by};
+ghost use Rattle.std.specs.List.{AllByRecursion};
+ghost use Rattle.pw_flow.specs.ValidFlow.{IsValid};
+ghost use Rattle.pw_db.specs.Database.{IsDatabase};
+ghost use Rattle.pw_object.specs.Object.{IsObject};
+ghost use Rattle.pw_image.specs.Image.{IsImage, view};
+ghost use Rattle.pw_link.specs.Linking.{linked, AreLinked, IsRefusal};
+ghost use Rattle.pw_making.specs.Programs.{Completes};
+ghost use Rattle.pw_making.specs.Choosing.{parts_of};
+
+use crate::analysing::database_of;
+use crate::objects::{Objects, all_objects};
+use crate::steps::Steps;
+use pw_db::Database;
+use pw_flow::FlowModule;
+use pw_image::Image;
+use pw_link::link;
+use pw_link_laws::laws::linked_images_are_lawful;
+use pw_object::Object;
+use pw_value::LinkFault;
+use std::alloc::Global;
+use std::collections::VecDeque;
+use std::sync::ledger::Ledger;
+
+/// A program that was built: its database, the objects of its modules in their order, which of these were made anew, and
+/// the image.
+#[derive(Drop)]
+pub struct Built {
+    pub database: Database,
+    pub objects: Vec<Object>,
+    pub fresh: Vec<bool>,
+    pub image: Image,
+}
+
+/// Links the objects of a database.
+fn linked(alloc: Global, database: Database, made: Objects, stack: u32) -> Result<Built, LinkFault>
+    requires { AllByRecursion IsObject made.objects.items }
+    ensures built { IfOk result (λ built. (built.database.functions ≡ database.functions) × (built.objects.items ≡ made.objects.items) × (built.fresh.items ≡ made.fresh.items)) }
+    ensures image { IfOk result (λ built. view built.image ≡ linked made.objects.items stack) }
+    ensures lawful { IfOk result (λ built. IsImage (view built.image)) }
+    ensures accepted { OnOk result (AreLinked made.objects.items stack) }
+    ensures refused { IfErr result (λ fault. (fault ≡ LinkFault.NoMemory) ⊎ IsRefusal made.objects.items stack fault) }
+{
+    linked_images_are_lawful();
+    let image = link(alloc, &made.objects, stack)?;
+    let Objects { objects, fresh } = made;
+    Ok(Built {
+        database,
+        objects,
+        fresh,
+        image,
+    })
+}
+
+/// The program of modules with these flow graphs, for so many registers and such a stack; or which rule of linking they
+/// break. What was kept of a module stands at its place in `kept`, which may end early: a kept object stays where it was
+/// made of the same flow graph under the same directives. `steps` counts the objects that are made anew.
+pub fn complete<L: Ledger>(
+    alloc: Global,
+    flows: &[FlowModule],
+    kept: VecDeque<Option<Object>>,
+    colours: u8,
+    stack: u32,
+    steps: &mut Steps<L>,
+) -> Result<Built, LinkFault>
+    requires lawful { AllByRecursion IsValid flows.now }
+    requires kept { AllByRecursion (λ old. IfSome old IsObject) kept.items }
+    requires few { colours ≤ 8 }
+    ensures built { IfOk result (λ built. Completes flows.now kept.items colours stack (Ok (parts_of built))) }
+    ensures refused { IfErr result (λ fault. (fault ≡ LinkFault.NoMemory) ⊎ Completes flows.now kept.items colours stack (Err fault)) }
+    ensures image { IfOk result (λ built. view built.image ≡ linked built.objects.items stack) }
+    ensures lawful_database { IfOk result (λ built. IsDatabase built.database.functions) }
+    ensures lawful_objects { IfOk result (λ built. AllByRecursion IsObject built.objects.items) }
+    ensures lawful_image { IfOk result (λ built. IsImage (view built.image)) }
+    ensures counted { IfOk result (λ built. steps.new ≡ steps.old + count_by (λ fresh. fresh) built.fresh.items) }
+{
+    let database = database_of(alloc, flows, colours)?;
+    let made = all_objects(alloc, flows, kept, &database, steps)?;
+    linked(alloc, database, made, stack)
+}
