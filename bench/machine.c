@@ -1,8 +1,10 @@
 /* An interpreter of the same instruction table, written straight from it, as a measure of speed and as a
-   second reading of the rules. Usage: machine STEPS < words in hexadecimal, one a line. */
+   second reading of the rules. Usage: machine STEPS < words in hexadecimal, one a line; or machine STEPS IMAGE, which
+   runs an image file with the standard streams and ends with the program's status. */
 #include <stdint.h>
 #include <stdio.h>
 #include <stdlib.h>
+#include <string.h>
 
 #define SIZE 67108864u
 enum { ILLEGAL, UNALIGNED, RANGE, TEXTWRITE, BADBRANCH, BADBREAK };
@@ -145,12 +147,48 @@ static int run(uint64_t budget, int *kind, uint32_t *at, uint64_t *taken, int ec
     return 'P';
 }
 
+/* the words and the data of an image file, whose digest is not looked at */
+static uint32_t load(const char *path) {
+    static uint8_t file[SIZE];
+    FILE *f = fopen(path, "rb");
+    size_t length = f ? fread(file, 1, SIZE, f) : 0, at = 12;
+#define NUMBER() (at += 4, (uint32_t)file[at - 4] << 24 | file[at - 3] << 16 | file[at - 2] << 8 | file[at - 1])
+    if (length < 64) { fprintf(stderr, "machine: no image\n"); exit(2); }
+    uint32_t entry = NUMBER();
+    at += 8;
+    uint32_t words = NUMBER();
+    memcpy(mem + 4096, file + at, 4 * (size_t)words);
+    at += 4 * (size_t)words;
+    text_end = 4096 + 4 * words;
+    data_start = (text_end + 7) / 8 * 8;
+    uint32_t size = NUMBER(), items = NUMBER();
+    for (uint32_t i = 0; i < items; i++) {
+        uint32_t offset = NUMBER(), count = NUMBER();
+        memcpy(mem + data_start + offset, file + at, count);
+        at += count;
+    }
+    gr[30] = (data_start + size + 63) / 64 * 64 + 64;
+    return entry;
+}
+
+static int run_image(uint64_t budget, const char *path) {
+    int kind = 0;
+    uint32_t at = 0;
+    uint64_t taken = 0;
+    front = load(path);
+    back = front + 4;
+    int end = run(budget, &kind, &at, &taken, 1);
+    fprintf(stderr, "%llu steps\n", (unsigned long long)taken);
+    return end == 'E' ? (int)at : end == 'S' ? 115 : end == 'P' ? 116 : 117;
+}
+
 int main(int argc, char **argv) {
     static const char *names[] = { "Illegal", "Unaligned", "OutOfMemoryRange", "TextWrite", "BadBranch", "BadBreak" };
     uint64_t budget = argc > 1 ? strtoull(argv[1], 0, 10) : 100000000, taken = 0;
     uint32_t w, n = 0, at = 0;
     int kind = 0;
     mem = calloc(SIZE, 1);
+    if (argc > 2) return run_image(budget, argv[2]);
     while (scanf("%x", &w) == 1) {
         uint32_t a = 4096 + 4 * n++;
         mem[a] = w >> 24; mem[a + 1] = w >> 16; mem[a + 2] = w >> 8; mem[a + 3] = w;
