@@ -1,0 +1,52 @@
+-- Modules and what was kept of them come to one answer, and where the second phase made it that is the full build's.
+use Rattle.std.proofs.Common.{◌≡◌, ℕ, ◌≤◌, List, [], Option, Result, Ok, Err, refl, sym, ap, ◌∙◌}
+use Rattle.std.specs.List.{AllByRecursion}
+use Rattle.pw_value.specs.declared.fault.LinkFault.{LinkFault}
+use Rattle.pw_flow.specs.declared.flow.FlowModule.{FlowModule}
+use Rattle.pw_modules.specs.Modules.{Source}
+use Rattle.pw_object.specs.declared.object.Object.{Object}
+use Rattle.pw_making.specs.Programs.{Completes, Parts}
+use Rattle.pw_making.specs.Kept.{IsGenuineIfKept, anew}
+use Rattle.pw_build.specs.declared.fault.BuildFault.{BuildFault}
+use Rattle.pw_build.specs.declared.fault.BuildFault.TheVariants.{Refused, LinkRefused, StoreFault, NoMemory}
+use Rattle.pw_build.specs.Builds.{Builds, BuildsBy, CompletesAs, first_phases}
+use Rattle.pw_build.specs.Full.{built_anew}
+
+abbrev pub OneAnswer : Type 0
+OneAnswer = (flows : List FlowModule) (kept : List (Option Object)) (colours stack : ℕ) (a b : Result Parts LinkFault) → colours ≤ 8 → Completes flows kept colours stack a → Completes flows kept colours stack b → a ≡ b
+
+-- an answer to flow graphs, as one to a build
+abbrev as_build : Result Parts LinkFault → Result Parts BuildFault
+as_build (Ok parts) = Ok parts
+as_build (Err fault) = Err (LinkRefused fault)
+
+answered : (flows : List FlowModule) (kept : List (Option Object)) (colours stack : ℕ) (a : Result Parts BuildFault) → CompletesAs flows kept colours stack a → (x : Result Parts LinkFault) × Completes flows kept colours stack x × (as_build x ≡ a)
+answered flows kept colours stack (Ok parts) h = (Ok parts, h, refl)
+answered flows kept colours stack (Err (LinkRefused fault)) h = (Err fault, h, refl)
+answered flows kept colours stack (Err (Refused name refusal)) h = absurd h
+answered flows kept colours stack (Err StoreFault) h = absurd h
+answered flows kept colours stack (Err NoMemory) h = absurd h
+
+one_by : OneAnswer → (flows : Result (List FlowModule) BuildFault) (kept : List (Option Object)) (colours stack : ℕ) (a b : Result Parts BuildFault) → colours ≤ 8 → BuildsBy flows kept colours stack a → BuildsBy flows kept colours stack b → a ≡ b
+one_by one (Err fault) kept colours stack a b few x y = x ∙ sym y
+one_by one (Ok flows) kept colours stack a b few x y =
+    let p = answered flows kept colours stack a x in
+    let q = answered flows kept colours stack b y in
+    sym p.2 ∙ ap as_build (one flows kept colours stack p.0 q.0 few p.1 q.1) ∙ q.2
+
+pub one_build : OneAnswer → (sources : List Source) (kept : List (Option Object)) (colours stack : ℕ) (a b : Result Parts BuildFault) → colours ≤ 8 → Builds sources kept colours stack a → Builds sources kept colours stack b → a ≡ b
+one_build one sources kept colours stack a b few x y = one_by one (first_phases sources) kept colours stack a b few x y
+
+abbrev pub ChangeNothing : Type 0
+ChangeNothing = (flows : List FlowModule) (kept : List (Option Object)) (colours stack : ℕ) (a : Result Parts LinkFault) → AllByRecursion IsGenuineIfKept kept → Completes flows kept colours stack a → Completes flows [] colours stack (anew a)
+
+anew_by : ChangeNothing → (flows : Result (List FlowModule) BuildFault) (kept : List (Option Object)) (colours stack : ℕ) (a : Result Parts BuildFault) → AllByRecursion IsGenuineIfKept kept → BuildsBy flows kept colours stack a → BuildsBy flows [] colours stack (built_anew a)
+anew_by same (Err fault) kept colours stack a all h = ap built_anew h
+anew_by same (Ok flows) kept colours stack (Ok parts) all h = same flows kept colours stack (Ok parts) all h
+anew_by same (Ok flows) kept colours stack (Err (LinkRefused fault)) all h = same flows kept colours stack (Err fault) all h
+anew_by same (Ok flows) kept colours stack (Err (Refused name refusal)) all h = absurd h
+anew_by same (Ok flows) kept colours stack (Err StoreFault) all h = absurd h
+anew_by same (Ok flows) kept colours stack (Err NoMemory) all h = absurd h
+
+pub full_build : ChangeNothing → (sources : List Source) (kept : List (Option Object)) (colours stack : ℕ) (a : Result Parts BuildFault) → AllByRecursion IsGenuineIfKept kept → Builds sources kept colours stack a → Builds sources [] colours stack (built_anew a)
+full_build same sources kept colours stack a all h = anew_by same (first_phases sources) kept colours stack a all h

@@ -1,0 +1,2 @@
+pub mod PhaseLemmas
+pub mod BuildLaws

@@ -1,0 +1,79 @@
+-- What the texts of modules, and what was kept of them, come to: one relation, with one answer.
+use Rattle.std.specs.Prelude.{◌≡◌, ℕ, nat_lt, if◌then◌else◌, List, [], ◌∷◌, length, sum_by, map, Option, Some, None, Result, Ok, Err}
+use Rattle.std.specs.Ordering.{nat_cmp}
+use Rattle.std.specs.Cmp.Lexicographic.{slice_cmp}
+use Rattle.std.specs.FinMap as finite
+use Rattle.pw_value.specs.Limits.{module_limit, texts_limit}
+use Rattle.pw_value.specs.declared.fault.LinkFault.{LinkFault}
+use Rattle.pw_value.specs.declared.fault.LinkFault.TheVariants.{TooMany}
+use Rattle.pw_value.specs.declared.fault.What.TheVariants.{Modules, TextBytes}
+use Rattle.pw_flow.specs.declared.flow.FlowModule.{FlowModule}
+use Rattle.pw_object.specs.declared.object.Object.{Object}
+use Rattle.pw_phase_one.specs.FirstPhase.{Phase, compiled}
+use Rattle.pw_modules.specs.Modules.{Source}
+use Rattle.pw_making.specs.Programs.{Completes, Parts}
+use Rattle.pw_build.specs.declared.fault.BuildFault.{BuildFault}
+use Rattle.pw_build.specs.declared.fault.BuildFault.TheVariants.{Refused, LinkRefused}
+
+-- ---- the limits
+
+-- the bytes of all texts together
+abbrev pub text_bytes : List Source → ℕ
+text_bytes sources = sum_by (λ source. length source.1) sources
+
+-- which limit the modules pass first
+abbrev pub limit_passed : List Source → Option LinkFault
+limit_passed sources =
+    if nat_lt module_limit (length sources) then Some (TooMany Modules (length sources)) else
+    if nat_lt texts_limit (text_bytes sources) then Some (TooMany TextBytes (text_bytes sources)) else None
+
+-- ---- the first phase
+
+-- a module's flow graph before those of others; or the first refusal
+abbrev pub before_others : List ℕ → Phase → Result (List FlowModule) BuildFault → Result (List FlowModule) BuildFault
+before_others name (Err refusal) others = Err (Refused name refusal)
+before_others name (Ok flow) (Err fault) = Err fault
+before_others name (Ok flow) (Ok flows) = Ok (flow ∷ flows)
+
+-- the flow graphs of modules, in their order; or the first of them that is refused, with its refusal
+abbrev pub flows_of : List Source → Result (List FlowModule) BuildFault
+flows_of [] = Ok []
+flows_of (source ∷ sources) = before_others source.0 (compiled source.0 source.1) (flows_of sources)
+
+abbrev pub within : Option LinkFault → Result (List FlowModule) BuildFault → Result (List FlowModule) BuildFault
+within (Some fault) flows = Err (LinkRefused fault)
+within None flows = flows
+
+-- the same of modules that pass no limit
+abbrev pub first_phases : List Source → Result (List FlowModule) BuildFault
+first_phases sources = within (limit_passed sources) (flows_of sources)
+
+-- ---- the build
+
+-- flow graphs and kept objects come to this answer
+abbrev pub CompletesAs : List FlowModule → List (Option Object) → ℕ → ℕ → Result Parts BuildFault → Type 0
+CompletesAs flows kept colours stack (Ok parts) = Completes flows kept colours stack (Ok parts)
+CompletesAs flows kept colours stack (Err (LinkRefused fault)) = Completes flows kept colours stack (Err fault)
+CompletesAs flows kept colours stack (Err _) = ⊥
+
+abbrev pub BuildsBy : Result (List FlowModule) BuildFault → List (Option Object) → ℕ → ℕ → Result Parts BuildFault → Type 0
+BuildsBy (Err fault) kept colours stack answer = answer ≡ Err fault
+BuildsBy (Ok flows) kept colours stack answer = CompletesAs flows kept colours stack answer
+
+-- Modules in the byte order of their names, and what was kept of each, at its place, come to this answer for so many
+-- registers and such a stack: a limit that is passed; or the first module that is refused; or a rule of linking that is
+-- broken; or the parts of the program.
+abbrev pub Builds : List Source → List (Option Object) → ℕ → ℕ → Result Parts BuildFault → Type 0
+Builds sources kept colours stack answer = BuildsBy (first_phases sources) kept colours stack answer
+
+-- a map from names to texts
+abbrev pub Texts : Type 0
+Texts = finite.FinMap (slice_cmp nat_cmp) (List ℕ)
+
+-- the build of texts where nothing was kept
+abbrev pub FullBuild : Texts → ℕ → ℕ → Result Parts BuildFault → Type 0
+FullBuild texts colours stack answer = Builds (finite.entries texts) [] colours stack answer
+
+-- The build of texts where this was kept of the module of each name, if anything was.
+abbrev pub Relink : Texts → (List ℕ → Option Object) → ℕ → ℕ → Result Parts BuildFault → Type 0
+Relink texts kept colours stack answer = Builds (finite.entries texts) (map (λ source. kept source.0) (finite.entries texts)) colours stack answer

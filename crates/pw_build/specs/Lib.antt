@@ -1,0 +1,4 @@
+pub mod Builds
+pub mod Phases
+pub mod Full
+pub mod Stores

@@ -1,0 +1,27 @@
+//! Laws of builds. A function here does nothing: its clauses are facts about all values.
+
+ghost use Rattle.std.specs.Prelude.{◌≡◌, ◌≤◌, ℕ, List, [], Option, Result, map};
+ghost use Rattle.std.specs.List.{AllByRecursion};
+ghost use Rattle.pw_modules.specs.Modules.{Source};
+ghost use Rattle.pw_object.specs.declared.object.Object.{Object};
+ghost use Rattle.pw_making.specs.Programs.{Parts};
+ghost use Rattle.pw_making.specs.Kept.{IsGenuineIfKept};
+ghost use Rattle.pw_build.specs.declared.fault.BuildFault.{BuildFault};
+ghost use Rattle.pw_build.specs.Builds.{Builds};
+ghost use Rattle.pw_build.specs.Full.{built_anew};
+
+use pw_making::laws::{flow_graphs_have_one_answer, genuine_objects_change_nothing};
+
+/// Modules and what was kept of them come to one answer.
+pub fn modules_have_one_build()
+    ensures { (sources : List Source) (kept : List (Option Object)) (colours stack : ℕ) (a b : Result Parts BuildFault) → colours ≤ 8 → Builds sources kept colours stack a → Builds sources kept colours stack b → a ≡ b }
+{
+    flow_graphs_have_one_answer();
+}
+
+/// Where the second phase made what was kept, the answer is that of the full build, in which all objects are made anew.
+pub fn genuine_objects_give_the_full_build()
+    ensures { (sources : List Source) (kept : List (Option Object)) (colours stack : ℕ) (a : Result Parts BuildFault) → AllByRecursion IsGenuineIfKept kept → Builds sources kept colours stack a → Builds sources [] colours stack (built_anew a) }
+{
+    genuine_objects_change_nothing();
+}

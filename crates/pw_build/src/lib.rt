@@ -1,0 +1,9 @@
+//! The build of a program from the texts of its modules and what was kept of them, over values.
+#![tactic(auto)]
+
+mod fault;
+pub mod laws;
+mod phases;
+
+pub use fault::{BuildFault, Unbuilt};
+pub use phases::first_phases;

@@ -1,0 +1,117 @@
+//! The first phases of all modules, in order.
+
+ghost use Rattle.std.specs.Prelude.{◌≡◌, ◌+◌, ◌*◌, ◌≤◌, ◌++◌, ◌∷◌, [], Ok, Err, IfErr, IfOk, OnErr, OnOk, length, map, sum_by};
+ghost use Rattle.std.specs.List.{AllByRecursion};
+ghost use Rattle.pw_flow.specs.ValidFlow.{IsValid};
+ghost use Rattle.pw_front.specs.Places.{refusal_line};
+ghost use Rattle.pw_phase_one.specs.FirstPhase.{compiled};
+ghost use Rattle.pw_modules.specs.Views.{source};
+ghost use Rattle.pw_build.specs.Builds.{first_phases, flows_of, limit_passed, text_bytes};
+ghost use Rattle.pw_build.specs.Phases.{FaultsAs, FaultsOfPhase, IsLine, line_by, refused_line};
+
+use crate::fault::{BuildFault, Unbuilt};
+use pw_flow::FlowModule;
+use pw_front::{FrontError, Refusal, refusal_line};
+use pw_modules::Module;
+use pw_phase_one::phase_one;
+use pw_value::limits::{MODULE_LIMIT, TEXTS_LIMIT};
+use pw_value::{LinkFault, What};
+use std::alloc::{AllocError, Global};
+
+/// The bytes of the texts of so few modules together.
+fn text_bytes(modules: &[Module]) -> u64
+    requires { length modules.now ≤ 256 }
+    ensures { result ≡ text_bytes (map source modules.now) }
+{
+    let mut bytes = 0;
+    for which in modules {
+        bytes += which.text.len() as u64;
+    }
+    bytes
+}
+
+/// Which limit the modules pass first.
+fn limit_passed(modules: &[Module]) -> Option<LinkFault>
+    ensures { result ≡ limit_passed (map source modules.now) }
+{
+    let count = modules.len() as u64;
+    if count > MODULE_LIMIT {
+        return Some(LinkFault::TooMany(What::Modules, count));
+    }
+    let bytes = text_bytes(modules);
+    if bytes > TEXTS_LIMIT {
+        return Some(LinkFault::TooMany(What::TextBytes, bytes));
+    }
+    None
+}
+
+/// The refusal of a module, with its line.
+fn refused(alloc: Global, which: &Module, refusal: Refusal) -> Result<Unbuilt, AllocError>
+    ensures fault { IfOk result (λ unbuilt. unbuilt.fault ≡ BuildFault.Refused which.now.name refusal) }
+    ensures line { IfOk result (λ unbuilt. unbuilt.line ≡ refusal_line which.now.text.items refusal) }
+{
+    let line = refusal_line(alloc, which.text.as_slice(), &refusal)?;
+    let name = which.name.copy(alloc)?;
+    Ok(Unbuilt {
+        fault: BuildFault::Refused(name, refusal),
+        line,
+    })
+}
+
+/// The flow graph of a module.
+fn flow_of(alloc: Global, which: &Module) -> Result<FlowModule, Unbuilt>
+    ensures flow { IfOk result (λ flow. compiled which.now.name which.now.text.items ≡ Ok flow) }
+    ensures lawful { IfOk result (λ flow. IsValid flow) }
+    ensures fault { IfErr result (λ unbuilt. FaultsOfPhase which.now.name (compiled which.now.name which.now.text.items) unbuilt.fault) }
+    ensures line { IfErr result (λ unbuilt. IsLine (line_by which.now.text.items (compiled which.now.name which.now.text.items) 1) unbuilt.fault unbuilt.line) }
+{
+    match phase_one(alloc, &which.name, which.text.as_slice()) {
+        Ok(flow) => Ok(flow),
+        Err(FrontError::Refused(refusal)) => Err(refused(alloc, which, refusal)?),
+        Err(FrontError::NoMemory) => Err(Unbuilt {
+            fault: BuildFault::NoMemory,
+            line: 1,
+        }),
+    }
+}
+
+/// Puts a flow graph behind others.
+fn push_flow(flows: &mut Vec<FlowModule>, flow: FlowModule) -> Result<(), AllocError>
+    ensures { OnOk result (flows.new.items ≡ flows.old.items ++ flow ∷ []) }
+{
+    flows.push(flow)?;
+    Ok(())
+}
+
+/// The flow graphs of modules, in their order; or the first that is refused.
+fn flows_of(alloc: Global, modules: &[Module]) -> Result<Vec<FlowModule>, Unbuilt>
+    ensures flows { IfOk result (λ flows. flows_of (map source modules.now) ≡ Ok flows.items) }
+    ensures lawful { IfOk result (λ flows. AllByRecursion IsValid flows.items) }
+    ensures fault { IfErr result (λ unbuilt. FaultsAs (flows_of (map source modules.now)) unbuilt.fault) }
+    ensures line { IfErr result (λ unbuilt. IsLine (refused_line (map source modules.now)) unbuilt.fault unbuilt.line) }
+{
+    let mut flows = Vec::new(alloc);
+    let mut rest = modules;
+    while let [which, after @ ..] = rest {
+        push_flow(&mut flows, flow_of(alloc, which)?)?;
+        rest = after;
+    }
+    Ok(flows)
+}
+
+/// The flow graphs of modules, in their order, where there are not too many modules, their texts are not too long together,
+/// and none is refused; or the first limit that is passed, or the first module that is refused, with the line.
+pub fn first_phases(alloc: Global, modules: &[Module]) -> Result<Vec<FlowModule>, Unbuilt>
+    ensures flows { IfOk result (λ flows. first_phases (map source modules.now) ≡ Ok flows.items) }
+    ensures lawful { IfOk result (λ flows. AllByRecursion IsValid flows.items) }
+    ensures fault { IfErr result (λ unbuilt. FaultsAs (first_phases (map source modules.now)) unbuilt.fault) }
+    ensures line { IfErr result (λ unbuilt. IsLine (refused_line (map source modules.now)) unbuilt.fault unbuilt.line) }
+{
+    match limit_passed(modules) {
+        Some(fault) => Err(Unbuilt {
+            fault: BuildFault::LinkRefused(fault),
+            line: 1,
+        }),
+        None => flows_of(alloc, modules),
+    }
+}
