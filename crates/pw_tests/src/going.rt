@@ -156,11 +156,7 @@ static TEXTS: [TextRow; 39] = [
         "a.i:2: Unsupported Wide at token 1\n",
     ),
     // checking, before the form is looked at
-    (
-        "int x=1;\nint x=2;",
-        113,
-        "a.i:2: Redeclared at token 7\n",
-    ),
+    ("int x=1;\nint x=2;", 113, "a.i:2: Redeclared at token 7\n"),
     (
         "const int k=1;\nint f(void){\nk=1;return 0;}",
         113,
@@ -176,11 +172,7 @@ static TEXTS: [TextRow; 39] = [
         113,
         "a.i:1: Constant at token 9\n",
     ),
-    (
-        "int f(x);",
-        113,
-        "a.i:1: Unsupported OldStyle at token 4\n",
-    ),
+    ("int f(x);", 113, "a.i:1: Unsupported OldStyle at token 4\n"),
     (
         "\nchar x[1048577];",
         113,
