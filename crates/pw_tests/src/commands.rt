@@ -9,11 +9,11 @@ use std::test::Fail;
 /// A command line and its input; the status, the output and the line on `err`.
 type Step = (&'static str, &'static str, u8, &'static str, &'static str);
 
-/// Modules, and the commands over them.
-type Story = (&'static [(&'static str, &'static str)], &'static [Step]);
+/// A module's file and its text.
+type Module = (&'static str, &'static str);
 
 /// The desk calculator.
-static CALCULATOR: [(&str, &str); 3] = [
+static CALCULATOR: [Module; 3] = [
     (
         "main.i",
         "extern int depth; extern int ops;\n\
@@ -65,7 +65,7 @@ static CALCULATOR: [(&str, &str); 3] = [
 ];
 
 /// A counter in two modules, whose variable has a register in both.
-static COUNTER: [(&str, &str); 2] = [
+static COUNTER: [Module; 2] = [
     (
         "a.i",
         "int n; void bump(void); int main(void){int i; for(i=0;i<100;i++)bump(); return n;}",
@@ -73,79 +73,78 @@ static COUNTER: [(&str, &str); 2] = [
     ("b.i", "extern int n; void bump(void){n=n+1;}"),
 ];
 
-static STORIES: [Story; 4] = [
+/// The calculator through all commands.
+static CALCULATION: [Step; 9] = [
+    ("phase1 main", "", 0, "", ""),
+    ("phase1 ops", "", 0, "", ""),
+    ("phase1 stack", "", 0, "", ""),
+    ("analyse", "", 0, "", ""),
+    ("phase2 stack", "", 0, "", ""),
+    ("phase2 ops", "", 0, "", ""),
+    ("phase2 main", "", 0, "", ""),
+    ("link", "", 0, "", ""),
+    ("run", "12 30 + 7 *\n", 0, "294\n", ""),
+];
+
+/// The counter through all commands, and its database without registers for webs.
+static COUNT: [Step; 10] = [
+    ("phase1 a", "", 0, "", ""),
+    ("phase1 b", "", 0, "", ""),
+    ("analyse", "", 0, "", ""),
+    ("db", "", 0, "n r3 writes entry main member bump\n", ""),
+    ("phase2 a", "", 0, "", ""),
+    ("phase2 b", "", 0, "", ""),
+    ("link", "", 0, "", ""),
+    ("run", "", 100, "", ""),
+    ("analyse --colours 0", "", 0, "", ""),
+    ("db", "", 0, "", ""),
+];
+
+/// Modules that are refused: a name, a token, a limit.
+static REFUSED: [Module; 3] = [
+    ("a.i", "int main(void){return x;}"),
+    ("b.i", "\nfloat f;"),
+    ("c.i", "int a[300000];"),
+];
+
+/// Each command where what it needs is refused or absent.
+static REFUSALS: [Step; 11] = [
+    ("phase1 a", "", 113, "", "a.i:1: UnknownName at token 8\n"),
     (
-        &CALCULATOR,
-        &[
-            ("phase1 main", "", 0, "", ""),
-            ("phase1 ops", "", 0, "", ""),
-            ("phase1 stack", "", 0, "", ""),
-            ("analyse", "", 0, "", ""),
-            ("phase2 stack", "", 0, "", ""),
-            ("phase2 ops", "", 0, "", ""),
-            ("phase2 main", "", 0, "", ""),
-            ("link", "", 0, "", ""),
-            ("run", "12 30 + 7 *\n", 0, "294\n", ""),
-        ],
+        "phase1 b",
+        "",
+        113,
+        "",
+        "b.i:2: Unsupported Float at token 1\n",
     ),
     (
-        &COUNTER,
-        &[
-            ("phase1 a", "", 0, "", ""),
-            ("phase1 b", "", 0, "", ""),
-            ("analyse", "", 0, "", ""),
-            ("db", "", 0, "n r3 writes entry main member bump\n", ""),
-            ("phase2 a", "", 0, "", ""),
-            ("phase2 b", "", 0, "", ""),
-            ("link", "", 0, "", ""),
-            ("run", "", 100, "", ""),
-            ("analyse --colours 0", "", 0, "", ""),
-            ("db", "", 0, "", ""),
-        ],
+        "phase1 c",
+        "",
+        113,
+        "",
+        "c.i:1: Limit ObjectSize 1200000 at token 2\n",
     ),
-    (
-        &[
-            ("a.i", "int main(void){return x;}"),
-            ("b.i", "\nfloat f;"),
-            ("c.i", "int a[300000];"),
-        ],
-        &[
-            ("phase1 a", "", 113, "", "a.i:1: UnknownName at token 8\n"),
-            (
-                "phase1 b",
-                "",
-                113,
-                "",
-                "b.i:2: Unsupported Float at token 1\n",
-            ),
-            (
-                "phase1 c",
-                "",
-                113,
-                "",
-                "c.i:1: Limit ObjectSize 1200000 at token 2\n",
-            ),
-            ("phase1 d", "", 122, "", "BadFile d.i\n"),
-            ("analyse", "", 122, "", "BadFile a.sum\n"),
-            ("phase2 a", "", 122, "", "BadFile a.flow\n"),
-            ("link", "", 122, "", "BadFile a.obj\n"),
-            ("run", "", 122, "", "BadFile prog.img\n"),
-            ("list", "", 122, "", "BadFile prog.img\n"),
-            ("db", "", 122, "", "BadFile prog.db\n"),
-            ("phase1", "", 112, "", "usage\n"),
-        ],
-    ),
-    (
-        &[
-            ("a.i", "int f(void); int g(void){return f();}"),
-            ("b.i", "int f(void);"),
-        ],
-        &[
-            ("phase1 a", "", 0, "", ""),
-            ("phase1 b", "", 0, "", ""),
-            ("analyse", "", 114, "", "link: Undefined f\n"),
-        ],
-    ),
+    ("phase1 d", "", 122, "", "BadFile d.i\n"),
+    ("analyse", "", 122, "", "BadFile a.sum\n"),
+    ("phase2 a", "", 122, "", "BadFile a.flow\n"),
+    ("link", "", 122, "", "BadFile a.obj\n"),
+    ("run", "", 122, "", "BadFile prog.img\n"),
+    ("list", "", 122, "", "BadFile prog.img\n"),
+    ("db", "", 122, "", "BadFile prog.db\n"),
+    ("phase1", "", 112, "", "usage\n"),
+];
+
+/// Modules, each accepted, that call what none defines.
+static UNDEFINED: [Module; 2] = [
+    ("a.i", "int f(void); int g(void){return f();}"),
+    ("b.i", "int f(void);"),
+];
+
+/// They are refused together.
+static TOGETHER: [Step; 3] = [
+    ("phase1 a", "", 0, "", ""),
+    ("phase1 b", "", 0, "", ""),
+    ("analyse", "", 114, "", "link: Undefined f\n"),
 ];
 
 /// Bytes as text, each a character.
@@ -167,7 +166,7 @@ fn words_of(alloc: Global, line: &str) -> Result<Vec<String>, AllocError> {
 }
 
 /// A store of these files.
-fn store_of(alloc: Global, listed: &[(&str, &str)]) -> Result<MemStore, AllocError> {
+fn store_of(alloc: Global, listed: &[Module]) -> Result<MemStore, AllocError> {
     let mut files = Vec::new(alloc);
     for (name, text) in listed {
         let name = String::from_str(alloc, name)?;
@@ -189,12 +188,37 @@ fn tells(alloc: Global, store: &mut MemStore, step: &Step) -> Result<bool, Alloc
 }
 
 #[test]
-fn stories(rt: HostRuntime) -> Result<(), Fail> {
-    for (files, steps) in STORIES.iter() {
-        let mut store = store_of(rt.alloc(), files)?;
-        for step in steps.iter() {
-            assert!(rt; tells(rt.alloc(), &mut store, step)?, "{}", step.0);
-        }
+fn calculator(rt: HostRuntime) -> Result<(), Fail> {
+    let mut store = store_of(rt.alloc(), &CALCULATOR)?;
+    for step in CALCULATION.iter() {
+        assert!(rt; tells(rt.alloc(), &mut store, step)?, "{}", step.0);
+    }
+    Ok(())
+}
+
+#[test]
+fn counter(rt: HostRuntime) -> Result<(), Fail> {
+    let mut store = store_of(rt.alloc(), &COUNTER)?;
+    for step in COUNT.iter() {
+        assert!(rt; tells(rt.alloc(), &mut store, step)?, "{}", step.0);
+    }
+    Ok(())
+}
+
+#[test]
+fn refusals(rt: HostRuntime) -> Result<(), Fail> {
+    let mut store = store_of(rt.alloc(), &REFUSED)?;
+    for step in REFUSALS.iter() {
+        assert!(rt; tells(rt.alloc(), &mut store, step)?, "{}", step.0);
+    }
+    Ok(())
+}
+
+#[test]
+fn undefined_name(rt: HostRuntime) -> Result<(), Fail> {
+    let mut store = store_of(rt.alloc(), &UNDEFINED)?;
+    for step in TOGETHER.iter() {
+        assert!(rt; tells(rt.alloc(), &mut store, step)?, "{}", step.0);
     }
     Ok(())
 }
