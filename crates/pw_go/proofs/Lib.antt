@@ -1,0 +1,5 @@
+pub mod GoLemmas
+pub mod BuiltLemmas
+pub mod FoundLemmas
+pub mod RefusalLemmas
+pub mod ProperLemmas

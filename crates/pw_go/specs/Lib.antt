@@ -1,0 +1,4 @@
+pub mod FullBuild
+pub mod BuildViews
+pub mod Going
+pub mod Refusals

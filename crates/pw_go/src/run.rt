@@ -1,0 +1,39 @@
+//! The run of built words.
+
+ghost use Rattle.std.specs.Prelude.{◌≡◌, ◌<◌, ◌≤◌, IfSome, length};
+ghost use Rattle.pw_machine.specs.Run.{run_of};
+ghost use Rattle.pw_sum.specs.Built.{start_of};
+ghost use Rattle.pw_answer.specs.Outcomes.{Answers, InputCount, LeavesInput, OutputCount, PutsOut};
+ghost use Rattle.pw_running.specs.Running.{IsRunAnswer, run_answer, run_output, run_rest};
+
+use pw_answer::Answer;
+use pw_io::{Sink, Source};
+use pw_machine::Machine;
+use pw_running::run_machine;
+use std::alloc::{AllocError, Global};
+
+/// The bytes of the stack. The words of a sum program need none of it, so that each size gives the same run.
+const STACK: u32 = 1_048_576;
+
+/// Runs words from their first on, for at most `budget` instructions.
+pub fn run_words<I: Source, O: Sink>(
+    alloc: Global,
+    words: &[u32],
+    budget: u64,
+    input: &mut I,
+    out: &mut O,
+) -> Answer
+    requires some { 0 < length words.now }
+    requires few { length words.now ≤ 65536 }
+    ensures answer { IfSome (I.rest input.old) (λ rest. Answers (run_answer (run_of budget (start_of words.now rest))) result) }
+    ensures output { IfSome (I.rest input.old) (λ rest. PutsOut (run_output (run_of budget (start_of words.now rest))) result (O.taken out.old) (O.taken out.new)) }
+    ensures rest { IfSome (I.rest input.old) (λ rest. LeavesInput (run_rest (run_of budget (start_of words.now rest))) rest result (I.rest input.new)) }
+    ensures read { InputCount (I.faults input.old) (I.faults input.new) result }
+    ensures write { OutputCount (O.faults out.old) (O.faults out.new) result }
+    ensures run { IsRunAnswer result }
+{
+    match Machine::from_words(alloc, words, STACK) {
+        Ok(mut machine) => run_machine(&mut machine, input, out, budget),
+        Err(AllocError) => Answer::NoMemory,
+    }
+}
