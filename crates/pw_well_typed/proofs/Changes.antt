@@ -1,10 +1,13 @@
 -- Changes of the state: each leaves it lawful, and forgets nothing.
-use Rattle.std.specs.Prelude.{ℕ, zero, suc, ◌≡◌, ◌+◌, ◌<◌, ◌≤◌, ◌⊎◌, nat_lt, Bool, true, false, Option, None, Some, option_and_then, List, [], ◌∷◌, ◌++◌, length, filter, slice_get, refl}
+use Rattle.std.specs.Prelude.{set, ℕ, zero, suc, ◌≡◌, ◌+◌, ◌<◌, ◌≤◌, ◌⊎◌, nat_lt, Bool, true, false, Option, None, Some, option_and_then, List, [], ◌∷◌, ◌++◌, length, filter, slice_get, refl}
 use Rattle.std.proofs.Common.{arith, ap, sym, subst, ◌∙◌, inl, inr, append-nil, length-append}
 use Rattle.std.proofs.lemmas.Bool.{ltb-true, ltb-false}
 use Rattle.pw_types.specs.declared.record.RecordKind.{RecordKind}
 use Rattle.pw_types.specs.Layouts.{content_at}
-use Rattle.pw_types.specs.Records.{declared, defined}
+use Rattle.pw_types.specs.Records.{IsLaid, Follows, declared, defined, kind_at}
+use Rattle.pw_types.specs.declared.record.RecordKind.TheVariants.{Structure}
+use Rattle.pw_types.proofs.RecordLemmas.{IsLaid-declare, IsLaid-define}
+use Rattle.std.specs.Option.{option_map_or}
 use Rattle.pw_types.specs.TypeTrees.{QType, type_of, MemberValue, ContentValue, RecordValue}
 use Rattle.pw_walk.specs.Walks.{bind}
 use Rattle.pw_rules.specs.Leaves.{open_record}
@@ -63,6 +66,9 @@ more_records kind xs = record {
   kept = λ n c e. content_by (xs ++ declared kind ∷ []) xs n (get_front xs (declared kind ∷ []) n (content_within xs n c e)) ∙ e;
 }
 
+laid_more : (kind : RecordKind) (xs : List RecordValue) → IsLaid xs → IsLaid (xs ++ declared kind ∷ [])
+laid_more kind xs h = IsLaid-declare xs kind h
+
 pub record_added : (s : State) (kind : RecordKind) → IsLawful s → IsLawful (add_record (declared kind) s)
 record_added s kind l = record {
   contents = λ n c e i m h.
@@ -72,6 +78,8 @@ record_added s kind l = record {
       length-append s.types.opened (false ∷ []) ∙ (ap (λ n. n + 1) l.counted ∙ sym (length-append s.types.records (declared kind ∷ [])));
   entities = λ k e h. entity_later s.types.records (s.types.records ++ declared kind ∷ []) (more_records kind s.types.records) e (l.entities k e h);
   tags = λ i t h. tag_later s.types.records (s.types.records ++ declared kind ∷ []) (more_records kind s.types.records) t.1.tag (l.tags i t h);
+  linked = λ i x h. lawful_later s.types.records (s.types.records ++ declared kind ∷ []) (more_records kind s.types.records) (type_of x.ty) (l.linked i x h);
+  laid = laid_more kind s.types.records l.laid;
   depths = l.depths;
 }
 
@@ -80,8 +88,7 @@ record_grows s kind l = record {
   extends = more_records kind s.types.records;
   begun = λ n e. (
     get_append s.types.opened (false ∷ []) n true e,
-    content_by (s.types.records ++ declared kind ∷ []) s.types.records n
-        (get_front s.types.records (declared kind ∷ []) n (subst (λ k. n < k) l.counted (get_within s.types.opened n true e))),
+    get_front s.types.records (declared kind ∷ []) n (subst (λ k. n < k) l.counted (get_within s.types.opened n true e)),
   );
   linked = refl;
   entities = λ i x e. e;
@@ -103,6 +110,8 @@ entered s name entity l h = record {
   counted = l.counted;
   entities = λ k e g. by_place k e (get_either s.scopes.entities (entity ∷ []) k e g);
   tags = l.tags;
+  linked = l.linked;
+  laid = l.laid;
   depths = λ i e g. by_entry i e (get_either s.scopes.ordinary ((name, record { place = length s.scopes.entities; depth = s.scopes.depth }) ∷ []) i e g);
 }
   where
@@ -141,6 +150,8 @@ tagged s name tag l h = record {
   counted = l.counted;
   entities = l.entities;
   tags = λ i t g. by_place i t (get_either s.scopes.tags ((name, record { tag = tag; depth = s.scopes.depth }) ∷ []) i t g);
+  linked = l.linked;
+  laid = l.laid;
   depths = l.depths;
 }
   where
@@ -170,7 +181,7 @@ tagged_grows s name tag = record {
 -- ---- hidden objects
 
 pub hidden_added : (s : State) (h : HiddenObject) → IsLawful s → IsLawful (add_hidden h s)
-hidden_added s h l = record { contents = l.contents; begun = l.begun; counted = l.counted; entities = l.entities; tags = l.tags; depths = l.depths }
+hidden_added s h l = record { contents = l.contents; begun = l.begun; counted = l.counted; entities = l.entities; tags = l.tags; linked = l.linked; laid = l.laid; depths = l.depths }
 
 pub hidden_grows : (s : State) (h : HiddenObject) → Grows s (add_hidden h s)
 hidden_grows s h = record {
@@ -190,16 +201,18 @@ hidden_grows s h = record {
 -- ---- a record is begun, and defined
 
 -- begun in the second state, and not in the first; it is not defined
-pub record Opened (s t : State) (n : ℕ) : Type 0 where
+pub record Opened (s t : State) (kind : RecordKind) (n : ℕ) : Type 0 where
   pub there : n < length t.types.records
   pub begun : slice_get t.types.opened n ≡ Some true
   pub unknown : content_at t.types.records n ≡ None
+  pub kind_is : kind_at t.types.records n ≡ kind
   pub fresh : slice_get s.types.opened n ≡ Some true → ⊥
 
 -- a record of which no member is known may be begun
-pub record Closed (t : State) (n : ℕ) : Type 0 where
+pub record Closed (t : State) (kind : RecordKind) (n : ℕ) : Type 0 where
   pub there : n < length t.types.records
   pub unknown : content_at t.types.records n ≡ None
+  pub kind_is : kind_at t.types.records n ≡ kind
   pub fresh : slice_get t.types.opened n ≡ Some true → ⊥
 
 opened_before : (s : State) (n k : ℕ) → slice_get s.types.opened k ≡ Some true → n < length s.types.opened → slice_get (put_at n true s.types.opened) k ≡ Some true
@@ -210,18 +223,20 @@ opened_before s n k e h = by (put_either n true s.types.opened k)
     by (inl g) = g.1
     by (inr g) = g ∙ e
 
-pub opening_lawful : (s : State) (n : ℕ) → IsLawful s → Closed s n → IsLawful (open_record n s)
-opening_lawful s n l c = record {
+pub opening_lawful : (s : State) (kind : RecordKind) (n : ℕ) → IsLawful s → Closed s kind n → IsLawful (open_record n s)
+opening_lawful s kind n l c = record {
   contents = l.contents;
   begun = λ k x e. opened_before s n k (l.begun k x e) (subst (λ m. n < m) (sym l.counted) c.there);
   counted = length_put n true s.types.opened ∙ l.counted;
   entities = l.entities;
   tags = l.tags;
+  linked = l.linked;
+  laid = l.laid;
   depths = l.depths;
 }
 
-pub opening_grows : (s : State) (n : ℕ) → IsLawful s → Closed s n → Grows s (open_record n s)
-opening_grows s n l c = record {
+pub opening_grows : (s : State) (kind : RecordKind) (n : ℕ) → IsLawful s → Closed s kind n → Grows s (open_record n s)
+opening_grows s kind n l c = record {
   extends = extends_same s.types.records;
   begun = λ k e. (opened_before s n k e (subst (λ m. n < m) (sym l.counted) c.there), refl);
   linked = refl;
@@ -235,19 +250,21 @@ opening_grows s n l c = record {
   body = refl;
 }
 
-pub opened_now : (s t : State) (n : ℕ) → IsLawful t → Closed t n → (slice_get s.types.opened n ≡ Some true → ⊥) → Opened s (open_record n t) n
-opened_now s t n l c fresh = record {
+pub opened_now : (s t : State) (kind : RecordKind) (n : ℕ) → IsLawful t → Closed t kind n → (slice_get s.types.opened n ≡ Some true → ⊥) → Opened s (open_record n t) kind n
+opened_now s t kind n l c fresh = record {
   there = c.there;
   begun = put_same n true t.types.opened (subst (λ m. n < m) (sym l.counted) c.there);
   unknown = c.unknown;
+  kind_is = c.kind_is;
   fresh = fresh;
 }
 
-pub opened_later : {s t u : State} {n : ℕ} → Grows t u → Opened s t n → Opened s u n
-opened_later {s} {t} {u} {n} g o = record {
+pub opened_later : {s t u : State} {kind : RecordKind} {n : ℕ} → Grows t u → Opened s t kind n → Opened s u kind n
+opened_later {s} {t} {u} {kind} {n} g o = record {
   there = let h = g.extends.longer in let k = o.there in omega (arith, h, k);
   begun = (g.begun n o.begun).0;
-  unknown = (g.begun n o.begun).1 ∙ o.unknown;
+  unknown = content_by u.types.records t.types.records n (g.begun n o.begun).1 ∙ o.unknown;
+  kind_is = ap (λ x. option_map_or (λ (r : RecordValue). r.kind) x Structure) (g.begun n o.begun).1 ∙ o.kind_is;
   fresh = o.fresh;
 }
 
@@ -276,14 +293,37 @@ define_known kind c n xs k x e = by (put_either n (defined kind c) xs k)
     by (inl g) = inl (g.0, some_same (sym (ap (λ o. option_and_then (λ (r : RecordValue). r.content) o) g.1) ∙ e))
     by (inr g) = inr (sym (content_by (put_at n (defined kind c) xs) xs k g) ∙ e)
 
-pub defined_lawful : (s t : State) (kind : RecordKind) (n : ℕ) (c : ContentValue) → IsLawful t → Opened s t n → HasLawfulMembers t.types.records c
+put_set : {X : Type 0} (n : ℕ) (x : X) (xs : List X) → put_at n x xs ≡ set xs n x
+put_set n x [] = refl
+put_set zero x (y ∷ xs) = refl
+put_set (suc n) x (y ∷ xs) = ap (λ ys. y ∷ ys) (put_set n x xs)
+
+-- of what nothing is known, only the kind is
+undefined_is : (r : RecordValue) → r.content ≡ None → r ≡ declared r.kind
+undefined_is r e = ap (λ o. record { kind = r.kind; content = o }) e
+
+undefined_at : (n : ℕ) (xs : List RecordValue) → n < length xs → content_at xs n ≡ None → slice_get xs n ≡ Some (declared (kind_at xs n))
+undefined_at n [] h e = grind arith
+undefined_at zero (r ∷ xs) h e = ap Some (undefined_is r e)
+undefined_at (suc n) (r ∷ xs) h e = undefined_at n xs (omega (arith, h)) e
+
+laid_define : (kind : RecordKind) (c : ContentValue) (n : ℕ) (xs : List RecordValue) → n < length xs → content_at xs n ≡ None → kind_at xs n ≡ kind
+    → Follows xs kind c → IsLaid xs → IsLaid (put_at n (defined kind c) xs)
+laid_define kind c n xs there unknown same follows laid =
+    subst IsLaid (sym (put_set n (defined kind c) xs))
+    (subst (λ k. IsLaid (set xs n (defined k c))) same
+    (IsLaid-define xs n c (undefined_at n xs there unknown) (subst (λ k. Follows xs k c) (sym same) follows) laid))
+
+pub defined_lawful : (s t : State) (kind : RecordKind) (n : ℕ) (c : ContentValue) → IsLawful t → Opened s t kind n → HasLawfulMembers t.types.records c → Follows t.types.records kind c
     → IsLawful (put_record n (defined kind c) t)
-defined_lawful s t kind n c l o members = record {
+defined_lawful s t kind n c l o members follows = record {
   contents = λ k x e i m h. by_content k x (define_known kind c n t.types.records k x e) i m h;
   begun = λ k x e. by_begun k x (define_known kind c n t.types.records k x e);
   counted = l.counted ∙ sym (length_put n (defined kind c) t.types.records);
   entities = λ k e h. entity_later t.types.records (put_at n (defined kind c) t.types.records) (define_extends kind c n t.types.records o.unknown) e (l.entities k e h);
   tags = λ i x h. tag_later t.types.records (put_at n (defined kind c) t.types.records) (define_extends kind c n t.types.records o.unknown) x.1.tag (l.tags i x h);
+  linked = λ i x h. lawful_later t.types.records (put_at n (defined kind c) t.types.records) (define_extends kind c n t.types.records o.unknown) (type_of x.ty) (l.linked i x h);
+  laid = laid_define kind c n t.types.records o.there o.unknown o.kind_is follows l.laid;
   depths = l.depths;
 }
   where
@@ -297,7 +337,7 @@ defined_lawful s t kind n c l o members = record {
     by_begun k x (inl g) = subst (λ i. slice_get t.types.opened i ≡ Some true) (sym g.0) o.begun
     by_begun k x (inr g) = l.begun k x g
 
-pub defined_grows : (s t : State) (kind : RecordKind) (n : ℕ) (c : ContentValue) → Grows s t → Opened s t n → Grows s (put_record n (defined kind c) t)
+pub defined_grows : (s t : State) (kind : RecordKind) (n : ℕ) (c : ContentValue) → Grows s t → Opened s t kind n → Grows s (put_record n (defined kind c) t)
 defined_grows s t kind n c g o = record {
   extends = extends_trans g.extends (define_extends kind c n t.types.records o.unknown);
   begun = λ k e. ((g.begun k e).0, by k e (put_either n (defined kind c) t.types.records k));
@@ -314,9 +354,9 @@ defined_grows s t kind n c g o = record {
   where
     by : (k : ℕ) → slice_get s.types.opened k ≡ Some true
         → ((k ≡ n) × (slice_get (put_at n (defined kind c) t.types.records) k ≡ Some (defined kind c))) ⊎ (slice_get (put_at n (defined kind c) t.types.records) k ≡ slice_get t.types.records k)
-        → content_at (put_at n (defined kind c) t.types.records) k ≡ content_at s.types.records k
+        → slice_get (put_at n (defined kind c) t.types.records) k ≡ slice_get s.types.records k
     by k e (inl h) = absurd (o.fresh (subst (λ i. slice_get s.types.opened i ≡ Some true) h.0 e))
-    by k e (inr h) = content_by (put_at n (defined kind c) t.types.records) t.types.records k h ∙ (g.begun k e).1
+    by k e (inr h) = h ∙ (g.begun k e).1
 
 -- ---- in an operand of `sizeof`
 
@@ -324,11 +364,11 @@ abbrev pub in_sizeof : State → State
 in_sizeof s = with_made (λ m. record m { counting = false }) s
 
 pub sizeof_lawful : (s : State) → IsLawful s → IsLawful (in_sizeof s)
-sizeof_lawful s l = record { contents = l.contents; begun = l.begun; counted = l.counted; entities = l.entities; tags = l.tags; depths = l.depths }
+sizeof_lawful s l = record { contents = l.contents; begun = l.begun; counted = l.counted; entities = l.entities; tags = l.tags; linked = l.linked; laid = l.laid; depths = l.depths }
 
 restored : (s t : State) → IsLawful t → Grows (in_sizeof s) t → IsLawful (with_made (λ m. record m { counting = s.made.counting }) t) × Grows s (with_made (λ m. record m { counting = s.made.counting }) t)
 restored s t l g = (
-  record { contents = l.contents; begun = l.begun; counted = l.counted; entities = l.entities; tags = l.tags; depths = l.depths },
+  record { contents = l.contents; begun = l.begun; counted = l.counted; entities = l.entities; tags = l.tags; linked = l.linked; laid = l.laid; depths = l.depths },
   record {
     extends = g.extends;
     begun = g.begun;
@@ -360,6 +400,8 @@ deeper_lawful s l = record {
   counted = l.counted;
   entities = l.entities;
   tags = l.tags;
+  linked = l.linked;
+  laid = l.laid;
   depths = λ i e h. let k : e.1.depth ≤ s.scopes.depth = l.depths i e h in omega (arith, k);
 }
 
@@ -388,18 +430,23 @@ left_behind s t l g =
     (λ i e h.
     subst (λ n. nat_lt n t.scopes.depth ≡ false) (sym (g.deep i e h ∙ sym g.depth)) (lt_not t.scopes.depth))
 
-left_lawful : (s t : State) → IsLawful s → IsLawful t → Grows (one_deeper s) t → IsLawful (leave_scope t)
-left_lawful s t ls l g = record {
+pub left_lawful_alone : (t : State) → IsLawful t → IsLawful (leave_scope t)
+left_lawful_alone t l = record {
   contents = l.contents;
   begun = l.begun;
   counted = l.counted;
   entities = l.entities;
   tags = λ i x h. let k = get_filter (λ (e : List ℕ × TagEntry). nat_lt e.1.depth t.scopes.depth) t.scopes.tags i x h in l.tags k.0 x k.1;
+  linked = l.linked;
+  laid = l.laid;
   depths = λ i e h.
       let k = get_filter (λ (x : List ℕ × Entry). nat_lt x.1.depth t.scopes.depth) t.scopes.ordinary i e h in
       let m : e.1.depth < t.scopes.depth = ltb-true e.1.depth t.scopes.depth k.2 in
       omega (arith, m);
 }
+
+left_lawful : (s t : State) → IsLawful s → IsLawful t → Grows (one_deeper s) t → IsLawful (leave_scope t)
+left_lawful s t ls l g = left_lawful_alone t l
 
 left_grows : (s t : State) → IsLawful s → Grows (one_deeper s) t → Grows s (leave_scope t)
 left_grows s t ls g = record {

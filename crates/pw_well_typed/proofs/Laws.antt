@@ -1,8 +1,12 @@
 -- The laws, from what holds of all that the walks make.
-use Rattle.std.specs.Prelude.{List, Ok, refl}
-use Rattle.pw_tree.specs.Trees.{Expr}
+use Rattle.std.specs.Prelude.{All, List, Ok, refl}
+use Rattle.pw_tree.specs.Trees.{Expr, Module}
+use Rattle.pw_types.specs.Records.{IsLaid}
+use Rattle.pw_types.specs.TypeTrees.{type_of}
+use Rattle.pw_rules.specs.Checks.{Checks, checking}
+use Rattle.pw_well_typed.proofs.Modules.{IsSound, checking_sound}
 use Rattle.pw_types.specs.TypedTrees.{LocalValue, ModuleValue}
-use Rattle.pw_types.specs.WellTyped.{IsTyped}
+use Rattle.pw_types.specs.WellTyped.{IsKnownType, IsTyped}
 use Rattle.pw_walk.specs.Answers.{Answers}
 use Rattle.pw_rules.specs.Operands.{Operand}
 use Rattle.pw_rules.specs.Phrases.{expr_rule}
@@ -20,6 +24,8 @@ start_lawful = record {
   counted = refl;
   entities = λ k e h. never_some h;
   tags = λ i t h. never_some h;
+  linked = λ i l h. never_some h;
+  laid = λ n c e. never_some e;
   depths = λ i e h. never_some h;
 }
 
@@ -32,3 +38,13 @@ expression_lawful e s t a l h = (ends e s t a l h).0
 pub expression_typed : (e : Expr) (s t : State) (a : Operand) → IsLawful s → Answers (expr_rule e s) (Ok (a, t))
     → (m : ModuleValue) (locals : List LocalValue) → Denotes t m locals → AreWords a.node → IsTyped m locals a.node
 expression_typed e s t a l h m locals d w = ((ends e s t a l h).2 m locals d w).typed
+
+accepted : (tree : Module) (m : ModuleValue) → Checks tree (Ok m) → IsSound m
+unfolding checking
+accepted tree m h = post_end (checking tree) m IsSound h (checking_sound tree start start_lawful)
+
+pub module_laid : (tree : Module) (m : ModuleValue) → Checks tree (Ok m) → IsLaid m.records
+module_laid tree m h = (accepted tree m h).laid
+
+pub module_known : (tree : Module) (m : ModuleValue) → Checks tree (Ok m) → All (λ d. IsKnownType m.records (type_of d.ty)) m.declared
+module_known tree m h = (accepted tree m h).known

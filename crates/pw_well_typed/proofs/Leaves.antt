@@ -1,5 +1,5 @@
 -- The rules of names, constants and parts of declarators: what they make is lawful, and so is the state behind them.
-use Rattle.std.specs.Prelude.{ℕ, ◌≡◌, ◌<◌, ◌⊎◌, ◌==◌, Bool, true, false, not, ◌&&◌, ◌||◌, Option, None, Some, unwrap_or, option_map, option_and_then, List, [], ◌∷◌, ◌++◌, length, find, slice_get, cond, if◌then◌else◌, refl}
+use Rattle.std.specs.Prelude.{ℕ, ◌≡◌, ◌<◌, ◌⊎◌, ◌==◌, Bool, true, false, not, ◌&&◌, ◌||◌, Option, None, Some, unwrap_or, option_map, option_and_then, List, [], ◌∷◌, ◌++◌, length, filter, find, slice_get, cond, if◌then◌else◌, refl}
 use Rattle.std.proofs.Common.{arith, ap, sym, subst, ◌∙◌, inl, inr}
 use Rattle.pw_literal.specs.Characters.{string_bytes_of}
 use Rattle.pw_literal.specs.Integers.{integer_type, integer_value}
@@ -7,13 +7,14 @@ use Rattle.pw_tree.specs.declared.expr.BasicType.{BasicType}
 use Rattle.pw_tree.specs.Trees.{Word}
 use Rattle.pw_types.specs.declared.kind.IntKind.TheVariants as K
 use Rattle.pw_types.specs.declared.record.RecordKind.{RecordKind}
+use Rattle.pw_types.specs.declared.record.RecordKind.TheVariants.{Structure, Union}
 use Rattle.pw_types.specs.Layouts.{content_at}
-use Rattle.pw_types.specs.Records.{declared, defined}
+use Rattle.pw_types.specs.Records.{IsObjectType, declared, defined, kind_at}
 use Rattle.pw_types.specs.TypeTrees.{CType, Void, Int, Pointer, Array, Function, Record, QType, Qualified, OneType, type_of, MemberValue, ContentValue, RecordValue}
 use Rattle.pw_types.specs.TypedTrees.{Symbol, Expression, Node, Hidden, LocalValue, ModuleValue, type_at}
 use Rattle.pw_types.specs.TypedTrees as T
 use Rattle.pw_types.specs.WellTyped.{IsTyped, IsScalar, IsResult, IsFunctionType, IsFunctionOf, IsObject}
-use Rattle.pw_walk.specs.Causes.{DeclaredIdentifier}
+use Rattle.pw_walk.specs.Causes.{DeclaredIdentifier, CompleteMember}
 use Rattle.pw_walk.specs.Walks.{Walk, Done, bind}
 use Rattle.pw_rules.specs.Kinds.{plain, int_type, is_function, is_array, is_record, is_void}
 use Rattle.pw_rules.specs.Operands.{Operand}
@@ -27,15 +28,16 @@ use Rattle.pw_rules.specs.Linkage.{symbol_at}
 use Rattle.pw_rules.specs.SpecifierLists.{Gathered, nothing_gathered, gather_storage, gather_qualifier, gather_word, gather_type, Specified, specified, type_listed, type_of_words, table, same_words}
 use Rattle.pw_rules.specs.Derivations.{Derivation, ToPointer, ToArray, ToFunction, ParameterValue, Bindings, Declared, built, step_type, spot_of}
 use Rattle.pw_rules.specs.Phrases.{typedef_type, typedef_rule}
-use Rattle.pw_rules.specs.Leaves.{entity_operand, linked_operand, lvalue_operand, identifier_rule, number_rule, character_rule, string_rule, string_point, note_string, string_type, bytes_at_start, texts_of, length_rule, new_record, new_tag, reference_by, reference_rule, opening_by, opening_rule, open_record, is_opened, member_rule, content_by, closing_rule, enumeration_by, enumeration_rule, enumerating_rule, enumerator_value, enumerator_rule, named_type, is_last, is_nil, adjusted, parameter_storage, parameter_rule, enter_parameter, without_void, parameter_types, bindings_rule, says_none, name_text}
+use Rattle.pw_rules.specs.Leaves.{entity_operand, linked_operand, lvalue_operand, identifier_rule, number_rule, character_rule, string_rule, string_point, note_string, string_type, bytes_at_start, texts_of, length_rule, new_record, new_tag, reference_by, reference_rule, opening_by, opening_rule, open_record, is_opened, same_record_kind, member_rule, content_by, closing_rule, enumeration_by, enumeration_rule, enumerating_rule, enumerator_value, enumerator_rule, named_type, is_last, is_nil, adjusted, parameter_storage, parameter_rule, enter_parameter, without_void, parameter_types, bindings_rule, says_none, name_text}
 use Rattle.pw_well_typed.specs.Lawful.{IsLawful, IsLawfulType, AreLawfulTypes, IsObjectLike, IsLawfulEntity, IsLawfulTag, Extends, HasLocal, IsNamed}
 use Rattle.pw_well_typed.proofs.Walking.{Post, truth, met_right, post_bind, post_granted}
 use Rattle.pw_well_typed.proofs.States.{GoodOperand, Fine, Runs, Grows, grows_same, grows_trans}
-use Rattle.pw_well_typed.proofs.Lists.{some_same, never_some, get_append, get_either, get_one, get_last, get_filter, visible_at}
+use Rattle.pw_well_typed.proofs.Lists.{get_map, some_same, never_some, get_append, get_either, get_one, get_last, get_filter, visible_at}
 use Rattle.pw_well_typed.proofs.Types.{no, left, not_true, lawful_known, lawful_later, all_lawful_later, lawful_qualify, lawful_pointer}
 use Rattle.pw_well_typed.proofs.Conversions.{no_function}
 use Rattle.pw_well_typed.proofs.Places.{number_good, constant_wide}
-use Rattle.pw_well_typed.proofs.Changes.{like_later, record_added, record_grows, entered, entered_grows, tagged, tagged_grows, hidden_added, hidden_grows, Opened, Closed, opening_lawful, opening_grows, opened_now, defined_lawful, defined_grows}
+use Rattle.pw_well_typed.proofs.Objects.{object_later, completed_so, within_so, object_type, follows_so}
+use Rattle.pw_well_typed.proofs.Changes.{like_later, tag_later, record_added, record_grows, entered, entered_grows, tagged, tagged_grows, hidden_added, hidden_grows, Opened, Closed, opening_lawful, opening_grows, opened_now, defined_lawful, defined_grows}
 
 -- ---- what an option gives
 
@@ -224,7 +226,7 @@ if_here_some : (depth : ℕ) (b : Bool) (e : TagEntry) (tag : Tag) → (if b the
 if_here_some depth true e tag h = some_same h
 if_here_some depth false e tag h = never_some h
 
-tag_here_lawful : (s : State) (name : List ℕ) (tag : Tag) → IsLawful s → tag_here s name ≡ Some tag → IsLawfulTag s.types.records tag
+pub tag_here_lawful : (s : State) (name : List ℕ) (tag : Tag) → IsLawful s → tag_here s name ≡ Some tag → IsLawfulTag s.types.records tag
 tag_here_lawful s name tag l e =
     let x = and_then_some (tag_if_here s.scopes.depth) (Rattle.pw_scope.specs.Visible.visible s.scopes.tags name) tag e in
     let v = visible_at s.scopes.tags name x.0 x.1 in
@@ -238,13 +240,18 @@ content_last : (kind : RecordKind) (xs : List RecordValue) → content_at (xs ++
 content_last kind [] = refl
 content_last kind (r ∷ xs) = content_last kind xs
 
+kind_last : (kind : RecordKind) (xs : List RecordValue) → kind_at (xs ++ declared kind ∷ []) (length xs) ≡ kind
+kind_last kind [] = refl
+kind_last kind (r ∷ xs) = kind_last kind xs
+
 last_is : {X : Type 0} (xs : List X) (y z : X) (n : ℕ) → n ≡ length xs → slice_get (xs ++ y ∷ []) n ≡ Some z → y ≡ z
 last_is xs y z n same e = some_same (sym (subst (λ k. slice_get (xs ++ y ∷ []) k ≡ Some y) (sym same) (get_last xs y)) ∙ e)
 
-new_closed : (s : State) (kind : RecordKind) → IsLawful s → Closed (add_record (declared kind) s) (length s.types.records)
+new_closed : (s : State) (kind : RecordKind) → IsLawful s → Closed (add_record (declared kind) s) kind (length s.types.records)
 new_closed s kind l = record {
   there = last_within kind s.types.records;
   unknown = content_last kind s.types.records;
+  kind_is = kind_last kind s.types.records;
   fresh = λ e. no (last_is s.types.opened false true (length s.types.records) (sym l.counted) e);
 }
 
@@ -255,30 +262,30 @@ never_begun s l e =
     grind (arith, h, k)
 
 -- a type of its own, that the first state does not know
-abbrev pub Fresh : State → State → ℕ → Type 0
-Fresh s t n = Closed t n × (slice_get s.types.opened n ≡ Some true → ⊥)
+abbrev pub Fresh : RecordKind → State → State → ℕ → Type 0
+Fresh kind s t n = Closed t kind n × (slice_get s.types.opened n ≡ Some true → ⊥)
 
-pub new_record_runs : (s : State) (kind : RecordKind) → IsLawful s → Runs s (new_record kind s) (Fresh s)
+pub new_record_runs : (s : State) (kind : RecordKind) → IsLawful s → Runs s (new_record kind s) (Fresh kind s)
 unfolding new_record bind
 new_record_runs s kind l = (record_added s kind l, record_grows s kind l, (new_closed s kind l, never_begun s l))
 
-pub new_tag_runs : (s : State) (kind : RecordKind) (w : Word) → IsLawful s → Runs s (new_tag kind w s) (Fresh s)
+pub new_tag_runs : (s : State) (kind : RecordKind) (w : Word) → IsLawful s → Runs s (new_tag kind w s) (Fresh kind s)
 unfolding new_tag new_record bind
 new_tag_runs s kind w l = λ met.
-    let c : Closed (add_record (declared kind) s) (length s.types.records) = new_closed s kind l in (
+    let c : Closed (add_record (declared kind) s) kind (length s.types.records) = new_closed s kind l in (
       tagged (add_record (declared kind) s) w.text (G.Record (length s.types.records)) (record_added s kind l) c.there,
       grows_trans (record_grows s kind l) (tagged_grows (add_record (declared kind) s) w.text (G.Record (length s.types.records))),
-      (record { there = c.there; unknown = c.unknown; fresh = c.fresh }, never_begun s l),
+      (record { there = c.there; unknown = c.unknown; kind_is = c.kind_is; fresh = c.fresh }, never_begun s l),
     )
 
 abbrev pub GoodReference : State → QType × Option ℕ → Type 0
 GoodReference s r = IsLawfulType s.types.records (type_of r.0)
 
-reference_by_runs : (s : State) (kind : RecordKind) (w : Word) (o : Option Tag) → IsLawful s → ((tag : Tag) → o ≡ Some tag → IsLawfulTag s.types.records tag)
+pub reference_by_runs : (s : State) (kind : RecordKind) (w : Word) (o : Option Tag) → IsLawful s → ((tag : Tag) → o ≡ Some tag → IsLawfulTag s.types.records tag)
     → Runs s (reference_by kind w o s) GoodReference
 unfolding reference_by bind
 reference_by_runs s kind w None l h =
-    post_bind (new_tag kind w s) _ (λ r. IsLawful r.1 × Grows s r.1 × Fresh s r.1 r.0) (λ r. IsLawful r.1 × Grows s r.1 × GoodReference r.1 r.0) (new_tag_runs s kind w l)
+    post_bind (new_tag kind w s) _ (λ r. IsLawful r.1 × Grows s r.1 × Fresh kind s r.1 r.0) (λ r. IsLawful r.1 × Grows s r.1 × GoodReference r.1 r.0) (new_tag_runs s kind w l)
     (λ r g. (g.0, g.1, g.2.0.there))
 reference_by_runs s kind w (Some (G.Record n)) l h = λ met. (l, grows_same s, h (G.Record n) refl)
 reference_by_runs s kind w (Some G.Enumeration) l h = tt
@@ -298,35 +305,43 @@ unknown_so s n l h = by (content_at s.types.records n) refl
     by None e = refl
     by (Some c) e = absurd (h (l.begun n c e))
 
+kind_so : (a b : RecordKind) → same_record_kind a b ≡ true → b ≡ a
+kind_so Structure Structure e = refl
+kind_so Union Union e = refl
+kind_so Structure Union e = no e
+kind_so Union Structure e = no e
+
 opening_by_runs : (s : State) (kind : RecordKind) (w : Word) (o : Option Tag) → IsLawful s → ((tag : Tag) → o ≡ Some tag → IsLawfulTag s.types.records tag)
-    → Runs s (opening_by kind w o s) (Fresh s)
+    → Runs s (opening_by kind w o s) (Fresh kind s)
 unfolding opening_by bind
 opening_by_runs s kind w None l h = new_tag_runs s kind w l
 opening_by_runs s kind w (Some (G.Record n)) l h = λ met.
     let closed : slice_get s.types.opened n ≡ Some true → ⊥ = not_opened s n (not_true (is_opened s n) (truth _ met.1.0)) in
-    (l, grows_same s, (record { there = h (G.Record n) refl; unknown = unknown_so s n l closed; fresh = closed }, closed))
+    (l, grows_same s, (record { there = h (G.Record n) refl; unknown = unknown_so s n l closed; kind_is = kind_so kind (kind_at s.types.records n) (truth _ met.0); fresh = closed }, closed))
 opening_by_runs s kind w (Some G.Enumeration) l h = tt
 
-begins : (s : State) (w : Walk (ℕ × State)) → Runs s w (Fresh s) → Runs s (bind w (λ r. Done (r.0, open_record r.0 r.1))) (Opened s)
-begins s w h =
-    post_bind w (λ r. Done (r.0, open_record r.0 r.1)) (λ r. IsLawful r.1 × Grows s r.1 × Fresh s r.1 r.0) (λ r. IsLawful r.1 × Grows s r.1 × Opened s r.1 r.0) h
+begins : (s : State) (kind : RecordKind) (w : Walk (ℕ × State)) → Runs s w (Fresh kind s) → Runs s (bind w (λ r. Done (r.0, open_record r.0 r.1))) (λ t n. Opened s t kind n)
+begins s kind w h =
+    post_bind w (λ r. Done (r.0, open_record r.0 r.1)) (λ r. IsLawful r.1 × Grows s r.1 × Fresh kind s r.1 r.0) (λ r. IsLawful r.1 × Grows s r.1 × Opened s r.1 kind r.0) h
     (λ r g.
-    (opening_lawful r.1 r.0 g.0 g.2.0, grows_trans g.1 (opening_grows r.1 r.0 g.0 g.2.0), opened_now s r.1 r.0 g.0 g.2.0 g.2.1))
+    (opening_lawful r.1 kind r.0 g.0 g.2.0, grows_trans g.1 (opening_grows r.1 kind r.0 g.0 g.2.0), opened_now s r.1 kind r.0 g.0 g.2.0 g.2.1))
 
-pub opening_runs : (s : State) (kind : RecordKind) (w : Option Word) → IsLawful s → Runs s (opening_rule kind w s) (Opened s)
+pub opening_runs : (s : State) (kind : RecordKind) (w : Option Word) → IsLawful s → Runs s (opening_rule kind w s) (λ t n. Opened s t kind n)
 unfolding opening_rule bind
-opening_runs s kind None l = begins s (new_record kind s) (new_record_runs s kind l)
-opening_runs s kind (Some w) l = begins s (opening_by kind w (tag_here s w.text) s) (opening_by_runs s kind w (tag_here s w.text) l (λ tag e. tag_here_lawful s w.text tag l e))
+opening_runs s kind None l = begins s kind (new_record kind s) (new_record_runs s kind l)
+opening_runs s kind (Some w) l = begins s kind (opening_by kind w (tag_here s w.text) s) (opening_by_runs s kind w (tag_here s w.text) l (λ tag e. tag_here_lawful s w.text tag l e))
 
 abbrev pub GoodMembers : State → List MemberValue → Type 0
-GoodMembers s ms = (i : ℕ) (m : MemberValue) → slice_get ms i ≡ Some m → IsObjectLike s.types.records m.ty
+GoodMembers s ms =
+    (i : ℕ) (m : MemberValue) → slice_get ms i ≡ Some m → IsObjectLike s.types.records m.ty × IsObjectType s.types.records (type_of m.ty)
 
-pub closing_runs : (s t : State) (kind : RecordKind) (token n : ℕ) (ms : List MemberValue) → IsLawful t → Grows s t → Opened s t n → GoodMembers t ms
+pub closing_runs : (s t : State) (kind : RecordKind) (token n : ℕ) (ms : List MemberValue) → IsLawful t → Grows s t → Opened s t kind n → GoodMembers t ms
     → Post (closing_rule kind token n ms t) (λ r. IsLawful r.1 × Grows s r.1 × GoodType r.1 r.0)
 unfolding closing_rule bind
 closing_runs s t kind token n ms l g o members = λ met.
     let c : ContentValue = content_by t.types.records kind ms in (
-      defined_lawful s t kind n (content_by t.types.records kind ms) l o members,
+      defined_lawful s t kind n (content_by t.types.records kind ms) l o (λ i m e. (members i m e).0)
+          (follows_so t.types.records kind token ms (λ i m e. (members i m e).1) met),
       defined_grows s t kind n (content_by t.types.records kind ms) g o,
       let h = Rattle.pw_well_typed.proofs.Lists.length_put n (defined kind (content_by t.types.records kind ms)) t.types.records in
           subst (λ k. n < k) (sym h) o.there,
@@ -444,36 +459,65 @@ built_runs s spot (ToArray n ∷ rest) (Qualified ty c v) l h k = λ met. built_
 built_runs s spot (ToFunction ps ∷ rest) (Qualified ty c v) l h k = λ met.
     built_runs s spot rest (step_type (ToFunction ps) (Qualified ty c v)) l h.1 (k, result_by ty (truth _ met.0) (truth _ met.1.0), h.0)
 
+abbrev pub AreScalars : List RecordValue → List ParameterValue → Type 0
+AreScalars r [] = Unit {0}
+AreScalars r (p ∷ ps) = IsLawfulType r (type_of p.ty) × IsScalar (type_of p.ty) × AreScalars r ps
+
+pub scalars_later : (a b : List RecordValue) → Extends a b → (ps : List ParameterValue) → AreScalars a ps → AreScalars b ps
+scalars_later a b x [] h = tt
+scalars_later a b x (p ∷ ps) h = (lawful_later a b x (type_of p.ty) h.0, h.1, scalars_later a b x ps h.2)
+
+-- what a parameter list declares: scalars, and lawful tags
+pub record GoodBindings (r : List RecordValue) (b : Bindings) : Type 0 where
+  pub scalars : AreScalars r b.parameters
+  pub tags : (i : ℕ) (t : List ℕ × Tag) → slice_get b.tags i ≡ Some t → IsLawfulTag r t.1
+
+abbrev pub GoodIfAny : List RecordValue → Option Bindings → Type 0
+GoodIfAny r None = Unit {0}
+GoodIfAny r (Some b) = GoodBindings r b
+
+pub bindings_later : (a b : List RecordValue) → Extends a b → (o : Option Bindings) → GoodIfAny a o → GoodIfAny b o
+bindings_later a b x None h = tt
+bindings_later a b x (Some bs) h = record {
+  scalars = scalars_later a b x bs.parameters h.scalars;
+  tags = λ i t e. tag_later a b x t.1 (h.tags i t e);
+}
+
 abbrev pub GoodDeclared : State → Declared → Type 0
-GoodDeclared s d = GoodSteps s.types.records d.derivations
+GoodDeclared s d = GoodSteps s.types.records d.derivations × GoodIfAny s.types.records d.bindings
 
 pub named_type_runs : (s : State) (b : Specified) (d : Declared) → IsLawful s → GoodSpecified s b → GoodDeclared s d → Runs s (named_type b d s) GoodType
 unfolding named_type bind
 named_type_runs s b d l h k =
     post_bind (built (spot_of None b.first b.tag) d.derivations b.ty s) _ (λ r. IsLawful r.1 × Grows s r.1 × GoodType r.1 r.0) (λ r. IsLawful r.1 × Grows s r.1 × GoodType r.1 r.0)
-    (built_runs s (spot_of None b.first b.tag) d.derivations b.ty l k h) (λ r g met. g)
+    (built_runs s (spot_of None b.first b.tag) d.derivations b.ty l k.0 h) (λ r g met. g)
 
-members_more : (s : State) (ms : List MemberValue) (x : MemberValue) → GoodMembers s ms → IsObjectLike s.types.records x.ty → GoodMembers s (ms ++ x ∷ [])
+members_more : (s : State) (ms : List MemberValue) (x : MemberValue) → GoodMembers s ms → IsObjectLike s.types.records x.ty × IsObjectType s.types.records (type_of x.ty) → GoodMembers s (ms ++ x ∷ [])
 members_more s ms x h k i m e = by (get_either ms (x ∷ []) i m e)
   where
-    by : (slice_get ms i ≡ Some m) ⊎ ((j : ℕ) × (slice_get (x ∷ []) j ≡ Some m)) → IsObjectLike s.types.records m.ty
+    by : (slice_get ms i ≡ Some m) ⊎ ((j : ℕ) × (slice_get (x ∷ []) j ≡ Some m)) → IsObjectLike s.types.records m.ty × IsObjectType s.types.records (type_of m.ty)
     by (inl f) = h i m f
-    by (inr f) = subst (λ y. IsObjectLike s.types.records y.ty) (get_one x f.0 m f.1) k
+    by (inr f) = subst (λ y. IsObjectLike s.types.records y.ty × IsObjectType s.types.records (type_of y.ty)) (get_one x f.0 m f.1) k
 
 pub members_later : {s t : State} (ms : List MemberValue) → Grows s t → GoodMembers s ms → GoodMembers t ms
-members_later ms g h = λ i m e. like_later g.extends (h i m e)
+members_later {s} {t} ms g h = λ i m e.
+    let x = h i m e in (like_later g.extends x.0, object_later s.types.records t.types.records g.extends (type_of m.ty) x.1)
 
 pub member_runs : (s : State) (b : Specified) (d : Declared) (ms : List MemberValue) → IsLawful s → GoodSpecified s b → GoodDeclared s d → GoodMembers s ms
     → Runs s (member_rule b d ms s) GoodMembers
 unfolding member_rule bind
 member_runs s b d ms l h k members =
     post_bind (built (spot_of d.name b.first b.tag) d.derivations b.ty s) _ (λ r. IsLawful r.1 × Grows s r.1 × GoodType r.1 r.0) (λ r. IsLawful r.1 × Grows s r.1 × GoodMembers r.1 r.0)
-    (built_runs s (spot_of d.name b.first b.tag) d.derivations b.ty l k h)
+    (built_runs s (spot_of d.name b.first b.tag) d.derivations b.ty l k.0 h)
     (λ r g met. (
       g.0,
       g.1,
-      members_more r.1 ms (record { name = name_text d.name; ty = r.0 }) (members_later ms g.1 members)
-          (record { lawful = g.2; object = no_function (type_of r.0) (not_true (is_function (type_of r.0)) (truth _ met.1.0)) }),
+      members_more r.1 ms (record { name = name_text d.name; ty = r.0 }) (members_later ms g.1 members) (
+        record { lawful = g.2; object = no_function (type_of r.0) (not_true (is_function (type_of r.0)) (truth _ met.1.0)) },
+        object_type r.1.types.records (type_of r.0)
+            (completed_so r.1.types.records (spot_of d.name b.first b.tag) CompleteMember (type_of r.0) met.1.1.0)
+            (within_so r.1.types.records (spot_of d.name b.first b.tag).token r.0 met.1.1.1.1),
+      ),
     ))
 
 -- ---- parameters (6.5.4.3)
@@ -482,10 +526,6 @@ pub parameter_storage_runs : (s : State) (b : Specified) → IsLawful s → Runs
 unfolding parameter_storage bind
 parameter_storage_runs s b l = λ met. (l, grows_same s, tt)
 
-abbrev pub AreScalars : List RecordValue → List ParameterValue → Type 0
-AreScalars r [] = Unit {0}
-AreScalars r (p ∷ ps) = IsLawfulType r (type_of p.ty) × IsScalar (type_of p.ty) × AreScalars r ps
-
 -- one parameter, `void`, which says that there is none
 abbrev pub IsVoidAlone : List ParameterValue → Type 0
 IsVoidAlone (p ∷ []) = is_void (type_of p.ty) ≡ true
@@ -493,10 +533,6 @@ IsVoidAlone _ = ⊥
 
 abbrev pub GoodParameters : List RecordValue → Bool → List ParameterValue → Type 0
 GoodParameters r ended ps = AreScalars r ps ⊎ (IsVoidAlone ps × (ended ≡ true))
-
-pub scalars_later : (a b : List RecordValue) → Extends a b → (ps : List ParameterValue) → AreScalars a ps → AreScalars b ps
-scalars_later a b x [] h = tt
-scalars_later a b x (p ∷ ps) h = (lawful_later a b x (type_of p.ty) h.0, h.1, scalars_later a b x ps h.2)
 
 scalars_more : (r : List RecordValue) (ps : List ParameterValue) (p : ParameterValue) → AreScalars r ps → IsLawfulType r (type_of p.ty) → IsScalar (type_of p.ty) → AreScalars r (ps ++ p ∷ [])
 scalars_more r [] p h k i = (k, i, tt)
@@ -553,7 +589,7 @@ unfolding parameter_rule bind
 parameter_runs s ended b d ps l h k scalars =
     post_bind (built (spot_of d.name b.first b.tag) d.derivations b.ty s) _ (λ r. IsLawful r.1 × Grows s r.1 × GoodType r.1 r.0)
     (λ r. IsLawful r.1 × Grows s r.1 × GoodParameters r.1.types.records ended r.0)
-    (built_runs s (spot_of d.name b.first b.tag) d.derivations b.ty l k h)
+    (built_runs s (spot_of d.name b.first b.tag) d.derivations b.ty l k.0 h)
     (λ r g met.
     let entity : Entity = LocalObject (length ps) (adjusted r.0) (Rattle.pw_rules.specs.SpecifierLists.is_register b.storage) in
     let like : IsObjectLike r.1.types.records (adjusted r.0) = record { lawful = adjusted_lawful r.1.types.records r.0 g.2; object = adjusted_object r.0 } in
@@ -573,28 +609,35 @@ parameter_runs s ended b d ps l h k scalars =
         inr (alone_after ps (record { name = d.name; ty = adjusted q }) ended
         (left (is_nil ps && ended) _ (left _ _ (left _ _ (left _ _ (sole_so (is_void (type_of q)) _ e void.0))))) void.1)
 
-scalars_types : (r : List RecordValue) (ps : List ParameterValue) → AreScalars r ps → AreLawfulTypes r (parameter_types ps)
+pub scalars_types : (r : List RecordValue) (ps : List ParameterValue) → AreScalars r ps → AreLawfulTypes r (parameter_types ps)
 scalars_types r [] h = tt
 scalars_types r (p ∷ ps) h = by p.ty h.0 h.1 (scalars_types r ps h.2)
   where
     by : (q : QType) → IsLawfulType r (type_of q) → IsScalar (type_of q) → AreLawfulTypes r (parameter_types ps) → AreLawfulTypes r (OneType q (parameter_types ps))
     by (Qualified ty c v) h k rest = (h, k, rest)
 
-without_void_types : (r : List RecordValue) (ended : Bool) (ps : List ParameterValue) → GoodParameters r ended ps → AreLawfulTypes r (parameter_types (without_void ps))
-without_void_types r ended [] h = tt
-without_void_types r ended (p ∷ []) (inl h) = by (is_void (type_of p.ty))
+without_void_scalars : (r : List RecordValue) (ended : Bool) (ps : List ParameterValue) → GoodParameters r ended ps → AreScalars r (without_void ps)
+without_void_scalars r ended [] h = tt
+without_void_scalars r ended (p ∷ []) (inl h) = by (is_void (type_of p.ty))
   where
-    by : (b : Bool) → AreLawfulTypes r (parameter_types (if b then [] else p ∷ []))
+    by : (b : Bool) → AreScalars r (if b then [] else p ∷ [])
     by true = tt
-    by false = scalars_types r (p ∷ []) h
-without_void_types r ended (p ∷ []) (inr h) = subst (λ b. AreLawfulTypes r (parameter_types (if b then [] else p ∷ []))) (sym h.0) tt
-without_void_types r ended (p ∷ x ∷ ps) (inl h) = scalars_types r (p ∷ x ∷ ps) h
-without_void_types r ended (p ∷ x ∷ ps) (inr h) = absurd h.0
-
-abbrev pub GoodBindings : List RecordValue → Bindings → Type 0
-GoodBindings r b = AreLawfulTypes r (parameter_types b.parameters)
+    by false = h
+without_void_scalars r ended (p ∷ []) (inr h) = subst (λ b. AreScalars r (if b then [] else p ∷ [])) (sym h.0) tt
+without_void_scalars r ended (p ∷ x ∷ ps) (inl h) = h
+without_void_scalars r ended (p ∷ x ∷ ps) (inr h) = absurd h.0
 
 pub bindings_runs : (s : State) (ended : Bool) (ps : List ParameterValue) → IsLawful s → GoodParameters s.types.records ended ps
     → Runs s (bindings_rule ps s) (λ t b. GoodBindings t.types.records b)
 unfolding bindings_rule bind
-bindings_runs s ended ps l h = (l, grows_same s, without_void_types s.types.records ended ps h)
+bindings_runs s ended ps l h = (
+  l,
+  grows_same s,
+  record {
+    scalars = without_void_scalars s.types.records ended ps h;
+    tags = λ i t e.
+        let x = get_map (λ (y : List ℕ × TagEntry). (y.0, y.1.tag)) (filter (λ (y : List ℕ × TagEntry). y.1.depth == s.scopes.depth) s.scopes.tags) i t e in
+        let y = get_filter (λ (y : List ℕ × TagEntry). y.1.depth == s.scopes.depth) s.scopes.tags i x.0 x.1 in
+        subst (λ z. IsLawfulTag s.types.records z.1) x.2 (l.tags y.0 x.0 y.1);
+  },
+)

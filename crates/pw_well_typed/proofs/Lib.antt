@@ -8,6 +8,12 @@ pub mod Places
 pub mod Calls
 pub mod Operations
 pub mod Changes
+pub mod Objects
 pub mod Leaves
 pub mod Phrases
+pub mod Keeping
+pub mod Initialisers
+pub mod Declarations
+pub mod Statements
+pub mod Modules
 pub mod Laws

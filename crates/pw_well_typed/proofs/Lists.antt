@@ -1,5 +1,5 @@
 -- Places of lists: of one that grew, of one that was filtered, of one in which one place was put anew.
-use Rattle.std.specs.Prelude.{ℕ, zero, suc, ◌≡◌, ◌<◌, ◌⊎◌, Bool, true, false, Option, None, Some, List, [], ◌∷◌, ◌++◌, length, filter, slice_get, if◌then◌else◌, cond, refl}
+use Rattle.std.specs.Prelude.{ℕ, zero, suc, ◌≡◌, ◌<◌, ◌⊎◌, Bool, true, false, Option, None, Some, List, [], ◌∷◌, ◌++◌, length, map, filter, slice_get, if◌then◌else◌, cond, refl}
 use Rattle.std.specs.Option.{option_or}
 use Rattle.std.specs.Str.{bytes_eq}
 use Rattle.std.proofs.Common.{arith, ap, subst, ◌∙◌, inl, inr}
@@ -59,6 +59,11 @@ get_filter {X} p (z ∷ xs) i x e = by_test (p z) refl i e (get_filter p xs)
     by_test true h zero f rest = (0, f, subst (λ y. p y ≡ true) (some_same f) h)
     by_test true h (suc k) f rest = let r = rest k x f in (suc r.0, r.1, r.2)
     by_test false h k f rest = let r = rest k x f in (suc r.0, r.1, r.2)
+
+pub get_map : {X Y : Type 0} (f : X → Y) (xs : List X) (i : ℕ) (y : Y) → slice_get (map f xs) i ≡ Some y → (x : X) × (slice_get xs i ≡ Some x) × (f x ≡ y)
+get_map f [] i y e = never_some e
+get_map f (x ∷ xs) zero y e = (x, refl, some_same e)
+get_map f (x ∷ xs) (suc i) y e = get_map f xs i y e
 
 pub filter_all : {X : Type 0} (p : X → Bool) (xs : List X) → ((i : ℕ) (x : X) → slice_get xs i ≡ Some x → p x ≡ true) → filter p xs ≡ xs
 filter_all p [] h = refl

@@ -1,6 +1,7 @@
 -- Expressions, specifiers and declarators: by induction over the tree, what each rule makes of a lawful state is lawful, and the
 -- operands of expressions are good.
 use Rattle.std.specs.Prelude.{ℕ, true, false, Option, None, Some, List, [], ◌∷◌, ◌++◌, map}
+use Rattle.std.specs.Option.{option_or}
 use Rattle.std.proofs.Common.{inl, inr}
 use Rattle.pw_tree.specs.declared.expr.BasicType.TheVariants as W
 use Rattle.pw_tree.specs.declared.expr.Qualifier.{Qualifier}
@@ -20,20 +21,20 @@ use Rattle.pw_rules.specs.Operands.{Operand}
 use Rattle.pw_rules.specs.Operators.{value_rule}
 use Rattle.pw_rules.specs.States.{State, one_deeper}
 use Rattle.pw_rules.specs.SpecifierLists.{Gathered, nothing_gathered, gather_storage, gather_qualifier, gather_word, gather_type, Specified}
-use Rattle.pw_rules.specs.Derivations.{Derivation, ToArray, ToFunction, Suffixed, ParameterValue, pointer_step, spot_of}
+use Rattle.pw_rules.specs.Derivations.{Bindings, Derivation, ToArray, ToFunction, Suffixed, ParameterValue, pointer_step, spot_of}
 use Rattle.pw_rules.specs.Leaves.{record_kind, record_spot, is_last, parameter_types, first_of_list, first_of_declaration}
 use Rattle.pw_rules.specs.Phrases.{expr_rule, postfixes_rule, arguments_rule, operations_rule, specifiers_rule, members_rule, member_declarators_rule, enumerators_rule, declarator_rule, core_rule, suffixes_rule, parameters_rule}
 use Rattle.pw_well_typed.specs.Lawful.{IsLawful, IsLawfulType}
 use Rattle.pw_well_typed.proofs.Walking.{post_bind, post_weaken}
 use Rattle.pw_well_typed.proofs.Lists.{never_some}
 use Rattle.pw_well_typed.proofs.States.{Fine, FineValue, fine_later, value_later, Runs, goes_on, Grows, grows_same, grows_trans}
-use Rattle.pw_well_typed.proofs.Types.{no, lawful_later, all_lawful_later}
+use Rattle.pw_well_typed.proofs.Types.{no, lawful_later}
 use Rattle.pw_well_typed.proofs.Operations.{value_runs, plus_runs, minus_runs, complement_runs, not_runs, deref_runs, address_runs, step_runs, Whole, size_runs, type_size_runs, cast_runs, operation_runs, conditional_runs, assignment_runs, index_runs, AreFine, call_runs, dot_runs, arrow_runs}
 use Rattle.pw_well_typed.proofs.Changes.{in_sizeof, sizeof_lawful, uncounted_runs, deeper_lawful, scoped_runs, Opened, opened_later}
-use Rattle.pw_well_typed.proofs.Leaves.{identifier_runs, number_runs, character_runs, string_runs, Nothing, length_runs, enumerator_value_runs, enumerator_runs, enumerating_runs, GoodType, enumeration_runs, GoodReference, reference_runs, opening_runs, GoodMembers, closing_runs, GoodTypes, types_later, types_more, GoodGathered, GoodSpecified, specified_runs, typedef_runs, GoodSteps, steps_later, steps_more, GoodDeclared, named_type_runs, members_later, member_runs, parameter_storage_runs, AreScalars, scalars_later, GoodParameters, parameter_runs, GoodBindings, bindings_runs}
+use Rattle.pw_well_typed.proofs.Leaves.{identifier_runs, number_runs, character_runs, string_runs, Nothing, length_runs, enumerator_value_runs, enumerator_runs, enumerating_runs, GoodType, enumeration_runs, GoodReference, reference_runs, opening_runs, GoodMembers, closing_runs, GoodTypes, types_later, types_more, GoodGathered, GoodSpecified, specified_runs, typedef_runs, GoodSteps, steps_later, steps_more, GoodDeclared, named_type_runs, members_later, member_runs, parameter_storage_runs, AreScalars, scalars_later, GoodParameters, parameter_runs, GoodBindings, GoodIfAny, bindings_later, scalars_types, bindings_runs}
 
 -- an operand, and then its value
-valued : {B : Type 0} {s : State} (w : Walk (Operand × State)) (next : Expression × State → Walk (B × State)) (Best : State → B → Type 0) → Runs s w Fine
+pub valued : {B : Type 0} {s : State} (w : Walk (Operand × State)) (next : Expression × State → Walk (B × State)) (Best : State → B → Type 0) → Runs s w Fine
     → ((r : Expression × State) → IsLawful r.1 → Grows s r.1 → FineValue r.1 r.0 → Runs r.1 (next r) Best)
     → Runs s (bind w (λ t. bind (value_rule t.0 t.1) next)) Best
 valued {B} {s} w next Best h k =
@@ -50,7 +51,7 @@ qualifier_gathered s R.Const g h = h
 qualifier_gathered s R.Volatile g h = h
 
 abbrev GoodSuffixed : State → Suffixed → Type 0
-GoodSuffixed s c = GoodSteps s.types.records c.derivations
+GoodSuffixed s c = GoodSteps s.types.records c.derivations × GoodIfAny s.types.records c.bindings
 
 pointer_steps : (r : List RecordValue) (ps : List S.Pointer) → GoodSteps r (map pointer_step ps)
 pointer_steps r [] = tt
@@ -64,6 +65,10 @@ later_types {s} {t} qs g h = types_later s.types.records t.types.records g.exten
 
 later_steps : {s t : State} (ds : List Derivation) → Grows s t → GoodSteps s.types.records ds → GoodSteps t.types.records ds
 later_steps {s} {t} ds g h = steps_later s.types.records t.types.records g.extends ds h
+
+either_bindings : (r : List RecordValue) (a b : Option Bindings) → GoodIfAny r a → GoodIfAny r b → GoodIfAny r (option_or a b)
+either_bindings r None b h k = k
+either_bindings r (Some x) b h k = h
 
 scalars_only : (r : List RecordValue) (ps : List ParameterValue) → GoodParameters r false ps → AreScalars r ps
 scalars_only r ps (inl h) = h
@@ -180,11 +185,11 @@ mutual
       goes_on _ _ GoodReference GoodGathered (reference_runs s (record_kind kind) w l) (λ r m x f.
       specifiers_post rest first (gather_type r.0.0 r.0.1 g) r.1 m (types_more r.1.types.records g.others r.0.0 (later_types g.others x h) f))
   specifiers_post (S.Record t kind w members rest) first g s l h =
-      post_bind _ _ (λ r. IsLawful r.1 × Grows s r.1 × Opened s r.1 r.0) (λ r. IsLawful r.1 × Grows s r.1 × GoodGathered r.1 r.0) (opening_runs s (record_kind kind) w l) (λ r1 h1.
+      post_bind _ _ (λ r. IsLawful r.1 × Grows s r.1 × Opened s r.1 (record_kind kind) r.0) (λ r. IsLawful r.1 × Grows s r.1 × GoodGathered r.1 r.0) (opening_runs s (record_kind kind) w l) (λ r1 h1.
       post_bind _ _ (λ r. IsLawful r.1 × Grows r1.1 r.1 × GoodMembers r.1 r.0) (λ r. IsLawful r.1 × Grows s r.1 × GoodGathered r.1 r.0)
       (members_post members [] r1.1 h1.0 (λ i m e. never_some e)) (λ r2 h2.
       post_bind _ _ (λ r. IsLawful r.1 × Grows s r.1 × GoodType r.1 r.0) (λ r. IsLawful r.1 × Grows s r.1 × GoodGathered r.1 r.0)
-      (closing_runs s r2.1 (record_kind kind) (record_spot w first) r1.0 r2.0 h2.0 (grows_trans h1.1 h2.1) (opened_later {s = s} {t = r1.1} {u = r2.1} {n = r1.0} h2.1 h1.2) h2.2) (λ r3 h3.
+      (closing_runs s r2.1 (record_kind kind) (record_spot w first) r1.0 r2.0 h2.0 (grows_trans h1.1 h2.1) (opened_later {s = s} {t = r1.1} {u = r2.1} {kind = record_kind kind} {n = r1.0} h2.1 h1.2) h2.2) (λ r3 h3.
       post_weaken _ (λ r. IsLawful r.1 × Grows r3.1 r.1 × GoodGathered r.1 r.0) (λ r. IsLawful r.1 × Grows s r.1 × GoodGathered r.1 r.0)
       (specifiers_post rest first (gather_type r3.0 None g) r3.1 h3.0 (types_more r3.1.types.records g.others r3.0 (later_types g.others h3.1 h) h3.2))
       (λ u k. (k.0, grows_trans h3.1 k.1, k.2)))))
@@ -230,25 +235,28 @@ mutual
       goes_on _ _ GoodSuffixed GoodDeclared (suffixes_post suffixes r1.1 m1) (λ r2 m2 g2 f2. (
         m2,
         grows_same r2.1,
-        steps_more r2.1.types.records (map pointer_step pointers) (r2.0.derivations ++ r1.0.derivations) (pointer_steps r2.1.types.records pointers)
-            (steps_more r2.1.types.records r2.0.derivations r1.0.derivations f2 (later_steps r1.0.derivations g2 f1)),
+        (
+          steps_more r2.1.types.records (map pointer_step pointers) (r2.0.derivations ++ r1.0.derivations) (pointer_steps r2.1.types.records pointers)
+              (steps_more r2.1.types.records r2.0.derivations r1.0.derivations f2.0 (later_steps r1.0.derivations g2 f1.0)),
+          either_bindings r2.1.types.records r1.0.bindings r2.0.bindings (bindings_later r1.1.types.records r2.1.types.records g2.extends r1.0.bindings f1.1) f2.1,
+        ),
       )))
 
   core_post : (core : Core) (s : State) → IsLawful s → Runs s (core_rule core s) GoodDeclared
-  core_post S.Absent s l = (l, grows_same s, tt)
-  core_post (S.Name w) s l = (l, grows_same s, tt)
+  core_post S.Absent s l = (l, grows_same s, (tt, tt))
+  core_post (S.Name w) s l = (l, grows_same s, (tt, tt))
   core_post (S.Enclosed t d) s l = declarator_post d s l
 
   suffixes_post : (suffixes : Suffixes) (s : State) → IsLawful s → Runs s (suffixes_rule suffixes s) GoodSuffixed
-  suffixes_post S.NoSuffix s l = (l, grows_same s, tt)
+  suffixes_post S.NoSuffix s l = (l, grows_same s, (tt, tt))
   suffixes_post (S.Array t e rest) s l =
       valued _ _ GoodSuffixed (expr_post e s l) (λ r1 m1 g1 f1.
       goes_on _ _ Nothing GoodSuffixed (length_runs r1.1 (first_of_expr e) r1.0 m1) (λ r2 m2 g2 f2.
       goes_on _ _ GoodSuffixed GoodSuffixed (suffixes_post rest r2.1 m2) (λ r3 m3 g3 f3.
-      (m3, grows_same r3.1, steps_more r3.1.types.records r3.0.derivations (ToArray (Some r2.0) ∷ []) f3 (tt, tt)))))
+      (m3, grows_same r3.1, (steps_more r3.1.types.records r3.0.derivations (ToArray (Some r2.0) ∷ []) f3.0 (tt, tt), f3.1)))))
   suffixes_post (S.OpenArray t rest) s l =
       goes_on _ _ GoodSuffixed GoodSuffixed (suffixes_post rest s l) (λ r m g f.
-      (m, grows_same r.1, steps_more r.1.types.records r.0.derivations (ToArray None ∷ []) f (tt, tt)))
+      (m, grows_same r.1, (steps_more r.1.types.records r.0.derivations (ToArray None ∷ []) f.0 (tt, tt), f.1)))
   suffixes_post (S.Prototype t parameters rest) s l =
       goes_on _ _ (λ u b. GoodBindings u.types.records b) GoodSuffixed
       (scoped_runs s _ GoodBindings l
@@ -257,8 +265,11 @@ mutual
       goes_on _ _ GoodSuffixed GoodSuffixed (suffixes_post rest r1.1 m1) (λ r2 m2 g2 f2. (
         m2,
         grows_same r2.1,
-        steps_more r2.1.types.records r2.0.derivations (ToFunction (parameter_types r1.0.parameters) ∷ []) f2
-            (all_lawful_later r1.1.types.records r2.1.types.records g2.extends (parameter_types r1.0.parameters) f1, tt),
+        (
+          steps_more r2.1.types.records r2.0.derivations (ToFunction (parameter_types r1.0.parameters) ∷ []) f2.0
+              (scalars_types r2.1.types.records r1.0.parameters (scalars_later r1.1.types.records r2.1.types.records g2.extends r1.0.parameters f1.scalars), tt),
+          bindings_later r1.1.types.records r2.1.types.records g2.extends (Some r1.0) f1,
+        ),
       )))
   suffixes_post (S.Variadic t parameters rest) s l = tt
   suffixes_post (S.Identifiers t ws rest) s l = tt

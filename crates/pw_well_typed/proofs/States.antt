@@ -3,7 +3,6 @@
 use Rattle.std.specs.Prelude.{ℕ, ◌≡◌, ◌⊎◌, true, Some, List, [], ◌++◌, slice_get, refl}
 use Rattle.std.specs.Option.{option_map_or}
 use Rattle.std.proofs.Common.{arith, ap, sym, subst, ◌∙◌, inl, inr, append_assoc, append-nil}
-use Rattle.pw_types.specs.Layouts.{content_at}
 use Rattle.pw_types.specs.TypeTrees.{type_of}
 use Rattle.pw_types.specs.TypedTrees.{External, LocalValue, ModuleValue, Expression, type_at, form_of}
 use Rattle.pw_types.specs.WellTyped.{IsTyped, IsLvalue, IsDesignator, IsFunctionType}
@@ -20,7 +19,7 @@ use Rattle.pw_well_typed.proofs.Types.{extends_trans, extends_same}
 pub record Grows (s t : State) : Type 0 where
   pub extends : Extends s.types.records t.types.records
   pub begun : (n : ℕ) → slice_get s.types.opened n ≡ Some true
-      → (slice_get t.types.opened n ≡ Some true) × (content_at t.types.records n ≡ content_at s.types.records n)
+      → (slice_get t.types.opened n ≡ Some true) × (slice_get t.types.records n ≡ slice_get s.types.records n)
   pub linked : t.types.linked ≡ s.types.linked
   pub entities : Longer s.scopes.entities t.scopes.entities
   pub depth : t.scopes.depth ≡ s.scopes.depth

@@ -2,12 +2,13 @@
 -- what there is. And when a module and a function's locals are what the names of a state stand for.
 use Rattle.std.specs.Prelude.{ℕ, ◌≡◌, ◌<◌, ◌≤◌, ◌^◌, Bool, true, Some, List, length, slice_get}
 use Rattle.pw_types.specs.Layouts.{content_at}
+use Rattle.pw_types.specs.Records.{IsLaid}
 use Rattle.pw_types.specs.TypeTrees.{CType, Void, Int, Pointer, Array, Function, Record, QType, Qualified, QTypes, NoType, OneType, type_of, MemberValue, ContentValue, RecordValue}
 use Rattle.pw_types.specs.TypedTrees.{Symbol, Hidden, LocalValue, ModuleValue, Expression, Node, Form, Expressions, NoExpression, OneExpression}
 use Rattle.pw_types.specs.TypedTrees as T
 use Rattle.pw_types.specs.WellTyped.{IsScalar, IsResult, IsFunctionType, IsObject, IsFunctionOf, IsDefined}
 use Rattle.pw_rules.specs.Linkage.{symbol_at}
-use Rattle.pw_rules.specs.States.{State, Entity, TypeName, EnumerationConstant, LocalObject, StaticObject, Linked, HiddenObject}
+use Rattle.pw_rules.specs.States.{State, LinkedName, Entity, TypeName, EnumerationConstant, LocalObject, StaticObject, Linked, HiddenObject}
 use Rattle.pw_rules.specs.declared.names.Entry.{Entry}
 use Rattle.pw_rules.specs.declared.names.Tag.{Tag}
 use Rattle.pw_rules.specs.declared.names.Tag.TheVariants as G
@@ -61,6 +62,9 @@ pub record IsLawful (s : State) : Type 0 where
   pub counted : length s.types.opened ≡ length s.types.records
   pub entities : (k : ℕ) (e : Entity) → slice_get s.scopes.entities k ≡ Some e → IsLawfulEntity s.types.records e
   pub tags : (i : ℕ) (t : List ℕ × TagEntry) → slice_get s.scopes.tags i ≡ Some t → IsLawfulTag s.types.records t.1.tag
+  pub linked : (i : ℕ) (l : LinkedName) → slice_get s.types.linked i ≡ Some l → IsLawfulType s.types.records (type_of l.ty)
+  -- each record that is defined follows from its members
+  pub laid : IsLaid s.types.records
   pub depths : (i : ℕ) (e : List ℕ × Entry) → slice_get s.scopes.ordinary i ≡ Some e → e.1.depth ≤ s.scopes.depth
 
 -- ---- what names stand for

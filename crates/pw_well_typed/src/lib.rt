@@ -1,11 +1,14 @@
 //! What checking promises of its result, said of typed trees alone: laws, as the contracts of functions that do nothing.
 #![tactic(auto)]
 
-ghost use Rattle.std.specs.Prelude.{List, Ok};
-ghost use Rattle.pw_tree.specs.Trees.{Expr};
+ghost use Rattle.std.specs.Prelude.{All, List, Ok};
+ghost use Rattle.pw_tree.specs.Trees.{Expr, Module};
+ghost use Rattle.pw_types.specs.Records.{IsLaid};
+ghost use Rattle.pw_types.specs.TypeTrees.{type_of};
 ghost use Rattle.pw_types.specs.TypedTrees.{LocalValue, ModuleValue};
-ghost use Rattle.pw_types.specs.WellTyped.{IsTyped};
+ghost use Rattle.pw_types.specs.WellTyped.{IsKnownType, IsTyped};
 ghost use Rattle.pw_walk.specs.Answers.{Answers};
+ghost use Rattle.pw_rules.specs.Checks.{Checks};
 ghost use Rattle.pw_rules.specs.Operands.{Operand};
 ghost use Rattle.pw_rules.specs.Phrases.{expr_rule};
 ghost use Rattle.pw_rules.specs.States.{State, start};
@@ -22,4 +25,11 @@ pub fn expressions_are_well_typed()
     ensures lawful { (e : Expr) (s t : State) (a : Operand) → IsLawful s → Answers (expr_rule e s) (Ok (a, t)) → IsLawful t }
     ensures typed { (e : Expr) (s t : State) (a : Operand) → IsLawful s → Answers (expr_rule e s) (Ok (a, t))
         → (m : ModuleValue) (locals : List LocalValue) → Denotes t m locals → AreWords a.node → IsTyped m locals a.node }
+{}
+
+/// In a module that checking accepts each structure or union that is defined follows from its members, whose types were
+/// complete before it, and the types of what the module shares name only records that it has.
+pub fn accepted_records_are_laid()
+    ensures laid { (tree : Module) (m : ModuleValue) → Checks tree (Ok m) → IsLaid m.records }
+    ensures known { (tree : Module) (m : ModuleValue) → Checks tree (Ok m) → All (λ d. IsKnownType m.records (type_of d.ty)) m.declared }
 {}
