@@ -4,3 +4,4 @@ pub mod RunningLemmas
 pub mod ObeysLemmas
 pub mod ShowingLemmas
 pub mod AnalysingLemmas
+pub mod OthersLemmas

@@ -4,3 +4,4 @@ pub mod Running
 pub mod Outcome
 pub mod Showing
 pub mod Analysing
+pub mod Others

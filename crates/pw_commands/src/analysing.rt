@@ -1,10 +1,11 @@
 //! The command `analyse`.
 
-ghost use Rattle.std.specs.Prelude.{◌≤◌, ℕ, List, All, IfErr, IfSome};
+ghost use Rattle.std.specs.Prelude.{◌≤◌, ℕ, List, [], ◌∷◌, All, IfErr, IfSome, codes};
 ghost use Rattle.pw_io.specs.Files.{Keeps};
 ghost use Rattle.pw_answer.specs.Outcomes.{StoreCount};
 ghost use Rattle.pw_summary.specs.Summary.{IsSummary};
 ghost use Rattle.pw_commands.specs.Analysing.{AnalyseComes, AnalysesInto, AnalysesOver, summaries_of};
+ghost use Rattle.pw_commands.specs.Others.{KeepsOthers};
 ghost use Rattle.pw_commands.specs.Outcome.{IsStop, IsStoreAnswer, Obeys, StopCount};
 
 use crate::kept::kept_of_modules;
@@ -59,6 +60,7 @@ fn analysed_file<S: Store>(alloc: Global, store: &mut S, colours: u8) -> Result<
 pub fn analyse_modules<S: Store>(alloc: Global, store: &mut S, colours: u8) -> Answer
     requires { colours ≤ 8 }
     ensures obeys { IfSome (S.told store.old) (λ told. (input : List ℕ) → Obeys (AnalyseComes told.files colours input) result told (S.told store.new)) }
+    ensures others { KeepsOthers (codes "prog.db" ∷ []) (S.told store.old) (S.told store.new) }
     ensures answer { IsStoreAnswer result }
     ensures count { StoreCount (S.faults store.old) (S.faults store.new) result }
 {

@@ -1,6 +1,6 @@
 //! The command `link`.
 
-ghost use Rattle.std.specs.Prelude.{◌≤◌, ℕ, List, [], ◌∷◌, IfErr, IfSome};
+ghost use Rattle.std.specs.Prelude.{◌≤◌, ℕ, List, [], ◌∷◌, IfErr, IfSome, codes};
 ghost use Rattle.std.specs.List.{AllByRecursion};
 ghost use Rattle.pw_io.specs.Files.{Keeps};
 ghost use Rattle.pw_value.specs.Limits.{stack_least, stack_most};
@@ -8,6 +8,7 @@ ghost use Rattle.pw_object.specs.Object.{IsObject};
 ghost use Rattle.pw_answer.specs.Effects.{PutsFiles};
 ghost use Rattle.pw_answer.specs.Outcomes.{StoreCount};
 ghost use Rattle.pw_commands.specs.Linking.{LinkComes, LinksInto, LinksOver, objects_of};
+ghost use Rattle.pw_commands.specs.Others.{KeepsOthers};
 ghost use Rattle.pw_commands.specs.Outcome.{IsPutAnswer, IsStop, IsStoreAnswer, Obeys, StopCount};
 
 use crate::kept::kept_of_modules;
@@ -69,6 +70,7 @@ pub fn link_modules<S: Store>(alloc: Global, store: &mut S, stack: u32) -> Answe
     requires least { stack_least ≤ stack }
     requires most { stack ≤ stack_most }
     ensures obeys { IfSome (S.told store.old) (λ told. (input : List ℕ) → Obeys (LinkComes told.files stack input) result told (S.told store.new)) }
+    ensures others { KeepsOthers (codes "prog.img" ∷ []) (S.told store.old) (S.told store.new) }
     ensures answer { IsStoreAnswer result }
     ensures count { StoreCount (S.faults store.old) (S.faults store.new) result }
 {

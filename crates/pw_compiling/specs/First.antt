@@ -34,6 +34,10 @@ pub record AreBytesOf (flow : FlowModule) (bytes sum : List ℕ) : Type 0 where
 abbrev pub two_files : List ℕ → List ℕ → List ℕ → List NamedFile
 two_files name bytes sum = (name ++ codes ".flow", bytes) ∷ (name ++ codes ".sum", sum) ∷ []
 
+-- the names of the files that `phase1 NAME` puts
+abbrev pub phase_one_puts : List ℕ → List (List ℕ)
+phase_one_puts name = (name ++ codes ".flow") ∷ (name ++ codes ".sum") ∷ []
+
 -- a flow graph comes to its two files, which are put; a refusal is told
 abbrev pub ComesOfPhase : List ℕ → Phase → List ℕ → Effect → Type 0
 ComesOfPhase name (Err refusal) input effect = effect ≡ answers_alone (Refused name refusal) input

@@ -39,6 +39,10 @@ pub record IsFileOfFlow (flow : FlowModule) (db : List (List ℕ × Directives))
   pub made : IsObjectUnder flow db object
   pub file : IsObjectFile bytes object
 
+-- the names of the files that `phase2 NAME` puts
+abbrev pub phase_two_puts : List ℕ → List (List ℕ)
+phase_two_puts name = (name ++ codes ".obj") ∷ []
+
 abbrev pub ComesOfFlow : List ℕ → FlowModule → List (List ℕ × Directives) → List ℕ → Effect → Type 0
 ComesOfFlow name flow db input effect = (bytes : List ℕ) × IsFileOfFlow flow db bytes × (effect ≡ puts_files ((name ++ codes ".obj", bytes) ∷ []) input)
 

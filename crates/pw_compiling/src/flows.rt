@@ -9,8 +9,9 @@ ghost use Rattle.pw_modules.specs.Modules.{is_module_name};
 ghost use Rattle.pw_object.specs.Object.{IsObject};
 ghost use Rattle.pw_value.specs.Names.{IsNameLength};
 ghost use Rattle.pw_commands.specs.Needed.{Needs, needed};
+ghost use Rattle.pw_commands.specs.Others.{KeepsOthers};
 ghost use Rattle.pw_commands.specs.Outcome.{IsFileStop, IsStoreAnswer, Obeys, StopCount};
-ghost use Rattle.pw_compiling.specs.Second.{IsFileOfFlow, IsObjectUnder, PhaseTwoComes, database_at, flow_at};
+ghost use Rattle.pw_compiling.specs.Second.{IsFileOfFlow, IsObjectUnder, PhaseTwoComes, database_at, flow_at, phase_two_puts};
 ghost use Rattle.pw_compiling.specs.Made.{MakesObject};
 
 use crate::files::{module_file, put_bytes};
@@ -122,6 +123,7 @@ fn object_bytes<S: Store>(alloc: Global, store: &mut S, name: &Name) -> Result<V
 pub fn compile_flow<S: Store>(alloc: Global, store: &mut S, name: &Name) -> Answer
     requires { is_module_name name.now ≡ true }
     ensures obeys { IfSome (S.told store.old) (λ told. (input : List ℕ) → Obeys (PhaseTwoComes told.files name.now input) result told (S.told store.new)) }
+    ensures others { KeepsOthers (phase_two_puts name.now) (S.told store.old) (S.told store.new) }
     ensures answer { IsStoreAnswer result }
     ensures count { StoreCount (S.faults store.old) (S.faults store.new) result }
 {

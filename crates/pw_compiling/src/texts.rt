@@ -6,8 +6,9 @@ ghost use Rattle.pw_answer.specs.Outcomes.{StoreCount};
 ghost use Rattle.pw_flow.specs.ValidFlow.{IsValid};
 ghost use Rattle.pw_modules.specs.Modules.{is_module_name};
 ghost use Rattle.pw_phase_one.specs.FirstPhase.{compiled};
+ghost use Rattle.pw_commands.specs.Others.{KeepsOthers};
 ghost use Rattle.pw_commands.specs.Outcome.{IsPutAnswer, Obeys};
-ghost use Rattle.pw_compiling.specs.First.{AreBytesOf, ComesOfPhase, IsLine, IsSumOf, PhaseOneComes, line_in, phase_line, two_files};
+ghost use Rattle.pw_compiling.specs.First.{AreBytesOf, ComesOfPhase, IsLine, IsSumOf, PhaseOneComes, line_in, phase_line, phase_one_puts, two_files};
 ghost use Rattle.pw_compiling.specs.Made.{IsPhaseAnswer, MakesOfPhase, TellsError, TellsReply, line_of};
 
 use crate::files::{module_bytes, put_bytes};
@@ -131,6 +132,7 @@ fn put_made<S: Store>(alloc: Global, store: &mut S, name: &Name, made: &MadeFile
 fn compile_bytes<S: Store>(alloc: Global, store: &mut S, name: &Name, text: &[u8]) -> Reply
     requires { is_module_name name.now ≡ true }
     ensures obeys { IfSome (S.told store.old) (λ told. (input : List ℕ) → Obeys (ComesOfPhase name.now (compiled name.now text.now) input) result.answer told (S.told store.new)) }
+    ensures others { KeepsOthers (phase_one_puts name.now) (S.told store.old) (S.told store.new) }
     ensures line { IsLine (line_in text.now (compiled name.now text.now)) result.answer result.line }
     ensures answer { IsPhaseAnswer result.answer }
     ensures count { StoreCount (S.faults store.old) (S.faults store.new) result.answer }
@@ -154,6 +156,7 @@ fn compile_bytes<S: Store>(alloc: Global, store: &mut S, name: &Name, text: &[u8
 pub fn compile_text<S: Store>(alloc: Global, store: &mut S, name: &Name) -> Reply
     requires { is_module_name name.now ≡ true }
     ensures obeys { IfSome (S.told store.old) (λ told. (input : List ℕ) → Obeys (PhaseOneComes told.files name.now input) result.answer told (S.told store.new)) }
+    ensures others { KeepsOthers (phase_one_puts name.now) (S.told store.old) (S.told store.new) }
     ensures line { IfSome (S.told store.old) (λ told. IsLine (phase_line told.files name.now) result.answer result.line) }
     ensures answer { IsPhaseAnswer result.answer }
     ensures count { StoreCount (S.faults store.old) (S.faults store.new) result.answer }

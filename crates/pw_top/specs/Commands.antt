@@ -1,5 +1,5 @@
 -- What each command comes to over a store's files and an input, where nothing fails.
-use Rattle.std.specs.Prelude.{◌≡◌, ℕ, List, Option, Some, None}
+use Rattle.std.specs.Prelude.{◌≡◌, ℕ, List, [], ◌∷◌, codes, Option, Some, None}
 use Rattle.pw_io.specs.Files.{Files}
 use Rattle.pw_answer.specs.declared.answer.Answer.{Answer}
 use Rattle.pw_answer.specs.declared.answer.Answer.TheVariants.{Usage}
@@ -10,8 +10,8 @@ use Rattle.pw_commands.specs.Analysing.{AnalyseComes}
 use Rattle.pw_commands.specs.Linking.{LinkComes}
 use Rattle.pw_commands.specs.Running.{run_effect}
 use Rattle.pw_commands.specs.Showing.{DatabaseComes, ListComes}
-use Rattle.pw_compiling.specs.First.{PhaseOneComes, phase_line}
-use Rattle.pw_compiling.specs.Second.{PhaseTwoComes}
+use Rattle.pw_compiling.specs.First.{PhaseOneComes, phase_line, phase_one_puts}
+use Rattle.pw_compiling.specs.Second.{PhaseTwoComes, phase_two_puts}
 use Rattle.pw_words.specs.declared.commands.Command.{Command}
 use Rattle.pw_words.specs.declared.commands.Command.TheVariants.{Go, PhaseOne, Analyse, PhaseTwo, Link, Run, List as ListImage, Db}
 
@@ -39,6 +39,14 @@ OnlyReads (Some (Analyse colours)) = ⊥
 OnlyReads (Some (PhaseTwo name)) = ⊥
 OnlyReads (Some (Link stack)) = ⊥
 OnlyReads _ = Unit {0}
+
+-- the names of the files that a command puts
+abbrev pub files_put : Option Command → List (List ℕ)
+files_put (Some (PhaseOne name)) = phase_one_puts name
+files_put (Some (Analyse colours)) = codes "prog.db" ∷ []
+files_put (Some (PhaseTwo name)) = phase_two_puts name
+files_put (Some (Link stack)) = codes "prog.img" ∷ []
+files_put _ = []
 
 -- the line on which a module is refused
 abbrev pub line_of : Option Command → Files → ℕ

@@ -8,8 +8,9 @@ ghost use Rattle.pw_go.specs.FullBuild.{full_build};
 ghost use Rattle.pw_go.specs.Going.{AnswersBuild, BuiltAgrees, IsNoUsage, ReturnsSum};
 ghost use Rattle.pw_go.specs.Refusals.{HoldsNoWantOfMemory, NoMainComes, NoMainIs, RefusalComes, RefusalIs};
 ghost use Rattle.pw_modules.specs.Modules.{modules_of};
+ghost use Rattle.pw_commands.specs.Others.{KeepsOthers};
 ghost use Rattle.pw_compiling.specs.First.{IsLine};
-ghost use Rattle.pw_top.specs.Commands.{Comes, IsGo, OnlyReads, line_of};
+ghost use Rattle.pw_top.specs.Commands.{Comes, IsGo, OnlyReads, files_put, line_of};
 ghost use Rattle.pw_top.specs.Does.{Does};
 ghost use Rattle.pw_words.specs.CommandLine.{command_of};
 ghost use Rattle.pw_words.specs.Limits.{IsWithin};
@@ -37,6 +38,7 @@ fn obey<S: Store, I: Source, O: Sink>(
     ensures words { IsNoUsage result.answer }
     ensures refusal { IfSome (S.told store.old) (λ told. IsGo (Some command.now) → AnswersBuild (full_build told.files) result.answer) }
     ensures proper { IsGo (Some command.now) → HoldsNoWantOfMemory result.answer }
+    ensures others { KeepsOthers (files_put (Some command.now)) (S.told store.old) (S.told store.new) }
     ensures reads { OnlyReads (Some command.now) → Keeps (S.told store.old) (S.told store.new) }
     ensures store { StoreCount (S.faults store.old) (S.faults store.new) result.answer }
     ensures read { InputCount (I.faults input.old) (I.faults input.new) result.answer }
@@ -87,6 +89,7 @@ fn obey_words<S: Store, I: Source, O: Sink>(
     ensures usage_comes { command_of (map string_bytes words.now) ≡ None → (result.answer ≡ Answer.Usage) ⊎ (result.answer ≡ Answer.NoMemory) }
     ensures refusal { IfSome (S.told store.old) (λ told. IsGo (command_of (map string_bytes words.now)) → AnswersBuild (full_build told.files) result.answer) }
     ensures proper { IsGo (command_of (map string_bytes words.now)) → HoldsNoWantOfMemory result.answer }
+    ensures others { KeepsOthers (files_put (command_of (map string_bytes words.now))) (S.told store.old) (S.told store.new) }
     ensures reads { OnlyReads (command_of (map string_bytes words.now)) → Keeps (S.told store.old) (S.told store.new) }
     ensures store { StoreCount (S.faults store.old) (S.faults store.new) result.answer }
     ensures read { InputCount (I.faults input.old) (I.faults input.new) result.answer }
@@ -114,7 +117,8 @@ fn obey_words<S: Store, I: Source, O: Sink>(
 /// What is promised of a store that tells its files, an input that tells its rest and an output that tells what it
 /// took: the answer, the files that are put, the output and what is left of the input are those to which the command
 /// comes. Want of memory may come in place of an answer, and so may a fault of the store, the input or the output:
-/// only where that object's count of faults rose, and every other answer leaves the counts as they were.
+/// only where that object's count of faults rose, and every other answer leaves the counts as they were. Whatever the
+/// answer, each file but those that the command puts is as before.
 pub fn pawc_top<S: Store, I: Source, O: Sink, E: Sink>(
     alloc: Global,
     words: &[String],
@@ -144,6 +148,7 @@ pub fn pawc_top<S: Store, I: Source, O: Sink, E: Sink>(
 
     // what stays
     ensures streams_left { LeavesStreams result (I.rest input.old) (I.rest input.new) (O.taken out.old) (O.taken out.new) }
+    ensures keeps_others { KeepsOthers (files_put (command_of (map string_bytes words.now))) (S.told store.old) (S.told store.new) }
     ensures store_after { OnlyReads (command_of (map string_bytes words.now)) → Keeps (S.told store.old) (S.told store.new) }
 
     // faults

@@ -1,4 +1,6 @@
+use Rattle.std.proofs.Common.{[], ◌∷◌, codes}
 use Rattle.pw_commands.proofs.ObeysLemmas.{obeys_linked, obeys_refused}
+use Rattle.pw_commands.proofs.OthersLemmas.{kept_others, put_others}
 use Rattle.pw_commands.proofs.linking.link_modules.Goals as goal
 
 pub returns-in-Ok-clause-obeys : goal.returns-in-Ok-clause-obeys
@@ -10,3 +12,10 @@ pub returns-in-Err-clause-obeys : goal.returns-in-Err-clause-obeys
 returns-in-Err-clause-obeys g c =
     obeys_refused c.objects_have_one_answer.ensures.not_both c.objects_have_one_answer.ensures.one_fault (g.S.Store.told c.args.store.now) _ c.args.stack c.in-Err.answer
     c.in-Err.ensures.image c.linked_file.ensures.same c.in-Err.ensures.stop
+
+pub returns-in-Ok-clause-others : goal.returns-in-Ok-clause-others
+returns-in-Ok-clause-others g c =
+    put_others (g.S.Store.told c.args.store.now) _ _ ((codes "prog.img", c.in-Ok.bytes.items) ∷ []) c.put_file.result c.linked_file.ensures.same (rw c.deref.ensures.value at c.put_file.ensures.put)
+
+pub returns-in-Err-clause-others : goal.returns-in-Err-clause-others
+returns-in-Err-clause-others g c = kept_others (codes "prog.img" ∷ []) (g.S.Store.told c.args.store.now) _ c.linked_file.ensures.same

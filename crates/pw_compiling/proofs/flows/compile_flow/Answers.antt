@@ -1,3 +1,6 @@
+use Rattle.std.proofs.Common.{[], ◌∷◌, ◌++◌, codes}
+use Rattle.pw_compiling.specs.Second.{phase_two_puts}
+use Rattle.pw_commands.proofs.OthersLemmas.{kept_others, put_others}
 use Rattle.pw_compiling.proofs.SecondLemmas.{obeys_made, obeys_stopped, put_is_store, stop_is_store}
 use Rattle.pw_compiling.proofs.flows.compile_flow.Goals as goal
 
@@ -17,3 +20,10 @@ returns-in-Ok-clause-answer g c = put_is_store c.put_bytes.result c.put_bytes.en
 
 pub returns-in-Err-clause-answer : goal.returns-in-Err-clause-answer
 returns-in-Err-clause-answer g c = stop_is_store c.in-Err.answer c.in-Err.ensures.stop
+
+pub returns-in-Ok-clause-others : goal.returns-in-Ok-clause-others
+returns-in-Ok-clause-others g c =
+    put_others (g.S.Store.told c.args.store.now) _ _ ((c.args.name.now ++ codes ".obj", c.in-Ok.bytes.items) ∷ []) c.put_bytes.result c.object_bytes.ensures.same (rw c.deref.ensures.value at c.put_bytes.ensures.put)
+
+pub returns-in-Err-clause-others : goal.returns-in-Err-clause-others
+returns-in-Err-clause-others g c = kept_others (phase_two_puts c.args.name.now) (g.S.Store.told c.args.store.now) _ c.object_bytes.ensures.same

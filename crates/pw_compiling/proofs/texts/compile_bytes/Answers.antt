@@ -1,5 +1,7 @@
 use Rattle.pw_phase_one.specs.FirstPhase.{compiled}
 use Rattle.pw_compiling.specs.First.{line_in}
+use Rattle.pw_compiling.specs.First.{phase_one_puts, two_files}
+use Rattle.pw_commands.proofs.OthersLemmas.{just_others, others_alone}
 use Rattle.pw_compiling.proofs.FirstLemmas.{obeys_made, obeys_replied, put_is_phase, put_line, replies, reply_due, reply_kind, text_stop_count, text_stop_is}
 use Rattle.pw_compiling.proofs.texts.compile_bytes.Goals as goal
 
@@ -42,3 +44,10 @@ returns-in-Err-clause-count g c =
     let text = c.args.text.now in
     text_stop_count (g.S.Store.faults c.args.store.now) c.reply_of.result.answer
     (reply_kind name text (compiled name text) c.reply_of.result.answer c.reply_of.result.line (replies name text (compiled name text) c.in-Err.answer c.reply_of.result.answer c.reply_of.result.line c.in-Err.ensures c.reply_of.ensures))
+
+pub returns-in-Ok-clause-others : goal.returns-in-Ok-clause-others
+returns-in-Ok-clause-others g c =
+    just_others (g.S.Store.told c.args.store.now) _ (two_files c.args.name.now c.in-Ok.made.flow.items c.in-Ok.made.sum.items) c.put_made.result c.put_made.ensures.put
+
+pub returns-in-Err-clause-others : goal.returns-in-Err-clause-others
+returns-in-Err-clause-others g c = others_alone (phase_one_puts c.args.name.now) (g.S.Store.told c.args.store.now)

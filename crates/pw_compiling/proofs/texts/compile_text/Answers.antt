@@ -1,3 +1,5 @@
+use Rattle.pw_compiling.specs.First.{phase_one_puts}
+use Rattle.pw_commands.proofs.OthersLemmas.{kept_others, then_others}
 use Rattle.pw_compiling.proofs.FirstLemmas.{file_stop_is, file_stop_line, obeys_stopped, obeys_text, text_line}
 use Rattle.pw_compiling.proofs.texts.compile_text.Goals as goal
 
@@ -20,3 +22,9 @@ returns-in-Err-clause-line g c = file_stop_line (g.S.Store.told c.args.store.now
 
 pub returns-in-Err-clause-answer : goal.returns-in-Err-clause-answer
 returns-in-Err-clause-answer g c = file_stop_is c.in-Err.answer c.in-Err.ensures.stop
+
+pub returns-in-Ok-clause-others : goal.returns-in-Ok-clause-others
+returns-in-Ok-clause-others g c = then_others (phase_one_puts c.args.name.now) (g.S.Store.told c.args.store.now) _ _ c.module_bytes.ensures.same c.compile_bytes.ensures.others
+
+pub returns-in-Err-clause-others : goal.returns-in-Err-clause-others
+returns-in-Err-clause-others g c = kept_others (phase_one_puts c.args.name.now) (g.S.Store.told c.args.store.now) _ c.module_bytes.ensures.same

@@ -1,3 +1,5 @@
+use Rattle.std.proofs.Common.{[]}
+use Rattle.pw_commands.proofs.OthersLemmas.{kept_others}
 use Rattle.pw_top.proofs.CommandLemmas.{analyse_does, db_does, go_does, go_line, left_alone, link_does, list_does, of_go, of_other, phase_no_usage, phase_one_does, phase_reads, phase_two_does, phase_writes, plain_line, run_does, run_no_usage, show_no_usage, show_reads, store_no_usage, store_reads, store_writes}
 use Rattle.pw_top.proofs.top.obey.Goals as goal
 
@@ -200,3 +202,27 @@ returns-in-Db-clause-streams g c = c.show_database.ensures.streams (g.I.Source.r
 
 pub returns-in-Db-clause-line : goal.returns-in-Db-clause-line
 returns-in-Db-clause-line g c = rw c.in-Db.is (plain_line (g.S.Store.told c.args.store.now) _)
+
+pub returns-in-Go-clause-others : goal.returns-in-Go-clause-others
+returns-in-Go-clause-others g c = rw c.in-Go.is (kept_others [] (g.S.Store.told c.args.store.now) _ c.go.ensures.files)
+
+pub returns-in-PhaseOne-clause-others : goal.returns-in-PhaseOne-clause-others
+returns-in-PhaseOne-clause-others g c = rw c.in-PhaseOne.is c.compile_text.ensures.others
+
+pub returns-in-Analyse-clause-others : goal.returns-in-Analyse-clause-others
+returns-in-Analyse-clause-others g c = rw c.in-Analyse.is c.analyse_modules.ensures.others
+
+pub returns-in-PhaseTwo-clause-others : goal.returns-in-PhaseTwo-clause-others
+returns-in-PhaseTwo-clause-others g c = rw c.in-PhaseTwo.is c.compile_flow.ensures.others
+
+pub returns-in-Link-clause-others : goal.returns-in-Link-clause-others
+returns-in-Link-clause-others g c = rw c.in-Link.is c.link_modules.ensures.others
+
+pub returns-in-Run-clause-others : goal.returns-in-Run-clause-others
+returns-in-Run-clause-others g c = rw c.in-Run.is (kept_others [] (g.S.Store.told c.args.store.now) _ c.run_image.ensures.same)
+
+pub returns-in-List-clause-others : goal.returns-in-List-clause-others
+returns-in-List-clause-others g c = rw c.in-List.is (kept_others [] (g.S.Store.told c.args.store.now) _ c.list_image.ensures.same)
+
+pub returns-in-Db-clause-others : goal.returns-in-Db-clause-others
+returns-in-Db-clause-others g c = rw c.in-Db.is (kept_others [] (g.S.Store.told c.args.store.now) _ c.show_database.ensures.same)

@@ -1,5 +1,6 @@
 use Rattle.std.proofs.Common.{map, inr, refl}
 use Rattle.std.specs.Prelude.{string_bytes}
+use Rattle.pw_commands.proofs.OthersLemmas.{others_alone}
 use Rattle.pw_words.specs.CommandLine.{command_of}
 use Rattle.pw_top.specs.Commands.{Comes}
 use Rattle.pw_top.proofs.DoesLemmas.{memory_does, usage_does}
@@ -66,3 +67,12 @@ returns-in-Err-NoMemory-clause-reads g c = λ h. kept_alone (g.S.Store.told c.ar
 
 pub returns-in-Err-NoMemory-clause-line : goal.returns-in-Err-NoMemory-clause-line
 returns-in-Err-NoMemory-clause-line g c = no_line (g.S.Store.told c.args.store.now)
+
+pub returns-in-Ok-clause-others : goal.returns-in-Ok-clause-others
+returns-in-Ok-clause-others g c = rw c.in-Ok.ensures c.obey.ensures.others
+
+pub returns-in-Err-Usage-clause-others : goal.returns-in-Err-Usage-clause-others
+returns-in-Err-Usage-clause-others g c = others_alone _ (g.S.Store.told c.args.store.now)
+
+pub returns-in-Err-NoMemory-clause-others : goal.returns-in-Err-NoMemory-clause-others
+returns-in-Err-NoMemory-clause-others g c = others_alone _ (g.S.Store.told c.args.store.now)
