@@ -80,6 +80,7 @@ record_added s kind l = record {
   tags = λ i t h. tag_later s.types.records (s.types.records ++ declared kind ∷ []) (more_records kind s.types.records) t.1.tag (l.tags i t h);
   linked = λ i x h. lawful_later s.types.records (s.types.records ++ declared kind ∷ []) (more_records kind s.types.records) (type_of x.ty) (l.linked i x h);
   laid = laid_more kind s.types.records l.laid;
+  apart = l.apart;
   depths = l.depths;
 }
 
@@ -112,6 +113,7 @@ entered s name entity l h = record {
   tags = l.tags;
   linked = l.linked;
   laid = l.laid;
+  apart = l.apart;
   depths = λ i e g. by_entry i e (get_either s.scopes.ordinary ((name, record { place = length s.scopes.entities; depth = s.scopes.depth }) ∷ []) i e g);
 }
   where
@@ -152,6 +154,7 @@ tagged s name tag l h = record {
   tags = λ i t g. by_place i t (get_either s.scopes.tags ((name, record { tag = tag; depth = s.scopes.depth }) ∷ []) i t g);
   linked = l.linked;
   laid = l.laid;
+  apart = l.apart;
   depths = l.depths;
 }
   where
@@ -181,7 +184,7 @@ tagged_grows s name tag = record {
 -- ---- hidden objects
 
 pub hidden_added : (s : State) (h : HiddenObject) → IsLawful s → IsLawful (add_hidden h s)
-hidden_added s h l = record { contents = l.contents; begun = l.begun; counted = l.counted; entities = l.entities; tags = l.tags; linked = l.linked; laid = l.laid; depths = l.depths }
+hidden_added s h l = record { contents = l.contents; begun = l.begun; counted = l.counted; entities = l.entities; tags = l.tags; linked = l.linked; laid = l.laid; apart = l.apart; depths = l.depths }
 
 pub hidden_grows : (s : State) (h : HiddenObject) → Grows s (add_hidden h s)
 hidden_grows s h = record {
@@ -232,6 +235,7 @@ opening_lawful s kind n l c = record {
   tags = l.tags;
   linked = l.linked;
   laid = l.laid;
+  apart = l.apart;
   depths = l.depths;
 }
 
@@ -324,6 +328,7 @@ defined_lawful s t kind n c l o members follows = record {
   tags = λ i x h. tag_later t.types.records (put_at n (defined kind c) t.types.records) (define_extends kind c n t.types.records o.unknown) x.1.tag (l.tags i x h);
   linked = λ i x h. lawful_later t.types.records (put_at n (defined kind c) t.types.records) (define_extends kind c n t.types.records o.unknown) (type_of x.ty) (l.linked i x h);
   laid = laid_define kind c n t.types.records o.there o.unknown o.kind_is follows l.laid;
+  apart = l.apart;
   depths = l.depths;
 }
   where
@@ -364,11 +369,11 @@ abbrev pub in_sizeof : State → State
 in_sizeof s = with_made (λ m. record m { counting = false }) s
 
 pub sizeof_lawful : (s : State) → IsLawful s → IsLawful (in_sizeof s)
-sizeof_lawful s l = record { contents = l.contents; begun = l.begun; counted = l.counted; entities = l.entities; tags = l.tags; linked = l.linked; laid = l.laid; depths = l.depths }
+sizeof_lawful s l = record { contents = l.contents; begun = l.begun; counted = l.counted; entities = l.entities; tags = l.tags; linked = l.linked; laid = l.laid; apart = l.apart; depths = l.depths }
 
 restored : (s t : State) → IsLawful t → Grows (in_sizeof s) t → IsLawful (with_made (λ m. record m { counting = s.made.counting }) t) × Grows s (with_made (λ m. record m { counting = s.made.counting }) t)
 restored s t l g = (
-  record { contents = l.contents; begun = l.begun; counted = l.counted; entities = l.entities; tags = l.tags; linked = l.linked; laid = l.laid; depths = l.depths },
+  record { contents = l.contents; begun = l.begun; counted = l.counted; entities = l.entities; tags = l.tags; linked = l.linked; laid = l.laid; apart = l.apart; depths = l.depths },
   record {
     extends = g.extends;
     begun = g.begun;
@@ -402,6 +407,7 @@ deeper_lawful s l = record {
   tags = l.tags;
   linked = l.linked;
   laid = l.laid;
+  apart = l.apart;
   depths = λ i e h. let k : e.1.depth ≤ s.scopes.depth = l.depths i e h in omega (arith, k);
 }
 
@@ -439,6 +445,7 @@ left_lawful_alone t l = record {
   tags = λ i x h. let k = get_filter (λ (e : List ℕ × TagEntry). nat_lt e.1.depth t.scopes.depth) t.scopes.tags i x h in l.tags k.0 x k.1;
   linked = l.linked;
   laid = l.laid;
+  apart = l.apart;
   depths = λ i e h.
       let k = get_filter (λ (x : List ℕ × Entry). nat_lt x.1.depth t.scopes.depth) t.scopes.ordinary i e h in
       let m : e.1.depth < t.scopes.depth = ltb-true e.1.depth t.scopes.depth k.2 in

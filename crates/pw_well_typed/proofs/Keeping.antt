@@ -1,7 +1,9 @@
 -- Rules of declarations and statements: they leave a lawful state, in which no less is known of records.
 use Rattle.std.specs.Prelude.{ℕ, ◌≡◌, ◌⊎◌, Bool, true, false, Option, None, Some, unwrap_or, option_and_then, List, [], ◌∷◌, slice_get, if◌then◌else◌, refl}
 use Rattle.std.specs.Option.{option_map_or}
-use Rattle.std.proofs.Common.{sym, subst, ◌∙◌, inl, inr}
+use Rattle.std.proofs.lemmas.Slice.Eq.{bytes_eq-Decides}
+use Rattle.std.specs.Str.{bytes_eq}
+use Rattle.std.proofs.Common.{sym, subst, ◌∙◌, inl, inr, ap, length}
 use Rattle.pw_types.specs.TypeTrees.{QType, Qualified, type_of, RecordValue}
 use Rattle.pw_types.specs.TypedTrees.{PlacedItem}
 use Rattle.pw_walk.specs.Causes.{Constraint, Point}
@@ -13,20 +15,55 @@ use Rattle.pw_rules.specs.declared.names.Entry.{Entry}
 use Rattle.pw_rules.specs.declared.names.Slot.TheVariants as slot
 use Rattle.pw_well_typed.specs.Lawful.{IsLawful, IsLawfulType, IsLawfulEntity, Extends}
 use Rattle.pw_well_typed.proofs.Walking.{Post, AreMet, post_bind, post_weaken}
-use Rattle.pw_well_typed.proofs.Lists.{some_same, never_some, get_either, get_one, put_either}
+use Rattle.pw_well_typed.proofs.Lists.{some_same, never_some, put_either, put_cases, get_more, found_first, get_append}
 use Rattle.pw_well_typed.proofs.States.{Runs, Grows}
 use Rattle.pw_well_typed.proofs.Types.{no, extends_trans, extends_same, lawful_composite}
 use Rattle.pw_well_typed.proofs.Changes.{entered, left_lawful_alone}
 
--- no less is known of records
+-- what is said of a name with linkage stays so, though its type may become more
+pub record Continues (before after : LinkedName) : Type 0 where
+  pub name : after.name ≡ before.name
+  pub internal : after.internal ≡ before.internal
+  pub tentative : before.tentative ≡ true → after.tentative ≡ true
+  pub defined : before.defined ≡ true → after.defined ≡ true
+
+abbrev pub StaysAt : State → ℕ → LinkedName → Type 0
+StaysAt t place before = (after : LinkedName) × (slice_get t.types.linked place ≡ Some after) × Continues before after
+
+-- no less is known of records and of names
 pub record After (s t : State) : Type 0 where
   pub extends : Extends s.types.records t.types.records
+  pub names : (place : ℕ) (x : LinkedName) → slice_get s.types.linked place ≡ Some x → StaysAt t place x
+
+pub continues_same : (x : LinkedName) → Continues x x
+continues_same x = record { name = refl; internal = refl; tentative = λ e. e; defined = λ e. e }
+
+continues_trans : {x y z : LinkedName} → Continues x y → Continues y z → Continues x z
+continues_trans {x} {y} {z} a b = record {
+  name = b.name ∙ a.name;
+  internal = b.internal ∙ a.internal;
+  tentative = λ e. b.tentative (a.tentative e);
+  defined = λ e. b.defined (a.defined e);
+}
+
+-- the names are the same
+pub after_linked : (s t : State) → Extends s.types.records t.types.records → t.types.linked ≡ s.types.linked → After s t
+after_linked s t x same = record {
+  extends = x;
+  names = λ place y e. (y, ap (λ xs. slice_get xs place) same ∙ e, continues_same y);
+}
 
 pub after_same : (s : State) → After s s
-after_same s = record { extends = extends_same s.types.records }
+after_same s = after_linked s s (extends_same s.types.records) refl
 
 pub after_trans : {s t u : State} → After s t → After t u → After s u
-after_trans {s} {t} {u} a b = record { extends = extends_trans a.extends b.extends }
+after_trans {s} {t} {u} a b = record {
+  extends = extends_trans a.extends b.extends;
+  names = λ place x e.
+      let y = a.names place x e in
+      let z = b.names place y.0 y.1 in
+      (z.0, z.1, continues_trans y.2 z.2);
+}
 
 abbrev pub Kept : State → State → Type 0
 Kept s t = IsLawful t × After s t
@@ -46,7 +83,7 @@ goes_by {A} {B} {s} w next Good Best h k =
     (k r g.0 g.1 g.2) (λ u f. (f.0, after_trans g.1 f.1, f.2)))
 
 pub of_runs : {A : Type 0} (s : State) (w : Walk (A × State)) (Good : State → A → Type 0) → Runs s w Good → Goes s w Good
-of_runs {A} s w Good h = post_weaken w (λ r. IsLawful r.1 × Grows s r.1 × Good r.1 r.0) (λ r. IsLawful r.1 × After s r.1 × Good r.1 r.0) h (λ r g. (g.0, record { extends = g.1.extends }, g.2))
+of_runs {A} s w Good h = post_weaken w (λ r. IsLawful r.1 × Grows s r.1 × Good r.1 r.0) (λ r. IsLawful r.1 × After s r.1 × Good r.1 r.0) h (λ r g. (g.0, after_linked s r.1 g.1.extends g.1.linked, g.2))
 
 pub weaker : {A : Type 0} (s : State) (w : Walk (A × State)) (Good Best : State → A → Type 0) → Goes s w Good → ((t : State) (a : A) → Good t a → Best t a) → Goes s w Best
 weaker {A} s w Good Best h k =
@@ -69,51 +106,82 @@ granted_goes s constraint token p (Some a) l = λ met. (l, after_same s, tt)
 
 pub around : (s : State) (made : MadeState) (body : BodyState) → IsLawful s → Kept s (record { types = s.types; scopes = s.scopes; made = made; body = body })
 around s made body l = (
-  record { contents = l.contents; begun = l.begun; counted = l.counted; entities = l.entities; tags = l.tags; linked = l.linked; laid = l.laid; depths = l.depths },
-  record { extends = extends_same s.types.records },
+  record { contents = l.contents; begun = l.begun; counted = l.counted; entities = l.entities; tags = l.tags; linked = l.linked; laid = l.laid; apart = l.apart; depths = l.depths },
+  after_linked s (record { types = s.types; scopes = s.scopes; made = made; body = body }) (extends_same s.types.records) refl,
 )
 
 -- ---- names with linkage
 
-pub linked_put : (s : State) (place : ℕ) (x : LinkedName) → IsLawful s → IsLawfulType s.types.records (type_of x.ty) → Kept s (put_linked place x s)
-linked_put s place x l h = (
+pub linked_put : (s : State) (place : ℕ) (x : LinkedName) → IsLawful s → IsLawfulType s.types.records (type_of x.ty)
+    → ((y : LinkedName) → slice_get s.types.linked place ≡ Some y → Continues y x) → Kept s (put_linked place x s)
+linked_put s place x l h from = (
   record {
     contents = l.contents;
     begun = l.begun;
     counted = l.counted;
     entities = l.entities;
     tags = l.tags;
-    linked = λ i y e. by i y e (put_either place x s.types.linked i);
+    linked = λ i y e. by i y (put_cases place x s.types.linked i y e);
     laid = l.laid;
+    apart = λ i j y z e f same.
+        let a = original i y (put_cases place x s.types.linked i y e) in
+        let b = original j z (put_cases place x s.types.linked j z f) in
+        l.apart i j a.0 b.0 a.1 b.1 (sym a.2 ∙ (same ∙ b.2));
     depths = l.depths;
   },
-  record { extends = extends_same s.types.records },
+  record {
+    extends = extends_same s.types.records;
+    names = λ i y e. stays i y e (put_either place x s.types.linked i);
+  },
 )
   where
-    by : (i : ℕ) (y : LinkedName) → slice_get (put_at place x s.types.linked) i ≡ Some y
-        → ((i ≡ place) × (slice_get (put_at place x s.types.linked) i ≡ Some x)) ⊎ (slice_get (put_at place x s.types.linked) i ≡ slice_get s.types.linked i)
+    by : (i : ℕ) (y : LinkedName) → ((i ≡ place) × (x ≡ y) × ((z : LinkedName) × (slice_get s.types.linked place ≡ Some z))) ⊎ (slice_get s.types.linked i ≡ Some y)
         → IsLawfulType s.types.records (type_of y.ty)
-    by i y e (inl g) = subst (λ (z : LinkedName). IsLawfulType s.types.records (type_of z.ty)) (some_same (sym g.1 ∙ e)) h
-    by i y e (inr g) = l.linked i y (sym g ∙ e)
+    by i y (inl g) = subst (λ (z : LinkedName). IsLawfulType s.types.records (type_of z.ty)) g.1 h
+    by i y (inr g) = l.linked i y g
 
-pub linked_added : (s : State) (x : LinkedName) → IsLawful s → IsLawfulType s.types.records (type_of x.ty) → Kept s (add_linked x s)
-linked_added s x l h = (
+    original : (i : ℕ) (y : LinkedName) → ((i ≡ place) × (x ≡ y) × ((z : LinkedName) × (slice_get s.types.linked place ≡ Some z))) ⊎ (slice_get s.types.linked i ≡ Some y)
+        → (z : LinkedName) × (slice_get s.types.linked i ≡ Some z) × (y.name ≡ z.name)
+    original i y (inl g) =
+        (g.2.0, subst (λ k. slice_get s.types.linked k ≡ Some g.2.0) (sym g.0) g.2.1, ap (λ (z : LinkedName). z.name) (sym g.1) ∙ (from g.2.0 g.2.1).name)
+    original i y (inr g) = (y, g, refl)
+
+    stays : (i : ℕ) (y : LinkedName) → slice_get s.types.linked i ≡ Some y
+        → ((i ≡ place) × (slice_get (put_at place x s.types.linked) i ≡ Some x)) ⊎ (slice_get (put_at place x s.types.linked) i ≡ slice_get s.types.linked i)
+        → StaysAt (put_linked place x s) i y
+    stays i y e (inl g) = (x, g.1, from y (subst (λ k. slice_get s.types.linked k ≡ Some y) g.0 e))
+    stays i y e (inr g) = (y, g ∙ e, continues_same y)
+
+pub linked_added : (s : State) (x : LinkedName) → IsLawful s → IsLawfulType s.types.records (type_of x.ty)
+    → ((i : ℕ) (y : LinkedName) → slice_get s.types.linked i ≡ Some y → y.name ≡ x.name → ⊥) → Kept s (add_linked x s)
+linked_added s x l h fresh = (
   record {
     contents = l.contents;
     begun = l.begun;
     counted = l.counted;
     entities = l.entities;
     tags = l.tags;
-    linked = λ i y e. by i y (get_either s.types.linked (x ∷ []) i y e);
+    linked = λ i y e. by i y (get_more s.types.linked x i y e);
     laid = l.laid;
+    apart = λ i j y z e f same. two i j y z (get_more s.types.linked x i y e) (get_more s.types.linked x j z f) same;
     depths = l.depths;
   },
-  record { extends = extends_same s.types.records },
+  record {
+    extends = extends_same s.types.records;
+    names = λ i y e. (y, get_append s.types.linked (x ∷ []) i y e, continues_same y);
+  },
 )
   where
-    by : (i : ℕ) (y : LinkedName) → (slice_get s.types.linked i ≡ Some y) ⊎ ((j : ℕ) × (slice_get (x ∷ []) j ≡ Some y)) → IsLawfulType s.types.records (type_of y.ty)
+    by : (i : ℕ) (y : LinkedName) → (slice_get s.types.linked i ≡ Some y) ⊎ ((i ≡ length s.types.linked) × (x ≡ y)) → IsLawfulType s.types.records (type_of y.ty)
     by i y (inl g) = l.linked i y g
-    by i y (inr g) = subst (λ (z : LinkedName). IsLawfulType s.types.records (type_of z.ty)) (get_one x g.0 y g.1) h
+    by i y (inr g) = subst (λ (z : LinkedName). IsLawfulType s.types.records (type_of z.ty)) g.1 h
+
+    two : (i j : ℕ) (y z : LinkedName) → (slice_get s.types.linked i ≡ Some y) ⊎ ((i ≡ length s.types.linked) × (x ≡ y))
+        → (slice_get s.types.linked j ≡ Some z) ⊎ ((j ≡ length s.types.linked) × (x ≡ z)) → y.name ≡ z.name → i ≡ j
+    two i j y z (inl g) (inl k) same = l.apart i j y z g k same
+    two i j y z (inl g) (inr k) same = absurd (fresh i y g (same ∙ ap (λ (w : LinkedName). w.name) (sym k.1)))
+    two i j y z (inr g) (inl k) same = absurd (fresh j z k (sym same ∙ ap (λ (w : LinkedName). w.name) (sym g.1)))
+    two i j y z (inr g) (inr k) same = g.0 ∙ sym k.0
 
 pub entity_put : (s : State) (place : ℕ) (x : Entity) → IsLawful s → IsLawfulEntity s.types.records x → Kept s (put_entity place x s)
 entity_put s place x l h = (
@@ -125,9 +193,10 @@ entity_put s place x l h = (
     tags = l.tags;
     linked = l.linked;
     laid = l.laid;
+    apart = l.apart;
     depths = l.depths;
   },
-  record { extends = extends_same s.types.records },
+  after_linked s (put_entity place x s) (extends_same s.types.records) refl,
 )
   where
     by : (i : ℕ) (y : Entity) → slice_get (put_at place x s.scopes.entities) i ≡ Some y
@@ -137,7 +206,7 @@ entity_put s place x l h = (
     by i y e (inr g) = l.entities i y (sym g ∙ e)
 
 pub entered_kept : (s : State) (name : List ℕ) (x : Entity) → IsLawful s → IsLawfulEntity s.types.records x → Kept s (enter name x s)
-entered_kept s name x l h = (entered s name x l h, record { extends = extends_same s.types.records })
+entered_kept s name x l h = (entered s name x l h, after_linked s (enter name x s) (extends_same s.types.records) refl)
 
 pub composite_lawful : (r : List RecordValue) (a b : QType) → IsLawfulType r (type_of a) → IsLawfulType r (type_of b) → IsLawfulType r (type_of (composite a b))
 unfolding composite
@@ -150,14 +219,29 @@ and_then_is f (Some x) y e = (x, e)
 linked_is : (s : State) (name : List ℕ) (x : LinkedName) → IsLawful s → linked_before s name ≡ Some x → IsLawfulType s.types.records (type_of x.ty)
 linked_is s name x l e = let p = and_then_is (linked_at s) (place_of_linked s name) x e in l.linked p.0 x p.1
 
+-- a name that has no place is that of none
+none_named : (s : State) (name : List ℕ) → linked_before s name ≡ None → (i : ℕ) (y : LinkedName) → slice_get s.types.linked i ≡ Some y → y.name ≡ name → ⊥
+none_named s name none i y e same =
+    found_first (λ (l : LinkedName). bytes_eq l.name name) s.types.linked i y e ((bytes_eq-Decides y.name name).1 same) none
+
+-- the place of a name that has one
+place_is : (s : State) (name : List ℕ) (x : LinkedName) → linked_before s name ≡ Some x → slice_get s.types.linked (place_for s name) ≡ Some x
+place_is s name x e = by (place_of_linked s name) e
+  where
+    by : (o : Option ℕ) → option_and_then (linked_at s) o ≡ Some x → slice_get s.types.linked (unwrap_or o (length s.types.linked)) ≡ Some x
+    by None f = never_some f
+    by (Some n) f = f
+
 pub noted : (s : State) (name : List ℕ) (internal : Bool) (ty : QType) (token : ℕ) (tag : Option ℕ) → IsLawful s → IsLawfulType s.types.records (type_of ty)
     → Kept s (note_linked name internal ty token tag s)
 noted s name internal ty token tag l h = by (linked_before s name) refl
   where
     by : (o : Option LinkedName) → linked_before s name ≡ o
         → Kept s (option_map_or (λ x. put_linked (place_for s name) (linked_again ty x) s) o (add_linked (linked_anew name internal ty token tag) s))
-    by None e = linked_added s (linked_anew name internal ty token tag) l h
-    by (Some x) e = linked_put s (place_for s name) (linked_again ty x) l (composite_lawful s.types.records x.ty ty (linked_is s name x l e) h)
+    by None e = linked_added s (linked_anew name internal ty token tag) l h (none_named s name e)
+    by (Some x) e =
+        linked_put s (place_for s name) (linked_again ty x) l (composite_lawful s.types.records x.ty ty (linked_is s name x l e) h)
+        (λ y f. subst (λ (z : LinkedName). Continues z (linked_again ty x)) (some_same (sym (place_is s name x e) ∙ f)) (record { name = refl; internal = refl; tentative = λ q. q; defined = λ q. q }))
 
 here_is : (s : State) (name : List ℕ) (x : Entity) → IsLawful s → entity_here s name ≡ Some x → IsLawfulEntity s.types.records x
 here_is s name x l e = let p = and_then_is (entity_at s) (entry_here s name) x e in l.entities p.0.place x p.1
@@ -195,12 +279,13 @@ declared_goes s name token tag asking q l h =
     (b.0, after_trans a.1 b.1, tt)
 
 pub linked_changed : (s : State) (place : ℕ) (f : LinkedName → LinkedName) → IsLawful s
-    → ((x : LinkedName) → IsLawfulType s.types.records (type_of x.ty) → IsLawfulType s.types.records (type_of (f x).ty)) → Kept s (change_linked place f s)
-linked_changed s place f l h = by (linked_at s place) refl
+    → ((x : LinkedName) → IsLawfulType s.types.records (type_of x.ty) → IsLawfulType s.types.records (type_of (f x).ty))
+    → ((x : LinkedName) → Continues x (f x)) → Kept s (change_linked place f s)
+linked_changed s place f l h from = by (linked_at s place) refl
   where
     by : (o : Option LinkedName) → linked_at s place ≡ o → Kept s (option_map_or (λ x. put_linked place (f x) s) o s)
     by None e = (l, after_same s)
-    by (Some x) e = linked_put s place (f x) l (h x (l.linked place x e))
+    by (Some x) e = linked_put s place (f x) l (h x (l.linked place x e)) (λ y g. subst (λ (z : LinkedName). Continues z (f x)) (some_same (sym e ∙ g)) (from x))
 
 pub slot_kept : (s : State) (place : ℕ) → IsLawful s → Kept s (slot_for place s)
 slot_kept s place l = by (has_slot s place)
@@ -212,19 +297,19 @@ slot_kept s place l = by (has_slot s place)
 pub tentative_kept : (s : State) (place : ℕ) → IsLawful s → Kept s (define_tentatively place s)
 tentative_kept s place l =
     let a : Kept s (slot_for place s) = slot_kept s place l in
-    kept_trans {s = s} {t = slot_for place s} {u = define_tentatively place s} a (linked_changed (slot_for place s) place (λ x. record x { tentative = true }) a.0 (λ x h. h))
+    kept_trans {s = s} {t = slot_for place s} {u = define_tentatively place s} a (linked_changed (slot_for place s) place (λ x. record x { tentative = true }) a.0 (λ x h. h) (λ x. record { name = refl; internal = refl; tentative = λ q. refl; defined = λ q. q }))
 
 pub defined_kept : (s : State) (place : ℕ) → IsLawful s → Kept s (define_object place s)
 defined_kept s place l =
     let a : Kept s (slot_for place s) = slot_kept s place l in
-    kept_trans {s = s} {t = slot_for place s} {u = define_object place s} a (linked_changed (slot_for place s) place (λ x. record x { defined = true }) a.0 (λ x h. h))
+    kept_trans {s = s} {t = slot_for place s} {u = define_object place s} a (linked_changed (slot_for place s) place (λ x. record x { defined = true }) a.0 (λ x h. h) (λ x. record { name = refl; internal = refl; tentative = λ q. q; defined = λ q. refl }))
 
 pub function_kept : (s : State) (place : ℕ) → IsLawful s → Kept s (define_function place s)
-function_kept s place l = linked_changed s place (λ x. record x { defined = true }) l (λ x h. h)
+function_kept s place l = linked_changed s place (λ x. record x { defined = true }) l (λ x h. h) (λ x. record { name = refl; internal = refl; tentative = λ q. q; defined = λ q. refl })
 
 pub initialised_kept : (s : State) (place : ℕ) (q : QType) (items : List PlacedItem) → IsLawful s → IsLawfulType s.types.records (type_of q) → Kept s (initialise_linked place q items s)
 initialised_kept s place q items l k =
-    linked_changed s place (λ x. record x { ty = composite x.ty q; items = items }) l (λ x h. composite_lawful s.types.records x.ty q h k)
+    linked_changed s place (λ x. record x { ty = composite x.ty q; items = items }) l (λ x h. composite_lawful s.types.records x.ty q h k) (λ x. record { name = refl; internal = refl; tentative = λ q. q; defined = λ q. q })
 
 -- ---- scopes
 
@@ -232,7 +317,7 @@ pub scoped_goes : {A : Type 0} (s : State) (inside : Rule A) → IsLawful s → 
 unfolding scoped bind
 scoped_goes {A} s inside l h =
     post_bind (inside (one_deeper s)) _ (λ r. IsLawful r.1 × After (one_deeper s) r.1 × Unit {0}) (λ r. IsLawful r.1 × After s r.1 × Unit {0}) h
-    (λ r g. (left_lawful_alone r.1 g.0, record { extends = g.1.extends }, tt))
+    (λ r g. (left_lawful_alone r.1 g.0, record { extends = g.1.extends; names = g.1.names }, tt))
 
 -- ---- steps that are no rules of their own
 

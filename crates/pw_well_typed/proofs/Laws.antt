@@ -1,5 +1,5 @@
 -- The laws, from what holds of all that the walks make.
-use Rattle.std.specs.Prelude.{All, List, Ok, refl}
+use Rattle.std.specs.Prelude.{All, List, Ok, refl, AllPairs, ◌≢◌}
 use Rattle.pw_tree.specs.Trees.{Expr, Module}
 use Rattle.pw_types.specs.Records.{IsLaid}
 use Rattle.pw_types.specs.TypeTrees.{type_of}
@@ -26,6 +26,7 @@ start_lawful = record {
   tags = λ i t h. never_some h;
   linked = λ i l h. never_some h;
   laid = λ n c e. never_some e;
+  apart = λ i j x y e f g. never_some e;
   depths = λ i e h. never_some h;
 }
 
@@ -48,3 +49,6 @@ module_laid tree m h = (accepted tree m h).laid
 
 pub module_known : (tree : Module) (m : ModuleValue) → Checks tree (Ok m) → All (λ d. IsKnownType m.records (type_of d.ty)) m.declared
 module_known tree m h = (accepted tree m h).known
+
+pub module_apart : (tree : Module) (m : ModuleValue) → Checks tree (Ok m) → AllPairs (λ d e. d.name ≢ e.name) m.declared
+module_apart tree m h = (accepted tree m h).one_declared

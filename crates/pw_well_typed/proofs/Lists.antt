@@ -1,8 +1,10 @@
 -- Places of lists: of one that grew, of one that was filtered, of one in which one place was put anew.
-use Rattle.std.specs.Prelude.{ℕ, zero, suc, ◌≡◌, ◌<◌, ◌⊎◌, Bool, true, false, Option, None, Some, List, [], ◌∷◌, ◌++◌, length, map, filter, slice_get, if◌then◌else◌, cond, refl}
+use Rattle.std.specs.Prelude.{ℕ, zero, suc, ◌≡◌, ◌<◌, ◌⊎◌, Bool, true, false, Option, None, Some, List, [], ◌∷◌, ◌++◌, length, map, filter, slice_get, if◌then◌else◌, cond, not, nat_lt, ◌+◌, ◌≤◌, position, option_and_then, refl}
+use Rattle.std.specs.List.{position_or_len}
+use Rattle.std.proofs.lemmas.Bool.{ltb-false}
 use Rattle.std.specs.Option.{option_or}
 use Rattle.std.specs.Str.{bytes_eq}
-use Rattle.std.proofs.Common.{arith, ap, subst, ◌∙◌, inl, inr}
+use Rattle.std.proofs.Common.{arith, ap, subst, ◌∙◌, inl, inr, sym}
 use Rattle.pw_rules.specs.States.{put_at}
 use Rattle.pw_scope.specs.Visible.{visible}
 
@@ -122,3 +124,54 @@ visible_at {X} (entry ∷ later) name x e = by_later (visible later name) refl (
     by_later None h true f rest = (0, (entry.0, ap (λ y. Some (entry.0, y)) (some_same f)))
     by_later None h false f rest = never_some f
     by_later (Some y) h b f rest = let r = rest (h ∙ f) in (suc r.0, (r.1.0, r.1.1))
+
+pub put_cases : {X : Type 0} (n : ℕ) (x : X) (xs : List X) (i : ℕ) (y : X) → slice_get (put_at n x xs) i ≡ Some y
+    → ((i ≡ n) × (x ≡ y) × ((z : X) × (slice_get xs n ≡ Some z))) ⊎ (slice_get xs i ≡ Some y)
+put_cases n x [] i y e = inr e
+put_cases zero x (z ∷ xs) zero y e = inl (refl, some_same e, (z, refl))
+put_cases zero x (z ∷ xs) (suc i) y e = inr e
+put_cases (suc n) x (z ∷ xs) zero y e = inr e
+put_cases {X} (suc n) x (z ∷ xs) (suc i) y e = lift (put_cases n x xs i y e)
+  where
+    lift : ((i ≡ n) × (x ≡ y) × ((z : X) × (slice_get xs n ≡ Some z))) ⊎ (slice_get xs i ≡ Some y)
+        → ((suc i ≡ suc n) × (x ≡ y) × ((z : X) × (slice_get xs n ≡ Some z))) ⊎ (slice_get xs i ≡ Some y)
+    lift (inl h) = inl (ap suc h.0, h.1, h.2)
+    lift (inr h) = inr h
+
+-- one of the elements before, or the one that was put behind them
+pub get_more : {X : Type 0} (xs : List X) (x : X) (i : ℕ) (y : X) → slice_get (xs ++ x ∷ []) i ≡ Some y → (slice_get xs i ≡ Some y) ⊎ ((i ≡ length xs) × (x ≡ y))
+get_more [] x zero y e = inr (refl, some_same e)
+get_more [] x (suc i) y e = never_some e
+get_more (z ∷ xs) x zero y e = inl e
+get_more {X} (z ∷ xs) x (suc i) y e = lift (get_more xs x i y e)
+  where
+    lift : (slice_get xs i ≡ Some y) ⊎ ((i ≡ length xs) × (x ≡ y)) → (slice_get xs i ≡ Some y) ⊎ ((suc i ≡ suc (length xs)) × (x ≡ y))
+    lift (inl h) = inl h
+    lift (inr h) = inr (ap suc h.0, h.1)
+
+-- ---- the first element that passes a test
+
+first_below : {X : Type 0} (p : X → Bool) (xs : List X) (i : ℕ) (x : X) → slice_get xs i ≡ Some x → p x ≡ true → position_or_len p xs < length xs
+first_below p [] i x e h = never_some e
+first_below {X} p (z ∷ xs) i x e h = by (p z) refl i e (first_below p xs)
+  where
+    by : (b : Bool) → p z ≡ b → (k : ℕ) → slice_get (z ∷ xs) k ≡ Some x → ((k : ℕ) (y : X) → slice_get xs k ≡ Some y → p y ≡ true → position_or_len p xs < length xs)
+        → cond (not b) (1 + position_or_len p xs) 0 < length (z ∷ xs)
+    by true f k g rest = omega arith
+    by false f zero g rest = grind (arith, sym f ∙ (ap p (some_same g) ∙ h))
+    by false f (suc k) g rest = let r : position_or_len p xs < length xs = rest k x g h in omega (arith, r)
+
+get_some : {X A : Type 0} (xs : List X) (n : ℕ) → n < length xs → slice_get xs n ≡ None → A
+get_some [] n h e = grind arith
+get_some (x ∷ xs) zero h e = never_some (sym e)
+get_some (x ∷ xs) (suc n) h e = get_some xs n (omega (arith, h)) e
+
+pub found_first : {X A : Type 0} (p : X → Bool) (xs : List X) (i : ℕ) (x : X) → slice_get xs i ≡ Some x → p x ≡ true → option_and_then (slice_get xs) (position p xs) ≡ None → A
+found_first {X} {A} p xs i x e h none = by (nat_lt (position_or_len p xs) (length xs)) refl none
+  where
+    by : (b : Bool) → nat_lt (position_or_len p xs) (length xs) ≡ b → option_and_then (slice_get xs) (cond b (Some (position_or_len p xs)) None) ≡ None → A
+    by true f g = get_some xs (position_or_len p xs) (first_below p xs i x e h) g
+    by false f g =
+        let k : position_or_len p xs < length xs = first_below p xs i x e h in
+        let q : length xs ≤ position_or_len p xs = ltb-false (position_or_len p xs) (length xs) f in
+        grind (arith, k, q)

@@ -1,7 +1,8 @@
 -- Functions and modules: the state at a module's end is lawful.
-use Rattle.std.specs.Prelude.{ℕ, ◌≡◌, ◌+◌, ◌≤◌, ◌⊎◌, not, Option, None, Some, unwrap_or, List, [], ◌∷◌, map, filter, slice_get, All, refl}
-use Rattle.std.proofs.Common.{arith, ap, sym, subst, inl, inr}
-use Rattle.std.proofs.lemmas.Option.{slice_get-get_or}
+use Rattle.std.specs.Prelude.{ℕ, ◌≡◌, ◌+◌, ◌≤◌, ◌⊎◌, not, Option, None, Some, unwrap_or, List, [], ◌∷◌, map, filter, slice_get, All, refl, ◌≢◌, ◌<◌, AllPairs, length}
+use Rattle.std.proofs.Common.{arith, ap, sym, subst, inl, inr, subst₂}
+use Rattle.std.proofs.lemmas.List.Kept.{AllPairs-filter}
+use Rattle.std.proofs.lemmas.Option.{slice_get-get_or, get_or_from_slice_get}
 use Rattle.pw_tree.specs.Trees.{Word, Function, External, Definition, Declaration, Module, Block}
 use Rattle.pw_types.specs.Records.{IsLaid}
 use Rattle.pw_types.specs.TypeTrees.{QType, type_of}
@@ -21,14 +22,14 @@ use Rattle.pw_rules.specs.declared.names.Tag.{Tag}
 use Rattle.pw_rules.specs.declared.names.TagEntry.{TagEntry}
 use Rattle.pw_well_typed.specs.Lawful.{IsLawful, IsLawfulTag}
 use Rattle.pw_well_typed.proofs.Walking.{Post, post_bind}
-use Rattle.pw_well_typed.proofs.Lists.{get_either, get_map, get_filter}
+use Rattle.pw_well_typed.proofs.Lists.{get_either, get_map, get_filter, get_within}
 use Rattle.pw_well_typed.proofs.Types.{extends_same, lawful_later, lawful_known}
 use Rattle.pw_well_typed.proofs.Changes.{left_lawful_alone}
 use Rattle.pw_well_typed.proofs.Leaves.{GoodType, GoodSpecified, GoodDeclared, GoodBindings, GoodIfAny, bindings_later, built_runs}
 use Rattle.pw_well_typed.proofs.Phrases.{declarator_post}
 use Rattle.pw_well_typed.proofs.Declarations.{specified_goes, decl_goes}
 use Rattle.pw_well_typed.proofs.Statements.{block_goes}
-use Rattle.pw_well_typed.proofs.Keeping.{After, after_same, after_trans, Kept, Goes, goes_by, of_runs, from_kept, changed, asked, met_first, Anything, around, declared_goes, function_kept}
+use Rattle.pw_well_typed.proofs.Keeping.{After, after_linked, after_same, after_trans, Kept, Goes, goes_by, of_runs, from_kept, changed, asked, met_first, Anything, around, declared_goes, function_kept}
 
 -- ---- functions
 
@@ -46,9 +47,10 @@ body_entered s q b names l h = (
     tags = λ i t e. by_tag i t (get_either s.scopes.tags (map (λ (x : List ℕ × Tag). (x.0, record { tag = x.1; depth = s.scopes.depth + 1 })) b.tags) i t e);
     linked = l.linked;
     laid = l.laid;
+    apart = l.apart;
     depths = λ i e g. by_entry i e (get_either s.scopes.ordinary (map (λ (x : List ℕ × ℕ). (x.0, record { place = x.1; depth = s.scopes.depth + 1 })) b.ordinary) i e g);
   },
-  record { extends = extends_same s.types.records },
+  after_linked s _ (extends_same s.types.records) refl,
 )
   where
     by_tag : (i : ℕ) (t : List ℕ × TagEntry)
@@ -69,7 +71,7 @@ body_entered s q b names l h = (
         omega (arith, same)
 
 left : (s : State) → IsLawful s → Kept s (leave_scope s)
-left s l = (left_lawful_alone s l, record { extends = extends_same s.types.records })
+left s l = (left_lawful_alone s l, after_linked s _ (extends_same s.types.records) refl)
 
 measured_goes : (s : State) (w : Word) (f : FunctionValue) → IsLawful s → Goes s (measured_rule w f s) Anything
 unfolding measured_rule bind
@@ -134,12 +136,33 @@ declared_known s l k d below =
     let y = get_filter (λ (y : LinkedName). not y.internal) (linked_in s) k x.0 x.1 in
     subst (λ (z : DeclaredValue). IsKnownType s.types.records (type_of z.ty)) x.2 (lawful_known s.types.records (type_of x.0.ty) (l.linked y.0 x.0 y.1))
 
+apart_listed : (s : State) → IsLawful s → AllPairs (λ (x y : LinkedName). x.name ≢ y.name) (linked_in s)
+apart_listed s l i j d below within same =
+    let lower : i < length (linked_in s) = omega (arith, below, within) in
+    let k : i ≡ j = l.apart i j _ _ (slice_get-get_or (linked_in s) i d lower) (slice_get-get_or (linked_in s) j d within) same in
+    grind (arith, below, k)
+
+-- pairs of what is made of the elements
+pairs_map : {X Y : Type 0} (f : X → Y) (R : X → X → Type 0) (Q : Y → Y → Type 0) (xs : List X) → ((a b : X) → R a b → Q (f a) (f b)) → AllPairs R xs → AllPairs Q (map f xs)
+pairs_map f R Q xs so h i j d below within =
+    let lower : i < length (map f xs) = omega (arith, below, within) in
+    let a = get_map f xs i _ (slice_get-get_or (map f xs) i d lower) in
+    let b = get_map f xs j _ (slice_get-get_or (map f xs) j d within) in
+    subst₂ Q a.2 b.2 (so a.0 b.0
+    (subst₂ R (get_or_from_slice_get xs i a.0 a.0 a.1) (get_or_from_slice_get xs j b.0 a.0 b.1) (h i j a.0 below (get_within xs j b.0 b.1))))
+
+declared_apart : (s : State) → IsLawful s → AllPairs (λ (d e : DeclaredValue). d.name ≢ e.name) (map declared_value (filter (λ l. not l.internal) (linked_in s)))
+declared_apart s l =
+    pairs_map declared_value (λ x y. x.name ≢ y.name) (λ d e. d.name ≢ e.name) (filter (λ (x : LinkedName). not x.internal) (linked_in s)) (λ a b h. h)
+    (AllPairs-filter (λ (x y : LinkedName). x.name ≢ y.name) (λ (x : LinkedName). not x.internal) (linked_in s) (apart_listed s l))
+
 pub record IsSound (m : ModuleValue) : Type 0 where
   pub laid : IsLaid m.records
   pub known : All (λ d. IsKnownType m.records (type_of d.ty)) m.declared
+  pub one_declared : AllPairs (λ d e. d.name ≢ e.name) m.declared
 
 sound : (s : State) → IsLawful s → IsSound (module_in s)
-sound s l = record { laid = l.laid; known = declared_known s l }
+sound s l = record { laid = l.laid; known = declared_known s l; one_declared = declared_apart s l }
 
 pub checking_sound : (m : Module) (s : State) → IsLawful s → Post (bind (module_rule m s) (λ r. Done r.0)) IsSound
 checking_sound m s l =

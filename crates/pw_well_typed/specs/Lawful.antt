@@ -63,6 +63,8 @@ pub record IsLawful (s : State) : Type 0 where
   pub entities : (k : ℕ) (e : Entity) → slice_get s.scopes.entities k ≡ Some e → IsLawfulEntity s.types.records e
   pub tags : (i : ℕ) (t : List ℕ × TagEntry) → slice_get s.scopes.tags i ≡ Some t → IsLawfulTag s.types.records t.1.tag
   pub linked : (i : ℕ) (l : LinkedName) → slice_get s.types.linked i ≡ Some l → IsLawfulType s.types.records (type_of l.ty)
+  -- no name has two places among those with linkage
+  pub apart : (i j : ℕ) (x y : LinkedName) → slice_get s.types.linked i ≡ Some x → slice_get s.types.linked j ≡ Some y → x.name ≡ y.name → i ≡ j
   -- each record that is defined follows from its members
   pub laid : IsLaid s.types.records
   pub depths : (i : ℕ) (e : List ℕ × Entry) → slice_get s.scopes.ordinary i ≡ Some e → e.1.depth ≤ s.scopes.depth

@@ -1,7 +1,7 @@
 //! What checking promises of its result, said of typed trees alone: laws, as the contracts of functions that do nothing.
 #![tactic(auto)]
 
-ghost use Rattle.std.specs.Prelude.{All, List, Ok};
+ghost use Rattle.std.specs.Prelude.{◌≢◌, All, AllPairs, List, Ok};
 ghost use Rattle.pw_tree.specs.Trees.{Expr, Module};
 ghost use Rattle.pw_types.specs.Records.{IsLaid};
 ghost use Rattle.pw_types.specs.TypeTrees.{type_of};
@@ -32,4 +32,9 @@ pub fn expressions_are_well_typed()
 pub fn accepted_records_are_laid()
     ensures laid { (tree : Module) (m : ModuleValue) → Checks tree (Ok m) → IsLaid m.records }
     ensures known { (tree : Module) (m : ModuleValue) → Checks tree (Ok m) → All (λ d. IsKnownType m.records (type_of d.ty)) m.declared }
+{}
+
+/// A module that checking accepts shares no name twice.
+pub fn accepted_names_are_apart()
+    ensures { (tree : Module) (m : ModuleValue) → Checks tree (Ok m) → AllPairs (λ d e. d.name ≢ e.name) m.declared }
 {}
