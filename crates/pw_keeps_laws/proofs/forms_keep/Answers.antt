@@ -1,4 +1,4 @@
-use Rattle.pw_keeps_laws.proofs.Forms.{CodeLaws, number-keeps, comma-keeps}
+use Rattle.pw_keeps_laws.proofs.Forms.{number-keeps, comma-keeps}
 use Rattle.pw_keeps_laws.proofs.Unary.{plus-keeps, minus-keeps, complement-keeps}
 use Rattle.pw_keeps_laws.proofs.Casts.{cast-keeps}
 use Rattle.pw_keeps_laws.proofs.forms_keep.Goals as goal
