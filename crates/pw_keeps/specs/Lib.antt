@@ -1,0 +1,10 @@
+pub mod Lowerable
+pub mod Standing
+pub mod Activations
+pub mod Matching
+pub mod Containing
+pub mod Meeting
+pub mod Expressions
+pub mod Statements
+pub mod Calls
+pub mod Whole

@@ -1,0 +1,11 @@
+mod Steps
+mod Simulation
+mod Starting
+mod Lasting
+mod Fresh
+mod Forms
+mod Unary
+mod Spreading
+mod Words
+mod Conversions
+mod Casts

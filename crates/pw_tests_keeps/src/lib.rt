@@ -1,0 +1,2 @@
+//! A small program, on which what lowering promises is computed.
+#![tactic(auto)]
