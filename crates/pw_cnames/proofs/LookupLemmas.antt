@@ -1,5 +1,5 @@
 -- What is found at the place of a key is what is found by the key.
-use Rattle.std.proofs.Common.{ℕ, zero, suc, ◌+◌, ◌≡◌, refl, sym, ap, ◌∙◌, Bool, true, false, cond, not, nat_lt, Option, None, Some, List, [], ◌∷◌, length, map, position, find, slice_get, option_map, option_and_then, bytes_eq, arith}
+use Rattle.std.proofs.Common.{ℕ, suc, ◌+◌, ◌≡◌, refl, sym, ap, ◌∙◌, Bool, true, false, cond, not, nat_lt, Option, None, Some, List, [], ◌∷◌, length, map, position, find, slice_get, option_map, option_and_then, bytes_eq, arith}
 use Rattle.std.specs.Prelude.{◌==◌}
 use Rattle.std.specs.Cmp.Lexicographic.{nat_list_eq_equiv}
 use Rattle.std.specs.List.{position_or_len}
@@ -10,7 +10,7 @@ use Rattle.pw_value.specs.declared.value.Pointer.TheVariants as P
 use Rattle.pw_cmean.specs.Worlds as worlds
 use Rattle.pw_cmean.specs.Worlds.{Program, Callable, functions_of, global_names}
 use Rattle.pw_cworld.specs.Names.{number_among, numbers_of}
-use Rattle.pw_cnames.specs.Lookups.{object_or_function, number_by_name, denoted}
+use Rattle.pw_cnames.specs.Lookups.{number_by_name, denoted}
 
 shifted : (n len : ℕ) → cond (nat_lt (1 + n) (suc len)) (Some (1 + n)) None ≡ option_map suc (cond (nat_lt n len) (Some n) None)
 shifted n len = grind (arith, common_steps)

@@ -1,5 +1,5 @@
 -- What names denote, by the lists of the functions, of their numbers and of the objects.
-use Rattle.std.specs.Prelude.{ℕ, Option, Some, None, option_map, option_and_then, List, map, position, slice_get}
+use Rattle.std.specs.Prelude.{ℕ, Option, Some, None, option_map, option_and_then, List, position, slice_get}
 use Rattle.std.specs.Str.{bytes_eq}
 use Rattle.pw_value.specs.declared.value.Pointer.{Pointer}
 use Rattle.pw_value.specs.declared.value.Pointer.TheVariants as P
