@@ -9,3 +9,4 @@ mod Spreading
 mod Words
 mod Conversions
 mod Casts
+mod Results

@@ -107,7 +107,7 @@ constant-adds n c = adds (λ t. op.Const t n) c
 pub with-adds : (k : BinKind) (a : ℕ) (x : Lowered) → Spread x.code (with k a x).code none none
 with-adds k a x = adds (λ t. op.Bin k t a (temp_of x)) x.code
 
-scaled-adds : (size n : ℕ) (c : Code) → Spread c (scaled size n c).code none none
+pub scaled-adds : (size n : ℕ) (c : Code) → Spread c (scaled size n c).code none none
 scaled-adds size n c =
     either (size == 1) (value_is n c) (with Mul n (constant size c)) (same_code c) (and (constant-adds size c) (with-adds Mul n (constant size c)))
 
@@ -124,7 +124,7 @@ on_numbers-adds o s p q c =
     either (is_turned o) (fresh (λ t. op.Bin (operation_of o s) t q p) c) (fresh (λ t. op.Bin (operation_of o s) t p q) c)
     (adds (λ t. op.Bin (operation_of o s) t q p) c) (adds (λ t. op.Bin (operation_of o s) t p q) c)
 
-sum_or-adds : (o : BinaryOperator) (s : Bool) (left right : Option ℕ) (p q : ℕ) (c : Code) → Spread c (sum_or o s left right p q c).code none none
+pub sum_or-adds : (o : BinaryOperator) (s : Bool) (left right : Option ℕ) (p q : ℕ) (c : Code) → Spread c (sum_or o s left right p q c).code none none
 sum_or-adds binary.Add s (Some size) right p q c = moved_by-adds Add size p q c
 sum_or-adds binary.Add s None (Some size) p q c = moved_by-adds Add size q p c
 sum_or-adds binary.Add s None None p q c = on_numbers-adds binary.Add s p q c
@@ -163,7 +163,7 @@ write-adds k (Kept x) v c = emits (op.Copy x v) c
 write-adds k (Named g) v c = emits (op.StoreG g v k) c
 write-adds k (Led p) v c = emits (op.Store k p v) c
 
-further-adds : (offset : ℕ) (x : Lowered) → Spread x.code (further offset x).code none none
+pub further-adds : (offset : ℕ) (x : Lowered) → Spread x.code (further offset x).code none none
 further-adds offset x =
     either (offset == 0) x (with Add (temp_of x) (constant offset x.code)) (same_code x.code)
     (and (constant-adds offset x.code) (with-adds Add (temp_of x) (constant offset x.code)))
@@ -201,7 +201,7 @@ stored-adds k target x = write-adds k target (temp_of x) x.code
 pub copied-adds : (records : List RecordValue) (ty : CType) (to : ℕ) (x : Lowered) → Spread x.code (copied records ty to x).code none none
 copied-adds records ty to x = emits (op.Move to (temp_of x) (bytes_of records ty) (unit_of records ty)) x.code
 
-updated-adds : (records : List RecordValue) (o : BinaryOperator) (ty right : CType) (own : Kind) (target : Target) (old : ℕ) (x : Lowered) → Spread x.code (updated records o ty right own target old x).code none none
+pub updated-adds : (records : List RecordValue) (o : BinaryOperator) (ty right : CType) (own : Kind) (target : Target) (old : ℕ) (x : Lowered) → Spread x.code (updated records o ty right own target old x).code none none
 updated-adds records o ty right own target old x =
     let s = combined records o ty right old (temp_of x) x.code in
     let v = converted (kind_of ty) (Some own) s in

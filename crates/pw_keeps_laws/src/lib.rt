@@ -1,10 +1,10 @@
 //! Laws on the way to the refinement of C by flow graphs, as the contracts of functions that do nothing.
 #![tactic(auto)]
 
-ghost use Rattle.std.specs.Prelude.{◌≡◌, ◌+◌, ◌^◌, ◌<◌, ◌≤◌, ◌==◌, ◌&&◌, not, ℕ, Bool, false, Some, Ok, []};
+ghost use Rattle.std.specs.Prelude.{◌≡◌, ◌≢◌, ◌+◌, ◌^◌, ◌<◌, ◌≤◌, ◌==◌, ◌&&◌, not, ℕ, Bool, false, Some, Ok, []};
 ghost use Rattle.pw_value.specs.declared.value.Value.{Value};
 ghost use Rattle.pw_value.specs.declared.value.Value.TheVariants.{Num};
-ghost use Rattle.pw_types.specs.TypeTrees.{QType};
+ghost use Rattle.pw_types.specs.TypeTrees.{QType, Void};
 ghost use Rattle.pw_types.specs.TypedTrees.{Expression, Node, Number, Comma, Unary, Cast};
 ghost use Rattle.pw_types.specs.declared.tree.UnaryOperator.TheVariants.{Plus, Minus, Complement};
 ghost use Rattle.pw_types.specs.declared.tree.BinaryOperator.{BinaryOperator};
@@ -19,10 +19,14 @@ ghost use Rattle.pw_flowrun.specs.Programs.{Program};
 ghost use Rattle.pw_flowrun.specs.Values.{unary};
 ghost use Rattle.pw_lower.specs.Expressions.{Home, lower};
 ghost use Rattle.pw_lower.specs.declared.code.Code.{Code};
+ghost use Rattle.pw_keeps.specs.Activations.{Activation, HaveSlots, home_of};
 ghost use Rattle.pw_keeps.specs.Containing.{Spreads};
+ghost use Rattle.pw_lower.specs.Places.{addressed_in};
+ghost use Rattle.pw_types.specs.WellTyped.{IsTyped, type_in};
 ghost use Rattle.pw_keeps.specs.Expressions.{ExpressionKeeps};
 ghost use Rattle.pw_keeps.specs.Whole.{AllPartsKeep, ProgramsKeepRuns, StartsMatch};
 ghost use Rattle.pw_keeps_laws.specs.Operations.{extended_by, operated};
+ghost use Rattle.pw_keeps_laws.specs.Results.{HasNewResult};
 
 use pw_cmean::laws::values_have_types;
 use pw_keeps::graphs_contain_the_parts;
@@ -42,6 +46,12 @@ pub fn machines_step_on()
 /// The code of an expression begins only blocks whose numbers were given out since, each once.
 pub fn expressions_spread()
     ensures { (h : Home) (a : Expression) (c : Code) → Spreads c (lower h a c).code [] }
+{}
+
+/// The result of a well-typed expression that is not void stands in a temporary that its code gave out.
+pub fn results_are_new()
+    ensures { (x : Activation) (a : Expression) (c : Code) → IsTyped x.home.tree x.function.locals a →
+        HaveSlots x (addressed_in a) → type_in a ≢ Void → HasNewResult c (lower (home_of x) a c) }
 {}
 
 /// Where an operator of C has a result on words, the operation that lowering makes of it has the same.
