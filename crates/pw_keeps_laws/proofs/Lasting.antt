@@ -1,11 +1,15 @@
 -- What lasts over one stretch of a run and then another, and what a stretch that leaves all objects leaves.
-use Rattle.std.proofs.Common.{◌≡◌, ℕ, ◌<◌, ◌≤◌, ◌⊎◌, inl, inr, List, [], ◌++◌, length, ap, sym, ◌∙◌, arith, append_assoc, append-nil, length-append}
+use Rattle.std.proofs.Common.{◌≡◌, ℕ, ◌<◌, ◌≤◌, ◌⊎◌, inl, inr, List, [], ◌++◌, length, ap, sym, ◌∙◌, arith, append_assoc, append-nil, length-append, true, false, true≢false, Bool, subst}
 use Rattle.std.proofs.lemmas.Bool.{cases_order}
 use Rattle.std.proofs.lemmas.List.{get_or_append_left, get_or_past}
 use Rattle.pw_value.specs.Objects.{Object, no_object, object_at}
 use Rattle.pw_cmean.specs.Acts.{State}
 use Rattle.pw_flowrun.specs.FlowRun.{Machine}
-use Rattle.pw_keeps.specs.Standing.{Spot, Nowhere, spot_of}
+use Rattle.pw_value.specs.declared.value.Value.{Value}
+use Rattle.pw_value.specs.declared.value.Value.TheVariants as V
+use Rattle.pw_value.specs.declared.value.Pointer.{Pointer}
+use Rattle.pw_value.specs.declared.value.Pointer.TheVariants as P
+use Rattle.pw_keeps.specs.Standing.{Spot, Nowhere, In, spot_of, LeadsInto, Stands}
 use Rattle.pw_keeps.specs.Activations.{Numbers}
 use Rattle.pw_keeps.specs.Matching.{Lasts}
 
@@ -51,3 +55,36 @@ lasts-then numbers a b c s t u m n r p q f g =
       living = λ k h. g.living k (omega (arith, h, f.count)) ∙ f.living k h;
       sizes = λ k h. g.sizes k (omega (arith, h, f.count)) ∙ f.sizes k h;
     }
+
+-- ---- what stands goes on to stand
+
+is_in : Spot → Bool
+is_in Nowhere = false
+is_in (In f size) = true
+
+leads-later : (a new : List Spot) (o i : ℕ) (q : Pointer) → LeadsInto a o i q → LeadsInto (a ++ new) o i q
+unfolding is_in
+leads-later a new o i q l =
+    let within : o < length a = elim (below_or o (length a)) [
+      | inl less ↦ less
+      | inr more ↦ absurd (true≢false (sym (ap is_in (sym (get_or_past a o Nowhere more) ∙ l.there))))
+    ] in
+    record {
+      object = l.object;
+      size = l.size;
+      there = get_or_append_left a new Nowhere o within ∙ l.there;
+      inside = l.inside;
+      is = l.is;
+    }
+
+stands-behind : (a new : List Spot) (v w : Value) → Stands a v w → Stands (a ++ new) v w
+stands-behind a new V.Undefined w h = tt
+stands-behind a new (V.Num n) w h = h
+stands-behind a new V.Null w h = h
+stands-behind a new (V.At (P.Object o i)) w h = (h.0, leads-later a new o i h.0 h.1, h.2)
+stands-behind a new (V.At (P.Function f)) w h = h
+stands-behind a new (V.Piece (P.Object o i) k) w h = (h.0, leads-later a new o i h.0 h.1, h.2)
+stands-behind a new (V.Piece (P.Function f) k) w h = h
+
+pub stands-later : (a b : List Spot) (v w : Value) → ((new : List Spot) × (b ≡ a ++ new)) → Stands a v w → Stands b v w
+stands-later a b v w more h = subst (λ (l : List Spot). Stands l v w) (sym more.1) (stands-behind a more.0 v w h)

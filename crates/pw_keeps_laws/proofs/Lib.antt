@@ -10,3 +10,4 @@ mod Words
 mod Conversions
 mod Casts
 mod Results
+mod Binary

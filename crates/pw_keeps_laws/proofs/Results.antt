@@ -128,11 +128,11 @@ called-new false o c d e h = new (λ t. o (Some t)) c d h
 
 -- ---- types
 
-is_not_void : CType → Bool
+unfoldable pub is_not_void : CType → Bool
 is_not_void Void = false
 is_not_void ty = true
 
-named-type : (ty own : CType) → ty ≡ own → is_not_void own ≡ true → ty ≢ Void
+pub named-type : (ty own : CType) → ty ≡ own → is_not_void own ≡ true → ty ≢ Void
 unfolding is_not_void
 named-type ty own e h v = true≢false (sym h ∙ ap is_not_void (sym e ∙ v))
 

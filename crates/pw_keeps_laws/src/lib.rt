@@ -4,8 +4,8 @@
 ghost use Rattle.std.specs.Prelude.{◌≡◌, ◌≢◌, ◌+◌, ◌^◌, ◌<◌, ◌≤◌, ◌==◌, ◌&&◌, not, ℕ, Bool, false, Some, Ok, []};
 ghost use Rattle.pw_value.specs.declared.value.Value.{Value};
 ghost use Rattle.pw_value.specs.declared.value.Value.TheVariants.{Num};
-ghost use Rattle.pw_types.specs.TypeTrees.{QType, Void};
-ghost use Rattle.pw_types.specs.TypedTrees.{Expression, Node, Number, Comma, Unary, Cast};
+ghost use Rattle.pw_types.specs.TypeTrees.{Int, QType, Void};
+ghost use Rattle.pw_types.specs.TypedTrees.{Expression, Node, Number, Comma, Unary, Binary, Cast};
 ghost use Rattle.pw_types.specs.declared.tree.UnaryOperator.TheVariants.{Plus, Minus, Complement};
 ghost use Rattle.pw_types.specs.declared.tree.BinaryOperator.{BinaryOperator};
 ghost use Rattle.pw_types.specs.Conversions.{converted, size_of_kind};
@@ -69,7 +69,7 @@ pub fn conversions_agree()
 {}
 
 /// Forms of expressions that keep their promise: numbers; a comma between operands that keep theirs; plus, minus
-/// and complement of such an operand; and casts of one.
+/// and complement of such an operand; casts of one; and binary operators on two of integer types.
 pub fn forms_keep()
     ensures numbers { (bound t k : ℕ) (ty : QType) → ExpressionKeeps bound (Node t ty (Number k)) }
     ensures commas { (bound t : ℕ) (ty : QType) (a b : Expression) →
@@ -82,6 +82,9 @@ pub fn forms_keep()
         ExpressionKeeps bound a → ExpressionKeeps bound (Node t ty (Unary Complement a)) }
     ensures casts { (bound t : ℕ) (ty : QType) (a : Expression) →
         ExpressionKeeps bound a → ExpressionKeeps bound (Node t ty (Cast a)) }
+    ensures binary { (bound t : ℕ) (ty : QType) (o : BinaryOperator) (a b : Expression) (j k : IntKind) →
+        type_in a ≡ Int j → type_in b ≡ Int k →
+        ExpressionKeeps bound a → ExpressionKeeps bound b → ExpressionKeeps bound (Node t ty (Binary o a b)) }
 {
     later_code_keeps();
     graphs_contain_the_parts();

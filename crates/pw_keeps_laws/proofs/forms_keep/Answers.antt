@@ -1,5 +1,6 @@
 use Rattle.pw_keeps_laws.proofs.Forms.{number-keeps, comma-keeps}
 use Rattle.pw_keeps_laws.proofs.Unary.{plus-keeps, minus-keeps, complement-keeps}
+use Rattle.pw_keeps_laws.proofs.Binary.{binary-keeps}
 use Rattle.pw_keeps_laws.proofs.Casts.{cast-keeps}
 use Rattle.pw_keeps_laws.proofs.forms_keep.Goals as goal
 
@@ -27,3 +28,8 @@ pub returns-clause-casts : goal.returns-clause-casts
 returns-clause-casts c = λ bound t ty a keeps.
     cast-keeps bound t ty a (record { later = c.later_code_keeps.ensures.expressions; contain = c.graphs_contain_the_parts.ensures.expressions })
     (c.values_have_types.ensures.expressions bound) keeps
+
+pub returns-clause-binary : goal.returns-clause-binary
+returns-clause-binary c = λ bound t ty o a b j k left right first second.
+    binary-keeps bound t ty o a b j k (record { later = c.later_code_keeps.ensures.expressions; contain = c.graphs_contain_the_parts.ensures.expressions })
+    (c.values_have_types.ensures.expressions bound) left right first second
