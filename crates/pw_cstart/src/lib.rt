@@ -1,0 +1,7 @@
+//! The objects of static lifetime at the start of a run.
+#![tactic(auto)]
+
+pub mod items;
+pub mod objects;
+
+pub use objects::start_objects;
