@@ -100,6 +100,7 @@ record_grows s kind l = record {
   hidden = λ i x e. e;
   counting = refl;
   body = refl;
+  functions = refl;
 }
 
 -- ---- names and tags more
@@ -143,6 +144,7 @@ entered_grows s name entity = record {
   hidden = λ i x e. e;
   counting = refl;
   body = refl;
+  functions = refl;
 }
 
 pub tagged : (s : State) (name : List ℕ) (tag : Tag) → IsLawful s → IsLawfulTag s.types.records tag → IsLawful (enter_tag name tag s)
@@ -179,6 +181,7 @@ tagged_grows s name tag = record {
   hidden = λ i x e. e;
   counting = refl;
   body = refl;
+  functions = refl;
 }
 
 -- ---- hidden objects
@@ -199,6 +202,7 @@ hidden_grows s h = record {
   hidden = λ i x e. get_append s.made.hidden (h ∷ []) i x e;
   counting = refl;
   body = refl;
+  functions = refl;
 }
 
 -- ---- a record is begun, and defined
@@ -252,6 +256,7 @@ opening_grows s kind n l c = record {
   hidden = λ i x e. e;
   counting = refl;
   body = refl;
+  functions = refl;
 }
 
 pub opened_now : (s t : State) (kind : RecordKind) (n : ℕ) → IsLawful t → Closed t kind n → (slice_get s.types.opened n ≡ Some true → ⊥) → Opened s (open_record n t) kind n
@@ -355,6 +360,7 @@ defined_grows s t kind n c g o = record {
   hidden = g.hidden;
   counting = g.counting;
   body = g.body;
+  functions = g.functions;
 }
   where
     by : (k : ℕ) → slice_get s.types.opened k ≡ Some true
@@ -386,6 +392,7 @@ restored s t l g = (
     hidden = g.hidden;
     counting = refl;
     body = g.body;
+    functions = g.functions;
   },
 )
 
@@ -468,6 +475,7 @@ left_grows s t ls g = record {
   hidden = g.hidden;
   counting = g.counting;
   body = g.body;
+  functions = g.functions;
 }
 
 pub scoped_runs : {A : Type 0} (s : State) (inside : Rule A) (Good : List RecordValue → A → Type 0) → IsLawful s

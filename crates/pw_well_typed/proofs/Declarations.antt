@@ -71,10 +71,10 @@ global_goes s w b spot q (Some i) l h = defined_goes s w b spot q i l h
 -- ---- static locals
 
 hidden_kept : (s : State) (x : HiddenObject) → IsLawful s → Kept s (add_hidden x s)
-hidden_kept s x l = around s (add_hidden x s).made s.body l
+hidden_kept s x l = around s (add_hidden x s).made s.body l refl
 
 hidden_put : (s : State) (k : ℕ) (x : HiddenObject) → IsLawful s → Kept s (put_hidden k x s)
-hidden_put s k x l = around s (put_hidden k x s).made s.body l
+hidden_put s k x l = around s (put_hidden k x s).made s.body l refl
 
 static_goes : (s : State) (w : Word) (q : QType) (i : Option Initializer) → IsLawful s → IsObjectLike s.types.records q → Goes s (static_rule w q i s) Anything
 unfolding static_rule
@@ -130,10 +130,10 @@ local_initialiser_goes s true w k q i l h = bytes_goes s w k q i l h
 local_initialiser_goes s false w k q i l h = single_goes s w k q i l h
 
 local_added : (s : State) (x : LocalValue) → IsLawful s → Kept s (add_local x s)
-local_added s x l = around s s.made (add_local x s).body l
+local_added s x l = around s s.made (add_local x s).body l refl
 
 local_put : (s : State) (k : ℕ) (x : LocalValue) → IsLawful s → Kept s (put_local k x s)
-local_put s k x l = around s s.made (put_local k x s).body l
+local_put s k x l = around s s.made (put_local k x s).body l refl
 
 local_goes : (s : State) (w : Word) (b : Specified) (q : QType) (i : Option Initializer) → IsLawful s → IsObjectLike s.types.records q → Goes s (local_rule w b q i s) Anything
 unfolding local_rule

@@ -1,5 +1,5 @@
 -- Rules of declarations and statements: they leave a lawful state, in which no less is known of records.
-use Rattle.std.specs.Prelude.{ℕ, ◌≡◌, ◌⊎◌, Bool, true, false, Option, None, Some, unwrap_or, option_and_then, List, [], ◌∷◌, slice_get, if◌then◌else◌, refl}
+use Rattle.std.specs.Prelude.{ℕ, ◌≡◌, ◌⊎◌, Bool, true, false, Option, None, Some, unwrap_or, option_and_then, List, [], ◌∷◌, slice_get, if◌then◌else◌, refl, ◌++◌}
 use Rattle.std.specs.Option.{option_map_or}
 use Rattle.std.proofs.lemmas.Slice.Eq.{bytes_eq-Decides}
 use Rattle.std.specs.Str.{bytes_eq}
@@ -15,7 +15,7 @@ use Rattle.pw_rules.specs.declared.names.Entry.{Entry}
 use Rattle.pw_rules.specs.declared.names.Slot.TheVariants as slot
 use Rattle.pw_well_typed.specs.Lawful.{IsLawful, IsLawfulType, IsLawfulEntity, Extends}
 use Rattle.pw_well_typed.proofs.Walking.{Post, AreMet, post_bind, post_weaken}
-use Rattle.pw_well_typed.proofs.Lists.{some_same, never_some, put_either, put_cases, get_more, found_first, get_append}
+use Rattle.pw_well_typed.proofs.Lists.{some_same, never_some, put_either, put_cases, get_more, found_first, get_append, position_passes, position_none, get_last, get_within, put_same}
 use Rattle.pw_well_typed.proofs.States.{Runs, Grows}
 use Rattle.pw_well_typed.proofs.Types.{no, extends_trans, extends_same, lawful_composite}
 use Rattle.pw_well_typed.proofs.Changes.{entered, left_lawful_alone}
@@ -34,6 +34,7 @@ StaysAt t place before = (after : LinkedName) × (slice_get t.types.linked place
 pub record After (s t : State) : Type 0 where
   pub extends : Extends s.types.records t.types.records
   pub names : (place : ℕ) (x : LinkedName) → slice_get s.types.linked place ≡ Some x → StaysAt t place x
+  pub functions : t.made.functions ≡ s.made.functions
 
 pub continues_same : (x : LinkedName) → Continues x x
 continues_same x = record { name = refl; internal = refl; tentative = λ e. e; defined = λ e. e }
@@ -47,14 +48,16 @@ continues_trans {x} {y} {z} a b = record {
 }
 
 -- the names are the same
-pub after_linked : (s t : State) → Extends s.types.records t.types.records → t.types.linked ≡ s.types.linked → After s t
-after_linked s t x same = record {
+pub after_linked : (s t : State) → Extends s.types.records t.types.records → t.types.linked ≡ s.types.linked
+    → t.made.functions ≡ s.made.functions → After s t
+after_linked s t x same made = record {
   extends = x;
   names = λ place y e. (y, ap (λ xs. slice_get xs place) same ∙ e, continues_same y);
+  functions = made;
 }
 
 pub after_same : (s : State) → After s s
-after_same s = after_linked s s (extends_same s.types.records) refl
+after_same s = after_linked s s (extends_same s.types.records) refl refl
 
 pub after_trans : {s t u : State} → After s t → After t u → After s u
 after_trans {s} {t} {u} a b = record {
@@ -63,6 +66,7 @@ after_trans {s} {t} {u} a b = record {
       let y = a.names place x e in
       let z = b.names place y.0 y.1 in
       (z.0, z.1, continues_trans y.2 z.2);
+  functions = b.functions ∙ a.functions;
 }
 
 abbrev pub Kept : State → State → Type 0
@@ -83,7 +87,7 @@ goes_by {A} {B} {s} w next Good Best h k =
     (k r g.0 g.1 g.2) (λ u f. (f.0, after_trans g.1 f.1, f.2)))
 
 pub of_runs : {A : Type 0} (s : State) (w : Walk (A × State)) (Good : State → A → Type 0) → Runs s w Good → Goes s w Good
-of_runs {A} s w Good h = post_weaken w (λ r. IsLawful r.1 × Grows s r.1 × Good r.1 r.0) (λ r. IsLawful r.1 × After s r.1 × Good r.1 r.0) h (λ r g. (g.0, after_linked s r.1 g.1.extends g.1.linked, g.2))
+of_runs {A} s w Good h = post_weaken w (λ r. IsLawful r.1 × Grows s r.1 × Good r.1 r.0) (λ r. IsLawful r.1 × After s r.1 × Good r.1 r.0) h (λ r g. (g.0, after_linked s r.1 g.1.extends g.1.linked g.1.functions, g.2))
 
 pub weaker : {A : Type 0} (s : State) (w : Walk (A × State)) (Good Best : State → A → Type 0) → Goes s w Good → ((t : State) (a : A) → Good t a → Best t a) → Goes s w Best
 weaker {A} s w Good Best h k =
@@ -104,10 +108,10 @@ granted_goes s constraint token p (Some a) l = λ met. (l, after_same s, tt)
 
 -- ---- what is made and the function that is read
 
-pub around : (s : State) (made : MadeState) (body : BodyState) → IsLawful s → Kept s (record { types = s.types; scopes = s.scopes; made = made; body = body })
-around s made body l = (
+pub around : (s : State) (made : MadeState) (body : BodyState) → IsLawful s → made.functions ≡ s.made.functions → Kept s (record { types = s.types; scopes = s.scopes; made = made; body = body })
+around s made body l same = (
   record { contents = l.contents; begun = l.begun; counted = l.counted; entities = l.entities; tags = l.tags; linked = l.linked; laid = l.laid; apart = l.apart; depths = l.depths },
-  after_linked s (record { types = s.types; scopes = s.scopes; made = made; body = body }) (extends_same s.types.records) refl,
+  after_linked s (record { types = s.types; scopes = s.scopes; made = made; body = body }) (extends_same s.types.records) refl same,
 )
 
 -- ---- names with linkage
@@ -132,6 +136,7 @@ linked_put s place x l h from = (
   record {
     extends = extends_same s.types.records;
     names = λ i y e. stays i y e (put_either place x s.types.linked i);
+    functions = refl;
   },
 )
   where
@@ -169,6 +174,7 @@ linked_added s x l h fresh = (
   record {
     extends = extends_same s.types.records;
     names = λ i y e. (y, get_append s.types.linked (x ∷ []) i y e, continues_same y);
+    functions = refl;
   },
 )
   where
@@ -196,7 +202,7 @@ entity_put s place x l h = (
     apart = l.apart;
     depths = l.depths;
   },
-  after_linked s (put_entity place x s) (extends_same s.types.records) refl,
+  after_linked s (put_entity place x s) (extends_same s.types.records) refl refl,
 )
   where
     by : (i : ℕ) (y : Entity) → slice_get (put_at place x s.scopes.entities) i ≡ Some y
@@ -206,7 +212,7 @@ entity_put s place x l h = (
     by i y e (inr g) = l.entities i y (sym g ∙ e)
 
 pub entered_kept : (s : State) (name : List ℕ) (x : Entity) → IsLawful s → IsLawfulEntity s.types.records x → Kept s (enter name x s)
-entered_kept s name x l h = (entered s name x l h, after_linked s (enter name x s) (extends_same s.types.records) refl)
+entered_kept s name x l h = (entered s name x l h, after_linked s (enter name x s) (extends_same s.types.records) refl refl)
 
 pub composite_lawful : (r : List RecordValue) (a b : QType) → IsLawfulType r (type_of a) → IsLawfulType r (type_of b) → IsLawfulType r (type_of (composite a b))
 unfolding composite
@@ -220,12 +226,12 @@ linked_is : (s : State) (name : List ℕ) (x : LinkedName) → IsLawful s → li
 linked_is s name x l e = let p = and_then_is (linked_at s) (place_of_linked s name) x e in l.linked p.0 x p.1
 
 -- a name that has no place is that of none
-none_named : (s : State) (name : List ℕ) → linked_before s name ≡ None → (i : ℕ) (y : LinkedName) → slice_get s.types.linked i ≡ Some y → y.name ≡ name → ⊥
+pub none_named : (s : State) (name : List ℕ) → linked_before s name ≡ None → (i : ℕ) (y : LinkedName) → slice_get s.types.linked i ≡ Some y → y.name ≡ name → ⊥
 none_named s name none i y e same =
     found_first (λ (l : LinkedName). bytes_eq l.name name) s.types.linked i y e ((bytes_eq-Decides y.name name).1 same) none
 
 -- the place of a name that has one
-place_is : (s : State) (name : List ℕ) (x : LinkedName) → linked_before s name ≡ Some x → slice_get s.types.linked (place_for s name) ≡ Some x
+pub place_is : (s : State) (name : List ℕ) (x : LinkedName) → linked_before s name ≡ Some x → slice_get s.types.linked (place_for s name) ≡ Some x
 place_is s name x e = by (place_of_linked s name) e
   where
     by : (o : Option ℕ) → option_and_then (linked_at s) o ≡ Some x → slice_get s.types.linked (unwrap_or o (length s.types.linked)) ≡ Some x
@@ -278,6 +284,56 @@ declared_goes s name token tag asking q l h =
     (Rattle.pw_well_typed.proofs.Types.lawful_later s.types.records (note_linked name (is_internal_by s name asking) q token tag s).types.records a.1.extends (type_of q) h) in
     (b.0, after_trans a.1 b.1, tt)
 
+-- at the place stands the name
+abbrev pub NamedAt : List ℕ → State → ℕ → Type 0
+NamedAt name t place = (l : LinkedName) × (slice_get t.types.linked place ≡ Some l) × (l.name ≡ name)
+
+pub named_before : (s : State) (name : List ℕ) (x : LinkedName) → linked_before s name ≡ Some x → x.name ≡ name
+named_before s name x e = by (place_of_linked s name) refl e
+  where
+    by : (o : Option ℕ) → place_of_linked s name ≡ o → option_and_then (linked_at s) o ≡ Some x → x.name ≡ name
+    by None f g = never_some g
+    by (Some n) f g = (bytes_eq-Decides x.name name).0 (position_passes (λ (l : LinkedName). bytes_eq l.name name) s.types.linked n x f g)
+
+place_new : (s : State) (name : List ℕ) → linked_before s name ≡ None → place_for s name ≡ length s.types.linked
+place_new s name none = ap (λ o. unwrap_or o (length s.types.linked)) (position_none (λ (l : LinkedName). bytes_eq l.name name) s.types.linked none)
+
+noted_at : (s : State) (name : List ℕ) (internal : Bool) (ty : QType) (token : ℕ) (tag : Option ℕ) → NamedAt name (note_linked name internal ty token tag s) (place_for s name)
+noted_at s name internal ty token tag = by (linked_before s name) refl
+  where
+    by : (o : Option LinkedName) → linked_before s name ≡ o
+        → NamedAt name (option_map_or (λ x. put_linked (place_for s name) (linked_again ty x) s) o (add_linked (linked_anew name internal ty token tag) s)) (place_for s name)
+    by None e = (
+      linked_anew name internal ty token tag,
+      subst (λ k. slice_get (s.types.linked ++ linked_anew name internal ty token tag ∷ []) k ≡ Some (linked_anew name internal ty token tag)) (sym (place_new s name e))
+          (get_last s.types.linked (linked_anew name internal ty token tag)),
+      refl,
+    )
+    by (Some x) e =
+        (linked_again ty x, put_same (place_for s name) (linked_again ty x) s.types.linked (get_within s.types.linked (place_for s name) x (place_is s name x e)), named_before s name x e)
+
+here_linked : (s : State) (name : List ℕ) (place : ℕ) (ty : QType) → (note_here name place ty s).types.linked ≡ s.types.linked
+here_linked s name place ty = by (entry_here s name)
+  where
+    by : (o : Option Entry) → (option_map_or (λ (e : Entry). put_entity e.place (Linked place (type_here ty (unwrap_or (entity_here s name) (TypeName ty)))) s) o (enter name (Linked place ty) s)).types.linked ≡ s.types.linked
+    by None = refl
+    by (Some e) = refl
+
+pub declared_at : (s : State) (name : List ℕ) (token : ℕ) (tag : Option ℕ) (asking : Asking) (q : QType) → IsLawful s → IsLawfulType s.types.records (type_of q)
+    → Goes s (declare_linked name token tag asking q s) (NamedAt name)
+unfolding declare_linked bind
+declared_at s name token tag asking q l h =
+    let internal : Bool = is_internal_by s name asking in
+    let a : Kept s (note_linked name (is_internal_by s name asking) q token tag s) = noted s name (is_internal_by s name asking) q token tag l h in
+    let b : Kept (note_linked name (is_internal_by s name asking) q token tag s) (note_here name (place_for s name) q (note_linked name (is_internal_by s name asking) q token tag s)) =
+    noted_here (note_linked name (is_internal_by s name asking) q token tag s) name (place_for s name) q a.0
+    (Rattle.pw_well_typed.proofs.Types.lawful_later s.types.records (note_linked name (is_internal_by s name asking) q token tag s).types.records a.1.extends (type_of q) h) in
+    let x : NamedAt name (note_linked name (is_internal_by s name asking) q token tag s) (place_for s name) = noted_at s name (is_internal_by s name asking) q token tag in (
+      b.0,
+      after_trans a.1 b.1,
+      (x.0, ap (λ xs. slice_get xs (place_for s name)) (here_linked (note_linked name (is_internal_by s name asking) q token tag s) name (place_for s name) q) ∙ x.1, x.2),
+    )
+
 pub linked_changed : (s : State) (place : ℕ) (f : LinkedName → LinkedName) → IsLawful s
     → ((x : LinkedName) → IsLawfulType s.types.records (type_of x.ty) → IsLawfulType s.types.records (type_of (f x).ty))
     → ((x : LinkedName) → Continues x (f x)) → Kept s (change_linked place f s)
@@ -292,7 +348,7 @@ slot_kept s place l = by (has_slot s place)
   where
     by : (b : Bool) → Kept s (if b then s else add_slot (slot.Named place) s)
     by true = (l, after_same s)
-    by false = around s (add_slot (slot.Named place) s).made s.body l
+    by false = around s (add_slot (slot.Named place) s).made s.body l refl
 
 pub tentative_kept : (s : State) (place : ℕ) → IsLawful s → Kept s (define_tentatively place s)
 tentative_kept s place l =
@@ -317,7 +373,7 @@ pub scoped_goes : {A : Type 0} (s : State) (inside : Rule A) → IsLawful s → 
 unfolding scoped bind
 scoped_goes {A} s inside l h =
     post_bind (inside (one_deeper s)) _ (λ r. IsLawful r.1 × After (one_deeper s) r.1 × Unit {0}) (λ r. IsLawful r.1 × After s r.1 × Unit {0}) h
-    (λ r g. (left_lawful_alone r.1 g.0, record { extends = g.1.extends; names = g.1.names }, tt))
+    (λ r g. (left_lawful_alone r.1 g.0, record { extends = g.1.extends; names = g.1.names; functions = g.1.functions }, tt))
 
 -- ---- steps that are no rules of their own
 

@@ -42,7 +42,7 @@ expression_typed e s t a l h m locals d w = ((ends e s t a l h).2 m locals d w).
 
 accepted : (tree : Module) (m : ModuleValue) → Checks tree (Ok m) → IsSound m
 unfolding checking
-accepted tree m h = post_end (checking tree) m IsSound h (checking_sound tree start start_lawful)
+accepted tree m h = post_end (checking tree) m IsSound h (checking_sound tree start_lawful)
 
 pub module_laid : (tree : Module) (m : ModuleValue) → Checks tree (Ok m) → IsLaid m.records
 module_laid tree m h = (accepted tree m h).laid
@@ -52,3 +52,6 @@ module_known tree m h = (accepted tree m h).known
 
 pub module_apart : (tree : Module) (m : ModuleValue) → Checks tree (Ok m) → AllPairs (λ d e. d.name ≢ e.name) m.declared
 module_apart tree m h = (accepted tree m h).one_declared
+
+pub module_once : (tree : Module) (m : ModuleValue) → Checks tree (Ok m) → AllPairs (λ f g. f.name ≢ g.name) m.functions
+module_once tree m h = (accepted tree m h).one_function

@@ -1,10 +1,10 @@
 -- Places of lists: of one that grew, of one that was filtered, of one in which one place was put anew.
 use Rattle.std.specs.Prelude.{ℕ, zero, suc, ◌≡◌, ◌<◌, ◌⊎◌, Bool, true, false, Option, None, Some, List, [], ◌∷◌, ◌++◌, length, map, filter, slice_get, if◌then◌else◌, cond, not, nat_lt, ◌+◌, ◌≤◌, position, option_and_then, refl}
 use Rattle.std.specs.List.{position_or_len}
-use Rattle.std.proofs.lemmas.Bool.{ltb-false}
+use Rattle.std.proofs.lemmas.Bool.{ltb-false, ltb-true}
 use Rattle.std.specs.Option.{option_or}
 use Rattle.std.specs.Str.{bytes_eq}
-use Rattle.std.proofs.Common.{arith, ap, subst, ◌∙◌, inl, inr, sym}
+use Rattle.std.proofs.Common.{arith, ap, subst, ◌∙◌, inl, inr, sym, one-add}
 use Rattle.pw_rules.specs.States.{put_at}
 use Rattle.pw_scope.specs.Visible.{visible}
 
@@ -175,3 +175,30 @@ found_first {X} {A} p xs i x e h none = by (nat_lt (position_or_len p xs) (lengt
         let k : position_or_len p xs < length xs = first_below p xs i x e h in
         let q : length xs ≤ position_or_len p xs = ltb-false (position_or_len p xs) (length xs) f in
         grind (arith, k, q)
+
+pub position_none : {X : Type 0} (p : X → Bool) (xs : List X) → option_and_then (slice_get xs) (position p xs) ≡ None → position p xs ≡ None
+position_none {X} p xs none = by (nat_lt (position_or_len p xs) (length xs)) refl none
+  where
+    by : (b : Bool) → nat_lt (position_or_len p xs) (length xs) ≡ b → option_and_then (slice_get xs) (cond b (Some (position_or_len p xs)) None) ≡ None
+        → cond b (Some (position_or_len p xs)) None ≡ None
+    by true f g = get_some xs (position_or_len p xs) (ltb-true (position_or_len p xs) (length xs) f) g
+    by false f g = refl
+
+-- the first that passes does
+passes_first : {X : Type 0} (p : X → Bool) (xs : List X) (x : X) → slice_get xs (position_or_len p xs) ≡ Some x → p x ≡ true
+passes_first p [] x e = never_some e
+passes_first {X} p (z ∷ xs) x e = by (p z) refl e (passes_first p xs x)
+  where
+    by : (b : Bool) → p z ≡ b → slice_get (z ∷ xs) (cond (not b) (1 + position_or_len p xs) 0) ≡ Some x → (slice_get xs (position_or_len p xs) ≡ Some x → p x ≡ true) → p x ≡ true
+    by true f g rest = sym (ap p (some_same g)) ∙ f
+    by false f g rest = rest (sym (get_next xs z (position_or_len p xs)) ∙ g)
+      where
+        get_next : (ys : List X) (y : X) (n : ℕ) → slice_get (y ∷ ys) (1 + n) ≡ slice_get ys n
+        get_next ys y n = ap (slice_get (y ∷ ys)) (one-add n)
+
+pub position_passes : {X : Type 0} (p : X → Bool) (xs : List X) (n : ℕ) (x : X) → position p xs ≡ Some n → slice_get xs n ≡ Some x → p x ≡ true
+position_passes {X} p xs n x e h = by (nat_lt (position_or_len p xs) (length xs)) e
+  where
+    by : (b : Bool) → cond b (Some (position_or_len p xs)) None ≡ Some n → p x ≡ true
+    by true f = passes_first p xs x (subst (λ k. slice_get xs k ≡ Some x) (sym (some_same f)) h)
+    by false f = never_some f

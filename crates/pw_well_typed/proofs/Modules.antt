@@ -1,35 +1,37 @@
 -- Functions and modules: the state at a module's end is lawful.
-use Rattle.std.specs.Prelude.{ℕ, ◌≡◌, ◌+◌, ◌≤◌, ◌⊎◌, not, Option, None, Some, unwrap_or, List, [], ◌∷◌, map, filter, slice_get, All, refl, ◌≢◌, ◌<◌, AllPairs, length}
-use Rattle.std.proofs.Common.{arith, ap, sym, subst, inl, inr, subst₂}
+use Rattle.pw_rules.specs.SpecifierLists.{Specified}
+use Rattle.std.specs.Option.{option_map_or}
+use Rattle.std.specs.Prelude.{ℕ, ◌≡◌, ◌+◌, ◌≤◌, ◌⊎◌, not, Option, None, Some, unwrap_or, List, [], ◌∷◌, map, filter, slice_get, All, refl, ◌≢◌, ◌<◌, AllPairs, length, if◌then◌else◌, Bool, true, false}
+use Rattle.std.proofs.Common.{arith, ap, sym, subst, inl, inr, subst₂, ◌∙◌}
 use Rattle.std.proofs.lemmas.List.Kept.{AllPairs-filter}
 use Rattle.std.proofs.lemmas.Option.{slice_get-get_or, get_or_from_slice_get}
-use Rattle.pw_tree.specs.Trees.{Word, Function, External, Definition, Declaration, Module, Block}
+use Rattle.pw_tree.specs.Trees.{Word, Function, External, Definition, Declaration, Module, Block, Decl}
 use Rattle.pw_types.specs.Records.{IsLaid}
 use Rattle.pw_types.specs.TypeTrees.{QType, type_of}
-use Rattle.pw_types.specs.TypedTrees.{FunctionValue, DeclaredValue, ModuleValue}
+use Rattle.pw_types.specs.TypedTrees.{FunctionValue, DeclaredValue, ModuleValue, Symbol, External as Shared, Internal, Hidden}
 use Rattle.pw_types.specs.WellTyped.{IsKnownType}
-use Rattle.pw_walk.specs.Walks.{Done, bind}
+use Rattle.pw_walk.specs.Walks.{Done, bind, Walk}
 use Rattle.pw_rules.specs.Declarations.{name_of}
-use Rattle.pw_rules.specs.Derivations.{Bindings, spot_of}
-use Rattle.pw_rules.specs.Functions.{bindings_of, no_bindings, enter_body, definition_asking, measured_rule, body_rule, function_rule}
+use Rattle.pw_rules.specs.Derivations.{Bindings, spot_of, Declared}
+use Rattle.pw_rules.specs.Functions.{function_of, bindings_of, no_bindings, enter_body, definition_asking, measured_rule, body_rule, function_rule, add_function, definition_rules}
 use Rattle.pw_rules.specs.Leaves.{first_of_declaration}
-use Rattle.pw_rules.specs.Linkage.{define_function}
+use Rattle.pw_rules.specs.Linkage.{define_function, symbol_of_linked, linked_before, place_for}
 use Rattle.pw_rules.specs.Modules.{external_rule, externals_rule, end_rule, module_in, module_rule, declared_value}
-use Rattle.pw_rules.specs.States.{State, LinkedName, leave_scope, linked_in}
+use Rattle.pw_rules.specs.States.{State, LinkedName, leave_scope, linked_in, start, linked_at, put_linked}
 use Rattle.pw_rules.specs.Statements.{block_rule, labels_in_block}
 use Rattle.pw_rules.specs.declared.names.Entry.{Entry}
 use Rattle.pw_rules.specs.declared.names.Tag.{Tag}
 use Rattle.pw_rules.specs.declared.names.TagEntry.{TagEntry}
 use Rattle.pw_well_typed.specs.Lawful.{IsLawful, IsLawfulTag}
-use Rattle.pw_well_typed.proofs.Walking.{Post, post_bind}
-use Rattle.pw_well_typed.proofs.Lists.{get_either, get_map, get_filter, get_within}
-use Rattle.pw_well_typed.proofs.Types.{extends_same, lawful_later, lawful_known}
+use Rattle.pw_well_typed.proofs.Walking.{Post, post_bind, truth, AreMet}
+use Rattle.pw_well_typed.proofs.Lists.{get_either, get_map, get_filter, get_within, some_same, never_some, get_more, put_same}
+use Rattle.pw_well_typed.proofs.Types.{extends_same, lawful_later, lawful_known, no, not_true}
 use Rattle.pw_well_typed.proofs.Changes.{left_lawful_alone}
 use Rattle.pw_well_typed.proofs.Leaves.{GoodType, GoodSpecified, GoodDeclared, GoodBindings, GoodIfAny, bindings_later, built_runs}
 use Rattle.pw_well_typed.proofs.Phrases.{declarator_post}
 use Rattle.pw_well_typed.proofs.Declarations.{specified_goes, decl_goes}
 use Rattle.pw_well_typed.proofs.Statements.{block_goes}
-use Rattle.pw_well_typed.proofs.Keeping.{After, after_linked, after_same, after_trans, Kept, Goes, goes_by, of_runs, from_kept, changed, asked, met_first, Anything, around, declared_goes, function_kept}
+use Rattle.pw_well_typed.proofs.Keeping.{After, after_linked, after_same, after_trans, Kept, Goes, of_runs, met_first, Anything, function_kept, Continues, NamedAt, declared_at, none_named, place_is, named_before, weaker}
 
 -- ---- functions
 
@@ -50,7 +52,7 @@ body_entered s q b names l h = (
     apart = l.apart;
     depths = λ i e g. by_entry i e (get_either s.scopes.ordinary (map (λ (x : List ℕ × ℕ). (x.0, record { place = x.1; depth = s.scopes.depth + 1 })) b.ordinary) i e g);
   },
-  after_linked s _ (extends_same s.types.records) refl,
+  after_linked s _ (extends_same s.types.records) refl refl,
 )
   where
     by_tag : (i : ℕ) (t : List ℕ × TagEntry)
@@ -71,64 +73,196 @@ body_entered s q b names l h = (
         omega (arith, same)
 
 left : (s : State) → IsLawful s → Kept s (leave_scope s)
-left s l = (left_lawful_alone s l, after_linked s _ (extends_same s.types.records) refl)
+left s l = (left_lawful_alone s l, after_linked s _ (extends_same s.types.records) refl refl)
 
 measured_goes : (s : State) (w : Word) (f : FunctionValue) → IsLawful s → Goes s (measured_rule w f s) Anything
 unfolding measured_rule bind
 measured_goes s w f l = λ met. (l, after_same s, tt)
 
-body_goes : (s : State) (w : Word) (place : ℕ) (q : QType) (b : Bindings) (block : Block) → IsLawful s → GoodBindings s.types.records b → Goes s (body_rule w place q b block s) Anything
-unfolding body_rule bind
-body_goes s w place q b block l h =
-    let a : Kept s (enter_body q b (labels_in_block block) s) = body_entered s q b (labels_in_block block) l h in
-    from_kept _ Anything a
-    (goes_by (block_rule block (enter_body q b (labels_in_block block) s)) _ Anything Anything (block_goes block (enter_body q b (labels_in_block block) s) a.0) (λ r m x k.
-    let c : Kept r.1 (leave_scope r.1) = left r.1 m in
-    from_kept _ Anything c
-    (goes_by (measured_rule w _ (leave_scope r.1)) _ Anything Anything (measured_goes (leave_scope r.1) w _ c.0) (λ u n y j. let d = around u.1 _ u.1.body n in (d.0, d.1, tt)))))
+-- ---- functions are defined once
 
-function_goes : (s : State) (f : Function) → IsLawful s → Goes s (function_rule f s) Anything
+text_of : Symbol → List ℕ
+text_of (Shared name) = name
+text_of (Internal name) = name
+text_of (Hidden k) = []
+
+symbol_text : (l : LinkedName) → text_of (symbol_of_linked l) ≡ l.name
+unfolding text_of
+symbol_text l = by l.internal
+  where
+    by : (b : Bool) → text_of (if b then Internal l.name else Shared l.name) ≡ l.name
+    by true = refl
+    by false = refl
+
+symbol_continues : (x y : LinkedName) → Continues x y → symbol_of_linked y ≡ symbol_of_linked x
+symbol_continues x y c =
+    ap (λ b. if b then Internal y.name else Shared y.name) c.internal ∙ ap (λ n. if x.internal then Internal n else Shared n) c.name
+
+-- the function is that of a name that is defined
+abbrev PlacedAt : State → FunctionValue → Type 0
+PlacedAt s f = (place : ℕ) × (l : LinkedName) × (slice_get s.types.linked place ≡ Some l) × (l.defined ≡ true) × (f.name ≡ symbol_of_linked l)
+
+record OnceDefined (s : State) : Type 0 where
+  placed : (i : ℕ) (f : FunctionValue) → slice_get s.made.functions i ≡ Some f → PlacedAt s f
+  apart : (i j : ℕ) (f g : FunctionValue) → slice_get s.made.functions i ≡ Some f → slice_get s.made.functions j ≡ Some g → f.name ≡ g.name → i ≡ j
+
+once_later : {s t : State} → After s t → OnceDefined s → OnceDefined t
+once_later {s} {t} a o = record {
+  placed = λ i f e.
+      let p = o.placed i f (subst (λ xs. slice_get xs i ≡ Some f) a.functions e) in
+      let n = a.names p.0 p.1 p.2 in
+      (p.0, n.0, n.1, n.2.defined p.3, p.4 ∙ sym (symbol_continues p.1 n.0 n.2));
+  apart = λ i j f g e h same.
+      o.apart i j f g (subst (λ xs. slice_get xs i ≡ Some f) a.functions e) (subst (λ xs. slice_get xs j ≡ Some g) a.functions h) same;
+}
+
+then_post : {A B : Type 0} {s : State} (w : Walk (A × State)) (next : A × State → Walk (B × State)) (Good : State → A → Type 0) (P : B × State → Type 0) → Goes s w Good
+    → ((r : A × State) → IsLawful r.1 → After s r.1 → Good r.1 r.0 → Post (next r) P) → Post (bind w next) P
+then_post {A} {B} {s} w next Good P h k = post_bind w next (λ r. IsLawful r.1 × After s r.1 × Good r.1 r.0) P h (λ r g. k r g.0 g.1 g.2)
+
+done_post : {A B : Type 0} (a : A) (next : A → Walk B) (P : B → Type 0) → Post (next a) P → Post (bind (Done a) next) P
+unfolding bind
+done_post a next P h = h
+
+abbrev Once : {A : Type 0} → A × State → Type 0
+Once r = IsLawful r.1 × OnceDefined r.1
+
+-- not defined in the state
+abbrev NotDefined : State → List ℕ → Type 0
+NotDefined s name = option_map_or (λ (l : LinkedName). l.defined) (linked_before s name) false ≡ false
+
+no_place : (s : State) (name : List ℕ) (place : ℕ) (x : LinkedName) → IsLawful s → NotDefined s name → slice_get s.types.linked place ≡ Some x → x.name ≡ name → x.defined ≡ true → ⊥
+no_place s name place x l none e same defined = by (linked_before s name) refl none
+  where
+    by : (o : Option LinkedName) → linked_before s name ≡ o → option_map_or (λ (l : LinkedName). l.defined) o false ≡ false → ⊥
+    by None f g = none_named s name f place x e same
+    by (Some y) f g =
+        let here : slice_get s.types.linked (place_for s name) ≡ Some y = place_is s name y f in
+        let one : place ≡ place_for s name = l.apart place (place_for s name) x y e here (same ∙ sym (named_before s name y f)) in
+        let alike : x ≡ y = some_same (sym e ∙ (ap (slice_get s.types.linked) one ∙ here)) in
+        no (sym g ∙ (ap (λ (z : LinkedName). z.defined) (sym alike) ∙ defined))
+
+function_added : (s t : State) (name : List ℕ) (f : FunctionValue) (place : ℕ) (x : LinkedName) → IsLawful s → OnceDefined s → NotDefined s name → After s t
+    → slice_get t.types.linked place ≡ Some x → x.name ≡ name → x.defined ≡ true → f.name ≡ symbol_of_linked x → OnceDefined (add_function f t)
+function_added s t name f place x l o none a e named defined symbol = record {
+  placed = λ i g h. by_place i g (get_more t.made.functions f i g h);
+  apart = λ i j g h d k same. by_two i j g h (get_more t.made.functions f i g d) (get_more t.made.functions f j h k) same;
+}
+  where
+    later : OnceDefined t
+    later = once_later a o
+
+    by_place : (i : ℕ) (g : FunctionValue) → (slice_get t.made.functions i ≡ Some g) ⊎ ((i ≡ length t.made.functions) × (f ≡ g)) → PlacedAt t g
+    by_place i g (inl h) = later.placed i g h
+    by_place i g (inr h) = (place, x, e, defined, ap (λ (y : FunctionValue). y.name) (sym h.1) ∙ symbol)
+
+    never : (i : ℕ) (g : FunctionValue) → slice_get t.made.functions i ≡ Some g → g.name ≡ f.name → ⊥
+    never i g h same =
+        let p = o.placed i g (subst (λ xs. slice_get xs i ≡ Some g) a.functions h) in
+        no_place s name p.0 p.1 l none p.2
+        (sym (symbol_text p.1) ∙ (ap text_of (sym p.4 ∙ (same ∙ symbol)) ∙ (symbol_text x ∙ named))) p.3
+
+    by_two : (i j : ℕ) (g h : FunctionValue) → (slice_get t.made.functions i ≡ Some g) ⊎ ((i ≡ length t.made.functions) × (f ≡ g))
+        → (slice_get t.made.functions j ≡ Some h) ⊎ ((j ≡ length t.made.functions) × (f ≡ h)) → g.name ≡ h.name → i ≡ j
+    by_two i j g h (inl d) (inl k) same = later.apart i j g h d k same
+    by_two i j g h (inl d) (inr k) same = absurd (never i g d (same ∙ ap (λ (y : FunctionValue). y.name) (sym k.1)))
+    by_two i j g h (inr d) (inl k) same = absurd (never j h k (sym same ∙ ap (λ (y : FunctionValue). y.name) (sym d.1)))
+    by_two i j g h (inr d) (inr k) same = d.0 ∙ sym k.0
+
+added_lawful : (s : State) (f : FunctionValue) → IsLawful s → IsLawful (add_function f s)
+added_lawful s f l = record { contents = l.contents; begun = l.begun; counted = l.counted; entities = l.entities; tags = l.tags; linked = l.linked; laid = l.laid; apart = l.apart; depths = l.depths }
+
+-- at the place stands the name, which is defined
+abbrev DefinedAt : List ℕ → State → ℕ → Type 0
+DefinedAt name t place = (x : LinkedName) × (slice_get t.types.linked place ≡ Some x) × (x.name ≡ name) × (x.defined ≡ true)
+
+body_post : (old s : State) (w : Word) (place : ℕ) (q : QType) (b : Bindings) (block : Block) → IsLawful old → OnceDefined old → NotDefined old w.text → After old s
+    → DefinedAt w.text s place → IsLawful s → GoodBindings s.types.records b → Post (body_rule w place q b block s) Once
+unfolding body_rule bind
+body_post old s w place q b block lo o none a x l h =
+    let c : Kept s (enter_body q b (labels_in_block block) s) = body_entered s q b (labels_in_block block) l h in
+    then_post (block_rule block (enter_body q b (labels_in_block block) s)) _ Anything Once (block_goes block (enter_body q b (labels_in_block block) s) c.0) (λ r m y k.
+    let d : Kept r.1 (leave_scope r.1) = left r.1 m in
+    then_post (measured_rule w (function_of r.1 w place q b r.0) (leave_scope r.1)) _ Anything Once (measured_goes (leave_scope r.1) w (function_of r.1 w place q b r.0) d.0) (λ u n z j.
+    let at = (after_trans c.1 y).names place x.0 x.1 in
+    let end = (after_trans d.1 z).names place at.0 at.1 in (
+      added_lawful u.1 (function_of r.1 w place q b r.0) n,
+      function_added old u.1 w.text (function_of r.1 w place q b r.0) place end.0 lo o none (after_trans a (after_trans c.1 (after_trans y (after_trans d.1 z)))) end.1
+          (end.2.name ∙ (at.2.name ∙ x.2)) (end.2.defined (at.2.defined x.3))
+          (ap (λ p. option_map_or symbol_of_linked p (Shared [])) at.1 ∙ sym (symbol_continues at.0 end.0 end.2)),
+    )))
+
+defined_at : (s : State) (place : ℕ) (name : List ℕ) → NamedAt name s place → DefinedAt name (define_function place s) place
+defined_at s place name x = by (linked_at s place) refl
+  where
+    by : (p : Option LinkedName) → linked_at s place ≡ p → DefinedAt name (option_map_or (λ y. put_linked place (record y { defined = true }) s) p s) place
+    by None e = never_some (sym e ∙ x.1)
+    by (Some y) e = (
+      record y { defined = true },
+      put_same place (record y { defined = true }) s.types.linked (get_within s.types.linked place y e),
+      ap (λ (z : LinkedName). z.name) (some_same (sym e ∙ x.1)) ∙ x.2,
+      refl,
+    )
+
+not_yet : (s : State) (w : Word) (b : Specified) (d : Declared) (ds : List Decl) (q : QType) → AreMet (definition_rules s w b d ds q) → NotDefined s w.text
+not_yet s w b d ds q met =
+    not_true (option_map_or (λ (l : LinkedName). l.defined) (linked_before s w.text) false)
+    (truth (not (option_map_or (λ (l : LinkedName). l.defined) (linked_before s w.text) false))
+    met.1.1.1.0)
+
+function_post : (s : State) (f : Function) → IsLawful s → OnceDefined s → Post (function_rule f s) Once
 unfolding function_rule
-function_goes s f l =
-    goes_by _ _ GoodSpecified Anything (specified_goes s f.specifiers (first_of_declaration f.specifiers f.declarator) l) (λ r m x h.
-    goes_by _ _ GoodDeclared Anything (of_runs _ _ GoodDeclared (declarator_post f.declarator r.1 m)) (λ u n y k.
-    goes_by _ _ GoodType Anything
+function_post s f l o =
+    then_post _ _ GoodSpecified Once (specified_goes s f.specifiers (first_of_declaration f.specifiers f.declarator) l) (λ r m x h.
+    then_post _ _ GoodDeclared Once (of_runs _ _ GoodDeclared (declarator_post f.declarator r.1 m)) (λ u n y k.
+    then_post _ _ GoodType Once
     (of_runs _ _ GoodType (built_runs u.1 (spot_of u.0.name r.0.first r.0.tag) u.0.derivations r.0.ty n k.0 (lawful_later r.1.types.records u.1.types.records y.extends (type_of r.0.ty) h))) (λ v i z j.
-    asked v.1 _ _ Anything
-    (goes_by _ _ Anything Anything
-    (met_first v.1 _ _ Anything (λ met. declared_goes v.1 (name_of u.0).text (name_of u.0).token r.0.tag (definition_asking r.0) v.0 i j)) (λ o p q e.
-    let c : Kept o.1 (define_function o.0 o.1) = function_kept o.1 o.0 p in
-    changed tt _ Anything c
-    (body_goes (define_function o.0 o.1) (name_of u.0) o.0 v.0 (bindings_of u.0) f.body c.0
-    (good_bindings (define_function o.0 o.1) u.0.bindings
-    (bindings_later u.1.types.records (define_function o.0 o.1).types.records (after_trans z (after_trans q c.1)).extends u.0.bindings k.1))))))))
+    done_post _ _ Once
+    (then_post _ _ (λ t place. NamedAt (name_of u.0).text t place × NotDefined v.1 (name_of u.0).text) Once
+    (met_first v.1 _ _ (λ t place. NamedAt (name_of u.0).text t place × NotDefined v.1 (name_of u.0).text) (λ met.
+    weaker _ _ (NamedAt (name_of u.0).text) (λ t place. NamedAt (name_of u.0).text t place × NotDefined v.1 (name_of u.0).text)
+    (declared_at v.1 (name_of u.0).text (name_of u.0).token r.0.tag (definition_asking r.0) v.0 i j)
+    (λ t place g. (g, not_yet v.1 (name_of u.0) r.0 u.0 f.declarations v.0 met))))
+    (λ e p q g.
+    let c : Kept e.1 (define_function e.0 e.1) = function_kept e.1 e.0 p in
+    done_post _ _ Once
+    (body_post v.1 (define_function e.0 e.1) (name_of u.0) e.0 v.0 (bindings_of u.0) f.body i (once_later (after_trans x (after_trans y z)) o) g.1 (after_trans q c.1)
+    (defined_at e.1 e.0 (name_of u.0).text g.0) c.0
+    (good_bindings (define_function e.0 e.1) u.0.bindings
+    (bindings_later u.1.types.records (define_function e.0 e.1).types.records (after_trans z (after_trans q c.1)).extends u.0.bindings k.1))))))))
 
 -- ---- modules
 
-external_goes : (s : State) (x : External) → IsLawful s → Goes s (external_rule x s) Anything
+external_post : (s : State) (x : External) → IsLawful s → OnceDefined s → Post (external_rule x s) Once
 unfolding external_rule
-external_goes s (Definition f) l = function_goes s f l
-external_goes s (Declaration d) l = goes_by _ _ Anything Anything (decl_goes s d l) (λ r m x h. (m, after_same r.1, tt))
+external_post s (Definition f) l o = function_post s f l o
+external_post s (Declaration d) l o = then_post _ _ Anything Once (decl_goes s d l) (λ r m x h. (m, once_later x o))
 
-externals_goes : (xs : List External) (s : State) → IsLawful s → Goes s (externals_rule xs s) Anything
+externals_post : (xs : List External) (s : State) → IsLawful s → OnceDefined s → Post (externals_rule xs s) Once
 unfolding externals_rule
-externals_goes [] s l = (l, after_same s, tt)
-externals_goes (x ∷ rest) s l = goes_by _ _ Anything Anything (external_goes s x l) (λ r m y h. externals_goes rest r.1 m)
+externals_post [] s l o = (l, o)
+externals_post (x ∷ rest) s l o = post_bind _ _ Once Once (external_post s x l o) (λ r h. externals_post rest r.1 h.0 h.1)
 
 end_goes : (names : List LinkedName) (s : State) → IsLawful s → Goes s (end_rule names s) Anything
 unfolding end_rule bind
 end_goes [] s l = (l, after_same s, tt)
 end_goes (x ∷ rest) s l = λ met. end_goes rest s l
 
-abbrev IsMade : State → ModuleValue → Type 0
-IsMade s m = m ≡ module_in s
+abbrev IsWhole : ModuleValue × State → Type 0
+IsWhole r = IsLawful r.1 × OnceDefined r.1 × (r.0 ≡ module_in r.1)
 
-module_goes : (m : Module) (s : State) → IsLawful s → Goes s (module_rule m s) IsMade
+module_post : (m : Module) (s : State) → IsLawful s → OnceDefined s → Post (module_rule m s) IsWhole
 unfolding module_rule
-module_goes m s l =
-    goes_by _ _ Anything IsMade
-    (goes_by _ _ Anything Anything (externals_goes m.externals s l) (λ r n x h. (n, after_same r.1, tt))) (λ r n x h.
-    goes_by _ _ Anything IsMade (end_goes r.0 r.1 n) (λ u i y k. (i, after_same u.1, refl)))
+module_post m s l o =
+    post_bind _ _ Once IsWhole
+    (post_bind _ _ Once Once (externals_post m.externals s l o) (λ r h. h)) (λ r h.
+    then_post _ _ Anything IsWhole (end_goes r.0 r.1 h.0) (λ u i y k. (i, once_later y h.1, refl)))
+
+functions_apart : (s : State) → OnceDefined s → AllPairs (λ (f g : FunctionValue). f.name ≢ g.name) s.made.functions
+functions_apart s o i j d below within same =
+    let lower : i < length s.made.functions = omega (arith, below, within) in
+    let k : i ≡ j = o.apart i j _ _ (slice_get-get_or s.made.functions i d lower) (slice_get-get_or s.made.functions j d within) same in
+    grind (arith, below, k)
 
 declared_known : (s : State) → IsLawful s → All (λ d. IsKnownType s.types.records (type_of d.ty)) (map declared_value (filter (λ l. not l.internal) (linked_in s)))
 declared_known s l k d below =
@@ -160,11 +294,15 @@ pub record IsSound (m : ModuleValue) : Type 0 where
   pub laid : IsLaid m.records
   pub known : All (λ d. IsKnownType m.records (type_of d.ty)) m.declared
   pub one_declared : AllPairs (λ d e. d.name ≢ e.name) m.declared
+  pub one_function : AllPairs (λ f g. f.name ≢ g.name) m.functions
 
-sound : (s : State) → IsLawful s → IsSound (module_in s)
-sound s l = record { laid = l.laid; known = declared_known s l; one_declared = declared_apart s l }
+sound : (s : State) → IsLawful s → OnceDefined s → IsSound (module_in s)
+sound s l o = record { laid = l.laid; known = declared_known s l; one_declared = declared_apart s l; one_function = functions_apart s o }
 
-pub checking_sound : (m : Module) (s : State) → IsLawful s → Post (bind (module_rule m s) (λ r. Done r.0)) IsSound
-checking_sound m s l =
-    post_bind (module_rule m s) (λ r. Done r.0) (λ r. IsLawful r.1 × After s r.1 × IsMade r.1 r.0) IsSound (module_goes m s l)
-    (λ r h. subst IsSound (sym h.2) (sound r.1 h.0))
+none_defined : OnceDefined start
+none_defined = record { placed = λ i f e. never_some e; apart = λ i j f g e h same. never_some e }
+
+pub checking_sound : (m : Module) → IsLawful start → Post (bind (module_rule m start) (λ r. Done r.0)) IsSound
+checking_sound m l =
+    post_bind (module_rule m start) (λ r. Done r.0) IsWhole IsSound (module_post m start l none_defined)
+    (λ r h. subst IsSound (sym h.2) (sound r.1 h.0 h.1))

@@ -29,6 +29,7 @@ pub record Grows (s t : State) : Type 0 where
   pub hidden : Longer s.made.hidden t.made.hidden
   pub counting : t.made.counting ≡ s.made.counting
   pub body : t.body ≡ s.body
+  pub functions : t.made.functions ≡ s.made.functions
 
 pub grows_same : (s : State) → Grows s s
 grows_same s = record {
@@ -43,6 +44,7 @@ grows_same s = record {
   hidden = λ i x e. e;
   counting = refl;
   body = refl;
+  functions = refl;
 }
 
 pub grows_trans : {s t u : State} → Grows s t → Grows t u → Grows s u
@@ -58,6 +60,7 @@ grows_trans {s} {t} {u} a b = record {
   hidden = λ i x e. b.hidden i x (a.hidden i x e);
   counting = b.counting ∙ a.counting;
   body = b.body ∙ a.body;
+  functions = b.functions ∙ a.functions;
 }
   where
     by_place : (i : ℕ) (e : List ℕ × Entry) → (slice_get a.more i ≡ Some e) ⊎ ((j : ℕ) × (slice_get b.more j ≡ Some e)) → e.1.depth ≡ s.scopes.depth

@@ -34,7 +34,8 @@ pub fn accepted_records_are_laid()
     ensures known { (tree : Module) (m : ModuleValue) → Checks tree (Ok m) → All (λ d. IsKnownType m.records (type_of d.ty)) m.declared }
 {}
 
-/// A module that checking accepts shares no name twice.
+/// A module that checking accepts shares no name twice, and defines no function twice.
 pub fn accepted_names_are_apart()
-    ensures { (tree : Module) (m : ModuleValue) → Checks tree (Ok m) → AllPairs (λ d e. d.name ≢ e.name) m.declared }
+    ensures one_declared { (tree : Module) (m : ModuleValue) → Checks tree (Ok m) → AllPairs (λ d e. d.name ≢ e.name) m.declared }
+    ensures one_function { (tree : Module) (m : ModuleValue) → Checks tree (Ok m) → AllPairs (λ f g. f.name ≢ g.name) m.functions }
 {}
