@@ -13,11 +13,15 @@ loop="208bf02e 37c60000 48c70000 08870a07 68c70000 09070288 d1091a95 34843fff 88
 gcc -O2 -o "$work/c" "$top/bench/machine.c"
 
 mkdir -p "$work/repo/crates"
-for crate in pw_io pw_inst pw_value pw_image pw_machine; do
+for crate in pw_io pw_value pw_items pw_files pw_inst pw_image pw_machine; do
     mkdir "$work/repo/crates/$crate"
-    cp -r "$top/crates/$crate/src" "$top/crates/$crate/specs" "$top/crates/$crate/proofs" "$work/repo/crates/$crate/"
+    for part in src specs proofs; do
+        if [ -d "$top/crates/$crate/$part" ]; then cp -r "$top/crates/$crate/$part" "$work/repo/crates/$crate/"; fi
+    done
+    grep -E "^$crate:" "$top/crates.txt" >> "$work/repo/crates.txt"
 done
-printf 'pw_io:\npw_inst:\npw_value: sha2\npw_image: pw_value\npw_machine: pw_io pw_inst pw_image\ndrive: pw_io pw_machine anyhow\n' > "$work/repo/crates.txt"
+cp "$top/HANDLES" "$work/repo/HANDLES"
+echo 'drive: pw_io pw_machine anyhow' >> "$work/repo/crates.txt"
 mkdir -p "$work/repo/crates/drive/src"
 cat > "$work/repo/crates/drive/src/main.rt" <<DRIVE
 #![tactic(auto)]
