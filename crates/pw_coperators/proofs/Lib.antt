@@ -1,5 +1,5 @@
 pub mod ByteLemmas
 pub mod FindingLemmas
 pub mod MoveLemmas
-mod AccessLaws
-mod OperatorLaws
+pub mod AccessLaws
+pub mod OperatorLaws
