@@ -2,16 +2,17 @@
 use Rattle.std.specs.Prelude.{◌≡◌, ℕ, List, [], ◌∷◌, ◌++◌, codes, Option, Some, None, Result, Ok, Err}
 use Rattle.std.specs.FinMap as finite
 use Rattle.pw_io.specs.Files.{Files, front_of}
+use Rattle.pw_value.specs.Limits.{kept_limit}
 use Rattle.pw_value.specs.declared.fault.FileError.{FileError}
 use Rattle.pw_value.specs.declared.fault.FileError.TheVariants as file
 use Rattle.pw_value.specs.declared.fault.FileError.TheVariants.{FileFault}
 use Rattle.pw_answer.specs.declared.answer.Answer.{Answer}
 use Rattle.pw_answer.specs.declared.answer.Answer.TheVariants.{BadFile, StoreFault, NoMemory}
 
--- the bytes of a file, as far as they count: of a kept file the first 268,435,456
+-- the bytes of a file, as far as they count: of a kept file the first so many
 abbrev pub counted_in : List ℕ → Option (List ℕ) → Result (List ℕ) Answer
 counted_in name None = Err (BadFile name None)
-counted_in name (Some bytes) = Ok (front_of 268435456 bytes)
+counted_in name (Some bytes) = Ok (front_of kept_limit bytes)
 
 -- the bytes of a needed file, or that it is absent
 abbrev pub needed_bytes : Files → List ℕ → Result (List ℕ) Answer

@@ -8,11 +8,9 @@ ghost use Rattle.pw_commands.specs.Outcome.{IsFileStop, StopCount};
 
 use pw_answer::Answer;
 use pw_io::{Store, StoreError};
+use pw_value::limits::KEPT_LIMIT;
 use pw_value::{FileError, Name, NameError};
 use std::alloc::{AllocError, Global};
-
-/// How many bytes of a kept file are read, and count as the file.
-const KEPT_READ: usize = 268_435_456;
 
 /// The answer where a needed file is absent, or refused at an offset.
 pub fn bad_file(alloc: Global, name: &str, at: Option<usize>) -> Answer
@@ -47,7 +45,7 @@ pub fn read_needed<S: Store>(alloc: Global, store: &mut S, name: &str) -> Result
     ensures count { StopCount (S.faults store.old) (S.faults store.new) result }
     ensures stop { IfErr result IsFileStop }
 {
-    match store.get(alloc, name, KEPT_READ) {
+    match store.get(alloc, name, KEPT_LIMIT) {
         Ok(Some(bytes)) => Ok(bytes),
         Ok(None) => Err(bad_file(alloc, name, None)),
         Err(StoreError::Failed) => Err(Answer::StoreFault),

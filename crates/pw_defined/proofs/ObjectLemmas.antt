@@ -48,7 +48,7 @@ module _ (w : Word) (b : Specified) (spot : Spot) (q : QType) (o : Option Initia
   global_some i is =
       ap (λ x. global_rule w b spot q (view_initializer x) s) is
       ∙ same_behind (declare_linked w.text w.token b.tag (asking_of AGlobal b) q s) _ _
-      (λ p. sym (bind_assoc (object_rule (context_of w true 0) q (view_init i.init) (define_object p.0 p.1)) _ _))
+      (λ p. sym (bind_assoc (object_rule (context_of w true 0) (named_type (define_object p.0 p.1) w.text q) (view_init i.init) (define_object p.0 p.1)) _ _))
 
 -- what stands behind the declaration
 abbrev pub global_next : Word → Specified → QType → Option Initializer → ℕ × State → Walk (List T.Initialiser × State)
@@ -61,7 +61,7 @@ global_either w b spot q None s = global_none w b spot q None s refl
 global_either w b spot q (Some i) s = global_some w b spot q (Some i) s i refl
 
 pub global_joined : (w : Word) (place : ℕ) (q : QType) (i : Init) (s mid : State) → mid ≡ define_object place s
-    → global_rest w place q i s ≡ bind (object_fitted w place (context_of w true 0) q i mid) (λ o. Done ([], global_filled w place o.0 o.1))
+    → global_rest w place q i s ≡ bind (object_fitted w place (context_of w true 0) (named_type mid w.text q) i mid) (λ o. Done ([], global_filled w place o.0 o.1))
 unfolding bind global_rest
 global_joined w place q i s mid e = rw e refl
 

@@ -7,7 +7,7 @@ use Rattle.pw_walk.specs.Walks.{pure, asks, change, ◌>>=◌, ◌>>◌}
 use Rattle.pw_rules.specs.Kinds.{is_const_object}
 use Rattle.pw_rules.specs.States.{Rule, State, LocalObject, StaticObject, add_hidden, add_local, enter, put_entity, put_hidden}
 use Rattle.pw_rules.specs.SpecifierLists.{Specified, is_register}
-use Rattle.pw_rules.specs.Linkage.{Asking, declare_linked, define_object, initialise_linked, note_here}
+use Rattle.pw_rules.specs.Linkage.{Asking, declare_linked, define_object, initialise_linked, named_type, note_here}
 use Rattle.pw_rules.specs.Initialisers.{Context, Initialised, object_rule, is_by_bytes}
 use Rattle.pw_rules.specs.Declarations.{completed_rule, context_of, fitting_rule, hidden_of, local_of, local_initialiser, place_here, put_local}
 
@@ -70,6 +70,7 @@ object_fitted w place cx q i =
 unfoldable pub global_rest : Word → ℕ → QType → Init → Rule (List Initialiser)
 global_rest w place q i =
     change (define_object place) >>
-    object_fitted w place (context_of w true 0) q i >>= λ o.
+    asks (λ s. named_type s w.text q) >>= λ ty.
+    object_fitted w place (context_of w true 0) ty i >>= λ o.
     change (global_filled w place o) >>
     pure []

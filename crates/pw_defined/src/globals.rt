@@ -1,6 +1,6 @@
 //! Objects with linkage that are declared at file scope.
 
-ghost use Rattle.std.specs.Prelude.{◌≡◌, if◌then◌else◌, OnOk};
+ghost use Rattle.std.specs.Prelude.{◌≡◌, if◌then◌else◌, IfOk, OnOk};
 ghost use Rattle.pw_checking.specs.Follows.{Leads};
 ghost use Rattle.pw_checking.specs.PhraseViews.{view_specified};
 ghost use Rattle.pw_checking.specs.StateViews.{view_state};
@@ -13,7 +13,7 @@ ghost use Rattle.pw_rules.specs.Linkage as linkage;
 ghost use Rattle.pw_tree.specs.Views.{view_init, view_initializer, view_word};
 ghost use Rattle.pw_types.specs.Views.{view_qtype};
 
-use pw_checking::{Phrases, Specified, State};
+use pw_checking::{Entity, Phrases, Specified, State};
 use pw_initial::{Context, Initialised, object_rule};
 use pw_kinds::copy_qtype;
 use pw_linked::{
@@ -87,6 +87,16 @@ fn object_fitted<'a, P: Phrases<'a>>(
     Ok(made)
 }
 
+/// The type that a name has by its declarations in the scope that is read (C90 6.1.2.6).
+fn named_type(alloc: Global, state: &State<'_>, word: &Word, q: QType) -> Result<QType, AllocError>
+    ensures { IfOk result (λ ty. view_qtype ty ≡ linkage.named_type (view_state state.now) (view_word word.now).text (view_qtype q)) }
+{
+    match state.entity_here(&word.text) {
+        Some(Entity::Linked(_, ty)) => copy_qtype(alloc, ty),
+        _ => Ok(q),
+    }
+}
+
 /// The definition of an object with linkage, by its initialiser.
 fn global_rest<'a, P: Phrases<'a>>(
     alloc: Global,
@@ -106,7 +116,8 @@ fn global_rest<'a, P: Phrases<'a>>(
         constant: true,
         hidden: 0,
     };
-    let made = object_fitted(alloc, phrases, state, word, place, &cx, q, init)?;
+    let ty = named_type(alloc, state, word, q)?;
+    let made = object_fitted(alloc, phrases, state, word, place, &cx, ty, init)?;
     global_filled(alloc, state, word, place, made)?;
     Ok(Vec::new(alloc))
 }

@@ -1,5 +1,8 @@
 //! The parts of a flow graph.
 
+ghost use Rattle.std.specs.Prelude.{◌≡◌};
+ghost use Rattle.pw_flow.specs.ValidFlow.{kind_size as size_of_kind};
+
 use pw_items::Items;
 use pw_value::{Kind, Name, Shape};
 
@@ -133,4 +136,15 @@ pub struct FlowModule {
     pub globals: Items<FlowGlobal>,
     pub functions: Items<FlowFn>,
     pub declared: Items<(Name, Shape)>,
+}
+
+/// The bytes of a scalar of this kind.
+pub fn kind_size(kind: Kind) -> u32
+    ensures { result ≡ size_of_kind kind }
+{
+    match kind {
+        Kind::S8 | Kind::U8 => 1,
+        Kind::S16 | Kind::U16 => 2,
+        Kind::W32 => 4,
+    }
 }

@@ -3,8 +3,7 @@
 #![tactic(auto)]
 
 mod flow;
-mod names;
-mod valid;
 
-pub use flow::{BinKind, Block, End, ExtKind, FlowFn, FlowGlobal, FlowModule, Item, Op, UnKind};
-pub use valid::{is_valid, kind_size};
+pub use flow::{
+    BinKind, Block, End, ExtKind, FlowFn, FlowGlobal, FlowModule, Item, Op, UnKind, kind_size,
+};

@@ -9,8 +9,9 @@ ghost use Rattle.pw_tree.specs.Views.{view_module};
 ghost use Rattle.pw_typed.specs.Views as typed;
 
 use pw_check::check;
-use pw_flow::{FlowModule, is_valid};
+use pw_flow::FlowModule;
 use pw_front::{FrontError, Refusal, front};
+use pw_lawful::is_valid;
 use pw_lstmt::lower_module;
 use pw_rules::checks_is_exact;
 use pw_tree::Module;

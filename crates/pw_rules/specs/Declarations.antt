@@ -11,7 +11,7 @@ use Rattle.pw_walk.specs.Walks.{meets, pure, asks, change, ◌>>=◌, ◌>>◌}
 use Rattle.pw_rules.specs.Kinds.{is_function, is_void, is_open_array, is_const_object}
 use Rattle.pw_rules.specs.States.{Rule, State, TypeName, LocalObject, StaticObject, records_in, is_file_scope, enter, put_entity, put_at, add_hidden, put_hidden, next_hidden, add_local, next_local, entry_here, with_body, HiddenObject}
 use Rattle.pw_rules.specs.Limits.{Spot, completed, name_within, type_within}
-use Rattle.pw_rules.specs.Linkage.{Asking, AsInternal, AsBefore, AsExternal, fresh_name, linkage_point, is_internal_by, declare_linked, undefined_yet, define_tentatively, define_object, initialise_linked, fitting, note_here}
+use Rattle.pw_rules.specs.Linkage.{Asking, AsInternal, AsBefore, AsExternal, fresh_name, linkage_point, is_internal_by, declare_linked, undefined_yet, define_tentatively, define_object, initialise_linked, fitting, named_type, note_here}
 use Rattle.pw_rules.specs.SpecifierLists.{Specified, specified, nothing_gathered, is_typedef, is_extern, is_static, is_auto, is_register}
 use Rattle.pw_rules.specs.Derivations.{Declared, built, spot_of}
 use Rattle.pw_rules.specs.Phrases.{specifiers_rule, declarator_rule}
@@ -127,7 +127,8 @@ global_rule w b spot q None =
 global_rule w b spot q (Some i) =
     declare_linked w.text w.token b.tag (asking_of AGlobal b) q >>= λ place.
     change (define_object place) >>
-    object_rule (context_of w true 0) q i.init >>= λ o.
+    asks (λ s. named_type s w.text q) >>= λ ty.
+    object_rule (context_of w true 0) ty i.init >>= λ o.
     fitting_rule w place o.ty >>
     change (initialise_linked place o.ty o.filled.items) >>
     change (note_here w.text place o.ty) >>

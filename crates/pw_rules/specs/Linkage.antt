@@ -78,6 +78,14 @@ abbrev pub type_here : QType → Entity → QType
 type_here ty (Linked n before) = composite before ty
 type_here ty _ = ty
 
+-- the type that a name with linkage has by its declarations in the scope (6.1.2.6)
+abbrev pub type_now : QType → Entity → QType
+type_now q (Linked n ty) = ty
+type_now q _ = q
+
+abbrev pub named_type : State → List ℕ → QType → QType
+named_type s name q = option_map_or (type_now q) (entity_here s name) q
+
 abbrev pub note_here : List ℕ → ℕ → QType → State → State
 note_here name place ty s =
     option_map_or (λ e. put_entity e.place (Linked place (type_here ty (unwrap_or (entity_here s name) (TypeName ty)))) s)

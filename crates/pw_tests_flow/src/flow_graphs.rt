@@ -1,7 +1,8 @@
 //! Tests of pw_flow: what a lawful module looks like in the code.
 
-use pw_flow::{Block, End, FlowFn, FlowGlobal, FlowModule, Item, Op, is_valid};
+use pw_flow::{Block, End, FlowFn, FlowGlobal, FlowModule, Item, Op};
 use pw_items::Items;
+use pw_lawful::is_valid;
 use pw_value::{Kind, Name, Shape};
 use std::alloc::Global;
 use std::test::Fail;

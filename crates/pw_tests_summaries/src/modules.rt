@@ -4,8 +4,9 @@
 ghost use Rattle.std.specs.Prelude.{IfOk};
 ghost use Rattle.pw_summary.specs.Summary.{IsSummary};
 
-use pw_flow::{BinKind, Block, End, FlowFn, FlowGlobal, FlowModule, Item, Op, is_valid};
+use pw_flow::{BinKind, Block, End, FlowFn, FlowGlobal, FlowModule, Item, Op};
 use pw_items::Items;
+use pw_lawful::is_valid;
 use pw_summarise::summarise;
 use pw_summary::{Summary, Uses, write};
 use pw_value::{Kind, Name, Shape};

@@ -56,6 +56,10 @@ stack_least = 4096
 abbrev pub stack_most : ℕ
 stack_most = 16777216
 
+-- bytes of a kept file that are read, and count as the file
+abbrev pub kept_limit : ℕ
+kept_limit = 268435456
+
 -- ---- the machine
 
 -- the address at which the text begins

@@ -2,7 +2,7 @@
 
 ghost use Rattle.std.specs.Prelude.{◌≡◌};
 ghost use Rattle.pw_value.specs.Limits.{name_limit, size_limit, shape_limit, depth_limit, parameter_limit, node_limit, room_limit};
-ghost use Rattle.pw_value.specs.Limits.{module_limit, texts_limit, function_limit, global_limit, stack_least, stack_most};
+ghost use Rattle.pw_value.specs.Limits.{module_limit, texts_limit, function_limit, global_limit, stack_least, stack_most, kept_limit};
 ghost use Rattle.pw_value.specs.Limits.{text_start, word_limit, memory_size};
 
 /// The greatest count of bytes of a name.
@@ -45,6 +45,9 @@ pub const STACK_LEAST: u32 = 4096;
 /// The greatest size of the stack, in bytes.
 pub const STACK_MOST: u32 = 16_777_216;
 
+/// How many bytes of a kept file are read, and count as the file.
+pub const KEPT_LIMIT: usize = 268_435_456;
+
 /// The address at which the machine's text begins.
 pub const TEXT_START: u32 = 4096;
 
@@ -73,6 +76,7 @@ pub fn limits_of_a_program()
     ensures globals { GLOBAL_LIMIT ≡ global_limit }
     ensures least_stack { STACK_LEAST ≡ stack_least }
     ensures greatest_stack { STACK_MOST ≡ stack_most }
+    ensures kept { KEPT_LIMIT ≡ kept_limit }
 {}
 
 /// The places of the machine are those that its definitions speak of.

@@ -1,0 +1,7 @@
+//! Whether a flow graph is lawful.
+#![tactic(auto)]
+
+mod names;
+mod valid;
+
+pub use valid::is_valid;
