@@ -60,7 +60,7 @@ pub fn break_rule(state: &State<'_>, token: usize) -> Result<TStmt, CheckFault>
 }
 
 /// A value that is returned is converted to the function's result as by an assignment (C90 6.6.6.4).
-#[tactic(auto, unfolding(pw_walk::specs::Walks::bind, pw_walk::specs::Walks::outcome, crate::specs::Parts::returned_rule, pw_typed::specs::Views::view_stmt_form))]
+#[tactic(auto, unfolding(pw_walk::specs::Walks::bind, pw_walk::specs::Walks::outcome, crate::specs::Returns::returned_rule, pw_typed::specs::Views::view_stmt_form))]
 fn returned(
     alloc: Global,
     state: &State<'_>,

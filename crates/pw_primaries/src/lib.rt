@@ -2,9 +2,9 @@
 #![tactic(auto)]
 
 mod names;
-mod primary;
-mod unary;
+mod primaries;
+mod unaries;
 
 pub use names::{cast, size_of_type};
-pub use primary::primary;
-pub use unary::unary;
+pub use primaries::primary;
+pub use unaries::unary;

@@ -2,7 +2,7 @@ use Rattle.std.proofs.Common.{rules, ap}
 use Rattle.pw_walk.proofs.CallLaws.{same_call, step_ok, step_err}
 use Rattle.pw_walk.specs.Walks.{outcome}
 use Rattle.pw_primaries.proofs.Forms.{dereference_form}
-use Rattle.pw_primaries.proofs.unary.dereference.Goals as goal
+use Rattle.pw_primaries.proofs.unaries.dereference.Goals as goal
 
 pub returns-in_err-value : goal.returns-in_err-value
 returns-in_err-value g c =

@@ -6,7 +6,7 @@ use Rattle.pw_walk.specs.Walks.{outcome}
 use Rattle.pw_walk.proofs.CallLaws.{same_call}
 use Rattle.pw_rules.specs.Phrases.{expr_rule}
 use Rattle.pw_primaries.proofs.Forms.{sign_form}
-use Rattle.pw_primaries.proofs.unary.unary.Goals as goal
+use Rattle.pw_primaries.proofs.unaries.unary.Goals as goal
 
 pub returns-in-Increment : goal.returns-in-Increment
 unfolding expr_rule

@@ -6,7 +6,7 @@ use Rattle.pw_walk.specs.Walks.{outcome}
 use Rattle.pw_walk.proofs.CallLaws.{same_call}
 use Rattle.pw_rules.specs.Leaves.{string_rule}
 use Rattle.pw_rules.specs.Phrases.{expr_rule}
-use Rattle.pw_primaries.proofs.primary.primary.Goals as goal
+use Rattle.pw_primaries.proofs.primaries.primary.Goals as goal
 
 pub returns-in-Identifier : goal.returns-in-Identifier
 unfolding expr_rule view_expr

@@ -1,12 +1,9 @@
 use Rattle.std.proofs.Common.{rules}
 use Rattle.pw_walk.proofs.CallLaws.{step_ok, step_err}
-use Rattle.pw_rules.specs.Phrases.{expr_rule}
-use Rattle.pw_primaries.proofs.unary.address.Goals as goal
+use Rattle.pw_primaries.proofs.unaries.step_before.Goals as goal
 
 pub returns-in_err-a : goal.returns-in_err-a
-unfolding expr_rule
 returns-in_err-a g c = step_err _ c.expr.ensures c.in_err-a.was (search rules)
 
 pub returns : goal.returns
-unfolding expr_rule
-returns g c = step_ok _ c.expr.ensures c.in_ok-a.was c.address_rule.ensures
+returns g c = step_ok _ c.expr.ensures c.in_ok-a.was c.step_rule.ensures
