@@ -6,7 +6,7 @@ set -euo pipefail
 top=$(cd "$(dirname "$0")/.." && pwd)
 work=$(mktemp -d /tmp/bench-phase2.XXXXXX)
 trap 'rm -rf "$work"' EXIT
-crates='pw_value pw_items pw_inst pw_files pw_flow pw_summary pw_db pw_flowops pw_flowfile pw_summarise pw_object'
+crates='pw_value pw_scope pw_items pw_inst pw_files pw_flow pw_lawful pw_summary pw_db pw_flowops pw_flowfile pw_summarise pw_object'
 crates="$crates pw_delay pw_webflow pw_alloc pw_registers pw_oplines pw_select pw_phases"
 mkdir -p "$work/crates/bench_phase2/src"
 for crate in $crates; do
@@ -17,7 +17,7 @@ for crate in $crates; do
     grep -E "^$crate:" "$top/crates.txt" >> "$work/crates.txt"
 done
 cp "$top/HANDLES" "$work/HANDLES"
-echo 'bench_phase2: pw_phases pw_object pw_db pw_flow pw_items pw_value' >> "$work/crates.txt"
+echo 'bench_phase2: pw_phases pw_object pw_db pw_lawful pw_flow pw_items pw_value' >> "$work/crates.txt"
 cat > "$work/crates/bench_phase2/src/main.rt" <<'RATTLE'
 //! Runs of the second phase whose time is taken.
 #![tactic(auto)]
@@ -27,8 +27,9 @@ ghost use Rattle.pw_flow.specs.ValidFlow.{IsValid};
 ghost use Rattle.pw_phases.specs.Phases.{AreDirectivesOf};
 
 use pw_db::{Database, Directives, read_payload};
-use pw_flow::{BinKind, Block, End, ExtKind, FlowFn, FlowGlobal, FlowModule, Op, is_valid};
+use pw_flow::{BinKind, Block, End, ExtKind, FlowFn, FlowGlobal, FlowModule, Op};
 use pw_items::Items;
+use pw_lawful::is_valid;
 use pw_phases::{directives_for, phase_two};
 use pw_value::{Kind, Name, Shape};
 use std::alloc::{AllocError, Global};
@@ -159,7 +160,7 @@ fn directives(alloc: Global, flow: &FlowModule) -> Result<Vec<(Name, Directives)
 /// Makes the object of a module.
 fn run(rt: &HostRuntime, sizes: &Sizes) -> io::Result<()> {
     let flow = module(rt.alloc(), sizes)?;
-    if !is_valid(&flow) {
+    if !is_valid(rt.alloc(), &flow)? {
         return println!(rt; "the module is not lawful");
     }
     let directives = directives(rt.alloc(), &flow)?;

@@ -1,1 +1,1 @@
-mod Distinct
+mod Apart

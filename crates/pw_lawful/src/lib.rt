@@ -1,6 +1,7 @@
 //! Whether a flow graph is lawful.
 #![tactic(auto)]
 
+mod distinct;
 mod names;
 mod valid;
 

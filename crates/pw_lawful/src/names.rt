@@ -1,14 +1,16 @@
 //! The rules on a module's names.
 
-ghost use Rattle.std.specs.Prelude.{ℕ, ◌≡◌, ◌≢◌, ◌↔◌, ◌++◌, List, map, IsTrue, All};
+ghost use Rattle.std.specs.Prelude.{ℕ, ◌≡◌, ◌≢◌, ◌↔◌, ◌++◌, List, map, IsTrue, IfOk, OnOk, All};
 ghost use Rattle.std.specs.List.{AllByRecursion};
 ghost use Rattle.pw_flow.specs.FlowGraph.{global_names, function_names, declared_names};
 ghost use Rattle.pw_value.specs.ProgramNames.{start_name, main_name, IsOrdinary, IncludesStart};
 ghost use Rattle.pw_flow.specs.ValidFlow.{AreDistinct, HasDistinctNames, IsStartLawful, AreNamesLawful};
 
+use crate::distinct::are_distinct;
 use pw_flow::{FlowFn, FlowGlobal, FlowModule};
 use pw_value::program_names::{MAIN, START};
 use pw_value::{Name, Shape};
+use std::alloc::{AllocError, Global};
 
 /// Whether an item or an operation may name this: it is not `$start`.
 pub fn is_ordinary(name: &Name) -> bool
@@ -33,60 +35,66 @@ fn is_no_function(functions: &[FlowFn], name: &[u8]) -> bool
         .all(|function| function.name.as_bytes() != name)
 }
 
-/// Whether the name is not declared.
-fn is_not_declared(declared: &[(Name, Shape)], name: &[u8]) -> bool
-    ensures { IsTrue result ↔ All (λ d. d.0 ≢ name.now) declared.now }
+/// Puts the objects' names behind others.
+fn put_global_names<'a>(
+    names: &mut Vec<&'a [u8]>,
+    globals: &'a [FlowGlobal],
+) -> Result<(), AllocError>
+    ensures { OnOk result (map (λ name. name.now) names.new.items ≡ map (λ name. name.now) names.old.items ++ map (λ g. g.name) globals.now) }
 {
-    declared.iter().all(|(other, _)| other.as_bytes() != name)
-}
-
-/// Whether neither an object nor a function has the name.
-fn is_new(globals: &[FlowGlobal], functions: &[FlowFn], name: &[u8]) -> bool
-    ensures { IsTrue result ↔ AllByRecursion (λ other. other ≢ name.now) (map (λ g. g.name) globals.now ++ map (λ f. f.name) functions.now) }
-{
-    is_no_global(globals, name) && is_no_function(functions, name)
-}
-
-/// Whether no two functions have one name.
-fn are_functions_distinct(functions: &[FlowFn]) -> bool
-    ensures { IsTrue result ↔ AreDistinct (map (λ f. f.name) functions.now) }
-{
-    let mut left = functions;
-    while let Some((first, rest)) = left.split_first() {
-        if !is_no_function(rest, first.name.as_bytes()) {
-            return false;
-        }
-        left = rest;
+    for global in globals {
+        names.push(global.name.as_bytes())?;
     }
-    true
+    Ok(())
+}
+
+/// Puts the functions' names behind others.
+fn put_function_names<'a>(
+    names: &mut Vec<&'a [u8]>,
+    functions: &'a [FlowFn],
+) -> Result<(), AllocError>
+    ensures { OnOk result (map (λ name. name.now) names.new.items ≡ map (λ name. name.now) names.old.items ++ map (λ f. f.name) functions.now) }
+{
+    for function in functions {
+        names.push(function.name.as_bytes())?;
+    }
+    Ok(())
+}
+
+/// The names that are declared.
+fn declared_names<'a>(
+    alloc: Global,
+    declared: &'a [(Name, Shape)],
+) -> Result<Vec<&'a [u8]>, AllocError>
+    ensures { IfOk result (λ names. map (λ name. name.now) names.items ≡ map (λ d. d.0) declared.now) }
+{
+    let mut names = Vec::new(alloc);
+    for (name, _) in declared {
+        names.push(name.as_bytes())?;
+    }
+    Ok(names)
 }
 
 /// Whether no two of the objects and functions, taken together, have one name.
-fn are_defined_distinct(globals: &[FlowGlobal], functions: &[FlowFn]) -> bool
-    ensures { IsTrue result ↔ AreDistinct (map (λ g. g.name) globals.now ++ map (λ f. f.name) functions.now) }
+fn are_defined_distinct(
+    alloc: Global,
+    globals: &[FlowGlobal],
+    functions: &[FlowFn],
+) -> Result<bool, AllocError>
+    ensures { IfOk result (λ distinct. IsTrue distinct ↔ AreDistinct (map (λ g. g.name) globals.now ++ map (λ f. f.name) functions.now)) }
 {
-    let mut left = globals;
-    while let Some((first, rest)) = left.split_first() {
-        if !is_new(rest, functions, first.name.as_bytes()) {
-            return false;
-        }
-        left = rest;
-    }
-    are_functions_distinct(functions)
+    let mut names = Vec::new(alloc);
+    put_global_names(&mut names, globals)?;
+    put_function_names(&mut names, functions)?;
+    are_distinct(alloc, &names)
 }
 
 /// Whether no two declared names are one.
-fn are_declared_distinct(declared: &[(Name, Shape)]) -> bool
-    ensures { IsTrue result ↔ AreDistinct (map (λ d. d.0) declared.now) }
+fn are_declared_distinct(alloc: Global, declared: &[(Name, Shape)]) -> Result<bool, AllocError>
+    ensures { IfOk result (λ distinct. IsTrue distinct ↔ AreDistinct (map (λ d. d.0) declared.now)) }
 {
-    let mut left = declared;
-    while let Some((first, rest)) = left.split_first() {
-        if !is_not_declared(rest, first.0.as_bytes()) {
-            return false;
-        }
-        left = rest;
-    }
-    true
+    let names = declared_names(alloc, declared)?;
+    are_distinct(alloc, &names)
 }
 
 /// Whether the functions include `$start` exactly where they include `main`.
@@ -104,11 +112,12 @@ fn are_globals_ordinary(globals: &[FlowGlobal]) -> bool
 }
 
 /// Whether names are distinct: those of what a module defines, and those that it declares.
-fn has_distinct_names(flow: &FlowModule) -> bool
-    ensures { IsTrue result ↔ HasDistinctNames flow.now }
+fn has_distinct_names(alloc: Global, flow: &FlowModule) -> Result<bool, AllocError>
+    ensures { IfOk result (λ distinct. IsTrue distinct ↔ HasDistinctNames flow.now) }
 {
-    are_defined_distinct(flow.globals.as_slice(), flow.functions.as_slice())
-        && are_declared_distinct(flow.declared.as_slice())
+    let defined = are_defined_distinct(alloc, flow.globals.as_slice(), flow.functions.as_slice())?;
+    let declared = are_declared_distinct(alloc, flow.declared.as_slice())?;
+    Ok(defined && declared)
 }
 
 /// Whether the functions include `$start` exactly where they include `main`, and no object does.
@@ -119,8 +128,9 @@ fn is_start_lawful(flow: &FlowModule) -> bool
 }
 
 /// Whether the names of what a module defines and declares are lawful.
-pub fn are_names_lawful(flow: &FlowModule) -> bool
-    ensures { IsTrue result ↔ AreNamesLawful flow.now }
+pub fn are_names_lawful(alloc: Global, flow: &FlowModule) -> Result<bool, AllocError>
+    ensures { IfOk result (λ lawful. IsTrue lawful ↔ AreNamesLawful flow.now) }
 {
-    has_distinct_names(flow) && is_start_lawful(flow)
+    let distinct = has_distinct_names(alloc, flow)?;
+    Ok(distinct && is_start_lawful(flow))
 }

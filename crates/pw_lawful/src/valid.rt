@@ -1,6 +1,6 @@
 //! Whether a flow graph is lawful.
 
-ghost use Rattle.std.specs.Prelude.{ℕ, ◌≡◌, ◌+◌, ◌*◌, ◌<◌, ◌≤◌, ◌^◌, ◌↔◌, List, length, map, IsTrue, IfSome, All};
+ghost use Rattle.std.specs.Prelude.{ℕ, ◌≡◌, ◌+◌, ◌*◌, ◌<◌, ◌≤◌, ◌^◌, ◌↔◌, List, length, map, IsTrue, IfSome, IfOk, All};
 ghost use Rattle.std.specs.List.{AllByRecursion};
 ghost use Rattle.pw_flow.specs.FlowGraph.{names_in_global, names_in_block, names_in_function, op_names, item_names, global_names, function_names, declared_names, named_in};
 ghost use Rattle.pw_flow.specs.ValidFlow.{IsWord, IsItem, AreItems, IsGlobal, IsResult, AreArguments, IsMoved, IsOp, IsEnd, IsBlock, HasFewParts, IsFunction, ArePartsLawful, IsValid, kind_size as size_of_kind, item_size, rooms};
@@ -11,6 +11,7 @@ use crate::names::{are_names_lawful, is_ordinary};
 use pw_flow::{Block, End, FlowFn, FlowGlobal, FlowModule, Item, Op, kind_size};
 use pw_value::Kind;
 use pw_value::limits::{PARAMETER_LIMIT, ROOM_LIMIT, SIZE_LIMIT};
+use std::alloc::{AllocError, Global};
 
 /// Whether an object of the kind has its size.
 fn has_kind_size(kind: Option<Kind>, size: u32) -> bool
@@ -249,10 +250,14 @@ fn are_parts_lawful(flow: &FlowModule) -> bool
 /// and do not overlap; a copy is of a positive number of units of 1, 2 or 4 bytes; the functions include
 /// `$start` exactly where they include `main`, and no object, item or operation names `$start`.
 ///
-/// It takes no memory. The work is linear in the module, but for the distinct names, each of which is
-/// compared with those behind it.
-pub fn is_valid(flow: &FlowModule) -> bool
-    ensures { IsTrue result ↔ IsValid flow.now }
+/// The work is linear in the module. Memory is taken for the names of what it defines and declares.
+///
+/// # Errors
+///
+/// `AllocError` where memory runs out.
+pub fn is_valid(alloc: Global, flow: &FlowModule) -> Result<bool, AllocError>
+    ensures { IfOk result (λ lawful. IsTrue lawful ↔ IsValid flow.now) }
 {
-    are_parts_lawful(flow) && are_names_lawful(flow)
+    let names = are_names_lawful(alloc, flow)?;
+    Ok(names && are_parts_lawful(flow))
 }

@@ -56,7 +56,7 @@ fn flow_graph(alloc: Global, name: &Name, module: &TModule) -> Result<FlowModule
     ensures lawful { IfOk result (λ flow. IsValid flow) }
 {
     let flow = lower_module(alloc, name, module)?;
-    if is_valid(&flow) {
+    if is_valid(alloc, &flow)? {
         Ok(flow)
     } else {
         Err(NoMemory)

@@ -87,7 +87,7 @@ fn is_lawful(alloc: Global, with_start: bool, times: usize) -> Result<bool, Fail
         functions: functions(alloc, with_start)?,
         declared: declared(alloc, times)?,
     };
-    Ok(is_valid(&flow))
+    Ok(is_valid(alloc, &flow)?)
 }
 
 /// Whether `$start` is there, how often `main` is declared, and whether that is lawful.

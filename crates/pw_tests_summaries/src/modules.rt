@@ -324,7 +324,7 @@ fn are_globals(globals: &[(Name, Shape, Option<Kind>, bool)], wanted: &[SummedRo
 fn made(alloc: Global, flow: &FlowModule) -> Result<Summary, Fail>
     ensures { IfOk result (λ s. IsSummary s) }
 {
-    if !is_valid(flow) {
+    if !is_valid(alloc, flow)? {
         return Err("a lawful flow graph".into());
     }
     Ok(summarise(alloc, flow)?)

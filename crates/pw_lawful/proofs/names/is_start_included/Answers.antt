@@ -3,7 +3,7 @@ use mathlib.Core.Bool.{beq}
 use Rattle.std.specs.Prelude.{IsTrue}
 use Rattle.pw_value.specs.ProgramNames.{start_name, main_name}
 use Rattle.pw_flow.proofs.Lists.{mapped, unmapped}
-use Rattle.pw_lawful.proofs.Distinct.{IsNone, start_by, start_back}
+use Rattle.pw_lawful.proofs.Apart.{IsNone, start_by, start_back}
 use Rattle.pw_lawful.proofs.names.is_start_included.Goals as goal
 
 beq_same : (a b : Bool) → IsTrue (beq a b) → a ≡ b
