@@ -11,6 +11,9 @@ pub mod Changes
 pub mod Objects
 pub mod Leaves
 pub mod Phrases
+pub mod Counting
+pub mod Locals
+pub mod Filling
 pub mod Keeping
 pub mod Initialisers
 pub mod Declarations
