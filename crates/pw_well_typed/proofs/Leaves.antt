@@ -14,7 +14,7 @@ use Rattle.pw_types.specs.TypeTrees.{CType, Void, Int, Pointer, Array, Function,
 use Rattle.pw_types.specs.TypedTrees.{Symbol, Expression, Node, Hidden, LocalValue, ModuleValue, type_at}
 use Rattle.pw_types.specs.TypedTrees as T
 use Rattle.pw_types.specs.WellTyped.{IsTyped, IsScalar, IsResult, IsFunctionType, IsFunctionOf, IsObject}
-use Rattle.pw_walk.specs.Causes.{DeclaredIdentifier, CompleteMember}
+use Rattle.pw_walk.specs.Causes.{DeclaredIdentifier, CompleteMember, ElementType}
 use Rattle.pw_walk.specs.Walks.{Walk, Done, bind}
 use Rattle.pw_rules.specs.Kinds.{plain, int_type, is_function, is_array, is_record, is_void}
 use Rattle.pw_rules.specs.Operands.{Operand}
@@ -33,7 +33,7 @@ use Rattle.pw_well_typed.specs.Lawful.{IsLawful, IsLawfulType, AreLawfulTypes, I
 use Rattle.pw_well_typed.proofs.Walking.{Post, truth, met_right, post_bind, post_granted}
 use Rattle.pw_well_typed.proofs.States.{GoodOperand, Fine, Runs, IsConstant, IsAny, Grows, Widens, Widely, grows_same, grows_trans, widens_so}
 use Rattle.pw_well_typed.proofs.Lists.{get_map, some_same, never_some, get_append, get_either, get_one, get_last, get_filter, visible_at}
-use Rattle.pw_well_typed.proofs.Types.{no, left, not_true, lawful_known, lawful_later, all_lawful_later, lawful_qualify, lawful_pointer}
+use Rattle.pw_well_typed.proofs.Types.{no, left, not_true, is_complete_so, lawful_known, lawful_later, all_lawful_later, lawful_qualify, lawful_pointer}
 use Rattle.pw_well_typed.proofs.Conversions.{no_function}
 use Rattle.pw_well_typed.proofs.Places.{number_good, constant_wide}
 use Rattle.pw_well_typed.proofs.Objects.{object_later, completed_so, within_so, object_type, follows_so}
@@ -153,7 +153,7 @@ string_good : (m : ModuleValue) (locals : List LocalValue) (t k : ℕ) (bytes : 
 unfolding IsTyped
 string_good m locals t k bytes h = record {
   typed = (tt, (h, (false, false, length bytes, refl)));
-  lawful = tt;
+  lawful = (tt, refl);
   lvalue = λ e. tt;
   designates = λ f. absurd (no_function (Array (plain (Int K.Char)) (Some (length bytes))) refl f);
 }
@@ -455,7 +455,8 @@ pub built_runs : (s : State) (spot : Spot) (steps : List Derivation) (q : QType)
 unfolding built bind
 built_runs s spot [] q l h k = (l, grows_same s, k)
 built_runs s spot (ToPointer t qs ∷ rest) q l h k = λ met. built_runs s spot rest (step_type (ToPointer t qs) q) l h.1 (lawful_pointer s.types.records q k)
-built_runs s spot (ToArray n ∷ rest) (Qualified ty c v) l h k = λ met. built_runs s spot rest (step_type (ToArray n) (Qualified ty c v)) l h.1 k
+built_runs s spot (ToArray n ∷ rest) (Qualified ty c v) l h k = λ met.
+    built_runs s spot rest (step_type (ToArray n) (Qualified ty c v)) l h.1 (k, is_complete_so s.types.records ty (completed_so s.types.records spot ElementType ty met.1.0))
 built_runs s spot (ToFunction ps ∷ rest) (Qualified ty c v) l h k = λ met.
     built_runs s spot rest (step_type (ToFunction ps) (Qualified ty c v)) l h.1 (k, result_by ty (truth _ met.0) (truth _ met.1.0), h.0)
 
@@ -539,7 +540,7 @@ scalars_more r [] p h k i = (k, i, tt)
 scalars_more r (x ∷ ps) p h k i = (h.0, h.1, scalars_more r ps p h.2 k i)
 
 adjusted_lawful : (r : List RecordValue) (q : QType) → IsLawfulType r (type_of q) → IsLawfulType r (type_of (adjusted q))
-adjusted_lawful r (Qualified (Array (Qualified ty c v) n) d w) h = h
+adjusted_lawful r (Qualified (Array (Qualified ty c v) n) d w) h = h.0
 adjusted_lawful r (Qualified (Function q ps) c v) h = h
 adjusted_lawful r (Qualified Void c v) h = h
 adjusted_lawful r (Qualified (Int k) c v) h = h

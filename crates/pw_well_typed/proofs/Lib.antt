@@ -1,6 +1,7 @@
 pub mod Walking
 pub mod Lists
 pub mod Types
+pub mod Composite
 pub mod States
 pub mod Conversions
 pub mod Nodes
