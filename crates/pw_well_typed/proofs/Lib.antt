@@ -18,6 +18,7 @@ pub mod Filling
 pub mod Keeping
 pub mod Initialisers
 pub mod Declarations
+pub mod Adding
 pub mod Statements
 pub mod Modules
 pub mod Laws
