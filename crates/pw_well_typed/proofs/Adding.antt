@@ -2,7 +2,7 @@
 use Rattle.std.specs.Prelude.{ℕ, zero, suc, ◌≡◌, ◌<◌, ◌≤◌, ◌⊎◌, Bool, true, false, not, Option, None, Some, is_some, unwrap_or, List, [], ◌∷◌, ◌++◌, length, slice_get, if◌then◌else◌, All, Contains, refl}
 use Rattle.std.specs.Option.{option_map_or}
 use Rattle.std.proofs.Common.{arith, ap, sym, subst, ◌∙◌, inl, inr}
-use Rattle.std.proofs.lemmas.List.Elements.{All-nil, All-cons, All-head, All-tail, All-append}
+use Rattle.std.proofs.lemmas.List.Elements.{All-nil, All-cons, All-head, All-tail, All-append, All-weaker}
 use Rattle.std.proofs.lemmas.Option.{slice_get-get_or}
 use Rattle.pw_tree.specs.Trees.{Word, Decl, InitDeclarator, Initializer, Init, Specifiers}
 use Rattle.pw_tree.specs.Trees as S
@@ -312,7 +312,7 @@ Starts m locals first end (T.Bytes k hidden parts) =
 
 -- the initialisers of the locals that are declared from one state to another
 abbrev pub Declares : State → State → List Initialiser → Type 0
-Declares s t is = (m : ModuleValue) (locals : List LocalValue) → Final t m locals → ArePlaced s → s.made.counting ≡ true → All HasWords is
+Declares s t is = Back → (m : ModuleValue) (locals : List LocalValue) → Final t m locals → ArePlaced s → s.made.counting ≡ true → All HasWords is
     → All (Starts m locals (length s.body.locals) (length t.body.locals)) is
 
 -- what changes with the local's type tells of no object and no function
@@ -396,7 +396,7 @@ local_adds s w b q None l h = (
     hidden = longer_same s.made.hidden;
     steady = refl;
   },
-  λ m locals f p c words. All-nil (Starts m locals (length s.body.locals) (length (s.body.locals ++ local_of w q ∷ []))),
+  λ back m locals f p c words. All-nil (Starts m locals (length s.body.locals) (length (s.body.locals ++ local_of w q ∷ []))),
 )
 local_adds s w b q (Some i) l h =
     let at : State = local_entered s w.text (local_of w q) (is_register b.storage) in
@@ -415,6 +415,181 @@ local_adds s w b q (Some i) l h =
         hidden = g.1.hidden;
         steady = ap (with_locals (put_at (length s.body.locals) (local_of w r.0.0) r.1.body.locals)) g.1.body;
       },
-      λ m locals f p c words. all_more (Makes r.1 (length s.body.locals) q r.0.0) HasWords (Starts m locals (length s.body.locals) (length (put_at (length s.body.locals) (local_of w r.0.0) r.1.body.locals)))
+      λ back m locals f p c words. all_more (Makes r.1 (length s.body.locals) q r.0.0) HasWords (Starts m locals (length s.body.locals) (length (put_at (length s.body.locals) (local_of w r.0.0) r.1.body.locals)))
           (λ x made has. completed_starts s r.1 w q r.0.0 (is_register b.storage) x p c g.1 m locals f made has) r.0.1 g.2 words,
     ))
+
+-- ---- what is declared
+
+-- nothing is said of no initialisers
+none_declared : {s : State} {r : List Initialiser × State} → AddsNone s r → AddsLocals s r
+none_declared {s} {r} h =
+    (h.0, λ back m locals f p c words. subst (λ is. All (Starts m locals (length s.body.locals) (length r.1.body.locals)) is) (sym h.1) (All-nil (Starts m locals (length s.body.locals) (length r.1.body.locals))))
+
+adds_none : (s : State) (w : Walk (List Initialiser × State)) → Post w (AddsNone s) → Post w (AddsLocals s)
+adds_none s w h = post_weaken w (AddsNone s) (AddsLocals s) h (λ r g. none_declared {s = s} {r = r} g)
+
+declare_adds : (s : State) (sort : Sort) (w : Word) (b : Specified) (spot : Spot) (q : QType) (i : Option Initializer) → IsLawful s → IsLawfulType s.types.records (type_of q) → Fits sort q
+    → Post (declare_rule sort w b spot q i s) (AddsLocals s)
+unfolding declare_rule declare_linked bind
+declare_adds s ATypedef w b spot q i l h f =
+    none_declared {s = s} (record { placed = λ p. entered_placed s w.text (TypeName q) p tt; locals = longer_same s.body.locals; counting = refl; hidden = longer_same s.made.hidden; steady = refl }, refl)
+declare_adds s AFunction w b spot q i l h f = none_declared {s = s} (declared_adds s w.text w.token b.tag (asking_of AFunction b) q, refl)
+declare_adds s AGlobal w b spot q i l h f = adds_none s (global_rule w b spot q i s) (global_adds s w b spot q i l h)
+declare_adds s AnExtern w b spot q i l h f = none_declared {s = s} (declared_adds s w.text w.token b.tag AsBefore q, refl)
+declare_adds s AStatic w b spot q i l h f = adds_none s (static_rule w q i s) (static_adds s w q i l (record { lawful = h; object = f }))
+declare_adds s ALocal w b spot q i l h f = local_adds s w b q i l (record { lawful = h; object = f })
+
+-- ---- declarations
+
+declares_later : {s u t : State} (is : List Initialiser) → Grows s u → Declares u t is → Declares s t is
+declares_later {s} {u} {t} is g h back m locals f p c words =
+    subst (λ b. All (Starts m locals (length b.locals) (length t.body.locals)) is) g.body (h back m locals f (grows_placed g p) (g.counting ∙ c) words)
+
+-- rules that only grow, and then one that adds
+then_adds : {A : Type 0} {s : State} (w : Walk (A × State)) (next : A × State → Walk (List Initialiser × State)) (Good : State → A → Type 0) → Runs s w Good
+    → ((r : A × State) → IsLawful r.1 → Grows s r.1 → Good r.1 r.0 → Post (next r) (AddsLocals r.1)) → Post (bind w next) (AddsLocals s)
+then_adds {A} {s} w next Good h k =
+    post_bind w next (λ r. IsLawful r.1 × Grows s r.1 × Good r.1 r.0) (AddsLocals s) h
+    (λ r g. post_weaken (next r) (AddsLocals r.1) (AddsLocals s) (k r g.0 g.1 g.2)
+    (λ u f. (adds_trans (adds_grows g.1) f.0, declares_later {s = s} {u = r.1} {t = u.1} u.0 g.1 f.1)))
+
+asked_adds : {A : Type 0} (s : State) (a : A) (next : A × State → Walk (List Initialiser × State)) → Post (next (a, s)) (AddsLocals s) → Post (bind (Done (a, s)) next) (AddsLocals s)
+unfolding bind
+asked_adds s a next h = h
+
+named_adds : (u : State) (sort : Sort) (spot : Spot) (w : Word) (b : Specified) (q : QType) (i : Option Initializer) → IsLawful u → IsLawfulType u.types.records (type_of q) → Fits sort q
+    → Post (bind (name_rule sort spot w (is_some i) b q u) (λ v. declare_rule sort w b spot q i v.1)) (AddsLocals u)
+unfolding name_rule bind
+named_adds u sort spot w b q i n j f = λ met. declare_adds u sort w b spot q i n j f
+
+init_declarator_adds : (s : State) (b : Specified) (d : InitDeclarator) → IsLawful s → GoodSpecified s b → Post (init_declarator_rule b d s) (AddsLocals s)
+unfolding init_declarator_rule
+init_declarator_adds s b d l h =
+    then_adds _ _ GoodDeclared (declarator_post d.declarator s l) (λ r m x k.
+    then_adds _ _ GoodType (built_runs r.1 (spot_of r.0.name b.first b.tag) r.0.derivations b.ty m k.0 (lawful_later s.types.records r.1.types.records x.extends (type_of b.ty) h)) (λ u n y j.
+    asked_adds u.1 (sort_of (is_file_scope u.1) b u.0) _
+    (named_adds u.1 (sort_of (is_file_scope u.1) b u.0) (spot_of r.0.name b.first b.tag) (name_of r.0) b u.0 d.initializer n j (sort_fits (is_file_scope u.1) b u.0))))
+
+-- what a declaration comes to: a lawful state, behind the one before, and what it adds
+abbrev Declaring : State → List Initialiser × State → Type 0
+Declaring s r = IsLawful r.1 × After s r.1 × AddsLocals s r
+
+declaring : (s : State) (w : Walk (List Initialiser × State)) → Goes s w Anything → Post w (AddsLocals s) → Post w (Declaring s)
+declaring s w h k =
+    post_weaken w (λ r. (IsLawful r.1 × After s r.1 × Unit {0}) × AddsLocals s r) (Declaring s) (post_both w (λ r. IsLawful r.1 × After s r.1 × Unit {0}) (AddsLocals s) h k)
+    (λ r g. (g.0.0, g.0.1, g.1))
+
+longer_length : {X : Type 0} (xs ys : List X) → Longer xs ys → length xs ≤ length ys
+longer_length [] ys h = omega arith
+longer_length (x ∷ xs) ys h =
+    let k : length xs < length ys = get_within ys (length xs) _ (h (length xs) _ (slice_get-get_or (x ∷ xs) (length xs) x (omega arith))) in omega (arith, k)
+
+starts_wider : (m : ModuleValue) (locals : List LocalValue) (a b c d : ℕ) → a ≤ b → c ≤ d → (i : Initialiser) → Starts m locals b c i → Starts m locals a d i
+starts_wider m locals a b c d before behind (T.Value k e) h = (
+  (let x : b ≤ k = h.0 in omega (arith, x, before)),
+  (let x : k < c = h.1 in omega (arith, x, behind)),
+  h.2,
+  h.3,
+)
+starts_wider m locals a b c d before behind (T.Bytes k hidden parts) h = (
+  (let x : b ≤ k = h.0 in omega (arith, x, before)),
+  (let x : k < c = h.1 in omega (arith, x, behind)),
+  h.2,
+)
+
+wider : (m : ModuleValue) (locals : List LocalValue) (a b c d : ℕ) → a ≤ b → c ≤ d → (is : List Initialiser) → All (Starts m locals b c) is → All (Starts m locals a d) is
+wider m locals a b c d before behind is h = All-weaker (Starts m locals b c) (Starts m locals a d) (starts_wider m locals a b c d before behind) is h
+
+front_all : {X : Type 0} (P : X → Type 0) (xs ys : List X) → All P (xs ++ ys) → All P xs
+front_all P [] ys h = All-nil P
+front_all P (x ∷ xs) ys h = All-cons P x xs (All-head P x (xs ++ ys) h) (front_all P xs ys (All-tail P x (xs ++ ys) h))
+
+back_all : {X : Type 0} (P : X → Type 0) (xs ys : List X) → All P (xs ++ ys) → All P ys
+back_all P [] ys h = h
+back_all P (x ∷ xs) ys h = back_all P xs ys (All-tail P x (xs ++ ys) h)
+
+-- one declaration and then others
+declares_both : (s r u : State) (is more : List Initialiser) → Adds s r → Declares s r is → After r u → Adds r u → Declares r u more → Declares s u (is ++ more)
+declares_both s r u is more a h x b k back m locals f p c words =
+    let early : length s.body.locals ≤ length r.body.locals = longer_length s.body.locals r.body.locals a.locals in
+    let late : length r.body.locals ≤ length u.body.locals = longer_length r.body.locals u.body.locals b.locals in
+    All-append (Starts m locals (length s.body.locals) (length u.body.locals)) is more
+    (wider m locals (length s.body.locals) (length s.body.locals) (length r.body.locals) (length u.body.locals) (omega arith) late is
+    (h back m locals (final_back back x b.locals b.hidden f) p c (front_all HasWords is more words)))
+    (wider m locals (length s.body.locals) (length r.body.locals) (length u.body.locals) (length u.body.locals) early (omega arith) more
+    (k back m locals f (a.placed p) (a.counting ∙ c) (back_all HasWords is more words)))
+
+then_declares : (s : State) (w : Walk (List Initialiser × State)) (next : State → Walk (List Initialiser × State)) → Post w (Declaring s)
+    → ((r : State) (is : List Initialiser) → IsLawful r → After s r → Post (next r) (Declaring r))
+    → Post (bind w (λ r. bind (next r.1) (λ u. Done (r.0 ++ u.0, u.1)))) (AddsLocals s)
+unfolding bind
+then_declares s w next h k =
+    post_bind w (λ r. bind (next r.1) (λ u. Done (r.0 ++ u.0, u.1))) (Declaring s) (AddsLocals s) h
+    (λ r g. post_bind (next r.1) (λ u. Done (r.0 ++ u.0, u.1)) (Declaring r.1) (AddsLocals s) (k r.1 r.0 g.0 g.1)
+    (λ u f. (adds_trans g.2.0 f.2.0, declares_both s r.1 u.1 r.0 u.0 g.2.0 g.2.1 f.1 f.2.0 f.2.1)))
+
+init_declarators_adds : (ds : List InitDeclarator) (s : State) (b : Specified) → IsLawful s → GoodSpecified s b → Post (init_declarators_rule b ds s) (AddsLocals s)
+unfolding init_declarators_rule
+init_declarators_adds [] s b l h = none_declared {s = s} (adds_same s, refl)
+init_declarators_adds (d ∷ rest) s b l h =
+    then_declares s (init_declarator_rule b d s) (init_declarators_rule b rest)
+    (declaring s (init_declarator_rule b d s) (init_declarator_goes s b d l h) (init_declarator_adds s b d l h))
+    (λ r is m x.
+    let k = lawful_later s.types.records r.types.records x.extends (type_of b.ty) h in
+    declaring r (init_declarators_rule b rest r) (init_declarators_goes rest r b m k) (init_declarators_adds rest r b m k))
+
+specified_all : (s : State) (specifiers : Specifiers) (first : ℕ) → IsLawful s → Runs s (specified_rule specifiers first s) GoodSpecified
+unfolding specified_rule
+specified_all s specifiers first l =
+    goes_on _ _ GoodGathered GoodSpecified (specifiers_post specifiers first nothing_gathered s l tt) (λ r m g h. specified_runs r.1 first r.0 m h)
+
+alone_by_runs : (s : State) (kind : RecordKind) (w : Word) (o : Option Tag) → IsLawful s → ((tag : Tag) → o ≡ Some tag → IsLawfulTag s.types.records tag) → Runs s (alone_by kind w o s) Nothing
+unfolding alone_by
+alone_by_runs s kind w None l h = goes_on _ _ (Fresh kind s) Nothing (new_tag_runs s kind w l) (λ r m g k. (m, grows_same r.1, tt))
+alone_by_runs s kind w (Some tag) l h = goes_on _ _ GoodReference Nothing (reference_by_runs s kind w (Some tag) l h) (λ r m g k. (m, grows_same r.1, tt))
+
+alone_runs : (s : State) (kind : RecordKind) (w : Word) → IsLawful s → Runs s (alone_rule kind w s) Nothing
+unfolding alone_rule bind
+alone_runs s kind w l = alone_by_runs s kind w (tag_here s w.text) l (λ tag e. tag_here_lawful s w.text tag l e)
+
+listed_runs : (s : State) (specifiers : Specifiers) → IsLawful s
+    → Runs {A = List Initialiser} s (bind (specified_rule specifiers (first_of_list specifiers) s) (λ t. bind (bind (storage_rule t.0 t.1) (λ u. meets (needs DeclaresSomething t.0.first (declares_something specifiers) ∷ []) u.1)) (λ u. Done ([], u.1)))) (λ t is. is ≡ [])
+unfolding storage_rule bind
+listed_runs s specifiers l =
+    goes_on (specified_rule specifiers (first_of_list specifiers) s) _ GoodSpecified (λ t is. is ≡ []) (specified_all s specifiers (first_of_list specifiers) l) (λ r m g h met more. (m, grows_same r.1, refl))
+
+bare_runs : (s : State) (specifiers : Specifiers) → IsLawful s → Runs s (bare_rule specifiers s) (λ t is. is ≡ [])
+unfolding bare_rule
+bare_runs s (S.RecordTag t kind w S.NoSpecifier) l = goes_on _ _ Nothing (λ t is. is ≡ []) (alone_runs s (record_kind kind) w l) (λ r m g h. (m, grows_same r.1, refl))
+bare_runs s specifiers l = listed_runs s specifiers l
+
+bare_adds : (s : State) (specifiers : Specifiers) → IsLawful s → Post (bare_rule specifiers s) (AddsLocals s)
+bare_adds s specifiers l =
+    post_weaken (bare_rule specifiers s) (λ r. IsLawful r.1 × Grows s r.1 × (r.0 ≡ [])) (AddsLocals s) (bare_runs s specifiers l) (λ r g. none_declared {s = s} {r = r} (adds_grows g.1, g.2))
+
+storage_runs : (s : State) (b : Specified) → IsLawful s → Runs s (storage_rule b s) Nothing
+unfolding storage_rule bind
+storage_runs s b l = λ met. (l, grows_same s, tt)
+
+declarators_adds : (s : State) (specifiers : Specifiers) (ds : List InitDeclarator) → IsLawful s → Post (declarators_rule specifiers ds s) (AddsLocals s)
+unfolding declarators_rule
+declarators_adds s specifiers [] l = bare_adds s specifiers l
+declarators_adds s specifiers (d ∷ rest) l =
+    then_adds _ _ GoodSpecified (specified_all s specifiers (first_of_list specifiers) l) (λ r m x h.
+    then_adds _ _ Nothing (storage_runs r.1 r.0 m) (λ u n y k.
+    init_declarators_adds (d ∷ rest) u.1 r.0 n (lawful_later r.1.types.records u.1.types.records y.extends (type_of r.0.ty) h)))
+
+decl_adds : (s : State) (d : Decl) → IsLawful s → Post (decl_rule d s) (AddsLocals s)
+unfolding decl_rule
+decl_adds s d l = declarators_adds s d.specifiers d.declarators l
+
+decls_adds : (ds : List Decl) (s : State) → IsLawful s → Post (decls_rule ds s) (AddsLocals s)
+unfolding decls_rule
+decls_adds [] s l = none_declared {s = s} (adds_same s, refl)
+decls_adds (d ∷ rest) s l =
+    then_declares s (decl_rule d s) (decls_rule rest) (declaring s (decl_rule d s) (decl_goes s d l) (decl_adds s d l))
+    (λ r is m x. declaring r (decls_rule rest r) (decls_goes rest r m) (decls_adds rest r m))
+
+pub decls_declare : (ds : List Decl) (s : State) → IsLawful s → Post (decls_rule ds s) (Declaring s)
+decls_declare ds s l = declaring s (decls_rule ds s) (decls_goes ds s l) (decls_adds ds s l)

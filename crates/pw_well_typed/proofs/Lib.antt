@@ -19,6 +19,7 @@ pub mod Keeping
 pub mod Initialisers
 pub mod Declarations
 pub mod Adding
+pub mod LabelLaws
 pub mod Statements
 pub mod Modules
 pub mod Laws
