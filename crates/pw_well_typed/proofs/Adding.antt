@@ -480,7 +480,7 @@ declaring s w h k =
     post_weaken w (λ r. (IsLawful r.1 × After s r.1 × Unit {0}) × AddsLocals s r) (Declaring s) (post_both w (λ r. IsLawful r.1 × After s r.1 × Unit {0}) (AddsLocals s) h k)
     (λ r g. (g.0.0, g.0.1, g.1))
 
-longer_length : {X : Type 0} (xs ys : List X) → Longer xs ys → length xs ≤ length ys
+pub longer_length : {X : Type 0} (xs ys : List X) → Longer xs ys → length xs ≤ length ys
 longer_length [] ys h = omega arith
 longer_length (x ∷ xs) ys h =
     let k : length xs < length ys = get_within ys (length xs) _ (h (length xs) _ (slice_get-get_or (x ∷ xs) (length xs) x (omega arith))) in omega (arith, k)
