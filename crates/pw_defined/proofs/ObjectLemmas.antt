@@ -11,7 +11,7 @@ use Rattle.pw_walk.specs.Walks.{Walk, Done, bind}
 use Rattle.pw_walk.proofs.CallLaws.{bind_assoc}
 use Rattle.pw_rules.specs.Kinds.{is_const_object}
 use Rattle.pw_rules.specs.Limits.{Spot}
-use Rattle.pw_rules.specs.Linkage.{Asking, declare_linked, define_object, define_tentatively}
+use Rattle.pw_rules.specs.Linkage.{Asking, declare_linked, define_object, define_tentatively, named_type}
 use Rattle.pw_rules.specs.SpecifierLists.{Specified}
 use Rattle.pw_rules.specs.States.{State, add_hidden, next_hidden, next_local, put_hidden}
 use Rattle.pw_rules.specs.Initialisers.{Context, is_by_bytes, object_rule}
