@@ -4,7 +4,7 @@ use Rattle.std.specs.Prelude.{IfSome}
 use Rattle.pw_io.specs.Files.{Files, Told}
 use Rattle.pw_front.specs.declared.refusal.Refusal.{Refusal}
 use Rattle.pw_answer.specs.declared.answer.Answer.{Answer}
-use Rattle.pw_answer.specs.declared.answer.Answer.TheVariants.{Usage, Refused, LinkRefused, Halted, NoMemory, BadFile}
+use Rattle.pw_answer.specs.declared.answer.Answer.TheVariants.{Usage, Refused, LinkRefused, Halted, NoMemory, BadFile, BadScript}
 use Rattle.pw_answer.specs.Answers.{line_text, NeedsMemory}
 use Rattle.pw_answer.specs.Effects.{Effect, NamedFile, PutsFiles, PutFront}
 use Rattle.pw_answer.specs.Outcomes.{Answers, InputCount, LeavesInput, LeavesStreams, OutputCount, PutsOut, StoreCount, ToldAs, WasReadInPart}
@@ -52,6 +52,7 @@ puts_all (Refused name refusal) files told new n h = record { done = files; more
 puts_all (LinkRefused fault) files told new n h = record { done = files; more = []; split = sym (append-nil files); left = h }
 puts_all (Halted halt at) files told new n h = record { done = files; more = []; split = sym (append-nil files); left = h }
 puts_all (BadFile name at) files told new n h = record { done = files; more = []; split = sym (append-nil files); left = h }
+puts_all (BadScript at) files told new n h = record { done = files; more = []; split = sym (append-nil files); left = h }
 puts_all _ files told new n h = absurd n
 
 part_of_wanted : (input wanted : List ℕ) (new : Option (List ℕ)) → Ends input wanted → new ≡ Some wanted → WasReadInPart wanted input new
