@@ -391,7 +391,7 @@ all_more : {X : Type 0} (P A Q : X → Type 0) → ((x : X) → P x → A x → 
 all_more P A Q f [] h k = All-nil Q
 all_more P A Q f (x ∷ xs) h k = All-cons Q x xs (f x (All-head P x xs h) (All-head A x xs k)) (all_more P A Q f xs (All-tail P x xs h) (All-tail A x xs k))
 
-abbrev AddsLocals : State → List Initialiser × State → Type 0
+abbrev pub AddsLocals : State → List Initialiser × State → Type 0
 AddsLocals s r = Adds s r.1 × Declares s r.1 r.0
 
 local_adds : (s : State) (w : Word) (b : Specified) (q : QType) (i : Option Initializer) → IsLawful s → IsObjectLike s.types.records q → Post (local_rule w b q i s) (AddsLocals s)
@@ -480,7 +480,7 @@ init_declarator_adds s b d l h =
     (named_adds u.1 (sort_of (is_file_scope u.1) b u.0) (spot_of r.0.name b.first b.tag) (name_of r.0) b u.0 d.initializer n j (sort_fits (is_file_scope u.1) b u.0))))
 
 -- what a declaration comes to: a lawful state, behind the one before, and what it adds
-abbrev Declaring : State → List Initialiser × State → Type 0
+abbrev pub Declaring : State → List Initialiser × State → Type 0
 Declaring s r = IsLawful r.1 × After s r.1 × AddsLocals s r
 
 declaring : (s : State) (w : Walk (List Initialiser × State)) → Goes s w Anything → Post w (AddsLocals s) → Post w (Declaring s)
@@ -548,7 +548,7 @@ init_declarators_adds (d ∷ rest) s b l h =
     let k = lawful_later s.types.records r.types.records x.extends (type_of b.ty) h in
     declaring r (init_declarators_rule b rest r) (init_declarators_goes rest r b m k) (init_declarators_adds rest r b m k))
 
-specified_all : (s : State) (specifiers : Specifiers) (first : ℕ) → IsLawful s → Runs s (specified_rule specifiers first s) GoodSpecified
+pub specified_all : (s : State) (specifiers : Specifiers) (first : ℕ) → IsLawful s → Runs s (specified_rule specifiers first s) GoodSpecified
 unfolding specified_rule
 specified_all s specifiers first l =
     goes_on _ _ GoodGathered GoodSpecified (specifiers_post specifiers first nothing_gathered s l tt) (λ r m g h. specified_runs r.1 first r.0 m h)

@@ -170,9 +170,13 @@ listed_value_runs s cx cursor filled first e l f = by (reach (records_in s) (tak
         post_bind (value_filled cx first x.target e filled s) (λ more. Done ((passed (records_in s) x.cursor, more.0), more.1)) (λ r. IsLawful r.1 × Grows s r.1 × Fills s r.1 (type_of x.target.ty) filled r.0)
         (λ r. IsLawful r.1 × Grows s r.1 × Advances s r.1 cursor filled r.0)
         (filled_runs s cx first x.target e filled l f)
-        (λ r g. (g.0, g.1, λ ty scalar lawful at all.
-        let k = at_reached (records_in s) (takes_record e) cursor x ty scalar at h in
-        (k.1, subst (λ c. Fills s r.1 c filled r.0) k.0 g.2 lawful all)))
+        (λ r g. (
+          g.0,
+          g.1,
+          λ ty scalar lawful at all.
+              let k = at_reached (records_in s) (takes_record e) cursor x ty scalar at h in
+              (k.1, subst (λ c. Fills s r.1 c filled r.0) k.0 g.2 lawful all),
+        ))
 
 listed_string_runs : (s : State) (cx : Context) (cursor : Cursor) (filled : Filled) (ws : List Word) → IsLawful s → Runs s (listed_string cx cursor filled ws s) Nothing
 unfolding listed_string bind
@@ -236,8 +240,12 @@ mutual
       goes_on _ _ (λ t r. Advances s t cursor filled r) (λ t r. Advances s t cursor filled r) (init_runs i s cx cursor filled l) (λ r m g h.
       post_weaken (inits_rule rest cx r.0.0 r.0.1 r.1) (λ u. IsLawful u.1 × Grows r.1 u.1 × Advances r.1 u.1 r.0.0 r.0.1 u.0) (λ u. IsLawful u.1 × Grows r.1 u.1 × Advances s u.1 cursor filled u.0)
       (inits_runs rest r.1 cx r.0.0 r.0.1 m)
-      (λ u k. (k.0, k.1, λ ty scalar lawful at all.
-      let x = h ty scalar lawful at all in k.2 ty scalar (lawful_later s.types.records r.1.types.records g.extends ty lawful) x.0 x.1)))
+      (λ u k. (
+        k.0,
+        k.1,
+        λ ty scalar lawful at all.
+            let x = h ty scalar lawful at all in k.2 ty scalar (lawful_later s.types.records r.1.types.records g.extends ty lawful) x.0 x.1,
+      )))
 
   init_runs : (i : Init) (s : State) (cx : Context) (cursor : Cursor) (filled : Filled) → IsLawful s → Runs s (init_rule i cx cursor filled s) (λ t r. Advances s t cursor filled r)
   init_runs (S.Value e) s cx cursor filled l = listed_form_runs s cx cursor filled e (string_form e) l

@@ -92,7 +92,7 @@ post_any (Closed constraint token) P h = tt
 abbrev Whatever : {A : Type 0} → A → Type 0
 Whatever a = Unit {0}
 
-after_any : {A B : Type 0} (w : Walk A) (next : A → Walk B) (P : B → Type 0) → ((a : A) → Post (next a) P) → Post (bind w next) P
+pub after_any : {A B : Type 0} (w : Walk A) (next : A → Walk B) (P : B → Type 0) → ((a : A) → Post (next a) P) → Post (bind w next) P
 after_any w next P h = post_bind w next Whatever P (post_any w Whatever (λ a. tt)) (λ a k. h a)
 
 mutual

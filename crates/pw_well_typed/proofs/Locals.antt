@@ -142,9 +142,12 @@ completed_placed s u name l new register p g i e h =
         or (inr k) = (y, k ∙ f, good)
 
     newest : (length s.scopes.entities ≡ e.1.place) → HasEntity (IsPlaced (put_at (length s.body.locals) new u.body.locals)) (local_completed s (length s.scopes.entities) new register u) e.1.place
-    newest same =
-        (x, subst (λ k. slice_get (put_at (length s.scopes.entities) x u.scopes.entities) k ≡ Some x) same
-        (put_same (length s.scopes.entities) x u.scopes.entities (get_within u.scopes.entities (length s.scopes.entities) (LocalObject (length s.body.locals) l.ty register) there)), placed)
+    newest same = (
+      x,
+      subst (λ k. slice_get (put_at (length s.scopes.entities) x u.scopes.entities) k ≡ Some x) same
+          (put_same (length s.scopes.entities) x u.scopes.entities (get_within u.scopes.entities (length s.scopes.entities) (LocalObject (length s.body.locals) l.ty register) there)),
+      placed,
+    )
 
     before : (slice_get s.scopes.ordinary i ≡ Some e) ⊎ ((i ≡ length s.scopes.ordinary) × ((name, record { place = length s.scopes.entities; depth = s.scopes.depth }) ≡ e))
         → HasEntity (IsPlaced (put_at (length s.body.locals) new u.body.locals)) (local_completed s (length s.scopes.entities) new register u) e.1.place
