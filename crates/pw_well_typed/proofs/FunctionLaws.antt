@@ -1,42 +1,40 @@
 -- Function definitions: the type, the parameters, the labels and the block of each.
-use Rattle.std.specs.Prelude.{ℕ, suc, ◌≡◌, ◌⊎◌, Bool, true, false, Option, None, Some, unwrap_or, List, [], ◌∷◌, ◌++◌, length, map, slice_get, All, Ok, refl}
+use Rattle.std.specs.Prelude.{ℕ, suc, ◌≡◌, ◌⊎◌, true, Option, None, Some, unwrap_or, List, [], ◌∷◌, ◌++◌, length, map, slice_get, All, Ok, refl}
 use Rattle.std.proofs.Common.{ap, sym, subst, ◌∙◌, inl, inr}
 use Rattle.std.proofs.lemmas.List.Elements.{All-weaker}
 use Rattle.std.proofs.lemmas.Option.{slice_get-get_or}
 use Rattle.pw_tree.specs.Trees.{Word, Function, External, Definition, Declaration, Module, Block}
 use Rattle.pw_tree.specs.Trees as S
-use Rattle.pw_types.specs.Labels.{labels_in, cases_in}
 use Rattle.pw_types.specs.TypeTrees.{QType, type_of}
-use Rattle.pw_types.specs.TypedTrees.{Statement, LocalValue, FunctionValue, ModuleValue}
-use Rattle.pw_types.specs.TypedTrees as T
+use Rattle.pw_types.specs.TypedTrees.{FunctionValue, ModuleValue}
 use Rattle.pw_types.specs.TypedModules.{AreLabels, IsBlock, IsFunctionTyped}
 use Rattle.pw_walk.specs.Causes.{Point}
 use Rattle.pw_walk.specs.Walks.{Walk, Done, Passing, bind}
 use Rattle.pw_rules.specs.Checks.{Checks, checking}
-use Rattle.pw_rules.specs.Declarations.{name_of, specified_rule}
+use Rattle.pw_rules.specs.Declarations.{name_of}
 use Rattle.pw_rules.specs.Derivations.{Bindings, spot_of, Declared}
-use Rattle.pw_rules.specs.Functions.{ends_in_function, function_of, bindings_of, no_bindings, parameter_local, enter_body, definition_asking, definition_rules, measured_rule, body_rule, function_rule, add_function}
+use Rattle.pw_rules.specs.Functions.{ends_in_function, function_of, bindings_of, no_bindings, parameter_local, enter_body, definition_asking, definition_rules, measured_rule, body_rule, function_rule}
 use Rattle.pw_rules.specs.Leaves.{first_of_declaration}
-use Rattle.pw_rules.specs.Linkage.{declare_linked, define_function, linkage_point, is_internal_by}
-use Rattle.pw_rules.specs.Modules.{external_rule, externals_rule, end_rule, module_in, module_rule}
-use Rattle.pw_rules.specs.States.{State, BodyState, LinkedName, leave_scope, linked_in, start}
+use Rattle.pw_rules.specs.Linkage.{define_function}
+use Rattle.pw_rules.specs.Modules.{external_rule, externals_rule, end_rule, module_rule}
+use Rattle.pw_rules.specs.States.{State, LinkedName, leave_scope, start}
 use Rattle.pw_rules.specs.Statements as R
 use Rattle.pw_rules.specs.Statements.{block_rule}
 use Rattle.pw_well_typed.specs.Lawful.{IsLawful, IsLawfulType}
-use Rattle.pw_well_typed.proofs.Walking.{Post, post_end, post_bind, post_weaken, post_both, truth, AreMet, met_right}
+use Rattle.pw_well_typed.proofs.Walking.{Post, post_end, post_bind, post_weaken, post_both, truth, AreMet}
 use Rattle.pw_well_typed.proofs.Lists.{get_more, never_some}
 use Rattle.pw_well_typed.proofs.Types.{lawful_later}
-use Rattle.pw_well_typed.proofs.States.{Runs, Grows}
+use Rattle.pw_well_typed.proofs.States.{Grows}
 use Rattle.pw_well_typed.proofs.Changes.{left_lawful_alone}
-use Rattle.pw_well_typed.proofs.Leaves.{GoodType, GoodSpecified, GoodDeclared, GoodBindings, GoodIfAny, bindings_later, built_runs}
+use Rattle.pw_well_typed.proofs.Leaves.{GoodType, GoodSpecified, GoodDeclared, GoodBindings, bindings_later, built_runs}
 use Rattle.pw_well_typed.proofs.Phrases.{declarator_post}
-use Rattle.pw_well_typed.proofs.Keeping.{After, after_trans, Goes, NamedAt, declared_at, function_kept, Anything}
+use Rattle.pw_well_typed.proofs.Keeping.{After, after_trans, NamedAt, declared_at, function_kept}
 use Rattle.pw_well_typed.proofs.Declarations.{decl_goes}
 use Rattle.pw_well_typed.proofs.Statements.{block_goes}
 use Rattle.pw_well_typed.proofs.Modules.{body_entered, good_bindings}
 use Rattle.pw_well_typed.proofs.Adding.{specified_all}
-use Rattle.pw_well_typed.proofs.LabelLaws.{Steady, Labels, Labelled, IsLabelled, block_labelled, asked_post, function_labels}
-use Rattle.pw_well_typed.proofs.FunctionTypes.{last_of, IsBound, IsBoundDeclared, IsBuiltBy, after_any, post_any, declarator_bound, built_by, function_typed}
+use Rattle.pw_well_typed.proofs.LabelLaws.{IsLabelled, block_labelled, asked_post, function_labels}
+use Rattle.pw_well_typed.proofs.FunctionTypes.{last_of, IsBoundDeclared, IsBuiltBy, after_any, declarator_bound, built_by, function_typed}
 
 -- ---- bodies
 

@@ -1,17 +1,16 @@
 -- The parameters and locals in scope: each has its type at its place among the function's locals.
-use Rattle.std.specs.Prelude.{ℕ, ◌≡◌, ◌<◌, ◌⊎◌, ◌==◌, Bool, true, false, Option, None, Some, option_and_then, List, [], ◌∷◌, ◌++◌, length, slice_get, if◌then◌else◌, nat_lt, refl}
+use Rattle.std.specs.Prelude.{ℕ, ◌≡◌, ◌<◌, ◌⊎◌, Bool, None, Some, option_and_then, List, [], ◌∷◌, ◌++◌, length, slice_get, if◌then◌else◌, nat_lt, refl}
 use Rattle.std.specs.Option.{option_map_or, option_or}
 use Rattle.std.specs.Str.{bytes_eq}
 use Rattle.std.proofs.Common.{arith, ap, sym, subst, ◌∙◌, inl, inr}
 use Rattle.pw_scope.specs.Visible.{visible}
-use Rattle.pw_types.specs.TypeTrees.{QType}
 use Rattle.pw_types.specs.TypedTrees.{LocalValue}
 use Rattle.pw_rules.specs.Declarations.{put_local, place_here}
-use Rattle.pw_rules.specs.States.{State, Entity, TypeName, EnumerationConstant, LocalObject, StaticObject, Linked, enter, put_entity, put_at, add_local, one_deeper, leave_scope, if_here}
+use Rattle.pw_rules.specs.States.{State, Entity, TypeName, EnumerationConstant, LocalObject, StaticObject, Linked, enter, put_entity, put_at, add_local, leave_scope, if_here}
 use Rattle.pw_rules.specs.declared.names.Entry.{Entry}
 use Rattle.pw_well_typed.specs.Lawful.{HasLocal}
-use Rattle.pw_well_typed.proofs.Lists.{Longer, some_same, never_some, get_append, get_either, get_more, get_last, get_within, get_filter, put_either, put_same}
-use Rattle.pw_well_typed.proofs.States.{GrowsBy, Grows, IsConstant, HasEntity}
+use Rattle.pw_well_typed.proofs.Lists.{Longer, get_append, get_either, get_more, get_last, get_within, get_filter, put_either, put_same}
+use Rattle.pw_well_typed.proofs.States.{Grows, IsConstant, HasEntity}
 use Rattle.pw_well_typed.proofs.Counting.{named_itself, equal_itself}
 
 -- a local of the entity's type stands at its place

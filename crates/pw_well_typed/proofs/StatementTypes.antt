@@ -1,5 +1,5 @@
 -- Statements are well typed, in a module and a function that the names of the state at their end stand for.
-use Rattle.std.specs.Prelude.{ℕ, ◌≡◌, ◌≢◌, ◌<◌, ◌≤◌, ◌+◌, ◌-◌, Bool, true, false, not, ◌||◌, nat_eq, nat_lt, cond, Option, None, Some, is_some, unwrap_or, option_to_list, List, [], ◌∷◌, ◌++◌, length, position, slice_get, All, Contains, refl}
+use Rattle.std.specs.Prelude.{ℕ, ◌≡◌, ◌≢◌, ◌<◌, ◌≤◌, ◌+◌, ◌-◌, Bool, true, false, not, ◌||◌, nat_lt, cond, Option, None, Some, is_some, unwrap_or, List, [], ◌∷◌, ◌++◌, length, position, Contains, refl}
 use Rattle.std.specs.List.{position_or_len}
 use Rattle.std.specs.Str.{bytes_eq}
 use Rattle.std.proofs.Common.{arith, ap, sym, subst, ◌∙◌, inl, inr}
@@ -12,24 +12,24 @@ use Rattle.pw_types.specs.Conversions.{size_of_kind, promoted}
 use Rattle.pw_types.specs.declared.kind.IntKind.{IntKind}
 use Rattle.pw_types.specs.declared.kind.IntKind.TheVariants as K
 use Rattle.pw_types.specs.Labels.{labels_in}
-use Rattle.pw_types.specs.TypeTrees.{CType, Int, Void, Function, QType, QTypes, type_of}
+use Rattle.pw_types.specs.TypeTrees.{CType, Int, Function, QTypes, type_of}
 use Rattle.pw_types.specs.TypedTrees.{Expression, Initialiser, Statement, LocalValue, FunctionValue, ModuleValue}
 use Rattle.pw_types.specs.TypedTrees as T
 use Rattle.pw_types.specs.TypedModules.{Initialises, IsSwitch, Returns, IsStatement}
 use Rattle.pw_types.specs.TypedModules as M
-use Rattle.pw_types.specs.WellTyped.{IsTyped, IsTypedOrAbsent, IsCondition, IsConditionOrAbsent, IsScalar, IsResult, IsPromoted}
+use Rattle.pw_types.specs.WellTyped.{IsTyped, IsTypedOrAbsent, IsCondition, IsConditionOrAbsent, IsScalar, IsResult}
 use Rattle.pw_walk.specs.Walks.{Walk, Done, bind}
 use Rattle.pw_rules.specs.Functions.{numbers_below}
-use Rattle.pw_rules.specs.Kinds.{kind_in, is_integral, is_scalar, is_void}
+use Rattle.pw_rules.specs.Kinds.{kind_in, is_void}
 use Rattle.pw_rules.specs.Leaves.{is_nil}
 use Rattle.pw_rules.specs.Operands.{type_in, cast_to, promote}
 use Rattle.pw_rules.specs.Operators.{is_assignable}
-use Rattle.pw_rules.specs.States.{State, Rule, BodyState, SwitchState, one_deeper, leave_scope, scoped, next_local}
+use Rattle.pw_rules.specs.States.{State, Rule, BodyState, SwitchState, one_deeper, leave_scope, scoped}
 use Rattle.pw_rules.specs.Statements as R
 use Rattle.pw_rules.specs.Statements.{case_rule, new_label, inside_switch, default_rule, name_label_rule, label_rule, labels_rule, whole_rule, optional_rule, is_condition, condition_rule, optional_condition, switch_rule, in_switch, in_loop, goto_rule, continue_rule, break_rule, return_rule, stmt_rule, alternative_rule, block_rule, stmts_rule, place_of_label}
-use Rattle.pw_well_typed.specs.Lawful.{IsLawful, IsLawfulType, AreWords, Denotes}
+use Rattle.pw_well_typed.specs.Lawful.{IsLawful, IsLawfulType, AreWords}
 use Rattle.pw_well_typed.specs.Texts.{HasText, AlternativeHasText, BlockHasText, StmtsHaveText}
-use Rattle.pw_well_typed.specs.Words.{HasWords, HasWordsIfAny, WordsInStatement, WordsInStatements, WordsInArms, WordsInElse}
+use Rattle.pw_well_typed.specs.Words.{HasWordsIfAny, WordsInStatement, WordsInStatements, WordsInArms, WordsInElse}
 use Rattle.pw_well_typed.proofs.Walking.{Post, post_bind, post_weaken, post_both, truth}
 use Rattle.pw_well_typed.proofs.Lists.{Longer}
 use Rattle.pw_well_typed.proofs.Types.{no, not_true}
@@ -37,14 +37,14 @@ use Rattle.pw_well_typed.proofs.Conversions.{scalar_is, integral_is, cast_type, 
 use Rattle.pw_well_typed.proofs.Places.{assignable_typed}
 use Rattle.pw_well_typed.proofs.States.{Fine, FineValue, GoodValue, Runs, goes_on, Grows, grows_same, grows_trans, stands_back}
 use Rattle.pw_well_typed.proofs.Operations.{value_runs}
-use Rattle.pw_well_typed.proofs.Changes.{deeper_lawful, left_lawful_alone}
-use Rattle.pw_well_typed.proofs.Phrases.{expr_post, valued}
+use Rattle.pw_well_typed.proofs.Changes.{deeper_lawful}
+use Rattle.pw_well_typed.proofs.Phrases.{expr_post}
 use Rattle.pw_well_typed.proofs.Counting.{one, times_of, below, times_numbers, contained}
 use Rattle.pw_well_typed.proofs.Locals.{ArePlaced, longer_same, grows_placed, left_placed}
-use Rattle.pw_well_typed.proofs.Keeping.{After, after_trans, Goes, Anything, of_runs, around, scoped_goes}
-use Rattle.pw_well_typed.proofs.Statements.{labels_goes, in_switch_goes, in_loop_goes, stmt_goes, alternative_goes, block_goes, stmts_goes}
+use Rattle.pw_well_typed.proofs.Keeping.{After, after_trans, Goes, Anything, of_runs, around}
+use Rattle.pw_well_typed.proofs.Statements.{labels_goes, in_switch_goes, in_loop_goes, stmt_goes, alternative_goes, stmts_goes}
 use Rattle.pw_well_typed.proofs.Adding.{Names, IsOwned, Final, IsReady, Back, Starts, Declares, Declaring, denotes_final, decls_declare, longer_length}
-use Rattle.pw_well_typed.proofs.LabelLaws.{label_labelled, loop_labelled, asked_post, Steady, steady_same, steady_trans, Labelled, labels_labelled, IsSwitchOf, IsLabelledSwitch, switch_labelled, IsLabelled, AreLabelled, IsLabelledBehind, stmt_labelled, alternative_labelled, stmts_labelled, adds_steady, with_loop}
+use Rattle.pw_well_typed.proofs.LabelLaws.{label_labelled, loop_labelled, asked_post, Steady, steady_same, steady_trans, Labelled, labels_labelled, IsSwitchOf, IsLabelledSwitch, switch_labelled, stmt_labelled, alternative_labelled, stmts_labelled, adds_steady, with_loop}
 
 -- ---- how statements move the state
 
