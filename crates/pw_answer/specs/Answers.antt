@@ -21,7 +21,7 @@ use Rattle.pw_value.specs.declared.fault.LinkFault.TheVariants as link
 use Rattle.pw_value.specs.declared.fault.What.{What}
 use Rattle.pw_value.specs.declared.fault.What.TheVariants.{Modules, TextBytes, Functions, Globals}
 use Rattle.pw_answer.specs.declared.answer.Answer.{Answer}
-use Rattle.pw_answer.specs.declared.answer.Answer.TheVariants.{Done, Ended, Usage, Refused, LinkRefused, StackStop, Spent, Halted, ReadFault, WriteFault, StoreFault, NoMemory, BadFile}
+use Rattle.pw_answer.specs.declared.answer.Answer.TheVariants.{Done, Ended, Usage, Refused, LinkRefused, StackStop, Spent, Halted, ReadFault, WriteFault, StoreFault, NoMemory, BadFile, BadScript}
 
 -- the status with which the process ends
 abbrev pub status_of : Answer → ℕ
@@ -38,6 +38,7 @@ status_of WriteFault = 119
 status_of StoreFault = 120
 status_of NoMemory = 121
 status_of (BadFile name at) = 122
+status_of (BadScript at) = 123
 
 -- ---- the line that is told
 
@@ -143,6 +144,7 @@ line_text line WriteFault = codes "WriteFault" ++ newline
 line_text line StoreFault = codes "StoreFault" ++ newline
 line_text line NoMemory = codes "NoMemory" ++ newline
 line_text line (BadFile name at) = bad_file_text name at ++ newline
+line_text line (BadScript at) = codes "BadScript at " ++ decimal at ++ newline
 
 -- the answers whose lines name something, and are made for them
 abbrev pub NeedsMemory : Answer → Type 0
@@ -159,3 +161,4 @@ NeedsMemory WriteFault = ⊥
 NeedsMemory StoreFault = ⊥
 NeedsMemory NoMemory = ⊥
 NeedsMemory (BadFile name at) = Unit {0}
+NeedsMemory (BadScript at) = Unit {0}

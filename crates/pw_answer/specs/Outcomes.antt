@@ -5,7 +5,7 @@ use Rattle.pw_io.specs.declared.StoreError.{StoreError}
 use Rattle.pw_io.specs.declared.StoreError.TheVariants as store
 use Rattle.pw_io.specs.Streams.{Appends}
 use Rattle.pw_answer.specs.declared.answer.Answer.{Answer}
-use Rattle.pw_answer.specs.declared.answer.Answer.TheVariants.{Done, Ended, Usage, Refused, LinkRefused, StackStop, Spent, Halted, ReadFault, WriteFault, StoreFault, NoMemory, BadFile}
+use Rattle.pw_answer.specs.declared.answer.Answer.TheVariants.{Done, Ended, Usage, Refused, LinkRefused, StackStop, Spent, Halted, ReadFault, WriteFault, StoreFault, NoMemory, BadFile, BadScript}
 use Rattle.pw_answer.specs.Answers.{line_text, NeedsMemory}
 
 -- ---- what the call answers: what is wanted; a fault and want of memory may come in its place
@@ -24,12 +24,14 @@ Answers wanted WriteFault = Unit {0}
 Answers wanted StoreFault = Unit {0}
 Answers wanted NoMemory = Unit {0}
 Answers wanted (BadFile name at) = wanted ≡ BadFile name at
+Answers wanted (BadScript at) = wanted ≡ BadScript at
 
 -- the answer refuses nothing
 abbrev pub IsNoRefusal : Answer → Type 0
 IsNoRefusal (Refused name refusal) = ⊥
 IsNoRefusal (LinkRefused fault) = ⊥
 IsNoRefusal (BadFile name at) = ⊥
+IsNoRefusal (BadScript at) = ⊥
 IsNoRefusal _ = Unit {0}
 
 -- A refusal comes before the input and the output are touched, so that only the store may have a fault.

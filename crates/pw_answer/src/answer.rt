@@ -38,6 +38,8 @@ pub enum Answer {
     NoMemory,
     /// The file of this name, which the command needs, is absent, or is refused at this offset.
     BadFile(Name, Option<usize>),
+    /// The script has no lawful line at this offset.
+    BadScript(u64),
 }
 
 /// What came of a command, and the line on which a refused module is refused.
@@ -91,5 +93,6 @@ pub fn status(answer: &Answer) -> u8
         Answer::StoreFault => 120,
         Answer::NoMemory => 121,
         Answer::BadFile(_, _) => 122,
+        Answer::BadScript(_) => 123,
     }
 }

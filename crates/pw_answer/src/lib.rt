@@ -7,4 +7,5 @@ mod line;
 mod telling;
 
 pub use answer::{Answer, Reply, status};
+pub use line::{Line, halt_name, line_of};
 pub use telling::tell;

@@ -56,7 +56,8 @@ fn which_name(which: Which) -> &'static [u8]
     }
 }
 
-fn halt_name(halt: Halt) -> &'static [u8]
+/// The name of a kind of halt.
+pub fn halt_name(halt: Halt) -> &'static [u8]
     ensures { result.now ≡ halt_name halt }
 {
     match halt {
@@ -309,6 +310,16 @@ fn bad_file_line(alloc: Global, name: &Name, at: Option<usize>) -> Result<Vec<u8
     Ok(text)
 }
 
+/// The line of a script that has no lawful line at an offset.
+fn bad_script_line(alloc: Global, at: u64) -> Result<Vec<u8>, AllocError>
+    ensures { IfOk result (λ text. text.items ≡ codes "BadScript at " ++ decimal at ++ codes "\n") }
+{
+    let mut text = Vec::from_slice(alloc, b"BadScript at ")?;
+    push_decimal(alloc, &mut text, at)?;
+    text.extend_from_slice(b"\n")?;
+    Ok(text)
+}
+
 /// A line that is told.
 #[derive(Debug, Drop)]
 pub enum Line {
@@ -316,6 +327,18 @@ pub enum Line {
     Fixed(&'static [u8]),
     /// A line that was made for its answer.
     Made(Vec<u8>),
+}
+
+impl Line {
+    /// Its bytes.
+    pub fn as_bytes(&self) -> &[u8]
+        ensures { result.now ≡ line_bytes self.now }
+    {
+        match self {
+            Line::Fixed(text) => text,
+            Line::Made(text) => text.as_slice(),
+        }
+    }
 }
 
 /// The line of an answer, where a refused module is refused on line `line` of its text. Only the answers that name
@@ -329,6 +352,7 @@ pub fn line_of(alloc: Global, answer: &Answer, line: usize) -> Result<Line, Allo
         Answer::LinkRefused(fault) => Ok(Line::Made(link_refused_line(alloc, fault)?)),
         Answer::Halted(halt, at) => Ok(Line::Made(halted_line(alloc, *halt, *at)?)),
         Answer::BadFile(name, at) => Ok(Line::Made(bad_file_line(alloc, name, *at)?)),
+        Answer::BadScript(at) => Ok(Line::Made(bad_script_line(alloc, *at)?)),
         Answer::Done | Answer::Ended(_) => Ok(Line::Fixed(b"")),
         Answer::Usage => Ok(Line::Fixed(b"usage\n")),
         Answer::StackStop => Ok(Line::Fixed(b"StackStop\n")),

@@ -4,7 +4,7 @@ ghost use Rattle.pw_answer.specs.Answers.{line_text};
 ghost use Rattle.pw_answer.specs.Outcomes.{Tells, ToldAs};
 
 use crate::answer::Answer;
-use crate::line::{Line, line_of};
+use crate::line::line_of;
 use pw_io::Sink;
 use std::alloc::{AllocError, Global};
 
@@ -22,8 +22,7 @@ pub fn tell<E: Sink>(alloc: Global, answer: Answer, line: usize, err: &mut E) ->
     ensures line { Tells (line_text line result) (E.taken err.old) (E.taken err.new) (E.faults err.old) (E.faults err.new) }
 {
     match line_of(alloc, &answer, line) {
-        Ok(Line::Fixed(text)) => put_line(err, text),
-        Ok(Line::Made(text)) => put_line(err, text.as_slice()),
+        Ok(line) => put_line(err, line.as_bytes()),
         Err(AllocError) => {
             put_line(err, b"NoMemory\n");
             return Answer::NoMemory;

@@ -1,8 +1,6 @@
 //! The rules of statements (C90 6.6), for whatever checks the phrases within them.
 #![tactic(auto)]
 
-mod jumps;
 mod stmt;
-mod values;
 
 pub use stmt::{block_rule, stmt_of};

@@ -11,9 +11,11 @@ ghost use Rattle.pw_tree.specs.Trees as tree;
 ghost use Rattle.pw_tree.specs.Views.{view_block, view_else_ifs, view_expr, view_labels, view_optional, view_otherwise, view_stmt, view_stmts};
 ghost use Rattle.pw_typed.specs.Views as typed;
 
-use crate::jumps::{break_rule, continue_rule, goto_rule, return_rule};
-use crate::values::{condition_rule, optional_condition, optional_rule, switch_rule, value};
 use pw_checking::{State, SwitchState};
+use pw_jumps::{
+    break_rule, condition_rule, continue_rule, goto_rule, optional_condition, optional_rule,
+    return_rule, switch_rule, value,
+};
 use pw_kinds::kind_in;
 use pw_labels::{BodyParts, labels_rule};
 use pw_tree::{Block, ElseIf, Expr, Label, Stmt};

@@ -6,7 +6,8 @@ ghost use Rattle.pw_checking.specs.PhraseViews.{view_specified};
 ghost use Rattle.pw_checking.specs.StateViews.{view_state};
 ghost use Rattle.pw_defined.specs.Parts as part;
 ghost use Rattle.pw_defined.specs.Views.{view_made};
-ghost use Rattle.pw_initial.specs.Views.{view_context, view_initialised};
+ghost use Rattle.pw_filled.specs.Views.{view_context};
+ghost use Rattle.pw_initial.specs.Views.{view_initialised};
 ghost use Rattle.pw_linked.specs.Views.{view_asking};
 ghost use Rattle.pw_rules.specs.Declarations as spec;
 ghost use Rattle.pw_rules.specs.Linkage as linkage;
@@ -14,7 +15,8 @@ ghost use Rattle.pw_tree.specs.Views.{view_init, view_initializer, view_word};
 ghost use Rattle.pw_types.specs.Views.{view_qtype};
 
 use pw_checking::{Entity, Phrases, Specified, State};
-use pw_initial::{Context, Initialised, object_rule};
+use pw_filled::Context;
+use pw_initial::{Initialised, object_rule};
 use pw_kinds::copy_qtype;
 use pw_linked::{
     Asking, declare_linked, define_object, define_tentatively, initialise_linked, note_here,

@@ -17,7 +17,8 @@ ghost use Rattle.pw_types.specs.Views.{view_qtype};
 
 use crate::statics::{hidden_begun, hidden_filled, object_completed, place_here};
 use pw_checking::{Entity, Phrases, Specified, State};
-use pw_initial::{Context, Filled, Initialised, is_by_bytes, object_rule};
+use pw_filled::{Context, Filled};
+use pw_initial::{Initialised, is_by_bytes, object_rule};
 use pw_kinds::{copy_qtype, is_const_object};
 use pw_named::is_register;
 use pw_tree::{Init, Initializer, Word};

@@ -1,3 +1,1 @@
-pub mod Splits
-pub mod Forms
-pub mod Counting
+mod Splits

@@ -25,7 +25,7 @@ use Rattle.pw_rules.specs.Operands.{Operand}
 use Rattle.pw_rules.specs.Phrases.{arguments_rule, operations_rule, postfixes_rule}
 use Rattle.pw_rules.specs.States.{Rule, State}
 use Rattle.pw_rules.specs.Statements.{whole_rule}
-use Rattle.pw_exprs.specs.Turns.{first_postfix, one_argument, one_operation, values_behind}
+use Rattle.pw_primaries.specs.Turns.{first_postfix, one_argument, one_operation, values_behind}
 
 -- ---- chains of operators
 

@@ -5,7 +5,7 @@ ghost use Rattle.pw_rules.specs.Phrases as spec;
 ghost use Rattle.pw_checking.specs.Follows.{Follows, Leads};
 ghost use Rattle.pw_checking.specs.StateViews.{view_state};
 ghost use Rattle.pw_checking.specs.Views.{view_operand};
-ghost use Rattle.pw_exprs.specs.Turns as turns;
+ghost use Rattle.pw_primaries.specs.Turns as turns;
 ghost use Rattle.pw_tree.specs.Trees.{NoPostfix, Select};
 ghost use Rattle.pw_tree.specs.Views.{view_arguments, view_expr, view_operations, view_postfix, view_postfixes, view_word};
 

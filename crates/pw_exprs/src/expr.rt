@@ -8,11 +8,9 @@ ghost use Rattle.pw_tree.specs.Trees as tree;
 ghost use Rattle.pw_tree.specs.Views.{view_expr, view_operations, view_postfixes};
 
 use crate::chains::{operations, postfixes};
-use crate::names::{cast, size_of_type};
-use crate::primary::primary;
-use crate::unary::unary;
 use pw_checking::{Operand, Phrases, State, whole_rule};
 use pw_operators::{assignment_rule, conditional_rule};
+use pw_primaries::{cast, primary, size_of_type, unary};
 use pw_tree::{AssignOperator, Expr, Operation, PostfixOperation};
 use pw_walk::CheckFault;
 use std::alloc::Global;

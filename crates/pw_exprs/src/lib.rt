@@ -3,8 +3,5 @@
 
 mod chains;
 mod expr;
-mod names;
-mod primary;
-mod unary;
 
 pub use expr::expr_of;

@@ -9,7 +9,7 @@ use Rattle.pw_value.specs.Fields.{◌>>=◌, after, u32_at}
 use Rattle.pw_value.specs.FieldFrame.{here, ended, header_at, payload_of, digest_of, opened, opened_at, placed, is_sealed, sealed, framed, file_at}
 use Rattle.pw_value.specs.FieldNames.{names_at}
 use Rattle.pw_files.specs.Contents.{Contents, FieldsReader, contents_at, contents_file_at, value_of}
-use Rattle.pw_files.specs.Faults.{IsFieldLength, StaysFault, no_rule, unsealed, FaultsStay}
+use Rattle.pw_files.specs.Faults.{IsFieldLength, OfPayload, Anything, StaysFault, no_rule, unsealed, FaultsStay}
 use Rattle.pw_files.proofs.OnwardLaws.{Onward, one_onward, checked_one, u32_one, behind, done_onward, here_onward, names_onward}
 
 abbrev failed : {X : Type 0} → ℕ → Result X ℕ
@@ -94,27 +94,32 @@ swapped m n xs ys same =
 
 -- ---- a fault of the header
 
-module _ {V : Type 0} (kind : ℕ) (fields : FieldsReader V) (late : List (List ℕ) → ℕ → V → ℕ → Option ℕ)
-    (onward : Onward (contents_at fields no_rule)) (keeps : Keeps (contents_at fields no_rule) (contents_at fields late)) where
+-- A payload has fields, read by `plain`, and rules that are looked at besides, with which `full` reads it. Where this holds of
+-- a payload, a fault of its fields is one of the whole.
+module _ {X : Type 0} (kind : ℕ) (plain full : List ℕ → Result (X × List ℕ) ℕ) (Holds : List ℕ → Type 0) (onward : Onward plain)
+    (keeps : (payload : List ℕ) (left : ℕ) → Holds payload → plain payload ≡ Err left → full payload ≡ Err left) where
+  abbrev whole : List ℕ → Result X ℕ
+  whole = file_at kind 1 1 (λ version. full)
+
   abbrev head : ℕ → List ℕ → Result (ℕ × List ℕ) ℕ
   head total = header_at kind 1 1 total
 
   -- what is read of a file whose header is known
-  by_header : (bytes : List ℕ) (r : Result (ℕ × List ℕ) ℕ) → head (length bytes) bytes ≡ r → contents_file_at kind fields late bytes ≡ framed (λ version. contents_at fields late) bytes (opened (length bytes) r)
+  by_header : (bytes : List ℕ) (r : Result (ℕ × List ℕ) ℕ) → head (length bytes) bytes ≡ r → whole bytes ≡ framed (λ version. full) bytes (opened (length bytes) r)
   unfolding file_at opened_at
-  by_header bytes r is = ap (λ s. framed (λ version. contents_at fields late) bytes (opened (length bytes) s)) is
+  by_header bytes r is = ap (λ s. framed (λ version. full) bytes (opened (length bytes) s)) is
 
-  in_header : (bytes : List ℕ) (at left : ℕ) → head (length bytes) bytes ≡ Err left → length bytes - left ≡ at → StaysFault (λ b. value_of (contents_file_at kind fields late b)) bytes at
+  in_header : (bytes : List ℕ) (at left : ℕ) → head (length bytes) bytes ≡ Err left → length bytes - left ≡ at → StaysFault (OfPayload kind Holds) whole bytes at
   in_header bytes at left is place =
       let f = (header_onward kind 1 1 (length bytes)).fault bytes left is in
       let begins : length f.before ≡ at = omega (arith, ap length f.parts, length-append f.before f.tail, f.begins, place) in
       record {
         count = f.count;
         field = subst (λ (w : List ℕ). IsFieldLength w f.count) (sym (ap (drop at) f.parts ∙ drop_at f.before f.tail at begins)) f.field;
-        same = λ others len same.
+        same = λ others len same holds.
             let a = alike f.before f.tail others f.count (len ∙ ap length f.parts) (ap (λ n. take (n + f.count) others) begins ∙ same ∙ ap (take (at + f.count)) f.parts ∙ ap (λ n. take (n + f.count) (f.before ++ f.tail)) (sym begins)) in
             let again : head (length others) others ≡ Err left = ap (λ n. head n others) len ∙ ap (head (length bytes)) a.parts ∙ f.same a.other a.long a.same in
-            ap value_of (by_header others (Err left) again) ∙ ap failed (ap (λ n. n - left) len ∙ place);
+            by_header others (Err left) again ∙ ap failed (ap (λ n. n - left) len ∙ place);
       }
 
   -- ---- a fault of the fields behind it
@@ -123,8 +128,9 @@ module _ {V : Type 0} (kind : ℕ) (fields : FieldsReader V) (late : List (List 
   placed_fault end at (Ok x) e = absurd cc
   placed_fault {X = X} end at (Err left) e = (left, refl, at_is {X = X} (end - left) at e)
 
-  in_payload : (bytes : List ℕ) (at left v : ℕ) (rest : List ℕ) → head (length bytes) bytes ≡ Ok (v, rest) → contents_at fields no_rule (payload_of rest) ≡ Err left → (length bytes - length (digest_of rest)) - left ≡ at
-      → StaysFault (λ b. value_of (contents_file_at kind fields late b)) bytes at
+  in_payload : (bytes : List ℕ) (at left v : ℕ) (rest : List ℕ) → head (length bytes) bytes ≡ Ok (v, rest) → plain (payload_of rest) ≡ Err left → (length bytes - length (digest_of rest)) - left ≡ at
+      → StaysFault (OfPayload kind Holds) whole bytes at
+  unfolding opened_at
   in_payload bytes at left v rest is fault place =
       let h = (header_onward kind 1 1 (length bytes)).found bytes v rest is in
       let q = onward.fault (payload_of rest) left fault in
@@ -135,7 +141,7 @@ module _ {V : Type 0} (kind : ℕ) (fields : FieldsReader V) (late : List (List 
       record {
         count = q.count;
         field = subst (λ (w : List ℕ). IsFieldLength w q.count) (sym (ap (drop at) whole ∙ drop_at (h.front ++ q.before) (q.tail ++ d) at begins)) (longer q.tail d q.count q.field);
-        same = λ others len same.
+        same = λ others len same holds.
             let a = alike (h.front ++ q.before) (q.tail ++ d) others q.count (len ∙ ap length whole) (ap (λ n. take (n + q.count) others) begins ∙ same ∙ ap (take (at + q.count)) whole ∙ ap (λ n. take (n + q.count) ((h.front ++ q.before) ++ (q.tail ++ d))) (sym begins)) in
             let t = take (length q.tail) a.other in
             let e = drop (length q.tail) a.other in
@@ -149,46 +155,67 @@ module _ {V : Type 0} (kind : ℕ) (fields : FieldsReader V) (late : List (List 
             let cut : length (q.before ++ t) ≡ length ((q.before ++ t) ++ e) - 32 = payload_len ∙ ap (λ n. n - 32) (sym rest_len) in
             let payload : payload_of ((q.before ++ t) ++ e) ≡ q.before ++ t = take_at (q.before ++ t) e _ cut in
             let digest : digest_of ((q.before ++ t) ++ e) ≡ e = drop_at (q.before ++ t) e _ cut in
-            let again : contents_at fields late (payload_of ((q.before ++ t) ++ e)) ≡ Err left = ap (contents_at fields late) payload ∙ keeps.same (q.before ++ t) left (q.same t t_len t_same) in
+            let true_there : Holds (q.before ++ t) = subst Holds payload (holds (v, payload_of ((q.before ++ t) ++ e), length others - length (digest_of ((q.before ++ t) ++ e))) (ap (opened (length others)) header)) in
+            let again : full (payload_of ((q.before ++ t) ++ e)) ≡ Err left = ap full payload ∙ keeps (q.before ++ t) left true_there (q.same t t_len t_same) in
             let end : length others - length (digest_of ((q.before ++ t) ++ e)) ≡ length bytes - length d = ap (λ (w : List ℕ). length others - length w) digest ∙ omega (arith, len, e_len) in
-            ap value_of (by_header others (Ok (v, (q.before ++ t) ++ e)) header)
-            ∙ ap (λ r. value_of (sealed others (length others - length (digest_of ((q.before ++ t) ++ e))) (placed (length others - length (digest_of ((q.before ++ t) ++ e))) r))) again
+            by_header others (Ok (v, (q.before ++ t) ++ e)) header
+            ∙ ap (λ r. sealed others (length others - length (digest_of ((q.before ++ t) ++ e))) (placed (length others - length (digest_of ((q.before ++ t) ++ e))) r)) again
             ∙ ap failed (ap (λ n. n - left) end ∙ place);
       }
 
   -- ---- both
 
-  stays_by : (bytes : List ℕ) (at : ℕ) (r : Result (ℕ × List ℕ) ℕ) → head (length bytes) bytes ≡ r → unsealed (λ version. contents_at fields no_rule) (opened (length bytes) r) ≡ Err at
-      → (value_of (contents_file_at kind fields late bytes) ≡ Err at) × StaysFault (λ b. value_of (contents_file_at kind fields late b)) bytes at
-  stays_by bytes at (Ok h) is e =
-      let p = placed_fault (length bytes - length (digest_of h.1)) at (contents_at fields no_rule (payload_of h.1)) e in
-      let late_fault = keeps.same (payload_of h.1) p.0 p.1 in (
-        ap value_of (by_header bytes (Ok h) is) ∙ ap (λ r. value_of (sealed bytes (length bytes - length (digest_of h.1)) (placed (length bytes - length (digest_of h.1)) r))) late_fault ∙ ap failed p.2,
+  stays_by : (bytes : List ℕ) (at : ℕ) (r : Result (ℕ × List ℕ) ℕ) → head (length bytes) bytes ≡ r → unsealed (λ version. plain) (opened (length bytes) r) ≡ Err at → OfPayload kind Holds bytes
+      → (whole bytes ≡ Err at) × StaysFault (OfPayload kind Holds) whole bytes at
+  unfolding opened_at
+  stays_by bytes at (Ok h) is e holds =
+      let p = placed_fault (length bytes - length (digest_of h.1)) at (plain (payload_of h.1)) e in
+      let late_fault = keeps (payload_of h.1) p.0 (holds (h.0, payload_of h.1, length bytes - length (digest_of h.1)) (ap (opened (length bytes)) is)) p.1 in (
+        by_header bytes (Ok h) is ∙ ap (λ r. sealed bytes (length bytes - length (digest_of h.1)) (placed (length bytes - length (digest_of h.1)) r)) late_fault ∙ ap failed p.2,
         in_payload bytes at p.0 h.0 h.1 is p.1 p.2,
       )
-  stays_by bytes at (Err left) is e =
-      let place = at_is {X = Contents V} (length bytes - left) at e in
-      (ap value_of (by_header bytes (Err left) is) ∙ ap failed place, in_header bytes at left is place)
+  stays_by bytes at (Err left) is e holds =
+      let place = at_is {X = X} (length bytes - left) at e in
+      (by_header bytes (Err left) is ∙ ap failed place, in_header bytes at left is place)
 
-  digest_within : {X : Type 0} (b : Bool) (x : X) (end at : ℕ) → cond b (Ok x) (failed end) ≡ failed {X = X} at → at ≡ end
+  digest_within : {A : Type 0} (b : Bool) (x : A) (end at : ℕ) → cond b (Ok x) (failed end) ≡ failed {X = A} at → at ≡ end
   digest_within true x end at e = absurd cc
-  digest_within {X = X} false x end at e = sym (at_is {X = X} end at e)
+  digest_within {A = A} false x end at e = sym (at_is {X = A} end at e)
 
-  sealed_within : {X : Type 0} (bytes : List ℕ) (total end at : ℕ) (r : Result (X × List ℕ) ℕ) → end ≤ total → sealed bytes end (placed end r) ≡ Err at → at ≤ total
+  sealed_within : {A : Type 0} (bytes : List ℕ) (total end at : ℕ) (r : Result (A × List ℕ) ℕ) → end ≤ total → sealed bytes end (placed end r) ≡ Err at → at ≤ total
   sealed_within bytes total end at (Ok x) le e = omega (arith, le, digest_within (is_sealed bytes end) x.0 end at e)
-  sealed_within {X = X} bytes total end at (Err left) le e = omega (arith, le, at_is {X = X} (end - left) at e)
+  sealed_within {A = A} bytes total end at (Err left) le e = omega (arith, le, at_is {X = A} (end - left) at e)
 
-  within_by : (bytes : List ℕ) (at : ℕ) (r : Result (ℕ × List ℕ) ℕ) → framed (λ version. contents_at fields late) bytes (opened (length bytes) r) ≡ Err at → at ≤ length bytes
-  within_by bytes at (Ok h) e = sealed_within bytes (length bytes) (length bytes - length (digest_of h.1)) at (contents_at fields late (payload_of h.1)) (omega arith) e
-  within_by bytes at (Err left) e = omega (arith, at_is {X = Contents V} (length bytes - left) at e)
+  within_by : (bytes : List ℕ) (at : ℕ) (r : Result (ℕ × List ℕ) ℕ) → framed (λ version. full) bytes (opened (length bytes) r) ≡ Err at → at ≤ length bytes
+  within_by bytes at (Ok h) e = sealed_within bytes (length bytes) (length bytes - length (digest_of h.1)) at (full (payload_of h.1)) (omega arith) e
+  within_by bytes at (Err left) e = omega (arith, at_is {X = X} (length bytes - left) at e)
 
+  pub lies_within : (bytes : List ℕ) (at : ℕ) → whole bytes ≡ Err at → at ≤ length bytes
+  lies_within bytes at e = within_by bytes at (head (length bytes) bytes) (sym (by_header bytes (head (length bytes) bytes) refl) ∙ e)
+
+  pub fault_stays : (bytes : List ℕ) (at : ℕ) → unsealed (λ version. plain) (opened_at kind 1 1 bytes) ≡ Err at → OfPayload kind Holds bytes
+      → (whole bytes ≡ Err at) × StaysFault (OfPayload kind Holds) whole bytes at
+  unfolding opened_at
+  fault_stays bytes at e holds = stays_by bytes at (head (length bytes) bytes) refl e holds
+
+-- ---- a file with a table of names first
+
+module _ {V : Type 0} (kind : ℕ) (fields : FieldsReader V) (late : List (List ℕ) → ℕ → V → ℕ → Option ℕ)
+    (onward : Onward (contents_at fields no_rule)) (keeps : Keeps (contents_at fields no_rule) (contents_at fields late)) where
   value_fault : (r : Result (Contents V) ℕ) (at : ℕ) → value_of r ≡ Err at → r ≡ Err at
   value_fault (Ok c) at e = absurd cc
   value_fault (Err d) at e = ap failed (at_is {X = V} d at e)
 
+  abbrev anywhere : List ℕ → Type 0
+  anywhere payload = Unit {0}
+
+  still : (bytes : List ℕ) (at : ℕ) → StaysFault (OfPayload kind anywhere) (contents_file_at kind fields late) bytes at → StaysFault Anything (λ b. value_of (contents_file_at kind fields late b)) bytes at
+  still bytes at f = record { count = f.count; field = f.field; same = λ others len same holds. ap value_of (f.same others len same (λ o e. tt)) }
+
   pub faults_stay : FaultsStay kind fields (λ b. value_of (contents_file_at kind fields late b))
-  unfolding opened_at
   faults_stay = record {
-    within = λ bytes at e. within_by bytes at (head (length bytes) bytes) (sym (by_header bytes (head (length bytes) bytes) refl) ∙ value_fault (contents_file_at kind fields late bytes) at e);
-    stays = λ bytes at e. stays_by bytes at (head (length bytes) bytes) refl e;
+    within = λ bytes at e. lies_within kind (contents_at fields no_rule) (contents_at fields late) anywhere onward (λ payload left t e. keeps.same payload left e) bytes at (value_fault (contents_file_at kind fields late bytes) at e);
+    stays = λ bytes at e.
+        let both = fault_stays kind (contents_at fields no_rule) (contents_at fields late) anywhere onward (λ payload left t e. keeps.same payload left e) bytes at e (λ o e. tt) in
+        (ap value_of both.0, still bytes at both.1);
   }

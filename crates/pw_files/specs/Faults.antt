@@ -9,11 +9,19 @@ abbrev pub IsFieldLength : List ℕ → ℕ → Type 0
 IsFieldLength bytes n = (n ≡ 1) ⊎ ((n ≡ 4) ⊎ ((n ≡ 8) ⊎ ((n ≡ 4 + from_be_bytes w32 (take 4 bytes)) × (n ≤ length bytes))))
 
 -- whatever follows the field that begins at the offset: other bytes of the same length that agree up to the
--- field's end have the same fault
-pub record StaysFault {X : Type 0} (read : List ℕ → Result X ℕ) (bytes : List ℕ) (at : ℕ) : Type 0 where
+-- field's end, where this holds of them, have the same fault
+pub record StaysFault {X : Type 0} (Holds : List ℕ → Type 0) (read : List ℕ → Result X ℕ) (bytes : List ℕ) (at : ℕ) : Type 0 where
   pub count : ℕ
   pub field : IsFieldLength (drop at bytes) count
-  pub same : (others : List ℕ) → length others ≡ length bytes → take (at + count) others ≡ take (at + count) bytes → read others ≡ Err at
+  pub same : (others : List ℕ) → length others ≡ length bytes → take (at + count) others ≡ take (at + count) bytes → Holds others → read others ≡ Err at
+
+-- of whatever bytes
+abbrev pub Anything : List ℕ → Type 0
+Anything bytes = Unit {0}
+
+-- this holds of the payload, where the header is lawful
+abbrev pub OfPayload : ℕ → (List ℕ → Type 0) → List ℕ → Type 0
+OfPayload kind Holds bytes = (o : ℕ × List ℕ × ℕ) → opened_at kind 1 1 bytes ≡ Ok o → Holds o.1
 
 -- ---- the fields of a file, without the rules that are looked at last and without the digest
 
@@ -31,4 +39,4 @@ fields_file_at kind fields bytes = unsealed (λ version. contents_at fields no_r
 -- faulty field's end.
 pub record FaultsStay {V : Type 0} (kind : ℕ) (fields : FieldsReader V) (read : List ℕ → Result V ℕ) : Type 0 where
   pub within : (bytes : List ℕ) (at : ℕ) → read bytes ≡ Err at → at ≤ length bytes
-  pub stays : (bytes : List ℕ) (at : ℕ) → fields_file_at kind fields bytes ≡ Err at → (read bytes ≡ Err at) × StaysFault read bytes at
+  pub stays : (bytes : List ℕ) (at : ℕ) → fields_file_at kind fields bytes ≡ Err at → (read bytes ≡ Err at) × StaysFault Anything read bytes at

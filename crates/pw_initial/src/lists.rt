@@ -5,15 +5,14 @@ ghost use Rattle.pw_checking.specs.Follows.{Follows, Leads};
 ghost use Rattle.pw_checking.specs.StateViews.{view_state};
 ghost use Rattle.pw_checking.specs.Views.{view_node};
 ghost use Rattle.pw_initial.specs.Placing.{comes_whole, reached_rule};
-ghost use Rattle.pw_initial.specs.Views.{view_context, view_filled, view_listed, view_string_form};
+ghost use Rattle.pw_filled.specs.Views.{view_context, view_filled, view_string_form};
+ghost use Rattle.pw_initial.specs.Views.{view_listed};
 ghost use Rattle.pw_places.specs.Views.{view_cursor, view_reached, view_takes, view_target};
 ghost use Rattle.pw_rules.specs.Initialisers as spec;
 ghost use Rattle.pw_tree.specs.Views.{view_expr, view_words};
 
-use crate::filled::{Context, Filled, value_filled};
-use crate::forms::string_form;
-use crate::strings::string_filled;
 use pw_checking::{Phrases, State, typing, whole_rule};
+use pw_filled::{Context, Filled, string_filled, string_form, value_filled};
 use pw_places::{
     Frame, Reached, Takes, Target, behind, meets_characters, next_target, reach, takes_braces,
 };

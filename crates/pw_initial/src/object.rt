@@ -3,18 +3,19 @@
 ghost use Rattle.std.specs.Prelude.{◌≡◌, [], ◌∷◌, IfOk};
 ghost use Rattle.pw_checking.specs.Follows.{Follows, Leads};
 ghost use Rattle.pw_checking.specs.StateViews.{view_state};
-ghost use Rattle.pw_initial.specs.Views.{view_context, view_initialised, view_listed};
+ghost use Rattle.pw_filled.specs.Views.{view_context};
+ghost use Rattle.pw_initial.specs.Views.{view_initialised, view_listed};
 ghost use Rattle.pw_rules.specs.Initialisers as spec;
 ghost use Rattle.pw_tree.specs.Trees as tree;
 ghost use Rattle.pw_tree.specs.Views.{view_expr, view_init, view_inits, view_words};
 ghost use Rattle.pw_types.specs.Views.{view_qtype, view_type};
 
-use crate::filled::{Context, Filled, value_filled};
-use crate::forms::{braced_string, filling_string, string_form};
 use crate::lists::Listed;
 use crate::readings::inits_rule;
-use crate::strings::bytes_filled;
 use pw_checking::{Phrases, State, whole_rule};
+use pw_filled::{
+    Context, Filled, braced_string, bytes_filled, filling_string, string_form, value_filled,
+};
 use pw_kinds::{boxed_copy, copy_qtype, is_scalar};
 use pw_leaves::string_bytes;
 use pw_places::{Target, elements_given, within_braces};

@@ -4,17 +4,16 @@ ghost use Rattle.std.specs.Prelude.{◌≡◌, ◌+◌, ◌<◌, ◌≤◌, fals
 ghost use Rattle.pw_checking.specs.Follows.{Follows, Leads};
 ghost use Rattle.pw_checking.specs.StateViews.{view_state};
 ghost use Rattle.pw_initial.specs.Readings as reading;
-ghost use Rattle.pw_initial.specs.Views.{view_around, view_context, view_filled, view_listed, view_outer, view_reading};
+ghost use Rattle.pw_filled.specs.Views.{view_context, view_filled};
+ghost use Rattle.pw_initial.specs.Views.{view_around, view_listed, view_outer, view_reading};
 ghost use Rattle.pw_places.specs.Views.{view_cursor, view_target};
 ghost use Rattle.pw_rules.specs.Initialisers as spec;
 ghost use Rattle.pw_rules.specs.Leaves.{is_nil};
 ghost use Rattle.pw_tree.specs.Views.{view_expr, view_inits, view_words};
 
-use crate::filled::{Context, Filled};
-use crate::forms::{braced_string, filling_string};
 use crate::lists::{Listed, braced_target, listed_form};
-use crate::strings::string_filled;
 use pw_checking::{Phrases, State};
+use pw_filled::{Context, Filled, braced_string, filling_string, string_filled};
 use pw_places::{Frame, Target, passed, within_braces};
 use pw_tree::{Expr, Init, Word};
 use pw_types::Types;

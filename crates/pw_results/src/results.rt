@@ -11,7 +11,7 @@ ghost use Rattle.pw_typed.specs.Views as typed;
 ghost use Rattle.pw_types.specs.Views.{view_qtype};
 
 use pw_checking::{Entity, HiddenObject, LinkedName, MadeState, State, TypeState};
-use pw_initial::copy_symbol;
+use pw_filled::copy_symbol;
 use pw_kinds::{copy_qtype, is_const_object};
 use pw_linked::symbol_of_linked;
 use pw_rules::Slot;

@@ -8,7 +8,7 @@ use Rattle.pw_machine.specs.Core.{Core}
 use Rattle.pw_machine.specs.Run.{State, Progress, Running, Stopped, run_of}
 use Rattle.pw_answer.specs.Effects.{Effect}
 use Rattle.pw_answer.specs.declared.answer.Answer.{Answer}
-use Rattle.pw_answer.specs.declared.answer.Answer.TheVariants.{Done, Ended, Usage, Refused, LinkRefused, StackStop, Spent, Halted, ReadFault, WriteFault, StoreFault, NoMemory, BadFile}
+use Rattle.pw_answer.specs.declared.answer.Answer.TheVariants.{Done, Ended, Usage, Refused, LinkRefused, StackStop, Spent, Halted, ReadFault, WriteFault, StoreFault, NoMemory, BadFile, BadScript}
 
 -- the state in which a run over an input starts
 abbrev pub started : Core → List ℕ → State
@@ -53,4 +53,5 @@ IsRunAnswer (Refused name refusal) = ⊥
 IsRunAnswer (LinkRefused fault) = ⊥
 IsRunAnswer StoreFault = ⊥
 IsRunAnswer (BadFile name at) = ⊥
+IsRunAnswer (BadScript at) = ⊥
 IsRunAnswer _ = Unit {0}

@@ -4,7 +4,7 @@ use Rattle.std.specs.Prelude.{IfSome}
 use Rattle.pw_io.specs.Files.{Files, Told}
 use Rattle.pw_front.specs.declared.refusal.Refusal.{Refusal}
 use Rattle.pw_answer.specs.declared.answer.Answer.{Answer}
-use Rattle.pw_answer.specs.declared.answer.Answer.TheVariants.{Usage, Refused, LinkRefused, Halted, NoMemory, BadFile}
+use Rattle.pw_answer.specs.declared.answer.Answer.TheVariants.{Usage, Refused, LinkRefused, Halted, NoMemory, BadFile, BadScript}
 use Rattle.pw_answer.specs.Answers.{line_text, NeedsMemory}
 use Rattle.pw_answer.specs.Effects.{Effect, NamedFile, PutsFiles, PutFront}
 use Rattle.pw_answer.specs.Outcomes.{Answers, InputCount, LeavesInput, LeavesStreams, OutputCount, PutsOut, StoreCount, ToldAs, WasReadInPart}
@@ -52,6 +52,7 @@ puts_all (Refused name refusal) files told new n h = record { done = files; more
 puts_all (LinkRefused fault) files told new n h = record { done = files; more = []; split = sym (append-nil files); left = h }
 puts_all (Halted halt at) files told new n h = record { done = files; more = []; split = sym (append-nil files); left = h }
 puts_all (BadFile name at) files told new n h = record { done = files; more = []; split = sym (append-nil files); left = h }
+puts_all (BadScript at) files told new n h = record { done = files; more = []; split = sym (append-nil files); left = h }
 puts_all _ files told new n h = absurd n
 
 part_of_wanted : (input wanted : List ℕ) (new : Option (List ℕ)) → Ends input wanted → new ≡ Some wanted → WasReadInPart wanted input new
@@ -62,6 +63,7 @@ left_part input wanted new (Refused name refusal) e n h = part_of_wanted input w
 left_part input wanted new (LinkRefused fault) e n h = part_of_wanted input wanted new e h
 left_part input wanted new (Halted halt at) e n h = part_of_wanted input wanted new e h
 left_part input wanted new (BadFile name at) e n h = part_of_wanted input wanted new e h
+left_part input wanted new (BadScript at) e n h = part_of_wanted input wanted new e h
 left_part input wanted new _ e n h = absurd n
 
 out_part : (wanted : List ℕ) (answer : Answer) (old new : Option (List ℕ)) → PutsOut wanted answer old new → PutsOut wanted NoMemory old new
@@ -143,6 +145,7 @@ store_told before now answer last t h = told_by (λ a. StoreCount before now a) 
     kept (LinkRefused fault) n h = h
     kept (Halted halt at) n h = h
     kept (BadFile name at) n h = h
+    kept (BadScript at) n h = h
     kept _ n h = absurd n
 
 pub input_told : (before now : ℕ) (answer last : Answer) → ToldAs answer last → InputCount before now answer → InputCount before now last
@@ -153,6 +156,7 @@ input_told before now answer last t h = told_by (λ a. InputCount before now a) 
     kept (LinkRefused fault) n h = h
     kept (Halted halt at) n h = h
     kept (BadFile name at) n h = h
+    kept (BadScript at) n h = h
     kept _ n h = absurd n
 
 pub output_told : (before now : ℕ) (answer last : Answer) → ToldAs answer last → OutputCount before now answer → OutputCount before now last
@@ -163,6 +167,7 @@ output_told before now answer last t h = told_by (λ a. OutputCount before now a
     kept (LinkRefused fault) n h = h
     kept (Halted halt at) n h = h
     kept (BadFile name at) n h = h
+    kept (BadScript at) n h = h
     kept _ n h = absurd n
 
 pub streams_told : (answer last : Answer) (i i' o o' : Option (List ℕ)) → ToldAs answer last → LeavesStreams answer i i' o o' → LeavesStreams last i i' o o'

@@ -18,8 +18,8 @@ use Rattle.pw_rules.specs.declared.names.Tag.TheVariants as G
 use Rattle.pw_rules.specs.declared.names.TagEntry.{TagEntry}
 use Rattle.pw_well_typed.specs.Lawful.{IsLawful, IsObjectLike, HasLawfulMembers, IsLawfulEntity, IsLawfulTag, Extends}
 use Rattle.pw_well_typed.proofs.Walking.{post_bind}
-use Rattle.pw_well_typed.proofs.States.{Grows, Runs}
-use Rattle.pw_well_typed.proofs.Lists.{some_same, never_some, get_append, get_either, get_one, get_within, get_filter, filter_front, length_put, put_same, put_either}
+use Rattle.pw_well_typed.proofs.States.{GrowsBy, Grows, Runs, Widens, Widely}
+use Rattle.pw_well_typed.proofs.Lists.{some_same, never_some, get_append, get_either, get_one, get_last, get_within, get_filter, filter_front, length_put, put_same, put_either}
 use Rattle.pw_well_typed.proofs.Types.{extends_trans, extends_same, lawful_later}
 
 -- ---- what is lawful stays lawful
@@ -97,6 +97,7 @@ record_grows s kind l = record {
   more = [];
   ordinary = sym (append-nil s.scopes.ordinary);
   deep = λ i e h. never_some h;
+  entered = λ i e h. never_some h;
   hidden = λ i x e. e;
   counting = refl;
   body = refl;
@@ -131,8 +132,8 @@ entered s name entity l h = record {
         ap (λ (x : List ℕ × Entry). x.1.depth) (get_one (name, record { place = length s.scopes.entities; depth = s.scopes.depth }) g.0 e g.1) in
         omega (arith, same)
 
-pub entered_grows : (s : State) (name : List ℕ) (entity : Entity) → Grows s (enter name entity s)
-entered_grows s name entity = record {
+pub entered_grows : (P : Entity → Type 0) (s : State) (name : List ℕ) (entity : Entity) → P entity → GrowsBy P s (enter name entity s)
+entered_grows P s name entity good = record {
   extends = extends_same s.types.records;
   begun = λ n e. (e, refl);
   linked = refl;
@@ -141,6 +142,10 @@ entered_grows s name entity = record {
   more = (name, record { place = length s.scopes.entities; depth = s.scopes.depth }) ∷ [];
   ordinary = refl;
   deep = λ i e h. sym (ap (λ (x : List ℕ × Entry). x.1.depth) (get_one (name, record { place = length s.scopes.entities; depth = s.scopes.depth }) i e h));
+  entered = λ i e h.
+      let same : length s.scopes.entities ≡ e.1.place =
+      ap (λ (x : List ℕ × Entry). x.1.place) (get_one (name, record { place = length s.scopes.entities; depth = s.scopes.depth }) i e h) in
+      (entity, subst (λ k. slice_get (s.scopes.entities ++ entity ∷ []) k ≡ Some entity) same (get_last s.scopes.entities entity), good);
   hidden = λ i x e. e;
   counting = refl;
   body = refl;
@@ -178,6 +183,7 @@ tagged_grows s name tag = record {
   more = [];
   ordinary = sym (append-nil s.scopes.ordinary);
   deep = λ i e h. never_some h;
+  entered = λ i e h. never_some h;
   hidden = λ i x e. e;
   counting = refl;
   body = refl;
@@ -199,6 +205,7 @@ hidden_grows s h = record {
   more = [];
   ordinary = sym (append-nil s.scopes.ordinary);
   deep = λ i e h. never_some h;
+  entered = λ i e h. never_some h;
   hidden = λ i x e. get_append s.made.hidden (h ∷ []) i x e;
   counting = refl;
   body = refl;
@@ -253,6 +260,7 @@ opening_grows s kind n l c = record {
   more = [];
   ordinary = sym (append-nil s.scopes.ordinary);
   deep = λ i e h. never_some h;
+  entered = λ i e h. never_some h;
   hidden = λ i x e. e;
   counting = refl;
   body = refl;
@@ -357,6 +365,7 @@ defined_grows s t kind n c g o = record {
   more = g.more;
   ordinary = g.ordinary;
   deep = g.deep;
+  entered = g.entered;
   hidden = g.hidden;
   counting = g.counting;
   body = g.body;
@@ -389,6 +398,7 @@ restored s t l g = (
     more = g.more;
     ordinary = g.ordinary;
     deep = g.deep;
+    entered = g.entered;
     hidden = g.hidden;
     counting = refl;
     body = g.body;
@@ -432,7 +442,7 @@ lt_not a = by (nat_lt a a) refl
     by true e = let h : a < a = ltb-true a a e in grind (arith, h)
     by false e = refl
 
-left_behind : (s t : State) → IsLawful s → Grows (one_deeper s) t → filter (λ e. nat_lt e.1.depth t.scopes.depth) t.scopes.ordinary ≡ s.scopes.ordinary
+left_behind : (s t : State) → IsLawful s → Widens (one_deeper s) t → filter (λ e. nat_lt e.1.depth t.scopes.depth) t.scopes.ordinary ≡ s.scopes.ordinary
 left_behind s t l g =
     ap (λ xs. filter (λ (e : List ℕ × Entry). nat_lt e.1.depth t.scopes.depth) xs) g.ordinary
     ∙ filter_front (λ (e : List ℕ × Entry). nat_lt e.1.depth t.scopes.depth) s.scopes.ordinary g.more
@@ -459,10 +469,10 @@ left_lawful_alone t l = record {
       omega (arith, m);
 }
 
-left_lawful : (s t : State) → IsLawful s → IsLawful t → Grows (one_deeper s) t → IsLawful (leave_scope t)
+left_lawful : (s t : State) → IsLawful s → IsLawful t → Widens (one_deeper s) t → IsLawful (leave_scope t)
 left_lawful s t ls l g = left_lawful_alone t l
 
-left_grows : (s t : State) → IsLawful s → Grows (one_deeper s) t → Grows s (leave_scope t)
+left_grows : (s t : State) → IsLawful s → Widens (one_deeper s) t → Grows s (leave_scope t)
 left_grows s t ls g = record {
   extends = g.extends;
   begun = g.begun;
@@ -472,6 +482,7 @@ left_grows s t ls g = record {
   more = [];
   ordinary = left_behind s t ls g ∙ sym (append-nil s.scopes.ordinary);
   deep = λ i e h. never_some h;
+  entered = λ i e h. never_some h;
   hidden = g.hidden;
   counting = g.counting;
   body = g.body;
@@ -479,8 +490,8 @@ left_grows s t ls g = record {
 }
 
 pub scoped_runs : {A : Type 0} (s : State) (inside : Rule A) (Good : List RecordValue → A → Type 0) → IsLawful s
-    → Runs (one_deeper s) (inside (one_deeper s)) (λ t a. Good t.types.records a) → Runs s (scoped inside s) (λ t a. Good t.types.records a)
+    → Widely (one_deeper s) (inside (one_deeper s)) (λ t a. Good t.types.records a) → Runs s (scoped inside s) (λ t a. Good t.types.records a)
 unfolding scoped bind
 scoped_runs {A} s inside Good l h =
-    post_bind (inside (one_deeper s)) _ (λ r. IsLawful r.1 × Grows (one_deeper s) r.1 × Good r.1.types.records r.0) (λ r. IsLawful r.1 × Grows s r.1 × Good r.1.types.records r.0) h
+    post_bind (inside (one_deeper s)) _ (λ r. IsLawful r.1 × Widens (one_deeper s) r.1 × Good r.1.types.records r.0) (λ r. IsLawful r.1 × Grows s r.1 × Good r.1.types.records r.0) h
     (λ r g. (left_lawful s r.1 l g.0 g.1, left_grows s r.1 l g.1, g.2))

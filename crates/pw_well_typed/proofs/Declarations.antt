@@ -1,5 +1,6 @@
 -- Declarations leave a lawful state.
 use Rattle.std.specs.Prelude.{ℕ, ◌≡◌, Bool, true, false, not, Option, None, Some, is_some, List, [], ◌∷◌, if◌then◌else◌, refl}
+use Rattle.std.specs.Option.{option_map_or}
 use Rattle.pw_tree.specs.Trees.{Word, Decl, InitDeclarator, Initializer, Init, Specifiers, Declarator}
 use Rattle.pw_tree.specs.Trees as S
 use Rattle.pw_types.specs.declared.record.RecordKind.{RecordKind}
@@ -13,18 +14,18 @@ use Rattle.pw_rules.specs.Initialisers.{object_rule, is_by_bytes}
 use Rattle.pw_rules.specs.Kinds.{is_function, is_const_object}
 use Rattle.pw_rules.specs.Leaves.{alone_by, alone_rule, record_kind, first_of_list}
 use Rattle.pw_rules.specs.Limits.{Spot}
-use Rattle.pw_rules.specs.Linkage.{AsBefore, declare_linked, define_tentatively, define_object, initialise_linked, note_here}
+use Rattle.pw_rules.specs.Linkage.{AsBefore, declare_linked, define_tentatively, define_object, initialise_linked, note_here, named_type, type_now}
 use Rattle.pw_rules.specs.SpecifierLists.{Specified, nothing_gathered, is_typedef, is_extern, is_static, is_register}
-use Rattle.pw_rules.specs.States.{State, TypeName, LocalObject, StaticObject, is_file_scope, add_hidden, put_hidden, add_local, HiddenObject, next_hidden, next_local, tag_here}
+use Rattle.pw_rules.specs.States.{State, TypeName, LocalObject, StaticObject, is_file_scope, add_hidden, put_hidden, add_local, HiddenObject, next_hidden, next_local, tag_here, Entity, EnumerationConstant, Linked, entity_here}
 use Rattle.pw_rules.specs.declared.names.Tag.{Tag}
-use Rattle.pw_well_typed.specs.Lawful.{IsLawful, IsLawfulType, IsObjectLike, IsLawfulTag}
+use Rattle.pw_well_typed.specs.Lawful.{IsLawful, IsLawfulType, IsObjectLike, IsLawfulTag, IsLawfulEntity}
 use Rattle.pw_well_typed.proofs.Types.{lawful_later}
 use Rattle.pw_well_typed.proofs.Conversions.{no_function}
 use Rattle.pw_well_typed.proofs.Changes.{like_later}
 use Rattle.pw_well_typed.proofs.Leaves.{GoodType, GoodGathered, GoodSpecified, GoodDeclared, GoodReference, Fresh, specified_runs, built_runs, reference_by_runs, new_tag_runs, tag_here_lawful}
 use Rattle.pw_well_typed.proofs.Phrases.{specifiers_post, declarator_post}
-use Rattle.pw_well_typed.proofs.Initialisers.{GoodObject, object_goes}
-use Rattle.pw_well_typed.proofs.Keeping.{after_same, after_trans, Kept, Goes, goes_by, of_runs, changed, asked, Anything, around, entity_put, entered_kept, noted_here, declared_goes, tentative_kept, defined_kept, initialised_kept}
+use Rattle.pw_well_typed.proofs.Initialisers.{GoodObject, object_goes, Keeps, IsLawfully, lawful_stays, object_keeps}
+use Rattle.pw_well_typed.proofs.Keeping.{after_same, after_trans, Kept, Goes, goes_by, of_runs, changed, asked, Anything, around, entity_put, entered_kept, noted_here, declared_goes, tentative_kept, defined_kept, initialised_kept, here_is}
 
 completed_goes : (s : State) (w : Word) (q : QType) → IsLawful s → Goes s (completed_rule w q s) Anything
 unfolding completed_rule bind
@@ -44,21 +45,39 @@ tentative_or_not : (s : State) (b : Bool) (place : ℕ) → IsLawful s → Kept 
 tentative_or_not s true place l = tentative_kept s place l
 tentative_or_not s false place l = (l, after_same s)
 
+-- by its declarations in the scope a name has a lawful type
+named_lawful : (s : State) (name : List ℕ) (q : QType) → IsLawful s → IsLawfully s.types.records q → IsLawfully s.types.records (named_type s name q)
+named_lawful s name q l h = by (entity_here s name) refl
+  where
+    by_entity : (x : Entity) → IsLawfulEntity s.types.records x → IsLawfully s.types.records (type_now q x)
+    by_entity (Linked n ty) k = k
+    by_entity (TypeName ty) k = h
+    by_entity (EnumerationConstant n) k = h
+    by_entity (LocalObject n ty register) k = h
+    by_entity (StaticObject n ty) k = h
+
+    by : (o : Option Entity) → entity_here s name ≡ o → IsLawfully s.types.records (option_map_or (type_now q) o q)
+    by None e = h
+    by (Some x) e = by_entity x (here_is s name x l e)
+
 -- with an initialiser
-defined_goes : (s : State) (w : Word) (b : Specified) (spot : Spot) (q : QType) (i : Initializer) → IsLawful s → IsObjectLike s.types.records q
+defined_goes : (s : State) (w : Word) (b : Specified) (spot : Spot) (q : QType) (i : Initializer) → IsLawful s → IsLawfully s.types.records q
     → Goes s (global_rule w b spot q (Some i) s) Anything
 unfolding global_rule
 defined_goes s w b spot q i l h =
-    goes_by _ _ Anything Anything (declared_goes s w.text w.token b.tag (asking_of AGlobal b) q l h.lawful) (λ r m x f.
+    goes_by _ _ Anything Anything (declared_goes s w.text w.token b.tag (asking_of AGlobal b) q l h) (λ r m x f.
     let k : Kept r.1 (define_object r.0 r.1) = defined_kept r.1 r.0 m in
-    goes_by _ _ GoodObject Anything
-    (changed tt _ GoodObject k (object_goes (define_object r.0 r.1) (context_of w true 0) q i.init k.0 (like_later (after_trans x k.1).extends h))) (λ u n y o.
+    goes_by _ _ (λ t ty. IsLawfully t.types.records ty) Anything
+    (changed tt _ (λ t ty. IsLawfully t.types.records ty) k
+    (k.0, after_same (define_object r.0 r.1), named_lawful (define_object r.0 r.1) w.text q k.0 (lawful_later s.types.records (define_object r.0 r.1).types.records (after_trans x k.1).extends (type_of q) h)))
+    (λ e d c a.
+    goes_by _ _ (Keeps IsLawfully) Anything (object_keeps IsLawfully lawful_stays e.1 (context_of w true 0) e.0 i.init d a) (λ u n y o.
     goes_by _ _ Anything Anything
     (goes_by _ _ Anything Anything
     (goes_by _ _ Anything Anything (fitting_goes u.1 w r.0 u.0.ty n) (λ v j z g.
-    let a : Kept v.1 (initialise_linked r.0 u.0.ty u.0.filled.items v.1) = initialised_kept v.1 r.0 u.0.ty u.0.filled.items j (like_later z.extends o).lawful in (a.0, a.1, tt)))
-    (λ v j z g. let c : Kept v.1 (note_here w.text r.0 u.0.ty v.1) = noted_here v.1 w.text r.0 u.0.ty j (like_later z.extends o).lawful in (c.0, c.1, tt)))
-    (λ v j z g. (j, after_same v.1, tt))))
+    let a : Kept v.1 (initialise_linked r.0 u.0.ty u.0.filled.items v.1) = initialised_kept v.1 r.0 u.0.ty u.0.filled.items j (lawful_later u.1.types.records v.1.types.records z.extends (type_of u.0.ty) o) in (a.0, a.1, tt)))
+    (λ v j z g. let c : Kept v.1 (note_here w.text r.0 u.0.ty v.1) = noted_here v.1 w.text r.0 u.0.ty j (lawful_later u.1.types.records v.1.types.records z.extends (type_of u.0.ty) o) in (c.0, c.1, tt)))
+    (λ v j z g. (j, after_same v.1, tt)))))
 
 global_goes : (s : State) (w : Word) (b : Specified) (spot : Spot) (q : QType) (i : Option Initializer) → IsLawful s → IsObjectLike s.types.records q
     → Goes s (global_rule w b spot q i s) Anything
@@ -66,7 +85,7 @@ unfolding global_rule bind
 global_goes s w b spot q None l h =
     goes_by (declare_linked w.text w.token b.tag (asking_of AGlobal b) q s) _ Anything Anything (declared_goes s w.text w.token b.tag (asking_of AGlobal b) q l h.lawful) (λ r m x f.
     let k : Kept r.1 (if is_tentative b then define_tentatively r.0 r.1 else r.1) = tentative_or_not r.1 (is_tentative b) r.0 m in (k.0, k.1, tt))
-global_goes s w b spot q (Some i) l h = defined_goes s w b spot q i l h
+global_goes s w b spot q (Some i) l h = defined_goes s w b spot q i l h.lawful
 
 -- ---- static locals
 
@@ -164,12 +183,12 @@ local_goes s w b q (Some i) l h =
 -- ---- what is declared
 
 -- an object is no function
-abbrev Fits : Sort → QType → Type 0
+abbrev pub Fits : Sort → QType → Type 0
 Fits ATypedef q = Unit {0}
 Fits AFunction q = Unit {0}
 Fits _ q = IsFunctionType (type_of q) → ⊥
 
-sort_fits : (outside : Bool) (b : Specified) (q : QType) → Fits (sort_of outside b q) q
+pub sort_fits : (outside : Bool) (b : Specified) (q : QType) → Fits (sort_of outside b q) q
 sort_fits outside b q = by (is_typedef b.storage) (is_function (type_of q)) refl outside (is_extern b.storage) (is_static b.storage)
   where
     by : (x y : Bool) → is_function (type_of q) ≡ y → (z e t : Bool)
@@ -195,7 +214,7 @@ declare_goes s ALocal w b spot q i l h f = local_goes s w b q i l (record { lawf
 
 -- ---- declarations
 
-init_declarator_goes : (s : State) (b : Specified) (d : InitDeclarator) → IsLawful s → GoodSpecified s b → Goes s (init_declarator_rule b d s) Anything
+pub init_declarator_goes : (s : State) (b : Specified) (d : InitDeclarator) → IsLawful s → GoodSpecified s b → Goes s (init_declarator_rule b d s) Anything
 unfolding init_declarator_rule
 init_declarator_goes s b d l h =
     goes_by _ _ GoodDeclared Anything (of_runs _ _ GoodDeclared (declarator_post d.declarator s l)) (λ r m x k.
@@ -207,7 +226,7 @@ init_declarator_goes s b d l h =
     declare_goes v.1 (sort_of (is_file_scope u.1) b u.0) (name_of r.0) b (spot_of r.0.name b.first b.tag) u.0 d.initializer i
     (lawful_later u.1.types.records v.1.types.records z.extends (type_of u.0) j) (sort_fits (is_file_scope u.1) b u.0)))))
 
-init_declarators_goes : (ds : List InitDeclarator) (s : State) (b : Specified) → IsLawful s → GoodSpecified s b → Goes s (init_declarators_rule b ds s) Anything
+pub init_declarators_goes : (ds : List InitDeclarator) (s : State) (b : Specified) → IsLawful s → GoodSpecified s b → Goes s (init_declarators_rule b ds s) Anything
 unfolding init_declarators_rule
 init_declarators_goes [] s b l h = (l, after_same s, tt)
 init_declarators_goes (d ∷ rest) s b l h =

@@ -14,7 +14,8 @@ use Rattle.pw_rules.specs.Leaves.{string_point, texts_of}
 use Rattle.pw_rules.specs.Operators.{value_rule}
 use Rattle.pw_rules.specs.Phrases.{expr_rule}
 use Rattle.pw_rules.specs.States.{State, Rule, records_in}
-use Rattle.pw_well_typed.specs.Lawful.{IsLawful, IsObjectLike}
+use Rattle.pw_well_typed.specs.Lawful.{IsLawful, IsLawfulType, IsObjectLike, Extends}
+use Rattle.pw_well_typed.proofs.Types.{lawful_later}
 use Rattle.pw_well_typed.proofs.States.{Fine, FineValue}
 use Rattle.pw_well_typed.proofs.Conversions.{no_function}
 use Rattle.pw_well_typed.proofs.Changes.{like_later}
@@ -100,6 +101,11 @@ mutual
 
 -- ---- the initialiser of an object
 
+-- what holds of a type when more is known of records, and when it gets its length
+pub record Stays (P : List RecordValue → QType → Type 0) : Type 0 where
+  pub later : (a b : List RecordValue) (q : QType) → Extends a b → P a q → P b q
+  pub lengthened : (r : List RecordValue) (n : ℕ) (q : QType) → P r q → P r (with_length n q)
+
 with_length_like : (r : List RecordValue) (n : ℕ) (q : QType) → IsObjectLike r q → IsObjectLike r (with_length n q)
 with_length_like r n (Qualified (Array (Qualified ty d w) None) c v) h = record { lawful = h.lawful; object = no_function (Array (Qualified ty d w) (Some n)) refl }
 with_length_like r n (Qualified (Array q (Some k)) c v) h = h
@@ -109,37 +115,62 @@ with_length_like r n (Qualified (Pointer q) c v) h = h
 with_length_like r n (Qualified (Function q ps) c v) h = h
 with_length_like r n (Qualified (Record k) c v) h = h
 
+pub object_stays : Stays IsObjectLike
+object_stays = record { later = λ a b q x h. like_later x h; lengthened = with_length_like }
+
+abbrev pub IsLawfully : List RecordValue → QType → Type 0
+IsLawfully r q = IsLawfulType r (type_of q)
+
+with_length_lawful : (r : List RecordValue) (n : ℕ) (q : QType) → IsLawfully r q → IsLawfully r (with_length n q)
+with_length_lawful r n (Qualified (Array (Qualified ty d w) None) c v) h = h
+with_length_lawful r n (Qualified (Array q (Some k)) c v) h = h
+with_length_lawful r n (Qualified Void c v) h = h
+with_length_lawful r n (Qualified (Int k) c v) h = h
+with_length_lawful r n (Qualified (Pointer q) c v) h = h
+with_length_lawful r n (Qualified (Function q ps) c v) h = h
+with_length_lawful r n (Qualified (Record k) c v) h = h
+
+pub lawful_stays : Stays IsLawfully
+lawful_stays = record { later = λ a b q x h. lawful_later a b x (type_of q) h; lengthened = with_length_lawful }
+
+abbrev pub Keeps : (List RecordValue → QType → Type 0) → State → Initialised → Type 0
+Keeps P s o = P s.types.records o.ty
+
+object_string_goes : (P : List RecordValue → QType → Type 0) → Stays P → (s : State) (cx : Context) (q : QType) (ws : List Word) → IsLawful s → P s.types.records q → Goes s (object_string cx q ws s) (Keeps P)
+unfolding object_string
+object_string_goes P keep s cx q ws l h =
+    goes_by _ _ Anything (Keeps P) (string_goes s cx ws (target_at q 0) nothing_filled l) (λ r m x k.
+    (m, after_same r.1, keep.lengthened r.1.types.records (length (string_bytes_of (texts_of ws))) q (keep.later s.types.records r.1.types.records q x.extends h)))
+
+object_value_goes : (P : List RecordValue → QType → Type 0) → Stays P → (s : State) (cx : Context) (q : QType) (e : Expr) → IsLawful s → P s.types.records q → Goes s (object_value cx q e s) (Keeps P)
+unfolding object_value
+object_value_goes P keep s cx q e l h =
+    value_goes s e _ (Keeps P) l (λ r m x f.
+    goes_by _ _ Anything (Keeps P) (filled_goes r.1 cx (first_of_expr e) (target_at q 0) r.0 nothing_filled m) (λ u n y k.
+    (n, after_same u.1, keep.later s.types.records u.1.types.records q (after_trans x y).extends h)))
+
+object_list_goes : (P : List RecordValue → QType → Type 0) → Stays P → (s : State) (cx : Context) (q : QType) (is : Inits) → IsLawful s → P s.types.records q → Goes s (object_list cx q is s) (Keeps P)
+unfolding object_list
+object_list_goes P keep s cx q is l h =
+    goes_by _ _ Anything (Keeps P) (inits_goes is s cx (frame_of (target_at q 0) ∷ []) nothing_filled l) (λ r m x k.
+    (m, after_same r.1, keep.lengthened r.1.types.records (elements_given r.0.0) q (keep.later s.types.records r.1.types.records q x.extends h)))
+
+object_by_goes : (P : List RecordValue → QType → Type 0) → Stays P → (s : State) (b : Bool) (cx : Context) (q : QType) (ws : List Word) (otherwise : Rule Initialised) → IsLawful s → P s.types.records q
+    → Goes s (otherwise s) (Keeps P) → Goes s (object_by b cx q ws otherwise s) (Keeps P)
+unfolding object_by
+object_by_goes P keep s true cx q ws otherwise l h k = object_string_goes P keep s cx q ws l h
+object_by_goes P keep s false cx q ws otherwise l h k = k
+
+-- what is known of the object's type is known of the one that it gets
+pub object_keeps : (P : List RecordValue → QType → Type 0) → Stays P → (s : State) (cx : Context) (q : QType) (i : Init) → IsLawful s → P s.types.records q → Goes s (object_rule cx q i s) (Keeps P)
+unfolding object_rule
+object_keeps P keep s cx q (S.Value e) l h =
+    object_by_goes P keep s (fills_characters (type_of q) (string_form e)) cx q (words_in (string_form e)) (object_value cx q e) l h (object_value_goes P keep s cx q e l h)
+object_keeps P keep s cx q (S.Braces token is trailing) l h =
+    object_by_goes P keep s (fills_characters (type_of q) (braced_string is)) cx q (words_in (braced_string is)) (object_list cx q is) l h (object_list_goes P keep s cx q is l h)
+
 abbrev pub GoodObject : State → Initialised → Type 0
 GoodObject s o = IsObjectLike s.types.records o.ty
 
-object_string_goes : (s : State) (cx : Context) (q : QType) (ws : List Word) → IsLawful s → IsObjectLike s.types.records q → Goes s (object_string cx q ws s) GoodObject
-unfolding object_string
-object_string_goes s cx q ws l h =
-    goes_by _ _ Anything GoodObject (string_goes s cx ws (target_at q 0) nothing_filled l) (λ r m x k.
-    (m, after_same r.1, with_length_like r.1.types.records (length (string_bytes_of (texts_of ws))) q (like_later x.extends h)))
-
-object_value_goes : (s : State) (cx : Context) (q : QType) (e : Expr) → IsLawful s → IsObjectLike s.types.records q → Goes s (object_value cx q e s) GoodObject
-unfolding object_value
-object_value_goes s cx q e l h =
-    value_goes s e _ GoodObject l (λ r m x f.
-    goes_by _ _ Anything GoodObject (filled_goes r.1 cx (first_of_expr e) (target_at q 0) r.0 nothing_filled m) (λ u n y k.
-    (n, after_same u.1, like_later (after_trans x y).extends h)))
-
-object_list_goes : (s : State) (cx : Context) (q : QType) (is : Inits) → IsLawful s → IsObjectLike s.types.records q → Goes s (object_list cx q is s) GoodObject
-unfolding object_list
-object_list_goes s cx q is l h =
-    goes_by _ _ Anything GoodObject (inits_goes is s cx (frame_of (target_at q 0) ∷ []) nothing_filled l) (λ r m x k.
-    (m, after_same r.1, with_length_like r.1.types.records (elements_given r.0.0) q (like_later x.extends h)))
-
-object_by_goes : (s : State) (b : Bool) (cx : Context) (q : QType) (ws : List Word) (otherwise : Rule Initialised) → IsLawful s → IsObjectLike s.types.records q
-    → Goes s (otherwise s) GoodObject → Goes s (object_by b cx q ws otherwise s) GoodObject
-unfolding object_by
-object_by_goes s true cx q ws otherwise l h k = object_string_goes s cx q ws l h
-object_by_goes s false cx q ws otherwise l h k = k
-
 pub object_goes : (s : State) (cx : Context) (q : QType) (i : Init) → IsLawful s → IsObjectLike s.types.records q → Goes s (object_rule cx q i s) GoodObject
-unfolding object_rule
-object_goes s cx q (S.Value e) l h =
-    object_by_goes s (fills_characters (type_of q) (string_form e)) cx q (words_in (string_form e)) (object_value cx q e) l h (object_value_goes s cx q e l h)
-object_goes s cx q (S.Braces token is trailing) l h =
-    object_by_goes s (fills_characters (type_of q) (braced_string is)) cx q (words_in (braced_string is)) (object_list cx q is) l h (object_list_goes s cx q is l h)
+object_goes s cx q i l h = object_keeps IsObjectLike object_stays s cx q i l h

@@ -249,7 +249,7 @@ noted s name internal ty token tag l h = by (linked_before s name) refl
         linked_put s (place_for s name) (linked_again ty x) l (composite_lawful s.types.records x.ty ty (linked_is s name x l e) h)
         (λ y f. subst (λ (z : LinkedName). Continues z (linked_again ty x)) (some_same (sym (place_is s name x e) ∙ f)) (record { name = refl; internal = refl; tentative = λ q. q; defined = λ q. q }))
 
-here_is : (s : State) (name : List ℕ) (x : Entity) → IsLawful s → entity_here s name ≡ Some x → IsLawfulEntity s.types.records x
+pub here_is : (s : State) (name : List ℕ) (x : Entity) → IsLawful s → entity_here s name ≡ Some x → IsLawfulEntity s.types.records x
 here_is s name x l e = let p = and_then_is (entity_at s) (entry_here s name) x e in l.entities p.0.place x p.1
 
 type_here_lawful : (r : List RecordValue) (ty : QType) (x : Entity) → IsLawfulType r (type_of ty) → IsLawfulEntity r x → IsLawfulType r (type_of (type_here ty x))

@@ -14,7 +14,7 @@ use Rattle.pw_types.specs.TypeTrees.{CType, Void, Int, Pointer, Array, Function,
 use Rattle.pw_types.specs.TypedTrees.{Symbol, Expression, Node, Hidden, LocalValue, ModuleValue, type_at}
 use Rattle.pw_types.specs.TypedTrees as T
 use Rattle.pw_types.specs.WellTyped.{IsTyped, IsScalar, IsResult, IsFunctionType, IsFunctionOf, IsObject}
-use Rattle.pw_walk.specs.Causes.{DeclaredIdentifier, CompleteMember}
+use Rattle.pw_walk.specs.Causes.{DeclaredIdentifier, CompleteMember, ElementType}
 use Rattle.pw_walk.specs.Walks.{Walk, Done, bind}
 use Rattle.pw_rules.specs.Kinds.{plain, int_type, is_function, is_array, is_record, is_void}
 use Rattle.pw_rules.specs.Operands.{Operand}
@@ -31,9 +31,9 @@ use Rattle.pw_rules.specs.Phrases.{typedef_type, typedef_rule}
 use Rattle.pw_rules.specs.Leaves.{entity_operand, linked_operand, lvalue_operand, identifier_rule, number_rule, character_rule, string_rule, string_point, note_string, string_type, bytes_at_start, texts_of, length_rule, new_record, new_tag, reference_by, reference_rule, opening_by, opening_rule, open_record, is_opened, same_record_kind, member_rule, content_by, closing_rule, enumeration_by, enumeration_rule, enumerating_rule, enumerator_value, enumerator_rule, named_type, is_last, is_nil, adjusted, parameter_storage, parameter_rule, enter_parameter, without_void, parameter_types, bindings_rule, says_none, name_text}
 use Rattle.pw_well_typed.specs.Lawful.{IsLawful, IsLawfulType, AreLawfulTypes, IsObjectLike, IsLawfulEntity, IsLawfulTag, Extends, HasLocal, IsNamed}
 use Rattle.pw_well_typed.proofs.Walking.{Post, truth, met_right, post_bind, post_granted}
-use Rattle.pw_well_typed.proofs.States.{GoodOperand, Fine, Runs, Grows, grows_same, grows_trans}
+use Rattle.pw_well_typed.proofs.States.{GoodOperand, Fine, Runs, IsConstant, IsAny, Grows, Widens, Widely, grows_same, grows_trans, widens_so}
 use Rattle.pw_well_typed.proofs.Lists.{get_map, some_same, never_some, get_append, get_either, get_one, get_last, get_filter, visible_at}
-use Rattle.pw_well_typed.proofs.Types.{no, left, not_true, lawful_known, lawful_later, all_lawful_later, lawful_qualify, lawful_pointer}
+use Rattle.pw_well_typed.proofs.Types.{no, left, not_true, is_complete_so, lawful_known, lawful_later, all_lawful_later, lawful_qualify, lawful_pointer}
 use Rattle.pw_well_typed.proofs.Conversions.{no_function}
 use Rattle.pw_well_typed.proofs.Places.{number_good, constant_wide}
 use Rattle.pw_well_typed.proofs.Objects.{object_later, completed_so, within_so, object_type, follows_so}
@@ -153,7 +153,7 @@ string_good : (m : ModuleValue) (locals : List LocalValue) (t k : ℕ) (bytes : 
 unfolding IsTyped
 string_good m locals t k bytes h = record {
   typed = (tt, (h, (false, false, length bytes, refl)));
-  lawful = tt;
+  lawful = (tt, refl);
   lvalue = λ e. tt;
   designates = λ f. absurd (no_function (Array (plain (Int K.Char)) (Some (length bytes))) refl f);
 }
@@ -194,7 +194,7 @@ enumerator_value_runs s first e l = λ met. (l, grows_same s, tt)
 pub enumerator_runs : (s : State) (w : Word) (value : Option ℕ) → IsLawful s → Runs s (enumerator_rule w value s) Nothing
 unfolding enumerator_rule bind
 enumerator_runs s w value l = λ met.
-    (entered s w.text (EnumerationConstant (unwrap_or value 0)) l tt, entered_grows s w.text (EnumerationConstant (unwrap_or value 0)), tt)
+    (entered s w.text (EnumerationConstant (unwrap_or value 0)) l tt, entered_grows IsConstant s w.text (EnumerationConstant (unwrap_or value 0)) tt, tt)
 
 pub enumerating_runs : (s : State) (w : Option Word) → IsLawful s → Runs s (enumerating_rule w s) Nothing
 unfolding enumerating_rule bind
@@ -455,7 +455,8 @@ pub built_runs : (s : State) (spot : Spot) (steps : List Derivation) (q : QType)
 unfolding built bind
 built_runs s spot [] q l h k = (l, grows_same s, k)
 built_runs s spot (ToPointer t qs ∷ rest) q l h k = λ met. built_runs s spot rest (step_type (ToPointer t qs) q) l h.1 (lawful_pointer s.types.records q k)
-built_runs s spot (ToArray n ∷ rest) (Qualified ty c v) l h k = λ met. built_runs s spot rest (step_type (ToArray n) (Qualified ty c v)) l h.1 k
+built_runs s spot (ToArray n ∷ rest) (Qualified ty c v) l h k = λ met.
+    built_runs s spot rest (step_type (ToArray n) (Qualified ty c v)) l h.1 (k, is_complete_so s.types.records ty (completed_so s.types.records spot ElementType ty met.1.0))
 built_runs s spot (ToFunction ps ∷ rest) (Qualified ty c v) l h k = λ met.
     built_runs s spot rest (step_type (ToFunction ps) (Qualified ty c v)) l h.1 (k, result_by ty (truth _ met.0) (truth _ met.1.0), h.0)
 
@@ -539,7 +540,7 @@ scalars_more r [] p h k i = (k, i, tt)
 scalars_more r (x ∷ ps) p h k i = (h.0, h.1, scalars_more r ps p h.2 k i)
 
 adjusted_lawful : (r : List RecordValue) (q : QType) → IsLawfulType r (type_of q) → IsLawfulType r (type_of (adjusted q))
-adjusted_lawful r (Qualified (Array (Qualified ty c v) n) d w) h = h
+adjusted_lawful r (Qualified (Array (Qualified ty c v) n) d w) h = h.0
 adjusted_lawful r (Qualified (Function q ps) c v) h = h
 adjusted_lawful r (Qualified Void c v) h = h
 adjusted_lawful r (Qualified (Int k) c v) h = h
@@ -567,9 +568,9 @@ parameter_entered : (s : State) (name : Option Word) (entity : Entity) → IsLaw
 parameter_entered s None entity l h = l
 parameter_entered s (Some w) entity l h = entered s w.text entity l h
 
-parameter_grows : (s : State) (name : Option Word) (entity : Entity) → Grows s (enter_parameter name entity s)
-parameter_grows s None entity = grows_same s
-parameter_grows s (Some w) entity = entered_grows s w.text entity
+parameter_grows : (s : State) (name : Option Word) (entity : Entity) → Widens s (enter_parameter name entity s)
+parameter_grows s None entity = widens_so (grows_same s)
+parameter_grows s (Some w) entity = entered_grows IsAny s w.text entity tt
 
 same_records : (s : State) (name : Option Word) (entity : Entity) → (enter_parameter name entity s).types.records ≡ s.types.records
 same_records s None entity = refl
@@ -584,18 +585,18 @@ alone_after [] p ended e h = (h, e)
 alone_after (x ∷ ps) p ended e h = no e
 
 pub parameter_runs : (s : State) (ended : Bool) (b : Specified) (d : Declared) (ps : List ParameterValue) → IsLawful s → GoodSpecified s b → GoodDeclared s d → AreScalars s.types.records ps
-    → Runs s (parameter_rule (is_nil ps && ended) b d ps s) (λ t x. GoodParameters t.types.records ended x)
+    → Widely s (parameter_rule (is_nil ps && ended) b d ps s) (λ t x. GoodParameters t.types.records ended x)
 unfolding parameter_rule bind
 parameter_runs s ended b d ps l h k scalars =
     post_bind (built (spot_of d.name b.first b.tag) d.derivations b.ty s) _ (λ r. IsLawful r.1 × Grows s r.1 × GoodType r.1 r.0)
-    (λ r. IsLawful r.1 × Grows s r.1 × GoodParameters r.1.types.records ended r.0)
+    (λ r. IsLawful r.1 × Widens s r.1 × GoodParameters r.1.types.records ended r.0)
     (built_runs s (spot_of d.name b.first b.tag) d.derivations b.ty l k.0 h)
     (λ r g met.
     let entity : Entity = LocalObject (length ps) (adjusted r.0) (Rattle.pw_rules.specs.SpecifierLists.is_register b.storage) in
     let like : IsObjectLike r.1.types.records (adjusted r.0) = record { lawful = adjusted_lawful r.1.types.records r.0 g.2; object = adjusted_object r.0 } in
     let own = met_right (Rattle.pw_rules.specs.Leaves.named_point r.1 d.name) _ met in (
       parameter_entered r.1 d.name entity g.0 like,
-      grows_trans g.1 (parameter_grows r.1 d.name entity),
+      grows_trans (widens_so g.1) (parameter_grows r.1 d.name entity),
       subst (λ x. GoodParameters x ended (ps ++ record { name = d.name; ty = adjusted r.0 } ∷ [])) (sym (same_records r.1 d.name entity))
           (by r.1.types.records r.0 g.2 (scalars_later s.types.records r.1.types.records g.1.extends ps scalars) (truth _ own.0) (adjusted_is r.0 (truth _ own.1.0))),
     ))

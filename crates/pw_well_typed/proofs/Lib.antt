@@ -1,6 +1,7 @@
 pub mod Walking
 pub mod Lists
 pub mod Types
+pub mod Composite
 pub mod States
 pub mod Conversions
 pub mod Nodes
@@ -11,9 +12,17 @@ pub mod Changes
 pub mod Objects
 pub mod Leaves
 pub mod Phrases
+pub mod Counting
+pub mod Locals
+pub mod Filling
 pub mod Keeping
 pub mod Initialisers
 pub mod Declarations
+pub mod Adding
+pub mod LabelLaws
+pub mod FunctionTypes
+pub mod StatementTypes
+pub mod FunctionLaws
 pub mod Statements
 pub mod Modules
 pub mod Laws

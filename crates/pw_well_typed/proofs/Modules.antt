@@ -35,11 +35,11 @@ use Rattle.pw_well_typed.proofs.Keeping.{After, after_linked, after_same, after_
 
 -- ---- functions
 
-good_bindings : (s : State) (o : Option Bindings) → GoodIfAny s.types.records o → GoodBindings s.types.records (unwrap_or o no_bindings)
+pub good_bindings : (s : State) (o : Option Bindings) → GoodIfAny s.types.records o → GoodBindings s.types.records (unwrap_or o no_bindings)
 good_bindings s None h = record { scalars = tt; tags = λ i t e. (grind arith) }
 good_bindings s (Some b) h = h
 
-body_entered : (s : State) (q : QType) (b : Bindings) (names : List (List ℕ)) → IsLawful s → GoodBindings s.types.records b → Kept s (enter_body q b names s)
+pub body_entered : (s : State) (q : QType) (b : Bindings) (names : List (List ℕ)) → IsLawful s → GoodBindings s.types.records b → Kept s (enter_body q b names s)
 body_entered s q b names l h = (
   record {
     contents = l.contents;

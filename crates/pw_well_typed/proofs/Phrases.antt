@@ -27,7 +27,7 @@ use Rattle.pw_rules.specs.Phrases.{expr_rule, postfixes_rule, arguments_rule, op
 use Rattle.pw_well_typed.specs.Lawful.{IsLawful, IsLawfulType}
 use Rattle.pw_well_typed.proofs.Walking.{post_bind, post_weaken}
 use Rattle.pw_well_typed.proofs.Lists.{never_some}
-use Rattle.pw_well_typed.proofs.States.{Fine, FineValue, fine_later, value_later, Runs, goes_on, Grows, grows_same, grows_trans}
+use Rattle.pw_well_typed.proofs.States.{Fine, FineValue, fine_later, value_later, Runs, goes_on, Widely, widely, goes_widely, then_widely, Grows, grows_same, grows_trans, widens_so}
 use Rattle.pw_well_typed.proofs.Types.{no, lawful_later}
 use Rattle.pw_well_typed.proofs.Operations.{value_runs, plus_runs, minus_runs, complement_runs, not_runs, deref_runs, address_runs, step_runs, Whole, size_runs, type_size_runs, cast_runs, operation_runs, conditional_runs, assignment_runs, index_runs, AreFine, call_runs, dot_runs, arrow_runs}
 use Rattle.pw_well_typed.proofs.Changes.{in_sizeof, sizeof_lawful, uncounted_runs, deeper_lawful, scoped_runs, Opened, opened_later}
@@ -260,8 +260,9 @@ mutual
   suffixes_post (S.Prototype t parameters rest) s l =
       goes_on _ _ (λ u b. GoodBindings u.types.records b) GoodSuffixed
       (scoped_runs s _ GoodBindings l
-      (goes_on _ _ (λ u ps. GoodParameters u.types.records true ps) (λ u b. GoodBindings u.types.records b)
-      (parameters_post parameters [] (one_deeper s) (deeper_lawful s l) (inl tt)) (λ r m g f. bindings_runs r.1 true r.0 m f))) (λ r1 m1 g1 f1.
+      (goes_widely _ _ (λ u ps. GoodParameters u.types.records true ps) (λ u b. GoodBindings u.types.records b)
+      (parameters_post parameters [] (one_deeper s) (deeper_lawful s l) (inl tt))
+      (λ r m g f. widely _ _ (λ u b. GoodBindings u.types.records b) (bindings_runs r.1 true r.0 m f)))) (λ r1 m1 g1 f1.
       goes_on _ _ GoodSuffixed GoodSuffixed (suffixes_post rest r1.1 m1) (λ r2 m2 g2 f2. (
         m2,
         grows_same r2.1,
@@ -275,16 +276,16 @@ mutual
   suffixes_post (S.Identifiers t ws rest) s l = tt
 
   parameters_post : (rest : Parameters) (ps : List ParameterValue) (s : State) → IsLawful s → GoodParameters s.types.records (is_last rest) ps
-      → Runs s (parameters_rule rest ps s) (λ u x. GoodParameters u.types.records true x)
-  parameters_post S.NoParameter ps s l h = (l, grows_same s, h)
+      → Widely s (parameters_rule rest ps s) (λ u x. GoodParameters u.types.records true x)
+  parameters_post S.NoParameter ps s l h = (l, widens_so (grows_same s), h)
   parameters_post (S.Parameter specifiers d rest) ps s l h =
-      goes_on _ _ GoodGathered (λ u x. GoodParameters u.types.records true x)
+      then_widely _ _ GoodGathered (λ u x. GoodParameters u.types.records true x)
       (specifiers_post specifiers (first_of_declaration specifiers d) nothing_gathered s l tt) (λ r1 m1 g1 f1.
-      goes_on _ _ GoodSpecified (λ u x. GoodParameters u.types.records true x)
+      then_widely _ _ GoodSpecified (λ u x. GoodParameters u.types.records true x)
       (specified_runs r1.1 (first_of_declaration specifiers d) r1.0 m1 f1) (λ r2 m2 g2 f2.
-      goes_on _ _ GoodDeclared (λ u x. GoodParameters u.types.records true x)
+      then_widely _ _ GoodDeclared (λ u x. GoodParameters u.types.records true x)
       (goes_on _ _ Nothing GoodDeclared (parameter_storage_runs r2.1 r2.0 m2) (λ r m g f. declarator_post d r.1 m)) (λ r3 m3 g3 f3.
-      goes_on _ _ (λ u x. GoodParameters u.types.records (is_last rest) x) (λ u x. GoodParameters u.types.records true x)
+      goes_widely _ _ (λ u x. GoodParameters u.types.records (is_last rest) x) (λ u x. GoodParameters u.types.records true x)
       (parameter_runs r3.1 (is_last rest) r2.0 r3.0 ps m3 (later_type r2.0.ty g3 f2) f3
       (scalars_later s.types.records r3.1.types.records (grows_trans g1 (grows_trans g2 g3)).extends ps (scalars_only s.types.records ps h))) (λ r4 m4 g4 f4.
       parameters_post rest r4.0 r4.1 m4 f4))))

@@ -16,7 +16,17 @@ use Rattle.pw_well_typed.proofs.Walking.{Post, post_bind, post_weaken}
 use Rattle.pw_well_typed.proofs.Lists.{Longer, get_append, get_either}
 use Rattle.pw_well_typed.proofs.Types.{extends_trans, extends_same}
 
-pub record Grows (s t : State) : Type 0 where
+-- what an enumeration enters
+abbrev pub IsConstant : Entity → Type 0
+IsConstant (EnumerationConstant n) = Unit {0}
+IsConstant _ = ⊥
+
+-- an entity of this sort stands at the place
+abbrev pub HasEntity : (Entity → Type 0) → State → ℕ → Type 0
+HasEntity P t place = (x : Entity) × (slice_get t.scopes.entities place ≡ Some x) × P x
+
+-- names of this sort are entered
+pub record GrowsBy (P : Entity → Type 0) (s t : State) : Type 0 where
   pub extends : Extends s.types.records t.types.records
   pub begun : (n : ℕ) → slice_get s.types.opened n ≡ Some true
       → (slice_get t.types.opened n ≡ Some true) × (slice_get t.types.records n ≡ slice_get s.types.records n)
@@ -26,10 +36,22 @@ pub record Grows (s t : State) : Type 0 where
   pub more : List (List ℕ × Entry)
   pub ordinary : t.scopes.ordinary ≡ s.scopes.ordinary ++ more
   pub deep : (i : ℕ) (e : List ℕ × Entry) → slice_get more i ≡ Some e → e.1.depth ≡ s.scopes.depth
+  pub entered : (i : ℕ) (e : List ℕ × Entry) → slice_get more i ≡ Some e → HasEntity P t e.1.place
   pub hidden : Longer s.made.hidden t.made.hidden
   pub counting : t.made.counting ≡ s.made.counting
   pub body : t.body ≡ s.body
   pub functions : t.made.functions ≡ s.made.functions
+
+-- within expressions and types, where the names that are entered are those of enumerations
+abbrev pub Grows : State → State → Type 0
+Grows s t = GrowsBy IsConstant s t
+
+abbrev pub IsAny : Entity → Type 0
+IsAny x = Unit {0}
+
+-- in a list of parameters, whose names are entered too
+abbrev pub Widens : State → State → Type 0
+Widens s t = GrowsBy IsAny s t
 
 pub grows_same : (s : State) → Grows s s
 grows_same s = record {
@@ -41,14 +63,15 @@ grows_same s = record {
   more = [];
   ordinary = sym (append-nil s.scopes.ordinary);
   deep = λ i e h. (grind arith);
+  entered = λ i e h. (grind arith);
   hidden = λ i x e. e;
   counting = refl;
   body = refl;
   functions = refl;
 }
 
-pub grows_trans : {s t u : State} → Grows s t → Grows t u → Grows s u
-grows_trans {s} {t} {u} a b = record {
+pub grows_trans : {P : Entity → Type 0} {s t u : State} → GrowsBy P s t → GrowsBy P t u → GrowsBy P s u
+grows_trans {P} {s} {t} {u} a b = record {
   extends = extends_trans a.extends b.extends;
   begun = λ n e. let x = a.begun n e in let y = b.begun n x.0 in (y.0, y.1 ∙ x.1);
   linked = b.linked ∙ a.linked;
@@ -57,6 +80,7 @@ grows_trans {s} {t} {u} a b = record {
   more = a.more ++ b.more;
   ordinary = b.ordinary ∙ (ap (λ xs. xs ++ b.more) a.ordinary ∙ append_assoc s.scopes.ordinary a.more b.more);
   deep = λ i e h. by_place i e (get_either a.more b.more i e h);
+  entered = λ i e h. by_entity i e (get_either a.more b.more i e h);
   hidden = λ i x e. b.hidden i x (a.hidden i x e);
   counting = b.counting ∙ a.counting;
   body = b.body ∙ a.body;
@@ -67,10 +91,31 @@ grows_trans {s} {t} {u} a b = record {
     by_place i e (inl h) = a.deep i e h
     by_place i e (inr h) = b.deep h.0 e h.1 ∙ a.depth
 
+    by_entity : (i : ℕ) (e : List ℕ × Entry) → (slice_get a.more i ≡ Some e) ⊎ ((j : ℕ) × (slice_get b.more j ≡ Some e)) → HasEntity P u e.1.place
+    by_entity i e (inl h) = let x = a.entered i e h in (x.0, b.entities e.1.place x.0 x.1, x.2)
+    by_entity i e (inr h) = b.entered h.0 e h.1
+
+pub widens_so : {s t : State} → Grows s t → Widens s t
+widens_so {s} {t} g = record {
+  extends = g.extends;
+  begun = g.begun;
+  linked = g.linked;
+  entities = g.entities;
+  depth = g.depth;
+  more = g.more;
+  ordinary = g.ordinary;
+  deep = g.deep;
+  entered = λ i e h. let x = g.entered i e h in (x.0, x.1, tt);
+  hidden = g.hidden;
+  counting = g.counting;
+  body = g.body;
+  functions = g.functions;
+}
+
 symbols_same : (s t : State) → t.types.linked ≡ s.types.linked → (n : ℕ) → symbol_at t n ≡ symbol_at s n
 symbols_same s t e n = ap (λ l. option_map_or symbol_of_linked (slice_get l n) (External [])) e
 
-stands_back : (s t : State) (m : ModuleValue) → t.types.linked ≡ s.types.linked → (e : Entity) → StandsFor t m e → StandsFor s m e
+pub stands_back : (s t : State) (m : ModuleValue) → t.types.linked ≡ s.types.linked → (e : Entity) → StandsFor t m e → StandsFor s m e
 stands_back s t m same (TypeName q) h = tt
 stands_back s t m same (EnumerationConstant n) h = tt
 stands_back s t m same (LocalObject k q register) h = tt
@@ -127,3 +172,28 @@ goes_on {A} {B} {s} w next Good Best h k =
     post_bind w next (λ r. IsLawful r.1 × Grows s r.1 × Good r.1 r.0) (λ r. IsLawful r.1 × Grows s r.1 × Best r.1 r.0) h
     (λ r g. post_weaken (next r) (λ u. IsLawful u.1 × Grows r.1 u.1 × Best u.1 u.0) (λ u. IsLawful u.1 × Grows s u.1 × Best u.1 u.0)
     (k r g.0 g.1 g.2) (λ u f. (f.0, grows_trans g.1 f.1, f.2)))
+
+-- the same in a list of parameters
+abbrev pub Widely : {A : Type 0} → State → Walk (A × State) → (State → A → Type 0) → Type 0
+Widely s w Good = Post w (λ r. IsLawful r.1 × Widens s r.1 × Good r.1 r.0)
+
+pub widely : {A : Type 0} (s : State) (w : Walk (A × State)) (Good : State → A → Type 0) → Runs s w Good → Widely s w Good
+widely {A} s w Good h =
+    post_weaken w (λ r. IsLawful r.1 × Grows s r.1 × Good r.1 r.0) (λ r. IsLawful r.1 × Widens s r.1 × Good r.1 r.0) h (λ r g. (g.0, widens_so g.1, g.2))
+
+pub goes_widely : {A B : Type 0} {s : State} (w : Walk (A × State)) (next : A × State → Walk (B × State))
+    (Good : State → A → Type 0) (Best : State → B → Type 0) → Widely s w Good
+    → ((r : A × State) → IsLawful r.1 → Widens s r.1 → Good r.1 r.0 → Widely r.1 (next r) Best) → Widely s (bind w next) Best
+goes_widely {A} {B} {s} w next Good Best h k =
+    post_bind w next (λ r. IsLawful r.1 × Widens s r.1 × Good r.1 r.0) (λ r. IsLawful r.1 × Widens s r.1 × Best r.1 r.0) h
+    (λ r g. post_weaken (next r) (λ u. IsLawful u.1 × Widens r.1 u.1 × Best u.1 u.0) (λ u. IsLawful u.1 × Widens s u.1 × Best u.1 u.0)
+    (k r g.0 g.1 g.2) (λ u f. (f.0, grows_trans g.1 f.1, f.2)))
+
+-- a rule of expressions and types, and then one of parameters
+pub then_widely : {A B : Type 0} {s : State} (w : Walk (A × State)) (next : A × State → Walk (B × State))
+    (Good : State → A → Type 0) (Best : State → B → Type 0) → Runs s w Good
+    → ((r : A × State) → IsLawful r.1 → Grows s r.1 → Good r.1 r.0 → Widely r.1 (next r) Best) → Widely s (bind w next) Best
+then_widely {A} {B} {s} w next Good Best h k =
+    post_bind w next (λ r. IsLawful r.1 × Grows s r.1 × Good r.1 r.0) (λ r. IsLawful r.1 × Widens s r.1 × Best r.1 r.0) h
+    (λ r g. post_weaken (next r) (λ u. IsLawful u.1 × Widens r.1 u.1 × Best u.1 u.0) (λ u. IsLawful u.1 × Widens s u.1 × Best u.1 u.0)
+    (k r g.0 g.1 g.2) (λ u f. (f.0, grows_trans (widens_so g.1) f.1, f.2)))

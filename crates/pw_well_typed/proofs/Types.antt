@@ -66,12 +66,21 @@ complete_later a b e (Array (Qualified ty c v) (Some n)) h =
 complete_later a b e (Function q ps) h = h
 complete_later a b e (Record n) h = complete_record a b e n h
 
+pub element_complete : (r : List RecordValue) (ty : CType) (c v : Bool) (n : ℕ) → IsComplete r (Array (Qualified ty c v) (Some n)) → IsComplete r ty
+element_complete r ty c v n h = sym (map_some (array_layout n) (layout_of r ty)) ∙ h
+
+pub element_whole : (r : List RecordValue) (q : QType) (n : ℕ) → IsComplete r (Array q (Some n)) → IsComplete r (type_of q)
+element_whole r (Qualified ty c v) n h = element_complete r ty c v n h
+
+no_length : (r : List RecordValue) (q : QType) → IsComplete r (Array q None) → ⊥
+no_length r (Qualified ty c v) h = no h
+
 mutual
   pub lawful_later : (a b : List RecordValue) → Extends a b → (ty : CType) → IsLawfulType a ty → IsLawfulType b ty
   lawful_later a b e Void h = tt
   lawful_later a b e (Int kind) h = tt
   lawful_later a b e (Pointer (Qualified ty c v)) h = lawful_later a b e ty h
-  lawful_later a b e (Array (Qualified ty c v) count) h = lawful_later a b e ty h
+  lawful_later a b e (Array (Qualified ty c v) count) h = (lawful_later a b e ty h.0, complete_later a b e ty h.1)
   lawful_later a b e (Function (Qualified ty c v) ps) h = (lawful_later a b e ty h.0, h.1, all_lawful_later a b e ps h.2)
   lawful_later a b e (Record n) h = let k = e.longer in omega (arith, h, k)
 
@@ -84,7 +93,7 @@ mutual
   lawful_known a Void h = tt
   lawful_known a (Int kind) h = tt
   lawful_known a (Pointer (Qualified ty c v)) h = lawful_known a ty h
-  lawful_known a (Array (Qualified ty c v) count) h = lawful_known a ty h
+  lawful_known a (Array (Qualified ty c v) count) h = lawful_known a ty h.0
   lawful_known a (Function (Qualified ty c v) ps) h = (lawful_known a ty h.0, all_lawful_known a ps h.2)
   lawful_known a (Record n) h = h
 
@@ -100,7 +109,10 @@ pub lawful_pointer : (a : List RecordValue) (q : QType) → IsLawfulType a (type
 lawful_pointer a (Qualified ty c v) h = h
 
 pub lawful_element : (a : List RecordValue) (q : QType) (n : Option ℕ) → IsLawfulType a (Array q n) → IsLawfulType a (type_of q)
-lawful_element a (Qualified ty c v) n h = h
+lawful_element a (Qualified ty c v) n h = h.0
+
+pub whole_element : (a : List RecordValue) (q : QType) (n : Option ℕ) → IsLawfulType a (Array q n) → IsComplete a (type_of q)
+whole_element a (Qualified ty c v) n h = h.1
 
 pub lawful_result : (a : List RecordValue) (q : QType) (ps : QTypes) → IsLawfulType a (Function q ps) → IsLawfulType a (type_of q) × IsResult (type_of q) × AreLawfulTypes a ps
 lawful_result a (Qualified ty c v) ps h = h
@@ -112,12 +124,21 @@ unfolding qualify
 qualify_same c v (Qualified (Array q n) d w) = ap (λ x. Qualified (Array x n) d w) (qualify_same c v q)
 qualify_same c v (Qualified _ d w) = refl
 
+complete_qualify : (a : List RecordValue) (c v : Bool) (q : QType) → IsComplete a (type_of q) → IsComplete a (type_of (qualify c v q))
+unfolding qualify
+complete_qualify a c v (Qualified (Array q (Some n)) d w) h = complete_array a n (qualify c v q) (complete_qualify a c v q (element_whole a q n h))
+  where
+    complete_array : (a : List RecordValue) (n : ℕ) (q : QType) → IsComplete a (type_of q) → IsComplete a (Array q (Some n))
+    complete_array a n (Qualified ty c v) h = map_some (array_layout n) (layout_of a ty) ∙ h
+complete_qualify a c v (Qualified (Array q None) d w) h = absurd (no_length a q h)
+complete_qualify a c v (Qualified _ d w) h = h
+
 pub lawful_qualify : (a : List RecordValue) (c v : Bool) (q : QType) → IsLawfulType a (type_of q) → IsLawfulType a (type_of (qualify c v q))
 unfolding qualify
-lawful_qualify a c v (Qualified (Array q n) d w) h = lawful_array a n (qualify c v q) (lawful_qualify a c v q (lawful_element a q n h))
+lawful_qualify a c v (Qualified (Array q n) d w) h = lawful_array a n (qualify c v q) (lawful_qualify a c v q (lawful_element a q n h)) (complete_qualify a c v q (whole_element a q n h))
   where
-    lawful_array : (a : List RecordValue) (n : Option ℕ) (q : QType) → IsLawfulType a (type_of q) → IsLawfulType a (Array q n)
-    lawful_array a n (Qualified ty c v) h = h
+    lawful_array : (a : List RecordValue) (n : Option ℕ) (q : QType) → IsLawfulType a (type_of q) → IsComplete a (type_of q) → IsLawfulType a (Array q n)
+    lawful_array a n (Qualified ty c v) h k = (h, k)
 lawful_qualify a c v (Qualified _ d w) h = h
 
 -- no function becomes one by qualifiers
@@ -158,11 +179,11 @@ kind_back K.UInt = refl
 kind_back K.Long = refl
 kind_back K.ULong = refl
 
-kinds_same : (a b : IntKind) → same_kind a b ≡ true → a ≡ b
+pub kinds_same : (a b : IntKind) → same_kind a b ≡ true → a ≡ b
 kinds_same a b e =
     sym (kind_back a) ∙ (ap kind_of_number (eqb-true (number_of_kind a) (number_of_kind b) e) ∙ kind_back b)
 
-truths_same : (a b : Bool) → same_truth a b ≡ true → a ≡ b
+pub truths_same : (a b : Bool) → same_truth a b ≡ true → a ≡ b
 truths_same true true e = refl
 truths_same true false e = no e
 truths_same false true e = no e
@@ -237,6 +258,15 @@ mutual
 
 -- ---- composite types
 
+pub complete_composite : (r : List RecordValue) (a b : CType) → IsComplete r a → IsComplete r (composite_type a b)
+unfolding composite_type
+complete_composite r (Pointer q) (Pointer p) h = refl
+complete_composite r (Array (Qualified a c w) (Some n)) (Array (Qualified b d u) m) h =
+    map_some (array_layout n) (layout_of r (composite_type a b)) ∙ complete_composite r a b (element_complete r a c w n h)
+complete_composite r (Array (Qualified a c w) None) (Array (Qualified b d u) m) h = no h
+complete_composite r (Function q ps) (Function p qs) h = no h
+complete_composite r _ _ h = h
+
 scalar_composite : (a b : CType) → IsScalar a → IsScalar (composite_type a b)
 unfolding composite_type
 scalar_composite Void b h = h
@@ -260,7 +290,7 @@ mutual
 
   pub lawful_composite : (r : List RecordValue) (a b : CType) → IsLawfulType r a → IsLawfulType r b → IsLawfulType r (composite_type a b)
   lawful_composite r (Pointer (Qualified a c v)) (Pointer (Qualified b d w)) h k = lawful_composite r a b h k
-  lawful_composite r (Array (Qualified a c v) n) (Array (Qualified b d w) m) h k = lawful_composite r a b h k
+  lawful_composite r (Array (Qualified a c v) n) (Array (Qualified b d w) m) h k = (lawful_composite r a b h.0 k.0, complete_composite r a b h.1)
   lawful_composite r (Function (Qualified a c v) ps) (Function (Qualified b d w) qs) h k =
       (lawful_composite r a b h.0 k.0, result_composite a b h.1, all_lawful_composite r ps qs h.2 k.2)
   lawful_composite r _ _ h k = h

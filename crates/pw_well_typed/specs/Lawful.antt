@@ -6,7 +6,7 @@ use Rattle.pw_types.specs.Records.{IsLaid}
 use Rattle.pw_types.specs.TypeTrees.{CType, Void, Int, Pointer, Array, Function, Record, QType, Qualified, QTypes, NoType, OneType, type_of, MemberValue, ContentValue, RecordValue}
 use Rattle.pw_types.specs.TypedTrees.{Symbol, Hidden, LocalValue, ModuleValue, Expression, Node, Form, Expressions, NoExpression, OneExpression}
 use Rattle.pw_types.specs.TypedTrees as T
-use Rattle.pw_types.specs.WellTyped.{IsScalar, IsResult, IsFunctionType, IsObject, IsFunctionOf, IsDefined}
+use Rattle.pw_types.specs.WellTyped.{IsScalar, IsComplete, IsResult, IsFunctionType, IsObject, IsFunctionOf, IsDefined}
 use Rattle.pw_rules.specs.Linkage.{symbol_at}
 use Rattle.pw_rules.specs.States.{State, LinkedName, Entity, TypeName, EnumerationConstant, LocalObject, StaticObject, Linked, HiddenObject}
 use Rattle.pw_rules.specs.declared.names.Entry.{Entry}
@@ -16,13 +16,14 @@ use Rattle.pw_rules.specs.declared.names.TagEntry.{TagEntry}
 
 -- ---- types
 
--- The records that it names are there, and its functions give and take no arrays, functions, structures or unions (6.5.4.3).
+-- The records that it names are there, the elements of its arrays are complete (6.5.4.2), and its functions give and take no
+-- arrays, functions, structures or unions (6.5.4.3).
 abbrev mutual
   pub IsLawfulType : List RecordValue → CType → Type 0
   IsLawfulType records Void = Unit {0}
   IsLawfulType records (Int kind) = Unit {0}
   IsLawfulType records (Pointer (Qualified ty c v)) = IsLawfulType records ty
-  IsLawfulType records (Array (Qualified ty c v) count) = IsLawfulType records ty
+  IsLawfulType records (Array (Qualified ty c v) count) = IsLawfulType records ty × IsComplete records ty
   IsLawfulType records (Function (Qualified ty c v) params) =
       IsLawfulType records ty × IsResult ty × AreLawfulTypes records params
   IsLawfulType records (Record number) = number < length records

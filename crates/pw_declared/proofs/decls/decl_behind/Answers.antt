@@ -2,7 +2,7 @@ use Rattle.std.proofs.Common.{rules, refl}
 use Rattle.pw_checking.specs.StateViews.{view_state}
 use Rattle.pw_tree.specs.Views.{view_decl}
 use Rattle.pw_walk.proofs.CallLaws.{step_ok, step_err}
-use Rattle.pw_initial.proofs.WalkLemmas.{same_walk, done_with}
+use Rattle.pw_filled.proofs.WalkLemmas.{same_walk, done_with}
 use Rattle.pw_declared.specs.Views.{view_made}
 use Rattle.pw_declared.proofs.DeclLemmas.{decl_joined}
 use Rattle.pw_declared.proofs.decls.decl_behind.Goals as goal

@@ -3,7 +3,7 @@ use Rattle.pw_checking.specs.PhraseViews.{view_specified}
 use Rattle.pw_checking.specs.StateViews.{view_state}
 use Rattle.pw_tree.specs.Views.{view_init_declarator}
 use Rattle.pw_walk.proofs.CallLaws.{step_ok, step_err}
-use Rattle.pw_initial.proofs.WalkLemmas.{same_walk, done_with}
+use Rattle.pw_filled.proofs.WalkLemmas.{same_walk, done_with}
 use Rattle.pw_declared.specs.Views.{view_made}
 use Rattle.pw_declared.proofs.DeclLemmas.{declarator_joined}
 use Rattle.pw_declared.proofs.decls.declarator_behind.Goals as goal

@@ -3,7 +3,7 @@ use Rattle.pw_checking.specs.PhraseViews.{view_specified}
 use Rattle.pw_checking.specs.StateViews.{view_state}
 use Rattle.pw_tree.specs.Views.{view_initializer, view_word}
 use Rattle.pw_types.specs.Views.{view_qtype}
-use Rattle.pw_initial.proofs.WalkLemmas.{same_walk}
+use Rattle.pw_filled.proofs.WalkLemmas.{same_walk}
 use Rattle.pw_named.specs.Views.{view_sort}
 use Rattle.pw_rules.specs.Declarations.{declare_rule}
 use Rattle.pw_declared.proofs.decls.declare_rule.Goals as goal

@@ -4,7 +4,7 @@ use Rattle.pw_checking.specs.StateViews.{view_state}
 use Rattle.pw_tree.specs.Views.{view_initializer, view_word}
 use Rattle.pw_types.specs.Views.{view_qtype}
 use Rattle.pw_walk.proofs.CallLaws.{step_ok, step_err}
-use Rattle.pw_initial.proofs.WalkLemmas.{same_walk}
+use Rattle.pw_filled.proofs.WalkLemmas.{same_walk}
 use Rattle.std.specs.Prelude.{◌≡◌, is_some}
 use Rattle.pw_checking.specs.PhraseViews.{view_spot}
 use Rattle.pw_named.specs.Views.{view_sort}

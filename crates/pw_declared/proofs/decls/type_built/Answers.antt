@@ -1,4 +1,4 @@
-use Rattle.pw_initial.proofs.WalkLemmas.{same_walk}
+use Rattle.pw_filled.proofs.WalkLemmas.{same_walk}
 use Rattle.pw_declared.proofs.decls.type_built.Goals as goal
 
 pub returns : goal.returns

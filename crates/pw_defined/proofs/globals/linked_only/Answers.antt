@@ -5,7 +5,7 @@ use Rattle.pw_tree.specs.Views.{view_word}
 use Rattle.pw_typed.specs.Views.{view_initialisers}
 use Rattle.pw_types.specs.Views.{view_qtype}
 use Rattle.pw_walk.proofs.CallLaws.{step_ok, step_err}
-use Rattle.pw_initial.proofs.WalkLemmas.{same_walk, done_with}
+use Rattle.pw_filled.proofs.WalkLemmas.{same_walk, done_with}
 use Rattle.pw_linked.specs.Views.{view_asking}
 use Rattle.pw_defined.proofs.ObjectLemmas.{only_linked}
 use Rattle.pw_defined.proofs.globals.linked_only.Goals as goal

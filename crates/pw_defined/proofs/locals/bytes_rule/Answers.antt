@@ -3,7 +3,7 @@ use Rattle.pw_checking.specs.StateViews.{view_state}
 use Rattle.pw_tree.specs.Views.{view_init, view_word}
 use Rattle.pw_types.specs.Views.{view_qtype}
 use Rattle.pw_walk.proofs.CallLaws.{step_ok, step_err}
-use Rattle.pw_initial.proofs.WalkLemmas.{same_walk, done_with}
+use Rattle.pw_filled.proofs.WalkLemmas.{same_walk, done_with}
 use Rattle.pw_rules.specs.States.{put_hidden}
 use Rattle.pw_defined.proofs.ObjectLemmas.{bytes_joined}
 use Rattle.pw_defined.proofs.locals.bytes_rule.Goals as goal

@@ -4,7 +4,7 @@ use Rattle.pw_typed.specs.Views.{view_expr}
 use Rattle.pw_walk.specs.Walks.{outcome}
 use Rattle.pw_walk.proofs.CallLaws.{step_err}
 use Rattle.pw_turns.proofs.Turns.{turn_made, turn_stopped, turns_over}
-use Rattle.pw_exprs.specs.Turns.{view_values}
+use Rattle.pw_primaries.specs.Turns.{view_values}
 use Rattle.pw_exprs.proofs.Splits.{of_argument, along_arguments, all_arguments, argument_made, arguments_split, no_arguments}
 use Rattle.pw_exprs.proofs.chains.arguments.Goals as goal
 

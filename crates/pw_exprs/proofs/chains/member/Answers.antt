@@ -5,7 +5,7 @@ use Rattle.pw_tree.specs.Trees.{NoPostfix, Select}
 use Rattle.pw_tree.specs.Views.{view_word}
 use Rattle.pw_walk.specs.Walks.{outcome}
 use Rattle.pw_walk.proofs.CallLaws.{same_call, step_ok, step_err}
-use Rattle.pw_exprs.specs.Turns.{first_postfix}
+use Rattle.pw_primaries.specs.Turns.{first_postfix}
 use Rattle.pw_exprs.proofs.chains.member.Goals as goal
 
 pub returns-in-Dot : goal.returns-in-Dot

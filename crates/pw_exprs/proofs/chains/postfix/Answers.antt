@@ -7,7 +7,7 @@ use Rattle.pw_tree.proofs.Rows.{call_view}
 use Rattle.pw_walk.specs.Walks.{outcome}
 use Rattle.pw_walk.proofs.CallLaws.{same_call}
 use Rattle.pw_rules.specs.Operators.{step_rule}
-use Rattle.pw_exprs.specs.Turns.{first_postfix, one_call}
+use Rattle.pw_primaries.specs.Turns.{first_postfix, one_call}
 use Rattle.pw_exprs.proofs.chains.postfix.Goals as goal
 
 pub returns-in-Index : goal.returns-in-Index

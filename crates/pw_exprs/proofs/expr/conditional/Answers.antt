@@ -1,7 +1,7 @@
 use Rattle.std.proofs.Common.{rules, ap}
 use Rattle.pw_walk.proofs.CallLaws.{same_call, step_ok, step_err}
 use Rattle.pw_walk.specs.Walks.{outcome}
-use Rattle.pw_exprs.proofs.Forms.{conditional_form}
+use Rattle.pw_primaries.proofs.Forms.{conditional_form}
 use Rattle.pw_exprs.proofs.expr.conditional.Goals as goal
 
 pub returns-in_err-u : goal.returns-in_err-u

@@ -3,9 +3,9 @@ use Rattle.pw_checking.specs.StateViews.{view_state}
 use Rattle.pw_places.specs.Views.{view_cursor}
 use Rattle.pw_tree.specs.Views.{view_expr}
 use Rattle.pw_walk.proofs.CallLaws.{step_ok, step_err}
-use Rattle.pw_initial.specs.Views.{view_context, view_filled}
+use Rattle.pw_filled.specs.Views.{view_context, view_filled}
 use Rattle.pw_initial.proofs.ListLemmas.{expression_listed}
-use Rattle.pw_initial.proofs.WalkLemmas.{same_walk}
+use Rattle.pw_filled.proofs.WalkLemmas.{same_walk}
 use Rattle.pw_initial.proofs.lists.listed_expression.Goals as goal
 
 pub returns-in_err-e : goal.returns-in_err-e

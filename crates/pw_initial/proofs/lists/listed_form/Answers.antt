@@ -3,8 +3,8 @@ use Rattle.std.proofs.lemmas.Grind.{common_steps}
 use Rattle.pw_checking.specs.StateViews.{view_state}
 use Rattle.pw_places.specs.Views.{view_cursor}
 use Rattle.pw_tree.specs.Views.{view_expr, view_words}
-use Rattle.pw_initial.specs.Views.{view_context, view_filled}
-use Rattle.pw_initial.proofs.WalkLemmas.{same_walk}
+use Rattle.pw_filled.specs.Views.{view_context, view_filled}
+use Rattle.pw_filled.proofs.WalkLemmas.{same_walk}
 use Rattle.pw_rules.specs.Initialisers.{string_form}
 use Rattle.pw_initial.proofs.ListLemmas.{string_listed, text_listed}
 use Rattle.pw_initial.proofs.lists.listed_form.Goals as goal

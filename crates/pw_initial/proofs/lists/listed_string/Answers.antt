@@ -3,8 +3,8 @@ use Rattle.pw_checking.specs.StateViews.{view_state}
 use Rattle.pw_places.specs.Views.{view_cursor}
 use Rattle.pw_tree.specs.Views.{view_words}
 use Rattle.pw_walk.proofs.CallLaws.{step_ok, step_err}
-use Rattle.pw_initial.specs.Views.{view_context, view_filled}
-use Rattle.pw_initial.proofs.WalkLemmas.{same_walk, done_with}
+use Rattle.pw_filled.specs.Views.{view_context, view_filled}
+use Rattle.pw_filled.proofs.WalkLemmas.{same_walk, done_with}
 use Rattle.pw_rules.specs.Kinds.{is_character_array}
 use Rattle.pw_initial.specs.Placing.{reached_rule}
 use Rattle.pw_initial.proofs.ListLemmas.{string_placed}

@@ -4,8 +4,8 @@ use Rattle.pw_checking.specs.Views.{view_node}
 use Rattle.pw_places.specs.Views.{view_cursor}
 use Rattle.pw_typed.specs.Views.{view_expr}
 use Rattle.pw_walk.proofs.CallLaws.{step_ok, step_err}
-use Rattle.pw_initial.specs.Views.{view_context, view_filled}
-use Rattle.pw_initial.proofs.WalkLemmas.{same_walk, done_with}
+use Rattle.pw_filled.specs.Views.{view_context, view_filled}
+use Rattle.pw_filled.proofs.WalkLemmas.{same_walk, done_with}
 use Rattle.pw_rules.specs.Operands.{type_in}
 use Rattle.pw_rules.specs.Operators.{same_record}
 use Rattle.pw_initial.specs.Placing.{reached_rule}

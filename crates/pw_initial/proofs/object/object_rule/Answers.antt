@@ -2,8 +2,8 @@ use Rattle.std.proofs.Common.{sym, ap, ◌∙◌}
 use Rattle.pw_checking.specs.StateViews.{view_state}
 use Rattle.pw_tree.specs.Views.{view_inits}
 use Rattle.pw_types.specs.Views.{view_qtype}
-use Rattle.pw_initial.specs.Views.{view_context}
-use Rattle.pw_initial.proofs.WalkLemmas.{same_walk}
+use Rattle.pw_filled.specs.Views.{view_context}
+use Rattle.pw_filled.proofs.WalkLemmas.{same_walk}
 use Rattle.pw_tree.specs.Trees as tree
 use Rattle.pw_rules.specs.Initialisers.{object_rule}
 use Rattle.pw_initial.proofs.ObjectLemmas.{shown_value, shown_list}

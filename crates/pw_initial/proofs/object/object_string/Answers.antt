@@ -4,11 +4,11 @@ use Rattle.pw_checking.specs.StateViews.{view_state}
 use Rattle.pw_tree.specs.Views.{view_words}
 use Rattle.pw_types.specs.Views.{view_qtype}
 use Rattle.pw_walk.proofs.CallLaws.{step_ok, step_err}
-use Rattle.pw_initial.specs.Views.{view_context}
-use Rattle.pw_initial.proofs.WalkLemmas.{same_walk, done_with}
+use Rattle.pw_filled.specs.Views.{view_context}
+use Rattle.pw_filled.proofs.WalkLemmas.{same_walk, done_with}
 use Rattle.pw_rules.specs.Initialisers.{target_at}
-use Rattle.pw_initial.specs.Strings.{bytes_filled}
-use Rattle.pw_initial.proofs.StringLemmas.{object_behind}
+use Rattle.pw_filled.specs.Strings.{bytes_filled}
+use Rattle.pw_filled.proofs.StringLemmas.{object_behind}
 use Rattle.pw_initial.proofs.object.object_string.Goals as goal
 
 pub returns-in_err-bytes : goal.returns-in_err-bytes

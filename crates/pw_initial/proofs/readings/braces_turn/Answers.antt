@@ -3,8 +3,9 @@ use Rattle.pw_checking.specs.StateViews.{view_state}
 use Rattle.pw_places.specs.Views.{view_cursor, view_target}
 use Rattle.pw_tree.specs.Views.{view_inits, view_words}
 use Rattle.pw_walk.proofs.CallLaws.{step_ok, step_err}
-use Rattle.pw_initial.specs.Views.{view_context, view_reading}
-use Rattle.pw_initial.proofs.WalkLemmas.{same_walk, done_with}
+use Rattle.pw_filled.specs.Views.{view_context}
+use Rattle.pw_initial.specs.Views.{view_reading}
+use Rattle.pw_filled.proofs.WalkLemmas.{same_walk, done_with}
 use Rattle.pw_rules.specs.Initialisers.{braced_string, braced_target, fills_characters, words_in}
 use Rattle.pw_types.specs.TypeTrees.{type_of}
 use Rattle.pw_initial.proofs.ReadingLemmas.{braces_joined, entered_string, entered_list}

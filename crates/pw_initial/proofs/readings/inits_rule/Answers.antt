@@ -4,12 +4,13 @@ use Rattle.pw_checking.specs.StateViews.{view_state}
 use Rattle.pw_places.specs.Views.{view_cursor}
 use Rattle.pw_tree.specs.Views.{view_inits}
 use Rattle.pw_walk.proofs.CallLaws.{step_err}
-use Rattle.pw_initial.specs.Views.{view_context, view_filled, view_outer, view_reading}
+use Rattle.pw_filled.specs.Views.{view_context, view_filled}
+use Rattle.pw_initial.specs.Views.{view_outer, view_reading}
 use Rattle.pw_walk.specs.Walks.{outcome}
 use Rattle.pw_walk.proofs.BindLaws.{bind_made}
 use Rattle.pw_walk.proofs.CallLaws.{made_by}
 use Rattle.pw_initial.specs.Readings.{reading_rule, turn_rule}
-use Rattle.pw_initial.proofs.WalkLemmas.{same_end}
+use Rattle.pw_filled.proofs.WalkLemmas.{same_end}
 use Rattle.pw_initial.proofs.ReadingLemmas.{reading_begun, reading_over, turn_then}
 use Rattle.pw_initial.proofs.readings.inits_rule.Goals as goal
 

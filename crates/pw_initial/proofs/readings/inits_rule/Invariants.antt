@@ -5,7 +5,8 @@ use Rattle.pw_places.specs.Views.{view_cursor}
 use Rattle.pw_rules.specs.Initialisers.{inits_rule}
 use Rattle.pw_tree.specs.Views.{view_inits}
 use Rattle.pw_initial.specs.Readings.{left_of, reading_rule}
-use Rattle.pw_initial.specs.Views.{view_context, view_filled, view_reading}
+use Rattle.pw_filled.specs.Views.{view_context, view_filled}
+use Rattle.pw_initial.specs.Views.{view_reading}
 use Rattle.pw_initial.proofs.readings.inits_rule.Given as goal
 
 -- what is left comes to what the whole list does

@@ -1,7 +1,7 @@
 use Rattle.std.proofs.Common.{sym, ap, ◌∙◌}
 use Rattle.pw_initial.specs.Views.{view_around, view_outer, view_reading}
 use Rattle.pw_checking.proofs.PlaceLemmas.{reverse_push}
-use Rattle.pw_initial.proofs.WalkLemmas.{ok_then}
+use Rattle.pw_filled.proofs.WalkLemmas.{ok_then}
 use Rattle.pw_initial.proofs.ReadingLemmas.{outward_pop}
 use Rattle.pw_initial.proofs.readings.outward.Goals as goal
 

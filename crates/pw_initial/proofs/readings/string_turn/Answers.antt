@@ -3,8 +3,9 @@ use Rattle.pw_checking.specs.StateViews.{view_state}
 use Rattle.pw_places.specs.Views.{view_target}
 use Rattle.pw_tree.specs.Views.{view_words}
 use Rattle.pw_walk.proofs.CallLaws.{step_ok, step_err}
-use Rattle.pw_initial.specs.Views.{view_around, view_context, view_filled, view_outer}
-use Rattle.pw_initial.proofs.WalkLemmas.{same_walk, done_with}
+use Rattle.pw_filled.specs.Views.{view_context, view_filled}
+use Rattle.pw_initial.specs.Views.{view_around, view_outer}
+use Rattle.pw_filled.proofs.WalkLemmas.{same_walk, done_with}
 use Rattle.pw_initial.proofs.ReadingLemmas.{string_joined}
 use Rattle.pw_initial.proofs.readings.string_turn.Goals as goal
 

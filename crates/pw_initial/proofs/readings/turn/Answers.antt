@@ -1,8 +1,9 @@
 use Rattle.std.proofs.Common.{refl, sym, subst, ap, ◌∙◌, ◌<◌, arith}
 use Rattle.pw_checking.specs.StateViews.{view_state}
 use Rattle.pw_tree.specs.Views.{view_inits}
-use Rattle.pw_initial.specs.Views.{view_context, view_reading}
-use Rattle.pw_initial.proofs.WalkLemmas.{same_walk, done_with, ok_then}
+use Rattle.pw_filled.specs.Views.{view_context}
+use Rattle.pw_initial.specs.Views.{view_reading}
+use Rattle.pw_filled.proofs.WalkLemmas.{same_walk, done_with, ok_then}
 use Rattle.pw_initial.specs.Readings.{braces_turn, count_of_inits, left_of, outward}
 use Rattle.pw_initial.proofs.ReadingLemmas.{end_turn, first_value, first_braces, count_value, count_braces, count_none, shorter_outward}
 use Rattle.pw_initial.proofs.readings.turn.Goals as goal

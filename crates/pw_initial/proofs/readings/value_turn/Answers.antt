@@ -2,8 +2,9 @@ use Rattle.std.proofs.Common.{rules, refl}
 use Rattle.pw_checking.specs.StateViews.{view_state}
 use Rattle.pw_tree.specs.Views.{view_expr, view_inits}
 use Rattle.pw_walk.proofs.CallLaws.{step_ok, step_err}
-use Rattle.pw_initial.specs.Views.{view_context, view_reading}
-use Rattle.pw_initial.proofs.WalkLemmas.{same_walk, done_with}
+use Rattle.pw_filled.specs.Views.{view_context}
+use Rattle.pw_initial.specs.Views.{view_reading}
+use Rattle.pw_filled.proofs.WalkLemmas.{same_walk, done_with}
 use Rattle.pw_initial.proofs.ReadingLemmas.{value_joined}
 use Rattle.pw_initial.proofs.readings.value_turn.Goals as goal
 

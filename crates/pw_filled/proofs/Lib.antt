@@ -1,0 +1,4 @@
+pub mod ByteLemmas
+pub mod FormLemmas
+pub mod StringLemmas
+pub mod WalkLemmas

@@ -1,0 +1,34 @@
+-- On which bytes a fault of an image file rests.
+use Rattle.std.specs.Prelude.{◌≡◌, ℕ, ◌≤◌, true, List, length, Result, Err, None}
+use Rattle.pw_value.specs.Fields.{◌>>=◌, u32_at, repeated}
+use Rattle.pw_value.specs.FieldFrame.{ended, opened_at}
+use Rattle.pw_value.specs.FieldNames.{names_at}
+use Rattle.pw_files.specs.Faults.{OfPayload, StaysFault, unsealed}
+use Rattle.pw_image.specs.Image.{ImageValue, Contents, kind}
+use Rattle.pw_image.specs.Reading.{memory_at, function_at, global_at, start_at, is_lawful_start, image_file_at, image_of}
+
+-- the fields of an image's payload, without the rules on several of them: that the entry is the address of a word, and
+-- that each name of the table is used
+unfoldable pub fields_at : List ℕ → Result (Contents × List ℕ) ℕ
+fields_at = do
+  memory ← memory_at
+  names ← names_at
+  function_count ← u32_at
+  functions ← repeated (function_at names (length memory.words)) function_count
+  global_count ← u32_at
+  globals ← repeated (global_at names) global_count
+  ended None (record { names = names; image = record { memory = memory; functions = functions; globals = globals } })
+
+-- the entry is the address of a word
+abbrev pub HasEntry : List ℕ → Type 0
+HasEntry payload = is_lawful_start (start_at payload) ≡ true
+
+abbrev pub read : List ℕ → Result ImageValue ℕ
+read bytes = image_of (image_file_at bytes)
+
+-- A fault lies within the bytes. Where the entry is the address of a word, a fault of the fields is the file's, and rests on
+-- the bytes up to the faulty field's end.
+pub record ImageFaultsStay : Type 0 where
+  pub within : (bytes : List ℕ) (at : ℕ) → read bytes ≡ Err at → at ≤ length bytes
+  pub stays : (bytes : List ℕ) (at : ℕ) → unsealed (λ version. fields_at) (opened_at kind 1 1 bytes) ≡ Err at → OfPayload kind HasEntry bytes
+      → (read bytes ≡ Err at) × StaysFault (OfPayload kind HasEntry) read bytes at

@@ -1,0 +1,115 @@
+//! The expressions in statements: conditions, values of switches, and those that may be left out.
+
+ghost use Rattle.std.specs.Prelude.{◌≡◌};
+ghost use Rattle.pw_rules.specs.Statements as spec;
+ghost use Rattle.pw_checking.specs.Follows.{Leads};
+ghost use Rattle.pw_checking.specs.StateViews.{view_state};
+ghost use Rattle.pw_tree.specs.Views.{view_expr, view_optional};
+ghost use Rattle.pw_typed.specs.Views as typed;
+
+use pw_checking::{State, typing};
+use pw_kinds::{is_integral, is_scalar};
+use pw_labels::BodyParts;
+use pw_operand::promote;
+use pw_tree::Expr;
+use pw_typed::TExpr;
+use pw_walk::CheckFault;
+use std::alloc::Global;
+
+/// An expression by itself, and then its value.
+pub fn value<'a, P: BodyParts<'a>>(
+    alloc: Global,
+    parts: &P,
+    state: &mut State<'a>,
+    expr: &'a Expr,
+) -> Result<TExpr, CheckFault>
+    requires { P.can_check parts.now }
+    ensures { Leads typed.view_expr (spec.whole_rule (view_expr expr.now)) (view_state state.old) result (view_state state.new) }
+{
+    let node = parts.whole(alloc, state, expr)?;
+    Ok(Box::into_inner(node))
+}
+
+/// An expression that may be left out.
+pub fn optional_rule<'a, P: BodyParts<'a>>(
+    alloc: Global,
+    parts: &P,
+    state: &mut State<'a>,
+    expr: &'a Option<Expr>,
+) -> Result<Option<TExpr>, CheckFault>
+    requires { P.can_check parts.now }
+    ensures { Leads typed.view_optional (spec.optional_rule (view_optional expr.now)) (view_state state.old) result (view_state state.new) }
+{
+    match expr {
+        Some(e) => {
+            let made = value(alloc, parts, state, e)?;
+            Ok(Some(made))
+        }
+        None => Ok(None),
+    }
+}
+
+/// A condition is a scalar, of the statement that begins here (C90 6.6.4.1, 6.6.5).
+pub fn condition_rule<'a, P: BodyParts<'a>>(
+    alloc: Global,
+    parts: &P,
+    state: &mut State<'a>,
+    token: usize,
+    expr: &'a Expr,
+) -> Result<TExpr, CheckFault>
+    requires { P.can_check parts.now }
+    ensures { Leads typed.view_expr (spec.condition_rule token (view_expr expr.now)) (view_state state.old) result (view_state state.new) }
+{
+    let condition = value(alloc, parts, state, expr)?;
+    if !is_scalar(&condition.ty.ty) {
+        return Err(typing(token));
+    }
+    Ok(condition)
+}
+
+/// Whether a condition is a scalar, where there is one.
+fn is_condition(condition: &Option<TExpr>) -> bool
+    ensures { result ≡ spec.is_condition (typed.view_optional condition.now) }
+{
+    match condition {
+        Some(e) => is_scalar(&e.ty.ty),
+        None => true,
+    }
+}
+
+/// A condition that may be left out (C90 6.6.5.3).
+pub fn optional_condition<'a, P: BodyParts<'a>>(
+    alloc: Global,
+    parts: &P,
+    state: &mut State<'a>,
+    token: usize,
+    expr: &'a Option<Expr>,
+) -> Result<Option<TExpr>, CheckFault>
+    requires { P.can_check parts.now }
+    ensures { Leads typed.view_optional (spec.optional_condition token (view_optional expr.now)) (view_state state.old) result (view_state state.new) }
+{
+    let condition = optional_rule(alloc, parts, state, expr)?;
+    if !is_condition(&condition) {
+        return Err(typing(token));
+    }
+    Ok(condition)
+}
+
+/// The value of a switch is an integer, and promoted (C90 6.6.4.2).
+pub fn switch_rule<'a, P: BodyParts<'a>>(
+    alloc: Global,
+    parts: &P,
+    state: &mut State<'a>,
+    token: usize,
+    expr: &'a Expr,
+) -> Result<TExpr, CheckFault>
+    requires { P.can_check parts.now }
+    ensures { Leads typed.view_expr (spec.switch_rule token (view_expr expr.now)) (view_state state.old) result (view_state state.new) }
+{
+    let value = parts.whole(alloc, state, expr)?;
+    if !is_integral(&value.ty.ty) {
+        return Err(typing(token));
+    }
+    let promoted = promote(alloc, value)?;
+    Ok(Box::into_inner(promoted))
+}
