@@ -4,7 +4,7 @@
 use pw_io::{Sink, Source, Store, StoreError};
 use pw_system::{CurrentFolder, FileStore, StdSink, StdSource};
 use std::fs;
-use std::io::{self, BufWriter};
+use std::io::{self, BufWriter, ErrorKind, Write};
 use std::os::unix::fs::symlink;
 use std::rt::Files;
 
@@ -112,6 +112,28 @@ fn pass_on(rt: &HostRuntime) -> io::Result<()> {
     Ok(())
 }
 
+/// A writer that takes every byte and can write none out.
+#[derive(Drop)]
+struct FullWriter;
+
+impl Write for FullWriter {
+    fn write(&mut self, bytes: &[u8]) -> io::Result<usize> {
+        Ok(bytes.len())
+    }
+
+    fn flush(&mut self) -> io::Result<()> {
+        Err(io::Error::from(ErrorKind::StorageFull))
+    }
+}
+
+/// A flush that fails is told.
+fn tell_lost_block(rt: &HostRuntime) -> io::Result<()> {
+    let mut out = StdSink::new(FullWriter);
+    let taken = out.put(b"lost").is_ok();
+    let flushed = out.flush().is_ok();
+    println!(rt; "a full writer: taken {taken}, flushed {flushed}")
+}
+
 /// Tries all calls of the store of the current folder.
 fn tell_all<R: Files + AllocGlobal + Clone + Drop>(rt: &HostRuntime, files: &R) -> io::Result<()> {
     let mut store = FileStore::new(CurrentFolder::new(files));
@@ -125,5 +147,6 @@ fn tell_all<R: Files + AllocGlobal + Clone + Drop>(rt: &HostRuntime, files: &R) 
 fn main(rt: HostRuntime) -> io::Result<()> {
     make_folder(&rt)?;
     tell_all(&rt, &rt)?;
+    tell_lost_block(&rt)?;
     pass_on(&rt)
 }
