@@ -2,6 +2,7 @@ pub mod Walking
 pub mod Lists
 pub mod Types
 pub mod Composite
+pub mod Sound
 pub mod States
 pub mod Conversions
 pub mod Nodes
