@@ -363,6 +363,13 @@ length_second (Function p ps) (Function q qs) c v d w n e f = never_some f
 length_second (Record i) (Record j) c v d w n e f = never_some f
 length_second _ _ c v d w n e f = no e
 
+pub kind_composite : (a b : QType) → is_function (type_of (composite a b)) ≡ is_function (type_of a)
+unfolding composite
+kind_composite (Qualified a c v) (Qualified b d w) = function_first a b
+
+pub compatible_function : (a b : QType) → compatible a b ≡ true → is_function (type_of a) ≡ is_function (type_of b)
+compatible_function (Qualified a c v) (Qualified b d w) e = function_compatible a b (types_compatible a b c v d w e).0
+
 -- the composite of compatible types covers the second one too
 pub covers_second : (r : List RecordValue) (a b : QType) → compatible a b ≡ true → IsLawfulType r (type_of a) → IsLawfulType r (type_of b) → Covers (composite a b) b
 unfolding composite

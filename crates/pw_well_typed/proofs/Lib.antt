@@ -17,6 +17,7 @@ pub mod Counting
 pub mod Locals
 pub mod Filling
 pub mod Keeping
+pub mod Declaring
 pub mod Initialisers
 pub mod Declarations
 pub mod Statements

@@ -94,10 +94,6 @@ symbol_text l = by l.internal
     by true = refl
     by false = refl
 
-symbol_continues : (x y : LinkedName) → Continues x y → symbol_of_linked y ≡ symbol_of_linked x
-symbol_continues x y c =
-    ap (λ b. if b then Internal y.name else Shared y.name) c.internal ∙ ap (λ n. if x.internal then Internal n else Shared n) c.name
-
 -- the function is that of a name that is defined
 abbrev PlacedAt : State → FunctionValue → Type 0
 PlacedAt s f = (place : ℕ) × (l : LinkedName) × (slice_get s.types.linked place ≡ Some l) × (l.defined ≡ true) × (f.name ≡ symbol_of_linked l)

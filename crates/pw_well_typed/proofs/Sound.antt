@@ -56,15 +56,15 @@ Backed linked hidden _ = Unit {0}
 abbrev pub AreBacked : List LinkedName → List HiddenObject → List Entity → Type 0
 AreBacked linked hidden entities = (k : ℕ) (e : Entity) → slice_get entities k ≡ Some e → Backed linked hidden e
 
-backed_on : {xs ys : List LinkedName} {hs gs : List HiddenObject} → Onward xs ys → Filling hs gs → (e : Entity) → Backed xs hs e → Backed ys gs e
-backed_on on fill (Linked n q) b = let y = on n b.0 b.1 in (y.0, y.1, covers_trans y.2.covers b.2)
-backed_on on fill (StaticObject n q) b = let y = fill n b.0 b.1 in (y.0, y.1, covers_trans y.2 b.2)
-backed_on on fill (TypeName q) b = tt
-backed_on on fill (EnumerationConstant n) b = tt
-backed_on on fill (LocalObject k q register) b = tt
+backed_on : (xs ys : List LinkedName) (hs gs : List HiddenObject) → Onward xs ys → Filling hs gs → (e : Entity) → Backed xs hs e → Backed ys gs e
+backed_on xs ys hs gs on fill (Linked n q) b = let y = on n b.0 b.1 in (y.0, y.1, covers_trans y.2.covers b.2)
+backed_on xs ys hs gs on fill (StaticObject n q) b = let y = fill n b.0 b.1 in (y.0, y.1, covers_trans y.2 b.2)
+backed_on xs ys hs gs on fill (TypeName q) b = tt
+backed_on xs ys hs gs on fill (EnumerationConstant n) b = tt
+backed_on xs ys hs gs on fill (LocalObject k q register) b = tt
 
-pub all_backed_on : {xs ys : List LinkedName} {hs gs : List HiddenObject} {entities : List Entity} → Onward xs ys → Filling hs gs → AreBacked xs hs entities → AreBacked ys gs entities
-all_backed_on on fill b = λ k e h. backed_on on fill e (b k e h)
+pub all_backed_on : (xs ys : List LinkedName) (hs gs : List HiddenObject) (entities : List Entity) → Onward xs ys → Filling hs gs → AreBacked xs hs entities → AreBacked ys gs entities
+all_backed_on xs ys hs gs entities on fill b = λ k e h. backed_on xs ys hs gs on fill e (b k e h)
 
 -- ---- names in scope
 
@@ -76,15 +76,15 @@ Spelled linked name _ = Unit {0}
 abbrev pub AreSpelled : List LinkedName → List Entity → List (List ℕ × Entry) → Type 0
 AreSpelled linked entities ordinary = (i : ℕ) (e : List ℕ × Entry) → slice_get ordinary i ≡ Some e → (x : Entity) × (slice_get entities e.1.place ≡ Some x) × Spelled linked e.0 x
 
-spelled_on : {xs ys : List LinkedName} → Onward xs ys → (name : List ℕ) (e : Entity) → Spelled xs name e → Spelled ys name e
-spelled_on on name (Linked n q) b = let y = on n b.0 b.1 in (y.0, y.1, y.2.name ∙ b.2)
-spelled_on on name (StaticObject n q) b = tt
-spelled_on on name (TypeName q) b = tt
-spelled_on on name (EnumerationConstant n) b = tt
-spelled_on on name (LocalObject k q register) b = tt
+spelled_on : (xs ys : List LinkedName) → Onward xs ys → (name : List ℕ) (e : Entity) → Spelled xs name e → Spelled ys name e
+spelled_on xs ys on name (Linked n q) b = let y = on n b.0 b.1 in (y.0, y.1, y.2.name ∙ b.2)
+spelled_on xs ys on name (StaticObject n q) b = tt
+spelled_on xs ys on name (TypeName q) b = tt
+spelled_on xs ys on name (EnumerationConstant n) b = tt
+spelled_on xs ys on name (LocalObject k q register) b = tt
 
-pub all_spelled_on : {xs ys : List LinkedName} {entities : List Entity} {ordinary : List (List ℕ × Entry)} → Onward xs ys → AreSpelled xs entities ordinary → AreSpelled ys entities ordinary
-all_spelled_on on b = λ i e h. let x = b i e h in (x.0, x.1, spelled_on on e.0 x.0 x.2)
+pub all_spelled_on : (xs ys : List LinkedName) (entities : List Entity) (ordinary : List (List ℕ × Entry)) → Onward xs ys → AreSpelled xs entities ordinary → AreSpelled ys entities ordinary
+all_spelled_on xs ys entities ordinary on b = λ i e h. let x = b i e h in (x.0, x.1, spelled_on xs ys on e.0 x.0 x.2)
 
 -- ---- functions that are defined
 
@@ -165,18 +165,18 @@ plain_spelled linked name (StaticObject k q) h = absurd h
 plain_spelled linked name (Linked k q) h = absurd h
 
 -- an entity more
-pub backed_more : {linked : List LinkedName} {hidden : List HiddenObject} (entities : List Entity) (x : Entity) → AreBacked linked hidden entities → Backed linked hidden x
+pub backed_more : (linked : List LinkedName) (hidden : List HiddenObject) (entities : List Entity) (x : Entity) → AreBacked linked hidden entities → Backed linked hidden x
     → AreBacked linked hidden (entities ++ x ∷ [])
-backed_more {linked} {hidden} entities x b h = λ k e g. by k e (get_more entities x k e g)
+backed_more linked hidden entities x b h = λ k e g. by k e (get_more entities x k e g)
   where
     by : (k : ℕ) (e : Entity) → (slice_get entities k ≡ Some e) ⊎ ((k ≡ length entities) × (x ≡ e)) → Backed linked hidden e
     by k e (inl g) = b k e g
     by k e (inr g) = subst (Backed linked hidden) g.1 h
 
-pub spelled_more : {linked : List LinkedName} (entities : List Entity) (ordinary : List (List ℕ × Entry)) (x : Entity) (name : List ℕ) (depth : ℕ)
+pub spelled_more : (linked : List LinkedName) (entities : List Entity) (ordinary : List (List ℕ × Entry)) (x : Entity) (name : List ℕ) (depth : ℕ)
     → AreSpelled linked entities ordinary → Spelled linked name x
     → AreSpelled linked (entities ++ x ∷ []) (ordinary ++ (name, record { place = length entities; depth = depth }) ∷ [])
-spelled_more {linked} entities ordinary x name depth b h = λ i e g. by i e (get_more ordinary (name, record { place = length entities; depth = depth }) i e g)
+spelled_more linked entities ordinary x name depth b h = λ i e g. by i e (get_more ordinary (name, record { place = length entities; depth = depth }) i e g)
   where
     by : (i : ℕ) (e : List ℕ × Entry) → (slice_get ordinary i ≡ Some e) ⊎ ((i ≡ length ordinary) × ((name, record { place = length entities; depth = depth }) ≡ e))
         → (y : Entity) × (slice_get (entities ++ x ∷ []) e.1.place ≡ Some y) × Spelled linked e.0 y
@@ -221,7 +221,7 @@ slots_hidden pending linked hidden slots x a = record {
 
 -- one that was there, marked as before, or one that is new and not defined
 abbrev pub Marked : LinkedName → LinkedName → Type 0
-Marked x y = (is_stored y ≡ is_stored x) × (y.internal ≡ x.internal) × (is_function (type_of y.ty) ≡ is_function (type_of x.ty))
+Marked x y = (is_function (type_of y.ty) ≡ false → is_stored y ≡ is_stored x) × (y.internal ≡ x.internal) × (is_function (type_of y.ty) ≡ is_function (type_of x.ty))
 
 abbrev pub IsNew : Option Slot → ℕ → LinkedName → Type 0
 IsNew pending n y = (is_stored y ≡ false) × (y.internal ≡ true → is_function (type_of y.ty) ≡ false → pending ≡ Some (slot.Named n))
@@ -230,7 +230,7 @@ abbrev pub Relinked : Option Slot → List LinkedName → List LinkedName → Ty
 Relinked pending xs ys = (n : ℕ) (y : LinkedName) → slice_get ys n ≡ Some y → ((x : LinkedName) × (slice_get xs n ≡ Some x) × Marked x y) ⊎ IsNew pending n y
 
 pub slots_relinked : (p q : Option Slot) (xs ys : List LinkedName) (hidden : List HiddenObject) (slots : List Slot)
-    → ((n : ℕ) → p ≡ Some (slot.Named n) → q ≡ Some (slot.Named n))
+    → ((n : ℕ) → p ≡ Some (slot.Named n) → (q ≡ Some (slot.Named n)) ⊎ ((y : LinkedName) → slice_get ys n ≡ Some y → is_stored y ≡ true))
     → ((n : ℕ) (x : LinkedName) → slice_get xs n ≡ Some x → (y : LinkedName) × (slice_get ys n ≡ Some y) × Marked x y)
     → Relinked q xs ys → AreSlots p xs hidden slots → AreSlots q ys hidden slots
 slots_relinked p q xs ys hidden slots embed on back a = record {
@@ -238,25 +238,32 @@ slots_relinked p q xs ys hidden slots embed on back a = record {
   there = λ i x e. more x (a.there i x e);
   named = λ n y e h. by_named n y h (back n y e);
   strings = a.strings;
-  internal = λ n y e i f. by_internal n y i f (back n y e);
+  internal = λ n y e i f. by_internal n y e i f (back n y e);
 }
   where
     more : (x : Slot) → IsThere xs hidden x → IsThere ys hidden x
-    more (slot.Named n) h = let y = on n h.0 h.1 in (y.0, y.1, (y.2.0 ∙ h.2.0, y.2.2 ∙ h.2.1))
+    more (slot.Named n) h = let y = on n h.0 h.1 in let f = y.2.2 ∙ h.2.1 in (y.0, y.1, (y.2.0 f ∙ h.2.0, f))
     more (slot.Hidden k) h = h
 
     by_named : (n : ℕ) (y : LinkedName) → IsStored y → ((x : LinkedName) × (slice_get xs n ≡ Some x) × Marked x y) ⊎ IsNew q n y → HasSlot slots (slot.Named n)
-    by_named n y h (inl m) = a.named n m.0 m.1 (sym m.2.0 ∙ h.0, sym m.2.2 ∙ h.1)
+    by_named n y h (inl m) = a.named n m.0 m.1 (sym (m.2.0 h.1) ∙ h.0, sym m.2.2 ∙ h.1)
     by_named n y h (inr m) = no (sym m.0 ∙ h.0)
 
-    by_internal : (n : ℕ) (y : LinkedName) → y.internal ≡ true → is_function (type_of y.ty) ≡ false → ((x : LinkedName) × (slice_get xs n ≡ Some x) × Marked x y) ⊎ IsNew q n y
+    by_pending : (n : ℕ) (y : LinkedName) → slice_get ys n ≡ Some y → (q ≡ Some (slot.Named n)) ⊎ ((y : LinkedName) → slice_get ys n ≡ Some y → is_stored y ≡ true)
         → (q ≡ Some (slot.Named n)) ⊎ (is_stored y ≡ true)
-    by_internal n y i f (inl m) = by_old (a.internal n m.0 m.1 (sym m.2.1 ∙ i) (sym m.2.2 ∙ f))
-      where
-        by_old : (p ≡ Some (slot.Named n)) ⊎ (is_stored m.0 ≡ true) → (q ≡ Some (slot.Named n)) ⊎ (is_stored y ≡ true)
-        by_old (inl e) = inl (embed n e)
-        by_old (inr e) = inr (m.2.0 ∙ e)
-    by_internal n y i f (inr m) = inl (m.1 i f)
+    by_pending n y e (inl h) = inl h
+    by_pending n y e (inr h) = inr (h y e)
+
+    by_old : (n : ℕ) (x y : LinkedName) → slice_get ys n ≡ Some y → is_stored y ≡ is_stored x → (p ≡ Some (slot.Named n)) ⊎ (is_stored x ≡ true)
+        → (q ≡ Some (slot.Named n)) ⊎ (is_stored y ≡ true)
+    by_old n x y e same (inl h) = by_pending n y e (embed n h)
+    by_old n x y e same (inr h) = inr (same ∙ h)
+
+    by_internal : (n : ℕ) (y : LinkedName) → slice_get ys n ≡ Some y → y.internal ≡ true → is_function (type_of y.ty) ≡ false
+        → ((x : LinkedName) × (slice_get xs n ≡ Some x) × Marked x y) ⊎ IsNew q n y
+        → (q ≡ Some (slot.Named n)) ⊎ (is_stored y ≡ true)
+    by_internal n y e i f (inl m) = by_old n m.0 y e (m.2.0 f) (a.internal n m.0 m.1 (sym m.2.1 ∙ i) (sym m.2.2 ∙ f))
+    by_internal n y e i f (inr m) = inl (m.1 i f)
 
 -- a name is stored from here on: it gets a slot
 pub slots_stored : (p q : Option Slot) (place : ℕ) (x y : LinkedName) (xs : List LinkedName) (hidden : List HiddenObject) (slots : List Slot)
@@ -268,7 +275,7 @@ slots_stored p q place x y xs hidden slots embed at bare stored f g a = record {
   there = λ i z e. by_there z (get_more slots (slot.Named place) i z e);
   named = λ n l e h. by_named n l h (put_cases place y xs n l e);
   strings = λ k h e. let z = a.strings k h e in (z.0, get_append slots (slot.Named place ∷ []) z.0 (slot.Hidden k) z.1);
-  internal = λ n l e i h. by_internal n l i h (put_cases place y xs n l e);
+  internal = λ n l e i h. by_internal n l i h e (put_cases place y xs n l e);
 }
   where
     now : slice_get (put_at place y xs) place ≡ Some y
@@ -308,7 +315,7 @@ slots_stored p q place x y xs hidden slots embed at bare stored f g a = record {
     by_internal n l i h e (inr k) = by_old (a.internal n l k i h)
       where
         by_place : (n ≡ place) ⊎ (q ≡ Some (slot.Named n)) → (q ≡ Some (slot.Named n)) ⊎ (is_stored l ≡ true)
-        by_place (inl here) = inr (ap is_stored (some_same (sym e ∙ (ap (slice_get (put_at place y xs)) here ∙ now))) ∙ stored)
+        by_place (inl here) = inr (ap is_stored (sym (some_same (sym now ∙ (ap (slice_get (put_at place y xs)) (sym here) ∙ e)))) ∙ stored)
         by_place (inr z) = inl z
 
         by_old : (p ≡ Some (slot.Named n)) ⊎ (is_stored l ≡ true) → (q ≡ Some (slot.Named n)) ⊎ (is_stored l ≡ true)
