@@ -183,12 +183,12 @@ local_goes s w b q (Some i) l h =
 -- ---- what is declared
 
 -- an object is no function
-abbrev Fits : Sort → QType → Type 0
+abbrev pub Fits : Sort → QType → Type 0
 Fits ATypedef q = Unit {0}
 Fits AFunction q = Unit {0}
 Fits _ q = IsFunctionType (type_of q) → ⊥
 
-sort_fits : (outside : Bool) (b : Specified) (q : QType) → Fits (sort_of outside b q) q
+pub sort_fits : (outside : Bool) (b : Specified) (q : QType) → Fits (sort_of outside b q) q
 sort_fits outside b q = by (is_typedef b.storage) (is_function (type_of q)) refl outside (is_extern b.storage) (is_static b.storage)
   where
     by : (x y : Bool) → is_function (type_of q) ≡ y → (z e t : Bool)
@@ -214,7 +214,7 @@ declare_goes s ALocal w b spot q i l h f = local_goes s w b q i l (record { lawf
 
 -- ---- declarations
 
-init_declarator_goes : (s : State) (b : Specified) (d : InitDeclarator) → IsLawful s → GoodSpecified s b → Goes s (init_declarator_rule b d s) Anything
+pub init_declarator_goes : (s : State) (b : Specified) (d : InitDeclarator) → IsLawful s → GoodSpecified s b → Goes s (init_declarator_rule b d s) Anything
 unfolding init_declarator_rule
 init_declarator_goes s b d l h =
     goes_by _ _ GoodDeclared Anything (of_runs _ _ GoodDeclared (declarator_post d.declarator s l)) (λ r m x k.
@@ -226,7 +226,7 @@ init_declarator_goes s b d l h =
     declare_goes v.1 (sort_of (is_file_scope u.1) b u.0) (name_of r.0) b (spot_of r.0.name b.first b.tag) u.0 d.initializer i
     (lawful_later u.1.types.records v.1.types.records z.extends (type_of u.0) j) (sort_fits (is_file_scope u.1) b u.0)))))
 
-init_declarators_goes : (ds : List InitDeclarator) (s : State) (b : Specified) → IsLawful s → GoodSpecified s b → Goes s (init_declarators_rule b ds s) Anything
+pub init_declarators_goes : (ds : List InitDeclarator) (s : State) (b : Specified) → IsLawful s → GoodSpecified s b → Goes s (init_declarators_rule b ds s) Anything
 unfolding init_declarators_rule
 init_declarators_goes [] s b l h = (l, after_same s, tt)
 init_declarators_goes (d ∷ rest) s b l h =

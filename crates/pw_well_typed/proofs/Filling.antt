@@ -154,8 +154,8 @@ abbrev Advances : State → State → Cursor → Filled → Cursor × Filled →
 Advances s t cursor filled r =
     (ty : CType) → IsScalar ty → IsLawfulType s.types.records ty → IsAt ty cursor → AreTypedAs s ty filled.parts → IsAt ty r.0 × AreTypedAs t ty r.1.parts
 
-advances_later : {s u t : State} {cursor : Cursor} {filled : Filled} {r : Cursor × Filled} → Grows s u → Advances u t cursor filled r → Advances s t cursor filled r
-advances_later {s} {u} {t} {cursor} {filled} {r} g h ty scalar lawful at all =
+advances_later : (s u t : State) (cursor : Cursor) (filled : Filled) (r : Cursor × Filled) → Grows s u → Advances u t cursor filled r → Advances s t cursor filled r
+advances_later s u t cursor filled r g h ty scalar lawful at all =
     h ty scalar (lawful_later s.types.records u.types.records g.extends ty lawful) at (typed_as_later g ty filled.parts all)
 
 listed_value_runs : (s : State) (cx : Context) (cursor : Cursor) (filled : Filled) (first : ℕ) (e : Expression) → IsLawful s → FineValue s e
@@ -179,7 +179,7 @@ unfolding listed_string bind
 listed_string_runs s cx cursor filled ws l = by (reach (records_in s) is_character_array cursor)
   where
     by : (o : Option Reached)
-        → Runs s (bind (granted InitialiserCount cx.token [] o s) (λ r. bind (string_filled cx ws r.0.target filled r.1) (λ more. Done ((passed (records_in s) r.0.cursor, more.0), more.1)))) Nothing
+        → Runs {A = Cursor × Filled} s (bind (granted InitialiserCount cx.token [] o s) (λ r. bind (string_filled cx ws r.0.target filled r.1) (λ more. Done ((passed (records_in s) r.0.cursor, more.0), more.1)))) Nothing
     by None = λ met. tt
     by (Some x) = λ met. goes_on (string_filled cx ws x.target filled s) _ Nothing Nothing (string_filled_runs s cx ws x.target filled l) (λ r m g h. (m, grows_same r.1, tt))
 
@@ -189,7 +189,7 @@ listed_expression_runs s cx cursor filled e l =
     valued _ _ (λ t r. Advances s t cursor filled r) (expr_post e s l) (λ r m g f.
     post_weaken (listed_value cx cursor filled (first_of_expr e) r.0 r.1) (λ u. IsLawful u.1 × Grows r.1 u.1 × Advances r.1 u.1 cursor filled u.0) (λ u. IsLawful u.1 × Grows r.1 u.1 × Advances s u.1 cursor filled u.0)
     (listed_value_runs r.1 cx cursor filled (first_of_expr e) r.0 m f)
-    (λ u k. (k.0, k.1, advances_later {s = s} {u = r.1} {t = u.1} {cursor = cursor} {filled = filled} {r = u.0} g k.2)))
+    (λ u k. (k.0, k.1, advances_later s r.1 u.1 cursor filled u.0 g k.2)))
 
 listed_by_runs : (s : State) (whole : Bool) (cx : Context) (cursor : Cursor) (filled : Filled) (e : Expr) (ws : List Word) → IsLawful s → meets_characters (records_in s) cursor ≡ whole
     → Runs s (listed_by whole cx cursor filled e ws s) (λ t r. Advances s t cursor filled r)
@@ -219,7 +219,7 @@ braced_by_runs s true cx t filled ws within l h =
     goes_on (string_filled cx ws t filled s) _ Nothing Nothing (string_filled_runs s cx ws t filled l) (λ r m g k. (m, grows_same r.1, tt))
 braced_by_runs s false cx t filled ws within l h = h
 
-runs_whatever : {A : Type 0} (s : State) (w : Walk (A × State)) (Good : State → A → Type 0) → Runs s w Good → Runs s w Nothing
+pub runs_whatever : {A : Type 0} (s : State) (w : Walk (A × State)) (Good : State → A → Type 0) → Runs s w Good → Runs s w Nothing
 runs_whatever {A} s w Good h = post_weaken w (λ r. IsLawful r.1 × Grows s r.1 × Good r.1 r.0) (λ r. IsLawful r.1 × Grows s r.1 × Unit {0}) h (λ r g. (g.0, g.1, tt))
 
 finishing : {A B : Type 0} (s : State) (look : State → A) (make : A → B) (Good : State → B → Type 0) → IsLawful s → Good s (make (look s))

@@ -20,6 +20,8 @@ pub mod Keeping
 pub mod Declaring
 pub mod Initialisers
 pub mod Declarations
+pub mod Adding
+pub mod LabelLaws
 pub mod Statements
 pub mod Modules
 pub mod Laws

@@ -130,7 +130,7 @@ widens_so {s} {t} g = record {
 symbols_same : (s t : State) → t.types.linked ≡ s.types.linked → (n : ℕ) → symbol_at t n ≡ symbol_at s n
 symbols_same s t e n = ap (λ l. option_map_or symbol_of_linked (slice_get l n) (External [])) e
 
-stands_back : (s t : State) (m : ModuleValue) → t.types.linked ≡ s.types.linked → (e : Entity) → StandsFor t m e → StandsFor s m e
+pub stands_back : (s t : State) (m : ModuleValue) → t.types.linked ≡ s.types.linked → (e : Entity) → StandsFor t m e → StandsFor s m e
 stands_back s t m same (TypeName q) h = tt
 stands_back s t m same (EnumerationConstant n) h = tt
 stands_back s t m same (LocalObject k q register) h = tt

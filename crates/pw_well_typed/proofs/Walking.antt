@@ -28,6 +28,11 @@ post_weaken (Done a) Q P h then = then a h
 post_weaken (Passing p rest) Q P h then = λ met. post_weaken rest Q P (h met) then
 post_weaken (Closed constraint token) Q P h then = tt
 
+pub post_both : {A : Type 0} (w : Walk A) (P Q : A → Type 0) → Post w P → Post w Q → Post w (λ a. P a × Q a)
+post_both (Done a) P Q h k = (h, k)
+post_both (Passing p rest) P Q h k = λ met. post_both rest P Q (h met) (k met)
+post_both (Closed constraint token) P Q h k = tt
+
 are_met : (p : Point) → IsMet p → AreMet p
 are_met [] met = tt
 are_met (c ∷ p) met = (All-head (λ (d : Cause). d.broken ≡ false) c p met, are_met p (All-tail (λ (d : Cause). d.broken ≡ false) c p met))

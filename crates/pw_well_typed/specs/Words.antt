@@ -1,0 +1,41 @@
+-- The numbers of a typed tree: each in an expression that is evaluated is one of 32 bits, as in each tree that the code makes.
+use Rattle.std.specs.Prelude.{Option, None, Some, List, [], ◌∷◌, All}
+use Rattle.pw_types.specs.TypedTrees.{Expression, Initialiser, Statement, Statements, NoStatement, OneStatement, Arms, NoArm, Arm, Otherwise, NoElse, Else, FunctionValue, ModuleValue}
+use Rattle.pw_types.specs.TypedTrees as T
+use Rattle.pw_well_typed.specs.Lawful.{AreWords}
+
+abbrev pub HasWords : Initialiser → Type 0
+HasWords (T.Value k e) = AreWords e
+HasWords (T.Bytes k hidden parts) = Unit {0}
+
+abbrev pub HasWordsIfAny : Option Expression → Type 0
+HasWordsIfAny None = Unit {0}
+HasWordsIfAny (Some e) = AreWords e
+
+abbrev mutual
+  pub WordsInStatement : Statement → Type 0
+  WordsInStatement (T.Empty t) = Unit {0}
+  WordsInStatement (T.Evaluate t e) = AreWords e
+  WordsInStatement (T.Block t first count initialisers items) = All HasWords initialisers × WordsInStatements items
+  WordsInStatement (T.If t arms otherwise) = WordsInArms arms × WordsInElse otherwise
+  WordsInStatement (T.While t e body) = AreWords e × WordsInStatement body
+  WordsInStatement (T.Do t body e) = AreWords e × WordsInStatement body
+  WordsInStatement (T.For t a b c body) = HasWordsIfAny a × HasWordsIfAny b × HasWordsIfAny c × WordsInStatement body
+  WordsInStatement (T.Switch t e cases default body) = AreWords e × WordsInStatement body
+  WordsInStatement (T.Label t labels body) = WordsInStatement body
+  WordsInStatement (T.Goto t n) = Unit {0}
+  WordsInStatement (T.Break t) = Unit {0}
+  WordsInStatement (T.Continue t) = Unit {0}
+  WordsInStatement (T.Return t e) = HasWordsIfAny e
+
+  pub WordsInStatements : Statements → Type 0
+  WordsInStatements NoStatement = Unit {0}
+  WordsInStatements (OneStatement s rest) = WordsInStatement s × WordsInStatements rest
+
+  pub WordsInArms : Arms → Type 0
+  WordsInArms NoArm = Unit {0}
+  WordsInArms (Arm t e body rest) = AreWords e × WordsInStatement body × WordsInArms rest
+
+  pub WordsInElse : Otherwise → Type 0
+  WordsInElse NoElse = Unit {0}
+  WordsInElse (Else s) = WordsInStatement s
