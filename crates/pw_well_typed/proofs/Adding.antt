@@ -57,14 +57,19 @@ pub record Final (t : State) (m : ModuleValue) (locals : List LocalValue) : Type
   pub owned : (k : ℕ) (h : HiddenObject) → slice_get t.made.hidden k ≡ Some h → IsOwned m k h.ty
   pub locals_are : Longer t.body.locals locals
 
+-- its names have their entities and locals, and it is in no operand of `sizeof`
+pub record IsReady (s : State) : Type 0 where
+  pub placed : ArePlaced s
+  pub counting : s.made.counting ≡ true
+
 -- what a later state denotes, an earlier one denotes
 abbrev pub Back : Type 0
-Back = (s t : State) (m : ModuleValue) → After s t → Names t m → Names s m
+Back = (s t : State) (m : ModuleValue) → After s t → IsReady s → Names t m → Names s m
 
-pub final_back : Back → {s t : State} {m : ModuleValue} {locals : List LocalValue} → After s t → Longer s.body.locals t.body.locals → Longer s.made.hidden t.made.hidden
+pub final_back : Back → {s t : State} {m : ModuleValue} {locals : List LocalValue} → After s t → IsReady s → Longer s.body.locals t.body.locals → Longer s.made.hidden t.made.hidden
     → Final t m locals → Final s m locals
-final_back back {s} {t} {m} {locals} a more hidden f = record {
-  names = back s t m a f.names;
+final_back back {s} {t} {m} {locals} a ready more hidden f = record {
+  names = back s t m a ready f.names;
   owned = λ k h e. f.owned k h (hidden k h e);
   locals_are = λ i x e. f.locals_are i x (more i x e);
 }
@@ -116,6 +121,9 @@ adds_grows {s} {t} g = record {
   hidden = g.hidden;
   steady = subst (λ b. b ≡ record s.body { locals = b.locals }) (sym g.body) refl;
 }
+
+pub ready_adds : {s t : State} → After s t → Adds s t → IsReady s → IsReady t
+ready_adds {s} {t} x a r = record { placed = a.placed r.placed; counting = a.counting ∙ r.counting }
 
 -- a rule that only grows, and then one that adds
 grows_first : {A B : Type 0} {s : State} (w : Walk (A × State)) (next : A × State → Walk (B × State)) (Good : State → A → Type 0) (P : B → State → Type 0) → Runs s w Good
@@ -312,7 +320,7 @@ Starts m locals first end (T.Bytes k hidden parts) =
 
 -- the initialisers of the locals that are declared from one state to another
 abbrev pub Declares : State → State → List Initialiser → Type 0
-Declares s t is = Back → (m : ModuleValue) (locals : List LocalValue) → Final t m locals → ArePlaced s → s.made.counting ≡ true → All HasWords is
+Declares s t is = Back → (m : ModuleValue) (locals : List LocalValue) → Final t m locals → IsReady s → All HasWords is
     → All (Starts m locals (length s.body.locals) (length t.body.locals)) is
 
 -- what changes with the local's type tells of no object and no function
@@ -396,7 +404,7 @@ local_adds s w b q None l h = (
     hidden = longer_same s.made.hidden;
     steady = refl;
   },
-  λ back m locals f p c words. All-nil (Starts m locals (length s.body.locals) (length (s.body.locals ++ local_of w q ∷ []))),
+  λ back m locals f ready words. All-nil (Starts m locals (length s.body.locals) (length (s.body.locals ++ local_of w q ∷ []))),
 )
 local_adds s w b q (Some i) l h =
     let at : State = local_entered s w.text (local_of w q) (is_register b.storage) in
@@ -415,8 +423,8 @@ local_adds s w b q (Some i) l h =
         hidden = g.1.hidden;
         steady = ap (with_locals (put_at (length s.body.locals) (local_of w r.0.0) r.1.body.locals)) g.1.body;
       },
-      λ back m locals f p c words. all_more (Makes r.1 (length s.body.locals) q r.0.0) HasWords (Starts m locals (length s.body.locals) (length (put_at (length s.body.locals) (local_of w r.0.0) r.1.body.locals)))
-          (λ x made has. completed_starts s r.1 w q r.0.0 (is_register b.storage) x p c g.1 m locals f made has) r.0.1 g.2 words,
+      λ back m locals f ready words. all_more (Makes r.1 (length s.body.locals) q r.0.0) HasWords (Starts m locals (length s.body.locals) (length (put_at (length s.body.locals) (local_of w r.0.0) r.1.body.locals)))
+          (λ x made has. completed_starts s r.1 w q r.0.0 (is_register b.storage) x ready.placed ready.counting g.1 m locals f made has) r.0.1 g.2 words,
     ))
 
 -- ---- what is declared
@@ -424,7 +432,7 @@ local_adds s w b q (Some i) l h =
 -- nothing is said of no initialisers
 none_declared : {s : State} {r : List Initialiser × State} → AddsNone s r → AddsLocals s r
 none_declared {s} {r} h =
-    (h.0, λ back m locals f p c words. subst (λ is. All (Starts m locals (length s.body.locals) (length r.1.body.locals)) is) (sym h.1) (All-nil (Starts m locals (length s.body.locals) (length r.1.body.locals))))
+    (h.0, λ back m locals f ready words. subst (λ is. All (Starts m locals (length s.body.locals) (length r.1.body.locals)) is) (sym h.1) (All-nil (Starts m locals (length s.body.locals) (length r.1.body.locals))))
 
 adds_none : (s : State) (w : Walk (List Initialiser × State)) → Post w (AddsNone s) → Post w (AddsLocals s)
 adds_none s w h = post_weaken w (AddsNone s) (AddsLocals s) h (λ r g. none_declared {s = s} {r = r} g)
@@ -443,8 +451,8 @@ declare_adds s ALocal w b spot q i l h f = local_adds s w b q i l (record { lawf
 -- ---- declarations
 
 declares_later : {s u t : State} (is : List Initialiser) → Grows s u → Declares u t is → Declares s t is
-declares_later {s} {u} {t} is g h back m locals f p c words =
-    subst (λ b. All (Starts m locals (length b.locals) (length t.body.locals)) is) g.body (h back m locals f (grows_placed g p) (g.counting ∙ c) words)
+declares_later {s} {u} {t} is g h back m locals f ready words =
+    subst (λ b. All (Starts m locals (length b.locals) (length t.body.locals)) is) g.body (h back m locals f (record { placed = grows_placed g ready.placed; counting = g.counting ∙ ready.counting }) words)
 
 -- rules that only grow, and then one that adds
 then_adds : {A : Type 0} {s : State} (w : Walk (A × State)) (next : A × State → Walk (List Initialiser × State)) (Good : State → A → Type 0) → Runs s w Good
@@ -480,7 +488,7 @@ declaring s w h k =
     post_weaken w (λ r. (IsLawful r.1 × After s r.1 × Unit {0}) × AddsLocals s r) (Declaring s) (post_both w (λ r. IsLawful r.1 × After s r.1 × Unit {0}) (AddsLocals s) h k)
     (λ r g. (g.0.0, g.0.1, g.1))
 
-longer_length : {X : Type 0} (xs ys : List X) → Longer xs ys → length xs ≤ length ys
+pub longer_length : {X : Type 0} (xs ys : List X) → Longer xs ys → length xs ≤ length ys
 longer_length [] ys h = omega arith
 longer_length (x ∷ xs) ys h =
     let k : length xs < length ys = get_within ys (length xs) _ (h (length xs) _ (slice_get-get_or (x ∷ xs) (length xs) x (omega arith))) in omega (arith, k)
@@ -510,15 +518,16 @@ back_all P [] ys h = h
 back_all P (x ∷ xs) ys h = back_all P xs ys (All-tail P x (xs ++ ys) h)
 
 -- one declaration and then others
-declares_both : (s r u : State) (is more : List Initialiser) → Adds s r → Declares s r is → After r u → Adds r u → Declares r u more → Declares s u (is ++ more)
-declares_both s r u is more a h x b k back m locals f p c words =
+declares_both : (s r u : State) (is more : List Initialiser) → After s r → Adds s r → Declares s r is → After r u → Adds r u → Declares r u more → Declares s u (is ++ more)
+declares_both s r u is more z a h x b k back m locals f ready words =
+    let next : IsReady r = ready_adds z a ready in
     let early : length s.body.locals ≤ length r.body.locals = longer_length s.body.locals r.body.locals a.locals in
     let late : length r.body.locals ≤ length u.body.locals = longer_length r.body.locals u.body.locals b.locals in
     All-append (Starts m locals (length s.body.locals) (length u.body.locals)) is more
     (wider m locals (length s.body.locals) (length s.body.locals) (length r.body.locals) (length u.body.locals) (omega arith) late is
-    (h back m locals (final_back back x b.locals b.hidden f) p c (front_all HasWords is more words)))
+    (h back m locals (final_back back x next b.locals b.hidden f) ready (front_all HasWords is more words)))
     (wider m locals (length s.body.locals) (length r.body.locals) (length u.body.locals) (length u.body.locals) early (omega arith) more
-    (k back m locals f (a.placed p) (a.counting ∙ c) (back_all HasWords is more words)))
+    (k back m locals f next (back_all HasWords is more words)))
 
 then_declares : (s : State) (w : Walk (List Initialiser × State)) (next : State → Walk (List Initialiser × State)) → Post w (Declaring s)
     → ((r : State) (is : List Initialiser) → IsLawful r → After s r → Post (next r) (Declaring r))
@@ -527,7 +536,7 @@ unfolding bind
 then_declares s w next h k =
     post_bind w (λ r. bind (next r.1) (λ u. Done (r.0 ++ u.0, u.1))) (Declaring s) (AddsLocals s) h
     (λ r g. post_bind (next r.1) (λ u. Done (r.0 ++ u.0, u.1)) (Declaring r.1) (AddsLocals s) (k r.1 r.0 g.0 g.1)
-    (λ u f. (adds_trans g.2.0 f.2.0, declares_both s r.1 u.1 r.0 u.0 g.2.0 g.2.1 f.1 f.2.0 f.2.1)))
+    (λ u f. (adds_trans g.2.0 f.2.0, declares_both s r.1 u.1 r.0 u.0 g.1 g.2.0 g.2.1 f.1 f.2.0 f.2.1)))
 
 init_declarators_adds : (ds : List InitDeclarator) (s : State) (b : Specified) → IsLawful s → GoodSpecified s b → Post (init_declarators_rule b ds s) (AddsLocals s)
 unfolding init_declarators_rule

@@ -1,6 +1,6 @@
 -- The labels of statements: each number stands once, the numbers of cases and defaults are those that were given since, and each
 -- named label is that of its name. Said by sums, which add up along the text.
-use Rattle.std.specs.Prelude.{ℕ, ◌≡◌, ◌<◌, ◌≤◌, ◌+◌, ◌-◌, ◌*◌, ◌%◌, ◌^◌, ◌==◌, if◌then◌else◌, Bool, true, false, not, ◌&&◌, nat_eq, nat_le, nat_lt, Option, None, Some, is_some, unwrap_or, option_map, option_to_list, List, [], ◌∷◌, ◌++◌, map, All, Contains, refl}
+use Rattle.std.specs.Prelude.{ℕ, ◌≡◌, ◌<◌, ◌≤◌, ◌+◌, ◌-◌, ◌*◌, ◌%◌, ◌^◌, ◌==◌, if◌then◌else◌, Bool, true, false, not, ◌&&◌, nat_eq, nat_le, nat_lt, Option, None, Some, is_some, unwrap_or, option_map, option_to_list, List, [], ◌∷◌, ◌++◌, length, map, All, Contains, refl}
 use Rattle.std.specs.List.{IsDistinct, list_any}
 use Rattle.std.specs.Option.{option_map_or}
 use Rattle.std.specs.Str.{bytes_eq}
@@ -18,7 +18,8 @@ use Rattle.pw_types.specs.declared.kind.IntKind.{IntKind}
 use Rattle.pw_types.specs.declared.kind.IntKind.TheVariants as K
 use Rattle.pw_types.specs.Labels.{labels_in, labels_among, labels_of_arms, labels_behind, cases_in, cases_among, cases_of_arms, cases_behind}
 use Rattle.pw_types.specs.TypeTrees.{CType, Int, QType}
-use Rattle.pw_types.specs.TypedTrees.{Expression, Statement, CaseValue}
+use Rattle.pw_types.specs.TypedTrees.{Expression, Statement, CaseValue, LocalValue, FunctionValue}
+use Rattle.pw_types.specs.TypedModules.{AreLabels}
 use Rattle.pw_types.specs.TypedTrees as T
 use Rattle.pw_types.specs.WellTyped.{IsNumber}
 use Rattle.pw_walk.specs.Walks.{Walk, Done, bind}
@@ -31,13 +32,18 @@ use Rattle.pw_rules.specs.Statements as R
 use Rattle.pw_rules.specs.Statements.{case_rule, new_label, inside_switch, default_rule, name_label_rule, label_rule, labels_rule, whole_rule, optional_rule, condition_rule, optional_condition, switch_rule, in_switch, in_loop, goto_rule, continue_rule, break_rule, return_rule, stmt_rule, alternative_rule, block_rule, stmts_rule, first_switch, change_switches, switch_kind, has_case, has_default, switch_of, tail_of, has_name, names_of_labels}
 use Rattle.pw_well_typed.specs.Lawful.{IsLawful}
 use Rattle.pw_well_typed.proofs.Walking.{Post, post_bind, post_weaken, post_both, truth}
+use Rattle.pw_well_typed.proofs.Lists.{Longer}
 use Rattle.pw_well_typed.proofs.Types.{no, not_true}
+use Rattle.pw_well_typed.proofs.Locals.{longer_same}
+use Rattle.pw_rules.specs.Functions.{numbers_below}
 use Rattle.pw_well_typed.proofs.Places.{word_kept}
 use Rattle.pw_well_typed.proofs.States.{Fine, FineValue, Runs, goes_on, Grows, grows_same, grows_trans}
 use Rattle.pw_well_typed.proofs.Operations.{value_runs}
 use Rattle.pw_well_typed.proofs.Phrases.{expr_post, valued}
+use Rattle.pw_well_typed.proofs.Changes.{deeper_lawful, left_lawful_alone}
 use Rattle.pw_well_typed.proofs.Keeping.{around}
-use Rattle.pw_well_typed.proofs.Counting.{one, times, times_of, below, times_append, below_more, contained, none_any, number_among, AreApart, apart_more, distinct_once, all_times, equal_itself}
+use Rattle.pw_well_typed.proofs.Adding.{decls_declare}
+use Rattle.pw_well_typed.proofs.Counting.{one, times, times_of, below, times_append, below_least, below_more, below_so, times_numbers, numbers_once, contained, none_any, number_among, AreApart, apart_more, distinct_once, all_times, equal_itself}
 
 -- ---- the switches around
 
@@ -72,9 +78,10 @@ pub record Steady (a b : BodyState) : Type 0 where
   pub kinds : first_kind b.switches ≡ first_kind a.switches
   pub sound : AreSound a.switches → AreSound b.switches
   pub apart : AreApart a.met → AreApart b.met
+  pub locals : Longer a.locals b.locals
 
 pub steady_same : (a : BodyState) → Steady a a
-steady_same a = record { names = refl; result = refl; loops = refl; nested = refl; outer = refl; kinds = refl; sound = λ h. h; apart = λ h. h }
+steady_same a = record { names = refl; result = refl; loops = refl; nested = refl; outer = refl; kinds = refl; sound = λ h. h; apart = λ h. h; locals = longer_same a.locals }
 
 pub steady_trans : {a b c : BodyState} → Steady a b → Steady b c → Steady a c
 steady_trans {a} {b} {c} x y = record {
@@ -86,6 +93,7 @@ steady_trans {a} {b} {c} x y = record {
   kinds = y.kinds ∙ x.kinds;
   sound = λ h. y.sound (x.sound h);
   apart = λ h. y.apart (x.apart h);
+  locals = λ i l e. y.locals i l (x.locals i l e);
 }
 
 -- how often the number is that of a name that was met
@@ -303,6 +311,7 @@ case_labelled s first e l nested = λ met.
         kinds = changed_kind (with_case c) (λ w. refl) s.body.switches;
         sound = case_value_sound s.body.switches (constant_value e) s.body.labels (truth _ met.0) (truth _ met.1.0);
         apart = λ h. h;
+        locals = longer_same s.body.locals;
       },
       record {
         met = sym (append-nil s.body.met);
@@ -331,6 +340,7 @@ default_labelled s t l = λ met. (
     kinds = changed_kind (with_default s.body.labels) (λ w. refl) s.body.switches;
     sound = default_sound s.body.switches s.body.labels;
     apart = λ h. h;
+    locals = longer_same s.body.locals;
   },
   record {
     met = sym (append-nil s.body.met);
@@ -356,6 +366,7 @@ name_labelled s w l = λ met. (
     kinds = refl;
     sound = λ h. h;
     apart = λ h. apart_more s.body.met w.text h (not_true _ (truth _ met.0));
+    locals = longer_same s.body.locals;
   },
   record {
     met = refl;
@@ -389,3 +400,330 @@ labels_labelled (x ∷ rest) s l =
     post_bind _ _ (λ r. Labelled s.body (names_of_labels (x ∷ [])) (r.0 ∷ []) [] r.1) (λ r. Labelled s.body (names_of_labels (x ∷ rest)) r.0 [] r.1) (label_labelled s x l) (λ r g.
     post_bind _ _ (λ u. Labelled r.1.body (names_of_labels rest) u.0 [] u.1) (λ u. Labelled s.body (names_of_labels (x ∷ rest)) u.0 [] u.1) (labels_labelled rest r.1 g.0) (λ u f.
     subst (λ n. Labelled s.body n (r.0 ∷ u.0) [] u.1) (names_first x rest) (labelled_then s.body r.1 u.1 (names_of_labels (x ∷ [])) (names_of_labels rest) (r.0 ∷ []) u.0 [] [] g f)))
+
+-- ---- switches and loops
+
+abbrev innermost_or : List SwitchState → SwitchState
+innermost_or ws = option_map_or (λ (w : SwitchState). w) (first_switch ws) (switch_of K.Int)
+
+-- what a switch is, whose value is as wide as a word
+pub record IsSwitchOf (kind : IntKind) (w : SwitchState) (body : Statement) : Type 0 where
+  pub cases : size_of_kind kind ≡ 4 → All (λ c. IsNumber (Int kind) c.value) w.cases × IsDistinct nat_eq (map (λ c. c.value) w.cases)
+  pub labels : All (λ c. Contains (labels_in body) c.label) w.cases
+  pub default_label : (n : ℕ) → w.default ≡ Some n → Contains (labels_in body) n
+
+met_grows : (a b : BodyState) (names : List (List ℕ)) → b.names ≡ a.names → b.met ≡ a.met ++ names → (l : ℕ) → met_times l a ≤ met_times l b
+met_grows a b names same met l =
+    let h : met_times l b ≡ times (λ name. nat_eq l (number_among a.names name)) (a.met ++ names) =
+    ap (λ (xs : List (List ℕ)). times (λ name. nat_eq l (number_among xs name)) b.met) same ∙ ap (times (λ name. nat_eq l (number_among a.names name))) met in
+    let k : times (λ name. nat_eq l (number_among a.names name)) (a.met ++ names) ≡ met_times l a + times (λ name. nat_eq l (number_among a.names name)) names =
+    times_append (λ name. nat_eq l (number_among a.names name)) a.met names in
+    omega (arith, h, k)
+
+all_labels : (P : ℕ → Type 0) (cs : List CaseValue) → ((l : ℕ) → 1 ≤ times_of l (map (λ c. c.label) cs) → P l) → All (λ c. P c.label) cs
+all_labels P [] h = All-nil (λ (c : CaseValue). P c.label)
+all_labels P (c ∷ cs) h =
+    All-cons (λ (x : CaseValue). P x.label) c cs
+    (h c.label (let k : one (nat_eq c.label c.label) ≡ 1 = ap one (equal_itself c.label) in omega (arith, k)))
+    (all_labels P cs (λ l k. h l (omega (arith, k))))
+
+default_times : (w : SwitchState) (n : ℕ) → w.default ≡ Some n → 1 ≤ times_of n (labels_of_switch w)
+default_times w n e =
+    let a : times_of n (labels_of_switch w) ≡ times_of n (map (λ (c : CaseValue). c.label) w.cases) + times_of n (option_to_list w.default) = times_append (nat_eq n) (map (λ (c : CaseValue). c.label) w.cases) (option_to_list w.default) in
+    let b : times_of n (option_to_list w.default) ≡ one (nat_eq n n) + 0 = ap (λ (o : Option ℕ). times_of n (option_to_list o)) e in
+    let c : one (nat_eq n n) ≡ 1 = ap one (equal_itself n) in
+    omega (arith, a, b, c)
+
+case_times : (w : SwitchState) (n : ℕ) → 1 ≤ times_of n (map (λ c. c.label) w.cases) → 1 ≤ times_of n (labels_of_switch w)
+case_times w n h =
+    let a : times_of n (labels_of_switch w) ≡ times_of n (map (λ (c : CaseValue). c.label) w.cases) + times_of n (option_to_list w.default) = times_append (nat_eq n) (map (λ (c : CaseValue). c.label) w.cases) (option_to_list w.default) in
+    omega (arith, a, h)
+
+-- the body of a switch, whose cases begin with it
+switch_is : (kind : IntKind) (a b : BodyState) (names : List (List ℕ)) (body : Statement) → Steady (record a { switches = switch_of kind ∷ a.switches }) b
+    → Labels (record a { switches = switch_of kind ∷ a.switches }) b names (labels_in body) (cases_in body) → (w : SwitchState) (rest : List SwitchState) → b.switches ≡ w ∷ rest → IsSwitchOf kind w body
+switch_is kind a b names body x y w rest e = record {
+  cases = λ four.
+      let same : w.kind ≡ kind = sym (ap first_kind e) ∙ x.kinds in
+      let s = subst AreSound e (x.sound (λ f. record { numbers = All-nil (λ (c : CaseValue). IsNumber (Int kind) c.value); apart = λ v. omega arith })) in
+      let c = s (ap size_of_kind same ∙ four) in
+      (subst (λ k. All (λ (z : CaseValue). IsNumber (Int k) z.value) w.cases) same c.numbers, distinct_once (map (λ (z : CaseValue). z.value) w.cases) c.apart);
+  labels = all_labels (Contains (labels_in body)) w.cases (λ l h. there l (case_times w l h));
+  default_label = λ n h. there n (default_times w n h);
+}
+  where
+    there : (l : ℕ) → 1 ≤ times_of l (labels_of_switch w) → Contains (labels_in body) l
+    there l h =
+        let p : times_of l (pending b.switches) ≡ times_of l (labels_of_switch w) = ap (λ ws. times_of l (pending ws)) e in
+        let n : times_of l (labels_in body) + below l a.labels + met_times l a ≡ below l b.labels + met_times l b = y.numbers l in
+        let u : times_of l (cases_in body) + times_of l (pending b.switches) + below l a.labels ≡ 0 + below l b.labels = y.uses l in
+        let m : met_times l a ≤ met_times l b = met_grows a b names x.names y.met l in
+        contained l (labels_in body) (omega (arith, p, n, u, m, h))
+
+-- behind the switch
+switch_left : (kind : IntKind) (a b : BodyState) → Steady (record a { switches = switch_of kind ∷ a.switches }) b → Steady a (record b { switches = tail_of b.switches })
+switch_left kind a b x = record {
+  names = x.names;
+  result = x.result;
+  loops = x.loops;
+  nested = ap is_nil x.outer;
+  outer = ap tail_of x.outer;
+  kinds = ap first_kind x.outer;
+  sound = λ h. subst AreSound (sym x.outer) h;
+  apart = x.apart;
+  locals = x.locals;
+}
+
+switch_labels : (kind : IntKind) (a b : BodyState) (names : List (List ℕ)) (labels cases : List ℕ) → Steady (record a { switches = switch_of kind ∷ a.switches }) b
+    → Labels (record a { switches = switch_of kind ∷ a.switches }) b names labels cases → (w : SwitchState) (rest : List SwitchState) → b.switches ≡ w ∷ rest
+    → Labels a (record b { switches = tail_of b.switches }) names labels (map (λ c. c.label) w.cases ++ (option_to_list w.default ++ cases))
+switch_labels kind a b names labels cases x y w rest e = record {
+  met = y.met;
+  numbers = y.numbers;
+  uses = λ l.
+      let p : times_of l (pending b.switches) ≡ times_of l (labels_of_switch w) = ap (λ ws. times_of l (pending ws)) e in
+      let q : times_of l (pending (tail_of b.switches)) ≡ times_of l (pending a.switches) = ap (λ ws. times_of l (pending ws)) x.outer in
+      let u : times_of l cases + times_of l (pending b.switches) + below l a.labels ≡ 0 + below l b.labels = y.uses l in
+      let s : times_of l (map (λ (c : CaseValue). c.label) w.cases ++ (option_to_list w.default ++ cases)) ≡ times_of l (labels_of_switch w ++ cases) =
+      ap (times_of l) (sym (append_assoc (map (λ (c : CaseValue). c.label) w.cases) (option_to_list w.default) cases)) in
+      let t : times_of l (labels_of_switch w ++ cases) ≡ times_of l (labels_of_switch w) + times_of l cases = times_append (nat_eq l) (labels_of_switch w) cases in
+      omega (arith, p, q, u, s, t);
+}
+
+abbrev IsLabelledSwitch : BodyState → IntKind → List (List ℕ) → (Statement × SwitchState) × State → Type 0
+IsLabelledSwitch a kind names r =
+    Labelled a names (labels_in r.0.0) (map (λ c. c.label) r.0.1.cases ++ (option_to_list r.0.1.default ++ cases_in r.0.0)) r.1 × IsSwitchOf kind r.0.1 r.0.0
+
+pub switch_labelled : (s : State) (e : Expression) (body : Rule Statement) (names : List (List ℕ)) → IsLawful s
+    → ((t : State) → IsLawful t → Post (body t) (λ r. Labelled t.body names (labels_in r.0) (cases_in r.0) r.1)) → Post (in_switch e body s) (IsLabelledSwitch s.body (kind_in (type_in e)) names)
+unfolding in_switch bind
+switch_labelled s e body names l h =
+    let kind : IntKind = kind_in (type_in e) in
+    let inside : State = R.enter_switch (kind_in (type_in e)) s in
+    post_bind (body (R.enter_switch (kind_in (type_in e)) s)) _ (λ r. Labelled (R.enter_switch (kind_in (type_in e)) s).body names (labels_in r.0) (cases_in r.0) r.1) (IsLabelledSwitch s.body (kind_in (type_in e)) names)
+    (h (R.enter_switch (kind_in (type_in e)) s) (around s s.made (R.enter_switch (kind_in (type_in e)) s).body l refl).0)
+    (λ r g. by r.0 r.1 g r.1.body.switches refl)
+  where
+    by : (x : Statement) (t : State) → Labelled (R.enter_switch (kind_in (type_in e)) s).body names (labels_in x) (cases_in x) t → (ws : List SwitchState) → t.body.switches ≡ ws
+        → IsLabelledSwitch s.body (kind_in (type_in e)) names ((x, innermost_or t.body.switches), R.leave_switch t)
+    by x t g [] f = no (sym (sym (ap is_nil f) ∙ g.1.nested))
+    by x t g (w ∷ rest) f =
+        subst (λ v. IsLabelledSwitch s.body (kind_in (type_in e)) names ((x, v), R.leave_switch t)) (sym (ap innermost_or f)) (
+          (
+            (around t t.made (R.leave_switch t).body g.0 refl).0,
+            switch_left (kind_in (type_in e)) s.body t.body g.1,
+            switch_labels (kind_in (type_in e)) s.body t.body names (labels_in x) (cases_in x) g.1 g.2 w rest f,
+          ),
+          switch_is (kind_in (type_in e)) s.body t.body names x g.1 g.2 w rest f,
+        )
+
+abbrev with_loop : State → State
+with_loop s = record s { body = record s.body { loops = s.body.loops + 1 } }
+
+loop_labelled : (s : State) (body : Rule Statement) (names : List (List ℕ)) → IsLawful s
+    → ((t : State) → IsLawful t → Post (body t) (λ r. Labelled t.body names (labels_in r.0) (cases_in r.0) r.1)) → Post (in_loop body s) (λ r. Labelled s.body names (labels_in r.0) (cases_in r.0) r.1)
+unfolding in_loop bind
+loop_labelled s body names l h =
+    post_bind (body (with_loop s)) _ (λ r. Labelled (with_loop s).body names (labels_in r.0) (cases_in r.0) r.1) (λ r. Labelled s.body names (labels_in r.0) (cases_in r.0) r.1)
+    (h (with_loop s) (around s s.made (with_loop s).body l refl).0)
+    (λ r g. (
+      (around r.1 r.1.made (record r.1.body { loops = r.1.body.loops - 1 }) g.0 refl).0,
+      record {
+        names = g.1.names;
+        result = g.1.result;
+        loops = let e : r.1.body.loops ≡ s.body.loops + 1 = g.1.loops in omega (arith, e);
+        nested = g.1.nested;
+        outer = g.1.outer;
+        kinds = g.1.kinds;
+        sound = g.1.sound;
+        apart = g.1.apart;
+        locals = g.1.locals;
+      },
+      record { met = g.2.met; numbers = g.2.numbers; uses = g.2.uses },
+    ))
+
+-- ---- declarations and blocks
+
+adds_steady : (a : BodyState) (locals : List LocalValue) → Longer a.locals locals → Steady a (record a { locals = locals }) × Labels a (record a { locals = locals }) [] [] []
+adds_steady a locals more = (
+  record { names = refl; result = refl; loops = refl; nested = refl; outer = refl; kinds = refl; sound = λ h. h; apart = λ h. h; locals = more },
+  record { met = sym (append-nil a.met); numbers = λ l. omega arith; uses = λ l. omega arith },
+)
+
+decls_labelled : (s : State) (ds : List Decl) → IsLawful s → Post (Rattle.pw_rules.specs.Declarations.decls_rule ds s) (λ r. Labelled s.body [] [] [] r.1)
+decls_labelled s ds l =
+    post_weaken _ _ (λ r. Labelled s.body [] [] [] r.1) (decls_declare ds s l) (λ r g.
+    let k = adds_steady s.body r.1.body.locals g.2.0.locals in
+    (g.0, subst (Steady s.body) (sym g.2.0.steady) k.0, subst (λ b. Labels s.body b [] [] []) (sym g.2.0.steady) k.1))
+
+scoped_labelled : (s : State) (inside : Rule Statement) (names : List (List ℕ)) → Post (inside (one_deeper s)) (λ r. Labelled s.body names (labels_in r.0) (cases_in r.0) r.1)
+    → Post (scoped inside s) (λ r. Labelled s.body names (labels_in r.0) (cases_in r.0) r.1)
+unfolding scoped bind
+scoped_labelled s inside names h =
+    post_bind (inside (one_deeper s)) _ (λ r. Labelled s.body names (labels_in r.0) (cases_in r.0) r.1) (λ r. Labelled s.body names (labels_in r.0) (cases_in r.0) r.1) h
+    (λ r g. (left_lawful_alone r.1 g.0, g.1, g.2))
+
+-- ---- simple statements
+
+asked_post : {A B : Type 0} (s : State) (a : A) (next : A × State → Walk (B × State)) (P : B × State → Type 0) → Post (next (a, s)) P → Post (bind (Done (a, s)) next) P
+unfolding bind
+asked_post s a next P h = h
+
+goto_labelled : (s : State) (t : ℕ) (w : Word) → IsLawful s → Post (goto_rule t w s) (λ r. Labelled s.body [] (labels_in r.0) (cases_in r.0) r.1)
+unfolding goto_rule bind
+goto_labelled s t w l = λ met. labelled_quiet s.body s l refl
+
+continue_labelled : (s : State) (t : ℕ) → IsLawful s → Post (continue_rule t s) (λ r. Labelled s.body [] (labels_in r.0) (cases_in r.0) r.1)
+unfolding continue_rule bind
+continue_labelled s t l = λ met. labelled_quiet s.body s l refl
+
+break_labelled : (s : State) (t : ℕ) → IsLawful s → Post (break_rule t s) (λ r. Labelled s.body [] (labels_in r.0) (cases_in r.0) r.1)
+unfolding break_rule bind
+break_labelled s t l = λ met. labelled_quiet s.body s l refl
+
+-- an arm before those behind it
+arms_labelled : (a : BodyState) (r u : State) (n1 n2 : List (List ℕ)) (body : Statement) (rest : R.Behind) → Labelled a n1 (labels_in body) (cases_in body) r
+    → Labelled r.body n2 (labels_of_arms rest.arms ++ labels_behind rest.otherwise) (cases_of_arms rest.arms ++ cases_behind rest.otherwise) u
+    → Labelled a (n1 ++ n2) ((labels_in body ++ labels_of_arms rest.arms) ++ labels_behind rest.otherwise) ((cases_in body ++ cases_of_arms rest.arms) ++ cases_behind rest.otherwise) u
+arms_labelled a r u n1 n2 body rest g f =
+    subst (λ n. Labelled a (n1 ++ n2) n ((cases_in body ++ cases_of_arms rest.arms) ++ cases_behind rest.otherwise) u) (sym (append_assoc (labels_in body) (labels_of_arms rest.arms) (labels_behind rest.otherwise)))
+    (subst (λ n. Labelled a (n1 ++ n2) (labels_in body ++ (labels_of_arms rest.arms ++ labels_behind rest.otherwise)) n u) (sym (append_assoc (cases_in body) (cases_of_arms rest.arms) (cases_behind rest.otherwise)))
+    (labelled_then a r u n1 n2 (labels_in body) (labels_of_arms rest.arms ++ labels_behind rest.otherwise) (cases_in body) (cases_of_arms rest.arms ++ cases_behind rest.otherwise) g f))
+
+-- ---- statements
+
+abbrev IsLabelled : BodyState → List (List ℕ) → Statement × State → Type 0
+IsLabelled a names r = Labelled a names (labels_in r.0) (cases_in r.0) r.1
+
+abbrev AreLabelled : BodyState → List (List ℕ) → T.Statements × State → Type 0
+AreLabelled a names r = Labelled a names (labels_among r.0) (cases_among r.0) r.1
+
+abbrev IsLabelledBehind : BodyState → List (List ℕ) → R.Behind × State → Type 0
+IsLabelledBehind a names r = Labelled a names (labels_of_arms r.0.arms ++ labels_behind r.0.otherwise) (cases_of_arms r.0.arms ++ cases_behind r.0.otherwise) r.1
+
+mutual
+  unfolding stmt_rule R.labels_in
+
+  pub stmt_labelled : (st : Stmt) (s : State) → IsLawful s → Post (stmt_rule st s) (IsLabelled s.body (R.labels_in st))
+  stmt_labelled (S.Compound b) s l = scoped_labelled s (block_rule b) (R.labels_in_block b) (block_labelled b (one_deeper s) (deeper_lawful s l))
+  stmt_labelled (S.Expression e) s l = value_then s e _ (IsLabelled s.body []) l (λ r m same. labelled_quiet s.body r.1 m same)
+  stmt_labelled (S.Empty t) s l = labelled_quiet s.body s l refl
+  stmt_labelled (S.Labeled ls st) s l =
+      post_bind _ _ (λ r. Labelled s.body (names_of_labels ls) r.0 [] r.1) (IsLabelled s.body (names_of_labels ls ++ R.labels_in st)) (labels_labelled ls s l) (λ r g.
+      post_bind _ _ (IsLabelled r.1.body (R.labels_in st)) (IsLabelled s.body (names_of_labels ls ++ R.labels_in st)) (stmt_labelled st r.1 g.0) (λ u f.
+      labelled_then s.body r.1 u.1 (names_of_labels ls) (R.labels_in st) r.0 (labels_in u.0) [] (cases_in u.0) g f))
+  stmt_labelled (S.If t c st a) s l =
+      post_bind _ _ (Quietly s) (IsLabelled s.body (R.labels_in st ++ R.labels_in_alternative a)) (condition_quiet s t c l) (λ q k.
+      post_bind _ _ (IsLabelled q.1.body (R.labels_in st)) (IsLabelled s.body (R.labels_in st ++ R.labels_in_alternative a)) (stmt_labelled st q.1 k.0) (λ r g.
+      post_bind _ _ (IsLabelledBehind r.1.body (R.labels_in_alternative a)) (IsLabelled s.body (R.labels_in st ++ R.labels_in_alternative a)) (alternative_labelled a r.1 g.0) (λ u f.
+      labelled_from s.body q.1.body u.1 _ _ _ k.1 (arms_labelled q.1.body r.1 u.1 (R.labels_in st) (R.labels_in_alternative a) r.0 u.0 g f))))
+  stmt_labelled (S.Switch t e st) s l =
+      post_bind _ _ (Quietly s) (IsLabelled s.body (R.labels_in st)) (switch_quiet s t e l) (λ q k.
+      post_bind _ _ (IsLabelledSwitch q.1.body (kind_in (type_in q.0)) (R.labels_in st)) (IsLabelled s.body (R.labels_in st)) (switch_labelled q.1 q.0 (stmt_rule st) (R.labels_in st) k.0 (λ v i. stmt_labelled st v i)) (λ r g.
+      labelled_from s.body q.1.body r.1 _ _ _ k.1 g.0))
+  stmt_labelled (S.While t e st) s l =
+      post_bind _ _ (Quietly s) (IsLabelled s.body (R.labels_in st)) (condition_quiet s t e l) (λ q k.
+      post_bind _ _ (IsLabelled q.1.body (R.labels_in st)) (IsLabelled s.body (R.labels_in st)) (loop_labelled q.1 (stmt_rule st) (R.labels_in st) k.0 (λ v i. stmt_labelled st v i)) (λ r g.
+      labelled_from s.body q.1.body r.1 _ _ _ k.1 g))
+  stmt_labelled (S.Do t st e) s l =
+      post_bind _ _ (IsLabelled s.body (R.labels_in st)) (IsLabelled s.body (R.labels_in st)) (loop_labelled s (stmt_rule st) (R.labels_in st) l (λ v i. stmt_labelled st v i)) (λ r g.
+      post_bind _ _ (Quietly r.1) (IsLabelled s.body (R.labels_in st)) (condition_quiet r.1 t e g.0) (λ u k.
+      (k.0, subst (Steady s.body) (sym k.1) g.1, subst (λ b. Labels s.body b (R.labels_in st) (labels_in r.0) (cases_in r.0)) (sym k.1) g.2)))
+  stmt_labelled (S.For t a b c st) s l =
+      post_bind _ _ (Quietly s) (IsLabelled s.body (R.labels_in st)) (optional_quiet s a l) (λ x h.
+      post_bind _ _ (Quietly x.1) (IsLabelled s.body (R.labels_in st)) (optional_condition_quiet x.1 t b h.0) (λ y i.
+      post_bind _ _ (Quietly y.1) (IsLabelled s.body (R.labels_in st)) (optional_quiet y.1 c i.0) (λ q k.
+      post_bind _ _ (IsLabelled q.1.body (R.labels_in st)) (IsLabelled s.body (R.labels_in st)) (loop_labelled q.1 (stmt_rule st) (R.labels_in st) k.0 (λ v j. stmt_labelled st v j)) (λ r g.
+      labelled_from s.body q.1.body r.1 _ _ _ (k.1 ∙ (i.1 ∙ h.1)) g))))
+  stmt_labelled (S.Goto t w) s l = goto_labelled s t w l
+  stmt_labelled (S.Continue t) s l = continue_labelled s t l
+  stmt_labelled (S.Break t) s l = break_labelled s t l
+  stmt_labelled (S.Return t e) s l =
+      post_weaken _ (λ r. Quietly s r × (labels_in r.0 ≡ []) × (cases_in r.0 ≡ [])) (IsLabelled s.body []) (return_quiet s t e l)
+      (λ r g. subst (λ n. Labelled s.body [] n (cases_in r.0) r.1) (sym g.1) (subst (λ n. Labelled s.body [] [] n r.1) (sym g.2) (labelled_quiet s.body r.1 g.0.0 g.0.1)))
+
+  alternative_labelled : (a : Alternative) (s : State) → IsLawful s → Post (alternative_rule a s) (IsLabelledBehind s.body (R.labels_in_alternative a))
+  alternative_labelled S.NoElse s l = labelled_quiet s.body s l refl
+  alternative_labelled (S.Otherwise st) s l = post_bind _ _ (IsLabelled s.body (R.labels_in st)) (IsLabelledBehind s.body (R.labels_in st)) (stmt_labelled st s l) (λ r g. g)
+  alternative_labelled (S.ElseIf t c st a) s l =
+      post_bind _ _ (Quietly s) (IsLabelledBehind s.body (R.labels_in st ++ R.labels_in_alternative a)) (condition_quiet s t c l) (λ q k.
+      post_bind _ _ (IsLabelled q.1.body (R.labels_in st)) (IsLabelledBehind s.body (R.labels_in st ++ R.labels_in_alternative a)) (stmt_labelled st q.1 k.0) (λ r g.
+      post_bind _ _ (IsLabelledBehind r.1.body (R.labels_in_alternative a)) (IsLabelledBehind s.body (R.labels_in st ++ R.labels_in_alternative a)) (alternative_labelled a r.1 g.0) (λ u f.
+      labelled_from s.body q.1.body u.1 _ _ _ k.1 (arms_labelled q.1.body r.1 u.1 (R.labels_in st) (R.labels_in_alternative a) r.0 u.0 g f))))
+
+  pub block_labelled : (b : Block) (s : State) → IsLawful s → Post (block_rule b s) (IsLabelled s.body (R.labels_in_block b))
+  block_labelled (S.Braced t ds ss) s l =
+      asked_post s _ _ (IsLabelled s.body (R.labels_in_list ss))
+      (post_bind _ _ (λ r. Labelled s.body [] [] [] r.1) (IsLabelled s.body (R.labels_in_list ss)) (decls_labelled s ds l) (λ r g.
+      asked_post r.1 _ _ (IsLabelled s.body (R.labels_in_list ss))
+      (post_bind _ _ (AreLabelled r.1.body (R.labels_in_list ss)) (IsLabelled s.body (R.labels_in_list ss)) (stmts_labelled ss r.1 g.0) (λ u f.
+      labelled_then s.body r.1 u.1 [] (R.labels_in_list ss) [] (labels_among u.0) [] (cases_among u.0) g f))))
+
+  stmts_labelled : (ss : Stmts) (s : State) → IsLawful s → Post (stmts_rule ss s) (AreLabelled s.body (R.labels_in_list ss))
+  stmts_labelled S.NoStmt s l = labelled_quiet s.body s l refl
+  stmts_labelled (S.Next st rest) s l =
+      post_bind _ _ (IsLabelled s.body (R.labels_in st)) (AreLabelled s.body (R.labels_in st ++ R.labels_in_list rest)) (stmt_labelled st s l) (λ r g.
+      post_bind _ _ (AreLabelled r.1.body (R.labels_in_list rest)) (AreLabelled s.body (R.labels_in st ++ R.labels_in_list rest)) (stmts_labelled rest r.1 g.0) (λ u f.
+      labelled_then s.body r.1 u.1 (R.labels_in st) (R.labels_in_list rest) (labels_in r.0) (labels_among u.0) (cases_in r.0) (cases_among u.0) g f))
+
+-- ---- the labels of a function (6.6.1)
+
+no_switches : (ws : List SwitchState) → is_nil ws ≡ true → ws ≡ []
+no_switches [] h = refl
+no_switches (w ∷ rest) h = no h
+
+-- where the function begins with its names, no label met and no switch around
+pub function_labels : (f : FunctionValue) (names : List (List ℕ)) (a b : BodyState) → a.names ≡ names → a.labels ≡ length names → a.met ≡ [] → a.switches ≡ [] → Steady a b
+    → Labels a b names (labels_in f.body) (cases_in f.body) → f.labels ≡ b.labels → f.named ≡ numbers_below (length b.names) → AreLabels f
+function_labels f names a b named labels met switches x y labels_are named_are = record {
+  once = distinct_once (labels_in f.body) (λ l. let h : times_of l (labels_in f.body) ≡ below l f.labels = stands l in let k : below l f.labels ≤ 1 = below_least l f.labels in omega (arith, h, k));
+  below = all_times (λ l. l < f.labels) (labels_in f.body) (λ l h. let k : times_of l (labels_in f.body) ≡ below l f.labels = stands l in below_so l f.labels (omega (arith, h, k)));
+  one_use = distinct_once (f.named ++ cases_in f.body) (λ l. let h : times_of l (f.named ++ cases_in f.body) ≡ below l f.labels = used l in let k : below l f.labels ≤ 1 = below_least l f.labels in omega (arith, h, k));
+  used = all_times (Contains (f.named ++ cases_in f.body)) (labels_in f.body) (λ l h.
+      let k : times_of l (labels_in f.body) ≡ below l f.labels = stands l in
+      let u : times_of l (f.named ++ cases_in f.body) ≡ below l f.labels = used l in
+      contained l (f.named ++ cases_in f.body) (omega (arith, h, k, u)));
+  there = all_times (Contains (labels_in f.body)) f.named (λ l h.
+      let k : times_of l (labels_in f.body) ≡ below l f.labels = stands l in
+      let u : times_of l (f.named ++ cases_in f.body) ≡ below l f.labels = used l in
+      let s : times_of l (f.named ++ cases_in f.body) ≡ times_of l f.named + times_of l (cases_in f.body) = times_append (nat_eq l) f.named (cases_in f.body) in
+      contained l (labels_in f.body) (omega (arith, h, k, u, s)));
+}
+  where
+    all_met : b.met ≡ names
+    all_met = y.met ∙ ap (λ xs. xs ++ names) met
+
+    apart : AreApart names
+    apart = subst AreApart all_met (x.apart (subst AreApart (sym met) (λ name. omega arith)))
+
+    none_before : (l : ℕ) → met_times l a ≡ 0
+    none_before l = ap (times (λ name. nat_eq l (number_among a.names name))) met
+
+    each_met : (l : ℕ) → met_times l b ≡ below l (length names)
+    each_met l =
+        ap (λ (xs : List (List ℕ)). times (λ name. nat_eq l (number_among xs name)) b.met) (x.names ∙ named)
+        ∙ (ap (times (λ name. nat_eq l (number_among names name))) all_met ∙ numbers_once names apart l)
+
+    stands : (l : ℕ) → times_of l (labels_in f.body) ≡ below l f.labels
+    stands l =
+        let n : times_of l (labels_in f.body) + below l a.labels + met_times l a ≡ below l b.labels + met_times l b = y.numbers l in
+        let m : met_times l a ≡ 0 = none_before l in
+        let e : met_times l b ≡ below l (length names) = each_met l in
+        let s : below l a.labels ≡ below l (length names) = ap (below l) labels in
+        let t : below l f.labels ≡ below l b.labels = ap (below l) labels_are in
+        omega (arith, n, m, e, s, t)
+
+    nothing_pending : (l : ℕ) → times_of l (pending b.switches) ≡ 0
+    nothing_pending l = ap (λ ws. times_of l (pending ws)) (no_switches b.switches (x.nested ∙ ap is_nil switches))
+
+    used : (l : ℕ) → times_of l (f.named ++ cases_in f.body) ≡ below l f.labels
+    used l =
+        let s : times_of l (f.named ++ cases_in f.body) ≡ times_of l f.named + times_of l (cases_in f.body) = times_append (nat_eq l) f.named (cases_in f.body) in
+        let n : times_of l f.named ≡ below l (length names) =
+        ap (times_of l) (named_are ∙ ap (λ (xs : List (List ℕ)). numbers_below (length xs)) (x.names ∙ named)) ∙ times_numbers l (length names) in
+        let u : times_of l (cases_in f.body) + times_of l (pending b.switches) + below l a.labels ≡ times_of l (pending a.switches) + below l b.labels = y.uses l in
+        let p : times_of l (pending b.switches) ≡ 0 = nothing_pending l in
+        let q : times_of l (pending a.switches) ≡ 0 = ap (λ ws. times_of l (pending ws)) switches in
+        let a0 : below l a.labels ≡ below l (length names) = ap (below l) labels in
+        let t : below l f.labels ≡ below l b.labels = ap (below l) labels_are in
+        omega (arith, s, n, u, p, q, a0, t)

@@ -22,6 +22,7 @@ pub mod Initialisers
 pub mod Declarations
 pub mod Adding
 pub mod LabelLaws
+pub mod FunctionTypes
 pub mod Statements
 pub mod Modules
 pub mod Laws
