@@ -1,6 +1,6 @@
 -- Declarations leave a lawful state.
 use Rattle.pw_well_typed.proofs.Declaring.{body_kept, hidden_kept, hidden_put, entity_becomes, plain_entered, static_entered, Linkable, linkable, declared_goes, GoodPlace, DeclaredHere, here_later, defined_scopes, defined_place, visible_before, tentative_after, object_after, initialised_after}
-use Rattle.pw_well_typed.proofs.Filling.{object_runs}
+use Rattle.pw_well_typed.proofs.Filling.{object_runs, runs_whatever}
 use Rattle.pw_well_typed.proofs.Locals.{place_of_new}
 use Rattle.pw_well_typed.proofs.Sound.{Sound, named_same}
 use Rattle.pw_well_typed.proofs.Composite.{Covers, covers_same, covers_trans}
@@ -37,7 +37,7 @@ use Rattle.pw_well_typed.proofs.Conversions.{no_function}
 use Rattle.pw_well_typed.proofs.Changes.{like_later}
 use Rattle.pw_well_typed.proofs.Leaves.{GoodType, GoodGathered, GoodSpecified, GoodDeclared, GoodReference, Fresh, specified_runs, built_runs, reference_by_runs, new_tag_runs, tag_here_lawful}
 use Rattle.pw_well_typed.proofs.Phrases.{specifiers_post, declarator_post}
-use Rattle.pw_well_typed.proofs.Initialisers.{Keeps, IsLawfully, lawful_stays, object_keeps, Stays, object_stays}
+use Rattle.pw_well_typed.proofs.Initialisers.{Keeps, IsLawfully, lawful_stays, object_keeps, Stays, object_stays, covers_length}
 use Rattle.pw_well_typed.proofs.Keeping.{after_same, after_trans, Kept, Goes, goes_by, of_runs, changed, asked, Anything, here_is, After, AfterBy, KeptBy, GoesBy, goes_between, after_grows, from_kept, kept_trans}
 
 completed_goes : (s : State) (w : Word) (q : QType) → IsLawful s → Goes s (completed_rule w q s) Anything
@@ -88,10 +88,10 @@ object_between : (p : Option Slot) (P : List RecordValue → QType → Type 0) �
     → GoesBy p p s (object_rule cx q i s) (λ t o. P t.types.records o.ty × Grows s t)
 object_between p P keep s cx q i l h =
     post_weaken (object_rule cx q i s)
-    (λ r. (IsLawful r.1 × Grows s r.1 × (is_by_bytes (type_of q) i ≡ false → Rattle.pw_well_typed.proofs.Filling.GivesValues s r.1 q r.0)) × (IsLawful r.1 × After s r.1 × P r.1.types.records r.0.ty))
+    (λ r. (IsLawful r.1 × Grows s r.1 × Unit {0}) × (IsLawful r.1 × After s r.1 × P r.1.types.records r.0.ty))
     (λ r. IsLawful r.1 × AfterBy p p s r.1 × (P r.1.types.records r.0.ty × Grows s r.1))
-    (post_both (object_rule cx q i s) (λ r. IsLawful r.1 × Grows s r.1 × (is_by_bytes (type_of q) i ≡ false → Rattle.pw_well_typed.proofs.Filling.GivesValues s r.1 q r.0)) (λ r. IsLawful r.1 × After s r.1 × P r.1.types.records r.0.ty)
-    (object_runs s cx q i l) (object_keeps P keep s cx q i l h))
+    (post_both (object_rule cx q i s) (λ r. IsLawful r.1 × Grows s r.1 × Unit {0}) (λ r. IsLawful r.1 × After s r.1 × P r.1.types.records r.0.ty)
+    (runs_whatever _ _ _ (object_runs s cx q i l)) (object_keeps P keep s cx q i l h))
     (λ r g. (g.0.0, after_grows g.0.1, (g.1.2, g.0.1)))
 
 -- its first bytes, and its type
@@ -115,7 +115,7 @@ defined_goes s w b spot q i l h object link =
     post_bind _ _ (λ r. IsLawful r.1 × AfterBy None (Some (Stored w s)) s r.1 × GoodPlace w.text q (place_for s w.text) r.1 r.0) (λ r. IsLawful r.1 × After s r.1 × Unit {0})
     (declared_goes (Some (Stored w s)) s w.text w.token b.tag (asking_of AGlobal b) q l h link (λ z none e f. refl)) (λ r g.
     let k : KeptBy (Some (Stored w s)) (Some (Stored w s)) r.1 (define_object r.0 r.1) =
-    object_after (Some (Stored w s)) (Some (Stored w s)) r.1 r.0 g.2.1.0 g.0 g.2.1.1 (g.2.1.3 ∙ object) (λ n e. inr e) in
+    object_after (Some (Stored w s)) (Some (Stored w s)) r.1 r.0 g.2.1.0 g.0 g.2.1.1 (g.2.1.3.function ∙ object) (λ n e. inr e) in
     let known : IsLawfully (define_object r.0 r.1).types.records q = lawful_later s.types.records (define_object r.0 r.1).types.records (after_trans g.1 k.1).extends (type_of q) h in
     done_then _ _ (λ r. IsLawful r.1 × After s r.1 × Unit {0})
     (post_bind _ _ (λ u. IsLawful u.1 × AfterBy (Some (Stored w s)) (Some (Stored w s)) (define_object r.0 r.1) u.1 × (IsLawfully u.1.types.records u.0.ty × Grows (define_object r.0 r.1) u.1)) (λ r. IsLawful r.1 × After s r.1 × Unit {0})
@@ -148,7 +148,7 @@ global_goes s w b spot q None l h link = by (is_tentative b) refl
         goes_between None (Some (Stored w s)) None (declare_linked w.text w.token b.tag (asking_of AGlobal b) q s) _ (GoodPlace w.text q (place_for s w.text)) Anything
         (declared_goes (Some (Stored w s)) s w.text w.token b.tag (asking_of AGlobal b) q l h.lawful link (λ z none i f. refl)) (λ r m x g.
         let k : KeptBy (Some (Stored w s)) None r.1 (define_tentatively r.0 r.1) =
-        tentative_after (Some (Stored w s)) None r.1 r.0 g.1.0 m g.1.1 (g.1.3 ∙ not_function (type_of q) h.object) (λ n e. inl (sym (g.0 ∙ named_same (some_same e)))) in (k.0, k.1, tt))
+        tentative_after (Some (Stored w s)) None r.1 r.0 g.1.0 m g.1.1 (g.1.3.function ∙ not_function (type_of q) h.object) (λ n e. inl (sym (g.0 ∙ named_same (some_same e)))) in (k.0, k.1, tt))
     by false e =
         goes_by (declare_linked w.text w.token b.tag (asking_of AGlobal b) q s) _ (GoodPlace w.text q (place_for s w.text)) Anything
         (declared_goes None s w.text w.token b.tag (asking_of AGlobal b) q l h.lawful link (λ z none i f. absurd (not_static b s w.text z none e i))) (λ r m x g. (m, after_same r.1, tt))
@@ -159,15 +159,6 @@ global_goes s w b spot q (Some i) l h link = defined_goes s w b spot q i l h.law
 -- what an initialiser's object is
 abbrev IsCompleted : QType → List RecordValue → QType → Type 0
 IsCompleted q r t = IsObjectLike r t × Covers t q
-
-covers_length : (n : ℕ) (q : QType) → Covers (with_length n q) q
-covers_length n (Qualified (Array (Qualified ty d w) None) c v) = record { stem = λ r. refl; array = refl; function = refl; length = λ k e. never_some e }
-covers_length n (Qualified (Array q (Some k)) c v) = covers_same (Qualified (Array q (Some k)) c v)
-covers_length n (Qualified Void c v) = covers_same (Qualified Void c v)
-covers_length n (Qualified (Int k) c v) = covers_same (Qualified (Int k) c v)
-covers_length n (Qualified (Pointer q) c v) = covers_same (Qualified (Pointer q) c v)
-covers_length n (Qualified (Function q ps) c v) = covers_same (Qualified (Function q ps) c v)
-covers_length n (Qualified (Record k) c v) = covers_same (Qualified (Record k) c v)
 
 completed_stays : (q : QType) → Stays (IsCompleted q)
 completed_stays q = record {
@@ -309,10 +300,10 @@ init_declarator_goes s b d l h =
     goes_by _ _ GoodType Anything
     (of_runs _ _ GoodType (built_runs r.1 (spot_of r.0.name b.first b.tag) r.0.derivations b.ty m k.0 (lawful_later s.types.records r.1.types.records x.extends (type_of b.ty) h))) (λ u n y j.
     asked u.1 (sort_of (is_file_scope u.1) b u.0) _ Anything
-    (goes_by _ _ Anything Anything
+    (goes_by _ _ (λ t a. AreMet (sort_point t (sort_of (is_file_scope u.1) b u.0) (spot_of r.0.name b.first b.tag) (name_of r.0) (is_some d.initializer) b u.0)) Anything
     (name_goes u.1 (sort_of (is_file_scope u.1) b u.0) (spot_of r.0.name b.first b.tag) (name_of r.0) (is_some d.initializer) b u.0 n) (λ v i z e.
-    declare_goes v.1 (sort_of (is_file_scope u.1) b u.0) (name_of r.0) b (spot_of r.0.name b.first b.tag) u.0 d.initializer i
-    (lawful_later u.1.types.records v.1.types.records z.extends (type_of u.0) j) (sort_fits (is_file_scope u.1) b u.0)))))
+    declare_goes v.1 (sort_of (is_file_scope u.1) b u.0) (name_of r.0) b (spot_of r.0.name b.first b.tag) u.0 d.initializer (is_some d.initializer) i
+    (lawful_later u.1.types.records v.1.types.records z.extends (type_of u.0) j) (sort_fits (is_file_scope u.1) b u.0) e))))
 
 pub init_declarators_goes : (ds : List InitDeclarator) (s : State) (b : Specified) → IsLawful s → GoodSpecified s b → Goes s (init_declarators_rule b ds s) Anything
 unfolding init_declarators_rule

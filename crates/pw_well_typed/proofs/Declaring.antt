@@ -25,20 +25,20 @@ use Rattle.pw_well_typed.proofs.Types.{no, extends_same, lawful_later}
 use Rattle.pw_well_typed.proofs.Composite.{Covers, covers_same, covers_trans, covers_first, covers_second, covers_composites, compatible_function, kind_composite}
 use Rattle.pw_well_typed.proofs.Sound.{Sound, Continues, continues_same, Onward, Filling, filling_same, Backed, AreBacked, Spelled, AreSpelled, IsFunctionNamed, AreFunctionsNamed, all_backed_on, all_spelled_on, backed_more, spelled_more, plain_backed, plain_spelled, IsPlain, is_stored, Marked, Relinked, slots_relinked, slots_stored, slots_refilled, named_same, HasSlot}
 use Rattle.pw_well_typed.proofs.Changes.{entered, entered_sound, hidden_sound}
-use Rattle.pw_well_typed.proofs.Keeping.{Knows, AfterBy, After, KeptBy, Kept, Changed, after_by, Becomes, becomes_same, Keeps, keeps_same, keeps_longer, around, knows_linked, knows_trans, linked_put, linked_added, entity_put, entered_kept, noted, noted_here, none_named, place_is, place_new, named_before, here_is, GoesBy, here_linked, tentative_kept, defined_kept, function_kept, initialised_kept, composite_lawful, keeps_trans, knows_so, after_same}
+use Rattle.pw_well_typed.proofs.Keeping.{Knows, AfterBy, After, KeptBy, Kept, Changed, after_by, Becomes, becomes_same, Keeps, keeps_same, keeps_longer, around_filling, knows_linked, knows_trans, linked_put, linked_added, entity_put, entered_kept, noted, noted_here, none_named, place_is, place_new, named_before, here_is, GoesBy, here_linked, tentative_kept, defined_kept, function_kept, initialised_kept, composite_lawful, keeps_trans, knows_so, after_same}
 
 -- ---- the function that is read, and objects without names
 
 pub body_kept : {p : Option Slot} (s : State) (body : BodyState) → IsLawful s → KeptBy p p s (record { types = s.types; scopes = s.scopes; made = s.made; body = body })
 body_kept {p} s body l =
-    let c = around s s.made body l refl (filling_same s.made.hidden) in (
+    let c = around_filling s s.made body l refl (filling_same s.made.hidden) in (
       c.0,
       after_by c.1 (λ h. keeps_same s.scopes.entities) (λ h. record { backed = h.backed; spelled = h.spelled; functions = h.functions; slots = h.slots }),
     )
 
 pub hidden_kept : {p : Option Slot} (s : State) (x : HiddenObject) → IsLawful s → KeptBy p p s (add_hidden x s)
 hidden_kept {p} s x l =
-    let c = around s (add_hidden x s).made s.body l refl (λ k y e. (y, get_append s.made.hidden (x ∷ []) k y e, covers_same y.ty)) in
+    let c = around_filling s (add_hidden x s).made s.body l refl (λ k y e. (y, get_append s.made.hidden (x ∷ []) k y e, covers_same y.ty)) in
     (c.0, after_by c.1 (λ h. keeps_same s.scopes.entities) (λ h. hidden_sound s x p h))
 
 filling_put : (place : ℕ) (x y : HiddenObject) (xs : List HiddenObject) → slice_get xs place ≡ Some y → Covers x.ty y.ty → Filling xs (put_at place x xs)
@@ -49,18 +49,22 @@ filling_put place x y xs at covers k z e = by (put_either place x xs k)
     by (inl h) = (x, h.1, subst (λ (w : HiddenObject). Covers x.ty w.ty) (some_same (sym at ∙ (ap (slice_get xs) (sym h.0) ∙ e))) covers)
     by (inr h) = (z, h ∙ e, covers_same z.ty)
 
+pub refilled_sound : (p : Option Slot) (s : State) (place : ℕ) (x y : HiddenObject) → slice_get s.made.hidden place ≡ Some y → Covers x.ty y.ty → Sound p s → Sound p (put_hidden place x s)
+refilled_sound p s place x y at covers h = record {
+  backed = all_backed_on s.types.linked s.types.linked s.made.hidden (put_at place x s.made.hidden) s.scopes.entities (λ n z e. (z, e, continues_same z))
+      (filling_put place x y s.made.hidden at covers) h.backed;
+  spelled = h.spelled;
+  functions = h.functions;
+  slots = slots_refilled p s.types.linked s.made.hidden s.made.slots place x h.slots;
+}
+
 -- an object without a name gets its first bytes, and its length
 pub hidden_put : {p : Option Slot} (s : State) (place : ℕ) (x y : HiddenObject) → IsLawful s → slice_get s.made.hidden place ≡ Some y → Covers x.ty y.ty → KeptBy p p s (put_hidden place x s)
 hidden_put {p} s place x y l at covers =
     let fill : Filling s.made.hidden (put_at place x s.made.hidden) = filling_put place x y s.made.hidden at covers in
-    let c = around s (put_hidden place x s).made s.body l refl fill in (
+    let c = around_filling s (put_hidden place x s).made s.body l refl fill in (
       c.0,
-      after_by c.1 (λ h. keeps_same s.scopes.entities) (λ h. record {
-        backed = all_backed_on s.types.linked s.types.linked s.made.hidden (put_at place x s.made.hidden) s.scopes.entities (λ n z e. (z, e, continues_same z)) fill h.backed;
-        spelled = h.spelled;
-        functions = h.functions;
-        slots = slots_refilled p s.types.linked s.made.hidden s.made.slots place x h.slots;
-      }),
+      after_by c.1 (λ h. keeps_same s.scopes.entities) (λ h. refilled_sound p s place x y at covers h),
     )
 
 -- ---- entities
@@ -133,7 +137,7 @@ pub record Linkable (s : State) (name : List ℕ) (ty : QType) : Type 0 where
   pub linked : (x : Entity) → entity_here s name ≡ Some x → is_linked x ≡ true
   pub alike : (l : LinkedName) → linked_before s name ≡ Some l → compatible l.ty ty ≡ true
 
-mapped : {A : Type 0} (f : A → Bool) (o : Option A) (x : A) → option_map_or f o true ≡ true → o ≡ Some x → f x ≡ true
+pub mapped : {A : Type 0} (f : A → Bool) (o : Option A) (x : A) → option_map_or f o true ≡ true → o ≡ Some x → f x ≡ true
 mapped f o x h e = sym (ap (λ p. option_map_or f p true) e) ∙ h
 
 pub linkable : (s : State) (name : List ℕ) (token : ℕ) (internal : Bool) (ty : QType) (rest : Point) → AreMet (linkage_point s name token internal ty ++ rest) → Linkable s name ty
@@ -142,7 +146,7 @@ linkable s name token internal ty rest met = record {
   alike = λ l e. mapped (λ (l : LinkedName). compatible l.ty ty) (linked_before s name) l (truth _ met.1.1.0) e;
 }
 
-visible_named : {X : Type 0} (xs : List (List ℕ × X)) (name : List ℕ) (x : X) → visible xs name ≡ Some x → (i : ℕ) × (slice_get xs i ≡ Some (name, x))
+pub visible_named : {X : Type 0} (xs : List (List ℕ × X)) (name : List ℕ) (x : X) → visible xs name ≡ Some x → (i : ℕ) × (slice_get xs i ≡ Some (name, x))
 visible_named [] name x e = never_some e
 visible_named {X} (entry ∷ later) name x e = by (visible later name) refl (bytes_eq name entry.0) refl e (visible_named later name x)
   where
@@ -251,7 +255,7 @@ again_after o p q from s name place ty l x a lawful known at named on composed m
     known_later : Knows s (note_here name place ty (put_linked place x s))
     known_later = knows_trans c.1 (noted_here (put_linked place x s) name place ty c.0 known).1
 
-    by_entry : (o : Option Entry) → entry_here s name ≡ o → AfterBy o q from (note_here name place ty (put_linked place x s))
+    by_entry : (w : Option Entry) → entry_here s name ≡ w → AfterBy o q from (note_here name place ty (put_linked place x s))
     by_entry None e =
         subst (λ w. AfterBy o q from (option_map_or (λ (e : Entry). put_entity e.place (Linked place (type_here ty (unwrap_or (entity_here s name) (TypeName ty)))) (put_linked place x s)) w (enter name (Linked place ty) (put_linked place x s))))
         (sym e)
@@ -348,9 +352,9 @@ new_after q s name place ty x lawful known none last named typed bare new linked
         never : Sound None s → ⊥
         never h = let y = here s name e h f in by_entity y.entity y.spelled (linked_only y.entity y.is_it)
 
--- at the place stands the name, of the same kind of type
+-- at the place stands the name, of which no less is known
 abbrev pub DeclaredAt : List ℕ → QType → State → ℕ → Type 0
-DeclaredAt name ty t place = (l : LinkedName) × (slice_get t.types.linked place ≡ Some l) × (l.name ≡ name) × (is_function (type_of l.ty) ≡ is_function (type_of ty))
+DeclaredAt name ty t place = (l : LinkedName) × (slice_get t.types.linked place ≡ Some l) × (l.name ≡ name) × Covers l.ty ty
 
 pub declared_after : (q : Option Slot) (s : State) (name : List ℕ) (internal : Bool) (ty : QType) (token : ℕ) (tag : Option ℕ) → IsLawful s → IsLawfulType s.types.records (type_of ty) → Linkable s name ty
     → (Sound None s → linked_before s name ≡ None → internal ≡ true → is_function (type_of ty) ≡ false → q ≡ Some (slot.Named (place_for s name)))
@@ -365,8 +369,8 @@ declared_after q s name internal ty token tag l h link new = by (linked_before s
         again_after None None q s s name (place_for s name) ty x (linked_again ty x) (after_same s) l h (place_is s name x e) (named_before s name x e)
         (record { name = refl; internal = refl; tentative = λ z. z; defined = λ z. z; covers = covers }) refl (λ z. refl, refl, covers.function) (link.alike x e) (λ z. link.linked) (λ n f. never_some f)
 
-noted_as : (s : State) (name : List ℕ) (internal : Bool) (ty : QType) (token : ℕ) (tag : Option ℕ) → Linkable s name ty → DeclaredAt name ty (note_linked name internal ty token tag s) (place_for s name)
-noted_as s name internal ty token tag link = by (linked_before s name) refl
+noted_as : (s : State) (name : List ℕ) (internal : Bool) (ty : QType) (token : ℕ) (tag : Option ℕ) → IsLawful s → IsLawfulType s.types.records (type_of ty) → Linkable s name ty → DeclaredAt name ty (note_linked name internal ty token tag s) (place_for s name)
+noted_as s name internal ty token tag l h link = by (linked_before s name) refl
   where
     by : (o : Option LinkedName) → linked_before s name ≡ o
         → DeclaredAt name ty (option_map_or (λ x. put_linked (place_for s name) (linked_again ty x) s) o (add_linked (linked_anew name internal ty token tag) s)) (place_for s name)
@@ -375,13 +379,13 @@ noted_as s name internal ty token tag link = by (linked_before s name) refl
       subst (λ k. slice_get (s.types.linked ++ linked_anew name internal ty token tag ∷ []) k ≡ Some (linked_anew name internal ty token tag)) (sym (place_new s name e))
           (get_last s.types.linked (linked_anew name internal ty token tag)),
       refl,
-      refl,
+      covers_same ty,
     )
     by (Some x) e = (
       linked_again ty x,
       put_same (place_for s name) (linked_again ty x) s.types.linked (get_within s.types.linked (place_for s name) x (place_is s name x e)),
       named_before s name x e,
-      kind_composite x.ty ty ∙ compatible_function x.ty ty (link.alike x e),
+      covers_second s.types.records x.ty ty (link.alike x e) (l.linked (place_for s name) x (place_is s name x e)) h,
     )
 
 -- the name is declared in the scope, with linkage
@@ -441,6 +445,13 @@ defined_place s place l at = by (has_slot s place)
 abbrev pub GoodPlace : List ℕ → QType → ℕ → State → ℕ → Type 0
 GoodPlace name q before t place = (place ≡ before) × DeclaredAt name q t place × DeclaredHere name t.scopes
 
+pub declared_lawful : (s : State) (name : List ℕ) (token : ℕ) (tag : Option ℕ) (asking : Asking) (q : QType) → IsLawful s → IsLawfulType s.types.records (type_of q)
+    → IsLawful (note_here name (place_for s name) q (note_linked name (is_internal_by s name asking) q token tag s))
+declared_lawful s name token tag asking q l h =
+    let a : Changed s (note_linked name (is_internal_by s name asking) q token tag s) = noted s name (is_internal_by s name asking) q token tag l h in
+    (noted_here (note_linked name (is_internal_by s name asking) q token tag s) name (place_for s name) q a.0
+    (lawful_later s.types.records (note_linked name (is_internal_by s name asking) q token tag s).types.records a.1.extends (type_of q) h)).0
+
 pub declared_goes : (o : Option Slot) (s : State) (name : List ℕ) (token : ℕ) (tag : Option ℕ) (asking : Asking) (q : QType) → IsLawful s → IsLawfulType s.types.records (type_of q) → Linkable s name q
     → (Sound None s → linked_before s name ≡ None → is_internal_by s name asking ≡ true → is_function (type_of q) ≡ false → o ≡ Some (slot.Named (place_for s name)))
     → GoesBy None o s (declare_linked name token tag asking q s) (GoodPlace name q (place_for s name))
@@ -450,7 +461,7 @@ declared_goes o s name token tag asking q l h link new =
     let b : Changed (note_linked name (is_internal_by s name asking) q token tag s) (note_here name (place_for s name) q (note_linked name (is_internal_by s name asking) q token tag s)) =
     noted_here (note_linked name (is_internal_by s name asking) q token tag s) name (place_for s name) q a.0
     (lawful_later s.types.records (note_linked name (is_internal_by s name asking) q token tag s).types.records a.1.extends (type_of q) h) in
-    let x : DeclaredAt name q (note_linked name (is_internal_by s name asking) q token tag s) (place_for s name) = noted_as s name (is_internal_by s name asking) q token tag link in (
+    let x : DeclaredAt name q (note_linked name (is_internal_by s name asking) q token tag s) (place_for s name) = noted_as s name (is_internal_by s name asking) q token tag l h link in (
       b.0,
       declared_after o s name (is_internal_by s name asking) q token tag l h link new,
       (refl, (x.0, ap (λ xs. slice_get xs (place_for s name)) (here_linked (note_linked name (is_internal_by s name asking) q token tag s) name (place_for s name) q) ∙ x.1, x.2, x.3), noted_declared (note_linked name (is_internal_by s name asking) q token tag s) name (place_for s name) q),

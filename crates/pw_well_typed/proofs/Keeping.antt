@@ -79,7 +79,7 @@ becomes_same (LocalObject n q register) = tt
 becomes_same (StaticObject n q) = (q, refl, covers_same q)
 becomes_same (Linked n q) = (q, refl, covers_same q)
 
-plain_stays : (f g : Entity) → IsPlain f → Becomes f g → IsPlain g
+pub plain_stays : (f g : Entity) → IsPlain f → Becomes f g → IsPlain g
 plain_stays (TypeName q) g h y = y
 plain_stays (EnumerationConstant n) g h y = y
 plain_stays (LocalObject n q register) g h y = y
@@ -114,6 +114,25 @@ after_by {p} {q} {s} {t} k e h = record { extends = k.extends; names = k.names; 
 pub knows_so : {p q : Option Slot} {s t : State} → AfterBy p q s t → Knows s t
 knows_so {p} {q} {s} {t} a = record { extends = a.extends; names = a.names; functions = a.functions; hidden = a.hidden }
 
+-- the same between external declarations, which define functions
+pub record Later (s t : State) : Type 0 where
+  pub extends : Extends s.types.records t.types.records
+  pub names : (place : ℕ) (x : LinkedName) → slice_get s.types.linked place ≡ Some x → StaysAt t place x
+  pub functions : Longer s.made.functions t.made.functions
+  pub hidden : Filling s.made.hidden t.made.hidden
+  pub entities : Sound None s → Keeps s.scopes.entities t.scopes.entities
+  pub sound : Sound None s → Sound None t
+
+pub later_after : {s t : State} → After s t → Later s t
+later_after {s} {t} a = record {
+  extends = a.extends;
+  names = a.names;
+  functions = λ i f e. subst (λ xs. slice_get xs i ≡ Some f) (sym a.functions) e;
+  hidden = a.hidden;
+  entities = a.entities;
+  sound = a.sound;
+}
+
 pub keeps_same : (xs : List Entity) → Keeps xs xs
 keeps_same xs = λ k e h. (e, h, becomes_same e)
 
@@ -125,6 +144,22 @@ keeps_trans xs ys zs a b = λ k e f.
     let x = a k e f in
     let y = b k x.0 x.1 in
     (y.0, y.1, becomes_trans e x.0 y.0 x.2 y.2)
+
+pub later_trans : {s t u : State} → Later s t → Later t u → Later s u
+later_trans {s} {t} {u} a b = record {
+  extends = extends_trans a.extends b.extends;
+  names = λ place x e.
+      let y = a.names place x e in
+      let z = b.names place y.0 y.1 in
+      (z.0, z.1, continues_trans y.2 z.2);
+  functions = λ i f e. b.functions i f (a.functions i f e);
+  hidden = λ k x e.
+      let y = a.hidden k x e in
+      let z = b.hidden k y.0 y.1 in
+      (z.0, z.1, covers_trans z.2 y.2);
+  entities = λ h. keeps_trans s.scopes.entities t.scopes.entities u.scopes.entities (a.entities h) (b.entities (a.sound h));
+  sound = λ h. b.sound (a.sound h);
+}
 
 pub after_same : {p : Option Slot} (s : State) → AfterBy p p s s
 after_same s = after_by (knows_same s) (λ h. keeps_same s.scopes.entities) (λ h. h)
@@ -190,8 +225,16 @@ granted_goes s constraint token p (Some a) l = λ met. (l, after_same s, tt)
 
 -- ---- what is made and the function that is read
 
-pub around : (s : State) (made : MadeState) (body : BodyState) → IsLawful s → made.functions ≡ s.made.functions → Filling s.made.hidden made.hidden → Changed s (record { types = s.types; scopes = s.scopes; made = made; body = body })
-around s made body l same fill = (
+-- the state stays lawful whatever was made
+pub around : (s : State) (made : MadeState) (body : BodyState) → IsLawful s → made.functions ≡ s.made.functions
+    → IsLawful (record { types = s.types; scopes = s.scopes; made = made; body = body }) × Unit {0}
+around s made body l same = (
+  record { contents = l.contents; begun = l.begun; counted = l.counted; entities = l.entities; tags = l.tags; linked = l.linked; laid = l.laid; apart = l.apart; depths = l.depths },
+  tt,
+)
+
+pub around_filling : (s : State) (made : MadeState) (body : BodyState) → IsLawful s → made.functions ≡ s.made.functions → Filling s.made.hidden made.hidden → Changed s (record { types = s.types; scopes = s.scopes; made = made; body = body })
+around_filling s made body l same fill = (
   record { contents = l.contents; begun = l.begun; counted = l.counted; entities = l.entities; tags = l.tags; linked = l.linked; laid = l.laid; apart = l.apart; depths = l.depths },
   knows_linked s (record { types = s.types; scopes = s.scopes; made = made; body = body }) (extends_same s.types.records) refl same fill,
 )
@@ -407,7 +450,7 @@ slot_kept s place l = by (has_slot s place)
   where
     by : (b : Bool) → Changed s (if b then s else add_slot (slot.Named place) s)
     by true = (l, knows_same s)
-    by false = around s (add_slot (slot.Named place) s).made s.body l refl (filling_same s.made.hidden)
+    by false = around_filling s (add_slot (slot.Named place) s).made s.body l refl (filling_same s.made.hidden)
 
 pub tentative_kept : (s : State) (place : ℕ) → IsLawful s → Changed s (define_tentatively place s)
 tentative_kept s place l =

@@ -24,5 +24,7 @@ pub mod Adding
 pub mod LabelLaws
 pub mod FunctionTypes
 pub mod Statements
+pub mod Ending
+pub mod Backward
 pub mod Modules
 pub mod Laws
