@@ -7,13 +7,13 @@ use Rattle.std.proofs.lemmas.Option.{slice_get-get_or}
 use Rattle.pw_tree.specs.Trees.{Word, Decl, InitDeclarator, Initializer, Init, Specifiers}
 use Rattle.pw_tree.specs.Trees as S
 use Rattle.pw_types.specs.declared.record.RecordKind.{RecordKind}
-use Rattle.pw_types.specs.TypeTrees.{QType, type_of, RecordValue}
+use Rattle.pw_types.specs.TypeTrees.{QType, type_of}
 use Rattle.pw_types.specs.TypedTrees.{Hidden, Expression, Initialiser, LocalValue, GlobalValue, ModuleValue}
 use Rattle.pw_types.specs.TypedTrees as T
-use Rattle.pw_types.specs.WellTyped.{IsTyped, IsDefined, IsFunctionType}
+use Rattle.pw_types.specs.WellTyped.{IsTyped, IsDefined}
 use Rattle.pw_walk.specs.Causes.{needs, DeclaresSomething}
 use Rattle.pw_walk.specs.Walks.{Walk, Done, bind, meets}
-use Rattle.pw_rules.specs.Declarations.{Sort, ATypedef, AFunction, AGlobal, AnExtern, AStatic, ALocal, sort_of, asking_of, name_rule, hidden_of, local_of, is_tentative, completed_rule, fitting_rule, context_of, global_rule, static_rule, put_local, first_part, bytes_rule, single_rule, local_initialiser, local_rule, declare_rule, name_of, place_here, init_declarator_rule, init_declarators_rule, storage_rule, declares_something, specified_rule, bare_rule, declarators_rule, decl_rule, decls_rule}
+use Rattle.pw_rules.specs.Declarations.{Sort, ATypedef, AFunction, AGlobal, AnExtern, AStatic, ALocal, sort_of, asking_of, name_rule, hidden_of, local_of, is_tentative, completed_rule, fitting_rule, context_of, global_rule, static_rule, first_part, bytes_rule, single_rule, local_initialiser, local_rule, declare_rule, name_of, place_here, init_declarator_rule, init_declarators_rule, storage_rule, declares_something, specified_rule, bare_rule, declarators_rule, decl_rule, decls_rule}
 use Rattle.pw_rules.specs.Derivations.{spot_of}
 use Rattle.pw_rules.specs.Initialisers.{object_rule, is_by_bytes}
 use Rattle.pw_rules.specs.Kinds.{is_const_object}
@@ -22,17 +22,17 @@ use Rattle.pw_rules.specs.Limits.{Spot}
 use Rattle.pw_rules.specs.Linkage.{Asking, AsBefore, declare_linked, note_linked, note_here, linked_before, place_for, linked_again, linked_anew, is_internal_by, type_here, change_linked, slot_for, has_slot, define_tentatively, define_object, initialise_linked, named_type}
 use Rattle.pw_rules.specs.Operands.{type_in}
 use Rattle.pw_rules.specs.SpecifierLists.{Specified, nothing_gathered, is_register}
-use Rattle.pw_rules.specs.States.{State, BodyState, LinkedName, Entity, TypeName, EnumerationConstant, LocalObject, StaticObject, Linked, HiddenObject, is_file_scope, add_hidden, put_hidden, add_local, put_entity, put_linked, add_linked, add_slot, enter, put_at, next_hidden, next_local, entry_here, entity_here, linked_at, tag_here}
+use Rattle.pw_rules.specs.States.{State, BodyState, LinkedName, Entity, TypeName, LocalObject, StaticObject, Linked, HiddenObject, is_file_scope, add_hidden, put_hidden, add_local, put_entity, put_linked, add_linked, add_slot, enter, put_at, next_hidden, next_local, entry_here, entity_here, linked_at, tag_here}
 use Rattle.pw_rules.specs.declared.names.Entry.{Entry}
 use Rattle.pw_rules.specs.declared.names.Slot.TheVariants as slot
 use Rattle.pw_rules.specs.declared.names.Tag.{Tag}
 use Rattle.pw_well_typed.specs.Lawful.{IsLawful, IsLawfulType, IsObjectLike, IsLawfulTag, Extends, StandsFor, Denotes}
 use Rattle.pw_well_typed.specs.Words.{HasWords}
 use Rattle.pw_well_typed.proofs.Walking.{Post, post_bind, post_weaken, post_both}
-use Rattle.pw_well_typed.proofs.Lists.{Longer, some_same, never_some, get_append, get_last, get_within, put_same, put_either, length_put}
+use Rattle.pw_well_typed.proofs.Lists.{Longer, some_same, get_append, get_last, get_within, put_same, put_either, length_put}
 use Rattle.pw_well_typed.proofs.Types.{lawful_later}
 use Rattle.pw_well_typed.proofs.States.{Runs, goes_on, Grows, grows_same, grows_trans, stands_back}
-use Rattle.pw_well_typed.proofs.Changes.{hidden_added, hidden_grows, entered, entered_grows}
+use Rattle.pw_well_typed.proofs.Changes.{hidden_added, hidden_grows, entered}
 use Rattle.pw_well_typed.proofs.Leaves.{Nothing, GoodType, GoodGathered, GoodSpecified, GoodDeclared, GoodReference, Fresh, specified_runs, built_runs, reference_by_runs, new_tag_runs, tag_here_lawful}
 use Rattle.pw_well_typed.proofs.Phrases.{specifiers_post, declarator_post}
 use Rattle.pw_well_typed.proofs.Locals.{ArePlaced, longer_put, longer_same, grows_placed, entered_placed, added_placed, put_placed, place_of_new, local_entered, local_completed, local_placed, completed_placed}
@@ -400,7 +400,7 @@ all_more : {X : Type 0} (P A Q : X → Type 0) → ((x : X) → P x → A x → 
 all_more P A Q f [] h k = All-nil Q
 all_more P A Q f (x ∷ xs) h k = All-cons Q x xs (f x (All-head P x xs h) (All-head A x xs k)) (all_more P A Q f xs (All-tail P x xs h) (All-tail A x xs k))
 
-abbrev AddsLocals : State → List Initialiser × State → Type 0
+abbrev pub AddsLocals : State → List Initialiser × State → Type 0
 AddsLocals s r = Adds s r.1 × Declares s r.1 r.0
 
 local_adds : (s : State) (w : Word) (b : Specified) (q : QType) (i : Option Initializer) → IsLawful s → IsObjectLike s.types.records q → Post (local_rule w b q i s) (AddsLocals s)
@@ -489,7 +489,7 @@ init_declarator_adds s b d l h =
     (named_adds u.1 (sort_of (is_file_scope u.1) b u.0) (spot_of r.0.name b.first b.tag) (name_of r.0) b u.0 d.initializer n j (sort_fits (is_file_scope u.1) b u.0))))
 
 -- what a declaration comes to: a lawful state, behind the one before, and what it adds
-abbrev Declaring : State → List Initialiser × State → Type 0
+abbrev pub Declaring : State → List Initialiser × State → Type 0
 Declaring s r = IsLawful r.1 × After s r.1 × AddsLocals s r
 
 declaring : (s : State) (w : Walk (List Initialiser × State)) → Goes s w Anything → Post w (AddsLocals s) → Post w (Declaring s)
@@ -557,7 +557,7 @@ init_declarators_adds (d ∷ rest) s b l h =
     let k = lawful_later s.types.records r.types.records x.extends (type_of b.ty) h in
     declaring r (init_declarators_rule b rest r) (init_declarators_goes rest r b m k) (init_declarators_adds rest r b m k))
 
-specified_all : (s : State) (specifiers : Specifiers) (first : ℕ) → IsLawful s → Runs s (specified_rule specifiers first s) GoodSpecified
+pub specified_all : (s : State) (specifiers : Specifiers) (first : ℕ) → IsLawful s → Runs s (specified_rule specifiers first s) GoodSpecified
 unfolding specified_rule
 specified_all s specifiers first l =
     goes_on _ _ GoodGathered GoodSpecified (specifiers_post specifiers first nothing_gathered s l tt) (λ r m g h. specified_runs r.1 first r.0 m h)

@@ -1,17 +1,16 @@
 -- Composite types: they have the shape of each of the types that they are made of, but for a length at the front.
-use Rattle.std.specs.Prelude.{ℕ, zero, suc, ◌≡◌, ◌<◌, ◌⊎◌, ◌+◌, ◌/◌, ◌%◌, ◌==◌, Bool, true, false, ◌||◌, ◌&&◌, nat_lt, Option, None, Some, is_some, List, [], ◌∷◌, ◌++◌, decimal, length, IsTrue, if◌then◌else◌, refl}
+use Rattle.std.specs.Prelude.{ℕ, zero, suc, ◌≡◌, ◌<◌, ◌⊎◌, ◌/◌, ◌%◌, ◌==◌, Bool, true, false, ◌||◌, ◌&&◌, Option, None, Some, List, [], ◌∷◌, ◌++◌, decimal, length, if◌then◌else◌, refl}
 use Rattle.std.specs.Char.{is_ascii_digit}
 use Rattle.std.specs.Fmt.{digits_onto, digit_glyph, digits}
 use Rattle.std.specs.List.{list_all}
 use Rattle.std.proofs.Common.{arith, ap, sym, subst, subst₂, ◌∙◌, inl, inr, append_assoc}
 use Rattle.std.proofs.lemmas.Bool.{eqb-true}
-use Rattle.pw_value.specs.Shapes.{Agree, IsDecimal, GivesLength, GivesDigits}
-use Rattle.pw_types.specs.Layouts.{layout_of, array_layout}
+use Rattle.pw_value.specs.Shapes.{Agree, IsDecimal, GivesLength}
 use Rattle.pw_types.specs.Shapes.{shape_of, length_text, letter_of, letters_of, signature_shape, marked, letter_of_kind}
 use Rattle.pw_types.specs.TypeTrees.{CType, Void, Int, Pointer, Array, Function, Record, QType, Qualified, QTypes, NoType, OneType, type_of, is_volatile, RecordValue}
 use Rattle.pw_types.specs.WellTyped.{IsComplete, AgreeInShape}
-use Rattle.pw_rules.specs.Compatible.{compatible, compatible_types, compatible_plainly, compatible_parameters, lengths_agree, composite, composite_type, composite_parameters, known_length}
-use Rattle.pw_rules.specs.Kinds.{same_kind, same_truth, is_array, is_function}
+use Rattle.pw_rules.specs.Compatible.{compatible, compatible_types, compatible_parameters, lengths_agree, composite, composite_type, composite_parameters}
+use Rattle.pw_rules.specs.Kinds.{same_truth, is_array, is_function}
 use Rattle.pw_well_typed.specs.Lawful.{IsLawfulType}
 use Rattle.pw_well_typed.proofs.Lists.{some_same, never_some}
 use Rattle.pw_well_typed.proofs.Types.{no, left, right, kinds_same, truths_same, element_complete}

@@ -2,7 +2,6 @@
 use Rattle.std.specs.Prelude.{ℕ, ◌≡◌, ◌⊎◌, ◌==◌, ◌||◌, Bool, true, false, not, Option, None, Some, is_some, option_and_then, List, [], ◌∷◌, ◌++◌, length, slice_get, if◌then◌else◌, refl}
 use Rattle.std.specs.Option.{option_map_or}
 use Rattle.std.proofs.Common.{ap, sym, subst, ◌∙◌, inl, inr}
-use Rattle.pw_literal.specs.Characters.{string_bytes_of}
 use Rattle.pw_tree.specs.FirstTokens.{first_of_expr}
 use Rattle.pw_tree.specs.Trees.{Word, Expr, Init, Inits}
 use Rattle.pw_tree.specs.Trees as S
@@ -11,15 +10,13 @@ use Rattle.pw_types.specs.TypedTrees.{Expression, LocalValue, ModuleValue}
 use Rattle.pw_types.specs.WellTyped.{IsTyped, IsScalar}
 use Rattle.pw_walk.specs.Causes.{InitialiserCount, needs, InitialiserForm}
 use Rattle.pw_walk.specs.Walks.{Walk, Done, bind, granted}
-use Rattle.pw_rules.specs.Initialisers.{Context, Filled, Frame, Cursor, Target, Reached, target_at, frame_of, one_on, nothing_filled, value_filled, string_filled, listed_value, listed_string, listed_expression, listed_by, listed_form, StringForm, IsString, IsOther, string_form, braced_string, braced_target, braced_by, fills_characters, words_in, meets_characters, takes_record, takes_braces, next_target, next_part, part_of, reach, reached, inits_rule, init_rule, Initialised, with_length, elements_given, passed, object_string, object_value, object_list, object_by, object_rule, is_by_bytes}
+use Rattle.pw_rules.specs.Initialisers.{Context, Filled, Frame, Cursor, Target, Reached, target_at, frame_of, one_on, nothing_filled, value_filled, string_filled, listed_value, listed_string, listed_expression, listed_by, listed_form, StringForm, IsString, IsOther, string_form, braced_string, braced_target, braced_by, fills_characters, words_in, meets_characters, takes_record, takes_braces, next_target, next_part, part_of, reach, reached, inits_rule, init_rule, Initialised, passed, object_string, object_value, object_list, object_by, object_rule, is_by_bytes}
 use Rattle.pw_rules.specs.Kinds.{is_character_array, is_scalar}
 use Rattle.pw_rules.specs.Leaves.{string_point}
 use Rattle.pw_rules.specs.Operands.{type_in, cast_to}
-use Rattle.pw_rules.specs.Operators.{value_rule}
-use Rattle.pw_rules.specs.Phrases.{expr_rule}
 use Rattle.pw_rules.specs.States.{State, Rule, records_in}
 use Rattle.pw_well_typed.specs.Lawful.{IsLawful, IsLawfulType, Denotes, AreWords}
-use Rattle.pw_well_typed.proofs.Walking.{Post, post_bind, post_weaken, truth}
+use Rattle.pw_well_typed.proofs.Walking.{post_bind, post_weaken, truth}
 use Rattle.pw_well_typed.proofs.Lists.{some_same, never_some, get_more}
 use Rattle.pw_well_typed.proofs.Types.{no, lawful_later}
 use Rattle.pw_well_typed.proofs.Conversions.{cast_type, cast_words, scalar_is}
@@ -170,9 +167,13 @@ listed_value_runs s cx cursor filled first e l f = by (reach (records_in s) (tak
         post_bind (value_filled cx first x.target e filled s) (λ more. Done ((passed (records_in s) x.cursor, more.0), more.1)) (λ r. IsLawful r.1 × Grows s r.1 × Fills s r.1 (type_of x.target.ty) filled r.0)
         (λ r. IsLawful r.1 × Grows s r.1 × Advances s r.1 cursor filled r.0)
         (filled_runs s cx first x.target e filled l f)
-        (λ r g. (g.0, g.1, λ ty scalar lawful at all.
-        let k = at_reached (records_in s) (takes_record e) cursor x ty scalar at h in
-        (k.1, subst (λ c. Fills s r.1 c filled r.0) k.0 g.2 lawful all)))
+        (λ r g. (
+          g.0,
+          g.1,
+          λ ty scalar lawful at all.
+              let k = at_reached (records_in s) (takes_record e) cursor x ty scalar at h in
+              (k.1, subst (λ c. Fills s r.1 c filled r.0) k.0 g.2 lawful all),
+        ))
 
 listed_string_runs : (s : State) (cx : Context) (cursor : Cursor) (filled : Filled) (ws : List Word) → IsLawful s → Runs s (listed_string cx cursor filled ws s) Nothing
 unfolding listed_string bind
@@ -236,8 +237,12 @@ mutual
       goes_on _ _ (λ t r. Advances s t cursor filled r) (λ t r. Advances s t cursor filled r) (init_runs i s cx cursor filled l) (λ r m g h.
       post_weaken (inits_rule rest cx r.0.0 r.0.1 r.1) (λ u. IsLawful u.1 × Grows r.1 u.1 × Advances r.1 u.1 r.0.0 r.0.1 u.0) (λ u. IsLawful u.1 × Grows r.1 u.1 × Advances s u.1 cursor filled u.0)
       (inits_runs rest r.1 cx r.0.0 r.0.1 m)
-      (λ u k. (k.0, k.1, λ ty scalar lawful at all.
-      let x = h ty scalar lawful at all in k.2 ty scalar (lawful_later s.types.records r.1.types.records g.extends ty lawful) x.0 x.1)))
+      (λ u k. (
+        k.0,
+        k.1,
+        λ ty scalar lawful at all.
+            let x = h ty scalar lawful at all in k.2 ty scalar (lawful_later s.types.records r.1.types.records g.extends ty lawful) x.0 x.1,
+      )))
 
   init_runs : (i : Init) (s : State) (cx : Context) (cursor : Cursor) (filled : Filled) → IsLawful s → Runs s (init_rule i cx cursor filled s) (λ t r. Advances s t cursor filled r)
   init_runs (S.Value e) s cx cursor filled l = listed_form_runs s cx cursor filled e (string_form e) l

@@ -1,23 +1,21 @@
 -- The labels of statements: each number stands once, the numbers of cases and defaults are those that were given since, and each
 -- named label is that of its name. Said by sums, which add up along the text.
-use Rattle.std.specs.Prelude.{ℕ, ◌≡◌, ◌<◌, ◌≤◌, ◌+◌, ◌-◌, ◌*◌, ◌%◌, ◌^◌, ◌==◌, if◌then◌else◌, Bool, true, false, not, ◌&&◌, nat_eq, nat_le, nat_lt, Option, None, Some, is_some, unwrap_or, option_map, option_to_list, List, [], ◌∷◌, ◌++◌, length, map, All, Contains, refl}
-use Rattle.std.specs.List.{IsDistinct, list_any}
+use Rattle.std.specs.Prelude.{ℕ, ◌≡◌, ◌<◌, ◌≤◌, ◌+◌, ◌-◌, ◌*◌, ◌%◌, ◌^◌, ◌==◌, if◌then◌else◌, Bool, true, false, not, ◌&&◌, nat_eq, nat_le, Option, None, Some, is_some, unwrap_or, option_map, option_to_list, List, [], ◌∷◌, ◌++◌, length, map, All, Contains, refl}
+use Rattle.std.specs.List.{IsDistinct}
 use Rattle.std.specs.Option.{option_map_or}
-use Rattle.std.specs.Str.{bytes_eq}
 use Rattle.std.proofs.Common.{arith, ap, sym, subst, ◌∙◌, append-nil, append_assoc}
 use Rattle.std.proofs.lemmas.Bool.{eqb-true, eqb-false}
 use Rattle.std.proofs.lemmas.Nat.{mod_below}
 use Rattle.std.proofs.lemmas.List.Elements.{All-nil, All-cons, All-append}
-use Rattle.pw_value.specs.declared.value.Value.TheVariants.{Num}
 use Rattle.pw_value.specs.Values.{extended}
 use Rattle.pw_tree.specs.FirstTokens.{first_of_expr}
 use Rattle.pw_tree.specs.Trees.{Word, Expr, Stmt, Alternative, Block, Stmts, Label, Decl}
 use Rattle.pw_tree.specs.Trees as S
-use Rattle.pw_types.specs.Conversions.{size_of_kind, is_signed_kind, converted}
+use Rattle.pw_types.specs.Conversions.{size_of_kind, is_signed_kind}
 use Rattle.pw_types.specs.declared.kind.IntKind.{IntKind}
 use Rattle.pw_types.specs.declared.kind.IntKind.TheVariants as K
 use Rattle.pw_types.specs.Labels.{labels_in, labels_among, labels_of_arms, labels_behind, cases_in, cases_among, cases_of_arms, cases_behind}
-use Rattle.pw_types.specs.TypeTrees.{CType, Int, QType}
+use Rattle.pw_types.specs.TypeTrees.{Int}
 use Rattle.pw_types.specs.TypedTrees.{Expression, Statement, CaseValue, LocalValue, FunctionValue}
 use Rattle.pw_types.specs.TypedModules.{AreLabels}
 use Rattle.pw_types.specs.TypedTrees as T
@@ -26,20 +24,20 @@ use Rattle.pw_walk.specs.Walks.{Walk, Done, bind}
 use Rattle.pw_rules.specs.Constants.{constant_value, convert_word}
 use Rattle.pw_rules.specs.Kinds.{kind_in}
 use Rattle.pw_rules.specs.Leaves.{is_nil}
-use Rattle.pw_rules.specs.Operands.{Operand, type_in}
-use Rattle.pw_rules.specs.States.{State, Rule, BodyState, SwitchState, one_deeper, leave_scope, scoped}
+use Rattle.pw_rules.specs.Operands.{type_in}
+use Rattle.pw_rules.specs.States.{State, Rule, BodyState, SwitchState, one_deeper, scoped}
 use Rattle.pw_rules.specs.Statements as R
 use Rattle.pw_rules.specs.Statements.{case_rule, new_label, inside_switch, default_rule, name_label_rule, label_rule, labels_rule, whole_rule, optional_rule, condition_rule, optional_condition, switch_rule, in_switch, in_loop, goto_rule, continue_rule, break_rule, return_rule, stmt_rule, alternative_rule, block_rule, stmts_rule, first_switch, change_switches, switch_kind, has_case, has_default, switch_of, tail_of, has_name, names_of_labels}
 use Rattle.pw_well_typed.specs.Lawful.{IsLawful}
-use Rattle.pw_well_typed.proofs.Walking.{Post, post_bind, post_weaken, post_both, truth}
+use Rattle.pw_well_typed.proofs.Walking.{Post, post_bind, post_weaken, truth}
 use Rattle.pw_well_typed.proofs.Lists.{Longer}
 use Rattle.pw_well_typed.proofs.Types.{no, not_true}
 use Rattle.pw_well_typed.proofs.Locals.{longer_same}
 use Rattle.pw_rules.specs.Functions.{numbers_below}
 use Rattle.pw_well_typed.proofs.Places.{word_kept}
-use Rattle.pw_well_typed.proofs.States.{Fine, FineValue, Runs, goes_on, Grows, grows_same, grows_trans}
+use Rattle.pw_well_typed.proofs.States.{Fine, FineValue, goes_on, Grows}
 use Rattle.pw_well_typed.proofs.Operations.{value_runs}
-use Rattle.pw_well_typed.proofs.Phrases.{expr_post, valued}
+use Rattle.pw_well_typed.proofs.Phrases.{expr_post}
 use Rattle.pw_well_typed.proofs.Changes.{deeper_lawful, left_lawful_alone}
 use Rattle.pw_well_typed.proofs.Keeping.{around}
 use Rattle.pw_well_typed.proofs.Adding.{decls_declare}
@@ -378,7 +376,7 @@ name_labelled s w l = λ met. (
   },
 )
 
-label_labelled : (s : State) (label : Label) → IsLawful s → Post (label_rule label s) (λ r. Labelled s.body (names_of_labels (label ∷ [])) (r.0 ∷ []) [] r.1)
+pub label_labelled : (s : State) (label : Label) → IsLawful s → Post (label_rule label s) (λ r. Labelled s.body (names_of_labels (label ∷ [])) (r.0 ∷ []) [] r.1)
 unfolding label_rule inside_switch bind
 label_labelled s (S.CaseLabel t e) l = λ met.
     value_then s e (λ x. case_rule (first_of_expr e) x.0 x.1) (λ r. Labelled s.body [] (r.0 ∷ []) [] r.1) l (λ x m same.
@@ -393,7 +391,7 @@ names_first (S.CaseLabel t e) rest = refl
 names_first (S.DefaultLabel t) rest = refl
 names_first (S.NameLabel w) rest = refl
 
-labels_labelled : (ls : List Label) (s : State) → IsLawful s → Post (labels_rule ls s) (λ r. Labelled s.body (names_of_labels ls) r.0 [] r.1)
+pub labels_labelled : (ls : List Label) (s : State) → IsLawful s → Post (labels_rule ls s) (λ r. Labelled s.body (names_of_labels ls) r.0 [] r.1)
 unfolding labels_rule
 labels_labelled [] s l = labelled_quiet s.body s l refl
 labels_labelled (x ∷ rest) s l =
@@ -490,7 +488,7 @@ switch_labels kind a b names labels cases x y w rest e = record {
       omega (arith, p, q, u, s, t);
 }
 
-abbrev IsLabelledSwitch : BodyState → IntKind → List (List ℕ) → (Statement × SwitchState) × State → Type 0
+abbrev pub IsLabelledSwitch : BodyState → IntKind → List (List ℕ) → (Statement × SwitchState) × State → Type 0
 IsLabelledSwitch a kind names r =
     Labelled a names (labels_in r.0.0) (map (λ c. c.label) r.0.1.cases ++ (option_to_list r.0.1.default ++ cases_in r.0.0)) r.1 × IsSwitchOf kind r.0.1 r.0.0
 
@@ -517,10 +515,10 @@ switch_labelled s e body names l h =
           switch_is (kind_in (type_in e)) s.body t.body names x g.1 g.2 w rest f,
         )
 
-abbrev with_loop : State → State
+abbrev pub with_loop : State → State
 with_loop s = record s { body = record s.body { loops = s.body.loops + 1 } }
 
-loop_labelled : (s : State) (body : Rule Statement) (names : List (List ℕ)) → IsLawful s
+pub loop_labelled : (s : State) (body : Rule Statement) (names : List (List ℕ)) → IsLawful s
     → ((t : State) → IsLawful t → Post (body t) (λ r. Labelled t.body names (labels_in r.0) (cases_in r.0) r.1)) → Post (in_loop body s) (λ r. Labelled s.body names (labels_in r.0) (cases_in r.0) r.1)
 unfolding in_loop bind
 loop_labelled s body names l h =
@@ -544,7 +542,7 @@ loop_labelled s body names l h =
 
 -- ---- declarations and blocks
 
-adds_steady : (a : BodyState) (locals : List LocalValue) → Longer a.locals locals → Steady a (record a { locals = locals }) × Labels a (record a { locals = locals }) [] [] []
+pub adds_steady : (a : BodyState) (locals : List LocalValue) → Longer a.locals locals → Steady a (record a { locals = locals }) × Labels a (record a { locals = locals }) [] [] []
 adds_steady a locals more = (
   record { names = refl; result = refl; loops = refl; nested = refl; outer = refl; kinds = refl; sound = λ h. h; apart = λ h. h; locals = more },
   record { met = sym (append-nil a.met); numbers = λ l. omega arith; uses = λ l. omega arith },
@@ -565,7 +563,7 @@ scoped_labelled s inside names h =
 
 -- ---- simple statements
 
-asked_post : {A B : Type 0} (s : State) (a : A) (next : A × State → Walk (B × State)) (P : B × State → Type 0) → Post (next (a, s)) P → Post (bind (Done (a, s)) next) P
+pub asked_post : {A B : Type 0} (s : State) (a : A) (next : A × State → Walk (B × State)) (P : B × State → Type 0) → Post (next (a, s)) P → Post (bind (Done (a, s)) next) P
 unfolding bind
 asked_post s a next P h = h
 
@@ -592,13 +590,13 @@ arms_labelled a r u n1 n2 body rest g f =
 
 -- ---- statements
 
-abbrev IsLabelled : BodyState → List (List ℕ) → Statement × State → Type 0
+abbrev pub IsLabelled : BodyState → List (List ℕ) → Statement × State → Type 0
 IsLabelled a names r = Labelled a names (labels_in r.0) (cases_in r.0) r.1
 
-abbrev AreLabelled : BodyState → List (List ℕ) → T.Statements × State → Type 0
+abbrev pub AreLabelled : BodyState → List (List ℕ) → T.Statements × State → Type 0
 AreLabelled a names r = Labelled a names (labels_among r.0) (cases_among r.0) r.1
 
-abbrev IsLabelledBehind : BodyState → List (List ℕ) → R.Behind × State → Type 0
+abbrev pub IsLabelledBehind : BodyState → List (List ℕ) → R.Behind × State → Type 0
 IsLabelledBehind a names r = Labelled a names (labels_of_arms r.0.arms ++ labels_behind r.0.otherwise) (cases_of_arms r.0.arms ++ cases_behind r.0.otherwise) r.1
 
 mutual
@@ -642,7 +640,7 @@ mutual
       post_weaken _ (λ r. Quietly s r × (labels_in r.0 ≡ []) × (cases_in r.0 ≡ [])) (IsLabelled s.body []) (return_quiet s t e l)
       (λ r g. subst (λ n. Labelled s.body [] n (cases_in r.0) r.1) (sym g.1) (subst (λ n. Labelled s.body [] [] n r.1) (sym g.2) (labelled_quiet s.body r.1 g.0.0 g.0.1)))
 
-  alternative_labelled : (a : Alternative) (s : State) → IsLawful s → Post (alternative_rule a s) (IsLabelledBehind s.body (R.labels_in_alternative a))
+  pub alternative_labelled : (a : Alternative) (s : State) → IsLawful s → Post (alternative_rule a s) (IsLabelledBehind s.body (R.labels_in_alternative a))
   alternative_labelled S.NoElse s l = labelled_quiet s.body s l refl
   alternative_labelled (S.Otherwise st) s l = post_bind _ _ (IsLabelled s.body (R.labels_in st)) (IsLabelledBehind s.body (R.labels_in st)) (stmt_labelled st s l) (λ r g. g)
   alternative_labelled (S.ElseIf t c st a) s l =
@@ -659,7 +657,7 @@ mutual
       (post_bind _ _ (AreLabelled r.1.body (R.labels_in_list ss)) (IsLabelled s.body (R.labels_in_list ss)) (stmts_labelled ss r.1 g.0) (λ u f.
       labelled_then s.body r.1 u.1 [] (R.labels_in_list ss) [] (labels_among u.0) [] (cases_among u.0) g f))))
 
-  stmts_labelled : (ss : Stmts) (s : State) → IsLawful s → Post (stmts_rule ss s) (AreLabelled s.body (R.labels_in_list ss))
+  pub stmts_labelled : (ss : Stmts) (s : State) → IsLawful s → Post (stmts_rule ss s) (AreLabelled s.body (R.labels_in_list ss))
   stmts_labelled S.NoStmt s l = labelled_quiet s.body s l refl
   stmts_labelled (S.Next st rest) s l =
       post_bind _ _ (IsLabelled s.body (R.labels_in st)) (AreLabelled s.body (R.labels_in st ++ R.labels_in_list rest)) (stmt_labelled st s l) (λ r g.

@@ -23,6 +23,8 @@ pub mod Declarations
 pub mod Adding
 pub mod LabelLaws
 pub mod FunctionTypes
+pub mod StatementTypes
+pub mod FunctionLaws
 pub mod Statements
 pub mod Ending
 pub mod Backward

@@ -1,17 +1,16 @@
 -- The parameters and locals in scope: each has its type at its place among the function's locals.
-use Rattle.std.specs.Prelude.{ℕ, ◌≡◌, ◌<◌, ◌⊎◌, ◌==◌, Bool, true, false, Option, None, Some, option_and_then, List, [], ◌∷◌, ◌++◌, length, slice_get, if◌then◌else◌, nat_lt, refl}
+use Rattle.std.specs.Prelude.{ℕ, ◌≡◌, ◌<◌, ◌⊎◌, Bool, None, Some, option_and_then, List, [], ◌∷◌, ◌++◌, length, slice_get, if◌then◌else◌, nat_lt, refl}
 use Rattle.std.specs.Option.{option_map_or, option_or}
 use Rattle.std.specs.Str.{bytes_eq}
 use Rattle.std.proofs.Common.{arith, ap, sym, subst, ◌∙◌, inl, inr}
 use Rattle.pw_scope.specs.Visible.{visible}
-use Rattle.pw_types.specs.TypeTrees.{QType}
 use Rattle.pw_types.specs.TypedTrees.{LocalValue}
 use Rattle.pw_rules.specs.Declarations.{put_local, place_here}
-use Rattle.pw_rules.specs.States.{State, Entity, TypeName, EnumerationConstant, LocalObject, StaticObject, Linked, enter, put_entity, put_at, add_local, one_deeper, leave_scope, if_here}
+use Rattle.pw_rules.specs.States.{State, Entity, TypeName, EnumerationConstant, LocalObject, StaticObject, Linked, enter, put_entity, put_at, add_local, leave_scope, if_here}
 use Rattle.pw_rules.specs.declared.names.Entry.{Entry}
 use Rattle.pw_well_typed.specs.Lawful.{HasLocal}
-use Rattle.pw_well_typed.proofs.Lists.{Longer, some_same, never_some, get_append, get_either, get_more, get_last, get_within, get_filter, put_either, put_same}
-use Rattle.pw_well_typed.proofs.States.{GrowsBy, Grows, IsConstant, HasEntity}
+use Rattle.pw_well_typed.proofs.Lists.{Longer, get_append, get_either, get_more, get_last, get_within, get_filter, put_either, put_same}
+use Rattle.pw_well_typed.proofs.States.{Grows, IsConstant, HasEntity}
 use Rattle.pw_well_typed.proofs.Counting.{named_itself, equal_itself}
 
 -- a local of the entity's type stands at its place
@@ -142,9 +141,12 @@ completed_placed s u name l new register p g i e h =
         or (inr k) = (y, k ∙ f, good)
 
     newest : (length s.scopes.entities ≡ e.1.place) → HasEntity (IsPlaced (put_at (length s.body.locals) new u.body.locals)) (local_completed s (length s.scopes.entities) new register u) e.1.place
-    newest same =
-        (x, subst (λ k. slice_get (put_at (length s.scopes.entities) x u.scopes.entities) k ≡ Some x) same
-        (put_same (length s.scopes.entities) x u.scopes.entities (get_within u.scopes.entities (length s.scopes.entities) (LocalObject (length s.body.locals) l.ty register) there)), placed)
+    newest same = (
+      x,
+      subst (λ k. slice_get (put_at (length s.scopes.entities) x u.scopes.entities) k ≡ Some x) same
+          (put_same (length s.scopes.entities) x u.scopes.entities (get_within u.scopes.entities (length s.scopes.entities) (LocalObject (length s.body.locals) l.ty register) there)),
+      placed,
+    )
 
     before : (slice_get s.scopes.ordinary i ≡ Some e) ⊎ ((i ≡ length s.scopes.ordinary) × ((name, record { place = length s.scopes.entities; depth = s.scopes.depth }) ≡ e))
         → HasEntity (IsPlaced (put_at (length s.body.locals) new u.body.locals)) (local_completed s (length s.scopes.entities) new register u) e.1.place

@@ -44,13 +44,22 @@ use Rattle.pw_well_typed.proofs.Keeping.{After, after_same, after_trans, Kept, G
 
 -- ---- functions
 
-good_bindings : (s : State) (o : Option Bindings) → GoodIfAny s.types.records s.scopes.entities o → GoodBindings s.types.records s.scopes.entities (unwrap_or o no_bindings)
+<<<<<<< HEAD
+pub good_bindings : (s : State) (o : Option Bindings) → GoodIfAny s.types.records s.scopes.entities o → GoodBindings s.types.records s.scopes.entities (unwrap_or o no_bindings)
 good_bindings s None h = record { scalars = tt; tags = λ i t e. never_some e; plain = λ i t e. never_some e }
 good_bindings s (Some b) h = h
 
 -- the body is entered some time behind its declarator
-body_entered : (v s : State) (q : QType) (b : Bindings) (names : List (List ℕ)) → After v s → IsLawful s → GoodBindings v.types.records v.scopes.entities b → Kept v (enter_body q b names s)
+pub body_entered : (v s : State) (q : QType) (b : Bindings) (names : List (List ℕ)) → After v s → IsLawful s → GoodBindings v.types.records v.scopes.entities b → Kept v (enter_body q b names s)
 body_entered v s q b names a l h = (
+=======
+pub good_bindings : (s : State) (o : Option Bindings) → GoodIfAny s.types.records o → GoodBindings s.types.records (unwrap_or o no_bindings)
+good_bindings s None h = record { scalars = tt; tags = λ i t e. (grind arith) }
+good_bindings s (Some b) h = h
+
+pub body_entered : (s : State) (q : QType) (b : Bindings) (names : List (List ℕ)) → IsLawful s → GoodBindings s.types.records b → Kept s (enter_body q b names s)
+body_entered s q b names l h = (
+>>>>>>> 35e82def24c24cd4cdbcb6a5312ef91eb2763d39
   record {
     contents = l.contents;
     begun = l.begun;

@@ -43,7 +43,7 @@ label_goes s (S.CaseLabel t e) l =
 label_goes s (S.DefaultLabel t) l = default_goes s t l
 label_goes s (S.NameLabel w) l = name_label_goes s w l
 
-labels_goes : (ls : List Label) (s : State) → IsLawful s → Goes s (labels_rule ls s) Anything
+pub labels_goes : (ls : List Label) (s : State) → IsLawful s → Goes s (labels_rule ls s) Anything
 unfolding labels_rule
 labels_goes [] s l = (l, after_same s, tt)
 labels_goes (x ∷ rest) s l =
@@ -73,13 +73,13 @@ switch_goes : (s : State) (t : ℕ) (e : Expr) → IsLawful s → Goes s (switch
 unfolding switch_rule bind
 switch_goes s t e l = goes_by (whole_rule e s) _ FineValue Anything (whole_goes s e l) (λ r m x f met. (m, after_same r.1, tt))
 
-in_switch_goes : (s : State) (e : Expression) (body : Rule Statement) → IsLawful s → ((t : State) → IsLawful t → Goes t (body t) Anything) → Goes s (in_switch e body s) Anything
+pub in_switch_goes : (s : State) (e : Expression) (body : Rule Statement) → IsLawful s → ((t : State) → IsLawful t → Goes t (body t) Anything) → Goes s (in_switch e body s) Anything
 unfolding in_switch bind
 in_switch_goes s e body l h =
     let a = body_kept s _ l in
     from_kept _ Anything a (goes_by (body _) _ Anything Anything (h _ a.0) (λ r m x f. let b = body_kept r.1 _ m in (b.0, b.1, tt)))
 
-in_loop_goes : (s : State) (body : Rule Statement) → IsLawful s → ((t : State) → IsLawful t → Goes t (body t) Anything) → Goes s (in_loop body s) Anything
+pub in_loop_goes : (s : State) (body : Rule Statement) → IsLawful s → ((t : State) → IsLawful t → Goes t (body t) Anything) → Goes s (in_loop body s) Anything
 unfolding in_loop bind
 in_loop_goes s body l h =
     let a = body_kept s _ l in
@@ -107,7 +107,7 @@ return_goes s t (Some e) l = goes_by (whole_rule e s) _ FineValue Anything (whol
 mutual
   unfolding stmt_rule
 
-  stmt_goes : (st : Stmt) (s : State) → IsLawful s → Goes s (stmt_rule st s) Anything
+  pub stmt_goes : (st : Stmt) (s : State) → IsLawful s → Goes s (stmt_rule st s) Anything
   stmt_goes (S.Compound b) s l = scoped_goes s (block_rule b) l (block_goes b (one_deeper s) (deeper_lawful s l))
   stmt_goes (S.Expression e) s l = value_goes s e _ Anything l (λ r m x f. (m, after_same r.1, tt))
   stmt_goes (S.Empty t) s l = (l, after_same s, tt)
@@ -137,7 +137,7 @@ mutual
   stmt_goes (S.Break t) s l = break_goes s t l
   stmt_goes (S.Return t e) s l = return_goes s t e l
 
-  alternative_goes : (a : Alternative) (s : State) → IsLawful s → Goes s (alternative_rule a s) Anything
+  pub alternative_goes : (a : Alternative) (s : State) → IsLawful s → Goes s (alternative_rule a s) Anything
   alternative_goes S.NoElse s l = (l, after_same s, tt)
   alternative_goes (S.Otherwise st) s l = goes_by _ _ Anything Anything (stmt_goes st s l) (λ r m x h. (m, after_same r.1, tt))
   alternative_goes (S.ElseIf t c st a) s l =
@@ -152,7 +152,7 @@ mutual
       asked r.1 _ _ Anything
       (goes_by _ _ Anything Anything (stmts_goes ss r.1 m) (λ u n y k. (n, after_same u.1, tt)))))
 
-  stmts_goes : (ss : Stmts) (s : State) → IsLawful s → Goes s (stmts_rule ss s) Anything
+  pub stmts_goes : (ss : Stmts) (s : State) → IsLawful s → Goes s (stmts_rule ss s) Anything
   stmts_goes S.NoStmt s l = (l, after_same s, tt)
   stmts_goes (S.Next st rest) s l =
       goes_by _ _ Anything Anything (stmt_goes st s l) (λ r m x h.

@@ -5,6 +5,7 @@ ghost use Rattle.std.specs.Prelude.{◌≢◌, All, AllPairs, List, Ok};
 ghost use Rattle.pw_tree.specs.Trees.{Expr, Module};
 ghost use Rattle.pw_types.specs.Records.{IsLaid};
 ghost use Rattle.pw_types.specs.TypeTrees.{type_of};
+ghost use Rattle.pw_types.specs.TypedModules.{AreLabels, IsBlock, IsFunctionTyped};
 ghost use Rattle.pw_types.specs.TypedTrees.{LocalValue, ModuleValue};
 ghost use Rattle.pw_types.specs.WellTyped.{IsKnownType, IsTyped};
 ghost use Rattle.pw_walk.specs.Answers.{Answers};
@@ -38,4 +39,17 @@ pub fn accepted_records_are_laid()
 pub fn accepted_names_are_apart()
     ensures one_declared { (tree : Module) (m : ModuleValue) → Checks tree (Ok m) → AllPairs (λ d e. d.name ≢ e.name) m.declared }
     ensures one_function { (tree : Module) (m : ModuleValue) → Checks tree (Ok m) → AllPairs (λ f g. f.name ≢ g.name) m.functions }
+{}
+
+/// In each function of a module that checking accepts no label stands twice, each is that of a case or a default or one that a
+/// `goto` can name, and each that a `goto` can name stands there (ISO C90 6.6.1).
+pub fn accepted_labels_are_apart()
+    ensures { (tree : Module) (m : ModuleValue) → Checks tree (Ok m) → All AreLabels m.functions }
+{}
+
+/// Each function of a module that checking accepts has a function's type, with a result that is void or a scalar, its
+/// parameters are its first locals, each a scalar of its type, and its body is a block behind them (ISO C90 6.7.1).
+pub fn accepted_functions_are_typed()
+    ensures typed { (tree : Module) (m : ModuleValue) → Checks tree (Ok m) → All (IsFunctionTyped m) m.functions }
+    ensures block { (tree : Module) (m : ModuleValue) → Checks tree (Ok m) → All (λ f. IsBlock f.params f.body) m.functions }
 {}
