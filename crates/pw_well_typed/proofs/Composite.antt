@@ -263,7 +263,7 @@ letters_compatible (OneType (Qualified a c v) ps) (OneType (Qualified b d w) qs)
 letters_compatible _ _ e = no e
 
 -- the parts of what is compatible
-types_compatible : (a b : CType) (c v d w : Bool) → compatible (Qualified a c v) (Qualified b d w) ≡ true → (compatible_types a b ≡ true) × (v ≡ w)
+pub types_compatible : (a b : CType) (c v d w : Bool) → compatible (Qualified a c v) (Qualified b d w) ≡ true → (compatible_types a b ≡ true) × (v ≡ w)
 unfolding compatible_types
 types_compatible a b c v d w e = (
   left (compatible_types a b) (same_truth c d) (left (compatible_types a b && same_truth c d) (same_truth v w) e),

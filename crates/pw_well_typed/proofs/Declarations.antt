@@ -107,6 +107,12 @@ initialised_post from s w place ty items l a lawful known at named defined linke
 abbrev Stored : Word → State → Slot
 Stored w s = slot.Named (place_for s w.text)
 
+-- the object is defined, and its declarations in the scope give it this type
+abbrev Defining : Word → Option Slot → State → ℕ → QType × State → Type 0
+Defining w p before place e =
+    IsLawful e.1 × AfterBy p p before e.1 × IsLawfully e.1.types.records e.0
+    × ((x : LinkedName) × (slice_get e.1.types.linked place ≡ Some x) × (x.name ≡ w.text) × (x.defined ≡ true)) × DeclaredHere w.text e.1.scopes
+
 -- with an initialiser
 defined_goes : (s : State) (w : Word) (b : Specified) (spot : Spot) (q : QType) (i : Initializer) → IsLawful s → IsLawfully s.types.records q → is_function (type_of q) ≡ false → Linkable s w.text q
     → Goes s (global_rule w b spot q (Some i) s) Anything
@@ -117,15 +123,21 @@ defined_goes s w b spot q i l h object link =
     let k : KeptBy (Some (Stored w s)) (Some (Stored w s)) r.1 (define_object r.0 r.1) =
     object_after (Some (Stored w s)) (Some (Stored w s)) r.1 r.0 g.2.1.0 g.0 g.2.1.1 (g.2.1.3.function ∙ object) (λ n e. inr e) in
     let known : IsLawfully (define_object r.0 r.1).types.records q = lawful_later s.types.records (define_object r.0 r.1).types.records (after_trans g.1 k.1).extends (type_of q) h in
-    done_then _ _ (λ r. IsLawful r.1 × After s r.1 × Unit {0})
-    (post_bind _ _ (λ u. IsLawful u.1 × AfterBy (Some (Stored w s)) (Some (Stored w s)) (define_object r.0 r.1) u.1 × (IsLawfully u.1.types.records u.0.ty × Grows (define_object r.0 r.1) u.1)) (λ r. IsLawful r.1 × After s r.1 × Unit {0})
-    (object_between (Some (Stored w s)) IsLawfully lawful_stays (define_object r.0 r.1) (context_of w true 0) (named_type (define_object r.0 r.1) w.text q) i.init k.0 (named_lawful (define_object r.0 r.1) w.text q k.0 known)) (λ u o.
-    let a : AfterBy None (Some (Stored w s)) s (define_object r.0 r.1) = after_trans g.1 k.1 in
+    post_bind _ _ (Defining w (Some (Stored w s)) r.1 r.0) (λ r. IsLawful r.1 × After s r.1 × Unit {0})
+    (done_then (tt, define_object r.0 r.1) (λ t. Done (named_type t.1 w.text q, t.1)) (Defining w (Some (Stored w s)) r.1 r.0) (
+      k.0,
+      k.1,
+      named_lawful (define_object r.0 r.1) w.text q k.0 known,
+      (record g.2.1.0 { defined = true }, defined_place r.1 r.0 g.2.1.0 g.2.1.1, g.2.1.2, refl),
+      subst (DeclaredHere w.text) (sym (defined_scopes r.1 r.0)) g.2.2,
+    )) (λ e f.
+    post_bind _ _ (λ u. IsLawful u.1 × AfterBy (Some (Stored w s)) (Some (Stored w s)) e.1 u.1 × (IsLawfully u.1.types.records u.0.ty × Grows e.1 u.1)) (λ r. IsLawful r.1 × After s r.1 × Unit {0})
+    (object_between (Some (Stored w s)) IsLawfully lawful_stays e.1 (context_of w true 0) e.0 i.init f.0 f.2) (λ u o.
+    let a : AfterBy None (Some (Stored w s)) s e.1 = after_trans g.1 f.1 in
     let whole : AfterBy None (Some (slot.Named r.0)) s u.1 = subst (λ n. AfterBy None (Some (slot.Named n)) s u.1) (sym g.2.0) (after_trans a o.1) in
-    let x = o.1.names r.0 (record g.2.1.0 { defined = true }) (defined_place r.1 r.0 g.2.1.0 g.2.1.1) in
-    let here : DeclaredHere w.text (define_object r.0 r.1).scopes = subst (DeclaredHere w.text) (sym (defined_scopes r.1 r.0)) g.2.2 in
-    initialised_post s u.1 w r.0 u.0.ty u.0.filled.items x.0 whole o.0 o.2.0 x.1 (x.2.name ∙ g.2.1.2) (x.2.defined refl)
-    (λ hs y e. here_later (Some (Stored w s)) w.text o.2.1 here (a.sound hs) y e))))
+    let x = o.1.names r.0 f.3.0 f.3.1 in
+    initialised_post s u.1 w r.0 u.0.ty u.0.filled.items x.0 whole o.0 o.2.0 x.1 (x.2.name ∙ f.3.2) (x.2.defined f.3.3)
+    (λ hs y z. here_later (Some (Stored w s)) w.text o.2.1 f.4 (a.sound hs) y z))))
 
 -- `extern` without an initialiser declares, and does not define
 not_static : (b : Specified) (s : State) (name : List ℕ) → Sound None s → linked_before s name ≡ None → is_tentative b ≡ false → is_internal_by s name (asking_of AGlobal b) ≡ true → ⊥

@@ -19,7 +19,7 @@ use Rattle.pw_rules.specs.declared.names.Entry.{Entry}
 use Rattle.pw_rules.specs.declared.names.Slot.{Slot}
 use Rattle.pw_rules.specs.declared.names.Slot.TheVariants as slot
 use Rattle.pw_well_typed.specs.Lawful.{IsLawful, IsLawfulType, IsLawfulEntity, Extends}
-use Rattle.pw_well_typed.proofs.Walking.{AreMet, truth, met_left}
+use Rattle.pw_well_typed.proofs.Walking.{AreMet, truth, met_left, Post}
 use Rattle.pw_well_typed.proofs.Lists.{some_same, never_some, get_append, get_more, get_last, get_within, put_either, put_cases, put_same, visible_more, length_put}
 use Rattle.pw_well_typed.proofs.Types.{no, extends_same, lawful_later}
 use Rattle.pw_well_typed.proofs.Composite.{Covers, covers_same, covers_trans, covers_first, covers_second, covers_composites, compatible_function, kind_composite}
@@ -452,6 +452,16 @@ declared_lawful s name token tag asking q l h =
     (noted_here (note_linked name (is_internal_by s name asking) q token tag s) name (place_for s name) q a.0
     (lawful_later s.types.records (note_linked name (is_internal_by s name asking) q token tag s).types.records a.1.extends (type_of q) h)).0
 
+pub declared_knows : (s : State) (name : List ℕ) (token : ℕ) (tag : Option ℕ) (asking : Asking) (q : QType) → IsLawful s → IsLawfulType s.types.records (type_of q)
+    → Post (declare_linked name token tag asking q s) (λ r. IsLawful r.1 × Knows s r.1)
+unfolding declare_linked bind
+declared_knows s name token tag asking q l h =
+    let a : Changed s (note_linked name (is_internal_by s name asking) q token tag s) = noted s name (is_internal_by s name asking) q token tag l h in
+    let b : Changed (note_linked name (is_internal_by s name asking) q token tag s) (note_here name (place_for s name) q (note_linked name (is_internal_by s name asking) q token tag s)) =
+    noted_here (note_linked name (is_internal_by s name asking) q token tag s) name (place_for s name) q a.0
+    (lawful_later s.types.records (note_linked name (is_internal_by s name asking) q token tag s).types.records a.1.extends (type_of q) h) in
+    (b.0, knows_trans a.1 b.1)
+
 pub declared_goes : (o : Option Slot) (s : State) (name : List ℕ) (token : ℕ) (tag : Option ℕ) (asking : Asking) (q : QType) → IsLawful s → IsLawfulType s.types.records (type_of q) → Linkable s name q
     → (Sound None s → linked_before s name ≡ None → is_internal_by s name asking ≡ true → is_function (type_of q) ≡ false → o ≡ Some (slot.Named (place_for s name)))
     → GoesBy None o s (declare_linked name token tag asking q s) (GoodPlace name q (place_for s name))
@@ -534,15 +544,17 @@ stored_after p q s place l f lawful at on typed internal stored object embed = b
 
 pub tentative_after : (p q : Option Slot) (s : State) (place : ℕ) (l : LinkedName) → IsLawful s → slice_get s.types.linked place ≡ Some l → is_function (type_of l.ty) ≡ false
     → ((n : ℕ) → p ≡ Some (slot.Named n) → (n ≡ place) ⊎ (q ≡ Some (slot.Named n))) → KeptBy p q s (define_tentatively place s)
-tentative_after p q s place l lawful at object embed =
-    ((tentative_kept s place lawful).0,
-      stored_after p q s place l (λ x. record x { tentative = true }) lawful at (record { name = refl; internal = refl; tentative = λ z. refl; defined = λ z. z; covers = covers_same l.ty }) refl refl refl object embed)
+tentative_after p q s place l lawful at object embed = (
+  (tentative_kept s place lawful).0,
+  stored_after p q s place l (λ x. record x { tentative = true }) lawful at (record { name = refl; internal = refl; tentative = λ z. refl; defined = λ z. z; covers = covers_same l.ty }) refl refl refl object embed,
+)
 
 pub object_after : (p q : Option Slot) (s : State) (place : ℕ) (l : LinkedName) → IsLawful s → slice_get s.types.linked place ≡ Some l → is_function (type_of l.ty) ≡ false
     → ((n : ℕ) → p ≡ Some (slot.Named n) → (n ≡ place) ⊎ (q ≡ Some (slot.Named n))) → KeptBy p q s (define_object place s)
-object_after p q s place l lawful at object embed =
-    ((defined_kept s place lawful).0,
-      stored_after p q s place l (λ x. record x { defined = true }) lawful at (record { name = refl; internal = refl; tentative = λ z. z; defined = λ z. refl; covers = covers_same l.ty }) refl refl (or_true l.tentative) object embed)
+object_after p q s place l lawful at object embed = (
+  (defined_kept s place lawful).0,
+  stored_after p q s place l (λ x. record x { defined = true }) lawful at (record { name = refl; internal = refl; tentative = λ z. z; defined = λ z. refl; covers = covers_same l.ty }) refl refl (or_true l.tentative) object embed,
+)
 
 -- a function that is defined
 pub function_after : (s : State) (place : ℕ) (l : LinkedName) → IsLawful s → slice_get s.types.linked place ≡ Some l → is_function (type_of l.ty) ≡ true → Kept s (define_function place s)

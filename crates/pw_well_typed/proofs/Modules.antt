@@ -16,7 +16,7 @@ use Rattle.std.proofs.lemmas.List.Kept.{AllPairs-filter}
 use Rattle.std.proofs.lemmas.Option.{slice_get-get_or, get_or_from_slice_get}
 use Rattle.pw_tree.specs.Trees.{Word, Function, External, Definition, Declaration, Module, Block, Decl}
 use Rattle.pw_types.specs.Records.{IsLaid}
-use Rattle.pw_types.specs.TypeTrees.{QType, type_of}
+use Rattle.pw_types.specs.TypeTrees.{QType, type_of, RecordValue}
 use Rattle.pw_types.specs.TypedTrees.{FunctionValue, DeclaredValue, ModuleValue, Symbol, External as Shared, Internal, Hidden}
 use Rattle.pw_types.specs.WellTyped.{IsKnownType}
 use Rattle.pw_walk.specs.Walks.{Done, bind, Walk}
@@ -36,7 +36,7 @@ use Rattle.pw_well_typed.proofs.Walking.{Post, post_bind, truth, AreMet, post_we
 use Rattle.pw_well_typed.proofs.Lists.{get_either, get_map, get_filter, get_within, some_same, never_some, get_more, put_same, get_append}
 use Rattle.pw_well_typed.proofs.Types.{extends_same, lawful_later, lawful_known, no, not_true}
 use Rattle.pw_well_typed.proofs.Changes.{left_lawful_alone, left_sound_alone, tag_later}
-use Rattle.pw_well_typed.proofs.Leaves.{GoodType, GoodSpecified, GoodDeclared, GoodBindings, GoodIfAny, bindings_later, built_runs}
+use Rattle.pw_well_typed.proofs.Leaves.{GoodType, GoodSpecified, GoodDeclared, GoodBindings, GoodIfAny, bindings_later, built_runs, scalars_later}
 use Rattle.pw_well_typed.proofs.Phrases.{declarator_post}
 use Rattle.pw_well_typed.proofs.Declarations.{specified_goes, decl_goes}
 use Rattle.pw_well_typed.proofs.Statements.{block_goes}
@@ -44,33 +44,49 @@ use Rattle.pw_well_typed.proofs.Keeping.{After, after_same, after_trans, Kept, G
 
 -- ---- functions
 
-<<<<<<< HEAD
+pub good_if_any : (r : List RecordValue) (es : List Entity) (o : Option Bindings) → GoodIfAny r es o → GoodBindings r es (unwrap_or o no_bindings)
+good_if_any r es None h = record { scalars = tt; tags = λ i t e. never_some e; plain = λ i t e. never_some e }
+good_if_any r es (Some b) h = h
+
 pub good_bindings : (s : State) (o : Option Bindings) → GoodIfAny s.types.records s.scopes.entities o → GoodBindings s.types.records s.scopes.entities (unwrap_or o no_bindings)
 good_bindings s None h = record { scalars = tt; tags = λ i t e. never_some e; plain = λ i t e. never_some e }
 good_bindings s (Some b) h = h
 
+-- a state with the names of a parameter list stays lawful
+pub body_lawful : (s : State) (es : List Entity) (q : QType) (b : Bindings) (names : List (List ℕ)) → IsLawful s → GoodBindings s.types.records es b → IsLawful (enter_body q b names s)
+body_lawful s es q b names l h = record {
+  contents = l.contents;
+  begun = l.begun;
+  counted = l.counted;
+  entities = l.entities;
+  tags = λ i t e. by_tag i t (get_either s.scopes.tags (map (λ (x : List ℕ × Tag). (x.0, record { tag = x.1; depth = s.scopes.depth + 1 })) b.tags) i t e);
+  linked = l.linked;
+  laid = l.laid;
+  apart = l.apart;
+  depths = λ i e g. by_entry i e (get_either s.scopes.ordinary (map (λ (x : List ℕ × ℕ). (x.0, record { place = x.1; depth = s.scopes.depth + 1 })) b.ordinary) i e g);
+}
+  where
+    by_tag : (i : ℕ) (t : List ℕ × TagEntry)
+        → (slice_get s.scopes.tags i ≡ Some t) ⊎ ((j : ℕ) × (slice_get (map (λ (x : List ℕ × Tag). (x.0, record { tag = x.1; depth = s.scopes.depth + 1 })) b.tags) j ≡ Some t))
+        → IsLawfulTag s.types.records t.1.tag
+    by_tag i t (inl g) = l.tags i t g
+    by_tag i t (inr g) =
+        let x = get_map (λ (x : List ℕ × Tag). let e : List ℕ × TagEntry = (x.0, record { tag = x.1; depth = s.scopes.depth + 1 }) in e) b.tags g.0 t g.1 in
+        subst (λ (y : List ℕ × TagEntry). IsLawfulTag s.types.records y.1.tag) x.2 (h.tags g.0 x.0 x.1)
+
+    by_entry : (i : ℕ) (e : List ℕ × Entry)
+        → (slice_get s.scopes.ordinary i ≡ Some e) ⊎ ((j : ℕ) × (slice_get (map (λ (x : List ℕ × ℕ). (x.0, record { place = x.1; depth = s.scopes.depth + 1 })) b.ordinary) j ≡ Some e))
+        → e.1.depth ≤ s.scopes.depth + 1
+    by_entry i e (inl g) = let k : e.1.depth ≤ s.scopes.depth = l.depths i e g in omega (arith, k)
+    by_entry i e (inr g) =
+        let x = get_map (λ (x : List ℕ × ℕ). let e : List ℕ × Entry = (x.0, record { place = x.1; depth = s.scopes.depth + 1 }) in e) b.ordinary g.0 e g.1 in
+        let same : s.scopes.depth + 1 ≡ e.1.depth = ap (λ (y : List ℕ × Entry). y.1.depth) x.2 in
+        omega (arith, same)
+
 -- the body is entered some time behind its declarator
 pub body_entered : (v s : State) (q : QType) (b : Bindings) (names : List (List ℕ)) → After v s → IsLawful s → GoodBindings v.types.records v.scopes.entities b → Kept v (enter_body q b names s)
 body_entered v s q b names a l h = (
-=======
-pub good_bindings : (s : State) (o : Option Bindings) → GoodIfAny s.types.records o → GoodBindings s.types.records (unwrap_or o no_bindings)
-good_bindings s None h = record { scalars = tt; tags = λ i t e. (grind arith) }
-good_bindings s (Some b) h = h
-
-pub body_entered : (s : State) (q : QType) (b : Bindings) (names : List (List ℕ)) → IsLawful s → GoodBindings s.types.records b → Kept s (enter_body q b names s)
-body_entered s q b names l h = (
->>>>>>> 35e82def24c24cd4cdbcb6a5312ef91eb2763d39
-  record {
-    contents = l.contents;
-    begun = l.begun;
-    counted = l.counted;
-    entities = l.entities;
-    tags = λ i t e. by_tag i t (get_either s.scopes.tags (map (λ (x : List ℕ × Tag). (x.0, record { tag = x.1; depth = s.scopes.depth + 1 })) b.tags) i t e);
-    linked = l.linked;
-    laid = l.laid;
-    apart = l.apart;
-    depths = λ i e g. by_entry i e (get_either s.scopes.ordinary (map (λ (x : List ℕ × ℕ). (x.0, record { place = x.1; depth = s.scopes.depth + 1 })) b.ordinary) i e g);
-  },
+  body_lawful s v.scopes.entities q b names l (record { scalars = scalars_later v.types.records s.types.records a.extends b.parameters h.scalars; tags = λ i t e. tag_later v.types.records s.types.records a.extends t.1 (h.tags i t e); plain = h.plain }),
   after_by (record { extends = a.extends; names = a.names; functions = a.functions; hidden = a.hidden }) a.entities
       (λ hv.
       let hs = a.sound hv in
@@ -92,23 +108,6 @@ body_entered s q b names l h = (
         let z = a.entities hv x.0.1 y.0 y.1 in
         subst (λ (e : List ℕ × Entry). (y : Entity) × (slice_get s.scopes.entities e.1.place ≡ Some y) × Spelled s.types.linked e.0 y) x.2
         (z.0, z.1, plain_spelled s.types.linked x.0.0 z.0 (plain_stays y.0 z.0 y.2 z.2))
-
-    by_tag : (i : ℕ) (t : List ℕ × TagEntry)
-        → (slice_get s.scopes.tags i ≡ Some t) ⊎ ((j : ℕ) × (slice_get (map (λ (x : List ℕ × Tag). (x.0, record { tag = x.1; depth = s.scopes.depth + 1 })) b.tags) j ≡ Some t))
-        → IsLawfulTag s.types.records t.1.tag
-    by_tag i t (inl g) = l.tags i t g
-    by_tag i t (inr g) =
-        let x = get_map (λ (x : List ℕ × Tag). let e : List ℕ × TagEntry = (x.0, record { tag = x.1; depth = s.scopes.depth + 1 }) in e) b.tags g.0 t g.1 in
-        subst (λ (y : List ℕ × TagEntry). IsLawfulTag s.types.records y.1.tag) x.2 (tag_later v.types.records s.types.records a.extends x.0.1 (h.tags g.0 x.0 x.1))
-
-    by_entry : (i : ℕ) (e : List ℕ × Entry)
-        → (slice_get s.scopes.ordinary i ≡ Some e) ⊎ ((j : ℕ) × (slice_get (map (λ (x : List ℕ × ℕ). (x.0, record { place = x.1; depth = s.scopes.depth + 1 })) b.ordinary) j ≡ Some e))
-        → e.1.depth ≤ s.scopes.depth + 1
-    by_entry i e (inl g) = let k : e.1.depth ≤ s.scopes.depth = l.depths i e g in omega (arith, k)
-    by_entry i e (inr g) =
-        let x = get_map (λ (x : List ℕ × ℕ). let e : List ℕ × Entry = (x.0, record { place = x.1; depth = s.scopes.depth + 1 }) in e) b.ordinary g.0 e g.1 in
-        let same : s.scopes.depth + 1 ≡ e.1.depth = ap (λ (y : List ℕ × Entry). y.1.depth) x.2 in
-        omega (arith, same)
 
 left : (s : State) → IsLawful s → Kept s (leave_scope s)
 left s l = (left_lawful_alone s l, after_by (knows_linked s (leave_scope s) (extends_same s.types.records) refl refl (filling_same s.made.hidden)) (λ h. keeps_same s.scopes.entities) (λ h. left_sound_alone s None h))
