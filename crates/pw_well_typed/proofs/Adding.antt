@@ -37,7 +37,10 @@ use Rattle.pw_well_typed.proofs.Leaves.{Nothing, GoodType, GoodGathered, GoodSpe
 use Rattle.pw_well_typed.proofs.Phrases.{specifiers_post, declarator_post}
 use Rattle.pw_well_typed.proofs.Locals.{ArePlaced, longer_put, longer_same, grows_placed, entered_placed, added_placed, put_placed, place_of_new, local_entered, local_completed, local_placed, completed_placed}
 use Rattle.pw_well_typed.proofs.Filling.{IsTypedAs, AreTypedAs, object_runs, runs_whatever}
-use Rattle.pw_well_typed.proofs.Keeping.{After, Goes, around, declared_goes, defined_kept, Anything}
+use Rattle.pw_well_typed.proofs.Keeping.{After, Goes, around, defined_kept, Anything}
+use Rattle.pw_well_typed.proofs.Declaring.{declared_lawful, refilled_sound}
+use Rattle.pw_well_typed.proofs.Composite.{Covers, covers_same}
+use Rattle.pw_well_typed.proofs.Initialisers.{object_keeps, covers_stays}
 use Rattle.pw_well_typed.proofs.Declarations.{Fits, sort_fits, init_declarator_goes, init_declarators_goes, decl_goes, decls_goes}
 
 -- ---- what a state denotes, but for locals
@@ -197,7 +200,7 @@ global_adds s w b spot q None l h = (
 )
 global_adds s w b spot q (Some i) l h =
     let at : State = noted_state s w.text w.token b.tag (asking_of AGlobal b) q in
-    let lawful : IsLawful (noted_state s w.text w.token b.tag (asking_of AGlobal b) q) = (declared_goes s w.text w.token b.tag (asking_of AGlobal b) q l h).0 in
+    let lawful : IsLawful (noted_state s w.text w.token b.tag (asking_of AGlobal b) q) = declared_lawful s w.text w.token b.tag (asking_of AGlobal b) q l h in
     post_bind (object_rule (context_of w true 0) (named_type (define_object (place_for s w.text) (noted_state s w.text w.token b.tag (asking_of AGlobal b) q)) w.text q) i.init (define_object (place_for s w.text) (noted_state s w.text w.token b.tag (asking_of AGlobal b) q)))
     _ (λ r. IsLawful r.1 × Grows (define_object (place_for s w.text) (noted_state s w.text w.token b.tag (asking_of AGlobal b) q)) r.1 × Unit {0}) (AddsNone s)
     (runs_whatever _ _ _ (object_runs (define_object (place_for s w.text) (noted_state s w.text w.token b.tag (asking_of AGlobal b) q)) (context_of w true 0) (named_type (define_object (place_for s w.text) (noted_state s w.text w.token b.tag (asking_of AGlobal b) q)) w.text q) i.init (defined_kept at (place_for s w.text) lawful).0))
@@ -252,8 +255,10 @@ abbrev Makes : State → ℕ → QType → QType → Initialiser → Type 0
 Makes t k q ty (T.Value j e) = (j ≡ k) × (ty ≡ q) × IsTypedAs t (type_of q) e
 Makes t k q ty (T.Bytes j h parts) = (j ≡ k) × ((x : HiddenObject) × (slice_get t.made.hidden h ≡ Some x) × (x.ty ≡ ty))
 
-hidden_put_grows : {s u : State} (x : HiddenObject) → Grows s u → Grows s (put_hidden (length s.made.hidden) x u)
-hidden_put_grows {s} {u} x g = record {
+hidden_put_grows : {s u : State} (x y : HiddenObject) → slice_get u.made.hidden (length s.made.hidden) ≡ Some y → Covers x.ty y.ty → Grows s u → Grows s (put_hidden (length s.made.hidden) x u)
+hidden_put_grows {s} {u} x y at covers g = record {
+  here = g.here;
+  sound = λ p h. refilled_sound p u (length s.made.hidden) x y at covers (g.sound p h);
   extends = g.extends;
   begun = g.begun;
   linked = g.linked;
@@ -273,11 +278,15 @@ bytes_runs : (s : State) (w : Word) (k : ℕ) (q : QType) (i : Init) → IsLawfu
 unfolding bytes_rule completed_rule bind
 bytes_runs s w k q i l =
     post_bind (object_rule (context_of w true (next_hidden s)) q i (add_hidden (hidden_of q [] false) s))
-    _ (λ r. IsLawful r.1 × Grows (add_hidden (hidden_of q [] false) s) r.1 × Unit {0}) (λ r. IsLawful r.1 × Grows s r.1 × All (Makes r.1 k q r.0.0) r.0.1)
-    (runs_whatever _ _ _ (object_runs (add_hidden (hidden_of q [] false) s) (context_of w true (next_hidden s)) q i (hidden_added s (hidden_of q [] false) l)))
-    (λ r g met. (
+    _ (λ r. (IsLawful r.1 × Grows (add_hidden (hidden_of q [] false) s) r.1 × Unit {0}) × (IsLawful r.1 × After (add_hidden (hidden_of q [] false) s) r.1 × Covers r.0.ty q))
+    (λ r. IsLawful r.1 × Grows s r.1 × All (Makes r.1 k q r.0.0) r.0.1)
+    (post_both _ _ _ (runs_whatever _ _ _ (object_runs (add_hidden (hidden_of q [] false) s) (context_of w true (next_hidden s)) q i (hidden_added s (hidden_of q [] false) l)))
+    (object_keeps (λ x t. Covers t q) (covers_stays q) (add_hidden (hidden_of q [] false) s) (context_of w true (next_hidden s)) q i (hidden_added s (hidden_of q [] false) l) (covers_same q)))
+    (λ r both met.
+    let g = both.0 in (
       (around r.1 (put_hidden (next_hidden s) (hidden_of r.0.ty r.0.filled.items false) r.1).made r.1.body g.0 refl).0,
-      hidden_put_grows (hidden_of r.0.ty r.0.filled.items false) (grows_trans (hidden_grows s (hidden_of q [] false)) g.1),
+      hidden_put_grows (hidden_of r.0.ty r.0.filled.items false) (hidden_of q [] false)
+          (g.1.hidden (next_hidden s) (hidden_of q [] false) (get_last s.made.hidden (hidden_of q [] false))) both.1.2 (grows_trans (hidden_grows s (hidden_of q [] false)) g.1),
       All-cons (Makes (put_hidden (next_hidden s) (hidden_of r.0.ty r.0.filled.items false) r.1) k q r.0.ty) (T.Bytes k (next_hidden s) r.0.filled.parts) [] (
         refl,
         (

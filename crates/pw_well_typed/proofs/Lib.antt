@@ -2,6 +2,7 @@ pub mod Walking
 pub mod Lists
 pub mod Types
 pub mod Composite
+pub mod Sound
 pub mod States
 pub mod Conversions
 pub mod Nodes
@@ -16,6 +17,7 @@ pub mod Counting
 pub mod Locals
 pub mod Filling
 pub mod Keeping
+pub mod Declaring
 pub mod Initialisers
 pub mod Declarations
 pub mod Adding
@@ -24,5 +26,7 @@ pub mod FunctionTypes
 pub mod StatementTypes
 pub mod FunctionLaws
 pub mod Statements
+pub mod Ending
+pub mod Backward
 pub mod Modules
 pub mod Laws
