@@ -1,0 +1,5 @@
+pub mod OutcomeLaws
+pub mod ObeysLemmas
+pub mod FileLemmas
+pub mod GenuineFiles
+pub mod GenuineLemmas

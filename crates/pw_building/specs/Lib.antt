@@ -1,0 +1,4 @@
+pub mod Building
+pub mod Genuine
+pub mod Outcomes
+pub mod Lines

@@ -1,0 +1,34 @@
+//! Laws of builds over the files of a store. A function here does nothing: its clauses are facts about all values.
+
+ghost use Rattle.std.specs.Prelude.{◌≡◌, ◌≤◌, ℕ, List, [], Ok, Err, Option, Result};
+ghost use Rattle.pw_io.specs.Files.{Files};
+ghost use Rattle.pw_modules.specs.Modules.{modules_of};
+ghost use Rattle.pw_making.specs.Programs.{Parts};
+ghost use Rattle.pw_build.specs.declared.fault.BuildFault.{BuildFault};
+ghost use Rattle.pw_build.specs.Builds.{Builds};
+ghost use Rattle.pw_build.specs.Full.{built_anew};
+ghost use Rattle.pw_building.specs.Building.{BuildComes, Outcome, kept_objects};
+ghost use Rattle.pw_building.specs.Genuine.{KeepsGenuine};
+
+use pw_build::laws as build;
+use pw_build::laws::modules_have_one_build;
+use pw_db::laws::databases_and_files_are_one_to_one;
+use pw_image::laws::images_and_files_are_one_to_one;
+use pw_object::laws::objects_and_files_are_one_to_one;
+
+/// The files of a store come to one build.
+pub fn a_store_has_one_build()
+    ensures { (files : Files) (colours stack : ℕ) (a b : Result Outcome BuildFault) → colours ≤ 8 → BuildComes files colours stack a → BuildComes files colours stack b → a ≡ b }
+{
+    modules_have_one_build();
+    databases_and_files_are_one_to_one();
+    images_and_files_are_one_to_one();
+    objects_and_files_are_one_to_one();
+}
+
+/// Where the kept objects are genuine, a build over a store's files is the full build, but for which objects are made anew.
+pub fn genuine_objects_give_the_full_build()
+    ensures { (files : Files) (colours stack : ℕ) (a : Result Parts BuildFault) → KeepsGenuine files → Builds (modules_of files) (kept_objects files) colours stack a → Builds (modules_of files) [] colours stack (built_anew a) }
+{
+    build::genuine_objects_give_the_full_build();
+}

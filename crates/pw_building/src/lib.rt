@@ -1,0 +1,12 @@
+//! The build over the files of a store: from the modules and what is kept of them to the files that are put, and a report.
+#![tactic(auto)]
+
+mod building;
+mod laws;
+mod prepared;
+mod program;
+mod report;
+
+pub use building::build;
+pub use laws::{a_store_has_one_build, genuine_objects_give_the_full_build};
+pub use report::{Opts, Report, report_lines};

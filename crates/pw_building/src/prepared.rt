@@ -1,0 +1,67 @@
+//! A build as far as its puts.
+
+ghost use Rattle.std.specs.Prelude.{◌≡◌, ◌+◌, Ok, IfErr, IfOk, IfSome, length, map};
+ghost use Rattle.std.specs.List.{AllByRecursion};
+ghost use Rattle.pw_io.specs.Files.{Keeps};
+ghost use Rattle.pw_modules.specs.Modules.{modules_of};
+ghost use Rattle.pw_modules.specs.Views.{source};
+ghost use Rattle.pw_build.specs.Phases.{IsLine, refused_line};
+ghost use Rattle.pw_kept.specs.Files.{changed_files};
+ghost use Rattle.pw_building.specs.Building.{BuildComes};
+ghost use Rattle.pw_building.specs.Genuine.{IsGenuineFile};
+ghost use Rattle.pw_building.specs.Outcomes.{AreOpts, FaultCount, FaultFound, outcome_of};
+
+use crate::program::{few_modules, program_of};
+use crate::report::Opts;
+use pw_build::Unbuilt;
+use pw_io::Store;
+use pw_kept::{Prepared, compared};
+use pw_making::Steps;
+use pw_modules::Module;
+use std::alloc::Global;
+use std::sync::ledger::Ledger;
+
+/// What modules come to, where they are those of the store, before the files are put.
+fn prepared_of<S: Store, L: Ledger>(
+    alloc: Global,
+    store: &mut S,
+    modules: &[Module],
+    opts: &Opts,
+    steps: &mut Steps<L>,
+) -> Result<Prepared, Unbuilt>
+    requires { AreOpts opts.now }
+    ensures comes { IfSome (S.told store.old) (λ told. map source modules.now ≡ modules_of told.files → IfOk result (λ prepared. BuildComes told.files opts.now.colours opts.now.stack (Ok (outcome_of prepared)))) }
+    ensures genuine { IfSome (S.told store.old) (λ told. IfOk result (λ prepared. AllByRecursion IsGenuineFile (changed_files prepared))) }
+    ensures fault { IfSome (S.told store.old) (λ told. map source modules.now ≡ modules_of told.files → IfErr result (λ unbuilt. FaultFound told.files opts.now unbuilt.fault)) }
+    ensures line { IfSome (S.told store.old) (λ told. map source modules.now ≡ modules_of told.files → IfErr result (λ unbuilt. IsLine (refused_line (modules_of told.files)) unbuilt.fault unbuilt.line)) }
+    ensures counted { IfOk result (λ prepared. steps.new ≡ steps.old + length prepared.rebuilt.items) }
+    ensures same { Keeps (S.told store.old) (S.told store.new) }
+    ensures count { FaultCount (S.faults store.old) (S.faults store.new) result }
+{
+    match program_of(alloc, store, modules, opts, steps) {
+        Ok(files) => Ok(compared(alloc, store, modules.len() as u32, files)?),
+        Err(unbuilt) => Err(unbuilt),
+    }
+}
+
+/// What the modules of a store come to, before the files are put.
+pub fn prepare<S: Store, L: Ledger>(
+    alloc: Global,
+    store: &mut S,
+    opts: &Opts,
+    steps: &mut Steps<L>,
+) -> Result<Prepared, Unbuilt>
+    requires { AreOpts opts.now }
+    ensures comes { IfSome (S.told store.old) (λ told. IfOk result (λ prepared. BuildComes told.files opts.now.colours opts.now.stack (Ok (outcome_of prepared)))) }
+    ensures genuine { IfSome (S.told store.old) (λ told. IfOk result (λ prepared. AllByRecursion IsGenuineFile (changed_files prepared))) }
+    ensures fault { IfSome (S.told store.old) (λ told. IfErr result (λ unbuilt. FaultFound told.files opts.now unbuilt.fault)) }
+    ensures line { IfSome (S.told store.old) (λ told. IfErr result (λ unbuilt. IsLine (refused_line (modules_of told.files)) unbuilt.fault unbuilt.line)) }
+    ensures counted { IfOk result (λ prepared. steps.new ≡ steps.old + length prepared.rebuilt.items) }
+    ensures same { Keeps (S.told store.old) (S.told store.new) }
+    ensures count { FaultCount (S.faults store.old) (S.faults store.new) result }
+{
+    match few_modules(alloc, store) {
+        Ok(modules) => prepared_of(alloc, store, &modules, opts, steps),
+        Err(unbuilt) => Err(unbuilt),
+    }
+}

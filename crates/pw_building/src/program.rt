@@ -1,0 +1,113 @@
+//! The program of the modules of a store.
+
+ghost use Rattle.std.specs.Prelude.{◌≡◌, ◌≤◌, ◌+◌, ℕ, Ok, IfErr, IfOk, IfSome, OnOk, count_by, length, map};
+ghost use Rattle.std.specs.List.{AllByRecursion};
+ghost use Rattle.pw_io.specs.Files.{Keeps};
+ghost use Rattle.pw_modules.specs.Modules.{modules_of};
+ghost use Rattle.pw_modules.specs.Views.{source};
+ghost use Rattle.pw_db.specs.Database.{IsDatabase};
+ghost use Rattle.pw_object.specs.Object.{IsObject};
+ghost use Rattle.pw_image.specs.Image.{IsImage, view};
+ghost use Rattle.pw_link.specs.Linking.{linked};
+ghost use Rattle.pw_making.specs.Choosing.{parts_of};
+ghost use Rattle.pw_build.specs.Builds.{Builds, first_phases};
+ghost use Rattle.pw_build.specs.Phases.{IsLine, refused_line};
+ghost use Rattle.pw_kept.specs.Kept.{kept_object};
+ghost use Rattle.pw_kept.specs.Files.{HoldBytes, file_view};
+ghost use Rattle.pw_building.specs.Outcomes.{AreAsMany, AreOpts, BuildsFiles, FaultBuilds, FaultComes, FaultCount};
+
+use crate::report::Opts;
+use pw_build::{BuildFault, Unbuilt, first_phases};
+use pw_io::Store;
+use pw_kept::{ProgramFiles, files_of, read_kept};
+use pw_making::{Built, Steps, complete};
+use pw_modules::{Module, module_names, read_modules};
+use pw_value::limits::MODULE_LIMIT;
+use pw_value::{LinkFault, What};
+use std::alloc::Global;
+use std::sync::ledger::Ledger;
+
+/// The modules of a store, of which there are not too many.
+pub fn few_modules<S: Store>(alloc: Global, store: &mut S) -> Result<Vec<Module>, Unbuilt>
+    ensures modules { IfSome (S.told store.old) (λ told. IfOk result (λ modules. map source modules.items ≡ modules_of told.files)) }
+    ensures fault { IfSome (S.told store.old) (λ told. IfErr result (λ unbuilt. FaultComes (first_phases (modules_of told.files)) unbuilt.fault)) }
+    ensures line { IfErr result (λ unbuilt. (due : ℕ) → IsLine due unbuilt.fault unbuilt.line) }
+    ensures same { Keeps (S.told store.old) (S.told store.new) }
+    ensures count { FaultCount (S.faults store.old) (S.faults store.new) result }
+{
+    let names = module_names(alloc, store)?;
+    let count = names.len() as u64;
+    if count > MODULE_LIMIT {
+        return Err(Unbuilt {
+            fault: BuildFault::LinkRefused(LinkFault::TooMany(What::Modules, count)),
+            line: 1,
+        });
+    }
+    Ok(read_modules(alloc, store)?)
+}
+
+/// The program of modules, and of what the store keeps of them.
+fn built_of<S: Store, L: Ledger>(
+    alloc: Global,
+    store: &mut S,
+    modules: &[Module],
+    opts: &Opts,
+    steps: &mut Steps<L>,
+) -> Result<Built, Unbuilt>
+    requires { AreOpts opts.now }
+    ensures built { IfSome (S.told store.old) (λ told. IfOk result (λ built. Builds (map source modules.now) (map (λ m. kept_object told.files m.name) modules.now) opts.now.colours opts.now.stack (Ok (parts_of built)))) }
+    ensures fault { IfSome (S.told store.old) (λ told. IfErr result (λ unbuilt. FaultBuilds (map source modules.now) (map (λ m. kept_object told.files m.name) modules.now) opts.now unbuilt.fault)) }
+    ensures line { IfErr result (λ unbuilt. IsLine (refused_line (map source modules.now)) unbuilt.fault unbuilt.line) }
+    ensures few { OnOk result (length modules.now ≤ 256) }
+    ensures many { IfOk result (λ built. AreAsMany modules.now built) }
+    ensures image { IfOk result (λ built. view built.image ≡ linked built.objects.items opts.now.stack) }
+    ensures lawful_database { IfOk result (λ built. IsDatabase built.database.functions) }
+    ensures lawful_objects { IfOk result (λ built. AllByRecursion IsObject built.objects.items) }
+    ensures lawful_image { IfOk result (λ built. IsImage (view built.image)) }
+    ensures counted { IfOk result (λ built. steps.new ≡ steps.old + count_by (λ fresh. fresh) built.fresh.items) }
+    ensures same { Keeps (S.told store.old) (S.told store.new) }
+    ensures count { FaultCount (S.faults store.old) (S.faults store.new) result }
+{
+    let flows = first_phases(alloc, modules)?;
+    let kept = read_kept(alloc, store, modules)?;
+    match complete(alloc, &flows, kept, opts.colours, opts.stack, steps) {
+        Ok(built) => Ok(built),
+        Err(LinkFault::NoMemory) => Err(Unbuilt {
+            fault: BuildFault::NoMemory,
+            line: 1,
+        }),
+        Err(fault) => Err(Unbuilt {
+            fault: BuildFault::LinkRefused(fault),
+            line: 1,
+        }),
+    }
+}
+
+/// The files of the program of modules, and of what the store keeps of them.
+pub fn program_of<S: Store, L: Ledger>(
+    alloc: Global,
+    store: &mut S,
+    modules: &[Module],
+    opts: &Opts,
+    steps: &mut Steps<L>,
+) -> Result<ProgramFiles, Unbuilt>
+    requires { AreOpts opts.now }
+    ensures files { IfSome (S.told store.old) (λ told. IfOk result (λ files. BuildsFiles (map source modules.now) (map (λ m. kept_object told.files m.name) modules.now) opts.now files)) }
+    ensures bytes { IfOk result (λ files. HoldBytes (map file_view files.fresh.files.items)) }
+    ensures fault { IfSome (S.told store.old) (λ told. IfErr result (λ unbuilt. FaultBuilds (map source modules.now) (map (λ m. kept_object told.files m.name) modules.now) opts.now unbuilt.fault)) }
+    ensures line { IfErr result (λ unbuilt. IsLine (refused_line (map source modules.now)) unbuilt.fault unbuilt.line) }
+    ensures few { OnOk result (length modules.now ≤ 256) }
+    ensures counted { IfOk result (λ files. steps.new ≡ steps.old + length files.fresh.names.items) }
+    ensures same { Keeps (S.told store.old) (S.told store.new) }
+    ensures count { FaultCount (S.faults store.old) (S.faults store.new) result }
+{
+    let built = built_of(alloc, store, modules, opts, steps)?;
+    Ok(files_of(
+        alloc,
+        modules,
+        &built.database,
+        &built.objects,
+        &built.fresh,
+        &built.image,
+    )?)
+}
