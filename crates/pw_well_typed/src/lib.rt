@@ -5,7 +5,7 @@ ghost use Rattle.std.specs.Prelude.{◌≢◌, All, AllPairs, List, Ok};
 ghost use Rattle.pw_tree.specs.Trees.{Expr, Module};
 ghost use Rattle.pw_types.specs.Records.{IsLaid};
 ghost use Rattle.pw_types.specs.TypeTrees.{type_of};
-ghost use Rattle.pw_types.specs.TypedModules.{AreLabels, IsBlock, IsFunctionTyped};
+ghost use Rattle.pw_types.specs.TypedModules.{AreLabels, IsBlock, IsDeclaredIfExternal, IsFunctionTyped};
 ghost use Rattle.pw_types.specs.TypedTrees.{LocalValue, ModuleValue};
 ghost use Rattle.pw_types.specs.WellTyped.{IsKnownType, IsTyped};
 ghost use Rattle.pw_walk.specs.Answers.{Answers};
@@ -52,4 +52,16 @@ pub fn accepted_labels_are_apart()
 pub fn accepted_functions_are_typed()
     ensures typed { (tree : Module) (m : ModuleValue) → Checks tree (Ok m) → All (IsFunctionTyped m) m.functions }
     ensures block { (tree : Module) (m : ModuleValue) → Checks tree (Ok m) → All (λ f. IsBlock f.params f.body) m.functions }
+{}
+
+/// In a module that checking accepts no object is defined twice, and none under the name of a function.
+pub fn accepted_objects_are_apart()
+    ensures one_global { (tree : Module) (m : ModuleValue) → Checks tree (Ok m) → AllPairs (λ g h. g.name ≢ h.name) m.globals }
+    ensures one_kind { (tree : Module) (m : ModuleValue) → Checks tree (Ok m) → All (λ g. All (λ f. g.name ≢ f.name) m.functions) m.globals }
+{}
+
+/// What a module that checking accepts defines under an external name it declares, with the type that it has (ISO C90 6.1.2.6).
+pub fn accepted_names_are_declared()
+    ensures functions { (tree : Module) (m : ModuleValue) → Checks tree (Ok m) → All (λ f. IsDeclaredIfExternal m f.name f.ty) m.functions }
+    ensures objects { (tree : Module) (m : ModuleValue) → Checks tree (Ok m) → All (λ g. IsDeclaredIfExternal m g.name g.ty) m.globals }
 {}
