@@ -23,6 +23,8 @@ pub mod LabelLaws
 pub mod FunctionTypes
 pub mod StatementTypes
 pub mod FunctionLaws
+pub mod Parameters
+pub mod Bodies
 pub mod Statements
 pub mod Modules
 pub mod Laws

@@ -51,6 +51,7 @@ use Rattle.pw_well_typed.proofs.LabelLaws.{label_labelled, loop_labelled, asked_
 -- what they keep beside the function's own
 pub record Inside (s t : State) : Type 0 where
   pub placed : ArePlaced s → ArePlaced t
+  pub depth : t.scopes.depth ≡ s.scopes.depth
   pub counting : t.made.counting ≡ s.made.counting
   pub hidden : Longer s.made.hidden t.made.hidden
 
@@ -60,18 +61,18 @@ pub record Moves (s t : State) : Type 0 where
   pub steady : Steady s.body t.body
 
 inside_same : (s : State) → Inside s s
-inside_same s = record { placed = λ p. p; counting = refl; hidden = longer_same s.made.hidden }
+inside_same s = record { placed = λ p. p; depth = refl; counting = refl; hidden = longer_same s.made.hidden }
 
 inside_trans : {s t u : State} → Inside s t → Inside t u → Inside s u
-inside_trans {s} {t} {u} a b = record { placed = λ p. b.placed (a.placed p); counting = b.counting ∙ a.counting; hidden = λ k x e. b.hidden k x (a.hidden k x e) }
+inside_trans {s} {t} {u} a b = record { placed = λ p. b.placed (a.placed p); depth = b.depth ∙ a.depth; counting = b.counting ∙ a.counting; hidden = λ k x e. b.hidden k x (a.hidden k x e) }
 
 inside_grows : {s t : State} → Grows s t → Inside s t
-inside_grows g = record { placed = grows_placed g; counting = g.counting; hidden = g.hidden }
+inside_grows g = record { placed = grows_placed g; depth = g.depth; counting = g.counting; hidden = g.hidden }
 
 moves_trans : {s t u : State} → Moves s t → Moves t u → Moves s u
 moves_trans {s} {t} {u} a b = record { after = after_trans a.after b.after; inside = inside_trans a.inside b.inside; steady = steady_trans a.steady b.steady }
 
-after_grows : {s t : State} → IsLawful t → Grows s t → After s t
+pub after_grows : {s t : State} → IsLawful t → Grows s t → After s t
 after_grows {s} {t} l g = (of_runs {A = Unit {0}} s (Done (tt, t)) Anything (l, g, tt)).1
 
 moves_grows : {s t : State} → IsLawful t → Grows s t → Moves s t
@@ -276,7 +277,7 @@ unfolding in_loop bind
 loop_kept s body l h =
     post_bind (body (with_loop s)) _ (IsKept (with_loop s)) (Keeps s (IsTypedLoop s)) (h (with_loop s) (around s s.made (with_loop s).body l refl).0)
     (λ r g. (
-      record { placed = g.0.placed; counting = g.0.counting; hidden = g.0.hidden },
+      record { placed = g.0.placed; depth = g.0.depth; counting = g.0.counting; hidden = g.0.hidden },
       λ back m f final frame ready words from within.
           subst (λ y. IsStatement m f y true from r.0) (ap (λ y. y || not (is_nil s.body.switches)) (lt_more s.body.loops))
           (subst (λ y. IsStatement m f (breaks_in (with_loop s).body) y from r.0) (lt_more s.body.loops)
@@ -298,7 +299,7 @@ switch_kept s e body l h =
     post_bind (body (R.enter_switch (kind_in (type_in e)) s)) _ (IsKept (R.enter_switch (kind_in (type_in e)) s)) (Keeps s (IsTypedSwitch s))
     (h (R.enter_switch (kind_in (type_in e)) s) (around s s.made (R.enter_switch (kind_in (type_in e)) s).body l refl).0)
     (λ r g. (
-      record { placed = g.0.placed; counting = g.0.counting; hidden = g.0.hidden },
+      record { placed = g.0.placed; depth = g.0.depth; counting = g.0.counting; hidden = g.0.hidden },
       λ back m f final frame ready words from within.
           subst (λ y. IsStatement m f y (loops_in s.body) from r.0) (or_true (nat_lt 0 s.body.loops))
           (g.1 back m f (final_around r.1 (R.leave_switch r.1).body m f.locals (longer_same r.1.body.locals) final)
@@ -311,7 +312,7 @@ unfolding scoped bind
 scoped_kept s inside h =
     post_bind (inside (one_deeper s)) _ (IsKept (one_deeper s)) (IsKept s) h
     (λ r g. (
-      record { placed = λ p. left_placed r.1 (g.0.placed p); counting = g.0.counting; hidden = g.0.hidden },
+      record { placed = λ p. left_placed r.1 (g.0.placed p); depth = let d : r.1.scopes.depth ≡ s.scopes.depth + 1 = g.0.depth in omega (arith, d); counting = g.0.counting; hidden = g.0.hidden },
       λ back m f final frame ready. g.1 back m f (final_left r.1 m f.locals final) frame (record { placed = ready.placed; counting = ready.counting }),
     ))
   where
@@ -402,7 +403,8 @@ return_kept s t (Some e) l =
 
 inside_body : (s : State) (b : BodyState) → b.locals ≡ s.body.locals → Inside s (record s { body = b })
 inside_body s b same = record {
-  placed = λ p i e h. let x = p i e h in (x.0, x.1, subst (λ ls. Rattle.pw_well_typed.proofs.Locals.IsPlaced ls x.0) (sym same) x.2);
+  placed = λ p i e h. let x = p i e h in (x.0, x.1, subst (λ ls. Rattle.pw_well_typed.proofs.Locals.IsPlaced ls e.1.depth x.0) (sym same) x.2);
+  depth = refl;
   counting = refl;
   hidden = longer_same s.made.hidden;
 }
@@ -457,7 +459,7 @@ starts_initialise m locals first end (T.Bytes k hidden parts) h = (h.0, (let a :
 decls_move : {s t : State} (is : List Initialiser) → IsLawful t × After s t × (Rattle.pw_well_typed.proofs.Adding.Adds s t × Declares s t is) → Moves s t
 decls_move {s} {t} is g = record {
   after = g.1;
-  inside = record { placed = g.2.0.placed; counting = g.2.0.counting; hidden = g.2.0.hidden };
+  inside = record { placed = g.2.0.placed; depth = g.2.0.depth; counting = g.2.0.counting; hidden = g.2.0.hidden };
   steady = subst (Steady s.body) (sym g.2.0.steady) (adds_steady s.body t.body.locals g.2.0.locals).0;
 }
 
