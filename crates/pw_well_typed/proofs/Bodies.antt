@@ -324,7 +324,7 @@ unfolding external_rule
 external_stated s (Definition f) l ready outer text =
     post_weaken _ (λ r. Shapes s r × States s r) (GoesOn s) (post_both _ (Shapes s) (States s) (function_shaped s f l) (function_stated s f l ready outer text)) (λ r g. (g.0.0, g.1.0, g.1.1))
 external_stated s (Declaration d) l ready outer text =
-    post_bind _ _ (Declaring s) (GoesOn s) (decl_declares s d l) (λ r g.
+    post_bind _ _ (Declaring s) (GoesOn s) (decl_declares d s l) (λ r g.
     let on : Proceeds s r.1 = proceeds_adds g.1 g.2.0 in (g.0, on, λ all. all_stated_later {s = s} {t = r.1} on ready g.1.functions all))
 
 externals_stated : (xs : List External) (s : State) → IsLawful s → IsReady s → s.scopes.depth ≡ 0 → ExternalsHaveText xs → Post (externals_rule xs s) (GoesOn s)
