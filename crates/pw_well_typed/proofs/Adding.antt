@@ -37,15 +37,15 @@ use Rattle.pw_well_typed.proofs.Leaves.{Nothing, GoodType, GoodGathered, GoodSpe
 use Rattle.pw_well_typed.proofs.Phrases.{specifiers_post, declarator_post}
 use Rattle.pw_well_typed.proofs.Locals.{IsPlaced, ArePlaced, placed_longer, longer_put, longer_same, grows_placed, entered_placed, added_placed, put_placed, place_of_new, local_entered, local_completed, local_placed, completed_placed}
 use Rattle.pw_well_typed.proofs.Filling.{IsTypedAs, AreTypedAs, object_runs, runs_whatever}
-use Rattle.pw_well_typed.proofs.Keeping.{After, Goes, around, declared_goes, defined_kept, Anything}
+use Rattle.pw_well_typed.proofs.Sound.{Sound}
+use Rattle.pw_well_typed.proofs.Backward.{Names, names_back}
+use Rattle.pw_well_typed.proofs.Keeping.{After, Goes, around, defined_kept, Anything}
+use Rattle.pw_well_typed.proofs.Declaring.{declared_lawful, refilled_sound}
+use Rattle.pw_well_typed.proofs.Composite.{Covers, covers_same}
+use Rattle.pw_well_typed.proofs.Initialisers.{object_keeps, covers_stays}
 use Rattle.pw_well_typed.proofs.Declarations.{Fits, sort_fits, init_declarator_goes, init_declarators_goes, decl_goes, decls_goes}
 
--- ---- what a state denotes, but for locals
-
-pub record Names (s : State) (m : ModuleValue) : Type 0 where
-  pub records : Extends s.types.records m.records
-  pub strings : (k : ℕ) (h : HiddenObject) → slice_get s.made.hidden k ≡ Some h → IsDefined m (Hidden k) h.ty
-  pub entities : (k : ℕ) (e : Entity) → slice_get s.scopes.entities k ≡ Some e → StandsFor s m e
+-- ---- what a module's end has of a state
 
 -- the hidden object of the number has the type
 abbrev pub IsOwned : ModuleValue → ℕ → QType → Type 0
@@ -57,19 +57,17 @@ pub record Final (t : State) (m : ModuleValue) (locals : List LocalValue) : Type
   pub owned : (k : ℕ) (h : HiddenObject) → slice_get t.made.hidden k ≡ Some h → IsOwned m k h.ty
   pub locals_are : Longer t.body.locals locals
 
--- its names have their entities and locals, and it is in no operand of `sizeof`
+-- its names have their entities and locals, its parts agree, and it is in no operand of `sizeof`
 pub record IsReady (s : State) : Type 0 where
   pub placed : ArePlaced s
   pub counting : s.made.counting ≡ true
+  pub sound : Sound None s
 
 -- what a later state denotes, an earlier one denotes
-abbrev pub Back : Type 0
-Back = (s t : State) (m : ModuleValue) → After s t → IsReady s → Names t m → Names s m
-
-pub final_back : Back → {s t : State} {m : ModuleValue} {locals : List LocalValue} → After s t → IsReady s → Longer s.body.locals t.body.locals → Longer s.made.hidden t.made.hidden
+pub final_back : {s t : State} {m : ModuleValue} {locals : List LocalValue} → After s t → IsReady s → Longer s.body.locals t.body.locals → Longer s.made.hidden t.made.hidden
     → Final t m locals → Final s m locals
-final_back back {s} {t} {m} {locals} a ready more hidden f = record {
-  names = back s t m a ready f.names;
+final_back {s} {t} {m} {locals} a ready more hidden f = record {
+  names = names_back m a ready.sound f.names;
   owned = λ k h e. f.owned k h (hidden k h e);
   locals_are = λ i x e. f.locals_are i x (more i x e);
 }
@@ -126,7 +124,7 @@ adds_grows {s} {t} g = record {
 }
 
 pub ready_adds : {s t : State} → After s t → Adds s t → IsReady s → IsReady t
-ready_adds {s} {t} x a r = record { placed = a.placed r.placed; counting = a.counting ∙ r.counting }
+ready_adds {s} {t} x a r = record { placed = a.placed r.placed; counting = a.counting ∙ r.counting; sound = x.sound r.sound }
 
 -- a rule that only grows, and then one that adds
 grows_first : {A B : Type 0} {s : State} (w : Walk (A × State)) (next : A × State → Walk (B × State)) (Good : State → A → Type 0) (P : B → State → Type 0) → Runs s w Good
@@ -201,7 +199,7 @@ global_adds s w b spot q None l h = (
 )
 global_adds s w b spot q (Some i) l h =
     let at : State = noted_state s w.text w.token b.tag (asking_of AGlobal b) q in
-    let lawful : IsLawful (noted_state s w.text w.token b.tag (asking_of AGlobal b) q) = (declared_goes s w.text w.token b.tag (asking_of AGlobal b) q l h).0 in
+    let lawful : IsLawful (noted_state s w.text w.token b.tag (asking_of AGlobal b) q) = declared_lawful s w.text w.token b.tag (asking_of AGlobal b) q l h in
     post_bind (object_rule (context_of w true 0) (named_type (define_object (place_for s w.text) (noted_state s w.text w.token b.tag (asking_of AGlobal b) q)) w.text q) i.init (define_object (place_for s w.text) (noted_state s w.text w.token b.tag (asking_of AGlobal b) q)))
     _ (λ r. IsLawful r.1 × Grows (define_object (place_for s w.text) (noted_state s w.text w.token b.tag (asking_of AGlobal b) q)) r.1 × Unit {0}) (AddsNone s)
     (runs_whatever _ _ _ (object_runs (define_object (place_for s w.text) (noted_state s w.text w.token b.tag (asking_of AGlobal b) q)) (context_of w true 0) (named_type (define_object (place_for s w.text) (noted_state s w.text w.token b.tag (asking_of AGlobal b) q)) w.text q) i.init (defined_kept at (place_for s w.text) lawful).0))
@@ -258,8 +256,10 @@ abbrev Makes : State → ℕ → QType → QType → Initialiser → Type 0
 Makes t k q ty (T.Value j e) = (j ≡ k) × (ty ≡ q) × IsTypedAs t (type_of q) e
 Makes t k q ty (T.Bytes j h parts) = (j ≡ k) × ((x : HiddenObject) × (slice_get t.made.hidden h ≡ Some x) × (x.ty ≡ ty))
 
-hidden_put_grows : {s u : State} (x : HiddenObject) → Grows s u → Grows s (put_hidden (length s.made.hidden) x u)
-hidden_put_grows {s} {u} x g = record {
+hidden_put_grows : {s u : State} (x y : HiddenObject) → slice_get u.made.hidden (length s.made.hidden) ≡ Some y → Covers x.ty y.ty → Grows s u → Grows s (put_hidden (length s.made.hidden) x u)
+hidden_put_grows {s} {u} x y at covers g = record {
+  here = g.here;
+  sound = λ p h. refilled_sound p u (length s.made.hidden) x y at covers (g.sound p h);
   extends = g.extends;
   begun = g.begun;
   linked = g.linked;
@@ -279,11 +279,15 @@ bytes_runs : (s : State) (w : Word) (k : ℕ) (q : QType) (i : Init) → IsLawfu
 unfolding bytes_rule completed_rule bind
 bytes_runs s w k q i l =
     post_bind (object_rule (context_of w true (next_hidden s)) q i (add_hidden (hidden_of q [] false) s))
-    _ (λ r. IsLawful r.1 × Grows (add_hidden (hidden_of q [] false) s) r.1 × Unit {0}) (λ r. IsLawful r.1 × Grows s r.1 × All (Makes r.1 k q r.0.0) r.0.1)
-    (runs_whatever _ _ _ (object_runs (add_hidden (hidden_of q [] false) s) (context_of w true (next_hidden s)) q i (hidden_added s (hidden_of q [] false) l)))
-    (λ r g met. (
+    _ (λ r. (IsLawful r.1 × Grows (add_hidden (hidden_of q [] false) s) r.1 × Unit {0}) × (IsLawful r.1 × After (add_hidden (hidden_of q [] false) s) r.1 × Covers r.0.ty q))
+    (λ r. IsLawful r.1 × Grows s r.1 × All (Makes r.1 k q r.0.0) r.0.1)
+    (post_both _ _ _ (runs_whatever _ _ _ (object_runs (add_hidden (hidden_of q [] false) s) (context_of w true (next_hidden s)) q i (hidden_added s (hidden_of q [] false) l)))
+    (object_keeps (λ x t. Covers t q) (covers_stays q) (add_hidden (hidden_of q [] false) s) (context_of w true (next_hidden s)) q i (hidden_added s (hidden_of q [] false) l) (covers_same q)))
+    (λ r both met.
+    let g = both.0 in (
       (around r.1 (put_hidden (next_hidden s) (hidden_of r.0.ty r.0.filled.items false) r.1).made r.1.body g.0 refl).0,
-      hidden_put_grows (hidden_of r.0.ty r.0.filled.items false) (grows_trans (hidden_grows s (hidden_of q [] false)) g.1),
+      hidden_put_grows (hidden_of r.0.ty r.0.filled.items false) (hidden_of q [] false)
+          (g.1.hidden (next_hidden s) (hidden_of q [] false) (get_last s.made.hidden (hidden_of q [] false))) both.1.2 (grows_trans (hidden_grows s (hidden_of q [] false)) g.1),
       All-cons (Makes (put_hidden (next_hidden s) (hidden_of r.0.ty r.0.filled.items false) r.1) k q r.0.ty) (T.Bytes k (next_hidden s) r.0.filled.parts) [] (
         refl,
         (
@@ -326,7 +330,7 @@ Starts m locals first end (T.Bytes k hidden parts) =
 
 -- the initialisers of the locals that are declared from one state to another
 abbrev pub Declares : State → State → List Initialiser → Type 0
-Declares s t is = Back → (m : ModuleValue) (locals : List LocalValue) → Final t m locals → IsReady s → All HasWords is
+Declares s t is = (m : ModuleValue) (locals : List LocalValue) → Final t m locals → IsReady s → All HasWords is
     → All (Starts m locals (length s.body.locals) (length t.body.locals)) is
 
 -- what changes with the local's type tells of no object and no function
@@ -411,7 +415,7 @@ local_adds s w b q None inner l h = (
     hidden = longer_same s.made.hidden;
     steady = refl;
   },
-  λ back m locals f ready words. All-nil (Starts m locals (length s.body.locals) (length (s.body.locals ++ local_of w q ∷ []))),
+  λ m locals f ready words. All-nil (Starts m locals (length s.body.locals) (length (s.body.locals ++ local_of w q ∷ []))),
 )
 local_adds s w b q (Some i) inner l h =
     let at : State = local_entered s w.text (local_of w q) (is_register b.storage) in
@@ -431,7 +435,7 @@ local_adds s w b q (Some i) inner l h =
         hidden = g.1.hidden;
         steady = ap (with_locals (put_at (length s.body.locals) (local_of w r.0.0) r.1.body.locals)) g.1.body;
       },
-      λ back m locals f ready words. all_more (Makes r.1 (length s.body.locals) q r.0.0) HasWords (Starts m locals (length s.body.locals) (length (put_at (length s.body.locals) (local_of w r.0.0) r.1.body.locals)))
+      λ m locals f ready words. all_more (Makes r.1 (length s.body.locals) q r.0.0) HasWords (Starts m locals (length s.body.locals) (length (put_at (length s.body.locals) (local_of w r.0.0) r.1.body.locals)))
           (λ x made has. completed_starts s r.1 w q r.0.0 (is_register b.storage) x inner ready.placed ready.counting g.1 m locals f made has) r.0.1 g.2 words,
     ))
 
@@ -440,7 +444,7 @@ local_adds s w b q (Some i) inner l h =
 -- nothing is said of no initialisers
 none_declared : {s : State} {r : List Initialiser × State} → AddsNone s r → AddsLocals s r
 none_declared {s} {r} h =
-    (h.0, λ back m locals f ready words. subst (λ is. All (Starts m locals (length s.body.locals) (length r.1.body.locals)) is) (sym h.1) (All-nil (Starts m locals (length s.body.locals) (length r.1.body.locals))))
+    (h.0, λ m locals f ready words. subst (λ is. All (Starts m locals (length s.body.locals) (length r.1.body.locals)) is) (sym h.1) (All-nil (Starts m locals (length s.body.locals) (length r.1.body.locals))))
 
 adds_none : (s : State) (w : Walk (List Initialiser × State)) → Post w (AddsNone s) → Post w (AddsLocals s)
 adds_none s w h = post_weaken w (AddsNone s) (AddsLocals s) h (λ r g. none_declared {s = s} {r = r} g)
@@ -480,8 +484,8 @@ declare_adds s ALocal w b spot q i l h f inner = local_adds s w b q i inner l (r
 -- ---- declarations
 
 declares_later : {s u t : State} (is : List Initialiser) → Grows s u → Declares u t is → Declares s t is
-declares_later {s} {u} {t} is g h back m locals f ready words =
-    subst (λ b. All (Starts m locals (length b.locals) (length t.body.locals)) is) g.body (h back m locals f (record { placed = grows_placed g ready.placed; counting = g.counting ∙ ready.counting }) words)
+declares_later {s} {u} {t} is g h m locals f ready words =
+    subst (λ b. All (Starts m locals (length b.locals) (length t.body.locals)) is) g.body (h m locals f (record { placed = grows_placed g ready.placed; counting = g.counting ∙ ready.counting; sound = g.sound None ready.sound }) words)
 
 -- rules that only grow, and then one that adds
 then_adds : {A : Type 0} {s : State} (w : Walk (A × State)) (next : A × State → Walk (List Initialiser × State)) (Good : State → A → Type 0) → Runs s w Good
@@ -548,15 +552,15 @@ back_all P (x ∷ xs) ys h = back_all P xs ys (All-tail P x (xs ++ ys) h)
 
 -- one declaration and then others
 declares_both : (s r u : State) (is more : List Initialiser) → After s r → Adds s r → Declares s r is → After r u → Adds r u → Declares r u more → Declares s u (is ++ more)
-declares_both s r u is more z a h x b k back m locals f ready words =
+declares_both s r u is more z a h x b k m locals f ready words =
     let next : IsReady r = ready_adds z a ready in
     let early : length s.body.locals ≤ length r.body.locals = longer_length s.body.locals r.body.locals a.locals in
     let late : length r.body.locals ≤ length u.body.locals = longer_length r.body.locals u.body.locals b.locals in
     All-append (Starts m locals (length s.body.locals) (length u.body.locals)) is more
     (wider m locals (length s.body.locals) (length s.body.locals) (length r.body.locals) (length u.body.locals) (omega arith) late is
-    (h back m locals (final_back back x next b.locals b.hidden f) ready (front_all HasWords is more words)))
+    (h m locals (final_back x next b.locals b.hidden f) ready (front_all HasWords is more words)))
     (wider m locals (length s.body.locals) (length r.body.locals) (length u.body.locals) (length u.body.locals) early (omega arith) more
-    (k back m locals f next (back_all HasWords is more words)))
+    (k m locals f next (back_all HasWords is more words)))
 
 then_declares : (s : State) (w : Walk (List Initialiser × State)) (next : State → Walk (List Initialiser × State)) → Post w (Declaring s)
     → ((r : State) (is : List Initialiser) → IsLawful r → After s r → Post (next r) (Declaring r))

@@ -263,7 +263,7 @@ letters_compatible (OneType (Qualified a c v) ps) (OneType (Qualified b d w) qs)
 letters_compatible _ _ e = no e
 
 -- the parts of what is compatible
-types_compatible : (a b : CType) (c v d w : Bool) → compatible (Qualified a c v) (Qualified b d w) ≡ true → (compatible_types a b ≡ true) × (v ≡ w)
+pub types_compatible : (a b : CType) (c v d w : Bool) → compatible (Qualified a c v) (Qualified b d w) ≡ true → (compatible_types a b ≡ true) × (v ≡ w)
 unfolding compatible_types
 types_compatible a b c v d w e = (
   left (compatible_types a b) (same_truth c d) (left (compatible_types a b && same_truth c d) (same_truth v w) e),
@@ -361,6 +361,13 @@ length_second (Pointer p) (Pointer q) c v d w n e f = never_some f
 length_second (Function p ps) (Function q qs) c v d w n e f = never_some f
 length_second (Record i) (Record j) c v d w n e f = never_some f
 length_second _ _ c v d w n e f = no e
+
+pub kind_composite : (a b : QType) → is_function (type_of (composite a b)) ≡ is_function (type_of a)
+unfolding composite
+kind_composite (Qualified a c v) (Qualified b d w) = function_first a b
+
+pub compatible_function : (a b : QType) → compatible a b ≡ true → is_function (type_of a) ≡ is_function (type_of b)
+compatible_function (Qualified a c v) (Qualified b d w) e = function_compatible a b (types_compatible a b c v d w e).0
 
 -- the composite of compatible types covers the second one too
 pub covers_second : (r : List RecordValue) (a b : QType) → compatible a b ≡ true → IsLawfulType r (type_of a) → IsLawfulType r (type_of b) → Covers (composite a b) b

@@ -1,4 +1,5 @@
 -- Function definitions: the type, the parameters, the labels and the block of each.
+use Rattle.pw_well_typed.proofs.Declaring.{declared_knows}
 use Rattle.std.specs.Prelude.{ℕ, suc, ◌≡◌, ◌⊎◌, true, Option, None, Some, unwrap_or, List, [], ◌∷◌, ◌++◌, length, map, slice_get, All, Ok, refl}
 use Rattle.std.proofs.Common.{ap, sym, subst, ◌∙◌, inl, inr}
 use Rattle.std.proofs.lemmas.List.Elements.{All-weaker}
@@ -17,21 +18,21 @@ use Rattle.pw_rules.specs.Functions.{ends_in_function, function_of, bindings_of,
 use Rattle.pw_rules.specs.Leaves.{first_of_declaration}
 use Rattle.pw_rules.specs.Linkage.{define_function}
 use Rattle.pw_rules.specs.Modules.{external_rule, externals_rule, end_rule, module_rule}
-use Rattle.pw_rules.specs.States.{State, LinkedName, leave_scope, start}
+use Rattle.pw_rules.specs.States.{State, LinkedName, leave_scope, start, Entity}
 use Rattle.pw_rules.specs.Statements as R
 use Rattle.pw_rules.specs.Statements.{block_rule}
 use Rattle.pw_well_typed.specs.Lawful.{IsLawful, IsLawfulType}
 use Rattle.pw_well_typed.proofs.Walking.{Post, post_end, post_bind, post_weaken, post_both, truth, AreMet}
 use Rattle.pw_well_typed.proofs.Lists.{get_more, never_some}
-use Rattle.pw_well_typed.proofs.Types.{lawful_later}
+use Rattle.pw_well_typed.proofs.Types.{lawful_later, extends_trans}
 use Rattle.pw_well_typed.proofs.States.{Grows}
 use Rattle.pw_well_typed.proofs.Changes.{left_lawful_alone}
 use Rattle.pw_well_typed.proofs.Leaves.{GoodType, GoodSpecified, GoodDeclared, GoodBindings, bindings_later, built_runs}
 use Rattle.pw_well_typed.proofs.Phrases.{declarator_post}
-use Rattle.pw_well_typed.proofs.Keeping.{After, after_trans, NamedAt, declared_at, function_kept}
+use Rattle.pw_well_typed.proofs.Keeping.{After, function_kept, Knows}
 use Rattle.pw_well_typed.proofs.Declarations.{decl_goes}
 use Rattle.pw_well_typed.proofs.Statements.{block_goes}
-use Rattle.pw_well_typed.proofs.Modules.{body_entered, good_bindings}
+use Rattle.pw_well_typed.proofs.Modules.{body_lawful, good_if_any}
 use Rattle.pw_well_typed.proofs.Adding.{specified_all}
 use Rattle.pw_well_typed.proofs.LabelLaws.{Steady, IsLabelled, block_labelled, asked_post, function_labels}
 use Rattle.pw_well_typed.proofs.FunctionTypes.{last_of, IsBoundDeclared, IsBuiltBy, after_any, declarator_bound, built_by, function_typed}
@@ -68,7 +69,8 @@ pub record Declares (s : State) (q : QType) (d : Declared) : Type 0 where
   pub bound : IsBoundDeclared d
   pub made : IsBuiltBy (last_of d.derivations) q
   pub lawful : IsLawfulType s.types.records (type_of q)
-  pub bindings : GoodBindings s.types.records (bindings_of d)
+  pub entities : List Entity
+  pub bindings : GoodBindings s.types.records entities (bindings_of d)
 
 pub length_map : {X Y : Type 0} (g : X → Y) (xs : List X) → length (map g xs) ≡ length xs
 length_map g [] = refl
@@ -90,7 +92,7 @@ typed_function s t w place q d block x h steady m =
 body_shaped : (s : State) (w : Word) (place : ℕ) (q : QType) (d : Declared) (block : Block) → IsLawful s → Declares s q d → Post (body_rule w place q (bindings_of d) block s) (Shapes s)
 unfolding body_rule measured_rule bind
 body_shaped s w place q d block l h =
-    let c : IsLawful (enter_body q (bindings_of d) (R.labels_in_block block) s) = (body_entered s q (bindings_of d) (R.labels_in_block block) l h.bindings).0 in
+    let c : IsLawful (enter_body q (bindings_of d) (R.labels_in_block block) s) = body_lawful s h.entities q (bindings_of d) (R.labels_in_block block) l h.bindings in
     post_bind (block_rule block (enter_body q (bindings_of d) (R.labels_in_block block) s)) _
     (λ r. (IsLawful r.1 × After (enter_body q (bindings_of d) (R.labels_in_block block) s) r.1 × Unit {0})
     × (IsLabelled (enter_body q (bindings_of d) (R.labels_in_block block) s).body (R.labels_in_block block) r × IsBlock (length (map parameter_local (bindings_of d).parameters)) r.0)) (Shapes s)
@@ -133,10 +135,10 @@ function_shaped s f l =
     (built_runs u.1 (spot_of u.0.name r.0.first r.0.tag) u.0.derivations r.0.ty h.0.0 h.0.2.0 (lawful_later r.1.types.records u.1.types.records h.0.1.extends (type_of r.0.ty) g.2))
     (built_by (spot_of u.0.name r.0.first r.0.tag) u.0.derivations r.0.ty u.1 refl)) (λ v i.
     asked_post v.1 _ _ (Shapes s)
-    (post_bind _ _ (λ e. (IsLawful e.1 × After v.1 e.1 × NamedAt (name_of u.0).text e.1 e.0) × (ends_in_function u.0.derivations ≡ true)) (Shapes s)
-    (met_post v.1 _ _ (λ e. (IsLawful e.1 × After v.1 e.1 × NamedAt (name_of u.0).text e.1 e.0) × (ends_in_function u.0.derivations ≡ true)) (λ met.
-    post_weaken _ (λ e. IsLawful e.1 × After v.1 e.1 × NamedAt (name_of u.0).text e.1 e.0) (λ e. (IsLawful e.1 × After v.1 e.1 × NamedAt (name_of u.0).text e.1 e.0) × (ends_in_function u.0.derivations ≡ true))
-    (declared_at v.1 (name_of u.0).text (name_of u.0).token r.0.tag (definition_asking r.0) v.0 i.0.0 i.0.2) (λ e j. (j, ends_here v.1 (name_of u.0) r.0 u.0 f.declarations v.0 met)))) (λ e j.
+    (post_bind _ _ (λ e. (IsLawful e.1 × Knows v.1 e.1) × (ends_in_function u.0.derivations ≡ true)) (Shapes s)
+    (met_post v.1 _ _ (λ e. (IsLawful e.1 × Knows v.1 e.1) × (ends_in_function u.0.derivations ≡ true)) (λ met.
+    post_weaken _ (λ e. IsLawful e.1 × Knows v.1 e.1) (λ e. (IsLawful e.1 × Knows v.1 e.1) × (ends_in_function u.0.derivations ≡ true))
+    (declared_knows v.1 (name_of u.0).text (name_of u.0).token r.0.tag (definition_asking r.0) v.0 i.0.0 i.0.2) (λ e j. (j, ends_here v.1 (name_of u.0) r.0 u.0 f.declarations v.0 met)))) (λ e j.
     let c = function_kept e.1 e.0 j.0.0 in
     asked_post _ _ _ (Shapes s)
     (shapes_later s (define_function e.0 e.1) (body_rule (name_of u.0) e.0 v.0 (bindings_of u.0) f.body (define_function e.0 e.1))
@@ -145,9 +147,11 @@ function_shaped s f l =
       ends = j.1;
       bound = h.1;
       made = i.1;
-      lawful = lawful_later v.1.types.records (define_function e.0 e.1).types.records (after_trans j.0.1 c.1).extends (type_of v.0) i.0.2;
-      bindings = good_bindings (define_function e.0 e.1) u.0.bindings
-          (bindings_later v.1.types.records (define_function e.0 e.1).types.records (after_trans j.0.1 c.1).extends u.0.bindings (bindings_later u.1.types.records v.1.types.records i.0.1.extends u.0.bindings h.0.2.1));
+      lawful = lawful_later v.1.types.records (define_function e.0 e.1).types.records (extends_trans j.0.1.extends c.1.extends) (type_of v.0) i.0.2;
+      entities = v.1.scopes.entities;
+      bindings = good_if_any (define_function e.0 e.1).types.records v.1.scopes.entities u.0.bindings
+          (bindings_later v.1.types.records (define_function e.0 e.1).types.records v.1.scopes.entities v.1.scopes.entities (extends_trans j.0.1.extends c.1.extends) (λ k x f. f) u.0.bindings
+          (bindings_later u.1.types.records v.1.types.records u.1.scopes.entities v.1.scopes.entities i.0.1.extends i.0.1.entities u.0.bindings h.0.2.1));
     }))))))))
 
 -- ---- modules

@@ -1,4 +1,6 @@
 -- Initialisers: they leave a lawful state, and an object of a type that an object can have.
+use Rattle.pw_well_typed.proofs.Lists.{never_some}
+use Rattle.pw_well_typed.proofs.Composite.{Covers, covers_same, covers_trans}
 use Rattle.std.specs.Prelude.{ℕ, Bool, true, false, None, Some, List, [], ◌∷◌, length, refl}
 use Rattle.pw_literal.specs.Characters.{string_bytes_of}
 use Rattle.pw_tree.specs.FirstTokens.{first_of_expr}
@@ -132,6 +134,18 @@ with_length_lawful r n (Qualified (Record k) c v) h = h
 
 pub lawful_stays : Stays IsLawfully
 lawful_stays = record { later = λ a b q x h. lawful_later a b x (type_of q) h; lengthened = with_length_lawful }
+
+pub covers_length : (n : ℕ) (q : QType) → Covers (with_length n q) q
+covers_length n (Qualified (Array (Qualified ty d w) None) c v) = record { stem = λ r. refl; array = refl; function = refl; length = λ k e. never_some e }
+covers_length n (Qualified (Array q (Some k)) c v) = covers_same (Qualified (Array q (Some k)) c v)
+covers_length n (Qualified Void c v) = covers_same (Qualified Void c v)
+covers_length n (Qualified (Int k) c v) = covers_same (Qualified (Int k) c v)
+covers_length n (Qualified (Pointer q) c v) = covers_same (Qualified (Pointer q) c v)
+covers_length n (Qualified (Function q ps) c v) = covers_same (Qualified (Function q ps) c v)
+covers_length n (Qualified (Record k) c v) = covers_same (Qualified (Record k) c v)
+
+pub covers_stays : (q : QType) → Stays (λ r t. Covers t q)
+covers_stays q = record { later = λ a b t x h. h; lengthened = λ r n t h. covers_trans (covers_length n t) h }
 
 abbrev pub Keeps : (List RecordValue → QType → Type 0) → State → Initialised → Type 0
 Keeps P s o = P s.types.records o.ty

@@ -2,6 +2,7 @@ pub mod Walking
 pub mod Lists
 pub mod Types
 pub mod Composite
+pub mod Sound
 pub mod States
 pub mod Conversions
 pub mod Nodes
@@ -16,6 +17,7 @@ pub mod Counting
 pub mod Locals
 pub mod Filling
 pub mod Keeping
+pub mod Declaring
 pub mod Initialisers
 pub mod Declarations
 pub mod Adding
@@ -26,5 +28,7 @@ pub mod FunctionLaws
 pub mod Parameters
 pub mod Bodies
 pub mod Statements
+pub mod Ending
+pub mod Backward
 pub mod Modules
 pub mod Laws

@@ -178,10 +178,10 @@ scope_bound s parameters l =
 scope_lawful : (s : State) (parameters : Parameters) → IsLawful s
     → Post (scoped (λ t. bind (parameters_rule parameters [] t) (λ ps. bindings_rule ps.0 ps.1)) s) (λ r. IsLawful r.1 × Unit {0})
 scope_lawful s parameters l =
-    post_weaken _ (λ r. IsLawful r.1 × Grows s r.1 × GoodBindings r.1.types.records r.0) (λ r. IsLawful r.1 × Unit {0})
+    post_weaken _ (λ r. IsLawful r.1 × Grows s r.1 × GoodBindings r.1.types.records r.1.scopes.entities r.0) (λ r. IsLawful r.1 × Unit {0})
     (scoped_runs s (λ t. bind (parameters_rule parameters [] t) (λ ps. bindings_rule ps.0 ps.1)) GoodBindings l
-    (goes_widely _ _ (λ u ps. GoodParameters u.types.records true ps) (λ u b. GoodBindings u.types.records b)
-    (parameters_post parameters [] (one_deeper s) (deeper_lawful s l) (inl tt)) (λ r m g f. widely _ _ (λ u b. GoodBindings u.types.records b) (bindings_runs r.1 true r.0 m f)))) (λ r g. (g.0, tt))
+    (goes_widely _ _ (λ u ps. GoodParameters u.types.records true ps) (λ u b. GoodBindings u.types.records u.scopes.entities b)
+    (parameters_post parameters [] (one_deeper s) (deeper_lawful s l) (inl tt)) (λ r m g f. widely _ _ (λ u b. GoodBindings u.types.records u.scopes.entities b) (bindings_runs r.1 s true r.0 m l g f)))) (λ r g. (g.0, tt))
 
 either_bound : (s : State) (a b : Option Bindings) → IsBoundIfAny s a → IsBoundIfAny s b → IsBoundIfAny s (option_or a b)
 either_bound s None b h k = k
