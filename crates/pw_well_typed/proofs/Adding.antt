@@ -10,7 +10,7 @@ use Rattle.pw_types.specs.declared.record.RecordKind.{RecordKind}
 use Rattle.pw_types.specs.TypeTrees.{QType, type_of}
 use Rattle.pw_types.specs.TypedTrees.{Hidden, Expression, Initialiser, LocalValue, GlobalValue, ModuleValue}
 use Rattle.pw_types.specs.TypedTrees as T
-use Rattle.pw_types.specs.WellTyped.{IsTyped, IsDefined}
+use Rattle.pw_types.specs.WellTyped.{IsTyped}
 use Rattle.pw_walk.specs.Causes.{needs, DeclaresSomething}
 use Rattle.pw_walk.specs.Walks.{Walk, Done, bind, meets}
 use Rattle.pw_rules.specs.Declarations.{Sort, ATypedef, AFunction, AGlobal, AnExtern, AStatic, ALocal, sort_of, asking_of, name_rule, hidden_of, local_of, is_tentative, completed_rule, fitting_rule, context_of, global_rule, static_rule, first_part, bytes_rule, single_rule, local_initialiser, local_rule, declare_rule, name_of, place_here, init_declarator_rule, init_declarators_rule, storage_rule, declares_something, specified_rule, bare_rule, declarators_rule, decl_rule, decls_rule}
@@ -35,7 +35,7 @@ use Rattle.pw_well_typed.proofs.States.{Runs, goes_on, Grows, grows_same, grows_
 use Rattle.pw_well_typed.proofs.Changes.{hidden_added, hidden_grows, entered}
 use Rattle.pw_well_typed.proofs.Leaves.{Nothing, GoodType, GoodGathered, GoodSpecified, GoodDeclared, GoodReference, Fresh, specified_runs, built_runs, reference_by_runs, new_tag_runs, tag_here_lawful}
 use Rattle.pw_well_typed.proofs.Phrases.{specifiers_post, declarator_post}
-use Rattle.pw_well_typed.proofs.Locals.{IsPlaced, ArePlaced, placed_longer, longer_put, longer_same, grows_placed, entered_placed, added_placed, put_placed, place_of_new, local_entered, local_completed, local_placed, completed_placed}
+use Rattle.pw_well_typed.proofs.Locals.{IsPlaced, ArePlaced, placed_longer, longer_put, longer_same, grows_placed, entered_placed, put_placed, place_of_new, local_entered, local_completed, local_placed, completed_placed}
 use Rattle.pw_well_typed.proofs.Filling.{IsTypedAs, AreTypedAs, object_runs, runs_whatever}
 use Rattle.pw_well_typed.proofs.Sound.{Sound}
 use Rattle.pw_well_typed.proofs.Backward.{Names, names_back}

@@ -1,5 +1,5 @@
 -- The bodies of functions: their statements are well typed in each module that the names of a later state stand for.
-use Rattle.std.specs.Prelude.{ℕ, zero, suc, ◌≡◌, ◌<◌, ◌≤◌, ◌+◌, ◌⊎◌, Bool, true, false, not, Option, None, Some, unwrap_or, option_and_then, List, [], ◌∷◌, ◌++◌, length, map, slice_get, if◌then◌else◌, All, Ok, refl}
+use Rattle.std.specs.Prelude.{ℕ, zero, suc, ◌≡◌, ◌<◌, ◌≤◌, ◌+◌, ◌⊎◌, true, false, Option, None, Some, unwrap_or, option_and_then, List, [], ◌∷◌, length, map, slice_get, All, Ok, refl}
 use Rattle.std.specs.Option.{option_map_or}
 use Rattle.std.proofs.Common.{arith, ap, sym, subst, ◌∙◌, inl, inr}
 use Rattle.std.proofs.lemmas.Option.{slice_get-get_or}
@@ -238,14 +238,14 @@ body_stated v s w place q d block text h =
         depth = let e : r.1.scopes.depth ≡ s.scopes.depth + 1 = inside.depth in omega (arith, e);
       },
       λ i e at. by f r.1 g.0.1.functions (λ m names owned words.
-      g.1.1.1 m (function_of r.1 w place q (bindings_of d) r.0) (record {
-        names = names_around r.1 (add_function (function_of r.1 w place q (bindings_of d) r.0) (leave_scope r.1)) m refl refl refl names;
-        owned = owned;
-        locals_are = longer_same r.1.body.locals;
-      })
-      (framed s r.1 w place q d block r.0 h.declares g.0.1.extends g.1.0.1 m (names_around r.1 (add_function (function_of r.1 w place q (bindings_of d) r.0) (leave_scope r.1)) m refl refl refl names))
-      ready words (length (bindings_of d).parameters) (let k : length (map parameter_local (bindings_of d).parameters) ≡ length (bindings_of d).parameters = length_map parameter_local (bindings_of d).parameters in omega (arith, k))) i e
-      (get_more r.1.made.functions f i e at),
+          g.1.1.1 m (function_of r.1 w place q (bindings_of d) r.0) (record {
+            names = names_around r.1 (add_function (function_of r.1 w place q (bindings_of d) r.0) (leave_scope r.1)) m refl refl refl names;
+            owned = owned;
+            locals_are = longer_same r.1.body.locals;
+          })
+          (framed s r.1 w place q d block r.0 h.declares g.0.1.extends g.1.0.1 m (names_around r.1 (add_function (function_of r.1 w place q (bindings_of d) r.0) (leave_scope r.1)) m refl refl refl names))
+          ready words (length (bindings_of d).parameters) (let k : length (map parameter_local (bindings_of d).parameters) ≡ length (bindings_of d).parameters = length_map parameter_local (bindings_of d).parameters in omega (arith, k))) i e
+          (get_more r.1.made.functions f i e at),
     ))
   where
     by : (f : FunctionValue) (t : State) → t.made.functions ≡ s.made.functions → IsStated (add_function f (leave_scope t)) f → (i : ℕ) (e : FunctionValue)

@@ -1,5 +1,5 @@
 -- The names that a list of parameters declares: each is a parameter of its type, or an enumeration constant.
-use Rattle.std.specs.Prelude.{ℕ, ◌≡◌, ◌+◌, ◌≤◌, ◌⊎◌, ◌==◌, Bool, true, false, not, ◌&&◌, ◌||◌, Option, None, Some, is_none, List, [], ◌∷◌, ◌++◌, length, map, filter, slice_get, if◌then◌else◌, refl}
+use Rattle.std.specs.Prelude.{ℕ, ◌≡◌, ◌+◌, ◌≤◌, ◌⊎◌, ◌==◌, Bool, true, false, not, ◌&&◌, ◌||◌, Option, None, Some, is_none, List, [], ◌∷◌, ◌++◌, length, filter, slice_get, if◌then◌else◌, refl}
 use Rattle.std.specs.Option.{option_or}
 use Rattle.std.proofs.Common.{arith, ap, sym, subst, ◌∙◌, inl, inr}
 use Rattle.std.proofs.lemmas.Bool.{eqb-true}
@@ -7,22 +7,22 @@ use Rattle.pw_tree.specs.FirstTokens.{first_of_expr}
 use Rattle.pw_tree.specs.Trees.{Declarator, Core, Suffixes, Parameters, Word}
 use Rattle.pw_tree.specs.Trees as S
 use Rattle.pw_types.specs.TypeTrees.{Void, Int, Pointer, Array, Function, Record, QType, Qualified, type_of}
-use Rattle.pw_walk.specs.Walks.{Walk, Done, bind}
-use Rattle.pw_rules.specs.Derivations.{ParameterValue, Bindings, Declared, Suffixed, built, spot_of}
+use Rattle.pw_walk.specs.Walks.{bind}
+use Rattle.pw_rules.specs.Derivations.{ParameterValue, Bindings, Declared, built, spot_of}
 use Rattle.pw_rules.specs.Kinds.{is_void}
-use Rattle.pw_rules.specs.Leaves.{adjusted, is_nil, is_last, says_none, named_point, parameter_rule, enter_parameter, without_void, bindings_rule, length_rule, first_of_declaration}
+use Rattle.pw_rules.specs.Leaves.{adjusted, is_nil, is_last, says_none, named_point, parameter_rule, enter_parameter, without_void, bindings_rule, first_of_declaration}
 use Rattle.pw_rules.specs.Phrases.{declarator_rule, core_rule, suffixes_rule, parameters_rule}
 use Rattle.pw_rules.specs.SpecifierLists.{Specified, nothing_gathered, is_register}
-use Rattle.pw_rules.specs.States.{State, Entity, TypeName, EnumerationConstant, LocalObject, StaticObject, Linked, enter, scoped, one_deeper, leave_scope}
+use Rattle.pw_rules.specs.States.{State, Entity, TypeName, EnumerationConstant, LocalObject, StaticObject, Linked, enter, scoped, one_deeper}
 use Rattle.pw_rules.specs.declared.names.Entry.{Entry}
 use Rattle.pw_well_typed.specs.Lawful.{IsLawful}
 use Rattle.pw_well_typed.proofs.Walking.{Post, post_bind, post_weaken, post_both, truth, met_right}
-use Rattle.pw_well_typed.proofs.Lists.{some_same, never_some, get_append, get_either, get_one, get_last, get_more, get_map, get_filter}
-use Rattle.pw_well_typed.proofs.Types.{no, left, right, not_true, lawful_later}
-use Rattle.pw_well_typed.proofs.States.{Fine, FineValue, Runs, Grows, Widens, HasEntity, IsConstant, grows_same, grows_trans, widely, goes_widely, goes_on}
+use Rattle.pw_well_typed.proofs.Lists.{get_append, get_either, get_one, get_last, get_more, get_map, get_filter}
+use Rattle.pw_well_typed.proofs.Types.{no}
+use Rattle.pw_well_typed.proofs.States.{Fine, FineValue, Grows, Widens, HasEntity, IsConstant, grows_trans, widely, goes_widely, goes_on}
 use Rattle.pw_well_typed.proofs.Operations.{value_runs}
 use Rattle.pw_well_typed.proofs.Changes.{deeper_lawful, scoped_runs}
-use Rattle.pw_well_typed.proofs.Leaves.{Nothing, GoodType, GoodGathered, GoodSpecified, GoodDeclared, GoodParameters, AreScalars, scalars_later, specified_runs, built_runs, length_runs, parameter_storage_runs, parameter_runs, GoodBindings, bindings_runs}
+use Rattle.pw_well_typed.proofs.Leaves.{Nothing, GoodType, GoodGathered, GoodSpecified, GoodDeclared, GoodParameters, scalars_later, specified_runs, built_runs, length_runs, parameter_storage_runs, parameter_runs, GoodBindings, bindings_runs}
 use Rattle.pw_well_typed.proofs.Phrases.{expr_post, specifiers_post, declarator_post, core_post, suffixes_post, parameters_post, later_type, scalars_only, GoodSuffixed}
 
 -- what the scope of a parameter list has: a constant, or a parameter of its type, which is not void

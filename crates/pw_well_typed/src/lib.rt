@@ -1,11 +1,11 @@
 //! What checking promises of its result, said of typed trees alone: laws, as the contracts of functions that do nothing.
 #![tactic(auto)]
 
-ghost use Rattle.std.specs.Prelude.{◌≢◌, All, AllPairs, List, Ok};
+ghost use Rattle.std.specs.Prelude.{◌≢◌, false, All, AllPairs, List, Ok};
 ghost use Rattle.pw_tree.specs.Trees.{Expr, Module};
 ghost use Rattle.pw_types.specs.Records.{IsLaid};
 ghost use Rattle.pw_types.specs.TypeTrees.{type_of};
-ghost use Rattle.pw_types.specs.TypedModules.{AreLabels, IsBlock, IsFunctionTyped};
+ghost use Rattle.pw_types.specs.TypedModules.{AreLabels, IsBlock, IsFunctionTyped, IsStatement};
 ghost use Rattle.pw_types.specs.TypedTrees.{LocalValue, ModuleValue};
 ghost use Rattle.pw_types.specs.WellTyped.{IsKnownType, IsTyped};
 ghost use Rattle.pw_walk.specs.Answers.{Answers};
@@ -14,6 +14,8 @@ ghost use Rattle.pw_rules.specs.Operands.{Operand};
 ghost use Rattle.pw_rules.specs.Phrases.{expr_rule};
 ghost use Rattle.pw_rules.specs.States.{State, start};
 ghost use Rattle.pw_well_typed.specs.Lawful.{AreWords, Denotes, IsLawful};
+ghost use Rattle.pw_well_typed.specs.Texts.{ModuleHasText};
+ghost use Rattle.pw_well_typed.specs.Words.{WordsInStatement};
 
 /// Nothing is declared at a module's start, so nothing that is known there is unlawful.
 pub fn start_is_lawful()
@@ -52,4 +54,12 @@ pub fn accepted_labels_are_apart()
 pub fn accepted_functions_are_typed()
     ensures typed { (tree : Module) (m : ModuleValue) → Checks tree (Ok m) → All (IsFunctionTyped m) m.functions }
     ensures block { (tree : Module) (m : ModuleValue) → Checks tree (Ok m) → All (λ f. IsBlock f.params f.body) m.functions }
+{}
+
+/// The body of each function of a module that checking accepts is a well-typed statement of the function, in no loop and no switch,
+/// if each number in it is one of 32 bits, as in each tree that the code makes, and each labelled statement of the syntax tree has a
+/// label, as in each tree of a text (ISO C90 6.5.7, 6.6).
+pub fn accepted_bodies_are_well_typed()
+    ensures { (tree : Module) (m : ModuleValue) → ModuleHasText tree → Checks tree (Ok m)
+        → All (λ f. WordsInStatement f.body → IsStatement m f false false f.params f.body) m.functions }
 {}
