@@ -1,7 +1,7 @@
 -- The laws, from what holds of all that the walks make.
 use Rattle.std.specs.Prelude.{All, List, Ok, refl, AllPairs, ◌≢◌}
 use Rattle.pw_tree.specs.Trees.{Expr, Module}
-use Rattle.pw_types.specs.Records.{IsLaid}
+use Rattle.pw_types.specs.Records.{IsLaid, IsObjectType}
 use Rattle.pw_types.specs.TypedModules.{IsDeclaredIfExternal}
 use Rattle.pw_types.specs.TypeTrees.{type_of}
 use Rattle.pw_rules.specs.Checks.{Checks, checking}
@@ -68,3 +68,7 @@ module_functions_declared tree m h = (accepted tree m h).external
 
 pub module_objects_declared : (tree : Module) (m : ModuleValue) → Checks tree (Ok m) → All (λ g. IsDeclaredIfExternal m g.name g.ty) m.globals
 module_objects_declared tree m h = (accepted tree m h).declared
+
+pub module_locals : (tree : Module) (m : ModuleValue) → Checks tree (Ok m)
+    → All (λ f. All (λ l. IsObjectType m.records (type_of l.ty) × IsKnownType m.records (type_of l.ty)) f.locals) m.functions
+module_locals tree m h = (accepted tree m h).locals

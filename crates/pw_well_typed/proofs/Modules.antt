@@ -154,20 +154,20 @@ symbol_text l = by l.internal
     by false = refl
 
 -- the function is that of a name that is defined
-abbrev PlacedAt : State → FunctionValue → Type 0
+abbrev pub PlacedAt : State → FunctionValue → Type 0
 PlacedAt s f = (place : ℕ) × (l : LinkedName) × (slice_get s.types.linked place ≡ Some l) × (l.defined ≡ true) × (f.name ≡ symbol_of_linked l)
 
 -- each local of a function has a type that an object can have
-abbrev HasLocals : List RecordValue → FunctionValue → Type 0
+abbrev pub HasLocals : List RecordValue → FunctionValue → Type 0
 HasLocals r f = (k : ℕ) (l : LocalValue) → slice_get f.locals k ≡ Some l → IsObjectLike r l.ty × IsObjectType r (type_of l.ty)
 
 locals_later : (a b : List RecordValue) (f : FunctionValue) → Extends a b → HasLocals a f → HasLocals b f
 locals_later a b f x h k l e = let y = h k l e in (like_later x y.0, object_later a b x (type_of l.ty) y.1)
 
-record OnceDefined (s : State) : Type 0 where
-  locals : (i : ℕ) (f : FunctionValue) → slice_get s.made.functions i ≡ Some f → HasLocals s.types.records f
-  placed : (i : ℕ) (f : FunctionValue) → slice_get s.made.functions i ≡ Some f → PlacedAt s f
-  apart : (i j : ℕ) (f g : FunctionValue) → slice_get s.made.functions i ≡ Some f → slice_get s.made.functions j ≡ Some g → f.name ≡ g.name → i ≡ j
+pub record OnceDefined (s : State) : Type 0 where
+  pub locals : (i : ℕ) (f : FunctionValue) → slice_get s.made.functions i ≡ Some f → HasLocals s.types.records f
+  pub placed : (i : ℕ) (f : FunctionValue) → slice_get s.made.functions i ≡ Some f → PlacedAt s f
+  pub apart : (i j : ℕ) (f g : FunctionValue) → slice_get s.made.functions i ≡ Some f → slice_get s.made.functions j ≡ Some g → f.name ≡ g.name → i ≡ j
 
 once_later : {s t : State} → After s t → OnceDefined s → OnceDefined t
 once_later {s} {t} a o = record {
@@ -246,7 +246,7 @@ abbrev DefinedAt : List ℕ → QType → State → ℕ → Type 0
 DefinedAt name q t place = (x : LinkedName) × (slice_get t.types.linked place ≡ Some x) × (x.name ≡ name) × (x.defined ≡ true) × Covers x.ty q
 
 -- what stands behind a function or a declaration outside of functions
-abbrev Onwards : {A : Type 0} → State → A × State → Type 0
+abbrev pub Onwards : {A : Type 0} → State → A × State → Type 0
 Onwards s r = IsLawful r.1 × OnceDefined r.1 × Later s r.1
 
 later_function : (s t : State) (f : FunctionValue) → After s t → IsFunctionNamed t.types.linked f → Later s (add_function f t)
@@ -304,7 +304,7 @@ not_yet s w b d ds q met =
     met.1.1.1.0)
 
 -- where the step nearest to the name is a function, the type is one
-built_kind : (steps : List Derivation) (spot : Spot) (q : QType) (s : State) → Post (built spot steps q s) (λ r. ends_in_function steps ≡ true → is_function (type_of r.0) ≡ true)
+pub built_kind : (steps : List Derivation) (spot : Spot) (q : QType) (s : State) → Post (built spot steps q s) (λ r. ends_in_function steps ≡ true → is_function (type_of r.0) ≡ true)
 unfolding built ends_in_function bind
 built_kind [] spot q s = λ e. no e
 built_kind (ToFunction ps ∷ []) spot q s = λ met e. refl
@@ -317,7 +317,7 @@ built_kind (ToArray n ∷ next ∷ rest) spot q s = λ met. built_kind (next ∷
 is_kind : (s : State) (w : Word) (b : Specified) (d : Declared) (ds : List Decl) (q : QType) → AreMet (definition_rules s w b d ds q) → ends_in_function d.derivations ≡ true
 is_kind s w b d ds q met = truth (ends_in_function d.derivations) met.1.1.1.1.0
 
-is_linkable : (s : State) (w : Word) (b : Specified) (d : Declared) (ds : List Decl) (q : QType) → AreMet (definition_rules s w b d ds q) → Linkable s w.text q
+pub is_linkable : (s : State) (w : Word) (b : Specified) (d : Declared) (ds : List Decl) (q : QType) → AreMet (definition_rules s w b d ds q) → Linkable s w.text q
 is_linkable s w b d ds q met = record {
   linked = λ x e. mapped is_linked (entity_here s w.text) x (truth _ met.0) e;
   alike = λ l e. mapped (λ (l : LinkedName). compatible l.ty q) (linked_before s w.text) l (truth _ met.1.1.0) e;
@@ -358,7 +358,7 @@ function_post s f l o =
 
 -- ---- modules
 
-external_post : (s : State) (x : External) → IsLawful s → OnceDefined s → Post (external_rule x s) (Onwards s)
+pub external_post : (s : State) (x : External) → IsLawful s → OnceDefined s → Post (external_rule x s) (Onwards s)
 unfolding external_rule
 external_post s (Definition f) l o = function_post s f l o
 external_post s (Declaration d) l o = then_post _ _ Anything (Onwards s) (decl_goes s d l) (λ r m x h. (m, once_later x o, later_after x))
@@ -447,7 +447,7 @@ sound s l o h = record {
   declared = globals_declared s l h;
 }
 
-none_defined : OnceDefined start
+pub none_defined : OnceDefined start
 none_defined = record { locals = λ i f e. never_some e; placed = λ i f e. never_some e; apart = λ i j f g e h same. never_some e }
 
 pub checking_sound : (m : Module) → IsLawful start → Post (bind (module_rule m start) (λ r. Done r.0)) IsSound
