@@ -137,7 +137,7 @@ get_behind : {X : Type 0} (xs ys : List X) (k : ℕ) (y : X) → slice_get ys k 
 get_behind [] ys k y e = (k, e)
 get_behind (x ∷ xs) ys k y e = let r = get_behind xs ys k y e in (suc r.0, r.1)
 
-get_flat : {X Y : Type 0} (f : X → List Y) (xs : List X) (i : ℕ) (x : X) (j : ℕ) (y : Y) → slice_get xs i ≡ Some x → slice_get (f x) j ≡ Some y
+pub get_flat : {X Y : Type 0} (f : X → List Y) (xs : List X) (i : ℕ) (x : X) (j : ℕ) (y : Y) → slice_get xs i ≡ Some x → slice_get (f x) j ≡ Some y
     → (k : ℕ) × (slice_get (flat_map f xs) k ≡ Some y)
 get_flat f [] i x j y e g = never_some e
 get_flat f (z ∷ xs) zero x j y e g = (j, get_append (f z) (flat_map f xs) j y (subst (λ w. slice_get (f w) j ≡ Some y) (sym (some_same e)) g))

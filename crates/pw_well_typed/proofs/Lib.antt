@@ -11,6 +11,7 @@ pub mod Calls
 pub mod Operations
 pub mod Changes
 pub mod Objects
+pub mod ObjectTypes
 pub mod Leaves
 pub mod Phrases
 pub mod Counting
@@ -25,8 +26,11 @@ pub mod LabelLaws
 pub mod FunctionTypes
 pub mod StatementTypes
 pub mod FunctionLaws
+pub mod Parameters
+pub mod Bodies
 pub mod Statements
 pub mod Ending
 pub mod Backward
 pub mod Modules
 pub mod Laws
+pub mod Whole
