@@ -57,7 +57,7 @@ get_mapped f [] i x e = never_some e
 get_mapped f (z ∷ xs) zero x e = ap (λ y. Some (f y)) (some_same e)
 get_mapped f (z ∷ xs) (suc i) x e = get_mapped f xs i x e
 
-all_at : {X : Type 0} (P : X → Type 0) (xs : List X) → ((i : ℕ) (x : X) → slice_get xs i ≡ Some x → P x) → All P xs
+pub all_at : {X : Type 0} (P : X → Type 0) (xs : List X) → ((i : ℕ) (x : X) → slice_get xs i ≡ Some x → P x) → All P xs
 all_at P xs h k d below = h k (get_or xs k d) (slice_get-get_or xs k d below)
 
 all_flat : {X Y : Type 0} (P : Y → Type 0) (f : X → List Y) (xs : List X) → ((i : ℕ) (x : X) → slice_get xs i ≡ Some x → All P (f x)) → All P (flat_map f xs)

@@ -11,6 +11,7 @@ pub mod Calls
 pub mod Operations
 pub mod Changes
 pub mod Objects
+pub mod ObjectTypes
 pub mod Leaves
 pub mod Phrases
 pub mod Counting
@@ -32,3 +33,4 @@ pub mod Ending
 pub mod Backward
 pub mod Modules
 pub mod Laws
+pub mod Whole
