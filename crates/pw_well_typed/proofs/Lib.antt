@@ -24,6 +24,7 @@ pub mod Declarations
 pub mod Adding
 pub mod LabelLaws
 pub mod FunctionTypes
+pub mod Texts
 pub mod StatementTypes
 pub mod FunctionLaws
 pub mod Parameters
