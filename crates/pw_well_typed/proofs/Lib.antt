@@ -26,6 +26,7 @@ pub mod LabelLaws
 pub mod FunctionTypes
 pub mod Texts
 pub mod StatementTypes
+pub mod ItemBytes
 pub mod FunctionLaws
 pub mod Parameters
 pub mod Bodies
