@@ -1,14 +1,14 @@
 -- The bytes of items: each is a byte, and a scalar's item has as many as its type.
 use Rattle.std.specs.Prelude.{ℕ, zero, suc, ◌≡◌, ◌<◌, ◌≤◌, ◌+◌, ◌/◌, ◌%◌, ◌||◌, nat_lt, not, Bool, true, false, if◌then◌else◌, Option, None, Some, option_map, unwrap_or, List, [], ◌∷◌, ◌++◌, length, take, All, refl}
 use Rattle.std.specs.List.{list_any}
-use Rattle.std.proofs.Common.{arith, ap, sym, subst, ◌∙◌, length-append}
+use Rattle.std.proofs.Common.{arith, sym, subst, length-append}
 use Rattle.std.proofs.lemmas.Bool.{ltb-false}
 use Rattle.std.proofs.lemmas.Nat.{mod_below}
 use Rattle.std.proofs.lemmas.List.Elements.{All-nil, All-cons, All-append, All-take}
 use Rattle.pw_literal.specs.Characters.{fits_bytes}
 use Rattle.pw_types.specs.Conversions.{size_of_kind}
 use Rattle.pw_types.specs.Layouts.{size_of}
-use Rattle.pw_types.specs.TypeTrees.{CType, Void, Int, Pointer, Array, Function, Record, QType, RecordValue}
+use Rattle.pw_types.specs.TypeTrees.{CType, Void, Int, Pointer, Array, Function, Record, RecordValue}
 use Rattle.pw_types.specs.TypedTrees.{Expression, ItemValue, ItemBytes, ItemAddress}
 use Rattle.pw_types.specs.TypedModules.{item_size}
 use Rattle.pw_rules.specs.Constants.{Place, constant_value, is_null_pointer, address_of}

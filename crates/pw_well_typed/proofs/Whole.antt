@@ -2,7 +2,7 @@
 use Rattle.std.specs.Prelude.{All, Ok}
 use Rattle.pw_tree.specs.Trees.{Module}
 use Rattle.pw_types.specs.TypedModules.{IsFunction, IsGlobal, WellTyped}
-use Rattle.pw_types.specs.TypedTrees.{FunctionValue, ModuleValue}
+use Rattle.pw_types.specs.TypedTrees.{ModuleValue}
 use Rattle.pw_rules.specs.Checks.{Checks}
 use Rattle.pw_tree.specs.WellFormed.{WellFormedModule}
 use Rattle.pw_well_typed.specs.Words.{WordsInStatement}
