@@ -1,5 +1,5 @@
 -- What a put tells.
-use Rattle.std.proofs.Common.{◌≡◌, ℕ, inl, inr, List, [], take, drop, Option, Some, None, Result, Ok, Err, refl, sym, append-nil}
+use Rattle.std.proofs.Common.{ℕ, inl, inr, List, [], take, drop, Option, Some, None, Result, Ok, Err, refl, sym, append-nil}
 use Rattle.std.specs.Prelude.{OnOk, OnErr}
 use Rattle.std.proofs.lemmas.List.{take-append-drop}
 use Rattle.pw_io.specs.declared.Failed.{Failed}

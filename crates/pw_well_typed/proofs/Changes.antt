@@ -1,5 +1,11 @@
 -- Changes of the state: each leaves it lawful, and forgets nothing.
-use Rattle.std.specs.Prelude.{set, ℕ, zero, suc, ◌≡◌, ◌+◌, ◌<◌, ◌≤◌, ◌⊎◌, nat_lt, Bool, true, false, Option, None, Some, option_and_then, List, [], ◌∷◌, ◌++◌, length, filter, slice_get, refl}
+use Rattle.std.proofs.lemmas.Slice.Eq.{bytes_eq-Decides}
+use Rattle.std.specs.Str.{bytes_eq}
+use Rattle.pw_scope.specs.Visible.{visible}
+use Rattle.pw_rules.specs.declared.names.Slot.{Slot}
+use Rattle.pw_well_typed.proofs.Composite.{covers_same}
+use Rattle.pw_well_typed.proofs.Sound.{Sound, Backed, Spelled, IsPlain, plain_backed, plain_spelled, backed_more, spelled_more, all_backed_on, slots_hidden, continues_same}
+use Rattle.std.specs.Prelude.{set, ℕ, zero, suc, ◌≡◌, ◌+◌, ◌<◌, ◌≤◌, ◌⊎◌, nat_lt, Bool, true, false, Option, None, Some, option_and_then, List, [], ◌∷◌, ◌++◌, length, filter, slice_get, refl, ◌-◌, if◌then◌else◌}
 use Rattle.std.proofs.Common.{arith, ap, sym, subst, ◌∙◌, inl, inr, append-nil, length-append}
 use Rattle.std.proofs.lemmas.Bool.{ltb-true, ltb-false}
 use Rattle.pw_types.specs.declared.record.RecordKind.{RecordKind}
@@ -11,7 +17,7 @@ use Rattle.std.specs.Option.{option_map_or}
 use Rattle.pw_types.specs.TypeTrees.{QType, type_of, MemberValue, ContentValue, RecordValue}
 use Rattle.pw_walk.specs.Walks.{bind}
 use Rattle.pw_rules.specs.Leaves.{open_record}
-use Rattle.pw_rules.specs.States.{State, Rule, Entity, TypeName, EnumerationConstant, LocalObject, StaticObject, Linked, HiddenObject, enter, enter_tag, add_record, put_record, add_hidden, with_made, one_deeper, leave_scope, scoped, uncounted, put_at}
+use Rattle.pw_rules.specs.States.{State, Rule, Entity, TypeName, EnumerationConstant, LocalObject, StaticObject, Linked, HiddenObject, enter, enter_tag, add_record, put_record, add_hidden, with_made, one_deeper, leave_scope, scoped, uncounted, put_at, entry_here, if_here}
 use Rattle.pw_rules.specs.declared.names.Entry.{Entry}
 use Rattle.pw_rules.specs.declared.names.Tag.{Tag}
 use Rattle.pw_rules.specs.declared.names.Tag.TheVariants as G
@@ -19,7 +25,7 @@ use Rattle.pw_rules.specs.declared.names.TagEntry.{TagEntry}
 use Rattle.pw_well_typed.specs.Lawful.{IsLawful, IsObjectLike, HasLawfulMembers, IsLawfulEntity, IsLawfulTag, Extends}
 use Rattle.pw_well_typed.proofs.Walking.{post_bind}
 use Rattle.pw_well_typed.proofs.States.{GrowsBy, Grows, Runs, Widens, Widely}
-use Rattle.pw_well_typed.proofs.Lists.{some_same, never_some, get_append, get_either, get_one, get_last, get_within, get_filter, filter_front, length_put, put_same, put_either}
+use Rattle.pw_well_typed.proofs.Lists.{some_same, never_some, get_append, get_either, get_one, get_last, get_within, get_filter, filter_front, length_put, put_same, put_either, visible_more}
 use Rattle.pw_well_typed.proofs.Types.{extends_trans, extends_same, lawful_later}
 
 -- ---- what is lawful stays lawful
@@ -102,6 +108,8 @@ record_grows s kind l = record {
   counting = refl;
   body = refl;
   functions = refl;
+  here = λ name e h. h;
+  sound = λ pending h. record { backed = h.backed; spelled = h.spelled; functions = h.functions; slots = h.slots };
 }
 
 -- ---- names and tags more
@@ -132,8 +140,28 @@ entered s name entity l h = record {
         ap (λ (x : List ℕ × Entry). x.1.depth) (get_one (name, record { place = length s.scopes.entities; depth = s.scopes.depth }) g.0 e g.1) in
         omega (arith, same)
 
-pub entered_grows : (P : Entity → Type 0) (s : State) (name : List ℕ) (entity : Entity) → P entity → GrowsBy P s (enter name entity s)
-entered_grows P s name entity good = record {
+-- the names that are declared in the scope stay so
+entered_here : (s : State) (name : List ℕ) (entity : Entity) → entry_here s name ≡ None → (other : List ℕ) (e : Entry) → entry_here s other ≡ Some e
+    → entry_here (enter name entity s) other ≡ Some e
+entered_here s name entity fresh other e h =
+    ap (option_and_then (if_here s.scopes.depth)) (visible_more s.scopes.ordinary name (record { place = length s.scopes.entities; depth = s.scopes.depth }) other) ∙ by (bytes_eq other name) refl
+  where
+    by : (b : Bool) → bytes_eq other name ≡ b
+        → option_and_then (if_here s.scopes.depth) (if b then Some (record { place = length s.scopes.entities; depth = s.scopes.depth }) else visible s.scopes.ordinary other) ≡ Some e
+    by true f = never_some (sym fresh ∙ (ap (entry_here s) (sym ((bytes_eq-Decides other name).0 f)) ∙ h))
+    by false f = h
+
+pub entered_sound : (s : State) (name : List ℕ) (entity : Entity) (pending : Option Slot) → Sound pending s → Backed s.types.linked s.made.hidden entity → Spelled s.types.linked name entity
+    → Sound pending (enter name entity s)
+entered_sound s name entity pending h b p = record {
+  backed = backed_more s.types.linked s.made.hidden s.scopes.entities entity h.backed b;
+  spelled = spelled_more s.types.linked s.scopes.entities s.scopes.ordinary entity name s.scopes.depth h.spelled p;
+  functions = h.functions;
+  slots = h.slots;
+}
+
+pub entered_grows : (P : Entity → Type 0) (s : State) (name : List ℕ) (entity : Entity) → P entity → IsPlain entity → entry_here s name ≡ None → GrowsBy P s (enter name entity s)
+entered_grows P s name entity good plain fresh = record {
   extends = extends_same s.types.records;
   begun = λ n e. (e, refl);
   linked = refl;
@@ -150,6 +178,8 @@ entered_grows P s name entity good = record {
   counting = refl;
   body = refl;
   functions = refl;
+  here = λ n e h. entered_here s name entity fresh n e h;
+  sound = λ pending h. entered_sound s name entity pending h (plain_backed s.types.linked s.made.hidden entity plain) (plain_spelled s.types.linked name entity plain);
 }
 
 pub tagged : (s : State) (name : List ℕ) (tag : Tag) → IsLawful s → IsLawfulTag s.types.records tag → IsLawful (enter_tag name tag s)
@@ -188,12 +218,22 @@ tagged_grows s name tag = record {
   counting = refl;
   body = refl;
   functions = refl;
+  here = λ name e h. h;
+  sound = λ pending h. record { backed = h.backed; spelled = h.spelled; functions = h.functions; slots = h.slots };
 }
 
 -- ---- hidden objects
 
 pub hidden_added : (s : State) (h : HiddenObject) → IsLawful s → IsLawful (add_hidden h s)
 hidden_added s h l = record { contents = l.contents; begun = l.begun; counted = l.counted; entities = l.entities; tags = l.tags; linked = l.linked; laid = l.laid; apart = l.apart; depths = l.depths }
+
+pub hidden_sound : (s : State) (h : HiddenObject) (pending : Option Slot) → Sound pending s → Sound pending (add_hidden h s)
+hidden_sound s h pending y = record {
+  backed = all_backed_on s.types.linked s.types.linked s.made.hidden (s.made.hidden ++ h ∷ []) s.scopes.entities (λ n x e. (x, e, continues_same x)) (λ n x e. (x, get_append s.made.hidden (h ∷ []) n x e, covers_same x.ty)) y.backed;
+  spelled = y.spelled;
+  functions = y.functions;
+  slots = slots_hidden pending s.types.linked s.made.hidden s.made.slots h y.slots;
+}
 
 pub hidden_grows : (s : State) (h : HiddenObject) → Grows s (add_hidden h s)
 hidden_grows s h = record {
@@ -210,6 +250,8 @@ hidden_grows s h = record {
   counting = refl;
   body = refl;
   functions = refl;
+  here = λ name e h. h;
+  sound = λ pending y. hidden_sound s h pending y;
 }
 
 -- ---- a record is begun, and defined
@@ -265,6 +307,8 @@ opening_grows s kind n l c = record {
   counting = refl;
   body = refl;
   functions = refl;
+  here = λ name e h. h;
+  sound = λ pending h. record { backed = h.backed; spelled = h.spelled; functions = h.functions; slots = h.slots };
 }
 
 pub opened_now : (s t : State) (kind : RecordKind) (n : ℕ) → IsLawful t → Closed t kind n → (slice_get s.types.opened n ≡ Some true → ⊥) → Opened s (open_record n t) kind n
@@ -370,6 +414,8 @@ defined_grows s t kind n c g o = record {
   counting = g.counting;
   body = g.body;
   functions = g.functions;
+  here = g.here;
+  sound = λ pending h. let y = g.sound pending h in record { backed = y.backed; spelled = y.spelled; functions = y.functions; slots = y.slots };
 }
   where
     by : (k : ℕ) → slice_get s.types.opened k ≡ Some true
@@ -403,6 +449,8 @@ restored s t l g = (
     counting = refl;
     body = g.body;
     functions = g.functions;
+    here = g.here;
+    sound = λ pending h. let y = g.sound pending (record { backed = h.backed; spelled = h.spelled; functions = h.functions; slots = h.slots }) in record { backed = y.backed; spelled = y.spelled; functions = y.functions; slots = y.slots };
   },
 )
 
@@ -472,6 +520,25 @@ left_lawful_alone t l = record {
 left_lawful : (s t : State) → IsLawful s → IsLawful t → Widens (one_deeper s) t → IsLawful (leave_scope t)
 left_lawful s t ls l g = left_lawful_alone t l
 
+left_here : (s t : State) → IsLawful s → Widens (one_deeper s) t → (name : List ℕ) (e : Entry) → entry_here s name ≡ Some e → entry_here (leave_scope t) name ≡ Some e
+left_here s t ls g name e h =
+    let d : t.scopes.depth ≡ s.scopes.depth + 1 = g.depth in
+    let same : t.scopes.depth - 1 ≡ s.scopes.depth = omega (arith, d) in
+    ap (λ n. option_and_then (if_here n) (visible (filter (λ (x : List ℕ × Entry). nat_lt x.1.depth t.scopes.depth) t.scopes.ordinary) name)) same
+    ∙ (ap (λ xs. option_and_then (if_here s.scopes.depth) (visible xs name)) (left_behind s t ls g) ∙ h)
+
+pub left_sound_alone : (t : State) (pending : Option Slot) → Sound pending t → Sound pending (leave_scope t)
+left_sound_alone t pending y = record {
+  backed = y.backed;
+  spelled = λ i e h. let k = get_filter (λ (x : List ℕ × Entry). nat_lt x.1.depth t.scopes.depth) t.scopes.ordinary i e h in y.spelled k.0 e k.1;
+  functions = y.functions;
+  slots = y.slots;
+}
+
+left_sound : (s t : State) → IsLawful s → Widens (one_deeper s) t → (pending : Option Slot) → Sound pending s → Sound pending (leave_scope t)
+left_sound s t ls g pending h =
+    left_sound_alone t pending (g.sound pending (record { backed = h.backed; spelled = h.spelled; functions = h.functions; slots = h.slots }))
+
 left_grows : (s t : State) → IsLawful s → Widens (one_deeper s) t → Grows s (leave_scope t)
 left_grows s t ls g = record {
   extends = g.extends;
@@ -487,11 +554,13 @@ left_grows s t ls g = record {
   counting = g.counting;
   body = g.body;
   functions = g.functions;
+  here = λ name e h. left_here s t ls g name e h;
+  sound = λ pending h. left_sound s t ls g pending h;
 }
 
-pub scoped_runs : {A : Type 0} (s : State) (inside : Rule A) (Good : List RecordValue → A → Type 0) → IsLawful s
-    → Widely (one_deeper s) (inside (one_deeper s)) (λ t a. Good t.types.records a) → Runs s (scoped inside s) (λ t a. Good t.types.records a)
+pub scoped_runs : {A : Type 0} (s : State) (inside : Rule A) (Good : List RecordValue → List Entity → A → Type 0) → IsLawful s
+    → Widely (one_deeper s) (inside (one_deeper s)) (λ t a. Good t.types.records t.scopes.entities a) → Runs s (scoped inside s) (λ t a. Good t.types.records t.scopes.entities a)
 unfolding scoped bind
 scoped_runs {A} s inside Good l h =
-    post_bind (inside (one_deeper s)) _ (λ r. IsLawful r.1 × Widens (one_deeper s) r.1 × Good r.1.types.records r.0) (λ r. IsLawful r.1 × Grows s r.1 × Good r.1.types.records r.0) h
+    post_bind (inside (one_deeper s)) _ (λ r. IsLawful r.1 × Widens (one_deeper s) r.1 × Good r.1.types.records r.1.scopes.entities r.0) (λ r. IsLawful r.1 × Grows s r.1 × Good r.1.types.records r.1.scopes.entities r.0) h
     (λ r g. (left_lawful s r.1 l g.0 g.1, left_grows s r.1 l g.1, g.2))

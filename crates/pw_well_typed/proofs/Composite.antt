@@ -1,17 +1,16 @@
 -- Composite types: they have the shape of each of the types that they are made of, but for a length at the front.
-use Rattle.std.specs.Prelude.{ℕ, zero, suc, ◌≡◌, ◌<◌, ◌⊎◌, ◌+◌, ◌/◌, ◌%◌, ◌==◌, Bool, true, false, ◌||◌, ◌&&◌, nat_lt, Option, None, Some, is_some, List, [], ◌∷◌, ◌++◌, decimal, length, IsTrue, if◌then◌else◌, refl}
+use Rattle.std.specs.Prelude.{ℕ, zero, suc, ◌≡◌, ◌<◌, ◌⊎◌, ◌/◌, ◌%◌, ◌==◌, Bool, true, false, ◌||◌, ◌&&◌, Option, None, Some, List, [], ◌∷◌, ◌++◌, decimal, length, if◌then◌else◌, refl}
 use Rattle.std.specs.Char.{is_ascii_digit}
 use Rattle.std.specs.Fmt.{digits_onto, digit_glyph, digits}
 use Rattle.std.specs.List.{list_all}
 use Rattle.std.proofs.Common.{arith, ap, sym, subst, subst₂, ◌∙◌, inl, inr, append_assoc}
 use Rattle.std.proofs.lemmas.Bool.{eqb-true}
-use Rattle.pw_value.specs.Shapes.{Agree, IsDecimal, GivesLength, GivesDigits}
-use Rattle.pw_types.specs.Layouts.{layout_of, array_layout}
+use Rattle.pw_value.specs.Shapes.{Agree, IsDecimal, GivesLength}
 use Rattle.pw_types.specs.Shapes.{shape_of, length_text, letter_of, letters_of, signature_shape, marked, letter_of_kind}
 use Rattle.pw_types.specs.TypeTrees.{CType, Void, Int, Pointer, Array, Function, Record, QType, Qualified, QTypes, NoType, OneType, type_of, is_volatile, RecordValue}
 use Rattle.pw_types.specs.WellTyped.{IsComplete, AgreeInShape}
-use Rattle.pw_rules.specs.Compatible.{compatible, compatible_types, compatible_plainly, compatible_parameters, lengths_agree, composite, composite_type, composite_parameters, known_length}
-use Rattle.pw_rules.specs.Kinds.{same_kind, same_truth, is_array, is_function}
+use Rattle.pw_rules.specs.Compatible.{compatible, compatible_types, compatible_parameters, lengths_agree, composite, composite_type, composite_parameters}
+use Rattle.pw_rules.specs.Kinds.{same_truth, is_array, is_function}
 use Rattle.pw_well_typed.specs.Lawful.{IsLawfulType}
 use Rattle.pw_well_typed.proofs.Lists.{some_same, never_some}
 use Rattle.pw_well_typed.proofs.Types.{no, left, right, kinds_same, truths_same, element_complete}
@@ -264,7 +263,7 @@ letters_compatible (OneType (Qualified a c v) ps) (OneType (Qualified b d w) qs)
 letters_compatible _ _ e = no e
 
 -- the parts of what is compatible
-types_compatible : (a b : CType) (c v d w : Bool) → compatible (Qualified a c v) (Qualified b d w) ≡ true → (compatible_types a b ≡ true) × (v ≡ w)
+pub types_compatible : (a b : CType) (c v d w : Bool) → compatible (Qualified a c v) (Qualified b d w) ≡ true → (compatible_types a b ≡ true) × (v ≡ w)
 unfolding compatible_types
 types_compatible a b c v d w e = (
   left (compatible_types a b) (same_truth c d) (left (compatible_types a b && same_truth c d) (same_truth v w) e),
@@ -362,6 +361,13 @@ length_second (Pointer p) (Pointer q) c v d w n e f = never_some f
 length_second (Function p ps) (Function q qs) c v d w n e f = never_some f
 length_second (Record i) (Record j) c v d w n e f = never_some f
 length_second _ _ c v d w n e f = no e
+
+pub kind_composite : (a b : QType) → is_function (type_of (composite a b)) ≡ is_function (type_of a)
+unfolding composite
+kind_composite (Qualified a c v) (Qualified b d w) = function_first a b
+
+pub compatible_function : (a b : QType) → compatible a b ≡ true → is_function (type_of a) ≡ is_function (type_of b)
+compatible_function (Qualified a c v) (Qualified b d w) e = function_compatible a b (types_compatible a b c v d w e).0
 
 -- the composite of compatible types covers the second one too
 pub covers_second : (r : List RecordValue) (a b : QType) → compatible a b ≡ true → IsLawfulType r (type_of a) → IsLawfulType r (type_of b) → Covers (composite a b) b

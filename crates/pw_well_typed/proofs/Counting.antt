@@ -1,5 +1,5 @@
 -- How often a test passes among the elements of a list: that numbers stand once in it is then a matter of sums.
-use Rattle.std.specs.Prelude.{ℕ, zero, suc, ◌≡◌, ◌<◌, ◌≤◌, ◌+◌, Bool, true, false, not, ◌||◌, cond, nat_eq, nat_lt, Option, None, Some, unwrap_or, List, [], ◌∷◌, ◌++◌, length, position, slice_get, All, Contains, refl}
+use Rattle.std.specs.Prelude.{ℕ, zero, suc, ◌≡◌, ◌<◌, ◌≤◌, ◌+◌, Bool, true, false, not, ◌||◌, cond, nat_eq, nat_lt, None, Some, unwrap_or, List, [], ◌∷◌, ◌++◌, length, position, All, Contains, refl}
 use Rattle.std.specs.List.{IsDistinct, AllByRecursion, list_any, position_or_len}
 use Rattle.std.specs.Str.{bytes_eq}
 use Rattle.std.proofs.Common.{arith, ap, sym, subst, ◌∙◌, append-nil, append_assoc, length-append, add-one}
@@ -7,7 +7,6 @@ use Rattle.std.proofs.lemmas.Bool.{eqb-true, eqb-false, ltb-true, ltb-false}
 use Rattle.std.proofs.lemmas.List.Elements.{All-nil, All-cons}
 use Rattle.std.proofs.lemmas.Slice.Eq.{bytes_eq-Decides}
 use Rattle.pw_rules.specs.Functions.{numbers_below}
-use Rattle.pw_well_typed.proofs.Types.{no}
 
 abbrev pub one : Bool → ℕ
 one true = 1

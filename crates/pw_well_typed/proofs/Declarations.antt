@@ -1,31 +1,48 @@
 -- Declarations leave a lawful state.
-use Rattle.std.specs.Prelude.{ℕ, ◌≡◌, Bool, true, false, not, Option, None, Some, is_some, List, [], ◌∷◌, if◌then◌else◌, refl}
+use Rattle.pw_types.specs.Layouts.{layout_of, array_layout}
+use Rattle.pw_types.specs.Records.{IsObjectType}
+use Rattle.pw_well_typed.proofs.Objects.{completed_so, object_later}
+use Rattle.pw_well_typed.proofs.ObjectTypes.{IsWithin, object_is, within_fits}
+use Rattle.pw_well_typed.proofs.Declaring.{body_kept, hidden_kept, hidden_put, entity_becomes, plain_entered, static_entered, Linkable, linkable, declared_goes, GoodPlace, DeclaredHere, here_later, defined_scopes, defined_place, visible_before, tentative_after, object_after, initialised_after, keeps_put, put_sound}
+use Rattle.pw_well_typed.proofs.Filling.{object_runs, runs_whatever}
+use Rattle.pw_well_typed.proofs.Locals.{place_of_new}
+use Rattle.pw_well_typed.proofs.Sound.{Sound, named_same, filling_same}
+use Rattle.pw_well_typed.proofs.Composite.{Covers, covers_same, covers_trans}
+use Rattle.pw_well_typed.proofs.States.{Grows}
+use Rattle.pw_well_typed.proofs.Lists.{Longer, some_same, never_some, get_last, get_within, put_same, get_more, get_append, put_either}
+use Rattle.pw_rules.specs.declared.names.Slot.{Slot}
+use Rattle.pw_rules.specs.declared.names.Slot.TheVariants as slot
+use Rattle.pw_walk.specs.Causes.{needs, InitialisedHere, CompleteObject, InitialisedKind}
+use Rattle.std.proofs.Common.{ap, sym, subst, ◌∙◌, inl, inr}
+use Rattle.pw_rules.specs.Compatible.{compatible}
+use Rattle.pw_well_typed.proofs.Walking.{Post, post_bind, post_weaken, post_both, AreMet, met_left, truth, met_right}
+use Rattle.std.specs.Prelude.{ℕ, ◌≡◌, Bool, true, false, not, Option, None, Some, is_some, List, [], ◌∷◌, if◌then◌else◌, refl, is_none, ◌++◌, ◌||◌, length, slice_get, ◌⊎◌, ◌<◌}
 use Rattle.std.specs.Option.{option_map_or}
 use Rattle.pw_tree.specs.Trees.{Word, Decl, InitDeclarator, Initializer, Init, Specifiers, Declarator}
 use Rattle.pw_tree.specs.Trees as S
 use Rattle.pw_types.specs.declared.record.RecordKind.{RecordKind}
-use Rattle.pw_types.specs.TypeTrees.{QType, type_of}
-use Rattle.pw_types.specs.TypedTrees.{Initialiser, LocalValue}
-use Rattle.pw_types.specs.WellTyped.{IsFunctionType}
-use Rattle.pw_walk.specs.Walks.{Walk, Done, bind}
-use Rattle.pw_rules.specs.Declarations.{Sort, ATypedef, AFunction, AGlobal, AnExtern, AStatic, ALocal, sort_of, asking_of, name_rule, hidden_of, local_of, is_tentative, completed_rule, fitting_rule, context_of, global_rule, static_rule, put_local, bytes_rule, single_rule, local_initialiser, local_rule, declare_rule, name_of, init_declarator_rule, init_declarators_rule, storage_rule, declares_something, specified_rule, bare_rule, declarators_rule, decl_rule, decls_rule}
+use Rattle.pw_types.specs.TypeTrees.{QType, type_of, CType, Void, Int, Pointer, Array, Function, Record, Qualified, RecordValue}
+use Rattle.pw_types.specs.TypedTrees.{Initialiser, LocalValue, PlacedItem}
+use Rattle.pw_types.specs.WellTyped.{IsFunctionType, IsComplete}
+use Rattle.pw_walk.specs.Walks.{Walk, Done, bind, change, pure, ◌>>◌}
+use Rattle.pw_rules.specs.Declarations.{Sort, ATypedef, AFunction, AGlobal, AnExtern, AStatic, ALocal, sort_of, asking_of, name_rule, hidden_of, local_of, is_tentative, completed_rule, fitting_rule, context_of, global_rule, static_rule, put_local, bytes_rule, single_rule, local_initialiser, local_rule, declare_rule, name_of, init_declarator_rule, init_declarators_rule, storage_rule, declares_something, specified_rule, bare_rule, declarators_rule, decl_rule, decls_rule, sort_point, function_point, definition_point, global_point, place_here, object_point}
 use Rattle.pw_rules.specs.Derivations.{spot_of}
-use Rattle.pw_rules.specs.Initialisers.{object_rule, is_by_bytes}
-use Rattle.pw_rules.specs.Kinds.{is_function, is_const_object}
+use Rattle.pw_rules.specs.Initialisers.{object_rule, is_by_bytes, Context, with_length}
+use Rattle.pw_rules.specs.Kinds.{is_function, is_const_object, is_void, is_open_array, is_array}
 use Rattle.pw_rules.specs.Leaves.{alone_by, alone_rule, record_kind, first_of_list}
-use Rattle.pw_rules.specs.Limits.{Spot}
-use Rattle.pw_rules.specs.Linkage.{AsBefore, declare_linked, define_tentatively, define_object, initialise_linked, note_here, named_type, type_now}
+use Rattle.pw_rules.specs.Limits.{Spot, type_within, completed}
+use Rattle.pw_rules.specs.Linkage.{AsBefore, declare_linked, define_tentatively, define_object, initialise_linked, note_here, named_type, type_now, Asking, AsInternal, AsExternal, is_linked, is_internal_by, linked_before, place_for}
 use Rattle.pw_rules.specs.SpecifierLists.{Specified, nothing_gathered, is_typedef, is_extern, is_static, is_register}
-use Rattle.pw_rules.specs.States.{State, TypeName, LocalObject, StaticObject, is_file_scope, add_hidden, put_hidden, add_local, HiddenObject, next_hidden, next_local, tag_here, Entity, EnumerationConstant, Linked, entity_here}
+use Rattle.pw_rules.specs.States.{State, TypeName, LocalObject, StaticObject, is_file_scope, add_hidden, put_hidden, add_local, HiddenObject, next_hidden, next_local, tag_here, Entity, EnumerationConstant, Linked, entity_here, LinkedName, records_in, enter, put_at}
 use Rattle.pw_rules.specs.declared.names.Tag.{Tag}
-use Rattle.pw_well_typed.specs.Lawful.{IsLawful, IsLawfulType, IsObjectLike, IsLawfulTag, IsLawfulEntity}
-use Rattle.pw_well_typed.proofs.Types.{lawful_later}
+use Rattle.pw_well_typed.specs.Lawful.{IsLawful, IsLawfulType, IsObjectLike, IsLawfulTag, IsLawfulEntity, Extends}
+use Rattle.pw_well_typed.proofs.Types.{lawful_later, no, is_complete_so, complete_later, map_some, extends_same}
 use Rattle.pw_well_typed.proofs.Conversions.{no_function}
-use Rattle.pw_well_typed.proofs.Changes.{like_later}
+use Rattle.pw_well_typed.proofs.Changes.{like_later, entered_sound}
 use Rattle.pw_well_typed.proofs.Leaves.{GoodType, GoodGathered, GoodSpecified, GoodDeclared, GoodReference, Fresh, specified_runs, built_runs, reference_by_runs, new_tag_runs, tag_here_lawful}
 use Rattle.pw_well_typed.proofs.Phrases.{specifiers_post, declarator_post}
-use Rattle.pw_well_typed.proofs.Initialisers.{GoodObject, object_goes, Keeps, IsLawfully, lawful_stays, object_keeps}
-use Rattle.pw_well_typed.proofs.Keeping.{after_same, after_trans, Kept, Goes, goes_by, of_runs, changed, asked, Anything, around, entity_put, entered_kept, noted_here, declared_goes, tentative_kept, defined_kept, initialised_kept, here_is}
+use Rattle.pw_well_typed.proofs.Initialisers.{Keeps, IsLawfully, lawful_stays, object_keeps, Stays, object_stays, covers_length, Completes, stays_complete, object_gives, single_no_array}
+use Rattle.pw_well_typed.proofs.Keeping.{after_same, after_trans, Kept, Goes, goes_by, of_runs, changed, asked, Anything, here_is, After, AfterBy, KeptBy, GoesBy, goes_between, after_grows, from_kept, kept_trans, AreLocals, after_by, knows_linked, keeps_longer, keeps_trans, entity_put, entered_kept, around}
 
 completed_goes : (s : State) (w : Word) (q : QType) → IsLawful s → Goes s (completed_rule w q s) Anything
 unfolding completed_rule bind
@@ -35,15 +52,25 @@ fitting_goes : (s : State) (w : Word) (place : ℕ) (q : QType) → IsLawful s �
 unfolding fitting_rule bind
 fitting_goes s w place q l = λ met. (l, after_same s, tt)
 
-name_goes : (s : State) (sort : Sort) (spot : Spot) (w : Word) (initialised : Bool) (b : Specified) (q : QType) → IsLawful s → Goes s (name_rule sort spot w initialised b q s) Anything
+name_goes : (s : State) (sort : Sort) (spot : Spot) (w : Word) (initialised : Bool) (b : Specified) (q : QType) → IsLawful s
+    → Goes s (name_rule sort spot w initialised b q s) (λ t a. AreMet (sort_point t sort spot w initialised b q) × AreMet (type_within t.types.records w.token q))
 unfolding name_rule bind
-name_goes s sort spot w initialised b q l = λ met. (l, after_same s, tt)
+name_goes s sort spot w initialised b q l = λ met. (l, after_same s, (met_left (sort_point s sort spot w initialised b q) _ met, (met_right (sort_point s sort spot w initialised b q) _ met).1))
 
 -- ---- objects with linkage
 
-tentative_or_not : (s : State) (b : Bool) (place : ℕ) → IsLawful s → Kept s (if b then define_tentatively place s else s)
-tentative_or_not s true place l = tentative_kept s place l
-tentative_or_not s false place l = (l, after_same s)
+done_then : {A B : Type 0} (a : A) (next : A → Walk B) (P : B → Type 0) → Post (next a) P → Post (bind (Done a) next) P
+unfolding bind
+done_then a next P h = h
+
+-- an object is no function
+not_function : (ty : CType) → (IsFunctionType ty → ⊥) → is_function ty ≡ false
+not_function (Function q ps) h = absurd (h (q, ps, refl))
+not_function Void h = refl
+not_function (Int k) h = refl
+not_function (Pointer q) h = refl
+not_function (Array q n) h = refl
+not_function (Record n) h = refl
 
 -- by its declarations in the scope a name has a lawful type
 named_lawful : (s : State) (name : List ℕ) (q : QType) → IsLawful s → IsLawfully s.types.records q → IsLawfully s.types.records (named_type s name q)
@@ -60,132 +87,311 @@ named_lawful s name q l h = by (entity_here s name) refl
     by None e = h
     by (Some x) e = by_entity x (here_is s name x l e)
 
+-- the initialiser of an object, whatever is pending
+object_between : (p : Option Slot) (P Q : List RecordValue → QType → Type 0) → Completes P Q → (s : State) (cx : Context) (q : QType) (i : Init) → IsLawful s → P s.types.records q
+    → GoesBy p p s (object_rule cx q i s) (λ t o. Q t.types.records o.ty × Grows s t)
+object_between p P Q keep s cx q i l h =
+    post_weaken (object_rule cx q i s)
+    (λ r. (IsLawful r.1 × Grows s r.1 × Unit {0}) × (IsLawful r.1 × After s r.1 × Q r.1.types.records r.0.ty))
+    (λ r. IsLawful r.1 × AfterBy p p s r.1 × (Q r.1.types.records r.0.ty × Grows s r.1))
+    (post_both (object_rule cx q i s) (λ r. IsLawful r.1 × Grows s r.1 × Unit {0}) (λ r. IsLawful r.1 × After s r.1 × Q r.1.types.records r.0.ty)
+    (runs_whatever _ _ _ (object_runs s cx q i l)) (object_gives P Q keep s cx q i l h))
+    (λ r g. (g.0.0, after_grows g.0.1, (g.1.2, g.0.1)))
+
+-- its first bytes, and its type
+initialised_post : (from s : State) (w : Word) (place : ℕ) (ty : QType) (items : List PlacedItem) (l : LinkedName) → AfterBy None (Some (slot.Named place)) from s → IsLawful s → IsLawfully s.types.records ty
+    → slice_get s.types.linked place ≡ Some l → l.name ≡ w.text → l.defined ≡ true → (Sound None from → (y : Entity) → entity_here s w.text ≡ Some y → is_linked y ≡ true)
+    → Post ((fitting_rule w place ty >> change (initialise_linked place ty items) >> change (note_here w.text place ty) >> pure []) s) (λ (r : List Initialiser × State). IsLawful r.1 × After from r.1 × Unit {0})
+unfolding fitting_rule bind
+initialised_post from s w place ty items l a lawful known at named defined linked = λ met.
+    let alike : compatible l.ty ty ≡ true = sym (ap (λ o. option_map_or (λ (x : LinkedName). compatible x.ty ty) o true) at) ∙ truth _ met.0 in
+    let k : KeptBy None None from (note_here w.text place ty (initialise_linked place ty items s)) = initialised_after from s w.text place ty items l a lawful known at named defined alike linked in
+    (k.0, k.1, tt)
+
+abbrev Stored : Word → State → Slot
+Stored w s = slot.Named (place_for s w.text)
+
+-- the object is defined, and its declarations in the scope give it this type
+abbrev Defining : Word → Option Slot → State → ℕ → QType × State → Type 0
+Defining w p before place e =
+    IsLawful e.1 × AfterBy p p before e.1 × IsLawfully e.1.types.records e.0
+    × ((x : LinkedName) × (slice_get e.1.types.linked place ≡ Some x) × (x.name ≡ w.text) × (x.defined ≡ true)) × DeclaredHere w.text e.1.scopes
+
 -- with an initialiser
-defined_goes : (s : State) (w : Word) (b : Specified) (spot : Spot) (q : QType) (i : Initializer) → IsLawful s → IsLawfully s.types.records q
+defined_goes : (s : State) (w : Word) (b : Specified) (spot : Spot) (q : QType) (i : Initializer) → IsLawful s → IsLawfully s.types.records q → is_function (type_of q) ≡ false → Linkable s w.text q
     → Goes s (global_rule w b spot q (Some i) s) Anything
 unfolding global_rule
-defined_goes s w b spot q i l h =
-    goes_by _ _ Anything Anything (declared_goes s w.text w.token b.tag (asking_of AGlobal b) q l h) (λ r m x f.
-    let k : Kept r.1 (define_object r.0 r.1) = defined_kept r.1 r.0 m in
-    goes_by _ _ (λ t ty. IsLawfully t.types.records ty) Anything
-    (changed tt _ (λ t ty. IsLawfully t.types.records ty) k
-    (k.0, after_same (define_object r.0 r.1), named_lawful (define_object r.0 r.1) w.text q k.0 (lawful_later s.types.records (define_object r.0 r.1).types.records (after_trans x k.1).extends (type_of q) h)))
-    (λ e d c a.
-    goes_by _ _ (Keeps IsLawfully) Anything (object_keeps IsLawfully lawful_stays e.1 (context_of w true 0) e.0 i.init d a) (λ u n y o.
-    goes_by _ _ Anything Anything
-    (goes_by _ _ Anything Anything
-    (goes_by _ _ Anything Anything (fitting_goes u.1 w r.0 u.0.ty n) (λ v j z g.
-    let a : Kept v.1 (initialise_linked r.0 u.0.ty u.0.filled.items v.1) = initialised_kept v.1 r.0 u.0.ty u.0.filled.items j (lawful_later u.1.types.records v.1.types.records z.extends (type_of u.0.ty) o) in (a.0, a.1, tt)))
-    (λ v j z g. let c : Kept v.1 (note_here w.text r.0 u.0.ty v.1) = noted_here v.1 w.text r.0 u.0.ty j (lawful_later u.1.types.records v.1.types.records z.extends (type_of u.0.ty) o) in (c.0, c.1, tt)))
-    (λ v j z g. (j, after_same v.1, tt)))))
+defined_goes s w b spot q i l h object link =
+    post_bind _ _ (λ r. IsLawful r.1 × AfterBy None (Some (Stored w s)) s r.1 × GoodPlace w.text q (place_for s w.text) r.1 r.0) (λ r. IsLawful r.1 × After s r.1 × Unit {0})
+    (declared_goes (Some (Stored w s)) s w.text w.token b.tag (asking_of AGlobal b) q l h link (λ z none e f. refl)) (λ r g.
+    let k : KeptBy (Some (Stored w s)) (Some (Stored w s)) r.1 (define_object r.0 r.1) =
+    object_after (Some (Stored w s)) (Some (Stored w s)) r.1 r.0 g.2.1.0 g.0 g.2.1.1 (g.2.1.3.function ∙ object) (λ n e. inr e) in
+    let known : IsLawfully (define_object r.0 r.1).types.records q = lawful_later s.types.records (define_object r.0 r.1).types.records (after_trans g.1 k.1).extends (type_of q) h in
+    post_bind _ _ (Defining w (Some (Stored w s)) r.1 r.0) (λ r. IsLawful r.1 × After s r.1 × Unit {0})
+    (done_then (tt, define_object r.0 r.1) (λ t. Done (named_type t.1 w.text q, t.1)) (Defining w (Some (Stored w s)) r.1 r.0) (
+      k.0,
+      k.1,
+      named_lawful (define_object r.0 r.1) w.text q k.0 known,
+      (record g.2.1.0 { defined = true }, defined_place r.1 r.0 g.2.1.0 g.2.1.1, g.2.1.2, refl),
+      subst (DeclaredHere w.text) (sym (defined_scopes r.1 r.0)) g.2.2,
+    )) (λ e f.
+    post_bind _ _ (λ u. IsLawful u.1 × AfterBy (Some (Stored w s)) (Some (Stored w s)) e.1 u.1 × (IsLawfully u.1.types.records u.0.ty × Grows e.1 u.1)) (λ r. IsLawful r.1 × After s r.1 × Unit {0})
+    (object_between (Some (Stored w s)) IsLawfully IsLawfully (stays_complete IsLawfully lawful_stays) e.1 (context_of w true 0) e.0 i.init f.0 f.2) (λ u o.
+    let a : AfterBy None (Some (Stored w s)) s e.1 = after_trans g.1 f.1 in
+    let whole : AfterBy None (Some (slot.Named r.0)) s u.1 = subst (λ n. AfterBy None (Some (slot.Named n)) s u.1) (sym g.2.0) (after_trans a o.1) in
+    let x = o.1.names r.0 f.3.0 f.3.1 in
+    initialised_post s u.1 w r.0 u.0.ty u.0.filled.items x.0 whole o.0 o.2.0 x.1 (x.2.name ∙ f.3.2) (x.2.defined f.3.3)
+    (λ hs y z. here_later (Some (Stored w s)) w.text o.2.1 f.4 (a.sound hs) y z))))
 
-global_goes : (s : State) (w : Word) (b : Specified) (spot : Spot) (q : QType) (i : Option Initializer) → IsLawful s → IsObjectLike s.types.records q
+-- `extern` without an initialiser declares, and does not define
+not_static : (b : Specified) (s : State) (name : List ℕ) → Sound None s → linked_before s name ≡ None → is_tentative b ≡ false → is_internal_by s name (asking_of AGlobal b) ≡ true → ⊥
+not_static b s name h none tentative internal = by (is_none b.storage) (is_static b.storage) (is_extern b.storage) tentative internal
+  where
+    by : (x y z : Bool) → (x || y) ≡ false → is_internal_by s name (if y then AsInternal else if z then AsBefore else AsExternal) ≡ true → ⊥
+    by true y z e i = no (sym e)
+    by false true z e i = no (sym e)
+    by false false true e i = visible_before s name h none i
+    by false false false e i = no i
+
+global_goes : (s : State) (w : Word) (b : Specified) (spot : Spot) (q : QType) (i : Option Initializer) → IsLawful s → IsObjectLike s.types.records q → Linkable s w.text q
     → Goes s (global_rule w b spot q i s) Anything
 unfolding global_rule bind
-global_goes s w b spot q None l h =
-    goes_by (declare_linked w.text w.token b.tag (asking_of AGlobal b) q s) _ Anything Anything (declared_goes s w.text w.token b.tag (asking_of AGlobal b) q l h.lawful) (λ r m x f.
-    let k : Kept r.1 (if is_tentative b then define_tentatively r.0 r.1 else r.1) = tentative_or_not r.1 (is_tentative b) r.0 m in (k.0, k.1, tt))
-global_goes s w b spot q (Some i) l h = defined_goes s w b spot q i l h.lawful
+global_goes s w b spot q None l h link = by (is_tentative b) refl
+  where
+    by : (x : Bool) → is_tentative b ≡ x
+        → Goes s (bind (declare_linked w.text w.token b.tag (asking_of AGlobal b) q s) (λ t. Done ([], if x then define_tentatively t.0 t.1 else t.1))) (Anything {A = List Initialiser})
+    by true e =
+        goes_between None (Some (Stored w s)) None (declare_linked w.text w.token b.tag (asking_of AGlobal b) q s) _ (GoodPlace w.text q (place_for s w.text)) Anything
+        (declared_goes (Some (Stored w s)) s w.text w.token b.tag (asking_of AGlobal b) q l h.lawful link (λ z none i f. refl)) (λ r m x g.
+        let k : KeptBy (Some (Stored w s)) None r.1 (define_tentatively r.0 r.1) =
+        tentative_after (Some (Stored w s)) None r.1 r.0 g.1.0 m g.1.1 (g.1.3.function ∙ not_function (type_of q) h.object) (λ n e. inl (sym (g.0 ∙ named_same (some_same e)))) in (k.0, k.1, tt))
+    by false e =
+        goes_by (declare_linked w.text w.token b.tag (asking_of AGlobal b) q s) _ (GoodPlace w.text q (place_for s w.text)) Anything
+        (declared_goes None s w.text w.token b.tag (asking_of AGlobal b) q l h.lawful link (λ z none i f. absurd (not_static b s w.text z none e i))) (λ r m x g. (m, after_same r.1, tt))
+global_goes s w b spot q (Some i) l h link = defined_goes s w b spot q i l h.lawful (not_function (type_of q) h.object) link
 
 -- ---- static locals
 
-hidden_kept : (s : State) (x : HiddenObject) → IsLawful s → Kept s (add_hidden x s)
-hidden_kept s x l = around s (add_hidden x s).made s.body l refl
+-- what an initialiser's object is
+abbrev IsCompleted : QType → List RecordValue → QType → Type 0
+IsCompleted q r t = IsObjectLike r t × Covers t q
 
-hidden_put : (s : State) (k : ℕ) (x : HiddenObject) → IsLawful s → Kept s (put_hidden k x s)
-hidden_put s k x l = around s (put_hidden k x s).made s.body l refl
+completed_stays : (q : QType) → Stays (IsCompleted q)
+completed_stays q = record {
+  later = λ a b t x h. (like_later x h.0, h.1);
+  lengthened = λ r n t h. (object_stays.lengthened r n t h.0, covers_trans (covers_length n t) h.1);
+}
 
 static_goes : (s : State) (w : Word) (q : QType) (i : Option Initializer) → IsLawful s → IsObjectLike s.types.records q → Goes s (static_rule w q i s) Anything
-unfolding static_rule
+unfolding static_rule completed_rule bind
 static_goes s w q None l h =
-    asked s _ _ Anything
-    (goes_by _ _ Anything Anything
-    (goes_by _ _ Anything Anything
-    (let a = hidden_kept s (hidden_of q [] (not (is_const_object q))) l in (a.0, a.1, tt))
-    (λ r m x f. let b = entered_kept r.1 w.text (StaticObject (next_hidden s) q) m (like_later x.extends h) in (b.0, b.1, tt)))
-    (λ r m x f. (m, after_same r.1, tt)))
+    let x : HiddenObject = hidden_of q [] (not (is_const_object q)) in
+    let a : Kept s (add_hidden (hidden_of q [] (not (is_const_object q))) s) = hidden_kept s (hidden_of q [] (not (is_const_object q))) l in
+    let c : Kept (add_hidden (hidden_of q [] (not (is_const_object q))) s) (enter w.text (StaticObject (next_hidden s) q) (add_hidden (hidden_of q [] (not (is_const_object q))) s)) =
+    static_entered (add_hidden (hidden_of q [] (not (is_const_object q))) s) w.text (next_hidden s) q (hidden_of q [] (not (is_const_object q))) a.0 h (get_last s.made.hidden (hidden_of q [] (not (is_const_object q)))) (covers_same q) in
+    (c.0, after_trans a.1 c.1, tt)
 static_goes s w q (Some i) l h =
-    asked s _ _ Anything
-    (goes_by _ _ Anything Anything
-    (goes_by _ _ Anything Anything
-    (goes_by _ _ Anything Anything
-    (let a = hidden_kept s (hidden_of q [] (not (is_const_object q))) l in (a.0, a.1, tt))
-    (λ r m x f. let b = entered_kept r.1 w.text (StaticObject (next_hidden s) q) m (like_later x.extends h) in (b.0, b.1, tt)))
-    (λ r m x f. (m, after_same r.1, tt)))
-    (λ r m x f.
-    goes_by _ _ GoodObject Anything (object_goes r.1 (context_of w true (next_hidden s)) q i.init m (like_later x.extends h)) (λ u n y o.
-    goes_by _ _ Anything Anything
-    (goes_by _ _ Anything Anything
-    (goes_by _ _ Anything Anything (completed_goes u.1 w u.0.ty n) (λ v j z g.
-    let c = hidden_put v.1 (next_hidden s) (hidden_of u.0.ty u.0.filled.items (not (is_const_object q))) j in (c.0, c.1, tt)))
-    (λ v j z g. let d = entity_put v.1 r.0 (StaticObject (next_hidden s) u.0.ty) j (like_later z.extends o) in (d.0, d.1, tt)))
-    (λ v j z g. (j, after_same v.1, tt)))))
+    let x : HiddenObject = hidden_of q [] (not (is_const_object q)) in
+    let t : State = enter w.text (StaticObject (next_hidden s) q) (add_hidden (hidden_of q [] (not (is_const_object q))) s) in
+    let a : Kept s (add_hidden (hidden_of q [] (not (is_const_object q))) s) = hidden_kept s (hidden_of q [] (not (is_const_object q))) l in
+    let c : Kept (add_hidden (hidden_of q [] (not (is_const_object q))) s) (enter w.text (StaticObject (next_hidden s) q) (add_hidden (hidden_of q [] (not (is_const_object q))) s)) =
+    static_entered (add_hidden (hidden_of q [] (not (is_const_object q))) s) w.text (next_hidden s) q (hidden_of q [] (not (is_const_object q))) a.0 h (get_last s.made.hidden (hidden_of q [] (not (is_const_object q)))) (covers_same q) in
+    from_kept _ Anything (kept_trans a c)
+    (goes_by (object_rule (context_of w true (next_hidden s)) q i.init (enter w.text (StaticObject (next_hidden s) q) (add_hidden (hidden_of q [] (not (is_const_object q))) s))) _
+    (λ u o. IsCompleted q u.types.records o.ty × Grows (enter w.text (StaticObject (next_hidden s) q) (add_hidden (hidden_of q [] (not (is_const_object q))) s)) u) Anything
+    (object_between None (IsCompleted q) (IsCompleted q) (stays_complete (IsCompleted q) (completed_stays q)) (enter w.text (StaticObject (next_hidden s) q) (add_hidden (hidden_of q [] (not (is_const_object q))) s)) (context_of w true (next_hidden s)) q i.init c.0 (h, covers_same q)) (λ u n y g met.
+    let o : HiddenObject = hidden_of u.0.ty u.0.filled.items (not (is_const_object q)) in
+    let at : slice_get u.1.made.hidden (next_hidden s) ≡ Some (hidden_of q [] (not (is_const_object q))) =
+    g.1.hidden (next_hidden s) (hidden_of q [] (not (is_const_object q))) (get_last s.made.hidden (hidden_of q [] (not (is_const_object q)))) in
+    let d : Kept u.1 (put_hidden (next_hidden s) (hidden_of u.0.ty u.0.filled.items (not (is_const_object q))) u.1) =
+    hidden_put u.1 (next_hidden s) (hidden_of u.0.ty u.0.filled.items (not (is_const_object q))) (hidden_of q [] (not (is_const_object q))) n at g.0.1 in
+    let place : ℕ = place_here (enter w.text (StaticObject (next_hidden s) q) (add_hidden (hidden_of q [] (not (is_const_object q))) s)) w.text in
+    let same : place_here (enter w.text (StaticObject (next_hidden s) q) (add_hidden (hidden_of q [] (not (is_const_object q))) s)) w.text ≡ length s.scopes.entities = place_of_new (add_hidden (hidden_of q [] (not (is_const_object q))) s) w.text (StaticObject (next_hidden s) q) in
+    let there : slice_get u.1.scopes.entities (place_here (enter w.text (StaticObject (next_hidden s) q) (add_hidden (hidden_of q [] (not (is_const_object q))) s)) w.text) ≡ Some (StaticObject (next_hidden s) q) =
+    ap (slice_get u.1.scopes.entities) same ∙ g.1.entities (length s.scopes.entities) (StaticObject (next_hidden s) q) (get_last s.scopes.entities (StaticObject (next_hidden s) q)) in
+    let e : Kept (put_hidden (next_hidden s) (hidden_of u.0.ty u.0.filled.items (not (is_const_object q))) u.1) _ =
+    entity_becomes (put_hidden (next_hidden s) (hidden_of u.0.ty u.0.filled.items (not (is_const_object q))) u.1) (place_here (enter w.text (StaticObject (next_hidden s) q) (add_hidden (hidden_of q [] (not (is_const_object q))) s)) w.text)
+    (StaticObject (next_hidden s) u.0.ty) (StaticObject (next_hidden s) q) d.0 g.0.0 there (u.0.ty, refl, g.0.1)
+    (hidden_of u.0.ty u.0.filled.items (not (is_const_object q)), put_same (next_hidden s) (hidden_of u.0.ty u.0.filled.items (not (is_const_object q))) u.1.made.hidden (get_within u.1.made.hidden (next_hidden s) (hidden_of q [] (not (is_const_object q))) at), covers_same u.0.ty) in
+    (e.0, after_trans d.1 e.1, tt)))
 
 -- ---- locals
 
-abbrev GoodLocal : State → QType × List Initialiser → Type 0
-GoodLocal s o = IsObjectLike s.types.records o.0
+-- a type that is complete, or gets its length
+abbrev IsOpen : List RecordValue → QType → Type 0
+IsOpen r q = (is_open_array (type_of q) ≡ true) ⊎ IsComplete r (type_of q)
 
-bytes_goes : (s : State) (w : Word) (k : ℕ) (q : QType) (i : Init) → IsLawful s → IsObjectLike s.types.records q → Goes s (bytes_rule w k q i s) GoodLocal
-unfolding bytes_rule
-bytes_goes s w k q i l h =
-    asked s _ _ GoodLocal
-    (let a : Kept s (add_hidden (hidden_of q [] false) s) = hidden_kept s (hidden_of q [] false) l in
-    goes_by _ _ GoodObject GoodLocal
-    (changed tt _ GoodObject a (object_goes (add_hidden (hidden_of q [] false) s) (context_of w true (next_hidden s)) q i a.0 (like_later a.1.extends h))) (λ u n y o.
-    goes_by _ _ Anything GoodLocal
-    (goes_by _ _ Anything Anything (completed_goes u.1 w u.0.ty n) (λ v j z g.
-    let c = hidden_put v.1 (next_hidden s) (hidden_of u.0.ty u.0.filled.items false) j in (c.0, c.1, tt)))
-    (λ v j z g. (j, after_same v.1, like_later z.extends o))))
+abbrev Declared : QType → List RecordValue → QType → Type 0
+Declared q r t = IsObjectLike r t × Covers t q × IsOpen r t
 
-single_goes : (s : State) (w : Word) (k : ℕ) (q : QType) (i : Init) → IsLawful s → IsObjectLike s.types.records q → Goes s (single_rule w k q i s) GoodLocal
+abbrev Made : QType → List RecordValue → QType → Type 0
+Made q r t = IsObjectLike r t × Covers t q × IsComplete r (type_of t)
+
+open_later : (a b : List RecordValue) (t : QType) → Extends a b → IsOpen a t → IsOpen b t
+open_later a b t x (inl h) = inl h
+open_later a b t x (inr h) = inr (complete_later a b x (type_of t) h)
+
+length_complete : (r : List RecordValue) (n : ℕ) (t : QType) → IsLawfully r t → IsOpen r t → IsComplete r (type_of (with_length n t))
+length_complete r n (Qualified (Array (Qualified ty d w) None) c v) lawful h = map_some (array_layout n) (layout_of r ty) ∙ lawful.1
+length_complete r n (Qualified (Array q (Some k)) c v) lawful (inl h) = no h
+length_complete r n (Qualified (Array q (Some k)) c v) lawful (inr h) = h
+length_complete r n (Qualified Void c v) lawful (inl h) = no h
+length_complete r n (Qualified Void c v) lawful (inr h) = h
+length_complete r n (Qualified (Int k) c v) lawful (inl h) = no h
+length_complete r n (Qualified (Int k) c v) lawful (inr h) = h
+length_complete r n (Qualified (Pointer q) c v) lawful (inl h) = no h
+length_complete r n (Qualified (Pointer q) c v) lawful (inr h) = h
+length_complete r n (Qualified (Function q ps) c v) lawful (inl h) = no h
+length_complete r n (Qualified (Function q ps) c v) lawful (inr h) = h
+length_complete r n (Qualified (Record k) c v) lawful (inl h) = no h
+length_complete r n (Qualified (Record k) c v) lawful (inr h) = h
+
+open_array : (ty : CType) → is_open_array ty ≡ true → is_array ty ≡ false → ⊥
+open_array (Array q n) e f = no (sym f)
+open_array Void e f = no e
+open_array (Int k) e f = no e
+open_array (Pointer q) e f = no e
+open_array (Function q ps) e f = no e
+open_array (Record n) e f = no e
+
+value_complete : (r : List RecordValue) (t : QType) → IsOpen r t → is_array (type_of t) ≡ false → IsComplete r (type_of t)
+value_complete r t (inl h) e = absurd (open_array (type_of t) h e)
+value_complete r t (inr h) e = h
+
+made_complete : (q : QType) → Completes (Declared q) (Made q)
+made_complete q = record {
+  later = λ a b t x h. (like_later x h.0, h.1, open_later a b t x h.2);
+  lengthened = λ r n t h. (object_stays.lengthened r n t h.0, covers_trans (covers_length n t) h.1, length_complete r n t h.0.lawful h.2);
+  valued = λ r t h e. (h.0, h.1, value_complete r t h.2 e);
+}
+
+-- what the constraint on an object says that is initialised
+opened_so : (r : List RecordValue) (spot : Spot) (q : QType) → AreMet (object_point r spot true q) → IsOpen r q
+opened_so r spot q met = by (is_open_array (type_of q)) refl met
+  where
+    by : (b : Bool) → is_open_array (type_of q) ≡ b → AreMet (if b then [] else completed r spot InitialisedKind (type_of q) ∷ []) → IsOpen r q
+    by true e m = inl e
+    by false e m = inr (is_complete_so r (type_of q) (completed_so r spot InitialisedKind (type_of q) m.0))
+
+-- what the local gets
+abbrev GoodLocal : State → State → QType × List Initialiser → Type 0
+GoodLocal before s o =
+    IsObjectLike s.types.records o.0 × IsObjectType s.types.records (type_of o.0) × Longer before.scopes.entities s.scopes.entities × (s.body ≡ before.body)
+
+bytes_goes : (s : State) (w : Word) (k : ℕ) (q : QType) (i : Init) → IsLawful s → IsObjectLike s.types.records q → IsOpen s.types.records q → Goes s (bytes_rule w k q i s) (GoodLocal s)
+unfolding bytes_rule completed_rule bind
+bytes_goes s w k q i l h opens =
+    let a : Kept s (add_hidden (hidden_of q [] false) s) = hidden_kept s (hidden_of q [] false) l in
+    from_kept _ (GoodLocal s) a
+    (goes_by (object_rule (context_of w true (next_hidden s)) q i (add_hidden (hidden_of q [] false) s)) _
+    (λ u o. Made q u.types.records o.ty × Grows (add_hidden (hidden_of q [] false) s) u) (GoodLocal s)
+    (object_between None (Declared q) (Made q) (made_complete q) (add_hidden (hidden_of q [] false) s) (context_of w true (next_hidden s)) q i a.0 (h, covers_same q, opens)) (λ u n y g met.
+    let at : slice_get u.1.made.hidden (next_hidden s) ≡ Some (hidden_of q [] false) = g.1.hidden (next_hidden s) (hidden_of q [] false) (get_last s.made.hidden (hidden_of q [] false)) in
+    let d : Kept u.1 (put_hidden (next_hidden s) (hidden_of u.0.ty u.0.filled.items false) u.1) =
+    hidden_put u.1 (next_hidden s) (hidden_of u.0.ty u.0.filled.items false) (hidden_of q [] false) n at g.0.1 in
+    (d.0, d.1, (g.0.0, object_is u.1.types.records (type_of u.0.ty) g.0.2 (within_fits u.1.types.records w.token u.0.ty met), g.1.entities, g.1.body))))
+
+single_goes : (s : State) (w : Word) (k : ℕ) (q : QType) (i : Init) → IsLawful s → IsObjectLike s.types.records q → IsOpen s.types.records q → IsWithin s.types.records (type_of q)
+    → is_by_bytes (type_of q) i ≡ false → Goes s (single_rule w k q i s) (GoodLocal s)
 unfolding single_rule bind
-single_goes s w k q i l h =
-    goes_by (object_rule (context_of w false 0) q i s) _ GoodObject GoodLocal (object_goes s (context_of w false 0) q i l h) (λ u n y o. (n, after_same u.1, like_later y.extends h))
+single_goes s w k q i l h opens fits single =
+    post_bind (object_rule (context_of w false 0) q i s) _
+    (λ u. (IsLawful u.1 × After s u.1 × (Made q u.1.types.records u.0.ty × Grows s u.1)) × (IsLawful u.1 × After s u.1 × (is_array (type_of q) ≡ false)))
+    (λ r. IsLawful r.1 × After s r.1 × GoodLocal s r.1 r.0)
+    (post_both _ _ _ (object_between None (Declared q) (Made q) (made_complete q) s (context_of w false 0) q i l (h, covers_same q, opens)) (single_no_array s (context_of w false 0) q i l single)) (λ u g.
+    let x : Grows s u.1 = g.0.2.1 in
+    let whole : IsObjectType s.types.records (type_of q) = object_is s.types.records (type_of q) (value_complete s.types.records q opens g.1.2) fits in
+    (g.0.0, g.0.1, (like_later x.extends h, object_later s.types.records u.1.types.records x.extends (type_of q) whole, x.entities, x.body)))
 
-local_initialiser_goes : (s : State) (bytes : Bool) (w : Word) (k : ℕ) (q : QType) (i : Init) → IsLawful s → IsObjectLike s.types.records q → Goes s (local_initialiser bytes w k q i s) GoodLocal
+local_initialiser_goes : (s : State) (bytes : Bool) (w : Word) (k : ℕ) (q : QType) (i : Init) → IsLawful s → IsObjectLike s.types.records q → IsOpen s.types.records q → IsWithin s.types.records (type_of q)
+    → is_by_bytes (type_of q) i ≡ bytes → Goes s (local_initialiser bytes w k q i s) (GoodLocal s)
 unfolding local_initialiser
-local_initialiser_goes s true w k q i l h = bytes_goes s w k q i l h
-local_initialiser_goes s false w k q i l h = single_goes s w k q i l h
+local_initialiser_goes s true w k q i l h opens fits e = bytes_goes s w k q i l h opens
+local_initialiser_goes s false w k q i l h opens fits e = single_goes s w k q i l h opens fits e
 
-local_added : (s : State) (x : LocalValue) → IsLawful s → Kept s (add_local x s)
-local_added s x l = around s s.made (add_local x s).body l refl
+-- a local more
+local_more : (s : State) (w : Word) (q : QType) (register : Bool) → IsObjectLike s.types.records q → IsObjectType s.types.records (type_of q) → AreLocals s
+    → AreLocals (enter w.text (LocalObject (next_local s) q register) (add_local (local_of w q) s))
+local_more s w q register h object all k l e = by (get_more s.body.locals (local_of w q) k l e)
+  where
+    by : (slice_get s.body.locals k ≡ Some l) ⊎ ((k ≡ length s.body.locals) × (local_of w q ≡ l)) → IsObjectLike s.types.records l.ty × IsObjectType s.types.records (type_of l.ty)
+    by (inl f) = all k l f
+    by (inr f) = subst (λ (x : LocalValue). IsObjectLike s.types.records x.ty × IsObjectType s.types.records (type_of x.ty)) f.1 (h, object)
 
-local_put : (s : State) (k : ℕ) (x : LocalValue) → IsLawful s → Kept s (put_local k x s)
-local_put s k x l = around s s.made (put_local k x s).body l refl
+-- the local gets its type
+local_made : (s u : State) (w : Word) (q ty : QType) → Extends s.types.records u.types.records → IsObjectLike u.types.records ty → IsObjectType u.types.records (type_of ty)
+    → u.body ≡ (add_local (local_of w q) s).body → AreLocals s → (k : ℕ) (l : LocalValue) → slice_get (put_at (next_local s) (local_of w ty) u.body.locals) k ≡ Some l
+    → IsObjectLike u.types.records l.ty × IsObjectType u.types.records (type_of l.ty)
+local_made s u w q ty x h object same all k l e = by (put_either (next_local s) (local_of w ty) u.body.locals k)
+  where
+    later : (l : LocalValue) → (slice_get s.body.locals k ≡ Some l) ⊎ ((k ≡ length s.body.locals) × (local_of w q ≡ l)) → slice_get (put_at (next_local s) (local_of w ty) u.body.locals) k ≡ slice_get u.body.locals k
+        → slice_get u.body.locals k ≡ Some l → IsObjectLike u.types.records l.ty × IsObjectType u.types.records (type_of l.ty)
+    later l (inl f) g z = let y = all k l f in (like_later x y.0, object_later s.types.records u.types.records x (type_of l.ty) y.1)
+    later l (inr f) g z =
+        let now : slice_get (put_at (next_local s) (local_of w ty) u.body.locals) (next_local s) ≡ Some (local_of w ty) =
+        put_same (next_local s) (local_of w ty) u.body.locals (subst (λ n. n < length u.body.locals) f.0 (get_within u.body.locals k l z)) in
+        subst (λ (v : LocalValue). IsObjectLike u.types.records v.ty × IsObjectType u.types.records (type_of v.ty))
+        (some_same (sym now ∙ (ap (slice_get (put_at (next_local s) (local_of w ty) u.body.locals)) (sym f.0) ∙ (g ∙ z)))) (h, object)
 
-local_goes : (s : State) (w : Word) (b : Specified) (q : QType) (i : Option Initializer) → IsLawful s → IsObjectLike s.types.records q → Goes s (local_rule w b q i s) Anything
-unfolding local_rule
-local_goes s w b q None l h =
-    asked s _ _ Anything
-    (goes_by _ _ Anything Anything
-    (goes_by _ _ Anything Anything
-    (let a = local_added s (local_of w q) l in (a.0, a.1, tt))
-    (λ r m x f. let c = entered_kept r.1 w.text (LocalObject (next_local s) q (is_register b.storage)) m (like_later x.extends h) in (c.0, c.1, tt)))
-    (λ r m x f. (m, after_same r.1, tt)))
-local_goes s w b q (Some i) l h =
-    asked s _ _ Anything
-    (goes_by _ _ Anything Anything
-    (goes_by _ _ Anything Anything
-    (goes_by _ _ Anything Anything
-    (let a = local_added s (local_of w q) l in (a.0, a.1, tt))
-    (λ r m x f. let c = entered_kept r.1 w.text (LocalObject (next_local s) q (is_register b.storage)) m (like_later x.extends h) in (c.0, c.1, tt)))
-    (λ r m x f. (m, after_same r.1, tt)))
-    (λ r m x f.
-    goes_by _ _ GoodLocal Anything
-    (local_initialiser_goes r.1 (is_by_bytes (type_of q) i.init) w (next_local s) q i.init m (like_later x.extends h)) (λ u n y o.
-    goes_by _ _ Anything Anything
-    (goes_by _ _ Anything Anything
-    (let d = local_put u.1 (next_local s) (local_of w u.0.0) n in (d.0, d.1, tt))
-    (λ v j z g. let e = entity_put v.1 r.0 (LocalObject (next_local s) u.0.0 (is_register b.storage)) j (like_later z.extends o) in (e.0, e.1, tt)))
-    (λ v j z g. (j, after_same v.1, tt)))))
+    by : ((k ≡ next_local s) × (slice_get (put_at (next_local s) (local_of w ty) u.body.locals) k ≡ Some (local_of w ty))) ⊎ (slice_get (put_at (next_local s) (local_of w ty) u.body.locals) k ≡ slice_get u.body.locals k)
+        → IsObjectLike u.types.records l.ty × IsObjectType u.types.records (type_of l.ty)
+    by (inl f) = subst (λ (v : LocalValue). IsObjectLike u.types.records v.ty × IsObjectType u.types.records (type_of v.ty)) (some_same (sym f.1 ∙ e)) (h, object)
+    by (inr f) =
+        let z : slice_get u.body.locals k ≡ Some l = sym f ∙ e in
+        later l (get_more s.body.locals (local_of w q) k l (subst (λ b. slice_get b.locals k ≡ Some l) same z)) f z
+
+local_lawful : (s : State) (w : Word) (q : QType) (register : Bool) → IsLawful s → IsObjectLike s.types.records q → IsLawful (enter w.text (LocalObject (next_local s) q register) (add_local (local_of w q) s))
+local_lawful s w q register l h = (entered_kept (add_local (local_of w q) s) w.text (LocalObject (next_local s) q register) (around s s.made (add_local (local_of w q) s).body l refl).0 h).0
+
+local_sound : (s : State) (w : Word) (q : QType) (register : Bool) → Sound None s → Sound None (enter w.text (LocalObject (next_local s) q register) (add_local (local_of w q) s))
+local_sound s w q register z =
+    entered_sound (add_local (local_of w q) s) w.text (LocalObject (next_local s) q register) None (record { backed = z.backed; spelled = z.spelled; functions = z.functions; slots = z.slots }) tt tt
+
+local_keeps : (s : State) (x : Entity) → Rattle.pw_well_typed.proofs.Keeping.Keeps s.scopes.entities (s.scopes.entities ++ x ∷ [])
+local_keeps s x = keeps_longer s.scopes.entities (s.scopes.entities ++ x ∷ []) (λ k e f. get_append s.scopes.entities (x ∷ []) k e f)
+
+local_goes : (s : State) (w : Word) (b : Specified) (spot : Spot) (q : QType) (i : Option Initializer) → IsLawful s → IsObjectLike s.types.records q → AreMet (object_point s.types.records spot (is_some i) q) → IsWithin s.types.records (type_of q)
+    → Goes s (local_rule w b q i s) Anything
+unfolding local_rule bind
+local_goes s w b spot q None l h met fits =
+    let whole : IsObjectType s.types.records (type_of q) = object_is s.types.records (type_of q) (is_complete_so s.types.records (type_of q) (completed_so s.types.records spot CompleteObject (type_of q) met.0)) fits in (
+      local_lawful s w q (is_register b.storage) l h,
+      after_by (knows_linked s (enter w.text (LocalObject (next_local s) q (is_register b.storage)) (add_local (local_of w q) s)) (extends_same s.types.records) refl refl (filling_same s.made.hidden))
+          (λ z. local_keeps s (LocalObject (next_local s) q (is_register b.storage))) (λ z. local_sound s w q (is_register b.storage) z) (λ z. local_more s w q (is_register b.storage) h whole z),
+      tt,
+    )
+local_goes s w b spot q (Some i) l h met fits =
+    let m : IsLawful (enter w.text (LocalObject (next_local s) q (is_register b.storage)) (add_local (local_of w q) s)) = local_lawful s w q (is_register b.storage) l h in
+    post_bind (local_initialiser (is_by_bytes (type_of q) i.init) w (next_local s) q i.init (enter w.text (LocalObject (next_local s) q (is_register b.storage)) (add_local (local_of w q) s))) _
+    (λ u. IsLawful u.1 × After (enter w.text (LocalObject (next_local s) q (is_register b.storage)) (add_local (local_of w q) s)) u.1 × GoodLocal (enter w.text (LocalObject (next_local s) q (is_register b.storage)) (add_local (local_of w q) s)) u.1 u.0)
+    (λ r. IsLawful r.1 × After s r.1 × Unit {0})
+    (local_initialiser_goes (enter w.text (LocalObject (next_local s) q (is_register b.storage)) (add_local (local_of w q) s)) (is_by_bytes (type_of q) i.init) w (next_local s) q i.init m h (opened_so s.types.records spot q met) fits refl) (λ u g.
+    let there : slice_get u.1.scopes.entities (place_here (enter w.text (LocalObject (next_local s) q (is_register b.storage)) (add_local (local_of w q) s)) w.text) ≡ Some (LocalObject (next_local s) q (is_register b.storage)) =
+    ap (slice_get u.1.scopes.entities) (place_of_new (add_local (local_of w q) s) w.text (LocalObject (next_local s) q (is_register b.storage)))
+    ∙ g.2.2 (length s.scopes.entities) (LocalObject (next_local s) q (is_register b.storage)) (get_last s.scopes.entities (LocalObject (next_local s) q (is_register b.storage))) in
+    let e = entity_put (put_local (next_local s) (local_of w u.0.0) u.1) (place_here (enter w.text (LocalObject (next_local s) q (is_register b.storage)) (add_local (local_of w q) s)) w.text)
+    (LocalObject (next_local s) u.0.0 (is_register b.storage)) (around u.1 u.1.made (put_local (next_local s) (local_of w u.0.0) u.1).body g.0 refl).0 g.2.0 in (
+      e.0,
+      after_by (record { extends = g.1.extends; names = g.1.names; functions = g.1.functions; hidden = g.1.hidden })
+          (λ z. keeps_trans s.scopes.entities u.1.scopes.entities _
+          (keeps_trans s.scopes.entities (s.scopes.entities ++ LocalObject (next_local s) q (is_register b.storage) ∷ []) u.1.scopes.entities (local_keeps s (LocalObject (next_local s) q (is_register b.storage)))
+          (g.1.entities (local_sound s w q (is_register b.storage) z)))
+          (keeps_put (place_here (enter w.text (LocalObject (next_local s) q (is_register b.storage)) (add_local (local_of w q) s)) w.text) (LocalObject (next_local s) u.0.0 (is_register b.storage)) (LocalObject (next_local s) q (is_register b.storage))
+          u.1.scopes.entities there tt))
+          (λ z.
+          let y = g.1.sound (local_sound s w q (is_register b.storage) z) in
+          put_sound None (put_local (next_local s) (local_of w u.0.0) u.1) (place_here (enter w.text (LocalObject (next_local s) q (is_register b.storage)) (add_local (local_of w q) s)) w.text)
+          (LocalObject (next_local s) u.0.0 (is_register b.storage)) (LocalObject (next_local s) q (is_register b.storage)) there tt tt (record { backed = y.backed; spelled = y.spelled; functions = y.functions; slots = y.slots }))
+          (λ z. local_made s u.1 w q u.0.0 g.1.extends g.2.0 g.2.1 g.2.3 z),
+      tt,
+    ))
 
 -- ---- what is declared
 
 -- an object is no function
 abbrev pub Fits : Sort → QType → Type 0
 Fits ATypedef q = Unit {0}
-Fits AFunction q = Unit {0}
+Fits AFunction q = is_function (type_of q) ≡ true
 Fits _ q = IsFunctionType (type_of q) → ⊥
 
 pub sort_fits : (outside : Bool) (b : Specified) (q : QType) → Fits (sort_of outside b q) q
@@ -194,23 +400,30 @@ sort_fits outside b q = by (is_typedef b.storage) (is_function (type_of q)) refl
     by : (x y : Bool) → is_function (type_of q) ≡ y → (z e t : Bool)
         → Fits (if x then ATypedef else if y then AFunction else if z then AGlobal else if e then AnExtern else if t then AStatic else ALocal) q
     by true y h z e t = tt
-    by false true h z e t = tt
+    by false true h z e t = h
     by false false h true e t = no_function (type_of q) h
     by false false h false true t = no_function (type_of q) h
     by false false h false false true = no_function (type_of q) h
     by false false h false false false = no_function (type_of q) h
 
 declare_goes : (s : State) (sort : Sort) (w : Word) (b : Specified) (spot : Spot) (q : QType) (i : Option Initializer) → IsLawful s → IsLawfulType s.types.records (type_of q) → Fits sort q
-    → Goes s (declare_rule sort w b spot q i s) Anything
+    → AreMet (sort_point s sort spot w (is_some i) b q) → IsWithin s.types.records (type_of q) → Goes s (declare_rule sort w b spot q i s) Anything
 unfolding declare_rule bind
-declare_goes s ATypedef w b spot q i l h f = let a = entered_kept s w.text (TypeName q) l h in (a.0, a.1, tt)
-declare_goes s AFunction w b spot q i l h f =
-    goes_by (declare_linked w.text w.token b.tag (asking_of AFunction b) q s) _ Anything Anything (declared_goes s w.text w.token b.tag (asking_of AFunction b) q l h) (λ r m x k. (m, after_same r.1, tt))
-declare_goes s AGlobal w b spot q i l h f = global_goes s w b spot q i l (record { lawful = h; object = f })
-declare_goes s AnExtern w b spot q i l h f =
-    goes_by (declare_linked w.text w.token b.tag AsBefore q s) _ Anything Anything (declared_goes s w.text w.token b.tag AsBefore q l h) (λ r m x k. (m, after_same r.1, tt))
-declare_goes s AStatic w b spot q i l h f = static_goes s w q i l (record { lawful = h; object = f })
-declare_goes s ALocal w b spot q i l h f = local_goes s w b q i l (record { lawful = h; object = f })
+declare_goes s ATypedef w b spot q i l h f met fits = let a : Kept s (enter w.text (TypeName q) s) = plain_entered s w.text (TypeName q) l h tt in (a.0, a.1, tt)
+declare_goes s AFunction w b spot q i l h f met fits =
+    goes_by (declare_linked w.text w.token b.tag (asking_of AFunction b) q s) _ (GoodPlace w.text q (place_for s w.text)) Anything
+    (declared_goes None s w.text w.token b.tag (asking_of AFunction b) q l h (linkable s w.text w.token (is_internal_by s w.text (asking_of AFunction b)) q (function_point s b w.token (is_some i)) met)
+    (λ z none e g. no (sym g ∙ f))) (λ r m x k. (m, after_same r.1, tt))
+declare_goes s AGlobal w b spot q i l h f met fits =
+    global_goes s w b spot q i l (record { lawful = h; object = f })
+    (linkable s w.text w.token (is_internal_by s w.text (asking_of AGlobal b)) q (definition_point s w (is_some i) ++ global_point (records_in s) spot (is_some i) b q) met)
+declare_goes s AnExtern w b spot q i l h f met fits =
+    goes_by (declare_linked w.text w.token b.tag AsBefore q s) _ (GoodPlace w.text q (place_for s w.text)) Anything
+    (declared_goes None s w.text w.token b.tag AsBefore q l h
+    (linkable s w.text w.token (is_internal_by s w.text AsBefore) q (needs InitialisedHere w.token (not (is_some i)) ∷ needs CompleteObject w.token (not (is_void (type_of q))) ∷ []) met)
+    (λ z none e g. absurd (visible_before s w.text z none e))) (λ r m x k. (m, after_same r.1, tt))
+declare_goes s AStatic w b spot q i l h f met fits = static_goes s w q i l (record { lawful = h; object = f })
+declare_goes s ALocal w b spot q i l h f met fits = local_goes s w b spot q i l (record { lawful = h; object = f }) met.1 fits
 
 -- ---- declarations
 
@@ -221,10 +434,10 @@ init_declarator_goes s b d l h =
     goes_by _ _ GoodType Anything
     (of_runs _ _ GoodType (built_runs r.1 (spot_of r.0.name b.first b.tag) r.0.derivations b.ty m k.0 (lawful_later s.types.records r.1.types.records x.extends (type_of b.ty) h))) (λ u n y j.
     asked u.1 (sort_of (is_file_scope u.1) b u.0) _ Anything
-    (goes_by _ _ Anything Anything
+    (goes_by _ _ (λ t a. AreMet (sort_point t (sort_of (is_file_scope u.1) b u.0) (spot_of r.0.name b.first b.tag) (name_of r.0) (is_some d.initializer) b u.0) × AreMet (type_within t.types.records (name_of r.0).token u.0)) Anything
     (name_goes u.1 (sort_of (is_file_scope u.1) b u.0) (spot_of r.0.name b.first b.tag) (name_of r.0) (is_some d.initializer) b u.0 n) (λ v i z e.
     declare_goes v.1 (sort_of (is_file_scope u.1) b u.0) (name_of r.0) b (spot_of r.0.name b.first b.tag) u.0 d.initializer i
-    (lawful_later u.1.types.records v.1.types.records z.extends (type_of u.0) j) (sort_fits (is_file_scope u.1) b u.0)))))
+    (lawful_later u.1.types.records v.1.types.records z.extends (type_of u.0) j) (sort_fits (is_file_scope u.1) b u.0) e.0 (within_fits v.1.types.records (name_of r.0).token u.0 e.1)))))
 
 pub init_declarators_goes : (ds : List InitDeclarator) (s : State) (b : Specified) → IsLawful s → GoodSpecified s b → Goes s (init_declarators_rule b ds s) Anything
 unfolding init_declarators_rule

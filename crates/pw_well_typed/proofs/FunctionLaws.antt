@@ -1,42 +1,41 @@
 -- Function definitions: the type, the parameters, the labels and the block of each.
-use Rattle.std.specs.Prelude.{ℕ, suc, ◌≡◌, ◌⊎◌, Bool, true, false, Option, None, Some, unwrap_or, List, [], ◌∷◌, ◌++◌, length, map, slice_get, All, Ok, refl}
+use Rattle.pw_well_typed.proofs.Declaring.{declared_knows}
+use Rattle.std.specs.Prelude.{ℕ, suc, ◌≡◌, ◌⊎◌, true, Option, None, Some, unwrap_or, List, [], ◌∷◌, ◌++◌, length, map, slice_get, All, Ok, refl}
 use Rattle.std.proofs.Common.{ap, sym, subst, ◌∙◌, inl, inr}
 use Rattle.std.proofs.lemmas.List.Elements.{All-weaker}
 use Rattle.std.proofs.lemmas.Option.{slice_get-get_or}
 use Rattle.pw_tree.specs.Trees.{Word, Function, External, Definition, Declaration, Module, Block}
 use Rattle.pw_tree.specs.Trees as S
-use Rattle.pw_types.specs.Labels.{labels_in, cases_in}
 use Rattle.pw_types.specs.TypeTrees.{QType, type_of}
-use Rattle.pw_types.specs.TypedTrees.{Statement, LocalValue, FunctionValue, ModuleValue}
-use Rattle.pw_types.specs.TypedTrees as T
+use Rattle.pw_types.specs.TypedTrees.{Statement, FunctionValue, ModuleValue}
 use Rattle.pw_types.specs.TypedModules.{AreLabels, IsBlock, IsFunctionTyped}
 use Rattle.pw_walk.specs.Causes.{Point}
 use Rattle.pw_walk.specs.Walks.{Walk, Done, Passing, bind}
 use Rattle.pw_rules.specs.Checks.{Checks, checking}
-use Rattle.pw_rules.specs.Declarations.{name_of, specified_rule}
+use Rattle.pw_rules.specs.Declarations.{name_of}
 use Rattle.pw_rules.specs.Derivations.{Bindings, spot_of, Declared}
-use Rattle.pw_rules.specs.Functions.{ends_in_function, function_of, bindings_of, no_bindings, parameter_local, enter_body, definition_asking, definition_rules, measured_rule, body_rule, function_rule, add_function}
+use Rattle.pw_rules.specs.Functions.{ends_in_function, function_of, bindings_of, no_bindings, parameter_local, enter_body, definition_asking, definition_rules, measured_rule, body_rule, function_rule}
 use Rattle.pw_rules.specs.Leaves.{first_of_declaration}
-use Rattle.pw_rules.specs.Linkage.{declare_linked, define_function, linkage_point, is_internal_by}
-use Rattle.pw_rules.specs.Modules.{external_rule, externals_rule, end_rule, module_in, module_rule}
-use Rattle.pw_rules.specs.States.{State, BodyState, LinkedName, leave_scope, linked_in, start}
+use Rattle.pw_rules.specs.Linkage.{define_function}
+use Rattle.pw_rules.specs.Modules.{external_rule, externals_rule, end_rule, module_rule}
+use Rattle.pw_rules.specs.States.{State, LinkedName, leave_scope, start, Entity}
 use Rattle.pw_rules.specs.Statements as R
 use Rattle.pw_rules.specs.Statements.{block_rule}
 use Rattle.pw_well_typed.specs.Lawful.{IsLawful, IsLawfulType}
-use Rattle.pw_well_typed.proofs.Walking.{Post, post_end, post_bind, post_weaken, post_both, truth, AreMet, met_right}
+use Rattle.pw_well_typed.proofs.Walking.{Post, post_end, post_bind, post_weaken, post_both, truth, AreMet}
 use Rattle.pw_well_typed.proofs.Lists.{get_more, never_some}
-use Rattle.pw_well_typed.proofs.Types.{lawful_later}
-use Rattle.pw_well_typed.proofs.States.{Runs, Grows}
+use Rattle.pw_well_typed.proofs.Types.{lawful_later, extends_trans}
+use Rattle.pw_well_typed.proofs.States.{Grows}
 use Rattle.pw_well_typed.proofs.Changes.{left_lawful_alone}
-use Rattle.pw_well_typed.proofs.Leaves.{GoodType, GoodSpecified, GoodDeclared, GoodBindings, GoodIfAny, bindings_later, built_runs}
+use Rattle.pw_well_typed.proofs.Leaves.{GoodType, GoodSpecified, GoodDeclared, GoodBindings, bindings_later, built_runs}
 use Rattle.pw_well_typed.proofs.Phrases.{declarator_post}
-use Rattle.pw_well_typed.proofs.Keeping.{After, after_trans, Goes, NamedAt, declared_at, function_kept, Anything}
+use Rattle.pw_well_typed.proofs.Keeping.{After, function_kept, Knows}
 use Rattle.pw_well_typed.proofs.Declarations.{decl_goes}
 use Rattle.pw_well_typed.proofs.Statements.{block_goes}
-use Rattle.pw_well_typed.proofs.Modules.{body_entered, good_bindings}
+use Rattle.pw_well_typed.proofs.Modules.{body_lawful, good_if_any}
 use Rattle.pw_well_typed.proofs.Adding.{specified_all}
-use Rattle.pw_well_typed.proofs.LabelLaws.{Steady, Labels, Labelled, IsLabelled, block_labelled, asked_post, function_labels}
-use Rattle.pw_well_typed.proofs.FunctionTypes.{last_of, IsBound, IsBoundDeclared, IsBuiltBy, after_any, post_any, declarator_bound, built_by, function_typed}
+use Rattle.pw_well_typed.proofs.LabelLaws.{Steady, IsLabelled, block_labelled, asked_post, function_labels}
+use Rattle.pw_well_typed.proofs.FunctionTypes.{last_of, IsBoundDeclared, IsBuiltBy, after_any, declarator_bound, built_by, function_typed}
 
 -- ---- bodies
 
@@ -65,14 +64,15 @@ one_shaped fs f all h i g e = by (get_more fs f i g e)
     by (inr k) = subst IsShaped k.1 h
 
 -- what the declarator of a definition has said: a function of the type, with these names in scope
-record Declares (s : State) (q : QType) (d : Declared) : Type 0 where
-  ends : ends_in_function d.derivations ≡ true
-  bound : IsBoundDeclared d
-  made : IsBuiltBy (last_of d.derivations) q
-  lawful : IsLawfulType s.types.records (type_of q)
-  bindings : GoodBindings s.types.records (bindings_of d)
+pub record Declares (s : State) (q : QType) (d : Declared) : Type 0 where
+  pub ends : ends_in_function d.derivations ≡ true
+  pub bound : IsBoundDeclared d
+  pub made : IsBuiltBy (last_of d.derivations) q
+  pub lawful : IsLawfulType s.types.records (type_of q)
+  pub entities : List Entity
+  pub bindings : GoodBindings s.types.records entities (bindings_of d)
 
-length_map : {X Y : Type 0} (g : X → Y) (xs : List X) → length (map g xs) ≡ length xs
+pub length_map : {X Y : Type 0} (g : X → Y) (xs : List X) → length (map g xs) ≡ length xs
 length_map g [] = refl
 length_map g (z ∷ xs) = ap suc (length_map g xs)
 
@@ -80,13 +80,19 @@ same_bindings : (o : Option Bindings) → unwrap_or o (unwrap_or o no_bindings) 
 same_bindings None = refl
 same_bindings (Some b) = refl
 
-abbrev Shapes : {A : Type 0} → State → A × State → Type 0
+abbrev pub Shapes : {A : Type 0} → State → A × State → Type 0
 Shapes s r = IsLawful r.1 × (AreShaped s.made.functions → AreShaped r.1.made.functions)
+
+-- it has the type that its declarator made, and its parameters are its first locals
+pub typed_function : (s t : State) (w : Word) (place : ℕ) (q : QType) (d : Declared) (block : Block) (x : Statement) → Declares s q d
+    → Steady (enter_body q (bindings_of d) (R.labels_in_block block) s).body t.body → (m : ModuleValue) → IsFunctionTyped m (function_of t w place q (bindings_of d) x)
+typed_function s t w place q d block x h steady m =
+    function_typed m (function_of t w place q (bindings_of d) x) s.types.records (bindings_of d) d.derivations d.bindings h.ends h.bound h.made (same_bindings d.bindings) h.lawful h.bindings.scalars refl steady.locals
 
 body_shaped : (s : State) (w : Word) (place : ℕ) (q : QType) (d : Declared) (block : Block) → IsLawful s → Declares s q d → Post (body_rule w place q (bindings_of d) block s) (Shapes s)
 unfolding body_rule measured_rule bind
 body_shaped s w place q d block l h =
-    let c : IsLawful (enter_body q (bindings_of d) (R.labels_in_block block) s) = (body_entered s q (bindings_of d) (R.labels_in_block block) l h.bindings).0 in
+    let c : IsLawful (enter_body q (bindings_of d) (R.labels_in_block block) s) = body_lawful s h.entities q (bindings_of d) (R.labels_in_block block) l h.bindings in
     post_bind (block_rule block (enter_body q (bindings_of d) (R.labels_in_block block) s)) _
     (λ r. (IsLawful r.1 × After (enter_body q (bindings_of d) (R.labels_in_block block) s) r.1 × Unit {0})
     × (IsLabelled (enter_body q (bindings_of d) (R.labels_in_block block) s).body (R.labels_in_block block) r × IsBlock (length (map parameter_local (bindings_of d).parameters)) r.0)) (Shapes s)
@@ -101,25 +107,24 @@ body_shaped s w place q d block l h =
       λ all. one_shaped r.1.made.functions (function_of r.1 w place q (bindings_of d) r.0) (subst AreShaped (sym g.0.1.functions) all) (record {
         labels = function_labels (function_of r.1 w place q (bindings_of d) r.0) (R.labels_in_block block) (enter_body q (bindings_of d) (R.labels_in_block block) s).body r.1.body refl refl refl refl g.1.0.1 g.1.0.2 refl refl;
         block = subst (λ n. IsBlock n r.0) (length_map parameter_local (bindings_of d).parameters) g.1.1;
-        typed = λ m.
-            function_typed m (function_of r.1 w place q (bindings_of d) r.0) s.types.records (bindings_of d) d.derivations d.bindings h.ends h.bound h.made (same_bindings d.bindings) h.lawful h.bindings.scalars refl g.1.0.1.locals;
+        typed = λ m. typed_function s r.1 w place q d block r.0 h g.1.0.1 m;
       }),
     ))
 
 -- ---- definitions
 
 -- the definition's own point
-ends_here : (s : State) (w : Word) (b : Rattle.pw_rules.specs.SpecifierLists.Specified) (d : Declared) (ds : List S.Decl) (q : QType) → AreMet (definition_rules s w b d ds q) → ends_in_function d.derivations ≡ true
+pub ends_here : (s : State) (w : Word) (b : Rattle.pw_rules.specs.SpecifierLists.Specified) (d : Declared) (ds : List S.Decl) (q : QType) → AreMet (definition_rules s w b d ds q) → ends_in_function d.derivations ≡ true
 ends_here s w b d ds q met = truth (ends_in_function d.derivations) met.1.1.1.1.0
 
 shapes_later : (s t : State) (w : Walk (Unit {0} × State)) → t.made.functions ≡ s.made.functions → Post w (Shapes t) → Post w (Shapes s)
 shapes_later s t w same h = post_weaken w (Shapes t) (Shapes s) h (λ r g. (g.0, λ all. g.1 (subst AreShaped (sym same) all)))
 
-met_post : {B : Type 0} (t : State) (p : Point) (next : Unit {0} × State → Walk (B × State)) (P : B × State → Type 0) → (AreMet p → Post (next (tt, t)) P) → Post (bind (Passing p (Done (tt, t))) next) P
+pub met_post : {B : Type 0} (t : State) (p : Point) (next : Unit {0} × State → Walk (B × State)) (P : B × State → Type 0) → (AreMet p → Post (next (tt, t)) P) → Post (bind (Passing p (Done (tt, t))) next) P
 unfolding bind
 met_post t p next P h = h
 
-function_shaped : (s : State) (f : Function) → IsLawful s → Post (function_rule f s) (Shapes s)
+pub function_shaped : (s : State) (f : Function) → IsLawful s → Post (function_rule f s) (Shapes s)
 unfolding function_rule
 function_shaped s f l =
     post_bind _ _ (λ r. IsLawful r.1 × Grows s r.1 × GoodSpecified r.1 r.0) (Shapes s) (specified_all s f.specifiers (first_of_declaration f.specifiers f.declarator) l) (λ r g.
@@ -130,10 +135,10 @@ function_shaped s f l =
     (built_runs u.1 (spot_of u.0.name r.0.first r.0.tag) u.0.derivations r.0.ty h.0.0 h.0.2.0 (lawful_later r.1.types.records u.1.types.records h.0.1.extends (type_of r.0.ty) g.2))
     (built_by (spot_of u.0.name r.0.first r.0.tag) u.0.derivations r.0.ty u.1 refl)) (λ v i.
     asked_post v.1 _ _ (Shapes s)
-    (post_bind _ _ (λ e. (IsLawful e.1 × After v.1 e.1 × NamedAt (name_of u.0).text e.1 e.0) × (ends_in_function u.0.derivations ≡ true)) (Shapes s)
-    (met_post v.1 _ _ (λ e. (IsLawful e.1 × After v.1 e.1 × NamedAt (name_of u.0).text e.1 e.0) × (ends_in_function u.0.derivations ≡ true)) (λ met.
-    post_weaken _ (λ e. IsLawful e.1 × After v.1 e.1 × NamedAt (name_of u.0).text e.1 e.0) (λ e. (IsLawful e.1 × After v.1 e.1 × NamedAt (name_of u.0).text e.1 e.0) × (ends_in_function u.0.derivations ≡ true))
-    (declared_at v.1 (name_of u.0).text (name_of u.0).token r.0.tag (definition_asking r.0) v.0 i.0.0 i.0.2) (λ e j. (j, ends_here v.1 (name_of u.0) r.0 u.0 f.declarations v.0 met)))) (λ e j.
+    (post_bind _ _ (λ e. (IsLawful e.1 × Knows v.1 e.1) × (ends_in_function u.0.derivations ≡ true)) (Shapes s)
+    (met_post v.1 _ _ (λ e. (IsLawful e.1 × Knows v.1 e.1) × (ends_in_function u.0.derivations ≡ true)) (λ met.
+    post_weaken _ (λ e. IsLawful e.1 × Knows v.1 e.1) (λ e. (IsLawful e.1 × Knows v.1 e.1) × (ends_in_function u.0.derivations ≡ true))
+    (declared_knows v.1 (name_of u.0).text (name_of u.0).token r.0.tag (definition_asking r.0) v.0 i.0.0 i.0.2) (λ e j. (j, ends_here v.1 (name_of u.0) r.0 u.0 f.declarations v.0 met)))) (λ e j.
     let c = function_kept e.1 e.0 j.0.0 in
     asked_post _ _ _ (Shapes s)
     (shapes_later s (define_function e.0 e.1) (body_rule (name_of u.0) e.0 v.0 (bindings_of u.0) f.body (define_function e.0 e.1))
@@ -142,9 +147,11 @@ function_shaped s f l =
       ends = j.1;
       bound = h.1;
       made = i.1;
-      lawful = lawful_later v.1.types.records (define_function e.0 e.1).types.records (after_trans j.0.1 c.1).extends (type_of v.0) i.0.2;
-      bindings = good_bindings (define_function e.0 e.1) u.0.bindings
-          (bindings_later v.1.types.records (define_function e.0 e.1).types.records (after_trans j.0.1 c.1).extends u.0.bindings (bindings_later u.1.types.records v.1.types.records i.0.1.extends u.0.bindings h.0.2.1));
+      lawful = lawful_later v.1.types.records (define_function e.0 e.1).types.records (extends_trans j.0.1.extends c.1.extends) (type_of v.0) i.0.2;
+      entities = v.1.scopes.entities;
+      bindings = good_if_any (define_function e.0 e.1).types.records v.1.scopes.entities u.0.bindings
+          (bindings_later v.1.types.records (define_function e.0 e.1).types.records v.1.scopes.entities v.1.scopes.entities (extends_trans j.0.1.extends c.1.extends) (λ k x f. f) u.0.bindings
+          (bindings_later u.1.types.records v.1.types.records u.1.scopes.entities v.1.scopes.entities i.0.1.extends i.0.1.entities u.0.bindings h.0.2.1));
     }))))))))
 
 -- ---- modules
@@ -162,7 +169,7 @@ externals_shaped (x ∷ rest) s l =
     post_bind _ _ (Shapes s) (Shapes s) (external_shaped s x l)
     (λ r h. post_weaken (externals_rule rest r.1) (Shapes r.1) (Shapes s) (externals_shaped rest r.1 h.0) (λ u k. (k.0, λ all. k.1 (h.1 all))))
 
-end_same : (names : List LinkedName) (s : State) → Post (end_rule names s) (λ r. r.1 ≡ s)
+pub end_same : (names : List LinkedName) (s : State) → Post (end_rule names s) (λ r. r.1 ≡ s)
 unfolding end_rule bind
 end_same [] s = refl
 end_same (x ∷ rest) s = λ met. end_same rest s

@@ -5,14 +5,12 @@ use Rattle.std.specs.Option.{option_or}
 use Rattle.std.proofs.Common.{ap, sym, subst, ◌∙◌}
 use Rattle.pw_tree.specs.Trees.{Declarator, Core, Suffixes}
 use Rattle.pw_tree.specs.Trees as S
-use Rattle.pw_types.specs.TypeTrees.{Function, QType, Qualified, QTypes, NoType, OneType, type_of, RecordValue}
-use Rattle.pw_types.specs.TypedTrees.{LocalValue, FunctionValue, ModuleValue}
+use Rattle.pw_types.specs.TypeTrees.{Function, QType, QTypes, type_of, RecordValue}
+use Rattle.pw_types.specs.TypedTrees.{FunctionValue, ModuleValue}
 use Rattle.pw_types.specs.TypedModules.{AreParameters, IsFunctionTyped}
-use Rattle.pw_types.specs.WellTyped.{IsScalar}
 use Rattle.pw_walk.specs.Walks.{Walk, Done, Passing, Closed, bind}
 use Rattle.pw_rules.specs.Derivations.{Derivation, ToPointer, ToArray, ToFunction, ParameterValue, Bindings, Declared, Suffixed, built, step_type, pointer_step}
 use Rattle.pw_rules.specs.Functions.{ends_in_function, parameter_local}
-use Rattle.pw_rules.specs.Kinds.{types_in}
 use Rattle.pw_rules.specs.Leaves.{parameter_types}
 use Rattle.pw_rules.specs.Limits.{Spot}
 use Rattle.pw_rules.specs.Phrases.{declarator_rule, core_rule, suffixes_rule}

@@ -1,93 +1,222 @@
 -- Rules of declarations and statements: they leave a lawful state, in which no less is known of records.
+use Rattle.pw_well_typed.proofs.Objects.{object_later}
+use Rattle.pw_types.specs.Records.{IsObjectType}
+use Rattle.pw_rules.specs.declared.names.Slot.{Slot}
+use Rattle.pw_well_typed.proofs.Composite.{Covers, covers_same, covers_trans, covers_first}
+use Rattle.pw_well_typed.proofs.Sound.{Sound, Continues, continues_same, continues_trans, Filling, filling_same, IsPlain}
 use Rattle.std.specs.Prelude.{ℕ, ◌≡◌, ◌⊎◌, Bool, true, false, Option, None, Some, unwrap_or, option_and_then, List, [], ◌∷◌, slice_get, if◌then◌else◌, refl, ◌++◌}
 use Rattle.std.specs.Option.{option_map_or}
 use Rattle.std.proofs.lemmas.Slice.Eq.{bytes_eq-Decides}
 use Rattle.std.specs.Str.{bytes_eq}
 use Rattle.std.proofs.Common.{sym, subst, ◌∙◌, inl, inr, ap, length}
 use Rattle.pw_types.specs.TypeTrees.{QType, Qualified, type_of, RecordValue}
-use Rattle.pw_types.specs.TypedTrees.{PlacedItem}
+use Rattle.pw_types.specs.TypedTrees.{PlacedItem, LocalValue}
 use Rattle.pw_walk.specs.Causes.{Constraint, Point}
 use Rattle.pw_walk.specs.Walks.{Walk, Done, Passing, bind, granted}
 use Rattle.pw_rules.specs.Compatible.{composite}
 use Rattle.pw_rules.specs.Linkage.{Asking, declare_linked, note_linked, note_here, type_here, place_for, linked_before, linked_again, linked_anew, is_internal_by, change_linked, slot_for, has_slot, define_tentatively, define_object, define_function, initialise_linked}
-use Rattle.pw_rules.specs.States.{State, LinkedName, place_of_linked, Rule, MadeState, BodyState, Entity, TypeName, EnumerationConstant, LocalObject, StaticObject, Linked, entity_here, entry_here, entity_at, linked_at, put_linked, add_linked, put_entity, add_slot, enter, put_at, scoped, one_deeper}
+use Rattle.pw_rules.specs.States.{State, LinkedName, place_of_linked, Rule, MadeState, BodyState, Entity, TypeName, EnumerationConstant, LocalObject, StaticObject, Linked, entity_here, entry_here, entity_at, linked_at, put_linked, add_linked, put_entity, add_slot, enter, put_at, scoped, one_deeper, leave_scope, HiddenObject}
 use Rattle.pw_rules.specs.declared.names.Entry.{Entry}
 use Rattle.pw_rules.specs.declared.names.Slot.TheVariants as slot
-use Rattle.pw_well_typed.specs.Lawful.{IsLawful, IsLawfulType, IsLawfulEntity, Extends}
+use Rattle.pw_well_typed.specs.Lawful.{IsLawful, IsLawfulType, IsLawfulEntity, Extends, IsObjectLike}
 use Rattle.pw_well_typed.proofs.Walking.{Post, AreMet, post_bind, post_weaken}
-use Rattle.pw_well_typed.proofs.Lists.{some_same, never_some, put_either, put_cases, get_more, found_first, get_append, position_passes, position_none, get_last, get_within, put_same}
+use Rattle.pw_well_typed.proofs.Lists.{some_same, never_some, put_either, put_cases, get_more, found_first, get_append, position_passes, position_none, get_last, get_within, put_same, Longer}
 use Rattle.pw_well_typed.proofs.States.{Runs, Grows}
 use Rattle.pw_well_typed.proofs.Types.{no, extends_trans, extends_same, lawful_composite}
-use Rattle.pw_well_typed.proofs.Changes.{entered, left_lawful_alone}
-
--- what is said of a name with linkage stays so, though its type may become more
-pub record Continues (before after : LinkedName) : Type 0 where
-  pub name : after.name ≡ before.name
-  pub internal : after.internal ≡ before.internal
-  pub tentative : before.tentative ≡ true → after.tentative ≡ true
-  pub defined : before.defined ≡ true → after.defined ≡ true
+use Rattle.pw_well_typed.proofs.Changes.{entered, left_lawful_alone, left_sound_alone, like_later}
 
 abbrev pub StaysAt : State → ℕ → LinkedName → Type 0
 StaysAt t place before = (after : LinkedName) × (slice_get t.types.linked place ≡ Some after) × Continues before after
 
--- no less is known of records and of names
-pub record After (s t : State) : Type 0 where
+-- no less is known of records, of names with linkage and of objects
+pub record Knows (s t : State) : Type 0 where
   pub extends : Extends s.types.records t.types.records
   pub names : (place : ℕ) (x : LinkedName) → slice_get s.types.linked place ≡ Some x → StaysAt t place x
   pub functions : t.made.functions ≡ s.made.functions
-
-pub continues_same : (x : LinkedName) → Continues x x
-continues_same x = record { name = refl; internal = refl; tentative = λ e. e; defined = λ e. e }
-
-continues_trans : {x y z : LinkedName} → Continues x y → Continues y z → Continues x z
-continues_trans {x} {y} {z} a b = record {
-  name = b.name ∙ a.name;
-  internal = b.internal ∙ a.internal;
-  tentative = λ e. b.tentative (a.tentative e);
-  defined = λ e. b.defined (a.defined e);
-}
+  pub hidden : Filling s.made.hidden t.made.hidden
 
 -- the names are the same
-pub after_linked : (s t : State) → Extends s.types.records t.types.records → t.types.linked ≡ s.types.linked
-    → t.made.functions ≡ s.made.functions → After s t
-after_linked s t x same made = record {
+pub knows_linked : (s t : State) → Extends s.types.records t.types.records → t.types.linked ≡ s.types.linked
+    → t.made.functions ≡ s.made.functions → Filling s.made.hidden t.made.hidden → Knows s t
+knows_linked s t x same made fill = record {
   extends = x;
   names = λ place y e. (y, ap (λ xs. slice_get xs place) same ∙ e, continues_same y);
   functions = made;
+  hidden = fill;
 }
 
-pub after_same : (s : State) → After s s
-after_same s = after_linked s s (extends_same s.types.records) refl refl
+pub knows_same : (s : State) → Knows s s
+knows_same s = knows_linked s s (extends_same s.types.records) refl refl (filling_same s.made.hidden)
 
-pub after_trans : {s t u : State} → After s t → After t u → After s u
-after_trans {s} {t} {u} a b = record {
+pub knows_trans : {s t u : State} → Knows s t → Knows t u → Knows s u
+knows_trans {s} {t} {u} a b = record {
   extends = extends_trans a.extends b.extends;
   names = λ place x e.
       let y = a.names place x e in
       let z = b.names place y.0 y.1 in
       (z.0, z.1, continues_trans y.2 z.2);
   functions = b.functions ∙ a.functions;
+  hidden = λ k x e.
+      let y = a.hidden k x e in
+      let z = b.hidden k y.0 y.1 in
+      (z.0, z.1, covers_trans z.2 y.2);
 }
 
-abbrev pub Kept : State → State → Type 0
-Kept s t = IsLawful t × After s t
+abbrev pub Changed : State → State → Type 0
+Changed s t = IsLawful t × Knows s t
 
-pub kept_trans : {s t u : State} → Kept s t → Kept t u → Kept s u
-kept_trans {s} {t} {u} a b = (b.0, after_trans a.1 b.1)
+pub changed_trans : {s t u : State} → Changed s t → Changed t u → Changed s u
+changed_trans {s} {t} {u} a b = (b.0, knows_trans a.1 b.1)
+
+-- an entity is of the same sort, and more may be known of its type
+abbrev pub Becomes : Entity → Entity → Type 0
+Becomes (Linked n q) f = (r : QType) × (f ≡ Linked n r) × Covers r q
+Becomes (StaticObject n q) f = (r : QType) × (f ≡ StaticObject n r) × Covers r q
+Becomes _ f = IsPlain f
+
+pub becomes_same : (e : Entity) → Becomes e e
+becomes_same (TypeName q) = tt
+becomes_same (EnumerationConstant n) = tt
+becomes_same (LocalObject n q register) = tt
+becomes_same (StaticObject n q) = (q, refl, covers_same q)
+becomes_same (Linked n q) = (q, refl, covers_same q)
+
+pub plain_stays : (f g : Entity) → IsPlain f → Becomes f g → IsPlain g
+plain_stays (TypeName q) g h y = y
+plain_stays (EnumerationConstant n) g h y = y
+plain_stays (LocalObject n q register) g h y = y
+plain_stays (StaticObject n q) g h y = absurd h
+plain_stays (Linked n q) g h y = absurd h
+
+becomes_trans : (e f g : Entity) → Becomes e f → Becomes f g → Becomes e g
+becomes_trans (TypeName q) f g x y = plain_stays f g x y
+becomes_trans (EnumerationConstant n) f g x y = plain_stays f g x y
+becomes_trans (LocalObject n q register) f g x y = plain_stays f g x y
+becomes_trans (StaticObject n q) f g x y = let z = subst (λ e. Becomes e g) x.1 y in (z.0, z.1, covers_trans z.2 x.2)
+becomes_trans (Linked n q) f g x y = let z = subst (λ e. Becomes e g) x.1 y in (z.0, z.1, covers_trans z.2 x.2)
+
+abbrev pub Keeps : List Entity → List Entity → Type 0
+Keeps xs ys = (k : ℕ) (e : Entity) → slice_get xs k ≡ Some e → (f : Entity) × (slice_get ys k ≡ Some f) × Becomes e f
+
+-- the locals of the function that is read have types that objects can have
+abbrev pub AreLocals : State → Type 0
+AreLocals s = (k : ℕ) (l : LocalValue) → slice_get s.body.locals k ≡ Some l → IsObjectLike s.types.records l.ty × IsObjectType s.types.records (type_of l.ty)
+
+-- No less is known; and what the parts of the state say of one another they say still, but for what is pending.
+pub record AfterBy (p q : Option Slot) (s t : State) : Type 0 where
+  pub extends : Extends s.types.records t.types.records
+  pub names : (place : ℕ) (x : LinkedName) → slice_get s.types.linked place ≡ Some x → StaysAt t place x
+  pub functions : t.made.functions ≡ s.made.functions
+  pub hidden : Filling s.made.hidden t.made.hidden
+  pub entities : Sound p s → Keeps s.scopes.entities t.scopes.entities
+  pub sound : Sound p s → Sound q t
+  pub locals : AreLocals s → AreLocals t
+
+abbrev pub After : State → State → Type 0
+After s t = AfterBy None None s t
+
+pub after_by : {p q : Option Slot} {s t : State} → Knows s t → (Sound p s → Keeps s.scopes.entities t.scopes.entities) → (Sound p s → Sound q t) → (AreLocals s → AreLocals t) → AfterBy p q s t
+after_by {p} {q} {s} {t} k e h locals = record { extends = k.extends; names = k.names; functions = k.functions; hidden = k.hidden; entities = e; sound = h; locals = locals }
+
+pub knows_so : {p q : Option Slot} {s t : State} → AfterBy p q s t → Knows s t
+knows_so {p} {q} {s} {t} a = record { extends = a.extends; names = a.names; functions = a.functions; hidden = a.hidden }
+
+-- the same between external declarations, which define functions
+pub record Later (s t : State) : Type 0 where
+  pub extends : Extends s.types.records t.types.records
+  pub names : (place : ℕ) (x : LinkedName) → slice_get s.types.linked place ≡ Some x → StaysAt t place x
+  pub functions : Longer s.made.functions t.made.functions
+  pub hidden : Filling s.made.hidden t.made.hidden
+  pub entities : Sound None s → Keeps s.scopes.entities t.scopes.entities
+  pub sound : Sound None s → Sound None t
+
+pub later_after : {s t : State} → After s t → Later s t
+later_after {s} {t} a = record {
+  extends = a.extends;
+  names = a.names;
+  functions = λ i f e. subst (λ xs. slice_get xs i ≡ Some f) (sym a.functions) e;
+  hidden = a.hidden;
+  entities = a.entities;
+  sound = a.sound;
+}
+
+pub keeps_same : (xs : List Entity) → Keeps xs xs
+keeps_same xs = λ k e h. (e, h, becomes_same e)
+
+pub keeps_longer : (xs ys : List Entity) → Longer xs ys → Keeps xs ys
+keeps_longer xs ys longer = λ k e h. (e, longer k e h, becomes_same e)
+
+pub keeps_trans : (xs ys zs : List Entity) → Keeps xs ys → Keeps ys zs → Keeps xs zs
+keeps_trans xs ys zs a b = λ k e f.
+    let x = a k e f in
+    let y = b k x.0 x.1 in
+    (y.0, y.1, becomes_trans e x.0 y.0 x.2 y.2)
+
+pub later_trans : {s t u : State} → Later s t → Later t u → Later s u
+later_trans {s} {t} {u} a b = record {
+  extends = extends_trans a.extends b.extends;
+  names = λ place x e.
+      let y = a.names place x e in
+      let z = b.names place y.0 y.1 in
+      (z.0, z.1, continues_trans y.2 z.2);
+  functions = λ i f e. b.functions i f (a.functions i f e);
+  hidden = λ k x e.
+      let y = a.hidden k x e in
+      let z = b.hidden k y.0 y.1 in
+      (z.0, z.1, covers_trans z.2 y.2);
+  entities = λ h. keeps_trans s.scopes.entities t.scopes.entities u.scopes.entities (a.entities h) (b.entities (a.sound h));
+  sound = λ h. b.sound (a.sound h);
+}
+
+pub after_same : {p : Option Slot} (s : State) → AfterBy p p s s
+after_same s = after_by (knows_same s) (λ h. keeps_same s.scopes.entities) (λ h. h) (λ h. h)
+
+pub after_trans : {p q r : Option Slot} {s t u : State} → AfterBy p q s t → AfterBy q r t u → AfterBy p r s u
+after_trans {p} {q} {r} {s} {t} {u} a b =
+    after_by (knows_trans (knows_so a) (knows_so b))
+    (λ h. keeps_trans s.scopes.entities t.scopes.entities u.scopes.entities (a.entities h) (b.entities (a.sound h)))
+    (λ h. b.sound (a.sound h)) (λ h. b.locals (a.locals h))
+
+grows_locals : {s t : State} → Grows s t → AreLocals s → AreLocals t
+grows_locals {s} {t} g h k l e =
+    let x = h k l (subst (λ b. slice_get b.locals k ≡ Some l) g.body e) in
+    (like_later g.extends x.0, object_later s.types.records t.types.records g.extends (type_of l.ty) x.1)
+
+pub after_grows : {p : Option Slot} {s t : State} → Grows s t → AfterBy p p s t
+after_grows {p} {s} {t} g =
+    after_by (knows_linked s t g.extends g.linked g.functions (λ k x e. (x, g.hidden k x e, covers_same x.ty)))
+    (λ h. keeps_longer s.scopes.entities t.scopes.entities g.entities) (λ h. g.sound p h) (λ h. grows_locals g h)
+
+abbrev pub KeptBy : Option Slot → Option Slot → State → State → Type 0
+KeptBy p q s t = IsLawful t × AfterBy p q s t
+
+abbrev pub Kept : State → State → Type 0
+Kept s t = KeptBy None None s t
+
+pub kept_trans : {p q r : Option Slot} {s t u : State} → KeptBy p q s t → KeptBy q r t u → KeptBy p r s u
+kept_trans {p} {q} {r} {s} {t} {u} a b = (b.0, after_trans a.1 b.1)
+
+abbrev pub GoesBy : {A : Type 0} → Option Slot → Option Slot → State → Walk (A × State) → (State → A → Type 0) → Type 0
+GoesBy p q s w Good = Post w (λ r. IsLawful r.1 × AfterBy p q s r.1 × Good r.1 r.0)
 
 abbrev pub Goes : {A : Type 0} → State → Walk (A × State) → (State → A → Type 0) → Type 0
-Goes s w Good = Post w (λ r. IsLawful r.1 × After s r.1 × Good r.1 r.0)
+Goes s w Good = GoesBy None None s w Good
+
+pub goes_between : {A B : Type 0} (p q o : Option Slot) {s : State} (w : Walk (A × State)) (next : A × State → Walk (B × State))
+    (Good : State → A → Type 0) (Best : State → B → Type 0) → GoesBy p q s w Good
+    → ((r : A × State) → IsLawful r.1 → AfterBy p q s r.1 → Good r.1 r.0 → GoesBy q o r.1 (next r) Best) → GoesBy p o s (bind w next) Best
+goes_between {A} {B} p q o {s} w next Good Best h k =
+    post_bind w next (λ r. IsLawful r.1 × AfterBy p q s r.1 × Good r.1 r.0) (λ r. IsLawful r.1 × AfterBy p o s r.1 × Best r.1 r.0) h
+    (λ r g. post_weaken (next r) (λ u. IsLawful u.1 × AfterBy q o r.1 u.1 × Best u.1 u.0) (λ u. IsLawful u.1 × AfterBy p o s u.1 × Best u.1 u.0)
+    (k r g.0 g.1 g.2) (λ u f. (f.0, after_trans g.1 f.1, f.2)))
 
 pub goes_by : {A B : Type 0} {s : State} (w : Walk (A × State)) (next : A × State → Walk (B × State))
     (Good : State → A → Type 0) (Best : State → B → Type 0) → Goes s w Good
     → ((r : A × State) → IsLawful r.1 → After s r.1 → Good r.1 r.0 → Goes r.1 (next r) Best) → Goes s (bind w next) Best
-goes_by {A} {B} {s} w next Good Best h k =
-    post_bind w next (λ r. IsLawful r.1 × After s r.1 × Good r.1 r.0) (λ r. IsLawful r.1 × After s r.1 × Best r.1 r.0) h
-    (λ r g. post_weaken (next r) (λ u. IsLawful u.1 × After r.1 u.1 × Best u.1 u.0) (λ u. IsLawful u.1 × After s u.1 × Best u.1 u.0)
-    (k r g.0 g.1 g.2) (λ u f. (f.0, after_trans g.1 f.1, f.2)))
+goes_by {A} {B} {s} w next Good Best h k = goes_between None None None w next Good Best h k
 
 pub of_runs : {A : Type 0} (s : State) (w : Walk (A × State)) (Good : State → A → Type 0) → Runs s w Good → Goes s w Good
-of_runs {A} s w Good h = post_weaken w (λ r. IsLawful r.1 × Grows s r.1 × Good r.1 r.0) (λ r. IsLawful r.1 × After s r.1 × Good r.1 r.0) h (λ r g. (g.0, after_linked s r.1 g.1.extends g.1.linked g.1.functions, g.2))
+of_runs {A} s w Good h = post_weaken w (λ r. IsLawful r.1 × Grows s r.1 × Good r.1 r.0) (λ r. IsLawful r.1 × After s r.1 × Good r.1 r.0) h (λ r g. (g.0, after_grows g.1, g.2))
 
 pub weaker : {A : Type 0} (s : State) (w : Walk (A × State)) (Good Best : State → A → Type 0) → Goes s w Good → ((t : State) (a : A) → Good t a → Best t a) → Goes s w Best
 weaker {A} s w Good Best h k =
@@ -108,16 +237,24 @@ granted_goes s constraint token p (Some a) l = λ met. (l, after_same s, tt)
 
 -- ---- what is made and the function that is read
 
-pub around : (s : State) (made : MadeState) (body : BodyState) → IsLawful s → made.functions ≡ s.made.functions → Kept s (record { types = s.types; scopes = s.scopes; made = made; body = body })
+-- the state stays lawful whatever was made
+pub around : (s : State) (made : MadeState) (body : BodyState) → IsLawful s → made.functions ≡ s.made.functions
+    → IsLawful (record { types = s.types; scopes = s.scopes; made = made; body = body }) × Unit {0}
 around s made body l same = (
   record { contents = l.contents; begun = l.begun; counted = l.counted; entities = l.entities; tags = l.tags; linked = l.linked; laid = l.laid; apart = l.apart; depths = l.depths },
-  after_linked s (record { types = s.types; scopes = s.scopes; made = made; body = body }) (extends_same s.types.records) refl same,
+  tt,
+)
+
+pub around_filling : (s : State) (made : MadeState) (body : BodyState) → IsLawful s → made.functions ≡ s.made.functions → Filling s.made.hidden made.hidden → Changed s (record { types = s.types; scopes = s.scopes; made = made; body = body })
+around_filling s made body l same fill = (
+  record { contents = l.contents; begun = l.begun; counted = l.counted; entities = l.entities; tags = l.tags; linked = l.linked; laid = l.laid; apart = l.apart; depths = l.depths },
+  knows_linked s (record { types = s.types; scopes = s.scopes; made = made; body = body }) (extends_same s.types.records) refl same fill,
 )
 
 -- ---- names with linkage
 
 pub linked_put : (s : State) (place : ℕ) (x : LinkedName) → IsLawful s → IsLawfulType s.types.records (type_of x.ty)
-    → ((y : LinkedName) → slice_get s.types.linked place ≡ Some y → Continues y x) → Kept s (put_linked place x s)
+    → ((y : LinkedName) → slice_get s.types.linked place ≡ Some y → Continues y x) → Changed s (put_linked place x s)
 linked_put s place x l h from = (
   record {
     contents = l.contents;
@@ -137,6 +274,7 @@ linked_put s place x l h from = (
     extends = extends_same s.types.records;
     names = λ i y e. stays i y e (put_either place x s.types.linked i);
     functions = refl;
+    hidden = filling_same s.made.hidden;
   },
 )
   where
@@ -158,7 +296,7 @@ linked_put s place x l h from = (
     stays i y e (inr g) = (y, g ∙ e, continues_same y)
 
 pub linked_added : (s : State) (x : LinkedName) → IsLawful s → IsLawfulType s.types.records (type_of x.ty)
-    → ((i : ℕ) (y : LinkedName) → slice_get s.types.linked i ≡ Some y → y.name ≡ x.name → ⊥) → Kept s (add_linked x s)
+    → ((i : ℕ) (y : LinkedName) → slice_get s.types.linked i ≡ Some y → y.name ≡ x.name → ⊥) → Changed s (add_linked x s)
 linked_added s x l h fresh = (
   record {
     contents = l.contents;
@@ -175,6 +313,7 @@ linked_added s x l h fresh = (
     extends = extends_same s.types.records;
     names = λ i y e. (y, get_append s.types.linked (x ∷ []) i y e, continues_same y);
     functions = refl;
+    hidden = filling_same s.made.hidden;
   },
 )
   where
@@ -189,7 +328,7 @@ linked_added s x l h fresh = (
     two i j y z (inr g) (inl k) same = absurd (fresh j z k (sym same ∙ ap (λ (w : LinkedName). w.name) (sym g.1)))
     two i j y z (inr g) (inr k) same = g.0 ∙ sym k.0
 
-pub entity_put : (s : State) (place : ℕ) (x : Entity) → IsLawful s → IsLawfulEntity s.types.records x → Kept s (put_entity place x s)
+pub entity_put : (s : State) (place : ℕ) (x : Entity) → IsLawful s → IsLawfulEntity s.types.records x → Changed s (put_entity place x s)
 entity_put s place x l h = (
   record {
     contents = l.contents;
@@ -202,7 +341,7 @@ entity_put s place x l h = (
     apart = l.apart;
     depths = l.depths;
   },
-  after_linked s (put_entity place x s) (extends_same s.types.records) refl refl,
+  knows_linked s (put_entity place x s) (extends_same s.types.records) refl refl (filling_same s.made.hidden),
 )
   where
     by : (i : ℕ) (y : Entity) → slice_get (put_at place x s.scopes.entities) i ≡ Some y
@@ -211,8 +350,8 @@ entity_put s place x l h = (
     by i y e (inl g) = subst (IsLawfulEntity s.types.records) (some_same (sym g.1 ∙ e)) h
     by i y e (inr g) = l.entities i y (sym g ∙ e)
 
-pub entered_kept : (s : State) (name : List ℕ) (x : Entity) → IsLawful s → IsLawfulEntity s.types.records x → Kept s (enter name x s)
-entered_kept s name x l h = (entered s name x l h, after_linked s (enter name x s) (extends_same s.types.records) refl refl)
+pub entered_kept : (s : State) (name : List ℕ) (x : Entity) → IsLawful s → IsLawfulEntity s.types.records x → Changed s (enter name x s)
+entered_kept s name x l h = (entered s name x l h, knows_linked s (enter name x s) (extends_same s.types.records) refl refl (filling_same s.made.hidden))
 
 pub composite_lawful : (r : List RecordValue) (a b : QType) → IsLawfulType r (type_of a) → IsLawfulType r (type_of b) → IsLawfulType r (type_of (composite a b))
 unfolding composite
@@ -239,15 +378,15 @@ place_is s name x e = by (place_of_linked s name) e
     by (Some n) f = f
 
 pub noted : (s : State) (name : List ℕ) (internal : Bool) (ty : QType) (token : ℕ) (tag : Option ℕ) → IsLawful s → IsLawfulType s.types.records (type_of ty)
-    → Kept s (note_linked name internal ty token tag s)
+    → Changed s (note_linked name internal ty token tag s)
 noted s name internal ty token tag l h = by (linked_before s name) refl
   where
     by : (o : Option LinkedName) → linked_before s name ≡ o
-        → Kept s (option_map_or (λ x. put_linked (place_for s name) (linked_again ty x) s) o (add_linked (linked_anew name internal ty token tag) s))
+        → Changed s (option_map_or (λ x. put_linked (place_for s name) (linked_again ty x) s) o (add_linked (linked_anew name internal ty token tag) s))
     by None e = linked_added s (linked_anew name internal ty token tag) l h (none_named s name e)
     by (Some x) e =
         linked_put s (place_for s name) (linked_again ty x) l (composite_lawful s.types.records x.ty ty (linked_is s name x l e) h)
-        (λ y f. subst (λ (z : LinkedName). Continues z (linked_again ty x)) (some_same (sym (place_is s name x e) ∙ f)) (record { name = refl; internal = refl; tentative = λ q. q; defined = λ q. q }))
+        (λ y f. subst (λ (z : LinkedName). Continues z (linked_again ty x)) (some_same (sym (place_is s name x e) ∙ f)) (record { name = refl; internal = refl; tentative = λ q. q; defined = λ q. q; covers = covers_first s.types.records x.ty ty (linked_is s name x l e) }))
 
 pub here_is : (s : State) (name : List ℕ) (x : Entity) → IsLawful s → entity_here s name ≡ Some x → IsLawfulEntity s.types.records x
 here_is s name x l e = let p = and_then_is (entity_at s) (entry_here s name) x e in l.entities p.0.place x p.1
@@ -259,7 +398,7 @@ type_here_lawful r ty (EnumerationConstant n) h k = h
 type_here_lawful r ty (LocalObject n q register) h k = h
 type_here_lawful r ty (StaticObject n q) h k = h
 
-pub noted_here : (s : State) (name : List ℕ) (place : ℕ) (ty : QType) → IsLawful s → IsLawfulType s.types.records (type_of ty) → Kept s (note_here name place ty s)
+pub noted_here : (s : State) (name : List ℕ) (place : ℕ) (ty : QType) → IsLawful s → IsLawfulType s.types.records (type_of ty) → Changed s (note_here name place ty s)
 noted_here s name place ty l h = by_entry (entry_here s name)
   where
     entity : IsLawfulType s.types.records (type_of (type_here ty (unwrap_or (entity_here s name) (TypeName ty))))
@@ -270,19 +409,9 @@ noted_here s name place ty l h = by_entry (entry_here s name)
         by_entity (Some x) e = type_here_lawful s.types.records ty x h (here_is s name x l e)
 
     by_entry : (o : Option Entry)
-        → Kept s (option_map_or (λ (e : Entry). put_entity e.place (Linked place (type_here ty (unwrap_or (entity_here s name) (TypeName ty)))) s) o (enter name (Linked place ty) s))
+        → Changed s (option_map_or (λ (e : Entry). put_entity e.place (Linked place (type_here ty (unwrap_or (entity_here s name) (TypeName ty)))) s) o (enter name (Linked place ty) s))
     by_entry None = entered_kept s name (Linked place ty) l h
     by_entry (Some e) = entity_put s e.place (Linked place (type_here ty (unwrap_or (entity_here s name) (TypeName ty)))) l entity
-
-pub declared_goes : (s : State) (name : List ℕ) (token : ℕ) (tag : Option ℕ) (asking : Asking) (q : QType) → IsLawful s → IsLawfulType s.types.records (type_of q)
-    → Goes s (declare_linked name token tag asking q s) Anything
-unfolding declare_linked bind
-declared_goes s name token tag asking q l h =
-    let a : Kept s (note_linked name (is_internal_by s name asking) q token tag s) = noted s name (is_internal_by s name asking) q token tag l h in
-    let b : Kept (note_linked name (is_internal_by s name asking) q token tag s) (note_here name (place_for s name) q (note_linked name (is_internal_by s name asking) q token tag s)) =
-    noted_here (note_linked name (is_internal_by s name asking) q token tag s) name (place_for s name) q a.0
-    (Rattle.pw_well_typed.proofs.Types.lawful_later s.types.records (note_linked name (is_internal_by s name asking) q token tag s).types.records a.1.extends (type_of q) h) in
-    (b.0, after_trans a.1 b.1, tt)
 
 -- at the place stands the name
 abbrev pub NamedAt : List ℕ → State → ℕ → Type 0
@@ -295,7 +424,7 @@ named_before s name x e = by (place_of_linked s name) refl e
     by None f g = never_some g
     by (Some n) f g = (bytes_eq-Decides x.name name).0 (position_passes (λ (l : LinkedName). bytes_eq l.name name) s.types.linked n x f g)
 
-place_new : (s : State) (name : List ℕ) → linked_before s name ≡ None → place_for s name ≡ length s.types.linked
+pub place_new : (s : State) (name : List ℕ) → linked_before s name ≡ None → place_for s name ≡ length s.types.linked
 place_new s name none = ap (λ o. unwrap_or o (length s.types.linked)) (position_none (λ (l : LinkedName). bytes_eq l.name name) s.types.linked none)
 
 noted_at : (s : State) (name : List ℕ) (internal : Bool) (ty : QType) (token : ℕ) (tag : Option ℕ) → NamedAt name (note_linked name internal ty token tag s) (place_for s name)
@@ -312,68 +441,60 @@ noted_at s name internal ty token tag = by (linked_before s name) refl
     by (Some x) e =
         (linked_again ty x, put_same (place_for s name) (linked_again ty x) s.types.linked (get_within s.types.linked (place_for s name) x (place_is s name x e)), named_before s name x e)
 
-here_linked : (s : State) (name : List ℕ) (place : ℕ) (ty : QType) → (note_here name place ty s).types.linked ≡ s.types.linked
+pub here_linked : (s : State) (name : List ℕ) (place : ℕ) (ty : QType) → (note_here name place ty s).types.linked ≡ s.types.linked
 here_linked s name place ty = by (entry_here s name)
   where
     by : (o : Option Entry) → (option_map_or (λ (e : Entry). put_entity e.place (Linked place (type_here ty (unwrap_or (entity_here s name) (TypeName ty)))) s) o (enter name (Linked place ty) s)).types.linked ≡ s.types.linked
     by None = refl
     by (Some e) = refl
 
-pub declared_at : (s : State) (name : List ℕ) (token : ℕ) (tag : Option ℕ) (asking : Asking) (q : QType) → IsLawful s → IsLawfulType s.types.records (type_of q)
-    → Goes s (declare_linked name token tag asking q s) (NamedAt name)
-unfolding declare_linked bind
-declared_at s name token tag asking q l h =
-    let internal : Bool = is_internal_by s name asking in
-    let a : Kept s (note_linked name (is_internal_by s name asking) q token tag s) = noted s name (is_internal_by s name asking) q token tag l h in
-    let b : Kept (note_linked name (is_internal_by s name asking) q token tag s) (note_here name (place_for s name) q (note_linked name (is_internal_by s name asking) q token tag s)) =
-    noted_here (note_linked name (is_internal_by s name asking) q token tag s) name (place_for s name) q a.0
-    (Rattle.pw_well_typed.proofs.Types.lawful_later s.types.records (note_linked name (is_internal_by s name asking) q token tag s).types.records a.1.extends (type_of q) h) in
-    let x : NamedAt name (note_linked name (is_internal_by s name asking) q token tag s) (place_for s name) = noted_at s name (is_internal_by s name asking) q token tag in (
-      b.0,
-      after_trans a.1 b.1,
-      (x.0, ap (λ xs. slice_get xs (place_for s name)) (here_linked (note_linked name (is_internal_by s name asking) q token tag s) name (place_for s name) q) ∙ x.1, x.2),
-    )
-
 pub linked_changed : (s : State) (place : ℕ) (f : LinkedName → LinkedName) → IsLawful s
     → ((x : LinkedName) → IsLawfulType s.types.records (type_of x.ty) → IsLawfulType s.types.records (type_of (f x).ty))
-    → ((x : LinkedName) → Continues x (f x)) → Kept s (change_linked place f s)
+    → ((x : LinkedName) → IsLawfulType s.types.records (type_of x.ty) → Continues x (f x)) → Changed s (change_linked place f s)
 linked_changed s place f l h from = by (linked_at s place) refl
   where
-    by : (o : Option LinkedName) → linked_at s place ≡ o → Kept s (option_map_or (λ x. put_linked place (f x) s) o s)
-    by None e = (l, after_same s)
-    by (Some x) e = linked_put s place (f x) l (h x (l.linked place x e)) (λ y g. subst (λ (z : LinkedName). Continues z (f x)) (some_same (sym e ∙ g)) (from x))
+    by : (o : Option LinkedName) → linked_at s place ≡ o → Changed s (option_map_or (λ x. put_linked place (f x) s) o s)
+    by None e = (l, knows_same s)
+    by (Some x) e = linked_put s place (f x) l (h x (l.linked place x e)) (λ y g. subst (λ (z : LinkedName). Continues z (f x)) (some_same (sym e ∙ g)) (from x (l.linked place x e)))
 
-pub slot_kept : (s : State) (place : ℕ) → IsLawful s → Kept s (slot_for place s)
+pub slot_kept : (s : State) (place : ℕ) → IsLawful s → Changed s (slot_for place s)
 slot_kept s place l = by (has_slot s place)
   where
-    by : (b : Bool) → Kept s (if b then s else add_slot (slot.Named place) s)
-    by true = (l, after_same s)
-    by false = around s (add_slot (slot.Named place) s).made s.body l refl
+    by : (b : Bool) → Changed s (if b then s else add_slot (slot.Named place) s)
+    by true = (l, knows_same s)
+    by false = around_filling s (add_slot (slot.Named place) s).made s.body l refl (filling_same s.made.hidden)
 
-pub tentative_kept : (s : State) (place : ℕ) → IsLawful s → Kept s (define_tentatively place s)
+pub tentative_kept : (s : State) (place : ℕ) → IsLawful s → Changed s (define_tentatively place s)
 tentative_kept s place l =
-    let a : Kept s (slot_for place s) = slot_kept s place l in
-    kept_trans {s = s} {t = slot_for place s} {u = define_tentatively place s} a (linked_changed (slot_for place s) place (λ x. record x { tentative = true }) a.0 (λ x h. h) (λ x. record { name = refl; internal = refl; tentative = λ q. refl; defined = λ q. q }))
+    let a : Changed s (slot_for place s) = slot_kept s place l in
+    changed_trans {s = s} {t = slot_for place s} {u = define_tentatively place s} a (linked_changed (slot_for place s) place (λ x. record x { tentative = true }) a.0 (λ x h. h) (λ x h. record { name = refl; internal = refl; tentative = λ q. refl; defined = λ q. q; covers = covers_same x.ty }))
 
-pub defined_kept : (s : State) (place : ℕ) → IsLawful s → Kept s (define_object place s)
+pub defined_kept : (s : State) (place : ℕ) → IsLawful s → Changed s (define_object place s)
 defined_kept s place l =
-    let a : Kept s (slot_for place s) = slot_kept s place l in
-    kept_trans {s = s} {t = slot_for place s} {u = define_object place s} a (linked_changed (slot_for place s) place (λ x. record x { defined = true }) a.0 (λ x h. h) (λ x. record { name = refl; internal = refl; tentative = λ q. q; defined = λ q. refl }))
+    let a : Changed s (slot_for place s) = slot_kept s place l in
+    changed_trans {s = s} {t = slot_for place s} {u = define_object place s} a (linked_changed (slot_for place s) place (λ x. record x { defined = true }) a.0 (λ x h. h) (λ x h. record { name = refl; internal = refl; tentative = λ q. q; defined = λ q. refl; covers = covers_same x.ty }))
 
-pub function_kept : (s : State) (place : ℕ) → IsLawful s → Kept s (define_function place s)
-function_kept s place l = linked_changed s place (λ x. record x { defined = true }) l (λ x h. h) (λ x. record { name = refl; internal = refl; tentative = λ q. q; defined = λ q. refl })
+pub function_kept : (s : State) (place : ℕ) → IsLawful s → Changed s (define_function place s)
+function_kept s place l = linked_changed s place (λ x. record x { defined = true }) l (λ x h. h) (λ x h. record { name = refl; internal = refl; tentative = λ q. q; defined = λ q. refl; covers = covers_same x.ty })
 
-pub initialised_kept : (s : State) (place : ℕ) (q : QType) (items : List PlacedItem) → IsLawful s → IsLawfulType s.types.records (type_of q) → Kept s (initialise_linked place q items s)
+pub initialised_kept : (s : State) (place : ℕ) (q : QType) (items : List PlacedItem) → IsLawful s → IsLawfulType s.types.records (type_of q) → Changed s (initialise_linked place q items s)
 initialised_kept s place q items l k =
-    linked_changed s place (λ x. record x { ty = composite x.ty q; items = items }) l (λ x h. composite_lawful s.types.records x.ty q h k) (λ x. record { name = refl; internal = refl; tentative = λ q. q; defined = λ q. q })
+    linked_changed s place (λ x. record x { ty = composite x.ty q; items = items }) l (λ x h. composite_lawful s.types.records x.ty q h k) (λ x h. record { name = refl; internal = refl; tentative = λ q. q; defined = λ q. q; covers = covers_first s.types.records x.ty q h })
 
 -- ---- scopes
+
+-- inside a scope
+pub scope_after : (s t : State) → After (one_deeper s) t → After s (leave_scope t)
+scope_after s t a =
+    after_by (record { extends = a.extends; names = a.names; functions = a.functions; hidden = a.hidden })
+    (λ h. a.entities (record { backed = h.backed; spelled = h.spelled; functions = h.functions; slots = h.slots }))
+    (λ h. left_sound_alone t None (a.sound (record { backed = h.backed; spelled = h.spelled; functions = h.functions; slots = h.slots }))) a.locals
 
 pub scoped_goes : {A : Type 0} (s : State) (inside : Rule A) → IsLawful s → Goes (one_deeper s) (inside (one_deeper s)) Anything → Goes s (scoped inside s) Anything
 unfolding scoped bind
 scoped_goes {A} s inside l h =
     post_bind (inside (one_deeper s)) _ (λ r. IsLawful r.1 × After (one_deeper s) r.1 × Unit {0}) (λ r. IsLawful r.1 × After s r.1 × Unit {0}) h
-    (λ r g. (left_lawful_alone r.1 g.0, record { extends = g.1.extends; names = g.1.names; functions = g.1.functions }, tt))
+    (λ r g. (left_lawful_alone r.1 g.0, scope_after s r.1 g.1, tt))
 
 -- ---- steps that are no rules of their own
 

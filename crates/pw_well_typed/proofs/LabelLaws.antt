@@ -1,23 +1,21 @@
 -- The labels of statements: each number stands once, the numbers of cases and defaults are those that were given since, and each
 -- named label is that of its name. Said by sums, which add up along the text.
-use Rattle.std.specs.Prelude.{ℕ, ◌≡◌, ◌<◌, ◌≤◌, ◌+◌, ◌-◌, ◌*◌, ◌%◌, ◌^◌, ◌==◌, if◌then◌else◌, Bool, true, false, not, ◌&&◌, nat_eq, nat_le, nat_lt, Option, None, Some, is_some, unwrap_or, option_map, option_to_list, List, [], ◌∷◌, ◌++◌, length, map, All, Contains, refl}
-use Rattle.std.specs.List.{IsDistinct, list_any}
+use Rattle.std.specs.Prelude.{ℕ, ◌≡◌, ◌<◌, ◌≤◌, ◌+◌, ◌-◌, ◌*◌, ◌%◌, ◌^◌, ◌==◌, if◌then◌else◌, Bool, true, false, not, ◌&&◌, nat_eq, nat_le, Option, None, Some, is_some, unwrap_or, option_map, option_to_list, List, [], ◌∷◌, ◌++◌, length, map, All, Contains, refl}
+use Rattle.std.specs.List.{IsDistinct}
 use Rattle.std.specs.Option.{option_map_or}
-use Rattle.std.specs.Str.{bytes_eq}
 use Rattle.std.proofs.Common.{arith, ap, sym, subst, ◌∙◌, append-nil, append_assoc}
 use Rattle.std.proofs.lemmas.Bool.{eqb-true, eqb-false}
 use Rattle.std.proofs.lemmas.Nat.{mod_below}
 use Rattle.std.proofs.lemmas.List.Elements.{All-nil, All-cons, All-append}
-use Rattle.pw_value.specs.declared.value.Value.TheVariants.{Num}
 use Rattle.pw_value.specs.Values.{extended}
 use Rattle.pw_tree.specs.FirstTokens.{first_of_expr}
 use Rattle.pw_tree.specs.Trees.{Word, Expr, Stmt, Alternative, Block, Stmts, Label, Decl}
 use Rattle.pw_tree.specs.Trees as S
-use Rattle.pw_types.specs.Conversions.{size_of_kind, is_signed_kind, converted}
+use Rattle.pw_types.specs.Conversions.{size_of_kind, is_signed_kind}
 use Rattle.pw_types.specs.declared.kind.IntKind.{IntKind}
 use Rattle.pw_types.specs.declared.kind.IntKind.TheVariants as K
 use Rattle.pw_types.specs.Labels.{labels_in, labels_among, labels_of_arms, labels_behind, cases_in, cases_among, cases_of_arms, cases_behind}
-use Rattle.pw_types.specs.TypeTrees.{CType, Int, QType}
+use Rattle.pw_types.specs.TypeTrees.{Int}
 use Rattle.pw_types.specs.TypedTrees.{Expression, Statement, CaseValue, LocalValue, FunctionValue}
 use Rattle.pw_types.specs.TypedModules.{AreLabels}
 use Rattle.pw_types.specs.TypedTrees as T
@@ -26,20 +24,20 @@ use Rattle.pw_walk.specs.Walks.{Walk, Done, bind}
 use Rattle.pw_rules.specs.Constants.{constant_value, convert_word}
 use Rattle.pw_rules.specs.Kinds.{kind_in}
 use Rattle.pw_rules.specs.Leaves.{is_nil}
-use Rattle.pw_rules.specs.Operands.{Operand, type_in}
-use Rattle.pw_rules.specs.States.{State, Rule, BodyState, SwitchState, one_deeper, leave_scope, scoped}
+use Rattle.pw_rules.specs.Operands.{type_in}
+use Rattle.pw_rules.specs.States.{State, Rule, BodyState, SwitchState, one_deeper, scoped}
 use Rattle.pw_rules.specs.Statements as R
 use Rattle.pw_rules.specs.Statements.{case_rule, new_label, inside_switch, default_rule, name_label_rule, label_rule, labels_rule, whole_rule, optional_rule, condition_rule, optional_condition, switch_rule, in_switch, in_loop, goto_rule, continue_rule, break_rule, return_rule, stmt_rule, alternative_rule, block_rule, stmts_rule, first_switch, change_switches, switch_kind, has_case, has_default, switch_of, tail_of, has_name, names_of_labels}
 use Rattle.pw_well_typed.specs.Lawful.{IsLawful}
-use Rattle.pw_well_typed.proofs.Walking.{Post, post_bind, post_weaken, post_both, truth}
+use Rattle.pw_well_typed.proofs.Walking.{Post, post_bind, post_weaken, truth}
 use Rattle.pw_well_typed.proofs.Lists.{Longer}
 use Rattle.pw_well_typed.proofs.Types.{no, not_true}
 use Rattle.pw_well_typed.proofs.Locals.{longer_same}
 use Rattle.pw_rules.specs.Functions.{numbers_below}
 use Rattle.pw_well_typed.proofs.Places.{word_kept}
-use Rattle.pw_well_typed.proofs.States.{Fine, FineValue, Runs, goes_on, Grows, grows_same, grows_trans}
+use Rattle.pw_well_typed.proofs.States.{Fine, FineValue, goes_on, Grows}
 use Rattle.pw_well_typed.proofs.Operations.{value_runs}
-use Rattle.pw_well_typed.proofs.Phrases.{expr_post, valued}
+use Rattle.pw_well_typed.proofs.Phrases.{expr_post}
 use Rattle.pw_well_typed.proofs.Changes.{deeper_lawful, left_lawful_alone}
 use Rattle.pw_well_typed.proofs.Keeping.{around}
 use Rattle.pw_well_typed.proofs.Adding.{decls_declare}

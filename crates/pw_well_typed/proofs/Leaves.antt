@@ -1,5 +1,7 @@
 -- The rules of names, constants and parts of declarators: what they make is lawful, and so is the state behind them.
-use Rattle.std.specs.Prelude.{ℕ, ◌≡◌, ◌<◌, ◌⊎◌, ◌==◌, Bool, true, false, not, ◌&&◌, ◌||◌, Option, None, Some, unwrap_or, option_map, option_and_then, List, [], ◌∷◌, ◌++◌, length, filter, find, slice_get, cond, if◌then◌else◌, refl}
+use Rattle.std.proofs.lemmas.Bool.{eqb-true}
+use Rattle.pw_well_typed.proofs.Sound.{IsPlain}
+use Rattle.std.specs.Prelude.{ℕ, ◌≡◌, ◌<◌, ◌⊎◌, ◌==◌, Bool, true, false, not, ◌&&◌, ◌||◌, Option, None, Some, unwrap_or, option_map, option_and_then, List, [], ◌∷◌, ◌++◌, length, filter, find, slice_get, cond, if◌then◌else◌, refl, is_none, ◌≤◌, ◌+◌}
 use Rattle.std.proofs.Common.{arith, ap, sym, subst, ◌∙◌, inl, inr}
 use Rattle.pw_literal.specs.Characters.{string_bytes_of}
 use Rattle.pw_literal.specs.Integers.{integer_type, integer_value}
@@ -18,7 +20,7 @@ use Rattle.pw_walk.specs.Causes.{DeclaredIdentifier, CompleteMember, ElementType
 use Rattle.pw_walk.specs.Walks.{Walk, Done, bind}
 use Rattle.pw_rules.specs.Kinds.{plain, int_type, is_function, is_array, is_record, is_void}
 use Rattle.pw_rules.specs.Operands.{Operand}
-use Rattle.pw_rules.specs.States.{State, Entity, TypeName, EnumerationConstant, LocalObject, StaticObject, Linked, HiddenObject, entity_of, entry_of, entity_at, tag_of, tag_here, tag_if_here, add_hidden, add_record}
+use Rattle.pw_rules.specs.States.{State, Entity, TypeName, EnumerationConstant, LocalObject, StaticObject, Linked, HiddenObject, entity_of, entry_of, entity_at, tag_of, tag_here, tag_if_here, add_hidden, add_record, entry_here, one_deeper}
 use Rattle.pw_rules.specs.declared.names.Entry.{Entry}
 use Rattle.pw_rules.specs.declared.names.Tag.{Tag}
 use Rattle.pw_rules.specs.declared.names.Tag.TheVariants as G
@@ -30,9 +32,9 @@ use Rattle.pw_rules.specs.Derivations.{Derivation, ToPointer, ToArray, ToFunctio
 use Rattle.pw_rules.specs.Phrases.{typedef_type, typedef_rule}
 use Rattle.pw_rules.specs.Leaves.{entity_operand, linked_operand, lvalue_operand, identifier_rule, number_rule, character_rule, string_rule, string_point, note_string, string_type, bytes_at_start, texts_of, length_rule, new_record, new_tag, reference_by, reference_rule, opening_by, opening_rule, open_record, is_opened, same_record_kind, member_rule, content_by, closing_rule, enumeration_by, enumeration_rule, enumerating_rule, enumerator_value, enumerator_rule, named_type, is_last, is_nil, adjusted, parameter_storage, parameter_rule, enter_parameter, without_void, parameter_types, bindings_rule, says_none, name_text}
 use Rattle.pw_well_typed.specs.Lawful.{IsLawful, IsLawfulType, AreLawfulTypes, IsObjectLike, IsLawfulEntity, IsLawfulTag, Extends, HasLocal, IsNamed}
-use Rattle.pw_well_typed.proofs.Walking.{Post, truth, met_right, post_bind, post_granted}
-use Rattle.pw_well_typed.proofs.States.{GoodOperand, Fine, Runs, IsConstant, IsAny, Grows, Widens, Widely, grows_same, grows_trans, widens_so}
-use Rattle.pw_well_typed.proofs.Lists.{get_map, some_same, never_some, get_append, get_either, get_one, get_last, get_filter, visible_at}
+use Rattle.pw_well_typed.proofs.Walking.{Post, truth, met_right, post_bind, post_granted, met_left, AreMet}
+use Rattle.pw_well_typed.proofs.States.{GoodOperand, Fine, Runs, IsConstant, Grows, Widens, Widely, grows_same, grows_trans, widens_so}
+use Rattle.pw_well_typed.proofs.Lists.{get_map, some_same, never_some, get_append, get_either, get_one, get_last, get_filter, visible_at, Longer}
 use Rattle.pw_well_typed.proofs.Types.{no, left, not_true, is_complete_so, lawful_known, lawful_later, all_lawful_later, lawful_qualify, lawful_pointer}
 use Rattle.pw_well_typed.proofs.Conversions.{no_function}
 use Rattle.pw_well_typed.proofs.Places.{number_good, constant_wide}
@@ -191,10 +193,17 @@ enumerator_value_runs s first e l = λ met. (l, grows_same s, tt)
 
 -- ---- enumerations
 
+none_here : (s : State) (name : List ℕ) → is_none (entry_here s name) ≡ true → entry_here s name ≡ None
+none_here s name e = by (entry_here s name) e
+  where
+    by : (o : Option Entry) → is_none o ≡ true → o ≡ None
+    by None f = refl
+    by (Some x) f = no f
+
 pub enumerator_runs : (s : State) (w : Word) (value : Option ℕ) → IsLawful s → Runs s (enumerator_rule w value s) Nothing
 unfolding enumerator_rule bind
 enumerator_runs s w value l = λ met.
-    (entered s w.text (EnumerationConstant (unwrap_or value 0)) l tt, entered_grows IsConstant s w.text (EnumerationConstant (unwrap_or value 0)) tt, tt)
+    (entered s w.text (EnumerationConstant (unwrap_or value 0)) l tt, entered_grows IsConstant s w.text (EnumerationConstant (unwrap_or value 0)) tt tt (none_here s w.text (truth _ met.0)), tt)
 
 pub enumerating_runs : (s : State) (w : Option Word) → IsLawful s → Runs s (enumerating_rule w s) Nothing
 unfolding enumerating_rule bind
@@ -468,24 +477,26 @@ pub scalars_later : (a b : List RecordValue) → Extends a b → (ps : List Para
 scalars_later a b x [] h = tt
 scalars_later a b x (p ∷ ps) h = (lawful_later a b x (type_of p.ty) h.0, h.1, scalars_later a b x ps h.2)
 
--- what a parameter list declares: scalars, and lawful tags
-pub record GoodBindings (r : List RecordValue) (b : Bindings) : Type 0 where
+-- what a parameter list declares: scalars, lawful tags, and names that are no objects of the module
+pub record GoodBindings (r : List RecordValue) (es : List Entity) (b : Bindings) : Type 0 where
   pub scalars : AreScalars r b.parameters
   pub tags : (i : ℕ) (t : List ℕ × Tag) → slice_get b.tags i ≡ Some t → IsLawfulTag r t.1
+  pub plain : (i : ℕ) (t : List ℕ × ℕ) → slice_get b.ordinary i ≡ Some t → (x : Entity) × (slice_get es t.1 ≡ Some x) × IsPlain x
 
-abbrev pub GoodIfAny : List RecordValue → Option Bindings → Type 0
-GoodIfAny r None = Unit {0}
-GoodIfAny r (Some b) = GoodBindings r b
+abbrev pub GoodIfAny : List RecordValue → List Entity → Option Bindings → Type 0
+GoodIfAny r es None = Unit {0}
+GoodIfAny r es (Some b) = GoodBindings r es b
 
-pub bindings_later : (a b : List RecordValue) → Extends a b → (o : Option Bindings) → GoodIfAny a o → GoodIfAny b o
-bindings_later a b x None h = tt
-bindings_later a b x (Some bs) h = record {
+pub bindings_later : (a b : List RecordValue) (es fs : List Entity) → Extends a b → Longer es fs → (o : Option Bindings) → GoodIfAny a es o → GoodIfAny b fs o
+bindings_later a b es fs x longer None h = tt
+bindings_later a b es fs x longer (Some bs) h = record {
+  plain = λ i t e. let y = h.plain i t e in (y.0, longer t.1 y.0 y.1, y.2);
   scalars = scalars_later a b x bs.parameters h.scalars;
   tags = λ i t e. tag_later a b x t.1 (h.tags i t e);
 }
 
 abbrev pub GoodDeclared : State → Declared → Type 0
-GoodDeclared s d = GoodSteps s.types.records d.derivations × GoodIfAny s.types.records d.bindings
+GoodDeclared s d = GoodSteps s.types.records d.derivations × GoodIfAny s.types.records s.scopes.entities d.bindings
 
 pub named_type_runs : (s : State) (b : Specified) (d : Declared) → IsLawful s → GoodSpecified s b → GoodDeclared s d → Runs s (named_type b d s) GoodType
 unfolding named_type bind
@@ -568,9 +579,9 @@ parameter_entered : (s : State) (name : Option Word) (entity : Entity) → IsLaw
 parameter_entered s None entity l h = l
 parameter_entered s (Some w) entity l h = entered s w.text entity l h
 
-parameter_grows : (s : State) (name : Option Word) (entity : Entity) → Widens s (enter_parameter name entity s)
-parameter_grows s None entity = widens_so (grows_same s)
-parameter_grows s (Some w) entity = entered_grows IsAny s w.text entity tt
+parameter_grows : (s : State) (name : Option Word) (entity : Entity) → IsPlain entity → AreMet (Rattle.pw_rules.specs.Leaves.named_point s name) → Widens s (enter_parameter name entity s)
+parameter_grows s None entity plain met = widens_so (grows_same s)
+parameter_grows s (Some w) entity plain met = entered_grows IsPlain s w.text entity plain plain (none_here s w.text (truth _ met.0))
 
 same_records : (s : State) (name : Option Word) (entity : Entity) → (enter_parameter name entity s).types.records ≡ s.types.records
 same_records s None entity = refl
@@ -596,7 +607,7 @@ parameter_runs s ended b d ps l h k scalars =
     let like : IsObjectLike r.1.types.records (adjusted r.0) = record { lawful = adjusted_lawful r.1.types.records r.0 g.2; object = adjusted_object r.0 } in
     let own = met_right (Rattle.pw_rules.specs.Leaves.named_point r.1 d.name) _ met in (
       parameter_entered r.1 d.name entity g.0 like,
-      grows_trans (widens_so g.1) (parameter_grows r.1 d.name entity),
+      grows_trans (widens_so g.1) (parameter_grows r.1 d.name entity tt (met_left (Rattle.pw_rules.specs.Leaves.named_point r.1 d.name) _ met)),
       subst (λ x. GoodParameters x ended (ps ++ record { name = d.name; ty = adjusted r.0 } ∷ [])) (sym (same_records r.1 d.name entity))
           (by r.1.types.records r.0 g.2 (scalars_later s.types.records r.1.types.records g.1.extends ps scalars) (truth _ own.0) (adjusted_is r.0 (truth _ own.1.0))),
     ))
@@ -628,10 +639,23 @@ without_void_scalars r ended (p ∷ []) (inr h) = subst (λ b. AreScalars r (if 
 without_void_scalars r ended (p ∷ x ∷ ps) (inl h) = h
 without_void_scalars r ended (p ∷ x ∷ ps) (inr h) = absurd h.0
 
-pub bindings_runs : (s : State) (ended : Bool) (ps : List ParameterValue) → IsLawful s → GoodParameters s.types.records ended ps
-    → Runs s (bindings_rule ps s) (λ t b. GoodBindings t.types.records b)
+-- the names that are declared in the scope itself are those that were entered there
+scope_plain : (s t : State) → IsLawful s → Widens (one_deeper s) t → (i : ℕ) (e : List ℕ × Entry) → slice_get t.scopes.ordinary i ≡ Some e → e.1.depth ≡ t.scopes.depth
+    → (x : Entity) × (slice_get t.scopes.entities e.1.place ≡ Some x) × IsPlain x
+scope_plain s t l g i e h deep = by (get_either s.scopes.ordinary g.more i e (subst (λ xs. slice_get xs i ≡ Some e) g.ordinary h))
+  where
+    by : (slice_get s.scopes.ordinary i ≡ Some e) ⊎ ((j : ℕ) × (slice_get g.more j ≡ Some e)) → (x : Entity) × (slice_get t.scopes.entities e.1.place ≡ Some x) × IsPlain x
+    by (inl f) =
+        let k : e.1.depth ≤ s.scopes.depth = l.depths i e f in
+        let d : t.scopes.depth ≡ s.scopes.depth + 1 = g.depth in
+        let same : e.1.depth ≡ t.scopes.depth = deep in
+        grind (arith, k, d, same)
+    by (inr f) = g.entered f.0 e f.1
+
+pub bindings_runs : (s before : State) (ended : Bool) (ps : List ParameterValue) → IsLawful s → IsLawful before → Widens (one_deeper before) s → GoodParameters s.types.records ended ps
+    → Runs s (bindings_rule ps s) (λ t b. GoodBindings t.types.records t.scopes.entities b)
 unfolding bindings_rule bind
-bindings_runs s ended ps l h = (
+bindings_runs s before ended ps l lb g h = (
   l,
   grows_same s,
   record {
@@ -640,5 +664,10 @@ bindings_runs s ended ps l h = (
         let x = get_map (λ (y : List ℕ × TagEntry). (y.0, y.1.tag)) (filter (λ (y : List ℕ × TagEntry). y.1.depth == s.scopes.depth) s.scopes.tags) i t e in
         let y = get_filter (λ (y : List ℕ × TagEntry). y.1.depth == s.scopes.depth) s.scopes.tags i x.0 x.1 in
         subst (λ z. IsLawfulTag s.types.records z.1) x.2 (l.tags y.0 x.0 y.1);
+    plain = λ i t e.
+        let x = get_map (λ (y : List ℕ × Entry). (y.0, y.1.place)) (filter (λ (y : List ℕ × Entry). y.1.depth == s.scopes.depth) s.scopes.ordinary) i t e in
+        let y = get_filter (λ (y : List ℕ × Entry). y.1.depth == s.scopes.depth) s.scopes.ordinary i x.0 x.1 in
+        subst (λ (z : List ℕ × ℕ). (w : Entity) × (slice_get s.scopes.entities z.1 ≡ Some w) × IsPlain w) x.2
+        (scope_plain before s lb g y.0 x.0 y.1 (eqb-true x.0.1.depth s.scopes.depth y.2));
   },
 )

@@ -2,6 +2,7 @@ pub mod Walking
 pub mod Lists
 pub mod Types
 pub mod Composite
+pub mod Sound
 pub mod States
 pub mod Conversions
 pub mod Nodes
@@ -10,12 +11,14 @@ pub mod Calls
 pub mod Operations
 pub mod Changes
 pub mod Objects
+pub mod ObjectTypes
 pub mod Leaves
 pub mod Phrases
 pub mod Counting
 pub mod Locals
 pub mod Filling
 pub mod Keeping
+pub mod Declaring
 pub mod Initialisers
 pub mod Declarations
 pub mod Adding
@@ -23,6 +26,11 @@ pub mod LabelLaws
 pub mod FunctionTypes
 pub mod StatementTypes
 pub mod FunctionLaws
+pub mod Parameters
+pub mod Bodies
 pub mod Statements
+pub mod Ending
+pub mod Backward
 pub mod Modules
 pub mod Laws
+pub mod Whole

@@ -125,6 +125,16 @@ visible_at {X} (entry ∷ later) name x e = by_later (visible later name) refl (
     by_later None h false f rest = never_some f
     by_later (Some y) h b f rest = let r = rest (h ∙ f) in (suc r.0, (r.1.0, r.1.1))
 
+pub visible_more : {X : Type 0} (xs : List (List ℕ × X)) (name : List ℕ) (x : X) (other : List ℕ)
+    → visible (xs ++ (name, x) ∷ []) other ≡ (if bytes_eq other name then Some x else visible xs other)
+visible_more [] name x other = refl
+visible_more {X} (entry ∷ later) name x other = by (bytes_eq other name) (visible_more later name x other)
+  where
+    by : (b : Bool) → visible (later ++ (name, x) ∷ []) other ≡ (if b then Some x else visible later other)
+        → option_or (visible (later ++ (name, x) ∷ []) other) (if bytes_eq other entry.0 then Some entry.1 else None) ≡ (if b then Some x else visible (entry ∷ later) other)
+    by true e = ap (λ o. option_or o (if bytes_eq other entry.0 then Some entry.1 else None)) e
+    by false e = ap (λ o. option_or o (if bytes_eq other entry.0 then Some entry.1 else None)) e
+
 pub put_cases : {X : Type 0} (n : ℕ) (x : X) (xs : List X) (i : ℕ) (y : X) → slice_get (put_at n x xs) i ≡ Some y
     → ((i ≡ n) × (x ≡ y) × ((z : X) × (slice_get xs n ≡ Some z))) ⊎ (slice_get xs i ≡ Some y)
 put_cases n x [] i y e = inr e

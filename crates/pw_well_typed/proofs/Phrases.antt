@@ -19,7 +19,7 @@ use Rattle.pw_walk.specs.Walks.{Walk, bind}
 use Rattle.pw_rules.specs.Kinds.{int_type}
 use Rattle.pw_rules.specs.Operands.{Operand}
 use Rattle.pw_rules.specs.Operators.{value_rule}
-use Rattle.pw_rules.specs.States.{State, one_deeper}
+use Rattle.pw_rules.specs.States.{State, one_deeper, Entity}
 use Rattle.pw_rules.specs.SpecifierLists.{Gathered, nothing_gathered, gather_storage, gather_qualifier, gather_word, gather_type, Specified}
 use Rattle.pw_rules.specs.Derivations.{Bindings, Derivation, ToArray, ToFunction, Suffixed, ParameterValue, pointer_step, spot_of}
 use Rattle.pw_rules.specs.Leaves.{record_kind, record_spot, is_last, parameter_types, first_of_list, first_of_declaration}
@@ -50,14 +50,14 @@ qualifier_gathered : (s : State) (q : Qualifier) (g : Gathered) → GoodGathered
 qualifier_gathered s R.Const g h = h
 qualifier_gathered s R.Volatile g h = h
 
-abbrev GoodSuffixed : State → Suffixed → Type 0
-GoodSuffixed s c = GoodSteps s.types.records c.derivations × GoodIfAny s.types.records c.bindings
+abbrev pub GoodSuffixed : State → Suffixed → Type 0
+GoodSuffixed s c = GoodSteps s.types.records c.derivations × GoodIfAny s.types.records s.scopes.entities c.bindings
 
 pointer_steps : (r : List RecordValue) (ps : List S.Pointer) → GoodSteps r (map pointer_step ps)
 pointer_steps r [] = tt
 pointer_steps r (p ∷ ps) = (tt, pointer_steps r ps)
 
-later_type : {s t : State} (q : QType) → Grows s t → IsLawfulType s.types.records (type_of q) → IsLawfulType t.types.records (type_of q)
+pub later_type : {s t : State} (q : QType) → Grows s t → IsLawfulType s.types.records (type_of q) → IsLawfulType t.types.records (type_of q)
 later_type {s} {t} q g h = lawful_later s.types.records t.types.records g.extends (type_of q) h
 
 later_types : {s t : State} (qs : List QType) → Grows s t → GoodTypes s.types.records qs → GoodTypes t.types.records qs
@@ -66,11 +66,11 @@ later_types {s} {t} qs g h = types_later s.types.records t.types.records g.exten
 later_steps : {s t : State} (ds : List Derivation) → Grows s t → GoodSteps s.types.records ds → GoodSteps t.types.records ds
 later_steps {s} {t} ds g h = steps_later s.types.records t.types.records g.extends ds h
 
-either_bindings : (r : List RecordValue) (a b : Option Bindings) → GoodIfAny r a → GoodIfAny r b → GoodIfAny r (option_or a b)
-either_bindings r None b h k = k
-either_bindings r (Some x) b h k = h
+either_bindings : (r : List RecordValue) (es : List Entity) (a b : Option Bindings) → GoodIfAny r es a → GoodIfAny r es b → GoodIfAny r es (option_or a b)
+either_bindings r es None b h k = k
+either_bindings r es (Some x) b h k = h
 
-scalars_only : (r : List RecordValue) (ps : List ParameterValue) → GoodParameters r false ps → AreScalars r ps
+pub scalars_only : (r : List RecordValue) (ps : List ParameterValue) → GoodParameters r false ps → AreScalars r ps
 scalars_only r ps (inl h) = h
 scalars_only r ps (inr h) = no h.1
 
@@ -238,16 +238,16 @@ mutual
         (
           steps_more r2.1.types.records (map pointer_step pointers) (r2.0.derivations ++ r1.0.derivations) (pointer_steps r2.1.types.records pointers)
               (steps_more r2.1.types.records r2.0.derivations r1.0.derivations f2.0 (later_steps r1.0.derivations g2 f1.0)),
-          either_bindings r2.1.types.records r1.0.bindings r2.0.bindings (bindings_later r1.1.types.records r2.1.types.records g2.extends r1.0.bindings f1.1) f2.1,
+          either_bindings r2.1.types.records r2.1.scopes.entities r1.0.bindings r2.0.bindings (bindings_later r1.1.types.records r2.1.types.records r1.1.scopes.entities r2.1.scopes.entities g2.extends g2.entities r1.0.bindings f1.1) f2.1,
         ),
       )))
 
-  core_post : (core : Core) (s : State) → IsLawful s → Runs s (core_rule core s) GoodDeclared
+  pub core_post : (core : Core) (s : State) → IsLawful s → Runs s (core_rule core s) GoodDeclared
   core_post S.Absent s l = (l, grows_same s, (tt, tt))
   core_post (S.Name w) s l = (l, grows_same s, (tt, tt))
   core_post (S.Enclosed t d) s l = declarator_post d s l
 
-  suffixes_post : (suffixes : Suffixes) (s : State) → IsLawful s → Runs s (suffixes_rule suffixes s) GoodSuffixed
+  pub suffixes_post : (suffixes : Suffixes) (s : State) → IsLawful s → Runs s (suffixes_rule suffixes s) GoodSuffixed
   suffixes_post S.NoSuffix s l = (l, grows_same s, (tt, tt))
   suffixes_post (S.Array t e rest) s l =
       valued _ _ GoodSuffixed (expr_post e s l) (λ r1 m1 g1 f1.
@@ -258,24 +258,24 @@ mutual
       goes_on _ _ GoodSuffixed GoodSuffixed (suffixes_post rest s l) (λ r m g f.
       (m, grows_same r.1, (steps_more r.1.types.records r.0.derivations (ToArray None ∷ []) f.0 (tt, tt), f.1)))
   suffixes_post (S.Prototype t parameters rest) s l =
-      goes_on _ _ (λ u b. GoodBindings u.types.records b) GoodSuffixed
+      goes_on _ _ (λ u b. GoodBindings u.types.records u.scopes.entities b) GoodSuffixed
       (scoped_runs s _ GoodBindings l
-      (goes_widely _ _ (λ u ps. GoodParameters u.types.records true ps) (λ u b. GoodBindings u.types.records b)
+      (goes_widely _ _ (λ u ps. GoodParameters u.types.records true ps) (λ u b. GoodBindings u.types.records u.scopes.entities b)
       (parameters_post parameters [] (one_deeper s) (deeper_lawful s l) (inl tt))
-      (λ r m g f. widely _ _ (λ u b. GoodBindings u.types.records b) (bindings_runs r.1 true r.0 m f)))) (λ r1 m1 g1 f1.
+      (λ r m g f. widely _ _ (λ u b. GoodBindings u.types.records u.scopes.entities b) (bindings_runs r.1 s true r.0 m l g f)))) (λ r1 m1 g1 f1.
       goes_on _ _ GoodSuffixed GoodSuffixed (suffixes_post rest r1.1 m1) (λ r2 m2 g2 f2. (
         m2,
         grows_same r2.1,
         (
           steps_more r2.1.types.records r2.0.derivations (ToFunction (parameter_types r1.0.parameters) ∷ []) f2.0
               (scalars_types r2.1.types.records r1.0.parameters (scalars_later r1.1.types.records r2.1.types.records g2.extends r1.0.parameters f1.scalars), tt),
-          bindings_later r1.1.types.records r2.1.types.records g2.extends (Some r1.0) f1,
+          bindings_later r1.1.types.records r2.1.types.records r1.1.scopes.entities r2.1.scopes.entities g2.extends g2.entities (Some r1.0) f1,
         ),
       )))
   suffixes_post (S.Variadic t parameters rest) s l = tt
   suffixes_post (S.Identifiers t ws rest) s l = tt
 
-  parameters_post : (rest : Parameters) (ps : List ParameterValue) (s : State) → IsLawful s → GoodParameters s.types.records (is_last rest) ps
+  pub parameters_post : (rest : Parameters) (ps : List ParameterValue) (s : State) → IsLawful s → GoodParameters s.types.records (is_last rest) ps
       → Widely s (parameters_rule rest ps s) (λ u x. GoodParameters u.types.records true x)
   parameters_post S.NoParameter ps s l h = (l, widens_so (grows_same s), h)
   parameters_post (S.Parameter specifiers d rest) ps s l h =

@@ -1,6 +1,8 @@
 -- How the state of checking grows within expressions and types: it forgets nothing, and the names that are entered stand in the
 -- scope that is read.
-use Rattle.std.specs.Prelude.{ℕ, ◌≡◌, ◌⊎◌, true, Some, List, [], ◌++◌, slice_get, refl}
+use Rattle.pw_well_typed.proofs.Sound.{Sound, IsPlain}
+use Rattle.pw_rules.specs.declared.names.Slot.{Slot}
+use Rattle.std.specs.Prelude.{ℕ, ◌≡◌, ◌⊎◌, true, Some, List, [], ◌++◌, slice_get, refl, Option}
 use Rattle.std.specs.Option.{option_map_or}
 use Rattle.std.proofs.Common.{arith, ap, sym, subst, ◌∙◌, inl, inr, append_assoc, append-nil}
 use Rattle.pw_types.specs.TypeTrees.{type_of}
@@ -9,7 +11,7 @@ use Rattle.pw_types.specs.WellTyped.{IsTyped, IsLvalue, IsDesignator, IsFunction
 use Rattle.pw_walk.specs.Walks.{Walk, bind}
 use Rattle.pw_rules.specs.Linkage.{symbol_at, symbol_of_linked}
 use Rattle.pw_rules.specs.Operands.{Operand}
-use Rattle.pw_rules.specs.States.{State, Entity, TypeName, EnumerationConstant, LocalObject, StaticObject, Linked}
+use Rattle.pw_rules.specs.States.{State, Entity, TypeName, EnumerationConstant, LocalObject, StaticObject, Linked, entry_here}
 use Rattle.pw_rules.specs.declared.names.Entry.{Entry}
 use Rattle.pw_well_typed.specs.Lawful.{IsLawful, IsLawfulType, Extends, Denotes, StandsFor, IsNamed, AreWords}
 use Rattle.pw_well_typed.proofs.Walking.{Post, post_bind, post_weaken}
@@ -20,6 +22,13 @@ use Rattle.pw_well_typed.proofs.Types.{extends_trans, extends_same}
 abbrev pub IsConstant : Entity → Type 0
 IsConstant (EnumerationConstant n) = Unit {0}
 IsConstant _ = ⊥
+
+constant_plain : (x : Entity) → IsConstant x → IsPlain x
+constant_plain (EnumerationConstant n) h = tt
+constant_plain (TypeName q) h = absurd h
+constant_plain (LocalObject k q register) h = absurd h
+constant_plain (StaticObject k q) h = absurd h
+constant_plain (Linked k q) h = absurd h
 
 -- an entity of this sort stands at the place
 abbrev pub HasEntity : (Entity → Type 0) → State → ℕ → Type 0
@@ -41,17 +50,17 @@ pub record GrowsBy (P : Entity → Type 0) (s t : State) : Type 0 where
   pub counting : t.made.counting ≡ s.made.counting
   pub body : t.body ≡ s.body
   pub functions : t.made.functions ≡ s.made.functions
+  -- a name that is declared in the scope stays so declared
+  pub here : (name : List ℕ) (e : Entry) → entry_here s name ≡ Some e → entry_here t name ≡ Some e
+  pub sound : (pending : Option Slot) → Sound pending s → Sound pending t
 
 -- within expressions and types, where the names that are entered are those of enumerations
 abbrev pub Grows : State → State → Type 0
 Grows s t = GrowsBy IsConstant s t
 
-abbrev pub IsAny : Entity → Type 0
-IsAny x = Unit {0}
-
 -- in a list of parameters, whose names are entered too
 abbrev pub Widens : State → State → Type 0
-Widens s t = GrowsBy IsAny s t
+Widens s t = GrowsBy IsPlain s t
 
 pub grows_same : (s : State) → Grows s s
 grows_same s = record {
@@ -68,6 +77,8 @@ grows_same s = record {
   counting = refl;
   body = refl;
   functions = refl;
+  here = λ name e h. h;
+  sound = λ pending h. h;
 }
 
 pub grows_trans : {P : Entity → Type 0} {s t u : State} → GrowsBy P s t → GrowsBy P t u → GrowsBy P s u
@@ -85,6 +96,8 @@ grows_trans {P} {s} {t} {u} a b = record {
   counting = b.counting ∙ a.counting;
   body = b.body ∙ a.body;
   functions = b.functions ∙ a.functions;
+  here = λ name e h. b.here name e (a.here name e h);
+  sound = λ pending h. b.sound pending (a.sound pending h);
 }
   where
     by_place : (i : ℕ) (e : List ℕ × Entry) → (slice_get a.more i ≡ Some e) ⊎ ((j : ℕ) × (slice_get b.more j ≡ Some e)) → e.1.depth ≡ s.scopes.depth
@@ -105,11 +118,13 @@ widens_so {s} {t} g = record {
   more = g.more;
   ordinary = g.ordinary;
   deep = g.deep;
-  entered = λ i e h. let x = g.entered i e h in (x.0, x.1, tt);
+  entered = λ i e h. let x = g.entered i e h in (x.0, x.1, constant_plain x.0 x.2);
   hidden = g.hidden;
   counting = g.counting;
   body = g.body;
   functions = g.functions;
+  here = g.here;
+  sound = g.sound;
 }
 
 symbols_same : (s t : State) → t.types.linked ≡ s.types.linked → (n : ℕ) → symbol_at t n ≡ symbol_at s n

@@ -1,5 +1,5 @@
 -- The numbers of a typed tree: each in an expression that is evaluated is one of 32 bits, as in each tree that the code makes.
-use Rattle.std.specs.Prelude.{Option, None, Some, List, [], ◌∷◌, All}
+use Rattle.std.specs.Prelude.{Option, None, Some, All}
 use Rattle.pw_types.specs.TypedTrees.{Expression, Initialiser, Statement, Statements, NoStatement, OneStatement, Arms, NoArm, Arm, Otherwise, NoElse, Else, FunctionValue, ModuleValue}
 use Rattle.pw_types.specs.TypedTrees as T
 use Rattle.pw_well_typed.specs.Lawful.{AreWords}
