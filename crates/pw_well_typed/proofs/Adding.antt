@@ -1,5 +1,5 @@
 -- Declarations: what they add to a function is locals, and each initialiser is for one of those.
-use Rattle.std.specs.Prelude.{ℕ, zero, suc, ◌≡◌, ◌<◌, ◌≤◌, ◌⊎◌, Bool, true, false, not, Option, None, Some, is_some, unwrap_or, List, [], ◌∷◌, ◌++◌, length, slice_get, if◌then◌else◌, All, Contains, refl}
+use Rattle.std.specs.Prelude.{ℕ, zero, suc, ◌≡◌, ◌<◌, ◌≤◌, ◌⊎◌, ◌==◌, Bool, true, false, not, Option, None, Some, is_some, unwrap_or, List, [], ◌∷◌, ◌++◌, length, slice_get, if◌then◌else◌, All, Contains, refl}
 use Rattle.std.specs.Option.{option_map_or}
 use Rattle.std.proofs.Common.{arith, ap, sym, subst, ◌∙◌, inl, inr}
 use Rattle.std.proofs.lemmas.List.Elements.{All-nil, All-cons, All-head, All-tail, All-append, All-weaker}
@@ -10,18 +10,18 @@ use Rattle.pw_types.specs.declared.record.RecordKind.{RecordKind}
 use Rattle.pw_types.specs.TypeTrees.{QType, type_of}
 use Rattle.pw_types.specs.TypedTrees.{Hidden, Expression, Initialiser, LocalValue, GlobalValue, ModuleValue}
 use Rattle.pw_types.specs.TypedTrees as T
-use Rattle.pw_types.specs.WellTyped.{IsTyped, IsDefined}
+use Rattle.pw_types.specs.WellTyped.{IsTyped}
 use Rattle.pw_walk.specs.Causes.{needs, DeclaresSomething}
 use Rattle.pw_walk.specs.Walks.{Walk, Done, bind, meets}
 use Rattle.pw_rules.specs.Declarations.{Sort, ATypedef, AFunction, AGlobal, AnExtern, AStatic, ALocal, sort_of, asking_of, name_rule, hidden_of, local_of, is_tentative, completed_rule, fitting_rule, context_of, global_rule, static_rule, first_part, bytes_rule, single_rule, local_initialiser, local_rule, declare_rule, name_of, place_here, init_declarator_rule, init_declarators_rule, storage_rule, declares_something, specified_rule, bare_rule, declarators_rule, decl_rule, decls_rule}
 use Rattle.pw_rules.specs.Derivations.{spot_of}
 use Rattle.pw_rules.specs.Initialisers.{object_rule, is_by_bytes}
-use Rattle.pw_rules.specs.Kinds.{is_const_object}
+use Rattle.pw_rules.specs.Kinds.{is_const_object, is_function}
 use Rattle.pw_rules.specs.Leaves.{alone_by, alone_rule, record_kind, first_of_list}
 use Rattle.pw_rules.specs.Limits.{Spot}
 use Rattle.pw_rules.specs.Linkage.{Asking, AsBefore, declare_linked, note_linked, note_here, linked_before, place_for, linked_again, linked_anew, is_internal_by, type_here, change_linked, slot_for, has_slot, define_tentatively, define_object, initialise_linked, named_type}
 use Rattle.pw_rules.specs.Operands.{type_in}
-use Rattle.pw_rules.specs.SpecifierLists.{Specified, nothing_gathered, is_register}
+use Rattle.pw_rules.specs.SpecifierLists.{Specified, nothing_gathered, is_typedef, is_extern, is_static, is_register}
 use Rattle.pw_rules.specs.States.{State, BodyState, LinkedName, Entity, TypeName, LocalObject, StaticObject, Linked, HiddenObject, is_file_scope, add_hidden, put_hidden, add_local, put_entity, put_linked, add_linked, add_slot, enter, put_at, next_hidden, next_local, entry_here, entity_here, linked_at, tag_here}
 use Rattle.pw_rules.specs.declared.names.Entry.{Entry}
 use Rattle.pw_rules.specs.declared.names.Slot.TheVariants as slot
@@ -30,25 +30,22 @@ use Rattle.pw_well_typed.specs.Lawful.{IsLawful, IsLawfulType, IsObjectLike, IsL
 use Rattle.pw_well_typed.specs.Words.{HasWords}
 use Rattle.pw_well_typed.proofs.Walking.{Post, post_bind, post_weaken, post_both}
 use Rattle.pw_well_typed.proofs.Lists.{Longer, some_same, get_append, get_last, get_within, put_same, put_either, length_put}
-use Rattle.pw_well_typed.proofs.Types.{lawful_later}
+use Rattle.pw_well_typed.proofs.Types.{no, lawful_later}
 use Rattle.pw_well_typed.proofs.States.{Runs, goes_on, Grows, grows_same, grows_trans, stands_back}
 use Rattle.pw_well_typed.proofs.Changes.{hidden_added, hidden_grows, entered}
 use Rattle.pw_well_typed.proofs.Leaves.{Nothing, GoodType, GoodGathered, GoodSpecified, GoodDeclared, GoodReference, Fresh, specified_runs, built_runs, reference_by_runs, new_tag_runs, tag_here_lawful}
 use Rattle.pw_well_typed.proofs.Phrases.{specifiers_post, declarator_post}
-use Rattle.pw_well_typed.proofs.Locals.{ArePlaced, longer_put, longer_same, grows_placed, entered_placed, added_placed, put_placed, place_of_new, local_entered, local_completed, local_placed, completed_placed}
+use Rattle.pw_well_typed.proofs.Locals.{IsPlaced, ArePlaced, placed_longer, longer_put, longer_same, grows_placed, entered_placed, put_placed, place_of_new, local_entered, local_completed, local_placed, completed_placed}
 use Rattle.pw_well_typed.proofs.Filling.{IsTypedAs, AreTypedAs, object_runs, runs_whatever}
+use Rattle.pw_well_typed.proofs.Sound.{Sound}
+use Rattle.pw_well_typed.proofs.Backward.{Names, names_back}
 use Rattle.pw_well_typed.proofs.Keeping.{After, Goes, around, defined_kept, Anything}
 use Rattle.pw_well_typed.proofs.Declaring.{declared_lawful, refilled_sound}
 use Rattle.pw_well_typed.proofs.Composite.{Covers, covers_same}
 use Rattle.pw_well_typed.proofs.Initialisers.{object_keeps, covers_stays}
 use Rattle.pw_well_typed.proofs.Declarations.{Fits, sort_fits, init_declarator_goes, init_declarators_goes, decl_goes, decls_goes}
 
--- ---- what a state denotes, but for locals
-
-pub record Names (s : State) (m : ModuleValue) : Type 0 where
-  pub records : Extends s.types.records m.records
-  pub strings : (k : ℕ) (h : HiddenObject) → slice_get s.made.hidden k ≡ Some h → IsDefined m (Hidden k) h.ty
-  pub entities : (k : ℕ) (e : Entity) → slice_get s.scopes.entities k ≡ Some e → StandsFor s m e
+-- ---- what a module's end has of a state
 
 -- the hidden object of the number has the type
 abbrev pub IsOwned : ModuleValue → ℕ → QType → Type 0
@@ -60,19 +57,17 @@ pub record Final (t : State) (m : ModuleValue) (locals : List LocalValue) : Type
   pub owned : (k : ℕ) (h : HiddenObject) → slice_get t.made.hidden k ≡ Some h → IsOwned m k h.ty
   pub locals_are : Longer t.body.locals locals
 
--- its names have their entities and locals, and it is in no operand of `sizeof`
+-- its names have their entities and locals, its parts agree, and it is in no operand of `sizeof`
 pub record IsReady (s : State) : Type 0 where
   pub placed : ArePlaced s
   pub counting : s.made.counting ≡ true
+  pub sound : Sound None s
 
 -- what a later state denotes, an earlier one denotes
-abbrev pub Back : Type 0
-Back = (s t : State) (m : ModuleValue) → After s t → IsReady s → Names t m → Names s m
-
-pub final_back : Back → {s t : State} {m : ModuleValue} {locals : List LocalValue} → After s t → IsReady s → Longer s.body.locals t.body.locals → Longer s.made.hidden t.made.hidden
+pub final_back : {s t : State} {m : ModuleValue} {locals : List LocalValue} → After s t → IsReady s → Longer s.body.locals t.body.locals → Longer s.made.hidden t.made.hidden
     → Final t m locals → Final s m locals
-final_back back {s} {t} {m} {locals} a ready more hidden f = record {
-  names = back s t m a ready f.names;
+final_back {s} {t} {m} {locals} a ready more hidden f = record {
+  names = names_back m a ready.sound f.names;
   owned = λ k h e. f.owned k h (hidden k h e);
   locals_are = λ i x e. f.locals_are i x (more i x e);
 }
@@ -81,7 +76,7 @@ placed_locals : (s : State) (locals : List LocalValue) → ArePlaced s → Longe
     → slice_get s.scopes.ordinary i ≡ Some e → slice_get s.scopes.entities e.1.place ≡ Some (LocalObject k q register) → Rattle.pw_well_typed.specs.Lawful.HasLocal locals k q
 placed_locals s locals p more i e k q register h f =
     let x = p i e h in
-    Rattle.pw_well_typed.proofs.Locals.placed_longer s.body.locals locals more (LocalObject k q register) (subst (Rattle.pw_well_typed.proofs.Locals.IsPlaced s.body.locals) (some_same (sym x.1 ∙ f)) x.2)
+    (placed_longer s.body.locals locals more e.1.depth (LocalObject k q register) (subst (IsPlaced s.body.locals e.1.depth) (some_same (sym x.1 ∙ f)) x.2)).0
 
 pub denotes_final : (s : State) (m : ModuleValue) (locals : List LocalValue) → Names s m → ArePlaced s → s.made.counting ≡ true → Longer s.body.locals locals → Denotes s m locals
 denotes_final s m locals n p c more = record {
@@ -99,17 +94,19 @@ with_locals locals b = record b { locals = locals }
 
 pub record Adds (s t : State) : Type 0 where
   pub placed : ArePlaced s → ArePlaced t
+  pub depth : t.scopes.depth ≡ s.scopes.depth
   pub locals : Longer s.body.locals t.body.locals
   pub counting : t.made.counting ≡ s.made.counting
   pub hidden : Longer s.made.hidden t.made.hidden
   pub steady : t.body ≡ record s.body { locals = t.body.locals }
 
 pub adds_same : (s : State) → Adds s s
-adds_same s = record { placed = λ p. p; locals = longer_same s.body.locals; counting = refl; hidden = longer_same s.made.hidden; steady = refl }
+adds_same s = record { placed = λ p. p; depth = refl; locals = longer_same s.body.locals; counting = refl; hidden = longer_same s.made.hidden; steady = refl }
 
 pub adds_trans : {s t u : State} → Adds s t → Adds t u → Adds s u
 adds_trans {s} {t} {u} a b = record {
   placed = λ p. b.placed (a.placed p);
+  depth = b.depth ∙ a.depth;
   locals = λ i x e. b.locals i x (a.locals i x e);
   counting = b.counting ∙ a.counting;
   hidden = λ i x e. b.hidden i x (a.hidden i x e);
@@ -119,6 +116,7 @@ adds_trans {s} {t} {u} a b = record {
 pub adds_grows : {s t : State} → Grows s t → Adds s t
 adds_grows {s} {t} g = record {
   placed = grows_placed g;
+  depth = g.depth;
   locals = λ i x e. subst (λ b. slice_get b.locals i ≡ Some x) (sym g.body) e;
   counting = g.counting;
   hidden = g.hidden;
@@ -126,7 +124,7 @@ adds_grows {s} {t} g = record {
 }
 
 pub ready_adds : {s t : State} → After s t → Adds s t → IsReady s → IsReady t
-ready_adds {s} {t} x a r = record { placed = a.placed r.placed; counting = a.counting ∙ r.counting }
+ready_adds {s} {t} x a r = record { placed = a.placed r.placed; counting = a.counting ∙ r.counting; sound = x.sound r.sound }
 
 -- a rule that only grows, and then one that adds
 grows_first : {A B : Type 0} {s : State} (w : Walk (A × State)) (next : A × State → Walk (B × State)) (Good : State → A → Type 0) (P : B → State → Type 0) → Runs s w Good
@@ -138,36 +136,37 @@ grows_first {A} {B} {s} w next Good P h k =
 -- ---- names with linkage
 
 linked_put_adds : (s : State) (place : ℕ) (x : LinkedName) → Adds s (put_linked place x s)
-linked_put_adds s place x = record { placed = λ p. p; locals = longer_same s.body.locals; counting = refl; hidden = longer_same s.made.hidden; steady = refl }
+linked_put_adds s place x = record { placed = λ p. p; depth = refl; locals = longer_same s.body.locals; counting = refl; hidden = longer_same s.made.hidden; steady = refl }
 
 noted_adds : (s : State) (name : List ℕ) (internal : Bool) (q : QType) (token : ℕ) (tag : Option ℕ) → Adds s (note_linked name internal q token tag s)
 noted_adds s name internal q token tag = by (linked_before s name)
   where
     by : (o : Option LinkedName) → Adds s (option_map_or (λ x. put_linked (place_for s name) (linked_again q x) s) o (add_linked (linked_anew name internal q token tag) s))
-    by None = record { placed = λ p. p; locals = longer_same s.body.locals; counting = refl; hidden = longer_same s.made.hidden; steady = refl }
+    by None = record { placed = λ p. p; depth = refl; locals = longer_same s.body.locals; counting = refl; hidden = longer_same s.made.hidden; steady = refl }
     by (Some x) = linked_put_adds s (place_for s name) (linked_again q x)
 
 here_adds : (s : State) (name : List ℕ) (place : ℕ) (q : QType) → Adds s (note_here name place q s)
 here_adds s name place q = by (entry_here s name)
   where
     by : (o : Option Entry) → Adds s (option_map_or (λ (e : Entry). put_entity e.place (Linked place (type_here q (unwrap_or (entity_here s name) (TypeName q)))) s) o (enter name (Linked place q) s))
-    by None = record { placed = λ p. entered_placed s name (Linked place q) p tt; locals = longer_same s.body.locals; counting = refl; hidden = longer_same s.made.hidden; steady = refl }
+    by None = record { placed = λ p. entered_placed s name (Linked place q) p tt; depth = refl; locals = longer_same s.body.locals; counting = refl; hidden = longer_same s.made.hidden; steady = refl }
     by (Some e) = record {
-      placed = λ p. put_placed s e.place (Linked place (type_here q (unwrap_or (entity_here s name) (TypeName q)))) p tt;
+      placed = λ p. put_placed s e.place (Linked place (type_here q (unwrap_or (entity_here s name) (TypeName q)))) p (λ d. tt);
+      depth = refl;
       locals = longer_same s.body.locals;
       counting = refl;
       hidden = longer_same s.made.hidden;
       steady = refl;
     }
 
-abbrev noted_state : State → List ℕ → ℕ → Option ℕ → Asking → QType → State
+abbrev pub noted_state : State → List ℕ → ℕ → Option ℕ → Asking → QType → State
 noted_state s name token tag asking q = note_here name (place_for s name) q (note_linked name (is_internal_by s name asking) q token tag s)
 
-declared_adds : (s : State) (name : List ℕ) (token : ℕ) (tag : Option ℕ) (asking : Asking) (q : QType) → Adds s (noted_state s name token tag asking q)
+pub declared_adds : (s : State) (name : List ℕ) (token : ℕ) (tag : Option ℕ) (asking : Asking) (q : QType) → Adds s (noted_state s name token tag asking q)
 declared_adds s name token tag asking q =
     adds_trans (noted_adds s name (is_internal_by s name asking) q token tag) (here_adds (note_linked name (is_internal_by s name asking) q token tag s) name (place_for s name) q)
 
-changed_adds : (s : State) (place : ℕ) (f : LinkedName → LinkedName) → Adds s (change_linked place f s)
+pub changed_adds : (s : State) (place : ℕ) (f : LinkedName → LinkedName) → Adds s (change_linked place f s)
 changed_adds s place f = by (linked_at s place)
   where
     by : (o : Option LinkedName) → Adds s (option_map_or (λ x. put_linked place (f x) s) o s)
@@ -179,7 +178,7 @@ slot_adds s place = by (has_slot s place)
   where
     by : (b : Bool) → Adds s (if b then s else add_slot (slot.Named place) s)
     by true = adds_same s
-    by false = record { placed = λ p. p; locals = longer_same s.body.locals; counting = refl; hidden = longer_same s.made.hidden; steady = refl }
+    by false = record { placed = λ p. p; depth = refl; locals = longer_same s.body.locals; counting = refl; hidden = longer_same s.made.hidden; steady = refl }
 
 tentative_adds : (s : State) (place : ℕ) (b : Bool) → Adds s (if b then define_tentatively place s else s)
 tentative_adds s place true = adds_trans (slot_adds s place) (changed_adds (slot_for place s) place (λ x. record x { tentative = true }))
@@ -220,6 +219,7 @@ unfolding static_rule completed_rule bind
 static_adds s w q None l h = (
   record {
     placed = λ p. entered_placed (add_hidden (hidden_of q [] (not (is_const_object q))) s) w.text (StaticObject (next_hidden s) q) p tt;
+    depth = refl;
     locals = longer_same s.body.locals;
     counting = refl;
     hidden = λ k x e. get_append s.made.hidden (hidden_of q [] (not (is_const_object q)) ∷ []) k x e;
@@ -238,7 +238,8 @@ static_adds s w q (Some i) l h =
       record {
         placed = λ p.
             put_placed r.1 (place_here at w.text) (StaticObject (next_hidden s) r.0.ty)
-            (grows_placed g.1 (entered_placed (add_hidden (hidden_of q [] (not (is_const_object q))) s) w.text (StaticObject (next_hidden s) q) p tt)) tt;
+            (grows_placed g.1 (entered_placed (add_hidden (hidden_of q [] (not (is_const_object q))) s) w.text (StaticObject (next_hidden s) q) p tt)) (λ d. tt);
+        depth = g.1.depth;
         locals = λ k x e. subst (λ b. slice_get b.locals k ≡ Some x) (sym g.1.body) e;
         counting = g.1.counting;
         hidden = longer_put s.made.hidden r.1.made.hidden (hidden_of r.0.ty r.0.filled.items (not (is_const_object q)))
@@ -329,7 +330,7 @@ Starts m locals first end (T.Bytes k hidden parts) =
 
 -- the initialisers of the locals that are declared from one state to another
 abbrev pub Declares : State → State → List Initialiser → Type 0
-Declares s t is = Back → (m : ModuleValue) (locals : List LocalValue) → Final t m locals → IsReady s → All HasWords is
+Declares s t is = (m : ModuleValue) (locals : List LocalValue) → Final t m locals → IsReady s → All HasWords is
     → All (Starts m locals (length s.body.locals) (length t.body.locals)) is
 
 -- what changes with the local's type tells of no object and no function
@@ -355,10 +356,10 @@ put_itself n x [] e = refl
 put_itself zero x (y ∷ xs) e = ap (λ z. z ∷ xs) (some_same (sym e))
 put_itself (suc n) x (y ∷ xs) e = ap (λ zs. y ∷ zs) (put_itself n x xs e)
 
-completed_starts : (s u : State) (w : Word) (q ty : QType) (register : Bool) (i : Initialiser) → ArePlaced s → s.made.counting ≡ true → Grows (local_entered s w.text (local_of w q) register) u
+completed_starts : (s u : State) (w : Word) (q ty : QType) (register : Bool) (i : Initialiser) → 0 < s.scopes.depth → ArePlaced s → s.made.counting ≡ true → Grows (local_entered s w.text (local_of w q) register) u
     → (m : ModuleValue) (locals : List LocalValue) → Final (local_completed s (length s.scopes.entities) (local_of w ty) register u) m locals → Makes u (length s.body.locals) q ty i → HasWords i
     → Starts m locals (length s.body.locals) (length (put_at (length s.body.locals) (local_of w ty) u.body.locals)) i
-completed_starts s u w q ty register i p c g m locals f made words = by i made words
+completed_starts s u w q ty register i inner p c g m locals f made words = by i made words
   where
     held : slice_get u.body.locals (length s.body.locals) ≡ Some (local_of w q)
     held = subst (λ b. slice_get b.locals (length s.body.locals) ≡ Some (local_of w q)) (sym g.body) (get_last s.body.locals (local_of w q))
@@ -378,7 +379,7 @@ completed_starts s u w q ty register i p c g m locals f made words = by i made w
     denotes : ty ≡ q → Denotes u m locals
     denotes same =
         denotes_final u m locals (names_uncompleted s u w.text (local_of w q) (local_of w ty) register m g f.names)
-        (grows_placed g (local_placed s w.text (local_of w q) register p)) (g.counting ∙ c) (longer same)
+        (grows_placed g (local_placed s w.text (local_of w q) register inner p)) (g.counting ∙ c) (longer same)
 
     by : (j : Initialiser) → Makes u (length s.body.locals) q ty j → HasWords j → Starts m locals (length s.body.locals) (length (put_at (length s.body.locals) (local_of w ty) u.body.locals)) j
     by (T.Value k e) h a =
@@ -403,19 +404,20 @@ all_more P A Q f (x ∷ xs) h k = All-cons Q x xs (f x (All-head P x xs h) (All-
 abbrev pub AddsLocals : State → List Initialiser × State → Type 0
 AddsLocals s r = Adds s r.1 × Declares s r.1 r.0
 
-local_adds : (s : State) (w : Word) (b : Specified) (q : QType) (i : Option Initializer) → IsLawful s → IsObjectLike s.types.records q → Post (local_rule w b q i s) (AddsLocals s)
+local_adds : (s : State) (w : Word) (b : Specified) (q : QType) (i : Option Initializer) → 0 < s.scopes.depth → IsLawful s → IsObjectLike s.types.records q → Post (local_rule w b q i s) (AddsLocals s)
 unfolding local_rule bind
-local_adds s w b q None l h = (
+local_adds s w b q None inner l h = (
   record {
-    placed = λ p. local_placed s w.text (local_of w q) (is_register b.storage) p;
+    placed = λ p. local_placed s w.text (local_of w q) (is_register b.storage) inner p;
+    depth = refl;
     locals = λ k x e. get_append s.body.locals (local_of w q ∷ []) k x e;
     counting = refl;
     hidden = longer_same s.made.hidden;
     steady = refl;
   },
-  λ back m locals f ready words. All-nil (Starts m locals (length s.body.locals) (length (s.body.locals ++ local_of w q ∷ []))),
+  λ m locals f ready words. All-nil (Starts m locals (length s.body.locals) (length (s.body.locals ++ local_of w q ∷ []))),
 )
-local_adds s w b q (Some i) l h =
+local_adds s w b q (Some i) inner l h =
     let at : State = local_entered s w.text (local_of w q) (is_register b.storage) in
     post_bind (local_initialiser (is_by_bytes (type_of q) i.init) w (next_local s) q i.init (local_entered s w.text (local_of w q) (is_register b.storage)))
     _ (λ r. IsLawful r.1 × Grows (local_entered s w.text (local_of w q) (is_register b.storage)) r.1 × All (Makes r.1 (length s.body.locals) q r.0.0) r.0.1) (AddsLocals s)
@@ -425,15 +427,16 @@ local_adds s w b q (Some i) l h =
     let place : place_here at w.text ≡ length s.scopes.entities = place_of_new (add_local (local_of w q) s) w.text (LocalObject (length s.body.locals) q (is_register b.storage)) in
     subst (λ n. AddsLocals s (r.0.1, local_completed s n (local_of w r.0.0) (is_register b.storage) r.1)) (sym place) (
       record {
-        placed = λ p. completed_placed s r.1 w.text (local_of w q) (local_of w r.0.0) (is_register b.storage) p g.1;
+        placed = λ p. completed_placed s r.1 w.text (local_of w q) (local_of w r.0.0) (is_register b.storage) inner p g.1;
+        depth = g.1.depth;
         locals = longer_put s.body.locals r.1.body.locals (local_of w r.0.0)
             (λ k x e. subst (λ y. slice_get y.locals k ≡ Some x) (sym g.1.body) (get_append s.body.locals (local_of w q ∷ []) k x e));
         counting = g.1.counting;
         hidden = g.1.hidden;
         steady = ap (with_locals (put_at (length s.body.locals) (local_of w r.0.0) r.1.body.locals)) g.1.body;
       },
-      λ back m locals f ready words. all_more (Makes r.1 (length s.body.locals) q r.0.0) HasWords (Starts m locals (length s.body.locals) (length (put_at (length s.body.locals) (local_of w r.0.0) r.1.body.locals)))
-          (λ x made has. completed_starts s r.1 w q r.0.0 (is_register b.storage) x ready.placed ready.counting g.1 m locals f made has) r.0.1 g.2 words,
+      λ m locals f ready words. all_more (Makes r.1 (length s.body.locals) q r.0.0) HasWords (Starts m locals (length s.body.locals) (length (put_at (length s.body.locals) (local_of w r.0.0) r.1.body.locals)))
+          (λ x made has. completed_starts s r.1 w q r.0.0 (is_register b.storage) x inner ready.placed ready.counting g.1 m locals f made has) r.0.1 g.2 words,
     ))
 
 -- ---- what is declared
@@ -441,27 +444,48 @@ local_adds s w b q (Some i) l h =
 -- nothing is said of no initialisers
 none_declared : {s : State} {r : List Initialiser × State} → AddsNone s r → AddsLocals s r
 none_declared {s} {r} h =
-    (h.0, λ back m locals f ready words. subst (λ is. All (Starts m locals (length s.body.locals) (length r.1.body.locals)) is) (sym h.1) (All-nil (Starts m locals (length s.body.locals) (length r.1.body.locals))))
+    (h.0, λ m locals f ready words. subst (λ is. All (Starts m locals (length s.body.locals) (length r.1.body.locals)) is) (sym h.1) (All-nil (Starts m locals (length s.body.locals) (length r.1.body.locals))))
 
 adds_none : (s : State) (w : Walk (List Initialiser × State)) → Post w (AddsNone s) → Post w (AddsLocals s)
 adds_none s w h = post_weaken w (AddsNone s) (AddsLocals s) h (λ r g. none_declared {s = s} {r = r} g)
 
-declare_adds : (s : State) (sort : Sort) (w : Word) (b : Specified) (spot : Spot) (q : QType) (i : Option Initializer) → IsLawful s → IsLawfulType s.types.records (type_of q) → Fits sort q
+-- a local is declared in a scope inside the file's
+abbrev IsInner : Sort → State → Type 0
+IsInner ALocal s = 0 < s.scopes.depth
+IsInner _ s = Unit {0}
+
+sort_inner : (s : State) (b : Specified) (q : QType) → IsInner (sort_of (is_file_scope s) b q) s
+sort_inner s b q = by (is_typedef b.storage) (is_function (type_of q)) (is_file_scope s) refl (is_extern b.storage) (is_static b.storage)
+  where
+    by : (x y z : Bool) → is_file_scope s ≡ z → (e t : Bool)
+        → IsInner (if x then ATypedef else if y then AFunction else if z then AGlobal else if e then AnExtern else if t then AStatic else ALocal) s
+    by true y z h e t = tt
+    by false true z h e t = tt
+    by false false true h e t = tt
+    by false false false h true t = tt
+    by false false false h false true = tt
+    by false false false h false false = positive s.scopes.depth h
+      where
+        positive : (n : ℕ) → (n == 0) ≡ false → 0 < n
+        positive zero k = no (sym k)
+        positive (suc n) k = omega arith
+
+declare_adds : (s : State) (sort : Sort) (w : Word) (b : Specified) (spot : Spot) (q : QType) (i : Option Initializer) → IsLawful s → IsLawfulType s.types.records (type_of q) → Fits sort q → IsInner sort s
     → Post (declare_rule sort w b spot q i s) (AddsLocals s)
 unfolding declare_rule declare_linked bind
-declare_adds s ATypedef w b spot q i l h f =
-    none_declared {s = s} (record { placed = λ p. entered_placed s w.text (TypeName q) p tt; locals = longer_same s.body.locals; counting = refl; hidden = longer_same s.made.hidden; steady = refl }, refl)
-declare_adds s AFunction w b spot q i l h f = none_declared {s = s} (declared_adds s w.text w.token b.tag (asking_of AFunction b) q, refl)
-declare_adds s AGlobal w b spot q i l h f = adds_none s (global_rule w b spot q i s) (global_adds s w b spot q i l h)
-declare_adds s AnExtern w b spot q i l h f = none_declared {s = s} (declared_adds s w.text w.token b.tag AsBefore q, refl)
-declare_adds s AStatic w b spot q i l h f = adds_none s (static_rule w q i s) (static_adds s w q i l (record { lawful = h; object = f }))
-declare_adds s ALocal w b spot q i l h f = local_adds s w b q i l (record { lawful = h; object = f })
+declare_adds s ATypedef w b spot q i l h f inner =
+    none_declared {s = s} (record { placed = λ p. entered_placed s w.text (TypeName q) p tt; depth = refl; locals = longer_same s.body.locals; counting = refl; hidden = longer_same s.made.hidden; steady = refl }, refl)
+declare_adds s AFunction w b spot q i l h f inner = none_declared {s = s} (declared_adds s w.text w.token b.tag (asking_of AFunction b) q, refl)
+declare_adds s AGlobal w b spot q i l h f inner = adds_none s (global_rule w b spot q i s) (global_adds s w b spot q i l h)
+declare_adds s AnExtern w b spot q i l h f inner = none_declared {s = s} (declared_adds s w.text w.token b.tag AsBefore q, refl)
+declare_adds s AStatic w b spot q i l h f inner = adds_none s (static_rule w q i s) (static_adds s w q i l (record { lawful = h; object = f }))
+declare_adds s ALocal w b spot q i l h f inner = local_adds s w b q i inner l (record { lawful = h; object = f })
 
 -- ---- declarations
 
 declares_later : {s u t : State} (is : List Initialiser) → Grows s u → Declares u t is → Declares s t is
-declares_later {s} {u} {t} is g h back m locals f ready words =
-    subst (λ b. All (Starts m locals (length b.locals) (length t.body.locals)) is) g.body (h back m locals f (record { placed = grows_placed g ready.placed; counting = g.counting ∙ ready.counting }) words)
+declares_later {s} {u} {t} is g h m locals f ready words =
+    subst (λ b. All (Starts m locals (length b.locals) (length t.body.locals)) is) g.body (h m locals f (record { placed = grows_placed g ready.placed; counting = g.counting ∙ ready.counting; sound = g.sound None ready.sound }) words)
 
 -- rules that only grow, and then one that adds
 then_adds : {A : Type 0} {s : State} (w : Walk (A × State)) (next : A × State → Walk (List Initialiser × State)) (Good : State → A → Type 0) → Runs s w Good
@@ -475,10 +499,10 @@ asked_adds : {A : Type 0} (s : State) (a : A) (next : A × State → Walk (List 
 unfolding bind
 asked_adds s a next h = h
 
-named_adds : (u : State) (sort : Sort) (spot : Spot) (w : Word) (b : Specified) (q : QType) (i : Option Initializer) → IsLawful u → IsLawfulType u.types.records (type_of q) → Fits sort q
+named_adds : (u : State) (sort : Sort) (spot : Spot) (w : Word) (b : Specified) (q : QType) (i : Option Initializer) → IsLawful u → IsLawfulType u.types.records (type_of q) → Fits sort q → IsInner sort u
     → Post (bind (name_rule sort spot w (is_some i) b q u) (λ v. declare_rule sort w b spot q i v.1)) (AddsLocals u)
 unfolding name_rule bind
-named_adds u sort spot w b q i n j f = λ met. declare_adds u sort w b spot q i n j f
+named_adds u sort spot w b q i n j f inner = λ met. declare_adds u sort w b spot q i n j f inner
 
 init_declarator_adds : (s : State) (b : Specified) (d : InitDeclarator) → IsLawful s → GoodSpecified s b → Post (init_declarator_rule b d s) (AddsLocals s)
 unfolding init_declarator_rule
@@ -486,7 +510,7 @@ init_declarator_adds s b d l h =
     then_adds _ _ GoodDeclared (declarator_post d.declarator s l) (λ r m x k.
     then_adds _ _ GoodType (built_runs r.1 (spot_of r.0.name b.first b.tag) r.0.derivations b.ty m k.0 (lawful_later s.types.records r.1.types.records x.extends (type_of b.ty) h)) (λ u n y j.
     asked_adds u.1 (sort_of (is_file_scope u.1) b u.0) _
-    (named_adds u.1 (sort_of (is_file_scope u.1) b u.0) (spot_of r.0.name b.first b.tag) (name_of r.0) b u.0 d.initializer n j (sort_fits (is_file_scope u.1) b u.0))))
+    (named_adds u.1 (sort_of (is_file_scope u.1) b u.0) (spot_of r.0.name b.first b.tag) (name_of r.0) b u.0 d.initializer n j (sort_fits (is_file_scope u.1) b u.0) (sort_inner u.1 b u.0))))
 
 -- what a declaration comes to: a lawful state, behind the one before, and what it adds
 abbrev pub Declaring : State → List Initialiser × State → Type 0
@@ -528,15 +552,15 @@ back_all P (x ∷ xs) ys h = back_all P xs ys (All-tail P x (xs ++ ys) h)
 
 -- one declaration and then others
 declares_both : (s r u : State) (is more : List Initialiser) → After s r → Adds s r → Declares s r is → After r u → Adds r u → Declares r u more → Declares s u (is ++ more)
-declares_both s r u is more z a h x b k back m locals f ready words =
+declares_both s r u is more z a h x b k m locals f ready words =
     let next : IsReady r = ready_adds z a ready in
     let early : length s.body.locals ≤ length r.body.locals = longer_length s.body.locals r.body.locals a.locals in
     let late : length r.body.locals ≤ length u.body.locals = longer_length r.body.locals u.body.locals b.locals in
     All-append (Starts m locals (length s.body.locals) (length u.body.locals)) is more
     (wider m locals (length s.body.locals) (length s.body.locals) (length r.body.locals) (length u.body.locals) (omega arith) late is
-    (h back m locals (final_back back x next b.locals b.hidden f) ready (front_all HasWords is more words)))
+    (h m locals (final_back x next b.locals b.hidden f) ready (front_all HasWords is more words)))
     (wider m locals (length s.body.locals) (length r.body.locals) (length u.body.locals) (length u.body.locals) early (omega arith) more
-    (k back m locals f next (back_all HasWords is more words)))
+    (k m locals f next (back_all HasWords is more words)))
 
 then_declares : (s : State) (w : Walk (List Initialiser × State)) (next : State → Walk (List Initialiser × State)) → Post w (Declaring s)
     → ((r : State) (is : List Initialiser) → IsLawful r → After s r → Post (next r) (Declaring r))
@@ -611,3 +635,6 @@ decls_adds (d ∷ rest) s l =
 
 pub decls_declare : (ds : List Decl) (s : State) → IsLawful s → Post (decls_rule ds s) (Declaring s)
 decls_declare ds s l = declaring s (decls_rule ds s) (decls_goes ds s l) (decls_adds ds s l)
+
+pub decl_declares : (d : Decl) (s : State) → IsLawful s → Post (decl_rule d s) (Declaring s)
+decl_declares d s l = declaring s (decl_rule d s) (decl_goes s d l) (decl_adds s d l)

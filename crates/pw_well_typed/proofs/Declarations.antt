@@ -1,44 +1,48 @@
 -- Declarations leave a lawful state.
-use Rattle.pw_well_typed.proofs.Declaring.{body_kept, hidden_kept, hidden_put, entity_becomes, plain_entered, static_entered, Linkable, linkable, declared_goes, GoodPlace, DeclaredHere, here_later, defined_scopes, defined_place, visible_before, tentative_after, object_after, initialised_after}
+use Rattle.pw_types.specs.Layouts.{layout_of, array_layout}
+use Rattle.pw_types.specs.Records.{IsObjectType}
+use Rattle.pw_well_typed.proofs.Objects.{completed_so, object_later}
+use Rattle.pw_well_typed.proofs.ObjectTypes.{IsWithin, object_is, within_fits}
+use Rattle.pw_well_typed.proofs.Declaring.{hidden_kept, hidden_put, entity_becomes, plain_entered, static_entered, Linkable, linkable, declared_goes, GoodPlace, DeclaredHere, here_later, defined_scopes, defined_place, visible_before, tentative_after, object_after, initialised_after, keeps_put, put_sound}
 use Rattle.pw_well_typed.proofs.Filling.{object_runs, runs_whatever}
 use Rattle.pw_well_typed.proofs.Locals.{place_of_new}
-use Rattle.pw_well_typed.proofs.Sound.{Sound, named_same}
+use Rattle.pw_well_typed.proofs.Sound.{Sound, named_same, filling_same}
 use Rattle.pw_well_typed.proofs.Composite.{Covers, covers_same, covers_trans}
 use Rattle.pw_well_typed.proofs.States.{Grows}
-use Rattle.pw_well_typed.proofs.Lists.{Longer, some_same, never_some, get_last, get_within, put_same}
+use Rattle.pw_well_typed.proofs.Lists.{Longer, some_same, get_last, get_within, put_same, get_more, get_append, put_either}
 use Rattle.pw_rules.specs.declared.names.Slot.{Slot}
 use Rattle.pw_rules.specs.declared.names.Slot.TheVariants as slot
-use Rattle.pw_walk.specs.Causes.{needs, InitialisedHere, CompleteObject}
+use Rattle.pw_walk.specs.Causes.{needs, InitialisedHere, CompleteObject, InitialisedKind}
 use Rattle.std.proofs.Common.{ap, sym, subst, ◌∙◌, inl, inr}
 use Rattle.pw_rules.specs.Compatible.{compatible}
-use Rattle.pw_well_typed.proofs.Walking.{Post, post_bind, post_weaken, post_both, AreMet, met_left, truth}
-use Rattle.std.specs.Prelude.{ℕ, ◌≡◌, Bool, true, false, not, Option, None, Some, is_some, List, [], ◌∷◌, if◌then◌else◌, refl, is_none, ◌++◌, ◌||◌, length, slice_get}
+use Rattle.pw_well_typed.proofs.Walking.{Post, post_bind, post_weaken, post_both, AreMet, met_left, truth, met_right}
+use Rattle.std.specs.Prelude.{ℕ, ◌≡◌, Bool, true, false, not, Option, None, Some, is_some, List, [], ◌∷◌, if◌then◌else◌, refl, is_none, ◌++◌, ◌||◌, length, slice_get, ◌⊎◌, ◌<◌}
 use Rattle.std.specs.Option.{option_map_or}
 use Rattle.pw_tree.specs.Trees.{Word, Decl, InitDeclarator, Initializer, Init, Specifiers, Declarator}
 use Rattle.pw_tree.specs.Trees as S
 use Rattle.pw_types.specs.declared.record.RecordKind.{RecordKind}
 use Rattle.pw_types.specs.TypeTrees.{QType, type_of, CType, Void, Int, Pointer, Array, Function, Record, Qualified, RecordValue}
 use Rattle.pw_types.specs.TypedTrees.{Initialiser, LocalValue, PlacedItem}
-use Rattle.pw_types.specs.WellTyped.{IsFunctionType}
+use Rattle.pw_types.specs.WellTyped.{IsFunctionType, IsComplete}
 use Rattle.pw_walk.specs.Walks.{Walk, Done, bind, change, pure, ◌>>◌}
-use Rattle.pw_rules.specs.Declarations.{Sort, ATypedef, AFunction, AGlobal, AnExtern, AStatic, ALocal, sort_of, asking_of, name_rule, hidden_of, local_of, is_tentative, completed_rule, fitting_rule, context_of, global_rule, static_rule, put_local, bytes_rule, single_rule, local_initialiser, local_rule, declare_rule, name_of, init_declarator_rule, init_declarators_rule, storage_rule, declares_something, specified_rule, bare_rule, declarators_rule, decl_rule, decls_rule, sort_point, function_point, definition_point, global_point, place_here}
+use Rattle.pw_rules.specs.Declarations.{Sort, ATypedef, AFunction, AGlobal, AnExtern, AStatic, ALocal, sort_of, asking_of, name_rule, hidden_of, local_of, is_tentative, completed_rule, fitting_rule, context_of, global_rule, static_rule, put_local, bytes_rule, single_rule, local_initialiser, local_rule, declare_rule, name_of, init_declarator_rule, init_declarators_rule, storage_rule, declares_something, specified_rule, bare_rule, declarators_rule, decl_rule, decls_rule, sort_point, function_point, definition_point, global_point, place_here, object_point}
 use Rattle.pw_rules.specs.Derivations.{spot_of}
 use Rattle.pw_rules.specs.Initialisers.{object_rule, is_by_bytes, Context, with_length}
-use Rattle.pw_rules.specs.Kinds.{is_function, is_const_object, is_void}
+use Rattle.pw_rules.specs.Kinds.{is_function, is_const_object, is_void, is_open_array, is_array}
 use Rattle.pw_rules.specs.Leaves.{alone_by, alone_rule, record_kind, first_of_list}
-use Rattle.pw_rules.specs.Limits.{Spot}
-use Rattle.pw_rules.specs.Linkage.{AsBefore, declare_linked, define_tentatively, define_object, initialise_linked, note_here, named_type, type_now, Asking, AsInternal, AsExternal, is_linked, is_internal_by, linked_before, place_for}
+use Rattle.pw_rules.specs.Limits.{Spot, type_within, completed}
+use Rattle.pw_rules.specs.Linkage.{AsBefore, declare_linked, define_tentatively, define_object, initialise_linked, note_here, named_type, type_now, AsInternal, AsExternal, is_linked, is_internal_by, linked_before, place_for}
 use Rattle.pw_rules.specs.SpecifierLists.{Specified, nothing_gathered, is_typedef, is_extern, is_static, is_register}
-use Rattle.pw_rules.specs.States.{State, TypeName, LocalObject, StaticObject, is_file_scope, add_hidden, put_hidden, add_local, HiddenObject, next_hidden, next_local, tag_here, Entity, EnumerationConstant, Linked, entity_here, LinkedName, records_in, enter}
+use Rattle.pw_rules.specs.States.{State, TypeName, LocalObject, StaticObject, is_file_scope, add_hidden, put_hidden, add_local, HiddenObject, next_hidden, next_local, tag_here, Entity, EnumerationConstant, Linked, entity_here, LinkedName, records_in, enter, put_at}
 use Rattle.pw_rules.specs.declared.names.Tag.{Tag}
-use Rattle.pw_well_typed.specs.Lawful.{IsLawful, IsLawfulType, IsObjectLike, IsLawfulTag, IsLawfulEntity}
-use Rattle.pw_well_typed.proofs.Types.{lawful_later, no}
+use Rattle.pw_well_typed.specs.Lawful.{IsLawful, IsLawfulType, IsObjectLike, IsLawfulTag, IsLawfulEntity, Extends}
+use Rattle.pw_well_typed.proofs.Types.{lawful_later, no, is_complete_so, complete_later, map_some, extends_same}
 use Rattle.pw_well_typed.proofs.Conversions.{no_function}
-use Rattle.pw_well_typed.proofs.Changes.{like_later}
+use Rattle.pw_well_typed.proofs.Changes.{like_later, entered_sound}
 use Rattle.pw_well_typed.proofs.Leaves.{GoodType, GoodGathered, GoodSpecified, GoodDeclared, GoodReference, Fresh, specified_runs, built_runs, reference_by_runs, new_tag_runs, tag_here_lawful}
 use Rattle.pw_well_typed.proofs.Phrases.{specifiers_post, declarator_post}
-use Rattle.pw_well_typed.proofs.Initialisers.{Keeps, IsLawfully, lawful_stays, object_keeps, Stays, object_stays, covers_length}
-use Rattle.pw_well_typed.proofs.Keeping.{after_same, after_trans, Kept, Goes, goes_by, of_runs, changed, asked, Anything, here_is, After, AfterBy, KeptBy, GoesBy, goes_between, after_grows, from_kept, kept_trans}
+use Rattle.pw_well_typed.proofs.Initialisers.{IsLawfully, lawful_stays, Stays, object_stays, covers_length, Completes, stays_complete, object_gives, single_no_array}
+use Rattle.pw_well_typed.proofs.Keeping.{after_same, after_trans, Kept, Goes, goes_by, of_runs, changed, asked, Anything, here_is, After, AfterBy, KeptBy, GoesBy, goes_between, after_grows, from_kept, kept_trans, AreLocals, after_by, knows_linked, keeps_longer, keeps_trans, entity_put, entered_kept, around}
 
 completed_goes : (s : State) (w : Word) (q : QType) → IsLawful s → Goes s (completed_rule w q s) Anything
 unfolding completed_rule bind
@@ -49,9 +53,9 @@ unfolding fitting_rule bind
 fitting_goes s w place q l = λ met. (l, after_same s, tt)
 
 name_goes : (s : State) (sort : Sort) (spot : Spot) (w : Word) (initialised : Bool) (b : Specified) (q : QType) → IsLawful s
-    → Goes s (name_rule sort spot w initialised b q s) (λ t a. AreMet (sort_point t sort spot w initialised b q))
+    → Goes s (name_rule sort spot w initialised b q s) (λ t a. AreMet (sort_point t sort spot w initialised b q) × AreMet (type_within t.types.records w.token q))
 unfolding name_rule bind
-name_goes s sort spot w initialised b q l = λ met. (l, after_same s, met_left (sort_point s sort spot w initialised b q) _ met)
+name_goes s sort spot w initialised b q l = λ met. (l, after_same s, (met_left (sort_point s sort spot w initialised b q) _ met, (met_right (sort_point s sort spot w initialised b q) _ met).1))
 
 -- ---- objects with linkage
 
@@ -84,14 +88,14 @@ named_lawful s name q l h = by (entity_here s name) refl
     by (Some x) e = by_entity x (here_is s name x l e)
 
 -- the initialiser of an object, whatever is pending
-object_between : (p : Option Slot) (P : List RecordValue → QType → Type 0) → Stays P → (s : State) (cx : Context) (q : QType) (i : Init) → IsLawful s → P s.types.records q
-    → GoesBy p p s (object_rule cx q i s) (λ t o. P t.types.records o.ty × Grows s t)
-object_between p P keep s cx q i l h =
+object_between : (p : Option Slot) (P Q : List RecordValue → QType → Type 0) → Completes P Q → (s : State) (cx : Context) (q : QType) (i : Init) → IsLawful s → P s.types.records q
+    → GoesBy p p s (object_rule cx q i s) (λ t o. Q t.types.records o.ty × Grows s t)
+object_between p P Q keep s cx q i l h =
     post_weaken (object_rule cx q i s)
-    (λ r. (IsLawful r.1 × Grows s r.1 × Unit {0}) × (IsLawful r.1 × After s r.1 × P r.1.types.records r.0.ty))
-    (λ r. IsLawful r.1 × AfterBy p p s r.1 × (P r.1.types.records r.0.ty × Grows s r.1))
-    (post_both (object_rule cx q i s) (λ r. IsLawful r.1 × Grows s r.1 × Unit {0}) (λ r. IsLawful r.1 × After s r.1 × P r.1.types.records r.0.ty)
-    (runs_whatever _ _ _ (object_runs s cx q i l)) (object_keeps P keep s cx q i l h))
+    (λ r. (IsLawful r.1 × Grows s r.1 × Unit {0}) × (IsLawful r.1 × After s r.1 × Q r.1.types.records r.0.ty))
+    (λ r. IsLawful r.1 × AfterBy p p s r.1 × (Q r.1.types.records r.0.ty × Grows s r.1))
+    (post_both (object_rule cx q i s) (λ r. IsLawful r.1 × Grows s r.1 × Unit {0}) (λ r. IsLawful r.1 × After s r.1 × Q r.1.types.records r.0.ty)
+    (runs_whatever _ _ _ (object_runs s cx q i l)) (object_gives P Q keep s cx q i l h))
     (λ r g. (g.0.0, after_grows g.0.1, (g.1.2, g.0.1)))
 
 -- its first bytes, and its type
@@ -132,7 +136,7 @@ defined_goes s w b spot q i l h object link =
       subst (DeclaredHere w.text) (sym (defined_scopes r.1 r.0)) g.2.2,
     )) (λ e f.
     post_bind _ _ (λ u. IsLawful u.1 × AfterBy (Some (Stored w s)) (Some (Stored w s)) e.1 u.1 × (IsLawfully u.1.types.records u.0.ty × Grows e.1 u.1)) (λ r. IsLawful r.1 × After s r.1 × Unit {0})
-    (object_between (Some (Stored w s)) IsLawfully lawful_stays e.1 (context_of w true 0) e.0 i.init f.0 f.2) (λ u o.
+    (object_between (Some (Stored w s)) IsLawfully IsLawfully (stays_complete IsLawfully lawful_stays) e.1 (context_of w true 0) e.0 i.init f.0 f.2) (λ u o.
     let a : AfterBy None (Some (Stored w s)) s e.1 = after_trans g.1 f.1 in
     let whole : AfterBy None (Some (slot.Named r.0)) s u.1 = subst (λ n. AfterBy None (Some (slot.Named n)) s u.1) (sym g.2.0) (after_trans a o.1) in
     let x = o.1.names r.0 f.3.0 f.3.1 in
@@ -195,7 +199,7 @@ static_goes s w q (Some i) l h =
     from_kept _ Anything (kept_trans a c)
     (goes_by (object_rule (context_of w true (next_hidden s)) q i.init (enter w.text (StaticObject (next_hidden s) q) (add_hidden (hidden_of q [] (not (is_const_object q))) s))) _
     (λ u o. IsCompleted q u.types.records o.ty × Grows (enter w.text (StaticObject (next_hidden s) q) (add_hidden (hidden_of q [] (not (is_const_object q))) s)) u) Anything
-    (object_between None (IsCompleted q) (completed_stays q) (enter w.text (StaticObject (next_hidden s) q) (add_hidden (hidden_of q [] (not (is_const_object q))) s)) (context_of w true (next_hidden s)) q i.init c.0 (h, covers_same q)) (λ u n y g met.
+    (object_between None (IsCompleted q) (IsCompleted q) (stays_complete (IsCompleted q) (completed_stays q)) (enter w.text (StaticObject (next_hidden s) q) (add_hidden (hidden_of q [] (not (is_const_object q))) s)) (context_of w true (next_hidden s)) q i.init c.0 (h, covers_same q)) (λ u n y g met.
     let o : HiddenObject = hidden_of u.0.ty u.0.filled.items (not (is_const_object q)) in
     let at : slice_get u.1.made.hidden (next_hidden s) ≡ Some (hidden_of q [] (not (is_const_object q))) =
     g.1.hidden (next_hidden s) (hidden_of q [] (not (is_const_object q))) (get_last s.made.hidden (hidden_of q [] (not (is_const_object q)))) in
@@ -213,56 +217,174 @@ static_goes s w q (Some i) l h =
 
 -- ---- locals
 
-abbrev GoodLocal : State → State → QType × List Initialiser → Type 0
-GoodLocal before s o = IsObjectLike s.types.records o.0 × Longer before.scopes.entities s.scopes.entities
+-- a type that is complete, or gets its length
+abbrev IsOpen : List RecordValue → QType → Type 0
+IsOpen r q = (is_open_array (type_of q) ≡ true) ⊎ IsComplete r (type_of q)
 
-bytes_goes : (s : State) (w : Word) (k : ℕ) (q : QType) (i : Init) → IsLawful s → IsObjectLike s.types.records q → Goes s (bytes_rule w k q i s) (GoodLocal s)
+abbrev Declared : QType → List RecordValue → QType → Type 0
+Declared q r t = IsObjectLike r t × Covers t q × IsOpen r t
+
+abbrev Made : QType → List RecordValue → QType → Type 0
+Made q r t = IsObjectLike r t × Covers t q × IsComplete r (type_of t)
+
+open_later : (a b : List RecordValue) (t : QType) → Extends a b → IsOpen a t → IsOpen b t
+open_later a b t x (inl h) = inl h
+open_later a b t x (inr h) = inr (complete_later a b x (type_of t) h)
+
+length_complete : (r : List RecordValue) (n : ℕ) (t : QType) → IsLawfully r t → IsOpen r t → IsComplete r (type_of (with_length n t))
+length_complete r n (Qualified (Array (Qualified ty d w) None) c v) lawful h = map_some (array_layout n) (layout_of r ty) ∙ lawful.1
+length_complete r n (Qualified (Array q (Some k)) c v) lawful (inl h) = no h
+length_complete r n (Qualified (Array q (Some k)) c v) lawful (inr h) = h
+length_complete r n (Qualified Void c v) lawful (inl h) = no h
+length_complete r n (Qualified Void c v) lawful (inr h) = h
+length_complete r n (Qualified (Int k) c v) lawful (inl h) = no h
+length_complete r n (Qualified (Int k) c v) lawful (inr h) = h
+length_complete r n (Qualified (Pointer q) c v) lawful (inl h) = no h
+length_complete r n (Qualified (Pointer q) c v) lawful (inr h) = h
+length_complete r n (Qualified (Function q ps) c v) lawful (inl h) = no h
+length_complete r n (Qualified (Function q ps) c v) lawful (inr h) = h
+length_complete r n (Qualified (Record k) c v) lawful (inl h) = no h
+length_complete r n (Qualified (Record k) c v) lawful (inr h) = h
+
+open_array : (ty : CType) → is_open_array ty ≡ true → is_array ty ≡ false → ⊥
+open_array (Array q n) e f = no (sym f)
+open_array Void e f = no e
+open_array (Int k) e f = no e
+open_array (Pointer q) e f = no e
+open_array (Function q ps) e f = no e
+open_array (Record n) e f = no e
+
+value_complete : (r : List RecordValue) (t : QType) → IsOpen r t → is_array (type_of t) ≡ false → IsComplete r (type_of t)
+value_complete r t (inl h) e = absurd (open_array (type_of t) h e)
+value_complete r t (inr h) e = h
+
+made_complete : (q : QType) → Completes (Declared q) (Made q)
+made_complete q = record {
+  later = λ a b t x h. (like_later x h.0, h.1, open_later a b t x h.2);
+  lengthened = λ r n t h. (object_stays.lengthened r n t h.0, covers_trans (covers_length n t) h.1, length_complete r n t h.0.lawful h.2);
+  valued = λ r t h e. (h.0, h.1, value_complete r t h.2 e);
+}
+
+-- what the constraint on an object says that is initialised
+opened_so : (r : List RecordValue) (spot : Spot) (q : QType) → AreMet (object_point r spot true q) → IsOpen r q
+opened_so r spot q met = by (is_open_array (type_of q)) refl met
+  where
+    by : (b : Bool) → is_open_array (type_of q) ≡ b → AreMet (if b then [] else completed r spot InitialisedKind (type_of q) ∷ []) → IsOpen r q
+    by true e m = inl e
+    by false e m = inr (is_complete_so r (type_of q) (completed_so r spot InitialisedKind (type_of q) m.0))
+
+-- what the local gets
+abbrev GoodLocal : State → State → QType × List Initialiser → Type 0
+GoodLocal before s o =
+    IsObjectLike s.types.records o.0 × IsObjectType s.types.records (type_of o.0) × Longer before.scopes.entities s.scopes.entities × (s.body ≡ before.body)
+
+bytes_goes : (s : State) (w : Word) (k : ℕ) (q : QType) (i : Init) → IsLawful s → IsObjectLike s.types.records q → IsOpen s.types.records q → Goes s (bytes_rule w k q i s) (GoodLocal s)
 unfolding bytes_rule completed_rule bind
-bytes_goes s w k q i l h =
+bytes_goes s w k q i l h opens =
     let a : Kept s (add_hidden (hidden_of q [] false) s) = hidden_kept s (hidden_of q [] false) l in
     from_kept _ (GoodLocal s) a
     (goes_by (object_rule (context_of w true (next_hidden s)) q i (add_hidden (hidden_of q [] false) s)) _
-    (λ u o. IsCompleted q u.types.records o.ty × Grows (add_hidden (hidden_of q [] false) s) u) (GoodLocal s)
-    (object_between None (IsCompleted q) (completed_stays q) (add_hidden (hidden_of q [] false) s) (context_of w true (next_hidden s)) q i a.0 (h, covers_same q)) (λ u n y g met.
+    (λ u o. Made q u.types.records o.ty × Grows (add_hidden (hidden_of q [] false) s) u) (GoodLocal s)
+    (object_between None (Declared q) (Made q) (made_complete q) (add_hidden (hidden_of q [] false) s) (context_of w true (next_hidden s)) q i a.0 (h, covers_same q, opens)) (λ u n y g met.
     let at : slice_get u.1.made.hidden (next_hidden s) ≡ Some (hidden_of q [] false) = g.1.hidden (next_hidden s) (hidden_of q [] false) (get_last s.made.hidden (hidden_of q [] false)) in
     let d : Kept u.1 (put_hidden (next_hidden s) (hidden_of u.0.ty u.0.filled.items false) u.1) =
     hidden_put u.1 (next_hidden s) (hidden_of u.0.ty u.0.filled.items false) (hidden_of q [] false) n at g.0.1 in
-    (d.0, d.1, (g.0.0, g.1.entities))))
+    (d.0, d.1, (g.0.0, object_is u.1.types.records (type_of u.0.ty) g.0.2 (within_fits u.1.types.records w.token u.0.ty met), g.1.entities, g.1.body))))
 
-single_goes : (s : State) (w : Word) (k : ℕ) (q : QType) (i : Init) → IsLawful s → IsObjectLike s.types.records q → Goes s (single_rule w k q i s) (GoodLocal s)
+single_goes : (s : State) (w : Word) (k : ℕ) (q : QType) (i : Init) → IsLawful s → IsObjectLike s.types.records q → IsOpen s.types.records q → IsWithin s.types.records (type_of q)
+    → is_by_bytes (type_of q) i ≡ false → Goes s (single_rule w k q i s) (GoodLocal s)
 unfolding single_rule bind
-single_goes s w k q i l h =
-    goes_by (object_rule (context_of w false 0) q i s) _ (λ u o. IsCompleted q u.types.records o.ty × Grows s u) (GoodLocal s)
-    (object_between None (IsCompleted q) (completed_stays q) s (context_of w false 0) q i l (h, covers_same q)) (λ u n y g. (n, after_same u.1, (like_later y.extends h, g.1.entities)))
+single_goes s w k q i l h opens fits single =
+    post_bind (object_rule (context_of w false 0) q i s) _
+    (λ u. (IsLawful u.1 × After s u.1 × (Made q u.1.types.records u.0.ty × Grows s u.1)) × (IsLawful u.1 × After s u.1 × (is_array (type_of q) ≡ false)))
+    (λ r. IsLawful r.1 × After s r.1 × GoodLocal s r.1 r.0)
+    (post_both _ _ _ (object_between None (Declared q) (Made q) (made_complete q) s (context_of w false 0) q i l (h, covers_same q, opens)) (single_no_array s (context_of w false 0) q i l single)) (λ u g.
+    let x : Grows s u.1 = g.0.2.1 in
+    let whole : IsObjectType s.types.records (type_of q) = object_is s.types.records (type_of q) (value_complete s.types.records q opens g.1.2) fits in
+    (g.0.0, g.0.1, (like_later x.extends h, object_later s.types.records u.1.types.records x.extends (type_of q) whole, x.entities, x.body)))
 
-local_initialiser_goes : (s : State) (bytes : Bool) (w : Word) (k : ℕ) (q : QType) (i : Init) → IsLawful s → IsObjectLike s.types.records q → Goes s (local_initialiser bytes w k q i s) (GoodLocal s)
+local_initialiser_goes : (s : State) (bytes : Bool) (w : Word) (k : ℕ) (q : QType) (i : Init) → IsLawful s → IsObjectLike s.types.records q → IsOpen s.types.records q → IsWithin s.types.records (type_of q)
+    → is_by_bytes (type_of q) i ≡ bytes → Goes s (local_initialiser bytes w k q i s) (GoodLocal s)
 unfolding local_initialiser
-local_initialiser_goes s true w k q i l h = bytes_goes s w k q i l h
-local_initialiser_goes s false w k q i l h = single_goes s w k q i l h
+local_initialiser_goes s true w k q i l h opens fits e = bytes_goes s w k q i l h opens
+local_initialiser_goes s false w k q i l h opens fits e = single_goes s w k q i l h opens fits e
 
-local_entering : (s : State) (w : Word) (q : QType) (register : Bool) → IsLawful s → IsObjectLike s.types.records q → Kept s (enter w.text (LocalObject (next_local s) q register) (add_local (local_of w q) s))
-local_entering s w q register l h =
-    let a : Kept s (add_local (local_of w q) s) = body_kept s (add_local (local_of w q) s).body l in
-    let c : Kept (add_local (local_of w q) s) (enter w.text (LocalObject (next_local s) q register) (add_local (local_of w q) s)) = plain_entered (add_local (local_of w q) s) w.text (LocalObject (next_local s) q register) a.0 h tt in
-    kept_trans a c
+-- a local more
+local_more : (s : State) (w : Word) (q : QType) (register : Bool) → IsObjectLike s.types.records q → IsObjectType s.types.records (type_of q) → AreLocals s
+    → AreLocals (enter w.text (LocalObject (next_local s) q register) (add_local (local_of w q) s))
+local_more s w q register h object all k l e = by (get_more s.body.locals (local_of w q) k l e)
+  where
+    by : (slice_get s.body.locals k ≡ Some l) ⊎ ((k ≡ length s.body.locals) × (local_of w q ≡ l)) → IsObjectLike s.types.records l.ty × IsObjectType s.types.records (type_of l.ty)
+    by (inl f) = all k l f
+    by (inr f) = subst (λ (x : LocalValue). IsObjectLike s.types.records x.ty × IsObjectType s.types.records (type_of x.ty)) f.1 (h, object)
 
-local_goes : (s : State) (w : Word) (b : Specified) (q : QType) (i : Option Initializer) → IsLawful s → IsObjectLike s.types.records q → Goes s (local_rule w b q i s) Anything
+-- the local gets its type
+local_made : (s u : State) (w : Word) (q ty : QType) → Extends s.types.records u.types.records → IsObjectLike u.types.records ty → IsObjectType u.types.records (type_of ty)
+    → u.body ≡ (add_local (local_of w q) s).body → AreLocals s → (k : ℕ) (l : LocalValue) → slice_get (put_at (next_local s) (local_of w ty) u.body.locals) k ≡ Some l
+    → IsObjectLike u.types.records l.ty × IsObjectType u.types.records (type_of l.ty)
+local_made s u w q ty x h object same all k l e = by (put_either (next_local s) (local_of w ty) u.body.locals k)
+  where
+    later : (l : LocalValue) → (slice_get s.body.locals k ≡ Some l) ⊎ ((k ≡ length s.body.locals) × (local_of w q ≡ l)) → slice_get (put_at (next_local s) (local_of w ty) u.body.locals) k ≡ slice_get u.body.locals k
+        → slice_get u.body.locals k ≡ Some l → IsObjectLike u.types.records l.ty × IsObjectType u.types.records (type_of l.ty)
+    later l (inl f) g z = let y = all k l f in (like_later x y.0, object_later s.types.records u.types.records x (type_of l.ty) y.1)
+    later l (inr f) g z =
+        let now : slice_get (put_at (next_local s) (local_of w ty) u.body.locals) (next_local s) ≡ Some (local_of w ty) =
+        put_same (next_local s) (local_of w ty) u.body.locals (subst (λ n. n < length u.body.locals) f.0 (get_within u.body.locals k l z)) in
+        subst (λ (v : LocalValue). IsObjectLike u.types.records v.ty × IsObjectType u.types.records (type_of v.ty))
+        (some_same (sym now ∙ (ap (slice_get (put_at (next_local s) (local_of w ty) u.body.locals)) (sym f.0) ∙ (g ∙ z)))) (h, object)
+
+    by : ((k ≡ next_local s) × (slice_get (put_at (next_local s) (local_of w ty) u.body.locals) k ≡ Some (local_of w ty))) ⊎ (slice_get (put_at (next_local s) (local_of w ty) u.body.locals) k ≡ slice_get u.body.locals k)
+        → IsObjectLike u.types.records l.ty × IsObjectType u.types.records (type_of l.ty)
+    by (inl f) = subst (λ (v : LocalValue). IsObjectLike u.types.records v.ty × IsObjectType u.types.records (type_of v.ty)) (some_same (sym f.1 ∙ e)) (h, object)
+    by (inr f) =
+        let z : slice_get u.body.locals k ≡ Some l = sym f ∙ e in
+        later l (get_more s.body.locals (local_of w q) k l (subst (λ b. slice_get b.locals k ≡ Some l) same z)) f z
+
+local_lawful : (s : State) (w : Word) (q : QType) (register : Bool) → IsLawful s → IsObjectLike s.types.records q → IsLawful (enter w.text (LocalObject (next_local s) q register) (add_local (local_of w q) s))
+local_lawful s w q register l h = (entered_kept (add_local (local_of w q) s) w.text (LocalObject (next_local s) q register) (around s s.made (add_local (local_of w q) s).body l refl).0 h).0
+
+local_sound : (s : State) (w : Word) (q : QType) (register : Bool) → Sound None s → Sound None (enter w.text (LocalObject (next_local s) q register) (add_local (local_of w q) s))
+local_sound s w q register z =
+    entered_sound (add_local (local_of w q) s) w.text (LocalObject (next_local s) q register) None (record { backed = z.backed; spelled = z.spelled; functions = z.functions; slots = z.slots }) tt tt
+
+local_keeps : (s : State) (x : Entity) → Rattle.pw_well_typed.proofs.Keeping.Keeps s.scopes.entities (s.scopes.entities ++ x ∷ [])
+local_keeps s x = keeps_longer s.scopes.entities (s.scopes.entities ++ x ∷ []) (λ k e f. get_append s.scopes.entities (x ∷ []) k e f)
+
+local_goes : (s : State) (w : Word) (b : Specified) (spot : Spot) (q : QType) (i : Option Initializer) → IsLawful s → IsObjectLike s.types.records q → AreMet (object_point s.types.records spot (is_some i) q) → IsWithin s.types.records (type_of q)
+    → Goes s (local_rule w b q i s) Anything
 unfolding local_rule bind
-local_goes s w b q None l h = let c = local_entering s w q (is_register b.storage) l h in (c.0, c.1, tt)
-local_goes s w b q (Some i) l h =
-    let c : Kept s (enter w.text (LocalObject (next_local s) q (is_register b.storage)) (add_local (local_of w q) s)) = local_entering s w q (is_register b.storage) l h in
-    from_kept _ Anything c
-    (goes_by (local_initialiser (is_by_bytes (type_of q) i.init) w (next_local s) q i.init (enter w.text (LocalObject (next_local s) q (is_register b.storage)) (add_local (local_of w q) s))) _
-    (GoodLocal (enter w.text (LocalObject (next_local s) q (is_register b.storage)) (add_local (local_of w q) s))) Anything
-    (local_initialiser_goes (enter w.text (LocalObject (next_local s) q (is_register b.storage)) (add_local (local_of w q) s)) (is_by_bytes (type_of q) i.init) w (next_local s) q i.init c.0 h) (λ u n y g.
-    let same : place_here (enter w.text (LocalObject (next_local s) q (is_register b.storage)) (add_local (local_of w q) s)) w.text ≡ length s.scopes.entities = place_of_new (add_local (local_of w q) s) w.text (LocalObject (next_local s) q (is_register b.storage)) in
+local_goes s w b spot q None l h met fits =
+    let whole : IsObjectType s.types.records (type_of q) = object_is s.types.records (type_of q) (is_complete_so s.types.records (type_of q) (completed_so s.types.records spot CompleteObject (type_of q) met.0)) fits in (
+      local_lawful s w q (is_register b.storage) l h,
+      after_by (knows_linked s (enter w.text (LocalObject (next_local s) q (is_register b.storage)) (add_local (local_of w q) s)) (extends_same s.types.records) refl refl (filling_same s.made.hidden))
+          (λ z. local_keeps s (LocalObject (next_local s) q (is_register b.storage))) (λ z. local_sound s w q (is_register b.storage) z) (λ z. local_more s w q (is_register b.storage) h whole z),
+      tt,
+    )
+local_goes s w b spot q (Some i) l h met fits =
+    let m : IsLawful (enter w.text (LocalObject (next_local s) q (is_register b.storage)) (add_local (local_of w q) s)) = local_lawful s w q (is_register b.storage) l h in
+    post_bind (local_initialiser (is_by_bytes (type_of q) i.init) w (next_local s) q i.init (enter w.text (LocalObject (next_local s) q (is_register b.storage)) (add_local (local_of w q) s))) _
+    (λ u. IsLawful u.1 × After (enter w.text (LocalObject (next_local s) q (is_register b.storage)) (add_local (local_of w q) s)) u.1 × GoodLocal (enter w.text (LocalObject (next_local s) q (is_register b.storage)) (add_local (local_of w q) s)) u.1 u.0)
+    (λ r. IsLawful r.1 × After s r.1 × Unit {0})
+    (local_initialiser_goes (enter w.text (LocalObject (next_local s) q (is_register b.storage)) (add_local (local_of w q) s)) (is_by_bytes (type_of q) i.init) w (next_local s) q i.init m h (opened_so s.types.records spot q met) fits refl) (λ u g.
     let there : slice_get u.1.scopes.entities (place_here (enter w.text (LocalObject (next_local s) q (is_register b.storage)) (add_local (local_of w q) s)) w.text) ≡ Some (LocalObject (next_local s) q (is_register b.storage)) =
-    ap (slice_get u.1.scopes.entities) same ∙ g.1 (length s.scopes.entities) (LocalObject (next_local s) q (is_register b.storage)) (get_last s.scopes.entities (LocalObject (next_local s) q (is_register b.storage))) in
-    let d : Kept u.1 (put_local (next_local s) (local_of w u.0.0) u.1) = body_kept u.1 (put_local (next_local s) (local_of w u.0.0) u.1).body n in
-    let e : Kept (put_local (next_local s) (local_of w u.0.0) u.1) _ =
-    entity_becomes (put_local (next_local s) (local_of w u.0.0) u.1) (place_here (enter w.text (LocalObject (next_local s) q (is_register b.storage)) (add_local (local_of w q) s)) w.text)
-    (LocalObject (next_local s) u.0.0 (is_register b.storage)) (LocalObject (next_local s) q (is_register b.storage)) d.0 g.0 there tt tt in
-    (e.0, after_trans d.1 e.1, tt)))
+    ap (slice_get u.1.scopes.entities) (place_of_new (add_local (local_of w q) s) w.text (LocalObject (next_local s) q (is_register b.storage)))
+    ∙ g.2.2 (length s.scopes.entities) (LocalObject (next_local s) q (is_register b.storage)) (get_last s.scopes.entities (LocalObject (next_local s) q (is_register b.storage))) in
+    let e = entity_put (put_local (next_local s) (local_of w u.0.0) u.1) (place_here (enter w.text (LocalObject (next_local s) q (is_register b.storage)) (add_local (local_of w q) s)) w.text)
+    (LocalObject (next_local s) u.0.0 (is_register b.storage)) (around u.1 u.1.made (put_local (next_local s) (local_of w u.0.0) u.1).body g.0 refl).0 g.2.0 in (
+      e.0,
+      after_by (record { extends = g.1.extends; names = g.1.names; functions = g.1.functions; hidden = g.1.hidden })
+          (λ z. keeps_trans s.scopes.entities u.1.scopes.entities _
+          (keeps_trans s.scopes.entities (s.scopes.entities ++ LocalObject (next_local s) q (is_register b.storage) ∷ []) u.1.scopes.entities (local_keeps s (LocalObject (next_local s) q (is_register b.storage)))
+          (g.1.entities (local_sound s w q (is_register b.storage) z)))
+          (keeps_put (place_here (enter w.text (LocalObject (next_local s) q (is_register b.storage)) (add_local (local_of w q) s)) w.text) (LocalObject (next_local s) u.0.0 (is_register b.storage)) (LocalObject (next_local s) q (is_register b.storage))
+          u.1.scopes.entities there tt))
+          (λ z.
+          let y = g.1.sound (local_sound s w q (is_register b.storage) z) in
+          put_sound None (put_local (next_local s) (local_of w u.0.0) u.1) (place_here (enter w.text (LocalObject (next_local s) q (is_register b.storage)) (add_local (local_of w q) s)) w.text)
+          (LocalObject (next_local s) u.0.0 (is_register b.storage)) (LocalObject (next_local s) q (is_register b.storage)) there tt tt (record { backed = y.backed; spelled = y.spelled; functions = y.functions; slots = y.slots }))
+          (λ z. local_made s u.1 w q u.0.0 g.1.extends g.2.0 g.2.1 g.2.3 z),
+      tt,
+    ))
 
 -- ---- what is declared
 
@@ -284,24 +406,24 @@ sort_fits outside b q = by (is_typedef b.storage) (is_function (type_of q)) refl
     by false false h false false true = no_function (type_of q) h
     by false false h false false false = no_function (type_of q) h
 
-declare_goes : (s : State) (sort : Sort) (w : Word) (b : Specified) (spot : Spot) (q : QType) (i : Option Initializer) (initialised : Bool) → IsLawful s → IsLawfulType s.types.records (type_of q) → Fits sort q
-    → AreMet (sort_point s sort spot w initialised b q) → Goes s (declare_rule sort w b spot q i s) Anything
+declare_goes : (s : State) (sort : Sort) (w : Word) (b : Specified) (spot : Spot) (q : QType) (i : Option Initializer) → IsLawful s → IsLawfulType s.types.records (type_of q) → Fits sort q
+    → AreMet (sort_point s sort spot w (is_some i) b q) → IsWithin s.types.records (type_of q) → Goes s (declare_rule sort w b spot q i s) Anything
 unfolding declare_rule bind
-declare_goes s ATypedef w b spot q i initialised l h f met = let a : Kept s (enter w.text (TypeName q) s) = plain_entered s w.text (TypeName q) l h tt in (a.0, a.1, tt)
-declare_goes s AFunction w b spot q i initialised l h f met =
+declare_goes s ATypedef w b spot q i l h f met fits = let a : Kept s (enter w.text (TypeName q) s) = plain_entered s w.text (TypeName q) l h tt in (a.0, a.1, tt)
+declare_goes s AFunction w b spot q i l h f met fits =
     goes_by (declare_linked w.text w.token b.tag (asking_of AFunction b) q s) _ (GoodPlace w.text q (place_for s w.text)) Anything
-    (declared_goes None s w.text w.token b.tag (asking_of AFunction b) q l h (linkable s w.text w.token (is_internal_by s w.text (asking_of AFunction b)) q (function_point s b w.token initialised) met)
+    (declared_goes None s w.text w.token b.tag (asking_of AFunction b) q l h (linkable s w.text w.token (is_internal_by s w.text (asking_of AFunction b)) q (function_point s b w.token (is_some i)) met)
     (λ z none e g. no (sym g ∙ f))) (λ r m x k. (m, after_same r.1, tt))
-declare_goes s AGlobal w b spot q i initialised l h f met =
+declare_goes s AGlobal w b spot q i l h f met fits =
     global_goes s w b spot q i l (record { lawful = h; object = f })
-    (linkable s w.text w.token (is_internal_by s w.text (asking_of AGlobal b)) q (definition_point s w initialised ++ global_point (records_in s) spot initialised b q) met)
-declare_goes s AnExtern w b spot q i initialised l h f met =
+    (linkable s w.text w.token (is_internal_by s w.text (asking_of AGlobal b)) q (definition_point s w (is_some i) ++ global_point (records_in s) spot (is_some i) b q) met)
+declare_goes s AnExtern w b spot q i l h f met fits =
     goes_by (declare_linked w.text w.token b.tag AsBefore q s) _ (GoodPlace w.text q (place_for s w.text)) Anything
     (declared_goes None s w.text w.token b.tag AsBefore q l h
-    (linkable s w.text w.token (is_internal_by s w.text AsBefore) q (needs InitialisedHere w.token (not initialised) ∷ needs CompleteObject w.token (not (is_void (type_of q))) ∷ []) met)
+    (linkable s w.text w.token (is_internal_by s w.text AsBefore) q (needs InitialisedHere w.token (not (is_some i)) ∷ needs CompleteObject w.token (not (is_void (type_of q))) ∷ []) met)
     (λ z none e g. absurd (visible_before s w.text z none e))) (λ r m x k. (m, after_same r.1, tt))
-declare_goes s AStatic w b spot q i initialised l h f met = static_goes s w q i l (record { lawful = h; object = f })
-declare_goes s ALocal w b spot q i initialised l h f met = local_goes s w b q i l (record { lawful = h; object = f })
+declare_goes s AStatic w b spot q i l h f met fits = static_goes s w q i l (record { lawful = h; object = f })
+declare_goes s ALocal w b spot q i l h f met fits = local_goes s w b spot q i l (record { lawful = h; object = f }) met.1 fits
 
 -- ---- declarations
 
@@ -312,10 +434,10 @@ init_declarator_goes s b d l h =
     goes_by _ _ GoodType Anything
     (of_runs _ _ GoodType (built_runs r.1 (spot_of r.0.name b.first b.tag) r.0.derivations b.ty m k.0 (lawful_later s.types.records r.1.types.records x.extends (type_of b.ty) h))) (λ u n y j.
     asked u.1 (sort_of (is_file_scope u.1) b u.0) _ Anything
-    (goes_by _ _ (λ t a. AreMet (sort_point t (sort_of (is_file_scope u.1) b u.0) (spot_of r.0.name b.first b.tag) (name_of r.0) (is_some d.initializer) b u.0)) Anything
+    (goes_by _ _ (λ t a. AreMet (sort_point t (sort_of (is_file_scope u.1) b u.0) (spot_of r.0.name b.first b.tag) (name_of r.0) (is_some d.initializer) b u.0) × AreMet (type_within t.types.records (name_of r.0).token u.0)) Anything
     (name_goes u.1 (sort_of (is_file_scope u.1) b u.0) (spot_of r.0.name b.first b.tag) (name_of r.0) (is_some d.initializer) b u.0 n) (λ v i z e.
-    declare_goes v.1 (sort_of (is_file_scope u.1) b u.0) (name_of r.0) b (spot_of r.0.name b.first b.tag) u.0 d.initializer (is_some d.initializer) i
-    (lawful_later u.1.types.records v.1.types.records z.extends (type_of u.0) j) (sort_fits (is_file_scope u.1) b u.0) e))))
+    declare_goes v.1 (sort_of (is_file_scope u.1) b u.0) (name_of r.0) b (spot_of r.0.name b.first b.tag) u.0 d.initializer i
+    (lawful_later u.1.types.records v.1.types.records z.extends (type_of u.0) j) (sort_fits (is_file_scope u.1) b u.0) e.0 (within_fits v.1.types.records (name_of r.0).token u.0 e.1)))))
 
 pub init_declarators_goes : (ds : List InitDeclarator) (s : State) (b : Specified) → IsLawful s → GoodSpecified s b → Goes s (init_declarators_rule b ds s) Anything
 unfolding init_declarators_rule

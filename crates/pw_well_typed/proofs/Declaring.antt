@@ -9,37 +9,38 @@ use Rattle.std.proofs.Common.{ap, sym, subst, ◌∙◌, inl, inr}
 use Rattle.std.proofs.lemmas.Slice.Eq.{bytes_eq-Decides}
 use Rattle.pw_scope.specs.Visible.{visible}
 use Rattle.pw_types.specs.TypeTrees.{QType, type_of}
-use Rattle.pw_types.specs.TypedTrees.{PlacedItem, FunctionValue, Symbol, External, Internal}
+use Rattle.pw_types.specs.TypedTrees.{PlacedItem, FunctionValue, External, Internal}
 use Rattle.pw_walk.specs.Causes.{Point}
 use Rattle.pw_rules.specs.Compatible.{compatible, composite}
 use Rattle.pw_rules.specs.Kinds.{is_function}
-use Rattle.pw_rules.specs.Linkage.{Asking, AsInternal, AsBefore, AsExternal, is_internal_by, visible_linkage, internal_of_entity, is_linked, linkage_point, linked_before, linked_anew, linked_again, place_for, note_linked, note_here, type_here, change_linked, slot_for, has_slot, define_tentatively, define_object, initialise_linked, symbol_of_linked, declare_linked, define_function}
-use Rattle.pw_rules.specs.States.{State, BodyState, LinkedName, Entity, TypeName, EnumerationConstant, LocalObject, StaticObject, Linked, HiddenObject, entity_here, entry_here, entity_at, entity_of, entry_of, linked_at, if_here, put_linked, add_linked, put_entity, add_hidden, put_hidden, add_slot, enter, put_at, one_deeper, leave_scope, ScopeState}
+use Rattle.pw_rules.specs.Linkage.{Asking, AsBefore, is_internal_by, internal_of_entity, is_linked, linkage_point, linked_before, linked_anew, linked_again, place_for, note_linked, note_here, type_here, change_linked, slot_for, has_slot, define_tentatively, define_object, initialise_linked, symbol_of_linked, declare_linked, define_function}
+use Rattle.pw_rules.specs.States.{State, BodyState, LinkedName, Entity, TypeName, EnumerationConstant, LocalObject, StaticObject, Linked, HiddenObject, entity_here, entry_here, entity_at, entry_of, linked_at, if_here, put_linked, add_linked, put_entity, add_hidden, put_hidden, add_slot, enter, put_at, ScopeState}
 use Rattle.pw_rules.specs.declared.names.Entry.{Entry}
 use Rattle.pw_rules.specs.declared.names.Slot.{Slot}
 use Rattle.pw_rules.specs.declared.names.Slot.TheVariants as slot
-use Rattle.pw_well_typed.specs.Lawful.{IsLawful, IsLawfulType, IsLawfulEntity, Extends}
-use Rattle.pw_well_typed.proofs.Walking.{AreMet, truth, met_left, Post}
+use Rattle.pw_well_typed.specs.Lawful.{IsLawful, IsLawfulType, IsLawfulEntity}
+use Rattle.pw_well_typed.proofs.Walking.{AreMet, truth, Post}
 use Rattle.pw_well_typed.proofs.Lists.{some_same, never_some, get_append, get_more, get_last, get_within, put_either, put_cases, put_same, visible_more, length_put}
-use Rattle.pw_well_typed.proofs.Types.{no, extends_same, lawful_later}
-use Rattle.pw_well_typed.proofs.Composite.{Covers, covers_same, covers_trans, covers_first, covers_second, covers_composites, compatible_function, kind_composite}
+use Rattle.pw_well_typed.proofs.Types.{no, lawful_later}
+use Rattle.pw_well_typed.proofs.Composite.{Covers, covers_same, covers_trans, covers_first, covers_second, covers_composites}
 use Rattle.pw_well_typed.proofs.Sound.{Sound, Continues, continues_same, Onward, Filling, filling_same, Backed, AreBacked, Spelled, AreSpelled, IsFunctionNamed, AreFunctionsNamed, all_backed_on, all_spelled_on, backed_more, spelled_more, plain_backed, plain_spelled, IsPlain, is_stored, Marked, Relinked, slots_relinked, slots_stored, slots_refilled, named_same, HasSlot}
-use Rattle.pw_well_typed.proofs.Changes.{entered, entered_sound, hidden_sound}
+use Rattle.pw_well_typed.proofs.Changes.{entered_sound, hidden_sound}
 use Rattle.pw_well_typed.proofs.Keeping.{Knows, AfterBy, After, KeptBy, Kept, Changed, after_by, Becomes, becomes_same, Keeps, keeps_same, keeps_longer, around_filling, knows_linked, knows_trans, linked_put, linked_added, entity_put, entered_kept, noted, noted_here, none_named, place_is, place_new, named_before, here_is, GoesBy, here_linked, tentative_kept, defined_kept, function_kept, initialised_kept, composite_lawful, keeps_trans, knows_so, after_same}
 
 -- ---- the function that is read, and objects without names
 
-pub body_kept : {p : Option Slot} (s : State) (body : BodyState) → IsLawful s → KeptBy p p s (record { types = s.types; scopes = s.scopes; made = s.made; body = body })
-body_kept {p} s body l =
+pub body_kept : {p : Option Slot} (s : State) (body : BodyState) → IsLawful s → body.locals ≡ s.body.locals → KeptBy p p s (record { types = s.types; scopes = s.scopes; made = s.made; body = body })
+body_kept {p} s body l same =
     let c = around_filling s s.made body l refl (filling_same s.made.hidden) in (
       c.0,
-      after_by c.1 (λ h. keeps_same s.scopes.entities) (λ h. record { backed = h.backed; spelled = h.spelled; functions = h.functions; slots = h.slots }),
+      after_by c.1 (λ h. keeps_same s.scopes.entities) (λ h. record { backed = h.backed; spelled = h.spelled; functions = h.functions; slots = h.slots })
+          (λ h k x e. h k x (subst (λ xs. slice_get xs k ≡ Some x) same e)),
     )
 
 pub hidden_kept : {p : Option Slot} (s : State) (x : HiddenObject) → IsLawful s → KeptBy p p s (add_hidden x s)
 hidden_kept {p} s x l =
     let c = around_filling s (add_hidden x s).made s.body l refl (λ k y e. (y, get_append s.made.hidden (x ∷ []) k y e, covers_same y.ty)) in
-    (c.0, after_by c.1 (λ h. keeps_same s.scopes.entities) (λ h. hidden_sound s x p h))
+    (c.0, after_by c.1 (λ h. keeps_same s.scopes.entities) (λ h. hidden_sound s x p h) (λ h. h))
 
 filling_put : (place : ℕ) (x y : HiddenObject) (xs : List HiddenObject) → slice_get xs place ≡ Some y → Covers x.ty y.ty → Filling xs (put_at place x xs)
 filling_put place x y xs at covers k z e = by (put_either place x xs k)
@@ -64,12 +65,12 @@ hidden_put {p} s place x y l at covers =
     let fill : Filling s.made.hidden (put_at place x s.made.hidden) = filling_put place x y s.made.hidden at covers in
     let c = around_filling s (put_hidden place x s).made s.body l refl fill in (
       c.0,
-      after_by c.1 (λ h. keeps_same s.scopes.entities) (λ h. refilled_sound p s place x y at covers h),
+      after_by c.1 (λ h. keeps_same s.scopes.entities) (λ h. refilled_sound p s place x y at covers h) (λ h. h),
     )
 
 -- ---- entities
 
-keeps_put : (place : ℕ) (x old : Entity) (xs : List Entity) → slice_get xs place ≡ Some old → Becomes old x → Keeps xs (put_at place x xs)
+pub keeps_put : (place : ℕ) (x old : Entity) (xs : List Entity) → slice_get xs place ≡ Some old → Becomes old x → Keeps xs (put_at place x xs)
 keeps_put place x old xs at becomes k e h = by (put_either place x xs k)
   where
     by : ((k ≡ place) × (slice_get (put_at place x xs) k ≡ Some x)) ⊎ (slice_get (put_at place x xs) k ≡ slice_get xs k)
@@ -111,14 +112,14 @@ pub entity_becomes : {p : Option Slot} (s : State) (place : ℕ) (x old : Entity
     → Backed s.types.linked s.made.hidden x → KeptBy p p s (put_entity place x s)
 entity_becomes {p} s place x old l lawful at becomes b =
     let c = entity_put s place x l lawful in
-    (c.0, after_by c.1 (λ h. keeps_put place x old s.scopes.entities at becomes) (λ h. put_sound p s place x old at becomes b h))
+    (c.0, after_by c.1 (λ h. keeps_put place x old s.scopes.entities at becomes) (λ h. put_sound p s place x old at becomes b h) (λ h. h))
 
 pub plain_entered : {p : Option Slot} (s : State) (name : List ℕ) (x : Entity) → IsLawful s → IsLawfulEntity s.types.records x → IsPlain x → KeptBy p p s (enter name x s)
 plain_entered {p} s name x l lawful plain =
     let c = entered_kept s name x l lawful in (
       c.0,
       after_by c.1 (λ h. keeps_longer s.scopes.entities (s.scopes.entities ++ x ∷ []) (λ k e f. get_append s.scopes.entities (x ∷ []) k e f))
-          (λ h. entered_sound s name x p h (plain_backed s.types.linked s.made.hidden x plain) (plain_spelled s.types.linked name x plain)),
+          (λ h. entered_sound s name x p h (plain_backed s.types.linked s.made.hidden x plain) (plain_spelled s.types.linked name x plain)) (λ h. h),
     )
 
 pub static_entered : {p : Option Slot} (s : State) (name : List ℕ) (k : ℕ) (q : QType) (o : HiddenObject) → IsLawful s → IsLawfulEntity s.types.records (StaticObject k q)
@@ -127,7 +128,7 @@ static_entered {p} s name k q o l lawful at covers =
     let c = entered_kept s name (StaticObject k q) l lawful in (
       c.0,
       after_by c.1 (λ h. keeps_longer s.scopes.entities (s.scopes.entities ++ StaticObject k q ∷ []) (λ i e f. get_append s.scopes.entities (StaticObject k q ∷ []) i e f))
-          (λ h. entered_sound s name (StaticObject k q) p h (o, at, covers) tt),
+          (λ h. entered_sound s name (StaticObject k q) p h (o, at, covers) tt) (λ h. h),
     )
 
 -- ---- a name in the scope
@@ -264,7 +265,7 @@ again_after o p q from s name place ty l x a lawful known at named on composed m
         (λ h. keeps_trans from.scopes.entities s.scopes.entities (s.scopes.entities ++ Linked place ty ∷ []) (a.entities h)
         (keeps_longer s.scopes.entities (s.scopes.entities ++ Linked place ty ∷ []) (λ k y f. get_append s.scopes.entities (Linked place ty ∷ []) k y f)))
         (λ h. entered_sound (put_linked place x s) name (Linked place ty) q (t1 (a.sound h))
-        (x, now, subst (λ t. Covers t ty) (sym composed) (covers_second s.types.records l.ty ty alike first known)) (x, now, on.name ∙ named)))
+        (x, now, subst (λ t. Covers t ty) (sym composed) (covers_second s.types.records l.ty ty alike first known)) (x, now, on.name ∙ named)) a.locals)
     by_entry (Some e) f =
         subst (λ w. AfterBy o q from (option_map_or (λ (e : Entry). put_entity e.place (Linked place (type_here ty (unwrap_or (entity_here s name) (TypeName ty)))) (put_linked place x s)) w (enter name (Linked place ty) (put_linked place x s))))
         (sym f)
@@ -273,7 +274,7 @@ again_after o p q from s name place ty l x a lawful known at named on composed m
         (λ h. let y = new h in
         keeps_trans from.scopes.entities s.scopes.entities (put_at e.place (Linked place (type_here ty (unwrap_or (entity_here s name) (TypeName ty)))) s.scopes.entities) (a.entities h)
         (keeps_put e.place (Linked place (type_here ty (unwrap_or (entity_here s name) (TypeName ty)))) y.0 s.scopes.entities y.1 y.2))
-        (λ h. let y = new h in put_sound q (put_linked place x s) e.place (Linked place (type_here ty (unwrap_or (entity_here s name) (TypeName ty)))) y.0 y.1 y.2 y.3 (t1 (a.sound h))))
+        (λ h. let y = new h in put_sound q (put_linked place x s) e.place (Linked place (type_here ty (unwrap_or (entity_here s name) (TypeName ty)))) y.0 y.1 y.2 y.3 (t1 (a.sound h))) a.locals)
       where
         by_entity : Sound p s → (y : Entity) → slice_get s.scopes.entities e.place ≡ Some y → Spelled s.types.linked name y → is_linked y ≡ true → New xs s.made.hidden s.scopes.entities e.place (Linked place (type_here ty y))
         by_entity h (TypeName r) there spelled z = no z
@@ -339,8 +340,13 @@ new_after q s name place ty x lawful known none last named typed bare new linked
         (after_by
         (subst (λ o. Knows s (option_map_or (λ (e : Entry). put_entity e.place (Linked place (type_here ty (unwrap_or (entity_here s name) (TypeName ty)))) (add_linked x s)) o (enter name (Linked place ty) (add_linked x s)))) e known_later)
         (λ h. keeps_longer s.scopes.entities (s.scopes.entities ++ Linked place ty ∷ []) (λ k y f. get_append s.scopes.entities (Linked place ty ∷ []) k y f))
-        (λ h. entered_sound (add_linked x s) name (Linked place ty) q (t1 h) (x, now, subst (λ t. Covers t ty) (sym typed) (covers_same ty)) (x, now, named)))
-    by_entry (Some e) f = after_by known_later (λ h. absurd (never h)) (λ h. absurd (never h))
+        (λ h. entered_sound (add_linked x s) name (Linked place ty) q (t1 h) (x, now, subst (λ t. Covers t ty) (sym typed) (covers_same ty)) (x, now, named)) (λ h. h))
+    by_entry (Some e) f =
+        subst (λ o. AfterBy None q s (option_map_or (λ (e : Entry). put_entity e.place (Linked place (type_here ty (unwrap_or (entity_here s name) (TypeName ty)))) (add_linked x s)) o (enter name (Linked place ty) (add_linked x s))))
+        (sym f)
+        (after_by
+        (subst (λ o. Knows s (option_map_or (λ (e : Entry). put_entity e.place (Linked place (type_here ty (unwrap_or (entity_here s name) (TypeName ty)))) (add_linked x s)) o (enter name (Linked place ty) (add_linked x s)))) f known_later)
+        (λ h. absurd (never h)) (λ h. absurd (never h)) (λ h. h))
       where
         by_entity : (y : Entity) → Spelled s.types.linked name y → is_linked y ≡ true → ⊥
         by_entity (TypeName r) spelled z = no z
@@ -530,7 +536,7 @@ stored_after p q s place l f lawful at on typed internal stored object embed = b
         let marked : Marked l (f l) = (λ z. stored ∙ sym before, internal, kind) in
         subst (λ o. AfterBy p q s (option_map_or (λ y. put_linked place (f y) s) o s)) (sym at)
         (after_by c.1 (λ h. keeps_same s.scopes.entities)
-        (λ h. sound_on p q s xs c.1.names (λ n g. either n (embed n g)) (marked_put place l (f l) s.types.linked at marked) (relinked_put q place l (f l) s.types.linked at marked) h))
+        (λ h. sound_on p q s xs c.1.names (λ n g. either n (embed n g)) (marked_put place l (f l) s.types.linked at marked) (relinked_put q place l (f l) s.types.linked at marked) h) (λ h. h))
     by false e =
         let before : is_stored l ≡ false = sym (ap (λ o. option_map_or (λ (y : LinkedName). y.tentative || y.defined) o false) at) ∙ e in
         subst (λ o. AfterBy p q s (option_map_or (λ y. put_linked place (f y) (add_slot (slot.Named place) s)) o (add_slot (slot.Named place) s))) (sym at)
@@ -540,7 +546,7 @@ stored_after p q s place l f lawful at on typed internal stored object embed = b
           spelled = all_spelled_on s.types.linked xs s.scopes.entities s.scopes.ordinary c.1.names h.spelled;
           functions = functions_on s.types.linked xs s.made.functions c.1.names h.functions;
           slots = slots_stored p q place l (f l) s.types.linked s.made.hidden s.made.slots embed at before stored object (kind ∙ object) h.slots;
-        }))
+        }) (λ h. h))
 
 pub tentative_after : (p q : Option Slot) (s : State) (place : ℕ) (l : LinkedName) → IsLawful s → slice_get s.types.linked place ≡ Some l → is_function (type_of l.ty) ≡ false
     → ((n : ℕ) → p ≡ Some (slot.Named n) → (n ≡ place) ⊎ (q ≡ Some (slot.Named n))) → KeptBy p q s (define_tentatively place s)
@@ -567,7 +573,7 @@ function_after s place l lawful at kind = (
       let marked : Marked l (record l { defined = true }) = (λ z. no (sym z ∙ kind), refl, refl) in
       after_by c.1 (λ h. keeps_same s.scopes.entities)
       (λ h. sound_on None None s (put_at place (record l { defined = true }) s.types.linked) c.1.names (λ n g. never_some g)
-      (marked_put place l (record l { defined = true }) s.types.linked at marked) (relinked_put None place l (record l { defined = true }) s.types.linked at marked) h)),
+      (marked_put place l (record l { defined = true }) s.types.linked at marked) (relinked_put None place l (record l { defined = true }) s.types.linked at marked) h) (λ h. h)),
 )
 
 -- the same entity stands there where more is entered

@@ -7,7 +7,7 @@ use Rattle.std.proofs.lemmas.Option.{slice_get-get_or}
 use Rattle.pw_tree.specs.Trees.{Word, Function, External, Definition, Declaration, Module, Block}
 use Rattle.pw_tree.specs.Trees as S
 use Rattle.pw_types.specs.TypeTrees.{QType, type_of}
-use Rattle.pw_types.specs.TypedTrees.{FunctionValue, ModuleValue}
+use Rattle.pw_types.specs.TypedTrees.{Statement, FunctionValue, ModuleValue}
 use Rattle.pw_types.specs.TypedModules.{AreLabels, IsBlock, IsFunctionTyped}
 use Rattle.pw_walk.specs.Causes.{Point}
 use Rattle.pw_walk.specs.Walks.{Walk, Done, Passing, bind}
@@ -34,7 +34,7 @@ use Rattle.pw_well_typed.proofs.Declarations.{decl_goes}
 use Rattle.pw_well_typed.proofs.Statements.{block_goes}
 use Rattle.pw_well_typed.proofs.Modules.{body_lawful, good_if_any}
 use Rattle.pw_well_typed.proofs.Adding.{specified_all}
-use Rattle.pw_well_typed.proofs.LabelLaws.{IsLabelled, block_labelled, asked_post, function_labels}
+use Rattle.pw_well_typed.proofs.LabelLaws.{Steady, IsLabelled, block_labelled, asked_post, function_labels}
 use Rattle.pw_well_typed.proofs.FunctionTypes.{last_of, IsBoundDeclared, IsBuiltBy, after_any, declarator_bound, built_by, function_typed}
 
 -- ---- bodies
@@ -64,15 +64,15 @@ one_shaped fs f all h i g e = by (get_more fs f i g e)
     by (inr k) = subst IsShaped k.1 h
 
 -- what the declarator of a definition has said: a function of the type, with these names in scope
-record Declares (s : State) (q : QType) (d : Declared) : Type 0 where
-  ends : ends_in_function d.derivations ≡ true
-  bound : IsBoundDeclared d
-  made : IsBuiltBy (last_of d.derivations) q
-  lawful : IsLawfulType s.types.records (type_of q)
-  entities : List Entity
-  bindings : GoodBindings s.types.records entities (bindings_of d)
+pub record Declares (s : State) (q : QType) (d : Declared) : Type 0 where
+  pub ends : ends_in_function d.derivations ≡ true
+  pub bound : IsBoundDeclared d
+  pub made : IsBuiltBy (last_of d.derivations) q
+  pub lawful : IsLawfulType s.types.records (type_of q)
+  pub entities : List Entity
+  pub bindings : GoodBindings s.types.records entities (bindings_of d)
 
-length_map : {X Y : Type 0} (g : X → Y) (xs : List X) → length (map g xs) ≡ length xs
+pub length_map : {X Y : Type 0} (g : X → Y) (xs : List X) → length (map g xs) ≡ length xs
 length_map g [] = refl
 length_map g (z ∷ xs) = ap suc (length_map g xs)
 
@@ -80,8 +80,14 @@ same_bindings : (o : Option Bindings) → unwrap_or o (unwrap_or o no_bindings) 
 same_bindings None = refl
 same_bindings (Some b) = refl
 
-abbrev Shapes : {A : Type 0} → State → A × State → Type 0
+abbrev pub Shapes : {A : Type 0} → State → A × State → Type 0
 Shapes s r = IsLawful r.1 × (AreShaped s.made.functions → AreShaped r.1.made.functions)
+
+-- it has the type that its declarator made, and its parameters are its first locals
+pub typed_function : (s t : State) (w : Word) (place : ℕ) (q : QType) (d : Declared) (block : Block) (x : Statement) → Declares s q d
+    → Steady (enter_body q (bindings_of d) (R.labels_in_block block) s).body t.body → (m : ModuleValue) → IsFunctionTyped m (function_of t w place q (bindings_of d) x)
+typed_function s t w place q d block x h steady m =
+    function_typed m (function_of t w place q (bindings_of d) x) s.types.records (bindings_of d) d.derivations d.bindings h.ends h.bound h.made (same_bindings d.bindings) h.lawful h.bindings.scalars refl steady.locals
 
 body_shaped : (s : State) (w : Word) (place : ℕ) (q : QType) (d : Declared) (block : Block) → IsLawful s → Declares s q d → Post (body_rule w place q (bindings_of d) block s) (Shapes s)
 unfolding body_rule measured_rule bind
@@ -101,25 +107,24 @@ body_shaped s w place q d block l h =
       λ all. one_shaped r.1.made.functions (function_of r.1 w place q (bindings_of d) r.0) (subst AreShaped (sym g.0.1.functions) all) (record {
         labels = function_labels (function_of r.1 w place q (bindings_of d) r.0) (R.labels_in_block block) (enter_body q (bindings_of d) (R.labels_in_block block) s).body r.1.body refl refl refl refl g.1.0.1 g.1.0.2 refl refl;
         block = subst (λ n. IsBlock n r.0) (length_map parameter_local (bindings_of d).parameters) g.1.1;
-        typed = λ m.
-            function_typed m (function_of r.1 w place q (bindings_of d) r.0) s.types.records (bindings_of d) d.derivations d.bindings h.ends h.bound h.made (same_bindings d.bindings) h.lawful h.bindings.scalars refl g.1.0.1.locals;
+        typed = λ m. typed_function s r.1 w place q d block r.0 h g.1.0.1 m;
       }),
     ))
 
 -- ---- definitions
 
 -- the definition's own point
-ends_here : (s : State) (w : Word) (b : Rattle.pw_rules.specs.SpecifierLists.Specified) (d : Declared) (ds : List S.Decl) (q : QType) → AreMet (definition_rules s w b d ds q) → ends_in_function d.derivations ≡ true
+pub ends_here : (s : State) (w : Word) (b : Rattle.pw_rules.specs.SpecifierLists.Specified) (d : Declared) (ds : List S.Decl) (q : QType) → AreMet (definition_rules s w b d ds q) → ends_in_function d.derivations ≡ true
 ends_here s w b d ds q met = truth (ends_in_function d.derivations) met.1.1.1.1.0
 
 shapes_later : (s t : State) (w : Walk (Unit {0} × State)) → t.made.functions ≡ s.made.functions → Post w (Shapes t) → Post w (Shapes s)
 shapes_later s t w same h = post_weaken w (Shapes t) (Shapes s) h (λ r g. (g.0, λ all. g.1 (subst AreShaped (sym same) all)))
 
-met_post : {B : Type 0} (t : State) (p : Point) (next : Unit {0} × State → Walk (B × State)) (P : B × State → Type 0) → (AreMet p → Post (next (tt, t)) P) → Post (bind (Passing p (Done (tt, t))) next) P
+pub met_post : {B : Type 0} (t : State) (p : Point) (next : Unit {0} × State → Walk (B × State)) (P : B × State → Type 0) → (AreMet p → Post (next (tt, t)) P) → Post (bind (Passing p (Done (tt, t))) next) P
 unfolding bind
 met_post t p next P h = h
 
-function_shaped : (s : State) (f : Function) → IsLawful s → Post (function_rule f s) (Shapes s)
+pub function_shaped : (s : State) (f : Function) → IsLawful s → Post (function_rule f s) (Shapes s)
 unfolding function_rule
 function_shaped s f l =
     post_bind _ _ (λ r. IsLawful r.1 × Grows s r.1 × GoodSpecified r.1 r.0) (Shapes s) (specified_all s f.specifiers (first_of_declaration f.specifiers f.declarator) l) (λ r g.
@@ -164,7 +169,7 @@ externals_shaped (x ∷ rest) s l =
     post_bind _ _ (Shapes s) (Shapes s) (external_shaped s x l)
     (λ r h. post_weaken (externals_rule rest r.1) (Shapes r.1) (Shapes s) (externals_shaped rest r.1 h.0) (λ u k. (k.0, λ all. k.1 (h.1 all))))
 
-end_same : (names : List LinkedName) (s : State) → Post (end_rule names s) (λ r. r.1 ≡ s)
+pub end_same : (names : List LinkedName) (s : State) → Post (end_rule names s) (λ r. r.1 ≡ s)
 unfolding end_rule bind
 end_same [] s = refl
 end_same (x ∷ rest) s = λ met. end_same rest s

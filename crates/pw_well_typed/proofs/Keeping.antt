@@ -1,4 +1,6 @@
 -- Rules of declarations and statements: they leave a lawful state, in which no less is known of records.
+use Rattle.pw_well_typed.proofs.Objects.{object_later}
+use Rattle.pw_types.specs.Records.{IsObjectType}
 use Rattle.pw_rules.specs.declared.names.Slot.{Slot}
 use Rattle.pw_well_typed.proofs.Composite.{Covers, covers_same, covers_trans, covers_first}
 use Rattle.pw_well_typed.proofs.Sound.{Sound, Continues, continues_same, continues_trans, Filling, filling_same, IsPlain}
@@ -8,20 +10,20 @@ use Rattle.std.proofs.lemmas.Slice.Eq.{bytes_eq-Decides}
 use Rattle.std.specs.Str.{bytes_eq}
 use Rattle.std.proofs.Common.{sym, subst, ◌∙◌, inl, inr, ap, length}
 use Rattle.pw_types.specs.TypeTrees.{QType, Qualified, type_of, RecordValue}
-use Rattle.pw_types.specs.TypedTrees.{PlacedItem}
+use Rattle.pw_types.specs.TypedTrees.{PlacedItem, LocalValue}
 use Rattle.pw_walk.specs.Causes.{Constraint, Point}
 use Rattle.pw_walk.specs.Walks.{Walk, Done, Passing, bind, granted}
 use Rattle.pw_rules.specs.Compatible.{composite}
-use Rattle.pw_rules.specs.Linkage.{Asking, declare_linked, note_linked, note_here, type_here, place_for, linked_before, linked_again, linked_anew, is_internal_by, change_linked, slot_for, has_slot, define_tentatively, define_object, define_function, initialise_linked}
-use Rattle.pw_rules.specs.States.{State, LinkedName, place_of_linked, Rule, MadeState, BodyState, Entity, TypeName, EnumerationConstant, LocalObject, StaticObject, Linked, entity_here, entry_here, entity_at, linked_at, put_linked, add_linked, put_entity, add_slot, enter, put_at, scoped, one_deeper, leave_scope, HiddenObject}
+use Rattle.pw_rules.specs.Linkage.{note_linked, note_here, type_here, place_for, linked_before, linked_again, linked_anew, change_linked, slot_for, has_slot, define_tentatively, define_object, define_function, initialise_linked}
+use Rattle.pw_rules.specs.States.{State, LinkedName, place_of_linked, Rule, MadeState, BodyState, Entity, TypeName, EnumerationConstant, LocalObject, StaticObject, Linked, entity_here, entry_here, entity_at, linked_at, put_linked, add_linked, put_entity, add_slot, enter, put_at, scoped, one_deeper, leave_scope}
 use Rattle.pw_rules.specs.declared.names.Entry.{Entry}
 use Rattle.pw_rules.specs.declared.names.Slot.TheVariants as slot
-use Rattle.pw_well_typed.specs.Lawful.{IsLawful, IsLawfulType, IsLawfulEntity, Extends}
+use Rattle.pw_well_typed.specs.Lawful.{IsLawful, IsLawfulType, IsLawfulEntity, Extends, IsObjectLike}
 use Rattle.pw_well_typed.proofs.Walking.{Post, AreMet, post_bind, post_weaken}
 use Rattle.pw_well_typed.proofs.Lists.{some_same, never_some, put_either, put_cases, get_more, found_first, get_append, position_passes, position_none, get_last, get_within, put_same, Longer}
 use Rattle.pw_well_typed.proofs.States.{Runs, Grows}
-use Rattle.pw_well_typed.proofs.Types.{no, extends_trans, extends_same, lawful_composite}
-use Rattle.pw_well_typed.proofs.Changes.{entered, left_lawful_alone, left_sound_alone}
+use Rattle.pw_well_typed.proofs.Types.{extends_trans, extends_same, lawful_composite}
+use Rattle.pw_well_typed.proofs.Changes.{entered, left_lawful_alone, left_sound_alone, like_later}
 
 abbrev pub StaysAt : State → ℕ → LinkedName → Type 0
 StaysAt t place before = (after : LinkedName) × (slice_get t.types.linked place ≡ Some after) × Continues before after
@@ -96,6 +98,10 @@ becomes_trans (Linked n q) f g x y = let z = subst (λ e. Becomes e g) x.1 y in 
 abbrev pub Keeps : List Entity → List Entity → Type 0
 Keeps xs ys = (k : ℕ) (e : Entity) → slice_get xs k ≡ Some e → (f : Entity) × (slice_get ys k ≡ Some f) × Becomes e f
 
+-- the locals of the function that is read have types that objects can have
+abbrev pub AreLocals : State → Type 0
+AreLocals s = (k : ℕ) (l : LocalValue) → slice_get s.body.locals k ≡ Some l → IsObjectLike s.types.records l.ty × IsObjectType s.types.records (type_of l.ty)
+
 -- No less is known; and what the parts of the state say of one another they say still, but for what is pending.
 pub record AfterBy (p q : Option Slot) (s t : State) : Type 0 where
   pub extends : Extends s.types.records t.types.records
@@ -104,12 +110,13 @@ pub record AfterBy (p q : Option Slot) (s t : State) : Type 0 where
   pub hidden : Filling s.made.hidden t.made.hidden
   pub entities : Sound p s → Keeps s.scopes.entities t.scopes.entities
   pub sound : Sound p s → Sound q t
+  pub locals : AreLocals s → AreLocals t
 
 abbrev pub After : State → State → Type 0
 After s t = AfterBy None None s t
 
-pub after_by : {p q : Option Slot} {s t : State} → Knows s t → (Sound p s → Keeps s.scopes.entities t.scopes.entities) → (Sound p s → Sound q t) → AfterBy p q s t
-after_by {p} {q} {s} {t} k e h = record { extends = k.extends; names = k.names; functions = k.functions; hidden = k.hidden; entities = e; sound = h }
+pub after_by : {p q : Option Slot} {s t : State} → Knows s t → (Sound p s → Keeps s.scopes.entities t.scopes.entities) → (Sound p s → Sound q t) → (AreLocals s → AreLocals t) → AfterBy p q s t
+after_by {p} {q} {s} {t} k e h locals = record { extends = k.extends; names = k.names; functions = k.functions; hidden = k.hidden; entities = e; sound = h; locals = locals }
 
 pub knows_so : {p q : Option Slot} {s t : State} → AfterBy p q s t → Knows s t
 knows_so {p} {q} {s} {t} a = record { extends = a.extends; names = a.names; functions = a.functions; hidden = a.hidden }
@@ -162,18 +169,23 @@ later_trans {s} {t} {u} a b = record {
 }
 
 pub after_same : {p : Option Slot} (s : State) → AfterBy p p s s
-after_same s = after_by (knows_same s) (λ h. keeps_same s.scopes.entities) (λ h. h)
+after_same s = after_by (knows_same s) (λ h. keeps_same s.scopes.entities) (λ h. h) (λ h. h)
 
 pub after_trans : {p q r : Option Slot} {s t u : State} → AfterBy p q s t → AfterBy q r t u → AfterBy p r s u
 after_trans {p} {q} {r} {s} {t} {u} a b =
     after_by (knows_trans (knows_so a) (knows_so b))
     (λ h. keeps_trans s.scopes.entities t.scopes.entities u.scopes.entities (a.entities h) (b.entities (a.sound h)))
-    (λ h. b.sound (a.sound h))
+    (λ h. b.sound (a.sound h)) (λ h. b.locals (a.locals h))
+
+grows_locals : {s t : State} → Grows s t → AreLocals s → AreLocals t
+grows_locals {s} {t} g h k l e =
+    let x = h k l (subst (λ b. slice_get b.locals k ≡ Some l) g.body e) in
+    (like_later g.extends x.0, object_later s.types.records t.types.records g.extends (type_of l.ty) x.1)
 
 pub after_grows : {p : Option Slot} {s t : State} → Grows s t → AfterBy p p s t
 after_grows {p} {s} {t} g =
     after_by (knows_linked s t g.extends g.linked g.functions (λ k x e. (x, g.hidden k x e, covers_same x.ty)))
-    (λ h. keeps_longer s.scopes.entities t.scopes.entities g.entities) (λ h. g.sound p h)
+    (λ h. keeps_longer s.scopes.entities t.scopes.entities g.entities) (λ h. g.sound p h) (λ h. grows_locals g h)
 
 abbrev pub KeptBy : Option Slot → Option Slot → State → State → Type 0
 KeptBy p q s t = IsLawful t × AfterBy p q s t
@@ -476,7 +488,7 @@ pub scope_after : (s t : State) → After (one_deeper s) t → After s (leave_sc
 scope_after s t a =
     after_by (record { extends = a.extends; names = a.names; functions = a.functions; hidden = a.hidden })
     (λ h. a.entities (record { backed = h.backed; spelled = h.spelled; functions = h.functions; slots = h.slots }))
-    (λ h. left_sound_alone t None (a.sound (record { backed = h.backed; spelled = h.spelled; functions = h.functions; slots = h.slots })))
+    (λ h. left_sound_alone t None (a.sound (record { backed = h.backed; spelled = h.spelled; functions = h.functions; slots = h.slots }))) a.locals
 
 pub scoped_goes : {A : Type 0} (s : State) (inside : Rule A) → IsLawful s → Goes (one_deeper s) (inside (one_deeper s)) Anything → Goes s (scoped inside s) Anything
 unfolding scoped bind

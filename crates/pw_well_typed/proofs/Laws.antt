@@ -1,7 +1,8 @@
 -- The laws, from what holds of all that the walks make.
 use Rattle.std.specs.Prelude.{All, List, Ok, refl, AllPairs, ◌≢◌}
 use Rattle.pw_tree.specs.Trees.{Expr, Module}
-use Rattle.pw_types.specs.Records.{IsLaid}
+use Rattle.pw_types.specs.Records.{IsLaid, IsObjectType}
+use Rattle.pw_types.specs.TypedModules.{IsDeclaredIfExternal}
 use Rattle.pw_types.specs.TypeTrees.{type_of}
 use Rattle.pw_rules.specs.Checks.{Checks, checking}
 use Rattle.pw_well_typed.proofs.Modules.{IsSound, checking_sound}
@@ -55,3 +56,19 @@ module_apart tree m h = (accepted tree m h).one_declared
 
 pub module_once : (tree : Module) (m : ModuleValue) → Checks tree (Ok m) → AllPairs (λ f g. f.name ≢ g.name) m.functions
 module_once tree m h = (accepted tree m h).one_function
+
+pub module_objects_apart : (tree : Module) (m : ModuleValue) → Checks tree (Ok m) → AllPairs (λ g h. g.name ≢ h.name) m.globals
+module_objects_apart tree m h = (accepted tree m h).one_global
+
+pub module_kinds_apart : (tree : Module) (m : ModuleValue) → Checks tree (Ok m) → All (λ g. All (λ f. g.name ≢ f.name) m.functions) m.globals
+module_kinds_apart tree m h = (accepted tree m h).one_kind
+
+pub module_functions_declared : (tree : Module) (m : ModuleValue) → Checks tree (Ok m) → All (λ f. IsDeclaredIfExternal m f.name f.ty) m.functions
+module_functions_declared tree m h = (accepted tree m h).external
+
+pub module_objects_declared : (tree : Module) (m : ModuleValue) → Checks tree (Ok m) → All (λ g. IsDeclaredIfExternal m g.name g.ty) m.globals
+module_objects_declared tree m h = (accepted tree m h).declared
+
+pub module_locals : (tree : Module) (m : ModuleValue) → Checks tree (Ok m)
+    → All (λ f. All (λ l. IsObjectType m.records (type_of l.ty) × IsKnownType m.records (type_of l.ty)) f.locals) m.functions
+module_locals tree m h = (accepted tree m h).locals

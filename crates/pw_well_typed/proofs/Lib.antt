@@ -11,6 +11,7 @@ pub mod Calls
 pub mod Operations
 pub mod Changes
 pub mod Objects
+pub mod ObjectTypes
 pub mod Leaves
 pub mod Phrases
 pub mod Counting
@@ -23,10 +24,15 @@ pub mod Declarations
 pub mod Adding
 pub mod LabelLaws
 pub mod FunctionTypes
+pub mod Texts
 pub mod StatementTypes
+pub mod ItemBytes
 pub mod FunctionLaws
+pub mod Parameters
+pub mod Bodies
 pub mod Statements
 pub mod Ending
 pub mod Backward
 pub mod Modules
 pub mod Laws
+pub mod Whole

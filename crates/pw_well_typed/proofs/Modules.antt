@@ -1,46 +1,48 @@
 -- Functions and modules: the state at a module's end is lawful.
+use Rattle.pw_well_typed.proofs.Conversions.{scalar_no_function}
+use Rattle.pw_well_typed.proofs.Objects.{object_later, small}
 use Rattle.pw_rules.specs.Compatible.{compatible}
-use Rattle.pw_well_typed.proofs.Ending.{start_sound, globals_apart, kinds_apart, functions_external, globals_declared}
+use Rattle.pw_well_typed.proofs.Ending.{start_sound, globals_apart, kinds_apart, functions_external, globals_declared, all_at}
 use Rattle.pw_types.specs.TypedModules.{IsDeclaredIfExternal}
 use Rattle.pw_rules.specs.Kinds.{is_function}
 use Rattle.pw_rules.specs.Limits.{Spot}
 use Rattle.pw_well_typed.proofs.Composite.{Covers, covers_trans}
 use Rattle.pw_well_typed.proofs.States.{Grows}
 use Rattle.pw_well_typed.proofs.Declaring.{symbol_continues, declared_goes, GoodPlace, DeclaredAt, Linkable, function_after, mapped}
-use Rattle.pw_well_typed.proofs.Sound.{Sound, Continues, filling_same, Spelled, plain_spelled, IsFunctionNamed}
+use Rattle.pw_well_typed.proofs.Sound.{Sound, filling_same, Spelled, plain_spelled, IsFunctionNamed}
 use Rattle.pw_rules.specs.SpecifierLists.{Specified}
 use Rattle.std.specs.Option.{option_map_or}
-use Rattle.std.specs.Prelude.{ℕ, ◌≡◌, ◌+◌, ◌≤◌, ◌⊎◌, not, Option, None, Some, unwrap_or, List, [], ◌∷◌, map, filter, slice_get, All, refl, ◌≢◌, ◌<◌, AllPairs, length, if◌then◌else◌, Bool, true, false}
+use Rattle.std.specs.Prelude.{ℕ, ◌≡◌, ◌+◌, ◌≤◌, ◌⊎◌, not, Option, None, Some, unwrap_or, List, [], ◌∷◌, map, filter, slice_get, All, refl, ◌≢◌, ◌<◌, AllPairs, length, if◌then◌else◌, Bool, true, false, zero, suc}
 use Rattle.std.proofs.Common.{arith, ap, sym, subst, inl, inr, subst₂, ◌∙◌}
 use Rattle.std.proofs.lemmas.List.Kept.{AllPairs-filter}
 use Rattle.std.proofs.lemmas.Option.{slice_get-get_or, get_or_from_slice_get}
 use Rattle.pw_tree.specs.Trees.{Word, Function, External, Definition, Declaration, Module, Block, Decl}
-use Rattle.pw_types.specs.Records.{IsLaid}
-use Rattle.pw_types.specs.TypeTrees.{QType, type_of, RecordValue}
-use Rattle.pw_types.specs.TypedTrees.{FunctionValue, DeclaredValue, ModuleValue, Symbol, External as Shared, Internal, Hidden}
-use Rattle.pw_types.specs.WellTyped.{IsKnownType}
+use Rattle.pw_types.specs.Records.{IsLaid, IsObjectType}
+use Rattle.pw_types.specs.TypeTrees.{QType, type_of, RecordValue, CType, Void, Int, Pointer, Array, Function as FunctionType, Record, Qualified}
+use Rattle.pw_types.specs.TypedTrees.{FunctionValue, DeclaredValue, ModuleValue, Symbol, External as Shared, Internal, Hidden, LocalValue}
+use Rattle.pw_types.specs.WellTyped.{IsKnownType, IsScalar}
 use Rattle.pw_walk.specs.Walks.{Done, bind, Walk}
 use Rattle.pw_rules.specs.Declarations.{name_of}
-use Rattle.pw_rules.specs.Derivations.{Bindings, spot_of, Declared, Derivation, ToPointer, ToArray, ToFunction, built, step_type}
-use Rattle.pw_rules.specs.Functions.{function_of, bindings_of, no_bindings, enter_body, definition_asking, measured_rule, body_rule, function_rule, add_function, definition_rules, ends_in_function}
+use Rattle.pw_rules.specs.Derivations.{Bindings, spot_of, Declared, Derivation, ToPointer, ToArray, ToFunction, built, step_type, ParameterValue}
+use Rattle.pw_rules.specs.Functions.{function_of, bindings_of, no_bindings, enter_body, definition_asking, measured_rule, body_rule, function_rule, add_function, definition_rules, ends_in_function, parameter_local}
 use Rattle.pw_rules.specs.Leaves.{first_of_declaration}
-use Rattle.pw_rules.specs.Linkage.{define_function, symbol_of_linked, linked_before, place_for, is_internal_by, is_linked}
+use Rattle.pw_rules.specs.Linkage.{define_function, symbol_of_linked, linked_before, place_for, is_linked}
 use Rattle.pw_rules.specs.Modules.{external_rule, externals_rule, end_rule, module_in, module_rule, declared_value}
-use Rattle.pw_rules.specs.States.{State, LinkedName, leave_scope, linked_in, start, linked_at, put_linked, Entity, entity_here}
+use Rattle.pw_rules.specs.States.{State, LinkedName, leave_scope, linked_in, start, put_linked, Entity, entity_here}
 use Rattle.pw_rules.specs.Statements.{block_rule, labels_in_block}
 use Rattle.pw_rules.specs.declared.names.Entry.{Entry}
 use Rattle.pw_rules.specs.declared.names.Tag.{Tag}
 use Rattle.pw_rules.specs.declared.names.TagEntry.{TagEntry}
-use Rattle.pw_well_typed.specs.Lawful.{IsLawful, IsLawfulTag}
+use Rattle.pw_well_typed.specs.Lawful.{IsLawful, IsLawfulTag, IsLawfulType, IsObjectLike, Extends}
 use Rattle.pw_well_typed.proofs.Walking.{Post, post_bind, truth, AreMet, post_weaken, post_both}
 use Rattle.pw_well_typed.proofs.Lists.{get_either, get_map, get_filter, get_within, some_same, never_some, get_more, put_same, get_append}
 use Rattle.pw_well_typed.proofs.Types.{extends_same, lawful_later, lawful_known, no, not_true}
-use Rattle.pw_well_typed.proofs.Changes.{left_lawful_alone, left_sound_alone, tag_later}
-use Rattle.pw_well_typed.proofs.Leaves.{GoodType, GoodSpecified, GoodDeclared, GoodBindings, GoodIfAny, bindings_later, built_runs, scalars_later}
+use Rattle.pw_well_typed.proofs.Changes.{left_lawful_alone, left_sound_alone, tag_later, like_later}
+use Rattle.pw_well_typed.proofs.Leaves.{GoodType, GoodSpecified, GoodDeclared, GoodBindings, GoodIfAny, bindings_later, built_runs, scalars_later, AreScalars}
 use Rattle.pw_well_typed.proofs.Phrases.{declarator_post}
 use Rattle.pw_well_typed.proofs.Declarations.{specified_goes, decl_goes}
 use Rattle.pw_well_typed.proofs.Statements.{block_goes}
-use Rattle.pw_well_typed.proofs.Keeping.{After, after_same, after_trans, Kept, Goes, of_runs, met_first, Anything, none_named, place_is, named_before, weaker, after_by, knows_linked, keeps_same, plain_stays, GoesBy, AfterBy, Later, later_after, later_trans, after_grows}
+use Rattle.pw_well_typed.proofs.Keeping.{After, after_same, after_trans, Kept, Goes, of_runs, met_first, Anything, none_named, place_is, named_before, weaker, after_by, knows_linked, keeps_same, plain_stays, Later, later_after, later_trans, after_grows}
 
 -- ---- functions
 
@@ -84,6 +86,25 @@ body_lawful s es q b names l h = record {
         omega (arith, same)
 
 -- the body is entered some time behind its declarator
+-- parameters are scalars
+scalar_object : (r : List RecordValue) (ty : CType) → IsScalar ty → IsObjectType r ty
+scalar_object r (Int k) h = small k
+scalar_object r (Pointer q) h = omega arith
+scalar_object r Void h = absurd h
+scalar_object r (Array q n) h = absurd h
+scalar_object r (FunctionType q ps) h = absurd h
+scalar_object r (Record n) h = absurd h
+
+scalar_like : (r : List RecordValue) (q : QType) → IsLawfulType r (type_of q) → IsScalar (type_of q) → IsObjectLike r q
+scalar_like r (Qualified ty c v) lawful h = record { lawful = lawful; object = λ f. (scalar_no_function ty h f) }
+
+parameters_like : (s : State) (ps : List ParameterValue) → AreScalars s.types.records ps → (k : ℕ) (l : LocalValue) → slice_get (map parameter_local ps) k ≡ Some l
+    → IsObjectLike s.types.records l.ty × IsObjectType s.types.records (type_of l.ty)
+parameters_like s [] h k l e = never_some e
+parameters_like s (p ∷ ps) h zero l e =
+    subst (λ (x : LocalValue). IsObjectLike s.types.records x.ty × IsObjectType s.types.records (type_of x.ty)) (some_same e) (scalar_like s.types.records p.ty h.0 h.1, scalar_object s.types.records (type_of p.ty) h.1)
+parameters_like s (p ∷ ps) h (suc k) l e = parameters_like s ps h.2 k l e
+
 pub body_entered : (v s : State) (q : QType) (b : Bindings) (names : List (List ℕ)) → After v s → IsLawful s → GoodBindings v.types.records v.scopes.entities b → Kept v (enter_body q b names s)
 body_entered v s q b names a l h = (
   body_lawful s v.scopes.entities q b names l (record { scalars = scalars_later v.types.records s.types.records a.extends b.parameters h.scalars; tags = λ i t e. tag_later v.types.records s.types.records a.extends t.1 (h.tags i t e); plain = h.plain }),
@@ -95,7 +116,8 @@ body_entered v s q b names a l h = (
         spelled = λ i e g. by_spelled hv i e (get_either s.scopes.ordinary (map (λ (x : List ℕ × ℕ). (x.0, record { place = x.1; depth = s.scopes.depth + 1 })) b.ordinary) i e g);
         functions = hs.functions;
         slots = hs.slots;
-      }),
+      })
+      (λ z. parameters_like s b.parameters (scalars_later v.types.records s.types.records a.extends b.parameters h.scalars)),
 )
   where
     by_spelled : Sound None v → (i : ℕ) (e : List ℕ × Entry)
@@ -110,7 +132,7 @@ body_entered v s q b names a l h = (
         (z.0, z.1, plain_spelled s.types.linked x.0.0 z.0 (plain_stays y.0 z.0 y.2 z.2))
 
 left : (s : State) → IsLawful s → Kept s (leave_scope s)
-left s l = (left_lawful_alone s l, after_by (knows_linked s (leave_scope s) (extends_same s.types.records) refl refl (filling_same s.made.hidden)) (λ h. keeps_same s.scopes.entities) (λ h. left_sound_alone s None h))
+left s l = (left_lawful_alone s l, after_by (knows_linked s (leave_scope s) (extends_same s.types.records) refl refl (filling_same s.made.hidden)) (λ h. keeps_same s.scopes.entities) (λ h. left_sound_alone s None h) (λ h. h))
 
 measured_goes : (s : State) (w : Word) (f : FunctionValue) → IsLawful s → Goes s (measured_rule w f s) Anything
 unfolding measured_rule bind
@@ -132,15 +154,24 @@ symbol_text l = by l.internal
     by false = refl
 
 -- the function is that of a name that is defined
-abbrev PlacedAt : State → FunctionValue → Type 0
+abbrev pub PlacedAt : State → FunctionValue → Type 0
 PlacedAt s f = (place : ℕ) × (l : LinkedName) × (slice_get s.types.linked place ≡ Some l) × (l.defined ≡ true) × (f.name ≡ symbol_of_linked l)
 
-record OnceDefined (s : State) : Type 0 where
-  placed : (i : ℕ) (f : FunctionValue) → slice_get s.made.functions i ≡ Some f → PlacedAt s f
-  apart : (i j : ℕ) (f g : FunctionValue) → slice_get s.made.functions i ≡ Some f → slice_get s.made.functions j ≡ Some g → f.name ≡ g.name → i ≡ j
+-- each local of a function has a type that an object can have
+abbrev pub HasLocals : List RecordValue → FunctionValue → Type 0
+HasLocals r f = (k : ℕ) (l : LocalValue) → slice_get f.locals k ≡ Some l → IsObjectLike r l.ty × IsObjectType r (type_of l.ty)
+
+locals_later : (a b : List RecordValue) (f : FunctionValue) → Extends a b → HasLocals a f → HasLocals b f
+locals_later a b f x h k l e = let y = h k l e in (like_later x y.0, object_later a b x (type_of l.ty) y.1)
+
+pub record OnceDefined (s : State) : Type 0 where
+  pub locals : (i : ℕ) (f : FunctionValue) → slice_get s.made.functions i ≡ Some f → HasLocals s.types.records f
+  pub placed : (i : ℕ) (f : FunctionValue) → slice_get s.made.functions i ≡ Some f → PlacedAt s f
+  pub apart : (i j : ℕ) (f g : FunctionValue) → slice_get s.made.functions i ≡ Some f → slice_get s.made.functions j ≡ Some g → f.name ≡ g.name → i ≡ j
 
 once_later : {s t : State} → After s t → OnceDefined s → OnceDefined t
 once_later {s} {t} a o = record {
+  locals = λ i f e. locals_later s.types.records t.types.records f a.extends (o.locals i f (subst (λ xs. slice_get xs i ≡ Some f) a.functions e));
   placed = λ i f e.
       let p = o.placed i f (subst (λ xs. slice_get xs i ≡ Some f) a.functions e) in
       let n = a.names p.0 p.1 p.2 in
@@ -176,14 +207,19 @@ no_place s name place x l none e same defined = by (linked_before s name) refl n
         no (sym g ∙ (ap (λ (z : LinkedName). z.defined) (sym alike) ∙ defined))
 
 function_added : (s t : State) (name : List ℕ) (f : FunctionValue) (place : ℕ) (x : LinkedName) → IsLawful s → OnceDefined s → NotDefined s name → After s t
-    → slice_get t.types.linked place ≡ Some x → x.name ≡ name → x.defined ≡ true → f.name ≡ symbol_of_linked x → OnceDefined (add_function f t)
-function_added s t name f place x l o none a e named defined symbol = record {
+    → slice_get t.types.linked place ≡ Some x → x.name ≡ name → x.defined ≡ true → f.name ≡ symbol_of_linked x → HasLocals t.types.records f → OnceDefined (add_function f t)
+function_added s t name f place x l o none a e named defined symbol whole = record {
+  locals = λ i g h. by_locals i g (get_more t.made.functions f i g h);
   placed = λ i g h. by_place i g (get_more t.made.functions f i g h);
   apart = λ i j g h d k same. by_two i j g h (get_more t.made.functions f i g d) (get_more t.made.functions f j h k) same;
 }
   where
     later : OnceDefined t
     later = once_later a o
+
+    by_locals : (i : ℕ) (g : FunctionValue) → (slice_get t.made.functions i ≡ Some g) ⊎ ((i ≡ length t.made.functions) × (f ≡ g)) → HasLocals t.types.records g
+    by_locals i g (inl h) = later.locals i g h
+    by_locals i g (inr h) = subst (HasLocals t.types.records) h.1 whole
 
     by_place : (i : ℕ) (g : FunctionValue) → (slice_get t.made.functions i ≡ Some g) ⊎ ((i ≡ length t.made.functions) × (f ≡ g)) → PlacedAt t g
     by_place i g (inl h) = later.placed i g h
@@ -210,7 +246,7 @@ abbrev DefinedAt : List ℕ → QType → State → ℕ → Type 0
 DefinedAt name q t place = (x : LinkedName) × (slice_get t.types.linked place ≡ Some x) × (x.name ≡ name) × (x.defined ≡ true) × Covers x.ty q
 
 -- what stands behind a function or a declaration outside of functions
-abbrev Onwards : {A : Type 0} → State → A × State → Type 0
+abbrev pub Onwards : {A : Type 0} → State → A × State → Type 0
 Onwards s r = IsLawful r.1 × OnceDefined r.1 × Later s r.1
 
 later_function : (s t : State) (f : FunctionValue) → After s t → IsFunctionNamed t.types.linked f → Later s (add_function f t)
@@ -245,7 +281,9 @@ body_post old s w place q b block lo o none a x kind l h =
     ap (λ p. option_map_or symbol_of_linked p (Shared [])) at.1 ∙ sym (symbol_continues at.0 end.0 end.2) in (
       added_lawful u.1 (function_of r.1 w place q b r.0) n,
       function_added old u.1 w.text (function_of r.1 w place q b r.0) place end.0 lo o none whole end.1
-          (end.2.name ∙ (at.2.name ∙ x.2)) (end.2.defined (at.2.defined x.3)) named,
+          (end.2.name ∙ (at.2.name ∙ x.2)) (end.2.defined (at.2.defined x.3)) named
+          (locals_later r.1.types.records u.1.types.records (function_of r.1 w place q b r.0) (after_trans d.1 z).extends
+          (y.locals (parameters_like s b.parameters (scalars_later old.types.records s.types.records a.extends b.parameters h.scalars)))),
       later_function old u.1 (function_of r.1 w place q b r.0) whole (place, end.0, end.1, named, covers, covers.function ∙ kind),
     )))
 
@@ -266,7 +304,7 @@ not_yet s w b d ds q met =
     met.1.1.1.0)
 
 -- where the step nearest to the name is a function, the type is one
-built_kind : (steps : List Derivation) (spot : Spot) (q : QType) (s : State) → Post (built spot steps q s) (λ r. ends_in_function steps ≡ true → is_function (type_of r.0) ≡ true)
+pub built_kind : (steps : List Derivation) (spot : Spot) (q : QType) (s : State) → Post (built spot steps q s) (λ r. ends_in_function steps ≡ true → is_function (type_of r.0) ≡ true)
 unfolding built ends_in_function bind
 built_kind [] spot q s = λ e. no e
 built_kind (ToFunction ps ∷ []) spot q s = λ met e. refl
@@ -279,7 +317,7 @@ built_kind (ToArray n ∷ next ∷ rest) spot q s = λ met. built_kind (next ∷
 is_kind : (s : State) (w : Word) (b : Specified) (d : Declared) (ds : List Decl) (q : QType) → AreMet (definition_rules s w b d ds q) → ends_in_function d.derivations ≡ true
 is_kind s w b d ds q met = truth (ends_in_function d.derivations) met.1.1.1.1.0
 
-is_linkable : (s : State) (w : Word) (b : Specified) (d : Declared) (ds : List Decl) (q : QType) → AreMet (definition_rules s w b d ds q) → Linkable s w.text q
+pub is_linkable : (s : State) (w : Word) (b : Specified) (d : Declared) (ds : List Decl) (q : QType) → AreMet (definition_rules s w b d ds q) → Linkable s w.text q
 is_linkable s w b d ds q met = record {
   linked = λ x e. mapped is_linked (entity_here s w.text) x (truth _ met.0) e;
   alike = λ l e. mapped (λ (l : LinkedName). compatible l.ty q) (linked_before s w.text) l (truth _ met.1.1.0) e;
@@ -320,7 +358,7 @@ function_post s f l o =
 
 -- ---- modules
 
-external_post : (s : State) (x : External) → IsLawful s → OnceDefined s → Post (external_rule x s) (Onwards s)
+pub external_post : (s : State) (x : External) → IsLawful s → OnceDefined s → Post (external_rule x s) (Onwards s)
 unfolding external_rule
 external_post s (Definition f) l o = function_post s f l o
 external_post s (Declaration d) l o = then_post _ _ Anything (Onwards s) (decl_goes s d l) (λ r m x h. (m, once_later x o, later_after x))
@@ -382,6 +420,7 @@ declared_apart s l =
 pub record IsSound (m : ModuleValue) : Type 0 where
   pub laid : IsLaid m.records
   pub known : All (λ d. IsKnownType m.records (type_of d.ty)) m.declared
+  pub locals : All (λ f. All (λ l. IsObjectType m.records (type_of l.ty) × IsKnownType m.records (type_of l.ty)) f.locals) m.functions
   pub one_declared : AllPairs (λ d e. d.name ≢ e.name) m.declared
   pub one_function : AllPairs (λ f g. f.name ≢ g.name) m.functions
   pub one_global : AllPairs (λ g h. g.name ≢ h.name) m.globals
@@ -389,10 +428,17 @@ pub record IsSound (m : ModuleValue) : Type 0 where
   pub external : All (λ f. IsDeclaredIfExternal m f.name f.ty) m.functions
   pub declared : All (λ g. IsDeclaredIfExternal m g.name g.ty) m.globals
 
+functions_locals : (s : State) → OnceDefined s → All (λ f. All (λ l. IsObjectType s.types.records (type_of l.ty) × IsKnownType s.types.records (type_of l.ty)) f.locals) s.made.functions
+functions_locals s o =
+    all_at (λ (f : FunctionValue). All (λ (l : LocalValue). IsObjectType s.types.records (type_of l.ty) × IsKnownType s.types.records (type_of l.ty)) f.locals) s.made.functions (λ i f e.
+    all_at (λ (l : LocalValue). IsObjectType s.types.records (type_of l.ty) × IsKnownType s.types.records (type_of l.ty)) f.locals (λ k l g.
+    let x = o.locals i f e k l g in (x.1, lawful_known s.types.records (type_of l.ty) x.0.lawful)))
+
 sound : (s : State) → IsLawful s → OnceDefined s → Sound None s → IsSound (module_in s)
 sound s l o h = record {
   laid = l.laid;
   known = declared_known s l;
+  locals = functions_locals s o;
   one_declared = declared_apart s l;
   one_function = functions_apart s o;
   one_global = globals_apart s l h;
@@ -401,8 +447,8 @@ sound s l o h = record {
   declared = globals_declared s l h;
 }
 
-none_defined : OnceDefined start
-none_defined = record { placed = λ i f e. never_some e; apart = λ i j f g e h same. never_some e }
+pub none_defined : OnceDefined start
+none_defined = record { locals = λ i f e. never_some e; placed = λ i f e. never_some e; apart = λ i j f g e h same. never_some e }
 
 pub checking_sound : (m : Module) → IsLawful start → Post (bind (module_rule m start) (λ r. Done r.0)) IsSound
 checking_sound m l =

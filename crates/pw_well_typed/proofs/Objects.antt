@@ -78,7 +78,7 @@ none_so (Some x) e = no (sym e)
 pub within_so : (records : List RecordValue) (token : ℕ) (q : QType) → AreMet (type_within records token q) → oversize_of records (type_of q) ≡ None
 within_so records token q met = none_so (oversize_of records (type_of q)) met.0
 
-small : (k : IntKind) → size_of_kind k ≤ size_limit
+pub small : (k : IntKind) → size_of_kind k ≤ size_limit
 small K.Char = omega arith
 small K.SChar = omega arith
 small K.UChar = omega arith

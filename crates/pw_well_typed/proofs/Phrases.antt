@@ -50,14 +50,14 @@ qualifier_gathered : (s : State) (q : Qualifier) (g : Gathered) → GoodGathered
 qualifier_gathered s R.Const g h = h
 qualifier_gathered s R.Volatile g h = h
 
-abbrev GoodSuffixed : State → Suffixed → Type 0
+abbrev pub GoodSuffixed : State → Suffixed → Type 0
 GoodSuffixed s c = GoodSteps s.types.records c.derivations × GoodIfAny s.types.records s.scopes.entities c.bindings
 
 pointer_steps : (r : List RecordValue) (ps : List S.Pointer) → GoodSteps r (map pointer_step ps)
 pointer_steps r [] = tt
 pointer_steps r (p ∷ ps) = (tt, pointer_steps r ps)
 
-later_type : {s t : State} (q : QType) → Grows s t → IsLawfulType s.types.records (type_of q) → IsLawfulType t.types.records (type_of q)
+pub later_type : {s t : State} (q : QType) → Grows s t → IsLawfulType s.types.records (type_of q) → IsLawfulType t.types.records (type_of q)
 later_type {s} {t} q g h = lawful_later s.types.records t.types.records g.extends (type_of q) h
 
 later_types : {s t : State} (qs : List QType) → Grows s t → GoodTypes s.types.records qs → GoodTypes t.types.records qs
@@ -70,7 +70,7 @@ either_bindings : (r : List RecordValue) (es : List Entity) (a b : Option Bindin
 either_bindings r es None b h k = k
 either_bindings r es (Some x) b h k = h
 
-scalars_only : (r : List RecordValue) (ps : List ParameterValue) → GoodParameters r false ps → AreScalars r ps
+pub scalars_only : (r : List RecordValue) (ps : List ParameterValue) → GoodParameters r false ps → AreScalars r ps
 scalars_only r ps (inl h) = h
 scalars_only r ps (inr h) = no h.1
 
@@ -242,12 +242,12 @@ mutual
         ),
       )))
 
-  core_post : (core : Core) (s : State) → IsLawful s → Runs s (core_rule core s) GoodDeclared
+  pub core_post : (core : Core) (s : State) → IsLawful s → Runs s (core_rule core s) GoodDeclared
   core_post S.Absent s l = (l, grows_same s, (tt, tt))
   core_post (S.Name w) s l = (l, grows_same s, (tt, tt))
   core_post (S.Enclosed t d) s l = declarator_post d s l
 
-  suffixes_post : (suffixes : Suffixes) (s : State) → IsLawful s → Runs s (suffixes_rule suffixes s) GoodSuffixed
+  pub suffixes_post : (suffixes : Suffixes) (s : State) → IsLawful s → Runs s (suffixes_rule suffixes s) GoodSuffixed
   suffixes_post S.NoSuffix s l = (l, grows_same s, (tt, tt))
   suffixes_post (S.Array t e rest) s l =
       valued _ _ GoodSuffixed (expr_post e s l) (λ r1 m1 g1 f1.
@@ -275,7 +275,7 @@ mutual
   suffixes_post (S.Variadic t parameters rest) s l = tt
   suffixes_post (S.Identifiers t ws rest) s l = tt
 
-  parameters_post : (rest : Parameters) (ps : List ParameterValue) (s : State) → IsLawful s → GoodParameters s.types.records (is_last rest) ps
+  pub parameters_post : (rest : Parameters) (ps : List ParameterValue) (s : State) → IsLawful s → GoodParameters s.types.records (is_last rest) ps
       → Widely s (parameters_rule rest ps s) (λ u x. GoodParameters u.types.records true x)
   parameters_post S.NoParameter ps s l h = (l, widens_so (grows_same s), h)
   parameters_post (S.Parameter specifiers d rest) ps s l h =

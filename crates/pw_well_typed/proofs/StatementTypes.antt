@@ -28,7 +28,7 @@ use Rattle.pw_rules.specs.States.{State, Rule, BodyState, SwitchState, one_deepe
 use Rattle.pw_rules.specs.Statements as R
 use Rattle.pw_rules.specs.Statements.{case_rule, new_label, inside_switch, default_rule, name_label_rule, label_rule, labels_rule, whole_rule, optional_rule, is_condition, condition_rule, optional_condition, switch_rule, in_switch, in_loop, goto_rule, continue_rule, break_rule, return_rule, stmt_rule, alternative_rule, block_rule, stmts_rule, place_of_label}
 use Rattle.pw_well_typed.specs.Lawful.{IsLawful, IsLawfulType, AreWords}
-use Rattle.pw_well_typed.specs.Texts.{HasText, AlternativeHasText, BlockHasText, StmtsHaveText}
+use Rattle.pw_well_typed.proofs.Texts.{never_nil, HasText, AlternativeHasText, BlockHasText, StmtsHaveText}
 use Rattle.pw_well_typed.specs.Words.{HasWordsIfAny, WordsInStatement, WordsInStatements, WordsInArms, WordsInElse}
 use Rattle.pw_well_typed.proofs.Walking.{Post, post_bind, post_weaken, post_both, truth}
 use Rattle.pw_well_typed.proofs.Lists.{Longer}
@@ -41,9 +41,9 @@ use Rattle.pw_well_typed.proofs.Changes.{deeper_lawful}
 use Rattle.pw_well_typed.proofs.Phrases.{expr_post}
 use Rattle.pw_well_typed.proofs.Counting.{one, times_of, below, times_numbers, contained}
 use Rattle.pw_well_typed.proofs.Locals.{ArePlaced, longer_same, grows_placed, left_placed}
-use Rattle.pw_well_typed.proofs.Keeping.{After, after_trans, Goes, Anything, of_runs, around}
+use Rattle.pw_well_typed.proofs.Keeping.{After, after_trans, after_grows, Goes, Anything, around}
 use Rattle.pw_well_typed.proofs.Statements.{labels_goes, in_switch_goes, in_loop_goes, stmt_goes, alternative_goes, stmts_goes}
-use Rattle.pw_well_typed.proofs.Adding.{Names, IsOwned, Final, IsReady, Back, Starts, Declares, Declaring, denotes_final, decls_declare, longer_length}
+use Rattle.pw_well_typed.proofs.Adding.{IsOwned, Final, IsReady, Starts, Declares, Declaring, denotes_final, decls_declare, longer_length}
 use Rattle.pw_well_typed.proofs.LabelLaws.{label_labelled, loop_labelled, asked_post, Steady, steady_same, steady_trans, Labelled, labels_labelled, IsSwitchOf, IsLabelledSwitch, switch_labelled, stmt_labelled, alternative_labelled, stmts_labelled, adds_steady, with_loop}
 
 -- ---- how statements move the state
@@ -51,6 +51,7 @@ use Rattle.pw_well_typed.proofs.LabelLaws.{label_labelled, loop_labelled, asked_
 -- what they keep beside the function's own
 pub record Inside (s t : State) : Type 0 where
   pub placed : ArePlaced s → ArePlaced t
+  pub depth : t.scopes.depth ≡ s.scopes.depth
   pub counting : t.made.counting ≡ s.made.counting
   pub hidden : Longer s.made.hidden t.made.hidden
 
@@ -60,25 +61,22 @@ pub record Moves (s t : State) : Type 0 where
   pub steady : Steady s.body t.body
 
 inside_same : (s : State) → Inside s s
-inside_same s = record { placed = λ p. p; counting = refl; hidden = longer_same s.made.hidden }
+inside_same s = record { placed = λ p. p; depth = refl; counting = refl; hidden = longer_same s.made.hidden }
 
 inside_trans : {s t u : State} → Inside s t → Inside t u → Inside s u
-inside_trans {s} {t} {u} a b = record { placed = λ p. b.placed (a.placed p); counting = b.counting ∙ a.counting; hidden = λ k x e. b.hidden k x (a.hidden k x e) }
+inside_trans {s} {t} {u} a b = record { placed = λ p. b.placed (a.placed p); depth = b.depth ∙ a.depth; counting = b.counting ∙ a.counting; hidden = λ k x e. b.hidden k x (a.hidden k x e) }
 
 inside_grows : {s t : State} → Grows s t → Inside s t
-inside_grows g = record { placed = grows_placed g; counting = g.counting; hidden = g.hidden }
+inside_grows g = record { placed = grows_placed g; depth = g.depth; counting = g.counting; hidden = g.hidden }
 
 moves_trans : {s t u : State} → Moves s t → Moves t u → Moves s u
 moves_trans {s} {t} {u} a b = record { after = after_trans a.after b.after; inside = inside_trans a.inside b.inside; steady = steady_trans a.steady b.steady }
 
-after_grows : {s t : State} → IsLawful t → Grows s t → After s t
-after_grows {s} {t} l g = (of_runs {A = Unit {0}} s (Done (tt, t)) Anything (l, g, tt)).1
-
 moves_grows : {s t : State} → IsLawful t → Grows s t → Moves s t
-moves_grows {s} {t} l g = record { after = after_grows l g; inside = inside_grows g; steady = subst (Steady s.body) (sym g.body) (steady_same s.body) }
+moves_grows {s} {t} l g = record { after = after_grows g; inside = inside_grows g; steady = subst (Steady s.body) (sym g.body) (steady_same s.body) }
 
 ready_moves : {s t : State} → Moves s t → IsReady s → IsReady t
-ready_moves {s} {t} a r = record { placed = a.inside.placed r.placed; counting = a.inside.counting ∙ r.counting }
+ready_moves {s} {t} a r = record { placed = a.inside.placed r.placed; counting = a.inside.counting ∙ r.counting; sound = a.after.sound r.sound }
 
 -- ---- a function around
 
@@ -99,22 +97,22 @@ frame_later {a} {b} {m} {f} x g = record {
 
 -- what holds in each module and function that a state's end stands for
 abbrev pub Promise : State → State → (ModuleValue → FunctionValue → Type 0) → Type 0
-Promise s t P = Back → (m : ModuleValue) (f : FunctionValue) → Final t m f.locals → Frame s.body m f → IsReady s → P m f
+Promise s t P = (m : ModuleValue) (f : FunctionValue) → Final t m f.locals → Frame s.body m f → IsReady s → P m f
 
 -- a state later, it holds still
 promise_front : {s t u : State} (P : ModuleValue → FunctionValue → Type 0) → Moves s t → Moves t u → Promise s t P → Promise s u P
-promise_front {s} {t} {u} P a b h back m f final frame ready =
-    h back m f (Rattle.pw_well_typed.proofs.Adding.final_back back b.after (ready_moves a ready) b.steady.locals b.inside.hidden final) frame ready
+promise_front {s} {t} {u} P a b h m f final frame ready =
+    h m f (Rattle.pw_well_typed.proofs.Adding.final_back b.after (ready_moves a ready) b.steady.locals b.inside.hidden final) frame ready
 
 -- from a state before
 promise_later : {s t u : State} (P : ModuleValue → FunctionValue → Type 0) → Moves s t → Promise t u P → Promise s u P
-promise_later {s} {t} {u} P a h back m f final frame ready = h back m f final (frame_later a.steady frame) (ready_moves a ready)
+promise_later {s} {t} {u} P a h m f final frame ready = h m f final (frame_later a.steady frame) (ready_moves a ready)
 
 -- ---- expressions
 
 -- the value of an expression
 value_promise : {s t : State} (x : Expression) → Moves s t → FineValue t x → Promise s t (λ m f. AreWords x → GoodValue m f.locals x)
-value_promise {s} {t} x a v back m f final frame ready words =
+value_promise {s} {t} x a v m f final frame ready words =
     let r : IsReady t = ready_moves a ready in
     v m f.locals (denotes_final t m f.locals final.names r.placed r.counting final.locals_are) words
 
@@ -136,10 +134,10 @@ OffersIfAny x m f = HasWordsIfAny x → IsTypedOrAbsent m f.locals x
 
 optional_offers : (s : State) (e : Option Expr) → IsLawful s → Post (optional_rule e s) (Offers s OffersIfAny)
 unfolding optional_rule bind
-optional_offers s None l = (l, moves_grows l (grows_same s), λ back m f final frame ready words. tt)
+optional_offers s None l = (l, moves_grows l (grows_same s), λ m f final frame ready words. tt)
 optional_offers s (Some e) l =
     post_bind (whole_rule e s) _ (Offers s (λ x m f. AreWords x → GoodValue m f.locals x)) (Offers s OffersIfAny) (whole_offers s e l)
-    (λ r g. (g.0, g.1, λ back m f final frame ready words. (g.2 back m f final frame ready words).typed))
+    (λ r g. (g.0, g.1, λ m f final frame ready words. (g.2 m f final frame ready words).typed))
 
 abbrev OffersCondition : Expression → ModuleValue → FunctionValue → Type 0
 OffersCondition x m f = AreWords x → IsCondition m f.locals x
@@ -148,7 +146,7 @@ condition_offers : (s : State) (t : ℕ) (e : Expr) → IsLawful s → Post (con
 unfolding condition_rule bind
 condition_offers s t e l =
     post_bind (whole_rule e s) _ (Offers s (λ x m f. AreWords x → GoodValue m f.locals x)) (Offers s OffersCondition) (whole_offers s e l)
-    (λ r g met. (g.0, g.1, λ back m f final frame ready words. ((g.2 back m f final frame ready words).typed, scalar_is (type_in r.0) (truth _ met.0))))
+    (λ r g met. (g.0, g.1, λ m f final frame ready words. ((g.2 m f final frame ready words).typed, scalar_is (type_in r.0) (truth _ met.0))))
 
 abbrev OffersConditionIfAny : Option Expression → ModuleValue → FunctionValue → Type 0
 OffersConditionIfAny x m f = HasWordsIfAny x → IsConditionOrAbsent m f.locals x
@@ -161,7 +159,7 @@ optional_condition_offers : (s : State) (t : ℕ) (e : Option Expr) → IsLawful
 unfolding optional_condition bind
 optional_condition_offers s t e l =
     post_bind (optional_rule e s) _ (Offers s OffersIfAny) (Offers s OffersConditionIfAny) (optional_offers s e l)
-    (λ r g met. (g.0, g.1, λ back m f final frame ready words. condition_so m f r.0 (truth _ met.0) (g.2 back m f final frame ready words)))
+    (λ r g met. (g.0, g.1, λ m f final frame ready words. condition_so m f r.0 (truth _ met.0) (g.2 m f final frame ready words)))
 
 wide_promoted : (k : IntKind) → size_of_kind (promoted k) ≡ 4
 wide_promoted K.SChar = refl
@@ -177,7 +175,7 @@ switch_offers s t e l =
     post_bind (whole_rule e s) _ (Offers s (λ x m f. AreWords x → GoodValue m f.locals x)) (λ r. Offers s (λ x m f. AreWords x → IsTyped m f.locals x) r × ((k : IntKind) × (type_in r.0 ≡ Int (promoted k)))) (whole_offers s e l)
     (λ r g met.
     let k = integral_is (type_in r.0) (truth _ met.0) in
-    ((g.0, g.1, λ back m f final frame ready words. promote_typed m f.locals r.0 k.0 k.1 (g.2 back m f final frame ready (cast_words (Rattle.pw_rules.specs.Operands.promoted_type (type_in r.0)) r.0 words)).typed), (k.0, promote_type r.0 k.0 k.1)))
+    ((g.0, g.1, λ m f final frame ready words. promote_typed m f.locals r.0 k.0 k.1 (g.2 m f final frame ready (cast_words (Rattle.pw_rules.specs.Operands.promoted_type (type_in r.0)) r.0 words)).typed), (k.0, promote_type r.0 k.0 k.1)))
 
 -- ---- what a statement promises
 
@@ -276,12 +274,12 @@ unfolding in_loop bind
 loop_kept s body l h =
     post_bind (body (with_loop s)) _ (IsKept (with_loop s)) (Keeps s (IsTypedLoop s)) (h (with_loop s) (around s s.made (with_loop s).body l refl).0)
     (λ r g. (
-      record { placed = g.0.placed; counting = g.0.counting; hidden = g.0.hidden },
-      λ back m f final frame ready words from within.
+      record { placed = g.0.placed; depth = g.0.depth; counting = g.0.counting; hidden = g.0.hidden },
+      λ m f final frame ready words from within.
           subst (λ y. IsStatement m f y true from r.0) (ap (λ y. y || not (is_nil s.body.switches)) (lt_more s.body.loops))
           (subst (λ y. IsStatement m f (breaks_in (with_loop s).body) y from r.0) (lt_more s.body.loops)
-          (g.1 back m f (final_around r.1 (record r.1.body { loops = r.1.body.loops - 1 }) m f.locals (longer_same r.1.body.locals) final)
-          (record { returns = frame.returns; gives = frame.gives; lawful = frame.lawful; named = frame.named }) (record { placed = ready.placed; counting = ready.counting }) words from within)),
+          (g.1 m f (final_around r.1 (record r.1.body { loops = r.1.body.loops - 1 }) m f.locals (longer_same r.1.body.locals) final)
+          (record { returns = frame.returns; gives = frame.gives; lawful = frame.lawful; named = frame.named }) (record { placed = ready.placed; counting = ready.counting; sound = record { backed = ready.sound.backed; spelled = ready.sound.spelled; functions = ready.sound.functions; slots = ready.sound.slots } }) words from within)),
     ))
 
 -- a switch: `break` can leave it
@@ -298,11 +296,11 @@ switch_kept s e body l h =
     post_bind (body (R.enter_switch (kind_in (type_in e)) s)) _ (IsKept (R.enter_switch (kind_in (type_in e)) s)) (Keeps s (IsTypedSwitch s))
     (h (R.enter_switch (kind_in (type_in e)) s) (around s s.made (R.enter_switch (kind_in (type_in e)) s).body l refl).0)
     (λ r g. (
-      record { placed = g.0.placed; counting = g.0.counting; hidden = g.0.hidden },
-      λ back m f final frame ready words from within.
+      record { placed = g.0.placed; depth = g.0.depth; counting = g.0.counting; hidden = g.0.hidden },
+      λ m f final frame ready words from within.
           subst (λ y. IsStatement m f y (loops_in s.body) from r.0) (or_true (nat_lt 0 s.body.loops))
-          (g.1 back m f (final_around r.1 (R.leave_switch r.1).body m f.locals (longer_same r.1.body.locals) final)
-          (record { returns = frame.returns; gives = frame.gives; lawful = frame.lawful; named = frame.named }) (record { placed = ready.placed; counting = ready.counting }) words from within),
+          (g.1 m f (final_around r.1 (R.leave_switch r.1).body m f.locals (longer_same r.1.body.locals) final)
+          (record { returns = frame.returns; gives = frame.gives; lawful = frame.lawful; named = frame.named }) (record { placed = ready.placed; counting = ready.counting; sound = record { backed = ready.sound.backed; spelled = ready.sound.spelled; functions = ready.sound.functions; slots = ready.sound.slots } }) words from within),
     ))
 
 -- a scope
@@ -311,8 +309,8 @@ unfolding scoped bind
 scoped_kept s inside h =
     post_bind (inside (one_deeper s)) _ (IsKept (one_deeper s)) (IsKept s) h
     (λ r g. (
-      record { placed = λ p. left_placed r.1 (g.0.placed p); counting = g.0.counting; hidden = g.0.hidden },
-      λ back m f final frame ready. g.1 back m f (final_left r.1 m f.locals final) frame (record { placed = ready.placed; counting = ready.counting }),
+      record { placed = λ p. left_placed r.1 (g.0.placed p); depth = let d : r.1.scopes.depth ≡ s.scopes.depth + 1 = g.0.depth in omega (arith, d); counting = g.0.counting; hidden = g.0.hidden },
+      λ m f final frame ready. g.1 m f (final_left r.1 m f.locals final) frame (record { placed = ready.placed; counting = ready.counting; sound = record { backed = ready.sound.backed; spelled = ready.sound.spelled; functions = ready.sound.functions; slots = ready.sound.slots } }),
     ))
   where
     final_left : (t : State) (m : ModuleValue) (locals : List LocalValue) → Final (leave_scope t) m locals → Final t m locals
@@ -329,7 +327,7 @@ scoped_kept s inside h =
 -- ---- simple statements
 
 statement_same : (s : State) (x : Statement) → IsLawful s → ((m : ModuleValue) (f : FunctionValue) → Frame s.body m f → IsTypedIn s.body x m f) → IsKept s (x, s)
-statement_same s x l h = (inside_same s, λ back m f final frame ready. h m f frame)
+statement_same s x l h = (inside_same s, λ m f final frame ready. h m f frame)
 
 evaluate_kept : (s : State) (e : Expr) → IsLawful s → Post (bind (Rattle.pw_rules.specs.Phrases.expr_rule e s) (λ t. bind (Rattle.pw_rules.specs.Operators.value_rule t.0 t.1) (λ x. Done (T.Evaluate (first_of_expr e) x.0, x.1)))) (IsKept s)
 unfolding bind IsStatement
@@ -337,7 +335,7 @@ evaluate_kept s e l =
     post_bind (Rattle.pw_rules.specs.Phrases.expr_rule e s) _ (λ r. IsLawful r.1 × Grows s r.1 × Fine r.1 r.0) (IsKept s) (expr_post e s l) (λ r g.
     post_bind (Rattle.pw_rules.specs.Operators.value_rule r.0 r.1) _ (λ u. IsLawful u.1 × Grows r.1 u.1 × FineValue u.1 u.0) (IsKept s) (value_runs r.1 r.0 g.0 g.2) (λ u k.
     let a = moves_grows {s = s} {t = u.1} k.0 (grows_trans g.1 k.1) in
-    (inside_grows (grows_trans g.1 k.1), λ back m f final frame ready words from within. (value_promise {s = s} {t = u.1} u.0 a k.2 back m f final frame ready words).typed)))
+    (inside_grows (grows_trans g.1 k.1), λ m f final frame ready words from within. (value_promise {s = s} {t = u.1} u.0 a k.2 m f final frame ready words).typed)))
 
 position_below : (p : List ℕ → Bool) (names : List (List ℕ)) → is_some (position p names) ≡ true → unwrap_or (position p names) 0 < length names
 position_below p names h = by (nat_lt (position_or_len p names) (length names)) refl h
@@ -384,9 +382,9 @@ return_kept s t None l = statement_same s (T.Return t None) l (λ m f frame word
 return_kept s t (Some e) l =
     post_bind (whole_rule e s) _ (Offers s (λ x m f. AreWords x → GoodValue m f.locals x)) (IsKept s) (whole_offers s e l) (λ r g met. (
       g.1.inside,
-      λ back m f final frame ready words from within.
+      λ m f final frame ready words from within.
           let later : Frame r.1.body m f = frame_later g.1.steady frame in
-          let good = g.2 back m f final frame ready (cast_words (type_of r.1.body.result) r.0 words) in (
+          let good = g.2 m f final frame ready (cast_words (type_of r.1.body.result) r.0 words) in (
             assignable_typed m f.locals (type_of r.1.body.result) r.0 good later.lawful (truth _ met.1.0),
             (
               r.1.body.result,
@@ -402,7 +400,8 @@ return_kept s t (Some e) l =
 
 inside_body : (s : State) (b : BodyState) → b.locals ≡ s.body.locals → Inside s (record s { body = b })
 inside_body s b same = record {
-  placed = λ p i e h. let x = p i e h in (x.0, x.1, subst (λ ls. Rattle.pw_well_typed.proofs.Locals.IsPlaced ls x.0) (sym same) x.2);
+  placed = λ p i e h. let x = p i e h in (x.0, x.1, subst (λ ls. Rattle.pw_well_typed.proofs.Locals.IsPlaced ls e.1.depth x.0) (sym same) x.2);
+  depth = refl;
   counting = refl;
   hidden = longer_same s.made.hidden;
 }
@@ -419,13 +418,6 @@ label_inside s (S.CaseLabel t e) l = λ met.
     post_weaken (case_rule (first_of_expr e) u.0 u.1) (λ v. Inside u.1 v.1) (λ v. Inside s v.1) (case_inside u.1 (first_of_expr e) u.0) (λ v f. inside_trans (inside_grows (grows_trans g.1 k.1)) f)))
 label_inside s (S.DefaultLabel t) l = λ met. inside_body s _ refl
 label_inside s (S.NameLabel w) l = λ met. inside_body s _ refl
-
-never_nil : {X : Type 0} (x : X) (xs : List X) → (x ∷ xs) ≢ []
-never_nil {X} x xs e = subst P e tt
-  where
-    P : List X → Type 0
-    P [] = ⊥
-    P (y ∷ ys) = Unit {0}
 
 -- as many labels as the tree has
 abbrev IsSome : List Label → List ℕ → Type 0
@@ -457,25 +449,25 @@ starts_initialise m locals first end (T.Bytes k hidden parts) h = (h.0, (let a :
 decls_move : {s t : State} (is : List Initialiser) → IsLawful t × After s t × (Rattle.pw_well_typed.proofs.Adding.Adds s t × Declares s t is) → Moves s t
 decls_move {s} {t} is g = record {
   after = g.1;
-  inside = record { placed = g.2.0.placed; counting = g.2.0.counting; hidden = g.2.0.hidden };
+  inside = record { placed = g.2.0.placed; depth = g.2.0.depth; counting = g.2.0.counting; hidden = g.2.0.hidden };
   steady = subst (Steady s.body) (sym g.2.0.steady) (adds_steady s.body t.body.locals g.2.0.locals).0;
 }
 
 block_typed : (s r u : State) (is : List Initialiser) (items : T.Statements) (t : ℕ) → Moves s r → Declares s r is → Moves r u → Promise r u (AreTypedIn r.body items)
     → Promise s u (IsTypedIn s.body (T.Block t (length s.body.locals) (length r.body.locals - length s.body.locals) is items))
 unfolding IsStatement
-block_typed s r u is items t a d b h back m f final frame ready words from within =
+block_typed s r u is items t a d b h m f final frame ready words from within =
     let early : length s.body.locals ≤ length r.body.locals = longer_length s.body.locals r.body.locals a.steady.locals in
     let late : length r.body.locals ≤ length u.body.locals = longer_length r.body.locals u.body.locals b.steady.locals in
     let whole : length u.body.locals ≤ length f.locals = longer_length u.body.locals f.locals final.locals_are in
-    let middle : Final r m f.locals = Rattle.pw_well_typed.proofs.Adding.final_back back b.after (ready_moves a ready) b.steady.locals b.inside.hidden final in (
+    let middle : Final r m f.locals = Rattle.pw_well_typed.proofs.Adding.final_back b.after (ready_moves a ready) b.steady.locals b.inside.hidden final in (
       within,
       omega (arith, early, late, whole),
       All-weaker (Starts m f.locals (length s.body.locals) (length r.body.locals)) (Initialises m f.locals (length s.body.locals) (length r.body.locals - length s.body.locals))
-          (starts_initialise m f.locals (length s.body.locals) (length r.body.locals)) is (d back m f.locals middle ready words.0),
+          (starts_initialise m f.locals (length s.body.locals) (length r.body.locals)) is (d m f.locals middle ready words.0),
       subst (λ y. M.AreStatements m f y (loops_in s.body) (length s.body.locals + (length r.body.locals - length s.body.locals)) items) (breaks_same a.steady)
           (subst (λ y. M.AreStatements m f (breaks_in r.body) y (length s.body.locals + (length r.body.locals - length s.body.locals)) items) (loops_same a.steady)
-          (h back m f final (frame_later a.steady frame) (ready_moves a ready) words.1 (length s.body.locals + (length r.body.locals - length s.body.locals)) (omega (arith, early)))),
+          (h m f final (frame_later a.steady frame) (ready_moves a ready) words.1 (length s.body.locals + (length r.body.locals - length s.body.locals)) (omega (arith, early)))),
     )
 
 -- ---- statements
@@ -483,43 +475,43 @@ block_typed s r u is items t a d b h back m f final frame ready words from withi
 arms_typed : (s q r u : State) (t : ℕ) (x : Expression) (body : Statement) (rest : R.Behind) → Moves s q → Promise s q (OffersCondition x) → Moves q r → Promise q r (IsTypedIn q.body body) → Moves r u
     → Promise r u (IsTypedBehind r.body rest) → Promise s u (IsTypedBehind s.body (R.arms_behind (T.Arm t x body rest.arms) rest.otherwise))
 unfolding IsStatement
-arms_typed s q r u t x body rest a c b h d k back m f final frame ready words from within =
-    let condition = promise_front {s = s} {t = q} {u = u} (OffersCondition x) a (moves_trans b d) c back m f final frame ready words.0.0 in
-    let first = typed_before body m f a.steady (promise_later {s = s} {t = q} {u = u} (IsTypedIn q.body body) a (promise_front {s = q} {t = r} {u = u} (IsTypedIn q.body body) b d h) back m f final frame ready) words.0.1 from within in
-    let others = behind_before rest m f (moves_trans a b).steady (promise_later {s = s} {t = r} {u = u} (IsTypedBehind r.body rest) (moves_trans a b) k back m f final frame ready) (words.0.2, words.1) from within in
+arms_typed s q r u t x body rest a c b h d k m f final frame ready words from within =
+    let condition = promise_front {s = s} {t = q} {u = u} (OffersCondition x) a (moves_trans b d) c m f final frame ready words.0.0 in
+    let first = typed_before body m f a.steady (promise_later {s = s} {t = q} {u = u} (IsTypedIn q.body body) a (promise_front {s = q} {t = r} {u = u} (IsTypedIn q.body body) b d h) m f final frame ready) words.0.1 from within in
+    let others = behind_before rest m f (moves_trans a b).steady (promise_later {s = s} {t = r} {u = u} (IsTypedBehind r.body rest) (moves_trans a b) k m f final frame ready) (words.0.2, words.1) from within in
     ((condition, first, others.0), others.1)
 
 if_typed : (s q r u : State) (t : ℕ) (x : Expression) (body : Statement) (rest : R.Behind) → Moves s q → Promise s q (OffersCondition x) → Moves q r → Promise q r (IsTypedIn q.body body) → Moves r u
     → Promise r u (IsTypedBehind r.body rest) → Promise s u (IsTypedIn s.body (T.If t (T.Arm t x body rest.arms) rest.otherwise))
 unfolding IsStatement
-if_typed s q r u t x body rest a c b h d k back m f final frame ready words from within =
-    let all = arms_typed s q r u t x body rest a c b h d k back m f final frame ready words from within in (refl, all.0, all.1)
+if_typed s q r u t x body rest a c b h d k m f final frame ready words from within =
+    let all = arms_typed s q r u t x body rest a c b h d k m f final frame ready words from within in (refl, all.0, all.1)
 
 -- a condition, and then a loop
 while_typed : (s q r : State) (t : ℕ) (x : Expression) (body : Statement) → Moves s q → Promise s q (OffersCondition x) → Moves q r → Promise q r (IsTypedLoop q body) → Promise s r (IsTypedIn s.body (T.While t x body))
 unfolding IsStatement
-while_typed s q r t x body a c b h back m f final frame ready words from within =
+while_typed s q r t x body a c b h m f final frame ready words from within =
     let k : length s.body.locals ≤ length q.body.locals = longer_length s.body.locals q.body.locals a.steady.locals in (
-      promise_front {s = s} {t = q} {u = r} (OffersCondition x) a b c back m f final frame ready words.0,
-      promise_later {s = s} {t = q} {u = r} (IsTypedLoop q body) a h back m f final frame ready words.1 from (omega (arith, within, k)),
+      promise_front {s = s} {t = q} {u = r} (OffersCondition x) a b c m f final frame ready words.0,
+      promise_later {s = s} {t = q} {u = r} (IsTypedLoop q body) a h m f final frame ready words.1 from (omega (arith, within, k)),
     )
 
 do_typed : (s q r : State) (t : ℕ) (x : Expression) (body : Statement) → Moves s q → Promise s q (IsTypedLoop s body) → Moves q r → Promise q r (OffersCondition x) → Promise s r (IsTypedIn s.body (T.Do t body x))
 unfolding IsStatement
-do_typed s q r t x body a h b c back m f final frame ready words from within = (
-  promise_later {s = s} {t = q} {u = r} (OffersCondition x) a c back m f final frame ready words.0,
-  promise_front {s = s} {t = q} {u = r} (IsTypedLoop s body) a b h back m f final frame ready words.1 from within,
+do_typed s q r t x body a h b c m f final frame ready words from within = (
+  promise_later {s = s} {t = q} {u = r} (OffersCondition x) a c m f final frame ready words.0,
+  promise_front {s = s} {t = q} {u = r} (IsTypedLoop s body) a b h m f final frame ready words.1 from within,
 )
 
 for_typed : (s a b c r : State) (t : ℕ) (x y z : Option Expression) (body : Statement) → Moves s a → Promise s a (OffersIfAny x) → Moves a b → Promise a b (OffersConditionIfAny y) → Moves b c → Promise b c (OffersIfAny z)
     → Moves c r → Promise c r (IsTypedLoop c body) → Promise s r (IsTypedIn s.body (T.For t x y z body))
 unfolding IsStatement
-for_typed s a b c r t x y z body sa px ab py bc pz cr pb back m f final frame ready words from within =
+for_typed s a b c r t x y z body sa px ab py bc pz cr pb m f final frame ready words from within =
     let k : length s.body.locals ≤ length c.body.locals = longer_length s.body.locals c.body.locals (moves_trans sa (moves_trans ab bc)).steady.locals in (
-      promise_front {s = s} {t = a} {u = r} (OffersIfAny x) sa (moves_trans ab (moves_trans bc cr)) px back m f final frame ready words.0,
-      promise_later {s = s} {t = a} {u = r} (OffersConditionIfAny y) sa (promise_front {s = a} {t = b} {u = r} (OffersConditionIfAny y) ab (moves_trans bc cr) py) back m f final frame ready words.1,
-      promise_later {s = s} {t = b} {u = r} (OffersIfAny z) (moves_trans sa ab) (promise_front {s = b} {t = c} {u = r} (OffersIfAny z) bc cr pz) back m f final frame ready words.2,
-      promise_later {s = s} {t = c} {u = r} (IsTypedLoop c body) (moves_trans sa (moves_trans ab bc)) pb back m f final frame ready words.3 from (omega (arith, within, k)),
+      promise_front {s = s} {t = a} {u = r} (OffersIfAny x) sa (moves_trans ab (moves_trans bc cr)) px m f final frame ready words.0,
+      promise_later {s = s} {t = a} {u = r} (OffersConditionIfAny y) sa (promise_front {s = a} {t = b} {u = r} (OffersConditionIfAny y) ab (moves_trans bc cr) py) m f final frame ready words.1,
+      promise_later {s = s} {t = b} {u = r} (OffersIfAny z) (moves_trans sa ab) (promise_front {s = b} {t = c} {u = r} (OffersIfAny z) bc cr pz) m f final frame ready words.2,
+      promise_later {s = s} {t = c} {u = r} (IsTypedLoop c body) (moves_trans sa (moves_trans ab bc)) pb m f final frame ready words.3 from (omega (arith, within, k)),
     )
 
 is_switch : (x : Expression) (k : IntKind) (w : SwitchState) (body : Statement) → type_in x ≡ Int (promoted k) → IsSwitchOf (kind_in (type_in x)) w body → IsSwitch (type_in x) w.cases w.default body
@@ -532,36 +524,36 @@ is_switch x k w body same h =
 switch_typed : (s q r : State) (t : ℕ) (x : Expression) (w : SwitchState) (body : Statement) → Moves s q → Promise s q (λ m f. AreWords x → IsTyped m f.locals x) → (k : IntKind) → type_in x ≡ Int (promoted k)
     → Moves q r → Promise q r (IsTypedSwitch q (body, w)) → IsSwitchOf (kind_in (type_in x)) w body → Promise s r (IsTypedIn s.body (T.Switch t x w.cases w.default body))
 unfolding IsStatement
-switch_typed s q r t x w body a c kind same b h is back m f final frame ready words from within =
+switch_typed s q r t x w body a c kind same b h is m f final frame ready words from within =
     let k : length s.body.locals ≤ length q.body.locals = longer_length s.body.locals q.body.locals a.steady.locals in (
-      promise_front {s = s} {t = q} {u = r} (λ n g. AreWords x → IsTyped n g.locals x) a b c back m f final frame ready words.0,
+      promise_front {s = s} {t = q} {u = r} (λ n g. AreWords x → IsTyped n g.locals x) a b c m f final frame ready words.0,
       is_switch x kind w body same is,
-      subst (λ y. IsStatement m f true y from body) (loops_same a.steady) (promise_later {s = s} {t = q} {u = r} (IsTypedSwitch q (body, w)) a h back m f final frame ready words.1 from (omega (arith, within, k))),
+      subst (λ y. IsStatement m f true y from body) (loops_same a.steady) (promise_later {s = s} {t = q} {u = r} (IsTypedSwitch q (body, w)) a h m f final frame ready words.1 from (omega (arith, within, k))),
     )
 
 label_typed : (s q r : State) (t : ℕ) (ns : List ℕ) (body : Statement) → ns ≢ [] → Moves s q → Promise q r (IsTypedIn q.body body) → Promise s r (IsTypedIn s.body (T.Label t ns body))
 unfolding IsStatement
-label_typed s q r t ns body some a h back m f final frame ready words from within =
-    (some, typed_before body m f a.steady (promise_later {s = s} {t = q} {u = r} (IsTypedIn q.body body) a h back m f final frame ready) words from within)
+label_typed s q r t ns body some a h m f final frame ready words from within =
+    (some, typed_before body m f a.steady (promise_later {s = s} {t = q} {u = r} (IsTypedIn q.body body) a h m f final frame ready) words from within)
 
 statements_typed : (s q r : State) (x : Statement) (xs : T.Statements) → Moves s q → Promise s q (IsTypedIn s.body x) → Moves q r → Promise q r (AreTypedIn q.body xs) → Promise s r (AreTypedIn s.body (T.OneStatement x xs))
 unfolding IsStatement
-statements_typed s q r x xs a h b k back m f final frame ready words from within = (
-  promise_front {s = s} {t = q} {u = r} (IsTypedIn s.body x) a b h back m f final frame ready words.0 from within,
-  all_before xs m f a.steady (promise_later {s = s} {t = q} {u = r} (AreTypedIn q.body xs) a k back m f final frame ready) words.1 from within,
+statements_typed s q r x xs a h b k m f final frame ready words from within = (
+  promise_front {s = s} {t = q} {u = r} (IsTypedIn s.body x) a b h m f final frame ready words.0 from within,
+  all_before xs m f a.steady (promise_later {s = s} {t = q} {u = r} (AreTypedIn q.body xs) a k m f final frame ready) words.1 from within,
 )
 
 none_typed : (s : State) → Promise s s (AreTypedIn s.body T.NoStatement)
 unfolding IsStatement
-none_typed s back m f final frame ready words from within = tt
+none_typed s m f final frame ready words from within = tt
 
 no_arm : (s : State) → Promise s s (IsTypedBehind s.body (R.arms_behind T.NoArm T.NoElse))
 unfolding IsStatement
-no_arm s back m f final frame ready words from within = (tt, tt)
+no_arm s m f final frame ready words from within = (tt, tt)
 
 else_typed : (s r : State) (x : Statement) → Promise s r (IsTypedIn s.body x) → Promise s r (IsTypedBehind s.body (R.arms_behind T.NoArm (T.Else x)))
 unfolding IsStatement
-else_typed s r x h back m f final frame ready words from within = (tt, h back m f final frame ready words.1 from within)
+else_typed s r x h m f final frame ready words from within = (tt, h m f final frame ready words.1 from within)
 
 -- the labels of a switch go with its promise
 switch_both : (s : State) (x : Expression) (st : Stmt) → IsLawful s → ((v : State) → IsLawful v → Post (stmt_rule st v) (IsKept v))

@@ -21,7 +21,7 @@ use Rattle.pw_well_typed.proofs.Keeping.{after_same, Goes, goes_by, of_runs, fro
 
 case_goes : (s : State) (first : ℕ) (e : Expression) → IsLawful s → Goes s (case_rule first e s) Anything
 unfolding case_rule new_label bind
-case_goes s first e l = λ met. let a = body_kept s _ l in (a.0, a.1, tt)
+case_goes s first e l = λ met. let a = body_kept s _ l refl in (a.0, a.1, tt)
 
 inside_goes : (s : State) (t : ℕ) → IsLawful s → Goes s (inside_switch t s) Anything
 unfolding inside_switch bind
@@ -29,11 +29,11 @@ inside_goes s t l = λ met. (l, after_same s, tt)
 
 default_goes : (s : State) (t : ℕ) → IsLawful s → Goes s (default_rule t s) Anything
 unfolding default_rule new_label bind
-default_goes s t l = λ met. let a = body_kept s _ l in (a.0, a.1, tt)
+default_goes s t l = λ met. let a = body_kept s _ l refl in (a.0, a.1, tt)
 
 name_label_goes : (s : State) (w : Word) → IsLawful s → Goes s (name_label_rule w s) Anything
 unfolding name_label_rule bind
-name_label_goes s w l = λ met. let a = body_kept s _ l in (a.0, a.1, tt)
+name_label_goes s w l = λ met. let a = body_kept s _ l refl in (a.0, a.1, tt)
 
 label_goes : (s : State) (label : Label) → IsLawful s → Goes s (label_rule label s) Anything
 unfolding label_rule
@@ -76,14 +76,14 @@ switch_goes s t e l = goes_by (whole_rule e s) _ FineValue Anything (whole_goes 
 pub in_switch_goes : (s : State) (e : Expression) (body : Rule Statement) → IsLawful s → ((t : State) → IsLawful t → Goes t (body t) Anything) → Goes s (in_switch e body s) Anything
 unfolding in_switch bind
 in_switch_goes s e body l h =
-    let a = body_kept s _ l in
-    from_kept _ Anything a (goes_by (body _) _ Anything Anything (h _ a.0) (λ r m x f. let b = body_kept r.1 _ m in (b.0, b.1, tt)))
+    let a = body_kept s _ l refl in
+    from_kept _ Anything a (goes_by (body _) _ Anything Anything (h _ a.0) (λ r m x f. let b = body_kept r.1 _ m refl in (b.0, b.1, tt)))
 
 pub in_loop_goes : (s : State) (body : Rule Statement) → IsLawful s → ((t : State) → IsLawful t → Goes t (body t) Anything) → Goes s (in_loop body s) Anything
 unfolding in_loop bind
 in_loop_goes s body l h =
-    let a = body_kept s _ l in
-    from_kept _ Anything a (goes_by (body _) _ Anything Anything (h _ a.0) (λ r m x f. let b = body_kept r.1 _ m in (b.0, b.1, tt)))
+    let a = body_kept s _ l refl in
+    from_kept _ Anything a (goes_by (body _) _ Anything Anything (h _ a.0) (λ r m x f. let b = body_kept r.1 _ m refl in (b.0, b.1, tt)))
 
 goto_goes : (s : State) (t : ℕ) (w : Word) → IsLawful s → Goes s (goto_rule t w s) Anything
 unfolding goto_rule bind

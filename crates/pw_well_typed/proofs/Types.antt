@@ -42,7 +42,7 @@ extends_trans {a} {b} {c} e f = record {
 pub extends_same : (a : List RecordValue) → Extends a a
 extends_same a = record { longer = omega arith; kept = λ n x h. h }
 
-map_some : {A B : Type 0} (f : A → B) (o : Option A) → is_some (option_map f o) ≡ is_some o
+pub map_some : {A B : Type 0} (f : A → B) (o : Option A) → is_some (option_map f o) ≡ is_some o
 map_some f None = refl
 map_some f (Some x) = refl
 

@@ -1,11 +1,12 @@
 //! What checking promises of its result, said of typed trees alone: laws, as the contracts of functions that do nothing.
 #![tactic(auto)]
 
-ghost use Rattle.std.specs.Prelude.{◌≢◌, All, AllPairs, List, Ok};
+ghost use Rattle.std.specs.Prelude.{◌≢◌, false, All, AllPairs, List, Ok};
 ghost use Rattle.pw_tree.specs.Trees.{Expr, Module};
-ghost use Rattle.pw_types.specs.Records.{IsLaid};
+ghost use Rattle.pw_tree.specs.WellFormed.{WellFormedModule};
+ghost use Rattle.pw_types.specs.Records.{IsLaid, IsObjectType};
 ghost use Rattle.pw_types.specs.TypeTrees.{type_of};
-ghost use Rattle.pw_types.specs.TypedModules.{AreLabels, IsBlock, IsFunctionTyped};
+ghost use Rattle.pw_types.specs.TypedModules.{AreLabels, IsBlock, IsDeclaredIfExternal, IsFunctionTyped, IsGlobal, IsStatement, WellTyped};
 ghost use Rattle.pw_types.specs.TypedTrees.{LocalValue, ModuleValue};
 ghost use Rattle.pw_types.specs.WellTyped.{IsKnownType, IsTyped};
 ghost use Rattle.pw_walk.specs.Answers.{Answers};
@@ -14,6 +15,7 @@ ghost use Rattle.pw_rules.specs.Operands.{Operand};
 ghost use Rattle.pw_rules.specs.Phrases.{expr_rule};
 ghost use Rattle.pw_rules.specs.States.{State, start};
 ghost use Rattle.pw_well_typed.specs.Lawful.{AreWords, Denotes, IsLawful};
+ghost use Rattle.pw_well_typed.specs.Words.{WordsInStatement};
 
 /// Nothing is declared at a module's start, so nothing that is known there is unlawful.
 pub fn start_is_lawful()
@@ -52,4 +54,38 @@ pub fn accepted_labels_are_apart()
 pub fn accepted_functions_are_typed()
     ensures typed { (tree : Module) (m : ModuleValue) → Checks tree (Ok m) → All (IsFunctionTyped m) m.functions }
     ensures block { (tree : Module) (m : ModuleValue) → Checks tree (Ok m) → All (λ f. IsBlock f.params f.body) m.functions }
+{}
+
+/// In a module that checking accepts no object is defined twice, and none under the name of a function.
+pub fn accepted_objects_are_apart()
+    ensures one_global { (tree : Module) (m : ModuleValue) → Checks tree (Ok m) → AllPairs (λ g h. g.name ≢ h.name) m.globals }
+    ensures one_kind { (tree : Module) (m : ModuleValue) → Checks tree (Ok m) → All (λ g. All (λ f. g.name ≢ f.name) m.functions) m.globals }
+{}
+
+/// What a module that checking accepts defines under an external name it declares, with the type that it has (ISO C90 6.1.2.6).
+pub fn accepted_names_are_declared()
+    ensures functions { (tree : Module) (m : ModuleValue) → Checks tree (Ok m) → All (λ f. IsDeclaredIfExternal m f.name f.ty) m.functions }
+    ensures objects { (tree : Module) (m : ModuleValue) → Checks tree (Ok m) → All (λ g. IsDeclaredIfExternal m g.name g.ty) m.globals }
+{}
+
+/// The body of each function of a module that checking accepts is a well-typed statement of the function, in no loop and no switch,
+/// if each number in it is one of 32 bits, as in each tree that the code makes, and the syntax tree is one of C90's grammar
+/// (ISO C90 6.5.7, 6.6).
+pub fn accepted_bodies_are_well_typed()
+    ensures { (tree : Module) (m : ModuleValue) → WellFormedModule tree → Checks tree (Ok m)
+        → All (λ f. WordsInStatement f.body → IsStatement m f false false f.params f.body) m.functions }
+{}
+
+/// Each parameter and local of a function that checking accepts has a known type, which is complete and keeps the limit on sizes.
+pub fn accepted_locals_are_objects()
+    ensures { (tree : Module) (m : ModuleValue) → Checks tree (Ok m)
+        → All (λ f. All (λ l. IsObjectType m.records (type_of l.ty) × IsKnownType m.records (type_of l.ty)) f.locals) m.functions }
+{}
+
+/// A module that checking accepts is well typed if each of its objects is (`IsGlobal`): the types, the functions with their
+/// statements, the names that it shares, and what is defined once follow. Each number in its functions is one of 32 bits, as in
+/// each tree that the code makes, and the syntax tree is one of C90's grammar.
+pub fn accepted_is_well_typed_with_its_objects()
+    ensures { (tree : Module) (m : ModuleValue) → WellFormedModule tree → Checks tree (Ok m) → All (λ f. WordsInStatement f.body) m.functions
+        → All (IsGlobal m) m.globals → WellTyped m }
 {}
