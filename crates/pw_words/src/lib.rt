@@ -10,5 +10,4 @@ mod reading;
 
 pub use commands::Command;
 pub use fault::WordsFault;
-pub use numbers::number_in;
 pub use reading::command;
