@@ -34,3 +34,5 @@ pub mod Backward
 pub mod Modules
 pub mod Laws
 pub mod Whole
+pub mod Parts
+pub mod Cursors
