@@ -1,11 +1,11 @@
 -- What the names of a state stand for, backward over what is declared behind it: at a module's end they stand for what the
 -- module has, so they did at each place before.
-use Rattle.std.specs.Prelude.{ℕ, zero, suc, ◌≡◌, ◌⊎◌, not, Bool, true, false, Option, None, Some, List, [], ◌∷◌, ◌++◌, flat_map, slice_get, Contains, if◌then◌else◌, refl}
+use Rattle.std.specs.Prelude.{ℕ, zero, suc, ◌≡◌, ◌⊎◌, Bool, true, false, Option, None, Some, List, [], ◌∷◌, ◌++◌, flat_map, slice_get, Contains, if◌then◌else◌, refl}
 use Rattle.std.specs.Option.{option_map_or}
 use Rattle.std.proofs.Common.{ap, sym, subst, ◌∙◌, inl, inr}
 use Rattle.std.proofs.lemmas.Option.{slice_get-get_or}
 use Rattle.pw_types.specs.TypeTrees.{Void, Int, Pointer, Array, Function, Record, QType, Qualified, type_of}
-use Rattle.pw_types.specs.TypedTrees.{Symbol, External, Internal, Hidden, FunctionValue, GlobalValue, ModuleValue, LocalValue}
+use Rattle.pw_types.specs.TypedTrees.{Symbol, External, Internal, Hidden, ModuleValue, LocalValue}
 use Rattle.pw_types.specs.WellTyped.{IsDeclared, IsDefined, IsObject, IsFunctionOf}
 use Rattle.pw_rules.specs.Kinds.{is_function}
 use Rattle.pw_rules.specs.Linkage.{symbol_at, symbol_of_linked}
@@ -19,9 +19,9 @@ use Rattle.pw_well_typed.proofs.Lists.{some_same, never_some, get_append}
 use Rattle.pw_well_typed.proofs.Types.{no, extends_same, extends_trans}
 use Rattle.pw_well_typed.proofs.Composite.{Covers, covers_same, covered_agree, agree_back}
 use Rattle.pw_well_typed.proofs.Sound.{Sound, Filling, is_stored}
-use Rattle.pw_well_typed.proofs.Keeping.{AfterBy, After, Later, Keeps, StaysAt}
+use Rattle.pw_well_typed.proofs.Keeping.{AfterBy, Later, Keeps, StaysAt}
 use Rattle.pw_well_typed.proofs.Declaring.{symbol_continues}
-use Rattle.pw_well_typed.proofs.Ending.{contains_at, declared_as, final_covers, symbol_text}
+use Rattle.pw_well_typed.proofs.Ending.{contains_at, declared_as, final_covers}
 
 -- the names of the state stand for what the module has
 pub record Names (s : State) (m : ModuleValue) : Type 0 where

@@ -5,6 +5,7 @@ use Rattle.std.proofs.Common.{arith, ap, sym, subst, ◌∙◌, inl, inr}
 use Rattle.std.proofs.lemmas.Option.{slice_get-get_or}
 use Rattle.pw_tree.specs.Trees.{Word, Function, External, Definition, Declaration, Module, Block}
 use Rattle.pw_tree.specs.Trees as S
+use Rattle.pw_tree.specs.WellFormed.{WellFormedModule}
 use Rattle.pw_types.specs.TypeTrees.{CType, QType, QTypes, type_of}
 use Rattle.pw_types.specs.TypeTrees as Y
 use Rattle.pw_types.specs.TypedTrees.{Statement, LocalValue, FunctionValue, ModuleValue}
@@ -26,7 +27,7 @@ use Rattle.pw_rules.specs.Statements.{block_rule}
 use Rattle.pw_rules.specs.declared.names.Entry.{Entry}
 use Rattle.pw_rules.specs.declared.names.Slot.TheVariants as slot
 use Rattle.pw_well_typed.specs.Lawful.{IsLawful, IsLawfulType, Extends}
-use Rattle.pw_well_typed.specs.Texts.{BlockHasText, ExternalHasText, ExternalsHaveText, ModuleHasText}
+use Rattle.pw_well_typed.proofs.Texts.{BlockHasText, ExternalHasText, ExternalsHaveText, ModuleHasText, module_text}
 use Rattle.pw_well_typed.specs.Words.{WordsInStatement}
 use Rattle.pw_well_typed.proofs.Walking.{Post, post_end, post_bind, post_weaken, post_both, truth, AreMet}
 use Rattle.pw_well_typed.proofs.Lists.{Longer, get_append, get_either, get_map, get_more, put_either, some_same, never_some}
@@ -400,6 +401,6 @@ checking_stated m l text =
     post_bind (module_rule m start) (λ r. Done r.0) IsWhollyStated (λ v. All (HasTypedBody v) v.functions) (module_stated m l text)
     (λ r h. subst (λ v. All (HasTypedBody v) v.functions) (sym h.0) (bodies_typed r.1 h.1.0 h.1.1.0 h.1.1.1))
 
-pub module_bodies : (tree : Module) (m : ModuleValue) → ModuleHasText tree → Checks tree (Ok m) → All (HasTypedBody m) m.functions
+pub module_bodies : (tree : Module) (m : ModuleValue) → WellFormedModule tree → Checks tree (Ok m) → All (HasTypedBody m) m.functions
 unfolding checking
-module_bodies tree m text h = post_end (checking tree) m (λ v. All (HasTypedBody v) v.functions) h (checking_stated tree Rattle.pw_well_typed.proofs.Laws.start_lawful text)
+module_bodies tree m text h = post_end (checking tree) m (λ v. All (HasTypedBody v) v.functions) h (checking_stated tree Rattle.pw_well_typed.proofs.Laws.start_lawful (module_text tree text))

@@ -3,13 +3,13 @@ use Rattle.pw_types.specs.Layouts.{layout_of, array_layout}
 use Rattle.pw_types.specs.Records.{IsObjectType}
 use Rattle.pw_well_typed.proofs.Objects.{completed_so, object_later}
 use Rattle.pw_well_typed.proofs.ObjectTypes.{IsWithin, object_is, within_fits}
-use Rattle.pw_well_typed.proofs.Declaring.{body_kept, hidden_kept, hidden_put, entity_becomes, plain_entered, static_entered, Linkable, linkable, declared_goes, GoodPlace, DeclaredHere, here_later, defined_scopes, defined_place, visible_before, tentative_after, object_after, initialised_after, keeps_put, put_sound}
+use Rattle.pw_well_typed.proofs.Declaring.{hidden_kept, hidden_put, entity_becomes, plain_entered, static_entered, Linkable, linkable, declared_goes, GoodPlace, DeclaredHere, here_later, defined_scopes, defined_place, visible_before, tentative_after, object_after, initialised_after, keeps_put, put_sound}
 use Rattle.pw_well_typed.proofs.Filling.{object_runs, runs_whatever}
 use Rattle.pw_well_typed.proofs.Locals.{place_of_new}
 use Rattle.pw_well_typed.proofs.Sound.{Sound, named_same, filling_same}
 use Rattle.pw_well_typed.proofs.Composite.{Covers, covers_same, covers_trans}
 use Rattle.pw_well_typed.proofs.States.{Grows}
-use Rattle.pw_well_typed.proofs.Lists.{Longer, some_same, never_some, get_last, get_within, put_same, get_more, get_append, put_either}
+use Rattle.pw_well_typed.proofs.Lists.{Longer, some_same, get_last, get_within, put_same, get_more, get_append, put_either}
 use Rattle.pw_rules.specs.declared.names.Slot.{Slot}
 use Rattle.pw_rules.specs.declared.names.Slot.TheVariants as slot
 use Rattle.pw_walk.specs.Causes.{needs, InitialisedHere, CompleteObject, InitialisedKind}
@@ -31,7 +31,7 @@ use Rattle.pw_rules.specs.Initialisers.{object_rule, is_by_bytes, Context, with_
 use Rattle.pw_rules.specs.Kinds.{is_function, is_const_object, is_void, is_open_array, is_array}
 use Rattle.pw_rules.specs.Leaves.{alone_by, alone_rule, record_kind, first_of_list}
 use Rattle.pw_rules.specs.Limits.{Spot, type_within, completed}
-use Rattle.pw_rules.specs.Linkage.{AsBefore, declare_linked, define_tentatively, define_object, initialise_linked, note_here, named_type, type_now, Asking, AsInternal, AsExternal, is_linked, is_internal_by, linked_before, place_for}
+use Rattle.pw_rules.specs.Linkage.{AsBefore, declare_linked, define_tentatively, define_object, initialise_linked, note_here, named_type, type_now, AsInternal, AsExternal, is_linked, is_internal_by, linked_before, place_for}
 use Rattle.pw_rules.specs.SpecifierLists.{Specified, nothing_gathered, is_typedef, is_extern, is_static, is_register}
 use Rattle.pw_rules.specs.States.{State, TypeName, LocalObject, StaticObject, is_file_scope, add_hidden, put_hidden, add_local, HiddenObject, next_hidden, next_local, tag_here, Entity, EnumerationConstant, Linked, entity_here, LinkedName, records_in, enter, put_at}
 use Rattle.pw_rules.specs.declared.names.Tag.{Tag}
@@ -41,7 +41,7 @@ use Rattle.pw_well_typed.proofs.Conversions.{no_function}
 use Rattle.pw_well_typed.proofs.Changes.{like_later, entered_sound}
 use Rattle.pw_well_typed.proofs.Leaves.{GoodType, GoodGathered, GoodSpecified, GoodDeclared, GoodReference, Fresh, specified_runs, built_runs, reference_by_runs, new_tag_runs, tag_here_lawful}
 use Rattle.pw_well_typed.proofs.Phrases.{specifiers_post, declarator_post}
-use Rattle.pw_well_typed.proofs.Initialisers.{Keeps, IsLawfully, lawful_stays, object_keeps, Stays, object_stays, covers_length, Completes, stays_complete, object_gives, single_no_array}
+use Rattle.pw_well_typed.proofs.Initialisers.{IsLawfully, lawful_stays, Stays, object_stays, covers_length, Completes, stays_complete, object_gives, single_no_array}
 use Rattle.pw_well_typed.proofs.Keeping.{after_same, after_trans, Kept, Goes, goes_by, of_runs, changed, asked, Anything, here_is, After, AfterBy, KeptBy, GoesBy, goes_between, after_grows, from_kept, kept_trans, AreLocals, after_by, knows_linked, keeps_longer, keeps_trans, entity_put, entered_kept, around}
 
 completed_goes : (s : State) (w : Word) (q : QType) → IsLawful s → Goes s (completed_rule w q s) Anything

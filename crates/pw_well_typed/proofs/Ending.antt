@@ -1,23 +1,23 @@
 -- What stands at a module's end: each object once and under a name of its own, and each external name declared with its type.
 use Rattle.std.specs.Prelude.{ℕ, zero, suc, ◌≡◌, ◌≢◌, ◌⊎◌, ◌<◌, not, Bool, true, false, Option, None, Some, unwrap_or, List, [], ◌∷◌, ◌++◌, map, filter, flat_map, slice_get, length, All, AllPairs, Contains, get_or, refl}
 use Rattle.std.specs.Option.{option_map_or}
-use Rattle.std.proofs.Common.{arith, ap, sym, subst, ◌∙◌, inl, inr}
+use Rattle.std.proofs.Common.{arith, ap, sym, subst, ◌∙◌}
 use Rattle.std.proofs.lemmas.Option.{slice_get-get_or, get_or_from_slice_get}
 use Rattle.std.proofs.lemmas.List.Elements.{Contains-get_or, All-nil, All-cons, All-append, All-weaker}
 use Rattle.std.proofs.lemmas.List.Kept.{AllPairs-cons}
-use Rattle.pw_types.specs.TypeTrees.{QType, Qualified, Function, type_of}
-use Rattle.pw_types.specs.TypedTrees.{Symbol, External, Internal, Hidden, FunctionValue, GlobalValue, DeclaredValue, ModuleValue}
+use Rattle.pw_types.specs.TypeTrees.{QType, type_of}
+use Rattle.pw_types.specs.TypedTrees.{Symbol, External, Internal, Hidden, FunctionValue, GlobalValue}
 use Rattle.pw_types.specs.TypedModules.{IsDeclaredIfExternal}
 use Rattle.pw_types.specs.WellTyped.{IsDeclared}
 use Rattle.pw_rules.specs.Kinds.{is_function}
 use Rattle.pw_rules.specs.Linkage.{symbol_of_linked}
 use Rattle.pw_rules.specs.Modules.{declared_value, final_type, global_in, hidden_global, module_in, named_global, type_of_entity}
-use Rattle.pw_rules.specs.States.{State, LinkedName, Entity, TypeName, EnumerationConstant, LocalObject, StaticObject, Linked, HiddenObject, entity_of, entry_of, entity_at, linked_in, linked_at, start}
+use Rattle.pw_rules.specs.States.{State, LinkedName, Entity, TypeName, EnumerationConstant, LocalObject, StaticObject, Linked, HiddenObject, entry_of, entity_at, linked_at, start}
 use Rattle.pw_rules.specs.declared.names.Entry.{Entry}
 use Rattle.pw_rules.specs.declared.names.Slot.{Slot}
 use Rattle.pw_rules.specs.declared.names.Slot.TheVariants as slot
 use Rattle.pw_well_typed.specs.Lawful.{IsLawful}
-use Rattle.pw_well_typed.proofs.Lists.{some_same, never_some, get_append, get_either, get_one, get_within}
+use Rattle.pw_well_typed.proofs.Lists.{some_same, never_some, get_within}
 use Rattle.pw_well_typed.proofs.Types.{no}
 use Rattle.pw_well_typed.proofs.Composite.{Covers, covers_same, covered_agree}
 use Rattle.pw_well_typed.proofs.Sound.{Sound, IsThere, IsFunctionNamed, Spelled}

@@ -14,15 +14,15 @@ use Rattle.pw_types.specs.TypedTrees.{PlacedItem, LocalValue}
 use Rattle.pw_walk.specs.Causes.{Constraint, Point}
 use Rattle.pw_walk.specs.Walks.{Walk, Done, Passing, bind, granted}
 use Rattle.pw_rules.specs.Compatible.{composite}
-use Rattle.pw_rules.specs.Linkage.{Asking, declare_linked, note_linked, note_here, type_here, place_for, linked_before, linked_again, linked_anew, is_internal_by, change_linked, slot_for, has_slot, define_tentatively, define_object, define_function, initialise_linked}
-use Rattle.pw_rules.specs.States.{State, LinkedName, place_of_linked, Rule, MadeState, BodyState, Entity, TypeName, EnumerationConstant, LocalObject, StaticObject, Linked, entity_here, entry_here, entity_at, linked_at, put_linked, add_linked, put_entity, add_slot, enter, put_at, scoped, one_deeper, leave_scope, HiddenObject}
+use Rattle.pw_rules.specs.Linkage.{note_linked, note_here, type_here, place_for, linked_before, linked_again, linked_anew, change_linked, slot_for, has_slot, define_tentatively, define_object, define_function, initialise_linked}
+use Rattle.pw_rules.specs.States.{State, LinkedName, place_of_linked, Rule, MadeState, BodyState, Entity, TypeName, EnumerationConstant, LocalObject, StaticObject, Linked, entity_here, entry_here, entity_at, linked_at, put_linked, add_linked, put_entity, add_slot, enter, put_at, scoped, one_deeper, leave_scope}
 use Rattle.pw_rules.specs.declared.names.Entry.{Entry}
 use Rattle.pw_rules.specs.declared.names.Slot.TheVariants as slot
 use Rattle.pw_well_typed.specs.Lawful.{IsLawful, IsLawfulType, IsLawfulEntity, Extends, IsObjectLike}
 use Rattle.pw_well_typed.proofs.Walking.{Post, AreMet, post_bind, post_weaken}
 use Rattle.pw_well_typed.proofs.Lists.{some_same, never_some, put_either, put_cases, get_more, found_first, get_append, position_passes, position_none, get_last, get_within, put_same, Longer}
 use Rattle.pw_well_typed.proofs.States.{Runs, Grows}
-use Rattle.pw_well_typed.proofs.Types.{no, extends_trans, extends_same, lawful_composite}
+use Rattle.pw_well_typed.proofs.Types.{extends_trans, extends_same, lawful_composite}
 use Rattle.pw_well_typed.proofs.Changes.{entered, left_lawful_alone, left_sound_alone, like_later}
 
 abbrev pub StaysAt : State → ℕ → LinkedName → Type 0

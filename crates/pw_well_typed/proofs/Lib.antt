@@ -24,7 +24,9 @@ pub mod Declarations
 pub mod Adding
 pub mod LabelLaws
 pub mod FunctionTypes
+pub mod Texts
 pub mod StatementTypes
+pub mod ItemBytes
 pub mod FunctionLaws
 pub mod Parameters
 pub mod Bodies

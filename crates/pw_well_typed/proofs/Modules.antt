@@ -9,7 +9,7 @@ use Rattle.pw_rules.specs.Limits.{Spot}
 use Rattle.pw_well_typed.proofs.Composite.{Covers, covers_trans}
 use Rattle.pw_well_typed.proofs.States.{Grows}
 use Rattle.pw_well_typed.proofs.Declaring.{symbol_continues, declared_goes, GoodPlace, DeclaredAt, Linkable, function_after, mapped}
-use Rattle.pw_well_typed.proofs.Sound.{Sound, Continues, filling_same, Spelled, plain_spelled, IsFunctionNamed}
+use Rattle.pw_well_typed.proofs.Sound.{Sound, filling_same, Spelled, plain_spelled, IsFunctionNamed}
 use Rattle.pw_rules.specs.SpecifierLists.{Specified}
 use Rattle.std.specs.Option.{option_map_or}
 use Rattle.std.specs.Prelude.{ℕ, ◌≡◌, ◌+◌, ◌≤◌, ◌⊎◌, not, Option, None, Some, unwrap_or, List, [], ◌∷◌, map, filter, slice_get, All, refl, ◌≢◌, ◌<◌, AllPairs, length, if◌then◌else◌, Bool, true, false, zero, suc}
@@ -26,9 +26,9 @@ use Rattle.pw_rules.specs.Declarations.{name_of}
 use Rattle.pw_rules.specs.Derivations.{Bindings, spot_of, Declared, Derivation, ToPointer, ToArray, ToFunction, built, step_type, ParameterValue}
 use Rattle.pw_rules.specs.Functions.{function_of, bindings_of, no_bindings, enter_body, definition_asking, measured_rule, body_rule, function_rule, add_function, definition_rules, ends_in_function, parameter_local}
 use Rattle.pw_rules.specs.Leaves.{first_of_declaration}
-use Rattle.pw_rules.specs.Linkage.{define_function, symbol_of_linked, linked_before, place_for, is_internal_by, is_linked}
+use Rattle.pw_rules.specs.Linkage.{define_function, symbol_of_linked, linked_before, place_for, is_linked}
 use Rattle.pw_rules.specs.Modules.{external_rule, externals_rule, end_rule, module_in, module_rule, declared_value}
-use Rattle.pw_rules.specs.States.{State, LinkedName, leave_scope, linked_in, start, linked_at, put_linked, Entity, entity_here}
+use Rattle.pw_rules.specs.States.{State, LinkedName, leave_scope, linked_in, start, put_linked, Entity, entity_here}
 use Rattle.pw_rules.specs.Statements.{block_rule, labels_in_block}
 use Rattle.pw_rules.specs.declared.names.Entry.{Entry}
 use Rattle.pw_rules.specs.declared.names.Tag.{Tag}
@@ -42,7 +42,7 @@ use Rattle.pw_well_typed.proofs.Leaves.{GoodType, GoodSpecified, GoodDeclared, G
 use Rattle.pw_well_typed.proofs.Phrases.{declarator_post}
 use Rattle.pw_well_typed.proofs.Declarations.{specified_goes, decl_goes}
 use Rattle.pw_well_typed.proofs.Statements.{block_goes}
-use Rattle.pw_well_typed.proofs.Keeping.{After, after_same, after_trans, Kept, Goes, of_runs, met_first, Anything, none_named, place_is, named_before, weaker, after_by, knows_linked, keeps_same, plain_stays, GoesBy, AfterBy, Later, later_after, later_trans, after_grows}
+use Rattle.pw_well_typed.proofs.Keeping.{After, after_same, after_trans, Kept, Goes, of_runs, met_first, Anything, none_named, place_is, named_before, weaker, after_by, knows_linked, keeps_same, plain_stays, Later, later_after, later_trans, after_grows}
 
 -- ---- functions
 

@@ -1,16 +1,15 @@
 -- Types that are declared of objects: they keep the limit on sizes where they are complete, and so does a composite of them.
-use Rattle.std.specs.Prelude.{ℕ, ◌≡◌, ◌≤◌, ◌==◌, Bool, true, false, Option, None, Some, is_some, option_map, IsSome, IsSomeAnd, List, refl}
-use Rattle.std.proofs.Common.{arith, ap, sym, subst, ◌∙◌}
+use Rattle.std.specs.Prelude.{ℕ, ◌≡◌, ◌≤◌, ◌==◌, true, Option, None, Some, is_some, option_map, IsSomeAnd, List, refl}
+use Rattle.std.proofs.Common.{ap, sym, subst, ◌∙◌}
 use Rattle.std.proofs.lemmas.Bool.{eqb-true}
 use Rattle.pw_types.specs.declared.record.Layout.{Layout}
 use Rattle.pw_types.specs.Conversions.{size_of_kind}
 use Rattle.pw_types.specs.Layouts.{content_at, layout_of, array_layout, scalar_layout}
 use Rattle.pw_types.specs.Records.{IsLaid, IsObjectType}
-use Rattle.pw_types.specs.Sizes.{oversize_of}
 use Rattle.pw_types.specs.TypeTrees.{CType, Void, Int, Pointer, Array, Function, Record, QType, Qualified, type_of, ContentValue, RecordValue}
 use Rattle.pw_types.specs.WellTyped.{IsComplete}
 use Rattle.pw_value.specs.Limits.{size_limit}
-use Rattle.pw_rules.specs.Compatible.{compatible, compatible_types, composite, composite_type, lengths_agree}
+use Rattle.pw_rules.specs.Compatible.{compatible, compatible_types, composite_type}
 use Rattle.pw_rules.specs.Limits.{type_within}
 use Rattle.pw_well_typed.specs.Lawful.{IsLawfulType, Extends}
 use Rattle.pw_well_typed.proofs.Walking.{AreMet}

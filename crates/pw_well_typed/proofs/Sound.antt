@@ -1,8 +1,8 @@
 -- What the parts of the state of checking say of one another: each name in scope with linkage is one of those with linkage,
 -- which has what is known of the type in that scope; each object has its slot.
-use Rattle.std.specs.Prelude.{ℕ, zero, suc, ◌≡◌, ◌<◌, ◌⊎◌, Bool, true, false, ◌||◌, Option, None, Some, List, [], ◌∷◌, ◌++◌, length, slice_get, refl}
+use Rattle.std.specs.Prelude.{ℕ, ◌≡◌, ◌<◌, ◌⊎◌, Bool, true, false, ◌||◌, Option, Some, List, [], ◌∷◌, ◌++◌, length, slice_get, refl}
 use Rattle.std.proofs.Common.{arith, ap, sym, subst, ◌∙◌, inl, inr}
-use Rattle.pw_types.specs.TypeTrees.{QType, type_of}
+use Rattle.pw_types.specs.TypeTrees.{type_of}
 use Rattle.pw_types.specs.TypedTrees.{FunctionValue}
 use Rattle.pw_rules.specs.Kinds.{is_function}
 use Rattle.pw_rules.specs.Linkage.{symbol_of_linked}
@@ -10,7 +10,7 @@ use Rattle.pw_rules.specs.States.{State, LinkedName, Entity, TypeName, Enumerati
 use Rattle.pw_rules.specs.declared.names.Entry.{Entry}
 use Rattle.pw_rules.specs.declared.names.Slot.{Slot}
 use Rattle.pw_rules.specs.declared.names.Slot.TheVariants as slot
-use Rattle.pw_well_typed.proofs.Lists.{some_same, never_some, get_append, get_more, get_last, get_within, put_either, put_cases, put_same}
+use Rattle.pw_well_typed.proofs.Lists.{some_same, get_append, get_more, get_last, get_within, put_either, put_cases, put_same}
 use Rattle.pw_well_typed.proofs.Types.{no}
 use Rattle.pw_well_typed.proofs.Composite.{Covers, covers_same, covers_trans}
 

@@ -28,7 +28,7 @@ use Rattle.pw_rules.specs.States.{State, Rule, BodyState, SwitchState, one_deepe
 use Rattle.pw_rules.specs.Statements as R
 use Rattle.pw_rules.specs.Statements.{case_rule, new_label, inside_switch, default_rule, name_label_rule, label_rule, labels_rule, whole_rule, optional_rule, is_condition, condition_rule, optional_condition, switch_rule, in_switch, in_loop, goto_rule, continue_rule, break_rule, return_rule, stmt_rule, alternative_rule, block_rule, stmts_rule, place_of_label}
 use Rattle.pw_well_typed.specs.Lawful.{IsLawful, IsLawfulType, AreWords}
-use Rattle.pw_well_typed.specs.Texts.{HasText, AlternativeHasText, BlockHasText, StmtsHaveText}
+use Rattle.pw_well_typed.proofs.Texts.{never_nil, HasText, AlternativeHasText, BlockHasText, StmtsHaveText}
 use Rattle.pw_well_typed.specs.Words.{HasWordsIfAny, WordsInStatement, WordsInStatements, WordsInArms, WordsInElse}
 use Rattle.pw_well_typed.proofs.Walking.{Post, post_bind, post_weaken, post_both, truth}
 use Rattle.pw_well_typed.proofs.Lists.{Longer}
@@ -418,13 +418,6 @@ label_inside s (S.CaseLabel t e) l = λ met.
     post_weaken (case_rule (first_of_expr e) u.0 u.1) (λ v. Inside u.1 v.1) (λ v. Inside s v.1) (case_inside u.1 (first_of_expr e) u.0) (λ v f. inside_trans (inside_grows (grows_trans g.1 k.1)) f)))
 label_inside s (S.DefaultLabel t) l = λ met. inside_body s _ refl
 label_inside s (S.NameLabel w) l = λ met. inside_body s _ refl
-
-never_nil : {X : Type 0} (x : X) (xs : List X) → (x ∷ xs) ≢ []
-never_nil {X} x xs e = subst P e tt
-  where
-    P : List X → Type 0
-    P [] = ⊥
-    P (y ∷ ys) = Unit {0}
 
 -- as many labels as the tree has
 abbrev IsSome : List Label → List ℕ → Type 0

@@ -2,15 +2,15 @@
 use Rattle.std.specs.Prelude.{All, Ok}
 use Rattle.pw_tree.specs.Trees.{Module}
 use Rattle.pw_types.specs.TypedModules.{IsFunction, IsGlobal, WellTyped}
-use Rattle.pw_types.specs.TypedTrees.{FunctionValue, ModuleValue}
+use Rattle.pw_types.specs.TypedTrees.{ModuleValue}
 use Rattle.pw_rules.specs.Checks.{Checks}
-use Rattle.pw_well_typed.specs.Texts.{ModuleHasText}
+use Rattle.pw_tree.specs.WellFormed.{WellFormedModule}
 use Rattle.pw_well_typed.specs.Words.{WordsInStatement}
 use Rattle.pw_well_typed.proofs.Bodies.{module_bodies}
 use Rattle.pw_well_typed.proofs.FunctionLaws.{module_block, module_labels, module_typed}
 use Rattle.pw_well_typed.proofs.Laws.{module_apart, module_functions_declared, module_kinds_apart, module_known, module_laid, module_locals, module_objects_apart, module_once}
 
-functions : (tree : Module) (m : ModuleValue) → ModuleHasText tree → Checks tree (Ok m) → All (λ f. WordsInStatement f.body) m.functions → All (IsFunction m) m.functions
+functions : (tree : Module) (m : ModuleValue) → WellFormedModule tree → Checks tree (Ok m) → All (λ f. WordsInStatement f.body) m.functions → All (IsFunction m) m.functions
 functions tree m text h words = λ k d below. record {
   typed = module_typed tree m h k d below;
   locals = module_locals tree m h k d below;
@@ -19,7 +19,7 @@ functions tree m text h words = λ k d below. record {
   body = module_bodies tree m text h k d below (words k d below);
 }
 
-pub whole : (tree : Module) (m : ModuleValue) → ModuleHasText tree → Checks tree (Ok m) → All (λ f. WordsInStatement f.body) m.functions → All (IsGlobal m) m.globals → WellTyped m
+pub whole : (tree : Module) (m : ModuleValue) → WellFormedModule tree → Checks tree (Ok m) → All (λ f. WordsInStatement f.body) m.functions → All (IsGlobal m) m.globals → WellTyped m
 whole tree m text h words objects = record {
   laid = module_laid tree m h;
   known = module_known tree m h;

@@ -3,6 +3,7 @@
 
 ghost use Rattle.std.specs.Prelude.{◌≢◌, false, All, AllPairs, List, Ok};
 ghost use Rattle.pw_tree.specs.Trees.{Expr, Module};
+ghost use Rattle.pw_tree.specs.WellFormed.{WellFormedModule};
 ghost use Rattle.pw_types.specs.Records.{IsLaid, IsObjectType};
 ghost use Rattle.pw_types.specs.TypeTrees.{type_of};
 ghost use Rattle.pw_types.specs.TypedModules.{AreLabels, IsBlock, IsDeclaredIfExternal, IsFunctionTyped, IsGlobal, IsStatement, WellTyped};
@@ -14,7 +15,6 @@ ghost use Rattle.pw_rules.specs.Operands.{Operand};
 ghost use Rattle.pw_rules.specs.Phrases.{expr_rule};
 ghost use Rattle.pw_rules.specs.States.{State, start};
 ghost use Rattle.pw_well_typed.specs.Lawful.{AreWords, Denotes, IsLawful};
-ghost use Rattle.pw_well_typed.specs.Texts.{ModuleHasText};
 ghost use Rattle.pw_well_typed.specs.Words.{WordsInStatement};
 
 /// Nothing is declared at a module's start, so nothing that is known there is unlawful.
@@ -69,10 +69,10 @@ pub fn accepted_names_are_declared()
 {}
 
 /// The body of each function of a module that checking accepts is a well-typed statement of the function, in no loop and no switch,
-/// if each number in it is one of 32 bits, as in each tree that the code makes, and each labelled statement of the syntax tree has a
-/// label, as in each tree of a text (ISO C90 6.5.7, 6.6).
+/// if each number in it is one of 32 bits, as in each tree that the code makes, and the syntax tree is one of C90's grammar
+/// (ISO C90 6.5.7, 6.6).
 pub fn accepted_bodies_are_well_typed()
-    ensures { (tree : Module) (m : ModuleValue) → ModuleHasText tree → Checks tree (Ok m)
+    ensures { (tree : Module) (m : ModuleValue) → WellFormedModule tree → Checks tree (Ok m)
         → All (λ f. WordsInStatement f.body → IsStatement m f false false f.params f.body) m.functions }
 {}
 
@@ -84,8 +84,8 @@ pub fn accepted_locals_are_objects()
 
 /// A module that checking accepts is well typed if each of its objects is (`IsGlobal`): the types, the functions with their
 /// statements, the names that it shares, and what is defined once follow. Each number in its functions is one of 32 bits, as in
-/// each tree that the code makes, and each labelled statement of the syntax tree has a label, as in each tree of a text.
+/// each tree that the code makes, and the syntax tree is one of C90's grammar.
 pub fn accepted_is_well_typed_with_its_objects()
-    ensures { (tree : Module) (m : ModuleValue) → ModuleHasText tree → Checks tree (Ok m) → All (λ f. WordsInStatement f.body) m.functions
+    ensures { (tree : Module) (m : ModuleValue) → WellFormedModule tree → Checks tree (Ok m) → All (λ f. WordsInStatement f.body) m.functions
         → All (IsGlobal m) m.globals → WellTyped m }
 {}
