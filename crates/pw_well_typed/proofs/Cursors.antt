@@ -31,11 +31,11 @@ abbrev pub Ends : List RecordValue → ℕ → Cursor → Type 0
 Ends r b [] = Unit {0}
 Ends r b (f ∷ outer) = (t : Target) × (next_part r f ≡ Some t) × (b ≤ t.offset + sized r (type_of t.ty))
 
-chain_top : (r : List RecordValue) (f : Frame) (outer : Cursor) → Chain r (f ∷ outer) → Whole r f.ty
+pub chain_top : (r : List RecordValue) (f : Frame) (outer : Cursor) → Chain r (f ∷ outer) → Whole r f.ty
 chain_top r f [] h = h
 chain_top r f (g ∷ outer) h = inl h.0
 
-whole_part : (r : List RecordValue) → IsLaid r → (f : Frame) (t : Target) → Whole r f.ty → next_part r f ≡ Some t → IsComplete r (type_of t.ty)
+pub whole_part : (r : List RecordValue) → IsLaid r → (f : Frame) (t : Target) → Whole r f.ty → next_part r f ≡ Some t → IsComplete r (type_of t.ty)
 whole_part r laid f t (inl h) e = part_complete r laid f t h e
 whole_part r laid f t (inr h) e = element_part r f t h.0 h.2 (subst (λ ty. part_of r ty f ≡ Some t) h.1 e)
 

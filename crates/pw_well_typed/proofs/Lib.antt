@@ -38,3 +38,4 @@ pub mod Laws
 pub mod Whole
 pub mod Parts
 pub mod Cursors
+pub mod Items
