@@ -20,7 +20,7 @@ use Rattle.pw_types.specs.TypedTrees.{Expression, PlacedItem, ItemValue, ItemByt
 use Rattle.pw_types.specs.WellTyped.{IsComplete}
 use Rattle.pw_walk.specs.Causes.{InitialiserCount, InitialiserForm, needs}
 use Rattle.pw_walk.specs.Walks.{Walk, Done, bind, granted}
-use Rattle.pw_rules.specs.Initialisers.{Context, Filled, Frame, Cursor, Target, Reached, target_at, frame_of, one_on, part_of, next_part, next_target, passed, reach, takes_record, takes_braces, meets_characters, item_of, item_list, bytes_within, nothing_filled, value_filled, string_filled, listed_value, listed_string, listed_expression, listed_by, listed_form, StringForm, IsString, IsOther, string_form, braced_string, braced_target, braced_by, fills_characters, words_in, inits_rule, init_rule, Initialised, with_length, object_string, object_value, object_list, object_by, object_rule, is_union, is_past_union, member_target, reached}
+use Rattle.pw_rules.specs.Initialisers.{Context, Filled, Frame, Cursor, Target, Reached, target_at, frame_of, one_on, part_of, next_part, next_target, passed, reach, takes_record, takes_braces, meets_characters, item_of, item_list, bytes_within, nothing_filled, value_filled, string_filled, listed_value, listed_string, listed_expression, listed_by, listed_form, StringForm, IsString, IsOther, string_form, braced_string, braced_target, braced_by, fills_characters, words_in, inits_rule, init_rule, Initialised, with_length, object_string, object_value, object_list, object_by, object_rule, is_union, is_past_union, member_target, reached, elements_given, element_of}
 use Rattle.pw_rules.specs.Kinds.{is_character_array, is_scalar, is_character_kind}
 use Rattle.pw_rules.specs.Leaves.{string_point, texts_of}
 use Rattle.pw_rules.specs.Operands.{cast_to}
@@ -32,7 +32,7 @@ use Rattle.pw_well_typed.proofs.Types.{no, complete_later, element_complete, no_
 use Rattle.pw_well_typed.proofs.Objects.{layout_same}
 use Rattle.pw_well_typed.proofs.States.{FineValue, Runs, goes_on, Grows, grows_same, grows_trans}
 use Rattle.pw_well_typed.proofs.Phrases.{expr_post, valued}
-use Rattle.pw_well_typed.proofs.Parts.{sized, next_inside}
+use Rattle.pw_well_typed.proofs.Parts.{sized, next_inside, element_is, element_next}
 use Rattle.pw_well_typed.proofs.Cursors.{Whole, Chain, Begins, Ends, At, passed_begins, reached_at, whole_part, chain_top}
 use Rattle.pw_well_typed.proofs.ItemBytes.{scalar_item, take_short}
 
@@ -97,6 +97,76 @@ end_within r laid ty o b f (g ∷ outer) chain of complete h =
     let same : t.0.offset + sized r (type_of t.0.ty) ≡ f.offset + sized r f.ty = ap (λ n. n + sized r (type_of t.0.ty)) t.3 ∙ ap (λ c. f.offset + sized r c) t.2 in
     omega (arith, last, first, same))
 
+-- ---- an outermost array that gets its length
+
+product_more : (n m s : ℕ) → n ≡ m → n * s ≡ m * s
+product_more n m s e = ap (λ k. k * s) e
+
+-- where the element ends that the outermost array is at
+bottom_end : (r : List RecordValue) → IsLaid r → (q : QType) (o b : ℕ) (f g : Frame) (outer : Cursor) → Chain r (f ∷ g ∷ outer) → IsOf (Array q None) o (f ∷ g ∷ outer) → b ≤ f.offset + sized r f.ty
+    → b ≤ o + elements_given (f ∷ g ∷ outer) * sized r (type_of q)
+bottom_end r laid q o b f g [] chain of h =
+    let t = chain.1 in
+    let x = element_is r q None g t.0 (subst (λ ty. part_of r ty g ≡ Some t.0) of.0 t.1) in
+    let at : g.offset + g.next * sized r (type_of q) ≡ f.offset = ap (λ (u : Target). u.offset) x.1 ∙ t.3 in
+    let size : sized r (type_of q) ≡ sized r f.ty = ap (λ (u : Target). sized r (type_of u.ty)) x.1 ∙ ap (sized r) t.2 in
+    let next : g.next * sized r (type_of q) + sized r (type_of q) ≡ (1 + g.next) * sized r (type_of q) = omega arith in
+    let base : g.offset ≡ o = of.1 in
+    let h : b ≤ f.offset + sized r f.ty = h in
+    omega (arith, at, size, next, base, h)
+bottom_end r laid q o b f g (k ∷ outer) chain of h =
+    bottom_end r laid q o b g k outer chain.2 of
+    (let t = chain.1 in
+    let inside = next_inside r laid g t.0 chain.2.0 t.1 in
+    let last : t.0.offset + sized r (type_of t.0.ty) ≤ g.offset + sized r g.ty = inside.1 in
+    let same : t.0.offset + sized r (type_of t.0.ty) ≡ f.offset + sized r f.ty = ap (λ n. n + sized r (type_of t.0.ty)) t.3 ∙ ap (λ c. f.offset + sized r c) t.2 in
+    let h : b ≤ f.offset + sized r f.ty = h in
+    omega (arith, last, same, h))
+
+-- behind a part so many elements are given that the offset does not pass them
+passed_given : (r : List RecordValue) → IsLaid r → (q : QType) (o b : ℕ) (cursor : Cursor) → Chain r cursor → Ends r b cursor → IsOf (Array q None) o cursor
+    → b ≤ o + elements_given (passed r cursor) * sized r (type_of q) ⊎ (cursor ≡ [])
+unfolding passed
+passed_given r laid q o b [] chain ends of = inr refl
+passed_given r laid q o b (f ∷ []) chain ends of = inl (by (is_some (next_part r (one_on f))))
+  where
+    here : b ≤ o + (f.next + 1) * sized r (type_of q)
+    here =
+        let x = element_is r q None f ends.0 (subst (λ ty. part_of r ty f ≡ Some ends.0) of.0 ends.1) in
+        let at : f.offset + f.next * sized r (type_of q) ≡ ends.0.offset = ap (λ (u : Target). u.offset) x.1 in
+        let size : sized r (type_of q) ≡ sized r (type_of ends.0.ty) = ap (λ (u : Target). sized r (type_of u.ty)) x.1 in
+        let next : f.next * sized r (type_of q) + sized r (type_of q) ≡ (f.next + 1) * sized r (type_of q) = element_next (sized r (type_of q)) f.next in
+        let base : f.offset ≡ o = of.1 in
+        let h : b ≤ ends.0.offset + sized r (type_of ends.0.ty) = ends.2 in
+        omega (arith, at, size, next, base, h)
+
+    by : (x : Bool) → b ≤ o + elements_given (if x || true then one_on f ∷ [] else []) * sized r (type_of q)
+    by true = here
+    by false = here
+passed_given r laid q o b (f ∷ g ∷ outer) chain ends of = by (is_some (next_part r (one_on f))) (passed_given r laid q o b (g ∷ outer) chain.2 around of)
+  where
+    inside : b ≤ f.offset + sized r f.ty
+    inside =
+        let k : ends.0.offset + sized r (type_of ends.0.ty) ≤ f.offset + sized r f.ty = (next_inside r laid f ends.0 chain.0 ends.1).1 in
+        let h : b ≤ ends.0.offset + sized r (type_of ends.0.ty) = ends.2 in
+        omega (arith, h, k)
+
+    around : Ends r b (g ∷ outer)
+    around = let t = chain.1 in (t.0, t.1, subst (λ n. b ≤ n + sized r (type_of t.0.ty)) (sym t.3) (subst (λ ty. b ≤ f.offset + sized r ty) (sym t.2) inside))
+
+    never : {A : Type 0} → g ∷ outer ≡ [] → A
+    never {A} e = absurd (subst P e tt)
+      where
+        P : Cursor → Type 0
+        P [] = ⊥
+        P (k ∷ rest) = Unit {0}
+
+    by : (x : Bool) → b ≤ o + elements_given (passed r (g ∷ outer)) * sized r (type_of q) ⊎ (g ∷ outer ≡ [])
+        → b ≤ o + elements_given (if x || false then one_on f ∷ g ∷ outer else passed r (g ∷ outer)) * sized r (type_of q) ⊎ (f ∷ g ∷ outer ≡ [])
+    by true rest = inl (bottom_end r laid q o b f g outer chain of inside)
+    by false (inl h) = inl h
+    by false (inr e) = never e
+
 -- ---- progress in a list
 
 pub record Progress (r : List RecordValue) (ty : CType) (o b : ℕ) (cursor : Cursor) (items : List PlacedItem) : Type 0 where
@@ -106,6 +176,7 @@ pub record Progress (r : List RecordValue) (ty : CType) (o b : ℕ) (cursor : Cu
   pub rise : Rise 0 b items
   pub bound : IsComplete r ty → b ≤ o + sized r ty
   pub of : IsOf ty o cursor
+  pub given : (q : QType) → ty ≡ Array q None → b ≤ o + elements_given cursor * sized r (type_of q)
 
 -- an item in the part that was reached, and the cursor behind it
 filled_progress : (r : List RecordValue) → IsLaid r → (ty : CType) (o b : ℕ) (x : Reached) (items : List PlacedItem) (item : Option ItemValue)
@@ -122,8 +193,18 @@ filled_progress r laid ty o b x items item whole rise at of small =
       rise = by item small;
       bound = λ complete. end_within r laid ty o (x.target.offset + sized r (type_of x.target.ty)) at.frame at.outer at.chain of2 complete (λ whole. (next_inside r laid at.frame x.target whole at.part).1);
       of = is_of_passed r ty o x.cursor of;
+      given = λ q e. subst (λ c. x.target.offset + sized r (type_of x.target.ty) ≤ o + elements_given (passed r c) * sized r (type_of q)) (sym at.cursor)
+          (some_given (passed_given r laid q o (x.target.offset + sized r (type_of x.target.ty)) (at.frame ∷ at.outer) at.chain ends (subst (λ c. IsOf c o (at.frame ∷ at.outer)) e of2)));
     }
   where
+    some_given : {A : Type 0} {f : Frame} {outer : Cursor} → A ⊎ (f ∷ outer ≡ []) → A
+    some_given (inl h) = h
+    some_given {A} {f} {outer} (inr e) = absurd (subst P e tt)
+      where
+        P : Cursor → Type 0
+        P [] = ⊥
+        P (k ∷ rest) = Unit {0}
+
     by : (i : Option ItemValue) → ((j : ItemValue) → i ≡ Some j → item_size j ≤ sized r (type_of x.target.ty))
         → Rise 0 (x.target.offset + sized r (type_of x.target.ty)) (items ++ item_list x.target.offset i)
     by None h =
@@ -193,6 +274,14 @@ begins_later s t l g b (f ∷ outer) chain h = λ u e. h u (sym (next_same s t l
 sized_later : (s t : State) → Grows s t → (ty : CType) → IsComplete s.types.records ty → sized t.types.records ty ≡ sized s.types.records ty
 sized_later s t g ty h = ap (λ o. unwrap_or (option_map (λ (x : Layout). x.size) o) 0) (layout_same s.types.records t.types.records g.extends ty h)
 
+open_element : (r : List RecordValue) (q : QType) → Whole r (Array q None) → IsComplete r (type_of q)
+open_element r q (inl h) = absurd (no_length r q h)
+open_element r q (inr h) = subst IsElement (sym h.1) h.2
+  where
+    IsElement : CType → Type 0
+    IsElement (Array p k) = IsComplete r (type_of p)
+    IsElement _ = ⊥
+
 progress_later : (s t : State) → IsLawful s → Grows s t → (ty : CType) (o b : ℕ) (cursor : Cursor) (items : List PlacedItem) → Progress s.types.records ty o b cursor items → Progress t.types.records ty o b cursor items
 progress_later s t l g ty o b cursor items p = record {
   whole = whole_later s.types.records t.types.records g.extends ty p.whole;
@@ -201,6 +290,7 @@ progress_later s t l g ty o b cursor items p = record {
   rise = p.rise;
   bound = by p.whole;
   of = p.of;
+  given = λ q e. subst (λ n. b ≤ o + elements_given cursor * n) (sym (sized_later s t g (type_of q) (open_element s.types.records q (subst (Whole s.types.records) e p.whole)))) (p.given q e);
 }
   where
     by : Whole s.types.records ty → IsComplete t.types.records ty → b ≤ o + sized t.types.records ty
@@ -350,6 +440,7 @@ inner_progress r laid t b items whole rise k = record {
   rise = rise_wider 0 b t.offset items rise k;
   bound = λ h. omega arith;
   of = (refl, refl);
+  given = λ q e. (omega arith);
 }
 
 braced_target_moves : (s : State) (cx : Context) (cursor : Cursor) → IsLawful s → Runs s (braced_target cx cursor s) (λ u t. (next_target s.types.records cursor ≡ Some t) × (u.types.records ≡ s.types.records))
@@ -406,7 +497,20 @@ braced_behind r laid ty o b c (f ∷ outer) t items more p e k rise =
       rise = rise;
       bound = λ complete. end_within r laid ty o c f outer p.chain p.of complete (λ whole. let h : t.offset + sized r (type_of t.ty) ≤ f.offset + sized r f.ty = (next_inside r laid f t whole e).1 in omega (arith, h, k));
       of = is_of_passed r ty o (f ∷ outer) p.of;
+      given = λ q e. some_given (passed_given r laid q o c (f ∷ outer) p.chain (t, e_part, k) (subst (λ d. IsOf d o (f ∷ outer)) e p.of));
     }
+  where
+    e_part : next_part r f ≡ Some t
+    e_part = e
+
+    some_given : {A : Type 0} → A ⊎ (f ∷ outer ≡ []) → A
+    some_given (inl h) = h
+    some_given {A} (inr e) = absurd (subst P e tt)
+      where
+        P : Cursor → Type 0
+        P [] = ⊥
+        P (k ∷ rest) = Unit {0}
+
 
 target_later : (s t : State) → IsLawful s → Grows s t → (cursor : Cursor) → Chain s.types.records cursor → next_target t.types.records cursor ≡ next_target s.types.records cursor
 target_later s t l g [] chain = refl

@@ -74,7 +74,7 @@ member_next from (x ∷ rest) h (suc i) l o p e f g = member_next (round_up from
 
 -- ---- elements
 
-element_next : (s n : ℕ) → n * s + s ≡ (n + 1) * s
+pub element_next : (s n : ℕ) → n * s + s ≡ (n + 1) * s
 element_next s n = let a : n * s + s ≡ suc n * s = omega arith in a ∙ sym (ap (λ k. k * s) (add-one n))
 
 element_within : (s i n : ℕ) → i < n → i * s + s ≤ s * n
@@ -180,7 +180,7 @@ target_same : {q p : QType} {o k : ℕ} → target_at q o ≡ target_at p k → 
 target_same {q} {p} {o} {k} e = (ap (λ (t : Target). t.ty) e, ap (λ (t : Target). t.offset) e)
 
 -- an element
-element_is : (r : List RecordValue) (q : QType) (n : Option ℕ) (f : Frame) (t : Target) → element_of r q n f ≡ Some t
+pub element_is : (r : List RecordValue) (q : QType) (n : Option ℕ) (f : Frame) (t : Target) → element_of r q n f ≡ Some t
     → (option_map_or (nat_lt f.next) n true ≡ true) × (target_at q (f.offset + f.next * sized r (type_of q)) ≡ t)
 element_is r q n f t e = by (option_map_or (nat_lt f.next) n true) refl e
   where
