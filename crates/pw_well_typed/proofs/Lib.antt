@@ -38,3 +38,6 @@ pub mod Backward
 pub mod Modules
 pub mod Laws
 pub mod Whole
+pub mod Parts
+pub mod Cursors
+pub mod Items

@@ -72,7 +72,7 @@ element_complete r ty c v n h = sym (map_some (array_layout n) (layout_of r ty))
 pub element_whole : (r : List RecordValue) (q : QType) (n : ℕ) → IsComplete r (Array q (Some n)) → IsComplete r (type_of q)
 element_whole r (Qualified ty c v) n h = element_complete r ty c v n h
 
-no_length : (r : List RecordValue) (q : QType) → IsComplete r (Array q None) → ⊥
+pub no_length : (r : List RecordValue) (q : QType) → IsComplete r (Array q None) → ⊥
 no_length r (Qualified ty c v) h = no h
 
 mutual
