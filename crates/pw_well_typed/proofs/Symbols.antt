@@ -37,6 +37,7 @@ use Rattle.pw_rules.specs.Phrases.{expr_rule, postfixes_rule, operations_rule}
 use Rattle.pw_rules.specs.SpecifierLists.{nothing_gathered}
 use Rattle.pw_rules.specs.States.{State, LinkedName, HiddenObject, Entity, TypeName, EnumerationConstant, LocalObject, StaticObject, Linked, entry_of, entity_of, entity_at, Rule, add_hidden, records_in, uncounted}
 use Rattle.pw_rules.specs.declared.names.Entry.{Entry}
+use Rattle.pw_rules.specs.declared.names.Slot.{Slot}
 use Rattle.pw_well_typed.specs.Lawful.{IsLawful}
 use Rattle.pw_well_typed.proofs.Walking.{Post, post_bind, post_both, post_granted}
 use Rattle.pw_well_typed.proofs.Lists.{some_same, never_some, get_last}
@@ -84,7 +85,7 @@ abbrev mutual
 
 -- ---- it stays so
 
-symbol_later : {s t : State} → Grows s t → (symbol : Symbol) → IsHere s symbol → IsHere t symbol
+pub symbol_later : {s t : State} → Grows s t → (symbol : Symbol) → IsHere s symbol → IsHere t symbol
 symbol_later g (Hidden k) h = (h.0, g.hidden k h.0 h.1)
 symbol_later g (External name) h = (h.0, h.1, ap (λ xs. slice_get xs h.0) g.linked ∙ h.2, h.3)
 symbol_later g (Internal name) h = (h.0, h.1, ap (λ xs. slice_get xs h.0) g.linked ∙ h.2, h.3)
@@ -193,15 +194,15 @@ symbol_here s n l at = by l.internal refl
     by true e = (n, l, at, ap (λ b. if b then Internal l.name else External l.name) e)
     by false e = (n, l, at, ap (λ b. if b then Internal l.name else External l.name) e)
 
-pub entity_here_so : (s : State) (t : ℕ) (name : List ℕ) (x : Entity) (a : Operand) → Sound None s → entity_of s name ≡ Some x → entity_operand s t x ≡ Some a → HasHere s a.node
-entity_here_so s t name (TypeName q) a sound e f = never_some f
-entity_here_so s t name (EnumerationConstant n) a sound e f = subst (λ (o : Operand). HasHere s o.node) (some_same f) tt
-entity_here_so s t name (LocalObject k q register) a sound e f = subst (λ (o : Operand). HasHere s o.node) (some_same f) tt
-entity_here_so s t name (StaticObject k q) a sound e f =
+pub entity_here_so : (s : State) (t : ℕ) (name : List ℕ) (x : Entity) (a : Operand) (pending : Option Slot) → Sound pending s → entity_of s name ≡ Some x → entity_operand s t x ≡ Some a → HasHere s a.node
+entity_here_so s t name (TypeName q) a pending sound e f = never_some f
+entity_here_so s t name (EnumerationConstant n) a pending sound e f = subst (λ (o : Operand). HasHere s o.node) (some_same f) tt
+entity_here_so s t name (LocalObject k q register) a pending sound e f = subst (λ (o : Operand). HasHere s o.node) (some_same f) tt
+entity_here_so s t name (StaticObject k q) a pending sound e f =
     let at = entity_there s name (StaticObject k q) e in
     let b = sound.backed at.0 (StaticObject k q) at.1 in
     subst (λ (o : Operand). HasHere s o.node) (some_same f) (b.0, b.1)
-entity_here_so s t name (Linked n q) a sound e f =
+entity_here_so s t name (Linked n q) a pending sound e f =
     let at = entity_there s name (Linked n q) e in
     let b = sound.backed at.0 (Linked n q) at.1 in
     subst (λ (o : Operand). HasHere s o.node) (some_same f) (by (is_function (type_of q))
@@ -215,30 +216,33 @@ entity_here_so s t name (Linked n q) a sound e f =
 -- ---- rules
 
 -- a lawful state whose parts agree, in no operand of `sizeof`
-abbrev pub IsCounted : State → Type 0
-IsCounted s = IsLawful s × (Sound None s × (s.made.counting ≡ true))
+pub record IsCounted (s : State) : Type 0 where
+  pub lawful : IsLawful s
+  pub pending : Option Slot
+  pub sound : Sound pending s
+  pub counting : s.made.counting ≡ true
 
-counted_later : {s t : State} → IsLawful t → Grows s t → IsCounted s → IsCounted t
-counted_later {s} {t} l g c = (l, (g.sound None c.1.0, g.counting ∙ c.1.1))
+pub counted_later : {s t : State} → IsLawful t → Grows s t → IsCounted s → IsCounted t
+counted_later {s} {t} l g c = record { lawful = l; pending = c.pending; sound = g.sound c.pending c.sound; counting = g.counting ∙ c.counting }
 
-abbrev IsHereAt : Operand × State → Type 0
+abbrev pub IsHereAt : Operand × State → Type 0
 IsHereAt r = HasHere r.1 r.0.node
 
 -- with what the induction on types says
-abbrev Whole : State → Operand × State → Type 0
+abbrev pub Whole : State → Operand × State → Type 0
 Whole s r = (IsLawful r.1 × Grows s r.1 × Fine r.1 r.0) × HasHere r.1 r.0.node
 
-abbrev WholeValue : State → Expression × State → Type 0
+abbrev pub WholeValue : State → Expression × State → Type 0
 WholeValue s r = (IsLawful r.1 × Grows s r.1 × FineValue r.1 r.0) × HasHere r.1 r.0
 
-whole : (s : State) (w : Walk (Operand × State)) → Runs s w Fine → Post w IsHereAt → Post w (Whole s)
+pub whole : (s : State) (w : Walk (Operand × State)) → Runs s w Fine → Post w IsHereAt → Post w (Whole s)
 whole s w h k = post_both w (λ r. IsLawful r.1 × Grows s r.1 × Fine r.1 r.0) IsHereAt h k
 
 value_rule_here : (s : State) (a : Operand) → HasHere s a.node → Post (value_rule a s) (λ r. HasHere r.1 r.0)
 unfolding value_rule bind
 value_rule_here s a h = λ met. value_here s a h
 
-value_whole : (s : State) (a : Operand) → IsLawful s → Fine s a → HasHere s a.node → Post (value_rule a s) (WholeValue s)
+pub value_whole : (s : State) (a : Operand) → IsLawful s → Fine s a → HasHere s a.node → Post (value_rule a s) (WholeValue s)
 value_whole s a l f h = post_both (value_rule a s) (λ r. IsLawful r.1 × Grows s r.1 × FineValue r.1 r.0) (λ r. HasHere r.1 r.0) (value_runs s a l f) (value_rule_here s a h)
 
 valued_here : (s : State) (w : Walk (Operand × State)) (next : Expression × State → Walk (Operand × State)) → Post w (Whole s)
@@ -248,15 +252,15 @@ valued_here s w next h k =
     post_bind w (λ t. bind (value_rule t.0 t.1) next) (Whole s) IsHereAt h (λ r g.
     post_bind (value_rule r.0 r.1) next (WholeValue r.1) IsHereAt (value_whole r.1 r.0 g.0.0 g.0.2 g.1) (λ u f. k u f.0.0 (grows_trans g.0.1 f.0.1) f.0.2 f.1))
 
-identifier_here : (s : State) (w : Word) → Sound None s → Post (identifier_rule w s) IsHereAt
+identifier_here : (s : State) (w : Word) (pending : Option Slot) → Sound pending s → Post (identifier_rule w s) IsHereAt
 unfolding identifier_rule bind
-identifier_here s w sound =
+identifier_here s w pending sound =
     post_granted DeclaredIdentifier w.token [] (option_and_then (entity_operand s w.token) (entity_of s w.text)) s IsHereAt
     (λ a e met. by (entity_of s w.text) refl a e)
   where
     by : (o : Option Entity) → entity_of s w.text ≡ o → (a : Operand) → option_and_then (entity_operand s w.token) o ≡ Some a → HasHere s a.node
     by None e a f = never_some f
-    by (Some x) e a f = entity_here_so s w.token w.text x a sound e f
+    by (Some x) e a f = entity_here_so s w.token w.text x a pending sound e f
 
 number_here : (s : State) (w : Word) → Post (number_rule w s) IsHereAt
 unfolding number_rule bind
@@ -379,20 +383,20 @@ mutual
   unfolding expr_rule
 
   pub expr_here : (e : Expr) (s : State) → IsCounted s → Post (expr_rule e s) IsHereAt
-  expr_here (S.Identifier w) s c = identifier_here s w c.1.0
+  expr_here (S.Identifier w) s c = identifier_here s w c.pending c.sound
   expr_here (S.Number w) s c = number_here s w
   expr_here (S.Floating w) s c = tt
   expr_here (S.Character w) s c = character_here s w
   expr_here (S.Wide w) s c = tt
-  expr_here (S.Strings ws) s c = string_here s ws c.1.1
+  expr_here (S.Strings ws) s c = string_here s ws c.counting
   expr_here (S.Paren t e) s c = expr_here e s c
   expr_here (S.Postfix e rest) s c =
-      post_bind _ _ (Whole s) IsHereAt (whole s (expr_rule e s) (expr_post e s c.0) (expr_here e s c)) (λ r g. postfixes_here rest r.0 r.1 (counted_later {s = s} {t = r.1} g.0.0 g.0.1 c) g.0.2 g.1)
+      post_bind _ _ (Whole s) IsHereAt (whole s (expr_rule e s) (expr_post e s c.lawful) (expr_here e s c)) (λ r g. postfixes_here rest r.0 r.1 (counted_later {s = s} {t = r.1} g.0.0 g.0.1 c) g.0.2 g.1)
   expr_here (S.Unary t P.Sizeof e) s c = after_any _ _ IsHereAt (λ r. size_here r.1 t r.0)
   expr_here (S.Unary t P.Address e) s c = post_bind _ _ IsHereAt IsHereAt (expr_here e s c) (λ r g. address_here r.1 t r.0 g)
   expr_here (S.Unary t P.Increment e) s c = after_any _ _ IsHereAt (λ r. step_here r.1 t Q.IncrementBefore r.0)
   expr_here (S.Unary t P.Decrement e) s c = after_any _ _ IsHereAt (λ r. step_here r.1 t Q.DecrementBefore r.0)
-  expr_here (S.Unary t P.Dereference e) s c = valued_here s _ _ (whole s (expr_rule e s) (expr_post e s c.0) (expr_here e s c)) (λ r m g f h. deref_here r.1 t r.0 h)
+  expr_here (S.Unary t P.Dereference e) s c = valued_here s _ _ (whole s (expr_rule e s) (expr_post e s c.lawful) (expr_here e s c)) (λ r m g f h. deref_here r.1 t r.0 h)
   expr_here (S.Unary t P.Plus e) s c = after_any _ _ IsHereAt (λ r. after_any _ _ IsHereAt (λ u. sign_here u.1 t P.Plus u.0))
   expr_here (S.Unary t P.Minus e) s c = after_any _ _ IsHereAt (λ r. after_any _ _ IsHereAt (λ u. sign_here u.1 t P.Minus u.0))
   expr_here (S.Unary t P.Complement e) s c = after_any _ _ IsHereAt (λ r. after_any _ _ IsHereAt (λ u. sign_here u.1 t P.Complement u.0))
@@ -401,14 +405,14 @@ mutual
       uncounted_here s _ (after_any _ _ IsHereAnywhere (λ r1. after_any _ _ IsHereAnywhere (λ r2. after_any _ _ IsHereAnywhere (λ r3. after_any _ _ IsHereAnywhere (λ r4.
       sized_here r4.1 t (spot_of None r2.0.first r2.0.tag) r4.0)))))
   expr_here (S.Cast t specifiers d e) s c =
-      post_bind _ _ (λ r. IsLawful r.1 × Grows s r.1 × GoodGathered r.1 r.0) IsHereAt (specifiers_post specifiers (first_of_declaration specifiers d) nothing_gathered s c.0 tt) (λ r1 g1.
+      post_bind _ _ (λ r. IsLawful r.1 × Grows s r.1 × GoodGathered r.1 r.0) IsHereAt (specifiers_post specifiers (first_of_declaration specifiers d) nothing_gathered s c.lawful tt) (λ r1 g1.
       post_bind _ _ (λ r. IsLawful r.1 × Grows r1.1 r.1 × GoodSpecified r.1 r.0) IsHereAt (specified_runs r1.1 (first_of_declaration specifiers d) r1.0 g1.0 g1.2) (λ r2 g2.
       post_bind _ _ (λ r. IsLawful r.1 × Grows r2.1 r.1 × GoodDeclared r.1 r.0) IsHereAt (declarator_post d r2.1 g2.0) (λ r3 g3.
       post_bind _ _ (λ r. IsLawful r.1 × Grows r3.1 r.1 × GoodType r.1 r.0) IsHereAt (named_type_runs r3.1 r2.0 r3.0 g3.0 (later_type r2.0.ty g3.1 g2.2) g3.2) (λ r4 g4.
       let d4 : IsCounted r4.1 = counted_later {s = s} {t = r4.1} g4.0 (grows_trans g1.1 (grows_trans g2.1 (grows_trans g3.1 g4.1))) c in
-      valued_here r4.1 _ _ (whole r4.1 (expr_rule e r4.1) (expr_post e r4.1 d4.0) (expr_here e r4.1 d4)) (λ r m g f h. cast_rule_here r.1 t r4.0 r.0 h)))))
+      valued_here r4.1 _ _ (whole r4.1 (expr_rule e r4.1) (expr_post e r4.1 d4.lawful) (expr_here e r4.1 d4)) (λ r m g f h. cast_rule_here r.1 t r4.0 r.0 h)))))
   expr_here (S.Chain e rest) s c =
-      post_bind _ _ (Whole s) IsHereAt (whole s (expr_rule e s) (expr_post e s c.0) (expr_here e s c)) (λ r g. operations_here rest r.0 r.1 (counted_later {s = s} {t = r.1} g.0.0 g.0.1 c) g.0.2 g.1)
+      post_bind _ _ (Whole s) IsHereAt (whole s (expr_rule e s) (expr_post e s c.lawful) (expr_here e s c)) (λ r g. operations_here rest r.0 r.1 (counted_later {s = s} {t = r.1} g.0.0 g.0.1 c) g.0.2 g.1)
   expr_here (S.Conditional t x a b) s c =
       after_any _ _ IsHereAt (λ r1. after_any _ _ IsHereAt (λ r2. after_any _ _ IsHereAt (λ r3. after_any _ _ IsHereAt (λ r4. after_any _ _ IsHereAt (λ r5. after_any _ _ IsHereAt (λ r6.
       conditional_here r6.1 t r2.0 r4.0 r6.0))))))
@@ -418,38 +422,38 @@ mutual
   postfixes_here : (rest : Postfixes) (a : Operand) (s : State) → IsCounted s → Fine s a → HasHere s a.node → Post (postfixes_rule rest a s) IsHereAt
   postfixes_here S.NoPostfix a s c f h = h
   postfixes_here (S.Index t e rest) a s c f h =
-      post_bind _ _ (WholeValue s) IsHereAt (value_whole s a c.0 f h) (λ r1 g1.
+      post_bind _ _ (WholeValue s) IsHereAt (value_whole s a c.lawful f h) (λ r1 g1.
       let c1 : IsCounted r1.1 = counted_later {s = s} {t = r1.1} g1.0.0 g1.0.1 c in
-      valued_here r1.1 _ _ (whole r1.1 (expr_rule e r1.1) (expr_post e r1.1 c1.0) (expr_here e r1.1 c1)) (λ r2 m2 g2 f2 h2.
+      valued_here r1.1 _ _ (whole r1.1 (expr_rule e r1.1) (expr_post e r1.1 c1.lawful) (expr_here e r1.1 c1)) (λ r2 m2 g2 f2 h2.
       post_bind _ _ (Whole r2.1) IsHereAt
       (whole r2.1 (index_rule t r1.0 r2.0 r2.1) (index_runs r2.1 t r1.0 r2.0 m2 (value_later {s = r1.1} {t = r2.1} {e = r1.0} g2 g1.0.2) f2) (index_here r2.1 t r1.0 r2.0 (here_later r1.1 r2.1 g2 r1.0 g1.1) h2)) (λ r3 g3.
       postfixes_here rest r3.0 r3.1 (counted_later {s = r1.1} {t = r3.1} g3.0.0 (grows_trans g2 g3.0.1) c1) g3.0.2 g3.1)))
   postfixes_here (S.Call t args rest) a s c f h =
-      post_bind _ _ (WholeValue s) IsHereAt (value_whole s a c.0 f h) (λ r1 g1.
+      post_bind _ _ (WholeValue s) IsHereAt (value_whole s a c.lawful f h) (λ r1 g1.
       post_bind _ _ (λ r. IsLawful r.1 × Grows r1.1 r.1 × AreFine r.1 r.0) IsHereAt (arguments_post args r1.1 g1.0.0) (λ r2 g2.
       post_bind _ _ (Whole r2.1) IsHereAt
       (whole r2.1 (call_rule t r1.0 r2.0 r2.1) (call_runs r2.1 t r1.0 r2.0 g2.0 (value_later {s = r1.1} {t = r2.1} {e = r1.0} g2.1 g1.0.2) g2.2) (call_here r2.1 t r1.0 r2.0)) (λ r3 g3.
       postfixes_here rest r3.0 r3.1 (counted_later {s = s} {t = r3.1} g3.0.0 (grows_trans g1.0.1 (grows_trans g2.1 g3.0.1)) c) g3.0.2 g3.1)))
   postfixes_here (S.Select t Dot w rest) a s c f h =
-      post_bind _ _ (Whole s) IsHereAt (whole s (dot_rule t w a s) (dot_runs s t w a c.0 f) (dot_here s t w a h)) (λ r g.
+      post_bind _ _ (Whole s) IsHereAt (whole s (dot_rule t w a s) (dot_runs s t w a c.lawful f) (dot_here s t w a h)) (λ r g.
       postfixes_here rest r.0 r.1 (counted_later {s = s} {t = r.1} g.0.0 g.0.1 c) g.0.2 g.1)
   postfixes_here (S.Select t Arrow w rest) a s c f h =
-      post_bind _ _ (WholeValue s) IsHereAt (value_whole s a c.0 f h) (λ r1 g1.
+      post_bind _ _ (WholeValue s) IsHereAt (value_whole s a c.lawful f h) (λ r1 g1.
       post_bind _ _ (Whole r1.1) IsHereAt (whole r1.1 (arrow_rule t w r1.0 r1.1) (arrow_runs r1.1 t w r1.0 g1.0.0 g1.0.2) (arrow_here r1.1 t w r1.0 g1.1)) (λ r g.
       postfixes_here rest r.0 r.1 (counted_later {s = s} {t = r.1} g.0.0 (grows_trans g1.0.1 g.0.1) c) g.0.2 g.1))
   postfixes_here (S.Step t J.Increment rest) a s c f h =
-      post_bind _ _ (Whole s) IsHereAt (whole s (step_rule t Q.IncrementBehind a s) (step_runs s t Q.IncrementBehind a c.0 f) (step_here s t Q.IncrementBehind a)) (λ r g.
+      post_bind _ _ (Whole s) IsHereAt (whole s (step_rule t Q.IncrementBehind a s) (step_runs s t Q.IncrementBehind a c.lawful f) (step_here s t Q.IncrementBehind a)) (λ r g.
       postfixes_here rest r.0 r.1 (counted_later {s = s} {t = r.1} g.0.0 g.0.1 c) g.0.2 g.1)
   postfixes_here (S.Step t J.Decrement rest) a s c f h =
-      post_bind _ _ (Whole s) IsHereAt (whole s (step_rule t Q.DecrementBehind a s) (step_runs s t Q.DecrementBehind a c.0 f) (step_here s t Q.DecrementBehind a)) (λ r g.
+      post_bind _ _ (Whole s) IsHereAt (whole s (step_rule t Q.DecrementBehind a s) (step_runs s t Q.DecrementBehind a c.lawful f) (step_here s t Q.DecrementBehind a)) (λ r g.
       postfixes_here rest r.0 r.1 (counted_later {s = s} {t = r.1} g.0.0 g.0.1 c) g.0.2 g.1)
 
   operations_here : (rest : Operations) (a : Operand) (s : State) → IsCounted s → Fine s a → HasHere s a.node → Post (operations_rule rest a s) IsHereAt
   operations_here S.NoOperation a s c f h = h
   operations_here (S.Operation t op e rest) a s c f h =
-      post_bind _ _ (WholeValue s) IsHereAt (value_whole s a c.0 f h) (λ r1 g1.
+      post_bind _ _ (WholeValue s) IsHereAt (value_whole s a c.lawful f h) (λ r1 g1.
       let c1 : IsCounted r1.1 = counted_later {s = s} {t = r1.1} g1.0.0 g1.0.1 c in
-      valued_here r1.1 _ _ (whole r1.1 (expr_rule e r1.1) (expr_post e r1.1 c1.0) (expr_here e r1.1 c1)) (λ r2 m2 g2 f2 h2.
+      valued_here r1.1 _ _ (whole r1.1 (expr_rule e r1.1) (expr_post e r1.1 c1.lawful) (expr_here e r1.1 c1)) (λ r2 m2 g2 f2 h2.
       post_bind _ _ (Whole r2.1) IsHereAt
       (whole r2.1 (operation_rule t op r1.0 r2.0 r2.1) (operation_runs r2.1 t op r1.0 r2.0 m2 (value_later {s = r1.1} {t = r2.1} {e = r1.0} g2 g1.0.2) f2)
       (operation_here r2.1 t op r1.0 r2.0 (here_later r1.1 r2.1 g2 r1.0 g1.1) h2)) (λ r3 g3.
