@@ -1,4 +1,5 @@
 -- The items of an object of a complete type: each lies behind the one before, and inside the object.
+use Rattle.std.proofs.Math.Nat.{mul_comm}
 use Rattle.pw_types.specs.Conversions.{size_of_kind}
 use Rattle.pw_types.specs.declared.kind.IntKind.{IntKind}
 use Rattle.pw_types.specs.declared.kind.IntKind.TheVariants as K
@@ -21,7 +22,7 @@ use Rattle.pw_types.specs.WellTyped.{IsComplete}
 use Rattle.pw_walk.specs.Causes.{InitialiserCount, InitialiserForm, needs}
 use Rattle.pw_walk.specs.Walks.{Walk, Done, bind, granted}
 use Rattle.pw_rules.specs.Initialisers.{Context, Filled, Frame, Cursor, Target, Reached, target_at, frame_of, one_on, part_of, next_part, next_target, passed, reach, takes_record, takes_braces, meets_characters, item_of, item_list, bytes_within, nothing_filled, value_filled, string_filled, listed_value, listed_string, listed_expression, listed_by, listed_form, StringForm, IsString, IsOther, string_form, braced_string, braced_target, braced_by, fills_characters, words_in, inits_rule, init_rule, Initialised, with_length, object_string, object_value, object_list, object_by, object_rule, is_union, is_past_union, member_target, reached, elements_given, element_of}
-use Rattle.pw_rules.specs.Kinds.{is_character_array, is_scalar, is_character_kind}
+use Rattle.pw_rules.specs.Kinds.{is_character_array, is_scalar, is_character_kind, is_open_array}
 use Rattle.pw_rules.specs.Leaves.{string_point, texts_of}
 use Rattle.pw_rules.specs.Operands.{cast_to}
 use Rattle.pw_rules.specs.States.{State, Rule, records_in}
@@ -32,7 +33,7 @@ use Rattle.pw_well_typed.proofs.Types.{no, complete_later, element_complete, no_
 use Rattle.pw_well_typed.proofs.Objects.{layout_same}
 use Rattle.pw_well_typed.proofs.States.{FineValue, Runs, goes_on, Grows, grows_same, grows_trans}
 use Rattle.pw_well_typed.proofs.Phrases.{expr_post, valued}
-use Rattle.pw_well_typed.proofs.Parts.{sized, next_inside, element_is, element_next}
+use Rattle.pw_well_typed.proofs.Parts.{sized, next_inside, element_is, element_next, array_sized}
 use Rattle.pw_well_typed.proofs.Cursors.{Whole, Chain, Begins, Ends, At, passed_begins, reached_at, whole_part, chain_top}
 use Rattle.pw_well_typed.proofs.ItemBytes.{scalar_item, take_short}
 
@@ -511,7 +512,6 @@ braced_behind r laid ty o b c (f ∷ outer) t items more p e k rise =
         P [] = ⊥
         P (k ∷ rest) = Unit {0}
 
-
 target_later : (s t : State) → IsLawful s → Grows s t → (cursor : Cursor) → Chain s.types.records cursor → next_target t.types.records cursor ≡ next_target s.types.records cursor
 target_later s t l g [] chain = refl
 target_later s t l g (f ∷ outer) chain = next_same s t l g f.ty f (chain_top s.types.records f outer chain)
@@ -558,15 +558,76 @@ mutual
 
 -- ---- the object
 
-abbrev ItemsRise : QType → State → Initialised → Type 0
-ItemsRise q t o = Rise 0 (sized t.types.records (type_of q)) o.filled.items
+abbrev ItemsRise : State → Initialised → Type 0
+ItemsRise t o = Rise 0 (sized t.types.records (type_of o.ty)) o.filled.items
 
-object_string_moves : (s : State) (cx : Context) (q : QType) (ws : List Word) → IsLawful s → IsComplete s.types.records (type_of q) → is_character_array (type_of q) ≡ true → Runs s (object_string cx q ws s) (ItemsRise q)
+never_open : {A : Type 0} (ty : CType) (q : QType) → is_open_array ty ≡ false → ty ≡ Array q None → A
+never_open {A} ty q e f = no (sym (sym (ap is_open_array f) ∙ e))
+
+-- what the length gives room to
+length_room : (r : List RecordValue) (n b : ℕ) (q : QType) → Whole r (type_of q) → (IsComplete r (type_of q) → b ≤ sized r (type_of q))
+    → ((p : QType) → type_of q ≡ Array p None → b ≤ n * sized r (type_of p)) → b ≤ sized r (type_of (with_length n q))
+length_room r n b (Qualified (Array (Qualified e c v) None) d w) whole h k =
+    let room : b ≤ n * sized r e = k (Qualified e c v) refl in
+    let size : sized r (Array (Qualified e c v) (Some n)) ≡ sized r e * n = array_sized r e c v n (open_element r (Qualified e c v) whole) in
+    subst (λ m. b ≤ m) (sym size) (subst (λ m. b ≤ m) (mul_comm n (sized r e)) room)
+length_room r n b (Qualified (Array p (Some m)) d w) (inl whole) h k = h whole
+length_room r n b (Qualified (Array p (Some m)) d w) (inr whole) h k = never_open (Array p (Some m)) whole.0 refl whole.1
+length_room r n b (Qualified Void d w) (inl whole) h k = h whole
+length_room r n b (Qualified Void d w) (inr whole) h k = never_open Void whole.0 refl whole.1
+length_room r n b (Qualified (Int i) d w) (inl whole) h k = h whole
+length_room r n b (Qualified (Int i) d w) (inr whole) h k = never_open (Int i) whole.0 refl whole.1
+length_room r n b (Qualified (Pointer p) d w) (inl whole) h k = h whole
+length_room r n b (Qualified (Pointer p) d w) (inr whole) h k = never_open (Pointer p) whole.0 refl whole.1
+length_room r n b (Qualified (Function p ps) d w) (inl whole) h k = h whole
+length_room r n b (Qualified (Function p ps) d w) (inr whole) h k = never_open (Function p ps) whole.0 refl whole.1
+length_room r n b (Qualified (Record m) d w) (inl whole) h k = h whole
+length_room r n b (Qualified (Record m) d w) (inr whole) h k = never_open (Record m) whole.0 refl whole.1
+
+string_room : (r : List RecordValue) (q : QType) (bytes : List ℕ) → is_character_array (type_of q) ≡ true → Whole r (type_of q) → length (bytes_within (type_of q) bytes) ≤ sized r (type_of (with_length (length bytes) q))
+string_room r q bytes e whole =
+    length_room r (length bytes) (length (bytes_within (type_of q) bytes)) q whole (λ h. string_within r (type_of q) bytes e h) (λ p same. by p same)
+  where
+    char_size : (ty : CType) → is_character_array (Array (Qualified ty false false) None) ≡ true → sized r ty ≡ 1
+    char_size (Int K.Char) e = refl
+    char_size (Int K.SChar) e = refl
+    char_size (Int K.UChar) e = refl
+    char_size (Int K.Short) e = no e
+    char_size (Int K.UShort) e = no e
+    char_size (Int K.Int) e = no e
+    char_size (Int K.UInt) e = no e
+    char_size (Int K.Long) e = no e
+    char_size (Int K.ULong) e = no e
+    char_size Void e = no e
+    char_size (Pointer q) e = no e
+    char_size (Array q n) e = no e
+    char_size (Function q ps) e = no e
+    char_size (Record n) e = no e
+
+    plainly : (p : QType) → is_character_array (Array p None) ≡ true → is_character_array (Array (Qualified (type_of p) false false) None) ≡ true
+    plainly (Qualified (Int k) c v) e = e
+    plainly (Qualified Void c v) e = e
+    plainly (Qualified (Pointer q) c v) e = e
+    plainly (Qualified (Array q n) c v) e = e
+    plainly (Qualified (Function q ps) c v) e = e
+    plainly (Qualified (Record n) c v) e = e
+
+    by : (p : QType) → type_of q ≡ Array p None → length (bytes_within (type_of q) bytes) ≤ length bytes * sized r (type_of p)
+    by p same =
+        let one : sized r (type_of p) ≡ 1 = char_size (type_of p) (plainly p (sym (ap is_character_array same) ∙ e)) in
+        let all : length (bytes_within (type_of q) bytes) ≡ length bytes = ap (λ ty. length (bytes_within ty bytes)) same in
+        subst (λ m. length (bytes_within (type_of q) bytes) ≤ length bytes * m) (sym one) (omega (arith, all))
+
+string_filled_moves : (s : State) (cx : Context) (q : QType) (ws : List Word) → IsLawful s → Whole s.types.records (type_of q) → is_character_array (type_of q) ≡ true
+    → Runs s (string_filled cx ws (target_at q 0) nothing_filled s) (λ u more. Rise 0 (sized u.types.records (type_of (with_length (length (string_bytes_of (texts_of ws))) q))) more.items)
+unfolding string_filled string_point bind
+string_filled_moves s cx q ws l whole e = λ met more.
+    (l, grows_same s, (omega arith, zero_least (length (bytes_within (type_of q) (string_bytes_of (texts_of ws)))) (sized s.types.records (type_of (with_length (length (string_bytes_of (texts_of ws))) q))) (string_room s.types.records q (string_bytes_of (texts_of ws)) e whole)))
+
+object_string_moves : (s : State) (cx : Context) (q : QType) (ws : List Word) → IsLawful s → Whole s.types.records (type_of q) → is_character_array (type_of q) ≡ true → Runs s (object_string cx q ws s) ItemsRise
 unfolding object_string
 object_string_moves s cx q ws l whole e =
-    goes_on _ _ (λ u more. Stays s u (target_at q 0) nothing_filled more) (ItemsRise q) (string_stays s cx (target_at q 0) nothing_filled ws l e) (λ r m g k.
-    let x = k 0 (omega arith) (omega arith) whole in
-    (m, grows_same r.1, rise_wider 0 x.0 (sized r.1.types.records (type_of q)) r.0.items x.2 (from_zero x.0 (sized r.1.types.records (type_of q)) x.1)))
+    goes_on _ _ (λ u more. Rise 0 (sized u.types.records (type_of (with_length (length (string_bytes_of (texts_of ws))) q))) more.items) ItemsRise (string_filled_moves s cx q ws l whole e) (λ r m g k. (m, grows_same r.1, k))
 
 value_filled_moves : (s : State) (cx : Context) (first : ℕ) (q : QType) (e : Expression) → IsLawful s
     → Runs s (value_filled cx first (target_at q 0) e nothing_filled s) (λ u more. Rise 0 (sized u.types.records (type_of q)) more.items)
@@ -575,34 +636,49 @@ value_filled_moves s cx first q e l = λ met. (l, grows_same s, by (item_of s.ty
   where
     by : (o : Option ItemValue) → item_of s.types.records (type_of q) (cast_to (type_of q) e) ≡ o → Rise 0 (sized s.types.records (type_of q)) ([] ++ item_list 0 o)
     by None h = omega arith
-    by (Some i) h = (omega arith, zero_least (item_size i) (sized s.types.records (type_of q)) (equal_least (scalar_item s.types.records (type_of q) (cast_to (type_of q) e) i h)))
+    by (Some i) h =
+        (omega arith, zero_least (item_size i) (sized s.types.records (type_of q)) (equal_least (scalar_item s.types.records (type_of q) (cast_to (type_of q) e) i h)))
 
-object_value_moves : (s : State) (cx : Context) (q : QType) (e : Expr) → IsLawful s → IsComplete s.types.records (type_of q) → Runs s (object_value cx q e s) (ItemsRise q)
+object_value_moves : (s : State) (cx : Context) (q : QType) (e : Expr) → IsLawful s → Runs s (object_value cx q e s) ItemsRise
 unfolding object_value
-object_value_moves s cx q e l whole =
-    valued _ _ (ItemsRise q) (expr_post e s l) (λ r m g f.
-    goes_on _ _ (λ u more. Rise 0 (sized u.types.records (type_of q)) more.items) (ItemsRise q) (value_filled_moves r.1 cx (first_of_expr e) q r.0 m) (λ u n y k. (n, grows_same u.1, k)))
+object_value_moves s cx q e l =
+    valued _ _ ItemsRise (expr_post e s l) (λ r m g f.
+    goes_on _ _ (λ u more. Rise 0 (sized u.types.records (type_of q)) more.items) ItemsRise (value_filled_moves r.1 cx (first_of_expr e) q r.0 m) (λ u n y k. (n, grows_same u.1, k)))
 
-object_list_moves : (s : State) (cx : Context) (q : QType) (is : Inits) → IsLawful s → IsComplete s.types.records (type_of q) → Runs s (object_list cx q is s) (ItemsRise q)
+start_progress : (r : List RecordValue) (q : QType) → Whole r (type_of q) → Progress r (type_of q) 0 0 (frame_of (target_at q 0) ∷ []) []
+start_progress r q whole = record {
+  whole = whole;
+  chain = whole;
+  begins = λ u e. (omega arith);
+  rise = omega arith;
+  bound = λ h. (omega arith);
+  of = (refl, refl);
+  given = λ p e. (omega arith);
+}
+
+object_list_moves : (s : State) (cx : Context) (q : QType) (is : Inits) → IsLawful s → Whole s.types.records (type_of q) → Runs s (object_list cx q is s) ItemsRise
 unfolding object_list
 object_list_moves s cx q is l whole =
-    goes_on _ _ (λ t r. (IsComplete t.types.records (type_of q)) × Moves s t (frame_of (target_at q 0) ∷ []) nothing_filled r) (ItemsRise q)
+    goes_on _ _ (λ t r. (Whole t.types.records (type_of q)) × Moves s t (frame_of (target_at q 0) ∷ []) nothing_filled r) ItemsRise
     (post_weaken _ (λ u. IsLawful u.1 × Grows s u.1 × Moves s u.1 (frame_of (target_at q 0) ∷ []) nothing_filled u.0)
-    (λ u. IsLawful u.1 × Grows s u.1 × (IsComplete u.1.types.records (type_of q) × Moves s u.1 (frame_of (target_at q 0) ∷ []) nothing_filled u.0))
-    (inits_moves is s cx (frame_of (target_at q 0) ∷ []) nothing_filled l) (λ u k. (k.0, k.1, (complete_later s.types.records u.1.types.records k.1.extends (type_of q) whole, k.2)))) (λ r m g k.
-    let x = k.1 (type_of q) 0 0 (inner_progress s.types.records l.laid (target_at q 0) 0 [] whole (omega arith) (omega arith)) in
-    (m, grows_same r.1, rise_wider 0 x.0 (sized r.1.types.records (type_of q)) r.0.1.items x.1.rise (from_zero x.0 (sized r.1.types.records (type_of q)) (x.1.bound k.0))))
+    (λ u. IsLawful u.1 × Grows s u.1 × (Whole u.1.types.records (type_of q) × Moves s u.1 (frame_of (target_at q 0) ∷ []) nothing_filled u.0))
+    (inits_moves is s cx (frame_of (target_at q 0) ∷ []) nothing_filled l) (λ u k. (k.0, k.1, (whole_later s.types.records u.1.types.records k.1.extends (type_of q) whole, k.2)))) (λ r m g k.
+    let x = k.1 (type_of q) 0 0 (start_progress s.types.records q whole) in
+    let room : x.0 ≤ sized r.1.types.records (type_of (with_length (elements_given r.0.0) q)) =
+    length_room r.1.types.records (elements_given r.0.0) x.0 q k.0 (λ h. from_zero x.0 (sized r.1.types.records (type_of q)) (x.1.bound h))
+    (λ p e. from_zero x.0 (elements_given r.0.0 * sized r.1.types.records (type_of p)) (x.1.given p e)) in
+    (m, grows_same r.1, rise_wider 0 x.0 (sized r.1.types.records (type_of (with_length (elements_given r.0.0) q))) r.0.1.items x.1.rise room))
 
--- the items of an initialised object of a complete type stand one behind the other inside it
-pub object_items : (s : State) (cx : Context) (q : QType) (i : Init) → IsLawful s → IsComplete s.types.records (type_of q) → Runs s (object_rule cx q i s) (ItemsRise q)
+-- the items that an initialiser gives stand one behind the other inside the object, whose length it may give
+pub object_items : (s : State) (cx : Context) (q : QType) (i : Init) → IsLawful s → Whole s.types.records (type_of q) → Runs s (object_rule cx q i s) ItemsRise
 unfolding object_rule object_by
 object_items s cx q (S.Value e) l whole = by (fills_characters (type_of q) (string_form e)) refl
   where
-    by : (b : Bool) → fills_characters (type_of q) (string_form e) ≡ b → Runs s (object_by b cx q (words_in (string_form e)) (object_value cx q e) s) (ItemsRise q)
+    by : (b : Bool) → fills_characters (type_of q) (string_form e) ≡ b → Runs s (object_by b cx q (words_in (string_form e)) (object_value cx q e) s) ItemsRise
     by true h = object_string_moves s cx q (words_in (string_form e)) l whole (fills_array (type_of q) (string_form e) h)
-    by false h = object_value_moves s cx q e l whole
+    by false h = object_value_moves s cx q e l
 object_items s cx q (S.Braces token is trailing) l whole = by (fills_characters (type_of q) (braced_string is)) refl
   where
-    by : (b : Bool) → fills_characters (type_of q) (braced_string is) ≡ b → Runs s (object_by b cx q (words_in (braced_string is)) (object_list cx q is) s) (ItemsRise q)
+    by : (b : Bool) → fills_characters (type_of q) (braced_string is) ≡ b → Runs s (object_by b cx q (words_in (braced_string is)) (object_list cx q is) s) ItemsRise
     by true h = object_string_moves s cx q (words_in (braced_string is)) l whole (fills_array (type_of q) (braced_string is) h)
     by false h = object_list_moves s cx q is l whole

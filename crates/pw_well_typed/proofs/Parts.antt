@@ -168,7 +168,7 @@ record_next r c laid f i m o p e g h =
 plus_mono : (a b c : ℕ) → b ≤ c → a + b ≤ a + c
 plus_mono a b c h = omega (arith, h)
 
-array_sized : (r : List RecordValue) (e : CType) (c v : Bool) (n : ℕ) → IsComplete r e → sized r (Array (Qualified e c v) (Some n)) ≡ sized r e * n
+pub array_sized : (r : List RecordValue) (e : CType) (c v : Bool) (n : ℕ) → IsComplete r e → sized r (Array (Qualified e c v) (Some n)) ≡ sized r e * n
 array_sized r e c v n complete = by (layout_of r e) complete
   where
     by : (o : Option Layout) → is_some o ≡ true
