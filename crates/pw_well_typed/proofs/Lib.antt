@@ -27,6 +27,8 @@ pub mod FunctionTypes
 pub mod Texts
 pub mod StatementTypes
 pub mod ItemBytes
+pub mod Symbols
+pub mod KnownItems
 pub mod FunctionLaws
 pub mod Parameters
 pub mod Bodies

@@ -148,7 +148,7 @@ mutual
   postfixes_post (S.Step t J.Decrement rest) a s l f =
       goes_on _ _ Fine Fine (step_runs s t Q.DecrementBehind a l f) (λ r m g h. postfixes_post rest r.0 r.1 m h)
 
-  arguments_post : (args : Arguments) (s : State) → IsLawful s → Runs s (arguments_rule args s) AreFine
+  pub arguments_post : (args : Arguments) (s : State) → IsLawful s → Runs s (arguments_rule args s) AreFine
   arguments_post S.NoArgument s l = (l, grows_same s, tt)
   arguments_post (S.Argument e rest) s l =
       valued _ _ AreFine (expr_post e s l) (λ r1 m1 g1 f1.
