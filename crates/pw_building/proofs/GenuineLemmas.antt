@@ -1,6 +1,6 @@
 -- Kept objects stay genuine, whatever is put.
-use Rattle.std.proofs.Common.{◌≡◌, ◌≢◌, ℕ, ◌+◌, ◌-◌, ◌<◌, ⊎_elim, inl, inr, Bool, true, false, cond, List, [], ◌∷◌, ◌++◌, codes, length, take, drop, map, Option, Some, None, Result, Ok, Err, refl, sym, ap, ◌∙◌, subst, append_assoc, arith, length-append}
-use Rattle.std.specs.Prelude.{IfErr, IfSome, IsSomeAnd}
+use Rattle.std.proofs.Common.{◌≡◌, ◌≢◌, ℕ, ◌+◌, ⊎_elim, Bool, true, false, List, [], ◌∷◌, ◌++◌, codes, length, take, drop, map, Option, Some, None, Result, Ok, Err, refl, sym, ap, ◌∙◌, subst, append_assoc, arith, length-append}
+use Rattle.std.specs.Prelude.{IfErr, IfSome}
 use Rattle.std.specs.List.{AllByRecursion}
 use Rattle.std.specs.Str.{bytes_eq}
 use Rattle.std.specs.FinMap as finite
@@ -13,14 +13,13 @@ use Rattle.pw_value.specs.FieldLaws.{AreBytes}
 use Rattle.pw_value.proofs.FieldLaws.{AreBytes-take}
 use Rattle.pw_flow.specs.declared.flow.FlowModule.{FlowModule}
 use Rattle.pw_object.specs.declared.object.Object.{Object}
-use Rattle.pw_object.specs.Object.{IsObjectFile}
 use Rattle.pw_modules.specs.Modules.{Source}
 use Rattle.pw_answer.specs.Effects.{NamedFile, PutPart, PutsFiles, IsLeft, after_puts}
-use Rattle.pw_making.specs.Programs.{AreObjectsFrom, AreParts, DirectivesList, IsModuleFrom, Parts, first_kept, kept_behind}
+use Rattle.pw_making.specs.Programs.{AreObjectsFrom, DirectivesList, Parts, kept_behind}
 use Rattle.pw_making.specs.Kept.{IsGenuine, IsGenuineIfKept}
 use Rattle.pw_build.specs.declared.fault.BuildFault.{BuildFault}
 use Rattle.pw_build.specs.declared.fault.Unbuilt.{Unbuilt}
-use Rattle.pw_build.specs.Builds.{Builds, BuildsBy, first_phases}
+use Rattle.pw_build.specs.Builds.{BuildsBy, first_phases}
 use Rattle.pw_kept.specs.declared.files.ProgramFiles.{ProgramFiles}
 use Rattle.pw_kept.specs.declared.prepared.Prepared.{Prepared}
 use Rattle.pw_kept.specs.Kept.{counted, kept_object, object_in, object_name}
