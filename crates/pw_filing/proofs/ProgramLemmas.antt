@@ -1,11 +1,11 @@
 -- The files of a program of modules, and the faults that may come in their place.
-use Rattle.std.proofs.Common.{◌≡◌, ◌⊎◌, inl, inr, arith, ℕ, suc, ◌+◌, ◌<◌, ◌≤◌, Bool, true, false, not, cond, List, [], ◌∷◌, ◌++◌, codes, length, map, Option, Some, None, Result, Ok, Err, refl, sym, ap, ◌∙◌, subst, append_assoc, append-nil}
+use Rattle.std.proofs.Common.{◌≡◌, ◌⊎◌, inl, inr, arith, ℕ, suc, ◌+◌, ◌<◌, ◌≤◌, Bool, true, false, cond, List, [], ◌∷◌, length, map, Option, Some, None, Result, Ok, Err, refl, sym, ap, ◌∙◌, subst}
 use Rattle.std.specs.Prelude.{IfSome, String, string_bytes, nat_lt, count_by, if◌then◌else◌}
 use Rattle.std.specs.declared.alloc.Global.{Global}
 use Rattle.std.proofs.lemmas.Bool.Decides.{nat_tests}
 use Rattle.std.proofs.lemmas.List.{length-map}
 use Rattle.std.proofs.lemmas.List.Sums.{sum_by-append}
-use Rattle.pw_io.specs.Files.{Files, Told, Keeps}
+use Rattle.pw_io.specs.Files.{Files, Told}
 use Rattle.pw_io.specs.declared.StoreError.{StoreError}
 use Rattle.pw_io.specs.declared.StoreError.TheVariants as store
 use Rattle.pw_value.specs.Limits.{module_limit, texts_limit}
@@ -19,7 +19,6 @@ use Rattle.pw_link.specs.Linking.{linked}
 use Rattle.pw_modules.specs.declared.modules.Module.{Module}
 use Rattle.pw_modules.specs.Modules.{Source, modules_of, names_of_modules}
 use Rattle.pw_modules.specs.Views.{source}
-use Rattle.pw_answer.specs.Effects.{NamedFile}
 use Rattle.pw_flow.specs.declared.flow.FlowModule.{FlowModule}
 use Rattle.pw_making.specs.declared.making.Built.{Built}
 use Rattle.pw_making.specs.Programs.{AreObjectsFrom, Completes, DirectivesList, Parts, kept_behind}
@@ -27,15 +26,12 @@ use Rattle.pw_making.specs.Choosing.{parts_of}
 use Rattle.pw_build.specs.declared.fault.BuildFault.{BuildFault}
 use Rattle.pw_build.specs.declared.fault.BuildFault.TheVariants as build
 use Rattle.pw_phase_one.specs.FirstPhase.{Phase, compiled}
-use Rattle.pw_build.specs.declared.fault.Unbuilt.{Unbuilt}
 use Rattle.pw_build.specs.Builds.{Builds, BuildsBy, CompletesAs, before_others, first_phases, flows_of, limit_passed, text_bytes, within}
-use Rattle.pw_build.specs.Phases.{FaultsAs, IsLine, refused_line}
+use Rattle.pw_build.specs.Phases.{FaultsAs, IsLine}
 use Rattle.pw_build.specs.Stores.{store_fault}
 use Rattle.pw_kept.specs.declared.files.ProgramFiles.{ProgramFiles}
-use Rattle.pw_kept.specs.declared.prepared.Prepared.{Prepared}
-use Rattle.pw_kept.specs.Kept.{is_same, kept_bytes, kept_object}
-use Rattle.pw_kept.specs.Files.{AreObjectFiles, IsCompared, changed_files, file_view, made_anew, one_if, program_files}
-use Rattle.pw_filing.specs.Programs.{AreAsMany, AreFilesOf, BuildsFiles, FaultBuilds, FaultComes}
+use Rattle.pw_kept.specs.Files.{AreObjectFiles, file_view, made_anew}
+use Rattle.pw_filing.specs.Programs.{AreAsMany, BuildsFiles, FaultBuilds, FaultComes}
 
 -- ---- the names of modules
 
