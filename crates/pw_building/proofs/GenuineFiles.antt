@@ -1,11 +1,11 @@
 -- A proper prefix of an object's file is none, so what stands in a file that was put in part is no object.
-use Rattle.std.proofs.Common.{◌≡◌, ℕ, ◌+◌, ◌-◌, ◌<◌, ◌≤◌, ◌^◌, List, [], ◌∷◌, ◌++◌, length, take, drop, min, Option, Some, None, Result, Ok, Err, refl, sym, ap, ◌∙◌, subst, append_assoc, append-nil, arith, length-append}
+use Rattle.std.proofs.Common.{◌≡◌, ℕ, ◌+◌, ◌-◌, ◌<◌, ◌≤◌, ◌^◌, List, [], ◌∷◌, ◌++◌, length, take, drop, Some, Result, Ok, Err, refl, sym, ap, ◌∙◌, subst, append_assoc, append-nil, arith, length-append}
 use Rattle.std.proofs.lemmas.List.{take_at, drop_at, take-append-drop, take-append-le, drop-append-le, length-take}
 use Rattle.sha2.specs.Sha256.{sha256}
 use Rattle.pw_value.specs.Fields.{u32, u32_at}
 use Rattle.pw_value.specs.FieldLaws.{AreBytes}
 use Rattle.pw_value.specs.FieldFrame.{before_digest, file}
-use Rattle.pw_value.proofs.FieldLaws.{AreBytes-take, u32_spells}
+use Rattle.pw_value.proofs.FieldLaws.{u32_spells}
 use Rattle.pw_value.proofs.FileLaws.{length-sha256, length-u32}
 use Rattle.pw_files.specs.Contents.{value_of}
 use Rattle.pw_object.specs.declared.object.Object.{Object}

@@ -1,6 +1,6 @@
 -- Kept objects stay genuine, whatever is put.
-use Rattle.std.proofs.Common.{◌≡◌, ◌≢◌, ℕ, ◌+◌, ◌-◌, ◌<◌, ⊎_elim, inl, inr, Bool, true, false, cond, List, [], ◌∷◌, ◌++◌, codes, length, take, drop, map, Option, Some, None, Result, Ok, Err, refl, sym, ap, ◌∙◌, subst, append_assoc, arith, length-append}
-use Rattle.std.specs.Prelude.{IfErr, IfSome, IsSomeAnd}
+use Rattle.std.proofs.Common.{◌≡◌, ◌≢◌, ℕ, ◌+◌, ⊎_elim, Bool, true, false, List, [], ◌∷◌, ◌++◌, codes, length, take, drop, map, Option, Some, None, Result, Ok, Err, refl, sym, ap, ◌∙◌, subst, append_assoc, arith, length-append}
+use Rattle.std.specs.Prelude.{IfErr, IfSome}
 use Rattle.std.specs.List.{AllByRecursion}
 use Rattle.std.specs.Str.{bytes_eq}
 use Rattle.std.specs.FinMap as finite
@@ -13,22 +13,22 @@ use Rattle.pw_value.specs.FieldLaws.{AreBytes}
 use Rattle.pw_value.proofs.FieldLaws.{AreBytes-take}
 use Rattle.pw_flow.specs.declared.flow.FlowModule.{FlowModule}
 use Rattle.pw_object.specs.declared.object.Object.{Object}
-use Rattle.pw_object.specs.Object.{IsObjectFile}
 use Rattle.pw_modules.specs.Modules.{Source}
 use Rattle.pw_answer.specs.Effects.{NamedFile, PutPart, PutsFiles, IsLeft, after_puts}
-use Rattle.pw_making.specs.Programs.{AreObjectsFrom, AreParts, DirectivesList, IsModuleFrom, Parts, first_kept, kept_behind}
+use Rattle.pw_making.specs.Programs.{AreObjectsFrom, DirectivesList, Parts, kept_behind}
 use Rattle.pw_making.specs.Kept.{IsGenuine, IsGenuineIfKept}
 use Rattle.pw_build.specs.declared.fault.BuildFault.{BuildFault}
 use Rattle.pw_build.specs.declared.fault.Unbuilt.{Unbuilt}
-use Rattle.pw_build.specs.Builds.{Builds, BuildsBy, first_phases}
+use Rattle.pw_build.specs.Builds.{BuildsBy, first_phases}
 use Rattle.pw_kept.specs.declared.files.ProgramFiles.{ProgramFiles}
 use Rattle.pw_kept.specs.declared.prepared.Prepared.{Prepared}
 use Rattle.pw_kept.specs.Kept.{counted, kept_object, object_in, object_name}
 use Rattle.pw_kept.specs.Files.{AreObjectFiles, HoldBytes, IsCompared, changed_files, file_view, made_anew, one_if}
 use Rattle.pw_building.specs.declared.report.Opts.{Opts}
 use Rattle.pw_building.specs.declared.report.Report.{Report}
+use Rattle.pw_filing.specs.Programs.{BuildsFiles}
 use Rattle.pw_building.specs.Genuine.{IsGenuineFile, KeepsGenuine}
-use Rattle.pw_building.specs.Outcomes.{BuildsFiles, IsOfStore, PutsSome, build_answer}
+use Rattle.pw_building.specs.Outcomes.{IsOfStore, PutsSome, build_answer}
 use Rattle.pw_building.proofs.ObeysLemmas.{some_all, some_told}
 use Rattle.pw_building.proofs.GenuineFiles.{front_object}
 
@@ -183,7 +183,7 @@ parts_genuine : (names : List (List ℕ)) (flows : Result (List FlowModule) Buil
 parts_genuine names (Err fault) kept colours stack parts h = absurd (no_parts parts fault h)
 parts_genuine names (Ok flows) kept colours stack parts h = made_genuine parts.database names flows kept parts.objects parts.fresh h.0.objects
 
-good_told : (files : Files) (sources : List Source) (kept : List (Option Object)) (opts : Opts) (made : ProgramFiles) (p : Prepared) (count : ℕ) → BuildsFiles sources kept opts made → HoldBytes (map file_view made.fresh.files.items) → IsCompared files count made p → AllByRecursion IsGenuineFile (changed_files p)
+good_told : (files : Files) (sources : List Source) (kept : List (Option Object)) (opts : Opts) (made : ProgramFiles) (p : Prepared) (count : ℕ) → BuildsFiles sources kept opts.colours opts.stack made → HoldBytes (map file_view made.fresh.files.items) → IsCompared files count made p → AllByRecursion IsGenuineFile (changed_files p)
 good_told files sources kept opts made p count builds fits cmp =
     let anew = made_anew (map (λ s. s.0) sources) builds.0.objects builds.0.fresh in
     let genuine : AllByRecursion (λ m. IsGenuine m.1) anew = parts_genuine (map (λ s. s.0) sources) (first_phases sources) kept opts.colours opts.stack builds.0 builds.1 in
@@ -193,7 +193,7 @@ good_told files sources kept opts made p count builds fits cmp =
     good_append (map file_view p.objects.items) (db ++ img) (subst (λ fs. AllByRecursion IsGenuineFile (map file_view fs)) (sym cmp.objects) own)
     (good_append db img (changed_good p.database_changed (codes "prog.db") p.database.items no_database) (changed_good p.image_changed (codes "prog.img") p.image.items no_image))
 
-pub good_prepared : (opts : Opts) (first now : Option Told) (sources : List Source) (kept : Told → List (Option Object)) (made : ProgramFiles) (p : Prepared) (count : ℕ) → IfSome first (λ told. BuildsFiles sources (kept told) opts made) → HoldBytes (map file_view made.fresh.files.items)
+pub good_prepared : (opts : Opts) (first now : Option Told) (sources : List Source) (kept : Told → List (Option Object)) (made : ProgramFiles) (p : Prepared) (count : ℕ) → IfSome first (λ told. BuildsFiles sources (kept told) opts.colours opts.stack made) → HoldBytes (map file_view made.fresh.files.items)
     → Keeps first now → IfSome now (λ told. IsCompared told.files count made p) → IfSome first (λ told. AllByRecursion IsGenuineFile (changed_files p))
 good_prepared opts None now sources kept made p count builds fits same cmp = tt
 good_prepared opts (Some told) now sources kept made p count builds fits same cmp =

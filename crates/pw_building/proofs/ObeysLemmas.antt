@@ -5,10 +5,8 @@ use Rattle.std.specs.List.{AllByRecursion}
 use Rattle.pw_io.specs.Files.{Files, Told, Keeps}
 use Rattle.pw_io.specs.declared.StoreError.{StoreError}
 use Rattle.pw_io.specs.declared.StoreError.TheVariants as store
-use Rattle.pw_value.specs.declared.fault.LinkFault.{LinkFault}
 use Rattle.pw_answer.specs.declared.answer.Answer.{Answer}
-use Rattle.pw_answer.specs.declared.answer.Answer.TheVariants as answer
-use Rattle.pw_answer.specs.Effects.{NamedFile, PutsFiles, PutPart, PutFront, IsLeft, after_puts}
+use Rattle.pw_answer.specs.Effects.{NamedFile, PutsFiles, PutPart, PutFront, after_puts}
 use Rattle.pw_build.specs.declared.fault.BuildFault.{BuildFault}
 use Rattle.pw_build.specs.declared.fault.BuildFault.TheVariants as build
 use Rattle.pw_build.specs.declared.fault.Unbuilt.{Unbuilt}
@@ -16,7 +14,7 @@ use Rattle.pw_build.specs.Stores.{store_fault}
 use Rattle.pw_building.specs.declared.report.Report.{Report}
 use Rattle.pw_building.specs.declared.report.Opts.{Opts}
 use Rattle.pw_building.specs.Building.{BuildComes, Outcome, puts_of}
-use Rattle.pw_building.specs.Outcomes.{AnswersBuild, FaultComes, FaultFound, ObeysBuild, IsOfStore, PutsSome, Reports, build_answer, fault_answer}
+use Rattle.pw_building.specs.Outcomes.{FaultFound, ObeysBuild, IsOfStore, PutsSome, Reports, build_answer, fault_answer}
 use Rattle.pw_kept.specs.Files.{put_answer}
 use Rattle.pw_kept.proofs.PutLemmas.{none_left}
 

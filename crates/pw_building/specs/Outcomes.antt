@@ -1,30 +1,21 @@
 -- What a build answers and leaves of the store.
-use Rattle.std.specs.Prelude.{◌≡◌, ◌≤◌, ℕ, List, length, map, Option, Result, Ok, Err}
+use Rattle.std.specs.Prelude.{◌≡◌, ◌≤◌, List, Option, Result, Ok, Err}
 use Rattle.sha2.specs.Sha256.{sha256}
 use Rattle.pw_io.specs.Files.{Files, Told}
 use Rattle.pw_value.specs.Limits.{stack_least, stack_most}
 use Rattle.pw_answer.specs.declared.answer.Answer.{Answer}
 use Rattle.pw_answer.specs.declared.answer.Answer.TheVariants as answer
 use Rattle.pw_answer.specs.Effects.{NamedFile, PutPart, PutsFiles}
-use Rattle.pw_answer.specs.Outcomes.{StoreCount}
-use Rattle.pw_db.specs.Database.{IsDatabaseFile}
-use Rattle.pw_image.specs.Image.{IsImageFile}
-use Rattle.pw_link.specs.Linking.{linked}
-use Rattle.pw_making.specs.declared.making.Built.{Built}
-use Rattle.pw_making.specs.Programs.{Parts}
-use Rattle.pw_modules.specs.declared.modules.Module.{Module}
-use Rattle.pw_modules.specs.Modules.{Source, modules_of}
-use Rattle.pw_object.specs.declared.object.Object.{Object}
-use Rattle.pw_build.specs.Builds.{Builds}
+use Rattle.pw_modules.specs.Modules.{modules_of}
 use Rattle.pw_build.specs.declared.fault.BuildFault.{BuildFault}
 use Rattle.pw_build.specs.declared.fault.BuildFault.TheVariants as build
 use Rattle.pw_build.specs.declared.fault.Unbuilt.{Unbuilt}
 use Rattle.pw_build.specs.Phases.{IsLine, refused_line}
 use Rattle.pw_building.specs.declared.report.Report.{Report}
 use Rattle.pw_building.specs.declared.report.Opts.{Opts}
-use Rattle.pw_kept.specs.declared.files.ProgramFiles.{ProgramFiles}
 use Rattle.pw_kept.specs.declared.prepared.Prepared.{Prepared}
-use Rattle.pw_kept.specs.Files.{AreObjectFiles, changed_files, file_view, made_anew}
+use Rattle.pw_kept.specs.Files.{changed_files}
+pub use Rattle.pw_filing.specs.Programs.{FaultComes, FaultCount, fault_answer}
 use Rattle.pw_building.specs.Building.{BuildComes, Outcome, puts_of}
 
 -- at most 8 registers for webs, and a stack of a size that there may be
@@ -40,22 +31,9 @@ pub record Reports (outcome : Outcome) (report : Report) : Type 0 where
   pub image : report.image.items ≡ outcome.image
   pub digest : report.digest ≡ sha256 outcome.image
 
--- a fault as an answer of the program
-abbrev pub fault_answer : BuildFault → Answer
-fault_answer (build.Refused name refusal) = answer.Refused name refusal
-fault_answer (build.LinkRefused fault) = answer.LinkRefused fault
-fault_answer build.StoreFault = answer.StoreFault
-fault_answer build.NoMemory = answer.NoMemory
-
 abbrev pub build_answer : Result Report Unbuilt → Answer
 build_answer (Ok report) = answer.Done
 build_answer (Err unbuilt) = fault_answer unbuilt.fault
-
--- what was answered in place of a value, where this comes
-abbrev pub FaultComes : {V : Type 0} → Result V BuildFault → BuildFault → Type 0
-FaultComes comes build.StoreFault = Unit {0}
-FaultComes comes build.NoMemory = Unit {0}
-FaultComes comes fault = comes ≡ Err fault
 
 -- the answer to what a build comes to; a fault of the store and want of memory may come in its place
 abbrev pub AnswersBuild : Result Outcome BuildFault → Result Report Unbuilt → Type 0
@@ -95,35 +73,6 @@ IsOfStore build.StoreFault = Unit {0}
 IsOfStore build.NoMemory = Unit {0}
 IsOfStore fault = ⊥
 
--- a fault was answered in place of parts, to which these modules and these kept objects come
-abbrev pub FaultBuilds : List Source → List (Option Object) → Opts → BuildFault → Type 0
-FaultBuilds sources kept opts build.StoreFault = Unit {0}
-FaultBuilds sources kept opts build.NoMemory = Unit {0}
-FaultBuilds sources kept opts fault = Builds sources kept opts.colours opts.stack (Err fault)
-
--- as many objects as modules, each marked
-pub record AreAsMany (modules : List Module) (built : Built) : Type 0 where
-  pub objects : length built.objects.items ≡ length modules
-  pub marks : length built.fresh.items ≡ length modules
-
--- the files of a program that was made of modules of these names, by its parts
-pub record AreFilesOf (names : List (List ℕ)) (stack : ℕ) (parts : Parts) (made : ProgramFiles) : Type 0 where
-  pub rebuilt : made.fresh.names.items ≡ map (λ m. m.0) (made_anew names parts.objects parts.fresh)
-  pub objects : AreObjectFiles (made_anew names parts.objects parts.fresh) (map file_view made.fresh.files.items)
-  pub database : IsDatabaseFile made.database.items parts.database
-  pub image_names : List (List ℕ)
-  pub image : IsImageFile made.image.items (record { names = image_names; image = linked parts.objects stack })
-
--- modules, and these kept objects of theirs, come to a program with these files
-abbrev pub BuildsFiles : List Source → List (Option Object) → Opts → ProgramFiles → Type 0
-BuildsFiles sources kept opts made =
-    (parts : Parts) × Builds sources kept opts.colours opts.stack (Ok parts) × AreFilesOf (map (λ s. s.0) sources) opts.stack parts made
-
 -- a build as far as its puts
 abbrev pub outcome_of : Prepared → Outcome
 outcome_of p = record { modules = p.modules; rebuilt = p.rebuilt.items; image = p.image.items; puts = changed_files p }
-
--- a store's count of faults, where a value came or a fault in its place
-abbrev pub FaultCount : {T : Type 0} → ℕ → ℕ → Result T Unbuilt → Type 0
-FaultCount before now (Ok value) = now ≡ before
-FaultCount before now (Err unbuilt) = StoreCount before now (fault_answer unbuilt.fault)

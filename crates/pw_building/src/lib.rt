@@ -4,7 +4,6 @@
 mod building;
 mod laws;
 mod prepared;
-mod program;
 mod report;
 
 pub use building::build;

@@ -11,9 +11,9 @@ ghost use Rattle.pw_building.specs.Building.{BuildComes};
 ghost use Rattle.pw_building.specs.Genuine.{IsGenuineFile};
 ghost use Rattle.pw_building.specs.Outcomes.{AreOpts, FaultCount, FaultFound, outcome_of};
 
-use crate::program::{few_modules, program_of};
 use crate::report::Opts;
 use pw_build::Unbuilt;
+use pw_filing::{few_modules, program_of};
 use pw_io::Store;
 use pw_kept::{Prepared, compared};
 use pw_making::Steps;
@@ -38,7 +38,7 @@ fn prepared_of<S: Store, L: Ledger>(
     ensures same { Keeps (S.told store.old) (S.told store.new) }
     ensures count { FaultCount (S.faults store.old) (S.faults store.new) result }
 {
-    match program_of(alloc, store, modules, opts, steps) {
+    match program_of(alloc, store, modules, opts.colours, opts.stack, steps) {
         Ok(files) => Ok(compared(alloc, store, modules.len() as u32, files)?),
         Err(unbuilt) => Err(unbuilt),
     }

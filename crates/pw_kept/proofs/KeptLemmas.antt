@@ -5,7 +5,7 @@ use Rattle.std.specs.Prelude.{IfOk, IfSome, Vec}
 use Rattle.std.specs.Option.{option_map}
 use Rattle.std.specs.declared.alloc.Global.{Global}
 use Rattle.std.specs.FinMap as finite
-use Rattle.pw_io.specs.Files.{Files, Told, Keeps, ReadsFront, front_of}
+use Rattle.pw_io.specs.Files.{Told, Keeps, ReadsFront, front_of}
 use Rattle.pw_io.specs.declared.StoreError.{StoreError}
 use Rattle.pw_files.specs.Contents.{value_of}
 use Rattle.pw_object.specs.Reading.{object_file_at}

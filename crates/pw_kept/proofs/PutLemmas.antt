@@ -1,11 +1,11 @@
 -- Files that are put one behind another.
-use Rattle.std.proofs.Common.{◌≡◌, ℕ, inl, inr, Bool, true, false, List, [], ◌∷◌, ◌++◌, map, Option, Some, None, Result, Ok, Err, refl, sym, ap, ◌∙◌, subst, append_assoc, append-nil}
-use Rattle.std.specs.Prelude.{IfSome, OnOk, IsSomeAnd}
+use Rattle.std.proofs.Common.{◌≡◌, ℕ, inl, inr, List, [], ◌∷◌, ◌++◌, Option, Some, None, Result, Ok, Err, refl, sym, ap, ◌∙◌, subst, append_assoc, append-nil}
+use Rattle.std.specs.Prelude.{IfSome, OnOk}
 use Rattle.pw_io.specs.Files.{Told, Keeps, Puts, PutsPart, after_put}
 use Rattle.pw_io.specs.Faults.{OnFailed, OnNoMemory}
 use Rattle.pw_io.specs.declared.StoreError.{StoreError}
 use Rattle.pw_io.specs.declared.StoreError.TheVariants.{Failed, NoMemory}
-use Rattle.pw_answer.specs.Effects.{NamedFile, PutsFiles, PutPart, PutFront, IsLeft, after_puts}
+use Rattle.pw_answer.specs.Effects.{NamedFile, PutsFiles, IsLeft, after_puts}
 use Rattle.pw_kept.specs.Files.{put_answer}
 
 pub after_append : (told : Told) (xs ys : List NamedFile) → after_puts told (xs ++ ys) ≡ after_puts (after_puts told xs) ys

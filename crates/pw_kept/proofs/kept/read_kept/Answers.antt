@@ -1,5 +1,5 @@
 use Rattle.std.proofs.Common.{arith, ◌∙◌}
-use Rattle.pw_kept.proofs.KeptLemmas.{keeps_on, kept_end, kept_start, kept_turn}
+use Rattle.pw_kept.proofs.KeptLemmas.{keeps_on, kept_end, kept_turn}
 use Rattle.pw_kept.proofs.kept.read_kept.Goals as goal
 
 pub loop-which-preserved : goal.loop-which-preserved

@@ -14,9 +14,8 @@ ghost use Rattle.pw_build.specs.Builds.{Builds, first_phases};
 ghost use Rattle.pw_build.specs.Phases.{IsLine, refused_line};
 ghost use Rattle.pw_kept.specs.Kept.{kept_object};
 ghost use Rattle.pw_kept.specs.Files.{HoldBytes, file_view};
-ghost use Rattle.pw_building.specs.Outcomes.{AreAsMany, AreOpts, BuildsFiles, FaultBuilds, FaultComes, FaultCount};
+ghost use Rattle.pw_filing.specs.Programs.{AreAsMany, BuildsFiles, FaultBuilds, FaultComes, FaultCount};
 
-use crate::report::Opts;
 use pw_build::{BuildFault, Unbuilt, first_phases};
 use pw_io::Store;
 use pw_kept::{ProgramFiles, files_of, read_kept};
@@ -51,16 +50,17 @@ fn built_of<S: Store, L: Ledger>(
     alloc: Global,
     store: &mut S,
     modules: &[Module],
-    opts: &Opts,
+    colours: u8,
+    stack: u32,
     steps: &mut Steps<L>,
 ) -> Result<Built, Unbuilt>
-    requires { AreOpts opts.now }
-    ensures built { IfSome (S.told store.old) (λ told. IfOk result (λ built. Builds (map source modules.now) (map (λ m. kept_object told.files m.name) modules.now) opts.now.colours opts.now.stack (Ok (parts_of built)))) }
-    ensures fault { IfSome (S.told store.old) (λ told. IfErr result (λ unbuilt. FaultBuilds (map source modules.now) (map (λ m. kept_object told.files m.name) modules.now) opts.now unbuilt.fault)) }
+    requires { colours ≤ 8 }
+    ensures built { IfSome (S.told store.old) (λ told. IfOk result (λ built. Builds (map source modules.now) (map (λ m. kept_object told.files m.name) modules.now) colours stack (Ok (parts_of built)))) }
+    ensures fault { IfSome (S.told store.old) (λ told. IfErr result (λ unbuilt. FaultBuilds (map source modules.now) (map (λ m. kept_object told.files m.name) modules.now) colours stack unbuilt.fault)) }
     ensures line { IfErr result (λ unbuilt. IsLine (refused_line (map source modules.now)) unbuilt.fault unbuilt.line) }
     ensures few { OnOk result (length modules.now ≤ 256) }
     ensures many { IfOk result (λ built. AreAsMany modules.now built) }
-    ensures image { IfOk result (λ built. view built.image ≡ linked built.objects.items opts.now.stack) }
+    ensures image { IfOk result (λ built. view built.image ≡ linked built.objects.items stack) }
     ensures lawful_database { IfOk result (λ built. IsDatabase built.database.functions) }
     ensures lawful_objects { IfOk result (λ built. AllByRecursion IsObject built.objects.items) }
     ensures lawful_image { IfOk result (λ built. IsImage (view built.image)) }
@@ -70,7 +70,7 @@ fn built_of<S: Store, L: Ledger>(
 {
     let flows = first_phases(alloc, modules)?;
     let kept = read_kept(alloc, store, modules)?;
-    match complete(alloc, &flows, kept, opts.colours, opts.stack, steps) {
+    match complete(alloc, &flows, kept, colours, stack, steps) {
         Ok(built) => Ok(built),
         Err(LinkFault::NoMemory) => Err(Unbuilt {
             fault: BuildFault::NoMemory,
@@ -88,20 +88,21 @@ pub fn program_of<S: Store, L: Ledger>(
     alloc: Global,
     store: &mut S,
     modules: &[Module],
-    opts: &Opts,
+    colours: u8,
+    stack: u32,
     steps: &mut Steps<L>,
 ) -> Result<ProgramFiles, Unbuilt>
-    requires { AreOpts opts.now }
-    ensures files { IfSome (S.told store.old) (λ told. IfOk result (λ files. BuildsFiles (map source modules.now) (map (λ m. kept_object told.files m.name) modules.now) opts.now files)) }
+    requires { colours ≤ 8 }
+    ensures files { IfSome (S.told store.old) (λ told. IfOk result (λ files. BuildsFiles (map source modules.now) (map (λ m. kept_object told.files m.name) modules.now) colours stack files)) }
     ensures bytes { IfOk result (λ files. HoldBytes (map file_view files.fresh.files.items)) }
-    ensures fault { IfSome (S.told store.old) (λ told. IfErr result (λ unbuilt. FaultBuilds (map source modules.now) (map (λ m. kept_object told.files m.name) modules.now) opts.now unbuilt.fault)) }
+    ensures fault { IfSome (S.told store.old) (λ told. IfErr result (λ unbuilt. FaultBuilds (map source modules.now) (map (λ m. kept_object told.files m.name) modules.now) colours stack unbuilt.fault)) }
     ensures line { IfErr result (λ unbuilt. IsLine (refused_line (map source modules.now)) unbuilt.fault unbuilt.line) }
     ensures few { OnOk result (length modules.now ≤ 256) }
     ensures counted { IfOk result (λ files. steps.new ≡ steps.old + length files.fresh.names.items) }
     ensures same { Keeps (S.told store.old) (S.told store.new) }
     ensures count { FaultCount (S.faults store.old) (S.faults store.new) result }
 {
-    let built = built_of(alloc, store, modules, opts, steps)?;
+    let built = built_of(alloc, store, modules, colours, stack, steps)?;
     Ok(files_of(
         alloc,
         modules,
