@@ -1,0 +1,49 @@
+-- Code that does one act behind another does both.
+use Rattle.std.proofs.Common.{◌≡◌, refl, sym, ap, subst, ◌∙◌, Result, Ok, Err}
+use Rattle.std.specs.Prelude.{IfOk, IfErr}
+use Rattle.pw_cmean.specs.Worlds.{World}
+use Rattle.pw_cmean.specs.Acts.{Act, State, ◌>>=◌, give}
+use Rattle.pw_cstate.specs.Shown.{Shown}
+use Rattle.pw_cstate.specs.Runs.{Runs}
+use Rattle.pw_cstate.proofs.RunLaws.{given, goes_on, ends, same_act}
+use Rattle.pw_ccalls.specs.declared.ending.Stop.{Stop}
+use Rattle.pw_ccalls.specs.declared.ending.Stop.TheVariants as S
+use Rattle.pw_ccalls.specs.Endings.{view_ending}
+use Rattle.pw_ccalls.specs.Answers.{Answers, Stops}
+
+-- what was given
+pub gives : {A B : Type 0} {view : B → A} {world : World} {at : Shown} (b : B) → Answers view world (give (view b)) at (Ok b) at
+gives {view = view} {world = world} {at = at} b = record { given = given world (view b) at; stopped = tt }
+
+-- want of memory
+pub no_memory : {A B : Type 0} {view : B → A} {world : World} {act : Act A} {before behind : Shown} {r : Result B Stop} → r ≡ Err S.NoMemory → Answers view world act before r behind
+no_memory {view = view} {world = world} {act = act} {before = before} {behind = behind} e =
+    subst (λ x. Answers view world act before x behind) (sym e) (record { given = tt; stopped = tt })
+
+-- the same act by another name
+pub same : {A B : Type 0} {view : B → A} {world : World} {act other : Act A} {before behind : Shown} {r : Result B Stop}
+    → act ≡ other → Answers view world other before r behind → Answers view world act before r behind
+same {view = view} {world = world} {before = before} {behind = behind} {r = r} e a = subst (λ x. Answers view world x before r behind) (sym e) a
+
+-- behind what was given, what follows decides
+pub then_ok : {A B C D : Type 0} {seen : C → A} {view : D → B} {world : World} {first : Act A} {made : C} {before mid behind : Shown} {one : Result C Stop} {r : Result D Stop}
+    (next : A → Act B) → Answers seen world first before one mid → one ≡ Ok made → Answers view world (next (seen made)) mid r behind → Answers view world (first >>= next) before r behind
+then_ok {C = C} {seen = seen} {view = view} {world = world} {first = first} {made = made} {before = before} {mid = mid} {behind = behind} {r = r} next a e rest =
+    let run : Runs world first before (Ok (seen made)) mid = subst (λ x. IfOk x (λ b. Runs world first before (Ok (seen b)) mid)) e a.given in
+    by r rest run
+  where
+    by : (x : Result _ Stop) → Answers view world (next (seen made)) mid x behind → Runs world first before (Ok (seen made)) mid → Answers view world (first >>= next) before x behind
+    by (Ok d) o run = record { given = goes_on world first next before mid behind (seen made) (Ok (view d)) run o.given; stopped = tt }
+    by (Err (S.Ended ending)) o run = record { given = tt; stopped = goes_on world first next before mid behind (seen made) (Err (view_ending ending)) run o.stopped }
+    by (Err S.NoMemory) o run = record { given = tt; stopped = tt }
+
+-- where the first stops, both do
+pub then_err : {A B C D : Type 0} {seen : C → A} {view : D → B} {world : World} {first : Act A} {stop : Stop} {before behind : Shown} {one : Result C Stop} {r : Result D Stop}
+    (next : A → Act B) → Answers seen world first before one behind → one ≡ Err stop → r ≡ Err stop → Answers view world (first >>= next) before r behind
+then_err {seen = seen} {view = view} {world = world} {first = first} {stop = stop} {before = before} {behind = behind} next a e is =
+    subst (λ x. Answers view world (first >>= next) before x behind) (sym is)
+    (by stop (subst (λ x. IfErr x (λ s. Stops world first before s behind)) e a.stopped))
+  where
+    by : (s : Stop) → Stops world first before s behind → Answers view world (first >>= next) before (Err s) behind
+    by (S.Ended ending) run = record { given = tt; stopped = ends world first next before behind (view_ending ending) run }
+    by S.NoMemory run = record { given = tt; stopped = tt }

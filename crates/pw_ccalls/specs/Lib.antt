@@ -1,0 +1,4 @@
+pub mod Endings
+pub mod Answers
+pub mod Frames
+pub mod Views
