@@ -1,14 +1,14 @@
 -- Code that does one act behind another does both.
-use Rattle.std.proofs.Common.{◌≡◌, refl, sym, ap, subst, ◌∙◌, Result, Ok, Err}
+use Rattle.std.proofs.Common.{◌≡◌, refl, sym, ap, subst, ◌∙◌, Option, Some, Result, Ok, Err}
 use Rattle.std.specs.Prelude.{IfOk, IfErr}
 use Rattle.pw_cmean.specs.Worlds.{World}
-use Rattle.pw_cmean.specs.Acts.{Act, State, ◌>>=◌, give}
+use Rattle.pw_cmean.specs.Acts.{Act, State, Ending, ◌>>=◌, give}
 use Rattle.pw_cstate.specs.Shown.{Shown}
 use Rattle.pw_cstate.specs.Runs.{Runs}
 use Rattle.pw_cstate.proofs.RunLaws.{given, goes_on, ends, same_act}
 use Rattle.pw_ccalls.specs.declared.ending.Stop.{Stop}
 use Rattle.pw_ccalls.specs.declared.ending.Stop.TheVariants as S
-use Rattle.pw_ccalls.specs.Endings.{view_ending}
+use Rattle.pw_ccalls.specs.Endings.{view_ending, told}
 use Rattle.pw_ccalls.specs.Answers.{Answers, Stops}
 
 -- what was given
@@ -47,3 +47,13 @@ then_err {seen = seen} {view = view} {world = world} {first = first} {stop = sto
     by : (s : Stop) → Stops world first before s behind → Answers view world (first >>= next) before (Err s) behind
     by (S.Ended ending) run = record { given = tt; stopped = ends world first next before behind (view_ending ending) run }
     by S.NoMemory run = record { given = tt; stopped = tt }
+
+-- what an act comes to, from a result that tells it
+pub tells : {A : Type 0} {world : World} {act : Act A} {before behind : Shown} {result : Result A Stop} (r : Result A Ending)
+    → told result ≡ Some r → Runs world act before r behind → Answers (λ a. a) world act before result behind
+tells {A = A} {world = world} {act = act} {before = before} {behind = behind} {result = result} r e run = by result e
+  where
+    by : (x : Result A Stop) → told x ≡ Some r → Answers (λ a. a) world act before x behind
+    by (Ok a) e = let is : r ≡ Ok a = cc e in record { given = subst (λ q. Runs world act before q behind) is run; stopped = tt }
+    by (Err (S.Ended ending)) e = let is : r ≡ Err (view_ending ending) = cc e in record { given = tt; stopped = subst (λ q. Runs world act before q behind) is run }
+    by (Err S.NoMemory) e = record { given = tt; stopped = tt }

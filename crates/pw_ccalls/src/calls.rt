@@ -1,20 +1,21 @@
 //! The calls within a bound and the meaning of smaller expressions, which the interpreter's parts take. Who ties the
 //! parts together counts how deep they nest, and answers want of memory where that is too deep: the stack is memory.
 
-ghost use Rattle.std.specs.Prelude.{ℕ};
 ghost use Rattle.pw_typed.specs.Views.{view_expr};
-ghost use Rattle.pw_cmean.specs.Evaluation as meaning;
-ghost use Rattle.pw_cmean.specs.SourceRun as runs;
+ghost use Rattle.pw_cmean.specs.Evaluation.{bounded_call};
+ghost use Rattle.pw_cmean.specs.SourceRun.{calls};
 ghost use Rattle.pw_cstate.specs.Shown.{view_state};
-ghost use Rattle.pw_cworld.specs.Views.{view_callable};
 ghost use Rattle.pw_ccalls.specs.Answers.{Answers};
+ghost use Rattle.pw_ccalls.specs.Evaluates.{Evaluates, Locates};
+ghost use Rattle.pw_ccalls.specs.Functions.{callable_of};
 ghost use Rattle.pw_ccalls.specs.Views.{view_env};
+ghost use Rattle.pw_ccalls.specs.WorldViews.{view_world};
 
 use crate::ending::Stop;
 use crate::env::Env;
 use crate::world::World;
 use pw_cstate::State;
-use pw_cworld::Callable;
+use pw_cworld::Body;
 use pw_typed::TExpr;
 use pw_value::Value;
 use std::alloc::Global;
@@ -31,11 +32,11 @@ pub trait Calls<'a> {
         world: &'a World<'a>,
         state: &mut State<'a>,
         bound: u64,
-        function: &Callable<'a>,
+        function: Body<'a>,
         args: &[Value],
     ) -> Result<Option<Value>, Stop<'a>>
         requires { can_call self.now }
-        ensures { Answers (λ v. v) world.now (meaning.bounded_call (runs.calls world.now bound) (view_callable function.now) args.now) (view_state state.old) result (view_state state.new) };
+        ensures { Answers (λ v. v) (view_world world.now) (bounded_call (calls (view_world world.now) bound) (callable_of function) args.now) (view_state state.old) result (view_state state.new) };
 }
 
 /// Evaluates expressions, whose calls have a bound.
@@ -53,7 +54,7 @@ pub trait Expressions<'a> {
         e: &TExpr,
     ) -> Result<Option<Value>, Stop<'a>>
         requires { can_evaluate self.now }
-        ensures { Answers (λ v. v) env.now.world.now (meaning.answer_of (view_expr e.now) (runs.calls env.now.world.now bound) (view_env env.now)) (view_state state.old) result (view_state state.new) };
+        ensures { Evaluates (view_env env.now) bound (view_expr e.now) (view_state state.old) result (view_state state.new) };
 
     /// The place that an lvalue denotes; of another structure or union its value, which is a place.
     fn place_of(
@@ -65,5 +66,5 @@ pub trait Expressions<'a> {
         e: &TExpr,
     ) -> Result<Value, Stop<'a>>
         requires { can_evaluate self.now }
-        ensures { Answers (λ v. v) env.now.world.now (meaning.place_of (view_expr e.now) (runs.calls env.now.world.now bound) (view_env env.now)) (view_state state.old) result (view_state state.new) };
+        ensures { Locates (view_env env.now) bound (view_expr e.now) (view_state state.old) result (view_state state.new) };
 }

@@ -1,0 +1,49 @@
+//! The places of names.
+
+ghost use Rattle.pw_typed.specs.Views.{view_symbol};
+ghost use Rattle.pw_cmean.specs.Acts.{need};
+ghost use Rattle.pw_cmean.specs.Evaluation as meaning;
+ghost use Rattle.pw_cmean.specs.Worlds.{full_name, function_named};
+ghost use Rattle.pw_cstate.specs.Shown.{Shown};
+ghost use Rattle.pw_ccalls.specs.Answers.{Answers};
+ghost use Rattle.pw_ccalls.specs.Functions.{callable_of};
+ghost use Rattle.pw_ccalls.specs.Views.{view_env};
+
+use pw_ccalls::{Ending, Env, Stop};
+use pw_cworld::Body;
+use pw_lforms::full_name;
+use pw_typed::Symbol;
+use pw_value::{Pointer, Value};
+use std::alloc::Global;
+
+/// The place of a local that is in scope.
+pub fn local_place<'a>(env: &Env<'a>, local: u32) -> Result<Value, Stop<'a>>
+    ensures { (s : Shown) → Answers (λ x. x) (view_env env.now).world (meaning.local_place (view_env env.now) local) s result s }
+{
+    match env.numbers.get(local as usize) {
+        Some(Some(number)) => Ok(Value::At(Pointer::Object(*number, 0))),
+        Some(None) | None => Err(Stop::Ended(Ending::Wrong)),
+    }
+}
+
+/// The place of an object of static lifetime, or the function.
+pub fn symbol_place<'a>(alloc: Global, env: &Env<'a>, symbol: &Symbol) -> Result<Value, Stop<'a>>
+    ensures { (s : Shown) → Answers (λ x. x) (view_env env.now).world (meaning.symbol_place (view_env env.now) (view_symbol symbol.now)) s result s }
+{
+    let name = full_name(alloc, env.home.name, symbol)?;
+    match env.world.pointer_to(name.as_bytes()) {
+        Some(pointer) => Ok(Value::At(pointer)),
+        None => Err(Stop::Ended(Ending::Wrong)),
+    }
+}
+
+/// The function that a symbol names.
+pub fn function_of<'a>(alloc: Global, env: &Env<'a>, symbol: &Symbol) -> Result<Body<'a>, Stop<'a>>
+    ensures { (s : Shown) → Answers callable_of (view_env env.now).world (need (function_named (view_env env.now).world.program (full_name env.now.home.name.now (view_symbol symbol.now)))) s result s }
+{
+    let name = full_name(alloc, env.home.name, symbol)?;
+    match env.world.function_named(name.as_bytes()) {
+        Some(function) => Ok(function),
+        None => Err(Stop::Ended(Ending::Wrong)),
+    }
+}

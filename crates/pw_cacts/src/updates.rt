@@ -1,0 +1,134 @@
+//! Assignments that read what they write.
+
+ghost use Rattle.std.specs.Prelude.{◌≡◌};
+ghost use Rattle.pw_types.specs.Views.{view_type};
+ghost use Rattle.pw_cmean.specs.Evaluation as meaning;
+ghost use Rattle.pw_cstate.specs.Shown.{view_state};
+ghost use Rattle.pw_ccalls.specs.Answers.{Answers};
+ghost use Rattle.pw_ccalls.specs.Views.{view_env};
+ghost use Rattle.pw_cacts.specs.Results as spec;
+
+use crate::nodes::{binary, convert, load, put};
+use pw_ccalls::{Env, Stop};
+use pw_coperators::Purpose;
+use pw_cstate::State;
+use pw_types::{BinaryOperator, CType, IntKind, StepOperator, promote};
+use pw_value::Value;
+use std::alloc::Global;
+
+/// The value of an assignment: that of its left operand behind it, of a structure or union the place.
+pub fn assigned(ty: &CType, place: Value, v: Value) -> Value
+    ensures { result ≡ meaning.assigned (view_type ty.now) place v }
+{
+    match ty {
+        CType::Record(_) => place,
+        _ => v,
+    }
+}
+
+/// The old value of an lvalue of a type, in the type in which an operator works.
+pub fn old_value<'a>(
+    env: &Env<'a>,
+    state: &State<'a>,
+    token: usize,
+    ty: &CType,
+    working: &CType,
+    place: Value,
+) -> Result<Value, Stop<'a>>
+    ensures { Answers (λ x. x) (view_env env.now).world (meaning.old_value (view_env env.now) token (view_type ty.now) (view_type working.now) place) (view_state state.now) result (view_state state.now) }
+{
+    let old = load(env, state, token, ty, place)?;
+    convert(env, token, working, old)
+}
+
+/// The new value behind an operator on the old one, converted to the lvalue's type and stored.
+pub fn update<'a>(
+    alloc: Global,
+    env: &Env<'a>,
+    state: &mut State<'a>,
+    token: usize,
+    ty: &CType,
+    place: Value,
+    op: BinaryOperator,
+    types: (&CType, &CType),
+    values: (Value, Value),
+) -> Result<Value, Stop<'a>>
+    ensures { Answers (λ x. x) (view_env env.now).world (meaning.update (view_env env.now) token (view_type ty.now) (view_type types.0.now) place op (view_type types.1.now) values.0 values.1) (view_state state.old) result (view_state state.new) }
+{
+    let new = binary(env, state, token, op, types, values)?;
+    let value = convert(env, token, ty, new)?;
+    put(
+        alloc,
+        env,
+        state,
+        Purpose::Assigning,
+        token,
+        ty,
+        place,
+        value,
+    )?;
+    Ok(value)
+}
+
+/// `++` adds, `--` subtracts.
+fn step_operator(op: StepOperator) -> BinaryOperator
+    ensures { result ≡ meaning.step_operator op }
+{
+    match op {
+        StepOperator::IncrementBefore | StepOperator::IncrementBehind => BinaryOperator::Add,
+        StepOperator::DecrementBefore | StepOperator::DecrementBehind => BinaryOperator::Subtract,
+    }
+}
+
+/// Behind its operand the value of a step is the old one.
+fn step_result(op: StepOperator, old: Value, new: Value) -> Value
+    ensures { result ≡ meaning.step_result op old new }
+{
+    match op {
+        StepOperator::IncrementBefore | StepOperator::DecrementBefore => new,
+        StepOperator::IncrementBehind | StepOperator::DecrementBehind => old,
+    }
+}
+
+/// `++` or `--` of an lvalue of a type, by an operation in another.
+fn step_in<'a>(
+    alloc: Global,
+    env: &Env<'a>,
+    state: &mut State<'a>,
+    token: usize,
+    op: StepOperator,
+    ty: &CType,
+    working: &CType,
+    place: Value,
+) -> Result<Value, Stop<'a>>
+    ensures { Answers (λ x. x) (view_env env.now).world (spec.step_in (view_env env.now) token op (view_type ty.now) (view_type working.now) place) (view_state state.old) result (view_state state.new) }
+{
+    let old = load(env, state, token, ty, place)?;
+    let value = convert(env, token, working, old)?;
+    let one = (value, Value::Num(1));
+    let types = (working, &CType::Int(IntKind::Int));
+    let operator = step_operator(op);
+    let new = update(alloc, env, state, token, ty, place, operator, types, one)?;
+    Ok(step_result(op, old, new))
+}
+
+/// `++` or `--` of an lvalue of a type, which adds or subtracts the int 1 in the promoted type (ISO C90 6.3.2.4, 6.3.3.1).
+pub fn step<'a>(
+    alloc: Global,
+    env: &Env<'a>,
+    state: &mut State<'a>,
+    token: usize,
+    op: StepOperator,
+    ty: &CType,
+    place: Value,
+) -> Result<Value, Stop<'a>>
+    ensures { Answers (λ x. x) (view_env env.now).world (meaning.step (view_env env.now) token op (view_type ty.now) place) (view_state state.old) result (view_state state.new) }
+{
+    match ty {
+        CType::Int(kind) => {
+            let working = CType::Int(promote(*kind));
+            step_in(alloc, env, state, token, op, ty, &working, place)
+        }
+        _ => step_in(alloc, env, state, token, op, ty, ty, place),
+    }
+}

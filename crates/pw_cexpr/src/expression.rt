@@ -1,0 +1,98 @@
+//! Expressions by their forms.
+
+ghost use Rattle.pw_typed.specs.Views.{view_expr};
+ghost use Rattle.pw_cstate.specs.Shown.{view_state};
+ghost use Rattle.pw_ccalls.specs.Evaluates.{Evaluates, Locates};
+ghost use Rattle.pw_ccalls.specs.Views.{view_env};
+
+use crate::assignments::{assign, assign_place, compound, step};
+use crate::calls::{call_named, call_through};
+use crate::operands::operand;
+use crate::operators::{binary, cast, comma, cond, logic, unary};
+use crate::places::{
+    address, comma_place, cond_place, decay, deref, function, global, hidden_place, local, member,
+    member_place, string,
+};
+use pw_cacts::{local_place, symbol_place};
+use pw_ccalls::{Calls, Ending, Env, Expressions, Stop};
+use pw_cstate::State;
+use pw_typed::{TExpr, TForm};
+use pw_value::Value;
+use std::alloc::Global;
+
+/// The result of an expression (ISO C90 6.3): None where it is void, or a function returned none.
+pub fn answer_of<'a, P: Expressions<'a>, C: Calls<'a>>(
+    alloc: Global,
+    parts: &P,
+    calls: &C,
+    env: &Env<'a>,
+    state: &mut State<'a>,
+    bound: u64,
+    e: &TExpr,
+) -> Result<Option<Value>, Stop<'a>>
+    requires parts { P.can_evaluate parts.now }
+    requires calls { C.can_call calls.now }
+    ensures { Evaluates (view_env env.now) bound (view_expr e.now) (view_state state.old) result (view_state state.new) }
+{
+    match &e.form {
+        TForm::Number(n) => Ok(Some(Value::Num(*n))),
+        TForm::Str(number) => string(alloc, env, state, e.token, &e.ty, *number),
+        TForm::Local(place) => local(env, state, e.token, &e.ty, *place),
+        TForm::Global(symbol) => global(alloc, env, state, e.token, &e.ty, symbol),
+        TForm::Function(symbol) => function(alloc, env, state, e.token, &e.ty, symbol),
+        TForm::Unary(op, a) => unary(alloc, parts, env, state, bound, e.token, &e.ty, *op, a),
+        TForm::Binary(op, a, b) => binary(
+            alloc, parts, env, state, bound, e.token, &e.ty, *op, a, b,
+        ),
+        TForm::Logic(op, a, b) => logic(alloc, parts, env, state, bound, e.token, &e.ty, *op, a, b),
+        TForm::Cond(c, a, b) => cond(alloc, parts, env, state, bound, e.token, &e.ty, c, a, b),
+        TForm::Comma(a, b) => comma(alloc, parts, env, state, bound, e.token, &e.ty, a, b),
+        TForm::Assign(a, b) => assign(alloc, parts, env, state, bound, e.token, &e.ty, a, b),
+        TForm::Compound(op, working, a, b) => compound(
+            alloc, parts, env, state, bound, e.token, &e.ty, *op, working, a, b,
+        ),
+        TForm::Step(op, a) => step(alloc, parts, env, state, bound, e.token, &e.ty, *op, a),
+        TForm::Cast(a) => cast(alloc, parts, env, state, bound, e.token, &e.ty, a),
+        TForm::Decay(a) => decay(alloc, parts, env, state, bound, e.token, &e.ty, a),
+        TForm::Address(a) => address(alloc, parts, env, state, bound, e.token, &e.ty, a),
+        TForm::Member(a, offset) => member(
+            alloc, parts, env, state, bound, e.token, &e.ty, a, *offset,
+        ),
+        TForm::Deref(a) => deref(alloc, parts, env, state, bound, e.token, &e.ty, a),
+        TForm::Call(symbol, args) => call_named(
+            alloc, parts, calls, env, state, bound, e.token, &e.ty, symbol, args,
+        ),
+        TForm::CallValue(a, args) => call_through(
+            alloc, parts, calls, env, state, bound, e.token, &e.ty, a, args,
+        ),
+    }
+}
+
+/// The place that an lvalue denotes (ISO C90 6.2.2.1); of another structure or union its value, which is a place.
+pub fn place_of<'a, P: Expressions<'a>>(
+    alloc: Global,
+    parts: &P,
+    env: &Env<'a>,
+    state: &mut State<'a>,
+    bound: u64,
+    e: &TExpr,
+) -> Result<Value, Stop<'a>>
+    requires { P.can_evaluate parts.now }
+    ensures { Locates (view_env env.now) bound (view_expr e.now) (view_state state.old) result (view_state state.new) }
+{
+    match &e.form {
+        TForm::Str(number) => hidden_place(alloc, env, *number),
+        TForm::Local(place) => local_place(env, *place),
+        TForm::Global(symbol) | TForm::Function(symbol) => symbol_place(alloc, env, symbol),
+        TForm::Member(a, offset) => member_place(
+            alloc, parts, env, state, bound, e.token, &e.ty, a, *offset,
+        ),
+        TForm::Deref(a) => operand(alloc, parts, env, state, bound, e.token, a),
+        TForm::Cond(c, a, b) => cond_place(
+            alloc, parts, env, state, bound, e.token, &e.ty, c, a, b,
+        ),
+        TForm::Comma(a, b) => comma_place(alloc, parts, env, state, bound, e.token, &e.ty, a, b),
+        TForm::Assign(a, b) => assign_place(alloc, parts, env, state, bound, e.token, &e.ty, a, b),
+        _ => Err(Stop::Ended(Ending::Wrong)),
+    }
+}
