@@ -88,7 +88,7 @@ pub fn call<'a, C: Calls<'a>>(
     args: &[Value],
 ) -> Result<Option<Value>, Stop<'a>>
     requires { C.can_call calls.now }
-    ensures { Answers (λ x. x) (view_world world.now) (meaning.call (view_world world.now) (runs.calls (view_world world.now) bound) (callable_of function) args.now) (view_state state.old) result (view_state state.new) }
+    ensures { Answers (λ x. x) (view_world world.now) (meaning.call (view_world world.now) (runs.calls (view_world world.now) bound) (callable_of function.entry) args.now) (view_state state.old) result (view_state state.new) }
 {
     match function {
         Body::Library(g) => {
@@ -111,7 +111,7 @@ fn callee_of<'a>(world: &World<'a>, p: Value) -> Option<Body<'a>>
 
 /// The shape of a function. A type that is marked volatile, which no accepted program has there, is want of memory.
 fn shape_by<'a>(alloc: Global, function: Body<'a>) -> Result<Shape, AllocError>
-    ensures { IfOk result (λ shape. shape ≡ (callable_of function).shape) }
+    ensures { IfOk result (λ shape. shape ≡ (callable_of function.entry).shape) }
 {
     match function {
         Body::Library(LibraryFunction::ExitRun) => literal(alloc, b"fvi"),
@@ -146,7 +146,7 @@ fn has_shape<'a>(
     function: Body<'a>,
     ty: &CType,
 ) -> Result<bool, AllocError>
-    ensures { IfOk result (λ has. has ≡ bytes_eq (callable_of function).shape (shape_of (meaning.records_of (view_env env.now)) (meaning.pointed (view_type ty.now)) false)) }
+    ensures { IfOk result (λ has. has ≡ bytes_eq (callable_of function.entry).shape (shape_of (meaning.records_of (view_env env.now)) (meaning.pointed (view_type ty.now)) false)) }
 {
     match ty {
         CType::Pointer(target) => {

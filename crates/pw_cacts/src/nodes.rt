@@ -84,7 +84,7 @@ pub fn binary<'a>(
     types: (&CType, &CType),
     values: (Value, Value),
 ) -> Result<Value, Stop<'a>>
-    ensures { Answers (λ x. x) (view_env env.now).world (operators.binary (site (view_env env.now) token) (records_of (view_env env.now)) op (view_type types.0.now) (view_type types.1.now) values.0 values.1) (view_state state.now) result (view_state state.now) }
+    ensures { Answers (λ x. x) (view_env env.now).world (operators.binary (site (view_env env.now) token) (records_of (view_env env.now)) op (view_type types.entry.0.now) (view_type types.entry.1.now) values.0 values.1) (view_state state.now) result (view_state state.now) }
 {
     let (a, b) = types;
     let (v, w) = values;

@@ -53,7 +53,7 @@ pub fn update<'a>(
     types: (&CType, &CType),
     values: (Value, Value),
 ) -> Result<Value, Stop<'a>>
-    ensures { Answers (λ x. x) (view_env env.now).world (meaning.update (view_env env.now) token (view_type ty.now) (view_type types.0.now) place op (view_type types.1.now) values.0 values.1) (view_state state.old) result (view_state state.new) }
+    ensures { Answers (λ x. x) (view_env env.now).world (meaning.update (view_env env.now) token (view_type ty.now) (view_type types.entry.0.now) place op (view_type types.entry.1.now) values.0 values.1) (view_state state.old) result (view_state state.new) }
 {
     let new = binary(env, state, token, op, types, values)?;
     let value = convert(env, token, ty, new)?;

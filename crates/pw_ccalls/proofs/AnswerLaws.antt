@@ -1,14 +1,15 @@
 -- Code that does one act behind another does both.
-use Rattle.std.proofs.Common.{◌≡◌, refl, sym, ap, subst, ◌∙◌, Option, Some, Result, Ok, Err}
+use Rattle.std.proofs.Common.{◌≡◌, refl, sym, ap, subst, ◌∙◌, Bool, true, false, Option, Some, Result, Ok, Err}
 use Rattle.std.specs.Prelude.{IfOk, IfErr}
 use Rattle.pw_cmean.specs.Worlds.{World}
-use Rattle.pw_cmean.specs.Acts.{Act, State, Ending, ◌>>=◌, give}
+use Rattle.pw_cmean.specs.Acts as acts
+use Rattle.pw_cmean.specs.Acts.{Act, State, Ending, ◌>>=◌, give, branch}
 use Rattle.pw_cstate.specs.Shown.{Shown}
 use Rattle.pw_cstate.specs.Runs.{Runs}
-use Rattle.pw_cstate.proofs.RunLaws.{given, goes_on, ends, same_act}
+use Rattle.pw_cstate.proofs.RunLaws.{given, stopped, goes_on, ends, same_act}
 use Rattle.pw_ccalls.specs.declared.ending.Stop.{Stop}
 use Rattle.pw_ccalls.specs.declared.ending.Stop.TheVariants as S
-use Rattle.pw_ccalls.specs.Endings.{view_ending, told}
+use Rattle.pw_ccalls.specs.Endings.{view_ending, told_stop, told}
 use Rattle.pw_ccalls.specs.Answers.{Answers, Stops}
 
 -- what was given
@@ -57,3 +58,39 @@ tells {A = A} {world = world} {act = act} {before = before} {behind = behind} {r
     by (Ok a) e = let is : r ≡ Ok a = cc e in record { given = subst (λ q. Runs world act before q behind) is run; stopped = tt }
     by (Err (S.Ended ending)) e = let is : r ≡ Err (view_ending ending) = cc e in record { given = tt; stopped = subst (λ q. Runs world act before q behind) is run }
     by (Err S.NoMemory) e = record { given = tt; stopped = tt }
+
+-- a stop tells the same as a result
+pub told_stopped : {A : Type 0} (stop : Stop) (ending : Ending) → told_stop stop ≡ Some ending → told {A} (Err stop) ≡ Some (Err ending)
+told_stopped (S.Ended x) ending e = let is : view_ending x ≡ ending = cc e in ap (λ y. Some (Err y)) is
+told_stopped S.NoMemory ending e = cc e
+
+-- an act that does in each state what another does
+pub same_at : {A B : Type 0} {view : B → A} {world : World} {act other : Act A} {before behind : Shown} {r : Result B Stop}
+    → ((s : State) → act s ≡ other s) → Answers view world other before r behind → Answers view world act before r behind
+same_at {view = view} {world = world} {act = act} {other = other} {before = before} {behind = behind} {r = r} e a = by r a
+  where
+    by : (x : Result _ Stop) → Answers view world other before x behind → Answers view world act before x behind
+    by (Ok b) o = record { given = same_act world act other before behind (Ok (view b)) e o.given; stopped = tt }
+    by (Err (S.Ended ending)) o = record { given = tt; stopped = same_act world act other before behind (Err (view_ending ending)) e o.stopped }
+    by (Err S.NoMemory) o = record { given = tt; stopped = tt }
+
+-- one of two acts
+pub branch_on : {A B : Type 0} {view : B → A} {world : World} {yes_part no_part : Act A} {test : Bool} {before behind : Shown} {r : Result B Stop}
+    → test ≡ true → Answers view world yes_part before r behind → Answers view world (branch test yes_part no_part) before r behind
+unfolding branch
+branch_on {view = view} {world = world} {yes_part = yes_part} {no_part = no_part} {before = before} {behind = behind} {r = r} e a =
+    subst (λ t. Answers view world (branch t yes_part no_part) before r behind) (sym e) a
+
+pub branch_off : {A B : Type 0} {view : B → A} {world : World} {yes_part no_part : Act A} {test : Bool} {before behind : Shown} {r : Result B Stop}
+    → test ≡ false → Answers view world no_part before r behind → Answers view world (branch test yes_part no_part) before r behind
+unfolding branch
+branch_off {view = view} {world = world} {yes_part = yes_part} {no_part = no_part} {before = before} {behind = behind} {r = r} e a =
+    subst (λ t. Answers view world (branch t yes_part no_part) before r behind) (sym e) a
+
+-- how a run ends
+pub ends_so : {A B : Type 0} {view : B → A} {world : World} {at : Shown} {ending : Ending} {stop : Stop} → told_stop stop ≡ Some ending → Answers view world (acts.stop ending) at (Err stop) at
+ends_so {view = view} {world = world} {at = at} {ending = ending} {stop = s} e = by s e
+  where
+    by : (x : Stop) → told_stop x ≡ Some ending → Answers view world (acts.stop ending) at (Err x) at
+    by (S.Ended y) e = let is : view_ending y ≡ ending = cc e in record { given = tt; stopped = subst (λ q. Runs world (acts.stop ending) at (Err q) at) (sym is) (stopped world ending at) }
+    by S.NoMemory e = cc e

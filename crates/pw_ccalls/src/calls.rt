@@ -36,7 +36,7 @@ pub trait Calls<'a> {
         args: &[Value],
     ) -> Result<Option<Value>, Stop<'a>>
         requires { can_call self.now }
-        ensures { Answers (λ v. v) (view_world world.now) (bounded_call (calls (view_world world.now) bound) (callable_of function) args.now) (view_state state.old) result (view_state state.new) };
+        ensures { Answers (λ v. v) (view_world world.now) (bounded_call (calls (view_world world.now) bound) (callable_of function.entry) args.now) (view_state state.old) result (view_state state.new) };
 }
 
 /// Evaluates expressions, whose calls have a bound.
