@@ -13,6 +13,7 @@ ghost use Rattle.pw_ccalls.specs.Answers.{Answers};
 ghost use Rattle.pw_ccalls.specs.Functions.{callable_of};
 ghost use Rattle.pw_ccalls.specs.Views.{view_env};
 ghost use Rattle.pw_ccalls.specs.WorldViews.{view_world};
+ghost use Rattle.pw_cacts.specs.Results as spec;
 
 use crate::nodes::undefined_at;
 use pw_ccalls::{Calls, Ending, Env, Stop, World};
@@ -44,6 +45,26 @@ fn put_low_byte<'a>(state: &mut State<'a>, n: u32) -> Result<Option<Value>, Stop
     Ok(Some(Value::Num(u32::from(byte))))
 }
 
+/// The only argument, where it is a number.
+fn only_number(args: &[Value]) -> Option<u32>
+    ensures { result ≡ spec.only_number args.now }
+{
+    match args {
+        [Value::Num(n)] => Some(*n),
+        _ => None,
+    }
+}
+
+/// Reads a byte of the input.
+fn read_byte<'a>(state: &mut State<'a>, args: &[Value]) -> Result<Option<Value>, Stop<'a>>
+    ensures { (world : worlds.World) → Answers (λ x. x) world (meaning.library_call worlds.GetChar args.now) (view_state state.old) result (view_state state.new) }
+{
+    if !args.is_empty() {
+        return Err(Stop::Ended(Ending::Wrong));
+    }
+    Ok(Some(Value::Num(get_char(state))))
+}
+
 /// The functions of the library (ISO C90 7.9.7.6, 7.9.7.9, 7.10.4.3).
 pub fn library_call<'a>(
     world: &World<'a>,
@@ -53,16 +74,16 @@ pub fn library_call<'a>(
 ) -> Result<Option<Value>, Stop<'a>>
     ensures { Answers (λ x. x) (view_world world.now) (meaning.library_call (view_library function) args.now) (view_state state.old) result (view_state state.new) }
 {
-    match (function, args) {
-        (LibraryFunction::GetChar, []) => {
-            let byte = get_char(state);
-            Ok(Some(Value::Num(byte)))
-        }
-        (LibraryFunction::PutChar, [Value::Num(n)]) => put_low_byte(state, *n),
-        (LibraryFunction::ExitRun, [Value::Num(n)]) => {
-            Err(Stop::Ended(Ending::Exit((*n % 256) as u8)))
-        }
-        _ => Err(Stop::Ended(Ending::Wrong)),
+    match function {
+        LibraryFunction::GetChar => read_byte(state, args),
+        LibraryFunction::PutChar => match only_number(args) {
+            Some(n) => put_low_byte(state, n),
+            None => Err(Stop::Ended(Ending::Wrong)),
+        },
+        LibraryFunction::ExitRun => match only_number(args) {
+            Some(n) => Err(Stop::Ended(Ending::Exit((n % 256) as u8))),
+            None => Err(Stop::Ended(Ending::Wrong)),
+        },
     }
 }
 

@@ -17,6 +17,7 @@ use pw_value::Value;
 use std::alloc::Global;
 
 /// The value of an assignment: that of its left operand behind it, of a structure or union the place.
+#[tactic(auto, unfolding(pw_types::specs::Views::view_type), using(pw_types::proofs::ViewLemmas::signature_view))]
 pub fn assigned(ty: &CType, place: Value, v: Value) -> Value
     ensures { result ≡ meaning.assigned (view_type ty.now) place v }
 {

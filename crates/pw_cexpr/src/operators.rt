@@ -5,6 +5,7 @@ ghost use Rattle.pw_typed.specs.Views.{view_expr};
 ghost use Rattle.pw_types.specs.TypedTrees as tree;
 ghost use Rattle.pw_types.specs.Views.{view_qtype};
 ghost use Rattle.pw_cmean.specs.Evaluation as meaning;
+ghost use Rattle.pw_cmean.specs.Operators.{number_for};
 ghost use Rattle.pw_cstate.specs.Shown.{view_state};
 ghost use Rattle.pw_ccalls.specs.Evaluates.{Evaluates};
 ghost use Rattle.pw_ccalls.specs.Views.{view_env};
@@ -70,6 +71,13 @@ fn decides(op: LogicOperator, holds: bool) -> bool
     }
 }
 
+/// 1 where it holds, and else 0.
+fn word(holds: bool) -> u32
+    ensures { result ≡ number_for holds }
+{
+    u32::from(holds)
+}
+
 /// `&&` or `||`.
 pub(crate) fn logic<'a, P: Expressions<'a>>(
     alloc: Global,
@@ -88,10 +96,10 @@ pub(crate) fn logic<'a, P: Expressions<'a>>(
 {
     let first = holds(alloc, parts, env, state, bound, token, a)?;
     if decides(op, first) {
-        return Ok(Some(Value::Num(u32::from(first))));
+        return Ok(Some(Value::Num(word(first))));
     }
     let second = holds(alloc, parts, env, state, bound, token, b)?;
-    Ok(Some(Value::Num(u32::from(second))))
+    Ok(Some(Value::Num(word(second))))
 }
 
 /// `?:`, of which one operand is evaluated.
@@ -110,7 +118,8 @@ pub(crate) fn cond<'a, P: Expressions<'a>>(
     requires { P.can_evaluate parts.now }
     ensures { Evaluates (view_env env.now) bound (tree.Node token (view_qtype ty.now) (tree.Cond (view_expr c.now) (view_expr a.now) (view_expr b.now))) (view_state state.old) result (view_state state.new) }
 {
-    if holds(alloc, parts, env, state, bound, token, c)? {
+    let chosen = holds(alloc, parts, env, state, bound, token, c)?;
+    if chosen {
         parts.answer_of(alloc, env, state, bound, a)
     } else {
         parts.answer_of(alloc, env, state, bound, b)

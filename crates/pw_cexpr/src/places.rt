@@ -194,7 +194,8 @@ pub(crate) fn cond_place<'a, P: Expressions<'a>>(
     requires { P.can_evaluate parts.now }
     ensures { Locates (view_env env.now) bound (tree.Node token (view_qtype ty.now) (tree.Cond (view_expr c.now) (view_expr a.now) (view_expr b.now))) (view_state state.old) result (view_state state.new) }
 {
-    if holds(alloc, parts, env, state, bound, token, c)? {
+    let chosen = holds(alloc, parts, env, state, bound, token, c)?;
+    if chosen {
         parts.place_of(alloc, env, state, bound, a)
     } else {
         parts.place_of(alloc, env, state, bound, b)

@@ -1,0 +1,10 @@
+use Rattle.std.proofs.Common.{ap, ◌∙◌}
+use Rattle.pw_types.specs.Views.{view_type}
+use Rattle.pw_coperators.specs.Categories.{category_of}
+use Rattle.pw_coperators.specs.Operations.{converted_to}
+use Rattle.pw_coperators.proofs.OperatorLaws.{convert_is}
+use Rattle.pw_cacts.proofs.NodeLaws.{node_answers}
+use Rattle.pw_cacts.proofs.nodes.convert.Goals as goal
+
+pub returns : goal.returns
+returns c = λ s. node_answers (λ o. converted_to (category_of (view_type c.args.ty.now)) c.args.v) c.settle.ensures (c.convert.ensures ∙ ap (λ k. converted_to k c.args.v) c.categorise.ensures) (convert_is _ _ _)

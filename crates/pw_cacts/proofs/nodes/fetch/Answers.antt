@@ -1,0 +1,10 @@
+use Rattle.std.proofs.Common.{ap, ◌∙◌}
+use Rattle.pw_types.specs.Views.{view_type}
+use Rattle.pw_coperators.specs.Categories.{category_of}
+use Rattle.pw_coperators.specs.Accesses.{fetched}
+use Rattle.pw_coperators.proofs.AccessLaws.{fetch_is}
+use Rattle.pw_cacts.proofs.NodeLaws.{node_answers}
+use Rattle.pw_cacts.proofs.nodes.fetch.Goals as goal
+
+pub returns : goal.returns
+returns c = node_answers (λ o. fetched o (category_of (view_type c.args.ty.now)) c.args.place) c.settle.ensures (c.fetch.ensures ∙ ap (λ k. fetched c.args.state.now.objects k c.args.place) c.categorise.ensures) (fetch_is _ _ _)

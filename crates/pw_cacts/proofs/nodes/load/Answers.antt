@@ -1,0 +1,10 @@
+use Rattle.std.proofs.Common.{ap, ◌∙◌}
+use Rattle.pw_types.specs.Views.{view_type}
+use Rattle.pw_coperators.specs.Categories.{category_of}
+use Rattle.pw_coperators.specs.Accesses.{loaded}
+use Rattle.pw_coperators.proofs.AccessLaws.{load_is}
+use Rattle.pw_cacts.proofs.NodeLaws.{node_answers}
+use Rattle.pw_cacts.proofs.nodes.load.Goals as goal
+
+pub returns : goal.returns
+returns c = node_answers (λ o. loaded o (category_of (view_type c.args.ty.now)) c.args.place) c.settle.ensures (c.load.ensures ∙ ap (λ k. loaded c.args.state.now.objects k c.args.place) c.categorise.ensures) (load_is _ _ _)

@@ -1,0 +1,10 @@
+use Rattle.std.proofs.Common.{ap, ◌∙◌}
+use Rattle.pw_types.specs.Views.{view_type}
+use Rattle.pw_coperators.specs.Categories.{category_of}
+use Rattle.pw_coperators.specs.Operations.{unary_by}
+use Rattle.pw_coperators.proofs.OperatorLaws.{unary_is}
+use Rattle.pw_cacts.proofs.NodeLaws.{node_answers}
+use Rattle.pw_cacts.proofs.nodes.unary.Goals as goal
+
+pub returns : goal.returns
+returns c = node_answers (λ o. unary_by o c.args.op (category_of (view_type c.args.ty.now)) c.args.v) c.settle.ensures (c.unary.ensures ∙ ap (λ k. unary_by c.args.state.now.objects c.args.op k c.args.v) c.categorise.ensures) (unary_is _ _ _ _)

@@ -1,0 +1,9 @@
+use Rattle.std.proofs.Common.{ap, ◌∙◌}
+use Rattle.pw_types.specs.Views.{view_type}
+use Rattle.pw_coperators.specs.Categories.{category_of}
+use Rattle.pw_cacts.specs.Results.{cast_to}
+use Rattle.pw_cacts.proofs.NodeLaws.{node_answers, cast_is}
+use Rattle.pw_cacts.proofs.results.cast.Goals as goal
+
+pub returns : goal.returns
+returns c = λ s. node_answers (λ o. cast_to (category_of (view_type c.args.ty.now)) c.args.answer) c.settle.ensures (c.cast_to.ensures ∙ ap (λ k. cast_to k c.args.answer) c.categorise.ensures) (cast_is _ _ _)

@@ -1,0 +1,24 @@
+use Rattle.std.proofs.Common.{rules, arith, sym, subst}
+use Rattle.pw_cmean.specs.Evaluation.{values_of}
+use Rattle.pw_cmean.specs.SourceRun.{calls}
+use Rattle.pw_cstate.specs.Shown.{view_state}
+use Rattle.pw_typed.specs.Views.{view_exprs}
+use Rattle.pw_ccalls.specs.Views.{view_env}
+use Rattle.pw_cexpr.proofs.Arguments.{Along, along_start, along_more, along_stop, along_end}
+use Rattle.pw_cexpr.proofs.operands.values.Goals as goal
+
+pub loop-arg-init : goal.loop-arg-init
+loop-arg-init g c = along_start _ _ _
+
+pub loop-arg-preserved : goal.loop-arg-preserved
+loop-arg-preserved g c =
+    along_more _ _ _ _ _ _ c.args.args.now c.loop-arg.arg-index c.arg-item.result c.loop-arg.values.items _
+    c.loop-arg.invariant (omega arith) c.arg-item.is c.operand.ensures c.in_ok-value.was
+
+pub returns-in_err-value : goal.returns-in_err-value
+returns-in_err-value g c =
+    along_stop _ _ _ _ _ _ c.args.args.now c.loop-arg.arg-index c.arg-item.result c.loop-arg.values.items _
+    c.loop-arg.invariant (omega arith) c.arg-item.is c.operand.ensures c.in_err-value.was (search rules)
+
+pub returns : goal.returns
+returns g c = record { given = along_end _ _ _ _ _ _ c.args.args.now c.loop-arg.arg-index c.loop-arg.values.items _ c.loop-arg.invariant (omega arith); stopped = tt }
