@@ -1,5 +1,5 @@
 -- What calls come to, by what they call.
-use Rattle.std.proofs.Common.{ℕ, ◌+◌, ◌≡◌, ◌≢◌, refl, sym, ap, ◌∙◌, Bool, true, false, Option, Some, None, Result, Ok, Err, List, [], ◌∷◌, length}
+use Rattle.std.proofs.Common.{ℕ, ◌+◌, ◌%◌, ◌++◌, subst, arith, ◌≡◌, ◌≢◌, refl, sym, ap, ◌∙◌, Bool, true, false, Option, Some, None, Result, Ok, Err, List, [], ◌∷◌, length}
 use Rattle.std.specs.Prelude.{is_none, not, nat_lt}
 use Rattle.std.specs.Option.{option_map_or}
 use Rattle.std.specs.Str.{bytes_eq}
@@ -10,19 +10,23 @@ use Rattle.pw_types.specs.Shapes.{shape_of}
 use Rattle.pw_cmean.specs.declared.undefined.Undef.TheVariants.{NotAFunction, FunctionShape}
 use Rattle.pw_cmean.specs.Undefined.{◌when◌}
 use Rattle.pw_cmean.specs.Worlds.{World, Callable, GetChar, PutChar, ExitRun}
-use Rattle.pw_cmean.specs.Acts.{Act, State, StackFull, ◌>>=◌, ◌>>◌, give, stop, go_on, need, judge, told, undefined, wrong}
+use Rattle.pw_cmean.specs.Acts.{Act, State, StackFull, get_char, put_char, ◌>>=◌, ◌>>◌, give, stop, go_on, need, judge, told, undefined, wrong}
 use Rattle.pw_cmean.specs.Evaluation.{Env, Calls, site, records_of, take_room, library_call, bounded_call, call_body, call, call_value, callee_of, pointed}
-use Rattle.pw_cstate.specs.Shown.{Shown}
+use Rattle.pw_cstate.specs.Shown.{Shown, byte_read, behind_read}
 use Rattle.pw_cstate.specs.Runs.{Runs}
-use Rattle.pw_cstate.proofs.RunLaws.{room_shows, full_shows}
+use Rattle.pw_cstate.proofs.RunLaws.{given, goes_on, read_shows, put_shows, room_shows, full_shows}
 use Rattle.pw_cworld.specs.Views.{view_library}
 use Rattle.pw_cworld.specs.declared.program.Part.{Part}
 use Rattle.pw_cworld.specs.declared.program.LibraryFunction.{LibraryFunction}
 use Rattle.pw_cworld.specs.declared.program.LibraryFunction.TheVariants as L
 use Rattle.pw_cworld.specs.declared.program.Body.{Body}
 use Rattle.pw_cworld.specs.declared.program.Body.TheVariants as B
+use Rattle.std.specs.Borrow.{Bor}
+use Rattle.pw_typed.specs.declared.tree.TFunction.{TFunction}
+use Rattle.pw_ccalls.specs.Answers.{Answers}
 use Rattle.pw_ccalls.specs.Functions.{callable_of}
-use Rattle.pw_cacts.specs.Results.{only_number}
+use Rattle.pw_ccalls.proofs.AnswerLaws.{same}
+use Rattle.pw_cacts.specs.Results.{only_number, are_none}
 
 pub library_is : (world : World) (cs : Calls) (g : LibraryFunction) (args : List Value)
     → call world cs (callable_of (B.Library g)) args ≡ (take_room world (callable_of (B.Library g)).name >> library_call (view_library g) args)
@@ -30,6 +34,11 @@ unfolding call call_body
 library_is world cs L.ExitRun args = refl
 library_is world cs L.GetChar args = refl
 library_is world cs L.PutChar args = refl
+
+pub defined_is : (world : World) (cs : Calls) (f : Body) (part : Part) (g : Bor TFunction) (args : List Value) → f ≡ B.Defined part g
+    → call world cs (callable_of f) args ≡ bounded_call cs (callable_of f) args
+unfolding call call_body
+defined_is world cs f part g args e = subst (λ x. call world cs (callable_of x) args ≡ bounded_call cs (callable_of x) args) (sym e) refl
 
 -- ---- the stack
 
@@ -80,10 +89,43 @@ the_number (V.Null ∷ rest) n e = cc e
 the_number (V.At p ∷ rest) n e = cc e
 the_number (V.Piece p i ∷ rest) n e = cc e
 
-pub wrong_read : (args : List Value) → length args ≢ 0 → library_call GetChar args ≡ wrong
+pub wrong_read : (args : List Value) → are_none args ≡ false → library_call GetChar args ≡ wrong
 unfolding library_call
-wrong_read [] more = absurd (more refl)
+wrong_read [] more = cc more
 wrong_read (a ∷ rest) more = refl
+
+read_none : (args : List Value) → are_none args ≡ true → library_call GetChar args ≡ (get_char >>= λ byte. give (Some (V.Num byte)))
+unfolding library_call
+read_none [] none = refl
+read_none (a ∷ rest) none = cc none
+
+pub byte_is_read : (world : World) (args : List Value) (w v : Shown) (byte : ℕ) → are_none args ≡ true → byte ≡ byte_read w.rest → v ≡ behind_read w.rest w
+    → Answers (λ x. x) world (library_call GetChar args) w (Ok (Some (V.Num byte))) v
+byte_is_read world args w v byte none is at =
+    same (read_none args none)
+    (record {
+      given = subst (λ n. Runs world reading w (Ok (Some (V.Num n))) v) (sym is)
+          (subst (λ x. Runs world reading w (Ok (Some (V.Num (byte_read w.rest)))) x) (sym at)
+          (goes_on world get_char (λ n. give (Some (V.Num n))) w (behind_read w.rest w) (behind_read w.rest w) (byte_read w.rest) (Ok (Some (V.Num (byte_read w.rest)))) (read_shows world w) (given world (Some (V.Num (byte_read w.rest))) (behind_read w.rest w))));
+      stopped = tt;
+    })
+  where
+    reading : Act (Option Value)
+    reading = get_char >>= λ n. give (Some (V.Num n))
+
+pub byte_is_put : (world : World) (n : ℕ) (w v : Shown) (m : ℕ) → m ≡ n % 256 → v ≡ record w { out = w.out ++ n % 256 ∷ [] }
+    → Answers (λ x. x) world (library_call PutChar (V.Num n ∷ [])) w (Ok (Some (V.Num m))) v
+unfolding library_call
+byte_is_put world n w v m is at =
+    record {
+      given = subst (λ k. Runs world (library_call PutChar (V.Num n ∷ [])) w (Ok (Some (V.Num k))) v) (sym is)
+          (subst (λ x. Runs world (library_call PutChar (V.Num n ∷ [])) w (Ok (Some (V.Num (n % 256)))) x) (sym at)
+          (goes_on world (put_char (n % 256)) (λ done. give (Some (V.Num (n % 256)))) w there there tt (Ok (Some (V.Num (n % 256)))) (put_shows world (n % 256) w) (given world (Some (V.Num (n % 256))) there)));
+      stopped = tt;
+    }
+  where
+    there : Shown
+    there = record w { out = w.out ++ n % 256 ∷ [] }
 
 -- ---- calls through a value
 

@@ -1,9 +1,11 @@
 -- Results of operands, lvalues and conversions as functions of the objects; and a step in a type.
-use Rattle.std.specs.Prelude.{ℕ, Option, Some, None, Result, Ok, Err, List, [], ◌∷◌}
+use Rattle.std.specs.Prelude.{ℕ, Bool, true, false, Option, Some, None, Result, Ok, Err, List, [], ◌∷◌}
 use Rattle.pw_value.specs.declared.value.Value.{Value}
 use Rattle.pw_value.specs.declared.value.Value.TheVariants as V
 use Rattle.pw_value.specs.Objects.{Object}
 use Rattle.pw_types.specs.TypeTrees.{CType, Int}
+use Rattle.pw_types.specs.Conversions.{promoted}
+use Rattle.pw_types.specs.declared.kind.IntKind.{IntKind}
 use Rattle.pw_types.specs.declared.kind.IntKind.TheVariants as K
 use Rattle.pw_types.specs.declared.tree.StepOperator.{StepOperator}
 use Rattle.pw_cmean.specs.declared.undefined.Undef.TheVariants.{MissingResult}
@@ -16,12 +18,20 @@ use Rattle.pw_coperators.specs.declared.category.Category.TheVariants as C
 use Rattle.pw_coperators.specs.declared.fault.Fault.{Fault}
 use Rattle.pw_coperators.specs.declared.fault.Fault.TheVariants as F
 use Rattle.pw_coperators.specs.Accesses.{fetched}
+use Rattle.pw_ccalls.specs.declared.ending.Ending.TheVariants as E
+use Rattle.pw_ccalls.specs.declared.ending.Stop.{Stop}
+use Rattle.pw_ccalls.specs.declared.ending.Stop.TheVariants as S
 use Rattle.pw_coperators.specs.Operations.{converted_to}
 
 -- a result that is not to be missing
 abbrev pub present : Option Value → Result Value Fault
 present (Some v) = Ok v
 present None = Err (F.Undefined MissingResult)
+
+-- the value that must be there
+abbrev pub needed : {B : Type 0} → Option B → Result B Stop
+needed (Some b) = Ok b
+needed None = Err (S.Ended E.Wrong)
 
 abbrev pub some_value : Result Value Fault → Result (Option Value) Fault
 some_value (Ok v) = Ok (Some v)
@@ -62,3 +72,12 @@ step_in e token op ty working place = do
 abbrev pub only_number : List Value → Option ℕ
 only_number (V.Num n ∷ []) = Some n
 only_number _ = None
+
+abbrev pub are_none : List Value → Bool
+are_none [] = true
+are_none (v ∷ rest) = false
+
+-- the kind in which a step of an integer works
+abbrev pub working_kind : CType → Option IntKind
+working_kind (Int kind) = Some (promoted kind)
+working_kind _ = None

@@ -1,6 +1,6 @@
 //! Calls.
 
-ghost use Rattle.std.specs.Prelude.{◌≡◌, false, IfOk, option_map, [], ◌∷◌};
+ghost use Rattle.std.specs.Prelude.{◌≡◌, false, Some, IfOk, option_map, [], ◌∷◌};
 ghost use Rattle.std.specs.Str.{bytes_eq};
 ghost use Rattle.pw_types.specs.Shapes.{shape_of};
 ghost use Rattle.pw_types.specs.Views.{view_type};
@@ -55,14 +55,23 @@ fn only_number(args: &[Value]) -> Option<u32>
     }
 }
 
+/// Whether there is no argument.
+fn are_none(args: &[Value]) -> bool
+    ensures { result ≡ spec.are_none args.now }
+{
+    matches!(args, [])
+}
+
 /// Reads a byte of the input.
 fn read_byte<'a>(state: &mut State<'a>, args: &[Value]) -> Result<Option<Value>, Stop<'a>>
     ensures { (world : worlds.World) → Answers (λ x. x) world (meaning.library_call worlds.GetChar args.now) (view_state state.old) result (view_state state.new) }
 {
-    if !args.is_empty() {
-        return Err(Stop::Ended(Ending::Wrong));
+    if are_none(args) {
+        let byte = get_char(state);
+        Ok(Some(Value::Num(byte)))
+    } else {
+        Err(Stop::Ended(Ending::Wrong))
     }
-    Ok(Some(Value::Num(get_char(state))))
 }
 
 /// The functions of the library (ISO C90 7.9.7.6, 7.9.7.9, 7.10.4.3).
@@ -161,6 +170,7 @@ fn plain_shape(alloc: Global, types: &Types, ty: &QType) -> Result<Shape, AllocE
 
 /// Whether a function has the shape of a call through a pointer of a type. A type that no accepted program has there is
 /// want of memory.
+#[tactic(auto, unfolding(pw_types::specs::Views::view_type), using(pw_types::proofs::ViewLemmas::signature_view))]
 fn has_shape<'a>(
     alloc: Global,
     env: &Env<'a>,
@@ -179,7 +189,31 @@ fn has_shape<'a>(
     }
 }
 
-/// Calls the function to which a pointer of a type points: it is to have the shape of the call (ISO C90 6.3.2.2).
+/// Calls a function to which a pointer of a type points: it is to have the shape of the call.
+fn call_pointed<'a, C: Calls<'a>>(
+    alloc: Global,
+    calls: &C,
+    env: &Env<'a>,
+    state: &mut State<'a>,
+    bound: u64,
+    token: usize,
+    ty: &CType,
+    function: Body<'a>,
+    args: &[Value],
+) -> Result<Option<Value>, Stop<'a>>
+    requires { C.can_call calls.now }
+    ensures { (p : Value) → meaning.callee_of (view_env env.now).world.program p ≡ Some (callable_of function.entry)
+        → Answers (λ x. x) (view_env env.now).world (meaning.call_value (view_env env.now) (runs.calls (view_env env.now).world bound) token (view_type ty.now) p args.now) (view_state state.old) result (view_state state.new) }
+{
+    let agrees = has_shape(alloc, env, function, ty)?;
+    if agrees {
+        call(alloc, calls, env.world, state, bound, function, args)
+    } else {
+        Err(undefined_at(env, token, Undef::FunctionShape))
+    }
+}
+
+/// Calls the function to which a pointer of a type points (ISO C90 6.3.2.2).
 pub fn call_value<'a, C: Calls<'a>>(
     alloc: Global,
     calls: &C,
@@ -194,11 +228,10 @@ pub fn call_value<'a, C: Calls<'a>>(
     requires { C.can_call calls.now }
     ensures { Answers (λ x. x) (view_env env.now).world (meaning.call_value (view_env env.now) (runs.calls (view_env env.now).world bound) token (view_type ty.now) p args.now) (view_state state.old) result (view_state state.new) }
 {
-    let Some(function) = callee_of(env.world, p) else {
-        return Err(undefined_at(env, token, Undef::NotAFunction));
-    };
-    if !has_shape(alloc, env, function, ty)? {
-        return Err(undefined_at(env, token, Undef::FunctionShape));
+    match callee_of(env.world, p) {
+        Some(function) => {
+            call_pointed(alloc, calls, env, state, bound, token, ty, function, args)
+        }
+        None => Err(undefined_at(env, token, Undef::NotAFunction)),
     }
-    call(alloc, calls, env.world, state, bound, function, args)
 }

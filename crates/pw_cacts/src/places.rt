@@ -1,5 +1,6 @@
 //! The places of names.
 
+ghost use Rattle.std.specs.Prelude.{◌≡◌, option_map, option_and_then, slice_get};
 ghost use Rattle.pw_typed.specs.Views.{view_symbol};
 ghost use Rattle.pw_cmean.specs.Acts.{need};
 ghost use Rattle.pw_cmean.specs.Evaluation as meaning;
@@ -8,6 +9,7 @@ ghost use Rattle.pw_cstate.specs.Shown.{Shown};
 ghost use Rattle.pw_ccalls.specs.Answers.{Answers};
 ghost use Rattle.pw_ccalls.specs.Functions.{callable_of};
 ghost use Rattle.pw_ccalls.specs.Views.{view_env};
+ghost use Rattle.pw_cacts.specs.Results as spec;
 
 use pw_ccalls::{Ending, Env, Stop};
 use pw_cworld::Body;
@@ -16,14 +18,38 @@ use pw_typed::Symbol;
 use pw_value::{Pointer, Value};
 use std::alloc::Global;
 
+/// The value that must be there: in an accepted program it is.
+fn need<'a, T>(value: Option<T>) -> Result<T, Stop<'a>>
+    ensures { result ≡ spec.needed value }
+{
+    match value {
+        Some(there) => Ok(there),
+        None => Err(Stop::Ended(Ending::Wrong)),
+    }
+}
+
+/// The place of a local that has an object.
+fn object_place(numbers: &[Option<u128>], local: u32) -> Option<Value>
+    ensures { result ≡ option_map (λ number. Value.At (Pointer.Object number 0)) (option_and_then (λ n. n) (slice_get numbers.now local)) }
+{
+    match numbers.get(local as usize) {
+        Some(Some(number)) => Some(Value::At(Pointer::Object(*number, 0))),
+        Some(None) | None => None,
+    }
+}
+
 /// The place of a local that is in scope.
 pub fn local_place<'a>(env: &Env<'a>, local: u32) -> Result<Value, Stop<'a>>
     ensures { (s : Shown) → Answers (λ x. x) (view_env env.now).world (meaning.local_place (view_env env.now) local) s result s }
 {
-    match env.numbers.get(local as usize) {
-        Some(Some(number)) => Ok(Value::At(Pointer::Object(*number, 0))),
-        Some(None) | None => Err(Stop::Ended(Ending::Wrong)),
-    }
+    need(object_place(&env.numbers, local))
+}
+
+/// The place to which a pointer points.
+fn pointed_place(pointer: Option<Pointer>) -> Option<Value>
+    ensures { result ≡ option_map Value.At pointer }
+{
+    Some(Value::At(pointer?))
 }
 
 /// The place of an object of static lifetime, or the function.
@@ -31,10 +57,7 @@ pub fn symbol_place<'a>(alloc: Global, env: &Env<'a>, symbol: &Symbol) -> Result
     ensures { (s : Shown) → Answers (λ x. x) (view_env env.now).world (meaning.symbol_place (view_env env.now) (view_symbol symbol.now)) s result s }
 {
     let name = full_name(alloc, env.home.name, symbol)?;
-    match env.world.pointer_to(name.as_bytes()) {
-        Some(pointer) => Ok(Value::At(pointer)),
-        None => Err(Stop::Ended(Ending::Wrong)),
-    }
+    need(pointed_place(env.world.pointer_to(name.as_bytes())))
 }
 
 /// The function that a symbol names.
@@ -42,8 +65,5 @@ pub fn function_of<'a>(alloc: Global, env: &Env<'a>, symbol: &Symbol) -> Result<
     ensures { (s : Shown) → Answers callable_of (view_env env.now).world (need (function_named (view_env env.now).world.program (full_name env.now.home.name.now (view_symbol symbol.now)))) s result s }
 {
     let name = full_name(alloc, env.home.name, symbol)?;
-    match env.world.function_named(name.as_bytes()) {
-        Some(function) => Ok(function),
-        None => Err(Stop::Ended(Ending::Wrong)),
-    }
+    need(env.world.function_named(name.as_bytes()))
 }

@@ -113,6 +113,17 @@ fn step_in<'a>(
     Ok(step_result(op, old, new))
 }
 
+/// The kind in which a step of an integer works, which is the promoted one.
+#[tactic(auto, unfolding(pw_types::specs::Views::view_type), using(pw_types::proofs::ViewLemmas::signature_view))]
+fn working_kind(ty: &CType) -> Option<IntKind>
+    ensures { result ≡ spec.working_kind (view_type ty.now) }
+{
+    match ty {
+        CType::Int(kind) => Some(promote(*kind)),
+        _ => None,
+    }
+}
+
 /// `++` or `--` of an lvalue of a type, which adds or subtracts the int 1 in the promoted type (ISO C90 6.3.2.4, 6.3.3.1).
 pub fn step<'a>(
     alloc: Global,
@@ -125,11 +136,11 @@ pub fn step<'a>(
 ) -> Result<Value, Stop<'a>>
     ensures { Answers (λ x. x) (view_env env.now).world (meaning.step (view_env env.now) token op (view_type ty.now) place) (view_state state.old) result (view_state state.new) }
 {
-    match ty {
-        CType::Int(kind) => {
-            let working = CType::Int(promote(*kind));
+    match working_kind(ty) {
+        Some(kind) => {
+            let working = CType::Int(kind);
             step_in(alloc, env, state, token, op, ty, &working, place)
         }
-        _ => step_in(alloc, env, state, token, op, ty, ty, place),
+        None => step_in(alloc, env, state, token, op, ty, ty, place),
     }
 }

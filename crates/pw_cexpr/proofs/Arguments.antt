@@ -28,9 +28,13 @@ abbrev pub Along : World → Act (List Value) → Shown → List Value → Act (
 Along world whole start values rest here =
     (r : Result (List Value) Ending) (behind : Shown) → Runs world rest here r behind → Runs world whole start (behind_values values r) behind
 
-pub along_start : (world : World) (whole : Act (List Value)) (start : Shown) → Along world whole start [] whole start
-along_start world whole start (Ok rest) behind run = run
-along_start world whole start (Err ending) behind run = run
+behind_none : (r : Result (List Value) Ending) → r ≡ behind_values [] r
+behind_none (Ok rest) = refl
+behind_none (Err ending) = refl
+
+pub along_start : (world : World) (whole : Act (List Value)) (start : Shown) (values : List Value) → values ≡ [] → Along world whole start values whole start
+along_start world whole start values none r behind run =
+    subst (λ q. Runs world whole start q behind) (behind_none r ∙ ap (λ vs. behind_values vs r) (sym none)) run
 
 module _ (world : World) (whole : Act (List Value)) (start : Shown) (token : ℕ) (cs : Calls) (e : Env) where
   -- the arguments that are left
@@ -53,13 +57,13 @@ module _ (world : World) (whole : Act (List Value)) (start : Shown) (token : ℕ
   regroup values v (Ok rest) = ap Ok (sym (append_assoc values (v ∷ []) rest))
   regroup values v (Err ending) = refl
 
-  pub along_more : {first : Result Value Stop} {made : Value} {mid : Shown} (args : List TExpr) (n : ℕ) (a : TExpr) (values : List Value) (here : Shown)
+  pub along_more : {first : Result Value Stop} {made : Value} {mid : Shown} (args : List TExpr) (n : ℕ) (a : TExpr) (values next : List Value) (here : Shown)
       → Along world whole start values (left (drop n args)) here → n < length args → a ≡ get_or args n a
-      → Answers (λ v. v) world (operand (view_expr a) token cs e) here first mid → first ≡ Ok made
-      → Along world whole start (values ++ made ∷ []) (left (drop (n + 1) args)) mid
-  along_more {made = made} {mid = mid} args n a values here along less is answers ok r behind run =
+      → Answers (λ v. v) world (operand (view_expr a) token cs e) here first mid → first ≡ Ok made → next ≡ values ++ made ∷ []
+      → Along world whole start next (left (drop (n + 1) args)) mid
+  along_more {made = made} {mid = mid} args n a values next here along less is answers ok pushed r behind run =
       let split : drop n args ≡ a ∷ drop (n + 1) args = drop_more args n a less ∙ ap (λ x. x ∷ drop (n + 1) args) (sym is) in
-      subst (λ q. Runs world whole start q behind) (regroup values made r)
+      subst (λ q. Runs world whole start q behind) (regroup values made r ∙ ap (λ vs. behind_values vs r) (sym pushed))
       (along (behind_values (made ∷ []) r) behind
       (subst (λ xs. Runs world (left xs) here (behind_values (made ∷ []) r) behind) (sym split)
       (one_more a (drop (n + 1) args) made here mid behind r (given_by answers ok) run)))

@@ -7,20 +7,21 @@ ghost use Rattle.pw_ccalls.specs.Views.{view_env};
 
 use crate::assignments::{assign, assign_place, compound, step};
 use crate::calls::{call_named, call_through};
-use crate::operands::operand;
+use crate::names::{
+    function, function_place, global, global_place, local, own_place, string, string_place,
+};
 use crate::operators::{binary, cast, comma, cond, logic, unary};
 use crate::places::{
-    address, comma_place, cond_place, decay, deref, function, global, hidden_place, local, member,
-    member_place, string,
+    address, comma_place, cond_place, decay, deref, deref_place, member, member_place, no_place,
 };
-use pw_cacts::{local_place, symbol_place};
-use pw_ccalls::{Calls, Ending, Env, Expressions, Stop};
+use pw_ccalls::{Calls, Env, Expressions, Stop};
 use pw_cstate::State;
 use pw_typed::{TExpr, TForm};
 use pw_value::Value;
 use std::alloc::Global;
 
 /// The result of an expression (ISO C90 6.3): None where it is void, or a function returned none.
+#[tactic(auto, unfolding(pw_typed::specs::Views::view_form), using(pw_typed::proofs::Rows::call_view, pw_typed::proofs::Rows::call_value_view))]
 pub fn answer_of<'a, P: Expressions<'a>, C: Calls<'a>>(
     alloc: Global,
     parts: &P,
@@ -69,6 +70,7 @@ pub fn answer_of<'a, P: Expressions<'a>, C: Calls<'a>>(
 }
 
 /// The place that an lvalue denotes (ISO C90 6.2.2.1); of another structure or union its value, which is a place.
+#[tactic(auto, unfolding(pw_typed::specs::Views::view_form), using(pw_typed::proofs::Rows::call_view, pw_typed::proofs::Rows::call_value_view))]
 pub fn place_of<'a, P: Expressions<'a>>(
     alloc: Global,
     parts: &P,
@@ -81,18 +83,24 @@ pub fn place_of<'a, P: Expressions<'a>>(
     ensures { Locates (view_env env.now) bound (view_expr e.now) (view_state state.old) result (view_state state.new) }
 {
     match &e.form {
-        TForm::Str(number) => hidden_place(alloc, env, *number),
-        TForm::Local(place) => local_place(env, *place),
-        TForm::Global(symbol) | TForm::Function(symbol) => symbol_place(alloc, env, symbol),
-        TForm::Member(a, offset) => member_place(
-            alloc, parts, env, state, bound, e.token, &e.ty, a, *offset,
-        ),
-        TForm::Deref(a) => operand(alloc, parts, env, state, bound, e.token, a),
-        TForm::Cond(c, a, b) => cond_place(
-            alloc, parts, env, state, bound, e.token, &e.ty, c, a, b,
-        ),
+        TForm::Str(number) => string_place(alloc, env, *number),
+        TForm::Local(place) => own_place(env, *place),
+        TForm::Global(symbol) => global_place(alloc, env, symbol),
+        TForm::Function(symbol) => function_place(alloc, env, symbol),
+        TForm::Member(a, offset) => {
+            member_place(alloc, parts, env, state, bound, e.token, &e.ty, a, *offset)
+        }
+        TForm::Deref(a) => deref_place(alloc, parts, env, state, bound, e.token, &e.ty, a),
+        TForm::Cond(c, a, b) => {
+            cond_place(alloc, parts, env, state, bound, e.token, &e.ty, c, a, b)
+        }
         TForm::Comma(a, b) => comma_place(alloc, parts, env, state, bound, e.token, &e.ty, a, b),
-        TForm::Assign(a, b) => assign_place(alloc, parts, env, state, bound, e.token, &e.ty, a, b),
-        _ => Err(Stop::Ended(Ending::Wrong)),
+        TForm::Assign(a, b) => {
+            assign_place(alloc, parts, env, state, bound, e.token, &e.ty, a, b)
+        }
+        TForm::Number(_) | TForm::Unary(_, _) | TForm::Binary(_, _, _) => no_place(),
+        TForm::Logic(_, _, _) | TForm::Compound(_, _, _, _) | TForm::Step(_, _) => no_place(),
+        TForm::Cast(_) | TForm::Decay(_) | TForm::Address(_) => no_place(),
+        TForm::Call(_, _) | TForm::CallValue(_, _) => no_place(),
     }
 }

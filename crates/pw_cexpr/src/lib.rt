@@ -5,6 +5,7 @@
 mod assignments;
 mod calls;
 mod expression;
+mod names;
 mod operands;
 mod operators;
 mod places;

@@ -141,7 +141,7 @@ pub(crate) fn comma<'a, P: Expressions<'a>>(
     requires { P.can_evaluate parts.now }
     ensures { Evaluates (view_env env.now) bound (tree.Node token (view_qtype ty.now) (tree.Comma (view_expr a.now) (view_expr b.now))) (view_state state.old) result (view_state state.new) }
 {
-    let _dropped = parts.answer_of(alloc, env, state, bound, a)?;
+    parts.answer_of(alloc, env, state, bound, a)?;
     parts.answer_of(alloc, env, state, bound, b)
 }
 

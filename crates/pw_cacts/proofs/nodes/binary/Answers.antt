@@ -1,6 +1,6 @@
-use Rattle.std.proofs.Common.{ap, cc, ◌∙◌}
+use Rattle.std.proofs.Common.{rules, ap, ◌∙◌}
 use Rattle.pw_types.specs.Views.{view_type}
-use Rattle.pw_cmean.specs.Evaluation.{records_of}
+use Rattle.pw_cmean.specs.Evaluation.{site, records_of}
 use Rattle.pw_coperators.specs.Categories.{category_of}
 use Rattle.pw_coperators.specs.Elements.{element_layout}
 use Rattle.pw_coperators.specs.Operations.{binary_by}
@@ -15,7 +15,17 @@ returns-in_err-layout c = no_memory (search rules)
 
 pub returns : goal.returns
 returns c =
+    let e = view_env c.args.env.now in
+    let at = site e c.args.token in
     let a = view_type c.args.types.0.now in
     let b = view_type c.args.types.1.now in
-    node_answers (λ o. binary_by o (element_layout (records_of (view_env c.args.env.now)) a b) c.args.op (category_of a) (category_of b) c.args.values.0 c.args.values.1)
-    c.settle.ensures (cc (c.binary.ensures, c.in_ok-layout.ensures, c.categorise.ensures, c.categorise-2.ensures)) (binary_is _ _ _ _ _ _ _)
+    let v = c.args.values.0 in
+    let w = c.args.values.1 in
+    let objects = c.args.state.now.objects in
+    let layout = element_layout (records_of e) a b in
+    node_answers at c.binary-answer.result (λ o. binary_by o layout c.args.op (category_of a) (category_of b) v w) c.settle.ensures
+    (c.binary-answer.ensures
+    ∙ ap (λ l. binary_by objects l c.args.op c.categorise.result c.categorise-2.result v w) c.in_ok-layout.ensures
+    ∙ ap (λ k. binary_by objects layout c.args.op k c.categorise-2.result v w) c.categorise.ensures
+    ∙ ap (λ k. binary_by objects layout c.args.op (category_of a) k v w) c.categorise-2.ensures)
+    (binary_is at (records_of e) c.args.op a b v w)

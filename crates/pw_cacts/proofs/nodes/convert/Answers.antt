@@ -4,7 +4,9 @@ use Rattle.pw_coperators.specs.Categories.{category_of}
 use Rattle.pw_coperators.specs.Operations.{converted_to}
 use Rattle.pw_coperators.proofs.OperatorLaws.{convert_is}
 use Rattle.pw_cacts.proofs.NodeLaws.{node_answers}
+use Rattle.pw_cmean.specs.Evaluation.{site}
+use Rattle.pw_ccalls.specs.Views.{view_env}
 use Rattle.pw_cacts.proofs.nodes.convert.Goals as goal
 
 pub returns : goal.returns
-returns c = λ s. node_answers (λ o. converted_to (category_of (view_type c.args.ty.now)) c.args.v) c.settle.ensures (c.convert.ensures ∙ ap (λ k. converted_to k c.args.v) c.categorise.ensures) (convert_is _ _ _)
+returns c = λ s. node_answers (site (view_env c.args.env.now) c.args.token) c.convert.result (λ o. converted_to (category_of (view_type c.args.ty.now)) c.args.v) c.settle.ensures (c.convert.ensures ∙ ap (λ k. converted_to k c.args.v) c.categorise.ensures) (convert_is _ _ _)

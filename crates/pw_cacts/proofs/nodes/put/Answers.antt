@@ -1,7 +1,7 @@
 use Rattle.std.proofs.Common.{rules}
 use Rattle.pw_types.specs.Views.{view_type}
 use Rattle.pw_types.specs.Layouts.{layout_of}
-use Rattle.pw_cmean.specs.Evaluation.{records_of}
+use Rattle.pw_cmean.specs.Evaluation.{site, records_of}
 use Rattle.pw_coperators.specs.Categories.{category_of, view_purpose}
 use Rattle.pw_coperators.specs.Accesses.{value_put}
 use Rattle.pw_coperators.proofs.AccessLaws.{put_is}
@@ -16,5 +16,5 @@ returns-in_err-answer c = no_memory (search rules)
 pub returns : goal.returns
 returns c =
     let ty = view_type c.args.ty.now in
-    node_changes (λ o. value_put (view_purpose c.args.purpose) o (category_of ty) (layout_of (records_of (view_env c.args.env.now)) ty) c.args.place c.args.value)
+    node_changes (site (view_env c.args.env.now) c.args.token) c.in_ok-answer.answer (λ o. value_put (view_purpose c.args.purpose) o (category_of ty) (layout_of (records_of (view_env c.args.env.now)) ty) c.args.place c.args.value)
     c.settle.ensures c.in_ok-answer.ensures (put_is _ _ _ _ _ _)

@@ -27,4 +27,4 @@ returns c =
     then_ok _ c.binary.ensures c.in_ok-new.was
     (then_ok _ (c.convert.ensures _) c.in_ok-value.was
     (then_ok _ c.put.ensures c.in_ok-put.was
-    (gives c.in_ok-value.field-0)))
+    (gives c.in_ok-value.value)))

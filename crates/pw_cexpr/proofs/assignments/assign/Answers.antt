@@ -1,6 +1,7 @@
 use Rattle.std.proofs.Common.{rules}
 use Rattle.pw_cmean.specs.Evaluation.{answer_of}
-use Rattle.pw_ccalls.proofs.AnswerLaws.{then_ok, then_err, gives}
+use Rattle.pw_ccalls.proofs.AnswerLaws.{then_ok, then_err, gives_as}
+use Rattle.std.proofs.Common.{Some, ap, sym}
 use Rattle.pw_cexpr.proofs.assignments.assign.Goals as goal
 
 pub returns-in_err-place : goal.returns-in_err-place
@@ -27,4 +28,4 @@ returns g c =
     then_ok _ c.place_of.ensures c.in_ok-place.was
     (then_ok _ c.operand.ensures c.in_ok-value.was
     (then_ok _ c.put.ensures c.in_ok-put.was
-    (gives _)))
+    (gives_as (Some c.assigned.result) (ap Some (sym c.assigned.ensures)))))

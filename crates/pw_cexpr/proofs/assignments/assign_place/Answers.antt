@@ -27,4 +27,4 @@ returns g c =
     then_ok _ c.place_of.ensures c.in_ok-place.was
     (then_ok _ c.operand.ensures c.in_ok-value.was
     (then_ok _ c.put.ensures c.in_ok-put.was
-    (gives _)))
+    (gives c.in_ok-place.place)))

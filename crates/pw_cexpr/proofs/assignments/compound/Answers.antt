@@ -37,4 +37,4 @@ returns g c =
     (then_ok _ c.old_value.ensures c.in_ok-old.was
     (then_ok _ c.operand.ensures c.in_ok-right.was
     (then_ok _ c.update.ensures c.in_ok-result.was
-    (gives (Some c.in_ok-result.field-0)))))
+    (gives (Some c.in_ok-result.result)))))

@@ -20,4 +20,4 @@ unfolding answer_of
 returns g c =
     then_ok _ c.place_of.ensures c.in_ok-place.was
     (then_ok _ c.step.ensures c.in_ok-result.was
-    (gives (Some c.in_ok-result.field-0)))
+    (gives (Some c.in_ok-result.result)))

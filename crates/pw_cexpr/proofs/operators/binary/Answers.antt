@@ -28,4 +28,4 @@ returns g c =
     then_ok _ c.operand.ensures c.in_ok-left.was
     (then_ok _ c.operand-2.ensures c.in_ok-right.was
     (then_ok _ c.binary.ensures c.in_ok-result.was
-    (gives (Some c.in_ok-result.field-0))))
+    (gives (Some c.in_ok-result.result))))

@@ -20,4 +20,4 @@ unfolding answer_of
 returns g c =
     then_ok _ c.operand.ensures c.in_ok-value.was
     (then_ok _ c.unary.ensures c.in_ok-result.was
-    (gives (Some c.in_ok-result.field-0)))
+    (gives (Some c.in_ok-result.result)))

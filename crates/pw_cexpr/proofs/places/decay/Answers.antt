@@ -13,4 +13,4 @@ pub returns : goal.returns
 unfolding answer_of
 returns g c =
     then_ok _ c.place_of.ensures c.in_ok-place.was
-    (gives (Some c.in_ok-place.field-0))
+    (gives (Some c.in_ok-place.place))
