@@ -13,4 +13,4 @@ returns-then-chosen g c = then_ok _ c.holds.ensures c.in_ok-chosen.was (branch_o
 
 pub returns-else-chosen : goal.returns-else-chosen
 unfolding answer_of
-returns-else-chosen g c = then_ok _ c.holds.ensures c.in_ok-chosen.was (branch_off _ c.if-chosen.false c.answer_of-2.ensures)
+returns-else-chosen g c = then_ok _ c.holds.ensures c.in_ok-chosen.was (branch_off _ c.if-chosen.false c.answer_of-else-chosen.ensures)
