@@ -1,9 +1,11 @@
 //! Expressions by their forms.
 
-ghost use Rattle.pw_typed.specs.Views.{view_expr};
+ghost use Rattle.std.specs.Prelude.{◌≡◌, ℕ, true};
+ghost use Rattle.pw_typed.specs.Views.{view_expr, view_form};
 ghost use Rattle.pw_cstate.specs.Shown.{view_state};
 ghost use Rattle.pw_ccalls.specs.Evaluates.{Evaluates, Locates};
 ghost use Rattle.pw_ccalls.specs.Views.{view_env};
+ghost use Rattle.pw_cexpr.specs.Groups.{is_at_place, is_leaf, is_operation};
 
 use crate::assignments::{assign, assign_place, compound, step};
 use crate::calls::{call_named, call_through};
@@ -19,6 +21,84 @@ use pw_cstate::State;
 use pw_typed::{TExpr, TForm};
 use pw_value::Value;
 use std::alloc::Global;
+
+/// The value of a constant, a string or a name.
+#[tactic(auto, unfolding(pw_typed::specs::Views::view_form), using(pw_typed::proofs::Rows::call_view, pw_typed::proofs::Rows::call_value_view))]
+fn leaf<'a>(
+    alloc: Global,
+    env: &Env<'a>,
+    state: &State<'a>,
+    e: &TExpr,
+) -> Result<Option<Value>, Stop<'a>>
+    requires { is_leaf (view_form e.now.form) ≡ true }
+    ensures { (bound : ℕ) → Evaluates (view_env env.now) bound (view_expr e.now) (view_state state.now) result (view_state state.now) }
+{
+    match &e.form {
+        TForm::Number(n) => Ok(Some(Value::Num(*n))),
+        TForm::Str(number) => string(alloc, env, state, e.token, &e.ty, *number),
+        TForm::Local(place) => local(env, state, e.token, &e.ty, *place),
+        TForm::Global(symbol) => global(alloc, env, state, e.token, &e.ty, symbol),
+        TForm::Function(symbol) => function(alloc, env, state, e.token, &e.ty, symbol),
+        _ => unreachable!(),
+    }
+}
+
+/// The result of an operator on values.
+#[tactic(auto, unfolding(pw_typed::specs::Views::view_form), using(pw_typed::proofs::Rows::call_view, pw_typed::proofs::Rows::call_value_view))]
+fn operation<'a, P: Expressions<'a>>(
+    alloc: Global,
+    parts: &P,
+    env: &Env<'a>,
+    state: &mut State<'a>,
+    bound: u64,
+    e: &TExpr,
+) -> Result<Option<Value>, Stop<'a>>
+    requires parts { P.can_evaluate parts.now }
+    requires form { is_operation (view_form e.now.form) ≡ true }
+    ensures { Evaluates (view_env env.now) bound (view_expr e.now) (view_state state.old) result (view_state state.new) }
+{
+    match &e.form {
+        TForm::Unary(op, a) => unary(alloc, parts, env, state, bound, e.token, &e.ty, *op, a),
+        TForm::Binary(op, a, b) => binary(
+            alloc, parts, env, state, bound, e.token, &e.ty, *op, a, b,
+        ),
+        TForm::Logic(op, a, b) => logic(alloc, parts, env, state, bound, e.token, &e.ty, *op, a, b),
+        TForm::Cond(c, a, b) => cond(alloc, parts, env, state, bound, e.token, &e.ty, c, a, b),
+        TForm::Comma(a, b) => comma(alloc, parts, env, state, bound, e.token, &e.ty, a, b),
+        TForm::Cast(a) => cast(alloc, parts, env, state, bound, e.token, &e.ty, a),
+        _ => unreachable!(),
+    }
+}
+
+/// The result of an operator on a place.
+#[tactic(auto, unfolding(pw_typed::specs::Views::view_form), using(pw_typed::proofs::Rows::call_view, pw_typed::proofs::Rows::call_value_view))]
+fn at_place<'a, P: Expressions<'a>>(
+    alloc: Global,
+    parts: &P,
+    env: &Env<'a>,
+    state: &mut State<'a>,
+    bound: u64,
+    e: &TExpr,
+) -> Result<Option<Value>, Stop<'a>>
+    requires parts { P.can_evaluate parts.now }
+    requires form { is_at_place (view_form e.now.form) ≡ true }
+    ensures { Evaluates (view_env env.now) bound (view_expr e.now) (view_state state.old) result (view_state state.new) }
+{
+    match &e.form {
+        TForm::Assign(a, b) => assign(alloc, parts, env, state, bound, e.token, &e.ty, a, b),
+        TForm::Compound(op, working, a, b) => compound(
+            alloc, parts, env, state, bound, e.token, &e.ty, *op, working, a, b,
+        ),
+        TForm::Step(op, a) => step(alloc, parts, env, state, bound, e.token, &e.ty, *op, a),
+        TForm::Decay(a) => decay(alloc, parts, env, state, bound, e.token, &e.ty, a),
+        TForm::Address(a) => address(alloc, parts, env, state, bound, e.token, &e.ty, a),
+        TForm::Member(a, offset) => member(
+            alloc, parts, env, state, bound, e.token, &e.ty, a, *offset,
+        ),
+        TForm::Deref(a) => deref(alloc, parts, env, state, bound, e.token, &e.ty, a),
+        _ => unreachable!(),
+    }
+}
 
 /// The result of an expression (ISO C90 6.3): None where it is void, or a function returned none.
 #[tactic(auto, unfolding(pw_typed::specs::Views::view_form), using(pw_typed::proofs::Rows::call_view, pw_typed::proofs::Rows::call_value_view))]
@@ -36,30 +116,20 @@ pub fn answer_of<'a, P: Expressions<'a>, C: Calls<'a>>(
     ensures { Evaluates (view_env env.now) bound (view_expr e.now) (view_state state.old) result (view_state state.new) }
 {
     match &e.form {
-        TForm::Number(n) => Ok(Some(Value::Num(*n))),
-        TForm::Str(number) => string(alloc, env, state, e.token, &e.ty, *number),
-        TForm::Local(place) => local(env, state, e.token, &e.ty, *place),
-        TForm::Global(symbol) => global(alloc, env, state, e.token, &e.ty, symbol),
-        TForm::Function(symbol) => function(alloc, env, state, e.token, &e.ty, symbol),
-        TForm::Unary(op, a) => unary(alloc, parts, env, state, bound, e.token, &e.ty, *op, a),
-        TForm::Binary(op, a, b) => binary(
-            alloc, parts, env, state, bound, e.token, &e.ty, *op, a, b,
-        ),
-        TForm::Logic(op, a, b) => logic(alloc, parts, env, state, bound, e.token, &e.ty, *op, a, b),
-        TForm::Cond(c, a, b) => cond(alloc, parts, env, state, bound, e.token, &e.ty, c, a, b),
-        TForm::Comma(a, b) => comma(alloc, parts, env, state, bound, e.token, &e.ty, a, b),
-        TForm::Assign(a, b) => assign(alloc, parts, env, state, bound, e.token, &e.ty, a, b),
-        TForm::Compound(op, working, a, b) => compound(
-            alloc, parts, env, state, bound, e.token, &e.ty, *op, working, a, b,
-        ),
-        TForm::Step(op, a) => step(alloc, parts, env, state, bound, e.token, &e.ty, *op, a),
-        TForm::Cast(a) => cast(alloc, parts, env, state, bound, e.token, &e.ty, a),
-        TForm::Decay(a) => decay(alloc, parts, env, state, bound, e.token, &e.ty, a),
-        TForm::Address(a) => address(alloc, parts, env, state, bound, e.token, &e.ty, a),
-        TForm::Member(a, offset) => member(
-            alloc, parts, env, state, bound, e.token, &e.ty, a, *offset,
-        ),
-        TForm::Deref(a) => deref(alloc, parts, env, state, bound, e.token, &e.ty, a),
+        TForm::Number(_) | TForm::Str(_) | TForm::Local(_) => leaf(alloc, env, state, e),
+        TForm::Global(_) | TForm::Function(_) => leaf(alloc, env, state, e),
+        TForm::Unary(_, _) | TForm::Binary(_, _, _) | TForm::Logic(_, _, _) => {
+            operation(alloc, parts, env, state, bound, e)
+        }
+        TForm::Cond(_, _, _) | TForm::Comma(_, _) | TForm::Cast(_) => {
+            operation(alloc, parts, env, state, bound, e)
+        }
+        TForm::Assign(_, _) | TForm::Compound(_, _, _, _) | TForm::Step(_, _) => {
+            at_place(alloc, parts, env, state, bound, e)
+        }
+        TForm::Decay(_) | TForm::Address(_) | TForm::Member(_, _) | TForm::Deref(_) => {
+            at_place(alloc, parts, env, state, bound, e)
+        }
         TForm::Call(symbol, args) => call_named(
             alloc, parts, calls, env, state, bound, e.token, &e.ty, symbol, args,
         ),
