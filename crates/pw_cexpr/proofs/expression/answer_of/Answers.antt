@@ -13,7 +13,7 @@ pub returns-in-Call : goal.returns-in-Call
 returns-in-Call g c =
     let e = view_env c.args.env.now in
     let symbol = c.in-Call.symbol in
-    let is = ap view_form c.in-Call.is ∙ call_view symbol c.in-Call.args ∙ ap (λ xs. tree.Call (view_symbol symbol) (view_exprs xs)) (sym c.deref-in-Call.ensures.value) in
+    let is = ap view_form c.in-Call.is ∙ call_view symbol c.in-Call.args ∙ ap (λ xs. tree.Call (view_symbol symbol) (view_exprs xs)) (sym c.deref.ensures.value) in
     same (ap (λ form. meaning.answer_of (tree.Node c.args.e.now.token (view_qtype c.args.e.now.ty) form) (runs.calls e.world c.args.bound) e) is) c.call_named.ensures
 
 pub returns-in-CallValue : goal.returns-in-CallValue
