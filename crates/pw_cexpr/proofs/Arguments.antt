@@ -2,7 +2,6 @@
 use Rattle.std.proofs.Common.{ℕ, ◌+◌, ◌<◌, ◌≤◌, ◌≡◌, refl, sym, ap, subst, ◌∙◌, Result, Ok, Err, List, [], ◌∷◌, ◌++◌, length, get_or, drop}
 use Rattle.std.proofs.lemmas.List.{append_assoc, append-nil, drop_more, drop_all}
 use Rattle.pw_value.specs.declared.value.Value.{Value}
-use Rattle.pw_types.specs.TypedTrees.{Expressions, NoExpression, OneExpression}
 use Rattle.pw_typed.specs.Views.{view_expr, view_exprs}
 use Rattle.pw_typed.specs.declared.tree.TExpr.{TExpr}
 use Rattle.pw_cmean.specs.Worlds.{World}

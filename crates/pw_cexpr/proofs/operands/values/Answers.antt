@@ -1,10 +1,5 @@
 use Rattle.std.proofs.Common.{rules, arith}
-use Rattle.pw_cmean.specs.Evaluation.{values_of}
-use Rattle.pw_cmean.specs.SourceRun.{calls}
-use Rattle.pw_cstate.specs.Shown.{view_state}
-use Rattle.pw_typed.specs.Views.{view_exprs}
-use Rattle.pw_ccalls.specs.Views.{view_env}
-use Rattle.pw_cexpr.proofs.Arguments.{Along, along_start, along_more, along_stop, along_end}
+use Rattle.pw_cexpr.proofs.Arguments.{along_start, along_more, along_stop, along_end}
 use Rattle.pw_cexpr.proofs.operands.values.Goals as goal
 
 pub loop-arg-init : goal.loop-arg-init
