@@ -7,16 +7,16 @@ ghost use Rattle.pw_ccalls.specs.Evaluates.{Evaluates, Locates};
 ghost use Rattle.pw_ccalls.specs.Views.{view_env};
 ghost use Rattle.pw_cexpr.specs.Groups.{is_at_place, is_leaf, is_operation};
 
-use crate::assignments::{assign, assign_place, compound, step};
-use crate::calls::{call_named, call_through};
-use crate::names::{
+use pw_ccalls::{Calls, Env, Expressions, Stop};
+use pw_cforms::calls::{call_named, call_through};
+use pw_cforms::names::{
     function, function_place, global, global_place, local, own_place, string, string_place,
 };
-use crate::operators::{binary, cast, comma, cond, logic, unary};
-use crate::places::{
+use pw_cforms::operators::{binary, cast, comma, cond, logic, unary};
+use pw_clvalues::assignments::{assign, assign_place, compound, step};
+use pw_clvalues::places::{
     address, comma_place, cond_place, decay, deref, deref_place, member, member_place, no_place,
 };
-use pw_ccalls::{Calls, Env, Expressions, Stop};
 use pw_cstate::State;
 use pw_typed::{TExpr, TForm};
 use pw_value::Value;

@@ -1,14 +1,7 @@
-//! Expressions of C as the interpreter evaluates them: one function for each form, which takes what evaluates the
-//! smaller expressions within it, and calls.
+//! Expressions of C as the interpreter evaluates them, by their forms; what evaluates the smaller expressions within
+//! one, and calls, are taken.
 #![tactic(auto)]
 
-mod assignments;
-mod calls;
 mod expression;
-mod names;
-mod operands;
-mod operators;
-mod places;
 
 pub use expression::{answer_of, place_of};
-pub use operands::operand;
