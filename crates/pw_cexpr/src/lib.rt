@@ -1,0 +1,7 @@
+//! Expressions of C as the interpreter evaluates them, by their forms; what evaluates the smaller expressions within
+//! one, and calls, are taken.
+#![tactic(auto)]
+
+mod expression;
+
+pub use expression::{answer_of, place_of};

@@ -1,0 +1,124 @@
+//! Assignments.
+
+ghost use Rattle.pw_typed.specs.Views.{view_expr};
+ghost use Rattle.pw_types.specs.TypedTrees as tree;
+ghost use Rattle.pw_types.specs.Views.{view_qtype, view_type};
+ghost use Rattle.pw_cstate.specs.Shown.{view_state};
+ghost use Rattle.pw_ccalls.specs.Evaluates.{Evaluates, Locates};
+ghost use Rattle.pw_ccalls.specs.Views.{view_env};
+
+use pw_cacts::{assigned, old_value, put, update};
+use pw_ccalls::{Env, Expressions, Stop};
+use pw_cforms::operands::operand;
+use pw_coperators::Purpose;
+use pw_cstate::State;
+use pw_typed::TExpr;
+use pw_types::{BinaryOperator, CType, QType, StepOperator};
+use pw_value::Value;
+use std::alloc::Global;
+
+/// `=`, whose left operand comes first.
+pub fn assign<'a, P: Expressions<'a>>(
+    alloc: Global,
+    parts: &P,
+    env: &Env<'a>,
+    state: &mut State<'a>,
+    bound: u64,
+    token: usize,
+    ty: &QType,
+    a: &TExpr,
+    b: &TExpr,
+) -> Result<Option<Value>, Stop<'a>>
+    requires { P.can_evaluate parts.now }
+    ensures { Evaluates (view_env env.now) bound (tree.Node token (view_qtype ty.now) (tree.Assign (view_expr a.now) (view_expr b.now))) (view_state state.old) result (view_state state.new) }
+{
+    let place = parts.place_of(alloc, env, state, bound, a)?;
+    let value = operand(alloc, parts, env, state, bound, token, b)?;
+    put(
+        alloc,
+        env,
+        state,
+        Purpose::Assigning,
+        token,
+        &a.ty.ty,
+        place,
+        value,
+    )?;
+    Ok(Some(assigned(&a.ty.ty, place, value)))
+}
+
+/// `=` of structures or unions, whose value is the place.
+pub fn assign_place<'a, P: Expressions<'a>>(
+    alloc: Global,
+    parts: &P,
+    env: &Env<'a>,
+    state: &mut State<'a>,
+    bound: u64,
+    token: usize,
+    ty: &QType,
+    a: &TExpr,
+    b: &TExpr,
+) -> Result<Value, Stop<'a>>
+    requires { P.can_evaluate parts.now }
+    ensures { Locates (view_env env.now) bound (tree.Node token (view_qtype ty.now) (tree.Assign (view_expr a.now) (view_expr b.now))) (view_state state.old) result (view_state state.new) }
+{
+    let place = parts.place_of(alloc, env, state, bound, a)?;
+    let value = operand(alloc, parts, env, state, bound, token, b)?;
+    put(
+        alloc,
+        env,
+        state,
+        Purpose::Assigning,
+        token,
+        &a.ty.ty,
+        place,
+        value,
+    )?;
+    Ok(place)
+}
+
+/// An operator with `=`, which works in a type. The old value is read before the right operand is evaluated.
+pub fn compound<'a, P: Expressions<'a>>(
+    alloc: Global,
+    parts: &P,
+    env: &Env<'a>,
+    state: &mut State<'a>,
+    bound: u64,
+    token: usize,
+    ty: &QType,
+    op: BinaryOperator,
+    working: &CType,
+    a: &TExpr,
+    b: &TExpr,
+) -> Result<Option<Value>, Stop<'a>>
+    requires { P.can_evaluate parts.now }
+    ensures { Evaluates (view_env env.now) bound (tree.Node token (view_qtype ty.now) (tree.Compound op (view_type working.now) (view_expr a.now) (view_expr b.now))) (view_state state.old) result (view_state state.new) }
+{
+    let place = parts.place_of(alloc, env, state, bound, a)?;
+    let old = old_value(env, state, token, &a.ty.ty, working, place)?;
+    let right = operand(alloc, parts, env, state, bound, token, b)?;
+    let types = (working, &b.ty.ty);
+    let values = (old, right);
+    let result = update(alloc, env, state, token, &a.ty.ty, place, op, types, values)?;
+    Ok(Some(result))
+}
+
+/// `++` and `--`.
+pub fn step<'a, P: Expressions<'a>>(
+    alloc: Global,
+    parts: &P,
+    env: &Env<'a>,
+    state: &mut State<'a>,
+    bound: u64,
+    token: usize,
+    ty: &QType,
+    op: StepOperator,
+    a: &TExpr,
+) -> Result<Option<Value>, Stop<'a>>
+    requires { P.can_evaluate parts.now }
+    ensures { Evaluates (view_env env.now) bound (tree.Node token (view_qtype ty.now) (tree.Step op (view_expr a.now))) (view_state state.old) result (view_state state.new) }
+{
+    let place = parts.place_of(alloc, env, state, bound, a)?;
+    let result = pw_cacts::step(alloc, env, state, token, op, &a.ty.ty, place)?;
+    Ok(Some(result))
+}
