@@ -4,11 +4,13 @@ use pw_words::{Command, WordsFault, command};
 use std::alloc::{AllocError, Global};
 use std::test::Fail;
 
-/// What a command line is to say: the colours, the stack, the steps and the module of its command, as far as it has
-/// them; `Usage` of no command line.
+/// What a command line is to say: the number, the colours, the stack, the steps and the module of its command, as far as
+/// it has them; `Usage` of no command line.
 #[derive(Clone, Copy)]
 enum Said {
     Go(u8, u32, u64),
+    Build(u8, u32),
+    Session(u8, u32, u64),
     PhaseOne(&'static str),
     Analyse(u8),
     PhaseTwo(&'static str),
@@ -16,6 +18,7 @@ enum Said {
     Run(u64),
     List,
     Db,
+    Bench(u32, u8, u32, u64),
     Usage,
 }
 
@@ -37,6 +40,24 @@ const ROWS: &[(&str, Said)] = &[
     ),
     ("go --steps 0000000000000000007", Said::Go(8, 1_048_576, 7)),
     ("go --", Said::Go(8, 1_048_576, 100_000_000)),
+    ("build", Said::Build(8, 1_048_576)),
+    ("build --stack 4096 --colours=0", Said::Build(0, 4096)),
+    ("build --", Said::Build(8, 1_048_576)),
+    ("session", Said::Session(8, 1_048_576, 100_000_000)),
+    (
+        "session --steps=5 --colours 2 --stack 5000",
+        Said::Session(2, 5000, 5),
+    ),
+    ("bench 1", Said::Bench(1, 8, 1_048_576, 100_000_000)),
+    ("bench -- 0", Said::Bench(0, 8, 1_048_576, 100_000_000)),
+    (
+        "bench --steps 9 4294967295 --colours 1 --stack=4096",
+        Said::Bench(4_294_967_295, 1, 4096, 9),
+    ),
+    (
+        "bench 0000000000000000012",
+        Said::Bench(12, 8, 1_048_576, 100_000_000),
+    ),
     ("phase1 a", Said::PhaseOne("a")),
     ("phase1 -- a", Said::PhaseOne("a")),
     ("phase1 -- --", Said::PhaseOne("--")),
@@ -74,8 +95,18 @@ const ROWS: &[(&str, Said)] = &[
     ("phase1 a.i", Said::Usage),
     ("analyse --stack 4096", Said::Usage),
     ("list --", Said::List),
-    ("build", Said::Usage),
-    ("session", Said::Usage),
+    ("build a", Said::Usage),
+    ("build --steps 1", Said::Usage),
+    ("build --stack 4095", Said::Usage),
+    ("session x", Said::Usage),
+    ("session --colours 9", Said::Usage),
+    ("bench", Said::Usage),
+    ("bench 1 2", Said::Usage),
+    ("bench x", Said::Usage),
+    ("bench +1", Said::Usage),
+    ("bench -1", Said::Usage),
+    ("bench 4294967296", Said::Usage),
+    ("bench 00000000000000000012", Said::Usage),
 ];
 
 /// The words of a row.
@@ -90,8 +121,8 @@ fn words_of(alloc: Global, text: &str) -> Result<Vec<String>, AllocError> {
     Ok(words)
 }
 
-/// Whether a command with numbers is what a row says.
-fn has_numbers(found: &Command, said: Said) -> bool {
+/// Whether a command that builds and runs is what a row says.
+fn builds_and_runs(found: &Command, said: Said) -> bool {
     match (found, said) {
         (
             Command::Go {
@@ -100,11 +131,36 @@ fn has_numbers(found: &Command, said: Said) -> bool {
                 steps,
             },
             Said::Go(c, s, n),
+        )
+        | (
+            Command::Session {
+                colours,
+                stack,
+                steps,
+            },
+            Said::Session(c, s, n),
         ) => { *colours == c && *stack == s && *steps == n }
+        (
+            Command::Bench {
+                number,
+                colours,
+                stack,
+                steps,
+            },
+            Said::Bench(x, c, s, n),
+        ) => { *number == x && *colours == c && *stack == s && *steps == n }
+        _ => false,
+    }
+}
+
+/// Whether a command with numbers is what a row says.
+fn has_numbers(found: &Command, said: Said) -> bool {
+    match (found, said) {
+        (Command::Build { colours, stack }, Said::Build(c, s)) => *colours == c && *stack == s,
         (Command::Analyse { colours }, Said::Analyse(c)) => *colours == c,
         (Command::Link { stack }, Said::Link(s)) => *stack == s,
         (Command::Run { steps }, Said::Run(n)) => *steps == n,
-        _ => false,
+        _ => builds_and_runs(found, said),
     }
 }
 

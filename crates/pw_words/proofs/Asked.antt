@@ -13,7 +13,7 @@ use Rattle.clap.specs.declared.builder.action.ArgAction.TheVariants.{Set}
 use Rattle.clap.specs.declared.builder.range.ValueRange.{ValueRange}
 use Rattle.clap.specs.declared.builder.value_parser.ValueParser.TheVariants as vp
 use Rattle.pw_words.specs.CommandLine.{is_among}
-use Rattle.pw_words.specs.Reading.{app_for, are_distinct, module_argument, module_arguments, module_id, option_argument}
+use Rattle.pw_words.specs.Reading.{app_for, are_distinct, operand_argument, operand_arguments, operand_id, option_argument}
 
 abbrev pub one : ValueRange
 one = record { start_inclusive = 1; end_inclusive = 1 }
@@ -23,14 +23,14 @@ abbrev pub option_rule : Text → Rule
 option_rule name = record (new_rule name) { long = Some name; action = Some Set; parser = Some vp.String; range = Some one }
 
 -- a word without an option as the built command has it
-abbrev pub module_rule : Rule
-module_rule = record (new_rule module_id) { index = Some 1; action = Some Set; parser = Some vp.String; range = Some one; required = true }
+abbrev pub operand_rule : Rule
+operand_rule = record (new_rule operand_id) { index = Some 1; action = Some Set; parser = Some vp.String; range = Some one; required = true }
 
-abbrev pub module_rules : Bool → List Rule
-module_rules takes = if takes then module_rule ∷ [] else []
+abbrev pub operand_rules : Bool → List Rule
+operand_rules takes = if takes then operand_rule ∷ [] else []
 
 abbrev pub rules_for : List Text → Bool → List Rule
-rules_for names takes = map option_rule names ++ module_rules takes
+rules_for names takes = map option_rule names ++ operand_rules takes
 
 abbrev pub shaped : List Rule → Shape
 shaped c = record (new_shape (codes "pawc")) {
@@ -43,12 +43,12 @@ shaped c = record (new_shape (codes "pawc")) {
 
 -- ---- what building makes of the arguments
 
-filled_module : (takes : Bool) → filled_from 1 (module_arguments takes) ≡ module_rules takes
-filled_module true = refl
-filled_module false = refl
+filled_operand : (takes : Bool) → filled_from 1 (operand_arguments takes) ≡ operand_rules takes
+filled_operand true = refl
+filled_operand false = refl
 
-filled_all : (names : List Text) (takes : Bool) → filled_from 1 (map option_argument names ++ module_arguments takes) ≡ rules_for names takes
-filled_all [] takes = filled_module takes
+filled_all : (names : List Text) (takes : Bool) → filled_from 1 (map option_argument names ++ operand_arguments takes) ≡ rules_for names takes
+filled_all [] takes = filled_operand takes
 filled_all (name ∷ names) takes = ap (λ (rest : List Rule). option_rule name ∷ rest) (filled_all names takes)
 
 abbrev pub made : List Rule → App
@@ -76,33 +76,33 @@ is_simple_as a b = (is_buildable a && (is_ready b.top && list_all is_ready_leaf 
 pub simple : (names : List Text) (takes : Bool) → is_simple_and_free (app_for names takes) ≡ true
 simple names takes = ap (is_simple_as (app_for names takes)) (built_is names takes) ∙ (λ i. ((asked i && true) && ((rules i && not (order i)) && true)) && (free i && true))
   where
-    asked_simple : (t : Bool) → list_all (λ (a : Rule). a.is_simple) (module_arguments t) ≡ true
+    asked_simple : (t : Bool) → list_all (λ (a : Rule). a.is_simple) (operand_arguments t) ≡ true
     asked_simple true = refl
     asked_simple false = refl
 
-    rule_simple : (t : Bool) → list_all (λ (a : Rule). a.is_simple) (module_rules t) ≡ true
+    rule_simple : (t : Bool) → list_all (λ (a : Rule). a.is_simple) (operand_rules t) ≡ true
     rule_simple true = refl
     rule_simple false = refl
 
-    rule_free : (t : Bool) → list_all (λ (a : Rule). a.is_free) (module_rules t) ≡ true
+    rule_free : (t : Bool) → list_all (λ (a : Rule). a.is_free) (operand_rules t) ≡ true
     rule_free true = refl
     rule_free false = refl
 
-    in_order : (n : ℕ) (t : Bool) → list_any (is_early_multiple n) (module_rules t) ≡ false
+    in_order : (n : ℕ) (t : Bool) → list_any (is_early_multiple n) (operand_rules t) ≡ false
     in_order n true = refl
     in_order n false = refl
 
-    asked : list_all (λ (a : Rule). a.is_simple) (map option_argument names ++ module_arguments takes) ≡ true
-    asked = all_of (λ (a : Rule). a.is_simple) option_argument (module_arguments takes) (λ n. refl) (asked_simple takes) names
+    asked : list_all (λ (a : Rule). a.is_simple) (map option_argument names ++ operand_arguments takes) ≡ true
+    asked = all_of (λ (a : Rule). a.is_simple) option_argument (operand_arguments takes) (λ n. refl) (asked_simple takes) names
 
     rules : list_all (λ (a : Rule). a.is_simple) (rules_for names takes) ≡ true
-    rules = all_of (λ (a : Rule). a.is_simple) option_rule (module_rules takes) (λ n. refl) (rule_simple takes) names
+    rules = all_of (λ (a : Rule). a.is_simple) option_rule (operand_rules takes) (λ n. refl) (rule_simple takes) names
 
     order : list_any (is_early_multiple (count_by (λ (a : Rule). is_some a.index) (rules_for names takes))) (rules_for names takes) ≡ false
-    order = none_of (is_early_multiple (count_by (λ (a : Rule). is_some a.index) (rules_for names takes))) option_rule (module_rules takes) (λ n. refl) (in_order (count_by (λ (a : Rule). is_some a.index) (rules_for names takes)) takes) names
+    order = none_of (is_early_multiple (count_by (λ (a : Rule). is_some a.index) (rules_for names takes))) option_rule (operand_rules takes) (λ n. refl) (in_order (count_by (λ (a : Rule). is_some a.index) (rules_for names takes)) takes) names
 
     free : list_all (λ (a : Rule). a.is_free) (rules_for names takes) ≡ true
-    free = all_of (λ (a : Rule). a.is_free) option_rule (module_rules takes) (λ n. refl) (rule_free takes) names
+    free = all_of (λ (a : Rule). a.is_free) option_rule (operand_rules takes) (λ n. refl) (rule_free takes) names
 
 -- ---- how arguments are found
 
@@ -112,14 +112,14 @@ eq_itself n = (bytes_eq-Decides n n).1 refl
 pub record HasRules (c : List Rule) (names : List Text) (takes : Bool) : Type 0 where
   pub by_long : (n : Text) → arg_by_long c n ≡ (if is_among n names then Some (option_rule n) else None)
   pub by_id : (n : Text) → is_among n names ≡ true → arg_by_id c n ≡ Some (option_rule n)
-  pub by_module : takes ≡ true → arg_by_id c module_id ≡ Some module_rule
-  pub first_place : arg_by_index c 1 ≡ (if takes then Some module_rule else None)
+  pub by_operand : takes ≡ true → arg_by_id c operand_id ≡ Some operand_rule
+  pub first_place : arg_by_index c 1 ≡ (if takes then Some operand_rule else None)
   pub no_second : arg_by_index c 2 ≡ None
   pub by_short : (x : ℕ) → arg_by_short c x ≡ None
-  pub missing : (rows : List Row) → list_any (λ a. a.required && not (is_given a.id rows)) c ≡ (takes && not (is_given module_id rows))
+  pub missing : (rows : List Row) → list_any (λ a. a.required && not (is_given a.id rows)) c ≡ (takes && not (is_given operand_id rows))
   pub no_default : (rows : List Row) → fold with_default rows c ≡ rows
   pub no_default_fault : (rows : List Row) → defaults_fault rows c ≡ []
-  pub apart : is_among module_id names ≡ false
+  pub apart : is_among operand_id names ≡ false
 
 long_is : (names : List Text) (takes : Bool) (n : Text) → arg_by_long (rules_for names takes) n ≡ (if is_among n names then Some (option_rule n) else None)
 long_is [] true n = refl
@@ -142,14 +142,14 @@ or_parts : (a b : Bool) → (a || b) ≡ false → (a ≡ false) × (b ≡ false
 or_parts true b h = absurd (true≢false h)
 or_parts false b h = (refl, h)
 
-module_is : (names : List Text) (takes : Bool) → is_among module_id names ≡ false → takes ≡ true → arg_by_id (rules_for names takes) module_id ≡ Some module_rule
-module_is [] true h t = refl
-module_is [] false h t = absurd (true≢false (sym t))
-module_is (m ∷ names) takes h t =
-    let parts = or_parts (bytes_eq m module_id) (is_among module_id names) h in
-    rw parts.0 (module_is names takes parts.1 t)
+operand_is : (names : List Text) (takes : Bool) → is_among operand_id names ≡ false → takes ≡ true → arg_by_id (rules_for names takes) operand_id ≡ Some operand_rule
+operand_is [] true h t = refl
+operand_is [] false h t = absurd (true≢false (sym t))
+operand_is (m ∷ names) takes h t =
+    let parts = or_parts (bytes_eq m operand_id) (is_among operand_id names) h in
+    rw parts.0 (operand_is names takes parts.1 t)
 
-first_is : (names : List Text) (takes : Bool) → arg_by_index (rules_for names takes) 1 ≡ (if takes then Some module_rule else None)
+first_is : (names : List Text) (takes : Bool) → arg_by_index (rules_for names takes) 1 ≡ (if takes then Some operand_rule else None)
 first_is [] true = refl
 first_is [] false = refl
 first_is (m ∷ names) takes = first_is names takes
@@ -168,8 +168,8 @@ or_nothing : (b : Bool) → (b || false) ≡ b
 or_nothing true = refl
 or_nothing false = refl
 
-missing_is : (names : List Text) (takes : Bool) (rows : List Row) → list_any (λ a. a.required && not (is_given a.id rows)) (rules_for names takes) ≡ (takes && not (is_given module_id rows))
-missing_is [] true rows = or_nothing (not (is_given module_id rows))
+missing_is : (names : List Text) (takes : Bool) (rows : List Row) → list_any (λ a. a.required && not (is_given a.id rows)) (rules_for names takes) ≡ (takes && not (is_given operand_id rows))
+missing_is [] true rows = or_nothing (not (is_given operand_id rows))
 missing_is [] false rows = refl
 missing_is (m ∷ names) takes rows = missing_is names takes rows
 
@@ -178,7 +178,7 @@ either_way true rows = refl
 either_way false rows = refl
 
 default_is : (names : List Text) (takes : Bool) (rows : List Row) → fold with_default rows (rules_for names takes) ≡ rows
-default_is [] true rows = either_way (has_row module_id rows) rows
+default_is [] true rows = either_way (has_row operand_id rows) rows
 default_is [] false rows = refl
 default_is (m ∷ names) takes rows = ap (λ (r : List Row). fold with_default r (rules_for names takes)) (either_way (has_row m rows) rows) ∙ default_is names takes rows
 
@@ -188,7 +188,7 @@ or_true false = refl
 
 default_fault_is : (names : List Text) (takes : Bool) (rows : List Row) → defaults_fault rows (rules_for names takes) ≡ []
 unfolding defaults_fault
-default_fault_is [] true rows = rw (or_true (has_row module_id rows)) refl
+default_fault_is [] true rows = rw (or_true (has_row operand_id rows)) refl
 default_fault_is [] false rows = refl
 default_fault_is (m ∷ names) takes rows = rw (or_true (has_row m rows), either_way (has_row m rows) rows) (default_fault_is names takes rows)
 
@@ -200,25 +200,25 @@ both : (a b : Bool) → (a && b) ≡ true → (a ≡ true) × (b ≡ true)
 both true b h = (refl, h)
 both false b h = absurd (true≢false (sym h))
 
-pub no_module : (names : List Text) → are_distinct names ≡ true → is_among module_id names ≡ false
-no_module [] h = refl
-no_module (m ∷ names) h =
+pub no_operand : (names : List Text) → are_distinct names ≡ true → is_among operand_id names ≡ false
+no_operand [] h = refl
+no_operand (m ∷ names) h =
     let first = both _ _ h in
     let second = both _ _ first.1 in
-    rw (not_false (bytes_eq m module_id) first.0) (no_module names second.1)
+    rw (not_false (bytes_eq m operand_id) first.0) (no_operand names second.1)
 
 pub has_rules : (names : List Text) (takes : Bool) → are_distinct names ≡ true → HasRules (rules_for names takes) names takes
 has_rules names takes distinct = record {
   by_long = long_is names takes;
   by_id = id_is names takes;
-  by_module = module_is names takes (no_module names distinct);
+  by_operand = operand_is names takes (no_operand names distinct);
   first_place = first_is names takes;
   no_second = second_is names takes;
   by_short = short_is names takes;
   missing = missing_is names takes;
   no_default = default_is names takes;
   no_default_fault = default_fault_is names takes;
-  apart = no_module names distinct;
+  apart = no_operand names distinct;
 }
 
 -- ---- how the command is made
@@ -232,8 +232,8 @@ option_added names name =
     ap (λ (rs : List Rule). rs ++ option_argument name ∷ []) (append-nil (map option_argument names)) ∙ sym (map-append option_argument names (name ∷ [])) ∙ sym (append-nil (map option_argument (names ++ name ∷ []))) in
     ap asked rules
 
-pub module_added : (names : List Text) → with_rule (app_for names false) module_argument ≡ app_for names true
-module_added names = ap (λ (rs : List Rule). asked (rs ++ module_argument ∷ [])) (append-nil (map option_argument names))
+pub operand_added : (names : List Text) → with_rule (app_for names false) operand_argument ≡ app_for names true
+operand_added names = ap (λ (rs : List Rule). asked (rs ++ operand_argument ∷ [])) (append-nil (map option_argument names))
 
 pub option_next : (before new : App) (options : List (Bor Text)) (i : ℕ) (d : Bor Text) → i < length options → before ≡ app_for (map (λ o. o.now) (take i options)) false
     → new ≡ with_rule before (option_argument (get_or options i d).now) → new ≡ app_for (map (λ o. o.now) (take (i + 1) options)) false

@@ -17,8 +17,8 @@ use Rattle.clap.specs.declared.error.kind.ErrorKind.{ErrorKind}
 use Rattle.pw_words.specs.declared.fault.WordsFault.{WordsFault}
 use Rattle.pw_words.specs.declared.fault.WordsFault.TheVariants.{Usage, NoMemory}
 use Rattle.pw_words.specs.CommandLine.{Part, Given, Plain, fits, fitting, is_among, parts_from, parts_of, without_name}
-use Rattle.pw_words.specs.Reading.{HasNoModule, HasParts, IsRefusal, app_for, are_distinct, fault_of_kind, module_id, word_count}
-use Rattle.pw_words.proofs.Asked.{HasRules, built_is, has_rules, made, no_module, rules_for, shaped, simple}
+use Rattle.pw_words.specs.Reading.{HasNoOperand, HasParts, IsRefusal, app_for, are_distinct, fault_of_kind, operand_id, word_count}
+use Rattle.pw_words.proofs.Asked.{HasRules, built_is, has_rules, made, no_operand, rules_for, shaped, simple}
 use Rattle.pw_words.proofs.Walks.{Answers, among_others, among_without, answers, last_rows, state, total}
 
 entered_none : (c : List Rule) (stop : Option (Text × List Text)) → entered (made c) stop ≡ None
@@ -43,19 +43,19 @@ halves : (a b : Bool) → (a && b) ≡ true → (a ≡ true) × (b ≡ true)
 halves true b h = (refl, h)
 halves false b h = absurd (true≢false (sym h))
 
-none_without : (names : List Text) (n : Text) → is_among module_id names ≡ false → is_among module_id (without_name n names) ≡ false
-none_without names n none = among_without n module_id names ∙ rw none refl
+none_without : (names : List Text) (n : Text) → is_among operand_id names ≡ false → is_among operand_id (without_name n names) ≡ false
+none_without names n none = among_without n operand_id names ∙ rw none refl
 
-no_module_parts : (names : List Text) (count : ℕ) (parts : List Part) → is_among module_id names ≡ false → fits names count parts ≡ true → HasNoModule parts
-no_module_parts names count [] none h = tt
-no_module_parts names zero (Given n value ∷ parts) none h =
+no_operand_parts : (names : List Text) (count : ℕ) (parts : List Part) → is_among operand_id names ≡ false → fits names count parts ≡ true → HasNoOperand parts
+no_operand_parts names count [] none h = tt
+no_operand_parts names zero (Given n value ∷ parts) none h =
     let both = halves (is_among n names) (fits (without_name n names) zero parts) h in
-    (among_others n module_id names both.0 none, no_module_parts (without_name n names) zero parts (none_without names n none) both.1)
-no_module_parts names (suc count) (Given n value ∷ parts) none h =
+    (among_others n operand_id names both.0 none, no_operand_parts (without_name n names) zero parts (none_without names n none) both.1)
+no_operand_parts names (suc count) (Given n value ∷ parts) none h =
     let both = halves (is_among n names) (fits (without_name n names) (suc count) parts) h in
-    (among_others n module_id names both.0 none, no_module_parts (without_name n names) (suc count) parts (none_without names n none) both.1)
-no_module_parts names zero (Plain word ∷ parts) none h = absurd (true≢false (sym h))
-no_module_parts names (suc count) (Plain word ∷ parts) none h = no_module_parts names count parts none h
+    (among_others n operand_id names both.0 none, no_operand_parts (without_name n names) (suc count) parts (none_without names n none) both.1)
+no_operand_parts names zero (Plain word ∷ parts) none h = absurd (true≢false (sym h))
+no_operand_parts names (suc count) (Plain word ∷ parts) none h = no_operand_parts names count parts none h
 
 module _ (names : List Text) (takes : Bool) (distinct : are_distinct names ≡ true) where
   abbrev c : List Rule
@@ -94,9 +94,9 @@ module _ (names : List Text) (takes : Bool) (distinct : are_distinct names ≡ t
   is_simple_app : is_simple (app_for names takes) ≡ true
   is_simple_app = (halves (is_simple (app_for names takes)) (is_free_app (built (app_for names takes))) (simple names takes)).0
 
-  parts_apart : (words : List Text) (parts : List Part) → parts_of names (word_count takes) (drop 1 words) ≡ Some parts → HasNoModule parts
+  parts_apart : (words : List Text) (parts : List Part) → parts_of names (word_count takes) (drop 1 words) ≡ Some parts → HasNoOperand parts
   unfolding parts_of
-  parts_apart words parts e = no_module_parts names (word_count takes) parts (no_module names distinct) (fitting_fits names (word_count takes) (parts_from None (drop 1 words)) parts e)
+  parts_apart words parts e = no_operand_parts names (word_count takes) parts (no_operand names distinct) (fitting_fits names (word_count takes) (parts_from None (drop 1 words)) parts e)
 
   pub parsed : (words : List Text) → AllByRecursion IsUtf8 words → (m : ArgMatches) → fault_of (app_for names takes) words ≡ [] → HasMatchesOf (app_for names takes) words m → HasParts names takes words m
   parsed words utf8 m clean same = go (parts_of names (word_count takes) (drop 1 words)) refl

@@ -15,8 +15,8 @@ use Rattle.clap.specs.declared.error.kind.ErrorKind.TheVariants as kind
 use Rattle.clap.specs.declared.parser.matches.ValueSource.TheVariants.{CommandLine}
 use Rattle.clap.specs.declared.builder.value_parser.ValueParser.TheVariants as vp
 use Rattle.pw_words.specs.CommandLine.{Part, Given, Plain, fits, fitting, has_value, is_among, is_dashed, option_name, option_value, parts_from, with_part, without_name}
-use Rattle.pw_words.specs.Reading.{module_id, part_row, row}
-use Rattle.pw_words.proofs.Asked.{HasRules, eq_itself, module_rule, option_rule, shaped}
+use Rattle.pw_words.specs.Reading.{operand_id, part_row, row}
+use Rattle.pw_words.proofs.Asked.{HasRules, eq_itself, operand_rule, option_rule, shaped}
 use Rattle.pw_words.proofs.Classes.{Class, Ends, Names, IsShort, IsBare, is_end, is_option, is_short, is_bare, classify}
 
 -- ---- kinds of faults
@@ -79,8 +79,8 @@ used_once n value rows new = rw new refl
 used_again : (n value : Text) (rows : List Row) → has_row n rows ≡ true → Faulty (use_fault false (option_rule n) (value ∷ []) rows)
 used_again n value rows old = rw old (some_fault kind.ArgumentConflict [])
 
-module_once : (value : Text) (rows : List Row) → has_row module_id rows ≡ false → use_fault false module_rule (value ∷ []) rows ≡ []
-module_once value rows new = rw new refl
+operand_once : (value : Text) (rows : List Row) → has_row operand_id rows ≡ false → use_fault false operand_rule (value ∷ []) rows ≡ []
+operand_once value rows new = rw new refl
 
 used_without : (n : Text) (rows : List Row) → Faulty (use_fault false (option_rule n) [] rows)
 used_without n rows = some_fault kind.InvalidValue []
@@ -260,26 +260,26 @@ module _ (c : List Rule) (names : List Text) (takes : Bool) (has : HasRules c na
   behind_stray : (rows : List Row) (pending : Option (Text × List Text)) (waiting : Waiting) (place : ℕ) (word : Text) → arg_by_index c place ≡ None → Faulty (turn (state rows pending waiting place true) word)
   behind_stray rows pending waiting place word none = rw none (some_fault kind.UnknownArgument [])
 
-  behind_module : (rows : List Row) (pending : Option (Text × List Text)) (waiting : Waiting) (place : ℕ) (word : Text) → arg_by_index c place ≡ Some module_rule
+  behind_operand : (rows : List Row) (pending : Option (Text × List Text)) (waiting : Waiting) (place : ℕ) (word : Text) → arg_by_index c place ≡ Some operand_rule
       → turn (state rows pending waiting place true) word ≡ settle_fault c false (held rows pending)
-  behind_module rows pending waiting place word found = rw (found, and_nothing (is_pending module_rule pending)) refl
+  behind_operand rows pending waiting place word found = rw (found, and_nothing (is_pending operand_rule pending)) refl
 
-  behind_next : (rows : List Row) (pending : Option (Text × List Text)) (waiting : Waiting) (word : Text) → arg_by_index c 1 ≡ Some module_rule
-      → walked c [] (state rows pending waiting 1 true) word ≡ state (settled_rows c pending rows) (Some (module_id, word ∷ [])) idle 2 true
+  behind_next : (rows : List Row) (pending : Option (Text × List Text)) (waiting : Waiting) (word : Text) → arg_by_index c 1 ≡ Some operand_rule
+      → walked c [] (state rows pending waiting 1 true) word ≡ state (settled_rows c pending rows) (Some (operand_id, word ∷ [])) idle 2 true
   unfolding walked
-  behind_next rows pending waiting word found = rw (found, and_nothing (is_pending module_rule pending)) refl
+  behind_next rows pending waiting word found = rw (found, and_nothing (is_pending operand_rule pending)) refl
 
   bare_stray : (rows : List Row) (pending : Option (Text × List Text)) (place : ℕ) (word : Text) → IsBare word → arg_by_index c place ≡ None → Faulty (turn (state rows pending idle place false) word)
   bare_stray rows pending place word b none = rw (b.other, b.long, b.short, none) (some_fault kind.UnknownArgument [])
 
-  bare_module : (rows : List Row) (pending : Option (Text × List Text)) (place : ℕ) (word : Text) → IsBare word → arg_by_index c place ≡ Some module_rule
+  bare_operand : (rows : List Row) (pending : Option (Text × List Text)) (place : ℕ) (word : Text) → IsBare word → arg_by_index c place ≡ Some operand_rule
       → turn (state rows pending idle place false) word ≡ settle_fault c false (held rows pending)
-  bare_module rows pending place word b found = rw (b.other, b.long, b.short, found, and_nothing (is_pending module_rule pending)) refl
+  bare_operand rows pending place word b found = rw (b.other, b.long, b.short, found, and_nothing (is_pending operand_rule pending)) refl
 
-  bare_next : (rows : List Row) (pending : Option (Text × List Text)) (word : Text) → IsBare word → arg_by_index c 1 ≡ Some module_rule
-      → walked c [] (state rows pending idle 1 false) word ≡ state (settled_rows c pending rows) (Some (module_id, word ∷ [])) idle 2 false
+  bare_next : (rows : List Row) (pending : Option (Text × List Text)) (word : Text) → IsBare word → arg_by_index c 1 ≡ Some operand_rule
+      → walked c [] (state rows pending idle 1 false) word ≡ state (settled_rows c pending rows) (Some (operand_id, word ∷ [])) idle 2 false
   unfolding walked
-  bare_next rows pending word b found = rw (b.other, b.long, b.short, found, and_nothing (is_pending module_rule pending)) refl
+  bare_next rows pending word b found = rw (b.other, b.long, b.short, found, and_nothing (is_pending operand_rule pending)) refl
 
   -- ---- a word that is the value of an option
 
@@ -365,30 +365,30 @@ module _ (c : List Rule) (names : List Text) (takes : Bool) (has : HasRules c na
 
   -- the positional argument takes the next place, or there is none and it is not missing
   abbrev pub Due : ℕ → List Row → ℕ → Type 0
-  Due place rows zero = (arg_by_index c place ≡ None) × ((takes ≡ false) ⊎ (is_given module_id rows ≡ true))
-  Due place rows (suc zero) = (place ≡ 1) × (takes ≡ true) × (has_row module_id rows ≡ false)
+  Due place rows zero = (arg_by_index c place ≡ None) × ((takes ≡ false) ⊎ (is_given operand_id rows ≡ true))
+  Due place rows (suc zero) = (place ≡ 1) × (takes ≡ true) × (has_row operand_id rows ≡ false)
   Due place rows (suc (suc count)) = ⊥
 
   abbrev pub MayCome : List Text → List Row → Type 0
   MayCome left rows = (n : Text) → is_among n left ≡ (is_among n names && not (has_row n rows))
 
-  first_module : takes ≡ true → arg_by_index c 1 ≡ Some module_rule
-  first_module so = has.first_place ∙ ap (λ (b : Bool). if b then Some module_rule else None) so
+  first_operand : takes ≡ true → arg_by_index c 1 ≡ Some operand_rule
+  first_operand so = has.first_place ∙ ap (λ (b : Bool). if b then Some operand_rule else None) so
 
-  check_is : (rows : List Row) → check rows ≡ (if takes && not (is_given module_id rows) then kind.MissingRequiredArgument ∷ [] else [])
+  check_is : (rows : List Row) → check rows ≡ (if takes && not (is_given operand_id rows) then kind.MissingRequiredArgument ∷ [] else [])
   check_is rows = rw (has.missing rows) refl
 
-  check_clean : (rows : List Row) → (takes ≡ false) ⊎ (is_given module_id rows ≡ true) → check rows ≡ []
+  check_clean : (rows : List Row) → (takes ≡ false) ⊎ (is_given operand_id rows ≡ true) → check rows ≡ []
   check_clean rows (inl not_so) = check_is rows ∙ rw not_so refl
   check_clean rows (inr given) = check_is rows ∙ rw (given, and_nothing takes) refl
 
-  check_bad : (rows : List Row) → takes ≡ true → has_row module_id rows ≡ false → Faulty (check rows)
-  check_bad rows so none = rw (check_is rows, so, not_given module_id rows none) (some_fault kind.MissingRequiredArgument [])
+  check_bad : (rows : List Row) → takes ≡ true → has_row operand_id rows ≡ false → Faulty (check rows)
+  check_bad rows so none = rw (check_is rows, so, not_given operand_id rows none) (some_fault kind.MissingRequiredArgument [])
 
-  module_settles : (rows : List Row) (word : Text) → takes ≡ true → has_row module_id rows ≡ false → Settles rows (Some (module_id, word ∷ [])) (rows ++ row module_id word ∷ [])
-  module_settles rows word so none = record {
-    clean = rw (has.by_module so) (module_once word rows none);
-    are = rw (has.by_module so) (added module_id word rows none);
+  operand_settles : (rows : List Row) (word : Text) → takes ≡ true → has_row operand_id rows ≡ false → Settles rows (Some (operand_id, word ∷ [])) (rows ++ row operand_id word ∷ [])
+  operand_settles rows word so none = record {
+    clean = rw (has.by_operand so) (operand_once word rows none);
+    are = rw (has.by_operand so) (added operand_id word rows none);
   }
 
   option_settles : (rows : List Row) (n word : Text) → is_among n names ≡ true → has_row n rows ≡ false → Settles rows (Some (n, word ∷ [])) (rows ++ row n word ∷ [])
@@ -405,14 +405,14 @@ module _ (c : List Rule) (names : List Text) (takes : Bool) (has : HasRules c na
 
   -- ---- what may come behind another part
 
-  due_module : (rows : List Row) (word : Text) → has_row module_id rows ≡ false → Due 2 (rows ++ row module_id word ∷ []) 0
-  due_module rows word none = (has.no_second, inr (given_now module_id word rows none))
+  due_operand : (rows : List Row) (word : Text) → has_row operand_id rows ≡ false → Due 2 (rows ++ row operand_id word ∷ []) 0
+  due_operand rows word none = (has.no_second, inr (given_now operand_id word rows none))
 
   due_option : (place : ℕ) (rows : List Row) (count : ℕ) (n value : Text) → is_among n names ≡ true → Due place rows count → Due place (rows ++ row n value ∷ []) count
   due_option place rows zero n value known (none, inl not_so) = (none, inl not_so)
-  due_option place rows zero n value known (none, inr given) = (none, inr (given_still module_id rows (row n value) given))
+  due_option place rows zero n value known (none, inr given) = (none, inr (given_still operand_id rows (row n value) given))
   due_option place rows (suc zero) n value known (at, so, none) =
-      (at, so, has_more module_id rows (row n value) ∙ rw (none, among_others n module_id names known has.apart) refl)
+      (at, so, has_more operand_id rows (row n value) ∙ rw (none, among_others n operand_id names known has.apart) refl)
   due_option place rows (suc (suc count)) n value known due = due
 
   may_option : (left : List Text) (rows : List Row) (n value : Text) → MayCome left rows → MayCome (without_name n left) (rows ++ row n value ∷ [])
@@ -424,21 +424,21 @@ module _ (c : List Rule) (names : List Text) (takes : Bool) (has : HasRules c na
       go true false b = refl
       go false h b = refl
 
-  not_module : (other : Text) → is_among other names ≡ true → bytes_eq module_id other ≡ false
-  not_module other e = turned (bytes_eq module_id other) refl
+  not_operand : (other : Text) → is_among other names ≡ true → bytes_eq operand_id other ≡ false
+  not_operand other e = turned (bytes_eq operand_id other) refl
     where
-      turned : (t : Bool) → bytes_eq module_id other ≡ t → bytes_eq module_id other ≡ false
+      turned : (t : Bool) → bytes_eq operand_id other ≡ t → bytes_eq operand_id other ≡ false
       turned false f = f
-      turned true f = absurd (true≢false (sym e ∙ sym (ap (λ (x : Text). is_among x names) ((bytes_eq-Decides module_id other).0 f)) ∙ has.apart))
+      turned true f = absurd (true≢false (sym e ∙ sym (ap (λ (x : Text). is_among x names) ((bytes_eq-Decides operand_id other).0 f)) ∙ has.apart))
 
-  may_module : (left : List Text) (rows : List Row) (value : Text) → MayCome left rows → MayCome left (rows ++ row module_id value ∷ [])
-  may_module left rows value may other = may other ∙ go (is_among other names) refl
+  may_operand : (left : List Text) (rows : List Row) (value : Text) → MayCome left rows → MayCome left (rows ++ row operand_id value ∷ [])
+  may_operand left rows value may other = may other ∙ go (is_among other names) refl
     where
-      go : (b : Bool) → is_among other names ≡ b → (is_among other names && not (has_row other rows)) ≡ (is_among other names && not (has_row other (rows ++ row module_id value ∷ [])))
+      go : (b : Bool) → is_among other names ≡ b → (is_among other names && not (has_row other rows)) ≡ (is_among other names && not (has_row other (rows ++ row operand_id value ∷ [])))
       go false e = rw e refl
       go true e =
-          let away : bytes_eq module_id other ≡ false = not_module other e in
-          rw (has_more other rows (row module_id value), away, or_nothing (has_row other rows)) refl
+          let away : bytes_eq operand_id other ≡ false = not_operand other e in
+          rw (has_more other rows (row operand_id value), away, or_nothing (has_row other rows)) refl
 
   still_new : (left : List Text) (rows : List Row) (n : Text) → MayCome left rows → is_among n left ≡ true → (is_among n names ≡ true) × (has_row n rows ≡ false)
   still_new left rows n may so = go (is_among n names) (has_row n rows) refl refl (sym (may n) ∙ so)
@@ -459,11 +459,11 @@ module _ (c : List Rule) (names : List Text) (takes : Bool) (has : HasRules c na
   -- ---- what is pending and wrong stays so
 
   abbrev pub IsPlace : ℕ → Type 0
-  IsPlace place = (arg_by_index c place ≡ None) ⊎ (arg_by_index c place ≡ Some module_rule)
+  IsPlace place = (arg_by_index c place ≡ None) ⊎ (arg_by_index c place ≡ Some operand_rule)
 
   place_of : (place : ℕ) (rows : List Row) (count : ℕ) → Due place rows count → IsPlace place
   place_of place rows zero due = inl due.0
-  place_of place rows (suc zero) due = inr (subst (λ (n : ℕ). arg_by_index c n ≡ Some module_rule) (sym due.0) (first_module due.1))
+  place_of place rows (suc zero) due = inr (subst (λ (n : ℕ). arg_by_index c n ≡ Some operand_rule) (sym due.0) (first_operand due.1))
   place_of place rows (suc (suc count)) due = absurd due
 
   end_bad : (w : Walk) → Faulty (settle_fault c false w.held) → Faulty (total w [])
@@ -473,7 +473,7 @@ module _ (c : List Rule) (names : List Text) (takes : Bool) (has : HasRules c na
       → Faulty (settle_fault c false (held rows pending)) → Faulty (total (state rows pending waiting place true) words)
   stuck_behind [] rows pending waiting place at bad = end_bad (state rows pending waiting place true) bad
   stuck_behind (word ∷ words) rows pending waiting place (inl none) bad = total_bad (state rows pending waiting place true) word words (behind_stray rows pending waiting place word none)
-  stuck_behind (word ∷ words) rows pending waiting place (inr found) bad = total_bad (state rows pending waiting place true) word words (rw (behind_module rows pending waiting place word found) bad)
+  stuck_behind (word ∷ words) rows pending waiting place (inr found) bad = total_bad (state rows pending waiting place true) word words (rw (behind_operand rows pending waiting place word found) bad)
 
   stuck : (words : List Text) → AllByRecursion IsUtf8 words → (rows : List Row) (pending : Option (Text × List Text)) (place : ℕ) → IsPlace place
       → Faulty (settle_fault c false (held rows pending)) → Faulty (total (state rows pending idle place false) words)
@@ -482,7 +482,7 @@ module _ (c : List Rule) (names : List Text) (takes : Bool) (has : HasRules c na
     where
       plain : IsBare word → IsPlace place → Faulty (total (state rows pending idle place false) (word ∷ words))
       plain b (inl none) = total_bad (state rows pending idle place false) word words (bare_stray rows pending place word b none)
-      plain b (inr found) = total_bad (state rows pending idle place false) word words (rw (bare_module rows pending place word b found) bad)
+      plain b (inr found) = total_bad (state rows pending idle place false) word words (rw (bare_operand rows pending place word b found) bad)
 
       by : Class word → Faulty (total (state rows pending idle place false) (word ∷ words))
       by (is_end e) =
@@ -494,16 +494,16 @@ module _ (c : List Rule) (names : List Text) (takes : Bool) (has : HasRules c na
 
   -- ---- the words behind `--`
 
-  module_part : (left : List Text) (word : Text) (found : Option (List Part)) → fitting left 1 (with_part (Plain word) found) ≡ with_part (Plain word) (fitting left 0 found)
-  module_part left word found = joined left 1 (Plain word) left 0 found (λ parts. refl)
+  operand_part : (left : List Text) (word : Text) (found : Option (List Part)) → fitting left 1 (with_part (Plain word) found) ≡ with_part (Plain word) (fitting left 0 found)
+  operand_part left word found = joined left 1 (Plain word) left 0 found (λ parts. refl)
 
-  end_clean : (w : Walk) (rows : List Row) → Settles w.held.rows w.held.pending rows → (takes ≡ false) ⊎ (is_given module_id rows ≡ true) → w.held.skip ≡ 0 → Answers (total w []) rows (last_rows w []) (Some [])
+  end_clean : (w : Walk) (rows : List Row) → Settles w.held.rows w.held.pending rows → (takes ≡ false) ⊎ (is_given operand_id rows ≡ true) → w.held.skip ≡ 0 → Answers (total w []) rows (last_rows w []) (Some [])
   end_clean w rows s given skip = (total_none w ∙ ends_so, s.are ∙ sym (append-nil rows))
     where
       ends_so : or_else (settle_fault c false w.held) (check (settled_rows c w.held.pending w.held.rows)) ≡ []
       ends_so = rw (s.clean, s.are) (check_clean rows given)
 
-  end_missing : (w : Walk) (rows : List Row) → Settles w.held.rows w.held.pending rows → takes ≡ true → has_row module_id rows ≡ false → Faulty (total w [])
+  end_missing : (w : Walk) (rows : List Row) → Settles w.held.rows w.held.pending rows → takes ≡ true → has_row operand_id rows ≡ false → Faulty (total w [])
   end_missing w rows s so none = rw (total_none w, s.clean, s.are) (check_bad rows so none)
 
   behind : (words : List Text) (held_rows : List Row) (pending : Option (Text × List Text)) (waiting : Waiting) (place : ℕ) (rows : List Row) (left : List Text) (count : ℕ)
@@ -515,15 +515,15 @@ module _ (c : List Rule) (names : List Text) (takes : Bool) (has : HasRules c na
   behind (word ∷ words) q p waiting place rows left zero s due = total_bad (state q p waiting place true) word words (behind_stray q p waiting place word due.0)
   behind (word ∷ words) q p waiting place rows left (suc (suc count)) s due = absurd due
   behind (word ∷ words) q p waiting place rows left (suc zero) s due =
-      let found : arg_by_index c 1 ≡ Some module_rule = first_module due.1 in
-      let here : arg_by_index c place ≡ Some module_rule = subst (λ (n : ℕ). arg_by_index c n ≡ Some module_rule) (sym due.0) found in
-      let clean : turn (state q p waiting place true) word ≡ [] = behind_module q p waiting place word here ∙ s.clean in
-      let step : walked c [] (state q p waiting place true) word ≡ state rows (Some (module_id, word ∷ [])) idle 2 true =
-      ap (λ (n : ℕ). walked c [] (state q p waiting n true) word) due.0 ∙ behind_next q p waiting word found ∙ ap (λ (r : List Row). state r (Some (module_id, word ∷ [])) idle 2 true) s.are in
-      let rest = behind words rows (Some (module_id, word ∷ [])) idle 2 (rows ++ row module_id word ∷ []) left 0 (module_settles rows word due.1 due.2) (due_module rows word due.2) in
-      let answer = answers_part (total (state rows (Some (module_id, word ∷ [])) idle 2 true) words) rows (last_rows (state rows (Some (module_id, word ∷ [])) idle 2 true) words) (Plain word) (fitting left 0 (Some (map Plain words))) rest in
-      subst (λ (f : Option (List Part)). Answers (total (state q p waiting place true) (word ∷ words)) rows (last_rows (state q p waiting place true) (word ∷ words)) f) (sym (module_part left word (Some (map Plain words))))
-      (goes_on (state q p waiting place true) (state rows (Some (module_id, word ∷ [])) idle 2 true) word words rows (with_part (Plain word) (fitting left 0 (Some (map Plain words)))) clean step answer)
+      let found : arg_by_index c 1 ≡ Some operand_rule = first_operand due.1 in
+      let here : arg_by_index c place ≡ Some operand_rule = subst (λ (n : ℕ). arg_by_index c n ≡ Some operand_rule) (sym due.0) found in
+      let clean : turn (state q p waiting place true) word ≡ [] = behind_operand q p waiting place word here ∙ s.clean in
+      let step : walked c [] (state q p waiting place true) word ≡ state rows (Some (operand_id, word ∷ [])) idle 2 true =
+      ap (λ (n : ℕ). walked c [] (state q p waiting n true) word) due.0 ∙ behind_next q p waiting word found ∙ ap (λ (r : List Row). state r (Some (operand_id, word ∷ [])) idle 2 true) s.are in
+      let rest = behind words rows (Some (operand_id, word ∷ [])) idle 2 (rows ++ row operand_id word ∷ []) left 0 (operand_settles rows word due.1 due.2) (due_operand rows word due.2) in
+      let answer = answers_part (total (state rows (Some (operand_id, word ∷ [])) idle 2 true) words) rows (last_rows (state rows (Some (operand_id, word ∷ [])) idle 2 true) words) (Plain word) (fitting left 0 (Some (map Plain words))) rest in
+      subst (λ (f : Option (List Part)). Answers (total (state q p waiting place true) (word ∷ words)) rows (last_rows (state q p waiting place true) (word ∷ words)) f) (sym (operand_part left word (Some (map Plain words))))
+      (goes_on (state q p waiting place true) (state rows (Some (operand_id, word ∷ [])) idle 2 true) word words rows (with_part (Plain word) (fitting left 0 (Some (map Plain words)))) clean step answer)
 
   -- ---- all words
 
@@ -611,14 +611,14 @@ module _ (c : List Rule) (names : List Text) (takes : Bool) (has : HasRules c na
           (ap (fitting left zero) plain ∙ refused_part left zero (Plain word) (parts_from None words) (λ parts. refl))
           (total_bad (state q p idle place false) word words (bare_stray q p place word b d.0))
       by (suc zero) d =
-          let found : arg_by_index c 1 ≡ Some module_rule = first_module d.1 in
-          let here : arg_by_index c place ≡ Some module_rule = subst (λ (n : ℕ). arg_by_index c n ≡ Some module_rule) (sym d.0) found in
-          let clean : turn (state q p idle place false) word ≡ [] = bare_module q p place word b here ∙ s.clean in
-          let step : walked c [] (state q p idle place false) word ≡ state rows (Some (module_id, word ∷ [])) idle 2 false =
-          ap (λ (n : ℕ). walked c [] (state q p idle n false) word) d.0 ∙ bare_next q p word b found ∙ ap (λ (r : List Row). state r (Some (module_id, word ∷ [])) idle 2 false) s.are in
-          let all : fitting left 1 (parts_from None (word ∷ words)) ≡ with_part (Plain word) (fitting left 0 (parts_from None words)) = ap (fitting left 1) plain ∙ module_part left word (parts_from None words) in
-          adds (state q p idle place false) (state rows (Some (module_id, word ∷ [])) idle 2 false) word words rows (Plain word) (fitting left 1 (parts_from None (word ∷ words))) (fitting left 0 (parts_from None words)) clean step all
-          (rest rows (Some (module_id, word ∷ [])) 2 (rows ++ row module_id word ∷ []) left 0 (module_settles rows word d.1 d.2) (may_module left rows word may) (due_module rows word d.2))
+          let found : arg_by_index c 1 ≡ Some operand_rule = first_operand d.1 in
+          let here : arg_by_index c place ≡ Some operand_rule = subst (λ (n : ℕ). arg_by_index c n ≡ Some operand_rule) (sym d.0) found in
+          let clean : turn (state q p idle place false) word ≡ [] = bare_operand q p place word b here ∙ s.clean in
+          let step : walked c [] (state q p idle place false) word ≡ state rows (Some (operand_id, word ∷ [])) idle 2 false =
+          ap (λ (n : ℕ). walked c [] (state q p idle n false) word) d.0 ∙ bare_next q p word b found ∙ ap (λ (r : List Row). state r (Some (operand_id, word ∷ [])) idle 2 false) s.are in
+          let all : fitting left 1 (parts_from None (word ∷ words)) ≡ with_part (Plain word) (fitting left 0 (parts_from None words)) = ap (fitting left 1) plain ∙ operand_part left word (parts_from None words) in
+          adds (state q p idle place false) (state rows (Some (operand_id, word ∷ [])) idle 2 false) word words rows (Plain word) (fitting left 1 (parts_from None (word ∷ words))) (fitting left 0 (parts_from None words)) clean step all
+          (rest rows (Some (operand_id, word ∷ [])) 2 (rows ++ row operand_id word ∷ []) left 0 (operand_settles rows word d.1 d.2) (may_operand left rows word may) (due_operand rows word d.2))
       by (suc (suc n)) d = absurd d
   idle_step word words utf8 (is_option d) rest opens q p place rows left count s may due = by (has_value word) refl
     where
@@ -717,4 +717,4 @@ module _ (c : List Rule) (names : List Text) (takes : Bool) (has : HasRules c na
     where
       start : (t : Bool) → takes ≡ t → Due 1 [] (if t then 1 else 0)
       start true e = (refl, e, refl)
-      start false e = (has.first_place ∙ ap (λ (b : Bool). if b then Some module_rule else None) e, inl e)
+      start false e = (has.first_place ∙ ap (λ (b : Bool). if b then Some operand_rule else None) e, inl e)

@@ -6,8 +6,8 @@ use Rattle.std.proofs.lemmas.Bool.Decides.{nat_tests}
 use Rattle.pw_value.specs.Limits.{stack_least, stack_most}
 use Rattle.pw_modules.specs.Modules.{is_module_name}
 use Rattle.pw_words.specs.declared.commands.Command.{Command}
-use Rattle.pw_words.specs.declared.commands.Command.TheVariants.{Go, PhaseOne, Analyse, PhaseTwo, Link, Run, List as ListImage, Db}
-use Rattle.pw_words.specs.CommandLine.{Text, Part, is_numeral, number_in, number_or, value_of, colours, stack, steps, colours_in, stack_in, steps_in, module_named, module_in, plain_word, parts_of, go_in, go_of, phase_one_of, analyse_of, phase_two_of, link_of, run_of, list_of, db_of, command_by_name, command_of}
+use Rattle.pw_words.specs.declared.commands.Command.TheVariants.{Go, Build, Session, PhaseOne, Analyse, PhaseTwo, Link, Run, List as ListImage, Db, Bench}
+use Rattle.pw_words.specs.CommandLine.{Text, Part, is_numeral, number_in, number_or, value_of, colours, stack, steps, colours_in, stack_in, steps_in, module_named, module_in, plain_word, parts_of, seed_in, with_build, with_run, go_of, build_of, session_of, analyse_of, link_of, run_of, bench_of, command_by_name, command_of}
 use Rattle.pw_words.specs.Limits.{IsStack, IsWithin}
 
 -- each command that is found is within the limits
@@ -89,16 +89,45 @@ any_within : (make : ℕ → Command) (found : Option ℕ) → ((n : ℕ) → Is
 any_within make None k = none_within
 any_within make (Some n) k = some_within (make n) (k n)
 
-stacked : (c : ℕ) (given : Option ℕ) (parts : List Part) → c ≤ 8 → IsIn stack_least stack_most given → Within (option_and_then (λ s. option_map (λ n. Go c s n) (steps_in parts)) given)
-stacked c None parts h k = none_within
-stacked c (Some s) parts h k = any_within (λ n. Go c s n) (steps_in parts) (λ n. (h, k))
+-- the numbers of a build and a run, for each command that has them
+abbrev Runs : (ℕ → ℕ → ℕ → Command) → Type 0
+Runs say = (c s n : ℕ) → c ≤ 8 → IsStack s → IsWithin (say c s n)
 
-coloured : (given : Option ℕ) (parts : List Part) → IsIn 0 8 given → Within (option_and_then (λ c. option_and_then (λ s. option_map (λ n. Go c s n) (steps_in parts)) (stack_in parts)) given)
-coloured None parts h = none_within
-coloured (Some c) parts h = stacked c (stack_in parts) parts h.1 (stack_is_in parts)
+stacked : (say : ℕ → ℕ → ℕ → Command) (c : ℕ) (given : Option ℕ) (parts : List Part) → Runs say → c ≤ 8 → IsIn stack_least stack_most given → Within (option_and_then (λ s. option_map (λ n. say c s n) (steps_in parts)) given)
+stacked say c None parts all h k = none_within
+stacked say c (Some s) parts all h k = any_within (λ n. say c s n) (steps_in parts) (λ n. all c s n h k)
+
+coloured : (say : ℕ → ℕ → ℕ → Command) (given : Option ℕ) (parts : List Part) → Runs say → IsIn 0 8 given → Within (option_and_then (λ c. option_and_then (λ s. option_map (λ n. say c s n) (steps_in parts)) (stack_in parts)) given)
+coloured say None parts all h = none_within
+coloured say (Some c) parts all h = stacked say c (stack_in parts) parts all h.1 (stack_is_in parts)
+
+run_options_within : (say : ℕ → ℕ → ℕ → Command) (parts : List Part) → Runs say → Within (with_run say parts)
+run_options_within say parts all = coloured say (colours_in parts) parts all (colours_are_in parts)
 
 go_within : (words : List Text) → Within (go_of words)
-go_within words = parts_within (parts_of (colours ∷ stack ∷ steps ∷ []) 0 words) go_in (λ parts. coloured (colours_in parts) parts (colours_are_in parts))
+go_within words = parts_within (parts_of (colours ∷ stack ∷ steps ∷ []) 0 words) (with_run Go) (λ parts. run_options_within Go parts (λ c s n h k. (h, k)))
+
+session_within : (words : List Text) → Within (session_of words)
+session_within words = parts_within (parts_of (colours ∷ stack ∷ steps ∷ []) 0 words) (with_run Session) (λ parts. run_options_within Session parts (λ c s n h k. (h, k)))
+
+seeded : (given : Option ℕ) (parts : List Part) → Within (option_and_then (λ x. with_run (Bench x) parts) given)
+seeded None parts = none_within
+seeded (Some x) parts = run_options_within (Bench x) parts (λ c s n h k. (h, k))
+
+bench_within : (words : List Text) → Within (bench_of words)
+bench_within words = parts_within (parts_of (colours ∷ stack ∷ steps ∷ []) 1 words) (λ parts. option_and_then (λ x. with_run (Bench x) parts) (seed_in parts)) (λ parts. seeded (seed_in parts) parts)
+
+-- the numbers of a build
+built : (c : ℕ) (given : Option ℕ) → c ≤ 8 → IsIn stack_least stack_most given → Within (option_map (λ s. Build c s) given)
+built c None h k = none_within
+built c (Some s) h k = some_within (Build c s) (h, k)
+
+build_options_within : (given : Option ℕ) (parts : List Part) → IsIn 0 8 given → Within (option_and_then (λ c. option_map (λ s. Build c s) (stack_in parts)) given)
+build_options_within None parts h = none_within
+build_options_within (Some c) parts h = built c (stack_in parts) h.1 (stack_is_in parts)
+
+build_within : (words : List Text) → Within (build_of words)
+build_within words = parts_within (parts_of (colours ∷ stack ∷ []) 0 words) (with_build Build) (λ parts. build_options_within (colours_in parts) parts (colours_are_in parts))
 
 phase_within : (make : Text → Command) (words : List Text) → ((name : Text) → is_module_name name ≡ true → IsWithin (make name)) → Within (option_and_then (λ parts. option_map make (module_in parts)) (parts_of [] 1 words))
 phase_within make words k =
@@ -118,6 +147,8 @@ name_within : (name : Text) (words : List Text) → Within (command_by_name name
 unfolding command_by_name
 name_within name words =
     if_within (bytes_eq name (codes "go")) _ _ (go_within words)
+    (if_within (bytes_eq name (codes "build")) _ _ (build_within words)
+    (if_within (bytes_eq name (codes "session")) _ _ (session_within words)
     (if_within (bytes_eq name (codes "phase1")) _ _ (phase_within PhaseOne words (λ n h. h))
     (if_within (bytes_eq name (codes "analyse")) _ _ (analyse_within words)
     (if_within (bytes_eq name (codes "phase2")) _ _ (phase_within PhaseTwo words (λ n h. h))
@@ -125,7 +156,8 @@ name_within name words =
     (if_within (bytes_eq name (codes "run")) _ _ (run_within words)
     (if_within (bytes_eq name (codes "list")) _ _ (listed_within (parts_of [] 0 words) ListImage tt)
     (if_within (bytes_eq name (codes "db")) _ _ (listed_within (parts_of [] 0 words) Db tt)
-    none_within)))))))
+    (if_within (bytes_eq name (codes "bench")) _ _ (bench_within words)
+    none_within))))))))))
 
 pub words_within : (words : List Text) → Within (command_of words)
 words_within [] = none_within

@@ -9,7 +9,7 @@ use Rattle.pw_modules.specs.Modules.{is_module_name}
 use Rattle.pw_words.specs.declared.fault.WordsFault.{WordsFault}
 use Rattle.pw_words.specs.declared.fault.WordsFault.TheVariants.{Usage, NoMemory}
 use Rattle.pw_words.specs.declared.commands.Command.{Command}
-use Rattle.pw_words.specs.declared.commands.Command.TheVariants.{Go, PhaseOne, Analyse, PhaseTwo, Link, Run, List as ListImage, Db}
+use Rattle.pw_words.specs.declared.commands.Command.TheVariants.{Go, Build, Session, PhaseOne, Analyse, PhaseTwo, Link, Run, List as ListImage, Db, Bench}
 
 abbrev pub Text : Type 0
 Text = List ℕ
@@ -145,15 +145,29 @@ module_named name = if is_module_name name then Some name else None
 abbrev pub module_in : List Part → Option Text
 module_in parts = option_and_then module_named (plain_word parts)
 
+-- the number from which modules are made: below 2^32
+abbrev pub seed_in : List Part → Option ℕ
+seed_in parts = option_and_then (number_in 0 4294967295) (plain_word parts)
+
 -- ---- commands
 
-abbrev pub go_in : List Part → Option Command
-go_in parts =
-    option_and_then (λ c. option_and_then (λ s. option_map (λ n. Go c s n) (steps_in parts)) (stack_in parts)) (colours_in parts)
+-- what is said by the options of a build, and by those of a build and a run
+abbrev pub with_build : (ℕ → ℕ → Command) → List Part → Option Command
+with_build say parts = option_and_then (λ c. option_map (λ s. say c s) (stack_in parts)) (colours_in parts)
+
+abbrev pub with_run : (ℕ → ℕ → ℕ → Command) → List Part → Option Command
+with_run say parts =
+    option_and_then (λ c. option_and_then (λ s. option_map (λ n. say c s n) (steps_in parts)) (stack_in parts)) (colours_in parts)
 
 -- what the words behind a command's name say
 abbrev pub go_of : List Text → Option Command
-go_of words = option_and_then go_in (parts_of (colours ∷ stack ∷ steps ∷ []) 0 words)
+go_of words = option_and_then (with_run Go) (parts_of (colours ∷ stack ∷ steps ∷ []) 0 words)
+
+abbrev pub build_of : List Text → Option Command
+build_of words = option_and_then (with_build Build) (parts_of (colours ∷ stack ∷ []) 0 words)
+
+abbrev pub session_of : List Text → Option Command
+session_of words = option_and_then (with_run Session) (parts_of (colours ∷ stack ∷ steps ∷ []) 0 words)
 
 abbrev pub phase_one_of : List Text → Option Command
 phase_one_of words = option_and_then (λ parts. option_map PhaseOne (module_in parts)) (parts_of [] 1 words)
@@ -176,10 +190,16 @@ list_of words = option_map (λ parts. ListImage) (parts_of [] 0 words)
 abbrev pub db_of : List Text → Option Command
 db_of words = option_map (λ parts. Db) (parts_of [] 0 words)
 
+abbrev pub bench_of : List Text → Option Command
+bench_of words =
+    option_and_then (λ parts. option_and_then (λ x. with_run (Bench x) parts) (seed_in parts)) (parts_of (colours ∷ stack ∷ steps ∷ []) 1 words)
+
 -- the command of a name, and what the words behind it say
 unfoldable pub command_by_name : Text → List Text → Option Command
 command_by_name name words =
     if bytes_eq name (codes "go") then go_of words else
+    if bytes_eq name (codes "build") then build_of words else
+    if bytes_eq name (codes "session") then session_of words else
     if bytes_eq name (codes "phase1") then phase_one_of words else
     if bytes_eq name (codes "analyse") then analyse_of words else
     if bytes_eq name (codes "phase2") then phase_two_of words else
@@ -187,6 +207,7 @@ command_by_name name words =
     if bytes_eq name (codes "run") then run_of words else
     if bytes_eq name (codes "list") then list_of words else
     if bytes_eq name (codes "db") then db_of words else
+    if bytes_eq name (codes "bench") then bench_of words else
     None
 
 -- the command that words say

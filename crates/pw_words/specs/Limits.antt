@@ -3,7 +3,7 @@ use Rattle.std.specs.Prelude.{◌≡◌, ℕ, ◌≤◌, true}
 use Rattle.pw_value.specs.Limits.{stack_least, stack_most}
 use Rattle.pw_modules.specs.Modules.{is_module_name}
 use Rattle.pw_words.specs.declared.commands.Command.{Command}
-use Rattle.pw_words.specs.declared.commands.Command.TheVariants.{Go, PhaseOne, Analyse, PhaseTwo, Link, Run, List as ListImage, Db}
+use Rattle.pw_words.specs.declared.commands.Command.TheVariants.{Go, Build, Session, PhaseOne, Analyse, PhaseTwo, Link, Run, List as ListImage, Db, Bench}
 
 -- the bytes of a stack
 abbrev pub IsStack : ℕ → Type 0
@@ -12,6 +12,8 @@ IsStack stack = (stack_least ≤ stack) × (stack ≤ stack_most)
 -- Webs have at most 8 registers, a stack and a run's steps lie within their limits, and a module's name is one.
 abbrev pub IsWithin : Command → Type 0
 IsWithin (Go colours stack steps) = (colours ≤ 8) × IsStack stack
+IsWithin (Build colours stack) = (colours ≤ 8) × IsStack stack
+IsWithin (Session colours stack steps) = (colours ≤ 8) × IsStack stack
 IsWithin (PhaseOne name) = is_module_name name ≡ true
 IsWithin (Analyse colours) = colours ≤ 8
 IsWithin (PhaseTwo name) = is_module_name name ≡ true
@@ -19,3 +21,4 @@ IsWithin (Link stack) = IsStack stack
 IsWithin (Run steps) = Unit {0}
 IsWithin ListImage = Unit {0}
 IsWithin Db = Unit {0}
+IsWithin (Bench number colours stack steps) = (colours ≤ 8) × IsStack stack

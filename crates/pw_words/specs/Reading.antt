@@ -1,5 +1,5 @@
 -- What is asked of `clap` for a command line, and what its matches say.
-use Rattle.std.specs.Prelude.{◌≡◌, ◌++◌, ◌∷◌, [], ℕ, ◌&&◌, not, Bool, true, false, if◌then◌else◌, List, map, drop, codes, Option, Some, None}
+use Rattle.std.specs.Prelude.{◌≡◌, ◌++◌, ◌∷◌, [], ℕ, ◌&&◌, not, Bool, true, false, if◌then◌else◌, List, map, drop, codes, Some, None}
 use Rattle.std.specs.Str.{bytes_eq}
 use Rattle.clap.specs.Walk.{Row, Rule, rows_of}
 use Rattle.clap.specs.Matches.{found_of}
@@ -18,23 +18,23 @@ use Rattle.pw_words.specs.CommandLine.{Text, Part, Given, Plain, is_among, parts
 -- ---- the arguments that are asked for
 
 -- the argument that a word without an option is
-abbrev pub module_id : Text
-module_id = codes "module"
+abbrev pub operand_id : Text
+operand_id = codes "operand"
 
 abbrev pub option_argument : Text → Rule
 option_argument name = record (new_rule name) { long = Some name; action = Some Set }
 
-abbrev pub module_argument : Rule
-module_argument = record (new_rule module_id) { action = Some Set; required = true }
+abbrev pub operand_argument : Rule
+operand_argument = record (new_rule operand_id) { action = Some Set; required = true }
 
-abbrev pub module_arguments : Bool → List Rule
-module_arguments takes = if takes then module_argument ∷ [] else []
+abbrev pub operand_arguments : Bool → List Rule
+operand_arguments takes = if takes then operand_argument ∷ [] else []
 
--- a command with these options, that takes the name of a module or none
+-- a command with these options, that takes one other word or none
 abbrev pub app_for : List Text → Bool → App
 app_for names takes = record {
   top = record (new_shape (codes "pawc")) {
-    rules = map option_argument names ++ module_arguments takes;
+    rules = map option_argument names ++ operand_arguments takes;
     disable_help_flag = true;
     disable_version_flag = true;
   };
@@ -48,21 +48,21 @@ row id value = record { id = id; values = value ∷ []; count = None; source = S
 
 abbrev pub part_row : Part → Row
 part_row (Given name value) = row name value
-part_row (Plain word) = row module_id word
+part_row (Plain word) = row operand_id word
 
 abbrev pub word_count : Bool → ℕ
 word_count takes = if takes then 1 else 0
 
 -- no option has the name of the argument that a word without an option is
-abbrev pub HasNoModule : List Part → Type 0
-HasNoModule [] = Unit {0}
-HasNoModule (Given name value ∷ parts) = (bytes_eq name module_id ≡ false) × HasNoModule parts
-HasNoModule (Plain word ∷ parts) = HasNoModule parts
+abbrev pub HasNoOperand : List Part → Type 0
+HasNoOperand [] = Unit {0}
+HasNoOperand (Given name value ∷ parts) = (bytes_eq name operand_id ≡ false) × HasNoOperand parts
+HasNoOperand (Plain word ∷ parts) = HasNoOperand parts
 
 -- the matches have these parts
 pub record IsMatchOf (parts : List Part) (m : ArgMatches) : Type 0 where
   pub rows : rows_of (found_of m) ≡ map part_row parts
-  pub apart : HasNoModule parts
+  pub apart : HasNoOperand parts
 
 -- the matches have the parts of the words
 pub record HasParts (names : List Text) (takes : Bool) (words : List Text) (m : ArgMatches) : Type 0 where
@@ -83,4 +83,4 @@ fault_of_kind _ = Usage
 -- no two names are one, and none is the argument's of a word without an option
 abbrev pub are_distinct : List Text → Bool
 are_distinct [] = true
-are_distinct (name ∷ names) = not (bytes_eq name module_id) && (not (is_among name names) && are_distinct names)
+are_distinct (name ∷ names) = not (bytes_eq name operand_id) && (not (is_among name names) && are_distinct names)

@@ -10,4 +10,5 @@ mod reading;
 
 pub use commands::Command;
 pub use fault::WordsFault;
+pub use numbers::number_in;
 pub use reading::command;

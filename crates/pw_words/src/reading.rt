@@ -2,13 +2,13 @@
 
 ghost use Rattle.std.specs.Prelude.{◌≡◌, ◌≢◌, ◌≤◌, ℕ, List, IfErr, IfOk, drop, map, string_bytes, codes, option_map, option_and_then, Option};
 ghost use Rattle.clap.specs.Matches.{first_value, found_of};
-ghost use Rattle.pw_words.specs.CommandLine.{Part, Reads, colours_in, command_of, go_of, go_in, command_by_name, module_in, number_or, parts_of, stack_in, steps_in, phase_one_of, phase_two_of, analyse_of, link_of, run_of, list_of, db_of};
+ghost use Rattle.pw_words.specs.CommandLine.{Part, Reads, colours_in, command_of, go_of, command_by_name, module_in, number_or, parts_of, seed_in, stack_in, steps_in, with_build, with_run, build_of, session_of, bench_of, phase_one_of, phase_two_of, analyse_of, link_of, run_of, list_of, db_of};
 ghost use Rattle.pw_words.specs.Reading.{IsMatchOf};
 
 use crate::commands::Command;
 use crate::fault::WordsFault;
 use crate::numbers::number_in;
-use crate::reader::{MODULE, read_parts};
+use crate::reader::{OPERAND, read_parts};
 use clap::ArgMatches;
 use pw_modules::is_module_name;
 use pw_value::limits::{STACK_LEAST, STACK_MOST};
@@ -24,9 +24,12 @@ const STACK: &str = "stack";
 /// How many instructions a run may take.
 const STEPS: &str = "steps";
 
-/// The options of each command that has some.
-const GO: [&str; 3] = [COLOURS, STACK, STEPS];
+/// The options of a build, and of a build and a run.
+const BUILD: [&str; 2] = [COLOURS, STACK];
 
+const BUILD_AND_RUN: [&str; 3] = [COLOURS, STACK, STEPS];
+
+/// The options of the other commands that have some.
 const ANALYSE: [&str; 1] = [COLOURS];
 
 const LINK: [&str; 1] = [STACK];
@@ -41,6 +44,9 @@ const USUAL_STACK: u64 = 1_048_576;
 
 /// The greatest count of instructions of a run.
 const MOST_STEPS: u64 = 4_611_686_018_427_387_904;
+
+/// The greatest number from which modules are made.
+const MOST_SEED: u64 = 4_294_967_295;
 
 /// The count of instructions that stands for none given.
 const USUAL_STEPS: u64 = 100_000_000;
@@ -98,7 +104,7 @@ fn steps(matches: &ArgMatches) -> Result<u64, WordsFault>
 fn module(alloc: Global, matches: &ArgMatches) -> Result<Name, WordsFault>
     ensures { (parts : List Part) → IsMatchOf parts matches.now → Reads (module_in parts) result }
 {
-    let Some(name) = matches.get_str(MODULE) else {
+    let Some(name) = matches.get_str(OPERAND) else {
         return Err(WordsFault::Usage);
     };
     if !is_module_name(name.as_bytes()) {
@@ -111,11 +117,46 @@ fn module(alloc: Global, matches: &ArgMatches) -> Result<Name, WordsFault>
     }
 }
 
+/// The number from which modules are made, by the words.
+fn seed(matches: &ArgMatches) -> Result<u32, WordsFault>
+    ensures read { (parts : List Part) → IsMatchOf parts matches.now → Reads (seed_in parts) result }
+    ensures no_memory { IfErr result (λ fault. fault ≢ WordsFault.NoMemory) }
+{
+    let Some(text) = matches.get_str(OPERAND) else {
+        return Err(WordsFault::Usage);
+    };
+    match number_in(0, MOST_SEED, text) {
+        Some(number) => Ok(number as u32),
+        None => Err(WordsFault::Usage),
+    }
+}
+
 fn go(alloc: Global, words: &[String]) -> Result<Command, WordsFault>
     ensures { Reads (go_of (drop 1 (map string_bytes words.now))) result }
 {
-    let matches = read_parts(alloc, words, &GO, false)?;
+    let matches = read_parts(alloc, words, &BUILD_AND_RUN, false)?;
     Ok(Command::Go {
+        colours: colours(&matches)?,
+        stack: stack(&matches)?,
+        steps: steps(&matches)?,
+    })
+}
+
+fn build(alloc: Global, words: &[String]) -> Result<Command, WordsFault>
+    ensures { Reads (build_of (drop 1 (map string_bytes words.now))) result }
+{
+    let matches = read_parts(alloc, words, &BUILD, false)?;
+    Ok(Command::Build {
+        colours: colours(&matches)?,
+        stack: stack(&matches)?,
+    })
+}
+
+fn session(alloc: Global, words: &[String]) -> Result<Command, WordsFault>
+    ensures { Reads (session_of (drop 1 (map string_bytes words.now))) result }
+{
+    let matches = read_parts(alloc, words, &BUILD_AND_RUN, false)?;
+    Ok(Command::Session {
         colours: colours(&matches)?,
         stack: stack(&matches)?,
         steps: steps(&matches)?,
@@ -177,6 +218,18 @@ fn db(alloc: Global, words: &[String]) -> Result<Command, WordsFault>
     Ok(Command::Db)
 }
 
+fn bench(alloc: Global, words: &[String]) -> Result<Command, WordsFault>
+    ensures { Reads (bench_of (drop 1 (map string_bytes words.now))) result }
+{
+    let matches = read_parts(alloc, words, &BUILD_AND_RUN, true)?;
+    Ok(Command::Bench {
+        number: seed(&matches)?,
+        colours: colours(&matches)?,
+        stack: stack(&matches)?,
+        steps: steps(&matches)?,
+    })
+}
+
 /// The command of a name, by the words, of which the first is the name.
 #[tactic(auto, unfolding(crate::specs::CommandLine::command_by_name))]
 fn command_named(alloc: Global, name: &str, words: &[String]) -> Result<Command, WordsFault>
@@ -184,6 +237,8 @@ fn command_named(alloc: Global, name: &str, words: &[String]) -> Result<Command,
 {
     match name {
         "go" => go(alloc, words),
+        "build" => build(alloc, words),
+        "session" => session(alloc, words),
         "phase1" => phase_one(alloc, words),
         "analyse" => analyse(alloc, words),
         "phase2" => phase_two(alloc, words),
@@ -191,6 +246,7 @@ fn command_named(alloc: Global, name: &str, words: &[String]) -> Result<Command,
         "run" => run(alloc, words),
         "list" => list(alloc, words),
         "db" => db(alloc, words),
+        "bench" => bench(alloc, words),
         _ => Err(WordsFault::Usage),
     }
 }

@@ -11,7 +11,7 @@ use Rattle.pw_words.proofs.reader.read_parts.Goals as goal
 pub returns-in-Ok-clause-parts : goal.returns-in-Ok-clause-parts
 returns-in-Ok-clause-parts c =
     let names = map (λ o. o.now) c.args.options.now in
-    let takes = c.args.takes_module in
+    let takes = c.args.takes_operand in
     let words = map string_bytes c.args.words.now in
     let m = c.in-Ok.matches in
     let clean = subst (λ (a : App). is_simple_and_free a ≡ true → FailsBy {T = ArgMatches} (fault_of a words) (Ok m)) c.in_ok-command.ensures c.in-Ok.ensures.kinds (simple names takes) in
@@ -20,7 +20,7 @@ returns-in-Ok-clause-parts c =
 pub returns-in-Err-clause-refusal : goal.returns-in-Err-clause-refusal
 returns-in-Err-clause-refusal c =
     let names = map (λ o. o.now) c.args.options.now in
-    let takes = c.args.takes_module in
+    let takes = c.args.takes_operand in
     let words = map string_bytes c.args.words.now in
     let e = c.in-Err.error in
     let kinds = subst (λ (a : App). is_simple_and_free a ≡ true → FailsBy {T = ArgMatches} (fault_of a words) (Err e)) c.in_ok-command.ensures c.in-Err.ensures.kinds (simple names takes) in

@@ -1,0 +1,2 @@
+pub mod OthersLemmas
+pub mod DrivingLemmas

@@ -1,0 +1,66 @@
+-- What the command `build` comes to, and what it leaves alone.
+use Rattle.std.specs.Prelude.{◌≡◌, ◌≤◌, ℕ, List, ◌++◌, length, Option, IsSomeAnd, Result, Ok, Err}
+use Rattle.sha2.specs.Sha256.{sha256}
+use Rattle.pw_io.specs.Files.{Files, Told}
+use Rattle.pw_answer.specs.declared.answer.Answer.{Answer}
+use Rattle.pw_answer.specs.declared.answer.Answer.TheVariants.{Done, Refused, LinkRefused, WriteFault, StoreFault, NoMemory}
+use Rattle.pw_answer.specs.Effects.{Effect, answers_alone}
+use Rattle.pw_build.specs.declared.fault.BuildFault.{BuildFault}
+use Rattle.pw_building.specs.Building.{BuildComes, Outcome}
+use Rattle.pw_building.specs.Lines.{report_lines}
+use Rattle.pw_building.specs.Outcomes.{fault_answer}
+use Rattle.pw_commands.specs.Others.{IsSameBut}
+
+-- ---- what the command comes to
+
+-- the two lines of a build's report
+abbrev pub outcome_lines : Outcome → List ℕ
+outcome_lines outcome = report_lines (length outcome.rebuilt) outcome.modules (length outcome.image) (sha256 outcome.image)
+
+-- A build is done, its files are put and its two lines put out; a refusal is told.
+abbrev pub built_effect : Result Outcome BuildFault → List ℕ → Effect
+built_effect (Ok outcome) input = record { answer = Done; puts = outcome.puts; output = outcome_lines outcome; rest = input }
+built_effect (Err fault) input = answers_alone (fault_answer fault) input
+
+-- `build` over a store's files, for so many registers and such a stack
+abbrev pub BuildComesTo : Files → ℕ → ℕ → List ℕ → Effect → Type 0
+BuildComesTo files colours stack input effect =
+    (comes : Result Outcome BuildFault) × BuildComes files colours stack comes × (effect ≡ built_effect comes input)
+
+-- the answers of the command
+abbrev pub IsBuildAnswer : Answer → Type 0
+IsBuildAnswer Done = Unit {0}
+IsBuildAnswer (Refused name refusal) = Unit {0}
+IsBuildAnswer (LinkRefused fault) = Unit {0}
+IsBuildAnswer WriteFault = Unit {0}
+IsBuildAnswer StoreFault = Unit {0}
+IsBuildAnswer NoMemory = Unit {0}
+IsBuildAnswer _ = ⊥
+
+-- the line, where the answer names a module
+abbrev pub IsLineDue : ℕ → Answer → ℕ → Type 0
+IsLineDue due (Refused name refusal) line = line ≡ due
+IsLineDue due _ line = Unit {0}
+
+-- ---- what it leaves alone
+
+-- The store tells the names that were put besides, and every file has its old bytes, or is absent as before, but those
+-- of these names and perhaps of one more, whose put failed.
+pub record Unput (told left : Told) : Type 0 where
+  pub put : List (List ℕ)
+  pub failed : List (List ℕ)
+  pub one : length failed ≤ 1
+  pub told_so : left.puts ≡ told.puts ++ put
+  pub same : IsSameBut (put ++ failed) told.files left.files
+
+abbrev pub KeepsUnput : Told → Option Told → Type 0
+KeepsUnput told new = IsSomeAnd new (Unput told)
+
+-- ---- inside the command
+
+-- the answers once the files were put
+abbrev pub IsReportAnswer : Answer → Type 0
+IsReportAnswer Done = Unit {0}
+IsReportAnswer WriteFault = Unit {0}
+IsReportAnswer NoMemory = Unit {0}
+IsReportAnswer _ = ⊥
