@@ -19,7 +19,7 @@ use Rattle.pw_building.specs.Building.{Outcome, puts_of}
 use Rattle.pw_building.specs.Lines.{report_lines, report_text}
 use Rattle.pw_building.specs.Outcomes.{FaultComes, FaultFound, IsLineOfBuild, ObeysBuild, Reports, fault_answer}
 use Rattle.pw_commands.specs.Outcome.{IsFound, Obeys}
-use Rattle.pw_driving.specs.Driving.{BuildComesTo, IsBuildAnswer, IsLineDue, IsReportAnswer, built_effect, outcome_lines}
+use Rattle.pw_driving.specs.Driving.{BuildComesTo, IsBuildAnswer, IsLineDue, IsPrintAnswer, built_effect, outcome_lines}
 
 appends_none : (taken : Option (List ℕ)) → Appends taken taken []
 appends_none None = tt
@@ -27,25 +27,25 @@ appends_none (Some xs) = sym (append-nil xs)
 
 -- ---- a build that is done
 
-done_answers : (a : Answer) → IsReportAnswer a → Answers answer.Done a
+done_answers : (a : Answer) → IsPrintAnswer a → Answers answer.Done a
 done_answers answer.Done h = refl
 done_answers answer.WriteFault h = tt
 done_answers answer.NoMemory h = tt
 done_answers _ h = absurd h
 
-all_put : (files : List NamedFile) (a : Answer) (told : Told) (new : Option Told) → IsReportAnswer a → new ≡ Some (after_puts told files) → PutsFiles files a told new
+all_put : (files : List NamedFile) (a : Answer) (told : Told) (new : Option Told) → IsPrintAnswer a → new ≡ Some (after_puts told files) → PutsFiles files a told new
 all_put files answer.Done told new h e = e
 all_put files answer.WriteFault told new h e = e
 all_put files answer.NoMemory told new h e = record { done = files; more = []; split = sym (append-nil files); left = e }
 all_put files _ told new h e = absurd h
 
-found_done : (comes : Effect → Type 0) (one : Effect) (a : Answer) → comes one → one.answer ≡ answer.Done → IsReportAnswer a → IsFound comes a
+found_done : (comes : Effect → Type 0) (one : Effect) (a : Answer) → comes one → one.answer ≡ answer.Done → IsPrintAnswer a → IsFound comes a
 found_done comes one answer.Done c e h = (one, c, e)
 found_done comes one answer.WriteFault c e h = tt
 found_done comes one answer.NoMemory c e h = tt
 found_done comes one _ c e h = absurd h
 
-reported : (opts : Opts) (report : Report) (a : Answer) (told : Told) (new : Option Told) (input : List ℕ) → IsReportAnswer a → ObeysBuild opts (Ok report) told new → Obeys (BuildComesTo told.files opts.colours opts.stack input) a told new
+reported : (opts : Opts) (report : Report) (a : Answer) (told : Told) (new : Option Told) (input : List ℕ) → IsPrintAnswer a → ObeysBuild opts (Ok report) told new → Obeys (BuildComesTo told.files opts.colours opts.stack input) a told new
 reported opts report a told new input ok b = record {
   answers = λ e d. subst (λ (x : Effect). Answers x.answer a) (sym (is e d)) (done_answers a ok);
   puts = λ e d. subst (λ (x : Effect). PutsFiles x.puts a told new) (sym (is e d)) (all_put (b.answers d.0 d.1).0.puts a told new ok (put e d));
@@ -58,7 +58,7 @@ reported opts report a told new input ok b = record {
     put : (e : Effect) (d : BuildComesTo told.files opts.colours opts.stack input e) → new ≡ Some (after_puts told (b.answers d.0 d.1).0.puts)
     put e d = subst (λ (c : Result Outcome BuildFault). new ≡ Some (after_puts told (puts_of c))) (b.answers d.0 d.1).1 (b.puts d.0 d.1)
 
-pub report_obeys : (told new : Option Told) (opts : Opts) (report : Report) (a : Answer) → IsReportAnswer a → IfSome told (λ t. ObeysBuild opts (Ok report) t new)
+pub report_obeys : (told new : Option Told) (opts : Opts) (report : Report) (a : Answer) → IsPrintAnswer a → IfSome told (λ t. ObeysBuild opts (Ok report) t new)
     → IfSome told (λ t. (input : List ℕ) → Obeys (BuildComesTo t.files opts.colours opts.stack input) a t new)
 report_obeys None new opts report a ok h = tt
 report_obeys (Some t) new opts report a ok h = λ input. reported opts report a t new input ok h
@@ -94,25 +94,25 @@ part_out text (Some before) (Some after) h = record { output = take h.0 text; mo
 pub no_memory_out : (wanted : List ℕ) (taken : Option (List ℕ)) → PutsOut wanted answer.NoMemory taken taken
 no_memory_out wanted taken = record { output = []; more = wanted; taken = appends_none taken; front = refl; whole = tt }
 
-pub report_answer : (a : Answer) → IsReportAnswer a → IsBuildAnswer a
+pub report_answer : (a : Answer) → IsPrintAnswer a → IsBuildAnswer a
 report_answer answer.Done h = tt
 report_answer answer.WriteFault h = tt
 report_answer answer.NoMemory h = tt
 report_answer _ h = absurd h
 
-pub report_count : (before now : ℕ) (a : Answer) → IsReportAnswer a → now ≡ before → StoreCount before now a
+pub report_count : (before now : ℕ) (a : Answer) → IsPrintAnswer a → now ≡ before → StoreCount before now a
 report_count before now answer.Done h e = e
 report_count before now answer.WriteFault h e = e
 report_count before now answer.NoMemory h e = e
 report_count before now _ h e = absurd h
 
-pub report_streams : (a : Answer) (i i' o o' : Option (List ℕ)) → IsReportAnswer a → LeavesStreams a i i' o o'
+pub report_streams : (a : Answer) (i i' o o' : Option (List ℕ)) → IsPrintAnswer a → LeavesStreams a i i' o o'
 report_streams answer.Done i i' o o' h = tt
 report_streams answer.WriteFault i i' o o' h = tt
 report_streams answer.NoMemory i i' o o' h = tt
 report_streams _ i i' o o' h = absurd h
 
-pub report_line : (due : Files → ℕ) (told : Option Told) (a : Answer) (line : ℕ) → IsReportAnswer a → IfSome told (λ t. IsLineDue (due t.files) a line)
+pub report_line : (due : Files → ℕ) (told : Option Told) (a : Answer) (line : ℕ) → IsPrintAnswer a → IfSome told (λ t. IsLineDue (due t.files) a line)
 report_line due None a line h = tt
 report_line due (Some t) answer.Done line h = tt
 report_line due (Some t) answer.WriteFault line h = tt

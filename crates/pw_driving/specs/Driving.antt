@@ -56,11 +56,9 @@ pub record Unput (told left : Told) : Type 0 where
 abbrev pub KeepsUnput : Told → Option Told → Type 0
 KeepsUnput told new = IsSomeAnd new (Unput told)
 
--- ---- inside the command
-
--- the answers once the files were put
-abbrev pub IsReportAnswer : Answer → Type 0
-IsReportAnswer Done = Unit {0}
-IsReportAnswer WriteFault = Unit {0}
-IsReportAnswer NoMemory = Unit {0}
-IsReportAnswer _ = ⊥
+-- the answers of what only puts out
+abbrev pub IsPrintAnswer : Answer → Type 0
+IsPrintAnswer Done = Unit {0}
+IsPrintAnswer WriteFault = Unit {0}
+IsPrintAnswer NoMemory = Unit {0}
+IsPrintAnswer _ = ⊥

@@ -9,7 +9,7 @@ ghost use Rattle.pw_building.specs.Genuine.{KeepsGenuine};
 ghost use Rattle.pw_building.specs.Lines.{report_text};
 ghost use Rattle.pw_building.specs.Outcomes.{AreOpts, FaultCount, IsLineOfBuild, ObeysBuild, PutsSome, fault_answer};
 ghost use Rattle.pw_commands.specs.Outcome.{Obeys};
-ghost use Rattle.pw_driving.specs.Driving.{BuildComesTo, IsBuildAnswer, IsLineDue, IsReportAnswer, KeepsUnput};
+ghost use Rattle.pw_driving.specs.Driving.{BuildComesTo, IsBuildAnswer, IsLineDue, IsPrintAnswer, KeepsUnput};
 
 use pw_answer::{Answer, Reply};
 use pw_build::{BuildFault, Unbuilt};
@@ -58,11 +58,11 @@ pub fn build_uncounted<S: Store>(
     build_counted::<S, Brand>(alloc, store, opts, Blank::new(1))
 }
 
-/// Puts a text out.
+/// Puts a text out. The answer is `Done`, or `WriteFault` where the output failed.
 pub fn print<O: Sink>(out: &mut O, text: &[u8]) -> Answer
     ensures output { PutsOut text.now result (O.taken out.old) (O.taken out.new) }
     ensures write { OutputCount (O.faults out.old) (O.faults out.new) result }
-    ensures answer { IsReportAnswer result }
+    ensures answer { IsPrintAnswer result }
 {
     match out.put(text) {
         Ok(()) => Answer::Done,
@@ -70,11 +70,11 @@ pub fn print<O: Sink>(out: &mut O, text: &[u8]) -> Answer
     }
 }
 
-/// Puts the two lines of a report out.
-fn put_report<O: Sink>(alloc: Global, report: &Report, out: &mut O) -> Answer
+/// Puts the two lines of a report out. The answer is `Done`, or that the output failed or memory ran out.
+pub fn put_report<O: Sink>(alloc: Global, report: &Report, out: &mut O) -> Answer
     ensures output { PutsOut (report_text report.now) result (O.taken out.old) (O.taken out.new) }
     ensures write { OutputCount (O.faults out.old) (O.faults out.new) result }
-    ensures answer { IsReportAnswer result }
+    ensures answer { IsPrintAnswer result }
 {
     match report_lines(alloc, report) {
         Ok(text) => print(out, text.as_bytes()),

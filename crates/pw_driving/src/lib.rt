@@ -3,4 +3,4 @@
 
 mod driving;
 
-pub use driving::{answer_of, build_modules, build_uncounted, print};
+pub use driving::{answer_of, build_modules, build_uncounted, print, put_report};
