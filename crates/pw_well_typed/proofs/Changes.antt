@@ -141,7 +141,7 @@ entered s name entity l h = record {
         omega (arith, same)
 
 -- the names that are declared in the scope stay so
-entered_here : (s : State) (name : List ℕ) (entity : Entity) → entry_here s name ≡ None → (other : List ℕ) (e : Entry) → entry_here s other ≡ Some e
+pub entered_here : (s : State) (name : List ℕ) (entity : Entity) → entry_here s name ≡ None → (other : List ℕ) (e : Entry) → entry_here s other ≡ Some e
     → entry_here (enter name entity s) other ≡ Some e
 entered_here s name entity fresh other e h =
     ap (option_and_then (if_here s.scopes.depth)) (visible_more s.scopes.ordinary name (record { place = length s.scopes.entities; depth = s.scopes.depth }) other) ∙ by (bytes_eq other name) refl
@@ -476,7 +476,7 @@ deeper_lawful s l = record {
   depths = λ i e h. let k : e.1.depth ≤ s.scopes.depth = l.depths i e h in omega (arith, k);
 }
 
-lt_so : (a b : ℕ) → a < b → nat_lt a b ≡ true
+pub lt_so : (a b : ℕ) → a < b → nat_lt a b ≡ true
 lt_so a b h = by (nat_lt a b) refl
   where
     by : (c : Bool) → nat_lt a b ≡ c → nat_lt a b ≡ true

@@ -2,8 +2,9 @@
 use Rattle.pw_types.specs.Layouts.{layout_of, array_layout}
 use Rattle.pw_types.specs.Records.{IsObjectType}
 use Rattle.pw_well_typed.proofs.Objects.{completed_so, object_later}
-use Rattle.pw_well_typed.proofs.ObjectTypes.{IsWithin, object_is, within_fits}
-use Rattle.pw_well_typed.proofs.Declaring.{hidden_kept, hidden_put, entity_becomes, plain_entered, static_entered, Linkable, linkable, declared_goes, GoodPlace, DeclaredHere, here_later, defined_scopes, defined_place, visible_before, tentative_after, object_after, initialised_after, keeps_put, put_sound}
+use Rattle.pw_well_typed.proofs.Outside.{Outside, outside_trans}
+use Rattle.pw_well_typed.proofs.ObjectTypes.{KeepsLimit, within_keeps, function_keeps, IsWithin, object_is, within_fits}
+use Rattle.pw_well_typed.proofs.Declaring.{entered_outside, hidden_kept, hidden_put, entity_becomes, plain_entered, static_entered, Linkable, linkable, declared_goes, GoodPlace, DeclaredHere, here_later, defined_scopes, defined_place, visible_before, tentative_after, object_after, initialised_after, keeps_put, put_sound}
 use Rattle.pw_well_typed.proofs.Filling.{object_runs, runs_whatever}
 use Rattle.pw_well_typed.proofs.Locals.{place_of_new}
 use Rattle.pw_well_typed.proofs.Sound.{Sound, named_same, filling_same}
@@ -33,13 +34,13 @@ use Rattle.pw_rules.specs.Leaves.{alone_by, alone_rule, record_kind, first_of_li
 use Rattle.pw_rules.specs.Limits.{Spot, type_within, completed}
 use Rattle.pw_rules.specs.Linkage.{AsBefore, declare_linked, define_tentatively, define_object, initialise_linked, note_here, named_type, type_now, AsInternal, AsExternal, is_linked, is_internal_by, linked_before, place_for}
 use Rattle.pw_rules.specs.SpecifierLists.{Specified, nothing_gathered, is_typedef, is_extern, is_static, is_register}
-use Rattle.pw_rules.specs.States.{State, TypeName, LocalObject, StaticObject, is_file_scope, add_hidden, put_hidden, add_local, HiddenObject, next_hidden, next_local, tag_here, Entity, EnumerationConstant, Linked, entity_here, LinkedName, records_in, enter, put_at}
+use Rattle.pw_rules.specs.States.{State, TypeName, LocalObject, StaticObject, is_file_scope, add_hidden, put_hidden, add_local, HiddenObject, next_hidden, next_local, tag_here, Entity, EnumerationConstant, Linked, entity_here, entry_here, LinkedName, records_in, enter, put_at}
 use Rattle.pw_rules.specs.declared.names.Tag.{Tag}
 use Rattle.pw_well_typed.specs.Lawful.{IsLawful, IsLawfulType, IsObjectLike, IsLawfulTag, IsLawfulEntity, Extends}
 use Rattle.pw_well_typed.proofs.Types.{lawful_later, no, is_complete_so, complete_later, map_some, extends_same}
 use Rattle.pw_well_typed.proofs.Conversions.{no_function}
 use Rattle.pw_well_typed.proofs.Changes.{like_later, entered_sound}
-use Rattle.pw_well_typed.proofs.Leaves.{GoodType, GoodGathered, GoodSpecified, GoodDeclared, GoodReference, Fresh, specified_runs, built_runs, reference_by_runs, new_tag_runs, tag_here_lawful}
+use Rattle.pw_well_typed.proofs.Leaves.{GoodType, GoodGathered, GoodSpecified, GoodDeclared, GoodReference, Fresh, specified_runs, built_runs, reference_by_runs, new_tag_runs, tag_here_lawful, none_here}
 use Rattle.pw_well_typed.proofs.Phrases.{specifiers_post, declarator_post}
 use Rattle.pw_well_typed.proofs.Initialisers.{IsLawfully, lawful_stays, Stays, object_stays, covers_length, Completes, stays_complete, object_gives, single_no_array}
 use Rattle.pw_well_typed.proofs.Keeping.{after_same, after_trans, Kept, Goes, goes_by, of_runs, changed, asked, Anything, here_is, After, AfterBy, KeptBy, GoesBy, goes_between, after_grows, from_kept, kept_trans, AreLocals, after_by, knows_linked, keeps_longer, keeps_trans, entity_put, entered_kept, around}
@@ -105,7 +106,7 @@ initialised_post : (from s : State) (w : Word) (place : ℕ) (ty : QType) (items
 unfolding fitting_rule bind
 initialised_post from s w place ty items l a lawful known at named defined linked = λ met.
     let alike : compatible l.ty ty ≡ true = sym (ap (λ o. option_map_or (λ (x : LinkedName). compatible x.ty ty) o true) at) ∙ truth _ met.0 in
-    let k : KeptBy None None from (note_here w.text place ty (initialise_linked place ty items s)) = initialised_after from s w.text place ty items l a lawful known at named defined alike linked in
+    let k : KeptBy None None from (note_here w.text place ty (initialise_linked place ty items s)) = initialised_after from s w.text place ty items l a lawful known (within_keeps s.types.records (type_of ty) (within_fits s.types.records w.token ty met.1)) at named defined alike linked in
     (k.0, k.1, tt)
 
 abbrev Stored : Word → State → Slot
@@ -118,12 +119,12 @@ Defining w p before place e =
     × ((x : LinkedName) × (slice_get e.1.types.linked place ≡ Some x) × (x.name ≡ w.text) × (x.defined ≡ true)) × DeclaredHere w.text e.1.scopes
 
 -- with an initialiser
-defined_goes : (s : State) (w : Word) (b : Specified) (spot : Spot) (q : QType) (i : Initializer) → IsLawful s → IsLawfully s.types.records q → is_function (type_of q) ≡ false → Linkable s w.text q
+defined_goes : (s : State) (w : Word) (b : Specified) (spot : Spot) (q : QType) (i : Initializer) → IsLawful s → IsLawfully s.types.records q → KeepsLimit s.types.records (type_of q) → is_function (type_of q) ≡ false → Linkable s w.text q
     → Goes s (global_rule w b spot q (Some i) s) Anything
 unfolding global_rule
-defined_goes s w b spot q i l h object link =
+defined_goes s w b spot q i l h limit object link =
     post_bind _ _ (λ r. IsLawful r.1 × AfterBy None (Some (Stored w s)) s r.1 × GoodPlace w.text q (place_for s w.text) r.1 r.0) (λ r. IsLawful r.1 × After s r.1 × Unit {0})
-    (declared_goes (Some (Stored w s)) s w.text w.token b.tag (asking_of AGlobal b) q l h link (λ z none e f. refl)) (λ r g.
+    (declared_goes (Some (Stored w s)) s w.text w.token b.tag (asking_of AGlobal b) q l h limit link (λ z none e f. refl)) (λ r g.
     let k : KeptBy (Some (Stored w s)) (Some (Stored w s)) r.1 (define_object r.0 r.1) =
     object_after (Some (Stored w s)) (Some (Stored w s)) r.1 r.0 g.2.1.0 g.0 g.2.1.1 (g.2.1.3.function ∙ object) (λ n e. inr e) in
     let known : IsLawfully (define_object r.0 r.1).types.records q = lawful_later s.types.records (define_object r.0 r.1).types.records (after_trans g.1 k.1).extends (type_of q) h in
@@ -153,22 +154,22 @@ not_static b s name h none tentative internal = by (is_none b.storage) (is_stati
     by false false true e i = visible_before s name h none i
     by false false false e i = no i
 
-global_goes : (s : State) (w : Word) (b : Specified) (spot : Spot) (q : QType) (i : Option Initializer) → IsLawful s → IsObjectLike s.types.records q → Linkable s w.text q
+global_goes : (s : State) (w : Word) (b : Specified) (spot : Spot) (q : QType) (i : Option Initializer) → IsLawful s → IsObjectLike s.types.records q → KeepsLimit s.types.records (type_of q) → Linkable s w.text q
     → Goes s (global_rule w b spot q i s) Anything
 unfolding global_rule bind
-global_goes s w b spot q None l h link = by (is_tentative b) refl
+global_goes s w b spot q None l h limit link = by (is_tentative b) refl
   where
     by : (x : Bool) → is_tentative b ≡ x
         → Goes s (bind (declare_linked w.text w.token b.tag (asking_of AGlobal b) q s) (λ t. Done ([], if x then define_tentatively t.0 t.1 else t.1))) (Anything {A = List Initialiser})
     by true e =
         goes_between None (Some (Stored w s)) None (declare_linked w.text w.token b.tag (asking_of AGlobal b) q s) _ (GoodPlace w.text q (place_for s w.text)) Anything
-        (declared_goes (Some (Stored w s)) s w.text w.token b.tag (asking_of AGlobal b) q l h.lawful link (λ z none i f. refl)) (λ r m x g.
+        (declared_goes (Some (Stored w s)) s w.text w.token b.tag (asking_of AGlobal b) q l h.lawful limit link (λ z none i f. refl)) (λ r m x g.
         let k : KeptBy (Some (Stored w s)) None r.1 (define_tentatively r.0 r.1) =
         tentative_after (Some (Stored w s)) None r.1 r.0 g.1.0 m g.1.1 (g.1.3.function ∙ not_function (type_of q) h.object) (λ n e. inl (sym (g.0 ∙ named_same (some_same e)))) in (k.0, k.1, tt))
     by false e =
         goes_by (declare_linked w.text w.token b.tag (asking_of AGlobal b) q s) _ (GoodPlace w.text q (place_for s w.text)) Anything
-        (declared_goes None s w.text w.token b.tag (asking_of AGlobal b) q l h.lawful link (λ z none i f. absurd (not_static b s w.text z none e i))) (λ r m x g. (m, after_same r.1, tt))
-global_goes s w b spot q (Some i) l h link = defined_goes s w b spot q i l h.lawful (not_function (type_of q) h.object) link
+        (declared_goes None s w.text w.token b.tag (asking_of AGlobal b) q l h.lawful limit link (λ z none i f. absurd (not_static b s w.text z none e i))) (λ r m x g. (m, after_same r.1, tt))
+global_goes s w b spot q (Some i) l h limit link = defined_goes s w b spot q i l h.lawful limit (not_function (type_of q) h.object) link
 
 -- ---- static locals
 
@@ -182,20 +183,20 @@ completed_stays q = record {
   lengthened = λ r n t h. (object_stays.lengthened r n t h.0, covers_trans (covers_length n t) h.1);
 }
 
-static_goes : (s : State) (w : Word) (q : QType) (i : Option Initializer) → IsLawful s → IsObjectLike s.types.records q → Goes s (static_rule w q i s) Anything
+static_goes : (s : State) (w : Word) (q : QType) (i : Option Initializer) → IsLawful s → IsObjectLike s.types.records q → entry_here s w.text ≡ None → Goes s (static_rule w q i s) Anything
 unfolding static_rule completed_rule bind
-static_goes s w q None l h =
+static_goes s w q None l h fresh =
     let x : HiddenObject = hidden_of q [] (not (is_const_object q)) in
     let a : Kept s (add_hidden (hidden_of q [] (not (is_const_object q))) s) = hidden_kept s (hidden_of q [] (not (is_const_object q))) l in
     let c : Kept (add_hidden (hidden_of q [] (not (is_const_object q))) s) (enter w.text (StaticObject (next_hidden s) q) (add_hidden (hidden_of q [] (not (is_const_object q))) s)) =
-    static_entered (add_hidden (hidden_of q [] (not (is_const_object q))) s) w.text (next_hidden s) q (hidden_of q [] (not (is_const_object q))) a.0 h (get_last s.made.hidden (hidden_of q [] (not (is_const_object q)))) (covers_same q) in
+    static_entered (add_hidden (hidden_of q [] (not (is_const_object q))) s) w.text (next_hidden s) q (hidden_of q [] (not (is_const_object q))) a.0 h (get_last s.made.hidden (hidden_of q [] (not (is_const_object q)))) (covers_same q) fresh in
     (c.0, after_trans a.1 c.1, tt)
-static_goes s w q (Some i) l h =
+static_goes s w q (Some i) l h fresh =
     let x : HiddenObject = hidden_of q [] (not (is_const_object q)) in
     let t : State = enter w.text (StaticObject (next_hidden s) q) (add_hidden (hidden_of q [] (not (is_const_object q))) s) in
     let a : Kept s (add_hidden (hidden_of q [] (not (is_const_object q))) s) = hidden_kept s (hidden_of q [] (not (is_const_object q))) l in
     let c : Kept (add_hidden (hidden_of q [] (not (is_const_object q))) s) (enter w.text (StaticObject (next_hidden s) q) (add_hidden (hidden_of q [] (not (is_const_object q))) s)) =
-    static_entered (add_hidden (hidden_of q [] (not (is_const_object q))) s) w.text (next_hidden s) q (hidden_of q [] (not (is_const_object q))) a.0 h (get_last s.made.hidden (hidden_of q [] (not (is_const_object q)))) (covers_same q) in
+    static_entered (add_hidden (hidden_of q [] (not (is_const_object q))) s) w.text (next_hidden s) q (hidden_of q [] (not (is_const_object q))) a.0 h (get_last s.made.hidden (hidden_of q [] (not (is_const_object q)))) (covers_same q) fresh in
     from_kept _ Anything (kept_trans a c)
     (goes_by (object_rule (context_of w true (next_hidden s)) q i.init (enter w.text (StaticObject (next_hidden s) q) (add_hidden (hidden_of q [] (not (is_const_object q))) s))) _
     (λ u o. IsCompleted q u.types.records o.ty × Grows (enter w.text (StaticObject (next_hidden s) q) (add_hidden (hidden_of q [] (not (is_const_object q))) s)) u) Anything
@@ -350,17 +351,20 @@ local_sound s w q register z =
 local_keeps : (s : State) (x : Entity) → Rattle.pw_well_typed.proofs.Keeping.Keeps s.scopes.entities (s.scopes.entities ++ x ∷ [])
 local_keeps s x = keeps_longer s.scopes.entities (s.scopes.entities ++ x ∷ []) (λ k e f. get_append s.scopes.entities (x ∷ []) k e f)
 
-local_goes : (s : State) (w : Word) (b : Specified) (spot : Spot) (q : QType) (i : Option Initializer) → IsLawful s → IsObjectLike s.types.records q → AreMet (object_point s.types.records spot (is_some i) q) → IsWithin s.types.records (type_of q)
+local_outside : (s : State) (w : Word) (q : QType) (register : Bool) → entry_here s w.text ≡ None → Outside s.scopes (enter w.text (LocalObject (next_local s) q register) s).scopes
+local_outside s w q register fresh = entered_outside s w.text (LocalObject (next_local s) q register) fresh
+
+local_goes : (s : State) (w : Word) (b : Specified) (spot : Spot) (q : QType) (i : Option Initializer) → IsLawful s → IsObjectLike s.types.records q → AreMet (object_point s.types.records spot (is_some i) q) → IsWithin s.types.records (type_of q) → entry_here s w.text ≡ None
     → Goes s (local_rule w b q i s) Anything
 unfolding local_rule bind
-local_goes s w b spot q None l h met fits =
+local_goes s w b spot q None l h met fits fresh =
     let whole : IsObjectType s.types.records (type_of q) = object_is s.types.records (type_of q) (is_complete_so s.types.records (type_of q) (completed_so s.types.records spot CompleteObject (type_of q) met.0)) fits in (
       local_lawful s w q (is_register b.storage) l h,
-      after_by (knows_linked s (enter w.text (LocalObject (next_local s) q (is_register b.storage)) (add_local (local_of w q) s)) (extends_same s.types.records) refl refl (filling_same s.made.hidden))
-          (λ z. local_keeps s (LocalObject (next_local s) q (is_register b.storage))) (λ z. local_sound s w q (is_register b.storage) z) (λ z. local_more s w q (is_register b.storage) h whole z),
+      after_by (knows_linked s (enter w.text (LocalObject (next_local s) q (is_register b.storage)) (add_local (local_of w q) s)) (extends_same s.types.records) refl refl (filling_same s.made.hidden) refl)
+          (λ z. local_keeps s (LocalObject (next_local s) q (is_register b.storage))) (λ z. local_sound s w q (is_register b.storage) z) (λ z. local_more s w q (is_register b.storage) h whole z) (λ z. z) (local_outside s w q (is_register b.storage) fresh),
       tt,
     )
-local_goes s w b spot q (Some i) l h met fits =
+local_goes s w b spot q (Some i) l h met fits fresh =
     let m : IsLawful (enter w.text (LocalObject (next_local s) q (is_register b.storage)) (add_local (local_of w q) s)) = local_lawful s w q (is_register b.storage) l h in
     post_bind (local_initialiser (is_by_bytes (type_of q) i.init) w (next_local s) q i.init (enter w.text (LocalObject (next_local s) q (is_register b.storage)) (add_local (local_of w q) s))) _
     (λ u. IsLawful u.1 × After (enter w.text (LocalObject (next_local s) q (is_register b.storage)) (add_local (local_of w q) s)) u.1 × GoodLocal (enter w.text (LocalObject (next_local s) q (is_register b.storage)) (add_local (local_of w q) s)) u.1 u.0)
@@ -372,7 +376,7 @@ local_goes s w b spot q (Some i) l h met fits =
     let e = entity_put (put_local (next_local s) (local_of w u.0.0) u.1) (place_here (enter w.text (LocalObject (next_local s) q (is_register b.storage)) (add_local (local_of w q) s)) w.text)
     (LocalObject (next_local s) u.0.0 (is_register b.storage)) (around u.1 u.1.made (put_local (next_local s) (local_of w u.0.0) u.1).body g.0 refl).0 g.2.0 in (
       e.0,
-      after_by (record { extends = g.1.extends; names = g.1.names; functions = g.1.functions; hidden = g.1.hidden })
+      after_by (record { extends = g.1.extends; names = g.1.names; functions = g.1.functions; hidden = g.1.hidden; depth = g.1.depth })
           (λ z. keeps_trans s.scopes.entities u.1.scopes.entities _
           (keeps_trans s.scopes.entities (s.scopes.entities ++ LocalObject (next_local s) q (is_register b.storage) ∷ []) u.1.scopes.entities (local_keeps s (LocalObject (next_local s) q (is_register b.storage)))
           (g.1.entities (local_sound s w q (is_register b.storage) z)))
@@ -382,7 +386,8 @@ local_goes s w b spot q (Some i) l h met fits =
           let y = g.1.sound (local_sound s w q (is_register b.storage) z) in
           put_sound None (put_local (next_local s) (local_of w u.0.0) u.1) (place_here (enter w.text (LocalObject (next_local s) q (is_register b.storage)) (add_local (local_of w q) s)) w.text)
           (LocalObject (next_local s) u.0.0 (is_register b.storage)) (LocalObject (next_local s) q (is_register b.storage)) there tt tt (record { backed = y.backed; spelled = y.spelled; functions = y.functions; slots = y.slots }))
-          (λ z. local_made s u.1 w q u.0.0 g.1.extends g.2.0 g.2.1 g.2.3 z),
+          (λ z. local_made s u.1 w q u.0.0 g.1.extends g.2.0 g.2.1 g.2.3 z) g.1.within
+          (outside_trans s.scopes (enter w.text (LocalObject (next_local s) q (is_register b.storage)) s).scopes u.1.scopes (local_outside s w q (is_register b.storage) fresh) g.1.outside),
       tt,
     ))
 
@@ -409,21 +414,21 @@ sort_fits outside b q = by (is_typedef b.storage) (is_function (type_of q)) refl
 declare_goes : (s : State) (sort : Sort) (w : Word) (b : Specified) (spot : Spot) (q : QType) (i : Option Initializer) → IsLawful s → IsLawfulType s.types.records (type_of q) → Fits sort q
     → AreMet (sort_point s sort spot w (is_some i) b q) → IsWithin s.types.records (type_of q) → Goes s (declare_rule sort w b spot q i s) Anything
 unfolding declare_rule bind
-declare_goes s ATypedef w b spot q i l h f met fits = let a : Kept s (enter w.text (TypeName q) s) = plain_entered s w.text (TypeName q) l h tt in (a.0, a.1, tt)
+declare_goes s ATypedef w b spot q i l h f met fits = let a : Kept s (enter w.text (TypeName q) s) = plain_entered s w.text (TypeName q) l h tt (none_here s w.text (truth _ met.0)) in (a.0, a.1, tt)
 declare_goes s AFunction w b spot q i l h f met fits =
     goes_by (declare_linked w.text w.token b.tag (asking_of AFunction b) q s) _ (GoodPlace w.text q (place_for s w.text)) Anything
-    (declared_goes None s w.text w.token b.tag (asking_of AFunction b) q l h (linkable s w.text w.token (is_internal_by s w.text (asking_of AFunction b)) q (function_point s b w.token (is_some i)) met)
+    (declared_goes None s w.text w.token b.tag (asking_of AFunction b) q l h (function_keeps s.types.records (type_of q) f) (linkable s w.text w.token (is_internal_by s w.text (asking_of AFunction b)) q (function_point s b w.token (is_some i)) met)
     (λ z none e g. no (sym g ∙ f))) (λ r m x k. (m, after_same r.1, tt))
 declare_goes s AGlobal w b spot q i l h f met fits =
-    global_goes s w b spot q i l (record { lawful = h; object = f })
+    global_goes s w b spot q i l (record { lawful = h; object = f }) (within_keeps s.types.records (type_of q) fits)
     (linkable s w.text w.token (is_internal_by s w.text (asking_of AGlobal b)) q (definition_point s w (is_some i) ++ global_point (records_in s) spot (is_some i) b q) met)
 declare_goes s AnExtern w b spot q i l h f met fits =
     goes_by (declare_linked w.text w.token b.tag AsBefore q s) _ (GoodPlace w.text q (place_for s w.text)) Anything
-    (declared_goes None s w.text w.token b.tag AsBefore q l h
+    (declared_goes None s w.text w.token b.tag AsBefore q l h (within_keeps s.types.records (type_of q) fits)
     (linkable s w.text w.token (is_internal_by s w.text AsBefore) q (needs InitialisedHere w.token (not (is_some i)) ∷ needs CompleteObject w.token (not (is_void (type_of q))) ∷ []) met)
     (λ z none e g. absurd (visible_before s w.text z none e))) (λ r m x k. (m, after_same r.1, tt))
-declare_goes s AStatic w b spot q i l h f met fits = static_goes s w q i l (record { lawful = h; object = f })
-declare_goes s ALocal w b spot q i l h f met fits = local_goes s w b spot q i l (record { lawful = h; object = f }) met.1 fits
+declare_goes s AStatic w b spot q i l h f met fits = static_goes s w q i l (record { lawful = h; object = f }) (none_here s w.text (truth _ met.0))
+declare_goes s ALocal w b spot q i l h f met fits = local_goes s w b spot q i l (record { lawful = h; object = f }) met.1 fits (none_here s w.text (truth _ met.0))
 
 -- ---- declarations
 

@@ -193,7 +193,7 @@ enumerator_value_runs s first e l = λ met. (l, grows_same s, tt)
 
 -- ---- enumerations
 
-none_here : (s : State) (name : List ℕ) → is_none (entry_here s name) ≡ true → entry_here s name ≡ None
+pub none_here : (s : State) (name : List ℕ) → is_none (entry_here s name) ≡ true → entry_here s name ≡ None
 none_here s name e = by (entry_here s name) e
   where
     by : (o : Option Entry) → is_none o ≡ true → o ≡ None

@@ -34,6 +34,9 @@ pub mod Parameters
 pub mod Bodies
 pub mod Statements
 pub mod Ending
+pub mod Outside
+pub mod Named
+pub mod Final
 pub mod Backward
 pub mod Modules
 pub mod Laws
