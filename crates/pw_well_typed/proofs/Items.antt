@@ -36,13 +36,9 @@ use Rattle.pw_well_typed.proofs.Phrases.{expr_post, valued}
 use Rattle.pw_well_typed.proofs.Parts.{sized, next_inside, element_is, element_next, array_sized}
 use Rattle.pw_well_typed.proofs.Cursors.{Whole, Chain, Begins, Ends, At, passed_begins, reached_at, whole_part, chain_top}
 use Rattle.pw_well_typed.proofs.ItemBytes.{scalar_item, take_short}
+use Rattle.pw_well_typed.proofs.Settled.{Rise}
 
 -- ---- items in order
-
--- from an offset on, up to another, each item behind the one before
-abbrev pub Rise : ℕ → ℕ → List PlacedItem → Type 0
-Rise from size [] = from ≤ size
-Rise from size (p ∷ rest) = (from ≤ p.offset) × Rise (p.offset + item_size p.item) size rest
 
 rise_more : (from mid size : ℕ) (xs : List PlacedItem) (p : PlacedItem) → Rise from mid xs → mid ≤ p.offset → p.offset + item_size p.item ≤ size → Rise from size (xs ++ p ∷ [])
 rise_more from mid size [] p h k e = (omega (arith, h, k), e)

@@ -23,15 +23,9 @@ use Rattle.pw_well_typed.proofs.Lists.{some_same, never_some, get_either, get_on
 use Rattle.pw_well_typed.proofs.States.{Runs, goes_on, Grows, grows_same, grows_trans}
 use Rattle.pw_well_typed.proofs.Phrases.{expr_post}
 use Rattle.pw_well_typed.proofs.ItemBytes.{IsByte, HasBytes, scalar_bytes, string_small, within_small}
-use Rattle.pw_well_typed.proofs.Symbols.{IsHere, HasHere, symbol_later, cast_here, IsCounted, counted_later, Whole, WholeValue, whole, value_whole, expr_here, place_here}
+use Rattle.pw_well_typed.proofs.Symbols.{HasHere, symbol_later, cast_here, IsCounted, counted_later, Whole, WholeValue, whole, value_whole, expr_here, place_here}
 use Rattle.pw_rules.specs.Constants.{AsAddress}
-
-abbrev pub IsKnownItem : State → ItemValue → Type 0
-IsKnownItem s (ItemBytes bytes) = All IsByte bytes
-IsKnownItem s (ItemAddress symbol offset) = IsHere s symbol
-
-abbrev pub AreKnownItems : State → List PlacedItem → Type 0
-AreKnownItems s items = (i : ℕ) (p : PlacedItem) → slice_get items i ≡ Some p → IsKnownItem s p.item
+use Rattle.pw_well_typed.proofs.Settled.{IsHere, IsKnownItem, AreKnownItems}
 
 item_later : (s t : State) → Grows s t → (item : ItemValue) → IsKnownItem s item → IsKnownItem t item
 item_later s t g (ItemBytes bytes) h = h

@@ -6,14 +6,15 @@ use Rattle.pw_scope.specs.Visible.{visible}
 use Rattle.pw_well_typed.proofs.Named.{Asked, end_met, tentative_object}
 use Rattle.pw_well_typed.proofs.Outside.{AreShallow, StaysOutside, filter_more}
 use Rattle.pw_rules.specs.Compatible.{compatible}
+use Rattle.pw_well_typed.proofs.Settled.{symbol_continues, Settled, origins_same, scopes_settled, settles}
 use Rattle.pw_well_typed.proofs.Ending.{start_sound, globals_apart, kinds_apart, functions_external, globals_declared, all_at}
 use Rattle.pw_types.specs.TypedModules.{IsDeclaredIfExternal}
 use Rattle.pw_rules.specs.Kinds.{is_function}
 use Rattle.pw_rules.specs.Limits.{Spot}
-use Rattle.pw_well_typed.proofs.Composite.{Covers, covers_trans}
+use Rattle.pw_well_typed.proofs.Composite.{Covers, covers_trans, covers_same}
 use Rattle.pw_well_typed.proofs.States.{Grows}
-use Rattle.pw_well_typed.proofs.Declaring.{symbol_continues, declared_goes, GoodPlace, DeclaredAt, Linkable, function_after, mapped}
-use Rattle.pw_well_typed.proofs.Sound.{Sound, Spelled, plain_spelled, IsFunctionNamed}
+use Rattle.pw_well_typed.proofs.Declaring.{declared_goes, GoodPlace, DeclaredAt, Linkable, function_after, mapped}
+use Rattle.pw_well_typed.proofs.Sound.{Sound, Spelled, plain_spelled, IsFunctionNamed, continues_same, filling_same}
 use Rattle.pw_rules.specs.SpecifierLists.{Specified}
 use Rattle.std.specs.Option.{option_map_or}
 use Rattle.std.proofs.lemmas.Bool.{eqb-true}
@@ -41,13 +42,13 @@ use Rattle.pw_rules.specs.declared.names.TagEntry.{TagEntry}
 use Rattle.pw_well_typed.specs.Lawful.{IsLawful, IsLawfulTag, IsLawfulType, IsObjectLike, Extends}
 use Rattle.pw_well_typed.proofs.Walking.{Post, post_bind, truth, AreMet, post_weaken, post_both}
 use Rattle.pw_well_typed.proofs.Lists.{get_either, get_map, get_filter, get_within, some_same, never_some, get_more, put_same, get_append}
-use Rattle.pw_well_typed.proofs.Types.{lawful_later, lawful_known, no, not_true}
+use Rattle.pw_well_typed.proofs.Types.{lawful_later, lawful_known, no, not_true, extends_same}
 use Rattle.pw_well_typed.proofs.Changes.{left_lawful_alone, tag_later, like_later}
 use Rattle.pw_well_typed.proofs.Leaves.{GoodType, GoodSpecified, GoodDeclared, GoodBindings, GoodIfAny, bindings_later, built_runs, scalars_later, AreScalars}
 use Rattle.pw_well_typed.proofs.Phrases.{declarator_post}
 use Rattle.pw_well_typed.proofs.Declarations.{specified_goes, decl_goes}
 use Rattle.pw_well_typed.proofs.Statements.{block_goes}
-use Rattle.pw_well_typed.proofs.Keeping.{After, after_same, after_trans, Kept, Goes, of_runs, met_first, Anything, none_named, place_is, named_before, weaker, after_by, plain_stays, Later, later_after, later_trans, after_grows, scope_after, shallow_sound}
+use Rattle.pw_well_typed.proofs.Keeping.{After, after_same, after_trans, Kept, Goes, of_runs, met_first, Anything, none_named, place_is, named_before, weaker, after_by, plain_stays, Later, later_after, later_trans, after_grows, scope_after, shallow_sound, shallow_settled}
 
 -- ---- functions
 
@@ -130,19 +131,23 @@ body_entered v s q b names a l h shallow = (
         slots = hs.slots;
       })
       (λ z. parameters_like s b.parameters (scalars_later v.types.records s.types.records a.extends b.parameters h.scalars)) a.within
-      (λ z. outside (a.outside shallow)),
+      (λ z. outside (a.outside shallow))
+      (λ hv deep z. scopes_settled None s (enter_body q b names s) refl refl refl stays (a.settled (shallow_sound hv) shallow (shallow_settled z))),
 )
   where
+    stays : StaysOutside s.scopes (enter_body q b names s).scopes
+    stays name e f =
+        ap (λ xs. visible xs name)
+        (filter_more (λ (y : List ℕ × Entry). y.1.depth == 0) s.scopes.ordinary (map (λ (y : List ℕ × ℕ). (y.0, record { place = y.1; depth = s.scopes.depth + 1 })) b.ordinary) (λ i y g.
+        let k = get_map (λ (y : List ℕ × ℕ). let e : List ℕ × Entry = (y.0, record { place = y.1; depth = s.scopes.depth + 1 }) in e) b.ordinary i y g in
+        let same : s.scopes.depth + 1 ≡ y.1.depth = ap (λ (z : List ℕ × Entry). z.1.depth) k.2 in
+        subst (λ n. (n == 0) ≡ false) same (never_zero s.scopes.depth)))
+        ∙ f
+
     outside : AreShallow s.scopes × StaysOutside v.scopes s.scopes → AreShallow (enter_body q b names s).scopes × StaysOutside (one_deeper v).scopes (enter_body q b names s).scopes
     outside x = (
       (body_lawful s v.scopes.entities q b names l (record { scalars = scalars_later v.types.records s.types.records a.extends b.parameters h.scalars; tags = λ i t e. tag_later v.types.records s.types.records a.extends t.1 (h.tags i t e); plain = h.plain })).depths,
-      (λ name e f.
-          ap (λ xs. visible xs name)
-          (filter_more (λ (y : List ℕ × Entry). y.1.depth == 0) s.scopes.ordinary (map (λ (y : List ℕ × ℕ). (y.0, record { place = y.1; depth = s.scopes.depth + 1 })) b.ordinary) (λ i y g.
-          let k = get_map (λ (y : List ℕ × ℕ). let e : List ℕ × Entry = (y.0, record { place = y.1; depth = s.scopes.depth + 1 }) in e) b.ordinary i y g in
-          let same : s.scopes.depth + 1 ≡ y.1.depth = ap (λ (z : List ℕ × Entry). z.1.depth) k.2 in
-          subst (λ n. (n == 0) ≡ false) same (never_zero s.scopes.depth)))
-          ∙ x.1 name e f),
+      (λ name e f. stays name e (x.1 name e f)),
     )
 
     by_spelled : Sound None v → (i : ℕ) (e : List ℕ × Entry)
@@ -283,9 +288,21 @@ later_function s t f a named = record {
       record { backed = k.backed; spelled = k.spelled; functions = λ i g e. by k i g (get_more t.made.functions f i g e); slots = k.slots };
   within = a.within;
   outside = a.outside;
+  settled = λ h shallow z. function_settled (a.settled h shallow z);
   depth = a.depth;
 }
   where
+    function_settled : Settled None t → Settled None (add_function f t)
+    function_settled z =
+        settles None None t (add_function f t) (record {
+          extends = extends_same t.types.records;
+          names = λ n x e. (x, e, continues_same x);
+          hidden = filling_same t.made.hidden;
+          entities = λ k n r e. (r, e, covers_same r);
+          outside = λ name e g. g;
+          counting = refl;
+        }) (origins_same None t (add_function f t) refl refl) z
+
     by : Sound None t → (i : ℕ) (g : FunctionValue) → (slice_get t.made.functions i ≡ Some g) ⊎ ((i ≡ length t.made.functions) × (f ≡ g)) → IsFunctionNamed t.types.linked g
     by k i g (inl e) = k.functions i g e
     by k i g (inr e) = subst (IsFunctionNamed t.types.linked) e.1 named
@@ -404,19 +421,28 @@ end_goes (x ∷ rest) s l = λ met. end_goes rest s l
 abbrev pub AreTentatives : State → Type 0
 AreTentatives s = (n : ℕ) (l : LinkedName) → slice_get s.types.linked n ≡ Some l → (l.tentative && not l.defined) ≡ true → IsObjectType s.types.records (type_of (final_type s l))
 
-abbrev IsWhole : ModuleValue × State → Type 0
-IsWhole r = IsLawful r.1 × OnceDefined r.1 × Sound None r.1 × (r.0 ≡ module_in r.1) × AreWithin r.1.types.records r.1.types.linked × AreTentatives r.1 × (r.1.scopes.depth ≡ 0)
+abbrev pub IsWhole : ModuleValue × State → Type 0
+IsWhole r =
+    IsLawful r.1 × OnceDefined r.1 × Sound None r.1 × (r.0 ≡ module_in r.1) × AreWithin r.1.types.records r.1.types.linked × AreTentatives r.1 × (r.1.scopes.depth ≡ 0) × Settled None r.1
 
-module_post : (m : Module) (s : State) → IsLawful s → OnceDefined s → Sound None s → AreWithin s.types.records s.types.linked → s.scopes.depth ≡ 0 → Post (module_rule m s) IsWhole
+pub module_post : (m : Module) (s : State) → IsLawful s → OnceDefined s → Sound None s → AreWithin s.types.records s.types.linked → s.scopes.depth ≡ 0 → Settled None s → Post (module_rule m s) IsWhole
 unfolding module_rule
-module_post m s l o h within outer =
+module_post m s l o h within outer settled =
     post_bind _ _ (λ r. Onwards s r × (r.0 ≡ linked_in r.1)) IsWhole
     (post_bind _ _ (Onwards s) (λ r. Onwards s r × (r.0 ≡ linked_in r.1)) (externals_post m.externals s l o) (λ r k. (k, refl))) (λ r k.
     post_bind (end_rule r.0 r.1) _ (λ u. (IsLawful u.1 × After r.1 u.1 × Unit {0}) × ((u.1 ≡ r.1) × Asked r.0 r.1)) IsWhole
     (post_both (end_rule r.0 r.1) (λ u. IsLawful u.1 × After r.1 u.1 × Unit {0}) (λ u. (u.1 ≡ r.1) × Asked r.0 r.1) (end_goes r.0 r.1 k.0.0) (end_met r.0 r.1)) (λ u i.
     let tentatives : AreTentatives r.1 =
-    (λ n x at e. tentative_object r.1 n x k.0.0 (k.0.2.sound h) (k.0.2.within within) at e (i.1.1 n x (subst (λ xs. slice_get xs n ≡ Some x) (sym k.1) at))) in
-    (i.0.0, once_later i.0.1 k.0.1, i.0.1.sound (k.0.2.sound h), refl, i.0.1.within (k.0.2.within within), subst AreTentatives (sym i.1.0) tentatives, i.0.1.depth ∙ (k.0.2.depth ∙ outer))))
+    (λ n x at e. tentative_object r.1 n x k.0.0 (k.0.2.sound h) (k.0.2.within within) at e (i.1.1 n x (subst (λ xs. slice_get xs n ≡ Some x) (sym k.1) at))) in (
+      i.0.0,
+      once_later i.0.1 k.0.1,
+      i.0.1.sound (k.0.2.sound h),
+      refl,
+      i.0.1.within (k.0.2.within within),
+      subst AreTentatives (sym i.1.0) tentatives,
+      i.0.1.depth ∙ (k.0.2.depth ∙ outer),
+      i.0.1.settled (k.0.2.sound h) (k.0.2.outside l.depths).0 (k.0.2.settled h l.depths settled),
+    )))
 
 functions_apart : (s : State) → OnceDefined s → AllPairs (λ (f g : FunctionValue). f.name ≢ g.name) s.made.functions
 functions_apart s o i j d below within same =
@@ -483,7 +509,10 @@ sound s l o h = record {
 pub none_defined : OnceDefined start
 none_defined = record { locals = λ i f e. never_some e; placed = λ i f e. never_some e; apart = λ i j f g e h same. never_some e }
 
+pub start_settled : Settled None start
+start_settled = record { counting = refl; names = λ n l e f. never_some e; hidden = λ k h e. never_some e }
+
 pub checking_sound : (m : Module) → IsLawful start → Post (bind (module_rule m start) (λ r. Done r.0)) IsSound
 checking_sound m l =
-    post_bind (module_rule m start) (λ r. Done r.0) IsWhole IsSound (module_post m start l none_defined start_sound (λ n x e. never_some e) refl)
+    post_bind (module_rule m start) (λ r. Done r.0) IsWhole IsSound (module_post m start l none_defined start_sound (λ n x e. never_some e) refl start_settled)
     (λ r h. subst IsSound (sym h.3) (sound r.1 h.0 h.1 h.2))

@@ -39,22 +39,16 @@ use Rattle.pw_rules.specs.States.{State, LinkedName, HiddenObject, Entity, TypeN
 use Rattle.pw_rules.specs.declared.names.Entry.{Entry}
 use Rattle.pw_rules.specs.declared.names.Slot.{Slot}
 use Rattle.pw_well_typed.specs.Lawful.{IsLawful}
-use Rattle.pw_well_typed.proofs.Walking.{Post, post_bind, post_both, post_granted}
+use Rattle.pw_well_typed.proofs.Walking.{Post, post_bind, post_both, post_granted, after_any}
 use Rattle.pw_well_typed.proofs.Lists.{some_same, never_some, get_last}
 use Rattle.pw_well_typed.proofs.Types.{no}
 use Rattle.pw_well_typed.proofs.States.{Fine, FineValue, value_later, Runs, Grows, grows_trans}
 use Rattle.pw_well_typed.proofs.Sound.{Sound}
+use Rattle.pw_well_typed.proofs.Settled.{IsHere}
 use Rattle.pw_well_typed.proofs.Operations.{value_runs, step_runs, operation_runs, index_runs, AreFine, call_runs, dot_runs, arrow_runs}
 use Rattle.pw_well_typed.proofs.Leaves.{GoodType, GoodGathered, GoodSpecified, GoodDeclared, specified_runs, named_type_runs}
 use Rattle.pw_well_typed.proofs.Phrases.{expr_post, specifiers_post, declarator_post, arguments_post, later_type}
-use Rattle.pw_well_typed.proofs.FunctionTypes.{after_any}
 use Rattle.pw_well_typed.proofs.Changes.{in_sizeof}
-
--- an object without a name, or a name with linkage
-abbrev pub IsHere : State → Symbol → Type 0
-IsHere s (Hidden k) = (h : HiddenObject) × (slice_get s.made.hidden k ≡ Some h)
-IsHere s (External name) = (n : ℕ) × (l : LinkedName) × (slice_get s.types.linked n ≡ Some l) × (symbol_of_linked l ≡ External name)
-IsHere s (Internal name) = (n : ℕ) × (l : LinkedName) × (slice_get s.types.linked n ≡ Some l) × (symbol_of_linked l ≡ Internal name)
 
 -- in the forms of which addresses are made
 abbrev mutual
