@@ -1,6 +1,6 @@
 -- The numbers of a typed tree: each in an expression that is evaluated is one of 32 bits, as in each tree that the code makes. And
 -- the strings of a module.
-use Rattle.std.specs.Prelude.{ℕ, ◌≡◌, ◌<◌, ◌≤◌, ◌^◌, Bool, false, Option, None, Some, List, All, Contains}
+use Rattle.std.specs.Prelude.{ℕ, ◌≡◌, ◌<◌, ◌≤◌, ◌^◌, false, Option, None, Some, List, All, Contains}
 use Rattle.pw_value.specs.Limits.{size_limit}
 use Rattle.pw_types.specs.declared.kind.IntKind.TheVariants as K
 use Rattle.pw_types.specs.TypeTrees.{Int, Array, Qualified, type_of}
