@@ -1,0 +1,9 @@
+pub mod OutputLemmas
+pub mod BuildLemmas
+pub mod ChangeLemmas
+pub mod GenuineLemmas
+pub mod LineLemmas
+pub mod SessionLemmas
+pub mod TurnLemmas
+pub mod RunLemmas
+pub mod BenchLemmas
