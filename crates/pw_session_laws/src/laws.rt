@@ -1,0 +1,24 @@
+//! Laws of sessions. A function here does nothing: its clause is a fact about all values.
+
+ghost use Rattle.std.specs.Prelude.{List, ℕ};
+ghost use Rattle.pw_io.specs.Files.{Told};
+ghost use Rattle.pw_building.specs.Genuine.{KeepsGenuine};
+ghost use Rattle.pw_session.specs.Session.{Effects, SessionActs};
+ghost use Rattle.pw_session.specs.declared.opts.SessionOpts.{SessionOpts};
+ghost use Rattle.pw_session_laws.specs.Full.{SessionBuildsInFull};
+
+use pw_building::{
+    builds_leave_genuine_objects, genuine_objects_give_the_full_image, module_texts_are_no_objects,
+};
+use pw_io::laws::other_files;
+
+/// Where the kept objects are genuine before a session, each of its builds comes to the image of the full build of the
+/// texts as its lines left them, byte for byte, or to that build's fault.
+pub fn sessions_build_in_full()
+    ensures { (opts : SessionOpts) (told : Told) (script : List ℕ) (e : Effects) → KeepsGenuine told.files → SessionActs opts told script e → SessionBuildsInFull opts told script e }
+{
+    builds_leave_genuine_objects();
+    genuine_objects_give_the_full_image();
+    module_texts_are_no_objects();
+    other_files();
+}
