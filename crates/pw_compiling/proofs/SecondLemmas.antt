@@ -1,5 +1,5 @@
 -- What `phase2` answered and put, by the one object of the flow graph under the database.
-use Rattle.std.proofs.Common.{◌≡◌, ℕ, List, [], ◌∷◌, ◌++◌, All, map, codes, Option, Some, None, Result, Ok, Err, refl, sym, ap, ◌∙◌, subst}
+use Rattle.std.proofs.Common.{◌≡◌, ℕ, inl, inr, List, [], ◌∷◌, ◌++◌, All, map, codes, Option, Some, None, Result, Ok, Err, refl, sym, ap, ◌∙◌, subst, append-nil}
 use Rattle.std.specs.Prelude.{IfOk, IfSome, Vec}
 use Rattle.std.specs.declared.alloc.Global.{Global}
 use Rattle.pw_io.specs.Files.{Told, Keeps}
@@ -11,12 +11,12 @@ use Rattle.pw_object.specs.Object.{IsObjectFile}
 use Rattle.pw_phases.specs.Phases.{IsObjectOf}
 use Rattle.pw_answer.specs.declared.answer.Answer.{Answer}
 use Rattle.pw_answer.specs.declared.answer.Answer.TheVariants.{Done, StoreFault, NoMemory, BadFile}
-use Rattle.pw_answer.specs.Effects.{Effect, PutsFiles, answers_alone, puts_files}
+use Rattle.pw_answer.specs.Effects.{Effect, IsLeft, NamedFile, PutFront, PutPart, PutsFiles, after_puts, answers_alone, puts_files}
 use Rattle.pw_answer.specs.Outcomes.{Answers}
 use Rattle.pw_commands.specs.Needed.{StopsAs, needed}
 use Rattle.pw_commands.specs.Outcome.{IsFileStop, IsPutAnswer, IsStoreAnswer, Obeys}
 use Rattle.pw_commands.proofs.ObeysLemmas.{obeys_fault, obeys_no_memory, obeys_one, put_answers, puts_none}
-use Rattle.pw_compiling.specs.Second.{ComesOfFlow, IsFileOfFlow, IsObjectUnder, PhaseTwoComes, PhaseTwoOver, database_at, flow_at}
+use Rattle.pw_compiling.specs.Second.{ComesOfFlow, IsFileOfFlow, IsMade, IsMadeFile, IsObjectUnder, PhaseTwoComes, PhaseTwoOver, PutsMade, database_at, flow_at}
 use Rattle.pw_compiling.specs.Made.{AnswersFlow, IsOfFlow, MakesObject}
 
 abbrev Db : Type 0
@@ -155,3 +155,34 @@ pub file_made : {E : Type 0} → (flow : FlowModule) (db : Db) (object : Object)
     → IfOk result (λ bytes. IsFileOfFlow flow db bytes.items)
 file_made flow db object (Ok bytes) lawful made file = record { lawful = lawful; object = object; made = made; file = file }
 file_made flow db object (Err error) lawful made file = tt
+
+-- ---- what was put, whatever the answer
+
+part_of_front : (told : Told) (files : List NamedFile) (new : Option Told) → PutFront told files new → PutPart told files new
+part_of_front told files new h = record { done = h.done; more = h.more; split = h.split; left = left_so (after_puts told h.done) h.more new h.left }
+  where
+    left_so : (now : Told) (more : List NamedFile) (new : Option Told) → new ≡ Some now → IsLeft now more new
+    left_so now [] new e = e
+    left_so now (file ∷ more) new e = inl e
+
+part_of_whole : (told : Told) (files : List NamedFile) (new : Option Told) → new ≡ Some (after_puts told files) → PutPart told files new
+part_of_whole told files new e = record { done = files; more = []; split = sym (append-nil files); left = e }
+
+part_put : (answer : Answer) (told : Told) (files : List NamedFile) (new : Option Told) → IsPutAnswer answer → PutsFiles files answer told new → PutPart told files new
+part_put Done told files new h puts = part_of_whole told files new puts
+part_put StoreFault told files new h puts = puts
+part_put NoMemory told files new h puts = part_of_front told files new puts
+part_put _ told files new h puts = absurd h
+
+-- the object's file was put, as far as the store put it
+pub made_put : (first now new : Option Told) (name bytes : List ℕ) (answer : Answer) → IsMadeFile bytes → Keeps first now
+    → IfSome now (λ t. PutsFiles ((name ++ codes ".obj", bytes) ∷ []) answer t new) → IsPutAnswer answer → IfSome first (λ t. PutsMade name t new)
+made_put None now new name bytes answer made same puts h = tt
+made_put (Some told) now new name bytes answer made same puts h =
+    let P : Option Told → Type 0 = λ o. IfSome o (λ t. PutsFiles ((name ++ codes ".obj", bytes) ∷ []) answer t new) in
+    inr (bytes, made, part_put answer told ((name ++ codes ".obj", bytes) ∷ []) new h (subst P same puts))
+
+-- nothing was put
+pub none_put : (first new : Option Told) (name : List ℕ) → Keeps first new → IfSome first (λ t. PutsMade name t new)
+none_put None new name same = tt
+none_put (Some told) new name same = inl same

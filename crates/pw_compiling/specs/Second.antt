@@ -1,6 +1,7 @@
 -- What `phase2` comes to: the object of a module under the directives that the database has for it.
-use Rattle.std.specs.Prelude.{◌≡◌, ℕ, List, [], ◌∷◌, ◌++◌, All, codes, map, Result, Ok, Err}
-use Rattle.pw_io.specs.Files.{Files}
+use Rattle.std.specs.Prelude.{◌≡◌, ℕ, ◌⊎◌, List, [], ◌∷◌, ◌++◌, All, codes, map, Option, Some, Result, Ok, Err}
+use Rattle.pw_io.specs.Files.{Files, Told}
+use Rattle.pw_value.specs.FieldLaws.{AreBytes}
 use Rattle.pw_files.specs.Contents.{value_of}
 use Rattle.pw_flow.specs.FlowGraph.{function_names}
 use Rattle.pw_flow.specs.declared.flow.FlowModule.{FlowModule}
@@ -10,9 +11,9 @@ use Rattle.pw_db.specs.Database.{HasDirectives, IsDatabase}
 use Rattle.pw_db.specs.Reading.{database_file_at}
 use Rattle.pw_object.specs.declared.object.Object.{Object}
 use Rattle.pw_object.specs.Object.{IsObjectFile}
-use Rattle.pw_phases.specs.Phases.{IsObjectOf}
+use Rattle.pw_phases.specs.Phases.{AreDirectivesOf, IsObjectOf}
 use Rattle.pw_answer.specs.declared.answer.Answer.{Answer}
-use Rattle.pw_answer.specs.Effects.{Effect, answers_alone, puts_files}
+use Rattle.pw_answer.specs.Effects.{Effect, PutPart, answers_alone, puts_files}
 use Rattle.pw_commands.specs.Needed.{needed}
 
 abbrev pub flow_at : List ℕ → Result FlowModule ℕ
@@ -54,3 +55,23 @@ PhaseTwoOver name (Ok flow) (Ok db) input effect = ComesOfFlow name flow db inpu
 -- `phase2 NAME` over a store's files: the flow graph is read first, then the database
 abbrev pub PhaseTwoComes : Files → List ℕ → List ℕ → Effect → Type 0
 PhaseTwoComes files name input effect = PhaseTwoOver name (needed flow_at files (name ++ codes ".flow")) (needed database_at files (codes "prog.db")) input effect
+
+-- ---- what is put, whatever the answer
+
+-- The object is what the second phase makes of some flow graph and directives.
+pub record IsMade (object : Object) : Type 0 where
+  pub flow : FlowModule
+  pub directives : List (List ℕ × Directives)
+  pub of_module : AreDirectivesOf flow directives
+  pub made : IsObjectOf flow directives object
+
+-- the bytes are those of such an object's file
+pub record IsMadeFile (bytes : List ℕ) : Type 0 where
+  pub fits : AreBytes bytes
+  pub object : Object
+  pub made : IsMade object
+  pub file : IsObjectFile bytes object
+
+-- Nothing was put; or such a file was put under the module's name, whole, or in part where the store failed.
+abbrev pub PutsMade : List ℕ → Told → Option Told → Type 0
+PutsMade name told new = (new ≡ Some told) ⊎ ((bytes : List ℕ) × IsMadeFile bytes × PutPart told ((name ++ codes ".obj", bytes) ∷ []) new)

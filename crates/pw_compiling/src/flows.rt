@@ -7,11 +7,12 @@ ghost use Rattle.pw_db.specs.Database.{IsDatabase};
 ghost use Rattle.pw_flow.specs.ValidFlow.{IsValid};
 ghost use Rattle.pw_modules.specs.Modules.{is_module_name};
 ghost use Rattle.pw_object.specs.Object.{IsObject};
+ghost use Rattle.pw_value.specs.FieldLaws.{AreBytes};
 ghost use Rattle.pw_value.specs.Names.{IsNameLength};
 ghost use Rattle.pw_commands.specs.Needed.{Needs, needed};
 ghost use Rattle.pw_commands.specs.Others.{KeepsOthers};
 ghost use Rattle.pw_commands.specs.Outcome.{IsFileStop, IsStoreAnswer, Obeys, StopCount};
-ghost use Rattle.pw_compiling.specs.Second.{IsFileOfFlow, IsObjectUnder, PhaseTwoComes, database_at, flow_at, phase_two_puts};
+ghost use Rattle.pw_compiling.specs.Second.{IsFileOfFlow, IsMade, IsMadeFile, IsObjectUnder, PhaseTwoComes, PutsMade, database_at, flow_at, phase_two_puts};
 ghost use Rattle.pw_compiling.specs.Made.{MakesObject};
 
 use crate::files::{module_file, put_bytes};
@@ -64,26 +65,36 @@ fn object_of(alloc: Global, flow: &FlowModule, db: &Database) -> Result<Object, 
     requires lawful { IsValid flow.now }
     requires database { IsDatabase db.now.functions }
     ensures object { IfOk result (λ object. IsObjectUnder flow.now db.now.functions object) }
+    ensures made { IfOk result IsMade }
     ensures lawful { IfOk result (λ object. IsObject object) }
 {
     let directives = directives_for(alloc, flow, db)?;
     phase_two(alloc, flow, &directives)
 }
 
+/// What stands in bytes are numbers that a byte can hold.
+fn are_bytes(bytes: &[u8])
+    ensures { AreBytes bytes.now }
+{}
+
 /// The object's file.
 fn file_of_flow(alloc: Global, flow: &FlowModule, db: &Database) -> Result<Vec<u8>, AllocError>
     requires lawful { IsValid flow.now }
     requires database { IsDatabase db.now.functions }
-    ensures { IfOk result (λ bytes. IsFileOfFlow flow.now db.now.functions bytes.items) }
+    ensures file { IfOk result (λ bytes. IsFileOfFlow flow.now db.now.functions bytes.items) }
+    ensures made { IfOk result (λ bytes. IsMadeFile bytes.items) }
 {
     let object = object_of(alloc, flow, db)?;
-    pw_object::write(alloc, &object)
+    let bytes = pw_object::write(alloc, &object)?;
+    are_bytes(&bytes);
+    Ok(bytes)
 }
 
 /// The object's file of a flow graph, or the answer in its place.
 fn file_under<S: Store>(alloc: Global, store: &mut S, flow: &FlowModule) -> Result<Vec<u8>, Answer>
     requires { IsValid flow.now }
     ensures object { IfSome (S.told store.old) (λ told. MakesObject (Ok flow.now) (needed database_at told.files (codes "prog.db")) result) }
+    ensures made { IfOk result (λ bytes. IsMadeFile bytes.items) }
     ensures same { Keeps (S.told store.old) (S.told store.new) }
     ensures count { StopCount (S.faults store.old) (S.faults store.new) result }
     ensures stop { IfErr result IsFileStop }
@@ -96,6 +107,7 @@ fn file_under<S: Store>(alloc: Global, store: &mut S, flow: &FlowModule) -> Resu
 fn object_file<S: Store>(alloc: Global, store: &mut S, file: &str) -> Result<Vec<u8>, Answer>
     requires { IsNameLength (length file.now) }
     ensures object { IfSome (S.told store.old) (λ told. MakesObject (needed flow_at told.files file.now) (needed database_at told.files (codes "prog.db")) result) }
+    ensures made { IfOk result (λ bytes. IsMadeFile bytes.items) }
     ensures same { Keeps (S.told store.old) (S.told store.new) }
     ensures count { StopCount (S.faults store.old) (S.faults store.new) result }
     ensures stop { IfErr result IsFileStop }
@@ -108,6 +120,7 @@ fn object_file<S: Store>(alloc: Global, store: &mut S, file: &str) -> Result<Vec
 fn object_bytes<S: Store>(alloc: Global, store: &mut S, name: &Name) -> Result<Vec<u8>, Answer>
     requires { is_module_name name.now ≡ true }
     ensures object { IfSome (S.told store.old) (λ told. MakesObject (needed flow_at told.files (name.now ++ codes ".flow")) (needed database_at told.files (codes "prog.db")) result) }
+    ensures made { IfOk result (λ bytes. IsMadeFile bytes.items) }
     ensures same { Keeps (S.told store.old) (S.told store.new) }
     ensures count { StopCount (S.faults store.old) (S.faults store.new) result }
     ensures stop { IfErr result IsFileStop }
@@ -123,6 +136,7 @@ fn object_bytes<S: Store>(alloc: Global, store: &mut S, name: &Name) -> Result<V
 pub fn compile_flow<S: Store>(alloc: Global, store: &mut S, name: &Name) -> Answer
     requires { is_module_name name.now ≡ true }
     ensures obeys { IfSome (S.told store.old) (λ told. (input : List ℕ) → Obeys (PhaseTwoComes told.files name.now input) result told (S.told store.new)) }
+    ensures made { IfSome (S.told store.old) (λ told. PutsMade name.now told (S.told store.new)) }
     ensures others { KeepsOthers (phase_two_puts name.now) (S.told store.old) (S.told store.new) }
     ensures answer { IsStoreAnswer result }
     ensures count { StoreCount (S.faults store.old) (S.faults store.new) result }

@@ -1,7 +1,7 @@
 use Rattle.std.proofs.Common.{[], ◌∷◌, ◌++◌, codes}
 use Rattle.pw_compiling.specs.Second.{phase_two_puts}
 use Rattle.pw_commands.proofs.OthersLemmas.{kept_others, put_others}
-use Rattle.pw_compiling.proofs.SecondLemmas.{obeys_made, obeys_stopped, put_is_store, stop_is_store}
+use Rattle.pw_compiling.proofs.SecondLemmas.{made_put, none_put, obeys_made, obeys_stopped, put_is_store, stop_is_store}
 use Rattle.pw_compiling.proofs.flows.compile_flow.Goals as goal
 
 pub returns-in-Ok-clause-obeys : goal.returns-in-Ok-clause-obeys
@@ -27,3 +27,11 @@ returns-in-Ok-clause-others g c =
 
 pub returns-in-Err-clause-others : goal.returns-in-Err-clause-others
 returns-in-Err-clause-others g c = kept_others (phase_two_puts c.args.name.now) (g.S.Store.told c.args.store.now) _ c.object_bytes.ensures.same
+
+pub returns-in-Ok-clause-made : goal.returns-in-Ok-clause-made
+returns-in-Ok-clause-made g c =
+    made_put (g.S.Store.told c.args.store.now) _ _ c.args.name.now c.in-Ok.bytes.items c.put_bytes.result c.in-Ok.ensures.made c.object_bytes.ensures.same
+    (rw c.deref.ensures.value at c.put_bytes.ensures.put) c.put_bytes.ensures.answer
+
+pub returns-in-Err-clause-made : goal.returns-in-Err-clause-made
+returns-in-Err-clause-made g c = none_put (g.S.Store.told c.args.store.now) _ c.args.name.now c.object_bytes.ensures.same
