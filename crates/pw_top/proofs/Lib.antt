@@ -1,3 +1,5 @@
 pub mod DoesLemmas
 pub mod CommandLemmas
 pub mod ToldLemmas
+pub mod GenuineLemmas
+pub mod SessionLemmas

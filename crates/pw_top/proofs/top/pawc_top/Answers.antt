@@ -6,7 +6,7 @@ use Rattle.pw_go.specs.FullBuild.{full_build}
 use Rattle.pw_go.specs.Going.{BuiltAgrees}
 use Rattle.pw_go.specs.Refusals.{NoMainComes, NoMainIs, RefusalComes, RefusalIs}
 use Rattle.pw_words.specs.CommandLine.{command_of}
-use Rattle.pw_top.specs.Commands.{IsGo, line_of}
+use Rattle.pw_top.specs.Commands.{IsGo, IsNoSession, line_of}
 use Rattle.pw_top.proofs.ToldLemmas.{by_law, input_told, of_files, output_told, returns_sum, store_told, streams_told, told_does, told_line, told_proper, told_refuses, usage_comes, usage_is}
 use Rattle.pw_top.proofs.top.pawc_top.Goals as goal
 
@@ -20,7 +20,7 @@ returns-clause-usage_comes g c =
 
 pub returns-clause-does : goal.returns-clause-does
 returns-clause-does g c =
-    told_does (command_of (map string_bytes c.args.words.now)) (g.S.Store.told c.args.store.now) _ (g.I.Source.rest c.args.input.now) _ (g.O.Sink.taken c.args.out.now) _
+    told_does c.runs_leave_an_end.ensures.run c.runs_leave_an_end.ensures.go (command_of (map string_bytes c.args.words.now)) (g.S.Store.told c.args.store.now) _ (g.I.Source.rest c.args.input.now) _ (g.O.Sink.taken c.args.out.now) _
     c.obey_words-reply.result.answer c.tell.result c.tell.ensures.answer c.obey_words-reply.ensures.does
 
 pub returns-clause-refuses : goal.returns-clause-refuses
@@ -61,7 +61,7 @@ returns-clause-agrees g c = of_files (λ files. BuiltAgrees (full_build files)) 
 
 pub returns-clause-streams_left : goal.returns-clause-streams_left
 returns-clause-streams_left g c =
-    streams_told c.obey_words-reply.result.answer c.tell.result (g.I.Source.rest c.args.input.now) _ (g.O.Sink.taken c.args.out.now) _ c.tell.ensures.answer c.obey_words-reply.ensures.streams
+    streams_told (IsNoSession (command_of (map string_bytes c.args.words.now))) c.obey_words-reply.result.answer c.tell.result (g.I.Source.rest c.args.input.now) _ (g.O.Sink.taken c.args.out.now) _ c.tell.ensures.answer c.obey_words-reply.ensures.streams
 
 pub returns-clause-store_faults : goal.returns-clause-store_faults
 returns-clause-store_faults g c = store_told _ _ c.obey_words-reply.result.answer c.tell.result c.tell.ensures.answer c.obey_words-reply.ensures.store

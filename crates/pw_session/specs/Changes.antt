@@ -1,0 +1,54 @@
+-- Changes of the files of a store.
+use Rattle.std.specs.Prelude.{◌≡◌, ℕ, ◌⊎◌, List, [], ◌∷◌, ◌++◌, Option, Some, IsSomeAnd}
+use Rattle.pw_io.specs.Files.{Told, after_put, after_remove, LeavesFile}
+use Rattle.pw_answer.specs.declared.answer.Answer.{Answer}
+use Rattle.pw_answer.specs.declared.answer.Answer.TheVariants.{Done, ReadFault, WriteFault, StoreFault, NoMemory}
+use Rattle.pw_answer.specs.Effects.{NamedFile}
+
+-- a file is put, or the one of a name is removed
+pub data Change : Type 0 where
+  Puts : NamedFile → Change
+  Removes : List ℕ → Change
+
+abbrev pub after_change : Told → Change → Told
+after_change told (Puts file) = after_put told file.0 file.1
+after_change told (Removes name) = after_remove told name
+
+-- a store after these changes, in order
+abbrev pub after_changes : Told → List Change → Told
+after_changes told [] = told
+after_changes told (change ∷ changes) = after_changes (after_change told change) changes
+
+-- ---- what stands in the store after an answer
+
+-- The store tells this, or the next change is a put, which was done in part.
+abbrev pub IsChanged : Told → List Change → Option Told → Type 0
+IsChanged told (Puts file ∷ changes) new = (new ≡ Some told) ⊎ IsSomeAnd new (λ left. (left.puts ≡ told.puts) × LeavesFile told.files left.files file.0 file.1)
+IsChanged told changes new = new ≡ Some told
+
+-- a front of the changes was made, whole
+pub record ChangeFront (told : Told) (changes : List Change) (new : Option Told) : Type 0 where
+  pub done : List Change
+  pub more : List Change
+  pub split : changes ≡ done ++ more
+  pub left : new ≡ Some (after_changes told done)
+
+-- a front of the changes was made, and of a put that follows perhaps a part
+pub record ChangePart (told : Told) (changes : List Change) (new : Option Told) : Type 0 where
+  pub done : List Change
+  pub more : List Change
+  pub split : changes ≡ done ++ more
+  pub left : IsChanged (after_changes told done) more new
+
+-- The changes were made, in order, and no others; where something failed or memory ran out, a front of them.
+abbrev pub MakesChanges : List Change → Answer → Told → Option Told → Type 0
+MakesChanges changes StoreFault told new = ChangePart told changes new
+MakesChanges changes ReadFault told new = ChangeFront told changes new
+MakesChanges changes WriteFault told new = ChangeFront told changes new
+MakesChanges changes NoMemory told new = ChangeFront told changes new
+MakesChanges changes _ told new = new ≡ Some (after_changes told changes)
+
+-- Some changes were made, whatever they are; where the answer is not `Done`, perhaps a put that follows in part.
+abbrev pub MakesSome : Answer → Told → Option Told → Type 0
+MakesSome Done told new = (changes : List Change) × (new ≡ Some (after_changes told changes))
+MakesSome _ told new = (changes : List Change) × ChangePart told changes new

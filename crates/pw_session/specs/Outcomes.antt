@@ -1,0 +1,147 @@
+-- What a session answers, puts out and leaves of the store and its input.
+use Rattle.std.specs.Prelude.{◌≡◌, ℕ, ◌+◌, ◌≤◌, suc, List, [], length, Option, Some, None, Vec, option_map}
+use Rattle.std.specs.declared.alloc.Global.{Global}
+use Rattle.pw_io.specs.Files.{Told}
+use Rattle.pw_answer.specs.declared.answer.Answer.{Answer}
+use Rattle.pw_answer.specs.declared.answer.Answer.TheVariants.{Done, ReadFault, WriteFault, StoreFault, NoMemory, BadScript}
+use Rattle.pw_answer.specs.Outcomes.{Answers, PutsOut}
+use Rattle.pw_answer.specs.Answers.{line_text}
+use Rattle.pw_build.specs.declared.fault.BuildFault.{BuildFault}
+use Rattle.pw_build.specs.declared.fault.BuildFault.TheVariants as build
+use Rattle.pw_building.specs.Outcomes.{fault_answer}
+use Rattle.pw_script.specs.declared.line.TakenLine.{TakenLine}
+use Rattle.pw_script.specs.declared.line.ScriptFault.{ScriptFault}
+use Rattle.pw_script.specs.declared.line.ScriptFault.TheVariants as script
+use Rattle.pw_script.specs.declared.line.ScriptFault.TheVariants.{BadLine}
+use Rattle.pw_script.specs.Reading.{IsReadInPart}
+use Rattle.pw_script.specs.Script.{LineValue, first_line, taken_limit}
+use Rattle.pw_session.specs.declared.opts.SessionOpts.{SessionOpts}
+use Rattle.pw_session.specs.declared.session.Turn.{Turn}
+use Rattle.pw_session.specs.declared.session.Turn.TheVariants.{Over, Obeyed}
+use Rattle.pw_session.specs.Changes.{Change, MakesChanges}
+use Rattle.pw_session.specs.Runs.{RunComes}
+use Rattle.pw_session.specs.Session.{Act, Acts, Effects, LinesAct, ScriptLines, State, bad_at, lines_from, lines_of, script_answer, session_start}
+
+-- ---- the session
+
+-- The output was put out and the changes were made; where something failed or memory ran out, a front of both.
+pub record Does (output : List ℕ) (changes : List Change) (answer : Answer) (told : Told) (new : Option Told) (taken taken' : Option (List ℕ)) : Type 0 where
+  pub said : PutsOut output answer taken taken'
+  pub made : MakesChanges changes answer told new
+
+-- what was answered is no fault and no want of memory, and then it comes to something
+abbrev pub IsSessionFound : (Effects → Type 0) → Answer → Type 0
+IsSessionFound comes ReadFault = Unit {0}
+IsSessionFound comes WriteFault = Unit {0}
+IsSessionFound comes StoreFault = Unit {0}
+IsSessionFound comes NoMemory = Unit {0}
+IsSessionFound comes _ = (e : Effects) × comes e
+
+-- Lines of a script come to what was answered, put out and changed; a fault and want of memory may come in its place.
+pub record ObeysLines (opts : SessionOpts) (s : State) (script : ScriptLines) (answer : Answer) (new : Option Told) (taken taken' : Option (List ℕ)) : Type 0 where
+  pub answers : Answers (script_answer script.bad) answer
+  pub does : (e : Effects) → LinesAct opts s script.lines e → Does e.output e.changes answer s.told new taken taken'
+  pub found : IsSessionFound (LinesAct opts s script.lines) answer
+
+-- so does a session over its whole script
+abbrev pub ObeysSession : SessionOpts → Told → List ℕ → Answer → Option Told → Option (List ℕ) → Option (List ℕ) → Type 0
+ObeysSession opts told script answer new taken taken' = ObeysLines opts (session_start told) (lines_of script) answer new taken taken'
+
+-- the answers of a session
+abbrev pub IsSessionAnswer : Answer → Type 0
+IsSessionAnswer Done = Unit {0}
+IsSessionAnswer ReadFault = Unit {0}
+IsSessionAnswer WriteFault = Unit {0}
+IsSessionAnswer StoreFault = Unit {0}
+IsSessionAnswer NoMemory = Unit {0}
+IsSessionAnswer (BadScript at) = Unit {0}
+IsSessionAnswer _ = ⊥
+
+-- A script that was taken to its end is read whole; else a front of it was read.
+abbrev pub LeavesScript : List ℕ → Answer → Option (List ℕ) → Type 0
+LeavesScript script Done new = new ≡ Some []
+LeavesScript script _ new = IsReadInPart script new
+
+-- ---- inside the session
+
+-- the answers of one line, which is obeyed at `Done`
+abbrev pub IsLineAnswer : Answer → Type 0
+IsLineAnswer Done = Unit {0}
+IsLineAnswer WriteFault = Unit {0}
+IsLineAnswer StoreFault = Unit {0}
+IsLineAnswer NoMemory = Unit {0}
+IsLineAnswer _ = ⊥
+
+-- those of a line that leaves the store alone
+abbrev pub IsSayAnswer : Answer → Type 0
+IsSayAnswer Done = Unit {0}
+IsSayAnswer WriteFault = Unit {0}
+IsSayAnswer NoMemory = Unit {0}
+IsSayAnswer _ = ⊥
+
+abbrev pub image_view : Option (Vec ℕ Global) → Option (List ℕ)
+image_view = option_map (λ image. image.items)
+
+-- what a line does was put out and changed, and its image is kept
+pub record ObeysLine (opts : SessionOpts) (s : State) (line : LineValue) (answer : Answer) (new : Option Told) (taken taken' : Option (List ℕ)) (image : Option (List ℕ)) : Type 0 where
+  pub does : (act : Act) → Acts opts s line act → Does act.output act.changes answer s.told new taken taken'
+  pub keeps : (act : Act) → Acts opts s line act → answer ≡ Done → image ≡ act.image
+  pub found : answer ≡ Done → (act : Act) × Acts opts s line act
+
+-- what comes of a run was put out
+pub record ObeysRun (built : Option (List ℕ)) (budget : ℕ) (input : List ℕ) (answer : Answer) (taken taken' : Option (List ℕ)) : Type 0 where
+  pub output : (output : List ℕ) → RunComes built budget input output → PutsOut output answer taken taken'
+  pub found : answer ≡ Done → (output : List ℕ) × RunComes built budget input output
+
+-- The first line of what is left of a script was read and obeyed; or the session is over, as the lines that are left come to.
+abbrev pub TakesTurn : SessionOpts → State → ℕ → List ℕ → Turn → Option Told → Option (List ℕ) → Option (List ℕ) → Option (List ℕ) → Option (List ℕ) → Type 0
+TakesTurn opts s offset script (Over answer) new rest taken taken' image =
+    (n : ℕ) → ObeysLines opts s (lines_from (suc n) offset script) answer new taken taken'
+TakesTurn opts s offset script (Obeyed size) new rest taken taken' image =
+    (line : LineValue) × (later : List ℕ) × (first_line script ≡ Some (line, later)) × (length script ≡ size + length later) × (rest ≡ Some later) × ObeysLine opts s line Done new taken taken' image
+
+-- the answer of a turn: `Done` where its line was obeyed
+abbrev pub turn_answer : Turn → Answer
+turn_answer (Over answer) = answer
+turn_answer (Obeyed size) = Done
+
+-- a line that was read is obeyed, with the count of its bytes, or the session is over
+abbrev pub IsTaken : TakenLine → Turn → Type 0
+IsTaken taken (Over answer) = IsLineAnswer answer × (answer ≡ Done → ⊥)
+IsTaken taken (Obeyed size) = size ≡ taken.length
+
+-- how many bytes a line takes at most, and how a session ends
+abbrev pub IsTurn : Turn → Type 0
+IsTurn (Over answer) = IsSessionAnswer answer
+IsTurn (Obeyed size) = size ≤ taken_limit
+
+-- where no line was read at an offset
+abbrev pub unread : ScriptFault → ℕ → Answer
+unread BadLine offset = BadScript offset
+unread script.ReadFault offset = ReadFault
+unread script.NoMemory offset = NoMemory
+
+-- what a turn leaves of its script
+abbrev pub LeavesTurn : List ℕ → Turn → Option (List ℕ) → Type 0
+LeavesTurn script (Over answer) new = LeavesScript script answer new
+LeavesTurn script (Obeyed size) new = Unit {0}
+
+-- the answer at the end of a script that may have no further line
+abbrev pub IsLastAnswer : ℕ → List ℕ → Answer → Type 0
+IsLastAnswer offset script answer = Answers (script_answer (bad_at offset script)) answer
+
+abbrev pub end_answer : Option ℕ → ℕ → Answer
+end_answer None offset = Done
+end_answer (Some byte) offset = BadScript offset
+
+abbrev pub IsReadAnswer : Answer → Type 0
+IsReadAnswer Done = Unit {0}
+IsReadAnswer ReadFault = Unit {0}
+IsReadAnswer (BadScript at) = Unit {0}
+IsReadAnswer _ = ⊥
+
+-- what is told of a fault of a build: the line of a refusal; a fault of the store, and want of memory, are the answer
+abbrev pub SaysFault : BuildFault → ℕ → Answer → Option (List ℕ) → Option (List ℕ) → Type 0
+SaysFault build.StoreFault line answer taken taken' = (answer ≡ StoreFault) × (taken' ≡ taken)
+SaysFault build.NoMemory line answer taken taken' = (answer ≡ NoMemory) × (taken' ≡ taken)
+SaysFault fault line answer taken taken' = PutsOut (line_text line (fault_answer fault)) answer taken taken' × IsSayAnswer answer

@@ -1,0 +1,116 @@
+-- A session: the lines of a script, obeyed one behind another over the files of a store.
+use Rattle.std.specs.Prelude.{◌≡◌, ℕ, zero, suc, ◌+◌, ◌-◌, List, [], ◌∷◌, ◌++◌, codes, length, map, Option, Some, None, Result, Ok, Err}
+use Rattle.std.specs.Option.{option_map_or}
+use Rattle.sha2.specs.Sha256.{sha256}
+use Rattle.pw_io.specs.Files.{Told}
+use Rattle.pw_modules.specs.Modules.{modules_of}
+use Rattle.pw_answer.specs.declared.answer.Answer.{Answer}
+use Rattle.pw_answer.specs.declared.answer.Answer.TheVariants.{Done, BadScript}
+use Rattle.pw_answer.specs.Answers.{line_text}
+use Rattle.pw_build.specs.declared.fault.BuildFault.{BuildFault}
+use Rattle.pw_build.specs.Phases.{refused_line}
+use Rattle.pw_building.specs.Building.{BuildComes, Outcome}
+use Rattle.pw_building.specs.Lines.{report_lines}
+use Rattle.pw_building.specs.Outcomes.{fault_answer}
+use Rattle.pw_script.specs.Script.{LineValue, PutText, RemoveText, BuildProgram, RunProgram, first_line}
+use Rattle.pw_session.specs.declared.opts.SessionOpts.{SessionOpts}
+use Rattle.pw_session.specs.Changes.{Change, Puts, Removes, after_changes}
+use Rattle.pw_session.specs.Runs.{RunComes}
+
+-- ---- the lines of a script
+
+-- a script may have so many lines
+abbrev pub lines_limit : ℕ
+lines_limit = 10000
+
+-- the lines of a script up to its end, or up to the offset at which no lawful line stands
+pub record ScriptLines : Type 0 where
+  pub lines : List LineValue
+  pub bad : Option ℕ
+
+-- a script ends before a line; anything else that stands there is bad
+abbrev pub bad_at : ℕ → List ℕ → Option ℕ
+bad_at offset [] = None
+bad_at offset (byte ∷ bytes) = Some offset
+
+abbrev pub no_line : ℕ → List ℕ → ScriptLines
+no_line offset script = record { lines = []; bad = bad_at offset script }
+
+abbrev pub with_line : LineValue → ScriptLines → ScriptLines
+with_line line more = record { lines = line ∷ more.lines; bad = more.bad }
+
+-- at most so many lines of a script, of which this stands at an offset
+unfoldable pub lines_from : ℕ → ℕ → List ℕ → ScriptLines
+lines_from zero offset script = no_line offset script
+lines_from (suc n) offset script =
+    option_map_or (λ cut. with_line cut.0 (lines_from n (offset + (length script - length cut.1)) cut.1)) (first_line script) (no_line offset script)
+
+unfoldable pub lines_of : List ℕ → ScriptLines
+lines_of script = lines_from lines_limit 0 script
+
+-- how a session ends
+abbrev pub script_answer : Option ℕ → Answer
+script_answer None = Done
+script_answer (Some offset) = BadScript offset
+
+-- ---- one line
+
+-- what a session goes through its lines with: what the store tells, and the image that was built last
+pub record State : Type 0 where
+  pub told : Told
+  pub image : Option (List ℕ)
+
+-- what a line does: what it puts out, which files it changes, and the image that is run from then on
+pub record Act : Type 0 where
+  pub output : List ℕ
+  pub changes : List Change
+  pub image : Option (List ℕ)
+
+-- a change of a file, which is told
+abbrev pub changes_as : State → Change → Act
+changes_as s change = record { output = codes "ok\n"; changes = change ∷ []; image = s.image }
+
+-- A build puts its files, tells its report, and leaves its image; one that is refused tells that alone.
+abbrev pub builds_as : State → Result Outcome BuildFault → Act
+builds_as s (Ok outcome) = record {
+  output = report_lines (length outcome.rebuilt) outcome.modules (length outcome.image) (sha256 outcome.image);
+  changes = map Puts outcome.puts;
+  image = Some outcome.image;
+}
+builds_as s (Err fault) = record { output = line_text (refused_line (modules_of s.told.files)) (fault_answer fault); changes = []; image = s.image }
+
+abbrev pub puts_out : State → List ℕ → Act
+puts_out s output = record { output = output; changes = []; image = s.image }
+
+-- what a line does
+abbrev pub Acts : SessionOpts → State → LineValue → Act → Type 0
+Acts opts s (PutText file text) act = act ≡ changes_as s (Puts (file, text))
+Acts opts s (RemoveText file) act = act ≡ changes_as s (Removes file)
+Acts opts s BuildProgram act = (comes : Result Outcome BuildFault) × BuildComes s.told.files opts.build.colours opts.build.stack comes × (act ≡ builds_as s comes)
+Acts opts s (RunProgram input) act = (output : List ℕ) × RunComes s.image opts.budget input output × (act ≡ puts_out s output)
+
+-- ---- all lines
+
+abbrev pub next_state : State → Act → State
+next_state s act = record { told = after_changes s.told act.changes; image = act.image }
+
+-- what lines put out together, and which files they change, in order
+pub record Effects : Type 0 where
+  pub output : List ℕ
+  pub changes : List Change
+
+abbrev pub behind_act : Act → Effects → Effects
+behind_act act more = record { output = act.output ++ more.output; changes = act.changes ++ more.changes }
+
+-- what lines do, one behind another
+abbrev pub LinesAct : SessionOpts → State → List LineValue → Effects → Type 0
+LinesAct opts s [] e = e ≡ record { output = []; changes = [] }
+LinesAct opts s (line ∷ lines) e = (act : Act) × (more : Effects) × Acts opts s line act × LinesAct opts (next_state s act) lines more × (e ≡ behind_act act more)
+
+-- a session begins with what the store tells, and with no image
+abbrev pub session_start : Told → State
+session_start told = record { told = told; image = None }
+
+-- what the lines of a script do over a store that tells this
+abbrev pub SessionActs : SessionOpts → Told → List ℕ → Effects → Type 0
+SessionActs opts told script e = LinesAct opts (session_start told) (lines_of script).lines e
