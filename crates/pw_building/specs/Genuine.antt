@@ -13,6 +13,6 @@ use Rattle.pw_kept.specs.Kept.{kept_object, object_name}
 abbrev pub KeepsGenuine : Files → Type 0
 KeepsGenuine files = (name : List ℕ) (object : Object) → kept_object files name ≡ Some object → IsGenuine object
 
--- inside: the file is that of a genuine object, or no object's by its name
+-- the file is that of a genuine object, or no object's by its name
 abbrev pub IsGenuineFile : NamedFile → Type 0
 IsGenuineFile file = (name : List ℕ) → object_name name ≡ file.0 → (object : Object) × AreBytes file.1 × IsObjectFile file.1 object × IsGenuine object

@@ -7,5 +7,7 @@ mod prepared;
 mod report;
 
 pub use building::build;
-pub use laws::{a_store_has_one_build, genuine_objects_give_the_full_build};
+pub use laws::{
+    a_store_has_one_build, genuine_files_keep_genuine, genuine_objects_give_the_full_build,
+};
 pub use report::{Opts, Report, report_lines};

@@ -1,15 +1,20 @@
 -- Kept objects stay genuine where no object's file is put, and files that were not put stay as they were.
-use Rattle.std.proofs.Common.{◌≡◌, ℕ, List, [], ◌∷◌, ◌++◌, codes, Option, Some, None, refl, sym, ap, ◌∙◌, subst, arith, append-nil}
+use Rattle.std.proofs.Common.{◌≡◌, ℕ, ⊎_elim, List, [], ◌∷◌, ◌++◌, codes, Option, Some, None, refl, sym, ap, ◌∙◌, subst, arith, append-nil}
 use Rattle.std.specs.Prelude.{IfSome, IsSomeAnd}
+use Rattle.std.specs.List.{AllByRecursion}
 use Rattle.pw_io.specs.Files.{Told, Keeps}
+use Rattle.pw_object.specs.declared.object.Object.{Object}
+use Rattle.pw_answer.specs.Effects.{NamedFile, PutPart}
+use Rattle.pw_making.specs.Kept.{IsGenuine}
 use Rattle.pw_commands.specs.Others.{IsNoneOf, IsSameBut, KeepsOthers}
 use Rattle.pw_kept.specs.Kept.{counted, object_in, object_name}
-use Rattle.pw_building.specs.Genuine.{KeepsGenuine}
+use Rattle.pw_building.specs.Genuine.{IsGenuineFile, KeepsGenuine}
 use Rattle.pw_compiling.specs.First.{phase_one_puts}
+use Rattle.pw_compiling.specs.Second.{IsMade, IsMadeFile, PutsMade}
 use Rattle.pw_driving.specs.Driving.{KeepsUnput}
 use Rattle.pw_words.specs.declared.commands.Command.{Command}
 use Rattle.pw_words.specs.declared.commands.Command.TheVariants.{Build as BuildAll, Session, PhaseOne, Analyse, PhaseTwo, Link}
-use Rattle.pw_top.specs.Commands.{IsNoPhaseTwo, KeepsTheRest, files_put}
+use Rattle.pw_top.specs.Commands.{KeepsTheRest, files_put}
 use Rattle.pw_top.proofs.SessionLemmas.{changes_none}
 
 -- ---- names that are no object's file
@@ -49,32 +54,51 @@ stays_genuine names (Some t) None apart h = λ k. tt
 stays_genuine names (Some t) (Some now) apart h =
     λ k name object e. k name object (ap (λ (g : Option (List ℕ)). object_in (counted g)) (sym (h (object_name name) (apart name))) ∙ e)
 
--- the command puts the files of its words alone
-abbrev pub PutsItsOwn : Option Command → Type 0
-PutsItsOwn (Some (BuildAll colours stack)) = ⊥
-PutsItsOwn (Some (Session colours stack steps)) = ⊥
-PutsItsOwn _ = Unit {0}
+-- the command puts the files of its words alone, and none of them is an object's
+abbrev pub PutsNoObject : Option Command → Type 0
+PutsNoObject (Some (BuildAll colours stack)) = ⊥
+PutsNoObject (Some (Session colours stack steps)) = ⊥
+PutsNoObject (Some (PhaseTwo name)) = ⊥
+PutsNoObject _ = Unit {0}
 
-puts_apart : (command : Option Command) → IsNoPhaseTwo command → (name : List ℕ) → IsNoneOf (files_put command) (object_name name)
+puts_apart : (command : Option Command) → PutsNoObject command → (name : List ℕ) → IsNoneOf (files_put command) (object_name name)
 puts_apart (Some (PhaseTwo unit)) h name = absurd h
 puts_apart (Some (PhaseOne unit)) h name = phase_one_apart unit name
 puts_apart (Some (Analyse colours)) h name = database_apart name
 puts_apart (Some (Link stack)) h name = image_apart name
 puts_apart _ h name = tt
 
-others_of : (command : Option Command) (told new : Option Told) → PutsItsOwn command → KeepsTheRest command told new → KeepsOthers (files_put command) told new
+others_of : (command : Option Command) (told new : Option Told) → PutsNoObject command → KeepsTheRest command told new → KeepsOthers (files_put command) told new
 others_of (Some (BuildAll colours stack)) told new p h = absurd p
 others_of (Some (Session colours stack steps)) told new p h = absurd p
 others_of command told new p h = h
 
-pub plain_genuine : (command : Option Command) (told new : Option Told) → PutsItsOwn command → KeepsTheRest command told new
-    → IfSome told (λ t. IsNoPhaseTwo command → KeepsGenuine t.files → IfSome new (λ now. KeepsGenuine now.files))
-plain_genuine command None new p h = tt
-plain_genuine command (Some t) new p h = λ n. stays_genuine (files_put command) (Some t) new (puts_apart command n) (others_of command (Some t) new p h)
+pub plain_genuine : (command : Option Command) (told new : Option Told) → PutsNoObject command → KeepsTheRest command told new
+    → IfSome told (λ t. KeepsGenuine t.files → IfSome new (λ now. KeepsGenuine now.files))
+plain_genuine command told new p h = stays_genuine (files_put command) told new (puts_apart command p) (others_of command told new p h)
 
-pub genuine_alone : (P : Type 0) (told : Option Told) → IfSome told (λ t. P → KeepsGenuine t.files → IfSome told (λ now. KeepsGenuine now.files))
-genuine_alone P None = tt
-genuine_alone P (Some t) = λ p k. k
+pub genuine_alone : (told : Option Told) → IfSome told (λ t. KeepsGenuine t.files → IfSome told (λ now. KeepsGenuine now.files))
+genuine_alone None = tt
+genuine_alone (Some t) = λ k. k
+
+-- ---- `phase2`
+
+abbrev pub FilesKeepGenuine : Type 0
+FilesKeepGenuine = (told : Told) (files : List NamedFile) (new : Option Told) → KeepsGenuine told.files → AllByRecursion IsGenuineFile files → PutPart told files new → IfSome new (λ now. KeepsGenuine now.files)
+
+made_genuine : (object : Object) → IsMade object → IsGenuine object
+made_genuine object made = record { flow = made.flow; directives = made.directives; of_module = made.of_module; made = made.made }
+
+made_file : (name bytes : List ℕ) → IsMadeFile bytes → IsGenuineFile (name ++ codes ".obj", bytes)
+made_file name bytes made = λ other named. (made.object, made.fits, made.file, made_genuine made.object made.made)
+
+pub phase_two_genuine : FilesKeepGenuine → (told new : Option Told) (name : List ℕ) → IfSome told (λ t. PutsMade name t new) → IfSome told (λ t. KeepsGenuine t.files → IfSome new (λ now. KeepsGenuine now.files))
+phase_two_genuine law None new name h = tt
+phase_two_genuine law (Some t) new name h =
+    λ k. ⊎_elim {C = IfSome new (λ now. KeepsGenuine now.files)}
+    (λ e. subst (λ (o : Option Told). IfSome o (λ now. KeepsGenuine now.files)) (sym e) k)
+    (λ m. law t ((name ++ codes ".obj", m.0) ∷ []) new k (made_file name m.0 m.1, tt) m.2)
+    h
 
 -- ---- files that stay
 

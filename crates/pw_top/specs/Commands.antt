@@ -47,11 +47,6 @@ abbrev pub IsGo : Option Command → Type 0
 IsGo (Some (Go colours stack steps)) = Unit {0}
 IsGo _ = ⊥
 
--- the command is not `phase2`
-abbrev pub IsNoPhaseTwo : Option Command → Type 0
-IsNoPhaseTwo (Some (PhaseTwo name)) = ⊥
-IsNoPhaseTwo _ = Unit {0}
-
 -- words that say no command are answered so, and no others
 abbrev pub IsUsageDue : Option Command → Answer → Type 0
 IsUsageDue None answer = answer ≡ Usage

@@ -10,15 +10,15 @@ ghost use Rattle.pw_go.specs.Refusals.{HoldsNoWantOfMemory, NoMainComes, NoMainI
 ghost use Rattle.pw_modules.specs.Modules.{modules_of};
 ghost use Rattle.pw_compiling.specs.First.{IsLine};
 ghost use Rattle.pw_building.specs.Genuine.{KeepsGenuine};
-ghost use Rattle.pw_top.specs.Commands.{IsGo, IsNoPhaseTwo, IsNoSession, IsUsageDue, KeepsTheRest, OnlyReads, line_of, opts_of};
+ghost use Rattle.pw_top.specs.Commands.{IsGo, IsNoSession, IsUsageDue, KeepsTheRest, OnlyReads, line_of, opts_of};
 ghost use Rattle.pw_top.specs.Does.{DoesAs};
 ghost use Rattle.pw_words.specs.CommandLine.{command_of};
 ghost use Rattle.pw_words.specs.Limits.{IsWithin};
 
 use pw_answer::{Answer, Reply, tell};
+use pw_building::{Opts, genuine_files_keep_genuine};
 use pw_commands::{analyse_modules, link_modules, list_image, run_image, show_database};
 use pw_compiling::{compile_flow, compile_text};
-use pw_building::Opts;
 use pw_driving::build_modules;
 use pw_go::go;
 use pw_go::laws::{builds_agree, refusals_are_due};
@@ -53,7 +53,7 @@ fn obey<S: Store, I: Source, O: Sink>(
     ensures refusal { IfSome (S.told store.old) (λ told. IsGo (Some command.now) → AnswersBuild (full_build told.files) result.answer) }
     ensures proper { IsGo (Some command.now) → HoldsNoWantOfMemory result.answer }
     ensures others { KeepsTheRest (Some command.now) (S.told store.old) (S.told store.new) }
-    ensures genuine { IfSome (S.told store.old) (λ told. IsNoPhaseTwo (Some command.now) → KeepsGenuine told.files → IfSome (S.told store.new) (λ now. KeepsGenuine now.files)) }
+    ensures genuine { IfSome (S.told store.old) (λ told. KeepsGenuine told.files → IfSome (S.told store.new) (λ now. KeepsGenuine now.files)) }
     ensures reads { OnlyReads (Some command.now) → Keeps (S.told store.old) (S.told store.new) }
     ensures store { StoreCount (S.faults store.old) (S.faults store.new) result.answer }
     ensures read { InputCount (I.faults input.old) (I.faults input.new) result.answer }
@@ -61,6 +61,7 @@ fn obey<S: Store, I: Source, O: Sink>(
     ensures streams { IsNoSession (Some command.now) → LeavesStreams result.answer (I.rest input.old) (I.rest input.new) (O.taken out.old) (O.taken out.new) }
     ensures line { IfSome (S.told store.old) (λ told. IsLine (line_of (Some command.now) told.files) result.answer result.line) }
 {
+    genuine_files_keep_genuine();
     match command {
         Command::Go { steps, .. } => go(alloc, store, *steps, input, out),
         Command::Build { colours, stack } => build_modules(
@@ -134,7 +135,7 @@ fn obey_words<S: Store, I: Source, O: Sink>(
     ensures refusal { IfSome (S.told store.old) (λ told. IsGo (command_of (map string_bytes words.now)) → AnswersBuild (full_build told.files) result.answer) }
     ensures proper { IsGo (command_of (map string_bytes words.now)) → HoldsNoWantOfMemory result.answer }
     ensures others { KeepsTheRest (command_of (map string_bytes words.now)) (S.told store.old) (S.told store.new) }
-    ensures genuine { IfSome (S.told store.old) (λ told. IsNoPhaseTwo (command_of (map string_bytes words.now)) → KeepsGenuine told.files → IfSome (S.told store.new) (λ now. KeepsGenuine now.files)) }
+    ensures genuine { IfSome (S.told store.old) (λ told. KeepsGenuine told.files → IfSome (S.told store.new) (λ now. KeepsGenuine now.files)) }
     ensures reads { OnlyReads (command_of (map string_bytes words.now)) → Keeps (S.told store.old) (S.told store.new) }
     ensures store { StoreCount (S.faults store.old) (S.faults store.new) result.answer }
     ensures read { InputCount (I.faults input.old) (I.faults input.new) result.answer }
@@ -195,7 +196,7 @@ pub fn pawc_top<S: Store, I: Source, O: Sink, E: Sink>(
     // what stays
     ensures streams_left { IsNoSession (command_of (map string_bytes words.now)) → LeavesStreams result (I.rest input.old) (I.rest input.new) (O.taken out.old) (O.taken out.new) }
     ensures keeps_others { KeepsTheRest (command_of (map string_bytes words.now)) (S.told store.old) (S.told store.new) }
-    ensures keeps_genuine { IfSome (S.told store.old) (λ told. IsNoPhaseTwo (command_of (map string_bytes words.now)) → KeepsGenuine told.files → IfSome (S.told store.new) (λ now. KeepsGenuine now.files)) }
+    ensures keeps_genuine { IfSome (S.told store.old) (λ told. KeepsGenuine told.files → IfSome (S.told store.new) (λ now. KeepsGenuine now.files)) }
     ensures store_after { OnlyReads (command_of (map string_bytes words.now)) → Keeps (S.told store.old) (S.told store.new) }
 
     // faults

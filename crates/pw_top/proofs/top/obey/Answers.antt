@@ -1,5 +1,5 @@
-use Rattle.std.proofs.Common.{[], Some}
-use Rattle.pw_top.proofs.GenuineLemmas.{genuine_alone, kept_others, others_alone, plain_genuine, stays_genuine}
+use Rattle.std.proofs.Common.{Some}
+use Rattle.pw_top.proofs.GenuineLemmas.{genuine_alone, kept_others, others_alone, phase_two_genuine, plain_genuine}
 use Rattle.pw_top.proofs.SessionLemmas.{bench_does, bench_line, bench_no_usage, bench_reads, bench_stores, session_does, session_no_usage, session_rest}
 use Rattle.pw_top.proofs.CommandLemmas.{analyse_does, build_does, build_line, build_no_usage, build_reads, db_does, go_does, go_line, kept_alone, left_alone, link_does, list_does, of_any, of_go, of_other, phase_no_usage, phase_one_does, phase_reads, phase_two_does, phase_writes, plain_line, run_does, run_no_usage, show_no_usage, show_reads, store_no_usage, store_reads, store_writes}
 use Rattle.pw_top.proofs.top.obey.Goals as goal
@@ -229,16 +229,16 @@ pub returns-in-Db-clause-others : goal.returns-in-Db-clause-others
 returns-in-Db-clause-others g c = rw c.in-Db.is (kept_others (g.S.Store.told c.args.store.now) _ c.show_database.ensures.same)
 
 pub returns-in-Go-clause-genuine : goal.returns-in-Go-clause-genuine
-returns-in-Go-clause-genuine g c = rw c.in-Go.is (of_any _ (g.S.Store.told c.args.store.now) (stays_genuine [] (g.S.Store.told c.args.store.now) _ (λ name. tt) (kept_others (g.S.Store.told c.args.store.now) _ c.go.ensures.files)))
+returns-in-Go-clause-genuine g c = plain_genuine (Some c.args.command.now) (g.S.Store.told c.args.store.now) _ (rw c.in-Go.is tt) (returns-in-Go-clause-others g c)
 
 pub returns-in-Run-clause-genuine : goal.returns-in-Run-clause-genuine
-returns-in-Run-clause-genuine g c = rw c.in-Run.is (of_any _ (g.S.Store.told c.args.store.now) (stays_genuine [] (g.S.Store.told c.args.store.now) _ (λ name. tt) (kept_others (g.S.Store.told c.args.store.now) _ c.run_image.ensures.same)))
+returns-in-Run-clause-genuine g c = plain_genuine (Some c.args.command.now) (g.S.Store.told c.args.store.now) _ (rw c.in-Run.is tt) (returns-in-Run-clause-others g c)
 
 pub returns-in-List-clause-genuine : goal.returns-in-List-clause-genuine
-returns-in-List-clause-genuine g c = rw c.in-List.is (of_any _ (g.S.Store.told c.args.store.now) (stays_genuine [] (g.S.Store.told c.args.store.now) _ (λ name. tt) (kept_others (g.S.Store.told c.args.store.now) _ c.list_image.ensures.same)))
+returns-in-List-clause-genuine g c = plain_genuine (Some c.args.command.now) (g.S.Store.told c.args.store.now) _ (rw c.in-List.is tt) (returns-in-List-clause-others g c)
 
 pub returns-in-Db-clause-genuine : goal.returns-in-Db-clause-genuine
-returns-in-Db-clause-genuine g c = rw c.in-Db.is (of_any _ (g.S.Store.told c.args.store.now) (stays_genuine [] (g.S.Store.told c.args.store.now) _ (λ name. tt) (kept_others (g.S.Store.told c.args.store.now) _ c.show_database.ensures.same)))
+returns-in-Db-clause-genuine g c = plain_genuine (Some c.args.command.now) (g.S.Store.told c.args.store.now) _ (rw c.in-Db.is tt) (returns-in-Db-clause-others g c)
 
 pub returns-in-PhaseOne-clause-genuine : goal.returns-in-PhaseOne-clause-genuine
 returns-in-PhaseOne-clause-genuine g c = plain_genuine (Some c.args.command.now) (g.S.Store.told c.args.store.now) _ (rw c.in-PhaseOne.is tt) (returns-in-PhaseOne-clause-others g c)
@@ -250,10 +250,7 @@ pub returns-in-Link-clause-genuine : goal.returns-in-Link-clause-genuine
 returns-in-Link-clause-genuine g c = plain_genuine (Some c.args.command.now) (g.S.Store.told c.args.store.now) _ (rw c.in-Link.is tt) (returns-in-Link-clause-others g c)
 
 pub returns-in-PhaseTwo-clause-genuine : goal.returns-in-PhaseTwo-clause-genuine
-returns-in-PhaseTwo-clause-genuine g c = rw c.in-PhaseTwo.is (of_other _ (g.S.Store.told c.args.store.now))
-
-pub returns-in-Build-clause-genuine : goal.returns-in-Build-clause-genuine
-returns-in-Build-clause-genuine g c = rw c.in-Build.is (of_any _ (g.S.Store.told c.args.store.now) c.build_modules.ensures.genuine)
+returns-in-PhaseTwo-clause-genuine g c = phase_two_genuine c.genuine_files_keep_genuine.ensures (g.S.Store.told c.args.store.now) _ _ c.compile_flow.ensures.made
 
 pub returns-in-Build-clause-does : goal.returns-in-Build-clause-does
 returns-in-Build-clause-does g c =
@@ -305,9 +302,6 @@ returns-in-Session-clause-proper g c = rw c.in-Session.is (λ h. absurd h)
 pub returns-in-Session-clause-others : goal.returns-in-Session-clause-others
 returns-in-Session-clause-others g c = rw c.in-Session.is (session_rest (g.S.Store.told c.args.store.now) _ _ c.run_session.ensures.some)
 
-pub returns-in-Session-clause-genuine : goal.returns-in-Session-clause-genuine
-returns-in-Session-clause-genuine g c = rw c.in-Session.is (of_any _ (g.S.Store.told c.args.store.now) c.run_session.ensures.genuine)
-
 pub returns-in-Session-clause-reads : goal.returns-in-Session-clause-reads
 returns-in-Session-clause-reads g c = rw c.in-Session.is (λ h. absurd h)
 
@@ -334,7 +328,7 @@ pub returns-in-Bench-clause-others : goal.returns-in-Bench-clause-others
 returns-in-Bench-clause-others g c = rw c.in-Bench.is (others_alone _ (g.S.Store.told c.args.store.now))
 
 pub returns-in-Bench-clause-genuine : goal.returns-in-Bench-clause-genuine
-returns-in-Bench-clause-genuine g c = rw c.in-Bench.is (genuine_alone _ (g.S.Store.told c.args.store.now))
+returns-in-Bench-clause-genuine g c = genuine_alone (g.S.Store.told c.args.store.now)
 
 pub returns-in-Bench-clause-reads : goal.returns-in-Bench-clause-reads
 returns-in-Bench-clause-reads g c = rw c.in-Bench.is (λ u. kept_alone (g.S.Store.told c.args.store.now))

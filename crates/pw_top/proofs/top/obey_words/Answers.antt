@@ -76,14 +76,11 @@ returns-in-Err-Usage-clause-others g c = rest_alone _ (g.S.Store.told c.args.sto
 pub returns-in-Err-NoMemory-clause-others : goal.returns-in-Err-NoMemory-clause-others
 returns-in-Err-NoMemory-clause-others g c = rest_alone _ (g.S.Store.told c.args.store.now)
 
-pub returns-in-Ok-clause-genuine : goal.returns-in-Ok-clause-genuine
-returns-in-Ok-clause-genuine g c = rw c.in-Ok.ensures c.obey.ensures.genuine
-
 pub returns-in-Err-Usage-clause-genuine : goal.returns-in-Err-Usage-clause-genuine
-returns-in-Err-Usage-clause-genuine g c = genuine_alone _ (g.S.Store.told c.args.store.now)
+returns-in-Err-Usage-clause-genuine g c = genuine_alone (g.S.Store.told c.args.store.now)
 
 pub returns-in-Err-NoMemory-clause-genuine : goal.returns-in-Err-NoMemory-clause-genuine
-returns-in-Err-NoMemory-clause-genuine g c = genuine_alone _ (g.S.Store.told c.args.store.now)
+returns-in-Err-NoMemory-clause-genuine g c = genuine_alone (g.S.Store.told c.args.store.now)
 
 pub returns-in-Ok-clause-streams : goal.returns-in-Ok-clause-streams
 returns-in-Ok-clause-streams g c = rw c.in-Ok.ensures c.obey.ensures.streams
