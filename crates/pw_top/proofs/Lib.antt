@@ -3,3 +3,4 @@ pub mod CommandLemmas
 pub mod ToldLemmas
 pub mod GenuineLemmas
 pub mod SessionLemmas
+pub mod WholeLemmas

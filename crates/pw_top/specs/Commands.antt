@@ -1,8 +1,8 @@
 -- What each command comes to over a store's files and an input, where nothing fails.
-use Rattle.std.specs.Prelude.{◌≡◌, ℕ, List, [], ◌∷◌, codes, Option, Some, None, IfSome}
+use Rattle.std.specs.Prelude.{◌≡◌, ℕ, List, [], ◌∷◌, codes, Option, Some, None, IfSome, IsSomeAnd}
 use Rattle.pw_io.specs.Files.{Files, Told}
 use Rattle.pw_answer.specs.declared.answer.Answer.{Answer}
-use Rattle.pw_answer.specs.declared.answer.Answer.TheVariants.{Usage}
+use Rattle.pw_answer.specs.declared.answer.Answer.TheVariants.{Done, Usage}
 use Rattle.pw_answer.specs.Effects.{Effect, answers_alone}
 use Rattle.pw_modules.specs.Modules.{modules_of}
 use Rattle.pw_build.specs.Phases as phases
@@ -13,7 +13,8 @@ use Rattle.pw_commands.specs.Linking.{LinkComes}
 use Rattle.pw_commands.specs.Others.{KeepsOthers}
 use Rattle.pw_commands.specs.Running.{run_effect}
 use Rattle.pw_commands.specs.Showing.{DatabaseComes, ListComes}
-use Rattle.pw_building.specs.declared.report.Opts.{Opts}
+use Rattle.pw_building.specs.Genuine.{KeepsGenuine}
+use Rattle.pw_build_laws.specs.Whole.{HoldsFullBuild}
 use Rattle.pw_session.specs.declared.opts.SessionOpts.{SessionOpts}
 use Rattle.pw_session.specs.Bench.{BenchComes, bench_files}
 use Rattle.pw_session.specs.Changes.{Change, ChangePart}
@@ -85,6 +86,16 @@ abbrev pub KeepsTheRest : Option Command → Option Told → Option Told → Typ
 KeepsTheRest (Some (Build colours stack)) old new = IfSome old (λ told. KeepsUnput told new)
 KeepsTheRest (Some (Session colours stack steps)) old new = IfSome old (λ told. ChangesSome told new)
 KeepsTheRest command old new = KeepsOthers (files_put command) old new
+
+-- what holds where the answer is `Done`
+abbrev pub IfDone : Answer → Type 0 → Type 0
+IfDone Done P = P
+IfDone _ P = Unit {0}
+
+-- A build that is done leaves the database and the image of the full build of the modules, where the kept objects were genuine.
+abbrev pub BuildsWhole : Option Command → Answer → Told → Option Told → Type 0
+BuildsWhole (Some (Build colours stack)) answer told new = IfDone answer (KeepsGenuine told.files → IsSomeAnd new (λ now. HoldsFullBuild (modules_of told.files) colours stack now.files))
+BuildsWhole _ answer told new = Unit {0}
 
 -- the line on which a module is refused
 abbrev pub line_of : Option Command → Files → ℕ

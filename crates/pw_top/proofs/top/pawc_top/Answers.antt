@@ -8,6 +8,7 @@ use Rattle.pw_go.specs.Refusals.{NoMainComes, NoMainIs, RefusalComes, RefusalIs}
 use Rattle.pw_words.specs.CommandLine.{command_of}
 use Rattle.pw_top.specs.Commands.{IsGo, IsNoSession, line_of}
 use Rattle.pw_top.proofs.ToldLemmas.{by_law, input_told, of_files, output_told, returns_sum, store_told, streams_told, told_does, told_line, told_proper, told_refuses, usage_comes, usage_is}
+use Rattle.pw_top.proofs.WholeLemmas.{builds_whole}
 use Rattle.pw_top.proofs.top.pawc_top.Goals as goal
 
 pub returns-clause-usage_is : goal.returns-clause-usage_is
@@ -79,3 +80,8 @@ returns-clause-line g c =
 
 pub returns-clause-some_line : goal.returns-clause-some_line
 returns-clause-some_line g c = (c.obey_words-reply.result.line, c.tell.ensures.line)
+
+pub returns-clause-builds_whole : goal.returns-clause-builds_whole
+returns-clause-builds_whole g c =
+    builds_whole c.a_build_leaves_the_whole_program.ensures (command_of (map string_bytes c.args.words.now)) (g.S.Store.told c.args.store.now) _ (g.I.Source.rest c.args.input.now) _ (g.O.Sink.taken c.args.out.now) _ c.tell.result
+    (returns-clause-does g c)
