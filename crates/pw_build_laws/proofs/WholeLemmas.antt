@@ -1,5 +1,5 @@
 -- What stands in a store's files after a build.
-use Rattle.std.proofs.Common.{◌≡◌, ◌≢◌, ℕ, zero, suc, Bool, true, false, List, [], ◌∷◌, ◌++◌, codes, length, take, drop, Option, Some, None, Result, Ok, Err, refl, sym, ap, ◌∙◌, subst, arith, length-append}
+use Rattle.std.proofs.Common.{◌≡◌, ◌≢◌, ℕ, zero, suc, ◌+◌, Bool, true, false, List, [], ◌∷◌, ◌++◌, codes, length, take, drop, Option, Some, None, Result, Ok, Err, refl, sym, ap, ◌∙◌, subst, arith, length-append}
 use Rattle.std.specs.List.{AllByRecursion}
 use Rattle.std.specs.Prelude.{if◌then◌else◌}
 use Rattle.std.specs.FinMap as finite
@@ -150,5 +150,6 @@ pub holds_full_build : FileLaws
     → (told : Told) (colours stack : ℕ) (outcome : Outcome) → KeepsGenuine told.files → BuildComes told.files colours stack (Ok outcome) → HoldsFullBuild (modules_of told.files) colours stack (after_puts told outcome.puts).files
 holds_full_build laws full told colours stack outcome keeps comes = (
   all_fresh comes.0,
-  (full told.files colours stack (Ok comes.0) keeps comes.1, all_anew comes.0 stack (after_puts told outcome.puts).files (holds_program laws told stack comes.0 outcome comes.2)),
+  full told.files colours stack (Ok comes.0) keeps comes.1,
+  all_anew comes.0 stack (after_puts told outcome.puts).files (holds_program laws told stack comes.0 outcome comes.2),
 )
