@@ -26,15 +26,31 @@ use Rattle.pw_commands.specs.Needed.{needed, needed_bytes}
 use Rattle.pw_commands.specs.Outcome.{IsStoreAnswer, Obeys}
 use Rattle.pw_commands.specs.Running.{IsRunOrStop, core_in, run_effect, runs}
 use Rattle.pw_commands.specs.Showing.{DatabaseComes, IsShowAnswer, ListComes, ListOver, Shows, database_text, image_in, printed}
+use Rattle.pw_session.specs.Bench.{BenchComes}
 use Rattle.pw_words.specs.declared.commands.Command.{Command}
 use Rattle.pw_words.specs.declared.commands.Command.TheVariants.{Go, Build as BuildAll, Session, PhaseOne, Analyse, PhaseTwo, Link, Run, List as ListImage, Db, Bench}
 use Rattle.pw_compiling.specs.First.{ComesOfPhase, IsLine, PhaseOneComes, PhaseOneOver, text_name}
 use Rattle.pw_compiling.specs.Made.{IsPhaseAnswer}
 use Rattle.pw_compiling.specs.Second.{PhaseTwoComes, PhaseTwoOver, database_at, flow_at}
-use Rattle.pw_top.specs.Commands.{Comes, IsUsageDue, opts_of}
+use Rattle.pw_top.specs.Commands.{IsUsageDue, opts_of}
 use Rattle.pw_top.specs.Does.{Does}
 use Rattle.pw_top.proofs.SessionLemmas.{bench_prints}
 use Rattle.pw_top.proofs.DoesLemmas.{Prints, Quiet, left_so, nothing_put, one_does, prints_does, quiet_does}
+
+-- what the words come to, but for a session
+abbrev pub Comes : Option Command → Files → List ℕ → (Effect → Type 0)
+Comes None files input = λ effect. effect ≡ answers_alone Usage input
+Comes (Some (Go colours stack steps)) files input = λ effect. effect ≡ build_effect (full_build files) steps input
+Comes (Some (BuildAll colours stack)) files input = BuildComesTo files colours stack input
+Comes (Some (Session colours stack steps)) files input = λ effect. ⊥
+Comes (Some (Bench number colours stack steps)) files input = BenchComes number (opts_of colours stack steps) input
+Comes (Some (PhaseOne name)) files input = PhaseOneComes files name input
+Comes (Some (Analyse colours)) files input = AnalyseComes files colours input
+Comes (Some (PhaseTwo name)) files input = PhaseTwoComes files name input
+Comes (Some (Link stack)) files input = LinkComes files stack input
+Comes (Some (Run steps)) files input = λ effect. effect ≡ run_effect files steps input
+Comes (Some ListImage) files input = ListComes files input
+Comes (Some Db) files input = DatabaseComes files input
 
 -- ---- the store's commands
 
@@ -330,3 +346,7 @@ kept_alone (Some t) = refl
 pub no_line : (told : Option Told) → IfSome told (λ t. Unit {0})
 no_line None = tt
 no_line (Some t) = tt
+
+pub no_script : (rest : Option (List ℕ)) → IfSome rest (λ script. Unit {0})
+no_script None = tt
+no_script (Some script) = tt

@@ -4,6 +4,8 @@ use Rattle.std.specs.Prelude.{IfSome, IsSomeAnd}
 use Rattle.std.specs.List.{AllByRecursion}
 use Rattle.pw_io.specs.Files.{Told, Keeps}
 use Rattle.pw_object.specs.declared.object.Object.{Object}
+use Rattle.pw_answer.specs.declared.answer.Answer.{Answer}
+use Rattle.pw_answer.specs.declared.answer.Answer.TheVariants.{NoMemory}
 use Rattle.pw_answer.specs.Effects.{NamedFile, PutPart}
 use Rattle.pw_making.specs.Kept.{IsGenuine}
 use Rattle.pw_commands.specs.Others.{IsNoneOf, IsSameBut, KeepsOthers}
@@ -68,14 +70,14 @@ puts_apart (Some (Analyse colours)) h name = database_apart name
 puts_apart (Some (Link stack)) h name = image_apart name
 puts_apart _ h name = tt
 
-others_of : (command : Option Command) (told new : Option Told) → PutsNoObject command → KeepsTheRest command told new → KeepsOthers (files_put command) told new
-others_of (Some (BuildAll colours stack)) told new p h = absurd p
-others_of (Some (Session colours stack steps)) told new p h = absurd p
-others_of command told new p h = h
+others_of : (command : Option Command) (answer : Answer) (told new : Option Told) → PutsNoObject command → KeepsTheRest command answer told new → KeepsOthers (files_put command) told new
+others_of (Some (BuildAll colours stack)) answer told new p h = absurd p
+others_of (Some (Session colours stack steps)) answer told new p h = absurd p
+others_of command answer told new p h = h
 
-pub plain_genuine : (command : Option Command) (told new : Option Told) → PutsNoObject command → KeepsTheRest command told new
+pub plain_genuine : (command : Option Command) (answer : Answer) (told new : Option Told) → PutsNoObject command → KeepsTheRest command answer told new
     → IfSome told (λ t. KeepsGenuine t.files → IfSome new (λ now. KeepsGenuine now.files))
-plain_genuine command told new p h = stays_genuine (files_put command) told new (puts_apart command p) (others_of command told new p h)
+plain_genuine command answer told new p h = stays_genuine (files_put command) told new (puts_apart command p) (others_of command answer told new p h)
 
 pub genuine_alone : (told : Option Told) → IfSome told (λ t. KeepsGenuine t.files → IfSome told (λ now. KeepsGenuine now.files))
 genuine_alone None = tt
@@ -113,7 +115,7 @@ others_alone names (Some t) = λ name n. refl
 unput_alone : (told : Told) → KeepsUnput told (Some told)
 unput_alone told = record { put = []; failed = []; one = omega arith; told_so = sym (append-nil told.puts); same = λ name n. refl }
 
-pub rest_alone : (command : Option Command) (told : Option Told) → KeepsTheRest command told told
+pub rest_alone : (command : Option Command) (told : Option Told) → KeepsTheRest command NoMemory told told
 rest_alone (Some (BuildAll colours stack)) None = tt
 rest_alone (Some (BuildAll colours stack)) (Some t) = unput_alone t
 rest_alone (Some (Session colours stack steps)) None = tt

@@ -16,9 +16,8 @@ use Rattle.pw_go.specs.Going.{IsNoUsage}
 use Rattle.pw_compiling.specs.First.{IsLine}
 use Rattle.pw_session.specs.declared.opts.SessionOpts.{SessionOpts}
 use Rattle.pw_session.specs.Bench.{BenchComes, BenchOver, IsBenchAnswer, IsBenchFound, IsBenchLine, ObeysBench, bench_files}
-use Rattle.pw_session.specs.Changes.{Change, ChangeFront, ChangePart, IsChanged, MakesChanges, MakesSome, after_changes}
+use Rattle.pw_session.specs.Changes.{Change, ChangeFront, MakesChanges, MakesSome}
 use Rattle.pw_session.specs.Outcomes.{IsSessionAnswer, LeavesScript, ObeysSession}
-use Rattle.pw_top.specs.Commands.{ChangesSome}
 use Rattle.pw_top.specs.Does.{Does, DoesSession}
 use Rattle.pw_top.proofs.DoesLemmas.{Prints, left_so, none_out_yet, nothing_put, out_part}
 
@@ -36,19 +35,16 @@ session_no_usage Usage h = h
 session_no_usage _ h = tt
 
 -- what was changed
-none_changed : (told : Told) (new : Option Told) → new ≡ Some told → IsChanged told [] new
-none_changed told new e = e
-
-some_changed : (answer : Answer) (told : Told) (new : Option Told) → MakesSome answer told new → ChangesSome told new
-some_changed Done told new h = (h.0, record { done = h.0; more = []; split = sym (append-nil h.0); left = none_changed (after_changes told h.0) new h.1 })
-some_changed _ told new h = h
-
-pub session_rest : (told new : Option Told) (answer : Answer) → IfSome told (λ t. MakesSome answer t new) → IfSome told (λ t. ChangesSome t new)
-session_rest None new answer h = tt
-session_rest (Some t) new answer h = some_changed answer t new h
-
-pub changes_none : (told : Told) → ChangesSome told (Some told)
+pub changes_none : (told : Told) → MakesSome NoMemory told (Some told)
 changes_none told = ([], record { done = []; more = []; split = refl; left = refl })
+
+pub some_memory : (answer : Answer) (told : Told) (new : Option Told) → NeedsMemory answer → MakesSome answer told new → MakesSome NoMemory told new
+some_memory (Refused name refusal) told new n h = h
+some_memory (LinkRefused fault) told new n h = h
+some_memory (Halted halt at) told new n h = h
+some_memory (BadFile name at) told new n h = h
+some_memory (BadScript at) told new n h = h
+some_memory _ told new n h = absurd n
 
 -- ---- want of memory in place of the answer's line
 

@@ -1,47 +1,29 @@
--- What each command comes to over a store's files and an input, where nothing fails.
+-- Kinds of commands, and what each leaves alone.
 use Rattle.std.specs.Prelude.{◌≡◌, ℕ, List, [], ◌∷◌, codes, Option, Some, None, IfSome, IsSomeAnd}
 use Rattle.pw_io.specs.Files.{Files, Told}
 use Rattle.pw_answer.specs.declared.answer.Answer.{Answer}
 use Rattle.pw_answer.specs.declared.answer.Answer.TheVariants.{Done, Usage}
-use Rattle.pw_answer.specs.Effects.{Effect, answers_alone}
+use Rattle.pw_answer.specs.Outcomes.{Answers}
 use Rattle.pw_modules.specs.Modules.{modules_of}
 use Rattle.pw_build.specs.Phases as phases
 use Rattle.pw_go.specs.FullBuild.{full_build}
-use Rattle.pw_go.specs.Going.{IsNoUsage, build_effect, refused_line}
-use Rattle.pw_commands.specs.Analysing.{AnalyseComes}
-use Rattle.pw_commands.specs.Linking.{LinkComes}
+use Rattle.pw_go.specs.Going.{IsNoUsage, refused_line}
 use Rattle.pw_commands.specs.Others.{KeepsOthers}
-use Rattle.pw_commands.specs.Running.{run_effect}
-use Rattle.pw_commands.specs.Showing.{DatabaseComes, ListComes}
 use Rattle.pw_building.specs.Genuine.{KeepsGenuine}
 use Rattle.pw_build_laws.specs.Whole.{HoldsFullBuild}
 use Rattle.pw_session.specs.declared.opts.SessionOpts.{SessionOpts}
-use Rattle.pw_session.specs.Bench.{BenchComes, bench_files}
-use Rattle.pw_session.specs.Changes.{Change, ChangePart}
-use Rattle.pw_driving.specs.Driving.{BuildComesTo, KeepsUnput}
-use Rattle.pw_compiling.specs.First.{PhaseOneComes, phase_line, phase_one_puts}
-use Rattle.pw_compiling.specs.Second.{PhaseTwoComes, phase_two_puts}
+use Rattle.pw_session.specs.Bench.{bench_files}
+use Rattle.pw_session.specs.Changes.{MakesSome}
+use Rattle.pw_session.specs.Session.{lines_of, script_answer}
+use Rattle.pw_driving.specs.Driving.{KeepsUnput}
+use Rattle.pw_compiling.specs.First.{phase_line, phase_one_puts}
+use Rattle.pw_compiling.specs.Second.{phase_two_puts}
 use Rattle.pw_words.specs.declared.commands.Command.{Command}
-use Rattle.pw_words.specs.declared.commands.Command.TheVariants.{Go, Build, Session, PhaseOne, Analyse, PhaseTwo, Link, Run, List as ListImage, Db, Bench}
+use Rattle.pw_words.specs.declared.commands.Command.TheVariants.{Go, Build, Session, PhaseOne, Analyse, PhaseTwo, Link, Bench}
 
 -- how a session and `bench` build, and for how many instructions they run a program at most
 abbrev pub opts_of : ℕ → ℕ → ℕ → SessionOpts
 opts_of colours stack steps = record { build = record { colours = colours; stack = stack }; budget = steps }
-
--- what a command, or words that say none, come to; what a session does stands apart (`DoesSession`)
-abbrev pub Comes : Option Command → Files → List ℕ → (Effect → Type 0)
-Comes None files input = λ effect. effect ≡ answers_alone Usage input
-Comes (Some (Go colours stack steps)) files input = λ effect. effect ≡ build_effect (full_build files) steps input
-Comes (Some (Build colours stack)) files input = BuildComesTo files colours stack input
-Comes (Some (Session colours stack steps)) files input = λ effect. ⊥
-Comes (Some (Bench number colours stack steps)) files input = BenchComes number (opts_of colours stack steps) input
-Comes (Some (PhaseOne name)) files input = PhaseOneComes files name input
-Comes (Some (Analyse colours)) files input = AnalyseComes files colours input
-Comes (Some (PhaseTwo name)) files input = PhaseTwoComes files name input
-Comes (Some (Link stack)) files input = LinkComes files stack input
-Comes (Some (Run steps)) files input = λ effect. effect ≡ run_effect files steps input
-Comes (Some ListImage) files input = ListComes files input
-Comes (Some Db) files input = DatabaseComes files input
 
 -- the command is `go`
 abbrev pub IsGo : Option Command → Type 0
@@ -76,16 +58,17 @@ abbrev pub IsNoSession : Option Command → Type 0
 IsNoSession (Some (Session colours stack steps)) = ⊥
 IsNoSession _ = Unit {0}
 
--- Some files were put or removed, in order, and of one more perhaps a part; all else is as it was.
-abbrev pub ChangesSome : Told → Option Told → Type 0
-ChangesSome told new = (changes : List Change) × ChangePart told changes new
-
 -- A store that told its files goes on telling them, and each file but those that the command puts is as it was; of a
--- build the store tells which were put, and a session changes them in order.
-abbrev pub KeepsTheRest : Option Command → Option Told → Option Told → Type 0
-KeepsTheRest (Some (Build colours stack)) old new = IfSome old (λ told. KeepsUnput told new)
-KeepsTheRest (Some (Session colours stack steps)) old new = IfSome old (λ told. ChangesSome told new)
-KeepsTheRest command old new = KeepsOthers (files_put command) old new
+-- build the store tells which were put, and a session changed files of its own, in order.
+abbrev pub KeepsTheRest : Option Command → Answer → Option Told → Option Told → Type 0
+KeepsTheRest (Some (Build colours stack)) answer old new = IfSome old (λ told. KeepsUnput told new)
+KeepsTheRest (Some (Session colours stack steps)) answer old new = IfSome old (λ told. MakesSome answer told new)
+KeepsTheRest command answer old new = KeepsOthers (files_put command) old new
+
+-- whether a session is done, and where no lawful line stands, hangs on its script alone
+abbrev pub AnswersScript : Option Command → List ℕ → Answer → Type 0
+AnswersScript (Some (Session colours stack steps)) script answer = Answers (script_answer (lines_of script).bad) answer
+AnswersScript _ script answer = Unit {0}
 
 -- what holds where the answer is `Done`
 abbrev pub IfDone : Answer → Type 0 → Type 0

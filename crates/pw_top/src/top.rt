@@ -10,7 +10,7 @@ ghost use Rattle.pw_go.specs.Refusals.{HoldsNoWantOfMemory, NoMainComes, NoMainI
 ghost use Rattle.pw_modules.specs.Modules.{modules_of};
 ghost use Rattle.pw_compiling.specs.First.{IsLine};
 ghost use Rattle.pw_building.specs.Genuine.{KeepsGenuine};
-ghost use Rattle.pw_top.specs.Commands.{BuildsWhole, IsGo, IsNoSession, IsUsageDue, KeepsTheRest, OnlyReads, line_of, opts_of};
+ghost use Rattle.pw_top.specs.Commands.{AnswersScript, BuildsWhole, IsGo, IsNoSession, IsUsageDue, KeepsTheRest, OnlyReads, line_of, opts_of};
 ghost use Rattle.pw_top.specs.Does.{DoesAs};
 ghost use Rattle.pw_words.specs.CommandLine.{command_of};
 ghost use Rattle.pw_words.specs.Limits.{IsWithin};
@@ -53,7 +53,8 @@ fn obey<S: Store, I: Source, O: Sink>(
     ensures usage { IsUsageDue (Some command.now) result.answer }
     ensures refusal { IfSome (S.told store.old) (λ told. IsGo (Some command.now) → AnswersBuild (full_build told.files) result.answer) }
     ensures proper { IsGo (Some command.now) → HoldsNoWantOfMemory result.answer }
-    ensures others { KeepsTheRest (Some command.now) (S.told store.old) (S.told store.new) }
+    ensures script { IfSome (I.rest input.old) (λ script. AnswersScript (Some command.now) script result.answer) }
+    ensures others { KeepsTheRest (Some command.now) result.answer (S.told store.old) (S.told store.new) }
     ensures genuine { IfSome (S.told store.old) (λ told. KeepsGenuine told.files → IfSome (S.told store.new) (λ now. KeepsGenuine now.files)) }
     ensures reads { OnlyReads (Some command.now) → Keeps (S.told store.old) (S.told store.new) }
     ensures store { StoreCount (S.faults store.old) (S.faults store.new) result.answer }
@@ -135,7 +136,8 @@ fn obey_words<S: Store, I: Source, O: Sink>(
     ensures usage_comes { command_of (map string_bytes words.now) ≡ None → (result.answer ≡ Answer.Usage) ⊎ (result.answer ≡ Answer.NoMemory) }
     ensures refusal { IfSome (S.told store.old) (λ told. IsGo (command_of (map string_bytes words.now)) → AnswersBuild (full_build told.files) result.answer) }
     ensures proper { IsGo (command_of (map string_bytes words.now)) → HoldsNoWantOfMemory result.answer }
-    ensures others { KeepsTheRest (command_of (map string_bytes words.now)) (S.told store.old) (S.told store.new) }
+    ensures script { IfSome (I.rest input.old) (λ script. AnswersScript (command_of (map string_bytes words.now)) script result.answer) }
+    ensures others { KeepsTheRest (command_of (map string_bytes words.now)) result.answer (S.told store.old) (S.told store.new) }
     ensures genuine { IfSome (S.told store.old) (λ told. KeepsGenuine told.files → IfSome (S.told store.new) (λ now. KeepsGenuine now.files)) }
     ensures reads { OnlyReads (command_of (map string_bytes words.now)) → Keeps (S.told store.old) (S.told store.new) }
     ensures store { StoreCount (S.faults store.old) (S.faults store.new) result.answer }
@@ -183,6 +185,9 @@ pub fn pawc_top<S: Store, I: Source, O: Sink, E: Sink>(
     ensures does { IfSome (S.told store.old) (λ told. IfSome (I.rest input.old) (λ rest. DoesAs (command_of (map string_bytes words.now)) result told (S.told store.new) rest (I.rest input.new) (O.taken out.old) (O.taken out.new))) }
     ensures builds_whole { IfSome (S.told store.old) (λ told. IfSome (I.rest input.old) (λ rest. BuildsWhole (command_of (map string_bytes words.now)) result told (S.told store.new))) }
 
+    // the script of a session
+    ensures script { IfSome (I.rest input.old) (λ script. AnswersScript (command_of (map string_bytes words.now)) script result) }
+
     // the refusals of `go`
     ensures refusal_is { IfSome (S.told store.old) (λ told. IsGo (command_of (map string_bytes words.now)) → RefusalIs (modules_of told.files) result) }
     ensures refusal_comes { IfSome (S.told store.old) (λ told. IsGo (command_of (map string_bytes words.now)) → RefusalComes (modules_of told.files) result) }
@@ -197,7 +202,7 @@ pub fn pawc_top<S: Store, I: Source, O: Sink, E: Sink>(
 
     // what stays
     ensures streams_left { IsNoSession (command_of (map string_bytes words.now)) → LeavesStreams result (I.rest input.old) (I.rest input.new) (O.taken out.old) (O.taken out.new) }
-    ensures keeps_others { KeepsTheRest (command_of (map string_bytes words.now)) (S.told store.old) (S.told store.new) }
+    ensures keeps_others { KeepsTheRest (command_of (map string_bytes words.now)) result (S.told store.old) (S.told store.new) }
     ensures keeps_genuine { IfSome (S.told store.old) (λ told. KeepsGenuine told.files → IfSome (S.told store.new) (λ now. KeepsGenuine now.files)) }
     ensures store_after { OnlyReads (command_of (map string_bytes words.now)) → Keeps (S.told store.old) (S.told store.new) }
 

@@ -1,7 +1,7 @@
 use Rattle.std.proofs.Common.{Some}
 use Rattle.pw_top.proofs.GenuineLemmas.{genuine_alone, kept_others, others_alone, phase_two_genuine, plain_genuine}
-use Rattle.pw_top.proofs.SessionLemmas.{bench_does, bench_line, bench_no_usage, bench_reads, bench_stores, session_does, session_no_usage, session_rest}
-use Rattle.pw_top.proofs.CommandLemmas.{analyse_does, build_does, build_line, build_no_usage, build_reads, db_does, go_does, go_line, kept_alone, left_alone, link_does, list_does, of_any, of_go, of_other, phase_no_usage, phase_one_does, phase_reads, phase_two_does, phase_writes, plain_line, run_does, run_no_usage, show_no_usage, show_reads, store_no_usage, store_reads, store_writes}
+use Rattle.pw_top.proofs.SessionLemmas.{bench_does, bench_line, bench_no_usage, bench_reads, bench_stores, session_does, session_no_usage}
+use Rattle.pw_top.proofs.CommandLemmas.{analyse_does, build_does, build_line, build_no_usage, build_reads, db_does, go_does, go_line, kept_alone, left_alone, link_does, list_does, no_script, of_any, of_go, of_other, phase_no_usage, phase_one_does, phase_reads, phase_two_does, phase_writes, plain_line, run_does, run_no_usage, show_no_usage, show_reads, store_no_usage, store_reads, store_writes}
 use Rattle.pw_top.proofs.top.obey.Goals as goal
 
 pub returns-in-Go-clause-does : goal.returns-in-Go-clause-does
@@ -229,25 +229,25 @@ pub returns-in-Db-clause-others : goal.returns-in-Db-clause-others
 returns-in-Db-clause-others g c = rw c.in-Db.is (kept_others (g.S.Store.told c.args.store.now) _ c.show_database.ensures.same)
 
 pub returns-in-Go-clause-genuine : goal.returns-in-Go-clause-genuine
-returns-in-Go-clause-genuine g c = plain_genuine (Some c.args.command.now) (g.S.Store.told c.args.store.now) _ (rw c.in-Go.is tt) (returns-in-Go-clause-others g c)
+returns-in-Go-clause-genuine g c = plain_genuine (Some c.args.command.now) _ (g.S.Store.told c.args.store.now) _ (rw c.in-Go.is tt) (returns-in-Go-clause-others g c)
 
 pub returns-in-Run-clause-genuine : goal.returns-in-Run-clause-genuine
-returns-in-Run-clause-genuine g c = plain_genuine (Some c.args.command.now) (g.S.Store.told c.args.store.now) _ (rw c.in-Run.is tt) (returns-in-Run-clause-others g c)
+returns-in-Run-clause-genuine g c = plain_genuine (Some c.args.command.now) _ (g.S.Store.told c.args.store.now) _ (rw c.in-Run.is tt) (returns-in-Run-clause-others g c)
 
 pub returns-in-List-clause-genuine : goal.returns-in-List-clause-genuine
-returns-in-List-clause-genuine g c = plain_genuine (Some c.args.command.now) (g.S.Store.told c.args.store.now) _ (rw c.in-List.is tt) (returns-in-List-clause-others g c)
+returns-in-List-clause-genuine g c = plain_genuine (Some c.args.command.now) _ (g.S.Store.told c.args.store.now) _ (rw c.in-List.is tt) (returns-in-List-clause-others g c)
 
 pub returns-in-Db-clause-genuine : goal.returns-in-Db-clause-genuine
-returns-in-Db-clause-genuine g c = plain_genuine (Some c.args.command.now) (g.S.Store.told c.args.store.now) _ (rw c.in-Db.is tt) (returns-in-Db-clause-others g c)
+returns-in-Db-clause-genuine g c = plain_genuine (Some c.args.command.now) _ (g.S.Store.told c.args.store.now) _ (rw c.in-Db.is tt) (returns-in-Db-clause-others g c)
 
 pub returns-in-PhaseOne-clause-genuine : goal.returns-in-PhaseOne-clause-genuine
-returns-in-PhaseOne-clause-genuine g c = plain_genuine (Some c.args.command.now) (g.S.Store.told c.args.store.now) _ (rw c.in-PhaseOne.is tt) (returns-in-PhaseOne-clause-others g c)
+returns-in-PhaseOne-clause-genuine g c = plain_genuine (Some c.args.command.now) _ (g.S.Store.told c.args.store.now) _ (rw c.in-PhaseOne.is tt) (returns-in-PhaseOne-clause-others g c)
 
 pub returns-in-Analyse-clause-genuine : goal.returns-in-Analyse-clause-genuine
-returns-in-Analyse-clause-genuine g c = plain_genuine (Some c.args.command.now) (g.S.Store.told c.args.store.now) _ (rw c.in-Analyse.is tt) (returns-in-Analyse-clause-others g c)
+returns-in-Analyse-clause-genuine g c = plain_genuine (Some c.args.command.now) _ (g.S.Store.told c.args.store.now) _ (rw c.in-Analyse.is tt) (returns-in-Analyse-clause-others g c)
 
 pub returns-in-Link-clause-genuine : goal.returns-in-Link-clause-genuine
-returns-in-Link-clause-genuine g c = plain_genuine (Some c.args.command.now) (g.S.Store.told c.args.store.now) _ (rw c.in-Link.is tt) (returns-in-Link-clause-others g c)
+returns-in-Link-clause-genuine g c = plain_genuine (Some c.args.command.now) _ (g.S.Store.told c.args.store.now) _ (rw c.in-Link.is tt) (returns-in-Link-clause-others g c)
 
 pub returns-in-PhaseTwo-clause-genuine : goal.returns-in-PhaseTwo-clause-genuine
 returns-in-PhaseTwo-clause-genuine g c = phase_two_genuine c.genuine_files_keep_genuine.ensures (g.S.Store.told c.args.store.now) _ _ c.compile_flow.ensures.made
@@ -300,7 +300,7 @@ pub returns-in-Session-clause-proper : goal.returns-in-Session-clause-proper
 returns-in-Session-clause-proper g c = rw c.in-Session.is (λ h. absurd h)
 
 pub returns-in-Session-clause-others : goal.returns-in-Session-clause-others
-returns-in-Session-clause-others g c = rw c.in-Session.is (session_rest (g.S.Store.told c.args.store.now) _ _ c.run_session.ensures.some)
+returns-in-Session-clause-others g c = rw c.in-Session.is c.run_session.ensures.some
 
 pub returns-in-Session-clause-reads : goal.returns-in-Session-clause-reads
 returns-in-Session-clause-reads g c = rw c.in-Session.is (λ h. absurd h)
@@ -344,3 +344,36 @@ returns-in-Bench-clause-streams g c = rw c.in-Bench.is (λ u. c.bench.ensures.st
 
 pub returns-in-Bench-clause-line : goal.returns-in-Bench-clause-line
 returns-in-Bench-clause-line g c = rw c.in-Bench.is (bench_line (g.S.Store.told c.args.store.now) _ _ _ c.bench.ensures.line)
+
+pub returns-in-Go-clause-script : goal.returns-in-Go-clause-script
+returns-in-Go-clause-script g c = rw c.in-Go.is (no_script (g.I.Source.rest c.args.input.now))
+
+pub returns-in-Build-clause-script : goal.returns-in-Build-clause-script
+returns-in-Build-clause-script g c = rw c.in-Build.is (no_script (g.I.Source.rest c.args.input.now))
+
+pub returns-in-Bench-clause-script : goal.returns-in-Bench-clause-script
+returns-in-Bench-clause-script g c = rw c.in-Bench.is (no_script (g.I.Source.rest c.args.input.now))
+
+pub returns-in-PhaseOne-clause-script : goal.returns-in-PhaseOne-clause-script
+returns-in-PhaseOne-clause-script g c = rw c.in-PhaseOne.is (no_script (g.I.Source.rest c.args.input.now))
+
+pub returns-in-Analyse-clause-script : goal.returns-in-Analyse-clause-script
+returns-in-Analyse-clause-script g c = rw c.in-Analyse.is (no_script (g.I.Source.rest c.args.input.now))
+
+pub returns-in-PhaseTwo-clause-script : goal.returns-in-PhaseTwo-clause-script
+returns-in-PhaseTwo-clause-script g c = rw c.in-PhaseTwo.is (no_script (g.I.Source.rest c.args.input.now))
+
+pub returns-in-Link-clause-script : goal.returns-in-Link-clause-script
+returns-in-Link-clause-script g c = rw c.in-Link.is (no_script (g.I.Source.rest c.args.input.now))
+
+pub returns-in-Run-clause-script : goal.returns-in-Run-clause-script
+returns-in-Run-clause-script g c = rw c.in-Run.is (no_script (g.I.Source.rest c.args.input.now))
+
+pub returns-in-List-clause-script : goal.returns-in-List-clause-script
+returns-in-List-clause-script g c = rw c.in-List.is (no_script (g.I.Source.rest c.args.input.now))
+
+pub returns-in-Db-clause-script : goal.returns-in-Db-clause-script
+returns-in-Db-clause-script g c = rw c.in-Db.is (no_script (g.I.Source.rest c.args.input.now))
+
+pub returns-in-Session-clause-script : goal.returns-in-Session-clause-script
+returns-in-Session-clause-script g c = rw c.in-Session.is c.run_session.ensures.script
