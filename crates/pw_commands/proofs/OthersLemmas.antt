@@ -1,13 +1,14 @@
 -- What a put leaves of other files.
-use Rattle.std.proofs.Common.{◌≡◌, ℕ, ⊎_elim, List, [], ◌∷◌, ◌++◌, Option, Some, None, map, cond, true, false, Bool, refl, sym, ap, ◌∙◌, subst, take}
+use Rattle.std.proofs.Common.{◌≡◌, ℕ, ⊎_elim, inl, inr, List, [], ◌∷◌, ◌++◌, Option, Some, None, map, cond, true, false, Bool, refl, sym, ap, ◌∙◌, subst, take, append_assoc, append-nil, arith}
 use Rattle.std.specs.Prelude.{IfSome, IsSomeAnd}
+use Rattle.std.specs.List.{AllByRecursion}
 use Rattle.std.specs.FinMap as finite
 use Rattle.std.specs.FinMap.{get-insert, get-remove}
 use Rattle.std.proofs.lemmas.Cmp.{nat_list_cmp_total}
 use Rattle.std.proofs.lemmas.Map.Lookups.{exact_bytes}
 use Rattle.std.proofs.lemmas.Map.Views.{tells_apart}
 use Rattle.pw_io.specs.Files.{Files, Keeps, LeavesFile, Told, after_put}
-use Rattle.pw_commands.specs.Others.{IsNoneOf, IsSameBut, KeepsOthers}
+use Rattle.pw_commands.specs.Others.{IsNoneOf, IsOneOf, IsSameBut, KeepsOthers, PutsOnly}
 use Rattle.pw_answer.specs.declared.answer.Answer.{Answer}
 use Rattle.pw_answer.specs.declared.answer.Answer.TheVariants.{StoreFault, NoMemory}
 use Rattle.pw_answer.specs.Effects.{IsLeft, NamedFile, PutFront, PutPart, PutsFiles, after_puts}
@@ -42,51 +43,84 @@ puts_other : (files : List NamedFile) (told : Told) → IsSameBut (names_of file
 puts_other [] told name h = refl
 puts_other (file ∷ files) told name h = puts_other files (after_put told file.0 file.1) name h.1 ∙ insert_other told.files file.0 file.1 name h.0
 
-none_of_front : (done more : List NamedFile) (name : List ℕ) → IsNoneOf (names_of (done ++ more)) name → IsNoneOf (names_of done) name
-none_of_front [] more name h = tt
-none_of_front (file ∷ done) more name h = (h.0, none_of_front done more name h.1)
+puts_told : (files : List NamedFile) (told : Told) → (after_puts told files).puts ≡ told.puts ++ names_of files
+puts_told [] told = sym (append-nil told.puts)
+puts_told (file ∷ files) told = puts_told files (after_put told file.0 file.1) ∙ append_assoc told.puts (file.0 ∷ []) (names_of files)
 
-none_of_rest : (done more : List NamedFile) (name : List ℕ) → IsNoneOf (names_of (done ++ more)) name → IsNoneOf (names_of more) name
-none_of_rest [] more name h = h
-none_of_rest (file ∷ done) more name h = none_of_rest done more name h.1
+-- ---- names among others
 
-abbrev SameIn : List NamedFile → Told → Option Told → Type 0
-SameIn files told new = IsSomeAnd new (λ left. IsSameBut (names_of files) told.files left.files)
+none_of_first : (names more : List (List ℕ)) (name : List ℕ) → IsNoneOf (names ++ more) name → IsNoneOf names name
+none_of_first [] more name h = tt
+none_of_first (other ∷ names) more name h = (h.0, none_of_first names more name h.1)
 
-same_in : (files : List NamedFile) (told left : Told) (new : Option Told) → new ≡ Some left → IsSameBut (names_of files) told.files left.files → SameIn files told new
-same_in files told left new e h = subst (SameIn files told) (sym e) h
+none_of_second : (names more : List (List ℕ)) (name : List ℕ) → IsNoneOf (names ++ more) name → IsNoneOf more name
+none_of_second [] more name h = h
+none_of_second (other ∷ names) more name h = none_of_second names more name h.1
 
-part_other : (files : List NamedFile) (told : Told) (new : Option Told) → IsLeft told files new → SameIn files told new
-part_other [] told new h = same_in [] told told new h (λ name n. refl)
-part_other (file ∷ files) told None h = absurd (⊎_elim {C = ⊥} (λ e. cc) (λ n. n) h)
-part_other (file ∷ files) told (Some left) h =
-    ⊎_elim {C = SameIn (file ∷ files) told (Some left)}
-    (λ e. same_in (file ∷ files) told told (Some left) e (λ name n. refl))
-    (λ l. λ name n. left_other told.files left.files file.0 file.1 name l.1 n.0)
-    h
+one_more : (other : List ℕ) (names some : List (List ℕ)) → AllByRecursion (IsOneOf names) some → AllByRecursion (IsOneOf (other ∷ names)) some
+one_more other names [] h = tt
+one_more other names (name ∷ some) h = (inr h.0, one_more other names some h.1)
 
-behind : (done more : List NamedFile) (told : Told) (new : Option Told) → SameIn more (after_puts told done) new → SameIn (done ++ more) told new
-behind done more told None h = h
-behind done more told (Some left) h = λ name n. h name (none_of_rest done more name n) ∙ puts_other done told name (none_of_front done more name n)
+one_of_done : (done more : List NamedFile) → AllByRecursion (IsOneOf (names_of (done ++ more))) (names_of done)
+one_of_done [] more = tt
+one_of_done (file ∷ done) more = (inl refl, one_more file.0 (names_of (done ++ more)) (names_of done) (one_of_done done more))
 
-front_other : (files : List NamedFile) (told : Told) (new : Option Told) → PutFront told files new → SameIn files told new
-front_other files told new h =
-    subst (λ (fs : List NamedFile). SameIn fs told new) (sym h.split) (behind h.done h.more told new (same_in h.more (after_puts told h.done) (after_puts told h.done) new h.left (λ name n. refl)))
+one_of_next : (done : List NamedFile) (file : NamedFile) (more : List NamedFile) → IsOneOf (names_of (done ++ file ∷ more)) file.0
+one_of_next [] file more = inl refl
+one_of_next (other ∷ done) file more = inr (one_of_next done file more)
 
-put_part_other : (files : List NamedFile) (told : Told) (new : Option Told) → PutPart told files new → SameIn files told new
-put_part_other files told new h =
-    subst (λ (fs : List NamedFile). SameIn fs told new) (sym h.split) (behind h.done h.more told new (part_other h.more (after_puts told h.done) new h.left))
+all_own : (names some others : List (List ℕ)) → AllByRecursion (IsOneOf names) some → AllByRecursion (IsOneOf names) others → AllByRecursion (IsOneOf names) (some ++ others)
+all_own names [] others h k = k
+all_own names (name ∷ some) others h k = (h.0, all_own names some others h.1 k)
 
-pub files_other : (files : List NamedFile) (answer : Answer) (told : Told) (new : Option Told) → PutsFiles files answer told new → SameIn files told new
-files_other files StoreFault told new h = put_part_other files told new h
-files_other files NoMemory told new h = front_other files told new h
-files_other files _ told new h = same_in files told (after_puts told files) new h (puts_other files told)
+-- ---- files that were put, whole or in part
+
+abbrev PutsIn : List NamedFile → Told → Option Told → Type 0
+PutsIn files told new = IsSomeAnd new (PutsOnly (names_of files) told)
+
+whole_in : (done more : List NamedFile) (told : Told) (new : Option Told) → new ≡ Some (after_puts told done) → PutsIn (done ++ more) told new
+whole_in done more told new e =
+    subst (PutsIn (done ++ more) told) (sym e) (record {
+      put = names_of done;
+      failed = [];
+      own = all_own (names_of (done ++ more)) (names_of done) [] (one_of_done done more) tt;
+      one = omega arith;
+      told_so = puts_told done told;
+      same = λ name n. puts_other done told name (none_of_first (names_of done) [] name n);
+    })
+
+failed_in : (done : List NamedFile) (file : NamedFile) (more : List NamedFile) (told left : Told) → left.puts ≡ (after_puts told done).puts → LeavesFile (after_puts told done).files left.files file.0 file.1
+    → PutsOnly (names_of (done ++ file ∷ more)) told left
+failed_in done file more told left puts leaves = record {
+  put = names_of done;
+  failed = file.0 ∷ [];
+  own = all_own (names_of (done ++ file ∷ more)) (names_of done) (file.0 ∷ []) (one_of_done done (file ∷ more)) (one_of_next done file more, tt);
+  one = omega arith;
+  told_so = puts ∙ puts_told done told;
+  same = λ name n.
+      left_other (after_puts told done).files left.files file.0 file.1 name leaves (none_of_second (names_of done) (file.0 ∷ []) name n).0
+      ∙ puts_other done told name (none_of_first (names_of done) (file.0 ∷ []) name n);
+}
+
+left_in : (done more : List NamedFile) (told : Told) (new : Option Told) → IsLeft (after_puts told done) more new → PutsIn (done ++ more) told new
+left_in done [] told new h = whole_in done [] told new h
+left_in done (file ∷ more) told None h = absurd (⊎_elim {C = ⊥} (λ e. cc) (λ n. n) h)
+left_in done (file ∷ more) told (Some left) h =
+    ⊎_elim {C = PutsIn (done ++ file ∷ more) told (Some left)} (λ e. whole_in done (file ∷ more) told (Some left) e) (λ l. failed_in done file more told left l.0 l.1) h
+
+pub files_other : (files : List NamedFile) (answer : Answer) (told : Told) (new : Option Told) → PutsFiles files answer told new → PutsIn files told new
+files_other files StoreFault told new h = subst (λ (fs : List NamedFile). PutsIn fs told new) (sym h.split) (left_in h.done h.more told new h.left)
+files_other files NoMemory told new h = subst (λ (fs : List NamedFile). PutsIn fs told new) (sym h.split) (whole_in h.done h.more told new h.left)
+files_other files _ told new h = subst (λ (fs : List NamedFile). PutsIn fs told new) (append-nil files) (whole_in files [] told new h)
+
+none_put : (names : List (List ℕ)) (told : Told) → PutsOnly names told told
+none_put names told = record { put = []; failed = []; own = tt; one = omega arith; told_so = sym (append-nil told.puts); same = λ name n. refl }
 
 -- ---- a command that reads, and then puts
 
 pub kept_others : (names : List (List ℕ)) (old new : Option Told) → Keeps old new → KeepsOthers names old new
 kept_others names None new h = tt
-kept_others names (Some told) new h = let P : Option Told → Type 0 = λ o. IsSomeAnd o (λ left. IsSameBut names told.files left.files) in subst P (sym h) (λ name n. refl)
+kept_others names (Some told) new h = subst (λ (o : Option Told). IsSomeAnd o (PutsOnly names told)) (sym h) (none_put names told)
 
 pub put_others : (old mid new : Option Told) (files : List NamedFile) (answer : Answer) → Keeps old mid → IfSome mid (λ told. PutsFiles files answer told new) → KeepsOthers (names_of files) old new
 put_others None mid new files answer k h = tt
@@ -94,7 +128,7 @@ put_others (Some told) mid new files answer k h = let P : Option Told → Type 0
 
 pub others_alone : (names : List (List ℕ)) (told : Option Told) → KeepsOthers names told told
 others_alone names None = tt
-others_alone names (Some told) = λ name n. refl
+others_alone names (Some told) = none_put names told
 
 pub then_others : (names : List (List ℕ)) (old mid new : Option Told) → Keeps old mid → KeepsOthers names mid new → KeepsOthers names old new
 then_others names None mid new k h = tt

@@ -1,5 +1,6 @@
 -- The files that a command leaves alone.
-use Rattle.std.specs.Prelude.{◌≡◌, ℕ, List, [], ◌∷◌, Option, IfSome, IsSomeAnd}
+use Rattle.std.specs.Prelude.{◌≡◌, ◌≤◌, ℕ, ◌⊎◌, List, [], ◌∷◌, ◌++◌, length, Option, IfSome, IsSomeAnd}
+use Rattle.std.specs.List.{AllByRecursion}
 use Rattle.std.specs.FinMap as finite
 use Rattle.pw_io.specs.Files.{Files, Told}
 
@@ -12,6 +13,21 @@ IsNoneOf (other ∷ names) name = (name ≡ other → ⊥) × IsNoneOf names nam
 abbrev pub IsSameBut : List (List ℕ) → Files → Files → Type 0
 IsSameBut names old new = (name : List ℕ) → IsNoneOf names name → finite.get new name ≡ finite.get old name
 
--- A store that told its files goes on telling them, and only files of these names have changed.
+-- the name is one of these
+abbrev pub IsOneOf : List (List ℕ) → List ℕ → Type 0
+IsOneOf [] name = ⊥
+IsOneOf (other ∷ names) name = (name ≡ other) ⊎ IsOneOf names name
+
+-- Only files of these names were put. The store tells which, and every other file has its old bytes, or is absent as before,
+-- but perhaps one of these names, whose put failed.
+pub record PutsOnly (names : List (List ℕ)) (told left : Told) : Type 0 where
+  pub put : List (List ℕ)
+  pub failed : List (List ℕ)
+  pub own : AllByRecursion (IsOneOf names) (put ++ failed)
+  pub one : length failed ≤ 1
+  pub told_so : left.puts ≡ told.puts ++ put
+  pub same : IsSameBut (put ++ failed) told.files left.files
+
+-- A store that told its files goes on telling them, and only files of these names were put.
 abbrev pub KeepsOthers : List (List ℕ) → Option Told → Option Told → Type 0
-KeepsOthers names old new = IfSome old (λ told. IsSomeAnd new (λ left. IsSameBut names told.files left.files))
+KeepsOthers names old new = IfSome old (λ told. IsSomeAnd new (PutsOnly names told))
