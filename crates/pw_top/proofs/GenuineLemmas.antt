@@ -8,7 +8,7 @@ use Rattle.pw_answer.specs.declared.answer.Answer.{Answer}
 use Rattle.pw_answer.specs.declared.answer.Answer.TheVariants.{NoMemory}
 use Rattle.pw_answer.specs.Effects.{NamedFile, PutPart}
 use Rattle.pw_making.specs.Kept.{IsGenuine}
-use Rattle.pw_commands.specs.Others.{IsNoneOf, IsSameBut, KeepsOthers}
+use Rattle.pw_commands.specs.Others.{IsNoneOf, IsOneOf, KeepsOthers, PutsOnly}
 use Rattle.pw_kept.specs.Kept.{counted, object_in, object_name}
 use Rattle.pw_building.specs.Genuine.{IsGenuineFile, KeepsGenuine}
 use Rattle.pw_compiling.specs.First.{phase_one_puts}
@@ -49,12 +49,21 @@ phase_one_apart unit name = (
 
 -- ---- genuine objects
 
+not_one : (names : List (List ℕ)) (name : List ℕ) → IsNoneOf names name → IsOneOf names name → ⊥
+not_one [] name n one = one
+not_one (other ∷ names) name n one = ⊎_elim {C = ⊥} n.0 (not_one names name n.1) one
+
+none_of_own : (names some : List (List ℕ)) (name : List ℕ) → AllByRecursion (IsOneOf names) some → IsNoneOf names name → IsNoneOf some name
+none_of_own names [] name own n = tt
+none_of_own names (other ∷ some) name own n = ((λ e. not_one names name n (subst (IsOneOf names) (sym e) own.0)), none_of_own names some name own.1 n)
+
 pub stays_genuine : (names : List (List ℕ)) (told new : Option Told) → ((name : List ℕ) → IsNoneOf names (object_name name)) → KeepsOthers names told new
     → IfSome told (λ t. KeepsGenuine t.files → IfSome new (λ now. KeepsGenuine now.files))
 stays_genuine names None new apart h = tt
 stays_genuine names (Some t) None apart h = λ k. tt
 stays_genuine names (Some t) (Some now) apart h =
-    λ k name object e. k name object (ap (λ (g : Option (List ℕ)). object_in (counted g)) (sym (h (object_name name) (apart name))) ∙ e)
+    λ k name object e. k name object
+    (ap (λ (g : Option (List ℕ)). object_in (counted g)) (sym (h.same (object_name name) (none_of_own names (h.put ++ h.failed) (object_name name) h.own (apart name)))) ∙ e)
 
 -- the command puts the files of its words alone, and none of them is an object's
 abbrev pub PutsNoObject : Option Command → Type 0
@@ -104,13 +113,16 @@ phase_two_genuine law (Some t) new name h =
 
 -- ---- files that stay
 
+none_put : (names : List (List ℕ)) (told : Told) → PutsOnly names told told
+none_put names told = record { put = []; failed = []; own = tt; one = omega arith; told_so = sym (append-nil told.puts); same = λ name n. refl }
+
 pub kept_others : (told new : Option Told) → Keeps told new → KeepsOthers [] told new
 kept_others None new h = tt
-kept_others (Some t) new h = subst (λ (o : Option Told). IsSomeAnd o (λ left. IsSameBut [] t.files left.files)) (sym h) (λ name n. refl)
+kept_others (Some t) new h = subst (λ (o : Option Told). IsSomeAnd o (PutsOnly [] t)) (sym h) (none_put [] t)
 
 pub others_alone : (names : List (List ℕ)) (told : Option Told) → KeepsOthers names told told
 others_alone names None = tt
-others_alone names (Some t) = λ name n. refl
+others_alone names (Some t) = none_put names t
 
 unput_alone : (told : Told) → KeepsUnput told (Some told)
 unput_alone told = record { put = []; failed = []; one = omega arith; told_so = sym (append-nil told.puts); same = λ name n. refl }
