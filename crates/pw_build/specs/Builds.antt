@@ -66,14 +66,10 @@ BuildsBy (Ok flows) kept colours stack answer = CompletesAs flows kept colours s
 abbrev pub Builds : List Source → List (Option Object) → ℕ → ℕ → Result Parts BuildFault → Type 0
 Builds sources kept colours stack answer = BuildsBy (first_phases sources) kept colours stack answer
 
--- a map from names to texts
+-- a map from names to texts, as far as they are read
 abbrev pub Texts : Type 0
 Texts = finite.FinMap (slice_cmp nat_cmp) (List ℕ)
 
 -- the build of texts where nothing was kept
 abbrev pub FullBuild : Texts → ℕ → ℕ → Result Parts BuildFault → Type 0
 FullBuild texts colours stack answer = Builds (finite.entries texts) [] colours stack answer
-
--- The build of texts where this was kept of the module of each name, if anything was.
-abbrev pub Relink : Texts → (List ℕ → Option Object) → ℕ → ℕ → Result Parts BuildFault → Type 0
-Relink texts kept colours stack answer = Builds (finite.entries texts) (map (λ source. kept source.0) (finite.entries texts)) colours stack answer

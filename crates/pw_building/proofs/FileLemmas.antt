@@ -23,7 +23,7 @@ use Rattle.pw_building.specs.declared.report.Opts.{Opts}
 use Rattle.pw_kept.specs.declared.files.ProgramFiles.{ProgramFiles}
 use Rattle.pw_kept.specs.declared.prepared.Prepared.{Prepared}
 use Rattle.pw_kept.specs.Kept.{is_same, kept_bytes, kept_object}
-use Rattle.pw_kept.specs.Files.{AreObjectFiles, IsCompared, file_view, made_anew, one_if}
+use Rattle.pw_kept.specs.Files.{AreObjectFiles, HoldBytes, IsCompared, file_view, made_anew, one_if}
 use Rattle.pw_building.specs.Building.{BuildComes, if_changed, kept_objects}
 use Rattle.pw_filing.specs.Programs.{BuildsFiles, FaultBuilds, FaultComes}
 use Rattle.pw_filing.proofs.ProgramLemmas.{names_by, no_line, stored}
@@ -48,8 +48,8 @@ one_if_changed true changed name bytes e = ap (λ (b : Bool). one_if b name byte
 one_if_changed false changed name bytes e = ap (λ (b : Bool). one_if b name bytes) e
 
 comes_told : (files : Files) (opts : Opts) (ms : List Module) (made : ProgramFiles) (p : Prepared) (count : ℕ) → map source ms ≡ modules_of files
-    → BuildsFiles (map source ms) (map (λ m. kept_object files m.name) ms) opts.colours opts.stack made → count ≡ length ms → IsCompared files count made p → BuildComes files opts.colours opts.stack (Ok (outcome_of p))
-comes_told files opts ms made p count sources builds few cmp =
+    → BuildsFiles (map source ms) (map (λ m. kept_object files m.name) ms) opts.colours opts.stack made → HoldBytes (map file_view made.fresh.files.items) → count ≡ length ms → IsCompared files count made p → BuildComes files opts.colours opts.stack (Ok (outcome_of p))
+comes_told files opts ms made p count sources builds fits few cmp =
     let parts = builds.0 in
     let m = builds.2 in
     let names : map (λ s. s.0) (map source ms) ≡ names_of_modules files = ap (map (λ s. s.0)) sources in
@@ -63,6 +63,7 @@ comes_told files opts ms made p count sources builds few cmp =
         objects = map file_view p.objects.items;
         object_files = subst (λ (ns : List (List ℕ)). AreObjectFiles (anew ns) (map file_view p.objects.items)) names
             (subst (λ fs. AreObjectFiles (anew (map (λ s. s.0) (map source ms))) (map file_view fs)) (sym cmp.objects) m.objects);
+        object_bytes = subst (λ fs. HoldBytes (map file_view fs)) (sym cmp.objects) fits;
         database = p.database.items;
         database_file = subst (λ (b : List ℕ). IsDatabaseFile b parts.database) (sym cmp.database) m.database;
         image_names = m.image_names;
@@ -77,12 +78,12 @@ comes_told files opts ms made p count sources builds few cmp =
       },
     )
 
-pub comes_prepared : (opts : Opts) (first now : Option Told) (ms : List Module) (made : ProgramFiles) (p : Prepared) (count : ℕ) → IfSome first (λ told. BuildsFiles (map source ms) (map (λ m. kept_object told.files m.name) ms) opts.colours opts.stack made) → Keeps first now → count ≡ length ms
+pub comes_prepared : (opts : Opts) (first now : Option Told) (ms : List Module) (made : ProgramFiles) (p : Prepared) (count : ℕ) → IfSome first (λ told. BuildsFiles (map source ms) (map (λ m. kept_object told.files m.name) ms) opts.colours opts.stack made) → HoldBytes (map file_view made.fresh.files.items) → Keeps first now → count ≡ length ms
     → IfSome now (λ told. IsCompared told.files count made p) → IfSome first (λ told. map source ms ≡ modules_of told.files → BuildComes told.files opts.colours opts.stack (Ok (outcome_of p)))
-comes_prepared opts None now ms made p count builds same few cmp = tt
-comes_prepared opts (Some told) now ms made p count builds same few cmp = λ sources.
+comes_prepared opts None now ms made p count builds fits same few cmp = tt
+comes_prepared opts (Some told) now ms made p count builds fits same few cmp = λ sources.
     let Q : Option Told → Type 0 = λ o. IfSome o (λ t. IsCompared t.files count made p) in
-    comes_told told.files opts ms made p count sources builds few (subst Q same cmp)
+    comes_told told.files opts ms made p count sources builds fits few (subst Q same cmp)
 
 -- what was prepared of the modules of a store is so of the store
 pub on_modules : (P X : Told → Type 0) (first now : Option Told) → IfSome first P → Keeps first now → IfSome now (λ told. P told → X told) → IfSome first X

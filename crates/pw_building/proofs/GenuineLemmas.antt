@@ -1,5 +1,5 @@
 -- Kept objects stay genuine, whatever is put.
-use Rattle.std.proofs.Common.{◌≡◌, ◌≢◌, ℕ, ◌+◌, ⊎_elim, Bool, true, false, List, [], ◌∷◌, ◌++◌, codes, length, take, drop, map, Option, Some, None, Result, Ok, Err, refl, sym, ap, ◌∙◌, subst, append_assoc, arith, length-append}
+use Rattle.std.proofs.Common.{◌≡◌, ◌≢◌, ℕ, ◌+◌, ⊎_elim, inl, inr, Bool, true, false, List, [], ◌∷◌, ◌++◌, codes, length, take, drop, map, Option, Some, None, Result, Ok, Err, refl, sym, ap, ◌∙◌, subst, append_assoc, arith, length-append}
 use Rattle.std.specs.Prelude.{IfErr, IfSome}
 use Rattle.std.specs.List.{AllByRecursion}
 use Rattle.std.specs.Str.{bytes_eq}
@@ -27,7 +27,7 @@ use Rattle.pw_kept.specs.Files.{AreObjectFiles, HoldBytes, IsCompared, changed_f
 use Rattle.pw_building.specs.declared.report.Opts.{Opts}
 use Rattle.pw_building.specs.declared.report.Report.{Report}
 use Rattle.pw_filing.specs.Programs.{BuildsFiles}
-use Rattle.pw_building.specs.Genuine.{IsGenuineFile, KeepsGenuine}
+use Rattle.pw_building.specs.Genuine.{IsBuiltName, IsGenuineFile, IsOwnFile, KeepsGenuine}
 use Rattle.pw_building.specs.Outcomes.{IsOfStore, PutsSome, build_answer}
 use Rattle.pw_building.proofs.ObeysLemmas.{some_all, some_told}
 use Rattle.pw_building.proofs.GenuineFiles.{front_object}
@@ -137,11 +137,11 @@ made_genuine db (n ∷ ns) (f ∷ fs) kept (o ∷ os) (true ∷ bs) h =
     (record { flow = f; directives = h.0.directives; of_module = h.0.in_database.of_module; made = h.0.object.1 }, made_genuine db ns fs (kept_behind kept) os bs h.1)
 made_genuine db (n ∷ ns) (f ∷ fs) kept (o ∷ os) (false ∷ bs) h = made_genuine db ns fs (kept_behind kept) os bs h.1
 
-files_good : (made : List (List ℕ × Object)) (files : List NamedFile) → AllByRecursion (λ m. IsGenuine m.1) made → HoldBytes files → AreObjectFiles made files → AllByRecursion IsGenuineFile files
+pub files_good : (made : List (List ℕ × Object)) (files : List NamedFile) → AllByRecursion (λ m. IsGenuine m.1) made → HoldBytes files → AreObjectFiles made files → AllByRecursion IsOwnFile files
 files_good [] [] genuine fits h = tt
 files_good [] (f ∷ fs) genuine fits h = absurd h
 files_good (m ∷ ms) [] genuine fits h = absurd h
-files_good (m ∷ ms) (f ∷ fs) genuine fits h = (λ name named. (m.1, fits.0, h.1, genuine.0), files_good ms fs genuine.1 fits.1 h.2)
+files_good (m ∷ ms) (f ∷ fs) genuine fits h = ((inl (m.0, h.0), λ name named. (m.1, fits.0, h.1, genuine.0)), files_good ms fs genuine.1 fits.1 h.2)
 
 -- `prog.db` and `prog.img` are no object's files
 apart_at : (name file ending : List ℕ) (n : ℕ) → length file ≡ n + 4 → drop n file ≡ ending → name ++ codes ".obj" ≡ file → codes ".obj" ≡ ending
@@ -156,45 +156,45 @@ first_is a b xs ys e = cc
 rest_is : (a b : ℕ) (xs ys : List ℕ) → a ∷ xs ≡ b ∷ ys → xs ≡ ys
 rest_is a b xs ys e = cc
 
-no_database : (name : List ℕ) → name ++ codes ".obj" ≡ codes "prog.db" → ⊥
+pub no_database : (name : List ℕ) → name ++ codes ".obj" ≡ codes "prog.db" → ⊥
 no_database name e = differ (apart_at name (codes "prog.db") (codes "g.db") 3 refl refl e)
   where
     differ : codes ".obj" ≡ codes "g.db" → ⊥
     differ e = let h : 46 ≡ 103 = first_is 46 103 _ _ e in omega (arith, h)
 
-no_image : (name : List ℕ) → name ++ codes ".obj" ≡ codes "prog.img" → ⊥
+pub no_image : (name : List ℕ) → name ++ codes ".obj" ≡ codes "prog.img" → ⊥
 no_image name e = differ (apart_at name (codes "prog.img") (codes ".img") 4 refl refl e)
   where
     differ : codes ".obj" ≡ codes ".img" → ⊥
     differ e = let h : 111 ≡ 105 = first_is 111 105 _ _ (rest_is 46 46 _ _ e) in omega (arith, h)
 
-changed_good : (changed : Bool) (name bytes : List ℕ) → ((other : List ℕ) → object_name other ≡ name → ⊥) → AllByRecursion IsGenuineFile (one_if changed name bytes)
-changed_good false name bytes apart = tt
-changed_good true name bytes apart = ((λ other named. absurd (apart other named)), tt)
+pub alone_good : (changed : Bool) (name bytes : List ℕ) → IsBuiltName name → ((other : List ℕ) → object_name other ≡ name → ⊥) → AllByRecursion IsOwnFile (one_if changed name bytes)
+alone_good false name bytes built apart = tt
+alone_good true name bytes built apart = ((built, λ other named. absurd (apart other named)), tt)
 
-good_append : (xs ys : List NamedFile) → AllByRecursion IsGenuineFile xs → AllByRecursion IsGenuineFile ys → AllByRecursion IsGenuineFile (xs ++ ys)
+pub good_append : (xs ys : List NamedFile) → AllByRecursion IsOwnFile xs → AllByRecursion IsOwnFile ys → AllByRecursion IsOwnFile (xs ++ ys)
 good_append [] ys a b = b
 good_append (x ∷ xs) ys a b = (a.0, good_append xs ys a.1 b)
 
 no_parts : (parts : Parts) (fault : BuildFault) → ◌≡◌ {A = Result Parts BuildFault} (Ok parts) (Err fault) → ⊥
 no_parts parts fault e = cc
 
-parts_genuine : (names : List (List ℕ)) (flows : Result (List FlowModule) BuildFault) (kept : List (Option Object)) (colours stack : ℕ) (parts : Parts) → BuildsBy flows kept colours stack (Ok parts) → AllByRecursion (λ m. IsGenuine m.1) (made_anew names parts.objects parts.fresh)
+pub parts_genuine : (names : List (List ℕ)) (flows : Result (List FlowModule) BuildFault) (kept : List (Option Object)) (colours stack : ℕ) (parts : Parts) → BuildsBy flows kept colours stack (Ok parts) → AllByRecursion (λ m. IsGenuine m.1) (made_anew names parts.objects parts.fresh)
 parts_genuine names (Err fault) kept colours stack parts h = absurd (no_parts parts fault h)
 parts_genuine names (Ok flows) kept colours stack parts h = made_genuine parts.database names flows kept parts.objects parts.fresh h.0.objects
 
-good_told : (files : Files) (sources : List Source) (kept : List (Option Object)) (opts : Opts) (made : ProgramFiles) (p : Prepared) (count : ℕ) → BuildsFiles sources kept opts.colours opts.stack made → HoldBytes (map file_view made.fresh.files.items) → IsCompared files count made p → AllByRecursion IsGenuineFile (changed_files p)
+good_told : (files : Files) (sources : List Source) (kept : List (Option Object)) (opts : Opts) (made : ProgramFiles) (p : Prepared) (count : ℕ) → BuildsFiles sources kept opts.colours opts.stack made → HoldBytes (map file_view made.fresh.files.items) → IsCompared files count made p → AllByRecursion IsOwnFile (changed_files p)
 good_told files sources kept opts made p count builds fits cmp =
     let anew = made_anew (map (λ s. s.0) sources) builds.0.objects builds.0.fresh in
     let genuine : AllByRecursion (λ m. IsGenuine m.1) anew = parts_genuine (map (λ s. s.0) sources) (first_phases sources) kept opts.colours opts.stack builds.0 builds.1 in
-    let own : AllByRecursion IsGenuineFile (map file_view made.fresh.files.items) = files_good anew (map file_view made.fresh.files.items) genuine fits builds.2.objects in
+    let own : AllByRecursion IsOwnFile (map file_view made.fresh.files.items) = files_good anew (map file_view made.fresh.files.items) genuine fits builds.2.objects in
     let db = one_if p.database_changed (codes "prog.db") p.database.items in
     let img = one_if p.image_changed (codes "prog.img") p.image.items in
-    good_append (map file_view p.objects.items) (db ++ img) (subst (λ fs. AllByRecursion IsGenuineFile (map file_view fs)) (sym cmp.objects) own)
-    (good_append db img (changed_good p.database_changed (codes "prog.db") p.database.items no_database) (changed_good p.image_changed (codes "prog.img") p.image.items no_image))
+    good_append (map file_view p.objects.items) (db ++ img) (subst (λ fs. AllByRecursion IsOwnFile (map file_view fs)) (sym cmp.objects) own)
+    (good_append db img (alone_good p.database_changed (codes "prog.db") p.database.items (inr (inl refl)) no_database) (alone_good p.image_changed (codes "prog.img") p.image.items (inr (inr refl)) no_image))
 
 pub good_prepared : (opts : Opts) (first now : Option Told) (sources : List Source) (kept : Told → List (Option Object)) (made : ProgramFiles) (p : Prepared) (count : ℕ) → IfSome first (λ told. BuildsFiles sources (kept told) opts.colours opts.stack made) → HoldBytes (map file_view made.fresh.files.items)
-    → Keeps first now → IfSome now (λ told. IsCompared told.files count made p) → IfSome first (λ told. AllByRecursion IsGenuineFile (changed_files p))
+    → Keeps first now → IfSome now (λ told. IsCompared told.files count made p) → IfSome first (λ told. AllByRecursion IsOwnFile (changed_files p))
 good_prepared opts None now sources kept made p count builds fits same cmp = tt
 good_prepared opts (Some told) now sources kept made p count builds fits same cmp =
     let Q : Option Told → Type 0 = λ o. IfSome o (λ t. IsCompared t.files count made p) in
@@ -202,14 +202,18 @@ good_prepared opts (Some told) now sources kept made p count builds fits same cm
 
 -- ---- whatever was put
 
-pub puts_keep : FileLaws → (first now new : Option Told) (files : List NamedFile) (result : Result Report Unbuilt) → Keeps first now → IfSome first (λ told. AllByRecursion IsGenuineFile files) → IfErr result (λ unbuilt. IsOfStore unbuilt.fault)
+pub own_genuine : (files : List NamedFile) → AllByRecursion IsOwnFile files → AllByRecursion IsGenuineFile files
+own_genuine [] own = tt
+own_genuine (file ∷ files) own = (own.0.1, own_genuine files own.1)
+
+pub puts_keep : FileLaws → (first now new : Option Told) (files : List NamedFile) (result : Result Report Unbuilt) → Keeps first now → IfSome first (λ told. AllByRecursion IsOwnFile files) → IfErr result (λ unbuilt. IsOfStore unbuilt.fault)
     → IfSome now (λ told. PutsFiles files (build_answer result) told new) → IfSome first (λ told. KeepsGenuine told.files → IfSome new (λ after. KeepsGenuine after.files))
 puts_keep laws None now new files result same good of puts = tt
 puts_keep laws (Some told) now new files result same good of puts = λ keeps.
     let P : Option Told → Type 0 = λ o. IfSome o (λ t. PutsFiles files (build_answer result) t new) in
     let h : PutsFiles files (build_answer result) told new = subst P same puts in
     let some : PutsSome told new = some_told files result told new of h in
-    part_keeps laws told some.0 new keeps (some_all IsGenuineFile files result told new of h good) some.1
+    part_keeps laws told some.0 new keeps (some_all IsGenuineFile files result told new of h (own_genuine files good)) some.1
 
 pub nothing_keeps : (first new : Option Told) → Keeps first new → IfSome first (λ told. KeepsGenuine told.files → IfSome new (λ after. KeepsGenuine after.files))
 nothing_keeps None new same = tt

@@ -12,7 +12,7 @@ use Rattle.pw_build.specs.declared.fault.BuildFault.{BuildFault}
 use Rattle.pw_build.specs.Builds.{Builds}
 use Rattle.pw_kept.specs.Kept.{is_same, kept_bytes}
 pub use Rattle.pw_kept.specs.Kept.{counted, kept_object, object_in, object_name}
-use Rattle.pw_kept.specs.Files.{AreObjectFiles, made_anew}
+use Rattle.pw_kept.specs.Files.{AreObjectFiles, HoldBytes, made_anew}
 
 -- the objects that are kept of all modules, in their order
 abbrev pub kept_objects : Files → List (Option Object)
@@ -39,6 +39,7 @@ pub record IsOutcome (files : Files) (stack : ℕ) (parts : Parts) (outcome : Ou
   pub rebuilt : outcome.rebuilt ≡ map (λ made. made.0) (made_anew (names_of_modules files) parts.objects parts.fresh)
   pub objects : List NamedFile
   pub object_files : AreObjectFiles (made_anew (names_of_modules files) parts.objects parts.fresh) objects
+  pub object_bytes : HoldBytes objects
   pub database : List ℕ
   pub database_file : IsDatabaseFile database parts.database
   pub image_names : List (List ℕ)

@@ -1,15 +1,17 @@
 //! Laws of builds over the files of a store. A function here does nothing: its clauses are facts about all values.
 
-ghost use Rattle.std.specs.Prelude.{◌≡◌, ◌≤◌, ℕ, List, [], Ok, Err, IfSome, Option, Result};
+ghost use Rattle.std.specs.Prelude.{◌≡◌, ◌≢◌, ◌≤◌, ℕ, List, [], Ok, Err, IfSome, Option, Result, true};
 ghost use Rattle.std.specs.List.{AllByRecursion};
+ghost use Rattle.std.specs.FinMap as finite;
 ghost use Rattle.pw_io.specs.Files.{Files, Told};
-ghost use Rattle.pw_answer.specs.Effects.{NamedFile, PutPart};
-ghost use Rattle.pw_modules.specs.Modules.{modules_of};
+ghost use Rattle.pw_modules.specs.Modules.{is_module_file, module_map, modules_of};
+ghost use Rattle.pw_answer.specs.Effects.{NamedFile, PutPart, after_puts};
 ghost use Rattle.pw_making.specs.Programs.{Parts};
 ghost use Rattle.pw_build.specs.declared.fault.BuildFault.{BuildFault};
-ghost use Rattle.pw_build.specs.Builds.{Builds};
+ghost use Rattle.pw_build.specs.Builds.{Builds, Texts};
 ghost use Rattle.pw_build.specs.Full.{built_anew};
 ghost use Rattle.pw_building.specs.Building.{BuildComes, Outcome, kept_objects};
+ghost use Rattle.pw_building.specs.Full.{BuildsImage, image_of};
 ghost use Rattle.pw_building.specs.Genuine.{IsGenuineFile, KeepsGenuine};
 
 use pw_build::laws as build;
@@ -35,6 +37,34 @@ pub fn genuine_objects_give_the_full_build()
 {
     build::genuine_objects_give_the_full_build();
 }
+
+/// The full build of texts comes to the bytes of one image, or to one fault.
+pub fn texts_have_one_image()
+    ensures { (texts : Texts) (colours stack : ℕ) (a b : Result (List ℕ) BuildFault) → colours ≤ 8 → BuildsImage texts colours stack a → BuildsImage texts colours stack b → a ≡ b }
+{
+    modules_have_one_build();
+    images_and_files_are_one_to_one();
+}
+
+/// Where the kept objects are genuine, a build over a store's files comes to the image of the full build of their texts,
+/// byte for byte, or to its fault.
+pub fn genuine_objects_give_the_full_image()
+    ensures { (files : Files) (colours stack : ℕ) (comes : Result Outcome BuildFault) → KeepsGenuine files → BuildComes files colours stack comes → BuildsImage (module_map files) colours stack (image_of comes) }
+{
+    genuine_objects_give_the_full_build();
+}
+
+/// A build over a store whose kept objects are genuine leaves it so.
+pub fn builds_leave_genuine_objects()
+    ensures { (told : Told) (colours stack : ℕ) (outcome : Outcome) → KeepsGenuine told.files → BuildComes told.files colours stack (Ok outcome) → KeepsGenuine (after_puts told outcome.puts).files }
+{
+    other_files();
+}
+
+/// Where no file but a module's text changed, genuine kept objects stay so.
+pub fn module_texts_are_no_objects()
+    ensures { (file : List ℕ) (old new : Files) → is_module_file file ≡ true → ((other : List ℕ) → other ≢ file → finite.get new other ≡ finite.get old other) → KeepsGenuine old → KeepsGenuine new }
+{}
 
 /// Kept objects that are genuine stay so where files are put, the last of them perhaps in part, if each that has the name of an
 /// object's file is that of a genuine object.

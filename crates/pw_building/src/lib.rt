@@ -8,6 +8,8 @@ mod report;
 
 pub use building::build;
 pub use laws::{
-    a_store_has_one_build, genuine_files_keep_genuine, genuine_objects_give_the_full_build,
+    a_store_has_one_build, builds_leave_genuine_objects, genuine_files_keep_genuine,
+    genuine_objects_give_the_full_build, genuine_objects_give_the_full_image,
+    module_texts_are_no_objects, texts_have_one_image,
 };
 pub use report::{Opts, Report, report_lines};

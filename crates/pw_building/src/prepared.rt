@@ -8,7 +8,7 @@ ghost use Rattle.pw_modules.specs.Views.{source};
 ghost use Rattle.pw_build.specs.Phases.{IsLine, refused_line};
 ghost use Rattle.pw_kept.specs.Files.{changed_files};
 ghost use Rattle.pw_building.specs.Building.{BuildComes};
-ghost use Rattle.pw_building.specs.Genuine.{IsGenuineFile};
+ghost use Rattle.pw_building.specs.Genuine.{IsOwnFile};
 ghost use Rattle.pw_building.specs.Outcomes.{AreOpts, FaultCount, FaultFound, outcome_of};
 
 use crate::report::Opts;
@@ -31,7 +31,7 @@ fn prepared_of<S: Store, L: Ledger>(
 ) -> Result<Prepared, Unbuilt>
     requires { AreOpts opts.now }
     ensures comes { IfSome (S.told store.old) (λ told. map source modules.now ≡ modules_of told.files → IfOk result (λ prepared. BuildComes told.files opts.now.colours opts.now.stack (Ok (outcome_of prepared)))) }
-    ensures genuine { IfSome (S.told store.old) (λ told. IfOk result (λ prepared. AllByRecursion IsGenuineFile (changed_files prepared))) }
+    ensures own { IfSome (S.told store.old) (λ told. IfOk result (λ prepared. AllByRecursion IsOwnFile (changed_files prepared))) }
     ensures fault { IfSome (S.told store.old) (λ told. map source modules.now ≡ modules_of told.files → IfErr result (λ unbuilt. FaultFound told.files opts.now unbuilt.fault)) }
     ensures line { IfSome (S.told store.old) (λ told. map source modules.now ≡ modules_of told.files → IfErr result (λ unbuilt. IsLine (refused_line (modules_of told.files)) unbuilt.fault unbuilt.line)) }
     ensures counted { IfOk result (λ prepared. steps.new ≡ steps.old + length prepared.rebuilt.items) }
@@ -53,7 +53,7 @@ pub fn prepare<S: Store, L: Ledger>(
 ) -> Result<Prepared, Unbuilt>
     requires { AreOpts opts.now }
     ensures comes { IfSome (S.told store.old) (λ told. IfOk result (λ prepared. BuildComes told.files opts.now.colours opts.now.stack (Ok (outcome_of prepared)))) }
-    ensures genuine { IfSome (S.told store.old) (λ told. IfOk result (λ prepared. AllByRecursion IsGenuineFile (changed_files prepared))) }
+    ensures own { IfSome (S.told store.old) (λ told. IfOk result (λ prepared. AllByRecursion IsOwnFile (changed_files prepared))) }
     ensures fault { IfSome (S.told store.old) (λ told. IfErr result (λ unbuilt. FaultFound told.files opts.now unbuilt.fault)) }
     ensures line { IfSome (S.told store.old) (λ told. IfErr result (λ unbuilt. IsLine (refused_line (modules_of told.files)) unbuilt.fault unbuilt.line)) }
     ensures counted { IfOk result (λ prepared. steps.new ≡ steps.old + length prepared.rebuilt.items) }

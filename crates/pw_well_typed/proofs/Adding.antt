@@ -31,7 +31,7 @@ use Rattle.pw_well_typed.specs.Words.{HasWords}
 use Rattle.pw_well_typed.proofs.Walking.{Post, post_bind, post_weaken, post_both}
 use Rattle.pw_well_typed.proofs.Lists.{Longer, some_same, get_append, get_last, get_within, put_same, put_either, length_put}
 use Rattle.pw_well_typed.proofs.Types.{no, lawful_later}
-use Rattle.pw_well_typed.proofs.States.{Runs, goes_on, Grows, grows_same, grows_trans, stands_back}
+use Rattle.pw_well_typed.proofs.States.{Runs, goes_on, Grows, grows_same, grows_trans, stands_back, IsAny, Raises, raises_so}
 use Rattle.pw_well_typed.proofs.Changes.{hidden_added, hidden_grows, entered}
 use Rattle.pw_well_typed.proofs.Leaves.{Nothing, GoodType, GoodGathered, GoodSpecified, GoodDeclared, GoodReference, Fresh, specified_runs, built_runs, reference_by_runs, new_tag_runs, tag_here_lawful}
 use Rattle.pw_well_typed.proofs.Phrases.{specifiers_post, declarator_post}
@@ -256,7 +256,7 @@ abbrev Makes : State → ℕ → QType → QType → Initialiser → Type 0
 Makes t k q ty (T.Value j e) = (j ≡ k) × (ty ≡ q) × IsTypedAs t (type_of q) e
 Makes t k q ty (T.Bytes j h parts) = (j ≡ k) × ((x : HiddenObject) × (slice_get t.made.hidden h ≡ Some x) × (x.ty ≡ ty))
 
-hidden_put_grows : {s u : State} (x y : HiddenObject) → slice_get u.made.hidden (length s.made.hidden) ≡ Some y → Covers x.ty y.ty → Grows s u → Grows s (put_hidden (length s.made.hidden) x u)
+hidden_put_grows : {s u : State} (x y : HiddenObject) → slice_get u.made.hidden (length s.made.hidden) ≡ Some y → Covers x.ty y.ty → Raises s u → Raises s (put_hidden (length s.made.hidden) x u)
 hidden_put_grows {s} {u} x y at covers g = record {
   here = g.here;
   sound = λ p h. refilled_sound p u (length s.made.hidden) x y at covers (g.sound p h);
@@ -270,24 +270,29 @@ hidden_put_grows {s} {u} x y at covers g = record {
   deep = g.deep;
   entered = g.entered;
   hidden = longer_put s.made.hidden u.made.hidden x g.hidden;
+  objects = λ k h e. inr tt;
   counting = g.counting;
   body = g.body;
   functions = g.functions;
 }
 
-bytes_runs : (s : State) (w : Word) (k : ℕ) (q : QType) (i : Init) → IsLawful s → Runs s (bytes_rule w k q i s) (λ t r. All (Makes t k q r.0) r.1)
+-- what makes objects of any sort
+abbrev Prepares : State → Walk ((QType × List Initialiser) × State) → (State → QType × List Initialiser → Type 0) → Type 0
+Prepares s w Good = Post w (λ r. IsLawful r.1 × Raises s r.1 × Good r.1 r.0)
+
+bytes_runs : (s : State) (w : Word) (k : ℕ) (q : QType) (i : Init) → IsLawful s → Prepares s (bytes_rule w k q i s) (λ t r. All (Makes t k q r.0) r.1)
 unfolding bytes_rule completed_rule bind
 bytes_runs s w k q i l =
     post_bind (object_rule (context_of w true (next_hidden s)) q i (add_hidden (hidden_of q [] false) s))
     _ (λ r. (IsLawful r.1 × Grows (add_hidden (hidden_of q [] false) s) r.1 × Unit {0}) × (IsLawful r.1 × After (add_hidden (hidden_of q [] false) s) r.1 × Covers r.0.ty q))
-    (λ r. IsLawful r.1 × Grows s r.1 × All (Makes r.1 k q r.0.0) r.0.1)
+    (λ r. IsLawful r.1 × Raises s r.1 × All (Makes r.1 k q r.0.0) r.0.1)
     (post_both _ _ _ (runs_whatever _ _ _ (object_runs (add_hidden (hidden_of q [] false) s) (context_of w true (next_hidden s)) q i (hidden_added s (hidden_of q [] false) l)))
     (object_keeps (λ x t. Covers t q) (covers_stays q) (add_hidden (hidden_of q [] false) s) (context_of w true (next_hidden s)) q i (hidden_added s (hidden_of q [] false) l) (covers_same q)))
     (λ r both met.
     let g = both.0 in (
       (around r.1 (put_hidden (next_hidden s) (hidden_of r.0.ty r.0.filled.items false) r.1).made r.1.body g.0 refl).0,
       hidden_put_grows (hidden_of r.0.ty r.0.filled.items false) (hidden_of q [] false)
-          (g.1.hidden (next_hidden s) (hidden_of q [] false) (get_last s.made.hidden (hidden_of q [] false))) both.1.2 (grows_trans (hidden_grows s (hidden_of q [] false)) g.1),
+          (g.1.hidden (next_hidden s) (hidden_of q [] false) (get_last s.made.hidden (hidden_of q [] false))) both.1.2 (grows_trans (hidden_grows IsAny s (hidden_of q [] false) tt) (raises_so g.1)),
       All-cons (Makes (put_hidden (next_hidden s) (hidden_of r.0.ty r.0.filled.items false) r.1) k q r.0.ty) (T.Bytes k (next_hidden s) r.0.filled.parts) [] (
         refl,
         (
@@ -304,16 +309,16 @@ first_made t k q [] h = All-nil (Makes t k q q)
 first_made t k q (e ∷ es) h = All-cons (Makes t k q q) (T.Value k e) [] (refl, refl, h 0 e refl) (All-nil (Makes t k q q))
 
 single_runs : (s : State) (w : Word) (k : ℕ) (q : QType) (i : Init) → IsLawful s → is_by_bytes (type_of q) i ≡ false → IsLawfulType s.types.records (type_of q)
-    → Runs s (single_rule w k q i s) (λ t r. All (Makes t k q r.0) r.1)
+    → Prepares s (single_rule w k q i s) (λ t r. All (Makes t k q r.0) r.1)
 unfolding single_rule bind
 single_runs s w k q i l single lawful =
     post_bind (object_rule (context_of w false 0) q i s)
     _ (λ r. IsLawful r.1 × Grows s r.1 × (is_by_bytes (type_of q) i ≡ false → IsLawfulType s.types.records (type_of q) → AreTypedAs r.1 (type_of q) r.0.filled.parts))
-    (λ r. IsLawful r.1 × Grows s r.1 × All (Makes r.1 k q r.0.0) r.0.1)
-    (object_runs s (context_of w false 0) q i l) (λ r g. (g.0, g.1, first_made r.1 k q r.0.filled.parts (g.2 single lawful)))
+    (λ r. IsLawful r.1 × Raises s r.1 × All (Makes r.1 k q r.0.0) r.0.1)
+    (object_runs s (context_of w false 0) q i l) (λ r g. (g.0, raises_so g.1, first_made r.1 k q r.0.filled.parts (g.2 single lawful)))
 
 initialiser_runs : (s : State) (b : Bool) (w : Word) (k : ℕ) (q : QType) (i : Init) → IsLawful s → is_by_bytes (type_of q) i ≡ b → IsLawfulType s.types.records (type_of q)
-    → Runs s (local_initialiser b w k q i s) (λ t r. All (Makes t k q r.0) r.1)
+    → Prepares s (local_initialiser b w k q i s) (λ t r. All (Makes t k q r.0) r.1)
 unfolding local_initialiser
 initialiser_runs s true w k q i l e lawful = bytes_runs s w k q i l
 initialiser_runs s false w k q i l e lawful = single_runs s w k q i l e lawful
@@ -334,7 +339,7 @@ Declares s t is = (m : ModuleValue) (locals : List LocalValue) → Final t m loc
     → All (Starts m locals (length s.body.locals) (length t.body.locals)) is
 
 -- what changes with the local's type tells of no object and no function
-names_uncompleted : (s u : State) (name : List ℕ) (l new : LocalValue) (register : Bool) (m : ModuleValue) → Grows (local_entered s name l register) u
+names_uncompleted : (s u : State) (name : List ℕ) (l new : LocalValue) (register : Bool) (m : ModuleValue) → Raises (local_entered s name l register) u
     → Names (local_completed s (length s.scopes.entities) new register u) m → Names u m
 names_uncompleted s u name l new register m g n = record {
   records = n.records;
@@ -356,7 +361,7 @@ put_itself n x [] e = refl
 put_itself zero x (y ∷ xs) e = ap (λ z. z ∷ xs) (some_same (sym e))
 put_itself (suc n) x (y ∷ xs) e = ap (λ zs. y ∷ zs) (put_itself n x xs e)
 
-completed_starts : (s u : State) (w : Word) (q ty : QType) (register : Bool) (i : Initialiser) → 0 < s.scopes.depth → ArePlaced s → s.made.counting ≡ true → Grows (local_entered s w.text (local_of w q) register) u
+completed_starts : (s u : State) (w : Word) (q ty : QType) (register : Bool) (i : Initialiser) → 0 < s.scopes.depth → ArePlaced s → s.made.counting ≡ true → Raises (local_entered s w.text (local_of w q) register) u
     → (m : ModuleValue) (locals : List LocalValue) → Final (local_completed s (length s.scopes.entities) (local_of w ty) register u) m locals → Makes u (length s.body.locals) q ty i → HasWords i
     → Starts m locals (length s.body.locals) (length (put_at (length s.body.locals) (local_of w ty) u.body.locals)) i
 completed_starts s u w q ty register i inner p c g m locals f made words = by i made words
@@ -420,7 +425,7 @@ local_adds s w b q None inner l h = (
 local_adds s w b q (Some i) inner l h =
     let at : State = local_entered s w.text (local_of w q) (is_register b.storage) in
     post_bind (local_initialiser (is_by_bytes (type_of q) i.init) w (next_local s) q i.init (local_entered s w.text (local_of w q) (is_register b.storage)))
-    _ (λ r. IsLawful r.1 × Grows (local_entered s w.text (local_of w q) (is_register b.storage)) r.1 × All (Makes r.1 (length s.body.locals) q r.0.0) r.0.1) (AddsLocals s)
+    _ (λ r. IsLawful r.1 × Raises (local_entered s w.text (local_of w q) (is_register b.storage)) r.1 × All (Makes r.1 (length s.body.locals) q r.0.0) r.0.1) (AddsLocals s)
     (initialiser_runs (local_entered s w.text (local_of w q) (is_register b.storage)) (is_by_bytes (type_of q) i.init) w (next_local s) q i.init
     (entered (add_local (local_of w q) s) w.text (LocalObject (length s.body.locals) q (is_register b.storage)) (around s s.made (add_local (local_of w q) s).body l refl).0 h) refl h.lawful)
     (λ r g.

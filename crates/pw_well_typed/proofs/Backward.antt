@@ -19,8 +19,8 @@ use Rattle.pw_well_typed.proofs.Lists.{some_same, never_some, get_append}
 use Rattle.pw_well_typed.proofs.Types.{no, extends_same, extends_trans}
 use Rattle.pw_well_typed.proofs.Composite.{Covers, covers_same, covered_agree, agree_back}
 use Rattle.pw_well_typed.proofs.Sound.{Sound, Filling, is_stored}
-use Rattle.pw_well_typed.proofs.Keeping.{AfterBy, Later, Keeps, StaysAt}
-use Rattle.pw_well_typed.proofs.Declaring.{symbol_continues}
+use Rattle.pw_well_typed.proofs.Keeping.{AfterBy, Later, Keeps, StaysAt, Pending}
+use Rattle.pw_well_typed.proofs.Settled.{symbol_continues}
 use Rattle.pw_well_typed.proofs.Ending.{contains_at, declared_as, final_covers}
 
 -- the names of the state stand for what the module has
@@ -124,8 +124,8 @@ back_by p s t m extends names hidden keeps h n = record {
         subst (λ x. IsNamed m x q) same (named_covered m (symbol_at t v) b.0 q b.2 (subst (StandsFor t m) b.1 (n.entities k y.0 y.1)))
 
 -- within a function, and through declarations
-pub names_back : {p q : Option Slot} {s t : State} (m : ModuleValue) → AfterBy p q s t → Sound p s → Names t m → Names s m
-names_back {p} {q} {s} {t} m a h n = back_by p s t m a.extends a.names a.hidden (a.entities h) h n
+pub names_back : {p q : Pending} {s t : State} (m : ModuleValue) → AfterBy p q s t → Sound p.0 s → Names t m → Names s m
+names_back {p} {q} {s} {t} m a h n = back_by p.0 s t m a.extends a.names a.hidden (a.entities h) h n
 
 -- through external declarations
 pub names_later_back : {s t : State} (m : ModuleValue) → Later s t → Sound None s → Names t m → Names s m

@@ -21,7 +21,7 @@ use Rattle.pw_rules.specs.Leaves.{first_of_declaration}
 use Rattle.pw_rules.specs.Linkage.{Asking, declare_linked, define_function, note_here, linked_before, place_for, linked_again, linked_anew, is_internal_by, type_here, is_linked}
 use Rattle.pw_rules.specs.Modules.{external_rule, externals_rule, module_rule, module_in, global_in, hidden_global}
 use Rattle.pw_rules.specs.SpecifierLists.{Specified}
-use Rattle.pw_rules.specs.States.{State, Entity, TypeName, EnumerationConstant, LocalObject, StaticObject, Linked, LinkedName, HiddenObject, enter, put_entity, put_at, put_linked, add_linked, entry_here, entity_here, linked_at, leave_scope, start}
+use Rattle.pw_rules.specs.States.{State, Entity, TypeName, EnumerationConstant, LocalObject, StaticObject, Linked, LinkedName, HiddenObject, enter, put_entity, put_at, put_linked, add_linked, entry_here, entity_here, linked_at, leave_scope, one_deeper, start}
 use Rattle.pw_rules.specs.Statements as R
 use Rattle.pw_rules.specs.Statements.{block_rule}
 use Rattle.pw_rules.specs.declared.names.Entry.{Entry}
@@ -38,7 +38,8 @@ use Rattle.pw_well_typed.proofs.Phrases.{declarator_post}
 use Rattle.pw_well_typed.proofs.Locals.{IsPlaced, ArePlaced, longer_same, left_placed}
 use Rattle.pw_well_typed.proofs.Parameters.{IsParameter, IsBoundThere, IsBoundIfAny, bound_later, declarator_there}
 use Rattle.pw_well_typed.proofs.Sound.{Sound}
-use Rattle.pw_well_typed.proofs.Keeping.{After, Later, Kept, after_same, after_trans, later_after, later_trans}
+use Rattle.pw_well_typed.proofs.ObjectTypes.{function_keeps}
+use Rattle.pw_well_typed.proofs.Keeping.{deeper_sound, After, Later, Kept, after_same, after_trans, later_after, later_trans}
 use Rattle.pw_well_typed.proofs.Declaring.{declared_goes, function_after, GoodPlace}
 use Rattle.pw_well_typed.proofs.Ending.{contains_at, start_sound}
 use Rattle.pw_well_typed.proofs.Backward.{Names, names_later_back, names_end, get_flat}
@@ -182,6 +183,7 @@ names_around t u m types hidden entities n = record {
 
 -- what is known of a definition where its body begins, some time behind its declarator
 record Begins (v s : State) (q : QType) (d : Declared) : Type 0 where
+  before : IsLawful v
   lawful : IsLawful s
   after : After v s
   good : GoodBindings v.types.records v.scopes.entities (bindings_of d)
@@ -214,12 +216,12 @@ framed s t w place q d block x h a steady m names =
 body_stated : (v s : State) (w : Word) (place : ℕ) (q : QType) (d : Declared) (block : Block) → BlockHasText block → Begins v s q d → Post (body_rule w place q (bindings_of d) block s) (States s)
 unfolding body_rule measured_rule bind
 body_stated v s w place q d block text h =
-    let entry : IsLawful (enter_body q (bindings_of d) (R.labels_in_block block) s) × After v (enter_body q (bindings_of d) (R.labels_in_block block) s) =
-    body_entered v s q (bindings_of d) (R.labels_in_block block) h.after h.lawful h.good in
+    let entry : IsLawful (enter_body q (bindings_of d) (R.labels_in_block block) s) × After (one_deeper v) (enter_body q (bindings_of d) (R.labels_in_block block) s) =
+    body_entered v s q (bindings_of d) (R.labels_in_block block) h.after h.lawful h.good h.before.depths in
     let ready : IsReady (enter_body q (bindings_of d) (R.labels_in_block block) s) = record {
       placed = body_placed s q (bindings_of d) (R.labels_in_block block) h.placed h.outer h.lawful h.bound;
       counting = h.counting;
-      sound = entry.1.sound h.sound;
+      sound = entry.1.sound (deeper_sound h.sound);
     } in
     post_bind (block_rule block (enter_body q (bindings_of d) (R.labels_in_block block) s)) _
     (λ r. (IsLawful r.1 × After (enter_body q (bindings_of d) (R.labels_in_block block) s) r.1 × Unit {0})
@@ -283,7 +285,7 @@ name_stated v d b ds q l h bound kind =
     met_post v (definition_rules v (name_of d) b d ds q) (λ r. declare_linked (name_of d).text (name_of d).token b.tag (definition_asking b) q r.1) (Named v d q) (λ met.
     post_weaken _ (λ e. (IsLawful e.1 × After v e.1 × GoodPlace (name_of d).text q (place_for v (name_of d).text) e.1 e.0) × (Adds v e.1 × IsBoundThere e.1 (bindings_of d))) (Named v d q)
     (post_both _ (λ e. IsLawful e.1 × After v e.1 × GoodPlace (name_of d).text q (place_for v (name_of d).text) e.1 e.0) (λ e. Adds v e.1 × IsBoundThere e.1 (bindings_of d))
-    (declared_goes None v (name_of d).text (name_of d).token b.tag (definition_asking b) q l h (is_linkable v (name_of d) b d ds q met)
+    (declared_goes None v (name_of d).text (name_of d).token b.tag (definition_asking b) q l h (function_keeps v.types.records (type_of q) (kind (ends_here v (name_of d) b d ds q met))) (is_linkable v (name_of d) b d ds q met)
     (λ hs none e g. no (sym g ∙ kind (ends_here v (name_of d) b d ds q met))))
     (declared_bound v (name_of d).text (name_of d).token b.tag (definition_asking b) q (bindings_of d) (linked_here v (name_of d) b d ds q met) (bound_of v d.bindings bound)))
     (λ e g. (g.0, (g.1, ends_here v (name_of d) b d ds q met))))
@@ -313,6 +315,7 @@ function_stated s f l ready outer text =
     (states_later s (define_function e.0 e.1) (body_rule (name_of u.0) e.0 v.0 (bindings_of u.0) f.body (define_function e.0 e.1)) (proceeds_adds first)
     (later.functions ∙ grown.functions)
     (body_stated v.1 (define_function e.0 e.1) (name_of u.0) e.0 v.0 u.0 f.body text (record {
+      before = i.0.0;
       lawful = c.0;
       after = later;
       good = good_bindings v.1 u.0.bindings bindings;

@@ -1,4 +1,5 @@
 -- Changes of the state: each leaves it lawful, and forgets nothing.
+use Rattle.pw_well_typed.proofs.Settled.{IsString}
 use Rattle.std.proofs.lemmas.Slice.Eq.{bytes_eq-Decides}
 use Rattle.std.specs.Str.{bytes_eq}
 use Rattle.pw_scope.specs.Visible.{visible}
@@ -24,8 +25,8 @@ use Rattle.pw_rules.specs.declared.names.Tag.TheVariants as G
 use Rattle.pw_rules.specs.declared.names.TagEntry.{TagEntry}
 use Rattle.pw_well_typed.specs.Lawful.{IsLawful, IsObjectLike, HasLawfulMembers, IsLawfulEntity, IsLawfulTag, Extends}
 use Rattle.pw_well_typed.proofs.Walking.{post_bind}
-use Rattle.pw_well_typed.proofs.States.{GrowsBy, Grows, Runs, Widens, Widely}
-use Rattle.pw_well_typed.proofs.Lists.{some_same, never_some, get_append, get_either, get_one, get_last, get_within, get_filter, filter_front, length_put, put_same, put_either, visible_more}
+use Rattle.pw_well_typed.proofs.States.{GrowsBy, Grows, Runs, Widens, Widely, IsConstant}
+use Rattle.pw_well_typed.proofs.Lists.{some_same, never_some, get_append, get_either, get_one, get_last, get_within, get_filter, filter_front, length_put, put_same, put_either, visible_more, get_more}
 use Rattle.pw_well_typed.proofs.Types.{extends_trans, extends_same, lawful_later}
 
 -- ---- what is lawful stays lawful
@@ -105,6 +106,7 @@ record_grows s kind l = record {
   deep = λ i e h. never_some h;
   entered = λ i e h. never_some h;
   hidden = λ i x e. e;
+  objects = λ k h e. inl e;
   counting = refl;
   body = refl;
   functions = refl;
@@ -141,7 +143,7 @@ entered s name entity l h = record {
         omega (arith, same)
 
 -- the names that are declared in the scope stay so
-entered_here : (s : State) (name : List ℕ) (entity : Entity) → entry_here s name ≡ None → (other : List ℕ) (e : Entry) → entry_here s other ≡ Some e
+pub entered_here : (s : State) (name : List ℕ) (entity : Entity) → entry_here s name ≡ None → (other : List ℕ) (e : Entry) → entry_here s other ≡ Some e
     → entry_here (enter name entity s) other ≡ Some e
 entered_here s name entity fresh other e h =
     ap (option_and_then (if_here s.scopes.depth)) (visible_more s.scopes.ordinary name (record { place = length s.scopes.entities; depth = s.scopes.depth }) other) ∙ by (bytes_eq other name) refl
@@ -160,7 +162,7 @@ entered_sound s name entity pending h b p = record {
   slots = h.slots;
 }
 
-pub entered_grows : (P : Entity → Type 0) (s : State) (name : List ℕ) (entity : Entity) → P entity → IsPlain entity → entry_here s name ≡ None → GrowsBy P s (enter name entity s)
+pub entered_grows : (P : Entity → Type 0) (s : State) (name : List ℕ) (entity : Entity) → P entity → IsPlain entity → entry_here s name ≡ None → GrowsBy P IsString s (enter name entity s)
 entered_grows P s name entity good plain fresh = record {
   extends = extends_same s.types.records;
   begun = λ n e. (e, refl);
@@ -175,6 +177,7 @@ entered_grows P s name entity good plain fresh = record {
       ap (λ (x : List ℕ × Entry). x.1.place) (get_one (name, record { place = length s.scopes.entities; depth = s.scopes.depth }) i e h) in
       (entity, subst (λ k. slice_get (s.scopes.entities ++ entity ∷ []) k ≡ Some entity) same (get_last s.scopes.entities entity), good);
   hidden = λ i x e. e;
+  objects = λ k h e. inl e;
   counting = refl;
   body = refl;
   functions = refl;
@@ -215,6 +218,7 @@ tagged_grows s name tag = record {
   deep = λ i e h. never_some h;
   entered = λ i e h. never_some h;
   hidden = λ i x e. e;
+  objects = λ k h e. inl e;
   counting = refl;
   body = refl;
   functions = refl;
@@ -235,8 +239,8 @@ hidden_sound s h pending y = record {
   slots = slots_hidden pending s.types.linked s.made.hidden s.made.slots h y.slots;
 }
 
-pub hidden_grows : (s : State) (h : HiddenObject) → Grows s (add_hidden h s)
-hidden_grows s h = record {
+pub hidden_grows : (P : HiddenObject → Type 0) (s : State) (h : HiddenObject) → P h → GrowsBy IsConstant P s (add_hidden h s)
+hidden_grows P s h good = record {
   extends = extends_same s.types.records;
   begun = λ n e. (e, refl);
   linked = refl;
@@ -247,12 +251,17 @@ hidden_grows s h = record {
   deep = λ i e h. never_some h;
   entered = λ i e h. never_some h;
   hidden = λ i x e. get_append s.made.hidden (h ∷ []) i x e;
+  objects = λ k x e. by k x (get_more s.made.hidden h k x e);
   counting = refl;
   body = refl;
   functions = refl;
   here = λ name e h. h;
   sound = λ pending y. hidden_sound s h pending y;
 }
+  where
+    by : (k : ℕ) (x : HiddenObject) → (slice_get s.made.hidden k ≡ Some x) ⊎ ((k ≡ length s.made.hidden) × (h ≡ x)) → (slice_get s.made.hidden k ≡ Some x) ⊎ P x
+    by k x (inl e) = inl e
+    by k x (inr e) = inr (subst P e.1 good)
 
 -- ---- a record is begun, and defined
 
@@ -304,6 +313,7 @@ opening_grows s kind n l c = record {
   deep = λ i e h. never_some h;
   entered = λ i e h. never_some h;
   hidden = λ i x e. e;
+  objects = λ k h e. inl e;
   counting = refl;
   body = refl;
   functions = refl;
@@ -411,6 +421,7 @@ defined_grows s t kind n c g o = record {
   deep = g.deep;
   entered = g.entered;
   hidden = g.hidden;
+  objects = g.objects;
   counting = g.counting;
   body = g.body;
   functions = g.functions;
@@ -446,6 +457,7 @@ restored s t l g = (
     deep = g.deep;
     entered = g.entered;
     hidden = g.hidden;
+    objects = g.objects;
     counting = refl;
     body = g.body;
     functions = g.functions;
@@ -476,7 +488,7 @@ deeper_lawful s l = record {
   depths = λ i e h. let k : e.1.depth ≤ s.scopes.depth = l.depths i e h in omega (arith, k);
 }
 
-lt_so : (a b : ℕ) → a < b → nat_lt a b ≡ true
+pub lt_so : (a b : ℕ) → a < b → nat_lt a b ≡ true
 lt_so a b h = by (nat_lt a b) refl
   where
     by : (c : Bool) → nat_lt a b ≡ c → nat_lt a b ≡ true
@@ -551,6 +563,7 @@ left_grows s t ls g = record {
   deep = λ i e h. never_some h;
   entered = λ i e h. never_some h;
   hidden = g.hidden;
+  objects = g.objects;
   counting = g.counting;
   body = g.body;
   functions = g.functions;

@@ -1,11 +1,14 @@
 -- Composite types: they have the shape of each of the types that they are made of, but for a length at the front.
-use Rattle.std.specs.Prelude.{ℕ, zero, suc, ◌≡◌, ◌<◌, ◌⊎◌, ◌/◌, ◌%◌, ◌==◌, Bool, true, false, ◌||◌, ◌&&◌, Option, None, Some, List, [], ◌∷◌, ◌++◌, decimal, length, if◌then◌else◌, refl}
+use Rattle.std.specs.Prelude.{ℕ, zero, suc, ◌≡◌, ◌<◌, ◌⊎◌, ◌/◌, ◌%◌, ◌==◌, Bool, true, false, ◌||◌, ◌&&◌, Option, None, Some, is_some, option_map, List, [], ◌∷◌, ◌++◌, decimal, length, if◌then◌else◌, refl}
 use Rattle.std.specs.Char.{is_ascii_digit}
 use Rattle.std.specs.Fmt.{digits_onto, digit_glyph, digits}
 use Rattle.std.specs.List.{list_all}
 use Rattle.std.proofs.Common.{arith, ap, sym, subst, subst₂, ◌∙◌, inl, inr, append_assoc}
 use Rattle.std.proofs.lemmas.Bool.{eqb-true}
 use Rattle.pw_value.specs.Shapes.{Agree, IsDecimal, GivesLength}
+use Rattle.pw_types.specs.declared.record.Layout.{Layout}
+use Rattle.pw_types.specs.Conversions.{size_of_kind}
+use Rattle.pw_types.specs.Layouts.{layout_of, array_layout, scalar_layout}
 use Rattle.pw_types.specs.Shapes.{shape_of, length_text, letter_of, letters_of, signature_shape, marked, letter_of_kind}
 use Rattle.pw_types.specs.TypeTrees.{CType, Void, Int, Pointer, Array, Function, Record, QType, Qualified, QTypes, NoType, OneType, type_of, is_volatile, RecordValue}
 use Rattle.pw_types.specs.WellTyped.{IsComplete, AgreeInShape}
@@ -96,6 +99,11 @@ abbrev pub stem_of : List RecordValue → CType → Bool → List ℕ
 stem_of r (Array (Qualified ty c w) n) v = shape_of r ty (v || w)
 stem_of r ty v = shape_of r ty v
 
+-- the layout of an array's elements, or of what is no array
+abbrev pub stem_layout : List RecordValue → CType → Option Layout
+stem_layout r (Array (Qualified ty c w) n) = layout_of r ty
+stem_layout r ty = layout_of r ty
+
 abbrev front : Bool → Option ℕ → List ℕ
 front true n = length_text n
 front false n = []
@@ -103,15 +111,16 @@ front false n = []
 -- the first has the shape of the second, and a length where the second has one
 pub record Covers (a b : QType) : Type 0 where
   pub stem : (r : List RecordValue) → stem_of r (type_of a) (is_volatile a) ≡ stem_of r (type_of b) (is_volatile b)
+  pub sizes : (r : List RecordValue) → stem_layout r (type_of a) ≡ stem_layout r (type_of b)
   pub array : is_array (type_of a) ≡ is_array (type_of b)
   pub function : is_function (type_of a) ≡ is_function (type_of b)
   pub length : (n : ℕ) → length_of b ≡ Some n → length_of a ≡ Some n
 
 pub covers_same : (a : QType) → Covers a a
-covers_same a = record { stem = λ r. refl; array = refl; function = refl; length = λ n e. e }
+covers_same a = record { stem = λ r. refl; sizes = λ r. refl; array = refl; function = refl; length = λ n e. e }
 
 pub covers_trans : {a b c : QType} → Covers a b → Covers b c → Covers a c
-covers_trans {a} {b} {c} x y = record { stem = λ r. x.stem r ∙ y.stem r; array = x.array ∙ y.array; function = x.function ∙ y.function; length = λ n e. x.length n (y.length n e) }
+covers_trans {a} {b} {c} x y = record { stem = λ r. x.stem r ∙ y.stem r; sizes = λ r. x.sizes r ∙ y.sizes r; array = x.array ∙ y.array; function = x.function ∙ y.function; length = λ n e. x.length n (y.length n e) }
 
 shape_split : (r : List RecordValue) (q : QType)
     → shape_of r (type_of q) (is_volatile q) ≡ front (is_array (type_of q)) (length_of q) ++ stem_of r (type_of q) (is_volatile q)
@@ -211,6 +220,22 @@ stem_first r (Array (Qualified a c w) n) (Array (Qualified b d u) m) h x v = sha
 stem_first r (Function q ps) (Function p qs) h x v = signature_composite q p ps qs
 stem_first r _ _ h x v = refl
 
+-- and its layout
+pub layout_composite : (r : List RecordValue) (a b : CType) → IsComplete r a → (x : List RecordValue) → layout_of x (composite_type a b) ≡ layout_of x a
+unfolding composite_type
+layout_composite r (Pointer q) (Pointer p) h x = refl
+layout_composite r (Array (Qualified a c w) (Some n)) (Array (Qualified b d u) m) h x = ap (option_map (array_layout n)) (layout_composite r a b (element_complete r a c w n h) x)
+layout_composite r (Array (Qualified a c w) None) (Array (Qualified b d u) m) h x = no h
+layout_composite r (Function q ps) (Function p qs) h x = no h
+layout_composite r _ _ h x = refl
+
+sizes_first : (r : List RecordValue) (a b : CType) → IsLawfulType r a → (x : List RecordValue) → stem_layout x (composite_type a b) ≡ stem_layout x a
+unfolding composite_type
+sizes_first r (Pointer q) (Pointer p) h x = refl
+sizes_first r (Array (Qualified a c w) n) (Array (Qualified b d u) m) h x = layout_composite r a b h.1 x
+sizes_first r (Function q ps) (Function p qs) h x = refl
+sizes_first r _ _ h x = refl
+
 array_first : (a b : CType) → is_array (composite_type a b) ≡ is_array a
 unfolding composite_type
 array_first (Pointer q) (Pointer p) = refl
@@ -237,6 +262,7 @@ pub covers_first : (r : List RecordValue) (a b : QType) → IsLawfulType r (type
 unfolding composite
 covers_first r (Qualified a c v) (Qualified b d w) h = record {
   stem = λ x. stem_first r a b h x v;
+  sizes = λ x. sizes_first r a b h x;
   array = array_first a b;
   function = function_first a b;
   length = λ n e. length_first a b c v n e;
@@ -304,6 +330,34 @@ stem_compatible r (Array (Qualified a c w) n) (Array (Qualified b d u) m) e h k 
 stem_compatible r (Function a ps) (Function b qs) e h k x v = signature_compatible a b ps qs e
 stem_compatible r (Record a) (Record b) e h k x v = ap (λ i. shape_of x (Record i) v) (eqb-true a b e)
 stem_compatible r _ _ e h k x v = no e
+
+-- and one layout
+pub layout_compatible : (r : List RecordValue) (a b : CType) → compatible_types a b ≡ true → IsComplete r a → IsComplete r b → (x : List RecordValue) → layout_of x a ≡ layout_of x b
+unfolding compatible_types
+layout_compatible r Void Void e h k x = refl
+layout_compatible r (Int a) (Int b) e h k x = ap (λ i. Some (scalar_layout (size_of_kind i))) (kinds_same a b e)
+layout_compatible r (Pointer a) (Pointer b) e h k x = refl
+layout_compatible r (Array (Qualified a c w) (Some n)) (Array (Qualified b d u) (Some m)) e h k x =
+    let same : n ≡ m = eqb-true n m (right (compatible (Qualified a c w) (Qualified b d u)) (n == m) e) in
+    let both = types_compatible a b c w d u (left (compatible (Qualified a c w) (Qualified b d u)) (n == m) e) in
+    ap (λ i. option_map (array_layout i) (layout_of x a)) same
+    ∙ ap (option_map (array_layout m)) (layout_compatible r a b both.0 (element_complete r a c w n h) (element_complete r b d u m k) x)
+layout_compatible r (Array (Qualified a c w) None) (Array b m) e h k x = no h
+layout_compatible r (Array a (Some n)) (Array (Qualified b d u) None) e h k x = no k
+layout_compatible r (Function a ps) (Function b qs) e h k x = no h
+layout_compatible r (Record a) (Record b) e h k x = ap (λ i. layout_of x (Record i)) (eqb-true a b e)
+layout_compatible r _ _ e h k x = no e
+
+sizes_compatible : (r : List RecordValue) (a b : CType) → compatible_types a b ≡ true → IsLawfulType r a → IsLawfulType r b → (x : List RecordValue) → stem_layout x a ≡ stem_layout x b
+unfolding compatible_types
+sizes_compatible r Void Void e h k x = refl
+sizes_compatible r (Int a) (Int b) e h k x = ap (λ i. Some (scalar_layout (size_of_kind i))) (kinds_same a b e)
+sizes_compatible r (Pointer a) (Pointer b) e h k x = refl
+sizes_compatible r (Array (Qualified a c w) n) (Array (Qualified b d u) m) e h k x =
+    layout_compatible r a b (types_compatible a b c w d u (left (compatible (Qualified a c w) (Qualified b d u)) (lengths_agree n m) e)).0 h.1 k.1 x
+sizes_compatible r (Function a ps) (Function b qs) e h k x = refl
+sizes_compatible r (Record a) (Record b) e h k x = ap (λ i. layout_of x (Record i)) (eqb-true a b e)
+sizes_compatible r _ _ e h k x = no e
 
 array_compatible : (a b : CType) → compatible_types a b ≡ true → is_array a ≡ is_array b
 unfolding compatible_types
@@ -376,6 +430,7 @@ covers_second r (Qualified a c v) (Qualified b d w) e h k =
     let both = types_compatible a b c v d w e in
     record {
       stem = λ x. stem_first r a b h x v ∙ (ap (stem_of x a) both.1 ∙ stem_compatible r a b both.0 h k x w);
+      sizes = λ x. sizes_first r a b h x ∙ sizes_compatible r a b both.0 h k x;
       array = array_first a b ∙ array_compatible a b both.0;
       function = function_first a b ∙ function_compatible a b both.0;
       length = λ n f. length_second a b c v d w n both.0 f;
@@ -389,6 +444,7 @@ covers_composites r (Qualified a c v) (Qualified q e u) (Qualified b d w) x f h 
     let both = types_compatible a b c v d w f in
     record {
       stem = λ y. stem_first r a b h y v ∙ (x.stem y ∙ sym (stem_first r q b k y u));
+      sizes = λ y. sizes_first r a b h y ∙ (x.sizes y ∙ sym (sizes_first r q b k y));
       array = array_first a b ∙ (x.array ∙ sym (array_first q b));
       function = function_first a b ∙ (x.function ∙ sym (function_first q b));
       length = λ n g. by n (length_composite q b e u n g) both.0;
@@ -398,3 +454,33 @@ covers_composites r (Qualified a c v) (Qualified q e u) (Qualified b d w) x f h 
         → length_of (Qualified (composite_type a b) c v) ≡ Some n
     by n (inl g) m = length_first a b c v n (x.length n g)
     by n (inr g) m = length_second a b c v e u n m g.1
+
+-- ---- what covers a complete type
+
+pub layout_alone : (r : List RecordValue) (a : QType) → is_array (type_of a) ≡ false → layout_of r (type_of a) ≡ stem_layout r (type_of a)
+layout_alone r (Qualified Void c v) h = refl
+layout_alone r (Qualified (Int k) c v) h = refl
+layout_alone r (Qualified (Pointer q) c v) h = refl
+layout_alone r (Qualified (Array q n) c v) h = no (sym h)
+layout_alone r (Qualified (Function q ps) c v) h = refl
+layout_alone r (Qualified (Record n) c v) h = refl
+
+-- has its layout
+pub layout_covered : (r : List RecordValue) (a b : QType) → Covers a b → IsComplete r (type_of b) → layout_of r (type_of a) ≡ layout_of r (type_of b)
+layout_covered r (Qualified (Array (Qualified x c w) n) d u) (Qualified (Array (Qualified y e z) (Some m)) f v) h k =
+    ap (λ o. layout_of r (Array (Qualified x c w) o)) (h.length m refl) ∙ ap (option_map (array_layout m)) (h.sizes r)
+layout_covered r (Qualified (Array x n) d u) (Qualified (Array (Qualified y e z) None) f v) h k = no k
+layout_covered r (Qualified Void d u) (Qualified (Array y m) f v) h k = no h.array
+layout_covered r (Qualified (Int i) d u) (Qualified (Array y m) f v) h k = no h.array
+layout_covered r (Qualified (Pointer p) d u) (Qualified (Array y m) f v) h k = no h.array
+layout_covered r (Qualified (Function p ps) d u) (Qualified (Array y m) f v) h k = no h.array
+layout_covered r (Qualified (Record i) d u) (Qualified (Array y m) f v) h k = no h.array
+layout_covered r (Qualified a d u) (Qualified Void f v) h k = no k
+layout_covered r (Qualified a d u) (Qualified (Function p ps) f v) h k = no k
+layout_covered r a (Qualified (Int i) f v) h k = layout_alone r a h.array ∙ h.sizes r
+layout_covered r a (Qualified (Pointer p) f v) h k = layout_alone r a h.array ∙ h.sizes r
+layout_covered r a (Qualified (Record i) f v) h k = layout_alone r a h.array ∙ h.sizes r
+
+-- and is complete
+pub complete_covered : (r : List RecordValue) (a b : QType) → Covers a b → IsComplete r (type_of b) → IsComplete r (type_of a)
+complete_covered r a b h k = ap is_some (layout_covered r a b h k) ∙ k

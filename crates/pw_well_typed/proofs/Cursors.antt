@@ -1,15 +1,13 @@
 -- The places of a list of initialisers: each part that comes next lies behind those that were filled, and inside the object.
 use Rattle.std.specs.Prelude.{ℕ, zero, suc, ◌≡◌, ◌≤◌, ◌+◌, ◌||◌, ◌⊎◌, Bool, true, false, Option, None, Some, is_some, option_and_then, List, [], ◌∷◌, if◌then◌else◌, refl}
-use Rattle.std.proofs.Common.{arith, ap, sym, subst, ◌∙◌, inl, inr}
+use Rattle.std.proofs.Common.{arith, sym, subst, inl, inr}
 use Rattle.pw_types.specs.Records.{IsLaid}
-use Rattle.pw_types.specs.TypeTrees.{CType, Void, Int, Pointer, Array, Function, Record, QType, Qualified, type_of, RecordValue}
+use Rattle.pw_types.specs.TypeTrees.{CType, Array, QType, type_of, RecordValue}
 use Rattle.pw_types.specs.WellTyped.{IsComplete}
-use Rattle.pw_rules.specs.Initialisers.{Frame, Cursor, Target, next_part, part_of, one_on, passed, frame_of, Reached, reached, reach}
-use Rattle.pw_rules.specs.Kinds.{is_scalar, plain}
-use Rattle.pw_rules.specs.Leaves.{is_nil}
+use Rattle.pw_rules.specs.Initialisers.{Frame, Cursor, Target, next_part, part_of, one_on, passed, frame_of, Reached, reached}
+use Rattle.pw_rules.specs.Kinds.{is_scalar}
 use Rattle.pw_well_typed.proofs.Lists.{some_same, never_some}
-use Rattle.pw_well_typed.proofs.Types.{no}
-use Rattle.pw_well_typed.proofs.Parts.{sized, Inside, next_inside, next_behind, part_complete, element_part}
+use Rattle.pw_well_typed.proofs.Parts.{sized, next_inside, next_behind, part_complete, element_part}
 
 -- complete, or an array that gets its length, of complete elements
 abbrev pub Whole : List RecordValue → CType → Type 0

@@ -20,29 +20,34 @@ use Rattle.pw_rules.specs.declared.names.Slot.{Slot}
 use Rattle.pw_rules.specs.declared.names.Slot.TheVariants as slot
 use Rattle.pw_well_typed.specs.Lawful.{IsLawful, IsLawfulType, IsLawfulEntity}
 use Rattle.pw_well_typed.proofs.Walking.{AreMet, truth, Post}
-use Rattle.pw_well_typed.proofs.Lists.{some_same, never_some, get_append, get_more, get_last, get_within, put_either, put_cases, put_same, visible_more, length_put}
+use Rattle.pw_well_typed.proofs.Lists.{get_one, some_same, never_some, get_append, get_more, get_last, get_within, put_either, put_cases, put_same, visible_more, length_put}
 use Rattle.pw_well_typed.proofs.Types.{no, lawful_later}
 use Rattle.pw_well_typed.proofs.Composite.{Covers, covers_same, covers_trans, covers_first, covers_second, covers_composites}
 use Rattle.pw_well_typed.proofs.Sound.{Sound, Continues, continues_same, Onward, Filling, filling_same, Backed, AreBacked, Spelled, AreSpelled, IsFunctionNamed, AreFunctionsNamed, all_backed_on, all_spelled_on, backed_more, spelled_more, plain_backed, plain_spelled, IsPlain, is_stored, Marked, Relinked, slots_relinked, slots_stored, slots_refilled, named_same, HasSlot}
-use Rattle.pw_well_typed.proofs.Changes.{entered_sound, hidden_sound}
-use Rattle.pw_well_typed.proofs.Keeping.{Knows, AfterBy, After, KeptBy, Kept, Changed, after_by, Becomes, becomes_same, Keeps, keeps_same, keeps_longer, around_filling, knows_linked, knows_trans, linked_put, linked_added, entity_put, entered_kept, noted, noted_here, none_named, place_is, place_new, named_before, here_is, GoesBy, here_linked, tentative_kept, defined_kept, function_kept, initialised_kept, composite_lawful, keeps_trans, knows_so, after_same}
+use Rattle.pw_well_typed.proofs.Changes.{entered_sound, hidden_sound, entered_here}
+use Rattle.pw_well_typed.proofs.Outside.{Outside, outside_same, outside_trans, outside_more, AreShallow}
+use Rattle.pw_well_typed.proofs.Settled.{symbol_continues, Settled, IsMade, NameFrom, Origins, SameItems, origins_same, origins_put, origins_added, origins_hidden, origins_refilled, settles, HasItems}
+use Rattle.pw_well_typed.proofs.ObjectTypes.{AreWithin, KeepsLimit, keeps_composite, within_put, within_same, within_more}
+use Rattle.pw_well_typed.proofs.Keeping.{Knows, AfterBy, After, KeptBy, Kept, Changed, after_by, Becomes, becomes_same, Keeps, keeps_same, keeps_longer, around_filling, knows_linked, knows_trans, linked_put, linked_added, entity_put, entered_kept, noted, noted_here, none_named, place_is, place_new, named_before, here_is, GoesBy, here_linked, tentative_kept, defined_kept, function_kept, initialised_kept, composite_lawful, keeps_trans, knows_so, after_same, Pending, after_from, persists_so, nothing}
 
 -- ---- the function that is read, and objects without names
 
-pub body_kept : {p : Option Slot} (s : State) (body : BodyState) → IsLawful s → body.locals ≡ s.body.locals → KeptBy p p s (record { types = s.types; scopes = s.scopes; made = s.made; body = body })
+pub body_kept : {p : Pending} (s : State) (body : BodyState) → IsLawful s → body.locals ≡ s.body.locals → KeptBy p p s (record { types = s.types; scopes = s.scopes; made = s.made; body = body })
 body_kept {p} s body l same =
     let c = around_filling s s.made body l refl (filling_same s.made.hidden) in (
       c.0,
-      after_by c.1 (λ h. keeps_same s.scopes.entities) (λ h. record { backed = h.backed; spelled = h.spelled; functions = h.functions; slots = h.slots })
-          (λ h k x e. h k x (subst (λ xs. slice_get xs k ≡ Some x) same e)),
+      after_from c.1 (λ h. keeps_same s.scopes.entities) (λ h. record { backed = h.backed; spelled = h.spelled; functions = h.functions; slots = h.slots })
+          (λ h k x e. h k x (subst (λ xs. slice_get xs k ≡ Some x) same e)) (λ h. h) (outside_same s.scopes) refl (λ z. origins_same p.1 s (record { types = s.types; scopes = s.scopes; made = s.made; body = body }) refl refl),
     )
 
-pub hidden_kept : {p : Option Slot} (s : State) (x : HiddenObject) → IsLawful s → KeptBy p p s (add_hidden x s)
-hidden_kept {p} s x l =
+-- one more, whole or about to get its first bytes
+pub hidden_kept : {p : Option Slot} (v : Option Slot) (s : State) (x : HiddenObject) → IsLawful s → (v ≡ Some (slot.Hidden (length s.made.hidden))) ⊎ IsMade (add_hidden x s) x
+    → KeptBy (p, None) (p, v) s (add_hidden x s)
+hidden_kept {p} v s x l good =
     let c = around_filling s (add_hidden x s).made s.body l refl (λ k y e. (y, get_append s.made.hidden (x ∷ []) k y e, covers_same y.ty)) in
-    (c.0, after_by c.1 (λ h. keeps_same s.scopes.entities) (λ h. hidden_sound s x p h) (λ h. h))
+    (c.0, after_from c.1 (λ h. keeps_same s.scopes.entities) (λ h. hidden_sound s x p h) (λ h. h) (λ h. h) (outside_same s.scopes) refl (λ z. origins_hidden v s (add_hidden x s) x refl refl good))
 
-filling_put : (place : ℕ) (x y : HiddenObject) (xs : List HiddenObject) → slice_get xs place ≡ Some y → Covers x.ty y.ty → Filling xs (put_at place x xs)
+pub filling_put : (place : ℕ) (x y : HiddenObject) (xs : List HiddenObject) → slice_get xs place ≡ Some y → Covers x.ty y.ty → Filling xs (put_at place x xs)
 filling_put place x y xs at covers k z e = by (put_either place x xs k)
   where
     by : ((k ≡ place) × (slice_get (put_at place x xs) k ≡ Some x)) ⊎ (slice_get (put_at place x xs) k ≡ slice_get xs k)
@@ -60,12 +65,16 @@ refilled_sound p s place x y at covers h = record {
 }
 
 -- an object without a name gets its first bytes, and its length
-pub hidden_put : {p : Option Slot} (s : State) (place : ℕ) (x y : HiddenObject) → IsLawful s → slice_get s.made.hidden place ≡ Some y → Covers x.ty y.ty → KeptBy p p s (put_hidden place x s)
-hidden_put {p} s place x y l at covers =
+pub hidden_put : (o : Pending) {p : Option Slot} (from s : State) (place : ℕ) (x y : HiddenObject) → AfterBy o (p, Some (slot.Hidden place)) from s → IsLawful s → slice_get s.made.hidden place ≡ Some y → Covers x.ty y.ty
+    → (Sound o.0 from → AreShallow from.scopes → Settled o.1 from → IsMade (put_hidden place x s) x) → KeptBy o (p, None) from (put_hidden place x s)
+hidden_put o {p} from s place x y a l at covers good =
     let fill : Filling s.made.hidden (put_at place x s.made.hidden) = filling_put place x y s.made.hidden at covers in
     let c = around_filling s (put_hidden place x s).made s.body l refl fill in (
       c.0,
-      after_by c.1 (λ h. keeps_same s.scopes.entities) (λ h. refilled_sound p s place x y at covers h) (λ h. h),
+      after_by (knows_trans (knows_so a) c.1) a.entities (λ h. refilled_sound p s place x y at covers (a.sound h)) a.locals a.within a.outside
+          (λ h shallow z.
+          settles (Some (slot.Hidden place)) None s (put_hidden place x s) (persists_so c.1 (keeps_same s.scopes.entities) (λ name e f. f) refl)
+          (origins_refilled s (put_hidden place x s) place x y refl refl at (good h shallow z)) (a.settled h shallow z)),
     )
 
 -- ---- entities
@@ -108,27 +117,36 @@ put_sound p s place x old at becomes b h = record {
   slots = h.slots;
 }
 
-pub entity_becomes : {p : Option Slot} (s : State) (place : ℕ) (x old : Entity) → IsLawful s → IsLawfulEntity s.types.records x → slice_get s.scopes.entities place ≡ Some old → Becomes old x
+pub entity_becomes : {p : Pending} (s : State) (place : ℕ) (x old : Entity) → IsLawful s → IsLawfulEntity s.types.records x → slice_get s.scopes.entities place ≡ Some old → Becomes old x
     → Backed s.types.linked s.made.hidden x → KeptBy p p s (put_entity place x s)
 entity_becomes {p} s place x old l lawful at becomes b =
     let c = entity_put s place x l lawful in
-    (c.0, after_by c.1 (λ h. keeps_put place x old s.scopes.entities at becomes) (λ h. put_sound p s place x old at becomes b h) (λ h. h))
+    (c.0, after_from c.1 (λ h. keeps_put place x old s.scopes.entities at becomes) (λ h. put_sound p.0 s place x old at becomes b h) (λ h. h) (λ h. h) (outside_same s.scopes) refl (λ z. origins_same p.1 s (put_entity place x s) refl refl))
 
-pub plain_entered : {p : Option Slot} (s : State) (name : List ℕ) (x : Entity) → IsLawful s → IsLawfulEntity s.types.records x → IsPlain x → KeptBy p p s (enter name x s)
-plain_entered {p} s name x l lawful plain =
+-- a name that is new in its scope
+pub entered_outside : (s : State) (name : List ℕ) (x : Entity) → entry_here s name ≡ None → Outside s.scopes (enter name x s).scopes
+entered_outside s name x fresh =
+    outside_more s.scopes (enter name x s).scopes ((name, record { place = length s.scopes.entities; depth = s.scopes.depth }) ∷ []) refl refl
+    (λ i e f. sym (ap (λ (y : List ℕ × Entry). y.1.depth) (get_one (name, record { place = length s.scopes.entities; depth = s.scopes.depth }) i e f)))
+    (λ other e f. entered_here s name x fresh other e f)
+
+pub plain_entered : {p : Pending} (s : State) (name : List ℕ) (x : Entity) → IsLawful s → IsLawfulEntity s.types.records x → IsPlain x → entry_here s name ≡ None → KeptBy p p s (enter name x s)
+plain_entered {p} s name x l lawful plain fresh =
     let c = entered_kept s name x l lawful in (
       c.0,
-      after_by c.1 (λ h. keeps_longer s.scopes.entities (s.scopes.entities ++ x ∷ []) (λ k e f. get_append s.scopes.entities (x ∷ []) k e f))
-          (λ h. entered_sound s name x p h (plain_backed s.types.linked s.made.hidden x plain) (plain_spelled s.types.linked name x plain)) (λ h. h),
+      after_from c.1 (λ h. keeps_longer s.scopes.entities (s.scopes.entities ++ x ∷ []) (λ k e f. get_append s.scopes.entities (x ∷ []) k e f))
+          (λ h. entered_sound s name x p.0 h (plain_backed s.types.linked s.made.hidden x plain) (plain_spelled s.types.linked name x plain)) (λ h. h) (λ h. h) (entered_outside s name x fresh) refl
+          (λ z. origins_same p.1 s (enter name x s) refl refl),
     )
 
-pub static_entered : {p : Option Slot} (s : State) (name : List ℕ) (k : ℕ) (q : QType) (o : HiddenObject) → IsLawful s → IsLawfulEntity s.types.records (StaticObject k q)
-    → slice_get s.made.hidden k ≡ Some o → Covers o.ty q → KeptBy p p s (enter name (StaticObject k q) s)
-static_entered {p} s name k q o l lawful at covers =
+pub static_entered : {p : Pending} (s : State) (name : List ℕ) (k : ℕ) (q : QType) (o : HiddenObject) → IsLawful s → IsLawfulEntity s.types.records (StaticObject k q)
+    → slice_get s.made.hidden k ≡ Some o → Covers o.ty q → entry_here s name ≡ None → KeptBy p p s (enter name (StaticObject k q) s)
+static_entered {p} s name k q o l lawful at covers fresh =
     let c = entered_kept s name (StaticObject k q) l lawful in (
       c.0,
-      after_by c.1 (λ h. keeps_longer s.scopes.entities (s.scopes.entities ++ StaticObject k q ∷ []) (λ i e f. get_append s.scopes.entities (StaticObject k q ∷ []) i e f))
-          (λ h. entered_sound s name (StaticObject k q) p h (o, at, covers) tt) (λ h. h),
+      after_from c.1 (λ h. keeps_longer s.scopes.entities (s.scopes.entities ++ StaticObject k q ∷ []) (λ i e f. get_append s.scopes.entities (StaticObject k q ∷ []) i e f))
+          (λ h. entered_sound s name (StaticObject k q) p.0 h (o, at, covers) tt) (λ h. h) (λ h. h) (entered_outside s name (StaticObject k q) fresh) refl
+          (λ z. origins_same p.1 s (enter name (StaticObject k q) s) refl refl),
     )
 
 -- ---- a name in the scope
@@ -183,10 +201,6 @@ here {p} s name e h f =
 
 -- ---- names with linkage
 
-pub symbol_continues : (x y : LinkedName) → Continues x y → symbol_of_linked y ≡ symbol_of_linked x
-symbol_continues x y c =
-    ap (λ b. if b then Internal y.name else External y.name) c.internal ∙ ap (λ n. if x.internal then Internal n else External n) c.name
-
 pub functions_on : (xs ys : List LinkedName) (fs : List FunctionValue) → Onward xs ys → AreFunctionsNamed xs fs → AreFunctionsNamed ys fs
 functions_on xs ys fs on h i f e =
     let x = h i f e in
@@ -231,11 +245,13 @@ abbrev New : List LinkedName → List HiddenObject → List Entity → ℕ → E
 New linked hidden entities place z = (old : Entity) × (slice_get entities place ≡ Some old) × Becomes old z × Backed linked hidden z
 
 -- a name that is declared again in the scope, or there for the first time
-pub again_after : (o p q : Option Slot) (from s : State) (name : List ℕ) (place : ℕ) (ty : QType) (l x : LinkedName) → AfterBy o p from s → IsLawful s → IsLawfulType s.types.records (type_of ty)
+pub again_after : (o p q : Pending) (from s : State) (name : List ℕ) (place : ℕ) (ty : QType) (l x : LinkedName) → AfterBy o p from s → IsLawful s → IsLawfulType s.types.records (type_of ty) → KeepsLimit s.types.records (type_of ty)
     → slice_get s.types.linked place ≡ Some l → l.name ≡ name → Continues l x → x.ty ≡ composite l.ty ty → Marked l x → compatible l.ty ty ≡ true
-    → (Sound o from → (y : Entity) → entity_here s name ≡ Some y → is_linked y ≡ true) → Embeds p q (put_at place x s.types.linked)
+    → (Sound o.0 from → (y : Entity) → entity_here s name ≡ Some y → is_linked y ≡ true) → Embeds p.0 q.0 (put_at place x s.types.linked)
+    → (Sound o.0 from → AreShallow from.scopes → Settled o.1 from → is_function (type_of x.ty) ≡ false → NameFrom p.1 q.1 s (note_here name place ty (put_linked place x s)) place x)
+    → ((z : Slot) → p.1 ≡ Some z → (z ≡ slot.Named place) ⊎ (q.1 ≡ Some z))
     → AfterBy o q from (note_here name place ty (put_linked place x s))
-again_after o p q from s name place ty l x a lawful known at named on composed marked alike linked embed = by_entry (entry_here s name) refl
+again_after o p q from s name place ty l x a lawful known limit at named on composed marked alike linked embed comes rest = by_entry (entry_here s name) refl comes
   where
     xs : List LinkedName
     xs = put_at place x s.types.linked
@@ -250,33 +266,63 @@ again_after o p q from s name place ty l x a lawful known at named on composed m
     now : slice_get xs place ≡ Some x
     now = put_same place x s.types.linked (get_within s.types.linked place l at)
 
-    t1 : Sound p s → Sound q (put_linked place x s)
-    t1 h = sound_on p q s xs c.1.names embed (marked_put place l x s.types.linked at marked) (relinked_put q place l x s.types.linked at marked) h
+    within : AreWithin from.types.records from.types.linked → AreWithin s.types.records xs
+    within h =
+        let old = a.within h in
+        within_put s.types.records place x s.types.linked
+        (subst (λ t. IsLawfulType s.types.records (type_of t)) (sym composed) (Rattle.pw_well_typed.proofs.Keeping.composite_lawful s.types.records l.ty ty first known))
+        (subst (λ t. KeepsLimit s.types.records (type_of t)) (sym composed) (keeps_composite s.types.records l.ty ty alike first known (old place l at).1 limit)) old
+
+    t1 : Sound p.0 s → Sound q.0 (put_linked place x s)
+    t1 h = sound_on p.0 q.0 s xs c.1.names embed (marked_put place l x s.types.linked at marked) (relinked_put q.0 place l x s.types.linked at marked) h
 
     known_later : Knows s (note_here name place ty (put_linked place x s))
     known_later = knows_trans c.1 (noted_here (put_linked place x s) name place ty c.0 known).1
 
-    by_entry : (w : Option Entry) → entry_here s name ≡ w → AfterBy o q from (note_here name place ty (put_linked place x s))
-    by_entry None e =
-        subst (λ w. AfterBy o q from (option_map_or (λ (e : Entry). put_entity e.place (Linked place (type_here ty (unwrap_or (entity_here s name) (TypeName ty)))) (put_linked place x s)) w (enter name (Linked place ty) (put_linked place x s))))
+    Comes : State → Type 0
+    Comes t = Sound o.0 from → AreShallow from.scopes → Settled o.1 from → is_function (type_of x.ty) ≡ false → NameFrom p.1 q.1 s t place x
+
+    origins : (t : State) → t.types.linked ≡ xs → t.made.hidden ≡ s.made.hidden → (is_function (type_of x.ty) ≡ false → NameFrom p.1 q.1 s t place x) → Origins p.1 q.1 s t
+    origins t names objects from = origins_put p.1 q.1 s t place l x names objects at from rest
+
+    by_entry : (w : Option Entry) → entry_here s name ≡ w → Comes (note_here name place ty (put_linked place x s)) → AfterBy o q from (note_here name place ty (put_linked place x s))
+    by_entry None e come =
+        subst (λ w. Comes (option_map_or (λ (e : Entry). put_entity e.place (Linked place (type_here ty (unwrap_or (entity_here s name) (TypeName ty)))) (put_linked place x s)) w (enter name (Linked place ty) (put_linked place x s)))
+        → AfterBy o q from (option_map_or (λ (e : Entry). put_entity e.place (Linked place (type_here ty (unwrap_or (entity_here s name) (TypeName ty)))) (put_linked place x s)) w (enter name (Linked place ty) (put_linked place x s))))
         (sym e)
-        (after_by
+        (λ comes. after_by
         (knows_trans (knows_so a) (subst (λ w. Knows s (option_map_or (λ (e : Entry). put_entity e.place (Linked place (type_here ty (unwrap_or (entity_here s name) (TypeName ty)))) (put_linked place x s)) w (enter name (Linked place ty) (put_linked place x s)))) e known_later))
         (λ h. keeps_trans from.scopes.entities s.scopes.entities (s.scopes.entities ++ Linked place ty ∷ []) (a.entities h)
         (keeps_longer s.scopes.entities (s.scopes.entities ++ Linked place ty ∷ []) (λ k y f. get_append s.scopes.entities (Linked place ty ∷ []) k y f)))
-        (λ h. entered_sound (put_linked place x s) name (Linked place ty) q (t1 (a.sound h))
-        (x, now, subst (λ t. Covers t ty) (sym composed) (covers_second s.types.records l.ty ty alike first known)) (x, now, on.name ∙ named)) a.locals)
-    by_entry (Some e) f =
-        subst (λ w. AfterBy o q from (option_map_or (λ (e : Entry). put_entity e.place (Linked place (type_here ty (unwrap_or (entity_here s name) (TypeName ty)))) (put_linked place x s)) w (enter name (Linked place ty) (put_linked place x s))))
+        (λ h. entered_sound (put_linked place x s) name (Linked place ty) q.0 (t1 (a.sound h))
+        (x, now, subst (λ t. Covers t ty) (sym composed) (covers_second s.types.records l.ty ty alike first known)) (x, now, on.name ∙ named)) a.locals within
+        (outside_trans from.scopes s.scopes (enter name (Linked place ty) s).scopes a.outside (entered_outside s name (Linked place ty) e))
+        (λ h shallow z.
+        settles p.1 q.1 s (enter name (Linked place ty) (put_linked place x s))
+        (persists_so (subst (λ w. Knows s (option_map_or (λ (e : Entry). put_entity e.place (Linked place (type_here ty (unwrap_or (entity_here s name) (TypeName ty)))) (put_linked place x s)) w (enter name (Linked place ty) (put_linked place x s)))) e known_later)
+        (keeps_longer s.scopes.entities (s.scopes.entities ++ Linked place ty ∷ []) (λ k y f. get_append s.scopes.entities (Linked place ty ∷ []) k y f))
+        (entered_outside s name (Linked place ty) e (a.outside shallow).0).1 refl)
+        (origins (enter name (Linked place ty) (put_linked place x s)) refl refl (comes h shallow z)) (a.settled h shallow z)))
+        come
+    by_entry (Some e) f come =
+        subst (λ w. Comes (option_map_or (λ (e : Entry). put_entity e.place (Linked place (type_here ty (unwrap_or (entity_here s name) (TypeName ty)))) (put_linked place x s)) w (enter name (Linked place ty) (put_linked place x s)))
+        → AfterBy o q from (option_map_or (λ (e : Entry). put_entity e.place (Linked place (type_here ty (unwrap_or (entity_here s name) (TypeName ty)))) (put_linked place x s)) w (enter name (Linked place ty) (put_linked place x s))))
         (sym f)
-        (after_by
+        (λ comes. after_by
         (knows_trans (knows_so a) (subst (λ w. Knows s (option_map_or (λ (e : Entry). put_entity e.place (Linked place (type_here ty (unwrap_or (entity_here s name) (TypeName ty)))) (put_linked place x s)) w (enter name (Linked place ty) (put_linked place x s)))) f known_later))
         (λ h. let y = new h in
         keeps_trans from.scopes.entities s.scopes.entities (put_at e.place (Linked place (type_here ty (unwrap_or (entity_here s name) (TypeName ty)))) s.scopes.entities) (a.entities h)
         (keeps_put e.place (Linked place (type_here ty (unwrap_or (entity_here s name) (TypeName ty)))) y.0 s.scopes.entities y.1 y.2))
-        (λ h. let y = new h in put_sound q (put_linked place x s) e.place (Linked place (type_here ty (unwrap_or (entity_here s name) (TypeName ty)))) y.0 y.1 y.2 y.3 (t1 (a.sound h))) a.locals)
+        (λ h. let y = new h in put_sound q.0 (put_linked place x s) e.place (Linked place (type_here ty (unwrap_or (entity_here s name) (TypeName ty)))) y.0 y.1 y.2 y.3 (t1 (a.sound h))) a.locals within a.outside
+        (λ h shallow z.
+        let y = new h in
+        settles p.1 q.1 s (put_entity e.place (Linked place (type_here ty (unwrap_or (entity_here s name) (TypeName ty)))) (put_linked place x s))
+        (persists_so (subst (λ w. Knows s (option_map_or (λ (e : Entry). put_entity e.place (Linked place (type_here ty (unwrap_or (entity_here s name) (TypeName ty)))) (put_linked place x s)) w (enter name (Linked place ty) (put_linked place x s)))) f known_later)
+        (keeps_put e.place (Linked place (type_here ty (unwrap_or (entity_here s name) (TypeName ty)))) y.0 s.scopes.entities y.1 y.2) (λ other w g. g) refl)
+        (origins (put_entity e.place (Linked place (type_here ty (unwrap_or (entity_here s name) (TypeName ty)))) (put_linked place x s)) refl refl (comes h shallow z)) (a.settled h shallow z)))
+        come
       where
-        by_entity : Sound p s → (y : Entity) → slice_get s.scopes.entities e.place ≡ Some y → Spelled s.types.linked name y → is_linked y ≡ true → New xs s.made.hidden s.scopes.entities e.place (Linked place (type_here ty y))
+        by_entity : Sound p.0 s → (y : Entity) → slice_get s.scopes.entities e.place ≡ Some y → Spelled s.types.linked name y → is_linked y ≡ true → New xs s.made.hidden s.scopes.entities e.place (Linked place (type_here ty y))
         by_entity h (TypeName r) there spelled z = no z
         by_entity h (EnumerationConstant n) there spelled z = no z
         by_entity h (LocalObject n r register) there spelled z = no z
@@ -293,19 +339,19 @@ again_after o p q from s name place ty l x a lawful known at named on composed m
               (x, now, subst (λ t. Covers t (composite r ty)) (sym composed) (covers_composites s.types.records l.ty r ty covers alike first lawfully)),
             )
 
-        new : Sound o from → New xs s.made.hidden s.scopes.entities e.place (Linked place (type_here ty (unwrap_or (entity_here s name) (TypeName ty))))
+        new : Sound o.0 from → New xs s.made.hidden s.scopes.entities e.place (Linked place (type_here ty (unwrap_or (entity_here s name) (TypeName ty))))
         new h =
             let y = here s name e (a.sound h) f in
             subst (λ w. New xs s.made.hidden s.scopes.entities e.place (Linked place (type_here ty (unwrap_or w (TypeName ty))))) (sym y.is_it)
             (by_entity (a.sound h) y.entity y.there y.spelled (linked h y.entity y.is_it))
 
 -- a name that had no declaration
-new_after : (q : Option Slot) (s : State) (name : List ℕ) (place : ℕ) (ty : QType) (x : LinkedName) → IsLawful s → IsLawfulType s.types.records (type_of ty)
-    → linked_before s name ≡ None → place ≡ length s.types.linked → x.name ≡ name → x.ty ≡ ty → is_stored x ≡ false
+new_after : (q : Option Slot) (s : State) (name : List ℕ) (place : ℕ) (ty : QType) (x : LinkedName) → IsLawful s → IsLawfulType s.types.records (type_of ty) → KeepsLimit s.types.records (type_of ty)
+    → linked_before s name ≡ None → place ≡ length s.types.linked → x.name ≡ name → x.ty ≡ ty → is_stored x ≡ false → x.defined ≡ false → x.items ≡ []
     → (Sound None s → x.internal ≡ true → is_function (type_of x.ty) ≡ false → q ≡ Some (slot.Named place))
     → ((y : Entity) → entity_here s name ≡ Some y → is_linked y ≡ true)
-    → AfterBy None q s (note_here name place ty (add_linked x s))
-new_after q s name place ty x lawful known none last named typed bare new linked_only = by_entry (entry_here s name) refl
+    → AfterBy nothing (q, None) s (note_here name place ty (add_linked x s))
+new_after q s name place ty x lawful known limit none last named typed bare undefined empty new linked_only = by_entry (entry_here s name) refl
   where
     xs : List LinkedName
     xs = s.types.linked ++ x ∷ []
@@ -315,6 +361,11 @@ new_after q s name place ty x lawful known none last named typed bare new linked
 
     now : slice_get xs place ≡ Some x
     now = subst (λ k. slice_get xs k ≡ Some x) (sym last) (get_last s.types.linked x)
+
+    within : AreWithin s.types.records s.types.linked → AreWithin s.types.records xs
+    within h =
+        within_more s.types.records x s.types.linked (subst (λ t. IsLawfulType s.types.records (type_of t)) (sym typed) known)
+        (subst (λ t. KeepsLimit s.types.records (type_of t)) (sym typed) limit) h
 
     back : Sound None s → Relinked q s.types.linked xs
     back h n y e = by (get_more s.types.linked x n y e)
@@ -333,20 +384,21 @@ new_after q s name place ty x lawful known none last named typed bare new linked
     known_later : Knows s (note_here name place ty (add_linked x s))
     known_later = knows_trans c.1 (noted_here (add_linked x s) name place ty c.0 known).1
 
-    by_entry : (o : Option Entry) → entry_here s name ≡ o → AfterBy None q s (note_here name place ty (add_linked x s))
+    by_entry : (o : Option Entry) → entry_here s name ≡ o → AfterBy nothing (q, None) s (note_here name place ty (add_linked x s))
     by_entry None e =
-        subst (λ o. AfterBy None q s (option_map_or (λ (e : Entry). put_entity e.place (Linked place (type_here ty (unwrap_or (entity_here s name) (TypeName ty)))) (add_linked x s)) o (enter name (Linked place ty) (add_linked x s))))
+        subst (λ o. AfterBy nothing (q, None) s (option_map_or (λ (e : Entry). put_entity e.place (Linked place (type_here ty (unwrap_or (entity_here s name) (TypeName ty)))) (add_linked x s)) o (enter name (Linked place ty) (add_linked x s))))
         (sym e)
-        (after_by
+        (after_from
         (subst (λ o. Knows s (option_map_or (λ (e : Entry). put_entity e.place (Linked place (type_here ty (unwrap_or (entity_here s name) (TypeName ty)))) (add_linked x s)) o (enter name (Linked place ty) (add_linked x s)))) e known_later)
         (λ h. keeps_longer s.scopes.entities (s.scopes.entities ++ Linked place ty ∷ []) (λ k y f. get_append s.scopes.entities (Linked place ty ∷ []) k y f))
-        (λ h. entered_sound (add_linked x s) name (Linked place ty) q (t1 h) (x, now, subst (λ t. Covers t ty) (sym typed) (covers_same ty)) (x, now, named)) (λ h. h))
+        (λ h. entered_sound (add_linked x s) name (Linked place ty) q (t1 h) (x, now, subst (λ t. Covers t ty) (sym typed) (covers_same ty)) (x, now, named)) (λ h. h) within (entered_outside s name (Linked place ty) e) refl
+        (λ z. origins_added None s (enter name (Linked place ty) (add_linked x s)) x refl refl undefined empty))
     by_entry (Some e) f =
-        subst (λ o. AfterBy None q s (option_map_or (λ (e : Entry). put_entity e.place (Linked place (type_here ty (unwrap_or (entity_here s name) (TypeName ty)))) (add_linked x s)) o (enter name (Linked place ty) (add_linked x s))))
+        subst (λ o. AfterBy nothing (q, None) s (option_map_or (λ (e : Entry). put_entity e.place (Linked place (type_here ty (unwrap_or (entity_here s name) (TypeName ty)))) (add_linked x s)) o (enter name (Linked place ty) (add_linked x s))))
         (sym f)
         (after_by
         (subst (λ o. Knows s (option_map_or (λ (e : Entry). put_entity e.place (Linked place (type_here ty (unwrap_or (entity_here s name) (TypeName ty)))) (add_linked x s)) o (enter name (Linked place ty) (add_linked x s)))) f known_later)
-        (λ h. absurd (never h)) (λ h. absurd (never h)) (λ h. h))
+        (λ h. absurd (never h)) (λ h. absurd (never h)) (λ h. h) within (outside_same s.scopes) (λ h. absurd (never h)))
       where
         by_entity : (y : Entity) → Spelled s.types.linked name y → is_linked y ≡ true → ⊥
         by_entity (TypeName r) spelled z = no z
@@ -362,18 +414,19 @@ new_after q s name place ty x lawful known none last named typed bare new linked
 abbrev pub DeclaredAt : List ℕ → QType → State → ℕ → Type 0
 DeclaredAt name ty t place = (l : LinkedName) × (slice_get t.types.linked place ≡ Some l) × (l.name ≡ name) × Covers l.ty ty
 
-pub declared_after : (q : Option Slot) (s : State) (name : List ℕ) (internal : Bool) (ty : QType) (token : ℕ) (tag : Option ℕ) → IsLawful s → IsLawfulType s.types.records (type_of ty) → Linkable s name ty
+pub declared_after : (q : Option Slot) (s : State) (name : List ℕ) (internal : Bool) (ty : QType) (token : ℕ) (tag : Option ℕ) → IsLawful s → IsLawfulType s.types.records (type_of ty) → KeepsLimit s.types.records (type_of ty) → Linkable s name ty
     → (Sound None s → linked_before s name ≡ None → internal ≡ true → is_function (type_of ty) ≡ false → q ≡ Some (slot.Named (place_for s name)))
-    → AfterBy None q s (note_here name (place_for s name) ty (note_linked name internal ty token tag s))
-declared_after q s name internal ty token tag l h link new = by (linked_before s name) refl
+    → AfterBy nothing (q, None) s (note_here name (place_for s name) ty (note_linked name internal ty token tag s))
+declared_after q s name internal ty token tag l h limit link new = by (linked_before s name) refl
   where
     by : (o : Option LinkedName) → linked_before s name ≡ o
-        → AfterBy None q s (note_here name (place_for s name) ty (option_map_or (λ x. put_linked (place_for s name) (linked_again ty x) s) o (add_linked (linked_anew name internal ty token tag) s)))
-    by None e = new_after q s name (place_for s name) ty (linked_anew name internal ty token tag) l h e (place_new s name e) refl refl refl (λ z i f. new z e i f) link.linked
+        → AfterBy nothing (q, None) s (note_here name (place_for s name) ty (option_map_or (λ x. put_linked (place_for s name) (linked_again ty x) s) o (add_linked (linked_anew name internal ty token tag) s)))
+    by None e = new_after q s name (place_for s name) ty (linked_anew name internal ty token tag) l h limit e (place_new s name e) refl refl refl refl refl (λ z i f. new z e i f) link.linked
     by (Some x) e =
         let covers : Covers (composite x.ty ty) x.ty = covers_first s.types.records x.ty ty (l.linked (place_for s name) x (place_is s name x e)) in
-        again_after None None q s s name (place_for s name) ty x (linked_again ty x) (after_same s) l h (place_is s name x e) (named_before s name x e)
+        again_after nothing nothing (q, None) s s name (place_for s name) ty x (linked_again ty x) (after_same s) l h limit (place_is s name x e) (named_before s name x e)
         (record { name = refl; internal = refl; tentative = λ z. z; defined = λ z. z; covers = covers }) refl (λ z. refl, refl, covers.function) (link.alike x e) (λ z. link.linked) (λ n f. never_some f)
+        (λ z shallow y f. inl (x, place_is s name x e, record { name = refl; items = refl; defined = refl }, sym covers.function, λ g. never_some g)) (λ z f. never_some f)
 
 noted_as : (s : State) (name : List ℕ) (internal : Bool) (ty : QType) (token : ℕ) (tag : Option ℕ) → IsLawful s → IsLawfulType s.types.records (type_of ty) → Linkable s name ty → DeclaredAt name ty (note_linked name internal ty token tag s) (place_for s name)
 noted_as s name internal ty token tag l h link = by (linked_before s name) refl
@@ -468,18 +521,18 @@ declared_knows s name token tag asking q l h =
     (lawful_later s.types.records (note_linked name (is_internal_by s name asking) q token tag s).types.records a.1.extends (type_of q) h) in
     (b.0, knows_trans a.1 b.1)
 
-pub declared_goes : (o : Option Slot) (s : State) (name : List ℕ) (token : ℕ) (tag : Option ℕ) (asking : Asking) (q : QType) → IsLawful s → IsLawfulType s.types.records (type_of q) → Linkable s name q
+pub declared_goes : (o : Option Slot) (s : State) (name : List ℕ) (token : ℕ) (tag : Option ℕ) (asking : Asking) (q : QType) → IsLawful s → IsLawfulType s.types.records (type_of q) → KeepsLimit s.types.records (type_of q) → Linkable s name q
     → (Sound None s → linked_before s name ≡ None → is_internal_by s name asking ≡ true → is_function (type_of q) ≡ false → o ≡ Some (slot.Named (place_for s name)))
-    → GoesBy None o s (declare_linked name token tag asking q s) (GoodPlace name q (place_for s name))
+    → GoesBy nothing (o, None) s (declare_linked name token tag asking q s) (GoodPlace name q (place_for s name))
 unfolding declare_linked bind
-declared_goes o s name token tag asking q l h link new =
+declared_goes o s name token tag asking q l h limit link new =
     let a : Changed s (note_linked name (is_internal_by s name asking) q token tag s) = noted s name (is_internal_by s name asking) q token tag l h in
     let b : Changed (note_linked name (is_internal_by s name asking) q token tag s) (note_here name (place_for s name) q (note_linked name (is_internal_by s name asking) q token tag s)) =
     noted_here (note_linked name (is_internal_by s name asking) q token tag s) name (place_for s name) q a.0
     (lawful_later s.types.records (note_linked name (is_internal_by s name asking) q token tag s).types.records a.1.extends (type_of q) h) in
     let x : DeclaredAt name q (note_linked name (is_internal_by s name asking) q token tag s) (place_for s name) = noted_as s name (is_internal_by s name asking) q token tag l h link in (
       b.0,
-      declared_after o s name (is_internal_by s name asking) q token tag l h link new,
+      declared_after o s name (is_internal_by s name asking) q token tag l h limit link new,
       (refl, (x.0, ap (λ xs. slice_get xs (place_for s name)) (here_linked (note_linked name (is_internal_by s name asking) q token tag s) name (place_for s name) q) ∙ x.1, x.2, x.3), noted_declared (note_linked name (is_internal_by s name asking) q token tag s) name (place_for s name) q),
     )
 
@@ -508,11 +561,11 @@ or_true true = refl
 or_true false = refl
 
 -- the name is stored from here on
-pub stored_after : (p q : Option Slot) (s : State) (place : ℕ) (l : LinkedName) (f : LinkedName → LinkedName) → IsLawful s → slice_get s.types.linked place ≡ Some l → Continues l (f l)
+pub stored_after : (p q v : Option Slot) (s : State) (place : ℕ) (l : LinkedName) (f : LinkedName → LinkedName) → IsLawful s → slice_get s.types.linked place ≡ Some l → Continues l (f l)
     → (f l).ty ≡ l.ty → (f l).internal ≡ l.internal → is_stored (f l) ≡ true → is_function (type_of l.ty) ≡ false
-    → ((n : ℕ) → p ≡ Some (slot.Named n) → (n ≡ place) ⊎ (q ≡ Some (slot.Named n)))
-    → AfterBy p q s (change_linked place f (slot_for place s))
-stored_after p q s place l f lawful at on typed internal stored object embed = by (has_slot s place) refl
+    → ((n : ℕ) → p ≡ Some (slot.Named n) → (n ≡ place) ⊎ (q ≡ Some (slot.Named n))) → ((t : State) → NameFrom None v s t place (f l))
+    → AfterBy (p, None) (q, v) s (change_linked place f (slot_for place s))
+stored_after p q v s place l f lawful at on typed internal stored object embed from = by (has_slot s place) refl
   where
     xs : List LinkedName
     xs = put_at place (f l) s.types.linked
@@ -530,36 +583,40 @@ stored_after p q s place l f lawful at on typed internal stored object embed = b
     either n (inl h) = inr (λ y e. ap is_stored (sym (some_same (sym now ∙ (ap (slice_get xs) (sym h) ∙ e)))) ∙ stored)
     either n (inr h) = inl h
 
-    by : (b : Bool) → has_slot s place ≡ b → AfterBy p q s (change_linked place f (if b then s else add_slot (slot.Named place) s))
+    by : (b : Bool) → has_slot s place ≡ b → AfterBy (p, None) (q, v) s (change_linked place f (if b then s else add_slot (slot.Named place) s))
     by true e =
         let before : is_stored l ≡ true = sym (ap (λ o. option_map_or (λ (y : LinkedName). y.tentative || y.defined) o false) at) ∙ e in
         let marked : Marked l (f l) = (λ z. stored ∙ sym before, internal, kind) in
-        subst (λ o. AfterBy p q s (option_map_or (λ y. put_linked place (f y) s) o s)) (sym at)
-        (after_by c.1 (λ h. keeps_same s.scopes.entities)
-        (λ h. sound_on p q s xs c.1.names (λ n g. either n (embed n g)) (marked_put place l (f l) s.types.linked at marked) (relinked_put q place l (f l) s.types.linked at marked) h) (λ h. h))
+        subst (λ o. AfterBy (p, None) (q, v) s (option_map_or (λ y. put_linked place (f y) s) o s)) (sym at)
+        (after_from c.1 (λ h. keeps_same s.scopes.entities)
+        (λ h. sound_on p q s xs c.1.names (λ n g. either n (embed n g)) (marked_put place l (f l) s.types.linked at marked) (relinked_put q place l (f l) s.types.linked at marked) h) (λ h. h) (λ h. within_same s.types.records place l (f l) s.types.linked at typed h) (outside_same s.scopes) refl
+        (λ z. origins_put None v s (put_linked place (f l) s) place l (f l) refl refl at (λ g. from (put_linked place (f l) s)) (λ w g. never_some g)))
     by false e =
         let before : is_stored l ≡ false = sym (ap (λ o. option_map_or (λ (y : LinkedName). y.tentative || y.defined) o false) at) ∙ e in
-        subst (λ o. AfterBy p q s (option_map_or (λ y. put_linked place (f y) (add_slot (slot.Named place) s)) o (add_slot (slot.Named place) s))) (sym at)
-        (after_by (record { extends = c.1.extends; names = c.1.names; functions = c.1.functions; hidden = c.1.hidden }) (λ h. keeps_same s.scopes.entities)
+        subst (λ o. AfterBy (p, None) (q, v) s (option_map_or (λ y. put_linked place (f y) (add_slot (slot.Named place) s)) o (add_slot (slot.Named place) s))) (sym at)
+        (after_from (record { extends = c.1.extends; names = c.1.names; functions = c.1.functions; hidden = c.1.hidden; depth = c.1.depth }) (λ h. keeps_same s.scopes.entities)
         (λ h. record {
           backed = all_backed_on s.types.linked xs s.made.hidden s.made.hidden s.scopes.entities c.1.names (filling_same s.made.hidden) h.backed;
           spelled = all_spelled_on s.types.linked xs s.scopes.entities s.scopes.ordinary c.1.names h.spelled;
           functions = functions_on s.types.linked xs s.made.functions c.1.names h.functions;
           slots = slots_stored p q place l (f l) s.types.linked s.made.hidden s.made.slots embed at before stored object (kind ∙ object) h.slots;
-        }) (λ h. h))
+        }) (λ h. h) (λ h. within_same s.types.records place l (f l) s.types.linked at typed h) (outside_same s.scopes) refl
+        (λ z. origins_put None v s (put_linked place (f l) (add_slot (slot.Named place) s)) place l (f l) refl refl at (λ g. from (put_linked place (f l) (add_slot (slot.Named place) s))) (λ w g. never_some g)))
 
 pub tentative_after : (p q : Option Slot) (s : State) (place : ℕ) (l : LinkedName) → IsLawful s → slice_get s.types.linked place ≡ Some l → is_function (type_of l.ty) ≡ false
-    → ((n : ℕ) → p ≡ Some (slot.Named n) → (n ≡ place) ⊎ (q ≡ Some (slot.Named n))) → KeptBy p q s (define_tentatively place s)
+    → ((n : ℕ) → p ≡ Some (slot.Named n) → (n ≡ place) ⊎ (q ≡ Some (slot.Named n))) → KeptBy (p, None) (q, None) s (define_tentatively place s)
 tentative_after p q s place l lawful at object embed = (
   (tentative_kept s place lawful).0,
-  stored_after p q s place l (λ x. record x { tentative = true }) lawful at (record { name = refl; internal = refl; tentative = λ z. refl; defined = λ z. z; covers = covers_same l.ty }) refl refl refl object embed,
+  stored_after p q None s place l (λ x. record x { tentative = true }) lawful at (record { name = refl; internal = refl; tentative = λ z. refl; defined = λ z. z; covers = covers_same l.ty }) refl refl refl object embed
+      (λ t. inl (l, at, record { name = refl; items = refl; defined = refl }, refl, λ g. g)),
 )
 
 pub object_after : (p q : Option Slot) (s : State) (place : ℕ) (l : LinkedName) → IsLawful s → slice_get s.types.linked place ≡ Some l → is_function (type_of l.ty) ≡ false
-    → ((n : ℕ) → p ≡ Some (slot.Named n) → (n ≡ place) ⊎ (q ≡ Some (slot.Named n))) → KeptBy p q s (define_object place s)
+    → ((n : ℕ) → p ≡ Some (slot.Named n) → (n ≡ place) ⊎ (q ≡ Some (slot.Named n))) → KeptBy (p, None) (q, Some (slot.Named place)) s (define_object place s)
 object_after p q s place l lawful at object embed = (
   (defined_kept s place lawful).0,
-  stored_after p q s place l (λ x. record x { defined = true }) lawful at (record { name = refl; internal = refl; tentative = λ z. z; defined = λ z. refl; covers = covers_same l.ty }) refl refl (or_true l.tentative) object embed,
+  stored_after p q (Some (slot.Named place)) s place l (λ x. record x { defined = true }) lawful at (record { name = refl; internal = refl; tentative = λ z. z; defined = λ z. refl; covers = covers_same l.ty }) refl refl (or_true l.tentative) object embed
+      (λ t. inr (inl refl)),
 )
 
 -- a function that is defined
@@ -571,9 +628,11 @@ function_after s place l lawful at kind = (
       let on : Continues l (record l { defined = true }) = record { name = refl; internal = refl; tentative = λ z. z; defined = λ z. refl; covers = covers_same l.ty } in
       let c = linked_put s place (record l { defined = true }) lawful (lawful.linked place l at) (λ y e. subst (λ (z : LinkedName). Continues z (record l { defined = true })) (some_same (sym at ∙ e)) on) in
       let marked : Marked l (record l { defined = true }) = (λ z. no (sym z ∙ kind), refl, refl) in
-      after_by c.1 (λ h. keeps_same s.scopes.entities)
+      after_from c.1 (λ h. keeps_same s.scopes.entities)
       (λ h. sound_on None None s (put_at place (record l { defined = true }) s.types.linked) c.1.names (λ n g. never_some g)
-      (marked_put place l (record l { defined = true }) s.types.linked at marked) (relinked_put None place l (record l { defined = true }) s.types.linked at marked) h) (λ h. h)),
+      (marked_put place l (record l { defined = true }) s.types.linked at marked) (relinked_put None place l (record l { defined = true }) s.types.linked at marked) h) (λ h. h)
+      (λ h. within_same s.types.records place l (record l { defined = true }) s.types.linked at refl h) (outside_same s.scopes) refl
+      (λ z. origins_put None None s (put_linked place (record l { defined = true }) s) place l (record l { defined = true }) refl refl at (λ g. no (sym g ∙ kind)) (λ w g. never_some g))),
 )
 
 -- the same entity stands there where more is entered
@@ -584,16 +643,18 @@ here_later {s} {t} p name g d hs y e =
     subst (λ z. is_linked z ≡ true) (some_same (sym later ∙ e)) (d.2 x.entity x.there)
 
 -- an object gets its first bytes, and the length that they give
-pub initialised_after : (from s : State) (name : List ℕ) (place : ℕ) (ty : QType) (items : List PlacedItem) (l : LinkedName) → AfterBy None (Some (slot.Named place)) from s
-    → IsLawful s → IsLawfulType s.types.records (type_of ty) → slice_get s.types.linked place ≡ Some l → l.name ≡ name → l.defined ≡ true → compatible l.ty ty ≡ true
+pub initialised_after : (from s : State) (name : List ℕ) (place : ℕ) (ty : QType) (items : List PlacedItem) (l : LinkedName) → AfterBy nothing (Some (slot.Named place), Some (slot.Named place)) from s
+    → IsLawful s → IsLawfulType s.types.records (type_of ty) → KeepsLimit s.types.records (type_of ty) → slice_get s.types.linked place ≡ Some l → l.name ≡ name → l.defined ≡ true → compatible l.ty ty ≡ true
     → (Sound None from → (y : Entity) → entity_here s name ≡ Some y → is_linked y ≡ true)
-    → KeptBy None None from (note_here name place ty (initialise_linked place ty items s))
-initialised_after from s name place ty items l a lawful known at named defined alike linked = (
+    → (Sound None from → AreShallow from.scopes → Settled None from → HasItems (note_here name place ty (put_linked place (record l { ty = composite l.ty ty; items = items }) s)) place (record l { ty = composite l.ty ty; items = items }))
+    → Kept from (note_here name place ty (initialise_linked place ty items s))
+initialised_after from s name place ty items l a lawful known limit at named defined alike linked good = (
   (noted_here (initialise_linked place ty items s) name place ty c.0 (lawful_later s.types.records (initialise_linked place ty items s).types.records c.1.extends (type_of ty) known)).0,
-  subst (λ o. AfterBy None None from (note_here name place ty (option_map_or (λ y. put_linked place (record y { ty = composite y.ty ty; items = items }) s) o s))) (sym at)
-      (again_after None (Some (slot.Named place)) None from s name place ty l x a lawful known at named (record { name = refl; internal = refl; tentative = λ z. z; defined = λ z. z; covers = covers }) refl
+  subst (λ o. AfterBy nothing nothing from (note_here name place ty (option_map_or (λ y. put_linked place (record y { ty = composite y.ty ty; items = items }) s) o s))) (sym at)
+      (again_after nothing (Some (slot.Named place), Some (slot.Named place)) nothing from s name place ty l x a lawful known limit at named (record { name = refl; internal = refl; tentative = λ z. z; defined = λ z. z; covers = covers }) refl
       (λ z. refl, refl, covers.function) alike linked
-      (λ n e. inr (λ y f. ap is_stored (sym (some_same (sym now ∙ (ap (λ k. slice_get (put_at place x s.types.linked) k) (named_same (some_same e)) ∙ f)))) ∙ stored))),
+      (λ n e. inr (λ y f. ap is_stored (sym (some_same (sym now ∙ (ap (λ k. slice_get (put_at place x s.types.linked) k) (named_same (some_same e)) ∙ f)))) ∙ stored))
+      (λ h shallow z f. inr (inr (inr (good h shallow z)))) (λ z e. inl (sym (some_same e)))),
 )
   where
     x : LinkedName

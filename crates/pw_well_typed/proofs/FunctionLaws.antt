@@ -22,7 +22,7 @@ use Rattle.pw_rules.specs.States.{State, LinkedName, leave_scope, start, Entity}
 use Rattle.pw_rules.specs.Statements as R
 use Rattle.pw_rules.specs.Statements.{block_rule}
 use Rattle.pw_well_typed.specs.Lawful.{IsLawful, IsLawfulType}
-use Rattle.pw_well_typed.proofs.Walking.{Post, post_end, post_bind, post_weaken, post_both, truth, AreMet}
+use Rattle.pw_well_typed.proofs.Walking.{Post, post_end, post_bind, post_weaken, post_both, truth, AreMet, after_any}
 use Rattle.pw_well_typed.proofs.Lists.{get_more, never_some}
 use Rattle.pw_well_typed.proofs.Types.{lawful_later, extends_trans}
 use Rattle.pw_well_typed.proofs.States.{Grows}
@@ -35,7 +35,7 @@ use Rattle.pw_well_typed.proofs.Statements.{block_goes}
 use Rattle.pw_well_typed.proofs.Modules.{body_lawful, good_if_any}
 use Rattle.pw_well_typed.proofs.Adding.{specified_all}
 use Rattle.pw_well_typed.proofs.LabelLaws.{Steady, IsLabelled, block_labelled, asked_post, function_labels}
-use Rattle.pw_well_typed.proofs.FunctionTypes.{last_of, IsBoundDeclared, IsBuiltBy, after_any, declarator_bound, built_by, function_typed}
+use Rattle.pw_well_typed.proofs.FunctionTypes.{last_of, IsBoundDeclared, IsBuiltBy, declarator_bound, built_by, function_typed}
 
 -- ---- bodies
 

@@ -16,7 +16,7 @@ use Rattle.pw_rules.specs.Limits.{Spot}
 use Rattle.pw_rules.specs.Phrases.{declarator_rule, core_rule, suffixes_rule}
 use Rattle.pw_rules.specs.States.{State}
 use Rattle.pw_well_typed.specs.Lawful.{IsLawfulType}
-use Rattle.pw_well_typed.proofs.Walking.{Post, post_bind}
+use Rattle.pw_well_typed.proofs.Walking.{Post, post_bind, after_any}
 use Rattle.pw_well_typed.proofs.Lists.{Longer, some_same, never_some}
 use Rattle.pw_well_typed.proofs.Types.{no, lawful_result}
 use Rattle.pw_well_typed.proofs.Leaves.{AreScalars}
@@ -80,18 +80,6 @@ IsBoundDeclared d = IsBound (last_of d.derivations) d.bindings
 
 abbrev IsBoundSuffixed : Suffixed → Type 0
 IsBoundSuffixed c = IsBound (last_of c.derivations) c.bindings
-
--- what holds of whatever a walk makes holds of all that it makes
-pub post_any : {A : Type 0} (w : Walk A) (P : A → Type 0) → ((a : A) → P a) → Post w P
-post_any (Done a) P h = h a
-post_any (Passing p rest) P h = λ met. post_any rest P h
-post_any (Closed constraint token) P h = tt
-
-abbrev Whatever : {A : Type 0} → A → Type 0
-Whatever a = Unit {0}
-
-pub after_any : {A B : Type 0} (w : Walk A) (next : A → Walk B) (P : B → Type 0) → ((a : A) → Post (next a) P) → Post (bind w next) P
-after_any w next P h = post_bind w next Whatever P (post_any w Whatever (λ a. tt)) (λ a k. h a)
 
 mutual
   unfolding declarator_rule

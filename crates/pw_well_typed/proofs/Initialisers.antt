@@ -138,7 +138,7 @@ pub lawful_stays : Stays IsLawfully
 lawful_stays = record { later = λ a b q x h. lawful_later a b x (type_of q) h; lengthened = with_length_lawful }
 
 pub covers_length : (n : ℕ) (q : QType) → Covers (with_length n q) q
-covers_length n (Qualified (Array (Qualified ty d w) None) c v) = record { stem = λ r. refl; array = refl; function = refl; length = λ k e. never_some e }
+covers_length n (Qualified (Array (Qualified ty d w) None) c v) = record { stem = λ r. refl; sizes = λ r. refl; array = refl; function = refl; length = λ k e. never_some e }
 covers_length n (Qualified (Array q (Some k)) c v) = covers_same (Qualified (Array q (Some k)) c v)
 covers_length n (Qualified Void c v) = covers_same (Qualified Void c v)
 covers_length n (Qualified (Int k) c v) = covers_same (Qualified (Int k) c v)

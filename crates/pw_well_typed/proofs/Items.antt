@@ -9,40 +9,36 @@ use Rattle.std.specs.Prelude.{ℕ, zero, suc, ◌≡◌, ◌≤◌, ◌+◌, ◌
 use Rattle.std.specs.Option.{option_map_or}
 use Rattle.std.proofs.Common.{arith, ap, sym, subst, ◌∙◌, inl, inr, append-nil}
 use Rattle.pw_literal.specs.Characters.{string_bytes_of}
-use Rattle.pw_tree.specs.FirstTokens.{first_of_expr, first_of_words}
+use Rattle.pw_tree.specs.FirstTokens.{first_of_expr}
 use Rattle.pw_tree.specs.Trees.{Word, Expr, Init, Inits}
 use Rattle.pw_tree.specs.Trees as S
 use Rattle.pw_types.specs.declared.record.RecordKind.TheVariants.{Structure}
-use Rattle.pw_types.specs.Layouts.{content_at, layout_of, array_layout, size_of}
+use Rattle.pw_types.specs.Layouts.{content_at}
 use Rattle.pw_types.specs.Records.{IsLaid, kind_at}
 use Rattle.pw_types.specs.TypeTrees.{CType, Void, Int, Pointer, Array, Function, Record, QType, Qualified, type_of, ContentValue, RecordValue}
 use Rattle.pw_types.specs.TypedModules.{item_size}
 use Rattle.pw_types.specs.TypedTrees.{Expression, PlacedItem, ItemValue, ItemBytes}
 use Rattle.pw_types.specs.WellTyped.{IsComplete}
 use Rattle.pw_walk.specs.Causes.{InitialiserCount, InitialiserForm, needs}
-use Rattle.pw_walk.specs.Walks.{Walk, Done, bind, granted}
-use Rattle.pw_rules.specs.Initialisers.{Context, Filled, Frame, Cursor, Target, Reached, target_at, frame_of, one_on, part_of, next_part, next_target, passed, reach, takes_record, takes_braces, meets_characters, item_of, item_list, bytes_within, nothing_filled, value_filled, string_filled, listed_value, listed_string, listed_expression, listed_by, listed_form, StringForm, IsString, IsOther, string_form, braced_string, braced_target, braced_by, fills_characters, words_in, inits_rule, init_rule, Initialised, with_length, object_string, object_value, object_list, object_by, object_rule, is_union, is_past_union, member_target, reached, elements_given, element_of}
+use Rattle.pw_walk.specs.Walks.{Done, bind, granted}
+use Rattle.pw_rules.specs.Initialisers.{Context, Filled, Frame, Cursor, Target, Reached, target_at, frame_of, one_on, part_of, next_part, next_target, passed, reach, takes_record, takes_braces, meets_characters, item_of, item_list, bytes_within, nothing_filled, value_filled, string_filled, listed_value, listed_string, listed_expression, listed_by, listed_form, StringForm, IsString, IsOther, string_form, braced_string, braced_target, braced_by, fills_characters, words_in, inits_rule, init_rule, Initialised, with_length, object_string, object_value, object_list, object_by, object_rule, is_union, is_past_union, member_target, reached, elements_given}
 use Rattle.pw_rules.specs.Kinds.{is_character_array, is_scalar, is_character_kind, is_open_array}
 use Rattle.pw_rules.specs.Leaves.{string_point, texts_of}
 use Rattle.pw_rules.specs.Operands.{cast_to}
 use Rattle.pw_rules.specs.States.{State, Rule, records_in}
 use Rattle.pw_well_typed.specs.Lawful.{IsLawful, Extends}
-use Rattle.pw_well_typed.proofs.Walking.{post_bind, post_weaken, truth}
+use Rattle.pw_well_typed.proofs.Walking.{post_weaken}
 use Rattle.pw_well_typed.proofs.Lists.{some_same, never_some}
 use Rattle.pw_well_typed.proofs.Types.{no, complete_later, element_complete, no_length}
 use Rattle.pw_well_typed.proofs.Objects.{layout_same}
-use Rattle.pw_well_typed.proofs.States.{FineValue, Runs, goes_on, Grows, grows_same, grows_trans}
+use Rattle.pw_well_typed.proofs.States.{Runs, goes_on, Grows, grows_same, grows_trans}
 use Rattle.pw_well_typed.proofs.Phrases.{expr_post, valued}
 use Rattle.pw_well_typed.proofs.Parts.{sized, next_inside, element_is, element_next, array_sized}
 use Rattle.pw_well_typed.proofs.Cursors.{Whole, Chain, Begins, Ends, At, passed_begins, reached_at, whole_part, chain_top}
 use Rattle.pw_well_typed.proofs.ItemBytes.{scalar_item, take_short}
+use Rattle.pw_well_typed.proofs.Settled.{Rise}
 
 -- ---- items in order
-
--- from an offset on, up to another, each item behind the one before
-abbrev pub Rise : ℕ → ℕ → List PlacedItem → Type 0
-Rise from size [] = from ≤ size
-Rise from size (p ∷ rest) = (from ≤ p.offset) × Rise (p.offset + item_size p.item) size rest
 
 rise_more : (from mid size : ℕ) (xs : List PlacedItem) (p : PlacedItem) → Rise from mid xs → mid ≤ p.offset → p.offset + item_size p.item ≤ size → Rise from size (xs ++ p ∷ [])
 rise_more from mid size [] p h k e = (omega (arith, h, k), e)

@@ -1,14 +1,19 @@
 -- Rules of declarations and statements: they leave a lawful state, in which no less is known of records.
 use Rattle.pw_well_typed.proofs.Objects.{object_later}
+use Rattle.pw_well_typed.proofs.ObjectTypes.{AreWithin, within_later}
+use Rattle.pw_well_typed.proofs.Settled.{Settled, Persists, Origins, settles, origins_more, scopes_settled}
+use Rattle.pw_well_typed.proofs.Outside.{Outside, AreShallow, StaysOutside, outside_same, outside_trans, outside_more, filter_within}
 use Rattle.pw_types.specs.Records.{IsObjectType}
 use Rattle.pw_rules.specs.declared.names.Slot.{Slot}
 use Rattle.pw_well_typed.proofs.Composite.{Covers, covers_same, covers_trans, covers_first}
 use Rattle.pw_well_typed.proofs.Sound.{Sound, Continues, continues_same, continues_trans, Filling, filling_same, IsPlain}
-use Rattle.std.specs.Prelude.{ℕ, ◌≡◌, ◌⊎◌, Bool, true, false, Option, None, Some, unwrap_or, option_and_then, List, [], ◌∷◌, slice_get, if◌then◌else◌, refl, ◌++◌}
+use Rattle.std.proofs.lemmas.Bool.{eqb-true, ltb-true}
+use Rattle.pw_scope.specs.Visible.{visible}
+use Rattle.std.specs.Prelude.{ℕ, ◌+◌, ◌==◌, ◌<◌, ◌≤◌, nat_lt, ◌≡◌, ◌⊎◌, Bool, true, false, Option, None, Some, unwrap_or, option_and_then, List, [], ◌∷◌, slice_get, if◌then◌else◌, refl, ◌++◌}
 use Rattle.std.specs.Option.{option_map_or}
 use Rattle.std.proofs.lemmas.Slice.Eq.{bytes_eq-Decides}
 use Rattle.std.specs.Str.{bytes_eq}
-use Rattle.std.proofs.Common.{sym, subst, ◌∙◌, inl, inr, ap, length}
+use Rattle.std.proofs.Common.{sym, subst, ◌∙◌, inl, inr, ap, length, arith}
 use Rattle.pw_types.specs.TypeTrees.{QType, Qualified, type_of, RecordValue}
 use Rattle.pw_types.specs.TypedTrees.{PlacedItem, LocalValue}
 use Rattle.pw_walk.specs.Causes.{Constraint, Point}
@@ -20,10 +25,10 @@ use Rattle.pw_rules.specs.declared.names.Entry.{Entry}
 use Rattle.pw_rules.specs.declared.names.Slot.TheVariants as slot
 use Rattle.pw_well_typed.specs.Lawful.{IsLawful, IsLawfulType, IsLawfulEntity, Extends, IsObjectLike}
 use Rattle.pw_well_typed.proofs.Walking.{Post, AreMet, post_bind, post_weaken}
-use Rattle.pw_well_typed.proofs.Lists.{some_same, never_some, put_either, put_cases, get_more, found_first, get_append, position_passes, position_none, get_last, get_within, put_same, Longer}
+use Rattle.pw_well_typed.proofs.Lists.{get_filter, some_same, never_some, put_either, put_cases, get_more, found_first, get_append, position_passes, position_none, get_last, get_within, put_same, Longer}
 use Rattle.pw_well_typed.proofs.States.{Runs, Grows}
 use Rattle.pw_well_typed.proofs.Types.{extends_trans, extends_same, lawful_composite}
-use Rattle.pw_well_typed.proofs.Changes.{entered, left_lawful_alone, left_sound_alone, like_later}
+use Rattle.pw_well_typed.proofs.Changes.{lt_so, entered, left_lawful_alone, left_sound_alone, like_later}
 
 abbrev pub StaysAt : State → ℕ → LinkedName → Type 0
 StaysAt t place before = (after : LinkedName) × (slice_get t.types.linked place ≡ Some after) × Continues before after
@@ -34,19 +39,21 @@ pub record Knows (s t : State) : Type 0 where
   pub names : (place : ℕ) (x : LinkedName) → slice_get s.types.linked place ≡ Some x → StaysAt t place x
   pub functions : t.made.functions ≡ s.made.functions
   pub hidden : Filling s.made.hidden t.made.hidden
+  pub depth : t.scopes.depth ≡ s.scopes.depth
 
 -- the names are the same
 pub knows_linked : (s t : State) → Extends s.types.records t.types.records → t.types.linked ≡ s.types.linked
-    → t.made.functions ≡ s.made.functions → Filling s.made.hidden t.made.hidden → Knows s t
-knows_linked s t x same made fill = record {
+    → t.made.functions ≡ s.made.functions → Filling s.made.hidden t.made.hidden → t.scopes.depth ≡ s.scopes.depth → Knows s t
+knows_linked s t x same made fill deep = record {
   extends = x;
   names = λ place y e. (y, ap (λ xs. slice_get xs place) same ∙ e, continues_same y);
   functions = made;
   hidden = fill;
+  depth = deep;
 }
 
 pub knows_same : (s : State) → Knows s s
-knows_same s = knows_linked s s (extends_same s.types.records) refl refl (filling_same s.made.hidden)
+knows_same s = knows_linked s s (extends_same s.types.records) refl refl (filling_same s.made.hidden) refl
 
 pub knows_trans : {s t u : State} → Knows s t → Knows t u → Knows s u
 knows_trans {s} {t} {u} a b = record {
@@ -60,6 +67,7 @@ knows_trans {s} {t} {u} a b = record {
       let y = a.hidden k x e in
       let z = b.hidden k y.0 y.1 in
       (z.0, z.1, covers_trans z.2 y.2);
+  depth = b.depth ∙ a.depth;
 }
 
 abbrev pub Changed : State → State → Type 0
@@ -102,24 +110,56 @@ Keeps xs ys = (k : ℕ) (e : Entity) → slice_get xs k ≡ Some e → (f : Enti
 abbrev pub AreLocals : State → Type 0
 AreLocals s = (k : ℕ) (l : LocalValue) → slice_get s.body.locals k ≡ Some l → IsObjectLike s.types.records l.ty × IsObjectType s.types.records (type_of l.ty)
 
+-- the object that is about to be stored, and the one whose initialiser is read
+abbrev pub Pending : Type 0
+Pending = Option Slot × Option Slot
+
+abbrev pub nothing : Pending
+nothing = (None, None)
+
 -- No less is known; and what the parts of the state say of one another they say still, but for what is pending.
-pub record AfterBy (p q : Option Slot) (s t : State) : Type 0 where
+pub record AfterBy (p q : Pending) (s t : State) : Type 0 where
   pub extends : Extends s.types.records t.types.records
   pub names : (place : ℕ) (x : LinkedName) → slice_get s.types.linked place ≡ Some x → StaysAt t place x
   pub functions : t.made.functions ≡ s.made.functions
   pub hidden : Filling s.made.hidden t.made.hidden
-  pub entities : Sound p s → Keeps s.scopes.entities t.scopes.entities
-  pub sound : Sound p s → Sound q t
+  pub depth : t.scopes.depth ≡ s.scopes.depth
+  pub entities : Sound p.0 s → Keeps s.scopes.entities t.scopes.entities
+  pub sound : Sound p.0 s → Sound q.0 t
   pub locals : AreLocals s → AreLocals t
+  pub within : AreWithin s.types.records s.types.linked → AreWithin t.types.records t.types.linked
+  pub outside : Outside s.scopes t.scopes
+  pub settled : Sound p.0 s → AreShallow s.scopes → Settled p.1 s → Settled q.1 t
 
 abbrev pub After : State → State → Type 0
-After s t = AfterBy None None s t
+After s t = AfterBy nothing nothing s t
 
-pub after_by : {p q : Option Slot} {s t : State} → Knows s t → (Sound p s → Keeps s.scopes.entities t.scopes.entities) → (Sound p s → Sound q t) → (AreLocals s → AreLocals t) → AfterBy p q s t
-after_by {p} {q} {s} {t} k e h locals = record { extends = k.extends; names = k.names; functions = k.functions; hidden = k.hidden; entities = e; sound = h; locals = locals }
+pub after_by : {p q : Pending} {s t : State} → Knows s t → (Sound p.0 s → Keeps s.scopes.entities t.scopes.entities) → (Sound p.0 s → Sound q.0 t) → (AreLocals s → AreLocals t)
+    → (AreWithin s.types.records s.types.linked → AreWithin t.types.records t.types.linked) → Outside s.scopes t.scopes
+    → (Sound p.0 s → AreShallow s.scopes → Settled p.1 s → Settled q.1 t) → AfterBy p q s t
+after_by {p} {q} {s} {t} k e h locals within outside settled =
+    record { extends = k.extends; names = k.names; functions = k.functions; hidden = k.hidden; depth = k.depth; entities = e; sound = h; locals = locals; within = within; outside = outside; settled = settled }
 
-pub knows_so : {p q : Option Slot} {s t : State} → AfterBy p q s t → Knows s t
-knows_so {p} {q} {s} {t} a = record { extends = a.extends; names = a.names; functions = a.functions; hidden = a.hidden }
+-- what is known of objects stays known
+pub persists_so : {s t : State} → Knows s t → Keeps s.scopes.entities t.scopes.entities → StaysOutside s.scopes t.scopes → t.made.counting ≡ s.made.counting → Persists s t
+persists_so {s} {t} k keeps stays counting = record {
+  extends = k.extends;
+  names = k.names;
+  hidden = k.hidden;
+  entities = λ i n q e. let y = keeps i (Linked n q) e in let b = y.2 in (b.0, y.1 ∙ ap Some b.1, b.2);
+  outside = stays;
+  counting = counting;
+}
+
+-- the same, where it is said of each name and object where it comes from
+pub after_from : {p q : Pending} {s t : State} → Knows s t → (Sound p.0 s → Keeps s.scopes.entities t.scopes.entities) → (Sound p.0 s → Sound q.0 t) → (AreLocals s → AreLocals t)
+    → (AreWithin s.types.records s.types.linked → AreWithin t.types.records t.types.linked) → Outside s.scopes t.scopes → t.made.counting ≡ s.made.counting
+    → (Settled p.1 s → Origins p.1 q.1 s t) → AfterBy p q s t
+after_from {p} {q} {s} {t} k e h locals within outside counting origins =
+    after_by k e h locals within outside (λ sound shallow z. settles p.1 q.1 s t (persists_so k (e sound) (outside shallow).1 counting) (origins z) z)
+
+pub knows_so : {p q : Pending} {s t : State} → AfterBy p q s t → Knows s t
+knows_so {p} {q} {s} {t} a = record { extends = a.extends; names = a.names; functions = a.functions; hidden = a.hidden; depth = a.depth }
 
 -- the same between external declarations, which define functions
 pub record Later (s t : State) : Type 0 where
@@ -129,6 +169,10 @@ pub record Later (s t : State) : Type 0 where
   pub hidden : Filling s.made.hidden t.made.hidden
   pub entities : Sound None s → Keeps s.scopes.entities t.scopes.entities
   pub sound : Sound None s → Sound None t
+  pub within : AreWithin s.types.records s.types.linked → AreWithin t.types.records t.types.linked
+  pub outside : Outside s.scopes t.scopes
+  pub settled : Sound None s → AreShallow s.scopes → Settled None s → Settled None t
+  pub depth : t.scopes.depth ≡ s.scopes.depth
 
 pub later_after : {s t : State} → After s t → Later s t
 later_after {s} {t} a = record {
@@ -138,6 +182,10 @@ later_after {s} {t} a = record {
   hidden = a.hidden;
   entities = a.entities;
   sound = a.sound;
+  within = a.within;
+  outside = a.outside;
+  settled = a.settled;
+  depth = a.depth;
 }
 
 pub keeps_same : (xs : List Entity) → Keeps xs xs
@@ -166,43 +214,50 @@ later_trans {s} {t} {u} a b = record {
       (z.0, z.1, covers_trans z.2 y.2);
   entities = λ h. keeps_trans s.scopes.entities t.scopes.entities u.scopes.entities (a.entities h) (b.entities (a.sound h));
   sound = λ h. b.sound (a.sound h);
+  within = λ h. b.within (a.within h);
+  outside = outside_trans s.scopes t.scopes u.scopes a.outside b.outside;
+  settled = λ h shallow z. b.settled (a.sound h) (a.outside shallow).0 (a.settled h shallow z);
+  depth = b.depth ∙ a.depth;
 }
 
-pub after_same : {p : Option Slot} (s : State) → AfterBy p p s s
-after_same s = after_by (knows_same s) (λ h. keeps_same s.scopes.entities) (λ h. h) (λ h. h)
+pub after_same : {p : Pending} (s : State) → AfterBy p p s s
+after_same s = after_by (knows_same s) (λ h. keeps_same s.scopes.entities) (λ h. h) (λ h. h) (λ h. h) (outside_same s.scopes) (λ h shallow z. z)
 
-pub after_trans : {p q r : Option Slot} {s t u : State} → AfterBy p q s t → AfterBy q r t u → AfterBy p r s u
+pub after_trans : {p q r : Pending} {s t u : State} → AfterBy p q s t → AfterBy q r t u → AfterBy p r s u
 after_trans {p} {q} {r} {s} {t} {u} a b =
     after_by (knows_trans (knows_so a) (knows_so b))
     (λ h. keeps_trans s.scopes.entities t.scopes.entities u.scopes.entities (a.entities h) (b.entities (a.sound h)))
-    (λ h. b.sound (a.sound h)) (λ h. b.locals (a.locals h))
+    (λ h. b.sound (a.sound h)) (λ h. b.locals (a.locals h)) (λ h. b.within (a.within h)) (outside_trans s.scopes t.scopes u.scopes a.outside b.outside)
+    (λ h shallow z. b.settled (a.sound h) (a.outside shallow).0 (a.settled h shallow z))
 
 grows_locals : {s t : State} → Grows s t → AreLocals s → AreLocals t
 grows_locals {s} {t} g h k l e =
     let x = h k l (subst (λ b. slice_get b.locals k ≡ Some l) g.body e) in
     (like_later g.extends x.0, object_later s.types.records t.types.records g.extends (type_of l.ty) x.1)
 
-pub after_grows : {p : Option Slot} {s t : State} → Grows s t → AfterBy p p s t
+pub after_grows : {p : Pending} {s t : State} → Grows s t → AfterBy p p s t
 after_grows {p} {s} {t} g =
-    after_by (knows_linked s t g.extends g.linked g.functions (λ k x e. (x, g.hidden k x e, covers_same x.ty)))
-    (λ h. keeps_longer s.scopes.entities t.scopes.entities g.entities) (λ h. g.sound p h) (λ h. grows_locals g h)
+    after_from (knows_linked s t g.extends g.linked g.functions (λ k x e. (x, g.hidden k x e, covers_same x.ty)) g.depth)
+    (λ h. keeps_longer s.scopes.entities t.scopes.entities g.entities) (λ h. g.sound p.0 h) (λ h. grows_locals g h)
+    (λ h. subst (AreWithin t.types.records) (sym g.linked) (within_later s.types.records t.types.records s.types.linked g.extends h))
+    (outside_more s.scopes t.scopes g.more g.ordinary g.depth g.deep g.here) g.counting (λ z. origins_more p.1 s t g.linked g.objects)
 
-abbrev pub KeptBy : Option Slot → Option Slot → State → State → Type 0
+abbrev pub KeptBy : Pending → Pending → State → State → Type 0
 KeptBy p q s t = IsLawful t × AfterBy p q s t
 
 abbrev pub Kept : State → State → Type 0
-Kept s t = KeptBy None None s t
+Kept s t = KeptBy nothing nothing s t
 
-pub kept_trans : {p q r : Option Slot} {s t u : State} → KeptBy p q s t → KeptBy q r t u → KeptBy p r s u
+pub kept_trans : {p q r : Pending} {s t u : State} → KeptBy p q s t → KeptBy q r t u → KeptBy p r s u
 kept_trans {p} {q} {r} {s} {t} {u} a b = (b.0, after_trans a.1 b.1)
 
-abbrev pub GoesBy : {A : Type 0} → Option Slot → Option Slot → State → Walk (A × State) → (State → A → Type 0) → Type 0
+abbrev pub GoesBy : {A : Type 0} → Pending → Pending → State → Walk (A × State) → (State → A → Type 0) → Type 0
 GoesBy p q s w Good = Post w (λ r. IsLawful r.1 × AfterBy p q s r.1 × Good r.1 r.0)
 
 abbrev pub Goes : {A : Type 0} → State → Walk (A × State) → (State → A → Type 0) → Type 0
-Goes s w Good = GoesBy None None s w Good
+Goes s w Good = GoesBy nothing nothing s w Good
 
-pub goes_between : {A B : Type 0} (p q o : Option Slot) {s : State} (w : Walk (A × State)) (next : A × State → Walk (B × State))
+pub goes_between : {A B : Type 0} (p q o : Pending) {s : State} (w : Walk (A × State)) (next : A × State → Walk (B × State))
     (Good : State → A → Type 0) (Best : State → B → Type 0) → GoesBy p q s w Good
     → ((r : A × State) → IsLawful r.1 → AfterBy p q s r.1 → Good r.1 r.0 → GoesBy q o r.1 (next r) Best) → GoesBy p o s (bind w next) Best
 goes_between {A} {B} p q o {s} w next Good Best h k =
@@ -213,7 +268,7 @@ goes_between {A} {B} p q o {s} w next Good Best h k =
 pub goes_by : {A B : Type 0} {s : State} (w : Walk (A × State)) (next : A × State → Walk (B × State))
     (Good : State → A → Type 0) (Best : State → B → Type 0) → Goes s w Good
     → ((r : A × State) → IsLawful r.1 → After s r.1 → Good r.1 r.0 → Goes r.1 (next r) Best) → Goes s (bind w next) Best
-goes_by {A} {B} {s} w next Good Best h k = goes_between None None None w next Good Best h k
+goes_by {A} {B} {s} w next Good Best h k = goes_between nothing nothing nothing w next Good Best h k
 
 pub of_runs : {A : Type 0} (s : State) (w : Walk (A × State)) (Good : State → A → Type 0) → Runs s w Good → Goes s w Good
 of_runs {A} s w Good h = post_weaken w (λ r. IsLawful r.1 × Grows s r.1 × Good r.1 r.0) (λ r. IsLawful r.1 × After s r.1 × Good r.1 r.0) h (λ r g. (g.0, after_grows g.1, g.2))
@@ -248,7 +303,7 @@ around s made body l same = (
 pub around_filling : (s : State) (made : MadeState) (body : BodyState) → IsLawful s → made.functions ≡ s.made.functions → Filling s.made.hidden made.hidden → Changed s (record { types = s.types; scopes = s.scopes; made = made; body = body })
 around_filling s made body l same fill = (
   record { contents = l.contents; begun = l.begun; counted = l.counted; entities = l.entities; tags = l.tags; linked = l.linked; laid = l.laid; apart = l.apart; depths = l.depths },
-  knows_linked s (record { types = s.types; scopes = s.scopes; made = made; body = body }) (extends_same s.types.records) refl same fill,
+  knows_linked s (record { types = s.types; scopes = s.scopes; made = made; body = body }) (extends_same s.types.records) refl same fill refl,
 )
 
 -- ---- names with linkage
@@ -275,6 +330,7 @@ linked_put s place x l h from = (
     names = λ i y e. stays i y e (put_either place x s.types.linked i);
     functions = refl;
     hidden = filling_same s.made.hidden;
+    depth = refl;
   },
 )
   where
@@ -314,6 +370,7 @@ linked_added s x l h fresh = (
     names = λ i y e. (y, get_append s.types.linked (x ∷ []) i y e, continues_same y);
     functions = refl;
     hidden = filling_same s.made.hidden;
+    depth = refl;
   },
 )
   where
@@ -341,7 +398,7 @@ entity_put s place x l h = (
     apart = l.apart;
     depths = l.depths;
   },
-  knows_linked s (put_entity place x s) (extends_same s.types.records) refl refl (filling_same s.made.hidden),
+  knows_linked s (put_entity place x s) (extends_same s.types.records) refl refl (filling_same s.made.hidden) refl,
 )
   where
     by : (i : ℕ) (y : Entity) → slice_get (put_at place x s.scopes.entities) i ≡ Some y
@@ -351,13 +408,13 @@ entity_put s place x l h = (
     by i y e (inr g) = l.entities i y (sym g ∙ e)
 
 pub entered_kept : (s : State) (name : List ℕ) (x : Entity) → IsLawful s → IsLawfulEntity s.types.records x → Changed s (enter name x s)
-entered_kept s name x l h = (entered s name x l h, knows_linked s (enter name x s) (extends_same s.types.records) refl refl (filling_same s.made.hidden))
+entered_kept s name x l h = (entered s name x l h, knows_linked s (enter name x s) (extends_same s.types.records) refl refl (filling_same s.made.hidden) refl)
 
 pub composite_lawful : (r : List RecordValue) (a b : QType) → IsLawfulType r (type_of a) → IsLawfulType r (type_of b) → IsLawfulType r (type_of (composite a b))
 unfolding composite
 composite_lawful r (Qualified a c v) (Qualified b d w) h k = lawful_composite r a b h k
 
-and_then_is : {A B : Type 0} (f : A → Option B) (o : Option A) (y : B) → option_and_then f o ≡ Some y → (x : A) × (f x ≡ Some y)
+pub and_then_is : {A B : Type 0} (f : A → Option B) (o : Option A) (y : B) → option_and_then f o ≡ Some y → (x : A) × (f x ≡ Some y)
 and_then_is f None y e = never_some e
 and_then_is f (Some x) y e = (x, e)
 
@@ -483,12 +540,55 @@ initialised_kept s place q items l k =
 
 -- ---- scopes
 
+-- depths say nothing of what is sound
+pub deeper_sound : {p : Option Slot} {s : State} → Sound p s → Sound p (one_deeper s)
+deeper_sound {p} {s} h = record { backed = h.backed; spelled = h.spelled; functions = h.functions; slots = h.slots }
+
+pub shallow_sound : {p : Option Slot} {s : State} → Sound p (one_deeper s) → Sound p s
+shallow_sound {p} {s} h = record { backed = h.backed; spelled = h.spelled; functions = h.functions; slots = h.slots }
+
+pub deeper_settled : {u : Option Slot} {s : State} → Settled u s → Settled u (one_deeper s)
+deeper_settled {u} {s} z = scopes_settled u s (one_deeper s) refl refl refl (λ name e f. f) z
+
+pub shallow_settled : {u : Option Slot} {s : State} → Settled u (one_deeper s) → Settled u s
+shallow_settled {u} {s} z = scopes_settled u (one_deeper s) s refl refl refl (λ name e f. f) z
+
 -- inside a scope
 pub scope_after : (s t : State) → After (one_deeper s) t → After s (leave_scope t)
 scope_after s t a =
-    after_by (record { extends = a.extends; names = a.names; functions = a.functions; hidden = a.hidden })
-    (λ h. a.entities (record { backed = h.backed; spelled = h.spelled; functions = h.functions; slots = h.slots }))
-    (λ h. left_sound_alone t None (a.sound (record { backed = h.backed; spelled = h.spelled; functions = h.functions; slots = h.slots }))) a.locals
+    after_by (record {
+      extends = a.extends;
+      names = a.names;
+      functions = a.functions;
+      hidden = a.hidden;
+      depth = let e : t.scopes.depth ≡ s.scopes.depth + 1 = a.depth in omega (arith, e);
+    })
+    (λ h. a.entities (deeper_sound h)) (λ h. left_sound_alone t None (a.sound (deeper_sound h))) a.locals a.within (λ h. outside h)
+    (λ h shallow z. left_settled (a.settled (deeper_sound h) (deeper shallow) (deeper_settled z)))
+  where
+    deeper : AreShallow s.scopes → AreShallow (one_deeper s).scopes
+    deeper h i e f = let k : e.1.depth ≤ s.scopes.depth = h i e f in omega (arith, k)
+
+    stays : StaysOutside t.scopes (leave_scope t).scopes
+    stays name e f =
+        let deep : t.scopes.depth ≡ s.scopes.depth + 1 = a.depth in
+        ap (λ xs. visible xs name)
+        (filter_within (λ (y : List ℕ × Entry). y.1.depth == 0) (λ (y : List ℕ × Entry). nat_lt y.1.depth t.scopes.depth) t.scopes.ordinary
+        (λ i y g z. let zero : y.1.depth ≡ 0 = eqb-true y.1.depth 0 z in lt_so y.1.depth t.scopes.depth (omega (arith, zero, deep)))) ∙ f
+
+    left_settled : Settled None t → Settled None (leave_scope t)
+    left_settled z = scopes_settled None t (leave_scope t) refl refl refl stays z
+
+    outside : AreShallow s.scopes → AreShallow (leave_scope t).scopes × StaysOutside s.scopes (leave_scope t).scopes
+    outside h =
+        let x = a.outside (deeper h) in
+        let deep : t.scopes.depth ≡ s.scopes.depth + 1 = a.depth in (
+          (λ i e f.
+              let k = get_filter (λ (y : List ℕ × Entry). nat_lt y.1.depth t.scopes.depth) t.scopes.ordinary i e f in
+              let m : e.1.depth < t.scopes.depth = ltb-true e.1.depth t.scopes.depth k.2 in
+              omega (arith, m)),
+          (λ name e f. stays name e (x.1 name e f)),
+        )
 
 pub scoped_goes : {A : Type 0} (s : State) (inside : Rule A) → IsLawful s → Goes (one_deeper s) (inside (one_deeper s)) Anything → Goes s (scoped inside s) Anything
 unfolding scoped bind

@@ -1,6 +1,6 @@
 -- The items of initialisers: their bytes are bytes, and their addresses are of what is known.
-use Rattle.std.specs.Prelude.{ℕ, ◌≡◌, ◌⊎◌, ◌||◌, Bool, true, false, not, Option, None, Some, is_some, option_map, List, [], ◌∷◌, ◌++◌, length, slice_get, if◌then◌else◌, All, refl}
-use Rattle.std.proofs.Common.{ap, sym, subst, ◌∙◌, inl, inr}
+use Rattle.std.specs.Prelude.{ℕ, ◌≡◌, ◌⊎◌, Bool, true, false, Option, None, Some, option_map, List, [], ◌∷◌, ◌++◌, slice_get, if◌then◌else◌, All, refl}
+use Rattle.std.proofs.Common.{subst, inl, inr}
 use Rattle.pw_literal.specs.Characters.{characters_of_strings, string_bytes_of}
 use Rattle.pw_tree.specs.FirstTokens.{first_of_expr}
 use Rattle.pw_tree.specs.Trees.{Word, Expr, Init, Inits}
@@ -10,7 +10,7 @@ use Rattle.pw_types.specs.TypedTrees.{Expression, ItemValue, ItemBytes, ItemAddr
 use Rattle.pw_walk.specs.Causes.{InitialiserCount, InitialiserForm, needs}
 use Rattle.pw_walk.specs.Walks.{Walk, Done, bind, granted}
 use Rattle.pw_rules.specs.Constants.{Place, is_null_pointer, address_of}
-use Rattle.pw_rules.specs.Initialisers.{Context, Filled, Cursor, Target, Reached, target_at, frame_of, nothing_filled, item_of, item_list, bytes_within, word_bytes, address_item, value_filled, string_filled, listed_value, listed_string, listed_expression, listed_by, listed_form, StringForm, IsString, IsOther, string_form, braced_string, braced_target, braced_by, fills_characters, words_in, meets_characters, takes_record, takes_braces, next_target, reach, inits_rule, init_rule, Initialised, with_length, elements_given, passed, object_string, object_value, object_list, object_by, object_rule}
+use Rattle.pw_rules.specs.Initialisers.{Context, Filled, Cursor, Target, Reached, target_at, frame_of, nothing_filled, item_of, item_list, bytes_within, word_bytes, address_item, value_filled, string_filled, listed_value, listed_string, listed_expression, listed_by, listed_form, StringForm, IsString, IsOther, string_form, braced_string, braced_target, braced_by, fills_characters, words_in, meets_characters, takes_record, takes_braces, next_target, reach, inits_rule, init_rule, Initialised, passed, object_string, object_value, object_list, object_by, object_rule}
 use Rattle.pw_rules.specs.Kinds.{is_character_array}
 use Rattle.pw_rules.specs.Leaves.{string_point, texts_of}
 use Rattle.pw_rules.specs.Operands.{cast_to}
@@ -18,20 +18,14 @@ use Rattle.pw_rules.specs.Operators.{value_rule}
 use Rattle.pw_rules.specs.Phrases.{expr_rule}
 use Rattle.pw_rules.specs.States.{State, Rule, records_in}
 use Rattle.pw_well_typed.specs.Lawful.{IsLawful}
-use Rattle.pw_well_typed.proofs.Walking.{Post, post_bind, post_weaken, truth}
+use Rattle.pw_well_typed.proofs.Walking.{post_bind, post_weaken, truth}
 use Rattle.pw_well_typed.proofs.Lists.{some_same, never_some, get_either, get_one}
-use Rattle.pw_well_typed.proofs.States.{FineValue, Fine, Runs, goes_on, Grows, grows_same, grows_trans}
+use Rattle.pw_well_typed.proofs.States.{Runs, goes_on, Grows, grows_same, grows_trans}
 use Rattle.pw_well_typed.proofs.Phrases.{expr_post}
 use Rattle.pw_well_typed.proofs.ItemBytes.{IsByte, HasBytes, scalar_bytes, string_small, within_small}
-use Rattle.pw_well_typed.proofs.Symbols.{IsHere, HasHere, symbol_later, cast_here, IsCounted, counted_later, Whole, WholeValue, whole, value_whole, expr_here, place_here}
+use Rattle.pw_well_typed.proofs.Symbols.{HasHere, symbol_later, cast_here, IsCounted, counted_later, Whole, WholeValue, whole, value_whole, expr_here, place_here}
 use Rattle.pw_rules.specs.Constants.{AsAddress}
-
-abbrev pub IsKnownItem : State → ItemValue → Type 0
-IsKnownItem s (ItemBytes bytes) = All IsByte bytes
-IsKnownItem s (ItemAddress symbol offset) = IsHere s symbol
-
-abbrev pub AreKnownItems : State → List PlacedItem → Type 0
-AreKnownItems s items = (i : ℕ) (p : PlacedItem) → slice_get items i ≡ Some p → IsKnownItem s p.item
+use Rattle.pw_well_typed.proofs.Settled.{IsHere, IsKnownItem, AreKnownItems}
 
 item_later : (s t : State) → Grows s t → (item : ItemValue) → IsKnownItem s item → IsKnownItem t item
 item_later s t g (ItemBytes bytes) h = h

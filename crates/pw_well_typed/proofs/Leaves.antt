@@ -1,9 +1,11 @@
 -- The rules of names, constants and parts of declarators: what they make is lawful, and so is the state behind them.
+use Rattle.pw_well_typed.proofs.Settled.{IsString}
+use Rattle.pw_well_typed.proofs.ItemBytes.{string_small}
 use Rattle.std.proofs.lemmas.Bool.{eqb-true}
 use Rattle.pw_well_typed.proofs.Sound.{IsPlain}
 use Rattle.std.specs.Prelude.{ℕ, ◌≡◌, ◌<◌, ◌⊎◌, ◌==◌, Bool, true, false, not, ◌&&◌, ◌||◌, Option, None, Some, unwrap_or, option_map, option_and_then, List, [], ◌∷◌, ◌++◌, length, filter, find, slice_get, cond, if◌then◌else◌, refl, is_none, ◌≤◌, ◌+◌}
 use Rattle.std.proofs.Common.{arith, ap, sym, subst, ◌∙◌, inl, inr}
-use Rattle.pw_literal.specs.Characters.{string_bytes_of}
+use Rattle.pw_literal.specs.Characters.{string_bytes_of, characters_of_strings, fits_bytes}
 use Rattle.pw_literal.specs.Integers.{integer_type, integer_value}
 use Rattle.pw_tree.specs.declared.expr.BasicType.{BasicType}
 use Rattle.pw_tree.specs.Trees.{Word}
@@ -16,7 +18,7 @@ use Rattle.pw_types.specs.TypeTrees.{CType, Void, Int, Pointer, Array, Function,
 use Rattle.pw_types.specs.TypedTrees.{Symbol, Expression, Node, Hidden, LocalValue, ModuleValue, type_at}
 use Rattle.pw_types.specs.TypedTrees as T
 use Rattle.pw_types.specs.WellTyped.{IsTyped, IsScalar, IsResult, IsFunctionType, IsFunctionOf, IsObject}
-use Rattle.pw_walk.specs.Causes.{DeclaredIdentifier, CompleteMember, ElementType}
+use Rattle.pw_walk.specs.Causes.{needs, EscapeFits, DeclaredIdentifier, CompleteMember, ElementType}
 use Rattle.pw_walk.specs.Walks.{Walk, Done, bind}
 use Rattle.pw_rules.specs.Kinds.{plain, int_type, is_function, is_array, is_record, is_void}
 use Rattle.pw_rules.specs.Operands.{Operand}
@@ -162,23 +164,23 @@ string_good m locals t k bytes h = record {
 
 pub string_runs : (s : State) (ws : List Word) → IsLawful s → Runs s (string_rule ws s) Fine
 unfolding string_rule string_point bind
-string_runs s ws l = λ met. by s.made.counting refl
+string_runs s ws l = λ met. by met s.made.counting refl
   where
     bytes : List ℕ
     bytes = string_bytes_of (texts_of ws)
 
-    by : (b : Bool) → s.made.counting ≡ b
+    by : AreMet (needs EscapeFits (Rattle.pw_tree.specs.FirstTokens.first_of_words ws) (fits_bytes (characters_of_strings (texts_of ws))) ∷ []) → (b : Bool) → s.made.counting ≡ b
         → IsLawful (if b then add_hidden (string_object (string_bytes_of (texts_of ws))) s else s)
         × Grows s (if b then add_hidden (string_object (string_bytes_of (texts_of ws))) s else s)
         × Fine (if b then add_hidden (string_object (string_bytes_of (texts_of ws))) s else s)
         (lvalue_operand false (Node (Rattle.pw_tree.specs.FirstTokens.first_of_words ws) (string_type (string_bytes_of (texts_of ws))) (T.Str (length s.made.hidden))))
-    by true c = (
+    by met true c = (
       hidden_added s (string_object (string_bytes_of (texts_of ws))) l,
-      hidden_grows s (string_object (string_bytes_of (texts_of ws))),
+      hidden_grows IsString s (string_object (string_bytes_of (texts_of ws))) (string_bytes_of (texts_of ws), refl, refl, string_small (characters_of_strings (texts_of ws)) (truth _ met.0)),
       λ m locals d w. string_good m locals _ (length s.made.hidden) (string_bytes_of (texts_of ws))
           (d.strings (length s.made.hidden) (string_object (string_bytes_of (texts_of ws))) (get_last s.made.hidden (string_object (string_bytes_of (texts_of ws))))),
     )
-    by false c = (l, grows_same s, λ m locals d w. no (sym c ∙ d.counting))
+    by met false c = (l, grows_same s, λ m locals d w. no (sym c ∙ d.counting))
 
 abbrev pub Nothing : {A : Type 0} → State → A → Type 0
 Nothing s a = Unit {0}
@@ -193,7 +195,7 @@ enumerator_value_runs s first e l = λ met. (l, grows_same s, tt)
 
 -- ---- enumerations
 
-none_here : (s : State) (name : List ℕ) → is_none (entry_here s name) ≡ true → entry_here s name ≡ None
+pub none_here : (s : State) (name : List ℕ) → is_none (entry_here s name) ≡ true → entry_here s name ≡ None
 none_here s name e = by (entry_here s name) e
   where
     by : (o : Option Entry) → is_none o ≡ true → o ≡ None

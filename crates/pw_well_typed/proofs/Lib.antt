@@ -12,6 +12,7 @@ pub mod Operations
 pub mod Changes
 pub mod Objects
 pub mod ObjectTypes
+pub mod Settled
 pub mod Leaves
 pub mod Phrases
 pub mod Counting
@@ -19,7 +20,9 @@ pub mod Locals
 pub mod Filling
 pub mod Keeping
 pub mod Declaring
+pub mod Defined
 pub mod Initialisers
+pub mod Giving
 pub mod Declarations
 pub mod Adding
 pub mod LabelLaws
@@ -34,8 +37,12 @@ pub mod Parameters
 pub mod Bodies
 pub mod Statements
 pub mod Ending
+pub mod Outside
+pub mod Named
+pub mod Final
 pub mod Backward
 pub mod Modules
+pub mod Globals
 pub mod Laws
 pub mod Whole
 pub mod Parts

@@ -6,11 +6,11 @@ use Rattle.std.proofs.Common.{arith, ap, sym, subst, ◌∙◌, inl, inr}
 use Rattle.pw_scope.specs.Visible.{visible}
 use Rattle.pw_types.specs.TypedTrees.{LocalValue}
 use Rattle.pw_rules.specs.Declarations.{put_local, place_here}
-use Rattle.pw_rules.specs.States.{State, Entity, TypeName, EnumerationConstant, LocalObject, StaticObject, Linked, enter, put_entity, put_at, add_local, leave_scope, if_here}
+use Rattle.pw_rules.specs.States.{State, Entity, TypeName, EnumerationConstant, LocalObject, StaticObject, Linked, HiddenObject, enter, put_entity, put_at, add_local, leave_scope, if_here}
 use Rattle.pw_rules.specs.declared.names.Entry.{Entry}
 use Rattle.pw_well_typed.specs.Lawful.{HasLocal}
 use Rattle.pw_well_typed.proofs.Lists.{Longer, some_same, get_append, get_either, get_more, get_last, get_within, get_filter, put_either, put_same}
-use Rattle.pw_well_typed.proofs.States.{Grows, IsConstant, HasEntity}
+use Rattle.pw_well_typed.proofs.States.{GrowsBy, IsConstant, HasEntity}
 use Rattle.pw_well_typed.proofs.Counting.{named_itself, equal_itself}
 
 -- a local of the entity's type stands at its place, and its name in a scope inside the file's
@@ -50,8 +50,8 @@ longer_put {X} xs ys y longer i x e = by (put_either (length xs) y ys i)
 pub longer_same : {X : Type 0} (xs : List X) → Longer xs xs
 longer_same xs i x e = e
 
-pub grows_placed : {s t : State} → Grows s t → ArePlaced s → ArePlaced t
-grows_placed {s} {t} g p i e h = by (get_either s.scopes.ordinary g.more i e (subst (λ xs. slice_get xs i ≡ Some e) g.ordinary h))
+pub grows_placed : {H : HiddenObject → Type 0} {s t : State} → GrowsBy IsConstant H s t → ArePlaced s → ArePlaced t
+grows_placed {H} {s} {t} g p i e h = by (get_either s.scopes.ordinary g.more i e (subst (λ xs. slice_get xs i ≡ Some e) g.ordinary h))
   where
     by : (slice_get s.scopes.ordinary i ≡ Some e) ⊎ ((j : ℕ) × (slice_get g.more j ≡ Some e)) → HasEntity (IsPlaced t.body.locals e.1.depth) t e.1.place
     by (inl f) = let x = p i e f in (x.0, g.entities e.1.place x.0 x.1, subst (λ b. IsPlaced b.locals e.1.depth x.0) (sym g.body) x.2)
@@ -107,9 +107,9 @@ pub local_placed : (s : State) (name : List ℕ) (l : LocalValue) (register : Bo
 local_placed s name l register inner p =
     entered_placed (add_local l s) name (LocalObject (length s.body.locals) l.ty register) (added_placed s l p) ((l, get_last s.body.locals l, refl), inner)
 
-pub completed_placed : (s u : State) (name : List ℕ) (l new : LocalValue) (register : Bool) → 0 < s.scopes.depth → ArePlaced s → Grows (local_entered s name l register) u
+pub completed_placed : {H : HiddenObject → Type 0} (s u : State) (name : List ℕ) (l new : LocalValue) (register : Bool) → 0 < s.scopes.depth → ArePlaced s → GrowsBy IsConstant H (local_entered s name l register) u
     → ArePlaced (local_completed s (length s.scopes.entities) new register u)
-completed_placed s u name l new register inner p g i e h =
+completed_placed {H} s u name l new register inner p g i e h =
     by (get_either (s.scopes.ordinary ++ (name, record { place = length s.scopes.entities; depth = s.scopes.depth }) ∷ []) g.more i e (subst (λ xs. slice_get xs i ≡ Some e) g.ordinary h))
   where
     x : Entity

@@ -1,18 +1,24 @@
 -- Functions and modules: the state at a module's end is lawful.
 use Rattle.pw_well_typed.proofs.Conversions.{scalar_no_function}
 use Rattle.pw_well_typed.proofs.Objects.{object_later, small}
+use Rattle.pw_well_typed.proofs.ObjectTypes.{function_keeps, AreWithin}
+use Rattle.pw_scope.specs.Visible.{visible}
+use Rattle.pw_well_typed.proofs.Named.{Asked, end_met, tentative_object}
+use Rattle.pw_well_typed.proofs.Outside.{AreShallow, StaysOutside, filter_more}
 use Rattle.pw_rules.specs.Compatible.{compatible}
+use Rattle.pw_well_typed.proofs.Settled.{symbol_continues, Settled, origins_same, scopes_settled, settles}
 use Rattle.pw_well_typed.proofs.Ending.{start_sound, globals_apart, kinds_apart, functions_external, globals_declared, all_at}
 use Rattle.pw_types.specs.TypedModules.{IsDeclaredIfExternal}
 use Rattle.pw_rules.specs.Kinds.{is_function}
 use Rattle.pw_rules.specs.Limits.{Spot}
-use Rattle.pw_well_typed.proofs.Composite.{Covers, covers_trans}
+use Rattle.pw_well_typed.proofs.Composite.{Covers, covers_trans, covers_same}
 use Rattle.pw_well_typed.proofs.States.{Grows}
-use Rattle.pw_well_typed.proofs.Declaring.{symbol_continues, declared_goes, GoodPlace, DeclaredAt, Linkable, function_after, mapped}
-use Rattle.pw_well_typed.proofs.Sound.{Sound, filling_same, Spelled, plain_spelled, IsFunctionNamed}
+use Rattle.pw_well_typed.proofs.Declaring.{declared_goes, GoodPlace, DeclaredAt, Linkable, function_after, mapped}
+use Rattle.pw_well_typed.proofs.Sound.{Sound, Spelled, plain_spelled, IsFunctionNamed, continues_same, filling_same}
 use Rattle.pw_rules.specs.SpecifierLists.{Specified}
 use Rattle.std.specs.Option.{option_map_or}
-use Rattle.std.specs.Prelude.{ℕ, ◌≡◌, ◌+◌, ◌≤◌, ◌⊎◌, not, Option, None, Some, unwrap_or, List, [], ◌∷◌, map, filter, slice_get, All, refl, ◌≢◌, ◌<◌, AllPairs, length, if◌then◌else◌, Bool, true, false, zero, suc}
+use Rattle.std.proofs.lemmas.Bool.{eqb-true}
+use Rattle.std.specs.Prelude.{ℕ, ◌≡◌, ◌+◌, ◌==◌, ◌≤◌, ◌⊎◌, not, ◌&&◌, Option, None, Some, unwrap_or, List, [], ◌∷◌, map, filter, slice_get, All, refl, ◌≢◌, ◌<◌, AllPairs, length, if◌then◌else◌, Bool, true, false, zero, suc}
 use Rattle.std.proofs.Common.{arith, ap, sym, subst, inl, inr, subst₂, ◌∙◌}
 use Rattle.std.proofs.lemmas.List.Kept.{AllPairs-filter}
 use Rattle.std.proofs.lemmas.Option.{slice_get-get_or, get_or_from_slice_get}
@@ -27,8 +33,8 @@ use Rattle.pw_rules.specs.Derivations.{Bindings, spot_of, Declared, Derivation, 
 use Rattle.pw_rules.specs.Functions.{function_of, bindings_of, no_bindings, enter_body, definition_asking, measured_rule, body_rule, function_rule, add_function, definition_rules, ends_in_function, parameter_local}
 use Rattle.pw_rules.specs.Leaves.{first_of_declaration}
 use Rattle.pw_rules.specs.Linkage.{define_function, symbol_of_linked, linked_before, place_for, is_linked}
-use Rattle.pw_rules.specs.Modules.{external_rule, externals_rule, end_rule, module_in, module_rule, declared_value}
-use Rattle.pw_rules.specs.States.{State, LinkedName, leave_scope, linked_in, start, put_linked, Entity, entity_here}
+use Rattle.pw_rules.specs.Modules.{external_rule, externals_rule, end_rule, module_in, module_rule, declared_value, final_type}
+use Rattle.pw_rules.specs.States.{State, LinkedName, leave_scope, one_deeper, linked_in, start, put_linked, Entity, entity_here}
 use Rattle.pw_rules.specs.Statements.{block_rule, labels_in_block}
 use Rattle.pw_rules.specs.declared.names.Entry.{Entry}
 use Rattle.pw_rules.specs.declared.names.Tag.{Tag}
@@ -36,13 +42,13 @@ use Rattle.pw_rules.specs.declared.names.TagEntry.{TagEntry}
 use Rattle.pw_well_typed.specs.Lawful.{IsLawful, IsLawfulTag, IsLawfulType, IsObjectLike, Extends}
 use Rattle.pw_well_typed.proofs.Walking.{Post, post_bind, truth, AreMet, post_weaken, post_both}
 use Rattle.pw_well_typed.proofs.Lists.{get_either, get_map, get_filter, get_within, some_same, never_some, get_more, put_same, get_append}
-use Rattle.pw_well_typed.proofs.Types.{extends_same, lawful_later, lawful_known, no, not_true}
-use Rattle.pw_well_typed.proofs.Changes.{left_lawful_alone, left_sound_alone, tag_later, like_later}
+use Rattle.pw_well_typed.proofs.Types.{lawful_later, lawful_known, no, not_true, extends_same}
+use Rattle.pw_well_typed.proofs.Changes.{left_lawful_alone, tag_later, like_later}
 use Rattle.pw_well_typed.proofs.Leaves.{GoodType, GoodSpecified, GoodDeclared, GoodBindings, GoodIfAny, bindings_later, built_runs, scalars_later, AreScalars}
 use Rattle.pw_well_typed.proofs.Phrases.{declarator_post}
 use Rattle.pw_well_typed.proofs.Declarations.{specified_goes, decl_goes}
 use Rattle.pw_well_typed.proofs.Statements.{block_goes}
-use Rattle.pw_well_typed.proofs.Keeping.{After, after_same, after_trans, Kept, Goes, of_runs, met_first, Anything, none_named, place_is, named_before, weaker, after_by, knows_linked, keeps_same, plain_stays, Later, later_after, later_trans, after_grows}
+use Rattle.pw_well_typed.proofs.Keeping.{After, after_same, after_trans, Kept, Goes, of_runs, met_first, Anything, none_named, place_is, named_before, weaker, after_by, plain_stays, Later, later_after, later_trans, after_grows, scope_after, shallow_sound, shallow_settled}
 
 -- ---- functions
 
@@ -85,6 +91,13 @@ body_lawful s es q b names l h = record {
         let same : s.scopes.depth + 1 ≡ e.1.depth = ap (λ (y : List ℕ × Entry). y.1.depth) x.2 in
         omega (arith, same)
 
+never_zero : (n : ℕ) → (n + 1 == 0) ≡ false
+never_zero n = by (n + 1 == 0) refl
+  where
+    by : (b : Bool) → (n + 1 == 0) ≡ b → b ≡ false
+    by true e = let z : n + 1 ≡ 0 = eqb-true (n + 1) 0 e in grind (arith, z)
+    by false e = refl
+
 -- the body is entered some time behind its declarator
 -- parameters are scalars
 scalar_object : (r : List RecordValue) (ty : CType) → IsScalar ty → IsObjectType r ty
@@ -105,21 +118,38 @@ parameters_like s (p ∷ ps) h zero l e =
     subst (λ (x : LocalValue). IsObjectLike s.types.records x.ty × IsObjectType s.types.records (type_of x.ty)) (some_same e) (scalar_like s.types.records p.ty h.0 h.1, scalar_object s.types.records (type_of p.ty) h.1)
 parameters_like s (p ∷ ps) h (suc k) l e = parameters_like s ps h.2 k l e
 
-pub body_entered : (v s : State) (q : QType) (b : Bindings) (names : List (List ℕ)) → After v s → IsLawful s → GoodBindings v.types.records v.scopes.entities b → Kept v (enter_body q b names s)
-body_entered v s q b names a l h = (
+pub body_entered : (v s : State) (q : QType) (b : Bindings) (names : List (List ℕ)) → After v s → IsLawful s → GoodBindings v.types.records v.scopes.entities b → AreShallow v.scopes → Kept (one_deeper v) (enter_body q b names s)
+body_entered v s q b names a l h shallow = (
   body_lawful s v.scopes.entities q b names l (record { scalars = scalars_later v.types.records s.types.records a.extends b.parameters h.scalars; tags = λ i t e. tag_later v.types.records s.types.records a.extends t.1 (h.tags i t e); plain = h.plain }),
-  after_by (record { extends = a.extends; names = a.names; functions = a.functions; hidden = a.hidden }) a.entities
+  after_by (record { extends = a.extends; names = a.names; functions = a.functions; hidden = a.hidden; depth = ap (λ n. n + 1) a.depth }) (λ hv. a.entities (shallow_sound hv))
       (λ hv.
-      let hs = a.sound hv in
+      let hs = a.sound (shallow_sound hv) in
       record {
         backed = hs.backed;
-        spelled = λ i e g. by_spelled hv i e (get_either s.scopes.ordinary (map (λ (x : List ℕ × ℕ). (x.0, record { place = x.1; depth = s.scopes.depth + 1 })) b.ordinary) i e g);
+        spelled = λ i e g. by_spelled (shallow_sound hv) i e (get_either s.scopes.ordinary (map (λ (x : List ℕ × ℕ). (x.0, record { place = x.1; depth = s.scopes.depth + 1 })) b.ordinary) i e g);
         functions = hs.functions;
         slots = hs.slots;
       })
-      (λ z. parameters_like s b.parameters (scalars_later v.types.records s.types.records a.extends b.parameters h.scalars)),
+      (λ z. parameters_like s b.parameters (scalars_later v.types.records s.types.records a.extends b.parameters h.scalars)) a.within
+      (λ z. outside (a.outside shallow))
+      (λ hv deep z. scopes_settled None s (enter_body q b names s) refl refl refl stays (a.settled (shallow_sound hv) shallow (shallow_settled z))),
 )
   where
+    stays : StaysOutside s.scopes (enter_body q b names s).scopes
+    stays name e f =
+        ap (λ xs. visible xs name)
+        (filter_more (λ (y : List ℕ × Entry). y.1.depth == 0) s.scopes.ordinary (map (λ (y : List ℕ × ℕ). (y.0, record { place = y.1; depth = s.scopes.depth + 1 })) b.ordinary) (λ i y g.
+        let k = get_map (λ (y : List ℕ × ℕ). let e : List ℕ × Entry = (y.0, record { place = y.1; depth = s.scopes.depth + 1 }) in e) b.ordinary i y g in
+        let same : s.scopes.depth + 1 ≡ y.1.depth = ap (λ (z : List ℕ × Entry). z.1.depth) k.2 in
+        subst (λ n. (n == 0) ≡ false) same (never_zero s.scopes.depth)))
+        ∙ f
+
+    outside : AreShallow s.scopes × StaysOutside v.scopes s.scopes → AreShallow (enter_body q b names s).scopes × StaysOutside (one_deeper v).scopes (enter_body q b names s).scopes
+    outside x = (
+      (body_lawful s v.scopes.entities q b names l (record { scalars = scalars_later v.types.records s.types.records a.extends b.parameters h.scalars; tags = λ i t e. tag_later v.types.records s.types.records a.extends t.1 (h.tags i t e); plain = h.plain })).depths,
+      (λ name e f. stays name e (x.1 name e f)),
+    )
+
     by_spelled : Sound None v → (i : ℕ) (e : List ℕ × Entry)
         → (slice_get s.scopes.ordinary i ≡ Some e) ⊎ ((j : ℕ) × (slice_get (map (λ (x : List ℕ × ℕ). (x.0, record { place = x.1; depth = s.scopes.depth + 1 })) b.ordinary) j ≡ Some e))
         → (y : Entity) × (slice_get s.scopes.entities e.1.place ≡ Some y) × Spelled s.types.linked e.0 y
@@ -130,9 +160,6 @@ body_entered v s q b names a l h = (
         let z = a.entities hv x.0.1 y.0 y.1 in
         subst (λ (e : List ℕ × Entry). (y : Entity) × (slice_get s.scopes.entities e.1.place ≡ Some y) × Spelled s.types.linked e.0 y) x.2
         (z.0, z.1, plain_spelled s.types.linked x.0.0 z.0 (plain_stays y.0 z.0 y.2 z.2))
-
-left : (s : State) → IsLawful s → Kept s (leave_scope s)
-left s l = (left_lawful_alone s l, after_by (knows_linked s (leave_scope s) (extends_same s.types.records) refl refl (filling_same s.made.hidden)) (λ h. keeps_same s.scopes.entities) (λ h. left_sound_alone s None h) (λ h. h))
 
 measured_goes : (s : State) (w : Word) (f : FunctionValue) → IsLawful s → Goes s (measured_rule w f s) Anything
 unfolding measured_rule bind
@@ -259,8 +286,23 @@ later_function s t f a named = record {
   sound = λ h.
       let k = a.sound h in
       record { backed = k.backed; spelled = k.spelled; functions = λ i g e. by k i g (get_more t.made.functions f i g e); slots = k.slots };
+  within = a.within;
+  outside = a.outside;
+  settled = λ h shallow z. function_settled (a.settled h shallow z);
+  depth = a.depth;
 }
   where
+    function_settled : Settled None t → Settled None (add_function f t)
+    function_settled z =
+        settles None None t (add_function f t) (record {
+          extends = extends_same t.types.records;
+          names = λ n x e. (x, e, continues_same x);
+          hidden = filling_same t.made.hidden;
+          entities = λ k n r e. (r, e, covers_same r);
+          outside = λ name e g. g;
+          counting = refl;
+        }) (origins_same None t (add_function f t) refl refl) z
+
     by : Sound None t → (i : ℕ) (g : FunctionValue) → (slice_get t.made.functions i ≡ Some g) ⊎ ((i ≡ length t.made.functions) × (f ≡ g)) → IsFunctionNamed t.types.linked g
     by k i g (inl e) = k.functions i g e
     by k i g (inr e) = subst (IsFunctionNamed t.types.linked) e.1 named
@@ -269,20 +311,20 @@ body_post : (old s : State) (w : Word) (place : ℕ) (q : QType) (b : Bindings) 
     → DefinedAt w.text q s place → is_function (type_of q) ≡ true → IsLawful s → GoodBindings old.types.records old.scopes.entities b → Post (body_rule w place q b block s) (Onwards old)
 unfolding body_rule bind
 body_post old s w place q b block lo o none a x kind l h =
-    let c : Kept old (enter_body q b (labels_in_block block) s) = body_entered old s q b (labels_in_block block) a l h in
+    let c : Kept (one_deeper old) (enter_body q b (labels_in_block block) s) = body_entered old s q b (labels_in_block block) a l h lo.depths in
     then_post (block_rule block (enter_body q b (labels_in_block block) s)) _ Anything (Onwards old) (block_goes block (enter_body q b (labels_in_block block) s) c.0) (λ r m y k.
-    let d : Kept r.1 (leave_scope r.1) = left r.1 m in
+    let d : Kept old (leave_scope r.1) = (left_lawful_alone r.1 m, scope_after old r.1 (after_trans c.1 y)) in
     then_post (measured_rule w (function_of r.1 w place q b r.0) (leave_scope r.1)) _ Anything (Onwards old) (measured_goes (leave_scope r.1) w (function_of r.1 w place q b r.0) d.0) (λ u n z j.
-    let whole : After old u.1 = after_trans c.1 (after_trans y (after_trans d.1 z)) in
+    let whole : After old u.1 = after_trans d.1 z in
     let at = y.names place x.0 x.1 in
-    let end = (after_trans d.1 z).names place at.0 at.1 in
+    let end = z.names place at.0 at.1 in
     let covers : Covers end.0.ty q = covers_trans end.2.covers (covers_trans at.2.covers x.4) in
     let named : (function_of r.1 w place q b r.0).name ≡ symbol_of_linked end.0 =
     ap (λ p. option_map_or symbol_of_linked p (Shared [])) at.1 ∙ sym (symbol_continues at.0 end.0 end.2) in (
       added_lawful u.1 (function_of r.1 w place q b r.0) n,
       function_added old u.1 w.text (function_of r.1 w place q b r.0) place end.0 lo o none whole end.1
           (end.2.name ∙ (at.2.name ∙ x.2)) (end.2.defined (at.2.defined x.3)) named
-          (locals_later r.1.types.records u.1.types.records (function_of r.1 w place q b r.0) (after_trans d.1 z).extends
+          (locals_later r.1.types.records u.1.types.records (function_of r.1 w place q b r.0) z.extends
           (y.locals (parameters_like s b.parameters (scalars_later old.types.records s.types.records a.extends b.parameters h.scalars)))),
       later_function old u.1 (function_of r.1 w place q b r.0) whole (place, end.0, end.1, named, covers, covers.function ∙ kind),
     )))
@@ -342,7 +384,7 @@ function_post s f l o =
     (then_post _ _ (Placed v.1 (name_of u.0) v.0 u.0.derivations) (Onwards s)
     (met_first v.1 _ _ (Placed v.1 (name_of u.0) v.0 u.0.derivations) (λ met.
     weaker _ _ (GoodPlace (name_of u.0).text v.0 (place_for v.1 (name_of u.0).text)) (Placed v.1 (name_of u.0) v.0 u.0.derivations)
-    (declared_goes None v.1 (name_of u.0).text (name_of u.0).token r.0.tag (definition_asking r.0) v.0 good.0.0 good.0.2 (is_linkable v.1 (name_of u.0) r.0 u.0 f.declarations v.0 met)
+    (declared_goes None v.1 (name_of u.0).text (name_of u.0).token r.0.tag (definition_asking r.0) v.0 good.0.0 good.0.2 (function_keeps v.1.types.records (type_of v.0) (good.1 (is_kind v.1 (name_of u.0) r.0 u.0 f.declarations v.0 met))) (is_linkable v.1 (name_of u.0) r.0 u.0 f.declarations v.0 met)
     (λ hs none e g. no (sym g ∙ good.1 (is_kind v.1 (name_of u.0) r.0 u.0 f.declarations v.0 met))))
     (λ t place g. (g, not_yet v.1 (name_of u.0) r.0 u.0 f.declarations v.0 met, is_kind v.1 (name_of u.0) r.0 u.0 f.declarations v.0 met))))
     (λ e p q g.
@@ -375,15 +417,32 @@ unfolding end_rule bind
 end_goes [] s l = (l, after_same s, tt)
 end_goes (x ∷ rest) s l = λ met. end_goes rest s l
 
-abbrev IsWhole : ModuleValue × State → Type 0
-IsWhole r = IsLawful r.1 × OnceDefined r.1 × Sound None r.1 × (r.0 ≡ module_in r.1)
+-- each object that is defined tentatively has a type that objects can have
+abbrev pub AreTentatives : State → Type 0
+AreTentatives s = (n : ℕ) (l : LinkedName) → slice_get s.types.linked n ≡ Some l → (l.tentative && not l.defined) ≡ true → IsObjectType s.types.records (type_of (final_type s l))
 
-module_post : (m : Module) (s : State) → IsLawful s → OnceDefined s → Sound None s → Post (module_rule m s) IsWhole
+abbrev pub IsWhole : ModuleValue × State → Type 0
+IsWhole r =
+    IsLawful r.1 × OnceDefined r.1 × Sound None r.1 × (r.0 ≡ module_in r.1) × AreWithin r.1.types.records r.1.types.linked × AreTentatives r.1 × (r.1.scopes.depth ≡ 0) × Settled None r.1
+
+pub module_post : (m : Module) (s : State) → IsLawful s → OnceDefined s → Sound None s → AreWithin s.types.records s.types.linked → s.scopes.depth ≡ 0 → Settled None s → Post (module_rule m s) IsWhole
 unfolding module_rule
-module_post m s l o h =
-    post_bind _ _ (Onwards s) IsWhole
-    (post_bind _ _ (Onwards s) (Onwards s) (externals_post m.externals s l o) (λ r k. k)) (λ r k.
-    then_post _ _ Anything IsWhole (end_goes r.0 r.1 k.0) (λ u i y j. (i, once_later y k.1, y.sound (k.2.sound h), refl)))
+module_post m s l o h within outer settled =
+    post_bind _ _ (λ r. Onwards s r × (r.0 ≡ linked_in r.1)) IsWhole
+    (post_bind _ _ (Onwards s) (λ r. Onwards s r × (r.0 ≡ linked_in r.1)) (externals_post m.externals s l o) (λ r k. (k, refl))) (λ r k.
+    post_bind (end_rule r.0 r.1) _ (λ u. (IsLawful u.1 × After r.1 u.1 × Unit {0}) × ((u.1 ≡ r.1) × Asked r.0 r.1)) IsWhole
+    (post_both (end_rule r.0 r.1) (λ u. IsLawful u.1 × After r.1 u.1 × Unit {0}) (λ u. (u.1 ≡ r.1) × Asked r.0 r.1) (end_goes r.0 r.1 k.0.0) (end_met r.0 r.1)) (λ u i.
+    let tentatives : AreTentatives r.1 =
+    (λ n x at e. tentative_object r.1 n x k.0.0 (k.0.2.sound h) (k.0.2.within within) at e (i.1.1 n x (subst (λ xs. slice_get xs n ≡ Some x) (sym k.1) at))) in (
+      i.0.0,
+      once_later i.0.1 k.0.1,
+      i.0.1.sound (k.0.2.sound h),
+      refl,
+      i.0.1.within (k.0.2.within within),
+      subst AreTentatives (sym i.1.0) tentatives,
+      i.0.1.depth ∙ (k.0.2.depth ∙ outer),
+      i.0.1.settled (k.0.2.sound h) (k.0.2.outside l.depths).0 (k.0.2.settled h l.depths settled),
+    )))
 
 functions_apart : (s : State) → OnceDefined s → AllPairs (λ (f g : FunctionValue). f.name ≢ g.name) s.made.functions
 functions_apart s o i j d below within same =
@@ -450,7 +509,10 @@ sound s l o h = record {
 pub none_defined : OnceDefined start
 none_defined = record { locals = λ i f e. never_some e; placed = λ i f e. never_some e; apart = λ i j f g e h same. never_some e }
 
+pub start_settled : Settled None start
+start_settled = record { counting = refl; names = λ n l e f. never_some e; hidden = λ k h e. never_some e }
+
 pub checking_sound : (m : Module) → IsLawful start → Post (bind (module_rule m start) (λ r. Done r.0)) IsSound
 checking_sound m l =
-    post_bind (module_rule m start) (λ r. Done r.0) IsWhole IsSound (module_post m start l none_defined start_sound)
+    post_bind (module_rule m start) (λ r. Done r.0) IsWhole IsSound (module_post m start l none_defined start_sound (λ n x e. never_some e) refl start_settled)
     (λ r h. subst IsSound (sym h.3) (sound r.1 h.0 h.1 h.2))

@@ -7,7 +7,7 @@ use Rattle.std.proofs.lemmas.Option.{get_or_from_slice_get}
 use Rattle.pw_types.specs.declared.record.Layout.{Layout}
 use Rattle.pw_types.specs.declared.record.RecordKind.{RecordKind}
 use Rattle.pw_types.specs.declared.record.RecordKind.TheVariants.{Structure, Union}
-use Rattle.pw_types.specs.Layouts.{content_at, layout_of, size_of, array_layout, scalar_layout, round_up, record_layout, record_offsets, offsets_from, end_from, greatest, align_of}
+use Rattle.pw_types.specs.Layouts.{content_at, layout_of, size_of, array_layout, scalar_layout, round_up, offsets_from, end_from, greatest, align_of}
 use Rattle.pw_types.specs.Records.{IsLaid, Follows, kind_at, layouts_of}
 use Rattle.pw_types.specs.TypeTrees.{CType, Void, Int, Pointer, Array, Function, Record, QType, Qualified, type_of, MemberValue, ContentValue, RecordValue}
 use Rattle.pw_types.specs.WellTyped.{IsComplete}

@@ -127,7 +127,7 @@ named_same {n} {k} e = ap number e
     number (slot.Named i) = i
     number (slot.Hidden i) = n
 
-never_slot : {A : Type 0} {n k : ℕ} → slot.Named n ≡ slot.Hidden k → A
+pub never_slot : {A : Type 0} {n k : ℕ} → slot.Named n ≡ slot.Hidden k → A
 never_slot {A} {n} {k} e = absurd (subst P e tt)
   where
     P : Slot → Type 0

@@ -1,6 +1,7 @@
 -- How the state of checking grows within expressions and types: it forgets nothing, and the names that are entered stand in the
 -- scope that is read.
 use Rattle.pw_well_typed.proofs.Sound.{Sound, IsPlain}
+use Rattle.pw_well_typed.proofs.Settled.{IsString}
 use Rattle.pw_rules.specs.declared.names.Slot.{Slot}
 use Rattle.std.specs.Prelude.{ℕ, ◌≡◌, ◌⊎◌, true, Some, List, [], ◌++◌, slice_get, refl, Option}
 use Rattle.std.specs.Option.{option_map_or}
@@ -11,7 +12,7 @@ use Rattle.pw_types.specs.WellTyped.{IsTyped, IsLvalue, IsDesignator, IsFunction
 use Rattle.pw_walk.specs.Walks.{Walk, bind}
 use Rattle.pw_rules.specs.Linkage.{symbol_at, symbol_of_linked}
 use Rattle.pw_rules.specs.Operands.{Operand}
-use Rattle.pw_rules.specs.States.{State, Entity, TypeName, EnumerationConstant, LocalObject, StaticObject, Linked, entry_here}
+use Rattle.pw_rules.specs.States.{State, Entity, TypeName, EnumerationConstant, LocalObject, StaticObject, Linked, HiddenObject, entry_here}
 use Rattle.pw_rules.specs.declared.names.Entry.{Entry}
 use Rattle.pw_well_typed.specs.Lawful.{IsLawful, IsLawfulType, Extends, Denotes, StandsFor, IsNamed, AreWords}
 use Rattle.pw_well_typed.proofs.Walking.{Post, post_bind, post_weaken}
@@ -34,8 +35,8 @@ constant_plain (Linked k q) h = absurd h
 abbrev pub HasEntity : (Entity → Type 0) → State → ℕ → Type 0
 HasEntity P t place = (x : Entity) × (slice_get t.scopes.entities place ≡ Some x) × P x
 
--- names of this sort are entered
-pub record GrowsBy (P : Entity → Type 0) (s t : State) : Type 0 where
+-- names of this sort are entered, and objects without a name of that sort made
+pub record GrowsBy (P : Entity → Type 0) (H : HiddenObject → Type 0) (s t : State) : Type 0 where
   pub extends : Extends s.types.records t.types.records
   pub begun : (n : ℕ) → slice_get s.types.opened n ≡ Some true
       → (slice_get t.types.opened n ≡ Some true) × (slice_get t.types.records n ≡ slice_get s.types.records n)
@@ -47,6 +48,7 @@ pub record GrowsBy (P : Entity → Type 0) (s t : State) : Type 0 where
   pub deep : (i : ℕ) (e : List ℕ × Entry) → slice_get more i ≡ Some e → e.1.depth ≡ s.scopes.depth
   pub entered : (i : ℕ) (e : List ℕ × Entry) → slice_get more i ≡ Some e → HasEntity P t e.1.place
   pub hidden : Longer s.made.hidden t.made.hidden
+  pub objects : (k : ℕ) (h : HiddenObject) → slice_get t.made.hidden k ≡ Some h → (slice_get s.made.hidden k ≡ Some h) ⊎ H h
   pub counting : t.made.counting ≡ s.made.counting
   pub body : t.body ≡ s.body
   pub functions : t.made.functions ≡ s.made.functions
@@ -54,13 +56,13 @@ pub record GrowsBy (P : Entity → Type 0) (s t : State) : Type 0 where
   pub here : (name : List ℕ) (e : Entry) → entry_here s name ≡ Some e → entry_here t name ≡ Some e
   pub sound : (pending : Option Slot) → Sound pending s → Sound pending t
 
--- within expressions and types, where the names that are entered are those of enumerations
+-- within expressions and types, where the names that are entered are those of enumerations, and the objects strings
 abbrev pub Grows : State → State → Type 0
-Grows s t = GrowsBy IsConstant s t
+Grows s t = GrowsBy IsConstant IsString s t
 
 -- in a list of parameters, whose names are entered too
 abbrev pub Widens : State → State → Type 0
-Widens s t = GrowsBy IsPlain s t
+Widens s t = GrowsBy IsPlain IsString s t
 
 pub grows_same : (s : State) → Grows s s
 grows_same s = record {
@@ -74,6 +76,7 @@ grows_same s = record {
   deep = λ i e h. (grind arith);
   entered = λ i e h. (grind arith);
   hidden = λ i x e. e;
+  objects = λ k h e. inl e;
   counting = refl;
   body = refl;
   functions = refl;
@@ -81,8 +84,8 @@ grows_same s = record {
   sound = λ pending h. h;
 }
 
-pub grows_trans : {P : Entity → Type 0} {s t u : State} → GrowsBy P s t → GrowsBy P t u → GrowsBy P s u
-grows_trans {P} {s} {t} {u} a b = record {
+pub grows_trans : {P : Entity → Type 0} {H : HiddenObject → Type 0} {s t u : State} → GrowsBy P H s t → GrowsBy P H t u → GrowsBy P H s u
+grows_trans {P} {H} {s} {t} {u} a b = record {
   extends = extends_trans a.extends b.extends;
   begun = λ n e. let x = a.begun n e in let y = b.begun n x.0 in (y.0, y.1 ∙ x.1);
   linked = b.linked ∙ a.linked;
@@ -93,6 +96,7 @@ grows_trans {P} {s} {t} {u} a b = record {
   deep = λ i e h. by_place i e (get_either a.more b.more i e h);
   entered = λ i e h. by_entity i e (get_either a.more b.more i e h);
   hidden = λ i x e. b.hidden i x (a.hidden i x e);
+  objects = λ k h e. by_object k h (b.objects k h e);
   counting = b.counting ∙ a.counting;
   body = b.body ∙ a.body;
   functions = b.functions ∙ a.functions;
@@ -100,6 +104,10 @@ grows_trans {P} {s} {t} {u} a b = record {
   sound = λ pending h. b.sound pending (a.sound pending h);
 }
   where
+    by_object : (k : ℕ) (h : HiddenObject) → (slice_get t.made.hidden k ≡ Some h) ⊎ H h → (slice_get s.made.hidden k ≡ Some h) ⊎ H h
+    by_object k h (inl e) = a.objects k h e
+    by_object k h (inr x) = inr x
+
     by_place : (i : ℕ) (e : List ℕ × Entry) → (slice_get a.more i ≡ Some e) ⊎ ((j : ℕ) × (slice_get b.more j ≡ Some e)) → e.1.depth ≡ s.scopes.depth
     by_place i e (inl h) = a.deep i e h
     by_place i e (inr h) = b.deep h.0 e h.1 ∙ a.depth
@@ -107,6 +115,37 @@ grows_trans {P} {s} {t} {u} a b = record {
     by_entity : (i : ℕ) (e : List ℕ × Entry) → (slice_get a.more i ≡ Some e) ⊎ ((j : ℕ) × (slice_get b.more j ≡ Some e)) → HasEntity P u e.1.place
     by_entity i e (inl h) = let x = a.entered i e h in (x.0, b.entities e.1.place x.0 x.1, x.2)
     by_entity i e (inr h) = b.entered h.0 e h.1
+
+-- in the initialisers of locals, which are made too
+abbrev pub IsAny : HiddenObject → Type 0
+IsAny h = Unit {0}
+
+abbrev pub Raises : State → State → Type 0
+Raises s t = GrowsBy IsConstant IsAny s t
+
+pub raises_so : {s t : State} → Grows s t → Raises s t
+raises_so {s} {t} g = record {
+  extends = g.extends;
+  begun = g.begun;
+  linked = g.linked;
+  entities = g.entities;
+  depth = g.depth;
+  more = g.more;
+  ordinary = g.ordinary;
+  deep = g.deep;
+  entered = g.entered;
+  hidden = g.hidden;
+  objects = λ k h e. by k h (g.objects k h e);
+  counting = g.counting;
+  body = g.body;
+  functions = g.functions;
+  here = g.here;
+  sound = g.sound;
+}
+  where
+    by : (k : ℕ) (h : HiddenObject) → (slice_get s.made.hidden k ≡ Some h) ⊎ IsString h → (slice_get s.made.hidden k ≡ Some h) ⊎ Unit {0}
+    by k h (inl e) = inl e
+    by k h (inr x) = inr tt
 
 pub widens_so : {s t : State} → Grows s t → Widens s t
 widens_so {s} {t} g = record {
@@ -120,6 +159,7 @@ widens_so {s} {t} g = record {
   deep = g.deep;
   entered = λ i e h. let x = g.entered i e h in (x.0, x.1, constant_plain x.0 x.2);
   hidden = g.hidden;
+  objects = g.objects;
   counting = g.counting;
   body = g.body;
   functions = g.functions;

@@ -1,5 +1,5 @@
 -- The symbols of which addresses are made: each that stands in an accepted expression is known.
-use Rattle.std.specs.Prelude.{ℕ, ◌≡◌, ◌+◌, ◌-◌, ◌*◌, ◌^◌, ◌&&◌, nat_le, Bool, true, false, Option, None, Some, option_and_then, List, [], ◌∷◌, ◌++◌, length, slice_get, if◌then◌else◌, refl}
+use Rattle.std.specs.Prelude.{ℕ, ◌≡◌, ◌+◌, ◌-◌, ◌*◌, ◌^◌, ◌&&◌, nat_le, Bool, true, false, Option, None, Some, option_and_then, List, [], length, slice_get, if◌then◌else◌, refl}
 use Rattle.std.specs.Option.{option_map_or}
 use Rattle.std.proofs.Common.{ap, sym, subst, ◌∙◌}
 use Rattle.pw_literal.specs.Characters.{string_bytes_of}
@@ -31,7 +31,7 @@ use Rattle.pw_rules.specs.Leaves.{entity_operand, identifier_rule, number_rule, 
 use Rattle.pw_rules.specs.Derivations.{spot_of}
 use Rattle.pw_rules.specs.Limits.{Spot}
 use Rattle.pw_rules.specs.Linkage.{symbol_at, symbol_of_linked}
-use Rattle.pw_rules.specs.Operands.{Operand, value_operand, cast_to, promote, promoted_type, common_type, value_by, value_of, type_in}
+use Rattle.pw_rules.specs.Operands.{Operand, value_operand, cast_to, promoted_type, common_type, value_by, value_of, type_in}
 use Rattle.pw_rules.specs.Operators.{value_rule, unary_node, sign_rule, deref, deref_rule, address_rule, step_rule, size_rule, type_size_rule, cast_rule, binary_node, sum_node, difference_node, shift_node, comparison_node, arithmetic_node, in_common, both_integral, typed_binary, met_type, binary_rule, logic_rule, operation_rule, conditional_rule, assign_rule, compound_node, compound_operator, compound_rule, assignment_rule, index_rule, call_node, call_rule, member_of, member_operand, select_rule, dot_rule, arrow_rule}
 use Rattle.pw_rules.specs.Phrases.{expr_rule, postfixes_rule, operations_rule}
 use Rattle.pw_rules.specs.SpecifierLists.{nothing_gathered}
@@ -39,22 +39,16 @@ use Rattle.pw_rules.specs.States.{State, LinkedName, HiddenObject, Entity, TypeN
 use Rattle.pw_rules.specs.declared.names.Entry.{Entry}
 use Rattle.pw_rules.specs.declared.names.Slot.{Slot}
 use Rattle.pw_well_typed.specs.Lawful.{IsLawful}
-use Rattle.pw_well_typed.proofs.Walking.{Post, post_bind, post_both, post_granted}
+use Rattle.pw_well_typed.proofs.Walking.{Post, post_bind, post_both, post_granted, after_any}
 use Rattle.pw_well_typed.proofs.Lists.{some_same, never_some, get_last}
 use Rattle.pw_well_typed.proofs.Types.{no}
 use Rattle.pw_well_typed.proofs.States.{Fine, FineValue, value_later, Runs, Grows, grows_trans}
 use Rattle.pw_well_typed.proofs.Sound.{Sound}
+use Rattle.pw_well_typed.proofs.Settled.{IsHere}
 use Rattle.pw_well_typed.proofs.Operations.{value_runs, step_runs, operation_runs, index_runs, AreFine, call_runs, dot_runs, arrow_runs}
 use Rattle.pw_well_typed.proofs.Leaves.{GoodType, GoodGathered, GoodSpecified, GoodDeclared, specified_runs, named_type_runs}
 use Rattle.pw_well_typed.proofs.Phrases.{expr_post, specifiers_post, declarator_post, arguments_post, later_type}
-use Rattle.pw_well_typed.proofs.FunctionTypes.{after_any}
 use Rattle.pw_well_typed.proofs.Changes.{in_sizeof}
-
--- an object without a name, or a name with linkage
-abbrev pub IsHere : State → Symbol → Type 0
-IsHere s (Hidden k) = (h : HiddenObject) × (slice_get s.made.hidden k ≡ Some h)
-IsHere s (External name) = (n : ℕ) × (l : LinkedName) × (slice_get s.types.linked n ≡ Some l) × (symbol_of_linked l ≡ External name)
-IsHere s (Internal name) = (n : ℕ) × (l : LinkedName) × (slice_get s.types.linked n ≡ Some l) × (symbol_of_linked l ≡ Internal name)
 
 -- in the forms of which addresses are made
 abbrev mutual

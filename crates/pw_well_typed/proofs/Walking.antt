@@ -61,3 +61,21 @@ met_left (c ∷ p) q met = (met.0, met_left p q met.1)
 pub met_right : (p q : Point) → AreMet (p ++ q) → AreMet q
 met_right [] q met = met
 met_right (c ∷ p) q met = met_right p q met.1
+
+-- what holds of whatever a walk makes holds of all that it makes
+pub post_any : {A : Type 0} (w : Walk A) (P : A → Type 0) → ((a : A) → P a) → Post w P
+post_any (Done a) P h = h a
+post_any (Passing p rest) P h = λ met. post_any rest P h
+post_any (Closed constraint token) P h = tt
+
+abbrev Whatever : {A : Type 0} → A → Type 0
+Whatever a = Unit {0}
+
+pub after_any : {A B : Type 0} (w : Walk A) (next : A → Walk B) (P : B → Type 0) → ((a : A) → Post (next a) P) → Post (bind w next) P
+after_any w next P h = post_bind w next Whatever P (post_any w Whatever (λ a. tt)) (λ a k. h a)
+
+-- what a walk makes under a premise
+pub post_if : {A : Type 0} (C : Type 0) (w : Walk A) (P : A → Type 0) → (C → Post w P) → Post w (λ a. C → P a)
+post_if C (Done a) P h = h
+post_if C (Passing p rest) P h = λ met. post_if C rest P (λ c. h c met)
+post_if C (Closed constraint token) P h = tt

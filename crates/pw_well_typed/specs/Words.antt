@@ -1,6 +1,10 @@
--- The numbers of a typed tree: each in an expression that is evaluated is one of 32 bits, as in each tree that the code makes.
-use Rattle.std.specs.Prelude.{Option, None, Some, All}
-use Rattle.pw_types.specs.TypedTrees.{Expression, Initialiser, Statement, Statements, NoStatement, OneStatement, Arms, NoArm, Arm, Otherwise, NoElse, Else, FunctionValue, ModuleValue}
+-- The numbers of a typed tree: each in an expression that is evaluated is one of 32 bits, as in each tree that the code makes. And
+-- the strings of a module.
+use Rattle.std.specs.Prelude.{ℕ, ◌≡◌, ◌<◌, ◌≤◌, ◌^◌, false, Option, None, Some, List, All, Contains}
+use Rattle.pw_value.specs.Limits.{size_limit}
+use Rattle.pw_types.specs.declared.kind.IntKind.TheVariants as K
+use Rattle.pw_types.specs.TypeTrees.{Int, Array, Qualified, type_of}
+use Rattle.pw_types.specs.TypedTrees.{Hidden, Expression, Initialiser, Statement, Statements, NoStatement, OneStatement, Arms, NoArm, Arm, Otherwise, NoElse, Else, FunctionValue, ItemValue, ItemBytes, ItemAddress, PlacedItem, GlobalValue, ModuleValue}
 use Rattle.pw_types.specs.TypedTrees as T
 use Rattle.pw_well_typed.specs.Lawful.{AreWords}
 
@@ -39,3 +43,24 @@ abbrev mutual
   pub WordsInElse : Otherwise → Type 0
   WordsInElse NoElse = Unit {0}
   WordsInElse (Else s) = WordsInStatement s
+
+-- ---- objects and modules
+
+-- of an address the offset
+abbrev pub HasOffset : ItemValue → Type 0
+HasOffset (ItemBytes bytes) = Unit {0}
+HasOffset (ItemAddress symbol offset) = offset < 2 ^ 32
+
+abbrev pub WordsInItems : List PlacedItem → Type 0
+WordsInItems items = All (λ p. HasOffset p.item) items
+
+-- each number of a module is one of 32 bits, as in each module that the code makes
+pub record AreWordsInModule (m : ModuleValue) : Type 0 where
+  pub functions : All (λ f. WordsInStatement f.body) m.functions
+  pub objects : All (λ g. WordsInItems g.items) m.globals
+
+-- No string literal is longer than an object can be, as in each text that can be read: an object without a name that is an array of
+-- so many characters keeps the limit on sizes.
+abbrev pub AreShortStrings : ModuleValue → Type 0
+AreShortStrings m =
+    (g : GlobalValue) (k n : ℕ) → Contains m.globals g → g.name ≡ Hidden k → type_of g.ty ≡ Array (Qualified (Int K.Char) false false) (Some n) → n ≤ size_limit

@@ -15,7 +15,7 @@ ghost use Rattle.pw_rules.specs.Operands.{Operand};
 ghost use Rattle.pw_rules.specs.Phrases.{expr_rule};
 ghost use Rattle.pw_rules.specs.States.{State, start};
 ghost use Rattle.pw_well_typed.specs.Lawful.{AreWords, Denotes, IsLawful};
-ghost use Rattle.pw_well_typed.specs.Words.{WordsInStatement};
+ghost use Rattle.pw_well_typed.specs.Words.{AreShortStrings, AreWordsInModule, WordsInStatement};
 
 /// Nothing is declared at a module's start, so nothing that is known there is unlawful.
 pub fn start_is_lawful()
@@ -82,10 +82,17 @@ pub fn accepted_locals_are_objects()
         → All (λ f. All (λ l. IsObjectType m.records (type_of l.ty) × IsKnownType m.records (type_of l.ty)) f.locals) m.functions }
 {}
 
-/// A module that checking accepts is well typed if each of its objects is (`IsGlobal`): the types, the functions with their
-/// statements, the names that it shares, and what is defined once follow. Each number in its functions is one of 32 bits, as in
-/// each tree that the code makes, and the syntax tree is one of C90's grammar.
-pub fn accepted_is_well_typed_with_its_objects()
-    ensures { (tree : Module) (m : ModuleValue) → WellFormedModule tree → Checks tree (Ok m) → All (λ f. WordsInStatement f.body) m.functions
-        → All (IsGlobal m) m.globals → WellTyped m }
+/// Each object of a module that checking accepts has a known type, which is complete and keeps the limit on sizes, and the items of
+/// its first bytes stand in it one behind the other: bytes, or addresses of what is known (ISO C90 6.5.7, 6.7.2). Two premises: each
+/// number of the module is one of 32 bits, as in each module that the code makes, and no string literal is longer than an object
+/// can be.
+pub fn accepted_objects_are_well_typed()
+    ensures { (tree : Module) (m : ModuleValue) → Checks tree (Ok m) → AreWordsInModule m → AreShortStrings m → All (IsGlobal m) m.globals }
+{}
+
+/// A module that checking accepts is well typed (`WellTyped`): its types, its objects with their items, its functions with their
+/// statements, and the names that it shares. Three premises: the syntax tree is one of C90's grammar, each number of the module is
+/// one of 32 bits, as in each module that the code makes, and no string literal is longer than an object can be.
+pub fn accepted_is_well_typed()
+    ensures { (tree : Module) (m : ModuleValue) → WellFormedModule tree → Checks tree (Ok m) → AreWordsInModule m → AreShortStrings m → WellTyped m }
 {}

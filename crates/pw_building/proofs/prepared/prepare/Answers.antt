@@ -5,7 +5,7 @@ use Rattle.pw_modules.specs.Views.{source}
 use Rattle.pw_build.specs.Phases.{IsLine, refused_line}
 use Rattle.pw_kept.specs.Files.{changed_files}
 use Rattle.pw_building.specs.Building.{BuildComes}
-use Rattle.pw_building.specs.Genuine.{IsGenuineFile}
+use Rattle.pw_building.specs.Genuine.{IsOwnFile}
 use Rattle.pw_building.specs.Outcomes.{FaultFound, outcome_of}
 use Rattle.pw_building.proofs.FileLemmas.{on_modules}
 use Rattle.pw_kept.proofs.KeptLemmas.{at_first}
@@ -16,9 +16,9 @@ returns-in-Ok-clause-comes g c =
     on_modules (λ told. map source c.in-Ok.modules.items ≡ modules_of told.files) (λ told. IfOk c.prepared_of.result (λ p. BuildComes told.files c.args.opts.now.colours c.args.opts.now.stack (Ok (outcome_of p))))
     (g.S.Store.told c.args.store.now) _ c.in-Ok.ensures.modules c.few_modules.ensures.same (rw c.deref.ensures.value at c.prepared_of.ensures.comes)
 
-pub returns-in-Ok-clause-genuine : goal.returns-in-Ok-clause-genuine
-returns-in-Ok-clause-genuine g c =
-    at_first (λ told. IfOk c.prepared_of.result (λ p. AllByRecursion IsGenuineFile (changed_files p))) (g.S.Store.told c.args.store.now) _ c.few_modules.ensures.same c.prepared_of.ensures.genuine
+pub returns-in-Ok-clause-own : goal.returns-in-Ok-clause-own
+returns-in-Ok-clause-own g c =
+    at_first (λ told. IfOk c.prepared_of.result (λ p. AllByRecursion IsOwnFile (changed_files p))) (g.S.Store.told c.args.store.now) _ c.few_modules.ensures.same c.prepared_of.ensures.own
 
 pub returns-in-Ok-clause-fault : goal.returns-in-Ok-clause-fault
 returns-in-Ok-clause-fault g c =

@@ -7,10 +7,10 @@ use Rattle.pw_building.proofs.prepared.prepared_of.Goals as goal
 
 pub returns-in_ok-compared-in-Ok-clause-comes : goal.returns-in_ok-compared-in-Ok-clause-comes
 returns-in_ok-compared-in-Ok-clause-comes g c =
-    comes_prepared c.args.opts.now (g.S.Store.told c.args.store.now) _ c.args.modules.now c.in-Ok.files c.in_ok-compared-in-Ok.field-0 _ c.in-Ok.ensures.files c.program_of.ensures.same refl c.in_ok-compared-in-Ok.ensures.prepared
+    comes_prepared c.args.opts.now (g.S.Store.told c.args.store.now) _ c.args.modules.now c.in-Ok.files c.in_ok-compared-in-Ok.field-0 _ c.in-Ok.ensures.files c.in-Ok.ensures.bytes c.program_of.ensures.same refl c.in_ok-compared-in-Ok.ensures.prepared
 
-pub returns-in_ok-compared-in-Ok-clause-genuine : goal.returns-in_ok-compared-in-Ok-clause-genuine
-returns-in_ok-compared-in-Ok-clause-genuine g c =
+pub returns-in_ok-compared-in-Ok-clause-own : goal.returns-in_ok-compared-in-Ok-clause-own
+returns-in_ok-compared-in-Ok-clause-own g c =
     good_prepared c.args.opts.now (g.S.Store.told c.args.store.now) _ (map source c.args.modules.now) (λ told. map (λ m. kept_object told.files m.name) c.args.modules.now) c.in-Ok.files c.in_ok-compared-in-Ok.field-0 _
     c.in-Ok.ensures.files c.in-Ok.ensures.bytes c.program_of.ensures.same c.in_ok-compared-in-Ok.ensures.prepared
 

@@ -1,4 +1,4 @@
-use Rattle.pw_well_typed.proofs.accepted_is_well_typed_with_its_objects.Goals as goal
+use Rattle.pw_well_typed.proofs.accepted_is_well_typed.Goals as goal
 use Rattle.pw_well_typed.proofs.Whole.{whole}
 
 pub returns : goal.returns
