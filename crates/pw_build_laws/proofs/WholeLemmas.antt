@@ -8,7 +8,7 @@ use Rattle.std.proofs.lemmas.Slice.Eq.{bytes_eq-Decides}
 use Rattle.pw_io.specs.Files.{Files, Told, after_put, front_of}
 use Rattle.pw_value.specs.Limits.{kept_limit}
 use Rattle.pw_object.specs.declared.object.Object.{Object}
-use Rattle.pw_modules.specs.Modules.{modules_of}
+use Rattle.pw_modules.specs.Modules.{module_map, modules_of}
 use Rattle.pw_answer.specs.Effects.{NamedFile, after_puts}
 use Rattle.pw_making.specs.Programs.{Parts}
 use Rattle.pw_making.specs.Kept.{all_fresh}
@@ -128,9 +128,8 @@ holds_program laws told stack parts outcome o =
       database = o.database;
       database_file = o.database_file;
       database_stands = ap counted db_third ∙ db_second;
-      names = o.image_names;
       image = outcome.image;
-      image_file = o.image_file;
+      image_file = (o.image_names, o.image_file);
       image_stands = changed_holds laws told.files second img outcome.image (img_second ∙ img_first);
     })
 
@@ -139,7 +138,6 @@ all_anew parts stack files h = record {
   database = h.database;
   database_file = h.database_file;
   database_stands = h.database_stands;
-  names = h.names;
   image = h.image;
   image_file = h.image_file;
   image_stands = h.image_stands;
@@ -147,7 +145,7 @@ all_anew parts stack files h = record {
 
 pub holds_full_build : FileLaws
     → ((files : Files) (colours stack : ℕ) (a : Result Parts BuildFault) → KeepsGenuine files → Builds (modules_of files) (kept_objects files) colours stack a → Builds (modules_of files) [] colours stack (built_anew a))
-    → (told : Told) (colours stack : ℕ) (outcome : Outcome) → KeepsGenuine told.files → BuildComes told.files colours stack (Ok outcome) → HoldsFullBuild (modules_of told.files) colours stack (after_puts told outcome.puts).files
+    → (told : Told) (colours stack : ℕ) (outcome : Outcome) → KeepsGenuine told.files → BuildComes told.files colours stack (Ok outcome) → HoldsFullBuild (module_map told.files) colours stack (after_puts told outcome.puts).files
 holds_full_build laws full told colours stack outcome keeps comes = (
   all_fresh comes.0,
   full told.files colours stack (Ok comes.0) keeps comes.1,

@@ -1,13 +1,11 @@
 -- The program of a full build, as it stands in the files of a store.
-use Rattle.std.specs.Prelude.{◌≡◌, ℕ, List, [], codes, Some, Ok}
+use Rattle.std.specs.Prelude.{◌≡◌, ℕ, List, codes, Some, Ok}
 use Rattle.pw_io.specs.Files.{Files}
-use Rattle.pw_modules.specs.Modules.{Source}
 use Rattle.pw_db.specs.Database.{IsDatabaseFile}
-use Rattle.pw_image.specs.Image.{IsImageFile}
-use Rattle.pw_link.specs.Linking.{linked}
 use Rattle.pw_making.specs.Programs.{Parts}
-use Rattle.pw_build.specs.Builds.{Builds}
+use Rattle.pw_build.specs.Builds.{FullBuild, Texts}
 use Rattle.pw_kept.specs.Kept.{counted, kept_bytes}
+use Rattle.pw_building.specs.Full.{IsImageOf}
 
 -- these bytes stand under the name, as far as a kept file counts
 abbrev pub HoldsFile : Files → List ℕ → List ℕ → Type 0
@@ -18,11 +16,10 @@ pub record HoldsProgram (parts : Parts) (stack : ℕ) (files : Files) : Type 0 w
   pub database : List ℕ
   pub database_file : IsDatabaseFile database parts.database
   pub database_stands : HoldsFile files (codes "prog.db") database
-  pub names : List (List ℕ)
   pub image : List ℕ
-  pub image_file : IsImageFile image (record { names = names; image = linked parts.objects stack })
+  pub image_file : IsImageOf parts stack image
   pub image_stands : HoldsFile files (codes "prog.img") image
 
--- those of the full build of modules, in which nothing is kept
-abbrev pub HoldsFullBuild : List Source → ℕ → ℕ → Files → Type 0
-HoldsFullBuild sources colours stack files = (parts : Parts) × Builds sources [] colours stack (Ok parts) × HoldsProgram parts stack files
+-- those of the full build of texts stand there
+abbrev pub HoldsFullBuild : Texts → ℕ → ℕ → Files → Type 0
+HoldsFullBuild texts colours stack files = (parts : Parts) × FullBuild texts colours stack (Ok parts) × HoldsProgram parts stack files

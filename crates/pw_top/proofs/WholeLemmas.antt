@@ -2,7 +2,7 @@
 use Rattle.std.proofs.Common.{◌≡◌, ℕ, List, Option, Some, None, Result, Ok, Err, sym, ap, ◌∙◌, subst}
 use Rattle.std.specs.Prelude.{IfSome, IsSomeAnd}
 use Rattle.pw_io.specs.Files.{Told}
-use Rattle.pw_modules.specs.Modules.{modules_of}
+use Rattle.pw_modules.specs.Modules.{module_map}
 use Rattle.pw_answer.specs.declared.answer.Answer.{Answer}
 use Rattle.pw_answer.specs.declared.answer.Answer.TheVariants.{Done}
 use Rattle.pw_answer.specs.Effects.{Effect, PutsFiles, after_puts}
@@ -19,7 +19,7 @@ use Rattle.pw_top.specs.Commands.{BuildsWhole, IfDone}
 use Rattle.pw_top.specs.Does.{Does, DoesAs}
 
 abbrev pub BuildsLeave : Type 0
-BuildsLeave = (told : Told) (colours stack : ℕ) (outcome : Outcome) → KeepsGenuine told.files → BuildComes told.files colours stack (Ok outcome) → HoldsFullBuild (modules_of told.files) colours stack (after_puts told outcome.puts).files
+BuildsLeave = (told : Told) (colours stack : ℕ) (outcome : Outcome) → KeepsGenuine told.files → BuildComes told.files colours stack (Ok outcome) → HoldsFullBuild (module_map told.files) colours stack (after_puts told outcome.puts).files
 
 no_done : (fault : BuildFault) → fault_answer fault ≡ Done → ⊥
 no_done (build.Refused name refusal) e = cc
@@ -28,14 +28,14 @@ no_done build.StoreFault e = cc
 no_done build.NoMemory e = cc
 
 built_whole : BuildsLeave → (comes : Result Outcome BuildFault) (colours stack : ℕ) (told : Told) (new : Option Told) (input : List ℕ) (effect : Effect) → BuildComes told.files colours stack comes → effect ≡ built_effect comes input
-    → effect.answer ≡ Done → PutsFiles effect.puts Done told new → KeepsGenuine told.files → IsSomeAnd new (λ now. HoldsFullBuild (modules_of told.files) colours stack now.files)
+    → effect.answer ≡ Done → PutsFiles effect.puts Done told new → KeepsGenuine told.files → IsSomeAnd new (λ now. HoldsFullBuild (module_map told.files) colours stack now.files)
 built_whole law (Ok outcome) colours stack told new input effect c is done puts keeps =
     let same : new ≡ Some (after_puts told outcome.puts) = subst (λ (x : Effect). PutsFiles x.puts Done told new) is puts in
-    subst (λ (o : Option Told). IsSomeAnd o (λ now. HoldsFullBuild (modules_of told.files) colours stack now.files)) (sym same) (law told colours stack outcome keeps c)
+    subst (λ (o : Option Told). IsSomeAnd o (λ now. HoldsFullBuild (module_map told.files) colours stack now.files)) (sym same) (law told colours stack outcome keeps c)
 built_whole law (Err fault) colours stack told new input effect c is done puts keeps = absurd (no_done fault (ap (λ (x : Effect). x.answer) (sym is) ∙ done))
 
 done_whole : BuildsLeave → (colours stack : ℕ) (answer : Answer) (told : Told) (new : Option Told) (input : List ℕ) (rest taken taken' : Option (List ℕ)) → Does (BuildComesTo told.files colours stack input) answer told new input rest taken taken'
-    → IfDone answer (KeepsGenuine told.files → IsSomeAnd new (λ now. HoldsFullBuild (modules_of told.files) colours stack now.files))
+    → IfDone answer (KeepsGenuine told.files → IsSomeAnd new (λ now. HoldsFullBuild (module_map told.files) colours stack now.files))
 done_whole law colours stack Done told new input rest taken taken' d =
     λ keeps. built_whole law d.found.1.0 colours stack told new input d.found.0 d.found.1.1 d.found.1.2 d.found.2 (d.puts d.found.0 d.found.1) keeps
 done_whole law colours stack _ told new input rest taken taken' d = tt

@@ -4,7 +4,7 @@ use Rattle.pw_io.specs.Files.{Files, Told}
 use Rattle.pw_answer.specs.declared.answer.Answer.{Answer}
 use Rattle.pw_answer.specs.declared.answer.Answer.TheVariants.{Done, Usage}
 use Rattle.pw_answer.specs.Outcomes.{Answers}
-use Rattle.pw_modules.specs.Modules.{modules_of}
+use Rattle.pw_modules.specs.Modules.{module_map, modules_of}
 use Rattle.pw_build.specs.Phases as phases
 use Rattle.pw_go.specs.FullBuild.{full_build}
 use Rattle.pw_go.specs.Going.{IsNoUsage, refused_line}
@@ -77,7 +77,7 @@ IfDone _ P = Unit {0}
 
 -- A build that is done leaves the database and the image of the full build of the modules, where the kept objects were genuine.
 abbrev pub BuildsWhole : Option Command → Answer → Told → Option Told → Type 0
-BuildsWhole (Some (Build colours stack)) answer told new = IfDone answer (KeepsGenuine told.files → IsSomeAnd new (λ now. HoldsFullBuild (modules_of told.files) colours stack now.files))
+BuildsWhole (Some (Build colours stack)) answer told new = IfDone answer (KeepsGenuine told.files → IsSomeAnd new (λ now. HoldsFullBuild (module_map told.files) colours stack now.files))
 BuildsWhole _ answer told new = Unit {0}
 
 -- the line on which a module is refused
