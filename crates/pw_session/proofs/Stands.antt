@@ -9,8 +9,6 @@ use Rattle.pw_building.specs.Genuine.{KeepsGenuine}
 use Rattle.pw_script.specs.Reading.{IsReadInPart}
 use Rattle.pw_session.specs.declared.opts.SessionOpts.{SessionOpts}
 use Rattle.pw_session.specs.Bench.{BenchComes, ObeysBench}
-use Rattle.pw_answer.specs.Outcomes.{Answers}
-use Rattle.pw_session.specs.Session.{lines_of, script_answer}
 use Rattle.pw_session.specs.Changes.{MakesSome}
 use Rattle.pw_session.specs.Outcomes.{LeavesScript, ObeysSession}
 
@@ -44,7 +42,3 @@ left (Some script) = ([], refl)
 
 pub benches : (number : ℕ) (opts : SessionOpts) (taken : Option (List ℕ)) (input : List ℕ) → ObeysBench (BenchComes number opts input) NoMemory taken taken
 benches number opts taken input = record { answers = λ e d. tt; output = λ e d. none_out e.output taken; found = tt }
-
-pub script : (rest : Option (List ℕ)) → IfSome rest (λ script. Answers (script_answer (lines_of script).bad) NoMemory)
-script None = tt
-script (Some text) = tt

@@ -16,19 +16,23 @@ use Rattle.pw_answer.specs.Outcomes.{Answers, PutsOut}
 use Rattle.pw_gen.specs.Generator.{functions_of_a_module, generated}
 use Rattle.pw_build.specs.declared.fault.BuildFault.{BuildFault}
 use Rattle.pw_build.specs.Phases.{refused_line}
-use Rattle.pw_building.specs.Building.{BuildComes, Outcome}
+use Rattle.pw_building.specs.Building.{Outcome}
 use Rattle.pw_building.specs.Outcomes.{fault_answer}
 use Rattle.pw_running.specs.Running.{run_answer}
 use Rattle.pw_session.specs.declared.opts.SessionOpts.{SessionOpts}
+use Rattle.pw_session.specs.Builds.{BuildsTo}
 use Rattle.pw_session.specs.Runs.{is_stop, runs_as, stop_text}
 
 -- how many modules are made beside the main
 abbrev pub bench_modules : ℕ
 bench_modules = 64
 
--- the files of the program that is made from a number, whose names all differ
+-- the files of the program of so many modules that is made from a number, whose names all differ
+unfoldable pub made_files : ℕ → ℕ → Files
+made_files number modules = finite.from_entries (reverse (generated number modules))
+
 abbrev pub bench_files : ℕ → Files
-bench_files number = finite.from_entries (reverse (generated number bench_modules))
+bench_files number = made_files number bench_modules
 
 -- how many functions the program has: those of the modules, and the main
 abbrev pub bench_functions : ℕ
@@ -60,7 +64,7 @@ BenchOver number budget input (Err fault) effect = effect ≡ answers_alone (fau
 -- what `bench` with a number comes to
 abbrev pub BenchComes : ℕ → SessionOpts → List ℕ → Effect → Type 0
 BenchComes number opts input effect =
-    (comes : Result Outcome BuildFault) × BuildComes (bench_files number) opts.build.colours opts.build.stack comes × BenchOver number opts.budget input comes effect
+    (comes : Result Outcome BuildFault) × BuildsTo (bench_files number) opts.build comes × BenchOver number opts.budget input comes effect
 
 -- what was answered is no fault and no want of memory, and then it comes to that
 abbrev pub IsBenchFound : (Effect → Type 0) → Answer → Type 0

@@ -1,4 +1,5 @@
 pub mod Changes
+pub mod Builds
 pub mod Runs
 pub mod Session
 pub mod Outcomes

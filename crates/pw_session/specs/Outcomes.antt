@@ -9,6 +9,7 @@ use Rattle.pw_answer.specs.Answers.{line_text}
 use Rattle.pw_build.specs.declared.fault.BuildFault.{BuildFault}
 use Rattle.pw_build.specs.declared.fault.BuildFault.TheVariants as build
 use Rattle.pw_building.specs.Outcomes.{fault_answer}
+use Rattle.pw_driving.specs.Driving.{IsPrintAnswer}
 use Rattle.pw_script.specs.declared.line.TakenLine.{TakenLine}
 use Rattle.pw_script.specs.declared.line.ScriptFault.{ScriptFault}
 use Rattle.pw_script.specs.declared.line.ScriptFault.TheVariants as script
@@ -71,13 +72,6 @@ IsLineAnswer WriteFault = Unit {0}
 IsLineAnswer StoreFault = Unit {0}
 IsLineAnswer NoMemory = Unit {0}
 IsLineAnswer _ = ⊥
-
--- those of a line that leaves the store alone
-abbrev pub IsSayAnswer : Answer → Type 0
-IsSayAnswer Done = Unit {0}
-IsSayAnswer WriteFault = Unit {0}
-IsSayAnswer NoMemory = Unit {0}
-IsSayAnswer _ = ⊥
 
 abbrev pub image_view : Option (Vec ℕ Global) → Option (List ℕ)
 image_view = option_map (λ image. image.items)
@@ -144,4 +138,4 @@ IsReadAnswer _ = ⊥
 abbrev pub SaysFault : BuildFault → ℕ → Answer → Option (List ℕ) → Option (List ℕ) → Type 0
 SaysFault build.StoreFault line answer taken taken' = (answer ≡ StoreFault) × (taken' ≡ taken)
 SaysFault build.NoMemory line answer taken taken' = (answer ≡ NoMemory) × (taken' ≡ taken)
-SaysFault fault line answer taken taken' = PutsOut (line_text line (fault_answer fault)) answer taken taken' × IsSayAnswer answer
+SaysFault fault line answer taken taken' = PutsOut (line_text line (fault_answer fault)) answer taken taken' × IsPrintAnswer answer

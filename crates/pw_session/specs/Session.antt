@@ -1,7 +1,6 @@
 -- A session: the lines of a script, obeyed one behind another over the files of a store.
 use Rattle.std.specs.Prelude.{◌≡◌, ℕ, zero, suc, ◌+◌, ◌-◌, List, [], ◌∷◌, ◌++◌, codes, length, map, Option, Some, None, Result, Ok, Err}
 use Rattle.std.specs.Option.{option_map_or}
-use Rattle.sha2.specs.Sha256.{sha256}
 use Rattle.pw_io.specs.Files.{Told}
 use Rattle.pw_modules.specs.Modules.{modules_of}
 use Rattle.pw_answer.specs.declared.answer.Answer.{Answer}
@@ -9,11 +8,12 @@ use Rattle.pw_answer.specs.declared.answer.Answer.TheVariants.{Done, BadScript}
 use Rattle.pw_answer.specs.Answers.{line_text}
 use Rattle.pw_build.specs.declared.fault.BuildFault.{BuildFault}
 use Rattle.pw_build.specs.Phases.{refused_line}
-use Rattle.pw_building.specs.Building.{BuildComes, Outcome}
-use Rattle.pw_building.specs.Lines.{report_lines}
+use Rattle.pw_building.specs.Building.{Outcome}
 use Rattle.pw_building.specs.Outcomes.{fault_answer}
+use Rattle.pw_driving.specs.Driving.{outcome_lines}
 use Rattle.pw_script.specs.Script.{LineValue, PutText, RemoveText, BuildProgram, RunProgram, first_line}
 use Rattle.pw_session.specs.declared.opts.SessionOpts.{SessionOpts}
+use Rattle.pw_session.specs.Builds.{BuildsTo}
 use Rattle.pw_session.specs.Changes.{Change, Puts, Removes, after_changes}
 use Rattle.pw_session.specs.Runs.{RunComes}
 
@@ -73,7 +73,7 @@ changes_as s change = record { output = codes "ok\n"; changes = change ∷ []; i
 -- A build puts its files, tells its report, and leaves its image; one that is refused tells that alone.
 abbrev pub builds_as : State → Result Outcome BuildFault → Act
 builds_as s (Ok outcome) = record {
-  output = report_lines (length outcome.rebuilt) outcome.modules (length outcome.image) (sha256 outcome.image);
+  output = outcome_lines outcome;
   changes = map Puts outcome.puts;
   image = Some outcome.image;
 }
@@ -86,7 +86,7 @@ puts_out s output = record { output = output; changes = []; image = s.image }
 abbrev pub Acts : SessionOpts → State → LineValue → Act → Type 0
 Acts opts s (PutText file text) act = act ≡ changes_as s (Puts (file, text))
 Acts opts s (RemoveText file) act = act ≡ changes_as s (Removes file)
-Acts opts s BuildProgram act = (comes : Result Outcome BuildFault) × BuildComes s.told.files opts.build.colours opts.build.stack comes × (act ≡ builds_as s comes)
+Acts opts s BuildProgram act = (comes : Result Outcome BuildFault) × BuildsTo s.told.files opts.build comes × (act ≡ builds_as s comes)
 Acts opts s (RunProgram input) act = (output : List ℕ) × RunComes s.image opts.budget input output × (act ≡ puts_out s output)
 
 -- ---- all lines

@@ -1,11 +1,10 @@
 //! Sessions.
 
 ghost use Rattle.std.specs.Prelude.{◌≡◌, IfSome, Some};
-ghost use Rattle.pw_answer.specs.Outcomes.{Answers, InputCount, OutputCount, StoreCount};
+ghost use Rattle.pw_answer.specs.Outcomes.{InputCount, OutputCount, StoreCount};
 ghost use Rattle.pw_building.specs.Genuine.{KeepsGenuine};
 ghost use Rattle.pw_building.specs.Outcomes.{AreOpts};
 ghost use Rattle.pw_session.specs.Changes.{MakesSome};
-ghost use Rattle.pw_session.specs.Session.{lines_of, script_answer};
 ghost use Rattle.pw_session.specs.Outcomes.{IsSessionAnswer, LeavesScript, ObeysSession};
 
 use crate::opts::SessionOpts;
@@ -32,7 +31,6 @@ pub fn run_session<S: Store, I: Source, O: Sink>(
     requires { AreOpts opts.now.build }
     ensures obeys { IfSome (S.told store.old) (λ told. IfSome (I.rest input.old) (λ script. ObeysSession opts.now told script result (S.told store.new) (O.taken out.old) (O.taken out.new))) }
     ensures some { IfSome (S.told store.old) (λ told. MakesSome result told (S.told store.new)) }
-    ensures script { IfSome (I.rest input.old) (λ script. Answers (script_answer (lines_of script).bad) result) }
     ensures genuine { IfSome (S.told store.old) (λ told. KeepsGenuine told.files → IfSome (S.told store.new) (λ now. KeepsGenuine now.files)) }
     ensures rest { IfSome (I.rest input.old) (λ script. LeavesScript script result (I.rest input.new)) }
     ensures store { StoreCount (S.faults store.old) (S.faults store.new) result }

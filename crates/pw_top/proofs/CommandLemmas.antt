@@ -346,7 +346,3 @@ kept_alone (Some t) = refl
 pub no_line : (told : Option Told) → IfSome told (λ t. Unit {0})
 no_line None = tt
 no_line (Some t) = tt
-
-pub no_script : (rest : Option (List ℕ)) → IfSome rest (λ script. Unit {0})
-no_script None = tt
-no_script (Some script) = tt

@@ -17,7 +17,7 @@ use Rattle.pw_go.specs.Refusals.{HoldsNoWantOfMemory}
 use Rattle.pw_words.specs.declared.commands.Command.{Command}
 use Rattle.pw_words.specs.declared.commands.Command.TheVariants.{Go, Session}
 use Rattle.pw_compiling.specs.First.{IsLine}
-use Rattle.pw_top.specs.Commands.{AnswersScript, KeepsTheRest, opts_of}
+use Rattle.pw_top.specs.Commands.{KeepsTheRest, opts_of}
 use Rattle.pw_top.specs.Does.{Does, DoesAs}
 use Rattle.pw_top.proofs.DoesLemmas.{memory_here, out_part}
 use Rattle.pw_top.proofs.SessionLemmas.{session_memory_here, session_no_memory, some_memory}
@@ -194,20 +194,6 @@ rest_memory command answer old new n h = h
 
 pub rest_told : (command : Option Command) (old new : Option Told) (answer last : Answer) → ToldAs answer last → KeepsTheRest command answer old new → KeepsTheRest command last old new
 rest_told command old new answer last t h = told_by (λ a. KeepsTheRest command a old new) answer last t h (λ n k. rest_memory command answer old new n k)
-
--- ---- the script
-
-script_memory : (command : Option Command) (script : List ℕ) → AnswersScript command script NoMemory
-script_memory (Some (Session colours stack steps)) script = tt
-script_memory command script = tt
-
-pub memory_script : (command : Option Command) (rest : Option (List ℕ)) → IfSome rest (λ script. AnswersScript command script NoMemory)
-memory_script command None = tt
-memory_script command (Some script) = script_memory command script
-
-pub script_told : (command : Option Command) (rest : Option (List ℕ)) (answer last : Answer) → ToldAs answer last → IfSome rest (λ script. AnswersScript command script answer) → IfSome rest (λ script. AnswersScript command script last)
-script_told command None answer last t h = tt
-script_told command (Some script) answer last t h = told_by (λ a. AnswersScript command script a) answer last t h (λ n k. script_memory command script)
 
 -- ---- the line
 

@@ -3,7 +3,6 @@ use Rattle.std.specs.Prelude.{◌≡◌, ℕ, List, [], ◌∷◌, codes, Option
 use Rattle.pw_io.specs.Files.{Files, Told}
 use Rattle.pw_answer.specs.declared.answer.Answer.{Answer}
 use Rattle.pw_answer.specs.declared.answer.Answer.TheVariants.{Done, Usage}
-use Rattle.pw_answer.specs.Outcomes.{Answers}
 use Rattle.pw_modules.specs.Modules.{module_map, modules_of}
 use Rattle.pw_build.specs.Phases as phases
 use Rattle.pw_go.specs.FullBuild.{full_build}
@@ -14,7 +13,6 @@ use Rattle.pw_build_laws.specs.Whole.{HoldsFullBuild}
 use Rattle.pw_session.specs.declared.opts.SessionOpts.{SessionOpts}
 use Rattle.pw_session.specs.Bench.{bench_files}
 use Rattle.pw_session.specs.Changes.{MakesSome}
-use Rattle.pw_session.specs.Session.{lines_of, script_answer}
 use Rattle.pw_driving.specs.Driving.{KeepsUnput}
 use Rattle.pw_compiling.specs.First.{phase_line, phase_one_puts}
 use Rattle.pw_compiling.specs.Second.{phase_two_puts}
@@ -64,11 +62,6 @@ abbrev pub KeepsTheRest : Option Command → Answer → Option Told → Option T
 KeepsTheRest (Some (Build colours stack)) answer old new = IfSome old (λ told. KeepsUnput told new)
 KeepsTheRest (Some (Session colours stack steps)) answer old new = IfSome old (λ told. MakesSome answer told new)
 KeepsTheRest command answer old new = KeepsOthers (files_put command) old new
-
--- whether a session is done, and where no lawful line stands, hangs on its script alone
-abbrev pub AnswersScript : Option Command → List ℕ → Answer → Type 0
-AnswersScript (Some (Session colours stack steps)) script answer = Answers (script_answer (lines_of script).bad) answer
-AnswersScript _ script answer = Unit {0}
 
 -- what holds where the answer is `Done`
 abbrev pub IfDone : Answer → Type 0 → Type 0

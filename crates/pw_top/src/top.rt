@@ -10,7 +10,7 @@ ghost use Rattle.pw_go.specs.Refusals.{HoldsNoWantOfMemory, NoMainComes, NoMainI
 ghost use Rattle.pw_modules.specs.Modules.{modules_of};
 ghost use Rattle.pw_compiling.specs.First.{IsLine};
 ghost use Rattle.pw_building.specs.Genuine.{KeepsGenuine};
-ghost use Rattle.pw_top.specs.Commands.{AnswersScript, BuildsWhole, IsGo, IsNoSession, IsUsageDue, KeepsTheRest, OnlyReads, line_of, opts_of};
+ghost use Rattle.pw_top.specs.Commands.{BuildsWhole, IsGo, IsNoSession, IsUsageDue, KeepsTheRest, OnlyReads, line_of, opts_of};
 ghost use Rattle.pw_top.specs.Does.{DoesAs};
 ghost use Rattle.pw_words.specs.CommandLine.{command_of};
 ghost use Rattle.pw_words.specs.Limits.{IsWithin};
@@ -53,7 +53,6 @@ fn obey<S: Store, I: Source, O: Sink>(
     ensures usage { IsUsageDue (Some command.now) result.answer }
     ensures refusal { IfSome (S.told store.old) (λ told. IsGo (Some command.now) → AnswersBuild (full_build told.files) result.answer) }
     ensures proper { IsGo (Some command.now) → HoldsNoWantOfMemory result.answer }
-    ensures script { IfSome (I.rest input.old) (λ script. AnswersScript (Some command.now) script result.answer) }
     ensures others { KeepsTheRest (Some command.now) result.answer (S.told store.old) (S.told store.new) }
     ensures genuine { IfSome (S.told store.old) (λ told. KeepsGenuine told.files → IfSome (S.told store.new) (λ now. KeepsGenuine now.files)) }
     ensures reads { OnlyReads (Some command.now) → Keeps (S.told store.old) (S.told store.new) }
@@ -136,7 +135,6 @@ fn obey_words<S: Store, I: Source, O: Sink>(
     ensures usage_comes { command_of (map string_bytes words.now) ≡ None → (result.answer ≡ Answer.Usage) ⊎ (result.answer ≡ Answer.NoMemory) }
     ensures refusal { IfSome (S.told store.old) (λ told. IsGo (command_of (map string_bytes words.now)) → AnswersBuild (full_build told.files) result.answer) }
     ensures proper { IsGo (command_of (map string_bytes words.now)) → HoldsNoWantOfMemory result.answer }
-    ensures script { IfSome (I.rest input.old) (λ script. AnswersScript (command_of (map string_bytes words.now)) script result.answer) }
     ensures others { KeepsTheRest (command_of (map string_bytes words.now)) result.answer (S.told store.old) (S.told store.new) }
     ensures genuine { IfSome (S.told store.old) (λ told. KeepsGenuine told.files → IfSome (S.told store.new) (λ now. KeepsGenuine now.files)) }
     ensures reads { OnlyReads (command_of (map string_bytes words.now)) → Keeps (S.told store.old) (S.told store.new) }
@@ -184,9 +182,6 @@ pub fn pawc_top<S: Store, I: Source, O: Sink, E: Sink>(
     // the answer, the files, the output and the input
     ensures does { IfSome (S.told store.old) (λ told. IfSome (I.rest input.old) (λ rest. DoesAs (command_of (map string_bytes words.now)) result told (S.told store.new) rest (I.rest input.new) (O.taken out.old) (O.taken out.new))) }
     ensures builds_whole { IfSome (S.told store.old) (λ told. IfSome (I.rest input.old) (λ rest. BuildsWhole (command_of (map string_bytes words.now)) result told (S.told store.new))) }
-
-    // the script of a session
-    ensures script { IfSome (I.rest input.old) (λ script. AnswersScript (command_of (map string_bytes words.now)) script result) }
 
     // the refusals of `go`
     ensures refusal_is { IfSome (S.told store.old) (λ told. IsGo (command_of (map string_bytes words.now)) → RefusalIs (modules_of told.files) result) }

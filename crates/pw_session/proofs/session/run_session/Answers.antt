@@ -1,4 +1,4 @@
-use Rattle.pw_session.proofs.Stands.{genuine, left, obeys, script, some}
+use Rattle.pw_session.proofs.Stands.{genuine, left, obeys, some}
 use Rattle.pw_session.proofs.session.run_session.Goals as goal
 
 pub returns-clause-obeys : goal.returns-clause-obeys
@@ -12,6 +12,3 @@ returns-clause-genuine g c = genuine (g.S.Store.told c.args.store.now)
 
 pub returns-clause-rest : goal.returns-clause-rest
 returns-clause-rest g c = left (g.I.Source.rest c.args.input.now)
-
-pub returns-clause-script : goal.returns-clause-script
-returns-clause-script g c = script (g.I.Source.rest c.args.input.now)

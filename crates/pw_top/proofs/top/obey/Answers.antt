@@ -1,7 +1,7 @@
 use Rattle.std.proofs.Common.{Some}
 use Rattle.pw_top.proofs.GenuineLemmas.{genuine_alone, kept_others, others_alone, phase_two_genuine, plain_genuine}
 use Rattle.pw_top.proofs.SessionLemmas.{bench_does, bench_line, bench_no_usage, bench_reads, bench_stores, session_does, session_no_usage}
-use Rattle.pw_top.proofs.CommandLemmas.{analyse_does, build_does, build_line, build_no_usage, build_reads, db_does, go_does, go_line, kept_alone, left_alone, link_does, list_does, no_script, of_any, of_go, of_other, phase_no_usage, phase_one_does, phase_reads, phase_two_does, phase_writes, plain_line, run_does, run_no_usage, show_no_usage, show_reads, store_no_usage, store_reads, store_writes}
+use Rattle.pw_top.proofs.CommandLemmas.{analyse_does, build_does, build_line, build_no_usage, build_reads, db_does, go_does, go_line, kept_alone, left_alone, link_does, list_does, of_any, of_go, of_other, phase_no_usage, phase_one_does, phase_reads, phase_two_does, phase_writes, plain_line, run_does, run_no_usage, show_no_usage, show_reads, store_no_usage, store_reads, store_writes}
 use Rattle.pw_top.proofs.top.obey.Goals as goal
 
 pub returns-in-Go-clause-does : goal.returns-in-Go-clause-does
@@ -344,36 +344,3 @@ returns-in-Bench-clause-streams g c = rw c.in-Bench.is (λ u. c.bench.ensures.st
 
 pub returns-in-Bench-clause-line : goal.returns-in-Bench-clause-line
 returns-in-Bench-clause-line g c = rw c.in-Bench.is (bench_line (g.S.Store.told c.args.store.now) _ _ _ c.bench.ensures.line)
-
-pub returns-in-Go-clause-script : goal.returns-in-Go-clause-script
-returns-in-Go-clause-script g c = rw c.in-Go.is (no_script (g.I.Source.rest c.args.input.now))
-
-pub returns-in-Build-clause-script : goal.returns-in-Build-clause-script
-returns-in-Build-clause-script g c = rw c.in-Build.is (no_script (g.I.Source.rest c.args.input.now))
-
-pub returns-in-Bench-clause-script : goal.returns-in-Bench-clause-script
-returns-in-Bench-clause-script g c = rw c.in-Bench.is (no_script (g.I.Source.rest c.args.input.now))
-
-pub returns-in-PhaseOne-clause-script : goal.returns-in-PhaseOne-clause-script
-returns-in-PhaseOne-clause-script g c = rw c.in-PhaseOne.is (no_script (g.I.Source.rest c.args.input.now))
-
-pub returns-in-Analyse-clause-script : goal.returns-in-Analyse-clause-script
-returns-in-Analyse-clause-script g c = rw c.in-Analyse.is (no_script (g.I.Source.rest c.args.input.now))
-
-pub returns-in-PhaseTwo-clause-script : goal.returns-in-PhaseTwo-clause-script
-returns-in-PhaseTwo-clause-script g c = rw c.in-PhaseTwo.is (no_script (g.I.Source.rest c.args.input.now))
-
-pub returns-in-Link-clause-script : goal.returns-in-Link-clause-script
-returns-in-Link-clause-script g c = rw c.in-Link.is (no_script (g.I.Source.rest c.args.input.now))
-
-pub returns-in-Run-clause-script : goal.returns-in-Run-clause-script
-returns-in-Run-clause-script g c = rw c.in-Run.is (no_script (g.I.Source.rest c.args.input.now))
-
-pub returns-in-List-clause-script : goal.returns-in-List-clause-script
-returns-in-List-clause-script g c = rw c.in-List.is (no_script (g.I.Source.rest c.args.input.now))
-
-pub returns-in-Db-clause-script : goal.returns-in-Db-clause-script
-returns-in-Db-clause-script g c = rw c.in-Db.is (no_script (g.I.Source.rest c.args.input.now))
-
-pub returns-in-Session-clause-script : goal.returns-in-Session-clause-script
-returns-in-Session-clause-script g c = rw c.in-Session.is c.run_session.ensures.script

@@ -2,9 +2,9 @@ use Rattle.std.proofs.Common.{[], map, inr, refl}
 use Rattle.std.specs.Prelude.{string_bytes}
 use Rattle.pw_words.specs.CommandLine.{command_of}
 use Rattle.pw_top.proofs.DoesLemmas.{usage_does}
-use Rattle.pw_top.proofs.CommandLemmas.{due_comes, due_is, kept_alone, no_line, no_script, of_other}
+use Rattle.pw_top.proofs.CommandLemmas.{due_comes, due_is, kept_alone, no_line, of_other}
 use Rattle.pw_top.proofs.GenuineLemmas.{genuine_alone, others_alone, rest_alone}
-use Rattle.pw_top.proofs.ToldLemmas.{memory_does, memory_refuses, memory_script, no_memory_is_no_usage}
+use Rattle.pw_top.proofs.ToldLemmas.{memory_does, memory_refuses, no_memory_is_no_usage}
 use Rattle.pw_top.proofs.top.obey_words.Goals as goal
 
 pub obey-requires : goal.obey-requires
@@ -86,14 +86,3 @@ returns-in-Err-NoMemory-clause-genuine g c = genuine_alone (g.S.Store.told c.arg
 
 pub returns-in-Ok-clause-streams : goal.returns-in-Ok-clause-streams
 returns-in-Ok-clause-streams g c = rw c.in-Ok.ensures c.obey.ensures.streams
-
-pub returns-in-Ok-clause-script : goal.returns-in-Ok-clause-script
-returns-in-Ok-clause-script g c = rw c.in-Ok.ensures c.obey.ensures.script
-
-pub returns-in-Err-Usage-clause-script : goal.returns-in-Err-Usage-clause-script
-returns-in-Err-Usage-clause-script g c =
-    let none = rw c.in-Err-Usage.field-0-is at c.in-Err-Usage.ensures in
-    rw none (no_script (g.I.Source.rest c.args.input.now))
-
-pub returns-in-Err-NoMemory-clause-script : goal.returns-in-Err-NoMemory-clause-script
-returns-in-Err-NoMemory-clause-script g c = memory_script _ (g.I.Source.rest c.args.input.now)

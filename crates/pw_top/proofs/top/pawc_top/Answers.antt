@@ -7,7 +7,7 @@ use Rattle.pw_go.specs.Going.{BuiltAgrees}
 use Rattle.pw_go.specs.Refusals.{NoMainComes, NoMainIs, RefusalComes, RefusalIs}
 use Rattle.pw_words.specs.CommandLine.{command_of}
 use Rattle.pw_top.specs.Commands.{IsGo, IsNoSession, line_of}
-use Rattle.pw_top.proofs.ToldLemmas.{by_law, input_told, of_files, output_told, rest_told, returns_sum, script_told, store_told, streams_told, told_does, told_line, told_proper, told_refuses, usage_comes, usage_is}
+use Rattle.pw_top.proofs.ToldLemmas.{by_law, input_told, of_files, output_told, rest_told, returns_sum, store_told, streams_told, told_does, told_line, told_proper, told_refuses, usage_comes, usage_is}
 use Rattle.pw_top.proofs.WholeLemmas.{builds_whole}
 use Rattle.pw_top.proofs.top.pawc_top.Goals as goal
 
@@ -89,7 +89,3 @@ returns-clause-builds_whole g c =
 pub returns-clause-keeps_others : goal.returns-clause-keeps_others
 returns-clause-keeps_others g c =
     rest_told (command_of (map string_bytes c.args.words.now)) (g.S.Store.told c.args.store.now) _ c.obey_words-reply.result.answer c.tell.result c.tell.ensures.answer c.obey_words-reply.ensures.others
-
-pub returns-clause-script : goal.returns-clause-script
-returns-clause-script g c =
-    script_told (command_of (map string_bytes c.args.words.now)) (g.I.Source.rest c.args.input.now) c.obey_words-reply.result.answer c.tell.result c.tell.ensures.answer c.obey_words-reply.ensures.script

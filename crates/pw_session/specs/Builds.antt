@@ -1,0 +1,10 @@
+-- The builds of sessions and of `bench`.
+use Rattle.std.specs.Prelude.{Result}
+use Rattle.pw_io.specs.Files.{Files}
+use Rattle.pw_build.specs.declared.fault.BuildFault.{BuildFault}
+use Rattle.pw_building.specs.declared.report.Opts.{Opts}
+use Rattle.pw_building.specs.Building.{BuildComes, Outcome}
+
+-- the build over the files of a store comes to this
+unfoldable pub BuildsTo : Files → Opts → Result Outcome BuildFault → Type 0
+BuildsTo files opts comes = BuildComes files opts.colours opts.stack comes
