@@ -1,1 +1,9 @@
-mod Stands
+pub mod OutputLemmas
+pub mod BuildLemmas
+pub mod ChangeLemmas
+pub mod GenuineLemmas
+pub mod LineLemmas
+pub mod SessionLemmas
+pub mod TurnLemmas
+pub mod RunLemmas
+pub mod BenchLemmas

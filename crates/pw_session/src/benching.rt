@@ -1,16 +1,135 @@
-//! `bench`.
+//! `bench`: builds and runs a made program.
 
-ghost use Rattle.std.specs.Prelude.{◌≡◌, ℕ, List, Option};
-ghost use Rattle.pw_answer.specs.Outcomes.{LeavesStreams, OutputCount};
+ghost use Rattle.std.specs.Prelude.{◌≡◌, ◌≤◌, ℕ, [], List, Option, IfOk, string_bytes};
+ghost use Rattle.pw_answer.specs.Outcomes.{Answers, LeavesStreams, OutputCount, PutsOut};
+ghost use Rattle.pw_running.specs.Running.{run_answer};
 ghost use Rattle.pw_building.specs.Outcomes.{AreOpts};
-ghost use Rattle.pw_session.specs.Bench.{BenchComes, IsBenchAnswer, IsBenchLine, ObeysBench};
+ghost use Rattle.pw_driving.specs.Driving.{IsPrintAnswer};
+ghost use Rattle.pw_session.specs.Bench.{BenchComes, IsBenchAnswer, IsBenchLine, ObeysBench, ObeysReport, StopsAs, bench_front, bench_line, made_files};
+ghost use Rattle.pw_session.specs.Runs.{runs_as};
 
 use crate::opts::SessionOpts;
+use crate::runs::{is_stop, stop_text};
 use pw_answer::{Answer, Reply};
-use pw_io::Sink;
-use std::alloc::Global;
+use pw_building::Report;
+use pw_driving::{answer_of, build_uncounted, print};
+use pw_gen::generate;
+use pw_io::{DropSink, Sink, SureSource, SureStore};
+use pw_machine::Machine;
+use pw_running::run_machine;
+use std::alloc::{AllocError, Global};
 
-/// Stands in.
+/// How many modules are made beside the main.
+const MODULES: u8 = 64;
+
+/// How many functions the program has: eight of each module, and the main.
+const FUNCTIONS: u32 = 513;
+
+/// A store with the files of the program of so many modules that is made from a number.
+fn made_store(alloc: Global, number: u32, modules: u8) -> Result<SureStore, AllocError>
+    requires { 1 ≤ modules }
+    ensures { IfOk result (λ store. store ≡ record { files = made_files number modules; puts = [] }) }
+{
+    let files = generate(alloc, number, modules)?;
+    SureStore::new(alloc, &files)
+}
+
+/// Runs a machine over no input, with an output that goes nowhere.
+fn run_quietly(alloc: Global, machine: &mut Machine, budget: u64) -> Answer
+    ensures { Answers (run_answer (runs_as budget [] machine.old.core)) result }
+{
+    match SureSource::new(alloc, &[]) {
+        Ok(mut source) => run_machine(machine, &mut source, &mut DropSink::new(), budget),
+        Err(AllocError) => Answer::NoMemory,
+    }
+}
+
+/// The answer to the run of an image over no input.
+fn run_of_image(alloc: Global, image: &[u8], budget: u64) -> Answer
+    ensures { StopsAs image.now budget result }
+{
+    match Machine::load(alloc, image) {
+        Ok(mut machine) => run_quietly(alloc, &mut machine, budget),
+        Err(_) => Answer::NoMemory,
+    }
+}
+
+/// The front of the line.
+fn bench_front(
+    alloc: Global,
+    number: u32,
+    modules: u32,
+    size: usize,
+    digits: &str,
+) -> Result<String, AllocError>
+    ensures { IfOk result (λ text. string_bytes text ≡ bench_front number modules size digits.now) }
+{
+    format!(in alloc;
+        "bench {number} modules {modules} functions {FUNCTIONS} image {size} {digits} stop "
+    )
+}
+
+/// The line of a program that was built and run.
+fn bench_line(
+    alloc: Global,
+    number: u32,
+    report: &Report,
+    stop: &Answer,
+) -> Result<Vec<u8>, AllocError>
+    ensures { IfOk result (λ text. text.items ≡ bench_line number report.now.image.items report.now.digest stop.now) }
+{
+    let modules = u32::from(MODULES) + 1;
+    let digits = hex::encode(alloc, report.digest.as_slice())?;
+    let front = bench_front(alloc, number, modules, report.image.len(), digits.as_str())?;
+    let stop = stop_text(alloc, stop)?;
+    let mut text = Vec::from_slice(alloc, front.as_bytes())?;
+    text.extend_from_slice(&stop)?;
+    text.extend_from_slice(b"\n")?;
+    Ok(text)
+}
+
+/// Puts the line of a program out that was built and stopped so.
+fn put_line<O: Sink>(
+    alloc: Global,
+    number: u32,
+    report: &Report,
+    stop: &Answer,
+    out: &mut O,
+) -> Answer
+    ensures output { PutsOut (bench_line number report.now.image.items report.now.digest stop.now) result (O.taken out.old) (O.taken out.new) }
+    ensures write { OutputCount (O.faults out.old) (O.faults out.new) result }
+    ensures answer { IsPrintAnswer result }
+{
+    match bench_line(alloc, number, report, stop) {
+        Ok(text) => print(out, &text),
+        Err(AllocError) => Answer::NoMemory,
+    }
+}
+
+/// Runs a program that was built, and puts its line out.
+fn run_report<O: Sink>(
+    alloc: Global,
+    number: u32,
+    report: &Report,
+    budget: u64,
+    out: &mut O,
+) -> Answer
+    ensures run { ObeysReport number report.now.image.items report.now.digest budget result (O.taken out.old) (O.taken out.new) }
+    ensures write { OutputCount (O.faults out.old) (O.faults out.new) result }
+    ensures answer { IsPrintAnswer result }
+{
+    let stop = run_of_image(alloc, &report.image, budget);
+    if is_stop(&stop) {
+        put_line(alloc, number, report, &stop, out)
+    } else {
+        Answer::NoMemory
+    }
+}
+
+/// Builds the program that is made from a number over a store in memory, runs it over no input, and puts one line out: the
+/// number, how many modules and functions there are, the bytes of the image and their digest, and how the run stopped.
+///
+/// The answer is `Done`; or the refusal of the build, with the line of a refused module.
 pub fn bench<O: Sink>(alloc: Global, number: u32, opts: &SessionOpts, out: &mut O) -> Reply
     requires { AreOpts opts.now.build }
     ensures obeys { (input : List ℕ) → ObeysBench (BenchComes number opts.now input) result.answer (O.taken out.old) (O.taken out.new) }
@@ -19,8 +138,20 @@ pub fn bench<O: Sink>(alloc: Global, number: u32, opts: &SessionOpts, out: &mut 
     ensures streams { (input : Option (List ℕ)) → LeavesStreams result.answer input input (O.taken out.old) (O.taken out.new) }
     ensures answer { IsBenchAnswer result.answer }
 {
-    Reply {
-        answer: Answer::NoMemory,
-        line: 1,
+    let Ok(mut store) = made_store(alloc, number, MODULES) else {
+        return Reply {
+            answer: Answer::NoMemory,
+            line: 1,
+        };
+    };
+    match build_uncounted(alloc, &mut store, &opts.build) {
+        Ok(report) => Reply {
+            answer: run_report(alloc, number, &report, opts.budget, out),
+            line: 1,
+        },
+        Err(unbuilt) => Reply {
+            line: unbuilt.line,
+            answer: answer_of(unbuilt.fault),
+        },
     }
 }

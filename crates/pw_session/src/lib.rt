@@ -1,8 +1,11 @@
-//! A stand-in of sessions and `bench`, which answers want of memory.
+//! Sessions: the lines of a script, obeyed one behind another over the files of a store; and `bench`, which builds and
+//! runs a made program.
 #![tactic(auto)]
 
 mod benching;
+mod lines;
 mod opts;
+mod runs;
 mod session;
 
 pub use benching::bench;

@@ -1,16 +1,23 @@
 //! Sessions.
 
-ghost use Rattle.std.specs.Prelude.{◌≡◌, IfSome, Some};
+ghost use Rattle.std.specs.Prelude.{◌≡◌, IfSome};
 ghost use Rattle.pw_answer.specs.Outcomes.{InputCount, OutputCount, StoreCount};
 ghost use Rattle.pw_building.specs.Genuine.{KeepsGenuine};
 ghost use Rattle.pw_building.specs.Outcomes.{AreOpts};
+ghost use Rattle.pw_script.specs.Reading.{IsReadInPart, line_view};
+ghost use Rattle.pw_script.specs.Script.{NamesModule};
 ghost use Rattle.pw_session.specs.Changes.{MakesSome};
-ghost use Rattle.pw_session.specs.Outcomes.{IsSessionAnswer, LeavesScript, ObeysSession};
+ghost use Rattle.pw_session.specs.Outcomes.{IsLastAnswer, IsReadAnswer, IsSessionAnswer, IsTaken, IsTurn, LeavesScript, LeavesTurn, ObeysLine, ObeysSession, TakesTurn, image_view, end_answer, turn_answer, unread};
 
+use crate::lines::obey_line;
 use crate::opts::SessionOpts;
 use pw_answer::Answer;
-use pw_io::{Sink, Source, Store};
+use pw_io::{Failed, Sink, Source, Store};
+use pw_script::{ScriptFault, TakenLine, next_line};
 use std::alloc::Global;
+
+/// The greatest count of lines of a script.
+const LINES_LIMIT: u64 = 10_000;
 
 /// What came of the next line of a script.
 pub enum Turn {
@@ -20,7 +27,99 @@ pub enum Turn {
     Obeyed(u64),
 }
 
-/// Stands in.
+/// The answer where no line was read at an offset.
+fn unread(fault: ScriptFault, offset: u64) -> Answer
+    ensures { result ≡ unread fault offset }
+{
+    match fault {
+        ScriptFault::BadLine => Answer::BadScript(offset),
+        ScriptFault::ReadFault => Answer::ReadFault,
+        ScriptFault::NoMemory => Answer::NoMemory,
+    }
+}
+
+/// Obeys a line that was read.
+fn obey_taken<S: Store, O: Sink>(
+    alloc: Global,
+    store: &mut S,
+    out: &mut O,
+    opts: &SessionOpts,
+    image: &mut Option<Vec<u8>>,
+    taken: &TakenLine,
+) -> Turn
+    requires opts { AreOpts opts.now.build }
+    requires named { NamesModule (line_view taken.now.line) }
+    ensures does { IfSome (S.told store.old) (λ told. ObeysLine opts.now (record { told = told; image = image_view image.old }) (line_view taken.now.line) (turn_answer result) (S.told store.new) (O.taken out.old) (O.taken out.new) (image_view image.new)) }
+    ensures some { IfSome (S.told store.old) (λ told. MakesSome (turn_answer result) told (S.told store.new)) }
+    ensures genuine { IfSome (S.told store.old) (λ told. KeepsGenuine told.files → IfSome (S.told store.new) (λ now. KeepsGenuine now.files)) }
+    ensures store { StoreCount (S.faults store.old) (S.faults store.new) (turn_answer result) }
+    ensures write { OutputCount (O.faults out.old) (O.faults out.new) (turn_answer result) }
+    ensures turn { IsTaken taken.now result }
+{
+    match obey_line(alloc, store, out, opts, image, &taken.line) {
+        Answer::Done => Turn::Obeyed(taken.length),
+        answer => Turn::Over(answer),
+    }
+}
+
+/// Reads the next line of a script, and obeys it.
+fn take_turn<S: Store, I: Source, O: Sink>(
+    alloc: Global,
+    store: &mut S,
+    input: &mut I,
+    out: &mut O,
+    opts: &SessionOpts,
+    image: &mut Option<Vec<u8>>,
+    offset: u64,
+) -> Turn
+    requires { AreOpts opts.now.build }
+    ensures turn { IfSome (S.told store.old) (λ told. IfSome (I.rest input.old) (λ script. TakesTurn opts.now (record { told = told; image = image_view image.old }) offset script result (S.told store.new) (I.rest input.new) (O.taken out.old) (O.taken out.new) (image_view image.new))) }
+    ensures some { IfSome (S.told store.old) (λ told. MakesSome (turn_answer result) told (S.told store.new)) }
+    ensures genuine { IfSome (S.told store.old) (λ told. KeepsGenuine told.files → IfSome (S.told store.new) (λ now. KeepsGenuine now.files)) }
+    ensures part { IfSome (I.rest input.old) (λ script. IsReadInPart script (I.rest input.new)) }
+    ensures whole { IfSome (I.rest input.old) (λ script. LeavesTurn script result (I.rest input.new)) }
+    ensures store { StoreCount (S.faults store.old) (S.faults store.new) (turn_answer result) }
+    ensures read { InputCount (I.faults input.old) (I.faults input.new) (turn_answer result) }
+    ensures write { OutputCount (O.faults out.old) (O.faults out.new) (turn_answer result) }
+    ensures kind { IsTurn result }
+{
+    match next_line(alloc, input) {
+        Ok(Some(taken)) => obey_taken(alloc, store, out, opts, image, &taken),
+        Ok(None) => Turn::Over(Answer::Done),
+        Err(fault) => Turn::Over(unread(fault, offset)),
+    }
+}
+
+/// The answer where no further line may stand, by the byte that stands there.
+fn end_answer(found: Option<u8>, offset: u64) -> Answer
+    ensures { result ≡ end_answer found offset }
+{
+    match found {
+        None => Answer::Done,
+        Some(_) => Answer::BadScript(offset),
+    }
+}
+
+/// The end of a script that may have no further line.
+fn last_turn<I: Source>(input: &mut I, offset: u64) -> Answer
+    ensures last { IfSome (I.rest input.old) (λ script. IsLastAnswer offset script result) }
+    ensures part { IfSome (I.rest input.old) (λ script. IsReadInPart script (I.rest input.new)) }
+    ensures whole { IfSome (I.rest input.old) (λ script. LeavesScript script result (I.rest input.new)) }
+    ensures read { InputCount (I.faults input.old) (I.faults input.new) result }
+    ensures kind { IsReadAnswer result }
+{
+    match input.next() {
+        Ok(found) => end_answer(found, offset),
+        Err(Failed) => Answer::ReadFault,
+    }
+}
+
+/// Obeys the lines of the script that stands on `input`, one behind another, over the files of a store.
+///
+/// The answer is `Done` where the script was taken to its end; or `BadScript` with the offset at which no lawful line
+/// stands, or the line behind the greatest count of lines. A refused build is told in its line, and the session goes on. A
+/// fault of the store, the input or the output, and want of memory, end the session with that answer; what was put,
+/// removed and put out before it stays.
 pub fn run_session<S: Store, I: Source, O: Sink>(
     alloc: Global,
     store: &mut S,
@@ -38,5 +137,13 @@ pub fn run_session<S: Store, I: Source, O: Sink>(
     ensures write { OutputCount (O.faults out.old) (O.faults out.new) result }
     ensures answer { IsSessionAnswer result }
 {
-    Answer::NoMemory
+    let mut image = None;
+    let mut offset = 0;
+    for _place in 0..LINES_LIMIT {
+        match take_turn(alloc, store, input, out, opts, &mut image, offset) {
+            Turn::Over(answer) => return answer,
+            Turn::Obeyed(size) => offset += size,
+        }
+    }
+    last_turn(input, offset)
 }

@@ -5,16 +5,14 @@ use Rattle.pw_well_typed.proofs.Giving.{Initialises}
 use Rattle.pw_well_typed.proofs.Settled.{HasItems, IsMade, Rise, Settled, known_onward, onward_put, origins_same, scopes_grown}
 use Rattle.pw_well_typed.proofs.Giving.{object_all, open_later, value_complete}
 use Rattle.pw_well_typed.proofs.Defined.{IsOpen, noted_items, open_shared}
-use Rattle.pw_types.specs.Layouts.{layout_of, array_layout}
 use Rattle.pw_types.specs.Records.{IsObjectType}
 use Rattle.pw_well_typed.proofs.Objects.{completed_so, object_later}
 use Rattle.pw_well_typed.proofs.Outside.{Outside, outside_trans, AreShallow}
 use Rattle.pw_well_typed.proofs.ObjectTypes.{KeepsLimit, within_keeps, function_keeps, IsWithin, object_is, within_fits}
 use Rattle.pw_well_typed.proofs.Declaring.{entered_outside, hidden_kept, hidden_put, entity_becomes, plain_entered, static_entered, Linkable, linkable, declared_goes, GoodPlace, DeclaredHere, here_later, defined_scopes, defined_place, visible_before, tentative_after, object_after, initialised_after, keeps_put, put_sound, filling_put, here}
-use Rattle.pw_well_typed.proofs.Filling.{object_runs, runs_whatever}
 use Rattle.pw_well_typed.proofs.Locals.{place_of_new}
 use Rattle.pw_well_typed.proofs.Sound.{Sound, named_same, filling_same, Continues, Filling, Spelled, continues_same}
-use Rattle.pw_well_typed.proofs.Composite.{Covers, covers_same, covers_trans, covers_first}
+use Rattle.pw_well_typed.proofs.Composite.{Covers, covers_same, covers_first}
 use Rattle.pw_well_typed.proofs.States.{Grows}
 use Rattle.pw_well_typed.proofs.Lists.{Longer, some_same, get_last, get_within, put_same, get_more, get_append, put_either, never_some}
 use Rattle.pw_rules.specs.declared.names.Slot.{Slot}
@@ -22,19 +20,19 @@ use Rattle.pw_rules.specs.declared.names.Slot.TheVariants as slot
 use Rattle.pw_walk.specs.Causes.{needs, InitialisedHere, CompleteObject, InitialisedKind}
 use Rattle.std.proofs.Common.{ap, sym, subst, ◌∙◌, inl, inr, arith}
 use Rattle.pw_rules.specs.Compatible.{compatible, composite}
-use Rattle.pw_well_typed.proofs.Walking.{Post, post_bind, post_weaken, post_both, AreMet, met_left, truth, met_right}
+use Rattle.pw_well_typed.proofs.Walking.{Post, post_bind, post_both, AreMet, met_left, truth, met_right}
 use Rattle.std.specs.Prelude.{ℕ, ◌≡◌, Bool, true, false, not, Option, None, Some, is_some, List, [], ◌∷◌, if◌then◌else◌, refl, is_none, ◌++◌, ◌||◌, length, slice_get, ◌⊎◌, ◌<◌}
 use Rattle.std.specs.Option.{option_map_or}
 use Rattle.pw_tree.specs.Trees.{Word, Decl, InitDeclarator, Initializer, Init, Specifiers, Declarator}
 use Rattle.pw_tree.specs.Trees as S
 use Rattle.pw_types.specs.declared.record.RecordKind.{RecordKind}
-use Rattle.pw_types.specs.TypeTrees.{QType, type_of, CType, Void, Int, Pointer, Array, Function, Record, Qualified, RecordValue}
+use Rattle.pw_types.specs.TypeTrees.{QType, type_of, CType, Void, Int, Pointer, Array, Function, Record, RecordValue}
 use Rattle.pw_types.specs.TypedTrees.{Initialiser, LocalValue, PlacedItem}
-use Rattle.pw_types.specs.WellTyped.{IsFunctionType, IsComplete}
+use Rattle.pw_types.specs.WellTyped.{IsFunctionType}
 use Rattle.pw_walk.specs.Walks.{Walk, Done, bind, change, pure, ◌>>◌}
 use Rattle.pw_rules.specs.Declarations.{Sort, ATypedef, AFunction, AGlobal, AnExtern, AStatic, ALocal, sort_of, asking_of, name_rule, hidden_of, local_of, is_tentative, completed_rule, fitting_rule, context_of, global_rule, static_rule, put_local, bytes_rule, single_rule, local_initialiser, local_rule, declare_rule, name_of, init_declarator_rule, init_declarators_rule, storage_rule, declares_something, specified_rule, bare_rule, declarators_rule, decl_rule, decls_rule, sort_point, function_point, definition_point, global_point, place_here, object_point}
 use Rattle.pw_rules.specs.Derivations.{spot_of}
-use Rattle.pw_rules.specs.Initialisers.{object_rule, is_by_bytes, Context, with_length, Initialised}
+use Rattle.pw_rules.specs.Initialisers.{object_rule, is_by_bytes, Initialised}
 use Rattle.pw_rules.specs.Kinds.{is_function, is_const_object, is_void, is_open_array, is_array}
 use Rattle.pw_rules.specs.Leaves.{alone_by, alone_rule, record_kind, first_of_list}
 use Rattle.pw_rules.specs.Limits.{Spot, type_within, completed}
@@ -43,12 +41,12 @@ use Rattle.pw_rules.specs.SpecifierLists.{Specified, nothing_gathered, is_typede
 use Rattle.pw_rules.specs.States.{State, TypeName, LocalObject, StaticObject, is_file_scope, add_hidden, put_hidden, add_local, HiddenObject, next_hidden, next_local, tag_here, Entity, EnumerationConstant, Linked, entity_here, entry_here, LinkedName, records_in, enter, put_at, TypeState, put_linked}
 use Rattle.pw_rules.specs.declared.names.Tag.{Tag}
 use Rattle.pw_well_typed.specs.Lawful.{IsLawful, IsLawfulType, IsObjectLike, IsLawfulTag, IsLawfulEntity, Extends}
-use Rattle.pw_well_typed.proofs.Types.{lawful_later, no, is_complete_so, complete_later, map_some, extends_same}
+use Rattle.pw_well_typed.proofs.Types.{lawful_later, no, is_complete_so, extends_same}
 use Rattle.pw_well_typed.proofs.Conversions.{no_function}
 use Rattle.pw_well_typed.proofs.Changes.{like_later, entered_sound}
 use Rattle.pw_well_typed.proofs.Leaves.{GoodType, GoodGathered, GoodSpecified, GoodDeclared, GoodReference, Fresh, specified_runs, built_runs, reference_by_runs, new_tag_runs, tag_here_lawful, none_here}
 use Rattle.pw_well_typed.proofs.Phrases.{specifiers_post, declarator_post}
-use Rattle.pw_well_typed.proofs.Initialisers.{IsLawfully, lawful_stays, Stays, object_stays, covers_length, Completes, stays_complete, object_gives, single_no_array}
+use Rattle.pw_well_typed.proofs.Initialisers.{IsLawfully, single_no_array}
 use Rattle.pw_well_typed.proofs.Keeping.{after_same, after_trans, Kept, Goes, goes_by, of_runs, changed, asked, Anything, here_is, After, AfterBy, KeptBy, GoesBy, goes_between, after_grows, from_kept, kept_trans, AreLocals, after_by, knows_linked, keeps_longer, keeps_trans, entity_put, entered_kept, around, nothing, after_from}
 
 completed_goes : (s : State) (w : Word) (q : QType) → IsLawful s → Goes s (completed_rule w q s) Anything

@@ -9,11 +9,11 @@ use Rattle.std.proofs.Common.{ap, sym, subst, ◌∙◌, inl, inr}
 use Rattle.std.proofs.lemmas.Slice.Eq.{bytes_eq-Decides}
 use Rattle.pw_scope.specs.Visible.{visible}
 use Rattle.pw_types.specs.TypeTrees.{QType, type_of}
-use Rattle.pw_types.specs.TypedTrees.{PlacedItem, FunctionValue, External, Internal}
+use Rattle.pw_types.specs.TypedTrees.{PlacedItem, FunctionValue}
 use Rattle.pw_walk.specs.Causes.{Point}
 use Rattle.pw_rules.specs.Compatible.{compatible, composite}
 use Rattle.pw_rules.specs.Kinds.{is_function}
-use Rattle.pw_rules.specs.Linkage.{Asking, AsBefore, is_internal_by, internal_of_entity, is_linked, linkage_point, linked_before, linked_anew, linked_again, place_for, note_linked, note_here, type_here, change_linked, slot_for, has_slot, define_tentatively, define_object, initialise_linked, symbol_of_linked, declare_linked, define_function}
+use Rattle.pw_rules.specs.Linkage.{Asking, AsBefore, is_internal_by, internal_of_entity, is_linked, linkage_point, linked_before, linked_anew, linked_again, place_for, note_linked, note_here, type_here, change_linked, slot_for, has_slot, define_tentatively, define_object, initialise_linked, declare_linked, define_function}
 use Rattle.pw_rules.specs.States.{State, BodyState, LinkedName, Entity, TypeName, EnumerationConstant, LocalObject, StaticObject, Linked, HiddenObject, entity_here, entry_here, entity_at, entry_of, linked_at, if_here, put_linked, add_linked, put_entity, add_hidden, put_hidden, add_slot, enter, put_at, ScopeState}
 use Rattle.pw_rules.specs.declared.names.Entry.{Entry}
 use Rattle.pw_rules.specs.declared.names.Slot.{Slot}
@@ -26,7 +26,7 @@ use Rattle.pw_well_typed.proofs.Composite.{Covers, covers_same, covers_trans, co
 use Rattle.pw_well_typed.proofs.Sound.{Sound, Continues, continues_same, Onward, Filling, filling_same, Backed, AreBacked, Spelled, AreSpelled, IsFunctionNamed, AreFunctionsNamed, all_backed_on, all_spelled_on, backed_more, spelled_more, plain_backed, plain_spelled, IsPlain, is_stored, Marked, Relinked, slots_relinked, slots_stored, slots_refilled, named_same, HasSlot}
 use Rattle.pw_well_typed.proofs.Changes.{entered_sound, hidden_sound, entered_here}
 use Rattle.pw_well_typed.proofs.Outside.{Outside, outside_same, outside_trans, outside_more, AreShallow}
-use Rattle.pw_well_typed.proofs.Settled.{symbol_continues, Settled, IsMade, NameFrom, Origins, SameItems, origins_same, origins_put, origins_added, origins_hidden, origins_refilled, settles, HasItems}
+use Rattle.pw_well_typed.proofs.Settled.{symbol_continues, Settled, IsMade, NameFrom, Origins, origins_same, origins_put, origins_added, origins_hidden, origins_refilled, settles, HasItems}
 use Rattle.pw_well_typed.proofs.ObjectTypes.{AreWithin, KeepsLimit, keeps_composite, within_put, within_same, within_more}
 use Rattle.pw_well_typed.proofs.Keeping.{Knows, AfterBy, After, KeptBy, Kept, Changed, after_by, Becomes, becomes_same, Keeps, keeps_same, keeps_longer, around_filling, knows_linked, knows_trans, linked_put, linked_added, entity_put, entered_kept, noted, noted_here, none_named, place_is, place_new, named_before, here_is, GoesBy, here_linked, tentative_kept, defined_kept, function_kept, initialised_kept, composite_lawful, keeps_trans, knows_so, after_same, Pending, after_from, persists_so, nothing}
 

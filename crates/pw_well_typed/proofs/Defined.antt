@@ -4,15 +4,15 @@ use Rattle.std.specs.Option.{option_map_or}
 use Rattle.std.proofs.Common.{ap, sym, subst, ◌∙◌, inl, inr}
 use Rattle.pw_scope.specs.Visible.{visible}
 use Rattle.pw_types.specs.Layouts.{layout_of, array_layout}
-use Rattle.pw_types.specs.TypeTrees.{CType, Void, Int, Pointer, Array, Function, Record, QType, Qualified, type_of, RecordValue}
+use Rattle.pw_types.specs.TypeTrees.{Void, Int, Pointer, Array, Function, Record, QType, Qualified, type_of, RecordValue}
 use Rattle.pw_types.specs.WellTyped.{IsComplete}
 use Rattle.pw_rules.specs.Compatible.{composite, known_length}
 use Rattle.pw_rules.specs.Kinds.{is_array, is_open_array}
 use Rattle.pw_rules.specs.Linkage.{note_here, type_here}
-use Rattle.pw_rules.specs.States.{State, LinkedName, Entity, TypeName, Linked, entity_at, entry_here, enter, put_entity, put_linked, put_at}
+use Rattle.pw_rules.specs.States.{State, LinkedName, TypeName, Linked, entity_at, entry_here, enter, put_entity, put_linked, put_at}
 use Rattle.pw_rules.specs.declared.names.Entry.{Entry}
 use Rattle.pw_well_typed.specs.Lawful.{IsLawful, IsLawfulType}
-use Rattle.pw_well_typed.proofs.Lists.{some_same, never_some, put_same, get_within}
+use Rattle.pw_well_typed.proofs.Lists.{put_same, get_within}
 use Rattle.pw_well_typed.proofs.Types.{no}
 use Rattle.pw_well_typed.proofs.Composite.{Covers, length_of, stem_layout, layout_alone, covers_first}
 use Rattle.pw_well_typed.proofs.ObjectTypes.{complete_with}

@@ -8,7 +8,7 @@ use Rattle.pw_tree.specs.Trees as S
 use Rattle.pw_types.specs.TypeTrees.{Function, QType, QTypes, type_of, RecordValue}
 use Rattle.pw_types.specs.TypedTrees.{FunctionValue, ModuleValue}
 use Rattle.pw_types.specs.TypedModules.{AreParameters, IsFunctionTyped}
-use Rattle.pw_walk.specs.Walks.{Walk, Done, Passing, Closed, bind}
+use Rattle.pw_walk.specs.Walks.{bind}
 use Rattle.pw_rules.specs.Derivations.{Derivation, ToPointer, ToArray, ToFunction, ParameterValue, Bindings, Declared, Suffixed, built, step_type, pointer_step}
 use Rattle.pw_rules.specs.Functions.{ends_in_function, parameter_local}
 use Rattle.pw_rules.specs.Leaves.{parameter_types}

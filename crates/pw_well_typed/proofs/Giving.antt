@@ -1,5 +1,5 @@
 -- What the initialiser of an object gives, together: its type, complete where it can be, and its items.
-use Rattle.std.specs.Prelude.{◌≡◌, ◌⊎◌, Bool, true, false, Option, None, Some, refl, List, ℕ}
+use Rattle.std.specs.Prelude.{◌≡◌, true, false, None, Some, refl, List, ℕ}
 use Rattle.std.proofs.Common.{inl, inr, sym, ◌∙◌}
 use Rattle.pw_tree.specs.Trees.{Init}
 use Rattle.pw_types.specs.Layouts.{layout_of, array_layout}
@@ -8,7 +8,7 @@ use Rattle.pw_types.specs.WellTyped.{IsComplete}
 use Rattle.pw_rules.specs.Initialisers.{Context, Initialised, object_rule, with_length}
 use Rattle.pw_rules.specs.Kinds.{is_array, is_open_array}
 use Rattle.pw_rules.specs.States.{State}
-use Rattle.pw_well_typed.specs.Lawful.{IsLawful, IsLawfulType, Extends}
+use Rattle.pw_well_typed.specs.Lawful.{IsLawful, Extends}
 use Rattle.pw_well_typed.proofs.Walking.{post_both, post_if, post_weaken}
 use Rattle.pw_well_typed.proofs.Types.{no, complete_later, lawful_later, map_some}
 use Rattle.pw_well_typed.proofs.Composite.{Covers, covers_same, covers_trans}

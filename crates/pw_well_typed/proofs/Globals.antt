@@ -1,11 +1,11 @@
 -- The objects of a module: each has a type that objects can have, and its items stand in it one behind the other.
-use Rattle.std.specs.Prelude.{ℕ, zero, suc, ◌≡◌, ◌+◌, ◌<◌, ◌≤◌, ◌⊎◌, ◌^◌, Bool, true, false, Option, None, Some, option_and_then, unwrap_or, List, [], ◌∷◌, slice_get, flat_map, if◌then◌else◌, All, Contains, refl, ◌++◌}
+use Rattle.std.specs.Prelude.{ℕ, suc, ◌≡◌, ◌+◌, ◌⊎◌, Bool, true, false, Option, None, Some, unwrap_or, List, [], ◌∷◌, slice_get, flat_map, if◌then◌else◌, All, Contains, refl, ◌++◌}
 use Rattle.std.specs.Option.{option_map_or}
 use Rattle.std.proofs.Common.{arith, ap, sym, subst, ◌∙◌, inl, inr}
 use Rattle.std.proofs.lemmas.List.Elements.{All-nil, All-cons, All-head, All-tail, All-append}
 use Rattle.pw_tree.specs.Trees.{Module}
 use Rattle.pw_types.specs.Records.{IsObjectType}
-use Rattle.pw_types.specs.TypeTrees.{QType, type_of}
+use Rattle.pw_types.specs.TypeTrees.{type_of}
 use Rattle.pw_types.specs.TypedModules.{AreItems, IsItem, IsName, item_size}
 use Rattle.pw_types.specs.TypedTrees.{Symbol, External, Internal, Hidden, ItemValue, ItemBytes, ItemAddress, PlacedItem, GlobalValue, ModuleValue}
 use Rattle.pw_types.specs.WellTyped.{IsKnownType}
@@ -19,14 +19,13 @@ use Rattle.pw_rules.specs.declared.names.Slot.TheVariants as slot
 use Rattle.pw_well_typed.specs.Lawful.{IsLawful, IsLawfulType}
 use Rattle.pw_well_typed.specs.Words.{HasOffset, WordsInItems, AreWordsInModule, AreShortStrings}
 use Rattle.pw_well_typed.proofs.Walking.{Post, post_bind}
-use Rattle.pw_well_typed.proofs.Lists.{some_same, never_some}
+use Rattle.pw_well_typed.proofs.Lists.{never_some}
 use Rattle.pw_well_typed.proofs.Types.{no, lawful_known}
 use Rattle.pw_well_typed.proofs.Composite.{covers_same}
 use Rattle.pw_well_typed.proofs.Sound.{Sound, IsStored, IsThere}
-use Rattle.pw_well_typed.proofs.Outside.{outer_all}
 use Rattle.pw_well_typed.proofs.ObjectTypes.{AreWithin}
 use Rattle.pw_well_typed.proofs.Parts.{sized}
-use Rattle.pw_well_typed.proofs.Settled.{Rise, IsHere, IsKnownItem, AreKnownItems, IsFinal, HasItems, IsSettled, IsMade, IsStringType, Settled}
+use Rattle.pw_well_typed.proofs.Settled.{Rise, IsHere, IsKnownItem, AreKnownItems, IsFinal, IsSettled, IsMade, IsStringType, Settled}
 use Rattle.pw_well_typed.proofs.Keeping.{and_then_is}
 use Rattle.pw_well_typed.proofs.Ending.{contains_at, declared_as, start_sound}
 use Rattle.pw_well_typed.proofs.Backward.{names_end, get_flat}

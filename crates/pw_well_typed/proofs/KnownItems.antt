@@ -1,5 +1,5 @@
 -- The items of initialisers: their bytes are bytes, and their addresses are of what is known.
-use Rattle.std.specs.Prelude.{ℕ, ◌≡◌, ◌⊎◌, Bool, true, false, Option, None, Some, option_map, List, [], ◌∷◌, ◌++◌, slice_get, if◌then◌else◌, All, refl}
+use Rattle.std.specs.Prelude.{ℕ, ◌≡◌, ◌⊎◌, Bool, true, false, Option, None, Some, option_map, List, [], ◌∷◌, ◌++◌, slice_get, if◌then◌else◌, refl}
 use Rattle.std.proofs.Common.{subst, inl, inr}
 use Rattle.pw_literal.specs.Characters.{characters_of_strings, string_bytes_of}
 use Rattle.pw_tree.specs.FirstTokens.{first_of_expr}

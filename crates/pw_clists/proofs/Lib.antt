@@ -1,0 +1,4 @@
+pub mod LabelLemmas
+pub mod Answering
+pub mod Listing
+pub mod Making

@@ -1,0 +1,4 @@
+pub mod Steps
+pub mod Flows
+pub mod Follows
+pub mod Places

@@ -1,0 +1,13 @@
+use Rattle.std.proofs.Common.{rules}
+use Rattle.pw_cmean.specs.Execution.{value_of}
+use Rattle.pw_cstate.specs.Shown.{view_state}
+use Rattle.pw_ccalls.proofs.AnswerLaws.{then_ok, then_err}
+use Rattle.pw_cvalues.proofs.values.value_of.Goals as goal
+
+pub returns-in_err-answer : goal.returns-in_err-answer
+unfolding value_of
+returns-in_err-answer g c = then_err _ c.answer_of.ensures c.in_err-answer.was (search rules)
+
+pub returns : goal.returns
+unfolding value_of
+returns g c = then_ok _ c.answer_of.ensures c.in_ok-answer.was (c.used.ensures (view_state c.answer_of.new.state))

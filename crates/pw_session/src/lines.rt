@@ -1,0 +1,141 @@
+//! What a line of a session's script does.
+
+ghost use Rattle.std.specs.Prelude.{◌≡◌, [], ◌∷◌, IfSome, codes, true};
+ghost use Rattle.pw_modules.specs.Modules.{is_module_file};
+ghost use Rattle.pw_answer.specs.Answers.{line_text};
+ghost use Rattle.pw_answer.specs.Outcomes.{OutputCount, PutsOut, StoreCount};
+ghost use Rattle.pw_building.specs.Genuine.{KeepsGenuine};
+ghost use Rattle.pw_building.specs.Outcomes.{AreOpts};
+ghost use Rattle.pw_driving.specs.Driving.{IsPrintAnswer};
+ghost use Rattle.pw_script.specs.Reading.{line_view};
+ghost use Rattle.pw_script.specs.Script.{BuildProgram, NamesModule};
+ghost use Rattle.pw_session.specs.Changes.{MakesSome, Puts, Removes};
+ghost use Rattle.pw_session.specs.Outcomes.{Does, IsLineAnswer, ObeysLine, SaysFault, image_view};
+
+use crate::opts::SessionOpts;
+use crate::runs::run_image;
+use pw_answer::{Answer, line_of};
+use pw_build::{BuildFault, Unbuilt};
+use pw_building::module_texts_are_no_objects;
+use pw_driving::{answer_of, build_uncounted, print, put_report};
+use pw_io::laws::other_files;
+use pw_io::{Sink, Store};
+use pw_script::Line;
+use std::alloc::{AllocError, Global};
+
+/// Puts a text into a module's file.
+fn put_text<S: Store, O: Sink>(
+    alloc: Global,
+    store: &mut S,
+    out: &mut O,
+    file: &str,
+    text: &[u8],
+) -> Answer
+    requires { is_module_file file.now ≡ true }
+    ensures does { IfSome (S.told store.old) (λ told. Does (codes "ok\n") (Puts (file.now, text.now) ∷ []) result told (S.told store.new) (O.taken out.old) (O.taken out.new)) }
+    ensures genuine { IfSome (S.told store.old) (λ told. KeepsGenuine told.files → IfSome (S.told store.new) (λ now. KeepsGenuine now.files)) }
+    ensures store { StoreCount (S.faults store.old) (S.faults store.new) result }
+    ensures write { OutputCount (O.faults out.old) (O.faults out.new) result }
+    ensures answer { IsLineAnswer result }
+{
+    other_files();
+    module_texts_are_no_objects();
+    match store.put(alloc, file, text) {
+        Ok(()) => print(out, b"ok\n"),
+        Err(error) => Answer::from(error),
+    }
+}
+
+/// Removes a module's file.
+fn remove_text<S: Store, O: Sink>(alloc: Global, store: &mut S, out: &mut O, file: &str) -> Answer
+    requires { is_module_file file.now ≡ true }
+    ensures does { IfSome (S.told store.old) (λ told. Does (codes "ok\n") (Removes file.now ∷ []) result told (S.told store.new) (O.taken out.old) (O.taken out.new)) }
+    ensures genuine { IfSome (S.told store.old) (λ told. KeepsGenuine told.files → IfSome (S.told store.new) (λ now. KeepsGenuine now.files)) }
+    ensures store { StoreCount (S.faults store.old) (S.faults store.new) result }
+    ensures write { OutputCount (O.faults out.old) (O.faults out.new) result }
+    ensures answer { IsLineAnswer result }
+{
+    other_files();
+    module_texts_are_no_objects();
+    match store.remove(alloc, file) {
+        Ok(()) => print(out, b"ok\n"),
+        Err(error) => Answer::from(error),
+    }
+}
+
+/// Puts the line of an answer out.
+fn say_line<O: Sink>(alloc: Global, out: &mut O, answer: &Answer, line: usize) -> Answer
+    ensures output { PutsOut (line_text line answer.now) result (O.taken out.old) (O.taken out.new) }
+    ensures write { OutputCount (O.faults out.old) (O.faults out.new) result }
+    ensures answer { IsPrintAnswer result }
+{
+    match line_of(alloc, answer, line) {
+        Ok(text) => print(out, text.as_bytes()),
+        Err(AllocError) => Answer::NoMemory,
+    }
+}
+
+/// Puts the line of a refusal out; a fault of the store, and want of memory, are the answer themselves.
+fn say_fault<O: Sink>(alloc: Global, out: &mut O, unbuilt: Unbuilt) -> Answer
+    ensures said { SaysFault unbuilt.fault unbuilt.line result (O.taken out.old) (O.taken out.new) }
+    ensures write { OutputCount (O.faults out.old) (O.faults out.new) result }
+    ensures answer { IsLineAnswer result }
+{
+    match unbuilt.fault {
+        BuildFault::StoreFault => Answer::StoreFault,
+        BuildFault::NoMemory => Answer::NoMemory,
+        fault => say_line(alloc, out, &answer_of(fault), unbuilt.line),
+    }
+}
+
+/// Builds the program, puts out its report or the line of its refusal, and keeps its image.
+fn build_program<S: Store, O: Sink>(
+    alloc: Global,
+    store: &mut S,
+    out: &mut O,
+    opts: &SessionOpts,
+    image: &mut Option<Vec<u8>>,
+) -> Answer
+    requires { AreOpts opts.now.build }
+    ensures does { IfSome (S.told store.old) (λ told. ObeysLine opts.now (record { told = told; image = image_view image.old }) BuildProgram result (S.told store.new) (O.taken out.old) (O.taken out.new) (image_view image.new)) }
+    ensures some { IfSome (S.told store.old) (λ told. MakesSome result told (S.told store.new)) }
+    ensures genuine { IfSome (S.told store.old) (λ told. KeepsGenuine told.files → IfSome (S.told store.new) (λ now. KeepsGenuine now.files)) }
+    ensures store { StoreCount (S.faults store.old) (S.faults store.new) result }
+    ensures write { OutputCount (O.faults out.old) (O.faults out.new) result }
+    ensures answer { IsLineAnswer result }
+{
+    match build_uncounted(alloc, store, &opts.build) {
+        Ok(report) => {
+            let answer = put_report(alloc, &report, out);
+            *image = Some(report.image);
+            answer
+        }
+        Err(unbuilt) => say_fault(alloc, out, unbuilt),
+    }
+}
+
+/// Obeys a line. The answer is `Done`, or that something failed or memory ran out.
+pub fn obey_line<S: Store, O: Sink>(
+    alloc: Global,
+    store: &mut S,
+    out: &mut O,
+    opts: &SessionOpts,
+    image: &mut Option<Vec<u8>>,
+    line: &Line,
+) -> Answer
+    requires opts { AreOpts opts.now.build }
+    requires named { NamesModule (line_view line.now) }
+    ensures does { IfSome (S.told store.old) (λ told. ObeysLine opts.now (record { told = told; image = image_view image.old }) (line_view line.now) result (S.told store.new) (O.taken out.old) (O.taken out.new) (image_view image.new)) }
+    ensures some { IfSome (S.told store.old) (λ told. MakesSome result told (S.told store.new)) }
+    ensures genuine { IfSome (S.told store.old) (λ told. KeepsGenuine told.files → IfSome (S.told store.new) (λ now. KeepsGenuine now.files)) }
+    ensures store { StoreCount (S.faults store.old) (S.faults store.new) result }
+    ensures write { OutputCount (O.faults out.old) (O.faults out.new) result }
+    ensures answer { IsLineAnswer result }
+{
+    match line {
+        Line::Put(file, text) => put_text(alloc, store, out, file.as_str(), text),
+        Line::Remove(file) => remove_text(alloc, store, out, file.as_str()),
+        Line::Build => build_program(alloc, store, out, opts, image),
+        Line::Run(input) => run_image(alloc, out, image.as_deref(), opts.budget, input),
+    }
+}
