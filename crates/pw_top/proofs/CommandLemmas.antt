@@ -1,5 +1,5 @@
 -- What each command did, by its own clauses.
-use Rattle.std.proofs.Common.{◌≡◌, ℕ, ⊎_elim, List, [], ◌∷◌, ◌++◌, codes, Option, Some, None, Result, Ok, Err, refl, sym, ap, ◌∙◌, subst}
+use Rattle.std.proofs.Common.{◌≡◌, ℕ, ◌⊎◌, ⊎_elim, inl, List, [], ◌∷◌, ◌++◌, codes, Option, Some, None, Result, Ok, Err, refl, sym, ap, ◌∙◌, subst}
 use Rattle.std.specs.Prelude.{IfSome}
 use Rattle.pw_io.specs.Files.{Files, Told, Keeps}
 use Rattle.pw_object.specs.declared.object.Object.{Object}
@@ -13,26 +13,44 @@ use Rattle.pw_answer.specs.declared.answer.Answer.{Answer}
 use Rattle.pw_answer.specs.declared.answer.Answer.TheVariants.{Done, Ended, Usage, Refused, LinkRefused, StackStop, Spent, Halted, ReadFault, WriteFault, StoreFault, NoMemory, BadFile}
 use Rattle.pw_answer.specs.Effects.{Effect, NamedFile, PutsFiles, answers_alone, prints}
 use Rattle.pw_answer.specs.Outcomes.{Answers, InputCount, LeavesInput, LeavesStreams, OutputCount, PutsOut}
-use Rattle.pw_running.proofs.RunLemmas.{Ends, ends_itself}
+use Rattle.pw_run_laws.specs.Ends.{Ends}
+use Rattle.pw_build.specs.declared.fault.BuildFault.{BuildFault}
+use Rattle.pw_building.specs.Building.{Outcome}
+use Rattle.pw_driving.specs.Driving.{BuildComesTo, IsBuildAnswer, IsLineDue, built_effect}
 use Rattle.pw_go.specs.FullBuild.{Build, full_build}
 use Rattle.pw_go.specs.FullBuild as build
 use Rattle.pw_go.specs.Going.{IsLineOf, IsNoUsage, build_effect, refused_line}
-use Rattle.pw_go.proofs.GoLemmas.{build_leaves}
 use Rattle.pw_commands.specs.Analysing.{AnalyseComes, AnalyseOver, summaries_of}
 use Rattle.pw_commands.specs.Linking.{LinkComes, LinkOver, objects_of}
 use Rattle.pw_commands.specs.Needed.{needed, needed_bytes}
 use Rattle.pw_commands.specs.Outcome.{IsStoreAnswer, Obeys}
 use Rattle.pw_commands.specs.Running.{IsRunOrStop, core_in, run_effect, runs}
 use Rattle.pw_commands.specs.Showing.{DatabaseComes, IsShowAnswer, ListComes, ListOver, Shows, database_text, image_in, printed}
-use Rattle.pw_commands.proofs.RunningLemmas.{runs_end}
+use Rattle.pw_session.specs.Bench.{BenchComes}
 use Rattle.pw_words.specs.declared.commands.Command.{Command}
-use Rattle.pw_words.specs.declared.commands.Command.TheVariants.{Go, PhaseOne, Analyse, PhaseTwo, Link, Run, List as ListImage, Db}
+use Rattle.pw_words.specs.declared.commands.Command.TheVariants.{Go, Build as BuildAll, Session, PhaseOne, Analyse, PhaseTwo, Link, Run, List as ListImage, Db, Bench}
 use Rattle.pw_compiling.specs.First.{ComesOfPhase, IsLine, PhaseOneComes, PhaseOneOver, text_name}
 use Rattle.pw_compiling.specs.Made.{IsPhaseAnswer}
 use Rattle.pw_compiling.specs.Second.{PhaseTwoComes, PhaseTwoOver, database_at, flow_at}
-use Rattle.pw_top.specs.Commands.{Comes}
+use Rattle.pw_top.specs.Commands.{IsUsageDue, opts_of}
 use Rattle.pw_top.specs.Does.{Does}
-use Rattle.pw_top.proofs.DoesLemmas.{Prints, Quiet, nothing_put, one_does, prints_does, quiet_does}
+use Rattle.pw_top.proofs.SessionLemmas.{bench_prints}
+use Rattle.pw_top.proofs.DoesLemmas.{Prints, Quiet, left_so, nothing_put, one_does, prints_does, quiet_does}
+
+-- what the words come to, but for a session
+abbrev pub Comes : Option Command → Files → List ℕ → (Effect → Type 0)
+Comes None files input = λ effect. effect ≡ answers_alone Usage input
+Comes (Some (Go colours stack steps)) files input = λ effect. effect ≡ build_effect (full_build files) steps input
+Comes (Some (BuildAll colours stack)) files input = BuildComesTo files colours stack input
+Comes (Some (Session colours stack steps)) files input = λ effect. ⊥
+Comes (Some (Bench number colours stack steps)) files input = BenchComes number (opts_of colours stack steps) input
+Comes (Some (PhaseOne name)) files input = PhaseOneComes files name input
+Comes (Some (Analyse colours)) files input = AnalyseComes files colours input
+Comes (Some (PhaseTwo name)) files input = PhaseTwoComes files name input
+Comes (Some (Link stack)) files input = LinkComes files stack input
+Comes (Some (Run steps)) files input = λ effect. effect ≡ run_effect files steps input
+Comes (Some ListImage) files input = ListComes files input
+Comes (Some Db) files input = DatabaseComes files input
 
 -- ---- the store's commands
 
@@ -156,21 +174,82 @@ run_does (Some t) new None rest taken taken' budget answer same h out left = tt
 run_does (Some t) new (Some input) rest taken taken' budget answer same h out left =
     ran_does (run_effect t.files budget input) answer t new input rest taken taken' (runs_puts (core_in t.files) budget input) same h out left
 
+-- ---- the command that builds
+
+built_rest : (comes : Result Outcome BuildFault) (input : List ℕ) → (built_effect comes input).rest ≡ input
+built_rest (Ok outcome) input = refl
+built_rest (Err fault) input = refl
+
+comes_rest : (files : Files) (colours stack : ℕ) (input : List ℕ) (e : Effect) → BuildComesTo files colours stack input e → e.rest ≡ input
+comes_rest files colours stack input e d = ap (λ (x : Effect). x.rest) d.2 ∙ built_rest d.0 input
+
+built_does : (comes : Effect → Type 0) (answer : Answer) (told : Told) (new : Option Told) (input : List ℕ) (taken taken' : Option (List ℕ)) → ((e : Effect) → comes e → e.rest ≡ input) → Obeys comes answer told new
+    → ((e : Effect) → comes e → PutsOut e.output answer taken taken') → Does comes answer told new input (Some input) taken taken'
+built_does comes answer told new input taken taken' rest h out = record {
+  answers = λ e d. h.answers e d;
+  puts = λ e d. h.puts e d;
+  output = out;
+  rest = λ e d. left_so answer e.rest input (rest e d);
+  found = h.found;
+}
+
+pub build_does : (told new : Option Told) (rest taken taken' : Option (List ℕ)) (colours stack : ℕ) (answer : Answer)
+    → IfSome told (λ t. (input : List ℕ) → Obeys (BuildComesTo t.files colours stack input) answer t new)
+    → IfSome told (λ t. (input : List ℕ) (e : Effect) → BuildComesTo t.files colours stack input e → PutsOut e.output answer taken taken')
+    → IfSome told (λ t. IfSome rest (λ input. Does (BuildComesTo t.files colours stack input) answer t new input rest taken taken'))
+build_does None new rest taken taken' colours stack answer h out = tt
+build_does (Some t) new None taken taken' colours stack answer h out = tt
+build_does (Some t) new (Some input) taken taken' colours stack answer h out =
+    built_does (BuildComesTo t.files colours stack input) answer t new input taken taken' (λ e d. comes_rest t.files colours stack input e d) (h input) (λ e d. out input e d)
+
+pub build_no_usage : (answer : Answer) → IsBuildAnswer answer → IsNoUsage answer
+build_no_usage Usage h = h
+build_no_usage _ h = tt
+
+pub build_reads : (count : ℕ) (answer : Answer) → IsBuildAnswer answer → InputCount count count answer
+build_reads count ReadFault h = absurd h
+build_reads count _ h = refl
+
+line_is_due : (due : ℕ) (answer : Answer) (line : ℕ) → IsLineDue due answer line → IsLine due answer line
+line_is_due due (Refused name refusal) line h = h
+line_is_due due _ line h = tt
+
+pub build_line : (due : Files → ℕ) (told : Option Told) (answer : Answer) (line : ℕ) → IfSome told (λ t. IsLineDue (due t.files) answer line) → IfSome told (λ t. IsLine (due t.files) answer line)
+build_line due None answer line h = tt
+build_line due (Some t) answer line h = line_is_due (due t.files) answer line h
+
 -- ---- what each command leaves of the input is a rest of it
+
+abbrev pub RunsEnd : Type 0
+RunsEnd = (files : Files) (budget : ℕ) (input : List ℕ) → Ends input (run_effect files budget input).rest
+
+abbrev pub BuildsEnd : Type 0
+BuildsEnd = (built : Build) (budget : ℕ) (input : List ℕ) → Ends input (build_effect built budget input).rest
+
+ends_itself : (input : List ℕ) → Ends input input
+ends_itself input = ([], refl)
 
 left_all : (input : List ℕ) (e : Effect) → e.rest ≡ input → Ends input e.rest
 left_all input e h = subst (Ends input) (sym h) (ends_itself input)
 
-pub comes_ends : (command : Option Command) (files : Files) (input : List ℕ) (e : Effect) → Comes command files input e → Ends input e.rest
-comes_ends None files input e h = left_all input e (ap (λ (x : Effect). x.rest) h)
-comes_ends (Some (Go colours stack steps)) files input e h = subst (λ (x : Effect). Ends input x.rest) (sym h) (build_leaves (full_build files) steps input)
-comes_ends (Some (PhaseOne name)) files input e h = left_all input e (phase_one_quiet name (needed_bytes files (text_name name)) input e h).rest
-comes_ends (Some (Analyse colours)) files input e h = left_all input e (analyse_quiet (summaries_of files) colours input e h).rest
-comes_ends (Some (PhaseTwo name)) files input e h = left_all input e (phase_two_quiet name (needed flow_at files (name ++ codes ".flow")) (needed database_at files (codes "prog.db")) input e h).rest
-comes_ends (Some (Link stack)) files input e h = left_all input e (link_quiet (objects_of files) stack input e h).rest
-comes_ends (Some (Run steps)) files input e h = subst (λ (x : Effect). Ends input x.rest) (sym h) (runs_end (core_in files) steps input)
-comes_ends (Some ListImage) files input e h = left_all input e (list_prints (image_in files) input e h).rest
-comes_ends (Some Db) files input e h = left_all input e (subst (Prints input) (sym h) (printed_prints (database_text files) input)).rest
+pub comes_ends : RunsEnd → BuildsEnd → (command : Option Command) (files : Files) (input : List ℕ) (e : Effect) → Comes command files input e → Ends input e.rest
+comes_ends runs builds None files input e h = left_all input e (ap (λ (x : Effect). x.rest) h)
+comes_ends runs builds (Some (Go colours stack steps)) files input e h = subst (λ (x : Effect). Ends input x.rest) (sym h) (builds (full_build files) steps input)
+comes_ends runs builds (Some (BuildAll colours stack)) files input e h = left_all input e (comes_rest files colours stack input e h)
+comes_ends runs builds (Some (Session colours stack steps)) files input e h = absurd h
+comes_ends runs builds (Some (Bench number colours stack steps)) files input e h = left_all input e (bench_prints number (opts_of colours stack steps) input e h).rest
+comes_ends runs builds (Some (PhaseOne name)) files input e h = left_all input e (phase_one_quiet name (needed_bytes files (text_name name)) input e h).rest
+comes_ends runs builds (Some (Analyse colours)) files input e h = left_all input e (analyse_quiet (summaries_of files) colours input e h).rest
+comes_ends runs builds (Some (PhaseTwo name)) files input e h = left_all input e (phase_two_quiet name (needed flow_at files (name ++ codes ".flow")) (needed database_at files (codes "prog.db")) input e h).rest
+comes_ends runs builds (Some (Link stack)) files input e h = left_all input e (link_quiet (objects_of files) stack input e h).rest
+comes_ends runs builds (Some (Run steps)) files input e h = subst (λ (x : Effect). Ends input x.rest) (sym h) (runs files steps input)
+comes_ends runs builds (Some ListImage) files input e h = left_all input e (list_prints (image_in files) input e h).rest
+comes_ends runs builds (Some Db) files input e h = left_all input e (subst (Prints input) (sym h) (printed_prints (database_text files) input)).rest
+
+-- ---- the words
+
+none_and_some : {X : Type 0} (o : Option X) (x : X) → o ≡ None → o ≡ Some x → ⊥
+none_and_some o x n s = cc
 
 -- ---- streams, counts, lines
 
@@ -218,8 +297,14 @@ pub run_no_usage : (answer : Answer) → IsRunOrStop answer → IsNoUsage answer
 run_no_usage Usage h = h
 run_no_usage _ h = tt
 
-pub no_usage : (P : Type 0) (answer : Answer) → IsNoUsage answer → answer ≡ Usage → P
-no_usage P answer h e = absurd (subst IsNoUsage e h)
+-- an answer that is due is the one of no command, or another
+pub due_is : (command : Option Command) (answer : Answer) → IsUsageDue command answer → answer ≡ Usage → command ≡ None
+due_is None answer h e = refl
+due_is (Some command) answer h e = absurd (subst IsNoUsage e h)
+
+pub due_comes : (command : Option Command) (answer : Answer) → IsUsageDue command answer → command ≡ None → (answer ≡ Usage) ⊎ (answer ≡ NoMemory)
+due_comes None answer h e = inl h
+due_comes (Some command) answer h e = absurd (none_and_some (Some command) command e refl)
 
 first_line : (answer : Answer) → IsLine 1 answer 1
 first_line (Refused name refusal) = refl
@@ -244,14 +329,15 @@ pub of_go : (P : Told → Type 0) (told : Option Told) → IfSome told P → IfS
 of_go P None h = tt
 of_go P (Some t) h = λ u. h
 
+-- what holds of every command that is not left out
+pub of_any : (P : Told → Type 0) (told : Option Told) → IfSome told P → IfSome told (λ t. Unit {0} → P t)
+of_any P told h = of_go P told h
+
 pub of_other : (P : Told → Type 0) (told : Option Told) → IfSome told (λ t. ⊥ → P t)
 of_other P None = tt
 of_other P (Some t) = λ h. absurd h
 
 -- ---- words that say no command
-
-pub none_and_some : {X : Type 0} (o : Option X) (x : X) → o ≡ None → o ≡ Some x → ⊥
-none_and_some o x n s = cc
 
 pub kept_alone : (told : Option Told) → Keeps told told
 kept_alone None = tt

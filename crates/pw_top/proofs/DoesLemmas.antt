@@ -7,7 +7,7 @@ use Rattle.pw_answer.specs.declared.answer.Answer.{Answer}
 use Rattle.pw_answer.specs.declared.answer.Answer.TheVariants.{Done, Ended, Usage, Refused, LinkRefused, StackStop, Spent, Halted, ReadFault, WriteFault, StoreFault, NoMemory, BadFile}
 use Rattle.pw_answer.specs.Effects.{Effect, NamedFile, PutsFiles, answers_alone}
 use Rattle.pw_answer.specs.Outcomes.{Answers, IsWhole, LeavesInput, PutsOut, WasReadInPart}
-use Rattle.pw_running.proofs.RunLemmas.{Ends}
+use Rattle.pw_run_laws.specs.Ends.{Ends}
 use Rattle.pw_commands.specs.Outcome.{IsFound, Obeys}
 use Rattle.pw_commands.specs.Showing.{Shows}
 use Rattle.pw_top.specs.Does.{Does}
@@ -33,7 +33,7 @@ appends_none (Some xs) = sym (append-nil xs)
 pub nothing_out : (answer : Answer) (taken : Option (List ℕ)) → PutsOut [] answer taken taken
 nothing_out answer taken = record { output = []; more = []; taken = appends_none taken; front = refl; whole = whole_none answer }
 
-none_out_yet : (wanted : List ℕ) (taken : Option (List ℕ)) → PutsOut wanted NoMemory taken taken
+pub none_out_yet : (wanted : List ℕ) (taken : Option (List ℕ)) → PutsOut wanted NoMemory taken taken
 none_out_yet wanted taken = record { output = []; more = wanted; taken = appends_none taken; front = refl; whole = tt }
 
 nothing_read : (answer : Answer) (input : List ℕ) → LeavesInput input input answer (Some input)
@@ -43,7 +43,7 @@ nothing_read StoreFault input = ([], [], (refl, refl))
 nothing_read NoMemory input = ([], [], (refl, refl))
 nothing_read _ input = refl
 
-left_so : (answer : Answer) (wanted input : List ℕ) → wanted ≡ input → LeavesInput wanted input answer (Some input)
+pub left_so : (answer : Answer) (wanted input : List ℕ) → wanted ≡ input → LeavesInput wanted input answer (Some input)
 left_so answer wanted input e = subst (λ (w : List ℕ). LeavesInput w input answer (Some input)) (sym e) (nothing_read answer input)
 
 -- ---- a command that touches the store alone
@@ -109,7 +109,7 @@ usage_does (Some t) (Some input) taken = one_does (answers_alone Usage input) Us
 untouched_part : (wanted input : List ℕ) → Ends input wanted → WasReadInPart wanted input (Some input)
 untouched_part wanted input e = ([], e.0, (refl, e.1))
 
-memory_here : (comes : Effect → Type 0) (told : Told) (input : List ℕ) (taken : Option (List ℕ)) → ((e : Effect) → comes e → Ends input e.rest) → Does comes NoMemory told (Some told) input (Some input) taken taken
+pub memory_here : (comes : Effect → Type 0) (told : Told) (input : List ℕ) (taken : Option (List ℕ)) → ((e : Effect) → comes e → Ends input e.rest) → Does comes NoMemory told (Some told) input (Some input) taken taken
 memory_here comes told input taken ends = record {
   answers = λ e d. tt;
   puts = λ e d. record { done = []; more = e.puts; split = refl; left = refl };
@@ -118,8 +118,6 @@ memory_here comes told input taken ends = record {
   found = tt;
 }
 
-pub memory_does : (comes : Told → List ℕ → Effect → Type 0) (told : Option Told) (rest taken : Option (List ℕ)) → ((t : Told) (input : List ℕ) (e : Effect) → comes t input e → Ends input e.rest)
-    → IfSome told (λ t. IfSome rest (λ input. Does (comes t input) NoMemory t told input rest taken taken))
-memory_does comes None rest taken ends = tt
-memory_does comes (Some t) None taken ends = tt
-memory_does comes (Some t) (Some input) taken ends = memory_here (comes t input) t input taken (ends t input)
+-- a front of what is wanted was put out, whatever came then
+pub out_part : (wanted : List ℕ) (answer : Answer) (old new : Option (List ℕ)) → PutsOut wanted answer old new → PutsOut wanted NoMemory old new
+out_part wanted answer old new p = record { output = p.output; more = p.more; taken = p.taken; front = p.front; whole = tt }

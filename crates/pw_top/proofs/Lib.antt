@@ -1,3 +1,6 @@
 pub mod DoesLemmas
 pub mod CommandLemmas
 pub mod ToldLemmas
+pub mod GenuineLemmas
+pub mod SessionLemmas
+pub mod WholeLemmas

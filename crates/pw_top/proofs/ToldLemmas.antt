@@ -8,18 +8,20 @@ use Rattle.pw_answer.specs.declared.answer.Answer.TheVariants.{Usage, Refused, L
 use Rattle.pw_answer.specs.Answers.{line_text, NeedsMemory}
 use Rattle.pw_answer.specs.Effects.{Effect, NamedFile, PutsFiles, PutFront}
 use Rattle.pw_answer.specs.Outcomes.{Answers, InputCount, LeavesInput, LeavesStreams, OutputCount, PutsOut, StoreCount, ToldAs, WasReadInPart}
-use Rattle.pw_running.proofs.RunLemmas.{Ends}
+use Rattle.pw_run_laws.specs.Ends.{Ends}
 use Rattle.pw_modules.specs.Modules.{modules_of}
 use Rattle.pw_go.specs.FullBuild as build
 use Rattle.pw_go.specs.FullBuild.{Build, full_build}
 use Rattle.pw_go.specs.Going.{AnswersBuild, ReturnsSum, build_effect}
 use Rattle.pw_go.specs.Refusals.{HoldsNoWantOfMemory}
 use Rattle.pw_words.specs.declared.commands.Command.{Command}
-use Rattle.pw_words.specs.declared.commands.Command.TheVariants.{Go}
+use Rattle.pw_words.specs.declared.commands.Command.TheVariants.{Go, Session}
 use Rattle.pw_compiling.specs.First.{IsLine}
-use Rattle.pw_top.specs.Commands.{Comes}
-use Rattle.pw_top.specs.Does.{Does}
-use Rattle.pw_top.proofs.CommandLemmas.{comes_ends}
+use Rattle.pw_top.specs.Commands.{KeepsTheRest, opts_of}
+use Rattle.pw_top.specs.Does.{Does, DoesAs}
+use Rattle.pw_top.proofs.DoesLemmas.{memory_here, out_part}
+use Rattle.pw_top.proofs.SessionLemmas.{session_memory_here, session_no_memory, some_memory}
+use Rattle.pw_top.proofs.CommandLemmas.{BuildsEnd, Comes, RunsEnd, comes_ends}
 
 refused_is_some_memory : (name : List ℕ) (refusal : Refusal) → Refused name refusal ≡ NoMemory → ⊥
 refused_is_some_memory name refusal e = cc
@@ -66,9 +68,6 @@ left_part input wanted new (BadFile name at) e n h = part_of_wanted input wanted
 left_part input wanted new (BadScript at) e n h = part_of_wanted input wanted new e h
 left_part input wanted new _ e n h = absurd n
 
-out_part : (wanted : List ℕ) (answer : Answer) (old new : Option (List ℕ)) → PutsOut wanted answer old new → PutsOut wanted NoMemory old new
-out_part wanted answer old new p = record { output = p.output; more = p.more; taken = p.taken; front = p.front; whole = tt }
-
 does_no_memory : (comes : Effect → Type 0) (answer : Answer) (told : Told) (new : Option Told) (input : List ℕ) (rest taken taken' : Option (List ℕ)) → ((e : Effect) → comes e → Ends input e.rest) → NeedsMemory answer
     → Does comes answer told new input rest taken taken' → Does comes NoMemory told new input rest taken taken'
 does_no_memory comes answer told new input rest taken taken' ends n h = record {
@@ -79,15 +78,28 @@ does_no_memory comes answer told new input rest taken taken' ends n h = record {
   found = tt;
 }
 
-pub told_does : (command : Option Command) (first new : Option Told) (old rest taken taken' : Option (List ℕ)) (answer last : Answer) → ToldAs answer last
-    → IfSome first (λ t. IfSome old (λ input. Does (Comes command t.files input) answer t new input rest taken taken'))
-    → IfSome first (λ t. IfSome old (λ input. Does (Comes command t.files input) last t new input rest taken taken'))
-told_does command None new old rest taken taken' answer last t h = tt
-told_does command (Some now) new None rest taken taken' answer last t h = tt
-told_does command (Some now) new (Some input) rest taken taken' answer last t h =
-    let comes : Effect → Type 0 = Comes command now.files input in
-    told_by (λ a. Does comes a now new input rest taken taken') answer last t h
-    (λ n d. does_no_memory comes answer now new input rest taken taken' (λ e c. comes_ends command now.files input e c) n d)
+as_no_memory : RunsEnd → BuildsEnd → (command : Option Command) (answer : Answer) (told : Told) (new : Option Told) (input : List ℕ) (rest taken taken' : Option (List ℕ)) → NeedsMemory answer
+    → DoesAs command answer told new input rest taken taken' → DoesAs command NoMemory told new input rest taken taken'
+as_no_memory runs builds (Some (Session colours stack steps)) answer told new input rest taken taken' n h = session_no_memory (opts_of colours stack steps) answer told new input rest taken taken' n h
+as_no_memory runs builds command answer told new input rest taken taken' n h =
+    does_no_memory (Comes command told.files input) answer told new input rest taken taken' (λ e c. comes_ends runs builds command told.files input e c) n h
+
+memory_as : RunsEnd → BuildsEnd → (command : Option Command) (told : Told) (input : List ℕ) (taken : Option (List ℕ)) → DoesAs command NoMemory told (Some told) input (Some input) taken taken
+memory_as runs builds (Some (Session colours stack steps)) told input taken = session_memory_here (opts_of colours stack steps) told input taken
+memory_as runs builds command told input taken = memory_here (Comes command told.files input) told input taken (λ e c. comes_ends runs builds command told.files input e c)
+
+pub memory_does : RunsEnd → BuildsEnd → (command : Option Command) (told : Option Told) (rest taken : Option (List ℕ)) → IfSome told (λ t. IfSome rest (λ input. DoesAs command NoMemory t told input rest taken taken))
+memory_does runs builds command None rest taken = tt
+memory_does runs builds command (Some t) None taken = tt
+memory_does runs builds command (Some t) (Some input) taken = memory_as runs builds command t input taken
+
+pub told_does : RunsEnd → BuildsEnd → (command : Option Command) (first new : Option Told) (old rest taken taken' : Option (List ℕ)) (answer last : Answer) → ToldAs answer last
+    → IfSome first (λ t. IfSome old (λ input. DoesAs command answer t new input rest taken taken'))
+    → IfSome first (λ t. IfSome old (λ input. DoesAs command last t new input rest taken taken'))
+told_does runs builds command None new old rest taken taken' answer last t h = tt
+told_does runs builds command (Some now) new None rest taken taken' answer last t h = tt
+told_does runs builds command (Some now) new (Some input) rest taken taken' answer last t h =
+    told_by (λ a. DoesAs command a now new input rest taken taken') answer last t h (λ n d. as_no_memory runs builds command answer now new input rest taken taken' n d)
 
 -- ---- the refusals of `go`
 
@@ -114,22 +126,22 @@ told_proper P answer last t h p = told_by HoldsNoWantOfMemory answer last t (h p
 
 -- ---- source and machine
 
-sum_of : (command : Option Command) (files : Files) (input : List ℕ) (last : Answer) (told : Told) (new : Option Told) (rest taken taken' : Option (List ℕ)) (colours stack steps : ℕ)
+sum_of : (command : Option Command) (input : List ℕ) (last : Answer) (told : Told) (new : Option Told) (rest taken taken' : Option (List ℕ)) (colours stack steps : ℕ)
     → ((files : Files) (budget : ℕ) (input : List ℕ) (answer : Answer) → Answers (build_effect (full_build files) budget input).answer answer → ReturnsSum budget (full_build files) answer)
-    → command ≡ Some (Go colours stack steps) → Does (Comes command files input) last told new input rest taken taken' → ReturnsSum steps (full_build files) last
-sum_of command files input last told new rest taken taken' colours stack steps law e h =
-    let P : Option Command → Type 0 = λ c. Does (Comes c files input) last told new input rest taken taken' in
+    → command ≡ Some (Go colours stack steps) → DoesAs command last told new input rest taken taken' → ReturnsSum steps (full_build told.files) last
+sum_of command input last told new rest taken taken' colours stack steps law e h =
+    let P : Option Command → Type 0 = λ c. DoesAs c last told new input rest taken taken' in
     let d = subst P e h in
-    law files steps input last (d.answers (build_effect (full_build files) steps input) refl)
+    law told.files steps input last (d.answers (build_effect (full_build told.files) steps input) refl)
 
 pub returns_sum : (command : Option Command) (first new : Option Told) (old rest taken taken' : Option (List ℕ)) (last : Answer)
     → ((files : Files) (budget : ℕ) (input : List ℕ) (answer : Answer) → Answers (build_effect (full_build files) budget input).answer answer → ReturnsSum budget (full_build files) answer)
-    → IfSome first (λ t. IfSome old (λ input. Does (Comes command t.files input) last t new input rest taken taken'))
+    → IfSome first (λ t. IfSome old (λ input. DoesAs command last t new input rest taken taken'))
     → IfSome first (λ t. IfSome old (λ input. (colours stack steps : ℕ) → command ≡ Some (Go colours stack steps) → ReturnsSum steps (full_build t.files) last))
 returns_sum command None new old rest taken taken' last law h = tt
 returns_sum command (Some now) new None rest taken taken' last law h = tt
 returns_sum command (Some now) new (Some input) rest taken taken' last law h =
-    λ colours stack steps e. sum_of command now.files input last now new rest taken taken' colours stack steps law e h
+    λ colours stack steps e. sum_of command input last now new rest taken taken' colours stack steps law e h
 
 pub of_files : (P : Files → Type 0) (first : Option Told) → ((files : Files) → P files) → IfSome first (λ t. P t.files)
 of_files P None law = tt
@@ -170,8 +182,18 @@ output_told before now answer last t h = told_by (λ a. OutputCount before now a
     kept (BadScript at) n h = h
     kept _ n h = absurd n
 
-pub streams_told : (answer last : Answer) (i i' o o' : Option (List ℕ)) → ToldAs answer last → LeavesStreams answer i i' o o' → LeavesStreams last i i' o o'
-streams_told answer last i i' o o' t h = told_by (λ a. LeavesStreams a i i' o o') answer last t h (λ n c. tt)
+pub streams_told : (P : Type 0) (answer last : Answer) (i i' o o' : Option (List ℕ)) → ToldAs answer last → (P → LeavesStreams answer i i' o o') → P → LeavesStreams last i i' o o'
+streams_told P answer last i i' o o' t h p = told_by (λ a. LeavesStreams a i i' o o') answer last t (h p) (λ n c. tt)
+
+-- ---- what stays
+
+rest_memory : (command : Option Command) (answer : Answer) (old new : Option Told) → NeedsMemory answer → KeepsTheRest command answer old new → KeepsTheRest command NoMemory old new
+rest_memory (Some (Session colours stack steps)) answer None new n h = tt
+rest_memory (Some (Session colours stack steps)) answer (Some told) new n h = some_memory answer told new n h
+rest_memory command answer old new n h = h
+
+pub rest_told : (command : Option Command) (old new : Option Told) (answer last : Answer) → ToldAs answer last → KeepsTheRest command answer old new → KeepsTheRest command last old new
+rest_told command old new answer last t h = told_by (λ a. KeepsTheRest command a old new) answer last t h (λ n k. rest_memory command answer old new n k)
 
 -- ---- the line
 

@@ -1,46 +1,49 @@
--- What each command comes to over a store's files and an input, where nothing fails.
-use Rattle.std.specs.Prelude.{◌≡◌, ℕ, List, [], ◌∷◌, codes, Option, Some, None}
-use Rattle.pw_io.specs.Files.{Files}
+-- Kinds of commands, and what each leaves alone.
+use Rattle.std.specs.Prelude.{◌≡◌, ℕ, List, [], ◌∷◌, codes, Option, Some, None, IfSome, IsSomeAnd}
+use Rattle.pw_io.specs.Files.{Files, Told}
 use Rattle.pw_answer.specs.declared.answer.Answer.{Answer}
-use Rattle.pw_answer.specs.declared.answer.Answer.TheVariants.{Usage}
-use Rattle.pw_answer.specs.Effects.{Effect, answers_alone}
+use Rattle.pw_answer.specs.declared.answer.Answer.TheVariants.{Done, Usage}
+use Rattle.pw_modules.specs.Modules.{module_map, modules_of}
+use Rattle.pw_build.specs.Phases as phases
 use Rattle.pw_go.specs.FullBuild.{full_build}
-use Rattle.pw_go.specs.Going.{build_effect, refused_line}
-use Rattle.pw_commands.specs.Analysing.{AnalyseComes}
-use Rattle.pw_commands.specs.Linking.{LinkComes}
-use Rattle.pw_commands.specs.Running.{run_effect}
-use Rattle.pw_commands.specs.Showing.{DatabaseComes, ListComes}
-use Rattle.pw_compiling.specs.First.{PhaseOneComes, phase_line, phase_one_puts}
-use Rattle.pw_compiling.specs.Second.{PhaseTwoComes, phase_two_puts}
+use Rattle.pw_go.specs.Going.{IsNoUsage, refused_line}
+use Rattle.pw_commands.specs.Others.{KeepsOthers}
+use Rattle.pw_building.specs.Genuine.{KeepsGenuine}
+use Rattle.pw_build_laws.specs.Whole.{HoldsFullBuild}
+use Rattle.pw_session.specs.declared.opts.SessionOpts.{SessionOpts}
+use Rattle.pw_session.specs.Bench.{bench_files}
+use Rattle.pw_session.specs.Changes.{MakesSome}
+use Rattle.pw_driving.specs.Driving.{KeepsUnput}
+use Rattle.pw_compiling.specs.First.{phase_line, phase_one_puts}
+use Rattle.pw_compiling.specs.Second.{phase_two_puts}
 use Rattle.pw_words.specs.declared.commands.Command.{Command}
-use Rattle.pw_words.specs.declared.commands.Command.TheVariants.{Go, PhaseOne, Analyse, PhaseTwo, Link, Run, List as ListImage, Db}
+use Rattle.pw_words.specs.declared.commands.Command.TheVariants.{Go, Build, Session, PhaseOne, Analyse, PhaseTwo, Link, Bench}
 
--- what a command, or words that say none, come to
-abbrev pub Comes : Option Command → Files → List ℕ → (Effect → Type 0)
-Comes None files input = λ effect. effect ≡ answers_alone Usage input
-Comes (Some (Go colours stack steps)) files input = λ effect. effect ≡ build_effect (full_build files) steps input
-Comes (Some (PhaseOne name)) files input = PhaseOneComes files name input
-Comes (Some (Analyse colours)) files input = AnalyseComes files colours input
-Comes (Some (PhaseTwo name)) files input = PhaseTwoComes files name input
-Comes (Some (Link stack)) files input = LinkComes files stack input
-Comes (Some (Run steps)) files input = λ effect. effect ≡ run_effect files steps input
-Comes (Some ListImage) files input = ListComes files input
-Comes (Some Db) files input = DatabaseComes files input
+-- how a session and `bench` build, and for how many instructions they run a program at most
+abbrev pub opts_of : ℕ → ℕ → ℕ → SessionOpts
+opts_of colours stack steps = record { build = record { colours = colours; stack = stack }; budget = steps }
 
 -- the command is `go`
 abbrev pub IsGo : Option Command → Type 0
 IsGo (Some (Go colours stack steps)) = Unit {0}
 IsGo _ = ⊥
 
+-- words that say no command are answered so, and no others
+abbrev pub IsUsageDue : Option Command → Answer → Type 0
+IsUsageDue None answer = answer ≡ Usage
+IsUsageDue (Some command) answer = IsNoUsage answer
+
 -- the command puts no file
 abbrev pub OnlyReads : Option Command → Type 0
+OnlyReads (Some (Build colours stack)) = ⊥
+OnlyReads (Some (Session colours stack steps)) = ⊥
 OnlyReads (Some (PhaseOne name)) = ⊥
 OnlyReads (Some (Analyse colours)) = ⊥
 OnlyReads (Some (PhaseTwo name)) = ⊥
 OnlyReads (Some (Link stack)) = ⊥
 OnlyReads _ = Unit {0}
 
--- the names of the files that a command puts
+-- the names of the files that a command puts, where they are known from its words
 abbrev pub files_put : Option Command → List (List ℕ)
 files_put (Some (PhaseOne name)) = phase_one_puts name
 files_put (Some (Analyse colours)) = codes "prog.db" ∷ []
@@ -48,8 +51,32 @@ files_put (Some (PhaseTwo name)) = phase_two_puts name
 files_put (Some (Link stack)) = codes "prog.img" ∷ []
 files_put _ = []
 
+-- the command is not `session`
+abbrev pub IsNoSession : Option Command → Type 0
+IsNoSession (Some (Session colours stack steps)) = ⊥
+IsNoSession _ = Unit {0}
+
+-- A store that told its files goes on telling them, and each file but those that the command puts is as it was; of a
+-- build the store tells which were put, and a session changed files of its own, in order.
+abbrev pub KeepsTheRest : Option Command → Answer → Option Told → Option Told → Type 0
+KeepsTheRest (Some (Build colours stack)) answer old new = IfSome old (λ told. KeepsUnput told new)
+KeepsTheRest (Some (Session colours stack steps)) answer old new = IfSome old (λ told. MakesSome answer told new)
+KeepsTheRest command answer old new = KeepsOthers (files_put command) old new
+
+-- what holds where the answer is `Done`
+abbrev pub IfDone : Answer → Type 0 → Type 0
+IfDone Done P = P
+IfDone _ P = Unit {0}
+
+-- A build that is done leaves the database and the image of the full build of the modules, where the kept objects were genuine.
+abbrev pub BuildsWhole : Option Command → Answer → Told → Option Told → Type 0
+BuildsWhole (Some (Build colours stack)) answer told new = IfDone answer (KeepsGenuine told.files → IsSomeAnd new (λ now. HoldsFullBuild (module_map told.files) colours stack now.files))
+BuildsWhole _ answer told new = Unit {0}
+
 -- the line on which a module is refused
 abbrev pub line_of : Option Command → Files → ℕ
 line_of (Some (Go colours stack steps)) files = refused_line (full_build files)
+line_of (Some (Build colours stack)) files = phases.refused_line (modules_of files)
+line_of (Some (Bench number colours stack steps)) files = phases.refused_line (modules_of (bench_files number))
 line_of (Some (PhaseOne name)) files = phase_line files name
 line_of _ files = 1

@@ -1,10 +1,27 @@
--- What a call answered, put, printed and left of the input, by what its command comes to.
-use Rattle.std.specs.Prelude.{ℕ, List, Option}
+-- What each command comes to over a store's files and an input, where nothing fails, and what a call answered, put, put out and
+-- left of its input by that.
+use Rattle.std.specs.Prelude.{◌≡◌, ℕ, List, Option, Some, None}
 use Rattle.pw_io.specs.Files.{Told}
 use Rattle.pw_answer.specs.declared.answer.Answer.{Answer}
-use Rattle.pw_answer.specs.Effects.{Effect, PutsFiles}
+use Rattle.pw_answer.specs.declared.answer.Answer.TheVariants.{Usage}
+use Rattle.pw_answer.specs.Effects.{Effect, PutsFiles, answers_alone}
 use Rattle.pw_answer.specs.Outcomes.{Answers, LeavesInput, PutsOut}
+use Rattle.pw_go.specs.FullBuild.{full_build}
+use Rattle.pw_go.specs.Going.{build_effect}
+use Rattle.pw_commands.specs.Analysing.{AnalyseComes}
+use Rattle.pw_commands.specs.Linking.{LinkComes}
 use Rattle.pw_commands.specs.Outcome.{IsFound}
+use Rattle.pw_commands.specs.Running.{run_effect}
+use Rattle.pw_commands.specs.Showing.{DatabaseComes, ListComes}
+use Rattle.pw_compiling.specs.First.{PhaseOneComes}
+use Rattle.pw_compiling.specs.Second.{PhaseTwoComes}
+use Rattle.pw_driving.specs.Driving.{BuildComesTo}
+use Rattle.pw_session.specs.declared.opts.SessionOpts.{SessionOpts}
+use Rattle.pw_session.specs.Bench.{BenchComes}
+use Rattle.pw_session.specs.Outcomes.{LeavesScript, ObeysSession}
+use Rattle.pw_words.specs.declared.commands.Command.{Command}
+use Rattle.pw_words.specs.declared.commands.Command.TheVariants.{Go, Build, Session, PhaseOne, Analyse, PhaseTwo, Link, Run, List as ListImage, Db, Bench}
+use Rattle.pw_top.specs.Commands.{opts_of}
 
 -- The answer, the files that were put, what was put out and what is left of the input are those to which the command
 -- comes; a fault or want of memory may come in its place, and then a front of the files was put, a front of the output
@@ -15,3 +32,23 @@ pub record Does (comes : Effect → Type 0) (answer : Answer) (told : Told) (tol
   pub output : (effect : Effect) → comes effect → PutsOut effect.output answer taken taken'
   pub rest : (effect : Effect) → comes effect → LeavesInput effect.rest input answer input'
   pub found : IsFound comes answer
+
+-- What a session answered, put out, changed and left of its script is that to which the script's lines come.
+pub record DoesSession (opts : SessionOpts) (answer : Answer) (told : Told) (told' : Option Told) (input : List ℕ) (input' taken taken' : Option (List ℕ)) : Type 0 where
+  pub obeys : ObeysSession opts told input answer told' taken taken'
+  pub rest : LeavesScript input answer input'
+
+-- What a command, or words that say none, did.
+abbrev pub DoesAs : Option Command → Answer → Told → Option Told → List ℕ → Option (List ℕ) → Option (List ℕ) → Option (List ℕ) → Type 0
+DoesAs None answer told told' input input' taken taken' = Does (λ effect. effect ≡ answers_alone Usage input) answer told told' input input' taken taken'
+DoesAs (Some (Go colours stack steps)) answer told told' input input' taken taken' = Does (λ effect. effect ≡ build_effect (full_build told.files) steps input) answer told told' input input' taken taken'
+DoesAs (Some (Build colours stack)) answer told told' input input' taken taken' = Does (BuildComesTo told.files colours stack input) answer told told' input input' taken taken'
+DoesAs (Some (Session colours stack steps)) answer told told' input input' taken taken' = DoesSession (opts_of colours stack steps) answer told told' input input' taken taken'
+DoesAs (Some (Bench number colours stack steps)) answer told told' input input' taken taken' = Does (BenchComes number (opts_of colours stack steps) input) answer told told' input input' taken taken'
+DoesAs (Some (PhaseOne name)) answer told told' input input' taken taken' = Does (PhaseOneComes told.files name input) answer told told' input input' taken taken'
+DoesAs (Some (Analyse colours)) answer told told' input input' taken taken' = Does (AnalyseComes told.files colours input) answer told told' input input' taken taken'
+DoesAs (Some (PhaseTwo name)) answer told told' input input' taken taken' = Does (PhaseTwoComes told.files name input) answer told told' input input' taken taken'
+DoesAs (Some (Link stack)) answer told told' input input' taken taken' = Does (LinkComes told.files stack input) answer told told' input input' taken taken'
+DoesAs (Some (Run steps)) answer told told' input input' taken taken' = Does (λ effect. effect ≡ run_effect told.files steps input) answer told told' input input' taken taken'
+DoesAs (Some ListImage) answer told told' input input' taken taken' = Does (ListComes told.files input) answer told told' input input' taken taken'
+DoesAs (Some Db) answer told told' input input' taken taken' = Does (DatabaseComes told.files input) answer told told' input input' taken taken'

@@ -8,22 +8,37 @@ ghost use Rattle.pw_go.specs.FullBuild.{full_build};
 ghost use Rattle.pw_go.specs.Going.{AnswersBuild, BuiltAgrees, IsNoUsage, ReturnsSum};
 ghost use Rattle.pw_go.specs.Refusals.{HoldsNoWantOfMemory, NoMainComes, NoMainIs, RefusalComes, RefusalIs};
 ghost use Rattle.pw_modules.specs.Modules.{modules_of};
-ghost use Rattle.pw_commands.specs.Others.{KeepsOthers};
 ghost use Rattle.pw_compiling.specs.First.{IsLine};
-ghost use Rattle.pw_top.specs.Commands.{Comes, IsGo, OnlyReads, files_put, line_of};
-ghost use Rattle.pw_top.specs.Does.{Does};
+ghost use Rattle.pw_building.specs.Genuine.{KeepsGenuine};
+ghost use Rattle.pw_top.specs.Commands.{BuildsWhole, IsGo, IsNoSession, IsUsageDue, KeepsTheRest, OnlyReads, line_of, opts_of};
+ghost use Rattle.pw_top.specs.Does.{DoesAs};
 ghost use Rattle.pw_words.specs.CommandLine.{command_of};
 ghost use Rattle.pw_words.specs.Limits.{IsWithin};
 
 use pw_answer::{Answer, Reply, tell};
+use pw_build_laws::a_build_leaves_the_whole_program;
+use pw_building::{Opts, genuine_files_keep_genuine};
 use pw_commands::{analyse_modules, link_modules, list_image, run_image, show_database};
 use pw_compiling::{compile_flow, compile_text};
+use pw_driving::build_modules;
 use pw_go::go;
 use pw_go::laws::{builds_agree, refusals_are_due};
 use pw_io::{Sink, Source, Store};
+use pw_run_laws::runs_leave_an_end;
+use pw_session::{SessionOpts, bench, run_session};
 use pw_words::laws::commands_are_within;
 use pw_words::{Command, WordsFault, command};
 use std::alloc::Global;
+
+/// How a session and `bench` build, and for how many instructions they run a program at most.
+fn opts_of(colours: u8, stack: u32, steps: u64) -> SessionOpts
+    ensures { result ≡ opts_of colours stack steps }
+{
+    SessionOpts {
+        build: Opts { colours, stack },
+        budget: steps,
+    }
+}
 
 /// Obeys a command.
 fn obey<S: Store, I: Source, O: Sink>(
@@ -34,20 +49,51 @@ fn obey<S: Store, I: Source, O: Sink>(
     out: &mut O,
 ) -> Reply
     requires { IsWithin command.now }
-    ensures does { IfSome (S.told store.old) (λ told. IfSome (I.rest input.old) (λ rest. Does (Comes (Some command.now) told.files rest) result.answer told (S.told store.new) rest (I.rest input.new) (O.taken out.old) (O.taken out.new))) }
-    ensures words { IsNoUsage result.answer }
+    ensures does { IfSome (S.told store.old) (λ told. IfSome (I.rest input.old) (λ rest. DoesAs (Some command.now) result.answer told (S.told store.new) rest (I.rest input.new) (O.taken out.old) (O.taken out.new))) }
+    ensures usage { IsUsageDue (Some command.now) result.answer }
     ensures refusal { IfSome (S.told store.old) (λ told. IsGo (Some command.now) → AnswersBuild (full_build told.files) result.answer) }
     ensures proper { IsGo (Some command.now) → HoldsNoWantOfMemory result.answer }
-    ensures others { KeepsOthers (files_put (Some command.now)) (S.told store.old) (S.told store.new) }
+    ensures others { KeepsTheRest (Some command.now) result.answer (S.told store.old) (S.told store.new) }
+    ensures genuine { IfSome (S.told store.old) (λ told. KeepsGenuine told.files → IfSome (S.told store.new) (λ now. KeepsGenuine now.files)) }
     ensures reads { OnlyReads (Some command.now) → Keeps (S.told store.old) (S.told store.new) }
     ensures store { StoreCount (S.faults store.old) (S.faults store.new) result.answer }
     ensures read { InputCount (I.faults input.old) (I.faults input.new) result.answer }
     ensures write { OutputCount (O.faults out.old) (O.faults out.new) result.answer }
-    ensures streams { LeavesStreams result.answer (I.rest input.old) (I.rest input.new) (O.taken out.old) (O.taken out.new) }
+    ensures streams { IsNoSession (Some command.now) → LeavesStreams result.answer (I.rest input.old) (I.rest input.new) (O.taken out.old) (O.taken out.new) }
     ensures line { IfSome (S.told store.old) (λ told. IsLine (line_of (Some command.now) told.files) result.answer result.line) }
 {
+    genuine_files_keep_genuine();
     match command {
         Command::Go { steps, .. } => go(alloc, store, *steps, input, out),
+        Command::Build { colours, stack } => build_modules(
+            alloc,
+            store,
+            out,
+            &Opts {
+                colours: *colours,
+                stack: *stack,
+            },
+        ),
+        Command::Session {
+            colours,
+            stack,
+            steps,
+        } => Reply {
+            answer: run_session(
+                alloc,
+                store,
+                input,
+                out,
+                &opts_of(*colours, *stack, *steps),
+            ),
+            line: 1,
+        },
+        Command::Bench {
+            number,
+            colours,
+            stack,
+            steps,
+        } => bench(alloc, *number, &opts_of(*colours, *stack, *steps), out),
         Command::PhaseOne(name) => compile_text(alloc, store, name),
         Command::Analyse { colours } => Reply {
             answer: analyse_modules(alloc, store, *colours),
@@ -84,20 +130,22 @@ fn obey_words<S: Store, I: Source, O: Sink>(
     input: &mut I,
     out: &mut O,
 ) -> Reply
-    ensures does { IfSome (S.told store.old) (λ told. IfSome (I.rest input.old) (λ rest. Does (Comes (command_of (map string_bytes words.now)) told.files rest) result.answer told (S.told store.new) rest (I.rest input.new) (O.taken out.old) (O.taken out.new))) }
+    ensures does { IfSome (S.told store.old) (λ told. IfSome (I.rest input.old) (λ rest. DoesAs (command_of (map string_bytes words.now)) result.answer told (S.told store.new) rest (I.rest input.new) (O.taken out.old) (O.taken out.new))) }
     ensures usage_is { result.answer ≡ Answer.Usage → command_of (map string_bytes words.now) ≡ None }
     ensures usage_comes { command_of (map string_bytes words.now) ≡ None → (result.answer ≡ Answer.Usage) ⊎ (result.answer ≡ Answer.NoMemory) }
     ensures refusal { IfSome (S.told store.old) (λ told. IsGo (command_of (map string_bytes words.now)) → AnswersBuild (full_build told.files) result.answer) }
     ensures proper { IsGo (command_of (map string_bytes words.now)) → HoldsNoWantOfMemory result.answer }
-    ensures others { KeepsOthers (files_put (command_of (map string_bytes words.now))) (S.told store.old) (S.told store.new) }
+    ensures others { KeepsTheRest (command_of (map string_bytes words.now)) result.answer (S.told store.old) (S.told store.new) }
+    ensures genuine { IfSome (S.told store.old) (λ told. KeepsGenuine told.files → IfSome (S.told store.new) (λ now. KeepsGenuine now.files)) }
     ensures reads { OnlyReads (command_of (map string_bytes words.now)) → Keeps (S.told store.old) (S.told store.new) }
     ensures store { StoreCount (S.faults store.old) (S.faults store.new) result.answer }
     ensures read { InputCount (I.faults input.old) (I.faults input.new) result.answer }
     ensures write { OutputCount (O.faults out.old) (O.faults out.new) result.answer }
-    ensures streams { LeavesStreams result.answer (I.rest input.old) (I.rest input.new) (O.taken out.old) (O.taken out.new) }
+    ensures streams { IsNoSession (command_of (map string_bytes words.now)) → LeavesStreams result.answer (I.rest input.old) (I.rest input.new) (O.taken out.old) (O.taken out.new) }
     ensures line { IfSome (S.told store.old) (λ told. IsLine (line_of (command_of (map string_bytes words.now)) told.files) result.answer result.line) }
 {
     commands_are_within();
+    runs_leave_an_end();
     match command(alloc, words) {
         Ok(command) => obey(alloc, &command, store, input, out),
         Err(WordsFault::Usage) => Reply {
@@ -132,7 +180,8 @@ pub fn pawc_top<S: Store, I: Source, O: Sink, E: Sink>(
     ensures usage_comes { command_of (map string_bytes words.now) ≡ None → (result ≡ Answer.Usage) ⊎ (result ≡ Answer.NoMemory) }
 
     // the answer, the files, the output and the input
-    ensures does { IfSome (S.told store.old) (λ told. IfSome (I.rest input.old) (λ rest. Does (Comes (command_of (map string_bytes words.now)) told.files rest) result told (S.told store.new) rest (I.rest input.new) (O.taken out.old) (O.taken out.new))) }
+    ensures does { IfSome (S.told store.old) (λ told. IfSome (I.rest input.old) (λ rest. DoesAs (command_of (map string_bytes words.now)) result told (S.told store.new) rest (I.rest input.new) (O.taken out.old) (O.taken out.new))) }
+    ensures builds_whole { IfSome (S.told store.old) (λ told. IfSome (I.rest input.old) (λ rest. BuildsWhole (command_of (map string_bytes words.now)) result told (S.told store.new))) }
 
     // the refusals of `go`
     ensures refusal_is { IfSome (S.told store.old) (λ told. IsGo (command_of (map string_bytes words.now)) → RefusalIs (modules_of told.files) result) }
@@ -147,8 +196,9 @@ pub fn pawc_top<S: Store, I: Source, O: Sink, E: Sink>(
     ensures agrees { IfSome (S.told store.old) (λ told. BuiltAgrees (full_build told.files)) }
 
     // what stays
-    ensures streams_left { LeavesStreams result (I.rest input.old) (I.rest input.new) (O.taken out.old) (O.taken out.new) }
-    ensures keeps_others { KeepsOthers (files_put (command_of (map string_bytes words.now))) (S.told store.old) (S.told store.new) }
+    ensures streams_left { IsNoSession (command_of (map string_bytes words.now)) → LeavesStreams result (I.rest input.old) (I.rest input.new) (O.taken out.old) (O.taken out.new) }
+    ensures keeps_others { KeepsTheRest (command_of (map string_bytes words.now)) result (S.told store.old) (S.told store.new) }
+    ensures keeps_genuine { IfSome (S.told store.old) (λ told. KeepsGenuine told.files → IfSome (S.told store.new) (λ now. KeepsGenuine now.files)) }
     ensures store_after { OnlyReads (command_of (map string_bytes words.now)) → Keeps (S.told store.old) (S.told store.new) }
 
     // faults
@@ -160,8 +210,10 @@ pub fn pawc_top<S: Store, I: Source, O: Sink, E: Sink>(
     ensures line { IfSome (S.told store.old) (λ told. Tells (line_text (line_of (command_of (map string_bytes words.now)) told.files) result) (E.taken err.old) (E.taken err.new) (E.faults err.old) (E.faults err.new)) }
     ensures some_line { TellsSome result (E.taken err.old) (E.taken err.new) (E.faults err.old) (E.faults err.new) }
 {
+    a_build_leaves_the_whole_program();
     builds_agree();
     refusals_are_due();
+    runs_leave_an_end();
     let reply = obey_words(alloc, words, store, input, out);
     tell(alloc, reply.answer, reply.line, err)
 }

@@ -1,11 +1,10 @@
-use Rattle.std.proofs.Common.{map, inr, refl}
+use Rattle.std.proofs.Common.{[], map, inr, refl}
 use Rattle.std.specs.Prelude.{string_bytes}
-use Rattle.pw_commands.proofs.OthersLemmas.{others_alone}
 use Rattle.pw_words.specs.CommandLine.{command_of}
-use Rattle.pw_top.specs.Commands.{Comes}
-use Rattle.pw_top.proofs.DoesLemmas.{memory_does, usage_does}
-use Rattle.pw_top.proofs.CommandLemmas.{comes_ends, kept_alone, no_line, no_usage, none_and_some, of_other}
-use Rattle.pw_top.proofs.ToldLemmas.{memory_refuses, no_memory_is_no_usage}
+use Rattle.pw_top.proofs.DoesLemmas.{usage_does}
+use Rattle.pw_top.proofs.CommandLemmas.{due_comes, due_is, kept_alone, no_line, of_other}
+use Rattle.pw_top.proofs.GenuineLemmas.{genuine_alone, others_alone, rest_alone}
+use Rattle.pw_top.proofs.ToldLemmas.{memory_does, memory_refuses, no_memory_is_no_usage}
 use Rattle.pw_top.proofs.top.obey_words.Goals as goal
 
 pub obey-requires : goal.obey-requires
@@ -15,10 +14,10 @@ pub returns-in-Ok-clause-does : goal.returns-in-Ok-clause-does
 returns-in-Ok-clause-does g c = rw c.in-Ok.ensures c.obey.ensures.does
 
 pub returns-in-Ok-clause-usage_is : goal.returns-in-Ok-clause-usage_is
-returns-in-Ok-clause-usage_is g c = no_usage _ _ c.obey.ensures.words
+returns-in-Ok-clause-usage_is g c = rw c.in-Ok.ensures (due_is _ _ c.obey.ensures.usage)
 
 pub returns-in-Ok-clause-usage_comes : goal.returns-in-Ok-clause-usage_comes
-returns-in-Ok-clause-usage_comes g c = λ e. absurd (none_and_some _ _ e c.in-Ok.ensures)
+returns-in-Ok-clause-usage_comes g c = rw c.in-Ok.ensures (due_comes _ _ c.obey.ensures.usage)
 
 pub returns-in-Ok-clause-refusal : goal.returns-in-Ok-clause-refusal
 returns-in-Ok-clause-refusal g c = rw c.in-Ok.ensures c.obey.ensures.refusal
@@ -50,8 +49,8 @@ returns-in-Err-Usage-clause-line g c = no_line (g.S.Store.told c.args.store.now)
 
 pub returns-in-Err-NoMemory-clause-does : goal.returns-in-Err-NoMemory-clause-does
 returns-in-Err-NoMemory-clause-does g c =
-    let command = command_of (map string_bytes c.args.words.now) in
-    memory_does (λ t input. Comes command t.files input) (g.S.Store.told c.args.store.now) (g.I.Source.rest c.args.input.now) (g.O.Sink.taken c.args.out.now) (λ t input e d. comes_ends command t.files input e d)
+    memory_does c.runs_leave_an_end.ensures.run c.runs_leave_an_end.ensures.go (command_of (map string_bytes c.args.words.now)) (g.S.Store.told c.args.store.now) (g.I.Source.rest c.args.input.now)
+    (g.O.Sink.taken c.args.out.now)
 
 pub returns-in-Err-NoMemory-clause-usage_is : goal.returns-in-Err-NoMemory-clause-usage_is
 returns-in-Err-NoMemory-clause-usage_is g c = λ e. absurd (no_memory_is_no_usage e)
@@ -72,7 +71,18 @@ pub returns-in-Ok-clause-others : goal.returns-in-Ok-clause-others
 returns-in-Ok-clause-others g c = rw c.in-Ok.ensures c.obey.ensures.others
 
 pub returns-in-Err-Usage-clause-others : goal.returns-in-Err-Usage-clause-others
-returns-in-Err-Usage-clause-others g c = others_alone _ (g.S.Store.told c.args.store.now)
+returns-in-Err-Usage-clause-others g c =
+    let none = rw c.in-Err-Usage.field-0-is at c.in-Err-Usage.ensures in
+    rw none (others_alone [] (g.S.Store.told c.args.store.now))
 
 pub returns-in-Err-NoMemory-clause-others : goal.returns-in-Err-NoMemory-clause-others
-returns-in-Err-NoMemory-clause-others g c = others_alone _ (g.S.Store.told c.args.store.now)
+returns-in-Err-NoMemory-clause-others g c = rest_alone _ (g.S.Store.told c.args.store.now)
+
+pub returns-in-Err-Usage-clause-genuine : goal.returns-in-Err-Usage-clause-genuine
+returns-in-Err-Usage-clause-genuine g c = genuine_alone (g.S.Store.told c.args.store.now)
+
+pub returns-in-Err-NoMemory-clause-genuine : goal.returns-in-Err-NoMemory-clause-genuine
+returns-in-Err-NoMemory-clause-genuine g c = genuine_alone (g.S.Store.told c.args.store.now)
+
+pub returns-in-Ok-clause-streams : goal.returns-in-Ok-clause-streams
+returns-in-Ok-clause-streams g c = rw c.in-Ok.ensures c.obey.ensures.streams

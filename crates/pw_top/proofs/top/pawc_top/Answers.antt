@@ -6,8 +6,9 @@ use Rattle.pw_go.specs.FullBuild.{full_build}
 use Rattle.pw_go.specs.Going.{BuiltAgrees}
 use Rattle.pw_go.specs.Refusals.{NoMainComes, NoMainIs, RefusalComes, RefusalIs}
 use Rattle.pw_words.specs.CommandLine.{command_of}
-use Rattle.pw_top.specs.Commands.{IsGo, line_of}
-use Rattle.pw_top.proofs.ToldLemmas.{by_law, input_told, of_files, output_told, returns_sum, store_told, streams_told, told_does, told_line, told_proper, told_refuses, usage_comes, usage_is}
+use Rattle.pw_top.specs.Commands.{IsGo, IsNoSession, line_of}
+use Rattle.pw_top.proofs.ToldLemmas.{by_law, input_told, of_files, output_told, rest_told, returns_sum, store_told, streams_told, told_does, told_line, told_proper, told_refuses, usage_comes, usage_is}
+use Rattle.pw_top.proofs.WholeLemmas.{builds_whole}
 use Rattle.pw_top.proofs.top.pawc_top.Goals as goal
 
 pub returns-clause-usage_is : goal.returns-clause-usage_is
@@ -20,7 +21,7 @@ returns-clause-usage_comes g c =
 
 pub returns-clause-does : goal.returns-clause-does
 returns-clause-does g c =
-    told_does (command_of (map string_bytes c.args.words.now)) (g.S.Store.told c.args.store.now) _ (g.I.Source.rest c.args.input.now) _ (g.O.Sink.taken c.args.out.now) _
+    told_does c.runs_leave_an_end.ensures.run c.runs_leave_an_end.ensures.go (command_of (map string_bytes c.args.words.now)) (g.S.Store.told c.args.store.now) _ (g.I.Source.rest c.args.input.now) _ (g.O.Sink.taken c.args.out.now) _
     c.obey_words-reply.result.answer c.tell.result c.tell.ensures.answer c.obey_words-reply.ensures.does
 
 pub returns-clause-refuses : goal.returns-clause-refuses
@@ -61,7 +62,7 @@ returns-clause-agrees g c = of_files (λ files. BuiltAgrees (full_build files)) 
 
 pub returns-clause-streams_left : goal.returns-clause-streams_left
 returns-clause-streams_left g c =
-    streams_told c.obey_words-reply.result.answer c.tell.result (g.I.Source.rest c.args.input.now) _ (g.O.Sink.taken c.args.out.now) _ c.tell.ensures.answer c.obey_words-reply.ensures.streams
+    streams_told (IsNoSession (command_of (map string_bytes c.args.words.now))) c.obey_words-reply.result.answer c.tell.result (g.I.Source.rest c.args.input.now) _ (g.O.Sink.taken c.args.out.now) _ c.tell.ensures.answer c.obey_words-reply.ensures.streams
 
 pub returns-clause-store_faults : goal.returns-clause-store_faults
 returns-clause-store_faults g c = store_told _ _ c.obey_words-reply.result.answer c.tell.result c.tell.ensures.answer c.obey_words-reply.ensures.store
@@ -79,3 +80,12 @@ returns-clause-line g c =
 
 pub returns-clause-some_line : goal.returns-clause-some_line
 returns-clause-some_line g c = (c.obey_words-reply.result.line, c.tell.ensures.line)
+
+pub returns-clause-builds_whole : goal.returns-clause-builds_whole
+returns-clause-builds_whole g c =
+    builds_whole c.a_build_leaves_the_whole_program.ensures (command_of (map string_bytes c.args.words.now)) (g.S.Store.told c.args.store.now) _ (g.I.Source.rest c.args.input.now) _ (g.O.Sink.taken c.args.out.now) _ c.tell.result
+    (returns-clause-does g c)
+
+pub returns-clause-keeps_others : goal.returns-clause-keeps_others
+returns-clause-keeps_others g c =
+    rest_told (command_of (map string_bytes c.args.words.now)) (g.S.Store.told c.args.store.now) _ c.obey_words-reply.result.answer c.tell.result c.tell.ensures.answer c.obey_words-reply.ensures.others

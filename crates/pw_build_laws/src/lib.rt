@@ -1,0 +1,6 @@
+//! What stands in the files of a store behind a build.
+#![tactic(auto)]
+
+mod laws;
+
+pub use laws::a_build_leaves_the_whole_program;

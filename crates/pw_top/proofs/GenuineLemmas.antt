@@ -1,0 +1,135 @@
+-- Kept objects stay genuine where no object's file is put, and files that were not put stay as they were.
+use Rattle.std.proofs.Common.{◌≡◌, ℕ, ⊎_elim, List, [], ◌∷◌, ◌++◌, codes, Option, Some, None, refl, sym, ap, ◌∙◌, subst, arith, append-nil}
+use Rattle.std.specs.Prelude.{IfSome, IsSomeAnd}
+use Rattle.std.specs.List.{AllByRecursion}
+use Rattle.pw_io.specs.Files.{Told, Keeps}
+use Rattle.pw_object.specs.declared.object.Object.{Object}
+use Rattle.pw_answer.specs.declared.answer.Answer.{Answer}
+use Rattle.pw_answer.specs.declared.answer.Answer.TheVariants.{NoMemory}
+use Rattle.pw_answer.specs.Effects.{NamedFile, PutPart}
+use Rattle.pw_making.specs.Kept.{IsGenuine}
+use Rattle.pw_commands.specs.Others.{IsNoneOf, IsOneOf, KeepsOthers, PutsOnly}
+use Rattle.pw_kept.specs.Kept.{counted, object_in, object_name}
+use Rattle.pw_building.specs.Genuine.{IsGenuineFile, KeepsGenuine}
+use Rattle.pw_compiling.specs.First.{phase_one_puts}
+use Rattle.pw_compiling.specs.Second.{IsMade, IsMadeFile, PutsMade}
+use Rattle.pw_driving.specs.Driving.{KeepsUnput}
+use Rattle.pw_words.specs.declared.commands.Command.{Command}
+use Rattle.pw_words.specs.declared.commands.Command.TheVariants.{Build as BuildAll, Session, PhaseOne, Analyse, PhaseTwo, Link}
+use Rattle.pw_top.specs.Commands.{KeepsTheRest, files_put}
+use Rattle.pw_top.proofs.SessionLemmas.{changes_none}
+
+-- ---- names that are no object's file
+
+abbrev last_of : List ℕ → ℕ
+last_of [] = 0
+last_of (x ∷ []) = x
+last_of (x ∷ y ∷ more) = last_of (y ∷ more)
+
+last_behind : (front : List ℕ) (x : ℕ) (more : List ℕ) → last_of (front ++ x ∷ more) ≡ last_of (x ∷ more)
+last_behind [] x more = refl
+last_behind (a ∷ []) x more = refl
+last_behind (a ∷ b ∷ front) x more = last_behind (b ∷ front) x more
+
+-- the last byte of `.obj` is 106
+differs : (name other : List ℕ) (last : ℕ) → last_of other ≡ last → (106 ≡ last → ⊥) → object_name name ≡ other → ⊥
+differs name other last e apart same = apart (sym (last_behind name 46 (111 ∷ 98 ∷ 106 ∷ [])) ∙ ap last_of same ∙ e)
+
+pub database_apart : (name : List ℕ) → IsNoneOf (codes "prog.db" ∷ []) (object_name name)
+database_apart name = (differs name (codes "prog.db") 98 refl (λ e. let h : 106 ≡ 98 = e in omega (arith, h)), tt)
+
+pub image_apart : (name : List ℕ) → IsNoneOf (codes "prog.img" ∷ []) (object_name name)
+image_apart name = (differs name (codes "prog.img") 103 refl (λ e. let h : 106 ≡ 103 = e in omega (arith, h)), tt)
+
+pub phase_one_apart : (unit name : List ℕ) → IsNoneOf (phase_one_puts unit) (object_name name)
+phase_one_apart unit name = (
+  differs name (unit ++ codes ".flow") 119 (last_behind unit 46 (102 ∷ 108 ∷ 111 ∷ 119 ∷ [])) (λ e. let h : 106 ≡ 119 = e in omega (arith, h)),
+  (differs name (unit ++ codes ".sum") 109 (last_behind unit 46 (115 ∷ 117 ∷ 109 ∷ [])) (λ e. let h : 106 ≡ 109 = e in omega (arith, h)), tt),
+)
+
+-- ---- genuine objects
+
+not_one : (names : List (List ℕ)) (name : List ℕ) → IsNoneOf names name → IsOneOf names name → ⊥
+not_one [] name n one = one
+not_one (other ∷ names) name n one = ⊎_elim {C = ⊥} n.0 (not_one names name n.1) one
+
+none_of_own : (names some : List (List ℕ)) (name : List ℕ) → AllByRecursion (IsOneOf names) some → IsNoneOf names name → IsNoneOf some name
+none_of_own names [] name own n = tt
+none_of_own names (other ∷ some) name own n = ((λ e. not_one names name n (subst (IsOneOf names) (sym e) own.0)), none_of_own names some name own.1 n)
+
+pub stays_genuine : (names : List (List ℕ)) (told new : Option Told) → ((name : List ℕ) → IsNoneOf names (object_name name)) → KeepsOthers names told new
+    → IfSome told (λ t. KeepsGenuine t.files → IfSome new (λ now. KeepsGenuine now.files))
+stays_genuine names None new apart h = tt
+stays_genuine names (Some t) None apart h = λ k. tt
+stays_genuine names (Some t) (Some now) apart h =
+    λ k name object e. k name object
+    (ap (λ (g : Option (List ℕ)). object_in (counted g)) (sym (h.same (object_name name) (none_of_own names (h.put ++ h.failed) (object_name name) h.own (apart name)))) ∙ e)
+
+-- the command puts the files of its words alone, and none of them is an object's
+abbrev pub PutsNoObject : Option Command → Type 0
+PutsNoObject (Some (BuildAll colours stack)) = ⊥
+PutsNoObject (Some (Session colours stack steps)) = ⊥
+PutsNoObject (Some (PhaseTwo name)) = ⊥
+PutsNoObject _ = Unit {0}
+
+puts_apart : (command : Option Command) → PutsNoObject command → (name : List ℕ) → IsNoneOf (files_put command) (object_name name)
+puts_apart (Some (PhaseTwo unit)) h name = absurd h
+puts_apart (Some (PhaseOne unit)) h name = phase_one_apart unit name
+puts_apart (Some (Analyse colours)) h name = database_apart name
+puts_apart (Some (Link stack)) h name = image_apart name
+puts_apart _ h name = tt
+
+others_of : (command : Option Command) (answer : Answer) (told new : Option Told) → PutsNoObject command → KeepsTheRest command answer told new → KeepsOthers (files_put command) told new
+others_of (Some (BuildAll colours stack)) answer told new p h = absurd p
+others_of (Some (Session colours stack steps)) answer told new p h = absurd p
+others_of command answer told new p h = h
+
+pub plain_genuine : (command : Option Command) (answer : Answer) (told new : Option Told) → PutsNoObject command → KeepsTheRest command answer told new
+    → IfSome told (λ t. KeepsGenuine t.files → IfSome new (λ now. KeepsGenuine now.files))
+plain_genuine command answer told new p h = stays_genuine (files_put command) told new (puts_apart command p) (others_of command answer told new p h)
+
+pub genuine_alone : (told : Option Told) → IfSome told (λ t. KeepsGenuine t.files → IfSome told (λ now. KeepsGenuine now.files))
+genuine_alone None = tt
+genuine_alone (Some t) = λ k. k
+
+-- ---- `phase2`
+
+abbrev pub FilesKeepGenuine : Type 0
+FilesKeepGenuine = (told : Told) (files : List NamedFile) (new : Option Told) → KeepsGenuine told.files → AllByRecursion IsGenuineFile files → PutPart told files new → IfSome new (λ now. KeepsGenuine now.files)
+
+made_genuine : (object : Object) → IsMade object → IsGenuine object
+made_genuine object made = record { flow = made.flow; directives = made.directives; of_module = made.of_module; made = made.made }
+
+made_file : (name bytes : List ℕ) → IsMadeFile bytes → IsGenuineFile (name ++ codes ".obj", bytes)
+made_file name bytes made = λ other named. (made.object, made.fits, made.file, made_genuine made.object made.made)
+
+pub phase_two_genuine : FilesKeepGenuine → (told new : Option Told) (name : List ℕ) → IfSome told (λ t. PutsMade name t new) → IfSome told (λ t. KeepsGenuine t.files → IfSome new (λ now. KeepsGenuine now.files))
+phase_two_genuine law None new name h = tt
+phase_two_genuine law (Some t) new name h =
+    λ k. ⊎_elim {C = IfSome new (λ now. KeepsGenuine now.files)}
+    (λ e. subst (λ (o : Option Told). IfSome o (λ now. KeepsGenuine now.files)) (sym e) k)
+    (λ m. law t ((name ++ codes ".obj", m.0) ∷ []) new k (made_file name m.0 m.1, tt) m.2)
+    h
+
+-- ---- files that stay
+
+none_put : (names : List (List ℕ)) (told : Told) → PutsOnly names told told
+none_put names told = record { put = []; failed = []; own = tt; one = omega arith; told_so = sym (append-nil told.puts); same = λ name n. refl }
+
+pub kept_others : (told new : Option Told) → Keeps told new → KeepsOthers [] told new
+kept_others None new h = tt
+kept_others (Some t) new h = subst (λ (o : Option Told). IsSomeAnd o (PutsOnly [] t)) (sym h) (none_put [] t)
+
+pub others_alone : (names : List (List ℕ)) (told : Option Told) → KeepsOthers names told told
+others_alone names None = tt
+others_alone names (Some t) = none_put names t
+
+unput_alone : (told : Told) → KeepsUnput told (Some told)
+unput_alone told = record { put = []; failed = []; one = omega arith; told_so = sym (append-nil told.puts); same = λ name n. refl }
+
+pub rest_alone : (command : Option Command) (told : Option Told) → KeepsTheRest command NoMemory told told
+rest_alone (Some (BuildAll colours stack)) None = tt
+rest_alone (Some (BuildAll colours stack)) (Some t) = unput_alone t
+rest_alone (Some (Session colours stack steps)) None = tt
+rest_alone (Some (Session colours stack steps)) (Some t) = changes_none t
+rest_alone command told = others_alone (files_put command) told

@@ -1,0 +1,134 @@
+-- What a session did, by its own clauses.
+use Rattle.std.proofs.Common.{◌≡◌, ℕ, List, [], ◌∷◌, ◌++◌, Option, Some, None, Result, Ok, Err, refl, sym, ap, ◌∙◌, subst, append-nil}
+use Rattle.std.specs.Prelude.{IfSome, IsSomeAnd}
+use Rattle.pw_io.specs.Files.{Files, Told, Keeps}
+use Rattle.pw_answer.specs.declared.answer.Answer.{Answer}
+use Rattle.pw_answer.specs.declared.answer.Answer.TheVariants.{Done, Ended, Usage, Refused, LinkRefused, StackStop, Spent, Halted, ReadFault, WriteFault, StoreFault, NoMemory, BadFile, BadScript}
+use Rattle.pw_answer.specs.Answers.{NeedsMemory}
+use Rattle.pw_answer.specs.Effects.{Effect, NamedFile, PutsFiles}
+use Rattle.pw_answer.specs.Outcomes.{InputCount, OutputCount, StoreCount}
+use Rattle.pw_modules.specs.Modules.{modules_of}
+use Rattle.pw_build.specs.Phases.{refused_line}
+use Rattle.pw_build.specs.declared.fault.BuildFault.{BuildFault}
+use Rattle.pw_building.specs.Building.{Outcome}
+use Rattle.pw_commands.specs.Outcome.{IsFound}
+use Rattle.pw_go.specs.Going.{IsNoUsage}
+use Rattle.pw_compiling.specs.First.{IsLine}
+use Rattle.pw_session.specs.declared.opts.SessionOpts.{SessionOpts}
+use Rattle.pw_session.specs.Bench.{BenchComes, BenchOver, IsBenchAnswer, IsBenchFound, IsBenchLine, ObeysBench, bench_files}
+use Rattle.pw_session.specs.Changes.{Change, ChangeFront, MakesChanges, MakesSome}
+use Rattle.pw_session.specs.Outcomes.{IsSessionAnswer, LeavesScript, ObeysSession}
+use Rattle.pw_top.specs.Does.{Does, DoesSession}
+use Rattle.pw_top.proofs.DoesLemmas.{Prints, left_so, none_out_yet, nothing_put, out_part}
+
+-- ---- a session
+
+pub session_does : (told new : Option Told) (old rest taken taken' : Option (List ℕ)) (opts : SessionOpts) (answer : Answer)
+    → IfSome told (λ t. IfSome old (λ script. ObeysSession opts t script answer new taken taken')) → IfSome old (λ script. LeavesScript script answer rest)
+    → IfSome told (λ t. IfSome old (λ script. DoesSession opts answer t new script rest taken taken'))
+session_does None new old rest taken taken' opts answer h left = tt
+session_does (Some t) new None rest taken taken' opts answer h left = tt
+session_does (Some t) new (Some script) rest taken taken' opts answer h left = record { obeys = h; rest = left }
+
+pub session_no_usage : (answer : Answer) → IsSessionAnswer answer → IsNoUsage answer
+session_no_usage Usage h = h
+session_no_usage _ h = tt
+
+-- what was changed
+pub changes_none : (told : Told) → MakesSome NoMemory told (Some told)
+changes_none told = ([], record { done = []; more = []; split = refl; left = refl })
+
+pub some_memory : (answer : Answer) (told : Told) (new : Option Told) → NeedsMemory answer → MakesSome answer told new → MakesSome NoMemory told new
+some_memory (Refused name refusal) told new n h = h
+some_memory (LinkRefused fault) told new n h = h
+some_memory (Halted halt at) told new n h = h
+some_memory (BadFile name at) told new n h = h
+some_memory (BadScript at) told new n h = h
+some_memory _ told new n h = absurd n
+
+-- ---- want of memory in place of the answer's line
+
+changes_front : (changes : List Change) (answer : Answer) (told : Told) (new : Option Told) → NeedsMemory answer → MakesChanges changes answer told new → ChangeFront told changes new
+changes_front changes (Refused name refusal) told new n h = record { done = changes; more = []; split = sym (append-nil changes); left = h }
+changes_front changes (LinkRefused fault) told new n h = record { done = changes; more = []; split = sym (append-nil changes); left = h }
+changes_front changes (Halted halt at) told new n h = record { done = changes; more = []; split = sym (append-nil changes); left = h }
+changes_front changes (BadFile name at) told new n h = record { done = changes; more = []; split = sym (append-nil changes); left = h }
+changes_front changes (BadScript at) told new n h = record { done = changes; more = []; split = sym (append-nil changes); left = h }
+changes_front changes _ told new n h = absurd n
+
+leaves_part : (script : List ℕ) (answer : Answer) (rest : Option (List ℕ)) → NeedsMemory answer → LeavesScript script answer rest → LeavesScript script NoMemory rest
+leaves_part script Done rest n h = absurd n
+leaves_part script _ rest n h = h
+
+pub session_no_memory : (opts : SessionOpts) (answer : Answer) (told : Told) (new : Option Told) (script : List ℕ) (rest taken taken' : Option (List ℕ)) → NeedsMemory answer → DoesSession opts answer told new script rest taken taken'
+    → DoesSession opts NoMemory told new script rest taken taken'
+session_no_memory opts answer told new script rest taken taken' n h = record {
+  obeys = record {
+    answers = tt;
+    does = λ e d. record { said = out_part e.output answer taken taken' (h.obeys.does e d).said; made = changes_front e.changes answer told new n (h.obeys.does e d).made };
+    found = tt;
+  };
+  rest = leaves_part script answer rest n h.rest;
+}
+
+-- before anything was done
+pub session_memory_here : (opts : SessionOpts) (told : Told) (script : List ℕ) (taken : Option (List ℕ)) → DoesSession opts NoMemory told (Some told) script (Some script) taken taken
+session_memory_here opts told script taken = record {
+  obeys = record {
+    answers = tt;
+    does = λ e d. record { said = none_out_yet e.output taken; made = record { done = []; more = e.changes; split = refl; left = refl } };
+    found = tt;
+  };
+  rest = ([], refl);
+}
+
+-- ---- `bench`
+
+bench_prints_over : (number budget : ℕ) (input : List ℕ) (comes : Result Outcome BuildFault) (e : Effect) → BenchOver number budget input comes e → Prints input e
+bench_prints_over number budget input (Ok outcome) e h = subst (Prints input) (sym h.2) (record { puts = refl; rest = refl })
+bench_prints_over number budget input (Err fault) e h = subst (Prints input) (sym h) (record { puts = refl; rest = refl })
+
+pub bench_prints : (number : ℕ) (opts : SessionOpts) (input : List ℕ) (e : Effect) → BenchComes number opts input e → Prints input e
+bench_prints number opts input e h = bench_prints_over number opts.budget input h.0 e h.2
+
+bench_found : (comes : Effect → Type 0) (answer : Answer) → IsBenchFound comes answer → IsFound comes answer
+bench_found comes ReadFault h = tt
+bench_found comes WriteFault h = tt
+bench_found comes StoreFault h = tt
+bench_found comes NoMemory h = tt
+bench_found comes _ h = h
+
+pub bench_does : (told : Option Told) (rest taken taken' : Option (List ℕ)) (number : ℕ) (opts : SessionOpts) (answer : Answer) → ((input : List ℕ) → ObeysBench (BenchComes number opts input) answer taken taken')
+    → IfSome told (λ t. IfSome rest (λ input. Does (BenchComes number opts input) answer t told input rest taken taken'))
+bench_does None rest taken taken' number opts answer h = tt
+bench_does (Some t) None taken taken' number opts answer h = tt
+bench_does (Some t) (Some input) taken taken' number opts answer h = record {
+  answers = λ e d. (h input).answers e d;
+  puts = λ e d. puts_none e d;
+  output = λ e d. (h input).output e d;
+  rest = λ e d. left_so answer e.rest input (bench_prints number opts input e d).rest;
+  found = bench_found (BenchComes number opts input) answer (h input).found;
+}
+  where
+    puts_none : (e : Effect) (d : BenchComes number opts input e) → PutsFiles e.puts answer t (Some t)
+    puts_none e d = subst (λ (files : List NamedFile). PutsFiles files answer t (Some t)) (sym (bench_prints number opts input e d).puts) (nothing_put answer t (Some t) refl)
+
+pub bench_no_usage : (answer : Answer) → IsBenchAnswer answer → IsNoUsage answer
+bench_no_usage Usage h = h
+bench_no_usage _ h = tt
+
+pub bench_reads : (count : ℕ) (answer : Answer) → IsBenchAnswer answer → InputCount count count answer
+bench_reads count ReadFault h = absurd h
+bench_reads count _ h = refl
+
+pub bench_stores : (count : ℕ) (answer : Answer) → IsBenchAnswer answer → StoreCount count count answer
+bench_stores count StoreFault h = absurd h
+bench_stores count _ h = refl
+
+bench_due : (number : ℕ) (answer : Answer) (line : ℕ) → IsBenchLine number answer line → IsLine (refused_line (modules_of (bench_files number))) answer line
+bench_due number (Refused name refusal) line h = h
+bench_due number _ line h = tt
+
+pub bench_line : (told : Option Told) (number : ℕ) (answer : Answer) (line : ℕ) → IsBenchLine number answer line → IfSome told (λ t. IsLine (refused_line (modules_of (bench_files number))) answer line)
+bench_line None number answer line h = tt
+bench_line (Some t) number answer line h = bench_due number answer line h

@@ -1,0 +1,51 @@
+-- What a build leaves where the kept objects are genuine.
+use Rattle.std.proofs.Common.{◌≡◌, ℕ, List, Option, Some, None, Result, Ok, Err, sym, ap, ◌∙◌, subst}
+use Rattle.std.specs.Prelude.{IfSome, IsSomeAnd}
+use Rattle.pw_io.specs.Files.{Told}
+use Rattle.pw_modules.specs.Modules.{module_map}
+use Rattle.pw_answer.specs.declared.answer.Answer.{Answer}
+use Rattle.pw_answer.specs.declared.answer.Answer.TheVariants.{Done}
+use Rattle.pw_answer.specs.Effects.{Effect, PutsFiles, after_puts}
+use Rattle.pw_build.specs.declared.fault.BuildFault.{BuildFault}
+use Rattle.pw_build.specs.declared.fault.BuildFault.TheVariants as build
+use Rattle.pw_building.specs.Building.{BuildComes, Outcome}
+use Rattle.pw_building.specs.Genuine.{KeepsGenuine}
+use Rattle.pw_building.specs.Outcomes.{fault_answer}
+use Rattle.pw_build_laws.specs.Whole.{HoldsFullBuild}
+use Rattle.pw_driving.specs.Driving.{BuildComesTo, built_effect}
+use Rattle.pw_words.specs.declared.commands.Command.{Command}
+use Rattle.pw_words.specs.declared.commands.Command.TheVariants.{Build as BuildAll}
+use Rattle.pw_top.specs.Commands.{BuildsWhole, IfDone}
+use Rattle.pw_top.specs.Does.{Does, DoesAs}
+
+abbrev pub BuildsLeave : Type 0
+BuildsLeave = (told : Told) (colours stack : ℕ) (outcome : Outcome) → KeepsGenuine told.files → BuildComes told.files colours stack (Ok outcome) → HoldsFullBuild (module_map told.files) colours stack (after_puts told outcome.puts).files
+
+no_done : (fault : BuildFault) → fault_answer fault ≡ Done → ⊥
+no_done (build.Refused name refusal) e = cc
+no_done (build.LinkRefused fault) e = cc
+no_done build.StoreFault e = cc
+no_done build.NoMemory e = cc
+
+built_whole : BuildsLeave → (comes : Result Outcome BuildFault) (colours stack : ℕ) (told : Told) (new : Option Told) (input : List ℕ) (effect : Effect) → BuildComes told.files colours stack comes → effect ≡ built_effect comes input
+    → effect.answer ≡ Done → PutsFiles effect.puts Done told new → KeepsGenuine told.files → IsSomeAnd new (λ now. HoldsFullBuild (module_map told.files) colours stack now.files)
+built_whole law (Ok outcome) colours stack told new input effect c is done puts keeps =
+    let same : new ≡ Some (after_puts told outcome.puts) = subst (λ (x : Effect). PutsFiles x.puts Done told new) is puts in
+    subst (λ (o : Option Told). IsSomeAnd o (λ now. HoldsFullBuild (module_map told.files) colours stack now.files)) (sym same) (law told colours stack outcome keeps c)
+built_whole law (Err fault) colours stack told new input effect c is done puts keeps = absurd (no_done fault (ap (λ (x : Effect). x.answer) (sym is) ∙ done))
+
+done_whole : BuildsLeave → (colours stack : ℕ) (answer : Answer) (told : Told) (new : Option Told) (input : List ℕ) (rest taken taken' : Option (List ℕ)) → Does (BuildComesTo told.files colours stack input) answer told new input rest taken taken'
+    → IfDone answer (KeepsGenuine told.files → IsSomeAnd new (λ now. HoldsFullBuild (module_map told.files) colours stack now.files))
+done_whole law colours stack Done told new input rest taken taken' d =
+    λ keeps. built_whole law d.found.1.0 colours stack told new input d.found.0 d.found.1.1 d.found.1.2 d.found.2 (d.puts d.found.0 d.found.1) keeps
+done_whole law colours stack _ told new input rest taken taken' d = tt
+
+whole_of : BuildsLeave → (command : Option Command) (answer : Answer) (told : Told) (new : Option Told) (input : List ℕ) (rest taken taken' : Option (List ℕ)) → DoesAs command answer told new input rest taken taken' → BuildsWhole command answer told new
+whole_of law (Some (BuildAll colours stack)) answer told new input rest taken taken' d = done_whole law colours stack answer told new input rest taken taken' d
+whole_of law command answer told new input rest taken taken' d = tt
+
+pub builds_whole : BuildsLeave → (command : Option Command) (first new : Option Told) (old rest taken taken' : Option (List ℕ)) (answer : Answer)
+    → IfSome first (λ t. IfSome old (λ input. DoesAs command answer t new input rest taken taken')) → IfSome first (λ t. IfSome old (λ input. BuildsWhole command answer t new))
+builds_whole law command None new old rest taken taken' answer d = tt
+builds_whole law command (Some t) new None rest taken taken' answer d = tt
+builds_whole law command (Some t) new (Some input) rest taken taken' answer d = whole_of law command answer t new input rest taken taken' d
