@@ -115,15 +115,15 @@ holds_program laws told stack parts outcome o =
     let second : Told = after_puts first (if_changed told.files db o.database) in
     let third : Told = after_puts second (if_changed told.files img outcome.image) in
     let all : after_puts told outcome.puts ≡ third =
-        ap (after_puts told) o.puts ∙ after_both told o.objects (if_changed told.files db o.database ++ if_changed told.files img outcome.image)
-        ∙ after_both first (if_changed told.files db o.database) (if_changed told.files img outcome.image) in
+    ap (after_puts told) o.puts ∙ after_both told o.objects (if_changed told.files db o.database ++ if_changed told.files img outcome.image)
+    ∙ after_both first (if_changed told.files db o.database) (if_changed told.files img outcome.image) in
     let db_first : finite.get first.files db ≡ finite.get told.files db = get_other laws told o.objects db (objects_apart _ o.objects db no_database o.object_files) in
     let img_first : finite.get first.files img ≡ finite.get told.files img = get_other laws told o.objects img (objects_apart _ o.objects img no_image o.object_files) in
     let db_second : HoldsFile second.files db o.database = changed_holds laws told.files first db o.database db_first in
     let img_second : finite.get second.files img ≡ finite.get first.files img =
-        get_other laws first (if_changed told.files db o.database) img (changed_apart told.files db o.database img (λ e. two_names (sym e))) in
+    get_other laws first (if_changed told.files db o.database) img (changed_apart told.files db o.database img (λ e. two_names (sym e))) in
     let db_third : finite.get third.files db ≡ finite.get second.files db =
-        get_other laws second (if_changed told.files img outcome.image) db (changed_apart told.files img outcome.image db two_names) in
+    get_other laws second (if_changed told.files img outcome.image) db (changed_apart told.files img outcome.image db two_names) in
     subst (λ (t : Told). HoldsProgram parts stack t.files) (sym all) (record {
       database = o.database;
       database_file = o.database_file;

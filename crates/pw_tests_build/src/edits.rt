@@ -24,7 +24,15 @@ enum Edit {
 
 /// An edit, and a command line; the status, the front of the output, the line on `err`, the names that the command puts,
 /// and whether the bytes of `prog.img` are then those of the first step.
-type Step = (Edit, &'static str, u8, &'static str, &'static str, &'static str, bool);
+type Step = (
+    Edit,
+    &'static str,
+    u8,
+    &'static str,
+    &'static str,
+    &'static str,
+    bool,
+);
 
 const BUMP: &str = "extern int n; void bump(void){n=n+1;}";
 
@@ -32,9 +40,25 @@ const ALL: &str = "a.obj b.obj prog.db prog.img ";
 
 /// The counter, from an empty store on.
 static EDITS: [Step; 18] = [
-    (Edit::Nothing, "build", 0, "built 2 of 2\nimage ", "", ALL, true),
+    (
+        Edit::Nothing,
+        "build",
+        0,
+        "built 2 of 2\nimage ",
+        "",
+        ALL,
+        true,
+    ),
     // An edit that changes no flow graph.
-    (Edit::Nothing, "build", 0, "built 0 of 2\nimage ", "", "", true),
+    (
+        Edit::Nothing,
+        "build",
+        0,
+        "built 0 of 2\nimage ",
+        "",
+        "",
+        true,
+    ),
     (
         Edit::Put("b.i", "extern int n; void bump(void){n=n+1;}/**/"),
         "build",
@@ -56,7 +80,15 @@ static EDITS: [Step; 18] = [
         false,
     ),
     (Edit::Nothing, "run", 100, "", "", "", false),
-    (Edit::Remove("c.i"), "build", 0, "built 2 of 2\nimage ", "", ALL, true),
+    (
+        Edit::Remove("c.i"),
+        "build",
+        0,
+        "built 2 of 2\nimage ",
+        "",
+        ALL,
+        true,
+    ),
     // One function changes, and is changed back.
     (
         Edit::Put("b.i", "extern int n; void bump(void){n=n+2;}"),
@@ -86,8 +118,24 @@ static EDITS: [Step; 18] = [
         "",
         true,
     ),
-    (Edit::Remove("b.i"), "build", 114, "", "link: Undefined bump\n", "", true),
-    (Edit::Put("b.i", BUMP), "build", 0, "built 0 of 2\nimage ", "", "", true),
+    (
+        Edit::Remove("b.i"),
+        "build",
+        114,
+        "",
+        "link: Undefined bump\n",
+        "",
+        true,
+    ),
+    (
+        Edit::Put("b.i", BUMP),
+        "build",
+        0,
+        "built 0 of 2\nimage ",
+        "",
+        "",
+        true,
+    ),
     // Without registers for webs all is made anew, and as before with them.
     (
         Edit::Nothing,
@@ -98,7 +146,15 @@ static EDITS: [Step; 18] = [
         ALL,
         false,
     ),
-    (Edit::Nothing, "build", 0, "built 2 of 2\nimage ", "", ALL, true),
+    (
+        Edit::Nothing,
+        "build",
+        0,
+        "built 2 of 2\nimage ",
+        "",
+        ALL,
+        true,
+    ),
     // A lawful object with other code is linked as it is.
     (
         Edit::Forge("b.obj"),
@@ -124,11 +180,51 @@ static EDITS: [Step; 18] = [
 
 /// One byte of a kept file is changed, or the file is absent.
 static DAMAGES: [Step; 13] = [
-    (Edit::Nothing, "build", 0, "built 2 of 2\nimage ", "", ALL, true),
-    (Edit::Change("a.obj", 0), "build", 0, "built 1 of 2\nimage ", "", "a.obj ", true),
-    (Edit::Change("a.obj", 4), "build", 0, "built 1 of 2\nimage ", "", "a.obj ", true),
-    (Edit::Change("b.obj", 8), "build", 0, "built 1 of 2\nimage ", "", "b.obj ", true),
-    (Edit::Change("a.obj", 12), "build", 0, "built 1 of 2\nimage ", "", "a.obj ", true),
+    (
+        Edit::Nothing,
+        "build",
+        0,
+        "built 2 of 2\nimage ",
+        "",
+        ALL,
+        true,
+    ),
+    (
+        Edit::Change("a.obj", 0),
+        "build",
+        0,
+        "built 1 of 2\nimage ",
+        "",
+        "a.obj ",
+        true,
+    ),
+    (
+        Edit::Change("a.obj", 4),
+        "build",
+        0,
+        "built 1 of 2\nimage ",
+        "",
+        "a.obj ",
+        true,
+    ),
+    (
+        Edit::Change("b.obj", 8),
+        "build",
+        0,
+        "built 1 of 2\nimage ",
+        "",
+        "b.obj ",
+        true,
+    ),
+    (
+        Edit::Change("a.obj", 12),
+        "build",
+        0,
+        "built 1 of 2\nimage ",
+        "",
+        "a.obj ",
+        true,
+    ),
     (
         Edit::Change("b.obj", 1_000_000),
         "build",
@@ -138,13 +234,69 @@ static DAMAGES: [Step; 13] = [
         "b.obj ",
         true,
     ),
-    (Edit::Remove("a.obj"), "build", 0, "built 1 of 2\nimage ", "", "a.obj ", true),
-    (Edit::Change("prog.db", 0), "build", 0, "built 0 of 2\nimage ", "", "prog.db ", true),
-    (Edit::Remove("prog.db"), "build", 0, "built 0 of 2\nimage ", "", "prog.db ", true),
-    (Edit::Change("prog.img", 30), "build", 0, "built 0 of 2\nimage ", "", "prog.img ", true),
-    (Edit::Remove("prog.img"), "build", 0, "built 0 of 2\nimage ", "", "prog.img ", true),
-    (Edit::Cut("a.obj"), "link", 122, "", "BadFile a.obj at 4\n", "", true),
-    (Edit::Nothing, "build", 0, "built 1 of 2\nimage ", "", "a.obj ", true),
+    (
+        Edit::Remove("a.obj"),
+        "build",
+        0,
+        "built 1 of 2\nimage ",
+        "",
+        "a.obj ",
+        true,
+    ),
+    (
+        Edit::Change("prog.db", 0),
+        "build",
+        0,
+        "built 0 of 2\nimage ",
+        "",
+        "prog.db ",
+        true,
+    ),
+    (
+        Edit::Remove("prog.db"),
+        "build",
+        0,
+        "built 0 of 2\nimage ",
+        "",
+        "prog.db ",
+        true,
+    ),
+    (
+        Edit::Change("prog.img", 30),
+        "build",
+        0,
+        "built 0 of 2\nimage ",
+        "",
+        "prog.img ",
+        true,
+    ),
+    (
+        Edit::Remove("prog.img"),
+        "build",
+        0,
+        "built 0 of 2\nimage ",
+        "",
+        "prog.img ",
+        true,
+    ),
+    (
+        Edit::Cut("a.obj"),
+        "link",
+        122,
+        "",
+        "BadFile a.obj at 4\n",
+        "",
+        true,
+    ),
+    (
+        Edit::Nothing,
+        "build",
+        0,
+        "built 1 of 2\nimage ",
+        "",
+        "a.obj ",
+        true,
+    ),
 ];
 
 /// The bytes of a file, or none.
@@ -231,7 +383,9 @@ fn goes(
     let edited = edit_files(alloc, store, edit)?;
     let before = store.puts().len();
     let found = told(alloc, store, line, "")?;
-    let as_told = found.status == wanted && found.output.starts_with(front) && found.line.as_str() == err;
+    let as_told = found.status == wanted
+        && found.output.starts_with(front)
+        && found.line.as_str() == err;
     let put = puts_behind(alloc, store, before)?;
     let built = bytes_of(alloc, store, "prog.img")?;
     if image.is_empty() {
@@ -266,6 +420,10 @@ fn calculator(rt: HostRuntime) -> Result<(), Fail> {
     let built = told(rt.alloc(), &mut store, "build", "")?;
     let run = told(rt.alloc(), &mut store, "run", "12 30 + 7 *\n")?;
     let answers = built.status == 0 && run.status == 0;
-    assert!(rt; answers && built.output.starts_with("built 3 of 3\nimage ") && run.output.as_str() == "294\n");
+    assert!(rt;
+        answers
+            && built.output.starts_with("built 3 of 3\nimage ")
+            && run.output.as_str() == "294\n"
+    );
     Ok(())
 }

@@ -40,7 +40,9 @@ fn survives(alloc: Global, call: u64, leaves: Left, image: &str) -> Result<bool,
     if whole == 4 {
         return Ok(has_report(&first, 2, image));
     }
-    let failed = first.status == 120 && first.output.is_empty() && first.line.as_str() == "StoreFault\n";
+    let failed = first.status == 120
+        && first.output.is_empty()
+        && first.line.as_str() == "StoreFault\n";
     let again = told(alloc, &mut store, "build", "")?;
     Ok(failed && has_report(&again, 2_usize.saturating_sub(whole), image))
 }

@@ -54,7 +54,11 @@ fn masked(alloc: Global, output: &str) -> Result<String, AllocError> {
             if image.is_empty() {
                 image = line;
             }
-            text.push_str(if line == image { "image" } else { "image other" })?;
+            text.push_str(if line == image {
+                "image"
+            } else {
+                "image other"
+            })?;
         } else {
             text.push_str(line)?;
         }
@@ -154,7 +158,9 @@ fn bench(rt: HostRuntime) -> Result<(), Fail> {
     let mut store = store_of(rt.alloc(), &[], &[])?;
     let first = told(rt.alloc(), &mut store, "bench 1", "")?;
     let second = told(rt.alloc(), &mut store, "bench 1", "")?;
-    let front = first.output.starts_with("bench 1 modules 65 functions 513 image ");
+    let front = first
+        .output
+        .starts_with("bench 1 modules 65 functions 513 image ");
     let answers = first.status == 0 && second.status == 0 && store.puts().is_empty();
     assert!(rt; answers && front && first.output == second.output);
     Ok(())

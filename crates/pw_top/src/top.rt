@@ -79,13 +79,7 @@ fn obey<S: Store, I: Source, O: Sink>(
             stack,
             steps,
         } => Reply {
-            answer: run_session(
-                alloc,
-                store,
-                input,
-                out,
-                &opts_of(*colours, *stack, *steps),
-            ),
+            answer: run_session(alloc, store, input, out, &opts_of(*colours, *stack, *steps)),
             line: 1,
         },
         Command::Bench {
