@@ -9,7 +9,7 @@ returns-in-Go-clause-does g c =
     rw c.in-Go.is (go_does (g.S.Store.told c.args.store.now) _ (g.I.Source.rest c.args.input.now) _ (g.O.Sink.taken c.args.out.now) _ _ _ c.go.ensures.files c.go.ensures.answer c.go.ensures.output c.go.ensures.rest)
 
 pub returns-in-Go-clause-usage : goal.returns-in-Go-clause-usage
-returns-in-Go-clause-usage g c = rw c.in-Go.is c.go.ensures.words
+returns-in-Go-clause-usage g c = c.go.ensures.words
 
 pub returns-in-Go-clause-refusal : goal.returns-in-Go-clause-refusal
 returns-in-Go-clause-refusal g c = rw c.in-Go.is (of_go _ (g.S.Store.told c.args.store.now) c.go.ensures.refusal)
@@ -28,7 +28,7 @@ returns-in-PhaseOne-clause-does g c =
     rw c.in-PhaseOne.is (phase_one_does (g.S.Store.told c.args.store.now) _ (g.I.Source.rest c.args.input.now) (g.O.Sink.taken c.args.out.now) _ _ c.compile_text.ensures.obeys)
 
 pub returns-in-PhaseOne-clause-usage : goal.returns-in-PhaseOne-clause-usage
-returns-in-PhaseOne-clause-usage g c = rw c.in-PhaseOne.is (phase_no_usage _ c.compile_text.ensures.answer)
+returns-in-PhaseOne-clause-usage g c = phase_no_usage _ c.compile_text.ensures.answer
 
 pub returns-in-PhaseOne-clause-refusal : goal.returns-in-PhaseOne-clause-refusal
 returns-in-PhaseOne-clause-refusal g c = rw c.in-PhaseOne.is (of_other _ (g.S.Store.told c.args.store.now))
@@ -56,7 +56,7 @@ returns-in-Analyse-clause-does g c =
     rw c.in-Analyse.is (analyse_does (g.S.Store.told c.args.store.now) _ (g.I.Source.rest c.args.input.now) (g.O.Sink.taken c.args.out.now) _ _ c.analyse_modules.ensures.obeys)
 
 pub returns-in-Analyse-clause-usage : goal.returns-in-Analyse-clause-usage
-returns-in-Analyse-clause-usage g c = rw c.in-Analyse.is (store_no_usage _ c.analyse_modules.ensures.answer)
+returns-in-Analyse-clause-usage g c = store_no_usage _ c.analyse_modules.ensures.answer
 
 pub returns-in-Analyse-clause-refusal : goal.returns-in-Analyse-clause-refusal
 returns-in-Analyse-clause-refusal g c = rw c.in-Analyse.is (of_other _ (g.S.Store.told c.args.store.now))
@@ -84,7 +84,7 @@ returns-in-PhaseTwo-clause-does g c =
     rw c.in-PhaseTwo.is (phase_two_does (g.S.Store.told c.args.store.now) _ (g.I.Source.rest c.args.input.now) (g.O.Sink.taken c.args.out.now) _ _ c.compile_flow.ensures.obeys)
 
 pub returns-in-PhaseTwo-clause-usage : goal.returns-in-PhaseTwo-clause-usage
-returns-in-PhaseTwo-clause-usage g c = rw c.in-PhaseTwo.is (store_no_usage _ c.compile_flow.ensures.answer)
+returns-in-PhaseTwo-clause-usage g c = store_no_usage _ c.compile_flow.ensures.answer
 
 pub returns-in-PhaseTwo-clause-refusal : goal.returns-in-PhaseTwo-clause-refusal
 returns-in-PhaseTwo-clause-refusal g c = rw c.in-PhaseTwo.is (of_other _ (g.S.Store.told c.args.store.now))
@@ -112,7 +112,7 @@ returns-in-Link-clause-does g c =
     rw c.in-Link.is (link_does (g.S.Store.told c.args.store.now) _ (g.I.Source.rest c.args.input.now) (g.O.Sink.taken c.args.out.now) _ _ c.link_modules.ensures.obeys)
 
 pub returns-in-Link-clause-usage : goal.returns-in-Link-clause-usage
-returns-in-Link-clause-usage g c = rw c.in-Link.is (store_no_usage _ c.link_modules.ensures.answer)
+returns-in-Link-clause-usage g c = store_no_usage _ c.link_modules.ensures.answer
 
 pub returns-in-Link-clause-refusal : goal.returns-in-Link-clause-refusal
 returns-in-Link-clause-refusal g c = rw c.in-Link.is (of_other _ (g.S.Store.told c.args.store.now))
@@ -140,7 +140,7 @@ returns-in-Run-clause-does g c =
     rw c.in-Run.is (run_does (g.S.Store.told c.args.store.now) _ (g.I.Source.rest c.args.input.now) _ (g.O.Sink.taken c.args.out.now) _ _ _ c.run_image.ensures.same c.run_image.ensures.answer c.run_image.ensures.output c.run_image.ensures.rest)
 
 pub returns-in-Run-clause-usage : goal.returns-in-Run-clause-usage
-returns-in-Run-clause-usage g c = rw c.in-Run.is (run_no_usage _ c.run_image.ensures.run)
+returns-in-Run-clause-usage g c = run_no_usage _ c.run_image.ensures.run
 
 pub returns-in-Run-clause-refusal : goal.returns-in-Run-clause-refusal
 returns-in-Run-clause-refusal g c = rw c.in-Run.is (of_other _ (g.S.Store.told c.args.store.now))
@@ -159,7 +159,7 @@ returns-in-List-clause-does g c =
     rw c.in-List.is (list_does (g.S.Store.told c.args.store.now) _ (g.I.Source.rest c.args.input.now) (g.O.Sink.taken c.args.out.now) _ _ c.list_image.ensures.same c.list_image.ensures.shows)
 
 pub returns-in-List-clause-usage : goal.returns-in-List-clause-usage
-returns-in-List-clause-usage g c = rw c.in-List.is (show_no_usage _ c.list_image.ensures.answer)
+returns-in-List-clause-usage g c = show_no_usage _ c.list_image.ensures.answer
 
 pub returns-in-List-clause-refusal : goal.returns-in-List-clause-refusal
 returns-in-List-clause-refusal g c = rw c.in-List.is (of_other _ (g.S.Store.told c.args.store.now))
@@ -184,7 +184,7 @@ returns-in-Db-clause-does g c =
     rw c.in-Db.is (db_does (g.S.Store.told c.args.store.now) _ (g.I.Source.rest c.args.input.now) (g.O.Sink.taken c.args.out.now) _ _ c.show_database.ensures.same c.show_database.ensures.shows)
 
 pub returns-in-Db-clause-usage : goal.returns-in-Db-clause-usage
-returns-in-Db-clause-usage g c = rw c.in-Db.is (show_no_usage _ c.show_database.ensures.answer)
+returns-in-Db-clause-usage g c = show_no_usage _ c.show_database.ensures.answer
 
 pub returns-in-Db-clause-refusal : goal.returns-in-Db-clause-refusal
 returns-in-Db-clause-refusal g c = rw c.in-Db.is (of_other _ (g.S.Store.told c.args.store.now))
@@ -257,7 +257,7 @@ returns-in-Build-clause-does g c =
     rw c.in-Build.is (build_does (g.S.Store.told c.args.store.now) _ (g.I.Source.rest c.args.input.now) (g.O.Sink.taken c.args.out.now) _ _ _ _ c.build_modules.ensures.obeys c.build_modules.ensures.output)
 
 pub returns-in-Build-clause-usage : goal.returns-in-Build-clause-usage
-returns-in-Build-clause-usage g c = rw c.in-Build.is (build_no_usage _ c.build_modules.ensures.answer)
+returns-in-Build-clause-usage g c = build_no_usage _ c.build_modules.ensures.answer
 
 pub returns-in-Build-clause-refusal : goal.returns-in-Build-clause-refusal
 returns-in-Build-clause-refusal g c = rw c.in-Build.is (of_other _ (g.S.Store.told c.args.store.now))
@@ -291,7 +291,7 @@ returns-in-Session-clause-does g c =
     rw c.in-Session.is (rw c.opts_of.ensures at (session_does (g.S.Store.told c.args.store.now) _ (g.I.Source.rest c.args.input.now) _ (g.O.Sink.taken c.args.out.now) _ _ _ c.run_session.ensures.obeys c.run_session.ensures.rest))
 
 pub returns-in-Session-clause-usage : goal.returns-in-Session-clause-usage
-returns-in-Session-clause-usage g c = rw c.in-Session.is (session_no_usage _ c.run_session.ensures.answer)
+returns-in-Session-clause-usage g c = session_no_usage _ c.run_session.ensures.answer
 
 pub returns-in-Session-clause-refusal : goal.returns-in-Session-clause-refusal
 returns-in-Session-clause-refusal g c = rw c.in-Session.is (of_other _ (g.S.Store.told c.args.store.now))
@@ -313,10 +313,10 @@ returns-in-Session-clause-line g c = rw c.in-Session.is (plain_line (g.S.Store.t
 
 pub returns-in-Bench-clause-does : goal.returns-in-Bench-clause-does
 returns-in-Bench-clause-does g c =
-    rw c.in-Bench.is (rw c.opts_of.ensures at (bench_does (g.S.Store.told c.args.store.now) (g.I.Source.rest c.args.input.now) (g.O.Sink.taken c.args.out.now) _ _ _ _ c.bench.ensures.obeys))
+    rw c.in-Bench.is (rw c.opts_of-in-Bench.ensures at (bench_does (g.S.Store.told c.args.store.now) (g.I.Source.rest c.args.input.now) (g.O.Sink.taken c.args.out.now) _ _ _ _ c.bench.ensures.obeys))
 
 pub returns-in-Bench-clause-usage : goal.returns-in-Bench-clause-usage
-returns-in-Bench-clause-usage g c = rw c.in-Bench.is (bench_no_usage _ c.bench.ensures.answer)
+returns-in-Bench-clause-usage g c = bench_no_usage _ c.bench.ensures.answer
 
 pub returns-in-Bench-clause-refusal : goal.returns-in-Bench-clause-refusal
 returns-in-Bench-clause-refusal g c = rw c.in-Bench.is (of_other _ (g.S.Store.told c.args.store.now))
