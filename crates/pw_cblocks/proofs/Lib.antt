@@ -1,0 +1,2 @@
+pub mod Gotos
+pub mod Leaving
