@@ -1,0 +1,21 @@
+use Rattle.std.proofs.Common.{rules}
+use Rattle.pw_cstate.specs.Shown.{view_state}
+use Rattle.pw_cmean.specs.SourceRun.{result_of}
+use Rattle.pw_ccalls.specs.Views.{view_env}
+use Rattle.pw_ccalls.proofs.AnswerLaws.{then_ok, then_err}
+use Rattle.pw_cbodies.specs.Bodies.{with_arguments}
+use Rattle.pw_cbodies.proofs.bodies.with_arguments.Goals as goal
+
+pub returns-in_err-set_parameters : goal.returns-in_err-set_parameters
+unfolding with_arguments
+returns-in_err-set_parameters g c = then_err _ c.set_parameters.ensures c.in_err-set_parameters.was (search rules)
+
+pub returns-in_err-flow : goal.returns-in_err-flow
+unfolding with_arguments
+returns-in_err-flow g c = then_ok _ c.set_parameters.ensures c.in_ok-set_parameters.was (then_err result_of c.meaning.ensures c.in_err-flow.was (search rules))
+
+pub returns : goal.returns
+unfolding with_arguments
+returns g c =
+    then_ok _ c.set_parameters.ensures c.in_ok-set_parameters.was
+    (then_ok result_of c.meaning.ensures c.in_ok-flow.was (c.result_of.ensures (view_env c.args.env.now).world (view_state c.meaning.new.state)))

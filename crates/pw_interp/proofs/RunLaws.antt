@@ -1,0 +1,69 @@
+-- What a run of a program is seen as.
+use Rattle.std.proofs.Common.{ℕ, ◌+◌, ◌≡◌, refl, sym, ap, subst, ◌∙◌, List, [], ◌∷◌, drop, Result, Ok, Err, Option, Some, None, arith}
+use Rattle.pw_value.specs.Objects.{Object}
+use Rattle.pw_value.specs.ProgramNames.{start_name, main_name}
+use Rattle.pw_value.specs.declared.value.Value.{Value}
+use Rattle.pw_value.specs.declared.value.Value.TheVariants as V
+use Rattle.pw_cmean.specs.Worlds.{World, Callable, Body, Defined, Library, start_objects, function_named}
+use Rattle.pw_cmean.specs.Acts as acts
+use Rattle.pw_cmean.specs.Acts.{Act, State, Outcome, Gives, Ends, Wrong, give, need, stop, go_on, wrong, undefined, ◌>>=◌}
+use Rattle.pw_cmean.specs.Evaluation.{call}
+use Rattle.pw_cmean.specs.SourceRun.{Run, seen, finish, start_state, calls, run_main}
+use Rattle.pw_cstate.specs.Shown.{Shown, shown}
+use Rattle.pw_cstate.specs.Runs.{Runs, Shows}
+use Rattle.pw_ccalls.specs.declared.ending.Stop.{Stop}
+use Rattle.pw_ccalls.specs.declared.ending.Stop.TheVariants as S
+use Rattle.pw_ccalls.specs.Endings.{view_ending}
+use Rattle.pw_ccalls.specs.Answers.{Answers}
+use Rattle.pw_interp.specs.Ends.{end_of, finished}
+
+pub run_seen : {world : World} {act : Act (Unit {0})} {w u : Shown} {r : Result (Unit {0}) Stop} (s : State) (end : acts.Ending)
+    → Answers (λ d. tt) world act w r u → w ≡ shown world s → end_of r ≡ Some end → record { end = end; out = u.out; read = u.read } ≡ seen (act s)
+run_seen {world = world} {act = act} {w = w} {u = u} {r = r} s end a start told = by r a told
+  where
+    given : (y : Outcome (Unit {0})) → Shows world y (Ok tt) u → acts.Exit 0 ≡ end → record { end = end; out = u.out; read = u.read } ≡ seen y
+    given (Gives d t) (is, at) e = ap (λ x. record { end = x; out = u.out; read = u.read }) (sym e) ∙ ap {B = Run} (λ v. record { end = acts.Exit 0; out = v.out; read = v.read }) (sym at)
+    given (Ends ending t) (is, at) e = cc is
+
+    ended : (ending : acts.Ending) (y : Outcome (Unit {0})) → Shows world y (Err ending) u → ending ≡ end → record { end = end; out = u.out; read = u.read } ≡ seen y
+    ended ending (Gives d t) (is, at) e = cc is
+    ended ending (Ends other t) (is, at) e =
+        let same : other ≡ end = cc (is, e) in
+        ap (λ x. record { end = x; out = u.out; read = u.read }) (sym same) ∙ ap {B = Run} (λ v. record { end = other; out = v.out; read = v.read }) (sym at)
+
+    by : (x : Result (Unit {0}) Stop) → Answers (λ d. tt) world act w x u → end_of x ≡ Some end → record { end = end; out = u.out; read = u.read } ≡ seen (act s)
+    by (Ok d) o e = let is : acts.Exit 0 ≡ end = cc e in given (act s) (o.given.comes s (sym start)) is
+    by (Err (S.Ended ending)) o e = let is : view_ending ending ≡ end = cc e in ended (view_ending ending) (act s) (o.stopped.comes s (sym start)) is
+    by (Err S.NoMemory) o e = cc e
+
+-- a run always ends where main returned
+pub finish_is : (body : Body) (answer : Option Value) → finish body answer ≡ stop (finished body answer)
+unfolding finish wrong undefined
+finish_is body (Some (V.Num n)) = refl
+finish_is body (Some V.Undefined) = refl
+finish_is body (Some V.Null) = refl
+finish_is body (Some (V.At p)) = refl
+finish_is body (Some (V.Piece p i)) = refl
+finish_is (Defined home f) None = refl
+finish_is (Library g) None = refl
+
+-- ---- the start
+
+pub start_shows : (world : World) (objects : List Object) (used : ℕ) (input out : List ℕ) → objects ≡ start_objects world.program → used ≡ world.frame_of start_name → out ≡ []
+    → record { objects = objects; used = used; rest = drop 0 input; read = 0; out = out } ≡ shown world (start_state world.program input)
+start_shows world objects used input out a b c =
+    let more : used ≡ world.frame_of start_name + 0 = b ∙ omega arith in
+    ap {B = Shown} (λ x. record { objects = x; used = used; rest = input; read = 0; out = out }) a
+    ∙ ap {B = Shown} (λ x. record { objects = start_objects world.program; used = x; rest = input; read = 0; out = out }) more
+    ∙ ap {B = Shown} (λ x. record { objects = start_objects world.program; used = world.frame_of start_name + 0; rest = input; read = 0; out = x }) c
+
+-- ---- the call of main
+
+module _ (world : World) (bound : ℕ) where
+  pub main_there : (f : Callable) → function_named world.program main_name ≡ Some f → (s : State) → run_main world bound s ≡ (call world (calls world bound) f [] >>= finish f.body) s
+  unfolding run_main need give ◌>>=◌ go_on
+  main_there f is s = ap (λ o. (need o >>= λ main. call world (calls world bound) main [] >>= finish main.body) s) is
+
+  pub no_main : function_named world.program main_name ≡ None → (s : State) → run_main world bound s ≡ stop Wrong s
+  unfolding run_main need wrong stop ◌>>=◌ go_on
+  no_main is s = ap (λ o. (need o >>= λ main. call world (calls world bound) main [] >>= finish main.body) s) is
