@@ -49,10 +49,12 @@ static SCRIPTS: [Script; 4] = [
 fn masked(alloc: Global, output: &str) -> Result<String, AllocError> {
     let mut text = String::new(alloc);
     let mut image = "";
+    let mut is_first = true;
     for line in output.lines() {
         if line.starts_with("image ") {
-            if image.is_empty() {
+            if is_first {
                 image = line;
+                is_first = false;
             }
             text.push_str(if line == image {
                 "image"
