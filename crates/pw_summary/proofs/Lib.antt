@@ -1,3 +1,4 @@
 pub mod SummaryLaws
 pub mod SummaryFaults
 pub mod WritingLemmas
+pub mod Parts

@@ -9,6 +9,8 @@ use Rattle.pw_files.specs.Rising.{rising_at}
 use Rattle.pw_files.specs.Kinds.{kind_at}
 use Rattle.pw_files.specs.Names.{name_above_at, name_list_at, text_list_at, shaped_list_at}
 use Rattle.pw_files.specs.Contents.{Contents, module_rules, contents_file_at}
+use Rattle.pw_summary.specs.declared.reading.Defined.{Defined}
+use Rattle.pw_summary.specs.declared.reading.Used.{Used}
 use Rattle.pw_summary.specs.declared.summary.Uses.{Uses}
 use Rattle.pw_summary.specs.declared.summary.Summary.{Summary}
 use Rattle.pw_summary.specs.Summary.{global_names, function_names, names_of, kind}
@@ -64,3 +66,26 @@ fields_at names late = do
 
 abbrev pub summary_file_at : List ℕ → Result (Contents Summary) ℕ
 summary_file_at = contents_file_at kind fields_at last_rules
+
+-- ---- the fields in two parts behind the module's name
+
+-- what the module defines and declares, and how many bytes are left from the count of the functions on
+unfoldable pub defined_at : List (List ℕ) → List ℕ → Result ((Defined × ℕ) × List ℕ) ℕ
+defined_at names = do
+  globals ← rising_at (λ g. g.0) (global_at names)
+  count ← here
+  functions ← shaped_list_at names Allowed
+  declared ← shaped_list_at names Allowed
+  done (record { globals = globals; functions = functions; declared = declared }, count)
+
+-- what the module uses, which defines so many functions
+unfoldable pub used_at : List (List ℕ) → ℕ → List ℕ → Result (Used × List ℕ) ℕ
+used_at names functions = do
+  used ← name_list_at names Allowed
+  taken ← shaped_list_at names Refused
+  escaped ← name_list_at names Allowed
+  uses ← repeated (uses_at names) functions
+  done (record { used = used; taken = taken; escaped = escaped; uses = uses })
+
+abbrev pub whole_summary : List ℕ → Defined → Used → Summary
+whole_summary name d u = record { «module» = name; globals = d.globals; functions = d.functions; declared = d.declared; used = u.used; taken = u.taken; escaped = u.escaped; uses = u.uses }

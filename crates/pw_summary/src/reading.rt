@@ -9,7 +9,7 @@ ghost use Rattle.pw_files.specs.Rising.{next_key, rising_at};
 ghost use Rattle.pw_files.specs.Contents.{broken_at, value_of};
 ghost use Rattle.pw_summary.specs.declared.summary.Summary.{Summary as AnySummary};
 ghost use Rattle.pw_summary.specs.Summary.{IsSummaryFile, kind as kind_of_file};
-ghost use Rattle.pw_summary.specs.Reading.{global_at, weight_at, reference_at, uses_at, last_rules, fields_at, summary_file_at};
+ghost use Rattle.pw_summary.specs.Reading.{global_at, weight_at, reference_at, uses_at, defined_at, used_at, whole_summary, last_rules, fields_at, summary_file_at};
 
 use crate::names::{check_start_beside_main, used_names};
 use crate::summary::{Summary, Uses};
@@ -183,9 +183,95 @@ fn read_all_uses<'a>(
     Ok((all, rest))
 }
 
+/// What a module defines and declares, each list as `Summary` has it.
+#[derive(Drop)]
+struct Defined {
+    globals: Items<(Name, Shape, Option<Kind>, bool)>,
+    functions: Items<(Name, Shape)>,
+    declared: Items<(Name, Shape)>,
+}
+
+/// What a module uses, each list as `Summary` has it.
+#[derive(Drop)]
+struct Used {
+    used: Items<Name>,
+    taken: Items<(Name, Shape)>,
+    escaped: Items<Name>,
+    uses: Items<Uses>,
+}
+
+/// What the module defines and declares, and how many bytes are left from the count of its functions on.
+#[tactic(auto, unfolding(crate::specs::Reading::defined_at))]
+fn read_defined<'a>(
+    alloc: Global,
+    names: &[Name],
+    bytes: &'a [u8],
+) -> Result<((Defined, usize), &'a [u8]), FieldError>
+    ensures { Gives (λ x. (x.0, x.1.now)) result (defined_at names.now bytes.now) }
+{
+    let (globals, count) = read_global_list(alloc, names, bytes)?;
+    let (functions, rest) = read_shaped_list(alloc, names, StartName::Allowed, count)?;
+    let (declared, rest) = read_shaped_list(alloc, names, StartName::Allowed, rest)?;
+    let defined = Defined {
+        globals,
+        functions,
+        declared,
+    };
+    Ok(((defined, count.len()), rest))
+}
+
+/// What the module uses, which defines so many functions.
+#[tactic(auto, unfolding(crate::specs::Reading::used_at))]
+fn read_used<'a>(
+    alloc: Global,
+    names: &[Name],
+    functions: usize,
+    bytes: &'a [u8],
+) -> Result<(Used, &'a [u8]), FieldError>
+    ensures { Gives (λ x. (x.0, x.1.now)) result (used_at names.now functions bytes.now) }
+{
+    let (used, rest) = read_name_list(alloc, names, StartName::Allowed, bytes)?;
+    let (taken, rest) = read_shaped_list(alloc, names, StartName::Refused, rest)?;
+    let (escaped, rest) = read_name_list(alloc, names, StartName::Allowed, rest)?;
+    let (uses, rest) = read_all_uses(alloc, names, functions, rest)?;
+    let used = Used {
+        used,
+        taken,
+        escaped,
+        uses,
+    };
+    Ok((used, rest))
+}
+
+/// The summary of the module of this name.
+fn summary_of(name: Name, defined: Defined, used: Used) -> Summary
+    ensures { result ≡ whole_summary name defined used }
+{
+    let Defined {
+        globals,
+        functions,
+        declared,
+    } = defined;
+    let Used {
+        used,
+        taken,
+        escaped,
+        uses,
+    } = used;
+    Summary {
+        module: name,
+        globals,
+        functions,
+        declared,
+        used,
+        taken,
+        escaped,
+        uses,
+    }
+}
+
 /// The fields of the summary, behind the table of names: the summary, how many bytes are left from the
 /// count of its functions on, and what is left behind it.
-#[tactic(auto, unfolding(crate::specs::Reading::fields_at))]
 fn read_fields<'a>(
     alloc: Global,
     names: &[Name],
@@ -195,24 +281,10 @@ fn read_fields<'a>(
     ensures fault { IfErr result (λ e. (late : AnySummary → ℕ → Option ℕ) → Fails e (fields_at names.now late bytes.now)) }
 {
     let (module, rest) = read_name(names, bytes)?;
-    let (globals, count) = read_global_list(alloc, names, rest)?;
-    let (functions, rest) = read_shaped_list(alloc, names, StartName::Allowed, count)?;
-    let (declared, rest) = read_shaped_list(alloc, names, StartName::Allowed, rest)?;
-    let (used, rest) = read_name_list(alloc, names, StartName::Allowed, rest)?;
-    let (taken, rest) = read_shaped_list(alloc, names, StartName::Refused, rest)?;
-    let (escaped, rest) = read_name_list(alloc, names, StartName::Allowed, rest)?;
-    let (uses, rest) = read_all_uses(alloc, names, functions.len(), rest)?;
-    let summary = Summary {
-        module: module.copy(alloc)?,
-        globals,
-        functions,
-        declared,
-        used,
-        taken,
-        escaped,
-        uses,
-    };
-    Ok((summary, count.len(), rest))
+    let ((defined, count), rest) = read_defined(alloc, names, rest)?;
+    let (used, rest) = read_used(alloc, names, defined.functions.len(), rest)?;
+    let name = module.copy(alloc)?;
+    Ok((summary_of(name, defined, used), count, rest))
 }
 
 /// The summary behind the table of names.
