@@ -24,6 +24,38 @@ fn bottoms<L: Lattice>(alloc: Global, lattice: &L, count: usize) -> Result<Vec<L
     Ok(all)
 }
 
+/// What is known of the nodes while the solver runs: of each one the value so far and what flows into it, what the last
+/// step made, and the nodes that wait.
+#[derive(Drop)]
+struct Flows<E> {
+    values: Vec<E>,
+    inflows: Vec<E>,
+    outflow: E,
+    waiting: Worklist,
+}
+
+/// Before the first step everything is the least element, and all nodes wait.
+fn start<L: Lattice>(alloc: Global, lattice: &L, nodes: usize) -> Result<Flows<L::Elem>, NoMemory>
+    ensures each_value { IfOk result (λ flows. vec_len flows.values ≡ nodes) }
+    ensures values { IfOk result (λ flows. All (IsLeast (L.is_own lattice.now) (L.is_below lattice.now)) flows.values.items) }
+    ensures each_inflow { IfOk result (λ flows. vec_len flows.inflows ≡ nodes) }
+    ensures inflows { IfOk result (λ flows. All (IsLeast (L.is_own lattice.now) (L.is_below lattice.now)) flows.inflows.items) }
+    ensures outflow { IfOk result (λ flows. IsLeast (L.is_own lattice.now) (L.is_below lattice.now) flows.outflow) }
+    ensures nodes { IfOk result (λ flows. node_count flows.waiting ≡ nodes) }
+    ensures waiting { IfOk result (λ flows. (n : ℕ) → n < nodes → IsWaiting flows.waiting n) }
+{
+    let values = bottoms(alloc, lattice, nodes)?;
+    let inflows = bottoms(alloc, lattice, nodes)?;
+    let outflow = lattice.bottom(alloc)?;
+    let waiting = Worklist::full(alloc, nodes)?;
+    Ok(Flows {
+        values,
+        inflows,
+        outflow,
+        waiting,
+    })
+}
+
 /// Joins a value into the inflow of each successor. Those whose inflow rises wait from now on.
 fn spread<L: Lattice>(
     lattice: &L,
@@ -74,10 +106,12 @@ pub fn solve<P: Problem>(
 {
     let lattice = problem.lattice();
     let successors = graph.successors(alloc)?;
-    let mut values = bottoms(alloc, lattice, graph.nodes)?;
-    let mut inflows = bottoms(alloc, lattice, graph.nodes)?;
-    let mut outflow = lattice.bottom(alloc)?;
-    let mut waiting = Worklist::full(alloc, graph.nodes)?;
+    let Flows {
+        mut values,
+        mut inflows,
+        mut outflow,
+        mut waiting,
+    } = start(alloc, lattice, graph.nodes)?;
     while let Some(node) = waiting.pop() {
         problem.step(node, &inflows[node], &mut outflow);
         if lattice.join(&mut values[node], &outflow) {

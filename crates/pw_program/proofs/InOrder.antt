@@ -1,16 +1,12 @@
 -- The tests one after the other.
-use Rattle.std.proofs.Common.{◌≡◌, ℕ, suc, ◌<◌, List, subst, arith, inl, inr}
+use Rattle.std.proofs.Common.{◌≡◌, suc, ◌<◌, List, subst, arith, inl, inr}
 use Rattle.std.specs.Prelude.{◌⊎◌, Result, Ok, Err, OnOk, IfErr}
 use Rattle.std.proofs.lemmas.Bool.{cases_lt}
 use Rattle.pw_value.specs.declared.fault.LinkFault.{LinkFault}
 use Rattle.pw_value.specs.declared.fault.LinkFault.TheVariants.{NoMemory}
 use Rattle.pw_program.specs.declared.interface.Interface.{Interface}
-use Rattle.pw_program.specs.Linking.{Test, few_functions, few_globals, all_defined, defined_once, all_agree, has_main, rank, Passes, Fails, Links, Refusal, Answers}
+use Rattle.pw_program.specs.Linking.{Test, few_functions, few_globals, all_defined, defined_once, all_agree, has_main, rank, Passes, Passed, Fails, Links, Refusal, Answers, AnswersUpTo}
 use Rattle.pw_program.proofs.OneAnswer.{one_test}
-
--- the first tests, so many of them, are passed
-abbrev pub Passed : ℕ → List Interface → Type 0
-Passed n modules = (test : Test) → rank test < n → Passes test modules
 
 pub none_passed : (modules : List Interface) → Passed 0 modules
 none_passed modules test low = absurd (omega (arith, low))
@@ -36,6 +32,11 @@ all_passed modules passed test = passed test (below_six test)
 pub refused : (test : Test) (modules : List Interface) (fault : LinkFault) → Passed (rank test) modules → (fault ≡ NoMemory) ⊎ Fails test modules fault → (fault ≡ NoMemory) ⊎ Refusal modules fault
 refused test modules fault passed (inl none) = inl none
 refused test modules fault passed (inr fails) = inr (record { failed = test; fails = fails; earlier = passed })
+
+-- one test more tells what it and those before it do
+pub then_answers : (test : Test) (modules : List Interface) (r : Result (Unit {0}) LinkFault) → Passed (rank test) modules → Answers test modules r → AnswersUpTo (suc (rank test)) modules r
+then_answers test modules (Ok x) passed h = one_more test modules passed h
+then_answers test modules (Err e) passed h = refused test modules e passed h
 
 -- the last test tells what all of them do
 pub last_links : (modules : List Interface) (r : Result (Unit {0}) LinkFault) → Passed 5 modules → Answers has_main modules r → OnOk r (Links modules)

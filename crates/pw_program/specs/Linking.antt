@@ -153,3 +153,11 @@ pub record Refusal (modules : List Interface) (fault : LinkFault) : Type 0 where
 -- what a call answers that makes a test
 abbrev pub Answers : Test → List Interface → Result (Unit {0}) LinkFault → Type 0
 Answers test modules r = MatchResult r (λ _. Passes test modules) (λ fault. (fault ≡ F.NoMemory) ⊎ Fails test modules fault)
+
+-- the first tests, so many of them, are passed
+abbrev pub Passed : ℕ → List Interface → Type 0
+Passed n modules = (test : Test) → rank test < n → Passes test modules
+
+-- what a call answers that makes the first tests, so many of them, or the last ones of these where those before are passed
+abbrev pub AnswersUpTo : ℕ → List Interface → Result (Unit {0}) LinkFault → Type 0
+AnswersUpTo n modules r = MatchResult r (λ _. Passed n modules) (λ fault. (fault ≡ F.NoMemory) ⊎ Refusal modules fault)

@@ -1,7 +1,7 @@
 //! When modules make a program.
 
 ghost use Rattle.std.specs.Prelude.{◌≡◌, ◌≢◌, ◌⊎◌, OnOk, IfErr};
-ghost use Rattle.pw_program.specs.Linking.{Links, Refusal, Answers, few_functions, few_globals, has_main};
+ghost use Rattle.pw_program.specs.Linking.{library, Links, Refusal, Answers, AnswersUpTo, Passed, few_functions, few_globals, has_main};
 
 use crate::conflicts::check_shapes;
 use crate::duplicates::check_once;
@@ -38,6 +38,25 @@ fn check_globals(modules: &[Interface]) -> Result<(), LinkFault>
     Ok(())
 }
 
+/// The tests of the counts.
+fn check_counts(modules: &[Interface]) -> Result<(), LinkFault>
+    ensures { AnswersUpTo 2 modules.now result }
+{
+    check_functions(modules)?;
+    check_globals(modules)
+}
+
+/// The tests of the names, which stand behind those of the counts; `own` is the library.
+fn check_names(alloc: Global, own: &Interface, modules: &[Interface]) -> Result<(), LinkFault>
+    requires library { own.now ≡ library }
+    requires counts { Passed 2 modules.now }
+    ensures { AnswersUpTo 5 modules.now result }
+{
+    check_defined(alloc, own, modules)?;
+    check_once(alloc, own, modules)?;
+    check_shapes(alloc, own, modules)
+}
+
 /// The test that there is a `main`.
 fn check_main(modules: &[Interface]) -> Result<(), LinkFault>
     ensures answers { Answers has_main modules.now result }
@@ -56,11 +75,8 @@ pub fn check_program(alloc: Global, modules: &[Interface]) -> Result<(), LinkFau
     ensures links { OnOk result (Links modules.now) }
     ensures refused { IfErr result (λ fault. (fault ≡ LinkFault.NoMemory) ⊎ Refusal modules.now fault) }
 {
-    check_functions(modules)?;
-    check_globals(modules)?;
+    check_counts(modules)?;
     let own = built_in(alloc)?;
-    check_defined(alloc, &own, modules)?;
-    check_once(alloc, &own, modules)?;
-    check_shapes(alloc, &own, modules)?;
+    check_names(alloc, &own, modules)?;
     check_main(modules)
 }

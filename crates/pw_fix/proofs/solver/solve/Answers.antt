@@ -16,17 +16,16 @@ loop-node-init g c =
     let m = g.P.L.Lattice in
     let lattice = c.lattice-lattice.result.now in
     let graph = c.args.graph.now in
-    let values = c.in_ok-values.values in
-    let inflows = c.in_ok-inflows.inflows in
+    let begun = c.in_ok-values in
     record {
       progress = starts (m.is_own lattice) (m.is_below lattice) (g.P.Problem.gives c.args.problem.now) graph.edges.items graph.nodes (g.met.P.L.Lattice.order lattice)
-          values.items inflows.items (IsWaiting c.in_ok-waiting.waiting)
-          (sym values.ok.0 ∙ c.in_ok-values.ensures.each) (sym inflows.ok.0 ∙ c.in_ok-inflows.ensures.each)
-          (λ n x e. All-at (IsLeast (m.is_own lattice) (m.is_below lattice)) values.items n x c.in_ok-values.ensures.least e)
-          (λ n x e. All-at (IsLeast (m.is_own lattice) (m.is_below lattice)) inflows.items n x c.in_ok-inflows.ensures.least e)
-          c.in_ok-waiting.ensures.all;
-      nodes = c.in_ok-waiting.ensures.nodes;
-      own = c.in_ok-outflow.ensures.least.own;
+          begun.field-0.values.items begun.field-0.inflows.items (IsWaiting begun.field-0.waiting)
+          (sym begun.field-0.values.ok.0 ∙ begun.ensures.each_value) (sym begun.field-0.inflows.ok.0 ∙ begun.ensures.each_inflow)
+          (λ n x e. All-at (IsLeast (m.is_own lattice) (m.is_below lattice)) begun.field-0.values.items n x begun.ensures.values e)
+          (λ n x e. All-at (IsLeast (m.is_own lattice) (m.is_below lattice)) begun.field-0.inflows.items n x begun.ensures.inflows e)
+          begun.ensures.waiting;
+      nodes = begun.ensures.nodes;
+      own = begun.ensures.outflow.own;
     }
 
 pub step-requires-clause-inflow : goal.step-requires-clause-inflow
@@ -74,8 +73,8 @@ spread-requires-clause-inflows g c =
     rw c.deref_mut.ensures.value (All-from_at (m.is_own lattice) c.loop-node.inflows.items (λ n x e.
     derivable_own (m.is_own lattice) (m.is_below lattice) (g.P.Problem.gives c.args.problem.now) c.args.graph.now.edges.items (p.inflow_derivable n x e)))
 
-pub loop-node-smaller-in-Continue-branch-6 : goal.loop-node-smaller-in-Continue-branch-6
-loop-node-smaller-in-Continue-branch-6 g c =
+pub loop-node-smaller-in-Continue-branch-3 : goal.loop-node-smaller-in-Continue-branch-3
+loop-node-smaller-in-Continue-branch-3 g c =
     let m = g.P.L.Lattice in
     let lattice = c.lattice-lattice.result.now in
     let height = g.P.Problem.height_of c.args.problem.now in
@@ -88,8 +87,8 @@ loop-node-smaller-in-Continue-branch-6 g c =
     let goes : waiting_count c.spread.new.waiting + room (m.rank lattice) height c.spread.new.inflows < waiting_count c.loop-node.waiting + room (m.rank lattice) height c.loop-node.inflows.items = omega arith in
     subst (λ xs. waiting_count c.spread.new.waiting + room (m.rank lattice) height xs < waiting_count c.loop-node.waiting + room (m.rank lattice) height c.loop-node.inflows.items) (sym written) goes
 
-pub loop-node-preserved-in-Continue-branch-6 : goal.loop-node-preserved-in-Continue-branch-6
-loop-node-preserved-in-Continue-branch-6 g c =
+pub loop-node-preserved-in-Continue-branch-3 : goal.loop-node-preserved-in-Continue-branch-3
+loop-node-preserved-in-Continue-branch-3 g c =
     let m = g.P.L.Lattice in
     let lattice = c.lattice-lattice.result.now in
     let problem = c.args.problem.now in
