@@ -11,9 +11,10 @@ use Rattle.pw_build.specs.declared.fault.BuildFault.{BuildFault}
 use Rattle.pw_build.specs.declared.fault.BuildFault.TheVariants.{Refused, LinkRefused, StoreFault, NoMemory}
 use Rattle.pw_build.specs.Builds.{Builds, BuildsBy, CompletesAs, first_phases}
 use Rattle.pw_build.specs.Full.{built_anew}
+use Rattle.pw_db.specs.Limits.{colour_limit}
 
 abbrev pub OneAnswer : Type 0
-OneAnswer = (flows : List FlowModule) (kept : List (Option Object)) (colours stack : ℕ) (a b : Result Parts LinkFault) → colours ≤ 8 → Completes flows kept colours stack a → Completes flows kept colours stack b → a ≡ b
+OneAnswer = (flows : List FlowModule) (kept : List (Option Object)) (colours stack : ℕ) (a b : Result Parts LinkFault) → colours ≤ colour_limit → Completes flows kept colours stack a → Completes flows kept colours stack b → a ≡ b
 
 -- an answer to flow graphs, as one to a build
 abbrev as_build : Result Parts LinkFault → Result Parts BuildFault
@@ -27,14 +28,14 @@ answered flows kept colours stack (Err (Refused name refusal)) h = absurd h
 answered flows kept colours stack (Err StoreFault) h = absurd h
 answered flows kept colours stack (Err NoMemory) h = absurd h
 
-one_by : OneAnswer → (flows : Result (List FlowModule) BuildFault) (kept : List (Option Object)) (colours stack : ℕ) (a b : Result Parts BuildFault) → colours ≤ 8 → BuildsBy flows kept colours stack a → BuildsBy flows kept colours stack b → a ≡ b
+one_by : OneAnswer → (flows : Result (List FlowModule) BuildFault) (kept : List (Option Object)) (colours stack : ℕ) (a b : Result Parts BuildFault) → colours ≤ colour_limit → BuildsBy flows kept colours stack a → BuildsBy flows kept colours stack b → a ≡ b
 one_by one (Err fault) kept colours stack a b few x y = x ∙ sym y
 one_by one (Ok flows) kept colours stack a b few x y =
     let p = answered flows kept colours stack a x in
     let q = answered flows kept colours stack b y in
     sym p.2 ∙ ap as_build (one flows kept colours stack p.0 q.0 few p.1 q.1) ∙ q.2
 
-pub one_build : OneAnswer → (sources : List Source) (kept : List (Option Object)) (colours stack : ℕ) (a b : Result Parts BuildFault) → colours ≤ 8 → Builds sources kept colours stack a → Builds sources kept colours stack b → a ≡ b
+pub one_build : OneAnswer → (sources : List Source) (kept : List (Option Object)) (colours stack : ℕ) (a b : Result Parts BuildFault) → colours ≤ colour_limit → Builds sources kept colours stack a → Builds sources kept colours stack b → a ≡ b
 one_build one sources kept colours stack a b few x y = one_by one (first_phases sources) kept colours stack a b few x y
 
 abbrev pub ChangeNothing : Type 0

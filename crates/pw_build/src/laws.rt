@@ -9,12 +9,13 @@ ghost use Rattle.pw_making.specs.Kept.{IsGenuineIfKept};
 ghost use Rattle.pw_build.specs.declared.fault.BuildFault.{BuildFault};
 ghost use Rattle.pw_build.specs.Builds.{Builds};
 ghost use Rattle.pw_build.specs.Full.{built_anew};
+ghost use Rattle.pw_db.specs.Limits.{colour_limit};
 
 use pw_making::laws::{flow_graphs_have_one_answer, genuine_objects_change_nothing};
 
 /// Modules and what was kept of them come to one answer.
 pub fn modules_have_one_build()
-    ensures { (sources : List Source) (kept : List (Option Object)) (colours stack : ℕ) (a b : Result Parts BuildFault) → colours ≤ 8 → Builds sources kept colours stack a → Builds sources kept colours stack b → a ≡ b }
+    ensures { (sources : List Source) (kept : List (Option Object)) (colours stack : ℕ) (a b : Result Parts BuildFault) → colours ≤ colour_limit → Builds sources kept colours stack a → Builds sources kept colours stack b → a ≡ b }
 {
     flow_graphs_have_one_answer();
 }

@@ -7,6 +7,7 @@ ghost use Rattle.pw_summary.specs.Summary.{IsSummary};
 ghost use Rattle.pw_graph.specs.CallGraph.{IsGraph};
 ghost use Rattle.pw_graph.specs.Program.{AreLinked, AreRefused, IsGraphOf};
 ghost use Rattle.pw_colour.specs.Colours.{IsDatabaseOf};
+ghost use Rattle.pw_db.specs.Limits.{colour_limit};
 
 use crate::colouring::registers;
 use crate::directing::{database, numbered};
@@ -22,7 +23,7 @@ use std::alloc::{AllocError, Global};
 /// The database of a call graph.
 fn database_of(alloc: Global, graph: &CallGraph, colours: u8) -> Result<Database, AllocError>
     requires graph { IsGraph graph.now }
-    requires few { colours ≤ 8 }
+    requires few { colours ≤ colour_limit }
     ensures { IfOk result (λ db. (ss : List Whole) → IsGraphOf ss graph.now → IsDatabaseOf ss colours db.functions) }
 {
     let sets = ref_sets(alloc, graph)?;
@@ -36,7 +37,7 @@ fn database_of(alloc: Global, graph: &CallGraph, colours: u8) -> Result<Database
 /// linking they break.
 pub fn analyse(alloc: Global, summaries: &[Summary], colours: u8) -> Result<Database, LinkFault>
     requires lawful { All IsSummary summaries.now }
-    requires few { colours ≤ 8 }
+    requires few { colours ≤ colour_limit }
     ensures exact { IfOk result (λ db. (d : List (List ℕ × Directives)) → IsDatabaseOf summaries.now colours d ↔ (d ≡ db.functions)) }
     ensures linked { OnOk result (AreLinked summaries.now) }
     ensures refused { IfErr result (λ fault. (fault ≡ LinkFault.NoMemory) ⊎ AreRefused summaries.now fault) }

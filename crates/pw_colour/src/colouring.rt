@@ -5,6 +5,7 @@ ghost use Rattle.pw_db.specs.Database.{EachTwo};
 ghost use Rattle.pw_webs.specs.Webs.{IsSameWeb};
 ghost use Rattle.pw_colour.specs.Colours.{AreColoured};
 ghost use Rattle.pw_colour.specs.Giving.{AreAllBusy, IsLeastFree, IsColourOf, IsGiven, paired};
+ghost use Rattle.pw_db.specs.Limits.{colour_limit};
 
 use pw_fix::{BitRow, BitRows};
 use pw_refs::join;
@@ -42,7 +43,7 @@ fn colour_of(busy: &BitRows, web: &RawWeb) -> Option<usize>
 /// The register of a web, which is busy in its functions from now on.
 fn give(busy: &mut BitRows, web: &RawWeb) -> Option<u8>
     requires members { web.now.members.len ≡ busy.old.len }
-    requires few { vec_len busy.old.rows ≤ 8 }
+    requires few { vec_len busy.old.rows ≤ colour_limit }
     ensures count { vec_len busy.new.rows ≡ vec_len busy.old.rows }
     ensures length { busy.new.len ≡ busy.old.len }
     ensures given { IsGiven busy.old busy.new web.now result }
@@ -59,7 +60,7 @@ pub(crate) fn registers(
     colours: u8,
     webs: &[RawWeb],
 ) -> Result<Vec<Option<u8>>, AllocError>
-    requires few { colours ≤ 8 }
+    requires few { colours ≤ colour_limit }
     requires places { All (λ (w : RawWeb). w.members.len ≡ functions) webs.now }
     requires differ { EachTwo (λ u w. ¬ IsSameWeb u w) webs.now }
     ensures count { IfOk result (λ v. length v.items ≡ length webs.now) }

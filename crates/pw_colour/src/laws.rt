@@ -11,6 +11,7 @@ ghost use Rattle.pw_sound.specs.CallGraphs.{Graph};
 ghost use Rattle.pw_sound.specs.Sound.{Sound};
 ghost use Rattle.pw_colour.specs.Colours.{IsDatabaseOf};
 ghost use Rattle.pw_colour.specs.Naming.{IsNamed};
+ghost use Rattle.pw_db.specs.Limits.{colour_limit};
 
 /// Summaries have at most one database for so many registers.
 pub fn databases_are_one()
@@ -19,10 +20,10 @@ pub fn databases_are_one()
 
 /// The database of summaries keeps the rules of databases.
 pub fn databases_are_lawful()
-    ensures { (ss : List Summary) (colours : ℕ) (d : List (List ℕ × Directives)) → colours ≤ 8 → IsDatabaseOf ss colours d → IsDatabase d }
+    ensures { (ss : List Summary) (colours : ℕ) (d : List (List ℕ × Directives)) → colours ≤ colour_limit → IsDatabaseOf ss colours d → IsDatabase d }
 {}
 
 /// The database of summaries is sound for the call graph that they make, said by names.
 pub fn databases_are_sound()
-    ensures { (ss : List Summary) (colours : ℕ) (d : List (List ℕ × Directives)) (g : CallGraph) (n : Graph) → colours ≤ 8 → All IsSummary ss → IsDatabaseOf ss colours d → IsGraphOf ss g → IsNamed g n → Sound n d }
+    ensures { (ss : List Summary) (colours : ℕ) (d : List (List ℕ × Directives)) (g : CallGraph) (n : Graph) → colours ≤ colour_limit → All IsSummary ss → IsDatabaseOf ss colours d → IsGraphOf ss g → IsNamed g n → Sound n d }
 {}

@@ -7,6 +7,7 @@ ghost use Rattle.pw_summary.specs.Summary.{IsSummary};
 ghost use Rattle.pw_commands.specs.Analysing.{AnalyseComes, AnalysesInto, AnalysesOver, summaries_of};
 ghost use Rattle.pw_commands.specs.Others.{KeepsOthers};
 ghost use Rattle.pw_commands.specs.Outcome.{IsStop, IsStoreAnswer, Obeys, StopCount};
+ghost use Rattle.pw_db.specs.Limits.{colour_limit};
 
 use crate::kept::kept_of_modules;
 use crate::linking::put_file;
@@ -23,7 +24,7 @@ use std::alloc::Global;
 /// The file of the database of summaries; or the refusal.
 fn database_file(alloc: Global, summaries: &[Summary], colours: u8) -> Result<Vec<u8>, Answer>
     requires lawful { All IsSummary summaries.now }
-    requires few { colours ≤ 8 }
+    requires few { colours ≤ colour_limit }
     ensures file { AnalysesInto summaries.now colours result }
     ensures stop { IfErr result IsStop }
 {
@@ -40,7 +41,7 @@ fn database_file(alloc: Global, summaries: &[Summary], colours: u8) -> Result<Ve
 
 /// The file of the database of all modules; or the answer in its place.
 fn analysed_file<S: Store>(alloc: Global, store: &mut S, colours: u8) -> Result<Vec<u8>, Answer>
-    requires { colours ≤ 8 }
+    requires { colours ≤ colour_limit }
     ensures file { IfSome (S.told store.old) (λ told. AnalysesOver (summaries_of told.files) colours result) }
     ensures same { Keeps (S.told store.old) (S.told store.new) }
     ensures count { StopCount (S.faults store.old) (S.faults store.new) result }
@@ -58,7 +59,7 @@ fn analysed_file<S: Store>(alloc: Global, store: &mut S, colours: u8) -> Result<
 /// is `Done` where the database was put; `LinkRefused` where there are too many modules or the summaries are refused
 /// together; `BadFile` for the first summary's file that is absent or refused; nothing is put then.
 pub fn analyse_modules<S: Store>(alloc: Global, store: &mut S, colours: u8) -> Answer
-    requires { colours ≤ 8 }
+    requires { colours ≤ colour_limit }
     ensures obeys { IfSome (S.told store.old) (λ told. (input : List ℕ) → Obeys (AnalyseComes told.files colours input) result told (S.told store.new)) }
     ensures others { KeepsOthers (codes "prog.db" ∷ []) (S.told store.old) (S.told store.new) }
     ensures answer { IsStoreAnswer result }

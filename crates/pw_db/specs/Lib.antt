@@ -1,3 +1,4 @@
 pub mod Database
+pub mod Limits
 pub mod Reading
 pub mod Seen

@@ -4,6 +4,7 @@
 mod choosing;
 mod database;
 pub mod laws;
+pub mod limits;
 mod names;
 mod reading;
 mod seen;
@@ -12,6 +13,7 @@ mod writing;
 
 pub use choosing::of_module;
 pub use database::{Database, Directives, Role, Web};
+pub use limits::COLOUR_LIMIT;
 pub use reading::{KIND, read, read_payload};
 pub use storing::payload;
 pub use writing::write;

@@ -15,6 +15,7 @@ ghost use Rattle.pw_build.specs.Phases.{IsLine, refused_line};
 ghost use Rattle.pw_kept.specs.Kept.{kept_object};
 ghost use Rattle.pw_kept.specs.Files.{HoldBytes, file_view};
 ghost use Rattle.pw_filing.specs.Programs.{AreAsMany, BuildsFiles, FaultBuilds, FaultComes, FaultCount};
+ghost use Rattle.pw_db.specs.Limits.{colour_limit};
 
 use pw_build::{BuildFault, Unbuilt, first_phases};
 use pw_io::Store;
@@ -54,7 +55,7 @@ fn built_of<S: Store, L: Ledger>(
     stack: u32,
     steps: &mut Steps<L>,
 ) -> Result<Built, Unbuilt>
-    requires { colours ≤ 8 }
+    requires { colours ≤ colour_limit }
     ensures built { IfSome (S.told store.old) (λ told. IfOk result (λ built. Builds (map source modules.now) (map (λ m. kept_object told.files m.name) modules.now) colours stack (Ok (parts_of built)))) }
     ensures fault { IfSome (S.told store.old) (λ told. IfErr result (λ unbuilt. FaultBuilds (map source modules.now) (map (λ m. kept_object told.files m.name) modules.now) colours stack unbuilt.fault)) }
     ensures line { IfErr result (λ unbuilt. IsLine (refused_line (map source modules.now)) unbuilt.fault unbuilt.line) }
@@ -92,7 +93,7 @@ pub fn program_of<S: Store, L: Ledger>(
     stack: u32,
     steps: &mut Steps<L>,
 ) -> Result<ProgramFiles, Unbuilt>
-    requires { colours ≤ 8 }
+    requires { colours ≤ colour_limit }
     ensures files { IfSome (S.told store.old) (λ told. IfOk result (λ files. BuildsFiles (map source modules.now) (map (λ m. kept_object told.files m.name) modules.now) colours stack files)) }
     ensures bytes { IfOk result (λ files. HoldBytes (map file_view files.fresh.files.items)) }
     ensures fault { IfSome (S.told store.old) (λ told. IfErr result (λ unbuilt. FaultBuilds (map source modules.now) (map (λ m. kept_object told.files m.name) modules.now) colours stack unbuilt.fault)) }

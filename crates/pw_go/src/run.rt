@@ -2,6 +2,7 @@
 
 ghost use Rattle.std.specs.Prelude.{◌≡◌, ◌<◌, ◌≤◌, IfSome, length};
 ghost use Rattle.pw_machine.specs.Run.{run_of};
+ghost use Rattle.pw_value.specs.Limits.{word_limit};
 ghost use Rattle.pw_sum.specs.Built.{start_of};
 ghost use Rattle.pw_answer.specs.Outcomes.{Answers, InputCount, LeavesInput, OutputCount, PutsOut};
 ghost use Rattle.pw_running.specs.Running.{IsRunAnswer, run_answer, run_output, run_rest};
@@ -24,7 +25,7 @@ pub fn run_words<I: Source, O: Sink>(
     out: &mut O,
 ) -> Answer
     requires some { 0 < length words.now }
-    requires few { length words.now ≤ 65536 }
+    requires few { length words.now ≤ word_limit }
     ensures answer { IfSome (I.rest input.old) (λ rest. Answers (run_answer (run_of budget (start_of words.now rest))) result) }
     ensures output { IfSome (I.rest input.old) (λ rest. PutsOut (run_output (run_of budget (start_of words.now rest))) result (O.taken out.old) (O.taken out.new)) }
     ensures rest { IfSome (I.rest input.old) (λ rest. LeavesInput (run_rest (run_of budget (start_of words.now rest))) rest result (I.rest input.new)) }

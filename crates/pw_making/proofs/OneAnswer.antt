@@ -16,11 +16,12 @@ use Rattle.pw_object.specs.declared.object.Object.{Object}
 use Rattle.pw_phases.specs.Phases.{IsObjectOf}
 use Rattle.pw_link.specs.Linking.{AreLinked, IsRefusal}
 use Rattle.pw_making.specs.Programs.{AreObjectsFrom, AreParts, AreSummariesOf, BreakRule, Completes, DirectivesList, HasDatabase, IsModuleFrom, IsObjectFrom, Parts, Stays, first_kept, kept_behind}
+use Rattle.pw_db.specs.Limits.{colour_limit}
 
 -- the laws on which it stands
 pub record Laws : Type 0 where
   pub summary : (m : FlowModule) (s t : Summary) → IsValid m → Summarises m s → Summarises m t → s ≡ t
-  pub lawful : (ss : List Summary) (colours : ℕ) (d : DirectivesList) → colours ≤ 8 → IsDatabaseOf ss colours d → IsDatabase d
+  pub lawful : (ss : List Summary) (colours : ℕ) (d : DirectivesList) → colours ≤ colour_limit → IsDatabaseOf ss colours d → IsDatabase d
   pub database : (ss : List Summary) (colours : ℕ) (d e : DirectivesList) → IsDatabaseOf ss colours d → IsDatabaseOf ss colours e → d ≡ e
   pub directives : (fs : DirectivesList) → IsDatabase fs → (gs hs : DirectivesList) → All (HasDirectives fs) gs → All (HasDirectives fs) hs → map (λ f. f.0) gs ≡ map (λ f. f.0) hs → gs ≡ hs
   pub object : (m : FlowModule) (ds : DirectivesList) (o p : Object) → IsObjectOf m ds o → IsObjectOf m ds p → o ≡ p
@@ -82,7 +83,7 @@ database_one laws fs colours d e v a b =
     let same : b.summaries ≡ a.summaries = summaries_one laws fs b.summaries a.summaries v b.of_flows a.of_flows in
     laws.database a.summaries colours d e a.database (subst (λ (ss : List Summary). IsDatabaseOf ss colours e) same b.database)
 
-pub parts_one : Laws → (fs : List FlowModule) (kept : List (Option Object)) (colours : ℕ) (p q : Parts) → colours ≤ 8 → AreParts fs kept colours p → AreParts fs kept colours q → p ≡ q
+pub parts_one : Laws → (fs : List FlowModule) (kept : List (Option Object)) (colours : ℕ) (p q : Parts) → colours ≤ colour_limit → AreParts fs kept colours p → AreParts fs kept colours q → p ≡ q
 parts_one laws fs kept colours p q few a b =
     let db : q.database ≡ p.database = database_one laws fs colours q.database p.database a.lawful b.database a.database in
     let is : IsDatabase p.database = laws.lawful a.database.summaries colours p.database few a.database.database in
@@ -99,14 +100,14 @@ breaks_not laws fs colours d fault v a b =
     let same : b.summaries ≡ a.summaries = summaries_one laws fs b.summaries a.summaries v b.of_flows a.of_flows in
     laws.not_both (map interface_of a.summaries) fault a.linked (subst (λ (ss : List Summary). Refusal (map interface_of ss) fault) same b.refused)
 
-made_not_refused : Laws → (fs : List FlowModule) (kept : List (Option Object)) (colours stack : ℕ) (p : Parts) (fault : LinkFault) → colours ≤ 8 → Completes fs kept colours stack (Ok p) → Completes fs kept colours stack (Err fault) → ⊥
+made_not_refused : Laws → (fs : List FlowModule) (kept : List (Option Object)) (colours stack : ℕ) (p : Parts) (fault : LinkFault) → colours ≤ colour_limit → Completes fs kept colours stack (Ok p) → Completes fs kept colours stack (Err fault) → ⊥
 made_not_refused laws fs kept colours stack p fault few a b =
     ⊎_elim {C = ⊥}
     (λ l. breaks_not laws fs colours p.database fault a.0.lawful a.0.database l.1)
     (λ r. laws.objects_not_both p.objects stack fault a.1 (subst (λ (x : Parts). IsRefusal x.objects stack fault) (parts_one laws fs kept colours r.0 p few r.1 a.0) r.2))
     b
 
-refusals_one : Laws → (fs : List FlowModule) (kept : List (Option Object)) (colours stack : ℕ) (fault other : LinkFault) → colours ≤ 8 → Completes fs kept colours stack (Err fault) → Completes fs kept colours stack (Err other) → fault ≡ other
+refusals_one : Laws → (fs : List FlowModule) (kept : List (Option Object)) (colours stack : ℕ) (fault other : LinkFault) → colours ≤ colour_limit → Completes fs kept colours stack (Err fault) → Completes fs kept colours stack (Err other) → fault ≡ other
 refusals_one laws fs kept colours stack fault other few a b =
     ⊎_elim {C = fault ≡ other}
     (λ l. ⊎_elim {C = fault ≡ other}
@@ -119,7 +120,7 @@ refusals_one laws fs kept colours stack fault other few a b =
     b)
     a
 
-pub one_answer : Laws → (fs : List FlowModule) (kept : List (Option Object)) (colours stack : ℕ) (a b : Result Parts LinkFault) → colours ≤ 8 → Completes fs kept colours stack a → Completes fs kept colours stack b → a ≡ b
+pub one_answer : Laws → (fs : List FlowModule) (kept : List (Option Object)) (colours stack : ℕ) (a b : Result Parts LinkFault) → colours ≤ colour_limit → Completes fs kept colours stack a → Completes fs kept colours stack b → a ≡ b
 one_answer laws fs kept colours stack (Ok p) (Ok q) few a b = ap Ok (parts_one laws fs kept colours p q few a.0 b.0)
 one_answer laws fs kept colours stack (Ok p) (Err fault) few a b = absurd (made_not_refused laws fs kept colours stack p fault few a b)
 one_answer laws fs kept colours stack (Err fault) (Ok q) few a b = absurd (made_not_refused laws fs kept colours stack q fault few b a)

@@ -6,6 +6,7 @@ ghost use Rattle.pw_flow.specs.ValidFlow.{IsValid};
 ghost use Rattle.pw_summary.specs.Summary.{IsSummary};
 ghost use Rattle.pw_db.specs.Database.{IsDatabase};
 ghost use Rattle.pw_making.specs.Programs.{AreSummariesOf, BreakRule, HasDatabase};
+ghost use Rattle.pw_db.specs.Limits.{colour_limit};
 
 use pw_colour::analyse;
 use pw_colour::laws::databases_are_lawful;
@@ -34,7 +35,7 @@ fn summaries_of(alloc: Global, flows: &[FlowModule]) -> Result<Vec<Summary>, All
 /// The database of the modules with these flow graphs, for so many registers; or which rule of linking they break.
 pub fn database_of(alloc: Global, flows: &[FlowModule], colours: u8) -> Result<Database, LinkFault>
     requires lawful { AllByRecursion IsValid flows.now }
-    requires few { colours ≤ 8 }
+    requires few { colours ≤ colour_limit }
     ensures database { IfOk result (λ db. HasDatabase flows.now colours db.functions) }
     ensures lawful { IfOk result (λ db. IsDatabase db.functions) }
     ensures refused { IfErr result (λ fault. (fault ≡ LinkFault.NoMemory) ⊎ BreakRule flows.now fault) }

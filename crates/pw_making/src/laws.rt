@@ -7,6 +7,7 @@ ghost use Rattle.pw_flow.specs.declared.flow.FlowModule.{FlowModule};
 ghost use Rattle.pw_object.specs.declared.object.Object.{Object};
 ghost use Rattle.pw_making.specs.Programs.{Completes, Parts};
 ghost use Rattle.pw_making.specs.Kept.{IsGenuineIfKept, anew};
+ghost use Rattle.pw_db.specs.Limits.{colour_limit};
 
 use pw_colour::laws::{databases_are_lawful, databases_are_one};
 use pw_db::laws::{databases_and_payloads_are_one_to_one, directives_are_one};
@@ -18,7 +19,7 @@ use pw_summarise::laws::a_module_has_one_summary;
 
 /// Flow graphs and kept objects come to one answer.
 pub fn flow_graphs_have_one_answer()
-    ensures { (flows : List FlowModule) (kept : List (Option Object)) (colours stack : ℕ) (a b : Result Parts LinkFault) → colours ≤ 8 → Completes flows kept colours stack a → Completes flows kept colours stack b → a ≡ b }
+    ensures { (flows : List FlowModule) (kept : List (Option Object)) (colours stack : ℕ) (a b : Result Parts LinkFault) → colours ≤ colour_limit → Completes flows kept colours stack a → Completes flows kept colours stack b → a ≡ b }
 {
     databases_are_lawful();
     databases_are_one();

@@ -9,6 +9,7 @@ ghost use Rattle.pw_image.specs.Image.{IsImage, view};
 ghost use Rattle.pw_link.specs.Linking.{linked, AreLinked, IsRefusal};
 ghost use Rattle.pw_making.specs.Programs.{Completes};
 ghost use Rattle.pw_making.specs.Choosing.{parts_of};
+ghost use Rattle.pw_db.specs.Limits.{colour_limit};
 
 use crate::analysing::database_of;
 use crate::objects::{Objects, all_objects};
@@ -67,7 +68,7 @@ pub fn complete<L: Ledger>(
 ) -> Result<Built, LinkFault>
     requires lawful { AllByRecursion IsValid flows.now }
     requires kept { AllByRecursion (λ old. IfSome old IsObject) kept.items }
-    requires few { colours ≤ 8 }
+    requires few { colours ≤ colour_limit }
     ensures built { IfOk result (λ built. Completes flows.now kept.items colours stack (Ok (parts_of built))) }
     ensures refused { IfErr result (λ fault. (fault ≡ LinkFault.NoMemory) ⊎ Completes flows.now kept.items colours stack (Err fault)) }
     ensures image { IfOk result (λ built. view built.image ≡ linked built.objects.items stack) }

@@ -7,6 +7,10 @@ use Rattle.std.specs.Str.{bytes_eq}
 use Rattle.std.specs.FinMap as finite
 use Rattle.pw_io.specs.Files.{Files, front_of}
 
+-- bytes of a module's text that are read: one more than a text may have, so that one that is too long is seen to be
+abbrev pub text_read : ℕ
+text_read = 1048577
+
 -- a letter, a digit, `_` or `-`
 abbrev pub is_name_byte : ℕ → Bool
 is_name_byte byte = is_ascii_alphanumeric byte || ((byte == 95) || (byte == 45))
@@ -29,7 +33,7 @@ IsModuleFile file = is_module_file file ≡ true
 -- The files hold a module of this name with this text: that of its file, as far as texts are read.
 pub record HoldsModule (files : Files) (name text : List ℕ) : Type 0 where
   pub named : is_module_name name ≡ true
-  pub reads : option_map (front_of 1048577) (finite.get files (name ++ codes ".i")) ≡ Some text
+  pub reads : option_map (front_of text_read) (finite.get files (name ++ codes ".i")) ≡ Some text
 
 -- What the modules are, said as a map from names to texts: `finite.get (module_map files) name` is `Some text` exactly
 -- where `HoldsModule files name text`, which the public law `modules_are_exact` states.
@@ -37,7 +41,7 @@ pub record HoldsModule (files : Files) (name text : List ℕ) : Type 0 where
 -- with the module of a file, where there is one
 abbrev pub with_module : Files → Files → List ℕ → Files
 with_module files modules file =
-    if is_module_file file then option_map_or (λ text. finite.insert modules (stem file) (front_of 1048577 text)) (finite.get files file) modules else modules
+    if is_module_file file then option_map_or (λ text. finite.insert modules (stem file) (front_of text_read text)) (finite.get files file) modules else modules
 
 -- the modules of all files, by their names
 unfoldable pub module_map : Files → Files

@@ -6,7 +6,7 @@ use Rattle.std.specs.Ordering.{nat_cmp, is_lt}
 use Rattle.std.specs.Cmp.Lexicographic.{slice_cmp}
 use Rattle.std.specs.FinMap as finite
 use Rattle.pw_io.specs.Files.{Files, front_of}
-use Rattle.pw_modules.specs.Modules.{Source, stem, is_module_file}
+use Rattle.pw_modules.specs.Modules.{Source, stem, is_module_file, text_read}
 
 -- the one module stands before the other
 abbrev pub is_before : List ℕ → List ℕ → Bool
@@ -24,7 +24,7 @@ abbrev pub module_files : List (List ℕ) → List (List ℕ)
 module_files names = fold with_file [] names
 
 abbrev pub source_of : Files → List ℕ → Option Source
-source_of files file = option_map (λ text. (stem file, front_of 1048577 text)) (finite.get files file)
+source_of files file = option_map (λ text. (stem file, front_of text_read text)) (finite.get files file)
 
 abbrev pub sources_of : Files → List (List ℕ) → List Source
 sources_of files names = filter_map (source_of files) names

@@ -2,7 +2,7 @@
 
 ghost use Rattle.std.specs.Prelude.{◌≡◌, ◌≤◌, map, IfOk, OnOk, IfSome, string_bytes, length, take, ◌-◌, fold, [], count_by, All, vec_len};
 ghost use Rattle.std.specs.List.{list_all, position_or_len};
-ghost use Rattle.pw_modules.specs.Modules.{is_name_byte, is_module_name, is_module_file, IsModuleFile, stem};
+ghost use Rattle.pw_modules.specs.Modules.{is_name_byte, is_module_name, is_module_file, IsModuleFile, stem, text_read};
 ghost use Rattle.pw_modules.specs.Reading.{is_before, placed, with_file, module_files};
 
 use pw_value::Name;
@@ -13,7 +13,7 @@ use std::alloc::{AllocError, Global};
 pub struct Module {
     pub name: Name,
     pub text: Vec<u8>,
-    ghost read: { length text.items ≤ 1048577 },
+    ghost read: { length text.items ≤ text_read },
 }
 
 /// Whether a byte may stand in a module's name.

@@ -23,13 +23,14 @@ Wrote spell full old full' new = full' ≡ false → (full ≡ false) × ((z : L
 
 pub if_writes : (s0 : Stmt) (t : ℕ) (c : Expr) (s : Box Stmt Global) (es : Vec ElseIf Global) (o : Option (Box Stmt Global))
     (x : Stmt) (xs : List ElseIf) (f0 f1 f2 f3 f4 : Bool) (o0 o1 o2 o3 o4 : List Spelled) → s0 ≡ stmt.If t c s es o →
+    view_stmt (stmt.If t c s es o) ≡ tree.If t (view_expr c) (view_stmt s.value) (view_else_ifs es.items (view_otherwise o)) →
     Wrote (λ z. Reserved k.If ∷ Sign m.OpenParen ∷ spell_expr (view_expr c) (Sign m.CloseParen ∷ z)) f0 o0 f1 o1 →
     Wrote (spell_stmt (view_stmt x)) f1 o1 f2 o2 →
     (f3 ≡ false → (f2 ≡ false) × ((rest : tree.Alternative) (z : List Symbol) → followed o3 (spell_alternative rest z) ≡ followed o2 (spell_alternative (view_else_ifs xs rest) z))) →
     Wrote (spell_alternative (view_otherwise o)) f3 o3 f4 o4 →
     x ≡ s.value → xs ≡ es.items →
     Wrote (spell_stmt (view_stmt s0)) f0 o0 f4 o4
-if_writes s0 t c s es o x xs f0 f1 f2 f3 f4 o0 o1 o2 o3 o4 e h1 h2 h3 h4 at_stmt at_list = λ not_full.
+if_writes s0 t c s es o x xs f0 f1 f2 f3 f4 o0 o1 o2 o3 o4 e shown h1 h2 h3 h4 at_stmt at_list = λ not_full.
     let r4 = h4 not_full in
     let r3 = h3 r4.0 in
     let r2 = h2 r3.0 in
@@ -40,5 +41,5 @@ if_writes s0 t c s es o x xs f0 f1 f2 f3 f4 o0 o1 o2 o3 o4 e h1 h2 h3 h4 at_stmt
           let whole : Stmt → List ElseIf → List Symbol =
           λ y l. Reserved k.If ∷ Sign m.OpenParen ∷ spell_expr (view_expr c) (Sign m.CloseParen ∷ spell_stmt (view_stmt y) (behind l)) in
           r4.1 z ∙ r3.1 (view_otherwise o) z ∙ r2.1 (behind xs) ∙ r1.1 (spell_stmt (view_stmt x) (behind xs))
-          ∙ ap (followed o0) (ap (λ y. whole y xs) at_stmt ∙ ap (whole s.value) at_list ∙ sym (ap (λ y. spell_stmt (view_stmt y) z) e ∙ spell_if_node t c s es o z)),
+          ∙ ap (followed o0) (ap (λ y. whole y xs) at_stmt ∙ ap (whole s.value) at_list ∙ sym (ap (λ y. spell_stmt (view_stmt y) z) e ∙ spell_if_node _ _ _ _ _ shown z)),
     )

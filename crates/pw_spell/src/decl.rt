@@ -6,7 +6,7 @@ ghost use Rattle.pw_tree.specs.Views as view;
 ghost use Rattle.pw_spell.specs.Writing.{Writes};
 
 use crate::spelled::Writer;
-use pw_tree::{Decl, Init, InitDeclarator, Initializer, Mark};
+use pw_tree::{Decl, Init, InitDeclarator, Initializer, Mark, statements_show_their_lists};
 
 impl Writer {
     fn end_list(&mut self, trailing_comma: bool)
@@ -22,6 +22,7 @@ impl Writer {
     fn init(&mut self, init: &Init)
         ensures { Writes (spell.spell_init (view.view_init init.now)) self.old self.new }
     {
+        statements_show_their_lists();
         match init {
             Init::Value(value) => self.expr(value),
             Init::List {

@@ -6,7 +6,7 @@ ghost use Rattle.pw_tree.specs.Views as view;
 ghost use Rattle.pw_spell.specs.Writing.{Writes, GoesBefore};
 
 use crate::spelled::Writer;
-use pw_tree::{Core, Declarator, Mark, Parameter, Suffix};
+use pw_tree::{Core, Declarator, Mark, Parameter, Suffix, declarators_show_their_lists};
 
 impl Writer {
     #[cycle(spell)]
@@ -24,6 +24,7 @@ impl Writer {
     fn core(&mut self, core: &Core)
         ensures { Writes (spell.spell_core (view.view_core core.now)) self.old self.new }
     {
+        declarators_show_their_lists();
         match core {
             Core::Absent => {}
             Core::Name(name) => self.identifier(name),
@@ -50,6 +51,7 @@ impl Writer {
     fn suffix(&mut self, suffix: &Suffix)
         ensures { GoesBefore spell.spell_suffixes (λ rest. spell.spell_suffixes (view.view_suffix suffix.now rest)) self.old self.new }
     {
+        declarators_show_their_lists();
         match suffix {
             Suffix::Array { token: _, length } => {
                 self.mark(Mark::OpenBracket);

@@ -9,7 +9,10 @@ ghost use Rattle.pw_spell.specs.Writing.{Writes, GoesBefore};
 
 use crate::spelled::Writer;
 use pw_token::TokenKind;
-use pw_tree::{Expr, Keyword, Mark, Operation, PostfixOperation, TypeName, UnaryOperator};
+use pw_tree::{
+    Expr, Keyword, Mark, Operation, PostfixOperation, TypeName, UnaryOperator,
+    expressions_show_their_lists,
+};
 
 impl Writer {
     fn unary_operator(&mut self, operator: UnaryOperator)
@@ -33,6 +36,7 @@ impl Writer {
     pub fn expr(&mut self, e: &Expr)
         ensures { Writes (spell.spell_expr (view.view_expr e.now)) self.old self.new }
     {
+        expressions_show_their_lists();
         match e {
             Expr::Identifier(word) => self.identifier(word),
             Expr::Number(word) => self.push(TokenKind::Number, &word.text),
@@ -126,6 +130,7 @@ impl Writer {
     fn postfix(&mut self, operation: &PostfixOperation)
         ensures { GoesBefore spell.spell_postfixes (λ rest. spell.spell_postfixes (view.view_postfix operation.now rest)) self.old self.new }
     {
+        expressions_show_their_lists();
         match operation {
             PostfixOperation::Index { token: _, index } => {
                 self.mark(Mark::OpenBracket);

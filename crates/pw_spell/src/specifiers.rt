@@ -6,7 +6,9 @@ ghost use Rattle.pw_tree.specs.Views as view;
 ghost use Rattle.pw_spell.specs.Writing.{Writes, GoesBefore};
 
 use crate::spelled::Writer;
-use pw_tree::{Enumerator, Keyword, Mark, Member, MemberDeclarator, Specifier};
+use pw_tree::{
+    Enumerator, Keyword, Mark, Member, MemberDeclarator, Specifier, declarators_show_their_lists,
+};
 
 impl Writer {
     #[cycle(spell)]
@@ -24,6 +26,7 @@ impl Writer {
     fn specifier(&mut self, specifier: &Specifier)
         ensures { GoesBefore spell.spell_specifiers (λ rest. spell.spell_specifiers (view.view_specifier specifier.now rest)) self.old self.new }
     {
+        declarators_show_their_lists();
         match specifier {
             Specifier::Storage { token: _, class } => self.keyword(class.keyword()),
             Specifier::Qualifier {
@@ -99,6 +102,7 @@ impl Writer {
     fn member_declarator(&mut self, first: bool, declarator: &MemberDeclarator)
         ensures { GoesBefore (spell.spell_member_declarators false) (λ rest. spell.spell_member_declarators first (view.view_member_declarator declarator.now rest)) self.old self.new }
     {
+        declarators_show_their_lists();
         self.separate(first);
         match declarator {
             MemberDeclarator::Plain(declarator) => self.declarator(declarator),

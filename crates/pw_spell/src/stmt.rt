@@ -9,7 +9,7 @@ ghost use Rattle.pw_tree.specs.Views as view;
 ghost use Rattle.pw_spell.specs.Writing.{Writes, GoesBefore};
 
 use crate::spelled::Writer;
-use pw_tree::{Block, ElseIf, Expr, Keyword, Label, Mark, Stmt};
+use pw_tree::{Block, ElseIf, Expr, Keyword, Label, Mark, Stmt, Word, statements_show_their_lists};
 
 impl Writer {
     fn optional(&mut self, e: &Option<Expr>)
@@ -57,12 +57,10 @@ impl Writer {
     fn stmt(&mut self, stmt: &Stmt)
         ensures { Writes (spell.spell_stmt (view.view_stmt stmt.now)) self.old self.new }
     {
+        statements_show_their_lists();
         match stmt {
             Stmt::Block(block) => self.block(block),
-            Stmt::Expression(value) => {
-                self.expr(value);
-                self.mark(Mark::Semicolon);
-            }
+            Stmt::Expression(value) => self.expression(value),
             Stmt::Empty { token: _ } => self.mark(Mark::Semicolon),
             Stmt::Labeled { labels, statement } => {
                 self.labels(labels);
@@ -80,11 +78,7 @@ impl Writer {
                 self.else_ifs(else_ifs);
                 self.otherwise(otherwise);
             }
-            Stmt::Switch {
-                token: _,
-                value,
-                body,
-            } => {
+            Stmt::Switch { value, body, .. } => {
                 self.head(Keyword::Switch, value);
                 self.stmt(body);
             }
@@ -103,8 +97,7 @@ impl Writer {
             } => {
                 self.keyword(Keyword::Do);
                 self.stmt(body);
-                self.head(Keyword::While, condition);
-                self.mark(Mark::Semicolon);
+                self.do_end(condition);
             }
             Stmt::For {
                 token: _,
@@ -116,25 +109,50 @@ impl Writer {
                 self.for_head(start, condition, step);
                 self.stmt(body);
             }
-            Stmt::Goto { token: _, label } => {
-                self.keyword(Keyword::Goto);
-                self.identifier(label);
-                self.mark(Mark::Semicolon);
-            }
-            Stmt::Continue { token: _ } => {
-                self.keyword(Keyword::Continue);
-                self.mark(Mark::Semicolon);
-            }
-            Stmt::Break { token: _ } => {
-                self.keyword(Keyword::Break);
-                self.mark(Mark::Semicolon);
-            }
-            Stmt::Return { token: _, value } => {
-                self.keyword(Keyword::Return);
-                self.optional(value);
-                self.mark(Mark::Semicolon);
-            }
+            Stmt::Goto { token: _, label } => self.goto(label),
+            Stmt::Continue { token: _ } => self.keyword_alone(Keyword::Continue),
+            Stmt::Break { token: _ } => self.keyword_alone(Keyword::Break),
+            Stmt::Return { token: _, value } => self.return_value(value),
         }
+    }
+
+    fn expression(&mut self, value: &Expr)
+        ensures { Writes (λ z. spell.spell_expr (view.view_expr value.now) (symbol.Sign mark.Semicolon ∷ z)) self.old self.new }
+    {
+        self.expr(value);
+        self.mark(Mark::Semicolon);
+    }
+
+    /// What stands behind the statement of a `do`.
+    fn do_end(&mut self, condition: &Expr)
+        ensures { Writes (λ z. symbol.Reserved keyword.While ∷ symbol.Sign mark.OpenParen ∷ spell.spell_expr (view.view_expr condition.now) (symbol.Sign mark.CloseParen ∷ symbol.Sign mark.Semicolon ∷ z)) self.old self.new }
+    {
+        self.head(Keyword::While, condition);
+        self.mark(Mark::Semicolon);
+    }
+
+    fn goto(&mut self, label: &Word)
+        ensures { Writes (λ z. symbol.Reserved keyword.Goto ∷ spell.identifier (view.view_word label.now) ∷ symbol.Sign mark.Semicolon ∷ z) self.old self.new }
+    {
+        self.keyword(Keyword::Goto);
+        self.identifier(label);
+        self.mark(Mark::Semicolon);
+    }
+
+    /// A keyword that is a statement by itself.
+    fn keyword_alone(&mut self, keyword: Keyword)
+        ensures { Writes (λ z. symbol.Reserved keyword ∷ symbol.Sign mark.Semicolon ∷ z) self.old self.new }
+    {
+        self.keyword(keyword);
+        self.mark(Mark::Semicolon);
+    }
+
+    fn return_value(&mut self, value: &Option<Expr>)
+        ensures { Writes (λ z. symbol.Reserved keyword.Return ∷ spell.spell_optional (view.view_optional value.now) (symbol.Sign mark.Semicolon ∷ z)) self.old self.new }
+    {
+        self.keyword(Keyword::Return);
+        self.optional(value);
+        self.mark(Mark::Semicolon);
     }
 
     fn for_head(&mut self, start: &Option<Expr>, condition: &Option<Expr>, step: &Option<Expr>)

@@ -8,7 +8,7 @@ use Rattle.clap.specs.Walk.{Text, first_of}
 use Rattle.clap.specs.Matches.{first_value, found_of}
 use Rattle.clap.specs.declared.parser.matches.ArgMatches.{ArgMatches}
 use Rattle.clap.proofs.WalkLemmas.{first_value-rows}
-use Rattle.pw_words.specs.CommandLine.{Part, Given, Plain, command_by_name, module_in, module_named, number_in, plain_word, seed_in, value_of}
+use Rattle.pw_words.specs.CommandLine.{Part, Given, Plain, command_by_name, module_in, module_named, number_in, plain_word, seed_in, value_of, seed_limit}
 use Rattle.pw_words.specs.Reading.{HasNoOperand, IsMatchOf, operand_id, part_row}
 
 -- a name that is no word's
@@ -46,10 +46,10 @@ module_found parts name e good = ap (option_and_then module_named) (sym e) ∙ a
 -- ---- the number from which modules are made
 
 pub seed_missing : (parts : List Part) → None ≡ plain_word parts → seed_in parts ≡ None
-seed_missing parts e = ap (option_and_then (number_in 0 4294967295)) (sym e)
+seed_missing parts e = ap (option_and_then (number_in 0 seed_limit)) (sym e)
 
-pub seed_said : (parts : List Part) (text : Text) → Some text ≡ plain_word parts → seed_in parts ≡ number_in 0 4294967295 text
-seed_said parts text e = ap (option_and_then (number_in 0 4294967295)) (sym e)
+pub seed_said : (parts : List Part) (text : Text) → Some text ≡ plain_word parts → seed_in parts ≡ number_in 0 seed_limit text
+seed_said parts text e = ap (option_and_then (number_in 0 seed_limit)) (sym e)
 
 -- ---- a word that is no command
 

@@ -7,8 +7,9 @@ use Rattle.pw_value.specs.Limits.{stack_least, stack_most}
 use Rattle.pw_modules.specs.Modules.{is_module_name}
 use Rattle.pw_words.specs.declared.commands.Command.{Command}
 use Rattle.pw_words.specs.declared.commands.Command.TheVariants.{Go, Build, Session, PhaseOne, Analyse, PhaseTwo, Link, Run, List as ListImage, Db, Bench}
-use Rattle.pw_words.specs.CommandLine.{Text, Part, is_numeral, number_in, number_or, value_of, colours, stack, steps, colours_in, stack_in, steps_in, module_named, module_in, plain_word, parts_of, seed_in, with_build, with_run, go_of, build_of, session_of, analyse_of, link_of, run_of, bench_of, command_by_name, command_of}
+use Rattle.pw_words.specs.CommandLine.{Text, Part, is_numeral, number_in, number_or, value_of, colours, stack, steps, colours_in, stack_in, steps_in, module_named, module_in, plain_word, parts_of, seed_in, with_build, with_run, go_of, build_of, session_of, analyse_of, link_of, run_of, bench_of, command_by_name, command_of, usual_stack}
 use Rattle.pw_words.specs.Limits.{IsStack, IsWithin}
+use Rattle.pw_db.specs.Limits.{colour_limit}
 
 -- each command that is found is within the limits
 abbrev Within : Option Command → Type 0
@@ -50,11 +51,11 @@ number_or_is_in : (least most default : ℕ) (given : Option Text) → least ≤
 number_or_is_in least most default None h k = (h, k)
 number_or_is_in least most default (Some text) h k = number_is_in least most text
 
-colours_are_in : (parts : List Part) → IsIn 0 8 (colours_in parts)
-colours_are_in parts = number_or_is_in 0 8 8 (value_of colours parts) (omega arith) (omega arith)
+colours_are_in : (parts : List Part) → IsIn 0 colour_limit (colours_in parts)
+colours_are_in parts = number_or_is_in 0 colour_limit colour_limit (value_of colours parts) (omega arith) (omega arith)
 
 stack_is_in : (parts : List Part) → IsIn stack_least stack_most (stack_in parts)
-stack_is_in parts = number_or_is_in stack_least stack_most 1048576 (value_of stack parts) (omega arith) (omega arith)
+stack_is_in parts = number_or_is_in stack_least stack_most usual_stack (value_of stack parts) (omega arith) (omega arith)
 
 -- ---- names
 
@@ -91,13 +92,13 @@ any_within make (Some n) k = some_within (make n) (k n)
 
 -- the numbers of a build and a run, for each command that has them
 abbrev Runs : (ℕ → ℕ → ℕ → Command) → Type 0
-Runs say = (c s n : ℕ) → c ≤ 8 → IsStack s → IsWithin (say c s n)
+Runs say = (c s n : ℕ) → c ≤ colour_limit → IsStack s → IsWithin (say c s n)
 
-stacked : (say : ℕ → ℕ → ℕ → Command) (c : ℕ) (given : Option ℕ) (parts : List Part) → Runs say → c ≤ 8 → IsIn stack_least stack_most given → Within (option_and_then (λ s. option_map (λ n. say c s n) (steps_in parts)) given)
+stacked : (say : ℕ → ℕ → ℕ → Command) (c : ℕ) (given : Option ℕ) (parts : List Part) → Runs say → c ≤ colour_limit → IsIn stack_least stack_most given → Within (option_and_then (λ s. option_map (λ n. say c s n) (steps_in parts)) given)
 stacked say c None parts all h k = none_within
 stacked say c (Some s) parts all h k = any_within (λ n. say c s n) (steps_in parts) (λ n. all c s n h k)
 
-coloured : (say : ℕ → ℕ → ℕ → Command) (given : Option ℕ) (parts : List Part) → Runs say → IsIn 0 8 given → Within (option_and_then (λ c. option_and_then (λ s. option_map (λ n. say c s n) (steps_in parts)) (stack_in parts)) given)
+coloured : (say : ℕ → ℕ → ℕ → Command) (given : Option ℕ) (parts : List Part) → Runs say → IsIn 0 colour_limit given → Within (option_and_then (λ c. option_and_then (λ s. option_map (λ n. say c s n) (steps_in parts)) (stack_in parts)) given)
 coloured say None parts all h = none_within
 coloured say (Some c) parts all h = stacked say c (stack_in parts) parts all h.1 (stack_is_in parts)
 
@@ -118,11 +119,11 @@ bench_within : (words : List Text) → Within (bench_of words)
 bench_within words = parts_within (parts_of (colours ∷ stack ∷ steps ∷ []) 1 words) (λ parts. option_and_then (λ x. with_run (Bench x) parts) (seed_in parts)) (λ parts. seeded (seed_in parts) parts)
 
 -- the numbers of a build
-built : (c : ℕ) (given : Option ℕ) → c ≤ 8 → IsIn stack_least stack_most given → Within (option_map (λ s. Build c s) given)
+built : (c : ℕ) (given : Option ℕ) → c ≤ colour_limit → IsIn stack_least stack_most given → Within (option_map (λ s. Build c s) given)
 built c None h k = none_within
 built c (Some s) h k = some_within (Build c s) (h, k)
 
-build_options_within : (given : Option ℕ) (parts : List Part) → IsIn 0 8 given → Within (option_and_then (λ c. option_map (λ s. Build c s) (stack_in parts)) given)
+build_options_within : (given : Option ℕ) (parts : List Part) → IsIn 0 colour_limit given → Within (option_and_then (λ c. option_map (λ s. Build c s) (stack_in parts)) given)
 build_options_within None parts h = none_within
 build_options_within (Some c) parts h = built c (stack_in parts) h.1 (stack_is_in parts)
 
@@ -135,7 +136,7 @@ phase_within make words k =
     (λ parts. named_within make (module_in parts) (λ name e. k name (module_is_named (plain_word parts) name e)))
 
 analyse_within : (words : List Text) → Within (analyse_of words)
-analyse_within words = parts_within (parts_of (colours ∷ []) 0 words) (λ parts. option_map Analyse (colours_in parts)) (λ parts. map_within Analyse 0 8 (colours_in parts) (colours_are_in parts) (λ n h k. k))
+analyse_within words = parts_within (parts_of (colours ∷ []) 0 words) (λ parts. option_map Analyse (colours_in parts)) (λ parts. map_within Analyse 0 colour_limit (colours_in parts) (colours_are_in parts) (λ n h k. k))
 
 link_within : (words : List Text) → Within (link_of words)
 link_within words = parts_within (parts_of (stack ∷ []) 0 words) (λ parts. option_map Link (stack_in parts)) (λ parts. map_within Link stack_least stack_most (stack_in parts) (stack_is_in parts) (λ n h k. (h, k)))

@@ -10,6 +10,7 @@ use Rattle.pw_words.specs.declared.fault.WordsFault.{WordsFault}
 use Rattle.pw_words.specs.declared.fault.WordsFault.TheVariants.{Usage, NoMemory}
 use Rattle.pw_words.specs.declared.commands.Command.{Command}
 use Rattle.pw_words.specs.declared.commands.Command.TheVariants.{Go, Build, Session, PhaseOne, Analyse, PhaseTwo, Link, Run, List as ListImage, Db, Bench}
+use Rattle.pw_db.specs.Limits.{colour_limit}
 
 abbrev pub Text : Type 0
 Text = List ℕ
@@ -115,6 +116,23 @@ abbrev pub number_or : ℕ → ℕ → ℕ → Option Text → Option ℕ
 number_or least most default None = Some default
 number_or least most default (Some text) = number_in least most text
 
+-- ---- what stands for a number that is not given, and limits of numbers
+
+-- bytes of the stack
+abbrev pub usual_stack : ℕ
+usual_stack = 1048576
+
+-- instructions of a run
+abbrev pub usual_steps : ℕ
+usual_steps = 100000000
+
+abbrev pub steps_limit : ℕ
+steps_limit = 4611686018427387904
+
+-- the number from which modules are made
+abbrev pub seed_limit : ℕ
+seed_limit = 4294967295
+
 -- ---- options
 
 abbrev pub colours : Text
@@ -128,15 +146,15 @@ steps = codes "steps"
 
 -- how many registers webs may have
 abbrev pub colours_in : List Part → Option ℕ
-colours_in parts = number_or 0 8 8 (value_of colours parts)
+colours_in parts = number_or 0 colour_limit colour_limit (value_of colours parts)
 
 -- the bytes of the stack
 abbrev pub stack_in : List Part → Option ℕ
-stack_in parts = number_or stack_least stack_most 1048576 (value_of stack parts)
+stack_in parts = number_or stack_least stack_most usual_stack (value_of stack parts)
 
--- how many instructions a run may take: 1 to 2^62
+-- how many instructions a run may take
 abbrev pub steps_in : List Part → Option ℕ
-steps_in parts = number_or 1 4611686018427387904 100000000 (value_of steps parts)
+steps_in parts = number_or 1 steps_limit usual_steps (value_of steps parts)
 
 -- a word that is a module's name
 abbrev pub module_named : Text → Option Text
@@ -145,9 +163,9 @@ module_named name = if is_module_name name then Some name else None
 abbrev pub module_in : List Part → Option Text
 module_in parts = option_and_then module_named (plain_word parts)
 
--- the number from which modules are made: below 2^32
+-- the number from which modules are made
 abbrev pub seed_in : List Part → Option ℕ
-seed_in parts = option_and_then (number_in 0 4294967295) (plain_word parts)
+seed_in parts = option_and_then (number_in 0 seed_limit) (plain_word parts)
 
 -- ---- commands
 

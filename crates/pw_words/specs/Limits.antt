@@ -4,21 +4,22 @@ use Rattle.pw_value.specs.Limits.{stack_least, stack_most}
 use Rattle.pw_modules.specs.Modules.{is_module_name}
 use Rattle.pw_words.specs.declared.commands.Command.{Command}
 use Rattle.pw_words.specs.declared.commands.Command.TheVariants.{Go, Build, Session, PhaseOne, Analyse, PhaseTwo, Link, Run, List as ListImage, Db, Bench}
+use Rattle.pw_db.specs.Limits.{colour_limit}
 
 -- the bytes of a stack
 abbrev pub IsStack : ℕ → Type 0
 IsStack stack = (stack_least ≤ stack) × (stack ≤ stack_most)
 
--- Webs have at most 8 registers, a stack and a run's steps lie within their limits, and a module's name is one.
+-- Webs have so many registers at most, a stack lies within its limits, and a module's name is one.
 abbrev pub IsWithin : Command → Type 0
-IsWithin (Go colours stack steps) = (colours ≤ 8) × IsStack stack
-IsWithin (Build colours stack) = (colours ≤ 8) × IsStack stack
-IsWithin (Session colours stack steps) = (colours ≤ 8) × IsStack stack
+IsWithin (Go colours stack steps) = (colours ≤ colour_limit) × IsStack stack
+IsWithin (Build colours stack) = (colours ≤ colour_limit) × IsStack stack
+IsWithin (Session colours stack steps) = (colours ≤ colour_limit) × IsStack stack
 IsWithin (PhaseOne name) = is_module_name name ≡ true
-IsWithin (Analyse colours) = colours ≤ 8
+IsWithin (Analyse colours) = colours ≤ colour_limit
 IsWithin (PhaseTwo name) = is_module_name name ≡ true
 IsWithin (Link stack) = IsStack stack
 IsWithin (Run steps) = Unit {0}
 IsWithin ListImage = Unit {0}
 IsWithin Db = Unit {0}
-IsWithin (Bench number colours stack steps) = (colours ≤ 8) × IsStack stack
+IsWithin (Bench number colours stack steps) = (colours ≤ colour_limit) × IsStack stack

@@ -10,6 +10,7 @@ use crate::fault::WordsFault;
 use crate::numbers::number_in;
 use crate::reader::{OPERAND, read_parts};
 use clap::ArgMatches;
+use pw_db::COLOUR_LIMIT;
 use pw_modules::is_module_name;
 use pw_value::limits::{STACK_LEAST, STACK_MOST};
 use pw_value::{Name, NameError};
@@ -37,7 +38,7 @@ const LINK: [&str; 1] = [STACK];
 const RUN: [&str; 1] = [STEPS];
 
 /// The greatest count of registers of webs, and the one that stands for none given.
-const MOST_COLOURS: u64 = 8;
+const MOST_COLOURS: u64 = COLOUR_LIMIT as u64;
 
 /// The stack that stands for none given.
 const USUAL_STACK: u64 = 1_048_576;

@@ -5,4 +5,4 @@ use Rattle.pw_spell.proofs.Nodes.{spell_braces_node}
 use Rattle.pw_spell.proofs.spelled.Writer.+init.Goals as goal
 
 pub init-returns-in-List : goal.init-returns-in-List
-init-returns-in-List t c = grind (arith, common_steps, spell_braces_node)
+init-returns-in-List t c = grind (arith, common_steps, spell_braces_node _ _ _ _ (c.statements_show_their_lists.ensures.braces c.in-List.token c.in-List.items c.in-List.trailing_comma))
