@@ -7,8 +7,8 @@ use Rattle.pw_token.specs.declared.token.Feature.{Feature}
 use Rattle.pw_token.specs.declared.token.Feature.TheVariants as feature
 use Rattle.pw_token.specs.declared.token.LexFault.{LexFault}
 use Rattle.pw_token.specs.declared.token.LexFault.TheVariants as lex
-use Rattle.pw_parse.specs.declared.parser.ParseFault.{ParseFault}
-use Rattle.pw_parse.specs.declared.parser.ParseFault.TheVariants as parse
+use Rattle.pw_front.specs.FromParse.ParseFault.{ParseFault}
+use Rattle.pw_front.specs.FromParse.ParseFault.TheVariants as parse
 use Rattle.pw_front.specs.declared.refusal.Refusal.{Refusal}
 use Rattle.pw_front.specs.declared.refusal.Refusal.TheVariants.{Lex, Unsupported, Parse, Check}
 use Rattle.pw_walk.specs.declared.fault.CheckFault.{CheckFault}

@@ -6,9 +6,8 @@ ghost use Rattle.pw_answer.specs.Answers.{feature_name, what_name, which_name, k
 ghost use Rattle.pw_answer.specs.Lines.{line_bytes};
 
 use crate::answer::Answer;
-use pw_front::Refusal;
+use pw_front::{ParseFault, Refusal};
 use pw_machine::Halt;
-use pw_parse::ParseFault;
 use pw_token::{Feature, LexFault};
 use pw_value::{LinkFault, Name, What, Word};
 use pw_walk::{CheckKind, Which};

@@ -1,4 +1,5 @@
 pub mod Builds
-pub mod Phases
+pub mod FromPhaseOne
 pub mod Full
+pub mod Phases
 pub mod Stores

@@ -12,9 +12,9 @@ use Rattle.pw_modules.specs.Modules.{module_map, modules_of}
 use Rattle.pw_answer.specs.Effects.{NamedFile, after_puts}
 use Rattle.pw_making.specs.Programs.{Parts}
 use Rattle.pw_making.specs.Kept.{all_fresh}
-use Rattle.pw_build.specs.declared.fault.BuildFault.{BuildFault}
-use Rattle.pw_build.specs.Builds.{Builds}
-use Rattle.pw_build.specs.Full.{built_anew}
+use Rattle.pw_building.specs.FromBuild.BuildFault.{BuildFault}
+use Rattle.pw_building.specs.FromBuild.Builds.{Builds}
+use Rattle.pw_building.specs.FromBuild.Full.{built_anew}
 use Rattle.pw_kept.specs.Kept.{counted, is_same, kept_bytes, object_name}
 use Rattle.pw_kept.specs.Files.{AreObjectFiles}
 use Rattle.pw_building.specs.Building.{BuildComes, IsOutcome, Outcome, if_changed, kept_objects}

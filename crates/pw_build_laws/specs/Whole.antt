@@ -3,7 +3,7 @@ use Rattle.std.specs.Prelude.{◌≡◌, ℕ, List, codes, Some, Ok}
 use Rattle.pw_io.specs.Files.{Files}
 use Rattle.pw_db.specs.Database.{IsDatabaseFile}
 use Rattle.pw_making.specs.Programs.{Parts}
-use Rattle.pw_build.specs.Builds.{FullBuild, Texts}
+use Rattle.pw_building.specs.FromBuild.Builds.{FullBuild, Texts}
 use Rattle.pw_kept.specs.Kept.{counted, kept_bytes}
 use Rattle.pw_building.specs.Full.{IsImageOf}
 

@@ -13,12 +13,12 @@ use Rattle.pw_modules.specs.Modules.{Source, modules_of, names_of_modules}
 use Rattle.pw_modules.specs.Views.{source}
 use Rattle.pw_answer.specs.Effects.{NamedFile}
 use Rattle.pw_flow.specs.declared.flow.FlowModule.{FlowModule}
-use Rattle.pw_build.specs.declared.fault.BuildFault.{BuildFault}
-use Rattle.pw_build.specs.declared.fault.BuildFault.TheVariants as build
-use Rattle.pw_build.specs.declared.fault.Unbuilt.{Unbuilt}
-use Rattle.pw_build.specs.Builds.{Builds, BuildsBy, first_phases}
-use Rattle.pw_build.specs.Phases.{IsLine, refused_line}
-use Rattle.pw_build.specs.Stores.{store_fault}
+use Rattle.pw_filing.specs.FromBuild.BuildFault.{BuildFault}
+use Rattle.pw_filing.specs.FromBuild.BuildFault.TheVariants as build
+use Rattle.pw_filing.specs.FromBuild.Unbuilt.{Unbuilt}
+use Rattle.pw_filing.specs.FromBuild.Builds.{Builds, BuildsBy, first_phases}
+use Rattle.pw_filing.specs.FromBuild.Phases.{IsLine, refused_line}
+use Rattle.pw_filing.specs.FromBuild.Stores.{store_fault}
 use Rattle.pw_building.specs.declared.report.Opts.{Opts}
 use Rattle.pw_kept.specs.declared.files.ProgramFiles.{ProgramFiles}
 use Rattle.pw_kept.specs.declared.prepared.Prepared.{Prepared}

@@ -10,9 +10,9 @@ use Rattle.pw_modules.specs.Modules.{Source, module_map, modules_of, names_of_mo
 use Rattle.pw_answer.specs.Effects.{after_puts}
 use Rattle.pw_making.specs.Programs.{Parts}
 use Rattle.pw_making.specs.Kept.{all_fresh}
-use Rattle.pw_build.specs.declared.fault.BuildFault.{BuildFault}
-use Rattle.pw_build.specs.Builds.{Builds, Texts, first_phases}
-use Rattle.pw_build.specs.Full.{built_anew}
+use Rattle.pw_filing.specs.FromBuild.BuildFault.{BuildFault}
+use Rattle.pw_filing.specs.FromBuild.Builds.{Builds, Texts, first_phases}
+use Rattle.pw_filing.specs.FromBuild.Full.{built_anew}
 use Rattle.pw_kept.specs.Kept.{is_same, kept_bytes, object_name}
 use Rattle.pw_kept.specs.Files.{made_anew}
 use Rattle.pw_building.specs.Building.{BuildComes, IsOutcome, Outcome, if_changed, kept_objects}

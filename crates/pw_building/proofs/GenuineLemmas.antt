@@ -17,9 +17,9 @@ use Rattle.pw_modules.specs.Modules.{Source}
 use Rattle.pw_answer.specs.Effects.{NamedFile, PutPart, PutsFiles, IsLeft, after_puts}
 use Rattle.pw_making.specs.Programs.{AreObjectsFrom, DirectivesList, Parts, kept_behind}
 use Rattle.pw_making.specs.Kept.{IsGenuine, IsGenuineIfKept}
-use Rattle.pw_build.specs.declared.fault.BuildFault.{BuildFault}
-use Rattle.pw_build.specs.declared.fault.Unbuilt.{Unbuilt}
-use Rattle.pw_build.specs.Builds.{BuildsBy, first_phases}
+use Rattle.pw_filing.specs.FromBuild.BuildFault.{BuildFault}
+use Rattle.pw_filing.specs.FromBuild.Unbuilt.{Unbuilt}
+use Rattle.pw_filing.specs.FromBuild.Builds.{BuildsBy, first_phases}
 use Rattle.pw_kept.specs.declared.files.ProgramFiles.{ProgramFiles}
 use Rattle.pw_kept.specs.declared.prepared.Prepared.{Prepared}
 use Rattle.pw_kept.specs.Kept.{counted, kept_object, object_in, object_name}

@@ -9,8 +9,8 @@ use Rattle.pw_image.specs.Image.{Contents, IsImageFile}
 use Rattle.pw_modules.specs.Modules.{Source, modules_of, names_of_modules}
 use Rattle.pw_answer.specs.Effects.{NamedFile}
 use Rattle.pw_making.specs.Programs.{Parts}
-use Rattle.pw_build.specs.declared.fault.BuildFault.{BuildFault}
-use Rattle.pw_build.specs.Builds.{Builds}
+use Rattle.pw_filing.specs.FromBuild.BuildFault.{BuildFault}
+use Rattle.pw_filing.specs.FromBuild.Builds.{Builds}
 use Rattle.pw_kept.specs.Files.{AreObjectFiles, made_anew}
 use Rattle.pw_building.specs.Building.{BuildComes, IsOutcome, Outcome, if_changed, kept_objects}
 

@@ -8,8 +8,8 @@ use Rattle.pw_link.specs.Linking.{linked}
 use Rattle.pw_modules.specs.Modules.{modules_of, names_of_modules}
 use Rattle.pw_answer.specs.Effects.{NamedFile}
 use Rattle.pw_making.specs.Programs.{Parts}
-use Rattle.pw_build.specs.declared.fault.BuildFault.{BuildFault}
-use Rattle.pw_build.specs.Builds.{Builds}
+use Rattle.pw_filing.specs.FromBuild.BuildFault.{BuildFault}
+use Rattle.pw_filing.specs.FromBuild.Builds.{Builds}
 use Rattle.pw_kept.specs.Kept.{is_same, kept_bytes}
 pub use Rattle.pw_kept.specs.Kept.{counted, kept_object, object_in, object_name}
 use Rattle.pw_kept.specs.Files.{AreObjectFiles, HoldBytes, made_anew}

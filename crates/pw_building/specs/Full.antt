@@ -3,8 +3,8 @@ use Rattle.std.specs.Prelude.{ℕ, List, Result, Ok, Err}
 use Rattle.pw_image.specs.Image.{IsImageFile}
 use Rattle.pw_link.specs.Linking.{linked}
 use Rattle.pw_making.specs.Programs.{Parts}
-use Rattle.pw_build.specs.declared.fault.BuildFault.{BuildFault}
-use Rattle.pw_build.specs.Builds.{FullBuild, Texts}
+use Rattle.pw_filing.specs.FromBuild.BuildFault.{BuildFault}
+use Rattle.pw_filing.specs.FromBuild.Builds.{FullBuild, Texts}
 use Rattle.pw_building.specs.Building.{Outcome}
 
 -- the bytes are the file of the image of a program of these parts

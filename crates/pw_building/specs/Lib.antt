@@ -1,5 +1,6 @@
 pub mod Building
-pub mod Genuine
-pub mod Outcomes
-pub mod Lines
+pub mod FromBuild
 pub mod Full
+pub mod Genuine
+pub mod Lines
+pub mod Outcomes

@@ -7,10 +7,10 @@ use Rattle.pw_answer.specs.declared.answer.Answer.{Answer}
 use Rattle.pw_answer.specs.declared.answer.Answer.TheVariants as answer
 use Rattle.pw_answer.specs.Effects.{NamedFile, PutPart, PutsFiles}
 use Rattle.pw_modules.specs.Modules.{modules_of}
-use Rattle.pw_build.specs.declared.fault.BuildFault.{BuildFault}
-use Rattle.pw_build.specs.declared.fault.BuildFault.TheVariants as build
-use Rattle.pw_build.specs.declared.fault.Unbuilt.{Unbuilt}
-use Rattle.pw_build.specs.Phases.{IsLine, refused_line}
+use Rattle.pw_filing.specs.FromBuild.BuildFault.{BuildFault}
+use Rattle.pw_filing.specs.FromBuild.BuildFault.TheVariants as build
+use Rattle.pw_filing.specs.FromBuild.Unbuilt.{Unbuilt}
+use Rattle.pw_filing.specs.FromBuild.Phases.{IsLine, refused_line}
 use Rattle.pw_building.specs.declared.report.Report.{Report}
 use Rattle.pw_building.specs.declared.report.Opts.{Opts}
 use Rattle.pw_kept.specs.declared.prepared.Prepared.{Prepared}

@@ -9,7 +9,7 @@ ghost use Rattle.pw_building.specs.Outcomes.{AreOpts, FaultCount, IsLineOfBuild,
 use crate::laws::a_store_has_one_build;
 use crate::prepared::prepare;
 use crate::report::{Opts, Report};
-use pw_build::Unbuilt;
+use pw_filing::Unbuilt;
 use pw_io::Store;
 use pw_io::laws::other_files;
 use pw_kept::{Prepared, put_changed};

@@ -7,16 +7,16 @@ ghost use Rattle.pw_io.specs.Files.{Files, Told};
 ghost use Rattle.pw_modules.specs.Modules.{is_module_file, module_map, modules_of};
 ghost use Rattle.pw_answer.specs.Effects.{NamedFile, PutPart, after_puts};
 ghost use Rattle.pw_making.specs.Programs.{Parts};
-ghost use Rattle.pw_build.specs.declared.fault.BuildFault.{BuildFault};
-ghost use Rattle.pw_build.specs.Builds.{Builds, Texts};
-ghost use Rattle.pw_build.specs.Full.{built_anew};
+ghost use Rattle.pw_filing.specs.FromBuild.BuildFault.{BuildFault};
+ghost use Rattle.pw_filing.specs.FromBuild.Builds.{Builds, Texts};
+ghost use Rattle.pw_filing.specs.FromBuild.Full.{built_anew};
 ghost use Rattle.pw_building.specs.Building.{BuildComes, Outcome, kept_objects};
 ghost use Rattle.pw_building.specs.Full.{BuildsImage, image_of};
 ghost use Rattle.pw_building.specs.Genuine.{IsGenuineFile, KeepsGenuine};
 
-use pw_build::laws as build;
-use pw_build::laws::modules_have_one_build;
 use pw_db::laws::databases_and_files_are_one_to_one;
+use pw_filing::build_laws;
+use pw_filing::build_laws::modules_have_one_build;
 use pw_image::laws::images_and_files_are_one_to_one;
 use pw_io::laws::other_files;
 use pw_object::laws::objects_and_files_are_one_to_one;
@@ -35,7 +35,7 @@ pub fn a_store_has_one_build()
 pub fn genuine_objects_give_the_full_build()
     ensures { (files : Files) (colours stack : ℕ) (a : Result Parts BuildFault) → KeepsGenuine files → Builds (modules_of files) (kept_objects files) colours stack a → Builds (modules_of files) [] colours stack (built_anew a) }
 {
-    build::genuine_objects_give_the_full_build();
+    build_laws::genuine_objects_give_the_full_build();
 }
 
 /// The full build of texts comes to the bytes of one image, or to one fault.

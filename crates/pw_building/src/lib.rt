@@ -12,4 +12,5 @@ pub use laws::{
     genuine_objects_give_the_full_build, genuine_objects_give_the_full_image,
     module_texts_are_no_objects, texts_have_one_image,
 };
+pub use pw_filing::{BuildFault, Unbuilt};
 pub use report::{Opts, Report, report_lines};

@@ -5,15 +5,14 @@ ghost use Rattle.std.specs.List.{AllByRecursion};
 ghost use Rattle.pw_io.specs.Files.{Keeps};
 ghost use Rattle.pw_modules.specs.Modules.{modules_of};
 ghost use Rattle.pw_modules.specs.Views.{source};
-ghost use Rattle.pw_build.specs.Phases.{IsLine, refused_line};
+ghost use Rattle.pw_filing.specs.FromBuild.Phases.{IsLine, refused_line};
 ghost use Rattle.pw_kept.specs.Files.{changed_files};
 ghost use Rattle.pw_building.specs.Building.{BuildComes};
 ghost use Rattle.pw_building.specs.Genuine.{IsOwnFile};
 ghost use Rattle.pw_building.specs.Outcomes.{AreOpts, FaultCount, FaultFound, outcome_of};
 
 use crate::report::Opts;
-use pw_build::Unbuilt;
-use pw_filing::{few_modules, program_of};
+use pw_filing::{Unbuilt, few_modules, program_of};
 use pw_io::Store;
 use pw_kept::{Prepared, compared};
 use pw_making::Steps;

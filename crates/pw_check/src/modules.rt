@@ -17,8 +17,7 @@ ghost use Rattle.pw_tree.specs.Views.{view_external, view_externals, view_module
 ghost use Rattle.pw_typed.specs.Views as typed;
 
 use pw_checking::{Finding, LinkedName, Spot, State};
-use pw_declared::decl_rule;
-use pw_functions::{function_rule, phrases};
+use pw_functions::{decl_rule, function_rule, phrases};
 use pw_limits::completed;
 use pw_results::{final_type, module_in};
 use pw_tree::{External, Module};

@@ -9,10 +9,10 @@ use Rattle.pw_answer.specs.declared.answer.Answer.TheVariants as answer
 use Rattle.pw_answer.specs.Effects.{Effect, NamedFile, PutsFiles, after_puts}
 use Rattle.pw_answer.specs.Outcomes.{Answers, LeavesStreams, OutputCount, PutsOut, StoreCount}
 use Rattle.pw_modules.specs.Modules.{modules_of}
-use Rattle.pw_build.specs.declared.fault.BuildFault.{BuildFault}
-use Rattle.pw_build.specs.declared.fault.BuildFault.TheVariants as build
-use Rattle.pw_build.specs.declared.fault.Unbuilt.{Unbuilt}
-use Rattle.pw_build.specs.Phases.{IsLine, refused_line}
+use Rattle.pw_building.specs.FromBuild.BuildFault.{BuildFault}
+use Rattle.pw_building.specs.FromBuild.BuildFault.TheVariants as build
+use Rattle.pw_building.specs.FromBuild.Unbuilt.{Unbuilt}
+use Rattle.pw_building.specs.FromBuild.Phases.{IsLine, refused_line}
 use Rattle.pw_building.specs.declared.report.Opts.{Opts}
 use Rattle.pw_building.specs.declared.report.Report.{Report}
 use Rattle.pw_building.specs.Building.{Outcome, puts_of}

@@ -5,7 +5,7 @@ use Rattle.pw_io.specs.Files.{Files, Told}
 use Rattle.pw_answer.specs.declared.answer.Answer.{Answer}
 use Rattle.pw_answer.specs.declared.answer.Answer.TheVariants.{Done, Refused, LinkRefused, WriteFault, StoreFault, NoMemory}
 use Rattle.pw_answer.specs.Effects.{Effect, answers_alone}
-use Rattle.pw_build.specs.declared.fault.BuildFault.{BuildFault}
+use Rattle.pw_building.specs.FromBuild.BuildFault.{BuildFault}
 use Rattle.pw_building.specs.Building.{BuildComes, Outcome}
 use Rattle.pw_building.specs.Lines.{report_lines}
 use Rattle.pw_building.specs.Outcomes.{fault_answer}

@@ -4,7 +4,7 @@ ghost use Rattle.std.specs.Prelude.{◌≡◌, ◌<◌, ℕ, List, Option, IfSom
 ghost use Rattle.pw_modules.specs.Modules.{modules_of};
 ghost use Rattle.pw_answer.specs.Effects.{Effect};
 ghost use Rattle.pw_answer.specs.Outcomes.{LeavesStreams, OutputCount, PutsOut, StoreCount};
-ghost use Rattle.pw_build.specs.Phases.{refused_line};
+ghost use Rattle.pw_building.specs.FromBuild.Phases.{refused_line};
 ghost use Rattle.pw_building.specs.Genuine.{KeepsGenuine};
 ghost use Rattle.pw_building.specs.Lines.{report_text};
 ghost use Rattle.pw_building.specs.Outcomes.{AreOpts, FaultCount, IsLineOfBuild, ObeysBuild, PutsSome, fault_answer};
@@ -12,8 +12,7 @@ ghost use Rattle.pw_commands.specs.Outcome.{Obeys};
 ghost use Rattle.pw_driving.specs.Driving.{BuildComesTo, IsBuildAnswer, IsLineDue, IsPrintAnswer, KeepsUnput};
 
 use pw_answer::{Answer, Reply};
-use pw_build::{BuildFault, Unbuilt};
-use pw_building::{Opts, Report, build, report_lines};
+use pw_building::{BuildFault, Opts, Report, Unbuilt, build, report_lines};
 use pw_io::laws::other_files;
 use pw_io::{Failed, Sink, Store};
 use pw_making::Steps;

@@ -4,3 +4,7 @@
 mod driving;
 
 pub use driving::{answer_of, build_modules, build_uncounted, print, put_report};
+pub use pw_building::{
+    BuildFault, Opts, Report, Unbuilt, builds_leave_genuine_objects, genuine_files_keep_genuine,
+    genuine_objects_give_the_full_image, module_texts_are_no_objects,
+};

@@ -25,7 +25,7 @@ use Rattle.pw_making.specs.Programs.{AreObjectsFrom, Completes, DirectivesList, 
 use Rattle.pw_making.specs.Choosing.{parts_of}
 use Rattle.pw_build.specs.declared.fault.BuildFault.{BuildFault}
 use Rattle.pw_build.specs.declared.fault.BuildFault.TheVariants as build
-use Rattle.pw_phase_one.specs.FirstPhase.{Phase, compiled}
+use Rattle.pw_build.specs.FromPhaseOne.FirstPhase.{Phase, compiled}
 use Rattle.pw_build.specs.Builds.{Builds, BuildsBy, CompletesAs, before_others, first_phases, flows_of, limit_passed, text_bytes, within}
 use Rattle.pw_build.specs.Phases.{FaultsAs, IsLine}
 use Rattle.pw_build.specs.Stores.{store_fault}

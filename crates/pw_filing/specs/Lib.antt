@@ -1,1 +1,2 @@
+pub mod FromBuild
 pub mod Programs

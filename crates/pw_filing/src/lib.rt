@@ -5,3 +5,4 @@
 mod program;
 
 pub use program::{few_modules, program_of};
+pub use pw_build::{BuildFault, Unbuilt, laws as build_laws};

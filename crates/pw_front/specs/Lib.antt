@@ -1,5 +1,6 @@
 pub mod First
-pub mod Lexed
+pub mod FromParse
 pub mod Fronts
 pub mod Gives
+pub mod Lexed
 pub mod Places

@@ -10,4 +10,5 @@ mod refusal;
 pub use laws::{front_is_exact, lexed_is_exact};
 pub use module::front;
 pub use place::refusal_line;
+pub use pw_parse::ParseFault;
 pub use refusal::{FrontError, Refusal};

@@ -8,3 +8,4 @@ mod locals;
 
 pub use functions::function_rule;
 pub use knot::phrases;
+pub use pw_declared::decl_rule;

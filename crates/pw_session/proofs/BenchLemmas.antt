@@ -17,13 +17,13 @@ use Rattle.pw_answer.specs.declared.answer.Answer.TheVariants.{Done, Usage, Refu
 use Rattle.pw_answer.specs.Effects.{Effect, answers_alone, prints}
 use Rattle.pw_answer.specs.Outcomes.{Answers, LeavesStreams, OutputCount, PutsOut, StoreCount}
 use Rattle.pw_gen.specs.Generator.{generated}
-use Rattle.pw_build.specs.declared.fault.BuildFault.{BuildFault}
-use Rattle.pw_build.specs.declared.fault.BuildFault.TheVariants as build
-use Rattle.pw_build.specs.declared.fault.Unbuilt.{Unbuilt}
-use Rattle.pw_build.specs.Phases.{IsLine, refused_line}
-use Rattle.pw_building.specs.declared.report.Report.{Report}
-use Rattle.pw_building.specs.Building.{Outcome}
-use Rattle.pw_building.specs.Outcomes.{FaultComes, ObeysBuild, Reports, fault_answer}
+use Rattle.pw_driving.specs.FromBuild.BuildFault.{BuildFault}
+use Rattle.pw_driving.specs.FromBuild.BuildFault.TheVariants as build
+use Rattle.pw_driving.specs.FromBuild.Unbuilt.{Unbuilt}
+use Rattle.pw_driving.specs.FromBuild.Phases.{IsLine, refused_line}
+use Rattle.pw_driving.specs.FromBuilding.Report.{Report}
+use Rattle.pw_driving.specs.FromBuilding.Building.{Outcome}
+use Rattle.pw_driving.specs.FromBuilding.Outcomes.{FaultComes, ObeysBuild, Reports, fault_answer}
 use Rattle.pw_driving.specs.Driving.{IsPrintAnswer}
 use Rattle.pw_session.specs.declared.opts.SessionOpts.{SessionOpts}
 use Rattle.pw_session.specs.Builds.{BuildsTo}

@@ -11,15 +11,15 @@ use Rattle.pw_answer.specs.declared.answer.Answer.TheVariants.{Done, Refused, Li
 use Rattle.pw_answer.specs.Answers.{line_text}
 use Rattle.pw_answer.specs.Effects.{PutsFiles}
 use Rattle.pw_answer.specs.Outcomes.{IsWhole, OutputCount, PutsOut, StoreCount, store_answer}
-use Rattle.pw_build.specs.declared.fault.BuildFault.{BuildFault}
-use Rattle.pw_build.specs.declared.fault.BuildFault.TheVariants as build
-use Rattle.pw_build.specs.declared.fault.Unbuilt.{Unbuilt}
-use Rattle.pw_build.specs.Phases.{IsLine, refused_line}
-use Rattle.pw_building.specs.declared.report.Opts.{Opts}
-use Rattle.pw_building.specs.declared.report.Report.{Report}
-use Rattle.pw_building.specs.Building.{Outcome, puts_of}
-use Rattle.pw_building.specs.Lines.{report_lines, report_text}
-use Rattle.pw_building.specs.Outcomes.{AnswersBuild, FaultComes, ObeysBuild, PutsSome, Reports, fault_answer}
+use Rattle.pw_driving.specs.FromBuild.BuildFault.{BuildFault}
+use Rattle.pw_driving.specs.FromBuild.BuildFault.TheVariants as build
+use Rattle.pw_driving.specs.FromBuild.Unbuilt.{Unbuilt}
+use Rattle.pw_driving.specs.FromBuild.Phases.{IsLine, refused_line}
+use Rattle.pw_driving.specs.FromBuilding.Opts.{Opts}
+use Rattle.pw_driving.specs.FromBuilding.Report.{Report}
+use Rattle.pw_driving.specs.FromBuilding.Building.{Outcome, puts_of}
+use Rattle.pw_driving.specs.FromBuilding.Lines.{report_lines, report_text}
+use Rattle.pw_driving.specs.FromBuilding.Outcomes.{AnswersBuild, FaultComes, ObeysBuild, PutsSome, Reports, fault_answer}
 use Rattle.pw_driving.specs.Driving.{IsPrintAnswer, outcome_lines}
 use Rattle.pw_script.specs.Script.{LineValue, PutText, RemoveText, BuildProgram, RunProgram}
 use Rattle.pw_session.specs.declared.opts.SessionOpts.{SessionOpts}

@@ -7,7 +7,7 @@ use Rattle.pw_io.specs.declared.Failed.{Failed}
 use Rattle.pw_answer.specs.declared.answer.Answer.{Answer}
 use Rattle.pw_answer.specs.declared.answer.Answer.TheVariants.{Done, ReadFault, WriteFault, StoreFault, NoMemory, BadScript}
 use Rattle.pw_answer.specs.Outcomes.{InputCount, OutputCount, StoreCount}
-use Rattle.pw_building.specs.Genuine.{KeepsGenuine}
+use Rattle.pw_driving.specs.FromBuilding.Genuine.{KeepsGenuine}
 use Rattle.pw_driving.specs.Driving.{IsPrintAnswer}
 use Rattle.pw_script.specs.declared.line.TakenLine.{TakenLine}
 use Rattle.pw_script.specs.declared.line.ScriptFault.{ScriptFault}

@@ -14,10 +14,10 @@ use Rattle.pw_answer.specs.declared.answer.Answer.TheVariants.{Done, Refused, Li
 use Rattle.pw_answer.specs.Effects.{Effect, answers_alone, prints}
 use Rattle.pw_answer.specs.Outcomes.{Answers, PutsOut}
 use Rattle.pw_gen.specs.Generator.{functions_of_a_module, generated}
-use Rattle.pw_build.specs.declared.fault.BuildFault.{BuildFault}
-use Rattle.pw_build.specs.Phases.{refused_line}
-use Rattle.pw_building.specs.Building.{Outcome}
-use Rattle.pw_building.specs.Outcomes.{fault_answer}
+use Rattle.pw_driving.specs.FromBuild.BuildFault.{BuildFault}
+use Rattle.pw_driving.specs.FromBuild.Phases.{refused_line}
+use Rattle.pw_driving.specs.FromBuilding.Building.{Outcome}
+use Rattle.pw_driving.specs.FromBuilding.Outcomes.{fault_answer}
 use Rattle.pw_running.specs.Running.{run_answer}
 use Rattle.pw_session.specs.declared.opts.SessionOpts.{SessionOpts}
 use Rattle.pw_session.specs.Builds.{BuildsTo}

@@ -1,6 +1,9 @@
-pub mod Changes
+pub mod Bench
 pub mod Builds
+pub mod Changes
+pub mod FromBuild
+pub mod FromBuilding
+pub mod FromDriving
+pub mod Outcomes
 pub mod Runs
 pub mod Session
-pub mod Outcomes
-pub mod Bench

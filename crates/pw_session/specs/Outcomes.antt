@@ -6,9 +6,9 @@ use Rattle.pw_answer.specs.declared.answer.Answer.{Answer}
 use Rattle.pw_answer.specs.declared.answer.Answer.TheVariants.{Done, ReadFault, WriteFault, StoreFault, NoMemory, BadScript}
 use Rattle.pw_answer.specs.Outcomes.{Answers, PutsOut}
 use Rattle.pw_answer.specs.Answers.{line_text}
-use Rattle.pw_build.specs.declared.fault.BuildFault.{BuildFault}
-use Rattle.pw_build.specs.declared.fault.BuildFault.TheVariants as build
-use Rattle.pw_building.specs.Outcomes.{fault_answer}
+use Rattle.pw_driving.specs.FromBuild.BuildFault.{BuildFault}
+use Rattle.pw_driving.specs.FromBuild.BuildFault.TheVariants as build
+use Rattle.pw_driving.specs.FromBuilding.Outcomes.{fault_answer}
 use Rattle.pw_driving.specs.Driving.{IsPrintAnswer}
 use Rattle.pw_script.specs.declared.line.TakenLine.{TakenLine}
 use Rattle.pw_script.specs.declared.line.ScriptFault.{ScriptFault}

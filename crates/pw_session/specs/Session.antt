@@ -6,10 +6,10 @@ use Rattle.pw_modules.specs.Modules.{modules_of}
 use Rattle.pw_answer.specs.declared.answer.Answer.{Answer}
 use Rattle.pw_answer.specs.declared.answer.Answer.TheVariants.{Done, BadScript}
 use Rattle.pw_answer.specs.Answers.{line_text}
-use Rattle.pw_build.specs.declared.fault.BuildFault.{BuildFault}
-use Rattle.pw_build.specs.Phases.{refused_line}
-use Rattle.pw_building.specs.Building.{Outcome}
-use Rattle.pw_building.specs.Outcomes.{fault_answer}
+use Rattle.pw_driving.specs.FromBuild.BuildFault.{BuildFault}
+use Rattle.pw_driving.specs.FromBuild.Phases.{refused_line}
+use Rattle.pw_driving.specs.FromBuilding.Building.{Outcome}
+use Rattle.pw_driving.specs.FromBuilding.Outcomes.{fault_answer}
 use Rattle.pw_driving.specs.Driving.{outcome_lines}
 use Rattle.pw_script.specs.Script.{LineValue, PutText, RemoveText, BuildProgram, RunProgram, first_line}
 use Rattle.pw_session.specs.declared.opts.SessionOpts.{SessionOpts}

@@ -3,7 +3,7 @@
 ghost use Rattle.std.specs.Prelude.{◌≡◌, ◌≤◌, ℕ, [], List, Option, IfOk, string_bytes};
 ghost use Rattle.pw_answer.specs.Outcomes.{Answers, LeavesStreams, OutputCount, PutsOut};
 ghost use Rattle.pw_running.specs.Running.{run_answer};
-ghost use Rattle.pw_building.specs.Outcomes.{AreOpts};
+ghost use Rattle.pw_driving.specs.FromBuilding.Outcomes.{AreOpts};
 ghost use Rattle.pw_driving.specs.Driving.{IsPrintAnswer};
 ghost use Rattle.pw_session.specs.Bench.{BenchComes, IsBenchAnswer, IsBenchLine, ObeysBench, ObeysReport, StopsAs, bench_front, bench_line, made_files};
 ghost use Rattle.pw_session.specs.Runs.{runs_as};
@@ -11,8 +11,7 @@ ghost use Rattle.pw_session.specs.Runs.{runs_as};
 use crate::opts::SessionOpts;
 use crate::runs::{is_stop, stop_text};
 use pw_answer::{Answer, Reply};
-use pw_building::Report;
-use pw_driving::{answer_of, build_uncounted, print};
+use pw_driving::{Report, answer_of, build_uncounted, print};
 use pw_gen::generate;
 use pw_io::{DropSink, Sink, SureSource, SureStore};
 use pw_machine::Machine;

@@ -4,8 +4,8 @@ ghost use Rattle.std.specs.Prelude.{◌≡◌, [], ◌∷◌, IfSome, codes, tru
 ghost use Rattle.pw_modules.specs.Modules.{is_module_file};
 ghost use Rattle.pw_answer.specs.Answers.{line_text};
 ghost use Rattle.pw_answer.specs.Outcomes.{OutputCount, PutsOut, StoreCount};
-ghost use Rattle.pw_building.specs.Genuine.{KeepsGenuine};
-ghost use Rattle.pw_building.specs.Outcomes.{AreOpts};
+ghost use Rattle.pw_driving.specs.FromBuilding.Genuine.{KeepsGenuine};
+ghost use Rattle.pw_driving.specs.FromBuilding.Outcomes.{AreOpts};
 ghost use Rattle.pw_driving.specs.Driving.{IsPrintAnswer};
 ghost use Rattle.pw_script.specs.Reading.{line_view};
 ghost use Rattle.pw_script.specs.Script.{BuildProgram, NamesModule};
@@ -15,9 +15,9 @@ ghost use Rattle.pw_session.specs.Outcomes.{Does, IsLineAnswer, ObeysLine, SaysF
 use crate::opts::SessionOpts;
 use crate::runs::run_image;
 use pw_answer::{Answer, line_of};
-use pw_build::{BuildFault, Unbuilt};
-use pw_building::module_texts_are_no_objects;
-use pw_driving::{answer_of, build_uncounted, print, put_report};
+use pw_driving::{
+    BuildFault, Unbuilt, answer_of, build_uncounted, module_texts_are_no_objects, print, put_report,
+};
 use pw_io::laws::other_files;
 use pw_io::{Sink, Store};
 use pw_script::Line;

@@ -1,6 +1,6 @@
 //! What a session is told.
 
-use pw_building::Opts;
+use pw_driving::Opts;
 
 /// How a session builds, and for how many instructions it runs a program at most.
 #[derive(Clone, Copy)]

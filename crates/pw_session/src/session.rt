@@ -2,8 +2,8 @@
 
 ghost use Rattle.std.specs.Prelude.{◌≡◌, IfSome};
 ghost use Rattle.pw_answer.specs.Outcomes.{InputCount, OutputCount, StoreCount};
-ghost use Rattle.pw_building.specs.Genuine.{KeepsGenuine};
-ghost use Rattle.pw_building.specs.Outcomes.{AreOpts};
+ghost use Rattle.pw_driving.specs.FromBuilding.Genuine.{KeepsGenuine};
+ghost use Rattle.pw_driving.specs.FromBuilding.Outcomes.{AreOpts};
 ghost use Rattle.pw_script.specs.Reading.{IsReadInPart, line_view};
 ghost use Rattle.pw_script.specs.Script.{NamesModule};
 ghost use Rattle.pw_session.specs.Changes.{MakesSome};

@@ -5,10 +5,10 @@ use Rattle.std.specs.FinMap as finite
 use Rattle.pw_io.specs.Files.{Files, Told, after_put, after_remove}
 use Rattle.pw_modules.specs.Modules.{is_module_file, module_map}
 use Rattle.pw_answer.specs.Effects.{NamedFile, after_puts}
-use Rattle.pw_build.specs.declared.fault.BuildFault.{BuildFault}
-use Rattle.pw_building.specs.Building.{BuildComes, Outcome}
-use Rattle.pw_building.specs.Full.{BuildsImage, image_of}
-use Rattle.pw_building.specs.Genuine.{KeepsGenuine}
+use Rattle.pw_session.specs.FromBuild.BuildFault.{BuildFault}
+use Rattle.pw_session.specs.FromBuilding.Building.{BuildComes, Outcome}
+use Rattle.pw_session.specs.FromBuilding.Full.{BuildsImage, image_of}
+use Rattle.pw_session.specs.FromBuilding.Genuine.{KeepsGenuine}
 use Rattle.pw_script.specs.Script.{LineValue, PutText, RemoveText, BuildProgram, RunProgram, NamesModule}
 use Rattle.pw_session.specs.declared.opts.SessionOpts.{SessionOpts}
 use Rattle.pw_session.specs.Builds.{BuildsTo}

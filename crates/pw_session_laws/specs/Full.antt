@@ -2,9 +2,9 @@
 use Rattle.std.specs.Prelude.{◌≡◌, ℕ, List, [], ◌∷◌, Result}
 use Rattle.pw_io.specs.Files.{Told}
 use Rattle.pw_modules.specs.Modules.{module_map}
-use Rattle.pw_build.specs.declared.fault.BuildFault.{BuildFault}
-use Rattle.pw_building.specs.Building.{Outcome}
-use Rattle.pw_building.specs.Full.{BuildsImage, image_of}
+use Rattle.pw_session.specs.FromBuild.BuildFault.{BuildFault}
+use Rattle.pw_session.specs.FromBuilding.Building.{Outcome}
+use Rattle.pw_session.specs.FromBuilding.Full.{BuildsImage, image_of}
 use Rattle.pw_script.specs.Script.{LineValue, BuildProgram}
 use Rattle.pw_session.specs.declared.opts.SessionOpts.{SessionOpts}
 use Rattle.pw_session.specs.Session.{Act, Acts, Effects, State, behind_act, builds_as, lines_of, next_state, session_start}

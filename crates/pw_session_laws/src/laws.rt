@@ -2,15 +2,15 @@
 
 ghost use Rattle.std.specs.Prelude.{List, ℕ};
 ghost use Rattle.pw_io.specs.Files.{Told};
-ghost use Rattle.pw_building.specs.Genuine.{KeepsGenuine};
+ghost use Rattle.pw_session.specs.FromBuilding.Genuine.{KeepsGenuine};
 ghost use Rattle.pw_session.specs.Session.{Effects, SessionActs};
 ghost use Rattle.pw_session.specs.declared.opts.SessionOpts.{SessionOpts};
 ghost use Rattle.pw_session_laws.specs.Full.{SessionBuildsInFull};
 
-use pw_building::{
+use pw_io::laws::other_files;
+use pw_session::{
     builds_leave_genuine_objects, genuine_objects_give_the_full_image, module_texts_are_no_objects,
 };
-use pw_io::laws::other_files;
 
 /// Where the kept objects are genuine before a session, each of its builds comes to the image of the full build of the
 /// texts as its lines left them, byte for byte, or to that build's fault.

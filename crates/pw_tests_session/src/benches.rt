@@ -1,9 +1,8 @@
 //! The line of `bench`. How the made programs stop was found by another generator and another compiler.
 
 use pw_answer::Answer;
-use pw_building::Opts;
 use pw_io::SureSink;
-use pw_session::{SessionOpts, bench};
+use pw_session::{Opts, SessionOpts, bench};
 use std::alloc::Global;
 use std::test::Fail;
 

@@ -2,9 +2,8 @@
 //! are the rules' worked examples, by hand.
 
 use pw_answer::Answer;
-use pw_building::Opts;
 use pw_io::{SureSink, SureSource, SureStore};
-use pw_session::{SessionOpts, run_session};
+use pw_session::{Opts, SessionOpts, run_session};
 use std::alloc::Global;
 use std::test::Fail;
 

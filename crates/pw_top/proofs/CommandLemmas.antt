@@ -5,7 +5,7 @@ use Rattle.pw_io.specs.Files.{Files, Told, Keeps}
 use Rattle.pw_object.specs.declared.object.Object.{Object}
 use Rattle.pw_db.specs.declared.database.Directives.{Directives}
 use Rattle.pw_flow.specs.declared.flow.FlowModule.{FlowModule}
-use Rattle.pw_phase_one.specs.FirstPhase.{Phase, compiled}
+use Rattle.pw_compiling.specs.FromPhaseOne.FirstPhase.{Phase, compiled}
 use Rattle.pw_summary.specs.declared.summary.Summary.{Summary}
 use Rattle.pw_image.specs.Image.{ImageValue}
 use Rattle.pw_machine.specs.Core.{Core}
@@ -14,18 +14,18 @@ use Rattle.pw_answer.specs.declared.answer.Answer.TheVariants.{Done, Ended, Usag
 use Rattle.pw_answer.specs.Effects.{Effect, NamedFile, PutsFiles, answers_alone, prints}
 use Rattle.pw_answer.specs.Outcomes.{Answers, InputCount, LeavesInput, LeavesStreams, OutputCount, PutsOut}
 use Rattle.pw_run_laws.specs.Ends.{Ends}
-use Rattle.pw_build.specs.declared.fault.BuildFault.{BuildFault}
-use Rattle.pw_building.specs.Building.{Outcome}
-use Rattle.pw_driving.specs.Driving.{BuildComesTo, IsBuildAnswer, IsLineDue, built_effect}
-use Rattle.pw_go.specs.FullBuild.{Build, full_build}
-use Rattle.pw_go.specs.FullBuild as build
-use Rattle.pw_go.specs.Going.{IsLineOf, IsNoUsage, build_effect, refused_line}
-use Rattle.pw_commands.specs.Analysing.{AnalyseComes, AnalyseOver, summaries_of}
-use Rattle.pw_commands.specs.Linking.{LinkComes, LinkOver, objects_of}
-use Rattle.pw_commands.specs.Needed.{needed, needed_bytes}
-use Rattle.pw_commands.specs.Outcome.{IsStoreAnswer, Obeys}
-use Rattle.pw_commands.specs.Running.{IsRunOrStop, core_in, run_effect, runs}
-use Rattle.pw_commands.specs.Showing.{DatabaseComes, IsShowAnswer, ListComes, ListOver, Shows, database_text, image_in, printed}
+use Rattle.pw_session.specs.FromBuild.BuildFault.{BuildFault}
+use Rattle.pw_session.specs.FromBuilding.Building.{Outcome}
+use Rattle.pw_session.specs.FromDriving.Driving.{BuildComesTo, IsBuildAnswer, IsLineDue, built_effect}
+use Rattle.pw_run_laws.specs.FromGo.FullBuild.{Build, full_build}
+use Rattle.pw_run_laws.specs.FromGo.FullBuild as build
+use Rattle.pw_run_laws.specs.FromGo.Going.{IsLineOf, IsNoUsage, build_effect, refused_line}
+use Rattle.pw_run_laws.specs.FromCommands.Analysing.{AnalyseComes, AnalyseOver, summaries_of}
+use Rattle.pw_run_laws.specs.FromCommands.Linking.{LinkComes, LinkOver, objects_of}
+use Rattle.pw_run_laws.specs.FromCommands.Needed.{needed, needed_bytes}
+use Rattle.pw_run_laws.specs.FromCommands.Outcome.{IsStoreAnswer, Obeys}
+use Rattle.pw_run_laws.specs.FromCommands.Running.{IsRunOrStop, core_in, run_effect, runs}
+use Rattle.pw_run_laws.specs.FromCommands.Showing.{DatabaseComes, IsShowAnswer, ListComes, ListOver, Shows, database_text, image_in, printed}
 use Rattle.pw_session.specs.Bench.{BenchComes}
 use Rattle.pw_words.specs.declared.commands.Command.{Command}
 use Rattle.pw_words.specs.declared.commands.Command.TheVariants.{Go, Build as BuildAll, Session, PhaseOne, Analyse, PhaseTwo, Link, Run, List as ListImage, Db, Bench}

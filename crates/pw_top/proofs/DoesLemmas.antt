@@ -8,8 +8,8 @@ use Rattle.pw_answer.specs.declared.answer.Answer.TheVariants.{Done, Ended, Usag
 use Rattle.pw_answer.specs.Effects.{Effect, NamedFile, PutsFiles, answers_alone}
 use Rattle.pw_answer.specs.Outcomes.{Answers, IsWhole, LeavesInput, PutsOut, WasReadInPart}
 use Rattle.pw_run_laws.specs.Ends.{Ends}
-use Rattle.pw_commands.specs.Outcome.{IsFound, Obeys}
-use Rattle.pw_commands.specs.Showing.{Shows}
+use Rattle.pw_run_laws.specs.FromCommands.Outcome.{IsFound, Obeys}
+use Rattle.pw_run_laws.specs.FromCommands.Showing.{Shows}
 use Rattle.pw_top.specs.Does.{Does}
 
 -- ---- nothing was put, put out or read

@@ -8,11 +8,11 @@ use Rattle.pw_answer.specs.Answers.{NeedsMemory}
 use Rattle.pw_answer.specs.Effects.{Effect, NamedFile, PutsFiles}
 use Rattle.pw_answer.specs.Outcomes.{InputCount, OutputCount, StoreCount}
 use Rattle.pw_modules.specs.Modules.{modules_of}
-use Rattle.pw_build.specs.Phases.{refused_line}
-use Rattle.pw_build.specs.declared.fault.BuildFault.{BuildFault}
-use Rattle.pw_building.specs.Building.{Outcome}
-use Rattle.pw_commands.specs.Outcome.{IsFound}
-use Rattle.pw_go.specs.Going.{IsNoUsage}
+use Rattle.pw_session.specs.FromBuild.Phases.{refused_line}
+use Rattle.pw_session.specs.FromBuild.BuildFault.{BuildFault}
+use Rattle.pw_session.specs.FromBuilding.Building.{Outcome}
+use Rattle.pw_run_laws.specs.FromCommands.Outcome.{IsFound}
+use Rattle.pw_run_laws.specs.FromGo.Going.{IsNoUsage}
 use Rattle.pw_compiling.specs.First.{IsLine}
 use Rattle.pw_session.specs.declared.opts.SessionOpts.{SessionOpts}
 use Rattle.pw_session.specs.Bench.{BenchComes, BenchOver, IsBenchAnswer, IsBenchFound, IsBenchLine, ObeysBench, bench_files}

@@ -10,10 +10,10 @@ use Rattle.pw_answer.specs.Effects.{Effect, NamedFile, PutsFiles, PutFront}
 use Rattle.pw_answer.specs.Outcomes.{Answers, InputCount, LeavesInput, LeavesStreams, OutputCount, PutsOut, StoreCount, ToldAs, WasReadInPart}
 use Rattle.pw_run_laws.specs.Ends.{Ends}
 use Rattle.pw_modules.specs.Modules.{modules_of}
-use Rattle.pw_go.specs.FullBuild as build
-use Rattle.pw_go.specs.FullBuild.{Build, full_build}
-use Rattle.pw_go.specs.Going.{AnswersBuild, ReturnsSum, build_effect}
-use Rattle.pw_go.specs.Refusals.{HoldsNoWantOfMemory}
+use Rattle.pw_run_laws.specs.FromGo.FullBuild as build
+use Rattle.pw_run_laws.specs.FromGo.FullBuild.{Build, full_build}
+use Rattle.pw_run_laws.specs.FromGo.Going.{AnswersBuild, ReturnsSum, build_effect}
+use Rattle.pw_run_laws.specs.FromGo.Refusals.{HoldsNoWantOfMemory}
 use Rattle.pw_words.specs.declared.commands.Command.{Command}
 use Rattle.pw_words.specs.declared.commands.Command.TheVariants.{Go, Session}
 use Rattle.pw_compiling.specs.First.{IsLine}

@@ -6,13 +6,13 @@ use Rattle.pw_modules.specs.Modules.{module_map}
 use Rattle.pw_answer.specs.declared.answer.Answer.{Answer}
 use Rattle.pw_answer.specs.declared.answer.Answer.TheVariants.{Done}
 use Rattle.pw_answer.specs.Effects.{Effect, PutsFiles, after_puts}
-use Rattle.pw_build.specs.declared.fault.BuildFault.{BuildFault}
-use Rattle.pw_build.specs.declared.fault.BuildFault.TheVariants as build
-use Rattle.pw_building.specs.Building.{BuildComes, Outcome}
-use Rattle.pw_building.specs.Genuine.{KeepsGenuine}
-use Rattle.pw_building.specs.Outcomes.{fault_answer}
+use Rattle.pw_session.specs.FromBuild.BuildFault.{BuildFault}
+use Rattle.pw_session.specs.FromBuild.BuildFault.TheVariants as build
+use Rattle.pw_session.specs.FromBuilding.Building.{BuildComes, Outcome}
+use Rattle.pw_session.specs.FromBuilding.Genuine.{KeepsGenuine}
+use Rattle.pw_session.specs.FromBuilding.Outcomes.{fault_answer}
 use Rattle.pw_build_laws.specs.Whole.{HoldsFullBuild}
-use Rattle.pw_driving.specs.Driving.{BuildComesTo, built_effect}
+use Rattle.pw_session.specs.FromDriving.Driving.{BuildComesTo, built_effect}
 use Rattle.pw_words.specs.declared.commands.Command.{Command}
 use Rattle.pw_words.specs.declared.commands.Command.TheVariants.{Build as BuildAll}
 use Rattle.pw_top.specs.Commands.{BuildsWhole, IfDone}

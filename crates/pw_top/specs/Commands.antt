@@ -4,16 +4,16 @@ use Rattle.pw_io.specs.Files.{Files, Told}
 use Rattle.pw_answer.specs.declared.answer.Answer.{Answer}
 use Rattle.pw_answer.specs.declared.answer.Answer.TheVariants.{Done, Usage}
 use Rattle.pw_modules.specs.Modules.{module_map, modules_of}
-use Rattle.pw_build.specs.Phases as phases
-use Rattle.pw_go.specs.FullBuild.{full_build}
-use Rattle.pw_go.specs.Going.{IsNoUsage, refused_line}
-use Rattle.pw_commands.specs.Others.{KeepsOthers}
-use Rattle.pw_building.specs.Genuine.{KeepsGenuine}
+use Rattle.pw_session.specs.FromBuild.Phases as phases
+use Rattle.pw_run_laws.specs.FromGo.FullBuild.{full_build}
+use Rattle.pw_run_laws.specs.FromGo.Going.{IsNoUsage, refused_line}
+use Rattle.pw_run_laws.specs.FromCommands.Others.{KeepsOthers}
+use Rattle.pw_session.specs.FromBuilding.Genuine.{KeepsGenuine}
 use Rattle.pw_build_laws.specs.Whole.{HoldsFullBuild}
 use Rattle.pw_session.specs.declared.opts.SessionOpts.{SessionOpts}
 use Rattle.pw_session.specs.Bench.{bench_files}
 use Rattle.pw_session.specs.Changes.{MakesSome}
-use Rattle.pw_driving.specs.Driving.{KeepsUnput}
+use Rattle.pw_session.specs.FromDriving.Driving.{KeepsUnput}
 use Rattle.pw_compiling.specs.First.{phase_line, phase_one_puts}
 use Rattle.pw_compiling.specs.Second.{phase_two_puts}
 use Rattle.pw_words.specs.declared.commands.Command.{Command}

@@ -6,16 +6,16 @@ use Rattle.pw_answer.specs.declared.answer.Answer.{Answer}
 use Rattle.pw_answer.specs.declared.answer.Answer.TheVariants.{Usage}
 use Rattle.pw_answer.specs.Effects.{Effect, PutsFiles, answers_alone}
 use Rattle.pw_answer.specs.Outcomes.{Answers, LeavesInput, PutsOut}
-use Rattle.pw_go.specs.FullBuild.{full_build}
-use Rattle.pw_go.specs.Going.{build_effect}
-use Rattle.pw_commands.specs.Analysing.{AnalyseComes}
-use Rattle.pw_commands.specs.Linking.{LinkComes}
-use Rattle.pw_commands.specs.Outcome.{IsFound}
-use Rattle.pw_commands.specs.Running.{run_effect}
-use Rattle.pw_commands.specs.Showing.{DatabaseComes, ListComes}
+use Rattle.pw_run_laws.specs.FromGo.FullBuild.{full_build}
+use Rattle.pw_run_laws.specs.FromGo.Going.{build_effect}
+use Rattle.pw_run_laws.specs.FromCommands.Analysing.{AnalyseComes}
+use Rattle.pw_run_laws.specs.FromCommands.Linking.{LinkComes}
+use Rattle.pw_run_laws.specs.FromCommands.Outcome.{IsFound}
+use Rattle.pw_run_laws.specs.FromCommands.Running.{run_effect}
+use Rattle.pw_run_laws.specs.FromCommands.Showing.{DatabaseComes, ListComes}
 use Rattle.pw_compiling.specs.First.{PhaseOneComes}
 use Rattle.pw_compiling.specs.Second.{PhaseTwoComes}
-use Rattle.pw_driving.specs.Driving.{BuildComesTo}
+use Rattle.pw_session.specs.FromDriving.Driving.{BuildComesTo}
 use Rattle.pw_session.specs.declared.opts.SessionOpts.{SessionOpts}
 use Rattle.pw_session.specs.Bench.{BenchComes}
 use Rattle.pw_session.specs.Outcomes.{LeavesScript, ObeysSession}

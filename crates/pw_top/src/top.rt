@@ -4,12 +4,12 @@ ghost use Rattle.std.specs.Prelude.{◌≡◌, ◌⊎◌, ℕ, IfSome, None, Som
 ghost use Rattle.pw_io.specs.Files.{Keeps};
 ghost use Rattle.pw_answer.specs.Answers.{line_text};
 ghost use Rattle.pw_answer.specs.Outcomes.{InputCount, LeavesStreams, OutputCount, StoreCount, Tells, TellsSome};
-ghost use Rattle.pw_go.specs.FullBuild.{full_build};
-ghost use Rattle.pw_go.specs.Going.{AnswersBuild, BuiltAgrees, IsNoUsage, ReturnsSum};
-ghost use Rattle.pw_go.specs.Refusals.{HoldsNoWantOfMemory, NoMainComes, NoMainIs, RefusalComes, RefusalIs};
+ghost use Rattle.pw_run_laws.specs.FromGo.FullBuild.{full_build};
+ghost use Rattle.pw_run_laws.specs.FromGo.Going.{AnswersBuild, BuiltAgrees, IsNoUsage, ReturnsSum};
+ghost use Rattle.pw_run_laws.specs.FromGo.Refusals.{HoldsNoWantOfMemory, NoMainComes, NoMainIs, RefusalComes, RefusalIs};
 ghost use Rattle.pw_modules.specs.Modules.{modules_of};
 ghost use Rattle.pw_compiling.specs.First.{IsLine};
-ghost use Rattle.pw_building.specs.Genuine.{KeepsGenuine};
+ghost use Rattle.pw_session.specs.FromBuilding.Genuine.{KeepsGenuine};
 ghost use Rattle.pw_top.specs.Commands.{BuildsWhole, IsGo, IsNoSession, IsUsageDue, KeepsTheRest, OnlyReads, line_of, opts_of};
 ghost use Rattle.pw_top.specs.Does.{DoesAs};
 ghost use Rattle.pw_words.specs.CommandLine.{command_of};
@@ -17,15 +17,15 @@ ghost use Rattle.pw_words.specs.Limits.{IsWithin};
 
 use pw_answer::{Answer, Reply, tell};
 use pw_build_laws::a_build_leaves_the_whole_program;
-use pw_building::{Opts, genuine_files_keep_genuine};
-use pw_commands::{analyse_modules, link_modules, list_image, run_image, show_database};
 use pw_compiling::{compile_flow, compile_text};
-use pw_driving::build_modules;
-use pw_go::go;
-use pw_go::laws::{builds_agree, refusals_are_due};
 use pw_io::{Sink, Source, Store};
-use pw_run_laws::runs_leave_an_end;
-use pw_session::{SessionOpts, bench, run_session};
+use pw_run_laws::{
+    analyse_modules, builds_agree, go, link_modules, list_image, refusals_are_due, run_image,
+    runs_leave_an_end, show_database,
+};
+use pw_session::{
+    Opts, SessionOpts, bench, build_modules, genuine_files_keep_genuine, run_session,
+};
 use pw_words::laws::commands_are_within;
 use pw_words::{Command, WordsFault, command};
 use std::alloc::Global;

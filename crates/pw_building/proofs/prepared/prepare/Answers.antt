@@ -2,7 +2,7 @@ use Rattle.std.proofs.Common.{◌≡◌, Ok, IfErr, IfOk, map}
 use Rattle.std.specs.List.{AllByRecursion}
 use Rattle.pw_modules.specs.Modules.{modules_of}
 use Rattle.pw_modules.specs.Views.{source}
-use Rattle.pw_build.specs.Phases.{IsLine, refused_line}
+use Rattle.pw_filing.specs.FromBuild.Phases.{IsLine, refused_line}
 use Rattle.pw_kept.specs.Files.{changed_files}
 use Rattle.pw_building.specs.Building.{BuildComes}
 use Rattle.pw_building.specs.Genuine.{IsOwnFile}

@@ -1,6 +1,6 @@
 use Rattle.std.proofs.Common.{refl}
 use Rattle.pw_modules.specs.Modules.{modules_of}
-use Rattle.pw_build.specs.Phases.{refused_line}
+use Rattle.pw_building.specs.FromBuild.Phases.{refused_line}
 use Rattle.pw_driving.proofs.DrivingLemmas.{fault_is_answer, fault_line, fault_obeys, fault_output, fault_streams, fault_writes, report_answer, report_count, report_line, report_obeys, report_output, report_streams}
 use Rattle.pw_driving.proofs.OthersLemmas.{unput}
 use Rattle.pw_driving.proofs.driving.build_modules.Goals as goal
