@@ -16,7 +16,7 @@ use pw_grammar::Place;
 use pw_parts::{SmallerParts, boxed_expr, some_specifiers};
 use pw_tree::{
     Access, AssignOperator, Expr, Keyword, Lexeme, Mark, Operation, PostfixOperation, StepOperator,
-    TypeName, UnaryOperator, Word,
+    TypeName, UnaryOperator, Word, expressions_show_their_lists,
 };
 use std::alloc::Global;
 
@@ -56,7 +56,6 @@ fn step_behind(tokens: &mut Tokens<'_>, operator: StepOperator) -> PostfixOperat
 }
 
 /// An expression with what stands behind it, if anything does.
-#[tactic(auto, using(crate::proofs::Nodes::postfix_made))]
 fn with_postfixes(
     alloc: Global,
     operand: Expr,
@@ -69,6 +68,7 @@ fn with_postfixes(
         return Ok(operand);
     }
     let operand = Box::new(alloc, operand)?;
+    expressions_show_their_lists();
     Ok(Expr::Postfix {
         operand,
         operations,
@@ -76,7 +76,6 @@ fn with_postfixes(
 }
 
 /// An expression with the operators behind it, if there are any.
-#[tactic(auto, using(crate::proofs::Nodes::chain_made))]
 fn with_operations(alloc: Global, first: Expr, rest: Vec<Operation>) -> Result<Expr, Stop>
     ensures found { IfOk result (λ e. view_expr e ≡ spec.with_operations (view_expr first) (view_operations rest.items)) }
     ensures stop { IfErr result (λ stop. stop ≡ NoMemory) }
@@ -85,17 +84,21 @@ fn with_operations(alloc: Global, first: Expr, rest: Vec<Operation>) -> Result<E
         return Ok(first);
     }
     let first = Box::new(alloc, first)?;
+    expressions_show_their_lists();
     Ok(Expr::Chain { first, rest })
 }
 
 /// An expression that may stand before an operator of assignment.
-#[tactic(auto, using(crate::proofs::Nodes::chain_is_unary), unfolding(pw_tree::specs::Views::view_expr))]
+#[tactic(auto, unfolding(pw_tree::specs::Views::view_expr))]
 fn is_unary(expr: &Expr) -> bool
     ensures { result ≡ nat_le (level (view_expr expr.now)) unary }
 {
     match expr {
         Expr::Cast { .. } | Expr::Conditional { .. } | Expr::Assign { .. } => false,
-        Expr::Chain { rest, .. } => rest.is_empty(),
+        Expr::Chain { rest, .. } => {
+            expressions_show_their_lists();
+            rest.is_empty()
+        }
         _ => true,
     }
 }
@@ -236,7 +239,7 @@ fn index<'a, P: SmallerParts<'a>>(
     Ok(PostfixOperation::Index { token, index })
 }
 
-#[tactic(auto, using(crate::proofs::Shown::call_shown), unfolding(pw_grammar::specs::Expressions::call))]
+#[tactic(auto, unfolding(pw_grammar::specs::Expressions::call))]
 fn call<'a, P: SmallerParts<'a>>(
     alloc: Global,
     parts: &P,
@@ -248,6 +251,7 @@ fn call<'a, P: SmallerParts<'a>>(
     let token = tokens.take_number();
     let arguments = arguments(alloc, parts, tokens)?;
     tokens.expect(Mark::CloseParen)?;
+    expressions_show_their_lists();
     Ok(PostfixOperation::Call { token, arguments })
 }
 
@@ -344,7 +348,7 @@ fn operated<'a, P: SmallerParts<'a>>(
 }
 
 /// The size of a type, or of an expression (C90 6.3.3.4).
-#[tactic(auto, using(pw_tree::proofs::Rows::sizeof_view), unfolding(pw_grammar::specs::Expressions::size, pw_tree::specs::Views::view_expr))]
+#[tactic(auto, unfolding(pw_grammar::specs::Expressions::size, pw_tree::specs::Views::view_expr))]
 fn size<'a, P: SmallerParts<'a>>(
     alloc: Global,
     parts: &P,
@@ -356,6 +360,7 @@ fn size<'a, P: SmallerParts<'a>>(
     let token = tokens.take_number();
     if opens_type_name(tokens) {
         let named = enclosed_type_name(alloc, parts, tokens)?;
+        expressions_show_their_lists();
         return Ok(Expr::SizeofType { token, named });
     }
     let operand = boxed_expr(alloc, parts, tokens, UNARY)?;
@@ -399,7 +404,7 @@ fn unary_expr<'a, P: SmallerParts<'a>>(
     }
 }
 
-#[tactic(auto, using(pw_tree::proofs::Rows::cast_view), unfolding(pw_grammar::specs::Expressions::cast_to))]
+#[tactic(auto, unfolding(pw_grammar::specs::Expressions::cast_to))]
 fn cast_to<'a, P: SmallerParts<'a>>(
     alloc: Global,
     parts: &P,
@@ -411,6 +416,7 @@ fn cast_to<'a, P: SmallerParts<'a>>(
     let token = tokens.here();
     let named = enclosed_type_name(alloc, parts, tokens)?;
     let operand = boxed_expr(alloc, parts, tokens, CAST)?;
+    expressions_show_their_lists();
     Ok(Expr::Cast {
         token,
         named,
