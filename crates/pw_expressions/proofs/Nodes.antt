@@ -4,7 +4,6 @@ use Rattle.std.proofs.lemmas.Bool.Decides.{nat_tests}
 use Rattle.std.specs.declared.alloc.Global.{Global}
 use Rattle.std.specs.declared.boxed.Box.{Box}
 use Rattle.std.specs.declared.vec.Vec.{Vec}
-use Rattle.pw_tree.proofs.Rows.{postfix_view, chain_view}
 use Rattle.pw_tree.specs.Levels.{level, chain_level, binary_level, unary}
 use Rattle.pw_tree.specs.Trees as tree
 use Rattle.pw_tree.specs.Views.{view_expr, view_postfixes, view_operations}
@@ -29,11 +28,16 @@ some_operations : (e : tree.Expr) (os : List Operation) → (length os ≡ 0 →
 some_operations e [] some = absurd (some refl)
 some_operations e (o ∷ os) some = refl
 
-pub postfix_made : (b : Box Expr Global) (ps : Vec PostfixOperation Global) → (length ps.items ≡ 0 → ⊥) → view_expr (expr.Postfix b ps) ≡ with_postfixes (view_expr b.value) (view_postfixes ps.items)
-postfix_made b ps some = postfix_view b ps ∙ some_postfixes (view_expr b.value) ps.items some
+pub postfix_made : ((b : Box Expr Global) (ps : Vec PostfixOperation Global) → view_expr (expr.Postfix b ps) ≡ tree.Postfix (view_expr b.value) (view_postfixes ps.items))
+    → (b : Box Expr Global) (ps : Vec PostfixOperation Global) → (length ps.items ≡ 0 → ⊥) → view_expr (expr.Postfix b ps) ≡ with_postfixes (view_expr b.value) (view_postfixes ps.items)
+postfix_made law b ps some = law b ps ∙ some_postfixes (view_expr b.value) ps.items some
 
-pub chain_made : (b : Box Expr Global) (os : Vec Operation Global) → (length os.items ≡ 0 → ⊥) → view_expr (expr.Chain b os) ≡ with_operations (view_expr b.value) (view_operations os.items)
-chain_made b os some = chain_view b os ∙ some_operations (view_expr b.value) os.items some
+-- what a chain shows
+abbrev ChainShown : Type 0
+ChainShown = (b : Box Expr Global) (os : Vec Operation Global) → view_expr (expr.Chain b os) ≡ tree.Chain (view_expr b.value) (view_operations os.items)
+
+pub chain_made : ChainShown → (b : Box Expr Global) (os : Vec Operation Global) → (length os.items ≡ 0 → ⊥) → view_expr (expr.Chain b os) ≡ with_operations (view_expr b.value) (view_operations os.items)
+chain_made law b os some = law b os ∙ some_operations (view_expr b.value) os.items some
 
 above_unary : (op : BinaryOperator) → nat_le (binary_level op) unary ≡ false
 above_unary binary.Multiply = refl
@@ -60,5 +64,5 @@ is_none : (os : List Operation) → nat_eq (length os) 0 ≡ nat_le (chain_level
 is_none [] = refl
 is_none (o ∷ os) = let e : nat_eq (length (o ∷ os)) 0 ≡ false = grind (arith, nat_tests) in e ∙ sym (above_unary o.operator)
 
-pub chain_is_unary : (b : Box Expr Global) (os : Vec Operation Global) → nat_eq (length os.items) 0 ≡ nat_le (level (view_expr (expr.Chain b os))) unary
-chain_is_unary b os = is_none os.items ∙ ap (λ e. nat_le (level e) unary) (sym (chain_view b os))
+pub chain_is_unary : ChainShown → (b : Box Expr Global) (os : Vec Operation Global) → nat_eq (length os.items) 0 ≡ nat_le (level (view_expr (expr.Chain b os))) unary
+chain_is_unary law b os = is_none os.items ∙ ap (λ e. nat_le (level e) unary) (sym (law b os))

@@ -2,19 +2,18 @@
 use Rattle.std.proofs.Common.{◌≡◌, ℕ, List, [], ◌∷◌, refl, ap}
 use Rattle.std.specs.declared.alloc.Global.{Global}
 use Rattle.std.specs.declared.vec.Vec.{Vec}
-use Rattle.pw_tree.proofs.Rows.{call_view}
 use Rattle.pw_tree.specs.Trees as tree
-use Rattle.pw_tree.specs.Views.{view_word, view_words, view_postfix, view_postfixes, view_operations, view_arguments}
+use Rattle.pw_tree.specs.Views.{view_postfix, view_postfixes, view_operations, view_arguments}
 use Rattle.pw_tree.specs.declared.expr.Expr.{Expr}
 use Rattle.pw_tree.specs.declared.expr.Operation.{Operation}
 use Rattle.pw_tree.specs.declared.expr.PostfixOperation.{PostfixOperation}
 use Rattle.pw_tree.specs.declared.expr.PostfixOperation as postfix
-use Rattle.pw_tree.specs.declared.expr.Word.{Word}
 use Rattle.pw_expressions.specs.Views.{operation_first, argument_first}
 use Rattle.pw_parts.proofs.Loops.{prepend}
 
-pub call_shown : (t : ℕ) (es : Vec Expr Global) → view_postfix (postfix.Call t es) ≡ tree.Call t (view_arguments es.items)
-call_shown t es = λ j rest. call_view t es rest j
+pub call_shown : ((t : ℕ) (es : Vec Expr Global) (rest : tree.Postfixes) → view_postfix (postfix.Call t es) rest ≡ tree.Call t (view_arguments es.items) rest)
+    → (t : ℕ) (es : Vec Expr Global) → view_postfix (postfix.Call t es) ≡ tree.Call t (view_arguments es.items)
+call_shown law t es = λ j rest. law t es rest j
 
 pub postfixes_shown : (ps : List PostfixOperation) → prepend view_postfix ps tree.NoPostfix ≡ view_postfixes ps
 postfixes_shown [] = refl

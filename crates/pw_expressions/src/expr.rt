@@ -5,6 +5,7 @@ ghost use Rattle.pw_grammar.specs.Expressions as spec;
 ghost use Rattle.pw_cursor.specs.Reads.{Reads};
 ghost use Rattle.pw_expressions.specs.Views.{argument_first, before_operation, before_postfix, before_word, view_argument_list, view_operation_list, view_postfix_list, view_type_name, view_word_list};
 ghost use Rattle.pw_cursor.specs.declared.stop.Stop.TheVariants.{NoMemory};
+ghost use Rattle.pw_parts.specs.Views.{view_boxed};
 ghost use Rattle.pw_tree.specs.Levels.{level, unary};
 ghost use Rattle.pw_tree.specs.Views.{view_expr, view_operations, view_postfix, view_postfixes};
 
@@ -16,7 +17,7 @@ use pw_grammar::Place;
 use pw_parts::{SmallerParts, boxed_expr, some_specifiers};
 use pw_tree::{
     Access, AssignOperator, Expr, Keyword, Lexeme, Mark, Operation, PostfixOperation, StepOperator,
-    TypeName, UnaryOperator, Word,
+    TypeName, UnaryOperator, Word, expressions_show_their_lists,
 };
 use std::alloc::Global;
 
@@ -56,46 +57,42 @@ fn step_behind(tokens: &mut Tokens<'_>, operator: StepOperator) -> PostfixOperat
 }
 
 /// An expression with what stands behind it, if anything does.
-#[tactic(auto, using(crate::proofs::Nodes::postfix_made))]
-fn with_postfixes(
-    alloc: Global,
-    operand: Expr,
-    operations: Vec<PostfixOperation>,
-) -> Result<Expr, Stop>
-    ensures found { IfOk result (λ e. view_expr e ≡ spec.with_postfixes (view_expr operand) (view_postfixes operations.items)) }
-    ensures stop { IfErr result (λ stop. stop ≡ NoMemory) }
+fn with_postfixes(operand: Box<Expr>, operations: Vec<PostfixOperation>) -> Expr
+    ensures { view_expr result ≡ spec.with_postfixes (view_expr operand.value) (view_postfixes operations.items) }
 {
     if operations.is_empty() {
-        return Ok(operand);
+        return Box::into_inner(operand);
     }
-    let operand = Box::new(alloc, operand)?;
-    Ok(Expr::Postfix {
+    expressions_show_their_lists();
+    Expr::Postfix {
         operand,
         operations,
-    })
+    }
 }
 
 /// An expression with the operators behind it, if there are any.
-#[tactic(auto, using(crate::proofs::Nodes::chain_made))]
-fn with_operations(alloc: Global, first: Expr, rest: Vec<Operation>) -> Result<Expr, Stop>
-    ensures found { IfOk result (λ e. view_expr e ≡ spec.with_operations (view_expr first) (view_operations rest.items)) }
+fn with_operations(alloc: Global, first: Box<Expr>, rest: Vec<Operation>) -> Result<Box<Expr>, Stop>
+    ensures found { IfOk result (λ e. view_expr e.value ≡ spec.with_operations (view_expr first.value) (view_operations rest.items)) }
     ensures stop { IfErr result (λ stop. stop ≡ NoMemory) }
 {
     if rest.is_empty() {
         return Ok(first);
     }
-    let first = Box::new(alloc, first)?;
-    Ok(Expr::Chain { first, rest })
+    expressions_show_their_lists();
+    Ok(Box::new(alloc, Expr::Chain { first, rest })?)
 }
 
 /// An expression that may stand before an operator of assignment.
-#[tactic(auto, using(crate::proofs::Nodes::chain_is_unary), unfolding(pw_tree::specs::Views::view_expr))]
+#[tactic(auto, unfolding(pw_tree::specs::Views::view_expr))]
 fn is_unary(expr: &Expr) -> bool
     ensures { result ≡ nat_le (level (view_expr expr.now)) unary }
 {
     match expr {
         Expr::Cast { .. } | Expr::Conditional { .. } | Expr::Assign { .. } => false,
-        Expr::Chain { rest, .. } => rest.is_empty(),
+        Expr::Chain { rest, .. } => {
+            expressions_show_their_lists();
+            rest.is_empty()
+        }
         _ => true,
     }
 }
@@ -231,12 +228,15 @@ fn index<'a, P: SmallerParts<'a>>(
     ensures { Reads view_postfix (spec.index (P.parsers parts.now) tokens.old) result tokens.new }
 {
     let token = tokens.take_number();
-    let index = parts.expr(alloc, tokens, COMMA)?;
+    let index = boxed_expr(alloc, parts, tokens, COMMA)?;
     tokens.expect(Mark::CloseBracket)?;
-    Ok(PostfixOperation::Index { token, index })
+    Ok(PostfixOperation::Index {
+        token,
+        index: Box::into_inner(index),
+    })
 }
 
-#[tactic(auto, using(crate::proofs::Shown::call_shown), unfolding(pw_grammar::specs::Expressions::call))]
+#[tactic(auto, unfolding(pw_grammar::specs::Expressions::call))]
 fn call<'a, P: SmallerParts<'a>>(
     alloc: Global,
     parts: &P,
@@ -248,6 +248,7 @@ fn call<'a, P: SmallerParts<'a>>(
     let token = tokens.take_number();
     let arguments = arguments(alloc, parts, tokens)?;
     tokens.expect(Mark::CloseParen)?;
+    expressions_show_their_lists();
     Ok(PostfixOperation::Call { token, arguments })
 }
 
@@ -320,8 +321,9 @@ fn postfix_expr<'a, P: SmallerParts<'a>>(
     ensures { Reads view_expr (spec.postfix_expr (P.parsers parts.now) tokens.old) result tokens.new }
 {
     let operand = primary(alloc, parts, tokens)?;
+    let operand = Box::new(alloc, operand)?;
     let operations = postfixes(alloc, parts, tokens)?;
-    with_postfixes(alloc, operand, operations)
+    Ok(with_postfixes(operand, operations))
 }
 
 #[tactic(auto, unfolding(pw_grammar::specs::Expressions::operated, pw_tree::specs::Views::view_expr))]
@@ -344,7 +346,7 @@ fn operated<'a, P: SmallerParts<'a>>(
 }
 
 /// The size of a type, or of an expression (C90 6.3.3.4).
-#[tactic(auto, using(pw_tree::proofs::Rows::sizeof_view), unfolding(pw_grammar::specs::Expressions::size, pw_tree::specs::Views::view_expr))]
+#[tactic(auto, unfolding(pw_grammar::specs::Expressions::size, pw_tree::specs::Views::view_expr))]
 fn size<'a, P: SmallerParts<'a>>(
     alloc: Global,
     parts: &P,
@@ -356,6 +358,7 @@ fn size<'a, P: SmallerParts<'a>>(
     let token = tokens.take_number();
     if opens_type_name(tokens) {
         let named = enclosed_type_name(alloc, parts, tokens)?;
+        expressions_show_their_lists();
         return Ok(Expr::SizeofType { token, named });
     }
     let operand = boxed_expr(alloc, parts, tokens, UNARY)?;
@@ -399,7 +402,7 @@ fn unary_expr<'a, P: SmallerParts<'a>>(
     }
 }
 
-#[tactic(auto, using(pw_tree::proofs::Rows::cast_view), unfolding(pw_grammar::specs::Expressions::cast_to))]
+#[tactic(auto, unfolding(pw_grammar::specs::Expressions::cast_to))]
 fn cast_to<'a, P: SmallerParts<'a>>(
     alloc: Global,
     parts: &P,
@@ -411,6 +414,7 @@ fn cast_to<'a, P: SmallerParts<'a>>(
     let token = tokens.here();
     let named = enclosed_type_name(alloc, parts, tokens)?;
     let operand = boxed_expr(alloc, parts, tokens, CAST)?;
+    expressions_show_their_lists();
     Ok(Expr::Cast {
         token,
         named,
@@ -433,6 +437,18 @@ fn cast_expr<'a, P: SmallerParts<'a>>(
     } else {
         unary_expr(alloc, parts, tokens)
     }
+}
+
+fn boxed_cast<'a, P: SmallerParts<'a>>(
+    alloc: Global,
+    parts: &P,
+    tokens: &mut Tokens<'a>,
+) -> Result<Box<Expr>, Stop>
+    requires { P.can_read parts.now }
+    ensures { Reads view_boxed (spec.cast_expr (P.parsers parts.now) tokens.old) result tokens.new }
+{
+    let expr = cast_expr(alloc, parts, tokens)?;
+    Ok(Box::new(alloc, expr)?)
 }
 
 /// An operator of a level and its operand, if one stands next.
@@ -483,22 +499,22 @@ fn conditional_behind<'a, P: SmallerParts<'a>>(
     alloc: Global,
     parts: &P,
     tokens: &mut Tokens<'a>,
-    condition: Expr,
-) -> Result<Expr, Stop>
+    condition: Box<Expr>,
+) -> Result<Box<Expr>, Stop>
     requires { P.can_read parts.now }
-    ensures { Reads view_expr (spec.conditional_behind (P.parsers parts.now) (view_expr condition) tokens.old) result tokens.new }
+    ensures { Reads view_boxed (spec.conditional_behind (P.parsers parts.now) (view_expr condition.value) tokens.old) result tokens.new }
 {
-    let condition = Box::new(alloc, condition)?;
     let token = tokens.take_number();
     let chosen = boxed_expr(alloc, parts, tokens, COMMA)?;
     tokens.expect(Mark::Colon)?;
     let otherwise = boxed_expr(alloc, parts, tokens, CONDITIONAL)?;
-    Ok(Expr::Conditional {
+    let expr = Expr::Conditional {
         token,
         condition,
         chosen,
         otherwise,
-    })
+    };
+    Ok(Box::new(alloc, expr)?)
 }
 
 /// C90 6.3.15
@@ -507,10 +523,10 @@ fn condition_of<'a, P: SmallerParts<'a>>(
     alloc: Global,
     parts: &P,
     tokens: &mut Tokens<'a>,
-    condition: Expr,
-) -> Result<Expr, Stop>
+    condition: Box<Expr>,
+) -> Result<Box<Expr>, Stop>
     requires { P.can_read parts.now }
-    ensures { Reads view_expr (spec.condition_of (P.parsers parts.now) (view_expr condition) tokens.old) result tokens.new }
+    ensures { Reads view_boxed (spec.condition_of (P.parsers parts.now) (view_expr condition.value) tokens.old) result tokens.new }
 {
     if tokens.sees(Mark::Question) {
         conditional_behind(alloc, parts, tokens, condition)
@@ -525,20 +541,20 @@ fn assigned<'a, P: SmallerParts<'a>>(
     parts: &P,
     tokens: &mut Tokens<'a>,
     operator: AssignOperator,
-    left: Expr,
-) -> Result<Expr, Stop>
+    left: Box<Expr>,
+) -> Result<Box<Expr>, Stop>
     requires { P.can_read parts.now }
-    ensures { Reads view_expr (spec.assigned (P.parsers parts.now) (view_expr left) operator tokens.old) result tokens.new }
+    ensures { Reads view_boxed (spec.assigned (P.parsers parts.now) (view_expr left.value) operator tokens.old) result tokens.new }
 {
-    let left = Box::new(alloc, left)?;
     let token = tokens.take_number();
     let right = boxed_expr(alloc, parts, tokens, ASSIGNMENT)?;
-    Ok(Expr::Assign {
+    let expr = Expr::Assign {
         token,
         operator,
         left,
         right,
-    })
+    };
+    Ok(Box::new(alloc, expr)?)
 }
 
 /// C90 6.3.16
@@ -547,10 +563,10 @@ fn assignment_to<'a, P: SmallerParts<'a>>(
     alloc: Global,
     parts: &P,
     tokens: &mut Tokens<'a>,
-    left: Expr,
-) -> Result<Expr, Stop>
+    left: Box<Expr>,
+) -> Result<Box<Expr>, Stop>
     requires { P.can_read parts.now }
-    ensures { Reads view_expr (spec.assignment_to (P.parsers parts.now) (view_expr left) tokens.old) result tokens.new }
+    ensures { Reads view_boxed (spec.assignment_to (P.parsers parts.now) (view_expr left.value) tokens.old) result tokens.new }
 {
     let Some(operator) = assigns(tokens.peek()) else {
         return Ok(left);
@@ -569,10 +585,10 @@ fn goes_on<'a, P: SmallerParts<'a>>(
     parts: &P,
     tokens: &mut Tokens<'a>,
     level: u8,
-    left: Expr,
-) -> Result<Expr, Stop>
+    left: Box<Expr>,
+) -> Result<Box<Expr>, Stop>
     requires { P.can_read parts.now }
-    ensures { Reads view_expr (spec.goes_on (P.parsers parts.now) level (view_expr left) tokens.old) result tokens.new }
+    ensures { Reads view_boxed (spec.goes_on (P.parsers parts.now) level (view_expr left.value) tokens.old) result tokens.new }
 {
     if level == CONDITIONAL {
         return condition_of(alloc, parts, tokens, left);
@@ -598,9 +614,9 @@ pub fn expr_of<'a, P: SmallerParts<'a>>(
     if level <= UNARY {
         return unary_expr(alloc, parts, tokens);
     }
-    let mut found = cast_expr(alloc, parts, tokens)?;
+    let mut found = boxed_cast(alloc, parts, tokens)?;
     for below in CAST..level {
         found = goes_on(alloc, parts, tokens, below + 1, found)?;
     }
-    Ok(found)
+    Ok(Box::into_inner(found))
 }

@@ -7,6 +7,6 @@ use Rattle.pw_expressions.proofs.expr.is_unary.Goals as goal
 
 pub returns-in-Chain : goal.returns-in-Chain
 returns-in-Chain c =
-    let s = chain_is_unary c.in-Chain.first c.in-Chain.rest in
+    let s = chain_is_unary c.expressions_show_their_lists.ensures.chain c.in-Chain.first c.in-Chain.rest in
     let t = ap (λ e. nat_le (level (view_expr e)) unary) c.in-Chain.is in
     first_of (cc, grind (arith, common_steps))

@@ -1,0 +1,7 @@
+use Rattle.std.proofs.Common.{arith}
+use Rattle.std.proofs.lemmas.Grind.{common_steps}
+use Rattle.pw_expressions.proofs.Nodes.{postfix_made}
+use Rattle.pw_expressions.proofs.expr.with_postfixes.Goals as goal
+
+pub returns : goal.returns
+returns c = grind (arith, common_steps, postfix_made c.expressions_show_their_lists.ensures.postfix)
