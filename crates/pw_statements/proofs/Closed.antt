@@ -2,7 +2,7 @@
 use Rattle.std.proofs.Common.{◌≡◌, Ok, Err, refl}
 use Rattle.pw_tree.specs.Trees.{Expr}
 use Rattle.pw_tree.specs.declared.symbol.Mark.{Mark}
-use Rattle.pw_grammar.specs.Input.{Input, Outcome, Parser, and_then, ◌>>=◌, ◌>>◌, pure, expect}
+use Rattle.pw_grammar.specs.Input.{Input, Outcome, Parser, and_then, ◌>>◌, pure, expect}
 use Rattle.pw_statements.specs.Closed.{closed}
 
 behind_mark : {B : Type 0} (e : Expr) (go : Expr → Parser B) (o : Outcome (Unit {0}))

@@ -1,7 +1,4 @@
 -- What stands behind a statement of an `if`, as the values of its rules show it.
-use Rattle.std.specs.Prelude.{Option, Some, None}
-use Rattle.std.specs.declared.alloc.Global.{Global}
-use Rattle.std.specs.declared.boxed.Box.{Box}
 use Rattle.pw_tree.specs.Trees.{Alternative, NoElse, Otherwise}
 use Rattle.pw_tree.specs.Views.{view_else_ifs, view_otherwise, view_stmt}
 use Rattle.pw_statements.specs.declared.stmt.ElseParts.{ElseParts}

@@ -1,5 +1,4 @@
 -- An expression with a mark behind it.
-use Rattle.std.specs.Prelude.{ℕ}
 use Rattle.pw_tree.specs.Trees.{Expr}
 use Rattle.pw_tree.specs.declared.symbol.Mark.{Mark}
 use Rattle.pw_grammar.specs.Input.{Parser, ◌>>=◌, ◌>>◌, pure, expect}

@@ -10,11 +10,14 @@ ghost use Rattle.pw_parts.specs.Views.{view_boxed};
 ghost use Rattle.pw_statements.specs.Heads.{for_head, view_for_head};
 ghost use Rattle.pw_statements.specs.Views.{before_label, before_stmt, else_if_first, view_boxed_stmt, view_label_list, view_optional_box, view_stmt_list};
 ghost use Rattle.pw_cursor.specs.declared.stop.Stop.TheVariants.{NoMemory};
+ghost use Rattle.pw_tree.specs.Trees.{Compound};
 ghost use Rattle.pw_tree.specs.Views.{view_block, view_expr, view_label, view_labels, view_optional, view_stmt};
 
 use crate::parts::StmtParts;
 use pw_cursor::{COMMA, CONDITIONAL, Stop, Tokens};
-use pw_tree::{Block, ElseIf, Expr, Keyword, Label, Lexeme, Mark, Stmt};
+use pw_tree::{
+    Block, ElseIf, Expr, Keyword, Label, Lexeme, Mark, Stmt, statements_show_their_lists,
+};
 use std::alloc::Global;
 
 /// An expression of a level, or one that binds more tightly, with a mark behind it.
@@ -341,7 +344,7 @@ fn alternatives<'a, P: StmtParts<'a>>(
 }
 
 /// C90 6.6.4.1
-#[tactic(auto, using(pw_tree::proofs::Rows::if_view), unfolding(pw_grammar::specs::Statements::if_stmt))]
+#[tactic(auto, unfolding(pw_grammar::specs::Statements::if_stmt))]
 fn if_stmt<'a, P: StmtParts<'a>>(
     alloc: Global,
     parts: &P,
@@ -357,6 +360,7 @@ fn if_stmt<'a, P: StmtParts<'a>>(
         else_ifs,
         otherwise,
     } = alternatives(alloc, parts, tokens)?;
+    statements_show_their_lists();
     Ok(Stmt::If {
         token,
         condition: Box::into_inner(condition),
@@ -548,8 +552,16 @@ fn compound<'a, P: StmtParts<'a>>(
     }
 }
 
+/// A block as a statement.
+fn block_stmt(block: Block) -> Stmt
+    ensures { view_stmt result ≡ Compound (view_block block) }
+{
+    statements_show_their_lists();
+    Stmt::Block(block)
+}
+
 /// A statement without labels.
-#[tactic(auto, using(pw_tree::proofs::Rows::compound_view), unfolding(pw_grammar::specs::Statements::unlabeled))]
+#[tactic(auto, unfolding(pw_grammar::specs::Statements::unlabeled))]
 fn unlabeled<'a, P: StmtParts<'a>>(
     alloc: Global,
     parts: &P,
@@ -559,7 +571,7 @@ fn unlabeled<'a, P: StmtParts<'a>>(
     ensures { Reads view_stmt (spec.unlabeled (P.limit parts.now) (P.parser parts.now) tokens.old) result tokens.new }
 {
     match tokens.peek() {
-        Lexeme::Mark(Mark::OpenBrace) => Ok(Stmt::Block(block(alloc, parts, tokens)?)),
+        Lexeme::Mark(Mark::OpenBrace) => Ok(block_stmt(block(alloc, parts, tokens)?)),
         Lexeme::Mark(Mark::Semicolon) => Ok(empty_stmt(tokens)),
         Lexeme::Keyword(Keyword::Goto) => goto_stmt(alloc, tokens),
         Lexeme::Keyword(Keyword::Continue) => continue_stmt(tokens),

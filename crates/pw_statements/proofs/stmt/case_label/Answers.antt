@@ -1,4 +1,4 @@
-use Rattle.std.proofs.Common.{rules, Some, arith}
+use Rattle.std.proofs.Common.{rules, arith}
 use Rattle.std.proofs.lemmas.Grind.{common_steps}
 use Rattle.pw_tree.specs.Levels.{conditional}
 use Rattle.pw_tree.specs.Trees.{CaseLabel}

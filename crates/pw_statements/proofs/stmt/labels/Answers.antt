@@ -1,10 +1,9 @@
-use Rattle.std.proofs.Common.{rules, ◌≡◌, ◌-◌, [], Ok, ap, ◌∙◌, arith}
+use Rattle.std.proofs.Common.{rules, ◌≡◌, ◌-◌, arith}
 use Rattle.std.proofs.lemmas.Grind.{common_steps}
-use Rattle.pw_grammar.specs.Statements.{label, labels}
-use Rattle.pw_grammar.specs.Input.{turn_of, ◌<$>◌}
+use Rattle.pw_grammar.specs.Statements.{labels}
 use Rattle.pw_statements.specs.Views.{label_first}
 use Rattle.pw_grammar.specs.Input.{turns}
-use Rattle.pw_parts.proofs.Loops.{begins, unrolled, keeps, keeps_last, then_more, then_last, runs_out}
+use Rattle.pw_parts.proofs.Loops.{begins, unrolled, keeps, runs_out}
 use Rattle.pw_statements.proofs.Shown.{labels_shown}
 use Rattle.pw_statements.proofs.stmt.labels.Goals as goal
 

@@ -1,7 +1,6 @@
 use Rattle.std.proofs.Common.{rules, Some, arith}
 use Rattle.std.proofs.lemmas.Grind.{common_steps}
 use Rattle.pw_tree.specs.Levels.{comma}
-use Rattle.pw_tree.specs.declared.symbol.Mark.TheVariants as m
 use Rattle.pw_grammar.specs.Declarations.{parts}
 use Rattle.pw_grammar.specs.Input.{pure}
 use Rattle.pw_grammar.specs.Statements.{up_to}
