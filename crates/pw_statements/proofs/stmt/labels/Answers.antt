@@ -1,6 +1,7 @@
-use Rattle.std.proofs.Common.{rules, ◌≡◌, ◌-◌, arith}
+use Rattle.std.proofs.Common.{rules, ◌≡◌, ◌-◌, [], arith}
 use Rattle.std.proofs.lemmas.Grind.{common_steps}
-use Rattle.pw_grammar.specs.Statements.{labels}
+use Rattle.pw_grammar.specs.Statements.{label, labels}
+use Rattle.pw_grammar.specs.Input.{turn_of, ◌<$>◌}
 use Rattle.pw_statements.specs.Views.{label_first}
 use Rattle.pw_grammar.specs.Input.{turns}
 use Rattle.pw_parts.proofs.Loops.{begins, unrolled, keeps, runs_out}
@@ -11,7 +12,7 @@ pub loop-turn-init : goal.loop-turn-init
 unfolding labels
 loop-turn-init g c =
     let e : c.turns-turn-end.result - 0 ≡ turns c.args.tokens.now = omega arith in
-    begins label_first _ _ _ _ _ c.new-found.ensures.items e
+    begins label_first (turn_of [] <$> label (g.P.StmtParts.limit c.args.parts.now)) _ _ _ _ c.new-found.ensures.items e
 
 pub returns-in_err-label : goal.returns-in_err-label
 returns-in_err-label g c =

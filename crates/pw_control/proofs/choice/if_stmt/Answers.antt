@@ -1,7 +1,7 @@
 use Rattle.std.proofs.Common.{arith}
 use Rattle.std.proofs.lemmas.Grind.{common_steps}
 use Rattle.pw_grammar.specs.Statements.{if_stmt}
-use Rattle.pw_statements.proofs.stmt.if_stmt.Goals as goal
+use Rattle.pw_control.proofs.choice.if_stmt.Goals as goal
 
 pub returns : goal.returns
 unfolding if_stmt
