@@ -8,7 +8,7 @@ work=$(mktemp -d /tmp/bench-parser.XXXXXX)
 trap 'rm -rf "$work"' EXIT
 mkdir -p "$work/crates/bench_parser/src"
 for name in pw_token pw_scope pw_tree pw_grammar pw_grammar_laws pw_cursor pw_parts pw_expressions pw_specifiers \
-    pw_declarators pw_declarations pw_statements pw_phrase pw_parse; do
+    pw_declarators pw_declarations pw_control pw_statements pw_phrase pw_parse; do
     cp -r "$top/crates/$name" "$work/crates/$name"
     grep "^$name:" "$top/crates.txt" >> "$work/crates.txt"
 done

@@ -2,24 +2,24 @@
 use Rattle.std.proofs.Common.{◌≡◌, ℕ, Bool, List, [], ◌∷◌, refl, ap}
 use Rattle.std.specs.declared.alloc.Global.{Global}
 use Rattle.std.specs.declared.vec.Vec.{Vec}
-use Rattle.pw_tree.proofs.Rows.{prototype_view, variadic_view}
 use Rattle.pw_tree.specs.Trees as tree
-use Rattle.pw_tree.specs.Views.{view_word, view_words, view_pointer, view_pointers, view_suffix, view_suffixes, view_parameters}
+use Rattle.pw_tree.specs.Views.{view_pointer, view_pointers, view_suffix, view_suffixes, view_parameters}
 use Rattle.pw_tree.specs.declared.expr.Parameter.{Parameter}
 use Rattle.pw_tree.specs.declared.expr.Pointer.{Pointer}
 use Rattle.pw_tree.specs.declared.expr.Qualifier.{Qualifier}
 use Rattle.pw_tree.specs.declared.expr.Suffix.{Suffix}
 use Rattle.pw_tree.specs.declared.expr.Suffix as suffix
-use Rattle.pw_tree.specs.declared.expr.Word.{Word}
 use Rattle.pw_declarators.specs.Views.{qualifier_first, pointer_first, parameter_first}
 use Rattle.pw_parts.proofs.Loops.{prepend}
 use Rattle.pw_parts.proofs.Shown.{mapped}
 
-pub prototype_shown : (t : ℕ) (ps : Vec Parameter Global) → view_suffix (suffix.Parameters t ps) ≡ tree.Prototype t (view_parameters ps.items)
-prototype_shown t ps = λ j rest. prototype_view t ps rest j
+pub prototype_shown : ((t : ℕ) (ps : Vec Parameter Global) (rest : tree.Suffixes) → view_suffix (suffix.Parameters t ps) rest ≡ tree.Prototype t (view_parameters ps.items) rest)
+    → (t : ℕ) (ps : Vec Parameter Global) → view_suffix (suffix.Parameters t ps) ≡ tree.Prototype t (view_parameters ps.items)
+prototype_shown law t ps = λ j rest. law t ps rest j
 
-pub variadic_shown : (t : ℕ) (ps : Vec Parameter Global) → view_suffix (suffix.Variadic t ps) ≡ tree.Variadic t (view_parameters ps.items)
-variadic_shown t ps = λ j rest. variadic_view t ps rest j
+pub variadic_shown : ((t : ℕ) (ps : Vec Parameter Global) (rest : tree.Suffixes) → view_suffix (suffix.Variadic t ps) rest ≡ tree.Variadic t (view_parameters ps.items) rest)
+    → (t : ℕ) (ps : Vec Parameter Global) → view_suffix (suffix.Variadic t ps) ≡ tree.Variadic t (view_parameters ps.items)
+variadic_shown law t ps = λ j rest. law t ps rest j
 
 pub pointers_shown : (ps : List Pointer) → prepend pointer_first ps [] ≡ view_pointers ps
 pointers_shown = mapped view_pointer

@@ -5,18 +5,23 @@ ghost use Rattle.std.specs.Option.{option_or};
 ghost use Rattle.pw_grammar.specs.Declarators as spec;
 ghost use Rattle.pw_grammar.specs.Input.{Input};
 ghost use Rattle.pw_cursor.specs.Reads.{Reads};
+ghost use Rattle.pw_declarators.specs.Rests as own;
 ghost use Rattle.pw_declarators.specs.Suffixes.{before_suffixed, name_first, parameters_last, suffixed_first, view_behind_name, view_cored, view_names};
 ghost use Rattle.pw_parts.specs.Views.{view_behind, view_declared};
 ghost use Rattle.pw_declarators.specs.Views.{before_pointer, before_qualifier, parameter_first, view_parameters_end, view_pointer_list, view_qualifier_list};
-ghost use Rattle.pw_tree.specs.Views.{view_expr, view_parameters, view_pointer, view_suffix};
+ghost use Rattle.pw_tree.specs.Trees.{Enclosed};
+ghost use Rattle.pw_tree.specs.Views.{view_core, view_declarator, view_parameters, view_pointer, view_suffix};
 
 use pw_cursor::{
     Binding, CONDITIONAL, Stop, Tokens, begins_specifier, has_type, opens_parameters,
     qualifier_word,
 };
 use pw_grammar::Place;
-use pw_parts::{Declared, SmallerParts, declare_name, some_specifiers};
-use pw_tree::{Core, Declarator, Lexeme, Mark, Parameter, Pointer, Qualifier, Suffix, Word};
+use pw_parts::{Declared, SmallerParts, boxed_expr, declare_name, some_specifiers};
+use pw_tree::{
+    Core, Declarator, Lexeme, Mark, Parameter, Pointer, Qualifier, Suffix, Word,
+    declarators_show_their_lists,
+};
 use std::alloc::Global;
 
 /// An identifier of a list, and its bytes in the text.
@@ -102,10 +107,10 @@ fn first_of<'a>(
 }
 
 /// A list of parameters, with or without `, ...` behind it.
-#[tactic(auto, using(crate::proofs::Shown::prototype_shown, crate::proofs::Shown::variadic_shown))]
 fn parameters_suffix(token: usize, parameters: Vec<Parameter>, variadic: bool) -> Suffix
     ensures { view_suffix result ≡ spec.prototype_of token (view_parameters parameters.items, variadic) }
 {
+    declarators_show_their_lists();
     if variadic {
         Suffix::Variadic { token, parameters }
     } else {
@@ -233,8 +238,30 @@ fn may_be_enclosed(tokens: &Tokens<'_>, place: Place, typed: bool) -> bool
     }
 }
 
+/// An array with a length, from the length on.
+#[tactic(auto, unfolding(crate::specs::Rests::sized, pw_tree::specs::Views::view_expr))]
+fn sized_array<'a, P: SmallerParts<'a>>(
+    alloc: Global,
+    parts: &P,
+    tokens: &mut Tokens<'a>,
+    token: usize,
+) -> Result<Suffixed<'a>, Stop>
+    requires { P.can_read parts.now }
+    ensures { Reads suffixed_first (own.sized (P.parsers parts.now) token tokens.old) result tokens.new }
+{
+    let length = boxed_expr(alloc, parts, tokens, CONDITIONAL)?;
+    tokens.expect(Mark::CloseBracket)?;
+    Ok(Suffixed {
+        suffix: Suffix::Array {
+            token,
+            length: Box::into_inner(length),
+        },
+        bindings: Vec::new(alloc),
+    })
+}
+
 /// C90 6.5.4.2
-#[tactic(auto, unfolding(pw_grammar::specs::Declarators::array, pw_tree::specs::Views::view_expr))]
+#[tactic(auto, unfolding(pw_grammar::specs::Declarators::array, crate::specs::Rests::sized, pw_tree::specs::Views::view_expr))]
 fn array<'a, P: SmallerParts<'a>>(
     alloc: Global,
     parts: &P,
@@ -250,12 +277,7 @@ fn array<'a, P: SmallerParts<'a>>(
             bindings: Vec::new(alloc),
         });
     }
-    let length = parts.expr(alloc, tokens, CONDITIONAL)?;
-    tokens.expect(Mark::CloseBracket)?;
-    Ok(Suffixed {
-        suffix: Suffix::Array { token, length },
-        bindings: Vec::new(alloc),
-    })
+    sized_array(alloc, parts, tokens, token)
 }
 
 /// C90 6.5.4.3
@@ -365,7 +387,7 @@ fn listed<'a, P: SmallerParts<'a>>(
 }
 
 /// A list of parameters, or of identifiers behind a name (C90 6.5.4.3).
-#[tactic(auto, using(crate::proofs::Shown::prototype_shown), unfolding(pw_grammar::specs::Declarators::parameter_list))]
+#[tactic(auto, unfolding(pw_grammar::specs::Declarators::parameter_list))]
 fn parameter_list<'a, P: SmallerParts<'a>>(
     alloc: Global,
     parts: &P,
@@ -378,10 +400,7 @@ fn parameter_list<'a, P: SmallerParts<'a>>(
     let token = tokens.take_number();
     if tokens.eat(Mark::CloseParen) {
         return Ok(Suffixed {
-            suffix: Suffix::Parameters {
-                token,
-                parameters: Vec::new(alloc),
-            },
+            suffix: parameters_suffix(token, Vec::new(alloc), false),
             bindings: Vec::new(alloc),
         });
     }
@@ -432,8 +451,39 @@ fn suffixes<'a, P: SmallerParts<'a>>(
     Err(Stop::Fault)
 }
 
+/// A declarator in parentheses, as a core.
+fn enclosing(token: usize, inner: Box<Declarator>) -> Core
+    ensures { view_core result ≡ Enclosed token (view_declarator inner.value) }
+{
+    declarators_show_their_lists();
+    Core::Paren { token, inner }
+}
+
+/// A declarator in parentheses, from behind the `(`.
+#[tactic(auto, unfolding(crate::specs::Rests::parenthesized))]
+fn parenthesized<'a, P: SmallerParts<'a>>(
+    alloc: Global,
+    parts: &P,
+    tokens: &mut Tokens<'a>,
+    place: Place,
+    typed: bool,
+    token: usize,
+) -> Result<Cored<'a>, Stop>
+    requires { P.can_read parts.now }
+    ensures { Reads view_cored (own.parenthesized (P.parsers parts.now) place typed token tokens.old) result tokens.new }
+{
+    let Declared { tree, name, behind } = parts.declarator(alloc, tokens, place, typed)?;
+    let inner = Box::new(alloc, tree)?;
+    tokens.expect(Mark::CloseParen)?;
+    Ok(Cored {
+        core: enclosing(token, inner),
+        name,
+        behind,
+    })
+}
+
 /// A declarator in parentheses.
-#[tactic(auto, using(pw_tree::proofs::Rows::enclosed_view), unfolding(pw_grammar::specs::Declarators::enclosed))]
+#[tactic(auto, unfolding(pw_grammar::specs::Declarators::enclosed, crate::specs::Rests::parenthesized))]
 fn enclosed<'a, P: SmallerParts<'a>>(
     alloc: Global,
     parts: &P,
@@ -448,14 +498,7 @@ fn enclosed<'a, P: SmallerParts<'a>>(
     if !may_be_enclosed(tokens, place, typed) {
         return Err(Stop::Fault);
     }
-    let Declared { tree, name, behind } = parts.declarator(alloc, tokens, place, typed)?;
-    tokens.expect(Mark::CloseParen)?;
-    let inner = Box::new(alloc, tree)?;
-    Ok(Cored {
-        core: Core::Paren { token, inner },
-        name,
-        behind,
-    })
+    parenthesized(alloc, parts, tokens, place, typed, token)
 }
 
 /// What stands between pointers and suffixes.

@@ -2,7 +2,6 @@
 use Rattle.std.proofs.Common.{◌≡◌, ℕ, List, [], ◌∷◌, Option, refl, ap}
 use Rattle.std.specs.declared.alloc.Global.{Global}
 use Rattle.std.specs.declared.vec.Vec.{Vec}
-use Rattle.pw_tree.proofs.Rows.{record_view, enum_view, plain_member_view, bit_field_view}
 use Rattle.pw_tree.specs.Trees as tree
 use Rattle.pw_tree.specs.Views.{view_tag, view_expr, view_specifier, view_specifiers, view_member_declarator, view_member_declarators, view_members, view_enumerator, view_enumerators, view_declarator}
 use Rattle.pw_tree.specs.declared.expr.Declarator.{Declarator}
@@ -18,17 +17,21 @@ use Rattle.pw_tree.specs.declared.expr.Word.{Word}
 use Rattle.pw_specifiers.specs.Views.{member_first}
 use Rattle.pw_parts.proofs.Loops.{prepend}
 
-pub record_shown : (t : ℕ) (r : RecordKind) (tag : Option Word) (ms : Vec Member Global) → view_specifier (specifier.Record t r tag ms) ≡ tree.Record t r (view_tag tag) (view_members ms.items)
-record_shown t r tag ms = λ j rest. record_view t r tag ms rest j
+pub record_shown : ((t : ℕ) (r : RecordKind) (tag : Option Word) (ms : Vec Member Global) (rest : tree.Specifiers) → view_specifier (specifier.Record t r tag ms) rest ≡ tree.Record t r (view_tag tag) (view_members ms.items) rest)
+    → (t : ℕ) (r : RecordKind) (tag : Option Word) (ms : Vec Member Global) → view_specifier (specifier.Record t r tag ms) ≡ tree.Record t r (view_tag tag) (view_members ms.items)
+record_shown law t r tag ms = λ j rest. law t r tag ms rest j
 
-pub enum_shown : (t : ℕ) (tag : Option Word) (es : Vec Enumerator Global) → view_specifier (specifier.Enum t tag es) ≡ tree.Enum t (view_tag tag) (view_enumerators es.items)
-enum_shown t tag es = λ j rest. enum_view t tag es rest j
+pub enum_shown : ((t : ℕ) (tag : Option Word) (es : Vec Enumerator Global) (rest : tree.Specifiers) → view_specifier (specifier.Enum t tag es) rest ≡ tree.Enum t (view_tag tag) (view_enumerators es.items) rest)
+    → (t : ℕ) (tag : Option Word) (es : Vec Enumerator Global) → view_specifier (specifier.Enum t tag es) ≡ tree.Enum t (view_tag tag) (view_enumerators es.items)
+enum_shown law t tag es = λ j rest. law t tag es rest j
 
-pub plain_member_shown : (d : Declarator) → view_member_declarator (member.Plain d) ≡ tree.PlainMember (view_declarator d)
-plain_member_shown d = λ j rest. plain_member_view d rest j
+pub plain_member_shown : ((d : Declarator) (rest : tree.MemberDeclarators) → view_member_declarator (member.Plain d) rest ≡ tree.PlainMember (view_declarator d) rest)
+    → (d : Declarator) → view_member_declarator (member.Plain d) ≡ tree.PlainMember (view_declarator d)
+plain_member_shown law d = λ j rest. law d rest j
 
-pub bit_field_shown : (d : Declarator) (t : ℕ) (e : Expr) → view_member_declarator (member.BitField d t e) ≡ tree.BitField (view_declarator d) t (view_expr e)
-bit_field_shown d t e = λ j rest. bit_field_view d t e rest j
+pub bit_field_shown : ((d : Declarator) (t : ℕ) (e : Expr) (rest : tree.MemberDeclarators) → view_member_declarator (member.BitField d t e) rest ≡ tree.BitField (view_declarator d) t (view_expr e) rest)
+    → (d : Declarator) (t : ℕ) (e : Expr) → view_member_declarator (member.BitField d t e) ≡ tree.BitField (view_declarator d) t (view_expr e)
+bit_field_shown law d t e = λ j rest. law d t e rest j
 
 pub specifiers_shown : (ss : List Specifier) → prepend view_specifier ss tree.NoSpecifier ≡ view_specifiers ss
 specifiers_shown [] = refl

@@ -1,1 +1,2 @@
+pub mod Enumerators
 pub mod Views

@@ -4,14 +4,17 @@ ghost use Rattle.std.specs.Prelude.{◌≡◌, Ok};
 ghost use Rattle.pw_cursor.specs.Reads.{Reads};
 ghost use Rattle.pw_grammar.specs.Specifiers as spec;
 ghost use Rattle.pw_parts.specs.Views.{view_specifier_list};
+ghost use Rattle.pw_specifiers.specs.Enumerators as own;
 ghost use Rattle.pw_specifiers.specs.Views.{before_specifier, member_first, view_enumerator_list, view_member_declarator_list, view_member_list, view_width};
-ghost use Rattle.pw_tree.specs.Views.{view_enumerator, view_expr, view_member_declarator, view_specifier, view_tag};
+ghost use Rattle.pw_tree.specs.Trees.{BitField, PlainMember};
+ghost use Rattle.pw_tree.specs.Views.{view_declarator, view_enumerator, view_expr, view_member_declarator, view_specifier, view_tag, view_word};
 
 use pw_cursor::{CONDITIONAL, Stop, Tokens, has_type, is_type, specifier_word};
 use pw_grammar::{Place, SpecifierWord};
-use pw_parts::{SmallerParts, some_specifiers};
+use pw_parts::{Declared, SmallerParts, boxed_expr, some_specifiers};
 use pw_tree::{
-    Enumerator, Expr, Lexeme, Mark, Member, MemberDeclarator, RecordKind, Specifier, Word,
+    Declarator, Enumerator, Expr, Lexeme, Mark, Member, MemberDeclarator, RecordKind, Specifier,
+    Word, declarators_show_their_lists,
 };
 use std::alloc::Global;
 
@@ -54,7 +57,27 @@ fn padding<'a, P: SmallerParts<'a>>(
     Ok(MemberDeclarator::Padding { token, width })
 }
 
-#[tactic(auto, using(crate::proofs::Shown::plain_member_shown, crate::proofs::Shown::bit_field_shown), unfolding(pw_grammar::specs::Specifiers::named_member))]
+/// A declarator of a member.
+fn plain_member(declarator: Box<Declarator>) -> MemberDeclarator
+    ensures { view_member_declarator result ≡ PlainMember (view_declarator declarator.value) }
+{
+    declarators_show_their_lists();
+    MemberDeclarator::Plain(Box::into_inner(declarator))
+}
+
+/// A declarator of a bit-field, with its width.
+fn bit_field(declarator: Box<Declarator>, token: usize, width: Expr) -> MemberDeclarator
+    ensures { view_member_declarator result ≡ BitField (view_declarator declarator.value) token (view_expr width) }
+{
+    declarators_show_their_lists();
+    MemberDeclarator::BitField {
+        declarator: Box::into_inner(declarator),
+        token,
+        width,
+    }
+}
+
+#[tactic(auto, unfolding(pw_grammar::specs::Specifiers::named_member))]
 fn named_member<'a, P: SmallerParts<'a>>(
     alloc: Global,
     parts: &P,
@@ -64,17 +87,13 @@ fn named_member<'a, P: SmallerParts<'a>>(
     requires { P.can_read parts.now }
     ensures { Reads view_member_declarator (spec.named_member (P.parsers parts.now) typed tokens.old) result tokens.new }
 {
-    let declared = parts.declarator(alloc, tokens, Place::Named, typed)?;
-    let declarator = declared.tree;
+    let Declared { tree, .. } = parts.declarator(alloc, tokens, Place::Named, typed)?;
+    let declarator = Box::new(alloc, tree)?;
     if !tokens.sees(Mark::Colon) {
-        return Ok(MemberDeclarator::Plain(declarator));
+        return Ok(plain_member(declarator));
     }
     let (token, width) = width(alloc, parts, tokens)?;
-    Ok(MemberDeclarator::BitField {
-        declarator,
-        token,
-        width,
-    })
+    Ok(bit_field(declarator, token, width))
 }
 
 #[tactic(auto, unfolding(pw_grammar::specs::Specifiers::member_declarator))]
@@ -156,7 +175,7 @@ fn members<'a, P: SmallerParts<'a>>(
 }
 
 /// A structure or a union (C90 6.5.2.1).
-#[tactic(auto, using(crate::proofs::Shown::record_shown), unfolding(pw_grammar::specs::Specifiers::record_specifier, pw_tree::specs::Views::view_expr, pw_grammar::specs::Specifiers::tagged_record))]
+#[tactic(auto, unfolding(pw_grammar::specs::Specifiers::record_specifier, pw_tree::specs::Views::view_expr, pw_grammar::specs::Specifiers::tagged_record))]
 fn record_specifier<'a, P: SmallerParts<'a>>(
     alloc: Global,
     parts: &P,
@@ -170,6 +189,7 @@ fn record_specifier<'a, P: SmallerParts<'a>>(
     let tag = tag(alloc, tokens)?;
     if tokens.eat(Mark::OpenBrace) {
         let members = members(alloc, parts, tokens)?;
+        declarators_show_their_lists();
         return Ok(Specifier::Record {
             token,
             kind,
@@ -183,8 +203,28 @@ fn record_specifier<'a, P: SmallerParts<'a>>(
     }
 }
 
+/// An enumerator with a value, from the value on.
+#[tactic(auto, unfolding(crate::specs::Enumerators::valued, pw_tree::specs::Views::view_expr))]
+fn valued_enumerator<'a, P: SmallerParts<'a>>(
+    alloc: Global,
+    parts: &P,
+    tokens: &mut Tokens<'a>,
+    text: &'a [u8],
+    name: Word,
+) -> Result<Enumerator, Stop>
+    requires { P.can_read parts.now }
+    ensures { Reads view_enumerator (own.valued (P.parsers parts.now) text.now (view_word name) tokens.old) result tokens.new }
+{
+    let value = boxed_expr(alloc, parts, tokens, CONDITIONAL)?;
+    tokens.declare(text, false)?;
+    Ok(Enumerator::Valued {
+        name,
+        value: Box::into_inner(value),
+    })
+}
+
 /// An enumerator's scope begins behind it, and so behind its value (C90 6.5.2.2).
-#[tactic(auto, unfolding(pw_grammar::specs::Specifiers::enumerator, pw_tree::specs::Views::view_expr, pw_grammar::specs::Input::identifier_by))]
+#[tactic(auto, unfolding(pw_grammar::specs::Specifiers::enumerator, crate::specs::Enumerators::valued, pw_tree::specs::Views::view_expr, pw_grammar::specs::Input::identifier_by))]
 fn enumerator<'a, P: SmallerParts<'a>>(
     alloc: Global,
     parts: &P,
@@ -198,9 +238,7 @@ fn enumerator<'a, P: SmallerParts<'a>>(
     };
     let name = tokens.word(alloc, text)?;
     if tokens.eat(Mark::Equal) {
-        let value = parts.expr(alloc, tokens, CONDITIONAL)?;
-        tokens.declare(text, false)?;
-        return Ok(Enumerator::Valued { name, value });
+        return valued_enumerator(alloc, parts, tokens, text, name);
     }
     tokens.declare(text, false)?;
     Ok(Enumerator::Plain(name))
@@ -242,7 +280,7 @@ fn enumerators<'a, P: SmallerParts<'a>>(
 }
 
 /// C90 6.5.2.2
-#[tactic(auto, using(crate::proofs::Shown::enum_shown), unfolding(pw_grammar::specs::Specifiers::enum_specifier, pw_tree::specs::Views::view_expr, pw_grammar::specs::Specifiers::tagged_enum))]
+#[tactic(auto, unfolding(pw_grammar::specs::Specifiers::enum_specifier, pw_tree::specs::Views::view_expr, pw_grammar::specs::Specifiers::tagged_enum))]
 fn enum_specifier<'a, P: SmallerParts<'a>>(
     alloc: Global,
     parts: &P,
@@ -255,6 +293,7 @@ fn enum_specifier<'a, P: SmallerParts<'a>>(
     let tag = tag(alloc, tokens)?;
     if tokens.eat(Mark::OpenBrace) {
         let enumerators = enumerators(alloc, parts, tokens)?;
+        declarators_show_their_lists();
         return Ok(Specifier::Enum {
             token,
             tag,

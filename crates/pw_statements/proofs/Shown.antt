@@ -1,11 +1,10 @@
 -- What the lists of statements show.
 use Rattle.std.proofs.Common.{◌≡◌, List, [], ◌∷◌, refl, ap}
 use Rattle.pw_tree.specs.Trees as tree
-use Rattle.pw_tree.specs.Views.{view_label, view_labels, view_stmts, view_else_ifs}
-use Rattle.pw_tree.specs.declared.stmt.ElseIf.{ElseIf}
+use Rattle.pw_tree.specs.Views.{view_label, view_labels, view_stmts}
 use Rattle.pw_tree.specs.declared.stmt.Label.{Label}
 use Rattle.pw_tree.specs.declared.stmt.Stmt.{Stmt}
-use Rattle.pw_statements.specs.Views.{label_first, else_if_first, stmt_first}
+use Rattle.pw_statements.specs.Views.{label_first, stmt_first}
 use Rattle.pw_parts.proofs.Loops.{prepend}
 use Rattle.pw_parts.proofs.Shown.{mapped}
 
@@ -15,7 +14,3 @@ labels_shown = mapped view_label
 pub stmts_shown : (ss : List Stmt) → prepend stmt_first ss tree.NoStmt ≡ view_stmts ss
 stmts_shown [] = refl
 stmts_shown (s ∷ ss) = ap (stmt_first s) (stmts_shown ss)
-
-pub else_ifs_shown : (es : List ElseIf) (last : tree.Alternative) → prepend else_if_first es last ≡ view_else_ifs es last
-else_ifs_shown [] last = refl
-else_ifs_shown (e ∷ es) last = ap (else_if_first e) (else_ifs_shown es last)

@@ -1,4 +1,1 @@
 pub mod Views
-pub mod Branches
-pub mod Closed
-pub mod Heads

@@ -1,12 +1,8 @@
 -- What the values of the rules of statements show. `.._first` is an item before the rest of its list.
 use Rattle.std.specs.Prelude.{List, ◌∷◌, Vec, Option, Some, None}
 use Rattle.std.specs.declared.alloc.Global.{Global}
-use Rattle.std.specs.declared.boxed.Box.{Box}
 use Rattle.pw_tree.specs.Trees as tree
-use Rattle.pw_tree.specs.Views.{view_expr, view_label, view_labels, view_stmt, view_stmts}
-use Rattle.pw_parts.specs.Views.{view_boxed}
-use Rattle.pw_tree.specs.declared.expr.Expr.{Expr}
-use Rattle.pw_tree.specs.declared.stmt.ElseIf.{ElseIf}
+use Rattle.pw_tree.specs.Views.{view_label, view_labels, view_stmt, view_stmts}
 use Rattle.pw_tree.specs.declared.stmt.Label.{Label}
 use Rattle.pw_tree.specs.declared.stmt.Stmt.{Stmt}
 
@@ -20,9 +16,6 @@ before_label (Some x) = Some (label_first x)
 abbrev pub view_label_list : Vec Label Global → List tree.Label
 view_label_list xs = view_labels xs.items
 
-abbrev pub else_if_first : ElseIf → tree.Alternative → tree.Alternative
-else_if_first e more = tree.ElseIf e.token (view_expr e.condition) (view_stmt e.chosen) more
-
 abbrev pub stmt_first : Stmt → tree.Stmts → tree.Stmts
 stmt_first s more = tree.Next (view_stmt s) more
 
@@ -32,12 +25,3 @@ before_stmt (Some x) = Some (stmt_first x)
 
 abbrev pub view_stmt_list : Vec Stmt Global → tree.Stmts
 view_stmt_list xs = view_stmts xs.items
-
--- ---- boxes
-
-abbrev pub view_boxed_stmt : Box Stmt Global → tree.Stmt
-view_boxed_stmt b = view_stmt b.value
-
-abbrev pub view_optional_box : Option (Box Expr Global) → Option tree.Expr
-view_optional_box None = None
-view_optional_box (Some b) = Some (view_boxed b)

@@ -2,7 +2,7 @@ use Rattle.std.proofs.Common.{rules, ◌≡◌, ◌-◌, Ok, ap, ◌∙◌, arit
 use Rattle.std.proofs.lemmas.Grind.{common_steps}
 use Rattle.pw_tree.specs.Trees.{NoParameter}
 use Rattle.pw_grammar.specs.Declarators.{parameter, parameters_end, parameters}
-use Rattle.pw_grammar.specs.Input.{turns}
+use Rattle.pw_grammar.specs.Input.{turns, turn_with, ◌<$>◌, ◌>>=◌}
 use Rattle.pw_declarators.specs.Views.{parameter_first}
 use Rattle.pw_parts.proofs.Loops.{begins, unrolled, keeps, keeps_last, then_more, then_last, runs_out}
 use Rattle.pw_declarators.proofs.Shown.{parameters_shown}
@@ -12,7 +12,7 @@ pub loop-turn-init : goal.loop-turn-init
 unfolding parameters
 loop-turn-init g c =
     let e : c.turns-turn-end.result - 0 ≡ turns c.args.tokens.now = omega arith in
-    begins parameter_first _ _ _ _ _ c.new-found.ensures.items e
+    begins parameter_first (parameter (g.P.SmallerParts.parsers c.args.parts.now) >>= λ first. turn_with first <$> parameters_end) _ _ _ _ c.new-found.ensures.items e
 
 pub returns-in_err-parameter : goal.returns-in_err-parameter
 returns-in_err-parameter g c =

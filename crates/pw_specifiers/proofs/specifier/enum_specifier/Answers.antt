@@ -6,4 +6,6 @@ use Rattle.pw_specifiers.proofs.specifier.enum_specifier.Goals as goal
 
 pub returns-then-eat : goal.returns-then-eat
 unfolding enum_specifier
-returns-then-eat g c = first_of (search (rules, enum_shown), grind (arith, common_steps, enum_shown))
+returns-then-eat g c =
+    let shown = enum_shown c.declarators_show_their_lists.ensures.enumerations in
+    first_of (search (rules, shown), grind (arith, common_steps, shown))

@@ -4,7 +4,7 @@ use Rattle.pw_grammar.specs.Specifiers.{member_declarator, member_declarators}
 use Rattle.pw_grammar.specs.Input.{unless_comma}
 use Rattle.pw_tree.specs.Views.{view_member_declarator}
 use Rattle.pw_tree.specs.Trees.{NoMemberDeclarator}
-use Rattle.pw_grammar.specs.Input.{turns}
+use Rattle.pw_grammar.specs.Input.{turns, turn_with, ◌<$>◌, ◌>>=◌}
 use Rattle.pw_parts.proofs.Loops.{begins, unrolled, keeps, keeps_last, then_more, then_last, runs_out}
 use Rattle.pw_specifiers.proofs.Shown.{member_declarators_shown}
 use Rattle.pw_specifiers.proofs.specifier.member_declarators.Goals as goal
@@ -13,7 +13,7 @@ pub loop-turn-init : goal.loop-turn-init
 unfolding member_declarators
 loop-turn-init g c =
     let e : c.turns-turn-end.result - 0 ≡ turns c.args.tokens.now = omega arith in
-    begins view_member_declarator _ _ _ _ _ c.new-found.ensures.items e
+    begins view_member_declarator (member_declarator (g.P.SmallerParts.parsers c.args.parts.now) c.args.typed >>= λ first. turn_with first <$> unless_comma NoMemberDeclarator) _ _ _ _ c.new-found.ensures.items e
 
 pub returns-in_err-declarator : goal.returns-in_err-declarator
 returns-in_err-declarator g c =

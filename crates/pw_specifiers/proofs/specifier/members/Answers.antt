@@ -4,7 +4,7 @@ use Rattle.pw_grammar.specs.Specifiers.{member, members}
 use Rattle.pw_specifiers.specs.Views.{member_first}
 use Rattle.pw_tree.specs.Trees.{NoMember}
 use Rattle.pw_grammar.specs.Specifiers.{closes_members}
-use Rattle.pw_grammar.specs.Input.{turns}
+use Rattle.pw_grammar.specs.Input.{turns, turn_with, ◌<$>◌, ◌>>=◌}
 use Rattle.pw_parts.proofs.Loops.{begins, unrolled, keeps, keeps_last, then_more, then_last, runs_out}
 use Rattle.pw_specifiers.proofs.Shown.{members_shown}
 use Rattle.pw_specifiers.proofs.specifier.members.Goals as goal
@@ -13,7 +13,7 @@ pub loop-turn-init : goal.loop-turn-init
 unfolding members
 loop-turn-init g c =
     let e : c.turns-turn-end.result - 0 ≡ turns c.args.tokens.now = omega arith in
-    begins member_first _ _ _ _ _ c.new-found.ensures.items e
+    begins member_first (member (g.P.SmallerParts.parsers c.args.parts.now) >>= λ first. turn_with first <$> closes_members) _ _ _ _ c.new-found.ensures.items e
 
 pub returns-in_err-member : goal.returns-in_err-member
 returns-in_err-member g c =

@@ -6,4 +6,6 @@ use Rattle.pw_specifiers.proofs.specifier.record_specifier.Goals as goal
 
 pub returns-then-eat : goal.returns-then-eat
 unfolding record_specifier
-returns-then-eat g c = first_of (search (rules, record_shown), grind (arith, common_steps, record_shown))
+returns-then-eat g c =
+    let shown = record_shown c.declarators_show_their_lists.ensures.records in
+    first_of (search (rules, shown), grind (arith, common_steps, shown))

@@ -4,7 +4,7 @@ use Rattle.pw_grammar.specs.Specifiers.{enumerator, some_enumerators}
 use Rattle.pw_grammar.specs.Input.{unless_comma}
 use Rattle.pw_tree.specs.Views.{view_enumerator}
 use Rattle.pw_tree.specs.Trees.{NoEnumerator}
-use Rattle.pw_grammar.specs.Input.{turns}
+use Rattle.pw_grammar.specs.Input.{turns, turn_with, ◌<$>◌, ◌>>=◌}
 use Rattle.pw_parts.proofs.Loops.{begins, unrolled, keeps, keeps_last, then_more, then_last, runs_out}
 use Rattle.pw_specifiers.proofs.Shown.{enumerators_shown}
 use Rattle.pw_specifiers.proofs.specifier.some_enumerators.Goals as goal
@@ -13,7 +13,7 @@ pub loop-turn-init : goal.loop-turn-init
 unfolding some_enumerators
 loop-turn-init g c =
     let e : c.turns-turn-end.result - 0 ≡ turns c.args.tokens.now = omega arith in
-    begins view_enumerator _ _ _ _ _ c.new-found.ensures.items e
+    begins view_enumerator (enumerator (g.P.SmallerParts.parsers c.args.parts.now) >>= λ first. turn_with first <$> unless_comma NoEnumerator) _ _ _ _ c.new-found.ensures.items e
 
 pub returns-in_err-enumerator : goal.returns-in_err-enumerator
 returns-in_err-enumerator g c =

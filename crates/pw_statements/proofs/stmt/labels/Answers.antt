@@ -1,10 +1,10 @@
-use Rattle.std.proofs.Common.{rules, ◌≡◌, ◌-◌, [], Ok, ap, ◌∙◌, arith}
+use Rattle.std.proofs.Common.{rules, ◌≡◌, ◌-◌, [], arith}
 use Rattle.std.proofs.lemmas.Grind.{common_steps}
 use Rattle.pw_grammar.specs.Statements.{label, labels}
 use Rattle.pw_grammar.specs.Input.{turn_of, ◌<$>◌}
 use Rattle.pw_statements.specs.Views.{label_first}
 use Rattle.pw_grammar.specs.Input.{turns}
-use Rattle.pw_parts.proofs.Loops.{begins, unrolled, keeps, keeps_last, then_more, then_last, runs_out}
+use Rattle.pw_parts.proofs.Loops.{begins, unrolled, keeps, runs_out}
 use Rattle.pw_statements.proofs.Shown.{labels_shown}
 use Rattle.pw_statements.proofs.stmt.labels.Goals as goal
 
@@ -12,7 +12,7 @@ pub loop-turn-init : goal.loop-turn-init
 unfolding labels
 loop-turn-init g c =
     let e : c.turns-turn-end.result - 0 ≡ turns c.args.tokens.now = omega arith in
-    begins label_first _ _ _ _ _ c.new-found.ensures.items e
+    begins label_first (turn_of [] <$> label (g.P.StmtParts.limit c.args.parts.now)) _ _ _ _ c.new-found.ensures.items e
 
 pub returns-in_err-label : goal.returns-in_err-label
 returns-in_err-label g c =

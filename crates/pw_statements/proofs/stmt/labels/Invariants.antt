@@ -1,4 +1,4 @@
-use Rattle.std.proofs.Common.{◌-◌, [], Some, None}
+use Rattle.std.proofs.Common.{◌-◌, []}
 use Rattle.pw_grammar.specs.Statements.{label, labels}
 use Rattle.pw_grammar.specs.Input.{turn_of, ◌<$>◌}
 use Rattle.pw_statements.specs.Views.{label_first}

@@ -1,11 +1,11 @@
-use Rattle.std.proofs.Common.{rules, ◌≡◌, ◌-◌, [], Ok, ap, ◌∙◌, arith}
+use Rattle.std.proofs.Common.{rules, ◌≡◌, ◌-◌, arith}
 use Rattle.std.proofs.lemmas.Grind.{common_steps}
 use Rattle.pw_grammar.specs.Statements.{stmt_next, stmts}
 use Rattle.pw_grammar.specs.Input.{turn_of, ◌<$>◌}
 use Rattle.pw_statements.specs.Views.{stmt_first}
 use Rattle.pw_tree.specs.Trees.{NoStmt}
 use Rattle.pw_grammar.specs.Input.{turns}
-use Rattle.pw_parts.proofs.Loops.{begins, unrolled, keeps, keeps_last, then_more, then_last, runs_out}
+use Rattle.pw_parts.proofs.Loops.{begins, unrolled, keeps, runs_out}
 use Rattle.pw_statements.proofs.Shown.{stmts_shown}
 use Rattle.pw_statements.proofs.stmt.stmts.Goals as goal
 
@@ -13,7 +13,7 @@ pub loop-turn-init : goal.loop-turn-init
 unfolding stmts
 loop-turn-init g c =
     let e : c.turns-turn-end.result - 0 ≡ turns c.args.tokens.now = omega arith in
-    begins stmt_first _ _ _ _ _ c.new-found.ensures.items e
+    begins stmt_first (turn_of NoStmt <$> stmt_next (g.P.StmtParts.limit c.args.parts.now) (g.P.StmtParts.parser c.args.parts.now)) _ _ _ _ c.new-found.ensures.items e
 
 pub returns-in_err-stmt : goal.returns-in_err-stmt
 returns-in_err-stmt g c =

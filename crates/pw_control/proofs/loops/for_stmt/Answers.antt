@@ -4,8 +4,8 @@ use Rattle.pw_tree.specs.Trees.{For}
 use Rattle.pw_tree.specs.Views.{view_stmt}
 use Rattle.pw_grammar.specs.Input.{◌>>=◌, pure}
 use Rattle.pw_grammar.specs.Statements.{for_stmt}
-use Rattle.pw_statements.proofs.Heads.{behind_for_head}
-use Rattle.pw_statements.proofs.stmt.for_stmt.Goals as goal
+use Rattle.pw_control.proofs.Heads.{behind_for_head}
+use Rattle.pw_control.proofs.loops.for_stmt.Goals as goal
 
 pub returns-in_err-head : goal.returns-in_err-head
 unfolding for_stmt view_stmt

@@ -2,9 +2,9 @@
 use Rattle.std.proofs.Common.{◌≡◌, ℕ, Option, Ok, Err, refl}
 use Rattle.pw_tree.specs.Trees.{Expr}
 use Rattle.pw_tree.specs.declared.symbol.Mark.TheVariants as m
-use Rattle.pw_grammar.specs.Input.{Input, Outcome, Parser, and_then, ◌>>=◌, ◌>>◌, pure, expect}
+use Rattle.pw_grammar.specs.Input.{Input, Outcome, Parser, and_then, ◌>>=◌, pure, expect}
 use Rattle.pw_grammar.specs.Statements.{up_to}
-use Rattle.pw_statements.specs.Heads.{Head, for_head}
+use Rattle.pw_control.specs.Heads.{Head, for_head}
 
 module _ {B : Type 0} (limit : ℕ) (go : Option Expr → Option Expr → Option Expr → Parser B) where
   abbrev onward : Head → Parser B

@@ -1,8 +1,8 @@
 use Rattle.std.proofs.Common.{◌-◌}
 use Rattle.pw_grammar.specs.Statements.{alternative, alternatives}
-use Rattle.pw_statements.specs.Views.{else_if_first}
+use Rattle.pw_control.specs.Views.{else_if_first}
 use Rattle.pw_parts.proofs.Loops.{Reading, prepend}
-use Rattle.pw_statements.proofs.stmt.alternatives.Given as goal
+use Rattle.pw_control.proofs.choice.alternatives.Given as goal
 
 abbrev pub invariant-loop-turn : goal.invariant-loop-turn
 invariant-loop-turn g l =

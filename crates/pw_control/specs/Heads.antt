@@ -4,8 +4,8 @@ use Rattle.pw_tree.specs.Trees.{Expr}
 use Rattle.pw_tree.specs.declared.symbol.Mark.TheVariants as m
 use Rattle.pw_grammar.specs.Input.{Parser, ◌>>=◌, ◌>>◌, pure, expect}
 use Rattle.pw_grammar.specs.Statements.{up_to}
-use Rattle.pw_statements.specs.declared.stmt.ForHead.{ForHead}
-use Rattle.pw_statements.specs.Views.{view_optional_box}
+use Rattle.pw_control.specs.declared.loops.ForHead.{ForHead}
+use Rattle.pw_control.specs.Views.{view_optional_box}
 
 -- its three expressions, each of which may be left out
 abbrev pub Head : Type 0
