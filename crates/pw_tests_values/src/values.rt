@@ -12,10 +12,9 @@ use pw_value::{
     decode_pointer, encode, words,
 };
 use std::alloc::{AllocError, Global};
-use std::test::Fail;
 
 /// How many bytes a name has, and whether there is such a name.
-const NAMES: [(usize, bool); 5] = [(0, false), (1, true), (2, true), (400, true), (401, false)];
+static NAMES: [(usize, bool); 5] = [(0, false), (1, true), (2, true), (400, true), (401, false)];
 
 /// How many bytes the name of so many bytes has, or nothing where it is refused for its length.
 fn length_of_name(alloc: Global, count: usize) -> Option<usize> {
@@ -27,30 +26,42 @@ fn length_of_name(alloc: Global, count: usize) -> Option<usize> {
     }
 }
 
-#[test]
-fn names(rt: HostRuntime) {
-    for (count, lawful) in NAMES {
-        let wanted = if lawful { Some(count) } else { None };
-        assert!(rt; length_of_name(rt.alloc(), count) == wanted, "{count}");
+fn are_lengths_of_names(alloc: Global) -> bool {
+    for (count, lawful) in NAMES.iter() {
+        let wanted = if *lawful { Some(*count) } else { None };
+        if length_of_name(alloc, *count) != wanted {
+            return false;
+        }
+    }
+    true
+}
+
+/// Whether the name is equal to its copy.
+fn is_copied(alloc: Global, name: &Name) -> bool {
+    match name.copy(alloc) {
+        Ok(copy) => copy == *name,
+        Err(_) => false,
     }
 }
 
-/// Names in byte order.
-const ORDER: [(&str, &str); 2] = [("ab", "b"), ("a", "ab")];
+/// Whether the name comes before the one of these bytes, and is equal to its copy.
+fn is_name_before(alloc: Global, name: &Name, greater: &[u8]) -> bool {
+    match Name::new(alloc, greater) {
+        Ok(other) => *name < other && is_copied(alloc, name),
+        Err(_) => false,
+    }
+}
 
 /// Whether the first name comes before the second, and is equal to its copy.
-fn is_before(alloc: Global, less: &str, greater: &str) -> Result<bool, NameError> {
-    let one = Name::new(alloc, less.as_bytes())?;
-    let other = Name::new(alloc, greater.as_bytes())?;
-    Ok(one < other && one.copy(alloc)? == one)
+fn is_before(alloc: Global, less: &[u8], greater: &[u8]) -> bool {
+    match Name::new(alloc, less) {
+        Ok(name) => is_name_before(alloc, &name, greater),
+        Err(_) => false,
+    }
 }
 
-#[test]
-fn order_of_names(rt: HostRuntime) -> Result<(), Fail> {
-    for (less, greater) in ORDER {
-        assert!(rt; is_before(rt.alloc(), less, greater)?, "{less}");
-    }
-    Ok(())
+fn are_names_in_byte_order(alloc: Global) -> bool {
+    is_before(alloc, b"ab", b"b") && is_before(alloc, b"a", b"ab")
 }
 
 /// Two shapes, and whether they agree.
@@ -70,19 +81,43 @@ static SHAPES: [(&str, &str, bool); 13] = [
     ("!i", "i", false),
 ];
 
-/// Whether the answer to whether two shapes agree is this one, also the other way round.
-fn answers(alloc: Global, one: &str, other: &str, wanted: bool) -> Result<bool, AllocError> {
-    let a = Shape::new(Vec::from_slice(alloc, one.as_bytes())?);
-    let b = Shape::new(Vec::from_slice(alloc, other.as_bytes())?);
-    Ok(agree(&a, &b) == wanted && agree(&b, &a.copy(alloc)?) == wanted)
+fn shape(alloc: Global, text: &str) -> Result<Shape, AllocError> {
+    Ok(Shape::new(Vec::from_slice(alloc, text.as_bytes())?))
 }
 
-#[test]
-fn shapes(rt: HostRuntime) -> Result<(), Fail> {
-    for (one, other, wanted) in SHAPES.iter() {
-        assert!(rt; answers(rt.alloc(), one, other, *wanted)?, "{one}");
+/// Whether a shape agrees with the copy of another; the wrong answer where there is no memory.
+fn agrees_with_copy(alloc: Global, one: &Shape, other: &Shape) -> bool {
+    match other.copy(alloc) {
+        Ok(copy) => agree(one, &copy),
+        Err(_) => !agree(one, other),
     }
-    Ok(())
+}
+
+/// Whether the answer to whether a shape agrees with that of a text is this one, also the other way round.
+fn agrees_with_text(alloc: Global, one: &Shape, text: &str, wanted: bool) -> bool {
+    match shape(alloc, text) {
+        Ok(other) => {
+            agree(one, &other) == wanted && agrees_with_copy(alloc, &other, one) == wanted
+        }
+        Err(_) => false,
+    }
+}
+
+/// Whether the answer to whether two shapes agree is this one, also the other way round.
+fn answers(alloc: Global, one: &str, other: &str, wanted: bool) -> bool {
+    match shape(alloc, one) {
+        Ok(found) => agrees_with_text(alloc, &found, other, wanted),
+        Err(_) => false,
+    }
+}
+
+fn do_shapes_agree(alloc: Global) -> bool {
+    for (one, other, wanted) in SHAPES.iter() {
+        if !answers(alloc, one, other, *wanted) {
+            return false;
+        }
+    }
+    true
 }
 
 const P: Pointer = Pointer::Object(7, 12);
@@ -124,11 +159,13 @@ const ENCODINGS: [(Value, u8, [Byte; 4]); 7] = [
     ),
 ];
 
-#[test]
-fn values_to_bytes(rt: HostRuntime) {
+fn are_values_encoded() -> bool {
     for (value, width, wanted) in ENCODINGS {
-        assert!(rt; encode(value, width) == wanted);
+        if encode(value, width) != wanted {
+            return false;
+        }
     }
+    true
 }
 
 const ONES: [Byte; 4] = [Num(0xff), Num(0xff), Num(0xff), Num(0xff)];
@@ -168,11 +205,13 @@ const SCALARS: [([Byte; 4], u8, bool, Value); 9] = [
     (PIECES, 2, true, Value::Undefined),
 ];
 
-#[test]
-fn scalars_in_bytes(rt: HostRuntime) {
+fn are_scalars_decoded() -> bool {
     for (bytes, width, signed, wanted) in SCALARS {
-        assert!(rt; decode(bytes, width, signed) == wanted);
+        if decode(bytes, width, signed) != wanted {
+            return false;
+        }
     }
+    true
 }
 
 /// Bytes, and the pointer that stands there.
@@ -193,11 +232,13 @@ const POINTERS: [([Byte; 4], Value); 5] = [
     ([Num(0), Num(0), Num(0), Num(1)], Value::Undefined),
 ];
 
-#[test]
-fn pointers_in_bytes(rt: HostRuntime) {
+fn are_pointers_decoded() -> bool {
     for (bytes, wanted) in POINTERS {
-        assert!(rt; decode_pointer(bytes) == wanted);
+        if decode_pointer(bytes) != wanted {
+            return false;
+        }
     }
+    true
 }
 
 #[derive(Clone, Copy)]
@@ -278,15 +319,17 @@ static OPERATIONS: [(Operation, u32, u32, Result<u32, WordFault>); 33] = [
     (Operation::UnsignedRight, LEAST, M1, Err(ShiftCount)),
 ];
 
-#[test]
-fn operations_on_words(rt: HostRuntime) {
+fn are_words_operated_on() -> bool {
     for (operation, a, b, wanted) in OPERATIONS.iter() {
-        assert!(rt; operate(*operation, *a, *b) == *wanted, "{a} {b}");
+        if operate(*operation, *a, *b) != *wanted {
+            return false;
+        }
     }
+    true
 }
 
 /// Two words, and whether the first is less and at most the second: as ints, and as unsigned ints.
-const ORDERS: [(u32, u32, (bool, bool), (bool, bool)); 5] = [
+static ORDERS: [(u32, u32, (bool, bool), (bool, bool)); 5] = [
     (M1, 1, (true, true), (false, false)),
     (1, M1, (false, false), (true, true)),
     (LEAST, GREATEST, (true, true), (false, false)),
@@ -294,59 +337,68 @@ const ORDERS: [(u32, u32, (bool, bool), (bool, bool)); 5] = [
     (M2, M2, (false, true), (false, true)),
 ];
 
-#[test]
-fn order_of_words(rt: HostRuntime) {
-    for (a, b, signed, unsigned) in ORDERS {
-        let holds = words::signed_less(a, b) == signed.0
-            && words::signed_at_most(a, b) == signed.1
-            && words::unsigned_less(a, b) == unsigned.0
-            && words::unsigned_at_most(a, b) == unsigned.1;
-        assert!(rt; holds, "{a} {b}");
+/// Whether the first word is less and at most the second, as ints.
+fn signed_order(a: u32, b: u32) -> (bool, bool) {
+    (words::signed_less(a, b), words::signed_at_most(a, b))
+}
+
+/// The same as unsigned ints.
+fn unsigned_order(a: u32, b: u32) -> (bool, bool) {
+    (words::unsigned_less(a, b), words::unsigned_at_most(a, b))
+}
+
+fn are_words_in_order() -> bool {
+    for (a, b, signed, unsigned) in ORDERS.iter() {
+        if signed_order(*a, *b) != *signed || unsigned_order(*a, *b) != *unsigned {
+            return false;
+        }
     }
+    true
 }
 
 /// A word, its negation as an int, and as an unsigned int.
-const NEGATIONS: [(u32, Result<u32, WordFault>, u32); 4] = [
+static NEGATIONS: [(u32, Result<u32, WordFault>, u32); 4] = [
     (0, Ok(0), 0),
     (3, Ok(M3), M3),
     (M7, Ok(7), 7),
     (LEAST, Err(Overflow), LEAST),
 ];
 
-#[test]
-fn negations(rt: HostRuntime) {
-    for (a, signed, unsigned) in NEGATIONS {
-        let holds = words::signed_negation(a) == signed && words::unsigned_negation(a) == unsigned;
-        assert!(rt; holds, "{a}");
+fn are_words_negated() -> bool {
+    for (a, signed, unsigned) in NEGATIONS.iter() {
+        if words::signed_negation(*a) != *signed || words::unsigned_negation(*a) != *unsigned {
+            return false;
+        }
     }
+    true
 }
 
 /// Two words, and their sum, difference and product as unsigned ints.
-const REDUCED: [(u32, u32, u32, u32, u32); 3] = [
-    (M1, 2, 1, M3, M2),
-    (0, 7, 7, M7, 0),
-    (65536, 65536, 131_072, 0, 0),
+static REDUCED: [(u32, u32, [u32; 3]); 3] = [
+    (M1, 2, [1, M3, M2]),
+    (0, 7, [7, M7, 0]),
+    (65536, 65536, [131_072, 0, 0]),
 ];
 
-#[test]
-fn unsigned_results(rt: HostRuntime) {
-    for (a, b, sum, difference, product) in REDUCED {
-        let holds = words::unsigned_sum(a, b) == sum
-            && words::unsigned_difference(a, b) == difference
-            && words::unsigned_product(a, b) == product;
-        assert!(rt; holds, "{a} {b}");
-    }
+fn unsigned_results(a: u32, b: u32) -> [u32; 3] {
+    [
+        words::unsigned_sum(a, b),
+        words::unsigned_difference(a, b),
+        words::unsigned_product(a, b),
+    ]
 }
 
-#[test]
-fn fields_written(rt: HostRuntime) -> Result<(), Fail> {
-    let out = fields(rt.alloc())?;
-    assert!(rt; out.as_slice() == FIELDS.as_slice());
-    Ok(())
+fn are_words_reduced() -> bool {
+    for (a, b, wanted) in REDUCED.iter() {
+        if unsigned_results(*a, *b) != *wanted {
+            return false;
+        }
+    }
+    true
 }
 
 /// A byte, a number of four bytes, one of eight, a truth value and a text.
-const FIELDS: [u8; 20] = [
+static FIELDS: [u8; 20] = [
     171, 1, 2, 3, 4, 5, 6, 7, 8, 9, 10, 11, 12, 1, 0, 0, 0, 2, 104, 105,
 ];
 
@@ -360,20 +412,36 @@ fn fields(alloc: Global) -> Result<Vec<u8>, AllocError> {
     Ok(out)
 }
 
-/// Whether the fields are read from the bytes, with nothing behind them.
-fn are_fields(alloc: Global, bytes: &[u8]) -> Result<bool, FieldError> {
+fn are_fields_written(alloc: Global) -> bool {
+    match fields(alloc) {
+        Ok(out) => out.as_slice() == FIELDS.as_slice(),
+        Err(_) => false,
+    }
+}
+
+/// Whether the truth value and the text are read from the bytes, with nothing behind them.
+fn are_last_fields(alloc: Global, bytes: &[u8]) -> Result<bool, FieldError> {
+    let (truth, rest) = read_flag(bytes)?;
+    let (text, rest) = read_text(alloc, rest)?;
+    Ok(truth && text.as_slice() == b"hi".as_slice() && rest.is_empty())
+}
+
+/// The numbers at the front of the bytes, and what is behind them.
+fn numbers_at(bytes: &[u8]) -> Result<((u8, u32, u64), &[u8]), FieldError> {
     let (byte, rest) = read_u8(bytes)?;
     let (four, rest) = read_u32(rest)?;
     let (eight, rest) = read_u64(rest)?;
-    let (truth, rest) = read_flag(rest)?;
-    let (text, rest) = read_text(alloc, rest)?;
-    let numbers = byte == 171 && four == 0x0102_0304 && eight == 0x0506_0708_090a_0b0c && truth;
-    Ok(numbers && text.as_slice() == b"hi".as_slice() && rest.is_empty())
+    Ok(((byte, four, eight), rest))
 }
 
-#[test]
-fn fields_read(rt: HostRuntime) {
-    assert!(rt; matches!(are_fields(rt.alloc(), &FIELDS), Ok(true)));
+/// Whether the fields are read from the bytes, with nothing behind them.
+fn are_fields_read(alloc: Global) -> bool {
+    match numbers_at(&FIELDS) {
+        Ok(((171, 0x0102_0304, 0x0506_0708_090a_0b0c), rest)) => {
+            are_last_fields(alloc, rest) == Ok(true)
+        }
+        _ => false,
+    }
 }
 
 /// How many bytes are left where a fault is.
@@ -384,16 +452,15 @@ fn left_of(fault: Option<FieldError>) -> Option<usize> {
     }
 }
 
-#[test]
-fn short_fields(rt: HostRuntime) {
+fn are_short_fields_refused(alloc: Global) -> bool {
     let flag = left_of(read_flag(&[2, 1]).err());
     let number = left_of(read_u32(&[2, 1]).err());
-    let text = left_of(read_text(rt.alloc(), &[0, 0, 0, 3, 1, 2]).err());
-    assert!(rt; flag == Some(2) && number == Some(2) && text == Some(6));
+    let text = left_of(read_text(alloc, &[0, 0, 0, 3, 1, 2]).err());
+    [flag, number, text] == [Some(2), Some(2), Some(6)]
 }
 
 /// The table of the names `a` and `b`.
-const TABLE: [u8; 14] = [0, 0, 0, 2, 0, 0, 0, 1, 97, 0, 0, 0, 1, 98];
+static TABLE: [u8; 14] = [0, 0, 0, 2, 0, 0, 0, 1, 97, 0, 0, 0, 1, 98];
 
 /// The table of three names.
 fn table(alloc: Global, names: [&Name; 3]) -> Result<Vec<Name>, AllocError> {
@@ -412,33 +479,46 @@ fn is_table(alloc: Global, names: &[Name]) -> bool {
     }
 }
 
-#[test]
-fn tables_made(rt: HostRuntime) -> Result<(), Fail> {
-    let a = Name::new(rt.alloc(), b"a")?;
-    let b = Name::new(rt.alloc(), b"b")?;
-    let names = table(rt.alloc(), [&b, &a, &a])?;
-    assert!(rt; is_table(rt.alloc(), &names));
-    Ok(())
+/// Whether the table of `b` and twice `a` is TABLE.
+fn is_table_made_of(alloc: Global, a: &Name, b: &Name) -> bool {
+    match table(alloc, [b, a, a]) {
+        Ok(names) => is_table(alloc, &names),
+        Err(_) => false,
+    }
+}
+
+fn is_table_made(alloc: Global) -> bool {
+    match (Name::new(alloc, b"a"), Name::new(alloc, b"b")) {
+        (Ok(a), Ok(b)) => is_table_made_of(alloc, &a, &b),
+        _ => false,
+    }
 }
 
 /// Tables of names, and how many bytes are left at the field that is faulty.
-const TABLES: [([u8; 14], usize); 4] = [
+static TABLES: [([u8; 14], usize); 4] = [
     ([0, 0, 0, 2, 0, 0, 0, 1, 98, 0, 0, 0, 1, 97], 5),
     ([0, 0, 0, 2, 0, 0, 0, 1, 97, 0, 0, 0, 1, 97], 5),
     ([0, 0, 0, 2, 0, 0, 0, 0, 97, 0, 0, 0, 1, 98], 10),
     ([0, 0, 0, 3, 0, 0, 0, 1, 97, 0, 0, 0, 1, 98], 0),
 ];
 
-#[test]
-fn tables_refused(rt: HostRuntime) {
-    for (bytes, left) in TABLES {
-        assert!(rt; left_of(read_names(rt.alloc(), &bytes).err()) == Some(left));
+/// How many bytes are left where the fault of a table is.
+fn left_of_table(alloc: Global, bytes: &[u8]) -> Option<usize> {
+    left_of(read_names(alloc, bytes).err())
+}
+
+fn are_tables_refused(alloc: Global) -> bool {
+    for (bytes, left) in TABLES.iter() {
+        if left_of_table(alloc, bytes) != Some(*left) {
+            return false;
+        }
     }
+    true
 }
 
 /// An index into TABLE with a byte behind it, and the first byte of the name, or how many bytes are left
 /// at the fault.
-const INDICES: [([u8; 5], Result<u8, usize>); 3] = [
+static INDICES: [([u8; 5], Result<u8, usize>); 3] = [
     ([0, 0, 0, 0, 9], Ok(b'a')),
     ([0, 0, 0, 1, 9], Ok(b'b')),
     ([0, 0, 0, 2, 9], Err(5)),
@@ -455,36 +535,36 @@ fn initial_at(alloc: Global, bytes: &[u8]) -> Result<u8, usize> {
     }
 }
 
-#[test]
-fn names_by_index(rt: HostRuntime) {
-    for (bytes, wanted) in INDICES {
-        assert!(rt; initial_at(rt.alloc(), &bytes) == wanted);
+fn are_names_indexed(alloc: Global) -> bool {
+    for (bytes, wanted) in INDICES.iter() {
+        if initial_at(alloc, bytes) != *wanted {
+            return false;
+        }
     }
+    true
 }
 
 const TEST: u32 = 0x5445_5354;
 
 /// The file of the kind TEST, of version 1, with the payload `abc`.
-const FILE: [u8; 47] = [
+static FILE: [u8; 47] = [
     84, 69, 83, 84, 0, 0, 0, 47, 0, 0, 0, 1, 97, 98, 99, 105, 132, 108, 223, 110, 252, 241, 13,
     242, 192, 176, 60, 97, 133, 59, 164, 184, 77, 101, 199, 132, 64, 201, 180, 105, 222, 163, 94,
     225, 189, 89, 186,
 ];
 
-#[test]
-fn files_sealed(rt: HostRuntime) -> Result<(), Fail> {
-    let made = seal(rt.alloc(), TEST, 1, b"abc")?;
-    assert!(rt; made.as_slice() == FILE.as_slice());
-    Ok(())
+fn is_file_sealed(alloc: Global) -> bool {
+    match seal(alloc, TEST, 1, b"abc") {
+        Ok(made) => made.as_slice() == FILE.as_slice(),
+        Err(_) => false,
+    }
 }
 
-#[test]
-fn files_opened(rt: HostRuntime) {
-    let found = match open(TEST, 1, 1, &FILE) {
+fn is_file_opened() -> bool {
+    match open(TEST, 1, 1, &FILE) {
         Ok(file) => file.version == 1 && file.payload == b"abc".as_slice() && file.end == 15,
         Err(_) => false,
-    };
-    assert!(rt; found && check_digest(&FILE, 15).is_ok());
+    }
 }
 
 /// Whether a fault is that of the field at this offset.
@@ -497,7 +577,7 @@ fn is_fault_at(fault: Option<FileError>, offset: usize) -> bool {
 
 /// How many bytes of FILE there are, a place and what is turned there, and the offset of the fault in the
 /// header.
-const HEADERS: [(usize, usize, u8, usize); 9] = [
+static HEADERS: [(usize, usize, u8, usize); 9] = [
     (47, 3, 3, 0),
     (47, 7, 3, 4),
     (47, 4, 3, 4),
@@ -509,24 +589,71 @@ const HEADERS: [(usize, usize, u8, usize); 9] = [
     (46, 0, 0, 4),
 ];
 
-#[test]
-fn headers_refused(rt: HostRuntime) {
-    for (len, place, turned, at) in HEADERS {
-        let mut damaged = FILE;
-        damaged[place] ^= turned;
-        let found = open(TEST, 1, 1, &damaged[..len]).err();
-        assert!(rt; is_fault_at(found, at), "{len} {place}");
+/// The first bytes of a file, all where it has no more.
+fn front(bytes: &[u8], len: usize) -> &[u8] {
+    bytes.get(..len).unwrap_or(bytes)
+}
+
+/// Whether so many bytes of FILE, one of them turned, have the fault at this offset in the header.
+fn is_header_refused(len: usize, place: usize, turned: u8, at: usize) -> bool {
+    let mut damaged = FILE;
+    damaged[place % 47] ^= turned;
+    is_fault_at(open(TEST, 1, 1, front(&damaged, len)).err(), at)
+}
+
+fn are_headers_refused() -> bool {
+    for (len, place, turned, at) in HEADERS.iter() {
+        if !is_header_refused(*len, *place, *turned, *at) {
+            return false;
+        }
     }
+    true
+}
+
+/// Whether FILE with a byte turned has its fault at the digest.
+fn is_digest_refused(place: usize) -> bool {
+    let mut damaged = FILE;
+    damaged[place % 47] ^= 1;
+    is_fault_at(check_digest(&damaged, 15).err(), 15)
+}
+
+fn are_digests_checked() -> bool {
+    check_digest(&FILE, 15).is_ok()
+        && is_digest_refused(12)
+        && is_digest_refused(15)
+        && is_digest_refused(46)
+}
+
+/// What is tested, and whether it is as it should be.
+fn results(alloc: Global) -> [(&'static str, bool); 18] {
+    [
+        ("lengths of names", are_lengths_of_names(alloc)),
+        ("names in byte order", are_names_in_byte_order(alloc)),
+        ("shapes that agree", do_shapes_agree(alloc)),
+        ("values to bytes", are_values_encoded()),
+        ("scalars in bytes", are_scalars_decoded()),
+        ("pointers in bytes", are_pointers_decoded()),
+        ("operations on words", are_words_operated_on()),
+        ("order of words", are_words_in_order()),
+        ("negations", are_words_negated()),
+        ("unsigned results", are_words_reduced()),
+        ("fields written", are_fields_written(alloc)),
+        ("fields read", are_fields_read(alloc)),
+        ("short fields", are_short_fields_refused(alloc)),
+        ("a table of names", is_table_made(alloc)),
+        ("tables refused", are_tables_refused(alloc)),
+        ("names by index", are_names_indexed(alloc)),
+        ("a file", is_file_sealed(alloc) && is_file_opened()),
+        (
+            "files refused",
+            are_headers_refused() && are_digests_checked(),
+        ),
+    ]
 }
 
 #[test]
-fn digests_refused(rt: HostRuntime) {
-    for place in [12usize, 15, 46] {
-        let mut damaged = FILE;
-        damaged[place] ^= 1;
-        assert!(rt;
-            is_fault_at(check_digest(&damaged, 15).err(), 15),
-            "{place}"
-        );
+fn values(rt: HostRuntime) {
+    for (what, holds) in results(rt.alloc()) {
+        assert!(rt; holds, "{what}");
     }
 }
