@@ -1,5 +1,5 @@
 -- What the lexer's answer makes of the front's and of places.
-use Rattle.std.proofs.Common.{◌≡◌, ◌≢◌, ◌⊎◌, ℕ, List, [], None, Result, Ok, Err, refl, sym, ap, ⊎_elim, subst, Vec, Global, IfOk}
+use Rattle.std.proofs.Common.{◌≡◌, ◌≢◌, ◌⊎◌, ℕ, List, None, Result, Ok, Err, refl, sym, ap, ⊎_elim, subst, Vec, Global, IfOk}
 use Rattle.std.specs.List.{position_from}
 use Rattle.pw_token.specs.Tokenization.{Answers, Lexes}
 use Rattle.pw_token.specs.declared.token.LexFault.{LexFault}

@@ -1,5 +1,5 @@
 -- The function on texts gives the one answer of each text.
-use Rattle.std.proofs.Common.{◌≡◌, ◌≢◌, ℕ, zero, suc, ◌+◌, ◌<◌, ◌≤◌, ◌==◌, Bool, true, false, cond, List, [], ◌∷◌, ◌++◌, length, take, drop, Option, Some, None, Result, Ok, Err, refl, sym, arith, length-append, length-drop, nat_le, nat_lt}
+use Rattle.std.proofs.Common.{◌≡◌, ◌≢◌, ℕ, zero, suc, ◌+◌, ◌<◌, ◌≤◌, ◌==◌, Bool, true, false, cond, List, [], ◌++◌, length, take, drop, Option, Some, None, Ok, Err, refl, sym, arith, length-append, length-drop, nat_le, nat_lt}
 use Rattle.std.proofs.lemmas.Bool.Decides.{nat_tests}
 use Rattle.pw_token.proofs.LexLaws.{Lexing, lexing-start, lexing-step, lexing-end, lexing-bad, lexing-many, one-answer}
 use Rattle.pw_token.proofs.PieceBounds.{found-within}
@@ -9,8 +9,7 @@ use Rattle.pw_token.specs.declared.piece.PieceKind.{PieceKind}
 use Rattle.pw_token.specs.declared.piece.PieceKind.TheVariants as piece
 use Rattle.pw_token.specs.declared.token.LexFault.TheVariants.{TooLong, TooMany}
 use Rattle.pw_token.specs.declared.token.Token.{Token}
-use Rattle.pw_token.specs.declared.token.TokenKind.{TokenKind}
-use Rattle.pw_front.specs.Lexed.{LexAnswer, is_too_many, met, lexed_from, lexed}
+use Rattle.pw_front.specs.Lexed.{LexAnswer, met, lexed_from, lexed}
 
 -- what goes on behind the places that are cut, where so many pieces are left at most
 abbrev GoesOn : (ℕ → Bool → List Token → LexAnswer) → List ℕ → ℕ → Type 0

@@ -1,5 +1,5 @@
 -- The place of a refusal in its text, and the line of a place.
-use Rattle.std.specs.Prelude.{ℕ, ◌+◌, ◌-◌, ◌==◌, List, [], length, take, count_by, Result, Ok, Err, slice_get}
+use Rattle.std.specs.Prelude.{ℕ, ◌+◌, ◌-◌, ◌==◌, List, [], length, take, count_by, Ok, Err, slice_get}
 use Rattle.pw_token.specs.Limits.{text_limit}
 use Rattle.std.specs.Option.{option_map_or}
 use Rattle.pw_token.specs.declared.token.LexFault.TheVariants.{Bad, TooLong, TooMany, NoMemory}

@@ -6,6 +6,8 @@ ghost use Rattle.pw_front.specs.Fronts.{Front, Fronts, HoldsNoWant, front_of};
 ghost use Rattle.pw_front.specs.Lexed.{LexAnswer, lexed};
 ghost use Rattle.pw_front.specs.declared.refusal.Refusal.{Refusal};
 
+use pw_grammar_laws::reading_is_exact;
+
 /// The tokens or the fault that a text has by its cutting are those of the function.
 pub fn lexed_is_exact()
     ensures { (text : List ℕ) (answer : LexAnswer) → Lexes text answer ↔ (answer ≡ lexed text) }
@@ -15,4 +17,6 @@ pub fn lexed_is_exact()
 pub fn front_is_exact()
     ensures exact { (text : List ℕ) (answer : Front) → Fronts text answer ↔ (answer ≡ front_of text) }
     ensures no_want { (text : List ℕ) (refusal : Refusal) → front_of text ≡ Err refusal → HoldsNoWant refusal }
-{}
+{
+    reading_is_exact();
+}

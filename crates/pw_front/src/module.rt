@@ -7,6 +7,7 @@ ghost use Rattle.pw_token.specs.Tokenization.{IsLexed};
 ghost use Rattle.pw_tree.specs.Views.{view_module};
 
 use crate::refusal::{FrontError, Refusal};
+use pw_grammar_laws::reading_is_exact;
 use pw_parse::parse;
 use pw_token::{Token, lex, unsupported};
 use pw_tree::Module;
@@ -50,5 +51,6 @@ pub fn front(alloc: Global, text: &[u8]) -> Result<Module, FrontError>
     // A text has no other answer.
     ensures one { (answer other : Front) → Fronts text.now answer → Fronts text.now other → answer ≡ other }
 {
+    reading_is_exact();
     fronted(alloc, text)
 }

@@ -10,6 +10,7 @@ ghost use Rattle.pw_tree.specs.Views.{view_module};
 
 use crate::module::externals;
 use pw_cursor::{Stop, Tokens};
+use pw_grammar_laws::reading_is_exact;
 use pw_token::{Token, nest_fault};
 use pw_tree::{Lexeme, Module, lexeme_of};
 use std::alloc::{AllocError, Global};
@@ -82,5 +83,6 @@ pub fn parse(alloc: Global, text: &[u8], tokens: &[Token]) -> Result<Module, Par
     // What the text's tree or its fault is, that is answered, unless memory ran out.
     ensures only { (answer : Result tree.Module ParseFault) → Parses text.now tokens.now answer → Answers view_module answer result }
 {
+    reading_is_exact();
     parse_tokens(alloc, text, tokens)
 }

@@ -14,21 +14,22 @@ use Rattle.pw_grammar_laws.proofs.Renumber.Numbers.{numbered-module}
 use Rattle.pw_grammar_laws.proofs.Renumber.Spelling.{respell-externals}
 use Rattle.pw_grammar_laws.proofs.Renumber.Statements.{well-module}
 use Rattle.pw_grammar_laws.proofs.Written.Laws.{same-tree, tree-read}
+use Rattle.pw_grammar_laws.proofs.Written.Symbols.{OneSymbol}
 
 -- what is written with other numbers is written with the tokens' own
 pub renumbered : (tokens : List Spelled) (tree : Module) → WellFormedModule tree → spelling tree ≡ tokens → IsTreeOf tokens (number_module tree)
 renumbered tokens tree h e = record { well_formed = well-module tree h; numbered = numbered-module tree; spells = ap (map spelled) (respell-externals tree.externals 1 refl) ∙ e }
 
 -- and so it is read
-pub spelled-read : (tokens : List Spelled) (tree : Module) → WellFormedModule tree → spelling tree ≡ tokens → (u : Module) × (behind : Input) × (read (map symbol_of tokens) ≡ Ok (u, behind))
-spelled-read tokens tree h e = (number_module tree, behind_all (number_module tree), tree-read tokens (number_module tree) (renumbered tokens tree h e))
+pub spelled-read : OneSymbol → (tokens : List Spelled) (tree : Module) → WellFormedModule tree → spelling tree ≡ tokens → (u : Module) × (behind : Input) × (read (map symbol_of tokens) ≡ Ok (u, behind))
+spelled-read one tokens tree h e = (number_module tree, behind_all (number_module tree), tree-read one tokens (number_module tree) (renumbered tokens tree h e))
 
 ok_is_no_fault : {A : Type 0} (x : A) (i j : Input) (o : Outcome A) → o ≡ Ok (x, i) → o ≡ Err j → ⊥
 ok_is_no_fault x i j o h k = cc
 
 -- tokens whose reading ends at a fault are the spelling of no well-formed tree
-pub no-tree : (tokens : List Spelled) (at : Input) → read (map symbol_of tokens) ≡ Err at → (tree : Module) → WellFormedModule tree → spelling tree ≡ tokens → ⊥
-no-tree tokens at fault tree h e = ok_is_no_fault _ _ at (read (map symbol_of tokens)) (spelled-read tokens tree h e).2 fault
+pub no-tree : OneSymbol → (tokens : List Spelled) (at : Input) → read (map symbol_of tokens) ≡ Err at → (tree : Module) → WellFormedModule tree → spelling tree ≡ tokens → ⊥
+no-tree one tokens at fault tree h e = ok_is_no_fault _ _ at (read (map symbol_of tokens)) (spelled-read one tokens tree h e).2 fault
 
 -- ---- trees of one spelling
 
@@ -36,8 +37,8 @@ no-tree tokens at fault tree h e = ok_is_no_fault _ _ at (read (map symbol_of to
 pub own-tree : (tree : Module) → WellFormedModule tree → IsTreeOf (spelling tree) (number_module tree)
 own-tree tree h = renumbered (spelling tree) tree h refl
 
-pub same-spelling : (tree other : Module) → WellFormedModule tree → WellFormedModule other → spelling tree ≡ spelling other → number_module tree ≡ number_module other
-same-spelling tree other h k e = same-tree (spelling tree) (number_module tree) (number_module other) (own-tree tree h) (renumbered (spelling tree) other k (sym e))
+pub same-spelling : OneSymbol → (tree other : Module) → WellFormedModule tree → WellFormedModule other → spelling tree ≡ spelling other → number_module tree ≡ number_module other
+same-spelling one tree other h k e = same-tree one (spelling tree) (number_module tree) (number_module other) (own-tree tree h) (renumbered (spelling tree) other k (sym e))
 
-pub numbers-kept : (tree : Module) → WellFormedModule tree → NumberedModule tree → number_module tree ≡ tree
-numbers-kept tree h n = same-tree (spelling tree) (number_module tree) tree (own-tree tree h) (record { well_formed = h; numbered = n; spells = refl })
+pub numbers-kept : OneSymbol → (tree : Module) → WellFormedModule tree → NumberedModule tree → number_module tree ≡ tree
+numbers-kept one tree h n = same-tree one (spelling tree) (number_module tree) tree (own-tree tree h) (record { well_formed = h; numbered = n; spells = refl })
