@@ -2,7 +2,9 @@
 
 ghost use Rattle.std.specs.Prelude.{◌≡◌, Option, None, Some, Ok, IfOk, IfErr, OnOk, OnErr};
 ghost use Rattle.std.specs.IoError.{error_kind};
+ghost use Rattle.std.specs.declared.io.ErrorKind.{ErrorKind};
 ghost use Rattle.pw_io.specs.Files.{Told, Keeps, ListsNames, Puts, PutsPart, Removes};
+ghost use Rattle.pw_system.specs.Faults.{TellsKind};
 ghost use Rattle.pw_system.specs.Folders.{IsAbsent, Opens};
 
 use std::alloc::Global;
@@ -19,38 +21,70 @@ pub trait Folder {
     /// The files and the names written so far, or `None` where the folder does not tell them.
     ghost told: { Self → Option Told };
 
+    /// The kind of the fault that the last call answered, or `None` where it answered none.
+    ghost last_fault: { Self → Option ErrorKind };
+
     /// The names of all files, in byte order.
     fn names(&mut self, alloc: Global) -> io::Result<Vec<String>>
         ensures names { IfOk result (λ names. ListsNames (told self.old) names.items) }
-        ensures same { Keeps (told self.old) (told self.new) };
+        ensures same { Keeps (told self.old) (told self.new) }
+        ensures kind { TellsKind result (last_fault self.new) };
 
     /// Opens a file. The kind of an error is not found only where no file has the name.
     fn open(&mut self, name: &str) -> io::Result<Self::File>
         ensures file { IfOk result (λ file. Opens (told self.old) name.now (Self.File.Read.remaining file)) }
         ensures absent { IfErr result (λ e. error_kind e ≡ ErrorKind.NotFound → IsAbsent (told self.old) name.now) }
-        ensures same { Keeps (told self.old) (told self.new) };
+        ensures same { Keeps (told self.old) (told self.new) }
+        ensures kind { TellsKind result (last_fault self.new) };
 
     /// Gives the file of that name these bytes. After an error it is as before, absent, or a proper prefix of them.
     fn write(&mut self, name: &str, bytes: &[u8]) -> io::Result<()>
         ensures ok { OnOk result (Puts (told self.old) (told self.new) name.now bytes.now) }
-        ensures failed { OnErr result (PutsPart (told self.old) (told self.new) name.now bytes.now) };
+        ensures failed { OnErr result (PutsPart (told self.old) (told self.new) name.now bytes.now) }
+        ensures kind { TellsKind result (last_fault self.new) };
 
     /// Takes the file of that name out. An error leaves the files as they were.
     fn remove(&mut self, name: &str) -> io::Result<()>
         ensures ok { OnOk result (Removes (told self.old) (told self.new) name.now) }
         ensures absent { IfErr result (λ e. error_kind e ≡ ErrorKind.NotFound → Removes (told self.old) (told self.new) name.now) }
-        ensures failed { OnErr result (Keeps (told self.old) (told self.new)) };
+        ensures failed { OnErr result (Keeps (told self.old) (told self.new)) }
+        ensures kind { TellsKind result (last_fault self.new) };
 }
 
-/// The current folder of the system, which tells nothing.
+/// The kind of a fault, or `None` where there is none.
+fn kind_of<T>(answer: &io::Result<T>) -> Option<ErrorKind>
+    ensures { TellsKind answer.now result }
+{
+    match answer {
+        Ok(_) => None,
+        Err(fault) => Some(fault.kind()),
+    }
+}
+
+/// The current folder of the system, which tells no files.
 #[derive(Drop)]
 pub struct CurrentFolder<'a, R> {
     rt: &'a R,
+    last_fault: Option<ErrorKind>,
 }
 
 impl<'a, R> CurrentFolder<'a, R> {
-    pub fn new(rt: &'a R) -> Self {
-        CurrentFolder { rt }
+    pub fn new(rt: &'a R) -> Self
+        ensures { result.last_fault ≡ None }
+    {
+        CurrentFolder {
+            rt,
+            last_fault: None,
+        }
+    }
+
+    /// Answers so, and keeps the kind of a fault.
+    fn noted<T>(&mut self, answer: io::Result<T>) -> io::Result<T>
+        ensures same { result ≡ answer }
+        ensures kind { TellsKind result self.new.last_fault }
+    {
+        self.last_fault = kind_of(&answer);
+        answer
     }
 }
 
@@ -91,7 +125,7 @@ fn push_entry<R: Files + AllocGlobal + Clone + Drop>(
     Ok(())
 }
 
-/// The names of the files in the current folder. A name that is no text is left out.
+/// The names of the files in the current folder, in byte order. A name that is no text is left out.
 fn file_names<R: Files + AllocGlobal + Clone + Drop>(
     alloc: Global,
     rt: &R,
@@ -100,7 +134,17 @@ fn file_names<R: Files + AllocGlobal + Clone + Drop>(
     for entry in fs::read_dir(rt, ".")? {
         push_entry(alloc, rt, &mut names, entry)?;
     }
+    names.sort()?;
     Ok(names)
+}
+
+/// Opens a file of the current folder. A folder of the name is not found.
+fn open_file<R: Files>(rt: &R, name: &str) -> io::Result<R::File> {
+    let file = fs::open(rt, name)?;
+    if file.metadata()?.is_dir() {
+        return Err(io::Error::from(ErrorKind::NotFound));
+    }
+    Ok(file)
 }
 
 impl<'a, R: Files + AllocGlobal + Clone + Drop> Folder for CurrentFolder<'a, R> {
@@ -108,26 +152,25 @@ impl<'a, R: Files + AllocGlobal + Clone + Drop> Folder for CurrentFolder<'a, R> 
 
     ghost told = { λ _. None };
 
+    ghost last_fault = { λ folder. folder.last_fault };
+
     fn names(&mut self, alloc: Global) -> io::Result<Vec<String>> {
-        let mut names = file_names(alloc, self.rt)?;
-        names.sort()?;
-        Ok(names)
+        let names = file_names(alloc, self.rt);
+        self.noted(names)
     }
 
-    /// A folder of the name is not found.
     fn open(&mut self, name: &str) -> io::Result<R::File> {
-        let file = fs::open(self.rt, name)?;
-        if file.metadata()?.is_dir() {
-            return Err(io::Error::from(ErrorKind::NotFound));
-        }
-        Ok(file)
+        let file = open_file(self.rt, name);
+        self.noted(file)
     }
 
     fn write(&mut self, name: &str, bytes: &[u8]) -> io::Result<()> {
-        fs::write(self.rt, name, bytes)
+        let written = fs::write(self.rt, name, bytes);
+        self.noted(written)
     }
 
     fn remove(&mut self, name: &str) -> io::Result<()> {
-        fs::remove_file(self.rt, name)
+        let removed = fs::remove_file(self.rt, name);
+        self.noted(removed)
     }
 }

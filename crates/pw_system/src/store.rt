@@ -1,8 +1,9 @@
 //! A folder's files as a store, which tells what the folder tells.
 
-ghost use Rattle.std.specs.Prelude.{◌≡◌, ◌↔◌, IfOk, IfErr, IsOk, OnOk, IfSome, take};
+ghost use Rattle.std.specs.Prelude.{◌≡◌, ◌↔◌, ◌⊎◌, None, Some, Ok, Err, IfOk, IfErr, IsOk, OnOk, OnErr, IfSome, IsSome, take};
 ghost use Rattle.std.specs.IoError.{error_kind};
-ghost use Rattle.pw_io.specs.Faults.{HasStoreCause};
+ghost use Rattle.pw_io.specs.Faults.{HasStoreCause, OnFailed, OnNoMemory};
+ghost use Rattle.pw_io.specs.Files.{Keeps, ListsNames, ReadsFront, Puts, PutsPart, Removes};
 ghost use Rattle.pw_system.specs.Faults.{IsCounted};
 
 use crate::folder::Folder;
@@ -79,19 +80,28 @@ impl<F: Folder> Store for FileStore<F> {
 
     ghost faults = { λ store. store.faults };
 
-    fn names(&mut self, alloc: Global) -> Result<Vec<String>, StoreError> {
+    fn names(&mut self, alloc: Global) -> Result<Vec<String>, StoreError>
+        ensures names { IfOk result (λ names. ListsNames (F.told self.old.folder) names.items) }
+        ensures same { Keeps (F.told self.old.folder) (F.told self.new.folder) }
+        ensures cause { HasStoreCause self.old.faults self.new.faults result }
+        ensures answered { IsOk result ↔ (F.last_fault self.new.folder ≡ None) }
+        ensures memory { (result ≡ Err StoreError.NoMemory) ↔ (F.last_fault self.new.folder ≡ Some ErrorKind.OutOfMemory) }
+    {
         match self.folder.names(alloc) {
             Ok(names) => Ok(names),
             Err(fault) => Err(self.fault(fault)),
         }
     }
 
-    fn get(
-        &mut self,
-        alloc: Global,
-        name: &str,
-        most: usize,
-    ) -> Result<Option<Vec<u8>>, StoreError> {
+    /// A file that was opened can still fail to be read, which the folder does not tell.
+    fn get(&mut self, alloc: Global, name: &str, most: usize) -> Result<Option<Vec<u8>>, StoreError>
+        ensures file { IfOk result (λ file. ReadsFront (F.told self.old.folder) name.now most file) }
+        ensures same { Keeps (F.told self.old.folder) (F.told self.new.folder) }
+        ensures cause { HasStoreCause self.old.faults self.new.faults result }
+        ensures absent { (result ≡ Ok None) ↔ (F.last_fault self.new.folder ≡ Some ErrorKind.NotFound) }
+        ensures opened { IfOk result (λ file. IsSome file → F.last_fault self.new.folder ≡ None) }
+        ensures memory { IfSome (F.last_fault self.new.folder) (λ kind. (result ≡ Err StoreError.NoMemory) ↔ (kind ≡ ErrorKind.OutOfMemory)) }
+    {
         let file = match self.folder.open(name) {
             Ok(file) => file,
             Err(fault) => {
@@ -106,14 +116,27 @@ impl<F: Folder> Store for FileStore<F> {
     }
 
     /// A failed write may have changed the file, so that it is a fault for want of memory too.
-    fn put(&mut self, _alloc: Global, name: &str, bytes: &[u8]) -> Result<(), StoreError> {
+    fn put(&mut self, _alloc: Global, name: &str, bytes: &[u8]) -> Result<(), StoreError>
+        ensures ok { OnOk result (Puts (F.told self.old.folder) (F.told self.new.folder) name.now bytes.now) }
+        ensures failed { OnFailed result (PutsPart (F.told self.old.folder) (F.told self.new.folder) name.now bytes.now) }
+        ensures no_memory { OnNoMemory result (Keeps (F.told self.old.folder) (F.told self.new.folder)) }
+        ensures cause { HasStoreCause self.old.faults self.new.faults result }
+        ensures answered { IsOk result ↔ (F.last_fault self.new.folder ≡ None) }
+        ensures fault { IfErr result (λ e. e ≡ StoreError.Failed) }
+    {
         match self.folder.write(name, bytes) {
             Ok(()) => Ok(()),
             Err(_) => Err(self.failed()),
         }
     }
 
-    fn remove(&mut self, _alloc: Global, name: &str) -> Result<(), StoreError> {
+    fn remove(&mut self, _alloc: Global, name: &str) -> Result<(), StoreError>
+        ensures ok { OnOk result (Removes (F.told self.old.folder) (F.told self.new.folder) name.now) }
+        ensures err { OnErr result (Keeps (F.told self.old.folder) (F.told self.new.folder)) }
+        ensures cause { HasStoreCause self.old.faults self.new.faults result }
+        ensures answered { IsOk result ↔ ((F.last_fault self.new.folder ≡ None) ⊎ (F.last_fault self.new.folder ≡ Some ErrorKind.NotFound)) }
+        ensures memory { (result ≡ Err StoreError.NoMemory) ↔ (F.last_fault self.new.folder ≡ Some ErrorKind.OutOfMemory) }
+    {
         match self.folder.remove(name) {
             Ok(()) => Ok(()),
             Err(fault) => self.unless_absent(fault),
