@@ -28,9 +28,10 @@ use Rattle.pw_building.specs.declared.report.Opts.{Opts}
 use Rattle.pw_building.specs.declared.report.Report.{Report}
 use Rattle.pw_filing.specs.Programs.{BuildsFiles}
 use Rattle.pw_building.specs.Genuine.{IsBuiltName, IsGenuineFile, IsOwnFile, KeepsGenuine}
-use Rattle.pw_building.specs.Outcomes.{IsOfStore, PutsSome, build_answer}
-use Rattle.pw_building.proofs.ObeysLemmas.{some_all, some_told}
+use Rattle.pw_building.specs.Outcomes.{IsOfStore, build_answer}
+use Rattle.pw_building.proofs.ObeysLemmas.{PutsAny, some_all, some_told}
 use Rattle.pw_building.proofs.GenuineFiles.{front_object}
+use Rattle.pw_building.proofs.NameLemmas.{AreModuleNames}
 
 -- what is known of files under changes of one of them
 pub record FileLaws : Type 0 where
@@ -61,12 +62,12 @@ none_is : (p : Object) → ◌≡◌ {A = Option Object} None (Some p) → ⊥
 none_is p e = cc
 
 by_name : (files new : Files) (file : NamedFile) → KeepsGenuine files → ((other : List ℕ) → other ≢ file.0 → finite.get new other ≡ finite.get files other) → ((name : List ℕ) (p : Object) → object_name name ≡ file.0 → kept_object new name ≡ Some p → IsGenuine p) → KeepsGenuine new
-by_name files new file keeps others own name p e =
+by_name files new file keeps others own name p spelled e =
     elim (bytes_eq (object_name name) file.0) as (λ b. bytes_eq (object_name name) file.0 ≡ b → IsGenuine p) [
       | true ↦ λ t. own name p ((bytes_eq-Decides (object_name name) file.0).0 t) e
       | false ↦ λ t.
           let apart : object_name name ≢ file.0 = not_from_Decides (bytes_eq (object_name name) file.0) (bytes_eq-Decides (object_name name) file.0) t in
-          keeps name p (ap (λ (x : Option (List ℕ)). object_in (counted x)) (sym (others (object_name name) apart)) ∙ e)
+          keeps name p spelled (ap (λ (x : Option (List ℕ)). object_in (counted x)) (sym (others (object_name name) apart)) ∙ e)
     ] refl
 
 insert_keeps : FileLaws → (files : Files) (file : NamedFile) (front more : List ℕ) → KeepsGenuine files → IsGenuineFile file → front ++ more ≡ file.1 → ((name : List ℕ) → object_name name ≡ file.0 → AreBytes front) → KeepsGenuine (finite.insert files file.0 front)
@@ -212,7 +213,7 @@ puts_keep laws None now new files result same good of puts = tt
 puts_keep laws (Some told) now new files result same good of puts = λ keeps.
     let P : Option Told → Type 0 = λ o. IfSome o (λ t. PutsFiles files (build_answer result) t new) in
     let h : PutsFiles files (build_answer result) told new = subst P same puts in
-    let some : PutsSome told new = some_told files result told new of h in
+    let some : PutsAny told new = some_told files result told new of h in
     part_keeps laws told some.0 new keeps (some_all IsGenuineFile files result told new of h (own_genuine files good)) some.1
 
 pub nothing_keeps : (first new : Option Told) → Keeps first new → IfSome first (λ told. KeepsGenuine told.files → IfSome new (λ after. KeepsGenuine after.files))
@@ -225,6 +226,6 @@ if_kept : (kept : Option Object) → ((o : Object) → kept ≡ Some o → IsGen
 if_kept None h = tt
 if_kept (Some o) h = h o refl
 
-pub kept_genuine : (files : Files) (names : List (List ℕ)) → KeepsGenuine files → AllByRecursion IsGenuineIfKept (map (kept_object files) names)
-kept_genuine files [] keeps = tt
-kept_genuine files (name ∷ names) keeps = (if_kept (kept_object files name) (keeps name), kept_genuine files names keeps)
+pub kept_genuine : (files : Files) (names : List (List ℕ)) → AreModuleNames names → KeepsGenuine files → AllByRecursion IsGenuineIfKept (map (kept_object files) names)
+kept_genuine files [] spelled keeps = tt
+kept_genuine files (name ∷ names) spelled keeps = (if_kept (kept_object files name) (λ o e. keeps name o spelled.0 e), kept_genuine files names spelled.1 keeps)

@@ -8,9 +8,9 @@ use Rattle.pw_answer.specs.Effects.{IsLeft, NamedFile, PutPart, PutsFiles, after
 use Rattle.pw_filing.specs.FromBuild.Unbuilt.{Unbuilt}
 use Rattle.pw_building.specs.declared.report.Report.{Report}
 use Rattle.pw_building.specs.Genuine.{IsBuiltName, IsOwnFile, LeavesOthers}
-use Rattle.pw_building.specs.Outcomes.{IsOfStore, PutsSome, build_answer}
+use Rattle.pw_building.specs.Outcomes.{IsOfStore, build_answer}
 use Rattle.pw_building.proofs.GenuineLemmas.{FileLaws}
-use Rattle.pw_building.proofs.ObeysLemmas.{some_all, some_told}
+use Rattle.pw_building.proofs.ObeysLemmas.{PutsAny, some_all, some_told}
 
 -- files of which all but those of a build are the same
 abbrev AreSame : Files → Files → Type 0
@@ -58,7 +58,7 @@ puts_leave laws None now new files result same own of puts = tt
 puts_leave laws (Some told) now new files result same own of puts =
     let P : Option Told → Type 0 = λ o. IfSome o (λ t. PutsFiles files (build_answer result) t new) in
     let h : PutsFiles files (build_answer result) told new = subst P same puts in
-    let some : PutsSome told new = some_told files result told new of h in
+    let some : PutsAny told new = some_told files result told new of h in
     part_leaves laws told some.0 new (some_all IsOwnFile files result told new of h own) some.1
 
 pub nothing_leaves : (first new : Option Told) → Keeps first new → IfSome first (λ told. LeavesOthers told new)

@@ -6,3 +6,4 @@ pub mod GenuineLemmas
 pub mod FullLaws
 pub mod TextLaws
 pub mod LeavingLemmas
+pub mod NameLemmas

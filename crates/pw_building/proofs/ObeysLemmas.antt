@@ -14,7 +14,8 @@ use Rattle.pw_filing.specs.FromBuild.Stores.{store_fault}
 use Rattle.pw_building.specs.declared.report.Report.{Report}
 use Rattle.pw_building.specs.declared.report.Opts.{Opts}
 use Rattle.pw_building.specs.Building.{BuildComes, Outcome, puts_of}
-use Rattle.pw_building.specs.Outcomes.{FaultFound, ObeysBuild, IsOfStore, PutsSome, Reports, build_answer, fault_answer}
+use Rattle.pw_building.specs.Genuine.{IsBuiltName, IsOwnFile}
+use Rattle.pw_building.specs.Outcomes.{AreBuilt, FaultFound, ObeysBuild, IsOfStore, PutsSome, Reports, build_answer, fault_answer}
 use Rattle.pw_kept.specs.Files.{put_answer}
 use Rattle.pw_kept.proofs.PutLemmas.{none_left}
 
@@ -112,13 +113,17 @@ all_front P (file ∷ done) more all = (all.0, all_front P done more all.1)
 
 -- ---- some files were put, and no others touched
 
-abbrev some_stopped : (files : List NamedFile) (fault : BuildFault) (told : Told) (new : Option Told) → IsOfStore fault → PutsFiles files (fault_answer fault) told new → PutsSome told new
+-- files were put, whole, and of one more perhaps a part
+abbrev pub PutsAny : Told → Option Told → Type 0
+PutsAny told new = (files : List NamedFile) × PutPart told files new
+
+abbrev some_stopped : (files : List NamedFile) (fault : BuildFault) (told : Told) (new : Option Told) → IsOfStore fault → PutsFiles files (fault_answer fault) told new → PutsAny told new
 some_stopped files build.StoreFault told new of h = (files, h)
 some_stopped files build.NoMemory told new of h = (h.done, record { done = h.done; more = []; split = sym (append-nil h.done); left = h.left })
 some_stopped files (build.Refused name refusal) told new of h = absurd of
 some_stopped files (build.LinkRefused fault) told new of h = absurd of
 
-abbrev pub some_told : (files : List NamedFile) (result : Result Report Unbuilt) (told : Told) (new : Option Told) → IfErr result (λ unbuilt. IsOfStore unbuilt.fault) → PutsFiles files (build_answer result) told new → PutsSome told new
+abbrev pub some_told : (files : List NamedFile) (result : Result Report Unbuilt) (told : Told) (new : Option Told) → IfErr result (λ unbuilt. IsOfStore unbuilt.fault) → PutsFiles files (build_answer result) told new → PutsAny told new
 some_told files (Ok report) told new of h = (files, record { done = files; more = []; split = sym (append-nil files); left = h })
 some_told files (Err unbuilt) told new of h = some_stopped files unbuilt.fault told new of h
 
@@ -133,12 +138,35 @@ pub some_all : (P : NamedFile → Type 0) (files : List NamedFile) (result : Res
 some_all P files (Ok report) told new of h all = all
 some_all P files (Err unbuilt) told new of h all = stopped_all P files unbuilt.fault told new of h all
 
-pub puts_some : (files : List NamedFile) (result : Result Report Unbuilt) (first now new : Option Told) → Keeps first now → IfErr result (λ unbuilt. IsOfStore unbuilt.fault) → IfSome now (λ told. PutsFiles files (build_answer result) told new) → IfSome first (λ told. PutsSome told new)
-puts_some files result None now new same of h = tt
-puts_some files result (Some told) now new same of h =
-    let P : Option Told → Type 0 = λ o. IfSome o (λ t. PutsFiles files (build_answer result) t new) in
-    some_told files result told new of (subst P same h)
+-- ---- files of the build were
 
-pub puts_nothing : (first new : Option Told) → Keeps first new → IfSome first (λ told. PutsSome told new)
-puts_nothing None new same = tt
-puts_nothing (Some told) new same = ([], record { done = []; more = []; split = refl; left = same })
+own_built : (files : List NamedFile) → AllByRecursion IsOwnFile files → AreBuilt files
+own_built [] own = tt
+own_built (file ∷ files) own = (own.0.0, own_built files own.1)
+
+built_stopped : (files : List NamedFile) (fault : BuildFault) (told : Told) (new : Option Told) → AreBuilt files → IsOfStore fault → PutsFiles files (fault_answer fault) told new → PutsSome (fault_answer fault) told new
+built_stopped files build.StoreFault told new own of h = (files, own, h)
+built_stopped files build.NoMemory told new own of h = (h.done, all_front (λ file. IsBuiltName file.0) h.done h.more (subst AreBuilt h.split own), h.left)
+built_stopped files (build.Refused name refusal) told new own of h = absurd of
+built_stopped files (build.LinkRefused fault) told new own of h = absurd of
+
+built_told : (files : List NamedFile) (result : Result Report Unbuilt) (told : Told) (new : Option Told) → AreBuilt files → IfErr result (λ unbuilt. IsOfStore unbuilt.fault) → PutsFiles files (build_answer result) told new → PutsSome (build_answer result) told new
+built_told files (Ok report) told new own of h = (files, own, h)
+built_told files (Err unbuilt) told new own of h = built_stopped files unbuilt.fault told new own of h
+
+pub puts_some : (files : List NamedFile) (result : Result Report Unbuilt) (first now new : Option Told) → Keeps first now → IfSome first (λ told. AllByRecursion IsOwnFile files) → IfErr result (λ unbuilt. IsOfStore unbuilt.fault)
+    → IfSome now (λ told. PutsFiles files (build_answer result) told new) → IfSome first (λ told. PutsSome (build_answer result) told new)
+puts_some files result None now new same own of h = tt
+puts_some files result (Some told) now new same own of h =
+    let P : Option Told → Type 0 = λ o. IfSome o (λ t. PutsFiles files (build_answer result) t new) in
+    built_told files result told new (own_built files own) of (subst P same h)
+
+nothing_put : (fault : BuildFault) (told : Told) (new : Option Told) → new ≡ Some told → PutsSome (fault_answer fault) told new
+nothing_put build.StoreFault told new same = ([], tt, record { done = []; more = []; split = refl; left = same })
+nothing_put build.NoMemory told new same = ([], tt, same)
+nothing_put (build.Refused name refusal) told new same = same
+nothing_put (build.LinkRefused fault) told new same = same
+
+pub puts_nothing : (fault : BuildFault) (first new : Option Told) → Keeps first new → IfSome first (λ told. PutsSome (fault_answer fault) told new)
+puts_nothing fault None new same = tt
+puts_nothing fault (Some told) new same = nothing_put fault told new same

@@ -28,5 +28,5 @@ not_object : (file name : List ℕ) → is_module_file file ≡ true → object_
 not_object file name h e = endings_differ (sym (text_ends file h) ∙ ap (λ (f : List ℕ). drop (length f - 2) f) (sym e) ∙ object_ends name)
 
 pub texts_keep : (file : List ℕ) (old new : Files) → is_module_file file ≡ true → ((other : List ℕ) → other ≢ file → finite.get new other ≡ finite.get old other) → KeepsGenuine old → KeepsGenuine new
-texts_keep file old new h same kept name object e =
-    kept name object (sym (ap (λ (bytes : Option (List ℕ)). object_in (counted bytes)) (same (object_name name) (not_object file name h))) ∙ e)
+texts_keep file old new h same kept name object spelled e =
+    kept name object spelled (sym (ap (λ (bytes : Option (List ℕ)). object_in (counted bytes)) (same (object_name name) (not_object file name h))) ∙ e)

@@ -1,11 +1,12 @@
 -- What a build answers and leaves of the store.
-use Rattle.std.specs.Prelude.{◌≡◌, ◌≤◌, List, Option, Result, Ok, Err}
+use Rattle.std.specs.Prelude.{◌≡◌, ◌≤◌, List, Option, Some, Result, Ok, Err}
+use Rattle.std.specs.List.{AllByRecursion}
 use Rattle.sha2.specs.Sha256.{sha256}
 use Rattle.pw_io.specs.Files.{Files, Told}
 use Rattle.pw_value.specs.Limits.{stack_least, stack_most}
 use Rattle.pw_answer.specs.declared.answer.Answer.{Answer}
 use Rattle.pw_answer.specs.declared.answer.Answer.TheVariants as answer
-use Rattle.pw_answer.specs.Effects.{NamedFile, PutPart, PutsFiles}
+use Rattle.pw_answer.specs.Effects.{NamedFile, PutPart, PutsFiles, after_puts}
 use Rattle.pw_modules.specs.Modules.{modules_of}
 use Rattle.pw_filing.specs.FromBuild.BuildFault.{BuildFault}
 use Rattle.pw_filing.specs.FromBuild.BuildFault.TheVariants as build
@@ -17,6 +18,7 @@ use Rattle.pw_kept.specs.declared.prepared.Prepared.{Prepared}
 use Rattle.pw_kept.specs.Files.{changed_files}
 pub use Rattle.pw_filing.specs.Programs.{FaultComes, FaultCount, fault_answer}
 use Rattle.pw_building.specs.Building.{BuildComes, Outcome, puts_of}
+use Rattle.pw_building.specs.Genuine.{IsBuiltName}
 
 -- at most 8 registers for webs, and a stack of a size that there may be
 pub record AreOpts (opts : Opts) : Type 0 where
@@ -56,9 +58,17 @@ pub record ObeysBuild (opts : Opts) (result : Result Report Unbuilt) (told : Tol
   pub puts : (comes : Result Outcome BuildFault) → BuildComes told.files opts.colours opts.stack comes → PutsFiles (puts_of comes) (build_answer result) told new
   pub found : IsBuildFound told.files opts result
 
--- Some files were put, whole, and of one more perhaps a part; every other file has its old bytes.
-abbrev pub PutsSome : Told → Option Told → Type 0
-PutsSome told new = (files : List NamedFile) × PutPart told files new
+-- the files have names of a build's
+abbrev pub AreBuilt : List NamedFile → Type 0
+AreBuilt files = AllByRecursion (λ file. IsBuiltName file.0) files
+
+-- Files of a build were put, whole and in order; where the store failed, of one more perhaps a part; a refusal has put
+-- nothing. Every other file has its old bytes.
+abbrev pub PutsSome : Answer → Told → Option Told → Type 0
+PutsSome answer.StoreFault told new = (files : List NamedFile) × AreBuilt files × PutPart told files new
+PutsSome (answer.Refused name refusal) told new = new ≡ Some told
+PutsSome (answer.LinkRefused fault) told new = new ≡ Some told
+PutsSome _ told new = (files : List NamedFile) × AreBuilt files × (new ≡ Some (after_puts told files))
 
 -- the line of a refused module, where one is refused
 abbrev pub IsLineOfBuild : Files → Result Report Unbuilt → Type 0

@@ -69,7 +69,7 @@ pub fn build<S: Store, L: Ledger>(
     requires { AreOpts opts.now }
     ensures obeys { IfSome (S.told store.old) (λ told. ObeysBuild opts.now result told (S.told store.new)) }
     ensures line { IfSome (S.told store.old) (λ told. IsLineOfBuild told.files result) }
-    ensures others { IfSome (S.told store.old) (λ told. PutsSome told (S.told store.new)) }
+    ensures others { IfSome (S.told store.old) (λ told. PutsSome (build_answer result) told (S.told store.new)) }
     ensures rest { IfSome (S.told store.old) (λ told. LeavesOthers told (S.told store.new)) }
     ensures genuine { IfSome (S.told store.old) (λ told. KeepsGenuine told.files → IfSome (S.told store.new) (λ now. KeepsGenuine now.files)) }
     ensures counted { IfOk result (λ report. steps.new ≡ steps.old + length report.rebuilt.items) }

@@ -18,7 +18,8 @@ use pw_db::laws::databases_and_files_are_one_to_one;
 use pw_filing::build_laws;
 use pw_filing::build_laws::modules_have_one_build;
 use pw_image::laws::images_and_files_are_one_to_one;
-use pw_io::laws::other_files;
+use pw_io::laws::{names, other_files};
+use pw_modules::modules_are_exact;
 use pw_object::laws::objects_and_files_are_one_to_one;
 
 /// The files of a store come to one build.
@@ -35,6 +36,8 @@ pub fn a_store_has_one_build()
 pub fn genuine_objects_give_the_full_build()
     ensures { (files : Files) (colours stack : ℕ) (a : Result Parts BuildFault) → KeepsGenuine files → Builds (modules_of files) (kept_objects files) colours stack a → Builds (modules_of files) [] colours stack (built_anew a) }
 {
+    names();
+    modules_are_exact();
     build_laws::genuine_objects_give_the_full_build();
 }
 

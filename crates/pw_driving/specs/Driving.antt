@@ -1,5 +1,6 @@
 -- What the command `build` comes to, and what it leaves alone.
-use Rattle.std.specs.Prelude.{◌≡◌, ◌≤◌, ℕ, List, ◌++◌, length, Option, IsSomeAnd, Result, Ok, Err}
+use Rattle.std.specs.Prelude.{◌≡◌, ◌≢◌, ◌≤◌, ℕ, List, [], ◌++◌, length, Option, IsSomeAnd, Result, Ok, Err}
+use Rattle.std.specs.List.{AllByRecursion}
 use Rattle.sha2.specs.Sha256.{sha256}
 use Rattle.pw_io.specs.Files.{Files, Told}
 use Rattle.pw_answer.specs.declared.answer.Answer.{Answer}
@@ -7,6 +8,7 @@ use Rattle.pw_answer.specs.declared.answer.Answer.TheVariants.{Done, Refused, Li
 use Rattle.pw_answer.specs.Effects.{Effect, answers_alone}
 use Rattle.pw_building.specs.FromBuild.BuildFault.{BuildFault}
 use Rattle.pw_building.specs.Building.{BuildComes, Outcome}
+use Rattle.pw_building.specs.Genuine.{IsBuiltName}
 use Rattle.pw_building.specs.Lines.{report_lines}
 use Rattle.pw_building.specs.Outcomes.{fault_answer}
 use Rattle.pw_commands.specs.Others.{IsSameBut}
@@ -44,17 +46,19 @@ IsLineDue due _ line = Unit {0}
 
 -- ---- what it leaves alone
 
--- The store tells the names that were put besides, and every file has its old bytes, or is absent as before, but those
--- of these names and perhaps of one more, whose put failed.
-pub record Unput (told left : Told) : Type 0 where
+-- The store tells the names that were put besides, all of a build, and every file has its old bytes, or is absent as
+-- before, but those of these names and, where the store failed, perhaps of one more, whose put failed.
+pub record Unput (answer : Answer) (told left : Told) : Type 0 where
   pub put : List (List ℕ)
   pub failed : List (List ℕ)
+  pub own : AllByRecursion IsBuiltName (put ++ failed)
   pub one : length failed ≤ 1
+  pub none : answer ≢ StoreFault → failed ≡ []
   pub told_so : left.puts ≡ told.puts ++ put
   pub same : IsSameBut (put ++ failed) told.files left.files
 
-abbrev pub KeepsUnput : Told → Option Told → Type 0
-KeepsUnput told new = IsSomeAnd new (Unput told)
+abbrev pub KeepsUnput : Answer → Told → Option Told → Type 0
+KeepsUnput answer told new = IsSomeAnd new (Unput answer told)
 
 -- the answers of what only puts out
 abbrev pub IsPrintAnswer : Answer → Type 0

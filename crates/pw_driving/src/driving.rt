@@ -7,7 +7,7 @@ ghost use Rattle.pw_answer.specs.Outcomes.{LeavesStreams, OutputCount, PutsOut, 
 ghost use Rattle.pw_building.specs.FromBuild.Phases.{refused_line};
 ghost use Rattle.pw_building.specs.Genuine.{KeepsGenuine};
 ghost use Rattle.pw_building.specs.Lines.{report_text};
-ghost use Rattle.pw_building.specs.Outcomes.{AreOpts, FaultCount, IsLineOfBuild, ObeysBuild, PutsSome, fault_answer};
+ghost use Rattle.pw_building.specs.Outcomes.{AreOpts, FaultCount, IsLineOfBuild, ObeysBuild, PutsSome, build_answer, fault_answer};
 ghost use Rattle.pw_commands.specs.Outcome.{Obeys};
 ghost use Rattle.pw_driving.specs.Driving.{BuildComesTo, IsBuildAnswer, IsLineDue, IsPrintAnswer, KeepsUnput};
 
@@ -33,7 +33,7 @@ fn build_counted<S: Store, L: Ledger>(
     requires some { 0 < blank.parts }
     ensures obeys { IfSome (S.told store.old) (λ told. ObeysBuild opts.now result told (S.told store.new)) }
     ensures line { IfSome (S.told store.old) (λ told. IsLineOfBuild told.files result) }
-    ensures others { IfSome (S.told store.old) (λ told. PutsSome told (S.told store.new)) }
+    ensures others { IfSome (S.told store.old) (λ told. PutsSome (build_answer result) told (S.told store.new)) }
     ensures genuine { IfSome (S.told store.old) (λ told. KeepsGenuine told.files → IfSome (S.told store.new) (λ now. KeepsGenuine now.files)) }
     ensures count { FaultCount (S.faults store.old) (S.faults store.new) result }
 {
@@ -50,7 +50,7 @@ pub fn build_uncounted<S: Store>(
     requires { AreOpts opts.now }
     ensures obeys { IfSome (S.told store.old) (λ told. ObeysBuild opts.now result told (S.told store.new)) }
     ensures line { IfSome (S.told store.old) (λ told. IsLineOfBuild told.files result) }
-    ensures others { IfSome (S.told store.old) (λ told. PutsSome told (S.told store.new)) }
+    ensures others { IfSome (S.told store.old) (λ told. PutsSome (build_answer result) told (S.told store.new)) }
     ensures genuine { IfSome (S.told store.old) (λ told. KeepsGenuine told.files → IfSome (S.told store.new) (λ now. KeepsGenuine now.files)) }
     ensures count { FaultCount (S.faults store.old) (S.faults store.new) result }
 {
@@ -107,7 +107,7 @@ pub fn build_modules<S: Store, O: Sink>(
     requires { AreOpts opts.now }
     ensures obeys { IfSome (S.told store.old) (λ told. (input : List ℕ) → Obeys (BuildComesTo told.files opts.now.colours opts.now.stack input) result.answer told (S.told store.new)) }
     ensures output { IfSome (S.told store.old) (λ told. (input : List ℕ) (effect : Effect) → BuildComesTo told.files opts.now.colours opts.now.stack input effect → PutsOut effect.output result.answer (O.taken out.old) (O.taken out.new)) }
-    ensures others { IfSome (S.told store.old) (λ told. KeepsUnput told (S.told store.new)) }
+    ensures others { IfSome (S.told store.old) (λ told. KeepsUnput result.answer told (S.told store.new)) }
     ensures genuine { IfSome (S.told store.old) (λ told. KeepsGenuine told.files → IfSome (S.told store.new) (λ now. KeepsGenuine now.files)) }
     ensures line { IfSome (S.told store.old) (λ told. IsLineDue (refused_line (modules_of told.files)) result.answer result.line) }
     ensures answer { IsBuildAnswer result.answer }

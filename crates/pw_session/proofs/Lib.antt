@@ -7,3 +7,4 @@ pub mod SessionLemmas
 pub mod TurnLemmas
 pub mod RunLemmas
 pub mod BenchLemmas
+pub mod EndLemmas

@@ -1,11 +1,11 @@
 -- What a line of a script does.
-use Rattle.std.proofs.Common.{◌≡◌, ℕ, inr, List, [], ◌∷◌, length, map, Option, Some, None, Result, Ok, Err, refl, sym, ap, ◌∙◌, subst}
+use Rattle.std.proofs.Common.{◌≡◌, ℕ, inl, inr, true, List, [], ◌∷◌, length, map, Option, Some, None, Result, Ok, Err, refl, sym, ap, ◌∙◌, subst}
 use Rattle.std.specs.Prelude.{IfSome, IsSomeAnd, codes}
 use Rattle.pw_io.specs.declared.StoreError.{StoreError}
 use Rattle.pw_io.specs.declared.StoreError.TheVariants as store
 use Rattle.pw_io.specs.Faults.{HasStoreCause, OnFailed, OnNoMemory}
 use Rattle.pw_io.specs.Files.{Files, Keeps, Told, LeavesFile, PutsPart}
-use Rattle.pw_modules.specs.Modules.{modules_of}
+use Rattle.pw_modules.specs.Modules.{is_module_file, modules_of}
 use Rattle.pw_answer.specs.declared.answer.Answer.{Answer}
 use Rattle.pw_answer.specs.declared.answer.Answer.TheVariants.{Done, Refused, LinkRefused, StoreFault, NoMemory}
 use Rattle.pw_answer.specs.Answers.{line_text}
@@ -24,12 +24,12 @@ use Rattle.pw_driving.specs.Driving.{IsPrintAnswer, outcome_lines}
 use Rattle.pw_script.specs.Script.{LineValue, PutText, RemoveText, BuildProgram, RunProgram}
 use Rattle.pw_session.specs.declared.opts.SessionOpts.{SessionOpts}
 use Rattle.pw_session.specs.Builds.{BuildsTo}
-use Rattle.pw_session.specs.Changes.{Change, MakesChanges, MakesSome, Puts, Removes, after_changes}
+use Rattle.pw_session.specs.Changes.{AreOwnChanges, Change, MakesChanges, MakesSome, Puts, Removes, after_changes}
 use Rattle.pw_session.specs.Session.{Act, Acts, State, builds_as, changes_as, puts_out}
 use Rattle.pw_session.specs.Outcomes.{Does, IsLineAnswer, ObeysLine, ObeysRun, SaysFault}
 use Rattle.pw_session.proofs.OutputLemmas.{puts_alone}
 use Rattle.pw_session.proofs.BuildLemmas.{DoesBuild, IsFaultFound, does_build}
-use Rattle.pw_session.proofs.ChangeLemmas.{front_none, makes_all, makes_some, part_none, put_part, puts_make}
+use Rattle.pw_session.proofs.ChangeLemmas.{front_none, makes_all, makes_some, own_puts, part_none, put_part, puts_make, puts_some}
 use Rattle.pw_session.proofs.TurnLemmas.{say_store}
 
 -- ---- a change of one file
@@ -103,13 +103,9 @@ pub line_built : (opts : SessionOpts) (built : Option (List ℕ)) (report : Repo
 line_built opts built report None new answer taken taken' image obeys out e = tt
 line_built opts built report (Some told) new answer taken taken' image obeys out e = built_line opts (record { told = told; image = built }) report new answer taken taken' image (does_build opts.build (Ok report) told new obeys) out e
 
-pub made_built : (opts : Opts) (report : Report) (first new : Option Told) (answer : Answer) → IfSome first (λ told. ObeysBuild opts (Ok report) told new) → IfSome first (λ told. MakesSome answer told new)
-made_built opts report None new answer obeys = tt
-made_built opts report (Some told) new answer obeys =
-    let does = does_build opts (Ok report) told new obeys in
-    let found = does.found in
-    let puts = does.puts (Ok found.0) found.1 in
-    makes_some (map Puts found.0.puts) answer told new (makes_all (map Puts found.0.puts) answer told new (puts_make found.0.puts Done told new puts))
+pub made_built : (first new : Option Told) (answer : Answer) → IfSome first (λ told. PutsSome Done told new) → IfSome first (λ told. MakesSome answer told new)
+made_built None new answer some = tt
+made_built (Some told) new answer some = puts_some some.0 answer told new some.1 some.2
 
 -- ---- a build that is not done
 
@@ -169,19 +165,16 @@ pub line_refused : (opts : SessionOpts) (built : Option (List ℕ)) (unbuilt : U
 line_refused opts built unbuilt None new answer taken taken' image obeys line said e = tt
 line_refused opts built unbuilt (Some told) new answer taken taken' image obeys line said e = fault_said opts (record { told = told; image = built }) unbuilt new answer taken taken' image (does_build opts.build (Err unbuilt) told new obeys) line said e
 
-some_refused : (told : Told) (opts : Opts) (fault : BuildFault) (line : ℕ) (new : Option Told) (answer : Answer) (taken taken' : Option (List ℕ)) → IsFaultFound told.files opts fault
-    → ((comes : Result Outcome BuildFault) → BuildsTo told.files opts comes → PutsFiles (puts_of comes) (fault_answer fault) told new) → PutsSome told new → SaysFault fault line answer taken taken' → MakesSome answer told new
-some_refused told opts build.StoreFault line new answer taken taken' f puts some q = subst (λ (a : Answer). MakesSome a told new) (sym q.0) (map Puts some.0, put_part some.0 told new some.1)
-some_refused told opts build.NoMemory line new answer taken taken' f puts some q = subst (λ (a : Answer). MakesSome a told new) (sym q.0) (map Puts some.0, put_part some.0 told new some.1)
-some_refused told opts (build.Refused name refusal) line new answer taken taken' f puts some q = makes_some [] answer told new (makes_all [] answer told new (puts (Err (build.Refused name refusal)) f))
-some_refused told opts (build.LinkRefused fault) line new answer taken taken' f puts some q = makes_some [] answer told new (makes_all [] answer told new (puts (Err (build.LinkRefused fault)) f))
+some_refused : (told : Told) (fault : BuildFault) (line : ℕ) (new : Option Told) (answer : Answer) (taken taken' : Option (List ℕ)) → PutsSome (fault_answer fault) told new → SaysFault fault line answer taken taken' → MakesSome answer told new
+some_refused told build.StoreFault line new answer taken taken' some q = subst (λ (a : Answer). MakesSome a told new) (sym q.0) (map Puts some.0, own_puts some.0 some.1, put_part some.0 told new some.2)
+some_refused told build.NoMemory line new answer taken taken' some q = puts_some some.0 answer told new some.1 some.2
+some_refused told (build.Refused name refusal) line new answer taken taken' some q = makes_some [] answer told new tt (makes_all [] answer told new some)
+some_refused told (build.LinkRefused fault) line new answer taken taken' some q = makes_some [] answer told new tt (makes_all [] answer told new some)
 
-pub made_refused : (opts : Opts) (unbuilt : Unbuilt) (first new : Option Told) (answer : Answer) (taken taken' : Option (List ℕ)) → IfSome first (λ told. ObeysBuild opts (Err unbuilt) told new) → IfSome first (λ told. PutsSome told new)
+pub made_refused : (unbuilt : Unbuilt) (first new : Option Told) (answer : Answer) (taken taken' : Option (List ℕ)) → IfSome first (λ told. PutsSome (fault_answer unbuilt.fault) told new)
     → SaysFault unbuilt.fault unbuilt.line answer taken taken' → IfSome first (λ told. MakesSome answer told new)
-made_refused opts unbuilt None new answer taken taken' obeys some said = tt
-made_refused opts unbuilt (Some told) new answer taken taken' obeys some said =
-    let does = does_build opts (Err unbuilt) told new obeys in
-    some_refused told opts unbuilt.fault unbuilt.line new answer taken taken' does.found does.puts some said
+made_refused unbuilt None new answer taken taken' some said = tt
+made_refused unbuilt (Some told) new answer taken taken' some said = some_refused told unbuilt.fault unbuilt.line new answer taken taken' some said
 
 -- ---- the other lines
 
@@ -206,9 +199,19 @@ line_removed opts built file None new answer taken taken' image does e = tt
 line_removed opts built file (Some told) new answer taken taken' image does e =
     change_line opts (record { told = told; image = built }) (RemoveText file) (Removes file) new answer taken taken' image (λ act h. h) refl does e
 
-pub does_some : (output : List ℕ) (changes : List Change) (first new : Option Told) (answer : Answer) (taken taken' : Option (List ℕ)) → IfSome first (λ told. Does output changes answer told new taken taken') → IfSome first (λ told. MakesSome answer told new)
-does_some output changes None new answer taken taken' does = tt
-does_some output changes (Some told) new answer taken taken' does = makes_some changes answer told new does.made
+pub does_some : (output : List ℕ) (changes : List Change) (first new : Option Told) (answer : Answer) (taken taken' : Option (List ℕ)) → AreOwnChanges changes → IfSome first (λ told. Does output changes answer told new taken taken')
+    → IfSome first (λ told. MakesSome answer told new)
+does_some output changes None new answer taken taken' own does = tt
+does_some output changes (Some told) new answer taken taken' own does = makes_some changes answer told new own does.made
+
+-- of one module's file
+pub put_some : (output file text : List ℕ) (first new : Option Told) (answer : Answer) (taken taken' : Option (List ℕ)) → is_module_file file ≡ true → IfSome first (λ told. Does output (Puts (file, text) ∷ []) answer told new taken taken')
+    → IfSome first (λ told. MakesSome answer told new)
+put_some output file text first new answer taken taken' own does = does_some output (Puts (file, text) ∷ []) first new answer taken taken' (inl own, tt) does
+
+pub removed_some : (output file : List ℕ) (first new : Option Told) (answer : Answer) (taken taken' : Option (List ℕ)) → is_module_file file ≡ true → IfSome first (λ told. Does output (Removes file ∷ []) answer told new taken taken')
+    → IfSome first (λ told. MakesSome answer told new)
+removed_some output file first new answer taken taken' own does = does_some output (Removes file ∷ []) first new answer taken taken' (own, tt) does
 
 run_does : (opts : SessionOpts) (s : State) (input : List ℕ) (new : Option Told) (answer : Answer) (taken taken' image : Option (List ℕ)) → ObeysRun s.image opts.budget input answer taken taken' → new ≡ Some s.told → image ≡ s.image
     → ObeysLine opts s (RunProgram input) answer new taken taken' image
@@ -225,7 +228,7 @@ line_run opts built input (Some told) answer taken taken' image run e = run_does
 
 pub same_some : (first : Option Told) (answer : Answer) → IfSome first (λ told. MakesSome answer told first)
 same_some None answer = tt
-same_some (Some told) answer = makes_some [] answer told (Some told) (makes_all [] answer told (Some told) refl)
+same_some (Some told) answer = makes_some [] answer told (Some told) tt (makes_all [] answer told (Some told) refl)
 
 -- ---- over what the calls gave
 

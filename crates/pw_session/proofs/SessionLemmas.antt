@@ -23,7 +23,7 @@ use Rattle.pw_session.proofs.ChangeLemmas.{after_both, front_none, makes_all, ma
 -- ---- the lines that are left
 
 -- a line stands there
-lines_next : (n offset size : ℕ) (left later : List ℕ) (line : LineValue) → first_line left ≡ Some (line, later) → length left ≡ size + length later → lines_from (suc n) offset left ≡ with_line line (lines_from n (offset + size) later)
+pub lines_next : (n offset size : ℕ) (left later : List ℕ) (line : LineValue) → first_line left ≡ Some (line, later) → length left ≡ size + length later → lines_from (suc n) offset left ≡ with_line line (lines_from n (offset + size) later)
 unfolding lines_from
 lines_next n offset size left later line e l =
     let k : length left - length later ≡ size = omega (arith, l) in
@@ -31,12 +31,12 @@ lines_next n offset size left later line e l =
     ∙ ap (λ (m : ℕ). with_line line (lines_from n (offset + m) later)) k
 
 -- none does
-lines_stop : (n offset : ℕ) (left : List ℕ) → first_line left ≡ None → lines_from (suc n) offset left ≡ no_line offset left
+pub lines_stop : (n offset : ℕ) (left : List ℕ) → first_line left ≡ None → lines_from (suc n) offset left ≡ no_line offset left
 unfolding lines_from
 lines_stop n offset left e =
     ap (λ (o : Option (LineValue × List ℕ)). option_map_or (λ (cut : LineValue × List ℕ). with_line cut.0 (lines_from n (offset + (length left - length cut.1)) cut.1)) o (no_line offset left)) e
 
-lines_over : (offset : ℕ) (left : List ℕ) → lines_from zero offset left ≡ no_line offset left
+pub lines_over : (offset : ℕ) (left : List ℕ) → lines_from zero offset left ≡ no_line offset left
 unfolding lines_from
 lines_over offset left = refl
 
@@ -107,7 +107,7 @@ end_turn opts s n offset left new taken taken' e same quiet =
     subst (λ (l : List ℕ). ObeysLines opts s (lines_from (suc n) offset l) Done new taken taken') (sym e)
     (lines_are opts s (lines_from (suc n) offset []) (no_line offset []) Done new taken taken' (lines_stop n offset [] refl) (over_none opts s None Done new taken taken' refl same quiet))
 
-bad_there : (offset : ℕ) (left : List ℕ) → left ≢ [] → bad_at offset left ≡ Some offset
+pub bad_there : (offset : ℕ) (left : List ℕ) → left ≢ [] → bad_at offset left ≡ Some offset
 bad_there offset [] h = absurd (h refl)
 bad_there offset (byte ∷ left) h = refl
 

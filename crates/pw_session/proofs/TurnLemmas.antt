@@ -23,7 +23,7 @@ use Rattle.pw_session.proofs.ChangeLemmas.{some_then}
 -- ---- the store
 
 some_told : (answer : Answer) (told : Told) (now new : Option Told) → MakesSome Done told now → IfSome now (λ t. MakesSome answer t new) → MakesSome answer told new
-some_told answer told now new h k = some_then h.0 answer told new (subst (λ (o : Option Told). IfSome o (λ t. MakesSome answer t new)) h.1 k)
+some_told answer told now new h k = some_then h.0 answer told new h.1 (subst (λ (o : Option Told). IfSome o (λ t. MakesSome answer t new)) h.2 k)
 
 pub some_on : (answer : Answer) (first now new : Option Told) → IfSome first (λ told. MakesSome Done told now) → IfSome now (λ told. MakesSome answer told new) → IfSome first (λ told. MakesSome answer told new)
 some_on answer None now new h k = tt
@@ -36,7 +36,7 @@ genuine_told at now new e k h =
 pub genuine_on : (first now new : Option Told) → IfSome first (λ told. MakesSome Done told now) → IfSome first (λ told. KeepsGenuine told.files → IfSome now (λ t. KeepsGenuine t.files))
     → IfSome now (λ told. KeepsGenuine told.files → IfSome new (λ t. KeepsGenuine t.files)) → IfSome first (λ told. KeepsGenuine told.files → IfSome new (λ t. KeepsGenuine t.files))
 genuine_on None now new some h k = tt
-genuine_on (Some told) now new some h k = λ g. genuine_told (after_changes told some.0) now new some.1 (h g) k
+genuine_on (Some told) now new some h k = λ g. genuine_told (after_changes told some.0) now new some.2 (h g) k
 
 pub genuine_same : (first : Option Told) → IfSome first (λ told. KeepsGenuine told.files → IfSome first (λ t. KeepsGenuine t.files))
 genuine_same None = tt

@@ -1,9 +1,12 @@
 -- Changes of the files of a store.
 use Rattle.std.specs.Prelude.{◌≡◌, ℕ, ◌⊎◌, List, [], ◌∷◌, ◌++◌, Option, Some, IsSomeAnd}
+use Rattle.std.specs.List.{AllByRecursion}
 use Rattle.pw_io.specs.Files.{Told, after_put, after_remove, LeavesFile}
+use Rattle.pw_modules.specs.Modules.{IsModuleFile}
 use Rattle.pw_answer.specs.declared.answer.Answer.{Answer}
-use Rattle.pw_answer.specs.declared.answer.Answer.TheVariants.{Done, ReadFault, WriteFault, StoreFault, NoMemory}
+use Rattle.pw_answer.specs.declared.answer.Answer.TheVariants.{ReadFault, WriteFault, StoreFault, NoMemory}
 use Rattle.pw_answer.specs.Effects.{NamedFile}
+use Rattle.pw_driving.specs.FromBuilding.Genuine.{IsBuiltName}
 
 -- a file is put, or the one of a name is removed
 pub data Change : Type 0 where
@@ -48,7 +51,16 @@ MakesChanges changes WriteFault told new = ChangeFront told changes new
 MakesChanges changes NoMemory told new = ChangeFront told changes new
 MakesChanges changes _ told new = new ≡ Some (after_changes told changes)
 
--- Some changes were made, whatever they are; where the answer is not `Done`, perhaps a put that follows in part.
+-- a session puts files of modules and of builds, and removes files of modules alone
+abbrev pub IsOwnChange : Change → Type 0
+IsOwnChange (Puts file) = IsModuleFile file.0 ⊎ IsBuiltName file.0
+IsOwnChange (Removes name) = IsModuleFile name
+
+abbrev pub AreOwnChanges : List Change → Type 0
+AreOwnChanges changes = AllByRecursion IsOwnChange changes
+
+-- Some of these files were put and removed, whole and in order, and no others; where the store failed, perhaps one more
+-- was put in part.
 abbrev pub MakesSome : Answer → Told → Option Told → Type 0
-MakesSome Done told new = (changes : List Change) × (new ≡ Some (after_changes told changes))
-MakesSome _ told new = (changes : List Change) × ChangePart told changes new
+MakesSome StoreFault told new = (changes : List Change) × AreOwnChanges changes × ChangePart told changes new
+MakesSome _ told new = (changes : List Change) × AreOwnChanges changes × (new ≡ Some (after_changes told changes))

@@ -1,5 +1,5 @@
 -- What a session answers, puts out and leaves of the store and its input.
-use Rattle.std.specs.Prelude.{◌≡◌, ℕ, ◌+◌, ◌≤◌, suc, List, [], length, Option, Some, None, Vec, option_map}
+use Rattle.std.specs.Prelude.{◌≡◌, ℕ, ◌+◌, ◌≤◌, suc, List, [], length, Option, Some, None, IsSomeAnd, Vec, option_map}
 use Rattle.std.specs.declared.alloc.Global.{Global}
 use Rattle.pw_io.specs.Files.{Told}
 use Rattle.pw_answer.specs.declared.answer.Answer.{Answer}
@@ -58,6 +58,11 @@ IsSessionAnswer NoMemory = Unit {0}
 IsSessionAnswer (BadScript at) = Unit {0}
 IsSessionAnswer _ = ⊥
 
+-- How a session ends is a function of its script alone, whatever the store tells; a fault and want of memory may come in
+-- place of that.
+abbrev pub EndsAs : List ℕ → Answer → Type 0
+EndsAs script answer = Answers (script_answer (lines_of script).bad) answer
+
 -- A script that was taken to its end is read whole; else a front of it was read.
 abbrev pub LeavesScript : List ℕ → Answer → Option (List ℕ) → Type 0
 LeavesScript script Done new = new ≡ Some []
@@ -93,6 +98,11 @@ TakesTurn opts s offset script (Over answer) new rest taken taken' image =
     (n : ℕ) → ObeysLines opts s (lines_from (suc n) offset script) answer new taken taken'
 TakesTurn opts s offset script (Obeyed size) new rest taken taken' image =
     (line : LineValue) × (later : List ℕ) × (first_line script ≡ Some (line, later)) × (length script ≡ size + length later) × (rest ≡ Some later) × ObeysLine opts s line Done new taken taken' image
+
+-- What a turn says of how the session ends: as what is left of the script says, or as what is left behind its first line.
+abbrev pub EndsTurn : ℕ → List ℕ → Turn → Option (List ℕ) → Type 0
+EndsTurn offset script (Over answer) rest = (n : ℕ) → Answers (script_answer (lines_from (suc n) offset script).bad) answer
+EndsTurn offset script (Obeyed size) rest = IsSomeAnd rest (λ later. (n : ℕ) → (lines_from (suc n) offset script).bad ≡ (lines_from n (offset + size) later).bad)
 
 -- the answer of a turn: `Done` where its line was obeyed
 abbrev pub turn_answer : Turn → Answer

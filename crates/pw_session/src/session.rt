@@ -7,7 +7,7 @@ ghost use Rattle.pw_driving.specs.FromBuilding.Outcomes.{AreOpts};
 ghost use Rattle.pw_script.specs.Reading.{IsReadInPart, line_view};
 ghost use Rattle.pw_script.specs.Script.{NamesModule};
 ghost use Rattle.pw_session.specs.Changes.{MakesSome};
-ghost use Rattle.pw_session.specs.Outcomes.{IsLastAnswer, IsReadAnswer, IsSessionAnswer, IsTaken, IsTurn, LeavesScript, LeavesTurn, ObeysLine, ObeysSession, TakesTurn, image_view, end_answer, turn_answer, unread};
+ghost use Rattle.pw_session.specs.Outcomes.{EndsAs, EndsTurn, IsLastAnswer, IsReadAnswer, IsSessionAnswer, IsTaken, IsTurn, LeavesScript, LeavesTurn, ObeysLine, ObeysSession, TakesTurn, image_view, end_answer, turn_answer, unread};
 
 use crate::lines::obey_line;
 use crate::opts::SessionOpts;
@@ -74,6 +74,7 @@ fn take_turn<S: Store, I: Source, O: Sink>(
 ) -> Turn
     requires { AreOpts opts.now.build }
     ensures turn { IfSome (S.told store.old) (λ told. IfSome (I.rest input.old) (λ script. TakesTurn opts.now (record { told = told; image = image_view image.old }) offset script result (S.told store.new) (I.rest input.new) (O.taken out.old) (O.taken out.new) (image_view image.new))) }
+    ensures ends { IfSome (I.rest input.old) (λ script. EndsTurn offset script result (I.rest input.new)) }
     ensures some { IfSome (S.told store.old) (λ told. MakesSome (turn_answer result) told (S.told store.new)) }
     ensures genuine { IfSome (S.told store.old) (λ told. KeepsGenuine told.files → IfSome (S.told store.new) (λ now. KeepsGenuine now.files)) }
     ensures part { IfSome (I.rest input.old) (λ script. IsReadInPart script (I.rest input.new)) }
@@ -129,6 +130,7 @@ pub fn run_session<S: Store, I: Source, O: Sink>(
 ) -> Answer
     requires { AreOpts opts.now.build }
     ensures obeys { IfSome (S.told store.old) (λ told. IfSome (I.rest input.old) (λ script. ObeysSession opts.now told script result (S.told store.new) (O.taken out.old) (O.taken out.new))) }
+    ensures ends { IfSome (I.rest input.old) (λ script. EndsAs script result) }
     ensures some { IfSome (S.told store.old) (λ told. MakesSome result told (S.told store.new)) }
     ensures genuine { IfSome (S.told store.old) (λ told. KeepsGenuine told.files → IfSome (S.told store.new) (λ now. KeepsGenuine now.files)) }
     ensures rest { IfSome (I.rest input.old) (λ script. LeavesScript script result (I.rest input.new)) }

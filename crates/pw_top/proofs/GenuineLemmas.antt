@@ -62,7 +62,7 @@ pub stays_genuine : (names : List (List ℕ)) (told new : Option Told) → ((nam
 stays_genuine names None new apart h = tt
 stays_genuine names (Some t) None apart h = λ k. tt
 stays_genuine names (Some t) (Some now) apart h =
-    λ k name object e. k name object
+    λ k name object named e. k name object named
     (ap (λ (g : Option (List ℕ)). object_in (counted g)) (sym (h.same (object_name name) (none_of_own names (h.put ++ h.failed) (object_name name) h.own (apart name)))) ∙ e)
 
 -- the command puts the files of its words alone, and none of them is an object's
@@ -124,12 +124,12 @@ pub others_alone : (names : List (List ℕ)) (told : Option Told) → KeepsOther
 others_alone names None = tt
 others_alone names (Some t) = none_put names t
 
-unput_alone : (told : Told) → KeepsUnput told (Some told)
-unput_alone told = record { put = []; failed = []; one = omega arith; told_so = sym (append-nil told.puts); same = λ name n. refl }
+unput_alone : (answer : Answer) (told : Told) → KeepsUnput answer told (Some told)
+unput_alone answer told = record { put = []; failed = []; own = tt; one = omega arith; none = λ h. refl; told_so = sym (append-nil told.puts); same = λ name n. refl }
 
 pub rest_alone : (command : Option Command) (told : Option Told) → KeepsTheRest command NoMemory told told
 rest_alone (Some (BuildAll colours stack)) None = tt
-rest_alone (Some (BuildAll colours stack)) (Some t) = unput_alone t
+rest_alone (Some (BuildAll colours stack)) (Some t) = unput_alone NoMemory t
 rest_alone (Some (Session colours stack steps)) None = tt
 rest_alone (Some (Session colours stack steps)) (Some t) = changes_none t
 rest_alone command told = others_alone (files_put command) told

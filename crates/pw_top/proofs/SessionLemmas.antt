@@ -36,7 +36,7 @@ session_no_usage _ h = tt
 
 -- what was changed
 pub changes_none : (told : Told) → MakesSome NoMemory told (Some told)
-changes_none told = ([], record { done = []; more = []; split = refl; left = refl })
+changes_none told = ([], tt, refl)
 
 pub some_memory : (answer : Answer) (told : Told) (new : Option Told) → NeedsMemory answer → MakesSome answer told new → MakesSome NoMemory told new
 some_memory (Refused name refusal) told new n h = h

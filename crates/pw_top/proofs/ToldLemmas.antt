@@ -4,7 +4,7 @@ use Rattle.std.specs.Prelude.{IfSome}
 use Rattle.pw_io.specs.Files.{Files, Told}
 use Rattle.pw_front.specs.declared.refusal.Refusal.{Refusal}
 use Rattle.pw_answer.specs.declared.answer.Answer.{Answer}
-use Rattle.pw_answer.specs.declared.answer.Answer.TheVariants.{Usage, Refused, LinkRefused, Halted, NoMemory, BadFile, BadScript}
+use Rattle.pw_answer.specs.declared.answer.Answer.TheVariants.{Usage, Refused, LinkRefused, Halted, StoreFault, NoMemory, BadFile, BadScript}
 use Rattle.pw_answer.specs.Answers.{line_text, NeedsMemory}
 use Rattle.pw_answer.specs.Effects.{Effect, NamedFile, PutsFiles, PutFront}
 use Rattle.pw_answer.specs.Outcomes.{Answers, InputCount, LeavesInput, LeavesStreams, OutputCount, PutsOut, StoreCount, ToldAs, WasReadInPart}
@@ -15,9 +15,10 @@ use Rattle.pw_run_laws.specs.FromGo.FullBuild.{Build, full_build}
 use Rattle.pw_run_laws.specs.FromGo.Going.{AnswersBuild, ReturnsSum, build_effect}
 use Rattle.pw_run_laws.specs.FromGo.Refusals.{HoldsNoWantOfMemory}
 use Rattle.pw_words.specs.declared.commands.Command.{Command}
-use Rattle.pw_words.specs.declared.commands.Command.TheVariants.{Go, Session}
+use Rattle.pw_words.specs.declared.commands.Command.TheVariants.{Go, Build as BuildAll, Session}
 use Rattle.pw_compiling.specs.First.{IsLine}
-use Rattle.pw_top.specs.Commands.{KeepsTheRest, opts_of}
+use Rattle.pw_session.specs.FromDriving.Driving.{KeepsUnput, Unput}
+use Rattle.pw_top.specs.Commands.{EndsScript, KeepsTheRest, opts_of}
 use Rattle.pw_top.specs.Does.{Does, DoesAs}
 use Rattle.pw_top.proofs.DoesLemmas.{memory_here, out_part}
 use Rattle.pw_top.proofs.SessionLemmas.{session_memory_here, session_no_memory, some_memory}
@@ -100,6 +101,16 @@ told_does runs builds command None new old rest taken taken' answer last t h = t
 told_does runs builds command (Some now) new None rest taken taken' answer last t h = tt
 told_does runs builds command (Some now) new (Some input) rest taken taken' answer last t h =
     told_by (λ a. DoesAs command a now new input rest taken taken') answer last t h (λ n d. as_no_memory runs builds command answer now new input rest taken taken' n d)
+
+-- ---- the end of a session
+
+pub memory_ends : (command : Option Command) (script : Option (List ℕ)) → EndsScript command script NoMemory
+memory_ends (Some (Session colours stack steps)) None = tt
+memory_ends (Some (Session colours stack steps)) (Some bytes) = tt
+memory_ends command script = tt
+
+pub ends_told : (command : Option Command) (script : Option (List ℕ)) (answer last : Answer) → ToldAs answer last → EndsScript command script answer → EndsScript command script last
+ends_told command script answer last t h = told_by (EndsScript command script) answer last t h (λ n x. memory_ends command script)
 
 -- ---- the refusals of `go`
 
@@ -187,7 +198,20 @@ streams_told P answer last i i' o o' t h p = told_by (λ a. LeavesStreams a i i'
 
 -- ---- what stays
 
+-- an answer with a line of its own is no fault of the store
+needs_no_store : (answer : Answer) → NeedsMemory answer → answer ≡ StoreFault → ⊥
+needs_no_store answer n e = subst NeedsMemory e n
+
+unput_told : (answer : Answer) (told left : Told) → NeedsMemory answer → Unput answer told left → Unput NoMemory told left
+unput_told answer told left n h = record { put = h.put; failed = h.failed; own = h.own; one = h.one; none = λ e. h.none (needs_no_store answer n); told_so = h.told_so; same = h.same }
+
+unput_memory : (answer : Answer) (told : Told) (new : Option Told) → NeedsMemory answer → KeepsUnput answer told new → KeepsUnput NoMemory told new
+unput_memory answer told None n h = absurd h
+unput_memory answer told (Some left) n h = unput_told answer told left n h
+
 rest_memory : (command : Option Command) (answer : Answer) (old new : Option Told) → NeedsMemory answer → KeepsTheRest command answer old new → KeepsTheRest command NoMemory old new
+rest_memory (Some (BuildAll colours stack)) answer None new n h = tt
+rest_memory (Some (BuildAll colours stack)) answer (Some told) new n h = unput_memory answer told new n h
 rest_memory (Some (Session colours stack steps)) answer None new n h = tt
 rest_memory (Some (Session colours stack steps)) answer (Some told) new n h = some_memory answer told new n h
 rest_memory command answer old new n h = h

@@ -13,6 +13,7 @@ use Rattle.pw_build_laws.specs.Whole.{HoldsFullBuild}
 use Rattle.pw_session.specs.declared.opts.SessionOpts.{SessionOpts}
 use Rattle.pw_session.specs.Bench.{bench_files}
 use Rattle.pw_session.specs.Changes.{MakesSome}
+use Rattle.pw_session.specs.Outcomes.{EndsAs}
 use Rattle.pw_session.specs.FromDriving.Driving.{KeepsUnput}
 use Rattle.pw_compiling.specs.First.{phase_line, phase_one_puts}
 use Rattle.pw_compiling.specs.Second.{phase_two_puts}
@@ -57,9 +58,10 @@ IsNoSession (Some (Session colours stack steps)) = ⊥
 IsNoSession _ = Unit {0}
 
 -- A store that told its files goes on telling them, and each file but those that the command puts is as it was; of a
--- build the store tells which were put, and a session changed files of its own, in order.
+-- build the store tells which were put, and a session put files of modules and of builds, and removed files of modules, in
+-- order. Where the store failed, perhaps one file more was put in part.
 abbrev pub KeepsTheRest : Option Command → Answer → Option Told → Option Told → Type 0
-KeepsTheRest (Some (Build colours stack)) answer old new = IfSome old (λ told. KeepsUnput told new)
+KeepsTheRest (Some (Build colours stack)) answer old new = IfSome old (λ told. KeepsUnput answer told new)
 KeepsTheRest (Some (Session colours stack steps)) answer old new = IfSome old (λ told. MakesSome answer told new)
 KeepsTheRest command answer old new = KeepsOthers (files_put command) old new
 
@@ -72,6 +74,11 @@ IfDone _ P = Unit {0}
 abbrev pub BuildsWhole : Option Command → Answer → Told → Option Told → Type 0
 BuildsWhole (Some (Build colours stack)) answer told new = IfDone answer (KeepsGenuine told.files → IsSomeAnd new (λ now. HoldsFullBuild (module_map told.files) colours stack now.files))
 BuildsWhole _ answer told new = Unit {0}
+
+-- How a session ends is a function of its script, whatever the store tells.
+abbrev pub EndsScript : Option Command → Option (List ℕ) → Answer → Type 0
+EndsScript (Some (Session colours stack steps)) script answer = IfSome script (λ bytes. EndsAs bytes answer)
+EndsScript _ script answer = Unit {0}
 
 -- the line on which a module is refused
 abbrev pub line_of : Option Command → Files → ℕ

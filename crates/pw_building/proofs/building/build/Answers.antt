@@ -11,7 +11,7 @@ returns-in-Ok-clause-obeys g c =
     c.in-Ok.ensures.comes c.prepare.ensures.same c.finished.ensures.report c.finished.ensures.fault c.finished.ensures.put
 
 pub returns-in-Ok-clause-others : goal.returns-in-Ok-clause-others
-returns-in-Ok-clause-others g c = puts_some (changed_files c.in-Ok.made) c.finished.result (g.S.Store.told c.args.store.now) _ _ c.prepare.ensures.same c.finished.ensures.fault c.finished.ensures.put
+returns-in-Ok-clause-others g c = puts_some (changed_files c.in-Ok.made) c.finished.result (g.S.Store.told c.args.store.now) _ _ c.prepare.ensures.same c.in-Ok.ensures.own c.finished.ensures.fault c.finished.ensures.put
 
 pub returns-in-Ok-clause-rest : goal.returns-in-Ok-clause-rest
 returns-in-Ok-clause-rest g c =
@@ -27,7 +27,7 @@ pub returns-in-Err-clause-obeys : goal.returns-in-Err-clause-obeys
 returns-in-Err-clause-obeys g c = obeys_refused c.a_store_has_one_build.ensures c.args.opts.now c.requires.colours c.in-Err.unbuilt (g.S.Store.told c.args.store.now) _ c.in-Err.ensures.fault c.prepare.ensures.same
 
 pub returns-in-Err-clause-others : goal.returns-in-Err-clause-others
-returns-in-Err-clause-others g c = puts_nothing (g.S.Store.told c.args.store.now) _ c.prepare.ensures.same
+returns-in-Err-clause-others g c = puts_nothing c.in-Err.unbuilt.fault (g.S.Store.told c.args.store.now) _ c.prepare.ensures.same
 
 pub returns-in-Err-clause-rest : goal.returns-in-Err-clause-rest
 returns-in-Err-clause-rest g c = nothing_leaves (g.S.Store.told c.args.store.now) _ c.prepare.ensures.same

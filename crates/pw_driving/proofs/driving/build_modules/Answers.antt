@@ -2,7 +2,7 @@ use Rattle.std.proofs.Common.{refl}
 use Rattle.pw_modules.specs.Modules.{modules_of}
 use Rattle.pw_building.specs.FromBuild.Phases.{refused_line}
 use Rattle.pw_driving.proofs.DrivingLemmas.{fault_is_answer, fault_line, fault_obeys, fault_output, fault_streams, fault_writes, report_answer, report_count, report_line, report_obeys, report_output, report_streams}
-use Rattle.pw_driving.proofs.OthersLemmas.{unput}
+use Rattle.pw_driving.proofs.OthersLemmas.{built_unput, unbuilt_unput}
 use Rattle.pw_driving.proofs.driving.build_modules.Goals as goal
 
 pub returns-in-Ok-clause-obeys : goal.returns-in-Ok-clause-obeys
@@ -13,7 +13,7 @@ returns-in-Ok-clause-output g c =
     report_output (g.S.Store.told c.args.store.now) _ c.args.opts.now c.in-Ok.report _ (g.O.Sink.taken c.args.out.now) _ c.in-Ok.ensures.obeys c.put_report.ensures.output
 
 pub returns-in-Ok-clause-others : goal.returns-in-Ok-clause-others
-returns-in-Ok-clause-others g c = unput c.other_files.ensures.insertion c.other_files.ensures.failure (g.S.Store.told c.args.store.now) _ c.in-Ok.ensures.others
+returns-in-Ok-clause-others g c = built_unput c.other_files.ensures.insertion _ (g.S.Store.told c.args.store.now) _ c.in-Ok.ensures.others
 
 pub returns-in-Ok-clause-line : goal.returns-in-Ok-clause-line
 returns-in-Ok-clause-line g c = report_line (λ files. refused_line (modules_of files)) (g.S.Store.told c.args.store.now) _ 1 c.put_report.ensures.answer
@@ -34,7 +34,7 @@ pub returns-in-Err-clause-output : goal.returns-in-Err-clause-output
 returns-in-Err-clause-output g c = fault_output (g.S.Store.told c.args.store.now) _ c.args.opts.now c.in-Err.unbuilt _ (g.O.Sink.taken c.args.out.now) c.answer_of.ensures c.in-Err.ensures.obeys
 
 pub returns-in-Err-clause-others : goal.returns-in-Err-clause-others
-returns-in-Err-clause-others g c = unput c.other_files.ensures.insertion c.other_files.ensures.failure (g.S.Store.told c.args.store.now) _ c.in-Err.ensures.others
+returns-in-Err-clause-others g c = unbuilt_unput c.other_files.ensures.insertion c.other_files.ensures.failure c.in-Err.unbuilt.fault _ (g.S.Store.told c.args.store.now) _ c.answer_of.ensures c.in-Err.ensures.others
 
 pub returns-in-Err-clause-line : goal.returns-in-Err-clause-line
 returns-in-Err-clause-line g c = fault_line (g.S.Store.told c.args.store.now) c.in-Err.unbuilt _ _ c.answer_of.ensures refl c.in-Err.ensures.line

@@ -10,7 +10,7 @@ returns-in-Ok-clause-does g c =
     c.put_report-answer.ensures.output refl
 
 pub returns-in-Ok-clause-some : goal.returns-in-Ok-clause-some
-returns-in-Ok-clause-some g c = made_built c.args.opts.now.build c.in-Ok.report (g.S.Store.told c.args.store.now) (g.S.Store.told c.build_uncounted.new.store) c.put_report-answer.result c.in-Ok.ensures.obeys
+returns-in-Ok-clause-some g c = made_built (g.S.Store.told c.args.store.now) (g.S.Store.told c.build_uncounted.new.store) c.put_report-answer.result c.in-Ok.ensures.others
 
 pub returns-in-Ok-clause-store : goal.returns-in-Ok-clause-store
 returns-in-Ok-clause-store g c = say_store c.put_report-answer.result (g.S.Store.faults c.args.store.now) (g.S.Store.faults c.build_uncounted.new.store) c.put_report-answer.ensures.answer c.in-Ok.ensures.count
@@ -25,7 +25,7 @@ returns-in-Err-clause-does g c =
 
 pub returns-in-Err-clause-some : goal.returns-in-Err-clause-some
 returns-in-Err-clause-some g c =
-    made_refused c.args.opts.now.build c.in-Err.unbuilt (g.S.Store.told c.args.store.now) (g.S.Store.told c.build_uncounted.new.store) c.say_fault.result (g.O.Sink.taken c.args.out.now) (g.O.Sink.taken c.say_fault.new.out) c.in-Err.ensures.obeys c.in-Err.ensures.others
+    made_refused c.in-Err.unbuilt (g.S.Store.told c.args.store.now) (g.S.Store.told c.build_uncounted.new.store) c.say_fault.result (g.O.Sink.taken c.args.out.now) (g.O.Sink.taken c.say_fault.new.out) c.in-Err.ensures.others
     c.say_fault.ensures.said
 
 pub returns-in-Err-clause-store : goal.returns-in-Err-clause-store

@@ -1,8 +1,7 @@
-use Rattle.std.proofs.Common.{[], ◌∷◌, refl}
+use Rattle.std.proofs.Common.{refl}
 use Rattle.std.specs.Prelude.{codes, string_bytes}
-use Rattle.pw_session.specs.Changes.{Puts, Removes}
 use Rattle.pw_session.specs.Outcomes.{image_view}
-use Rattle.pw_session.proofs.LineLemmas.{does_some, line_put_so, line_removed_so, line_run_so, same_some}
+use Rattle.pw_session.proofs.LineLemmas.{line_put_so, line_removed_so, line_run_so, put_some, removed_some, same_some}
 use Rattle.pw_session.proofs.TurnLemmas.{genuine_same, say_is_line, say_store}
 use Rattle.pw_session.proofs.lines.obey_line.Goals as goal
 
@@ -14,7 +13,8 @@ returns-in-Put-clause-does g c =
 
 pub returns-in-Put-clause-some : goal.returns-in-Put-clause-some
 returns-in-Put-clause-some g c =
-    does_some (codes "ok\n") (Puts (c.as_str.result.now, c.deref.result.now) ∷ []) (g.S.Store.told c.args.store.now) (g.S.Store.told c.put_text.new.store) c.put_text.result (g.O.Sink.taken c.args.out.now) (g.O.Sink.taken c.put_text.new.out) c.put_text.ensures.does
+    put_some (codes "ok\n") c.as_str.result.now c.deref.result.now (g.S.Store.told c.args.store.now) (g.S.Store.told c.put_text.new.store) c.put_text.result (g.O.Sink.taken c.args.out.now) (g.O.Sink.taken c.put_text.new.out)
+    (rw c.as_str.ensures.value (rw c.in-Put.is at c.requires.named)) c.put_text.ensures.does
 
 pub returns-in-Remove-clause-does : goal.returns-in-Remove-clause-does
 returns-in-Remove-clause-does g c =
@@ -24,7 +24,8 @@ returns-in-Remove-clause-does g c =
 
 pub returns-in-Remove-clause-some : goal.returns-in-Remove-clause-some
 returns-in-Remove-clause-some g c =
-    does_some (codes "ok\n") (Removes c.as_str-in-Remove.result.now ∷ []) (g.S.Store.told c.args.store.now) (g.S.Store.told c.remove_text.new.store) c.remove_text.result (g.O.Sink.taken c.args.out.now) (g.O.Sink.taken c.remove_text.new.out) c.remove_text.ensures.does
+    removed_some (codes "ok\n") c.as_str-in-Remove.result.now (g.S.Store.told c.args.store.now) (g.S.Store.told c.remove_text.new.store) c.remove_text.result (g.O.Sink.taken c.args.out.now) (g.O.Sink.taken c.remove_text.new.out)
+    (rw c.as_str-in-Remove.ensures.value (rw c.in-Remove.is at c.requires.named)) c.remove_text.ensures.does
 
 pub returns-in-Run-clause-does : goal.returns-in-Run-clause-does
 returns-in-Run-clause-does g c =

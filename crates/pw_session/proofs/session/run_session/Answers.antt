@@ -2,6 +2,7 @@ use Rattle.std.proofs.Common.{◌+◌, ◌-◌, ◌∙◌, refl, arith}
 use Rattle.pw_answer.specs.declared.answer.Answer.TheVariants.{Done}
 use Rattle.pw_session.specs.Outcomes.{image_view}
 use Rattle.pw_session.specs.Session.{lines_limit}
+use Rattle.pw_session.proofs.EndLemmas.{ends_begin, ends_further, ends_last, ends_over}
 use Rattle.pw_session.proofs.LineLemmas.{same_some}
 use Rattle.pw_session.proofs.SessionLemmas.{session_begins, session_further, session_last, session_over}
 use Rattle.pw_session.proofs.TurnLemmas.{genuine_on, genuine_same, leaves_on, part_on, part_start, read_is, read_on, read_store, read_write, some_on, store_on, write_on}
@@ -10,6 +11,7 @@ use Rattle.pw_session.proofs.session.run_session.Goals as goal
 pub loop-place-init : goal.loop-place-init
 loop-place-init g c = record {
   session = session_begins c.args.opts.now (lines_limit - 0) (g.S.Store.told c.args.store.now) (g.I.Source.rest c.args.input.now) (g.O.Sink.taken c.args.out.now) (omega arith);
+  ends = ends_begin (lines_limit - 0) (g.I.Source.rest c.args.input.now) (omega arith);
   some = same_some (g.S.Store.told c.args.store.now) Done;
   genuine = genuine_same (g.S.Store.told c.args.store.now);
   part = part_start (g.I.Source.rest c.args.input.now);
@@ -24,6 +26,8 @@ loop-place-preserved g c = record {
   session = session_further c.args.opts.now (lines_limit - c.loop-place._place) (lines_limit - (c.loop-place._place + 1)) c.loop-place.offset c.in-Obeyed.size (g.S.Store.told c.args.store.now) (g.S.Store.told c.loop-place.store) (g.S.Store.told c.take_turn.new.store)
       (g.I.Source.rest c.args.input.now) (g.I.Source.rest c.loop-place.input) (g.I.Source.rest c.take_turn.new.input) (g.O.Sink.taken c.args.out.now) (g.O.Sink.taken c.loop-place.out) (g.O.Sink.taken c.take_turn.new.out) (image_view c.loop-place.image) (image_view c.take_turn.new.image)
       (omega arith) c.loop-place.invariant.session c.in-Obeyed.ensures.turn;
+  ends = ends_further (lines_limit - c.loop-place._place) (lines_limit - (c.loop-place._place + 1)) c.loop-place.offset c.in-Obeyed.size (g.I.Source.rest c.args.input.now) (g.I.Source.rest c.loop-place.input) (g.I.Source.rest c.take_turn.new.input)
+      (omega arith) c.loop-place.invariant.ends c.in-Obeyed.ensures.ends;
   some = some_on Done (g.S.Store.told c.args.store.now) (g.S.Store.told c.loop-place.store) (g.S.Store.told c.take_turn.new.store) c.loop-place.invariant.some c.in-Obeyed.ensures.some;
   genuine = genuine_on (g.S.Store.told c.args.store.now) (g.S.Store.told c.loop-place.store) (g.S.Store.told c.take_turn.new.store) c.loop-place.invariant.some c.loop-place.invariant.genuine c.take_turn.ensures.genuine;
   part = part_on (g.I.Source.rest c.args.input.now) (g.I.Source.rest c.loop-place.input) (g.I.Source.rest c.take_turn.new.input) c.loop-place.invariant.part c.take_turn.ensures.part;
@@ -38,6 +42,11 @@ returns-in-Over-clause-obeys g c =
     session_over c.args.opts.now (lines_limit - c.loop-place._place) (lines_limit - (c.loop-place._place + 1)) c.loop-place.offset c.in-Over.answer (g.S.Store.told c.args.store.now) (g.S.Store.told c.loop-place.store) (g.S.Store.told c.take_turn.new.store)
     (g.I.Source.rest c.args.input.now) (g.I.Source.rest c.loop-place.input) (g.I.Source.rest c.take_turn.new.input) (g.O.Sink.taken c.args.out.now) (g.O.Sink.taken c.loop-place.out) (g.O.Sink.taken c.take_turn.new.out) (image_view c.loop-place.image) (image_view c.take_turn.new.image)
     (omega arith) c.loop-place.invariant.session c.in-Over.ensures.turn
+
+pub returns-in-Over-clause-ends : goal.returns-in-Over-clause-ends
+returns-in-Over-clause-ends g c =
+    ends_over (lines_limit - c.loop-place._place) (lines_limit - (c.loop-place._place + 1)) c.loop-place.offset c.in-Over.answer (g.I.Source.rest c.args.input.now) (g.I.Source.rest c.loop-place.input) (g.I.Source.rest c.take_turn.new.input)
+    (omega arith) c.loop-place.invariant.ends c.in-Over.ensures.ends
 
 pub returns-in-Over-clause-some : goal.returns-in-Over-clause-some
 returns-in-Over-clause-some g c = some_on c.in-Over.answer (g.S.Store.told c.args.store.now) (g.S.Store.told c.loop-place.store) (g.S.Store.told c.take_turn.new.store) c.loop-place.invariant.some c.in-Over.ensures.some
@@ -65,6 +74,10 @@ pub returns-clause-obeys : goal.returns-clause-obeys
 returns-clause-obeys g c =
     session_last c.args.opts.now (lines_limit - c.loop-place._place) c.loop-place.offset c.last_turn.result (g.S.Store.told c.args.store.now) (g.S.Store.told c.loop-place.store) (g.I.Source.rest c.args.input.now) (g.I.Source.rest c.loop-place.input) (g.O.Sink.taken c.args.out.now)
     (g.O.Sink.taken c.loop-place.out) (image_view c.loop-place.image) (omega arith) c.loop-place.invariant.session c.last_turn.ensures.last
+
+pub returns-clause-ends : goal.returns-clause-ends
+returns-clause-ends g c =
+    ends_last (lines_limit - c.loop-place._place) c.loop-place.offset c.last_turn.result (g.I.Source.rest c.args.input.now) (g.I.Source.rest c.loop-place.input) (omega arith) c.loop-place.invariant.ends c.last_turn.ensures.last
 
 pub returns-clause-some : goal.returns-clause-some
 returns-clause-some g c = some_on c.last_turn.result (g.S.Store.told c.args.store.now) (g.S.Store.told c.loop-place.store) (g.S.Store.told c.loop-place.store) c.loop-place.invariant.some (same_some (g.S.Store.told c.loop-place.store) c.last_turn.result)

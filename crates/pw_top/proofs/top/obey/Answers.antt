@@ -344,3 +344,36 @@ returns-in-Bench-clause-streams g c = rw c.in-Bench.is (λ u. c.bench.ensures.st
 
 pub returns-in-Bench-clause-line : goal.returns-in-Bench-clause-line
 returns-in-Bench-clause-line g c = rw c.in-Bench.is (bench_line (g.S.Store.told c.args.store.now) _ _ _ c.bench.ensures.line)
+
+pub returns-in-Go-clause-ends : goal.returns-in-Go-clause-ends
+returns-in-Go-clause-ends g c = rw c.in-Go.is tt
+
+pub returns-in-PhaseOne-clause-ends : goal.returns-in-PhaseOne-clause-ends
+returns-in-PhaseOne-clause-ends g c = rw c.in-PhaseOne.is tt
+
+pub returns-in-Analyse-clause-ends : goal.returns-in-Analyse-clause-ends
+returns-in-Analyse-clause-ends g c = rw c.in-Analyse.is tt
+
+pub returns-in-PhaseTwo-clause-ends : goal.returns-in-PhaseTwo-clause-ends
+returns-in-PhaseTwo-clause-ends g c = rw c.in-PhaseTwo.is tt
+
+pub returns-in-Link-clause-ends : goal.returns-in-Link-clause-ends
+returns-in-Link-clause-ends g c = rw c.in-Link.is tt
+
+pub returns-in-Run-clause-ends : goal.returns-in-Run-clause-ends
+returns-in-Run-clause-ends g c = rw c.in-Run.is tt
+
+pub returns-in-List-clause-ends : goal.returns-in-List-clause-ends
+returns-in-List-clause-ends g c = rw c.in-List.is tt
+
+pub returns-in-Db-clause-ends : goal.returns-in-Db-clause-ends
+returns-in-Db-clause-ends g c = rw c.in-Db.is tt
+
+pub returns-in-Build-clause-ends : goal.returns-in-Build-clause-ends
+returns-in-Build-clause-ends g c = rw c.in-Build.is tt
+
+pub returns-in-Bench-clause-ends : goal.returns-in-Bench-clause-ends
+returns-in-Bench-clause-ends g c = rw c.in-Bench.is tt
+
+pub returns-in-Session-clause-ends : goal.returns-in-Session-clause-ends
+returns-in-Session-clause-ends g c = rw c.in-Session.is c.run_session.ensures.ends

@@ -4,7 +4,7 @@ use Rattle.pw_words.specs.CommandLine.{command_of}
 use Rattle.pw_top.proofs.DoesLemmas.{usage_does}
 use Rattle.pw_top.proofs.CommandLemmas.{due_comes, due_is, kept_alone, no_line, of_other}
 use Rattle.pw_top.proofs.GenuineLemmas.{genuine_alone, others_alone, rest_alone}
-use Rattle.pw_top.proofs.ToldLemmas.{memory_does, memory_refuses, no_memory_is_no_usage}
+use Rattle.pw_top.proofs.ToldLemmas.{memory_does, memory_ends, memory_refuses, no_memory_is_no_usage}
 use Rattle.pw_top.proofs.top.obey_words.Goals as goal
 
 pub obey-requires : goal.obey-requires
@@ -86,3 +86,14 @@ returns-in-Err-NoMemory-clause-genuine g c = genuine_alone (g.S.Store.told c.arg
 
 pub returns-in-Ok-clause-streams : goal.returns-in-Ok-clause-streams
 returns-in-Ok-clause-streams g c = rw c.in-Ok.ensures c.obey.ensures.streams
+
+pub returns-in-Ok-clause-ends : goal.returns-in-Ok-clause-ends
+returns-in-Ok-clause-ends g c = rw c.in-Ok.ensures c.obey.ensures.ends
+
+pub returns-in-Err-Usage-clause-ends : goal.returns-in-Err-Usage-clause-ends
+returns-in-Err-Usage-clause-ends g c =
+    let none = rw c.in-Err-Usage.field-0-is at c.in-Err-Usage.ensures in
+    rw none tt
+
+pub returns-in-Err-NoMemory-clause-ends : goal.returns-in-Err-NoMemory-clause-ends
+returns-in-Err-NoMemory-clause-ends g c = memory_ends _ (g.I.Source.rest c.args.input.now)

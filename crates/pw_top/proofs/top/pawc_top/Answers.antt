@@ -7,7 +7,7 @@ use Rattle.pw_run_laws.specs.FromGo.Going.{BuiltAgrees}
 use Rattle.pw_run_laws.specs.FromGo.Refusals.{NoMainComes, NoMainIs, RefusalComes, RefusalIs}
 use Rattle.pw_words.specs.CommandLine.{command_of}
 use Rattle.pw_top.specs.Commands.{IsGo, IsNoSession, line_of}
-use Rattle.pw_top.proofs.ToldLemmas.{by_law, input_told, of_files, output_told, rest_told, returns_sum, store_told, streams_told, told_does, told_line, told_proper, told_refuses, usage_comes, usage_is}
+use Rattle.pw_top.proofs.ToldLemmas.{by_law, ends_told, input_told, of_files, output_told, rest_told, returns_sum, store_told, streams_told, told_does, told_line, told_proper, told_refuses, usage_comes, usage_is}
 use Rattle.pw_top.proofs.WholeLemmas.{builds_whole}
 use Rattle.pw_top.proofs.top.pawc_top.Goals as goal
 
@@ -23,6 +23,9 @@ pub returns-clause-does : goal.returns-clause-does
 returns-clause-does g c =
     told_does c.runs_leave_an_end.ensures.run c.runs_leave_an_end.ensures.go (command_of (map string_bytes c.args.words.now)) (g.S.Store.told c.args.store.now) _ (g.I.Source.rest c.args.input.now) _ (g.O.Sink.taken c.args.out.now) _
     c.obey_words-reply.result.answer c.tell.result c.tell.ensures.answer c.obey_words-reply.ensures.does
+
+pub returns-clause-ends_script : goal.returns-clause-ends_script
+returns-clause-ends_script g c = ends_told (command_of (map string_bytes c.args.words.now)) (g.I.Source.rest c.args.input.now) c.obey_words-reply.result.answer c.tell.result c.tell.ensures.answer c.obey_words-reply.ensures.ends
 
 pub returns-clause-refuses : goal.returns-clause-refuses
 returns-clause-refuses g c =
