@@ -22,7 +22,7 @@ each_is [] h = tt
 each_is (name ∷ names) h = (h name (zero, omega arith, refl), each_is names (λ other c. h other (suc c.0, behind c.0 (length names) c.1, c.2)))
 
 found : (text : Option (List ℕ)) → IsSome text → (t : List ℕ) × (text ≡ Some t)
-found None h = absurd h
+found None h = absurd cc
 found (Some t) h = (t, refl)
 
 pub names_are : Laws → (files : Files) → AreModuleNames (names_of_modules files)

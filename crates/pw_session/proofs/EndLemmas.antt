@@ -1,5 +1,5 @@
 -- How a session ends, by its script alone.
-use Rattle.std.proofs.Common.{◌≡◌, ◌≢◌, ℕ, zero, suc, ◌+◌, List, [], length, Option, Some, None, Ok, Err, refl, sym, ap, ◌∙◌, subst}
+use Rattle.std.proofs.Common.{◌≡◌, ◌≢◌, ℕ, zero, suc, ◌+◌, List, [], Option, Some, None, Ok, Err, refl, sym, ap, ◌∙◌, subst}
 use Rattle.std.specs.Prelude.{IfSome, IsSomeAnd}
 use Rattle.pw_answer.specs.declared.answer.Answer.{Answer}
 use Rattle.pw_answer.specs.declared.answer.Answer.TheVariants.{Done, WriteFault, StoreFault, NoMemory, BadScript}
@@ -69,13 +69,13 @@ taken_ends offset found line turn (Some left) rest e k h = taken_told offset lin
 abbrev pub EndsBehind : ℕ → ℕ → Option (List ℕ) → Option (List ℕ) → Type 0
 EndsBehind n offset first rest = IfSome first (λ script. IsSomeAnd rest (λ left. (lines_of script).bad ≡ (lines_from n offset left).bad))
 
-begin : (script : List ℕ) → (lines_of script).bad ≡ (lines_from lines_limit 0 script).bad
+whole_script : (script : List ℕ) → (lines_of script).bad ≡ (lines_from lines_limit 0 script).bad
 unfolding lines_of
-begin script = refl
+whole_script script = refl
 
 pub ends_begin : (n : ℕ) (first : Option (List ℕ)) → n ≡ lines_limit → EndsBehind n 0 first first
 ends_begin n None e = tt
-ends_begin n (Some script) e = begin script ∙ ap (λ (k : ℕ). (lines_from k 0 script).bad) (sym e)
+ends_begin n (Some script) e = whole_script script ∙ ap (λ (k : ℕ). (lines_from k 0 script).bad) (sym e)
 
 further_told : (m offset size : ℕ) (script left : List ℕ) (rest : Option (List ℕ)) → (lines_of script).bad ≡ (lines_from (suc m) offset left).bad → EndsTurn offset left (Obeyed size) rest → IsSomeAnd rest (λ later. (lines_of script).bad ≡ (lines_from m (offset + size) later).bad)
 further_told m offset size script left None so h = absurd h
