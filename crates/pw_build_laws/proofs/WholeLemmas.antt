@@ -19,7 +19,7 @@ use Rattle.pw_kept.specs.Kept.{counted, is_same, kept_bytes, object_name}
 use Rattle.pw_kept.specs.Files.{AreObjectFiles}
 use Rattle.pw_building.specs.Building.{BuildComes, IsOutcome, Outcome, if_changed, kept_objects}
 use Rattle.pw_building.specs.Genuine.{KeepsGenuine}
-use Rattle.pw_build_laws.specs.Whole.{HoldsFile, HoldsFullBuild, HoldsProgram}
+use Rattle.pw_build_laws.specs.Whole.{HoldsBuild, HoldsFile, HoldsFullBuild, HoldsProgram}
 
 -- what is known of files under puts
 pub record FileLaws : Type 0 where
@@ -151,3 +151,6 @@ holds_full_build laws full told colours stack outcome keeps comes = (
   full told.files colours stack (Ok comes.0) keeps comes.1,
   all_anew comes.0 stack (after_puts told outcome.puts).files (holds_program laws told stack comes.0 outcome comes.2),
 )
+
+pub holds_build : FileLaws → (told : Told) (colours stack : ℕ) (outcome : Outcome) → BuildComes told.files colours stack (Ok outcome) → HoldsBuild told.files colours stack (after_puts told outcome.puts).files
+holds_build laws told colours stack outcome comes = (comes.0, comes.1, holds_program laws told stack comes.0 outcome comes.2)

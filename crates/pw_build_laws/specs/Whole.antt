@@ -3,8 +3,14 @@ use Rattle.std.specs.Prelude.{◌≡◌, ℕ, List, codes, Some, Ok}
 use Rattle.pw_io.specs.Files.{Files}
 use Rattle.pw_db.specs.Database.{IsDatabaseFile}
 use Rattle.pw_making.specs.Programs.{Parts}
+<<<<<<< ours
 use Rattle.pw_building.specs.FromBuild.Builds.{FullBuild, Texts}
+=======
+use Rattle.pw_modules.specs.Modules.{modules_of}
+use Rattle.pw_building.specs.FromBuild.Builds.{Builds, FullBuild, Texts}
+>>>>>>> theirs
 use Rattle.pw_kept.specs.Kept.{counted, kept_bytes}
+use Rattle.pw_building.specs.Building.{kept_objects}
 use Rattle.pw_building.specs.Full.{IsImageOf}
 
 -- these bytes stand under the name, as far as a kept file counts
@@ -19,6 +25,10 @@ pub record HoldsProgram (parts : Parts) (stack : ℕ) (files : Files) : Type 0 w
   pub image : List ℕ
   pub image_file : IsImageOf parts stack image
   pub image_stands : HoldsFile files (codes "prog.img") image
+
+-- those to which the modules and the kept objects of a store's files come stand there
+abbrev pub HoldsBuild : Files → ℕ → ℕ → Files → Type 0
+HoldsBuild old colours stack files = (parts : Parts) × Builds (modules_of old) (kept_objects old) colours stack (Ok parts) × HoldsProgram parts stack files
 
 -- those of the full build of texts stand there
 abbrev pub HoldsFullBuild : Texts → ℕ → ℕ → Files → Type 0

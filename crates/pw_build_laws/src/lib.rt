@@ -3,4 +3,4 @@
 
 mod laws;
 
-pub use laws::a_build_leaves_the_whole_program;
+pub use laws::{a_build_leaves_its_program, a_build_leaves_the_whole_program};
