@@ -3,12 +3,8 @@ use Rattle.std.specs.Prelude.{◌≡◌, ℕ, List, codes, Some, Ok}
 use Rattle.pw_io.specs.Files.{Files}
 use Rattle.pw_db.specs.Database.{IsDatabaseFile}
 use Rattle.pw_making.specs.Programs.{Parts}
-<<<<<<< ours
-use Rattle.pw_building.specs.FromBuild.Builds.{FullBuild, Texts}
-=======
 use Rattle.pw_modules.specs.Modules.{modules_of}
 use Rattle.pw_building.specs.FromBuild.Builds.{Builds, FullBuild, Texts}
->>>>>>> theirs
 use Rattle.pw_kept.specs.Kept.{counted, kept_bytes}
 use Rattle.pw_building.specs.Building.{kept_objects}
 use Rattle.pw_building.specs.Full.{IsImageOf}

@@ -1,0 +1,26 @@
+-- The files that a session leaves alone.
+use Rattle.std.specs.Prelude.{◌≡◌, ◌≢◌, ◌≤◌, ℕ, ◌⊎◌, List, [], ◌++◌, length}
+use Rattle.std.specs.List.{AllByRecursion}
+use Rattle.pw_io.specs.Files.{Told}
+use Rattle.pw_modules.specs.Modules.{IsModuleFile}
+use Rattle.pw_answer.specs.declared.answer.Answer.{Answer}
+use Rattle.pw_answer.specs.declared.answer.Answer.TheVariants.{StoreFault}
+use Rattle.pw_session.specs.FromBuilding.Genuine.{IsBuiltName}
+use Rattle.pw_commands.specs.Others.{IsSameBut}
+
+-- a file of a module, or one of a build's
+abbrev pub IsPutName : List ℕ → Type 0
+IsPutName name = IsModuleFile name ⊎ IsBuiltName name
+
+-- The store tells the names that were put besides, and every file has its old bytes, or is absent as before, but those of
+-- these names, those of modules that were removed and, where the store failed, perhaps of one more, whose put failed.
+pub record LeavesRest (answer : Answer) (told left : Told) : Type 0 where
+  pub put : List (List ℕ)
+  pub removed : List (List ℕ)
+  pub failed : List (List ℕ)
+  pub own : AllByRecursion IsPutName (put ++ failed)
+  pub modules : AllByRecursion IsModuleFile removed
+  pub one : length failed ≤ 1
+  pub none : answer ≢ StoreFault → failed ≡ []
+  pub told_so : left.puts ≡ told.puts ++ put
+  pub same : IsSameBut (put ++ (failed ++ removed)) told.files left.files
