@@ -19,6 +19,7 @@ use Rattle.pw_building.specs.Building.{BuildComes, IsOutcome, Outcome, if_change
 use Rattle.pw_building.specs.Full.{BuildsImage, image_of}
 use Rattle.pw_building.specs.Genuine.{IsBuiltName, IsOwnFile, KeepsGenuine}
 use Rattle.pw_building.proofs.GenuineLemmas.{FileLaws, after_keeps, files_good, good_append, no_database, no_image, own_genuine, parts_genuine}
+use Rattle.pw_db.specs.Limits.{colour_limit}
 
 -- ---- one image
 
@@ -32,12 +33,12 @@ same_fault : (f g : BuildFault) → ◌≡◌ {A = Result Parts BuildFault} (Err
 same_fault f g e = cc
 
 abbrev HasOneBuild : Type 0
-HasOneBuild = (sources : List Source) (kept : List (Option Object)) (colours stack : ℕ) (a b : Result Parts BuildFault) → colours ≤ 8 → Builds sources kept colours stack a → Builds sources kept colours stack b → a ≡ b
+HasOneBuild = (sources : List Source) (kept : List (Option Object)) (colours stack : ℕ) (a b : Result Parts BuildFault) → colours ≤ colour_limit → Builds sources kept colours stack a → Builds sources kept colours stack b → a ≡ b
 
 abbrev HasOneFile : Type 0
 HasOneFile = (bytes others : List ℕ) (c d : Contents) → IsImageFile bytes c → IsImageFile others d → c.image ≡ d.image → bytes ≡ others
 
-pub one_image : HasOneBuild → HasOneFile → (texts : Texts) (colours stack : ℕ) (a b : Result (List ℕ) BuildFault) → colours ≤ 8 → BuildsImage texts colours stack a → BuildsImage texts colours stack b → a ≡ b
+pub one_image : HasOneBuild → HasOneFile → (texts : Texts) (colours stack : ℕ) (a b : Result (List ℕ) BuildFault) → colours ≤ colour_limit → BuildsImage texts colours stack a → BuildsImage texts colours stack b → a ≡ b
 one_image build file texts colours stack (Ok x) (Ok y) few a b =
     let same : a.0 ≡ b.0 = ok_parts a.0 b.0 (build (finite.entries texts) [] colours stack (Ok a.0) (Ok b.0) few a.1 b.1) in
     ap Ok (file x y _ _ a.2.1 b.2.1 (ap (λ (p : Parts). linked p.objects stack) same))

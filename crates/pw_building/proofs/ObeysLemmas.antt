@@ -18,13 +18,14 @@ use Rattle.pw_building.specs.Genuine.{IsBuiltName, IsOwnFile}
 use Rattle.pw_building.specs.Outcomes.{AreBuilt, FaultFound, ObeysBuild, IsOfStore, PutsSome, Reports, build_answer, fault_answer}
 use Rattle.pw_kept.specs.Files.{put_answer}
 use Rattle.pw_kept.proofs.PutLemmas.{none_left}
+use Rattle.pw_db.specs.Limits.{colour_limit}
 
 abbrev pub OneBuild : Type 0
-OneBuild = (files : Files) (colours stack : ℕ) (a b : Result Outcome BuildFault) → colours ≤ 8 → BuildComes files colours stack a → BuildComes files colours stack b → a ≡ b
+OneBuild = (files : Files) (colours stack : ℕ) (a b : Result Outcome BuildFault) → colours ≤ colour_limit → BuildComes files colours stack a → BuildComes files colours stack b → a ≡ b
 
 -- ---- all was put
 
-obeys_all_told : OneBuild → (opts : Opts) → opts.colours ≤ 8 → (outcome : Outcome) (report : Report) (told : Told) (new : Option Told) → BuildComes told.files opts.colours opts.stack (Ok outcome) → Reports outcome report → new ≡ Some (after_puts told outcome.puts) → ObeysBuild opts (Ok report) told new
+obeys_all_told : OneBuild → (opts : Opts) → opts.colours ≤ colour_limit → (outcome : Outcome) (report : Report) (told : Told) (new : Option Told) → BuildComes told.files opts.colours opts.stack (Ok outcome) → Reports outcome report → new ≡ Some (after_puts told outcome.puts) → ObeysBuild opts (Ok report) told new
 obeys_all_told one opts few outcome report told new comes reports puts = record {
   answers = λ c h. (outcome, one told.files opts.colours opts.stack c (Ok outcome) few h comes, reports);
   puts = λ c h. puts ∙ ap (λ (x : Result Outcome BuildFault). Some (after_puts told (puts_of x))) (sym (one told.files opts.colours opts.stack c (Ok outcome) few h comes));
@@ -33,7 +34,7 @@ obeys_all_told one opts few outcome report told new comes reports puts = record 
 
 -- ---- the store failed or memory ran out while files were put
 
-stopped_told : OneBuild → (opts : Opts) → opts.colours ≤ 8 → (outcome : Outcome) (fault : BuildFault) (line : ℕ) (told : Told) (new : Option Told) → BuildComes told.files opts.colours opts.stack (Ok outcome) → IsOfStore fault → PutsFiles outcome.puts (fault_answer fault) told new →
+stopped_told : OneBuild → (opts : Opts) → opts.colours ≤ colour_limit → (outcome : Outcome) (fault : BuildFault) (line : ℕ) (told : Told) (new : Option Told) → BuildComes told.files opts.colours opts.stack (Ok outcome) → IsOfStore fault → PutsFiles outcome.puts (fault_answer fault) told new →
     ObeysBuild opts (Err (record { fault = fault; line = line })) told new
 stopped_told one opts few outcome build.StoreFault line told new comes of puts = record {
   answers = λ c h. tt;
@@ -50,12 +51,12 @@ stopped_told one opts few outcome (build.LinkRefused fault) line told new comes 
 
 -- ---- whatever came of the puts
 
-by_result : OneBuild → (opts : Opts) → opts.colours ≤ 8 → (outcome : Outcome) (result : Result Report Unbuilt) (told : Told) (new : Option Told) → BuildComes told.files opts.colours opts.stack (Ok outcome) → IfOk result (λ report. Reports outcome report) → IfErr result (λ unbuilt. IsOfStore unbuilt.fault)
+by_result : OneBuild → (opts : Opts) → opts.colours ≤ colour_limit → (outcome : Outcome) (result : Result Report Unbuilt) (told : Told) (new : Option Told) → BuildComes told.files opts.colours opts.stack (Ok outcome) → IfOk result (λ report. Reports outcome report) → IfErr result (λ unbuilt. IsOfStore unbuilt.fault)
     → PutsFiles outcome.puts (build_answer result) told new → ObeysBuild opts result told new
 by_result one opts few outcome (Ok report) told new comes reports of puts = obeys_all_told one opts few outcome report told new comes reports puts
 by_result one opts few outcome (Err unbuilt) told new comes reports of puts = stopped_told one opts few outcome unbuilt.fault unbuilt.line told new comes of puts
 
-pub obeys_put : OneBuild → (opts : Opts) → opts.colours ≤ 8 → (outcome : Outcome) (result : Result Report Unbuilt) (first now new : Option Told) → IfSome first (λ told. BuildComes told.files opts.colours opts.stack (Ok outcome)) → Keeps first now → IfOk result (λ report. Reports outcome report)
+pub obeys_put : OneBuild → (opts : Opts) → opts.colours ≤ colour_limit → (outcome : Outcome) (result : Result Report Unbuilt) (first now new : Option Told) → IfSome first (λ told. BuildComes told.files opts.colours opts.stack (Ok outcome)) → Keeps first now → IfOk result (λ report. Reports outcome report)
     → IfErr result (λ unbuilt. IsOfStore unbuilt.fault) → IfSome now (λ told. PutsFiles outcome.puts (build_answer result) told new) → IfSome first (λ told. ObeysBuild opts result told new)
 obeys_put one opts few outcome result None now new comes same reports of puts = tt
 obeys_put one opts few outcome result (Some told) now new comes same reports of puts =
@@ -67,7 +68,7 @@ obeys_put one opts few outcome result (Some told) now new comes same reports of 
 no_puts : (told : Told) (files : List NamedFile) (new : Option Told) → files ≡ [] → new ≡ Some told → new ≡ Some (after_puts told files)
 no_puts told files new e h = h ∙ ap (λ (zs : List NamedFile). Some (after_puts told zs)) (sym e)
 
-refused_told : OneBuild → (opts : Opts) → opts.colours ≤ 8 → (fault : BuildFault) (line : ℕ) (told : Told) (new : Option Told) → FaultFound told.files opts fault → new ≡ Some told → ObeysBuild opts (Err (record { fault = fault; line = line })) told new
+refused_told : OneBuild → (opts : Opts) → opts.colours ≤ colour_limit → (fault : BuildFault) (line : ℕ) (told : Told) (new : Option Told) → FaultFound told.files opts fault → new ≡ Some told → ObeysBuild opts (Err (record { fault = fault; line = line })) told new
 refused_told one opts few build.StoreFault line told new found e = record {
   answers = λ c h. tt;
   puts = λ c h. record { done = []; more = puts_of c; split = refl; left = none_left told (puts_of c) new e };
@@ -89,7 +90,7 @@ refused_told one opts few (build.LinkRefused fault) line told new found e = reco
   found = found;
 }
 
-pub obeys_refused : OneBuild → (opts : Opts) → opts.colours ≤ 8 → (unbuilt : Unbuilt) (first new : Option Told) → IfSome first (λ told. FaultFound told.files opts unbuilt.fault) → Keeps first new → IfSome first (λ told. ObeysBuild opts (Err unbuilt) told new)
+pub obeys_refused : OneBuild → (opts : Opts) → opts.colours ≤ colour_limit → (unbuilt : Unbuilt) (first new : Option Told) → IfSome first (λ told. FaultFound told.files opts unbuilt.fault) → Keeps first new → IfSome first (λ told. ObeysBuild opts (Err unbuilt) told new)
 obeys_refused one opts few unbuilt None new found same = tt
 obeys_refused one opts few unbuilt (Some told) new found same = refused_told one opts few unbuilt.fault unbuilt.line told new found same
 

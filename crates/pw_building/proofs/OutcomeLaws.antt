@@ -13,10 +13,11 @@ use Rattle.pw_filing.specs.FromBuild.BuildFault.{BuildFault}
 use Rattle.pw_filing.specs.FromBuild.Builds.{Builds}
 use Rattle.pw_kept.specs.Files.{AreObjectFiles, made_anew}
 use Rattle.pw_building.specs.Building.{BuildComes, IsOutcome, Outcome, if_changed, kept_objects}
+use Rattle.pw_db.specs.Limits.{colour_limit}
 
 -- the laws on which it stands
 pub record Laws : Type 0 where
-  pub build : (sources : List Source) (kept : List (Option Object)) (colours stack : ℕ) (a b : Result Parts BuildFault) → colours ≤ 8 → Builds sources kept colours stack a → Builds sources kept colours stack b → a ≡ b
+  pub build : (sources : List Source) (kept : List (Option Object)) (colours stack : ℕ) (a b : Result Parts BuildFault) → colours ≤ colour_limit → Builds sources kept colours stack a → Builds sources kept colours stack b → a ≡ b
   pub database : (bytes others : List ℕ) (fs : List (List ℕ × Directives)) → IsDatabaseFile bytes fs → IsDatabaseFile others fs → bytes ≡ others
   pub image : (bytes others : List ℕ) (c d : Contents) → IsImageFile bytes c → IsImageFile others d → c.image ≡ d.image → bytes ≡ others
   pub object : (bytes others : List ℕ) (o : Object) → IsObjectFile bytes o → IsObjectFile others o → bytes ≡ others
@@ -57,7 +58,7 @@ outcome_one laws files stack parts o p a b =
       puts = puts i;
     }
 
-pub one_build : Laws → (files : Files) (colours stack : ℕ) (a b : Result Outcome BuildFault) → colours ≤ 8 → BuildComes files colours stack a → BuildComes files colours stack b → a ≡ b
+pub one_build : Laws → (files : Files) (colours stack : ℕ) (a b : Result Outcome BuildFault) → colours ≤ colour_limit → BuildComes files colours stack a → BuildComes files colours stack b → a ≡ b
 one_build laws files colours stack (Ok o) (Ok p) few a b =
     let same : b.0 ≡ a.0 = ok_one b.0 a.0 (laws.build (modules_of files) (kept_objects files) colours stack (Ok b.0) (Ok a.0) few b.1 a.1) in
     ap Ok (outcome_one laws files stack a.0 o p a.2 (subst (λ (x : Parts). IsOutcome files stack x p) same b.2))

@@ -18,11 +18,12 @@ use Rattle.pw_kept.specs.declared.prepared.Prepared.{Prepared}
 use Rattle.pw_kept.specs.Files.{changed_files}
 pub use Rattle.pw_filing.specs.Programs.{FaultComes, FaultCount, fault_answer}
 use Rattle.pw_building.specs.Building.{BuildComes, Outcome, puts_of}
+use Rattle.pw_db.specs.Limits.{colour_limit}
 use Rattle.pw_building.specs.Genuine.{IsBuiltName}
 
 -- at most 8 registers for webs, and a stack of a size that there may be
 pub record AreOpts (opts : Opts) : Type 0 where
-  pub colours : opts.colours ≤ 8
+  pub colours : opts.colours ≤ colour_limit
   pub least : stack_least ≤ opts.stack
   pub most : opts.stack ≤ stack_most
 

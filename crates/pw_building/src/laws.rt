@@ -13,6 +13,7 @@ ghost use Rattle.pw_filing.specs.FromBuild.Full.{built_anew};
 ghost use Rattle.pw_building.specs.Building.{BuildComes, Outcome, kept_objects};
 ghost use Rattle.pw_building.specs.Full.{BuildsImage, image_of};
 ghost use Rattle.pw_building.specs.Genuine.{IsGenuineFile, KeepsGenuine};
+ghost use Rattle.pw_db.specs.Limits.{colour_limit};
 
 use pw_db::laws::databases_and_files_are_one_to_one;
 use pw_filing::build_laws;
@@ -24,7 +25,7 @@ use pw_object::laws::objects_and_files_are_one_to_one;
 
 /// The files of a store come to one build.
 pub fn a_store_has_one_build()
-    ensures { (files : Files) (colours stack : ℕ) (a b : Result Outcome BuildFault) → colours ≤ 8 → BuildComes files colours stack a → BuildComes files colours stack b → a ≡ b }
+    ensures { (files : Files) (colours stack : ℕ) (a b : Result Outcome BuildFault) → colours ≤ colour_limit → BuildComes files colours stack a → BuildComes files colours stack b → a ≡ b }
 {
     modules_have_one_build();
     databases_and_files_are_one_to_one();
@@ -43,7 +44,7 @@ pub fn genuine_objects_give_the_full_build()
 
 /// The full build of texts comes to the bytes of one image, or to one fault.
 pub fn texts_have_one_image()
-    ensures { (texts : Texts) (colours stack : ℕ) (a b : Result (List ℕ) BuildFault) → colours ≤ 8 → BuildsImage texts colours stack a → BuildsImage texts colours stack b → a ≡ b }
+    ensures { (texts : Texts) (colours stack : ℕ) (a b : Result (List ℕ) BuildFault) → colours ≤ colour_limit → BuildsImage texts colours stack a → BuildsImage texts colours stack b → a ≡ b }
 {
     modules_have_one_build();
     images_and_files_are_one_to_one();
