@@ -18,15 +18,11 @@ for crate in "$top"/crates/*/; do
         if [ -d "$crate/$part" ]; then cp -r "$crate/$part" "$work/crates/$name/"; fi
     done
 done
-echo 'bench_analyse: pw_commands pw_answer pw_io' >> "$work/crates.txt"
-cp "$top/crates/pw_links/src/hexadecimal.rt" "$work/crates/bench_analyse/src/hexadecimal.rt"
+echo 'bench_analyse: pw_commands pw_answer pw_io hex' >> "$work/crates.txt"
 cat > "$work/crates/bench_analyse/src/main.rt" <<'RATTLE'
 //! Obeys `analyse` over summaries that its input gives, a name and a file in hexadecimal on each line.
 #![tactic(auto)]
 
-mod hexadecimal;
-
-use hexadecimal::bytes_of;
 use pw_answer::status;
 use pw_commands::analyse_modules;
 use pw_io::SureStore;
@@ -45,7 +41,7 @@ fn add_line(
         files.push((text, Vec::new(alloc))).map_err(|_| AllocError)?;
         let mut summary = String::from_str(alloc, name)?;
         summary.push_str(".sum")?;
-        let bytes = bytes_of(alloc, hexadecimal.as_bytes())?;
+        let bytes = hex::decode(alloc, hexadecimal.as_bytes()).map_err(|_| AllocError)?;
         files.push((summary, bytes)).map_err(|_| AllocError)?;
     }
     Ok(())

@@ -6,33 +6,28 @@
 
 mod verdict;
 
-use std::alloc::{AllocError, Global};
-use std::io::{self, BufRead, BufReader};
-use verdict::verdict;
+use pw_rows::{Program, Text, answer_rows};
+use std::io;
+use verdict::push_verdict;
 
-/// Adds what is printed for a line: a heading itself, or its number and the verdict on its text.
-fn add_line(
-    alloc: Global,
-    output: &mut Vec<u8>,
-    number: usize,
-    line: &str,
-) -> Result<(), AllocError> {
-    match line.strip_prefix(['+', '-']) {
-        Some(text) => {
-            output.extend_from_slice(format!(in alloc; "{number} ")?.as_bytes())?;
-            output.extend_from_slice(&verdict(alloc, text.as_bytes())?)?;
+/// Checks texts.
+#[derive(Drop)]
+struct Checks;
+
+impl Program for Checks {
+    fn answer(&mut self, text: &mut Text, number: usize, row: &str) {
+        match row.strip_prefix(['+', '-']) {
+            Some(source) => {
+                text.display(&number);
+                text.push(b" ");
+                push_verdict(text, source.as_bytes());
+            }
+            None => text.push(row.as_bytes()),
         }
-        None => output.extend_from_slice(line.as_bytes())?,
+        text.push(b"\n");
     }
-    output.push(b'\n')?;
-    Ok(())
 }
 
 fn main(rt: HostRuntime) -> io::Result<()> {
-    let alloc = rt.alloc();
-    let mut output = Vec::new(alloc);
-    for (index, line) in BufReader::new(alloc, rt.reader())?.lines(alloc).enumerate() {
-        add_line(alloc, &mut output, index + 1, &line?)?;
-    }
-    io::Write::write_all(&mut rt.stdout(), &output)
+    answer_rows(rt.alloc(), rt.reader(), &mut rt.stdout(), &mut Checks)
 }

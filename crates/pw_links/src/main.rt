@@ -6,64 +6,72 @@
 //! `#` is a heading and is printed as it is.
 #![tactic(auto)]
 
-mod hexadecimal;
 mod shown;
 
-use hexadecimal::bytes_of;
+use pw_image::Image;
 use pw_link::link;
 use pw_object::{Object, read};
+use pw_rows::{Program, Text, answer_rows};
+use pw_value::LinkFault;
 use shown::{push_fault, push_image};
-use std::alloc::{AllocError, Global};
-use std::io::{self, BufRead, BufReader};
+use std::alloc::Global;
+use std::io;
+
+/// Links objects.
+#[derive(Drop)]
+struct Links;
+
+/// The object of a file, where it is one.
+fn object_of(text: &mut Text, file: &str) -> Option<Object> {
+    let bytes = text.spelled(file);
+    read(text.alloc(), &bytes).ok()
+}
 
 /// The objects of these files; another text gives none.
-fn objects_of(alloc: Global, files: &[&str]) -> Result<Vec<Object>, AllocError> {
-    let mut objects = Vec::new(alloc);
-    for file in files {
-        let bytes = bytes_of(alloc, file.as_bytes())?;
-        if let Ok(object) = read(alloc, &bytes) {
-            objects.push(object)?;
+fn objects_of(text: &mut Text, files: &str) -> Vec<Object> {
+    let mut objects = Vec::new(text.alloc());
+    for file in files.split(' ') {
+        if let Some(object) = object_of(text, file) {
+            if objects.push(object).is_err() {
+                text.cut();
+            }
         }
     }
-    Ok(objects)
+    objects
 }
 
-/// Adds what linking objects gives.
-fn push_answer(
-    alloc: Global,
-    output: &mut Vec<u8>,
-    objects: &[Object],
-    stack: u32,
-    marks: &str,
-) -> Result<(), AllocError> {
-    match link(alloc, objects, stack) {
-        Ok(image) => push_image(alloc, output, &image, marks.as_bytes()),
-        Err(fault) => push_fault(output, &fault),
+/// What linking objects gives.
+fn linked(alloc: Global, objects: &[Object], stack: u32) -> Result<Image, LinkFault> {
+    link(alloc, objects, stack)
+}
+
+/// Adds what linking the objects of files gives.
+fn push_answer(text: &mut Text, stack: u32, marks: &str, files: &str) {
+    let objects = objects_of(text, files);
+    match linked(text.alloc(), &objects, stack) {
+        Ok(image) => push_image(text, &image, marks.as_bytes()),
+        Err(fault) => push_fault(text, &fault),
     }
 }
 
-/// Adds what is printed for a line.
-fn push_line(alloc: Global, output: &mut Vec<u8>, line: &str) -> Result<(), AllocError> {
-    let mut parts: Vec<&str> = Vec::new(alloc);
-    for part in line.split(' ') {
-        parts.push(part)?;
-    }
-    match parts.as_slice() {
-        [stack, marks, files @ ..] if !line.starts_with('#') => {
-            let objects = objects_of(alloc, files)?;
-            let stack = stack.parse::<u32>().unwrap_or(0);
-            push_answer(alloc, output, &objects, stack, marks)?;
+/// Adds what is printed for a line that is no heading.
+fn push_row(text: &mut Text, row: &str) {
+    let (stack, rest) = row.split_once(' ').unwrap_or((row, ""));
+    let (marks, files) = rest.split_once(' ').unwrap_or((rest, ""));
+    push_answer(text, stack.parse::<u32>().unwrap_or(0), marks, files);
+}
+
+impl Program for Links {
+    fn answer(&mut self, text: &mut Text, _number: usize, row: &str) {
+        if row.is_empty() || row.starts_with('#') {
+            text.push(row.as_bytes());
+        } else {
+            push_row(text, row);
         }
-        _ => output.extend_from_slice(line.as_bytes())?,
+        text.push(b"\n");
     }
-    output.push(b'\n').map_err(|_| AllocError)
 }
 
 fn main(rt: HostRuntime) -> io::Result<()> {
-    let alloc = rt.alloc();
-    let mut output = Vec::new(alloc);
-    for line in BufReader::new(alloc, rt.reader())?.lines(alloc) {
-        push_line(alloc, &mut output, &line?)?;
-    }
-    io::Write::write_all(&mut rt.stdout(), &output)
+    answer_rows(rt.alloc(), rt.reader(), &mut rt.stdout(), &mut Links)
 }

@@ -1,74 +1,68 @@
 //! Images and refusals as texts.
 
 use pw_image::{DataItem, Function, GlobalObject, Image};
+use pw_rows::Text;
 use pw_value::{LinkFault, Name};
-use std::alloc::{AllocError, Global};
 
 /// How many functions of a map are the library's and the routines.
 const ROUTINES: usize = 8;
 
-/// Adds the words that have marks, but for those whose mark is a dash.
-fn push_words(
-    alloc: Global,
-    output: &mut Vec<u8>,
-    words: &[u32],
-    marks: &[u8],
-) -> Result<(), AllocError> {
-    for (word, mark) in words.iter().zip(marks) {
-        if *mark == b'-' {
-            output.extend_from_slice(b" -")?;
-        } else {
-            output.extend_from_slice(format!(in alloc; " {word:08x}")?.as_bytes())?;
-        }
+/// Adds a blank and a name.
+fn push_name(text: &mut Text, name: &Name) {
+    text.push(b" ");
+    text.push(name.as_bytes());
+}
+
+/// Adds a blank and a number.
+fn push_number(text: &mut Text, number: u32) {
+    text.push(b" ");
+    text.display(&number);
+}
+
+/// Adds a word that has a mark, or a dash where the mark is one.
+fn push_word(text: &mut Text, word: u32, mark: u8) {
+    text.push(b" ");
+    if mark == b'-' {
+        text.push(b"-");
+    } else {
+        text.word(word);
     }
-    output.extend_from_slice(b" |")
+}
+
+/// Adds the words that have marks, but for those whose mark is a dash.
+fn push_words(text: &mut Text, words: &[u32], marks: &[u8]) {
+    for (word, mark) in words.iter().zip(marks) {
+        push_word(text, *word, *mark);
+    }
+    text.push(b" |");
 }
 
 /// Adds functions with their addresses and frames.
-fn push_functions(
-    alloc: Global,
-    output: &mut Vec<u8>,
-    functions: &[Function],
-) -> Result<(), AllocError> {
+fn push_functions(text: &mut Text, functions: &[Function]) {
     for each in functions {
-        let (address, frame) = (each.address, each.frame);
-        push_name(output, &each.name)?;
-        output.extend_from_slice(format!(in alloc; " {address} {frame}")?.as_bytes())?;
+        push_name(text, &each.name);
+        push_number(text, each.address);
+        push_number(text, each.frame);
     }
-    output.extend_from_slice(b" |")
+    text.push(b" |");
 }
 
 /// Adds global objects with their offsets from the start of the data.
-fn push_globals(
-    alloc: Global,
-    output: &mut Vec<u8>,
-    start: u32,
-    globals: &[GlobalObject],
-) -> Result<(), AllocError> {
+fn push_globals(text: &mut Text, start: u32, globals: &[GlobalObject]) {
     for each in globals {
-        let offset = each.address.wrapping_sub(start);
-        push_name(output, &each.name)?;
-        output.extend_from_slice(format!(in alloc; " {offset}")?.as_bytes())?;
+        push_name(text, &each.name);
+        push_number(text, each.address.wrapping_sub(start));
     }
-    output.extend_from_slice(b" |")
+    text.push(b" |");
 }
 
-/// Adds the bytes of an item.
-fn push_bytes(alloc: Global, output: &mut Vec<u8>, bytes: &[u8]) -> Result<(), AllocError> {
-    for byte in bytes {
-        output.extend_from_slice(format!(in alloc; "{byte:02x}")?.as_bytes())?;
+/// Adds an item: its offset and its bytes.
+fn push_item(text: &mut Text, item: &DataItem) {
+    push_number(text, item.offset);
+    text.push(b":");
+    for byte in &item.bytes {
+        text.byte(*byte);
     }
-    Ok(())
-}
-
-/// Adds the items of the data.
-fn push_items(alloc: Global, output: &mut Vec<u8>, items: &[DataItem]) -> Result<(), AllocError> {
-    for each in items {
-        let offset = each.offset;
-        output.extend_from_slice(format!(in alloc; " {offset}:")?.as_bytes())?;
-        push_bytes(alloc, output, &each.bytes)?;
-    }
-    Ok(())
 }
 
 /// Where the data of a text of so many words start.
@@ -78,60 +72,41 @@ fn data_start(words: usize) -> u32 {
 }
 
 /// Adds what an image is, as far as it rests on no word of a routine.
-pub(crate) fn push_image(
-    alloc: Global,
-    output: &mut Vec<u8>,
-    image: &Image,
-    marks: &[u8],
-) -> Result<(), AllocError> {
+pub(crate) fn push_image(text: &mut Text, image: &Image, marks: &[u8]) {
     let memory = &image.memory;
-    let (entry, size) = (memory.entry, memory.data_size);
     let known = image.functions.len().saturating_sub(ROUTINES);
-    output.extend_from_slice(format!(in alloc; "ok {entry} {size} |")?.as_bytes())?;
-    push_words(alloc, output, &memory.words, marks)?;
-    push_functions(alloc, output, &image.functions[..known])?;
-    push_globals(
-        alloc,
-        output,
-        data_start(memory.words.len()),
-        &image.globals,
-    )?;
-    push_items(alloc, output, &memory.items)
-}
-
-/// Adds a blank and a name.
-fn push_name(output: &mut Vec<u8>, name: &Name) -> Result<(), AllocError> {
-    output.extend_from_slice(b" ")?;
-    output.extend_from_slice(name.as_bytes())
+    text.push(b"ok");
+    push_number(text, memory.entry);
+    push_number(text, memory.data_size);
+    text.push(b" |");
+    push_words(text, &memory.words, marks);
+    push_functions(text, &image.functions[..known]);
+    push_globals(text, data_start(memory.words.len()), &image.globals);
+    for item in &memory.items {
+        push_item(text, item);
+    }
 }
 
 /// Adds a word and names.
-fn push_names(output: &mut Vec<u8>, word: &str, names: &[&Name]) -> Result<(), AllocError> {
-    output.extend_from_slice(word.as_bytes())?;
+fn push_names(text: &mut Text, word: &[u8], names: &[&Name]) {
+    text.push(word);
     for name in names {
-        push_name(output, name)?;
+        push_name(text, name);
     }
-    Ok(())
 }
 
 /// Adds a refusal with its names; a number in it is left out.
-pub(crate) fn push_fault(output: &mut Vec<u8>, fault: &LinkFault) -> Result<(), AllocError> {
+pub(crate) fn push_fault(text: &mut Text, fault: &LinkFault) {
     match fault {
-        LinkFault::Undefined(name) => push_names(output, "Undefined", &[name]),
-        LinkFault::Duplicate(name, one, other) => push_names(
-            output,
-            "Duplicate",
-            &[name, one, other],
-        ),
-        LinkFault::Conflict(name, one, other) => push_names(
-            output,
-            "Conflict",
-            &[name, one, other],
-        ),
-        LinkFault::NoMain => push_names(output, "NoMain", &[]),
-        LinkFault::TextTooLarge(_) => push_names(output, "TextTooLarge", &[]),
-        LinkFault::MemoryTooLarge(_) => push_names(output, "MemoryTooLarge", &[]),
-        LinkFault::NoMemory => push_names(output, "NoMemory", &[]),
-        LinkFault::TooMany(_, _) => push_names(output, "TooMany", &[]),
+        LinkFault::Undefined(name) => push_names(text, b"Undefined", &[name]),
+        LinkFault::Duplicate(name, one, other) => {
+            push_names(text, b"Duplicate", &[name, one, other])
+        }
+        LinkFault::Conflict(name, one, other) => push_names(text, b"Conflict", &[name, one, other]),
+        LinkFault::NoMain => text.push(b"NoMain"),
+        LinkFault::TextTooLarge(_) => text.push(b"TextTooLarge"),
+        LinkFault::MemoryTooLarge(_) => text.push(b"MemoryTooLarge"),
+        LinkFault::NoMemory => text.push(b"NoMemory"),
+        LinkFault::TooMany(_, _) => text.push(b"TooMany"),
     }
 }

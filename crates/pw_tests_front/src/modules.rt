@@ -1,7 +1,9 @@
 //! Texts that several tests read.
 
-use pw_spell::Spelled;
-use pw_token::Token;
+ghost use Rattle.std.specs.Prelude.{IfSome};
+ghost use Rattle.pw_token.specs.Tokenization.{IsLexed};
+
+use pw_token::{Token, lex};
 use std::alloc::{AllocError, Global};
 
 /// Parts of a text, with how often each stands.
@@ -18,17 +20,15 @@ pub fn text_of(alloc: Global, parts: &[(&[u8], usize)]) -> Result<Vec<u8>, Alloc
     Ok(text)
 }
 
-/// Whether these are the tokens of the text, in its order.
-pub fn are_tokens(text: &[u8], tokens: &[Token], spelled: &[Spelled]) -> bool {
-    let spells = |(token, word): (&Token, &Spelled)| {
-        let bytes = text.iter().skip(token.at).take(token.len);
-        token.kind == word.kind && bytes.eq(word.text.iter())
-    };
-    tokens.len() == spelled.len() && tokens.iter().zip(spelled).all(spells)
+/// The tokens of a text, where it has some.
+pub fn tokens_of(alloc: Global, text: &[u8]) -> Option<Vec<Token>>
+    ensures { IfSome result (λ tokens. IsLexed text.now tokens.items) }
+{
+    lex(alloc, text).ok()
 }
 
 /// The modules of a desk calculator, each with its count of tokens, as clang counts them.
-pub const CALCULATOR: [(&[u8], usize); 3] = [
+pub static CALCULATOR: [(&[u8], usize); 3] = [
     (
         b"int stack[64];
 int *top = stack;

@@ -1,6 +1,6 @@
 //! Texts with the tokens and faults that C90 6.1 and this project's profile give them, read by hand.
 
-use crate::modules::{CALCULATOR, Parts, text_of};
+use crate::modules::{CALCULATOR, Parts, text_of, tokens_of};
 use pw_token::TokenKind::{
     Character, Directive, Floating, Identifier, Keyword, Mark, Number, Text, Wide,
 };
@@ -123,25 +123,37 @@ static TEXTS: [Row; 31] = [
 
 /// The tokens are those of the row.
 fn are_tokens(tokens: &[Token], wanted: &[(TokenKind, usize, usize)]) -> bool {
-    let is = |(token, row): (&Token, &(TokenKind, usize, usize))| {
-        token.kind == row.0 && token.at == row.1 && token.len == row.2
-    };
-    tokens.len() == wanted.len() && tokens.iter().zip(wanted).all(is)
+    for (token, row) in tokens.iter().zip(wanted) {
+        if token.kind != row.0 || token.at != row.1 || token.len != row.2 {
+            return false;
+        }
+    }
+    tokens.len() == wanted.len()
+}
+
+/// Whether a text has the tokens and the unsupported one of its row.
+fn has_tokens(alloc: Global, row: &Row) -> bool {
+    match tokens_of(alloc, row.0) {
+        Some(tokens) => are_tokens(&tokens, row.1) && unsupported(row.0, &tokens) == row.2,
+        None => false,
+    }
 }
 
 #[test]
-fn texts_have_their_tokens(rt: HostRuntime) -> Result<(), Fail> {
-    for (at, (text, wanted, feature)) in TEXTS.iter().enumerate() {
-        let tokens = lex(rt.alloc(), text)?;
-        let holds = are_tokens(&tokens, wanted) && unsupported(text, &tokens) == *feature;
-        assert!(rt; holds, "{at}");
+fn texts_have_their_tokens(rt: HostRuntime) {
+    for (at, row) in TEXTS.iter().enumerate() {
+        assert!(rt; has_tokens(rt.alloc(), row), "{at}");
     }
-    Ok(())
 }
 
 /// The fault of a text, if it has one.
 fn fault_of(alloc: Global, text: &[u8]) -> Option<LexFault> {
     lex(alloc, text).err()
+}
+
+/// Whether this is the byte of a text at which nothing starts.
+fn is_bad(alloc: Global, text: &[u8], at: usize) -> bool {
+    fault_of(alloc, text) == Some(LexFault::Bad { at })
 }
 
 /// Texts with the byte at which nothing starts.
@@ -164,17 +176,14 @@ static FAULTS: [(&[u8], usize); 13] = [
 #[test]
 fn texts_have_their_faults(rt: HostRuntime) {
     for (text, at) in FAULTS.iter() {
-        assert!(rt;
-            fault_of(rt.alloc(), text) == Some(LexFault::Bad { at: *at }),
-            "{at}"
-        );
+        assert!(rt; is_bad(rt.alloc(), text, *at), "{at}");
     }
 }
 
 /// A byte that stands so often, what stands behind, and the text's fault.
 type Long = (u8, usize, &'static [u8], Option<LexFault>);
 
-const LONG: [Long; 3] = [
+static LONG: [Long; 3] = [
     (
         b';',
         200_000,
@@ -185,23 +194,23 @@ const LONG: [Long; 3] = [
     (b' ', 1_048_576, b" ", Some(LexFault::TooLong)),
 ];
 
-/// The fault of a long text.
-fn fault_of_long(
-    alloc: Global,
-    byte: u8,
-    count: usize,
-    behind: &[u8],
-) -> Result<Option<LexFault>, AllocError> {
-    let mut text = vec![in alloc; byte; count]?;
-    text.extend_from_slice(behind)?;
-    Ok(fault_of(alloc, &text))
+/// A long text.
+fn long_text(alloc: Global, row: &Long) -> Result<Vec<u8>, AllocError> {
+    let mut text = vec![in alloc; row.0; row.1]?;
+    text.extend_from_slice(row.2)?;
+    Ok(text)
+}
+
+/// Whether a long text has the fault of its row.
+fn is_long(alloc: Global, row: &Long) -> Result<bool, AllocError> {
+    let text = long_text(alloc, row)?;
+    Ok(fault_of(alloc, &text) == row.3)
 }
 
 #[test]
 fn long_texts_have_their_faults(rt: HostRuntime) -> Result<(), Fail> {
-    for (byte, count, behind, fault) in LONG {
-        let found = fault_of_long(rt.alloc(), byte, count, behind)?;
-        assert!(rt; found == fault, "of {count}");
+    for row in LONG.iter() {
+        assert!(rt; is_long(rt.alloc(), row)?, "of {}", row.1);
     }
     Ok(())
 }
@@ -236,10 +245,17 @@ static DEPTHS: [Deep; 23] = [
 ];
 
 /// Whether this is the first token of a text that is nested too deep.
-fn is_nested(alloc: Global, parts: Parts, wanted: Option<usize>) -> Result<bool, Fail> {
+fn nests(alloc: Global, text: &[u8], wanted: Option<usize>) -> bool {
+    match tokens_of(alloc, text) {
+        Some(tokens) => nest_fault(text, &tokens) == wanted,
+        None => false,
+    }
+}
+
+/// The same of a text of parts.
+fn is_nested(alloc: Global, parts: Parts, wanted: Option<usize>) -> Result<bool, AllocError> {
     let text = text_of(alloc, parts)?;
-    let tokens = lex(alloc, &text)?;
-    Ok(nest_fault(&text, &tokens) == wanted)
+    Ok(nests(alloc, &text, wanted))
 }
 
 #[test]
@@ -250,14 +266,18 @@ fn texts_are_not_nested_too_deep(rt: HostRuntime) -> Result<(), Fail> {
     Ok(())
 }
 
+/// Whether a text has so many tokens, each supported, and none nested too deep.
+fn has_count(alloc: Global, text: &[u8], count: usize) -> bool {
+    match tokens_of(alloc, text) {
+        Some(tokens) => tokens.len() == count && unsupported(text, &tokens).is_none(),
+        None => false,
+    }
+}
+
 #[test]
-fn modules_have_their_tokens(rt: HostRuntime) -> Result<(), Fail> {
-    for (text, count) in CALCULATOR {
-        let tokens = lex(rt.alloc(), text)?;
-        let holds = tokens.len() == count
-            && unsupported(text, &tokens).is_none()
-            && nest_fault(text, &tokens).is_none();
+fn modules_have_their_tokens(rt: HostRuntime) {
+    for (text, count) in CALCULATOR.iter() {
+        let holds = has_count(rt.alloc(), text, *count) && nests(rt.alloc(), text, None);
         assert!(rt; holds, "{count}");
     }
-    Ok(())
 }

@@ -1,69 +1,64 @@
 //! What a text comes to: the tree of its tokens, or why it has none.
 
-use crate::shape::Shape;
+ghost use Rattle.pw_token.specs.Tokenization.{IsLexed};
+
+use crate::shape::push_shape;
 use pw_parse::{ParseFault, parse};
-use pw_token::{LexFault, lex, unsupported};
+use pw_rows::Text;
+use pw_token::{LexFault, Token, lex, unsupported};
 use pw_tree::Module;
-use std::alloc::{AllocError, Global};
 
-/// What a text comes to.
-#[derive(Drop)]
-pub enum Answer {
-    Tree(Module),
-    /// It has no tokens.
-    Lex,
-    /// A token of it is left out of the language.
-    Unsupported,
-    /// The first token that is nested too deep, counted from 1.
-    TooDeep { token: usize },
-    /// The token at which no rule goes on, counted from 1.
-    Syntax { token: usize },
+/// What is printed for a text that has a tree.
+#[derive(Clone, Copy, PartialEq, Eq)]
+pub enum Wanted {
+    /// That it is accepted.
+    Verdict,
+    /// The tree's shape.
+    Shape,
 }
 
-/// What a text comes to, or want of memory.
-pub fn answer_of(alloc: Global, text: &[u8]) -> Result<Answer, AllocError> {
-    let tokens = match lex(alloc, text) {
-        Ok(tokens) => tokens,
-        Err(LexFault::NoMemory) => return Err(AllocError),
-        Err(_) => return Ok(Answer::Lex),
-    };
-    if unsupported(text, &tokens).is_some() {
-        return Ok(Answer::Unsupported);
-    }
-    match parse(alloc, text, &tokens) {
-        Ok(tree) => Ok(Answer::Tree(tree)),
-        Err(ParseFault::TooDeep { token }) => Ok(Answer::TooDeep { token }),
-        Err(ParseFault::Syntax { token }) => Ok(Answer::Syntax { token }),
-        Err(ParseFault::NoMemory) => Err(AllocError),
+/// Adds a fault and its token, counted from 1.
+fn push_fault(text: &mut Text, fault: &[u8], token: usize) {
+    text.push(fault);
+    text.push(b" at token ");
+    text.display(&token);
+}
+
+/// Adds why a text has no tree.
+fn push_parse_fault(text: &mut Text, fault: ParseFault) {
+    match fault {
+        ParseFault::TooDeep { token } => push_fault(text, b"TooDeep", token),
+        ParseFault::Syntax { token } => push_fault(text, b"Syntax", token),
+        ParseFault::NoMemory => text.cut(),
     }
 }
 
-/// The fault in words.
-fn at_token(alloc: Global, fault: &str, token: usize) -> Result<Vec<u8>, AllocError> {
-    format!(in alloc; "{fault} at token {token}")?
-        .as_bytes()
-        .to_vec(alloc)
-}
-
-/// `accepted`, or the fault.
-pub fn verdict(alloc: Global, answer: &Answer) -> Result<Vec<u8>, AllocError> {
-    match answer {
-        Answer::Tree(_) => b"accepted".to_vec(alloc),
-        Answer::Lex => b"Lex".to_vec(alloc),
-        Answer::Unsupported => b"Unsupported".to_vec(alloc),
-        Answer::TooDeep { token } => at_token(alloc, "TooDeep", *token),
-        Answer::Syntax { token } => at_token(alloc, "Syntax", *token),
+/// Adds what is wanted of a tree.
+fn push_tree(text: &mut Text, tree: &Module, wanted: Wanted) {
+    match wanted {
+        Wanted::Verdict => text.push(b"accepted"),
+        Wanted::Shape => push_shape(text, tree),
     }
 }
 
-/// The shape of the tree, or the fault.
-pub fn shown(alloc: Global, answer: &Answer) -> Result<Vec<u8>, AllocError> {
-    match answer {
-        Answer::Tree(module) => {
-            let mut shape = Shape::new(alloc);
-            shape.module(module);
-            shape.into_text()
-        }
-        _ => verdict(alloc, answer),
+/// Adds what the tokens of a text come to.
+fn push_parsed(text: &mut Text, source: &[u8], tokens: &[Token], wanted: Wanted)
+    requires { IsLexed source.now tokens.now }
+{
+    if unsupported(source, tokens).is_some() {
+        return text.push(b"Unsupported");
+    }
+    match parse(text.alloc(), source, tokens) {
+        Ok(tree) => push_tree(text, &tree, wanted),
+        Err(fault) => push_parse_fault(text, fault),
+    }
+}
+
+/// Adds what a text comes to.
+pub fn push_answer(text: &mut Text, source: &[u8], wanted: Wanted) {
+    match lex(text.alloc(), source) {
+        Ok(tokens) => push_parsed(text, source, &tokens, wanted),
+        Err(LexFault::NoMemory) => text.cut(),
+        Err(_) => text.push(b"Lex"),
     }
 }

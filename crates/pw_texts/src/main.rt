@@ -13,50 +13,55 @@ mod shape_module;
 mod shape_specifiers;
 mod shape_stmt;
 
-use answer::{answer_of, shown, verdict};
+use answer::{Wanted, push_answer};
+use pw_rows::{Program, Text, answer_rows};
 use std::alloc::{AllocError, Global};
-use std::io::{self, BufRead, BufReader};
+use std::io;
+
+/// Shapes of texts.
+#[derive(Drop)]
+struct Texts;
 
 /// A text with a newline for each `@`.
-fn with_newlines(alloc: Global, text: &str) -> Result<Vec<u8>, AllocError> {
-    let mut bytes = Vec::new(alloc);
-    for byte in text.as_bytes() {
-        bytes.push(if *byte == b'@' { b'\n' } else { *byte })?;
+fn with_newlines(alloc: Global, source: &str) -> Result<Vec<u8>, AllocError> {
+    let mut bytes = Vec::from_slice(alloc, source.as_bytes())?;
+    for byte in bytes.iter_mut() {
+        if *byte == b'@' {
+            *byte = b'\n';
+        }
     }
     Ok(bytes)
 }
 
-/// What is printed for the text of a line.
-fn result_of(alloc: Global, line: &str) -> Result<Vec<u8>, AllocError> {
-    match line.strip_prefix('?') {
-        Some(text) => verdict(alloc, &answer_of(alloc, &with_newlines(alloc, text)?)?),
-        None => shown(alloc, &answer_of(alloc, &with_newlines(alloc, line)?)?),
+/// Adds what is printed for a text.
+fn push_text(text: &mut Text, source: &str, wanted: Wanted) {
+    match with_newlines(text.alloc(), source) {
+        Ok(source) => push_answer(text, &source, wanted),
+        Err(AllocError) => text.cut(),
     }
 }
 
-/// Adds what is printed for a line: a heading itself, or its number and what its text comes to.
-fn add_line(
-    alloc: Global,
-    output: &mut Vec<u8>,
-    number: usize,
-    line: &str,
-) -> Result<(), AllocError> {
-    if line.is_empty() || line.starts_with('#') {
-        output.extend_from_slice(line.as_bytes())?;
-    } else {
-        let result = result_of(alloc, line)?;
-        output.extend_from_slice(format!(in alloc; "{number} ")?.as_bytes())?;
-        output.extend_from_slice(&result)?;
+/// Adds what is printed for a row that is no heading.
+fn push_row(text: &mut Text, number: usize, row: &str) {
+    text.display(&number);
+    text.push(b" ");
+    match row.strip_prefix('?') {
+        Some(source) => push_text(text, source, Wanted::Verdict),
+        None => push_text(text, row, Wanted::Shape),
     }
-    output.push(b'\n')?;
-    Ok(())
+}
+
+impl Program for Texts {
+    fn answer(&mut self, text: &mut Text, number: usize, row: &str) {
+        if row.is_empty() || row.starts_with('#') {
+            text.push(row.as_bytes());
+        } else {
+            push_row(text, number, row);
+        }
+        text.push(b"\n");
+    }
 }
 
 fn main(rt: HostRuntime) -> io::Result<()> {
-    let alloc = rt.alloc();
-    let mut output = Vec::new(alloc);
-    for (index, line) in BufReader::new(alloc, rt.reader())?.lines(alloc).enumerate() {
-        add_line(alloc, &mut output, index + 1, &line?)?;
-    }
-    io::Write::write_all(&mut rt.stdout(), &output)
+    answer_rows(rt.alloc(), rt.reader(), &mut rt.stdout(), &mut Texts)
 }

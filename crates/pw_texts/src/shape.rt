@@ -1,36 +1,34 @@
 //! Shapes of trees: each node in parentheses, with its kind and its parts, but no numbers of tokens.
 
-use pw_tree::{Keyword, Mark, Word};
-use std::alloc::{AllocError, Global};
+use pw_rows::Text;
+use pw_tree::{Keyword, Mark, Module, Word};
+use std::alloc::Global;
 
 /// Collects the pieces of a shape, with a blank between each two of them.
 #[derive(Drop)]
 pub struct Shape {
-    text: Vec<u8>,
-    /// Memory was refused, and the text is not the whole shape.
-    is_cut: bool,
+    text: Text,
+}
+
+/// Adds the shape of a tree.
+pub fn push_shape(text: &mut Text, tree: &Module) {
+    let mut shape = Shape::new(text.alloc());
+    shape.module(tree);
+    match shape.text.into_bytes() {
+        Ok(bytes) => text.push(&bytes),
+        Err(_) => text.cut(),
+    }
 }
 
 impl Shape {
-    pub fn new(alloc: Global) -> Self {
+    fn new(alloc: Global) -> Self {
         Shape {
-            text: Vec::new(alloc),
-            is_cut: false,
+            text: Text::new(alloc),
         }
-    }
-
-    /// The shape, or want of memory.
-    pub fn into_text(self) -> Result<Vec<u8>, AllocError> {
-        if self.is_cut {
-            return Err(AllocError);
-        }
-        Ok(self.text)
     }
 
     fn push(&mut self, bytes: &[u8]) {
-        if self.text.extend_from_slice(bytes).is_err() {
-            self.is_cut = true;
-        }
+        self.text.push(bytes);
     }
 
     /// A blank, unless this is the beginning of the shape or of a node.
