@@ -1,13 +1,16 @@
 //! The separate commands over one store, one behind the other. The expected values are the language's and the
 //! formats' worked examples, by hand.
 
-use pw_io::MemStore;
-use pw_tests_store::{Module, store_of, told};
+use pw_io::{MemSink, MemSource, MemStore};
+use pw_top::{pawc_top, status};
 use std::alloc::{AllocError, Global};
 use std::test::Fail;
 
 /// A command line and its input; the status, the output and the line on `err`.
 type Step = (&'static str, &'static str, u8, &'static str, &'static str);
+
+/// A module's file and its text.
+type Module = (&'static str, &'static str);
 
 /// The desk calculator.
 static CALCULATOR: [Module; 3] = [
@@ -144,48 +147,78 @@ static TOGETHER: [Step; 3] = [
     ("analyse", "", 114, "", "link: Undefined f\n"),
 ];
 
-/// Whether a command over a store tells what it should.
-fn tells(alloc: Global, store: &mut MemStore, step: &Step) -> Result<bool, AllocError> {
-    let (line, input, status, output, err) = *step;
-    let found = told(alloc, store, line, input)?;
-    Ok(found.has(status, err) && found.puts_out(output))
+/// Bytes as text, each a character.
+fn text_of(alloc: Global, bytes: &[u8]) -> Result<String, AllocError> {
+    let mut text = String::new(alloc);
+    for byte in bytes {
+        text.push(char::from(*byte))?;
+    }
+    Ok(text)
 }
 
-/// How many commands over one store tell what they should, up to the first that does not.
-fn story(alloc: Global, modules: &[Module], steps: &[Step]) -> Result<usize, AllocError> {
-    let mut store = store_of(alloc, modules, &[])?;
-    for (place, step) in steps.iter().enumerate() {
-        if !tells(alloc, &mut store, step)? {
-            return Ok(place);
-        }
+/// The words of a command line.
+fn words_of(alloc: Global, line: &str) -> Result<Vec<String>, AllocError> {
+    let mut words = Vec::new(alloc);
+    for word in line.split_whitespace() {
+        words.push(String::from_str(alloc, word)?)?;
     }
-    Ok(steps.len())
+    Ok(words)
+}
+
+/// A store of these files.
+fn store_of(alloc: Global, listed: &[Module]) -> Result<MemStore, AllocError> {
+    let mut files = Vec::new(alloc);
+    for (name, text) in listed {
+        let name = String::from_str(alloc, name)?;
+        files.push((name, Vec::from_slice(alloc, text.as_bytes())?))?;
+    }
+    MemStore::new(alloc, files.as_slice(), &[])
+}
+
+/// Whether a command over a store tells what it should.
+fn tells(alloc: Global, store: &mut MemStore, step: &Step) -> Result<bool, AllocError> {
+    let (line, input, wanted, output, told) = *step;
+    let words = words_of(alloc, line)?;
+    let mut input = MemSource::new(alloc, input.as_bytes(), &[])?;
+    let mut out = MemSink::new(alloc, 1000, &[])?;
+    let mut err = MemSink::new(alloc, 1000, &[])?;
+    let answer = pawc_top(alloc, &words, store, &mut input, &mut out, &mut err);
+    let same = text_of(alloc, out.bytes())?.as_str() == output;
+    Ok(status(&answer) == wanted && same && text_of(alloc, err.bytes())?.as_str() == told)
 }
 
 #[test]
 fn calculator(rt: HostRuntime) -> Result<(), Fail> {
-    let steps = story(rt.alloc(), &CALCULATOR, &CALCULATION)?;
-    assert!(rt; steps == CALCULATION.len(), "{steps}");
+    let mut store = store_of(rt.alloc(), &CALCULATOR)?;
+    for step in CALCULATION.iter() {
+        assert!(rt; tells(rt.alloc(), &mut store, step)?, "{}", step.0);
+    }
     Ok(())
 }
 
 #[test]
 fn counter(rt: HostRuntime) -> Result<(), Fail> {
-    let steps = story(rt.alloc(), &COUNTER, &COUNT)?;
-    assert!(rt; steps == COUNT.len(), "{steps}");
+    let mut store = store_of(rt.alloc(), &COUNTER)?;
+    for step in COUNT.iter() {
+        assert!(rt; tells(rt.alloc(), &mut store, step)?, "{}", step.0);
+    }
     Ok(())
 }
 
 #[test]
 fn refusals(rt: HostRuntime) -> Result<(), Fail> {
-    let steps = story(rt.alloc(), &REFUSED, &REFUSALS)?;
-    assert!(rt; steps == REFUSALS.len(), "{steps}");
+    let mut store = store_of(rt.alloc(), &REFUSED)?;
+    for step in REFUSALS.iter() {
+        assert!(rt; tells(rt.alloc(), &mut store, step)?, "{}", step.0);
+    }
     Ok(())
 }
 
 #[test]
 fn undefined_name(rt: HostRuntime) -> Result<(), Fail> {
-    let steps = story(rt.alloc(), &UNDEFINED, &TOGETHER)?;
-    assert!(rt; steps == TOGETHER.len(), "{steps}");
+    let mut store = store_of(rt.alloc(), &UNDEFINED)?;
+    for step in TOGETHER.iter() {
+        assert!(rt; tells(rt.alloc(), &mut store, step)?, "{}", step.0);
+    }
     Ok(())
 }

@@ -1,39 +1,68 @@
 //! The command `go`: the answers to whole stores. The expected values come from the language's rules and the
 //! formats of the lines, worked out by hand.
 
-use pw_io::{Left, MemStore, StoreFail};
-use pw_tests_store::{Files, Module, Streams, file_of, files_of, told_by};
+use pw_io::{Left, MemSink, MemSource, MemStore, StoreFail};
+use pw_top::{pawc_top, status};
 use std::alloc::{AllocError, Global};
 use std::test::Fail;
+
+type Files = Vec<(String, Vec<u8>)>;
+
+/// Bytes as text, each a character.
+fn text_of(alloc: Global, bytes: &[u8]) -> Result<String, AllocError> {
+    let mut text = String::new(alloc);
+    for byte in bytes {
+        text.push(char::from(*byte))?;
+    }
+    Ok(text)
+}
+
+/// The words of a command line.
+fn words_of(alloc: Global, line: &str) -> Result<Vec<String>, AllocError> {
+    let mut words = Vec::new(alloc);
+    for word in line.split_whitespace() {
+        words.push(String::from_str(alloc, word)?)?;
+    }
+    Ok(words)
+}
+
+/// A file of this name and text.
+fn file(alloc: Global, name: &str, text: &[u8]) -> Result<(String, Vec<u8>), AllocError> {
+    let name = String::from_str(alloc, name)?;
+    Ok((name, Vec::from_slice(alloc, text)?))
+}
 
 /// A command line, at which calls the store fails, how many bytes `err` takes, and what is told: the status,
 /// and the line on `err`.
 type Call = (&'static str, &'static [StoreFail], usize, u8, &'static str);
 
-/// Whether a call over these files tells what it should.
-fn tells(alloc: Global, files: &Files, call: &Call) -> Result<bool, AllocError> {
-    let (line, fails, room, status, err) = *call;
-    let mut store = MemStore::new(alloc, files, fails)?;
-    let streams = Streams::narrow(alloc, room)?;
-    Ok(told_by(alloc, &mut store, line, streams)?.has(status, err))
+/// The status that the words give over a store, whose line is written to `err`.
+fn status_over(
+    alloc: Global,
+    store: &mut MemStore,
+    words: &[String],
+    err: &mut MemSink,
+) -> Result<u8, AllocError> {
+    let mut input = MemSource::new(alloc, b"", &[])?;
+    let mut out = MemSink::new(alloc, 0, &[])?;
+    let answer = pawc_top(alloc, words, store, &mut input, &mut out, err);
+    Ok(status(&answer))
 }
 
-/// The module `a.i` of this text alone.
-fn module_of(alloc: Global, text: &[u8]) -> Result<Files, AllocError> {
-    let mut files = Vec::new(alloc);
-    files.push(file_of(alloc, "a.i", text)?)?;
-    Ok(files)
+/// Whether a call over these files tells what it should.
+fn tells(alloc: Global, files: &Files, call: &Call) -> Result<bool, AllocError> {
+    let (line, fails, room, wanted, told) = *call;
+    let words = words_of(alloc, line)?;
+    let mut store = MemStore::new(alloc, files.as_slice(), fails)?;
+    let mut err = MemSink::new(alloc, room, &[])?;
+    let status = status_over(alloc, &mut store, &words, &mut err)?;
+    Ok(status == wanted && text_of(alloc, err.bytes())?.as_str() == told)
 }
 
 /// Whether a call over the module `a.i` of this text alone tells what it should.
 fn module_tells(alloc: Global, text: &[u8], call: &Call) -> Result<bool, AllocError> {
-    let files = module_of(alloc, text)?;
+    let files = vec![in alloc; file(alloc, "a.i", text)?]?;
     tells(alloc, &files, call)
-}
-
-/// Whether `go` over the module `a.i` of this text alone has this status and this line.
-fn goes(alloc: Global, text: &[u8], status: u8, line: &'static str) -> Result<bool, AllocError> {
-    module_tells(alloc, text, &("go", &[], 1000, status, line))
 }
 
 /// A text, the status of `go` over the module `a.i` of it, and its line.
@@ -154,13 +183,19 @@ static TEXTS: [TextRow; 39] = [
 #[test]
 fn one_module(rt: HostRuntime) -> Result<(), Fail> {
     for (text, status, line) in TEXTS.iter() {
-        assert!(rt; goes(rt.alloc(), text.as_bytes(), *status, line)?, "{text}");
+        let call: Call = ("go", &[], 1000, *status, *line);
+        assert!(rt; module_tells(rt.alloc(), text.as_bytes(), &call)?, "{text}");
     }
     Ok(())
 }
 
 /// Files with their texts, a command line, its status and its line.
-type StoreRow = (&'static [Module], &'static str, u8, &'static str);
+type StoreRow = (
+    &'static [(&'static str, &'static str)],
+    &'static str,
+    u8,
+    &'static str,
+);
 
 static STORES: [StoreRow; 17] = [
     (&[], "go", 114, "link: NoMain\n"),
@@ -267,17 +302,21 @@ static STORES: [StoreRow; 17] = [
     ),
 ];
 
-/// Whether a row's command over its files tells what it should.
-fn store_tells(alloc: Global, row: &StoreRow) -> Result<bool, AllocError> {
-    let (listed, words, status, line) = *row;
-    let files = files_of(alloc, listed)?;
-    tells(alloc, &files, &(words, &[], 1000, status, line))
+/// Files of these names and texts.
+fn files_of(alloc: Global, listed: &[(&str, &str)]) -> Result<Files, AllocError> {
+    let mut files = Vec::new(alloc);
+    for (name, text) in listed {
+        files.push(file(alloc, name, text.as_bytes())?)?;
+    }
+    Ok(files)
 }
 
 #[test]
 fn stores(rt: HostRuntime) -> Result<(), Fail> {
-    for row in STORES.iter() {
-        assert!(rt; store_tells(rt.alloc(), row)?, "{}", row.3);
+    for (listed, words, status, line) in STORES.iter() {
+        let files = files_of(rt.alloc(), listed)?;
+        let call: Call = (*words, &[], 1000, *status, *line);
+        assert!(rt; tells(rt.alloc(), &files, &call)?, "{line}");
     }
     Ok(())
 }
@@ -356,63 +395,41 @@ fn joined(alloc: Global, parts: &[(&[u8], usize)]) -> Result<Vec<u8>, AllocError
     Ok(text)
 }
 
-/// Whether `go` over a row's text has its status and its line.
-fn long_goes(alloc: Global, row: &LongRow) -> Result<bool, AllocError> {
-    let (parts, status, line) = *row;
-    let text = joined(alloc, parts)?;
-    goes(alloc, &text, status, line)
-}
-
 #[test]
 fn long_texts(rt: HostRuntime) -> Result<(), Fail> {
-    for row in LONG.iter() {
-        assert!(rt; long_goes(rt.alloc(), row)?, "{}", row.2);
+    for (parts, status, line) in LONG.iter() {
+        let text = joined(rt.alloc(), parts)?;
+        let call: Call = ("go", &[], 1000, *status, *line);
+        assert!(rt; module_tells(rt.alloc(), &text, &call)?, "{line}");
     }
     Ok(())
-}
-
-/// A module of this number and text.
-fn numbered(alloc: Global, number: u32, text: &[u8]) -> Result<(String, Vec<u8>), AllocError> {
-    let name = format!(in alloc; "m{number:03}.i")?;
-    file_of(alloc, &name, text)
-}
-
-/// This count of modules, each of this text.
-fn alike(alloc: Global, count: u32, text: &[u8]) -> Result<Files, AllocError> {
-    let mut files = Vec::new(alloc);
-    for number in 0..count {
-        files.push(numbered(alloc, number, text)?)?;
-    }
-    Ok(files)
 }
 
 /// This count of modules, each of this many blanks.
 fn blank_modules(alloc: Global, count: u32, bytes: usize) -> Result<Files, AllocError> {
     let text = vec![in alloc; b' '; bytes]?;
-    alike(alloc, count, &text)
+    let mut files = Vec::new(alloc);
+    for number in 0..count {
+        let name = format!(in alloc; "m{number:03}.i")?;
+        files.push(file(alloc, name.as_str(), &text)?)?;
+    }
+    Ok(files)
 }
 
 /// How many modules there are, of how many blanks, and the line of `go`.
-type BlankRow = (u32, usize, &'static str);
-
-static BLANKS: [BlankRow; 4] = [
+const BLANKS: [(u32, usize, &str); 4] = [
     (1, 0, "m000.i:1: Syntax at token 1\n"),
     (256, 0, "m000.i:1: Syntax at token 1\n"),
     (257, 0, "m000.i:1: Syntax at token 1\n"),
     (17, 1_048_577, "m000.i:1: TooLong\n"),
 ];
 
-/// Whether `go` over a row's modules refuses the first in its line.
-fn blanks_go(alloc: Global, row: &BlankRow) -> Result<bool, AllocError> {
-    let (count, bytes, line) = *row;
-    let files = blank_modules(alloc, count, bytes)?;
-    tells(alloc, &files, &("go", &[], 1000, 113, line))
-}
-
 #[test]
 fn many_modules(rt: HostRuntime) -> Result<(), Fail> {
-    for row in BLANKS.iter() {
-        assert!(rt; blanks_go(rt.alloc(), row)?, "{}", row.0);
+    for (count, bytes, line) in &BLANKS {
+        let files = blank_modules(rt.alloc(), *count, *bytes)?;
+        let call: Call = ("go", &[], 1000, 113, *line);
+        assert!(rt; tells(rt.alloc(), &files, &call)?, "{count}");
     }
     Ok(())
 }
@@ -447,8 +464,8 @@ static CALLS: [(&str, Call); 6] = [
 
 #[test]
 fn faults(rt: HostRuntime) -> Result<(), Fail> {
-    for (place, (text, call)) in CALLS.iter().enumerate() {
-        assert!(rt; module_tells(rt.alloc(), text.as_bytes(), call)?, "{place}");
+    for (text, call) in CALLS.iter() {
+        assert!(rt; module_tells(rt.alloc(), text.as_bytes(), call)?);
     }
     Ok(())
 }
