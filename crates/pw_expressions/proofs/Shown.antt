@@ -3,11 +3,12 @@ use Rattle.std.proofs.Common.{◌≡◌, ℕ, List, [], ◌∷◌, refl, ap}
 use Rattle.std.specs.declared.alloc.Global.{Global}
 use Rattle.std.specs.declared.vec.Vec.{Vec}
 use Rattle.pw_tree.specs.Trees as tree
-use Rattle.pw_tree.specs.Views.{view_postfix, view_postfixes, view_operations, view_arguments}
+use Rattle.pw_tree.specs.Views.{view_word, view_words, view_postfix, view_postfixes, view_operations, view_arguments}
 use Rattle.pw_tree.specs.declared.expr.Expr.{Expr}
 use Rattle.pw_tree.specs.declared.expr.Operation.{Operation}
 use Rattle.pw_tree.specs.declared.expr.PostfixOperation.{PostfixOperation}
 use Rattle.pw_tree.specs.declared.expr.PostfixOperation as postfix
+use Rattle.pw_tree.specs.declared.expr.Word.{Word}
 use Rattle.pw_expressions.specs.Views.{operation_first, argument_first}
 use Rattle.pw_parts.proofs.Loops.{prepend}
 

@@ -1,5 +1,5 @@
 -- What the values of the rules of expressions show. `.._first` is an item before the rest of its list.
-use Rattle.std.specs.Prelude.{List, Vec, Option, Some, None}
+use Rattle.std.specs.Prelude.{List, ◌∷◌, Vec, Option, Some, None}
 use Rattle.std.specs.declared.alloc.Global.{Global}
 use Rattle.std.specs.declared.boxed.Box.{Box}
 use Rattle.pw_tree.specs.Trees as tree

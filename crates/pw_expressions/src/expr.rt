@@ -5,7 +5,6 @@ ghost use Rattle.pw_grammar.specs.Expressions as spec;
 ghost use Rattle.pw_cursor.specs.Reads.{Reads};
 ghost use Rattle.pw_expressions.specs.Views.{argument_first, before_operation, before_postfix, before_word, view_argument_list, view_operation_list, view_postfix_list, view_type_name, view_word_list};
 ghost use Rattle.pw_cursor.specs.declared.stop.Stop.TheVariants.{NoMemory};
-ghost use Rattle.pw_parts.specs.Views.{view_boxed};
 ghost use Rattle.pw_tree.specs.Levels.{level, unary};
 ghost use Rattle.pw_tree.specs.Views.{view_expr, view_operations, view_postfix, view_postfixes};
 
@@ -57,29 +56,36 @@ fn step_behind(tokens: &mut Tokens<'_>, operator: StepOperator) -> PostfixOperat
 }
 
 /// An expression with what stands behind it, if anything does.
-fn with_postfixes(operand: Box<Expr>, operations: Vec<PostfixOperation>) -> Expr
-    ensures { view_expr result ≡ spec.with_postfixes (view_expr operand.value) (view_postfixes operations.items) }
+fn with_postfixes(
+    alloc: Global,
+    operand: Expr,
+    operations: Vec<PostfixOperation>,
+) -> Result<Expr, Stop>
+    ensures found { IfOk result (λ e. view_expr e ≡ spec.with_postfixes (view_expr operand) (view_postfixes operations.items)) }
+    ensures stop { IfErr result (λ stop. stop ≡ NoMemory) }
 {
     if operations.is_empty() {
-        return Box::into_inner(operand);
+        return Ok(operand);
     }
+    let operand = Box::new(alloc, operand)?;
     expressions_show_their_lists();
-    Expr::Postfix {
+    Ok(Expr::Postfix {
         operand,
         operations,
-    }
+    })
 }
 
 /// An expression with the operators behind it, if there are any.
-fn with_operations(alloc: Global, first: Box<Expr>, rest: Vec<Operation>) -> Result<Box<Expr>, Stop>
-    ensures found { IfOk result (λ e. view_expr e.value ≡ spec.with_operations (view_expr first.value) (view_operations rest.items)) }
+fn with_operations(alloc: Global, first: Expr, rest: Vec<Operation>) -> Result<Expr, Stop>
+    ensures found { IfOk result (λ e. view_expr e ≡ spec.with_operations (view_expr first) (view_operations rest.items)) }
     ensures stop { IfErr result (λ stop. stop ≡ NoMemory) }
 {
     if rest.is_empty() {
         return Ok(first);
     }
+    let first = Box::new(alloc, first)?;
     expressions_show_their_lists();
-    Ok(Box::new(alloc, Expr::Chain { first, rest })?)
+    Ok(Expr::Chain { first, rest })
 }
 
 /// An expression that may stand before an operator of assignment.
@@ -228,12 +234,9 @@ fn index<'a, P: SmallerParts<'a>>(
     ensures { Reads view_postfix (spec.index (P.parsers parts.now) tokens.old) result tokens.new }
 {
     let token = tokens.take_number();
-    let index = boxed_expr(alloc, parts, tokens, COMMA)?;
+    let index = parts.expr(alloc, tokens, COMMA)?;
     tokens.expect(Mark::CloseBracket)?;
-    Ok(PostfixOperation::Index {
-        token,
-        index: Box::into_inner(index),
-    })
+    Ok(PostfixOperation::Index { token, index })
 }
 
 #[tactic(auto, unfolding(pw_grammar::specs::Expressions::call))]
@@ -321,9 +324,8 @@ fn postfix_expr<'a, P: SmallerParts<'a>>(
     ensures { Reads view_expr (spec.postfix_expr (P.parsers parts.now) tokens.old) result tokens.new }
 {
     let operand = primary(alloc, parts, tokens)?;
-    let operand = Box::new(alloc, operand)?;
     let operations = postfixes(alloc, parts, tokens)?;
-    Ok(with_postfixes(operand, operations))
+    with_postfixes(alloc, operand, operations)
 }
 
 #[tactic(auto, unfolding(pw_grammar::specs::Expressions::operated, pw_tree::specs::Views::view_expr))]
@@ -439,18 +441,6 @@ fn cast_expr<'a, P: SmallerParts<'a>>(
     }
 }
 
-fn boxed_cast<'a, P: SmallerParts<'a>>(
-    alloc: Global,
-    parts: &P,
-    tokens: &mut Tokens<'a>,
-) -> Result<Box<Expr>, Stop>
-    requires { P.can_read parts.now }
-    ensures { Reads view_boxed (spec.cast_expr (P.parsers parts.now) tokens.old) result tokens.new }
-{
-    let expr = cast_expr(alloc, parts, tokens)?;
-    Ok(Box::new(alloc, expr)?)
-}
-
 /// An operator of a level and its operand, if one stands next.
 #[tactic(auto, unfolding(pw_grammar::specs::Expressions::operation))]
 fn operation<'a, P: SmallerParts<'a>>(
@@ -499,22 +489,22 @@ fn conditional_behind<'a, P: SmallerParts<'a>>(
     alloc: Global,
     parts: &P,
     tokens: &mut Tokens<'a>,
-    condition: Box<Expr>,
-) -> Result<Box<Expr>, Stop>
+    condition: Expr,
+) -> Result<Expr, Stop>
     requires { P.can_read parts.now }
-    ensures { Reads view_boxed (spec.conditional_behind (P.parsers parts.now) (view_expr condition.value) tokens.old) result tokens.new }
+    ensures { Reads view_expr (spec.conditional_behind (P.parsers parts.now) (view_expr condition) tokens.old) result tokens.new }
 {
+    let condition = Box::new(alloc, condition)?;
     let token = tokens.take_number();
     let chosen = boxed_expr(alloc, parts, tokens, COMMA)?;
     tokens.expect(Mark::Colon)?;
     let otherwise = boxed_expr(alloc, parts, tokens, CONDITIONAL)?;
-    let expr = Expr::Conditional {
+    Ok(Expr::Conditional {
         token,
         condition,
         chosen,
         otherwise,
-    };
-    Ok(Box::new(alloc, expr)?)
+    })
 }
 
 /// C90 6.3.15
@@ -523,10 +513,10 @@ fn condition_of<'a, P: SmallerParts<'a>>(
     alloc: Global,
     parts: &P,
     tokens: &mut Tokens<'a>,
-    condition: Box<Expr>,
-) -> Result<Box<Expr>, Stop>
+    condition: Expr,
+) -> Result<Expr, Stop>
     requires { P.can_read parts.now }
-    ensures { Reads view_boxed (spec.condition_of (P.parsers parts.now) (view_expr condition.value) tokens.old) result tokens.new }
+    ensures { Reads view_expr (spec.condition_of (P.parsers parts.now) (view_expr condition) tokens.old) result tokens.new }
 {
     if tokens.sees(Mark::Question) {
         conditional_behind(alloc, parts, tokens, condition)
@@ -541,20 +531,20 @@ fn assigned<'a, P: SmallerParts<'a>>(
     parts: &P,
     tokens: &mut Tokens<'a>,
     operator: AssignOperator,
-    left: Box<Expr>,
-) -> Result<Box<Expr>, Stop>
+    left: Expr,
+) -> Result<Expr, Stop>
     requires { P.can_read parts.now }
-    ensures { Reads view_boxed (spec.assigned (P.parsers parts.now) (view_expr left.value) operator tokens.old) result tokens.new }
+    ensures { Reads view_expr (spec.assigned (P.parsers parts.now) (view_expr left) operator tokens.old) result tokens.new }
 {
+    let left = Box::new(alloc, left)?;
     let token = tokens.take_number();
     let right = boxed_expr(alloc, parts, tokens, ASSIGNMENT)?;
-    let expr = Expr::Assign {
+    Ok(Expr::Assign {
         token,
         operator,
         left,
         right,
-    };
-    Ok(Box::new(alloc, expr)?)
+    })
 }
 
 /// C90 6.3.16
@@ -563,10 +553,10 @@ fn assignment_to<'a, P: SmallerParts<'a>>(
     alloc: Global,
     parts: &P,
     tokens: &mut Tokens<'a>,
-    left: Box<Expr>,
-) -> Result<Box<Expr>, Stop>
+    left: Expr,
+) -> Result<Expr, Stop>
     requires { P.can_read parts.now }
-    ensures { Reads view_boxed (spec.assignment_to (P.parsers parts.now) (view_expr left.value) tokens.old) result tokens.new }
+    ensures { Reads view_expr (spec.assignment_to (P.parsers parts.now) (view_expr left) tokens.old) result tokens.new }
 {
     let Some(operator) = assigns(tokens.peek()) else {
         return Ok(left);
@@ -585,10 +575,10 @@ fn goes_on<'a, P: SmallerParts<'a>>(
     parts: &P,
     tokens: &mut Tokens<'a>,
     level: u8,
-    left: Box<Expr>,
-) -> Result<Box<Expr>, Stop>
+    left: Expr,
+) -> Result<Expr, Stop>
     requires { P.can_read parts.now }
-    ensures { Reads view_boxed (spec.goes_on (P.parsers parts.now) level (view_expr left.value) tokens.old) result tokens.new }
+    ensures { Reads view_expr (spec.goes_on (P.parsers parts.now) level (view_expr left) tokens.old) result tokens.new }
 {
     if level == CONDITIONAL {
         return condition_of(alloc, parts, tokens, left);
@@ -614,9 +604,9 @@ pub fn expr_of<'a, P: SmallerParts<'a>>(
     if level <= UNARY {
         return unary_expr(alloc, parts, tokens);
     }
-    let mut found = boxed_cast(alloc, parts, tokens)?;
+    let mut found = cast_expr(alloc, parts, tokens)?;
     for below in CAST..level {
         found = goes_on(alloc, parts, tokens, below + 1, found)?;
     }
-    Ok(Box::into_inner(found))
+    Ok(found)
 }

@@ -1,4 +1,4 @@
-use Rattle.std.proofs.Common.{rules, ◌≡◌, ◌≤◌, Ok, suc, ◌+◌, ◌-◌, ap, ◌∙◌, sym, arith}
+use Rattle.std.proofs.Common.{rules, ◌≡◌, ◌≤◌, suc, ◌+◌, ◌-◌, ap, ◌∙◌, sym, arith}
 use Rattle.std.proofs.lemmas.Grind.{common_steps}
 use Rattle.pw_tree.specs.Views.{view_expr}
 use Rattle.pw_grammar.specs.Expressions.{above_cast, goes_on}
@@ -20,7 +20,7 @@ returns-in_err-found-2 g c =
     let e = levels p c.args.level c.args.tokens.now (omega arith) in
     let k : suc (c.loop-below.below - 3) ≤ c.args.level - 3 = omega arith in
     let n : c.loop-below.below - 3 + 4 ≡ c.loop-below.below + 1 = omega arith in
-    let s = one_more_level p c.args.tokens.now (c.loop-below.below - 3) c.loop-below.invariant.read ∙ ap (λ m. goes_on p m (view_expr c.loop-below.found.value) c.loop-below.tokens) n in
+    let s = one_more_level p c.args.tokens.now (c.loop-below.below - 3) c.loop-below.invariant.read ∙ ap (λ m. goes_on p m (view_expr c.loop-below.found) c.loop-below.tokens) n in
     let w = λ (j : Input). wrong_above p c.args.tokens.now (suc (c.loop-below.below - 3)) (c.args.level - 3) {j = j} k in
     first_of (search (rules, w), grind (arith, common_steps, w))
 
@@ -33,7 +33,7 @@ loop-below-preserved g c =
     let p = g.P.SmallerParts.parsers c.args.parts.now in
     let m : c.loop-below.below + 1 - 3 ≡ suc (c.loop-below.below - 3) = omega arith in
     let n : c.loop-below.below - 3 + 4 ≡ c.loop-below.below + 1 = omega arith in
-    let s = ap (λ k. above_cast p k c.args.tokens.now) m ∙ one_more_level p c.args.tokens.now (c.loop-below.below - 3) c.loop-below.invariant.read ∙ ap (λ m. goes_on p m (view_expr c.loop-below.found.value) c.loop-below.tokens) n in
+    let s = ap (λ k. above_cast p k c.args.tokens.now) m ∙ one_more_level p c.args.tokens.now (c.loop-below.below - 3) c.loop-below.invariant.read ∙ ap (λ m. goes_on p m (view_expr c.loop-below.found) c.loop-below.tokens) n in
     record { from = omega arith; to = omega arith; read = first_of (search rules, grind (arith, common_steps)) }
 
 pub returns : goal.returns
@@ -42,4 +42,3 @@ returns g c =
     let e = levels p c.args.level c.args.tokens.now (omega arith) in
     let k : c.loop-below.below ≡ c.args.level = omega arith in
     e ∙ ap (λ n. above_cast p (n - 3) c.args.tokens.now) (sym k) ∙ c.loop-below.invariant.read
-    ∙ ap (λ v. Ok (view_expr v, c.loop-below.tokens)) (sym c.into_inner.ensures)

@@ -7,5 +7,5 @@ abbrev pub invariant-loop-below : goal.invariant-loop-below
 invariant-loop-below g l = record {
   from : 3 ≤ l.below;
   to : l.below ≤ l.level;
-  read : above_cast (g.P.SmallerParts.parsers l.parts) (l.below - 3) l.fn.tokens ≡ Ok (view_expr l.found.value, l.tokens);
+  read : above_cast (g.P.SmallerParts.parsers l.parts) (l.below - 3) l.fn.tokens ≡ Ok (view_expr l.found, l.tokens);
 }
