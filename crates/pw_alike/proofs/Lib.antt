@@ -1,0 +1,10 @@
+mod CodeNames
+mod Databases
+mod LineNames
+pub mod Mains
+mod Modules
+pub mod Names
+mod Parts
+mod Programs
+pub mod Tests
+pub mod Twice
