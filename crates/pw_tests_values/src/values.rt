@@ -1,248 +1,41 @@
-//! Tests of pw_value: that calls succeed, what the bytes are, and that the definitions mean what C and the
-//! machine mean. Expected values are counted by hand, and the digest is that of `sha256sum`.
+//! Cases of pw_value: that calls succeed, what the bytes of a value are, and that the definitions mean what C
+//! and the machine mean. Answers are counted by hand.
 
-use pw_value::fields::frame::{check_digest, open, seal};
-use pw_value::fields::names::{read_name, read_names, table_of};
-use pw_value::fields::writing::{push_flag, push_text, push_u8, push_u32, push_u64};
-use pw_value::fields::{FieldError, read_flag, read_text, read_u8, read_u32, read_u64};
+use crate::cases::{Case, push_made};
+use pw_rows::Text;
 use pw_value::value::Byte::{Num, Piece, Undefined};
-use pw_value::words::WordFault::{Overflow, ShiftCount, ZeroDivisor};
 use pw_value::{
-    Byte, FileError, Name, NameError, Pointer, Shape, Value, WordFault, agree, decode,
-    decode_pointer, encode, words,
+    Byte, Name, Pointer, Shape, Value, WordFault, agree, decode, decode_pointer, encode, words,
 };
-use std::alloc::{AllocError, Global};
+use std::alloc::Global;
+use std::process::Abort;
 
-/// How many bytes a name has, and whether there is such a name.
-static NAMES: [(usize, bool); 5] = [(0, false), (1, true), (2, true), (400, true), (401, false)];
-
-/// How many bytes the name of so many bytes has, or nothing where it is refused for its length.
-fn length_of_name(alloc: Global, count: usize) -> Option<usize> {
-    let bytes = [b'x'; 401];
-    match Name::new(alloc, &bytes[..count.min(401)]) {
-        Ok(name) => Some(name.as_bytes().len()),
-        Err(NameError::Length) => None,
-        Err(_) => Some(usize::MAX),
-    }
-}
-
-fn are_lengths_of_names(alloc: Global) -> bool {
-    for (count, lawful) in NAMES.iter() {
-        let wanted = if *lawful { Some(*count) } else { None };
-        if length_of_name(alloc, *count) != wanted {
-            return false;
-        }
-    }
-    true
-}
-
-/// Whether the name is equal to its copy.
-fn is_copied(alloc: Global, name: &Name) -> bool {
-    match name.copy(alloc) {
-        Ok(copy) => copy == *name,
-        Err(_) => false,
-    }
-}
-
-/// Whether the name comes before the one of these bytes, and is equal to its copy.
-fn is_name_before(alloc: Global, name: &Name, greater: &[u8]) -> bool {
-    match Name::new(alloc, greater) {
-        Ok(other) => *name < other && is_copied(alloc, name),
-        Err(_) => false,
-    }
-}
-
-/// Whether the first name comes before the second, and is equal to its copy.
-fn is_before(alloc: Global, less: &[u8], greater: &[u8]) -> bool {
-    match Name::new(alloc, less) {
-        Ok(name) => is_name_before(alloc, &name, greater),
-        Err(_) => false,
-    }
-}
-
-fn are_names_in_byte_order(alloc: Global) -> bool {
-    is_before(alloc, b"ab", b"b") && is_before(alloc, b"a", b"ab")
-}
-
-/// Two shapes, and whether they agree.
-static SHAPES: [(&str, &str, bool); 13] = [
-    ("i", "i", true),
-    ("i", "j", false),
-    ("[]i", "[3]i", true),
-    ("[12]i", "[]i", true),
-    ("[3]i", "[4]i", false),
-    ("[]i", "[3]j", false),
-    ("[]i", "[]i", true),
-    ("[]i", "i", false),
-    ("[]i", "[x]i", false),
-    ("{4:[]i}", "{4:[1]i}", false),
-    ("[2][]i", "[2][3]i", false),
-    ("[][3]i", "[2][3]i", true),
-    ("!i", "i", false),
-];
-
-fn shape(alloc: Global, text: &str) -> Result<Shape, AllocError> {
-    Ok(Shape::new(Vec::from_slice(alloc, text.as_bytes())?))
-}
-
-/// Whether a shape agrees with the copy of another; the wrong answer where there is no memory.
-fn agrees_with_copy(alloc: Global, one: &Shape, other: &Shape) -> bool {
-    match other.copy(alloc) {
-        Ok(copy) => agree(one, &copy),
-        Err(_) => !agree(one, other),
-    }
-}
-
-/// Whether the answer to whether a shape agrees with that of a text is this one, also the other way round.
-fn agrees_with_text(alloc: Global, one: &Shape, text: &str, wanted: bool) -> bool {
-    match shape(alloc, text) {
-        Ok(other) => {
-            agree(one, &other) == wanted && agrees_with_copy(alloc, &other, one) == wanted
-        }
-        Err(_) => false,
-    }
-}
-
-/// Whether the answer to whether two shapes agree is this one, also the other way round.
-fn answers(alloc: Global, one: &str, other: &str, wanted: bool) -> bool {
-    match shape(alloc, one) {
-        Ok(found) => agrees_with_text(alloc, &found, other, wanted),
-        Err(_) => false,
-    }
-}
-
-fn do_shapes_agree(alloc: Global) -> bool {
-    for (one, other, wanted) in SHAPES.iter() {
-        if !answers(alloc, one, other, *wanted) {
-            return false;
-        }
-    }
-    true
-}
-
-const P: Pointer = Pointer::Object(7, 12);
-
-const Q: Pointer = Pointer::Function(7);
-
-/// A value, a width, and the bytes in which it stands.
-const ENCODINGS: [(Value, u8, [Byte; 4]); 7] = [
-    (
-        Value::Num(0x1234_5678),
-        4,
-        [Num(0x12), Num(0x34), Num(0x56), Num(0x78)],
-    ),
-    (
-        Value::Num(0x1234_5678),
-        2,
-        [Num(0x56), Num(0x78), Undefined, Undefined],
-    ),
-    (
-        Value::Num(0x1234_5678),
-        1,
-        [Num(0x78), Undefined, Undefined, Undefined],
-    ),
-    (Value::Null, 4, [Num(0), Num(0), Num(0), Num(0)]),
-    (
-        Value::At(P),
-        4,
-        [Piece(P, 0), Piece(P, 1), Piece(P, 2), Piece(P, 3)],
-    ),
-    (
-        Value::Piece(Q, 2),
-        1,
-        [Piece(Q, 2), Undefined, Undefined, Undefined],
-    ),
-    (
-        Value::Undefined,
-        2,
-        [Undefined, Undefined, Undefined, Undefined],
-    ),
-];
-
-fn are_values_encoded() -> bool {
-    for (value, width, wanted) in ENCODINGS {
-        if encode(value, width) != wanted {
-            return false;
-        }
-    }
-    true
-}
-
-const ONES: [Byte; 4] = [Num(0xff), Num(0xff), Num(0xff), Num(0xff)];
-
-const PIECES: [Byte; 4] = [Piece(P, 3), Piece(P, 3), Piece(P, 3), Piece(P, 3)];
-
-/// Bytes, a width, whether the number is signed, and the value that stands there.
-const SCALARS: [([Byte; 4], u8, bool, Value); 9] = [
-    (ONES, 1, true, Value::Num(0xffff_ffff)),
-    (ONES, 1, false, Value::Num(255)),
-    (ONES, 2, false, Value::Num(65535)),
-    (
-        [Num(0x7f), Num(0), Num(0), Num(0)],
-        1,
-        true,
-        Value::Num(127),
-    ),
-    (
-        [Num(0x80), Num(0), Num(0), Num(0)],
-        2,
-        true,
-        Value::Num(0xffff_8000),
-    ),
-    (
-        [Num(0x80), Num(0), Num(0), Num(1)],
-        4,
-        true,
-        Value::Num(0x8000_0001),
-    ),
-    (
-        [Num(1), Undefined, Undefined, Undefined],
-        2,
-        false,
-        Value::Undefined,
-    ),
-    (PIECES, 1, true, Value::Piece(P, 3)),
-    (PIECES, 2, true, Value::Undefined),
-];
-
-fn are_scalars_decoded() -> bool {
-    for (bytes, width, signed, wanted) in SCALARS {
-        if decode(bytes, width, signed) != wanted {
-            return false;
-        }
-    }
-    true
-}
-
-/// Bytes, and the pointer that stands there.
-const POINTERS: [([Byte; 4], Value); 5] = [
-    (
-        [Piece(Q, 0), Piece(Q, 1), Piece(Q, 2), Piece(Q, 3)],
-        Value::At(Q),
-    ),
-    (
-        [Piece(P, 0), Piece(Q, 1), Piece(P, 2), Piece(Q, 3)],
-        Value::Undefined,
-    ),
-    (
-        [Piece(P, 0), Piece(P, 0), Piece(P, 0), Piece(P, 0)],
-        Value::Undefined,
-    ),
-    ([Num(0), Num(0), Num(0), Num(0)], Value::Null),
-    ([Num(0), Num(0), Num(0), Num(1)], Value::Undefined),
-];
-
-fn are_pointers_decoded() -> bool {
-    for (bytes, wanted) in POINTERS {
-        if decode_pointer(bytes) != wanted {
-            return false;
-        }
-    }
-    true
+/// What is asked of names, shapes, values and words.
+pub(crate) enum ValueCase {
+    /// How many bytes the name of so many bytes has.
+    Length(usize),
+    /// Whether the first name comes before the second, and whether it is equal to its copy.
+    Before(&'static [u8], &'static [u8]),
+    /// Whether the first shape agrees with the second, and the second with a copy of the first.
+    Agree(&'static str, &'static str),
+    /// The bytes in which each of `ENCODED` stands.
+    Encoded,
+    /// The value that stands in each of `DECODED`.
+    Decoded,
+    /// The pointer that stands in these bytes.
+    DecodedPointer([Byte; 4]),
+    /// What an operation on two words gives.
+    Operated(Operation, u32, u32),
+    /// Whether the first word is less and at most the second: as ints, then as unsigned ints.
+    Ordered(u32, u32),
+    /// The negation of a word as an int, and as an unsigned int.
+    Negated(u32),
+    /// The sum, the difference and the product of two words as unsigned ints.
+    Unsigned(u32, u32),
 }
 
 #[derive(Clone, Copy)]
-enum Operation {
+pub(crate) enum Operation {
     Sum,
     Difference,
     Product,
@@ -255,7 +48,321 @@ enum Operation {
     UnsignedRight,
 }
 
-fn operate(operation: Operation, a: u32, b: u32) -> Result<u32, WordFault> {
+const P: Pointer = Pointer::Object(7, 12);
+
+const Q: Pointer = Pointer::Function(7);
+
+const ONES: [Byte; 4] = [Num(0xff), Num(0xff), Num(0xff), Num(0xff)];
+
+const PIECES: [Byte; 4] = [Piece(P, 3), Piece(P, 3), Piece(P, 3), Piece(P, 3)];
+
+/// Values and their widths.
+const ENCODED: [(Value, u8); 7] = [
+    (Value::Num(0x1234_5678), 4),
+    (Value::Num(0x1234_5678), 2),
+    (Value::Num(0x1234_5678), 1),
+    (Value::Null, 4),
+    (Value::At(P), 4),
+    (Value::Piece(Q, 2), 1),
+    (Value::Undefined, 2),
+];
+
+/// Bytes, and of what stands in them the width and whether it is signed.
+const DECODED: [([Byte; 4], u8, bool); 9] = [
+    (ONES, 1, true),
+    (ONES, 1, false),
+    (ONES, 2, false),
+    ([Num(0x7f), Num(0), Num(0), Num(0)], 1, true),
+    ([Num(0x80), Num(0), Num(0), Num(0)], 2, true),
+    ([Num(0x80), Num(0), Num(0), Num(1)], 4, true),
+    ([Num(1), Undefined, Undefined, Undefined], 2, false),
+    (PIECES, 1, true),
+    (PIECES, 2, true),
+];
+
+const LEAST: u32 = 0x8000_0000;
+
+const GREATEST: u32 = 0x7fff_ffff;
+
+/// -1, -2, -3 and -7 as words.
+const M1: u32 = 0xffff_ffff;
+
+const M2: u32 = 0xffff_fffe;
+
+const M3: u32 = 0xffff_fffd;
+
+const M7: u32 = 0xffff_fff9;
+
+/// Cases and their answers.
+pub(crate) static CASES: [(ValueCase, &str); 72] = [
+    (ValueCase::Length(0), "Length"),
+    (ValueCase::Length(1), "1"),
+    (ValueCase::Length(2), "2"),
+    (ValueCase::Length(400), "400"),
+    (ValueCase::Length(401), "Length"),
+    (ValueCase::Before(b"ab", b"b"), "(true, true)"),
+    (ValueCase::Before(b"a", b"ab"), "(true, true)"),
+    (ValueCase::Agree("i", "i"), "(true, true)"),
+    (ValueCase::Agree("i", "j"), "(false, false)"),
+    (ValueCase::Agree("[]i", "[3]i"), "(true, true)"),
+    (ValueCase::Agree("[12]i", "[]i"), "(true, true)"),
+    (ValueCase::Agree("[3]i", "[4]i"), "(false, false)"),
+    (ValueCase::Agree("[]i", "[3]j"), "(false, false)"),
+    (ValueCase::Agree("[]i", "[]i"), "(true, true)"),
+    (ValueCase::Agree("[]i", "i"), "(false, false)"),
+    (ValueCase::Agree("[]i", "[x]i"), "(false, false)"),
+    (ValueCase::Agree("{4:[]i}", "{4:[1]i}"), "(false, false)"),
+    (ValueCase::Agree("[2][]i", "[2][3]i"), "(false, false)"),
+    (ValueCase::Agree("[][3]i", "[2][3]i"), "(true, true)"),
+    (ValueCase::Agree("!i", "i"), "(false, false)"),
+    (
+        ValueCase::Encoded,
+        "\
+[Num(18), Num(52), Num(86), Num(120)]
+[Num(86), Num(120), Undefined, Undefined]
+[Num(120), Undefined, Undefined, Undefined]
+[Num(0), Num(0), Num(0), Num(0)]
+[Piece(Object(7, 12), 0), Piece(Object(7, 12), 1), Piece(Object(7, 12), 2), Piece(Object(7, 12), 3)]
+[Piece(Function(7), 2), Undefined, Undefined, Undefined]
+[Undefined, Undefined, Undefined, Undefined]
+",
+    ),
+    (
+        ValueCase::Decoded,
+        "\
+Num(4294967295)
+Num(255)
+Num(65535)
+Num(127)
+Num(4294934528)
+Num(2147483649)
+Undefined
+Piece(Object(7, 12), 3)
+Undefined
+",
+    ),
+    (
+        ValueCase::DecodedPointer([Piece(Q, 0), Piece(Q, 1), Piece(Q, 2), Piece(Q, 3)]),
+        "At(Function(7))",
+    ),
+    (
+        ValueCase::DecodedPointer([Piece(P, 0), Piece(Q, 1), Piece(P, 2), Piece(Q, 3)]),
+        "Undefined",
+    ),
+    (
+        ValueCase::DecodedPointer([Piece(P, 0), Piece(P, 0), Piece(P, 0), Piece(P, 0)]),
+        "Undefined",
+    ),
+    (
+        ValueCase::DecodedPointer([Num(0), Num(0), Num(0), Num(0)]),
+        "Null",
+    ),
+    (
+        ValueCase::DecodedPointer([Num(0), Num(0), Num(0), Num(1)]),
+        "Undefined",
+    ),
+    (
+        ValueCase::Operated(Operation::Sum, GREATEST, 1),
+        "Err(Overflow)",
+    ),
+    (
+        ValueCase::Operated(Operation::Sum, LEAST, M1),
+        "Err(Overflow)",
+    ),
+    (
+        ValueCase::Operated(Operation::Sum, GREATEST, LEAST),
+        "Ok(4294967295)",
+    ),
+    (ValueCase::Operated(Operation::Sum, M3, 5), "Ok(2)"),
+    (
+        ValueCase::Operated(Operation::Difference, LEAST, 1),
+        "Err(Overflow)",
+    ),
+    (
+        ValueCase::Operated(Operation::Difference, 0, LEAST),
+        "Err(Overflow)",
+    ),
+    (
+        ValueCase::Operated(Operation::Difference, M1, LEAST),
+        "Ok(2147483647)",
+    ),
+    (
+        ValueCase::Operated(Operation::Difference, 2, 5),
+        "Ok(4294967293)",
+    ),
+    (
+        ValueCase::Operated(Operation::Product, 65536, 32768),
+        "Err(Overflow)",
+    ),
+    (
+        ValueCase::Operated(Operation::Product, 65536, 0xffff_8000),
+        "Ok(2147483648)",
+    ),
+    (
+        ValueCase::Operated(Operation::Product, LEAST, M1),
+        "Err(Overflow)",
+    ),
+    (ValueCase::Operated(Operation::Product, M3, M7), "Ok(21)"),
+    (
+        ValueCase::Operated(Operation::Quotient, M7, 2),
+        "Ok(4294967293)",
+    ),
+    (
+        ValueCase::Operated(Operation::Quotient, 7, M2),
+        "Ok(4294967293)",
+    ),
+    (ValueCase::Operated(Operation::Quotient, M7, M2), "Ok(3)"),
+    (
+        ValueCase::Operated(Operation::Quotient, LEAST, M1),
+        "Err(Overflow)",
+    ),
+    (
+        ValueCase::Operated(Operation::Quotient, LEAST, 0),
+        "Err(ZeroDivisor)",
+    ),
+    (
+        ValueCase::Operated(Operation::Remainder, M7, 2),
+        "Ok(4294967295)",
+    ),
+    (ValueCase::Operated(Operation::Remainder, 7, M2), "Ok(1)"),
+    (
+        ValueCase::Operated(Operation::Remainder, LEAST, M1),
+        "Err(Overflow)",
+    ),
+    (
+        ValueCase::Operated(Operation::Remainder, 7, 0),
+        "Err(ZeroDivisor)",
+    ),
+    (
+        ValueCase::Operated(Operation::UnsignedQuotient, M7, 2),
+        "Ok(2147483644)",
+    ),
+    (
+        ValueCase::Operated(Operation::UnsignedQuotient, 7, 0),
+        "Err(ZeroDivisor)",
+    ),
+    (
+        ValueCase::Operated(Operation::UnsignedRemainder, M7, 10),
+        "Ok(9)",
+    ),
+    (
+        ValueCase::Operated(Operation::UnsignedRemainder, 7, 0),
+        "Err(ZeroDivisor)",
+    ),
+    (
+        ValueCase::Operated(Operation::Left, M3, 30),
+        "Ok(1073741824)",
+    ),
+    (
+        ValueCase::Operated(Operation::Left, 1, 32),
+        "Err(ShiftCount)",
+    ),
+    (
+        ValueCase::Operated(Operation::Left, 1, M1),
+        "Err(ShiftCount)",
+    ),
+    (
+        ValueCase::Operated(Operation::Right, M7, 1),
+        "Ok(4294967292)",
+    ),
+    (
+        ValueCase::Operated(Operation::Right, LEAST, 31),
+        "Ok(4294967295)",
+    ),
+    (
+        ValueCase::Operated(Operation::Right, 1, 32),
+        "Err(ShiftCount)",
+    ),
+    (
+        ValueCase::Operated(Operation::UnsignedRight, M7, 1),
+        "Ok(2147483644)",
+    ),
+    (
+        ValueCase::Operated(Operation::UnsignedRight, LEAST, M1),
+        "Err(ShiftCount)",
+    ),
+    (ValueCase::Ordered(M1, 1), "[true, true, false, false]"),
+    (ValueCase::Ordered(1, M1), "[false, false, true, true]"),
+    (
+        ValueCase::Ordered(LEAST, GREATEST),
+        "[true, true, false, false]",
+    ),
+    (ValueCase::Ordered(M2, M1), "[true, true, true, true]"),
+    (ValueCase::Ordered(M2, M2), "[false, true, false, true]"),
+    (ValueCase::Negated(0), "(Ok(0), 0)"),
+    (ValueCase::Negated(3), "(Ok(4294967293), 4294967293)"),
+    (ValueCase::Negated(M7), "(Ok(7), 7)"),
+    (ValueCase::Negated(LEAST), "(Err(Overflow), 2147483648)"),
+    (ValueCase::Unsigned(M1, 2), "[1, 4294967293, 4294967294]"),
+    (ValueCase::Unsigned(0, 7), "[7, 4294967289, 0]"),
+    (ValueCase::Unsigned(65536, 65536), "[131072, 0, 0]"),
+];
+
+impl Case for ValueCase {
+    fn answer<R: Abort>(&self, rt: &R, text: &mut Text) {
+        match self {
+            ValueCase::Length(count) => push_length(text, *count),
+            ValueCase::Before(less, greater) => push_before(rt, text, *less, *greater),
+            ValueCase::Agree(one, other) => push_agreement(rt, text, *one, *other),
+            ValueCase::Encoded => push_encoded(text),
+            ValueCase::Decoded => push_decoded(text),
+            ValueCase::DecodedPointer(bytes) => push_made(text, decode_pointer(*bytes)),
+            ValueCase::Operated(operation, a, b) => push_made(text, operated(*operation, *a, *b)),
+            ValueCase::Ordered(a, b) => push_made(text, order(*a, *b)),
+            ValueCase::Negated(a) => push_made(text, negations(*a)),
+            ValueCase::Unsigned(a, b) => push_made(text, unsigned(*a, *b)),
+        }
+    }
+}
+
+/// The longest name and a byte more.
+static LONG: [u8; 401] = [b'x'; 401];
+
+/// Adds how many bytes the name of so many bytes has, or why there is none.
+fn push_length(text: &mut Text, count: usize) {
+    match Name::new(text.alloc(), &LONG[..count.min(401)]) {
+        Ok(name) => text.display(&name.as_bytes().len()),
+        Err(fault) => text.debug(&fault),
+    }
+}
+
+/// Adds whether the first name comes before the second, and whether it is equal to its copy.
+fn push_before(rt: &impl Abort, text: &mut Text, less: &[u8], greater: &[u8]) {
+    let less = Name::new(text.alloc(), less).expect(rt, "a name");
+    let greater = Name::new(text.alloc(), greater).expect(rt, "a name");
+    let copy = less.copy(text.alloc()).expect(rt, "a copy");
+    text.debug(&(less < greater, copy == less));
+}
+
+fn shape(rt: &impl Abort, alloc: Global, text: &str) -> Shape {
+    Shape::new(Vec::from_slice(alloc, text.as_bytes()).expect(rt, "a shape"))
+}
+
+/// Adds whether the first shape agrees with the second, and the second with a copy of the first.
+fn push_agreement(rt: &impl Abort, text: &mut Text, one: &str, other: &str) {
+    let one = shape(rt, text.alloc(), one);
+    let other = shape(rt, text.alloc(), other);
+    let copy = one.copy(text.alloc()).expect(rt, "a copy");
+    text.debug(&(agree(&one, &other), agree(&other, &copy)));
+}
+
+/// Adds the bytes in which each of `ENCODED` stands.
+fn push_encoded(text: &mut Text) {
+    for (value, width) in ENCODED {
+        text.debug(&encode(value, width));
+        text.push(b"\n");
+    }
+}
+
+/// Adds the value that stands in each of `DECODED`.
+fn push_decoded(text: &mut Text) {
+    for (bytes, width, signed) in DECODED {
+        text.debug(&decode(bytes, width, signed));
+        text.push(b"\n");
+    }
+}
+
+fn operated(operation: Operation, a: u32, b: u32) -> Result<u32, WordFault> {
     match operation {
         Operation::Sum => words::signed_sum(a, b),
         Operation::Difference => words::signed_difference(a, b),
@@ -270,390 +377,23 @@ fn operate(operation: Operation, a: u32, b: u32) -> Result<u32, WordFault> {
     }
 }
 
-const LEAST: u32 = 0x8000_0000;
-
-const GREATEST: u32 = 0x7fff_ffff;
-/// -1, -2, -3 and -7 as words.
-const M1: u32 = 0xffff_ffff;
-
-const M2: u32 = 0xffff_fffe;
-
-const M3: u32 = 0xffff_fffd;
-
-const M7: u32 = 0xffff_fff9;
-
-/// An operation, two words, and what it answers.
-static OPERATIONS: [(Operation, u32, u32, Result<u32, WordFault>); 33] = [
-    (Operation::Sum, GREATEST, 1, Err(Overflow)),
-    (Operation::Sum, LEAST, M1, Err(Overflow)),
-    (Operation::Sum, GREATEST, LEAST, Ok(M1)),
-    (Operation::Sum, M3, 5, Ok(2)),
-    (Operation::Difference, LEAST, 1, Err(Overflow)),
-    (Operation::Difference, 0, LEAST, Err(Overflow)),
-    (Operation::Difference, M1, LEAST, Ok(GREATEST)),
-    (Operation::Difference, 2, 5, Ok(M3)),
-    (Operation::Product, 65536, 32768, Err(Overflow)),
-    (Operation::Product, 65536, 0xffff_8000, Ok(LEAST)),
-    (Operation::Product, LEAST, M1, Err(Overflow)),
-    (Operation::Product, M3, M7, Ok(21)),
-    (Operation::Quotient, M7, 2, Ok(M3)),
-    (Operation::Quotient, 7, M2, Ok(M3)),
-    (Operation::Quotient, M7, M2, Ok(3)),
-    (Operation::Quotient, LEAST, M1, Err(Overflow)),
-    (Operation::Quotient, LEAST, 0, Err(ZeroDivisor)),
-    (Operation::Remainder, M7, 2, Ok(M1)),
-    (Operation::Remainder, 7, M2, Ok(1)),
-    (Operation::Remainder, LEAST, M1, Err(Overflow)),
-    (Operation::Remainder, 7, 0, Err(ZeroDivisor)),
-    (Operation::UnsignedQuotient, M7, 2, Ok(0x7fff_fffc)),
-    (Operation::UnsignedQuotient, 7, 0, Err(ZeroDivisor)),
-    (Operation::UnsignedRemainder, M7, 10, Ok(9)),
-    (Operation::UnsignedRemainder, 7, 0, Err(ZeroDivisor)),
-    (Operation::Left, M3, 30, Ok(0x4000_0000)),
-    (Operation::Left, 1, 32, Err(ShiftCount)),
-    (Operation::Left, 1, M1, Err(ShiftCount)),
-    (Operation::Right, M7, 1, Ok(0xffff_fffc)),
-    (Operation::Right, LEAST, 31, Ok(M1)),
-    (Operation::Right, 1, 32, Err(ShiftCount)),
-    (Operation::UnsignedRight, M7, 1, Ok(0x7fff_fffc)),
-    (Operation::UnsignedRight, LEAST, M1, Err(ShiftCount)),
-];
-
-fn are_words_operated_on() -> bool {
-    for (operation, a, b, wanted) in OPERATIONS.iter() {
-        if operate(*operation, *a, *b) != *wanted {
-            return false;
-        }
-    }
-    true
+fn order(a: u32, b: u32) -> [bool; 4] {
+    [
+        words::signed_less(a, b),
+        words::signed_at_most(a, b),
+        words::unsigned_less(a, b),
+        words::unsigned_at_most(a, b),
+    ]
 }
 
-/// Two words, and whether the first is less and at most the second: as ints, and as unsigned ints.
-static ORDERS: [(u32, u32, (bool, bool), (bool, bool)); 5] = [
-    (M1, 1, (true, true), (false, false)),
-    (1, M1, (false, false), (true, true)),
-    (LEAST, GREATEST, (true, true), (false, false)),
-    (M2, M1, (true, true), (true, true)),
-    (M2, M2, (false, true), (false, true)),
-];
-
-/// Whether the first word is less and at most the second, as ints.
-fn signed_order(a: u32, b: u32) -> (bool, bool) {
-    (words::signed_less(a, b), words::signed_at_most(a, b))
+fn negations(a: u32) -> (Result<u32, WordFault>, u32) {
+    (words::signed_negation(a), words::unsigned_negation(a))
 }
 
-/// The same as unsigned ints.
-fn unsigned_order(a: u32, b: u32) -> (bool, bool) {
-    (words::unsigned_less(a, b), words::unsigned_at_most(a, b))
-}
-
-fn are_words_in_order() -> bool {
-    for (a, b, signed, unsigned) in ORDERS.iter() {
-        if signed_order(*a, *b) != *signed || unsigned_order(*a, *b) != *unsigned {
-            return false;
-        }
-    }
-    true
-}
-
-/// A word, its negation as an int, and as an unsigned int.
-static NEGATIONS: [(u32, Result<u32, WordFault>, u32); 4] = [
-    (0, Ok(0), 0),
-    (3, Ok(M3), M3),
-    (M7, Ok(7), 7),
-    (LEAST, Err(Overflow), LEAST),
-];
-
-fn are_words_negated() -> bool {
-    for (a, signed, unsigned) in NEGATIONS.iter() {
-        if words::signed_negation(*a) != *signed || words::unsigned_negation(*a) != *unsigned {
-            return false;
-        }
-    }
-    true
-}
-
-/// Two words, and their sum, difference and product as unsigned ints.
-static REDUCED: [(u32, u32, [u32; 3]); 3] = [
-    (M1, 2, [1, M3, M2]),
-    (0, 7, [7, M7, 0]),
-    (65536, 65536, [131_072, 0, 0]),
-];
-
-fn unsigned_results(a: u32, b: u32) -> [u32; 3] {
+fn unsigned(a: u32, b: u32) -> [u32; 3] {
     [
         words::unsigned_sum(a, b),
         words::unsigned_difference(a, b),
         words::unsigned_product(a, b),
     ]
-}
-
-fn are_words_reduced() -> bool {
-    for (a, b, wanted) in REDUCED.iter() {
-        if unsigned_results(*a, *b) != *wanted {
-            return false;
-        }
-    }
-    true
-}
-
-/// A byte, a number of four bytes, one of eight, a truth value and a text.
-static FIELDS: [u8; 20] = [
-    171, 1, 2, 3, 4, 5, 6, 7, 8, 9, 10, 11, 12, 1, 0, 0, 0, 2, 104, 105,
-];
-
-fn fields(alloc: Global) -> Result<Vec<u8>, AllocError> {
-    let mut out = Vec::new(alloc);
-    push_u8(&mut out, 171)?;
-    push_u32(&mut out, 0x0102_0304)?;
-    push_u64(&mut out, 0x0506_0708_090a_0b0c)?;
-    push_flag(&mut out, true)?;
-    push_text(&mut out, b"hi")?;
-    Ok(out)
-}
-
-fn are_fields_written(alloc: Global) -> bool {
-    match fields(alloc) {
-        Ok(out) => out.as_slice() == FIELDS.as_slice(),
-        Err(_) => false,
-    }
-}
-
-/// Whether the truth value and the text are read from the bytes, with nothing behind them.
-fn are_last_fields(alloc: Global, bytes: &[u8]) -> Result<bool, FieldError> {
-    let (truth, rest) = read_flag(bytes)?;
-    let (text, rest) = read_text(alloc, rest)?;
-    Ok(truth && text.as_slice() == b"hi".as_slice() && rest.is_empty())
-}
-
-/// The numbers at the front of the bytes, and what is behind them.
-fn numbers_at(bytes: &[u8]) -> Result<((u8, u32, u64), &[u8]), FieldError> {
-    let (byte, rest) = read_u8(bytes)?;
-    let (four, rest) = read_u32(rest)?;
-    let (eight, rest) = read_u64(rest)?;
-    Ok(((byte, four, eight), rest))
-}
-
-/// Whether the fields are read from the bytes, with nothing behind them.
-fn are_fields_read(alloc: Global) -> bool {
-    match numbers_at(&FIELDS) {
-        Ok(((171, 0x0102_0304, 0x0506_0708_090a_0b0c), rest)) => {
-            are_last_fields(alloc, rest) == Ok(true)
-        }
-        _ => false,
-    }
-}
-
-/// How many bytes are left where a fault is.
-fn left_of(fault: Option<FieldError>) -> Option<usize> {
-    match fault {
-        Some(FieldError::Fault { left }) => Some(left),
-        _ => None,
-    }
-}
-
-fn are_short_fields_refused(alloc: Global) -> bool {
-    let flag = left_of(read_flag(&[2, 1]).err());
-    let number = left_of(read_u32(&[2, 1]).err());
-    let text = left_of(read_text(alloc, &[0, 0, 0, 3, 1, 2]).err());
-    [flag, number, text] == [Some(2), Some(2), Some(6)]
-}
-
-/// The table of the names `a` and `b`.
-static TABLE: [u8; 14] = [0, 0, 0, 2, 0, 0, 0, 1, 97, 0, 0, 0, 1, 98];
-
-/// The table of three names.
-fn table(alloc: Global, names: [&Name; 3]) -> Result<Vec<Name>, AllocError> {
-    let mut used = Vec::new(alloc);
-    for name in names {
-        used.push(name)?;
-    }
-    table_of(alloc, used)
-}
-
-/// Whether these bytes are TABLE, with nothing behind them.
-fn is_table(alloc: Global, names: &[Name]) -> bool {
-    match read_names(alloc, &TABLE) {
-        Ok((found, rest)) => rest.is_empty() && found.as_slice() == names,
-        Err(_) => false,
-    }
-}
-
-/// Whether the table of `b` and twice `a` is TABLE.
-fn is_table_made_of(alloc: Global, a: &Name, b: &Name) -> bool {
-    match table(alloc, [b, a, a]) {
-        Ok(names) => is_table(alloc, &names),
-        Err(_) => false,
-    }
-}
-
-fn is_table_made(alloc: Global) -> bool {
-    match (Name::new(alloc, b"a"), Name::new(alloc, b"b")) {
-        (Ok(a), Ok(b)) => is_table_made_of(alloc, &a, &b),
-        _ => false,
-    }
-}
-
-/// Tables of names, and how many bytes are left at the field that is faulty.
-static TABLES: [([u8; 14], usize); 4] = [
-    ([0, 0, 0, 2, 0, 0, 0, 1, 98, 0, 0, 0, 1, 97], 5),
-    ([0, 0, 0, 2, 0, 0, 0, 1, 97, 0, 0, 0, 1, 97], 5),
-    ([0, 0, 0, 2, 0, 0, 0, 0, 97, 0, 0, 0, 1, 98], 10),
-    ([0, 0, 0, 3, 0, 0, 0, 1, 97, 0, 0, 0, 1, 98], 0),
-];
-
-/// How many bytes are left where the fault of a table is.
-fn left_of_table(alloc: Global, bytes: &[u8]) -> Option<usize> {
-    left_of(read_names(alloc, bytes).err())
-}
-
-fn are_tables_refused(alloc: Global) -> bool {
-    for (bytes, left) in TABLES.iter() {
-        if left_of_table(alloc, bytes) != Some(*left) {
-            return false;
-        }
-    }
-    true
-}
-
-/// An index into TABLE with a byte behind it, and the first byte of the name, or how many bytes are left
-/// at the fault.
-static INDICES: [([u8; 5], Result<u8, usize>); 3] = [
-    ([0, 0, 0, 0, 9], Ok(b'a')),
-    ([0, 0, 0, 1, 9], Ok(b'b')),
-    ([0, 0, 0, 2, 9], Err(5)),
-];
-
-/// The first byte of the name at this index of TABLE, or how many bytes are left at the fault.
-fn initial_at(alloc: Global, bytes: &[u8]) -> Result<u8, usize> {
-    let Ok((names, _)) = read_names(alloc, &TABLE) else {
-        return Err(0);
-    };
-    match read_name(&names, bytes) {
-        Ok((name, _)) => Ok(name.as_bytes()[0]),
-        Err(fault) => Err(left_of(Some(fault)).unwrap_or(0)),
-    }
-}
-
-fn are_names_indexed(alloc: Global) -> bool {
-    for (bytes, wanted) in INDICES.iter() {
-        if initial_at(alloc, bytes) != *wanted {
-            return false;
-        }
-    }
-    true
-}
-
-const TEST: u32 = 0x5445_5354;
-
-/// The file of the kind TEST, of version 1, with the payload `abc`.
-static FILE: [u8; 47] = [
-    84, 69, 83, 84, 0, 0, 0, 47, 0, 0, 0, 1, 97, 98, 99, 105, 132, 108, 223, 110, 252, 241, 13,
-    242, 192, 176, 60, 97, 133, 59, 164, 184, 77, 101, 199, 132, 64, 201, 180, 105, 222, 163, 94,
-    225, 189, 89, 186,
-];
-
-fn is_file_sealed(alloc: Global) -> bool {
-    match seal(alloc, TEST, 1, b"abc") {
-        Ok(made) => made.as_slice() == FILE.as_slice(),
-        Err(_) => false,
-    }
-}
-
-fn is_file_opened() -> bool {
-    match open(TEST, 1, 1, &FILE) {
-        Ok(file) => file.version == 1 && file.payload == b"abc".as_slice() && file.end == 15,
-        Err(_) => false,
-    }
-}
-
-/// Whether a fault is that of the field at this offset.
-fn is_fault_at(fault: Option<FileError>, offset: usize) -> bool {
-    match fault {
-        Some(FileError::FileFault { at }) => at == offset,
-        _ => false,
-    }
-}
-
-/// How many bytes of FILE there are, a place and what is turned there, and the offset of the fault in the
-/// header.
-static HEADERS: [(usize, usize, u8, usize); 9] = [
-    (47, 3, 3, 0),
-    (47, 7, 3, 4),
-    (47, 4, 3, 4),
-    (47, 11, 3, 8),
-    (47, 8, 3, 8),
-    (0, 0, 0, 0),
-    (3, 0, 0, 0),
-    (11, 0, 0, 4),
-    (46, 0, 0, 4),
-];
-
-/// The first bytes of a file, all where it has no more.
-fn front(bytes: &[u8], len: usize) -> &[u8] {
-    bytes.get(..len).unwrap_or(bytes)
-}
-
-/// Whether so many bytes of FILE, one of them turned, have the fault at this offset in the header.
-fn is_header_refused(len: usize, place: usize, turned: u8, at: usize) -> bool {
-    let mut damaged = FILE;
-    damaged[place % 47] ^= turned;
-    is_fault_at(open(TEST, 1, 1, front(&damaged, len)).err(), at)
-}
-
-fn are_headers_refused() -> bool {
-    for (len, place, turned, at) in HEADERS.iter() {
-        if !is_header_refused(*len, *place, *turned, *at) {
-            return false;
-        }
-    }
-    true
-}
-
-/// Whether FILE with a byte turned has its fault at the digest.
-fn is_digest_refused(place: usize) -> bool {
-    let mut damaged = FILE;
-    damaged[place % 47] ^= 1;
-    is_fault_at(check_digest(&damaged, 15).err(), 15)
-}
-
-fn are_digests_checked() -> bool {
-    check_digest(&FILE, 15).is_ok()
-        && is_digest_refused(12)
-        && is_digest_refused(15)
-        && is_digest_refused(46)
-}
-
-/// What is tested, and whether it is as it should be.
-fn results(alloc: Global) -> [(&'static str, bool); 18] {
-    [
-        ("lengths of names", are_lengths_of_names(alloc)),
-        ("names in byte order", are_names_in_byte_order(alloc)),
-        ("shapes that agree", do_shapes_agree(alloc)),
-        ("values to bytes", are_values_encoded()),
-        ("scalars in bytes", are_scalars_decoded()),
-        ("pointers in bytes", are_pointers_decoded()),
-        ("operations on words", are_words_operated_on()),
-        ("order of words", are_words_in_order()),
-        ("negations", are_words_negated()),
-        ("unsigned results", are_words_reduced()),
-        ("fields written", are_fields_written(alloc)),
-        ("fields read", are_fields_read(alloc)),
-        ("short fields", are_short_fields_refused(alloc)),
-        ("a table of names", is_table_made(alloc)),
-        ("tables refused", are_tables_refused(alloc)),
-        ("names by index", are_names_indexed(alloc)),
-        ("a file", is_file_sealed(alloc) && is_file_opened()),
-        (
-            "files refused",
-            are_headers_refused() && are_digests_checked(),
-        ),
-    ]
-}
-
-#[test]
-fn values(rt: HostRuntime) {
-    for (what, holds) in results(rt.alloc()) {
-        assert!(rt; holds, "{what}");
-    }
 }
