@@ -1,76 +1,66 @@
-//! Compiles flow files, one a line, and prints the code of their functions.
+//! Answers tables of files. A line that is empty or begins with `#` is a heading and is printed as it is; `## codes` and
+//! `## images` begin the tables.
 //!
-//! A line has a flow file and the payload of directives in hexadecimal. For each function its name, its frame, how
-//! many words it has, the words, and the relocations are printed. A line that begins with `#` is a heading and is
-//! printed as it is.
+//! - Codes: a line has a flow file and the payload of directives in hexadecimal. For each function its name, its frame,
+//!   how many words it has, the words, and the relocations are printed.
+//! - Images: a line has the bytes of the stack, a mark for each word of the modules, and object files in hexadecimal,
+//!   which are linked. The image is printed, or why there is none. A word whose mark is `-` is left out, as are the words
+//!   behind the modules', and objects are told by their offsets from the start of the data: so what is printed rests on
+//!   no word of a routine.
 #![tactic(auto)]
 
-mod shown;
+mod codes;
+mod images;
+mod linking;
+mod phase;
 
-ghost use Rattle.pw_flow.specs.ValidFlow.{IsValid};
-ghost use Rattle.pw_db.specs.Database.{IsDatabase};
+use linking::push_linked;
+use phase::push_compiled;
+use pw_rows::{Program, Text, answer_rows};
+use std::io;
 
-use pw_db::{Database, read_payload};
-use pw_flow::FlowModule;
-use pw_object::Object;
-use pw_phases::{directives_for, phase_two};
-use shown::push_object;
-use std::alloc::{AllocError, Global};
-use std::io::{self, BufRead, BufReader};
-
-/// The object of a lawful module, with its directives in a database.
-fn compiled(alloc: Global, flow: &FlowModule, db: &Database) -> Result<Object, AllocError>
-    requires lawful { IsValid flow.now }
-    requires database { IsDatabase db.now.functions }
-{
-    let directives = directives_for(alloc, flow, db)?;
-    phase_two(alloc, flow, &directives)
+/// What is printed for the rows of a table.
+#[derive(Clone, Copy, PartialEq, Eq)]
+enum Table {
+    Codes,
+    Images,
 }
 
-/// Adds what is printed for a flow file under directives.
-fn push_answer(
-    alloc: Global,
-    output: &mut Vec<u8>,
-    flow: &[u8],
-    payload: &[u8],
-) -> Result<(), AllocError> {
-    let (Ok(flow), Ok(functions)) = (pw_flowfile::read(alloc, flow), read_payload(alloc, payload))
-    else {
-        return output.extend_from_slice(b"no files");
-    };
-    let object = compiled(alloc, &flow, &Database { functions })?;
-    push_object(alloc, output, &object)
+/// The table that began last.
+#[derive(Drop)]
+struct Tables {
+    table: Table,
 }
 
-/// The bytes that a text spells, or none where it spells no bytes.
-fn bytes_of(alloc: Global, text: &str) -> Vec<u8> {
-    match hex::decode(alloc, text.as_bytes()) {
-        Ok(bytes) => bytes,
-        Err(_) => Vec::new(alloc),
-    }
-}
-
-/// Adds what is printed for a line.
-fn push_line(alloc: Global, output: &mut Vec<u8>, line: &str) -> Result<(), AllocError> {
-    let mut parts: Vec<&str> = Vec::new(alloc);
-    for part in line.split(' ') {
-        parts.push(part)?;
-    }
-    match parts.as_slice() {
-        [flow, payload] if !line.starts_with('#') => {
-            let (flow, payload) = (bytes_of(alloc, flow), bytes_of(alloc, payload));
-            push_answer(alloc, output, &flow, &payload)?;
+impl Tables {
+    /// Takes a heading, at which a table may begin.
+    fn heading(&mut self, row: &str) {
+        match row {
+            "## codes" => self.table = Table::Codes,
+            "## images" => self.table = Table::Images,
+            _ => {}
         }
-        _ => output.extend_from_slice(line.as_bytes())?,
     }
-    output.push(b'\n').map_err(|_| AllocError)
+}
+
+impl Program for Tables {
+    fn answer(&mut self, text: &mut Text, _number: usize, row: &str) {
+        if row.is_empty() || row.starts_with('#') {
+            self.heading(row);
+            text.push(row.as_bytes());
+        } else {
+            match self.table {
+                Table::Codes => push_compiled(text, row),
+                Table::Images => push_linked(text, row),
+            }
+        }
+        text.push(b"\n");
+    }
 }
 
 fn main(rt: HostRuntime) -> io::Result<()> {
-    let alloc = rt.alloc();
-    let mut output = Vec::new(alloc);
-    for line in BufReader::new(alloc, rt.reader())?.lines(alloc) {
-        push_line(alloc, &mut output, &line?)?;
-    }
-    io::Write::write_all(&mut rt.stdout(), &output)
+    let mut tables = Tables {
+        table: Table::Codes,
+    };
+    answer_rows(rt.alloc(), rt.reader(), &mut rt.stdout(), &mut tables)
 }

@@ -2,7 +2,7 @@
 
 use crate::text::Text;
 use std::alloc::Global;
-use std::io::{self, BufRead, BufReader, Read, Write};
+use std::io::{self, Read, Write};
 
 /// What answers rows, one behind another.
 pub trait Program {
@@ -10,17 +10,13 @@ pub trait Program {
     fn answer(&mut self, text: &mut Text, number: usize, row: &str);
 }
 
-/// The answers to the lines of an input.
-fn answers<I: Read + Drop, P: Program>(
-    alloc: Global,
-    input: I,
-    program: &mut P,
-) -> io::Result<Text> {
+/// The answers to rows.
+fn answers<P: Program>(alloc: Global, rows: &str, program: &mut P) -> Text {
     let mut text = Text::new(alloc);
-    for (index, row) in BufReader::new(alloc, input)?.lines(alloc).enumerate() {
-        program.answer(&mut text, index + 1, &row?);
+    for (index, row) in rows.lines().enumerate() {
+        program.answer(&mut text, index + 1, row);
     }
-    Ok(text)
+    text
 }
 
 /// Puts out the answers to the lines of an input, all of them at its end; nothing where memory was refused.
@@ -30,6 +26,7 @@ pub fn answer_rows<I: Read + Drop, O: Write, P: Program>(
     out: &mut O,
     program: &mut P,
 ) -> io::Result<()> {
-    let answered = answers(alloc, input, program)?.into_bytes()?;
+    let rows = io::read_to_string(alloc, input)?;
+    let answered = answers(alloc, &rows, program).into_bytes()?;
     out.write_all(&answered)
 }

@@ -3,6 +3,7 @@
 use hex::FromHexError;
 use std::alloc::{AllocError, Global};
 use std::fmt::{Debug, Display};
+use std::mem;
 
 /// A text that is put together piece by piece. Where memory is refused it is cut, and stays so.
 #[derive(Drop)]
@@ -35,6 +36,11 @@ impl Text {
         Ok(self.bytes)
     }
 
+    /// The text so far; no piece is left.
+    pub fn take(&mut self) -> Text {
+        mem::replace(self, Text::new(self.alloc))
+    }
+
     /// The last byte, if there is one.
     pub fn last(&self) -> Option<u8> {
         self.bytes.last().copied()
@@ -50,6 +56,19 @@ impl Text {
         if self.bytes.extend_from_slice(bytes).is_err() {
             self.is_cut = true;
         }
+    }
+
+    /// Adds bytes so many times.
+    pub fn repeat(&mut self, bytes: &[u8], count: usize) {
+        for _ in 0..count {
+            self.push(bytes);
+        }
+    }
+
+    /// Adds a part so many times, by a row that has the count and, behind a blank, the part.
+    pub fn part(&mut self, row: &str) {
+        let (count, part) = row.split_once(' ').unwrap_or((row, ""));
+        self.repeat(part.as_bytes(), count.parse::<usize>().unwrap_or(0));
     }
 
     /// Adds a text that was made, or remembers that it could not be.

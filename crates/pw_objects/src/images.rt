@@ -72,7 +72,7 @@ fn data_start(words: usize) -> u32 {
 }
 
 /// Adds what an image is, as far as it rests on no word of a routine.
-pub(crate) fn push_image(text: &mut Text, image: &Image, marks: &[u8]) {
+pub fn push_image(text: &mut Text, image: &Image, marks: &[u8]) {
     let memory = &image.memory;
     let known = image.functions.len().saturating_sub(ROUTINES);
     text.push(b"ok");
@@ -96,7 +96,7 @@ fn push_names(text: &mut Text, word: &[u8], names: &[&Name]) {
 }
 
 /// Adds a refusal with its names; a number in it is left out.
-pub(crate) fn push_fault(text: &mut Text, fault: &LinkFault) {
+pub fn push_fault(text: &mut Text, fault: &LinkFault) {
     match fault {
         LinkFault::Undefined(name) => push_names(text, b"Undefined", &[name]),
         LinkFault::Duplicate(name, one, other) => {
