@@ -1,5 +1,5 @@
 -- The names in the relocations of a compiled function: those that its operations name, and the globals of its webs.
-use Rattle.std.proofs.Common.{◌≡◌, ℕ, ◌+◌, Bool, true, false, if◌then◌else◌, Option, None, Some, List, [], ◌∷◌, ◌++◌, map, subst, inl, inr}
+use Rattle.std.proofs.Common.{ℕ, ◌+◌, Bool, true, false, if◌then◌else◌, Option, None, Some, List, [], ◌∷◌, ◌++◌, subst, inl, inr}
 use Rattle.std.specs.Prelude.{nat_lt}
 use Rattle.std.specs.List.{AllByRecursion, flat_map}
 use Rattle.std.proofs.lemmas.List.Concat.{flat_map-cons}
@@ -19,7 +19,7 @@ use Rattle.pw_delay.specs.declared.items.Turn.{Turn}
 use Rattle.pw_delay.specs.declared.items.Turn.TheVariants.{Back, Goto, If, CallTo, CallReg, Leave}
 use Rattle.pw_delay.specs.declared.items.Item.{Item}
 use Rattle.pw_delay.specs.declared.items.Item.TheVariants.{Plain, Turns, Mark}
-use Rattle.pw_delay.specs.Items.{begins_next, plain_item, item_of, before, slotted}
+use Rattle.pw_delay.specs.Items.{begins_next, plain_item, before, slotted}
 use Rattle.pw_delay.specs.Placement.{in_slot, size, sizes, mark_at, branch_words, return_words, turn_words, item_words, words_from, fix_at, fixes_from, short_limit, laid, placed}
 use Rattle.pw_alloc.specs.Allocation.{allocated}
 use Rattle.pw_webflow.specs.Direction.{directed}
@@ -28,7 +28,7 @@ use Rattle.pw_object.specs.Functions.{names_of_symbol}
 use Rattle.pw_interface.specs.Interface.{names_of_fixes}
 use Rattle.pw_phases.specs.Phases.{compiled}
 use Rattle.pw_files.proofs.Standing.{Has, has_split}
-use Rattle.pw_alike.proofs.LineNames.{OfSymbol, IsNamed, AreNamed, lines_named}
+use Rattle.pw_alike.proofs.LineNames.{OfSymbol, AreNamed, lines_named}
 
 module _ (P : List ℕ → Type 0) where
   -- ---- items

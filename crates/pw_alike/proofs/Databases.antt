@@ -1,7 +1,7 @@
 -- The objects of a program whose directives are those of its database.
-use Rattle.std.proofs.Common.{◌≡◌, ◌⊎◌, ℕ, suc, ◌<◌, Bool, true, false, if◌then◌else◌, List, [], ◌∷◌, length, map, refl, sym, ap, subst, ◌∙◌, inl, inr}
-use Rattle.std.specs.Prelude.{Contains, All, Option, Some, None, slice_get, slice_index_or}
-use Rattle.std.specs.List.{AllByRecursion, flat_map}
+use Rattle.std.proofs.Common.{◌≡◌, ◌⊎◌, ℕ, suc, Bool, true, false, if◌then◌else◌, List, [], ◌∷◌, map, refl, ap, subst, inl, inr}
+use Rattle.std.specs.Prelude.{Contains, All, Option, Some, None, slice_index_or}
+use Rattle.std.specs.List.{AllByRecursion}
 use Rattle.std.proofs.lemmas.List.Elements.{All-contains, Contains-get_or}
 use Rattle.std.proofs.lemmas.List.Sorted.{IsPermutation-sym, Contains-permutation}
 use Rattle.pw_value.specs.declared.value.Kind.{Kind}
@@ -21,11 +21,10 @@ use Rattle.pw_db.specs.Database as db
 use Rattle.pw_graph.specs.declared.graph.CallGraph.{CallGraph}
 use Rattle.pw_graph.specs.Program.{IsEligible}
 use Rattle.pw_webs.specs.declared.web.RawWeb.{RawWeb}
-use Rattle.pw_webs.specs.Webs.{AreWebs}
-use Rattle.pw_colour.specs.Colours.{numbered, global_of, web_of, has_number, webs_of, directives_of, IsDatabaseOf}
+use Rattle.pw_colour.specs.Colours.{numbered, global_of, web_of, has_number, webs_of, IsDatabaseOf}
 use Rattle.pw_object.specs.declared.object.Object.{Object}
 use Rattle.pw_phases.specs.Phases.{IsObjectOf}
-use Rattle.pw_making.specs.Programs.{DirectivesList, AreSummariesOf, HasDatabase, IsObjectFrom, IsModuleFrom, AreDirectivesIn, AreObjectsFrom, AreParts, Parts}
+use Rattle.pw_making.specs.Programs.{DirectivesList, AreSummariesOf, HasDatabase, IsObjectFrom, IsModuleFrom, AreObjectsFrom, AreParts, Parts}
 use Rattle.pw_alike.specs.Alike.{globals_of, IsObjectIn, AreObjectsIn}
 use Rattle.pw_alike.proofs.Twice.{at_has}
 use Rattle.pw_alike.proofs.Modules.{globals_forth}

@@ -1,10 +1,9 @@
 -- What a module shows by its flow graph, by its summary and by its object.
-use Rattle.std.proofs.Common.{◌≡◌, ◌⊎◌, ℕ, Bool, if◌then◌else◌, List, [], ◌∷◌, ◌++◌, length, map, refl, sym, ap, subst, ◌∙◌, inl, inr}
-use Rattle.std.specs.Prelude.{Contains, Option, Some, None}
+use Rattle.std.proofs.Common.{◌≡◌, ◌⊎◌, ℕ, Bool, if◌then◌else◌, List, [], ◌∷◌, ◌++◌, map, refl, sym, ap, subst, ◌∙◌, inl, inr}
+use Rattle.std.specs.Prelude.{Some, None}
 use Rattle.std.specs.List.{AllByRecursion, flat_map}
 use Rattle.std.specs.Map.{lookup}
 use Rattle.std.specs.Str.{bytes_eq}
-use Rattle.std.proofs.lemmas.List.{map-id}
 use Rattle.std.proofs.lemmas.List.Concat.{flat_map-cons}
 use Rattle.pw_value.specs.ProgramNames.{main_name}
 use Rattle.pw_flow.specs.declared.flow.FlowFn.{FlowFn}
@@ -12,23 +11,21 @@ use Rattle.pw_flow.specs.declared.flow.FlowGlobal.{FlowGlobal}
 use Rattle.pw_flow.specs.declared.flow.FlowModule.{FlowModule}
 use Rattle.pw_flow.specs.FlowGraph.{function_names, global_names, names_in_global, names_in_function, named_in}
 use Rattle.pw_flow.specs.ValidFlow.{AreDistinct, IsValid}
-use Rattle.pw_files.specs.Rising.{IsRising}
-use Rattle.pw_files.proofs.Standing.{Has, has_by, contains_by, has_each, each_by, has_left, has_right, has_split, has_map, has_map_back, has_flat, has_flat_back, stands_or_not}
+use Rattle.pw_files.proofs.Standing.{Has, has_by, contains_by, each_by, has_left, has_right, has_split, has_map, has_map_back, has_flat, stands_or_not}
 use Rattle.pw_files.proofs.Views.{seen}
 use Rattle.pw_db.specs.declared.database.Directives.{Directives}
 use Rattle.pw_db.specs.declared.database.Web.{Web}
 use Rattle.pw_db.specs.declared.database.Role.{Role}
 use Rattle.pw_db.specs.Database.{webs_of, all_webs}
 use Rattle.pw_summary.specs.declared.summary.Summary.{Summary}
-use Rattle.pw_summarise.specs.Summarises.{IsOrdered, global_entry, function_entry, function_entries, Summarises}
+use Rattle.pw_summarise.specs.Summarises.{global_entry, function_entry, function_entries, Summarises}
 use Rattle.pw_summarise.proofs.Orders.{keys_over, keys_back, one_ordered}
 use Rattle.pw_object.specs.declared.object.Object.{Object}
 use Rattle.pw_object.specs.declared.functions.ObjectFn.{ObjectFn}
 use Rattle.pw_object.specs.Object as object
-use Rattle.pw_phases.specs.Phases.{compiled, all_compiled, AreDirectivesOf, IsObjectOf}
-use Rattle.pw_program.specs.declared.interface.Interface.{Interface}
-use Rattle.pw_program.specs.Linking.{library, names_in, defined_names}
-use Rattle.pw_interface.specs.Interface.{names_of_fixes, used_names, defines_main, main_of, interface}
+use Rattle.pw_phases.specs.Phases.{compiled, all_compiled}
+use Rattle.pw_program.specs.Linking.{names_in}
+use Rattle.pw_interface.specs.Interface.{names_of_fixes, main_of, interface}
 use Rattle.pw_graph.specs.Program.{main_in, interface_of}
 use Rattle.pw_alike.specs.Alike.{shown, DeclaresMain, globals_of, IsObjectIn}
 use Rattle.pw_alike.proofs.Names.{same_count, rising_distinct, both_distinct, left_distinct, right_distinct, across_distinct}

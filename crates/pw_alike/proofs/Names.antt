@@ -1,9 +1,9 @@
 -- Lists of names that stand once.
-use Rattle.std.proofs.Common.{◌≡◌, ◌≢◌, ℕ, suc, ◌≤◌, List, [], ◌∷◌, ◌++◌, length, map, refl, sym, ap, subst, ◌∙◌, arith, inl, inr}
+use Rattle.std.proofs.Common.{◌≡◌, ◌≢◌, ℕ, suc, ◌≤◌, List, [], ◌∷◌, ◌++◌, length, refl, sym, ap, subst, ◌∙◌, arith, inl, inr}
 use Rattle.std.specs.List.{AllByRecursion}
 use Rattle.pw_flow.specs.ValidFlow.{AreDistinct}
 use Rattle.pw_files.specs.Rising.{IsRising, IsRisingBehind}
-use Rattle.pw_files.proofs.Standing.{Has, has_each, each_by, has_left, has_right, has_split}
+use Rattle.pw_files.proofs.Standing.{Has, has_each, each_by, has_right, has_split}
 use Rattle.pw_files.proofs.ByteOrder.{not_behind}
 use Rattle.std.specs.Prelude.{Option, Some, None}
 

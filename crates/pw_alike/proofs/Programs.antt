@@ -1,6 +1,5 @@
 -- The modules of a program, by their flow graphs, their summaries and their objects.
-use Rattle.std.proofs.Common.{◌≡◌, ◌⊎◌, ℕ, List, [], ◌∷◌, ◌++◌, map, refl, sym, ap, subst, ◌∙◌, inl, inr}
-use Rattle.std.specs.Prelude.{Contains}
+use Rattle.std.proofs.Common.{ℕ, List, [], ◌∷◌, ◌++◌, map, sym, subst, inl, inr}
 use Rattle.std.specs.List.{AllByRecursion, flat_map}
 use Rattle.std.proofs.lemmas.List.Concat.{flat_map-cons}
 use Rattle.pw_value.specs.declared.fault.LinkFault.{LinkFault}
@@ -9,9 +8,8 @@ use Rattle.pw_flow.specs.FlowGraph.{global_names}
 use Rattle.pw_flow.specs.ValidFlow.{IsValid}
 use Rattle.pw_files.proofs.Standing.{Has, has_left, has_right, has_split}
 use Rattle.pw_summary.specs.declared.summary.Summary.{Summary}
-use Rattle.pw_summarise.specs.Summarises.{Summarises}
 use Rattle.pw_object.specs.declared.object.Object.{Object}
-use Rattle.pw_program.specs.Linking.{library, names_in, defined_names, Links, Refusal}
+use Rattle.pw_program.specs.Linking.{library, names_in, Links, Refusal}
 use Rattle.pw_interface.specs.Interface.{interface}
 use Rattle.pw_graph.specs.Program.{interface_of}
 use Rattle.pw_making.specs.Programs.{AreSummariesOf}

@@ -1,5 +1,5 @@
 -- The tests of linking come to the same of modules that define, use and declare the same.
-use Rattle.std.proofs.Common.{◌≡◌, ◌≢◌, ◌⊎◌, ℕ, suc, ◌<◌, ◌≤◌, List, [], ◌∷◌, ◌++◌, length, map, refl, sym, ap, subst, ◌∙◌, inl, inr}
+use Rattle.std.proofs.Common.{◌≡◌, ◌⊎◌, ℕ, ◌<◌, ◌≤◌, List, [], ◌∷◌, ◌++◌, length, map, refl, sym, ap, subst, ◌∙◌, inl, inr}
 use Rattle.std.specs.Prelude.{Contains, ◌↔◌, ◌+◌}
 use Rattle.std.specs.List.{flat_map, sum_by}
 use Rattle.std.proofs.lemmas.List.{map-append}
@@ -12,8 +12,8 @@ use Rattle.pw_value.specs.declared.fault.What.TheVariants.{Functions, Globals}
 use Rattle.pw_flow.specs.ValidFlow.{AreDistinct}
 use Rattle.pw_files.proofs.Standing.{Has, has_by, contains_by, has_left, has_right, has_split, has_map, has_map_back, has_flat, has_flat_back}
 use Rattle.pw_program.specs.declared.interface.Interface.{Interface}
-use Rattle.pw_program.specs.Linking.{library, names_in, defined_in, declared_in, definitions, declarations, defined_names, used_names, told_count, function_count, global_count, IsUndefined, IsDefinedTwice, IsInConflict, HasMain, IsLeastName, IsLeastPair, Test, few_functions, few_globals, all_defined, defined_once, all_agree, has_main, rank, Passes, Fails, Links, Refusal}
-use Rattle.pw_alike.proofs.Twice.{Twice, Parted, twice_by, Places, places, twice_left, twice_right, twice_across, twice_crossed, twice_split, beside, once_beside}
+use Rattle.pw_program.specs.Linking.{library, names_in, defined_in, declared_in, definitions, declarations, defined_names, used_names, told_count, function_count, global_count, IsUndefined, IsDefinedTwice, IsInConflict, HasMain, IsLeastName, IsLeastPair, Test, few_functions, few_globals, all_defined, defined_once, all_agree, has_main, Passes, Fails, Links, Refusal}
+use Rattle.pw_alike.proofs.Twice.{Twice, twice_by, places, twice_left, twice_right, twice_across, twice_crossed, twice_split, beside, once_beside}
 
 -- ---- what the tests look at is the same
 
