@@ -18,7 +18,7 @@ use pw_jumps::{
 };
 use pw_kinds::kind_in;
 use pw_labels::{BodyParts, labels_rule};
-use pw_tree::{Block, ElseIf, Expr, Label, Stmt};
+use pw_tree::{Block, ElseIf, Expr, Label, Stmt, statements_show_their_lists};
 use pw_typed::{Arm, TExpr, TStmt, TStmtForm};
 use pw_walk::CheckFault;
 use std::alloc::Global;
@@ -375,7 +375,7 @@ fn for_stmt<'a, P: BodyParts<'a>>(
 }
 
 /// A statement (C90 6.6).
-#[tactic(auto, unfolding(pw_tree::specs::Views::view_stmt), using(pw_tree::proofs::Rows::compound_view))]
+#[tactic(auto, unfolding(pw_tree::specs::Views::view_stmt))]
 pub fn stmt_of<'a, P: BodyParts<'a>>(
     alloc: Global,
     parts: &P,
@@ -385,6 +385,7 @@ pub fn stmt_of<'a, P: BodyParts<'a>>(
     requires { P.can_check parts.now }
     ensures { Leads typed.view_stmt (spec.stmt_rule (view_stmt stmt.now)) (view_state state.old) result (view_state state.new) }
 {
+    statements_show_their_lists();
     match stmt {
         Stmt::Block(block) => scoped_block(alloc, parts, state, block),
         Stmt::Expression(e) => expression_stmt(alloc, parts, state, e),

@@ -12,7 +12,7 @@ ghost use Rattle.pw_tree.specs.Views.{view_specifier, view_specifiers};
 use pw_checking::{Phrases, Specified, State, first_of_list, typing};
 use pw_members::{alone_rule, record_kind};
 use pw_named::{is_auto, is_register};
-use pw_tree::{RecordKind, Specifier, Word};
+use pw_tree::{RecordKind, Specifier, Word, declarators_show_their_lists};
 use pw_typed::Initialiser;
 use pw_walk::CheckFault;
 use std::alloc::Global;
@@ -30,10 +30,11 @@ pub(crate) fn storage_rule(state: &State<'_>, specified: &Specified) -> Result<(
 }
 
 /// Whether a specifier declares a tag or the members of an enumeration (C90 6.5).
-#[tactic(auto, unfolding(pw_tree::specs::Views::view_expr, pw_rules::specs::Declarations::declares_something), using(pw_tree::proofs::Rows::record_view, pw_tree::proofs::Rows::enum_view))]
+#[tactic(auto, unfolding(pw_tree::specs::Views::view_expr, pw_rules::specs::Declarations::declares_something))]
 fn declares(specifier: &Specifier) -> bool
     ensures { (rest : _) → spec.declares_something (view_specifier specifier.now rest) ≡ (result || spec.declares_something rest) }
 {
+    declarators_show_their_lists();
     match specifier {
         Specifier::RecordTag { .. } | Specifier::EnumTag { .. } | Specifier::Enum { .. } => true,
         Specifier::Record { tag, .. } => tag.is_some(),

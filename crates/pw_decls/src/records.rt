@@ -16,7 +16,7 @@ ghost use Rattle.pw_walk.specs.Walks.{refused};
 use pw_checking::{Phrases, Specified, State, fault, first_of_list};
 use pw_members::{MemberList, closing_rule, member_rule, opening_rule};
 use pw_token::Feature;
-use pw_tree::{Declarator, Member, MemberDeclarator, Word};
+use pw_tree::{Declarator, Member, MemberDeclarator, Word, declarators_show_their_lists};
 use pw_types::{QType, RecordKind};
 use pw_walk::{CheckFault, CheckKind};
 use std::alloc::Global;
@@ -75,6 +75,7 @@ fn member<'a, P: Phrases<'a>>(
     requires { P.can_check phrases.now }
     ensures { Leads view_member_list (turns.first_member (tree.view_member_declarator declarator.now NoMemberDeclarator) (view_specified specified.now) (view_member_list found.entry)) (view_state state.old) result (view_state state.new) }
 {
+    declarators_show_their_lists();
     match declarator {
         MemberDeclarator::Plain(plain) => {
             plain_member(alloc, phrases, state, plain, specified, found)

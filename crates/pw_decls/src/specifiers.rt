@@ -25,6 +25,7 @@ use pw_specified::{
 use pw_token::Feature;
 use pw_tree::{
     BasicType, Enumerator, Member, Qualifier, RecordKind, Specifier, StorageClass, Word,
+    declarators_show_their_lists,
 };
 use pw_types::QType;
 use pw_walk::{CheckFault, CheckKind};
@@ -196,6 +197,7 @@ fn specifier<'a, P: Phrases<'a>>(
     requires { P.can_check phrases.now }
     ensures { Leads view_gathered (turns.first_specifier (view_specifier specifier.now NoSpecifier) first (view_gathered gathered)) (view_state state.old) result (view_state state.new) }
 {
+    declarators_show_their_lists();
     match specifier {
         Specifier::Storage { class, .. } => storage_class(state, *class, gathered),
         Specifier::Qualifier { qualifier, .. } => type_qualifier(state, *qualifier, gathered),

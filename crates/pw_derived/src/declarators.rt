@@ -15,7 +15,7 @@ use crate::steps::{Step, Suffixed, joined, step_gathered};
 use pw_checking::{Declared, Derivation, Phrases, State, fault, whole_rule};
 use pw_leaves::{first_of_words, length_rule};
 use pw_token::Feature;
-use pw_tree::{Core, Declarator, Expr, Suffix};
+use pw_tree::{Core, Declarator, Expr, Suffix, declarators_show_their_lists};
 use pw_walk::{CheckFault, CheckKind};
 use std::alloc::Global;
 
@@ -62,7 +62,10 @@ fn suffix<'a, P: Phrases<'a>>(
             array_step(state, Some(length))
         }
         Suffix::OpenArray { .. } => array_step(state, None),
-        Suffix::Parameters { parameters, .. } => prototype(alloc, phrases, state, parameters),
+        Suffix::Parameters { parameters, .. } => {
+            declarators_show_their_lists();
+            prototype(alloc, phrases, state, parameters)
+        }
         Suffix::Variadic { token, .. } => {
             Err(fault(CheckKind::Unsupported(Feature::Variadic), *token))
         }
@@ -122,7 +125,10 @@ fn core_of<'a, P: Phrases<'a>>(
     let name = match core {
         Core::Absent => None,
         Core::Name(word) => Some(word),
-        Core::Paren { inner, .. } => return phrases.declarator(alloc, state, inner),
+        Core::Paren { inner, .. } => {
+            declarators_show_their_lists();
+            return phrases.declarator(alloc, state, inner);
+        }
     };
     Ok(Declared {
         name,

@@ -12,7 +12,9 @@ ghost use Rattle.pw_tree.specs.Views.{view_arguments, view_expr, view_operations
 use pw_checking::{Operand, Phrases, State, value_rule, whole_rule};
 use pw_operators::{operation_rule, step_rule};
 use pw_postfixes::{arrow_rule, call_rule, dot_rule, index_rule};
-use pw_tree::{Access, Expr, Operation, PostfixOperation, StepOperator, Word};
+use pw_tree::{
+    Access, Expr, Operation, PostfixOperation, StepOperator, Word, expressions_show_their_lists,
+};
 use pw_typed::TExpr;
 use pw_walk::CheckFault;
 use std::alloc::Global;
@@ -148,9 +150,10 @@ fn postfix<'a, P: Phrases<'a>>(
         PostfixOperation::Index { token, index: e } => index(
             alloc, phrases, state, *token, e, left,
         ),
-        PostfixOperation::Call { token, arguments } => call(
-            alloc, phrases, state, *token, arguments, left,
-        ),
+        PostfixOperation::Call { token, arguments } => {
+            expressions_show_their_lists();
+            call(alloc, phrases, state, *token, arguments, left)
+        }
         PostfixOperation::Member {
             token,
             access,

@@ -11,7 +11,7 @@ use crate::chains::{operations, postfixes};
 use pw_checking::{Operand, Phrases, State, whole_rule};
 use pw_operators::{assignment_rule, conditional_rule};
 use pw_primaries::{cast, primary, size_of_type, unary};
-use pw_tree::{AssignOperator, Expr, Operation, PostfixOperation};
+use pw_tree::{AssignOperator, Expr, Operation, PostfixOperation, expressions_show_their_lists};
 use pw_walk::CheckFault;
 use std::alloc::Global;
 
@@ -93,6 +93,7 @@ pub fn expr_of<'a, P: Phrases<'a>>(
     requires { P.can_check phrases.now }
     ensures { Leads view_operand (spec.expr_rule (view_expr expr.now)) (view_state state.old) result (view_state state.new) }
 {
+    expressions_show_their_lists();
     match expr {
         Expr::Postfix {
             operand,

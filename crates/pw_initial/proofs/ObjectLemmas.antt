@@ -8,7 +8,6 @@ use Rattle.pw_tree.specs.Views.{view_expr, view_init, view_inits}
 use Rattle.pw_tree.specs.declared.decl.Init.{Init}
 use Rattle.pw_tree.specs.declared.decl.Init as init
 use Rattle.pw_tree.specs.declared.expr.Expr.{Expr}
-use Rattle.pw_tree.proofs.Rows.{braces_view}
 use Rattle.pw_types.specs.TypeTrees.{QType, type_of}
 use Rattle.pw_walk.specs.Walks.{Done, bind}
 use Rattle.pw_walk.proofs.CallLaws.{bind_assoc}
@@ -65,6 +64,6 @@ module _ (cx : Context) (q : QType) (s : State) where
   shown_value i e is = ap (λ x. object_rule cx q (view_init x) s) is
 
   pub shown_list : (i : Init) (t : ℕ) (is : Vec Init Global) (trailing : Bool) → i ≡ init.List t is trailing
-      → object_rule cx q (view_init i) s ≡ object_rule cx q (S.Braces t (view_inits is.items) trailing) s
-  shown_list i t is trailing shape =
-      ap (λ x. object_rule cx q (view_init x) s) shape ∙ ap (λ x. object_rule cx q x s) (braces_view t is trailing)
+      → view_init (init.List t is trailing) ≡ S.Braces t (view_inits is.items) trailing → object_rule cx q (view_init i) s ≡ object_rule cx q (S.Braces t (view_inits is.items) trailing) s
+  shown_list i t is trailing shape shown =
+      ap (λ x. object_rule cx q (view_init x) s) shape ∙ ap (λ x. object_rule cx q x s) shown

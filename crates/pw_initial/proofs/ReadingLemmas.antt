@@ -10,7 +10,6 @@ use Rattle.pw_tree.specs.Trees as S
 use Rattle.pw_tree.specs.Views.{view_expr, view_init, view_inits}
 use Rattle.pw_tree.specs.declared.decl.Init as code
 use Rattle.pw_tree.specs.declared.expr.Expr as code_expr
-use Rattle.pw_tree.proofs.Rows.{braces_view}
 use Rattle.pw_types.specs.TypeTrees.{RecordValue, type_of}
 use Rattle.pw_walk.specs.Walks.{Walk, Done, bind, outcome}
 use Rattle.pw_walk.proofs.CallLaws.{bind_assoc}
@@ -131,12 +130,13 @@ module _ (cx : Context) (x : Reading) (xs : List code.Init) (s : State) where
       ap (λ ys. turn_of (view_inits ys) cx x s) cut ∙ ap (λ y. item_turn cx x (view_init y) (view_inits rest) s) is
 
   pub first_braces : (i : code.Init) (rest : List code.Init) (t : ℕ) (is : Vec code.Init Global) (trailing : Bool) → xs ≡ i ∷ rest → i ≡ code.List t is trailing
+      → view_init (code.List t is trailing) ≡ S.Braces t (view_inits is.items) trailing
       → turn_of (view_inits xs) cx x s ≡ braces_turn cx x (view_inits is.items) (view_inits rest) s
   unfolding turn_of item_turn
-  first_braces i rest t is trailing cut shape =
+  first_braces i rest t is trailing cut shape shown =
       ap (λ ys. turn_of (view_inits ys) cx x s) cut
       ∙ ap (λ y. item_turn cx x (view_init y) (view_inits rest) s) shape
-      ∙ ap (λ y. item_turn cx x y (view_inits rest) s) (braces_view t is trailing)
+      ∙ ap (λ y. item_turn cx x y (view_inits rest) s) shown
 
 module _ (xs : List code.Init) (i : code.Init) (rest : List code.Init) where
   pub count_value : (e : code_expr.Expr) → xs ≡ i ∷ rest → i ≡ code.Value e → count_of_inits (view_inits xs) ≡ 1 + count_of_inits (view_inits rest)
@@ -145,11 +145,12 @@ module _ (xs : List code.Init) (i : code.Init) (rest : List code.Init) where
       ap (λ ys. count_of_inits (view_inits ys)) cut ∙ ap (λ y. count_of_inits (S.Listed (view_init y) (view_inits rest))) is
 
   pub count_braces : (t : ℕ) (is : Vec code.Init Global) (trailing : Bool) → xs ≡ i ∷ rest → i ≡ code.List t is trailing
+      → view_init (code.List t is trailing) ≡ S.Braces t (view_inits is.items) trailing
       → count_of_inits (view_inits xs) ≡ 2 + count_of_inits (view_inits is.items) + count_of_inits (view_inits rest)
-  count_braces t is trailing cut shape =
+  count_braces t is trailing cut shape shown =
       ap (λ ys. count_of_inits (view_inits ys)) cut
       ∙ ap (λ y. count_of_inits (S.Listed (view_init y) (view_inits rest))) shape
-      ∙ ap (λ y. count_of_inits (S.Listed y (view_inits rest))) (braces_view t is trailing)
+      ∙ ap (λ y. count_of_inits (S.Listed y (view_inits rest))) shown
 
 -- ---- braces
 

@@ -19,7 +19,7 @@ use pw_filled::{
 use pw_kinds::{boxed_copy, copy_qtype, is_scalar};
 use pw_leaves::string_bytes;
 use pw_places::{Target, elements_given, within_braces};
-use pw_tree::{Expr, Init, Word};
+use pw_tree::{Expr, Init, Word, statements_show_their_lists};
 use pw_types::{CType, QType};
 use pw_walk::CheckFault;
 use std::alloc::{AllocError, Global};
@@ -184,18 +184,24 @@ pub fn object_rule<'a, P: Phrases<'a>>(
 {
     match init {
         Init::Value(e) => object_expression(alloc, phrases, state, cx, q, e),
-        Init::List { items, .. } => object_braces(alloc, phrases, state, cx, q, items),
+        Init::List { items, .. } => {
+            statements_show_their_lists();
+            object_braces(alloc, phrases, state, cx, q, items)
+        }
     }
 }
 
 /// Whether a local is initialised by the bytes of a hidden object: by a list for an object with parts, or by a string
 /// for an array of characters.
-#[tactic(auto, unfolding(pw_tree::specs::Views::view_init), using(pw_tree::proofs::Rows::braces_view))]
+#[tactic(auto, unfolding(pw_tree::specs::Views::view_init))]
 pub fn is_by_bytes(ty: &CType, init: &Init) -> bool
     ensures { result ≡ spec.is_by_bytes (view_type ty.now) (view_init init.now) }
 {
     match init {
         Init::Value(e) => filling_string(ty, string_form(e)).is_some(),
-        Init::List { .. } => !is_scalar(ty),
+        Init::List { .. } => {
+            statements_show_their_lists();
+            !is_scalar(ty)
+        }
     }
 }

@@ -15,7 +15,7 @@ use crate::lists::{Listed, braced_target, listed_form};
 use pw_checking::{Phrases, State};
 use pw_filled::{Context, Filled, braced_string, filling_string, string_filled};
 use pw_places::{Frame, Target, passed, within_braces};
-use pw_tree::{Expr, Init, Word};
+use pw_tree::{Expr, Init, Word, statements_show_their_lists};
 use pw_types::Types;
 use pw_walk::CheckFault;
 use std::alloc::{AllocError, Global};
@@ -201,7 +201,10 @@ fn turn<'a, P: Phrases<'a>>(
     match x.items.split_first() {
         Some((first, rest)) => match first {
             Init::Value(e) => value_turn(alloc, phrases, state, cx, x, e, rest),
-            Init::List { items, .. } => braces_turn(alloc, state, cx, x, items, rest),
+            Init::List { items, .. } => {
+                statements_show_their_lists();
+                braces_turn(alloc, state, cx, x, items, rest)
+            }
         },
         None => Ok(outward(state.records(), x)?),
     }

@@ -6,8 +6,7 @@ use Rattle.pw_tree.specs.Trees.{Alternative, Expr, Stmt}
 use Rattle.std.specs.declared.alloc.Global.{Global}
 use Rattle.std.specs.declared.boxed.Box.{Box}
 use Rattle.std.specs.declared.vec.Vec.{Vec}
-use Rattle.pw_tree.specs.Views.{view_else_ifs, view_label, view_labels, view_otherwise, view_stmt, view_stmts}
-use Rattle.pw_tree.proofs.Rows.{compound_view, if_view}
+use Rattle.pw_tree.specs.Views.{view_block, view_else_ifs, view_expr, view_label, view_labels, view_otherwise, view_stmt, view_stmts}
 use Rattle.pw_tree.specs.declared.expr.Expr as tree
 use Rattle.pw_tree.specs.declared.stmt.Block.{Block}
 use Rattle.pw_tree.specs.declared.stmt.ElseIf.{ElseIf}
@@ -65,14 +64,15 @@ otherwise_labels s = refl
 
 -- ---- statements with lists in them
 
-pub block_labels : (b : Block) → labels_in (view_stmt (code.Block b)) ≡ labels_in_list (view_stmts b.statements.items)
+pub block_labels : (b : Block) → view_stmt (code.Block b) ≡ S.Compound (view_block b) → labels_in (view_stmt (code.Block b)) ≡ labels_in_list (view_stmts b.statements.items)
 unfolding labels_in
-block_labels b = ap labels_in (compound_view b)
+block_labels b shown = ap labels_in shown
 
 pub if_labels : (t : ℕ) (c : tree.Expr) (s : Box code.Stmt Global) (es : Vec ElseIf Global) (o : Option (Box code.Stmt Global))
+    → view_stmt (code.If t c s es o) ≡ S.If t (view_expr c) (view_stmt s.value) (view_else_ifs es.items (view_otherwise o))
     → labels_in (view_stmt (code.If t c s es o)) ≡ labels_in (view_stmt s.value) ++ labels_in_alternative (view_else_ifs es.items (view_otherwise o))
 unfolding labels_in
-if_labels t c s es o = ap labels_in (if_view t c s es o)
+if_labels t c s es o shown = ap labels_in shown
 
 pub names_two : {X : Type 0} (now mid new mine more : List X) → mid ≡ now ++ mine → new ≡ mid ++ more → new ≡ now ++ (mine ++ more)
 names_two now mid new mine more e f = f ∙ ap (λ xs. xs ++ more) e ∙ append_assoc now mine more

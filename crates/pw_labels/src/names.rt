@@ -6,7 +6,7 @@ ghost use Rattle.pw_tree.specs.Trees.{NoElse};
 ghost use Rattle.pw_tree.specs.Views.{view_block, view_else_ifs, view_labels, view_stmt, view_stmts};
 
 use pw_index::NameList;
-use pw_tree::{Block, ElseIf, Label, Stmt};
+use pw_tree::{Block, ElseIf, Label, Stmt, statements_show_their_lists};
 use std::alloc::{AllocError, Global};
 
 /// The names of the labels in a block.
@@ -62,6 +62,7 @@ fn add_labels_of_arms<'a>(
 fn add_labels<'a>(names: &mut NameList<'a>, stmt: &'a Stmt) -> Result<(), AllocError>
     ensures { OnOk result (names.new ≡ names.old ++ spec.labels_in (view_stmt stmt.now)) }
 {
+    statements_show_their_lists();
     match stmt {
         Stmt::Block(block) => add_labels_of_all(names, &block.statements),
         Stmt::Labeled { labels, statement } => {

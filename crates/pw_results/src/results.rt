@@ -15,8 +15,8 @@ use pw_filled::copy_symbol;
 use pw_kinds::{copy_qtype, is_const_object};
 use pw_linked::symbol_of_linked;
 use pw_rules::Slot;
-use pw_typed::{Declared, Symbol, TGlobal, TItem, TModule};
-use pw_types::QType;
+use pw_typed::{Declared, Symbol, TFunction, TGlobal, TItem, TModule};
+use pw_types::{QType, Types};
 use pw_value::Name;
 use std::alloc::{AllocError, Global};
 
@@ -198,18 +198,51 @@ fn declared_in(alloc: Global, linked: &[LinkedName<'_>]) -> Result<Vec<Declared>
     Ok(declared)
 }
 
+/// The objects of static lifetime, and the names that all modules share.
+fn lists_in(alloc: Global, state: &State<'_>) -> Result<(Vec<TGlobal>, Vec<Declared>), AllocError>
+    ensures globals { IfOk result (λ lists. map typed.view_global lists.0.items ≡ (spec.module_in (view_state state.now)).globals) }
+    ensures declared { IfOk result (λ lists. map typed.view_declared lists.1.items ≡ (spec.module_in (view_state state.now)).declared) }
+{
+    let globals = globals_in(alloc, state)?;
+    let declared = declared_in(alloc, state.linked())?;
+    Ok((globals, declared))
+}
+
+/// The structures and unions.
+fn records_of(types: TypeState<'_>) -> Types
+    ensures { result ≡ types.entry.records }
+{
+    let TypeState { records, .. } = types;
+    records
+}
+
+/// The functions that were made.
+fn functions_of(made: MadeState) -> Vec<TFunction>
+    ensures { result ≡ made.functions }
+{
+    let MadeState { functions, .. } = made;
+    functions
+}
+
+/// The structures and unions, and the functions; the rest of the state is let go.
+fn kept_of(state: State<'_>) -> (Types, Vec<TFunction>)
+    ensures records { result.0 ≡ state.entry.types.records }
+    ensures functions { result.1 ≡ state.entry.made.functions }
+{
+    let State { types, made, .. } = state;
+    (records_of(types), functions_of(made))
+}
+
 /// What a module is: its types, its objects and functions, and what it declares.
 #[tactic(auto, unfolding(pw_checking::specs::StateViews::view_state))]
 pub fn module_in(alloc: Global, state: State<'_>) -> Result<TModule, AllocError>
     ensures { IfOk result (λ m. typed.view_module m ≡ spec.module_in (view_state state.entry)) }
 {
-    let globals = globals_in(alloc, &state)?;
-    let declared = declared_in(alloc, state.linked())?;
-    let State { types, made, .. } = state;
-    let TypeState { records, .. } = types;
-    let MadeState { functions, .. } = made;
+    let lists = lists_in(alloc, &state);
+    let (types, functions) = kept_of(state);
+    let (globals, declared) = lists?;
     Ok(TModule {
-        types: records,
+        types,
         globals,
         functions,
         declared,

@@ -2,10 +2,15 @@ use Rattle.std.proofs.Common.{refl, ap, ◌∙◌}
 use Rattle.pw_checking.specs.StateViews.{view_state}
 use Rattle.pw_labels.proofs.Steps.{ends, same}
 use Rattle.pw_rules.specs.Statements.{stmt_rule}
-use Rattle.pw_tree.proofs.Rows.{if_view}
 use Rattle.pw_tree.specs.Views.{view_stmt}
 use Rattle.pw_typed.specs.Views.{view_stmt_form}
 use Rattle.pw_body.proofs.stmt.stmt_of.Goals as goal
+
+pub returns-in-Block : goal.returns-in-Block
+returns-in-Block g c =
+    same
+    (ap (λ x. stmt_rule x (view_state c.args.state.now)) (ap view_stmt c.in-Block.is ∙ c.statements_show_their_lists.ensures.compound c.in-Block.block))
+    c.scoped_block.ensures
 
 pub returns-in-Empty : goal.returns-in-Empty
 unfolding stmt_rule view_stmt view_stmt_form
@@ -15,7 +20,7 @@ pub returns-in-If : goal.returns-in-If
 returns-in-If g c =
     let i = c.in-If in
     same
-    (ap (λ x. stmt_rule x (view_state c.args.state.now)) (ap view_stmt i.is ∙ if_view i.token i.condition i.chosen i.else_ifs i.otherwise))
+    (ap (λ x. stmt_rule x (view_state c.args.state.now)) (ap view_stmt i.is ∙ c.statements_show_their_lists.ensures.ifs i.token i.condition i.chosen i.else_ifs i.otherwise))
     (rw (c.deref-in-If.ensures, c.deref-in-If-2.ensures.value) at c.if_stmt.ensures)
 
 pub returns-in-Goto : goal.returns-in-Goto

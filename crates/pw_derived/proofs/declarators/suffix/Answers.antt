@@ -1,5 +1,5 @@
 use Rattle.std.proofs.Common.{rules}
-use Rattle.pw_tree.proofs.Rows.{prototype_view}
+use Rattle.pw_tree.specs.Trees.{NoSuffix}
 use Rattle.pw_tree.specs.Views.{view_expr}
 use Rattle.pw_walk.proofs.CallLaws.{step_ok, step_err}
 use Rattle.pw_derived.specs.Declaring.{first_suffix}
@@ -15,4 +15,4 @@ returns-in_ok-length-in-Array g c = rw c.in-Array.is (step_ok _ c.array_length.e
 
 pub returns-in-Parameters : goal.returns-in-Parameters
 unfolding first_suffix
-returns-in-Parameters g c = rw (c.in-Parameters.is, prototype_view) (rw c.deref.ensures.value at c.prototype.ensures)
+returns-in-Parameters g c = rw (c.in-Parameters.is, c.declarators_show_their_lists.ensures.prototypes c.in-Parameters.token c.in-Parameters.parameters NoSuffix) (rw c.deref.ensures.value at c.prototype.ensures)

@@ -3,7 +3,6 @@ use Rattle.pw_checking.specs.StateViews.{view_state}
 use Rattle.pw_checking.specs.Views.{view_operand}
 use Rattle.pw_tree.specs.Trees.{NoPostfix}
 use Rattle.pw_tree.specs.Views.{view_arguments, view_expr, view_postfix}
-use Rattle.pw_tree.proofs.Rows.{call_view}
 use Rattle.pw_walk.specs.Walks.{outcome}
 use Rattle.pw_walk.proofs.CallLaws.{same_call}
 use Rattle.pw_rules.specs.Operators.{step_rule}
@@ -22,7 +21,7 @@ unfolding first_postfix
 returns-in-Call g c =
     same_call _ _ _ _ _
     (ap (λ p. outcome (first_postfix (view_postfix p NoPostfix) (view_operand c.args.left) (view_state c.args.state.now))) c.in-Call.is
-    ∙ ap (λ p. outcome (first_postfix p (view_operand c.args.left) (view_state c.args.state.now))) (call_view c.in-Call.token c.in-Call.arguments NoPostfix)
+    ∙ ap (λ p. outcome (first_postfix p (view_operand c.args.left) (view_state c.args.state.now))) (c.expressions_show_their_lists.ensures.call c.in-Call.token c.in-Call.arguments NoPostfix)
     ∙ ap (λ es. outcome (one_call c.in-Call.token (view_arguments es) (view_operand c.args.left) (view_state c.args.state.now))) (sym c.deref.ensures.value))
     c.call.ensures
 

@@ -15,5 +15,6 @@ returns-in-Value g c = same_walk (shown_value (view_context c.args.cx.now) (view
 pub returns-in-List : goal.returns-in-List
 returns-in-List g c =
     same_walk (shown_list (view_context c.args.cx.now) (view_qtype c.args.q) (view_state c.args.state.now) c.args.init.now c.in-List.token c.in-List.items c.in-List.trailing_comma c.in-List.is
+    (c.statements_show_their_lists.ensures.braces c.in-List.token c.in-List.items c.in-List.trailing_comma)
     ∙ ap (λ ws. object_rule (view_context c.args.cx.now) (view_qtype c.args.q) (tree.Braces c.in-List.token (view_inits ws) c.in-List.trailing_comma) (view_state c.args.state.now)) (sym c.deref.ensures.value))
     (c.object_braces.ensures _ _)

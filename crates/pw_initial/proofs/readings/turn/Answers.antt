@@ -20,13 +20,15 @@ returns-in-Value-clause-shorter g c =
 pub returns-in-List-clause-turn : goal.returns-in-List-clause-turn
 returns-in-List-clause-turn g c =
     same_walk (first_braces (view_context c.args.cx.now) (view_reading c.args.x) c.args.x.items.now (view_state c.args.state.now) c.in-Some.first.now c.in-Some.rest.now c.in-List.token c.in-List.items c.in-List.trailing_comma c.in-Some.ensures.cases.0 c.in-List.is
+    (c.statements_show_their_lists.ensures.braces c.in-List.token c.in-List.items c.in-List.trailing_comma)
     ∙ ap (λ ws. braces_turn (view_context c.args.cx.now) (view_reading c.args.x) (view_inits ws) (view_inits c.in-Some.rest.now) (view_state c.args.state.now)) (sym c.deref.ensures.value))
     c.braces_turn.ensures.turn
 
 pub returns-in-List-clause-shorter : goal.returns-in-List-clause-shorter
 returns-in-List-clause-shorter g c =
     let inside = ap (λ ws. count_of_inits (view_inits ws)) c.deref.ensures.value in
-    let all = count_braces c.args.x.items.now c.in-Some.first.now c.in-Some.rest.now c.in-List.token c.in-List.items c.in-List.trailing_comma c.in-Some.ensures.cases.0 c.in-List.is in
+    let all = count_braces c.args.x.items.now c.in-Some.first.now c.in-Some.rest.now c.in-List.token c.in-List.items c.in-List.trailing_comma c.in-Some.ensures.cases.0 c.in-List.is
+    (c.statements_show_their_lists.ensures.braces c.in-List.token c.in-List.items c.in-List.trailing_comma) in
     ok_then c.braces_turn.result c.braces_turn.ensures.left (λ after left more. omega (arith, inside, all))
 
 pub returns-in_ok-outward-in-None-clause-turn : goal.returns-in_ok-outward-in-None-clause-turn

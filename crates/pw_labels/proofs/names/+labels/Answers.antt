@@ -8,7 +8,7 @@ use Rattle.pw_labels.proofs.names.+labels.Goals as goal
 pub add_labels-returns-in-Block : goal.add_labels-returns-in-Block
 add_labels-returns-in-Block t c =
     subst (λ xs. OnOk c.add_labels_of_all.result (c.add_labels_of_all.new.names ≡ c.args.names.now ++ xs))
-    (ap (λ ss. labels_in_list (view_stmts ss)) c.deref.ensures.value ∙ sym (ap (λ s. labels_in (view_stmt s)) c.in-Block.is ∙ block_labels c.in-Block.block))
+    (ap (λ ss. labels_in_list (view_stmts ss)) c.deref.ensures.value ∙ sym (ap (λ s. labels_in (view_stmt s)) c.in-Block.is ∙ block_labels c.in-Block.block (c.statements_show_their_lists.ensures.compound c.in-Block.block)))
     c.add_labels_of_all.ensures
 
 pub add_labels-returns-in-None : goal.add_labels-returns-in-None
@@ -18,7 +18,7 @@ add_labels-returns-in-None t c =
     (c.in_ok-add_labels-in-If.ensures ∙ ap (λ s. c.args.names.now ++ labels_in (view_stmt s)) c.deref-in-If.ensures)
     (c.in_ok-add_labels_of_arms-in-If.ensures ∙ ap (λ es. c.add_labels-in-If.new.names ++ labels_in_alternative (view_else_ifs es NoElse)) c.deref-in-If-2.ensures.value)
     ∙ ap (λ xs. c.args.names.now ++ xs)
-    (sym (ap (λ s. labels_in (view_stmt s)) b.is ∙ if_labels b.token b.condition b.chosen b.else_ifs b.otherwise
+    (sym (ap (λ s. labels_in (view_stmt s)) b.is ∙ if_labels b.token b.condition b.chosen b.else_ifs b.otherwise (c.statements_show_their_lists.ensures.ifs b.token b.condition b.chosen b.else_ifs b.otherwise)
     ∙ ap (λ o. labels_in (view_stmt b.chosen.value) ++ labels_in_alternative (view_else_ifs b.else_ifs.items (view_otherwise o))) c.in-None.is))
 
 pub add_labels-returns-in-Some : goal.add_labels-returns-in-Some
@@ -32,7 +32,7 @@ add_labels-returns-in-Some t c =
     (c.in_ok-add_labels-in-If.ensures ∙ ap (λ s. c.args.names.now ++ labels_in (view_stmt s)) c.deref-in-If.ensures)
     (c.in_ok-add_labels_of_arms-in-If.ensures ∙ ap (λ es. c.add_labels-in-If.new.names ++ labels_in_alternative (view_else_ifs es NoElse)) c.deref-in-If-2.ensures.value) in
     let whole : labels_in (view_stmt c.args.stmt.now) ≡ mine ++ (arms ++ last) =
-    ap (λ s. labels_in (view_stmt s)) b.is ∙ if_labels b.token b.condition b.chosen b.else_ifs b.otherwise
+    ap (λ s. labels_in (view_stmt s)) b.is ∙ if_labels b.token b.condition b.chosen b.else_ifs b.otherwise (c.statements_show_their_lists.ensures.ifs b.token b.condition b.chosen b.else_ifs b.otherwise)
     ∙ ap (λ o. mine ++ labels_in_alternative (view_else_ifs b.else_ifs.items (view_otherwise o))) c.in-Some.is
     ∙ ap (λ xs. mine ++ xs)
     (alternative_split b.else_ifs.items (Otherwise (view_stmt c.in-Some.last.value)) ∙ ap (λ xs. arms ++ xs) (otherwise_labels (view_stmt c.in-Some.last.value))) in

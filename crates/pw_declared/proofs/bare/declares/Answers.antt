@@ -1,0 +1,12 @@
+use Rattle.std.proofs.Common.{arith}
+use Rattle.std.proofs.lemmas.Grind.{common_steps}
+use Rattle.pw_rules.specs.Declarations.{declares_something}
+use Rattle.pw_declared.proofs.bare.declares.Goals as goal
+
+pub returns-in-Record : goal.returns-in-Record
+unfolding declares_something
+returns-in-Record c = grind (arith, common_steps, c.declarators_show_their_lists.ensures.records)
+
+pub returns-in-Enum : goal.returns-in-Enum
+unfolding declares_something
+returns-in-Enum c = grind (arith, common_steps, c.declarators_show_their_lists.ensures.enumerations)
