@@ -10,7 +10,7 @@ use Rattle.pw_heads.proofs.heads.head_rule.Goals as goal
 
 pub returns-in_err-specified : goal.returns-in_err-specified
 unfolding head_rule
-returns-in_err-specified c =
+returns-in_err-specified g c =
     let f = c.args.f.now in
     let at : c.first_of_declaration-first.result ≡ first_of_declaration (view_specifiers f.specifiers.items) (view_declarator f.declarator) =
     c.first_of_declaration-first.ensures ∙ ap (λ ss. first_of_declaration (view_specifiers ss) (view_declarator f.declarator)) c.deref.ensures.value in
@@ -20,7 +20,7 @@ returns-in_err-specified c =
 
 pub returns-in_err-declared : goal.returns-in_err-declared
 unfolding head_rule
-returns-in_err-declared c =
+returns-in_err-declared g c =
     let f = c.args.f.now in
     let at : c.first_of_declaration-first.result ≡ first_of_declaration (view_specifiers f.specifiers.items) (view_declarator f.declarator) =
     c.first_of_declaration-first.ensures ∙ ap (λ ss. first_of_declaration (view_specifiers ss) (view_declarator f.declarator)) c.deref.ensures.value in
@@ -31,7 +31,7 @@ returns-in_err-declared c =
 
 pub returns : goal.returns
 unfolding head_rule
-returns c =
+returns g c =
     let f = c.args.f.now in
     let at : c.first_of_declaration-first.result ≡ first_of_declaration (view_specifiers f.specifiers.items) (view_declarator f.declarator) =
     c.first_of_declaration-first.ensures ∙ ap (λ ss. first_of_declaration (view_specifiers ss) (view_declarator f.declarator)) c.deref.ensures.value in
