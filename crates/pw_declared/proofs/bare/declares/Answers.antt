@@ -7,6 +7,6 @@ pub returns-in-Record : goal.returns-in-Record
 unfolding declares_something
 returns-in-Record c = grind (arith, common_steps, c.declarators_show_their_lists.ensures.records)
 
-pub returns-in-Enum : goal.returns-in-Enum
+pub returns-in-RecordTag-3 : goal.returns-in-RecordTag-3
 unfolding declares_something
-returns-in-Enum c = grind (arith, common_steps, c.declarators_show_their_lists.ensures.enumerations)
+returns-in-RecordTag-3 c = grind (arith, common_steps, c.declarators_show_their_lists.ensures.enumerations)
