@@ -1,3 +1,2 @@
+pub mod Bodies
 pub mod Nests
-pub mod Parts
-pub mod Views
