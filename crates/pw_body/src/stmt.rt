@@ -7,6 +7,7 @@ ghost use Rattle.pw_body.specs.Parts as part;
 ghost use Rattle.pw_body.specs.Views.{view_arm, view_arm_list, view_behind, view_body, view_items, view_switched};
 ghost use Rattle.pw_checking.specs.Follows.{Leads};
 ghost use Rattle.pw_checking.specs.StateViews.{view_state};
+ghost use Rattle.pw_jumps.specs.Views.{view_held};
 ghost use Rattle.pw_tree.specs.Trees as tree;
 ghost use Rattle.pw_tree.specs.Views.{view_block, view_else_ifs, view_expr, view_labels, view_optional, view_otherwise, view_stmt, view_stmts};
 ghost use Rattle.pw_typed.specs.Views as typed;
@@ -14,7 +15,7 @@ ghost use Rattle.pw_typed.specs.Views as typed;
 use pw_checking::{State, SwitchState};
 use pw_jumps::{
     break_rule, condition_rule, continue_rule, goto_rule, optional_condition, optional_rule,
-    return_rule, switch_rule, value,
+    return_rule, switch_rule,
 };
 use pw_kinds::kind_in;
 use pw_labels::{BodyParts, labels_rule};
@@ -120,10 +121,10 @@ fn expression_stmt<'a, P: BodyParts<'a>>(
     requires { P.can_check parts.now }
     ensures { Leads typed.view_stmt (spec.stmt_rule (tree.Expression (view_expr expr.now))) (view_state state.old) result (view_state state.new) }
 {
-    let value = value(alloc, parts, state, expr)?;
+    let value = parts.whole(alloc, state, expr)?;
     Ok(TStmt {
         token: expr.first_token(),
-        form: TStmtForm::Expr(value),
+        form: TStmtForm::Expr(Box::into_inner(value)),
     })
 }
 
@@ -172,7 +173,7 @@ fn arm_rule<'a, P: BodyParts<'a>>(
     let body = parts.stmt(alloc, state, chosen)?;
     Ok(Arm {
         token,
-        condition,
+        condition: Box::into_inner(condition),
         body,
     })
 }
@@ -290,7 +291,7 @@ fn switch_stmt<'a, P: BodyParts<'a>>(
     let SwitchState { cases, default, .. } = switch;
     Ok(TStmt {
         token,
-        form: TStmtForm::Switch(value, cases.into_cases(), default, body),
+        form: TStmtForm::Switch(Box::into_inner(value), cases.into_cases(), default, body),
     })
 }
 
@@ -326,7 +327,7 @@ fn while_stmt<'a, P: BodyParts<'a>>(
     let body = in_loop(alloc, parts, state, body)?;
     Ok(TStmt {
         token,
-        form: TStmtForm::While(condition, body),
+        form: TStmtForm::While(Box::into_inner(condition), body),
     })
 }
 
@@ -346,8 +347,18 @@ fn do_stmt<'a, P: BodyParts<'a>>(
     let condition = condition_rule(alloc, parts, state, token, condition)?;
     Ok(TStmt {
         token,
-        form: TStmtForm::Do(body, condition),
+        form: TStmtForm::Do(body, Box::into_inner(condition)),
     })
+}
+
+/// An expression that may be left out, without its box.
+fn unboxed(held: Option<Box<TExpr>>) -> Option<TExpr>
+    ensures { typed.view_optional result ≡ view_held held }
+{
+    match held {
+        Some(e) => Some(Box::into_inner(e)),
+        None => None,
+    }
 }
 
 /// C90 6.6.5.3
@@ -370,7 +381,7 @@ fn for_stmt<'a, P: BodyParts<'a>>(
     let body = in_loop(alloc, parts, state, body)?;
     Ok(TStmt {
         token,
-        form: TStmtForm::For(start, condition, step, body),
+        form: TStmtForm::For(unboxed(start), unboxed(condition), unboxed(step), body),
     })
 }
 

@@ -1,5 +1,5 @@
 -- Parts of the rules of jumps that the code has as functions of their own.
-use Rattle.std.specs.Prelude.{ℕ, not, Some, List, [], ◌∷◌}
+use Rattle.std.specs.Prelude.{ℕ, not, Some, [], ◌∷◌}
 use Rattle.pw_types.specs.TypedTrees.{Expression, Statement}
 use Rattle.pw_types.specs.TypedTrees as T
 use Rattle.pw_types.specs.TypeTrees.{type_of}

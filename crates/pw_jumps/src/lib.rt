@@ -5,4 +5,4 @@ mod jumps;
 mod values;
 
 pub use jumps::{break_rule, continue_rule, goto_rule, return_rule};
-pub use values::{condition_rule, optional_condition, optional_rule, switch_rule, value};
+pub use values::{condition_rule, optional_condition, optional_rule, switch_rule};

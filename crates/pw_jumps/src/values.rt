@@ -4,8 +4,9 @@ ghost use Rattle.std.specs.Prelude.{◌≡◌};
 ghost use Rattle.pw_rules.specs.Statements as spec;
 ghost use Rattle.pw_checking.specs.Follows.{Leads};
 ghost use Rattle.pw_checking.specs.StateViews.{view_state};
+ghost use Rattle.pw_checking.specs.Views.{view_node};
+ghost use Rattle.pw_jumps.specs.Views.{view_held};
 ghost use Rattle.pw_tree.specs.Views.{view_expr, view_optional};
-ghost use Rattle.pw_typed.specs.Views as typed;
 
 use pw_checking::{State, typing};
 use pw_kinds::{is_integral, is_scalar};
@@ -16,33 +17,19 @@ use pw_typed::TExpr;
 use pw_walk::CheckFault;
 use std::alloc::Global;
 
-/// An expression by itself, and then its value.
-pub fn value<'a, P: BodyParts<'a>>(
-    alloc: Global,
-    parts: &P,
-    state: &mut State<'a>,
-    expr: &'a Expr,
-) -> Result<TExpr, CheckFault>
-    requires { P.can_check parts.now }
-    ensures { Leads typed.view_expr (spec.whole_rule (view_expr expr.now)) (view_state state.old) result (view_state state.new) }
-{
-    let node = parts.whole(alloc, state, expr)?;
-    Ok(Box::into_inner(node))
-}
-
-/// An expression that may be left out.
+/// An expression that may be left out, in a box.
 pub fn optional_rule<'a, P: BodyParts<'a>>(
     alloc: Global,
     parts: &P,
     state: &mut State<'a>,
     expr: &'a Option<Expr>,
-) -> Result<Option<TExpr>, CheckFault>
+) -> Result<Option<Box<TExpr>>, CheckFault>
     requires { P.can_check parts.now }
-    ensures { Leads typed.view_optional (spec.optional_rule (view_optional expr.now)) (view_state state.old) result (view_state state.new) }
+    ensures { Leads view_held (spec.optional_rule (view_optional expr.now)) (view_state state.old) result (view_state state.new) }
 {
     match expr {
         Some(e) => {
-            let made = value(alloc, parts, state, e)?;
+            let made = parts.whole(alloc, state, e)?;
             Ok(Some(made))
         }
         None => Ok(None),
@@ -56,11 +43,11 @@ pub fn condition_rule<'a, P: BodyParts<'a>>(
     state: &mut State<'a>,
     token: usize,
     expr: &'a Expr,
-) -> Result<TExpr, CheckFault>
+) -> Result<Box<TExpr>, CheckFault>
     requires { P.can_check parts.now }
-    ensures { Leads typed.view_expr (spec.condition_rule token (view_expr expr.now)) (view_state state.old) result (view_state state.new) }
+    ensures { Leads view_node (spec.condition_rule token (view_expr expr.now)) (view_state state.old) result (view_state state.new) }
 {
-    let condition = value(alloc, parts, state, expr)?;
+    let condition = parts.whole(alloc, state, expr)?;
     if !is_scalar(&condition.ty.ty) {
         return Err(typing(token));
     }
@@ -68,8 +55,8 @@ pub fn condition_rule<'a, P: BodyParts<'a>>(
 }
 
 /// Whether a condition is a scalar, where there is one.
-fn is_condition(condition: &Option<TExpr>) -> bool
-    ensures { result ≡ spec.is_condition (typed.view_optional condition.now) }
+fn is_condition(condition: &Option<Box<TExpr>>) -> bool
+    ensures { result ≡ spec.is_condition (view_held condition.now) }
 {
     match condition {
         Some(e) => is_scalar(&e.ty.ty),
@@ -84,9 +71,9 @@ pub fn optional_condition<'a, P: BodyParts<'a>>(
     state: &mut State<'a>,
     token: usize,
     expr: &'a Option<Expr>,
-) -> Result<Option<TExpr>, CheckFault>
+) -> Result<Option<Box<TExpr>>, CheckFault>
     requires { P.can_check parts.now }
-    ensures { Leads typed.view_optional (spec.optional_condition token (view_optional expr.now)) (view_state state.old) result (view_state state.new) }
+    ensures { Leads view_held (spec.optional_condition token (view_optional expr.now)) (view_state state.old) result (view_state state.new) }
 {
     let condition = optional_rule(alloc, parts, state, expr)?;
     if !is_condition(&condition) {
@@ -102,14 +89,13 @@ pub fn switch_rule<'a, P: BodyParts<'a>>(
     state: &mut State<'a>,
     token: usize,
     expr: &'a Expr,
-) -> Result<TExpr, CheckFault>
+) -> Result<Box<TExpr>, CheckFault>
     requires { P.can_check parts.now }
-    ensures { Leads typed.view_expr (spec.switch_rule token (view_expr expr.now)) (view_state state.old) result (view_state state.new) }
+    ensures { Leads view_node (spec.switch_rule token (view_expr expr.now)) (view_state state.old) result (view_state state.new) }
 {
     let value = parts.whole(alloc, state, expr)?;
     if !is_integral(&value.ty.ty) {
         return Err(typing(token));
     }
-    let promoted = promote(alloc, value)?;
-    Ok(Box::into_inner(promoted))
+    Ok(promote(alloc, value)?)
 }

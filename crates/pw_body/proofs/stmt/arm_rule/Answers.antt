@@ -1,7 +1,8 @@
-use Rattle.std.proofs.Common.{refl, rules}
+use Rattle.std.proofs.Common.{refl, ap, rules}
 use Rattle.pw_walk.proofs.CallLaws.{step_ok, step_err}
 use Rattle.pw_labels.proofs.Steps.{ends}
-use Rattle.pw_body.specs.Parts.{arm_rule}
+use Rattle.pw_typed.specs.Views.{view_expr, view_stmt}
+use Rattle.pw_body.specs.Parts.{arm_rule, one_arm}
 use Rattle.pw_body.proofs.stmt.arm_rule.Goals as goal
 
 pub returns-in_err-condition : goal.returns-in_err-condition
@@ -16,4 +17,4 @@ returns-in_err-body g c =
 pub returns : goal.returns
 unfolding arm_rule
 returns g c =
-    step_ok _ c.condition_rule.ensures c.in_ok-condition.was (step_ok _ c.stmt.ensures c.in_ok-body.was (ends refl refl))
+    step_ok _ c.condition_rule.ensures c.in_ok-condition.was (step_ok _ c.stmt.ensures c.in_ok-body.was (ends (ap (λ e. one_arm c.args.token (view_expr e) (view_stmt c.in_ok-body.body)) c.into_inner.ensures) refl))

@@ -1,4 +1,4 @@
-use Rattle.std.proofs.Common.{refl, ap, rules}
+use Rattle.std.proofs.Common.{refl, rules}
 use Rattle.pw_walk.proofs.CallLaws.{step_ok, step_err}
 use Rattle.pw_labels.proofs.Steps.{ends, same}
 use Rattle.pw_rules.specs.Statements.{stmt_rule}
@@ -10,10 +10,10 @@ use Rattle.pw_body.proofs.stmt.expression_stmt.Goals as goal
 
 pub returns-in_err-value : goal.returns-in_err-value
 unfolding stmt_rule
-returns-in_err-value g c = same (whole_then _ _ _) (step_err _ c.value.ensures c.in_err-value.was (search rules))
+returns-in_err-value g c = same (whole_then _ _ _) (step_err _ c.whole.ensures c.in_err-value.was (search rules))
 
 pub returns : goal.returns
 unfolding stmt_rule view_stmt_form
 returns g c =
     same (whole_then _ _ _)
-    (step_ok _ c.value.ensures c.in_ok-value.was (ends (ap (λ t. T.Evaluate t (view_expr c.in_ok-value.value)) c.first_token.ensures) refl))
+    (step_ok _ c.whole.ensures c.in_ok-value.was (ends (λ j. T.Evaluate (c.first_token.ensures j) (view_expr (c.into_inner.ensures j))) refl))

@@ -2,7 +2,9 @@ use Rattle.std.proofs.Common.{refl, rules}
 use Rattle.pw_walk.proofs.CallLaws.{step_ok, step_err}
 use Rattle.pw_labels.proofs.Steps.{ends}
 use Rattle.pw_rules.specs.Statements.{stmt_rule}
+use Rattle.pw_types.specs.TypedTrees as T
 use Rattle.pw_typed.specs.Views.{view_stmt_form}
+use Rattle.pw_body.specs.Views.{view_body}
 use Rattle.pw_body.proofs.stmt.for_stmt.Goals as goal
 
 pub returns-in_err-start : goal.returns-in_err-start
@@ -32,4 +34,8 @@ unfolding stmt_rule view_stmt_form
 returns g c =
     step_ok _ c.optional_rule.ensures c.in_ok-start.was
     (step_ok _ c.optional_condition.ensures c.in_ok-condition.was
-    (step_ok _ c.optional_rule-2.ensures c.in_ok-step.was (step_ok _ c.in_loop.ensures c.in_ok-body.was (ends refl refl))))
+    (step_ok _ c.optional_rule-2.ensures c.in_ok-step.was
+    (step_ok _ c.in_loop.ensures c.in_ok-body.was
+    (ends
+    (λ j. T.For c.args.token (c.unboxed.ensures j) (c.unboxed-2.ensures j) (c.unboxed-3.ensures j) (view_body c.in_ok-body.body))
+    refl))))

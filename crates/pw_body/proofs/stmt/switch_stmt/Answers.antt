@@ -1,4 +1,4 @@
-use Rattle.std.proofs.Common.{refl, ap, rules}
+use Rattle.std.proofs.Common.{refl, rules}
 use Rattle.pw_walk.proofs.CallLaws.{step_ok, step_err}
 use Rattle.pw_labels.proofs.Steps.{ends}
 use Rattle.pw_rules.specs.Statements.{stmt_rule}
@@ -15,13 +15,13 @@ returns-in_err-value g c = step_err _ c.switch_rule.ensures c.in_err-value.was (
 pub returns-in_err-switched : goal.returns-in_err-switched
 unfolding stmt_rule
 returns-in_err-switched g c =
-    step_ok _ c.switch_rule.ensures c.in_ok-value.was (step_err _ c.in_switch.ensures c.in_err-switched.was (search rules))
+    step_ok _ c.switch_rule.ensures c.in_ok-value.was (step_err _ (rw c.deref.ensures at c.in_switch.ensures) c.in_err-switched.was (search rules))
 
 pub returns : goal.returns
 unfolding stmt_rule view_stmt_form
 returns g c =
     step_ok _ c.switch_rule.ensures c.in_ok-value.was
-    (step_ok _ c.in_switch.ensures c.in_ok-switched.was
+    (step_ok _ (rw c.deref.ensures at c.in_switch.ensures) c.in_ok-switched.was
     (ends
-    (ap (λ cs. T.Switch c.args.token (view_expr c.in_ok-value.value) cs c.in_ok-switched.switched.switch.default (view_body c.in_ok-switched.switched.body)) c.into_cases.ensures)
+    (λ j. T.Switch c.args.token (view_expr (c.into_inner.ensures j)) (c.into_cases.ensures j) c.in_ok-switched.switched.switch.default (view_body c.in_ok-switched.switched.body))
     refl))

@@ -1,8 +1,10 @@
-use Rattle.std.proofs.Common.{refl, rules}
+use Rattle.std.proofs.Common.{refl, ap, rules}
 use Rattle.pw_walk.proofs.CallLaws.{step_ok, step_err}
 use Rattle.pw_labels.proofs.Steps.{ends}
 use Rattle.pw_rules.specs.Statements.{stmt_rule}
-use Rattle.pw_typed.specs.Views.{view_stmt_form}
+use Rattle.pw_types.specs.TypedTrees as T
+use Rattle.pw_typed.specs.Views.{view_expr, view_stmt_form}
+use Rattle.pw_body.specs.Views.{view_body}
 use Rattle.pw_body.proofs.stmt.while_stmt.Goals as goal
 
 pub returns-in_err-condition : goal.returns-in_err-condition
@@ -17,4 +19,4 @@ returns-in_err-body g c =
 pub returns : goal.returns
 unfolding stmt_rule view_stmt_form
 returns g c =
-    step_ok _ c.condition_rule.ensures c.in_ok-condition.was (step_ok _ c.in_loop.ensures c.in_ok-body.was (ends refl refl))
+    step_ok _ c.condition_rule.ensures c.in_ok-condition.was (step_ok _ c.in_loop.ensures c.in_ok-body.was (ends (ap (λ e. T.While c.args.token (view_expr e) (view_body c.in_ok-body.body)) c.into_inner.ensures) refl))

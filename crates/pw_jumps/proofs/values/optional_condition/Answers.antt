@@ -2,8 +2,8 @@ use Rattle.std.proofs.Common.{refl, sym, ◌∙◌, rules}
 use Rattle.pw_walk.proofs.CallLaws.{step_ok, step_err}
 use Rattle.pw_labels.proofs.Steps.{ends, one_met, one_broken}
 use Rattle.pw_rules.specs.Statements.{is_condition, optional_condition}
-use Rattle.pw_typed.specs.Views as typed
 use Rattle.pw_walk.specs.Causes.{ScalarCondition}
+use Rattle.pw_jumps.specs.Views.{view_held}
 use Rattle.pw_jumps.proofs.values.optional_condition.Goals as goal
 
 pub returns-in_err-condition : goal.returns-in_err-condition
@@ -15,10 +15,10 @@ unfolding optional_condition
 returns-then-not-is_condition g c =
     step_ok _ c.optional_rule.ensures c.in_ok-condition.was
     (rw c.typing.ensures
-    (one_broken _ ScalarCondition c.args.token (is_condition (typed.view_optional c.in_ok-condition.condition)) _ (sym c.is_condition.ensures ∙ c.if-not-is_condition.true)))
+    (one_broken _ ScalarCondition c.args.token (is_condition (view_held c.in_ok-condition.condition)) _ (sym c.is_condition.ensures ∙ c.if-not-is_condition.true)))
 
 pub returns : goal.returns
 unfolding optional_condition
 returns g c =
     step_ok _ c.optional_rule.ensures c.in_ok-condition.was
-    (one_met ScalarCondition c.args.token (is_condition (typed.view_optional c.in_ok-condition.condition)) _ (sym c.is_condition.ensures ∙ c.if-not-is_condition.false) (ends refl refl))
+    (one_met ScalarCondition c.args.token (is_condition (view_held c.in_ok-condition.condition)) _ (sym c.is_condition.ensures ∙ c.if-not-is_condition.false) (ends refl refl))

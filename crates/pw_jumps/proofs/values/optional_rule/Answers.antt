@@ -10,13 +10,13 @@ pub returns-in_err-made-in-Some : goal.returns-in_err-made-in-Some
 unfolding optional_rule
 returns-in_err-made-in-Some g c =
     same (ap (λ o. optional_rule (view_optional o) (view_state c.args.state.now)) c.in-Some.is)
-    (step_err _ c.value.ensures c.in_err-made-in-Some.was (search rules))
+    (step_err _ c.whole.ensures c.in_err-made-in-Some.was (search rules))
 
 pub returns-in_ok-made-in-Some : goal.returns-in_ok-made-in-Some
 unfolding optional_rule
 returns-in_ok-made-in-Some g c =
     same (ap (λ o. optional_rule (view_optional o) (view_state c.args.state.now)) c.in-Some.is)
-    (step_ok _ c.value.ensures c.in_ok-made-in-Some.was (ends refl refl))
+    (step_ok _ c.whole.ensures c.in_ok-made-in-Some.was (ends refl refl))
 
 pub returns-in-None : goal.returns-in-None
 unfolding optional_rule

@@ -5,7 +5,6 @@ use Rattle.pw_checking.specs.Views.{view_node}
 use Rattle.pw_rules.specs.Kinds.{is_integral}
 use Rattle.pw_rules.specs.Operands.{type_in}
 use Rattle.pw_rules.specs.Statements.{switch_rule}
-use Rattle.pw_typed.specs.Views.{view_expr}
 use Rattle.pw_typed.specs.declared.tree.TExpr.{TExpr}
 use Rattle.pw_types.specs.Views.{view_type}
 use Rattle.pw_walk.specs.Causes.{IntegralSwitch}
@@ -27,4 +26,4 @@ unfolding switch_rule
 returns g c =
     step_ok _ c.whole.ensures c.in_ok-value.was
     (one_met IntegralSwitch c.args.token (is_integral (type_in (view_node c.in_ok-value.value))) _ (ap (λ (e : TExpr). is_integral (view_type e.ty.ty)) (sym c.deref.ensures) ∙ sym c.is_integral.ensures ∙ c.if-not-is_integral.false)
-    (ends (ap view_expr c.into_inner.ensures ∙ c.in_ok-promoted.ensures) refl))
+    (ends c.in_ok-promote.ensures refl))
