@@ -1,15 +1,18 @@
 //! Function definitions (C90 6.7.1).
 
 ghost use Rattle.std.specs.Prelude.{◌≡◌, IfOk, OnOk};
+ghost use Rattle.pw_body.specs.Views.{view_body};
 ghost use Rattle.pw_checking.specs.Follows.{Leads};
 ghost use Rattle.pw_checking.specs.PhraseViews.{view_bindings};
 ghost use Rattle.pw_checking.specs.StateViews.{view_state};
 ghost use Rattle.pw_functions.specs.Bodies as part;
+ghost use Rattle.pw_functions.specs.Views.{outlined};
 ghost use Rattle.pw_heads.specs.Views.{view_head};
 ghost use Rattle.pw_rules.specs.Functions as spec;
 ghost use Rattle.pw_rules.specs.Statements.{labels_in_block};
 ghost use Rattle.pw_tree.specs.Views.{view_block, view_function, view_word};
 ghost use Rattle.pw_typed.specs.Views as typed;
+ghost use Rattle.pw_types.specs.TypedTrees.{Statement};
 ghost use Rattle.pw_types.specs.Views.{view_qtype};
 
 use crate::knot::{check_body, phrases};
@@ -22,40 +25,81 @@ use pw_kinds::copy_qtype;
 use pw_labels::labels_in_block;
 use pw_linked::symbol_at;
 use pw_tree::{Block, Function, Word};
-use pw_typed::{TFunction, TStmt};
+use pw_typed::{Local, Symbol, TFunction, TStmt};
 use pw_types::QType;
 use pw_walk::CheckFault;
 use std::alloc::{AllocError, Global};
 
-/// What the definition of a function makes, behind its body.
+/// What the definition of a function makes, but for its body.
+#[derive(Drop)]
+pub(crate) struct Outline {
+    pub(crate) name: Symbol,
+    pub(crate) token: usize,
+    pub(crate) ty: QType,
+    pub(crate) params: u32,
+    pub(crate) locals: Vec<Local>,
+    pub(crate) labels: u32,
+    pub(crate) named: Vec<u32>,
+}
+
+impl Outline {
+    /// With its body.
+    fn with(self, body: Box<TStmt>) -> TFunction
+        ensures { typed.view_function result ≡ outlined self (view_body body) }
+    {
+        TFunction {
+            name: self.name,
+            token: self.token,
+            ty: self.ty,
+            params: self.params,
+            locals: self.locals,
+            labels: self.labels,
+            named: self.named,
+            body: Box::into_inner(body),
+        }
+    }
+}
+
+/// What the definition of a function makes, but for its body, behind which it is known.
 #[tactic(auto, using(pw_checking::proofs::PlaceLemmas::length_map))]
-fn function_of(
+fn outline_of(
     alloc: Global,
     state: &State<'_>,
     place: u32,
     head: &Head<'_>,
-    body: TStmt,
-) -> Result<TFunction, AllocError>
-    ensures { IfOk result (λ f. typed.view_function f ≡ spec.function_of (view_state state.now) (view_head head.now).word place (view_head head.now).ty (view_head head.now).bindings (typed.view_stmt body)) }
+) -> Result<Outline, AllocError>
+    ensures { IfOk result (λ o. (body : Statement) → outlined o body ≡ spec.function_of (view_state state.now) (view_head head.now).word place (view_head head.now).ty (view_head head.now).bindings body) }
 {
     let Ok(params) = u32::try_from(head.bindings.parameters.len()) else {
         return Err(AllocError);
     };
     let named = numbers_below(alloc, state.named())?;
     let locals = copy_locals(alloc, state.locals())?;
-    let name = symbol_at(alloc, state, place)?;
     let ty = copy_qtype(alloc, &head.ty)?;
-    let labels = state.labels();
-    Ok(TFunction {
+    let name = symbol_at(alloc, state, place)?;
+    Ok(Outline {
         name,
         token: head.word.token,
         ty,
         params,
         locals,
-        labels,
+        labels: state.labels(),
         named,
-        body,
     })
+}
+
+/// What the definition of a function makes, behind its body.
+fn function_of(
+    alloc: Global,
+    state: &State<'_>,
+    place: u32,
+    head: &Head<'_>,
+    body: Box<TStmt>,
+) -> Result<TFunction, AllocError>
+    ensures { IfOk result (λ f. typed.view_function f ≡ spec.function_of (view_state state.now) (view_head head.now).word place (view_head head.now).ty (view_head head.now).bindings (view_body body)) }
+{
+    let outline = outline_of(alloc, state, place, head)?;
+    Ok(outline.with(body))
 }
 
 /// The body of a function is read, in the scope of its parameters.
