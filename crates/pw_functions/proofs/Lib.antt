@@ -1,3 +1,1 @@
-pub mod HeadLaws
-pub mod PointLaws
-pub mod LocalLaws
+mod FunctionLaws

@@ -1,3 +1,3 @@
+pub mod Bodies
 pub mod Nests
-pub mod Parts
 pub mod Views

@@ -1,16 +1,19 @@
--- The plain data that the head of a function's definition shows.
-use Rattle.pw_checking.specs.PhraseViews.{view_bindings, view_specified}
-use Rattle.pw_tree.specs.Views.{view_word}
+-- The plain data that the parts of a function's definition show.
+use Rattle.pw_typed.specs.Views.{view_locals, view_symbol}
+use Rattle.pw_types.specs.TypedTrees.{FunctionValue, Statement}
 use Rattle.pw_types.specs.Views.{view_qtype}
-use Rattle.pw_functions.specs.Parts as part
-use Rattle.pw_functions.specs.declared.heads.Head.{Head}
+use Rattle.pw_functions.specs.declared.functions.Outline.{Outline}
 
-abbrev pub view_head : Head → part.Head
-view_head h =
+-- a function of this outline, with its body
+abbrev pub outlined : Outline → Statement → FunctionValue
+outlined o body =
     record {
-      word = view_word h.word.now;
-      specified = view_specified h.specified;
-      bindings = view_bindings h.bindings;
-      ends = h.ends;
-      ty = view_qtype h.ty;
+      name = view_symbol o.name;
+      token = o.token;
+      ty = view_qtype o.ty;
+      params = o.params;
+      locals = view_locals o.locals.items;
+      labels = o.labels;
+      named = o.named.items;
+      body = body;
     }

@@ -1,83 +1,105 @@
 //! Function definitions (C90 6.7.1).
 
-ghost use Rattle.std.specs.Prelude.{◌≡◌, ℕ, IfOk, OnOk};
-ghost use Rattle.pw_checking.specs.Follows.{Follows, Leads};
+ghost use Rattle.std.specs.Prelude.{◌≡◌, IfOk, OnOk};
+ghost use Rattle.pw_body.specs.Views.{view_body};
+ghost use Rattle.pw_checking.specs.Follows.{Leads};
 ghost use Rattle.pw_checking.specs.PhraseViews.{view_bindings};
 ghost use Rattle.pw_checking.specs.StateViews.{view_state};
-ghost use Rattle.pw_functions.specs.Parts as part;
-ghost use Rattle.pw_functions.specs.Views.{view_head};
+ghost use Rattle.pw_functions.specs.Bodies as part;
+ghost use Rattle.pw_functions.specs.Views.{outlined};
+ghost use Rattle.pw_heads.specs.Views.{view_head};
 ghost use Rattle.pw_rules.specs.Functions as spec;
 ghost use Rattle.pw_rules.specs.Statements.{labels_in_block};
 ghost use Rattle.pw_tree.specs.Views.{view_block, view_function, view_word};
 ghost use Rattle.pw_typed.specs.Views as typed;
-ghost use Rattle.pw_types.specs.Caps.{capped};
+ghost use Rattle.pw_types.specs.TypedTrees.{Statement};
 ghost use Rattle.pw_types.specs.Views.{view_qtype};
 
-use crate::heads::{Head, head_declared, head_meets, head_rule};
-use crate::knot::check_body;
-use crate::locals::{copy_locals, numbers_below, parameter_locals, result_of};
-use pw_checking::{Bindings, Finding, State};
+use crate::knot::{check_body, phrases};
+use pw_checking::{Bindings, State};
+use pw_heads::{
+    Head, copy_locals, head_declared, head_meets, head_rule, measured_rule, numbers_below,
+    parameter_locals, result_of,
+};
+use pw_kinds::copy_qtype;
 use pw_labels::labels_in_block;
 use pw_linked::symbol_at;
 use pw_tree::{Block, Function, Word};
-use pw_typed::{TFunction, TStmt, room, stmt_nodes};
+use pw_typed::{Local, Symbol, TFunction, TStmt};
 use pw_types::QType;
-use pw_value::limits::{NODE_LIMIT, ROOM_LIMIT};
-use pw_walk::{CheckFault, Which};
+use pw_walk::CheckFault;
 use std::alloc::{AllocError, Global};
 
-/// What the definition of a function makes, behind its body.
+/// What the definition of a function makes, but for its body.
+#[derive(Drop)]
+pub(crate) struct Outline {
+    pub(crate) name: Symbol,
+    pub(crate) token: usize,
+    pub(crate) ty: QType,
+    pub(crate) params: u32,
+    pub(crate) locals: Vec<Local>,
+    pub(crate) labels: u32,
+    pub(crate) named: Vec<u32>,
+}
+
+impl Outline {
+    /// With its body.
+    fn with(self, body: Box<TStmt>) -> TFunction
+        ensures { typed.view_function result ≡ outlined self (view_body body) }
+    {
+        TFunction {
+            name: self.name,
+            token: self.token,
+            ty: self.ty,
+            params: self.params,
+            locals: self.locals,
+            labels: self.labels,
+            named: self.named,
+            body: Box::into_inner(body),
+        }
+    }
+}
+
+/// What the definition of a function makes, but for its body, behind which it is known.
 #[tactic(auto, using(pw_checking::proofs::PlaceLemmas::length_map))]
-fn function_of(
+fn outline_of(
     alloc: Global,
     state: &State<'_>,
-    word: &Word,
     place: u32,
-    q: QType,
-    bindings: &Bindings<'_>,
-    body: TStmt,
-) -> Result<TFunction, AllocError>
-    ensures { IfOk result (λ f. typed.view_function f ≡ spec.function_of (view_state state.now) (view_word word.now) place (view_qtype q) (view_bindings bindings.now) (typed.view_stmt body)) }
+    head: &Head<'_>,
+) -> Result<Outline, AllocError>
+    ensures { IfOk result (λ o. (body : Statement) → outlined o body ≡ spec.function_of (view_state state.now) (view_head head.now).word place (view_head head.now).ty (view_head head.now).bindings body) }
 {
-    let Ok(params) = u32::try_from(bindings.parameters.len()) else {
+    let Ok(params) = u32::try_from(head.bindings.parameters.len()) else {
         return Err(AllocError);
     };
-    let name = symbol_at(alloc, state, place)?;
-    let locals = copy_locals(alloc, state.locals())?;
     let named = numbers_below(alloc, state.named())?;
-    let labels = state.labels();
-    Ok(TFunction {
+    let locals = copy_locals(alloc, state.locals())?;
+    let ty = copy_qtype(alloc, &head.ty)?;
+    let name = symbol_at(alloc, state, place)?;
+    Ok(Outline {
         name,
-        token: word.token,
-        ty: q,
+        token: head.word.token,
+        ty,
         params,
         locals,
-        labels,
+        labels: state.labels(),
         named,
-        body,
     })
 }
 
-/// A count that is told by 64 bits; one that is not is want of memory.
-fn told(count: u64) -> Result<u64, AllocError>
-    ensures { (n : ℕ) → count ≡ capped n → IfOk result (λ m. m ≡ n) }
+/// What the definition of a function makes, behind its body.
+fn function_of(
+    alloc: Global,
+    state: &State<'_>,
+    place: u32,
+    head: &Head<'_>,
+    body: Box<TStmt>,
+) -> Result<TFunction, AllocError>
+    ensures { IfOk result (λ f. typed.view_function f ≡ spec.function_of (view_state state.now) (view_head head.now).word place (view_head head.now).ty (view_head head.now).bindings (view_body body)) }
 {
-    if count == u64::MAX {
-        return Err(AllocError);
-    }
-    Ok(count)
-}
-
-/// The limits of a function, behind its body. What 64 bits cannot count answers want of memory.
-fn measured_rule(state: &State<'_>, word: &Word, f: &TFunction) -> Result<(), CheckFault>
-    ensures { Follows (λ u. u) (spec.measured_rule (view_word word.now) (typed.view_function f.now)) (view_state state.now) result }
-{
-    let nodes = told(stmt_nodes(&f.body))?;
-    let bytes = told(room(state.records(), f))?;
-    Finding::none()
-        .keeps(Which::Nodes, NODE_LIMIT, word.token, nodes)
-        .keeps(Which::Room, u64::from(ROOM_LIMIT), word.token, bytes)
-        .end()
+    let outline = outline_of(alloc, state, place, head)?;
+    Ok(outline.with(body))
 }
 
 /// The body of a function is read, in the scope of its parameters.
@@ -111,21 +133,29 @@ fn body_rule<'a>(
     alloc: Global,
     state: &mut State<'a>,
     place: u32,
-    head: Head<'a>,
+    head: &Head<'a>,
     block: &'a Block,
 ) -> Result<(), CheckFault>
-    ensures { Leads (λ u. u) (spec.body_rule (view_head head.entry).word place (view_head head.entry).ty (view_head head.entry).bindings (view_block block.now)) (view_state state.old) result (view_state state.new) }
+    ensures { Leads (λ u. u) (spec.body_rule (view_head head.now).word place (view_head head.now).ty (view_head head.now).bindings (view_block block.now)) (view_state state.old) result (view_state state.new) }
 {
-    let Head {
-        word,
-        bindings,
-        ty,
-        ..
-    } = head;
-    begin_body(alloc, state, &ty, &bindings, block)?;
+    begin_body(alloc, state, &head.ty, &head.bindings, block)?;
     let body = check_body(alloc, state, block)?;
-    let f = function_of(alloc, state, word, place, ty, &bindings, body)?;
-    end_body(state, word, f)
+    let f = function_of(alloc, state, place, head, body)?;
+    end_body(state, head.word, f)
+}
+
+/// What stands behind the head of a definition: what it asks, its declaration, and its body.
+fn behind_head<'a>(
+    alloc: Global,
+    state: &mut State<'a>,
+    head: &Head<'a>,
+    f: &'a Function,
+) -> Result<(), CheckFault>
+    ensures { Leads (λ u. u) (part.behind_head (view_head head.now) (view_function f.now)) (view_state state.old) result (view_state state.new) }
+{
+    head_meets(alloc, state, head, &f.declarations)?;
+    let place = head_declared(alloc, state, head)?;
+    body_rule(alloc, state, place, head, &f.body)
 }
 
 /// A function's definition.
@@ -136,8 +166,6 @@ pub fn function_rule<'a>(
 ) -> Result<(), CheckFault>
     ensures { Leads (λ u. u) (spec.function_rule (view_function f.now)) (view_state state.old) result (view_state state.new) }
 {
-    let head = head_rule(alloc, state, f)?;
-    head_meets(alloc, state, &head, &f.declarations)?;
-    let place = head_declared(alloc, state, &head)?;
-    body_rule(alloc, state, place, head, &f.body)
+    let head = head_rule(alloc, &phrases(), state, f)?;
+    behind_head(alloc, state, &head, f)
 }

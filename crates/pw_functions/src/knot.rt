@@ -2,6 +2,7 @@
 //! tree of greater depth is want of memory: the stack is memory.
 
 ghost use Rattle.pw_functions.specs.Nests.{Nests};
+ghost use Rattle.pw_body.specs.Views.{view_body};
 ghost use Rattle.pw_checking.specs.Follows.{Leads};
 ghost use Rattle.pw_checking.specs.StateViews.{view_state};
 ghost use Rattle.pw_rules.specs.Statements as spec;
@@ -87,17 +88,18 @@ fn check_stmt<'a>(
     stmt_of(alloc, &smaller, state, stmt)
 }
 
-/// The block of a function, in the scope of its parameters.
+/// The block of a function, in the scope of its parameters, in a box.
 pub(crate) fn check_body<'a>(
     alloc: Global,
     state: &mut State<'a>,
     block: &'a Block,
-) -> Result<TStmt, CheckFault>
-    ensures { Leads typed.view_stmt (spec.block_rule (view_block block.now)) (view_state state.old) result (view_state state.new) }
+) -> Result<Box<TStmt>, CheckFault>
+    ensures { Leads view_body (spec.block_rule (view_block block.now)) (view_state state.old) result (view_state state.new) }
 {
     let smaller = Smaller {
         depth: DEPTH,
         stmt: check_stmt,
     };
-    block_rule(alloc, &smaller, state, block)
+    let made = block_rule(alloc, &smaller, state, block)?;
+    Ok(Box::new(alloc, made)?)
 }

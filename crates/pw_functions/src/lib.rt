@@ -2,9 +2,7 @@
 #![tactic(auto)]
 
 mod functions;
-mod heads;
 mod knot;
-mod locals;
 
 pub use functions::function_rule;
 pub use knot::phrases;

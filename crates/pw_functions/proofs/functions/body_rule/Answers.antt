@@ -2,7 +2,7 @@ use Rattle.std.proofs.Common.{refl, rules}
 use Rattle.pw_walk.proofs.CallLaws.{step_ok, step_err}
 use Rattle.pw_labels.proofs.Steps.{from, from_within}
 use Rattle.pw_rules.specs.Functions.{body_rule}
-use Rattle.pw_functions.specs.Parts.{end_body}
+use Rattle.pw_functions.specs.Bodies.{end_body}
 use Rattle.pw_functions.proofs.functions.body_rule.Goals as goal
 
 pub returns-in_err-body : goal.returns-in_err-body

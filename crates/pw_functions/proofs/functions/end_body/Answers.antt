@@ -1,7 +1,7 @@
 use Rattle.std.proofs.Common.{refl, rules}
 use Rattle.pw_walk.proofs.CallLaws.{step_ok, step_err}
 use Rattle.pw_labels.proofs.Steps.{from_within, ends}
-use Rattle.pw_functions.specs.Parts.{end_body}
+use Rattle.pw_functions.specs.Bodies.{end_body}
 use Rattle.pw_functions.proofs.functions.end_body.Goals as goal
 
 pub returns-in_err-measured_rule : goal.returns-in_err-measured_rule

@@ -1,0 +1,3 @@
+mod HeadLaws
+mod LocalLaws
+mod PointLaws

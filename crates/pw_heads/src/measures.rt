@@ -1,0 +1,38 @@
+//! The limits of a function.
+
+ghost use Rattle.std.specs.Prelude.{◌≡◌, ℕ, IfOk};
+ghost use Rattle.pw_checking.specs.Follows.{Follows};
+ghost use Rattle.pw_checking.specs.StateViews.{view_state};
+ghost use Rattle.pw_rules.specs.Functions as spec;
+ghost use Rattle.pw_tree.specs.Views.{view_word};
+ghost use Rattle.pw_typed.specs.Views as typed;
+ghost use Rattle.pw_types.specs.Caps.{capped};
+
+use pw_checking::{Finding, State};
+use pw_tree::Word;
+use pw_typed::{TFunction, room, stmt_nodes};
+use pw_value::limits::{NODE_LIMIT, ROOM_LIMIT};
+use pw_walk::{CheckFault, Which};
+use std::alloc::AllocError;
+
+/// A count that is told by 64 bits; one that is not is want of memory.
+fn told(count: u64) -> Result<u64, AllocError>
+    ensures { (n : ℕ) → count ≡ capped n → IfOk result (λ m. m ≡ n) }
+{
+    if count == u64::MAX {
+        return Err(AllocError);
+    }
+    Ok(count)
+}
+
+/// The limits of a function, behind its body. What 64 bits cannot count answers want of memory.
+pub fn measured_rule(state: &State<'_>, word: &Word, f: &TFunction) -> Result<(), CheckFault>
+    ensures { Follows (λ u. u) (spec.measured_rule (view_word word.now) (typed.view_function f.now)) (view_state state.now) result }
+{
+    let nodes = told(stmt_nodes(&f.body))?;
+    let bytes = told(room(state.records(), f))?;
+    Finding::none()
+        .keeps(Which::Nodes, NODE_LIMIT, word.token, nodes)
+        .keeps(Which::Room, u64::from(ROOM_LIMIT), word.token, bytes)
+        .end()
+}
