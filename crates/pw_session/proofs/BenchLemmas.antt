@@ -23,7 +23,7 @@ use Rattle.pw_driving.specs.FromBuild.Unbuilt.{Unbuilt}
 use Rattle.pw_driving.specs.FromBuild.Phases.{IsLine, refused_line}
 use Rattle.pw_driving.specs.FromBuilding.Report.{Report}
 use Rattle.pw_driving.specs.FromBuilding.Building.{Outcome}
-use Rattle.pw_driving.specs.FromBuilding.Outcomes.{FaultComes, ObeysBuild, Reports, fault_answer}
+use Rattle.pw_driving.specs.FromBuilding.Outcomes.{FaultComes, IsNoWant, ObeysBuild, Reports, fault_answer}
 use Rattle.pw_driving.specs.Driving.{IsPrintAnswer}
 use Rattle.pw_session.specs.declared.opts.SessionOpts.{SessionOpts}
 use Rattle.pw_session.specs.Builds.{BuildsTo}
@@ -136,11 +136,11 @@ bench_refused number opts input unbuilt told new taken e obeys count =
 
 -- ---- the answer, its line and the streams
 
-pub refused_is : (fault : BuildFault) → StoreCount 0 0 (fault_answer fault) → IsBenchAnswer (fault_answer fault)
-refused_is (build.Refused name refusal) h = tt
-refused_is (build.LinkRefused fault) h = tt
-refused_is build.StoreFault h = absurd (no_fault h)
-refused_is build.NoMemory h = tt
+pub refused_is : (fault : BuildFault) → IsNoWant fault → StoreCount 0 0 (fault_answer fault) → IsBenchAnswer (fault_answer fault)
+refused_is (build.Refused name refusal) proper h = proper
+refused_is (build.LinkRefused fault) proper h = proper
+refused_is build.StoreFault proper h = absurd (no_fault h)
+refused_is build.NoMemory proper h = tt
 
 pub refused_at : (number : ℕ) (fault : BuildFault) (line : ℕ) (files : Files) → files ≡ bench_files number → IsLine (refused_line (modules_of files)) fault line → IsBenchLine number (fault_answer fault) line
 refused_at number (build.Refused name refusal) line files e h = h ∙ ap (λ (f : Files). refused_line (modules_of f)) e

@@ -1,8 +1,10 @@
 -- `bench`: a made program is built over a store that holds nothing else, and run, and one line says what came of it.
-use Rattle.std.specs.Prelude.{◌≡◌, ℕ, ◌+◌, ◌*◌, true, List, [], ◌∷◌, ◌++◌, codes, length, reverse, Option, Result, Ok, Err}
+use Rattle.std.specs.Prelude.{◌≡◌, ◌≢◌, ℕ, ◌+◌, ◌*◌, true, List, [], ◌∷◌, ◌++◌, codes, length, reverse, Option, Result, Ok, Err}
 use Rattle.std.specs.Fmt.{decimal}
 use Rattle.std.specs.FinMap as finite
 use Rattle.pw_value.specs.Fields.{parts}
+use Rattle.pw_value.specs.declared.fault.LinkFault.TheVariants as link
+use Rattle.pw_front.specs.Fronts.{HoldsNoWant}
 use Rattle.hex.specs.Hex.{encode_lower}
 use Rattle.sha2.specs.Sha256.{sha256}
 use Rattle.pw_io.specs.Files.{Files}
@@ -78,11 +80,11 @@ pub record ObeysBench (comes : Effect → Type 0) (answer : Answer) (taken taken
   pub output : (effect : Effect) → comes effect → PutsOut effect.output answer taken taken'
   pub found : IsBenchFound comes answer
 
--- the answers of `bench`
+-- the answers of `bench`, whose refusals are none for want of memory
 abbrev pub IsBenchAnswer : Answer → Type 0
 IsBenchAnswer Done = Unit {0}
-IsBenchAnswer (Refused name refusal) = Unit {0}
-IsBenchAnswer (LinkRefused fault) = Unit {0}
+IsBenchAnswer (Refused name refusal) = HoldsNoWant refusal
+IsBenchAnswer (LinkRefused fault) = fault ≢ link.NoMemory
 IsBenchAnswer WriteFault = Unit {0}
 IsBenchAnswer NoMemory = Unit {0}
 IsBenchAnswer _ = ⊥

@@ -4,3 +4,4 @@ pub mod ToldLemmas
 pub mod GenuineLemmas
 pub mod SessionLemmas
 pub mod WholeLemmas
+pub mod ProperLemmas
