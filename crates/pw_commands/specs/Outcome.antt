@@ -31,10 +31,11 @@ IsFileStop NoMemory = Unit {0}
 IsFileStop (BadFile name at) = Unit {0}
 IsFileStop _ = ⊥
 
--- the command comes to something with that answer, where it is no fault and no want of memory
+-- The command comes to something, also where its input or output had a fault then; with that answer, where it is no fault.
+-- A fault of the store and want of memory may come before.
 abbrev pub IsFound : (Effect → Type 0) → Answer → Type 0
-IsFound comes ReadFault = Unit {0}
-IsFound comes WriteFault = Unit {0}
+IsFound comes ReadFault = (effect : Effect) × comes effect
+IsFound comes WriteFault = (effect : Effect) × comes effect
 IsFound comes StoreFault = Unit {0}
 IsFound comes NoMemory = Unit {0}
 IsFound comes answer = (effect : Effect) × comes effect × (effect.answer ≡ answer)
