@@ -88,16 +88,16 @@ obeys_replied (Some told) name text answer line h = λ input. so_replied name te
 
 -- its kind
 phase_kind : (name text : List ℕ) (phase : Phase) (answer : Answer) (line : ℕ) → ((refusal : Refusal) → phase ≡ Err refusal → HoldsNoWant refusal) → RepliesPhase name text phase answer line → IsTextStop answer
-phase_kind name text (Ok flow) answer line no h = absurd h
-phase_kind name text (Err refusal) answer line no h = subst IsTextStop (sym h.0) (no refusal refl)
+phase_kind name text (Ok flow) answer line law h = absurd h
+phase_kind name text (Err refusal) answer line law h = subst IsTextStop (sym h.0) (law refusal refl)
 
 -- no refusal of a module is one for want of memory
 abbrev pub NoPhaseWants : Type 0
 NoPhaseWants = (name text : List ℕ) (refusal : Refusal) → compiled name text ≡ Err refusal → HoldsNoWant refusal
 
 pub reply_kind : NoPhaseWants → (name text : List ℕ) (answer : Answer) (line : ℕ) → Replies name text (compiled name text) answer line → IsTextStop answer
-reply_kind no name text NoMemory line h = tt
-reply_kind no name text _ line h = phase_kind name text (compiled name text) _ line (no name text) h
+reply_kind law name text NoMemory line h = tt
+reply_kind law name text _ line h = phase_kind name text (compiled name text) _ line (law name text) h
 
 pub text_stop_is : (answer : Answer) → IsTextStop answer → IsPhaseAnswer answer
 text_stop_is (Refused name refusal) h = h

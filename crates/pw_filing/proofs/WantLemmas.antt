@@ -40,13 +40,13 @@ IsProper (Ok flows) = Unit {0}
 IsProper (Err fault) = IsNoWant fault
 
 before_proper : (name text : List ℕ) (phase : Phase) (others : Result (List FlowModule) BuildFault) → ((refusal : Refusal) → phase ≡ Err refusal → HoldsNoWant refusal) → IsProper others → IsProper (before_others name phase others)
-before_proper name text (Err refusal) others no h = no refusal refl
-before_proper name text (Ok flow) (Err fault) no h = h
-before_proper name text (Ok flow) (Ok flows) no h = tt
+before_proper name text (Err refusal) others law h = law refusal refl
+before_proper name text (Ok flow) (Err fault) law h = h
+before_proper name text (Ok flow) (Ok flows) law h = tt
 
 flows_proper : NoPhaseWants → (sources : List Source) → IsProper (flows_of sources)
-flows_proper no [] = tt
-flows_proper no (source ∷ sources) = before_proper source.0 source.1 (compiled source.0 source.1) (flows_of sources) (λ refusal e. no source.0 source.1 refusal e) (flows_proper no sources)
+flows_proper law [] = tt
+flows_proper law (source ∷ sources) = before_proper source.0 source.1 (compiled source.0 source.1) (flows_of sources) (λ refusal e. law source.0 source.1 refusal e) (flows_proper law sources)
 
 abbrev IsProperLimit : Option LinkFault → Type 0
 IsProperLimit None = Unit {0}
@@ -74,4 +74,4 @@ faults_proper wanted (build.Refused name refusal) proper h = subst IsProper h pr
 faults_proper wanted (build.LinkRefused fault) proper h = subst IsProper h proper
 
 pub phases_no_want : NoPhaseWants → (sources : List Source) (fault : BuildFault) → FaultsAs (first_phases sources) fault → IsNoWant fault
-phases_no_want no sources fault h = faults_proper (first_phases sources) fault (within_proper (limit_passed sources) (flows_of sources) (limit_proper sources) (flows_proper no sources)) h
+phases_no_want law sources fault h = faults_proper (first_phases sources) fault (within_proper (limit_passed sources) (flows_of sources) (limit_proper sources) (flows_proper law sources)) h
