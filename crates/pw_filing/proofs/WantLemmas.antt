@@ -1,6 +1,6 @@
 -- No refusal of modules is for want of memory.
 use Rattle.std.proofs.Common.{◌≡◌, ℕ, Bool, true, false, cond, List, [], ◌∷◌, length, Option, Some, None, Result, Ok, Err, refl, sym, subst}
-use Rattle.std.specs.Prelude.{nat_lt}
+use Rattle.std.specs.Prelude.{IfErr, nat_lt}
 use Rattle.pw_io.specs.declared.StoreError.{StoreError}
 use Rattle.pw_io.specs.declared.StoreError.TheVariants as store
 use Rattle.pw_value.specs.Limits.{module_limit, texts_limit}
@@ -15,6 +15,7 @@ use Rattle.pw_modules.specs.Modules.{Source}
 use Rattle.pw_build.specs.FromPhaseOne.FirstPhase.{Phase, compiled}
 use Rattle.pw_build.specs.declared.fault.BuildFault.{BuildFault}
 use Rattle.pw_build.specs.declared.fault.BuildFault.TheVariants as build
+use Rattle.pw_build.specs.declared.fault.Unbuilt.{Unbuilt}
 use Rattle.pw_build.specs.Builds.{before_others, first_phases, flows_of, limit_passed, text_bytes, within}
 use Rattle.pw_build.specs.Phases.{FaultsAs}
 use Rattle.pw_build.specs.Stores.{store_fault}
@@ -29,6 +30,9 @@ stored_no_want store.NoMemory fault e = subst IsNoWant (sym e) tt
 
 pub none_no_want : (fault : BuildFault) → fault ≡ build.NoMemory → IsNoWant fault
 none_no_want fault e = subst IsNoWant (sym e) tt
+
+pub err_proper : {V : Type 0} (r : Result V Unbuilt) (unbuilt : Unbuilt) → r ≡ Err unbuilt → IsNoWant unbuilt.fault → IfErr r (λ u. IsNoWant u.fault)
+err_proper r unbuilt e h = subst (λ (x : Result V Unbuilt). IfErr x (λ u. IsNoWant u.fault)) (sym e) h
 
 -- ---- the first phases
 
