@@ -41,7 +41,7 @@ all_put files _ told new h e = absurd h
 
 found_done : (comes : Effect → Type 0) (one : Effect) (a : Answer) → comes one → one.answer ≡ answer.Done → IsPrintAnswer a → IsFound comes a
 found_done comes one answer.Done c e h = (one, c, e)
-found_done comes one answer.WriteFault c e h = tt
+found_done comes one answer.WriteFault c e h = (one, c)
 found_done comes one answer.NoMemory c e h = tt
 found_done comes one _ c e h = absurd h
 

@@ -66,9 +66,10 @@ abbrev pub BenchComes : ℕ → SessionOpts → List ℕ → Effect → Type 0
 BenchComes number opts input effect =
     (comes : Result Outcome BuildFault) × BuildsTo (bench_files number) opts.build comes × BenchOver number opts.budget input comes effect
 
--- what was answered is no fault and no want of memory, and then it comes to that
+-- It comes to something, also where the output had a fault then; with that answer, where it is none. Want of memory may come
+-- before.
 abbrev pub IsBenchFound : (Effect → Type 0) → Answer → Type 0
-IsBenchFound comes WriteFault = Unit {0}
+IsBenchFound comes WriteFault = (effect : Effect) × comes effect
 IsBenchFound comes NoMemory = Unit {0}
 IsBenchFound comes answer = (effect : Effect) × comes effect × (effect.answer ≡ answer)
 
@@ -102,4 +103,4 @@ pub record StopsAs (image : List ℕ) (budget : ℕ) (answer : Answer) : Type 0 
 -- the line of a program that was built, with this digest, was put out
 pub record ObeysReport (number : ℕ) (image digest : List ℕ) (budget : ℕ) (answer : Answer) (taken taken' : Option (List ℕ)) : Type 0 where
   pub output : (c : Contents) → IsImageFile image c → PutsOut (bench_line number image digest (stop_of budget c)) answer taken taken'
-  pub found : answer ≡ Done → (c : Contents) × IsImageFile image c
+  pub found : answer ≢ NoMemory → (c : Contents) × IsImageFile image c
