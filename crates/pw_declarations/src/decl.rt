@@ -11,7 +11,9 @@ use crate::parts::{DeclParts, InitParts};
 use pw_cursor::{ASSIGNMENT, Stop, Tokens, begins_declaration, has_type, has_typedef};
 use pw_grammar::Place;
 use pw_parts::{Declared, declare_name};
-use pw_tree::{Decl, Init, InitDeclarator, Initializer, Mark, Specifier};
+use pw_tree::{
+    Decl, Init, InitDeclarator, Initializer, Mark, Specifier, statements_show_their_lists,
+};
 use std::alloc::Global;
 
 /// Behind an initializer: None where another one follows, else whether a comma stands before the end.
@@ -51,7 +53,7 @@ fn inits<'a, P: InitParts<'a>>(
 }
 
 /// Initializers in braces (C90 6.5.7).
-#[tactic(auto, using(pw_tree::proofs::Rows::braces_view), unfolding(pw_grammar::specs::Declarations::braced))]
+#[tactic(auto, unfolding(pw_grammar::specs::Declarations::braced))]
 fn braced<'a, P: InitParts<'a>>(
     alloc: Global,
     parts: &P,
@@ -63,6 +65,7 @@ fn braced<'a, P: InitParts<'a>>(
     let token = tokens.take_number();
     let (items, trailing_comma) = inits(alloc, parts, tokens)?;
     tokens.expect(Mark::CloseBrace)?;
+    statements_show_their_lists();
     Ok(Init::List {
         token,
         items,

@@ -9,7 +9,6 @@ use Rattle.pw_tree.specs.declared.decl.Init as init
 use Rattle.pw_tree.specs.declared.expr.Expr.{Expr}
 use Rattle.pw_tree.specs.declared.expr.Expr as expr
 use Rattle.pw_tree.specs.declared.expr.Word.{Word}
-use Rattle.pw_tree.proofs.Rows.{braces_view}
 use Rattle.pw_rules.specs.Initialisers.{IsOther, IsString, braced_string, string_form}
 
 pub other_form : (e : Expr) → ((ws : Vec Word Global) → e ≡ expr.Strings ws → ⊥) → string_form (view_expr e) ≡ IsOther
@@ -51,9 +50,10 @@ pub value_alone : (items : List Init) (i : Init) (e : Expr) → length items ≡
 unfolding view_init
 value_alone items i e one at is = ap braced_string (alone items i one at) ∙ ap (λ x. braced_string (tree.Listed (view_init x) tree.NoInit)) is
 
-pub list_alone : (items : List Init) (i : Init) (t : ℕ) (is : Vec Init Global) (trailing : Bool) → length items ≡ 1 → i ≡ get_or items 0 i → i ≡ init.List t is trailing
+pub list_alone : ((t : ℕ) (is : Vec Init Global) (trailing : Bool) → view_init (init.List t is trailing) ≡ tree.Braces t (view_inits is.items) trailing)
+    → (items : List Init) (i : Init) (t : ℕ) (is : Vec Init Global) (trailing : Bool) → length items ≡ 1 → i ≡ get_or items 0 i → i ≡ init.List t is trailing
     → braced_string (view_inits items) ≡ IsOther
-list_alone items i t is trailing one at shape =
+list_alone law items i t is trailing one at shape =
     ap braced_string (alone items i one at)
     ∙ ap (λ x. braced_string (tree.Listed (view_init x) tree.NoInit)) shape
-    ∙ ap (λ x. braced_string (tree.Listed x tree.NoInit)) (braces_view t is trailing)
+    ∙ ap (λ x. braced_string (tree.Listed x tree.NoInit)) (law t is trailing)

@@ -7,7 +7,7 @@ ghost use Rattle.pw_tree.specs.Views.{view_expr, view_inits, view_words};
 ghost use Rattle.pw_types.specs.Views.{view_type};
 
 use pw_kinds::is_character_array;
-use pw_tree::{Expr, Init, Word};
+use pw_tree::{Expr, Init, Word, statements_show_their_lists};
 use pw_types::CType;
 
 /// The words of a string literal that stands alone, not in parentheses.
@@ -21,7 +21,7 @@ pub fn string_form(e: &Expr) -> Option<&[Word]>
 }
 
 /// The words of one string literal in braces.
-#[tactic(auto, using(crate::proofs::FormLemmas::value_alone, crate::proofs::FormLemmas::list_alone, crate::proofs::FormLemmas::not_alone))]
+#[tactic(auto, using(crate::proofs::FormLemmas::value_alone, crate::proofs::FormLemmas::not_alone))]
 pub fn braced_string(items: &[Init]) -> Option<&[Word]>
     ensures { view_string_form result ≡ spec.braced_string (view_inits items.now) }
 {
@@ -30,7 +30,10 @@ pub fn braced_string(items: &[Init]) -> Option<&[Word]>
     };
     match only {
         Init::Value(e) => string_form(e),
-        Init::List { .. } => None,
+        Init::List { .. } => {
+            statements_show_their_lists();
+            None
+        }
     }
 }
 

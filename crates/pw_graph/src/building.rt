@@ -73,6 +73,24 @@ fn graph_from(
     rows_of(alloc, homes, names, &targets, &scalars)
 }
 
+/// The call graph of modules that make a program, of their functions.
+fn graph_among(
+    alloc: Global,
+    summaries: &[Summary],
+    homes: &[Home],
+) -> Result<CallGraph, AllocError>
+    requires lawful { All IsSummary summaries.now }
+    requires linked { AreLinked summaries.now }
+    requires homes { IsOrdered (λ h. h.0) (all_homes summaries.now) (map home homes.now) }
+    requires count { length (map home homes.now) ≡ length (all_homes summaries.now) }
+    ensures of { IfOk result (IsGraphOf summaries.now) }
+    ensures graph { IfOk result IsGraph }
+{
+    let taken = taken_names(alloc, summaries)?;
+    let escaped = escaped_names(alloc, summaries)?;
+    graph_from(alloc, summaries, homes, &taken, &escaped)
+}
+
 /// The call graph of modules that make a program.
 fn graph_of(alloc: Global, summaries: &[Summary]) -> Result<CallGraph, AllocError>
     requires lawful { All IsSummary summaries.now }
@@ -82,9 +100,7 @@ fn graph_of(alloc: Global, summaries: &[Summary]) -> Result<CallGraph, AllocErro
 {
     let library = built_in(alloc)?;
     let homes = sorted_homes(alloc, &library, summaries)?;
-    let taken = taken_names(alloc, summaries)?;
-    let escaped = escaped_names(alloc, summaries)?;
-    graph_from(alloc, summaries, &homes, &taken, &escaped)
+    graph_among(alloc, summaries, &homes)
 }
 
 /// The call graph of a program, made of the summaries of its modules; or which rule of linking they break.

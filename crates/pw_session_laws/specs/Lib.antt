@@ -1,2 +1,1 @@
 pub mod Full
-pub mod Rest

@@ -1,14 +1,11 @@
 //! Laws of sessions. A function here does nothing: its clause is a fact about all values.
 
-ghost use Rattle.std.specs.Prelude.{List, ℕ, IsSomeAnd, Option};
+ghost use Rattle.std.specs.Prelude.{List, ℕ};
 ghost use Rattle.pw_io.specs.Files.{Told};
-ghost use Rattle.pw_answer.specs.declared.answer.Answer.{Answer};
 ghost use Rattle.pw_session.specs.FromBuilding.Genuine.{KeepsGenuine};
-ghost use Rattle.pw_session.specs.Changes.{MakesSome};
 ghost use Rattle.pw_session.specs.Session.{Effects, SessionActs};
 ghost use Rattle.pw_session.specs.declared.opts.SessionOpts.{SessionOpts};
 ghost use Rattle.pw_session_laws.specs.Full.{SessionBuildsInFull};
-ghost use Rattle.pw_session_laws.specs.Rest.{LeavesRest};
 
 use pw_io::laws::other_files;
 use pw_session::{
@@ -23,13 +20,5 @@ pub fn sessions_build_in_full()
     builds_leave_genuine_objects();
     genuine_objects_give_the_full_image();
     module_texts_are_no_objects();
-    other_files();
-}
-
-/// Whatever a session answers, each file that it neither put nor removed is as before, but perhaps one whose put failed; only
-/// files of modules were removed.
-pub fn sessions_leave_other_files()
-    ensures { (answer : Answer) (told : Told) (new : Option Told) → MakesSome answer told new → IsSomeAnd new (LeavesRest answer told) }
-{
     other_files();
 }

@@ -3,4 +3,4 @@
 
 mod laws;
 
-pub use laws::{sessions_build_in_full, sessions_leave_other_files};
+pub use laws::sessions_build_in_full;

@@ -17,7 +17,7 @@ use Rattle.pw_session.specs.FromDriving.Driving.{KeepsUnput}
 use Rattle.pw_words.specs.declared.commands.Command.{Command}
 use Rattle.pw_words.specs.declared.commands.Command.TheVariants.{Build as BuildAll, Session, PhaseOne, Analyse, PhaseTwo, Link}
 use Rattle.pw_top.specs.Commands.{KeepsTheRest, files_put}
-use Rattle.pw_top.proofs.SessionLemmas.{changes_none}
+use Rattle.pw_top.proofs.SessionLemmas.{changes_none, rest_none}
 
 -- ---- names that are no object's file
 
@@ -131,5 +131,5 @@ pub rest_alone : (command : Option Command) (told : Option Told) → KeepsTheRes
 rest_alone (Some (BuildAll colours stack)) None = tt
 rest_alone (Some (BuildAll colours stack)) (Some t) = unput_alone NoMemory t
 rest_alone (Some (Session colours stack steps)) None = tt
-rest_alone (Some (Session colours stack steps)) (Some t) = changes_none t
+rest_alone (Some (Session colours stack steps)) (Some t) = (changes_none t, rest_none NoMemory t)
 rest_alone command told = others_alone (files_put command) told

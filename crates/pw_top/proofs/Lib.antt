@@ -5,3 +5,4 @@ pub mod GenuineLemmas
 pub mod SessionLemmas
 pub mod WholeLemmas
 pub mod ProperLemmas
+pub mod RestLemmas

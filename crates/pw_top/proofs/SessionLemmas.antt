@@ -1,5 +1,5 @@
 -- What a session did, by its own clauses.
-use Rattle.std.proofs.Common.{◌≡◌, ℕ, List, [], ◌∷◌, ◌++◌, Option, Some, None, Result, Ok, Err, refl, sym, ap, ◌∙◌, subst, append-nil}
+use Rattle.std.proofs.Common.{◌≡◌, ℕ, List, [], ◌∷◌, ◌++◌, Option, Some, None, Result, Ok, Err, refl, sym, ap, ◌∙◌, subst, arith, append-nil}
 use Rattle.std.specs.Prelude.{IfSome, IsSomeAnd}
 use Rattle.pw_io.specs.Files.{Files, Told, Keeps}
 use Rattle.pw_answer.specs.declared.answer.Answer.{Answer}
@@ -17,6 +17,7 @@ use Rattle.pw_compiling.specs.First.{IsLine}
 use Rattle.pw_session.specs.declared.opts.SessionOpts.{SessionOpts}
 use Rattle.pw_session.specs.Bench.{BenchComes, BenchOver, IsBenchAnswer, IsBenchFound, IsBenchLine, ObeysBench, bench_files}
 use Rattle.pw_session.specs.Changes.{Change, ChangeFront, MakesChanges, MakesSome}
+use Rattle.pw_top.specs.Rest.{LeavesRest}
 use Rattle.pw_session.specs.Outcomes.{IsSessionAnswer, LeavesScript, ObeysSession}
 use Rattle.pw_top.specs.Does.{Does, DoesSession}
 use Rattle.pw_top.proofs.DoesLemmas.{Prints, left_so, none_out_yet, nothing_put, out_part}
@@ -34,7 +35,34 @@ pub session_no_usage : (answer : Answer) → IsSessionAnswer answer → IsNoUsag
 session_no_usage Usage h = h
 session_no_usage _ h = tt
 
--- what was changed
+-- what was changed, and what stays
+abbrev pub LeaveOthers : Type 0
+LeaveOthers = (answer : Answer) (told : Told) (new : Option Told) → MakesSome answer told new → IsSomeAnd new (LeavesRest answer told)
+
+pub session_others : LeaveOthers → (first new : Option Told) (answer : Answer) → IfSome first (λ told. MakesSome answer told new) → IfSome first (λ told. MakesSome answer told new × IsSomeAnd new (LeavesRest answer told))
+session_others law None new answer h = tt
+session_others law (Some told) new answer h = (h, law answer told new h)
+
+pub rest_none : (answer : Answer) (told : Told) → LeavesRest answer told told
+rest_none answer told = record { put = []; removed = []; failed = []; own = tt; modules = tt; one = omega arith; none = λ h. refl; told_so = sym (append-nil told.puts); same = λ name h. refl }
+
+needs_no_store : (answer : Answer) → NeedsMemory answer → answer ≡ StoreFault → ⊥
+needs_no_store answer n e = subst NeedsMemory e n
+
+pub left_memory : (answer : Answer) (told : Told) (new : Option Told) → NeedsMemory answer → IsSomeAnd new (LeavesRest answer told) → IsSomeAnd new (LeavesRest NoMemory told)
+left_memory answer told None n h = absurd h
+left_memory answer told (Some left) n h = record {
+  put = h.put;
+  removed = h.removed;
+  failed = h.failed;
+  own = h.own;
+  modules = h.modules;
+  one = h.one;
+  none = λ e. h.none (needs_no_store answer n);
+  told_so = h.told_so;
+  same = h.same;
+}
+
 pub changes_none : (told : Told) → MakesSome NoMemory told (Some told)
 changes_none told = ([], tt, refl)
 

@@ -21,7 +21,7 @@ use Rattle.pw_session.specs.FromDriving.Driving.{KeepsUnput, Unput}
 use Rattle.pw_top.specs.Commands.{EndsScript, KeepsTheRest, opts_of}
 use Rattle.pw_top.specs.Does.{Does, DoesAs}
 use Rattle.pw_top.proofs.DoesLemmas.{memory_here, out_part}
-use Rattle.pw_top.proofs.SessionLemmas.{session_memory_here, session_no_memory, some_memory}
+use Rattle.pw_top.proofs.SessionLemmas.{left_memory, session_memory_here, session_no_memory, some_memory}
 use Rattle.pw_top.proofs.CommandLemmas.{BuildsEnd, Comes, RunsEnd, comes_ends}
 
 refused_is_some_memory : (name : List ℕ) (refusal : Refusal) → Refused name refusal ≡ NoMemory → ⊥
@@ -213,7 +213,7 @@ rest_memory : (command : Option Command) (answer : Answer) (old new : Option Tol
 rest_memory (Some (BuildAll colours stack)) answer None new n h = tt
 rest_memory (Some (BuildAll colours stack)) answer (Some told) new n h = unput_memory answer told new n h
 rest_memory (Some (Session colours stack steps)) answer None new n h = tt
-rest_memory (Some (Session colours stack steps)) answer (Some told) new n h = some_memory answer told new n h
+rest_memory (Some (Session colours stack steps)) answer (Some told) new n h = (some_memory answer told new n h.0, left_memory answer told new n h.1)
 rest_memory command answer old new n h = h
 
 pub rest_told : (command : Option Command) (old new : Option Told) (answer last : Answer) → ToldAs answer last → KeepsTheRest command answer old new → KeepsTheRest command last old new

@@ -18,6 +18,7 @@ ghost use Rattle.pw_words.specs.Limits.{IsWithin};
 use pw_answer::{Answer, Reply, tell};
 use pw_build_laws::a_build_leaves_the_whole_program;
 use pw_compiling::{compile_flow, compile_text};
+use pw_io::laws::other_files;
 use pw_io::{Sink, Source, Store};
 use pw_run_laws::{
     analyse_modules, builds_agree, go, link_modules, list_image, refusals_are_due, run_image,
@@ -64,6 +65,7 @@ fn obey<S: Store, I: Source, O: Sink>(
     ensures line { IfSome (S.told store.old) (λ told. IsLine (line_of (Some command.now) told.files) result.answer result.line) }
 {
     genuine_files_keep_genuine();
+    other_files();
     match command {
         Command::Go { steps, .. } => go(alloc, store, *steps, input, out),
         Command::Build { colours, stack } => build_modules(

@@ -1,7 +1,6 @@
-use Rattle.std.proofs.Common.{◌≡◌, ◌∙◌, ℕ, List, ap, arith, length, map, subst, sym}
+use Rattle.std.proofs.Common.{◌≡◌, ◌∙◌, ℕ, List, ap, arith, length, map, subst}
 use Rattle.std.specs.List.{AllZip}
 use Rattle.std.proofs.lemmas.List.{length-map}
-use Rattle.pw_graph.specs.declared.eligible.Scalar.{Scalar}
 use Rattle.pw_graph.specs.Making.{home, scalar, target, IsCallRow, ref_row}
 use Rattle.pw_graph.proofs.Made.{names_one}
 use Rattle.pw_graph.proofs.building.rows_of.Goals as goal

@@ -1,4 +1,4 @@
-use Rattle.std.proofs.Common.{◌≡◌, ◌++◌, map, take}
+use Rattle.std.proofs.Common.{◌≡◌, ◌++◌, take}
 use Rattle.std.specs.List.{flat_map}
 use Rattle.pw_summarise.specs.Summarises.{called_shape}
 use Rattle.pw_summarise.proofs.shapes.add_blocks.Given as goal

@@ -1,4 +1,4 @@
-use Rattle.std.proofs.Common.{map, take, sym, subst, ◌∙◌}
+use Rattle.std.proofs.Common.{take, sym, subst, ◌∙◌}
 use Rattle.std.proofs.lemmas.List.{map-id}
 use Rattle.pw_files.specs.Rising.{IsRising}
 use Rattle.pw_summarise.specs.Tallies.{with_op, with_ops}

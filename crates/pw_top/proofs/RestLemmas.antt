@@ -8,9 +8,9 @@ use Rattle.pw_modules.specs.Modules.{IsModuleFile}
 use Rattle.pw_answer.specs.declared.answer.Answer.{Answer}
 use Rattle.pw_answer.specs.declared.answer.Answer.TheVariants.{StoreFault}
 use Rattle.pw_answer.specs.Effects.{NamedFile}
-use Rattle.pw_commands.specs.Others.{IsNoneOf, IsSameBut}
+use Rattle.pw_run_laws.specs.FromCommands.Others.{IsNoneOf, IsSameBut}
 use Rattle.pw_session.specs.Changes.{AreOwnChanges, Change, ChangePart, IsChanged, MakesSome, Puts, Removes, after_change, after_changes}
-use Rattle.pw_session_laws.specs.Rest.{IsPutName, LeavesRest}
+use Rattle.pw_top.specs.Rest.{IsPutName, LeavesRest}
 
 -- a change of one file is none of any other
 pub record Laws : Type 0 where
