@@ -4,7 +4,7 @@ ghost use Rattle.std.specs.Prelude.{◌≡◌, ◌+◌, Err, IfErr, IfOk, IfSome
 ghost use Rattle.pw_answer.specs.Effects.{PutsFiles};
 ghost use Rattle.pw_kept.specs.Files.{changed_files};
 ghost use Rattle.pw_building.specs.Genuine.{KeepsGenuine, LeavesOthers};
-ghost use Rattle.pw_building.specs.Outcomes.{AreOpts, FaultCount, IsLineOfBuild, IsOfStore, ObeysBuild, PutsSome, Reports, build_answer, outcome_of};
+ghost use Rattle.pw_building.specs.Outcomes.{AreOpts, FaultCount, IsLineOfBuild, IsNoWant, IsOfStore, ObeysBuild, PutsSome, Reports, build_answer, outcome_of};
 
 use crate::laws::a_store_has_one_build;
 use crate::prepared::prepare;
@@ -72,6 +72,7 @@ pub fn build<S: Store, L: Ledger>(
     ensures others { IfSome (S.told store.old) (λ told. PutsSome (build_answer result) told (S.told store.new)) }
     ensures rest { IfSome (S.told store.old) (λ told. LeavesOthers told (S.told store.new)) }
     ensures genuine { IfSome (S.told store.old) (λ told. KeepsGenuine told.files → IfSome (S.told store.new) (λ now. KeepsGenuine now.files)) }
+    ensures proper { IfErr result (λ unbuilt. IsNoWant unbuilt.fault) }
     ensures counted { IfOk result (λ report. steps.new ≡ steps.old + length report.rebuilt.items) }
     ensures count { FaultCount (S.faults store.old) (S.faults store.new) result }
 {

@@ -1,8 +1,10 @@
 -- The files of a program of modules, and the faults that may come in their place.
-use Rattle.std.specs.Prelude.{◌≡◌, ℕ, List, length, map, Option, Result, Ok, Err}
+use Rattle.std.specs.Prelude.{◌≡◌, ◌≢◌, ℕ, List, length, map, Option, Result, Ok, Err}
 use Rattle.pw_answer.specs.declared.answer.Answer.{Answer}
 use Rattle.pw_answer.specs.declared.answer.Answer.TheVariants as answer
 use Rattle.pw_answer.specs.Outcomes.{StoreCount}
+use Rattle.pw_value.specs.declared.fault.LinkFault.TheVariants as link
+use Rattle.pw_front.specs.Fronts.{HoldsNoWant}
 use Rattle.pw_db.specs.Database.{IsDatabaseFile}
 use Rattle.pw_image.specs.Image.{IsImageFile}
 use Rattle.pw_link.specs.Linking.{linked}
@@ -32,6 +34,13 @@ abbrev pub FaultComes : {V : Type 0} → Result V BuildFault → BuildFault → 
 FaultComes comes build.StoreFault = Unit {0}
 FaultComes comes build.NoMemory = Unit {0}
 FaultComes comes fault = comes ≡ Err fault
+
+-- a refusal is never one for want of memory
+abbrev pub IsNoWant : BuildFault → Type 0
+IsNoWant (build.Refused name refusal) = HoldsNoWant refusal
+IsNoWant (build.LinkRefused fault) = fault ≢ link.NoMemory
+IsNoWant build.StoreFault = Unit {0}
+IsNoWant build.NoMemory = Unit {0}
 
 -- a store's count of faults, where a value came or a fault in its place
 abbrev pub FaultCount : {T : Type 0} → ℕ → ℕ → Result T Unbuilt → Type 0
