@@ -1,5 +1,5 @@
 -- What a build comes to as far as its puts.
-use Rattle.std.proofs.Common.{◌≡◌, ◌⊎◌, inl, inr, ℕ, Bool, true, false, not, cond, List, [], ◌∷◌, ◌++◌, codes, length, map, Option, Some, None, Result, Ok, Err, refl, sym, ap, ◌∙◌, subst}
+use Rattle.std.proofs.Common.{◌≡◌, ◌⊎◌, inl, inr, arith, ℕ, Bool, true, false, not, cond, List, [], ◌∷◌, ◌++◌, codes, length, map, Option, Some, None, Result, Ok, Err, refl, sym, ap, ◌∙◌, subst}
 use Rattle.std.specs.Prelude.{IfErr, IfSome}
 use Rattle.std.proofs.lemmas.List.{length-map}
 use Rattle.pw_io.specs.Files.{Files, Told, Keeps}
@@ -28,7 +28,8 @@ use Rattle.pw_kept.specs.Files.{AreObjectFiles, HoldBytes, IsCompared, file_view
 use Rattle.pw_building.specs.Building.{BuildComes, if_changed, kept_objects}
 use Rattle.pw_filing.specs.Programs.{BuildsFiles, FaultBuilds, FaultComes}
 use Rattle.pw_filing.proofs.ProgramLemmas.{names_by, no_line, stored}
-use Rattle.pw_building.specs.Outcomes.{FaultFound, IsNoWant, IsOfStore, outcome_of}
+use Rattle.pw_making.specs.Counting.{CountsUpTo}
+use Rattle.pw_building.specs.Outcomes.{FaultFound, IsCounted, IsNoWant, IsOfStore, outcome_of}
 
 -- ---- the names of modules
 
@@ -157,3 +158,20 @@ of_store_no_want (Err unbuilt) h = by_fault unbuilt.fault h
     by_fault build.NoMemory h = tt
     by_fault (build.Refused name refusal) h = absurd h
     by_fault (build.LinkRefused fault) h = absurd h
+
+-- ---- what is counted
+
+pub counted_told : (first : Option Told) (sources : List Source) (before now : ℕ) → IfSome first (λ told. sources ≡ modules_of told.files) → IsCounted (first_phases sources) before now → IfSome first (λ told. IsCounted (first_phases (modules_of told.files)) before now)
+counted_told None sources before now e h = tt
+counted_told (Some told) sources before now e h = subst (λ (s : List Source). IsCounted (first_phases s) before now) e h
+
+nothing_counted : (phases : Result (List FlowModule) BuildFault) (n : ℕ) → IsCounted phases n n
+nothing_counted (Err fault) n = refl
+nothing_counted (Ok flows) n = record { least = omega arith; bound = omega arith }
+
+pub none_counted : (first : Option Told) (n : ℕ) → IfSome first (λ told. IsCounted (first_phases (modules_of told.files)) n n)
+none_counted None n = tt
+none_counted (Some told) n = nothing_counted (first_phases (modules_of told.files)) n
+
+pub none_more : (most n : ℕ) → CountsUpTo most n n
+none_more most n = record { least = omega arith; bound = omega arith }
