@@ -1,1 +1,3 @@
 mod WholeLemmas
+mod KeptLemmas
+mod AgainLemmas

@@ -1,5 +1,5 @@
 -- What stands in a store's files after a build.
-use Rattle.std.proofs.Common.{◌≡◌, ◌≢◌, ℕ, zero, suc, ◌+◌, Bool, true, false, List, [], ◌∷◌, ◌++◌, codes, length, take, drop, Option, Some, None, Result, Ok, Err, refl, sym, ap, ◌∙◌, subst, arith, length-append}
+use Rattle.std.proofs.Common.{◌≡◌, ◌≢◌, ℕ, zero, suc, ◌+◌, true, false, List, [], ◌∷◌, ◌++◌, codes, length, take, drop, Option, Some, None, Result, Ok, refl, sym, ap, ◌∙◌, subst, arith, length-append}
 use Rattle.std.specs.List.{AllByRecursion}
 use Rattle.std.specs.Prelude.{if◌then◌else◌}
 use Rattle.std.specs.FinMap as finite
@@ -28,21 +28,21 @@ pub record FileLaws : Type 0 where
 
 -- ---- files that are not put
 
-get_other : FileLaws → (told : Told) (files : List NamedFile) (name : List ℕ) → AllByRecursion (λ file. name ≢ file.0) files → finite.get (after_puts told files).files name ≡ finite.get told.files name
+pub get_other : FileLaws → (told : Told) (files : List NamedFile) (name : List ℕ) → AllByRecursion (λ file. name ≢ file.0) files → finite.get (after_puts told files).files name ≡ finite.get told.files name
 get_other laws told [] name h = refl
 get_other laws told (file ∷ files) name h = get_other laws (after_put told file.0 file.1) files name h.1 ∙ laws.insertion told.files file.0 file.1 name h.0
 
-after_both : (told : Told) (xs ys : List NamedFile) → after_puts told (xs ++ ys) ≡ after_puts (after_puts told xs) ys
+pub after_both : (told : Told) (xs ys : List NamedFile) → after_puts told (xs ++ ys) ≡ after_puts (after_puts told xs) ys
 after_both told [] ys = refl
 after_both told (x ∷ xs) ys = after_both (after_put told x.0 x.1) xs ys
 
-objects_apart : (made : List (List ℕ × Object)) (files : List NamedFile) (name : List ℕ) → ((n : List ℕ) → object_name n ≡ name → ⊥) → AreObjectFiles made files → AllByRecursion (λ file. name ≢ file.0) files
+pub objects_apart : (made : List (List ℕ × Object)) (files : List NamedFile) (name : List ℕ) → ((n : List ℕ) → object_name n ≡ name → ⊥) → AreObjectFiles made files → AllByRecursion (λ file. name ≢ file.0) files
 objects_apart [] [] name apart h = tt
 objects_apart [] (f ∷ fs) name apart h = absurd h
 objects_apart (m ∷ ms) [] name apart h = absurd h
 objects_apart (m ∷ ms) (f ∷ fs) name apart h = ((λ e. apart m.0 (sym (e ∙ h.0))), objects_apart ms fs name apart h.2)
 
-changed_apart : (old : Files) (name bytes other : List ℕ) → other ≢ name → AllByRecursion (λ (file : NamedFile). other ≢ file.0) (if_changed old name bytes)
+pub changed_apart : (old : Files) (name bytes other : List ℕ) → other ≢ name → AllByRecursion (λ (file : NamedFile). other ≢ file.0) (if_changed old name bytes)
 changed_apart old name bytes other apart =
     elim (is_same (kept_bytes old name) bytes) as (λ b. AllByRecursion (λ (file : NamedFile). other ≢ file.0) (if b then [] else (name, bytes) ∷ [])) [
       | true ↦ tt
@@ -90,13 +90,13 @@ first_is a b xs ys e = cc
 rest_is : (a b : ℕ) (xs ys : List ℕ) → a ∷ xs ≡ b ∷ ys → xs ≡ ys
 rest_is a b xs ys e = cc
 
-no_database : (name : List ℕ) → object_name name ≡ codes "prog.db" → ⊥
+pub no_database : (name : List ℕ) → object_name name ≡ codes "prog.db" → ⊥
 no_database name e = differ (apart_at name (codes "prog.db") (codes "g.db") 3 refl refl e)
   where
     differ : codes ".obj" ≡ codes "g.db" → ⊥
     differ e = let h : 46 ≡ 103 = first_is 46 103 _ _ e in omega (arith, h)
 
-no_image : (name : List ℕ) → object_name name ≡ codes "prog.img" → ⊥
+pub no_image : (name : List ℕ) → object_name name ≡ codes "prog.img" → ⊥
 no_image name e = differ (apart_at name (codes "prog.img") (codes ".img") 4 refl refl e)
   where
     differ : codes ".obj" ≡ codes ".img" → ⊥
@@ -107,8 +107,9 @@ two_names e = let h : 7 ≡ 8 = ap length e in omega (arith, h)
 
 -- ---- the build
 
-holds_program : FileLaws → (told : Told) (stack : ℕ) (parts : Parts) (outcome : Outcome) → IsOutcome told.files stack parts outcome → HoldsProgram parts stack (after_puts told outcome.puts).files
-holds_program laws told stack parts outcome o =
+-- both files of the program stand there
+pub both_stand : FileLaws → (told : Told) (stack : ℕ) (parts : Parts) (outcome : Outcome) (o : IsOutcome told.files stack parts outcome) → HoldsFile (after_puts told outcome.puts).files (codes "prog.db") o.database × HoldsFile (after_puts told outcome.puts).files (codes "prog.img") outcome.image
+both_stand laws told stack parts outcome o =
     let db : List ℕ = codes "prog.db" in
     let img : List ℕ = codes "prog.img" in
     let first : Told = after_puts told o.objects in
@@ -124,14 +125,20 @@ holds_program laws told stack parts outcome o =
     get_other laws first (if_changed told.files db o.database) img (changed_apart told.files db o.database img (λ e. two_names (sym e))) in
     let db_third : finite.get third.files db ≡ finite.get second.files db =
     get_other laws second (if_changed told.files img outcome.image) db (changed_apart told.files img outcome.image db two_names) in
-    subst (λ (t : Told). HoldsProgram parts stack t.files) (sym all) (record {
+    subst (λ (t : Told). HoldsFile t.files db o.database × HoldsFile t.files img outcome.image) (sym all)
+    (ap counted db_third ∙ db_second, changed_holds laws told.files second img outcome.image (img_second ∙ img_first))
+
+holds_program : FileLaws → (told : Told) (stack : ℕ) (parts : Parts) (outcome : Outcome) → IsOutcome told.files stack parts outcome → HoldsProgram parts stack (after_puts told outcome.puts).files
+holds_program laws told stack parts outcome o =
+    let both = both_stand laws told stack parts outcome o in
+    record {
       database = o.database;
       database_file = o.database_file;
-      database_stands = ap counted db_third ∙ db_second;
+      database_stands = both.0;
       image = outcome.image;
       image_file = (o.image_names, o.image_file);
-      image_stands = changed_holds laws told.files second img outcome.image (img_second ∙ img_first);
-    })
+      image_stands = both.1;
+    }
 
 all_anew : (parts : Parts) (stack : ℕ) (files : Files) → HoldsProgram parts stack files → HoldsProgram (all_fresh parts) stack files
 all_anew parts stack files h = record {

@@ -1,15 +1,20 @@
 //! Laws of what a build leaves. A function here does nothing: its clauses are facts about all values.
 
-ghost use Rattle.std.specs.Prelude.{ℕ, Ok};
-ghost use Rattle.pw_io.specs.Files.{Told};
-ghost use Rattle.pw_modules.specs.Modules.{module_map};
+ghost use Rattle.std.specs.Prelude.{◌≡◌, ℕ, List, Ok, Some};
+ghost use Rattle.std.specs.FinMap as finite;
+ghost use Rattle.pw_io.specs.Files.{Files, Told};
+ghost use Rattle.pw_modules.specs.Modules.{module_map, modules_of};
 ghost use Rattle.pw_answer.specs.Effects.{after_puts};
-ghost use Rattle.pw_building.specs.Building.{BuildComes, Outcome};
+ghost use Rattle.pw_making.specs.Programs.{Parts};
+ghost use Rattle.pw_building.specs.FromBuild.Builds.{Builds};
+ghost use Rattle.pw_building.specs.Building.{BuildComes, IsOutcome, Outcome, kept_objects};
 ghost use Rattle.pw_building.specs.Genuine.{KeepsGenuine};
+ghost use Rattle.pw_build_laws.specs.Kept.{FitsWhole, KeepsObjects, unchanged};
 ghost use Rattle.pw_build_laws.specs.Whole.{HoldsBuild, HoldsFullBuild};
 
 use pw_building::genuine_objects_give_the_full_build;
-use pw_io::laws::other_files;
+use pw_io::laws::{front, other_files};
+use pw_modules::modules_are_exact;
 
 /// A build leaves the database and the image of the program to which the modules and what was kept of them come, whatever
 /// was kept.
@@ -25,5 +30,26 @@ pub fn a_build_leaves_the_whole_program()
     ensures { (told : Told) (colours stack : ℕ) (outcome : Outcome) → KeepsGenuine told.files → BuildComes told.files colours stack (Ok outcome) → HoldsFullBuild (module_map told.files) colours stack (after_puts told outcome.puts).files }
 {
     genuine_objects_give_the_full_build();
+    other_files();
+}
+
+/// A build leaves the modules as they were, and the objects of its program kept under the modules' names, where kept files can
+/// hold them.
+pub fn a_build_keeps_its_objects()
+    ensures { (told : Told) (colours stack : ℕ) (parts : Parts) (outcome : Outcome) → Builds (modules_of told.files) (kept_objects told.files) colours stack (Ok parts) → IsOutcome told.files stack parts outcome → KeepsObjects told.files (after_puts told outcome.puts).files parts }
+{
+    front();
+    modules_are_exact();
+    other_files();
+}
+
+/// A build over what a build left makes nothing anew and puts nothing, where kept files can hold what was made; and a text that
+/// is put where it stands already leaves the files as they are. So an edit that changes nothing rebuilds nothing.
+pub fn a_build_again_makes_nothing()
+    ensures again { (told : Told) (colours stack : ℕ) (parts : Parts) (outcome : Outcome) → Builds (modules_of told.files) (kept_objects told.files) colours stack (Ok parts) → IsOutcome told.files stack parts outcome → FitsWhole parts outcome → BuildComes (after_puts told outcome.puts).files colours stack (Ok (unchanged outcome)) }
+    ensures same_text { (files : Files) (name text : List ℕ) → finite.get files name ≡ Some text → finite.insert files name text ≡ files }
+{
+    front();
+    modules_are_exact();
     other_files();
 }

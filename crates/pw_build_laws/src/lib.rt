@@ -3,4 +3,7 @@
 
 mod laws;
 
-pub use laws::{a_build_leaves_its_program, a_build_leaves_the_whole_program};
+pub use laws::{
+    a_build_again_makes_nothing, a_build_keeps_its_objects, a_build_leaves_its_program,
+    a_build_leaves_the_whole_program,
+};

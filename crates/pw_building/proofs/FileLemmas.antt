@@ -1,9 +1,10 @@
 -- What a build comes to as far as its puts.
-use Rattle.std.proofs.Common.{◌≡◌, ◌⊎◌, inl, inr, ℕ, Bool, true, false, not, cond, List, [], ◌∷◌, ◌++◌, codes, length, map, Option, Some, None, Result, Ok, Err, refl, sym, ap, ◌∙◌, subst}
-use Rattle.std.specs.Prelude.{IfSome}
+use Rattle.std.proofs.Common.{◌≡◌, ◌⊎◌, inl, inr, arith, ℕ, Bool, true, false, not, cond, List, [], ◌∷◌, ◌++◌, codes, length, map, Option, Some, None, Result, Ok, Err, refl, sym, ap, ◌∙◌, subst}
+use Rattle.std.specs.Prelude.{IfErr, IfSome}
 use Rattle.std.proofs.lemmas.List.{length-map}
 use Rattle.pw_io.specs.Files.{Files, Told, Keeps}
 use Rattle.pw_io.specs.declared.StoreError.{StoreError}
+use Rattle.pw_io.specs.declared.StoreError.TheVariants as store
 use Rattle.pw_db.specs.Database.{IsDatabaseFile}
 use Rattle.pw_object.specs.declared.object.Object.{Object}
 use Rattle.pw_image.specs.Image.{IsImageFile}
@@ -27,7 +28,8 @@ use Rattle.pw_kept.specs.Files.{AreObjectFiles, HoldBytes, IsCompared, file_view
 use Rattle.pw_building.specs.Building.{BuildComes, if_changed, kept_objects}
 use Rattle.pw_filing.specs.Programs.{BuildsFiles, FaultBuilds, FaultComes}
 use Rattle.pw_filing.proofs.ProgramLemmas.{names_by, no_line, stored}
-use Rattle.pw_building.specs.Outcomes.{FaultFound, outcome_of}
+use Rattle.pw_making.specs.Counting.{CountsUpTo}
+use Rattle.pw_building.specs.Outcomes.{FaultFound, IsCounted, IsNoWant, IsOfStore, outcome_of}
 
 -- ---- the names of modules
 
@@ -140,3 +142,36 @@ found_none opts (Some told) ms error fault e = λ sources. found_nothing opts (S
 pub line_none : (first : Option Told) (ms : List Module) (error : StoreError) (fault : BuildFault) (line : ℕ) → fault ≡ store_fault error → IfSome first (λ told. map source ms ≡ modules_of told.files → IsLine (refused_line (modules_of told.files)) fault line)
 line_none None ms error fault line e = tt
 line_none (Some told) ms error fault line e = λ sources. no_line (refused_line (modules_of told.files)) fault line (stored error fault e)
+
+-- ---- a refusal is none for want of memory
+
+pub stored_no_want : (error : StoreError) (fault : BuildFault) → fault ≡ store_fault error → IsNoWant fault
+stored_no_want store.Failed fault e = subst IsNoWant (sym e) tt
+stored_no_want store.NoMemory fault e = subst IsNoWant (sym e) tt
+
+pub of_store_no_want : {T : Type 0} (result : Result T Unbuilt) → IfErr result (λ unbuilt. IsOfStore unbuilt.fault) → IfErr result (λ unbuilt. IsNoWant unbuilt.fault)
+of_store_no_want (Ok value) h = tt
+of_store_no_want (Err unbuilt) h = by_fault unbuilt.fault h
+  where
+    by_fault : (fault : BuildFault) → IsOfStore fault → IsNoWant fault
+    by_fault build.StoreFault h = tt
+    by_fault build.NoMemory h = tt
+    by_fault (build.Refused name refusal) h = absurd h
+    by_fault (build.LinkRefused fault) h = absurd h
+
+-- ---- what is counted
+
+pub counted_told : (first : Option Told) (sources : List Source) (before now : ℕ) → IfSome first (λ told. sources ≡ modules_of told.files) → IsCounted (first_phases sources) before now → IfSome first (λ told. IsCounted (first_phases (modules_of told.files)) before now)
+counted_told None sources before now e h = tt
+counted_told (Some told) sources before now e h = subst (λ (s : List Source). IsCounted (first_phases s) before now) e h
+
+nothing_counted : (phases : Result (List FlowModule) BuildFault) (n : ℕ) → IsCounted phases n n
+nothing_counted (Err fault) n = refl
+nothing_counted (Ok flows) n = record { least = omega arith; bound = omega arith }
+
+pub none_counted : (first : Option Told) (n : ℕ) → IfSome first (λ told. IsCounted (first_phases (modules_of told.files)) n n)
+none_counted None n = tt
+none_counted (Some told) n = nothing_counted (first_phases (modules_of told.files)) n
+
+pub none_more : (most n : ℕ) → CountsUpTo most n n
+none_more most n = record { least = omega arith; bound = omega arith }

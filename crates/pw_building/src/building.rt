@@ -1,10 +1,14 @@
 //! The build.
 
 ghost use Rattle.std.specs.Prelude.{◌≡◌, ◌+◌, Err, IfErr, IfOk, IfSome, length};
+ghost use Rattle.pw_value.specs.Limits.{module_limit};
+ghost use Rattle.pw_modules.specs.Modules.{modules_of};
 ghost use Rattle.pw_answer.specs.Effects.{PutsFiles};
+ghost use Rattle.pw_making.specs.Counting.{CountsUpTo};
+ghost use Rattle.pw_filing.specs.FromBuild.Builds.{first_phases};
 ghost use Rattle.pw_kept.specs.Files.{changed_files};
 ghost use Rattle.pw_building.specs.Genuine.{KeepsGenuine, LeavesOthers};
-ghost use Rattle.pw_building.specs.Outcomes.{AreOpts, FaultCount, IsLineOfBuild, IsOfStore, ObeysBuild, PutsSome, Reports, build_answer, outcome_of};
+ghost use Rattle.pw_building.specs.Outcomes.{AreOpts, FaultCount, IsCounted, IsLineOfBuild, IsNoWant, IsOfStore, ObeysBuild, PutsSome, Reports, build_answer, outcome_of};
 
 use crate::laws::a_store_has_one_build;
 use crate::prepared::prepare;
@@ -72,7 +76,10 @@ pub fn build<S: Store, L: Ledger>(
     ensures others { IfSome (S.told store.old) (λ told. PutsSome (build_answer result) told (S.told store.new)) }
     ensures rest { IfSome (S.told store.old) (λ told. LeavesOthers told (S.told store.new)) }
     ensures genuine { IfSome (S.told store.old) (λ told. KeepsGenuine told.files → IfSome (S.told store.new) (λ now. KeepsGenuine now.files)) }
+    ensures proper { IfErr result (λ unbuilt. IsNoWant unbuilt.fault) }
     ensures counted { IfOk result (λ report. steps.new ≡ steps.old + length report.rebuilt.items) }
+    ensures bound { IfSome (S.told store.old) (λ told. IsCounted (first_phases (modules_of told.files)) steps.old steps.new) }
+    ensures most { CountsUpTo module_limit steps.old steps.new }
     ensures count { FaultCount (S.faults store.old) (S.faults store.new) result }
 {
     a_store_has_one_build();

@@ -5,11 +5,14 @@ ghost use Rattle.std.specs.List.{AllByRecursion};
 ghost use Rattle.pw_io.specs.Files.{Keeps};
 ghost use Rattle.pw_modules.specs.Modules.{modules_of};
 ghost use Rattle.pw_modules.specs.Views.{source};
+ghost use Rattle.pw_value.specs.Limits.{module_limit};
+ghost use Rattle.pw_making.specs.Counting.{CountsUpTo};
+ghost use Rattle.pw_filing.specs.FromBuild.Builds.{first_phases};
 ghost use Rattle.pw_filing.specs.FromBuild.Phases.{IsLine, refused_line};
 ghost use Rattle.pw_kept.specs.Files.{changed_files};
 ghost use Rattle.pw_building.specs.Building.{BuildComes};
 ghost use Rattle.pw_building.specs.Genuine.{IsOwnFile};
-ghost use Rattle.pw_building.specs.Outcomes.{AreOpts, FaultCount, FaultFound, outcome_of};
+ghost use Rattle.pw_building.specs.Outcomes.{AreOpts, FaultCount, FaultFound, IsCounted, IsNoWant, outcome_of};
 
 use crate::report::Opts;
 use pw_filing::{Unbuilt, few_modules, program_of};
@@ -21,6 +24,7 @@ use std::alloc::Global;
 use std::sync::ledger::Ledger;
 
 /// What modules come to, where they are those of the store, before the files are put.
+#[tactic(auto, using(crate::proofs::FileLemmas::stored_no_want))]
 fn prepared_of<S: Store, L: Ledger>(
     alloc: Global,
     store: &mut S,
@@ -34,6 +38,9 @@ fn prepared_of<S: Store, L: Ledger>(
     ensures fault { IfSome (S.told store.old) (λ told. map source modules.now ≡ modules_of told.files → IfErr result (λ unbuilt. FaultFound told.files opts.now unbuilt.fault)) }
     ensures line { IfSome (S.told store.old) (λ told. map source modules.now ≡ modules_of told.files → IfErr result (λ unbuilt. IsLine (refused_line (modules_of told.files)) unbuilt.fault unbuilt.line)) }
     ensures counted { IfOk result (λ prepared. steps.new ≡ steps.old + length prepared.rebuilt.items) }
+    ensures bound { IsCounted (first_phases (map source modules.now)) steps.old steps.new }
+    ensures most { CountsUpTo module_limit steps.old steps.new }
+    ensures proper { IfErr result (λ unbuilt. IsNoWant unbuilt.fault) }
     ensures same { Keeps (S.told store.old) (S.told store.new) }
     ensures count { FaultCount (S.faults store.old) (S.faults store.new) result }
 {
@@ -56,6 +63,9 @@ pub fn prepare<S: Store, L: Ledger>(
     ensures fault { IfSome (S.told store.old) (λ told. IfErr result (λ unbuilt. FaultFound told.files opts.now unbuilt.fault)) }
     ensures line { IfSome (S.told store.old) (λ told. IfErr result (λ unbuilt. IsLine (refused_line (modules_of told.files)) unbuilt.fault unbuilt.line)) }
     ensures counted { IfOk result (λ prepared. steps.new ≡ steps.old + length prepared.rebuilt.items) }
+    ensures bound { IfSome (S.told store.old) (λ told. IsCounted (first_phases (modules_of told.files)) steps.old steps.new) }
+    ensures most { CountsUpTo module_limit steps.old steps.new }
+    ensures proper { IfErr result (λ unbuilt. IsNoWant unbuilt.fault) }
     ensures same { Keeps (S.told store.old) (S.told store.new) }
     ensures count { FaultCount (S.faults store.old) (S.faults store.new) result }
 {

@@ -16,8 +16,8 @@ use Rattle.pw_commands.specs.Outcome.{IsFound, IsPutAnswer, IsStop, Obeys}
 use Rattle.pw_commands.specs.Linking.{ComesOfObjects, IsImageOf, LinkComes, LinkOver, LinkedFile, LinksInto, LinksOver, RefusesLink, objects_of}
 
 found_from : (comes : Effect → Type 0) (one : Effect) (answer : Answer) → comes one → Answers one.answer answer → IsFound comes answer
-found_from comes one ReadFault c h = tt
-found_from comes one WriteFault c h = tt
+found_from comes one ReadFault c h = (one, c)
+found_from comes one WriteFault c h = (one, c)
 found_from comes one StoreFault c h = tt
 found_from comes one NoMemory c h = tt
 found_from comes one _ c h = (one, c, h)

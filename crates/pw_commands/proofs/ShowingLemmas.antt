@@ -40,8 +40,8 @@ fault_out wanted answer taken w = record { output = []; more = wanted; taken = a
 -- ---- a command that comes to one effect
 
 found_from : (comes : Effect → Type 0) (one : Effect) (answer : Answer) → comes one → Answers one.answer answer → IsFound comes answer
-found_from comes one ReadFault c h = tt
-found_from comes one WriteFault c h = tt
+found_from comes one ReadFault c h = (one, c)
+found_from comes one WriteFault c h = (one, c)
 found_from comes one StoreFault c h = tt
 found_from comes one NoMemory c h = tt
 found_from comes one _ c h = (one, c, h)

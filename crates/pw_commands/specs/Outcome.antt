@@ -1,15 +1,16 @@
 -- What a command that needs no input answers and leaves of the store.
-use Rattle.std.specs.Prelude.{◌≡◌, ℕ, List, Option, Result, Ok, Err}
+use Rattle.std.specs.Prelude.{◌≡◌, ◌≢◌, ℕ, List, Option, Result, Ok, Err}
 use Rattle.pw_io.specs.Files.{Told}
+use Rattle.pw_value.specs.declared.fault.LinkFault.TheVariants as link
 use Rattle.pw_answer.specs.declared.answer.Answer.{Answer}
 use Rattle.pw_answer.specs.declared.answer.Answer.TheVariants.{Done, LinkRefused, ReadFault, WriteFault, StoreFault, NoMemory, BadFile}
 use Rattle.pw_answer.specs.Effects.{Effect, PutsFiles}
 use Rattle.pw_answer.specs.Outcomes.{Answers, StoreCount}
 
--- the answers of a command that touches the store alone
+-- the answers of a command that touches the store alone; a refusal is none for want of memory
 abbrev pub IsStoreAnswer : Answer → Type 0
 IsStoreAnswer Done = Unit {0}
-IsStoreAnswer (LinkRefused fault) = Unit {0}
+IsStoreAnswer (LinkRefused fault) = fault ≢ link.NoMemory
 IsStoreAnswer StoreFault = Unit {0}
 IsStoreAnswer NoMemory = Unit {0}
 IsStoreAnswer (BadFile name at) = Unit {0}
@@ -17,7 +18,7 @@ IsStoreAnswer _ = ⊥
 
 -- the answers that stand in place of a value: those but `Done`
 abbrev pub IsStop : Answer → Type 0
-IsStop (LinkRefused fault) = Unit {0}
+IsStop (LinkRefused fault) = fault ≢ link.NoMemory
 IsStop StoreFault = Unit {0}
 IsStop NoMemory = Unit {0}
 IsStop (BadFile name at) = Unit {0}
@@ -30,10 +31,11 @@ IsFileStop NoMemory = Unit {0}
 IsFileStop (BadFile name at) = Unit {0}
 IsFileStop _ = ⊥
 
--- the command comes to something with that answer, where it is no fault and no want of memory
+-- The command comes to something, also where its input or output had a fault then; with that answer, where it is no fault.
+-- A fault of the store and want of memory may come before.
 abbrev pub IsFound : (Effect → Type 0) → Answer → Type 0
-IsFound comes ReadFault = Unit {0}
-IsFound comes WriteFault = Unit {0}
+IsFound comes ReadFault = (effect : Effect) × comes effect
+IsFound comes WriteFault = (effect : Effect) × comes effect
 IsFound comes StoreFault = Unit {0}
 IsFound comes NoMemory = Unit {0}
 IsFound comes answer = (effect : Effect) × comes effect × (effect.answer ≡ answer)

@@ -39,6 +39,7 @@ pub fn put_file<S: Store>(alloc: Global, store: &mut S, name: &str, bytes: &[u8]
 fn image_file(alloc: Global, objects: &[Object], stack: u32) -> Result<Vec<u8>, Answer>
     requires lawful { AllByRecursion IsObject objects.now }
     ensures image { LinksInto objects.now stack result }
+    ensures stop { IfErr result IsStop }
 {
     linked_images_are_lawful();
     match link(alloc, objects, stack) {

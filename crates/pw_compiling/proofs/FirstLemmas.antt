@@ -3,7 +3,9 @@ use Rattle.std.proofs.Common.{◌≡◌, ℕ, List, Option, Some, None, Result, 
 use Rattle.std.specs.Prelude.{IfOk, IfSome, Vec}
 use Rattle.std.specs.declared.alloc.Global.{Global}
 use Rattle.pw_io.specs.Files.{Told, Keeps}
+use Rattle.pw_front.specs.Fronts.{HoldsNoWant}
 use Rattle.pw_front.specs.Places.{refusal_line}
+use Rattle.pw_front.specs.declared.refusal.Refusal.{Refusal}
 use Rattle.pw_flow.specs.declared.flow.FlowModule.{FlowModule}
 use Rattle.pw_flow.specs.ValidFlow.{IsValid}
 use Rattle.pw_flowfile.specs.FlowFile.{IsFlowFile}
@@ -85,16 +87,20 @@ obeys_replied None name text answer line h = tt
 obeys_replied (Some told) name text answer line h = λ input. so_replied name text (compiled name text) answer line told input h
 
 -- its kind
-phase_kind : (name text : List ℕ) (phase : Phase) (answer : Answer) (line : ℕ) → RepliesPhase name text phase answer line → IsTextStop answer
-phase_kind name text (Ok flow) answer line h = absurd h
-phase_kind name text (Err refusal) answer line h = subst IsTextStop (sym h.0) tt
+phase_kind : (name text : List ℕ) (phase : Phase) (answer : Answer) (line : ℕ) → ((refusal : Refusal) → phase ≡ Err refusal → HoldsNoWant refusal) → RepliesPhase name text phase answer line → IsTextStop answer
+phase_kind name text (Ok flow) answer line law h = absurd h
+phase_kind name text (Err refusal) answer line law h = subst IsTextStop (sym h.0) (law refusal refl)
 
-pub reply_kind : (name text : List ℕ) (phase : Phase) (answer : Answer) (line : ℕ) → Replies name text phase answer line → IsTextStop answer
-reply_kind name text phase NoMemory line h = tt
-reply_kind name text phase _ line h = phase_kind name text phase _ line h
+-- no refusal of a module is one for want of memory
+abbrev pub NoPhaseWants : Type 0
+NoPhaseWants = (name text : List ℕ) (refusal : Refusal) → compiled name text ≡ Err refusal → HoldsNoWant refusal
+
+pub reply_kind : NoPhaseWants → (name text : List ℕ) (answer : Answer) (line : ℕ) → Replies name text (compiled name text) answer line → IsTextStop answer
+reply_kind law name text NoMemory line h = tt
+reply_kind law name text _ line h = phase_kind name text (compiled name text) _ line (law name text) h
 
 pub text_stop_is : (answer : Answer) → IsTextStop answer → IsPhaseAnswer answer
-text_stop_is (Refused name refusal) h = tt
+text_stop_is (Refused name refusal) h = h
 text_stop_is NoMemory h = tt
 text_stop_is _ h = absurd h
 

@@ -1,6 +1,7 @@
 -- Inside the commands: what is made of what was read, or the reply in its place.
 use Rattle.std.specs.Prelude.{◌≡◌, ℕ, List, Result, Ok, Err, Vec}
 use Rattle.std.specs.declared.alloc.Global.{Global}
+use Rattle.pw_front.specs.Fronts.{HoldsNoWant}
 use Rattle.pw_front.specs.Places.{refusal_line}
 use Rattle.pw_front.specs.declared.refusal.FrontError.{FrontError}
 use Rattle.pw_front.specs.declared.refusal.FrontError.TheVariants as front
@@ -13,10 +14,10 @@ use Rattle.pw_compiling.specs.declared.texts.MadeFiles.{MadeFiles}
 use Rattle.pw_compiling.specs.First.{AreBytesOf}
 use Rattle.pw_compiling.specs.Second.{IsFileOfFlow}
 
--- the answers of `phase1`
+-- the answers of `phase1`; a refusal is none for want of memory
 abbrev pub IsPhaseAnswer : Answer → Type 0
 IsPhaseAnswer Done = Unit {0}
-IsPhaseAnswer (Refused name refusal) = Unit {0}
+IsPhaseAnswer (Refused name refusal) = HoldsNoWant refusal
 IsPhaseAnswer StoreFault = Unit {0}
 IsPhaseAnswer NoMemory = Unit {0}
 IsPhaseAnswer (BadFile name at) = Unit {0}
@@ -24,7 +25,7 @@ IsPhaseAnswer _ = ⊥
 
 -- those of a text that was read and comes to no files
 abbrev pub IsTextStop : Answer → Type 0
-IsTextStop (Refused name refusal) = Unit {0}
+IsTextStop (Refused name refusal) = HoldsNoWant refusal
 IsTextStop NoMemory = Unit {0}
 IsTextStop _ = ⊥
 

@@ -17,6 +17,7 @@ use pw_flow::FlowModule;
 use pw_flowfile::laws::flow_graphs_and_files_are_one_to_one;
 use pw_front::{FrontError, Refusal, refusal_line};
 use pw_io::Store;
+use pw_phase_one::laws::no_refusal_is_want_of_memory;
 use pw_phase_one::{PhaseError, phase_one};
 use pw_summarise::laws::a_module_has_one_summary;
 use pw_summarise::summarise;
@@ -140,6 +141,7 @@ fn compile_bytes<S: Store>(alloc: Global, store: &mut S, name: &Name, text: &[u8
     flow_graphs_and_files_are_one_to_one();
     summaries_and_files_are_one_to_one();
     a_module_has_one_summary();
+    no_refusal_is_want_of_memory();
     match made_of_text(alloc, name, text) {
         Ok(made) => Reply {
             answer: put_made(alloc, store, name, &made),

@@ -17,7 +17,7 @@ use Rattle.pw_building.specs.declared.report.Opts.{Opts}
 use Rattle.pw_building.specs.declared.report.Report.{Report}
 use Rattle.pw_building.specs.Building.{Outcome, puts_of}
 use Rattle.pw_building.specs.Lines.{report_lines, report_text}
-use Rattle.pw_building.specs.Outcomes.{FaultComes, FaultFound, IsLineOfBuild, ObeysBuild, Reports, fault_answer}
+use Rattle.pw_building.specs.Outcomes.{FaultComes, FaultFound, IsLineOfBuild, IsNoWant, ObeysBuild, Reports, fault_answer}
 use Rattle.pw_commands.specs.Outcome.{IsFound, Obeys}
 use Rattle.pw_driving.specs.Driving.{BuildComesTo, IsBuildAnswer, IsLineDue, IsPrintAnswer, built_effect, outcome_lines}
 
@@ -41,7 +41,7 @@ all_put files _ told new h e = absurd h
 
 found_done : (comes : Effect → Type 0) (one : Effect) (a : Answer) → comes one → one.answer ≡ answer.Done → IsPrintAnswer a → IsFound comes a
 found_done comes one answer.Done c e h = (one, c, e)
-found_done comes one answer.WriteFault c e h = tt
+found_done comes one answer.WriteFault c e h = (one, c)
 found_done comes one answer.NoMemory c e h = tt
 found_done comes one _ c e h = absurd h
 
@@ -170,14 +170,14 @@ fault_output (Some t) new opts unbuilt a taken e h =
     λ input x d. subst (λ (b : Answer). PutsOut x.output b taken taken) (sym e)
     (subst (λ (y : Effect). PutsOut y.output (fault_answer unbuilt.fault) taken taken) (sym d.2) (none_out d.0 unbuilt.fault input taken (h.answers d.0 d.1)))
 
-is_build_answer : (fault : BuildFault) → IsBuildAnswer (fault_answer fault)
-is_build_answer (build.Refused name refusal) = tt
-is_build_answer (build.LinkRefused fault) = tt
-is_build_answer build.StoreFault = tt
-is_build_answer build.NoMemory = tt
+is_build_answer : (fault : BuildFault) → IsNoWant fault → IsBuildAnswer (fault_answer fault)
+is_build_answer (build.Refused name refusal) h = h
+is_build_answer (build.LinkRefused fault) h = h
+is_build_answer build.StoreFault h = tt
+is_build_answer build.NoMemory h = tt
 
-pub fault_is_answer : (fault : BuildFault) (a : Answer) → a ≡ fault_answer fault → IsBuildAnswer a
-fault_is_answer fault a e = subst IsBuildAnswer (sym e) (is_build_answer fault)
+pub fault_is_answer : (fault : BuildFault) (a : Answer) → a ≡ fault_answer fault → IsNoWant fault → IsBuildAnswer a
+fault_is_answer fault a e h = subst IsBuildAnswer (sym e) (is_build_answer fault h)
 
 streams_left : (fault : BuildFault) (i o : Option (List ℕ)) → LeavesStreams (fault_answer fault) i i o o
 streams_left (build.Refused name refusal) i o = (refl, refl)

@@ -3,6 +3,8 @@ use Rattle.std.specs.Prelude.{◌≡◌, ◌≢◌, ◌≤◌, ℕ, List, [], �
 use Rattle.std.specs.List.{AllByRecursion}
 use Rattle.sha2.specs.Sha256.{sha256}
 use Rattle.pw_io.specs.Files.{Files, Told}
+use Rattle.pw_value.specs.declared.fault.LinkFault.TheVariants as link
+use Rattle.pw_front.specs.Fronts.{HoldsNoWant}
 use Rattle.pw_answer.specs.declared.answer.Answer.{Answer}
 use Rattle.pw_answer.specs.declared.answer.Answer.TheVariants.{Done, Refused, LinkRefused, WriteFault, StoreFault, NoMemory}
 use Rattle.pw_answer.specs.Effects.{Effect, answers_alone}
@@ -29,11 +31,11 @@ abbrev pub BuildComesTo : Files → ℕ → ℕ → List ℕ → Effect → Type
 BuildComesTo files colours stack input effect =
     (comes : Result Outcome BuildFault) × BuildComes files colours stack comes × (effect ≡ built_effect comes input)
 
--- the answers of the command
+-- the answers of the command, whose refusals are none for want of memory
 abbrev pub IsBuildAnswer : Answer → Type 0
 IsBuildAnswer Done = Unit {0}
-IsBuildAnswer (Refused name refusal) = Unit {0}
-IsBuildAnswer (LinkRefused fault) = Unit {0}
+IsBuildAnswer (Refused name refusal) = HoldsNoWant refusal
+IsBuildAnswer (LinkRefused fault) = fault ≢ link.NoMemory
 IsBuildAnswer WriteFault = Unit {0}
 IsBuildAnswer StoreFault = Unit {0}
 IsBuildAnswer NoMemory = Unit {0}

@@ -23,6 +23,7 @@ use Rattle.pw_flow.specs.declared.flow.FlowModule.{FlowModule}
 use Rattle.pw_making.specs.declared.making.Built.{Built}
 use Rattle.pw_making.specs.Programs.{AreObjectsFrom, Completes, DirectivesList, Parts, kept_behind}
 use Rattle.pw_making.specs.Choosing.{parts_of}
+use Rattle.pw_making.specs.Counting.{CountsUpTo}
 use Rattle.pw_build.specs.declared.fault.BuildFault.{BuildFault}
 use Rattle.pw_build.specs.declared.fault.BuildFault.TheVariants as build
 use Rattle.pw_build.specs.FromPhaseOne.FirstPhase.{Phase, compiled}
@@ -31,7 +32,7 @@ use Rattle.pw_build.specs.Phases.{FaultsAs, IsLine}
 use Rattle.pw_build.specs.Stores.{store_fault}
 use Rattle.pw_kept.specs.declared.files.ProgramFiles.{ProgramFiles}
 use Rattle.pw_kept.specs.Files.{AreObjectFiles, file_view, made_anew}
-use Rattle.pw_filing.specs.Programs.{AreAsMany, BuildsFiles, FaultBuilds, FaultComes}
+use Rattle.pw_filing.specs.Programs.{AreAsMany, BuildsFiles, FaultBuilds, FaultComes, IsCounted}
 
 -- ---- the names of modules
 
@@ -207,3 +208,24 @@ pub builds_completed : (sources : List Source) (flows : List FlowModule) (kept :
     → Completes flows kept colours stack answer → IfSome first (λ told. Builds sources (all told) colours stack (as_build answer))
 builds_completed sources flows kept all colours stack answer None phases same h = tt
 builds_completed sources flows kept all colours stack answer (Some told) phases same h = completed sources flows kept (all told) colours stack answer phases same h
+
+-- ---- what is counted
+
+-- nothing
+pub not_counted : (phases : Result (List FlowModule) BuildFault) (n : ℕ) → IsCounted phases n n
+not_counted (Err fault) n = refl
+not_counted (Ok flows) n = record { least = omega arith; bound = omega arith }
+
+-- at most one for each flow graph
+pub flows_counted : (phases : Result (List FlowModule) BuildFault) (flows : List FlowModule) (before now : ℕ) → phases ≡ Ok flows → CountsUpTo (length flows) before now → IsCounted phases before now
+flows_counted phases flows before now e h = subst (λ (r : Result (List FlowModule) BuildFault). IsCounted r before now) (sym e) h
+
+most_by : (sources : List Source) (phases : Result (List FlowModule) BuildFault) (before now : ℕ) → first_phases sources ≡ phases → IsCounted phases before now → CountsUpTo module_limit before now
+most_by sources (Err fault) before now e h = record { least = omega (arith, h); bound = omega (arith, h) }
+most_by sources (Ok flows) before now e h =
+    let long : length flows ≡ length sources = flows_long sources flows (within_flows (limit_passed sources) (flows_of sources) flows e) in
+    let few : length sources ≤ 256 = few_by sources flows (nat_lt module_limit (length sources)) refl e in
+    record { least = h.least; bound = omega (arith, h.bound, long, few) }
+
+pub most_counted : (sources : List Source) (before now : ℕ) → IsCounted (first_phases sources) before now → CountsUpTo module_limit before now
+most_counted sources before now h = most_by sources (first_phases sources) before now refl h

@@ -1,12 +1,16 @@
 -- The files of a program of modules, and the faults that may come in their place.
-use Rattle.std.specs.Prelude.{◌≡◌, ℕ, List, length, map, Option, Result, Ok, Err}
+use Rattle.std.specs.Prelude.{◌≡◌, ◌≢◌, ℕ, List, length, map, Option, Result, Ok, Err}
 use Rattle.pw_answer.specs.declared.answer.Answer.{Answer}
 use Rattle.pw_answer.specs.declared.answer.Answer.TheVariants as answer
 use Rattle.pw_answer.specs.Outcomes.{StoreCount}
+use Rattle.pw_value.specs.declared.fault.LinkFault.TheVariants as link
+use Rattle.pw_front.specs.Fronts.{HoldsNoWant}
 use Rattle.pw_db.specs.Database.{IsDatabaseFile}
 use Rattle.pw_image.specs.Image.{IsImageFile}
 use Rattle.pw_link.specs.Linking.{linked}
+use Rattle.pw_flow.specs.declared.flow.FlowModule.{FlowModule}
 use Rattle.pw_making.specs.declared.making.Built.{Built}
+use Rattle.pw_making.specs.Counting.{CountsUpTo}
 use Rattle.pw_making.specs.Programs.{Parts}
 use Rattle.pw_modules.specs.declared.modules.Module.{Module}
 use Rattle.pw_modules.specs.Modules.{Source}
@@ -33,10 +37,23 @@ FaultComes comes build.StoreFault = Unit {0}
 FaultComes comes build.NoMemory = Unit {0}
 FaultComes comes fault = comes ≡ Err fault
 
+-- a refusal is never one for want of memory
+abbrev pub IsNoWant : BuildFault → Type 0
+IsNoWant (build.Refused name refusal) = HoldsNoWant refusal
+IsNoWant (build.LinkRefused fault) = fault ≢ link.NoMemory
+IsNoWant build.StoreFault = Unit {0}
+IsNoWant build.NoMemory = Unit {0}
+
 -- a store's count of faults, where a value came or a fault in its place
 abbrev pub FaultCount : {T : Type 0} → ℕ → ℕ → Result T Unbuilt → Type 0
 FaultCount before now (Ok value) = now ≡ before
 FaultCount before now (Err unbuilt) = StoreCount before now (fault_answer unbuilt.fault)
+
+-- What is counted of modules whose first phases come to this: nothing where a limit is passed or a module is refused, else
+-- at most one for each module.
+abbrev pub IsCounted : Result (List FlowModule) BuildFault → ℕ → ℕ → Type 0
+IsCounted (Err fault) before now = now ≡ before
+IsCounted (Ok flows) before now = CountsUpTo (length flows) before now
 
 -- a fault was answered in place of parts, to which these modules and these kept objects come
 abbrev pub FaultBuilds : List Source → List (Option Object) → ℕ → ℕ → BuildFault → Type 0

@@ -9,15 +9,17 @@ ghost use Rattle.pw_db.specs.Database.{IsDatabase};
 ghost use Rattle.pw_object.specs.Object.{IsObject};
 ghost use Rattle.pw_image.specs.Image.{IsImage, view};
 ghost use Rattle.pw_link.specs.Linking.{linked};
+ghost use Rattle.pw_value.specs.Limits.{module_limit};
 ghost use Rattle.pw_making.specs.Choosing.{parts_of};
+ghost use Rattle.pw_making.specs.Counting.{CountsUpTo};
 ghost use Rattle.pw_build.specs.Builds.{Builds, first_phases};
 ghost use Rattle.pw_build.specs.Phases.{IsLine, refused_line};
 ghost use Rattle.pw_kept.specs.Kept.{kept_object};
 ghost use Rattle.pw_kept.specs.Files.{HoldBytes, file_view};
-ghost use Rattle.pw_filing.specs.Programs.{AreAsMany, BuildsFiles, FaultBuilds, FaultComes, FaultCount};
+ghost use Rattle.pw_filing.specs.Programs.{AreAsMany, BuildsFiles, FaultBuilds, FaultComes, FaultCount, IsCounted, IsNoWant};
 ghost use Rattle.pw_db.specs.Limits.{colour_limit};
 
-use pw_build::{BuildFault, Unbuilt, first_phases};
+use pw_build::{BuildFault, Unbuilt, first_phases, no_refusal_is_want_of_memory};
 use pw_io::Store;
 use pw_kept::{ProgramFiles, files_of, read_kept};
 use pw_making::{Built, Steps, complete};
@@ -28,10 +30,12 @@ use std::alloc::Global;
 use std::sync::ledger::Ledger;
 
 /// The modules of a store, of which there are not too many.
+#[tactic(auto, using(crate::proofs::WantLemmas::many_no_want, crate::proofs::WantLemmas::stored_no_want))]
 pub fn few_modules<S: Store>(alloc: Global, store: &mut S) -> Result<Vec<Module>, Unbuilt>
     ensures modules { IfSome (S.told store.old) (λ told. IfOk result (λ modules. map source modules.items ≡ modules_of told.files)) }
     ensures fault { IfSome (S.told store.old) (λ told. IfErr result (λ unbuilt. FaultComes (first_phases (modules_of told.files)) unbuilt.fault)) }
     ensures line { IfErr result (λ unbuilt. (due : ℕ) → IsLine due unbuilt.fault unbuilt.line) }
+    ensures proper { IfErr result (λ unbuilt. IsNoWant unbuilt.fault) }
     ensures same { Keeps (S.told store.old) (S.told store.new) }
     ensures count { FaultCount (S.faults store.old) (S.faults store.new) result }
 {
@@ -47,6 +51,7 @@ pub fn few_modules<S: Store>(alloc: Global, store: &mut S) -> Result<Vec<Module>
 }
 
 /// The program of modules, and of what the store keeps of them.
+#[tactic(auto, using(crate::proofs::WantLemmas::phases_no_want, crate::proofs::WantLemmas::stored_no_want))]
 fn built_of<S: Store, L: Ledger>(
     alloc: Global,
     store: &mut S,
@@ -66,9 +71,12 @@ fn built_of<S: Store, L: Ledger>(
     ensures lawful_objects { IfOk result (λ built. AllByRecursion IsObject built.objects.items) }
     ensures lawful_image { IfOk result (λ built. IsImage (view built.image)) }
     ensures counted { IfOk result (λ built. steps.new ≡ steps.old + count_by (λ fresh. fresh) built.fresh.items) }
+    ensures bound { IsCounted (first_phases (map source modules.now)) steps.old steps.new }
+    ensures proper { IfErr result (λ unbuilt. IsNoWant unbuilt.fault) }
     ensures same { Keeps (S.told store.old) (S.told store.new) }
     ensures count { FaultCount (S.faults store.old) (S.faults store.new) result }
 {
+    no_refusal_is_want_of_memory();
     let flows = first_phases(alloc, modules)?;
     let kept = read_kept(alloc, store, modules)?;
     match complete(alloc, &flows, kept, colours, stack, steps) {
@@ -85,6 +93,7 @@ fn built_of<S: Store, L: Ledger>(
 }
 
 /// The files of the program of modules, and of what the store keeps of them.
+#[tactic(auto, using(crate::proofs::WantLemmas::none_no_want))]
 pub fn program_of<S: Store, L: Ledger>(
     alloc: Global,
     store: &mut S,
@@ -100,6 +109,9 @@ pub fn program_of<S: Store, L: Ledger>(
     ensures line { IfErr result (λ unbuilt. IsLine (refused_line (map source modules.now)) unbuilt.fault unbuilt.line) }
     ensures few { OnOk result (length modules.now ≤ 256) }
     ensures counted { IfOk result (λ files. steps.new ≡ steps.old + length files.fresh.names.items) }
+    ensures bound { IsCounted (first_phases (map source modules.now)) steps.old steps.new }
+    ensures most { CountsUpTo module_limit steps.old steps.new }
+    ensures proper { IfErr result (λ unbuilt. IsNoWant unbuilt.fault) }
     ensures same { Keeps (S.told store.old) (S.told store.new) }
     ensures count { FaultCount (S.faults store.old) (S.faults store.new) result }
 {

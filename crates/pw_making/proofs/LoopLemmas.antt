@@ -1,12 +1,13 @@
 -- The loops over the modules: what was made of the modules so far, with that of those which are left, is that of all.
-use Rattle.std.proofs.Common.{◌≡◌, ℕ, zero, suc, ◌+◌, ◌<◌, ◌≤◌, Bool, true, false, cond, List, [], ◌∷◌, ◌++◌, length, get_or, drop, drop-cons, arith, Option, None, refl, sym, ap, ◌∙◌, subst, append_assoc, append-nil}
+use Rattle.std.proofs.Common.{◌≡◌, ℕ, zero, suc, ◌+◌, ◌<◌, ◌≤◌, Bool, true, false, cond, List, [], ◌∷◌, ◌++◌, length, get_or, drop, drop-cons, arith, Option, None, refl, sym, ap, ◌∙◌, subst, append_assoc, append-nil, length-append}
 use Rattle.std.specs.Prelude.{count_by}
 use Rattle.std.specs.List.{AllByRecursion}
-use Rattle.std.proofs.lemmas.List.Sums.{sum_by-append}
+use Rattle.std.proofs.lemmas.List.Sums.{count_by-le-length, sum_by-append}
 use Rattle.pw_flow.specs.declared.flow.FlowModule.{FlowModule}
 use Rattle.pw_summary.specs.declared.summary.Summary.{Summary}
 use Rattle.pw_summarise.specs.Summarises.{Summarises}
 use Rattle.pw_object.specs.declared.object.Object.{Object}
+use Rattle.pw_making.specs.Counting.{CountsUpTo}
 use Rattle.pw_making.specs.Programs.{AreObjectsFrom, AreSummariesOf, DirectivesList, IsModuleFrom, first_kept, kept_behind}
 
 -- ---- summaries
@@ -88,3 +89,29 @@ count_more before steps xs new b inv e =
     let all : count_by (λ f. f) new ≡ count_by (λ f. f) xs + count_by (λ f. f) (b ∷ []) = ap (count_by (λ f. f)) e ∙ sum_by-append (λ f. cond {A = ℕ} f 1 0) xs (b ∷ []) in
     let one = one_more b in
     omega (arith, inv, all, one)
+
+pub marks_more : (xs new : List Bool) (b : Bool) (i : ℕ) → length xs ≡ i → new ≡ xs ++ b ∷ [] → length new ≡ i + 1
+marks_more xs new b i h e =
+    let all : length new ≡ length xs + 1 = ap length e ∙ length-append xs (b ∷ []) in
+    omega (arith, all, h)
+
+-- nothing was counted
+pub bound_none : (most n : ℕ) → CountsUpTo most n n
+bound_none most n = record { least = omega arith; bound = omega arith }
+
+-- of the first modules those that are marked were counted
+pub bound_by : (before now : ℕ) (marks : List Bool) (i most : ℕ) → now ≡ before + count_by (λ f. f) marks → length marks ≡ i → i ≤ most → CountsUpTo most before now
+bound_by before now marks i most e l h =
+    let few : count_by (λ f. f) marks ≤ length marks = count_by-le-length (λ f. f) marks in
+    record { least = omega (arith, e); bound = omega (arith, e, few, l, h) }
+
+-- and perhaps one more
+pub bound_more : (before now later : ℕ) (marks : List Bool) (b : Bool) (i most : ℕ) → now ≡ before + count_by (λ f. f) marks → later ≡ now + cond b 1 0 → length marks ≡ i → i < most → CountsUpTo most before later
+bound_more before now later marks b i most e f l h =
+    let few : count_by (λ f. f) marks ≤ length marks = count_by-le-length (λ f. f) marks in
+    let one : cond {A = ℕ} b 1 0 ≤ 1 = at_most_one b in
+    record { least = omega (arith, e, f); bound = omega (arith, e, f, few, one, l, h) }
+  where
+    at_most_one : (b : Bool) → cond {A = ℕ} b 1 0 ≤ 1
+    at_most_one true = omega arith
+    at_most_one false = omega arith

@@ -1,3 +1,4 @@
 pub mod Programs
 pub mod Kept
 pub mod Choosing
+pub mod Counting

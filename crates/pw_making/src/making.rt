@@ -1,6 +1,6 @@
 //! Programs, by the flow graphs of their modules and what was kept.
 
-ghost use Rattle.std.specs.Prelude.{◌≡◌, ◌+◌, ◌⊎◌, ◌≤◌, Ok, Err, IfErr, IfOk, IfSome, OnErr, OnOk, count_by};
+ghost use Rattle.std.specs.Prelude.{◌≡◌, ◌+◌, ◌⊎◌, ◌≤◌, Ok, Err, IfErr, IfOk, IfSome, OnErr, OnOk, count_by, length};
 ghost use Rattle.std.specs.List.{AllByRecursion};
 ghost use Rattle.pw_flow.specs.ValidFlow.{IsValid};
 ghost use Rattle.pw_db.specs.Database.{IsDatabase};
@@ -9,6 +9,7 @@ ghost use Rattle.pw_image.specs.Image.{IsImage, view};
 ghost use Rattle.pw_link.specs.Linking.{linked, AreLinked, IsRefusal};
 ghost use Rattle.pw_making.specs.Programs.{Completes};
 ghost use Rattle.pw_making.specs.Choosing.{parts_of};
+ghost use Rattle.pw_making.specs.Counting.{CountsUpTo};
 ghost use Rattle.pw_db.specs.Limits.{colour_limit};
 
 use crate::analysing::database_of;
@@ -76,6 +77,7 @@ pub fn complete<L: Ledger>(
     ensures lawful_objects { IfOk result (λ built. AllByRecursion IsObject built.objects.items) }
     ensures lawful_image { IfOk result (λ built. IsImage (view built.image)) }
     ensures counted { IfOk result (λ built. steps.new ≡ steps.old + count_by (λ fresh. fresh) built.fresh.items) }
+    ensures bound { CountsUpTo (length flows.now) steps.old steps.new }
 {
     let database = database_of(alloc, flows, colours)?;
     let made = all_objects(alloc, flows, kept, &database, steps)?;

@@ -1,10 +1,11 @@
 //! The objects of all modules.
 
-ghost use Rattle.std.specs.Prelude.{◌≡◌, ◌+◌, ◌++◌, ◌∷◌, [], All, IfOk, IfSome, OnOk, count_by, if◌then◌else◌};
+ghost use Rattle.std.specs.Prelude.{◌≡◌, ◌+◌, ◌++◌, ◌∷◌, [], All, IfOk, IfSome, OnErr, OnOk, count_by, if◌then◌else◌, length};
 ghost use Rattle.std.specs.List.{AllByRecursion};
 ghost use Rattle.pw_flow.specs.ValidFlow.{IsValid};
 ghost use Rattle.pw_db.specs.Database.{IsDatabase};
 ghost use Rattle.pw_object.specs.Object.{IsObject};
+ghost use Rattle.pw_making.specs.Counting.{CountsUpTo};
 ghost use Rattle.pw_making.specs.Programs.{AreObjectsFrom, IsModuleFrom, first_kept, kept_behind};
 
 use crate::remade::{Remade, object_from};
@@ -49,6 +50,7 @@ fn object_under<L: Ledger>(
     ensures object { IfOk result (λ made. IsModuleFrom db.now.functions flow.now old made.object made.fresh) }
     ensures lawful { IfOk result (λ made. IsObject made.object) }
     ensures counted { IfOk result (λ made. steps.new ≡ steps.old + (if made.fresh then 1 else 0)) }
+    ensures uncounted { OnErr result (steps.new ≡ steps.old) }
 {
     let directives = directives_for(alloc, flow, db)?;
     object_from(alloc, flow, &directives, old, steps)
@@ -80,6 +82,7 @@ pub fn all_objects<L: Ledger>(
     ensures objects { IfOk result (λ made. AreObjectsFrom db.now.functions flows.now kept.items made.objects.items made.fresh.items) }
     ensures lawful { IfOk result (λ made. AllByRecursion IsObject made.objects.items) }
     ensures counted { IfOk result (λ made. steps.new ≡ steps.old + count_by (λ fresh. fresh) made.fresh.items) }
+    ensures bound { CountsUpTo (length flows.now) steps.old steps.new }
 {
     let mut made = Objects {
         objects: Vec::new(alloc),

@@ -106,6 +106,7 @@ pub fn object_from<L: Ledger>(
     ensures object { IfOk result (λ made. IsObjectFrom flow.now directives.now old made.object made.fresh) }
     ensures lawful { IfOk result (λ made. IsObject made.object) }
     ensures counted { IfOk result (λ made. steps.new ≡ steps.old + (if made.fresh then 1 else 0)) }
+    ensures uncounted { OnErr result (steps.new ≡ steps.old) }
 {
     match taken(alloc, flow, directives, old)? {
         Some(object) => Ok(Remade {

@@ -1,1 +1,2 @@
 pub mod PhaseLaws
+pub mod WantLemmas

@@ -1,6 +1,8 @@
 //! Laws of the first phase.
 
-ghost use Rattle.std.specs.Prelude.{◌≡◌, ◌↔◌, ℕ, List};
+ghost use Rattle.std.specs.Prelude.{◌≡◌, ◌↔◌, ℕ, List, Err};
+ghost use Rattle.pw_front.specs.Fronts.{HoldsNoWant};
+ghost use Rattle.pw_front.specs.declared.refusal.Refusal.{Refusal};
 ghost use Rattle.pw_phase_one.specs.FirstPhase.{Compiles, Phase, compiled};
 
 use pw_front::front_is_exact;
@@ -12,4 +14,12 @@ pub fn phase_one_is_exact()
 {
     front_is_exact();
     checks_is_exact();
+}
+
+/// No refusal of a module is one for want of memory.
+pub fn no_refusal_is_want_of_memory()
+    ensures { (name text : List ℕ) (refusal : Refusal) → compiled name text ≡ Err refusal → HoldsNoWant refusal }
+{
+    front_is_exact();
+    phase_one_is_exact();
 }

@@ -1,6 +1,6 @@
 -- `bench`: its files, its run and its line.
 use Rattle.std.proofs.Common.{◌≡◌, ℕ, true, List, [], reverse, map, Option, Result, Ok, Err, refl, sym, ap, ◌∙◌, subst, arith}
-use Rattle.std.specs.Prelude.{Vec, String}
+use Rattle.std.specs.Prelude.{◌≢◌, Vec, String}
 use Rattle.std.specs.declared.alloc.Global.{Global}
 use Rattle.std.specs.FinMap as finite
 use Rattle.sha2.specs.Sha256.{sha256}
@@ -23,7 +23,7 @@ use Rattle.pw_driving.specs.FromBuild.Unbuilt.{Unbuilt}
 use Rattle.pw_driving.specs.FromBuild.Phases.{IsLine, refused_line}
 use Rattle.pw_driving.specs.FromBuilding.Report.{Report}
 use Rattle.pw_driving.specs.FromBuilding.Building.{Outcome}
-use Rattle.pw_driving.specs.FromBuilding.Outcomes.{FaultComes, ObeysBuild, Reports, fault_answer}
+use Rattle.pw_driving.specs.FromBuilding.Outcomes.{FaultComes, IsNoWant, ObeysBuild, Reports, fault_answer}
 use Rattle.pw_driving.specs.Driving.{IsPrintAnswer}
 use Rattle.pw_session.specs.declared.opts.SessionOpts.{SessionOpts}
 use Rattle.pw_session.specs.Builds.{BuildsTo}
@@ -50,9 +50,9 @@ said_line number image digest budget stop answer taken taken' stops is out = rec
 
 -- ---- the whole
 
-said_found : (comes : Effect → Type 0) (answer : Answer) → IsPrintAnswer answer → (answer ≡ Done → (effect : Effect) × comes effect × (effect.answer ≡ answer)) → IsBenchFound comes answer
-said_found comes Done k h = h refl
-said_found comes WriteFault k h = tt
+said_found : (comes : Effect → Type 0) (answer : Answer) → IsPrintAnswer answer → (answer ≢ NoMemory → (effect : Effect) × comes effect × (effect.answer ≡ Done)) → IsBenchFound comes answer
+said_found comes Done k h = h (λ e. cc)
+said_found comes WriteFault k h = let f = h (λ e. cc) in (f.0, f.1)
 said_found comes NoMemory k h = tt
 said_found comes _ k h = absurd k
 
@@ -75,12 +75,12 @@ effect_done : (number budget : ℕ) (input : List ℕ) (outcome : Outcome) (effe
 effect_done number budget input outcome effect over = ap (λ (x : Effect). x.answer) over.2
 
 bench_found : (number : ℕ) (opts : SessionOpts) (input : List ℕ) (report : Report) (answer : Answer) (taken taken' : Option (List ℕ)) → (outcome : Outcome) × BuildsTo (bench_files number) opts.build (Ok outcome) × Reports outcome report
-    → ObeysReport number report.image.items report.digest opts.budget answer taken taken' → answer ≡ Done → (effect : Effect) × BenchComes number opts input effect × (effect.answer ≡ answer)
+    → ObeysReport number report.image.items report.digest opts.budget answer taken taken' → answer ≢ NoMemory → (effect : Effect) × BenchComes number opts input effect × (effect.answer ≡ Done)
 bench_found number opts input report answer taken taken' f run d =
     let c = (run.found d).0 in
     let h : IsImageFile f.0.image c = subst (λ (i : List ℕ). IsImageFile i c) f.2.image (run.found d).1 in
     let text = bench_line number f.0.image (sha256 f.0.image) (stop_of opts.budget c) in
-    (prints text input, (Ok f.0, f.1, (text, (c, h, refl), refl)), sym d)
+    (prints text input, (Ok f.0, f.1, (text, (c, h, refl), refl)), refl)
 
 pub bench_built : (number : ℕ) (opts : SessionOpts) (input : List ℕ) (report : Report) (told : Told) (new : Option Told) (answer : Answer) (taken taken' : Option (List ℕ)) → told.files ≡ bench_files number → ObeysBuild opts.build (Ok report) told new
     → IsPrintAnswer answer → ObeysReport number report.image.items report.digest opts.budget answer taken taken' → ObeysBench (BenchComes number opts input) answer taken taken'
@@ -136,11 +136,11 @@ bench_refused number opts input unbuilt told new taken e obeys count =
 
 -- ---- the answer, its line and the streams
 
-pub refused_is : (fault : BuildFault) → StoreCount 0 0 (fault_answer fault) → IsBenchAnswer (fault_answer fault)
-refused_is (build.Refused name refusal) h = tt
-refused_is (build.LinkRefused fault) h = tt
-refused_is build.StoreFault h = absurd (no_fault h)
-refused_is build.NoMemory h = tt
+pub refused_is : (fault : BuildFault) → IsNoWant fault → StoreCount 0 0 (fault_answer fault) → IsBenchAnswer (fault_answer fault)
+refused_is (build.Refused name refusal) proper h = proper
+refused_is (build.LinkRefused fault) proper h = proper
+refused_is build.StoreFault proper h = absurd (no_fault h)
+refused_is build.NoMemory proper h = tt
 
 pub refused_at : (number : ℕ) (fault : BuildFault) (line : ℕ) (files : Files) → files ≡ bench_files number → IsLine (refused_line (modules_of files)) fault line → IsBenchLine number (fault_answer fault) line
 refused_at number (build.Refused name refusal) line files e h = h ∙ ap (λ (f : Files). refused_line (modules_of f)) e
@@ -182,11 +182,8 @@ fault_write build.NoMemory count = refl
 
 -- ---- over what the calls gave
 
-memory_is_no_done : ◌≡◌ {A = Answer} NoMemory Done → ⊥
-memory_is_no_done e = cc
-
 pub report_none : (number : ℕ) (image digest : List ℕ) (budget : ℕ) (taken : Option (List ℕ)) → ObeysReport number image digest budget NoMemory taken taken
-report_none number image digest budget taken = record { output = λ c h. puts_alone (bench_line number image digest (stop_of budget c)) NoMemory taken taken (λ more. tt) refl; found = λ d. absurd (memory_is_no_done d) }
+report_none number image digest budget taken = record { output = λ c h. puts_alone (bench_line number image digest (stop_of budget c)) NoMemory taken taken (λ more. tt) refl; found = λ d. absurd (d refl) }
 
 pub said_line_so : (number : ℕ) (image i digest : List ℕ) (budget : ℕ) (stop answer : Answer) (taken taken' : Option (List ℕ)) → i ≡ image → StopsAs i budget stop → is_stop stop ≡ true → PutsOut (bench_line number image digest stop) answer taken taken'
     → ObeysReport number image digest budget answer taken taken'

@@ -1,8 +1,10 @@
 -- `bench`: a made program is built over a store that holds nothing else, and run, and one line says what came of it.
-use Rattle.std.specs.Prelude.{◌≡◌, ℕ, ◌+◌, ◌*◌, true, List, [], ◌∷◌, ◌++◌, codes, length, reverse, Option, Result, Ok, Err}
+use Rattle.std.specs.Prelude.{◌≡◌, ◌≢◌, ℕ, ◌+◌, ◌*◌, true, List, [], ◌∷◌, ◌++◌, codes, length, reverse, Option, Result, Ok, Err}
 use Rattle.std.specs.Fmt.{decimal}
 use Rattle.std.specs.FinMap as finite
 use Rattle.pw_value.specs.Fields.{parts}
+use Rattle.pw_value.specs.declared.fault.LinkFault.TheVariants as link
+use Rattle.pw_front.specs.Fronts.{HoldsNoWant}
 use Rattle.hex.specs.Hex.{encode_lower}
 use Rattle.sha2.specs.Sha256.{sha256}
 use Rattle.pw_io.specs.Files.{Files}
@@ -66,9 +68,10 @@ abbrev pub BenchComes : ℕ → SessionOpts → List ℕ → Effect → Type 0
 BenchComes number opts input effect =
     (comes : Result Outcome BuildFault) × BuildsTo (bench_files number) opts.build comes × BenchOver number opts.budget input comes effect
 
--- what was answered is no fault and no want of memory, and then it comes to that
+-- It comes to something, also where the output had a fault then; with that answer, where it is none. Want of memory may come
+-- before.
 abbrev pub IsBenchFound : (Effect → Type 0) → Answer → Type 0
-IsBenchFound comes WriteFault = Unit {0}
+IsBenchFound comes WriteFault = (effect : Effect) × comes effect
 IsBenchFound comes NoMemory = Unit {0}
 IsBenchFound comes answer = (effect : Effect) × comes effect × (effect.answer ≡ answer)
 
@@ -78,11 +81,11 @@ pub record ObeysBench (comes : Effect → Type 0) (answer : Answer) (taken taken
   pub output : (effect : Effect) → comes effect → PutsOut effect.output answer taken taken'
   pub found : IsBenchFound comes answer
 
--- the answers of `bench`
+-- the answers of `bench`, whose refusals are none for want of memory
 abbrev pub IsBenchAnswer : Answer → Type 0
 IsBenchAnswer Done = Unit {0}
-IsBenchAnswer (Refused name refusal) = Unit {0}
-IsBenchAnswer (LinkRefused fault) = Unit {0}
+IsBenchAnswer (Refused name refusal) = HoldsNoWant refusal
+IsBenchAnswer (LinkRefused fault) = fault ≢ link.NoMemory
 IsBenchAnswer WriteFault = Unit {0}
 IsBenchAnswer NoMemory = Unit {0}
 IsBenchAnswer _ = ⊥
@@ -102,4 +105,4 @@ pub record StopsAs (image : List ℕ) (budget : ℕ) (answer : Answer) : Type 0 
 -- the line of a program that was built, with this digest, was put out
 pub record ObeysReport (number : ℕ) (image digest : List ℕ) (budget : ℕ) (answer : Answer) (taken taken' : Option (List ℕ)) : Type 0 where
   pub output : (c : Contents) → IsImageFile image c → PutsOut (bench_line number image digest (stop_of budget c)) answer taken taken'
-  pub found : answer ≡ Done → (c : Contents) × IsImageFile image c
+  pub found : answer ≢ NoMemory → (c : Contents) × IsImageFile image c

@@ -83,8 +83,8 @@ prints_does comes answer told new input taken taken' prints same h = record {
 -- ---- a command that comes to one effect
 
 found_one : (one : Effect) (answer : Answer) → Answers one.answer answer → IsFound (λ e. e ≡ one) answer
-found_one one ReadFault h = tt
-found_one one WriteFault h = tt
+found_one one ReadFault h = (one, refl)
+found_one one WriteFault h = (one, refl)
 found_one one StoreFault h = tt
 found_one one NoMemory h = tt
 found_one one _ h = (one, refl, h)

@@ -4,4 +4,5 @@ pub mod ToldLemmas
 pub mod GenuineLemmas
 pub mod SessionLemmas
 pub mod WholeLemmas
+pub mod ProperLemmas
 pub mod RestLemmas

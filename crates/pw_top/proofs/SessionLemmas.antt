@@ -120,8 +120,8 @@ pub bench_prints : (number : ℕ) (opts : SessionOpts) (input : List ℕ) (e : E
 bench_prints number opts input e h = bench_prints_over number opts.budget input h.0 e h.2
 
 bench_found : (comes : Effect → Type 0) (answer : Answer) → IsBenchFound comes answer → IsFound comes answer
-bench_found comes ReadFault h = tt
-bench_found comes WriteFault h = tt
+bench_found comes ReadFault h = (h.0, h.1)
+bench_found comes WriteFault h = h
 bench_found comes StoreFault h = tt
 bench_found comes NoMemory h = tt
 bench_found comes _ h = h

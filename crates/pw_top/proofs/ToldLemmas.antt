@@ -132,8 +132,8 @@ pub by_law : (P : Type 0) (Q : Files → Answer → Type 0) (first : Option Told
 by_law P Q None last law h = tt
 by_law P Q (Some now) last law h = λ p. law now.files last (h p)
 
-pub told_proper : (P : Type 0) (answer last : Answer) → ToldAs answer last → (P → HoldsNoWantOfMemory answer) → P → HoldsNoWantOfMemory last
-told_proper P answer last t h p = told_by HoldsNoWantOfMemory answer last t (h p) (λ n x. tt)
+pub told_proper : (answer last : Answer) → ToldAs answer last → HoldsNoWantOfMemory answer → HoldsNoWantOfMemory last
+told_proper answer last t h = told_by HoldsNoWantOfMemory answer last t h (λ n x. tt)
 
 -- ---- source and machine
 

@@ -54,7 +54,7 @@ fn obey<S: Store, I: Source, O: Sink>(
     ensures usage { IsUsageDue (Some command.now) result.answer }
     ensures ends { EndsScript (Some command.now) (I.rest input.old) result.answer }
     ensures refusal { IfSome (S.told store.old) (λ told. IsGo (Some command.now) → AnswersBuild (full_build told.files) result.answer) }
-    ensures proper { IsGo (Some command.now) → HoldsNoWantOfMemory result.answer }
+    ensures proper { HoldsNoWantOfMemory result.answer }
     ensures others { KeepsTheRest (Some command.now) result.answer (S.told store.old) (S.told store.new) }
     ensures genuine { IfSome (S.told store.old) (λ told. KeepsGenuine told.files → IfSome (S.told store.new) (λ now. KeepsGenuine now.files)) }
     ensures reads { OnlyReads (Some command.now) → Keeps (S.told store.old) (S.told store.new) }
@@ -132,7 +132,7 @@ fn obey_words<S: Store, I: Source, O: Sink>(
     ensures usage_comes { command_of (map string_bytes words.now) ≡ None → (result.answer ≡ Answer.Usage) ⊎ (result.answer ≡ Answer.NoMemory) }
     ensures ends { EndsScript (command_of (map string_bytes words.now)) (I.rest input.old) result.answer }
     ensures refusal { IfSome (S.told store.old) (λ told. IsGo (command_of (map string_bytes words.now)) → AnswersBuild (full_build told.files) result.answer) }
-    ensures proper { IsGo (command_of (map string_bytes words.now)) → HoldsNoWantOfMemory result.answer }
+    ensures proper { HoldsNoWantOfMemory result.answer }
     ensures others { KeepsTheRest (command_of (map string_bytes words.now)) result.answer (S.told store.old) (S.told store.new) }
     ensures genuine { IfSome (S.told store.old) (λ told. KeepsGenuine told.files → IfSome (S.told store.new) (λ now. KeepsGenuine now.files)) }
     ensures reads { OnlyReads (command_of (map string_bytes words.now)) → Keeps (S.told store.old) (S.told store.new) }
@@ -182,12 +182,14 @@ pub fn pawc_top<S: Store, I: Source, O: Sink, E: Sink>(
     ensures ends_script { EndsScript (command_of (map string_bytes words.now)) (I.rest input.old) result }
     ensures builds_whole { IfSome (S.told store.old) (λ told. IfSome (I.rest input.old) (λ rest. BuildsWhole (command_of (map string_bytes words.now)) result told (S.told store.new))) }
 
+    // no refusal is one for want of memory
+    ensures no_want_refused { HoldsNoWantOfMemory result }
+
     // the refusals of `go`
     ensures refusal_is { IfSome (S.told store.old) (λ told. IsGo (command_of (map string_bytes words.now)) → RefusalIs (modules_of told.files) result) }
     ensures refusal_comes { IfSome (S.told store.old) (λ told. IsGo (command_of (map string_bytes words.now)) → RefusalComes (modules_of told.files) result) }
     ensures no_main_is { IfSome (S.told store.old) (λ told. IsGo (command_of (map string_bytes words.now)) → NoMainIs (modules_of told.files) result) }
     ensures no_main_comes { IfSome (S.told store.old) (λ told. IsGo (command_of (map string_bytes words.now)) → NoMainComes (modules_of told.files) result) }
-    ensures no_want_refused { IsGo (command_of (map string_bytes words.now)) → HoldsNoWantOfMemory result }
     ensures refuses { IfSome (S.told store.old) (λ told. IsGo (command_of (map string_bytes words.now)) → AnswersBuild (full_build told.files) result) }
 
     // source and machine

@@ -1,5 +1,6 @@
 use Rattle.pw_kept.specs.Files.{changed_files}
 use Rattle.pw_building.specs.Outcomes.{outcome_of}
+use Rattle.pw_building.proofs.FileLemmas.{of_store_no_want}
 use Rattle.pw_building.proofs.GenuineLemmas.{nothing_keeps, puts_keep}
 use Rattle.pw_building.proofs.LeavingLemmas.{nothing_leaves, puts_leave}
 use Rattle.pw_building.proofs.ObeysLemmas.{obeys_put, obeys_refused, puts_nothing, puts_some}
@@ -34,3 +35,6 @@ returns-in-Err-clause-rest g c = nothing_leaves (g.S.Store.told c.args.store.now
 
 pub returns-in-Err-clause-genuine : goal.returns-in-Err-clause-genuine
 returns-in-Err-clause-genuine g c = nothing_keeps (g.S.Store.told c.args.store.now) _ c.prepare.ensures.same
+
+pub returns-in-Ok-clause-proper : goal.returns-in-Ok-clause-proper
+returns-in-Ok-clause-proper g c = of_store_no_want c.finished.result c.finished.ensures.fault

@@ -7,7 +7,8 @@ use Rattle.pw_kept.specs.Files.{changed_files}
 use Rattle.pw_building.specs.Building.{BuildComes}
 use Rattle.pw_building.specs.Genuine.{IsOwnFile}
 use Rattle.pw_building.specs.Outcomes.{FaultFound, outcome_of}
-use Rattle.pw_building.proofs.FileLemmas.{on_modules}
+use Rattle.pw_value.specs.Limits.{module_limit}
+use Rattle.pw_building.proofs.FileLemmas.{counted_told, none_counted, none_more, on_modules}
 use Rattle.pw_kept.proofs.KeptLemmas.{at_first}
 use Rattle.pw_building.proofs.prepared.prepare.Goals as goal
 
@@ -29,3 +30,13 @@ pub returns-in-Ok-clause-line : goal.returns-in-Ok-clause-line
 returns-in-Ok-clause-line g c =
     on_modules (λ told. map source c.in-Ok.modules.items ≡ modules_of told.files) (λ told. IfErr c.prepared_of.result (λ unbuilt. IsLine (refused_line (modules_of told.files)) unbuilt.fault unbuilt.line))
     (g.S.Store.told c.args.store.now) _ c.in-Ok.ensures.modules c.few_modules.ensures.same (rw c.deref.ensures.value at c.prepared_of.ensures.line)
+
+pub returns-in-Ok-clause-bound : goal.returns-in-Ok-clause-bound
+returns-in-Ok-clause-bound g c =
+    counted_told (g.S.Store.told c.args.store.now) (map source c.in-Ok.modules.items) c.args.steps.now c.prepared_of.new.steps c.in-Ok.ensures.modules (rw c.deref.ensures.value at c.prepared_of.ensures.bound)
+
+pub returns-in-Err-clause-bound : goal.returns-in-Err-clause-bound
+returns-in-Err-clause-bound g c = none_counted (g.S.Store.told c.args.store.now) c.args.steps.now
+
+pub returns-in-Err-clause-most : goal.returns-in-Err-clause-most
+returns-in-Err-clause-most g c = none_more module_limit c.args.steps.now

@@ -36,14 +36,14 @@ returns-in-Err-clause-answer g c =
     let name = c.args.name.now in
     let text = c.args.text.now in
     text_stop_is c.reply_of.result.answer
-    (reply_kind name text (compiled name text) c.reply_of.result.answer c.reply_of.result.line (replies name text (compiled name text) c.in-Err.answer c.reply_of.result.answer c.reply_of.result.line c.in-Err.ensures c.reply_of.ensures))
+    (reply_kind c.no_refusal_is_want_of_memory.ensures name text c.reply_of.result.answer c.reply_of.result.line (replies name text (compiled name text) c.in-Err.answer c.reply_of.result.answer c.reply_of.result.line c.in-Err.ensures c.reply_of.ensures))
 
 pub returns-in-Err-clause-count : goal.returns-in-Err-clause-count
 returns-in-Err-clause-count g c =
     let name = c.args.name.now in
     let text = c.args.text.now in
     text_stop_count (g.S.Store.faults c.args.store.now) c.reply_of.result.answer
-    (reply_kind name text (compiled name text) c.reply_of.result.answer c.reply_of.result.line (replies name text (compiled name text) c.in-Err.answer c.reply_of.result.answer c.reply_of.result.line c.in-Err.ensures c.reply_of.ensures))
+    (reply_kind c.no_refusal_is_want_of_memory.ensures name text c.reply_of.result.answer c.reply_of.result.line (replies name text (compiled name text) c.in-Err.answer c.reply_of.result.answer c.reply_of.result.line c.in-Err.ensures c.reply_of.ensures))
 
 pub returns-in-Ok-clause-others : goal.returns-in-Ok-clause-others
 returns-in-Ok-clause-others g c =

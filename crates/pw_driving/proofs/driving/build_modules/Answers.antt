@@ -40,7 +40,7 @@ pub returns-in-Err-clause-line : goal.returns-in-Err-clause-line
 returns-in-Err-clause-line g c = fault_line (g.S.Store.told c.args.store.now) c.in-Err.unbuilt _ _ c.answer_of.ensures refl c.in-Err.ensures.line
 
 pub returns-in-Err-clause-answer : goal.returns-in-Err-clause-answer
-returns-in-Err-clause-answer g c = fault_is_answer c.in-Err.unbuilt.fault _ c.answer_of.ensures
+returns-in-Err-clause-answer g c = fault_is_answer c.in-Err.unbuilt.fault _ c.answer_of.ensures c.in-Err.ensures.proper
 
 pub returns-in-Err-clause-store : goal.returns-in-Err-clause-store
 returns-in-Err-clause-store g c = rw c.answer_of.ensures c.in-Err.ensures.count

@@ -1,5 +1,6 @@
-use Rattle.std.proofs.Common.{⊎_elim, inl, inr}
+use Rattle.std.proofs.Common.{⊎_elim, inl, inr, length}
 use Rattle.std.proofs.lemmas.Result.{IfErr-weaker}
+use Rattle.pw_making.proofs.LoopLemmas.{bound_none}
 use Rattle.pw_making.proofs.making.complete.Goals as goal
 
 pub returns-clause-refused : goal.returns-clause-refused
@@ -12,3 +13,6 @@ returns-clause-refused g c =
       refusal,
     ))) h)
     c.linked.ensures.refused
+
+pub returns-in_err-database-clause-bound : goal.returns-in_err-database-clause-bound
+returns-in_err-database-clause-bound g c = bound_none (length c.args.flows.now) c.args.steps.now

@@ -1,8 +1,8 @@
-use Rattle.std.proofs.Common.{arith, drop, ◌∙◌}
+use Rattle.std.proofs.Common.{arith, drop, length, ◌∙◌}
 use Rattle.std.specs.Prelude.{IfSome}
 use Rattle.pw_flow.specs.ValidFlow.{IsValid}
 use Rattle.pw_object.specs.Object.{IsObject}
-use Rattle.pw_making.proofs.LoopLemmas.{behind_lawful, count_more, each_at, first_lawful, more_lawful, next_at, nothing_at, object_end, object_turn}
+use Rattle.pw_making.proofs.LoopLemmas.{behind_lawful, bound_by, bound_more, count_more, each_at, first_lawful, marks_more, more_lawful, next_at, nothing_at, object_end, object_turn}
 use Rattle.pw_making.proofs.objects.all_objects.Goals as goal
 
 pub object_under-requires : goal.object_under-requires
@@ -20,7 +20,21 @@ loop-flow-preserved g c = record {
   kept_lawful = behind_lawful (λ old. IfSome old IsObject) _ _ c.loop-flow.invariant.kept_lawful c.next_kept-old.ensures.behind;
   lawful = more_lawful IsObject _ _ _ c.loop-flow.invariant.lawful c.in_ok-object.ensures.lawful c.in_ok-add_object.ensures.objects;
   counted = c.in_ok-object.ensures.counted ∙ count_more _ _ _ _ _ c.loop-flow.invariant.counted c.in_ok-add_object.ensures.fresh;
+  marks = marks_more c.loop-flow.made.fresh.items _ _ c.loop-flow.flow-index c.loop-flow.invariant.marks c.in_ok-add_object.ensures.fresh;
 }
+
+pub returns-in_err-object-clause-bound : goal.returns-in_err-object-clause-bound
+returns-in_err-object-clause-bound g c =
+    bound_by _ _ c.loop-flow.made.fresh.items c.loop-flow.flow-index (length c.args.flows.now) (c.in_err-object.ensures.uncounted ∙ c.loop-flow.invariant.counted) c.loop-flow.invariant.marks (omega arith)
+
+pub returns-in_err-add_object-clause-bound : goal.returns-in_err-add_object-clause-bound
+returns-in_err-add_object-clause-bound g c =
+    bound_more _ c.loop-flow.steps _ c.loop-flow.made.fresh.items c.in_ok-object.object.fresh c.loop-flow.flow-index (length c.args.flows.now)
+    c.loop-flow.invariant.counted c.in_ok-object.ensures.counted c.loop-flow.invariant.marks (omega arith)
+
+pub returns-clause-bound : goal.returns-clause-bound
+returns-clause-bound g c =
+    bound_by _ _ c.loop-flow.made.fresh.items c.loop-flow.flow-index (length c.args.flows.now) c.loop-flow.invariant.counted c.loop-flow.invariant.marks (omega arith)
 
 pub returns-clause-objects : goal.returns-clause-objects
 returns-clause-objects g c =

@@ -1,4 +1,4 @@
-use Rattle.std.proofs.Common.{◌≡◌, ◌+◌, drop}
+use Rattle.std.proofs.Common.{◌≡◌, ◌+◌, drop, length}
 use Rattle.std.specs.Prelude.{IfSome, count_by}
 use Rattle.std.specs.List.{AllByRecursion}
 use Rattle.pw_object.specs.Object.{IsObject}
@@ -12,4 +12,5 @@ invariant-loop-flow g l = record {
   kept_lawful : AllByRecursion (λ old. IfSome old IsObject) l.kept.items;
   lawful : AllByRecursion IsObject l.made.objects.items;
   counted : l.steps ≡ l.fn.steps + count_by (λ fresh. fresh) l.made.fresh.items;
+  marks : length l.made.fresh.items ≡ l.flow-index;
 }

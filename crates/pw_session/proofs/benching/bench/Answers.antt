@@ -35,4 +35,4 @@ pub returns-clause-streams : goal.returns-clause-streams
 returns-clause-streams g c = λ input. alone_streams c.answer_of.result input (g.O.Sink.taken c.args.out.now)
 
 pub returns-clause-answer : goal.returns-clause-answer
-returns-clause-answer g c = rw c.answer_of.ensures (refused_is c.in-Err.unbuilt.fault c.in-Err.ensures.count)
+returns-clause-answer g c = rw c.answer_of.ensures (refused_is c.in-Err.unbuilt.fault c.in-Err.ensures.proper c.in-Err.ensures.count)

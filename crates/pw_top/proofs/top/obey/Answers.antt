@@ -2,6 +2,7 @@ use Rattle.std.proofs.Common.{Some}
 use Rattle.pw_top.proofs.GenuineLemmas.{genuine_alone, kept_others, others_alone, phase_two_genuine, plain_genuine}
 use Rattle.pw_top.proofs.SessionLemmas.{bench_does, bench_line, bench_no_usage, bench_reads, bench_stores, session_does, session_no_usage, session_others}
 use Rattle.pw_top.proofs.RestLemmas.{leaves_rest}
+use Rattle.pw_top.proofs.ProperLemmas.{bench_proper, build_proper, phase_proper, run_proper, session_proper, show_proper, store_proper}
 use Rattle.pw_top.proofs.CommandLemmas.{analyse_does, build_does, build_line, build_no_usage, build_reads, db_does, go_does, go_line, kept_alone, left_alone, link_does, list_does, of_any, of_go, of_other, phase_no_usage, phase_one_does, phase_reads, phase_two_does, phase_writes, plain_line, run_does, run_no_usage, show_no_usage, show_reads, store_no_usage, store_reads, store_writes}
 use Rattle.pw_top.proofs.top.obey.Goals as goal
 
@@ -16,7 +17,7 @@ pub returns-in-Go-clause-refusal : goal.returns-in-Go-clause-refusal
 returns-in-Go-clause-refusal g c = rw c.in-Go.is (of_go _ (g.S.Store.told c.args.store.now) c.go.ensures.refusal)
 
 pub returns-in-Go-clause-proper : goal.returns-in-Go-clause-proper
-returns-in-Go-clause-proper g c = rw c.in-Go.is (λ h. c.go.ensures.proper)
+returns-in-Go-clause-proper g c = c.go.ensures.proper
 
 pub returns-in-Go-clause-reads : goal.returns-in-Go-clause-reads
 returns-in-Go-clause-reads g c = rw c.in-Go.is (λ h. c.go.ensures.files)
@@ -35,7 +36,7 @@ pub returns-in-PhaseOne-clause-refusal : goal.returns-in-PhaseOne-clause-refusal
 returns-in-PhaseOne-clause-refusal g c = rw c.in-PhaseOne.is (of_other _ (g.S.Store.told c.args.store.now))
 
 pub returns-in-PhaseOne-clause-proper : goal.returns-in-PhaseOne-clause-proper
-returns-in-PhaseOne-clause-proper g c = rw c.in-PhaseOne.is (λ h. absurd h)
+returns-in-PhaseOne-clause-proper g c = phase_proper _ c.compile_text.ensures.answer
 
 pub returns-in-PhaseOne-clause-reads : goal.returns-in-PhaseOne-clause-reads
 returns-in-PhaseOne-clause-reads g c = rw c.in-PhaseOne.is (λ h. absurd h)
@@ -63,7 +64,7 @@ pub returns-in-Analyse-clause-refusal : goal.returns-in-Analyse-clause-refusal
 returns-in-Analyse-clause-refusal g c = rw c.in-Analyse.is (of_other _ (g.S.Store.told c.args.store.now))
 
 pub returns-in-Analyse-clause-proper : goal.returns-in-Analyse-clause-proper
-returns-in-Analyse-clause-proper g c = rw c.in-Analyse.is (λ h. absurd h)
+returns-in-Analyse-clause-proper g c = store_proper _ c.analyse_modules.ensures.answer
 
 pub returns-in-Analyse-clause-reads : goal.returns-in-Analyse-clause-reads
 returns-in-Analyse-clause-reads g c = rw c.in-Analyse.is (λ h. absurd h)
@@ -91,7 +92,7 @@ pub returns-in-PhaseTwo-clause-refusal : goal.returns-in-PhaseTwo-clause-refusal
 returns-in-PhaseTwo-clause-refusal g c = rw c.in-PhaseTwo.is (of_other _ (g.S.Store.told c.args.store.now))
 
 pub returns-in-PhaseTwo-clause-proper : goal.returns-in-PhaseTwo-clause-proper
-returns-in-PhaseTwo-clause-proper g c = rw c.in-PhaseTwo.is (λ h. absurd h)
+returns-in-PhaseTwo-clause-proper g c = store_proper _ c.compile_flow.ensures.answer
 
 pub returns-in-PhaseTwo-clause-reads : goal.returns-in-PhaseTwo-clause-reads
 returns-in-PhaseTwo-clause-reads g c = rw c.in-PhaseTwo.is (λ h. absurd h)
@@ -119,7 +120,7 @@ pub returns-in-Link-clause-refusal : goal.returns-in-Link-clause-refusal
 returns-in-Link-clause-refusal g c = rw c.in-Link.is (of_other _ (g.S.Store.told c.args.store.now))
 
 pub returns-in-Link-clause-proper : goal.returns-in-Link-clause-proper
-returns-in-Link-clause-proper g c = rw c.in-Link.is (λ h. absurd h)
+returns-in-Link-clause-proper g c = store_proper _ c.link_modules.ensures.answer
 
 pub returns-in-Link-clause-reads : goal.returns-in-Link-clause-reads
 returns-in-Link-clause-reads g c = rw c.in-Link.is (λ h. absurd h)
@@ -147,7 +148,7 @@ pub returns-in-Run-clause-refusal : goal.returns-in-Run-clause-refusal
 returns-in-Run-clause-refusal g c = rw c.in-Run.is (of_other _ (g.S.Store.told c.args.store.now))
 
 pub returns-in-Run-clause-proper : goal.returns-in-Run-clause-proper
-returns-in-Run-clause-proper g c = rw c.in-Run.is (λ h. absurd h)
+returns-in-Run-clause-proper g c = run_proper _ c.run_image.ensures.run
 
 pub returns-in-Run-clause-reads : goal.returns-in-Run-clause-reads
 returns-in-Run-clause-reads g c = rw c.in-Run.is (λ h. c.run_image.ensures.same)
@@ -166,7 +167,7 @@ pub returns-in-List-clause-refusal : goal.returns-in-List-clause-refusal
 returns-in-List-clause-refusal g c = rw c.in-List.is (of_other _ (g.S.Store.told c.args.store.now))
 
 pub returns-in-List-clause-proper : goal.returns-in-List-clause-proper
-returns-in-List-clause-proper g c = rw c.in-List.is (λ h. absurd h)
+returns-in-List-clause-proper g c = show_proper _ c.list_image.ensures.answer
 
 pub returns-in-List-clause-reads : goal.returns-in-List-clause-reads
 returns-in-List-clause-reads g c = rw c.in-List.is (λ h. c.list_image.ensures.same)
@@ -191,7 +192,7 @@ pub returns-in-Db-clause-refusal : goal.returns-in-Db-clause-refusal
 returns-in-Db-clause-refusal g c = rw c.in-Db.is (of_other _ (g.S.Store.told c.args.store.now))
 
 pub returns-in-Db-clause-proper : goal.returns-in-Db-clause-proper
-returns-in-Db-clause-proper g c = rw c.in-Db.is (λ h. absurd h)
+returns-in-Db-clause-proper g c = show_proper _ c.show_database.ensures.answer
 
 pub returns-in-Db-clause-reads : goal.returns-in-Db-clause-reads
 returns-in-Db-clause-reads g c = rw c.in-Db.is (λ h. c.show_database.ensures.same)
@@ -264,7 +265,7 @@ pub returns-in-Build-clause-refusal : goal.returns-in-Build-clause-refusal
 returns-in-Build-clause-refusal g c = rw c.in-Build.is (of_other _ (g.S.Store.told c.args.store.now))
 
 pub returns-in-Build-clause-proper : goal.returns-in-Build-clause-proper
-returns-in-Build-clause-proper g c = rw c.in-Build.is (λ h. absurd h)
+returns-in-Build-clause-proper g c = build_proper _ c.build_modules.ensures.answer
 
 pub returns-in-Build-clause-others : goal.returns-in-Build-clause-others
 returns-in-Build-clause-others g c = rw c.in-Build.is c.build_modules.ensures.others
@@ -298,7 +299,7 @@ pub returns-in-Session-clause-refusal : goal.returns-in-Session-clause-refusal
 returns-in-Session-clause-refusal g c = rw c.in-Session.is (of_other _ (g.S.Store.told c.args.store.now))
 
 pub returns-in-Session-clause-proper : goal.returns-in-Session-clause-proper
-returns-in-Session-clause-proper g c = rw c.in-Session.is (λ h. absurd h)
+returns-in-Session-clause-proper g c = session_proper _ c.run_session.ensures.answer
 
 pub returns-in-Session-clause-others : goal.returns-in-Session-clause-others
 returns-in-Session-clause-others g c = rw c.in-Session.is (session_others
@@ -325,7 +326,7 @@ pub returns-in-Bench-clause-refusal : goal.returns-in-Bench-clause-refusal
 returns-in-Bench-clause-refusal g c = rw c.in-Bench.is (of_other _ (g.S.Store.told c.args.store.now))
 
 pub returns-in-Bench-clause-proper : goal.returns-in-Bench-clause-proper
-returns-in-Bench-clause-proper g c = rw c.in-Bench.is (λ h. absurd h)
+returns-in-Bench-clause-proper g c = bench_proper _ c.bench.ensures.answer
 
 pub returns-in-Bench-clause-others : goal.returns-in-Bench-clause-others
 returns-in-Bench-clause-others g c = rw c.in-Bench.is (others_alone _ (g.S.Store.told c.args.store.now))

@@ -23,7 +23,7 @@ pub returns-in-Ok-clause-refusal : goal.returns-in-Ok-clause-refusal
 returns-in-Ok-clause-refusal g c = rw c.in-Ok.ensures c.obey.ensures.refusal
 
 pub returns-in-Ok-clause-proper : goal.returns-in-Ok-clause-proper
-returns-in-Ok-clause-proper g c = rw c.in-Ok.ensures c.obey.ensures.proper
+returns-in-Ok-clause-proper g c = c.obey.ensures.proper
 
 pub returns-in-Ok-clause-reads : goal.returns-in-Ok-clause-reads
 returns-in-Ok-clause-reads g c = rw c.in-Ok.ensures c.obey.ensures.reads

@@ -53,7 +53,7 @@ returns-clause-no_main_comes g c =
 
 pub returns-clause-no_want_refused : goal.returns-clause-no_want_refused
 returns-clause-no_want_refused g c =
-    told_proper (IsGo (command_of (map string_bytes c.args.words.now))) c.obey_words-reply.result.answer c.tell.result c.tell.ensures.answer c.obey_words-reply.ensures.proper
+    told_proper c.obey_words-reply.result.answer c.tell.result c.tell.ensures.answer c.obey_words-reply.ensures.proper
 
 pub returns-clause-returns_sum : goal.returns-clause-returns_sum
 returns-clause-returns_sum g c =

@@ -1,0 +1,53 @@
+-- No command refuses anything for want of memory.
+use Rattle.std.specs.Prelude.{◌≡◌, ◌≢◌, refl}
+use Rattle.pw_value.specs.declared.fault.LinkFault.{LinkFault}
+use Rattle.pw_value.specs.declared.fault.LinkFault.TheVariants as link
+use Rattle.pw_answer.specs.declared.answer.Answer.{Answer}
+use Rattle.pw_answer.specs.declared.answer.Answer.TheVariants.{Refused, LinkRefused}
+use Rattle.pw_run_laws.specs.FromGo.Refusals.{HoldsNoLinkWant, HoldsNoWantOfMemory}
+use Rattle.pw_run_laws.specs.FromCommands.Outcome.{IsStoreAnswer}
+use Rattle.pw_run_laws.specs.FromCommands.Running.{IsRunOrStop}
+use Rattle.pw_run_laws.specs.FromCommands.Showing.{IsShowAnswer}
+use Rattle.pw_compiling.specs.Made.{IsPhaseAnswer}
+use Rattle.pw_session.specs.FromDriving.Driving.{IsBuildAnswer}
+use Rattle.pw_session.specs.Bench.{IsBenchAnswer}
+use Rattle.pw_session.specs.Outcomes.{IsSessionAnswer}
+
+link_proper : (fault : LinkFault) → fault ≢ link.NoMemory → HoldsNoLinkWant fault
+link_proper link.NoMemory h = h refl
+link_proper _ h = tt
+
+pub build_proper : (answer : Answer) → IsBuildAnswer answer → HoldsNoWantOfMemory answer
+build_proper (Refused name refusal) h = h
+build_proper (LinkRefused fault) h = link_proper fault h
+build_proper _ h = tt
+
+pub bench_proper : (answer : Answer) → IsBenchAnswer answer → HoldsNoWantOfMemory answer
+bench_proper (Refused name refusal) h = h
+bench_proper (LinkRefused fault) h = link_proper fault h
+bench_proper _ h = tt
+
+pub phase_proper : (answer : Answer) → IsPhaseAnswer answer → HoldsNoWantOfMemory answer
+phase_proper (Refused name refusal) h = h
+phase_proper (LinkRefused fault) h = absurd h
+phase_proper _ h = tt
+
+pub store_proper : (answer : Answer) → IsStoreAnswer answer → HoldsNoWantOfMemory answer
+store_proper (Refused name refusal) h = absurd h
+store_proper (LinkRefused fault) h = link_proper fault h
+store_proper _ h = tt
+
+pub session_proper : (answer : Answer) → IsSessionAnswer answer → HoldsNoWantOfMemory answer
+session_proper (Refused name refusal) h = absurd h
+session_proper (LinkRefused fault) h = absurd h
+session_proper _ h = tt
+
+pub run_proper : (answer : Answer) → IsRunOrStop answer → HoldsNoWantOfMemory answer
+run_proper (Refused name refusal) h = absurd h
+run_proper (LinkRefused fault) h = absurd h
+run_proper _ h = tt
+
+pub show_proper : (answer : Answer) → IsShowAnswer answer → HoldsNoWantOfMemory answer
+show_proper (Refused name refusal) h = absurd h
+show_proper (LinkRefused fault) h = absurd h
+show_proper _ h = tt
