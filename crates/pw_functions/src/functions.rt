@@ -88,18 +88,18 @@ fn outline_of(
     })
 }
 
-/// What the definition of a function makes, behind its body.
+/// What the definition of a function makes, behind its body, in a box.
 fn function_of(
     alloc: Global,
     state: &State<'_>,
     place: u32,
     head: &Head<'_>,
     body: Box<TStmt>,
-) -> Result<TFunction, AllocError>
-    ensures { IfOk result (λ f. typed.view_function f ≡ spec.function_of (view_state state.now) (view_head head.now).word place (view_head head.now).ty (view_head head.now).bindings (view_body body)) }
+) -> Result<Box<TFunction>, AllocError>
+    ensures { IfOk result (λ f. typed.view_function f.value ≡ spec.function_of (view_state state.now) (view_head head.now).word place (view_head head.now).ty (view_head head.now).bindings (view_body body)) }
 {
     let outline = outline_of(alloc, state, place, head)?;
-    Ok(outline.with(body))
+    Ok(Box::new(alloc, outline.with(body))?)
 }
 
 /// The body of a function is read, in the scope of its parameters.
@@ -119,12 +119,12 @@ fn begin_body<'a>(
 }
 
 /// Behind a function's body its scope is left, and the function keeps the limits.
-fn end_body(state: &mut State<'_>, word: &Word, f: TFunction) -> Result<(), CheckFault>
-    ensures { Leads (λ u. u) (part.end_body (view_word word.now) (typed.view_function f)) (view_state state.old) result (view_state state.new) }
+fn end_body(state: &mut State<'_>, word: &Word, f: Box<TFunction>) -> Result<(), CheckFault>
+    ensures { Leads (λ u. u) (part.end_body (view_word word.now) (typed.view_function f.value)) (view_state state.old) result (view_state state.new) }
 {
     state.leave_scope();
     measured_rule(state, word, &f)?;
-    state.add_function(f)?;
+    state.add_function(Box::into_inner(f))?;
     Ok(())
 }
 
