@@ -1,13 +1,26 @@
-//! Tests of pw_image: that an image is read and written again, and where the faults of damaged files are
-//! told. The payload is written by hand.
+//! Cases of pw_image: that an image is read and written again, and where the faults of damaged files are told.
+//! The payload is written by hand.
 
-use pw_image::{
-    Function, GlobalObject, KIND, LoadError, Map, Memory, read_image, read_map, write_image,
-};
-use pw_value::FileError;
+use crate::cases::Case;
+use pw_image::{DataItem, Image, KIND, Map, Memory, read_image, read_map, write_image};
+use pw_rows::Text;
+use pw_value::Name;
 use pw_value::fields::frame::seal;
-use std::alloc::{AllocError, Global};
-use std::test::Fail;
+use std::process::Abort;
+
+/// What is asked of files.
+pub(crate) enum ImageCase {
+    /// The image and then the map of the first bytes, so many, of the file of the payload, by the file's version and
+    /// what its last byte is turned by.
+    Framed(u32, usize, u8),
+    /// The image of the file of the payload in which a byte is another.
+    Damaged(usize, u8),
+    /// The image of the file of the first bytes of the payload.
+    Cut(usize),
+    /// The image, and the map, in bytes.
+    Image(&'static [u8]),
+    Map(&'static [u8]),
+}
 
 /// Two words, 16 bytes of data with `ab` at 0 and `cd` at 4, the names `exit`, `g` and `main`, the
 /// functions `main` at 4,096 and `exit` at 4,100, and the object `g` at 4,104.
@@ -19,192 +32,167 @@ const PAYLOAD: [u8; 117] = [
     16, 8,
 ];
 
-/// Whether a memory has the numbers, the words and the second item of the data of the payload.
-fn is_memory(memory: &Memory) -> bool {
-    let is_item = match memory.items.as_slice() {
-        [_, item] => item.offset == 4 && item.bytes.as_slice() == b"cd".as_slice(),
-        _ => false,
-    };
-    is_item
-        && memory.entry == 4096
-        && memory.stack == 4096
-        && memory.stack_end == 8448
-        && memory.data_size == 16
-        && memory.words.as_slice() == [0x0800_0240u32, 0x341c_0002].as_slice()
-}
+/// The first bytes of a file of eleven bytes: its length is right, and its version is short.
+const SHORT: [u8; 11] = [80, 65, 87, 73, 0, 0, 0, 11, 0, 0, 0];
 
-/// Whether these are the functions and the object of the payload.
-fn are_names(functions: &[Function], globals: &[GlobalObject]) -> bool {
-    match (functions, globals) {
-        ([main, exit], [g]) => {
-            main.name.as_bytes() == b"main".as_slice()
-                && main.frame == 64
-                && exit.address == 4100
-                && g.name.as_bytes() == b"g".as_slice()
-                && g.address == 4104
-        }
-        _ => false,
-    }
-}
-
-/// Whether the image of the payload is read from the file of these bytes, and written again as these bytes.
-fn is_image_read(alloc: Global, file: &[u8]) -> Result<bool, AllocError> {
-    match read_image(alloc, file) {
-        Ok(image) => Ok(
-            write_image(alloc, &image)?.as_slice() == file
-                && is_memory(&image.memory)
-                && are_names(&image.functions, &image.globals),
-        ),
-        Err(_) => Ok(false),
-    }
-}
-
-/// Whether a map is that of the payload.
-fn is_map(map: &Map) -> bool {
-    match (map.functions.as_slice(), map.globals.as_slice()) {
-        ([main, exit], [g]) => {
-            main.0.as_bytes() == b"main".as_slice()
-                && main.1 == 4096
-                && main.2 == 64
-                && exit.0.as_bytes() == b"exit".as_slice()
-                && exit.1 == 4100
-                && exit.2 == 0
-                && g.0.as_bytes() == b"g".as_slice()
-                && g.1 == 4104
-        }
-        _ => false,
-    }
-}
-
-/// Whether the map of the payload is read from the file of these bytes.
-fn is_map_read(alloc: Global, file: &[u8]) -> bool {
-    match read_map(alloc, file) {
-        Ok(map) => is_map(&map),
-        Err(_) => false,
-    }
-}
-
-/// Whether the file of the payload is read and written as it should be.
-fn is_payload_read(alloc: Global) -> Result<bool, AllocError> {
-    let file = seal(alloc, KIND, 1, &PAYLOAD)?;
-    Ok(is_map_read(alloc, &file) && is_image_read(alloc, &file)?)
-}
-
-#[test]
-fn an_image(rt: HostRuntime) -> Result<(), Fail> {
-    assert!(rt; is_payload_read(rt.alloc())?);
-    Ok(())
-}
-
-/// The offset of the fault in a file that is no image's.
-fn fault_in(alloc: Global, file: &[u8]) -> Option<usize> {
-    match read_image(alloc, file) {
-        Err(FileError::FileFault { at }) => Some(at),
-        _ => None,
-    }
-}
-
-/// The offset of the fault in a file that has no image's map.
-fn map_fault_in(alloc: Global, file: &[u8]) -> Option<usize> {
-    match read_map(alloc, file) {
-        Err(LoadError::LoadFault { at }) => Some(at),
-        _ => None,
-    }
-}
-
-/// The offset of the fault in the file of a payload of few bytes.
-fn fault_of(alloc: Global, payload: &[u8]) -> Result<Option<usize>, AllocError> {
-    if payload.len() > 1000 {
-        return Ok(None);
-    }
-    let file = seal(alloc, KIND, 1, payload)?;
-    Ok(fault_in(alloc, &file))
-}
-
-/// A byte of the payload, what it becomes, and the offset of the fault.
-static DAMAGES: [(usize, u8, usize); 18] = [
-    (3, 1, 12),
-    (8, 5, 20),
-    (13, 1, 24),
-    (25, 1, 36),
-    (45, 1, 54),
-    (45, 15, 58),
-    (68, 97, 76),
-    (84, 3, 93),
-    (88, 8, 97),
-    (96, 2, 68),
-    (112, 0, 76),
-    (29, 3, 64),
-    (49, 13, 58),
-    (55, 2, 85),
-    (59, 0, 68),
-    (58, 2, 68),
-    (108, 2, 129),
-    (112, 3, 121),
+/// Cases and their answers.
+pub(crate) static CASES: [(ImageCase, &str); 29] = [
+    (
+        ImageCase::Framed(1, 161, 0),
+        "true (4096, 4096, 8448, 16, [134218304, 874250242]) (0, [97, 98]) (4, [99, 100]) main [4096, 64] exit [4100, 0] g [4104];  main [4096, 64] exit [4100, 0] g [4104]",
+    ),
+    (ImageCase::Damaged(3, 1), "FileFault { at: 12 }"),
+    (ImageCase::Damaged(8, 5), "FileFault { at: 20 }"),
+    (ImageCase::Damaged(13, 1), "FileFault { at: 24 }"),
+    (ImageCase::Damaged(25, 1), "FileFault { at: 36 }"),
+    (ImageCase::Damaged(45, 1), "FileFault { at: 54 }"),
+    (ImageCase::Damaged(45, 15), "FileFault { at: 58 }"),
+    (ImageCase::Damaged(68, 97), "FileFault { at: 76 }"),
+    (ImageCase::Damaged(84, 3), "FileFault { at: 93 }"),
+    (ImageCase::Damaged(88, 8), "FileFault { at: 97 }"),
+    (ImageCase::Damaged(96, 2), "FileFault { at: 68 }"),
+    (ImageCase::Damaged(112, 0), "FileFault { at: 76 }"),
+    (ImageCase::Damaged(29, 3), "FileFault { at: 64 }"),
+    (ImageCase::Damaged(49, 13), "FileFault { at: 58 }"),
+    (ImageCase::Damaged(55, 2), "FileFault { at: 85 }"),
+    (ImageCase::Damaged(59, 0), "FileFault { at: 68 }"),
+    (ImageCase::Damaged(58, 2), "FileFault { at: 68 }"),
+    (ImageCase::Damaged(108, 2), "FileFault { at: 129 }"),
+    (ImageCase::Damaged(112, 3), "FileFault { at: 121 }"),
+    (ImageCase::Cut(0), "FileFault { at: 12 }"),
+    (ImageCase::Cut(15), "FileFault { at: 12 }"),
+    (ImageCase::Cut(16), "FileFault { at: 28 }"),
+    (ImageCase::Cut(116), "FileFault { at: 125 }"),
+    (
+        ImageCase::Framed(1, 161, 1),
+        "FileFault { at: 129 }; LoadFault { at: 129 }",
+    ),
+    (
+        ImageCase::Framed(2, 161, 0),
+        "FileFault { at: 8 }; LoadFault { at: 8 }",
+    ),
+    (
+        ImageCase::Framed(1, 11, 0),
+        "FileFault { at: 4 }; LoadFault { at: 4 }",
+    ),
+    (
+        ImageCase::Framed(1, 3, 0),
+        "FileFault { at: 0 }; LoadFault { at: 0 }",
+    ),
+    (ImageCase::Image(&SHORT), "FileFault { at: 8 }"),
+    (ImageCase::Map(&PAYLOAD), "LoadFault { at: 0 }"),
 ];
 
-#[test]
-fn damaged_images(rt: HostRuntime) -> Result<(), Fail> {
-    for (place, value, at) in DAMAGES.iter() {
-        let mut damaged = PAYLOAD;
-        damaged[*place % 117] = *value;
-        assert!(rt; fault_of(rt.alloc(), &damaged)? == Some(*at), "{place}");
+impl Case for ImageCase {
+    fn answer<R: Abort>(&self, rt: &R, text: &mut Text) {
+        match self {
+            ImageCase::Framed(version, len, turned) => {
+                push_framed(rt, text, *version, *len, *turned)
+            }
+            ImageCase::Damaged(place, value) => push_damaged(rt, text, *place, *value),
+            ImageCase::Cut(len) => push_sealed(rt, text, &PAYLOAD[..(*len).min(117)]),
+            ImageCase::Image(file) => push_image(rt, text, *file),
+            ImageCase::Map(file) => push_map(text, *file),
+        }
     }
-    Ok(())
 }
 
-/// How many bytes of the payload there are, and the offset of the fault.
-const LENGTHS: [(usize, usize); 4] = [(0, 12), (15, 12), (16, 28), (116, 125)];
-
-#[test]
-fn short_images(rt: HostRuntime) -> Result<(), Fail> {
-    for (len, at) in LENGTHS {
-        assert!(rt; fault_of(rt.alloc(), &PAYLOAD[..len])? == Some(at), "{len}");
-    }
-    Ok(())
-}
-
-/// The version of a file, how many of its bytes there are, what its last byte is turned by, and the offset
-/// of the fault.
-const FRAMES: [(u32, usize, u8, usize); 4] = [
-    (1, 161, 1, 129),
-    (2, 161, 0, 8),
-    (1, 11, 0, 4),
-    (1, 3, 0, 0),
-];
-
-/// Whether such a file has the fault at this offset, for its image and for its map.
-fn is_frame_refused(
-    alloc: Global,
-    version: u32,
-    len: usize,
-    turned: u8,
-    at: usize,
-) -> Result<bool, AllocError> {
-    let mut file = seal(alloc, KIND, version, &PAYLOAD)?;
+/// Adds the image and the map of the first bytes of the payload's file with its last byte turned.
+fn push_framed(rt: &impl Abort, text: &mut Text, version: u32, len: usize, turned: u8) {
+    let mut file = seal(text.alloc(), KIND, version, &PAYLOAD).expect(rt, "a file");
     if let Some(last) = file.last_mut() {
         *last ^= turned;
     }
     file.truncate(len);
-    Ok(fault_in(alloc, &file) == Some(at) && map_fault_in(alloc, &file) == Some(at))
+    push_image(rt, text, &file);
+    text.push(b"; ");
+    push_map(text, &file);
 }
 
-#[test]
-fn damaged_frames(rt: HostRuntime) -> Result<(), Fail> {
-    for (version, len, turned, at) in FRAMES {
-        assert!(rt;
-            is_frame_refused(rt.alloc(), version, len, turned, at)?,
-            "{len}"
-        );
+/// Adds the image of the file of the payload in which a byte is another.
+fn push_damaged(rt: &impl Abort, text: &mut Text, place: usize, value: u8) {
+    let mut damaged = PAYLOAD;
+    damaged[place % 117] = value;
+    push_sealed(rt, text, &damaged);
+}
+
+/// Adds the image of the file of a payload.
+fn push_sealed(rt: &impl Abort, text: &mut Text, payload: &[u8]) {
+    assert!(rt; payload.len() <= 117);
+    let file = seal(text.alloc(), KIND, 1, payload).expect(rt, "a file");
+    push_image(rt, text, &file);
+}
+
+/// Adds the image in a file, and whether it is written as that file, or the fault.
+fn push_image(rt: &impl Abort, text: &mut Text, file: &[u8]) {
+    match read_image(text.alloc(), file) {
+        Ok(image) => {
+            let written = write_image(text.alloc(), &image).expect(rt, "a file");
+            text.debug(&(written.as_slice() == file));
+            push_content(text, &image);
+        }
+        Err(fault) => text.debug(&fault),
     }
-    Ok(())
 }
 
-/// The first bytes of a file of eleven bytes: its length is right, and its version is short.
-const SHORT: [u8; 11] = [80, 65, 87, 73, 0, 0, 0, 11, 0, 0, 0];
+/// Adds a name and its numbers.
+fn push_place(text: &mut Text, name: &Name, numbers: &[u32]) {
+    text.push(b" ");
+    text.push(name.as_bytes());
+    text.push(b" ");
+    text.debug(&numbers);
+}
 
-#[test]
-fn no_file(rt: HostRuntime) {
-    let short = fault_in(rt.alloc(), &SHORT) == Some(8);
-    assert!(rt; short && map_fault_in(rt.alloc(), &PAYLOAD) == Some(0));
+/// Adds an item of the data: its offset and its bytes.
+fn push_item(text: &mut Text, item: &DataItem) {
+    text.push(b" ");
+    text.debug(&(item.offset, item.bytes.as_slice()));
+}
+
+/// Adds the numbers and the words of a memory.
+fn push_memory(text: &mut Text, memory: &Memory) {
+    text.push(b" ");
+    text.debug(&(
+        memory.entry,
+        memory.stack,
+        memory.stack_end,
+        memory.data_size,
+        memory.words.as_slice(),
+    ));
+}
+
+/// Adds what an image is, where it has as many items and names as the payload's.
+fn push_content(text: &mut Text, image: &Image) {
+    push_memory(text, &image.memory);
+    let items = image.memory.items.as_slice();
+    match (items, image.functions.as_slice(), image.globals.as_slice()) {
+        ([first, second], [main, exit], [g]) => {
+            push_item(text, first);
+            push_item(text, second);
+            push_place(text, &main.name, &[main.address, main.frame]);
+            push_place(text, &exit.name, &[exit.address, exit.frame]);
+            push_place(text, &g.name, &[g.address]);
+        }
+        _ => text.push(b" other counts"),
+    }
+}
+
+/// Adds the map in a file, or the fault.
+fn push_map(text: &mut Text, file: &[u8]) {
+    match read_map(text.alloc(), file) {
+        Ok(map) => push_places(text, &map),
+        Err(fault) => text.debug(&fault),
+    }
+}
+
+/// Adds what a map is, where it has as many names as the payload's.
+fn push_places(text: &mut Text, map: &Map) {
+    match (map.functions.as_slice(), map.globals.as_slice()) {
+        ([main, exit], [g]) => {
+            push_place(text, &main.0, &[main.1, main.2]);
+            push_place(text, &exit.0, &[exit.1, exit.2]);
+            push_place(text, &g.0, &[g.1]);
+        }
+        _ => text.push(b" other counts"),
+    }
 }

@@ -1,7 +1,10 @@
-//! Tests of the machine and of what it stands on: instructions, images, the outside and runs. What the
-//! contracts do not say, as tables whose expected values come from outside. It has no code of its own.
+//! Tests of the machine and of what stands beside it: instructions, images, loading, runs, the routines behind
+//! each program, the outside in memory and the data-flow solver. What the contracts do not say, as tables of
+//! cases whose answers come from outside. It has no code of its own.
 #![tactic(auto)]
 
+#[cfg(test)]
+mod cases;
 #[cfg(test)]
 mod images;
 #[cfg(test)]
@@ -9,4 +12,14 @@ mod instructions;
 #[cfg(test)]
 mod loading;
 #[cfg(test)]
+mod machines;
+#[cfg(test)]
+mod outside;
+#[cfg(test)]
+mod pairs;
+#[cfg(test)]
 mod programs;
+#[cfg(test)]
+mod routines;
+#[cfg(test)]
+mod solver;

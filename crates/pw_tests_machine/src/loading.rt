@@ -1,10 +1,21 @@
-//! Tests of pw_machine: images that are loaded and run, and damaged files. The files were written by hand,
-//! with digests by another implementation of SHA-256.
+//! Cases of pw_machine: images that are loaded and run, and damaged files. The files were written by hand, with
+//! digests by another implementation of SHA-256.
 
-use crate::programs::{has_words, run_in_turns};
-use pw_machine::{LoadError, Machine};
-use std::alloc::{AllocError, Global};
-use std::test::Fail;
+use crate::cases::Case;
+use crate::machines::{push_run, push_words};
+use pw_machine::Machine;
+use pw_rows::Text;
+use std::process::Abort;
+
+/// What is asked of files.
+pub(crate) enum LoadCase {
+    /// Where the program in a file begins, what it does in turns of so many steps, and the word at 4,136 then.
+    Ran(&'static [u8], u64),
+    /// The front, the steps, the stack and the words at `ADDRESSES` of the file `PROGRAM` in which a byte is another.
+    Damaged(usize, u8),
+    /// The same of the first bytes of a file of eleven.
+    Short(usize),
+}
 
 /// One word, `BREAK 1,0`, and nothing else.
 const BAD_BREAK: [u8; 84] = [
@@ -27,165 +38,106 @@ const PROGRAM: [u8; 167] = [
     102, 198, 75, 107, 201, 212,
 ];
 
-/// What the program in an image's file does, in turns of so many steps.
-fn run_loaded(alloc: Global, file: &[u8], budget: u64) -> Result<String, AllocError> {
-    match Machine::load(alloc, file) {
-        Ok(mut machine) => run_in_turns(alloc, &mut machine, b"", budget),
-        Err(fault) => format!(in alloc; "{fault:?}"),
-    }
-}
+/// The kind of an image's file, its length, 11, and three bytes of the version.
+static SHORT: [u8; 11] = [80, 65, 87, 73, 0, 0, 0, 11, 0, 0, 0];
 
-/// Whether the program in a file does this, in turns of so many steps.
-fn does_as_told(alloc: Global, file: &[u8], budget: u64, wanted: &str) -> Result<bool, AllocError> {
-    Ok(run_loaded(alloc, file, budget)?.as_str() == wanted)
-}
+/// Addresses in the text, the data, and on both sides.
+static ADDRESSES: [u32; 8] = [4092, 4096, 4100, 4124, 4128, 4132, 4136, 67_108_860];
 
-/// A file, how many steps a turn has, and what the program in it does.
-static RUNS: [(&[u8], u64, &str); 3] = [
-    (&BAD_BREAK, 100, "Halted(BadBreak, 4096) 1 []"),
-    (&PROGRAM, 1, "Ended(42) 6 [97]"),
-    (&PROGRAM, 100, "Ended(42) 6 [97]"),
-];
-
-#[test]
-fn runs(rt: HostRuntime) -> Result<(), Fail> {
-    for (file, budget, wanted) in RUNS.iter() {
-        assert!(rt;
-            does_as_told(rt.alloc(), *file, *budget, *wanted)?,
-            "{wanted}"
-        );
-    }
-    Ok(())
-}
-
-/// Addresses, and the words there when the program is loaded.
-const WORDS: [(u32, Option<u32>); 8] = [
-    (4092, Some(0)),
-    (4096, Some(1)),
-    (4100, Some(0x2020_2000)),
-    (4124, Some(0x0800_0240)),
-    (4128, Some(0x6162_0000)),
-    (4132, Some(42)),
-    (4136, Some(0)),
-    (67_108_860, Some(0)),
-];
-
-/// Whether the program is loaded with its front, no steps, its stack and its words.
-fn is_program_loaded(alloc: Global) -> bool {
-    match Machine::load(alloc, &PROGRAM) {
-        Ok(m) => {
-            m.front() == 4100 && m.steps() == 0 && m.reg(30) == 4224 && has_words(&m, &WORDS)
-        }
-        Err(_) => false,
-    }
-}
-
-// The data start at 4,128 and end at 4,144, so that the stack begins at 4,224.
-#[test]
-fn a_program(rt: HostRuntime) {
-    assert!(rt; is_program_loaded(rt.alloc()));
-}
-
-/// Whether the word at 4,136 is 42 after the program has run.
-fn is_word_stored(alloc: Global) -> Result<bool, AllocError> {
-    match Machine::load(alloc, &PROGRAM) {
-        Ok(mut machine) => {
-            let _ = run_in_turns(alloc, &mut machine, b"", 100)?;
-            Ok(machine.word_at(4136) == Some(42))
-        }
-        Err(_) => Ok(false),
-    }
-}
-
-#[test]
-fn a_stored_word(rt: HostRuntime) -> Result<(), Fail> {
-    assert!(rt; is_word_stored(rt.alloc())?);
-    Ok(())
-}
-
-/// Whether a machine that is loaded begins at this address.
-fn begins_at(alloc: Global, file: &[u8], front: u32) -> bool {
-    match Machine::load(alloc, file) {
-        Ok(machine) => machine.front() == front,
-        Err(_) => false,
-    }
-}
-
-#[test]
-fn entries(rt: HostRuntime) {
-    let bad = begins_at(rt.alloc(), &BAD_BREAK, 4096);
-    assert!(rt; bad && begins_at(rt.alloc(), &PROGRAM, 4100));
-}
-
-/// A byte of the file, what it becomes, and the offset of the first field that breaks its rule by it.
-static DAMAGES: [(usize, u8, usize); 30] = [
+/// Cases and their answers. The data start at 4,128 and end at 4,144, so that the stack begins at 4,224.
+pub(crate) static CASES: [(LoadCase, &str); 39] = [
+    (
+        LoadCase::Ran(&BAD_BREAK, 100),
+        "4096 Halted(BadBreak, 4096) 1 [] Some(0)",
+    ),
+    (LoadCase::Ran(&PROGRAM, 1), "4100 Ended(42) 6 [97] Some(42)"),
+    (
+        LoadCase::Ran(&PROGRAM, 100),
+        "4100 Ended(42) 6 [97] Some(42)",
+    ),
+    (
+        LoadCase::Damaged(0, 80),
+        "(4100, 0, 4224) Some(0) Some(1) Some(538976256) Some(134218304) Some(1633812480) Some(42) Some(0) Some(0)",
+    ),
     // kind, length, version
-    (0, 81, 0),
-    (7, 166, 4),
-    (11, 2, 8),
+    (LoadCase::Damaged(0, 81), "LoadFault { at: 0 }"),
+    (LoadCase::Damaged(7, 166), "LoadFault { at: 4 }"),
+    (LoadCase::Damaged(11, 2), "LoadFault { at: 8 }"),
     // the entry is 4,097; the stack ends above the memory, and below the data
-    (15, 1, 12),
-    (20, 5, 20),
-    (22, 16, 60),
+    (LoadCase::Damaged(15, 1), "LoadFault { at: 12 }"),
+    (LoadCase::Damaged(20, 5), "LoadFault { at: 20 }"),
+    (LoadCase::Damaged(22, 16), "LoadFault { at: 60 }"),
     // 65,544 words; a word, and the stack, that only the digest keeps
-    (25, 1, 24),
-    (31, 2, 135),
-    (19, 8, 135),
+    (LoadCase::Damaged(25, 1), "LoadFault { at: 24 }"),
+    (LoadCase::Damaged(31, 2), "LoadFault { at: 135 }"),
+    (LoadCase::Damaged(19, 8), "LoadFault { at: 135 }"),
     // the data, the count of items, their offsets and their counts
-    (61, 1, 60),
-    (67, 3, 90),
-    (71, 18, 68),
-    (75, 17, 72),
-    (81, 1, 78),
-    (81, 17, 78),
-    (85, 13, 82),
+    (LoadCase::Damaged(61, 1), "LoadFault { at: 60 }"),
+    (LoadCase::Damaged(67, 3), "LoadFault { at: 90 }"),
+    (LoadCase::Damaged(71, 18), "LoadFault { at: 68 }"),
+    (LoadCase::Damaged(75, 17), "LoadFault { at: 72 }"),
+    (LoadCase::Damaged(81, 1), "LoadFault { at: 78 }"),
+    (LoadCase::Damaged(81, 17), "LoadFault { at: 78 }"),
+    (LoadCase::Damaged(85, 13), "LoadFault { at: 82 }"),
     // the names: their count, an empty one, a long one, `z` before `main`, and none of `g`
-    (93, 1, 103),
-    (97, 0, 94),
-    (96, 2, 94),
-    (98, 122, 99),
-    (130, 1, 94),
+    (LoadCase::Damaged(93, 1), "LoadFault { at: 103 }"),
+    (LoadCase::Damaged(97, 0), "LoadFault { at: 94 }"),
+    (LoadCase::Damaged(96, 2), "LoadFault { at: 94 }"),
+    (LoadCase::Damaged(98, 122), "LoadFault { at: 99 }"),
+    (LoadCase::Damaged(130, 1), "LoadFault { at: 94 }"),
     // the functions: their count, a name, an address, a frame
-    (110, 2, 127),
-    (114, 2, 111),
-    (118, 6, 115),
-    (122, 8, 135),
+    (LoadCase::Damaged(110, 2), "LoadFault { at: 127 }"),
+    (LoadCase::Damaged(114, 2), "LoadFault { at: 111 }"),
+    (LoadCase::Damaged(118, 6), "LoadFault { at: 115 }"),
+    (LoadCase::Damaged(122, 8), "LoadFault { at: 135 }"),
     // the global objects: their count, a name, an address
-    (126, 0, 127),
-    (126, 2, 135),
-    (130, 2, 127),
-    (134, 0, 135),
+    (LoadCase::Damaged(126, 0), "LoadFault { at: 127 }"),
+    (LoadCase::Damaged(126, 2), "LoadFault { at: 135 }"),
+    (LoadCase::Damaged(130, 2), "LoadFault { at: 127 }"),
+    (LoadCase::Damaged(134, 0), "LoadFault { at: 135 }"),
     // the digest
-    (166, 0, 135),
+    (LoadCase::Damaged(166, 0), "LoadFault { at: 135 }"),
+    // files that are too short
+    (LoadCase::Short(0), "LoadFault { at: 0 }"),
+    (LoadCase::Short(3), "LoadFault { at: 0 }"),
+    (LoadCase::Short(7), "LoadFault { at: 4 }"),
+    (LoadCase::Short(10), "LoadFault { at: 4 }"),
+    (LoadCase::Short(11), "LoadFault { at: 8 }"),
 ];
 
-/// The offset of the fault in damaged bytes.
-fn fault_of(alloc: Global, bytes: &[u8]) -> Option<usize> {
-    match Machine::load(alloc, bytes) {
-        Err(LoadError::LoadFault { at }) => Some(at),
-        _ => None,
+impl Case for LoadCase {
+    fn answer<R: Abort>(&self, rt: &R, text: &mut Text) {
+        match self {
+            LoadCase::Ran(file, budget) => push_ran(rt, text, *file, *budget),
+            LoadCase::Damaged(place, byte) => push_damaged(text, *place, *byte),
+            LoadCase::Short(len) => push_loaded(text, &SHORT[..(*len).min(11)]),
+        }
     }
 }
 
-#[test]
-fn damaged_files(rt: HostRuntime) {
-    for (place, byte, at) in DAMAGES.iter() {
-        let mut damaged = PROGRAM;
-        damaged[*place % 167] = *byte;
-        assert!(rt;
-            fault_of(rt.alloc(), &damaged) == Some(*at),
-            "{place} {byte}"
-        );
-    }
+/// Adds where the program in a file begins, what it does, and a word of its memory then.
+fn push_ran(rt: &impl Abort, text: &mut Text, file: &[u8], budget: u64) {
+    let mut machine = Machine::load(text.alloc(), file).expect(rt, "a program");
+    text.display(&machine.front());
+    text.push(b" ");
+    push_run(rt, text, &mut machine, "", budget);
+    push_words(text, &machine, &[4136]);
 }
 
-/// How many bytes there are of a file of eleven, and the offset of the fault.
-const LENGTHS: [(usize, usize); 5] = [(0, 0), (3, 0), (7, 4), (10, 4), (11, 8)];
+/// Adds the machine that is loaded from `PROGRAM` in which a byte is another.
+fn push_damaged(text: &mut Text, place: usize, byte: u8) {
+    let mut damaged = PROGRAM;
+    damaged[place % 167] = byte;
+    push_loaded(text, &damaged);
+}
 
-#[test]
-fn short_files(rt: HostRuntime) {
-    let short = [80u8, 65, 87, 73, 0, 0, 0, 11, 0, 0, 0];
-    for (len, at) in LENGTHS {
-        assert!(rt; fault_of(rt.alloc(), &short[..len]) == Some(at), "{len}");
+/// Adds the machine that is loaded from bytes, or the fault.
+fn push_loaded(text: &mut Text, file: &[u8]) {
+    match Machine::load(text.alloc(), file) {
+        Ok(machine) => {
+            text.debug(&(machine.front(), machine.steps(), machine.reg(30)));
+            push_words(text, &machine, &ADDRESSES);
+        }
+        Err(fault) => text.debug(&fault),
     }
 }
