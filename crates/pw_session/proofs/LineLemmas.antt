@@ -103,9 +103,9 @@ pub line_built : (opts : SessionOpts) (built : Option (List ℕ)) (report : Repo
 line_built opts built report None new answer taken taken' image obeys out e = tt
 line_built opts built report (Some told) new answer taken taken' image obeys out e = built_line opts (record { told = told; image = built }) report new answer taken taken' image (does_build opts.build (Ok report) told new obeys) out e
 
-pub made_built : (first new : Option Told) (answer : Answer) → IfSome first (λ told. PutsSome Done told new) → IfSome first (λ told. MakesSome answer told new)
-made_built None new answer some = tt
-made_built (Some told) new answer some = puts_some some.0 answer told new some.1 some.2
+pub made_built : (may : List ℕ → Type 0) (first new : Option Told) (answer : Answer) → IfSome first (λ told. PutsSome Done told new) → IfSome first (λ told. MakesSome may answer told new)
+made_built may None new answer some = tt
+made_built may (Some told) new answer some = puts_some may some.0 answer told new some.1 some.2
 
 -- ---- a build that is not done
 
@@ -165,16 +165,16 @@ pub line_refused : (opts : SessionOpts) (built : Option (List ℕ)) (unbuilt : U
 line_refused opts built unbuilt None new answer taken taken' image obeys line said e = tt
 line_refused opts built unbuilt (Some told) new answer taken taken' image obeys line said e = fault_said opts (record { told = told; image = built }) unbuilt new answer taken taken' image (does_build opts.build (Err unbuilt) told new obeys) line said e
 
-some_refused : (told : Told) (fault : BuildFault) (line : ℕ) (new : Option Told) (answer : Answer) (taken taken' : Option (List ℕ)) → PutsSome (fault_answer fault) told new → SaysFault fault line answer taken taken' → MakesSome answer told new
-some_refused told build.StoreFault line new answer taken taken' some q = subst (λ (a : Answer). MakesSome a told new) (sym q.0) (map Puts some.0, own_puts some.0 some.1, put_part some.0 told new some.2)
-some_refused told build.NoMemory line new answer taken taken' some q = puts_some some.0 answer told new some.1 some.2
-some_refused told (build.Refused name refusal) line new answer taken taken' some q = makes_some [] answer told new tt (makes_all [] answer told new some)
-some_refused told (build.LinkRefused fault) line new answer taken taken' some q = makes_some [] answer told new tt (makes_all [] answer told new some)
+some_refused : (may : List ℕ → Type 0) (told : Told) (fault : BuildFault) (line : ℕ) (new : Option Told) (answer : Answer) (taken taken' : Option (List ℕ)) → PutsSome (fault_answer fault) told new → SaysFault fault line answer taken taken' → MakesSome may answer told new
+some_refused may told build.StoreFault line new answer taken taken' some q = subst (λ (a : Answer). MakesSome may a told new) (sym q.0) (map Puts some.0, own_puts may some.0 some.1, put_part some.0 told new some.2)
+some_refused may told build.NoMemory line new answer taken taken' some q = puts_some may some.0 answer told new some.1 some.2
+some_refused may told (build.Refused name refusal) line new answer taken taken' some q = makes_some may [] answer told new tt (makes_all [] answer told new some)
+some_refused may told (build.LinkRefused fault) line new answer taken taken' some q = makes_some may [] answer told new tt (makes_all [] answer told new some)
 
-pub made_refused : (unbuilt : Unbuilt) (first new : Option Told) (answer : Answer) (taken taken' : Option (List ℕ)) → IfSome first (λ told. PutsSome (fault_answer unbuilt.fault) told new)
-    → SaysFault unbuilt.fault unbuilt.line answer taken taken' → IfSome first (λ told. MakesSome answer told new)
-made_refused unbuilt None new answer taken taken' some said = tt
-made_refused unbuilt (Some told) new answer taken taken' some said = some_refused told unbuilt.fault unbuilt.line new answer taken taken' some said
+pub made_refused : (may : List ℕ → Type 0) (unbuilt : Unbuilt) (first new : Option Told) (answer : Answer) (taken taken' : Option (List ℕ)) → IfSome first (λ told. PutsSome (fault_answer unbuilt.fault) told new)
+    → SaysFault unbuilt.fault unbuilt.line answer taken taken' → IfSome first (λ told. MakesSome may answer told new)
+made_refused may unbuilt None new answer taken taken' some said = tt
+made_refused may unbuilt (Some told) new answer taken taken' some said = some_refused may told unbuilt.fault unbuilt.line new answer taken taken' some said
 
 -- ---- the other lines
 
@@ -199,19 +199,19 @@ line_removed opts built file None new answer taken taken' image does e = tt
 line_removed opts built file (Some told) new answer taken taken' image does e =
     change_line opts (record { told = told; image = built }) (RemoveText file) (Removes file) new answer taken taken' image (λ act h. h) refl does e
 
-pub does_some : (output : List ℕ) (changes : List Change) (first new : Option Told) (answer : Answer) (taken taken' : Option (List ℕ)) → AreOwnChanges changes → IfSome first (λ told. Does output changes answer told new taken taken')
-    → IfSome first (λ told. MakesSome answer told new)
-does_some output changes None new answer taken taken' own does = tt
-does_some output changes (Some told) new answer taken taken' own does = makes_some changes answer told new own does.made
+pub does_some : (may : List ℕ → Type 0) (output : List ℕ) (changes : List Change) (first new : Option Told) (answer : Answer) (taken taken' : Option (List ℕ)) → AreOwnChanges may changes → IfSome first (λ told. Does output changes answer told new taken taken')
+    → IfSome first (λ told. MakesSome may answer told new)
+does_some may output changes None new answer taken taken' own does = tt
+does_some may output changes (Some told) new answer taken taken' own does = makes_some may changes answer told new own does.made
 
 -- of one module's file
-pub put_some : (output file text : List ℕ) (first new : Option Told) (answer : Answer) (taken taken' : Option (List ℕ)) → is_module_file file ≡ true → IfSome first (λ told. Does output (Puts (file, text) ∷ []) answer told new taken taken')
-    → IfSome first (λ told. MakesSome answer told new)
-put_some output file text first new answer taken taken' own does = does_some output (Puts (file, text) ∷ []) first new answer taken taken' (inl own, tt) does
+pub put_some : (may : List ℕ → Type 0) (output file text : List ℕ) (first new : Option Told) (answer : Answer) (taken taken' : Option (List ℕ)) → is_module_file file ≡ true → IfSome first (λ told. Does output (Puts (file, text) ∷ []) answer told new taken taken')
+    → IfSome first (λ told. MakesSome may answer told new)
+put_some may output file text first new answer taken taken' own does = does_some may output (Puts (file, text) ∷ []) first new answer taken taken' (inl own, tt) does
 
-pub removed_some : (output file : List ℕ) (first new : Option Told) (answer : Answer) (taken taken' : Option (List ℕ)) → is_module_file file ≡ true → IfSome first (λ told. Does output (Removes file ∷ []) answer told new taken taken')
-    → IfSome first (λ told. MakesSome answer told new)
-removed_some output file first new answer taken taken' own does = does_some output (Removes file ∷ []) first new answer taken taken' (own, tt) does
+pub removed_some : (may : List ℕ → Type 0) (output file : List ℕ) (first new : Option Told) (answer : Answer) (taken taken' : Option (List ℕ)) → may file → IfSome first (λ told. Does output (Removes file ∷ []) answer told new taken taken')
+    → IfSome first (λ told. MakesSome may answer told new)
+removed_some may output file first new answer taken taken' own does = does_some may output (Removes file ∷ []) first new answer taken taken' (own, tt) does
 
 run_does : (opts : SessionOpts) (s : State) (input : List ℕ) (new : Option Told) (answer : Answer) (taken taken' image : Option (List ℕ)) → ObeysRun s.image opts.budget input answer taken taken' → new ≡ Some s.told → image ≡ s.image
     → ObeysLine opts s (RunProgram input) answer new taken taken' image
@@ -226,9 +226,9 @@ pub line_run : (opts : SessionOpts) (built : Option (List ℕ)) (input : List �
 line_run opts built input None answer taken taken' image run e = tt
 line_run opts built input (Some told) answer taken taken' image run e = run_does opts (record { told = told; image = built }) input (Some told) answer taken taken' image run refl e
 
-pub same_some : (first : Option Told) (answer : Answer) → IfSome first (λ told. MakesSome answer told first)
-same_some None answer = tt
-same_some (Some told) answer = makes_some [] answer told (Some told) tt (makes_all [] answer told (Some told) refl)
+pub same_some : (may : List ℕ → Type 0) (first : Option Told) (answer : Answer) → IfSome first (λ told. MakesSome may answer told first)
+same_some may None answer = tt
+same_some may (Some told) answer = makes_some may [] answer told (Some told) tt (makes_all [] answer told (Some told) refl)
 
 -- ---- over what the calls gave
 

@@ -23,12 +23,16 @@ use Rattle.pw_session.proofs.ChangeLemmas.{after_both, front_none, makes_all, ma
 -- ---- the lines that are left
 
 -- a line stands there
-pub lines_next : (n offset size : ℕ) (left later : List ℕ) (line : LineValue) → first_line left ≡ Some (line, later) → length left ≡ size + length later → lines_from (suc n) offset left ≡ with_line line (lines_from n (offset + size) later)
+pub lines_first : (n offset : ℕ) (left later : List ℕ) (line : LineValue) → first_line left ≡ Some (line, later) → lines_from (suc n) offset left ≡ with_line line (lines_from n (offset + (length left - length later)) later)
 unfolding lines_from
+lines_first n offset left later line e =
+    ap (λ (o : Option (LineValue × List ℕ)). option_map_or (λ (cut : LineValue × List ℕ). with_line cut.0 (lines_from n (offset + (length left - length cut.1)) cut.1)) o (no_line offset left)) e
+
+-- of so many bytes
+pub lines_next : (n offset size : ℕ) (left later : List ℕ) (line : LineValue) → first_line left ≡ Some (line, later) → length left ≡ size + length later → lines_from (suc n) offset left ≡ with_line line (lines_from n (offset + size) later)
 lines_next n offset size left later line e l =
     let k : length left - length later ≡ size = omega (arith, l) in
-    ap (λ (o : Option (LineValue × List ℕ)). option_map_or (λ (cut : LineValue × List ℕ). with_line cut.0 (lines_from n (offset + (length left - length cut.1)) cut.1)) o (no_line offset left)) e
-    ∙ ap (λ (m : ℕ). with_line line (lines_from n (offset + m) later)) k
+    lines_first n offset left later line e ∙ ap (λ (m : ℕ). with_line line (lines_from n (offset + m) later)) k
 
 -- none does
 pub lines_stop : (n offset : ℕ) (left : List ℕ) → first_line left ≡ None → lines_from (suc n) offset left ≡ no_line offset left

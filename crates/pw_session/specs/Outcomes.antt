@@ -21,7 +21,7 @@ use Rattle.pw_session.specs.declared.session.Turn.{Turn}
 use Rattle.pw_session.specs.declared.session.Turn.TheVariants.{Over, Obeyed}
 use Rattle.pw_session.specs.Changes.{Change, MakesChanges}
 use Rattle.pw_session.specs.Runs.{RunComes}
-use Rattle.pw_session.specs.Session.{Act, Acts, Effects, LinesAct, ScriptLines, State, bad_at, lines_from, lines_of, script_answer, session_start}
+use Rattle.pw_session.specs.Session.{Act, Acts, Effects, LinesAct, ScriptLines, State, bad_at, lines_from, lines_of, script_answer, session_start, with_line}
 
 -- ---- the session
 
@@ -99,10 +99,11 @@ TakesTurn opts s offset script (Over answer) new rest taken taken' image =
 TakesTurn opts s offset script (Obeyed size) new rest taken taken' image =
     (line : LineValue) × (later : List ℕ) × (first_line script ≡ Some (line, later)) × (length script ≡ size + length later) × (rest ≡ Some later) × ObeysLine opts s line Done new taken taken' image
 
--- What a turn says of how the session ends: as what is left of the script says, or as what is left behind its first line.
+-- What a turn says of how the session ends, as what is left of the script says; or of the line that was obeyed, which stands
+-- before those that are left behind it.
 abbrev pub EndsTurn : ℕ → List ℕ → Turn → Option (List ℕ) → Type 0
 EndsTurn offset script (Over answer) rest = (n : ℕ) → Answers (script_answer (lines_from (suc n) offset script).bad) answer
-EndsTurn offset script (Obeyed size) rest = IsSomeAnd rest (λ later. (n : ℕ) → (lines_from (suc n) offset script).bad ≡ (lines_from n (offset + size) later).bad)
+EndsTurn offset script (Obeyed size) rest = IsSomeAnd rest (λ later. (line : LineValue) × ((n : ℕ) → lines_from (suc n) offset script ≡ with_line line (lines_from n (offset + size) later)))
 
 -- the answer of a turn: `Done` where its line was obeyed
 abbrev pub turn_answer : Turn → Answer

@@ -10,6 +10,7 @@ ghost use Rattle.pw_driving.specs.Driving.{IsPrintAnswer};
 ghost use Rattle.pw_script.specs.Reading.{line_view};
 ghost use Rattle.pw_script.specs.Script.{BuildProgram, NamesModule};
 ghost use Rattle.pw_session.specs.Changes.{MakesSome, Puts, Removes};
+ghost use Rattle.pw_session.specs.Removals.{IsRemovedBy};
 ghost use Rattle.pw_session.specs.Outcomes.{Does, IsLineAnswer, ObeysLine, SaysFault, image_view};
 
 use crate::opts::SessionOpts;
@@ -98,7 +99,7 @@ fn build_program<S: Store, O: Sink>(
 ) -> Answer
     requires { AreOpts opts.now.build }
     ensures does { IfSome (S.told store.old) (λ told. ObeysLine opts.now (record { told = told; image = image_view image.old }) BuildProgram result (S.told store.new) (O.taken out.old) (O.taken out.new) (image_view image.new)) }
-    ensures some { IfSome (S.told store.old) (λ told. MakesSome result told (S.told store.new)) }
+    ensures some { IfSome (S.told store.old) (λ told. MakesSome (IsRemovedBy BuildProgram) result told (S.told store.new)) }
     ensures genuine { IfSome (S.told store.old) (λ told. KeepsGenuine told.files → IfSome (S.told store.new) (λ now. KeepsGenuine now.files)) }
     ensures store { StoreCount (S.faults store.old) (S.faults store.new) result }
     ensures write { OutputCount (O.faults out.old) (O.faults out.new) result }
@@ -126,7 +127,7 @@ pub fn obey_line<S: Store, O: Sink>(
     requires opts { AreOpts opts.now.build }
     requires named { NamesModule (line_view line.now) }
     ensures does { IfSome (S.told store.old) (λ told. ObeysLine opts.now (record { told = told; image = image_view image.old }) (line_view line.now) result (S.told store.new) (O.taken out.old) (O.taken out.new) (image_view image.new)) }
-    ensures some { IfSome (S.told store.old) (λ told. MakesSome result told (S.told store.new)) }
+    ensures some { IfSome (S.told store.old) (λ told. MakesSome (IsRemovedBy (line_view line.now)) result told (S.told store.new)) }
     ensures genuine { IfSome (S.told store.old) (λ told. KeepsGenuine told.files → IfSome (S.told store.new) (λ now. KeepsGenuine now.files)) }
     ensures store { StoreCount (S.faults store.old) (S.faults store.new) result }
     ensures write { OutputCount (O.faults out.old) (O.faults out.new) result }
