@@ -12,7 +12,7 @@ pub returns-in-Put-clause-does : goal.returns-in-Put-clause-does
 returns-in-Put-clause-does g c =
     rw c.in-Put.is
     (line_put_so c.args.opts.now (image_view c.args.image.now) (string_bytes c.in-Put.file) c.in-Put.text.items c.as_str.result.now c.deref.result.now (g.S.Store.told c.args.store.now) (g.S.Store.told c.put_text.new.store) c.put_text.result (g.O.Sink.taken c.args.out.now)
-    (g.O.Sink.taken c.put_text.new.out) (image_view c.args.image.now) c.as_str.ensures.value c.deref.ensures.value c.put_text.ensures.does refl)
+    (g.O.Sink.taken c.put_text.new.out) (image_view c.args.image.now) c.as_str.ensures.value c.deref.ensures.value c.put_text.ensures.does c.put_text.ensures.made refl)
 
 pub returns-in-Put-clause-some : goal.returns-in-Put-clause-some
 returns-in-Put-clause-some g c =
@@ -23,7 +23,7 @@ pub returns-in-Remove-clause-does : goal.returns-in-Remove-clause-does
 returns-in-Remove-clause-does g c =
     rw c.in-Remove.is
     (line_removed_so c.args.opts.now (image_view c.args.image.now) (string_bytes c.in-Remove.file) c.as_str-in-Remove.result.now (g.S.Store.told c.args.store.now) (g.S.Store.told c.remove_text.new.store) c.remove_text.result (g.O.Sink.taken c.args.out.now)
-    (g.O.Sink.taken c.remove_text.new.out) (image_view c.args.image.now) c.as_str-in-Remove.ensures.value c.remove_text.ensures.does refl)
+    (g.O.Sink.taken c.remove_text.new.out) (image_view c.args.image.now) c.as_str-in-Remove.ensures.value c.remove_text.ensures.does c.remove_text.ensures.made refl)
 
 pub returns-in-Remove-clause-some : goal.returns-in-Remove-clause-some
 returns-in-Remove-clause-some g c =
