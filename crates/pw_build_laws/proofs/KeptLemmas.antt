@@ -24,7 +24,7 @@ use Rattle.pw_object.specs.Reading.{object_file_at}
 use Rattle.pw_object.proofs.ObjectLaws.{only_by}
 use Rattle.pw_modules.specs.Modules.{HoldsModule, Source, module_map, modules_of, names_of_modules, text_read}
 use Rattle.pw_answer.specs.Effects.{NamedFile, after_puts}
-use Rattle.pw_making.specs.Programs.{AreObjectsFrom, Completes, DirectivesList, Parts, kept_behind}
+use Rattle.pw_making.specs.Programs.{AreObjectsFrom, Completes, DirectivesList, Parts}
 use Rattle.pw_building.specs.FromBuild.BuildFault.{BuildFault}
 use Rattle.pw_building.specs.FromBuild.FirstPhase.{Phase, compiled}
 use Rattle.pw_building.specs.FromBuild.Builds.{Builds, BuildsBy, before_others, first_phases, flows_of, limit_passed, within}

@@ -149,7 +149,7 @@ pub stored_no_want : (error : StoreError) (fault : BuildFault) → fault ≡ sto
 stored_no_want store.Failed fault e = subst IsNoWant (sym e) tt
 stored_no_want store.NoMemory fault e = subst IsNoWant (sym e) tt
 
-pub of_store_no_want : {V : Type 0} (result : Result V Unbuilt) → IfErr result (λ unbuilt. IsOfStore unbuilt.fault) → IfErr result (λ unbuilt. IsNoWant unbuilt.fault)
+pub of_store_no_want : {T : Type 0} (result : Result T Unbuilt) → IfErr result (λ unbuilt. IsOfStore unbuilt.fault) → IfErr result (λ unbuilt. IsNoWant unbuilt.fault)
 of_store_no_want (Ok value) h = tt
 of_store_no_want (Err unbuilt) h = by_fault unbuilt.fault h
   where

@@ -31,8 +31,8 @@ stored_no_want store.NoMemory fault e = subst IsNoWant (sym e) tt
 pub none_no_want : (fault : BuildFault) → fault ≡ build.NoMemory → IsNoWant fault
 none_no_want fault e = subst IsNoWant (sym e) tt
 
-pub err_proper : {V : Type 0} (r : Result V Unbuilt) (unbuilt : Unbuilt) → r ≡ Err unbuilt → IsNoWant unbuilt.fault → IfErr r (λ u. IsNoWant u.fault)
-err_proper r unbuilt e h = subst (λ (x : Result V Unbuilt). IfErr x (λ u. IsNoWant u.fault)) (sym e) h
+pub err_proper : {T : Type 0} (r : Result T Unbuilt) (unbuilt : Unbuilt) → r ≡ Err unbuilt → IsNoWant unbuilt.fault → IfErr r (λ u. IsNoWant u.fault)
+err_proper r unbuilt e h = subst (λ (x : Result _ Unbuilt). IfErr x (λ u. IsNoWant u.fault)) (sym e) h
 
 -- ---- the first phases
 

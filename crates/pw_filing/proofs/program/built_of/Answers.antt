@@ -30,7 +30,3 @@ returns-in-Ok-clause-bound g c =
 pub returns-in-Err-NoMemory-clause-bound : goal.returns-in-Err-NoMemory-clause-bound
 returns-in-Err-NoMemory-clause-bound g c =
     flows_counted (first_phases (map source c.args.modules.now)) c.in_ok-flows.flows.items c.args.steps.now c.complete.new.steps c.in_ok-flows.ensures.flows (rw c.deref.ensures.value at c.complete.ensures.bound)
-
-pub returns-in-Err-clause-bound : goal.returns-in-Err-clause-bound
-returns-in-Err-clause-bound g c =
-    flows_counted (first_phases (map source c.args.modules.now)) c.in_ok-flows.flows.items c.args.steps.now c.complete.new.steps c.in_ok-flows.ensures.flows (rw c.deref.ensures.value at c.complete.ensures.bound)
