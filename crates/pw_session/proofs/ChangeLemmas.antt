@@ -7,7 +7,7 @@ use Rattle.pw_answer.specs.declared.answer.Answer.{Answer}
 use Rattle.pw_answer.specs.declared.answer.Answer.TheVariants.{ReadFault, WriteFault, StoreFault, NoMemory}
 use Rattle.pw_answer.specs.Effects.{NamedFile, IsLeft, PutFront, PutPart, PutsFiles, after_puts}
 use Rattle.pw_driving.specs.FromBuilding.Genuine.{IsBuiltName}
-use Rattle.pw_session.specs.Changes.{AreOwnChanges, Change, ChangeFront, ChangePart, IsChanged, IsOwnChange, MakesChanges, MakesSome, Puts, Removes, after_change, after_changes}
+use Rattle.pw_session.specs.Changes.{AreOwnChanges, Change, ChangeFront, ChangePart, IsChanged, MakesChanges, MakesSome, Puts, Removes, after_change, after_changes}
 
 pub after_both : (told : Told) (first second : List Change) → after_changes told (first ++ second) ≡ after_changes (after_changes told first) second
 after_both told [] second = refl

@@ -15,7 +15,7 @@ use Rattle.pw_session.specs.declared.session.Turn.{Turn}
 use Rattle.pw_session.specs.declared.session.Turn.TheVariants.{Over, Obeyed}
 use Rattle.pw_session.specs.Changes.{MakesSome}
 use Rattle.pw_session.specs.Removals.{IsRemovedBy, IsRemovedFirst, IsRemovedIn, MayRemove, MayRemoveFirst}
-use Rattle.pw_session.specs.Session.{ScriptLines, bad_at, lines_from, lines_limit, lines_of, no_line, script_answer, with_line}
+use Rattle.pw_session.specs.Session.{ScriptLines, bad_at, lines_from, lines_limit, lines_of, script_answer, with_line}
 use Rattle.pw_session.specs.Outcomes.{EndsAs, EndsTurn, IsLastAnswer, IsLineAnswer, IsTaken, unread}
 use Rattle.pw_session.proofs.ChangeLemmas.{some_weaker}
 use Rattle.pw_session.proofs.SessionLemmas.{bad_there, lines_first, lines_next, lines_over, lines_stop}

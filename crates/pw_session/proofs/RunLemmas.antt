@@ -8,7 +8,7 @@ use Rattle.pw_machine.specs.Run.{Progress, run_of}
 use Rattle.pw_machine.specs.Start.{image_start}
 use Rattle.pw_machine.specs.Stops.{Snapshot, loaded}
 use Rattle.pw_answer.specs.declared.answer.Answer.{Answer}
-use Rattle.pw_answer.specs.declared.answer.Answer.TheVariants.{Done, Ended, StackStop, Spent, Halted, ReadFault, WriteFault, NoMemory}
+use Rattle.pw_answer.specs.declared.answer.Answer.TheVariants.{Ended, StackStop, Spent, Halted, ReadFault, WriteFault, NoMemory}
 use Rattle.pw_answer.specs.Outcomes.{Answers, InputCount, OutputCount, PutsOut}
 use Rattle.pw_running.specs.Running.{IsRunAnswer, run_answer, run_output, started}
 use Rattle.pw_driving.specs.Driving.{IsPrintAnswer}
