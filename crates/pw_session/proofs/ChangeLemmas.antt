@@ -1,5 +1,5 @@
 -- Changes of files, one behind another.
-use Rattle.std.proofs.Common.{◌≡◌, inl, inr, List, [], ◌∷◌, ◌++◌, map, Option, Some, refl, sym, ap, ◌∙◌, subst, append_assoc, append-nil}
+use Rattle.std.proofs.Common.{◌≡◌, inl, inr, ℕ, List, [], ◌∷◌, ◌++◌, map, Option, Some, refl, sym, ap, ◌∙◌, subst, append_assoc, append-nil}
 use Rattle.std.specs.List.{AllByRecursion}
 use Rattle.std.proofs.lemmas.List.{map-append}
 use Rattle.pw_io.specs.Files.{Told, after_put}
@@ -7,7 +7,7 @@ use Rattle.pw_answer.specs.declared.answer.Answer.{Answer}
 use Rattle.pw_answer.specs.declared.answer.Answer.TheVariants.{ReadFault, WriteFault, StoreFault, NoMemory}
 use Rattle.pw_answer.specs.Effects.{NamedFile, IsLeft, PutFront, PutPart, PutsFiles, after_puts}
 use Rattle.pw_driving.specs.FromBuilding.Genuine.{IsBuiltName}
-use Rattle.pw_session.specs.Changes.{AreOwnChanges, Change, ChangeFront, ChangePart, IsChanged, IsOwnChange, MakesChanges, MakesSome, Puts, Removes, after_change, after_changes}
+use Rattle.pw_session.specs.Changes.{AreOwnChanges, Change, ChangeFront, ChangePart, IsChanged, MakesChanges, MakesSome, Puts, Removes, after_change, after_changes}
 
 pub after_both : (told : Told) (first second : List Change) → after_changes told (first ++ second) ≡ after_changes (after_changes told first) second
 after_both told [] second = refl
@@ -132,35 +132,45 @@ puts_make files _ told new p = p ∙ ap (λ (t : Told). Some t) (puts_are_change
 
 -- ---- some changes
 
-own_front : (done more : List Change) → AreOwnChanges (done ++ more) → AreOwnChanges done
-own_front [] more own = tt
-own_front (change ∷ done) more own = (own.0, own_front done more own.1)
+own_front : (may : List ℕ → Type 0) (done more : List Change) → AreOwnChanges may (done ++ more) → AreOwnChanges may done
+own_front may [] more own = tt
+own_front may (change ∷ done) more own = (own.0, own_front may done more own.1)
 
-own_both : (first second : List Change) → AreOwnChanges first → AreOwnChanges second → AreOwnChanges (first ++ second)
-own_both [] second a b = b
-own_both (change ∷ first) second a b = (a.0, own_both first second a.1 b)
+own_both : (may : List ℕ → Type 0) (first second : List Change) → AreOwnChanges may first → AreOwnChanges may second → AreOwnChanges may (first ++ second)
+own_both may [] second a b = b
+own_both may (change ∷ first) second a b = (a.0, own_both may first second a.1 b)
+
+own_weaker : (may might : List ℕ → Type 0) → ((name : List ℕ) → may name → might name) → (changes : List Change) → AreOwnChanges may changes → AreOwnChanges might changes
+own_weaker may might f [] own = tt
+own_weaker may might f (Puts file ∷ changes) own = (own.0, own_weaker may might f changes own.1)
+own_weaker may might f (Removes name ∷ changes) own = (f name own.0, own_weaker may might f changes own.1)
 
 -- the puts of a build are a session's
-pub own_puts : (files : List NamedFile) → AllByRecursion (λ file. IsBuiltName file.0) files → AreOwnChanges (map Puts files)
-own_puts [] own = tt
-own_puts (file ∷ files) own = (inr own.0, own_puts files own.1)
+pub own_puts : (may : List ℕ → Type 0) (files : List NamedFile) → AllByRecursion (λ file. IsBuiltName file.0) files → AreOwnChanges may (map Puts files)
+own_puts may [] own = tt
+own_puts may (file ∷ files) own = (inr own.0, own_puts may files own.1)
 
-front_own : (changes : List Change) (told : Told) (new : Option Told) (p : ChangeFront told changes new) → AreOwnChanges changes → AreOwnChanges p.done
-front_own changes told new p own = own_front p.done p.more (subst AreOwnChanges p.split own)
+front_own : (may : List ℕ → Type 0) (changes : List Change) (told : Told) (new : Option Told) (p : ChangeFront told changes new) → AreOwnChanges may changes → AreOwnChanges may p.done
+front_own may changes told new p own = own_front may p.done p.more (subst (AreOwnChanges may) p.split own)
 
-pub makes_some : (changes : List Change) (answer : Answer) (told : Told) (new : Option Told) → AreOwnChanges changes → MakesChanges changes answer told new → MakesSome answer told new
-makes_some changes StoreFault told new own h = (changes, own, h)
-makes_some changes ReadFault told new own h = (h.done, front_own changes told new h own, h.left)
-makes_some changes WriteFault told new own h = (h.done, front_own changes told new h own, h.left)
-makes_some changes NoMemory told new own h = (h.done, front_own changes told new h own, h.left)
-makes_some changes _ told new own h = (changes, own, h)
+pub makes_some : (may : List ℕ → Type 0) (changes : List Change) (answer : Answer) (told : Told) (new : Option Told) → AreOwnChanges may changes → MakesChanges changes answer told new → MakesSome may answer told new
+makes_some may changes StoreFault told new own h = (changes, own, h)
+makes_some may changes ReadFault told new own h = (h.done, front_own may changes told new h own, h.left)
+makes_some may changes WriteFault told new own h = (h.done, front_own may changes told new h own, h.left)
+makes_some may changes NoMemory told new own h = (h.done, front_own may changes told new h own, h.left)
+makes_some may changes _ told new own h = (changes, own, h)
 
 -- files of a build were put
-pub puts_some : (files : List NamedFile) (answer : Answer) (told : Told) (new : Option Told) → AllByRecursion (λ file. IsBuiltName file.0) files → new ≡ Some (after_puts told files) → MakesSome answer told new
-puts_some files answer told new own e =
-    makes_some (map Puts files) answer told new (own_puts files own) (makes_all (map Puts files) answer told new (e ∙ ap (λ (t : Told). Some t) (puts_are_changes told files)))
+pub puts_some : (may : List ℕ → Type 0) (files : List NamedFile) (answer : Answer) (told : Told) (new : Option Told) → AllByRecursion (λ file. IsBuiltName file.0) files → new ≡ Some (after_puts told files) → MakesSome may answer told new
+puts_some may files answer told new own e =
+    makes_some may (map Puts files) answer told new (own_puts may files own) (makes_all (map Puts files) answer told new (e ∙ ap (λ (t : Told). Some t) (puts_are_changes told files)))
 
 -- some changes that were made, and then some more
-pub some_then : (first : List Change) (answer : Answer) (told : Told) (new : Option Told) → AreOwnChanges first → MakesSome answer (after_changes told first) new → MakesSome answer told new
-some_then first StoreFault told new own h = (first ++ h.0, own_both first h.0 own h.1, part_then first h.0 told new h.2)
-some_then first _ told new own h = (first ++ h.0, own_both first h.0 own h.1, h.2 ∙ ap (λ (t : Told). Some t) (sym (after_both told first h.0)))
+pub some_then : (may : List ℕ → Type 0) (first : List Change) (answer : Answer) (told : Told) (new : Option Told) → AreOwnChanges may first → MakesSome may answer (after_changes told first) new → MakesSome may answer told new
+some_then may first StoreFault told new own h = (first ++ h.0, own_both may first h.0 own h.1, part_then first h.0 told new h.2)
+some_then may first _ told new own h = (first ++ h.0, own_both may first h.0 own h.1, h.2 ∙ ap (λ (t : Told). Some t) (sym (after_both told first h.0)))
+
+-- of what more may be removed
+pub some_weaker : (may might : List ℕ → Type 0) → ((name : List ℕ) → may name → might name) → (answer : Answer) (told : Told) (new : Option Told) → MakesSome may answer told new → MakesSome might answer told new
+some_weaker may might f StoreFault told new h = (h.0, own_weaker may might f h.0 h.1, h.2)
+some_weaker may might f _ told new h = (h.0, own_weaker may might f h.0 h.1, h.2)

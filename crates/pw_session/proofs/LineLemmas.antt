@@ -26,7 +26,7 @@ use Rattle.pw_session.specs.declared.opts.SessionOpts.{SessionOpts}
 use Rattle.pw_session.specs.Builds.{BuildsTo}
 use Rattle.pw_session.specs.Changes.{AreOwnChanges, Change, MakesChanges, MakesSome, Puts, Removes, after_changes}
 use Rattle.pw_session.specs.Session.{Act, Acts, State, builds_as, changes_as, puts_out}
-use Rattle.pw_session.specs.Outcomes.{Does, IsLineAnswer, ObeysLine, ObeysRun, SaysFault}
+use Rattle.pw_session.specs.Outcomes.{Does, IsLineAnswer, IsObeyed, ObeysLine, ObeysRun, SaysFault}
 use Rattle.pw_session.proofs.OutputLemmas.{puts_alone}
 use Rattle.pw_session.proofs.BuildLemmas.{DoesBuild, IsFaultFound, does_build}
 use Rattle.pw_session.proofs.ChangeLemmas.{front_none, makes_all, makes_some, own_puts, part_none, put_part, puts_make, puts_some}
@@ -95,7 +95,7 @@ built_line : (opts : SessionOpts) (s : State) (report : Report) (new : Option To
 built_line opts s report new answer taken taken' image obeys out e = record {
   does = λ act h. subst (λ (a : Act). Does a.output a.changes answer s.told new taken taken') (sym h.2) (built_act opts s report h.0 new answer taken taken' (obeys.answers h.0 h.1) (obeys.puts h.0 h.1) out);
   keeps = λ act h d. e ∙ built_image s report h.0 (obeys.answers h.0 h.1) ∙ ap (λ (a : Act). a.image) (sym h.2);
-  found = λ d. (builds_as s (Ok obeys.found.0), (Ok obeys.found.0, obeys.found.1, refl));
+  found = λ d. (builds_as s (Ok obeys.found.0), (Ok obeys.found.0, obeys.found.1, refl), puts_make obeys.found.0.puts Done s.told new (obeys.puts (Ok obeys.found.0) obeys.found.1));
 }
 
 pub line_built : (opts : SessionOpts) (built : Option (List ℕ)) (report : Report) (first new : Option Told) (answer : Answer) (taken taken' image : Option (List ℕ)) → IfSome first (λ told. ObeysBuild opts.build (Ok report) told new) → PutsOut (report_text report) answer taken taken'
@@ -103,9 +103,9 @@ pub line_built : (opts : SessionOpts) (built : Option (List ℕ)) (report : Repo
 line_built opts built report None new answer taken taken' image obeys out e = tt
 line_built opts built report (Some told) new answer taken taken' image obeys out e = built_line opts (record { told = told; image = built }) report new answer taken taken' image (does_build opts.build (Ok report) told new obeys) out e
 
-pub made_built : (first new : Option Told) (answer : Answer) → IfSome first (λ told. PutsSome Done told new) → IfSome first (λ told. MakesSome answer told new)
-made_built None new answer some = tt
-made_built (Some told) new answer some = puts_some some.0 answer told new some.1 some.2
+pub made_built : (may : List ℕ → Type 0) (first new : Option Told) (answer : Answer) → IfSome first (λ told. PutsSome Done told new) → IfSome first (λ told. MakesSome may answer told new)
+made_built may None new answer some = tt
+made_built may (Some told) new answer some = puts_some may some.0 answer told new some.1 some.2
 
 -- ---- a build that is not done
 
@@ -137,12 +137,19 @@ store_is_no_done e = cc
 memory_is_no_done : ◌≡◌ {A = Answer} NoMemory Done → ⊥
 memory_is_no_done e = cc
 
--- where the line of a fault was told, it is what the build comes to
-fault_found : (files : Files) (opts : Opts) (fault : BuildFault) (line : ℕ) (answer : Answer) (taken taken' : Option (List ℕ)) → IsFaultFound files opts fault → SaysFault fault line answer taken taken' → answer ≡ Done → BuildsTo files opts (Err fault)
-fault_found files opts build.StoreFault line answer taken taken' f q d = absurd (store_is_no_done (sym q.0 ∙ d))
-fault_found files opts build.NoMemory line answer taken taken' f q d = absurd (memory_is_no_done (sym q.0 ∙ d))
+-- where the line of a fault was told, or could not be put out, it is what the build comes to
+fault_found : (files : Files) (opts : Opts) (fault : BuildFault) (line : ℕ) (answer : Answer) (taken taken' : Option (List ℕ)) → IsFaultFound files opts fault → SaysFault fault line answer taken taken' → IsObeyed answer → BuildsTo files opts (Err fault)
+fault_found files opts build.StoreFault line answer taken taken' f q d = absurd (subst IsObeyed q.0 d)
+fault_found files opts build.NoMemory line answer taken taken' f q d = absurd (subst IsObeyed q.0 d)
 fault_found files opts (build.Refused name refusal) line answer taken taken' f q d = f
 fault_found files opts (build.LinkRefused fault) line answer taken taken' f q d = f
+
+-- and nothing was put
+fault_made : (told : Told) (fault : BuildFault) (line : ℕ) (new : Option Told) (answer : Answer) (taken taken' : Option (List ℕ)) → SaysFault fault line answer taken taken' → IsObeyed answer → PutsFiles [] (fault_answer fault) told new → new ≡ Some told
+fault_made told build.StoreFault line new answer taken taken' q d puts = absurd (subst IsObeyed q.0 d)
+fault_made told build.NoMemory line new answer taken taken' q d puts = absurd (subst IsObeyed q.0 d)
+fault_made told (build.Refused name refusal) line new answer taken taken' q d puts = puts
+fault_made told (build.LinkRefused fault) line new answer taken taken' q d puts = puts
 
 -- a refusal leaves the image
 fault_image : (s : State) (fault : BuildFault) (line : ℕ) (comes : Result Outcome BuildFault) (answer : Answer) (taken taken' : Option (List ℕ)) → FaultComes comes fault → SaysFault fault line answer taken taken' → answer ≡ Done → s.image ≡ (builds_as s comes).image
@@ -156,7 +163,9 @@ fault_said : (opts : SessionOpts) (s : State) (unbuilt : Unbuilt) (new : Option 
 fault_said opts s unbuilt new answer taken taken' image obeys line said e = record {
   does = λ act h. subst (λ (a : Act). Does a.output a.changes answer s.told new taken taken') (sym h.2) (fault_act s unbuilt h.0 new answer taken taken' (obeys.answers h.0 h.1) (obeys.puts h.0 h.1) line said);
   keeps = λ act h d. e ∙ fault_image s unbuilt.fault unbuilt.line h.0 answer taken taken' (obeys.answers h.0 h.1) said d ∙ ap (λ (a : Act). a.image) (sym h.2);
-  found = λ d. (builds_as s (Err unbuilt.fault), (Err unbuilt.fault, fault_found s.told.files opts.build unbuilt.fault unbuilt.line answer taken taken' obeys.found said d, refl));
+  found = λ d.
+      let is : BuildsTo s.told.files opts.build (Err unbuilt.fault) = fault_found s.told.files opts.build unbuilt.fault unbuilt.line answer taken taken' obeys.found said d in
+      (builds_as s (Err unbuilt.fault), (Err unbuilt.fault, is, refl), fault_made s.told unbuilt.fault unbuilt.line new answer taken taken' said d (obeys.puts (Err unbuilt.fault) is));
 }
 
 pub line_refused : (opts : SessionOpts) (built : Option (List ℕ)) (unbuilt : Unbuilt) (first new : Option Told) (answer : Answer) (taken taken' image : Option (List ℕ)) → IfSome first (λ told. ObeysBuild opts.build (Err unbuilt) told new)
@@ -165,60 +174,60 @@ pub line_refused : (opts : SessionOpts) (built : Option (List ℕ)) (unbuilt : U
 line_refused opts built unbuilt None new answer taken taken' image obeys line said e = tt
 line_refused opts built unbuilt (Some told) new answer taken taken' image obeys line said e = fault_said opts (record { told = told; image = built }) unbuilt new answer taken taken' image (does_build opts.build (Err unbuilt) told new obeys) line said e
 
-some_refused : (told : Told) (fault : BuildFault) (line : ℕ) (new : Option Told) (answer : Answer) (taken taken' : Option (List ℕ)) → PutsSome (fault_answer fault) told new → SaysFault fault line answer taken taken' → MakesSome answer told new
-some_refused told build.StoreFault line new answer taken taken' some q = subst (λ (a : Answer). MakesSome a told new) (sym q.0) (map Puts some.0, own_puts some.0 some.1, put_part some.0 told new some.2)
-some_refused told build.NoMemory line new answer taken taken' some q = puts_some some.0 answer told new some.1 some.2
-some_refused told (build.Refused name refusal) line new answer taken taken' some q = makes_some [] answer told new tt (makes_all [] answer told new some)
-some_refused told (build.LinkRefused fault) line new answer taken taken' some q = makes_some [] answer told new tt (makes_all [] answer told new some)
+some_refused : (may : List ℕ → Type 0) (told : Told) (fault : BuildFault) (line : ℕ) (new : Option Told) (answer : Answer) (taken taken' : Option (List ℕ)) → PutsSome (fault_answer fault) told new → SaysFault fault line answer taken taken' → MakesSome may answer told new
+some_refused may told build.StoreFault line new answer taken taken' some q = subst (λ (a : Answer). MakesSome may a told new) (sym q.0) (map Puts some.0, own_puts may some.0 some.1, put_part some.0 told new some.2)
+some_refused may told build.NoMemory line new answer taken taken' some q = puts_some may some.0 answer told new some.1 some.2
+some_refused may told (build.Refused name refusal) line new answer taken taken' some q = makes_some may [] answer told new tt (makes_all [] answer told new some)
+some_refused may told (build.LinkRefused fault) line new answer taken taken' some q = makes_some may [] answer told new tt (makes_all [] answer told new some)
 
-pub made_refused : (unbuilt : Unbuilt) (first new : Option Told) (answer : Answer) (taken taken' : Option (List ℕ)) → IfSome first (λ told. PutsSome (fault_answer unbuilt.fault) told new)
-    → SaysFault unbuilt.fault unbuilt.line answer taken taken' → IfSome first (λ told. MakesSome answer told new)
-made_refused unbuilt None new answer taken taken' some said = tt
-made_refused unbuilt (Some told) new answer taken taken' some said = some_refused told unbuilt.fault unbuilt.line new answer taken taken' some said
+pub made_refused : (may : List ℕ → Type 0) (unbuilt : Unbuilt) (first new : Option Told) (answer : Answer) (taken taken' : Option (List ℕ)) → IfSome first (λ told. PutsSome (fault_answer unbuilt.fault) told new)
+    → SaysFault unbuilt.fault unbuilt.line answer taken taken' → IfSome first (λ told. MakesSome may answer told new)
+made_refused may unbuilt None new answer taken taken' some said = tt
+made_refused may unbuilt (Some told) new answer taken taken' some said = some_refused may told unbuilt.fault unbuilt.line new answer taken taken' some said
 
 -- ---- the other lines
 
 -- a change of a file, as a line
 change_line : (opts : SessionOpts) (s : State) (line : LineValue) (change : Change) (new : Option Told) (answer : Answer) (taken taken' image : Option (List ℕ)) → ((act : Act) → Acts opts s line act → act ≡ changes_as s change) → Acts opts s line (changes_as s change)
-    → Does (codes "ok\n") (change ∷ []) answer s.told new taken taken' → image ≡ s.image → ObeysLine opts s line answer new taken taken' image
-change_line opts s line change new answer taken taken' image one is does e = record {
+    → Does (codes "ok\n") (change ∷ []) answer s.told new taken taken' → (IsObeyed answer → new ≡ Some (after_changes s.told (change ∷ []))) → image ≡ s.image → ObeysLine opts s line answer new taken taken' image
+change_line opts s line change new answer taken taken' image one is does made e = record {
   does = λ act h. subst (λ (a : Act). Does a.output a.changes answer s.told new taken taken') (sym (one act h)) does;
   keeps = λ act h d. e ∙ ap (λ (a : Act). a.image) (sym (one act h));
-  found = λ d. (changes_as s change, is);
+  found = λ d. (changes_as s change, is, made d);
 }
 
-pub line_put : (opts : SessionOpts) (built : Option (List ℕ)) (file text : List ℕ) (first new : Option Told) (answer : Answer) (taken taken' image : Option (List ℕ)) → IfSome first (λ told. Does (codes "ok\n") (Puts (file, text) ∷ []) answer told new taken taken') → image ≡ built
-    → IfSome first (λ told. ObeysLine opts (record { told = told; image = built }) (PutText file text) answer new taken taken' image)
-line_put opts built file text None new answer taken taken' image does e = tt
-line_put opts built file text (Some told) new answer taken taken' image does e =
-    change_line opts (record { told = told; image = built }) (PutText file text) (Puts (file, text)) new answer taken taken' image (λ act h. h) refl does e
+pub line_put : (opts : SessionOpts) (built : Option (List ℕ)) (file text : List ℕ) (first new : Option Told) (answer : Answer) (taken taken' image : Option (List ℕ)) → IfSome first (λ told. Does (codes "ok\n") (Puts (file, text) ∷ []) answer told new taken taken')
+    → IfSome first (λ told. IsObeyed answer → new ≡ Some (after_changes told (Puts (file, text) ∷ []))) → image ≡ built → IfSome first (λ told. ObeysLine opts (record { told = told; image = built }) (PutText file text) answer new taken taken' image)
+line_put opts built file text None new answer taken taken' image does made e = tt
+line_put opts built file text (Some told) new answer taken taken' image does made e =
+    change_line opts (record { told = told; image = built }) (PutText file text) (Puts (file, text)) new answer taken taken' image (λ act h. h) refl does made e
 
-pub line_removed : (opts : SessionOpts) (built : Option (List ℕ)) (file : List ℕ) (first new : Option Told) (answer : Answer) (taken taken' image : Option (List ℕ)) → IfSome first (λ told. Does (codes "ok\n") (Removes file ∷ []) answer told new taken taken') → image ≡ built
-    → IfSome first (λ told. ObeysLine opts (record { told = told; image = built }) (RemoveText file) answer new taken taken' image)
-line_removed opts built file None new answer taken taken' image does e = tt
-line_removed opts built file (Some told) new answer taken taken' image does e =
-    change_line opts (record { told = told; image = built }) (RemoveText file) (Removes file) new answer taken taken' image (λ act h. h) refl does e
+pub line_removed : (opts : SessionOpts) (built : Option (List ℕ)) (file : List ℕ) (first new : Option Told) (answer : Answer) (taken taken' image : Option (List ℕ)) → IfSome first (λ told. Does (codes "ok\n") (Removes file ∷ []) answer told new taken taken')
+    → IfSome first (λ told. IsObeyed answer → new ≡ Some (after_changes told (Removes file ∷ []))) → image ≡ built → IfSome first (λ told. ObeysLine opts (record { told = told; image = built }) (RemoveText file) answer new taken taken' image)
+line_removed opts built file None new answer taken taken' image does made e = tt
+line_removed opts built file (Some told) new answer taken taken' image does made e =
+    change_line opts (record { told = told; image = built }) (RemoveText file) (Removes file) new answer taken taken' image (λ act h. h) refl does made e
 
-pub does_some : (output : List ℕ) (changes : List Change) (first new : Option Told) (answer : Answer) (taken taken' : Option (List ℕ)) → AreOwnChanges changes → IfSome first (λ told. Does output changes answer told new taken taken')
-    → IfSome first (λ told. MakesSome answer told new)
-does_some output changes None new answer taken taken' own does = tt
-does_some output changes (Some told) new answer taken taken' own does = makes_some changes answer told new own does.made
+pub does_some : (may : List ℕ → Type 0) (output : List ℕ) (changes : List Change) (first new : Option Told) (answer : Answer) (taken taken' : Option (List ℕ)) → AreOwnChanges may changes → IfSome first (λ told. Does output changes answer told new taken taken')
+    → IfSome first (λ told. MakesSome may answer told new)
+does_some may output changes None new answer taken taken' own does = tt
+does_some may output changes (Some told) new answer taken taken' own does = makes_some may changes answer told new own does.made
 
 -- of one module's file
-pub put_some : (output file text : List ℕ) (first new : Option Told) (answer : Answer) (taken taken' : Option (List ℕ)) → is_module_file file ≡ true → IfSome first (λ told. Does output (Puts (file, text) ∷ []) answer told new taken taken')
-    → IfSome first (λ told. MakesSome answer told new)
-put_some output file text first new answer taken taken' own does = does_some output (Puts (file, text) ∷ []) first new answer taken taken' (inl own, tt) does
+pub put_some : (may : List ℕ → Type 0) (output file text : List ℕ) (first new : Option Told) (answer : Answer) (taken taken' : Option (List ℕ)) → is_module_file file ≡ true → IfSome first (λ told. Does output (Puts (file, text) ∷ []) answer told new taken taken')
+    → IfSome first (λ told. MakesSome may answer told new)
+put_some may output file text first new answer taken taken' own does = does_some may output (Puts (file, text) ∷ []) first new answer taken taken' (inl own, tt) does
 
-pub removed_some : (output file : List ℕ) (first new : Option Told) (answer : Answer) (taken taken' : Option (List ℕ)) → is_module_file file ≡ true → IfSome first (λ told. Does output (Removes file ∷ []) answer told new taken taken')
-    → IfSome first (λ told. MakesSome answer told new)
-removed_some output file first new answer taken taken' own does = does_some output (Removes file ∷ []) first new answer taken taken' (own, tt) does
+pub removed_some : (may : List ℕ → Type 0) (output file : List ℕ) (first new : Option Told) (answer : Answer) (taken taken' : Option (List ℕ)) → may file → IfSome first (λ told. Does output (Removes file ∷ []) answer told new taken taken')
+    → IfSome first (λ told. MakesSome may answer told new)
+removed_some may output file first new answer taken taken' own does = does_some may output (Removes file ∷ []) first new answer taken taken' (own, tt) does
 
 run_does : (opts : SessionOpts) (s : State) (input : List ℕ) (new : Option Told) (answer : Answer) (taken taken' image : Option (List ℕ)) → ObeysRun s.image opts.budget input answer taken taken' → new ≡ Some s.told → image ≡ s.image
     → ObeysLine opts s (RunProgram input) answer new taken taken' image
 run_does opts s input new answer taken taken' image run same e = record {
   does = λ act h. subst (λ (a : Act). Does a.output a.changes answer s.told new taken taken') (sym h.2) (record { said = run.output h.0 h.1; made = makes_all [] answer s.told new same });
   keeps = λ act h d. e ∙ ap (λ (a : Act). a.image) (sym h.2);
-  found = λ d. (puts_out s (run.found d).0, ((run.found d).0, (run.found d).1, refl));
+  found = λ d. (puts_out s (run.found d).0, ((run.found d).0, (run.found d).1, refl), same);
 }
 
 pub line_run : (opts : SessionOpts) (built : Option (List ℕ)) (input : List ℕ) (first : Option Told) (answer : Answer) (taken taken' image : Option (List ℕ)) → ObeysRun built opts.budget input answer taken taken' → image ≡ built
@@ -226,23 +235,28 @@ pub line_run : (opts : SessionOpts) (built : Option (List ℕ)) (input : List �
 line_run opts built input None answer taken taken' image run e = tt
 line_run opts built input (Some told) answer taken taken' image run e = run_does opts (record { told = told; image = built }) input (Some told) answer taken taken' image run refl e
 
-pub same_some : (first : Option Told) (answer : Answer) → IfSome first (λ told. MakesSome answer told first)
-same_some None answer = tt
-same_some (Some told) answer = makes_some [] answer told (Some told) tt (makes_all [] answer told (Some told) refl)
+pub same_some : (may : List ℕ → Type 0) (first : Option Told) (answer : Answer) → IfSome first (λ told. MakesSome may answer told first)
+same_some may None answer = tt
+same_some may (Some told) answer = makes_some may [] answer told (Some told) tt (makes_all [] answer told (Some told) refl)
 
 -- ---- over what the calls gave
 
-pub line_put_so : (opts : SessionOpts) (built : Option (List ℕ)) (file text f t : List ℕ) (first new : Option Told) (answer : Answer) (taken taken' image : Option (List ℕ)) → f ≡ file → t ≡ text → IfSome first (λ told. Does (codes "ok\n") (Puts (f, t) ∷ []) answer told new taken taken') → image ≡ built
+pub line_put_so : (opts : SessionOpts) (built : Option (List ℕ)) (file text f t : List ℕ) (first new : Option Told) (answer : Answer) (taken taken' image : Option (List ℕ)) → f ≡ file → t ≡ text → IfSome first (λ told. Does (codes "ok\n") (Puts (f, t) ∷ []) answer told new taken taken')
+    → IfSome first (λ told. IsObeyed answer → new ≡ Some (after_changes told (Puts (f, t) ∷ []))) → image ≡ built
     → IfSome first (λ told. ObeysLine opts (record { told = told; image = built }) (PutText file text) answer new taken taken' image)
-line_put_so opts built file text f t first new answer taken taken' image e h does same =
+line_put_so opts built file text f t first new answer taken taken' image e h does made same =
     line_put opts built file text first new answer taken taken' image
     (subst (λ (x : List ℕ). IfSome first (λ told. Does (codes "ok\n") (Puts (x, text) ∷ []) answer told new taken taken')) e
-    (subst (λ (y : List ℕ). IfSome first (λ told. Does (codes "ok\n") (Puts (f, y) ∷ []) answer told new taken taken')) h does)) same
+    (subst (λ (y : List ℕ). IfSome first (λ told. Does (codes "ok\n") (Puts (f, y) ∷ []) answer told new taken taken')) h does))
+    (subst (λ (x : List ℕ). IfSome first (λ told. IsObeyed answer → new ≡ Some (after_changes told (Puts (x, text) ∷ [])))) e
+    (subst (λ (y : List ℕ). IfSome first (λ told. IsObeyed answer → new ≡ Some (after_changes told (Puts (f, y) ∷ [])))) h made)) same
 
-pub line_removed_so : (opts : SessionOpts) (built : Option (List ℕ)) (file f : List ℕ) (first new : Option Told) (answer : Answer) (taken taken' image : Option (List ℕ)) → f ≡ file → IfSome first (λ told. Does (codes "ok\n") (Removes f ∷ []) answer told new taken taken') → image ≡ built
+pub line_removed_so : (opts : SessionOpts) (built : Option (List ℕ)) (file f : List ℕ) (first new : Option Told) (answer : Answer) (taken taken' image : Option (List ℕ)) → f ≡ file → IfSome first (λ told. Does (codes "ok\n") (Removes f ∷ []) answer told new taken taken')
+    → IfSome first (λ told. IsObeyed answer → new ≡ Some (after_changes told (Removes f ∷ []))) → image ≡ built
     → IfSome first (λ told. ObeysLine opts (record { told = told; image = built }) (RemoveText file) answer new taken taken' image)
-line_removed_so opts built file f first new answer taken taken' image e does same =
-    line_removed opts built file first new answer taken taken' image (subst (λ (x : List ℕ). IfSome first (λ told. Does (codes "ok\n") (Removes x ∷ []) answer told new taken taken')) e does) same
+line_removed_so opts built file f first new answer taken taken' image e does made same =
+    line_removed opts built file first new answer taken taken' image (subst (λ (x : List ℕ). IfSome first (λ told. Does (codes "ok\n") (Removes x ∷ []) answer told new taken taken')) e does)
+    (subst (λ (x : List ℕ). IfSome first (λ told. IsObeyed answer → new ≡ Some (after_changes told (Removes x ∷ [])))) e made) same
 
 pub line_run_so : (opts : SessionOpts) (built given : Option (List ℕ)) (input i : List ℕ) (first : Option Told) (answer : Answer) (taken taken' image : Option (List ℕ)) → given ≡ built → i ≡ input → ObeysRun given opts.budget i answer taken taken' → image ≡ built
     → IfSome first (λ told. ObeysLine opts (record { told = told; image = built }) (RunProgram input) answer first taken taken' image)
@@ -272,6 +286,15 @@ error_count store.NoMemory answer before now e h = subst (StoreCount before now)
 pub error_write : (error : StoreError) (answer : Answer) (count : ℕ) → answer ≡ store_answer error → OutputCount count count answer
 error_write store.Failed answer count e = subst (OutputCount count count) (sym e) refl
 error_write store.NoMemory answer count e = subst (OutputCount count count) (sym e) refl
+
+pub error_made : (error : StoreError) (answer : Answer) (changes : List Change) (first new : Option Told) → answer ≡ store_answer error → IfSome first (λ told. IsObeyed answer → new ≡ Some (after_changes told changes))
+error_made error answer changes None new e = tt
+error_made store.Failed answer changes (Some told) new e = λ d. absurd (subst IsObeyed e d)
+error_made store.NoMemory answer changes (Some told) new e = λ d. absurd (subst IsObeyed e d)
+
+pub made_so : (answer : Answer) (changes : List Change) (first new : Option Told) → IfSome first (λ told. new ≡ Some (after_changes told changes)) → IfSome first (λ told. IsObeyed answer → new ≡ Some (after_changes told changes))
+made_so answer changes None new e = tt
+made_so answer changes (Some told) new e = λ d. e
 
 pub error_is : (error : StoreError) (answer : Answer) → answer ≡ store_answer error → IsLineAnswer answer
 error_is store.Failed answer e = subst IsLineAnswer (sym e) tt

@@ -8,7 +8,7 @@ use Rattle.pw_machine.specs.Run.{Progress, run_of}
 use Rattle.pw_machine.specs.Start.{image_start}
 use Rattle.pw_machine.specs.Stops.{Snapshot, loaded}
 use Rattle.pw_answer.specs.declared.answer.Answer.{Answer}
-use Rattle.pw_answer.specs.declared.answer.Answer.TheVariants.{Done, Ended, StackStop, Spent, Halted, ReadFault, WriteFault, NoMemory}
+use Rattle.pw_answer.specs.declared.answer.Answer.TheVariants.{Ended, StackStop, Spent, Halted, ReadFault, WriteFault, NoMemory}
 use Rattle.pw_answer.specs.Outcomes.{Answers, InputCount, OutputCount, PutsOut}
 use Rattle.pw_running.specs.Running.{IsRunAnswer, run_answer, run_output, started}
 use Rattle.pw_driving.specs.Driving.{IsPrintAnswer}
@@ -116,11 +116,8 @@ run_some built budget input image core answer t0 t1 e same found p = record {
   );
 }
 
-memory_is_no_done : ◌≡◌ {A = Answer} NoMemory Done → ⊥
-memory_is_no_done e = cc
-
 pub run_memory : (built : Option (List ℕ)) (budget : ℕ) (input : List ℕ) (taken : Option (List ℕ)) → ObeysRun built budget input NoMemory taken taken
-run_memory built budget input taken = record { output = λ output h. puts_alone output NoMemory taken taken (λ more. tt) refl; found = λ d. absurd (memory_is_no_done d) }
+run_memory built budget input taken = record { output = λ output h. puts_alone output NoMemory taken taken (λ more. tt) refl; found = λ d. absurd d }
 
 -- ---- a machine that was loaded
 

@@ -1,5 +1,5 @@
 -- Lines of a script, one behind another.
-use Rattle.std.proofs.Common.{◌≡◌, ◌≢◌, ℕ, zero, suc, ◌+◌, ◌-◌, List, [], ◌∷◌, ◌++◌, length, Option, Some, None, Ok, Err, refl, sym, ap, ◌∙◌, subst, append_assoc, arith}
+use Rattle.std.proofs.Common.{◌≡◌, ◌≢◌, ℕ, zero, suc, ◌+◌, ◌-◌, List, [], ◌∷◌, ◌++◌, length, Option, Some, None, Ok, Err, refl, sym, ap, ◌∙◌, subst, append_assoc, append-nil, arith}
 use Rattle.std.specs.Prelude.{IfSome}
 use Rattle.std.specs.Option.{option_map_or}
 use Rattle.pw_io.specs.Files.{Told}
@@ -15,20 +15,24 @@ use Rattle.pw_session.specs.declared.opts.SessionOpts.{SessionOpts}
 use Rattle.pw_session.specs.declared.session.Turn.{Turn}
 use Rattle.pw_session.specs.declared.session.Turn.TheVariants.{Over, Obeyed}
 use Rattle.pw_session.specs.Changes.{Change, MakesChanges, after_changes}
-use Rattle.pw_session.specs.Session.{Act, Effects, LinesAct, ScriptLines, SessionActs, State, bad_at, behind_act, lines_from, lines_limit, lines_of, no_line, script_answer, with_line}
-use Rattle.pw_session.specs.Outcomes.{Does, IsLastAnswer, IsLineAnswer, IsSessionFound, IsTaken, ObeysLine, ObeysLines, ObeysSession, TakesTurn, turn_answer, unread}
+use Rattle.pw_session.specs.Session.{Act, Acts, Effects, LinesAct, ScriptLines, SessionActs, State, bad_at, behind_act, lines_from, lines_limit, lines_of, no_line, script_answer, session_start, with_line}
+use Rattle.pw_session.specs.Outcomes.{Does, FrontActs, IsLastAnswer, IsLineAnswer, IsSessionFound, IsTaken, ObeysLine, ObeysLines, ObeysSession, TakesTurn, turn_answer, unread}
 use Rattle.pw_session.proofs.OutputLemmas.{puts_alone, puts_none, puts_stop, puts_then}
 use Rattle.pw_session.proofs.ChangeLemmas.{after_both, front_none, makes_all, makes_stop, makes_then}
 
 -- ---- the lines that are left
 
 -- a line stands there
-pub lines_next : (n offset size : ℕ) (left later : List ℕ) (line : LineValue) → first_line left ≡ Some (line, later) → length left ≡ size + length later → lines_from (suc n) offset left ≡ with_line line (lines_from n (offset + size) later)
+pub lines_first : (n offset : ℕ) (left later : List ℕ) (line : LineValue) → first_line left ≡ Some (line, later) → lines_from (suc n) offset left ≡ with_line line (lines_from n (offset + (length left - length later)) later)
 unfolding lines_from
+lines_first n offset left later line e =
+    ap (λ (o : Option (LineValue × List ℕ)). option_map_or (λ (cut : LineValue × List ℕ). with_line cut.0 (lines_from n (offset + (length left - length cut.1)) cut.1)) o (no_line offset left)) e
+
+-- of so many bytes
+pub lines_next : (n offset size : ℕ) (left later : List ℕ) (line : LineValue) → first_line left ≡ Some (line, later) → length left ≡ size + length later → lines_from (suc n) offset left ≡ with_line line (lines_from n (offset + size) later)
 lines_next n offset size left later line e l =
     let k : length left - length later ≡ size = omega (arith, l) in
-    ap (λ (o : Option (LineValue × List ℕ)). option_map_or (λ (cut : LineValue × List ℕ). with_line cut.0 (lines_from n (offset + (length left - length cut.1)) cut.1)) o (no_line offset left)) e
-    ∙ ap (λ (m : ℕ). with_line line (lines_from n (offset + m) later)) k
+    lines_first n offset left later line e ∙ ap (λ (m : ℕ). with_line line (lines_from n (offset + m) later)) k
 
 -- none does
 pub lines_stop : (n offset : ℕ) (left : List ℕ) → first_line left ≡ None → lines_from (suc n) offset left ≡ no_line offset left
@@ -48,12 +52,24 @@ nothing = record { output = []; changes = [] }
 nothing_does : (answer : Answer) (told : Told) (new : Option Told) (taken taken' : Option (List ℕ)) → new ≡ Some told → taken' ≡ taken → Does [] [] answer told new taken taken'
 nothing_does answer told new taken taken' e same = record { said = subst (λ (t : Option (List ℕ)). PutsOut [] answer taken t) (sym same) (puts_none answer taken); made = makes_all [] answer told new e }
 
-found_nothing : (opts : SessionOpts) (s : State) (answer : Answer) → IsSessionFound (LinesAct opts s []) answer
-found_nothing opts s ReadFault = tt
-found_nothing opts s WriteFault = tt
-found_nothing opts s StoreFault = tt
-found_nothing opts s NoMemory = tt
-found_nothing opts s _ = (nothing, refl)
+-- no line was obeyed
+none_acts : (opts : SessionOpts) (s : State) (lines : List LineValue) (answer : Answer) (new : Option Told) (taken taken' : Option (List ℕ)) → new ≡ Some s.told → taken' ≡ taken → FrontActs opts s lines answer new taken taken'
+none_acts opts s lines answer new taken taken' e same = record {
+  done = [];
+  more = lines;
+  split = refl;
+  effects = nothing;
+  acts = refl;
+  said = subst (λ (t : Option (List ℕ)). PutsOut [] answer taken t) (sym same) (puts_none answer taken);
+  made = e;
+}
+
+found_nothing : (opts : SessionOpts) (s : State) (answer : Answer) (new : Option Told) (taken taken' : Option (List ℕ)) → new ≡ Some s.told → taken' ≡ taken → IsSessionFound opts s [] answer new taken taken'
+found_nothing opts s ReadFault new taken taken' e same = none_acts opts s [] Done new taken taken' e same
+found_nothing opts s WriteFault new taken taken' e same = none_acts opts s [] WriteFault new taken taken' e same
+found_nothing opts s StoreFault new taken taken' e same = tt
+found_nothing opts s NoMemory new taken taken' e same = tt
+found_nothing opts s _ new taken taken' e same = (nothing, refl)
 
 -- the script is over, or no lawful line stands there
 over_none : (opts : SessionOpts) (s : State) (bad : Option ℕ) (answer : Answer) (new : Option Told) (taken taken' : Option (List ℕ)) → Answers (script_answer bad) answer → new ≡ Some s.told → taken' ≡ taken
@@ -61,18 +77,32 @@ over_none : (opts : SessionOpts) (s : State) (bad : Option ℕ) (answer : Answer
 over_none opts s bad answer new taken taken' h e same = record {
   answers = h;
   does = λ one d. subst (λ (x : Effects). Does x.output x.changes answer s.told new taken taken') (sym d) (nothing_does answer s.told new taken taken' e same);
-  found = found_nothing opts s answer;
+  found = found_nothing opts s answer new taken taken' e same;
 }
 
 -- ---- a fault before a line
 
 fault_does : (opts : SessionOpts) (s : State) (lines : ScriptLines) (new : Option Told) (taken taken' : Option (List ℕ)) → new ≡ Some s.told → taken' ≡ taken → ObeysLines opts s lines ReadFault new taken taken'
-fault_does opts s lines new taken taken' e same = record { answers = tt; does = λ one d. record { said = puts_alone one.output ReadFault taken taken' (λ more. tt) same; made = front_none one.changes s.told new e }; found = tt }
+fault_does opts s lines new taken taken' e same = record { answers = tt; does = λ one d. record { said = puts_alone one.output ReadFault taken taken' (λ more. tt) same; made = front_none one.changes s.told new e }; found = none_acts opts s lines.lines Done new taken taken' e same }
 
 memory_does : (opts : SessionOpts) (s : State) (lines : ScriptLines) (new : Option Told) (taken taken' : Option (List ℕ)) → new ≡ Some s.told → taken' ≡ taken → ObeysLines opts s lines NoMemory new taken taken'
 memory_does opts s lines new taken taken' e same = record { answers = tt; does = λ one d. record { said = puts_alone one.output NoMemory taken taken' (λ more. tt) same; made = front_none one.changes s.told new e }; found = tt }
 
 -- ---- a line at which something failed
+
+-- the last line that was obeyed, of whose output the end is missing
+one_acts : (opts : SessionOpts) (s : State) (line : LineValue) (more : List LineValue) (new : Option Told) (taken taken' image : Option (List ℕ)) → ObeysLine opts s line WriteFault new taken taken' image → FrontActs opts s (line ∷ more) WriteFault new taken taken'
+one_acts opts s line more new taken taken' image h =
+    let found = h.found tt in
+    record {
+      done = line ∷ [];
+      more = more;
+      split = refl;
+      effects = behind_act found.0 nothing;
+      acts = (found.0, nothing, found.1, refl, refl);
+      said = puts_stop found.0.output [] WriteFault taken taken' (λ more. tt) (h.does found.0 found.1).said;
+      made = found.2 ∙ ap (λ (changes : List Change). Some (after_changes s.told changes)) (sym (append-nil found.0.changes));
+    }
 
 line_stops : (opts : SessionOpts) (s : State) (line : LineValue) (more : ScriptLines) (answer : Answer) (new : Option Told) (taken taken' image : Option (List ℕ)) → IsLineAnswer answer → (answer ≡ Done → ⊥) → ObeysLine opts s line answer new taken taken' image
     → ObeysLines opts s (with_line line more) answer new taken taken'
@@ -81,7 +111,7 @@ line_stops opts s line more WriteFault new taken taken' image k ne h = record {
   answers = tt;
   does = λ one d. subst (λ (x : Effects). Does x.output x.changes WriteFault s.told new taken taken') (sym d.4)
       (record { said = puts_stop d.0.output d.1.output WriteFault taken taken' (λ more. tt) (h.does d.0 d.2).said; made = makes_stop d.0.changes d.1.changes WriteFault s.told new tt (h.does d.0 d.2).made });
-  found = tt;
+  found = one_acts opts s line more.lines new taken taken' image h;
 }
 line_stops opts s line more StoreFault new taken taken' image k ne h = record {
   answers = tt;
@@ -217,8 +247,14 @@ pub record SoFar (opts : SessionOpts) (told : Told) (script : List ℕ) (n offse
   pub tells : now ≡ Some at
   pub stands : rest ≡ Some left
   pub bad : (lines_of script).bad ≡ (lines_from n offset left).bad
+  pub before : List LineValue
+  pub lines : (lines_of script).lines ≡ before ++ (lines_from n offset left).lines
+  pub output : List ℕ
+  pub changes : List Change
+  pub said : PutsOut output Done taken taken'
+  pub made : at ≡ after_changes told changes
   pub on : (e : Effects) → SessionActs opts told script e → Passed opts told at (lines_from n offset left).lines taken taken' image e
-  pub back : (more : Effects) → LinesAct opts (record { told = at; image = image }) (lines_from n offset left).lines more → (e : Effects) × SessionActs opts told script e
+  pub onto : (lines : List LineValue) (more : Effects) → LinesAct opts (record { told = at; image = image }) lines more → LinesAct opts (session_start told) (before ++ lines) (behind output changes more)
 
 so_far_start : (opts : SessionOpts) (told : Told) (script : List ℕ) (taken : Option (List ℕ)) → SoFar opts told script lines_limit 0 (Some told) (Some script) taken taken None
 unfolding lines_of
@@ -228,8 +264,14 @@ so_far_start opts told script taken = record {
   tells = refl;
   stands = refl;
   bad = refl;
+  before = [];
+  lines = refl;
+  output = [];
+  changes = [];
+  said = puts_none Done taken;
+  made = refl;
   on = λ e h. record { output = []; changes = []; more = e; said = puts_none Done taken; made = refl; acts = h; is = refl };
-  back = λ more h. (more, h);
+  onto = λ lines more h. h;
 }
 
 -- over what the store and the input told when the session began
@@ -269,22 +311,18 @@ passed_line opts told at at' line lines new t0 t1 t2 image image' e obeys tells 
       is = behind_both p.output p.changes act p.acts.1 e p.more p.is p.acts.4;
     }
 
-back_line : (opts : SessionOpts) (at at' : Told) (line : LineValue) (lines : List LineValue) (new : Option Told) (t1 t2 image image' : Option (List ℕ)) (more : Effects) → ObeysLine opts (record { told = at; image = image }) line Done new t1 t2 image' → new ≡ Some at'
-    → LinesAct opts (record { told = at'; image = image' }) lines more → (whole : Effects) × LinesAct opts (record { told = at; image = image }) (line ∷ lines) whole
-back_line opts at at' line lines new t1 t2 image image' more obeys tells h =
-    let found = obeys.found refl in
-    let d = obeys.does found.0 found.1 in
-    let there : at' ≡ after_changes at found.0.changes = same_told at' (after_changes at found.0.changes) new tells d.made in (
-      behind_act found.0 more,
-      (
-        found.0,
-        more,
-        found.1,
-        subst (λ (s : State). LinesAct opts s lines more)
-            (ap (λ (t : Told). state_of t image') there ∙ ap (state_of (after_changes at found.0.changes)) (obeys.keeps found.0 found.1 refl)) h,
-        refl,
-      ),
-    )
+-- effects behind those of one line more
+behind_line : (output : List ℕ) (changes : List Change) (act : Act) (more : Effects) → behind output changes (behind_act act more) ≡ behind (output ++ act.output) (changes ++ act.changes) more
+behind_line output changes act more = behind_both output changes act more (behind output changes (behind_act act more)) (behind_act act more) refl refl
+
+onto_line : (opts : SessionOpts) (told at : Told) (image image' : Option (List ℕ)) (before : List LineValue) (output : List ℕ) (changes : List Change) (line : LineValue) (act : Act) → Acts opts (record { told = at; image = image }) line act → image' ≡ act.image
+    → ((lines : List LineValue) (more : Effects) → LinesAct opts (record { told = at; image = image }) lines more → LinesAct opts (session_start told) (before ++ lines) (behind output changes more))
+    → (lines : List LineValue) (more : Effects) → LinesAct opts (record { told = after_changes at act.changes; image = image' }) lines more → LinesAct opts (session_start told) ((before ++ line ∷ []) ++ lines) (behind (output ++ act.output) (changes ++ act.changes) more)
+onto_line opts told at image image' before output changes line act is same onto lines more h =
+    let next : LinesAct opts (state_of (after_changes at act.changes) act.image) lines more = subst (λ (i : Option (List ℕ)). LinesAct opts (state_of (after_changes at act.changes) i) lines more) same h in
+    let whole : LinesAct opts (session_start told) (before ++ line ∷ lines) (behind output changes (behind_act act more)) = onto (line ∷ lines) (behind_act act more) (act, more, is, next, refl) in
+    subst (λ (ls : List LineValue). LinesAct opts (session_start told) ls (behind (output ++ act.output) (changes ++ act.changes) more)) (sym (append_assoc before (line ∷ []) lines))
+    (subst (λ (e : Effects). LinesAct opts (session_start told) (before ++ line ∷ lines) e) (behind_line output changes act more) whole)
 
 line_further : (opts : SessionOpts) (told : Told) (script : List ℕ) (n offset size : ℕ) (now new : Option Told) (rest rest' t0 t1 t2 image image' : Option (List ℕ)) (so : SoFar opts told script (suc n) offset now rest t0 t1 image)
     → TakesTurn opts (record { told = so.at; image = image }) offset so.left (Obeyed size) new rest' t1 t2 image' → SoFar opts told script n (offset + size) new rest' t0 t2 image'
@@ -293,7 +331,7 @@ line_further opts told script n offset size now new rest rest' t0 t1 t2 image im
     let later = turn.1 in
     let obeys = turn.5 in
     let next = lines_next n offset size so.left later line turn.2 turn.3 in
-    let found = obeys.found refl in
+    let found = obeys.found tt in
     let d = obeys.does found.0 found.1 in
     let at' = after_changes so.at found.0.changes in
     record {
@@ -302,11 +340,15 @@ line_further opts told script n offset size now new rest rest' t0 t1 t2 image im
       tells = d.made;
       stands = turn.4;
       bad = so.bad ∙ ap (λ (l : ScriptLines). l.bad) next;
+      before = so.before ++ line ∷ [];
+      lines = so.lines ∙ ap (λ (l : ScriptLines). so.before ++ l.lines) next ∙ sym (append_assoc so.before (line ∷ []) (lines_from n (offset + size) later).lines);
+      output = so.output ++ found.0.output;
+      changes = so.changes ++ found.0.changes;
+      said = puts_then so.output found.0.output Done Done t0 t1 t2 (λ more h. h) so.said d.said;
+      made = ap (λ (t : Told). after_changes t found.0.changes) so.made ∙ sym (after_both told so.changes found.0.changes);
       on = λ e h. passed_line opts told so.at at' line (lines_from n (offset + size) later).lines new t0 t1 t2 image image' e obeys d.made
           (subst (λ (l : ScriptLines). Passed opts told so.at l.lines t0 t1 image e) next (so.on e h));
-      back = λ more h.
-          let whole = back_line opts so.at at' line (lines_from n (offset + size) later).lines new t1 t2 image image' more obeys d.made h in
-          so.back whole.0 (subst (λ (l : ScriptLines). LinesAct opts (record { told = so.at; image = image }) l.lines whole.0) (sym next) whole.1);
+      onto = onto_line opts told so.at image image' so.before so.output so.changes line found.0 found.1 (obeys.keeps found.0 found.1 refl) so.onto;
     }
 
 -- the turn that was taken, at what the store and the input told before it
@@ -326,12 +368,31 @@ session_further opts n m offset size (Some told) now new (Some script) rest rest
 
 -- ---- the end
 
-found_back : (A B : Effects → Type 0) (answer : Answer) → ((more : Effects) → A more → (e : Effects) × B e) → IsSessionFound A answer → IsSessionFound B answer
-found_back A B ReadFault f h = tt
-found_back A B WriteFault f h = tt
-found_back A B StoreFault f h = tt
-found_back A B NoMemory f h = tt
-found_back A B _ f h = f h.0 h.1
+-- what a front of the lines that are left comes to, behind what the lines before came to
+front_behind : (opts : SessionOpts) (told : Told) (script : List ℕ) (n offset : ℕ) (now new : Option Told) (rest t0 t1 t2 image : Option (List ℕ)) (answer : Answer) (so : SoFar opts told script n offset now rest t0 t1 image)
+    → FrontActs opts (record { told = so.at; image = image }) (lines_from n offset so.left).lines answer new t1 t2 → FrontActs opts (session_start told) (lines_of script).lines answer new t0 t2
+front_behind opts told script n offset now new rest t0 t1 t2 image answer so f = record {
+  done = so.before ++ f.done;
+  more = f.more;
+  split = so.lines ∙ ap (λ (lines : List LineValue). so.before ++ lines) f.split ∙ sym (append_assoc so.before f.done f.more);
+  effects = behind so.output so.changes f.effects;
+  acts = so.onto f.done f.effects f.acts;
+  said = puts_then so.output f.effects.output Done answer t0 t1 t2 (λ m w. w) so.said f.said;
+  made = f.made ∙ ap (λ (t : Told). Some (after_changes t f.effects.changes)) so.made ∙ ap (λ (t : Told). Some t) (sym (after_both told so.changes f.effects.changes));
+}
+
+all_behind : (opts : SessionOpts) (told : Told) (script : List ℕ) (n offset : ℕ) (now : Option Told) (rest t0 t1 image : Option (List ℕ)) (so : SoFar opts told script n offset now rest t0 t1 image)
+    → (e : Effects) × LinesAct opts (record { told = so.at; image = image }) (lines_from n offset so.left).lines e → (e : Effects) × LinesAct opts (session_start told) (lines_of script).lines e
+all_behind opts told script n offset now rest t0 t1 image so h =
+    (behind so.output so.changes h.0, subst (λ (lines : List LineValue). LinesAct opts (session_start told) lines (behind so.output so.changes h.0)) (sym so.lines) (so.onto (lines_from n offset so.left).lines h.0 h.1))
+
+found_behind : (opts : SessionOpts) (told : Told) (script : List ℕ) (n offset : ℕ) (now new : Option Told) (rest t0 t1 t2 image : Option (List ℕ)) (answer : Answer) (so : SoFar opts told script n offset now rest t0 t1 image)
+    → IsSessionFound opts (record { told = so.at; image = image }) (lines_from n offset so.left).lines answer new t1 t2 → IsSessionFound opts (session_start told) (lines_of script).lines answer new t0 t2
+found_behind opts told script n offset now new rest t0 t1 t2 image ReadFault so h = front_behind opts told script n offset now new rest t0 t1 t2 image Done so h
+found_behind opts told script n offset now new rest t0 t1 t2 image WriteFault so h = front_behind opts told script n offset now new rest t0 t1 t2 image WriteFault so h
+found_behind opts told script n offset now new rest t0 t1 t2 image StoreFault so h = tt
+found_behind opts told script n offset now new rest t0 t1 t2 image NoMemory so h = tt
+found_behind opts told script n offset now new rest t0 t1 t2 image _ so h = all_behind opts told script n offset now rest t0 t1 image so h
 
 lines_end : (opts : SessionOpts) (told : Told) (script : List ℕ) (n offset : ℕ) (now new : Option Told) (rest t0 t1 t2 image : Option (List ℕ)) (answer : Answer) (so : SoFar opts told script n offset now rest t0 t1 image)
     → ObeysLines opts (record { told = so.at; image = image }) (lines_from n offset so.left) answer new t1 t2 → ObeysSession opts told script answer new t0 t2
@@ -345,7 +406,7 @@ lines_end opts told script n offset now new rest t0 t1 t2 image answer so h = re
         said = puts_then p.output p.more.output Done answer t0 t1 t2 (λ m w. w) p.said more.said;
         made = makes_then p.changes p.more.changes answer told new (subst (λ (t : Told). MakesChanges p.more.changes answer t new) p.made more.made);
       });
-  found = found_back (LinesAct opts (record { told = so.at; image = image }) (lines_from n offset so.left).lines) (SessionActs opts told script) answer so.back h.found;
+  found = found_behind opts told script n offset now new rest t0 t1 t2 image answer so h.found;
 }
 
 pub session_over : (opts : SessionOpts) (n m offset : ℕ) (answer : Answer) (store now new : Option Told) (first rest rest' t0 t1 t2 image image' : Option (List ℕ)) → n ≡ suc m → SessionAt opts n offset store now first rest t0 t1 image

@@ -22,21 +22,21 @@ use Rattle.pw_session.proofs.ChangeLemmas.{some_then}
 
 -- ---- the store
 
-some_told : (answer : Answer) (told : Told) (now new : Option Told) → MakesSome Done told now → IfSome now (λ t. MakesSome answer t new) → MakesSome answer told new
-some_told answer told now new h k = some_then h.0 answer told new h.1 (subst (λ (o : Option Told). IfSome o (λ t. MakesSome answer t new)) h.2 k)
+some_told : (may : List ℕ → Type 0) (answer : Answer) (told : Told) (now new : Option Told) → MakesSome may Done told now → IfSome now (λ t. MakesSome may answer t new) → MakesSome may answer told new
+some_told may answer told now new h k = some_then may h.0 answer told new h.1 (subst (λ (o : Option Told). IfSome o (λ t. MakesSome may answer t new)) h.2 k)
 
-pub some_on : (answer : Answer) (first now new : Option Told) → IfSome first (λ told. MakesSome Done told now) → IfSome now (λ told. MakesSome answer told new) → IfSome first (λ told. MakesSome answer told new)
-some_on answer None now new h k = tt
-some_on answer (Some told) now new h k = some_told answer told now new h k
+pub some_on : (may : List ℕ → Type 0) (answer : Answer) (first now new : Option Told) → IfSome first (λ told. MakesSome may Done told now) → IfSome now (λ told. MakesSome may answer told new) → IfSome first (λ told. MakesSome may answer told new)
+some_on may answer None now new h k = tt
+some_on may answer (Some told) now new h k = some_told may answer told now new h k
 
 genuine_told : (at : Told) (now new : Option Told) → now ≡ Some at → IfSome now (λ t. KeepsGenuine t.files) → IfSome now (λ t. KeepsGenuine t.files → IfSome new (λ n. KeepsGenuine n.files)) → IfSome new (λ n. KeepsGenuine n.files)
 genuine_told at now new e k h =
     subst (λ (o : Option Told). IfSome o (λ t. KeepsGenuine t.files → IfSome new (λ n. KeepsGenuine n.files))) e h (subst (λ (o : Option Told). IfSome o (λ t. KeepsGenuine t.files)) e k)
 
-pub genuine_on : (first now new : Option Told) → IfSome first (λ told. MakesSome Done told now) → IfSome first (λ told. KeepsGenuine told.files → IfSome now (λ t. KeepsGenuine t.files))
+pub genuine_on : (may : List ℕ → Type 0) (first now new : Option Told) → IfSome first (λ told. MakesSome may Done told now) → IfSome first (λ told. KeepsGenuine told.files → IfSome now (λ t. KeepsGenuine t.files))
     → IfSome now (λ told. KeepsGenuine told.files → IfSome new (λ t. KeepsGenuine t.files)) → IfSome first (λ told. KeepsGenuine told.files → IfSome new (λ t. KeepsGenuine t.files))
-genuine_on None now new some h k = tt
-genuine_on (Some told) now new some h k = λ g. genuine_told (after_changes told some.0) now new some.2 (h g) k
+genuine_on may None now new some h k = tt
+genuine_on may (Some told) now new some h k = λ g. genuine_told (after_changes told some.0) now new some.2 (h g) k
 
 pub genuine_same : (first : Option Told) → IfSome first (λ told. KeepsGenuine told.files → IfSome first (λ t. KeepsGenuine t.files))
 genuine_same None = tt

@@ -51,16 +51,16 @@ MakesChanges changes WriteFault told new = ChangeFront told changes new
 MakesChanges changes NoMemory told new = ChangeFront told changes new
 MakesChanges changes _ told new = new ≡ Some (after_changes told changes)
 
--- a session puts files of modules and of builds, and removes files of modules alone
-abbrev pub IsOwnChange : Change → Type 0
-IsOwnChange (Puts file) = IsModuleFile file.0 ⊎ IsBuiltName file.0
-IsOwnChange (Removes name) = IsModuleFile name
+-- a session puts files of modules and of builds, and removes only files that it may
+abbrev pub IsOwnChange : (List ℕ → Type 0) → Change → Type 0
+IsOwnChange may (Puts file) = IsModuleFile file.0 ⊎ IsBuiltName file.0
+IsOwnChange may (Removes name) = may name
 
-abbrev pub AreOwnChanges : List Change → Type 0
-AreOwnChanges changes = AllByRecursion IsOwnChange changes
+abbrev pub AreOwnChanges : (List ℕ → Type 0) → List Change → Type 0
+AreOwnChanges may changes = AllByRecursion (IsOwnChange may) changes
 
 -- Some of these files were put and removed, whole and in order, and no others; where the store failed, perhaps one more
 -- was put in part.
-abbrev pub MakesSome : Answer → Told → Option Told → Type 0
-MakesSome StoreFault told new = (changes : List Change) × AreOwnChanges changes × ChangePart told changes new
-MakesSome _ told new = (changes : List Change) × AreOwnChanges changes × (new ≡ Some (after_changes told changes))
+abbrev pub MakesSome : (List ℕ → Type 0) → Answer → Told → Option Told → Type 0
+MakesSome may StoreFault told new = (changes : List Change) × AreOwnChanges may changes × ChangePart told changes new
+MakesSome may _ told new = (changes : List Change) × AreOwnChanges may changes × (new ≡ Some (after_changes told changes))

@@ -5,5 +5,6 @@ pub mod FromBuild
 pub mod FromBuilding
 pub mod FromDriving
 pub mod Outcomes
+pub mod Removals
 pub mod Runs
 pub mod Session

@@ -1,5 +1,5 @@
 -- What a session answers, puts out and leaves of the store and its input.
-use Rattle.std.specs.Prelude.{◌≡◌, ℕ, ◌+◌, ◌≤◌, suc, List, [], length, Option, Some, None, IsSomeAnd, Vec, option_map}
+use Rattle.std.specs.Prelude.{◌≡◌, ℕ, ◌+◌, ◌≤◌, suc, List, [], ◌++◌, length, Option, Some, None, IsSomeAnd, Vec, option_map}
 use Rattle.std.specs.declared.alloc.Global.{Global}
 use Rattle.pw_io.specs.Files.{Told}
 use Rattle.pw_answer.specs.declared.answer.Answer.{Answer}
@@ -19,9 +19,9 @@ use Rattle.pw_script.specs.Script.{LineValue, first_line, taken_limit}
 use Rattle.pw_session.specs.declared.opts.SessionOpts.{SessionOpts}
 use Rattle.pw_session.specs.declared.session.Turn.{Turn}
 use Rattle.pw_session.specs.declared.session.Turn.TheVariants.{Over, Obeyed}
-use Rattle.pw_session.specs.Changes.{Change, MakesChanges}
+use Rattle.pw_session.specs.Changes.{Change, MakesChanges, after_changes}
 use Rattle.pw_session.specs.Runs.{RunComes}
-use Rattle.pw_session.specs.Session.{Act, Acts, Effects, LinesAct, ScriptLines, State, bad_at, lines_from, lines_of, script_answer, session_start}
+use Rattle.pw_session.specs.Session.{Act, Acts, Effects, LinesAct, ScriptLines, State, bad_at, lines_from, lines_of, script_answer, session_start, with_line}
 
 -- ---- the session
 
@@ -30,19 +30,32 @@ pub record Does (output : List ℕ) (changes : List Change) (answer : Answer) (t
   pub said : PutsOut output answer taken taken'
   pub made : MakesChanges changes answer told new
 
--- what was answered is no fault and no want of memory, and then it comes to something
-abbrev pub IsSessionFound : (Effects → Type 0) → Answer → Type 0
-IsSessionFound comes ReadFault = Unit {0}
-IsSessionFound comes WriteFault = Unit {0}
-IsSessionFound comes StoreFault = Unit {0}
-IsSessionFound comes NoMemory = Unit {0}
-IsSessionFound comes _ = (e : Effects) × comes e
+-- A front of lines comes to what was put out and changed: to all the changes, and to the output, of which after a fault of
+-- the output a front was put out.
+pub record FrontActs (opts : SessionOpts) (s : State) (lines : List LineValue) (answer : Answer) (new : Option Told) (taken taken' : Option (List ℕ)) : Type 0 where
+  pub done : List LineValue
+  pub more : List LineValue
+  pub split : lines ≡ done ++ more
+  pub effects : Effects
+  pub acts : LinesAct opts s done effects
+  pub said : PutsOut effects.output answer taken taken'
+  pub made : new ≡ Some (after_changes s.told effects.changes)
+
+-- The lines come to something, where no fault and no want of memory was answered. Where the input had a fault, a front of
+-- them comes to exactly what was put out and changed; where the output had one, to what was changed, and the last of the
+-- front to an output of which the end is missing.
+abbrev pub IsSessionFound : SessionOpts → State → List LineValue → Answer → Option Told → Option (List ℕ) → Option (List ℕ) → Type 0
+IsSessionFound opts s lines ReadFault new taken taken' = FrontActs opts s lines Done new taken taken'
+IsSessionFound opts s lines WriteFault new taken taken' = FrontActs opts s lines WriteFault new taken taken'
+IsSessionFound opts s lines StoreFault new taken taken' = Unit {0}
+IsSessionFound opts s lines NoMemory new taken taken' = Unit {0}
+IsSessionFound opts s lines _ new taken taken' = (e : Effects) × LinesAct opts s lines e
 
 -- Lines of a script come to what was answered, put out and changed; a fault and want of memory may come in its place.
 pub record ObeysLines (opts : SessionOpts) (s : State) (script : ScriptLines) (answer : Answer) (new : Option Told) (taken taken' : Option (List ℕ)) : Type 0 where
   pub answers : Answers (script_answer script.bad) answer
   pub does : (e : Effects) → LinesAct opts s script.lines e → Does e.output e.changes answer s.told new taken taken'
-  pub found : IsSessionFound (LinesAct opts s script.lines) answer
+  pub found : IsSessionFound opts s script.lines answer new taken taken'
 
 -- so does a session over its whole script
 abbrev pub ObeysSession : SessionOpts → Told → List ℕ → Answer → Option Told → Option (List ℕ) → Option (List ℕ) → Type 0
@@ -81,16 +94,22 @@ IsLineAnswer _ = ⊥
 abbrev pub image_view : Option (Vec ℕ Global) → Option (List ℕ)
 image_view = option_map (λ image. image.items)
 
+-- the answers after which a line was obeyed, but perhaps for its output
+abbrev pub IsObeyed : Answer → Type 0
+IsObeyed Done = Unit {0}
+IsObeyed WriteFault = Unit {0}
+IsObeyed _ = ⊥
+
 -- what a line does was put out and changed, and its image is kept
 pub record ObeysLine (opts : SessionOpts) (s : State) (line : LineValue) (answer : Answer) (new : Option Told) (taken taken' : Option (List ℕ)) (image : Option (List ℕ)) : Type 0 where
   pub does : (act : Act) → Acts opts s line act → Does act.output act.changes answer s.told new taken taken'
   pub keeps : (act : Act) → Acts opts s line act → answer ≡ Done → image ≡ act.image
-  pub found : answer ≡ Done → (act : Act) × Acts opts s line act
+  pub found : IsObeyed answer → (act : Act) × Acts opts s line act × (new ≡ Some (after_changes s.told act.changes))
 
 -- what comes of a run was put out
 pub record ObeysRun (built : Option (List ℕ)) (budget : ℕ) (input : List ℕ) (answer : Answer) (taken taken' : Option (List ℕ)) : Type 0 where
   pub output : (output : List ℕ) → RunComes built budget input output → PutsOut output answer taken taken'
-  pub found : answer ≡ Done → (output : List ℕ) × RunComes built budget input output
+  pub found : IsObeyed answer → (output : List ℕ) × RunComes built budget input output
 
 -- The first line of what is left of a script was read and obeyed; or the session is over, as the lines that are left come to.
 abbrev pub TakesTurn : SessionOpts → State → ℕ → List ℕ → Turn → Option Told → Option (List ℕ) → Option (List ℕ) → Option (List ℕ) → Option (List ℕ) → Type 0
@@ -99,10 +118,11 @@ TakesTurn opts s offset script (Over answer) new rest taken taken' image =
 TakesTurn opts s offset script (Obeyed size) new rest taken taken' image =
     (line : LineValue) × (later : List ℕ) × (first_line script ≡ Some (line, later)) × (length script ≡ size + length later) × (rest ≡ Some later) × ObeysLine opts s line Done new taken taken' image
 
--- What a turn says of how the session ends: as what is left of the script says, or as what is left behind its first line.
+-- What a turn says of how the session ends, as what is left of the script says; or of the line that was obeyed, which stands
+-- before those that are left behind it.
 abbrev pub EndsTurn : ℕ → List ℕ → Turn → Option (List ℕ) → Type 0
 EndsTurn offset script (Over answer) rest = (n : ℕ) → Answers (script_answer (lines_from (suc n) offset script).bad) answer
-EndsTurn offset script (Obeyed size) rest = IsSomeAnd rest (λ later. (n : ℕ) → (lines_from (suc n) offset script).bad ≡ (lines_from n (offset + size) later).bad)
+EndsTurn offset script (Obeyed size) rest = IsSomeAnd rest (λ later. (line : LineValue) × ((n : ℕ) → lines_from (suc n) offset script ≡ with_line line (lines_from n (offset + size) later)))
 
 -- the answer of a turn: `Done` where its line was obeyed
 abbrev pub turn_answer : Turn → Answer

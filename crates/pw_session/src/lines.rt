@@ -1,6 +1,6 @@
 //! What a line of a session's script does.
 
-ghost use Rattle.std.specs.Prelude.{◌≡◌, [], ◌∷◌, IfSome, codes, true};
+ghost use Rattle.std.specs.Prelude.{◌≡◌, [], ◌∷◌, IfSome, Some, codes, true};
 ghost use Rattle.pw_modules.specs.Modules.{is_module_file};
 ghost use Rattle.pw_answer.specs.Answers.{line_text};
 ghost use Rattle.pw_answer.specs.Outcomes.{OutputCount, PutsOut, StoreCount};
@@ -9,8 +9,9 @@ ghost use Rattle.pw_driving.specs.FromBuilding.Outcomes.{AreOpts};
 ghost use Rattle.pw_driving.specs.Driving.{IsPrintAnswer};
 ghost use Rattle.pw_script.specs.Reading.{line_view};
 ghost use Rattle.pw_script.specs.Script.{BuildProgram, NamesModule};
-ghost use Rattle.pw_session.specs.Changes.{MakesSome, Puts, Removes};
-ghost use Rattle.pw_session.specs.Outcomes.{Does, IsLineAnswer, ObeysLine, SaysFault, image_view};
+ghost use Rattle.pw_session.specs.Changes.{MakesSome, Puts, Removes, after_changes};
+ghost use Rattle.pw_session.specs.Removals.{IsRemovedBy};
+ghost use Rattle.pw_session.specs.Outcomes.{Does, IsLineAnswer, IsObeyed, ObeysLine, SaysFault, image_view};
 
 use crate::opts::SessionOpts;
 use crate::runs::run_image;
@@ -33,6 +34,7 @@ fn put_text<S: Store, O: Sink>(
 ) -> Answer
     requires { is_module_file file.now ≡ true }
     ensures does { IfSome (S.told store.old) (λ told. Does (codes "ok\n") (Puts (file.now, text.now) ∷ []) result told (S.told store.new) (O.taken out.old) (O.taken out.new)) }
+    ensures made { IfSome (S.told store.old) (λ told. IsObeyed result → S.told store.new ≡ Some (after_changes told (Puts (file.now, text.now) ∷ []))) }
     ensures genuine { IfSome (S.told store.old) (λ told. KeepsGenuine told.files → IfSome (S.told store.new) (λ now. KeepsGenuine now.files)) }
     ensures store { StoreCount (S.faults store.old) (S.faults store.new) result }
     ensures write { OutputCount (O.faults out.old) (O.faults out.new) result }
@@ -50,6 +52,7 @@ fn put_text<S: Store, O: Sink>(
 fn remove_text<S: Store, O: Sink>(alloc: Global, store: &mut S, out: &mut O, file: &str) -> Answer
     requires { is_module_file file.now ≡ true }
     ensures does { IfSome (S.told store.old) (λ told. Does (codes "ok\n") (Removes file.now ∷ []) result told (S.told store.new) (O.taken out.old) (O.taken out.new)) }
+    ensures made { IfSome (S.told store.old) (λ told. IsObeyed result → S.told store.new ≡ Some (after_changes told (Removes file.now ∷ []))) }
     ensures genuine { IfSome (S.told store.old) (λ told. KeepsGenuine told.files → IfSome (S.told store.new) (λ now. KeepsGenuine now.files)) }
     ensures store { StoreCount (S.faults store.old) (S.faults store.new) result }
     ensures write { OutputCount (O.faults out.old) (O.faults out.new) result }
@@ -98,7 +101,7 @@ fn build_program<S: Store, O: Sink>(
 ) -> Answer
     requires { AreOpts opts.now.build }
     ensures does { IfSome (S.told store.old) (λ told. ObeysLine opts.now (record { told = told; image = image_view image.old }) BuildProgram result (S.told store.new) (O.taken out.old) (O.taken out.new) (image_view image.new)) }
-    ensures some { IfSome (S.told store.old) (λ told. MakesSome result told (S.told store.new)) }
+    ensures some { IfSome (S.told store.old) (λ told. MakesSome (IsRemovedBy BuildProgram) result told (S.told store.new)) }
     ensures genuine { IfSome (S.told store.old) (λ told. KeepsGenuine told.files → IfSome (S.told store.new) (λ now. KeepsGenuine now.files)) }
     ensures store { StoreCount (S.faults store.old) (S.faults store.new) result }
     ensures write { OutputCount (O.faults out.old) (O.faults out.new) result }
@@ -126,7 +129,7 @@ pub fn obey_line<S: Store, O: Sink>(
     requires opts { AreOpts opts.now.build }
     requires named { NamesModule (line_view line.now) }
     ensures does { IfSome (S.told store.old) (λ told. ObeysLine opts.now (record { told = told; image = image_view image.old }) (line_view line.now) result (S.told store.new) (O.taken out.old) (O.taken out.new) (image_view image.new)) }
-    ensures some { IfSome (S.told store.old) (λ told. MakesSome result told (S.told store.new)) }
+    ensures some { IfSome (S.told store.old) (λ told. MakesSome (IsRemovedBy (line_view line.now)) result told (S.told store.new)) }
     ensures genuine { IfSome (S.told store.old) (λ told. KeepsGenuine told.files → IfSome (S.told store.new) (λ now. KeepsGenuine now.files)) }
     ensures store { StoreCount (S.faults store.old) (S.faults store.new) result }
     ensures write { OutputCount (O.faults out.old) (O.faults out.new) result }

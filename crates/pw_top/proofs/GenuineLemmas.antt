@@ -16,6 +16,7 @@ use Rattle.pw_compiling.specs.Second.{IsMade, IsMadeFile, PutsMade}
 use Rattle.pw_session.specs.FromDriving.Driving.{KeepsUnput}
 use Rattle.pw_words.specs.declared.commands.Command.{Command}
 use Rattle.pw_words.specs.declared.commands.Command.TheVariants.{Build as BuildAll, Session, PhaseOne, Analyse, PhaseTwo, Link}
+use Rattle.pw_session.specs.Removals.{MayRemove}
 use Rattle.pw_top.specs.Commands.{KeepsTheRest, files_put}
 use Rattle.pw_top.proofs.SessionLemmas.{changes_none, rest_none}
 
@@ -79,14 +80,14 @@ puts_apart (Some (Analyse colours)) h name = database_apart name
 puts_apart (Some (Link stack)) h name = image_apart name
 puts_apart _ h name = tt
 
-others_of : (command : Option Command) (answer : Answer) (told new : Option Told) → PutsNoObject command → KeepsTheRest command answer told new → KeepsOthers (files_put command) told new
-others_of (Some (BuildAll colours stack)) answer told new p h = absurd p
-others_of (Some (Session colours stack steps)) answer told new p h = absurd p
-others_of command answer told new p h = h
+others_of : (command : Option Command) (script : Option (List ℕ)) (answer : Answer) (told new : Option Told) → PutsNoObject command → KeepsTheRest command script answer told new → KeepsOthers (files_put command) told new
+others_of (Some (BuildAll colours stack)) script answer told new p h = absurd p
+others_of (Some (Session colours stack steps)) script answer told new p h = absurd p
+others_of command script answer told new p h = h
 
-pub plain_genuine : (command : Option Command) (answer : Answer) (told new : Option Told) → PutsNoObject command → KeepsTheRest command answer told new
+pub plain_genuine : (command : Option Command) (script : Option (List ℕ)) (answer : Answer) (told new : Option Told) → PutsNoObject command → KeepsTheRest command script answer told new
     → IfSome told (λ t. KeepsGenuine t.files → IfSome new (λ now. KeepsGenuine now.files))
-plain_genuine command answer told new p h = stays_genuine (files_put command) told new (puts_apart command p) (others_of command answer told new p h)
+plain_genuine command script answer told new p h = stays_genuine (files_put command) told new (puts_apart command p) (others_of command script answer told new p h)
 
 pub genuine_alone : (told : Option Told) → IfSome told (λ t. KeepsGenuine t.files → IfSome told (λ now. KeepsGenuine now.files))
 genuine_alone None = tt
@@ -127,9 +128,9 @@ others_alone names (Some t) = none_put names t
 unput_alone : (answer : Answer) (told : Told) → KeepsUnput answer told (Some told)
 unput_alone answer told = record { put = []; failed = []; own = tt; one = omega arith; none = λ h. refl; told_so = sym (append-nil told.puts); same = λ name n. refl }
 
-pub rest_alone : (command : Option Command) (told : Option Told) → KeepsTheRest command NoMemory told told
-rest_alone (Some (BuildAll colours stack)) None = tt
-rest_alone (Some (BuildAll colours stack)) (Some t) = unput_alone NoMemory t
-rest_alone (Some (Session colours stack steps)) None = tt
-rest_alone (Some (Session colours stack steps)) (Some t) = (changes_none t, rest_none NoMemory t)
-rest_alone command told = others_alone (files_put command) told
+pub rest_alone : (command : Option Command) (script : Option (List ℕ)) (told : Option Told) → KeepsTheRest command script NoMemory told told
+rest_alone (Some (BuildAll colours stack)) script None = tt
+rest_alone (Some (BuildAll colours stack)) script (Some t) = unput_alone NoMemory t
+rest_alone (Some (Session colours stack steps)) script None = tt
+rest_alone (Some (Session colours stack steps)) script (Some t) = (changes_none (MayRemove script) t, rest_none (MayRemove script) NoMemory t)
+rest_alone command script told = others_alone (files_put command) told

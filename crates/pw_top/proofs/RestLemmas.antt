@@ -4,7 +4,6 @@ use Rattle.std.specs.Prelude.{◌≢◌, IsSomeAnd}
 use Rattle.std.specs.List.{AllByRecursion}
 use Rattle.std.specs.FinMap as finite
 use Rattle.pw_io.specs.Files.{Files, LeavesFile, Told, after_put, after_remove}
-use Rattle.pw_modules.specs.Modules.{IsModuleFile}
 use Rattle.pw_answer.specs.declared.answer.Answer.{Answer}
 use Rattle.pw_answer.specs.declared.answer.Answer.TheVariants.{StoreFault}
 use Rattle.pw_answer.specs.Effects.{NamedFile}
@@ -30,15 +29,15 @@ removed_in [] = []
 removed_in (Puts file ∷ changes) = removed_in changes
 removed_in (Removes name ∷ changes) = name ∷ removed_in changes
 
-own_put : (changes : List Change) → AreOwnChanges changes → AllByRecursion IsPutName (put_in changes)
-own_put [] own = tt
-own_put (Puts file ∷ changes) own = (own.0, own_put changes own.1)
-own_put (Removes name ∷ changes) own = own_put changes own.1
+own_put : (may : List ℕ → Type 0) (changes : List Change) → AreOwnChanges may changes → AllByRecursion IsPutName (put_in changes)
+own_put may [] own = tt
+own_put may (Puts file ∷ changes) own = (own.0, own_put may changes own.1)
+own_put may (Removes name ∷ changes) own = own_put may changes own.1
 
-own_removed : (changes : List Change) → AreOwnChanges changes → AllByRecursion IsModuleFile (removed_in changes)
-own_removed [] own = tt
-own_removed (Puts file ∷ changes) own = own_removed changes own.1
-own_removed (Removes name ∷ changes) own = (own.0, own_removed changes own.1)
+own_removed : (may : List ℕ → Type 0) (changes : List Change) → AreOwnChanges may changes → AllByRecursion may (removed_in changes)
+own_removed may [] own = tt
+own_removed may (Puts file ∷ changes) own = own_removed may changes own.1
+own_removed may (Removes name ∷ changes) own = (own.0, own_removed may changes own.1)
 
 own_both : (first second : List (List ℕ)) → AllByRecursion IsPutName first → AllByRecursion IsPutName second → AllByRecursion IsPutName (first ++ second)
 own_both [] second a b = b
@@ -65,31 +64,31 @@ leaves laws (Puts file ∷ changes) told name p r = leaves laws changes (after_p
 leaves laws (Removes gone ∷ changes) told name p r = leaves laws changes (after_remove told gone) name p r.1 ∙ laws.removal told.files gone name r.0
 
 -- all were made
-rest_all : Laws → (answer : Answer) (told : Told) (changes : List Change) → AreOwnChanges changes → LeavesRest answer told (after_changes told changes)
-rest_all laws answer told changes own = record {
+rest_all : Laws → (may : List ℕ → Type 0) (answer : Answer) (told : Told) (changes : List Change) → AreOwnChanges may changes → LeavesRest may answer told (after_changes told changes)
+rest_all laws may answer told changes own = record {
   put = put_in changes;
   removed = removed_in changes;
   failed = [];
-  own = own_both (put_in changes) [] (own_put changes own) tt;
-  modules = own_removed changes own;
+  own = own_both (put_in changes) [] (own_put may changes own) tt;
+  lawful = own_removed may changes own;
   one = omega arith;
   none = λ h. refl;
   told_so = tells changes told;
   same = λ name h. leaves laws changes told name (none_front (put_in changes) (removed_in changes) name h) (none_rest (put_in changes) (removed_in changes) name h);
 }
 
-all_told : Laws → (answer : Answer) (told : Told) (changes : List Change) (new : Option Told) → AreOwnChanges changes → new ≡ Some (after_changes told changes) → IsSomeAnd new (LeavesRest answer told)
-all_told laws answer told changes new own e = subst (λ (o : Option Told). IsSomeAnd o (LeavesRest answer told)) (sym e) (rest_all laws answer told changes own)
+all_told : Laws → (may : List ℕ → Type 0) (answer : Answer) (told : Told) (changes : List Change) (new : Option Told) → AreOwnChanges may changes → new ≡ Some (after_changes told changes) → IsSomeAnd new (LeavesRest may answer told)
+all_told laws may answer told changes new own e = subst (λ (o : Option Told). IsSomeAnd o (LeavesRest may answer told)) (sym e) (rest_all laws may answer told changes own)
 
 -- the put of one more failed
-rest_part : Laws → (told left : Told) (changes : List Change) (next : NamedFile) → AreOwnChanges changes → IsPutName next.0 → left.puts ≡ (after_changes told changes).puts → LeavesFile (after_changes told changes).files left.files next.0 next.1
-    → LeavesRest StoreFault told left
-rest_part laws told left changes next own is same part = record {
+rest_part : Laws → (may : List ℕ → Type 0) (told left : Told) (changes : List Change) (next : NamedFile) → AreOwnChanges may changes → IsPutName next.0 → left.puts ≡ (after_changes told changes).puts → LeavesFile (after_changes told changes).files left.files next.0 next.1
+    → LeavesRest may StoreFault told left
+rest_part laws may told left changes next own is same part = record {
   put = put_in changes;
   removed = removed_in changes;
   failed = next.0 ∷ [];
-  own = own_both (put_in changes) (next.0 ∷ []) (own_put changes own) (is, tt);
-  modules = own_removed changes own;
+  own = own_both (put_in changes) (next.0 ∷ []) (own_put may changes own) (is, tt);
+  lawful = own_removed may changes own;
   one = omega arith;
   none = λ h. absurd (h refl);
   told_so = same ∙ tells changes told;
@@ -98,26 +97,26 @@ rest_part laws told left changes next own is same part = record {
       laws.failure (after_changes told changes).files left.files next.0 next.1 name part others.0 ∙ leaves laws changes told name (none_front (put_in changes) (next.0 ∷ removed_in changes) name h) others.1;
 }
 
-own_front : (done more : List Change) → AreOwnChanges (done ++ more) → AreOwnChanges done
-own_front [] more own = tt
-own_front (change ∷ done) more own = (own.0, own_front done more own.1)
+own_front : (may : List ℕ → Type 0) (done more : List Change) → AreOwnChanges may (done ++ more) → AreOwnChanges may done
+own_front may [] more own = tt
+own_front may (change ∷ done) more own = (own.0, own_front may done more own.1)
 
-own_back : (done more : List Change) → AreOwnChanges (done ++ more) → AreOwnChanges more
-own_back [] more own = own
-own_back (change ∷ done) more own = own_back done more own.1
+own_back : (may : List ℕ → Type 0) (done more : List Change) → AreOwnChanges may (done ++ more) → AreOwnChanges may more
+own_back may [] more own = own
+own_back may (change ∷ done) more own = own_back may done more own.1
 
-left_told : Laws → (told : Told) (done more : List Change) (new : Option Told) → AreOwnChanges done → AreOwnChanges more → IsChanged (after_changes told done) more new → IsSomeAnd new (LeavesRest StoreFault told)
-left_told laws told done [] new own next h = all_told laws StoreFault told done new own h
-left_told laws told done (Removes name ∷ more) new own next h = all_told laws StoreFault told done new own h
-left_told laws told done (Puts file ∷ more) None own next h = ⊎_elim {C = IsSomeAnd None (LeavesRest StoreFault told)} (λ e. all_told laws StoreFault told done None own e) (λ n. absurd n) h
-left_told laws told done (Puts file ∷ more) (Some left) own next h =
-    ⊎_elim {C = IsSomeAnd (Some left) (LeavesRest StoreFault told)} (λ e. all_told laws StoreFault told done (Some left) own e) (λ l. rest_part laws told left done file own next.0 l.0 l.1) h
+left_told : Laws → (may : List ℕ → Type 0) (told : Told) (done more : List Change) (new : Option Told) → AreOwnChanges may done → AreOwnChanges may more → IsChanged (after_changes told done) more new → IsSomeAnd new (LeavesRest may StoreFault told)
+left_told laws may told done [] new own next h = all_told laws may StoreFault told done new own h
+left_told laws may told done (Removes name ∷ more) new own next h = all_told laws may StoreFault told done new own h
+left_told laws may told done (Puts file ∷ more) None own next h = ⊎_elim {C = IsSomeAnd None (LeavesRest may StoreFault told)} (λ e. all_told laws may StoreFault told done None own e) (λ n. absurd n) h
+left_told laws may told done (Puts file ∷ more) (Some left) own next h =
+    ⊎_elim {C = IsSomeAnd (Some left) (LeavesRest may StoreFault told)} (λ e. all_told laws may StoreFault told done (Some left) own e) (λ l. rest_part laws may told left done file own next.0 l.0 l.1) h
 
-part_told : Laws → (told : Told) (changes : List Change) (new : Option Told) → AreOwnChanges changes → ChangePart told changes new → IsSomeAnd new (LeavesRest StoreFault told)
-part_told laws told changes new own part =
-    let both : AreOwnChanges (part.done ++ part.more) = subst AreOwnChanges part.split own in
-    left_told laws told part.done part.more new (own_front part.done part.more both) (own_back part.done part.more both) part.left
+part_told : Laws → (may : List ℕ → Type 0) (told : Told) (changes : List Change) (new : Option Told) → AreOwnChanges may changes → ChangePart told changes new → IsSomeAnd new (LeavesRest may StoreFault told)
+part_told laws may told changes new own part =
+    let both : AreOwnChanges may (part.done ++ part.more) = subst (AreOwnChanges may) part.split own in
+    left_told laws may told part.done part.more new (own_front may part.done part.more both) (own_back may part.done part.more both) part.left
 
-pub leaves_rest : Laws → (answer : Answer) (told : Told) (new : Option Told) → MakesSome answer told new → IsSomeAnd new (LeavesRest answer told)
-leaves_rest laws StoreFault told new h = part_told laws told h.0 new h.1 h.2
-leaves_rest laws _ told new h = all_told laws _ told h.0 new h.1 h.2
+pub leaves_rest : Laws → (may : List ℕ → Type 0) (answer : Answer) (told : Told) (new : Option Told) → MakesSome may answer told new → IsSomeAnd new (LeavesRest may answer told)
+leaves_rest laws may StoreFault told new h = part_told laws may told h.0 new h.1 h.2
+leaves_rest laws may _ told new h = all_told laws may _ told h.0 new h.1 h.2

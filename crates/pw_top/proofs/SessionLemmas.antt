@@ -37,42 +37,42 @@ session_no_usage _ h = tt
 
 -- what was changed, and what stays
 abbrev pub LeaveOthers : Type 0
-LeaveOthers = (answer : Answer) (told : Told) (new : Option Told) → MakesSome answer told new → IsSomeAnd new (LeavesRest answer told)
+LeaveOthers = (may : List ℕ → Type 0) (answer : Answer) (told : Told) (new : Option Told) → MakesSome may answer told new → IsSomeAnd new (LeavesRest may answer told)
 
-pub session_others : LeaveOthers → (first new : Option Told) (answer : Answer) → IfSome first (λ told. MakesSome answer told new) → IfSome first (λ told. MakesSome answer told new × IsSomeAnd new (LeavesRest answer told))
-session_others law None new answer h = tt
-session_others law (Some told) new answer h = (h, law answer told new h)
+pub session_others : LeaveOthers → (may : List ℕ → Type 0) (first new : Option Told) (answer : Answer) → IfSome first (λ told. MakesSome may answer told new) → IfSome first (λ told. MakesSome may answer told new × IsSomeAnd new (LeavesRest may answer told))
+session_others law may None new answer h = tt
+session_others law may (Some told) new answer h = (h, law may answer told new h)
 
-pub rest_none : (answer : Answer) (told : Told) → LeavesRest answer told told
-rest_none answer told = record { put = []; removed = []; failed = []; own = tt; modules = tt; one = omega arith; none = λ h. refl; told_so = sym (append-nil told.puts); same = λ name h. refl }
+pub rest_none : (may : List ℕ → Type 0) (answer : Answer) (told : Told) → LeavesRest may answer told told
+rest_none may answer told = record { put = []; removed = []; failed = []; own = tt; lawful = tt; one = omega arith; none = λ h. refl; told_so = sym (append-nil told.puts); same = λ name h. refl }
 
 needs_no_store : (answer : Answer) → NeedsMemory answer → answer ≡ StoreFault → ⊥
 needs_no_store answer n e = subst NeedsMemory e n
 
-pub left_memory : (answer : Answer) (told : Told) (new : Option Told) → NeedsMemory answer → IsSomeAnd new (LeavesRest answer told) → IsSomeAnd new (LeavesRest NoMemory told)
-left_memory answer told None n h = absurd h
-left_memory answer told (Some left) n h = record {
+pub left_memory : (may : List ℕ → Type 0) (answer : Answer) (told : Told) (new : Option Told) → NeedsMemory answer → IsSomeAnd new (LeavesRest may answer told) → IsSomeAnd new (LeavesRest may NoMemory told)
+left_memory may answer told None n h = absurd h
+left_memory may answer told (Some left) n h = record {
   put = h.put;
   removed = h.removed;
   failed = h.failed;
   own = h.own;
-  modules = h.modules;
+  lawful = h.lawful;
   one = h.one;
   none = λ e. h.none (needs_no_store answer n);
   told_so = h.told_so;
   same = h.same;
 }
 
-pub changes_none : (told : Told) → MakesSome NoMemory told (Some told)
-changes_none told = ([], tt, refl)
+pub changes_none : (may : List ℕ → Type 0) (told : Told) → MakesSome may NoMemory told (Some told)
+changes_none may told = ([], tt, refl)
 
-pub some_memory : (answer : Answer) (told : Told) (new : Option Told) → NeedsMemory answer → MakesSome answer told new → MakesSome NoMemory told new
-some_memory (Refused name refusal) told new n h = h
-some_memory (LinkRefused fault) told new n h = h
-some_memory (Halted halt at) told new n h = h
-some_memory (BadFile name at) told new n h = h
-some_memory (BadScript at) told new n h = h
-some_memory _ told new n h = absurd n
+pub some_memory : (may : List ℕ → Type 0) (answer : Answer) (told : Told) (new : Option Told) → NeedsMemory answer → MakesSome may answer told new → MakesSome may NoMemory told new
+some_memory may (Refused name refusal) told new n h = h
+some_memory may (LinkRefused fault) told new n h = h
+some_memory may (Halted halt at) told new n h = h
+some_memory may (BadFile name at) told new n h = h
+some_memory may (BadScript at) told new n h = h
+some_memory may _ told new n h = absurd n
 
 -- ---- want of memory in place of the answer's line
 

@@ -18,6 +18,7 @@ use Rattle.pw_words.specs.declared.commands.Command.{Command}
 use Rattle.pw_words.specs.declared.commands.Command.TheVariants.{Go, Build as BuildAll, Session}
 use Rattle.pw_compiling.specs.First.{IsLine}
 use Rattle.pw_session.specs.FromDriving.Driving.{KeepsUnput, Unput}
+use Rattle.pw_session.specs.Removals.{MayRemove}
 use Rattle.pw_top.specs.Commands.{EndsScript, KeepsTheRest, opts_of}
 use Rattle.pw_top.specs.Does.{Does, DoesAs}
 use Rattle.pw_top.proofs.DoesLemmas.{memory_here, out_part}
@@ -209,15 +210,15 @@ unput_memory : (answer : Answer) (told : Told) (new : Option Told) → NeedsMemo
 unput_memory answer told None n h = absurd h
 unput_memory answer told (Some left) n h = unput_told answer told left n h
 
-rest_memory : (command : Option Command) (answer : Answer) (old new : Option Told) → NeedsMemory answer → KeepsTheRest command answer old new → KeepsTheRest command NoMemory old new
-rest_memory (Some (BuildAll colours stack)) answer None new n h = tt
-rest_memory (Some (BuildAll colours stack)) answer (Some told) new n h = unput_memory answer told new n h
-rest_memory (Some (Session colours stack steps)) answer None new n h = tt
-rest_memory (Some (Session colours stack steps)) answer (Some told) new n h = (some_memory answer told new n h.0, left_memory answer told new n h.1)
-rest_memory command answer old new n h = h
+rest_memory : (command : Option Command) (script : Option (List ℕ)) (answer : Answer) (old new : Option Told) → NeedsMemory answer → KeepsTheRest command script answer old new → KeepsTheRest command script NoMemory old new
+rest_memory (Some (BuildAll colours stack)) script answer None new n h = tt
+rest_memory (Some (BuildAll colours stack)) script answer (Some told) new n h = unput_memory answer told new n h
+rest_memory (Some (Session colours stack steps)) script answer None new n h = tt
+rest_memory (Some (Session colours stack steps)) script answer (Some told) new n h = (some_memory (MayRemove script) answer told new n h.0, left_memory (MayRemove script) answer told new n h.1)
+rest_memory command script answer old new n h = h
 
-pub rest_told : (command : Option Command) (old new : Option Told) (answer last : Answer) → ToldAs answer last → KeepsTheRest command answer old new → KeepsTheRest command last old new
-rest_told command old new answer last t h = told_by (λ a. KeepsTheRest command a old new) answer last t h (λ n k. rest_memory command answer old new n k)
+pub rest_told : (command : Option Command) (script : Option (List ℕ)) (old new : Option Told) (answer last : Answer) → ToldAs answer last → KeepsTheRest command script answer old new → KeepsTheRest command script last old new
+rest_told command script old new answer last t h = told_by (λ a. KeepsTheRest command script a old new) answer last t h (λ n k. rest_memory command script answer old new n k)
 
 -- ---- the line
 

@@ -14,6 +14,7 @@ use Rattle.pw_session.specs.declared.opts.SessionOpts.{SessionOpts}
 use Rattle.pw_session.specs.Bench.{bench_files}
 use Rattle.pw_session.specs.Changes.{MakesSome}
 use Rattle.pw_session.specs.Outcomes.{EndsAs}
+use Rattle.pw_session.specs.Removals.{MayRemove}
 use Rattle.pw_session.specs.FromDriving.Driving.{KeepsUnput}
 use Rattle.pw_top.specs.Rest.{LeavesRest}
 use Rattle.pw_compiling.specs.First.{phase_line, phase_one_puts}
@@ -60,11 +61,12 @@ IsNoSession _ = Unit {0}
 
 -- A store that told its files goes on telling them, and each file but those that the command puts is as it was; of a
 -- build and of a session the store tells which were put, and a session put files of modules and of builds, and removed files
--- of modules, in order. Where the store failed, perhaps one file more was put in part.
-abbrev pub KeepsTheRest : Option Command → Answer → Option Told → Option Told → Type 0
-KeepsTheRest (Some (Build colours stack)) answer old new = IfSome old (λ told. KeepsUnput answer told new)
-KeepsTheRest (Some (Session colours stack steps)) answer old new = IfSome old (λ told. MakesSome answer told new × IsSomeAnd new (LeavesRest answer told))
-KeepsTheRest command answer old new = KeepsOthers (files_put command) old new
+-- of modules, each by a line of its script, in order. Where the store failed, perhaps one file more was put in part.
+abbrev pub KeepsTheRest : Option Command → Option (List ℕ) → Answer → Option Told → Option Told → Type 0
+KeepsTheRest (Some (Build colours stack)) script answer old new = IfSome old (λ told. KeepsUnput answer told new)
+KeepsTheRest (Some (Session colours stack steps)) script answer old new =
+    IfSome old (λ told. MakesSome (MayRemove script) answer told new × IsSomeAnd new (LeavesRest (MayRemove script) answer told))
+KeepsTheRest command script answer old new = KeepsOthers (files_put command) old new
 
 -- what holds where the answer is `Done`
 abbrev pub IfDone : Answer → Type 0 → Type 0

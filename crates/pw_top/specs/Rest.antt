@@ -13,13 +13,13 @@ abbrev pub IsPutName : List ℕ → Type 0
 IsPutName name = IsModuleFile name ⊎ IsBuiltName name
 
 -- The store tells the names that were put besides, and every file has its old bytes, or is absent as before, but those of
--- these names, those of modules that were removed and, where the store failed, perhaps of one more, whose put failed.
-pub record LeavesRest (answer : Answer) (told left : Told) : Type 0 where
+-- these names, those that were removed, as they may be, and, where the store failed, perhaps of one more, whose put failed.
+pub record LeavesRest (may : List ℕ → Type 0) (answer : Answer) (told left : Told) : Type 0 where
   pub put : List (List ℕ)
   pub removed : List (List ℕ)
   pub failed : List (List ℕ)
   pub own : AllByRecursion IsPutName (put ++ failed)
-  pub modules : AllByRecursion IsModuleFile removed
+  pub lawful : AllByRecursion may removed
   pub one : length failed ≤ 1
   pub none : answer ≢ StoreFault → failed ≡ []
   pub told_so : left.puts ≡ told.puts ++ put

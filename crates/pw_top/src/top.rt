@@ -55,7 +55,7 @@ fn obey<S: Store, I: Source, O: Sink>(
     ensures ends { EndsScript (Some command.now) (I.rest input.old) result.answer }
     ensures refusal { IfSome (S.told store.old) (λ told. IsGo (Some command.now) → AnswersBuild (full_build told.files) result.answer) }
     ensures proper { HoldsNoWantOfMemory result.answer }
-    ensures others { KeepsTheRest (Some command.now) result.answer (S.told store.old) (S.told store.new) }
+    ensures others { KeepsTheRest (Some command.now) (I.rest input.old) result.answer (S.told store.old) (S.told store.new) }
     ensures genuine { IfSome (S.told store.old) (λ told. KeepsGenuine told.files → IfSome (S.told store.new) (λ now. KeepsGenuine now.files)) }
     ensures reads { OnlyReads (Some command.now) → Keeps (S.told store.old) (S.told store.new) }
     ensures store { StoreCount (S.faults store.old) (S.faults store.new) result.answer }
@@ -133,7 +133,7 @@ fn obey_words<S: Store, I: Source, O: Sink>(
     ensures ends { EndsScript (command_of (map string_bytes words.now)) (I.rest input.old) result.answer }
     ensures refusal { IfSome (S.told store.old) (λ told. IsGo (command_of (map string_bytes words.now)) → AnswersBuild (full_build told.files) result.answer) }
     ensures proper { HoldsNoWantOfMemory result.answer }
-    ensures others { KeepsTheRest (command_of (map string_bytes words.now)) result.answer (S.told store.old) (S.told store.new) }
+    ensures others { KeepsTheRest (command_of (map string_bytes words.now)) (I.rest input.old) result.answer (S.told store.old) (S.told store.new) }
     ensures genuine { IfSome (S.told store.old) (λ told. KeepsGenuine told.files → IfSome (S.told store.new) (λ now. KeepsGenuine now.files)) }
     ensures reads { OnlyReads (command_of (map string_bytes words.now)) → Keeps (S.told store.old) (S.told store.new) }
     ensures store { StoreCount (S.faults store.old) (S.faults store.new) result.answer }
@@ -198,7 +198,7 @@ pub fn pawc_top<S: Store, I: Source, O: Sink, E: Sink>(
 
     // what stays
     ensures streams_left { IsNoSession (command_of (map string_bytes words.now)) → LeavesStreams result (I.rest input.old) (I.rest input.new) (O.taken out.old) (O.taken out.new) }
-    ensures keeps_others { KeepsTheRest (command_of (map string_bytes words.now)) result (S.told store.old) (S.told store.new) }
+    ensures keeps_others { KeepsTheRest (command_of (map string_bytes words.now)) (I.rest input.old) result (S.told store.old) (S.told store.new) }
     ensures keeps_genuine { IfSome (S.told store.old) (λ told. KeepsGenuine told.files → IfSome (S.told store.new) (λ now. KeepsGenuine now.files)) }
     ensures store_after { OnlyReads (command_of (map string_bytes words.now)) → Keeps (S.told store.old) (S.told store.new) }
 

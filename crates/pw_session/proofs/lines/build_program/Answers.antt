@@ -1,5 +1,7 @@
 use Rattle.std.proofs.Common.{refl}
+use Rattle.pw_script.specs.Script.{BuildProgram}
 use Rattle.pw_session.specs.Outcomes.{image_view}
+use Rattle.pw_session.specs.Removals.{IsRemovedBy}
 use Rattle.pw_session.proofs.LineLemmas.{fault_count, line_built, line_refused, made_built, made_refused}
 use Rattle.pw_session.proofs.TurnLemmas.{say_is_line, say_store}
 use Rattle.pw_session.proofs.lines.build_program.Goals as goal
@@ -10,7 +12,7 @@ returns-in-Ok-clause-does g c =
     c.put_report-answer.ensures.output refl
 
 pub returns-in-Ok-clause-some : goal.returns-in-Ok-clause-some
-returns-in-Ok-clause-some g c = made_built (g.S.Store.told c.args.store.now) (g.S.Store.told c.build_uncounted.new.store) c.put_report-answer.result c.in-Ok.ensures.others
+returns-in-Ok-clause-some g c = made_built (IsRemovedBy BuildProgram) (g.S.Store.told c.args.store.now) (g.S.Store.told c.build_uncounted.new.store) c.put_report-answer.result c.in-Ok.ensures.others
 
 pub returns-in-Ok-clause-store : goal.returns-in-Ok-clause-store
 returns-in-Ok-clause-store g c = say_store c.put_report-answer.result (g.S.Store.faults c.args.store.now) (g.S.Store.faults c.build_uncounted.new.store) c.put_report-answer.ensures.answer c.in-Ok.ensures.count
@@ -25,7 +27,7 @@ returns-in-Err-clause-does g c =
 
 pub returns-in-Err-clause-some : goal.returns-in-Err-clause-some
 returns-in-Err-clause-some g c =
-    made_refused c.in-Err.unbuilt (g.S.Store.told c.args.store.now) (g.S.Store.told c.build_uncounted.new.store) c.say_fault.result (g.O.Sink.taken c.args.out.now) (g.O.Sink.taken c.say_fault.new.out) c.in-Err.ensures.others
+    made_refused (IsRemovedBy BuildProgram) c.in-Err.unbuilt (g.S.Store.told c.args.store.now) (g.S.Store.told c.build_uncounted.new.store) c.say_fault.result (g.O.Sink.taken c.args.out.now) (g.O.Sink.taken c.say_fault.new.out) c.in-Err.ensures.others
     c.say_fault.ensures.said
 
 pub returns-in-Err-clause-store : goal.returns-in-Err-clause-store

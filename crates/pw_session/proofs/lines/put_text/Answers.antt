@@ -3,7 +3,7 @@ use Rattle.std.specs.Prelude.{codes}
 use Rattle.pw_io.specs.Files.{after_put}
 use Rattle.pw_session.specs.Changes.{Puts}
 use Rattle.pw_session.proofs.GenuineLemmas.{change_keeps, put_error_keeps}
-use Rattle.pw_session.proofs.LineLemmas.{does_all, error_count, error_is, error_write, put_error}
+use Rattle.pw_session.proofs.LineLemmas.{does_all, error_count, error_is, error_made, error_write, made_so, put_error}
 use Rattle.pw_session.proofs.TurnLemmas.{say_is_line, say_store}
 use Rattle.pw_session.proofs.lines.put_text.Goals as goal
 
@@ -38,3 +38,9 @@ returns-in-Err-clause-write g c = error_write c.in-Err.error c.from.result (g.O.
 
 pub returns-in-Err-clause-answer : goal.returns-in-Err-clause-answer
 returns-in-Err-clause-answer g c = error_is c.in-Err.error c.from.result c.from.ensures
+
+pub returns-in-Ok-clause-made : goal.returns-in-Ok-clause-made
+returns-in-Ok-clause-made g c = made_so c.print.result (Puts (c.args.file.now, c.args.text.now) ∷ []) (g.S.Store.told c.args.store.now) (g.S.Store.told c.put.new.self) c.in-Ok.ensures.ok
+
+pub returns-in-Err-clause-made : goal.returns-in-Err-clause-made
+returns-in-Err-clause-made g c = error_made c.in-Err.error c.from.result (Puts (c.args.file.now, c.args.text.now) ∷ []) (g.S.Store.told c.args.store.now) (g.S.Store.told c.put.new.self) c.from.ensures

@@ -1,8 +1,9 @@
 use Rattle.std.proofs.Common.{◌+◌, ◌-◌, ◌∙◌, refl, arith}
 use Rattle.pw_answer.specs.declared.answer.Answer.TheVariants.{Done}
 use Rattle.pw_session.specs.Outcomes.{image_view}
+use Rattle.pw_session.specs.Removals.{MayRemove}
 use Rattle.pw_session.specs.Session.{lines_limit}
-use Rattle.pw_session.proofs.EndLemmas.{ends_begin, ends_further, ends_last, ends_over}
+use Rattle.pw_session.proofs.EndLemmas.{ends_begin, ends_further, ends_last, ends_over, some_removed}
 use Rattle.pw_session.proofs.LineLemmas.{same_some}
 use Rattle.pw_session.proofs.SessionLemmas.{session_begins, session_further, session_last, session_over}
 use Rattle.pw_session.proofs.TurnLemmas.{genuine_on, genuine_same, leaves_on, part_on, part_start, read_is, read_on, read_store, read_write, some_on, store_on, write_on}
@@ -12,7 +13,7 @@ pub loop-place-init : goal.loop-place-init
 loop-place-init g c = record {
   session = session_begins c.args.opts.now (lines_limit - 0) (g.S.Store.told c.args.store.now) (g.I.Source.rest c.args.input.now) (g.O.Sink.taken c.args.out.now) (omega arith);
   ends = ends_begin (lines_limit - 0) (g.I.Source.rest c.args.input.now) (omega arith);
-  some = same_some (g.S.Store.told c.args.store.now) Done;
+  some = same_some (MayRemove (g.I.Source.rest c.args.input.now)) (g.S.Store.told c.args.store.now) Done;
   genuine = genuine_same (g.S.Store.told c.args.store.now);
   part = part_start (g.I.Source.rest c.args.input.now);
   store = refl;
@@ -28,8 +29,10 @@ loop-place-preserved g c = record {
       (omega arith) c.loop-place.invariant.session c.in-Obeyed.ensures.turn;
   ends = ends_further (lines_limit - c.loop-place._place) (lines_limit - (c.loop-place._place + 1)) c.loop-place.offset c.in-Obeyed.size (g.I.Source.rest c.args.input.now) (g.I.Source.rest c.loop-place.input) (g.I.Source.rest c.take_turn.new.input)
       (omega arith) c.loop-place.invariant.ends c.in-Obeyed.ensures.ends;
-  some = some_on Done (g.S.Store.told c.args.store.now) (g.S.Store.told c.loop-place.store) (g.S.Store.told c.take_turn.new.store) c.loop-place.invariant.some c.in-Obeyed.ensures.some;
-  genuine = genuine_on (g.S.Store.told c.args.store.now) (g.S.Store.told c.loop-place.store) (g.S.Store.told c.take_turn.new.store) c.loop-place.invariant.some c.loop-place.invariant.genuine c.take_turn.ensures.genuine;
+  some = some_on (MayRemove (g.I.Source.rest c.args.input.now)) Done (g.S.Store.told c.args.store.now) (g.S.Store.told c.loop-place.store) (g.S.Store.told c.take_turn.new.store) c.loop-place.invariant.some
+      (some_removed (lines_limit - c.loop-place._place) (lines_limit - (c.loop-place._place + 1)) c.loop-place.offset Done (g.I.Source.rest c.args.input.now) (g.I.Source.rest c.loop-place.input) (g.S.Store.told c.loop-place.store) (g.S.Store.told c.take_turn.new.store)
+      (omega arith) c.loop-place.invariant.ends c.in-Obeyed.ensures.some);
+  genuine = genuine_on (MayRemove (g.I.Source.rest c.args.input.now)) (g.S.Store.told c.args.store.now) (g.S.Store.told c.loop-place.store) (g.S.Store.told c.take_turn.new.store) c.loop-place.invariant.some c.loop-place.invariant.genuine c.take_turn.ensures.genuine;
   part = part_on (g.I.Source.rest c.args.input.now) (g.I.Source.rest c.loop-place.input) (g.I.Source.rest c.take_turn.new.input) c.loop-place.invariant.part c.take_turn.ensures.part;
   store = c.in-Obeyed.ensures.store ∙ c.loop-place.invariant.store;
   read = c.in-Obeyed.ensures.read ∙ c.loop-place.invariant.read;
@@ -49,11 +52,14 @@ returns-in-Over-clause-ends g c =
     (omega arith) c.loop-place.invariant.ends c.in-Over.ensures.ends
 
 pub returns-in-Over-clause-some : goal.returns-in-Over-clause-some
-returns-in-Over-clause-some g c = some_on c.in-Over.answer (g.S.Store.told c.args.store.now) (g.S.Store.told c.loop-place.store) (g.S.Store.told c.take_turn.new.store) c.loop-place.invariant.some c.in-Over.ensures.some
+returns-in-Over-clause-some g c =
+    some_on (MayRemove (g.I.Source.rest c.args.input.now)) c.in-Over.answer (g.S.Store.told c.args.store.now) (g.S.Store.told c.loop-place.store) (g.S.Store.told c.take_turn.new.store) c.loop-place.invariant.some
+    (some_removed (lines_limit - c.loop-place._place) (lines_limit - (c.loop-place._place + 1)) c.loop-place.offset c.in-Over.answer (g.I.Source.rest c.args.input.now) (g.I.Source.rest c.loop-place.input) (g.S.Store.told c.loop-place.store) (g.S.Store.told c.take_turn.new.store)
+    (omega arith) c.loop-place.invariant.ends c.in-Over.ensures.some)
 
 pub returns-in-Over-clause-genuine : goal.returns-in-Over-clause-genuine
 returns-in-Over-clause-genuine g c =
-    genuine_on (g.S.Store.told c.args.store.now) (g.S.Store.told c.loop-place.store) (g.S.Store.told c.take_turn.new.store) c.loop-place.invariant.some c.loop-place.invariant.genuine c.take_turn.ensures.genuine
+    genuine_on (MayRemove (g.I.Source.rest c.args.input.now)) (g.S.Store.told c.args.store.now) (g.S.Store.told c.loop-place.store) (g.S.Store.told c.take_turn.new.store) c.loop-place.invariant.some c.loop-place.invariant.genuine c.take_turn.ensures.genuine
 
 pub returns-in-Over-clause-rest : goal.returns-in-Over-clause-rest
 returns-in-Over-clause-rest g c = leaves_on c.in-Over.answer (g.I.Source.rest c.args.input.now) (g.I.Source.rest c.loop-place.input) (g.I.Source.rest c.take_turn.new.input) c.loop-place.invariant.part c.in-Over.ensures.whole
@@ -80,7 +86,7 @@ returns-clause-ends g c =
     ends_last (lines_limit - c.loop-place._place) c.loop-place.offset c.last_turn.result (g.I.Source.rest c.args.input.now) (g.I.Source.rest c.loop-place.input) (omega arith) c.loop-place.invariant.ends c.last_turn.ensures.last
 
 pub returns-clause-some : goal.returns-clause-some
-returns-clause-some g c = some_on c.last_turn.result (g.S.Store.told c.args.store.now) (g.S.Store.told c.loop-place.store) (g.S.Store.told c.loop-place.store) c.loop-place.invariant.some (same_some (g.S.Store.told c.loop-place.store) c.last_turn.result)
+returns-clause-some g c = some_on (MayRemove (g.I.Source.rest c.args.input.now)) c.last_turn.result (g.S.Store.told c.args.store.now) (g.S.Store.told c.loop-place.store) (g.S.Store.told c.loop-place.store) c.loop-place.invariant.some (same_some (MayRemove (g.I.Source.rest c.args.input.now)) (g.S.Store.told c.loop-place.store) c.last_turn.result)
 
 pub returns-clause-rest : goal.returns-clause-rest
 returns-clause-rest g c = leaves_on c.last_turn.result (g.I.Source.rest c.args.input.now) (g.I.Source.rest c.loop-place.input) (g.I.Source.rest c.last_turn.new.input) c.loop-place.invariant.part c.last_turn.ensures.whole

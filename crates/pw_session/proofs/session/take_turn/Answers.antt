@@ -1,8 +1,9 @@
 use Rattle.pw_answer.specs.declared.answer.Answer.TheVariants.{Done}
-use Rattle.pw_session.specs.Outcomes.{image_view}
+use Rattle.pw_session.specs.Outcomes.{image_view, turn_answer}
+use Rattle.pw_session.specs.Removals.{MayRemoveFirst}
 use Rattle.pw_session.proofs.SessionLemmas.{turn_ends_so, turn_taken_so, turn_unread_so}
 use Rattle.pw_session.proofs.TurnLemmas.{genuine_same, leaves_end_so, leaves_taken, leaves_unread, short_so, taken_is, taken_read, unread_is, unread_read, unread_store, unread_write}
-use Rattle.pw_session.proofs.EndLemmas.{over_ends, taken_ends, unread_ends}
+use Rattle.pw_session.proofs.EndLemmas.{over_ends, taken_ends, taken_some, unread_ends}
 use Rattle.pw_session.proofs.LineLemmas.{same_some}
 use Rattle.pw_session.proofs.session.take_turn.Goals as goal
 
@@ -14,6 +15,11 @@ returns-in-Ok-Some-clause-turn g c =
 pub returns-in-Ok-Some-clause-ends : goal.returns-in-Ok-Some-clause-ends
 returns-in-Ok-Some-clause-ends g c =
     taken_ends c.args.offset c.in-Ok-Some.field-0 c.in-Ok-Some.taken c.obey_taken.result (g.I.Source.rest c.args.input.now) (g.I.Source.rest c.next_line.new.input) c.in-Ok-Some.field-0-is c.obey_taken.ensures.turn c.in-Ok-Some.ensures.line
+
+pub returns-in-Ok-Some-clause-some : goal.returns-in-Ok-Some-clause-some
+returns-in-Ok-Some-clause-some g c =
+    taken_some c.in-Ok-Some.field-0 c.in-Ok-Some.taken (turn_answer c.obey_taken.result) (g.I.Source.rest c.args.input.now) (g.I.Source.rest c.next_line.new.input) (g.S.Store.told c.args.store.now) (g.S.Store.told c.obey_taken.new.store)
+    c.in-Ok-Some.field-0-is c.in-Ok-Some.ensures.line c.obey_taken.ensures.some
 
 pub returns-in-Ok-Some-clause-whole : goal.returns-in-Ok-Some-clause-whole
 returns-in-Ok-Some-clause-whole g c = leaves_taken c.in-Ok-Some.taken c.obey_taken.result (g.I.Source.rest c.args.input.now) (g.I.Source.rest c.next_line.new.input) c.obey_taken.ensures.turn c.next_line.ensures.part
@@ -38,7 +44,7 @@ pub returns-in-Ok-None-clause-ends : goal.returns-in-Ok-None-clause-ends
 returns-in-Ok-None-clause-ends g c = over_ends c.args.offset c.in-Ok-None.field-0 (g.I.Source.rest c.args.input.now) (g.I.Source.rest c.next_line.new.input) c.in-Ok-None.field-0-is c.in-Ok-None.ensures.line
 
 pub returns-in-Ok-None-clause-some : goal.returns-in-Ok-None-clause-some
-returns-in-Ok-None-clause-some g c = same_some (g.S.Store.told c.args.store.now) Done
+returns-in-Ok-None-clause-some g c = same_some (MayRemoveFirst (g.I.Source.rest c.args.input.now)) (g.S.Store.told c.args.store.now) Done
 
 pub returns-in-Ok-None-clause-genuine : goal.returns-in-Ok-None-clause-genuine
 returns-in-Ok-None-clause-genuine g c = genuine_same (g.S.Store.told c.args.store.now)
@@ -50,7 +56,7 @@ pub returns-in-Err-clause-ends : goal.returns-in-Err-clause-ends
 returns-in-Err-clause-ends g c = unread_ends c.args.offset c.in-Err.fault c.unread.result (g.I.Source.rest c.args.input.now) (g.I.Source.rest c.next_line.new.input) c.unread.ensures c.in-Err.ensures.line
 
 pub returns-in-Err-clause-some : goal.returns-in-Err-clause-some
-returns-in-Err-clause-some g c = same_some (g.S.Store.told c.args.store.now) c.unread.result
+returns-in-Err-clause-some g c = same_some (MayRemoveFirst (g.I.Source.rest c.args.input.now)) (g.S.Store.told c.args.store.now) c.unread.result
 
 pub returns-in-Err-clause-genuine : goal.returns-in-Err-clause-genuine
 returns-in-Err-clause-genuine g c = genuine_same (g.S.Store.told c.args.store.now)

@@ -1,4 +1,5 @@
 use Rattle.std.proofs.Common.{Some}
+use Rattle.pw_session.specs.Removals.{MayRemove}
 use Rattle.pw_top.proofs.GenuineLemmas.{genuine_alone, kept_others, others_alone, phase_two_genuine, plain_genuine}
 use Rattle.pw_top.proofs.SessionLemmas.{bench_does, bench_line, bench_no_usage, bench_reads, bench_stores, session_does, session_no_usage, session_others}
 use Rattle.pw_top.proofs.RestLemmas.{leaves_rest}
@@ -231,25 +232,25 @@ pub returns-in-Db-clause-others : goal.returns-in-Db-clause-others
 returns-in-Db-clause-others g c = rw c.in-Db.is (kept_others (g.S.Store.told c.args.store.now) _ c.show_database.ensures.same)
 
 pub returns-in-Go-clause-genuine : goal.returns-in-Go-clause-genuine
-returns-in-Go-clause-genuine g c = plain_genuine (Some c.args.command.now) _ (g.S.Store.told c.args.store.now) _ (rw c.in-Go.is tt) (returns-in-Go-clause-others g c)
+returns-in-Go-clause-genuine g c = plain_genuine (Some c.args.command.now) (g.I.Source.rest c.args.input.now) _ (g.S.Store.told c.args.store.now) _ (rw c.in-Go.is tt) (returns-in-Go-clause-others g c)
 
 pub returns-in-Run-clause-genuine : goal.returns-in-Run-clause-genuine
-returns-in-Run-clause-genuine g c = plain_genuine (Some c.args.command.now) _ (g.S.Store.told c.args.store.now) _ (rw c.in-Run.is tt) (returns-in-Run-clause-others g c)
+returns-in-Run-clause-genuine g c = plain_genuine (Some c.args.command.now) (g.I.Source.rest c.args.input.now) _ (g.S.Store.told c.args.store.now) _ (rw c.in-Run.is tt) (returns-in-Run-clause-others g c)
 
 pub returns-in-List-clause-genuine : goal.returns-in-List-clause-genuine
-returns-in-List-clause-genuine g c = plain_genuine (Some c.args.command.now) _ (g.S.Store.told c.args.store.now) _ (rw c.in-List.is tt) (returns-in-List-clause-others g c)
+returns-in-List-clause-genuine g c = plain_genuine (Some c.args.command.now) (g.I.Source.rest c.args.input.now) _ (g.S.Store.told c.args.store.now) _ (rw c.in-List.is tt) (returns-in-List-clause-others g c)
 
 pub returns-in-Db-clause-genuine : goal.returns-in-Db-clause-genuine
-returns-in-Db-clause-genuine g c = plain_genuine (Some c.args.command.now) _ (g.S.Store.told c.args.store.now) _ (rw c.in-Db.is tt) (returns-in-Db-clause-others g c)
+returns-in-Db-clause-genuine g c = plain_genuine (Some c.args.command.now) (g.I.Source.rest c.args.input.now) _ (g.S.Store.told c.args.store.now) _ (rw c.in-Db.is tt) (returns-in-Db-clause-others g c)
 
 pub returns-in-PhaseOne-clause-genuine : goal.returns-in-PhaseOne-clause-genuine
-returns-in-PhaseOne-clause-genuine g c = plain_genuine (Some c.args.command.now) _ (g.S.Store.told c.args.store.now) _ (rw c.in-PhaseOne.is tt) (returns-in-PhaseOne-clause-others g c)
+returns-in-PhaseOne-clause-genuine g c = plain_genuine (Some c.args.command.now) (g.I.Source.rest c.args.input.now) _ (g.S.Store.told c.args.store.now) _ (rw c.in-PhaseOne.is tt) (returns-in-PhaseOne-clause-others g c)
 
 pub returns-in-Analyse-clause-genuine : goal.returns-in-Analyse-clause-genuine
-returns-in-Analyse-clause-genuine g c = plain_genuine (Some c.args.command.now) _ (g.S.Store.told c.args.store.now) _ (rw c.in-Analyse.is tt) (returns-in-Analyse-clause-others g c)
+returns-in-Analyse-clause-genuine g c = plain_genuine (Some c.args.command.now) (g.I.Source.rest c.args.input.now) _ (g.S.Store.told c.args.store.now) _ (rw c.in-Analyse.is tt) (returns-in-Analyse-clause-others g c)
 
 pub returns-in-Link-clause-genuine : goal.returns-in-Link-clause-genuine
-returns-in-Link-clause-genuine g c = plain_genuine (Some c.args.command.now) _ (g.S.Store.told c.args.store.now) _ (rw c.in-Link.is tt) (returns-in-Link-clause-others g c)
+returns-in-Link-clause-genuine g c = plain_genuine (Some c.args.command.now) (g.I.Source.rest c.args.input.now) _ (g.S.Store.told c.args.store.now) _ (rw c.in-Link.is tt) (returns-in-Link-clause-others g c)
 
 pub returns-in-PhaseTwo-clause-genuine : goal.returns-in-PhaseTwo-clause-genuine
 returns-in-PhaseTwo-clause-genuine g c = phase_two_genuine c.genuine_files_keep_genuine.ensures (g.S.Store.told c.args.store.now) _ _ c.compile_flow.ensures.made
@@ -304,7 +305,7 @@ returns-in-Session-clause-proper g c = session_proper _ c.run_session.ensures.an
 pub returns-in-Session-clause-others : goal.returns-in-Session-clause-others
 returns-in-Session-clause-others g c = rw c.in-Session.is (session_others
     (leaves_rest (record { insertion = c.other_files.ensures.insertion; removal = c.other_files.ensures.removal; failure = c.other_files.ensures.failure }))
-    (g.S.Store.told c.args.store.now) _ _ c.run_session.ensures.some)
+    (MayRemove (g.I.Source.rest c.args.input.now)) (g.S.Store.told c.args.store.now) _ _ c.run_session.ensures.some)
 
 pub returns-in-Session-clause-reads : goal.returns-in-Session-clause-reads
 returns-in-Session-clause-reads g c = rw c.in-Session.is (λ h. absurd h)

@@ -76,7 +76,7 @@ returns-in-Err-Usage-clause-others g c =
     rw none (others_alone [] (g.S.Store.told c.args.store.now))
 
 pub returns-in-Err-NoMemory-clause-others : goal.returns-in-Err-NoMemory-clause-others
-returns-in-Err-NoMemory-clause-others g c = rest_alone _ (g.S.Store.told c.args.store.now)
+returns-in-Err-NoMemory-clause-others g c = rest_alone _ (g.I.Source.rest c.args.input.now) (g.S.Store.told c.args.store.now)
 
 pub returns-in-Err-Usage-clause-genuine : goal.returns-in-Err-Usage-clause-genuine
 returns-in-Err-Usage-clause-genuine g c = genuine_alone (g.S.Store.told c.args.store.now)

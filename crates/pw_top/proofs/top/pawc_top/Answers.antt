@@ -91,4 +91,4 @@ returns-clause-builds_whole g c =
 
 pub returns-clause-keeps_others : goal.returns-clause-keeps_others
 returns-clause-keeps_others g c =
-    rest_told (command_of (map string_bytes c.args.words.now)) (g.S.Store.told c.args.store.now) _ c.obey_words-reply.result.answer c.tell.result c.tell.ensures.answer c.obey_words-reply.ensures.others
+    rest_told (command_of (map string_bytes c.args.words.now)) (g.I.Source.rest c.args.input.now) (g.S.Store.told c.args.store.now) _ c.obey_words-reply.result.answer c.tell.result c.tell.ensures.answer c.obey_words-reply.ensures.others
