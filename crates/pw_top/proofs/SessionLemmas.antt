@@ -36,12 +36,12 @@ session_no_usage Usage h = h
 session_no_usage _ h = tt
 
 -- what was changed, and what stays
-abbrev pub LeaveOthers : Type 0
-LeaveOthers = (may : List ℕ → Type 0) (answer : Answer) (told : Told) (new : Option Told) → MakesSome may answer told new → IsSomeAnd new (LeavesRest may answer told)
+abbrev pub LeaveOthers : (List ℕ → Type 0) → Type 0
+LeaveOthers may = (answer : Answer) (told : Told) (new : Option Told) → MakesSome may answer told new → IsSomeAnd new (LeavesRest may answer told)
 
-pub session_others : LeaveOthers → (may : List ℕ → Type 0) (first new : Option Told) (answer : Answer) → IfSome first (λ told. MakesSome may answer told new) → IfSome first (λ told. MakesSome may answer told new × IsSomeAnd new (LeavesRest may answer told))
-session_others law may None new answer h = tt
-session_others law may (Some told) new answer h = (h, law may answer told new h)
+pub session_others : (may : List ℕ → Type 0) → LeaveOthers may → (first new : Option Told) (answer : Answer) → IfSome first (λ told. MakesSome may answer told new) → IfSome first (λ told. MakesSome may answer told new × IsSomeAnd new (LeavesRest may answer told))
+session_others may law None new answer h = tt
+session_others may law (Some told) new answer h = (h, law answer told new h)
 
 pub rest_none : (may : List ℕ → Type 0) (answer : Answer) (told : Told) → LeavesRest may answer told told
 rest_none may answer told = record { put = []; removed = []; failed = []; own = tt; lawful = tt; one = omega arith; none = λ h. refl; told_so = sym (append-nil told.puts); same = λ name h. refl }

@@ -303,9 +303,9 @@ pub returns-in-Session-clause-proper : goal.returns-in-Session-clause-proper
 returns-in-Session-clause-proper g c = session_proper _ c.run_session.ensures.answer
 
 pub returns-in-Session-clause-others : goal.returns-in-Session-clause-others
-returns-in-Session-clause-others g c = rw c.in-Session.is (session_others
-    (leaves_rest (record { insertion = c.other_files.ensures.insertion; removal = c.other_files.ensures.removal; failure = c.other_files.ensures.failure }))
-    (MayRemove (g.I.Source.rest c.args.input.now)) (g.S.Store.told c.args.store.now) _ _ c.run_session.ensures.some)
+returns-in-Session-clause-others g c = rw c.in-Session.is (session_others (MayRemove (g.I.Source.rest c.args.input.now))
+    (leaves_rest (record { insertion = c.other_files.ensures.insertion; removal = c.other_files.ensures.removal; failure = c.other_files.ensures.failure }) (MayRemove (g.I.Source.rest c.args.input.now)))
+    (g.S.Store.told c.args.store.now) _ _ c.run_session.ensures.some)
 
 pub returns-in-Session-clause-reads : goal.returns-in-Session-clause-reads
 returns-in-Session-clause-reads g c = rw c.in-Session.is (λ h. absurd h)
