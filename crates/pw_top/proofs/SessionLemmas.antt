@@ -1,12 +1,12 @@
 -- What a session did, by its own clauses.
-use Rattle.std.proofs.Common.{◌≡◌, ℕ, List, [], ◌∷◌, ◌++◌, Option, Some, None, Result, Ok, Err, refl, sym, ap, ◌∙◌, subst, arith, append-nil}
+use Rattle.std.proofs.Common.{◌≡◌, ℕ, List, [], Option, Some, None, Result, Ok, Err, refl, sym, subst, arith, append-nil}
 use Rattle.std.specs.Prelude.{IfSome, IsSomeAnd}
-use Rattle.pw_io.specs.Files.{Files, Told, Keeps}
+use Rattle.pw_io.specs.Files.{Told}
 use Rattle.pw_answer.specs.declared.answer.Answer.{Answer}
-use Rattle.pw_answer.specs.declared.answer.Answer.TheVariants.{Done, Ended, Usage, Refused, LinkRefused, StackStop, Spent, Halted, ReadFault, WriteFault, StoreFault, NoMemory, BadFile, BadScript}
+use Rattle.pw_answer.specs.declared.answer.Answer.TheVariants.{Done, Usage, Refused, LinkRefused, Halted, ReadFault, WriteFault, StoreFault, NoMemory, BadFile, BadScript}
 use Rattle.pw_answer.specs.Answers.{NeedsMemory}
 use Rattle.pw_answer.specs.Effects.{Effect, NamedFile, PutsFiles}
-use Rattle.pw_answer.specs.Outcomes.{InputCount, OutputCount, StoreCount}
+use Rattle.pw_answer.specs.Outcomes.{InputCount, StoreCount}
 use Rattle.pw_modules.specs.Modules.{modules_of}
 use Rattle.pw_session.specs.FromBuild.Phases.{refused_line}
 use Rattle.pw_session.specs.FromBuild.BuildFault.{BuildFault}
@@ -36,12 +36,12 @@ session_no_usage Usage h = h
 session_no_usage _ h = tt
 
 -- what was changed, and what stays
-abbrev pub LeaveOthers : Type 0
-LeaveOthers = (may : List ℕ → Type 0) (answer : Answer) (told : Told) (new : Option Told) → MakesSome may answer told new → IsSomeAnd new (LeavesRest may answer told)
+abbrev pub LeaveOthers : (List ℕ → Type 0) → Type 0
+LeaveOthers may = (answer : Answer) (told : Told) (new : Option Told) → MakesSome may answer told new → IsSomeAnd new (LeavesRest may answer told)
 
-pub session_others : LeaveOthers → (may : List ℕ → Type 0) (first new : Option Told) (answer : Answer) → IfSome first (λ told. MakesSome may answer told new) → IfSome first (λ told. MakesSome may answer told new × IsSomeAnd new (LeavesRest may answer told))
-session_others law may None new answer h = tt
-session_others law may (Some told) new answer h = (h, law may answer told new h)
+pub session_others : (may : List ℕ → Type 0) → LeaveOthers may → (first new : Option Told) (answer : Answer) → IfSome first (λ told. MakesSome may answer told new) → IfSome first (λ told. MakesSome may answer told new × IsSomeAnd new (LeavesRest may answer told))
+session_others may law None new answer h = tt
+session_others may law (Some told) new answer h = (h, law answer told new h)
 
 pub rest_none : (may : List ℕ → Type 0) (answer : Answer) (told : Told) → LeavesRest may answer told told
 rest_none may answer told = record { put = []; removed = []; failed = []; own = tt; lawful = tt; one = omega arith; none = λ h. refl; told_so = sym (append-nil told.puts); same = λ name h. refl }
