@@ -1,5 +1,5 @@
 -- What each command did, by its own clauses.
-use Rattle.std.proofs.Common.{◌≡◌, ℕ, ◌⊎◌, ⊎_elim, inl, List, [], ◌∷◌, ◌++◌, codes, Option, Some, None, Result, Ok, Err, refl, sym, ap, ◌∙◌, subst}
+use Rattle.std.proofs.Common.{◌≡◌, ℕ, ◌⊎◌, ⊎_elim, inl, List, [], ◌++◌, codes, Option, Some, None, Result, Ok, Err, refl, sym, ap, ◌∙◌, subst}
 use Rattle.std.specs.Prelude.{IfSome}
 use Rattle.pw_io.specs.Files.{Files, Told, Keeps}
 use Rattle.pw_object.specs.declared.object.Object.{Object}
@@ -10,7 +10,7 @@ use Rattle.pw_summary.specs.declared.summary.Summary.{Summary}
 use Rattle.pw_image.specs.Image.{ImageValue}
 use Rattle.pw_machine.specs.Core.{Core}
 use Rattle.pw_answer.specs.declared.answer.Answer.{Answer}
-use Rattle.pw_answer.specs.declared.answer.Answer.TheVariants.{Done, Ended, Usage, Refused, LinkRefused, StackStop, Spent, Halted, ReadFault, WriteFault, StoreFault, NoMemory, BadFile}
+use Rattle.pw_answer.specs.declared.answer.Answer.TheVariants.{Usage, Refused, LinkRefused, ReadFault, WriteFault, StoreFault, NoMemory, BadFile}
 use Rattle.pw_answer.specs.Effects.{Effect, NamedFile, PutsFiles, answers_alone, prints}
 use Rattle.pw_answer.specs.Outcomes.{Answers, InputCount, LeavesInput, LeavesStreams, OutputCount, PutsOut}
 use Rattle.pw_run_laws.specs.Ends.{Ends}

@@ -1,5 +1,5 @@
 -- No command refuses anything for want of memory.
-use Rattle.std.specs.Prelude.{◌≡◌, ◌≢◌, refl}
+use Rattle.std.specs.Prelude.{◌≢◌, refl}
 use Rattle.pw_value.specs.declared.fault.LinkFault.{LinkFault}
 use Rattle.pw_value.specs.declared.fault.LinkFault.TheVariants as link
 use Rattle.pw_answer.specs.declared.answer.Answer.{Answer}

@@ -1,12 +1,12 @@
 -- What a session did, by its own clauses.
-use Rattle.std.proofs.Common.{◌≡◌, ℕ, List, [], ◌∷◌, ◌++◌, Option, Some, None, Result, Ok, Err, refl, sym, ap, ◌∙◌, subst, arith, append-nil}
+use Rattle.std.proofs.Common.{◌≡◌, ℕ, List, [], Option, Some, None, Result, Ok, Err, refl, sym, subst, arith, append-nil}
 use Rattle.std.specs.Prelude.{IfSome, IsSomeAnd}
-use Rattle.pw_io.specs.Files.{Files, Told, Keeps}
+use Rattle.pw_io.specs.Files.{Told}
 use Rattle.pw_answer.specs.declared.answer.Answer.{Answer}
-use Rattle.pw_answer.specs.declared.answer.Answer.TheVariants.{Done, Ended, Usage, Refused, LinkRefused, StackStop, Spent, Halted, ReadFault, WriteFault, StoreFault, NoMemory, BadFile, BadScript}
+use Rattle.pw_answer.specs.declared.answer.Answer.TheVariants.{Done, Usage, Refused, LinkRefused, Halted, ReadFault, WriteFault, StoreFault, NoMemory, BadFile, BadScript}
 use Rattle.pw_answer.specs.Answers.{NeedsMemory}
 use Rattle.pw_answer.specs.Effects.{Effect, NamedFile, PutsFiles}
-use Rattle.pw_answer.specs.Outcomes.{InputCount, OutputCount, StoreCount}
+use Rattle.pw_answer.specs.Outcomes.{InputCount, StoreCount}
 use Rattle.pw_modules.specs.Modules.{modules_of}
 use Rattle.pw_session.specs.FromBuild.Phases.{refused_line}
 use Rattle.pw_session.specs.FromBuild.BuildFault.{BuildFault}

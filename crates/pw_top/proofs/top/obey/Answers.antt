@@ -4,7 +4,7 @@ use Rattle.pw_top.proofs.GenuineLemmas.{genuine_alone, kept_others, others_alone
 use Rattle.pw_top.proofs.SessionLemmas.{bench_does, bench_line, bench_no_usage, bench_reads, bench_stores, session_does, session_no_usage, session_others}
 use Rattle.pw_top.proofs.RestLemmas.{leaves_rest}
 use Rattle.pw_top.proofs.ProperLemmas.{bench_proper, build_proper, phase_proper, run_proper, session_proper, show_proper, store_proper}
-use Rattle.pw_top.proofs.CommandLemmas.{analyse_does, build_does, build_line, build_no_usage, build_reads, db_does, go_does, go_line, kept_alone, left_alone, link_does, list_does, of_any, of_go, of_other, phase_no_usage, phase_one_does, phase_reads, phase_two_does, phase_writes, plain_line, run_does, run_no_usage, show_no_usage, show_reads, store_no_usage, store_reads, store_writes}
+use Rattle.pw_top.proofs.CommandLemmas.{analyse_does, build_does, build_line, build_no_usage, build_reads, db_does, go_does, go_line, kept_alone, left_alone, link_does, list_does, of_go, of_other, phase_no_usage, phase_one_does, phase_reads, phase_two_does, phase_writes, plain_line, run_does, run_no_usage, show_no_usage, show_reads, store_no_usage, store_reads, store_writes}
 use Rattle.pw_top.proofs.top.obey.Goals as goal
 
 pub returns-in-Go-clause-does : goal.returns-in-Go-clause-does
