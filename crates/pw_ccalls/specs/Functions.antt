@@ -1,5 +1,5 @@
 -- A function of a program, by what a call of it runs.
-use Rattle.std.specs.Prelude.{List, [], ◌∷◌, map}
+use Rattle.std.specs.Prelude.{List, map}
 use Rattle.std.specs.List.{flat_map}
 use Rattle.pw_typed.specs.Views.{view_function}
 use Rattle.pw_cmean.specs.Worlds.{Callable, callable, library_callable}
