@@ -8,7 +8,7 @@ ghost use Rattle.pw_files.specs.Rising.{counted};
 ghost use Rattle.pw_flow.specs.ValidFlow.{IsValid};
 ghost use Rattle.pw_flowfile.specs.FlowFile.{all_in_global, all_in_function, names_of, item as item_text, placed_item as placed_item_text, global_body as global_body_text, global as global_text, block as block_text, function as function_text, spelling, IsFlowFile};
 
-use crate::reading::KIND;
+use crate::reading::{KIND, VERSION};
 use crate::used::used_names;
 use pw_files::kinds::push_kind;
 use pw_files::writing::{make_table, push_bytes, push_count, push_shaped_list, seal_payload};
@@ -198,5 +198,5 @@ pub fn write(alloc: Global, flow: &FlowModule) -> Result<Vec<u8>, AllocError>
     let mut out = Vec::new(alloc);
     push_module(&mut out, table, flow)?;
     let payload = out.as_slice();
-    seal_payload(alloc, KIND, 1, payload)
+    seal_payload(alloc, KIND, VERSION, payload)
 }

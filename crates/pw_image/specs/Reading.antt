@@ -6,7 +6,7 @@ use Rattle.pw_value.specs.FieldFrame.{here, ended, file_at}
 use Rattle.pw_value.specs.FieldNames.{names_at, name_at, first_unused}
 use Rattle.pw_image.specs.declared.image.Function.{Function}
 use Rattle.pw_image.specs.declared.image.GlobalObject.{GlobalObject}
-use Rattle.pw_image.specs.Image.{Item, MemoryValue, ImageValue, Contents, data_start, free_behind, names_of, kind}
+use Rattle.pw_image.specs.Image.{Item, MemoryValue, ImageValue, Contents, data_start, free_behind, names_of, kind, image_version}
 
 abbrev pub is_in_text : ℕ → ℕ → Bool
 is_in_text words address = (address % 4 == 0) && (nat_le text_start address && nat_lt address (text_start + 4 * words))
@@ -84,7 +84,7 @@ unfoldable pub payload_at : List ℕ → Result (Contents × List ℕ) ℕ
 payload_at bytes = if is_lawful_start (start_at bytes) then contents_at bytes else Err (length bytes)
 
 unfoldable pub image_file_at : List ℕ → Result Contents ℕ
-image_file_at bytes = file_at kind 1 1 (λ version. payload_at) bytes
+image_file_at bytes = file_at kind image_version image_version (λ version. payload_at) bytes
 
 -- the image alone
 abbrev pub image_of : Result Contents ℕ → Result ImageValue ℕ

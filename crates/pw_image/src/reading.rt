@@ -22,6 +22,9 @@ use std::alloc::{AllocError, Global};
 /// `PAWI`, the first four bytes of an image file.
 pub const KIND: u32 = 0x5041_5749;
 
+/// The version of the form of an image file.
+pub(crate) const VERSION: u32 = 1;
+
 /// Whether an address is that of a word, in a text of so many words.
 fn is_word_address(words: u64, address: u32) -> bool
     ensures { result ≡ is_in_text words address }
@@ -366,7 +369,7 @@ fn read_payload(alloc: Global, bytes: &[u8]) -> Result<((Vec<Name>, Image), &[u8
 fn read_file(alloc: Global, bytes: &[u8]) -> Result<(Vec<Name>, Image), FileError>
     ensures { GivesFile contents_view result (image_file_at bytes.now) }
 {
-    let opened = open(KIND, 1, 1, bytes)?;
+    let opened = open(KIND, VERSION, VERSION, bytes)?;
     match read_payload(alloc, opened.payload) {
         Err(e) => Err(e.at(opened.end)),
         Ok((contents, _)) => {
