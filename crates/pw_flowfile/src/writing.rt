@@ -11,7 +11,9 @@ ghost use Rattle.pw_flowfile.specs.FlowFile.{all_in_global, all_in_function, nam
 use crate::reading::{KIND, VERSION};
 use crate::used::used_names;
 use pw_files::kinds::push_kind;
-use pw_files::writing::{make_table, push_bytes, push_count, push_shaped_list, seal_payload};
+use pw_files::writing::{
+    make_table, push_bytes, push_count, push_shaped_list, push_words, seal_payload,
+};
 use pw_flow::{Block, FlowFn, FlowGlobal, FlowModule, Item};
 use pw_flowops::{push_end, push_ops};
 use pw_value::Name;
