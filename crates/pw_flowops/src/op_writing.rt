@@ -1,8 +1,7 @@
 //! Writing operations.
 
 ghost use Rattle.std.specs.Prelude.{◌≡◌, ◌++◌, ℕ, List, [], OnOk, Contains, Option, None, Some};
-ghost use Rattle.std.specs.List.{AllByRecursion};
-ghost use Rattle.pw_value.specs.Fields.{u32};
+ghost use Rattle.std.specs.List.{flat_map, AllByRecursion};
 ghost use Rattle.pw_value.specs.FieldNames.{IsNameTable};
 ghost use Rattle.pw_flow.specs.declared.flow.Op.TheVariants.{Const, Copy, Un, Bin, Ext, AddrGlobal, AddrSlot, AddrFn, LoadG, StoreG, Load, Store, Move, Call, CallInd};
 ghost use Rattle.pw_flow.specs.FlowGraph.{op_names};
