@@ -13,7 +13,7 @@ use Rattle.pw_summary.specs.declared.summary.Defined.{Defined}
 use Rattle.pw_summary.specs.declared.summary.Used.{Used}
 use Rattle.pw_summary.specs.declared.summary.Uses.{Uses}
 use Rattle.pw_summary.specs.declared.summary.Summary.{Summary}
-use Rattle.pw_summary.specs.Summary.{global_names, function_names, names_of, kind, whole_summary}
+use Rattle.pw_summary.specs.Summary.{global_names, function_names, names_of, kind, summary_version, whole_summary}
 
 -- ---- items
 
@@ -65,7 +65,7 @@ fields_at names late = do
   let summary : Summary = record { «module» = «module»; globals = globals; functions = functions; declared = declared; used = used; taken = taken; escaped = escaped; uses = uses } in ended (late summary count) (record { names = names; value = summary })
 
 abbrev pub summary_file_at : List ℕ → Result (Contents Summary) ℕ
-summary_file_at = contents_file_at kind fields_at last_rules
+summary_file_at = contents_file_at kind summary_version fields_at last_rules
 
 -- ---- the fields in two parts behind the module's name
 

@@ -110,6 +110,10 @@ spelling c = parts (name_table c.names ∷ own c.names c.value ∷ others c.name
 abbrev pub kind : ℕ
 kind = 0x50415753
 
+-- the version of the form of a summary file
+abbrev pub summary_version : ℕ
+summary_version = 1
+
 -- the bytes are the file of the summary
 abbrev pub IsSummaryFile : List ℕ → Summary → Type 0
-IsSummaryFile = IsFileWith kind spelling (IsContents IsSummary FitsSummary names_of)
+IsSummaryFile = IsFileWith kind summary_version spelling (IsContents IsSummary FitsSummary names_of)

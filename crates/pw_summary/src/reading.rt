@@ -8,7 +8,7 @@ ghost use Rattle.pw_value.specs.FieldFrame.{ended};
 ghost use Rattle.pw_files.specs.Rising.{next_key, rising_at};
 ghost use Rattle.pw_files.specs.Contents.{broken_at, value_of};
 ghost use Rattle.pw_summary.specs.declared.summary.Summary.{Summary as AnySummary};
-ghost use Rattle.pw_summary.specs.Summary.{IsSummaryFile, kind as kind_of_file};
+ghost use Rattle.pw_summary.specs.Summary.{IsSummaryFile, kind as kind_of_file, summary_version};
 ghost use Rattle.pw_summary.specs.Reading.{global_at, weight_at, reference_at, uses_at, defined_at, used_at, last_rules, fields_at, summary_file_at};
 
 use crate::names::{check_start_beside_main, used_names};
@@ -26,6 +26,9 @@ use std::alloc::Global;
 
 /// `PAWS`, the first four bytes of a summary file.
 pub const KIND: u32 = 0x5041_5753;
+
+/// The version of the form of a summary file.
+pub(crate) const VERSION: u32 = 1;
 
 /// A weight.
 #[tactic(auto, unfolding(crate::specs::Reading::weight_at))]
@@ -287,6 +290,10 @@ impl Format for SummaryFormat {
     const KIND: u32 = KIND;
 
     ghost KIND = { kind_of_file };
+
+    const VERSION: u32 = VERSION;
+
+    ghost VERSION = { summary_version };
 
     ghost fields = { fields_at };
 
