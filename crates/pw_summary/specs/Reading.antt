@@ -13,7 +13,7 @@ use Rattle.pw_summary.specs.declared.summary.Defined.{Defined}
 use Rattle.pw_summary.specs.declared.summary.Used.{Used}
 use Rattle.pw_summary.specs.declared.summary.Uses.{Uses}
 use Rattle.pw_summary.specs.declared.summary.Summary.{Summary}
-use Rattle.pw_summary.specs.Summary.{global_names, function_names, names_of, kind, summary_version, whole_summary}
+use Rattle.pw_summary.specs.Summary.{global_names, function_names, names_of, kind, summary_version}
 
 -- ---- items
 
