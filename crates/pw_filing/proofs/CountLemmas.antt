@@ -1,5 +1,5 @@
 -- How many objects are counted where a fault is answered.
-use Rattle.std.proofs.Common.{◌≡◌, ◌⊎◌, inl, inr, arith, ℕ, List, Option, Some, None, Result, Ok, Err, refl, sym, subst}
+use Rattle.std.proofs.Common.{◌≡◌, ◌⊎◌, inl, inr, arith, ℕ, List, Option, Some, None, Result, Ok, refl, sym, subst}
 use Rattle.std.specs.Prelude.{IfSome}
 use Rattle.pw_io.specs.Files.{Told}
 use Rattle.pw_io.specs.declared.StoreError.{StoreError}
