@@ -31,7 +31,7 @@ use Rattle.pw_build.specs.Phases.{FaultsAs, IsLine}
 use Rattle.pw_build.specs.Stores.{store_fault}
 use Rattle.pw_kept.specs.declared.files.ProgramFiles.{ProgramFiles}
 use Rattle.pw_kept.specs.Files.{AreObjectFiles, file_view, made_anew}
-use Rattle.pw_filing.specs.Programs.{AreAsMany, BuildsFiles, FaultBuilds, IsCounted}
+use Rattle.pw_filing.specs.Programs.{AreAsMany, BuildsFiles, CountsAtMost, FaultBuilds}
 
 -- ---- the names of modules
 
@@ -195,23 +195,23 @@ pub builds_completed : (sources : List Source) (flows : List FlowModule) (kept :
 builds_completed sources flows kept all colours stack answer None phases same h = tt
 builds_completed sources flows kept all colours stack answer (Some told) phases same h = completed sources flows kept (all told) colours stack answer phases same h
 
--- ---- what is counted
+-- ---- at most how many are counted
 
 -- nothing
-pub not_counted : (phases : Result (List FlowModule) BuildFault) (n : ℕ) → IsCounted phases n n
+pub not_counted : (phases : Result (List FlowModule) BuildFault) (n : ℕ) → CountsAtMost phases n n
 not_counted (Err fault) n = refl
 not_counted (Ok flows) n = record { least = omega arith; bound = omega arith }
 
 -- at most one for each flow graph
-pub flows_counted : (phases : Result (List FlowModule) BuildFault) (flows : List FlowModule) (before now : ℕ) → phases ≡ Ok flows → CountsUpTo (length flows) before now → IsCounted phases before now
-flows_counted phases flows before now e h = subst (λ (r : Result (List FlowModule) BuildFault). IsCounted r before now) (sym e) h
+pub flows_counted : (phases : Result (List FlowModule) BuildFault) (flows : List FlowModule) (before now : ℕ) → phases ≡ Ok flows → CountsUpTo (length flows) before now → CountsAtMost phases before now
+flows_counted phases flows before now e h = subst (λ (r : Result (List FlowModule) BuildFault). CountsAtMost r before now) (sym e) h
 
-most_by : (sources : List Source) (phases : Result (List FlowModule) BuildFault) (before now : ℕ) → first_phases sources ≡ phases → IsCounted phases before now → CountsUpTo module_limit before now
+most_by : (sources : List Source) (phases : Result (List FlowModule) BuildFault) (before now : ℕ) → first_phases sources ≡ phases → CountsAtMost phases before now → CountsUpTo module_limit before now
 most_by sources (Err fault) before now e h = record { least = omega (arith, h); bound = omega (arith, h) }
 most_by sources (Ok flows) before now e h =
     let long : length flows ≡ length sources = flows_long sources flows (within_flows (limit_passed sources) (flows_of sources) flows e) in
     let few : length sources ≤ module_limit = few_by sources flows (nat_lt module_limit (length sources)) refl e in
     record { least = h.least; bound = omega (arith, h.bound, long, few) }
 
-pub most_counted : (sources : List Source) (before now : ℕ) → IsCounted (first_phases sources) before now → CountsUpTo module_limit before now
+pub most_counted : (sources : List Source) (before now : ℕ) → CountsAtMost (first_phases sources) before now → CountsUpTo module_limit before now
 most_counted sources before now h = most_by sources (first_phases sources) before now refl h
