@@ -16,7 +16,7 @@ use Rattle.pw_session.specs.declared.session.Turn.{Turn}
 use Rattle.pw_session.specs.declared.session.Turn.TheVariants.{Over, Obeyed}
 use Rattle.pw_session.specs.Changes.{Change, MakesChanges, after_changes}
 use Rattle.pw_session.specs.Session.{Act, Acts, Effects, LinesAct, ScriptLines, SessionActs, State, bad_at, behind_act, lines_from, lines_limit, lines_of, no_line, script_answer, session_start, with_line}
-use Rattle.pw_session.specs.Outcomes.{Does, FrontActs, IsLastAnswer, IsLineAnswer, IsSessionFound, IsTaken, ObeysLine, ObeysLines, ObeysSession, TakesTurn, turn_answer, unread}
+use Rattle.pw_session.specs.Outcomes.{Does, FrontActs, IsLastAnswer, IsLineAnswer, IsSessionFound, IsTaken, ObeysLine, ObeysLines, ObeysSession, TakesTurn, both_effects, turn_answer, unread}
 use Rattle.pw_session.proofs.OutputLemmas.{puts_alone, puts_none, puts_stop, puts_then}
 use Rattle.pw_session.proofs.ChangeLemmas.{after_both, front_none, makes_all, makes_stop, makes_then}
 
@@ -55,11 +55,17 @@ nothing_does answer told new taken taken' e same = record { said = subst (λ (t 
 -- no line was obeyed
 none_acts : (opts : SessionOpts) (s : State) (lines : List LineValue) (answer : Answer) (new : Option Told) (taken taken' : Option (List ℕ)) → new ≡ Some s.told → taken' ≡ taken → FrontActs opts s lines answer new taken taken'
 none_acts opts s lines answer new taken taken' e same = record {
-  done = [];
+  before = [];
+  last = [];
   more = lines;
   split = refl;
-  effects = nothing;
+  one = omega arith;
+  first = nothing;
+  later = nothing;
   acts = refl;
+  all = refl;
+  between = taken;
+  whole = puts_none Done taken;
   said = subst (λ (t : Option (List ℕ)). PutsOut [] answer taken t) (sym same) (puts_none answer taken);
   made = e;
 }
@@ -95,11 +101,17 @@ one_acts : (opts : SessionOpts) (s : State) (line : LineValue) (more : List Line
 one_acts opts s line more new taken taken' image h =
     let found = h.found tt in
     record {
-      done = line ∷ [];
+      before = [];
+      last = line ∷ [];
       more = more;
       split = refl;
-      effects = behind_act found.0 nothing;
-      acts = (found.0, nothing, found.1, refl, refl);
+      one = omega arith;
+      first = nothing;
+      later = behind_act found.0 nothing;
+      acts = refl;
+      all = (found.0, nothing, found.1, refl, refl);
+      between = taken;
+      whole = puts_none Done taken;
       said = puts_stop found.0.output [] WriteFault taken taken' (λ more. tt) (h.does found.0 found.1).said;
       made = found.2 ∙ ap (λ (changes : List Change). Some (after_changes s.told changes)) (sym (append-nil found.0.changes));
     }
@@ -368,17 +380,35 @@ session_further opts n m offset size (Some told) now new (Some script) rest rest
 
 -- ---- the end
 
+-- effects behind others, of which the later stay behind
+behind_first : (output : List ℕ) (changes : List Change) (first later : Effects) → behind output changes (both_effects first later) ≡ both_effects (behind output changes first) later
+behind_first output changes first later =
+    ap (λ (xs : List ℕ). made_of xs (changes ++ (first.changes ++ later.changes))) (sym (append_assoc output first.output later.output))
+    ∙ ap (made_of ((output ++ first.output) ++ later.output)) (sym (append_assoc changes first.changes later.changes))
+
+lines_split : (opts : SessionOpts) (s : State) (lines before last : List LineValue) (e same : Effects) → e ≡ same → LinesAct opts s (lines ++ (before ++ last)) e → LinesAct opts s ((lines ++ before) ++ last) same
+lines_split opts s lines before last e same h acts =
+    subst (λ (ls : List LineValue). LinesAct opts s ls same) (sym (append_assoc lines before last)) (subst (λ (x : Effects). LinesAct opts s (lines ++ (before ++ last)) x) h acts)
+
 -- what a front of the lines that are left comes to, behind what the lines before came to
 front_behind : (opts : SessionOpts) (told : Told) (script : List ℕ) (n offset : ℕ) (now new : Option Told) (rest t0 t1 t2 image : Option (List ℕ)) (answer : Answer) (so : SoFar opts told script n offset now rest t0 t1 image)
     → FrontActs opts (record { told = so.at; image = image }) (lines_from n offset so.left).lines answer new t1 t2 → FrontActs opts (session_start told) (lines_of script).lines answer new t0 t2
 front_behind opts told script n offset now new rest t0 t1 t2 image answer so f = record {
-  done = so.before ++ f.done;
+  before = so.before ++ f.before;
+  last = f.last;
   more = f.more;
-  split = so.lines ∙ ap (λ (lines : List LineValue). so.before ++ lines) f.split ∙ sym (append_assoc so.before f.done f.more);
-  effects = behind so.output so.changes f.effects;
-  acts = so.onto f.done f.effects f.acts;
-  said = puts_then so.output f.effects.output Done answer t0 t1 t2 (λ m w. w) so.said f.said;
-  made = f.made ∙ ap (λ (t : Told). Some (after_changes t f.effects.changes)) so.made ∙ ap (λ (t : Told). Some t) (sym (after_both told so.changes f.effects.changes));
+  split = so.lines ∙ ap (λ (lines : List LineValue). so.before ++ lines) f.split ∙ sym (append_assoc so.before f.before (f.last ++ f.more));
+  one = f.one;
+  first = behind so.output so.changes f.first;
+  later = f.later;
+  acts = so.onto f.before f.first f.acts;
+  all = lines_split opts (session_start told) so.before f.before f.last (behind so.output so.changes (both_effects f.first f.later)) (both_effects (behind so.output so.changes f.first) f.later) (behind_first so.output so.changes f.first f.later)
+      (so.onto (f.before ++ f.last) (both_effects f.first f.later) f.all);
+  between = f.between;
+  whole = puts_then so.output f.first.output Done Done t0 t1 f.between (λ m w. w) so.said f.whole;
+  said = f.said;
+  made = f.made ∙ ap (λ (t : Told). Some (after_changes t (f.first.changes ++ f.later.changes))) so.made ∙ ap (λ (t : Told). Some t) (sym (after_both told so.changes (f.first.changes ++ f.later.changes)))
+      ∙ ap (λ (changes : List Change). Some (after_changes told changes)) (sym (append_assoc so.changes f.first.changes f.later.changes));
 }
 
 all_behind : (opts : SessionOpts) (told : Told) (script : List ℕ) (n offset : ℕ) (now : Option Told) (rest t0 t1 image : Option (List ℕ)) (so : SoFar opts told script n offset now rest t0 t1 image)

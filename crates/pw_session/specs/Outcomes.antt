@@ -30,20 +30,30 @@ pub record Does (output : List ℕ) (changes : List Change) (answer : Answer) (t
   pub said : PutsOut output answer taken taken'
   pub made : MakesChanges changes answer told new
 
--- A front of lines comes to what was put out and changed: to all the changes, and to the output, of which after a fault of
--- the output a front was put out.
+-- what lines come to, and others behind them
+abbrev pub both_effects : Effects → Effects → Effects
+both_effects first later = record { output = first.output ++ later.output; changes = first.changes ++ later.changes }
+
+-- A front of lines comes to what was put out and changed: to all the changes, and to the output. That of the lines before the
+-- last was put out whole, and behind it that of the last, of which after a fault of the output a front was put out.
 pub record FrontActs (opts : SessionOpts) (s : State) (lines : List LineValue) (answer : Answer) (new : Option Told) (taken taken' : Option (List ℕ)) : Type 0 where
-  pub done : List LineValue
+  pub before : List LineValue
+  pub last : List LineValue
   pub more : List LineValue
-  pub split : lines ≡ done ++ more
-  pub effects : Effects
-  pub acts : LinesAct opts s done effects
-  pub said : PutsOut effects.output answer taken taken'
-  pub made : new ≡ Some (after_changes s.told effects.changes)
+  pub split : lines ≡ before ++ (last ++ more)
+  pub one : length last ≤ 1
+  pub first : Effects
+  pub later : Effects
+  pub acts : LinesAct opts s before first
+  pub all : LinesAct opts s (before ++ last) (both_effects first later)
+  pub between : Option (List ℕ)
+  pub whole : PutsOut first.output Done taken between
+  pub said : PutsOut later.output answer between taken'
+  pub made : new ≡ Some (after_changes s.told (first.changes ++ later.changes))
 
 -- The lines come to something, where no fault and no want of memory was answered. Where the input had a fault, a front of
--- them comes to exactly what was put out and changed; where the output had one, to what was changed, and the last of the
--- front to an output of which the end is missing.
+-- them comes to exactly what was put out and changed; where the output had one, to what was changed, and to an output of
+-- which the end of the last line's is missing.
 abbrev pub IsSessionFound : SessionOpts → State → List LineValue → Answer → Option Told → Option (List ℕ) → Option (List ℕ) → Type 0
 IsSessionFound opts s lines ReadFault new taken taken' = FrontActs opts s lines Done new taken taken'
 IsSessionFound opts s lines WriteFault new taken taken' = FrontActs opts s lines WriteFault new taken taken'

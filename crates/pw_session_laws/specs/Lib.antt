@@ -1,1 +1,6 @@
+pub mod FromBuild
+pub mod FromBuildLaws
+pub mod FromBuilding
+pub mod FromDriving
+pub mod FromSession
 pub mod Full

@@ -3,20 +3,22 @@
 ghost use Rattle.std.specs.Prelude.{List, ℕ};
 ghost use Rattle.pw_io.specs.Files.{Told};
 ghost use Rattle.pw_session.specs.FromBuilding.Genuine.{KeepsGenuine};
-ghost use Rattle.pw_session.specs.Session.{Effects, SessionActs};
 ghost use Rattle.pw_session.specs.declared.opts.SessionOpts.{SessionOpts};
 ghost use Rattle.pw_session_laws.specs.Full.{SessionBuildsInFull};
 
+use pw_build_laws::a_build_leaves_the_whole_program;
 use pw_io::laws::other_files;
 use pw_session::{
     builds_leave_genuine_objects, genuine_objects_give_the_full_image, module_texts_are_no_objects,
 };
 
 /// Where the kept objects are genuine before a session, each of its builds comes to the image of the full build of the
-/// texts as its lines left them, byte for byte, or to that build's fault.
+/// texts as its lines left them, byte for byte, or to that build's fault; one that is done leaves the database and the image of
+/// that full build in their files, as far as kept files count, and genuine objects.
 pub fn sessions_build_in_full()
-    ensures { (opts : SessionOpts) (told : Told) (script : List ℕ) (e : Effects) → KeepsGenuine told.files → SessionActs opts told script e → SessionBuildsInFull opts told script e }
+    ensures { (opts : SessionOpts) (told : Told) (script : List ℕ) → KeepsGenuine told.files → SessionBuildsInFull opts told script }
 {
+    a_build_leaves_the_whole_program();
     builds_leave_genuine_objects();
     genuine_objects_give_the_full_image();
     module_texts_are_no_objects();

@@ -14,9 +14,9 @@ use Rattle.pw_answer.specs.declared.answer.Answer.TheVariants.{Usage, Refused, L
 use Rattle.pw_answer.specs.Effects.{Effect, NamedFile, PutsFiles, answers_alone, prints}
 use Rattle.pw_answer.specs.Outcomes.{Answers, InputCount, LeavesInput, LeavesStreams, OutputCount, PutsOut}
 use Rattle.pw_run_laws.specs.Ends.{Ends}
-use Rattle.pw_session.specs.FromBuild.BuildFault.{BuildFault}
-use Rattle.pw_session.specs.FromBuilding.Building.{Outcome}
-use Rattle.pw_session.specs.FromDriving.Driving.{BuildComesTo, IsBuildAnswer, IsLineDue, built_effect}
+use Rattle.pw_session_laws.specs.FromBuild.BuildFault.{BuildFault}
+use Rattle.pw_session_laws.specs.FromBuilding.Building.{Outcome}
+use Rattle.pw_session_laws.specs.FromDriving.Driving.{BuildComesTo, IsBuildAnswer, IsLineDue, built_effect}
 use Rattle.pw_run_laws.specs.FromGo.FullBuild.{Build, full_build}
 use Rattle.pw_run_laws.specs.FromGo.FullBuild as build
 use Rattle.pw_run_laws.specs.FromGo.Going.{IsLineOf, IsNoUsage, build_effect, refused_line}
@@ -26,7 +26,7 @@ use Rattle.pw_run_laws.specs.FromCommands.Needed.{needed, needed_bytes}
 use Rattle.pw_run_laws.specs.FromCommands.Outcome.{IsStoreAnswer, Obeys}
 use Rattle.pw_run_laws.specs.FromCommands.Running.{IsRunOrStop, core_in, run_effect, runs}
 use Rattle.pw_run_laws.specs.FromCommands.Showing.{DatabaseComes, IsShowAnswer, ListComes, ListOver, Shows, database_text, image_in, printed}
-use Rattle.pw_session.specs.Bench.{BenchComes}
+use Rattle.pw_session_laws.specs.FromSession.Bench.{BenchComes}
 use Rattle.pw_words.specs.declared.commands.Command.{Command}
 use Rattle.pw_words.specs.declared.commands.Command.TheVariants.{Go, Build as BuildAll, Session, PhaseOne, Analyse, PhaseTwo, Link, Run, List as ListImage, Db, Bench}
 use Rattle.pw_compiling.specs.First.{ComesOfPhase, IsLine, PhaseOneComes, PhaseOneOver, text_name}

@@ -10,13 +10,13 @@ use Rattle.pw_answer.specs.Effects.{NamedFile, PutPart}
 use Rattle.pw_making.specs.Kept.{IsGenuine}
 use Rattle.pw_run_laws.specs.FromCommands.Others.{IsNoneOf, IsOneOf, KeepsOthers, PutsOnly}
 use Rattle.pw_kept.specs.Kept.{counted, object_in, object_name}
-use Rattle.pw_session.specs.FromBuilding.Genuine.{IsGenuineFile, KeepsGenuine}
+use Rattle.pw_session_laws.specs.FromBuilding.Genuine.{IsGenuineFile, KeepsGenuine}
 use Rattle.pw_compiling.specs.First.{phase_one_puts}
 use Rattle.pw_compiling.specs.Second.{IsMade, IsMadeFile, PutsMade}
-use Rattle.pw_session.specs.FromDriving.Driving.{KeepsUnput}
+use Rattle.pw_session_laws.specs.FromDriving.Driving.{KeepsUnput}
 use Rattle.pw_words.specs.declared.commands.Command.{Command}
 use Rattle.pw_words.specs.declared.commands.Command.TheVariants.{Build as BuildAll, Session, PhaseOne, Analyse, PhaseTwo, Link}
-use Rattle.pw_session.specs.Removals.{MayRemove}
+use Rattle.pw_session_laws.specs.FromSession.Removals.{MayRemove}
 use Rattle.pw_top.specs.Commands.{KeepsTheRest, files_put}
 use Rattle.pw_top.proofs.SessionLemmas.{changes_none, rest_none}
 

@@ -9,9 +9,9 @@ use Rattle.pw_run_laws.specs.FromCommands.Outcome.{IsStoreAnswer}
 use Rattle.pw_run_laws.specs.FromCommands.Running.{IsRunOrStop}
 use Rattle.pw_run_laws.specs.FromCommands.Showing.{IsShowAnswer}
 use Rattle.pw_compiling.specs.Made.{IsPhaseAnswer}
-use Rattle.pw_session.specs.FromDriving.Driving.{IsBuildAnswer}
-use Rattle.pw_session.specs.Bench.{IsBenchAnswer}
-use Rattle.pw_session.specs.Outcomes.{IsSessionAnswer}
+use Rattle.pw_session_laws.specs.FromDriving.Driving.{IsBuildAnswer}
+use Rattle.pw_session_laws.specs.FromSession.Bench.{IsBenchAnswer}
+use Rattle.pw_session_laws.specs.FromSession.Outcomes.{IsSessionAnswer}
 
 link_proper : (fault : LinkFault) → fault ≢ link.NoMemory → HoldsNoLinkWant fault
 link_proper link.NoMemory h = h refl

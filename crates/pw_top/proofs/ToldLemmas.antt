@@ -16,8 +16,8 @@ use Rattle.pw_run_laws.specs.FromGo.Refusals.{HoldsNoWantOfMemory}
 use Rattle.pw_words.specs.declared.commands.Command.{Command}
 use Rattle.pw_words.specs.declared.commands.Command.TheVariants.{Go, Build as BuildAll, Session}
 use Rattle.pw_compiling.specs.First.{IsLine}
-use Rattle.pw_session.specs.FromDriving.Driving.{KeepsUnput, Unput}
-use Rattle.pw_session.specs.Removals.{MayRemove}
+use Rattle.pw_session_laws.specs.FromDriving.Driving.{KeepsUnput, Unput}
+use Rattle.pw_session_laws.specs.FromSession.Removals.{MayRemove}
 use Rattle.pw_top.specs.Commands.{EndsScript, KeepsTheRest, opts_of}
 use Rattle.pw_top.specs.Does.{Does, DoesAs}
 use Rattle.pw_top.proofs.DoesLemmas.{memory_here, out_part}

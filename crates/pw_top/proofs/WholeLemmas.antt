@@ -6,20 +6,25 @@ use Rattle.pw_modules.specs.Modules.{module_map}
 use Rattle.pw_answer.specs.declared.answer.Answer.{Answer}
 use Rattle.pw_answer.specs.declared.answer.Answer.TheVariants.{Done}
 use Rattle.pw_answer.specs.Effects.{Effect, PutsFiles, after_puts}
-use Rattle.pw_session.specs.FromBuild.BuildFault.{BuildFault}
-use Rattle.pw_session.specs.FromBuild.BuildFault.TheVariants as build
-use Rattle.pw_session.specs.FromBuilding.Building.{BuildComes, Outcome}
-use Rattle.pw_session.specs.FromBuilding.Genuine.{KeepsGenuine}
-use Rattle.pw_session.specs.FromBuilding.Outcomes.{fault_answer}
-use Rattle.pw_build_laws.specs.Whole.{HoldsFullBuild}
-use Rattle.pw_session.specs.FromDriving.Driving.{BuildComesTo, built_effect}
+use Rattle.pw_session_laws.specs.FromBuild.BuildFault.{BuildFault}
+use Rattle.pw_session_laws.specs.FromBuild.BuildFault.TheVariants as build
+use Rattle.pw_session_laws.specs.FromBuilding.Building.{BuildComes, Outcome}
+use Rattle.pw_session_laws.specs.FromBuilding.Genuine.{KeepsGenuine}
+use Rattle.pw_session_laws.specs.FromBuilding.Outcomes.{fault_answer}
+use Rattle.pw_session_laws.specs.FromBuildLaws.Whole.{HoldsFullBuild}
+use Rattle.pw_session_laws.specs.FromDriving.Driving.{BuildComesTo, built_effect}
 use Rattle.pw_words.specs.declared.commands.Command.{Command}
-use Rattle.pw_words.specs.declared.commands.Command.TheVariants.{Build as BuildAll}
-use Rattle.pw_top.specs.Commands.{BuildsWhole, IfDone}
+use Rattle.pw_session_laws.specs.Full.{SessionBuildsInFull}
+use Rattle.pw_session_laws.specs.FromSession.SessionOpts.{SessionOpts}
+use Rattle.pw_words.specs.declared.commands.Command.TheVariants.{Build as BuildAll, Session}
+use Rattle.pw_top.specs.Commands.{BuildsWhole, IfDone, opts_of}
 use Rattle.pw_top.specs.Does.{Does, DoesAs}
 
 abbrev pub BuildsLeave : Type 0
 BuildsLeave = (told : Told) (colours stack : ℕ) (outcome : Outcome) → KeepsGenuine told.files → BuildComes told.files colours stack (Ok outcome) → HoldsFullBuild (module_map told.files) colours stack (after_puts told outcome.puts).files
+
+abbrev pub SessionsLeave : Type 0
+SessionsLeave = (opts : SessionOpts) (told : Told) (script : List ℕ) → KeepsGenuine told.files → SessionBuildsInFull opts told script
 
 no_done : (fault : BuildFault) → fault_answer fault ≡ Done → ⊥
 no_done (build.Refused name refusal) e = cc
@@ -40,12 +45,13 @@ done_whole law colours stack Done told new input rest taken taken' d =
     λ keeps. built_whole law d.found.1.0 colours stack told new input d.found.0 d.found.1.1 d.found.1.2 d.found.2 (d.puts d.found.0 d.found.1) keeps
 done_whole law colours stack _ told new input rest taken taken' d = tt
 
-whole_of : BuildsLeave → (command : Option Command) (answer : Answer) (told : Told) (new : Option Told) (input : List ℕ) (rest taken taken' : Option (List ℕ)) → DoesAs command answer told new input rest taken taken' → BuildsWhole command answer told new
-whole_of law (Some (BuildAll colours stack)) answer told new input rest taken taken' d = done_whole law colours stack answer told new input rest taken taken' d
-whole_of law command answer told new input rest taken taken' d = tt
+whole_of : BuildsLeave → SessionsLeave → (command : Option Command) (answer : Answer) (told : Told) (new : Option Told) (input : List ℕ) (rest taken taken' : Option (List ℕ)) → DoesAs command answer told new input rest taken taken' → BuildsWhole command answer told new input
+whole_of law sessions (Some (BuildAll colours stack)) answer told new input rest taken taken' d = done_whole law colours stack answer told new input rest taken taken' d
+whole_of law sessions (Some (Session colours stack steps)) answer told new input rest taken taken' d = λ keeps. sessions (opts_of colours stack steps) told input keeps
+whole_of law sessions command answer told new input rest taken taken' d = tt
 
-pub builds_whole : BuildsLeave → (command : Option Command) (first new : Option Told) (old rest taken taken' : Option (List ℕ)) (answer : Answer)
-    → IfSome first (λ t. IfSome old (λ input. DoesAs command answer t new input rest taken taken')) → IfSome first (λ t. IfSome old (λ input. BuildsWhole command answer t new))
-builds_whole law command None new old rest taken taken' answer d = tt
-builds_whole law command (Some t) new None rest taken taken' answer d = tt
-builds_whole law command (Some t) new (Some input) rest taken taken' answer d = whole_of law command answer t new input rest taken taken' d
+pub builds_whole : BuildsLeave → SessionsLeave → (command : Option Command) (first new : Option Told) (old rest taken taken' : Option (List ℕ)) (answer : Answer)
+    → IfSome first (λ t. IfSome old (λ input. DoesAs command answer t new input rest taken taken')) → IfSome first (λ t. IfSome old (λ input. BuildsWhole command answer t new input))
+builds_whole law sessions command None new old rest taken taken' answer d = tt
+builds_whole law sessions command (Some t) new None rest taken taken' answer d = tt
+builds_whole law sessions command (Some t) new (Some input) rest taken taken' answer d = whole_of law sessions command answer t new input rest taken taken' d

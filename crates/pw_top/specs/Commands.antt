@@ -4,18 +4,19 @@ use Rattle.pw_io.specs.Files.{Files, Told}
 use Rattle.pw_answer.specs.declared.answer.Answer.{Answer}
 use Rattle.pw_answer.specs.declared.answer.Answer.TheVariants.{Done, Usage}
 use Rattle.pw_modules.specs.Modules.{module_map, modules_of}
-use Rattle.pw_session.specs.FromBuild.Phases as phases
+use Rattle.pw_session_laws.specs.FromBuild.Phases as phases
 use Rattle.pw_run_laws.specs.FromGo.FullBuild.{full_build}
 use Rattle.pw_run_laws.specs.FromGo.Going.{IsNoUsage, refused_line}
 use Rattle.pw_run_laws.specs.FromCommands.Others.{KeepsOthers}
-use Rattle.pw_session.specs.FromBuilding.Genuine.{KeepsGenuine}
-use Rattle.pw_build_laws.specs.Whole.{HoldsFullBuild}
-use Rattle.pw_session.specs.declared.opts.SessionOpts.{SessionOpts}
-use Rattle.pw_session.specs.Bench.{bench_files}
-use Rattle.pw_session.specs.Changes.{MakesSome}
-use Rattle.pw_session.specs.Outcomes.{EndsAs}
-use Rattle.pw_session.specs.Removals.{MayRemove}
-use Rattle.pw_session.specs.FromDriving.Driving.{KeepsUnput}
+use Rattle.pw_session_laws.specs.FromBuilding.Genuine.{KeepsGenuine}
+use Rattle.pw_session_laws.specs.FromBuildLaws.Whole.{HoldsFullBuild}
+use Rattle.pw_session_laws.specs.FromSession.SessionOpts.{SessionOpts}
+use Rattle.pw_session_laws.specs.FromSession.Bench.{bench_files}
+use Rattle.pw_session_laws.specs.FromSession.Changes.{MakesSome}
+use Rattle.pw_session_laws.specs.FromSession.Outcomes.{EndsAs}
+use Rattle.pw_session_laws.specs.FromSession.Removals.{MayRemove}
+use Rattle.pw_session_laws.specs.FromDriving.Driving.{KeepsUnput}
+use Rattle.pw_session_laws.specs.Full.{SessionBuildsInFull}
 use Rattle.pw_top.specs.Rest.{LeavesRest}
 use Rattle.pw_compiling.specs.First.{phase_line, phase_one_puts}
 use Rattle.pw_compiling.specs.Second.{phase_two_puts}
@@ -73,10 +74,12 @@ abbrev pub IfDone : Answer → Type 0 → Type 0
 IfDone Done P = P
 IfDone _ P = Unit {0}
 
--- A build that is done leaves the database and the image of the full build of the modules, where the kept objects were genuine.
-abbrev pub BuildsWhole : Option Command → Answer → Told → Option Told → Type 0
-BuildsWhole (Some (Build colours stack)) answer told new = IfDone answer (KeepsGenuine told.files → IsSomeAnd new (λ now. HoldsFullBuild (module_map told.files) colours stack now.files))
-BuildsWhole _ answer told new = Unit {0}
+-- Where the kept objects were genuine, a build that is done leaves the database and the image of the full build of the modules,
+-- and each build of a session, whatever ended it, is the full build of the modules as they were then.
+abbrev pub BuildsWhole : Option Command → Answer → Told → Option Told → List ℕ → Type 0
+BuildsWhole (Some (Build colours stack)) answer told new input = IfDone answer (KeepsGenuine told.files → IsSomeAnd new (λ now. HoldsFullBuild (module_map told.files) colours stack now.files))
+BuildsWhole (Some (Session colours stack steps)) answer told new input = KeepsGenuine told.files → SessionBuildsInFull (opts_of colours stack steps) told input
+BuildsWhole _ answer told new input = Unit {0}
 
 -- How a session ends is a function of its script, whatever the store tells.
 abbrev pub EndsScript : Option Command → Option (List ℕ) → Answer → Type 0

@@ -15,10 +15,10 @@ use Rattle.pw_run_laws.specs.FromCommands.Running.{run_effect}
 use Rattle.pw_run_laws.specs.FromCommands.Showing.{DatabaseComes, ListComes}
 use Rattle.pw_compiling.specs.First.{PhaseOneComes}
 use Rattle.pw_compiling.specs.Second.{PhaseTwoComes}
-use Rattle.pw_session.specs.FromDriving.Driving.{BuildComesTo}
-use Rattle.pw_session.specs.declared.opts.SessionOpts.{SessionOpts}
-use Rattle.pw_session.specs.Bench.{BenchComes}
-use Rattle.pw_session.specs.Outcomes.{LeavesScript, ObeysSession}
+use Rattle.pw_session_laws.specs.FromDriving.Driving.{BuildComesTo}
+use Rattle.pw_session_laws.specs.FromSession.SessionOpts.{SessionOpts}
+use Rattle.pw_session_laws.specs.FromSession.Bench.{BenchComes}
+use Rattle.pw_session_laws.specs.FromSession.Outcomes.{LeavesScript, ObeysSession}
 use Rattle.pw_words.specs.declared.commands.Command.{Command}
 use Rattle.pw_words.specs.declared.commands.Command.TheVariants.{Go, Build, Session, PhaseOne, Analyse, PhaseTwo, Link, Run, List as ListImage, Db, Bench}
 use Rattle.pw_top.specs.Commands.{opts_of}

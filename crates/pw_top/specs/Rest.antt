@@ -5,7 +5,7 @@ use Rattle.pw_io.specs.Files.{Told}
 use Rattle.pw_modules.specs.Modules.{IsModuleFile}
 use Rattle.pw_answer.specs.declared.answer.Answer.{Answer}
 use Rattle.pw_answer.specs.declared.answer.Answer.TheVariants.{StoreFault}
-use Rattle.pw_session.specs.FromBuilding.Genuine.{IsBuiltName}
+use Rattle.pw_session_laws.specs.FromBuilding.Genuine.{IsBuiltName}
 use Rattle.pw_run_laws.specs.FromCommands.Others.{IsSameBut}
 
 -- a file of a module, or one of a build's

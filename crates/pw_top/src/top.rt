@@ -9,14 +9,13 @@ ghost use Rattle.pw_run_laws.specs.FromGo.Going.{AnswersBuild, BuiltAgrees, IsNo
 ghost use Rattle.pw_run_laws.specs.FromGo.Refusals.{HoldsNoWantOfMemory, NoMainComes, NoMainIs, RefusalComes, RefusalIs};
 ghost use Rattle.pw_modules.specs.Modules.{modules_of};
 ghost use Rattle.pw_compiling.specs.First.{IsLine};
-ghost use Rattle.pw_session.specs.FromBuilding.Genuine.{KeepsGenuine};
+ghost use Rattle.pw_session_laws.specs.FromBuilding.Genuine.{KeepsGenuine};
 ghost use Rattle.pw_top.specs.Commands.{BuildsWhole, EndsScript, IsGo, IsNoSession, IsUsageDue, KeepsTheRest, OnlyReads, line_of, opts_of};
 ghost use Rattle.pw_top.specs.Does.{DoesAs};
 ghost use Rattle.pw_words.specs.CommandLine.{command_of};
 ghost use Rattle.pw_words.specs.Limits.{IsWithin};
 
 use pw_answer::{Answer, Reply, tell};
-use pw_build_laws::a_build_leaves_the_whole_program;
 use pw_compiling::{compile_flow, compile_text};
 use pw_io::laws::other_files;
 use pw_io::{Sink, Source, Store};
@@ -24,8 +23,9 @@ use pw_run_laws::{
     analyse_modules, builds_agree, go, link_modules, list_image, refusals_are_due, run_image,
     runs_leave_an_end, show_database,
 };
-use pw_session::{
-    Opts, SessionOpts, bench, build_modules, genuine_files_keep_genuine, run_session,
+use pw_session_laws::{
+    Opts, SessionOpts, a_build_leaves_the_whole_program, bench, build_modules,
+    genuine_files_keep_genuine, run_session, sessions_build_in_full,
 };
 use pw_words::laws::commands_are_within;
 use pw_words::{Command, WordsFault, command};
@@ -180,7 +180,7 @@ pub fn pawc_top<S: Store, I: Source, O: Sink, E: Sink>(
     // the answer, the files, the output and the input
     ensures does { IfSome (S.told store.old) (λ told. IfSome (I.rest input.old) (λ rest. DoesAs (command_of (map string_bytes words.now)) result told (S.told store.new) rest (I.rest input.new) (O.taken out.old) (O.taken out.new))) }
     ensures ends_script { EndsScript (command_of (map string_bytes words.now)) (I.rest input.old) result }
-    ensures builds_whole { IfSome (S.told store.old) (λ told. IfSome (I.rest input.old) (λ rest. BuildsWhole (command_of (map string_bytes words.now)) result told (S.told store.new))) }
+    ensures builds_whole { IfSome (S.told store.old) (λ told. IfSome (I.rest input.old) (λ rest. BuildsWhole (command_of (map string_bytes words.now)) result told (S.told store.new) rest)) }
 
     // no refusal is one for want of memory
     ensures no_want_refused { HoldsNoWantOfMemory result }
@@ -215,6 +215,7 @@ pub fn pawc_top<S: Store, I: Source, O: Sink, E: Sink>(
     builds_agree();
     refusals_are_due();
     runs_leave_an_end();
+    sessions_build_in_full();
     let reply = obey_words(alloc, words, store, input, out);
     tell(alloc, reply.answer, reply.line, err)
 }

@@ -1,5 +1,5 @@
 use Rattle.std.proofs.Common.{Some}
-use Rattle.pw_session.specs.Removals.{MayRemove}
+use Rattle.pw_session_laws.specs.FromSession.Removals.{MayRemove}
 use Rattle.pw_top.proofs.GenuineLemmas.{genuine_alone, kept_others, others_alone, phase_two_genuine, plain_genuine}
 use Rattle.pw_top.proofs.SessionLemmas.{bench_does, bench_line, bench_no_usage, bench_reads, bench_stores, session_does, session_no_usage, session_others}
 use Rattle.pw_top.proofs.RestLemmas.{leaves_rest}
