@@ -1,9 +1,9 @@
 #!/usr/bin/env bash
 # Times scripts of sessions without builds: of 5,000 and of 10,000 lines, which put texts of 500 bytes, give inputs of as
-# many bytes to no image, and remove the texts; and of one line that puts a text of one and of two MiB. Prints processor
-# seconds and their ratios, with what an empty script takes subtracted, and nanoseconds for each byte: where the time is
-# linear in the script's bytes each ratio is 2. Each script has to be obeyed to its end, with a line for each of its
-# lines. Wants python3. Usage: bench/session.sh
+# many bytes to no image, and remove the texts; and of sixteen lines that put texts of one and of two MiB. Prints processor
+# seconds, their ratios, without what an empty script takes, and nanoseconds for each byte: where the time is linear in the
+# script's bytes each ratio is 2. Each script has to be obeyed to its end, with a line for each of its lines. Wants python3.
+# Usage: bench/session.sh
 set -euo pipefail
 top=$(cd "$(dirname "$0")/.." && pwd)
 work=$(mktemp -d /tmp/bench-session.XXXXXX)
@@ -18,7 +18,7 @@ def line(k):
 for count in (0, 5000, 10000):
     open(f"{folder}/lines{count}", "w").write("".join(map(line, range(count))))
 for size in (1048576, 2097152):
-    open(f"{folder}/put{size}", "w").write(f"put a.i {size}\n" + "x" * size + "\n")
+    open(f"{folder}/put{size}", "w").write((f"put a.i {size}\n" + "x" * size + "\n") * 16)
 PYTHON
 
 "$top/pawc" > "$work/usage" 2>&1 || true # builds the program where there is no build
@@ -48,9 +48,9 @@ compared() { # what is compared, the shorter script, the longer one, and the byt
 obeyed lines0 0
 obeyed lines5000 5000
 obeyed lines10000 10000
-obeyed put1048576 1
-obeyed put2097152 1
+obeyed put1048576 16
+obeyed put2097152 16
 empty=$(seconds lines0)
 echo "an empty script: $empty s"
 compared "5,000 and 10,000 lines" lines5000 lines10000
-compared "a put of one and of two MiB" put1048576 put2097152
+compared "puts of one and of two MiB" put1048576 put2097152
