@@ -1,9 +1,9 @@
 #!/usr/bin/env bash
 # Times scripts of sessions without builds: of 5,000 and of 10,000 lines, which put texts of 500 bytes, give inputs of as
-# many bytes to no image, and remove the texts; and of sixteen lines that put texts of one and of two MiB. Prints processor
-# seconds, their ratios, without what an empty script takes, and nanoseconds for each byte: where the time is linear in the
-# script's bytes each ratio is 2. Each script has to be obeyed to its end, with a line for each of its lines. Wants python3.
-# Usage: bench/session.sh
+# many bytes to no image, and remove the texts; and of sixteen lines that put texts of one and of two MiB. Prints
+# processor seconds, their ratios, without what an empty script takes, and nanoseconds for each byte: where the time is
+# linear in the script's bytes each ratio is 2. Each script has to be obeyed to its end, with a line for each of its
+# lines. Wants python3. Usage: bench/session.sh
 set -euo pipefail
 top=$(cd "$(dirname "$0")/.." && pwd)
 work=$(mktemp -d /tmp/bench-session.XXXXXX)
@@ -42,7 +42,8 @@ compared() { # what is compared, the shorter script, the longer one, and the byt
     long=$(seconds "$3")
     bytes=$(wc -c < "$work/$3")
     awk -v what="$1" -v e="$empty" -v s="$short" -v l="$long" -v n="$bytes" 'BEGIN {
-        printf "%s: %s s and %s s, ratio %.2f; %.0f ns for each of %d bytes\n", what, s, l, (l - e) / (s - e), (l - e) * 1e9 / n, n }'
+        printf "%s: %s s and %s s, ratio %.2f; ", what, s, l, (l - e) / (s - e)
+        printf "%.0f ns for each of %d bytes\n", (l - e) * 1e9 / n, n }'
 }
 
 obeyed lines0 0
