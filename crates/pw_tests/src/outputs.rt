@@ -6,7 +6,8 @@ use crate::steps::Output;
 fn is_line(line: &str, wanted: &str, other: &str) -> bool {
     match wanted.split_once('*') {
         Some((front, end)) => line.starts_with(front) && line.ends_with(end),
-        None => line == if wanted == "=" { other } else { wanted },
+        None if wanted == "=" => line == other,
+        None => line == wanted,
     }
 }
 
