@@ -1,3 +1,4 @@
 mod Builds
 mod Declared
+mod Stores
 mod Only

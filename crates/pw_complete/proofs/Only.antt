@@ -1,6 +1,8 @@
 -- What is built can be built.
 use Rattle.std.proofs.Common.{◌≡◌, ◌↔◌, ℕ, ◌≤◌, List, [], Option, None, Some, Result, Ok, Err, map, refl, inr}
+use Rattle.std.specs.Prelude.{IsOk}
 use Rattle.std.specs.List.{AllByRecursion}
+use Rattle.pw_io.specs.Files.{Files}
 use Rattle.pw_value.specs.declared.fault.LinkFault.{LinkFault}
 use Rattle.pw_flow.specs.declared.flow.FlowModule.{FlowModule}
 use Rattle.pw_flow.specs.ValidFlow.{IsValid}
@@ -11,11 +13,14 @@ use Rattle.pw_interface.specs.Interface.{interface}
 use Rattle.pw_program.specs.Linking.{Links}
 use Rattle.pw_graph.specs.Program.{AreLinked}
 use Rattle.pw_link.specs.Linking.{size_fault, IsRefusal, too_large}
-use Rattle.pw_modules.specs.Modules.{Source}
+use Rattle.pw_modules.specs.Modules.{Source, module_map, modules_of}
 use Rattle.pw_making.specs.Programs.{AreParts, AreSummariesOf, Completes, Parts}
 use Rattle.pw_making.specs.Kept.{IsGenuineIfKept, all_fresh, anew}
 use Rattle.pw_build.specs.declared.fault.BuildFault.{BuildFault}
 use Rattle.pw_build.specs.Builds.{first_phases, Builds, BuildsBy}
+use Rattle.pw_driving.specs.FromBuilding.Building.{BuildComes, Outcome}
+use Rattle.pw_driving.specs.FromBuilding.Full.{BuildsImage, image_of}
+use Rattle.pw_driving.specs.FromBuilding.Genuine.{KeepsGenuine}
 use Rattle.pw_alike.specs.Alike.{shown, DeclaresMain}
 use Rattle.pw_complete.specs.Complete.{CanBeBuilt}
 
@@ -59,3 +64,17 @@ module _ (laws : Laws) where
 
   pub can_be_built : (sources : List Source) (kept : List (Option Object)) (colours stack : ℕ) (parts : Parts) → colours ≤ colour_limit → AllByRecursion IsGenuineIfKept kept → Builds sources kept colours stack (Ok parts) → CanBeBuilt sources colours stack
   can_be_built sources kept colours stack parts few genuine h = by_phases sources kept colours stack parts few genuine (first_phases sources) refl h
+
+-- ---- the files of a store
+
+no_answer : (fault : BuildFault) → IsOk {T = Outcome} {E = BuildFault} (Err fault) → ⊥
+no_answer fault e = cc
+
+pub exactly : ((files : Files) (colours stack : ℕ) (fault : BuildFault) → CanBeBuilt (modules_of files) colours stack → KeepsGenuine files → ¬ BuildComes files colours stack (Err fault))
+    → ((files : Files) (colours stack : ℕ) (comes : Result Outcome BuildFault) → KeepsGenuine files → BuildComes files colours stack comes → BuildsImage (module_map files) colours stack (image_of comes))
+    → ((sources : List Source) (kept : List (Option Object)) (colours stack : ℕ) (parts : Parts) → colours ≤ colour_limit → AllByRecursion IsGenuineIfKept kept → Builds sources kept colours stack (Ok parts) → CanBeBuilt sources colours stack)
+    → (files : Files) (colours stack : ℕ) (comes : Result Outcome BuildFault) → colours ≤ colour_limit → KeepsGenuine files → BuildComes files colours stack comes → IsOk comes ↔ CanBeBuilt (modules_of files) colours stack
+exactly never full can files colours stack (Ok outcome) few genuine comes =
+    let image : BuildsImage (module_map files) colours stack (Ok outcome.image) = full files colours stack (Ok outcome) genuine comes in
+    ((λ done. can (modules_of files) [] colours stack image.0 few tt image.1), (λ able. refl))
+exactly never full can files colours stack (Err fault) few genuine comes = ((λ done. absurd (no_answer fault done)), (λ able. absurd (never files colours stack fault able genuine comes)))
