@@ -16,7 +16,7 @@ use Rattle.pw_building.specs.declared.report.Report.{Report}
 use Rattle.pw_building.specs.declared.report.Opts.{Opts}
 use Rattle.pw_kept.specs.declared.prepared.Prepared.{Prepared}
 use Rattle.pw_kept.specs.Files.{changed_files}
-pub use Rattle.pw_filing.specs.Programs.{FaultComes, FaultCount, IsCounted, IsNoWant, fault_answer}
+pub use Rattle.pw_filing.specs.Programs.{FaultComes, FaultCount, HoldsImage, IsCounted, IsNoWant, fault_answer}
 use Rattle.pw_building.specs.Building.{BuildComes, Outcome, puts_of}
 use Rattle.pw_db.specs.Limits.{colour_limit}
 use Rattle.pw_building.specs.Genuine.{IsBuiltName}
