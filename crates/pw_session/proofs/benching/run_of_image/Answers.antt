@@ -10,4 +10,4 @@ pub returns-in-Err-NoMemory : goal.returns-in-Err-NoMemory
 returns-in-Err-NoMemory c = stops_none c.args.image.now c.args.budget
 
 pub unreachable-requires : goal.unreachable-requires
-unreachable-requires c = absurd (no_load_fault c.args.image.now c.in-Err-LoadFault.field-0 c.in-Err-LoadFault.at c.in-Err-LoadFault.field-0-is c.requires c.in-Err-LoadFault.ensures.only)
+unreachable-requires c = absurd (no_load_fault c.args.image.now c.in-Err-LoadFault.field-0 c.in-Err-LoadFault.field-0-0 c.in-Err-LoadFault.field-0-is c.requires c.in-Err-LoadFault.ensures.only)

@@ -1,5 +1,4 @@
-use Rattle.std.proofs.Common.{sym, subst, ◌∙◌}
-use Rattle.pw_driving.specs.FromBuilding.Outcomes.{HoldsImage}
+use Rattle.std.proofs.Common.{sym, ◌∙◌}
 use Rattle.pw_session.proofs.BenchLemmas.{report_none, said_line_so}
 use Rattle.pw_session.proofs.benching.run_report.Goals as goal
 
@@ -10,6 +9,3 @@ returns-then-is_stop-clause-run g c =
 
 pub returns-clause-run : goal.returns-clause-run
 returns-clause-run g c = report_none c.args.number c.args.report.now.image.items c.args.report.now.digest c.args.budget (g.O.Sink.taken c.args.out.now)
-
-pub run_of_image-stop-requires : goal.run_of_image-stop-requires
-run_of_image-stop-requires g c = subst HoldsImage (sym c.deref.ensures.value) c.requires

@@ -1,8 +1,8 @@
-use Rattle.std.proofs.Common.{ℕ, List, refl, sym, ap, subst, ◌∙◌}
+use Rattle.std.proofs.Common.{ℕ, List, refl, sym, ap, ◌∙◌}
 use Rattle.std.specs.Prelude.{codes, string_bytes}
 use Rattle.pw_script.specs.Reading.{line_view}
 use Rattle.pw_script.specs.Script.{RemoveText}
-use Rattle.pw_session.specs.Outcomes.{KeepsImage, image_view}
+use Rattle.pw_session.specs.Outcomes.{image_view}
 use Rattle.pw_session.specs.Removals.{IsRemovedBy}
 use Rattle.pw_session.proofs.LineLemmas.{line_put_so, line_removed_so, line_run_so, put_some, removed_some, same_some}
 use Rattle.pw_session.proofs.TurnLemmas.{genuine_same, say_is_line, say_store}
@@ -50,6 +50,3 @@ returns-in-Run-clause-answer g c = say_is_line c.run_image.result c.run_image.en
 
 pub returns-in-Build-clause-some : goal.returns-in-Build-clause-some
 returns-in-Build-clause-some g c = rw c.in-Build.is c.build_program.ensures.some
-
-pub run_image-requires : goal.run_image-requires
-run_image-requires g c = subst KeepsImage (sym c.as_deref.ensures.value) c.requires.image

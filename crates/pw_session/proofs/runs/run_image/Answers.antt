@@ -18,5 +18,5 @@ returns-in-Err-NoMemory-clause-run g c = run_memory _ c.args.budget c.args.input
 
 pub unreachable-requires : goal.unreachable-requires
 unreachable-requires g c = absurd
-    (no_load_fault c.in-Some.image.now c.in-Err-LoadFault.field-0 c.in-Err-LoadFault.at c.in-Err-LoadFault.field-0-is (subst (λ (o : Option (Bor (List ℕ))). KeepsImage (option_map (λ i. i.now) o)) c.in-Some.is c.requires)
+    (no_load_fault c.in-Some.image.now c.in-Err-LoadFault.field-0 c.in-Err-LoadFault.field-0-0 c.in-Err-LoadFault.field-0-is (subst (λ (o : Option (Bor (List ℕ))). KeepsImage (option_map (λ i. i.now) o)) c.in-Some.is c.requires)
     c.in-Err-LoadFault.ensures.only)
