@@ -37,9 +37,9 @@ build_left : Laws → (opts : SessionOpts) (s : State) (comes : Result Outcome B
 build_left laws opts s (Ok outcome) keeps h = subst (λ (t : Told). KeepsGenuine t.files) (sym (puts_are s.told outcome.puts)) (laws.leaves s.told opts.build.colours opts.build.stack outcome keeps h)
 build_left laws opts s (Err fault) keeps h = keeps
 
-opened : (opts : SessionOpts) (s : State) (comes : Result Outcome BuildFault) → BuildsTo s.told.files opts.build comes → BuildComes s.told.files opts.build.colours opts.build.stack comes
+pub opened : (opts : SessionOpts) (files : Files) (comes : Result Outcome BuildFault) → BuildsTo files opts.build comes → BuildComes files opts.build.colours opts.build.stack comes
 unfolding BuildsTo
-opened opts s comes h = h
+opened opts files comes h = h
 
 left_by : (s : State) (act one : Act) → act ≡ one → KeepsGenuine (next_state s one).told.files → KeepsGenuine (next_state s act).told.files
 left_by s act one e h = subst (λ (a : Act). KeepsGenuine (next_state s a).told.files) (sym e) h
@@ -47,7 +47,7 @@ left_by s act one e h = subst (λ (a : Act). KeepsGenuine (next_state s a).told.
 line_left : Laws → (opts : SessionOpts) (s : State) (line : LineValue) (act : Act) → KeepsGenuine s.told.files → NamesModule line → Acts opts s line act → KeepsGenuine (next_state s act).told.files
 line_left laws opts s (PutText file text) act keeps named h = left_by s act _ h (laws.texts file s.told.files (after_put s.told file text).files named (laws.insertion s.told.files file text) keeps)
 line_left laws opts s (RemoveText file) act keeps named h = left_by s act _ h (laws.texts file s.told.files (after_remove s.told file).files named (laws.removal s.told.files file) keeps)
-line_left laws opts s BuildProgram act keeps named h = left_by s act _ h.2 (build_left laws opts s h.0 keeps (opened opts s h.0 h.1))
+line_left laws opts s BuildProgram act keeps named h = left_by s act _ h.2 (build_left laws opts s h.0 keeps (opened opts s.told.files h.0 h.1))
 line_left laws opts s (RunProgram input) act keeps named h = left_by s act _ h.2 keeps
 
 -- a build leaves the full build's files
@@ -69,7 +69,7 @@ line_in_full : Laws → (opts : SessionOpts) (s : State) (line : LineValue) (act
 line_in_full laws opts s (PutText file text) act keeps h = h
 line_in_full laws opts s (RemoveText file) act keeps h = h
 line_in_full laws opts s BuildProgram act keeps h =
-    let comes = opened opts s h.0 h.1 in
+    let comes = opened opts s.told.files h.0 h.1 in
     (h.0, h.1, h.2, laws.full s.told.files opts.build.colours opts.build.stack h.0 keeps comes, build_leaves laws opts s act h.0 h.2 keeps comes)
 line_in_full laws opts s (RunProgram input) act keeps h = h
 

@@ -1,2 +1,3 @@
 pub mod NamingLemmas
 pub mod FullLemmas
+pub mod BenchLemmas

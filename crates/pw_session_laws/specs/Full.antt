@@ -1,7 +1,8 @@
--- Sessions whose builds are full builds.
+-- Sessions, and `bench`, whose builds are full builds.
 use Rattle.std.specs.Prelude.{◌≡◌, ℕ, List, [], ◌∷◌, ◌++◌, Result, Ok, Err}
 use Rattle.pw_io.specs.Files.{Told}
 use Rattle.pw_modules.specs.Modules.{module_map}
+use Rattle.pw_answer.specs.Effects.{Effect}
 use Rattle.pw_build_laws.specs.Whole.{HoldsFullBuild}
 use Rattle.pw_session.specs.FromBuild.BuildFault.{BuildFault}
 use Rattle.pw_session.specs.FromBuilding.Building.{Outcome}
@@ -10,6 +11,7 @@ use Rattle.pw_session.specs.FromBuilding.Genuine.{KeepsGenuine}
 use Rattle.pw_script.specs.Script.{LineValue, BuildProgram}
 use Rattle.pw_session.specs.declared.opts.SessionOpts.{SessionOpts}
 use Rattle.pw_session.specs.Builds.{BuildsTo}
+use Rattle.pw_session.specs.Bench.{BenchOver, bench_files}
 use Rattle.pw_session.specs.Session.{Act, Acts, Effects, LinesAct, State, behind_act, builds_as, lines_of, next_state, session_start}
 
 -- Behind a build that is done the database and the image of the full build of the texts stand in their files, and the objects
@@ -35,3 +37,9 @@ LinesBuildInFull opts s (line ∷ lines) e =
 abbrev pub SessionBuildsInFull : SessionOpts → Told → List ℕ → Type 0
 SessionBuildsInFull opts told script =
     (front more : List LineValue) (e : Effects) → (lines_of script).lines ≡ front ++ more → LinesAct opts (session_start told) front e → LinesBuildInFull opts (session_start told) front e
+
+-- `bench` with a number comes to this over the image of the full build of the texts that are made from the number, or over
+-- that build's fault.
+abbrev pub BenchBuildsInFull : ℕ → SessionOpts → List ℕ → Effect → Type 0
+BenchBuildsInFull number opts input effect =
+    (comes : Result Outcome BuildFault) × BuildsImage (module_map (bench_files number)) opts.build.colours opts.build.stack (image_of comes) × BenchOver number opts.budget input comes effect

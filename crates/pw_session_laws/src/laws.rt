@@ -1,10 +1,12 @@
-//! Laws of sessions. A function here does nothing: its clause is a fact about all values.
+//! Laws of sessions and of `bench`. A function here does nothing: its clause is a fact about all values.
 
 ghost use Rattle.std.specs.Prelude.{List, ℕ};
 ghost use Rattle.pw_io.specs.Files.{Told};
+ghost use Rattle.pw_answer.specs.Effects.{Effect};
+ghost use Rattle.pw_session.specs.Bench.{BenchComes};
 ghost use Rattle.pw_session.specs.FromBuilding.Genuine.{KeepsGenuine};
 ghost use Rattle.pw_session.specs.declared.opts.SessionOpts.{SessionOpts};
-ghost use Rattle.pw_session_laws.specs.Full.{SessionBuildsInFull};
+ghost use Rattle.pw_session_laws.specs.Full.{BenchBuildsInFull, SessionBuildsInFull};
 
 use pw_build_laws::a_build_leaves_the_whole_program;
 use pw_io::laws::other_files;
@@ -22,5 +24,14 @@ pub fn sessions_build_in_full()
     builds_leave_genuine_objects();
     genuine_objects_give_the_full_image();
     module_texts_are_no_objects();
+    other_files();
+}
+
+/// `bench` builds in full: nothing is kept of the texts that it makes, so its image is that of their full build, byte for
+/// byte, or its refusal that build's.
+pub fn bench_builds_in_full()
+    ensures { (number : ℕ) (opts : SessionOpts) (input : List ℕ) (effect : Effect) → BenchComes number opts input effect → BenchBuildsInFull number opts input effect }
+{
+    genuine_objects_give_the_full_image();
     other_files();
 }
