@@ -2,8 +2,9 @@
 # Times `build` over the modules of the program that the generator makes from the number 1: a full build of 65 modules
 # by pawc, beside `gcc -O0 -m32 -c` and `ld` of the same texts, each module by a process of its own, and beside `tcc` where
 # it is there; the rebuild after one module's edit beside the full build; and twice the modules beside so many. Prints
-# processor seconds and their ratios. The image that is run has to end with gcc's status, and the rebuild has to make one
-# object anew. Wants gcc with -m32 and python3. Usage: bench/build.sh [MODULES]
+# processor seconds and their ratios. The image that is run has to end with gcc's status, the rebuild has to make one
+# object anew, and `bench 1` has to tell the length and the digest of the image of its 65 modules. Wants gcc with -m32 and
+# python3. Usage: bench/build.sh [MODULES]
 set -euo pipefail
 top=$(cd "$(dirname "$0")/.." && pwd)
 count=${1:-64}
@@ -62,6 +63,7 @@ ratio() { awk -v a="$1" -v b="$2" 'BEGIN { printf "%.2f", a / b }'; }
 
 p=$(seconds by_pawc "$work/once")
 cat "$work/told"
+[ "$count" != 64 ] || "$pawc" bench 1 | grep -qF " $(grep '^image ' "$work/told") stop " || { echo "bench 1 tells another image"; exit 1; }
 g=$(seconds by_gcc)
 own=$(cd "$work/once"; status "$pawc" run)
 other=$(status "$work/gcc/program")

@@ -1,4 +1,5 @@
--- Modules and what was kept of them come to one answer, and where the second phase made it that is the full build's.
+-- Modules and what was kept of them come to one answer, and so many objects of theirs are made anew. Where the second
+-- phase made what was kept, the answer is the full build's.
 use Rattle.std.proofs.Common.{◌≡◌, ℕ, ◌≤◌, List, [], Option, Result, Ok, Err, refl, sym, ap, ◌∙◌}
 use Rattle.std.specs.List.{AllByRecursion}
 use Rattle.pw_value.specs.declared.fault.LinkFault.{LinkFault}
@@ -6,10 +7,11 @@ use Rattle.pw_flow.specs.declared.flow.FlowModule.{FlowModule}
 use Rattle.pw_modules.specs.Modules.{Source}
 use Rattle.pw_object.specs.declared.object.Object.{Object}
 use Rattle.pw_making.specs.Programs.{Completes, Parts}
+use Rattle.pw_making.specs.Counting.{MakesAnew}
 use Rattle.pw_making.specs.Kept.{IsGenuineIfKept, anew}
 use Rattle.pw_build.specs.declared.fault.BuildFault.{BuildFault}
 use Rattle.pw_build.specs.declared.fault.BuildFault.TheVariants.{Refused, LinkRefused, StoreFault, NoMemory}
-use Rattle.pw_build.specs.Builds.{Builds, BuildsBy, CompletesAs, first_phases}
+use Rattle.pw_build.specs.Builds.{Builds, BuildsAnew, BuildsBy, CompletesAs, MakesBy, first_phases}
 use Rattle.pw_build.specs.Full.{built_anew}
 use Rattle.pw_db.specs.Limits.{colour_limit}
 
@@ -37,6 +39,16 @@ one_by one (Ok flows) kept colours stack a b few x y =
 
 pub one_build : OneAnswer → (sources : List Source) (kept : List (Option Object)) (colours stack : ℕ) (a b : Result Parts BuildFault) → colours ≤ colour_limit → Builds sources kept colours stack a → Builds sources kept colours stack b → a ≡ b
 one_build one sources kept colours stack a b few x y = one_by one (first_phases sources) kept colours stack a b few x y
+
+abbrev pub OneCount : Type 0
+OneCount = (flows : List FlowModule) (kept : List (Option Object)) (colours made other : ℕ) → colours ≤ colour_limit → MakesAnew flows kept colours made → MakesAnew flows kept colours other → made ≡ other
+
+counted_by : OneCount → (flows : Result (List FlowModule) BuildFault) (kept : List (Option Object)) (colours made other : ℕ) → colours ≤ colour_limit → MakesBy flows kept colours made → MakesBy flows kept colours other → made ≡ other
+counted_by one (Err fault) kept colours made other few x y = x ∙ sym y
+counted_by one (Ok flows) kept colours made other few x y = one flows kept colours made other few x y
+
+pub one_count : OneCount → (sources : List Source) (kept : List (Option Object)) (colours made other : ℕ) → colours ≤ colour_limit → BuildsAnew sources kept colours made → BuildsAnew sources kept colours other → made ≡ other
+one_count one sources kept colours made other few x y = counted_by one (first_phases sources) kept colours made other few x y
 
 abbrev pub ChangeNothing : Type 0
 ChangeNothing = (flows : List FlowModule) (kept : List (Option Object)) (colours stack : ℕ) (a : Result Parts LinkFault) → AllByRecursion IsGenuineIfKept kept → Completes flows kept colours stack a → Completes flows [] colours stack (anew a)

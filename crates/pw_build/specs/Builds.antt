@@ -12,6 +12,7 @@ use Rattle.pw_object.specs.declared.object.Object.{Object}
 use Rattle.pw_phase_one.specs.FirstPhase.{Phase, compiled}
 use Rattle.pw_modules.specs.Modules.{Source}
 use Rattle.pw_making.specs.Programs.{Completes, Parts}
+use Rattle.pw_making.specs.Counting.{MakesAnew}
 use Rattle.pw_build.specs.declared.fault.BuildFault.{BuildFault}
 use Rattle.pw_build.specs.declared.fault.BuildFault.TheVariants.{Refused, LinkRefused}
 
@@ -65,6 +66,14 @@ BuildsBy (Ok flows) kept colours stack answer = CompletesAs flows kept colours s
 -- broken; or the parts of the program.
 abbrev pub Builds : List Source → List (Option Object) → ℕ → ℕ → Result Parts BuildFault → Type 0
 Builds sources kept colours stack answer = BuildsBy (first_phases sources) kept colours stack answer
+
+-- how many objects the same build makes anew: none where a limit is passed or a module is refused
+abbrev pub MakesBy : Result (List FlowModule) BuildFault → List (Option Object) → ℕ → ℕ → Type 0
+MakesBy (Err fault) kept colours made = made ≡ 0
+MakesBy (Ok flows) kept colours made = MakesAnew flows kept colours made
+
+abbrev pub BuildsAnew : List Source → List (Option Object) → ℕ → ℕ → Type 0
+BuildsAnew sources kept colours made = MakesBy (first_phases sources) kept colours made
 
 -- a map from names to texts, as far as they are read
 abbrev pub Texts : Type 0

@@ -7,15 +7,16 @@ ghost use Rattle.pw_object.specs.declared.object.Object.{Object};
 ghost use Rattle.pw_making.specs.Programs.{Parts};
 ghost use Rattle.pw_making.specs.Kept.{IsGenuineIfKept};
 ghost use Rattle.pw_build.specs.declared.fault.BuildFault.{BuildFault};
-ghost use Rattle.pw_build.specs.Builds.{Builds};
+ghost use Rattle.pw_build.specs.Builds.{Builds, BuildsAnew};
 ghost use Rattle.pw_build.specs.Full.{built_anew};
 ghost use Rattle.pw_db.specs.Limits.{colour_limit};
 
 use pw_making::laws::{flow_graphs_have_one_answer, genuine_objects_change_nothing};
 
-/// Modules and what was kept of them come to one answer.
+/// Modules and what was kept of them come to one answer, and so many objects of theirs are made anew.
 pub fn modules_have_one_build()
-    ensures { (sources : List Source) (kept : List (Option Object)) (colours stack : ℕ) (a b : Result Parts BuildFault) → colours ≤ colour_limit → Builds sources kept colours stack a → Builds sources kept colours stack b → a ≡ b }
+    ensures answer { (sources : List Source) (kept : List (Option Object)) (colours stack : ℕ) (a b : Result Parts BuildFault) → colours ≤ colour_limit → Builds sources kept colours stack a → Builds sources kept colours stack b → a ≡ b }
+    ensures count { (sources : List Source) (kept : List (Option Object)) (colours made other : ℕ) → colours ≤ colour_limit → BuildsAnew sources kept colours made → BuildsAnew sources kept colours other → made ≡ other }
 {
     flow_graphs_have_one_answer();
 }

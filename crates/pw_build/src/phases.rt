@@ -2,6 +2,7 @@
 
 ghost use Rattle.std.specs.Prelude.{◌≡◌, ◌+◌, ◌*◌, ◌≤◌, ◌++◌, ◌∷◌, [], Ok, Err, IfErr, IfOk, OnErr, OnOk, length, map, sum_by};
 ghost use Rattle.std.specs.List.{AllByRecursion};
+ghost use Rattle.pw_value.specs.Limits.{module_limit};
 ghost use Rattle.pw_flow.specs.ValidFlow.{IsValid};
 ghost use Rattle.pw_front.specs.Places.{refusal_line};
 ghost use Rattle.pw_phase_one.specs.FirstPhase.{compiled};
@@ -20,7 +21,7 @@ use std::alloc::{AllocError, Global};
 
 /// The bytes of the texts of so few modules together.
 fn text_bytes(modules: &[Module]) -> u64
-    requires { length modules.now ≤ 256 }
+    requires { length modules.now ≤ module_limit }
     ensures { result ≡ text_bytes (map source modules.now) }
 {
     let mut bytes = 0;

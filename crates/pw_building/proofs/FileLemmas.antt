@@ -29,7 +29,7 @@ use Rattle.pw_building.specs.Building.{BuildComes, if_changed, kept_objects}
 use Rattle.pw_filing.specs.Programs.{BuildsFiles, FaultBuilds, FaultComes}
 use Rattle.pw_filing.proofs.ProgramLemmas.{names_by, no_line, stored}
 use Rattle.pw_making.specs.Counting.{CountsUpTo}
-use Rattle.pw_building.specs.Outcomes.{FaultFound, IsCounted, IsNoWant, IsOfStore, outcome_of}
+use Rattle.pw_building.specs.Outcomes.{CountsAtMost, FaultFound, IsNoWant, IsOfStore, outcome_of}
 
 -- ---- the names of modules
 
@@ -159,17 +159,17 @@ of_store_no_want (Err unbuilt) h = by_fault unbuilt.fault h
     by_fault (build.Refused name refusal) h = absurd h
     by_fault (build.LinkRefused fault) h = absurd h
 
--- ---- what is counted
+-- ---- at most how many are counted
 
-pub counted_told : (first : Option Told) (sources : List Source) (before now : ℕ) → IfSome first (λ told. sources ≡ modules_of told.files) → IsCounted (first_phases sources) before now → IfSome first (λ told. IsCounted (first_phases (modules_of told.files)) before now)
+pub counted_told : (first : Option Told) (sources : List Source) (before now : ℕ) → IfSome first (λ told. sources ≡ modules_of told.files) → CountsAtMost (first_phases sources) before now → IfSome first (λ told. CountsAtMost (first_phases (modules_of told.files)) before now)
 counted_told None sources before now e h = tt
-counted_told (Some told) sources before now e h = subst (λ (s : List Source). IsCounted (first_phases s) before now) e h
+counted_told (Some told) sources before now e h = subst (λ (s : List Source). CountsAtMost (first_phases s) before now) e h
 
-nothing_counted : (phases : Result (List FlowModule) BuildFault) (n : ℕ) → IsCounted phases n n
+nothing_counted : (phases : Result (List FlowModule) BuildFault) (n : ℕ) → CountsAtMost phases n n
 nothing_counted (Err fault) n = refl
 nothing_counted (Ok flows) n = record { least = omega arith; bound = omega arith }
 
-pub none_counted : (first : Option Told) (n : ℕ) → IfSome first (λ told. IsCounted (first_phases (modules_of told.files)) n n)
+pub none_counted : (first : Option Told) (n : ℕ) → IfSome first (λ told. CountsAtMost (first_phases (modules_of told.files)) n n)
 none_counted None n = tt
 none_counted (Some told) n = nothing_counted (first_phases (modules_of told.files)) n
 

@@ -7,3 +7,4 @@ pub mod FullLaws
 pub mod TextLaws
 pub mod LeavingLemmas
 pub mod NameLemmas
+pub mod CountLemmas

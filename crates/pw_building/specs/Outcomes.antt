@@ -1,5 +1,5 @@
 -- What a build answers and leaves of the store.
-use Rattle.std.specs.Prelude.{◌≡◌, ◌≤◌, List, Option, Some, Result, Ok, Err}
+use Rattle.std.specs.Prelude.{◌≡◌, ℕ, ◌≤◌, List, Option, Some, Result, Ok, Err}
 use Rattle.std.specs.List.{AllByRecursion}
 use Rattle.sha2.specs.Sha256.{sha256}
 use Rattle.pw_io.specs.Files.{Files, Told}
@@ -16,8 +16,9 @@ use Rattle.pw_building.specs.declared.report.Report.{Report}
 use Rattle.pw_building.specs.declared.report.Opts.{Opts}
 use Rattle.pw_kept.specs.declared.prepared.Prepared.{Prepared}
 use Rattle.pw_kept.specs.Files.{changed_files}
-pub use Rattle.pw_filing.specs.Programs.{FaultComes, FaultCount, IsCounted, IsNoWant, fault_answer}
-use Rattle.pw_building.specs.Building.{BuildComes, Outcome, puts_of}
+pub use Rattle.pw_filing.specs.Programs.{CountsAtMost, FaultComes, FaultCount, IsNoWant, fault_answer}
+use Rattle.pw_filing.specs.Programs.{IsCounted}
+use Rattle.pw_building.specs.Building.{BuildComes, Outcome, kept_objects, puts_of}
 use Rattle.pw_db.specs.Limits.{colour_limit}
 use Rattle.pw_building.specs.Genuine.{IsBuiltName}
 
@@ -48,6 +49,10 @@ abbrev pub FaultFound : Files → Opts → BuildFault → Type 0
 FaultFound files opts build.StoreFault = Unit {0}
 FaultFound files opts build.NoMemory = Unit {0}
 FaultFound files opts fault = BuildComes files opts.colours opts.stack (Err fault)
+
+-- what is counted where this fault is answered
+abbrev pub CountsFound : Files → Opts → BuildFault → ℕ → ℕ → Type 0
+CountsFound files opts fault before now = IsCounted (modules_of files) (kept_objects files) opts.colours fault before now
 
 abbrev pub IsBuildFound : Files → Opts → Result Report Unbuilt → Type 0
 IsBuildFound files opts (Ok report) = (outcome : Outcome) × BuildComes files opts.colours opts.stack (Ok outcome) × Reports outcome report

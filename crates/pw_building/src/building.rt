@@ -8,7 +8,7 @@ ghost use Rattle.pw_making.specs.Counting.{CountsUpTo};
 ghost use Rattle.pw_filing.specs.FromBuild.Builds.{first_phases};
 ghost use Rattle.pw_kept.specs.Files.{changed_files};
 ghost use Rattle.pw_building.specs.Genuine.{KeepsGenuine, LeavesOthers};
-ghost use Rattle.pw_building.specs.Outcomes.{AreOpts, FaultCount, IsCounted, IsLineOfBuild, IsNoWant, IsOfStore, ObeysBuild, PutsSome, Reports, build_answer, outcome_of};
+ghost use Rattle.pw_building.specs.Outcomes.{AreOpts, CountsAtMost, CountsFound, FaultCount, IsLineOfBuild, IsNoWant, IsOfStore, ObeysBuild, PutsSome, Reports, build_answer, outcome_of};
 
 use crate::laws::a_store_has_one_build;
 use crate::prepared::prepare;
@@ -57,7 +57,7 @@ fn finished<S: Store>(alloc: Global, store: &mut S, made: Prepared) -> Result<Re
 /// The modules are the files `NAME.i`, in the byte order of their names. What was kept of a module in `NAME.obj` stays
 /// where it was made of the same flow graph under the same directives; each other object is made anew and put, then
 /// `prog.db` and `prog.img`, each where its bytes differ from those that the store keeps. `steps` counts the objects that
-/// are made anew.
+/// are made anew, also where they are refused then.
 ///
 /// # Errors
 ///
@@ -78,7 +78,8 @@ pub fn build<S: Store, L: Ledger>(
     ensures genuine { IfSome (S.told store.old) (λ told. KeepsGenuine told.files → IfSome (S.told store.new) (λ now. KeepsGenuine now.files)) }
     ensures proper { IfErr result (λ unbuilt. IsNoWant unbuilt.fault) }
     ensures counted { IfOk result (λ report. steps.new ≡ steps.old + length report.rebuilt.items) }
-    ensures bound { IfSome (S.told store.old) (λ told. IsCounted (first_phases (modules_of told.files)) steps.old steps.new) }
+    ensures counted_fault { IfSome (S.told store.old) (λ told. IfErr result (λ unbuilt. CountsFound told.files opts.now unbuilt.fault steps.old steps.new)) }
+    ensures bound { IfSome (S.told store.old) (λ told. CountsAtMost (first_phases (modules_of told.files)) steps.old steps.new) }
     ensures most { CountsUpTo module_limit steps.old steps.new }
     ensures count { FaultCount (S.faults store.old) (S.faults store.new) result }
 {

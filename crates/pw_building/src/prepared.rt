@@ -12,7 +12,7 @@ ghost use Rattle.pw_filing.specs.FromBuild.Phases.{IsLine, refused_line};
 ghost use Rattle.pw_kept.specs.Files.{changed_files};
 ghost use Rattle.pw_building.specs.Building.{BuildComes};
 ghost use Rattle.pw_building.specs.Genuine.{IsOwnFile};
-ghost use Rattle.pw_building.specs.Outcomes.{AreOpts, FaultCount, FaultFound, IsCounted, IsNoWant, outcome_of};
+ghost use Rattle.pw_building.specs.Outcomes.{AreOpts, CountsAtMost, CountsFound, FaultCount, FaultFound, IsNoWant, outcome_of};
 
 use crate::report::Opts;
 use pw_filing::{Unbuilt, few_modules, program_of};
@@ -38,7 +38,8 @@ fn prepared_of<S: Store, L: Ledger>(
     ensures fault { IfSome (S.told store.old) (λ told. map source modules.now ≡ modules_of told.files → IfErr result (λ unbuilt. FaultFound told.files opts.now unbuilt.fault)) }
     ensures line { IfSome (S.told store.old) (λ told. map source modules.now ≡ modules_of told.files → IfErr result (λ unbuilt. IsLine (refused_line (modules_of told.files)) unbuilt.fault unbuilt.line)) }
     ensures counted { IfOk result (λ prepared. steps.new ≡ steps.old + length prepared.rebuilt.items) }
-    ensures bound { IsCounted (first_phases (map source modules.now)) steps.old steps.new }
+    ensures counted_fault { IfSome (S.told store.old) (λ told. map source modules.now ≡ modules_of told.files → IfErr result (λ unbuilt. CountsFound told.files opts.now unbuilt.fault steps.old steps.new)) }
+    ensures bound { CountsAtMost (first_phases (map source modules.now)) steps.old steps.new }
     ensures most { CountsUpTo module_limit steps.old steps.new }
     ensures proper { IfErr result (λ unbuilt. IsNoWant unbuilt.fault) }
     ensures same { Keeps (S.told store.old) (S.told store.new) }
@@ -63,7 +64,8 @@ pub fn prepare<S: Store, L: Ledger>(
     ensures fault { IfSome (S.told store.old) (λ told. IfErr result (λ unbuilt. FaultFound told.files opts.now unbuilt.fault)) }
     ensures line { IfSome (S.told store.old) (λ told. IfErr result (λ unbuilt. IsLine (refused_line (modules_of told.files)) unbuilt.fault unbuilt.line)) }
     ensures counted { IfOk result (λ prepared. steps.new ≡ steps.old + length prepared.rebuilt.items) }
-    ensures bound { IfSome (S.told store.old) (λ told. IsCounted (first_phases (modules_of told.files)) steps.old steps.new) }
+    ensures counted_fault { IfSome (S.told store.old) (λ told. IfErr result (λ unbuilt. CountsFound told.files opts.now unbuilt.fault steps.old steps.new)) }
+    ensures bound { IfSome (S.told store.old) (λ told. CountsAtMost (first_phases (modules_of told.files)) steps.old steps.new) }
     ensures most { CountsUpTo module_limit steps.old steps.new }
     ensures proper { IfErr result (λ unbuilt. IsNoWant unbuilt.fault) }
     ensures same { Keeps (S.told store.old) (S.told store.new) }

@@ -1,8 +1,9 @@
-//! Flow graphs of modules, in words: of each function its name, how many temporaries it has, and its blocks, of each
-//! the depth of the loops around it, its first operations and its end.
+//! Flow graphs of modules, in words: of each object that has items its name and its items, each with its offset; of each
+//! function its name, how many temporaries it has, and its blocks, of each the depth of the loops around it, its first
+//! operations and its end.
 
 use crate::typed::typed;
-use pw_flow::{Block, End, FlowFn, FlowModule, Op};
+use pw_flow::{Block, End, FlowFn, FlowGlobal, FlowModule, Item, Op};
 use pw_front::FrontError;
 use pw_lstmt::lower_module;
 use pw_rows::Text;
@@ -62,6 +63,44 @@ fn push_function(text: &mut Text, f: &FlowFn) {
     }
 }
 
+/// Adds bytes in hexadecimal.
+fn push_bytes(text: &mut Text, bytes: &[u8]) {
+    for byte in bytes {
+        text.byte(*byte);
+    }
+}
+
+/// Adds an item: its offset, and its bytes or the name whose address it is, with the number that is added.
+fn push_item(text: &mut Text, offset: u32, item: &Item) {
+    push_numbers(text, b" at", &[offset]);
+    text.push(b" ");
+    match item {
+        Item::Bytes(bytes) => push_bytes(text, bytes.as_slice()),
+        Item::Address(name, further) => {
+            text.push(name.as_bytes());
+            push_numbers(text, b" plus", &[*further]);
+        }
+    }
+}
+
+/// Adds an object that has items; of another one nothing.
+fn push_global(text: &mut Text, global: &FlowGlobal) {
+    let items = global.items.as_slice();
+    if !items.is_empty() {
+        text.push(global.name.as_bytes());
+    }
+    for (offset, item) in items {
+        push_item(text, *offset, item);
+    }
+}
+
+/// Adds the objects of a flow graph.
+fn push_globals(text: &mut Text, flow: &FlowModule) {
+    for global in flow.globals.as_slice() {
+        push_global(text, global);
+    }
+}
+
 /// Adds the functions of a flow graph.
 fn push_functions(text: &mut Text, flow: &FlowModule) {
     for f in flow.functions.as_slice() {
@@ -75,10 +114,16 @@ fn graph_of(alloc: Global, tree: &TModule) -> Result<FlowModule, NameError> {
     Ok(lower_module(alloc, &name, tree)?)
 }
 
+/// Adds the objects and the functions of a flow graph.
+fn push_parts(text: &mut Text, flow: &FlowModule) {
+    push_globals(text, flow);
+    push_functions(text, flow);
+}
+
 /// Adds the flow graph of a typed tree.
 fn push_lowered(text: &mut Text, tree: &TModule) {
     match graph_of(text.alloc(), tree) {
-        Ok(flow) => push_functions(text, &ManuallyDrop::new(flow)),
+        Ok(flow) => push_parts(text, &ManuallyDrop::new(flow)),
         Err(_) => text.cut(),
     }
 }

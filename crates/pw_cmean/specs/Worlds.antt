@@ -51,12 +51,13 @@ pub record Callable : Type 0 where
   pub body : Body
 
 -- void exit(int), int getchar(void), int putchar(int)
+abbrev pub library_callable : LibraryFunction → Callable
+library_callable ExitRun = record { name = exit_name; shape = 102 ∷ 118 ∷ 105 ∷ []; body = Library ExitRun }
+library_callable GetChar = record { name = getchar_name; shape = 102 ∷ 105 ∷ []; body = Library GetChar }
+library_callable PutChar = record { name = putchar_name; shape = 102 ∷ 105 ∷ 105 ∷ []; body = Library PutChar }
+
 abbrev pub library : List Callable
-library =
-    record { name = exit_name; shape = 102 ∷ 118 ∷ 105 ∷ []; body = Library ExitRun }
-    ∷ record { name = getchar_name; shape = 102 ∷ 105 ∷ []; body = Library GetChar }
-    ∷ record { name = putchar_name; shape = 102 ∷ 105 ∷ 105 ∷ []; body = Library PutChar }
-    ∷ []
+library = library_callable ExitRun ∷ library_callable GetChar ∷ library_callable PutChar ∷ []
 
 abbrev pub callable : ProgramModule → FunctionValue → Callable
 callable m f = record {

@@ -8,6 +8,7 @@ use Rattle.std.proofs.lemmas.Bool.{ltb-true}
 use Rattle.std.proofs.lemmas.List.{map-append}
 use Rattle.std.proofs.lemmas.List.Elements.{Contains-append_left, Contains-append_right, Contains-append_cases}
 use Rattle.pw_value.specs.Limits.{text_start}
+use Rattle.pw_value.specs.ProgramNames.{library_functions}
 use Rattle.pw_files.specs.Rising.{IsRising}
 use Rattle.pw_flow.specs.declared.flow.FlowGlobal.{FlowGlobal}
 use Rattle.pw_flow.specs.declared.flow.FlowFn.{FlowFn}
@@ -24,7 +25,7 @@ use Rattle.pw_link.specs.Layout as link
 use Rattle.pw_link.specs.Linking.{function_of, global_of, size_fault, linked}
 use Rattle.pw_link_laws.proofs.Ordered.{modules_stay}
 use Rattle.pw_link_laws.proofs.Lawful.{Sized, sized}
-use Rattle.pw_flowrun.specs.Programs.{Program, library_names, functions_of, globals_of, names_of}
+use Rattle.pw_flowrun.specs.Programs.{Program, functions_of, globals_of, names_of}
 use Rattle.pw_webrun.specs.Programs.{IsProgram}
 use Rattle.pw_webrun.specs.Direction.{directed_by, directed_functions}
 use Rattle.pw_webrun.specs.Serving.{AllServe}
@@ -156,10 +157,10 @@ known p d functions objects is apart serve of fits =
 
 -- ---- the addresses
 
-library_there : (name : List ℕ) → Contains library_names name → Contains (map (λ r. r.0) routines) name
+library_there : (name : List ℕ) → Contains library_functions name → Contains (map (λ r. r.0) routines) name
 library_there name c = by c.0 c.1 c.2
   where
-    by : (k : ℕ) → k < length library_names → get_or library_names k name ≡ name → Contains (map (λ r. r.0) routines) name
+    by : (k : ℕ) → k < length library_functions → get_or library_functions k name ≡ name → Contains (map (λ r. r.0) routines) name
     by zero lt e = (0, omega arith, e)
     by (suc zero) lt e = (1, omega arith, e)
     by (suc (suc zero)) lt e = (2, omega arith, e)
@@ -168,7 +169,7 @@ library_there name c = by c.0 c.1 c.2
 function_there : (p : Program) (objects : List Object) (f : List ℕ) → Known p objects → Contains (names_of p) f → Contains (piece_names (pieces_of objects)) f
 function_there p objects f k c =
     let function_names = map (λ f. f.name) (functions_of p) in
-    subst (λ (names : List (List ℕ)). Contains names f) (sym k.names) (elim (Contains-append_cases library_names function_names f c) [
+    subst (λ (names : List (List ℕ)). Contains names f) (sym k.names) (elim (Contains-append_cases library_functions function_names f c) [
       | inl library ↦ Contains-append_right function_names (map (λ r. r.0) routines) f (library_there f library)
       | inr own ↦ Contains-append_left function_names (map (λ r. r.0) routines) f own
     ])

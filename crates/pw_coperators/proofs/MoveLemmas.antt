@@ -85,12 +85,8 @@ divided_back : (n size : ℕ) → int_div (neg_ℤ (pos n)) (pos size) ≡ neg_�
 divided_back zero size = rw zero-div refl
 divided_back (suc n) size = refl
 
-exact_back : (n : ℕ) → exact (neg_ℤ (pos n)) ≡ int_backward n
-exact_back zero = refl
-exact_back (suc n) = grind (arith, ints, nat_tests)
-
 pub quotient_on : (p q size : ℕ) → q ≤ p → exact (int_div (pos p -ℤ pos q) (pos size)) ≡ int_forward ((p - q) / size)
 quotient_on p q size h = rw (distance_on p q h) refl
 
 pub quotient_back : (p q size : ℕ) → p < q → exact (int_div (pos p -ℤ pos q) (pos size)) ≡ int_backward ((q - p) / size)
-quotient_back p q size h = rw (distance_back p q h, divided_back (q - p) size) (exact_back ((q - p) / size))
+quotient_back p q size h = rw (distance_back p q h, divided_back (q - p) size) refl

@@ -1,7 +1,7 @@
 -- Moves of a pointer within its object, in bytes (ISO C90 6.3.6).
-use Rattle.std.specs.Prelude.{ℕ, ℤ, pos, neg_ℤ, ◌-◌, ◌%◌, ◌^◌, nat_lt, nat_le, Bool, true, false, Result, Ok, Err, if◌then◌else◌}
+use Rattle.std.specs.Prelude.{ℕ, ℤ, pos, neg_ℤ, Bool, true, false, Result}
 use Rattle.pw_value.specs.declared.words.WordFault.{WordFault}
-use Rattle.pw_value.specs.declared.words.WordFault.TheVariants.{Overflow}
+use Rattle.pw_value.specs.Words.{exact}
 use Rattle.pw_coperators.specs.declared.moves.Move.{Move}
 use Rattle.pw_coperators.specs.declared.moves.Move.TheVariants as M
 
@@ -17,7 +17,7 @@ turned false z = z
 
 -- so many as an int, and so many below 0, where one can hold it
 abbrev pub int_forward : ℕ → Result ℕ WordFault
-int_forward n = if nat_lt n (2 ^ 31) then Ok n else Err Overflow
+int_forward n = exact (pos n)
 
 abbrev pub int_backward : ℕ → Result ℕ WordFault
-int_backward n = if nat_le n (2 ^ 31) then Ok ((2 ^ 32 - n) % 2 ^ 32) else Err Overflow
+int_backward n = exact (neg_ℤ (pos n))

@@ -1,6 +1,7 @@
 //! A program that is to be run, as its lines say.
 
 use pw_value::Name;
+use pw_value::limits::STACK_MOST;
 use std::alloc::{AllocError, Global};
 
 /// A module's name and its text.
@@ -48,12 +49,12 @@ fn bytes_of(alloc: Global, text: &[u8]) -> Result<Vec<u8>, AllocError> {
 }
 
 impl Job {
-    /// No modules, and the usual room.
+    /// No modules, the greatest stack, and the usual bounds.
     pub fn new(alloc: Global) -> Job {
         Job {
             modules: Vec::new(alloc),
             frames: Vec::new(alloc),
-            stack: 1048576,
+            stack: STACK_MOST,
             bound: 100000,
             depth: 4000,
             input: Vec::new(alloc),

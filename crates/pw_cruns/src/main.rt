@@ -3,8 +3,8 @@
 //! A line that is empty or begins with `#` is a heading and is printed as it is. Other lines are:
 //!
 //! - `=stack N`, `=bound N`, `=input BYTES` (in hexadecimal), `=frame NAME N`, `=depth N`: for the next program alone;
-//!   with none the stack has 1,048,576 bytes, the bound is 100,000, there is no input, a frame takes no room, and what
-//!   nests deeper than 4,000 levels is want of memory.
+//!   with none the stack is the greatest that there is, the bound is 100,000, there is no input, a frame takes no room,
+//!   and what nests deeper than 4,000 levels is want of memory.
 //! - `:NAME TEXT`: a module of the next program; modules come in byte order of their names.
 //! - `+TEXT`: the last module, which is called `a`; and then the program runs. `!` runs those that came.
 #![tactic(auto)]

@@ -13,7 +13,7 @@ use Rattle.pw_files.proofs.FaultLaws.{Keeps, keeps_behind, keeps_ended, contents
 use Rattle.pw_files.proofs.FaultLaws as files
 use Rattle.pw_db.specs.declared.database.Web.{Web}
 use Rattle.pw_db.specs.declared.database.Directives.{Directives}
-use Rattle.pw_db.specs.Database.{kind}
+use Rattle.pw_db.specs.Database.{kind, database_version}
 use Rattle.pw_db.specs.Reading.{number_at, global_at, kind_at, register_at, writes_at, role_at, web_at, next_web, webs_at, no_free_at, Before, function_at, next_function, nothing_before, functions_at, unused_rule, fields_at, database_file_at}
 
 web_onward : (names : List (List ℕ)) (seen own : List Web) → Onward (web_at names seen own)
@@ -48,5 +48,5 @@ fields_keep : (names : List (List ℕ)) (rule : List (List ℕ × Directives) �
 unfolding fields_at
 fields_keep names rule = keeps_behind here _ _ (λ count. keeps_behind (functions_at names) _ _ (λ functions. keeps_ended (rule functions count) (contents names functions)))
 
-pub faults_stay : FaultsStay kind fields_at (λ bytes. value_of (database_file_at bytes))
-faults_stay = files.faults_stay kind fields_at unused_rule (contents_onward fields_at fields_onward) (contents_keep fields_at unused_rule fields_keep)
+pub faults_stay : FaultsStay kind database_version fields_at (λ bytes. value_of (database_file_at bytes))
+faults_stay = files.faults_stay kind database_version fields_at unused_rule (contents_onward fields_at fields_onward) (contents_keep fields_at unused_rule fields_keep)

@@ -15,7 +15,7 @@ use Rattle.pw_db.specs.declared.database.Web.{Web}
 use Rattle.pw_db.specs.declared.database.Role.{Role}
 use Rattle.pw_files.proofs.ContentsLaws as files
 use Rattle.pw_db.specs.declared.database.Directives.{Directives}
-use Rattle.pw_db.specs.Database.{IsDatabase, IsDatabaseContents, IsNamedBy, names_of_function, names_of, FitsDatabase, spelling, kind, IsPayload, IsDatabaseFile}
+use Rattle.pw_db.specs.Database.{IsDatabase, IsDatabaseContents, IsNamedBy, names_of_function, names_of, FitsDatabase, spelling, kind, database_version, IsPayload, IsDatabaseFile}
 
 -- ---- names that stand in a table
 
@@ -42,5 +42,5 @@ pub is_payload : {E : Type 0} (names : List (List ℕ)) (fs : List (List ℕ × 
 is_payload names fs (Ok v) is count table fits written = (names, record { lawful = is; fits = fits; name_count = count; names = table }, written)
 is_payload names fs (Err e) is count table fits written = tt
 
-pub is_file : {E : Type 0} (fs : List (List ℕ × Directives)) (payload : List ℕ) (r : Result (Vec ℕ) E) → IsPayload payload fs → OnOk r (FitsFile payload) → IfOk r (λ v. v.items ≡ file kind 1 payload) → IfOk r (λ v. IsDatabaseFile v.items fs)
-is_file fs payload r is room made = files.is_file kind spelling IsDatabaseContents (record { names = is.0; value = fs }) payload r is.1 is.2 room made
+pub is_file : {E : Type 0} (fs : List (List ℕ × Directives)) (payload : List ℕ) (r : Result (Vec ℕ) E) → IsPayload payload fs → OnOk r (FitsFile payload) → IfOk r (λ v. v.items ≡ file kind database_version payload) → IfOk r (λ v. IsDatabaseFile v.items fs)
+is_file fs payload r is room made = files.is_file kind database_version spelling IsDatabaseContents (record { names = is.0; value = fs }) payload r is.1 is.2 room made

@@ -91,13 +91,17 @@ spelling c = parts (name_table c.names ∷ counted (function c.names) c.value �
 abbrev pub kind : ℕ
 kind = 0x50415744
 
+-- the version of the form of a database's file
+abbrev pub database_version : ℕ
+database_version = 1
+
 -- a lawful database that its fields can hold, with the table of its names
 abbrev pub IsDatabaseContents : Contents (List (List ℕ × Directives)) → Type 0
 IsDatabaseContents = IsContents IsDatabase FitsDatabase names_of
 
 -- the bytes are the file of the database
 abbrev pub IsDatabaseFile : List ℕ → List (List ℕ × Directives) → Type 0
-IsDatabaseFile = IsFileWith kind spelling IsDatabaseContents
+IsDatabaseFile = IsFileWith kind database_version spelling IsDatabaseContents
 
 -- the bytes are the payload of the database, alone
 abbrev pub IsPayload : List ℕ → List (List ℕ × Directives) → Type 0

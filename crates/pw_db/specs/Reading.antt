@@ -15,7 +15,7 @@ use Rattle.pw_db.specs.declared.database.Web.{Web}
 use Rattle.pw_db.specs.declared.database.Role.{Role}
 use Rattle.pw_db.specs.declared.database.Role.TheVariants.{Entry, Member}
 use Rattle.pw_db.specs.declared.database.Directives.{Directives}
-use Rattle.pw_db.specs.Database.{webs_of, names_of, kind}
+use Rattle.pw_db.specs.Database.{webs_of, names_of, kind, database_version}
 
 -- ---- webs that were read before
 
@@ -126,4 +126,4 @@ abbrev pub payload_at : List ℕ → Result (Contents (List (List ℕ × Directi
 payload_at = contents_at fields_at unused_rule
 
 abbrev pub database_file_at : List ℕ → Result (Contents (List (List ℕ × Directives))) ℕ
-database_file_at = contents_file_at kind fields_at unused_rule
+database_file_at = contents_file_at kind database_version fields_at unused_rule

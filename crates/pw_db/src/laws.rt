@@ -4,7 +4,7 @@ ghost use Rattle.std.specs.Prelude.{◌≡◌, ℕ, List, All, map};
 ghost use Rattle.pw_files.specs.Contents.{value_of};
 ghost use Rattle.pw_files.specs.Faults.{FaultsStay};
 ghost use Rattle.pw_db.specs.declared.database.Directives.{Directives};
-ghost use Rattle.pw_db.specs.Database.{HasDirectives, IsDatabase, IsDatabaseFile, IsPayload, IsStored, kind};
+ghost use Rattle.pw_db.specs.Database.{HasDirectives, IsDatabase, IsDatabaseFile, IsPayload, IsStored, kind, database_version};
 ghost use Rattle.pw_db.specs.Reading.{fields_at, database_file_at};
 
 /// No bytes are the file of two databases, and no database has two files.
@@ -33,5 +33,5 @@ pub fn directives_are_one()
 /// A fault of a file lies within the bytes, and one of the fields rests on the bytes up to the faulty field's
 /// end.
 pub fn faults_stay()
-    ensures { FaultsStay kind fields_at (λ bytes. value_of (database_file_at bytes)) }
+    ensures { FaultsStay kind database_version fields_at (λ bytes. value_of (database_file_at bytes)) }
 {}

@@ -11,7 +11,7 @@ ghost use Rattle.pw_files.specs.Kinds.{scalar_code};
 ghost use Rattle.pw_value.specs.ProgramNames.{same_truth};
 ghost use Rattle.pw_files.specs.Contents.{broken_at, value_of};
 ghost use Rattle.pw_db.specs.declared.database.Directives.{Directives as AnyDirectives};
-ghost use Rattle.pw_db.specs.Database.{IsDatabaseFile, IsPayload, kind as kind_of_file, webs_of, names_of};
+ghost use Rattle.pw_db.specs.Database.{IsDatabaseFile, IsPayload, kind as kind_of_file, database_version, webs_of, names_of};
 ghost use Rattle.pw_db.specs.Reading.{fits_first, number_at, global_at, kind_at, register_at, writes_at, role_at, web_at, webs_at, no_free_at, function_at, next_function, nothing_before, functions_at, unused_rule, fields_at, payload_at, database_file_at};
 ghost use Rattle.pw_db.specs.Seen.{known_web};
 
@@ -31,6 +31,9 @@ use std::alloc::Global;
 
 /// `PAWD`, the first four bytes of a database file.
 pub const KIND: u32 = 0x5041_5744;
+
+/// The version of the form of a database's file.
+pub(crate) const VERSION: u32 = 1;
 
 // ---- whether a field fits the webs before
 
@@ -366,6 +369,10 @@ impl Format for DatabaseFormat {
     const KIND: u32 = KIND;
 
     ghost KIND = { kind_of_file };
+
+    const VERSION: u32 = VERSION;
+
+    ghost VERSION = { database_version };
 
     ghost fields = { fields_at };
 

@@ -9,7 +9,7 @@ ghost use Rattle.pw_db.specs.Database.{IsDatabase, IsDatabaseFile, IsPayload, Fi
 
 use crate::database::{Database, Directives, Role, Web};
 use crate::names::{refs_of, used_names};
-use crate::reading::KIND;
+use crate::reading::{KIND, VERSION};
 use pw_files::kinds::push_scalar;
 use pw_files::writing::{make_table, push_count, seal_payload};
 use pw_value::Name;
@@ -137,5 +137,5 @@ pub fn write(alloc: Global, db: &Database) -> Result<Vec<u8>, AllocError>
 {
     let refs = refs_of(alloc, db.functions.as_slice())?;
     let payload = write_payload(alloc, &refs)?;
-    seal_payload(alloc, KIND, 1, &payload)
+    seal_payload(alloc, KIND, VERSION, &payload)
 }

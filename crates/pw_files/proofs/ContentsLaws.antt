@@ -67,12 +67,12 @@ contents_spell {V = V} fields late spelling body Steps Is laws alike to from = p
 
 -- ---- the file
 
-module _ {V : Type 0} (kind : ℕ) (fields : FieldsReader V) (late : List (List ℕ) → ℕ → V → ℕ → Option ℕ) (spelling : Contents V → List ℕ) (Is : Contents V → Type 0) (laws : SpellsWhole spelling Is (contents_at fields late)) where
-  pub value_takes : (bytes : List ℕ) (c : Contents V) → AreBytes bytes → contents_file_at kind fields late bytes ≡ Ok c → IsFileWith kind spelling Is bytes c.value
-  value_takes bytes c fits e = (c.names, file_takes kind 1 1 (λ version. spelling) (λ version. Is) (λ version. contents_at fields late) (λ v f l. laws) bytes c fits e)
+module _ {V : Type 0} (kind version : ℕ) (fields : FieldsReader V) (late : List (List ℕ) → ℕ → V → ℕ → Option ℕ) (spelling : Contents V → List ℕ) (Is : Contents V → Type 0) (laws : SpellsWhole spelling Is (contents_at fields late)) where
+  pub value_takes : (bytes : List ℕ) (c : Contents V) → AreBytes bytes → contents_file_at kind version fields late bytes ≡ Ok c → IsFileWith kind version spelling Is bytes c.value
+  value_takes bytes c fits e = (c.names, file_takes kind version version (λ v. spelling) (λ v. Is) (λ v. contents_at fields late) (λ v f l. laws) bytes c fits e)
 
-  pub value_again : kind < 2 ^ 32 → (bytes : List ℕ) (v : V) → IsFileWith kind spelling Is bytes v → value_of (contents_file_at kind fields late bytes) ≡ Ok v
-  value_again kind_fits bytes v is = ap value_of (file_again kind 1 1 (λ version. spelling) (λ version. Is) (λ version. contents_at fields late) kind_fits (omega arith) (λ v f l. laws) bytes (record { names = is.0; value = v }) is.1)
+  pub value_again : kind < 2 ^ 32 → version < 2 ^ 32 → (bytes : List ℕ) (v : V) → IsFileWith kind version spelling Is bytes v → value_of (contents_file_at kind version fields late bytes) ≡ Ok v
+  value_again kind_fits version_fits bytes v is = ap value_of (file_again kind version version (λ v. spelling) (λ v. Is) (λ v. contents_at fields late) kind_fits version_fits (λ v f l. laws) bytes (record { names = is.0; value = v }) is.1)
 
   value_found : (v : V) (r : Result (Contents V) ℕ) → value_of r ≡ Ok v → (c : Contents V) × (r ≡ Ok c) × (c.value ≡ v)
   value_found v (Ok c) e = (c, refl, cc)
@@ -80,34 +80,34 @@ module _ {V : Type 0} (kind : ℕ) (fields : FieldsReader V) (late : List (List 
 
   -- the same of what a function returned
 
-  pub found_by : (bytes : List ℕ) (r : Result V FileError) → AreBytes bytes → GivesFile (λ v. v) r (value_of (contents_file_at kind fields late bytes)) → IfOk r (IsFileWith kind spelling Is bytes)
+  pub found_by : (bytes : List ℕ) (r : Result V FileError) → AreBytes bytes → GivesFile (λ v. v) r (value_of (contents_file_at kind version fields late bytes)) → IfOk r (IsFileWith kind version spelling Is bytes)
   found_by bytes (Ok v) fits given =
-      let p = value_found v (contents_file_at kind fields late bytes) given in
-      subst (IsFileWith kind spelling Is bytes) p.2 (value_takes bytes p.0 fits p.1)
+      let p = value_found v (contents_file_at kind version fields late bytes) given in
+      subst (IsFileWith kind version spelling Is bytes) p.2 (value_takes bytes p.0 fits p.1)
   found_by bytes (Err e) fits given = tt
 
-  pub only_by : kind < 2 ^ 32 → (bytes : List ℕ) (r : Result V FileError) → GivesFile (λ v. v) r (value_of (contents_file_at kind fields late bytes)) → (v : V) → IsFileWith kind spelling Is bytes v → GivesFile (λ v. v) r (Ok v)
-  only_by kind_fits bytes r given v is = subst (GivesFile (λ v. v) r) (value_again kind_fits bytes v is) given
+  pub only_by : kind < 2 ^ 32 → version < 2 ^ 32 → (bytes : List ℕ) (r : Result V FileError) → GivesFile (λ v. v) r (value_of (contents_file_at kind version fields late bytes)) → (v : V) → IsFileWith kind version spelling Is bytes v → GivesFile (λ v. v) r (Ok v)
+  only_by kind_fits version_fits bytes r given v is = subst (GivesFile (λ v. v) r) (value_again kind_fits version_fits bytes v is) given
 
   -- one value for each file
 
   abbrev value : V → Result V ℕ
   value v = Ok v
 
-  pub one_value : kind < 2 ^ 32 → (bytes : List ℕ) (v w : V) → IsFileWith kind spelling Is bytes v → IsFileWith kind spelling Is bytes w → v ≡ w
-  one_value kind_fits bytes v w p q = let both : value v ≡ value w = sym (value_again kind_fits bytes v p) ∙ value_again kind_fits bytes w q in cc
+  pub one_value : kind < 2 ^ 32 → version < 2 ^ 32 → (bytes : List ℕ) (v w : V) → IsFileWith kind version spelling Is bytes v → IsFileWith kind version spelling Is bytes w → v ≡ w
+  one_value kind_fits version_fits bytes v w p q = let both : value v ≡ value w = sym (value_again kind_fits version_fits bytes v p) ∙ value_again kind_fits version_fits bytes w q in cc
 
 -- one file for each value
-pub one_file : {V : Type 0} (kind : ℕ) (spelling : Contents V → List ℕ) (Is : Contents V → Type 0) (used : V → List (List ℕ)) → ((c : Contents V) → Is c → IsTableOf c.names (used c.value))
-    → (bytes others : List ℕ) (v : V) → IsFileWith kind spelling Is bytes v → IsFileWith kind spelling Is others v → bytes ≡ others
-one_file {V = V} kind spelling Is used tables bytes others v p q =
+pub one_file : {V : Type 0} (kind version : ℕ) (spelling : Contents V → List ℕ) (Is : Contents V → Type 0) (used : V → List (List ℕ)) → ((c : Contents V) → Is c → IsTableOf c.names (used c.value))
+    → (bytes others : List ℕ) (v : V) → IsFileWith kind version spelling Is bytes v → IsFileWith kind version spelling Is others v → bytes ≡ others
+one_file {V = V} kind version spelling Is used tables bytes others v p q =
     let names : p.0 ≡ q.0 = one_table p.0 q.0 (used v) (tables _ p.1.fits) (tables _ q.1.fits) in
-    let version : p.1.version ≡ q.1.version = omega (arith, p.1.not_below, p.1.not_above, q.1.not_below, q.1.not_above) in
-    p.1.spelled ∙ ap (λ n. file kind n (spelling (record { names = p.0; value = v }))) version ∙ ap (λ (ns : List (List ℕ)). file kind q.1.version (spelling (record { names = ns; value = v }))) names ∙ sym q.1.spelled
+    let same_version : p.1.version ≡ q.1.version = omega (arith, p.1.not_below, p.1.not_above, q.1.not_below, q.1.not_above) in
+    p.1.spelled ∙ ap (λ n. file kind n (spelling (record { names = p.0; value = v }))) same_version ∙ ap (λ (ns : List (List ℕ)). file kind q.1.version (spelling (record { names = ns; value = v }))) names ∙ sym q.1.spelled
 
 -- what a writer made
-pub is_file : {V E : Type 0} (kind : ℕ) (spelling : Contents V → List ℕ) (Is : Contents V → Type 0) (c : Contents V) (payload : List ℕ) (r : Result (Vec ℕ) E) → Is c
-    → payload ≡ spelling c → OnOk r (FitsFile payload) → IfOk r (λ v. v.items ≡ file kind 1 payload) → IfOk r (λ v. IsFileWith kind spelling Is v.items c.value)
-is_file kind spelling Is c payload (Ok v) is same room made =
-    (c.names, record { version = 1; not_below = omega arith; not_above = omega arith; fits = is; room = subst FitsFile same room; spelled = made ∙ ap (file kind 1) same })
-is_file kind spelling Is c payload (Err e) is same room made = tt
+pub is_file : {V E : Type 0} (kind version : ℕ) (spelling : Contents V → List ℕ) (Is : Contents V → Type 0) (c : Contents V) (payload : List ℕ) (r : Result (Vec ℕ) E) → Is c
+    → payload ≡ spelling c → OnOk r (FitsFile payload) → IfOk r (λ v. v.items ≡ file kind version payload) → IfOk r (λ v. IsFileWith kind version spelling Is v.items c.value)
+is_file kind version spelling Is c payload (Ok v) is same room made =
+    (c.names, record { version = version; not_below = omega arith; not_above = omega arith; fits = is; room = subst FitsFile same room; spelled = made ∙ ap (file kind version) same })
+is_file kind version spelling Is c payload (Err e) is same room made = tt

@@ -96,22 +96,22 @@ swapped m n xs ys same =
 
 -- A payload has fields, read by `plain`, and rules that are looked at besides, with which `full` reads it. Where this holds of
 -- a payload, a fault of its fields is one of the whole.
-module _ {X : Type 0} (kind : ℕ) (plain full : List ℕ → Result (X × List ℕ) ℕ) (Holds : List ℕ → Type 0) (onward : Onward plain)
+module _ {X : Type 0} (kind version : ℕ) (plain full : List ℕ → Result (X × List ℕ) ℕ) (Holds : List ℕ → Type 0) (onward : Onward plain)
     (keeps : (payload : List ℕ) (left : ℕ) → Holds payload → plain payload ≡ Err left → full payload ≡ Err left) where
   abbrev whole : List ℕ → Result X ℕ
-  whole = file_at kind 1 1 (λ version. full)
+  whole = file_at kind version version (λ v. full)
 
   abbrev head : ℕ → List ℕ → Result (ℕ × List ℕ) ℕ
-  head total = header_at kind 1 1 total
+  head total = header_at kind version version total
 
   -- what is read of a file whose header is known
-  by_header : (bytes : List ℕ) (r : Result (ℕ × List ℕ) ℕ) → head (length bytes) bytes ≡ r → whole bytes ≡ framed (λ version. full) bytes (opened (length bytes) r)
+  by_header : (bytes : List ℕ) (r : Result (ℕ × List ℕ) ℕ) → head (length bytes) bytes ≡ r → whole bytes ≡ framed (λ v. full) bytes (opened (length bytes) r)
   unfolding file_at opened_at
-  by_header bytes r is = ap (λ s. framed (λ version. full) bytes (opened (length bytes) s)) is
+  by_header bytes r is = ap (λ s. framed (λ v. full) bytes (opened (length bytes) s)) is
 
-  in_header : (bytes : List ℕ) (at left : ℕ) → head (length bytes) bytes ≡ Err left → length bytes - left ≡ at → StaysFault (OfPayload kind Holds) whole bytes at
+  in_header : (bytes : List ℕ) (at left : ℕ) → head (length bytes) bytes ≡ Err left → length bytes - left ≡ at → StaysFault (OfPayload kind version Holds) whole bytes at
   in_header bytes at left is place =
-      let f = (header_onward kind 1 1 (length bytes)).fault bytes left is in
+      let f = (header_onward kind version version (length bytes)).fault bytes left is in
       let begins : length f.before ≡ at = omega (arith, ap length f.parts, length-append f.before f.tail, f.begins, place) in
       record {
         count = f.count;
@@ -129,10 +129,10 @@ module _ {X : Type 0} (kind : ℕ) (plain full : List ℕ → Result (X × List 
   placed_fault {X = X} end at (Err left) e = (left, refl, at_is {X = X} (end - left) at e)
 
   in_payload : (bytes : List ℕ) (at left v : ℕ) (rest : List ℕ) → head (length bytes) bytes ≡ Ok (v, rest) → plain (payload_of rest) ≡ Err left → (length bytes - length (digest_of rest)) - left ≡ at
-      → StaysFault (OfPayload kind Holds) whole bytes at
+      → StaysFault (OfPayload kind version Holds) whole bytes at
   unfolding opened_at
   in_payload bytes at left v rest is fault place =
-      let h = (header_onward kind 1 1 (length bytes)).found bytes v rest is in
+      let h = (header_onward kind version version (length bytes)).found bytes v rest is in
       let q = onward.fault (payload_of rest) left fault in
       let d = digest_of rest in
       let parts : rest ≡ q.before ++ (q.tail ++ d) = sym (take-append-drop (length rest - 32) rest) ∙ ap (λ (w : List ℕ). w ++ d) q.parts ∙ append_assoc q.before q.tail d in
@@ -165,8 +165,8 @@ module _ {X : Type 0} (kind : ℕ) (plain full : List ℕ → Result (X × List 
 
   -- ---- both
 
-  stays_by : (bytes : List ℕ) (at : ℕ) (r : Result (ℕ × List ℕ) ℕ) → head (length bytes) bytes ≡ r → unsealed (λ version. plain) (opened (length bytes) r) ≡ Err at → OfPayload kind Holds bytes
-      → (whole bytes ≡ Err at) × StaysFault (OfPayload kind Holds) whole bytes at
+  stays_by : (bytes : List ℕ) (at : ℕ) (r : Result (ℕ × List ℕ) ℕ) → head (length bytes) bytes ≡ r → unsealed (λ v. plain) (opened (length bytes) r) ≡ Err at → OfPayload kind version Holds bytes
+      → (whole bytes ≡ Err at) × StaysFault (OfPayload kind version Holds) whole bytes at
   unfolding opened_at
   stays_by bytes at (Ok h) is e holds =
       let p = placed_fault (length bytes - length (digest_of h.1)) at (plain (payload_of h.1)) e in
@@ -186,21 +186,21 @@ module _ {X : Type 0} (kind : ℕ) (plain full : List ℕ → Result (X × List 
   sealed_within bytes total end at (Ok x) le e = omega (arith, le, digest_within (is_sealed bytes end) x.0 end at e)
   sealed_within {A = A} bytes total end at (Err left) le e = omega (arith, le, at_is {X = A} (end - left) at e)
 
-  within_by : (bytes : List ℕ) (at : ℕ) (r : Result (ℕ × List ℕ) ℕ) → framed (λ version. full) bytes (opened (length bytes) r) ≡ Err at → at ≤ length bytes
+  within_by : (bytes : List ℕ) (at : ℕ) (r : Result (ℕ × List ℕ) ℕ) → framed (λ v. full) bytes (opened (length bytes) r) ≡ Err at → at ≤ length bytes
   within_by bytes at (Ok h) e = sealed_within bytes (length bytes) (length bytes - length (digest_of h.1)) at (full (payload_of h.1)) (omega arith) e
   within_by bytes at (Err left) e = omega (arith, at_is {X = X} (length bytes - left) at e)
 
   pub lies_within : (bytes : List ℕ) (at : ℕ) → whole bytes ≡ Err at → at ≤ length bytes
   lies_within bytes at e = within_by bytes at (head (length bytes) bytes) (sym (by_header bytes (head (length bytes) bytes) refl) ∙ e)
 
-  pub fault_stays : (bytes : List ℕ) (at : ℕ) → unsealed (λ version. plain) (opened_at kind 1 1 bytes) ≡ Err at → OfPayload kind Holds bytes
-      → (whole bytes ≡ Err at) × StaysFault (OfPayload kind Holds) whole bytes at
+  pub fault_stays : (bytes : List ℕ) (at : ℕ) → unsealed (λ v. plain) (opened_at kind version version bytes) ≡ Err at → OfPayload kind version Holds bytes
+      → (whole bytes ≡ Err at) × StaysFault (OfPayload kind version Holds) whole bytes at
   unfolding opened_at
   fault_stays bytes at e holds = stays_by bytes at (head (length bytes) bytes) refl e holds
 
 -- ---- a file with a table of names first
 
-module _ {V : Type 0} (kind : ℕ) (fields : FieldsReader V) (late : List (List ℕ) → ℕ → V → ℕ → Option ℕ)
+module _ {V : Type 0} (kind version : ℕ) (fields : FieldsReader V) (late : List (List ℕ) → ℕ → V → ℕ → Option ℕ)
     (onward : Onward (contents_at fields no_rule)) (keeps : Keeps (contents_at fields no_rule) (contents_at fields late)) where
   value_fault : (r : Result (Contents V) ℕ) (at : ℕ) → value_of r ≡ Err at → r ≡ Err at
   value_fault (Ok c) at e = absurd cc
@@ -209,13 +209,13 @@ module _ {V : Type 0} (kind : ℕ) (fields : FieldsReader V) (late : List (List 
   abbrev anywhere : List ℕ → Type 0
   anywhere payload = Unit {0}
 
-  still : (bytes : List ℕ) (at : ℕ) → StaysFault (OfPayload kind anywhere) (contents_file_at kind fields late) bytes at → StaysFault Anything (λ b. value_of (contents_file_at kind fields late b)) bytes at
+  still : (bytes : List ℕ) (at : ℕ) → StaysFault (OfPayload kind version anywhere) (contents_file_at kind version fields late) bytes at → StaysFault Anything (λ b. value_of (contents_file_at kind version fields late b)) bytes at
   still bytes at f = record { count = f.count; field = f.field; same = λ others len same holds. ap value_of (f.same others len same (λ o e. tt)) }
 
-  pub faults_stay : FaultsStay kind fields (λ b. value_of (contents_file_at kind fields late b))
+  pub faults_stay : FaultsStay kind version fields (λ b. value_of (contents_file_at kind version fields late b))
   faults_stay = record {
-    within = λ bytes at e. lies_within kind (contents_at fields no_rule) (contents_at fields late) anywhere onward (λ payload left t e. keeps.same payload left e) bytes at (value_fault (contents_file_at kind fields late bytes) at e);
+    within = λ bytes at e. lies_within kind version (contents_at fields no_rule) (contents_at fields late) anywhere onward (λ payload left t e. keeps.same payload left e) bytes at (value_fault (contents_file_at kind version fields late bytes) at e);
     stays = λ bytes at e.
-        let both = fault_stays kind (contents_at fields no_rule) (contents_at fields late) anywhere onward (λ payload left t e. keeps.same payload left e) bytes at e (λ o e. tt) in
+        let both = fault_stays kind version (contents_at fields no_rule) (contents_at fields late) anywhere onward (λ payload left t e. keeps.same payload left e) bytes at e (λ o e. tt) in
         (ap value_of both.0, still bytes at both.1);
   }

@@ -18,9 +18,9 @@ pub record IsContents {V : Type 0} (IsLawful Fits : V → Type 0) (names_of : V 
   pub name_count : FitsU32 (length c.names)
   pub names : IsTableOf c.names (names_of c.value)
 
--- the bytes are the file of the value, in version 1
-abbrev pub IsFileWith : {V : Type 0} → ℕ → (Contents V → List ℕ) → (Contents V → Type 0) → List ℕ → V → Type 0
-IsFileWith {V = V} kind spelling Is bytes v = (names : List (List ℕ)) × IsFileOf {X = Contents V} kind 1 1 (λ version. spelling) (λ version. Is) bytes (record { names = names; value = v })
+-- the bytes are the file of the value, of this kind and version
+abbrev pub IsFileWith : {V : Type 0} → ℕ → ℕ → (Contents V → List ℕ) → (Contents V → Type 0) → List ℕ → V → Type 0
+IsFileWith {V = V} kind version spelling Is bytes v = (names : List (List ℕ)) × IsFileOf {X = Contents V} kind version version (λ v. spelling) (λ v. Is) bytes (record { names = names; value = v })
 
 -- the bytes are the contents of the value, alone
 abbrev pub IsContentsOf : {V : Type 0} → (Contents V → List ℕ) → (Contents V → Type 0) → List ℕ → V → Type 0
@@ -51,9 +51,9 @@ contents_at fields late = do
   behind ← here
   fields names (late names behind)
 
--- a file of version 1
-abbrev pub contents_file_at : {V : Type 0} → ℕ → FieldsReader V → (List (List ℕ) → ℕ → V → ℕ → Option ℕ) → List ℕ → Result (Contents V) ℕ
-contents_file_at kind fields late = file_at kind 1 1 (λ version. contents_at fields late)
+-- a file of this kind and version
+abbrev pub contents_file_at : {V : Type 0} → ℕ → ℕ → FieldsReader V → (List (List ℕ) → ℕ → V → ℕ → Option ℕ) → List ℕ → Result (Contents V) ℕ
+contents_file_at kind version fields late = file_at kind version version (λ v. contents_at fields late)
 
 -- the value alone
 abbrev pub value_of : {V : Type 0} → Result (Contents V) ℕ → Result V ℕ

@@ -4,3 +4,4 @@ pub mod Names
 pub mod Start
 pub mod Contents
 pub mod Faults
+pub mod Places

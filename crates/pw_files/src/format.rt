@@ -1,4 +1,4 @@
-//! Reading a file of version 1 that holds a table of names and behind it the fields of a value, to their
+//! Reading a file that holds a table of names and behind it the fields of a value, to their
 //! end: what is the same whichever format it is.
 
 ghost use Rattle.std.specs.Prelude.{◌+◌, ◌<◌, ◌^◌, ℕ, List, [], length, Option};
@@ -14,7 +14,7 @@ use pw_value::fields::names::read_names;
 use pw_value::{FileError, Name};
 use std::alloc::Global;
 
-/// A format: the number of its kind, and how the fields behind the table of names are read.
+/// A format: the number of its kind, its version, and how the fields behind the table of names are read.
 pub trait Format {
     /// What a file of the format holds.
     type Value: Drop;
@@ -23,6 +23,11 @@ pub trait Format {
     const KIND: u32;
 
     ghost KIND: { ℕ };
+
+    /// The one version of its files.
+    const VERSION: u32;
+
+    ghost VERSION: { ℕ };
 
     /// How the fields are read behind a table of names, under a rule that is looked at last.
     ghost fields: { FieldsReader Self.Value };
@@ -57,9 +62,9 @@ pub fn read_contents<F: Format>(
 /// The table of names and the value of a whole file.
 #[tactic(auto, unfolding(pw_value::specs::FieldFrame::file_at))]
 fn read_named<F: Format>(alloc: Global, bytes: &[u8]) -> Result<(Vec<Name>, F::Value), FileError>
-    ensures { GivesFile (λ x. record { names = x.0.items; value = x.1 }) result (contents_file_at F.KIND F.fields F.late bytes.now) }
+    ensures { GivesFile (λ x. record { names = x.0.items; value = x.1 }) result (contents_file_at F.KIND F.VERSION F.fields F.late bytes.now) }
 {
-    let opened = open(F::KIND, 1, 1, bytes)?;
+    let opened = open(F::KIND, F::VERSION, F::VERSION, bytes)?;
     match read_contents::<F>(alloc, opened.payload) {
         Err(e) => Err(e.at(opened.end)),
         Ok((contents, _)) => {
@@ -72,7 +77,7 @@ fn read_named<F: Format>(alloc: Global, bytes: &[u8]) -> Result<(Vec<Name>, F::V
 /// The value of a whole file, without its table of names. A fault is the first field, in order, that is
 /// short or breaks its rule; the digest is looked at last.
 pub fn read_value<F: Format>(alloc: Global, bytes: &[u8]) -> Result<F::Value, FileError>
-    ensures { GivesFile (λ v. v) result (value_of (contents_file_at F.KIND F.fields F.late bytes.now)) }
+    ensures { GivesFile (λ v. v) result (value_of (contents_file_at F.KIND F.VERSION F.fields F.late bytes.now)) }
 {
     let (_names, value) = read_named::<F>(alloc, bytes)?;
     Ok(value)

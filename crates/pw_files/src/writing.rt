@@ -15,8 +15,8 @@ use pw_value::fields::writing::{push_text, push_u32};
 use pw_value::{Name, Shape};
 use std::alloc::{AllocError, Global};
 
-/// The greatest count of items or bytes.
-const MOST: usize = u32::MAX as usize;
+/// The greatest count of items or bytes that a file can hold.
+pub const COUNT_LIMIT: usize = u32::MAX as usize;
 
 /// The table of the names that are used, in whatever order and however often.
 pub fn make_table(alloc: Global, used: Vec<&Name>) -> Result<Vec<Name>, AllocError>
@@ -24,7 +24,7 @@ pub fn make_table(alloc: Global, used: Vec<&Name>) -> Result<Vec<Name>, AllocErr
     ensures table { IfOk result (λ v. IsTableOf v.items (map (λ name. name.now) used.entry.items)) }
 {
     let names = table_of(alloc, used)?;
-    if names.len() > MOST {
+    if names.len() > COUNT_LIMIT {
         return Err(AllocError);
     }
     Ok(names)
@@ -40,7 +40,7 @@ pub fn seal_payload(
     ensures room { OnOk result (FitsFile payload.now) }
     ensures sealed { IfOk result (λ v. v.items ≡ file kind version payload.now) }
 {
-    if payload.len() > MOST - FRAME_LEN {
+    if payload.len() > COUNT_LIMIT - FRAME_LEN {
         return Err(AllocError);
     }
     seal(alloc, kind, version, payload)
@@ -51,10 +51,20 @@ pub fn push_count(out: &mut Vec<u8>, count: usize) -> Result<(), AllocError>
     ensures fits { OnOk result (FitsU32 count) }
     ensures written { OnOk result (out.new.items ≡ out.old.items ++ u32 count) }
 {
-    if count > MOST {
+    if count > COUNT_LIMIT {
         return Err(AllocError);
     }
     push_u32(out, count as u32)
+}
+
+/// Numbers, one after the other.
+pub fn push_words(out: &mut Vec<u8>, words: &[u32]) -> Result<(), AllocError>
+    ensures { OnOk result (out.new.items ≡ out.old.items ++ flat_map u32 words.now) }
+{
+    for word in words {
+        push_u32(out, *word)?;
+    }
+    Ok(())
 }
 
 /// A text of whatever length.
@@ -62,7 +72,7 @@ pub fn push_bytes(out: &mut Vec<u8>, bytes: &[u8]) -> Result<(), AllocError>
     ensures fits { OnOk result (FitsText bytes.now) }
     ensures written { OnOk result (out.new.items ≡ out.old.items ++ text bytes.now) }
 {
-    if bytes.len() > MOST {
+    if bytes.len() > COUNT_LIMIT {
         return Err(AllocError);
     }
     push_text(out, bytes)

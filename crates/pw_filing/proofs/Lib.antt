@@ -1,2 +1,3 @@
 pub mod ProgramLemmas
 pub mod WantLemmas
+pub mod CountLemmas

@@ -1,11 +1,10 @@
 -- The files of a program of modules, and the faults that may come in their place.
-use Rattle.std.proofs.Common.{◌≡◌, ◌⊎◌, inl, inr, arith, ℕ, suc, ◌+◌, ◌<◌, ◌≤◌, Bool, true, false, cond, List, [], ◌∷◌, length, map, Option, Some, None, Result, Ok, Err, refl, sym, ap, ◌∙◌, subst}
-use Rattle.std.specs.Prelude.{IfSome, String, string_bytes, nat_lt, count_by, if◌then◌else◌}
-use Rattle.std.specs.declared.alloc.Global.{Global}
+use Rattle.std.proofs.Common.{◌≡◌, ◌⊎◌, inl, inr, arith, ℕ, suc, ◌+◌, ◌≤◌, Bool, true, false, cond, List, [], ◌∷◌, length, map, Option, Some, None, Result, Ok, Err, refl, sym, ap, ◌∙◌, subst}
+use Rattle.std.specs.Prelude.{IfSome, nat_lt, count_by, if◌then◌else◌}
 use Rattle.std.proofs.lemmas.Bool.Decides.{nat_tests}
 use Rattle.std.proofs.lemmas.List.{length-map}
 use Rattle.std.proofs.lemmas.List.Sums.{sum_by-append}
-use Rattle.pw_io.specs.Files.{Files, Told}
+use Rattle.pw_io.specs.Files.{Told}
 use Rattle.pw_io.specs.declared.StoreError.{StoreError}
 use Rattle.pw_io.specs.declared.StoreError.TheVariants as store
 use Rattle.pw_value.specs.Limits.{module_limit, texts_limit}
@@ -17,7 +16,7 @@ use Rattle.pw_object.specs.declared.object.Object.{Object}
 use Rattle.pw_image.specs.Image.{IsImageFile, view}
 use Rattle.pw_link.specs.Linking.{linked}
 use Rattle.pw_modules.specs.declared.modules.Module.{Module}
-use Rattle.pw_modules.specs.Modules.{Source, modules_of, names_of_modules}
+use Rattle.pw_modules.specs.Modules.{Source}
 use Rattle.pw_modules.specs.Views.{source}
 use Rattle.pw_flow.specs.declared.flow.FlowModule.{FlowModule}
 use Rattle.pw_making.specs.declared.making.Built.{Built}
@@ -32,7 +31,7 @@ use Rattle.pw_build.specs.Phases.{FaultsAs, IsLine}
 use Rattle.pw_build.specs.Stores.{store_fault}
 use Rattle.pw_kept.specs.declared.files.ProgramFiles.{ProgramFiles}
 use Rattle.pw_kept.specs.Files.{AreObjectFiles, file_view, made_anew}
-use Rattle.pw_filing.specs.Programs.{AreAsMany, BuildsFiles, FaultBuilds, FaultComes, IsCounted}
+use Rattle.pw_filing.specs.Programs.{AreAsMany, BuildsFiles, CountsAtMost, FaultBuilds}
 
 -- ---- the names of modules
 
@@ -52,31 +51,18 @@ passed_by sources count true e t h =
     ∙ ap (λ (n : ℕ). Err (build.LinkRefused (TooMany Modules n))) (sym e)
 passed_by sources count false e t h = cc
 
-passes : (a b : ℕ) → a < b → nat_lt a b ≡ true
-passes a b h = grind (arith, nat_tests, h)
-
-too_many_told : (files : Files) (names : List (String Global)) (count : ℕ) → map string_bytes names ≡ names_of_modules files → count ≡ length names → module_limit < count → first_phases (modules_of files) ≡ Err (build.LinkRefused (TooMany Modules count))
-too_many_told files names count named e h =
-    let same : count ≡ length (modules_of files) = e ∙ sym (length-map names string_bytes) ∙ ap length named ∙ length-map (modules_of files) (λ s. s.0) in
-    passed_by (modules_of files) count (nat_lt module_limit (length (modules_of files))) same refl (passes module_limit (length (modules_of files)) (subst (λ (n : ℕ). module_limit < n) same h))
-
-pub too_many : (first : Option Told) (names : List (String Global)) (count : ℕ) → IfSome first (λ told. map string_bytes names ≡ names_of_modules told.files) → count ≡ length names → module_limit < count
-    → IfSome first (λ told. FaultComes (first_phases (modules_of told.files)) (build.LinkRefused (TooMany Modules count)))
-too_many None names count named e h = tt
-too_many (Some told) names count named e h = too_many_told told.files names count named e h
-
 no_flows : (fault : BuildFault) (flows : List FlowModule) → ◌≡◌ {A = Result (List FlowModule) BuildFault} (Err fault) (Ok flows) → ⊥
 no_flows fault flows e = cc
 
-not_passed : (n : ℕ) → nat_lt 256 n ≡ false → n ≤ 256
-not_passed n e = grind (arith, nat_tests, e)
+not_passed : (most n : ℕ) → nat_lt most n ≡ false → n ≤ most
+not_passed most n e = grind (arith, nat_tests, e)
 
-few_by : (sources : List Source) (flows : List FlowModule) (r : Bool) → nat_lt module_limit (length sources) ≡ r → first_phases sources ≡ Ok flows → length sources ≤ 256
+few_by : (sources : List Source) (flows : List FlowModule) (r : Bool) → nat_lt module_limit (length sources) ≡ r → first_phases sources ≡ Ok flows → length sources ≤ module_limit
 few_by sources flows true t e = absurd (no_flows _ flows (sym (passed_by sources (length sources) true refl t refl) ∙ e))
-few_by sources flows false t e = not_passed (length sources) t
+few_by sources flows false t e = not_passed module_limit (length sources) t
 
-pub few_modules : (ms : List Module) (flows : List FlowModule) → first_phases (map source ms) ≡ Ok flows → length ms ≤ 256
-few_modules ms flows e = subst (λ (n : ℕ). n ≤ 256) (length-map ms source) (few_by (map source ms) flows (nat_lt module_limit (length (map source ms))) refl e)
+pub few_modules : (ms : List Module) (flows : List FlowModule) → first_phases (map source ms) ≡ Ok flows → length ms ≤ module_limit
+few_modules ms flows e = subst (λ (n : ℕ). n ≤ module_limit) (length-map ms source) (few_by (map source ms) flows (nat_lt module_limit (length (map source ms))) refl e)
 
 -- ---- as many objects as modules
 
@@ -209,23 +195,23 @@ pub builds_completed : (sources : List Source) (flows : List FlowModule) (kept :
 builds_completed sources flows kept all colours stack answer None phases same h = tt
 builds_completed sources flows kept all colours stack answer (Some told) phases same h = completed sources flows kept (all told) colours stack answer phases same h
 
--- ---- what is counted
+-- ---- at most how many are counted
 
 -- nothing
-pub not_counted : (phases : Result (List FlowModule) BuildFault) (n : ℕ) → IsCounted phases n n
+pub not_counted : (phases : Result (List FlowModule) BuildFault) (n : ℕ) → CountsAtMost phases n n
 not_counted (Err fault) n = refl
 not_counted (Ok flows) n = record { least = omega arith; bound = omega arith }
 
 -- at most one for each flow graph
-pub flows_counted : (phases : Result (List FlowModule) BuildFault) (flows : List FlowModule) (before now : ℕ) → phases ≡ Ok flows → CountsUpTo (length flows) before now → IsCounted phases before now
-flows_counted phases flows before now e h = subst (λ (r : Result (List FlowModule) BuildFault). IsCounted r before now) (sym e) h
+pub flows_counted : (phases : Result (List FlowModule) BuildFault) (flows : List FlowModule) (before now : ℕ) → phases ≡ Ok flows → CountsUpTo (length flows) before now → CountsAtMost phases before now
+flows_counted phases flows before now e h = subst (λ (r : Result (List FlowModule) BuildFault). CountsAtMost r before now) (sym e) h
 
-most_by : (sources : List Source) (phases : Result (List FlowModule) BuildFault) (before now : ℕ) → first_phases sources ≡ phases → IsCounted phases before now → CountsUpTo module_limit before now
+most_by : (sources : List Source) (phases : Result (List FlowModule) BuildFault) (before now : ℕ) → first_phases sources ≡ phases → CountsAtMost phases before now → CountsUpTo module_limit before now
 most_by sources (Err fault) before now e h = record { least = omega (arith, h); bound = omega (arith, h) }
 most_by sources (Ok flows) before now e h =
     let long : length flows ≡ length sources = flows_long sources flows (within_flows (limit_passed sources) (flows_of sources) flows e) in
-    let few : length sources ≤ 256 = few_by sources flows (nat_lt module_limit (length sources)) refl e in
+    let few : length sources ≤ module_limit = few_by sources flows (nat_lt module_limit (length sources)) refl e in
     record { least = h.least; bound = omega (arith, h.bound, long, few) }
 
-pub most_counted : (sources : List Source) (before now : ℕ) → IsCounted (first_phases sources) before now → CountsUpTo module_limit before now
+pub most_counted : (sources : List Source) (before now : ℕ) → CountsAtMost (first_phases sources) before now → CountsUpTo module_limit before now
 most_counted sources before now h = most_by sources (first_phases sources) before now refl h

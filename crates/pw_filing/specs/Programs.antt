@@ -1,5 +1,5 @@
 -- The files of a program of modules, and the faults that may come in their place.
-use Rattle.std.specs.Prelude.{◌≡◌, ◌≢◌, ℕ, List, length, map, Option, Result, Ok, Err}
+use Rattle.std.specs.Prelude.{◌≡◌, ◌≢◌, ℕ, ◌+◌, List, length, map, Option, Result, Ok, Err}
 use Rattle.pw_answer.specs.declared.answer.Answer.{Answer}
 use Rattle.pw_answer.specs.declared.answer.Answer.TheVariants as answer
 use Rattle.pw_answer.specs.Outcomes.{StoreCount}
@@ -15,7 +15,7 @@ use Rattle.pw_making.specs.Programs.{Parts}
 use Rattle.pw_modules.specs.declared.modules.Module.{Module}
 use Rattle.pw_modules.specs.Modules.{Source}
 use Rattle.pw_object.specs.declared.object.Object.{Object}
-use Rattle.pw_build.specs.Builds.{Builds}
+use Rattle.pw_build.specs.Builds.{Builds, BuildsAnew}
 use Rattle.pw_build.specs.declared.fault.BuildFault.{BuildFault}
 use Rattle.pw_build.specs.declared.fault.BuildFault.TheVariants as build
 use Rattle.pw_build.specs.declared.fault.Unbuilt.{Unbuilt}
@@ -49,17 +49,26 @@ abbrev pub FaultCount : {T : Type 0} → ℕ → ℕ → Result T Unbuilt → Ty
 FaultCount before now (Ok value) = now ≡ before
 FaultCount before now (Err unbuilt) = StoreCount before now (fault_answer unbuilt.fault)
 
--- What is counted of modules whose first phases come to this: nothing where a limit is passed or a module is refused, else
--- at most one for each module.
-abbrev pub IsCounted : Result (List FlowModule) BuildFault → ℕ → ℕ → Type 0
-IsCounted (Err fault) before now = now ≡ before
-IsCounted (Ok flows) before now = CountsUpTo (length flows) before now
-
 -- a fault was answered in place of parts, to which these modules and these kept objects come
 abbrev pub FaultBuilds : List Source → List (Option Object) → ℕ → ℕ → BuildFault → Type 0
 FaultBuilds sources kept colours stack build.StoreFault = Unit {0}
 FaultBuilds sources kept colours stack build.NoMemory = Unit {0}
 FaultBuilds sources kept colours stack fault = Builds sources kept colours stack (Err fault)
+
+-- ---- what is counted
+
+-- Whatever is answered, of modules whose first phases come to this: nothing where a limit is passed or a module is refused,
+-- else at most one for each module.
+abbrev pub CountsAtMost : Result (List FlowModule) BuildFault → ℕ → ℕ → Type 0
+CountsAtMost (Err fault) before now = now ≡ before
+CountsAtMost (Ok flows) before now = CountsUpTo (length flows) before now
+
+-- Where a fault is answered: as many objects as the build makes anew of these modules and these kept objects. A fault of
+-- the store and want of memory may come before all of them are made.
+abbrev pub IsCounted : List Source → List (Option Object) → ℕ → BuildFault → ℕ → ℕ → Type 0
+IsCounted sources kept colours build.StoreFault before now = Unit {0}
+IsCounted sources kept colours build.NoMemory before now = Unit {0}
+IsCounted sources kept colours fault before now = (made : ℕ) × BuildsAnew sources kept colours made × (now ≡ before + made)
 
 -- ---- files
 

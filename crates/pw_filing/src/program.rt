@@ -16,14 +16,14 @@ ghost use Rattle.pw_build.specs.Builds.{Builds, first_phases};
 ghost use Rattle.pw_build.specs.Phases.{IsLine, refused_line};
 ghost use Rattle.pw_kept.specs.Kept.{kept_object};
 ghost use Rattle.pw_kept.specs.Files.{HoldBytes, file_view};
-ghost use Rattle.pw_filing.specs.Programs.{AreAsMany, BuildsFiles, FaultBuilds, FaultComes, FaultCount, IsCounted, IsNoWant};
+ghost use Rattle.pw_filing.specs.Programs.{AreAsMany, BuildsFiles, CountsAtMost, FaultBuilds, FaultComes, FaultCount, IsCounted, IsNoWant};
 ghost use Rattle.pw_db.specs.Limits.{colour_limit};
 
 use pw_build::{BuildFault, Unbuilt, first_phases, no_refusal_is_want_of_memory};
 use pw_io::Store;
 use pw_kept::{ProgramFiles, files_of, read_kept};
 use pw_making::{Built, Steps, complete};
-use pw_modules::{Module, module_names, read_modules};
+use pw_modules::{Module, module_files_of, read_sources};
 use pw_value::limits::MODULE_LIMIT;
 use pw_value::{LinkFault, What};
 use std::alloc::Global;
@@ -34,20 +34,21 @@ use std::sync::ledger::Ledger;
 pub fn few_modules<S: Store>(alloc: Global, store: &mut S) -> Result<Vec<Module>, Unbuilt>
     ensures modules { IfSome (S.told store.old) (λ told. IfOk result (λ modules. map source modules.items ≡ modules_of told.files)) }
     ensures fault { IfSome (S.told store.old) (λ told. IfErr result (λ unbuilt. FaultComes (first_phases (modules_of told.files)) unbuilt.fault)) }
+    ensures few { IfSome (S.told store.old) (λ told. OnOk result (length (modules_of told.files) ≤ module_limit)) }
     ensures line { IfErr result (λ unbuilt. (due : ℕ) → IsLine due unbuilt.fault unbuilt.line) }
     ensures proper { IfErr result (λ unbuilt. IsNoWant unbuilt.fault) }
     ensures same { Keeps (S.told store.old) (S.told store.new) }
     ensures count { FaultCount (S.faults store.old) (S.faults store.new) result }
 {
-    let names = module_names(alloc, store)?;
-    let count = names.len() as u64;
+    let files = module_files_of(alloc, store)?;
+    let count = files.len() as u64;
     if count > MODULE_LIMIT {
         return Err(Unbuilt {
             fault: BuildFault::LinkRefused(LinkFault::TooMany(What::Modules, count)),
             line: 1,
         });
     }
-    Ok(read_modules(alloc, store)?)
+    Ok(read_sources(alloc, store, &files)?)
 }
 
 /// The program of modules, and of what the store keeps of them.
@@ -64,14 +65,15 @@ fn built_of<S: Store, L: Ledger>(
     ensures built { IfSome (S.told store.old) (λ told. IfOk result (λ built. Builds (map source modules.now) (map (λ m. kept_object told.files m.name) modules.now) colours stack (Ok (parts_of built)))) }
     ensures fault { IfSome (S.told store.old) (λ told. IfErr result (λ unbuilt. FaultBuilds (map source modules.now) (map (λ m. kept_object told.files m.name) modules.now) colours stack unbuilt.fault)) }
     ensures line { IfErr result (λ unbuilt. IsLine (refused_line (map source modules.now)) unbuilt.fault unbuilt.line) }
-    ensures few { OnOk result (length modules.now ≤ 256) }
+    ensures few { OnOk result (length modules.now ≤ module_limit) }
     ensures many { IfOk result (λ built. AreAsMany modules.now built) }
     ensures image { IfOk result (λ built. view built.image ≡ linked built.objects.items stack) }
     ensures lawful_database { IfOk result (λ built. IsDatabase built.database.functions) }
     ensures lawful_objects { IfOk result (λ built. AllByRecursion IsObject built.objects.items) }
     ensures lawful_image { IfOk result (λ built. IsImage (view built.image)) }
     ensures counted { IfOk result (λ built. steps.new ≡ steps.old + count_by (λ fresh. fresh) built.fresh.items) }
-    ensures bound { IsCounted (first_phases (map source modules.now)) steps.old steps.new }
+    ensures counted_fault { IfSome (S.told store.old) (λ told. IfErr result (λ unbuilt. IsCounted (map source modules.now) (map (λ m. kept_object told.files m.name) modules.now) colours unbuilt.fault steps.old steps.new)) }
+    ensures bound { CountsAtMost (first_phases (map source modules.now)) steps.old steps.new }
     ensures proper { IfErr result (λ unbuilt. IsNoWant unbuilt.fault) }
     ensures same { Keeps (S.told store.old) (S.told store.new) }
     ensures count { FaultCount (S.faults store.old) (S.faults store.new) result }
@@ -107,9 +109,10 @@ pub fn program_of<S: Store, L: Ledger>(
     ensures bytes { IfOk result (λ files. HoldBytes (map file_view files.fresh.files.items)) }
     ensures fault { IfSome (S.told store.old) (λ told. IfErr result (λ unbuilt. FaultBuilds (map source modules.now) (map (λ m. kept_object told.files m.name) modules.now) colours stack unbuilt.fault)) }
     ensures line { IfErr result (λ unbuilt. IsLine (refused_line (map source modules.now)) unbuilt.fault unbuilt.line) }
-    ensures few { OnOk result (length modules.now ≤ 256) }
+    ensures few { OnOk result (length modules.now ≤ module_limit) }
     ensures counted { IfOk result (λ files. steps.new ≡ steps.old + length files.fresh.names.items) }
-    ensures bound { IsCounted (first_phases (map source modules.now)) steps.old steps.new }
+    ensures counted_fault { IfSome (S.told store.old) (λ told. IfErr result (λ unbuilt. IsCounted (map source modules.now) (map (λ m. kept_object told.files m.name) modules.now) colours unbuilt.fault steps.old steps.new)) }
+    ensures bound { CountsAtMost (first_phases (map source modules.now)) steps.old steps.new }
     ensures most { CountsUpTo module_limit steps.old steps.new }
     ensures proper { IfErr result (λ unbuilt. IsNoWant unbuilt.fault) }
     ensures same { Keeps (S.told store.old) (S.told store.new) }

@@ -16,7 +16,7 @@ use Rattle.pw_flowops.specs.Reading.{one_of_at, op_at}
 use Rattle.pw_flowops.proofs.OnwardLaws.{choice_of_one, named_one, op_onward, end_onward}
 use Rattle.pw_flowfile.specs.declared.globals.ItemForm.{ItemForm}
 use Rattle.pw_flowfile.specs.declared.globals.ItemForm.TheVariants as form
-use Rattle.pw_flowfile.specs.FlowFile.{kind_of_file}
+use Rattle.pw_flowfile.specs.FlowFile.{kind_of_file, flow_version}
 use Rattle.pw_flowfile.specs.Reading.{fresh_at, item_forms, content_at, item_at, placed_item_at, next_free, global_body_at, global_at, next_global, block_at, slot_at, next_room, code_at, function_body_at, function_at, next_function, declared_body_at, declared_at, next_declared, seen_after, list_at, parts_at, fields_at, late_rules, flow_file_at}
 
 fresh_one : (names seen : List (List ℕ)) → OneField (fresh_at names seen)
@@ -105,5 +105,5 @@ fields_keep : (names : List (List ℕ)) (rule : FlowModule → ℕ → Option �
 unfolding fields_at
 fields_keep names rule = keeps_behind (parts_at names) _ _ (λ p. keeps_ended {X = Contents FlowModule} (rule p.0 p.1) (record { names = names; value = p.0 }))
 
-pub faults_stay : FaultsStay kind_of_file fields_at (λ bytes. value_of (flow_file_at bytes))
-faults_stay = files.faults_stay kind_of_file fields_at late_rules (contents_onward fields_at fields_onward) (contents_keep fields_at late_rules fields_keep)
+pub faults_stay : FaultsStay kind_of_file flow_version fields_at (λ bytes. value_of (flow_file_at bytes))
+faults_stay = files.faults_stay kind_of_file flow_version fields_at late_rules (contents_onward fields_at fields_onward) (contents_keep fields_at late_rules fields_keep)

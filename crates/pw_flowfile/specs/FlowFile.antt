@@ -86,6 +86,10 @@ pub record FitsModule (m : FlowModule) : Type 0 where
 abbrev pub kind_of_file : ℕ
 kind_of_file = 0x50415746
 
+-- the version of the form of a flow file
+abbrev pub flow_version : ℕ
+flow_version = 1
+
 -- the bytes are the file of the flow graph
 abbrev pub IsFlowFile : List ℕ → FlowModule → Type 0
-IsFlowFile = IsFileWith kind_of_file spelling (IsContents IsValid FitsModule names_of)
+IsFlowFile = IsFileWith kind_of_file flow_version spelling (IsContents IsValid FitsModule names_of)

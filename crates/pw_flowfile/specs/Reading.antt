@@ -1,5 +1,5 @@
 -- Reading a flow file from left to right, with the first fault that is met.
-use Rattle.std.specs.Prelude.{ℕ, ◌+◌, ◌*◌, List, [], ◌∷◌, length, map, max, Result, Option, Some, None, Bool, true, nat_le, nat_lt, ◌==◌, ◌&&◌, not}
+use Rattle.std.specs.Prelude.{ℕ, ◌+◌, ◌*◌, List, [], ◌∷◌, map, max, Result, Option, Some, None, Bool, true, nat_le, nat_lt, ◌==◌, ◌&&◌, not}
 use Rattle.pw_value.specs.Limits.{parameter_limit, room_limit}
 use Rattle.pw_value.specs.declared.program_names.StartName.{StartName}
 use Rattle.pw_value.specs.declared.program_names.StartName.TheVariants.{Refused}
@@ -8,6 +8,7 @@ use Rattle.pw_value.specs.Fields.{◌>>=◌, done, checked, u32_at, text_at, fla
 use Rattle.pw_value.specs.FieldFrame.{here, ended}
 use Rattle.pw_value.specs.FieldNames.{name_at, is_among}
 use Rattle.pw_files.specs.Kinds.{kind_at}
+use Rattle.pw_files.specs.Places.{offset_at, item_bytes_at}
 use Rattle.pw_files.specs.Contents.{Contents, module_rules, contents_file_at}
 use Rattle.pw_flow.specs.declared.flow.Item.{Item}
 use Rattle.pw_flow.specs.declared.flow.FlowGlobal.{FlowGlobal}
@@ -20,7 +21,7 @@ use Rattle.pw_flow.specs.ValidFlow.{kind_size, item_size, slot_room}
 use Rattle.pw_flowops.specs.Reading.{one_of_at, named_at, op_at, end_at}
 use Rattle.pw_flowfile.specs.declared.globals.ItemForm.{ItemForm}
 use Rattle.pw_flowfile.specs.declared.globals.ItemForm.TheVariants as form
-use Rattle.pw_flowfile.specs.FlowFile.{names_of, kind_of_file}
+use Rattle.pw_flowfile.specs.FlowFile.{names_of, kind_of_file, flow_version}
 
 -- ---- names
 
@@ -44,7 +45,7 @@ has_room form.Address size offset = nat_le (offset + 4) size
 
 unfoldable pub content_at : StartName → List (List ℕ) → ℕ → ℕ → ItemForm → List ℕ → Result (Item × List ℕ) ℕ
 content_at start names size offset form.Bytes = do
-  bytes ← checked (λ b. nat_le (offset + length b) size) text_at
+  bytes ← item_bytes_at size offset
   done (Bytes bytes)
 content_at start names size offset form.Address = do
   name ← named_at start names
@@ -56,7 +57,7 @@ item_at start names size offset = checked (λ f. has_room f size offset) (one_of
 
 unfoldable pub placed_item_at : StartName → List (List ℕ) → ℕ → ℕ → List ℕ → Result ((ℕ × Item) × List ℕ) ℕ
 placed_item_at start names size free = do
-  offset ← checked (λ o. nat_le free o && nat_le o size) u32_at
+  offset ← offset_at size free
   item ← item_at start names size offset
   done (offset, item)
 
@@ -159,4 +160,4 @@ abbrev pub late_rules : List (List ℕ) → ℕ → FlowModule → ℕ → Optio
 late_rules names behind m place = module_rules names (names_of m) behind (function_names m) (global_names m) place
 
 abbrev pub flow_file_at : List ℕ → Result (Contents FlowModule) ℕ
-flow_file_at = contents_file_at kind_of_file fields_at late_rules
+flow_file_at = contents_file_at kind_of_file flow_version fields_at late_rules

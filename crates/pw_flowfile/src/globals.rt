@@ -1,7 +1,7 @@
 //! Reading the global objects and the declared names of a flow file.
 
-ghost use Rattle.std.specs.Prelude.{◌≡◌, ◌+◌, ◌∷◌, ◌≤◌, ◌&&◌, ℕ, nat_le, List, [], length, map, IfOk, IfErr, ◌≢◌};
-ghost use Rattle.pw_value.specs.Fields.{u32_at, text_at, checked, items_at};
+ghost use Rattle.std.specs.Prelude.{◌≡◌, ◌+◌, ◌∷◌, ◌≤◌, ℕ, List, [], length, map, IfOk, IfErr, ◌≢◌};
+ghost use Rattle.pw_value.specs.Fields.{checked, items_at};
 ghost use Rattle.pw_value.specs.FieldFaults.{Gives};
 ghost use Rattle.pw_value.specs.FieldNames.{IsRisingFrom};
 ghost use Rattle.pw_files.specs.Kinds.{kind_at};
@@ -11,10 +11,11 @@ ghost use Rattle.pw_flowfile.specs.Marks.{Marks};
 
 use crate::met::read_fresh;
 use pw_files::kinds::read_kind;
+use pw_files::places::{read_item_bytes, read_offset};
 use pw_flow::{FlowGlobal, Item, kind_size};
 use pw_flowops::{read_named, read_one_of};
 use pw_items::Items;
-use pw_value::fields::{FieldError, read_flag, read_text, read_text_in_place, read_u32};
+use pw_value::fields::{FieldError, read_flag, read_text, read_u32};
 use pw_value::program_names::StartName;
 use pw_value::{Kind, Name, Shape};
 use std::alloc::Global;
@@ -27,19 +28,6 @@ pub enum ItemForm {
 }
 
 const ITEM_FORMS: [ItemForm; 2] = [ItemForm::Bytes, ItemForm::Address];
-
-/// The bytes of an item at the offset, inside the object.
-fn read_item_bytes(size: u32, offset: u32, bytes: &[u8]) -> Result<(&[u8], &[u8]), FieldError>
-    ensures found { Gives (λ x. (x.0.now, x.1.now)) result (checked (λ b. nat_le (offset + length b) size) text_at bytes.now) }
-    ensures no_memory { IfErr result (λ e. e ≢ FieldError.NoMemory) }
-{
-    let (text, rest) = read_text_in_place(bytes)?;
-    if offset <= size && text.len() <= (size - offset) as usize {
-        Ok((text, rest))
-    } else {
-        Err(FieldError::Fault { left: bytes.len() })
-    }
-}
 
 /// What stands behind an item's form.
 #[tactic(auto, unfolding(crate::specs::Reading::content_at))]
@@ -96,19 +84,6 @@ fn read_item<'a>(
 {
     let (form, rest) = read_form(place.0, place.1, bytes)?;
     read_content(alloc, start, names, place, form, rest)
-}
-
-/// The offset of an item, from `free` to the object's size.
-fn read_offset(size: u32, free: u64, bytes: &[u8]) -> Result<(u32, &[u8]), FieldError>
-    ensures found { Gives (λ x. (x.0, x.1.now)) result (checked (λ o. nat_le free o && nat_le o size) u32_at bytes.now) }
-    ensures no_memory { IfErr result (λ e. e ≢ FieldError.NoMemory) }
-{
-    let (offset, rest) = read_u32(bytes)?;
-    if free <= u64::from(offset) && offset <= size {
-        Ok((offset, rest))
-    } else {
-        Err(FieldError::Fault { left: bytes.len() })
-    }
 }
 
 /// An item and its offset, which is at least `free`.

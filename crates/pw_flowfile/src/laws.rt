@@ -4,7 +4,7 @@ ghost use Rattle.std.specs.Prelude.{◌≡◌, ℕ, List};
 ghost use Rattle.pw_files.specs.Contents.{value_of};
 ghost use Rattle.pw_files.specs.Faults.{FaultsStay};
 ghost use Rattle.pw_flow.specs.declared.flow.FlowModule.{FlowModule};
-ghost use Rattle.pw_flowfile.specs.FlowFile.{IsFlowFile, kind_of_file};
+ghost use Rattle.pw_flowfile.specs.FlowFile.{IsFlowFile, kind_of_file, flow_version};
 ghost use Rattle.pw_flowfile.specs.Reading.{fields_at, flow_file_at};
 
 /// No bytes are the file of two flow graphs, and no flow graph has two files.
@@ -15,5 +15,5 @@ pub fn flow_graphs_and_files_are_one_to_one()
 
 /// A fault lies within the bytes, and one of the fields rests on the bytes up to the faulty field's end.
 pub fn faults_stay()
-    ensures { FaultsStay kind_of_file fields_at (λ bytes. value_of (flow_file_at bytes)) }
+    ensures { FaultsStay kind_of_file flow_version fields_at (λ bytes. value_of (flow_file_at bytes)) }
 {}

@@ -7,7 +7,7 @@ ghost use Rattle.pw_value.specs.FieldFaults.{Gives, GivesFile};
 ghost use Rattle.pw_value.specs.FieldNames.{IsRisingFrom};
 ghost use Rattle.pw_files.specs.Contents.{broken_at, value_of};
 ghost use Rattle.pw_flow.specs.declared.flow.FlowModule.{FlowModule as AnyModule};
-ghost use Rattle.pw_flowfile.specs.FlowFile.{IsFlowFile, kind_of_file};
+ghost use Rattle.pw_flowfile.specs.FlowFile.{IsFlowFile, kind_of_file, flow_version};
 ghost use Rattle.pw_flowfile.specs.Reading.{global_at, next_global, declared_at, next_declared, function_at, next_function, seen_after, list_at, parts_at, fields_at, late_rules, flow_file_at};
 ghost use Rattle.pw_flowfile.specs.Marks.{Marks};
 
@@ -26,6 +26,9 @@ use std::alloc::Global;
 
 /// `PAWF`, the first four bytes of a flow file.
 pub const KIND: u32 = 0x5041_5746;
+
+/// The version of the form of a flow file.
+pub(crate) const VERSION: u32 = 1;
 
 /// The objects, and which names were met in them.
 #[tactic(auto, unfolding(crate::specs::Reading::list_at))]
@@ -144,6 +147,10 @@ impl Format for FlowFormat {
     const KIND: u32 = KIND;
 
     ghost KIND = { kind_of_file };
+
+    const VERSION: u32 = VERSION;
+
+    ghost VERSION = { flow_version };
 
     ghost fields = { fields_at };
 

@@ -8,12 +8,14 @@ ghost use Rattle.pw_files.specs.Rising.{counted};
 ghost use Rattle.pw_flow.specs.ValidFlow.{IsValid};
 ghost use Rattle.pw_flowfile.specs.FlowFile.{all_in_global, all_in_function, names_of, item as item_text, placed_item as placed_item_text, global_body as global_body_text, global as global_text, block as block_text, function as function_text, spelling, IsFlowFile};
 
-use crate::reading::KIND;
+use crate::reading::{KIND, VERSION};
 use crate::used::used_names;
 use pw_files::kinds::push_kind;
-use pw_files::writing::{make_table, push_bytes, push_count, push_shaped_list, seal_payload};
+use pw_files::writing::{
+    make_table, push_bytes, push_count, push_shaped_list, push_words, seal_payload,
+};
 use pw_flow::{Block, FlowFn, FlowGlobal, FlowModule, Item};
-use pw_flowops::{push_end, push_ops, push_words};
+use pw_flowops::{push_end, push_ops};
 use pw_value::Name;
 use pw_value::fields::names::{push_name, push_names};
 use pw_value::fields::writing::{push_flag, push_u8, push_u32};
@@ -198,5 +200,5 @@ pub fn write(alloc: Global, flow: &FlowModule) -> Result<Vec<u8>, AllocError>
     let mut out = Vec::new(alloc);
     push_module(&mut out, table, flow)?;
     let payload = out.as_slice();
-    seal_payload(alloc, KIND, 1, payload)
+    seal_payload(alloc, KIND, VERSION, payload)
 }

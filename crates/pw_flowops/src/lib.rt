@@ -11,6 +11,6 @@ mod parts;
 
 pub use choices::read_one_of;
 pub use ends::{push_end, read_end};
-pub use op_writing::{push_ops, push_words};
+pub use op_writing::push_ops;
 pub use ops::{Counts, read_ops};
 pub use parts::{read_below, read_few, read_named};

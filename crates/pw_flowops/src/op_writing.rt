@@ -2,7 +2,6 @@
 
 ghost use Rattle.std.specs.Prelude.{◌≡◌, ◌++◌, ℕ, List, [], OnOk, Contains, Option, None, Some};
 ghost use Rattle.std.specs.List.{flat_map, AllByRecursion};
-ghost use Rattle.pw_value.specs.Fields.{u32};
 ghost use Rattle.pw_value.specs.FieldNames.{IsNameTable};
 ghost use Rattle.pw_flow.specs.declared.flow.Op.TheVariants.{Const, Copy, Un, Bin, Ext, AddrGlobal, AddrSlot, AddrFn, LoadG, StoreG, Load, Store, Move, Call, CallInd};
 ghost use Rattle.pw_flow.specs.FlowGraph.{op_names};
@@ -11,22 +10,12 @@ ghost use Rattle.pw_flowops.specs.Operations.{result as result_text, arguments, 
 use crate::codes::OpCode;
 use crate::parts::ABSENT;
 use pw_files::kinds::push_scalar;
-use pw_files::writing::{push_bytes, push_count};
+use pw_files::writing::{push_bytes, push_count, push_words};
 use pw_flow::{BinKind, ExtKind, Op, UnKind};
 use pw_value::fields::names::push_name;
 use pw_value::fields::writing::{push_u8, push_u32};
 use pw_value::{Kind, Name, Shape};
 use std::alloc::AllocError;
-
-/// Numbers, one after the other.
-pub fn push_words(out: &mut Vec<u8>, words: &[u32]) -> Result<(), AllocError>
-    ensures { OnOk result (out.new.items ≡ out.old.items ++ flat_map u32 words.now) }
-{
-    for word in words {
-        push_u32(out, *word)?;
-    }
-    Ok(())
-}
 
 /// The arguments of a call.
 fn push_arguments(out: &mut Vec<u8>, args: &[u32]) -> Result<(), AllocError>

@@ -1,12 +1,13 @@
 -- The run of a list of flow modules, by small steps. Counted as events are calls, those of the library too, and
 -- ends of blocks that go to another block than the next by number.
-use Rattle.std.specs.Prelude.{ℕ, zero, suc, ◌+◌, ◌-◌, ◌%◌, ◌^◌, ◌==◌, nat_lt, ◌&&◌, Bool, true, false, if◌then◌else◌, Option, Some, None, List, [], ◌∷◌, ◌++◌, length, replicate, slice_set, slice_index_or, sum_by, codes}
+use Rattle.std.specs.Prelude.{ℕ, zero, suc, ◌+◌, ◌-◌, ◌%◌, ◌^◌, ◌==◌, nat_lt, ◌&&◌, Bool, true, false, if◌then◌else◌, Option, Some, None, List, [], ◌∷◌, ◌++◌, length, replicate, slice_set, slice_index_or, sum_by}
 use Rattle.pw_value.specs.declared.value.Kind.{Kind}
 use Rattle.pw_value.specs.declared.value.Kind.TheVariants.{S8, U8, S16, U16, W32}
 use Rattle.pw_value.specs.declared.value.Value.{Value}
 use Rattle.pw_value.specs.declared.value.Value.TheVariants.{Undefined, Num, At}
 use Rattle.pw_value.specs.declared.value.Byte.TheVariants as B
 use Rattle.pw_value.specs.Objects.{Object, with_object, ended}
+use Rattle.pw_value.specs.ProgramNames.{start_name}
 use Rattle.pw_flow.specs.declared.flow.Op.{Op}
 use Rattle.pw_flow.specs.declared.flow.End.{End}
 use Rattle.pw_flow.specs.declared.flow.End.TheVariants.{Jump, Branch, Return}
@@ -264,7 +265,7 @@ steps p (suc n) s = steps p n (goes_on p s)
 
 -- `$start` is active from the start
 abbrev pub start : Program → List ℕ → Step
-start p input = starts (function_named p (codes "$start"))
+start p input = starts (function_named p start_name)
   where
     begins : FlowFn → Option Block → Step
     begins f None = Astray

@@ -8,7 +8,7 @@ use Rattle.pw_value.specs.declared.value.Byte.TheVariants as B
 use Rattle.pw_value.specs.declared.value.Pointer.{Pointer}
 use Rattle.pw_value.specs.declared.value.Pointer.TheVariants as P
 use Rattle.pw_value.specs.Objects.{Object, with_bytes}
-use Rattle.pw_value.specs.ProgramNames.{library_functions}
+use Rattle.pw_value.specs.ProgramNames.{exit_name, getchar_name, putchar_name, library_functions}
 use Rattle.pw_value.specs.Values.{pieces_of}
 use Rattle.pw_flow.specs.declared.flow.Item.{Item}
 use Rattle.pw_flow.specs.declared.flow.Item.TheVariants.{Bytes, Address}
@@ -43,12 +43,9 @@ pub data Library : Type 0 where
 
 abbrev pub library_at : List ℕ → Option Library
 library_at name =
-    if bytes_eq name (codes "getchar") then Some GetChar else
-    if bytes_eq name (codes "putchar") then Some PutChar else
-    if bytes_eq name (codes "exit") then Some Exit else None
-
-abbrev pub library_names : List (List ℕ)
-library_names = codes "exit" ∷ codes "getchar" ∷ codes "putchar" ∷ []
+    if bytes_eq name getchar_name then Some GetChar else
+    if bytes_eq name putchar_name then Some PutChar else
+    if bytes_eq name exit_name then Some Exit else None
 
 abbrev pub library_shape : Library → List ℕ
 library_shape GetChar = codes "fi"
@@ -62,7 +59,7 @@ abbrev pub function_named : Program → List ℕ → Option FlowFn
 function_named p name = find (λ f. bytes_eq f.name name) (functions_of p)
 
 abbrev pub names_of : Program → List (List ℕ)
-names_of p = library_names ++ map (λ f. f.name) (functions_of p)
+names_of p = library_functions ++ map (λ f. f.name) (functions_of p)
 
 -- a function's number is its place among the names of all functions in byte order
 abbrev pub function_number : Program → List ℕ → ℕ

@@ -3,6 +3,7 @@ use Rattle.std.proofs.Common.{◌≡◌, ◌≢◌, ℕ, zero, suc, ◌+◌, ◌
 use Rattle.std.proofs.lemmas.Bool.Decides.{nat_tests}
 use Rattle.pw_token.proofs.LexLaws.{Lexing, lexing-start, lexing-step, lexing-end, lexing-bad, lexing-many, one-answer}
 use Rattle.pw_token.proofs.PieceBounds.{found-within}
+use Rattle.pw_token.specs.Limits.{text_limit, token_limit}
 use Rattle.pw_token.specs.Pieces.{piece_at}
 use Rattle.pw_token.specs.Tokenization.{Lexes, IsTooLong, line_start_after, token_in}
 use Rattle.pw_token.specs.declared.piece.PieceKind.{PieceKind}
@@ -19,7 +20,7 @@ GoesOn onward text most =
 -- behind a piece that is kept
 behind-piece : (onward : ℕ → Bool → List Token → LexAnswer) (text : List ℕ) (at : ℕ) (ls : Bool) (tokens : List Token) (most : ℕ) (k : PieceKind) (n : ℕ)
     → GoesOn onward text most → Lexing text at ls tokens → at < length text → length text ≤ at + suc most → piece_at ls (drop at text) ≡ Some (k, n)
-    → length (tokens ++ token_in k at n) ≤ 200000
+    → length (tokens ++ token_in k at n) ≤ token_limit
     → Lexes text (onward (at + n) (line_start_after ls k (take n (drop at text))) (tokens ++ token_in k at n))
 behind-piece onward text at ls tokens most k n goes l inside left e few =
     let within = found-within ls (drop at text) (Some (k, n)) (omega (arith, length-drop at text)) (sym e) in
@@ -31,7 +32,7 @@ same-length : (tokens : List Token) → length (tokens ++ []) ≡ length tokens
 same-length tokens = omega (arith, length-append tokens [])
 
 meets : (onward : ℕ → Bool → List Token → LexAnswer) (text : List ℕ) (at : ℕ) (ls : Bool) (tokens : List Token) (most : ℕ) (found : Option (PieceKind × ℕ))
-    → GoesOn onward text most → Lexing text at ls tokens → at < length text → length text ≤ 1048576 → length text ≤ at + suc most
+    → GoesOn onward text most → Lexing text at ls tokens → at < length text → length text ≤ text_limit → length text ≤ at + suc most
     → piece_at ls (drop at text) ≡ found → Lexes text (met onward text at ls tokens found)
 meets onward text at ls tokens most None goes l inside small left e = lexing-bad text at ls tokens l inside small e
 meets onward text at ls tokens most (Some (piece.Blank, n)) goes l inside small left e =
@@ -40,23 +41,23 @@ meets onward text at ls tokens most (Some (piece.Comment, n)) goes l inside smal
     behind-piece onward text at ls tokens most piece.Comment n goes l inside left e (omega (arith, l.few, same-length tokens))
 meets onward text at ls tokens most (Some (piece.LineMarker, n)) goes l inside small left e =
     behind-piece onward text at ls tokens most piece.LineMarker n goes l inside left e (omega (arith, l.few, same-length tokens))
-meets onward text at ls tokens most (Some (piece.Token k, n)) goes l inside small left e = go (length tokens == 200000) refl
+meets onward text at ls tokens most (Some (piece.Token k, n)) goes l inside small left e = go (length tokens == token_limit) refl
   where
     kind : PieceKind
     kind = piece.Token k
 
-    full : (length tokens == 200000) ≡ true → length tokens ≡ 200000
+    full : (length tokens == token_limit) ≡ true → length tokens ≡ token_limit
     full f = grind (arith, nat_tests)
 
-    few : (length tokens == 200000) ≡ false → length tokens ≤ 200000 → length (tokens ++ token_in (piece.Token k) at n) ≤ 200000
-    few f h = let other : length tokens ≢ 200000 = grind (arith, nat_tests) in omega (arith, other, length-append tokens (token_in (piece.Token k) at n))
+    few : (length tokens == token_limit) ≡ false → length tokens ≤ token_limit → length (tokens ++ token_in (piece.Token k) at n) ≤ token_limit
+    few f h = let other : length tokens ≢ token_limit = grind (arith, nat_tests) in omega (arith, other, length-append tokens (token_in (piece.Token k) at n))
 
-    go : (b : Bool) → (length tokens == 200000) ≡ b
+    go : (b : Bool) → (length tokens == token_limit) ≡ b
         → Lexes text (cond b (Err (TooMany at)) (onward (at + n) (line_start_after ls (piece.Token k) (take n (drop at text))) (tokens ++ token_in (piece.Token k) at n)))
     go true f = lexing-many text at ls tokens k n l inside small e (full f)
     go false f = behind-piece onward text at ls tokens most (piece.Token k) n goes l inside left e (few f l.few)
 
-from-lexes : (text : List ℕ) → length text ≤ 1048576 → (most : ℕ) → GoesOn (lexed_from most text) text most
+from-lexes : (text : List ℕ) → length text ≤ text_limit → (most : ℕ) → GoesOn (lexed_from most text) text most
 unfolding lexed_from
 from-lexes text small zero at ls tokens l left = lexing-end text at ls tokens l (omega arith) small
 from-lexes text small (suc most) at ls tokens l left = go (nat_le (length text) at) refl (from-lexes text small most)
@@ -74,15 +75,15 @@ from-lexes text small (suc most) at ls tokens l left = go (nat_le (length text) 
 
 pub lexed-lexes : (text : List ℕ) → Lexes text (lexed text)
 unfolding lexed
-lexed-lexes text = go (nat_lt 1048576 (length text)) refl
+lexed-lexes text = go (nat_lt text_limit (length text)) refl
   where
-    long : nat_lt 1048576 (length text) ≡ true → IsTooLong text
+    long : nat_lt text_limit (length text) ≡ true → IsTooLong text
     long f = grind (arith, nat_tests)
 
-    short : nat_lt 1048576 (length text) ≡ false → length text ≤ 1048576
+    short : nat_lt text_limit (length text) ≡ false → length text ≤ text_limit
     short f = grind (arith, nat_tests)
 
-    go : (b : Bool) → nat_lt 1048576 (length text) ≡ b → Lexes text (cond b (Err TooLong) (lexed_from (length text) text 0 true []))
+    go : (b : Bool) → nat_lt text_limit (length text) ≡ b → Lexes text (cond b (Err TooLong) (lexed_from (length text) text 0 true []))
     go true f = long f
     go false f = from-lexes text (short f) (length text) 0 true [] (lexing-start text) (omega arith)
 

@@ -48,14 +48,14 @@ pub record IsUnsupportedAt (text : List ℕ) (n : ℕ) (feature : Feature) : Typ
   pub first : IsFirst (has_feature text) tokens n token
   pub has : feature_of text token ≡ Some feature
 
--- All tokens are supported, and token n is the first that is nested deeper than 200.
+-- All tokens are supported, and token n is the first that is nested deeper than the limit.
 pub record IsTooDeepAt (text : List ℕ) (n : ℕ) : Type 0 where
   pub tokens : List Token
   pub nest : ℕ
   pub supported : IsSupported text tokens
   pub first : IsFirst is_deep (nests_of text tokens) n nest
 
--- All tokens are supported, and none is nested deeper than 200.
+-- All tokens are supported, and none is nested deeper than the limit.
 pub record IsShallow (text : List ℕ) (tokens : List Token) : Type 0 where
   pub supported : IsSupported text tokens
   pub shallow : NonePasses is_deep (nests_of text tokens)

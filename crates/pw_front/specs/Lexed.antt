@@ -1,6 +1,6 @@
 -- The tokens of a text as a function, piece by piece from its front.
 use Rattle.std.specs.Prelude.{ℕ, zero, suc, ◌+◌, Bool, true, false, ◌==◌, nat_le, nat_lt, if◌then◌else◌, List, [], ◌++◌, length, take, drop, Option, Some, None, Result, Ok, Err}
-use Rattle.pw_token.specs.Limits.{text_limit}
+use Rattle.pw_token.specs.Limits.{text_limit, token_limit}
 use Rattle.pw_token.specs.Pieces.{piece_at}
 use Rattle.pw_token.specs.Tokenization.{line_start_after, token_in}
 use Rattle.pw_token.specs.declared.piece.PieceKind.{PieceKind}
@@ -13,9 +13,9 @@ use Rattle.pw_token.specs.declared.token.Token.{Token}
 abbrev pub LexAnswer : Type 0
 LexAnswer = Result (List Token) LexFault
 
--- a token behind 200,000 others
+-- a token behind as many others as a text may have
 abbrev pub is_too_many : PieceKind → List Token → Bool
-is_too_many (piece.Token kind) tokens = length tokens == 200000
+is_too_many (piece.Token kind) tokens = length tokens == token_limit
 is_too_many piece.Blank tokens = false
 is_too_many piece.Comment tokens = false
 is_too_many piece.LineMarker tokens = false

@@ -5,6 +5,7 @@ ghost use Rattle.std.specs.Prelude.{◌≡◌};
 use pw_parse::ParseFault;
 use pw_token::{Feature, LexFault};
 use pw_walk::CheckFault;
+use thiserror::Error;
 
 /// Why a module is refused.
 #[derive(Clone, Copy, Debug, PartialEq, Eq)]
@@ -20,11 +21,13 @@ pub enum Refusal {
 }
 
 /// Why the front gives no syntax tree.
-#[derive(Clone, Copy, Debug, PartialEq, Eq)]
+#[derive(Clone, Copy, Debug, Error, PartialEq, Eq)]
 pub enum FrontError {
     /// The text is refused. The refusal is never want of memory.
+    #[error("the text is refused")]
     Refused(Refusal),
     /// There was no memory for the tokens or for the tree.
+    #[error("memory ran out")]
     NoMemory,
 }
 

@@ -3,7 +3,7 @@ use Rattle.std.proofs.Common.{◌≡◌, ℕ, zero, suc, ◌+◌, ◌*◌, ◌%�
 use Rattle.std.specs.List.{flat_map, range_with_len}
 use Rattle.std.proofs.lemmas.Grind.{flat_map-append}
 use Rattle.std.proofs.lemmas.List.{append-nil}
-use Rattle.pw_gen.specs.Generator.{after, draws_before, member, members}
+use Rattle.pw_gen.specs.Generator.{after, draws_before, functions_of_a_module, member, members}
 
 range_more : (a n : ℕ) → range_with_len a (n + 1) ≡ range_with_len a n ++ (a + n) ∷ []
 range_more a zero = let same : a ≡ a + 0 = omega arith in ap (λ (x : ℕ). x ∷ []) same
@@ -42,8 +42,10 @@ nothing_drawn number = refl
 pub three_more : (j number : ℕ) → after 3 (after (3 * j) number) ≡ after (3 * (j + 1)) number
 three_more j number = let same : 3 * j + 3 ≡ 3 * (j + 1) = omega arith in after_more 3 (3 * j) number ∙ ap (λ (k : ℕ). after k number) same
 
-pub module_more : (k number : ℕ) → after 24 (after (draws_before k) number) ≡ after (draws_before (k + 1)) number
-module_more k number = let same : draws_before k + 24 ≡ draws_before (k + 1) = omega arith in after_more 24 (draws_before k) number ∙ ap (λ (n : ℕ). after n number) same
+pub module_more : (k number : ℕ) → after (3 * functions_of_a_module) (after (draws_before k) number) ≡ after (draws_before (k + 1)) number
+module_more k number =
+    let same : draws_before k + 3 * functions_of_a_module ≡ draws_before (k + 1) = omega arith in
+    after_more (3 * functions_of_a_module) (draws_before k) number ∙ ap (λ (n : ℕ). after n number) same
 
 pub nothing_before : (number : ℕ) → number ≡ after (draws_before 0) number
 unfolding after

@@ -2,12 +2,17 @@
 
 ghost use Rattle.std.specs.Prelude.{◌≡◌, ◌+◌, ◌*◌, ◌%◌, ◌^◌, ◌<◌, ◌++◌, IfOk, OnOk};
 ghost use Rattle.std.specs.String.{string_bytes};
-ghost use Rattle.pw_gen.specs.Generator.{after, answer, declaration, drawn, factor_part, mask_part, member, next_declaration};
+ghost use Rattle.pw_gen.specs.Generator.{after, answer, declaration, drawn, factor_part, functions_of_a_module, mask_part, member, next_declaration};
 
 use std::alloc::{AllocError, Global};
 
 /// How many functions a module has.
 pub const FUNCTIONS: u32 = 8;
+
+/// The count of functions is the one that the definitions speak of.
+pub fn functions_of_a_module()
+    ensures { FUNCTIONS ≡ functions_of_a_module }
+{}
 
 /// What follows on a number.
 fn next(number: u32) -> u32
@@ -50,7 +55,7 @@ pub fn declaration(alloc: Global, k: u32, j: u32) -> Result<String, AllocError>
 /// What a function gives back.
 fn answer(alloc: Global, count: u32, k: u32, j: u32) -> Result<String, AllocError>
     requires small { k < 2 ^ 16 }
-    requires functions { j < 8 }
+    requires functions { j < functions_of_a_module }
     ensures { IfOk result (λ s. string_bytes s ≡ answer count k j) }
 {
     if j + 1 < FUNCTIONS {
@@ -64,7 +69,7 @@ fn answer(alloc: Global, count: u32, k: u32, j: u32) -> Result<String, AllocErro
 
 /// Adds the declaration of the next function of the module, where there is one.
 fn add_next_declaration(alloc: Global, out: &mut Vec<u8>, k: u32, j: u32) -> Result<(), AllocError>
-    requires { j < 8 }
+    requires { j < functions_of_a_module }
     ensures { OnOk result (out.new.items ≡ out.old.items ++ next_declaration k j) }
 {
     if j + 1 < FUNCTIONS {
@@ -85,7 +90,7 @@ pub fn add_member(
 ) -> Result<(), AllocError>
     requires some { 0 < count }
     requires small { k < 2 ^ 16 }
-    requires functions { j < 8 }
+    requires functions { j < functions_of_a_module }
     ensures added { OnOk result (out.new.items ≡ out.old.items ++ member count k j state.old) }
     ensures state { OnOk result (state.new ≡ after 3 state.old) }
 {

@@ -4,4 +4,5 @@
 mod functions;
 mod modules;
 
+pub use functions::{FUNCTIONS, functions_of_a_module};
 pub use modules::generate;

@@ -49,7 +49,7 @@ fn add_members(
     requires some { 0 < count }
     requires small { k < 2 ^ 16 }
     ensures added { OnOk result (out.new.items ≡ out.old.items ++ members count k functions_of_a_module state.old) }
-    ensures state { OnOk result (state.new ≡ after 24 state.old) }
+    ensures state { OnOk result (state.new ≡ after (3 * functions_of_a_module) state.old) }
 {
     for j in 0..FUNCTIONS {
         add_member(alloc, out, count, k, j, state)?;
@@ -63,7 +63,7 @@ fn module_text(alloc: Global, count: u32, k: u32, state: &mut u32) -> Result<Vec
     requires some { 0 < count }
     requires small { k < 2 ^ 16 }
     ensures text { (number : ℕ) → state.old ≡ after (draws_before k) number → IfOk result (λ v. v.items ≡ module_text number count k) }
-    ensures state { OnOk result (state.new ≡ after 24 state.old) }
+    ensures state { OnOk result (state.new ≡ after (3 * functions_of_a_module) state.old) }
 {
     let mut out = Vec::new(alloc);
     out.extend_from_slice(format!(in alloc; "unsigned g{k};\n")?.as_bytes())?;

@@ -6,7 +6,7 @@ use Rattle.pw_machine.proofs.Runs.{run_of-stays_at}
 use Rattle.pw_sum.specs.SumProgram.{IsSumProgram, numbers_in}
 use Rattle.pw_sum.specs.SourceRun.{source_run}
 use Rattle.pw_sum.specs.Code.{words_of}
-use Rattle.pw_sum.specs.Built.{EndsWithin, FramesFit, core_of, frames_of, rooms_of}
+use Rattle.pw_sum.specs.Built.{EndsWithin, FramesFit, core_of, frames_of, rooms_of, sum_steps}
 use Rattle.pw_agreement.specs.Agreement.{Agree}
 use Rattle.pw_front.specs.declared.refusal.Refusal.{Refusal}
 use Rattle.pw_modules.specs.Modules.{Source, modules_of}
@@ -22,7 +22,7 @@ use Rattle.pw_answer.specs.Outcomes.{Answers}
 pub record Laws : Type 0 where
   pub form : (text numbers : List ℕ) → (numbers_in text ≡ Some numbers) ↔ IsSumProgram text numbers
   pub agree : (text numbers input : List ℕ) (stack : ℕ) → IsSumProgram text numbers → Agree (source_run (frames_of numbers) stack numbers) (core_of (words_of numbers)) input
-  pub end : (text numbers input : List ℕ) → IsSumProgram text numbers → EndsWithin 402 (sum numbers % 256) (words_of numbers) input
+  pub end : (text numbers input : List ℕ) → IsSumProgram text numbers → EndsWithin sum_steps (sum numbers % 256) (words_of numbers) input
   pub fit : (numbers : List ℕ) → FramesFit (frames_of numbers) (rooms_of numbers)
 
 -- what files come to, by the modules that were read of them
@@ -53,7 +53,7 @@ unfolding full_build
 full_agrees laws files = found_agrees laws (modules_of files) (first_refused (modules_of files))
 
 -- the answer to a run of words that may take as many steps as they have
-run_ends_so : (budget : ℕ) (numbers input : List ℕ) (status : ℕ) → EndsWithin 402 status (words_of numbers) input → 402 ≤ budget → run_answer (run_built budget numbers input) ≡ Ended status
+run_ends_so : (budget : ℕ) (numbers input : List ℕ) (status : ℕ) → EndsWithin sum_steps status (words_of numbers) input → sum_steps ≤ budget → run_answer (run_built budget numbers input) ≡ Ended status
 unfolding run_built
 run_ends_so budget numbers input status h far = ap run_answer (run_of-stays_at h.steps budget _ h.last _ (omega (arith, h.few, far)) h.is)
 

@@ -11,7 +11,7 @@ use Rattle.pw_go.specs.FullBuild.{Build}
 use Rattle.pw_sum.specs.Code.{words_of}
 use Rattle.pw_agreement.specs.Agreement.{Agree}
 use Rattle.pw_sum.specs.SourceRun.{source_run}
-use Rattle.pw_sum.specs.Built.{EndsWithin, FramesFit, core_of, start_of, frames_of, rooms_of}
+use Rattle.pw_sum.specs.Built.{EndsWithin, FramesFit, core_of, start_of, frames_of, rooms_of, sum_steps}
 
 -- ---- the built program's run
 
@@ -40,11 +40,11 @@ refused_line (build.LinkRefused fault) = 1
 
 -- ---- agreement of source and machine, for every input
 
--- The words of a sum program agree with it at every bound, on a stack of every size. Their run ends within 402
--- steps with the low 8 bits of the sum, and each frame is within its function's room.
+-- The words of a sum program agree with it at every bound, on a stack of every size. Their run ends within
+-- `sum_steps` steps with the low 8 bits of the sum, and each frame is within its function's room.
 pub record SumAgrees (numbers : List ℕ) : Type 0 where
   pub agree : (stack : ℕ) (input : List ℕ) → Agree (source_run (frames_of numbers) stack numbers) (core_of (words_of numbers)) input
-  pub end : (input : List ℕ) → EndsWithin 402 (sum numbers % 256) (words_of numbers) input
+  pub end : (input : List ℕ) → EndsWithin sum_steps (sum numbers % 256) (words_of numbers) input
   pub fit : FramesFit (frames_of numbers) (rooms_of numbers)
 
 abbrev pub BuiltAgrees : Build → Type 0
@@ -52,10 +52,10 @@ BuiltAgrees (build.Program numbers) = SumAgrees numbers
 BuiltAgrees (build.Refused name refusal line) = Unit {0}
 BuiltAgrees (build.LinkRefused fault) = Unit {0}
 
--- Where the build is a program and 402 steps may be taken, it ends with the low 8 bits of its sum; faults and want of
+-- Where the build is a program and `sum_steps` steps may be taken, it ends with the low 8 bits of its sum; faults and want of
 -- memory may come in place of that answer.
 abbrev pub ReturnsSum : ℕ → Build → Answer → Type 0
-ReturnsSum budget (build.Program numbers) answer = 402 ≤ budget → Answers (Ended (sum numbers % 256)) answer
+ReturnsSum budget (build.Program numbers) answer = sum_steps ≤ budget → Answers (Ended (sum numbers % 256)) answer
 ReturnsSum budget (build.Refused name refusal line) answer = Unit {0}
 ReturnsSum budget (build.LinkRefused fault) answer = Unit {0}
 

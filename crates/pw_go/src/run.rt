@@ -11,12 +11,11 @@ use pw_answer::Answer;
 use pw_io::{Sink, Source};
 use pw_machine::Machine;
 use pw_running::run_machine;
+use pw_value::limits::STACK_LEAST;
 use std::alloc::{AllocError, Global};
 
-/// The bytes of the stack. The words of a sum program need none of it, so that each size gives the same run.
-const STACK: u32 = 1_048_576;
-
-/// Runs words from their first on, for at most `budget` instructions.
+/// Runs words from their first on, for at most `budget` instructions. The words of a sum program need no stack: it has
+/// the least size, and each size gives the same run.
 pub fn run_words<I: Source, O: Sink>(
     alloc: Global,
     words: &[u32],
@@ -33,7 +32,7 @@ pub fn run_words<I: Source, O: Sink>(
     ensures write { OutputCount (O.faults out.old) (O.faults out.new) result }
     ensures run { IsRunAnswer result }
 {
-    match Machine::from_words(alloc, words, STACK) {
+    match Machine::from_words(alloc, words, STACK_LEAST) {
         Ok(mut machine) => run_machine(&mut machine, input, out, budget),
         Err(AllocError) => Answer::NoMemory,
     }

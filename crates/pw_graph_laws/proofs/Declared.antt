@@ -7,7 +7,7 @@ use Rattle.std.specs.Str.{bytes_eq}
 use Rattle.std.proofs.lemmas.Slice.Eq.{bytes_eq-Decides}
 use Rattle.std.proofs.lemmas.List.Elements.{recursion_from_All}
 use Rattle.pw_value.specs.Shapes.{Agree, Begins}
-use Rattle.pw_value.specs.ProgramNames.{start_name}
+use Rattle.pw_value.specs.ProgramNames.{start_name, library_functions}
 use Rattle.pw_types.specs.declared.kind.IntKind.TheVariants as K
 use Rattle.pw_types.specs.TypeTrees.{CType, Int, QType, Qualified, type_of, RecordValue}
 use Rattle.pw_types.specs.Shapes.{letter_of, letters_of, shape_of}
@@ -19,7 +19,7 @@ use Rattle.pw_flow.specs.declared.flow.FlowGlobal.{FlowGlobal}
 use Rattle.pw_flow.specs.declared.flow.FlowFn.{FlowFn}
 use Rattle.pw_flow.specs.declared.flow.FlowModule.{FlowModule}
 use Rattle.pw_flowrun.specs.Programs as flows
-use Rattle.pw_flowrun.specs.Programs.{library_names, names_of, globals_of}
+use Rattle.pw_flowrun.specs.Programs.{names_of, globals_of}
 use Rattle.pw_lower.specs.Modules.{lowered_function, start_function, start_of, lowered_global, lowered_declared, lowered}
 use Rattle.pw_cmean.specs.Worlds.{Program, ProgramModule, Callable, callable, library, function_named}
 use Rattle.pw_cmean.specs.Worlds as source
@@ -95,7 +95,7 @@ by_name p name c h e = finds (λ (f : Callable). bytes_eq f.name name) (source.f
 named_there : (p : Program) (name : List ℕ) (c : Callable) → function_named p name ≡ Some c → Has c (source.functions_of p)
 named_there p name c e = (found (λ (f : Callable). bytes_eq f.name name) (source.functions_of p) c e).0
 
-library_called : (name : List ℕ) → Has name library_names → (c : Callable) × Has c library × (c.name ≡ name)
+library_called : (name : List ℕ) → Has name library_functions → (c : Callable) × Has c library × (c.name ≡ name)
 library_called name (inl e) = (_, inl refl, e)
 library_called name (inr (inl e)) = (_, inr (inl refl), e)
 library_called name (inr (inr (inl e))) = (_, inr (inr (inl refl)), e)
@@ -106,7 +106,7 @@ module _ (p : Program) (frame_of : List ℕ → ℕ) (stack : ℕ) where
   named_callable name h ordinary =
       let q = flow_program p frame_of stack in
       let rest = flat_map (λ (m : ProgramModule). map (callable m) m.tree.functions) p.modules in
-      elim (has_split name library_names (map (λ (f : FlowFn). f.name) (flows.functions_of q)) h) [
+      elim (has_split name library_functions (map (λ (f : FlowFn). f.name) (flows.functions_of q)) h) [
         | inl k ↦ let c = library_called name k in by_name p name c.0 (has_left c.0 library rest c.1) c.2
         | inr k ↦
             let f = has_map_back (λ (f : FlowFn). f.name) name (flows.functions_of q) k in

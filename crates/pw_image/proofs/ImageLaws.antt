@@ -21,7 +21,7 @@ use Rattle.pw_value.proofs.NameLaws.{names_spell, name_spells, AllUsed, all_used
 use Rattle.pw_image.specs.declared.image.Function.{Function}
 use Rattle.pw_image.specs.declared.image.GlobalObject.{GlobalObject}
 use Rattle.pw_image.specs.declared.image.Image.{Image}
-use Rattle.pw_image.specs.Image.{Item, MemoryValue, ImageValue, Contents, IsInText, data_start, free_behind, AreItems, IsContents, IsImageFile, view, item, memory, function, global, names_of, spelling, kind}
+use Rattle.pw_image.specs.Image.{Item, MemoryValue, ImageValue, Contents, IsInText, data_start, free_behind, AreItems, IsContents, IsImageFile, view, item, memory, function, global, names_of, spelling, kind, image_version}
 use Rattle.pw_image.specs.Reading.{is_in_text, item_at, next_free, memory_at, function_at, global_at, start_at, is_lawful_start, contents_at, payload_at, image_file_at, image_of}
 
 -- ---- addresses
@@ -305,11 +305,11 @@ payload_spells = record {
 
 pub image_takes : (bytes : List ℕ) (c : Contents) → AreBytes bytes → image_file_at bytes ≡ Ok c → IsImageFile bytes c
 unfolding image_file_at
-image_takes bytes c fits e = file_takes kind 1 1 (λ version. spelling) (λ version. IsContents) (λ version. payload_at) (λ v f l. payload_spells) bytes c fits e
+image_takes bytes c fits e = file_takes kind image_version image_version (λ version. spelling) (λ version. IsContents) (λ version. payload_at) (λ v f l. payload_spells) bytes c fits e
 
 pub image_again : (bytes : List ℕ) (c : Contents) → IsImageFile bytes c → image_file_at bytes ≡ Ok c
 unfolding image_file_at
-image_again bytes c is = file_again kind 1 1 (λ version. spelling) (λ version. IsContents) (λ version. payload_at) (lit< tt) (lit< tt) (λ v f l. payload_spells) bytes c is
+image_again bytes c is = file_again kind image_version image_version (λ version. spelling) (λ version. IsContents) (λ version. payload_at) (lit< tt) (lit< tt) (λ v f l. payload_spells) bytes c is
 
 -- ---- the same of what a function returned
 

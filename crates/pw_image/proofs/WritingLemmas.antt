@@ -11,7 +11,7 @@ use Rattle.pw_value.proofs.NameLaws.{AllUsed, used_by_table}
 use Rattle.pw_image.specs.declared.image.DataItem.{DataItem}
 use Rattle.pw_image.specs.declared.image.Function.{Function}
 use Rattle.pw_image.specs.declared.image.GlobalObject.{GlobalObject}
-use Rattle.pw_image.specs.Image.{ImageValue, AreItems, IsContents, IsImageFile, free_behind, item_view, names_of, spelling, kind}
+use Rattle.pw_image.specs.Image.{ImageValue, AreItems, IsContents, IsImageFile, free_behind, item_view, names_of, spelling, kind, image_version}
 
 texts_by : (size free : ℕ) (items : List DataItem) → size < 2 ^ 32 → AreItems size free (map item_view items) → AllByRecursion (λ i. FitsText i.bytes.items) items
 texts_by size free [] below are = tt
@@ -40,7 +40,7 @@ table_is names used count table = record { count = count; rising = table.rising 
 
 -- what is written is the image's file
 pub written : {E : Type 0} (names : List (List ℕ)) (v : ImageValue) (payload : List ℕ) (r : Result (Vec ℕ) E) → IsContents (record { names = names; image = v }) → payload ≡ spelling (record { names = names; image = v }) → OnOk r (FitsFile payload)
-    → IfOk r (λ w. w.items ≡ file kind 1 payload) → IfOk r (λ w. (ns : List (List ℕ)) × IsImageFile w.items (record { names = ns; image = v }))
+    → IfOk r (λ w. w.items ≡ file kind image_version payload) → IfOk r (λ w. (ns : List (List ℕ)) × IsImageFile w.items (record { names = ns; image = v }))
 written names v payload (Ok w) is same room made =
-    (names, record { version = 1; not_below = omega arith; not_above = omega arith; fits = is; room = subst FitsFile same room; spelled = made ∙ ap (file kind 1) same })
+    (names, record { version = image_version; not_below = omega arith; not_above = omega arith; fits = is; room = subst FitsFile same room; spelled = made ∙ ap (file kind image_version) same })
 written names v payload (Err e) is same room made = tt

@@ -122,6 +122,10 @@ pub record IsContents (c : Contents) : Type 0 where
 abbrev pub kind : ℕ
 kind = 0x50415749
 
+-- the version of the form of an image file
+abbrev pub image_version : ℕ
+image_version = 1
+
 -- the bytes are the image file of the contents
 abbrev pub IsImageFile : List ℕ → Contents → Type 0
-IsImageFile bytes c = IsFileOf kind 1 1 (λ version. spelling) (λ version. IsContents) bytes c
+IsImageFile bytes c = IsFileOf kind image_version image_version (λ version. spelling) (λ version. IsContents) bytes c

@@ -1,12 +1,13 @@
 -- Reading an image file from left to right, with the first fault that is met.
 use Rattle.std.specs.Prelude.{ℕ, ◌+◌, ◌*◌, ◌%◌, List, length, Result, Ok, Err, Option, Some, None, Bool, false, nat_le, nat_lt, ◌==◌, ◌&&◌, if◌then◌else◌}
 use Rattle.pw_value.specs.Limits.{text_start, word_limit, memory_size}
-use Rattle.pw_value.specs.Fields.{◌>>=◌, done, checked, u32_at, bytes_at, text_at, items_at, repeated}
+use Rattle.pw_value.specs.Fields.{◌>>=◌, done, checked, u32_at, bytes_at, items_at, repeated}
 use Rattle.pw_value.specs.FieldFrame.{here, ended, file_at}
 use Rattle.pw_value.specs.FieldNames.{names_at, name_at, first_unused}
+use Rattle.pw_files.specs.Places.{offset_at, item_bytes_at}
 use Rattle.pw_image.specs.declared.image.Function.{Function}
 use Rattle.pw_image.specs.declared.image.GlobalObject.{GlobalObject}
-use Rattle.pw_image.specs.Image.{Item, MemoryValue, ImageValue, Contents, data_start, free_behind, names_of, kind}
+use Rattle.pw_image.specs.Image.{Item, MemoryValue, ImageValue, Contents, data_start, free_behind, names_of, kind, image_version}
 
 abbrev pub is_in_text : ℕ → ℕ → Bool
 is_in_text words address = (address % 4 == 0) && (nat_le text_start address && nat_lt address (text_start + 4 * words))
@@ -15,8 +16,8 @@ is_in_text words address = (address % 4 == 0) && (nat_le text_start address && n
 
 unfoldable pub item_at : ℕ → ℕ → List ℕ → Result (Item × List ℕ) ℕ
 item_at size free = do
-  offset ← checked (λ o. nat_le free o && nat_le o size) u32_at
-  bytes ← checked (λ b. nat_le (offset + length b) size) text_at
+  offset ← offset_at size free
+  bytes ← item_bytes_at size offset
   done (record { offset = offset; bytes = bytes })
 
 abbrev pub next_free : ℕ → Item → ℕ
@@ -84,7 +85,7 @@ unfoldable pub payload_at : List ℕ → Result (Contents × List ℕ) ℕ
 payload_at bytes = if is_lawful_start (start_at bytes) then contents_at bytes else Err (length bytes)
 
 unfoldable pub image_file_at : List ℕ → Result Contents ℕ
-image_file_at bytes = file_at kind 1 1 (λ version. payload_at) bytes
+image_file_at bytes = file_at kind image_version image_version (λ version. payload_at) bytes
 
 -- the image alone
 abbrev pub image_of : Result Contents ℕ → Result ImageValue ℕ

@@ -1,7 +1,7 @@
 //! Reading an image file.
 
-ghost use Rattle.std.specs.Prelude.{◌≡◌, ◌≢◌, ◌+◌, ℕ, nat_le, ◌&&◌, List, length, map, IfOk, IfErr, Ok};
-ghost use Rattle.pw_value.specs.Fields.{u32_at, text_at, items_at, repeated, checked};
+ghost use Rattle.std.specs.Prelude.{◌≡◌, ◌≢◌, ◌+◌, ℕ, nat_le, List, length, map, IfOk, IfErr, Ok};
+ghost use Rattle.pw_value.specs.Fields.{u32_at, items_at, repeated, checked};
 ghost use Rattle.std.specs.Prelude.{◌<◌, ◌^◌};
 ghost use Rattle.std.specs.List.{flat_map};
 ghost use Rattle.pw_value.specs.Fields.{text};
@@ -12,15 +12,19 @@ ghost use Rattle.pw_image.specs.Image.{Contents, ImageValue, data_start, free_be
 ghost use Rattle.pw_image.specs.Reading.{is_in_text, item_at, next_free, memory_at, function_at, global_at, start_at, is_lawful_start, contents_at, broken_at, payload_at, image_file_at, image_of};
 
 use crate::image::{DataItem, Function, GlobalObject, Image, Memory};
+use pw_files::places::{read_item_bytes, read_offset};
 use pw_value::fields::frame::{check_digest, open};
 use pw_value::fields::names::{find_unused, read_name, read_names};
-use pw_value::fields::{FieldError, read_bytes, read_text_in_place, read_u32};
+use pw_value::fields::{FieldError, read_bytes, read_u32};
 use pw_value::limits::{MEMORY_SIZE, TEXT_START, WORD_LIMIT};
 use pw_value::{FileError, Name};
 use std::alloc::{AllocError, Global};
 
 /// `PAWI`, the first four bytes of an image file.
 pub const KIND: u32 = 0x5041_5749;
+
+/// The version of the form of an image file.
+pub(crate) const VERSION: u32 = 1;
 
 /// Whether an address is that of a word, in a text of so many words.
 fn is_word_address(words: u64, address: u32) -> bool
@@ -65,32 +69,6 @@ fn read_data_size(words: u32, stack_end: u32, bytes: &[u8]) -> Result<(u32, &[u8
     let start = (u64::from(TEXT_START) + 4 * u64::from(words) + 7) / 8 * 8;
     if start + u64::from(size) <= u64::from(stack_end) {
         Ok((size, rest))
-    } else {
-        Err(FieldError::Fault { left: bytes.len() })
-    }
-}
-
-/// The offset of an item, from `free` to the data's size.
-fn read_offset(size: u32, free: u64, bytes: &[u8]) -> Result<(u32, &[u8]), FieldError>
-    ensures read { Gives (λ x. (x.0, x.1.now)) result (checked (λ o. nat_le free o && nat_le o size) u32_at bytes.now) }
-    ensures no_memory { IfErr result (λ e. e ≢ FieldError.NoMemory) }
-{
-    let (offset, rest) = read_u32(bytes)?;
-    if free <= u64::from(offset) && offset <= size {
-        Ok((offset, rest))
-    } else {
-        Err(FieldError::Fault { left: bytes.len() })
-    }
-}
-
-/// The bytes of an item at the offset, inside the data.
-fn read_item_bytes(size: u32, offset: u32, bytes: &[u8]) -> Result<(&[u8], &[u8]), FieldError>
-    ensures read { Gives (λ x. (x.0.now, x.1.now)) result (checked (λ b. nat_le (offset + length b) size) text_at bytes.now) }
-    ensures no_memory { IfErr result (λ e. e ≢ FieldError.NoMemory) }
-{
-    let (text, rest) = read_text_in_place(bytes)?;
-    if offset <= size && text.len() <= (size - offset) as usize {
-        Ok((text, rest))
     } else {
         Err(FieldError::Fault { left: bytes.len() })
     }
@@ -366,7 +344,7 @@ fn read_payload(alloc: Global, bytes: &[u8]) -> Result<((Vec<Name>, Image), &[u8
 fn read_file(alloc: Global, bytes: &[u8]) -> Result<(Vec<Name>, Image), FileError>
     ensures { GivesFile contents_view result (image_file_at bytes.now) }
 {
-    let opened = open(KIND, 1, 1, bytes)?;
+    let opened = open(KIND, VERSION, VERSION, bytes)?;
     match read_payload(alloc, opened.payload) {
         Err(e) => Err(e.at(opened.end)),
         Ok((contents, _)) => {

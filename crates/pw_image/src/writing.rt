@@ -8,22 +8,12 @@ ghost use Rattle.pw_value.specs.FieldNames.{IsNameTable, IsTableOf};
 ghost use Rattle.pw_image.specs.Image.{Contents, IsMemory, IsImage, IsContents, IsImageFile, item as item_text, memory as memory_text, function as function_text, global as global_text, item_view, memory_view, view, names_of, spelling};
 
 use crate::image::{DataItem, Function, GlobalObject, Image, Memory};
-use crate::reading::{KIND, used_names};
-use pw_files::writing::{make_table, push_count, seal_payload};
+use crate::reading::{KIND, VERSION, used_names};
+use pw_files::writing::{make_table, push_count, push_words, seal_payload};
 use pw_value::Name;
 use pw_value::fields::names::{push_name, push_names};
 use pw_value::fields::writing::{push_text, push_u32};
 use std::alloc::{AllocError, Global};
-
-/// The words of the text.
-fn push_words(out: &mut Vec<u8>, words: &[u32]) -> Result<(), AllocError>
-    ensures { OnOk result (out.new.items ≡ out.old.items ++ flat_map u32 words.now) }
-{
-    for word in words {
-        push_u32(out, *word)?;
-    }
-    Ok(())
-}
 
 /// An item of the data.
 fn push_item(out: &mut Vec<u8>, item: &DataItem) -> Result<(), AllocError>
@@ -181,5 +171,5 @@ pub fn write_image(alloc: Global, image: &Image) -> Result<Vec<u8>, AllocError>
     let used = used_names(alloc, image)?;
     let names = make_table(alloc, used)?;
     let payload = write_payload(alloc, &names, image)?;
-    seal_payload(alloc, KIND, 1, &payload)
+    seal_payload(alloc, KIND, VERSION, &payload)
 }

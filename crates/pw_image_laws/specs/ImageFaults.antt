@@ -4,7 +4,7 @@ use Rattle.pw_value.specs.Fields.{◌>>=◌, u32_at, repeated}
 use Rattle.pw_value.specs.FieldFrame.{ended, opened_at}
 use Rattle.pw_value.specs.FieldNames.{names_at}
 use Rattle.pw_files.specs.Faults.{OfPayload, StaysFault, unsealed}
-use Rattle.pw_image.specs.Image.{ImageValue, Contents, kind}
+use Rattle.pw_image.specs.Image.{ImageValue, Contents, kind, image_version}
 use Rattle.pw_image.specs.Reading.{memory_at, function_at, global_at, start_at, is_lawful_start, image_file_at, image_of}
 
 -- the fields of an image's payload, without the rules on several of them: that the entry is the address of a word, and
@@ -30,5 +30,5 @@ read bytes = image_of (image_file_at bytes)
 -- the bytes up to the faulty field's end.
 pub record ImageFaultsStay : Type 0 where
   pub within : (bytes : List ℕ) (at : ℕ) → read bytes ≡ Err at → at ≤ length bytes
-  pub stays : (bytes : List ℕ) (at : ℕ) → unsealed (λ version. fields_at) (opened_at kind 1 1 bytes) ≡ Err at → OfPayload kind HasEntry bytes
-      → (read bytes ≡ Err at) × StaysFault (OfPayload kind HasEntry) read bytes at
+  pub stays : (bytes : List ℕ) (at : ℕ) → unsealed (λ version. fields_at) (opened_at kind image_version image_version bytes) ≡ Err at → OfPayload kind image_version HasEntry bytes
+      → (read bytes ≡ Err at) × StaysFault (OfPayload kind image_version HasEntry) read bytes at

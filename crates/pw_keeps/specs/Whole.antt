@@ -1,7 +1,7 @@
 -- The law: lowering keeps the meaning of programs. And what it rests on.
-use Rattle.std.specs.Prelude.{ℕ, ◌≡◌, Some, None, List, [], ◌∷◌, length, codes}
+use Rattle.std.specs.Prelude.{ℕ, ◌≡◌, Some, None, List, [], ◌∷◌, length}
 use Rattle.pw_value.specs.declared.value.Value.TheVariants.{Undefined}
-use Rattle.pw_value.specs.ProgramNames.{main_name}
+use Rattle.pw_value.specs.ProgramNames.{main_name, exit_name}
 use Rattle.pw_flow.specs.declared.flow.Op.TheVariants.{Call}
 use Rattle.pw_flow.specs.declared.flow.End.TheVariants.{Return}
 use Rattle.pw_lower.specs.Modules.{start_function}
@@ -61,7 +61,7 @@ start_machine p input = record {
   frame = record {
     function = start_function;
     block = 0;
-    ops = Call (Some 0) main_name [] ∷ Call None (codes "exit") (0 ∷ []) ∷ [];
+    ops = Call (Some 0) main_name [] ∷ Call None exit_name (0 ∷ []) ∷ [];
     end = Return None;
     temps = Undefined ∷ [];
     base = length (start_objects p);

@@ -1,8 +1,8 @@
 -- From calls that keep their promise to programs that keep their runs: `$start` calls `main`, and `exit` with the result.
-use Rattle.std.proofs.Common.{◌≡◌, ℕ, zero, suc, ◌+◌, ◌%◌, Bool, true, false, true≢false, nat_lt, ltb-false, le-ltb, if◌then◌else◌, Option, Some, None, List, [], ◌∷◌, codes, refl, ap, sym, ◌∙◌, arith}
+use Rattle.std.proofs.Common.{◌≡◌, ℕ, zero, suc, ◌+◌, ◌%◌, Bool, true, false, true≢false, nat_lt, ltb-false, le-ltb, if◌then◌else◌, Option, Some, None, List, [], ◌∷◌, refl, ap, sym, ◌∙◌, arith}
 use Rattle.pw_value.specs.declared.value.Value.{Value}
 use Rattle.pw_value.specs.declared.value.Value.TheVariants as V
-use Rattle.pw_value.specs.ProgramNames.{main_name, start_name}
+use Rattle.pw_value.specs.ProgramNames.{main_name, exit_name, start_name}
 use Rattle.pw_flow.specs.declared.flow.Op.TheVariants as op
 use Rattle.pw_cmean.specs.Worlds.{World, Callable, Body, Defined, Library, function_named, depth}
 use Rattle.pw_cmean.specs.Acts as source
@@ -77,19 +77,19 @@ body_room w (suc n) name shape (Defined home f) args s e = had_room (nat_lt w.st
 
 -- ---- the end of `$start`
 
-no_frame : (frame_of : List ℕ → ℕ) → NoneForLibrary frame_of → frame_of (codes "exit") ≡ 0
-no_frame frame_of none = none (codes "exit") (0, omega arith, refl)
+no_frame : (frame_of : List ℕ → ℕ) → NoneForLibrary frame_of → frame_of exit_name ≡ 0
+no_frame frame_of none = none exit_name (0, omega arith, refl)
 
 -- where the frame of `$start` is within the stack, `exit` is called
 exit_fits : (w : World) (main : List ℕ) → NoneForLibrary w.frame_of → nat_lt w.stack (depth w (main ∷ start_name ∷ [])) ≡ false
-    → nat_lt w.stack (w.frame_of (codes "exit") + (w.frame_of start_name + 0)) ≡ false
+    → nat_lt w.stack (w.frame_of exit_name + (w.frame_of start_name + 0)) ≡ false
 exit_fits w main none fits =
-    le-ltb w.stack (w.frame_of (codes "exit") + (w.frame_of start_name + 0))
+    le-ltb w.stack (w.frame_of exit_name + (w.frame_of start_name + 0))
     (omega (arith, no_frame w.frame_of none, ltb-false w.stack (depth w (main ∷ start_name ∷ [])) fits))
 
 -- the frame of `$start` when `main` has returned
 abbrev returned_to : flows.Program → List ℕ → Value → flow.Frame
-returned_to p input v = record (start_machine p input).frame { ops = op.Call None (codes "exit") (0 ∷ []) ∷ []; temps = v ∷ [] }
+returned_to p input v = record (start_machine p input).frame { ops = op.Call None exit_name (0 ∷ []) ∷ []; temps = v ∷ [] }
 
 abbrev stopped_at : flows.Program → List ℕ → Value → Machine → Machine
 stopped_at p input v m = record m { frame = record (returned_to p input v) { ops = [] }; callers = [] }
@@ -98,18 +98,18 @@ chosen : {A : Type 0} (b : Bool) (x y : A) → b ≡ false → (if b then x else
 chosen b x y e = ap (λ (c : Bool). if c then x else y) e
 
 exits : (w : World) (input : List ℕ) (k : ℕ) (m : Machine)
-    → nat_lt w.stack (w.frame_of (codes "exit") + (w.frame_of start_name + 0)) ≡ false
+    → nat_lt w.stack (w.frame_of exit_name + (w.frame_of start_name + 0)) ≡ false
     → flow.step (graphs w) (record m { frame = returned_to (graphs w) input (V.Num k); callers = [] })
     ≡ Stopped (run.Ended (k % 256)) (stopped_at (graphs w) input (V.Num k) m)
 unfolding flow.step command
 exits w input k m fits =
-    chosen (nat_lt w.stack (w.frame_of (codes "exit") + (w.frame_of start_name + 0)))
+    chosen (nat_lt w.stack (w.frame_of exit_name + (w.frame_of start_name + 0)))
     (Stopped run.StackFull (stopped_at (graphs w) input (V.Num k) m)) (Stopped (run.Ended (k % 256)) (stopped_at (graphs w) input (V.Num k) m)) fits
 
 -- `main` has returned a number: the run ends with it
 ends_with : (w : World) (input : List ℕ) (spots : List _) (k : ℕ) (s : State) (m n : Machine)
-    → nat_lt w.stack (w.frame_of (codes "exit") + (w.frame_of start_name + 0)) ≡ false
-    → (reach : Reaches (graphs w) m (HasReturned w spots (Some 0) (op.Call None (codes "exit") (0 ∷ []) ∷ []) (start_state w.program input) (start_machine (graphs w) input) (Some (V.Num k)) s))
+    → nat_lt w.stack (w.frame_of exit_name + (w.frame_of start_name + 0)) ≡ false
+    → (reach : Reaches (graphs w) m (HasReturned w spots (Some 0) (op.Call None exit_name (0 ∷ []) ∷ []) (start_state w.program input) (start_machine (graphs w) input) (Some (V.Num k)) s))
     → Stops w (run.Ended (k % 256)) m s
 unfolding steps
 ends_with w input spots k s m n fits reach =
@@ -134,8 +134,8 @@ at_start w input = start_machine (graphs w) input
 -- what `main` came to, and what comes behind it
 finishes : (w : World) (input : List ℕ) (n : ℕ) (spots : List _) (f : Callable) (result : Option Value) (s : State)
     → start (graphs w) input ≡ On (at_start w input)
-    → nat_lt w.stack (w.frame_of (codes "exit") + (w.frame_of start_name + 0)) ≡ false
-    → Reaches (graphs w) (at_start w input) (HasReturned w spots (Some 0) (op.Call None (codes "exit") (0 ∷ []) ∷ []) (start_state w.program input) (at_start w input) result s)
+    → nat_lt w.stack (w.frame_of exit_name + (w.frame_of start_name + 0)) ≡ false
+    → Reaches (graphs w) (at_start w input) (HasReturned w spots (Some 0) (op.Call None exit_name (0 ∷ []) ∷ []) (start_state w.program input) (at_start w input) result s)
     → Met (MomentKept (graphs w)) (staged n (finish f.body result s)) (flow_run (graphs w) input)
 unfolding finish stop undefined wrong
 finishes w input n spots f (Some (V.Num k)) s starts fits reach =
@@ -153,7 +153,7 @@ finishes w input n spots f (Some (V.Piece q i)) s starts fits reach = tt
 goes : (w : World) (input : List ℕ) (n : ℕ) (spots : List _) (f : Callable) (o : Outcome (Option Value))
     → NoneForLibrary w.frame_of → start (graphs w) input ≡ On (at_start w input)
     → call w (calls w n) f [] (start_state w.program input) ≡ o
-    → Meets w n (at_start w input) o (HasReturned w spots (Some 0) (op.Call None (codes "exit") (0 ∷ []) ∷ []) (start_state w.program input) (at_start w input))
+    → Meets w n (at_start w input) o (HasReturned w spots (Some 0) (op.Call None exit_name (0 ∷ []) ∷ []) (start_state w.program input) (at_start w input))
     → Met (MomentKept (graphs w)) (staged n (go_on o (λ result. finish f.body result))) (flow_run (graphs w) input)
 unfolding go_on
 goes w input n spots f (Gives result s) none starts is meets =
@@ -167,7 +167,7 @@ goes w input n spots f (Ends source.Wrong s) none starts is meets = tt
 
 -- the first step of `$start`
 calls_main : (w : World) (input : List ℕ) → flow.step (graphs w) (at_start w input)
-    ≡ flow.calls (graphs w) (Some 0) main_name [] (record (at_start w input) { frame = record (at_start w input).frame { ops = op.Call None (codes "exit") (0 ∷ []) ∷ [] } })
+    ≡ flow.calls (graphs w) (Some 0) main_name [] (record (at_start w input) { frame = record (at_start w input).frame { ops = op.Call None exit_name (0 ∷ []) ∷ [] } })
 unfolding flow.step command
 calls_main w input = refl
 
@@ -178,7 +178,7 @@ unfolding need give stop wrong ◌>>=◌ go_on
 runs_main w input n None keep lowerable st is = tt
 runs_main w input n (Some f) keep lowerable st is =
     goes w input n st.spots f (call w (calls w n) f [] (start_state w.program input)) lowerable.library st.starts refl
-    (keep n w st.spots main_name f [] [] (Some 0) (op.Call None (codes "exit") (0 ∷ []) ∷ []) (start_state w.program input) (at_start w input) lowerable is (st.main f is) tt st.matches (calls_main w input))
+    (keep n w st.spots main_name f [] [] (Some 0) (op.Call None exit_name (0 ∷ []) ∷ []) (start_state w.program input) (at_start w input) lowerable is (st.main f is) tt st.matches (calls_main w input))
 
 pub programs_keep : ((n : ℕ) → CallsKeep n) → StartsMatch → ProgramsKeepRuns
 unfolding source_stages run_main

@@ -244,11 +244,12 @@ fn are_parts_lawful(flow: &FlowModule) -> bool
 }
 
 /// Whether a module is lawful: each index is below its count; names are distinct, those of objects and
-/// functions taken together and those that are declared; a function has at most 127 parameters, at
-/// least as many temporaries and a block, and its temporaries and slots come to 1,048,576 bytes at
-/// most; a call has at most 127 arguments; a scalar has its kind's size; items rise inside their object
-/// and do not overlap; a copy is of a positive number of units of 1, 2 or 4 bytes; the functions include
-/// `$start` exactly where they include `main`, and no object, item or operation names `$start`.
+/// functions taken together and those that are declared; a function has at most `PARAMETER_LIMIT`
+/// parameters, at least as many temporaries and a block, and its temporaries and slots come to
+/// `ROOM_LIMIT` bytes at most; a call has at most `PARAMETER_LIMIT` arguments; a scalar has its kind's
+/// size; items rise inside their object and do not overlap; a copy is of a positive number of units of
+/// 1, 2 or 4 bytes; the functions include `$start` exactly where they include `main`, and no object,
+/// item or operation names `$start`.
 ///
 /// The work is linear in the module. Memory is taken for the names of what it defines and declares.
 ///

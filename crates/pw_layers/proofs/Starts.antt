@@ -1,5 +1,5 @@
 -- The program has the function that calls `main`, and its frame fits in every stack that may be asked for.
-use Rattle.std.specs.Prelude.{ℕ, ◌≡◌, ◌≢◌, ◌≤◌, Bool, true, false, if◌then◌else◌, List, [], ◌∷◌, ◌++◌, map, codes, Contains}
+use Rattle.std.specs.Prelude.{ℕ, ◌≡◌, ◌≢◌, ◌≤◌, Bool, true, false, if◌then◌else◌, List, [], ◌∷◌, ◌++◌, map, Contains}
 use Rattle.std.specs.List.{flat_map, AllByRecursion}
 use Rattle.std.specs.Str.{bytes_eq}
 use Rattle.std.proofs.Common.{arith, subst, sym, ap, refl, inl, inr, ◌∙◌}
@@ -78,7 +78,7 @@ colon home rest e =
     (subst (λ name. Contains name 58) e (Contains-append_right home (58 ∷ rest) 58 (first_there 58 rest))) refl
 
 is_main_symbol : (home : List ℕ) (s : Symbol) → full_name home s ≡ main_name → is_main s ≡ true
-is_main_symbol home (External x) e = subst (λ x. bytes_eq x (codes "main") ≡ true) (sym e) refl
+is_main_symbol home (External x) e = subst (λ x. bytes_eq x main_name ≡ true) (sym e) refl
 is_main_symbol home (Internal x) e = absurd (colon home x e)
 is_main_symbol home (Hidden k) e = absurd (colon home _ e)
 

@@ -45,31 +45,14 @@ fn is_register(storage: Option<StorageClass>) -> bool
 fn adjusted(alloc: Global, q: QType) -> Result<QType, AllocError>
     ensures { IfOk result (λ made. view_qtype made ≡ spec.adjusted (view_qtype q)) }
 {
-    let QType {
-        ty,
-        constant,
-        volatile,
-    } = q;
-    let ty = match ty {
-        CType::Array(element, _) => return Ok(plain(CType::Pointer(element))),
-        CType::Function(signature) => {
-            let function = QType {
-                ty: CType::Function(signature),
-                constant,
-                volatile,
-            };
-            return Ok(plain(CType::Pointer(Box::new(alloc, function)?)));
+    match &q.ty {
+        CType::Array(element, _) => {
+            let element = copy_qtype(alloc, element)?;
+            Ok(plain(CType::Pointer(Box::new(alloc, element)?)))
         }
-        CType::Void => CType::Void,
-        CType::Int(kind) => CType::Int(kind),
-        CType::Pointer(target) => CType::Pointer(target),
-        CType::Record(number) => CType::Record(number),
-    };
-    Ok(QType {
-        ty,
-        constant,
-        volatile,
-    })
+        CType::Function(_) => Ok(plain(CType::Pointer(Box::new(alloc, q)?))),
+        CType::Void | CType::Int(_) | CType::Pointer(_) | CType::Record(_) => Ok(q),
+    }
 }
 
 /// Whether a parameter has a type, or is `void` alone, which says that there are no parameters.

@@ -17,6 +17,11 @@ use std::alloc::{AllocError, Global};
 /// The greatest count of bytes of an identifier.
 pub const IDENTIFIER_LIMIT: u64 = 255;
 
+/// The limit of an identifier is the one that the definitions speak of.
+pub fn limit_of_an_identifier()
+    ensures { IDENTIFIER_LIMIT ≡ spec.identifier_limit }
+{}
+
 /// A count that passes a limit.
 fn above(most: u64, count: u64) -> Option<u64>
     ensures { result ≡ spec.above most count }

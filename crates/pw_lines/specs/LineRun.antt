@@ -5,7 +5,7 @@ use Rattle.std.specs.Prelude.{ℕ, zero, suc, ℤ, negsuc, ◌+◌, ◌-◌, ◌
 use Rattle.std.specs.List.{flat_map, list_all}
 use Rattle.std.specs.Str.{bytes_eq}
 use Rattle.std.specs.Int.{to_be_bytes, cast_signed, cast_unsigned, w32}
-use Rattle.pw_value.specs.ProgramNames.{start_name, exit_name, getchar_name, putchar_name}
+use Rattle.pw_value.specs.ProgramNames.{start_name, exit_name, getchar_name, putchar_name, library_functions}
 use Rattle.pw_inst.specs.declared.Inst.{Inst}
 use Rattle.pw_inst.specs.declared.Inst.TheVariants.{Combf}
 use Rattle.pw_inst.specs.declared.relocation.Symbol.TheVariants as symbol
@@ -22,7 +22,7 @@ use Rattle.pw_delay.specs.declared.items.Item.TheVariants.{Plain, Turns, Mark}
 use Rattle.pw_run.specs.Runs.{View, Stage, Going, Over, Wrong, Ended, StackFull}
 use Rattle.pw_run.specs.Runs as run
 use Rattle.pw_trace.specs.Traces.{Standing, Event, Called, Returned, Loaded, Stored, kept_registers, with_refusal, touches}
-use Rattle.pw_flowrun.specs.Programs.{Program, Library, GetChar, PutChar, Exit, library_at, library_names, globals_of}
+use Rattle.pw_flowrun.specs.Programs.{Program, Library, GetChar, PutChar, Exit, library_at, globals_of}
 use Rattle.pw_lines.specs.Addresses.{Addresses}
 use Rattle.pw_lines.specs.Acts.{Core, register, put, with_register, Act, Acts, Full, Fails, acts, settled, loaded_at, stored_at}
 use Rattle.pw_lines.specs.Standing.{Active, globals_now}
@@ -252,7 +252,7 @@ linked r address m = record m { core = with_register r address m.core }
 
 -- the function that stands at an address
 abbrev pub function_at : LineProgram → Addresses → ℕ → Option (List ℕ)
-function_at p w a = find (λ f. w.named f == a) (library_names ++ map (λ f. f.located.body.name) p.functions)
+function_at p w a = find (λ f. w.named f == a) (library_functions ++ map (λ f. f.located.body.name) p.functions)
 
 abbrev pub calls_at : LineProgram → Addresses → ℕ → Option (List ℕ) → Machine → Step
 calls_at p w to (Some f) m = calls p w to f m

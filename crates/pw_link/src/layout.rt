@@ -21,6 +21,7 @@ use pw_image::{Image, Memory};
 use pw_object::Object;
 use pw_value::LinkFault;
 use pw_value::limits::{MEMORY_SIZE, TEXT_START, WORD_LIMIT};
+use pw_value::program_names::START;
 use std::alloc::{AllocError, Global};
 
 /// The size of a program's parts.
@@ -31,9 +32,6 @@ struct Sizes {
     stack: u32,
     stack_end: u32,
 }
-
-/// The name at which the machine starts.
-const START_NAME: &[u8] = b"$start";
 
 /// The sizes of a program of so many words without the last and so many bytes of data.
 fn sizes_of(words: u64, bytes: u64, stack: u32) -> Result<Sizes, LinkFault>
@@ -98,7 +96,7 @@ fn memory_of(
 {
     let sites = sites_of(alloc, sizes, text, stood)?;
     Ok(Memory {
-        entry: sites.address(START_NAME),
+        entry: sites.address(START),
         stack: sizes.stack,
         stack_end: sizes.stack_end,
         words: linked_words(alloc, &sites, text)?,

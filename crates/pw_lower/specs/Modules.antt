@@ -1,5 +1,6 @@
 -- Lowering of functions, objects and modules (C90 6.7).
 use Rattle.std.specs.Prelude.{ℕ, suc, ◌+◌, if◌then◌else◌, Bool, false, Some, None, List, [], ◌∷◌, ◌++◌, map, length, replicate, codes, bytes_eq}
+use Rattle.pw_value.specs.ProgramNames.{start_name, main_name, exit_name}
 use Rattle.pw_types.specs.Shapes.{shape_of}
 use Rattle.pw_types.specs.TypeTrees.{type_of, is_volatile, RecordValue}
 use Rattle.pw_types.specs.TypedTrees.{Symbol, External, LocalValue, FunctionValue, ItemValue, ItemBytes, ItemAddress, PlacedItem, GlobalValue, DeclaredValue, ModuleValue}
@@ -92,20 +93,20 @@ lowered_function home records f =
 -- what the program starts with: it calls `main`, and passes the result to `exit`
 abbrev pub start_function : FlowFn
 start_function = record {
-  name = codes "$start";
+  name = start_name;
   shape = codes "fv";
   params = 0;
   temps = 1;
   slots = [];
   blocks = record {
     depth = 0;
-    ops = op.Call (Some 0) (codes "main") [] ∷ op.Call None (codes "exit") (0 ∷ []) ∷ [];
+    ops = op.Call (Some 0) main_name [] ∷ op.Call None exit_name (0 ∷ []) ∷ [];
     end = Return None;
   } ∷ [];
 }
 
 abbrev pub is_main : Symbol → Bool
-is_main (External x) = bytes_eq x (codes "main")
+is_main (External x) = bytes_eq x main_name
 is_main _ = false
 
 -- it stands last in the module that defines a function `main`

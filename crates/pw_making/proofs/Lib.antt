@@ -2,3 +2,4 @@ pub mod LoopLemmas
 pub mod OneAnswer
 pub mod GenuineLaws
 pub mod MadeLemmas
+pub mod CountLemmas

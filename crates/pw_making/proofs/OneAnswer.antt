@@ -1,6 +1,6 @@
--- Flow graphs and kept objects come to one answer.
-use Rattle.std.proofs.Common.{◌≡◌, ℕ, ◌≤◌, ⊎_elim, Bool, true, false, List, [], ◌∷◌, Option, Some, Result, Ok, Err, map, refl, sym, ap, ◌∙◌, subst}
-use Rattle.std.specs.Prelude.{All}
+-- Flow graphs and kept objects come to one answer, and so many objects of theirs are made anew.
+use Rattle.std.proofs.Common.{◌≡◌, ℕ, ◌≤◌, ⊎_elim, inl, inr, Bool, true, false, List, [], ◌∷◌, Option, Some, Result, Ok, Err, map, refl, sym, ap, ◌∙◌, subst}
+use Rattle.std.specs.Prelude.{All, count_by}
 use Rattle.std.specs.List.{AllByRecursion}
 use Rattle.pw_value.specs.declared.fault.LinkFault.{LinkFault}
 use Rattle.pw_program.specs.declared.interface.Interface.{Interface}
@@ -16,6 +16,7 @@ use Rattle.pw_object.specs.declared.object.Object.{Object}
 use Rattle.pw_phases.specs.Phases.{IsObjectOf}
 use Rattle.pw_link.specs.Linking.{AreLinked, IsRefusal}
 use Rattle.pw_making.specs.Programs.{AreObjectsFrom, AreParts, AreSummariesOf, BreakRule, Completes, DirectivesList, HasDatabase, IsModuleFrom, IsObjectFrom, Parts, Stays, first_kept, kept_behind}
+use Rattle.pw_making.specs.Counting.{MakesAnew}
 use Rattle.pw_db.specs.Limits.{colour_limit}
 
 -- the laws on which it stands
@@ -125,3 +126,11 @@ one_answer laws fs kept colours stack (Ok p) (Ok q) few a b = ap Ok (parts_one l
 one_answer laws fs kept colours stack (Ok p) (Err fault) few a b = absurd (made_not_refused laws fs kept colours stack p fault few a b)
 one_answer laws fs kept colours stack (Err fault) (Ok q) few a b = absurd (made_not_refused laws fs kept colours stack q fault few b a)
 one_answer laws fs kept colours stack (Err fault) (Err other) few a b = ap Err (refusals_one laws fs kept colours stack fault other few a b)
+
+-- ---- how many objects are made anew
+
+pub one_count : Laws → (fs : List FlowModule) (kept : List (Option Object)) (colours made other : ℕ) → colours ≤ colour_limit → MakesAnew fs kept colours made → MakesAnew fs kept colours other → made ≡ other
+one_count laws fs kept colours made other few (inl a) (inl b) = a.2 ∙ sym b.2
+one_count laws fs kept colours made other few (inl a) (inr b) = absurd (breaks_not laws fs colours b.0.database a.0 b.1.lawful b.1.database a.1)
+one_count laws fs kept colours made other few (inr a) (inl b) = absurd (breaks_not laws fs colours a.0.database b.0 a.1.lawful a.1.database b.1)
+one_count laws fs kept colours made other few (inr a) (inr b) = a.2 ∙ ap (λ (p : Parts). count_by (λ f. f) p.fresh) (parts_one laws fs kept colours a.0 b.0 few a.1 b.1) ∙ sym b.2

@@ -6,6 +6,7 @@ ghost use Rattle.pw_value.specs.declared.fault.LinkFault.{LinkFault};
 ghost use Rattle.pw_flow.specs.declared.flow.FlowModule.{FlowModule};
 ghost use Rattle.pw_object.specs.declared.object.Object.{Object};
 ghost use Rattle.pw_making.specs.Programs.{Completes, Parts};
+ghost use Rattle.pw_making.specs.Counting.{MakesAnew};
 ghost use Rattle.pw_making.specs.Kept.{IsGenuineIfKept, anew};
 ghost use Rattle.pw_db.specs.Limits.{colour_limit};
 
@@ -17,9 +18,10 @@ use pw_phases::laws::a_module_has_one_object;
 use pw_program::laws::modules_have_one_answer;
 use pw_summarise::laws::a_module_has_one_summary;
 
-/// Flow graphs and kept objects come to one answer.
+/// Flow graphs and kept objects come to one answer, and so many objects of theirs are made anew.
 pub fn flow_graphs_have_one_answer()
-    ensures { (flows : List FlowModule) (kept : List (Option Object)) (colours stack : ℕ) (a b : Result Parts LinkFault) → colours ≤ colour_limit → Completes flows kept colours stack a → Completes flows kept colours stack b → a ≡ b }
+    ensures answer { (flows : List FlowModule) (kept : List (Option Object)) (colours stack : ℕ) (a b : Result Parts LinkFault) → colours ≤ colour_limit → Completes flows kept colours stack a → Completes flows kept colours stack b → a ≡ b }
+    ensures count { (flows : List FlowModule) (kept : List (Option Object)) (colours made other : ℕ) → colours ≤ colour_limit → MakesAnew flows kept colours made → MakesAnew flows kept colours other → made ≡ other }
 {
     databases_are_lawful();
     databases_are_one();

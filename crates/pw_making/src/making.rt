@@ -9,7 +9,7 @@ ghost use Rattle.pw_image.specs.Image.{IsImage, view};
 ghost use Rattle.pw_link.specs.Linking.{linked, AreLinked, IsRefusal};
 ghost use Rattle.pw_making.specs.Programs.{Completes};
 ghost use Rattle.pw_making.specs.Choosing.{parts_of};
-ghost use Rattle.pw_making.specs.Counting.{CountsUpTo};
+ghost use Rattle.pw_making.specs.Counting.{CountsAnew, CountsUpTo};
 ghost use Rattle.pw_db.specs.Limits.{colour_limit};
 
 use crate::analysing::database_of;
@@ -58,7 +58,8 @@ fn linked(alloc: Global, database: Database, made: Objects, stack: u32) -> Resul
 
 /// The program of modules with these flow graphs, for so many registers and such a stack; or which rule of linking they
 /// break. What was kept of a module stands at its place in `kept`, which may end early: a kept object stays where it was
-/// made of the same flow graph under the same directives. `steps` counts the objects that are made anew.
+/// made of the same flow graph under the same directives. `steps` counts the objects that are made anew, also where they
+/// are refused then.
 pub fn complete<L: Ledger>(
     alloc: Global,
     flows: &[FlowModule],
@@ -77,6 +78,7 @@ pub fn complete<L: Ledger>(
     ensures lawful_objects { IfOk result (λ built. AllByRecursion IsObject built.objects.items) }
     ensures lawful_image { IfOk result (λ built. IsImage (view built.image)) }
     ensures counted { IfOk result (λ built. steps.new ≡ steps.old + count_by (λ fresh. fresh) built.fresh.items) }
+    ensures counted_fault { IfErr result (λ fault. (fault ≡ LinkFault.NoMemory) ⊎ CountsAnew flows.now kept.items colours steps.old steps.new) }
     ensures bound { CountsUpTo (length flows.now) steps.old steps.new }
 {
     let database = database_of(alloc, flows, colours)?;

@@ -61,16 +61,26 @@ sources_turn (Some told) now file names rest left old new inv same read e =
     let P : Option Told → Type 0 = λ o. IfSome o (λ t. new ≡ old ++ option_to_list (source_of t.files file)) in
     sources_step told.files file rest left old new _ inv e (subst P same read)
 
--- the modules in order, by the names that a store tells
-pub modules_of_names : (first now : Option Told) (names files : List (List ℕ)) (result : Result (Vec Module Global) StoreError) →
-    IfSome first (λ told. names ≡ finite.keys told.files) → Keeps first now → files ≡ module_files names
+-- the files of the modules, by the names of all files that a store tells: their sources are the modules
+pub sources_in_order : (first : Option Told) (all files : List (List ℕ)) → IfSome first (λ told. all ≡ finite.keys told.files) → files ≡ module_files all → IfSome first (λ told. sources_of told.files files ≡ modules_of told.files)
+sources_in_order None all files e f = tt
+sources_in_order (Some told) all files e f = ap (sources_of told.files) (f ∙ ap module_files e) ∙ read_in_order told.files
+
+-- and they have the names of the modules
+pub stems_in_order : (first : Option Told) (all files : List (List ℕ)) → IfSome first (λ told. all ≡ finite.keys told.files) → files ≡ module_files all → IfSome first (λ told. map stem files ≡ names_of_modules told.files)
+stems_in_order None all files e f = tt
+stems_in_order (Some told) all files e f = ap (map stem) (f ∙ ap module_files e) ∙ names_in_order told.files
+
+-- the modules in order, from their files
+pub modules_of_files : (first now : Option Told) (files : List (List ℕ)) (result : Result (Vec Module Global) StoreError) →
+    IfSome first (λ told. sources_of told.files files ≡ modules_of told.files) → Keeps first now
     → IfSome now (λ told. IfOk result (λ modules. map source modules.items ≡ sources_of told.files files))
     → IfSome first (λ told. IfOk result (λ modules. map source modules.items ≡ modules_of told.files))
-modules_of_names None now names files result e same f h = tt
-modules_of_names (Some told) now names files result e same f h =
+modules_of_files None now files result e same h = tt
+modules_of_files (Some told) now files result e same h =
     let P : Option Told → Type 0 = λ o. IfSome o (λ t. IfOk result (λ modules. map source modules.items ≡ sources_of t.files files)) in
     let Q : List Source → Type 0 = λ sources. IfOk result (λ modules. map source modules.items ≡ sources) in
-    subst Q (ap (sources_of told.files) (f ∙ ap module_files e) ∙ read_in_order told.files) (subst P same h)
+    subst Q e (subst P same h)
 
 -- the names so far with one more, before those of the files that are left
 pub names_step : (old new : List (List ℕ)) (file name : List ℕ) (rest left all : List (List ℕ)) → old ++ map stem left ≡ all → left ≡ file ∷ rest → new ≡ old ++ name ∷ [] → name ≡ stem file → new ++ map stem rest ≡ all
@@ -78,10 +88,10 @@ names_step old new file name rest left all inv e f g =
     ap (λ xs. xs ++ map stem rest) f ∙ append_assoc old (name ∷ []) (map stem rest)
     ∙ ap (λ n. old ++ n ∷ map stem rest) g ∙ ap (λ xs. old ++ map stem xs) (sym e) ∙ inv
 
--- the names of the modules, by the names of all files that a store tells
-pub names_of_files : (first : Option Told) (all files names : List (List ℕ)) → IfSome first (λ told. all ≡ finite.keys told.files) → files ≡ module_files all → names ≡ map stem files → IfSome first (λ told. names ≡ names_of_modules told.files)
-names_of_files None all files names e f g = tt
-names_of_files (Some told) all files names e f g = g ∙ ap (map stem) (f ∙ ap module_files e) ∙ names_in_order told.files
+-- the names of the modules, by the names of their files
+pub names_of_stems : (first : Option Told) (files names : List (List ℕ)) → IfSome first (λ told. map stem files ≡ names_of_modules told.files) → names ≡ map stem files → IfSome first (λ told. names ≡ names_of_modules told.files)
+names_of_stems None files names e f = tt
+names_of_stems (Some told) files names e f = f ∙ e
 
 -- the names of modules' files are modules' names
 pub stems_are_names : (files : List (List ℕ)) → All IsModuleFile files → All (λ name. is_module_name name ≡ true) (map stem files)

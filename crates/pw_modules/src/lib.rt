@@ -7,4 +7,4 @@ mod sources;
 
 pub use laws::modules_are_exact;
 pub use modules::{Module, is_module_name};
-pub use sources::{module_names, read_modules};
+pub use sources::{module_files_of, module_names, read_modules, read_sources};

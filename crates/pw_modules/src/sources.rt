@@ -59,8 +59,9 @@ fn add_source<S: Store>(
     }
 }
 
-/// Reads the texts of the modules in order. A file that is gone is left out.
-fn read_sources<S: Store>(
+/// Reads the modules of these files in order, each text up to one byte more than a text may have. A file that is gone is
+/// left out. The store stays as it is.
+pub fn read_sources<S: Store>(
     alloc: Global,
     store: &mut S,
     files: &[String],
@@ -77,6 +78,19 @@ fn read_sources<S: Store>(
     Ok(modules)
 }
 
+/// The files of the modules of a store, in the byte order of the modules' names: `read_sources` reads them. The store
+/// stays as it is.
+pub fn module_files_of<S: Store>(alloc: Global, store: &mut S) -> Result<Vec<String>, StoreError>
+    ensures names { IfSome (S.told store.old) (λ told. IfOk result (λ files. map stem (map string_bytes files.items) ≡ names_of_modules told.files)) }
+    ensures sources { IfSome (S.told store.old) (λ told. IfOk result (λ files. sources_of told.files (map string_bytes files.items) ≡ modules_of told.files)) }
+    ensures modules { IfOk result (λ files. All (λ file. IsModuleFile (string_bytes file)) files.items) }
+    ensures same { Keeps (S.told store.old) (S.told store.new) }
+    ensures cause { HasStoreCause (S.faults store.old) (S.faults store.new) result }
+{
+    let names = store.names(alloc)?;
+    Ok(module_files(alloc, &names)?)
+}
+
 /// The modules of a store: each file `NAME.i` with a name of 1 to 64 letters, digits, `_` and `-`, in the byte order of
 /// the names, with its text up to one byte more than a text may have. The store stays as it is.
 pub fn read_modules<S: Store>(alloc: Global, store: &mut S) -> Result<Vec<Module>, StoreError>
@@ -84,11 +98,8 @@ pub fn read_modules<S: Store>(alloc: Global, store: &mut S) -> Result<Vec<Module
     ensures same { Keeps (S.told store.old) (S.told store.new) }
     ensures cause { HasStoreCause (S.faults store.old) (S.faults store.new) result }
 {
-    let names = store.names(alloc)?;
-    match module_files(alloc, &names) {
-        Ok(files) => read_sources(alloc, store, &files),
-        Err(AllocError) => Err(StoreError::NoMemory),
-    }
+    let files = module_files_of(alloc, store)?;
+    read_sources(alloc, store, &files)
 }
 
 /// A module's name, from its file's.
@@ -120,7 +131,6 @@ pub fn module_names<S: Store>(alloc: Global, store: &mut S) -> Result<Vec<String
     ensures same { Keeps (S.told store.old) (S.told store.new) }
     ensures cause { HasStoreCause (S.faults store.old) (S.faults store.new) result }
 {
-    let all = store.names(alloc)?;
-    let files = module_files(alloc, &all)?;
+    let files = module_files_of(alloc, store)?;
     Ok(names_of(alloc, &files)?)
 }

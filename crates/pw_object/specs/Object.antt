@@ -3,11 +3,10 @@
 use Rattle.std.specs.Prelude.{All, ℕ, ◌≡◌, List, [], ◌∷◌, ◌++◌, length, map, Contains}
 use Rattle.std.specs.List.{flat_map, AllByRecursion}
 use Rattle.pw_value.specs.Fields.{text, parts, FitsU32, FitsText}
-use Rattle.pw_value.specs.FieldFrame.{IsFileOf}
 use Rattle.pw_value.specs.FieldNames.{name_table, name_index}
 use Rattle.pw_files.specs.Rising.{IsRising, counted, FitsList}
 use Rattle.pw_files.specs.Names.{shaped, FitsShapes}
-use Rattle.pw_files.specs.Contents.{Contents, IsContents}
+use Rattle.pw_files.specs.Contents.{Contents, IsContents, IsFileWith}
 use Rattle.pw_value.specs.ProgramNames.{KeepsStart}
 use Rattle.pw_flow.specs.ValidFlow.{IsGlobal}
 use Rattle.pw_flowfile.specs.FlowFile.{global, all_in_global, FitsGlobal}
@@ -15,7 +14,7 @@ use Rattle.pw_object.specs.declared.object.Object.{Object}
 use Rattle.pw_object.specs.declared.functions.ObjectFn.{ObjectFn}
 use Rattle.pw_object.specs.Functions.{IsFunction, function, names_of_function, IsFunctionNamed}
 
--- the version of the form of an object's words
+-- the version of object files and of the form of an object's words
 abbrev pub object_version : ℕ
 object_version = 1
 
@@ -78,4 +77,4 @@ kind = 0x5041574f
 
 -- the bytes are the file of the object
 abbrev pub IsObjectFile : List ℕ → Object → Type 0
-IsObjectFile bytes o = (names : List (List ℕ)) × IsFileOf kind object_version object_version (λ version. spelling) (λ version. IsContents IsObject FitsObject names_of) bytes (record { names = names; value = o })
+IsObjectFile = IsFileWith kind object_version spelling (IsContents IsObject FitsObject names_of)

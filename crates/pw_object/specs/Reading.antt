@@ -1,11 +1,11 @@
 -- Reading an object file from left to right, with the first fault that is met.
 use Rattle.std.specs.Prelude.{ℕ, zero, suc, nat_lt, List, length, Option, Result}
 use Rattle.pw_value.specs.Fields.{◌>>=◌, done, checked, u32_at, text_at, choice_at}
-use Rattle.pw_value.specs.FieldFrame.{here, ended, file_at}
+use Rattle.pw_value.specs.FieldFrame.{here, ended}
 use Rattle.pw_value.specs.FieldNames.{name_at}
 use Rattle.pw_files.specs.Rising.{counted_at}
 use Rattle.pw_files.specs.Names.{name_list_at, shaped_list_at}
-use Rattle.pw_files.specs.Contents.{Contents, module_rules, contents_at}
+use Rattle.pw_files.specs.Contents.{Contents, module_rules, contents_file_at}
 use Rattle.pw_value.specs.declared.program_names.StartName.TheVariants.{Allowed}
 use Rattle.pw_flow.specs.declared.flow.FlowGlobal.{FlowGlobal}
 use Rattle.pw_flowfile.specs.Reading.{global_body_at}
@@ -96,4 +96,4 @@ abbrev pub last_rules : List (List ℕ) → ℕ → Object → ℕ → Option �
 last_rules names behind o count = module_rules names (names_of o) behind (function_names o) (global_names o) count
 
 abbrev pub object_file_at : List ℕ → Result (Contents Object) ℕ
-object_file_at bytes = file_at kind_of_file object_version object_version (λ version. contents_at fields_at last_rules) bytes
+object_file_at = contents_file_at kind_of_file object_version fields_at last_rules

@@ -8,8 +8,15 @@ ghost use Rattle.pw_files.specs.Faults.{FaultsStay};
 ghost use Rattle.pw_object.specs.declared.functions.ObjectFn.{ObjectFn};
 ghost use Rattle.pw_object.specs.Functions.{IsFunction, function};
 ghost use Rattle.pw_object.specs.declared.object.Object.{Object};
-ghost use Rattle.pw_object.specs.Object.{kind, IsObjectFile};
+ghost use Rattle.pw_object.specs.Object.{kind, object_version, IsObjectFile};
 ghost use Rattle.pw_object.specs.Reading.{function_at, fields_at, object_file_at};
+
+use crate::object::VERSION;
+
+/// The version is the one that its definition speaks of.
+pub fn version_of_objects()
+    ensures { VERSION ≡ object_version }
+{}
 
 /// What is read of a function is spelled so, and its fixes name words of it.
 pub fn functions_are_spelled()
@@ -25,5 +32,5 @@ pub fn objects_and_files_are_one_to_one()
 
 /// A fault lies within the bytes, and one of the fields rests on the bytes up to the faulty field's end.
 pub fn faults_stay()
-    ensures { FaultsStay kind fields_at (λ bytes. value_of (object_file_at bytes)) }
+    ensures { FaultsStay kind object_version fields_at (λ bytes. value_of (object_file_at bytes)) }
 {}

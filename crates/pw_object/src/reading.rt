@@ -197,6 +197,10 @@ impl Format for ObjectFormat {
 
     ghost KIND = { kind_of_file };
 
+    const VERSION: u32 = VERSION;
+
+    ghost VERSION = { object_version };
+
     ghost fields = { fields_at };
 
     ghost late = { last_rules };

@@ -15,19 +15,16 @@ use crate::names::used_names;
 use crate::object::{Object, VERSION};
 use crate::reading::KIND;
 use pw_files::writing::{
-    make_table, push_bytes, push_count, push_name_list, push_shaped_list, seal_payload,
+    COUNT_LIMIT, make_table, push_bytes, push_count, push_name_list, push_shaped_list, push_words,
+    seal_payload,
 };
 use pw_flow::FlowGlobal;
 use pw_flowfile::push_global;
-use pw_flowops::push_words;
 use pw_inst::{Fix, FixKind, Symbol};
 use pw_value::Name;
 use pw_value::fields::names::{push_name, push_names};
 use pw_value::fields::writing::{push_u8, push_u32};
 use std::alloc::{AllocError, Global};
-
-/// The greatest count of items or bytes.
-const MOST: usize = u32::MAX as usize;
 
 /// A symbol.
 fn push_symbol(out: &mut Vec<u8>, names: &[Name], symbol: &Symbol) -> Result<(), AllocError>
@@ -109,7 +106,7 @@ pub fn push_function(
 fn has_room(global: &FlowGlobal) -> bool
     ensures { IsTrue result → FitsGlobal global.now }
 {
-    global.shape.as_bytes().len() <= MOST && global.items.len() <= MOST
+    global.shape.as_bytes().len() <= COUNT_LIMIT && global.items.len() <= COUNT_LIMIT
 }
 
 /// Globals, one after the other.

@@ -28,7 +28,7 @@ abbrev pub unless_too_deep : Option ℕ → Outcome Module → Result Module Par
 unless_too_deep (Some token) outcome = Err (TooDeep token)
 unless_too_deep None outcome = answer_of outcome
 
--- the first token that is nested deeper than 200, counted from 1
+-- the first token that is nested deeper than the limit, counted from 1
 abbrev pub first_too_deep : List ℕ → List Token → Option ℕ
 first_too_deep text tokens = position_from (λ nest. nat_lt nest_limit nest) 1 (nests_of text tokens)
 

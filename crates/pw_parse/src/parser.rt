@@ -18,7 +18,7 @@ use std::alloc::{AllocError, Global};
 /// Why a text has no tree.
 #[derive(Clone, Copy, Debug, PartialEq, Eq)]
 pub enum ParseFault {
-    /// The first token whose nesting exceeds 200, counted from 1.
+    /// The first token whose nesting exceeds `MAX_NEST` of pw_token, counted from 1.
     TooDeep { token: usize },
     /// The token at which no rule goes on, counted from 1: the count of tokens plus 1 at the end.
     Syntax { token: usize },
@@ -68,9 +68,9 @@ fn parse_tokens(alloc: Global, text: &[u8], tokens: &[Token]) -> Result<Module, 
     }
 }
 
-/// The tree of a text's tokens, or why there is none: the first token that is nested deeper than 200; or else, where
-/// the tokens are the spelling of no well-formed tree, the first whose prefix begins no tree's spelling, which is the
-/// count plus 1 where all of them begin one. Nothing nests deeper in a call than that limit allows.
+/// The tree of a text's tokens, or why there is none: the first token that is nested deeper than `MAX_NEST` of pw_token;
+/// or else, where the tokens are the spelling of no well-formed tree, the first whose prefix begins no tree's spelling,
+/// which is the count plus 1 where all of them begin one. Nothing nests deeper in a call than that limit allows.
 pub fn parse(alloc: Global, text: &[u8], tokens: &[Token]) -> Result<Module, ParseFault>
     requires { IsLexed text.now tokens.now }
 

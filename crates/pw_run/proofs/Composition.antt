@@ -1,5 +1,5 @@
 -- Refinement composes: what each of two runs keeps of the one above it, the lower keeps of the upper.
-use Rattle.std.specs.Prelude.{ℕ, ◌≡◌, ◌≤◌, List, [], ◌∷◌}
+use Rattle.std.specs.Prelude.{ℕ, ◌≤◌, List}
 use Rattle.std.proofs.Common.{arith, subst, ◌∙◌}
 use Rattle.pw_run.specs.Runs.{End, View, Stage, Going, Over, Wrong, AreAlike, none, also, SameIn, GoesOn, EndsSo, Met, Refines, Through}
 

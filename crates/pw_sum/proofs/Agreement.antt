@@ -8,6 +8,7 @@ use Rattle.std.specs.List.{flat_map, AllByRecursion}
 use Rattle.pw_inst.specs.declared.Inst.{Inst}
 use Rattle.pw_inst.specs.declared.Inst.TheVariants.{Ldo}
 use Rattle.pw_inst.specs.InstructionTable.{word_of}
+use Rattle.pw_value.specs.Limits.{text_start, word_limit}
 use Rattle.pw_machine.specs.Core.{Core}
 use Rattle.pw_machine.specs.Run.{State, Running, began, run_of}
 use Rattle.pw_machine.specs.Start.{start_core, start_memory, data_start_of, stack_start_of}
@@ -17,7 +18,7 @@ use Rattle.pw_run.specs.Runs.{Met, Whatever, none}
 use Rattle.pw_agreement.specs.MachineStages.{shown, staged, machine_run}
 use Rattle.pw_agreement.specs.Agreement.{SourceRun, Ends, Stack, Bound, stage_by, Agree}
 use Rattle.pw_sum.specs.SourceRun.{source_run, silent}
-use Rattle.pw_sum.specs.Built.{core_of, start_of, EndsWithin, frames_of}
+use Rattle.pw_sum.specs.Built.{core_of, start_of, EndsWithin, frames_of, sum_steps}
 use Rattle.pw_sum.proofs.AgreementMemory.{start-has_text}
 use Rattle.pw_sum.proofs.AgreementRun.{spot, Program, Comes, EndsWith, after_first, summed}
 
@@ -41,7 +42,7 @@ words-cons n numbers = refl
 first_registers : List ℕ → List ℕ
 first_registers words = slice_set (replicate 32 0) 30 (stack_start_of words 0)
 
-start_core-spot : (words : List ℕ) → start_core 4096 words 0 [] ≡ spot (start_memory words []) (length words) (data_start_of words) (first_registers words) 4096 4100
+start_core-spot : (words : List ℕ) → start_core text_start words 0 [] ≡ spot (start_memory words []) (length words) (data_start_of words) (first_registers words) text_start (text_start + 4)
 unfolding start_core first_registers
 start_core-spot words = refl
 
@@ -53,7 +54,7 @@ run_of-none : (s : State) (memory : List ℕ) (text start : ℕ) (registers : Li
 unfolding run_of
 run_of-none s memory text start registers a back e = ap (λ (core : Core). began core.stopped s) e
 
-program_of : (words input : List ℕ) → length words ≤ 65536 → Program
+program_of : (words input : List ℕ) → length words ≤ word_limit → Program
 program_of words input small = record {
   began = start_of words input;
   words = words;
@@ -65,13 +66,13 @@ program_of words input small = record {
 }
 
 begins : (words input : List ℕ) → run_of 0 (start_of words input) ≡ Running (start_of words input)
-begins words input = run_of-none (start_of words input) (start_memory words []) (length words) (data_start_of words) (first_registers words) 4096 4100 (start_core-spot words)
+begins words input = run_of-none (start_of words input) (start_memory words []) (length words) (data_start_of words) (first_registers words) text_start (text_start + 4) (start_core-spot words)
 
-comes_first : (words input : List ℕ) (small : length words ≤ 65536) (insts : List Inst) → words ≡ map word_of insts → Comes (program_of words input small) (first_registers words) [] insts
+comes_first : (words input : List ℕ) (small : length words ≤ word_limit) (insts : List Inst) → words ≡ map word_of insts → Comes (program_of words input small) (first_registers words) [] insts
 unfolding program_of
 comes_first words input small insts e = record {
   steps = 0;
-  a = 4096;
+  a = text_start;
   counted = refl;
   place = refl;
   split = e;
@@ -80,7 +81,7 @@ comes_first words input small insts e = record {
 
 -- ---- the end
 
-ends : (numbers input : List ℕ) (small : length (words_of numbers) ≤ 65536) → 1 ≤ length numbers → AllByRecursion (λ n. n ≤ number_limit) numbers → EndsWith (program_of (words_of numbers) input small) (sum numbers % 2 ^ 8)
+ends : (numbers input : List ℕ) (small : length (words_of numbers) ≤ word_limit) → 1 ≤ length numbers → AllByRecursion (λ n. n ≤ number_limit) numbers → EndsWith (program_of (words_of numbers) input small) (sum numbers % 2 ^ 8)
 ends [] input small some low = absurd (omega arith)
 ends (n ∷ numbers) input small some low =
     let words = words_of (n ∷ numbers) in
@@ -97,7 +98,7 @@ ends (n ∷ numbers) input small some low =
 abbrev Meets : List ℕ → List ℕ → ℕ → SourceRun → Type 0
 Meets words input n source = Met Whatever (stage_by n source source.end) (machine_run (core_of words) input)
 
-meets_end : (words input : List ℕ) (small : length words ≤ 65536) (n status : ℕ) → EndsWith (program_of words input small) status → Meets words input n (silent (Ends status))
+meets_end : (words input : List ℕ) (small : length words ≤ word_limit) (n status : ℕ) → EndsWith (program_of words input small) status → Meets words input n (silent (Ends status))
 unfolding program_of machine_run
 meets_end words input small n status h = record {
   at = h.steps;
@@ -117,7 +118,7 @@ meets_bound words input = record {
   counted = omega arith;
 }
 
-ends_within : (words input : List ℕ) (small : length words ≤ 65536) (most status : ℕ) → length words ≤ most → EndsWith (program_of words input small) status → EndsWithin most status words input
+ends_within : (words input : List ℕ) (small : length words ≤ word_limit) (most status : ℕ) → length words ≤ most → EndsWith (program_of words input small) status → EndsWithin most status words input
 unfolding program_of
 ends_within words input small most status few h = record { steps = h.steps; few = omega (arith, few, h.few); last = h.last; is = h.comes }
 
@@ -133,7 +134,7 @@ source_run-some stack numbers n = ap (λ (b : Bool). silent (if b then Stack els
 
 -- ---- the agreement
 
-agree_at : (numbers input : List ℕ) (stack : ℕ) → 1 ≤ length numbers → length (words_of numbers) ≤ 65536 → AllByRecursion (λ n. n ≤ number_limit) numbers
+agree_at : (numbers input : List ℕ) (stack : ℕ) → 1 ≤ length numbers → length (words_of numbers) ≤ word_limit → AllByRecursion (λ n. n ≤ number_limit) numbers
     → (n : ℕ) → Meets (words_of numbers) input n (source_run (frames_of numbers) stack numbers n)
 agree_at numbers input stack some small low zero =
     subst (λ (source : SourceRun). Meets (words_of numbers) input 0 source) (sym (source_run-none stack numbers)) (meets_bound (words_of numbers) input)
@@ -142,16 +143,16 @@ agree_at numbers input stack some small low (suc n) =
     (meets_end (words_of numbers) input small (suc n) (sum numbers % 2 ^ 8) (ends numbers input small some low))
 
 -- the words are few
-few_words : (text numbers : List ℕ) → IsSumProgram text numbers → length (words_of numbers) ≤ 402
+few_words : (text numbers : List ℕ) → IsSumProgram text numbers → length (words_of numbers) ≤ sum_steps
 few_words text numbers h = omega (arith, length-words numbers h.some, h.few)
 
 pub agree : (text numbers input : List ℕ) (stack : ℕ) → IsSumProgram text numbers → Agree (source_run (frames_of numbers) stack numbers) (core_of (words_of numbers)) input
 agree text numbers input stack h =
-    let small : length (words_of numbers) ≤ 65536 = omega (arith, few_words text numbers h) in
+    let small : length (words_of numbers) ≤ word_limit = omega (arith, few_words text numbers h) in
     λ n. agree_at numbers input stack h.some small h.small n
 
-pub end : (text numbers input : List ℕ) → IsSumProgram text numbers → EndsWithin 402 (sum numbers % 2 ^ 8) (words_of numbers) input
+pub end : (text numbers input : List ℕ) → IsSumProgram text numbers → EndsWithin sum_steps (sum numbers % 2 ^ 8) (words_of numbers) input
 end text numbers input h =
     let few = few_words text numbers h in
-    let small : length (words_of numbers) ≤ 65536 = omega (arith, few) in
-    ends_within (words_of numbers) input small 402 (sum numbers % 2 ^ 8) few (ends numbers input small h.some h.small)
+    let small : length (words_of numbers) ≤ word_limit = omega (arith, few) in
+    ends_within (words_of numbers) input small sum_steps (sum numbers % 2 ^ 8) few (ends numbers input small h.some h.small)

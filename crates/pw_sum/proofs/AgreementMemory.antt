@@ -2,6 +2,7 @@
 use Rattle.std.proofs.Common.{ℕ, ◌+◌, ◌*◌, ◌/◌, ◌%◌, ◌^◌, ◌<◌, ◌≤◌, ◌≡◌, List, [], ◌∷◌, ◌++◌, length, take, drop, get_or, refl, sym, ap, ◌∙◌, arith, append_assoc, length-append}
 use Rattle.std.proofs.lemmas.List.{get_or-append-add, length-take-le, length-replicate}
 use Rattle.std.specs.Int.{to_be_bytes, w32}
+use Rattle.pw_value.specs.Limits.{text_start, memory_size}
 use Rattle.pw_machine.specs.Core.{word_at}
 use Rattle.pw_machine.specs.Start.{overwritten, bytes_of, start_memory, zeros}
 use Rattle.pw_machine.proofs.Memories.{bytes_of-append, length-bytes_of}
@@ -29,8 +30,8 @@ blank-has : (n start : ℕ) (memory words : List ℕ) → memory ≡ overwritten
 blank-has n start memory words e fits = overwritten-has (zeros n) memory words start e (omega (arith, length-zeros n))
 
 -- the memory at the start holds the words
-pub start-has_text : (words : List ℕ) → HasText (start_memory words []) words 4096
-start-has_text words = blank-has 67108864 4096 (start_memory words []) words refl (omega arith)
+pub start-has_text : (words : List ℕ) → HasText (start_memory words []) words text_start
+start-has_text words = blank-has memory_size text_start (start_memory words []) words refl (omega arith)
 
 -- the four bytes of a word, read as a word
 four_bytes : (word p q r s : ℕ) → word < 2 ^ 32 → p ≡ word / 256 ^ 3 % 256 → q ≡ word / 256 ^ 2 % 256 → r ≡ word / 256 ^ 1 % 256 → s ≡ word % 256

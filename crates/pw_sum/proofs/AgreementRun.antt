@@ -10,6 +10,7 @@ use Rattle.pw_inst.specs.declared.Inst.{Inst}
 use Rattle.pw_inst.specs.declared.Inst.TheVariants.{Ldo, Or, Addl, Break}
 use Rattle.pw_inst.specs.InstructionTable.{word_of, IsInRange}
 use Rattle.pw_inst.proofs.Inverse.{decoded-of}
+use Rattle.pw_value.specs.Limits.{text_start, word_limit}
 use Rattle.pw_machine.specs.declared.ends.End.TheVariants.{Ended}
 use Rattle.pw_machine.specs.Core.{Core, word_at}
 use Rattle.pw_machine.specs.Effect.{Effect, Goes, effect_of, effect_of_inst, executed, is_in_text, halts}
@@ -21,7 +22,7 @@ use Rattle.pw_sum.proofs.AgreementMemory.{HasText, text_word}
 
 -- ---- the instruction at front
 
-in_text : (a i n : ℕ) → a ≡ 4096 + 4 * i → i < n → ((a % 4 == 0) && nat_le 4096 a && nat_lt a (4096 + 4 * n)) ≡ true
+in_text : (a i n : ℕ) → a ≡ text_start + 4 * i → i < n → ((a % 4 == 0) && nat_le text_start a && nat_lt a (text_start + 4 * n)) ≡ true
 in_text a i n e lt = grind (arith, nat_tests)
 
 third : (inside nullified : Bool) (a b c : Effect) → inside ≡ true → nullified ≡ false → (if not inside then a else if nullified then b else c) ≡ c
@@ -30,12 +31,12 @@ third true true a b c e f = absurd cc
 third false nullified a b c e f = absurd cc
 
 -- an instruction whose word is in the text is executed
-fetched : (core : Core) (front back : List ℕ) (inst : Inst) → HasText core.memory (front ++ word_of inst ∷ back) 4096 → core.text ≡ length (front ++ word_of inst ∷ back) → core.nullify ≡ false
-    → core.front ≡ 4096 + 4 * length front → IsInRange inst → word_of inst < 2 ^ 32 → effect_of core ≡ executed core inst
+fetched : (core : Core) (front back : List ℕ) (inst : Inst) → HasText core.memory (front ++ word_of inst ∷ back) text_start → core.text ≡ length (front ++ word_of inst ∷ back) → core.nullify ≡ false
+    → core.front ≡ text_start + 4 * length front → IsInRange inst → word_of inst < 2 ^ 32 → effect_of core ≡ executed core inst
 unfolding effect_of
 fetched core front back inst h size going place in_range fits =
     let inside : length front < core.text = omega (arith, size, length-append front (word_of inst ∷ back)) in
-    let word : word_at core.memory core.front ≡ word_of inst = text_word core.memory front back (word_of inst) 4096 core.front h fits place in
+    let word : word_at core.memory core.front ≡ word_of inst = text_word core.memory front back (word_of inst) text_start core.front h fits place in
     third (is_in_text core core.front) core.nullify (halts core _) _ _ (in_text core.front (length front) core.text place inside) going
     ∙ ap (effect_of_inst core) (decoded-of (word_at core.memory core.front) inst (record { in_range = in_range; same = sym word }))
 
@@ -62,8 +63,8 @@ pub record Program : Type 0 where
   pub memory : List ℕ
   pub data_start : ℕ
   pub input : List ℕ
-  pub small : length words ≤ 65536
-  pub text : HasText memory words 4096
+  pub small : length words ≤ word_limit
+  pub text : HasText memory words text_start
 
 abbrev pub core_at : Program → List ℕ → ℕ → ℕ → Core
 core_at p registers a back = spot p.memory (length p.words) p.data_start registers a back
@@ -76,11 +77,11 @@ pub record Comes (p : Program) (registers front : List ℕ) (insts : List Inst) 
   pub steps : ℕ
   pub a : ℕ
   pub counted : steps ≡ length front
-  pub place : a ≡ 4096 + 4 * length front
+  pub place : a ≡ text_start + 4 * length front
   pub split : p.words ≡ front ++ map word_of insts
   pub comes : run_of steps p.began ≡ Running (state_at p registers a)
 
-is_low : (p : Program) (front : List ℕ) (inst : Inst) (insts : List Inst) → p.words ≡ front ++ map word_of (inst ∷ insts) → length front < 65536
+is_low : (p : Program) (front : List ℕ) (inst : Inst) (insts : List Inst) → p.words ≡ front ++ map word_of (inst ∷ insts) → length front < word_limit
 is_low p front inst insts e = omega (arith, p.small, ap length e, length-append front (map word_of (inst ∷ insts)))
 
 -- the effect at such a state
@@ -88,14 +89,14 @@ effect_there : (p : Program) (registers front : List ℕ) (inst : Inst) (insts :
     → effect_of (core_at p registers h.a (h.a + 4)) ≡ executed (core_at p registers h.a (h.a + 4)) inst
 effect_there p registers front inst insts h in_range fits =
     fetched (core_at p registers h.a (h.a + 4)) front (map word_of insts) inst
-    (subst (λ (words : List ℕ). HasText p.memory words 4096) h.split p.text) (ap length h.split) refl h.place in_range fits
+    (subst (λ (words : List ℕ). HasText p.memory words text_start) h.split p.text) (ap length h.split) refl h.place in_range fits
 
 -- an instruction that changes registers alone
 goes_on_with : (p : Program) (registers changed front : List ℕ) (inst : Inst) (insts : List Inst) (h : Comes p registers front (inst ∷ insts)) → IsInRange inst → word_of inst < 2 ^ 32
     → executed (core_at p registers h.a (h.a + 4)) inst ≡ Goes (core_at p changed (h.a + 4) ((h.a + 4 + 4) % 2 ^ 32))
     → Comes p changed (front ++ word_of inst ∷ []) insts
 goes_on_with p registers changed front inst insts h in_range fits e =
-    let low : length front < 65536 = is_low p front inst insts h.split in
+    let low : length front < word_limit = is_low p front inst insts h.split in
     let back : (h.a + 4 + 4) % 2 ^ 32 ≡ h.a + 4 + 4 = omega (arith, low, h.place) in
     record {
       steps = h.steps + 1;

@@ -12,7 +12,7 @@ use Rattle.std.proofs.lemmas.Slice.Eq.{bytes_eq-Decides}
 use Rattle.std.proofs.lemmas.Bool.Decides.{nat_tests}
 use Rattle.pw_sum.specs.Tokens.{tokens}
 use Rattle.pw_token.specs.Limits.{text_limit}
-use Rattle.pw_sum.specs.SumProgram.{sum_limit, number_limit, IsSumProgram, opening, closing, sum_tokens, read_digits, has_no_number, number_in, is_last_brace, term_at, sum_from, terms, without_front, numbers_in}
+use Rattle.pw_sum.specs.SumProgram.{sum_limit, number_limit, prefix_limit, IsSumProgram, opening, closing, sum_tokens, read_digits, has_no_number, number_in, is_last_brace, term_at, sum_from, terms, without_front, numbers_in}
 
 -- the number that digits spell, read on from a number
 abbrev read_on : ℕ → List ℕ → ℕ
@@ -35,8 +35,8 @@ halves false b e = cc
 digits_read : (n : ℕ) (ds : List ℕ) (m : ℕ) → read_digits n ds ≡ Some m → (all_ascii_digits ds ≡ true) × (m ≡ read_on n ds)
 digits_read n [] m e = (refl, ap (λ o. unwrap_or o 0) (sym e))
 digits_read n (d ∷ ds) m e =
-    let p = passed (is_ascii_digit d && nat_le n 819) _ m e in
-    let h = halves (is_ascii_digit d) (nat_le n 819) p.0 in
+    let p = passed (is_ascii_digit d && nat_le n prefix_limit) _ m e in
+    let h = halves (is_ascii_digit d) (nat_le n prefix_limit) p.0 in
     let r = digits_read (10 * n + (d - 48)) ds m p.1 in
     (rw h.0 r.0, r.1)
 
@@ -49,7 +49,7 @@ digits_are_read : (n : ℕ) (ds : List ℕ) → all_ascii_digits ds ≡ true →
 digits_are_read n [] h small = refl
 digits_are_read n (d ∷ ds) h small =
     let p = halves (is_ascii_digit d) (all_ascii_digits ds) h in
-    let low : nat_le n 819 ≡ true = grind (arith, nat_tests, reads_no_less (10 * n + (d - 48)) ds) in
+    let low : nat_le n prefix_limit ≡ true = grind (arith, nat_tests, reads_no_less (10 * n + (d - 48)) ds) in
     rw (p.0, low) (digits_are_read (10 * n + (d - 48)) ds p.1 small)
 
 -- what was not refused

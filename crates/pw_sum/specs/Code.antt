@@ -18,6 +18,6 @@ abbrev pub code_of : List ℕ → List Inst
 code_of [] = end_code
 code_of (n ∷ numbers) = Ldo (pos n) 0 28 ∷ (flat_map term_code numbers ++ end_code)
 
--- the words of the image, from address 4096 on, which is the entry
+-- the words of the image, from the start of the text on, which is the entry
 unfoldable pub words_of : List ℕ → List ℕ
 words_of numbers = map word_of (code_of numbers)

@@ -1,5 +1,5 @@
 -- The programs that are compiled: `int main(void){return SUM;}` with SUM decimal numbers, joined by `+`.
-use Rattle.std.specs.Prelude.{◌≡◌, ℕ, zero, suc, ◌+◌, ◌*◌, ◌-◌, ◌≤◌, Bool, true, false, ◌==◌, ◌&&◌, nat_le, if◌then◌else◌, List, [], ◌∷◌, ◌++◌, length, codes, Option, Some, None, option_and_then}
+use Rattle.std.specs.Prelude.{◌≡◌, ℕ, zero, suc, ◌+◌, ◌*◌, ◌/◌, ◌-◌, ◌≤◌, Bool, true, false, ◌==◌, ◌&&◌, nat_le, if◌then◌else◌, List, [], ◌∷◌, ◌++◌, length, codes, Option, Some, None, option_and_then}
 use Rattle.std.specs.List.{AllByRecursion}
 use Rattle.std.specs.Option.{option_map, option_map_or}
 use Rattle.std.specs.Fmt.{decimal}
@@ -14,6 +14,10 @@ sum_limit = 200
 
 abbrev pub number_limit : ℕ
 number_limit = 8191
+
+-- the greatest number behind which one digit more is read
+abbrev pub prefix_limit : ℕ
+prefix_limit = number_limit / 10
 
 -- the tokens before the sum and behind it
 abbrev pub opening : List (List ℕ)
@@ -38,10 +42,10 @@ pub record IsSumProgram (text numbers : List ℕ) : Type 0 where
 
 -- What of a text the program's form is, said as a function: `numbers_in text` is `Some numbers` exactly where `IsSumProgram text numbers`, which the public law `form_is_exact` states.
 
--- decimal digits read on from a number, which stays at most 8199
+-- decimal digits read on from a number, which stays below 10 * (prefix_limit + 1)
 abbrev pub read_digits : ℕ → List ℕ → Option ℕ
 read_digits n [] = Some n
-read_digits n (digit ∷ digits) = if is_ascii_digit digit && nat_le n 819 then read_digits (10 * n + (digit - 48)) digits else None
+read_digits n (digit ∷ digits) = if is_ascii_digit digit && nat_le n prefix_limit then read_digits (10 * n + (digit - 48)) digits else None
 
 -- no digit at all, or a zero before further digits
 abbrev pub has_no_number : List ℕ → Bool

@@ -8,7 +8,7 @@ ghost use Rattle.pw_sum.specs.SumProgram.{IsSumProgram, number_limit};
 ghost use Rattle.pw_sum.specs.Code.{words_of, term_code, end_code};
 ghost use Rattle.pw_agreement.specs.Agreement.{Agree};
 ghost use Rattle.pw_sum.specs.SourceRun.{source_run};
-ghost use Rattle.pw_sum.specs.Built.{EndsWithin, FramesFit, core_of, frames_of, rooms_of};
+ghost use Rattle.pw_sum.specs.Built.{EndsWithin, FramesFit, core_of, frames_of, rooms_of, sum_steps};
 
 use pw_inst::{Inst, encode};
 use std::alloc::{AllocError, Global};
@@ -67,7 +67,7 @@ fn push_end(words: &mut Vec<u32>) -> Result<(), AllocError>
     Ok(())
 }
 
-/// The words of a program that returns the sum of the numbers, from address 4096 on, which is the entry.
+/// The words of a program that returns the sum of the numbers, from the start of the text on, which is the entry.
 pub fn words_of(alloc: Global, numbers: &[u16]) -> Result<Vec<u32>, AllocError>
     requires some { 1 ≤ length numbers.now }
     requires small { AllByRecursion (λ n. n ≤ number_limit) numbers.now }
@@ -83,10 +83,10 @@ pub fn words_of(alloc: Global, numbers: &[u16]) -> Result<Vec<u32>, AllocError>
 
 /// The words of a sum program agree with the program at every bound, whatever stack it has and whatever its input:
 /// where a run of the program ends, the machine ends with the same status, after the same output and having read
-/// as much. The machine's run ends within 402 steps with the low 8 bits of the sum, and the program's frames are
+/// as much. The machine's run ends within `sum_steps` steps with the low 8 bits of the sum, and the program's frames are
 /// within the room of its functions.
 pub fn words_agree()
     ensures agree { (text numbers input : List ℕ) (stack : ℕ) → IsSumProgram text numbers → Agree (source_run (frames_of numbers) stack numbers) (core_of (words_of numbers)) input }
-    ensures end { (text numbers input : List ℕ) → IsSumProgram text numbers → EndsWithin 402 (sum numbers % 256) (words_of numbers) input }
+    ensures end { (text numbers input : List ℕ) → IsSumProgram text numbers → EndsWithin sum_steps (sum numbers % 256) (words_of numbers) input }
     ensures fit { (numbers : List ℕ) → FramesFit (frames_of numbers) (rooms_of numbers) }
 {}

@@ -16,19 +16,23 @@ pub const SUM_LIMIT: usize = 200;
 /// The greatest number of a sum.
 pub const NUMBER_LIMIT: u16 = 8191;
 
+/// The greatest number behind which one digit more is read.
+const PREFIX_LIMIT: u16 = NUMBER_LIMIT / 10;
+
 /// The limits are those that the definitions speak of.
 pub fn limits_of_a_sum()
     ensures sum { SUM_LIMIT ≡ sum_limit }
     ensures number { NUMBER_LIMIT ≡ number_limit }
 {}
 
-/// The number that decimal digits spell, `None` where one is no digit or the number passes 8199.
+/// The number that decimal digits spell, `None` where one is no digit or one stands behind a number above
+/// `PREFIX_LIMIT`.
 fn read_digits(digits: &[u8]) -> Option<u16>
     ensures { result ≡ read_digits 0 digits.now }
 {
     let mut number = 0;
     for digit in digits {
-        if !digit.is_ascii_digit() || number > 819 {
+        if !digit.is_ascii_digit() || number > PREFIX_LIMIT {
             return None;
         }
         number = 10 * number + u16::from(*digit - b'0');
@@ -36,7 +40,7 @@ fn read_digits(digits: &[u8]) -> Option<u16>
     Some(number)
 }
 
-/// The number from 0 to 8191 that a token spells without a leading zero.
+/// The number from 0 to `NUMBER_LIMIT` that a token spells without a leading zero.
 #[tactic(auto, unfolding(crate::specs::SumProgram::number_in))]
 fn number_in(token: &[u8]) -> Option<u16>
     ensures { result ≡ number_in token.now }
@@ -152,8 +156,8 @@ pub fn sum_in(alloc: Global, text: &[u8]) -> Result<Option<Sum>, AllocError>
     }
 }
 
-/// Exactly the programs `int main(void){return SUM;}`, with one to 200 decimal numbers from 0 to 8191 and no leading
-/// zero, in a text of at most 1,048,576 bytes, have numbers.
+/// Exactly the programs `int main(void){return SUM;}`, with one to `SUM_LIMIT` decimal numbers from 0 to `NUMBER_LIMIT`
+/// and no leading zero, in a text of at most `MAX_TEXT` bytes, have numbers.
 pub fn form_is_exact()
     ensures { (text numbers : List ℕ) → (numbers_in text ≡ Some numbers) ↔ IsSumProgram text numbers }
 {}

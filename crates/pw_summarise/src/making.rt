@@ -14,27 +14,8 @@ use crate::names::{Part, module_names};
 use crate::taken::{escaped, taken};
 use crate::uses::all_uses;
 use pw_flow::{FlowFn, FlowModule};
-use pw_items::Items;
-use pw_summary::{Summary, Uses};
-use pw_value::{Kind, Name, Shape};
+use pw_summary::{Defined, Summary, Used, summary_of};
 use std::alloc::{AllocError, Global};
-
-/// What a module defines and declares, each list as `Summary` has it.
-#[derive(Drop)]
-struct Defined {
-    globals: Items<(Name, Shape, Option<Kind>, bool)>,
-    functions: Items<(Name, Shape)>,
-    declared: Items<(Name, Shape)>,
-}
-
-/// What a module uses, each list as `Summary` has it.
-#[derive(Drop)]
-struct Used {
-    used: Items<Name>,
-    taken: Items<(Name, Shape)>,
-    escaped: Items<Name>,
-    uses: Items<Uses>,
-}
 
 /// What a module defines and declares, whose functions stand sorted beside it.
 fn defined_of(alloc: Global, flow: &FlowModule, sorted: &[&FlowFn]) -> Result<Defined, AllocError>
@@ -81,33 +62,6 @@ fn used_of(
         escaped,
         uses,
     })
-}
-
-/// The summary of the module of this name.
-fn summary_of(name: Name, defined: Defined, used: Used) -> Summary
-    ensures { result ≡ (record { «module» = name; globals = defined.globals; functions = defined.functions; declared = defined.declared; used = used.used; taken = used.taken; escaped = used.escaped; uses = used.uses }) }
-{
-    let Defined {
-        globals,
-        functions,
-        declared,
-    } = defined;
-    let Used {
-        used,
-        taken,
-        escaped,
-        uses,
-    } = used;
-    Summary {
-        module: name,
-        globals,
-        functions,
-        declared,
-        used,
-        taken,
-        escaped,
-        uses,
-    }
 }
 
 /// The summary of a module with a lawful flow graph. A weight above 4,294,967,295 stands as that number.

@@ -12,11 +12,12 @@ use Rattle.pw_value.specs.declared.program_names.StartName.TheVariants.{Allowed,
 use Rattle.pw_files.specs.Rising.{rising_at}
 use Rattle.pw_files.specs.Names.{name_list_at, shaped_list_at}
 use Rattle.pw_files.specs.Contents.{Contents}
-use Rattle.pw_summary.specs.declared.reading.Defined.{Defined}
-use Rattle.pw_summary.specs.declared.reading.Used.{Used}
+use Rattle.pw_summary.specs.declared.summary.Defined.{Defined}
+use Rattle.pw_summary.specs.declared.summary.Used.{Used}
 use Rattle.pw_summary.specs.declared.summary.Summary.{Summary}
 use Rattle.pw_summary.specs.declared.summary.Uses.{Uses}
-use Rattle.pw_summary.specs.Reading.{global_at, uses_at, defined_at, used_at, whole_summary, fields_at}
+use Rattle.pw_summary.specs.Reading.{global_at, uses_at, defined_at, used_at, fields_at}
+use Rattle.pw_summary.specs.Summary.{whole_summary}
 
 -- ---- what stands behind several fields
 

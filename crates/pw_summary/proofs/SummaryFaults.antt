@@ -15,7 +15,7 @@ use Rattle.pw_files.proofs.FaultLaws as files
 use Rattle.pw_value.specs.declared.value.Kind.{Kind}
 use Rattle.pw_summary.specs.declared.summary.Uses.{Uses}
 use Rattle.pw_summary.specs.declared.summary.Summary.{Summary}
-use Rattle.pw_summary.specs.Summary.{kind}
+use Rattle.pw_summary.specs.Summary.{kind, summary_version}
 use Rattle.pw_summary.specs.Reading.{global_at, weight_at, reference_at, uses_at, last_rules, fields_at, summary_file_at}
 
 global_onward : (names : List (List ℕ)) (before : Option (List ℕ)) → Onward (global_at names before)
@@ -54,5 +54,5 @@ fields_keep names rule =
     keeps_behind (shaped_list_at names Allowed) _ _ (λ declared. keeps_behind (name_list_at names Allowed) _ _ (λ used. keeps_behind (shaped_list_at names Refused) _ _ (λ taken. keeps_behind (name_list_at names Allowed) _ _ (λ escaped.
     keeps_behind (repeated (uses_at names) (length functions)) _ _ (λ uses. keeps_ended (rule (summary m globals functions declared used taken escaped uses) count) (contents names m globals functions declared used taken escaped uses))))))))))
 
-pub faults_stay : FaultsStay kind fields_at (λ bytes. value_of (summary_file_at bytes))
-faults_stay = files.faults_stay kind fields_at last_rules (contents_onward fields_at fields_onward) (contents_keep fields_at last_rules fields_keep)
+pub faults_stay : FaultsStay kind summary_version fields_at (λ bytes. value_of (summary_file_at bytes))
+faults_stay = files.faults_stay kind summary_version fields_at last_rules (contents_onward fields_at fields_onward) (contents_keep fields_at last_rules fields_keep)

@@ -28,7 +28,7 @@ use Rattle.pw_files.proofs.ContentsLaws.{ModuleRules, module_rules_forth, module
 use Rattle.pw_files.proofs.ContentsLaws as files
 use Rattle.pw_summary.specs.declared.summary.Uses.{Uses}
 use Rattle.pw_summary.specs.declared.summary.Summary.{Summary}
-use Rattle.pw_summary.specs.Summary.{global_names, function_names, IsUses, IsSummary, global, reference, uses, others, names_of_uses, names_of, FitsUses, FitsSummary, spelling, kind, IsSummaryFile}
+use Rattle.pw_summary.specs.Summary.{global_names, function_names, IsUses, IsSummary, global, reference, uses, others, names_of_uses, names_of, FitsUses, FitsSummary, spelling, kind, summary_version, IsSummaryFile}
 use Rattle.pw_summary.specs.Reading.{global_at, weight_at, reference_at, uses_at, last_rules, fields_at, summary_file_at}
 
 -- ---- items
@@ -297,13 +297,13 @@ contents_spells = contents_spell fields_at last_rules spelling body BodySteps (I
 -- ---- the file
 
 pub found_by : (bytes : List ℕ) (r : Result Summary FileError) → AreBytes bytes → GivesFile (λ s. s) r (value_of (summary_file_at bytes)) → IfOk r (IsSummaryFile bytes)
-found_by = files.found_by kind fields_at last_rules spelling (IsContents IsSummary FitsSummary names_of) contents_spells
+found_by = files.found_by kind summary_version fields_at last_rules spelling (IsContents IsSummary FitsSummary names_of) contents_spells
 
 pub only_by : (bytes : List ℕ) (r : Result Summary FileError) → GivesFile (λ s. s) r (value_of (summary_file_at bytes)) → (s : Summary) → IsSummaryFile bytes s → GivesFile (λ s. s) r (Ok s)
-only_by = files.only_by kind fields_at last_rules spelling (IsContents IsSummary FitsSummary names_of) contents_spells (lit< tt)
+only_by = files.only_by kind summary_version fields_at last_rules spelling (IsContents IsSummary FitsSummary names_of) contents_spells (lit< tt) (lit< tt)
 
 pub one_summary : (bytes : List ℕ) (s t : Summary) → IsSummaryFile bytes s → IsSummaryFile bytes t → s ≡ t
-one_summary = files.one_value kind fields_at last_rules spelling (IsContents IsSummary FitsSummary names_of) contents_spells (lit< tt)
+one_summary = files.one_value kind summary_version fields_at last_rules spelling (IsContents IsSummary FitsSummary names_of) contents_spells (lit< tt) (lit< tt)
 
 pub one_file : (bytes others : List ℕ) (s : Summary) → IsSummaryFile bytes s → IsSummaryFile others s → bytes ≡ others
-one_file = files.one_file kind spelling (IsContents IsSummary FitsSummary names_of) names_of (λ c is. is.names)
+one_file = files.one_file kind summary_version spelling (IsContents IsSummary FitsSummary names_of) names_of (λ c is. is.names)

@@ -14,7 +14,7 @@ use Rattle.pw_files.specs.Contents.{IsContents}
 use Rattle.pw_files.proofs.ContentsLaws as files
 use Rattle.pw_summary.specs.declared.summary.Uses.{Uses}
 use Rattle.pw_summary.specs.declared.summary.Summary.{Summary}
-use Rattle.pw_summary.specs.Summary.{global_names, function_names, AreNamed, IsNamedBy, IsSummary, IsSummaryFile, FitsSummary, names_of_uses, names_of, spelling, kind}
+use Rattle.pw_summary.specs.Summary.{global_names, function_names, AreNamed, IsNamedBy, IsSummary, IsSummaryFile, FitsSummary, names_of_uses, names_of, spelling, kind, summary_version}
 
 named : {X : Type 0} (key : X → List ℕ) (names : List (List ℕ)) (xs : List X) → AllUsed (map key xs) names → All (λ x. Contains names (key x)) xs
 named key names xs used = All-from_recursion (λ x. Contains names (key x)) xs (each_by_used key names xs used)
@@ -59,5 +59,5 @@ named_by names s table =
 -- the file
 
 pub is_file : {E : Type 0} (names : List (List ℕ)) (s : Summary) (payload : List ℕ) (r : Result (Vec ℕ) E) → IsSummary s → FitsSummary s → FitsU32 (length names) → IsTableOf names (names_of s)
-    → payload ≡ spelling (record { names = names; value = s }) → OnOk r (FitsFile payload) → IfOk r (λ v. v.items ≡ file kind 1 payload) → IfOk r (λ v. IsSummaryFile v.items s)
-is_file names s payload r is fits count table same room made = files.is_file kind spelling (IsContents IsSummary FitsSummary names_of) (record { names = names; value = s }) payload r (record { lawful = is; fits = fits; name_count = count; names = table }) same room made
+    → payload ≡ spelling (record { names = names; value = s }) → OnOk r (FitsFile payload) → IfOk r (λ v. v.items ≡ file kind summary_version payload) → IfOk r (λ v. IsSummaryFile v.items s)
+is_file names s payload r is fits count table same room made = files.is_file kind summary_version spelling (IsContents IsSummary FitsSummary names_of) (record { names = names; value = s }) payload r (record { lawful = is; fits = fits; name_count = count; names = table }) same room made

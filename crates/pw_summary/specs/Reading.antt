@@ -9,11 +9,11 @@ use Rattle.pw_files.specs.Rising.{rising_at}
 use Rattle.pw_files.specs.Kinds.{kind_at}
 use Rattle.pw_files.specs.Names.{name_above_at, name_list_at, text_list_at, shaped_list_at}
 use Rattle.pw_files.specs.Contents.{Contents, module_rules, contents_file_at}
-use Rattle.pw_summary.specs.declared.reading.Defined.{Defined}
-use Rattle.pw_summary.specs.declared.reading.Used.{Used}
+use Rattle.pw_summary.specs.declared.summary.Defined.{Defined}
+use Rattle.pw_summary.specs.declared.summary.Used.{Used}
 use Rattle.pw_summary.specs.declared.summary.Uses.{Uses}
 use Rattle.pw_summary.specs.declared.summary.Summary.{Summary}
-use Rattle.pw_summary.specs.Summary.{global_names, function_names, names_of, kind}
+use Rattle.pw_summary.specs.Summary.{global_names, function_names, names_of, kind, summary_version}
 
 -- ---- items
 
@@ -65,7 +65,7 @@ fields_at names late = do
   let summary : Summary = record { «module» = «module»; globals = globals; functions = functions; declared = declared; used = used; taken = taken; escaped = escaped; uses = uses } in ended (late summary count) (record { names = names; value = summary })
 
 abbrev pub summary_file_at : List ℕ → Result (Contents Summary) ℕ
-summary_file_at = contents_file_at kind fields_at last_rules
+summary_file_at = contents_file_at kind summary_version fields_at last_rules
 
 -- ---- the fields in two parts behind the module's name
 
@@ -86,6 +86,3 @@ used_at names functions = do
   escaped ← name_list_at names Allowed
   uses ← repeated (uses_at names) functions
   done (record { used = used; taken = taken; escaped = escaped; uses = uses })
-
-abbrev pub whole_summary : List ℕ → Defined → Used → Summary
-whole_summary name d u = record { «module» = name; globals = d.globals; functions = d.functions; declared = d.declared; used = u.used; taken = u.taken; escaped = u.escaped; uses = u.uses }

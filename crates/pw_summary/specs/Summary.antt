@@ -6,11 +6,19 @@ use Rattle.pw_value.specs.Fields.{u64, text, flag, parts, FitsU32, FitsText}
 use Rattle.pw_value.specs.FieldNames.{name_table, name_index}
 use Rattle.pw_value.specs.ProgramNames.{start_name, KeepsStart}
 use Rattle.pw_summary.specs.declared.summary.Uses.{Uses}
+use Rattle.pw_summary.specs.declared.summary.Defined.{Defined}
+use Rattle.pw_summary.specs.declared.summary.Used.{Used}
 use Rattle.pw_summary.specs.declared.summary.Summary.{Summary}
 use Rattle.pw_files.specs.Rising.{IsRising, counted, FitsList}
 use Rattle.pw_files.specs.Kinds.{kind as kind_byte}
 use Rattle.pw_files.specs.Names.{shaped, FitsShapes}
 use Rattle.pw_files.specs.Contents.{Contents, IsContents, IsFileWith}
+
+-- ---- the parts
+
+-- what a module defines and declares, with what it uses
+abbrev pub whole_summary : List ℕ → Defined → Used → Summary
+whole_summary name d u = record { «module» = name; globals = d.globals; functions = d.functions; declared = d.declared; used = u.used; taken = u.taken; escaped = u.escaped; uses = u.uses }
 
 -- ---- the rules
 
@@ -102,6 +110,10 @@ spelling c = parts (name_table c.names ∷ own c.names c.value ∷ others c.name
 abbrev pub kind : ℕ
 kind = 0x50415753
 
+-- the version of the form of a summary file
+abbrev pub summary_version : ℕ
+summary_version = 1
+
 -- the bytes are the file of the summary
 abbrev pub IsSummaryFile : List ℕ → Summary → Type 0
-IsSummaryFile = IsFileWith kind spelling (IsContents IsSummary FitsSummary names_of)
+IsSummaryFile = IsFileWith kind summary_version spelling (IsContents IsSummary FitsSummary names_of)

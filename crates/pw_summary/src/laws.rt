@@ -4,7 +4,7 @@ ghost use Rattle.std.specs.Prelude.{◌≡◌, ℕ, List};
 ghost use Rattle.pw_files.specs.Contents.{value_of};
 ghost use Rattle.pw_files.specs.Faults.{FaultsStay};
 ghost use Rattle.pw_summary.specs.declared.summary.Summary.{Summary};
-ghost use Rattle.pw_summary.specs.Summary.{IsSummaryFile, kind};
+ghost use Rattle.pw_summary.specs.Summary.{IsSummaryFile, kind, summary_version};
 ghost use Rattle.pw_summary.specs.Reading.{fields_at, summary_file_at};
 
 /// No bytes are the file of two summaries, and no summary has two files.
@@ -15,5 +15,5 @@ pub fn summaries_and_files_are_one_to_one()
 
 /// A fault lies within the bytes, and one of the fields rests on the bytes up to the faulty field's end.
 pub fn faults_stay()
-    ensures { FaultsStay kind fields_at (λ bytes. value_of (summary_file_at bytes)) }
+    ensures { FaultsStay kind summary_version fields_at (λ bytes. value_of (summary_file_at bytes)) }
 {}

@@ -8,5 +8,5 @@ mod summary;
 mod writing;
 
 pub use reading::{KIND, read};
-pub use summary::{Summary, Uses};
+pub use summary::{Defined, Summary, Used, Uses, summary_of};
 pub use writing::write;

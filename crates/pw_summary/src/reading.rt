@@ -8,11 +8,11 @@ ghost use Rattle.pw_value.specs.FieldFrame.{ended};
 ghost use Rattle.pw_files.specs.Rising.{next_key, rising_at};
 ghost use Rattle.pw_files.specs.Contents.{broken_at, value_of};
 ghost use Rattle.pw_summary.specs.declared.summary.Summary.{Summary as AnySummary};
-ghost use Rattle.pw_summary.specs.Summary.{IsSummaryFile, kind as kind_of_file};
-ghost use Rattle.pw_summary.specs.Reading.{global_at, weight_at, reference_at, uses_at, defined_at, used_at, whole_summary, last_rules, fields_at, summary_file_at};
+ghost use Rattle.pw_summary.specs.Summary.{IsSummaryFile, kind as kind_of_file, summary_version};
+ghost use Rattle.pw_summary.specs.Reading.{global_at, weight_at, reference_at, uses_at, defined_at, used_at, last_rules, fields_at, summary_file_at};
 
 use crate::names::{check_start_beside_main, used_names};
-use crate::summary::{Summary, Uses};
+use crate::summary::{Defined, Summary, Used, Uses, summary_of};
 use pw_files::format::{Format, read_value};
 use pw_files::kinds::read_kind;
 use pw_files::late::check_used;
@@ -26,6 +26,9 @@ use std::alloc::Global;
 
 /// `PAWS`, the first four bytes of a summary file.
 pub const KIND: u32 = 0x5041_5753;
+
+/// The version of the form of a summary file.
+pub(crate) const VERSION: u32 = 1;
 
 /// A weight.
 #[tactic(auto, unfolding(crate::specs::Reading::weight_at))]
@@ -183,23 +186,6 @@ fn read_all_uses<'a>(
     Ok((all, rest))
 }
 
-/// What a module defines and declares, each list as `Summary` has it.
-#[derive(Drop)]
-struct Defined {
-    globals: Items<(Name, Shape, Option<Kind>, bool)>,
-    functions: Items<(Name, Shape)>,
-    declared: Items<(Name, Shape)>,
-}
-
-/// What a module uses, each list as `Summary` has it.
-#[derive(Drop)]
-struct Used {
-    used: Items<Name>,
-    taken: Items<(Name, Shape)>,
-    escaped: Items<Name>,
-    uses: Items<Uses>,
-}
-
 /// What the module defines and declares, and how many bytes are left from the count of its functions on.
 #[tactic(auto, unfolding(crate::specs::Reading::defined_at))]
 fn read_defined<'a>(
@@ -241,33 +227,6 @@ fn read_used<'a>(
         uses,
     };
     Ok((used, rest))
-}
-
-/// The summary of the module of this name.
-fn summary_of(name: Name, defined: Defined, used: Used) -> Summary
-    ensures { result ≡ whole_summary name defined used }
-{
-    let Defined {
-        globals,
-        functions,
-        declared,
-    } = defined;
-    let Used {
-        used,
-        taken,
-        escaped,
-        uses,
-    } = used;
-    Summary {
-        module: name,
-        globals,
-        functions,
-        declared,
-        used,
-        taken,
-        escaped,
-        uses,
-    }
 }
 
 /// The fields of the summary, behind the table of names: the summary, how many bytes are left from the
@@ -331,6 +290,10 @@ impl Format for SummaryFormat {
     const KIND: u32 = KIND;
 
     ghost KIND = { kind_of_file };
+
+    const VERSION: u32 = VERSION;
+
+    ghost VERSION = { summary_version };
 
     ghost fields = { fields_at };
 

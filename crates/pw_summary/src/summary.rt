@@ -1,5 +1,8 @@
 //! The summary of a module.
 
+ghost use Rattle.std.specs.Prelude.{◌≡◌};
+ghost use Rattle.pw_summary.specs.Summary.{whole_summary};
+
 use pw_items::Items;
 use pw_value::{Kind, Name, Shape};
 
@@ -34,4 +37,48 @@ pub struct Summary {
     pub escaped: Items<Name>,
     /// What each function uses, in the order of `functions`.
     pub uses: Items<Uses>,
+}
+
+/// What a module defines and declares, each list as `Summary` has it.
+#[derive(Drop)]
+pub struct Defined {
+    pub globals: Items<(Name, Shape, Option<Kind>, bool)>,
+    pub functions: Items<(Name, Shape)>,
+    pub declared: Items<(Name, Shape)>,
+}
+
+/// What a module uses, each list as `Summary` has it.
+#[derive(Drop)]
+pub struct Used {
+    pub used: Items<Name>,
+    pub taken: Items<(Name, Shape)>,
+    pub escaped: Items<Name>,
+    pub uses: Items<Uses>,
+}
+
+/// The summary of the module of this name.
+pub fn summary_of(name: Name, defined: Defined, used: Used) -> Summary
+    ensures { result ≡ whole_summary name defined used }
+{
+    let Defined {
+        globals,
+        functions,
+        declared,
+    } = defined;
+    let Used {
+        used,
+        taken,
+        escaped,
+        uses,
+    } = used;
+    Summary {
+        module: name,
+        globals,
+        functions,
+        declared,
+        used,
+        taken,
+        escaped,
+        uses,
+    }
 }

@@ -9,7 +9,7 @@ ghost use Rattle.pw_files.specs.Names.{FitsShapes};
 ghost use Rattle.pw_summary.specs.Summary.{IsSummary, IsSummaryFile, FitsUses, FitsSummary, AreNamed, IsNamedBy, global as global_text, reference as reference_text, uses as uses_text, own, others, spelling};
 
 use crate::names::used_names;
-use crate::reading::KIND;
+use crate::reading::{KIND, VERSION};
 use crate::summary::{Summary, Uses};
 use pw_files::kinds::push_kind;
 use pw_files::writing::{
@@ -197,5 +197,5 @@ pub fn write(alloc: Global, summary: &Summary) -> Result<Vec<u8>, AllocError>
     let used = used_names(alloc, summary)?;
     let names = make_table(alloc, used)?;
     let payload = write_payload(alloc, &names, summary)?;
-    seal_payload(alloc, KIND, 1, &payload)
+    seal_payload(alloc, KIND, VERSION, &payload)
 }

@@ -1,6 +1,7 @@
 //! A folder of files, whose calls answer with the library's errors.
 
-ghost use Rattle.std.specs.Prelude.{◌≡◌, Option, None, Some, Ok, IfOk, IfErr, OnOk, OnErr};
+ghost use Rattle.std.specs.Prelude.{◌≡◌, ◌≢◌, Option, None, Some, Ok, IfOk, IfErr, IfSome, OnOk, OnErr, take, string_cmp};
+ghost use Rattle.std.specs.List.Sorted.{IsSorted};
 ghost use Rattle.std.specs.IoError.{error_kind};
 ghost use Rattle.std.specs.declared.io.ErrorKind.{ErrorKind};
 ghost use Rattle.pw_io.specs.Files.{Told, Keeps, ListsNames, Puts, PutsPart, Removes};
@@ -27,6 +28,7 @@ pub trait Folder {
     /// The names of all files, in byte order.
     fn names(&mut self, alloc: Global) -> io::Result<Vec<String>>
         ensures names { IfOk result (λ names. ListsNames (told self.old) names.items) }
+        ensures sorted { IfOk result (λ names. IsSorted string_cmp names.items) }
         ensures same { Keeps (told self.old) (told self.new) }
         ensures kind { TellsKind result (last_fault self.new) };
 
@@ -34,6 +36,13 @@ pub trait Folder {
     fn open(&mut self, name: &str) -> io::Result<Self::File>
         ensures file { IfOk result (λ file. Opens (told self.old) name.now (Self.File.Read.remaining file)) }
         ensures absent { IfErr result (λ e. error_kind e ≡ ErrorKind.NotFound → IsAbsent (told self.old) name.now) }
+        ensures same { Keeps (told self.old) (told self.new) }
+        ensures kind { TellsKind result (last_fault self.new) };
+
+    /// The first `most` bytes of a file that was opened. The kind of an error is never not found, since the file was there.
+    fn front(&mut self, alloc: Global, file: Self::File, most: usize) -> io::Result<Vec<u8>>
+        ensures bytes { IfOk result (λ bytes. IfSome (Self.File.Read.remaining file) (λ rest. bytes.items ≡ take most rest)) }
+        ensures found { IfErr result (λ e. error_kind e ≢ ErrorKind.NotFound) }
         ensures same { Keeps (told self.old) (told self.new) }
         ensures kind { TellsKind result (last_fault self.new) };
 
@@ -129,7 +138,9 @@ fn push_entry<R: Files + AllocGlobal + Clone + Drop>(
 fn file_names<R: Files + AllocGlobal + Clone + Drop>(
     alloc: Global,
     rt: &R,
-) -> io::Result<Vec<String>> {
+) -> io::Result<Vec<String>>
+    ensures sorted { IfOk result (λ names. IsSorted string_cmp names.items) }
+{
     let mut names = Vec::new(alloc);
     for entry in fs::read_dir(rt, ".")? {
         push_entry(alloc, rt, &mut names, entry)?;
@@ -147,6 +158,29 @@ fn open_file<R: Files>(rt: &R, name: &str) -> io::Result<R::File> {
     Ok(file)
 }
 
+/// What a fault in reading an opened file comes to. The file was there: one that says otherwise is answered as another.
+fn read_fault(fault: io::Error) -> io::Error
+    ensures found { error_kind result ≢ ErrorKind.NotFound }
+    ensures other { error_kind fault ≢ ErrorKind.NotFound → result ≡ fault }
+{
+    if fault.kind() == ErrorKind::NotFound {
+        return io::Error::from(ErrorKind::Other);
+    }
+    fault
+}
+
+/// The first `most` bytes that a reader has left.
+fn front_of<R: Read + Drop>(alloc: Global, reader: R, most: usize) -> io::Result<Vec<u8>>
+    ensures bytes { IfOk result (λ bytes. IfSome (R.remaining reader) (λ rest. bytes.items ≡ take most rest)) }
+    ensures found { IfErr result (λ e. error_kind e ≢ ErrorKind.NotFound) }
+{
+    let mut bytes = Vec::new(alloc);
+    match reader.take(most as u64).read_to_end(&mut bytes) {
+        Ok(_) => Ok(bytes),
+        Err(fault) => Err(read_fault(fault)),
+    }
+}
+
 impl<'a, R: Files + AllocGlobal + Clone + Drop> Folder for CurrentFolder<'a, R> {
     type File = R::File;
 
@@ -162,6 +196,11 @@ impl<'a, R: Files + AllocGlobal + Clone + Drop> Folder for CurrentFolder<'a, R> 
     fn open(&mut self, name: &str) -> io::Result<R::File> {
         let file = open_file(self.rt, name);
         self.noted(file)
+    }
+
+    fn front(&mut self, alloc: Global, file: R::File, most: usize) -> io::Result<Vec<u8>> {
+        let bytes = front_of(alloc, file, most);
+        self.noted(bytes)
     }
 
     fn write(&mut self, name: &str, bytes: &[u8]) -> io::Result<()> {

@@ -1,7 +1,8 @@
 //! A folder's files as a store, which tells what the folder tells.
 
-ghost use Rattle.std.specs.Prelude.{◌≡◌, ◌↔◌, ◌⊎◌, None, Some, Ok, Err, IfOk, IfErr, IsOk, OnOk, OnErr, IfSome, IsSome, take};
+ghost use Rattle.std.specs.Prelude.{◌≡◌, ◌↔◌, ◌⊎◌, None, Some, Ok, Err, IfOk, IfErr, IsOk, OnOk, OnErr, string_cmp};
 ghost use Rattle.std.specs.IoError.{error_kind};
+ghost use Rattle.std.specs.List.Sorted.{IsSorted};
 ghost use Rattle.pw_io.specs.Faults.{HasStoreCause, OnFailed, OnNoMemory};
 ghost use Rattle.pw_io.specs.Files.{Keeps, ListsNames, ReadsFront, Puts, PutsPart, Removes};
 ghost use Rattle.pw_system.specs.Faults.{IsCounted};
@@ -10,22 +11,13 @@ use crate::folder::Folder;
 use crate::streams::raised;
 use pw_io::{Store, StoreError};
 use std::alloc::Global;
-use std::io::{self, ErrorKind, Read};
+use std::io::{self, ErrorKind};
 
 /// The files of a folder.
 #[derive(Drop)]
 pub struct FileStore<F> {
     folder: F,
     faults: u64,
-}
-
-/// The first `most` bytes that a reader has left.
-fn front_of<R: Read + Drop>(alloc: Global, reader: R, most: usize) -> io::Result<Vec<u8>>
-    ensures { IfOk result (λ bytes. IfSome (R.remaining reader) (λ rest. bytes.items ≡ take most rest)) }
-{
-    let mut bytes = Vec::new(alloc);
-    reader.take(most as u64).read_to_end(&mut bytes)?;
-    Ok(bytes)
 }
 
 impl<F> FileStore<F> {
@@ -82,6 +74,7 @@ impl<F: Folder> Store for FileStore<F> {
 
     fn names(&mut self, alloc: Global) -> Result<Vec<String>, StoreError>
         ensures names { IfOk result (λ names. ListsNames (F.told self.old.folder) names.items) }
+        ensures sorted { IfOk result (λ names. IsSorted string_cmp names.items) }
         ensures same { Keeps (F.told self.old.folder) (F.told self.new.folder) }
         ensures cause { HasStoreCause self.old.faults self.new.faults result }
         ensures answered { IsOk result ↔ (F.last_fault self.new.folder ≡ None) }
@@ -93,14 +86,13 @@ impl<F: Folder> Store for FileStore<F> {
         }
     }
 
-    /// A file that was opened can still fail to be read, which the folder does not tell.
     fn get(&mut self, alloc: Global, name: &str, most: usize) -> Result<Option<Vec<u8>>, StoreError>
         ensures file { IfOk result (λ file. ReadsFront (F.told self.old.folder) name.now most file) }
         ensures same { Keeps (F.told self.old.folder) (F.told self.new.folder) }
         ensures cause { HasStoreCause self.old.faults self.new.faults result }
         ensures absent { (result ≡ Ok None) ↔ (F.last_fault self.new.folder ≡ Some ErrorKind.NotFound) }
-        ensures opened { IfOk result (λ file. IsSome file → F.last_fault self.new.folder ≡ None) }
-        ensures memory { IfSome (F.last_fault self.new.folder) (λ kind. (result ≡ Err StoreError.NoMemory) ↔ (kind ≡ ErrorKind.OutOfMemory)) }
+        ensures answered { IsOk result ↔ ((F.last_fault self.new.folder ≡ None) ⊎ (F.last_fault self.new.folder ≡ Some ErrorKind.NotFound)) }
+        ensures memory { (result ≡ Err StoreError.NoMemory) ↔ (F.last_fault self.new.folder ≡ Some ErrorKind.OutOfMemory) }
     {
         let file = match self.folder.open(name) {
             Ok(file) => file,
@@ -109,7 +101,7 @@ impl<F: Folder> Store for FileStore<F> {
                 return Ok(None);
             }
         };
-        match front_of(alloc, file, most) {
+        match self.folder.front(alloc, file, most) {
             Ok(bytes) => Ok(Some(bytes)),
             Err(fault) => Err(self.fault(fault)),
         }

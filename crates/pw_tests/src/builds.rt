@@ -126,62 +126,73 @@ pub static EDITS: [Step; 18] = [
     },
 ];
 
-/// One byte of a kept file is changed, or the file is absent.
-pub static DAMAGES: [Step; 13] = [
+/// One byte of a kept file is changed, or the file is absent. What was lost is made anew once.
+pub static DAMAGES: [Step; 25] = [
     Step {
         edit: Edit::New(COUNTER),
         ..BUILT_TWO
     },
+    BUILT_NONE,
     Step {
         edit: Edit::Change("a.obj", 0),
         puts: "a.obj",
         ..BUILT_ONE
     },
+    BUILT_NONE,
     Step {
         edit: Edit::Change("a.obj", 4),
         puts: "a.obj",
         ..BUILT_ONE
     },
+    BUILT_NONE,
     Step {
         edit: Edit::Change("b.obj", 8),
         puts: "b.obj",
         ..BUILT_ONE
     },
+    BUILT_NONE,
     Step {
         edit: Edit::Change("a.obj", 12),
         puts: "a.obj",
         ..BUILT_ONE
     },
+    BUILT_NONE,
     Step {
         edit: Edit::Change("b.obj", 1_000_000),
         puts: "b.obj",
         ..BUILT_ONE
     },
+    BUILT_NONE,
     Step {
         edit: Edit::Remove("a.obj"),
         puts: "a.obj",
         ..BUILT_ONE
     },
+    BUILT_NONE,
     Step {
         edit: Edit::Change("prog.db", 0),
         puts: "prog.db",
         ..BUILT_NONE
     },
+    BUILT_NONE,
     Step {
         edit: Edit::Remove("prog.db"),
         puts: "prog.db",
         ..BUILT_NONE
     },
+    BUILT_NONE,
     Step {
         edit: Edit::Change("prog.img", 30),
         puts: "prog.img",
         ..BUILT_NONE
     },
+    BUILT_NONE,
     Step {
         edit: Edit::Remove("prog.img"),
         puts: "prog.img",
         ..BUILT_NONE
     },
+    BUILT_NONE,
     Step {
         edit: Edit::Cut("a.obj"),
         line: "link",
@@ -193,6 +204,7 @@ pub static DAMAGES: [Step; 13] = [
         puts: "a.obj",
         ..BUILT_ONE
     },
+    BUILT_NONE,
 ];
 
 /// The calculator is built and run.

@@ -2,19 +2,24 @@
 
 use crate::steps::Output;
 
-/// Whether a line is the wanted one, in which one `*` stands for any text.
-fn is_line(line: &str, wanted: &str) -> bool {
+/// Whether a line is the wanted one, in which one `*` stands for any text, and which is another line where `=` is wanted.
+fn is_line(line: &str, wanted: &str, other: &str) -> bool {
     match wanted.split_once('*') {
         Some((front, end)) => line.starts_with(front) && line.ends_with(end),
+        None if wanted == "=" => line == other,
         None => line == wanted,
     }
 }
 
-/// Whether a text has the wanted lines.
+/// Whether a text has the wanted lines, of which `=` is the line of the last `*`.
 fn are_lines(text: &str, wanted: &str) -> bool {
+    let mut starred = "";
     for (line, row) in text.split('\n').zip(wanted.split('\n')) {
-        if !is_line(line, row) {
+        if !is_line(line, row, starred) {
             return false;
+        }
+        if row.ends_with('*') {
+            starred = line;
         }
     }
     text.split('\n').count() == wanted.split('\n').count()

@@ -70,15 +70,13 @@ pub static SCRIPTS: [Step; 13] = [
         puts: "a.i a.obj prog.db prog.img a.i a.obj prog.img",
         ..SESSION
     },
-    // An edit that changes no flow graph makes nothing anew.
+    // An edit that changes no flow graph makes nothing anew, and the image is the same.
     Step {
         input: &[(
             "put a.i 82\nint n; void bump(void); int main(void){int i; for(i=0;i<100;i++)bump(); return n;}\nput b.i 37\nextern int n; void bump(void){n=n+1;}\nbuild\nrun 0\n\nput b.i 41\nextern int n; void bump(void){n=n+1;}/**/\nbuild\n",
             1,
         )],
-        output: Output::Lines(
-            "ok\nok\nbuilt 2 of 2\nimage *\n[Ended 100]\nok\nbuilt 0 of 2\nimage *\n",
-        ),
+        output: Output::Lines("ok\nok\nbuilt 2 of 2\nimage *\n[Ended 100]\nok\nbuilt 0 of 2\n=\n"),
         puts: "a.i b.i a.obj b.obj prog.db prog.img b.i",
         ..SESSION
     },

@@ -32,7 +32,7 @@ pub enum Edit {
 /// What a command must put out.
 #[derive(Clone, Copy)]
 pub enum Output {
-    /// This text. In each of its lines one `*` stands for any text.
+    /// This text. In each of its lines one `*` stands for any text, and a line `=` for the line whose end was the last `*`.
     Lines(&'static str),
     /// So many bytes.
     Length(usize),

@@ -8,8 +8,8 @@ use std::io::{self, BufWriter, ErrorKind, Write};
 use std::os::unix::fs::symlink;
 use std::rt::Files;
 
-/// The files of which the fronts are read, and how many bytes.
-const GETS: [(&str, usize); 9] = [
+/// The files of which the fronts are read, and how many bytes. The system opens the last one, and fails to read it.
+const GETS: [(&str, usize); 10] = [
     ("a.i", 100),
     ("a.i", 4),
     ("a.i", 3),
@@ -19,6 +19,7 @@ const GETS: [(&str, usize); 9] = [
     ("to_folder.i", 9),
     ("to_nothing.i", 9),
     ("to_a.i", 2),
+    ("/proc/self/mem", 9),
 ];
 
 /// The files that are written.

@@ -17,7 +17,6 @@ pub struct Word {
 
 /// An expression (C90 6.3).
 #[cycle(expr)]
-#[derive(Drop)]
 pub enum Expr {
     Identifier(Word),
     /// An integer constant (6.1.3.2).
@@ -80,7 +79,6 @@ pub enum Expr {
 
 /// An operator of a chain with the operand behind it, at the operator.
 #[cycle(expr)]
-#[derive(Drop)]
 pub struct Operation {
     pub token: usize,
     pub operator: BinaryOperator,
@@ -89,7 +87,6 @@ pub struct Operation {
 
 /// What stands behind a primary expression (C90 6.3.2).
 #[cycle(expr)]
-#[derive(Drop)]
 pub enum PostfixOperation {
     /// An index, at its `[`.
     Index {
@@ -116,7 +113,6 @@ pub enum PostfixOperation {
 
 /// A type name (C90 6.5.5): specifiers and a declarator without a name.
 #[cycle(expr)]
-#[derive(Drop)]
 pub struct TypeName {
     pub specifiers: Vec<Specifier>,
     pub declarator: Declarator,
@@ -162,7 +158,6 @@ pub enum RecordKind {
 
 /// One of the specifiers at the front of a declaration, in the source's order (C90 6.5).
 #[cycle(expr)]
-#[derive(Drop)]
 pub enum Specifier {
     Storage {
         token: usize,
@@ -206,7 +201,6 @@ pub enum Specifier {
 
 /// A declaration of members (C90 6.5.2.1).
 #[cycle(expr)]
-#[derive(Drop)]
 pub struct Member {
     pub specifiers: Vec<Specifier>,
     pub declarators: Vec<MemberDeclarator>,
@@ -214,7 +208,6 @@ pub struct Member {
 
 /// One member of a declaration of members.
 #[cycle(expr)]
-#[derive(Drop)]
 pub enum MemberDeclarator {
     Plain(Declarator),
     /// A bit-field, at its `:`.
@@ -232,7 +225,6 @@ pub enum MemberDeclarator {
 
 /// An enumeration constant (C90 6.5.2.2).
 #[cycle(expr)]
-#[derive(Drop)]
 pub enum Enumerator {
     Plain(Word),
     Valued { name: Word, value: Expr },
@@ -240,7 +232,6 @@ pub enum Enumerator {
 
 /// A declarator (C90 6.5.4), or one without a name (6.5.5). In a type name or a parameter it may be empty.
 #[cycle(expr)]
-#[derive(Drop)]
 pub struct Declarator {
     pub pointers: Vec<Pointer>,
     pub core: Core,
@@ -256,7 +247,6 @@ pub struct Pointer {
 
 /// What stands between a declarator's pointers and its suffixes.
 #[cycle(expr)]
-#[derive(Drop)]
 pub enum Core {
     Absent,
     Name(Word),
@@ -269,7 +259,6 @@ pub enum Core {
 
 /// What stands behind a declarator's name (C90 6.5.4.2, 6.5.4.3).
 #[cycle(expr)]
-#[derive(Drop)]
 pub enum Suffix {
     /// An array, at its `[`.
     Array {
@@ -299,7 +288,6 @@ pub enum Suffix {
 
 /// A parameter (C90 6.5.4.3): its declarator may have no name, and may be empty.
 #[cycle(expr)]
-#[derive(Drop)]
 pub struct Parameter {
     pub specifiers: Vec<Specifier>,
     pub declarator: Declarator,
@@ -360,5 +348,212 @@ impl RecordKind {
             RecordKind::Struct => Keyword::Struct,
             RecordKind::Union => Keyword::Union,
         }
+    }
+}
+
+impl Drop for Expr {
+    #[cycle(drop_expr)]
+    fn drop(self) {
+        match self {
+            Expr::Identifier(_) => {}
+            Expr::Number(_) => {}
+            Expr::Floating(_) => {}
+            Expr::Character(_) => {}
+            Expr::Wide(_) => {}
+            Expr::Strings(_) => {}
+            Expr::Paren { token: _, inner: _ } => {}
+            Expr::Postfix {
+                operand: _,
+                operations: _,
+            } => {}
+            Expr::Unary {
+                token: _,
+                operator: _,
+                operand: _,
+            } => {}
+            Expr::SizeofType { token: _, named: _ } => {}
+            Expr::Cast {
+                token: _,
+                named: _,
+                operand: _,
+            } => {}
+            Expr::Chain { first: _, rest: _ } => {}
+            Expr::Conditional {
+                token: _,
+                condition: _,
+                chosen: _,
+                otherwise: _,
+            } => {}
+            Expr::Assign {
+                token: _,
+                operator: _,
+                left: _,
+                right: _,
+            } => {}
+        }
+    }
+}
+
+impl Drop for Operation {
+    #[cycle(drop_expr)]
+    fn drop(self) {
+        let Operation {
+            token: _,
+            operator: _,
+            operand: _,
+        } = self;
+    }
+}
+
+impl Drop for PostfixOperation {
+    #[cycle(drop_expr)]
+    fn drop(self) {
+        match self {
+            PostfixOperation::Index { token: _, index: _ } => {}
+            PostfixOperation::Call {
+                token: _,
+                arguments: _,
+            } => {}
+            PostfixOperation::Member {
+                token: _,
+                access: _,
+                name: _,
+            } => {}
+            PostfixOperation::Step {
+                token: _,
+                operator: _,
+            } => {}
+        }
+    }
+}
+
+impl Drop for TypeName {
+    #[cycle(drop_expr)]
+    fn drop(self) {
+        let TypeName {
+            specifiers: _,
+            declarator: _,
+        } = self;
+    }
+}
+
+impl Drop for Specifier {
+    #[cycle(drop_expr)]
+    fn drop(self) {
+        match self {
+            Specifier::Storage { token: _, class: _ } => {}
+            Specifier::Qualifier {
+                token: _,
+                qualifier: _,
+            } => {}
+            Specifier::Basic { token: _, basic: _ } => {}
+            Specifier::TypedefName(_) => {}
+            Specifier::RecordTag {
+                token: _,
+                kind: _,
+                tag: _,
+            } => {}
+            Specifier::Record {
+                token: _,
+                kind: _,
+                tag: _,
+                members: _,
+            } => {}
+            Specifier::EnumTag { token: _, tag: _ } => {}
+            Specifier::Enum {
+                token: _,
+                tag: _,
+                enumerators: _,
+            } => {}
+        }
+    }
+}
+
+impl Drop for Member {
+    #[cycle(drop_expr)]
+    fn drop(self) {
+        let Member {
+            specifiers: _,
+            declarators: _,
+        } = self;
+    }
+}
+
+impl Drop for MemberDeclarator {
+    #[cycle(drop_expr)]
+    fn drop(self) {
+        match self {
+            MemberDeclarator::Plain(_) => {}
+            MemberDeclarator::BitField {
+                declarator: _,
+                token: _,
+                width: _,
+            } => {}
+            MemberDeclarator::Padding { token: _, width: _ } => {}
+        }
+    }
+}
+
+impl Drop for Enumerator {
+    #[cycle(drop_expr)]
+    fn drop(self) {
+        match self {
+            Enumerator::Plain(_) => {}
+            Enumerator::Valued { name: _, value: _ } => {}
+        }
+    }
+}
+
+impl Drop for Declarator {
+    #[cycle(drop_expr)]
+    fn drop(self) {
+        let Declarator {
+            pointers: _,
+            core: _,
+            suffixes: _,
+        } = self;
+    }
+}
+
+impl Drop for Core {
+    #[cycle(drop_expr)]
+    fn drop(self) {
+        match self {
+            Core::Absent => {}
+            Core::Name(_) => {}
+            Core::Paren { token: _, inner: _ } => {}
+        }
+    }
+}
+
+impl Drop for Suffix {
+    #[cycle(drop_expr)]
+    fn drop(self) {
+        match self {
+            Suffix::Array {
+                token: _,
+                length: _,
+            } => {}
+            Suffix::OpenArray { token: _ } => {}
+            Suffix::Parameters {
+                token: _,
+                parameters: _,
+            } => {}
+            Suffix::Variadic {
+                token: _,
+                parameters: _,
+            } => {}
+            Suffix::Identifiers { token: _, names: _ } => {}
+        }
+    }
+}
+
+impl Drop for Parameter {
+    #[cycle(drop_expr)]
+    fn drop(self) {
+        let Parameter {
+            specifiers: _,
+            declarator: _,
+        } = self;
     }
 }

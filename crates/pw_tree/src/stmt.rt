@@ -5,7 +5,6 @@ use crate::expr::{Expr, Word};
 
 /// A statement (C90 6.6). Its token is its first, but that of an expression statement is its expression's first.
 #[cycle(stmt)]
-#[derive(Drop)]
 pub enum Stmt {
     Block(Block),
     Expression(Expr),
@@ -74,7 +73,6 @@ pub enum Stmt {
 
 /// Declarations and then statements in braces (C90 6.6.2), at the `{`.
 #[cycle(stmt)]
-#[derive(Drop)]
 pub struct Block {
     pub token: usize,
     pub declarations: Vec<Decl>,
@@ -83,7 +81,6 @@ pub struct Block {
 
 /// `else if`, its condition and its statement, at the `if`.
 #[cycle(stmt)]
-#[derive(Drop)]
 pub struct ElseIf {
     pub token: usize,
     pub condition: Expr,
@@ -91,9 +88,88 @@ pub struct ElseIf {
 }
 
 /// A label (C90 6.6.1), at its first token.
-#[derive(Drop)]
 pub enum Label {
     Case { token: usize, value: Expr },
     Default { token: usize },
     Name(Word),
+}
+
+impl Drop for Stmt {
+    #[cycle(drop_stmt)]
+    fn drop(self) {
+        match self {
+            Stmt::Block(_) => {}
+            Stmt::Expression(_) => {}
+            Stmt::Empty { token: _ } => {}
+            Stmt::Labeled {
+                labels: _,
+                statement: _,
+            } => {}
+            Stmt::If {
+                token: _,
+                condition: _,
+                chosen: _,
+                else_ifs: _,
+                otherwise: _,
+            } => {}
+            Stmt::Switch {
+                token: _,
+                value: _,
+                body: _,
+            } => {}
+            Stmt::While {
+                token: _,
+                condition: _,
+                body: _,
+            } => {}
+            Stmt::Do {
+                token: _,
+                body: _,
+                condition: _,
+            } => {}
+            Stmt::For {
+                token: _,
+                start: _,
+                condition: _,
+                step: _,
+                body: _,
+            } => {}
+            Stmt::Goto { token: _, label: _ } => {}
+            Stmt::Continue { token: _ } => {}
+            Stmt::Break { token: _ } => {}
+            Stmt::Return { token: _, value: _ } => {}
+        }
+    }
+}
+
+impl Drop for Block {
+    #[cycle(drop_stmt)]
+    fn drop(self) {
+        let Block {
+            token: _,
+            declarations: _,
+            statements: _,
+        } = self;
+    }
+}
+
+impl Drop for ElseIf {
+    #[cycle(drop_stmt)]
+    fn drop(self) {
+        let ElseIf {
+            token: _,
+            condition: _,
+            chosen: _,
+        } = self;
+    }
+}
+
+impl Drop for Label {
+    fn drop(self) {
+        match self {
+            Label::Case { token: _, value: _ } => {}
+            Label::Default { token: _ } => {}
+            Label::Name(_) => {}
+        }
+    }
 }

@@ -6,7 +6,7 @@ pub mod spines;
 pub mod tree;
 
 pub use pw_types::{BinaryOperator, LogicOperator, StepOperator, UnaryOperator};
-pub use rooms::{START_ROOM, expr_nodes, room, stmt_nodes};
+pub use rooms::{NODE_ROOM, START_ROOM, expr_nodes, numbers_of_rooms, room, stmt_nodes};
 pub use spines::{first_operand, spine};
 pub use tree::{
     Arm, Case, Declared, Initialiser, Local, Symbol, TExpr, TForm, TFunction, TGlobal, TItem,

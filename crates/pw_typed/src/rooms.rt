@@ -13,6 +13,15 @@ use pw_types::{Types, cap, round_up, size};
 /// The room of the function that the program starts with, which calls `main`.
 pub const START_ROOM: u64 = 256;
 
+/// What a node of a function's body takes of its room.
+pub const NODE_ROOM: u64 = 16;
+
+/// The numbers of rooms are those that the definitions speak of.
+pub fn numbers_of_rooms()
+    ensures start { START_ROOM ≡ spec.start_room }
+    ensures node { NODE_ROOM ≡ spec.node_room }
+{}
+
 /// The count of the nodes of an expression; the greatest u64 where there are more.
 #[cycle(nodes)]
 #[tactic(auto, using(crate::proofs::NodeLemmas::nodes_split))]
@@ -175,8 +184,8 @@ fn nodes_of_three(a: &Option<TExpr>, b: &Option<TExpr>, c: &Option<TExpr>) -> u6
 }
 
 /// The room of a function, which bounds its frame (in bytes): for each local and parameter its size
-/// and one byte, rounded up to a multiple of 8; 8 for each parameter; 16 for each node of its body;
-/// and 256. It is the greatest u64 where it would be more.
+/// and one byte, rounded up to a multiple of 8; 8 for each parameter; `NODE_ROOM` for each node of its
+/// body; and `START_ROOM`. It is the greatest u64 where it would be more.
 pub fn room(types: &Types, f: &TFunction) -> u64
     ensures { result ≡ capped (spec.room_of types.now (view.view_function f.now)) }
 {
@@ -185,7 +194,7 @@ pub fn room(types: &Types, f: &TFunction) -> u64
         room = room.saturating_add(local_room(types, local));
     }
     room.saturating_add(8 * u64::from(f.params))
-        .saturating_add(stmt_nodes(&f.body).saturating_mul(16))
+        .saturating_add(stmt_nodes(&f.body).saturating_mul(NODE_ROOM))
 }
 
 /// What a local or parameter takes, as far as 64 bits can tell it.

@@ -126,7 +126,6 @@ pub enum Initialiser {
 
 /// A statement.
 #[cycle(tstmt)]
-#[derive(Drop)]
 pub struct TStmt {
     pub token: usize,
     pub form: TStmtForm,
@@ -144,7 +143,6 @@ pub struct Arm {
 /// The forms of statements. The labels of a function, those of cases and defaults included, are
 /// numbered from 0 in the order of the text.
 #[cycle(tstmt)]
-#[derive(Drop)]
 pub enum TStmtForm {
     Empty,
     Expr(TExpr),
@@ -170,6 +168,32 @@ pub enum TStmtForm {
     Break,
     Continue,
     Return(Option<TExpr>),
+}
+
+impl Drop for TStmt {
+    #[cycle(drop_statement)]
+    fn drop(self) {
+        let TStmt { token: _, form: _ } = self;
+    }
+}
+
+impl Drop for TStmtForm {
+    #[cycle(drop_statement)]
+    fn drop(self) {
+        match self {
+            TStmtForm::Empty | TStmtForm::Break | TStmtForm::Continue => {}
+            TStmtForm::Expr(_) | TStmtForm::Goto(_) | TStmtForm::Return(_) => {}
+            TStmtForm::Block {
+                first: _,
+                count: _,
+                initialisers: _,
+                items: _,
+            } => {}
+            TStmtForm::If(_, _) | TStmtForm::While(_, _) | TStmtForm::Do(_, _) => {}
+            TStmtForm::For(_, _, _, _) | TStmtForm::Switch(_, _, _, _) => {}
+            TStmtForm::Label(_, _) => {}
+        }
+    }
 }
 
 /// A parameter or a local of automatic lifetime. One that is defined const is not writable.

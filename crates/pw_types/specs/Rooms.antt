@@ -92,5 +92,9 @@ nodes_of f = stmt_nodes f.body
 abbrev pub start_room : ℕ
 start_room = 256
 
+-- what a node of the body takes
+abbrev pub node_room : ℕ
+node_room = 16
+
 abbrev pub room_of : List RecordValue → FunctionValue → ℕ
-room_of records f = sum_by (local_room records) f.locals + 8 * f.params + 16 * nodes_of f + start_room
+room_of records f = sum_by (local_room records) f.locals + 8 * f.params + node_room * nodes_of f + start_room

@@ -1,4 +1,4 @@
--- The limit on sizes: an object and every other complete type has at most 1,048,576 bytes.
+-- The limit on sizes: an object and every other complete type has at most `size_limit` bytes.
 use Rattle.std.specs.Prelude.{ℕ, nat_lt, if◌then◌else◌, Option, None, Some, List}
 use Rattle.std.specs.Option.{option_or}
 use Rattle.pw_types.specs.TypeTrees.{CType, Void, Int, Pointer, Array, Function, Record, Qualified, QTypes, NoType, OneType, RecordValue}

@@ -5,7 +5,6 @@ use crate::kind::IntKind;
 /// A type without qualifiers of its own. The length of an array may be unknown; a structure or union
 /// is named by its number in the list of the module's records.
 #[cycle(ctype)]
-#[derive(Drop)]
 pub enum CType {
     Void,
     Int(IntKind),
@@ -13,6 +12,16 @@ pub enum CType {
     Array(Box<QType>, Option<u32>),
     Function(Box<Signature>),
     Record(u32),
+}
+
+impl Drop for CType {
+    #[cycle(drop_ctype)]
+    fn drop(self) {
+        match self {
+            CType::Void | CType::Int(_) | CType::Record(_) => {}
+            CType::Pointer(_) | CType::Array(_, _) | CType::Function(_) => {}
+        }
+    }
 }
 
 /// A type with its qualifiers `const` and `volatile` (ISO C90 6.5.3).

@@ -1,5 +1,6 @@
 use Rattle.pw_kept.specs.Files.{changed_files}
 use Rattle.pw_building.specs.Outcomes.{outcome_of}
+use Rattle.pw_building.proofs.CountLemmas.{counted_putting}
 use Rattle.pw_building.proofs.FileLemmas.{of_store_no_want}
 use Rattle.pw_building.proofs.GenuineLemmas.{nothing_keeps, puts_keep}
 use Rattle.pw_building.proofs.LeavingLemmas.{nothing_leaves, puts_leave}
@@ -38,3 +39,6 @@ returns-in-Err-clause-genuine g c = nothing_keeps (g.S.Store.told c.args.store.n
 
 pub returns-in-Ok-clause-proper : goal.returns-in-Ok-clause-proper
 returns-in-Ok-clause-proper g c = of_store_no_want c.finished.result c.finished.ensures.fault
+
+pub returns-in-Ok-clause-counted_fault : goal.returns-in-Ok-clause-counted_fault
+returns-in-Ok-clause-counted_fault g c = counted_putting c.args.opts.now (g.S.Store.told c.args.store.now) c.finished.result c.args.steps.now _ c.finished.ensures.fault

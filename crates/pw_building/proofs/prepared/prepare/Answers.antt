@@ -6,7 +6,7 @@ use Rattle.pw_filing.specs.FromBuild.Phases.{IsLine, refused_line}
 use Rattle.pw_kept.specs.Files.{changed_files}
 use Rattle.pw_building.specs.Building.{BuildComes}
 use Rattle.pw_building.specs.Genuine.{IsOwnFile}
-use Rattle.pw_building.specs.Outcomes.{FaultFound, outcome_of}
+use Rattle.pw_building.specs.Outcomes.{CountsFound, FaultFound, outcome_of}
 use Rattle.pw_value.specs.Limits.{module_limit}
 use Rattle.pw_building.proofs.FileLemmas.{counted_told, none_counted, none_more, on_modules}
 use Rattle.pw_kept.proofs.KeptLemmas.{at_first}
@@ -30,6 +30,11 @@ pub returns-in-Ok-clause-line : goal.returns-in-Ok-clause-line
 returns-in-Ok-clause-line g c =
     on_modules (λ told. map source c.in-Ok.modules.items ≡ modules_of told.files) (λ told. IfErr c.prepared_of.result (λ unbuilt. IsLine (refused_line (modules_of told.files)) unbuilt.fault unbuilt.line))
     (g.S.Store.told c.args.store.now) _ c.in-Ok.ensures.modules c.few_modules.ensures.same (rw c.deref.ensures.value at c.prepared_of.ensures.line)
+
+pub returns-in-Ok-clause-counted_fault : goal.returns-in-Ok-clause-counted_fault
+returns-in-Ok-clause-counted_fault g c =
+    on_modules (λ told. map source c.in-Ok.modules.items ≡ modules_of told.files) (λ told. IfErr c.prepared_of.result (λ unbuilt. CountsFound told.files c.args.opts.now unbuilt.fault c.args.steps.now c.prepared_of.new.steps))
+    (g.S.Store.told c.args.store.now) _ c.in-Ok.ensures.modules c.few_modules.ensures.same (rw c.deref.ensures.value at c.prepared_of.ensures.counted_fault)
 
 pub returns-in-Ok-clause-bound : goal.returns-in-Ok-clause-bound
 returns-in-Ok-clause-bound g c =

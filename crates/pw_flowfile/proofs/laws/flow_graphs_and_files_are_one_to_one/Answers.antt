@@ -1,12 +1,12 @@
 use Rattle.std.proofs.Common.{lit<}
 use Rattle.pw_files.proofs.ContentsLaws as contents
-use Rattle.pw_flowfile.specs.FlowFile.{kind_of_file, spelling, names_of}
+use Rattle.pw_flowfile.specs.FlowFile.{kind_of_file, flow_version, spelling, names_of}
 use Rattle.pw_flowfile.specs.Reading.{fields_at, late_rules}
 use Rattle.pw_flowfile.proofs.ContentLaws.{IsRight, payload_spells}
 use Rattle.pw_flowfile.proofs.laws.flow_graphs_and_files_are_one_to_one.Goals as goal
 
 pub returns-clause-one_module : goal.returns-clause-one_module
-returns-clause-one_module c = contents.one_value kind_of_file fields_at late_rules spelling IsRight payload_spells (lit< tt)
+returns-clause-one_module c = contents.one_value kind_of_file flow_version fields_at late_rules spelling IsRight payload_spells (lit< tt) (lit< tt)
 
 pub returns-clause-one_file : goal.returns-clause-one_file
-returns-clause-one_file c = contents.one_file kind_of_file spelling IsRight names_of (λ d is. is.names)
+returns-clause-one_file c = contents.one_file kind_of_file flow_version spelling IsRight names_of (λ d is. is.names)

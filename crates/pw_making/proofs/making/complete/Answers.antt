@@ -1,5 +1,6 @@
 use Rattle.std.proofs.Common.{⊎_elim, inl, inr, length}
 use Rattle.std.proofs.lemmas.Result.{IfErr-weaker}
+use Rattle.pw_making.proofs.CountLemmas.{made_counted}
 use Rattle.pw_making.proofs.LoopLemmas.{bound_none}
 use Rattle.pw_making.proofs.making.complete.Goals as goal
 
@@ -16,3 +17,12 @@ returns-clause-refused g c =
 
 pub returns-in_err-database-clause-bound : goal.returns-in_err-database-clause-bound
 returns-in_err-database-clause-bound g c = bound_none (length c.args.flows.now) c.args.steps.now
+
+pub returns-clause-counted_fault : goal.returns-clause-counted_fault
+returns-clause-counted_fault g c =
+    IfErr-weaker c.linked.result _ _
+    (λ fault _. inr (made_counted c.args.flows.now c.args.kept.items c.args.colours c.args.steps.now _
+    (record { database = c.in_ok-database.database.functions; objects = c.in_ok-made.made.objects.items; fresh = c.in_ok-made.made.fresh.items })
+    (record { lawful = c.requires.lawful; database = c.in_ok-database.ensures.database; objects = c.in_ok-made.ensures.objects })
+    c.in_ok-made.ensures.counted))
+    c.linked.ensures.refused

@@ -8,5 +8,5 @@ use Rattle.pw_typed.proofs.rooms.room.Given as goal
 abbrev pub invariant-loop-local : goal.invariant-loop-local
 invariant-loop-local l =
     (capped (l.room + sum_by (spec.local_room l.types) (view.view_locals (drop l.local-index l.local-items)))
-    ≡ capped (256 + sum_by (spec.local_room l.types) (view.view_locals l.local-items)))
+    ≡ capped (spec.start_room + sum_by (spec.local_room l.types) (view.view_locals l.local-items)))
     × (l.room ≡ capped l.room)

@@ -1,0 +1,18 @@
+-- How many objects are made anew on the way to an answer.
+use Rattle.std.proofs.Common.{◌≡◌, ◌⊎◌, inl, inr, arith, ℕ, ◌+◌, List, Option, refl}
+use Rattle.std.specs.Prelude.{count_by}
+use Rattle.pw_value.specs.declared.fault.LinkFault.{LinkFault}
+use Rattle.pw_value.specs.declared.fault.LinkFault.TheVariants as link
+use Rattle.pw_flow.specs.declared.flow.FlowModule.{FlowModule}
+use Rattle.pw_object.specs.declared.object.Object.{Object}
+use Rattle.pw_making.specs.Counting.{CountsAnew}
+use Rattle.pw_making.specs.Programs.{AreParts, BreakRule, Parts}
+
+-- none, where the modules break a rule
+pub broken_counted : (flows : List FlowModule) (kept : List (Option Object)) (colours n : ℕ) (fault : LinkFault) → (fault ≡ link.NoMemory) ⊎ BreakRule flows fault → (fault ≡ link.NoMemory) ⊎ CountsAnew flows kept colours n n
+broken_counted flows kept colours n fault (inl e) = inl e
+broken_counted flows kept colours n fault (inr broken) = inr (0, inl (fault, broken, refl), omega arith)
+
+-- those that are marked, where there are parts
+pub made_counted : (flows : List FlowModule) (kept : List (Option Object)) (colours before now : ℕ) (parts : Parts) → AreParts flows kept colours parts → now ≡ before + count_by (λ f. f) parts.fresh → CountsAnew flows kept colours before now
+made_counted flows kept colours before now parts are e = (count_by (λ f. f) parts.fresh, inr (parts, are, refl), e)
