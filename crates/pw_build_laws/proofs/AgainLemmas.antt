@@ -1,5 +1,5 @@
--- A build over what a build left.
-use Rattle.std.proofs.Common.{◌≡◌, ℕ, cond, Bool, true, false, List, [], ◌∷◌, ◌++◌, codes, length, map, Option, Some, Result, Ok, refl, sym, ap, ◌∙◌, subst}
+-- A build over what a build left, where no flow graph changed since.
+use Rattle.std.proofs.Common.{◌≡◌, inl, inr, ℕ, cond, Bool, true, false, List, [], ◌∷◌, ◌++◌, codes, length, map, Option, Some, Result, Ok, refl, sym, ap, ◌∙◌, subst}
 use Rattle.std.specs.Ordering.{nat_cmp, eq_by_cmp}
 use Rattle.std.specs.Cmp.Lexicographic.{slice_cmp, nat_list_cmp_total}
 use Rattle.std.specs.FinMap as finite
@@ -16,11 +16,11 @@ use Rattle.pw_answer.specs.Effects.{NamedFile, after_puts}
 use Rattle.pw_making.specs.Programs.{AreObjectsFrom, AreParts, DirectivesList, IsMadeOf, IsObjectFrom, Parts, kept_behind}
 use Rattle.pw_building.specs.FromBuild.BuildFault.{BuildFault}
 use Rattle.pw_building.specs.FromBuild.Builds.{Builds, BuildsBy, first_phases}
-use Rattle.pw_kept.specs.Kept.{is_same, kept_bytes}
+use Rattle.pw_kept.specs.Kept.{counted, is_same, kept_bytes, kept_object, object_in, object_name}
 use Rattle.pw_kept.specs.Files.{AreObjectFiles, made_anew}
 use Rattle.pw_building.specs.Building.{BuildComes, IsOutcome, Outcome, if_changed, kept_objects}
 use Rattle.pw_build_laws.specs.Whole.{HoldsFile}
-use Rattle.pw_build_laws.specs.Kept.{FitsKept, FitsWhole, KeepsObjects, unchanged}
+use Rattle.pw_build_laws.specs.Kept.{FitsKept, FitsWhole, KeepsFlows, KeepsObjects, unchanged}
 use Rattle.pw_build_laws.proofs.WholeLemmas.{both_stand}
 use Rattle.pw_build_laws.proofs.KeptLemmas.{Laws, completed, keeps_objects}
 
@@ -44,13 +44,20 @@ objects_stay db (f ∷ fs) kept (o ∷ os) (b ∷ bs) h = (
   objects_stay db fs (kept_behind kept) os bs h.1,
 )
 
-builds_again : (sources : List Source) (kept : List (Option Object)) (colours stack : ℕ) (parts : Parts) → Builds sources kept colours stack (Ok parts) → Builds sources (map (λ o. Some o) parts.objects) colours stack (Ok (stayed parts))
-builds_again sources kept colours stack parts h =
+builds_on : (sources others : List Source) (kept : List (Option Object)) (colours stack : ℕ) (parts : Parts) → first_phases others ≡ first_phases sources → Builds sources kept colours stack (Ok parts) → Builds others (map (λ o. Some o) parts.objects) colours stack (Ok (stayed parts))
+builds_on sources others kept colours stack parts same h =
     let c = completed (first_phases sources) kept colours stack parts h in
     let p = c.completes.0 in
     let again : AreParts c.flows (map (λ o. Some o) parts.objects) colours (stayed parts) =
     record { lawful = p.lawful; database = p.database; objects = objects_stay parts.database c.flows kept parts.objects parts.fresh p.objects } in
-    subst (λ (r : Result (List FlowModule) BuildFault). BuildsBy r (map (λ o. Some o) parts.objects) colours stack (Ok (stayed parts))) (sym c.are) (again, c.completes.1)
+    subst (λ (r : Result (List FlowModule) BuildFault). BuildsBy r (map (λ o. Some o) parts.objects) colours stack (Ok (stayed parts))) (sym (same ∙ c.are)) (again, c.completes.1)
+
+-- the same objects are kept under the names of modules
+kept_alike : (old new : Files) (names : List (List ℕ)) → ((name : List ℕ) → finite.get new (object_name name) ≡ finite.get old (object_name name)) → map (kept_object new) names ≡ map (kept_object old) names
+kept_alike old new [] same = refl
+kept_alike old new (n ∷ ns) same =
+    ap (λ (k : Option Object). k ∷ map (kept_object new) ns) (ap (λ (b : Option (List ℕ)). object_in (counted b)) (same n))
+    ∙ ap (λ (ks : List (Option Object)). kept_object old n ∷ ks) (kept_alike old new ns same)
 
 -- ---- nothing is put
 
@@ -66,30 +73,34 @@ same_there laws files name bytes fits stands =
 none_put : (files : Files) (name bytes : List ℕ) → is_same (kept_bytes files name) bytes ≡ true → if_changed files name bytes ≡ []
 none_put files name bytes e = ap (λ (same : Bool). cond {A = List NamedFile} same [] ((name, bytes) ∷ [])) e
 
-pub again_comes : Laws → (told : Told) (colours stack : ℕ) (parts : Parts) (outcome : Outcome) → Builds (modules_of told.files) (kept_objects told.files) colours stack (Ok parts) → IsOutcome told.files stack parts outcome → FitsWhole parts outcome
-    → BuildComes (after_puts told outcome.puts).files colours stack (Ok (unchanged outcome))
-again_comes laws told colours stack parts outcome builds o fits =
-    let new : Files = (after_puts told outcome.puts).files in
-    let keeps : KeepsObjects told.files new parts = keeps_objects laws told colours stack parts outcome builds o in
-    let kept : List (Option Object) = map (λ x. Some x) parts.objects in
-    let names : List (List ℕ) = names_of_modules new in
+pub edit_comes : Laws → (told : Told) (colours stack : ℕ) (parts : Parts) (outcome : Outcome) (files : Files) → Builds (modules_of told.files) (kept_objects told.files) colours stack (Ok parts) → IsOutcome told.files stack parts outcome → FitsWhole parts outcome
+    → KeepsFlows (after_puts told outcome.puts).files files → BuildComes files colours stack (Ok (unchanged outcome))
+edit_comes laws told colours stack parts outcome files builds o fits edit =
+    let left : Files = (after_puts told outcome.puts).files in
+    let keeps : KeepsObjects told.files left parts = keeps_objects laws told colours stack parts outcome builds o in
+    let names : names_of_modules files ≡ names_of_modules told.files = edit.names ∙ ap (λ (ss : List Source). map (λ s. s.0) ss) keeps.modules in
+    let phases : first_phases (modules_of files) ≡ first_phases (modules_of told.files) = edit.phases ∙ ap (λ (ss : List Source). first_phases ss) keeps.modules in
+    let kept : kept_objects files ≡ map (λ x. Some x) parts.objects =
+    ap (λ (ns : List (List ℕ)). map (kept_object files) ns) edit.names ∙ kept_alike left files (names_of_modules left) (λ n. edit.built (object_name n) (inl (n, refl))) ∙ keeps.objects fits.objects in
     let stands = both_stand laws.files told stack parts outcome o in
-    let db : if_changed new (codes "prog.db") o.database ≡ [] = none_put new (codes "prog.db") o.database (same_there laws new (codes "prog.db") o.database (fits.database o.database o.database_file) stands.0) in
-    let img : if_changed new (codes "prog.img") outcome.image ≡ [] = none_put new (codes "prog.img") outcome.image (same_there laws new (codes "prog.img") outcome.image fits.image stands.1) in (
+    let db_stands : HoldsFile files (codes "prog.db") o.database = ap counted (edit.built (codes "prog.db") (inr (inl refl))) ∙ stands.0 in
+    let img_stands : HoldsFile files (codes "prog.img") outcome.image = ap counted (edit.built (codes "prog.img") (inr (inr refl))) ∙ stands.1 in
+    let db : if_changed files (codes "prog.db") o.database ≡ [] = none_put files (codes "prog.db") o.database (same_there laws files (codes "prog.db") o.database (fits.database o.database o.database_file) db_stands) in
+    let img : if_changed files (codes "prog.img") outcome.image ≡ [] = none_put files (codes "prog.img") outcome.image (same_there laws files (codes "prog.img") outcome.image fits.image img_stands) in (
       stayed parts,
-      subst (λ (ss : List Source). Builds ss (kept_objects new) colours stack (Ok (stayed parts))) (sym keeps.modules)
-          (subst (λ (ks : List (Option Object)). Builds (modules_of told.files) ks colours stack (Ok (stayed parts))) (sym (keeps.objects fits.objects)) (builds_again (modules_of told.files) (kept_objects told.files) colours stack parts builds)),
+      subst (λ (ks : List (Option Object)). Builds (modules_of files) ks colours stack (Ok (stayed parts))) (sym kept)
+          (builds_on (modules_of told.files) (modules_of files) (kept_objects told.files) colours stack parts phases builds),
       record {
-        modules = o.modules ∙ ap (λ (ss : List Source). length (map (λ s. s.0) ss)) (sym keeps.modules);
-        rebuilt = ap (λ (made : List (List ℕ × Object)). map (λ m. m.0) made) (sym (made_none names parts.objects));
+        modules = o.modules ∙ ap length (sym names);
+        rebuilt = ap (λ (made : List (List ℕ × Object)). map (λ m. m.0) made) (sym (made_none (names_of_modules files) parts.objects));
         objects = [];
-        object_files = subst (λ (made : List (List ℕ × Object)). AreObjectFiles made []) (sym (made_none names parts.objects)) tt;
+        object_files = subst (λ (made : List (List ℕ × Object)). AreObjectFiles made []) (sym (made_none (names_of_modules files) parts.objects)) tt;
         object_bytes = tt;
         database = o.database;
         database_file = o.database_file;
         image_names = o.image_names;
         image_file = o.image_file;
-        puts = sym (ap (λ (fs : List NamedFile). fs ++ if_changed new (codes "prog.img") outcome.image) db ∙ img);
+        puts = sym (ap (λ (fs : List NamedFile). fs ++ if_changed files (codes "prog.img") outcome.image) db ∙ img);
       },
     )
 

@@ -225,18 +225,18 @@ text_ends name file other n size end e =
 no_dot : (b c : ℕ) → codes ".i" ≡ b ∷ c ∷ [] → b ≡ 46
 no_dot b c e = cc
 
-text_no_object : (name n : List ℕ) → object_name n ≡ name ++ codes ".i" → ⊥
+pub text_no_object : (name n : List ℕ) → object_name n ≡ name ++ codes ".i" → ⊥
 text_no_object name n e =
     let l = length-append n (codes ".obj") in
     let h : 98 ≡ 46 = no_dot 98 106 (text_ends name (object_name n) (codes "bj") (length n + 2) (omega (arith, l)) (drop-append-add n (codes ".obj") 2) (sym e)) in
     omega (arith, h)
 
-text_no_database : (name : List ℕ) → name ++ codes ".i" ≡ codes "prog.db" → ⊥
+pub text_no_database : (name : List ℕ) → name ++ codes ".i" ≡ codes "prog.db" → ⊥
 text_no_database name e =
     let h : 100 ≡ 46 = no_dot 100 98 (text_ends name (codes "prog.db") (codes "db") 5 refl refl e) in
     omega (arith, h)
 
-text_no_image : (name : List ℕ) → name ++ codes ".i" ≡ codes "prog.img" → ⊥
+pub text_no_image : (name : List ℕ) → name ++ codes ".i" ≡ codes "prog.img" → ⊥
 text_no_image name e =
     let h : 109 ≡ 46 = no_dot 109 103 (text_ends name (codes "prog.img") (codes "mg") 6 refl refl e) in
     omega (arith, h)
@@ -246,10 +246,10 @@ text_same laws told stack parts outcome o name =
     behind_objects laws told stack parts outcome o (name ++ codes ".i") (text_no_database name) (text_no_image name)
     ∙ get_other laws told o.objects (name ++ codes ".i") (objects_apart _ o.objects (name ++ codes ".i") (text_no_object name) o.object_files)
 
-holds_on : (old new : Files) (name text : List ℕ) → finite.get new (name ++ codes ".i") ≡ finite.get old (name ++ codes ".i") → HoldsModule old name text → HoldsModule new name text
+pub holds_on : (old new : Files) (name text : List ℕ) → finite.get new (name ++ codes ".i") ≡ finite.get old (name ++ codes ".i") → HoldsModule old name text → HoldsModule new name text
 holds_on old new name text e h = record { named = h.named; reads = ap (option_map (front_of text_read)) e ∙ h.reads }
 
-same_option : (a b : Option (List ℕ)) → ((t : List ℕ) → a ≡ Some t → b ≡ Some t) → ((t : List ℕ) → b ≡ Some t → a ≡ Some t) → a ≡ b
+pub same_option : (a b : Option (List ℕ)) → ((t : List ℕ) → a ≡ Some t → b ≡ Some t) → ((t : List ℕ) → b ≡ Some t → a ≡ Some t) → a ≡ b
 same_option None None f g = refl
 same_option None (Some t) f g = g t refl
 same_option (Some t) b f g = sym (f t refl)

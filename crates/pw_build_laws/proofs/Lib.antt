@@ -1,3 +1,4 @@
 mod WholeLemmas
 mod KeptLemmas
 mod AgainLemmas
+mod TextLemmas

@@ -1,14 +1,17 @@
 -- What is kept behind a build, and what a build over that comes to.
 use Rattle.std.specs.Prelude.{◌≡◌, ℕ, ◌≤◌, List, [], length, map, Some}
 use Rattle.std.specs.List.{AllByRecursion}
+use Rattle.std.specs.FinMap as finite
 use Rattle.pw_io.specs.Files.{Files}
 use Rattle.pw_value.specs.Limits.{kept_limit}
 use Rattle.pw_db.specs.Database.{IsDatabaseFile}
 use Rattle.pw_object.specs.declared.object.Object.{Object}
 use Rattle.pw_object.specs.Object.{IsObjectFile}
-use Rattle.pw_modules.specs.Modules.{modules_of}
+use Rattle.pw_modules.specs.Modules.{modules_of, names_of_modules}
 use Rattle.pw_making.specs.Programs.{Parts}
+use Rattle.pw_building.specs.FromBuild.Builds.{first_phases}
 use Rattle.pw_building.specs.Building.{Outcome, kept_objects}
+use Rattle.pw_building.specs.Genuine.{IsBuiltName}
 
 -- ---- what kept files can hold
 
@@ -36,3 +39,12 @@ pub record KeepsObjects (old new : Files) (parts : Parts) : Type 0 where
 -- the same program, of which nothing is made anew and nothing is put
 abbrev pub unchanged : Outcome → Outcome
 unchanged outcome = record { modules = outcome.modules; rebuilt = []; image = outcome.image; puts = [] }
+
+-- ---- what an edit leaves
+
+-- The modules have the names that they had, the first phase makes of them what it made, and the files of builds are as they
+-- were. So it is where texts changed and flow graphs did not.
+pub record KeepsFlows (old new : Files) : Type 0 where
+  pub names : names_of_modules new ≡ names_of_modules old
+  pub phases : first_phases (modules_of new) ≡ first_phases (modules_of old)
+  pub built : (name : List ℕ) → IsBuiltName name → finite.get new name ≡ finite.get old name

@@ -1,15 +1,16 @@
 //! Laws of what a build leaves. A function here does nothing: its clauses are facts about all values.
 
-ghost use Rattle.std.specs.Prelude.{◌≡◌, ℕ, List, Ok, Some};
+ghost use Rattle.std.specs.Prelude.{◌≡◌, ◌++◌, ℕ, List, Ok, Some, codes};
 ghost use Rattle.std.specs.FinMap as finite;
-ghost use Rattle.pw_io.specs.Files.{Files, Told};
-ghost use Rattle.pw_modules.specs.Modules.{module_map, modules_of};
+ghost use Rattle.pw_io.specs.Files.{Files, Told, front_of};
+ghost use Rattle.pw_modules.specs.Modules.{HoldsModule, module_map, modules_of, text_read};
 ghost use Rattle.pw_answer.specs.Effects.{after_puts};
 ghost use Rattle.pw_making.specs.Programs.{Parts};
-ghost use Rattle.pw_building.specs.FromBuild.Builds.{Builds};
+ghost use Rattle.pw_building.specs.FromBuild.Builds.{Builds, limit_passed};
+ghost use Rattle.pw_building.specs.FromBuild.FirstPhase.{compiled};
 ghost use Rattle.pw_building.specs.Building.{BuildComes, IsOutcome, Outcome, kept_objects};
 ghost use Rattle.pw_building.specs.Genuine.{KeepsGenuine};
-ghost use Rattle.pw_build_laws.specs.Kept.{FitsWhole, KeepsObjects, unchanged};
+ghost use Rattle.pw_build_laws.specs.Kept.{FitsWhole, KeepsFlows, KeepsObjects, unchanged};
 ghost use Rattle.pw_build_laws.specs.Whole.{HoldsBuild, HoldsFullBuild};
 
 use pw_building::genuine_objects_give_the_full_build;
@@ -43,13 +44,32 @@ pub fn a_build_keeps_its_objects()
     other_files();
 }
 
+/// A build makes nothing anew and puts nothing over files that differ from what a build left in texts whose flow graphs are as
+/// they were, where kept files can hold what was made. So an edit that changes a text but no flow graph, as one more comment,
+/// rebuilds nothing.
+pub fn an_edit_that_keeps_flows_makes_nothing()
+    ensures { (told : Told) (colours stack : ℕ) (parts : Parts) (outcome : Outcome) (files : Files) → Builds (modules_of told.files) (kept_objects told.files) colours stack (Ok parts) → IsOutcome told.files stack parts outcome → FitsWhole parts outcome → KeepsFlows (after_puts told outcome.puts).files files → BuildComes files colours stack (Ok (unchanged outcome)) }
+{
+    front();
+    modules_are_exact();
+    other_files();
+}
+
+/// A text that is put in place of a module's keeps the flow graphs, and so rebuilds nothing, where the first phase makes of it
+/// what it made of the text before, and the texts together pass no other limit than before.
+pub fn a_text_with_the_same_flow_keeps_flows()
+    ensures { (files : Files) (name old text : List ℕ) → HoldsModule files name old → compiled name (front_of text_read text) ≡ compiled name old → limit_passed (modules_of (finite.insert files (name ++ codes ".i") text)) ≡ limit_passed (modules_of files) → KeepsFlows files (finite.insert files (name ++ codes ".i") text) }
+{
+    front();
+    modules_are_exact();
+    other_files();
+}
+
 /// A build over what a build left makes nothing anew and puts nothing, where kept files can hold what was made; and a text that
 /// is put where it stands already leaves the files as they are. So an edit that changes nothing rebuilds nothing.
 pub fn a_build_again_makes_nothing()
     ensures again { (told : Told) (colours stack : ℕ) (parts : Parts) (outcome : Outcome) → Builds (modules_of told.files) (kept_objects told.files) colours stack (Ok parts) → IsOutcome told.files stack parts outcome → FitsWhole parts outcome → BuildComes (after_puts told outcome.puts).files colours stack (Ok (unchanged outcome)) }
     ensures same_text { (files : Files) (name text : List ℕ) → finite.get files name ≡ Some text → finite.insert files name text ≡ files }
 {
-    front();
-    modules_are_exact();
-    other_files();
+    an_edit_that_keeps_flows_makes_nothing();
 }

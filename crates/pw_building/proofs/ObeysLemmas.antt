@@ -15,7 +15,7 @@ use Rattle.pw_building.specs.declared.report.Report.{Report}
 use Rattle.pw_building.specs.declared.report.Opts.{Opts}
 use Rattle.pw_building.specs.Building.{BuildComes, Outcome, puts_of}
 use Rattle.pw_building.specs.Genuine.{IsBuiltName, IsOwnFile}
-use Rattle.pw_building.specs.Outcomes.{AreBuilt, FaultFound, ObeysBuild, IsOfStore, PutsSome, Reports, build_answer, fault_answer}
+use Rattle.pw_building.specs.Outcomes.{AreBuilt, FaultFound, HoldsImage, ObeysBuild, IsOfStore, PutsSome, Reports, build_answer, fault_answer}
 use Rattle.pw_kept.specs.Files.{put_answer}
 use Rattle.pw_kept.proofs.PutLemmas.{none_left}
 use Rattle.pw_db.specs.Limits.{colour_limit}
@@ -31,6 +31,11 @@ obeys_all_told one opts few outcome report told new comes reports puts = record 
   puts = λ c h. puts ∙ ap (λ (x : Result Outcome BuildFault). Some (after_puts told (puts_of x))) (sym (one told.files opts.colours opts.stack c (Ok outcome) few h comes));
   found = (outcome, comes, reports);
 }
+
+-- the image that is reported is the outcome's
+pub reported_image : (outcome : Outcome) (result : Result Report Unbuilt) → IfOk result (λ report. Reports outcome report) → HoldsImage outcome.image → IfOk result (λ report. HoldsImage report.image.items)
+reported_image outcome (Ok report) reports h = subst HoldsImage (sym reports.image) h
+reported_image outcome (Err unbuilt) reports h = tt
 
 -- ---- the store failed or memory ran out while files were put
 

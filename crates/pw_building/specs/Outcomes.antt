@@ -16,7 +16,7 @@ use Rattle.pw_building.specs.declared.report.Report.{Report}
 use Rattle.pw_building.specs.declared.report.Opts.{Opts}
 use Rattle.pw_kept.specs.declared.prepared.Prepared.{Prepared}
 use Rattle.pw_kept.specs.Files.{changed_files}
-pub use Rattle.pw_filing.specs.Programs.{CountsAtMost, FaultComes, FaultCount, IsNoWant, fault_answer}
+pub use Rattle.pw_filing.specs.Programs.{CountsAtMost, FaultComes, FaultCount, HoldsImage, IsNoWant, fault_answer}
 use Rattle.pw_filing.specs.Programs.{IsCounted}
 use Rattle.pw_building.specs.Building.{BuildComes, Outcome, kept_objects, puts_of}
 use Rattle.pw_db.specs.Limits.{colour_limit}

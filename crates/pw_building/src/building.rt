@@ -8,7 +8,7 @@ ghost use Rattle.pw_making.specs.Counting.{CountsUpTo};
 ghost use Rattle.pw_filing.specs.FromBuild.Builds.{first_phases};
 ghost use Rattle.pw_kept.specs.Files.{changed_files};
 ghost use Rattle.pw_building.specs.Genuine.{KeepsGenuine, LeavesOthers};
-ghost use Rattle.pw_building.specs.Outcomes.{AreOpts, CountsAtMost, CountsFound, FaultCount, IsLineOfBuild, IsNoWant, IsOfStore, ObeysBuild, PutsSome, Reports, build_answer, outcome_of};
+ghost use Rattle.pw_building.specs.Outcomes.{AreOpts, CountsAtMost, CountsFound, FaultCount, HoldsImage, IsLineOfBuild, IsNoWant, IsOfStore, ObeysBuild, PutsSome, Reports, build_answer, outcome_of};
 
 use crate::laws::a_store_has_one_build;
 use crate::prepared::prepare;
@@ -73,6 +73,7 @@ pub fn build<S: Store, L: Ledger>(
     requires { AreOpts opts.now }
     ensures obeys { IfSome (S.told store.old) (λ told. ObeysBuild opts.now result told (S.told store.new)) }
     ensures line { IfSome (S.told store.old) (λ told. IsLineOfBuild told.files result) }
+    ensures image { IfOk result (λ report. HoldsImage report.image.items) }
     ensures others { IfSome (S.told store.old) (λ told. PutsSome (build_answer result) told (S.told store.new)) }
     ensures rest { IfSome (S.told store.old) (λ told. LeavesOthers told (S.told store.new)) }
     ensures genuine { IfSome (S.told store.old) (λ told. KeepsGenuine told.files → IfSome (S.told store.new) (λ now. KeepsGenuine now.files)) }

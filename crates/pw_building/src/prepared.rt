@@ -12,7 +12,7 @@ ghost use Rattle.pw_filing.specs.FromBuild.Phases.{IsLine, refused_line};
 ghost use Rattle.pw_kept.specs.Files.{changed_files};
 ghost use Rattle.pw_building.specs.Building.{BuildComes};
 ghost use Rattle.pw_building.specs.Genuine.{IsOwnFile};
-ghost use Rattle.pw_building.specs.Outcomes.{AreOpts, CountsAtMost, CountsFound, FaultCount, FaultFound, IsNoWant, outcome_of};
+ghost use Rattle.pw_building.specs.Outcomes.{AreOpts, CountsAtMost, CountsFound, FaultCount, FaultFound, HoldsImage, IsNoWant, outcome_of};
 
 use crate::report::Opts;
 use pw_filing::{Unbuilt, few_modules, program_of};
@@ -35,6 +35,7 @@ fn prepared_of<S: Store, L: Ledger>(
     requires { AreOpts opts.now }
     ensures comes { IfSome (S.told store.old) (λ told. map source modules.now ≡ modules_of told.files → IfOk result (λ prepared. BuildComes told.files opts.now.colours opts.now.stack (Ok (outcome_of prepared)))) }
     ensures own { IfSome (S.told store.old) (λ told. IfOk result (λ prepared. AllByRecursion IsOwnFile (changed_files prepared))) }
+    ensures image { IfOk result (λ prepared. HoldsImage prepared.image.items) }
     ensures fault { IfSome (S.told store.old) (λ told. map source modules.now ≡ modules_of told.files → IfErr result (λ unbuilt. FaultFound told.files opts.now unbuilt.fault)) }
     ensures line { IfSome (S.told store.old) (λ told. map source modules.now ≡ modules_of told.files → IfErr result (λ unbuilt. IsLine (refused_line (modules_of told.files)) unbuilt.fault unbuilt.line)) }
     ensures counted { IfOk result (λ prepared. steps.new ≡ steps.old + length prepared.rebuilt.items) }
@@ -61,6 +62,7 @@ pub fn prepare<S: Store, L: Ledger>(
     requires { AreOpts opts.now }
     ensures comes { IfSome (S.told store.old) (λ told. IfOk result (λ prepared. BuildComes told.files opts.now.colours opts.now.stack (Ok (outcome_of prepared)))) }
     ensures own { IfSome (S.told store.old) (λ told. IfOk result (λ prepared. AllByRecursion IsOwnFile (changed_files prepared))) }
+    ensures image { IfOk result (λ prepared. HoldsImage prepared.image.items) }
     ensures fault { IfSome (S.told store.old) (λ told. IfErr result (λ unbuilt. FaultFound told.files opts.now unbuilt.fault)) }
     ensures line { IfSome (S.told store.old) (λ told. IfErr result (λ unbuilt. IsLine (refused_line (modules_of told.files)) unbuilt.fault unbuilt.line)) }
     ensures counted { IfOk result (λ prepared. steps.new ≡ steps.old + length prepared.rebuilt.items) }

@@ -1,13 +1,13 @@
 //! The command `build`.
 
-ghost use Rattle.std.specs.Prelude.{◌≡◌, ◌<◌, ℕ, List, Option, IfErr, IfSome};
+ghost use Rattle.std.specs.Prelude.{◌≡◌, ◌<◌, ℕ, List, Option, IfErr, IfOk, IfSome};
 ghost use Rattle.pw_modules.specs.Modules.{modules_of};
 ghost use Rattle.pw_answer.specs.Effects.{Effect};
 ghost use Rattle.pw_answer.specs.Outcomes.{LeavesStreams, OutputCount, PutsOut, StoreCount};
 ghost use Rattle.pw_building.specs.FromBuild.Phases.{refused_line};
 ghost use Rattle.pw_building.specs.Genuine.{KeepsGenuine};
 ghost use Rattle.pw_building.specs.Lines.{report_text};
-ghost use Rattle.pw_building.specs.Outcomes.{AreOpts, FaultCount, IsLineOfBuild, IsNoWant, ObeysBuild, PutsSome, build_answer, fault_answer};
+ghost use Rattle.pw_building.specs.Outcomes.{AreOpts, FaultCount, HoldsImage, IsLineOfBuild, IsNoWant, ObeysBuild, PutsSome, build_answer, fault_answer};
 ghost use Rattle.pw_commands.specs.Outcome.{Obeys};
 ghost use Rattle.pw_driving.specs.Driving.{BuildComesTo, IsBuildAnswer, IsLineDue, IsPrintAnswer, KeepsUnput};
 
@@ -33,6 +33,7 @@ fn build_counted<S: Store, L: Ledger>(
     requires some { 0 < blank.parts }
     ensures obeys { IfSome (S.told store.old) (λ told. ObeysBuild opts.now result told (S.told store.new)) }
     ensures line { IfSome (S.told store.old) (λ told. IsLineOfBuild told.files result) }
+    ensures image { IfOk result (λ report. HoldsImage report.image.items) }
     ensures others { IfSome (S.told store.old) (λ told. PutsSome (build_answer result) told (S.told store.new)) }
     ensures genuine { IfSome (S.told store.old) (λ told. KeepsGenuine told.files → IfSome (S.told store.new) (λ now. KeepsGenuine now.files)) }
     ensures proper { IfErr result (λ unbuilt. IsNoWant unbuilt.fault) }
@@ -51,6 +52,7 @@ pub fn build_uncounted<S: Store>(
     requires { AreOpts opts.now }
     ensures obeys { IfSome (S.told store.old) (λ told. ObeysBuild opts.now result told (S.told store.new)) }
     ensures line { IfSome (S.told store.old) (λ told. IsLineOfBuild told.files result) }
+    ensures image { IfOk result (λ report. HoldsImage report.image.items) }
     ensures others { IfSome (S.told store.old) (λ told. PutsSome (build_answer result) told (S.told store.new)) }
     ensures genuine { IfSome (S.told store.old) (λ told. KeepsGenuine told.files → IfSome (S.told store.new) (λ now. KeepsGenuine now.files)) }
     ensures proper { IfErr result (λ unbuilt. IsNoWant unbuilt.fault) }

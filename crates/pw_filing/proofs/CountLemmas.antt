@@ -40,6 +40,10 @@ pub made_counted : (sources : List Source) (flows : List FlowModule) (kept : Lis
 made_counted sources flows kept all colours before now fault None phases same h = tt
 made_counted sources flows kept all colours before now fault (Some told) phases same h = made_told sources flows kept (all told) colours before now fault phases same h
 
+pub not_want : {P Q : Type 0} → (P → ⊥) → P ⊎ Q → Q
+not_want none (inl p) = absurd (none p)
+not_want none (inr q) = q
+
 -- a fault of the store, or want of memory
 pub none_counted : (sources : List Source) (kept : Told → List (Option Object)) (colours before now : ℕ) (first : Option Told) (fault : BuildFault) → (fault ≡ build.StoreFault) ⊎ (fault ≡ build.NoMemory) → IfSome first (λ told. IsCounted sources (kept told) colours fault before now)
 none_counted sources kept colours before now None fault h = tt

@@ -13,7 +13,7 @@ use Rattle.pw_value.specs.declared.fault.LinkFault.TheVariants.{TooMany}
 use Rattle.pw_value.specs.declared.fault.What.TheVariants.{Modules, TextBytes}
 use Rattle.pw_db.specs.Database.{IsDatabaseFile}
 use Rattle.pw_object.specs.declared.object.Object.{Object}
-use Rattle.pw_image.specs.Image.{IsImageFile, view}
+use Rattle.pw_image.specs.Image.{ImageValue, IsImageFile, view}
 use Rattle.pw_link.specs.Linking.{linked}
 use Rattle.pw_modules.specs.declared.modules.Module.{Module}
 use Rattle.pw_modules.specs.Modules.{Source}
@@ -31,7 +31,7 @@ use Rattle.pw_build.specs.Phases.{FaultsAs, IsLine}
 use Rattle.pw_build.specs.Stores.{store_fault}
 use Rattle.pw_kept.specs.declared.files.ProgramFiles.{ProgramFiles}
 use Rattle.pw_kept.specs.Files.{AreObjectFiles, file_view, made_anew}
-use Rattle.pw_filing.specs.Programs.{AreAsMany, BuildsFiles, CountsAtMost, FaultBuilds}
+use Rattle.pw_filing.specs.Programs.{AreAsMany, BuildsFiles, CountsAtMost, FaultBuilds, HoldsImage}
 
 -- ---- the names of modules
 
@@ -149,6 +149,9 @@ pub made_of_program : (ms : List Module) (colours stack : ℕ) (kept : Told → 
     → ((names : List (List ℕ)) × IsImageFile made.image.items (record { names = names; image = view built.image })) → view built.image ≡ linked built.objects.items stack → IfSome first (λ told. BuildsFiles (map source ms) (kept told) colours stack made)
 made_of_program ms colours stack kept None built made builds names objects database image is_linked = tt
 made_of_program ms colours stack kept (Some told) built made builds names objects database image is_linked = made_files ms colours stack (kept told) built made builds names objects database image is_linked
+
+pub holds_image : (bytes : List ℕ) (image : ImageValue) → (names : List (List ℕ)) × IsImageFile bytes (record { names = names; image = image }) → HoldsImage bytes
+holds_image bytes image h = (record { names = h.0; image = image }, h.1)
 
 -- ---- faults
 

@@ -16,7 +16,7 @@ ghost use Rattle.pw_build.specs.Builds.{Builds, first_phases};
 ghost use Rattle.pw_build.specs.Phases.{IsLine, refused_line};
 ghost use Rattle.pw_kept.specs.Kept.{kept_object};
 ghost use Rattle.pw_kept.specs.Files.{HoldBytes, file_view};
-ghost use Rattle.pw_filing.specs.Programs.{AreAsMany, BuildsFiles, CountsAtMost, FaultBuilds, FaultComes, FaultCount, IsCounted, IsNoWant};
+ghost use Rattle.pw_filing.specs.Programs.{AreAsMany, BuildsFiles, CountsAtMost, FaultBuilds, FaultComes, FaultCount, HoldsImage, IsCounted, IsNoWant};
 ghost use Rattle.pw_db.specs.Limits.{colour_limit};
 
 use pw_build::{BuildFault, Unbuilt, first_phases, no_refusal_is_want_of_memory};
@@ -107,6 +107,7 @@ pub fn program_of<S: Store, L: Ledger>(
     requires { colours ≤ colour_limit }
     ensures files { IfSome (S.told store.old) (λ told. IfOk result (λ files. BuildsFiles (map source modules.now) (map (λ m. kept_object told.files m.name) modules.now) colours stack files)) }
     ensures bytes { IfOk result (λ files. HoldBytes (map file_view files.fresh.files.items)) }
+    ensures image { IfOk result (λ files. HoldsImage files.image.items) }
     ensures fault { IfSome (S.told store.old) (λ told. IfErr result (λ unbuilt. FaultBuilds (map source modules.now) (map (λ m. kept_object told.files m.name) modules.now) colours stack unbuilt.fault)) }
     ensures line { IfErr result (λ unbuilt. IsLine (refused_line (map source modules.now)) unbuilt.fault unbuilt.line) }
     ensures few { OnOk result (length modules.now ≤ module_limit) }

@@ -34,6 +34,7 @@ pub fn compared<S: Store>(
 ) -> Result<Prepared, StoreError>
     ensures prepared { IfSome (S.told store.old) (λ told. IfOk result (λ prepared. IsCompared told.files modules files prepared)) }
     ensures rebuilt { IfOk result (λ prepared. prepared.rebuilt.items ≡ files.fresh.names.items) }
+    ensures image { IfOk result (λ prepared. prepared.image.items ≡ files.image.items) }
     ensures same { Keeps (S.told store.old) (S.told store.new) }
     ensures cause { HasStoreCause (S.faults store.old) (S.faults store.new) result }
 {

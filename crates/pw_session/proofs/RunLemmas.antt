@@ -1,8 +1,11 @@
 -- The run of an image: what is put out of it.
-use Rattle.std.proofs.Common.{◌≡◌, ℕ, true, false, List, [], Option, Some, None, Result, Ok, refl, sym, ap, ◌∙◌, subst, arith}
+use Rattle.std.proofs.Common.{◌≡◌, ℕ, true, false, List, [], Option, Some, None, Result, Ok, Err, refl, sym, ap, ◌∙◌, subst, arith}
 use Rattle.std.specs.Prelude.{codes}
 use Rattle.pw_io.specs.Faults.{Rose}
 use Rattle.pw_image.specs.Image.{Contents, ImageValue, IsImageFile}
+use Rattle.pw_image.specs.Loading.{FailsLoad}
+use Rattle.pw_image.specs.declared.load.LoadError.{LoadError}
+use Rattle.pw_image.specs.declared.load.LoadError.TheVariants as load
 use Rattle.pw_machine.specs.Core.{Core}
 use Rattle.pw_machine.specs.Run.{Progress, run_of}
 use Rattle.pw_machine.specs.Start.{image_start}
@@ -11,6 +14,7 @@ use Rattle.pw_answer.specs.declared.answer.Answer.{Answer}
 use Rattle.pw_answer.specs.declared.answer.Answer.TheVariants.{Ended, StackStop, Spent, Halted, ReadFault, WriteFault, NoMemory}
 use Rattle.pw_answer.specs.Outcomes.{Answers, InputCount, OutputCount, PutsOut}
 use Rattle.pw_running.specs.Running.{IsRunAnswer, run_answer, run_output, started}
+use Rattle.pw_driving.specs.FromBuilding.Outcomes.{HoldsImage}
 use Rattle.pw_driving.specs.Driving.{IsPrintAnswer}
 use Rattle.pw_session.specs.Outcomes.{ObeysRun}
 use Rattle.pw_session.specs.Runs.{RunComes, is_stop, ran_text, runs_as, stop_line}
@@ -123,6 +127,12 @@ run_memory built budget input taken = record { output = λ output h. puts_alone 
 
 pub core_is : (machine : Snapshot) (image : ImageValue) → ◌≡◌ {A = Result Snapshot ℕ} (Ok (loaded image)) (Ok machine) → machine.core ≡ image_start image.memory
 core_is machine image e = let f : loaded image ≡ machine = cc in sym (ap (λ (m : Snapshot). m.core) f)
+
+-- the file of an image has no fault
+pub no_load_fault : (bytes : List ℕ) (error : LoadError) (at : ℕ) → error ≡ load.LoadFault at → HoldsImage bytes → ((c : Contents) → IsImageFile bytes c → FailsLoad {Y = Snapshot} error (Ok (loaded c.image))) → ⊥
+no_load_fault bytes error at e h only =
+    let fails : ◌≡◌ {A = Result Snapshot ℕ} (Ok (loaded h.0.image)) (Err at) = subst (λ (x : LoadError). FailsLoad {Y = Snapshot} x (Ok (loaded h.0.image))) e (only h.0 h.1) in
+    cc
 
 -- the answer of a run over an empty source
 pub quiet_answer : (budget : ℕ) (core : Core) (source : List ℕ) (answer : Answer) → source ≡ [] → Answers (run_answer (run_over budget source core)) answer → Answers (run_answer (runs_as budget [] core)) answer

@@ -1,5 +1,5 @@
 -- What a session answers, puts out and leaves of the store and its input.
-use Rattle.std.specs.Prelude.{◌≡◌, ℕ, ◌+◌, ◌≤◌, suc, List, [], ◌++◌, length, Option, Some, None, IsSomeAnd, Vec, option_map}
+use Rattle.std.specs.Prelude.{◌≡◌, ℕ, ◌+◌, ◌≤◌, suc, List, [], ◌++◌, length, Option, Some, None, IfSome, IsSomeAnd, Vec, option_map}
 use Rattle.std.specs.declared.alloc.Global.{Global}
 use Rattle.pw_io.specs.Files.{Told}
 use Rattle.pw_answer.specs.declared.answer.Answer.{Answer}
@@ -8,7 +8,7 @@ use Rattle.pw_answer.specs.Outcomes.{Answers, PutsOut}
 use Rattle.pw_answer.specs.Answers.{line_text}
 use Rattle.pw_driving.specs.FromBuild.BuildFault.{BuildFault}
 use Rattle.pw_driving.specs.FromBuild.BuildFault.TheVariants as build
-use Rattle.pw_driving.specs.FromBuilding.Outcomes.{fault_answer}
+use Rattle.pw_driving.specs.FromBuilding.Outcomes.{HoldsImage, fault_answer}
 use Rattle.pw_driving.specs.Driving.{IsPrintAnswer}
 use Rattle.pw_script.specs.declared.line.TakenLine.{TakenLine}
 use Rattle.pw_script.specs.declared.line.ScriptFault.{ScriptFault}
@@ -103,6 +103,10 @@ IsLineAnswer _ = ⊥
 
 abbrev pub image_view : Option (Vec ℕ Global) → Option (List ℕ)
 image_view = option_map (λ image. image.items)
+
+-- what is kept of the last build, if there was one, is the file of an image
+abbrev pub KeepsImage : Option (List ℕ) → Type 0
+KeepsImage image = IfSome image HoldsImage
 
 -- the answers after which a line was obeyed, but perhaps for its output
 abbrev pub IsObeyed : Answer → Type 0

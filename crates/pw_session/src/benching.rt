@@ -3,7 +3,7 @@
 ghost use Rattle.std.specs.Prelude.{◌≡◌, ◌≤◌, ℕ, [], List, Option, IfOk, string_bytes};
 ghost use Rattle.pw_answer.specs.Outcomes.{Answers, LeavesStreams, OutputCount, PutsOut};
 ghost use Rattle.pw_running.specs.Running.{run_answer};
-ghost use Rattle.pw_driving.specs.FromBuilding.Outcomes.{AreOpts};
+ghost use Rattle.pw_driving.specs.FromBuilding.Outcomes.{AreOpts, HoldsImage};
 ghost use Rattle.pw_driving.specs.Driving.{IsPrintAnswer};
 ghost use Rattle.pw_session.specs.Bench.{BenchComes, IsBenchAnswer, IsBenchLine, ObeysBench, ObeysReport, StopsAs, bench_front, bench_line, made_files};
 ghost use Rattle.pw_session.specs.Runs.{runs_as};
@@ -14,7 +14,7 @@ use pw_answer::{Answer, Reply};
 use pw_driving::{Report, answer_of, build_uncounted, print};
 use pw_gen::generate;
 use pw_io::{DropSink, Sink, SureSource, SureStore};
-use pw_machine::Machine;
+use pw_machine::{LoadError, Machine};
 use pw_running::run_machine;
 use std::alloc::{AllocError, Global};
 
@@ -43,13 +43,15 @@ fn run_quietly(alloc: Global, machine: &mut Machine, budget: u64) -> Answer
     }
 }
 
-/// The answer to the run of an image over no input.
+/// The answer to the run of an image over no input. The bytes are its file.
 fn run_of_image(alloc: Global, image: &[u8], budget: u64) -> Answer
+    requires { HoldsImage image.now }
     ensures { StopsAs image.now budget result }
 {
     match Machine::load(alloc, image) {
         Ok(mut machine) => run_quietly(alloc, &mut machine, budget),
-        Err(_) => Answer::NoMemory,
+        Err(LoadError::NoMemory) => Answer::NoMemory,
+        Err(LoadError::LoadFault { .. }) => unreachable!(),
     }
 }
 
@@ -113,6 +115,7 @@ fn run_report<O: Sink>(
     budget: u64,
     out: &mut O,
 ) -> Answer
+    requires { HoldsImage report.now.image.items }
     ensures run { ObeysReport number report.now.image.items report.now.digest budget result (O.taken out.old) (O.taken out.new) }
     ensures write { OutputCount (O.faults out.old) (O.faults out.new) result }
     ensures answer { IsPrintAnswer result }

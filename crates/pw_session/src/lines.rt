@@ -11,7 +11,7 @@ ghost use Rattle.pw_script.specs.Reading.{line_view};
 ghost use Rattle.pw_script.specs.Script.{BuildProgram, NamesModule};
 ghost use Rattle.pw_session.specs.Changes.{MakesSome, Puts, Removes, after_changes};
 ghost use Rattle.pw_session.specs.Removals.{IsRemovedBy};
-ghost use Rattle.pw_session.specs.Outcomes.{Does, IsLineAnswer, IsObeyed, ObeysLine, SaysFault, image_view};
+ghost use Rattle.pw_session.specs.Outcomes.{Does, IsLineAnswer, IsObeyed, KeepsImage, ObeysLine, SaysFault, image_view};
 
 use crate::opts::SessionOpts;
 use crate::runs::run_image;
@@ -99,8 +99,10 @@ fn build_program<S: Store, O: Sink>(
     opts: &SessionOpts,
     image: &mut Option<Vec<u8>>,
 ) -> Answer
-    requires { AreOpts opts.now.build }
+    requires opts { AreOpts opts.now.build }
+    requires image { KeepsImage (image_view image.old) }
     ensures does { IfSome (S.told store.old) (λ told. ObeysLine opts.now (record { told = told; image = image_view image.old }) BuildProgram result (S.told store.new) (O.taken out.old) (O.taken out.new) (image_view image.new)) }
+    ensures image { KeepsImage (image_view image.new) }
     ensures some { IfSome (S.told store.old) (λ told. MakesSome (IsRemovedBy BuildProgram) result told (S.told store.new)) }
     ensures genuine { IfSome (S.told store.old) (λ told. KeepsGenuine told.files → IfSome (S.told store.new) (λ now. KeepsGenuine now.files)) }
     ensures store { StoreCount (S.faults store.old) (S.faults store.new) result }
@@ -128,7 +130,9 @@ pub fn obey_line<S: Store, O: Sink>(
 ) -> Answer
     requires opts { AreOpts opts.now.build }
     requires named { NamesModule (line_view line.now) }
+    requires image { KeepsImage (image_view image.old) }
     ensures does { IfSome (S.told store.old) (λ told. ObeysLine opts.now (record { told = told; image = image_view image.old }) (line_view line.now) result (S.told store.new) (O.taken out.old) (O.taken out.new) (image_view image.new)) }
+    ensures image { KeepsImage (image_view image.new) }
     ensures some { IfSome (S.told store.old) (λ told. MakesSome (IsRemovedBy (line_view line.now)) result told (S.told store.new)) }
     ensures genuine { IfSome (S.told store.old) (λ told. KeepsGenuine told.files → IfSome (S.told store.new) (λ now. KeepsGenuine now.files)) }
     ensures store { StoreCount (S.faults store.old) (S.faults store.new) result }

@@ -3,13 +3,13 @@
 ghost use Rattle.std.specs.Prelude.{◌≡◌, IfOk, option_map};
 ghost use Rattle.pw_answer.specs.Outcomes.{OutputCount, PutsOut};
 ghost use Rattle.pw_driving.specs.Driving.{IsPrintAnswer};
-ghost use Rattle.pw_session.specs.Outcomes.{ObeysRun};
+ghost use Rattle.pw_session.specs.Outcomes.{KeepsImage, ObeysRun};
 ghost use Rattle.pw_session.specs.Runs.{is_stop, ran_text, runs_as, stop_line, stop_text};
 
 use pw_answer::{Answer, halt_name};
 use pw_driving::print;
 use pw_io::{Sink, SureSource};
-use pw_machine::{Halt, Machine};
+use pw_machine::{Halt, LoadError, Machine};
 use pw_running::run_machine;
 use pw_value::Word;
 use std::alloc::{AllocError, Global};
@@ -102,7 +102,8 @@ fn run_loaded<O: Sink>(
     }
 }
 
-/// Runs the image that was built last over an input, and puts out what comes of it; or that there is none.
+/// Runs the image that was built last over an input, and puts out what comes of it; or that there is none. What was built
+/// is the file of an image, so that only want of memory keeps it from being loaded.
 pub fn run_image<O: Sink>(
     alloc: Global,
     out: &mut O,
@@ -110,6 +111,7 @@ pub fn run_image<O: Sink>(
     budget: u64,
     input: &[u8],
 ) -> Answer
+    requires { KeepsImage (option_map (λ image. image.now) image) }
     ensures run { ObeysRun (option_map (λ image. image.now) image.entry) budget input.now result (O.taken out.old) (O.taken out.new) }
     ensures write { OutputCount (O.faults out.old) (O.faults out.new) result }
     ensures answer { IsPrintAnswer result }
@@ -119,6 +121,7 @@ pub fn run_image<O: Sink>(
     };
     match Machine::load(alloc, image) {
         Ok(mut machine) => run_loaded(alloc, out, &mut machine, budget, input),
-        Err(_) => Answer::NoMemory,
+        Err(LoadError::NoMemory) => Answer::NoMemory,
+        Err(LoadError::LoadFault { .. }) => unreachable!(),
     }
 }

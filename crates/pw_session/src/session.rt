@@ -8,7 +8,7 @@ ghost use Rattle.pw_script.specs.Reading.{IsReadInPart, line_view};
 ghost use Rattle.pw_script.specs.Script.{NamesModule};
 ghost use Rattle.pw_session.specs.Changes.{MakesSome};
 ghost use Rattle.pw_session.specs.Removals.{IsRemovedBy, MayRemove, MayRemoveFirst};
-ghost use Rattle.pw_session.specs.Outcomes.{EndsAs, EndsTurn, IsLastAnswer, IsReadAnswer, IsSessionAnswer, IsTaken, IsTurn, LeavesScript, LeavesTurn, ObeysLine, ObeysSession, TakesTurn, image_view, end_answer, turn_answer, unread};
+ghost use Rattle.pw_session.specs.Outcomes.{EndsAs, EndsTurn, IsLastAnswer, IsReadAnswer, IsSessionAnswer, IsTaken, IsTurn, KeepsImage, LeavesScript, LeavesTurn, ObeysLine, ObeysSession, TakesTurn, image_view, end_answer, turn_answer, unread};
 
 use crate::lines::obey_line;
 use crate::opts::SessionOpts;
@@ -50,7 +50,9 @@ fn obey_taken<S: Store, O: Sink>(
 ) -> Turn
     requires opts { AreOpts opts.now.build }
     requires named { NamesModule (line_view taken.now.line) }
+    requires image { KeepsImage (image_view image.old) }
     ensures does { IfSome (S.told store.old) (λ told. ObeysLine opts.now (record { told = told; image = image_view image.old }) (line_view taken.now.line) (turn_answer result) (S.told store.new) (O.taken out.old) (O.taken out.new) (image_view image.new)) }
+    ensures image { KeepsImage (image_view image.new) }
     ensures some { IfSome (S.told store.old) (λ told. MakesSome (IsRemovedBy (line_view taken.now.line)) (turn_answer result) told (S.told store.new)) }
     ensures genuine { IfSome (S.told store.old) (λ told. KeepsGenuine told.files → IfSome (S.told store.new) (λ now. KeepsGenuine now.files)) }
     ensures store { StoreCount (S.faults store.old) (S.faults store.new) (turn_answer result) }
@@ -73,9 +75,11 @@ fn take_turn<S: Store, I: Source, O: Sink>(
     image: &mut Option<Vec<u8>>,
     offset: u64,
 ) -> Turn
-    requires { AreOpts opts.now.build }
+    requires opts { AreOpts opts.now.build }
+    requires image { KeepsImage (image_view image.old) }
     ensures turn { IfSome (S.told store.old) (λ told. IfSome (I.rest input.old) (λ script. TakesTurn opts.now (record { told = told; image = image_view image.old }) offset script result (S.told store.new) (I.rest input.new) (O.taken out.old) (O.taken out.new) (image_view image.new))) }
     ensures ends { IfSome (I.rest input.old) (λ script. EndsTurn offset script result (I.rest input.new)) }
+    ensures image { KeepsImage (image_view image.new) }
     ensures some { IfSome (S.told store.old) (λ told. MakesSome (MayRemoveFirst (I.rest input.old)) (turn_answer result) told (S.told store.new)) }
     ensures genuine { IfSome (S.told store.old) (λ told. KeepsGenuine told.files → IfSome (S.told store.new) (λ now. KeepsGenuine now.files)) }
     ensures part { IfSome (I.rest input.old) (λ script. IsReadInPart script (I.rest input.new)) }

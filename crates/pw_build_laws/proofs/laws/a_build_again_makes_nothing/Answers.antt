@@ -1,13 +1,12 @@
-use Rattle.pw_build_laws.proofs.AgainLemmas.{again_comes, same_put}
+use Rattle.std.proofs.Common.{refl}
+use Rattle.pw_answer.specs.Effects.{after_puts}
+use Rattle.pw_build_laws.proofs.AgainLemmas.{same_put}
 use Rattle.pw_build_laws.proofs.laws.a_build_again_makes_nothing.Goals as goal
 
+-- nothing was edited
 pub returns-clause-again : goal.returns-clause-again
-returns-clause-again c = again_comes (record {
-  files = record { inserted = c.other_files.ensures.inserted; insertion = c.other_files.ensures.insertion };
-  front = c.front.ensures.whole;
-  modules = c.modules_are_exact.ensures.exact;
-  rising = c.modules_are_exact.ensures.rising;
-})
+returns-clause-again c = λ told colours stack parts outcome builds o fits.
+    c.an_edit_that_keeps_flows_makes_nothing.ensures told colours stack parts outcome (after_puts told outcome.puts).files builds o fits (record { names = refl; phases = refl; built = λ name is. refl })
 
 pub returns-clause-same_text : goal.returns-clause-same_text
 returns-clause-same_text c = same_put

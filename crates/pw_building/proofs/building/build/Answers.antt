@@ -4,13 +4,16 @@ use Rattle.pw_building.proofs.CountLemmas.{counted_putting}
 use Rattle.pw_building.proofs.FileLemmas.{of_store_no_want}
 use Rattle.pw_building.proofs.GenuineLemmas.{nothing_keeps, puts_keep}
 use Rattle.pw_building.proofs.LeavingLemmas.{nothing_leaves, puts_leave}
-use Rattle.pw_building.proofs.ObeysLemmas.{obeys_put, obeys_refused, puts_nothing, puts_some}
+use Rattle.pw_building.proofs.ObeysLemmas.{obeys_put, obeys_refused, puts_nothing, puts_some, reported_image}
 use Rattle.pw_building.proofs.building.build.Goals as goal
 
 pub returns-in-Ok-clause-obeys : goal.returns-in-Ok-clause-obeys
 returns-in-Ok-clause-obeys g c =
     obeys_put c.a_store_has_one_build.ensures c.args.opts.now c.requires.colours (outcome_of c.in-Ok.made) c.finished.result (g.S.Store.told c.args.store.now) _ _
     c.in-Ok.ensures.comes c.prepare.ensures.same c.finished.ensures.report c.finished.ensures.fault c.finished.ensures.put
+
+pub returns-in-Ok-clause-image : goal.returns-in-Ok-clause-image
+returns-in-Ok-clause-image g c = reported_image (outcome_of c.in-Ok.made) c.finished.result c.finished.ensures.report c.in-Ok.ensures.image
 
 pub returns-in-Ok-clause-others : goal.returns-in-Ok-clause-others
 returns-in-Ok-clause-others g c = puts_some (changed_files c.in-Ok.made) c.finished.result (g.S.Store.told c.args.store.now) _ _ c.prepare.ensures.same c.in-Ok.ensures.own c.finished.ensures.fault c.finished.ensures.put

@@ -1,6 +1,7 @@
-use Rattle.std.proofs.Common.{map, refl}
+use Rattle.std.proofs.Common.{map, refl, sym, subst}
 use Rattle.pw_modules.specs.Views.{source}
 use Rattle.pw_kept.specs.Kept.{kept_object}
+use Rattle.pw_building.specs.Outcomes.{HoldsImage}
 use Rattle.pw_building.proofs.CountLemmas.{counted_late}
 use Rattle.pw_building.proofs.FileLemmas.{comes_prepared, found_late}
 use Rattle.pw_building.proofs.GenuineLemmas.{good_prepared}
@@ -17,6 +18,9 @@ returns-in_ok-compared-in-Ok-clause-own g c =
 
 pub returns-in-Err-clause-fault : goal.returns-in-Err-clause-fault
 returns-in-Err-clause-fault g c = found_late c.args.opts.now (g.S.Store.told c.args.store.now) c.args.modules.now c.in-Err.unbuilt.fault c.in-Err.ensures.fault
+
+pub returns-in_ok-compared-in-Ok-clause-image : goal.returns-in_ok-compared-in-Ok-clause-image
+returns-in_ok-compared-in-Ok-clause-image g c = subst HoldsImage (sym c.in_ok-compared-in-Ok.ensures.image) c.in-Ok.ensures.image
 
 pub returns-in-Err-clause-counted_fault : goal.returns-in-Err-clause-counted_fault
 returns-in-Err-clause-counted_fault g c =

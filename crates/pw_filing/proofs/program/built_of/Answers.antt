@@ -1,6 +1,9 @@
-use Rattle.std.proofs.Common.{rules, map}
+use Rattle.std.proofs.Common.{rules, ◌≢◌, map}
+use Rattle.pw_value.specs.declared.fault.LinkFault.TheVariants as link
 use Rattle.pw_modules.specs.Views.{source}
 use Rattle.pw_build.specs.Builds.{first_phases}
+use Rattle.pw_kept.specs.Kept.{kept_object}
+use Rattle.pw_filing.proofs.CountLemmas.{made_counted, not_want}
 use Rattle.pw_filing.proofs.ProgramLemmas.{as_many, few_modules, flows_counted, not_counted}
 use Rattle.pw_filing.proofs.WantLemmas.{err_proper, phases_no_want}
 use Rattle.pw_filing.proofs.program.built_of.Goals as goal
@@ -30,3 +33,9 @@ returns-in-Ok-clause-bound g c =
 pub returns-in-Err-NoMemory-clause-bound : goal.returns-in-Err-NoMemory-clause-bound
 returns-in-Err-NoMemory-clause-bound g c =
     flows_counted (first_phases (map source c.args.modules.now)) c.in_ok-flows.flows.items c.args.steps.now c.complete.new.steps c.in_ok-flows.ensures.flows (rw c.deref.ensures.value at c.complete.ensures.bound)
+
+pub returns-clause-counted_fault : goal.returns-clause-counted_fault
+returns-clause-counted_fault g c =
+    let other : c.in-Err.fault ≢ link.NoMemory = search rules in
+    made_counted (map source c.args.modules.now) c.in_ok-flows.flows.items c.in_ok-kept.kept.items (λ told. map (λ m. kept_object told.files m.name) c.args.modules.now) c.args.colours c.args.steps.now c.complete.new.steps c.in-Err.fault
+    (g.S.Store.told c.args.store.now) c.in_ok-flows.ensures.flows c.in_ok-kept.ensures.objects (not_want other (rw c.deref.ensures.value at c.in-Err.ensures.counted_fault))

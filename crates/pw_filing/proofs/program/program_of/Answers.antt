@@ -1,7 +1,8 @@
 use Rattle.std.proofs.Common.{map}
+use Rattle.pw_image.specs.Image.{view}
 use Rattle.pw_kept.specs.Kept.{kept_object}
 use Rattle.pw_modules.specs.Views.{source}
-use Rattle.pw_filing.proofs.ProgramLemmas.{counted_names, made_of_program, most_counted}
+use Rattle.pw_filing.proofs.ProgramLemmas.{counted_names, holds_image, made_of_program, most_counted}
 use Rattle.pw_filing.proofs.program.program_of.Goals as goal
 
 pub returns-clause-files : goal.returns-clause-files
@@ -23,3 +24,6 @@ returns-in_err-files_of-clause-most g c = most_counted (map source c.args.module
 
 pub returns-clause-most : goal.returns-clause-most
 returns-clause-most g c = most_counted (map source c.args.modules.now) c.args.steps.now c.built_of.new.steps c.built_of.ensures.bound
+
+pub returns-clause-image : goal.returns-clause-image
+returns-clause-image g c = holds_image c.in_ok-files_of.field-0.image.items (view c.in_ok-built.built.image) c.in_ok-files_of.ensures.image

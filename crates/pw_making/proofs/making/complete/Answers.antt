@@ -1,6 +1,6 @@
-use Rattle.std.proofs.Common.{⊎_elim, inl, inr, length}
+use Rattle.std.proofs.Common.{rules, ⊎_elim, inl, inr, length}
 use Rattle.std.proofs.lemmas.Result.{IfErr-weaker}
-use Rattle.pw_making.proofs.CountLemmas.{made_counted}
+use Rattle.pw_making.proofs.CountLemmas.{broken_counted, made_counted}
 use Rattle.pw_making.proofs.LoopLemmas.{bound_none}
 use Rattle.pw_making.proofs.making.complete.Goals as goal
 
@@ -26,3 +26,8 @@ returns-clause-counted_fault g c =
     (record { lawful = c.requires.lawful; database = c.in_ok-database.ensures.database; objects = c.in_ok-made.ensures.objects })
     c.in_ok-made.ensures.counted))
     c.linked.ensures.refused
+
+pub returns-in_err-database-clause-counted_fault : goal.returns-in_err-database-clause-counted_fault
+returns-in_err-database-clause-counted_fault g c =
+    broken_counted c.args.flows.now c.args.kept.items c.args.colours c.args.steps.now c.from_residual.result c.in_err-database.field-0.0
+    (first_of (search (rules, c.from_residual.ensures), cc (c.from_residual.ensures))) c.in_err-database.ensures.refused

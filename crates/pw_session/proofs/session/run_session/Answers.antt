@@ -12,6 +12,7 @@ use Rattle.pw_session.proofs.session.run_session.Goals as goal
 pub loop-place-init : goal.loop-place-init
 loop-place-init g c = record {
   session = session_begins c.args.opts.now (lines_limit - 0) (g.S.Store.told c.args.store.now) (g.I.Source.rest c.args.input.now) (g.O.Sink.taken c.args.out.now) (omega arith);
+  image = tt;
   ends = ends_begin (lines_limit - 0) (g.I.Source.rest c.args.input.now) (omega arith);
   some = same_some (MayRemove (g.I.Source.rest c.args.input.now)) (g.S.Store.told c.args.store.now) Done;
   genuine = genuine_same (g.S.Store.told c.args.store.now);
@@ -27,6 +28,7 @@ loop-place-preserved g c = record {
   session = session_further c.args.opts.now (lines_limit - c.loop-place._place) (lines_limit - (c.loop-place._place + 1)) c.loop-place.offset c.in-Obeyed.size (g.S.Store.told c.args.store.now) (g.S.Store.told c.loop-place.store) (g.S.Store.told c.take_turn.new.store)
       (g.I.Source.rest c.args.input.now) (g.I.Source.rest c.loop-place.input) (g.I.Source.rest c.take_turn.new.input) (g.O.Sink.taken c.args.out.now) (g.O.Sink.taken c.loop-place.out) (g.O.Sink.taken c.take_turn.new.out) (image_view c.loop-place.image) (image_view c.take_turn.new.image)
       (omega arith) c.loop-place.invariant.session c.in-Obeyed.ensures.turn;
+  image = c.take_turn.ensures.image;
   ends = ends_further (lines_limit - c.loop-place._place) (lines_limit - (c.loop-place._place + 1)) c.loop-place.offset c.in-Obeyed.size (g.I.Source.rest c.args.input.now) (g.I.Source.rest c.loop-place.input) (g.I.Source.rest c.take_turn.new.input)
       (omega arith) c.loop-place.invariant.ends c.in-Obeyed.ensures.ends;
   some = some_on (MayRemove (g.I.Source.rest c.args.input.now)) Done (g.S.Store.told c.args.store.now) (g.S.Store.told c.loop-place.store) (g.S.Store.told c.take_turn.new.store) c.loop-place.invariant.some

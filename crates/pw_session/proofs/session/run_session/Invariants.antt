@@ -5,7 +5,7 @@ use Rattle.pw_driving.specs.FromBuilding.Genuine.{KeepsGenuine}
 use Rattle.pw_script.specs.Reading.{IsReadInPart}
 use Rattle.pw_script.specs.Script.{taken_limit}
 use Rattle.pw_session.specs.Changes.{MakesSome}
-use Rattle.pw_session.specs.Outcomes.{image_view}
+use Rattle.pw_session.specs.Outcomes.{KeepsImage, image_view}
 use Rattle.pw_session.specs.Removals.{MayRemove}
 use Rattle.pw_session.specs.Session.{lines_limit}
 use Rattle.pw_session.proofs.EndLemmas.{EndsBehind}
@@ -16,6 +16,7 @@ use Rattle.pw_session.proofs.session.run_session.Given as goal
 abbrev pub invariant-loop-place : goal.invariant-loop-place
 invariant-loop-place g l = record {
   session : SessionAt l.opts (lines_limit - l._place) l.offset (g.S.Store.told l.fn.store) (g.S.Store.told l.store) (g.I.Source.rest l.fn.input) (g.I.Source.rest l.input) (g.O.Sink.taken l.fn.out) (g.O.Sink.taken l.out) (image_view l.image);
+  image : KeepsImage (image_view l.image);
   ends : EndsBehind (lines_limit - l._place) l.offset (g.I.Source.rest l.fn.input) (g.I.Source.rest l.input);
   some : IfSome (g.S.Store.told l.fn.store) (λ told. MakesSome (MayRemove (g.I.Source.rest l.fn.input)) Done told (g.S.Store.told l.store));
   genuine : IfSome (g.S.Store.told l.fn.store) (λ told. KeepsGenuine told.files → IfSome (g.S.Store.told l.store) (λ now. KeepsGenuine now.files));

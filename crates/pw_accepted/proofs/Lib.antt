@@ -1,0 +1,3 @@
+mod Declared
+mod Defined
+mod Rules

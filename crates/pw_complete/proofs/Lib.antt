@@ -1,0 +1,4 @@
+mod Builds
+mod Declared
+mod Stores
+mod Only
