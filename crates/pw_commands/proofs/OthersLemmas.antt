@@ -75,65 +75,67 @@ all_own names (name ∷ some) others h k = (h.0, all_own names some others h.1 k
 
 -- ---- files that were put, whole or in part
 
-abbrev PutsIn : List NamedFile → Told → Option Told → Type 0
-PutsIn files told new = IsSomeAnd new (PutsOnly (names_of files) told)
+abbrev PutsIn : List NamedFile → Answer → Told → Option Told → Type 0
+PutsIn files answer told new = IsSomeAnd new (PutsOnly (names_of files) answer told)
 
-whole_in : (done more : List NamedFile) (told : Told) (new : Option Told) → new ≡ Some (after_puts told done) → PutsIn (done ++ more) told new
-whole_in done more told new e =
-    subst (PutsIn (done ++ more) told) (sym e) (record {
+whole_in : (done more : List NamedFile) (answer : Answer) (told : Told) (new : Option Told) → new ≡ Some (after_puts told done) → PutsIn (done ++ more) answer told new
+whole_in done more answer told new e =
+    subst (PutsIn (done ++ more) answer told) (sym e) (record {
       put = names_of done;
       failed = [];
       own = all_own (names_of (done ++ more)) (names_of done) [] (one_of_done done more) tt;
       one = omega arith;
+      none = λ h. refl;
       told_so = puts_told done told;
       same = λ name n. puts_other done told name (none_of_first (names_of done) [] name n);
     })
 
 failed_in : (done : List NamedFile) (file : NamedFile) (more : List NamedFile) (told left : Told) → left.puts ≡ (after_puts told done).puts → LeavesFile (after_puts told done).files left.files file.0 file.1
-    → PutsOnly (names_of (done ++ file ∷ more)) told left
+    → PutsOnly (names_of (done ++ file ∷ more)) StoreFault told left
 failed_in done file more told left puts leaves = record {
   put = names_of done;
   failed = file.0 ∷ [];
   own = all_own (names_of (done ++ file ∷ more)) (names_of done) (file.0 ∷ []) (one_of_done done (file ∷ more)) (one_of_next done file more, tt);
   one = omega arith;
+  none = λ h. absurd (h refl);
   told_so = puts ∙ puts_told done told;
   same = λ name n.
       left_other (after_puts told done).files left.files file.0 file.1 name leaves (none_of_second (names_of done) (file.0 ∷ []) name n).0
       ∙ puts_other done told name (none_of_first (names_of done) (file.0 ∷ []) name n);
 }
 
-left_in : (done more : List NamedFile) (told : Told) (new : Option Told) → IsLeft (after_puts told done) more new → PutsIn (done ++ more) told new
-left_in done [] told new h = whole_in done [] told new h
+left_in : (done more : List NamedFile) (told : Told) (new : Option Told) → IsLeft (after_puts told done) more new → PutsIn (done ++ more) StoreFault told new
+left_in done [] told new h = whole_in done [] StoreFault told new h
 left_in done (file ∷ more) told None h = absurd (⊎_elim {C = ⊥} (λ e. cc) (λ n. n) h)
 left_in done (file ∷ more) told (Some left) h =
-    ⊎_elim {C = PutsIn (done ++ file ∷ more) told (Some left)} (λ e. whole_in done (file ∷ more) told (Some left) e) (λ l. failed_in done file more told left l.0 l.1) h
+    ⊎_elim {C = PutsIn (done ++ file ∷ more) StoreFault told (Some left)} (λ e. whole_in done (file ∷ more) StoreFault told (Some left) e) (λ l. failed_in done file more told left l.0 l.1) h
 
-pub files_other : (files : List NamedFile) (answer : Answer) (told : Told) (new : Option Told) → PutsFiles files answer told new → PutsIn files told new
-files_other files StoreFault told new h = subst (λ (fs : List NamedFile). PutsIn fs told new) (sym h.split) (left_in h.done h.more told new h.left)
-files_other files NoMemory told new h = subst (λ (fs : List NamedFile). PutsIn fs told new) (sym h.split) (whole_in h.done h.more told new h.left)
-files_other files _ told new h = subst (λ (fs : List NamedFile). PutsIn fs told new) (append-nil files) (whole_in files [] told new h)
+pub files_other : (files : List NamedFile) (answer : Answer) (told : Told) (new : Option Told) → PutsFiles files answer told new → PutsIn files answer told new
+files_other files StoreFault told new h = subst (λ (fs : List NamedFile). PutsIn fs StoreFault told new) (sym h.split) (left_in h.done h.more told new h.left)
+files_other files NoMemory told new h = subst (λ (fs : List NamedFile). PutsIn fs NoMemory told new) (sym h.split) (whole_in h.done h.more NoMemory told new h.left)
+files_other files answer told new h = subst (λ (fs : List NamedFile). PutsIn fs answer told new) (append-nil files) (whole_in files [] answer told new h)
 
-none_put : (names : List (List ℕ)) (told : Told) → PutsOnly names told told
-none_put names told = record { put = []; failed = []; own = tt; one = omega arith; told_so = sym (append-nil told.puts); same = λ name n. refl }
+none_put : (names : List (List ℕ)) (answer : Answer) (told : Told) → PutsOnly names answer told told
+none_put names answer told = record { put = []; failed = []; own = tt; one = omega arith; none = λ h. refl; told_so = sym (append-nil told.puts); same = λ name n. refl }
 
 -- ---- a command that reads, and then puts
 
-pub kept_others : (names : List (List ℕ)) (old new : Option Told) → Keeps old new → KeepsOthers names old new
-kept_others names None new h = tt
-kept_others names (Some told) new h = subst (λ (o : Option Told). IsSomeAnd o (PutsOnly names told)) (sym h) (none_put names told)
+pub kept_others : (names : List (List ℕ)) (answer : Answer) (old new : Option Told) → Keeps old new → KeepsOthers names answer old new
+kept_others names answer None new h = tt
+kept_others names answer (Some told) new h = subst (λ (o : Option Told). IsSomeAnd o (PutsOnly names answer told)) (sym h) (none_put names answer told)
 
-pub put_others : (old mid new : Option Told) (files : List NamedFile) (answer : Answer) → Keeps old mid → IfSome mid (λ told. PutsFiles files answer told new) → KeepsOthers (names_of files) old new
+pub put_others : (old mid new : Option Told) (files : List NamedFile) (answer : Answer) → Keeps old mid → IfSome mid (λ told. PutsFiles files answer told new) → KeepsOthers (names_of files) answer old new
 put_others None mid new files answer k h = tt
 put_others (Some told) mid new files answer k h = let P : Option Told → Type 0 = λ o. IfSome o (λ t. PutsFiles files answer t new) in files_other files answer told new (subst P k h)
 
-pub others_alone : (names : List (List ℕ)) (told : Option Told) → KeepsOthers names told told
-others_alone names None = tt
-others_alone names (Some told) = none_put names told
+pub others_alone : (names : List (List ℕ)) (answer : Answer) (told : Option Told) → KeepsOthers names answer told told
+others_alone names answer None = tt
+others_alone names answer (Some told) = none_put names answer told
 
-pub then_others : (names : List (List ℕ)) (old mid new : Option Told) → Keeps old mid → KeepsOthers names mid new → KeepsOthers names old new
-then_others names None mid new k h = tt
-then_others names (Some told) mid new k h = let P : Option Told → Type 0 = λ o. KeepsOthers names o new in subst P k h
+pub then_others : (names : List (List ℕ)) (answer : Answer) (old mid new : Option Told) → Keeps old mid → KeepsOthers names answer mid new → KeepsOthers names answer old new
+then_others names answer None mid new k h = tt
+then_others names answer (Some told) mid new k h = let P : Option Told → Type 0 = λ o. KeepsOthers names answer o new in subst P k h
 
-pub just_others : (told new : Option Told) (files : List NamedFile) (answer : Answer) → IfSome told (λ t. PutsFiles files answer t new) → KeepsOthers (names_of files) told new
+pub just_others : (told new : Option Told) (files : List NamedFile) (answer : Answer) → IfSome told (λ t. PutsFiles files answer t new) → KeepsOthers (names_of files) answer told new
 just_others None new files answer h = tt
 just_others (Some told) new files answer h = files_other files answer told new h

@@ -61,7 +61,7 @@ fn analysed_file<S: Store>(alloc: Global, store: &mut S, colours: u8) -> Result<
 pub fn analyse_modules<S: Store>(alloc: Global, store: &mut S, colours: u8) -> Answer
     requires { colours ≤ colour_limit }
     ensures obeys { IfSome (S.told store.old) (λ told. (input : List ℕ) → Obeys (AnalyseComes told.files colours input) result told (S.told store.new)) }
-    ensures others { KeepsOthers (codes "prog.db" ∷ []) (S.told store.old) (S.told store.new) }
+    ensures others { KeepsOthers (codes "prog.db" ∷ []) result (S.told store.old) (S.told store.new) }
     ensures answer { IsStoreAnswer result }
     ensures count { StoreCount (S.faults store.old) (S.faults store.new) result }
 {

@@ -71,7 +71,7 @@ pub fn link_modules<S: Store>(alloc: Global, store: &mut S, stack: u32) -> Answe
     requires least { stack_least ≤ stack }
     requires most { stack ≤ stack_most }
     ensures obeys { IfSome (S.told store.old) (λ told. (input : List ℕ) → Obeys (LinkComes told.files stack input) result told (S.told store.new)) }
-    ensures others { KeepsOthers (codes "prog.img" ∷ []) (S.told store.old) (S.told store.new) }
+    ensures others { KeepsOthers (codes "prog.img" ∷ []) result (S.told store.old) (S.told store.new) }
     ensures answer { IsStoreAnswer result }
     ensures count { StoreCount (S.faults store.old) (S.faults store.new) result }
 {

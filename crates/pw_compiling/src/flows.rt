@@ -137,7 +137,7 @@ pub fn compile_flow<S: Store>(alloc: Global, store: &mut S, name: &Name) -> Answ
     requires { is_module_name name.now ≡ true }
     ensures obeys { IfSome (S.told store.old) (λ told. (input : List ℕ) → Obeys (PhaseTwoComes told.files name.now input) result told (S.told store.new)) }
     ensures made { IfSome (S.told store.old) (λ told. PutsMade name.now told (S.told store.new)) }
-    ensures others { KeepsOthers (phase_two_puts name.now) (S.told store.old) (S.told store.new) }
+    ensures others { KeepsOthers (phase_two_puts name.now) result (S.told store.old) (S.told store.new) }
     ensures answer { IsStoreAnswer result }
     ensures count { StoreCount (S.faults store.old) (S.faults store.new) result }
 {

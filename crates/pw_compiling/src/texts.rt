@@ -133,7 +133,7 @@ fn put_made<S: Store>(alloc: Global, store: &mut S, name: &Name, made: &MadeFile
 fn compile_bytes<S: Store>(alloc: Global, store: &mut S, name: &Name, text: &[u8]) -> Reply
     requires { is_module_name name.now ≡ true }
     ensures obeys { IfSome (S.told store.old) (λ told. (input : List ℕ) → Obeys (ComesOfPhase name.now (compiled name.now text.now) input) result.answer told (S.told store.new)) }
-    ensures others { KeepsOthers (phase_one_puts name.now) (S.told store.old) (S.told store.new) }
+    ensures others { KeepsOthers (phase_one_puts name.now) result.answer (S.told store.old) (S.told store.new) }
     ensures line { IsLine (line_in text.now (compiled name.now text.now)) result.answer result.line }
     ensures answer { IsPhaseAnswer result.answer }
     ensures count { StoreCount (S.faults store.old) (S.faults store.new) result.answer }
@@ -158,7 +158,7 @@ fn compile_bytes<S: Store>(alloc: Global, store: &mut S, name: &Name, text: &[u8
 pub fn compile_text<S: Store>(alloc: Global, store: &mut S, name: &Name) -> Reply
     requires { is_module_name name.now ≡ true }
     ensures obeys { IfSome (S.told store.old) (λ told. (input : List ℕ) → Obeys (PhaseOneComes told.files name.now input) result.answer told (S.told store.new)) }
-    ensures others { KeepsOthers (phase_one_puts name.now) (S.told store.old) (S.told store.new) }
+    ensures others { KeepsOthers (phase_one_puts name.now) result.answer (S.told store.old) (S.told store.new) }
     ensures line { IfSome (S.told store.old) (λ told. IsLine (phase_line told.files name.now) result.answer result.line) }
     ensures answer { IsPhaseAnswer result.answer }
     ensures count { StoreCount (S.faults store.old) (S.faults store.new) result.answer }

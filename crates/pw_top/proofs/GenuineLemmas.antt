@@ -58,11 +58,11 @@ none_of_own : (names some : List (List ℕ)) (name : List ℕ) → AllByRecursio
 none_of_own names [] name own n = tt
 none_of_own names (other ∷ some) name own n = ((λ e. not_one names name n (subst (IsOneOf names) (sym e) own.0)), none_of_own names some name own.1 n)
 
-pub stays_genuine : (names : List (List ℕ)) (told new : Option Told) → ((name : List ℕ) → IsNoneOf names (object_name name)) → KeepsOthers names told new
+pub stays_genuine : (names : List (List ℕ)) (answer : Answer) (told new : Option Told) → ((name : List ℕ) → IsNoneOf names (object_name name)) → KeepsOthers names answer told new
     → IfSome told (λ t. KeepsGenuine t.files → IfSome new (λ now. KeepsGenuine now.files))
-stays_genuine names None new apart h = tt
-stays_genuine names (Some t) None apart h = λ k. tt
-stays_genuine names (Some t) (Some now) apart h =
+stays_genuine names answer None new apart h = tt
+stays_genuine names answer (Some t) None apart h = λ k. tt
+stays_genuine names answer (Some t) (Some now) apart h =
     λ k name object named e. k name object named
     (ap (λ (g : Option (List ℕ)). object_in (counted g)) (sym (h.same (object_name name) (none_of_own names (h.put ++ h.failed) (object_name name) h.own (apart name)))) ∙ e)
 
@@ -80,14 +80,14 @@ puts_apart (Some (Analyse colours)) h name = database_apart name
 puts_apart (Some (Link stack)) h name = image_apart name
 puts_apart _ h name = tt
 
-others_of : (command : Option Command) (script : Option (List ℕ)) (answer : Answer) (told new : Option Told) → PutsNoObject command → KeepsTheRest command script answer told new → KeepsOthers (files_put command) told new
+others_of : (command : Option Command) (script : Option (List ℕ)) (answer : Answer) (told new : Option Told) → PutsNoObject command → KeepsTheRest command script answer told new → KeepsOthers (files_put command) answer told new
 others_of (Some (BuildAll colours stack)) script answer told new p h = absurd p
 others_of (Some (Session colours stack steps)) script answer told new p h = absurd p
 others_of command script answer told new p h = h
 
 pub plain_genuine : (command : Option Command) (script : Option (List ℕ)) (answer : Answer) (told new : Option Told) → PutsNoObject command → KeepsTheRest command script answer told new
     → IfSome told (λ t. KeepsGenuine t.files → IfSome new (λ now. KeepsGenuine now.files))
-plain_genuine command script answer told new p h = stays_genuine (files_put command) told new (puts_apart command p) (others_of command script answer told new p h)
+plain_genuine command script answer told new p h = stays_genuine (files_put command) answer told new (puts_apart command p) (others_of command script answer told new p h)
 
 pub genuine_alone : (told : Option Told) → IfSome told (λ t. KeepsGenuine t.files → IfSome told (λ now. KeepsGenuine now.files))
 genuine_alone None = tt
@@ -114,16 +114,16 @@ phase_two_genuine law (Some t) new name h =
 
 -- ---- files that stay
 
-none_put : (names : List (List ℕ)) (told : Told) → PutsOnly names told told
-none_put names told = record { put = []; failed = []; own = tt; one = omega arith; told_so = sym (append-nil told.puts); same = λ name n. refl }
+none_put : (names : List (List ℕ)) (answer : Answer) (told : Told) → PutsOnly names answer told told
+none_put names answer told = record { put = []; failed = []; own = tt; one = omega arith; none = λ h. refl; told_so = sym (append-nil told.puts); same = λ name n. refl }
 
-pub kept_others : (told new : Option Told) → Keeps told new → KeepsOthers [] told new
-kept_others None new h = tt
-kept_others (Some t) new h = subst (λ (o : Option Told). IsSomeAnd o (PutsOnly [] t)) (sym h) (none_put [] t)
+pub kept_others : (answer : Answer) (told new : Option Told) → Keeps told new → KeepsOthers [] answer told new
+kept_others answer None new h = tt
+kept_others answer (Some t) new h = subst (λ (o : Option Told). IsSomeAnd o (PutsOnly [] answer t)) (sym h) (none_put [] answer t)
 
-pub others_alone : (names : List (List ℕ)) (told : Option Told) → KeepsOthers names told told
-others_alone names None = tt
-others_alone names (Some t) = none_put names t
+pub others_alone : (names : List (List ℕ)) (answer : Answer) (told : Option Told) → KeepsOthers names answer told told
+others_alone names answer None = tt
+others_alone names answer (Some t) = none_put names answer t
 
 unput_alone : (answer : Answer) (told : Told) → KeepsUnput answer told (Some told)
 unput_alone answer told = record { put = []; failed = []; own = tt; one = omega arith; none = λ h. refl; told_so = sym (append-nil told.puts); same = λ name n. refl }
@@ -133,4 +133,4 @@ rest_alone (Some (BuildAll colours stack)) script None = tt
 rest_alone (Some (BuildAll colours stack)) script (Some t) = unput_alone NoMemory t
 rest_alone (Some (Session colours stack steps)) script None = tt
 rest_alone (Some (Session colours stack steps)) script (Some t) = (changes_none (MayRemove script) t, rest_none (MayRemove script) NoMemory t)
-rest_alone command script told = others_alone (files_put command) told
+rest_alone command script told = others_alone (files_put command) NoMemory told

@@ -9,6 +9,7 @@ use Rattle.pw_answer.specs.Answers.{line_text, NeedsMemory}
 use Rattle.pw_answer.specs.Effects.{Effect, NamedFile, PutsFiles, PutFront}
 use Rattle.pw_answer.specs.Outcomes.{Answers, InputCount, LeavesInput, LeavesStreams, OutputCount, StoreCount, ToldAs, WasReadInPart}
 use Rattle.pw_run_laws.specs.Ends.{Ends}
+use Rattle.pw_run_laws.specs.FromCommands.Others.{KeepsOthers}
 use Rattle.pw_run_laws.specs.FromGo.FullBuild as build
 use Rattle.pw_run_laws.specs.FromGo.FullBuild.{Build, full_build}
 use Rattle.pw_run_laws.specs.FromGo.Going.{AnswersBuild, ReturnsSum, build_effect}
@@ -18,7 +19,7 @@ use Rattle.pw_words.specs.declared.commands.Command.TheVariants.{Go, Build as Bu
 use Rattle.pw_compiling.specs.First.{IsLine}
 use Rattle.pw_session_laws.specs.FromDriving.Driving.{KeepsUnput, Unput}
 use Rattle.pw_session_laws.specs.FromSession.Removals.{MayRemove}
-use Rattle.pw_top.specs.Commands.{EndsScript, KeepsTheRest, opts_of}
+use Rattle.pw_top.specs.Commands.{EndsScript, KeepsTheRest, files_put, opts_of}
 use Rattle.pw_top.specs.Does.{Does, DoesAs}
 use Rattle.pw_top.proofs.DoesLemmas.{memory_here, out_part}
 use Rattle.pw_top.proofs.SessionLemmas.{left_memory, session_memory_here, session_no_memory, some_memory}
@@ -209,12 +210,17 @@ unput_memory : (answer : Answer) (told : Told) (new : Option Told) → NeedsMemo
 unput_memory answer told None n h = absurd h
 unput_memory answer told (Some left) n h = unput_told answer told left n h
 
+puts_memory : (names : List (List ℕ)) (answer : Answer) (old new : Option Told) → NeedsMemory answer → KeepsOthers names answer old new → KeepsOthers names NoMemory old new
+puts_memory names answer None new n h = tt
+puts_memory names answer (Some told) None n h = absurd h
+puts_memory names answer (Some told) (Some left) n h = record { put = h.put; failed = h.failed; own = h.own; one = h.one; none = λ e. h.none (needs_no_store answer n); told_so = h.told_so; same = h.same }
+
 rest_memory : (command : Option Command) (script : Option (List ℕ)) (answer : Answer) (old new : Option Told) → NeedsMemory answer → KeepsTheRest command script answer old new → KeepsTheRest command script NoMemory old new
 rest_memory (Some (BuildAll colours stack)) script answer None new n h = tt
 rest_memory (Some (BuildAll colours stack)) script answer (Some told) new n h = unput_memory answer told new n h
 rest_memory (Some (Session colours stack steps)) script answer None new n h = tt
 rest_memory (Some (Session colours stack steps)) script answer (Some told) new n h = (some_memory (MayRemove script) answer told new n h.0, left_memory (MayRemove script) answer told new n h.1)
-rest_memory command script answer old new n h = h
+rest_memory command script answer old new n h = puts_memory (files_put command) answer old new n h
 
 pub rest_told : (command : Option Command) (script : Option (List ℕ)) (old new : Option Told) (answer last : Answer) → ToldAs answer last → KeepsTheRest command script answer old new → KeepsTheRest command script last old new
 rest_told command script old new answer last t h = told_by (λ a. KeepsTheRest command script a old new) answer last t h (λ n k. rest_memory command script answer old new n k)

@@ -67,7 +67,7 @@ abbrev pub KeepsTheRest : Option Command → Option (List ℕ) → Answer → Op
 KeepsTheRest (Some (Build colours stack)) script answer old new = IfSome old (λ told. KeepsUnput answer told new)
 KeepsTheRest (Some (Session colours stack steps)) script answer old new =
     IfSome old (λ told. MakesSome (MayRemove script) answer told new × IsSomeAnd new (LeavesRest (MayRemove script) answer told))
-KeepsTheRest command script answer old new = KeepsOthers (files_put command) old new
+KeepsTheRest command script answer old new = KeepsOthers (files_put command) answer old new
 
 -- what holds where the answer is `Done`
 abbrev pub IfDone : Answer → Type 0 → Type 0

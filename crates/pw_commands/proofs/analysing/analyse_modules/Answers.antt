@@ -20,4 +20,4 @@ returns-in-Ok-clause-others g c =
     put_others (g.S.Store.told c.args.store.now) _ _ ((codes "prog.db", c.in-Ok.bytes.items) ∷ []) c.put_file.result c.analysed_file.ensures.same (rw c.deref.ensures.value at c.put_file.ensures.put)
 
 pub returns-in-Err-clause-others : goal.returns-in-Err-clause-others
-returns-in-Err-clause-others g c = kept_others (codes "prog.db" ∷ []) (g.S.Store.told c.args.store.now) _ c.analysed_file.ensures.same
+returns-in-Err-clause-others g c = kept_others (codes "prog.db" ∷ []) c.in-Err.answer (g.S.Store.told c.args.store.now) _ c.analysed_file.ensures.same

@@ -26,7 +26,7 @@ returns-in-Ok-clause-others g c =
     put_others (g.S.Store.told c.args.store.now) _ _ ((c.args.name.now ++ codes ".obj", c.in-Ok.bytes.items) ∷ []) c.put_bytes.result c.object_bytes.ensures.same (rw c.deref.ensures.value at c.put_bytes.ensures.put)
 
 pub returns-in-Err-clause-others : goal.returns-in-Err-clause-others
-returns-in-Err-clause-others g c = kept_others (phase_two_puts c.args.name.now) (g.S.Store.told c.args.store.now) _ c.object_bytes.ensures.same
+returns-in-Err-clause-others g c = kept_others (phase_two_puts c.args.name.now) c.in-Err.answer (g.S.Store.told c.args.store.now) _ c.object_bytes.ensures.same
 
 pub returns-in-Ok-clause-made : goal.returns-in-Ok-clause-made
 returns-in-Ok-clause-made g c =

@@ -50,4 +50,4 @@ returns-in-Ok-clause-others g c =
     just_others (g.S.Store.told c.args.store.now) _ (two_files c.args.name.now c.in-Ok.made.flow.items c.in-Ok.made.sum.items) c.put_made.result c.put_made.ensures.put
 
 pub returns-in-Err-clause-others : goal.returns-in-Err-clause-others
-returns-in-Err-clause-others g c = others_alone (phase_one_puts c.args.name.now) (g.S.Store.told c.args.store.now)
+returns-in-Err-clause-others g c = others_alone (phase_one_puts c.args.name.now) c.reply_of.result.answer (g.S.Store.told c.args.store.now)

@@ -24,7 +24,7 @@ pub returns-in-Err-clause-answer : goal.returns-in-Err-clause-answer
 returns-in-Err-clause-answer g c = file_stop_is c.in-Err.answer c.in-Err.ensures.stop
 
 pub returns-in-Ok-clause-others : goal.returns-in-Ok-clause-others
-returns-in-Ok-clause-others g c = then_others (phase_one_puts c.args.name.now) (g.S.Store.told c.args.store.now) _ _ c.module_bytes.ensures.same c.compile_bytes.ensures.others
+returns-in-Ok-clause-others g c = then_others (phase_one_puts c.args.name.now) c.compile_bytes.result.answer (g.S.Store.told c.args.store.now) _ _ c.module_bytes.ensures.same c.compile_bytes.ensures.others
 
 pub returns-in-Err-clause-others : goal.returns-in-Err-clause-others
-returns-in-Err-clause-others g c = kept_others (phase_one_puts c.args.name.now) (g.S.Store.told c.args.store.now) _ c.module_bytes.ensures.same
+returns-in-Err-clause-others g c = kept_others (phase_one_puts c.args.name.now) c.in-Err.answer (g.S.Store.told c.args.store.now) _ c.module_bytes.ensures.same

@@ -208,7 +208,7 @@ pub returns-in-Db-clause-line : goal.returns-in-Db-clause-line
 returns-in-Db-clause-line g c = rw c.in-Db.is (plain_line (g.S.Store.told c.args.store.now) _)
 
 pub returns-in-Go-clause-others : goal.returns-in-Go-clause-others
-returns-in-Go-clause-others g c = rw c.in-Go.is (kept_others (g.S.Store.told c.args.store.now) _ c.go.ensures.files)
+returns-in-Go-clause-others g c = rw c.in-Go.is (kept_others c.go.result.answer (g.S.Store.told c.args.store.now) _ c.go.ensures.files)
 
 pub returns-in-PhaseOne-clause-others : goal.returns-in-PhaseOne-clause-others
 returns-in-PhaseOne-clause-others g c = rw c.in-PhaseOne.is c.compile_text.ensures.others
@@ -223,13 +223,13 @@ pub returns-in-Link-clause-others : goal.returns-in-Link-clause-others
 returns-in-Link-clause-others g c = rw c.in-Link.is c.link_modules.ensures.others
 
 pub returns-in-Run-clause-others : goal.returns-in-Run-clause-others
-returns-in-Run-clause-others g c = rw c.in-Run.is (kept_others (g.S.Store.told c.args.store.now) _ c.run_image.ensures.same)
+returns-in-Run-clause-others g c = rw c.in-Run.is (kept_others c.run_image.result (g.S.Store.told c.args.store.now) _ c.run_image.ensures.same)
 
 pub returns-in-List-clause-others : goal.returns-in-List-clause-others
-returns-in-List-clause-others g c = rw c.in-List.is (kept_others (g.S.Store.told c.args.store.now) _ c.list_image.ensures.same)
+returns-in-List-clause-others g c = rw c.in-List.is (kept_others c.list_image.result (g.S.Store.told c.args.store.now) _ c.list_image.ensures.same)
 
 pub returns-in-Db-clause-others : goal.returns-in-Db-clause-others
-returns-in-Db-clause-others g c = rw c.in-Db.is (kept_others (g.S.Store.told c.args.store.now) _ c.show_database.ensures.same)
+returns-in-Db-clause-others g c = rw c.in-Db.is (kept_others c.show_database.result (g.S.Store.told c.args.store.now) _ c.show_database.ensures.same)
 
 pub returns-in-Go-clause-genuine : goal.returns-in-Go-clause-genuine
 returns-in-Go-clause-genuine g c = plain_genuine (Some c.args.command.now) (g.I.Source.rest c.args.input.now) _ (g.S.Store.told c.args.store.now) _ (rw c.in-Go.is tt) (returns-in-Go-clause-others g c)
@@ -330,7 +330,7 @@ pub returns-in-Bench-clause-proper : goal.returns-in-Bench-clause-proper
 returns-in-Bench-clause-proper g c = bench_proper _ c.bench.ensures.answer
 
 pub returns-in-Bench-clause-others : goal.returns-in-Bench-clause-others
-returns-in-Bench-clause-others g c = rw c.in-Bench.is (others_alone _ (g.S.Store.told c.args.store.now))
+returns-in-Bench-clause-others g c = rw c.in-Bench.is (others_alone _ c.bench.result.answer (g.S.Store.told c.args.store.now))
 
 pub returns-in-Bench-clause-genuine : goal.returns-in-Bench-clause-genuine
 returns-in-Bench-clause-genuine g c = genuine_alone (g.S.Store.told c.args.store.now)

@@ -1,5 +1,6 @@
 use Rattle.std.proofs.Common.{[], map, inr, refl}
 use Rattle.std.specs.Prelude.{string_bytes}
+use Rattle.pw_answer.specs.declared.answer.Answer.TheVariants.{Usage}
 use Rattle.pw_words.specs.CommandLine.{command_of}
 use Rattle.pw_top.proofs.DoesLemmas.{usage_does}
 use Rattle.pw_top.proofs.CommandLemmas.{due_comes, due_is, kept_alone, no_line, of_other}
@@ -73,7 +74,7 @@ returns-in-Ok-clause-others g c = rw c.in-Ok.ensures c.obey.ensures.others
 pub returns-in-Err-Usage-clause-others : goal.returns-in-Err-Usage-clause-others
 returns-in-Err-Usage-clause-others g c =
     let none = rw c.in-Err-Usage.field-0-is at c.in-Err-Usage.ensures in
-    rw none (others_alone [] (g.S.Store.told c.args.store.now))
+    rw none (others_alone [] Usage (g.S.Store.told c.args.store.now))
 
 pub returns-in-Err-NoMemory-clause-others : goal.returns-in-Err-NoMemory-clause-others
 returns-in-Err-NoMemory-clause-others g c = rest_alone _ (g.I.Source.rest c.args.input.now) (g.S.Store.told c.args.store.now)
