@@ -3,23 +3,23 @@
 use crate::steps::Output;
 
 /// Whether a line is the wanted one, in which one `*` stands for any text, and which is another line where `=` is wanted.
-fn is_line(line: &str, wanted: &str, other: &str) -> bool {
+fn is_line(line: &str, wanted: &str, other: &[u8]) -> bool {
     match wanted.split_once('*') {
         Some((front, end)) => line.starts_with(front) && line.ends_with(end),
-        None if wanted == "=" => line == other,
+        None if wanted == "=" => line.as_bytes() == other,
         None => line == wanted,
     }
 }
 
 /// Whether a text has the wanted lines, of which `=` is the line of the last `*`.
 fn are_lines(text: &str, wanted: &str) -> bool {
-    let mut starred = "";
+    let mut starred = b"".as_slice();
     for (line, row) in text.split('\n').zip(wanted.split('\n')) {
         if !is_line(line, row, starred) {
             return false;
         }
         if row.ends_with('*') {
-            starred = line;
+            starred = line.as_bytes();
         }
     }
     text.split('\n').count() == wanted.split('\n').count()
