@@ -32,8 +32,8 @@ obeyed() { # a script, and how many lines it has
     [ "$(wc -l < "$work/told")" = "$2" ] || { echo "$1 tells other lines" >&2; exit 1; }
 }
 TIMEFORMAT='%U %S'
-seconds() { # the least processor time of five
-    for _ in 1 2 3 4 5; do { time "$pawc" session < "$work/$1" > "$work/told"; } 2>&1 | awk '{ print $1 + $2 }'; done |
+seconds() { # the least processor time of 25
+    for _ in $(seq 25); do { time "$pawc" session < "$work/$1" > "$work/told"; } 2>&1 | awk '{ print $1 + $2 }'; done |
         sort -n | head -1
 }
 compared() { # what is compared, the shorter script, the longer one, and the bytes of the longer one
