@@ -31,6 +31,10 @@ library_functions = exit_name ∷ getchar_name ∷ putchar_name ∷ []
 
 -- ---- their shapes
 
+-- int main(void), as fi
+abbrev pub main_shape : List ℕ
+main_shape = 102 ∷ 105 ∷ []
+
 -- void exit(int), as fvi
 abbrev pub exit_shape : List ℕ
 exit_shape = 102 ∷ 118 ∷ 105 ∷ []
