@@ -31,6 +31,10 @@ library_functions = exit_name ∷ getchar_name ∷ putchar_name ∷ []
 
 -- ---- their shapes
 
+-- void $start(void), as fv
+abbrev pub start_shape : List ℕ
+start_shape = 102 ∷ 118 ∷ []
+
 -- int main(void), as fi
 abbrev pub main_shape : List ℕ
 main_shape = 102 ∷ 105 ∷ []
