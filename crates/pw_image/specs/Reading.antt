@@ -1,5 +1,5 @@
 -- Reading an image file from left to right, with the first fault that is met.
-use Rattle.std.specs.Prelude.{ℕ, ◌+◌, ◌*◌, ◌%◌, List, length, Result, Ok, Err, Option, Some, None, Bool, false, nat_le, nat_lt, ◌==◌, ◌&&◌, if◌then◌else◌}
+use Rattle.std.specs.Prelude.{ℕ, ◌+◌, ◌*◌, ◌%◌, List, length, Result, Ok, Err, Bool, false, nat_le, nat_lt, ◌==◌, ◌&&◌, if◌then◌else◌}
 use Rattle.pw_value.specs.Limits.{text_start, word_limit, memory_size}
 use Rattle.pw_value.specs.Fields.{◌>>=◌, done, checked, u32_at, bytes_at, items_at, repeated}
 use Rattle.pw_value.specs.FieldFrame.{here, ended, file_at}
@@ -51,11 +51,6 @@ global_at names = do
   done (record { name = name; address = address })
 
 -- ---- the payload
-
--- a late rule that is broken at a place
-abbrev pub broken_at : Option ℕ → Result (Unit {0}) ℕ
-broken_at None = Ok tt
-broken_at (Some left) = Err left
 
 -- whether the entry is a word's address, by the count of words that stands twelve bytes behind it
 unfoldable pub start_at : List ℕ → Result (Bool × List ℕ) ℕ
