@@ -8,9 +8,9 @@ ghost use Rattle.pw_value.specs.Fields.{text};
 ghost use Rattle.pw_value.specs.FieldFrame.{ended};
 ghost use Rattle.pw_value.specs.FieldNames.{first_unused};
 ghost use Rattle.pw_value.specs.FieldFaults.{Gives, GivesFile};
-ghost use Rattle.pw_files.specs.Contents.{broken_at};
+ghost use Rattle.pw_files.specs.Contents.{broken_at, value_of};
 ghost use Rattle.pw_image.specs.Image.{Contents, ImageValue, data_start, free_behind, item_view, memory_view, view, contents_view, names_of, IsImageFile};
-ghost use Rattle.pw_image.specs.Reading.{is_in_text, item_at, next_free, memory_at, function_at, global_at, start_at, is_lawful_start, contents_at, payload_at, image_file_at, image_of};
+ghost use Rattle.pw_image.specs.Reading.{is_in_text, item_at, next_free, memory_at, function_at, global_at, start_at, is_lawful_start, contents_at, payload_at, image_file_at};
 
 use crate::image::{DataItem, Function, GlobalObject, Image, Memory};
 use pw_files::late::check_used;
@@ -357,18 +357,18 @@ fn read_file(alloc: Global, bytes: &[u8]) -> Result<(Vec<Name>, Image), FileErro
 /// breaks its rule.
 pub fn read_image(alloc: Global, bytes: &[u8]) -> Result<Image, FileError>
     // What is read is an image, and the bytes are its file.
-    ensures found { IfOk result (λ image. (names : List (List ℕ)) × IsImageFile bytes.now (record { names = names; image = view image })) }
+    ensures found { IfOk result (λ image. (names : List (List ℕ)) × IsImageFile bytes.now (record { names = names; value = view image })) }
     // A file of an image is read, unless memory runs out.
-    ensures only { (c : Contents) → IsImageFile bytes.now c → GivesFile view result (Ok c.image) }
+    ensures only { (c : Contents ImageValue) → IsImageFile bytes.now c → GivesFile view result (Ok c.value) }
     // Which fault it is.
-    ensures exact { GivesFile view result (image_of (image_file_at bytes.now)) }
+    ensures exact { GivesFile view result (value_of (image_file_at bytes.now)) }
 {
     read_alone(alloc, bytes)
 }
 
 /// The image of a whole file, without its table of names.
 fn read_alone(alloc: Global, bytes: &[u8]) -> Result<Image, FileError>
-    ensures { GivesFile view result (image_of (image_file_at bytes.now)) }
+    ensures { GivesFile view result (value_of (image_file_at bytes.now)) }
 {
     let (_names, image) = read_file(alloc, bytes)?;
     Ok(image)
