@@ -21,9 +21,7 @@ use pw_cmean::Undef;
 use pw_cstate::{State, get_char, has_room, put_char};
 use pw_cworld::{Body, LibraryFunction};
 use pw_types::{CType, QType, Types, shape};
-use pw_value::program_names::{
-    EXIT, EXIT_SHAPE, GETCHAR, GETCHAR_SHAPE, PUTCHAR, PUTCHAR_SHAPE,
-};
+use pw_value::program_names::{EXIT, EXIT_SHAPE, GETCHAR, GETCHAR_SHAPE, PUTCHAR, PUTCHAR_SHAPE};
 use pw_value::{Pointer, Shape, Value};
 use std::alloc::{AllocError, Global};
 

@@ -8,9 +8,7 @@ ghost use Rattle.pw_cworld.specs.Views.{view_part, view_program, view_callable, 
 use pw_lforms::full_name;
 use pw_typed::{TFunction, TModule};
 use pw_types::shape;
-use pw_value::program_names::{
-    EXIT, EXIT_SHAPE, GETCHAR, GETCHAR_SHAPE, PUTCHAR, PUTCHAR_SHAPE,
-};
+use pw_value::program_names::{EXIT, EXIT_SHAPE, GETCHAR, GETCHAR_SHAPE, PUTCHAR, PUTCHAR_SHAPE};
 use pw_value::{Name, Shape};
 use std::alloc::{AllocError, Global};
 
