@@ -69,7 +69,7 @@ comes_told files opts ms made p count sources builds fits few cmp =
         database = p.database.items;
         database_file = subst (λ (b : List ℕ). IsDatabaseFile b parts.database) (sym cmp.database) m.database;
         image_names = m.image_names;
-        image_file = subst (λ (b : List ℕ). IsImageFile b (record { names = m.image_names; image = linked parts.objects opts.stack })) (sym cmp.image) m.image;
+        image_file = subst (λ (b : List ℕ). IsImageFile b (record { names = m.image_names; value = linked parts.objects opts.stack })) (sym cmp.image) m.image;
         puts = ap (λ (fs : List NamedFile). map file_view p.objects.items ++ fs)
             (ap (λ (fs : List NamedFile). fs ++ one_if p.image_changed (codes "prog.img") p.image.items)
             (one_if_changed (is_same (kept_bytes files (codes "prog.db")) p.database.items) p.database_changed (codes "prog.db") p.database.items

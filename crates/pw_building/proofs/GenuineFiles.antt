@@ -4,7 +4,7 @@ use Rattle.std.proofs.lemmas.List.{take_at, drop_at, take-append-drop, take-appe
 use Rattle.sha2.specs.Sha256.{sha256}
 use Rattle.pw_value.specs.Fields.{u32, u32_at}
 use Rattle.pw_value.specs.FieldLaws.{AreBytes}
-use Rattle.pw_value.specs.FieldFrame.{before_digest, file}
+use Rattle.pw_value.specs.FieldFrame.{frame_size, before_digest, file}
 use Rattle.pw_value.proofs.FieldLaws.{u32_spells}
 use Rattle.pw_value.proofs.FileLaws.{length-sha256, length-u32}
 use Rattle.pw_files.specs.Contents.{value_of}
@@ -19,21 +19,21 @@ use Rattle.pw_kept.specs.Kept.{if_object, object_in}
 grouped : (a n v p d : List ℕ) → (a ++ (n ++ (v ++ p))) ++ d ≡ a ++ (n ++ ((v ++ p) ++ d))
 grouped a n v p d = append_assoc a (n ++ (v ++ p)) d ∙ ap (λ (x : List ℕ). a ++ x) (append_assoc n (v ++ p) d)
 
-length_field : (kind v : ℕ) (p : List ℕ) → take 4 (drop 4 (file kind v p)) ≡ u32 (44 + length p)
+length_field : (kind v : ℕ) (p : List ℕ) → take 4 (drop 4 (file kind v p)) ≡ u32 (frame_size + length p)
 unfolding file before_digest
 length_field kind v p =
-    let n : List ℕ = u32 (44 + length p) in
+    let n : List ℕ = u32 (frame_size + length p) in
     let d : List ℕ = sha256 (u32 kind ++ (n ++ (u32 v ++ p))) in
     let rest : List ℕ = (u32 v ++ p) ++ d in
     ap (λ (x : List ℕ). take 4 (drop 4 x)) (grouped (u32 kind) n (u32 v) p d)
-    ∙ ap (take 4) (drop_at (u32 kind) (n ++ rest) 4 (length-u32 kind)) ∙ take_at n rest 4 (length-u32 (44 + length p))
+    ∙ ap (take 4) (drop_at (u32 kind) (n ++ rest) 4 (length-u32 kind)) ∙ take_at n rest 4 (length-u32 (frame_size + length p))
 
-file_length : (kind v : ℕ) (p : List ℕ) → length (file kind v p) ≡ 44 + length p
+file_length : (kind v : ℕ) (p : List ℕ) → length (file kind v p) ≡ frame_size + length p
 unfolding file before_digest
 file_length kind v p =
-    let n : List ℕ = u32 (44 + length p) in
+    let n : List ℕ = u32 (frame_size + length p) in
     let front : List ℕ = u32 kind ++ (n ++ (u32 v ++ p)) in
-    omega (arith, length-append front (sha256 front), length-sha256 front, length-append (u32 kind) (n ++ (u32 v ++ p)), length-u32 kind, length-append n (u32 v ++ p), length-u32 (44 + length p), length-append (u32 v) p, length-u32 v)
+    omega (arith, length-append front (sha256 front), length-sha256 front, length-append (u32 kind) (n ++ (u32 v ++ p)), length-u32 kind, length-append n (u32 v ++ p), length-u32 (frame_size + length p), length-append (u32 v) p, length-u32 v)
 
 first_of : Result (ℕ × List ℕ) ℕ → ℕ
 first_of (Ok x) = x.0
@@ -44,12 +44,12 @@ unfolding first_of
 number_one n m a b e = ap first_of (sym (u32_spells.again n [] a) ∙ ap (λ (x : List ℕ). u32_at (x ++ [])) e ∙ u32_spells.again m [] b)
 
 -- the length that stands in an object's file is its own
-own_length : (bytes : List ℕ) (o : Object) → IsObjectFile bytes o → (take 4 (drop 4 bytes) ≡ u32 (length bytes)) × (length bytes < 2 ^ 32) × (44 ≤ length bytes)
+own_length : (bytes : List ℕ) (o : Object) → IsObjectFile bytes o → (take 4 (drop 4 bytes) ≡ u32 (length bytes)) × (length bytes < 2 ^ 32) × (frame_size ≤ length bytes)
 own_length bytes o is = from_spelled _ _ _ is.1.spelled is.1.room
   where
-    from_spelled : (kind v : ℕ) (p : List ℕ) → bytes ≡ file kind v p → 44 + length p < 2 ^ 32 → (take 4 (drop 4 bytes) ≡ u32 (length bytes)) × (length bytes < 2 ^ 32) × (44 ≤ length bytes)
+    from_spelled : (kind v : ℕ) (p : List ℕ) → bytes ≡ file kind v p → frame_size + length p < 2 ^ 32 → (take 4 (drop 4 bytes) ≡ u32 (length bytes)) × (length bytes < 2 ^ 32) × (frame_size ≤ length bytes)
     from_spelled kind v p e room =
-        let l : length bytes ≡ 44 + length p = ap length e ∙ file_length kind v p in
+        let l : length bytes ≡ frame_size + length p = ap length e ∙ file_length kind v p in
         (ap (λ (x : List ℕ). take 4 (drop 4 x)) e ∙ length_field kind v p ∙ ap u32 (sym l), omega (arith, l, room), omega (arith, l))
 
 -- ---- prefixes

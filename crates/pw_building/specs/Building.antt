@@ -43,7 +43,7 @@ pub record IsOutcome (files : Files) (stack : ℕ) (parts : Parts) (outcome : Ou
   pub database : List ℕ
   pub database_file : IsDatabaseFile database parts.database
   pub image_names : List (List ℕ)
-  pub image_file : IsImageFile outcome.image (record { names = image_names; image = linked parts.objects stack })
+  pub image_file : IsImageFile outcome.image (record { names = image_names; value = linked parts.objects stack })
   pub puts : outcome.puts ≡ objects ++ (if_changed files (codes "prog.db") database ++ if_changed files (codes "prog.img") outcome.image)
 
 -- A build over the files of a store, for so many registers and such a stack, comes to this: its modules and the objects

@@ -9,7 +9,7 @@ use Rattle.pw_building.specs.Building.{Outcome}
 
 -- the bytes are the file of the image of a program of these parts
 abbrev pub IsImageOf : Parts → ℕ → List ℕ → Type 0
-IsImageOf parts stack bytes = (names : List (List ℕ)) × IsImageFile bytes (record { names = names; image = linked parts.objects stack })
+IsImageOf parts stack bytes = (names : List (List ℕ)) × IsImageFile bytes (record { names = names; value = linked parts.objects stack })
 
 -- The full build of texts, where nothing was kept, comes to an image of these bytes, or to this fault.
 abbrev pub BuildsImage : Texts → ℕ → ℕ → Result (List ℕ) BuildFault → Type 0

@@ -21,7 +21,7 @@ use pw_cmean::Undef;
 use pw_cstate::{State, get_char, has_room, put_char};
 use pw_cworld::{Body, LibraryFunction};
 use pw_types::{CType, QType, Types, shape};
-use pw_value::program_names::{EXIT, GETCHAR, PUTCHAR};
+use pw_value::program_names::{EXIT, EXIT_SHAPE, GETCHAR, GETCHAR_SHAPE, PUTCHAR, PUTCHAR_SHAPE};
 use pw_value::{Pointer, Shape, Value};
 use std::alloc::{AllocError, Global};
 
@@ -144,9 +144,9 @@ fn shape_by<'a>(alloc: Global, function: Body<'a>) -> Result<Shape, AllocError>
     ensures { IfOk result (λ shape. shape ≡ (callable_of function.entry).shape) }
 {
     match function {
-        Body::Library(LibraryFunction::ExitRun) => literal(alloc, b"fvi"),
-        Body::Library(LibraryFunction::GetChar) => literal(alloc, b"fi"),
-        Body::Library(LibraryFunction::PutChar) => literal(alloc, b"fii"),
+        Body::Library(LibraryFunction::ExitRun) => literal(alloc, EXIT_SHAPE),
+        Body::Library(LibraryFunction::GetChar) => literal(alloc, GETCHAR_SHAPE),
+        Body::Library(LibraryFunction::PutChar) => literal(alloc, PUTCHAR_SHAPE),
         Body::Defined(part, f) => plain_shape(alloc, &part.tree.types, &f.ty),
     }
 }

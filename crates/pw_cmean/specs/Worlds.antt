@@ -16,7 +16,7 @@ pub use Rattle.pw_types.specs.FullNames.{full_name}
 use Rattle.pw_types.specs.TypedTrees.{FunctionValue, GlobalValue, ItemValue, ItemBytes, ItemAddress, PlacedItem, ModuleValue}
 use Rattle.pw_types.specs.Layouts.{layout_of}
 use Rattle.pw_types.specs.Shapes.{shape_of}
-use Rattle.pw_value.specs.ProgramNames.{start_name, exit_name, getchar_name, putchar_name}
+use Rattle.pw_value.specs.ProgramNames.{start_name, exit_name, getchar_name, putchar_name, exit_shape, getchar_shape, putchar_shape}
 
 -- a module of a program, by its name
 pub record ProgramModule : Type 0 where
@@ -50,11 +50,11 @@ pub record Callable : Type 0 where
   pub shape : List ℕ
   pub body : Body
 
--- void exit(int), int getchar(void), int putchar(int)
+-- a function of the library, with its name and its shape
 abbrev pub library_callable : LibraryFunction → Callable
-library_callable ExitRun = record { name = exit_name; shape = 102 ∷ 118 ∷ 105 ∷ []; body = Library ExitRun }
-library_callable GetChar = record { name = getchar_name; shape = 102 ∷ 105 ∷ []; body = Library GetChar }
-library_callable PutChar = record { name = putchar_name; shape = 102 ∷ 105 ∷ 105 ∷ []; body = Library PutChar }
+library_callable ExitRun = record { name = exit_name; shape = exit_shape; body = Library ExitRun }
+library_callable GetChar = record { name = getchar_name; shape = getchar_shape; body = Library GetChar }
+library_callable PutChar = record { name = putchar_name; shape = putchar_shape; body = Library PutChar }
 
 abbrev pub library : List Callable
 library = library_callable ExitRun ∷ library_callable GetChar ∷ library_callable PutChar ∷ []

@@ -5,8 +5,9 @@ use Rattle.std.specs.declared.alloc.Global.{Global}
 use Rattle.std.proofs.lemmas.List.{take-append-drop}
 use Rattle.pw_io.specs.Files.{Files, Told, Keeps}
 use Rattle.pw_io.specs.Streams.{Appends, AppendsPart}
+use Rattle.pw_files.specs.Contents.{value_of}
 use Rattle.pw_image.specs.Image.{Contents, ImageValue}
-use Rattle.pw_image.specs.Reading.{image_file_at, image_of}
+use Rattle.pw_image.specs.Reading.{image_file_at}
 use Rattle.pw_list.specs.Listing.{IsListing, IsListingOf}
 use Rattle.pw_answer.specs.declared.answer.Answer.{Answer}
 use Rattle.pw_answer.specs.declared.answer.Answer.TheVariants.{Done, WriteFault, ReadFault, StoreFault, NoMemory, BadFile}
@@ -114,7 +115,7 @@ shows_not (Some t) answer taken stops h = λ input. stop_shows (DatabaseComes t.
 
 -- ---- what was read
 
-listed_image : (found : Result Contents ℕ) (text : List ℕ) → IsListingOf found text → IsListed (found_in (codes "prog.img") (image_of found)) text
+listed_image : (found : Result (Contents ImageValue) ℕ) (text : List ℕ) → IsListingOf found text → IsListed (found_in (codes "prog.img") (value_of found)) text
 listed_image (Ok c) text h = h
 listed_image (Err at) text h = absurd h
 
@@ -123,13 +124,13 @@ listing_needed None bytes text h is = tt
 listing_needed (Some t) bytes text h is =
     subst (λ (w : Result (List ℕ) Answer). IsListed (read_by image_at (codes "prog.img") w) text) (sym h) (listed_image (image_file_at bytes) text is)
 
-no_contents : (c : Contents) (at : ℕ) → ◌≡◌ {A = Result Contents ℕ} (Ok c) (Err at) → ⊥
+no_contents : (c : Contents ImageValue) (at : ℕ) → ◌≡◌ {A = Result (Contents ImageValue) ℕ} (Ok c) (Err at) → ⊥
 no_contents c at e = cc
 
-err_is : (at other : ℕ) → ◌≡◌ {A = Result Contents ℕ} (Err at) (Err other) → at ≡ other
+err_is : (at other : ℕ) → ◌≡◌ {A = Result (Contents ImageValue) ℕ} (Err at) (Err other) → at ≡ other
 err_is at other e = cc
 
-fault_image : (found : Result Contents ℕ) (at : ℕ) → found ≡ Err at → found_in (codes "prog.img") (image_of found) ≡ Err (BadFile (codes "prog.img") (Some at))
+fault_image : (found : Result (Contents ImageValue) ℕ) (at : ℕ) → found ≡ Err at → found_in (codes "prog.img") (value_of found) ≡ Err (BadFile (codes "prog.img") (Some at))
 fault_image (Ok c) at e = absurd (no_contents c at e)
 fault_image (Err other) at e = ap (λ (n : ℕ). Err (BadFile (codes "prog.img") (Some n))) (err_is other at e)
 

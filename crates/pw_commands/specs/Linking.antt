@@ -39,7 +39,7 @@ objects_of files = of_names object_at (codes ".obj") files (few_names files)
 
 -- the file of the linked image
 abbrev pub IsImageOf : List Object → ℕ → List ℕ → Type 0
-IsImageOf objects stack bytes = (names : List (List ℕ)) × IsImageFile bytes (record { names = names; image = linked objects stack })
+IsImageOf objects stack bytes = (names : List (List ℕ)) × IsImageFile bytes (record { names = names; value = linked objects stack })
 
 -- objects come to their image, which is put, or to the refusal that is due
 abbrev pub ComesOfObjects : List Object → ℕ → List ℕ → Effect → Type 0

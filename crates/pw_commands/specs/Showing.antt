@@ -4,7 +4,7 @@ use Rattle.std.specs.declared.alloc.Global.{Global}
 use Rattle.pw_io.specs.Files.{Files}
 use Rattle.pw_files.specs.Contents.{value_of}
 use Rattle.pw_image.specs.Image.{ImageValue}
-use Rattle.pw_image.specs.Reading.{image_file_at, image_of}
+use Rattle.pw_image.specs.Reading.{image_file_at}
 use Rattle.pw_db.specs.declared.database.Directives.{Directives}
 use Rattle.pw_db.specs.Reading.{database_file_at}
 use Rattle.pw_list.specs.Listing.{IsListing}
@@ -18,7 +18,7 @@ use Rattle.pw_commands.specs.Outcome.{IsFound}
 
 -- the program that stands in `prog.img`
 abbrev pub image_at : List ℕ → Result ImageValue ℕ
-image_at bytes = image_of (image_file_at bytes)
+image_at bytes = value_of (image_file_at bytes)
 
 abbrev pub image_in : Files → Result ImageValue Answer
 image_in files = needed image_at files (codes "prog.img")

@@ -4,6 +4,7 @@ use Rattle.std.specs.List.{list_all}
 use Rattle.std.specs.Str.{IsUtf8}
 use Rattle.std.proofs.lemmas.Bool.Decides.{nat_tests}
 use Rattle.std.proofs.lemmas.Str.{IsUtf8-from_ascii}
+use Rattle.pw_modules.specs.Limits.{module_name_limit}
 use Rattle.pw_modules.specs.Modules.{is_module_name, is_name_byte}
 
 both_first : (a b : Bool) → a && b ≡ true → a ≡ true
@@ -24,7 +25,7 @@ low_at (byte ∷ bytes) (suc i) e = low_at bytes i (both_second (is_name_byte by
 
 bytes_pass : (name : List ℕ) → is_module_name name ≡ true → list_all is_name_byte name ≡ true
 bytes_pass name e =
-    both_second (nat_le (length name) 64) (list_all is_name_byte name) (both_second (nat_le 1 (length name)) (nat_le (length name) 64 && list_all is_name_byte name) e)
+    both_second (nat_le (length name) module_name_limit) (list_all is_name_byte name) (both_second (nat_le 1 (length name)) (nat_le (length name) module_name_limit && list_all is_name_byte name) e)
 
 pub name_is_text : (name : List ℕ) → is_module_name name ≡ true → IsUtf8 name
 name_is_text name e = IsUtf8-from_ascii name (λ i. low_at name i (bytes_pass name e))

@@ -8,7 +8,7 @@ ghost use Rattle.pw_cworld.specs.Views.{view_part, view_program, view_callable, 
 use pw_lforms::full_name;
 use pw_typed::{TFunction, TModule};
 use pw_types::shape;
-use pw_value::program_names::{EXIT, GETCHAR, PUTCHAR};
+use pw_value::program_names::{EXIT, EXIT_SHAPE, GETCHAR, GETCHAR_SHAPE, PUTCHAR, PUTCHAR_SHAPE};
 use pw_value::{Name, Shape};
 use std::alloc::{AllocError, Global};
 
@@ -58,9 +58,9 @@ fn library<'a>(alloc: Global) -> Result<Vec<Callable<'a>>, AllocError>
     ensures { IfOk result (λ v. view_callables v.items ≡ worlds.library) }
 {
     let mut all = Vec::new(alloc);
-    all.push(built_in(alloc, EXIT, b"fvi", LibraryFunction::ExitRun)?)?;
-    all.push(built_in(alloc, GETCHAR, b"fi", LibraryFunction::GetChar)?)?;
-    all.push(built_in(alloc, PUTCHAR, b"fii", LibraryFunction::PutChar)?)?;
+    all.push(built_in(alloc, EXIT, EXIT_SHAPE, LibraryFunction::ExitRun)?)?;
+    all.push(built_in(alloc, GETCHAR, GETCHAR_SHAPE, LibraryFunction::GetChar)?)?;
+    all.push(built_in(alloc, PUTCHAR, PUTCHAR_SHAPE, LibraryFunction::PutChar)?)?;
     Ok(all)
 }
 

@@ -1,11 +1,11 @@
 //! Reading a database.
 
-ghost use Rattle.std.specs.Prelude.{◌≡◌, ◌≢◌, ◌==◌, ◌++◌, ◌&&◌, ◌+◌, ◌<◌, ◌^◌, not, nat_lt, ℕ, List, length, map, option_map, IfOk, IfErr, Ok};
+ghost use Rattle.std.specs.Prelude.{◌≡◌, ◌≢◌, ◌==◌, ◌++◌, ◌&&◌, ◌+◌, ◌<◌, ◌^◌, not, nat_lt, ℕ, List, length, map, Option, option_map, IfOk, IfErr, Ok};
 ghost use Rattle.std.specs.List.{list_all, flat_map};
 ghost use Rattle.std.specs.Str.{bytes_eq};
 ghost use Rattle.pw_value.specs.Fields.{text, items_at};
-ghost use Rattle.pw_value.specs.FieldFaults.{Gives, GivesFile};
-ghost use Rattle.pw_value.specs.FieldFrame.{placed};
+ghost use Rattle.pw_value.specs.FieldFaults.{Fails, Gives, GivesFile};
+ghost use Rattle.pw_value.specs.FieldFrame.{ended, placed};
 ghost use Rattle.pw_value.specs.FieldNames.{first_unused};
 ghost use Rattle.pw_files.specs.Kinds.{scalar_code};
 ghost use Rattle.pw_value.specs.ProgramNames.{same_truth};
@@ -342,22 +342,18 @@ fn check_last(
     check_used(alloc, names, used, behind)
 }
 
-/// The functions behind the table of names.
+/// The functions behind the table of names, how many bytes are left from their count on, and what is left behind them.
 #[tactic(auto, unfolding(crate::specs::Reading::fields_at))]
-fn read_fields<'a>(
+fn read_parts<'a>(
     alloc: Global,
     names: &[Name],
     bytes: &'a [u8],
-) -> Result<(Items<(Name, Directives)>, &'a [u8]), FieldError>
-    requires { length (flat_map text names.now) + length bytes.now < 2 ^ 64 }
-    ensures { Gives (λ x. (record { names = names.now; value = x.0 }, x.1.now)) result (fields_at names.now (unused_rule names.now (length bytes.now)) bytes.now) }
+) -> Result<(Items<(Name, Directives)>, usize, &'a [u8]), FieldError>
+    ensures found { IfOk result (λ x. (rule : List (List ℕ × AnyDirectives) → ℕ → Option ℕ) → fields_at names.now rule bytes.now ≡ ended (rule x.0 x.1) (record { names = names.now; value = x.0 }) x.2.now) }
+    ensures fault { IfErr result (λ e. (rule : List (List ℕ × AnyDirectives) → ℕ → Option ℕ) → Fails e (fields_at names.now rule bytes.now)) }
 {
     let (functions, rest) = read_functions(alloc, names, bytes)?;
-    if !rest.is_empty() {
-        return Err(FieldError::Fault { left: rest.len() });
-    }
-    check_last(alloc, names, functions.as_slice(), bytes.len())?;
-    Ok((functions, rest))
+    Ok((functions, bytes.len(), rest))
 }
 
 /// Database files, which are read as all files of the compiler are.
@@ -378,12 +374,22 @@ impl Format for DatabaseFormat {
 
     ghost late = { unused_rule };
 
-    fn read_fields<'a>(
+    fn read_parts<'a>(
         alloc: Global,
         names: &[Name],
         bytes: &'a [u8],
-    ) -> Result<(Items<(Name, Directives)>, &'a [u8]), FieldError> {
-        read_fields(alloc, names, bytes)
+    ) -> Result<(Items<(Name, Directives)>, usize, &'a [u8]), FieldError> {
+        read_parts(alloc, names, bytes)
+    }
+
+    fn check_late(
+        alloc: Global,
+        names: &[Name],
+        value: &Items<(Name, Directives)>,
+        behind: usize,
+        _place: usize,
+    ) -> Result<(), FieldError> {
+        check_last(alloc, names, value.as_slice(), behind)
     }
 }
 

@@ -5,7 +5,7 @@ ghost use Rattle.std.specs.List.{flat_map};
 ghost use Rattle.pw_value.specs.Fields.{u8, FitsU32};
 ghost use Rattle.pw_value.specs.FieldNames.{IsNameTable, IsTableOf};
 ghost use Rattle.pw_files.specs.Rising.{counted};
-ghost use Rattle.pw_db.specs.Database.{IsDatabase, IsDatabaseFile, IsPayload, FitsFunction, FitsDatabase, IsNamedBy, web as web_text, function as function_text, names_of, spelling};
+ghost use Rattle.pw_db.specs.Database.{IsDatabase, IsDatabaseFile, IsPayload, FitsFunction, FitsDatabase, IsNamedBy, role_code, web as web_text, function as function_text, names_of, spelling};
 
 use crate::database::{Database, Directives, Role, Web};
 use crate::names::{refs_of, used_names};
@@ -16,6 +16,13 @@ use pw_value::Name;
 use pw_value::fields::names::{push_name, push_names};
 use pw_value::fields::writing::{push_flag, push_u8, push_u32};
 use std::alloc::{AllocError, Global};
+
+/// The byte of a role.
+fn push_role(out: &mut Vec<u8>, role: Role) -> Result<(), AllocError>
+    ensures { OnOk result (out.new.items ≡ out.old.items ++ u8 (role_code role)) }
+{
+    push_u8(out, role as u8)
+}
 
 /// A web.
 fn push_web(out: &mut Vec<u8>, names: &[Name], web: &(Web, Role)) -> Result<(), AllocError>
@@ -29,13 +36,7 @@ fn push_web(out: &mut Vec<u8>, names: &[Name], web: &(Web, Role)) -> Result<(), 
     push_scalar(out, web.0.kind)?;
     push_u8(out, web.0.reg)?;
     push_flag(out, web.0.writes)?;
-    push_u8(
-        out,
-        match web.1 {
-            Role::Entry => 0,
-            Role::Member => 1,
-        },
-    )
+    push_role(out, web.1)
 }
 
 /// Webs, one after the other.

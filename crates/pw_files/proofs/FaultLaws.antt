@@ -6,7 +6,7 @@ use Rattle.std.specs.Int.{w32, from_be_bytes}
 use Rattle.std.proofs.lemmas.Bool.{cases_lt}
 use Rattle.std.proofs.lemmas.List.{take_at, drop_at, take-append-drop, length-append, length-take, length-drop, take-take, take_all, take-append-le}
 use Rattle.pw_value.specs.Fields.{◌>>=◌, after, u32_at}
-use Rattle.pw_value.specs.FieldFrame.{here, ended, header_at, payload_of, digest_of, opened, opened_at, placed, is_sealed, sealed, framed, file_at}
+use Rattle.pw_value.specs.FieldFrame.{here, ended, header_at, digest_size, payload_of, digest_of, opened, opened_at, placed, is_sealed, sealed, framed, file_at}
 use Rattle.pw_value.specs.FieldNames.{names_at}
 use Rattle.pw_files.specs.Contents.{Contents, FieldsReader, contents_at, contents_file_at, value_of}
 use Rattle.pw_files.specs.Faults.{IsFieldLength, OfPayload, Anything, StaysFault, no_rule, unsealed, FaultsStay}
@@ -135,7 +135,7 @@ module _ {X : Type 0} (kind version : ℕ) (plain full : List ℕ → Result (X 
       let h = (header_onward kind version version (length bytes)).found bytes v rest is in
       let q = onward.fault (payload_of rest) left fault in
       let d = digest_of rest in
-      let parts : rest ≡ q.before ++ (q.tail ++ d) = sym (take-append-drop (length rest - 32) rest) ∙ ap (λ (w : List ℕ). w ++ d) q.parts ∙ append_assoc q.before q.tail d in
+      let parts : rest ≡ q.before ++ (q.tail ++ d) = sym (take-append-drop (length rest - digest_size) rest) ∙ ap (λ (w : List ℕ). w ++ d) q.parts ∙ append_assoc q.before q.tail d in
       let whole : bytes ≡ (h.front ++ q.before) ++ (q.tail ++ d) = h.parts ∙ ap (λ (w : List ℕ). h.front ++ w) parts ∙ sym (append_assoc h.front q.before (q.tail ++ d)) in
       let begins : length (h.front ++ q.before) ≡ at = omega (arith, place, q.begins, ap length whole, length-append (h.front ++ q.before) (q.tail ++ d), length-append q.tail d) in
       record {
@@ -149,10 +149,10 @@ module _ {X : Type 0} (kind version : ℕ) (plain full : List ℕ → Result (X 
             let e_len : length e ≡ length d = omega (arith, length-drop (length q.tail) a.other, a.long, length-append q.tail d) in
             let t_same : take q.count t ≡ take q.count q.tail = swapped q.count (length q.tail) a.other (q.tail ++ d) a.same ∙ ap (take q.count) (take_at q.tail d (length q.tail) refl) in
             let other_parts : others ≡ h.front ++ ((q.before ++ t) ++ e) = a.parts ∙ append_assoc h.front q.before a.other ∙ ap (λ (w : List ℕ). h.front ++ (q.before ++ w)) (sym (take-append-drop (length q.tail) a.other)) ∙ ap (λ (w : List ℕ). h.front ++ w) (sym (append_assoc q.before t e)) in
-            let payload_len : length (q.before ++ t) ≡ length rest - 32 = omega (arith, length-append q.before t, t_len, ap length q.parts, length-append q.before q.tail, length-take (length rest - 32) rest) in
+            let payload_len : length (q.before ++ t) ≡ length rest - digest_size = omega (arith, length-append q.before t, t_len, ap length q.parts, length-append q.before q.tail, length-take (length rest - digest_size) rest) in
             let rest_len : length ((q.before ++ t) ++ e) ≡ length rest = omega (arith, length-append (q.before ++ t) e, length-append q.before t, t_len, e_len, ap length parts, length-append q.before (q.tail ++ d), length-append q.tail d) in
             let header : head (length others) others ≡ Ok (v, (q.before ++ t) ++ e) = ap (λ n. head n others) len ∙ ap (head (length bytes)) other_parts ∙ h.same ((q.before ++ t) ++ e) rest_len in
-            let cut : length (q.before ++ t) ≡ length ((q.before ++ t) ++ e) - 32 = payload_len ∙ ap (λ n. n - 32) (sym rest_len) in
+            let cut : length (q.before ++ t) ≡ length ((q.before ++ t) ++ e) - digest_size = payload_len ∙ ap (λ n. n - digest_size) (sym rest_len) in
             let payload : payload_of ((q.before ++ t) ++ e) ≡ q.before ++ t = take_at (q.before ++ t) e _ cut in
             let digest : digest_of ((q.before ++ t) ++ e) ≡ e = drop_at (q.before ++ t) e _ cut in
             let true_there : Holds (q.before ++ t) = subst Holds payload (holds (v, payload_of ((q.before ++ t) ++ e), length others - length (digest_of ((q.before ++ t) ++ e))) (ap (opened (length others)) header)) in

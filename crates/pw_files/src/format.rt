@@ -1,12 +1,13 @@
 //! Reading a file that holds a table of names and behind it the fields of a value, to their
 //! end: what is the same whichever format it is.
 
-ghost use Rattle.std.specs.Prelude.{◌+◌, ◌<◌, ◌^◌, ℕ, List, [], length, Option};
+ghost use Rattle.std.specs.Prelude.{◌≡◌, ◌+◌, ◌<◌, ◌^◌, ℕ, List, [], length, Option, IfOk, IfErr};
 ghost use Rattle.std.specs.List.{flat_map};
 ghost use Rattle.pw_value.specs.Fields.{text};
-ghost use Rattle.pw_value.specs.FieldFaults.{Gives, GivesFile};
+ghost use Rattle.pw_value.specs.FieldFaults.{Fails, Gives, GivesFile};
+ghost use Rattle.pw_value.specs.FieldFrame.{ended};
 ghost use Rattle.pw_value.specs.FieldNames.{IsRisingFrom};
-ghost use Rattle.pw_files.specs.Contents.{FieldsReader, contents_at, contents_file_at, value_of};
+ghost use Rattle.pw_files.specs.Contents.{FieldsReader, broken_at, contents_at, contents_file_at, value_of};
 
 use pw_value::fields::FieldError;
 use pw_value::fields::frame::{check_digest, open};
@@ -35,15 +36,47 @@ pub trait Format {
     /// The rule that is looked at last, for the table of names and so many bytes behind it.
     ghost late: { List (List ℕ) → ℕ → Self.Value → ℕ → Option ℕ };
 
-    /// The value behind the table of names.
-    fn read_fields<'a>(
+    /// The fields behind the table of names: the value, the place of which the rule speaks that is looked at last, as the
+    /// count of bytes that are left there, and what is left behind the fields.
+    fn read_parts<'a>(
         alloc: Global,
         names: &[Name],
         bytes: &'a [u8],
-    ) -> Result<(Self::Value, &'a [u8]), FieldError>
-        requires rising { IsRisingFrom [] names.now }
-        requires room { length (flat_map text names.now) + length bytes.now < 2 ^ 64 }
-        ensures { Gives (λ x. (record { names = names.now; value = x.0 }, x.1.now)) result (fields names.now (late names.now (length bytes.now)) bytes.now) };
+    ) -> Result<(Self::Value, usize, &'a [u8]), FieldError>
+        requires { IsRisingFrom [] names.now }
+        ensures found { IfOk result (λ x. (rule : Self.Value → ℕ → Option ℕ) → fields names.now rule bytes.now ≡ ended (rule x.0 x.1) (record { names = names.now; value = x.0 }) x.2.now) }
+        ensures fault { IfErr result (λ e. (rule : Self.Value → ℕ → Option ℕ) → Fails e (fields names.now rule bytes.now)) };
+
+    /// The rule that is looked at last, where so many bytes are left behind the table of names, and so many at the place
+    /// that `read_parts` tells.
+    fn check_late(
+        alloc: Global,
+        names: &[Name],
+        value: &Self::Value,
+        behind: usize,
+        place: usize,
+    ) -> Result<(), FieldError>
+        requires { length (flat_map text names.now) + behind < 2 ^ 64 }
+        ensures { Gives (λ x. x) result (broken_at (late names.now behind value.now place)) };
+}
+
+/// The value behind the table of names: nothing is left behind its fields, and then no rule is broken that is looked at
+/// last.
+fn read_fields<'a, F: Format>(
+    alloc: Global,
+    names: &[Name],
+    bytes: &'a [u8],
+) -> Result<(F::Value, &'a [u8]), FieldError>
+    requires rising { IsRisingFrom [] names.now }
+    requires room { length (flat_map text names.now) + length bytes.now < 2 ^ 64 }
+    ensures { Gives (λ x. (record { names = names.now; value = x.0 }, x.1.now)) result (F.fields names.now (F.late names.now (length bytes.now)) bytes.now) }
+{
+    let (value, place, rest) = F::read_parts(alloc, names, bytes)?;
+    if !rest.is_empty() {
+        return Err(FieldError::Fault { left: rest.len() });
+    }
+    F::check_late(alloc, names, &value, bytes.len(), place)?;
+    Ok((value, rest))
 }
 
 /// The table of names and the value.
@@ -55,7 +88,7 @@ pub fn read_contents<F: Format>(
     ensures { Gives (λ x. (record { names = x.0.0.items; value = x.0.1 }, x.1.now)) result (contents_at F.fields F.late bytes.now) }
 {
     let (names, behind) = read_names(alloc, bytes)?;
-    let (value, rest) = F::read_fields(alloc, &names, behind)?;
+    let (value, rest) = read_fields::<F>(alloc, &names, behind)?;
     Ok(((names, value), rest))
 }
 

@@ -87,7 +87,7 @@ pub record AreFilesOf (names : List (List ℕ)) (stack : ℕ) (parts : Parts) (m
   pub objects : AreObjectFiles (made_anew names parts.objects parts.fresh) (map file_view made.fresh.files.items)
   pub database : IsDatabaseFile made.database.items parts.database
   pub image_names : List (List ℕ)
-  pub image : IsImageFile made.image.items (record { names = image_names; image = linked parts.objects stack })
+  pub image : IsImageFile made.image.items (record { names = image_names; value = linked parts.objects stack })
 
 -- modules, and these kept objects of theirs, come to a program with these files
 abbrev pub BuildsFiles : List Source → List (Option Object) → ℕ → ℕ → ProgramFiles → Type 0

@@ -38,7 +38,7 @@ use Rattle.pw_flowops.proofs.OpLaws.{op_spells}
 use Rattle.pw_flowops.proofs.EndLaws.{end_spells}
 use Rattle.pw_flowfile.specs.declared.globals.ItemForm.{ItemForm}
 use Rattle.pw_flowfile.specs.declared.globals.ItemForm.TheVariants as form
-use Rattle.pw_flowfile.specs.FlowFile.{item, placed_item, global_body, global, block, function, FitsBlock, FitsFunction, FitsGlobal}
+use Rattle.pw_flowfile.specs.FlowFile.{form_number, item, placed_item, global_body, global, block, function, FitsBlock, FitsFunction, FitsGlobal}
 use Rattle.pw_flowfile.specs.Reading.{item_forms, has_room, content_at, item_at, placed_item_at, next_free, has_kind_size, global_body_at, global_at, block_at, slot_at, next_room, code_at, function_body_at, function_at, fresh_at, declared_body_at, declared_at}
 
 -- ---- a value that is made of what was read
@@ -232,10 +232,6 @@ ContentFits start names size offset i = (offset + item_size i ≤ size) × (IsIt
 
 bytes_spells : (size offset : ℕ) → size < 2 ^ 32 → Spells text (λ b. offset + length b ≤ size) (checked (λ b. nat_le (offset + length b) size) text_at)
 bytes_spells size offset small = ruled_spells text _ (λ b. offset + length b ≤ size) _ (checked_spells text FitsText text_at (λ b. nat_le (offset + length b) size) text_spells) (λ b h. leb-true _ _ h.1) (λ b h. (omega (arith, h), le-leb _ _ h))
-
-abbrev pub form_number : ItemForm → ℕ
-form_number form.Bytes = 0
-form_number form.Address = 1
 
 form_back : (f : ItemForm) → slice_get item_forms (form_number f) ≡ Some f
 form_back form.Bytes = refl

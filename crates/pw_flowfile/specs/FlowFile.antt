@@ -16,12 +16,22 @@ use Rattle.pw_flow.specs.declared.flow.Item.TheVariants.{Bytes, Address}
 use Rattle.pw_flow.specs.FlowGraph.{names_in_global, names_in_function, declared_names}
 use Rattle.pw_flow.specs.ValidFlow.{IsValid}
 use Rattle.pw_flowops.specs.Operations.{op, ending, FitsOp}
+use Rattle.pw_flowfile.specs.declared.globals.ItemForm.{ItemForm}
+use Rattle.pw_flowfile.specs.declared.globals.ItemForm.TheVariants as form
 
 -- ---- global objects, under a table of names
 
+abbrev pub form_number : ItemForm → ℕ
+form_number form.Bytes = 0
+form_number form.Address = 1
+
+-- the byte at the front of an item
+abbrev pub form_byte : ItemForm → List ℕ
+form_byte f = u8 (form_number f)
+
 abbrev pub item : List (List ℕ) → Item → List ℕ
-item names (Bytes bytes) = parts (u8 0 ∷ text bytes ∷ [])
-item names (Address name offset) = parts (u8 1 ∷ name_index names name ∷ u32 offset ∷ [])
+item names (Bytes bytes) = parts (form_byte form.Bytes ∷ text bytes ∷ [])
+item names (Address name offset) = parts (form_byte form.Address ∷ name_index names name ∷ u32 offset ∷ [])
 
 abbrev pub placed_item : List (List ℕ) → ℕ × Item → List ℕ
 placed_item names placed = parts (u32 placed.0 ∷ item names placed.1 ∷ [])

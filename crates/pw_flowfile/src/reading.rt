@@ -1,9 +1,10 @@
 //! Reading a flow file.
 
-ghost use Rattle.std.specs.Prelude.{◌+◌, ◌<◌, ◌^◌, [], length, map, IfOk, Ok};
+ghost use Rattle.std.specs.Prelude.{◌≡◌, ◌+◌, ◌<◌, ◌^◌, ℕ, [], length, map, Option, IfOk, IfErr, Ok};
 ghost use Rattle.std.specs.List.{flat_map};
 ghost use Rattle.pw_value.specs.Fields.{text};
-ghost use Rattle.pw_value.specs.FieldFaults.{Gives, GivesFile};
+ghost use Rattle.pw_value.specs.FieldFaults.{Fails, Gives, GivesFile};
+ghost use Rattle.pw_value.specs.FieldFrame.{ended};
 ghost use Rattle.pw_value.specs.FieldNames.{IsRisingFrom};
 ghost use Rattle.pw_files.specs.Contents.{broken_at, value_of};
 ghost use Rattle.pw_flow.specs.declared.flow.FlowModule.{FlowModule as AnyModule};
@@ -119,23 +120,19 @@ fn check_late(
     check_start_beside_main(alloc, flow, place)
 }
 
-/// The module behind the table of names.
+/// The fields of a module, how many bytes are left from the count of its functions on, and what is left behind them.
 #[tactic(auto, unfolding(crate::specs::Reading::fields_at))]
 fn read_fields<'a>(
     alloc: Global,
     names: &[Name],
     bytes: &'a [u8],
-) -> Result<(FlowModule, &'a [u8]), FieldError>
-    requires rising { IsRisingFrom [] names.now }
-    requires room { length (flat_map text names.now) + length bytes.now < 2 ^ 64 }
-    ensures { Gives (λ x. (record { names = names.now; value = x.0 }, x.1.now)) result (fields_at names.now (late_rules names.now (length bytes.now)) bytes.now) }
+) -> Result<(FlowModule, usize, &'a [u8]), FieldError>
+    requires { IsRisingFrom [] names.now }
+    ensures found { IfOk result (λ x. (rule : AnyModule → ℕ → Option ℕ) → fields_at names.now rule bytes.now ≡ ended (rule x.0 x.1) (record { names = names.now; value = x.0 }) x.2.now) }
+    ensures fault { IfErr result (λ e. (rule : AnyModule → ℕ → Option ℕ) → Fails e (fields_at names.now rule bytes.now)) }
 {
     let ((flow, place), rest) = read_parts(alloc, names, bytes)?;
-    if !rest.is_empty() {
-        return Err(FieldError::Fault { left: rest.len() });
-    }
-    check_late(alloc, names, &flow, bytes.len(), place)?;
-    Ok((flow, rest))
+    Ok((flow, place, rest))
 }
 
 /// Flow files, which are read as all files of the compiler are.
@@ -156,12 +153,22 @@ impl Format for FlowFormat {
 
     ghost late = { late_rules };
 
-    fn read_fields<'a>(
+    fn read_parts<'a>(
         alloc: Global,
         names: &[Name],
         bytes: &'a [u8],
-    ) -> Result<(FlowModule, &'a [u8]), FieldError> {
+    ) -> Result<(FlowModule, usize, &'a [u8]), FieldError> {
         read_fields(alloc, names, bytes)
+    }
+
+    fn check_late(
+        alloc: Global,
+        names: &[Name],
+        value: &FlowModule,
+        behind: usize,
+        place: usize,
+    ) -> Result<(), FieldError> {
+        check_late(alloc, names, value, behind, place)
     }
 }
 

@@ -8,6 +8,7 @@ ghost use Rattle.pw_files.specs.Rising.{counted};
 ghost use Rattle.pw_flow.specs.ValidFlow.{IsValid};
 ghost use Rattle.pw_flowfile.specs.FlowFile.{all_in_global, all_in_function, names_of, item as item_text, placed_item as placed_item_text, global_body as global_body_text, global as global_text, block as block_text, function as function_text, spelling, IsFlowFile};
 
+use crate::globals::ItemForm;
 use crate::reading::{KIND, VERSION};
 use crate::used::used_names;
 use pw_files::kinds::push_kind;
@@ -29,11 +30,11 @@ fn push_item(out: &mut Vec<u8>, names: &[Name], item: &Item) -> Result<(), Alloc
 {
     match item {
         Item::Bytes(bytes) => {
-            push_u8(out, 0)?;
+            push_u8(out, ItemForm::Bytes as u8)?;
             push_bytes(out, bytes.as_slice())
         }
         Item::Address(name, offset) => {
-            push_u8(out, 1)?;
+            push_u8(out, ItemForm::Address as u8)?;
             push_name(out, names, name)?;
             push_u32(out, *offset)
         }

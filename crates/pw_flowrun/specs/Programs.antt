@@ -1,5 +1,5 @@
 -- A list of flow modules as a program: its functions and objects by their names and numbers.
-use Rattle.std.specs.Prelude.{ℕ, ◌≡◌, ◌<◌, ◌==◌, true, if◌then◌else◌, Option, Some, None, option_map, List, [], ◌∷◌, ◌++◌, map, find, position, count_by, replicate, slice_get, codes, bytes_eq, Contains}
+use Rattle.std.specs.Prelude.{ℕ, ◌≡◌, ◌<◌, ◌==◌, true, if◌then◌else◌, Option, Some, None, option_map, List, [], ◌∷◌, ◌++◌, map, find, position, count_by, replicate, slice_get, bytes_eq, Contains}
 use Rattle.std.specs.List.{flat_map, AllByRecursion}
 use Rattle.std.specs.Cmp.Lexicographic.{slice_cmp}
 use Rattle.std.specs.Ordering.{nat_cmp, is_lt}
@@ -8,7 +8,7 @@ use Rattle.pw_value.specs.declared.value.Byte.TheVariants as B
 use Rattle.pw_value.specs.declared.value.Pointer.{Pointer}
 use Rattle.pw_value.specs.declared.value.Pointer.TheVariants as P
 use Rattle.pw_value.specs.Objects.{Object, with_bytes}
-use Rattle.pw_value.specs.ProgramNames.{exit_name, getchar_name, putchar_name, library_functions}
+use Rattle.pw_value.specs.ProgramNames.{exit_name, getchar_name, putchar_name, library_functions, exit_shape, getchar_shape, putchar_shape}
 use Rattle.pw_value.specs.Values.{pieces_of}
 use Rattle.pw_flow.specs.declared.flow.Item.{Item}
 use Rattle.pw_flow.specs.declared.flow.Item.TheVariants.{Bytes, Address}
@@ -48,9 +48,9 @@ library_at name =
     if bytes_eq name exit_name then Some Exit else None
 
 abbrev pub library_shape : Library → List ℕ
-library_shape GetChar = codes "fi"
-library_shape PutChar = codes "fii"
-library_shape Exit = codes "fvi"
+library_shape GetChar = getchar_shape
+library_shape PutChar = putchar_shape
+library_shape Exit = exit_shape
 
 abbrev pub functions_of : Program → List FlowFn
 functions_of p = flat_map (λ m. m.functions) p.modules

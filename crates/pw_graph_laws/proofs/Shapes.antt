@@ -4,7 +4,7 @@ use Rattle.std.specs.Prelude.{Option, Some, option_map}
 use Rattle.std.specs.List.{flat_map}
 use Rattle.std.specs.Str.{bytes_eq}
 use Rattle.std.proofs.lemmas.Slice.Eq.{bytes_eq-Decides}
-use Rattle.pw_value.specs.ProgramNames.{exit_name, getchar_name, putchar_name, library_functions}
+use Rattle.pw_value.specs.ProgramNames.{exit_name, getchar_name, putchar_name, exit_shape, getchar_shape, putchar_shape, library_functions}
 use Rattle.pw_flow.specs.declared.flow.FlowFn.{FlowFn}
 use Rattle.pw_flow.specs.declared.flow.FlowGlobal.{FlowGlobal}
 use Rattle.pw_flow.specs.declared.flow.FlowModule.{FlowModule}
@@ -55,13 +55,13 @@ module _ (p : Program) where
   library_back : (name shape : List ℕ) → Has name library_functions → has_shape (shape_of p name) shape ≡ true → Has (name, shape) library_declarations
   library_back name shape (inl e) s =
       let own : has_shape (shape_of p exit_name) shape ≡ true = subst (λ (n : List ℕ). has_shape (shape_of p n) shape ≡ true) (sym e) s in
-      inl (pair exit_name name (102 ∷ 118 ∷ 105 ∷ []) shape e (same_text (102 ∷ 118 ∷ 105 ∷ []) shape own))
+      inl (pair exit_name name exit_shape shape e (same_text exit_shape shape own))
   library_back name shape (inr (inl e)) s =
       let own : has_shape (shape_of p getchar_name) shape ≡ true = subst (λ (n : List ℕ). has_shape (shape_of p n) shape ≡ true) (sym e) s in
-      inr (inl (pair getchar_name name (102 ∷ 105 ∷ []) shape e (same_text (102 ∷ 105 ∷ []) shape own)))
+      inr (inl (pair getchar_name name getchar_shape shape e (same_text getchar_shape shape own)))
   library_back name shape (inr (inr (inl e))) s =
       let own : has_shape (shape_of p putchar_name) shape ≡ true = subst (λ (n : List ℕ). has_shape (shape_of p n) shape ≡ true) (sym e) s in
-      inr (inr (inl (pair putchar_name name (102 ∷ 105 ∷ 105 ∷ []) shape e (same_text (102 ∷ 105 ∷ 105 ∷ []) shape own))))
+      inr (inr (inl (pair putchar_name name putchar_shape shape e (same_text putchar_shape shape own))))
   library_back name shape (inr (inr (inr k))) s = absurd k
 
   -- ---- those of the modules

@@ -18,11 +18,12 @@ use Rattle.pw_value.proofs.FileLaws.{file_takes, file_again, length-u32}
 use Rattle.pw_value.proofs.NameTables.{one_table}
 use Rattle.pw_value.specs.FieldFrame.{file}
 use Rattle.pw_value.proofs.NameLaws.{names_spell, name_spells, AllUsed, all_used, none_unused, table_of_used, used_by_table}
+use Rattle.pw_files.specs.Contents.{value_of}
 use Rattle.pw_image.specs.declared.image.Function.{Function}
 use Rattle.pw_image.specs.declared.image.GlobalObject.{GlobalObject}
 use Rattle.pw_image.specs.declared.image.Image.{Image}
 use Rattle.pw_image.specs.Image.{Item, MemoryValue, ImageValue, Contents, IsInText, data_start, free_behind, AreItems, IsContents, IsImageFile, view, item, memory, function, global, names_of, spelling, kind, image_version}
-use Rattle.pw_image.specs.Reading.{is_in_text, item_at, next_free, memory_at, function_at, global_at, start_at, is_lawful_start, contents_at, payload_at, image_file_at, image_of}
+use Rattle.pw_image.specs.Reading.{is_in_text, item_at, next_free, memory_at, function_at, global_at, start_at, is_lawful_start, contents_at, payload_at, image_file_at}
 
 -- ---- addresses
 
@@ -167,14 +168,14 @@ globals_back names (f ∷ fs) gs used fit = globals_back names fs gs used.1 fit
 
 -- ---- the contents, but for the rule of the entry
 
-abbrev ContentsSteps : Contents → Type 0
-ContentsSteps c = MemorySteps c.image.memory × (IsNameTable c.names × (FitsU32 (length c.image.functions)
-    × (AllByRecursion (FitsFunction c.names (length c.image.memory.words)) c.image.functions × (FitsU32 (length c.image.globals)
-    × (AllByRecursion (FitsGlobal c.names) c.image.globals × AllUsed c.names (names_of c.image))))))
+abbrev ContentsSteps : Contents ImageValue → Type 0
+ContentsSteps c = MemorySteps c.value.memory × (IsNameTable c.names × (FitsU32 (length c.value.functions)
+    × (AllByRecursion (FitsFunction c.names (length c.value.memory.words)) c.value.functions × (FitsU32 (length c.value.globals)
+    × (AllByRecursion (FitsGlobal c.names) c.value.globals × AllUsed c.names (names_of c.value))))))
 
 -- the map's spelling under a table of names
-abbrev map_spelling : List (List ℕ) → Contents → List ℕ
-map_spelling names c = u32 (length c.image.functions) ++ (flat_map (function names) c.image.functions ++ (u32 (length c.image.globals) ++ (flat_map (global names) c.image.globals ++ [])))
+abbrev map_spelling : List (List ℕ) → Contents ImageValue → List ℕ
+map_spelling names c = u32 (length c.value.functions) ++ (flat_map (function names) c.value.functions ++ (u32 (length c.value.globals) ++ (flat_map (global names) c.value.globals ++ [])))
 
 respell : {X : Type 0} (Follows : List ℕ → Type 0) (Known : X → Type 0) (one other : X → List ℕ) (Fits : X → Type 0) (read : List ℕ → Result (X × List ℕ) ℕ)
     → ((x : X) → Known x → one x ≡ other x) → Completes Follows Known one Fits read → Completes Follows Known other Fits read
@@ -194,26 +195,26 @@ globals_same names others gs same_names h = subst (λ (ns : List (List ℕ)). Al
 contents_spells : SpellsWhole spelling ContentsSteps contents_at
 unfolding contents_at
 contents_spells = payload_format spelling ContentsSteps spelling ContentsSteps _
-    (step _ _ memory MemorySteps memory_at _ _ _ (λ c. c.image.memory) memory_spells
+    (step _ _ memory MemorySteps memory_at _ _ _ (λ c. c.value.memory) memory_spells
     (λ m m_fits. step _ _ name_table IsNameTable names_at _ _ _ (λ c. c.names) names_spell
     (λ names table. respell _ _ (map_spelling names) (λ c. map_spelling c.names c) _ _ (λ c k. ap (λ (ns : List (List ℕ)). map_spelling ns c) (sym k.1))
     (keep_place _ _ _ _ _
-    (λ behind. step _ _ u32 FitsU32 u32_at _ _ _ (λ c. length c.image.functions) u32_spells
+    (λ behind. step _ _ u32 FitsU32 u32_at _ _ _ (λ c. length c.value.functions) u32_spells
     (λ function_count f_count. step_where _ _ (flat_map (function names)) (λ fs. (length fs ≡ function_count) × AllByRecursion (FitsFunction names (length m.words)) fs) (repeated (function_at names (length m.words)) function_count) _
-    (λ c. AllByRecursion (FitsFunction c.names (length c.image.memory.words)) c.image.functions) _ _ (λ c. c.image.functions)
+    (λ c. AllByRecursion (FitsFunction c.names (length c.value.memory.words)) c.value.functions) _ _ (λ c. c.value.functions)
     (repeated_spells (function names) (FitsFunction names (length m.words)) (function_at names (length m.words)) (function_spells names table (length m.words) m_fits.1.1.1.0) function_count)
-    (λ c k h. functions_same c.names names c.image.memory m c.image.functions k.0.1 k.0.0.1 h.1)
-    (λ c k h. (k.1, functions_same names c.names m c.image.memory c.image.functions (sym k.0.1) (sym k.0.0.1) h))
-    (λ functions fs_fit. step _ _ u32 FitsU32 u32_at _ _ _ (λ c. length c.image.globals) u32_spells
+    (λ c k h. functions_same c.names names c.value.memory m c.value.functions k.0.1 k.0.0.1 h.1)
+    (λ c k h. (k.1, functions_same names c.names m c.value.memory c.value.functions (sym k.0.1) (sym k.0.0.1) h))
+    (λ functions fs_fit. step _ _ u32 FitsU32 u32_at _ _ _ (λ c. length c.value.globals) u32_spells
     (λ global_count g_count. step_where _ _ (flat_map (global names)) (λ gs. (length gs ≡ global_count) × AllByRecursion (FitsGlobal names) gs) (repeated (global_at names) global_count) _
-    (λ c. AllByRecursion (FitsGlobal c.names) c.image.globals) _ _ (λ c. c.image.globals)
+    (λ c. AllByRecursion (FitsGlobal c.names) c.value.globals) _ _ (λ c. c.value.globals)
     (repeated_spells (global names) (FitsGlobal names) (global_at names) (global_spells names table) global_count)
-    (λ c k h. globals_same c.names names c.image.globals k.0.0.0.1 h.1)
-    (λ c k h. (k.1, globals_same names c.names c.image.globals (sym k.0.0.0.1) h))
+    (λ c k h. globals_same c.names names c.value.globals k.0.0.0.1 h.1)
+    (λ c k h. (k.1, globals_same names c.names c.value.globals (sym k.0.0.0.1) h))
     (λ globals gs_fit. let image : ImageValue = record { memory = m; functions = functions; globals = globals } in
-    finish_whole _ (λ c. AllUsed c.names (names_of c.image)) (first_unused names (names_of image) behind) (record { names = names; image = image })
+    finish_whole _ (λ c. AllUsed c.names (names_of c.value)) (first_unused names (names_of image) behind) (record { names = names; value = image })
     ((((((tt, refl), refl), fs_fit.0), refl), gs_fit.0), refl)
-    (λ c k. sym (λ j. record { names = k.0.0.0.0.1 j; image = record { memory = k.0.0.0.0.0.1 j; functions = k.0.0.1 j; globals = k.1 j } }))
+    (λ c k. sym (λ j. record { names = k.0.0.0.0.1 j; value = record { memory = k.0.0.0.0.0.1 j; functions = k.0.0.1 j; globals = k.1 j } }))
     (all_used names (names_of image) behind) (none_unused names (names_of image) behind))))))))))
     (λ c. refl) (λ c h. h) (λ c h. h)
 
@@ -228,9 +229,9 @@ start_of entry a b n tail entry_fits n_fits =
 regroup : (entry a b n : ℕ) (tail more : List ℕ) → (u32 entry ++ (u32 a ++ (u32 b ++ (u32 n ++ tail)))) ++ more ≡ u32 entry ++ ((u32 a ++ u32 b) ++ (u32 n ++ (tail ++ more)))
 regroup entry a b n tail more = simp append_assoc
 
-start_is : (c : Contents) → ContentsSteps c → is_lawful_start (start_at (spelling c)) ≡ is_in_text (length c.image.memory.words) c.image.memory.entry
+start_is : (c : Contents ImageValue) → ContentsSteps c → is_lawful_start (start_at (spelling c)) ≡ is_in_text (length c.value.memory.words) c.value.memory.entry
 start_is c h =
-    let m = c.image.memory in
+    let m = c.value.memory in
     let tail : List ℕ = flat_map u32 m.words ++ (u32 m.data_size ++ (u32 (length m.items) ++ (flat_map item m.items ++ []))) in
     let more : List ℕ = name_table c.names ++ map_spelling c.names c in
     ap (λ (w : List ℕ). is_lawful_start (start_at w)) (regroup m.entry m.stack m.stack_end (length m.words) tail more)
@@ -240,20 +241,20 @@ chosen : {X : Type 0} (b : Bool) (r : Result (X × List ℕ) ℕ) (left : ℕ) (
 chosen true r left x rest e = (refl, e)
 chosen false r left x rest e = absurd (not_found left x rest e)
 
-contents_forth : (c : Contents) → ContentsSteps c → IsInText (length c.image.memory.words) c.image.memory.entry → IsContents c
+contents_forth : (c : Contents ImageValue) → ContentsSteps c → IsInText (length c.value.memory.words) c.value.memory.entry → IsContents c
 contents_forth c s entry =
-    let n = length c.image.memory.words in
+    let n = length c.value.memory.words in
     let m = s.0 in
     record {
       image = record {
         memory = record { entry = entry; stack = m.1.0; stack_end = m.1.1.0; count = m.1.1.1.0; words = m.1.1.1.1.0; data_fits = m.1.1.1.1.1.0; items = m.1.1.1.1.1.1.1.0 };
-        functions = functions_forth c.names n c.image.functions s.1.1.1.0;
-        globals = globals_forth c.names c.image.globals s.1.1.1.1.1.0;
+        functions = functions_forth c.names n c.value.functions s.1.1.1.0;
+        globals = globals_forth c.names c.value.globals s.1.1.1.1.1.0;
       };
       function_count = s.1.1.0;
       global_count = s.1.1.1.1.0;
       name_count = s.1.0.count;
-      names = table_of_used c.names (names_of c.image) s.1.0 s.1.1.1.1.1.1 (used_in_map c.names n c.image.functions c.image.globals s.1.1.1.0 s.1.1.1.1.1.0);
+      names = table_of_used c.names (names_of c.value) s.1.0 s.1.1.1.1.1.1 (used_in_map c.names n c.value.functions c.value.globals s.1.1.1.0 s.1.1.1.1.1.0);
     }
 
 -- items in rising order are no more than there are offsets
@@ -261,26 +262,26 @@ items_within : (size free : ℕ) (items : List Item) → AreItems size free item
 items_within size free [] are = omega arith
 items_within size free (i ∷ items) are = omega (arith, are.0, are.1, items_within size (free_behind i) items are.2)
 
-items_few : (c : Contents) → IsContents c → FitsU32 (length c.image.memory.items)
+items_few : (c : Contents ImageValue) → IsContents c → FitsU32 (length c.value.memory.items)
 items_few c is =
     let m = is.image.memory in
-    omega (arith, items_within c.image.memory.data_size 0 c.image.memory.items m.items, m.data_fits, m.stack_end)
+    omega (arith, items_within c.value.memory.data_size 0 c.value.memory.items m.items, m.data_fits, m.stack_end)
 
-contents_back : (c : Contents) → IsContents c → ContentsSteps c
+contents_back : (c : Contents ImageValue) → IsContents c → ContentsSteps c
 contents_back c is =
-    let n = length c.image.memory.words in
+    let n = length c.value.memory.words in
     let m = is.image.memory in
-    let used = used_by_table c.names (names_of c.image) is.names in (
+    let used = used_by_table c.names (names_of c.value) is.names in (
       (omega (arith, m.entry.within, m.count), (m.stack, (m.stack_end, (m.count, (m.words, (m.data_fits, (items_few c is, (m.items, tt)))))))),
       (
         record { count = is.name_count; rising = is.names.rising },
         (
           is.function_count,
           (
-            functions_back c.names n c.image.functions c.image.globals used.1 is.image.functions,
+            functions_back c.names n c.value.functions c.value.globals used.1 is.image.functions,
             (
               is.global_count,
-              (globals_back c.names c.image.functions c.image.globals used.1 is.image.globals, used.0),
+              (globals_back c.names c.value.functions c.value.globals used.1 is.image.globals, used.0),
             ),
           ),
         ),
@@ -293,7 +294,7 @@ payload_spells = record {
   takes = λ bytes c rest fits e.
       let p = chosen (is_lawful_start (start_at bytes)) (contents_at bytes) (length bytes) c rest e in
       let t = contents_spells.takes bytes c rest fits p.1 in
-      let lawful : is_in_text (length c.image.memory.words) c.image.memory.entry ≡ true = sym (start_is c t.1) ∙ ap (λ (w : List ℕ). is_lawful_start (start_at w)) (sym t.0) ∙ p.0 in
+      let lawful : is_in_text (length c.value.memory.words) c.value.memory.entry ≡ true = sym (start_is c t.1) ∙ ap (λ (w : List ℕ). is_lawful_start (start_at w)) (sym t.0) ∙ p.0 in
       (t.0, contents_forth c t.1 (text_forth _ _ lawful));
   again = λ c is.
       let steps = contents_back c is in
@@ -303,40 +304,40 @@ payload_spells = record {
 
 -- ---- the file
 
-pub image_takes : (bytes : List ℕ) (c : Contents) → AreBytes bytes → image_file_at bytes ≡ Ok c → IsImageFile bytes c
+pub image_takes : (bytes : List ℕ) (c : Contents ImageValue) → AreBytes bytes → image_file_at bytes ≡ Ok c → IsImageFile bytes c
 unfolding image_file_at
 image_takes bytes c fits e = file_takes kind image_version image_version (λ version. spelling) (λ version. IsContents) (λ version. payload_at) (λ v f l. payload_spells) bytes c fits e
 
-pub image_again : (bytes : List ℕ) (c : Contents) → IsImageFile bytes c → image_file_at bytes ≡ Ok c
+pub image_again : (bytes : List ℕ) (c : Contents ImageValue) → IsImageFile bytes c → image_file_at bytes ≡ Ok c
 unfolding image_file_at
 image_again bytes c is = file_again kind image_version image_version (λ version. spelling) (λ version. IsContents) (λ version. payload_at) (lit< tt) (lit< tt) (λ v f l. payload_spells) bytes c is
 
 -- ---- the same of what a function returned
 
-image_found : (bytes : List ℕ) (v : ImageValue) (r : Result Contents ℕ) → image_of r ≡ Ok v → (c : Contents) × (r ≡ Ok c) × (c.image ≡ v)
+image_found : (bytes : List ℕ) (v : ImageValue) (r : Result (Contents ImageValue) ℕ) → value_of r ≡ Ok v → (c : Contents ImageValue) × (r ≡ Ok c) × (c.value ≡ v)
 image_found bytes v (Ok c) e = (c, refl, cc)
 image_found bytes v (Err at) e = absurd cc
 
-pub found_by : (bytes : List ℕ) (r : Result Image FileError) → AreBytes bytes → GivesFile view r (image_of (image_file_at bytes)) → IfOk r (λ image. (names : List (List ℕ)) × IsImageFile bytes (record { names = names; image = view image }))
+pub found_by : (bytes : List ℕ) (r : Result Image FileError) → AreBytes bytes → GivesFile view r (value_of (image_file_at bytes)) → IfOk r (λ image. (names : List (List ℕ)) × IsImageFile bytes (record { names = names; value = view image }))
 found_by bytes (Ok image) fits given =
     let p = image_found bytes (view image) (image_file_at bytes) given in
-    (p.0.names, subst (λ (v : ImageValue). IsImageFile bytes (record { names = p.0.names; image = v })) p.2 (image_takes bytes p.0 fits p.1))
+    (p.0.names, subst (λ (v : ImageValue). IsImageFile bytes (record { names = p.0.names; value = v })) p.2 (image_takes bytes p.0 fits p.1))
 found_by bytes (Err e) fits given = tt
 
-pub only_by : (bytes : List ℕ) (r : Result Image FileError) → GivesFile view r (image_of (image_file_at bytes)) → (c : Contents) → IsImageFile bytes c → GivesFile view r (Ok c.image)
-only_by bytes r given c is = subst (GivesFile view r) (ap image_of (image_again bytes c is)) given
+pub only_by : (bytes : List ℕ) (r : Result Image FileError) → GivesFile view r (value_of (image_file_at bytes)) → (c : Contents ImageValue) → IsImageFile bytes c → GivesFile view r (Ok c.value)
+only_by bytes r given c is = subst (GivesFile view r) (ap value_of (image_again bytes c is)) given
 
-abbrev value : Contents → Result Contents ℕ
+abbrev value : Contents ImageValue → Result (Contents ImageValue) ℕ
 value c = Ok c
 
 -- ---- one file for each image, and one image for each file
 
-pub one_image : (bytes : List ℕ) (c d : Contents) → IsImageFile bytes c → IsImageFile bytes d → c ≡ d
+pub one_image : (bytes : List ℕ) (c d : Contents ImageValue) → IsImageFile bytes c → IsImageFile bytes d → c ≡ d
 one_image bytes c d p q = let both : value c ≡ value d = sym (image_again bytes c p) ∙ image_again bytes d q in cc
 
-pub one_file : (bytes others : List ℕ) (c d : Contents) → IsImageFile bytes c → IsImageFile others d → c.image ≡ d.image → bytes ≡ others
+pub one_file : (bytes others : List ℕ) (c d : Contents ImageValue) → IsImageFile bytes c → IsImageFile others d → c.value ≡ d.value → bytes ≡ others
 one_file bytes others c d p q same =
-    let names : c.names ≡ d.names = one_table c.names d.names (names_of c.image) p.fits.names (subst (λ (v : ImageValue). IsTableOf d.names (names_of v)) (sym same) q.fits.names) in
+    let names : c.names ≡ d.names = one_table c.names d.names (names_of c.value) p.fits.names (subst (λ (v : ImageValue). IsTableOf d.names (names_of v)) (sym same) q.fits.names) in
     let version : p.version ≡ q.version = omega (arith, p.not_below, p.not_above, q.not_below, q.not_above) in
-    let whole : c ≡ d = λ j. record { names = names j; image = same j } in
-    p.spelled ∙ ap (λ n. file kind n (spelling c)) version ∙ ap (λ (x : Contents). file kind q.version (spelling x)) whole ∙ sym q.spelled
+    let whole : c ≡ d = λ j. record { names = names j; value = same j } in
+    p.spelled ∙ ap (λ n. file kind n (spelling c)) version ∙ ap (λ (x : Contents ImageValue). file kind q.version (spelling x)) whole ∙ sym q.spelled

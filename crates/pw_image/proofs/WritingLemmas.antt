@@ -39,8 +39,8 @@ pub table_is : (names used : List (List ℕ)) → FitsU32 (length names) → IsT
 table_is names used count table = record { count = count; rising = table.rising }
 
 -- what is written is the image's file
-pub written : {E : Type 0} (names : List (List ℕ)) (v : ImageValue) (payload : List ℕ) (r : Result (Vec ℕ) E) → IsContents (record { names = names; image = v }) → payload ≡ spelling (record { names = names; image = v }) → OnOk r (FitsFile payload)
-    → IfOk r (λ w. w.items ≡ file kind image_version payload) → IfOk r (λ w. (ns : List (List ℕ)) × IsImageFile w.items (record { names = ns; image = v }))
+pub written : {E : Type 0} (names : List (List ℕ)) (v : ImageValue) (payload : List ℕ) (r : Result (Vec ℕ) E) → IsContents (record { names = names; value = v }) → payload ≡ spelling (record { names = names; value = v }) → OnOk r (FitsFile payload)
+    → IfOk r (λ w. w.items ≡ file kind image_version payload) → IfOk r (λ w. (ns : List (List ℕ)) × IsImageFile w.items (record { names = ns; value = v }))
 written names v payload (Ok w) is same room made =
     (names, record { version = image_version; not_below = omega arith; not_above = omega arith; fits = is; room = subst FitsFile same room; spelled = made ∙ ap (file kind image_version) same })
 written names v payload (Err e) is same room made = tt

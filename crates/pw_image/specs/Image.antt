@@ -5,6 +5,7 @@ use Rattle.pw_value.specs.Limits.{text_start, word_limit, memory_size}
 use Rattle.pw_value.specs.Fields.{u32, text, parts, FitsU32}
 use Rattle.pw_value.specs.FieldFrame.{IsFileOf}
 use Rattle.pw_value.specs.FieldNames.{name_table, name_index, IsTableOf}
+pub use Rattle.pw_files.specs.Contents.{Contents}
 use Rattle.std.specs.Prelude.{Vec}
 use Rattle.std.specs.declared.alloc.Global.{Global}
 use Rattle.pw_value.specs.declared.name.Name.{Name}
@@ -98,25 +99,21 @@ abbrev pub names_of : ImageValue → List (List ℕ)
 names_of v = map (λ f. f.name) v.functions ++ map (λ g. g.name) v.globals
 
 -- an image and the table of its names
-pub record Contents : Type 0 where
-  pub names : List (List ℕ)
-  pub image : ImageValue
+abbrev pub contents_view : Vec Name Global × Image → Contents ImageValue
+contents_view x = record { names = x.0.items; value = view x.1 }
 
-abbrev pub contents_view : Vec Name Global × Image → Contents
-contents_view x = record { names = x.0.items; image = view x.1 }
-
-abbrev pub spelling : Contents → List ℕ
-spelling c = parts (memory c.image.memory ∷ name_table c.names
-    ∷ u32 (length c.image.functions) ∷ flat_map (function c.names) c.image.functions
-    ∷ u32 (length c.image.globals) ∷ flat_map (global c.names) c.image.globals ∷ [])
+abbrev pub spelling : Contents ImageValue → List ℕ
+spelling c = parts (memory c.value.memory ∷ name_table c.names
+    ∷ u32 (length c.value.functions) ∷ flat_map (function c.names) c.value.functions
+    ∷ u32 (length c.value.globals) ∷ flat_map (global c.names) c.value.globals ∷ [])
 
 -- the image is lawful, its lists fit into the file's counts, and the table has the names that it uses
-pub record IsContents (c : Contents) : Type 0 where
-  pub image : IsImage c.image
-  pub function_count : FitsU32 (length c.image.functions)
-  pub global_count : FitsU32 (length c.image.globals)
+pub record IsContents (c : Contents ImageValue) : Type 0 where
+  pub image : IsImage c.value
+  pub function_count : FitsU32 (length c.value.functions)
+  pub global_count : FitsU32 (length c.value.globals)
   pub name_count : FitsU32 (length c.names)
-  pub names : IsTableOf c.names (names_of c.image)
+  pub names : IsTableOf c.names (names_of c.value)
 
 -- PAWI
 abbrev pub kind : ℕ
@@ -127,5 +124,5 @@ abbrev pub image_version : ℕ
 image_version = 1
 
 -- the bytes are the image file of the contents
-abbrev pub IsImageFile : List ℕ → Contents → Type 0
+abbrev pub IsImageFile : List ℕ → Contents ImageValue → Type 0
 IsImageFile bytes c = IsFileOf kind image_version image_version (λ version. spelling) (λ version. IsContents) bytes c

@@ -27,8 +27,8 @@ GivesLoad view (Ok x) found = found ≡ Ok (view x)
 GivesLoad view (Err e) found = FailsLoad e found
 
 -- what reading finds, as a function of the image
-abbrev pub loaded_as : {Y : Type 0} → (ImageValue → Y) → Result Contents ℕ → Result Y ℕ
-loaded_as f (Ok c) = Ok (f c.image)
+abbrev pub loaded_as : {Y : Type 0} → (ImageValue → Y) → Result (Contents ImageValue) ℕ → Result Y ℕ
+loaded_as f (Ok c) = Ok (f c.value)
 loaded_as f (Err at) = Err at
 
 -- ---- the map

@@ -1,5 +1,5 @@
 -- Reading an image file from left to right, with the first fault that is met.
-use Rattle.std.specs.Prelude.{ℕ, ◌+◌, ◌*◌, ◌%◌, List, length, Result, Ok, Err, Option, Some, None, Bool, false, nat_le, nat_lt, ◌==◌, ◌&&◌, if◌then◌else◌}
+use Rattle.std.specs.Prelude.{ℕ, ◌+◌, ◌*◌, ◌%◌, List, length, Result, Ok, Err, Bool, false, nat_le, nat_lt, ◌==◌, ◌&&◌, if◌then◌else◌}
 use Rattle.pw_value.specs.Limits.{text_start, word_limit, memory_size}
 use Rattle.pw_value.specs.Fields.{◌>>=◌, done, checked, u32_at, bytes_at, items_at, repeated}
 use Rattle.pw_value.specs.FieldFrame.{here, ended, file_at}
@@ -52,11 +52,6 @@ global_at names = do
 
 -- ---- the payload
 
--- a late rule that is broken at a place
-abbrev pub broken_at : Option ℕ → Result (Unit {0}) ℕ
-broken_at None = Ok tt
-broken_at (Some left) = Err left
-
 -- whether the entry is a word's address, by the count of words that stands twelve bytes behind it
 unfoldable pub start_at : List ℕ → Result (Bool × List ℕ) ℕ
 start_at = do
@@ -69,7 +64,7 @@ abbrev pub is_lawful_start : Result (Bool × List ℕ) ℕ → Bool
 is_lawful_start (Ok x) = x.0
 is_lawful_start (Err left) = false
 
-unfoldable pub contents_at : List ℕ → Result (Contents × List ℕ) ℕ
+unfoldable pub contents_at : List ℕ → Result (Contents ImageValue × List ℕ) ℕ
 contents_at = do
   memory ← memory_at
   names ← names_at
@@ -78,16 +73,11 @@ contents_at = do
   functions ← repeated (function_at names (length memory.words)) function_count
   global_count ← u32_at
   globals ← repeated (global_at names) global_count
-  let image : ImageValue = record { memory = memory; functions = functions; globals = globals } in ended (first_unused names (names_of image) behind) (record { names = names; image = image })
+  let image : ImageValue = record { memory = memory; functions = functions; globals = globals } in ended (first_unused names (names_of image) behind) (record { names = names; value = image })
 
 -- the entry is looked at first: no word of the text is known where the count of words is short
-unfoldable pub payload_at : List ℕ → Result (Contents × List ℕ) ℕ
+unfoldable pub payload_at : List ℕ → Result (Contents ImageValue × List ℕ) ℕ
 payload_at bytes = if is_lawful_start (start_at bytes) then contents_at bytes else Err (length bytes)
 
-unfoldable pub image_file_at : List ℕ → Result Contents ℕ
+unfoldable pub image_file_at : List ℕ → Result (Contents ImageValue) ℕ
 image_file_at bytes = file_at kind image_version image_version (λ version. payload_at) bytes
-
--- the image alone
-abbrev pub image_of : Result Contents ℕ → Result ImageValue ℕ
-image_of (Ok c) = Ok c.image
-image_of (Err at) = Err at

@@ -1,10 +1,10 @@
 //! The laws of image files.
 
 ghost use Rattle.std.specs.Prelude.{◌≡◌, ℕ, List};
-ghost use Rattle.pw_image.specs.Image.{Contents, IsImageFile};
+ghost use Rattle.pw_image.specs.Image.{Contents, ImageValue, IsImageFile};
 
 /// No bytes are the file of two images, and no image has two files.
 pub fn images_and_files_are_one_to_one()
-    ensures one_image { (bytes : List ℕ) (c d : Contents) → IsImageFile bytes c → IsImageFile bytes d → c ≡ d }
-    ensures one_file { (bytes others : List ℕ) (c d : Contents) → IsImageFile bytes c → IsImageFile others d → c.image ≡ d.image → bytes ≡ others }
+    ensures one_image { (bytes : List ℕ) (c d : Contents ImageValue) → IsImageFile bytes c → IsImageFile bytes d → c ≡ d }
+    ensures one_file { (bytes others : List ℕ) (c d : Contents ImageValue) → IsImageFile bytes c → IsImageFile others d → c.value ≡ d.value → bytes ≡ others }
 {}

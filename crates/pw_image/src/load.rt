@@ -1,7 +1,7 @@
 //! What the calls that take an image file answer, and the map of its names.
 
 ghost use Rattle.std.specs.Prelude.{◌≡◌, List, length, map, IfOk, Ok};
-ghost use Rattle.pw_image.specs.Image.{Contents, IsImageFile};
+ghost use Rattle.pw_image.specs.Image.{Contents, ImageValue, IsImageFile};
 ghost use Rattle.pw_image.specs.Reading.{image_file_at};
 ghost use Rattle.pw_image.specs.Loading.{GivesLoad, loaded_as, function_entry, global_entry, map_view, map_of};
 
@@ -77,9 +77,9 @@ fn global_entries(alloc: Global, globals: Vec<GlobalObject>) -> Result<Vec<(Name
 /// breaks its rule, as of [`read_image`].
 pub fn read_map(alloc: Global, bytes: &[u8]) -> Result<Map, LoadError>
     // What is read is the map of an image whose file the bytes are.
-    ensures found { IfOk result (λ map. (c : Contents) × IsImageFile bytes.now c × (map_view map ≡ map_of c.image)) }
+    ensures found { IfOk result (λ map. (c : Contents ImageValue) × IsImageFile bytes.now c × (map_view map ≡ map_of c.value)) }
     // The map of an image is read from its file, unless memory runs out.
-    ensures only { (c : Contents) → IsImageFile bytes.now c → GivesLoad map_view result (Ok (map_of c.image)) }
+    ensures only { (c : Contents ImageValue) → IsImageFile bytes.now c → GivesLoad map_view result (Ok (map_of c.value)) }
     // Which fault it is.
     ensures exact { GivesLoad map_view result (loaded_as map_of (image_file_at bytes.now)) }
 {

@@ -8,13 +8,15 @@ ghost use Rattle.pw_value.specs.Fields.{text};
 ghost use Rattle.pw_value.specs.FieldFrame.{ended};
 ghost use Rattle.pw_value.specs.FieldNames.{first_unused};
 ghost use Rattle.pw_value.specs.FieldFaults.{Gives, GivesFile};
+ghost use Rattle.pw_files.specs.Contents.{broken_at, value_of};
 ghost use Rattle.pw_image.specs.Image.{Contents, ImageValue, data_start, free_behind, item_view, memory_view, view, contents_view, names_of, IsImageFile};
-ghost use Rattle.pw_image.specs.Reading.{is_in_text, item_at, next_free, memory_at, function_at, global_at, start_at, is_lawful_start, contents_at, broken_at, payload_at, image_file_at, image_of};
+ghost use Rattle.pw_image.specs.Reading.{is_in_text, item_at, next_free, memory_at, function_at, global_at, start_at, is_lawful_start, contents_at, payload_at, image_file_at};
 
 use crate::image::{DataItem, Function, GlobalObject, Image, Memory};
+use pw_files::late::check_used;
 use pw_files::places::{read_item_bytes, read_offset};
 use pw_value::fields::frame::{check_digest, open};
-use pw_value::fields::names::{find_unused, read_name, read_names};
+use pw_value::fields::names::{read_name, read_names};
 use pw_value::fields::{FieldError, read_bytes, read_u32};
 use pw_value::limits::{MEMORY_SIZE, TEXT_START, WORD_LIMIT};
 use pw_value::{FileError, Name};
@@ -311,20 +313,17 @@ fn end_contents(
     if !rest.is_empty() {
         return Err(FieldError::Fault { left: rest.len() });
     }
-    check_used(alloc, &names, &image, behind)?;
+    check_last(alloc, &names, &image, behind)?;
     Ok(((names, image), rest))
 }
 
-/// The rule that each name of the table is used, where so many bytes are left behind the table.
-fn check_used(alloc: Global, names: &[Name], image: &Image, behind: usize) -> Result<(), FieldError>
+/// The rule that is looked at last: each name of the table is used, where so many bytes are left behind the table.
+fn check_last(alloc: Global, names: &[Name], image: &Image, behind: usize) -> Result<(), FieldError>
     requires { length (flat_map text names.now) + behind < 2 ^ 64 }
     ensures { Gives (λ x. x) result (broken_at (first_unused names.now (names_of (view image.now)) behind)) }
 {
     let used = used_names(alloc, image)?;
-    match find_unused(alloc, names, used, behind)? {
-        Some(left) => Err(FieldError::Fault { left }),
-        None => Ok(()),
-    }
+    check_used(alloc, names, used, behind)
 }
 
 /// The table of names and the image.
@@ -358,18 +357,18 @@ fn read_file(alloc: Global, bytes: &[u8]) -> Result<(Vec<Name>, Image), FileErro
 /// breaks its rule.
 pub fn read_image(alloc: Global, bytes: &[u8]) -> Result<Image, FileError>
     // What is read is an image, and the bytes are its file.
-    ensures found { IfOk result (λ image. (names : List (List ℕ)) × IsImageFile bytes.now (record { names = names; image = view image })) }
+    ensures found { IfOk result (λ image. (names : List (List ℕ)) × IsImageFile bytes.now (record { names = names; value = view image })) }
     // A file of an image is read, unless memory runs out.
-    ensures only { (c : Contents) → IsImageFile bytes.now c → GivesFile view result (Ok c.image) }
+    ensures only { (c : Contents ImageValue) → IsImageFile bytes.now c → GivesFile view result (Ok c.value) }
     // Which fault it is.
-    ensures exact { GivesFile view result (image_of (image_file_at bytes.now)) }
+    ensures exact { GivesFile view result (value_of (image_file_at bytes.now)) }
 {
     read_alone(alloc, bytes)
 }
 
 /// The image of a whole file, without its table of names.
 fn read_alone(alloc: Global, bytes: &[u8]) -> Result<Image, FileError>
-    ensures { GivesFile view result (image_of (image_file_at bytes.now)) }
+    ensures { GivesFile view result (value_of (image_file_at bytes.now)) }
 {
     let (_names, image) = read_file(alloc, bytes)?;
     Ok(image)

@@ -153,8 +153,8 @@ fn write_payload(alloc: Global, names: &[Name], image: &Image) -> Result<Vec<u8>
     requires image { IsImage (view image.now) }
     requires count { FitsU32 (length names.now) }
     requires table { IsTableOf names.now (names_of (view image.now)) }
-    ensures contents { OnOk result (IsContents (record { names = names.now; image = view image.now })) }
-    ensures spelled { IfOk result (λ v. v.items ≡ spelling (record { names = names.now; image = view image.now })) }
+    ensures contents { OnOk result (IsContents (record { names = names.now; value = view image.now })) }
+    ensures spelled { IfOk result (λ v. v.items ≡ spelling (record { names = names.now; value = view image.now })) }
 {
     let mut out = Vec::new(alloc);
     push_memory(&mut out, &image.memory)?;
@@ -166,7 +166,7 @@ fn write_payload(alloc: Global, names: &[Name], image: &Image) -> Result<Vec<u8>
 /// The one file of an image. A file that would be too long for its fields is answered as want of memory.
 pub fn write_image(alloc: Global, image: &Image) -> Result<Vec<u8>, AllocError>
     requires { IsImage (view image.now) }
-    ensures { IfOk result (λ v. (names : List (List ℕ)) × IsImageFile v.items (record { names = names; image = view image.now })) }
+    ensures { IfOk result (λ v. (names : List (List ℕ)) × IsImageFile v.items (record { names = names; value = view image.now })) }
 {
     let used = used_names(alloc, image)?;
     let names = make_table(alloc, used)?;

@@ -2,11 +2,12 @@
 use Rattle.std.proofs.Common.{◌≡◌, ℕ, List, length, Result, Ok, Err, ap}
 use Rattle.pw_value.specs.Fields.{u32_at, text_at, repeated}
 use Rattle.pw_value.specs.FieldNames.{names_at, first_unused}
+use Rattle.pw_files.specs.Contents.{value_of}
 use Rattle.pw_files.specs.Faults.{OfPayload, StaysFault}
 use Rattle.pw_files.proofs.OnwardLaws.{Onward, one_onward, behind, done_onward, ended_onward, checked_one, u32_one, text_one, name_one, names_onward, items_onward, repeated_onward}
 use Rattle.pw_files.proofs.FaultLaws.{Keeps, keeps_behind, keeps_ended, lies_within, fault_stays}
-use Rattle.pw_image.specs.Image.{Item, MemoryValue, Contents, names_of, kind, image_version}
-use Rattle.pw_image.specs.Reading.{item_at, next_free, memory_at, function_at, global_at, contents_at, payload_at, image_file_at, image_of}
+use Rattle.pw_image.specs.Image.{Item, MemoryValue, ImageValue, Contents, names_of, kind, image_version}
+use Rattle.pw_image.specs.Reading.{item_at, next_free, memory_at, function_at, global_at, contents_at, payload_at, image_file_at}
 use Rattle.pw_image_laws.specs.ImageFaults.{fields_at, HasEntry, read, ImageFaultsStay}
 
 item_onward : (size free : ℕ) → Onward (item_at size free)
@@ -51,12 +52,12 @@ payload_keeps : (payload : List ℕ) (left : ℕ) → HasEntry payload → field
 unfolding payload_at
 payload_keeps payload left entry e = rw entry (fields_keep.same payload left e)
 
-image_fault : (r : Result Contents ℕ) (at : ℕ) → image_of r ≡ Err at → r ≡ Err at
+image_fault : (r : Result (Contents ImageValue) ℕ) (at : ℕ) → value_of r ≡ Err at → r ≡ Err at
 image_fault (Ok c) at e = absurd cc
 image_fault (Err d) at e = cc
 
 still : (bytes : List ℕ) (at : ℕ) → StaysFault (OfPayload kind image_version HasEntry) image_file_at bytes at → StaysFault (OfPayload kind image_version HasEntry) read bytes at
-still bytes at f = record { count = f.count; field = f.field; same = λ others len same holds. ap image_of (f.same others len same holds) }
+still bytes at f = record { count = f.count; field = f.field; same = λ others len same holds. ap value_of (f.same others len same holds) }
 
 pub faults_stay : ImageFaultsStay
 unfolding image_file_at
@@ -64,5 +65,5 @@ faults_stay = record {
   within = λ bytes at e. lies_within kind image_version fields_at payload_at HasEntry fields_onward payload_keeps bytes at (image_fault (image_file_at bytes) at e);
   stays = λ bytes at e holds.
       let both = fault_stays kind image_version fields_at payload_at HasEntry fields_onward payload_keeps bytes at e holds in
-      (ap image_of both.0, still bytes at both.1);
+      (ap value_of both.0, still bytes at both.1);
 }

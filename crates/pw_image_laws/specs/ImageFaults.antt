@@ -3,13 +3,14 @@ use Rattle.std.specs.Prelude.{◌≡◌, ℕ, ◌≤◌, true, List, length, Res
 use Rattle.pw_value.specs.Fields.{◌>>=◌, u32_at, repeated}
 use Rattle.pw_value.specs.FieldFrame.{ended, opened_at}
 use Rattle.pw_value.specs.FieldNames.{names_at}
+use Rattle.pw_files.specs.Contents.{value_of}
 use Rattle.pw_files.specs.Faults.{OfPayload, StaysFault, unsealed}
 use Rattle.pw_image.specs.Image.{ImageValue, Contents, kind, image_version}
-use Rattle.pw_image.specs.Reading.{memory_at, function_at, global_at, start_at, is_lawful_start, image_file_at, image_of}
+use Rattle.pw_image.specs.Reading.{memory_at, function_at, global_at, start_at, is_lawful_start, image_file_at}
 
 -- the fields of an image's payload, without the rules on several of them: that the entry is the address of a word, and
 -- that each name of the table is used
-unfoldable pub fields_at : List ℕ → Result (Contents × List ℕ) ℕ
+unfoldable pub fields_at : List ℕ → Result (Contents ImageValue × List ℕ) ℕ
 fields_at = do
   memory ← memory_at
   names ← names_at
@@ -17,14 +18,14 @@ fields_at = do
   functions ← repeated (function_at names (length memory.words)) function_count
   global_count ← u32_at
   globals ← repeated (global_at names) global_count
-  ended None (record { names = names; image = record { memory = memory; functions = functions; globals = globals } })
+  ended None (record { names = names; value = record { memory = memory; functions = functions; globals = globals } })
 
 -- the entry is the address of a word
 abbrev pub HasEntry : List ℕ → Type 0
 HasEntry payload = is_lawful_start (start_at payload) ≡ true
 
 abbrev pub read : List ℕ → Result ImageValue ℕ
-read bytes = image_of (image_file_at bytes)
+read bytes = value_of (image_file_at bytes)
 
 -- A fault lies within the bytes. Where the entry is the address of a word, a fault of the fields is the file's, and rests on
 -- the bytes up to the faulty field's end.

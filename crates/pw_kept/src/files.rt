@@ -119,7 +119,7 @@ pub fn files_of(
     ensures objects { IfOk result (λ files. AreObjectFiles (made_anew (map (λ m. m.name) modules.now) objects.now fresh.now) (map file_view files.fresh.files.items)) }
     ensures bytes { IfOk result (λ files. HoldBytes (map file_view files.fresh.files.items)) }
     ensures database { IfOk result (λ files. IsDatabaseFile files.database.items database.now.functions) }
-    ensures image { IfOk result (λ files. (names : List (List ℕ)) × IsImageFile files.image.items (record { names = names; image = view image.now })) }
+    ensures image { IfOk result (λ files. (names : List (List ℕ)) × IsImageFile files.image.items (record { names = names; value = view image.now })) }
 {
     let fresh = fresh_files(alloc, modules, objects, fresh)?;
     let database = pw_db::write(alloc, database)?;

@@ -1,6 +1,6 @@
 -- What lowering owes: the flow graphs of a program do what the program means, and at each call and return the
 -- globals have the values that the C meaning gives them.
-use Rattle.std.specs.Prelude.{ℕ, suc, ◌≡◌, ◌≢◌, true, Option, Some, None, Ok, List, [], ◌∷◌, map, codes, Contains}
+use Rattle.std.specs.Prelude.{ℕ, suc, ◌≡◌, ◌≢◌, true, Option, Some, None, Ok, List, [], ◌∷◌, map, Contains}
 use Rattle.pw_value.specs.declared.value.Kind.{Kind}
 use Rattle.pw_value.specs.declared.value.Value.{Value}
 use Rattle.pw_value.specs.declared.value.Value.TheVariants as V
@@ -10,7 +10,7 @@ use Rattle.pw_value.specs.declared.value.Pointer.{Pointer}
 use Rattle.pw_value.specs.declared.value.Pointer.TheVariants as P
 use Rattle.pw_value.specs.Objects.{Object, object_at}
 use Rattle.pw_value.specs.Shapes.{Agree}
-use Rattle.pw_value.specs.ProgramNames.{main_name}
+use Rattle.pw_value.specs.ProgramNames.{main_name, main_shape}
 use Rattle.pw_flow.specs.declared.flow.FlowGlobal.{FlowGlobal}
 use Rattle.pw_flow.specs.declared.flow.FlowFn.{FlowFn}
 use Rattle.pw_flow.specs.declared.flow.FlowModule.{FlowModule}
@@ -47,7 +47,7 @@ pub record DeclareAlike (p : flows.Program) : Type 0 where
       → Contains m.declared (name, s) → Contains n.declared (name, t) → Agree s t
   pub library : (m : FlowModule) (g : Library) (name s : List ℕ) → Contains p.modules m → Contains m.declared (name, s)
       → library_at name ≡ Some g → Agree s (library_shape g)
-  pub main : (f : FlowFn) → function_named p main_name ≡ Some f → f.shape ≡ codes "fi"
+  pub main : (f : FlowFn) → function_named p main_name ≡ Some f → f.shape ≡ main_shape
 
 -- the modules are well typed, and their graphs make a program
 pub record IsAccepted (p : Program) (frame_of : List ℕ → ℕ) (stack : ℕ) : Type 0 where

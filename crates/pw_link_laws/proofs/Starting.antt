@@ -7,12 +7,12 @@ use Rattle.std.specs.Str.{bytes_eq}
 use Rattle.std.proofs.lemmas.List.Folds.{list_any_at}
 use Rattle.std.proofs.lemmas.List.Sums.{sum_by-cons}
 use Rattle.std.proofs.lemmas.Slice.Eq.{bytes_eq-Decides}
-use Rattle.pw_value.specs.ProgramNames.{start_name, main_name}
+use Rattle.pw_value.specs.ProgramNames.{start_name, main_name, main_shape}
 use Rattle.pw_object.specs.declared.functions.ObjectFn.{ObjectFn}
 use Rattle.pw_object.specs.declared.object.Object.{Object}
 use Rattle.pw_object.specs.Object.{IsObject, function_names}
 use Rattle.pw_program.specs.declared.interface.Interface.{Interface}
-use Rattle.pw_program.specs.Linking.{HasMain, main_shape}
+use Rattle.pw_program.specs.Linking.{HasMain}
 use Rattle.pw_interface.specs.Interface.{interface, defines_main, main_of}
 use Rattle.pw_link.specs.Layout.{Piece, piece_of, routine_pieces, function_pieces, in_order, pieces_of, placed_from, function_site}
 use Rattle.pw_link_laws.proofs.Kept.{any_placed, any_append, any_flat}

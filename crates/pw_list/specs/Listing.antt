@@ -57,6 +57,6 @@ pub record IsListing (image : ImageValue) (text : List ℕ) : Type 0 where
   pub lines : text ≡ lines_of image.memory.words ordered
 
 -- the text is the listing of the image that reading finds
-abbrev pub IsListingOf : Result Contents ℕ → List ℕ → Type 0
-IsListingOf (Ok c) text = IsListing c.image text
+abbrev pub IsListingOf : Result (Contents ImageValue) ℕ → List ℕ → Type 0
+IsListingOf (Ok c) text = IsListing c.value text
 IsListingOf (Err at) text = ⊥

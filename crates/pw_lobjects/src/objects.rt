@@ -10,7 +10,7 @@ use pw_lexpr::full_name;
 use pw_lower::operators::{bytes_of, kind_of};
 use pw_typed::{Declared, Symbol, TFunction, TGlobal, TItem};
 use pw_types::{Types, shape};
-use pw_value::program_names::{EXIT, MAIN, START};
+use pw_value::program_names::{EXIT, MAIN, START, START_SHAPE};
 use pw_value::{Name, NoMemory, Shape};
 use std::alloc::Global;
 
@@ -38,7 +38,7 @@ pub fn start_function(alloc: Global) -> Result<FlowFn, NoMemory>
     })?;
     Ok(FlowFn {
         name: name_of(alloc, START)?,
-        shape: Shape::new(Vec::from_slice(alloc, b"fv")?),
+        shape: Shape::new(Vec::from_slice(alloc, START_SHAPE)?),
         params: 0,
         temps: 1,
         slots: Items::new(alloc),

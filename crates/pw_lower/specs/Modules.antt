@@ -1,6 +1,6 @@
 -- Lowering of functions, objects and modules (C90 6.7).
-use Rattle.std.specs.Prelude.{ℕ, suc, ◌+◌, if◌then◌else◌, Bool, false, Some, None, List, [], ◌∷◌, ◌++◌, map, length, replicate, codes, bytes_eq}
-use Rattle.pw_value.specs.ProgramNames.{start_name, main_name, exit_name}
+use Rattle.std.specs.Prelude.{ℕ, suc, ◌+◌, if◌then◌else◌, Bool, false, Some, None, List, [], ◌∷◌, ◌++◌, map, length, replicate, bytes_eq}
+use Rattle.pw_value.specs.ProgramNames.{start_name, main_name, exit_name, start_shape}
 use Rattle.pw_types.specs.Shapes.{shape_of}
 use Rattle.pw_types.specs.TypeTrees.{type_of, is_volatile, RecordValue}
 use Rattle.pw_types.specs.TypedTrees.{Symbol, External, LocalValue, FunctionValue, ItemValue, ItemBytes, ItemAddress, PlacedItem, GlobalValue, DeclaredValue, ModuleValue}
@@ -94,7 +94,7 @@ lowered_function home records f =
 abbrev pub start_function : FlowFn
 start_function = record {
   name = start_name;
-  shape = codes "fv";
+  shape = start_shape;
   params = 0;
   temps = 1;
   slots = [];

@@ -1,3 +1,4 @@
+pub mod Limits
 pub mod Modules
 pub mod Reading
 pub mod Views

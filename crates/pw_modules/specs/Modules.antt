@@ -1,23 +1,25 @@
 -- The modules of a store: each file named `NAME.i` is the module NAME, and their order is that of these names.
-use Rattle.std.specs.Prelude.{◌≡◌, ℕ, ◌-◌, Bool, true, ◌==◌, ◌&&◌, ◌||◌, nat_le, List, length, take, drop, map, fold, codes, ◌++◌, Some, if◌then◌else◌}
+use Rattle.std.specs.Prelude.{◌≡◌, ℕ, ◌+◌, ◌-◌, Bool, true, ◌==◌, ◌&&◌, ◌||◌, nat_le, List, length, take, drop, map, fold, codes, ◌++◌, Some, if◌then◌else◌}
 use Rattle.std.specs.Option.{option_map, option_map_or}
 use Rattle.std.specs.List.{list_all}
 use Rattle.std.specs.Char.{is_ascii_alphanumeric}
 use Rattle.std.specs.Str.{bytes_eq}
 use Rattle.std.specs.FinMap as finite
 use Rattle.pw_io.specs.Files.{Files, front_of}
+use Rattle.pw_token.specs.Limits.{text_limit}
+use Rattle.pw_modules.specs.Limits.{module_name_limit}
 
 -- bytes of a module's text that are read: one more than a text may have, so that one that is too long is seen to be
 abbrev pub text_read : ℕ
-text_read = 1048577
+text_read = text_limit + 1
 
 -- a letter, a digit, `_` or `-`
 abbrev pub is_name_byte : ℕ → Bool
 is_name_byte byte = is_ascii_alphanumeric byte || ((byte == 95) || (byte == 45))
 
--- a module's name has 1 to 64 letters, digits, `_` or `-`
+-- a module's name has letters, digits, `_` or `-`: one at least, and as many as the limit at most
 abbrev pub is_module_name : List ℕ → Bool
-is_module_name name = nat_le 1 (length name) && (nat_le (length name) 64 && list_all is_name_byte name)
+is_module_name name = nat_le 1 (length name) && (nat_le (length name) module_name_limit && list_all is_name_byte name)
 
 -- a file's name without its last two bytes
 abbrev pub stem : List ℕ → List ℕ

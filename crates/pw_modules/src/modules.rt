@@ -5,6 +5,7 @@ ghost use Rattle.std.specs.List.{list_all, position_or_len};
 ghost use Rattle.pw_modules.specs.Modules.{is_name_byte, is_module_name, is_module_file, IsModuleFile, stem, text_read};
 ghost use Rattle.pw_modules.specs.Reading.{is_before, placed, with_file, module_files};
 
+use crate::limits::MODULE_NAME_LIMIT;
 use pw_value::Name;
 use std::alloc::{AllocError, Global};
 
@@ -30,11 +31,11 @@ fn are_name_bytes(name: &[u8]) -> bool
     name.iter().all(|byte| is_name_byte(*byte))
 }
 
-/// Whether a module may have this name: 1 to 64 letters, digits, `_` or `-`.
+/// Whether a module may have this name: 1 to `MODULE_NAME_LIMIT` letters, digits, `_` or `-`.
 pub fn is_module_name(name: &[u8]) -> bool
     ensures { result ≡ is_module_name name.now }
 {
-    if name.is_empty() || name.len() > 64 {
+    if name.is_empty() || name.len() > MODULE_NAME_LIMIT {
         return false;
     }
     are_name_bytes(name)

@@ -10,11 +10,12 @@ ghost use Rattle.pw_modules.specs.Views.{source};
 
 use crate::modules::{Module, module_files, stem};
 use pw_io::{Store, StoreError};
+use pw_token::MAX_TEXT;
 use pw_value::{Name, NameError};
 use std::alloc::{AllocError, Global};
 
 /// The greatest count of bytes that is read of a module's text: one more than a text may have.
-const TEXT_READ: usize = 1_048_577;
+const TEXT_READ: usize = MAX_TEXT + 1;
 
 /// Reads a module's text.
 fn read_source<S: Store>(
@@ -91,8 +92,8 @@ pub fn module_files_of<S: Store>(alloc: Global, store: &mut S) -> Result<Vec<Str
     Ok(module_files(alloc, &names)?)
 }
 
-/// The modules of a store: each file `NAME.i` with a name of 1 to 64 letters, digits, `_` and `-`, in the byte order of
-/// the names, with its text up to one byte more than a text may have. The store stays as it is.
+/// The modules of a store: each file `NAME.i` whose name a module may have, in the byte order of the names, with its text
+/// up to one byte more than a text may have. The store stays as it is.
 pub fn read_modules<S: Store>(alloc: Global, store: &mut S) -> Result<Vec<Module>, StoreError>
     ensures read { IfSome (S.told store.old) (λ told. IfOk result (λ modules. map source modules.items ≡ modules_of told.files)) }
     ensures same { Keeps (S.told store.old) (S.told store.new) }

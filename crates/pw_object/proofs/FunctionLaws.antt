@@ -1,45 +1,40 @@
 -- The functions of an object file: what is read is spelled so, and what is spelled so is read again.
-use Rattle.std.proofs.Common.{◌≡◌, ℕ, zero, suc, ◌<◌, List, [], ◌∷◌, ◌++◌, length, Ok, refl, sym, ap, subst, ◌∙◌, lit<, arith}
+use Rattle.std.proofs.Common.{◌≡◌, ℕ, ◌<◌, List, [], ◌∷◌, ◌++◌, length, Ok, refl, sym, subst, arith}
 use Rattle.std.specs.List.{AllByRecursion, flat_map}
 use Rattle.std.proofs.lemmas.List.Concat.{flat_map-cons}
-use Rattle.std.specs.Prelude.{IsTrue, Contains, nat_lt}
+use Rattle.std.specs.Prelude.{IsTrue, Contains, Some, nat_lt, slice_get}
 use Rattle.std.proofs.lemmas.Bool.{ltb-true, lt-ltb}
-use Rattle.std.proofs.lemmas.List.{append-nil}
-use Rattle.pw_value.specs.Fields.{checked, u32_at, choice_at, u8, u32, parts, FitsU8, FitsU32}
-use Rattle.pw_value.specs.FieldLaws.{AreBytes, Spells}
+use Rattle.pw_value.specs.Fields.{checked, u32_at, choice_at, u8, u32, FitsU8, FitsU32}
+use Rattle.pw_value.specs.FieldLaws.{Spells}
 use Rattle.pw_value.specs.FieldNames.{name_at, name_index, IsNameTable}
-use Rattle.pw_value.proofs.FieldLaws.{AreBytes-rest, found_is, after_passes, checked_spells, choice_spells, u32_spells, mapped_spells}
+use Rattle.pw_value.proofs.FieldLaws.{checked_spells, choice_spells, u32_spells}
 use Rattle.pw_value.proofs.FieldSteps.{finish, step, step_where, format}
 use Rattle.pw_value.proofs.NameLaws.{name_spells, AllUsed}
 use Rattle.pw_files.specs.Rising.{counted, counted_at, FitsList}
 use Rattle.pw_files.proofs.RisingLaws.{counted_spells, each_weaker, used_append, used_front, used_back}
+use Rattle.pw_flowops.specs.Reading.{one_of_at}
+use Rattle.pw_flowops.proofs.FieldChains.{Takes, takes_field, takes_done, again_field, chained}
+use Rattle.pw_flowops.proofs.ChoiceLaws.{Any, one_spells}
 use Rattle.pw_inst.specs.declared.relocation.FixKind.{FixKind}
 use Rattle.pw_inst.specs.declared.relocation.FixKind.TheVariants as kind
 use Rattle.pw_inst.specs.declared.relocation.Symbol.{Symbol}
 use Rattle.pw_inst.specs.declared.relocation.Symbol.TheVariants as symbol
 use Rattle.pw_inst.specs.declared.relocation.Fix.{Fix}
 use Rattle.pw_object.specs.declared.functions.ObjectFn.{ObjectFn}
-use Rattle.pw_object.specs.Functions.{IsSymbol, IsFix, IsFunction, kind_code, symbol_spelling, fix, function, names_of_symbol, names_of_function}
-use Rattle.pw_object.specs.Reading.{kind_of, kind_at, named_at, word_at, routine_at, symbol_of_form_at, symbol_at, fix_at, function_at}
+use Rattle.pw_object.specs.declared.functions.SymbolForm.{SymbolForm}
+use Rattle.pw_object.specs.declared.functions.SymbolForm.TheVariants as form
+use Rattle.pw_object.specs.Functions.{IsSymbol, IsFix, IsFunction, kind_code, form_number, symbol_spelling, fix, function, names_of_symbol, names_of_function}
+use Rattle.pw_object.specs.Reading.{fix_kinds, symbol_forms, named_at, word_at, routine_at, symbol_of_form_at, symbol_at, fix_at, function_at}
 
 -- ---- kinds
 
-code_again : (code : ℕ) → code < 3 → kind_code (kind_of code) ≡ code
-code_again zero h = refl
-code_again (suc zero) h = refl
-code_again (suc (suc zero)) h = refl
-code_again (suc (suc (suc code))) h = absurd (omega arith)
+kind_back : (k : FixKind) → slice_get fix_kinds (kind_code k) ≡ Some k
+kind_back kind.Ldil = refl
+kind_back kind.Im14 = refl
+kind_back kind.Bl = refl
 
-kind_back : (k : FixKind) → (kind_of (kind_code k) ≡ k) × FitsU8 (kind_code k) × IsTrue (nat_lt (kind_code k) 3)
-kind_back kind.Ldil = (refl, lit< tt, refl)
-kind_back kind.Im14 = (refl, lit< tt, refl)
-kind_back kind.Bl = (refl, lit< tt, refl)
-
-kind_spells : Spells (λ k. u8 (kind_code k)) (λ k. Unit {0}) kind_at
-unfolding kind_at
-kind_spells = mapped_spells u8 (λ b. FitsU8 b × IsTrue (nat_lt b 3)) (λ k. Unit {0}) (choice_at 3) kind_of kind_code (choice_spells 3)
-    (λ b fits. (code_again b (ltb-true _ _ fits.1), tt))
-    (λ k fits. let p = kind_back k in (p.0, (p.1, p.2)))
+kind_spells : Spells (λ k. u8 (kind_code k)) Any (one_of_at fix_kinds)
+kind_spells = one_spells kind_code fix_kinds (refl, (refl, (refl, tt))) kind_back
 
 -- ---- symbols
 
@@ -49,56 +44,44 @@ FitsSymbol names (symbol.Word word) = FitsU32 word
 FitsSymbol names symbol.StackLimit = Unit {0}
 FitsSymbol names (symbol.Routine number) = number < 5
 
-joined : (bytes between behind body : List ℕ) (code : ℕ) → bytes ≡ u8 code ++ between → between ≡ body ++ behind → bytes ≡ parts (u8 code ∷ body ∷ []) ++ behind
-joined bytes between behind body code p q = p ∙ ap (λ (w : List ℕ). u8 code ++ w) q ∙ simp append-nil
+abbrev IsRoutine : ℕ → Type 0
+IsRoutine number = FitsU8 number × IsTrue (nat_lt number 5)
 
-regrouped : (code : ℕ) (body rest : List ℕ) → parts (u8 code ∷ body ∷ []) ++ rest ≡ u8 code ++ (body ++ rest)
-regrouped code body rest = simp append-nil
+form_back : (f : SymbolForm) → slice_get symbol_forms (form_number f) ≡ Some f
+form_back form.Named = refl
+form_back form.Word = refl
+form_back form.StackLimit = refl
+form_back form.Routine = refl
 
-abbrev Takes : List (List ℕ) → List ℕ → Symbol → List ℕ → Type 0
-Takes names bytes x rest = (bytes ≡ symbol_spelling names x ++ rest) × FitsSymbol names x
+form_spells : Spells (λ f. u8 (form_number f)) Any (one_of_at symbol_forms)
+form_spells = one_spells form_number symbol_forms (refl, (refl, (refl, (refl, tt)))) form_back
 
-takes_form : (names : List (List ℕ)) → IsNameTable names → (form : ℕ) → form < 4 → (bytes between : List ℕ) (x : Symbol) (rest : List ℕ) → AreBytes between → bytes ≡ u8 form ++ between → symbol_of_form_at names form between ≡ Ok (x, rest) → Takes names bytes x rest
+-- the text of a symbol behind its form
+symbol_take : (names : List (List ℕ)) → IsNameTable names → (f : SymbolForm) → Takes (λ text rest s. (u8 (form_number f) ++ text ≡ symbol_spelling names s) × FitsSymbol names s) (symbol_of_form_at names f)
 unfolding named_at word_at routine_at
-takes_form names table zero lt bytes between x rest fits p e =
-    let a = after_passes (name_at names between) (λ name behind. Ok (symbol.Named name, behind)) x rest e in
-    let q = found_is (symbol.Named a.0) x a.1 rest a.3 in
-    let t = (name_spells names table).takes between a.0 a.1 fits a.2 in
-    subst (λ y. Takes names bytes y rest) q.0 (joined bytes between rest (name_index names a.0) 0 p (t.0 ∙ ap (λ (w : List ℕ). name_index names a.0 ++ w) q.1), t.1)
-takes_form names table (suc zero) lt bytes between x rest fits p e =
-    let a = after_passes (u32_at between) (λ word behind. Ok (symbol.Word word, behind)) x rest e in
-    let q = found_is (symbol.Word a.0) x a.1 rest a.3 in
-    let t = u32_spells.takes between a.0 a.1 fits a.2 in
-    subst (λ y. Takes names bytes y rest) q.0 (joined bytes between rest (u32 a.0) 1 p (t.0 ∙ ap (λ (w : List ℕ). u32 a.0 ++ w) q.1), t.1)
-takes_form names table (suc (suc zero)) lt bytes between x rest fits p e =
-    let q = found_is symbol.StackLimit x between rest e in
-    subst (λ y. Takes names bytes y rest) q.0 (p ∙ ap (λ (w : List ℕ). u8 2 ++ w) q.1, tt)
-takes_form names table (suc (suc (suc zero))) lt bytes between x rest fits p e =
-    let a = after_passes (choice_at 5 between) (λ number behind. Ok (symbol.Routine number, behind)) x rest e in
-    let q = found_is (symbol.Routine a.0) x a.1 rest a.3 in
-    let t = (choice_spells 5).takes between a.0 a.1 fits a.2 in
-    subst (λ y. Takes names bytes y rest) q.0 (joined bytes between rest (u8 a.0) 3 p (t.0 ∙ ap (λ (w : List ℕ). u8 a.0 ++ w) q.1), ltb-true _ _ t.1.1)
-takes_form names table (suc (suc (suc (suc form)))) lt bytes between x rest fits p e = absurd (omega arith)
+symbol_take names table form.Named = takes_field _ (name_index names) (Contains names) (name_at names) _ (name_spells names table) (λ name h. takes_done _ (symbol.Named name) (λ rest. (refl, h)))
+symbol_take names table form.Word = takes_field _ u32 FitsU32 u32_at _ u32_spells (λ word h. takes_done _ (symbol.Word word) (λ rest. (refl, h)))
+symbol_take names table form.StackLimit = takes_done _ symbol.StackLimit (λ rest. (refl, tt))
+symbol_take names table form.Routine = takes_field _ u8 IsRoutine (choice_at 5) _ (choice_spells 5) (λ number h. takes_done _ (symbol.Routine number) (λ rest. (refl, ltb-true _ _ h.1)))
 
-symbol_takes : (names : List (List ℕ)) → IsNameTable names → (bytes : List ℕ) (x : Symbol) (rest : List ℕ) → AreBytes bytes → symbol_at names bytes ≡ Ok (x, rest) → Takes names bytes x rest
-unfolding symbol_at
-symbol_takes names table bytes x rest fits e =
-    let a = after_passes (choice_at 4 bytes) (symbol_of_form_at names) x rest e in
-    let t = (choice_spells 4).takes bytes a.0 a.1 fits a.2 in
-    takes_form names table a.0 (ltb-true _ _ t.1.1) bytes a.1 x rest (AreBytes-rest bytes (u8 a.0) a.1 fits t.0) t.0 a.3
-
-symbol_again : (names : List (List ℕ)) → IsNameTable names → (x : Symbol) (rest : List ℕ) → FitsSymbol names x → symbol_at names (symbol_spelling names x ++ rest) ≡ Ok (x, rest)
+symbol_again : (names : List (List ℕ)) → IsNameTable names → (s : Symbol) (rest : List ℕ) → FitsSymbol names s → symbol_at names (symbol_spelling names s ++ rest) ≡ Ok (s, rest)
 unfolding symbol_at named_at word_at routine_at
-symbol_again names table (symbol.Named name) rest fits =
-    ap (symbol_at names) (regrouped 0 (name_index names name) rest) ∙ rw ((choice_spells 4).again 0 (name_index names name ++ rest) (lit< tt, refl), (name_spells names table).again name rest fits) refl
-symbol_again names table (symbol.Word word) rest fits =
-    ap (symbol_at names) (regrouped 1 (u32 word) rest) ∙ rw ((choice_spells 4).again 1 (u32 word ++ rest) (lit< tt, refl), u32_spells.again word rest fits) refl
-symbol_again names table symbol.StackLimit rest fits = rw ((choice_spells 4).again 2 rest (lit< tt, refl)) refl
-symbol_again names table (symbol.Routine number) rest fits =
-    ap (symbol_at names) (regrouped 3 (u8 number) rest) ∙ rw ((choice_spells 4).again 3 (u8 number ++ rest) (lit< tt, refl), (choice_spells 5).again number rest (omega (arith, fits), lt-ltb _ _ fits)) refl
+symbol_again names table (symbol.Named name) rest h =
+    again_field (λ f. u8 (form_number f)) Any (one_of_at symbol_forms) _ form_spells form.Named tt (name_index names name ++ []) rest (symbol.Named name)
+    (again_field (name_index names) (Contains names) (name_at names) _ (name_spells names table) name h [] rest (symbol.Named name) refl)
+symbol_again names table (symbol.Word word) rest h =
+    again_field (λ f. u8 (form_number f)) Any (one_of_at symbol_forms) _ form_spells form.Word tt (u32 word ++ []) rest (symbol.Word word)
+    (again_field u32 FitsU32 u32_at _ u32_spells word h [] rest (symbol.Word word) refl)
+symbol_again names table symbol.StackLimit rest h = again_field (λ f. u8 (form_number f)) Any (one_of_at symbol_forms) _ form_spells form.StackLimit tt [] rest symbol.StackLimit refl
+symbol_again names table (symbol.Routine number) rest h =
+    again_field (λ f. u8 (form_number f)) Any (one_of_at symbol_forms) _ form_spells form.Routine tt (u8 number ++ []) rest (symbol.Routine number)
+    (again_field u8 IsRoutine (choice_at 5) _ (choice_spells 5) number (omega (arith, h), lt-ltb _ _ h) [] rest (symbol.Routine number) refl)
 
 symbol_spells : (names : List (List ℕ)) → IsNameTable names → Spells (symbol_spelling names) (FitsSymbol names) (symbol_at names)
-symbol_spells names table = record { takes = symbol_takes names table; again = symbol_again names table }
+unfolding symbol_at
+symbol_spells names table = chained (symbol_spelling names) (FitsSymbol names) _
+    (takes_field _ (λ f. u8 (form_number f)) Any (one_of_at symbol_forms) _ form_spells (λ f h. symbol_take names table f))
+    (symbol_again names table)
 
 -- ---- fixes
 
@@ -109,7 +92,7 @@ pub fix_spells : (names : List (List ℕ)) → IsNameTable names → (words : �
 unfolding fix_at
 fix_spells names table words = format (fix names) (FitsFix names words) (fix names) (FitsFix names words) _
     (step _ _ u32 (λ w. FitsU32 w × IsTrue (nat_lt w words)) (checked (λ w. nat_lt w words) u32_at) _ _ _ (λ f. f.word) (checked_spells u32 FitsU32 u32_at (λ w. nat_lt w words) u32_spells)
-    (λ word word_fits. step _ _ (λ k. u8 (kind_code k)) (λ k. Unit {0}) kind_at _ _ _ (λ f. f.kind) kind_spells
+    (λ word word_fits. step _ _ (λ k. u8 (kind_code k)) Any (one_of_at fix_kinds) _ _ _ (λ f. f.kind) kind_spells
     (λ k kind_fits. step _ _ (symbol_spelling names) (FitsSymbol names) (symbol_at names) _ _ _ (λ f. f.symbol) (symbol_spells names table)
     (λ s symbol_fits. step _ _ u32 FitsU32 u32_at _ _ _ (λ f. f.addend) u32_spells
     (λ addend addend_fits. finish _ (record { word = word; kind = k; symbol = s; addend = addend }) ((((tt, refl), refl), refl), refl) (λ f h. sym (λ j. record { word = h.0.0.0.1 j; kind = h.0.0.1 j; symbol = h.0.1 j; addend = h.1 j })))))))

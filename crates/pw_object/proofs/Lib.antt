@@ -1,5 +1,4 @@
 pub mod FunctionLaws
 pub mod ObjectLaws
 pub mod WritingLemmas
-mod ReadingLemmas
 mod ObjectFaults

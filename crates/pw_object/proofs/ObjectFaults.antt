@@ -1,5 +1,5 @@
 -- A fault of an object file's fields rests on the bytes up to the faulty field's end.
-use Rattle.std.proofs.Common.{ℕ, zero, suc, List, length}
+use Rattle.std.proofs.Common.{ℕ, List, length}
 use Rattle.std.specs.Prelude.{Option, None}
 use Rattle.pw_value.specs.declared.program_names.StartName.TheVariants.{Allowed}
 use Rattle.pw_value.specs.Fields.{u32_at, text_at, choice_at}
@@ -9,20 +9,19 @@ use Rattle.pw_files.specs.Rising.{counted_at}
 use Rattle.pw_files.specs.Names.{name_list_at, shaped_list_at}
 use Rattle.pw_files.specs.Contents.{Contents, value_of}
 use Rattle.pw_files.specs.Faults.{FaultsStay}
-use Rattle.pw_files.proofs.OnwardLaws.{Onward, OneField, one_onward, behind, done_onward, here_onward, ended_onward, checked_one, mapped_one, choice_one, u32_one, text_one, name_one, counted_onward, name_list_onward, shaped_list_onward}
+use Rattle.pw_files.proofs.OnwardLaws.{Onward, one_onward, behind, done_onward, here_onward, ended_onward, checked_one, mapped_one, choice_one, u32_one, text_one, name_one, counted_onward, name_list_onward, shaped_list_onward}
 use Rattle.pw_files.proofs.FaultLaws.{Keeps, keeps_behind, keeps_ended, contents_onward, contents_keep}
 use Rattle.pw_files.proofs.FaultLaws as files
 use Rattle.pw_inst.specs.declared.relocation.Symbol.TheVariants as symbol
 use Rattle.pw_flow.specs.declared.flow.FlowGlobal.{FlowGlobal}
+use Rattle.pw_flowops.proofs.OnwardLaws.{choice_of_one}
 use Rattle.pw_flowfile.proofs.FlowFaults.{global_body_onward}
 use Rattle.pw_object.specs.declared.functions.ObjectFn.{ObjectFn}
+use Rattle.pw_object.specs.declared.functions.SymbolForm.{SymbolForm}
+use Rattle.pw_object.specs.declared.functions.SymbolForm.TheVariants as form
 use Rattle.pw_object.specs.declared.object.Object.{Object}
 use Rattle.pw_object.specs.Object.{kind, object_version}
-use Rattle.pw_object.specs.Reading.{kind_of, kind_at, named_at, word_at, routine_at, symbol_of_form_at, symbol_at, fix_at, function_at, global_at, last_rules, fields_at, object_file_at}
-
-kind_one : OneField kind_at
-unfolding kind_at
-kind_one = mapped_one (choice_at 3) kind_of (choice_one 3)
+use Rattle.pw_object.specs.Reading.{fix_kinds, symbol_forms, named_at, word_at, routine_at, symbol_of_form_at, symbol_at, fix_at, function_at, global_at, last_rules, fields_at, object_file_at}
 
 named_onward : (names : List (List ℕ)) → Onward (named_at names)
 unfolding named_at
@@ -36,20 +35,20 @@ routine_onward : Onward routine_at
 unfolding routine_at
 routine_onward = one_onward _ (mapped_one (choice_at 5) symbol.Routine (choice_one 5))
 
-form_onward : (names : List (List ℕ)) (form : ℕ) → Onward (symbol_of_form_at names form)
-form_onward names zero = named_onward names
-form_onward names (suc zero) = word_onward
-form_onward names (suc (suc zero)) = done_onward symbol.StackLimit
-form_onward names (suc (suc (suc form))) = routine_onward
+form_onward : (names : List (List ℕ)) (f : SymbolForm) → Onward (symbol_of_form_at names f)
+form_onward names form.Named = named_onward names
+form_onward names form.Word = word_onward
+form_onward names form.StackLimit = done_onward symbol.StackLimit
+form_onward names form.Routine = routine_onward
 
 symbol_onward : (names : List (List ℕ)) → Onward (symbol_at names)
 unfolding symbol_at
-symbol_onward names = behind _ _ (one_onward _ (choice_one 4)) (λ form. form_onward names form)
+symbol_onward names = behind _ _ (one_onward _ (choice_of_one symbol_forms)) (λ f. form_onward names f)
 
 fix_onward : (names : List (List ℕ)) (words : ℕ) → Onward (fix_at names words)
 unfolding fix_at
 fix_onward names words =
-    behind _ _ (one_onward _ (checked_one _ u32_at u32_one)) (λ word. behind _ _ (one_onward _ kind_one) (λ kind. behind _ _ (symbol_onward names) (λ symbol. behind _ _ (one_onward _ u32_one) (λ addend. done_onward _))))
+    behind _ _ (one_onward _ (checked_one _ u32_at u32_one)) (λ word. behind _ _ (one_onward _ (choice_of_one fix_kinds)) (λ kind. behind _ _ (symbol_onward names) (λ symbol. behind _ _ (one_onward _ u32_one) (λ addend. done_onward _))))
 
 function_onward : (names : List (List ℕ)) → Onward (function_at names)
 unfolding function_at

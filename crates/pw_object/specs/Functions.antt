@@ -10,6 +10,8 @@ use Rattle.pw_inst.specs.declared.relocation.Symbol.{Symbol}
 use Rattle.pw_inst.specs.declared.relocation.Symbol.TheVariants as symbol
 use Rattle.pw_inst.specs.declared.relocation.Fix.{Fix}
 use Rattle.pw_object.specs.declared.functions.ObjectFn.{ObjectFn}
+use Rattle.pw_object.specs.declared.functions.SymbolForm.{SymbolForm}
+use Rattle.pw_object.specs.declared.functions.SymbolForm.TheVariants as form
 
 -- ---- the rules
 
@@ -39,11 +41,21 @@ kind_code kind.Ldil = 0
 kind_code kind.Im14 = 1
 kind_code kind.Bl = 2
 
+abbrev pub form_number : SymbolForm → ℕ
+form_number form.Named = 0
+form_number form.Word = 1
+form_number form.StackLimit = 2
+form_number form.Routine = 3
+
+-- the byte at the front of a symbol
+abbrev pub form_byte : SymbolForm → List ℕ
+form_byte f = u8 (form_number f)
+
 abbrev pub symbol_spelling : List (List ℕ) → Symbol → List ℕ
-symbol_spelling names (symbol.Named name) = parts (u8 0 ∷ name_index names name ∷ [])
-symbol_spelling names (symbol.Word word) = parts (u8 1 ∷ u32 word ∷ [])
-symbol_spelling names symbol.StackLimit = u8 2
-symbol_spelling names (symbol.Routine number) = parts (u8 3 ∷ u8 number ∷ [])
+symbol_spelling names (symbol.Named name) = parts (form_byte form.Named ∷ name_index names name ∷ [])
+symbol_spelling names (symbol.Word word) = parts (form_byte form.Word ∷ u32 word ∷ [])
+symbol_spelling names symbol.StackLimit = form_byte form.StackLimit
+symbol_spelling names (symbol.Routine number) = parts (form_byte form.Routine ∷ u8 number ∷ [])
 
 abbrev pub fix : List (List ℕ) → Fix → List ℕ
 fix names f = parts (u32 f.word ∷ u8 (kind_code f.kind) ∷ symbol_spelling names f.symbol ∷ u32 f.addend ∷ [])

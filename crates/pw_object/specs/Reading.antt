@@ -1,5 +1,5 @@
 -- Reading an object file from left to right, with the first fault that is met.
-use Rattle.std.specs.Prelude.{ℕ, zero, suc, nat_lt, List, length, Option, Result}
+use Rattle.std.specs.Prelude.{ℕ, nat_lt, List, [], ◌∷◌, length, Option, Result}
 use Rattle.pw_value.specs.Fields.{◌>>=◌, done, checked, u32_at, text_at, choice_at}
 use Rattle.pw_value.specs.FieldFrame.{here, ended}
 use Rattle.pw_value.specs.FieldNames.{name_at}
@@ -8,6 +8,7 @@ use Rattle.pw_files.specs.Names.{name_list_at, shaped_list_at}
 use Rattle.pw_files.specs.Contents.{Contents, module_rules, contents_file_at}
 use Rattle.pw_value.specs.declared.program_names.StartName.TheVariants.{Allowed}
 use Rattle.pw_flow.specs.declared.flow.FlowGlobal.{FlowGlobal}
+use Rattle.pw_flowops.specs.Reading.{one_of_at}
 use Rattle.pw_flowfile.specs.Reading.{global_body_at}
 use Rattle.pw_inst.specs.declared.relocation.FixKind.{FixKind}
 use Rattle.pw_inst.specs.declared.relocation.FixKind.TheVariants as kind
@@ -15,19 +16,18 @@ use Rattle.pw_inst.specs.declared.relocation.Symbol.{Symbol}
 use Rattle.pw_inst.specs.declared.relocation.Symbol.TheVariants as symbol
 use Rattle.pw_inst.specs.declared.relocation.Fix.{Fix}
 use Rattle.pw_object.specs.declared.functions.ObjectFn.{ObjectFn}
+use Rattle.pw_object.specs.declared.functions.SymbolForm.{SymbolForm}
+use Rattle.pw_object.specs.declared.functions.SymbolForm.TheVariants as form
 use Rattle.pw_object.specs.declared.object.Object.{Object}
 use Rattle.pw_object.specs.Object.{object_version, global_names, function_names, names_of}
 use Rattle.pw_object.specs.Object.{kind as kind_of_file}
 
-abbrev pub kind_of : ℕ → FixKind
-kind_of zero = kind.Ldil
-kind_of (suc zero) = kind.Im14
-kind_of (suc (suc code)) = kind.Bl
+-- in the order of their bytes
+abbrev pub fix_kinds : List FixKind
+fix_kinds = kind.Ldil ∷ kind.Im14 ∷ kind.Bl ∷ []
 
-unfoldable pub kind_at : List ℕ → Result (FixKind × List ℕ) ℕ
-kind_at = do
-  code ← choice_at 3
-  done (kind_of code)
+abbrev pub symbol_forms : List SymbolForm
+symbol_forms = form.Named ∷ form.Word ∷ form.StackLimit ∷ form.Routine ∷ []
 
 -- a name, a word of the function, the end of the stack, or a routine
 unfoldable pub named_at : List (List ℕ) → List ℕ → Result (Symbol × List ℕ) ℕ
@@ -45,22 +45,20 @@ routine_at = do
   number ← choice_at 5
   done (symbol.Routine number)
 
-abbrev pub symbol_of_form_at : List (List ℕ) → ℕ → List ℕ → Result (Symbol × List ℕ) ℕ
-symbol_of_form_at names zero = named_at names
-symbol_of_form_at names (suc zero) = word_at
-symbol_of_form_at names (suc (suc zero)) = done symbol.StackLimit
-symbol_of_form_at names (suc (suc (suc form))) = routine_at
+abbrev pub symbol_of_form_at : List (List ℕ) → SymbolForm → List ℕ → Result (Symbol × List ℕ) ℕ
+symbol_of_form_at names form.Named = named_at names
+symbol_of_form_at names form.Word = word_at
+symbol_of_form_at names form.StackLimit = done symbol.StackLimit
+symbol_of_form_at names form.Routine = routine_at
 
 unfoldable pub symbol_at : List (List ℕ) → List ℕ → Result (Symbol × List ℕ) ℕ
-symbol_at names = do
-  form ← choice_at 4
-  symbol_of_form_at names form
+symbol_at names = one_of_at symbol_forms >>= λ f. symbol_of_form_at names f
 
 -- a fix of a function of so many words
 unfoldable pub fix_at : List (List ℕ) → ℕ → List ℕ → Result (Fix × List ℕ) ℕ
 fix_at names words = do
   word ← checked (λ w. nat_lt w words) u32_at
-  kind ← kind_at
+  kind ← one_of_at fix_kinds
   symbol ← symbol_at names
   addend ← u32_at
   done (record { word = word; kind = kind; symbol = symbol; addend = addend })

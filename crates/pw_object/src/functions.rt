@@ -4,9 +4,10 @@ ghost use Rattle.std.specs.Prelude.{◌≡◌, ◌≢◌, List, length, IfErr};
 ghost use Rattle.pw_value.specs.Fields.{u32_at, repeated};
 ghost use Rattle.pw_value.specs.FieldFaults.{Gives};
 ghost use Rattle.pw_files.specs.Rising.{counted_at};
-ghost use Rattle.pw_object.specs.Reading.{kind_at, named_at, word_at, routine_at, symbol_of_form_at, symbol_at, fix_at, function_at};
+ghost use Rattle.pw_flowops.specs.Reading.{one_of_at};
+ghost use Rattle.pw_object.specs.Reading.{fix_kinds, symbol_forms, named_at, word_at, routine_at, symbol_of_form_at, symbol_at, fix_at, function_at};
 
-use pw_flowops::read_below;
+use pw_flowops::{read_below, read_one_of};
 use pw_inst::{Fix, FixKind, Symbol};
 use pw_items::Items;
 use pw_value::Name;
@@ -23,19 +24,38 @@ pub struct ObjectFn {
     pub fixes: Items<Fix>,
 }
 
+/// Which symbol follows, in the order of their bytes.
+#[derive(Clone, Copy)]
+pub enum SymbolForm {
+    Named,
+    Word,
+    StackLimit,
+    Routine,
+}
+
+const SYMBOL_FORMS: [SymbolForm; 4] = [
+    SymbolForm::Named,
+    SymbolForm::Word,
+    SymbolForm::StackLimit,
+    SymbolForm::Routine,
+];
+
+const FIX_KINDS: [FixKind; 3] = [FixKind::Ldil, FixKind::Im14, FixKind::Bl];
+
 /// A fix's kind.
-#[tactic(auto, unfolding(crate::specs::Reading::kind_at))]
 fn read_kind(bytes: &[u8]) -> Result<(FixKind, &[u8]), FieldError>
-    ensures found { Gives (λ x. (x.0, x.1.now)) result (kind_at bytes.now) }
+    ensures found { Gives (λ x. (x.0, x.1.now)) result (one_of_at fix_kinds bytes.now) }
     ensures no_memory { IfErr result (λ e. e ≢ FieldError.NoMemory) }
 {
-    let (code, rest) = read_choice(3, bytes)?;
-    let kind = match code {
-        0 => FixKind::Ldil,
-        1 => FixKind::Im14,
-        _ => FixKind::Bl,
-    };
-    Ok((kind, rest))
+    read_one_of(&FIX_KINDS, bytes)
+}
+
+/// Which symbol follows.
+fn read_form(bytes: &[u8]) -> Result<(SymbolForm, &[u8]), FieldError>
+    ensures found { Gives (λ x. (x.0, x.1.now)) result (one_of_at symbol_forms bytes.now) }
+    ensures no_memory { IfErr result (λ e. e ≢ FieldError.NoMemory) }
+{
+    read_one_of(&SYMBOL_FORMS, bytes)
 }
 
 /// A symbol that is a name.
@@ -80,12 +100,12 @@ fn read_symbol<'a>(
 ) -> Result<(Symbol, &'a [u8]), FieldError>
     ensures { Gives (λ x. (x.0, x.1.now)) result (symbol_at names.now bytes.now) }
 {
-    let (form, rest) = read_choice(4, bytes)?;
+    let (form, rest) = read_form(bytes)?;
     match form {
-        0 => read_named(alloc, names, rest),
-        1 => read_word(rest),
-        2 => Ok((Symbol::StackLimit, rest)),
-        _ => read_routine(rest),
+        SymbolForm::Named => read_named(alloc, names, rest),
+        SymbolForm::Word => read_word(rest),
+        SymbolForm::StackLimit => Ok((Symbol::StackLimit, rest)),
+        SymbolForm::Routine => read_routine(rest),
     }
 }
 

@@ -170,23 +170,6 @@ fn check_last(
     check_start_beside_main(alloc, object, count)
 }
 
-/// The object behind the table of names.
-fn read_fields<'a>(
-    alloc: Global,
-    names: &[Name],
-    bytes: &'a [u8],
-) -> Result<(Object, &'a [u8]), FieldError>
-    requires { length (flat_map text names.now) + length bytes.now < 2 ^ 64 }
-    ensures { Gives (λ x. (record { names = names.now; value = x.0 }, x.1.now)) result (fields_at names.now (last_rules names.now (length bytes.now)) bytes.now) }
-{
-    let (object, count, rest) = read_parts(alloc, names, bytes)?;
-    if !rest.is_empty() {
-        return Err(FieldError::Fault { left: rest.len() });
-    }
-    check_last(alloc, names, &object, bytes.len(), count)?;
-    Ok((object, rest))
-}
-
 /// Object files, which are read as all files of the compiler are.
 struct ObjectFormat;
 
@@ -205,12 +188,22 @@ impl Format for ObjectFormat {
 
     ghost late = { last_rules };
 
-    fn read_fields<'a>(
+    fn read_parts<'a>(
         alloc: Global,
         names: &[Name],
         bytes: &'a [u8],
-    ) -> Result<(Object, &'a [u8]), FieldError> {
-        read_fields(alloc, names, bytes)
+    ) -> Result<(Object, usize, &'a [u8]), FieldError> {
+        read_parts(alloc, names, bytes)
+    }
+
+    fn check_late(
+        alloc: Global,
+        names: &[Name],
+        value: &Object,
+        behind: usize,
+        place: usize,
+    ) -> Result<(), FieldError> {
+        check_last(alloc, names, value, behind, place)
     }
 }
 

@@ -10,7 +10,7 @@ ghost use Rattle.pw_flowfile.specs.FlowFile.{global as global_text, all_in_globa
 ghost use Rattle.pw_object.specs.Functions.{IsSymbolNamed, IsFunctionNamed, kind_code, symbol_spelling, fix as fix_text, function as function_text};
 ghost use Rattle.pw_object.specs.Object.{IsObject, IsObjectFile, IsNamedBy, FitsFunction, FitsObject, own, code, spelling};
 
-use crate::functions::ObjectFn;
+use crate::functions::{ObjectFn, SymbolForm};
 use crate::names::used_names;
 use crate::object::{Object, VERSION};
 use crate::reading::KIND;
@@ -34,16 +34,16 @@ fn push_symbol(out: &mut Vec<u8>, names: &[Name], symbol: &Symbol) -> Result<(),
 {
     match symbol {
         Symbol::Named(name) => {
-            push_u8(out, 0)?;
+            push_u8(out, SymbolForm::Named as u8)?;
             push_name(out, names, name)
         }
         Symbol::Word(word) => {
-            push_u8(out, 1)?;
+            push_u8(out, SymbolForm::Word as u8)?;
             push_u32(out, *word)
         }
-        Symbol::StackLimit => push_u8(out, 2),
+        Symbol::StackLimit => push_u8(out, SymbolForm::StackLimit as u8),
         Symbol::Routine(number) => {
-            push_u8(out, 3)?;
+            push_u8(out, SymbolForm::Routine as u8)?;
             push_u8(out, *number)
         }
     }

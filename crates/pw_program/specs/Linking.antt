@@ -7,7 +7,7 @@ use Rattle.std.specs.Ordering.{nat_cmp}
 use Rattle.std.specs.Cmp.Lexicographic.{slice_cmp}
 use Rattle.std.specs.declared.cmp.Ordering.TheVariants.{Less}
 use Rattle.pw_value.specs.Limits.{function_limit, global_limit}
-use Rattle.pw_value.specs.ProgramNames.{library_name, library_functions, exit_name, getchar_name, putchar_name, IsOrdinary}
+use Rattle.pw_value.specs.ProgramNames.{library_name, library_functions, exit_name, getchar_name, putchar_name, main_shape, exit_shape, getchar_shape, putchar_shape, IsOrdinary}
 use Rattle.pw_value.specs.Shapes.{Agree}
 use Rattle.pw_value.specs.declared.fault.LinkFault.{LinkFault}
 use Rattle.pw_value.specs.declared.fault.LinkFault.TheVariants as F
@@ -16,16 +16,12 @@ use Rattle.pw_program.specs.declared.interface.Interface.{Interface}
 
 -- ---- the names of a program
 
--- void exit(int), int getchar(void), int putchar(int)
+-- the library's functions, each with its shape
 abbrev pub library_declarations : List (List ℕ × List ℕ)
-library_declarations = (exit_name, 102 ∷ 118 ∷ 105 ∷ []) ∷ (getchar_name, 102 ∷ 105 ∷ []) ∷ (putchar_name, 102 ∷ 105 ∷ 105 ∷ []) ∷ []
+library_declarations = (exit_name, exit_shape) ∷ (getchar_name, getchar_shape) ∷ (putchar_name, putchar_shape) ∷ []
 
 abbrev pub library : Interface
 library = record { «module» = library_name; functions = library_functions; globals = []; declared = library_declarations; used = []; main = None }
-
--- int main(void)
-abbrev pub main_shape : List ℕ
-main_shape = 102 ∷ 105 ∷ []
 
 abbrev pub names_in : Interface → List (List ℕ)
 names_in i = i.functions ++ i.globals

@@ -6,7 +6,9 @@ ghost use Rattle.pw_value.specs.ProgramNames.{library_functions};
 
 use crate::interface::Interface;
 use pw_items::Items;
-use pw_value::program_names::{EXIT, GETCHAR, LIBRARY, PUTCHAR};
+use pw_value::program_names::{
+    EXIT, EXIT_SHAPE, GETCHAR, GETCHAR_SHAPE, LIBRARY, PUTCHAR, PUTCHAR_SHAPE,
+};
 use pw_value::{Name, Shape};
 use std::alloc::{AllocError, Global};
 
@@ -49,9 +51,9 @@ fn declarations(alloc: Global) -> Result<Items<(Name, Shape)>, AllocError>
     ensures { IfOk result (λ declared. declared ≡ library_declarations) }
 {
     let mut declared = Items::new(alloc);
-    declare(alloc, &mut declared, EXIT, b"fvi")?;
-    declare(alloc, &mut declared, GETCHAR, b"fi")?;
-    declare(alloc, &mut declared, PUTCHAR, b"fii")?;
+    declare(alloc, &mut declared, EXIT, EXIT_SHAPE)?;
+    declare(alloc, &mut declared, GETCHAR, GETCHAR_SHAPE)?;
+    declare(alloc, &mut declared, PUTCHAR, PUTCHAR_SHAPE)?;
     Ok(declared)
 }
 

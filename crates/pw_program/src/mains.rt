@@ -1,12 +1,11 @@
 //! Whether there is a `main`.
 
 ghost use Rattle.std.specs.Prelude.{◌≡◌, ◌↔◌, IsTrue, Some};
-ghost use Rattle.pw_program.specs.Linking.{HasMain, main_shape};
+ghost use Rattle.pw_value.specs.ProgramNames.{main_shape};
+ghost use Rattle.pw_program.specs.Linking.{HasMain};
 
 use crate::interface::Interface;
-
-/// The shape of `int main(void)`.
-const MAIN_SHAPE: &[u8] = b"fi";
+use pw_value::program_names::MAIN_SHAPE;
 
 /// Whether a module defines `main` as a function of no parameters that returns an int.
 fn is_main_in(each: &Interface) -> bool

@@ -105,18 +105,18 @@ run_none built budget input answer t0 t1 e p = record {
   found = λ d. (codes "no image\n", subst (λ (b : Option (List ℕ)). RunComes b budget input (codes "no image\n")) (sym e) refl);
 }
 
-image_output : (budget : ℕ) (input image : List ℕ) (core : Core) (answer : Answer) (t0 t1 : Option (List ℕ)) (output : List ℕ) → ((c : Contents) → IsImageFile image c → core ≡ image_start c.image.memory) → PutsOut (ran_text (runs_as budget input core)) answer t0 t1
+image_output : (budget : ℕ) (input image : List ℕ) (core : Core) (answer : Answer) (t0 t1 : Option (List ℕ)) (output : List ℕ) → ((c : Contents ImageValue) → IsImageFile image c → core ≡ image_start c.value.memory) → PutsOut (ran_text (runs_as budget input core)) answer t0 t1
     → RunComes (Some image) budget input output → PutsOut output answer t0 t1
 image_output budget input image core answer t0 t1 output same p h =
     subst (λ (o : List ℕ). PutsOut o answer t0 t1) (ap (λ (k : Core). ran_text (runs_as budget input k)) (same h.0 h.1) ∙ sym h.2) p
 
-pub run_some : (built : Option (List ℕ)) (budget : ℕ) (input image : List ℕ) (core : Core) (answer : Answer) (t0 t1 : Option (List ℕ)) → built ≡ Some image → ((c : Contents) → IsImageFile image c → core ≡ image_start c.image.memory)
-    → (c : Contents) × IsImageFile image c → PutsOut (ran_text (runs_as budget input core)) answer t0 t1 → ObeysRun built budget input answer t0 t1
+pub run_some : (built : Option (List ℕ)) (budget : ℕ) (input image : List ℕ) (core : Core) (answer : Answer) (t0 t1 : Option (List ℕ)) → built ≡ Some image → ((c : Contents ImageValue) → IsImageFile image c → core ≡ image_start c.value.memory)
+    → (c : Contents ImageValue) × IsImageFile image c → PutsOut (ran_text (runs_as budget input core)) answer t0 t1 → ObeysRun built budget input answer t0 t1
 run_some built budget input image core answer t0 t1 e same found p = record {
   output = λ output h. image_output budget input image core answer t0 t1 output same p (subst (λ (b : Option (List ℕ)). RunComes b budget input output) e h);
   found = λ d. (
-    ran_text (runs_as budget input (image_start found.0.image.memory)),
-    subst (λ (b : Option (List ℕ)). RunComes b budget input (ran_text (runs_as budget input (image_start found.0.image.memory)))) (sym e) (found.0, found.1, refl),
+    ran_text (runs_as budget input (image_start found.0.value.memory)),
+    subst (λ (b : Option (List ℕ)). RunComes b budget input (ran_text (runs_as budget input (image_start found.0.value.memory)))) (sym e) (found.0, found.1, refl),
   );
 }
 

@@ -231,7 +231,7 @@ fn read_used<'a>(
 
 /// The fields of the summary, behind the table of names: the summary, how many bytes are left from the
 /// count of its functions on, and what is left behind it.
-fn read_fields<'a>(
+fn read_parts<'a>(
     alloc: Global,
     names: &[Name],
     bytes: &'a [u8],
@@ -244,23 +244,6 @@ fn read_fields<'a>(
     let (used, rest) = read_used(alloc, names, defined.functions.len(), rest)?;
     let name = module.copy(alloc)?;
     Ok((summary_of(name, defined, used), count, rest))
-}
-
-/// The summary behind the table of names.
-fn read_summary<'a>(
-    alloc: Global,
-    names: &[Name],
-    bytes: &'a [u8],
-) -> Result<(Summary, &'a [u8]), FieldError>
-    requires { length (flat_map text names.now) + length bytes.now < 2 ^ 64 }
-    ensures { Gives (λ x. (record { names = names.now; value = x.0 }, x.1.now)) result (fields_at names.now (last_rules names.now (length bytes.now)) bytes.now) }
-{
-    let (summary, count, rest) = read_fields(alloc, names, bytes)?;
-    if !rest.is_empty() {
-        return Err(FieldError::Fault { left: rest.len() });
-    }
-    check_last(alloc, names, &summary, bytes.len(), count)?;
-    Ok((summary, rest))
 }
 
 /// The rules that are looked at last: each name of the table is used, where so many bytes are left behind
@@ -299,12 +282,22 @@ impl Format for SummaryFormat {
 
     ghost late = { last_rules };
 
-    fn read_fields<'a>(
+    fn read_parts<'a>(
         alloc: Global,
         names: &[Name],
         bytes: &'a [u8],
-    ) -> Result<(Summary, &'a [u8]), FieldError> {
-        read_summary(alloc, names, bytes)
+    ) -> Result<(Summary, usize, &'a [u8]), FieldError> {
+        read_parts(alloc, names, bytes)
+    }
+
+    fn check_late(
+        alloc: Global,
+        names: &[Name],
+        value: &Summary,
+        behind: usize,
+        place: usize,
+    ) -> Result<(), FieldError> {
+        check_last(alloc, names, value, behind, place)
     }
 }
 

@@ -2,7 +2,7 @@
 use Rattle.std.proofs.Common.{◌≡◌, ℕ, zero, suc, ◌+◌, ◌-◌, ◌<◌, ◌≤◌, Bool, true, false, ◌||◌, List, [], ◌∷◌, length, slice_index_or, set, refl, ap, arith, sym, ◌∙◌, subst, add-one}
 use Rattle.std.specs.List.{list_any}
 use Rattle.std.proofs.lemmas.List.{get_or-set_same, get_or-set_other}
-use Rattle.pw_token.specs.Levels.{outers, levels_of, text_level, IsGrounded, IsSound}
+use Rattle.pw_token.specs.Levels.{level_room, outers, levels_of, text_level, IsGrounded, IsSound}
 use Rattle.pw_token.specs.Nesting.{nest_of, outer_of, is_bracket, is_question, is_do, without_questions, past_bracket, innermost_is}
 use Rattle.pw_token.specs.declared.levels.Level.{Level}
 use Rattle.pw_token.specs.declared.levels.Levels.{Levels}
@@ -44,7 +44,7 @@ grounded-outer : (l : Level) (ls : List Level) → 0 < length ls → IsGrounded 
 grounded-outer l [] h g = absurd (omega arith)
 grounded-outer l (m ∷ ls) h g = g
 
-pub opened-sound : (s t : Levels) → IsSound s → s.nest < 255 → (l : Level) → l.expressions ≡ 0 → l.controls ≡ 0 → levels_of t ≡ l ∷ levels_of s → t.nest ≡ s.nest + 1 → length t.outer ≡ length s.outer → IsSound t
+pub opened-sound : (s t : Levels) → IsSound s → s.nest < level_room → (l : Level) → l.expressions ≡ 0 → l.controls ≡ 0 → levels_of t ≡ l ∷ levels_of s → t.nest ≡ s.nest + 1 → length t.outer ≡ length s.outer → IsSound t
 opened-sound s t h room l e k levels nest same = record {
   room = same ∙ h.room;
   nest = omega (arith, nest, h.nest, ap nest_of levels, e, k);

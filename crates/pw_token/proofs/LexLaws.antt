@@ -3,6 +3,7 @@ use Rattle.std.proofs.Common.{◌≡◌, ℕ, ◌+◌, ◌<◌, ◌≤◌, inl, 
 use Rattle.std.proofs.lemmas.List.{append-nil, take_at, drop_at, drop-drop, drop_all}
 use Rattle.pw_token.proofs.CutLaws.{total, total-append, total-first, cuts-length, cuts-more, stands-long, same-piece, GoesOn, compare, stops, nothing-at_end, one-cutting, tokens-append}
 use Rattle.pw_token.proofs.PieceLaws.{StandsHere, piece-sound, piece-none}
+use Rattle.pw_token.specs.Limits.{text_limit, token_limit}
 use Rattle.pw_token.specs.Pieces.{piece_at}
 use Rattle.pw_token.specs.Tokenization.{Piece, Stands, Cuts, line_start_after, tokens_of, token_in, NothingStands, AreTokens, IsBadAt, IsTooManyAt, IsLexed, IsBad, IsTooMany, Lexes, Gives, Keeps}
 use Rattle.pw_token.specs.declared.piece.PieceKind.{PieceKind}
@@ -18,7 +19,7 @@ pub record Lexing (text : List ℕ) (at : ℕ) (line_start : Bool) (tokens : Lis
   pub cut : Cuts true text pieces line_start (drop at text)
   pub within : at ≤ length text
   pub are : tokens ≡ tokens_of 0 pieces
-  pub few : length tokens ≤ 200000
+  pub few : length tokens ≤ token_limit
 
 pub lexing-start : (text : List ℕ) → Lexing text 0 true []
 lexing-start text = record { pieces = []; cut = (refl, refl); within = omega arith; are = refl; few = omega arith }
@@ -35,7 +36,7 @@ here text at ls k n l e = found (drop at text) (omega (arith, length-drop at tex
     found (b ∷ t) l e = piece-sound ls b t (k, n) e
 
 pub lexing-step : (text : List ℕ) (at : ℕ) (ls : Bool) (tokens : List Token) (k : PieceKind) (n : ℕ) (next : List Token) (start : Bool) → Lexing text at ls tokens → at < length text
-    → piece_at ls (drop at text) ≡ Some (k, n) → next ≡ tokens ++ token_in k at n → length next ≤ 200000 → start ≡ line_start_after ls k (take n (drop at text)) → Lexing text (at + n) start next
+    → piece_at ls (drop at text) ≡ Some (k, n) → next ≡ tokens ++ token_in k at n → length next ≤ token_limit → start ≡ line_start_after ls k (take n (drop at text)) → Lexing text (at + n) start next
 lexing-step text at ls tokens k n next start l inside e is few starts =
     let h = here text at ls k n inside e in
     let p : Piece = record { kind = k; text = h.front } in
@@ -57,7 +58,7 @@ lexing-step text at ls tokens k n next start l inside e is few starts =
     last : (front : List ℕ) → length front ≡ n → tokens_of (0 + total l.pieces) (record { kind = k; text = front } ∷ []) ≡ token_in k at n
     last front len = append-nil (token_in k (0 + total l.pieces) (length front)) ∙ ap (λ a. token_in k a (length front)) (zero_add (total l.pieces) at (place-of text at ls tokens l)) ∙ ap (token_in k at) len
 
-pub lexing-end : (text : List ℕ) (at : ℕ) (ls : Bool) (tokens : List Token) → Lexing text at ls tokens → length text ≤ at → length text ≤ 1048576 → IsLexed text tokens
+pub lexing-end : (text : List ℕ) (at : ℕ) (ls : Bool) (tokens : List Token) → Lexing text at ls tokens → length text ≤ at → length text ≤ text_limit → IsLexed text tokens
 lexing-end text at ls tokens l done small =
     (small, record { pieces = l.pieces; end = ls; cut = subst (Cuts true text l.pieces ls) (drop_all at text done) l.cut; tokens_are = l.are }, l.few)
 
@@ -74,8 +75,8 @@ one-token p more at k e =
     let l : 0 < length (token_in p.kind at (length p.text)) = subst (λ x. 0 < length (token_in x at (length p.text))) (sym e) (omega arith) in
     omega (arith, l, length-append (token_in p.kind at (length p.text)) (tokens_of (at + length p.text) more))
 
--- a cutting with few tokens stands before the 200,001st
-few-before : (text : List ℕ) (ps : List Piece) (e : Bool) (rest : List ℕ) (other : ℕ) → Cuts true text ps e rest → length (tokens_of 0 ps) ≤ 200000
+-- a cutting with few tokens stands before the first token behind those that a text may have
+few-before : (text : List ℕ) (ps : List Piece) (e : Bool) (rest : List ℕ) (other : ℕ) → Cuts true text ps e rest → length (tokens_of 0 ps) ≤ token_limit
     → (o : IsTooManyAt text other) → GoesOn ps e rest o.pieces o.line_start o.rest
 few-before text ps e rest other h few o =
     elim (compare true text ps e rest o.pieces o.line_start o.rest h o.cut) [
@@ -103,7 +104,7 @@ no-token e rest f left k spelled after none same lists split stands =
     none k spelled after (lists ∙ split) (subst (λ x. Stands x k spelled after) (sym same) stands)
 
 -- nothing stands behind few tokens
-none-there : (text : List ℕ) (ps : List Piece) (e : Bool) (rest : List ℕ) (other : ℕ) → Cuts true text ps e rest → length (tokens_of 0 ps) ≤ 200000
+none-there : (text : List ℕ) (ps : List Piece) (e : Bool) (rest : List ℕ) (other : ℕ) → Cuts true text ps e rest → length (tokens_of 0 ps) ≤ token_limit
     → NothingStands e rest → IsTooManyAt text other → ⊥
 none-there text ps e rest other h few none o =
     let g = few-before text ps e rest other h few o in
@@ -111,7 +112,7 @@ none-there text ps e rest other h few none o =
     let cut : Cuts e rest [] o.line_start o.rest = subst (λ x. Cuts e rest x o.line_start o.rest) empty g.cut in
     no-token e rest o.line_start o.rest (piece.Token o.kind) o.spelled o.after none cut.0 cut.1 o.split o.stands
 
-pub lexing-bad : (text : List ℕ) (at : ℕ) (ls : Bool) (tokens : List Token) → Lexing text at ls tokens → at < length text → length text ≤ 1048576
+pub lexing-bad : (text : List ℕ) (at : ℕ) (ls : Bool) (tokens : List Token) → Lexing text at ls tokens → at < length text → length text ≤ text_limit
     → piece_at ls (drop at text) ≡ None → IsBad text at
 lexing-bad text at ls tokens l inside small e =
     let none = piece-none ls (drop at text) e in (
@@ -146,8 +147,8 @@ still-there text ps e rest k spelled after other h split stands b =
         let l = stands-long e p.kind p.text cut.0 cut.2 in
         omega (arith, ap total same, total-append ps (p ∷ more), total-first p more, l)
 
-pub lexing-many : (text : List ℕ) (at : ℕ) (ls : Bool) (tokens : List Token) (k : TokenKind) (n : ℕ) → Lexing text at ls tokens → at < length text → length text ≤ 1048576
-    → piece_at ls (drop at text) ≡ Some (piece.Token k, n) → length tokens ≡ 200000 → IsTooMany text at
+pub lexing-many : (text : List ℕ) (at : ℕ) (ls : Bool) (tokens : List Token) (k : TokenKind) (n : ℕ) → Lexing text at ls tokens → at < length text → length text ≤ text_limit
+    → piece_at ls (drop at text) ≡ Some (piece.Token k, n) → length tokens ≡ token_limit → IsTooMany text at
 lexing-many text at ls tokens k n l inside small e full =
     let h = here text at ls (piece.Token k) n inside e in (
       small,
@@ -192,7 +193,7 @@ not-bad text a at h b =
           omega (arith, b.before_end, ap length cut.1)
     ]
 
-not-many : (text : List ℕ) (a : List Token) (at : ℕ) → AreTokens text a → length a ≤ 200000 → IsTooManyAt text at → ⊥
+not-many : (text : List ℕ) (a : List Token) (at : ℕ) → AreTokens text a → length a ≤ token_limit → IsTooManyAt text at → ⊥
 not-many text a at h few o = none-there text h.pieces h.end [] at h.cut (omega (arith, few, ap length h.tokens_are)) (nothing-at_end h.end) o
 
 same-bad : (text : List ℕ) (a b : ℕ) → IsBadAt text a → IsBadAt text b → a ≡ b
@@ -249,7 +250,7 @@ one-answer text (Err NoMemory) y h k = absurd h
 
 -- a piece that was not kept
 pub gives-fault : {V : Type 0} (view : V → List Token) (text : List ℕ) (at : ℕ) (ls : Bool) (tokens : List Token) (k : PieceKind) (n count : ℕ) (fault : LexFault)
-    → Lexing text at ls tokens → at < length text → length text ≤ 1048576 → piece_at ls (drop at text) ≡ Some (k, n) → count ≡ length tokens
+    → Lexing text at ls tokens → at < length text → length text ≤ text_limit → piece_at ls (drop at text) ≡ Some (k, n) → count ≡ length tokens
     → Keeps k at count fault → Gives text view (Err fault)
 gives-fault view text at ls tokens k n count NoMemory l inside small e same h = tt
 gives-fault view text at ls tokens k n count (TooMany place) l inside small e same h =

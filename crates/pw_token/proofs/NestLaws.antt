@@ -2,6 +2,7 @@
 use Rattle.std.proofs.Common.{◌≡◌, ℕ, ◌+◌, ◌<◌, ◌≤◌, Bool, true, false, cond, List, [], ◌∷◌, length, drop, map, get_or, nat_lt, Option, Some, None, ap, arith, sym, ◌∙◌}
 use Rattle.std.specs.List.{position_from}
 use Rattle.std.proofs.lemmas.List.{drop_more, drop_all}
+use Rattle.pw_token.specs.Limits.{nest_limit}
 use Rattle.pw_token.specs.Nesting.{State, nests_from, nest_at, after, first_role, operand_after, effect}
 use Rattle.pw_token.specs.declared.levels.Level.{Level}
 use Rattle.pw_token.specs.Roles.{role_in}
@@ -9,7 +10,7 @@ use Rattle.pw_token.specs.declared.roles.Role.{Role}
 use Rattle.pw_token.specs.declared.token.Token.{Token}
 
 abbrev pub search_from : ℕ → State → List Role → Option ℕ
-search_from i s rs = position_from (λ nest. nat_lt 200 nest) i (nests_from s rs)
+search_from i s rs = position_from (λ nest. nat_lt nest_limit nest) i (nests_from s rs)
 
 roles-more : (text : List ℕ) (tokens : List Token) (k : ℕ) (d : Token) → k < length tokens → map (role_in text) (drop k tokens) ≡ role_in text (get_or tokens k d) ∷ map (role_in text) (drop (k + 1) tokens)
 roles-more text tokens k d l = ap (map (role_in text)) (drop_more tokens k d l)
@@ -27,22 +28,22 @@ split text (t ∷ tokens) k r l e =
     let more = roles-more text (t ∷ tokens) k t l in
     more ∙ ap (λ x. x ∷ map (role_in text) (drop (k + 1) (t ∷ tokens))) (sym (e ∙ ap first_role more))
 
--- the token at k has nesting over 200
+-- the token at k has nesting over the limit
 pub found-here : (text : List ℕ) (tokens : List Token) (k : ℕ) (s : State) (r next : Role) (nest : ℕ) → k < length tokens
     → r ≡ first_role (map (role_in text) (drop k tokens)) → next ≡ first_role (map (role_in text) (drop (k + 1) tokens))
-    → nest ≡ nest_at r next s → nat_lt 200 nest ≡ true → search_from (k + 1) s (map (role_in text) (drop k tokens)) ≡ Some (k + 1)
+    → nest ≡ nest_at r next s → nat_lt nest_limit nest ≡ true → search_from (k + 1) s (map (role_in text) (drop k tokens)) ≡ Some (k + 1)
 found-here text tokens k s r next nest l e n is deep =
     let rest = map (role_in text) (drop (k + 1) tokens) in
-    let test : nat_lt 200 (nest_at r (first_role rest) s) ≡ true = sym (ap (λ x. nat_lt 200 (nest_at r x s)) n) ∙ ap (nat_lt 200) (sym is) ∙ deep in
+    let test : nat_lt nest_limit (nest_at r (first_role rest) s) ≡ true = sym (ap (λ x. nat_lt nest_limit (nest_at r x s)) n) ∙ ap (nat_lt nest_limit) (sym is) ∙ deep in
     ap (search_from (k + 1) s) (split text tokens k r l e) ∙ ap (λ b. cond b (Some (k + 1)) (search_from (k + 1 + 1) (after r (first_role rest) s) rest)) test
 
 pub go-on : (text : List ℕ) (tokens : List Token) (k : ℕ) (s : State) (r next : Role) (nest : ℕ) → k < length tokens
     → r ≡ first_role (map (role_in text) (drop k tokens)) → next ≡ first_role (map (role_in text) (drop (k + 1) tokens))
-    → nest ≡ nest_at r next s → nat_lt 200 nest ≡ false
+    → nest ≡ nest_at r next s → nat_lt nest_limit nest ≡ false
     → search_from (k + 1) s (map (role_in text) (drop k tokens)) ≡ search_from (k + 1 + 1) (after r next s) (map (role_in text) (drop (k + 1) tokens))
 go-on text tokens k s r next nest l e n is shallow =
     let rest = map (role_in text) (drop (k + 1) tokens) in
-    let test : nat_lt 200 (nest_at r (first_role rest) s) ≡ false = sym (ap (λ x. nat_lt 200 (nest_at r x s)) n) ∙ ap (nat_lt 200) (sym is) ∙ shallow in
+    let test : nat_lt nest_limit (nest_at r (first_role rest) s) ≡ false = sym (ap (λ x. nat_lt nest_limit (nest_at r x s)) n) ∙ ap (nat_lt nest_limit) (sym is) ∙ shallow in
     ap (search_from (k + 1) s) (split text tokens k r l e) ∙ ap (λ b. cond b (Some (k + 1)) (search_from (k + 1 + 1) (after r (first_role rest) s) rest)) test
     ∙ ap (λ x. search_from (k + 1 + 1) (after r x s) rest) (sym n)
 

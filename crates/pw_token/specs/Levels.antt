@@ -8,6 +8,10 @@ use Rattle.pw_token.specs.declared.levels.Opener.TheVariants as opener
 abbrev pub text_level : Level
 text_level = record { opener = opener.Text; expressions = 0; controls = 0 }
 
+-- how many levels stand outside the innermost one at most, and how far their nesting goes
+abbrev pub level_room : ℕ
+level_room = 255
+
 -- the first n of a list, the last first
 abbrev pub outers : List Level → ℕ → List Level
 outers xs zero = []
@@ -26,5 +30,5 @@ IsGrounded (l ∷ m ∷ ls) = IsGrounded (m ∷ ls)
 pub record IsSound (s : Levels) : Type 0 where
   pub nest : s.nest ≡ nest_of (levels_of s)
   pub grounded : IsGrounded (levels_of s)
-  pub small : s.nest ≤ 255
-  pub room : length s.outer ≡ 255
+  pub small : s.nest ≤ level_room
+  pub room : length s.outer ≡ level_room

@@ -47,7 +47,7 @@ fn is_bracket(opener: Opener) -> bool
 }
 
 impl Levels {
-    ghost use Rattle.pw_token.specs.Levels.{IsSound, levels_of, outers};
+    ghost use Rattle.pw_token.specs.Levels.{IsSound, level_room, levels_of, outers};
     ghost use Rattle.pw_token.specs.Nesting.{opened, with_expression, with_control, without_expressions, ended, outer_of, without_questions, without_bracket, start, innermost_is, is_question, is_do};
     ghost use Rattle.std.specs.List.{list_any};
 
@@ -65,7 +65,7 @@ impl Levels {
 
     pub fn open(&mut self, opener: Opener)
         requires sound { IsSound self.old }
-        requires room { self.old.nest < 255 }
+        requires room { self.old.nest < level_room }
         ensures sound { IsSound self.new }
         ensures levels { levels_of self.new ≡ opened opener (levels_of self.old) }
         ensures rise { self.new.nest ≡ self.old.nest + 1 }
@@ -95,7 +95,7 @@ impl Levels {
 
     pub fn add_expression(&mut self)
         requires sound { IsSound self.old }
-        requires room { self.old.nest < 255 }
+        requires room { self.old.nest < level_room }
         ensures sound { IsSound self.new }
         ensures levels { levels_of self.new ≡ with_expression (levels_of self.old) }
         ensures rise { self.new.nest ≡ self.old.nest + 1 }
@@ -106,7 +106,7 @@ impl Levels {
 
     pub fn add_control(&mut self)
         requires sound { IsSound self.old }
-        requires room { self.old.nest < 255 }
+        requires room { self.old.nest < level_room }
         ensures sound { IsSound self.new }
         ensures levels { levels_of self.new ≡ with_control (levels_of self.old) }
         ensures rise { self.new.nest ≡ self.old.nest + 1 }

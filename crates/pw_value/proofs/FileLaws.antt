@@ -8,7 +8,7 @@ use Rattle.std.proofs.lemmas.Slice.Eq.{bytes_eq-Decides}
 use Rattle.std.proofs.lemmas.List.{append-nil, take_at, drop_at, take-append-drop, length-append}
 use Rattle.sha2.specs.Sha256.{sha256, digest_bytes, final_hash, initial_hash_256}
 use Rattle.pw_value.specs.Fields.{checked, u32_at, u32, FitsU32}
-use Rattle.pw_value.specs.FieldFrame.{header_at, payload_of, digest_of, opened, opened_at, placed, is_sealed, sealed, framed, file_at, before_digest, file, FitsFile, IsFileOf, any_payload, any_spelling, FitsAny}
+use Rattle.pw_value.specs.FieldFrame.{header_at, digest_size, frame_size, payload_of, digest_of, opened, opened_at, placed, is_sealed, sealed, framed, file_at, before_digest, file, FitsFile, IsFileOf, any_payload, any_spelling, FitsAny}
 use Rattle.pw_value.specs.FieldLaws.{AreBytes, SpellsWhole}
 use Rattle.pw_value.proofs.FieldLaws.{AreBytes-take, AreBytes-rest, found_is, checked_spells, u32_spells}
 use Rattle.pw_value.proofs.FieldSteps.{Anything, Completes, step_where, finish}
@@ -20,7 +20,7 @@ unfolding digest_bytes
 digest_length h zero = refl
 digest_length h (suc n) = length-append (digest_bytes h n) _ ∙ omega (arith, digest_length h n)
 
-pub length-sha256 : (m : List ℕ) → length (sha256 m) ≡ 32
+pub length-sha256 : (m : List ℕ) → length (sha256 m) ≡ digest_size
 unfolding sha256
 length-sha256 m = digest_length (final_hash initial_hash_256 m) 8
 
@@ -74,10 +74,10 @@ unfolding file before_digest
 is_file kind v bytes p d e sealed-is below =
     let at = parts_at bytes (head kind (length bytes) v) p d e in
     let digest : sha256 (head kind (length bytes) v ++ p) ≡ d = ap sha256 (sym at.0) ∙ (bytes_eq-Decides _ _).0 sealed-is ∙ at.1 in
-    let d_len : length d ≡ 32 = ap length (sym digest) ∙ length-sha256 _ in
+    let d_len : length d ≡ digest_size = ap length (sym digest) ∙ length-sha256 _ in
     let head_len : length (head kind (length bytes) v) ≡ 12 = length_head kind (length bytes) v in
-    let total : length bytes ≡ 44 + length p = omega (arith, ap length e, length-append (head kind (length bytes) v) (p ++ d), length-append p d) in
-    let same : head kind (length bytes) v ++ p ≡ before_digest kind v p = ap (λ n. head kind n v ++ p) total ∙ regroup kind (44 + length p) v p in
+    let total : length bytes ≡ frame_size + length p = omega (arith, ap length e, length-append (head kind (length bytes) v) (p ++ d), length-append p d) in
+    let same : head kind (length bytes) v ++ p ≡ before_digest kind v p = ap (λ n. head kind n v ++ p) total ∙ regroup kind (frame_size + length p) v p in
     (omega (arith), e ∙ sym (append_assoc (head kind (length bytes) v) p d) ∙ ap (λ (w : List ℕ). (head kind (length bytes) v ++ p) ++ w) (sym digest) ∙ ap (λ (w : List ℕ). w ++ sha256 w) same)
 
 abbrev value : {X : Type 0} → X → Result X ℕ
@@ -105,7 +105,7 @@ takes_by kind first last spelling Fits payload laws bytes x fits (Ok h) is e =
     let lawful = t.2.1.1.0 in
     let p = placed_found (length bytes - length (digest_of h.1)) (payload h.0 (payload_of h.1)) bytes (length bytes - length (digest_of h.1)) x e in
     let s = (laws h.0 lawful.1 lawful.2).takes (payload_of h.1) x p.0 (AreBytes-take _ h.1 (AreBytes-rest bytes (head kind (length bytes) h.0) h.1 fits t.0)) p.1 in
-    let three : bytes ≡ head kind (length bytes) h.0 ++ (payload_of h.1 ++ digest_of h.1) = t.0 ∙ ap (λ (w : List ℕ). head kind (length bytes) h.0 ++ w) (sym (take-append-drop (length h.1 - 32) h.1)) in
+    let three : bytes ≡ head kind (length bytes) h.0 ++ (payload_of h.1 ++ digest_of h.1) = t.0 ∙ ap (λ (w : List ℕ). head kind (length bytes) h.0 ++ w) (sym (take-append-drop (length h.1 - digest_size) h.1)) in
     let f = is_file kind h.0 bytes (payload_of h.1) (digest_of h.1) three p.2 t.2.1.0 in
     record {
       version = h.0;
@@ -126,10 +126,10 @@ file_takes kind first last spelling Fits payload laws bytes x fits e =
     takes_by kind first last spelling Fits payload laws bytes x fits (header_at kind first last (length bytes) bytes) refl e
 
 -- the parts of what stands behind the header
-payload_is : (p d : List ℕ) → length d ≡ 32 → (payload_of (p ++ d) ≡ p) × (digest_of (p ++ d) ≡ d)
+payload_is : (p d : List ℕ) → length d ≡ digest_size → (payload_of (p ++ d) ≡ p) × (digest_of (p ++ d) ≡ d)
 payload_is p d len =
-    let at : length p ≡ length (p ++ d) - 32 = omega (arith, length-append p d) in
-    (take_at p d (length (p ++ d) - 32) at, drop_at p d (length (p ++ d) - 32) at)
+    let at : length p ≡ length (p ++ d) - digest_size = omega (arith, length-append p d) in
+    (take_at p d (length (p ++ d) - digest_size) at, drop_at p d (length (p ++ d) - digest_size) at)
 
 again_by : {X : Type 0} (kind first last : ℕ) (payload : ℕ → List ℕ → Result (X × List ℕ) ℕ) (v : ℕ) (p : List ℕ) (x : X)
     → kind < 2 ^ 32 → Lawful first last v → FitsFile p → payload v p ≡ Ok (x, []) → file_at kind first last payload (file kind v p) ≡ Ok x
@@ -138,12 +138,12 @@ again_by kind first last payload v p x kind_fits lawful room e =
     let front = before_digest kind v p in
     let d = sha256 front in
     let bytes = front ++ d in
-    let total : length bytes ≡ 44 + length p = omega (arith, length-append front d, length-sha256 front, ap length (sym (regroup kind (44 + length p) v p)), length-append (head kind (44 + length p) v) p, length_head kind (44 + length p) v) in
-    let three : bytes ≡ head kind (length bytes) v ++ (p ++ d) = ap (λ (w : List ℕ). w ++ d) (sym (regroup kind (44 + length p) v p)) ∙ append_assoc (head kind (44 + length p) v) p d ∙ ap (λ n. head kind n v ++ (p ++ d)) (sym total) in
+    let total : length bytes ≡ frame_size + length p = omega (arith, length-append front d, length-sha256 front, ap length (sym (regroup kind (frame_size + length p) v p)), length-append (head kind (frame_size + length p) v) p, length_head kind (frame_size + length p) v) in
+    let three : bytes ≡ head kind (length bytes) v ++ (p ++ d) = ap (λ (w : List ℕ). w ++ d) (sym (regroup kind (frame_size + length p) v p)) ∙ append_assoc (head kind (frame_size + length p) v) p d ∙ ap (λ n. head kind n v ++ (p ++ d)) (sym total) in
     let read : header_at kind first last (length bytes) bytes ≡ Ok (v, p ++ d) = ap (header_at kind first last (length bytes)) three ∙ (header_laws kind first last (length bytes)).again v (p ++ d) tt tt (kind_fits, (omega (arith), (lawful, tt))) in
     let parts = payload_is p d (length-sha256 front) in
     let at = parts_at bytes (head kind (length bytes) v) p d three in
-    let same : head kind (length bytes) v ++ p ≡ front = ap (λ n. head kind n v ++ p) total ∙ regroup kind (44 + length p) v p in
+    let same : head kind (length bytes) v ++ p ≡ front = ap (λ n. head kind n v ++ p) total ∙ regroup kind (frame_size + length p) v p in
     let right : is_sealed bytes (length bytes - length d) ≡ true = (bytes_eq-Decides _ _).1 (ap sha256 (at.0 ∙ same) ∙ sym at.1) in
     rw (read, parts.0, parts.1, e, right) refl
 

@@ -28,12 +28,16 @@ header_at kind first last total = do
   v ← checked (λ v. nat_le first v && nat_le v last) u32_at
   done v
 
--- the payload ends where the digest begins: the last 32 bytes, or fewer where there are fewer
+-- bytes of a SHA-256 digest
+abbrev pub digest_size : ℕ
+digest_size = 32
+
+-- the payload ends where the digest begins: the last bytes, or fewer where there are fewer
 abbrev pub payload_of : List ℕ → List ℕ
-payload_of rest = take (length rest - 32) rest
+payload_of rest = take (length rest - digest_size) rest
 
 abbrev pub digest_of : List ℕ → List ℕ
-digest_of rest = drop (length rest - 32) rest
+digest_of rest = drop (length rest - digest_size) rest
 
 -- a file whose header is lawful: its version, its payload, and the offset at which the digest begins;
 -- or the offset of the faulty field
@@ -67,15 +71,19 @@ file_at kind first last payload bytes = framed payload bytes (opened_at kind fir
 
 -- ---- the spelling of a file
 
+-- bytes of a file besides its payload: the three numbers before it, and the digest
+abbrev pub frame_size : ℕ
+frame_size = 12 + digest_size
+
 unfoldable pub before_digest : ℕ → ℕ → List ℕ → List ℕ
-before_digest kind version payload = u32 kind ++ (u32 (44 + length payload) ++ (u32 version ++ payload))
+before_digest kind version payload = u32 kind ++ (u32 (frame_size + length payload) ++ (u32 version ++ payload))
 
 unfoldable pub file : ℕ → ℕ → List ℕ → List ℕ
 file kind version payload = before_digest kind version payload ++ sha256 (before_digest kind version payload)
 
 -- a payload that a file can hold
 abbrev pub FitsFile : List ℕ → Type 0
-FitsFile payload = 44 + length payload < 2 ^ 32
+FitsFile payload = frame_size + length payload < 2 ^ 32
 
 -- the bytes are a file of the value, in one of the versions from first to last
 pub record IsFileOf {X : Type 0} (kind first last : ℕ) (spelling : ℕ → X → List ℕ) (Fits : ℕ → X → Type 0) (bytes : List ℕ) (x : X) : Type 0 where

@@ -29,6 +29,28 @@ library_name = 36 ∷ 108 ∷ 105 ∷ 98 ∷ []
 abbrev pub library_functions : List (List ℕ)
 library_functions = exit_name ∷ getchar_name ∷ putchar_name ∷ []
 
+-- ---- their shapes
+
+-- void $start(void), as fv
+abbrev pub start_shape : List ℕ
+start_shape = 102 ∷ 118 ∷ []
+
+-- int main(void), as fi
+abbrev pub main_shape : List ℕ
+main_shape = 102 ∷ 105 ∷ []
+
+-- void exit(int), as fvi
+abbrev pub exit_shape : List ℕ
+exit_shape = 102 ∷ 118 ∷ 105 ∷ []
+
+-- int getchar(void), as fi
+abbrev pub getchar_shape : List ℕ
+getchar_shape = 102 ∷ 105 ∷ []
+
+-- int putchar(int), as fii
+abbrev pub putchar_shape : List ℕ
+putchar_shape = 102 ∷ 105 ∷ 105 ∷ []
+
 -- ---- where $start may stand
 
 -- another name than $start

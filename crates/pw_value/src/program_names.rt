@@ -2,7 +2,7 @@
 //! puts beside `main`.
 
 ghost use Rattle.std.specs.Prelude.{ℕ, ◌≡◌, ◌↔◌, List, IsTrue, map};
-ghost use Rattle.pw_value.specs.ProgramNames.{start_name, main_name, exit_name, getchar_name, putchar_name, library_name, library_functions};
+ghost use Rattle.pw_value.specs.ProgramNames.{start_name, main_name, exit_name, getchar_name, putchar_name, library_name, library_functions, start_shape, main_shape, exit_shape, getchar_shape, putchar_shape};
 ghost use Rattle.pw_value.specs.ProgramNames.{MayStand, may_stand, times, KeepsStart, keeps_start};
 ghost use Rattle.pw_value.specs.declared.program_names.StartName.{StartName as AnyStartName};
 
@@ -28,6 +28,21 @@ pub const LIBRARY: &[u8] = b"$lib";
 
 /// The library's functions, in byte order.
 pub const LIBRARY_FUNCTIONS: [&[u8]; 3] = [EXIT, GETCHAR, PUTCHAR];
+
+/// The shape of `$start`.
+pub const START_SHAPE: &[u8] = b"fv";
+
+/// The shape of `main`.
+pub const MAIN_SHAPE: &[u8] = b"fi";
+
+/// The shape of `exit`.
+pub const EXIT_SHAPE: &[u8] = b"fvi";
+
+/// The shape of `getchar`.
+pub const GETCHAR_SHAPE: &[u8] = b"fi";
+
+/// The shape of `putchar`.
+pub const PUTCHAR_SHAPE: &[u8] = b"fii";
 
 /// Whether `$start` may stand in a name's place.
 #[derive(Clone, Copy, PartialEq, Eq, Debug)]
@@ -78,6 +93,11 @@ pub fn names_of_a_program()
     ensures putchar { PUTCHAR.now ≡ putchar_name }
     ensures library { LIBRARY.now ≡ library_name }
     ensures library_functions { map (λ name. name.now) LIBRARY_FUNCTIONS ≡ library_functions }
+    ensures start_shape { START_SHAPE.now ≡ start_shape }
+    ensures main_shape { MAIN_SHAPE.now ≡ main_shape }
+    ensures exit_shape { EXIT_SHAPE.now ≡ exit_shape }
+    ensures getchar_shape { GETCHAR_SHAPE.now ≡ getchar_shape }
+    ensures putchar_shape { PUTCHAR_SHAPE.now ≡ putchar_shape }
 {}
 
 /// The tests of the rules on `$start` are the rules.

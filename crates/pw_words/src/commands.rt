@@ -5,7 +5,7 @@ use pw_value::Name;
 /// What a command line asks for.
 ///
 /// `colours` is how many registers webs may have, at most [`pw_db::COLOUR_LIMIT`]; `stack` is the bytes of the stack, and `steps` how many
-/// instructions a run may take. A module's name has 1 to 64 letters, digits, `_` or `-`.
+/// instructions a run may take. A module's name is one that `pw_modules::is_module_name` takes.
 #[derive(Drop)]
 pub enum Command {
     /// Build, then run.

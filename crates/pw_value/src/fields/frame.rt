@@ -5,7 +5,7 @@ ghost use Rattle.std.specs.Prelude.{◌≡◌, ◌≢◌, ◌+◌, ◌-◌, ◌<
 ghost use Rattle.std.specs.Prelude.{nat_le, ◌&&◌, IsTrue, OnOk, OnErr};
 ghost use Rattle.pw_value.specs.Fields.{checked, u32_at};
 ghost use Rattle.pw_value.specs.FieldFaults.{Gives, GivesFile};
-ghost use Rattle.pw_value.specs.FieldFrame.{header_at, opened_at, is_sealed, before_digest, file, FitsFile};
+ghost use Rattle.pw_value.specs.FieldFrame.{header_at, opened_at, is_sealed, before_digest, file, FitsFile, digest_size, frame_size};
 
 use super::writing::push_u32;
 use super::{FieldError, read_u32};
@@ -18,6 +18,12 @@ pub const DIGEST_LEN: usize = 32;
 
 /// The bytes of a file besides its payload.
 pub const FRAME_LEN: usize = 12 + DIGEST_LEN;
+
+/// The sizes are those that the definitions speak of.
+pub fn sizes_of_a_frame()
+    ensures digest { DIGEST_LEN ≡ digest_size }
+    ensures frame { FRAME_LEN ≡ frame_size }
+{}
 
 /// A file whose kind, length and version are lawful: the version, the payload, and the offset at which
 /// the payload ends and the digest begins.

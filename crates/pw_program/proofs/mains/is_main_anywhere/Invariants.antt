@@ -1,7 +1,7 @@
 use Rattle.std.proofs.Common.{◌<◌, ◌≡◌, ◌≢◌, ℕ}
 use Rattle.std.specs.Prelude.{Some, slice_get}
+use Rattle.pw_value.specs.ProgramNames.{main_shape}
 use Rattle.pw_program.specs.declared.interface.Interface.{Interface}
-use Rattle.pw_program.specs.Linking.{main_shape}
 use Rattle.pw_program.proofs.mains.is_main_anywhere.Given as goal
 
 abbrev pub invariant-loop-each : goal.invariant-loop-each

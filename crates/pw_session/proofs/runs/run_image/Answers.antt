@@ -11,7 +11,7 @@ returns-in_default-clause-run g c =
 pub returns-in-Ok-clause-run : goal.returns-in-Ok-clause-run
 returns-in-Ok-clause-run g c =
     run_some _ c.args.budget c.args.input.now c.in-Some.image.now c.in-Ok.machine.core c.run_loaded.result (g.O.Sink.taken c.args.out.now) (g.O.Sink.taken c.run_loaded.new.out) (ap (λ (o : Option (Bor (List ℕ))). option_map (λ i. i.now) o) c.in-Some.is)
-    (λ k h. core_is c.in-Ok.machine k.image (c.in-Ok.ensures.only k h)) (c.in-Ok.ensures.found.0, c.in-Ok.ensures.found.1) c.run_loaded.ensures.output
+    (λ k h. core_is c.in-Ok.machine k.value (c.in-Ok.ensures.only k h)) (c.in-Ok.ensures.found.0, c.in-Ok.ensures.found.1) c.run_loaded.ensures.output
 
 pub returns-in-Err-NoMemory-clause-run : goal.returns-in-Err-NoMemory-clause-run
 returns-in-Err-NoMemory-clause-run g c = run_memory _ c.args.budget c.args.input.now (g.O.Sink.taken c.args.out.now)

@@ -3,6 +3,7 @@ use Rattle.std.proofs.lemmas.Bool.Decides.{nat_tests}
 use Rattle.pw_token.proofs.NestLaws.{found-here, go-on, stepped}
 use Rattle.pw_token.proofs.TokenBounds.{tokens_within}
 use Rattle.pw_token.specs.Levels.{levels_of}
+use Rattle.pw_token.specs.Limits.{nest_limit}
 use Rattle.pw_token.specs.Nesting.{State}
 use Rattle.pw_token.specs.Roles.{role_in}
 use Rattle.pw_token.proofs.nesting.nest_fault.Goals as goal
@@ -15,14 +16,14 @@ role_at-next-requires c = tokens_within c.args.text.now c.args.tokens.now c.requ
 
 pub returns-then-nest-gt-MAX_NEST : goal.returns-then-nest-gt-MAX_NEST
 returns-then-nest-gt-MAX_NEST c =
-    let deep : nat_lt 200 c.step-nest.result ≡ true = grind (arith, nat_tests) in
+    let deep : nat_lt nest_limit c.step-nest.result ≡ true = grind (arith, nat_tests) in
     sym (sym c.loop-index.invariant.0
     ∙ found-here c.args.text.now c.args.tokens.now c.loop-index.index (record { before = c.loop-index.before; operand = c.loop-index.operand; levels = levels_of c.loop-index.levels })
     c.role_at-role.result c.role_at-next.result c.step-nest.result c.loop-index-test.true c.role_at-role.ensures c.role_at-next.ensures c.step-nest.ensures.nest deep)
 
 pub loop-index-preserved : goal.loop-index-preserved
 loop-index-preserved c =
-    let shallow : nat_lt 200 c.step-nest.result ≡ false = grind (arith, nat_tests) in
+    let shallow : nat_lt nest_limit c.step-nest.result ≡ false = grind (arith, nat_tests) in
     let text = c.args.text.now in
     let tokens = c.args.tokens.now in
     let s : State = record { before = c.loop-index.before; operand = c.loop-index.operand; levels = levels_of c.loop-index.levels } in

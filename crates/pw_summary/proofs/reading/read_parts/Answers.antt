@@ -1,6 +1,6 @@
 use Rattle.std.proofs.lemmas.Result.{err_from_is_err_and}
 use Rattle.pw_summary.proofs.Parts.{found_in_parts, fault_in_name, fault_in_defined, fault_in_used}
-use Rattle.pw_summary.proofs.reading.read_fields.Goals as goal
+use Rattle.pw_summary.proofs.reading.read_parts.Goals as goal
 
 pub returns-in_err-module-clause-fault : goal.returns-in_err-module-clause-fault
 returns-in_err-module-clause-fault c =
