@@ -8,8 +8,9 @@ use std::io::{self, BufWriter, ErrorKind, Write};
 use std::os::unix::fs::symlink;
 use std::rt::Files;
 
-/// The files of which the fronts are read, and how many bytes. The system opens the last one, and fails to read it.
-const GETS: [(&str, usize); 10] = [
+/// The files of which the fronts are read, and how many bytes. The system opens the last but one, and fails to read it; the
+/// last one it does not open, though it does not say that it is not there.
+const GETS: [(&str, usize); 11] = [
     ("a.i", 100),
     ("a.i", 4),
     ("a.i", 3),
@@ -20,6 +21,7 @@ const GETS: [(&str, usize); 10] = [
     ("to_nothing.i", 9),
     ("to_a.i", 2),
     ("/proc/self/mem", 9),
+    ("a.i/x", 9),
 ];
 
 /// The files that are written.
