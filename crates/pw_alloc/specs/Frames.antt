@@ -2,6 +2,7 @@
 -- saved registers; the temporaries that stand in the frame; the slots.
 use Rattle.std.specs.Prelude.{ℕ, ℤ, pos, neg_ℤ, ◌+◌, ◌-◌, ◌*◌, ◌/◌, max, List, [], ◌∷◌, length}
 use Rattle.std.specs.List.{flat_map}
+use Rattle.pw_value.specs.Objects.{round8}
 use Rattle.pw_flow.specs.declared.flow.Op.TheVariants.{Call, CallInd}
 use Rattle.pw_webflow.specs.declared.web.WebOp.{WebOp}
 use Rattle.pw_webflow.specs.declared.web.WebOp.TheVariants.{Flow}
@@ -33,9 +34,6 @@ saved_offset head i = below (head + 4 * (i + 1))
 
 abbrev pub temp_offset : ℕ → ℕ → ℕ → ℤ
 temp_offset head saved i = below (head + 4 * saved + 4 * (i + 1))
-
-abbrev pub round8 : ℕ → ℕ
-round8 n = (n + 7) / 8 * 8
 
 -- how far the slots reach: each takes its size and one byte, rounded up to a multiple of 8
 abbrev pub reaches_from : ℕ → List ℕ → List ℕ

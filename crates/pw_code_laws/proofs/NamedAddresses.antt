@@ -8,7 +8,8 @@ use Rattle.std.proofs.lemmas.List.Sums.{sum_by-cons}
 use Rattle.std.proofs.lemmas.Slice.Eq.{bytes_eq-Decides}
 use Rattle.pw_flow.specs.declared.flow.FlowGlobal.{FlowGlobal}
 use Rattle.pw_flow.specs.ValidFlow.{AreDistinct}
-use Rattle.pw_link.specs.Layout.{Piece, placed_from, function_site, taken, standing_from, global_site}
+use Rattle.pw_link.specs.Layout.{Piece, placed_from, function_site, standing_from, global_site}
+use Rattle.pw_flow.specs.ValidFlow.{taken}
 use Rattle.pw_link_laws.proofs.Starting.{IsFound, found}
 
 -- ---- names

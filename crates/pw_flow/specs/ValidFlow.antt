@@ -2,6 +2,7 @@
 use Rattle.std.specs.Prelude.{ℕ, ◌≡◌, ◌≢◌, ◌+◌, ◌*◌, ◌/◌, ◌%◌, ◌<◌, ◌≤◌, ◌^◌, ◌⊎◌, Option, IfSome, List, [], ◌∷◌, ◌++◌, length, max}
 use Rattle.std.specs.List.{AllByRecursion}
 use Rattle.pw_value.specs.Limits.{size_limit, parameter_limit, room_limit}
+use Rattle.pw_value.specs.Objects.{round8}
 use Rattle.pw_value.specs.ProgramNames.{IsOrdinary, IncludesStart}
 use Rattle.pw_value.specs.declared.value.Kind.{Kind}
 use Rattle.pw_value.specs.declared.value.Kind.TheVariants as kind
@@ -100,9 +101,12 @@ pub record IsBlock (temps slots blocks : ℕ) (b : Block) : Type 0 where
   pub ops : AllByRecursion (IsOp temps slots) b.ops
   pub end : IsEnd temps blocks b.end
 
--- a slot takes a byte more than its size, rounded up to a multiple of 8
+-- an object takes a byte more than its size, rounded up to a multiple of 8
 abbrev pub slot_room : ℕ → ℕ
-slot_room size = (size + 8) / 8 * 8
+slot_room size = round8 (size + 1)
+
+abbrev pub taken : FlowGlobal → ℕ
+taken g = slot_room g.size
 
 -- what the temporaries, of four bytes each, and the slots come to
 abbrev pub rooms : ℕ → List ℕ → ℕ

@@ -1,6 +1,7 @@
 -- The image of a linked program: what a machine starts with, and where functions and globals stand.
 use Rattle.std.specs.Prelude.{◌≡◌, ℕ, ◌+◌, ◌*◌, ◌/◌, ◌%◌, ◌<◌, ◌≤◌, ◌^◌, List, [], ◌∷◌, ◌++◌, length, map, max}
 use Rattle.std.specs.List.{flat_map, AllByRecursion}
+use Rattle.pw_value.specs.Objects.{round8}
 use Rattle.pw_value.specs.Limits.{text_start, word_limit, memory_size}
 use Rattle.pw_value.specs.Fields.{u32, text, parts, FitsU32}
 use Rattle.pw_value.specs.FieldFrame.{IsFileOf}
@@ -54,7 +55,7 @@ pub record IsInText (words address : ℕ) : Type 0 where
 
 -- the data start behind the text, at the next multiple of 8
 abbrev pub data_start : ℕ → ℕ
-data_start words = (text_start + 4 * words + 7) / 8 * 8
+data_start words = round8 (text_start + 4 * words)
 
 -- the least offset that the next item may have: offsets rise, and items do not overlap
 abbrev pub free_behind : Item → ℕ

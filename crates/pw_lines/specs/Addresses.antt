@@ -3,7 +3,7 @@
 use Rattle.std.specs.Prelude.{ℕ, ◌≡◌, ◌≢◌, ◌+◌, ◌%◌, ◌^◌, ◌<◌, ◌≤◌, ◌⊎◌, List, Contains}
 use Rattle.pw_value.specs.Limits.{memory_size, text_start}
 use Rattle.pw_flow.specs.declared.flow.FlowGlobal.{FlowGlobal}
-use Rattle.pw_alloc.specs.Frames.{round8}
+use Rattle.pw_flow.specs.ValidFlow.{taken}
 use Rattle.pw_flowrun.specs.Programs.{Program, globals_of, names_of}
 
 pub record Addresses : Type 0 where
@@ -16,10 +16,6 @@ pub record Addresses : Type 0 where
   pub data_start : ℕ
   pub base : ℕ
   pub limit : ℕ
-
--- how many bytes a global takes
-abbrev pub taken : FlowGlobal → ℕ
-taken g = round8 (g.size + 1)
 
 -- Global objects have multiples of 8 and bytes of their own, below the stack; functions have multiples of 4 of their
 -- own, below the data. Return addresses are words. The stack has its size, and 64 bytes before it that are above the

@@ -10,7 +10,8 @@ use Rattle.pw_object.specs.declared.functions.ObjectFn.{ObjectFn}
 use Rattle.pw_object.specs.declared.object.Object.{Object}
 use Rattle.pw_milli.specs.declared.routine.Routine.{Routine}
 use Rattle.pw_milli.specs.Library.{listed}
-use Rattle.pw_link.specs.Layout.{Piece, Placed, placed_from, piece_of, Standing, standing_from, taken, Sites, routine_addresses, pieces_of, globals_of}
+use Rattle.pw_link.specs.Layout.{Piece, Placed, placed_from, piece_of, Standing, standing_from, Sites, routine_addresses, pieces_of, globals_of}
+use Rattle.pw_flow.specs.ValidFlow.{taken}
 use Rattle.pw_link.specs.Sizes.{image_of_parts, fault_of_parts}
 use Rattle.pw_link.specs.Linking.{with_fix, with_fixes, linked, size_fault}
 

@@ -7,6 +7,7 @@ use Rattle.std.specs.Ordering.{nat_cmp, is_lt}
 use Rattle.std.specs.Cmp.Lexicographic.{slice_cmp}
 use Rattle.pw_value.specs.Limits.{text_start}
 use Rattle.pw_inst.specs.declared.relocation.Fix.{Fix}
+use Rattle.pw_flow.specs.ValidFlow.{taken}
 use Rattle.pw_flow.specs.declared.flow.FlowGlobal.{FlowGlobal}
 use Rattle.pw_object.specs.declared.object.Object.{Object}
 use Rattle.pw_object.specs.declared.functions.ObjectFn.{ObjectFn}
@@ -68,13 +69,6 @@ abbrev pub word_count : List Object → ℕ
 word_count objects = sum_by (λ p. length p.words) (pieces_of objects) + 1
 
 -- ---- data
-
-abbrev pub round8 : ℕ → ℕ
-round8 n = (n + 7) / 8 * 8
-
--- what an object takes: its size and one byte, rounded up to a multiple of 8
-abbrev pub taken : FlowGlobal → ℕ
-taken g = round8 (g.size + 1)
 
 abbrev pub globals_of : List Object → List FlowGlobal
 globals_of objects = flat_map (λ o. o.globals) (in_order objects)

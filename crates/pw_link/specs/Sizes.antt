@@ -8,7 +8,8 @@ use Rattle.pw_flow.specs.declared.flow.FlowGlobal.{FlowGlobal}
 use Rattle.pw_image.specs.Image.{data_start, ImageValue}
 use Rattle.pw_image.specs.declared.image.Image.{Image}
 use Rattle.pw_link.specs.declared.layout.Sizes.{Sizes}
-use Rattle.pw_link.specs.Layout.{Piece, placed_from, standing_from, taken, end_behind}
+use Rattle.pw_link.specs.Layout.{Piece, placed_from, standing_from, end_behind}
+use Rattle.pw_flow.specs.ValidFlow.{taken}
 use Rattle.pw_link.specs.Linking.{image_by, fault_by}
 
 -- the sizes of a program of so many words and so many bytes of data, or the first that is too large

@@ -3,7 +3,8 @@
 ghost use Rattle.std.specs.Prelude.{◌≡◌, ◌++◌, ◌+◌, ◌≤◌, map, IfOk, OnOk};
 ghost use Rattle.std.specs.List.{flat_map, sum_by};
 ghost use Rattle.pw_value.specs.Limits.{memory_size};
-ghost use Rattle.pw_link.specs.Layout.{told, taken, standing_from};
+ghost use Rattle.pw_link.specs.Layout.{told, standing_from};
+ghost use Rattle.pw_flow.specs.ValidFlow.{taken};
 ghost use Rattle.pw_link.specs.Views.{standing_view};
 
 use pw_flow::FlowGlobal;

@@ -4,7 +4,8 @@ ghost use Rattle.std.specs.Prelude.{◌≡◌, ◌+◌, ◌≤◌, ℕ, map, IfO
 ghost use Rattle.std.specs.List.{sum_by};
 ghost use Rattle.pw_value.specs.Limits.{text_start, word_limit, memory_size};
 ghost use Rattle.pw_image.specs.Image.{view, memory_view};
-ghost use Rattle.pw_link.specs.Layout.{told, taken, placed_from, standing_from, routine_addresses};
+ghost use Rattle.pw_link.specs.Layout.{told, placed_from, standing_from, routine_addresses};
+ghost use Rattle.pw_flow.specs.ValidFlow.{taken};
 ghost use Rattle.pw_link.specs.Linking.{memory_by, image_by, linked, size_fault};
 ghost use Rattle.pw_link.specs.Sizes.{AreSizes, AnswersSizes, words_of_parts, image_of_parts, fault_of_parts};
 ghost use Rattle.pw_link.specs.Views.{piece_view, placed_view, standing_view, StandsFor};

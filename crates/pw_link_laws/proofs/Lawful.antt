@@ -19,7 +19,8 @@ use Rattle.pw_object.specs.declared.object.Object.{Object}
 use Rattle.pw_object.specs.Object.{IsObject}
 use Rattle.pw_image.specs.Image.{Item, IsInText, IsImage, AreItems}
 use Rattle.pw_program.specs.Linking.{has_main}
-use Rattle.pw_link.specs.Layout.{Piece, placed_from, in_order, pieces_of, word_count, taken, globals_of, Standing, standing_from, data_of, data_size, data_begin, stack_end, told, global_site, Sites}
+use Rattle.pw_link.specs.Layout.{Piece, placed_from, in_order, pieces_of, word_count, globals_of, Standing, standing_from, data_of, data_size, data_begin, stack_end, told, global_site, Sites}
+use Rattle.pw_flow.specs.ValidFlow.{taken}
 use Rattle.pw_link.specs.Linking.{with_fix, with_fixes, piece_words, linked_words, nop, item_bytes, item_at, items_of, function_of, global_of, fault_by, linked, AreLinked}
 use Rattle.pw_link_laws.specs.Standing.{sites}
 use Rattle.pw_link_laws.proofs.Kept.{all_flat, all_by}

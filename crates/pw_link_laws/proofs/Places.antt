@@ -8,7 +8,8 @@ use Rattle.pw_flow.specs.declared.flow.FlowGlobal.{FlowGlobal}
 use Rattle.pw_flow.specs.declared.flow.Item.{Item as FlowItem}
 use Rattle.pw_object.specs.declared.object.Object.{Object}
 use Rattle.pw_image.specs.Image.{Item}
-use Rattle.pw_link.specs.Layout.{Piece, Placed, placed_from, pieces_of, text_of, taken, globals_of, standing_from, data_of, data_size, data_begin, stack_end, Sites}
+use Rattle.pw_link.specs.Layout.{Piece, Placed, placed_from, pieces_of, text_of, globals_of, standing_from, data_of, data_size, data_begin, stack_end, Sites}
+use Rattle.pw_flow.specs.ValidFlow.{taken}
 use Rattle.pw_link.specs.Linking.{piece_words, nop, item_at, items_of, function_of, global_of, linked}
 use Rattle.pw_link_laws.specs.Standing.{sites, StandsInText, StandsInData, ItemsStand, AreApart, OwnTheirBytes}
 use Rattle.pw_link_laws.proofs.Lawful.{fix_length}

@@ -6,7 +6,8 @@ use Rattle.std.proofs.Common.{arith, sym, ap, refl, ◌∙◌}
 use Rattle.std.proofs.lemmas.List.Elements.{All-contains, All-from_recursion}
 use Rattle.pw_flow.specs.declared.flow.FlowGlobal.{FlowGlobal}
 use Rattle.pw_flowrun.specs.Programs.{globals_of, names_of}
-use Rattle.pw_lines.specs.Addresses.{Addresses, AreLawful, taken}
+use Rattle.pw_lines.specs.Addresses.{Addresses, AreLawful}
+use Rattle.pw_flow.specs.ValidFlow.{taken}
 use Rattle.pw_tests_runs.proofs.Programs.{bumping, global}
 
 abbrev place : List ℕ → ℕ

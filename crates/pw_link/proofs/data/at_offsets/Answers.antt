@@ -3,7 +3,8 @@ use Rattle.std.specs.Borrow.{Bor}
 use Rattle.std.specs.List.{sum_by}
 use Rattle.std.proofs.lemmas.List.{map-append}
 use Rattle.pw_flow.specs.declared.flow.FlowGlobal.{FlowGlobal}
-use Rattle.pw_link.specs.Layout.{taken, standing_from}
+use Rattle.pw_link.specs.Layout.{standing_from}
+use Rattle.pw_flow.specs.ValidFlow.{taken}
 use Rattle.pw_link.specs.Views.{standing_view}
 use Rattle.pw_link.proofs.Growing.{sum_and_next, sum_more, map_more, stood_more}
 use Rattle.pw_link.proofs.data.at_offsets.Goals as goal

@@ -1,6 +1,7 @@
 use Rattle.std.proofs.Common.{◌≡◌, map, take}
 use Rattle.std.specs.List.{sum_by}
-use Rattle.pw_link.specs.Layout.{taken, standing_from}
+use Rattle.pw_link.specs.Layout.{standing_from}
+use Rattle.pw_flow.specs.ValidFlow.{taken}
 use Rattle.pw_link.specs.Views.{standing_view}
 use Rattle.pw_link.proofs.data.at_offsets.Given as goal
 

@@ -1,6 +1,7 @@
 use Rattle.std.proofs.Common.{◌≡◌, map, take}
 use Rattle.std.specs.List.{sum_by}
-use Rattle.pw_link.specs.Layout.{told, taken}
+use Rattle.pw_link.specs.Layout.{told}
+use Rattle.pw_flow.specs.ValidFlow.{taken}
 use Rattle.pw_link.proofs.data.count_bytes.Given as goal
 
 abbrev pub invariant-loop-each : goal.invariant-loop-each
