@@ -1,12 +1,12 @@
 -- A fault of a database's fields rests on the bytes up to the faulty field's end.
-use Rattle.std.proofs.Common.{ℕ, List, []}
+use Rattle.std.proofs.Common.{ℕ, List, [], length}
 use Rattle.std.specs.Prelude.{Option, None}
 use Rattle.pw_value.specs.Fields.{u8_at, u32_at, flag_at}
-use Rattle.pw_value.specs.FieldFrame.{here}
+use Rattle.pw_value.specs.FieldFrame.{here, placed}
 use Rattle.pw_value.specs.FieldNames.{name_at}
 use Rattle.pw_value.specs.declared.program_names.StartName.TheVariants.{Allowed}
 use Rattle.pw_files.specs.Contents.{Contents, value_of}
-use Rattle.pw_files.specs.Faults.{FaultsStay}
+use Rattle.pw_files.specs.Faults.{FaultsStay, PayloadFaultsStay}
 use Rattle.pw_files.specs.Kinds.{scalar_at}
 use Rattle.pw_files.proofs.OnwardLaws.{Onward, one_onward, behind, done_onward, here_onward, ended_onward, checked_one, mapped_one, u8_one, u32_one, choice_one, flag_one, scalar_one, name_one, items_onward, name_above_one}
 use Rattle.pw_files.proofs.FaultLaws.{Keeps, keeps_behind, keeps_ended, contents_onward, contents_keep}
@@ -14,7 +14,7 @@ use Rattle.pw_files.proofs.FaultLaws as files
 use Rattle.pw_db.specs.declared.database.Web.{Web}
 use Rattle.pw_db.specs.declared.database.Directives.{Directives}
 use Rattle.pw_db.specs.Database.{kind, database_version}
-use Rattle.pw_db.specs.Reading.{number_at, global_at, kind_at, register_at, writes_at, role_at, web_at, next_web, webs_at, no_free_at, Before, function_at, next_function, nothing_before, functions_at, unused_rule, fields_at, database_file_at}
+use Rattle.pw_db.specs.Reading.{number_at, global_at, kind_at, register_at, writes_at, role_at, web_at, next_web, webs_at, no_free_at, Before, function_at, next_function, nothing_before, functions_at, unused_rule, fields_at, payload_at, database_file_at}
 
 web_onward : (names : List (List ℕ)) (seen own : List Web) → Onward (web_at names seen own)
 unfolding web_at number_at global_at kind_at register_at writes_at role_at
@@ -50,3 +50,6 @@ fields_keep names rule = keeps_behind here _ _ (λ count. keeps_behind (function
 
 pub faults_stay : FaultsStay kind database_version fields_at (λ bytes. value_of (database_file_at bytes))
 faults_stay = files.faults_stay kind database_version fields_at unused_rule (contents_onward fields_at fields_onward) (contents_keep fields_at unused_rule fields_keep)
+
+pub payload_faults_stay : PayloadFaultsStay fields_at (λ bytes. value_of (placed (length bytes) (payload_at bytes)))
+payload_faults_stay = files.payload_faults_stay fields_at unused_rule (contents_onward fields_at fields_onward) (contents_keep fields_at unused_rule fields_keep)

@@ -1,11 +1,12 @@
 //! The laws of databases' files and payloads.
 
-ghost use Rattle.std.specs.Prelude.{◌≡◌, ℕ, List, All, map};
+ghost use Rattle.std.specs.Prelude.{◌≡◌, ℕ, List, All, map, length};
 ghost use Rattle.pw_files.specs.Contents.{value_of};
-ghost use Rattle.pw_files.specs.Faults.{FaultsStay};
+ghost use Rattle.pw_value.specs.FieldFrame.{placed};
+ghost use Rattle.pw_files.specs.Faults.{FaultsStay, PayloadFaultsStay};
 ghost use Rattle.pw_db.specs.declared.database.Directives.{Directives};
 ghost use Rattle.pw_db.specs.Database.{HasDirectives, IsDatabase, IsDatabaseFile, IsPayload, IsStored, kind, database_version};
-ghost use Rattle.pw_db.specs.Reading.{fields_at, database_file_at};
+ghost use Rattle.pw_db.specs.Reading.{fields_at, payload_at, database_file_at};
 
 /// No bytes are the file of two databases, and no database has two files.
 pub fn databases_and_files_are_one_to_one()
@@ -34,4 +35,9 @@ pub fn directives_are_one()
 /// end.
 pub fn faults_stay()
     ensures { FaultsStay kind database_version fields_at (λ bytes. value_of (database_file_at bytes)) }
+{}
+
+/// The same of payloads.
+pub fn payload_faults_stay()
+    ensures { PayloadFaultsStay fields_at (λ bytes. value_of (placed (length bytes) (payload_at bytes))) }
 {}

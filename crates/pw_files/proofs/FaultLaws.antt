@@ -9,7 +9,7 @@ use Rattle.pw_value.specs.Fields.{◌>>=◌, after, u32_at}
 use Rattle.pw_value.specs.FieldFrame.{here, ended, header_at, digest_size, payload_of, digest_of, opened, opened_at, placed, is_sealed, sealed, framed, file_at}
 use Rattle.pw_value.specs.FieldNames.{names_at}
 use Rattle.pw_files.specs.Contents.{Contents, FieldsReader, contents_at, contents_file_at, value_of}
-use Rattle.pw_files.specs.Faults.{IsFieldLength, OfPayload, Anything, StaysFault, no_rule, unsealed, FaultsStay}
+use Rattle.pw_files.specs.Faults.{IsFieldLength, OfPayload, Anything, StaysFault, no_rule, unsealed, FaultsStay, PayloadFaultsStay}
 use Rattle.pw_files.proofs.OnwardLaws.{Onward, one_onward, checked_one, u32_one, behind, done_onward, here_onward, names_onward}
 
 abbrev failed : {X : Type 0} → ℕ → Result X ℕ
@@ -92,6 +92,12 @@ swapped m n xs ys same =
       | inr le ↦ take_all m (take n xs) (omega (arith, length-take n xs, le)) ∙ sym (take-take n m xs le) ∙ ap (take n) same ∙ take-take n m ys le ∙ sym (take_all m (take n ys) (omega (arith, length-take n ys, le)))
     ]
 
+-- ---- where a fault is placed
+
+placed_fault : {X : Type 0} (end at : ℕ) (r : Result (X × List ℕ) ℕ) → placed end r ≡ Err at → (left : ℕ) × (r ≡ Err left) × (end - left ≡ at)
+placed_fault end at (Ok x) e = absurd cc
+placed_fault {X = X} end at (Err left) e = (left, refl, at_is {X = X} (end - left) at e)
+
 -- ---- a fault of the header
 
 -- A payload has fields, read by `plain`, and rules that are looked at besides, with which `full` reads it. Where this holds of
@@ -123,10 +129,6 @@ module _ {X : Type 0} (kind version : ℕ) (plain full : List ℕ → Result (X 
       }
 
   -- ---- a fault of the fields behind it
-
-  placed_fault : {X : Type 0} (end at : ℕ) (r : Result (X × List ℕ) ℕ) → placed end r ≡ Err at → (left : ℕ) × (r ≡ Err left) × (end - left ≡ at)
-  placed_fault end at (Ok x) e = absurd cc
-  placed_fault {X = X} end at (Err left) e = (left, refl, at_is {X = X} (end - left) at e)
 
   in_payload : (bytes : List ℕ) (at left v : ℕ) (rest : List ℕ) → head (length bytes) bytes ≡ Ok (v, rest) → plain (payload_of rest) ≡ Err left → (length bytes - length (digest_of rest)) - left ≡ at
       → StaysFault (OfPayload kind version Holds) whole bytes at
@@ -218,4 +220,52 @@ module _ {V : Type 0} (kind version : ℕ) (fields : FieldsReader V) (late : Lis
     stays = λ bytes at e.
         let both = fault_stays kind version (contents_at fields no_rule) (contents_at fields late) anywhere onward (λ payload left t e. keeps.same payload left e) bytes at e (λ o e. tt) in
         (ap value_of both.0, still bytes at both.1);
+  }
+
+-- ---- a payload alone
+
+module _ {X : Type 0} (plain full : List ℕ → Result (X × List ℕ) ℕ) (onward : Onward plain) (keeps : Keeps plain full) where
+  abbrev alone : List ℕ → Result X ℕ
+  alone bytes = placed (length bytes) (full bytes)
+
+  alone_within : (bytes : List ℕ) (at : ℕ) (r : Result (X × List ℕ) ℕ) → placed (length bytes) r ≡ Err at → at ≤ length bytes
+  alone_within bytes at (Ok x) e = absurd cc
+  alone_within bytes at (Err left) e = omega (arith, at_is {X = X} (length bytes - left) at e)
+
+  in_alone : (bytes : List ℕ) (at left : ℕ) → plain bytes ≡ Err left → length bytes - left ≡ at → StaysFault Anything alone bytes at
+  in_alone bytes at left is place =
+      let f = onward.fault bytes left is in
+      let begins : length f.before ≡ at = omega (arith, ap length f.parts, length-append f.before f.tail, f.begins, place) in
+      record {
+        count = f.count;
+        field = subst (λ (w : List ℕ). IsFieldLength w f.count) (sym (ap (drop at) f.parts ∙ drop_at f.before f.tail at begins)) f.field;
+        same = λ others len same holds.
+            let a = alike f.before f.tail others f.count (len ∙ ap length f.parts) (ap (λ n. take (n + f.count) others) begins ∙ same ∙ ap (take (at + f.count)) f.parts ∙ ap (λ n. take (n + f.count) (f.before ++ f.tail)) (sym begins)) in
+            let again : full others ≡ Err left = ap full a.parts ∙ keeps.same (f.before ++ a.other) left (f.same a.other a.long a.same) in
+            ap (placed (length others)) again ∙ ap failed (ap (λ n. n - left) len ∙ place);
+      }
+
+  alone_stays : (bytes : List ℕ) (at : ℕ) → placed (length bytes) (plain bytes) ≡ Err at → (alone bytes ≡ Err at) × StaysFault Anything alone bytes at
+  alone_stays bytes at e =
+      let p = placed_fault (length bytes) at (plain bytes) e in
+      (ap (placed (length bytes)) (keeps.same bytes p.0 p.1) ∙ ap failed p.2, in_alone bytes at p.0 p.1 p.2)
+
+module _ {V : Type 0} (fields : FieldsReader V) (late : List (List ℕ) → ℕ → V → ℕ → Option ℕ)
+    (onward : Onward (contents_at fields no_rule)) (keeps : Keeps (contents_at fields no_rule) (contents_at fields late)) where
+  abbrev payload_alone : List ℕ → Result (Contents V) ℕ
+  payload_alone = alone (contents_at fields no_rule) (contents_at fields late) onward keeps
+
+  alone_fault : (r : Result (Contents V) ℕ) (at : ℕ) → value_of r ≡ Err at → r ≡ Err at
+  alone_fault (Ok c) at e = absurd cc
+  alone_fault (Err d) at e = ap failed (at_is {X = V} d at e)
+
+  still_alone : (bytes : List ℕ) (at : ℕ) → StaysFault Anything payload_alone bytes at → StaysFault Anything (λ b. value_of (payload_alone b)) bytes at
+  still_alone bytes at f = record { count = f.count; field = f.field; same = λ others len same holds. ap value_of (f.same others len same holds) }
+
+  pub payload_faults_stay : PayloadFaultsStay fields (λ b. value_of (placed (length b) (contents_at fields late b)))
+  payload_faults_stay = record {
+    within = λ bytes at e. alone_within (contents_at fields no_rule) (contents_at fields late) onward keeps bytes at (contents_at fields late bytes) (alone_fault (payload_alone bytes) at e);
+    stays = λ bytes at e.
+        let both = alone_stays (contents_at fields no_rule) (contents_at fields late) onward keeps bytes at e in
+        (ap value_of both.0, still_alone bytes at both.1);
   }

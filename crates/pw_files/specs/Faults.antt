@@ -40,3 +40,8 @@ fields_file_at kind version fields bytes = unsealed (λ v. contents_at fields no
 pub record FaultsStay {V : Type 0} (kind version : ℕ) (fields : FieldsReader V) (read : List ℕ → Result V ℕ) : Type 0 where
   pub within : (bytes : List ℕ) (at : ℕ) → read bytes ≡ Err at → at ≤ length bytes
   pub stays : (bytes : List ℕ) (at : ℕ) → fields_file_at kind version fields bytes ≡ Err at → (read bytes ≡ Err at) × StaysFault Anything read bytes at
+
+-- The same of bytes that are a payload alone, without a header and a digest.
+pub record PayloadFaultsStay {V : Type 0} (fields : FieldsReader V) (read : List ℕ → Result V ℕ) : Type 0 where
+  pub within : (bytes : List ℕ) (at : ℕ) → read bytes ≡ Err at → at ≤ length bytes
+  pub stays : (bytes : List ℕ) (at : ℕ) → placed (length bytes) (contents_at fields no_rule bytes) ≡ Err at → (read bytes ≡ Err at) × StaysFault Anything read bytes at
