@@ -12,13 +12,6 @@ use pw_value::program_names::{MAIN, START};
 use pw_value::{Name, Shape};
 use std::alloc::{AllocError, Global};
 
-/// Whether an item or an operation may name this: it is not `$start`.
-pub fn is_ordinary(name: &Name) -> bool
-    ensures { IsTrue result ↔ IsOrdinary name.now }
-{
-    name.as_bytes() != START
-}
-
 /// Whether no object has the name.
 fn is_no_global(globals: &[FlowGlobal], name: &[u8]) -> bool
     ensures { IsTrue result ↔ All (λ g. g.name ≢ name.now) globals.now }

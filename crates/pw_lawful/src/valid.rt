@@ -7,10 +7,11 @@ ghost use Rattle.pw_flow.specs.ValidFlow.{IsWord, IsItem, AreItems, IsGlobal, Is
 ghost use Rattle.pw_value.specs.Limits.{room_limit};
 ghost use Rattle.pw_value.specs.ProgramNames.{IsOrdinary};
 
-use crate::names::{are_names_lawful, is_ordinary};
+use crate::names::are_names_lawful;
 use pw_flow::{Block, End, FlowFn, FlowGlobal, FlowModule, Item, Op, kind_size};
 use pw_value::Kind;
 use pw_value::limits::{PARAMETER_LIMIT, ROOM_LIMIT, SIZE_LIMIT};
+use pw_value::program_names::is_ordinary;
 use std::alloc::{AllocError, Global};
 
 /// Whether an object of the kind has its size.

@@ -7,7 +7,8 @@ ghost use Rattle.pw_program.specs.Entries.{declaration, key, stands_before, Clas
 
 use crate::interface::Interface;
 use crate::names::{Declared, declarations};
-use crate::same::{is_ordinary, is_same};
+use crate::same::is_same;
+use pw_value::program_names::is_ordinary;
 use pw_value::{LinkFault, agree};
 use std::alloc::{AllocError, Global};
 

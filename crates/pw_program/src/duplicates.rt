@@ -7,8 +7,9 @@ ghost use Rattle.pw_program.specs.Entries.{definition, stands_before, IsAgain, A
 
 use crate::interface::Interface;
 use crate::names::{Defined, definitions};
-use crate::same::{is_ordinary, is_same};
+use crate::same::is_same;
 use pw_value::LinkFault;
+use pw_value::program_names::is_ordinary;
 use std::alloc::{AllocError, Global};
 
 /// Definitions by name, and those of a name by module.

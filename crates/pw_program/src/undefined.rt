@@ -8,8 +8,8 @@ ghost use Rattle.pw_program.specs.Linking.{library, all_defined, Answers};
 
 use crate::interface::Interface;
 use crate::names::{defined_names, used_names};
-use crate::same::is_ordinary;
 use pw_value::fields::names::{find_name, table_of};
+use pw_value::program_names::is_ordinary;
 use pw_value::{LinkFault, Name};
 use std::alloc::Global;
 

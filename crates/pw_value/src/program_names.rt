@@ -3,7 +3,7 @@
 
 ghost use Rattle.std.specs.Prelude.{ℕ, ◌≡◌, ◌↔◌, List, IsTrue, map};
 ghost use Rattle.pw_value.specs.ProgramNames.{start_name, main_name, exit_name, getchar_name, putchar_name, library_name, library_functions, start_shape, main_shape, exit_shape, getchar_shape, putchar_shape};
-ghost use Rattle.pw_value.specs.ProgramNames.{MayStand, may_stand, times, KeepsStart, keeps_start};
+ghost use Rattle.pw_value.specs.ProgramNames.{IsOrdinary, MayStand, may_stand, times, KeepsStart, keeps_start};
 ghost use Rattle.pw_value.specs.declared.program_names.StartName.{StartName as AnyStartName};
 
 use crate::name::Name;
@@ -59,6 +59,13 @@ pub fn is_allowed(start: StartName, name: &Name) -> bool
         StartName::Allowed => true,
         StartName::Refused => name.as_bytes() != START,
     }
+}
+
+/// Whether a name is not `$start`.
+pub fn is_ordinary(name: &Name) -> bool
+    ensures { IsTrue result ↔ IsOrdinary name.now }
+{
+    is_allowed(StartName::Refused, name)
 }
 
 /// How often a name stands among these.
