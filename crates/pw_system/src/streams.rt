@@ -31,12 +31,13 @@ struct Block {
 
 impl Model for Block {
     ghost use Rattle.std.specs.Prelude.{ℕ, List, ◌≤◌, take, drop};
+    ghost use Rattle.pw_system.specs.declared.streams.TheConstants.{BLOCK};
 
     ghost Value = { List ℕ };
 
     ghost view = { λ b. drop b.next (take b.end b.bytes) };
 
-    ghost invariant = { λ b. b.end ≤ 4096 };
+    ghost invariant = { λ b. b.end ≤ BLOCK };
 }
 
 impl Block {
