@@ -7,13 +7,13 @@ use Rattle.pw_tree.specs.Trees.{Word, Expr, Init, Inits}
 use Rattle.pw_tree.specs.Trees as S
 use Rattle.pw_types.specs.TypeTrees.{CType, Void, Int, Pointer, Function, Record, Array, QType, type_of, RecordValue}
 use Rattle.pw_types.specs.TypedTrees.{Expression, LocalValue, ModuleValue}
-use Rattle.pw_types.specs.WellTyped.{IsTyped, IsScalar}
+use Rattle.pw_types.specs.WellTyped.{IsTyped, IsScalar, type_in}
 use Rattle.pw_walk.specs.Causes.{InitialiserCount, needs, InitialiserForm}
 use Rattle.pw_walk.specs.Walks.{Walk, Done, bind, granted}
 use Rattle.pw_rules.specs.Initialisers.{Context, Filled, Frame, Cursor, Target, Reached, target_at, frame_of, one_on, nothing_filled, value_filled, string_filled, listed_value, listed_string, listed_expression, listed_by, listed_form, StringForm, IsString, IsOther, string_form, braced_string, braced_target, braced_by, fills_characters, words_in, meets_characters, takes_record, takes_braces, next_target, next_part, part_of, reach, reached, inits_rule, init_rule, Initialised, passed, object_string, object_value, object_list, object_by, object_rule, is_by_bytes}
 use Rattle.pw_rules.specs.Kinds.{is_character_array, is_scalar}
 use Rattle.pw_rules.specs.Leaves.{string_point}
-use Rattle.pw_rules.specs.Operands.{type_in, cast_to}
+use Rattle.pw_rules.specs.Operands.{cast_to}
 use Rattle.pw_rules.specs.States.{State, Rule, records_in}
 use Rattle.pw_well_typed.specs.Lawful.{IsLawful, IsLawfulType, Denotes, AreWords}
 use Rattle.pw_well_typed.proofs.Walking.{post_bind, post_weaken, truth}
