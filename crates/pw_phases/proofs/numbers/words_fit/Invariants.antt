@@ -1,7 +1,7 @@
 use Rattle.std.proofs.Common.{length}
 use Rattle.std.specs.List.{AllByRecursion}
 use Rattle.pw_value.specs.Fields.{FitsU32}
-use Rattle.pw_phases.proofs.lawful.words_fit.Given as goal
+use Rattle.pw_phases.proofs.numbers.words_fit.Given as goal
 
 abbrev pub invariant-loop-rest : goal.invariant-loop-rest
 invariant-loop-rest l = AllByRecursion FitsU32 l.rest → AllByRecursion FitsU32 l.words
