@@ -1,7 +1,7 @@
 -- What types are (ISO C90 6.1.2.5, 6.2.1): the tests that constraints speak of.
 use Rattle.std.specs.Prelude.{ℕ, zero, suc, ◌+◌, ◌==◌, Bool, true, false, not, ◌&&◌, ◌||◌, Option, None, Some, is_some, List, [], ◌∷◌, option_map, unwrap_or}
 use Rattle.std.specs.List.{list_any}
-use Rattle.pw_value.specs.ProgramNames.{same_truth}
+pub use Rattle.pw_value.specs.ProgramNames.{same_truth}
 use Rattle.pw_types.specs.declared.kind.IntKind.{IntKind}
 use Rattle.pw_types.specs.declared.kind.IntKind.TheVariants as K
 use Rattle.pw_types.specs.TypeTrees.{CType, Void, Int, Pointer, Array, Function, Record, QType, Qualified, QTypes, NoType, OneType, type_of, MemberValue, RecordValue}

@@ -1,7 +1,7 @@
 -- Operands: typed expressions with what constraints ask of them beside their types, and the conversions of operands
 -- (ISO C90 6.2).
 use Rattle.std.specs.Prelude.{Bool, true, false, ◌&&◌, if◌then◌else◌}
-use Rattle.pw_types.specs.WellTyped.{type_in}
+pub use Rattle.pw_types.specs.WellTyped.{type_in}
 use Rattle.pw_types.specs.Conversions.{promoted, usual_of}
 use Rattle.pw_types.specs.TypeTrees.{CType, Int, Pointer, Array, Function, type_of}
 use Rattle.pw_types.specs.TypedTrees.{Expression, Node, token_of, type_at}

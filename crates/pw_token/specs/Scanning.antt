@@ -1,7 +1,8 @@
 -- How long the constants, comments and marks are that stand at the front of a text, 0 where none does.
 use Rattle.std.specs.Prelude.{ℕ, ◌+◌, Bool, true, false, ◌&&◌, ◌||◌, if◌then◌else◌, ◌==◌, nat_lt, List, [], ◌∷◌, drop, length, slice_index, nat_eq}
 use Rattle.std.specs.List.{prefix_len, starts_with}
-use Rattle.pw_token.specs.Bytes.{is_in, is_nondigit, is_either, is_u, is_l, is_simple_escape}
+use Rattle.pw_token.specs.Bytes.{is_in, is_nondigit, is_either}
+pub use Rattle.pw_token.specs.Bytes.{is_u, is_l, is_simple_escape}
 use Rattle.pw_token.specs.declared.bytes.Class.{Class}
 use Rattle.pw_token.specs.declared.bytes.Class.TheVariants as class
 use Rattle.pw_token.specs.declared.literals.Mode.{Mode}
