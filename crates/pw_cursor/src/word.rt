@@ -2,7 +2,7 @@
 
 ghost use Rattle.std.specs.Prelude.{◌≡◌, ◌≤◌};
 ghost use Rattle.pw_tree.specs.Lexemes.{view_lexeme};
-ghost use Rattle.pw_tree.specs.Levels.{binary_level};
+ghost use Rattle.pw_tree.specs.Levels.{assignment, binary_level, cast, comma, conditional, unary};
 ghost use Rattle.pw_tree.specs.WellFormed.{operand_level};
 ghost use Rattle.pw_grammar.specs.Tests as test;
 ghost use Rattle.pw_tree.specs.Scopes.{has_type, has_typedef};
@@ -26,6 +26,15 @@ pub const CONDITIONAL: u8 = 14;
 pub const CAST: u8 = 3;
 /// The level of a unary expression (6.3.3).
 pub const UNARY: u8 = 2;
+
+/// The levels are those that the definitions speak of.
+pub fn levels_of_expressions()
+    ensures comma { COMMA ≡ comma }
+    ensures assignment { ASSIGNMENT ≡ assignment }
+    ensures conditional { CONDITIONAL ≡ conditional }
+    ensures cast { CAST ≡ cast }
+    ensures unary { UNARY ≡ unary }
+{}
 
 /// The keywords that are or begin a specifier.
 pub fn specifier_word(keyword: Keyword) -> Option<SpecifierWord>
