@@ -2,7 +2,7 @@
 
 ghost use Rattle.std.specs.Prelude.{true, ◌≡◌, IfOk};
 ghost use Rattle.pw_delay.specs.Lines.{AreLines};
-ghost use Rattle.pw_delay.specs.Placement.{laid, placed_items, placed};
+ghost use Rattle.pw_delay.specs.Placement.{laid, placed_items, placed, short_limit};
 ghost use Rattle.pw_delay.specs.Lawful.{AreItems};
 
 use crate::code::Code;
@@ -14,7 +14,12 @@ use pw_inst::Line;
 use std::alloc::{AllocError, Global};
 
 /// How many words short conditional branches can reach over.
-const SHORT_LIMIT: usize = 2040;
+pub const SHORT_LIMIT: usize = 2040;
+
+/// The limit is the one that the definitions speak of.
+pub fn limit_of_short_branches()
+    ensures { SHORT_LIMIT ≡ short_limit }
+{}
 
 /// The greatest count of words of a function's code.
 const WORDS_MAX: usize = 4_294_967_000;
