@@ -6,6 +6,7 @@
 mod decoding;
 mod encoding;
 mod fields;
+mod limits;
 mod line;
 mod listing;
 mod relocation;
@@ -13,6 +14,7 @@ mod setting;
 
 pub use decoding::{decode, word_is_decoded_again, words_differ};
 pub use encoding::encode;
+pub use limits::{NEAR_LEAST, NEAR_MOST, ROUTINE_COUNT, limits_of_instructions};
 pub use line::Line;
 pub use listing::{target, text};
 pub use relocation::{Fix, FixKind, Symbol};

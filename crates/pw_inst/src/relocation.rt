@@ -13,7 +13,7 @@ pub enum FixKind {
 
 /// What an address is of: a function or an object by its name, a word of the relocation's own function by
 /// its number, the end of the stack, or one of the routines `$divs`, `$divu`, `$mul`, `$rems` and `$remu` by
-/// its place from 0 to 4.
+/// its place, below `ROUTINE_COUNT`.
 #[derive(PartialEq, Eq, Debug, Drop)]
 pub enum Symbol {
     Named(Name),
