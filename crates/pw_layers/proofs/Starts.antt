@@ -5,6 +5,7 @@ use Rattle.std.specs.Str.{bytes_eq}
 use Rattle.std.proofs.Common.{arith, subst, sym, ap, refl, inl, inr, ◌∙◌}
 use Rattle.std.proofs.lemmas.List.Elements.{All-contains, All-from_recursion, Contains-append_left, Contains-append_right, Contains-append_cases, Contains-push_cases}
 use Rattle.std.proofs.lemmas.List.Concat.{flat_map-cons}
+use Rattle.pw_value.specs.Limits.{stack_least}
 use Rattle.pw_value.specs.ProgramNames.{start_name, main_name}
 use Rattle.pw_types.specs.TypedTrees.{Symbol, External, Internal, Hidden, FunctionValue, ModuleValue}
 use Rattle.pw_db.specs.declared.database.Directives.{Directives}
@@ -147,7 +148,7 @@ starts ms valid c =
 pub start_fits : PlacesFit → (q : flows.Program) (d : List (List ℕ × Directives)) (functions : List Located)
     → FramesAre q functions → AllServe (map (directed_by d) (functions_of q)) functions
     → AllByRecursion IsValid q.modules → AllByRecursion (λ f. IsDirectives f.1) d
-    → Contains (functions_of q) start_function → q.frame_of start_name ≤ 4096
+    → Contains (functions_of q) start_function → q.frame_of start_name ≤ stack_least
 start_fits fit q d functions frames serve valid lawful c =
     let a : q.frame_of start_name ≤ flow_room start_function = frame_fits fit q d functions frames serve valid lawful start_function c in
     let b : flow_room start_function ≡ 136 = refl in
