@@ -5,7 +5,7 @@ ghost use Rattle.std.specs.List.{AllByRecursion};
 ghost use Rattle.pw_object.specs.Functions.{IsFix, IsFunction, IsSymbol};
 ghost use Rattle.pw_value.specs.Fields.{FitsU32};
 
-use pw_inst::{Fix, Symbol};
+use pw_inst::{Fix, ROUTINE_COUNT, Symbol};
 use pw_object::ObjectFn;
 
 /// Words are numbers of 32 bits: this is said of each of them, as it is read.
@@ -25,7 +25,7 @@ fn is_symbol(symbol: &Symbol) -> bool
     ensures { IsTrue result → IsSymbol symbol.now }
 {
     match symbol {
-        Symbol::Routine(number) => *number < 5,
+        Symbol::Routine(number) => *number < ROUTINE_COUNT,
         Symbol::Word(word) => {
             let _word = *word;
             true
