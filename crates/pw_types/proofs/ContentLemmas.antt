@@ -38,12 +38,12 @@ end_from-le from (l ∷ rest) all =
     end_from-le (round_up from l.align + l.size) rest (All-rest l rest all) in
     omega arith
 
-clipped-small : (n : ℕ) → n ≤ 1048576 → clipped n ≡ n
+clipped-small : (n : ℕ) → n ≤ size_limit → clipped n ≡ n
 clipped-small n small = omega arith
 
 -- offsets within the limit on sizes are told by 32 bits
 map-clipped-offsets :
-    (from : ℕ) (ls : List Layout) → All (λ l. 1 ≤ l.align) ls → end_from from ls ≤ 1048576
+    (from : ℕ) (ls : List Layout) → All (λ l. 1 ≤ l.align) ls → end_from from ls ≤ size_limit
     → map clipped (offsets_from from ls) ≡ offsets_from from ls
 map-clipped-offsets from [] all within = refl
 map-clipped-offsets from (l ∷ rest) all within =
@@ -99,7 +99,7 @@ offsets_by-is :
     (kind : RecordKind) (records : List RecordValue) (members : List MemberValue) (m : Measure)
     → All (λ l. 1 ≤ l.align) (layouts_of records members)
     → Measures (layouts_of records members) m
-    → (record_layout kind (layouts_of records members)).size ≤ 1048576
+    → (record_layout kind (layouts_of records members)).size ≤ size_limit
     → offsets_by kind m.offsets.items (length members) ≡ record_offsets kind (layouts_of records members)
 offsets_by-is Structure records members m aligned is within =
     let some : 1 ≤ align_of (layouts_of records members) = omega arith in
@@ -208,7 +208,7 @@ Defines-by_measures records kind members m c laid complete is kept offsets size 
     let laid_is : c.layout ≡ record_layout kind ls =
     ap (λ s. let l : Layout = record { size = s; align = c.layout.align } in l) size_is
     ∙ ap (λ a. let l : Layout = record { size = (record_layout kind ls).size; align = a } in l) align_is in
-    let fits : (record_layout kind ls).size ≤ 1048576 = subst (λ s. s ≤ 1048576) size_is within in
+    let fits : (record_layout kind ls).size ≤ size_limit = subst (λ s. s ≤ size_limit) size_is within in
     let placed_is : c.offsets ≡ record_offsets kind ls =
     offsets ∙ offsets_by-is kind records members m (All-aligned records members laid complete) is fits in
     record {

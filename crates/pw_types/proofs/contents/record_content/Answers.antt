@@ -1,4 +1,5 @@
 use Rattle.std.proofs.Common.{◌≡◌, ◌∙◌, sym, ap, subst, refl, arith, ◌≤◌, ℕ, List, length, All}
+use Rattle.pw_value.specs.Limits.{shape_limit}
 use Rattle.pw_types.specs.TypeTrees.{MemberValue, type_of}
 use Rattle.pw_types.specs.Views.{view_member, view_members}
 use Rattle.pw_types.specs.Records.{IsObjectType, layouts_of}
@@ -60,7 +61,7 @@ pub returns-clause-ok : goal.returns-clause-ok
 returns-clause-ok c =
     let is = lemmas.Measures-of c.args.types.now (view_members c.args.members.items) (view_members c.deref.result.now) c.in_ok-measure.measure (ap view_members c.deref.ensures.value) c.in_ok-measure.ensures in
     let count : c.len-2.result ≡ length (view_members c.args.members.items) = omega (arith, c.args.members.ok.0, length-map c.args.members.items view_member) in
-    let short : length c.in_ok-text.text.items ≤ 4096 = omega (arith, c.in_ok-text.text.ok.0) in
+    let short : length c.in_ok-text.text.items ≤ shape_limit = omega (arith, c.in_ok-text.text.ok.0) in
     lemmas.Defines-by_measures
     c.args.types.now c.args.kind (view_members c.args.members.items) c.in_ok-measure.measure
     (record {
@@ -80,5 +81,5 @@ returns-clause-ok c =
     (c.new.ensures ∙ c.in_ok-text.ensures ∙ ap (λ ms. record_shape c.args.kind c.record_size-size.result (member_shapes c.args.types.now ms)) (ap view_members c.deref-2.ensures.value))
     (lemmas.depth-by_members c.args.types.now (view_members c.args.members.items) (view_members c.deref-3.result.now) c.deepest.result c.saturating_add-depth.result (ap view_members c.deref-3.ensures.value) c.deepest.ensures c.saturating_add-depth.ensures)
     (omega arith)
-    (subst (λ (t : List ℕ). length t ≤ 4096) (sym c.new.ensures) short)
+    (subst (λ (t : List ℕ). length t ≤ shape_limit) (sym c.new.ensures) short)
     (omega arith)
