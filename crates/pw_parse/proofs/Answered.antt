@@ -3,6 +3,7 @@ use Rattle.std.proofs.Common.{◌≡◌, ◌≢◌, ℕ, ◌+◌, List, length, 
 use Rattle.std.specs.List.{position_from}
 use Rattle.std.specs.Prelude.{nat_lt}
 use Rattle.std.proofs.lemmas.List.{length-map}
+use Rattle.pw_token.specs.Limits.{nest_limit}
 use Rattle.pw_token.specs.Nesting.{nests_of}
 use Rattle.pw_token.specs.declared.token.Token.{Token}
 use Rattle.pw_tree.specs.Symbols.{Symbol}
@@ -19,7 +20,7 @@ abbrev module_of : List External → Input → Outcome Module
 module_of es i = Ok (record { externals = es }, i)
 
 module _ (text : List ℕ) (tokens : List Token) (symbols : List (Option Symbol)) (shown : symbols ≡ map (symbol_in text) tokens)
-    (flat : None ≡ position_from (λ nest. nat_lt 200 nest) 1 (nests_of text tokens)) where
+    (flat : None ≡ position_from (λ nest. nat_lt nest_limit nest) 1 (nests_of text tokens)) where
   answered : parsed text tokens ≡ answer_of (and_then (externals (length tokens + 1) (start symbols)) module_of)
   unfolding parsed read
   answered =

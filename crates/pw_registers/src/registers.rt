@@ -6,7 +6,7 @@ ghost use Rattle.pw_registers.specs.Registers.{word, copied, is_near, long_const
 
 use pw_alloc::Place;
 use pw_delay::copy_symbol;
-use pw_inst::{FixKind, Inst, Line, Symbol, left_part, right_part};
+use pw_inst::{FixKind, Inst, Line, NEAR_LEAST, NEAR_MOST, Symbol, left_part, right_part};
 use pw_items::Items;
 use pw_value::{Kind, Name};
 use std::alloc::{AllocError, Global};
@@ -70,7 +70,7 @@ pub fn put_copy(out: &mut Items<Line>, a: u8, d: u8) -> Result<(), AllocError>
 fn is_near(n: i32) -> bool
     ensures { result ≡ is_near n }
 {
-    -8192 <= n && n <= 8191
+    -(NEAR_LEAST as i32) <= n && n <= NEAR_MOST as i32
 }
 
 /// A word in a register, by its left and right parts.

@@ -12,7 +12,7 @@ use Rattle.pw_flow.specs.declared.flow.Op.TheVariants as variant
 use Rattle.pw_flow.specs.declared.flow.Block.{Block}
 use Rattle.pw_flow.specs.declared.flow.FlowFn.{FlowFn}
 use Rattle.pw_flow.specs.declared.flow.Op.TheVariants.{LoadG, StoreG}
-use Rattle.pw_summarise.specs.Summarises.{most, weight, is_read, is_write, reference}
+use Rattle.pw_summarise.specs.Summarises.{deepest, most, weight, is_read, is_write, reference}
 use Rattle.pw_summarise.specs.Tallies.{with_weight, with_op, with_ops, with_blocks, none_yet}
 
 -- a global whose reads and writes come to these so far
@@ -119,7 +119,7 @@ names_unweighted (name ∷ names) = ap (λ (ns : List (List ℕ)). name ∷ ns) 
 
 -- ---- the greatest weight of one operation
 
-pub power_fits : (n : ℕ) → n ≤ 4 → 8 ^ n < 2 ^ 64
+pub power_fits : (n : ℕ) → n ≤ deepest → 8 ^ n < 2 ^ 64
 power_fits zero le = lit< tt
 power_fits (suc zero) le = lit< tt
 power_fits (suc (suc zero)) le = lit< tt

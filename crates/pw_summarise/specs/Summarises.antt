@@ -52,12 +52,17 @@ in_module parts m = flat_map names_in_global m.globals ++ flat_map (in_function 
 
 -- ---- weights
 
+-- the greatest that a summary holds
 abbrev pub most : ℕ
 most = 4294967295
 
+-- the loops from which on deeper ones weigh no more
+abbrev pub deepest : ℕ
+deepest = 4
+
 -- of an operation in a block inside so many loops
 abbrev pub weight : ℕ → ℕ
-weight depth = 8 ^ min 4 depth
+weight depth = 8 ^ min deepest depth
 
 abbrev pub is_read : List ℕ → Op → Bool
 is_read name (LoadG t g k) = bytes_eq g name

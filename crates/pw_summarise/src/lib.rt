@@ -11,3 +11,4 @@ mod uses;
 mod weights;
 
 pub use making::summarise;
+pub use weights::{DEEPEST, MOST, limits_of_weights};

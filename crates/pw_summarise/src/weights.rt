@@ -3,7 +3,7 @@
 ghost use Rattle.std.specs.Prelude.{◌≡◌, ◌<◌, map, length, IfOk, IfSome, IfNone, Contains};
 ghost use Rattle.std.specs.List.{HoldsAt};
 ghost use Rattle.pw_files.specs.Rising.{IsRising};
-ghost use Rattle.pw_summarise.specs.Summarises.{weight as weight_of, IsOrdered, reference, referenced, in_function};
+ghost use Rattle.pw_summarise.specs.Summarises.{deepest, most, weight as weight_of, IsOrdered, reference, referenced, in_function};
 ghost use Rattle.pw_summarise.specs.Tallies.{with_weight as sum_with, with_read, with_write, with_op, with_ops, with_blocks, none_yet};
 
 use crate::names::{Part, function_names};
@@ -13,10 +13,16 @@ use pw_value::Name;
 use std::alloc::{AllocError, Global};
 
 /// The greatest weight that a summary holds.
-const MOST: u64 = 4_294_967_295;
+pub const MOST: u64 = 4_294_967_295;
 
 /// The depth from which on deeper loops weigh no more.
-const DEEPEST: u32 = 4;
+pub const DEEPEST: u32 = 4;
+
+/// The limits are those that the definitions speak of.
+pub fn limits_of_weights()
+    ensures most { MOST ≡ most }
+    ensures deepest { DEEPEST ≡ deepest }
+{}
 
 /// The weight of a read or a write inside so many loops.
 fn weight(depth: u32) -> u64

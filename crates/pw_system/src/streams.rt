@@ -36,7 +36,7 @@ impl Model for Block {
 
     ghost view = { λ b. drop b.next (take b.end b.bytes) };
 
-    ghost invariant = { λ b. b.end ≤ 4096 };
+    ghost invariant = { λ b. b.end ≤ BLOCK };
 }
 
 impl Block {

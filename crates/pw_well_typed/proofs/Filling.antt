@@ -5,6 +5,7 @@ use Rattle.std.proofs.Common.{ap, sym, subst, ◌∙◌, inl, inr}
 use Rattle.pw_tree.specs.FirstTokens.{first_of_expr}
 use Rattle.pw_tree.specs.Trees.{Word, Expr, Init, Inits}
 use Rattle.pw_tree.specs.Trees as S
+use Rattle.pw_value.specs.Limits.{depth_limit}
 use Rattle.pw_types.specs.TypeTrees.{CType, Void, Int, Pointer, Function, Record, Array, QType, type_of, RecordValue}
 use Rattle.pw_types.specs.TypedTrees.{Expression, LocalValue, ModuleValue}
 use Rattle.pw_types.specs.WellTyped.{IsTyped, IsScalar, type_in}
@@ -69,17 +70,17 @@ reached_at r takes f x t deep h e =
 scalar_reached : (r : List RecordValue) (takes : CType → Bool) (f : Frame) (x : Reached) (ty : CType) → IsScalar ty → f.ty ≡ ty → reach r takes (f ∷ []) ≡ Some x
     → (type_of x.target.ty ≡ ty) × (x.cursor ≡ f ∷ [])
 unfolding reached
-scalar_reached r takes f x (Int k) scalar same e = by (f.next == 0) (sym (ap (λ c. option_and_then (λ (t : Target). if is_scalar (type_of t.ty) || takes (type_of t.ty) then Some (record { target = t; cursor = f ∷ [] }) else reached 200 r takes (frame_of t ∷ f ∷ [])) (part_of r c f)) same) ∙ e)
+scalar_reached r takes f x (Int k) scalar same e = by (f.next == 0) (sym (ap (λ c. option_and_then (λ (t : Target). if is_scalar (type_of t.ty) || takes (type_of t.ty) then Some (record { target = t; cursor = f ∷ [] }) else reached depth_limit r takes (frame_of t ∷ f ∷ [])) (part_of r c f)) same) ∙ e)
   where
-    by : (b : Bool) → option_and_then (λ (t : Target). if is_scalar (type_of t.ty) || takes (type_of t.ty) then Some (record { target = t; cursor = f ∷ [] }) else reached 200 r takes (frame_of t ∷ f ∷ []))
+    by : (b : Bool) → option_and_then (λ (t : Target). if is_scalar (type_of t.ty) || takes (type_of t.ty) then Some (record { target = t; cursor = f ∷ [] }) else reached depth_limit r takes (frame_of t ∷ f ∷ []))
         (if b then Some (target_at (Rattle.pw_rules.specs.Kinds.plain (Int k)) f.offset) else None) ≡ Some x → (type_of x.target.ty ≡ Int k) × (x.cursor ≡ f ∷ [])
-    by true g = reached_at r takes f x (target_at (Rattle.pw_rules.specs.Kinds.plain (Int k)) f.offset) 200 refl g
+    by true g = reached_at r takes f x (target_at (Rattle.pw_rules.specs.Kinds.plain (Int k)) f.offset) depth_limit refl g
     by false g = never_some g
-scalar_reached r takes f x (Pointer q) scalar same e = by (f.next == 0) (sym (ap (λ c. option_and_then (λ (t : Target). if is_scalar (type_of t.ty) || takes (type_of t.ty) then Some (record { target = t; cursor = f ∷ [] }) else reached 200 r takes (frame_of t ∷ f ∷ [])) (part_of r c f)) same) ∙ e)
+scalar_reached r takes f x (Pointer q) scalar same e = by (f.next == 0) (sym (ap (λ c. option_and_then (λ (t : Target). if is_scalar (type_of t.ty) || takes (type_of t.ty) then Some (record { target = t; cursor = f ∷ [] }) else reached depth_limit r takes (frame_of t ∷ f ∷ [])) (part_of r c f)) same) ∙ e)
   where
-    by : (b : Bool) → option_and_then (λ (t : Target). if is_scalar (type_of t.ty) || takes (type_of t.ty) then Some (record { target = t; cursor = f ∷ [] }) else reached 200 r takes (frame_of t ∷ f ∷ []))
+    by : (b : Bool) → option_and_then (λ (t : Target). if is_scalar (type_of t.ty) || takes (type_of t.ty) then Some (record { target = t; cursor = f ∷ [] }) else reached depth_limit r takes (frame_of t ∷ f ∷ []))
         (if b then Some (target_at (Rattle.pw_rules.specs.Kinds.plain (Pointer q)) f.offset) else None) ≡ Some x → (type_of x.target.ty ≡ Pointer q) × (x.cursor ≡ f ∷ [])
-    by true g = reached_at r takes f x (target_at (Rattle.pw_rules.specs.Kinds.plain (Pointer q)) f.offset) 200 refl g
+    by true g = reached_at r takes f x (target_at (Rattle.pw_rules.specs.Kinds.plain (Pointer q)) f.offset) depth_limit refl g
     by false g = never_some g
 scalar_reached r takes f x Void scalar same e = absurd scalar
 scalar_reached r takes f x (Array q n) scalar same e = absurd scalar
