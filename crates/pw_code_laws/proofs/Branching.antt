@@ -3,6 +3,7 @@ use Rattle.std.proofs.Common.{◌≡◌, inl, inr, ℕ, ℤ, ◌+◌, ◌-◌, �
 use Rattle.std.specs.Prelude.{pos, negsuc, false}
 use Rattle.std.proofs.lemmas.Int.{ints}
 use Rattle.std.proofs.lemmas.Bool.{cases_lt}
+use Rattle.pw_value.specs.Limits.{text_start, word_limit}
 use Rattle.pw_inst.specs.declared.Inst.TheVariants as i
 use Rattle.pw_inst.specs.declared.relocation.FixKind.TheVariants as kind
 use Rattle.pw_inst.specs.Fields.{bits, twos_complement, IsSigned}
@@ -13,6 +14,10 @@ use Rattle.pw_inst.proofs.Words.{decoded-word_of}
 use Rattle.pw_link.specs.Linking.{branch_distance, settled}
 use Rattle.pw_lines.specs.Words.{Leads}
 
+-- the address behind the greatest text
+abbrev pub text_end : ℕ
+text_end = text_start + 4 * word_limit
+
 -- the displacement of a branch at an address that leads to another
 pub record Hop (own target : ℕ) : Type 0 where
   pub displacement : ℤ
@@ -20,7 +25,7 @@ pub record Hop (own target : ℕ) : Type 0 where
   pub bits : branch_distance own target % 2 ^ 17 ≡ twos_complement 17 displacement
   pub leads : Leads own displacement target
 
-ahead : (own target k : ℕ) → target ≡ own + 8 + 4 * k → 4096 ≤ own → target ≤ 266240 → Hop own target
+ahead : (own target k : ℕ) → target ≡ own + 8 + 4 * k → text_start ≤ own → target ≤ text_end → Hop own target
 ahead own target k e low high = record {
   displacement = pos k;
   signed = (omega (arith, ints), omega (arith, ints));
@@ -28,7 +33,7 @@ ahead own target k e low high = record {
   leads = omega (arith, ints);
 }
 
-back : (own target k : ℕ) → own + 8 ≡ target + 4 * (k + 1) → 4096 ≤ target → own + 8 ≤ 266240 → Hop own target
+back : (own target k : ℕ) → own + 8 ≡ target + 4 * (k + 1) → text_start ≤ target → own + 8 ≤ text_end → Hop own target
 back own target k e low high = record {
   displacement = negsuc k;
   signed = (omega (arith, ints), omega (arith, ints));
@@ -37,7 +42,7 @@ back own target k e low high = record {
 }
 
 -- from each word of the text but the last, to each word and to the end
-pub hop : (own target : ℕ) → own % 4 ≡ 0 → target % 4 ≡ 0 → 4096 ≤ own → own + 8 ≤ 266240 → 4096 ≤ target → target ≤ 266240 → Hop own target
+pub hop : (own target : ℕ) → own % 4 ≡ 0 → target % 4 ≡ 0 → text_start ≤ own → own + 8 ≤ text_end → text_start ≤ target → target ≤ text_end → Hop own target
 hop own target aligned even low high above below = elim (cases_lt target (own + 8)) [
   | inl before ↦ back own target ((own + 8 - target) / 4 - 1) (omega arith) above high
   | inr behind ↦ ahead own target ((target - (own + 8)) / 4) (omega arith) low below

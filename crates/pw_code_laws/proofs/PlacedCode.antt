@@ -6,6 +6,7 @@ use Rattle.std.proofs.lemmas.Int.{ints}
 use Rattle.std.proofs.lemmas.Bool.{ltb-false, eq-eqb, ne_eqb}
 use Rattle.std.proofs.lemmas.List.{length-map}
 use Rattle.std.proofs.lemmas.List.Sums.{sum_by-cons}
+use Rattle.pw_value.specs.Limits.{text_start}
 use Rattle.pw_inst.specs.declared.Inst.{Inst}
 use Rattle.pw_inst.specs.declared.Inst.TheVariants as i
 use Rattle.pw_inst.specs.InstructionTable.{IsInRange, word_of, decoded}
@@ -31,7 +32,7 @@ use Rattle.pw_lines.specs.Acts as lines
 use Rattle.pw_lines.specs.LineRun.{turns}
 use Rattle.pw_lines.specs.Words.{Text, JumpsTo, TestsShort, Tests, CallsSymbol, SlotStands, TurnStands, StandsAt}
 use Rattle.pw_linkrun.specs.CodeStands.{IsOfProgram, AreApart, AreReady, is_long, Reaches, IsKnown, StandAt, PlacedCodeStands}
-use Rattle.pw_code_laws.proofs.Branching.{hop, lands}
+use Rattle.pw_code_laws.proofs.Branching.{hop, lands, text_end}
 use Rattle.pw_code_laws.proofs.Taking.{taken}
 use Rattle.pw_code_laws.proofs.LinkedWords.{fixes_act, WordHolds, WordsHold, hold_from, hold_split}
 use Rattle.pw_code_laws.proofs.ReadyItems.{IsReadyBy, IsReadyWord, IsReadySlot, IsReadyTurn, IsReadyItem, slotted_ready, marks_of, marks_are_labels}
@@ -93,15 +94,15 @@ slot_stands t sites own k slot ready h =
 
 pub record Ground (t : Text) (own : ℕ) (long : Bool) (begins : ℕ → ℕ) (total : ℕ) : Type 0 where
   aligned : own % 4 ≡ 0
-  above : 4096 ≤ own
-  below : own + 4 * total ≤ 266240
+  above : text_start ≤ own
+  below : own + 4 * total ≤ text_end
   marks : (b : ℕ) → t.mark b ≡ own + 4 * begins b
   begun : (b : ℕ) → begins b ≤ total
-  short : long ≡ false → total ≤ 2040
+  short : long ≡ false → total ≤ short_limit
 
 -- a jump whose word is followed by another
 jumps : (t : Text) (own k link target : ℕ) (address : ℕ) → t.fetch (own + 4 * k) ≡ decoded (settled kind.Bl (word_address own k) address (word_of (i.Bl (pos 0) link false)))
-    → address ≡ target → own % 4 ≡ 0 → 4096 ≤ own → own + 4 * k + 8 ≤ 266240 → target % 4 ≡ 0 → 4096 ≤ target → target ≤ 266240 → link < 32
+    → address ≡ target → own % 4 ≡ 0 → text_start ≤ own → own + 4 * k + 8 ≤ text_end → target % 4 ≡ 0 → text_start ≤ target → target ≤ text_end → link < 32
     → JumpsTo t (own + 4 * k) link target
 jumps t own k link target address fetch same aligned low high even above below small =
     let h = hop (own + 4 * k) target (omega (arith, aligned)) even (omega arith) high above below in
@@ -179,8 +180,8 @@ call_stands t sites own long begins total k link s g within small named h =
     let above = g.above in
     let below = g.below in
     let even : target % 4 ≡ 0 = e.1.0 in
-    let low : 4096 ≤ target = e.1.1 in
-    let high : target < 266240 = omega (arith, e.1.2) in
+    let low : text_start ≤ target = e.1.1 in
+    let high : target < text_end = omega (arith, e.1.2) in
     record {
       target = target;
       is = e.0;
@@ -327,7 +328,7 @@ laid_so ls t sites own ready at =
         below = omega (arith, at.below, count);
         marks = at.marks;
         begun = λ b. omega (arith, mark_at_within long 0 items b);
-        short = λ e. subst (λ (b : Bool). sizes b items ≤ 2040) (sym e) (ltb-false short_limit (sizes false items) e);
+        short = λ e. subst (λ (b : Bool). sizes b items ≤ short_limit) (sym e) (ltb-false short_limit (sizes false items) e);
       };
       left = record {
         words = hold_from t sites own 0 ws

@@ -19,6 +19,7 @@ use Rattle.pw_flow.specs.declared.flow.End.TheVariants as end
 use Rattle.pw_db.specs.declared.database.Web.{Web}
 use Rattle.pw_db.specs.declared.database.Role.{Role}
 use Rattle.pw_inst.specs.declared.Inst.{Inst}
+use Rattle.pw_inst.specs.Limits.{near_least, near_most}
 use Rattle.pw_inst.specs.declared.Inst.TheVariants as i
 use Rattle.pw_inst.specs.declared.line.Line.{Line}
 use Rattle.pw_inst.specs.declared.line.Line.TheVariants.{Plain, Fixed, Jump, BranchNonZero, Label, CallTo, CallReg, Leave}
@@ -346,14 +347,14 @@ parameters_are_in frame places k (suc more) =
     joined (parameter_in frame k (place_of places k)) (parameters_in frame places (suc k) more) (parameter_is_in frame k (place_of places k)) (parameters_are_in frame places (suc k) more)
 
 frame_end_in : (frame : ℕ) → AreInside (frame_end frame)
-frame_end_in frame = by (nat_lt 8191 frame)
+frame_end_in frame = by (nat_lt near_most frame)
   where
     by : (t : Bool) → AreInside (if t then constant frame 1 ++ word (i.Addl 30 1 1) else word (i.Ldo (pos frame) 30 1))
     by true = joined (constant frame 1) (word (i.Addl 30 1 1)) (constant_in frame 1) (tt, tt)
     by false = (tt, tt)
 
 frame_left_in : (frame : ℕ) → AreInside (frame_left frame)
-frame_left_in frame = by (nat_lt 8192 frame)
+frame_left_in frame = by (nat_lt near_least frame)
   where
     by : (t : Bool) → AreInside (if t then constant frame 1 ++ word (i.Sub 30 1 30) else word (i.Ldo (below frame) 30 30))
     by true = joined (constant frame 1) (word (i.Sub 30 1 30)) (constant_in frame 1) (tt, tt)

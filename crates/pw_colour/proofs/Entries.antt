@@ -1,6 +1,6 @@
 -- The functions of a database, in their order; and the database of a program.
 use Rattle.std.proofs.Math.Nat.{mul-le-mul_left}
-use Rattle.std.proofs.Common.{◌≡◌, ℕ, zero, suc, ◌+◌, ◌*◌, ◌<◌, ◌≤◌, Bool, true, false, List, [], ◌∷◌, ◌++◌, length, get_or, take, map, refl, sym, ap, subst, ◌∙◌, arith, inl, inr, add-zero, append_assoc}
+use Rattle.std.proofs.Common.{◌≡◌, ℕ, zero, suc, ◌+◌, ◌*◌, ◌^◌, ◌<◌, ◌≤◌, Bool, true, false, List, [], ◌∷◌, ◌++◌, length, get_or, take, map, refl, sym, ap, subst, ◌∙◌, arith, inl, inr, add-zero, append_assoc}
 use Rattle.std.specs.Prelude.{Option, Some, None, Contains, nat_lt, if◌then◌else◌, slice_get}
 use Rattle.std.specs.List.Sorted.{IsPermutation}
 use Rattle.std.proofs.lemmas.Cmp.{nat_list_cmp_total}
@@ -10,6 +10,7 @@ use Rattle.std.proofs.lemmas.List.{length-take-le, append-nil}
 use Rattle.std.proofs.lemmas.Option.{same_Some}
 use Rattle.pw_files.specs.Rising.{IsAbove, IsRisingBehind, IsRising}
 use Rattle.pw_files.proofs.Standing.{Has, has_by, contains_by, has_left, has_right, has_split}
+use Rattle.pw_value.specs.Limits.{function_limit, global_limit}
 use Rattle.pw_db.specs.Database.{EachTwo}
 use Rattle.pw_db.specs.declared.database.Directives.{Directives}
 use Rattle.pw_db.specs.declared.database.Web.{Web}
@@ -150,5 +151,5 @@ is_database ss g colours ws ranked rs qs db of_ss webs moved order count coloure
 
 -- ---- few webs
 
-pub few_webs : (n a b : ℕ) → n ≤ a * b → a ≤ 8192 → b ≤ 4099 → n < 4294967296
-few_webs n a b le ha hb = let most : a * b ≤ a * 4099 = mul-le-mul_left a hb in omega (arith, le, most, ha)
+pub few_webs : (n a b : ℕ) → n ≤ a * b → a ≤ global_limit → b ≤ function_limit + 3 → n < 2 ^ 32
+few_webs n a b le ha hb = let most : a * b ≤ a * (function_limit + 3) = mul-le-mul_left a hb in omega (arith, le, most, ha)

@@ -8,7 +8,7 @@ use Rattle.pw_types.specs.TypedTrees.{Expression, Node, Form}
 use Rattle.pw_types.specs.TypedTrees as T
 use Rattle.pw_rules.specs.Constants.{Constancy, Known, NoConstant, constant_of, convert_word, if_integral, then_known, unary_word}
 use Rattle.pw_rules.specs.Kinds.{is_integral, kind_in}
-use Rattle.pw_rules.specs.Operands.{type_in}
+use Rattle.pw_types.specs.WellTyped.{type_in}
 use Rattle.pw_rules.proofs.Booleans.{no}
 use Rattle.pw_constant.specs.Frames.{applied, binary_of, formed, unwound}
 use Rattle.pw_constant.specs.declared.frames.Frame.{Frame}

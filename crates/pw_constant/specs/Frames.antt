@@ -11,7 +11,7 @@ use Rattle.pw_typed.specs.declared.tree.TForm.{size-TForm}
 use Rattle.pw_typed.specs.Views.{view_expr}
 use Rattle.pw_rules.specs.Constants.{Constancy, Known, NoConstant, then_known, then_formed, both_known, constant_of, unary_word, binary_word, logic_word, choice_word, convert_word}
 use Rattle.pw_rules.specs.Kinds.{is_integral, kind_in}
-use Rattle.pw_rules.specs.Operands.{type_in}
+use Rattle.pw_types.specs.WellTyped.{type_in}
 use Rattle.pw_constant.specs.Views.{view_constancy}
 use Rattle.pw_constant.specs.declared.constants.Turn.{Turn}
 use Rattle.pw_constant.specs.declared.constants.Turn.TheVariants as turn

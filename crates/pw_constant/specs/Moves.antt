@@ -10,7 +10,7 @@ use Rattle.pw_typed.specs.declared.tree.TForm.{size-TForm}
 use Rattle.pw_typed.specs.Views.{view_expr}
 use Rattle.pw_rules.specs.Constants.{Place, AsAddress, AsPlace, moved, moved_against, moved_by, moved_on, moved_back, place_of}
 use Rattle.pw_rules.specs.Kinds.{is_pointer}
-use Rattle.pw_rules.specs.Operands.{type_in}
+use Rattle.pw_types.specs.WellTyped.{type_in}
 use Rattle.pw_constant.specs.Views.{view_asked, view_place}
 use Rattle.pw_constant.specs.declared.moves.Move.{Move}
 use Rattle.pw_constant.specs.declared.moves.Move.TheVariants as move

@@ -1,6 +1,6 @@
 //! A cursor over the tokens of a module, with the names in scope.
 
-ghost use Rattle.std.specs.Prelude.{◌≡◌, ◌≢◌, ◌≤◌, ◌+◌, [], ◌∷◌, length, map, take, drop, true, false, Some, Ok, OnOk};
+ghost use Rattle.std.specs.Prelude.{◌≡◌, ◌≢◌, ◌≤◌, ◌+◌, [], ◌∷◌, length, map, take, drop, true, false, Some, Ok, OnOk, IfErr};
 ghost use Rattle.pw_token.specs.Limits.{token_limit};
 ghost use Rattle.pw_tree.specs.Lexemes.{view_lexeme};
 ghost use Rattle.pw_tree.specs.Views.{view_word};
@@ -208,7 +208,8 @@ impl<'a> Tokens<'a> {
 
     #[tactic(auto, unfolding(pw_grammar::specs::Input::expect))]
     pub fn expect(&mut self, mark: Mark) -> Result<(), Stop>
-        ensures { Reads unit (spec.expect mark self.old) result self.new }
+        ensures reads { Reads unit (spec.expect mark self.old) result self.new }
+        ensures no_memory { IfErr result (λ stop. stop ≢ Stop.NoMemory) }
     {
         if self.sees(mark) {
             self.skip();
@@ -220,7 +221,8 @@ impl<'a> Tokens<'a> {
 
     #[tactic(auto, unfolding(pw_grammar::specs::Input::expect_keyword))]
     pub fn expect_keyword(&mut self, keyword: Keyword) -> Result<(), Stop>
-        ensures { Reads unit (spec.expect_keyword keyword self.old) result self.new }
+        ensures reads { Reads unit (spec.expect_keyword keyword self.old) result self.new }
+        ensures no_memory { IfErr result (λ stop. stop ≢ Stop.NoMemory) }
     {
         if self.sees_keyword(keyword) {
             self.skip();

@@ -1,12 +1,13 @@
 //! Layouts as the definitions have them, and values put into objects of a type.
 
-ghost use Rattle.std.specs.Prelude.{◌≡◌, IfOk};
+ghost use Rattle.std.specs.Prelude.{IfOk};
 ghost use Rattle.pw_types.specs.Layouts.{layout_of};
 ghost use Rattle.pw_types.specs.Views.{view_type};
 ghost use Rattle.pw_coperators.specs.Answers.{Changes};
 ghost use Rattle.pw_coperators.specs.Accesses.{value_put};
 ghost use Rattle.pw_coperators.specs.Categories.{category_of, view_purpose};
 ghost use Rattle.pw_coperators.specs.Elements as elements;
+ghost use Rattle.pw_cworld.specs.Told.{TellsLayout};
 
 use pw_cobjects::Objects;
 use pw_coperators::{Fault, Purpose, categorise, put};
@@ -14,10 +15,11 @@ use pw_types::{CType, Layout, Types, layout};
 use pw_value::Value;
 use std::alloc::{AllocError, Global};
 
-/// The layout of a type. There is no memory for one that 32 bits cannot tell, which passes the limit on sizes.
+/// The layout of a type. There is no memory for one that 32 bits cannot tell, which passes the limit on sizes, and for
+/// no other.
 #[tactic(auto, using(crate::proofs::LayoutLemmas::told_is))]
 pub fn exact_layout(types: &Types, ty: &CType) -> Result<Option<Layout>, AllocError>
-    ensures { IfOk result (λ l. l ≡ layout_of types.now (view_type ty.now)) }
+    ensures { TellsLayout (layout_of types.now (view_type ty.now)) result }
 {
     match layout(types, ty) {
         Some(layout) if layout.size == u32::MAX => Err(AllocError),
@@ -28,7 +30,7 @@ pub fn exact_layout(types: &Types, ty: &CType) -> Result<Option<Layout>, AllocEr
 /// The layout of what a pointer among two operands of these types points to, of two the first.
 #[tactic(auto, unfolding(pw_types::specs::Views::view_type), using(pw_types::proofs::ViewLemmas::signature_view))]
 pub fn element_layout(types: &Types, a: &CType, b: &CType) -> Result<Option<Layout>, AllocError>
-    ensures { IfOk result (λ l. l ≡ elements.element_layout types.now (view_type a.now) (view_type b.now)) }
+    ensures { TellsLayout (elements.element_layout types.now (view_type a.now) (view_type b.now)) result }
 {
     match a {
         CType::Pointer(target) => exact_layout(types, &target.ty),
@@ -40,7 +42,7 @@ pub fn element_layout(types: &Types, a: &CType, b: &CType) -> Result<Option<Layo
 /// The layout of what a pointer behind a number points to.
 #[tactic(auto, unfolding(pw_types::specs::Views::view_type), using(pw_types::proofs::ViewLemmas::signature_view))]
 fn second_layout(types: &Types, b: &CType) -> Result<Option<Layout>, AllocError>
-    ensures { IfOk result (λ l. l ≡ elements.second_layout types.now (view_type b.now)) }
+    ensures { TellsLayout (elements.second_layout types.now (view_type b.now)) result }
 {
     match b {
         CType::Pointer(target) => exact_layout(types, &target.ty),

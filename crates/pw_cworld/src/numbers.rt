@@ -1,6 +1,6 @@
 //! The numbers of functions, by which pointers to them are told apart.
 
-ghost use Rattle.std.specs.Prelude.{◌≡◌, ◌∷◌, map, count_by, IfOk};
+ghost use Rattle.std.specs.Prelude.{◌≡◌, ◌^◌, ◌≤◌, ◌∷◌, map, count_by, IfOk, MatchResult};
 ghost use Rattle.pw_cmean.specs.Worlds.{is_before};
 ghost use Rattle.pw_cworld.specs.Names.{number_among, numbers_of};
 ghost use Rattle.pw_cworld.specs.Views.{view_callables};
@@ -30,9 +30,9 @@ fn number_of(callables: &[Callable], name: &[u8]) -> usize
     count
 }
 
-/// A function's number as a word.
+/// A function's number as a word. There is no memory for one that no word holds, and for no other.
 fn number_word(callables: &[Callable], name: &[u8]) -> Result<u32, AllocError>
-    ensures { IfOk result (λ number. number ≡ number_among (view_callables callables.now) name.now) }
+    ensures { MatchResult result (λ number. number ≡ number_among (view_callables callables.now) name.now) (λ _. 2 ^ 32 ≤ number_among (view_callables callables.now) name.now) }
 {
     u32::try_from(number_of(callables, name))
         .ok()

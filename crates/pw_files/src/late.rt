@@ -6,7 +6,7 @@ ghost use Rattle.pw_value.specs.Fields.{text};
 ghost use Rattle.pw_value.specs.FieldFaults.{Gives};
 ghost use Rattle.pw_value.specs.FieldNames.{first_unused};
 ghost use Rattle.pw_files.specs.Start.{start_rule};
-ghost use Rattle.pw_files.specs.Contents.{broken_at};
+ghost use Rattle.pw_files.specs.Contents.{broken_at, module_rules};
 
 use pw_value::Name;
 use pw_value::fields::FieldError;
@@ -32,7 +32,7 @@ pub fn check_used(
 }
 
 /// The rule of `$start`, where so many bytes are left from the count of the functions on.
-pub fn check_start(functions: &[&Name], globals: &[&Name], count: usize) -> Result<(), FieldError>
+fn check_start(functions: &[&Name], globals: &[&Name], count: usize) -> Result<(), FieldError>
     ensures found { Gives (λ x. x) result (broken_at (start_rule (map (λ name. name.now) functions.now) (map (λ name. name.now) globals.now) count)) }
     ensures no_memory { IfErr result (λ e. e ≢ FieldError.NoMemory) }
 {
@@ -41,4 +41,24 @@ pub fn check_start(functions: &[&Name], globals: &[&Name], count: usize) -> Resu
     } else {
         Err(FieldError::Fault { left: count })
     }
+}
+
+/// The rules of a module's file: each name of the table is used, where so many bytes are left behind the
+/// table, and then that of `$start`, where so many are left from the count of the functions on. `used` are
+/// the names that are used, in whatever order and however often, and `functions` and `globals` those of
+/// the functions and of the objects.
+pub fn check_module(
+    alloc: Global,
+    names: &[Name],
+    used: Vec<&Name>,
+    behind: usize,
+    functions: &[&Name],
+    globals: &[&Name],
+    count: usize,
+) -> Result<(), FieldError>
+    requires { length (flat_map text names.now) + behind < 2 ^ 64 }
+    ensures { Gives (λ x. x) result (broken_at (module_rules names.now (map (λ name. name.now) used.entry.items) behind (map (λ name. name.now) functions.now) (map (λ name. name.now) globals.now) count)) }
+{
+    check_used(alloc, names, used, behind)?;
+    check_start(functions, globals, count)
 }

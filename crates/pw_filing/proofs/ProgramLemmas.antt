@@ -150,8 +150,8 @@ pub made_of_program : (ms : List Module) (colours stack : ℕ) (kept : Told → 
 made_of_program ms colours stack kept None built made builds names objects database image is_linked = tt
 made_of_program ms colours stack kept (Some told) built made builds names objects database image is_linked = made_files ms colours stack (kept told) built made builds names objects database image is_linked
 
-pub holds_image : (bytes : List ℕ) (image : ImageValue) → (names : List (List ℕ)) × IsImageFile bytes (record { names = names; image = image }) → HoldsImage bytes
-holds_image bytes image h = (record { names = h.0; image = image }, h.1)
+pub holds_image : (bytes : List ℕ) (image : ImageValue) → (names : List (List ℕ)) × IsImageFile bytes (record { names = names; value = image }) → HoldsImage bytes
+holds_image bytes image h = (record { names = h.0; value = image }, h.1)
 
 -- ---- faults
 

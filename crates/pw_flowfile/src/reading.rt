@@ -15,9 +15,9 @@ ghost use Rattle.pw_flowfile.specs.Marks.{Marks};
 use crate::globals::{read_declared, read_globals};
 use crate::graphs::read_functions;
 use crate::met::unmarked;
-use crate::used::{check_start_beside_main, used_names};
+use crate::used::{function_names, global_names, used_names};
 use pw_files::format::{Format, read_value};
-use pw_files::late::check_used;
+use pw_files::late::check_module;
 use pw_flow::{FlowFn, FlowGlobal, FlowModule};
 use pw_items::Items;
 use pw_value::fields::names::read_name;
@@ -116,8 +116,9 @@ fn check_late(
     ensures { Gives (λ x. x) result (broken_at (late_rules names.now behind flow.now place)) }
 {
     let used = used_names(alloc, flow)?;
-    check_used(alloc, names, used, behind)?;
-    check_start_beside_main(alloc, flow, place)
+    let functions = function_names(alloc, flow.functions.as_slice())?;
+    let globals = global_names(alloc, flow.globals.as_slice())?;
+    check_module(alloc, names, used, behind, &functions, &globals, place)
 }
 
 /// The fields of a module, how many bytes are left from the count of its functions on, and what is left behind them.

@@ -2,17 +2,12 @@
 
 ghost use Rattle.std.specs.Prelude.{◌≡◌, ◌++◌, ◌∷◌, ℕ, List, [], map, OnOk, IfOk};
 ghost use Rattle.std.specs.List.{flat_map};
-ghost use Rattle.pw_flow.specs.FlowGraph.{item_names, op_names, names_in_block, names_in_function, names_in_global, global_names, function_names};
-ghost use Rattle.pw_value.specs.FieldFaults.{Gives};
-ghost use Rattle.pw_files.specs.Start.{start_rule};
-ghost use Rattle.pw_files.specs.Contents.{broken_at};
+ghost use Rattle.pw_flow.specs.FlowGraph.{item_names, op_names, names_in_block, names_in_function, names_in_global};
 ghost use Rattle.pw_flowfile.specs.FlowFile.{all_in_global, all_in_function, names_of};
 
-use pw_files::late::check_start;
 use pw_files::used::add_shaped;
 use pw_flow::{Block, FlowFn, FlowGlobal, FlowModule, Item, Op};
 use pw_value::Name;
-use pw_value::fields::FieldError;
 use std::alloc::{AllocError, Global};
 
 /// The name that an operation names.
@@ -107,42 +102,23 @@ pub fn used_names(alloc: Global, flow: &FlowModule) -> Result<Vec<&Name>, AllocE
 }
 
 /// The names of objects alone.
-pub fn add_global_names<'a>(
-    used: &mut Vec<&'a Name>,
-    globals: &'a [FlowGlobal],
-) -> Result<(), AllocError>
-    ensures { OnOk result (map (λ name. name.now) used.new.items ≡ map (λ name. name.now) used.old.items ++ map (λ g. g.name) globals.now) }
+pub fn global_names(alloc: Global, globals: &[FlowGlobal]) -> Result<Vec<&Name>, AllocError>
+    ensures { IfOk result (λ v. map (λ name. name.now) v.items ≡ map (λ g. g.name) globals.now) }
 {
+    let mut names = Vec::new(alloc);
     for global in globals {
-        used.push(&global.name)?;
+        names.push(&global.name)?;
     }
-    Ok(())
+    Ok(names)
 }
 
 /// The names of functions alone.
-fn add_function_names<'a>(
-    used: &mut Vec<&'a Name>,
-    functions: &'a [FlowFn],
-) -> Result<(), AllocError>
-    ensures { OnOk result (map (λ name. name.now) used.new.items ≡ map (λ name. name.now) used.old.items ++ map (λ f. f.name) functions.now) }
+pub fn function_names(alloc: Global, functions: &[FlowFn]) -> Result<Vec<&Name>, AllocError>
+    ensures { IfOk result (λ v. map (λ name. name.now) v.items ≡ map (λ f. f.name) functions.now) }
 {
+    let mut names = Vec::new(alloc);
     for function in functions {
-        used.push(&function.name)?;
+        names.push(&function.name)?;
     }
-    Ok(())
-}
-
-/// The rule of `$start`, where so many bytes are left from the count of the functions on.
-pub fn check_start_beside_main(
-    alloc: Global,
-    flow: &FlowModule,
-    place: usize,
-) -> Result<(), FieldError>
-    ensures { Gives (λ x. x) result (broken_at (start_rule (function_names flow.now) (global_names flow.now) place)) }
-{
-    let mut functions = Vec::new(alloc);
-    add_function_names(&mut functions, flow.functions.as_slice())?;
-    let mut globals = Vec::new(alloc);
-    add_global_names(&mut globals, flow.globals.as_slice())?;
-    check_start(&functions, &globals, place)
+    Ok(names)
 }

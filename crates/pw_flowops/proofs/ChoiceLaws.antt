@@ -14,8 +14,8 @@ use Rattle.pw_flowops.specs.declared.codes.OpCode.{OpCode}
 use Rattle.pw_flowops.specs.declared.codes.OpCode.TheVariants as code
 use Rattle.pw_flowops.specs.declared.codes.EndCode.{EndCode}
 use Rattle.pw_flowops.specs.declared.codes.EndCode.TheVariants as end_code
-use Rattle.pw_flowops.specs.Operations.{un_number, bin_number, ext_number, code_number, end_number}
-use Rattle.pw_flowops.specs.Reading.{chosen, one_of_at, un_kinds, bin_kinds, ext_kinds, op_codes, end_codes}
+use Rattle.pw_flowops.specs.Operations.{un_number, bin_number, ext_number, code_number, end_number, un_kinds, bin_kinds, ext_kinds, op_codes, end_codes}
+use Rattle.pw_flowops.specs.Reading.{chosen, one_of_at}
 
 abbrev pub Any : {X : Type 0} → X → Type 0
 Any x = Unit {0}

@@ -7,8 +7,8 @@ use Rattle.pw_flow.specs.declared.flow.End.TheVariants as end
 use Rattle.pw_flow.specs.ValidFlow.{IsResult, IsEnd}
 use Rattle.pw_flowops.specs.declared.codes.EndCode.{EndCode}
 use Rattle.pw_flowops.specs.declared.codes.EndCode.TheVariants as end_code
-use Rattle.pw_flowops.specs.Operations.{result, end_number, ending}
-use Rattle.pw_flowops.specs.Reading.{one_of_at, end_codes, below_at, result_at, targets_at, end_at}
+use Rattle.pw_flowops.specs.Operations.{result, end_number, ending, end_codes}
+use Rattle.pw_flowops.specs.Reading.{one_of_at, below_at, result_at, targets_at, end_at}
 use Rattle.pw_flowops.proofs.FieldChains.{Takes, takes_field, takes_done, again_field, chained}
 use Rattle.pw_flowops.proofs.ChoiceLaws.{Any, end_code_spells}
 use Rattle.pw_flowops.proofs.PartLaws.{below_spells, result_spells}

@@ -16,7 +16,8 @@ use Rattle.pw_flowops.specs.declared.codes.OpCode.{OpCode}
 use Rattle.pw_flowops.specs.declared.codes.OpCode.TheVariants as code
 use Rattle.pw_flowops.specs.declared.codes.EndCode.{EndCode}
 use Rattle.pw_flowops.specs.declared.codes.EndCode.TheVariants as end_code
-use Rattle.pw_flowops.specs.Reading.{chosen, one_of_at, un_kinds, bin_kinds, ext_kinds, op_codes, end_codes, named_at, below_at, as_result, result_at, arguments_at, is_unit, is_whole, size_and_unit_at, moved_at, operands_at, op_at, targets_at, end_at}
+use Rattle.pw_flowops.specs.Operations.{un_kinds, bin_kinds, ext_kinds, op_codes, end_codes}
+use Rattle.pw_flowops.specs.Reading.{chosen, one_of_at, named_at, below_at, as_result, result_at, arguments_at, is_unit, is_whole, size_and_unit_at, moved_at, operands_at, op_at, targets_at, end_at}
 
 abbrev found : {X : Type 0} → X → List ℕ → Result (X × List ℕ) ℕ
 found x rest = Ok (x, rest)

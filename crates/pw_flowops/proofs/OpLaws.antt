@@ -13,8 +13,8 @@ use Rattle.pw_flow.specs.declared.flow.Op.TheVariants.{Const, Copy, Un, Bin, Ext
 use Rattle.pw_flow.specs.ValidFlow.{IsResult, AreArguments, IsMoved}
 use Rattle.pw_flowops.specs.declared.codes.OpCode.{OpCode}
 use Rattle.pw_flowops.specs.declared.codes.OpCode.TheVariants as code
-use Rattle.pw_flowops.specs.Operations.{un_number, bin_number, ext_number, code_number, result, arguments, op, Named, OpFits}
-use Rattle.pw_flowops.specs.Reading.{one_of_at, un_kinds, bin_kinds, ext_kinds, op_codes, named_at, below_at, result_at, arguments_at, moved_at, operands_at, op_at}
+use Rattle.pw_flowops.specs.Operations.{un_number, bin_number, ext_number, code_number, result, arguments, op, Named, OpFits, un_kinds, bin_kinds, ext_kinds, op_codes}
+use Rattle.pw_flowops.specs.Reading.{one_of_at, named_at, below_at, result_at, arguments_at, moved_at, operands_at, op_at}
 use Rattle.pw_flowops.proofs.FieldChains.{Takes, takes_field, takes_done, again_field, chained}
 use Rattle.pw_flowops.proofs.ChoiceLaws.{Any, un_spells, bin_spells, ext_spells, code_spells}
 use Rattle.pw_flowops.proofs.PartLaws.{below_spells, named_spells, result_spells, arguments_spells, moved_text, moved_spells}
@@ -85,7 +85,7 @@ takes_Store names table temps slots small few =
 takes_Move : (names : List (List ℕ)) → IsNameTable names → (temps slots : ℕ) → temps < 2 ^ 31 → slots < 2 ^ 31 → TakesOp names temps slots code.Move
 unfolding operands_at
 takes_Move names table temps slots small few =
-    takes_field _ u32 (λ n. n < temps) (below_at temps) _ (below_spells temps (omega arith)) (λ a h_a. takes_field _ u32 (λ n. n < temps) (below_at temps) _ (below_spells temps (omega arith)) (λ b h_b. takes_field _ moved_text (λ m. IsMoved m.0 m.1) moved_at _ moved_spells (λ m h_m. takes_done _ (Move a b m.0 m.1) (λ rest. (ap (λ (w : List ℕ). u8 12 ++ (u32 a ++ (u32 b ++ w))) (append-nil (moved_text m)), ((h_a, h_b, h_m), (tt, tt)))))))
+    takes_field _ u32 (λ n. n < temps) (below_at temps) _ (below_spells temps (omega arith)) (λ a h_a. takes_field _ u32 (λ n. n < temps) (below_at temps) _ (below_spells temps (omega arith)) (λ b h_b. takes_field _ moved_text (λ m. IsMoved m.0 m.1) moved_at _ moved_spells (λ m h_m. takes_done _ (Move a b m.0 m.1) (λ rest. (ap (λ (w : List ℕ). u8 (code_number code.Move) ++ (u32 a ++ (u32 b ++ w))) (append-nil (moved_text m)), ((h_a, h_b, h_m), (tt, tt)))))))
 
 takes_Call : (names : List (List ℕ)) → IsNameTable names → (temps slots : ℕ) → temps < 2 ^ 31 → slots < 2 ^ 31 → TakesOp names temps slots code.Call
 unfolding operands_at
@@ -128,7 +128,7 @@ again_op names table temps slots small few (LoadG t g k) rest h = again_field (�
 again_op names table temps slots small few (StoreG g a k) rest h = again_field (λ c. u8 (code_number c)) Any (one_of_at op_codes) _ code_spells code.StoreG tt (scalar k ++ (name_index names g ++ (u32 a ++ []))) rest (StoreG g a k) (again_field scalar Any scalar_at _ scalar_spells k tt (name_index names g ++ (u32 a ++ [])) rest (StoreG g a k) (again_field (name_index names) (Named Refused names) (named_at Refused names) _ (named_spells Refused names table) g h.1.1.0 (u32 a ++ []) rest (StoreG g a k) (again_field u32 (λ n. n < temps) (below_at temps) _ (below_spells temps (omega arith)) a h.0 [] rest (StoreG g a k) refl)))
 again_op names table temps slots small few (Load k t a) rest h = again_field (λ c. u8 (code_number c)) Any (one_of_at op_codes) _ code_spells code.Load tt (scalar k ++ (u32 t ++ (u32 a ++ []))) rest (Load k t a) (again_field scalar Any scalar_at _ scalar_spells k tt (u32 t ++ (u32 a ++ [])) rest (Load k t a) (again_field u32 (λ n. n < temps) (below_at temps) _ (below_spells temps (omega arith)) t h.0.0 (u32 a ++ []) rest (Load k t a) (again_field u32 (λ n. n < temps) (below_at temps) _ (below_spells temps (omega arith)) a h.0.1 [] rest (Load k t a) refl)))
 again_op names table temps slots small few (Store k a b) rest h = again_field (λ c. u8 (code_number c)) Any (one_of_at op_codes) _ code_spells code.Store tt (scalar k ++ (u32 a ++ (u32 b ++ []))) rest (Store k a b) (again_field scalar Any scalar_at _ scalar_spells k tt (u32 a ++ (u32 b ++ [])) rest (Store k a b) (again_field u32 (λ n. n < temps) (below_at temps) _ (below_spells temps (omega arith)) a h.0.0 (u32 b ++ []) rest (Store k a b) (again_field u32 (λ n. n < temps) (below_at temps) _ (below_spells temps (omega arith)) b h.0.1 [] rest (Store k a b) refl)))
-again_op names table temps slots small few (Move a b size unit) rest h = ap (λ (w : List ℕ). op_at names temps slots ((u8 12 ++ (u32 a ++ (u32 b ++ w))) ++ rest)) (sym (append-nil (moved_text (size, unit)))) ∙ again_field (λ c. u8 (code_number c)) Any (one_of_at op_codes) _ code_spells code.Move tt (u32 a ++ (u32 b ++ (moved_text (size, unit) ++ []))) rest (Move a b size unit) (again_field u32 (λ n. n < temps) (below_at temps) _ (below_spells temps (omega arith)) a h.0.0 (u32 b ++ (moved_text (size, unit) ++ [])) rest (Move a b size unit) (again_field u32 (λ n. n < temps) (below_at temps) _ (below_spells temps (omega arith)) b h.0.1 (moved_text (size, unit) ++ []) rest (Move a b size unit) (again_field moved_text (λ m. IsMoved m.0 m.1) moved_at _ moved_spells (size, unit) h.0.2 [] rest (Move a b size unit) refl)))
+again_op names table temps slots small few (Move a b size unit) rest h = ap (λ (w : List ℕ). op_at names temps slots ((u8 (code_number code.Move) ++ (u32 a ++ (u32 b ++ w))) ++ rest)) (sym (append-nil (moved_text (size, unit)))) ∙ again_field (λ c. u8 (code_number c)) Any (one_of_at op_codes) _ code_spells code.Move tt (u32 a ++ (u32 b ++ (moved_text (size, unit) ++ []))) rest (Move a b size unit) (again_field u32 (λ n. n < temps) (below_at temps) _ (below_spells temps (omega arith)) a h.0.0 (u32 b ++ (moved_text (size, unit) ++ [])) rest (Move a b size unit) (again_field u32 (λ n. n < temps) (below_at temps) _ (below_spells temps (omega arith)) b h.0.1 (moved_text (size, unit) ++ []) rest (Move a b size unit) (again_field moved_text (λ m. IsMoved m.0 m.1) moved_at _ moved_spells (size, unit) h.0.2 [] rest (Move a b size unit) refl)))
 again_op names table temps slots small few (Call t f args) rest h = again_field (λ c. u8 (code_number c)) Any (one_of_at op_codes) _ code_spells code.Call tt (result t ++ (name_index names f ++ (arguments args ++ []))) rest (Call t f args) (again_field result (IsResult temps) (result_at temps) _ (result_spells temps small) t h.0.0 (name_index names f ++ (arguments args ++ [])) rest (Call t f args) (again_field (name_index names) (Named Refused names) (named_at Refused names) _ (named_spells Refused names table) f h.1.1.0 (arguments args ++ []) rest (Call t f args) (again_field arguments (AreArguments temps) (arguments_at temps) _ (arguments_spells temps small) args h.0.1 [] rest (Call t f args) refl)))
 again_op names table temps slots small few (CallInd t a shape args) rest h = again_field (λ c. u8 (code_number c)) Any (one_of_at op_codes) _ code_spells code.CallInd tt (result t ++ (u32 a ++ (text shape ++ (arguments args ++ [])))) rest (CallInd t a shape args) (again_field result (IsResult temps) (result_at temps) _ (result_spells temps small) t h.0.0 (u32 a ++ (text shape ++ (arguments args ++ []))) rest (CallInd t a shape args) (again_field u32 (λ n. n < temps) (below_at temps) _ (below_spells temps (omega arith)) a h.0.1 (text shape ++ (arguments args ++ [])) rest (CallInd t a shape args) (again_field text FitsText text_at _ text_spells shape h.1.0 (arguments args ++ []) rest (CallInd t a shape args) (again_field arguments (AreArguments temps) (arguments_at temps) _ (arguments_spells temps small) args h.0.2 [] rest (CallInd t a shape args) refl))))
 

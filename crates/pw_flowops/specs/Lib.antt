@@ -1,2 +1,3 @@
+pub mod Causes
 pub mod Operations
 pub mod Reading

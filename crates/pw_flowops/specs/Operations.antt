@@ -1,16 +1,20 @@
 -- How the operations of a flow graph and the ends of its blocks are spelled as bytes, under a table of names.
-use Rattle.std.specs.Prelude.{ℕ, Option, Some, None, List, [], ◌∷◌, length, Contains}
+use Rattle.std.specs.Prelude.{ℕ, suc, Bool, Option, Some, None, List, [], ◌∷◌, length, Contains, if◌then◌else◌}
 use Rattle.std.specs.List.{flat_map, AllByRecursion}
+use denote.Enum.Bare.{sameb}
 use Rattle.pw_value.specs.Fields.{u8, u32, text, parts, FitsText}
 use Rattle.pw_value.specs.FieldNames.{name_index}
 use Rattle.pw_value.specs.declared.program_names.StartName.{StartName}
 use Rattle.pw_value.specs.declared.program_names.StartName.TheVariants.{Refused}
 use Rattle.pw_value.specs.ProgramNames.{MayStand}
 use Rattle.pw_files.specs.Kinds.{scalar}
+use Rattle.pw_flow.specs.contracts.flow.UnKind.{the_type as the_un_kinds}
 use Rattle.pw_flow.specs.declared.flow.UnKind.{UnKind}
 use Rattle.pw_flow.specs.declared.flow.UnKind.TheVariants as un
+use Rattle.pw_flow.specs.contracts.flow.BinKind.{the_type as the_bin_kinds}
 use Rattle.pw_flow.specs.declared.flow.BinKind.{BinKind}
 use Rattle.pw_flow.specs.declared.flow.BinKind.TheVariants as bin
+use Rattle.pw_flow.specs.contracts.flow.ExtKind.{the_type as the_ext_kinds}
 use Rattle.pw_flow.specs.declared.flow.ExtKind.{ExtKind}
 use Rattle.pw_flow.specs.declared.flow.ExtKind.TheVariants as ext
 use Rattle.pw_flow.specs.declared.flow.End.{End}
@@ -19,62 +23,45 @@ use Rattle.pw_flow.specs.declared.flow.Op.{Op}
 use Rattle.pw_flow.specs.declared.flow.Op.TheVariants.{Const, Copy, Un, Bin, Ext, AddrGlobal, AddrSlot, AddrFn, LoadG, StoreG, Load, Store, Move, Call, CallInd}
 use Rattle.pw_flow.specs.FlowGraph.{op_names}
 use Rattle.pw_flow.specs.ValidFlow.{IsOp}
+use Rattle.pw_flowops.specs.contracts.codes.OpCode.{the_type as the_op_codes}
 use Rattle.pw_flowops.specs.declared.codes.OpCode.{OpCode}
 use Rattle.pw_flowops.specs.declared.codes.OpCode.TheVariants as code
+use Rattle.pw_flowops.specs.contracts.codes.EndCode.{the_type as the_end_codes}
 use Rattle.pw_flowops.specs.declared.codes.EndCode.{EndCode}
 use Rattle.pw_flowops.specs.declared.codes.EndCode.TheVariants as end_code
 
--- ---- which operation on numbers
+-- ---- choices, whose numbers are their places
+
+-- how many of a list stand before a choice
+abbrev pub place : {X : Type 0} → (X → X → Bool) → List X → X → ℕ
+place same [] x = 0
+place same (y ∷ ys) x = if same y x then 0 else suc (place same ys x)
+
+abbrev pub un_kinds : List UnKind
+un_kinds = un.Neg ∷ un.Not ∷ []
 
 abbrev pub un_number : UnKind → ℕ
-un_number un.Neg = 0
-un_number un.Not = 1
+un_number = place (sameb the_un_kinds) un_kinds
+
+abbrev pub bin_kinds : List BinKind
+bin_kinds = bin.Add ∷ bin.Sub ∷ bin.And ∷ bin.Or ∷ bin.Xor ∷ bin.Mul ∷ bin.DivS ∷ bin.DivU ∷ bin.RemS ∷ bin.RemU ∷ bin.Shl ∷ bin.ShrS ∷ bin.ShrU ∷ bin.Eq ∷ bin.Ne ∷ bin.LtS ∷ bin.LeS ∷ bin.LtU ∷ bin.LeU ∷ []
 
 abbrev pub bin_number : BinKind → ℕ
-bin_number bin.Add = 0
-bin_number bin.Sub = 1
-bin_number bin.And = 2
-bin_number bin.Or = 3
-bin_number bin.Xor = 4
-bin_number bin.Mul = 5
-bin_number bin.DivS = 6
-bin_number bin.DivU = 7
-bin_number bin.RemS = 8
-bin_number bin.RemU = 9
-bin_number bin.Shl = 10
-bin_number bin.ShrS = 11
-bin_number bin.ShrU = 12
-bin_number bin.Eq = 13
-bin_number bin.Ne = 14
-bin_number bin.LtS = 15
-bin_number bin.LeS = 16
-bin_number bin.LtU = 17
-bin_number bin.LeU = 18
+bin_number = place (sameb the_bin_kinds) bin_kinds
+
+abbrev pub ext_kinds : List ExtKind
+ext_kinds = ext.S8 ∷ ext.U8 ∷ ext.S16 ∷ ext.U16 ∷ []
 
 abbrev pub ext_number : ExtKind → ℕ
-ext_number ext.S8 = 0
-ext_number ext.U8 = 1
-ext_number ext.S16 = 2
-ext_number ext.U16 = 3
+ext_number = place (sameb the_ext_kinds) ext_kinds
 
 -- ---- operations
 
+abbrev pub op_codes : List OpCode
+op_codes = code.Const ∷ code.Copy ∷ code.Un ∷ code.Bin ∷ code.Ext ∷ code.AddrGlobal ∷ code.AddrSlot ∷ code.AddrFn ∷ code.LoadG ∷ code.StoreG ∷ code.Load ∷ code.Store ∷ code.Move ∷ code.Call ∷ code.CallInd ∷ []
+
 abbrev pub code_number : OpCode → ℕ
-code_number code.Const = 0
-code_number code.Copy = 1
-code_number code.Un = 2
-code_number code.Bin = 3
-code_number code.Ext = 4
-code_number code.AddrGlobal = 5
-code_number code.AddrSlot = 6
-code_number code.AddrFn = 7
-code_number code.LoadG = 8
-code_number code.StoreG = 9
-code_number code.Load = 10
-code_number code.Store = 11
-code_number code.Move = 12
-code_number code.Call = 13
-code_number code.CallInd = 14
+code_number = place (sameb the_op_codes) op_codes
 
 -- the byte at the front of an operation
 abbrev pub op_code : OpCode → List ℕ
@@ -107,10 +94,11 @@ op names (CallInd t a shape args) = parts (op_code code.CallInd ∷ result t ∷
 
 -- ---- ends of blocks
 
+abbrev pub end_codes : List EndCode
+end_codes = end_code.Jump ∷ end_code.Branch ∷ end_code.Return ∷ []
+
 abbrev pub end_number : EndCode → ℕ
-end_number end_code.Jump = 0
-end_number end_code.Branch = 1
-end_number end_code.Return = 2
+end_number = place (sameb the_end_codes) end_codes
 
 abbrev pub end_byte : EndCode → List ℕ
 end_byte c = u8 (end_number c)

@@ -8,12 +8,6 @@ use Rattle.pw_value.specs.Limits.{size_limit, parameter_limit}
 use Rattle.pw_value.specs.declared.program_names.StartName.{StartName}
 use Rattle.pw_value.specs.declared.program_names.StartName.TheVariants.{Refused}
 use Rattle.pw_value.specs.ProgramNames.{may_stand}
-use Rattle.pw_flow.specs.declared.flow.UnKind.{UnKind}
-use Rattle.pw_flow.specs.declared.flow.UnKind.TheVariants as un
-use Rattle.pw_flow.specs.declared.flow.BinKind.{BinKind}
-use Rattle.pw_flow.specs.declared.flow.BinKind.TheVariants as bin
-use Rattle.pw_flow.specs.declared.flow.ExtKind.{ExtKind}
-use Rattle.pw_flow.specs.declared.flow.ExtKind.TheVariants as ext
 use Rattle.pw_flow.specs.declared.flow.End.{End}
 use Rattle.pw_flow.specs.declared.flow.End.TheVariants as end
 use Rattle.pw_flow.specs.declared.flow.Op.{Op}
@@ -22,6 +16,7 @@ use Rattle.pw_flowops.specs.declared.codes.OpCode.{OpCode}
 use Rattle.pw_flowops.specs.declared.codes.OpCode.TheVariants as code
 use Rattle.pw_flowops.specs.declared.codes.EndCode.{EndCode}
 use Rattle.pw_flowops.specs.declared.codes.EndCode.TheVariants as end_code
+use Rattle.pw_flowops.specs.Operations.{un_kinds, bin_kinds, ext_kinds, op_codes, end_codes}
 
 -- ---- a byte that is the place of a choice
 
@@ -32,21 +27,6 @@ chosen None left rest = Err left
 unfoldable pub one_of_at : {X : Type 0} → List X → List ℕ → Result (X × List ℕ) ℕ
 one_of_at choices [] = Err 0
 one_of_at choices (b ∷ rest) = chosen (slice_get choices b) (length (b ∷ rest)) rest
-
-abbrev pub un_kinds : List UnKind
-un_kinds = un.Neg ∷ un.Not ∷ []
-
-abbrev pub bin_kinds : List BinKind
-bin_kinds = bin.Add ∷ bin.Sub ∷ bin.And ∷ bin.Or ∷ bin.Xor ∷ bin.Mul ∷ bin.DivS ∷ bin.DivU ∷ bin.RemS ∷ bin.RemU ∷ bin.Shl ∷ bin.ShrS ∷ bin.ShrU ∷ bin.Eq ∷ bin.Ne ∷ bin.LtS ∷ bin.LeS ∷ bin.LtU ∷ bin.LeU ∷ []
-
-abbrev pub ext_kinds : List ExtKind
-ext_kinds = ext.S8 ∷ ext.U8 ∷ ext.S16 ∷ ext.U16 ∷ []
-
-abbrev pub op_codes : List OpCode
-op_codes = code.Const ∷ code.Copy ∷ code.Un ∷ code.Bin ∷ code.Ext ∷ code.AddrGlobal ∷ code.AddrSlot ∷ code.AddrFn ∷ code.LoadG ∷ code.StoreG ∷ code.Load ∷ code.Store ∷ code.Move ∷ code.Call ∷ code.CallInd ∷ []
-
-abbrev pub end_codes : List EndCode
-end_codes = end_code.Jump ∷ end_code.Branch ∷ end_code.Return ∷ []
 
 -- ---- names
 

@@ -2,7 +2,8 @@
 
 ghost use Rattle.std.specs.Prelude.{◌≡◌, ◌≢◌, List, length, IfErr};
 ghost use Rattle.pw_value.specs.FieldFaults.{Gives};
-ghost use Rattle.pw_flowops.specs.Reading.{one_of_at, un_kinds, bin_kinds, ext_kinds, op_codes, end_codes};
+ghost use Rattle.pw_flowops.specs.Operations.{un_kinds, bin_kinds, ext_kinds, op_codes, end_codes};
+ghost use Rattle.pw_flowops.specs.Reading.{one_of_at};
 
 use crate::codes::{BIN_KINDS, END_CODES, EXT_KINDS, EndCode, OP_CODES, OpCode, UN_KINDS};
 use pw_flow::{BinKind, ExtKind, UnKind};

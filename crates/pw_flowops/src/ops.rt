@@ -3,6 +3,7 @@
 ghost use Rattle.std.specs.Prelude.{◌≡◌, ◌≢◌, ℕ, List, length, IfErr};
 ghost use Rattle.pw_value.specs.Fields.{repeated};
 ghost use Rattle.pw_value.specs.FieldFaults.{Gives};
+ghost use Rattle.pw_flowops.specs.Causes.{FaultFirst};
 ghost use Rattle.pw_flowops.specs.Reading.{operands_at, op_at};
 ghost use Rattle.pw_flowops.specs.declared.codes.OpCode.TheVariants as code;
 
@@ -12,7 +13,7 @@ use crate::parts::{read_arguments, read_below, read_moved, read_named, read_resu
 use pw_files::kinds::read_scalar;
 use pw_flow::Op;
 use pw_items::Items;
-use pw_value::fields::{FieldError, read_text, read_u32};
+use pw_value::fields::{FieldError, read_text_in_place, read_u32};
 use pw_value::program_names::StartName;
 use pw_value::{Name, Shape};
 use std::alloc::Global;
@@ -91,7 +92,8 @@ fn read_addr_global<'a>(
     at: Counts,
     bytes: &'a [u8],
 ) -> Result<(Op, &'a [u8]), FieldError>
-    ensures { Gives (λ x. (x.0, x.1.now)) result (operands_at names.now at.temps at.slots code.AddrGlobal bytes.now) }
+    ensures found { Gives (λ x. (x.0, x.1.now)) result (operands_at names.now at.temps at.slots code.AddrGlobal bytes.now) }
+    ensures fault_first { FaultFirst result (operands_at names.now at.temps at.slots code.AddrGlobal bytes.now) }
 {
     let (t, rest) = read_below(at.temps as usize, bytes)?;
     let (g, rest) = read_named(StartName::Refused, names, rest)?;
@@ -118,7 +120,8 @@ fn read_addr_fn<'a>(
     at: Counts,
     bytes: &'a [u8],
 ) -> Result<(Op, &'a [u8]), FieldError>
-    ensures { Gives (λ x. (x.0, x.1.now)) result (operands_at names.now at.temps at.slots code.AddrFn bytes.now) }
+    ensures found { Gives (λ x. (x.0, x.1.now)) result (operands_at names.now at.temps at.slots code.AddrFn bytes.now) }
+    ensures fault_first { FaultFirst result (operands_at names.now at.temps at.slots code.AddrFn bytes.now) }
 {
     let (t, rest) = read_below(at.temps as usize, bytes)?;
     let (f, rest) = read_named(StartName::Refused, names, rest)?;
@@ -133,7 +136,8 @@ fn read_load_g<'a>(
     at: Counts,
     bytes: &'a [u8],
 ) -> Result<(Op, &'a [u8]), FieldError>
-    ensures { Gives (λ x. (x.0, x.1.now)) result (operands_at names.now at.temps at.slots code.LoadG bytes.now) }
+    ensures found { Gives (λ x. (x.0, x.1.now)) result (operands_at names.now at.temps at.slots code.LoadG bytes.now) }
+    ensures fault_first { FaultFirst result (operands_at names.now at.temps at.slots code.LoadG bytes.now) }
 {
     let (k, rest) = read_scalar(bytes)?;
     let (t, rest) = read_below(at.temps as usize, rest)?;
@@ -149,7 +153,8 @@ fn read_store_g<'a>(
     at: Counts,
     bytes: &'a [u8],
 ) -> Result<(Op, &'a [u8]), FieldError>
-    ensures { Gives (λ x. (x.0, x.1.now)) result (operands_at names.now at.temps at.slots code.StoreG bytes.now) }
+    ensures found { Gives (λ x. (x.0, x.1.now)) result (operands_at names.now at.temps at.slots code.StoreG bytes.now) }
+    ensures fault_first { FaultFirst result (operands_at names.now at.temps at.slots code.StoreG bytes.now) }
 {
     let (k, rest) = read_scalar(bytes)?;
     let (g, rest) = read_named(StartName::Refused, names, rest)?;
@@ -201,7 +206,8 @@ fn read_call<'a>(
     at: Counts,
     bytes: &'a [u8],
 ) -> Result<(Op, &'a [u8]), FieldError>
-    ensures { Gives (λ x. (x.0, x.1.now)) result (operands_at names.now at.temps at.slots code.Call bytes.now) }
+    ensures found { Gives (λ x. (x.0, x.1.now)) result (operands_at names.now at.temps at.slots code.Call bytes.now) }
+    ensures fault_first { FaultFirst result (operands_at names.now at.temps at.slots code.Call bytes.now) }
 {
     let (t, rest) = read_result(at.temps, bytes)?;
     let (f, rest) = read_named(StartName::Refused, names, rest)?;
@@ -212,13 +218,15 @@ fn read_call<'a>(
 /// A call through a value.
 #[tactic(auto, unfolding(crate::specs::Reading::operands_at))]
 fn read_call_ind(alloc: Global, at: Counts, bytes: &[u8]) -> Result<(Op, &[u8]), FieldError>
-    ensures { (names : List (List ℕ)) → Gives (λ x. (x.0, x.1.now)) result (operands_at names at.temps at.slots code.CallInd bytes.now) }
+    ensures found { (names : List (List ℕ)) → Gives (λ x. (x.0, x.1.now)) result (operands_at names at.temps at.slots code.CallInd bytes.now) }
+    ensures fault_first { (names : List (List ℕ)) → FaultFirst result (operands_at names at.temps at.slots code.CallInd bytes.now) }
 {
     let (t, rest) = read_result(at.temps, bytes)?;
     let (a, rest) = read_below(at.temps as usize, rest)?;
-    let (shape, rest) = read_text(alloc, rest)?;
+    let (shape, rest) = read_text_in_place(rest)?;
     let (args, rest) = read_arguments(alloc, at.temps, rest)?;
-    Ok((Op::CallInd(t, a, Shape::new(shape), args), rest))
+    let shape = Shape::new(Vec::from_slice(alloc, shape)?);
+    Ok((Op::CallInd(t, a, shape, args), rest))
 }
 
 /// What stands behind an operation's byte.
@@ -229,7 +237,8 @@ fn read_operands<'a>(
     code: OpCode,
     bytes: &'a [u8],
 ) -> Result<(Op, &'a [u8]), FieldError>
-    ensures { Gives (λ x. (x.0, x.1.now)) result (operands_at names.now at.temps at.slots code bytes.now) }
+    ensures found { Gives (λ x. (x.0, x.1.now)) result (operands_at names.now at.temps at.slots code bytes.now) }
+    ensures fault_first { FaultFirst result (operands_at names.now at.temps at.slots code bytes.now) }
 {
     match code {
         OpCode::Const => read_const(at, bytes),
@@ -258,7 +267,8 @@ fn read_op<'a>(
     at: Counts,
     bytes: &'a [u8],
 ) -> Result<(Op, &'a [u8]), FieldError>
-    ensures { Gives (λ x. (x.0, x.1.now)) result (op_at names.now at.temps at.slots bytes.now) }
+    ensures found { Gives (λ x. (x.0, x.1.now)) result (op_at names.now at.temps at.slots bytes.now) }
+    ensures fault_first { FaultFirst result (op_at names.now at.temps at.slots bytes.now) }
 {
     let (code, rest) = read_op_code(bytes)?;
     read_operands(alloc, names, at, code, rest)

@@ -1,10 +1,11 @@
 //! The small parts of operations: indices, names, results, arguments, and what is copied.
 
-ghost use Rattle.std.specs.Prelude.{◌≡◌, ◌<◌, ℕ, nat_le, nat_lt, List, length, IfOk, IfErr, ◌≢◌};
+ghost use Rattle.std.specs.Prelude.{◌≡◌, ◌<◌, ℕ, nat_le, nat_lt, List, length, IsOk, IfOk, IfErr, OnOk, ◌≢◌};
 ghost use Rattle.pw_value.specs.Fields.{u32_at, repeated, checked};
 ghost use Rattle.pw_value.specs.Limits.{parameter_limit};
-ghost use Rattle.pw_value.specs.FieldFaults.{Gives};
+ghost use Rattle.pw_value.specs.FieldFaults.{Gives, Fails};
 ghost use Rattle.pw_flow.specs.ValidFlow.{IsUnit};
+ghost use Rattle.pw_flowops.specs.Causes.{FaultFirst};
 ghost use Rattle.pw_flowops.specs.Reading.{named_at, below_at, result_at, arguments_at, is_unit, is_whole, size_and_unit_at, moved_at};
 
 use pw_items::Items;
@@ -79,6 +80,20 @@ pub fn read_result(temps: u32, bytes: &[u8]) -> Result<(Option<u32>, &[u8]), Fie
     }
 }
 
+/// Looks at so many temporaries, and takes none.
+fn check_temps(temps: u32, count: u32, bytes: &[u8]) -> Result<(), FieldError>
+    ensures lawful { OnOk result (IsOk (repeated (below_at temps) count bytes.now)) }
+    ensures fault { IfErr result (λ e. Fails e (repeated (below_at temps) count bytes.now)) }
+    ensures no_memory { IfErr result (λ e. e ≢ FieldError.NoMemory) }
+{
+    let mut rest = bytes;
+    for _ in 0..count {
+        let (_, after) = read_below(temps as usize, rest)?;
+        rest = after;
+    }
+    Ok(())
+}
+
 /// So many temporaries.
 fn read_temps(
     alloc: Global,
@@ -98,16 +113,18 @@ fn read_temps(
     Ok((args, rest))
 }
 
-/// The arguments of a call.
+/// The arguments of a call. Memory is taken once they are all known to be lawful.
 #[tactic(auto, unfolding(crate::specs::Reading::arguments_at))]
 pub fn read_arguments(
     alloc: Global,
     temps: u32,
     bytes: &[u8],
 ) -> Result<(Items<u32>, &[u8]), FieldError>
-    ensures { Gives (λ x. (x.0, x.1.now)) result (arguments_at temps bytes.now) }
+    ensures found { Gives (λ x. (x.0, x.1.now)) result (arguments_at temps bytes.now) }
+    ensures fault_first { FaultFirst result (arguments_at temps bytes.now) }
 {
     let (count, rest) = read_few(bytes)?;
+    check_temps(temps, count, rest)?;
     read_temps(alloc, temps, count, rest)
 }
 

@@ -5,6 +5,7 @@ use Rattle.std.proofs.lemmas.List.Sums.{sum_by-cons}
 use Rattle.pw_program.specs.declared.interface.Interface.{Interface}
 use Rattle.std.specs.List.{flat_map}
 use Rattle.std.proofs.lemmas.List.Concat.{flat_map-cons}
+use Rattle.pw_value.specs.Limits.{function_limit, global_limit}
 use Rattle.pw_summary.specs.declared.summary.Summary.{Summary}
 use Rattle.pw_summary.specs.declared.summary.Uses.{Uses}
 use Rattle.pw_program.specs.Linking.{library_declarations, function_count, global_count, few_functions, few_globals}
@@ -27,7 +28,7 @@ module_count (s ∷ ss) =
     let step : function_count (map interface_of (s ∷ ss)) ≡ length (map (λ f. f.0) s.functions) + function_count (map interface_of ss) = sum_by-cons (λ (i : Interface). length i.functions) (interface_of s) (map interface_of ss) in
     omega (arith, split, length-append (module_homes s) (flat_map module_homes ss), one, names, rest)
 
-pub few_homes : (ss : List Summary) → AreLinked ss → length (all_homes ss) ≤ 4099
+pub few_homes : (ss : List Summary) → AreLinked ss → length (all_homes ss) ≤ function_limit + 3
 few_homes ss linked =
     let few = linked few_functions in
     let library = length_homes library_declarations [] in
@@ -43,7 +44,7 @@ scalar_count taken escaped (s ∷ ss) =
     let step : global_count (map interface_of (s ∷ ss)) ≡ length (map (λ g. g.0) s.globals) + global_count (map interface_of ss) = sum_by-cons (λ (i : Interface). length i.globals) (interface_of s) (map interface_of ss) in
     omega (arith, split, length-append (eligible_in taken escaped s.globals) (all_eligible taken escaped ss), one, names, rest)
 
-pub few_scalars : (taken escaped : List (List ℕ)) (ss : List Summary) → AreLinked ss → length (all_eligible taken escaped ss) ≤ 8192
+pub few_scalars : (taken escaped : List (List ℕ)) (ss : List Summary) → AreLinked ss → length (all_eligible taken escaped ss) ≤ global_limit
 few_scalars taken escaped ss linked =
     let few = linked few_globals in
     omega (arith, few, scalar_count taken escaped ss)

@@ -11,6 +11,7 @@ use Rattle.std.proofs.lemmas.Slice.Eq.{bytes_eq-Decides}
 use Rattle.std.proofs.lemmas.Option.{slice_get_within, same_Some}
 use Rattle.std.proofs.lemmas.List.Elements.{recursion_from_All}
 use Rattle.pw_value.specs.declared.value.Kind.{Kind}
+use Rattle.pw_value.specs.Limits.{function_limit, global_limit}
 use Rattle.pw_value.specs.FieldNames.{is_among, IsRisingFrom, IsTableOf}
 use Rattle.pw_files.specs.Rising.{IsRising, IsRisingBehind}
 use Rattle.pw_files.proofs.Standing.{Has, has_by, contains_by, each_by, has_each, has_map, has_map_back, has_left, has_right, has_split, has_flat, has_flat_back}
@@ -297,7 +298,7 @@ module _ (ss : List Summary) (lawful : All IsSummary ss) (H : List Entry) (names
   size : length names ≡ length H
   size = ap length names_are ∙ length-map H (λ (y : Entry). y.0)
 
-  pub well_made : length H ≤ 4099 → length G ≤ 8192 → IsGraph graph
+  pub well_made : length H ≤ function_limit + 3 → length G ≤ global_limit → IsGraph graph
   well_made few_functions few_globals = record {
     functions = omega (arith, size, few_functions);
     globals = few_globals;
@@ -327,13 +328,13 @@ module _ (ss : List Summary) (lawful : All IsSummary ss) (H : List Entry) (names
 
 -- ---- the lists that are made
 
-pub few_names : (ss : List Summary) → AreLinked ss → (H : List Entry) (names : List (List ℕ)) → IsOrdered (λ h. h.0) (all_homes ss) H → length H ≡ length (all_homes ss) → IsTableOf names (map (λ h. h.0) H) → (length names ≤ 4099) × (length H ≤ length names)
+pub few_names : (ss : List Summary) → AreLinked ss → (H : List Entry) (names : List (List ℕ)) → IsOrdered (λ h. h.0) (all_homes ss) H → length H ≡ length (all_homes ss) → IsTableOf names (map (λ h. h.0) H) → (length names ≤ function_limit + 3) × (length H ≤ length names)
 few_names ss linked H names homes count table =
     let few = few_homes ss linked in
     let same : length names ≡ length H = ap length (names_one (λ h. h.0) names H homes.0 table) ∙ length-map H (λ (y : Entry). y.0) in
     (omega (arith, few, count, same), omega (arith, same))
 
-pub few_globals : (ss : List Summary) → AreLinked ss → (taken escaped : List (List ℕ)) (G : List (List ℕ × Kind)) (globals : List (List ℕ)) → IsOrdered (λ v. v.0) (all_eligible taken escaped ss) G → length G ≡ length (all_eligible taken escaped ss) → IsTableOf globals (map (λ v. v.0) G) → length globals ≤ 8192
+pub few_globals : (ss : List Summary) → AreLinked ss → (taken escaped : List (List ℕ)) (G : List (List ℕ × Kind)) (globals : List (List ℕ)) → IsOrdered (λ v. v.0) (all_eligible taken escaped ss) G → length G ≡ length (all_eligible taken escaped ss) → IsTableOf globals (map (λ v. v.0) G) → length globals ≤ global_limit
 few_globals ss linked taken escaped G globals scalars count table =
     let few = few_scalars taken escaped ss linked in
     let same : length globals ≡ length G = ap length (names_one (λ v. v.0) globals G scalars.0 table) ∙ length-map G (λ (y : List ℕ × Kind). y.0) in
@@ -360,7 +361,7 @@ made ss lawful linked H names taken escaped G globals homes count of_names of_ta
       well_made ss lawful H names taken escaped G globals homes of_names of_taken of_escaped ordered of_globals rows zipped (omega (arith, few, count)) (omega (arith, few_g, count_globals)),
     )))
 
-pub few_scalars_of : (ss : List Summary) → AreLinked ss → (taken escaped : List (List ℕ)) (G : List (List ℕ × Kind)) → length G ≡ length (all_eligible taken escaped ss) → length G ≤ 8192
+pub few_scalars_of : (ss : List Summary) → AreLinked ss → (taken escaped : List (List ℕ)) (G : List (List ℕ × Kind)) → length G ≡ length (all_eligible taken escaped ss) → length G ≤ global_limit
 few_scalars_of ss linked taken escaped G count = let few = few_scalars taken escaped ss linked in omega (arith, few, count)
 
 pub graph_result : {E : Type 0} (ss : List Summary) → All IsSummary ss → AreLinked ss → (H : List Entry) (names taken escaped : List (List ℕ)) (G : List (List ℕ × Kind))

@@ -8,7 +8,7 @@ use Rattle.pw_walk.proofs.CallLaws.{bind_assoc}
 use Rattle.pw_rules.specs.States.{State, records_in}
 use Rattle.pw_rules.specs.Kinds.{is_character_array}
 use Rattle.pw_rules.specs.Initialisers.{Context, Cursor, Filled, listed_by, listed_expression, listed_form, listed_string, listed_value, passed, string_filled, value_filled, words_in, StringForm, IsOther, IsString}
-use Rattle.pw_rules.specs.Operands.{type_in}
+use Rattle.pw_types.specs.WellTyped.{type_in}
 use Rattle.pw_rules.specs.Operators.{same_record}
 use Rattle.pw_rules.specs.Statements.{whole_rule}
 use Rattle.pw_initial.specs.Placing.{comes_whole, reached_rule}

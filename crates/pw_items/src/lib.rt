@@ -1,9 +1,6 @@
-//! A `Vec` and a `Box` that contracts see as what they hold, so that a type that holds them is plain data
-//! there.
+//! A `Vec` that contracts see as the list of its items, so that a type that holds it is plain data there.
 #![tactic(auto)]
 
-mod boxed;
 mod items;
 
-pub use boxed::Boxed;
 pub use items::Items;

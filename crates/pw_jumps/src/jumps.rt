@@ -1,5 +1,6 @@
 //! Jumps (C90 6.6.6).
 
+ghost use Rattle.std.specs.Prelude.{◌≢◌, IfErr};
 ghost use Rattle.pw_rules.specs.Statements as spec;
 ghost use Rattle.pw_checking.specs.Follows.{Follows, Leads};
 ghost use Rattle.pw_checking.specs.StateViews.{view_state};
@@ -20,7 +21,8 @@ use std::alloc::Global;
 /// C90 6.6.6.1
 #[tactic(auto, unfolding(pw_walk::specs::Walks::bind, pw_walk::specs::Walks::outcome, pw_rules::specs::Statements::goto_rule, pw_typed::specs::Views::view_stmt_form))]
 pub fn goto_rule(state: &State<'_>, token: usize, word: &Word) -> Result<TStmt, CheckFault>
-    ensures { Follows view_stmt (spec.goto_rule token (view_word word.now)) (view_state state.now) result }
+    ensures follows { Follows view_stmt (spec.goto_rule token (view_word word.now)) (view_state state.now) result }
+    ensures no_memory { IfErr result (λ fault. fault.kind ≢ CheckKind.NoMemory) }
 {
     let Some(label) = state.place_of_label(&word.text) else {
         return Err(fault(CheckKind::UnknownName, word.token));
@@ -34,7 +36,8 @@ pub fn goto_rule(state: &State<'_>, token: usize, word: &Word) -> Result<TStmt, 
 /// C90 6.6.6.2
 #[tactic(auto, unfolding(pw_walk::specs::Walks::bind, pw_walk::specs::Walks::outcome, pw_rules::specs::Statements::continue_rule, pw_typed::specs::Views::view_stmt_form))]
 pub fn continue_rule(state: &State<'_>, token: usize) -> Result<TStmt, CheckFault>
-    ensures { Follows view_stmt (spec.continue_rule token) (view_state state.now) result }
+    ensures follows { Follows view_stmt (spec.continue_rule token) (view_state state.now) result }
+    ensures no_memory { IfErr result (λ fault. fault.kind ≢ CheckKind.NoMemory) }
 {
     if state.loops() == 0 {
         return Err(typing(token));
@@ -48,7 +51,8 @@ pub fn continue_rule(state: &State<'_>, token: usize) -> Result<TStmt, CheckFaul
 /// C90 6.6.6.3
 #[tactic(auto, unfolding(pw_walk::specs::Walks::bind, pw_walk::specs::Walks::outcome, pw_rules::specs::Statements::break_rule, pw_typed::specs::Views::view_stmt_form))]
 pub fn break_rule(state: &State<'_>, token: usize) -> Result<TStmt, CheckFault>
-    ensures { Follows view_stmt (spec.break_rule token) (view_state state.now) result }
+    ensures follows { Follows view_stmt (spec.break_rule token) (view_state state.now) result }
+    ensures no_memory { IfErr result (λ fault. fault.kind ≢ CheckKind.NoMemory) }
 {
     if !state.is_breakable() {
         return Err(typing(token));

@@ -1,6 +1,6 @@
 //! Labels (C90 6.6.1).
 
-ghost use Rattle.std.specs.Prelude.{◌≡◌};
+ghost use Rattle.std.specs.Prelude.{◌≡◌, ◌≢◌, Err, IfErr};
 ghost use Rattle.pw_rules.specs.Constants.{convert_word};
 ghost use Rattle.pw_rules.specs.Statements as spec;
 ghost use Rattle.pw_labels.specs.Views.{view_numbers};
@@ -8,6 +8,7 @@ ghost use Rattle.pw_checking.specs.Follows.{Follows, Leads};
 ghost use Rattle.pw_checking.specs.StateViews.{view_state};
 ghost use Rattle.pw_tree.specs.Views.{view_label, view_labels, view_word};
 ghost use Rattle.pw_typed.specs.Views.{view_expr};
+ghost use Rattle.pw_walk.specs.Walks.{outcome};
 
 use crate::parts::BodyParts;
 use pw_checking::{Finding, State, fault, typing};
@@ -65,7 +66,8 @@ fn is_case(state: &State<'_>, value: u32) -> bool
 /// A case or a default stands within a switch (C90 6.6.1).
 #[tactic(auto, unfolding(pw_walk::specs::Walks::bind, pw_walk::specs::Walks::outcome, pw_rules::specs::Statements::inside_switch))]
 fn inside_switch(state: &State<'_>, token: usize) -> Result<(), CheckFault>
-    ensures { Follows (λ u. u) (spec.inside_switch token) (view_state state.now) result }
+    ensures follows { Follows (λ u. u) (spec.inside_switch token) (view_state state.now) result }
+    ensures no_memory { IfErr result (λ fault. fault.kind ≢ CheckKind.NoMemory) }
 {
     match state.innermost_switch() {
         Some(_) => Ok(()),
@@ -76,7 +78,8 @@ fn inside_switch(state: &State<'_>, token: usize) -> Result<(), CheckFault>
 /// A switch has one default at most (C90 6.6.4.2). The answer is the label's number.
 #[tactic(auto, unfolding(pw_walk::specs::Walks::bind, pw_walk::specs::Walks::outcome, pw_rules::specs::Statements::default_rule, pw_rules::specs::Statements::new_label))]
 fn default_rule(state: &mut State<'_>, token: usize) -> Result<u32, CheckFault>
-    ensures { Leads (λ n. n) (spec.default_rule token) (view_state state.old) result (view_state state.new) }
+    ensures leads { Leads (λ n. n) (spec.default_rule token) (view_state state.old) result (view_state state.new) }
+    ensures told { IfErr (outcome (spec.default_rule token (view_state state.old))) (λ fault. result ≡ Err fault) }
 {
     match state.innermost_switch() {
         Some(switch) if switch.default.is_none() => {}

@@ -2,6 +2,7 @@
 use Rattle.std.specs.Prelude.{ℕ, ◌≤◌, List}
 use Rattle.std.proofs.Common.{arith, subst}
 use Rattle.pw_value.specs.declared.value.Value.{Value}
+use Rattle.pw_value.specs.Limits.{stack_least}
 use Rattle.pw_value.specs.ProgramNames.{start_name}
 use Rattle.pw_value.specs.declared.value.Byte.{Byte}
 use Rattle.pw_db.specs.declared.database.Directives.{Directives}
@@ -103,9 +104,9 @@ composes map sense low direction places selection link p d functions objects sta
     let v = image_of objects stack in
     let program = built.accepted.program in
     let frames = map q d functions objects program built.serve built.made in
-    let first : frame_in v start_name ≤ 4096 =
+    let first : frame_in v start_name ≤ stack_least =
     start_fits places_fit q d functions frames built.serve program.modules built.database.directives (starts p.modules program.modules program.start) in
-    let enough : 4096 ≤ stack = built.enough in
+    let enough : stack_least ≤ stack = built.enough in
     let start : frame_in v start_name ≤ stack = omega (arith, first, enough) in
     let l = link q d functions objects input program built.names built.database built.sound built.serve frames start built.made built.fits bytes in
     let s = selection q d functions l.addresses l.scratch input program built.database built.sound built.serve frames start l.lawful bytes in

@@ -3,8 +3,10 @@ use Rattle.std.specs.Prelude.{ℕ, ◌≡◌, ◌≢◌, ◌≤◌, Bool, true, 
 use Rattle.std.specs.List.{flat_map, AllByRecursion}
 use Rattle.std.specs.Str.{bytes_eq}
 use Rattle.std.proofs.Common.{arith, subst, sym, ap, refl, inl, inr, ◌∙◌}
+use Rattle.std.proofs.lemmas.Bool.{leb-true}
 use Rattle.std.proofs.lemmas.List.Elements.{All-contains, All-from_recursion, Contains-append_left, Contains-append_right, Contains-append_cases, Contains-push_cases}
 use Rattle.std.proofs.lemmas.List.Concat.{flat_map-cons}
+use Rattle.pw_value.specs.Limits.{stack_least}
 use Rattle.pw_value.specs.ProgramNames.{start_name, main_name}
 use Rattle.pw_types.specs.TypedTrees.{Symbol, External, Internal, Hidden, FunctionValue, ModuleValue}
 use Rattle.pw_db.specs.declared.database.Directives.{Directives}
@@ -143,12 +145,12 @@ starts ms valid c =
     in_all flows (lowered m.from.name m.from.tree) start_function
     (map_there (λ (m : ProgramModule). lowered m.name m.tree) ms m.from m.there) (starts_in m.from lawful named)
 
--- the frame of that function is 136 bytes at most
+-- the frame of that function fits in the least stack
 pub start_fits : PlacesFit → (q : flows.Program) (d : List (List ℕ × Directives)) (functions : List Located)
     → FramesAre q functions → AllServe (map (directed_by d) (functions_of q)) functions
     → AllByRecursion IsValid q.modules → AllByRecursion (λ f. IsDirectives f.1) d
-    → Contains (functions_of q) start_function → q.frame_of start_name ≤ 4096
+    → Contains (functions_of q) start_function → q.frame_of start_name ≤ stack_least
 start_fits fit q d functions frames serve valid lawful c =
     let a : q.frame_of start_name ≤ flow_room start_function = frame_fits fit q d functions frames serve valid lawful start_function c in
-    let b : flow_room start_function ≡ 136 = refl in
+    let b : flow_room start_function ≤ stack_least = leb-true (flow_room start_function) stack_least refl in
     omega (arith, a, b)

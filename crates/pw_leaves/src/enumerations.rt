@@ -1,6 +1,6 @@
 //! Enumerations (C90 6.5.2.2, 6.5.2.3).
 
-ghost use Rattle.std.specs.Prelude.{◌≡◌, Some};
+ghost use Rattle.std.specs.Prelude.{◌≡◌, ◌≢◌, Some, IfErr};
 ghost use Rattle.pw_checking.specs.Follows.{Follows, Leads};
 ghost use Rattle.pw_checking.specs.PhraseViews.{view_name};
 ghost use Rattle.pw_checking.specs.StateViews.{view_state};
@@ -25,7 +25,8 @@ const GREATEST_INT: u32 = (1 << 31) - 1;
 /// An enumeration by its tag; it is an `int`.
 #[tactic(auto, unfolding(pw_walk::specs::Walks::bind, pw_walk::specs::Walks::outcome, pw_rules::specs::Leaves::enumeration_rule, pw_rules::specs::Leaves::enumeration_by))]
 pub fn enumeration_rule(state: &State, word: &Word) -> Result<QType, CheckFault>
-    ensures { Follows view_qtype (spec.enumeration_rule (view_word word.now)) (view_state state.now) result }
+    ensures follows { Follows view_qtype (spec.enumeration_rule (view_word word.now)) (view_state state.now) result }
+    ensures no_memory { IfErr result (λ fault. fault.kind ≢ CheckKind.NoMemory) }
 {
     match state.tag_of(word.text.as_slice()) {
         Some(Tag::Enumeration) => Ok(int_type()),

@@ -1,6 +1,6 @@
 //! Parameters (C90 6.5.4.3).
 
-ghost use Rattle.std.specs.Prelude.{◌≡◌, [], ◌∷◌, ◌++◌, not, ◌||◌, length, OnOk, IfOk};
+ghost use Rattle.std.specs.Prelude.{◌≡◌, ◌≢◌, [], ◌∷◌, ◌++◌, not, ◌||◌, length, OnOk, IfOk, IfErr};
 ghost use Rattle.pw_checking.specs.EntityViews.{view_entity};
 ghost use Rattle.pw_checking.specs.Follows.{Follows, Leads};
 ghost use Rattle.pw_checking.specs.PhraseViews.{view_bindings, view_declared, view_name, view_parameters, view_specified, view_spot};
@@ -66,7 +66,8 @@ fn is_lawful_type(sole: bool, specified: &Specified, name: Option<&Word>, ty: &Q
 /// A parameter has no storage class but `register`.
 #[tactic(auto, unfolding(pw_walk::specs::Walks::bind, pw_walk::specs::Walks::outcome, pw_rules::specs::Leaves::parameter_storage))]
 pub fn parameter_storage(state: &State, specified: &Specified) -> Result<(), CheckFault>
-    ensures { Follows (λ u. u) (spec.parameter_storage (view_specified specified.now)) (view_state state.now) result }
+    ensures follows { Follows (λ u. u) (spec.parameter_storage (view_specified specified.now)) (view_state state.now) result }
+    ensures no_memory { IfErr result (λ fault. fault.kind ≢ CheckKind.NoMemory) }
 {
     if specified.storage.is_none() || is_register(specified.storage) {
         Ok(())

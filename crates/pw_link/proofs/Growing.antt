@@ -4,6 +4,7 @@ use Rattle.std.specs.List.{sum_by, position_or_len}
 use Rattle.std.proofs.lemmas.Grind.{take_at_read}
 use Rattle.std.proofs.lemmas.List.{take_all, take-map, drop-map, length-map, length-drop}
 use Rattle.std.proofs.lemmas.List.Sums.{sum_by-cons, sum_by_push}
+use Rattle.pw_inst.specs.Limits.{routine_count}
 use Rattle.pw_inst.specs.declared.relocation.Fix.{Fix}
 use Rattle.pw_flow.specs.declared.flow.FlowGlobal.{FlowGlobal}
 use Rattle.pw_object.specs.declared.functions.ObjectFn.{ObjectFn}
@@ -130,11 +131,11 @@ names_more lib i d lt rs same =
     ∙ taken_more_twice first listed lib i d lt
     ∙ ap (λ (rest : List (List ℕ × List ℕ)). map first rest ++ (get_or lib i d).name.now ∷ []) (sym (take-map listed i lib)))
 
--- the addresses of the last five
+-- the addresses of the routines that a symbol may be
 abbrev site : Placed → ℕ
 site p = p.address
 
-pub last_addresses : {X : Type 0} (f : X → Placed) (text : List X) (start i : ℕ) (got : List ℕ) → start ≡ length text - 5 → length (take (length text - start) (drop start text)) ≤ i
+pub last_addresses : {X : Type 0} (f : X → Placed) (text : List X) (start i : ℕ) (got : List ℕ) → start ≡ length text - routine_count → length (take (length text - start) (drop start text)) ≤ i
     → got ≡ map site (map f (take i (take (length text - start) (drop start text)))) → got ≡ routine_addresses (map f text)
 last_addresses f text start i got at all is =
     let rest = drop start text in
@@ -143,7 +144,7 @@ last_addresses f text start i got at all is =
     is
     ∙ ap (λ (xs : List _). map site (map f xs)) items
     ∙ ap (λ (n : ℕ). map site (map f (drop n text))) at
-    ∙ sym (ap (map site) (ap (λ (n : ℕ). drop (n - 5) (map f text)) (length-map text f) ∙ drop-map f (length text - 5) text))
+    ∙ sym (ap (map site) (ap (λ (n : ℕ). drop (n - routine_count) (map f text)) (length-map text f) ∙ drop-map f (length text - routine_count) text))
 
 -- the image of parts that are those of objects
 pub linked_by : (objects : List Object) (stack : ℕ) (ps : List Piece) (gs : List FlowGlobal) → ps ≡ pieces_of objects → gs ≡ globals_of objects → image_of_parts ps gs stack ≡ linked objects stack

@@ -6,6 +6,7 @@ use Rattle.std.specs.Str.{bytes_eq}
 use Rattle.std.specs.Ordering.{nat_cmp, is_lt}
 use Rattle.std.specs.Cmp.Lexicographic.{slice_cmp}
 use Rattle.pw_value.specs.Limits.{text_start}
+use Rattle.pw_inst.specs.Limits.{routine_count}
 use Rattle.pw_inst.specs.declared.relocation.Fix.{Fix}
 use Rattle.pw_flow.specs.ValidFlow.{taken}
 use Rattle.pw_flow.specs.declared.flow.FlowGlobal.{FlowGlobal}
@@ -122,9 +123,9 @@ named_by text begin stood = map function_site text ++ map (global_site begin) st
 abbrev pub address_in : List (List ℕ × ℕ) → List ℕ → ℕ
 address_in named name = unwrap_or (lookup (bytes_eq name) named) 0
 
--- the addresses of the last five routines
+-- the addresses of the routines that a symbol may be, which stand last
 abbrev pub routine_addresses : List Placed → List ℕ
-routine_addresses text = map (λ p. p.address) (drop (length text - 5) text)
+routine_addresses text = map (λ p. p.address) (drop (length text - routine_count) text)
 
 -- what addresses are looked up in: the names, the routines from $divs to $remu, and the end of the stack
 pub record Sites : Type 0 where

@@ -19,6 +19,7 @@ use crate::words::linked_words;
 use indexmap::IndexMap;
 use pw_flow::FlowGlobal;
 use pw_image::{Image, Memory};
+use pw_inst::ROUTINE_COUNT;
 use pw_object::Object;
 use pw_value::LinkFault;
 use pw_value::limits::{MEMORY_SIZE, TEXT_START, WORD_LIMIT};
@@ -56,12 +57,12 @@ fn sizes_of(words: u64, bytes: u64, stack: u32) -> Result<Sizes, LinkFault>
     })
 }
 
-/// The addresses of the last five pieces of a text.
+/// The addresses of the routines that a symbol may be: the last pieces of a text.
 fn routine_addresses(alloc: Global, text: &[Placed]) -> Result<Vec<u32>, AllocError>
     ensures { IfOk result (λ addresses. addresses.items ≡ routine_addresses (map placed_view text.now)) }
 {
     let mut addresses = Vec::new(alloc);
-    for each in &text[text.len().saturating_sub(5)..] {
+    for each in &text[text.len().saturating_sub(ROUTINE_COUNT as usize)..] {
         addresses.push(each.address)?;
     }
     Ok(addresses)

@@ -30,11 +30,11 @@ pub(crate) struct Placed<'a> {
     pub piece: Piece<'a>,
 }
 
-/// A text as a name. A text that is no name's is told as want of memory.
-fn name_of(alloc: Global, text: &str) -> Result<Name, AllocError>
-    ensures { IfOk result (λ name. name ≡ text.now) }
+/// Bytes as a name. Bytes that are no name's are told as want of memory.
+fn name_of(alloc: Global, bytes: &[u8]) -> Result<Name, AllocError>
+    ensures { IfOk result (λ name. name ≡ bytes.now) }
 {
-    match Name::new(alloc, text.as_bytes()) {
+    match Name::new(alloc, bytes) {
         Ok(name) => Ok(name),
         Err(_) => Err(AllocError),
     }

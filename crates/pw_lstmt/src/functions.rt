@@ -1,6 +1,6 @@
 //! Lowering of functions.
 
-ghost use Rattle.std.specs.Prelude.{◌≡◌, ◌+◌, ◌<◌, ◌^◌, length, IfOk, OnOk};
+ghost use Rattle.std.specs.Prelude.{◌≡◌, ◌+◌, ◌<◌, ◌≤◌, ◌^◌, length, IfOk, OnErr, OnOk};
 ghost use Rattle.pw_lower.specs.Modules as spec;
 ghost use Rattle.pw_lower.specs.Places.{places_of as placed, temps_from};
 ghost use Rattle.pw_typed.specs.Views.{view_function, view_locals};
@@ -39,10 +39,11 @@ fn closed_at_start(alloc: Global, named: &[u32]) -> Result<Items<Numbered>, NoMe
 fn blocks_at_start(named: &[u32]) -> Result<u32, NoMemory>
     ensures value { IfOk result (λ n. n ≡ spec.blocks_at_start named.now) }
     ensures fits { OnOk result (1 + length named.now < 2 ^ 32) }
+    ensures wanting { OnErr result (2 ^ 32 ≤ spec.blocks_at_start named.now) }
 {
     match named {
         [] => Ok(1),
-        [_, rest @ ..] => further(u32::try_from(rest.len()).ok().ok_or(NoMemory)?, 3),
+        [_, rest @ ..] => u32::try_from(rest.len() + 3).ok().ok_or(NoMemory),
     }
 }
 

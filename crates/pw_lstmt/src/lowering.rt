@@ -1,6 +1,6 @@
 //! A function while it is lowered, one expression after another.
 
-ghost use Rattle.std.specs.Prelude.{◌≡◌, false, true, IfOk, OnErr, IsErr};
+ghost use Rattle.std.specs.Prelude.{◌≡◌, false, true, IfOk, OnErr, OnOk, IsErr};
 ghost use Rattle.pw_lexpr.specs.Homes.{view_home};
 ghost use Rattle.pw_lower.specs.Codes.{lowered_as};
 ghost use Rattle.pw_lower.specs.Expressions.{lower as lowered};
@@ -62,6 +62,7 @@ pub fn lower_expr(
 ) -> Result<Option<u32>, NoMemory>
     ensures lowered { IfOk result (λ t. lowered_as t into.new.code
         ≡ lowered (record { name = into.old.«module»; records = types.now; places = into.old.places.items }) (view_expr e.now) into.old.code) }
+    ensures kept { OnOk result (into.new ≡ record into.old { code = into.new.code }) }
     ensures failed { OnErr result (into.new.failed ≡ true) }
     ensures still { into.old.failed ≡ true → IsErr result }
 {

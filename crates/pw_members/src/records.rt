@@ -1,6 +1,6 @@
 //! Structures and unions by their tags (C90 6.5.2.1, 6.5.2.3).
 
-ghost use Rattle.std.specs.Prelude.{◌≡◌, None, Some, [], ◌∷◌};
+ghost use Rattle.std.specs.Prelude.{◌≡◌, ◌≢◌, None, Some, [], ◌∷◌, IfErr};
 ghost use Rattle.pw_checking.specs.Follows.{Follows, Leads};
 ghost use Rattle.pw_checking.specs.PhraseViews.{view_name};
 ghost use Rattle.pw_checking.specs.StateViews.{view_state};
@@ -97,7 +97,8 @@ fn reference_to(
     word: &Word,
     number: u32,
 ) -> Result<(QType, Option<usize>), CheckFault>
-    ensures { Follows view_tagged (spec.reference_by kind (view_word word.now) (Some (named.Record number))) (view_state state.now) result }
+    ensures follows { Follows view_tagged (spec.reference_by kind (view_word word.now) (Some (named.Record number))) (view_state state.now) result }
+    ensures no_memory { IfErr result (λ fault. fault.kind ≢ CheckKind.NoMemory) }
 {
     kind_point(Finding::none(), state.records(), kind, number, word.token).end()?;
     Ok((plain(CType::Record(number)), None))
@@ -185,7 +186,8 @@ pub fn alone_rule<'a>(
 
 // The type that a list of members defines, whose tag names the type of this number.
 fn opening_of(state: &State, kind: RecordKind, word: &Word, number: u32) -> Result<u32, CheckFault>
-    ensures { Follows (λ n. n) (spec.opening_by kind (view_word word.now) (Some (named.Record number))) (view_state state.now) result }
+    ensures follows { Follows (λ n. n) (spec.opening_by kind (view_word word.now) (Some (named.Record number))) (view_state state.now) result }
+    ensures no_memory { IfErr result (λ fault. fault.kind ≢ CheckKind.NoMemory) }
 {
     let opened = state.is_opened(number);
     kind_point(Finding::none(), state.records(), kind, number, word.token)

@@ -4,45 +4,46 @@ ghost use Rattle.std.specs.Prelude.{◌≡◌, map};
 ghost use Rattle.pw_milli.specs.Library.{listed, routines};
 
 use crate::words;
+use pw_value::program_names::{EXIT, GETCHAR, PUTCHAR};
 
 /// A routine: its name, and its words in order.
 #[derive(Clone, Copy)]
 pub struct Routine {
-    pub name: &'static str,
+    pub name: &'static [u8],
     pub words: &'static [u32],
 }
 
 static LIBRARY: [Routine; 8] = [
     Routine {
-        name: "exit",
+        name: EXIT,
         words: &words::EXIT,
     },
     Routine {
-        name: "getchar",
+        name: GETCHAR,
         words: &words::GETCHAR,
     },
     Routine {
-        name: "putchar",
+        name: PUTCHAR,
         words: &words::PUTCHAR,
     },
     Routine {
-        name: "$divs",
+        name: b"$divs",
         words: &words::DIVS,
     },
     Routine {
-        name: "$divu",
+        name: b"$divu",
         words: &words::DIVU,
     },
     Routine {
-        name: "$mul",
+        name: b"$mul",
         words: &words::MUL,
     },
     Routine {
-        name: "$rems",
+        name: b"$rems",
         words: &words::REMS,
     },
     Routine {
-        name: "$remu",
+        name: b"$remu",
         words: &words::REMU,
     },
 ];

@@ -15,6 +15,7 @@ use Rattle.pw_files.proofs.RisingLaws.{counted_spells, each_weaker, used_append,
 use Rattle.pw_flowops.specs.Reading.{one_of_at}
 use Rattle.pw_flowops.proofs.FieldChains.{Takes, takes_field, takes_done, again_field, chained}
 use Rattle.pw_flowops.proofs.ChoiceLaws.{Any, one_spells}
+use Rattle.pw_inst.specs.Limits.{routine_count}
 use Rattle.pw_inst.specs.declared.relocation.FixKind.{FixKind}
 use Rattle.pw_inst.specs.declared.relocation.FixKind.TheVariants as kind
 use Rattle.pw_inst.specs.declared.relocation.Symbol.{Symbol}
@@ -42,10 +43,10 @@ abbrev pub FitsSymbol : List (List ℕ) → Symbol → Type 0
 FitsSymbol names (symbol.Named name) = Contains names name
 FitsSymbol names (symbol.Word word) = FitsU32 word
 FitsSymbol names symbol.StackLimit = Unit {0}
-FitsSymbol names (symbol.Routine number) = number < 5
+FitsSymbol names (symbol.Routine number) = number < routine_count
 
 abbrev IsRoutine : ℕ → Type 0
-IsRoutine number = FitsU8 number × IsTrue (nat_lt number 5)
+IsRoutine number = FitsU8 number × IsTrue (nat_lt number routine_count)
 
 form_back : (f : SymbolForm) → slice_get symbol_forms (form_number f) ≡ Some f
 form_back form.Named = refl
@@ -62,7 +63,7 @@ unfolding named_at word_at routine_at
 symbol_take names table form.Named = takes_field _ (name_index names) (Contains names) (name_at names) _ (name_spells names table) (λ name h. takes_done _ (symbol.Named name) (λ rest. (refl, h)))
 symbol_take names table form.Word = takes_field _ u32 FitsU32 u32_at _ u32_spells (λ word h. takes_done _ (symbol.Word word) (λ rest. (refl, h)))
 symbol_take names table form.StackLimit = takes_done _ symbol.StackLimit (λ rest. (refl, tt))
-symbol_take names table form.Routine = takes_field _ u8 IsRoutine (choice_at 5) _ (choice_spells 5) (λ number h. takes_done _ (symbol.Routine number) (λ rest. (refl, ltb-true _ _ h.1)))
+symbol_take names table form.Routine = takes_field _ u8 IsRoutine (choice_at routine_count) _ (choice_spells routine_count) (λ number h. takes_done _ (symbol.Routine number) (λ rest. (refl, ltb-true _ _ h.1)))
 
 symbol_again : (names : List (List ℕ)) → IsNameTable names → (s : Symbol) (rest : List ℕ) → FitsSymbol names s → symbol_at names (symbol_spelling names s ++ rest) ≡ Ok (s, rest)
 unfolding symbol_at named_at word_at routine_at
@@ -75,7 +76,7 @@ symbol_again names table (symbol.Word word) rest h =
 symbol_again names table symbol.StackLimit rest h = again_field (λ f. u8 (form_number f)) Any (one_of_at symbol_forms) _ form_spells form.StackLimit tt [] rest symbol.StackLimit refl
 symbol_again names table (symbol.Routine number) rest h =
     again_field (λ f. u8 (form_number f)) Any (one_of_at symbol_forms) _ form_spells form.Routine tt (u8 number ++ []) rest (symbol.Routine number)
-    (again_field u8 IsRoutine (choice_at 5) _ (choice_spells 5) number (omega (arith, h), lt-ltb _ _ h) [] rest (symbol.Routine number) refl)
+    (again_field u8 IsRoutine (choice_at routine_count) _ (choice_spells routine_count) number (omega (arith, h), lt-ltb _ _ h) [] rest (symbol.Routine number) refl)
 
 symbol_spells : (names : List (List ℕ)) → IsNameTable names → Spells (symbol_spelling names) (FitsSymbol names) (symbol_at names)
 unfolding symbol_at

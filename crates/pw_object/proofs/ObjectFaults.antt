@@ -12,6 +12,7 @@ use Rattle.pw_files.specs.Faults.{FaultsStay}
 use Rattle.pw_files.proofs.OnwardLaws.{Onward, one_onward, behind, done_onward, here_onward, ended_onward, checked_one, mapped_one, choice_one, u32_one, text_one, name_one, counted_onward, name_list_onward, shaped_list_onward}
 use Rattle.pw_files.proofs.FaultLaws.{Keeps, keeps_behind, keeps_ended, contents_onward, contents_keep}
 use Rattle.pw_files.proofs.FaultLaws as files
+use Rattle.pw_inst.specs.Limits.{routine_count}
 use Rattle.pw_inst.specs.declared.relocation.Symbol.TheVariants as symbol
 use Rattle.pw_flow.specs.declared.flow.FlowGlobal.{FlowGlobal}
 use Rattle.pw_flowops.proofs.OnwardLaws.{choice_of_one}
@@ -33,7 +34,7 @@ word_onward = one_onward _ (mapped_one u32_at symbol.Word u32_one)
 
 routine_onward : Onward routine_at
 unfolding routine_at
-routine_onward = one_onward _ (mapped_one (choice_at 5) symbol.Routine (choice_one 5))
+routine_onward = one_onward _ (mapped_one (choice_at routine_count) symbol.Routine (choice_one routine_count))
 
 form_onward : (names : List (List ℕ)) (f : SymbolForm) → Onward (symbol_of_form_at names f)
 form_onward names form.Named = named_onward names

@@ -7,6 +7,7 @@ use Rattle.pw_files.specs.Rising.{counted}
 use Rattle.pw_inst.specs.declared.relocation.FixKind.{FixKind}
 use Rattle.pw_inst.specs.declared.relocation.FixKind.TheVariants as kind
 use Rattle.pw_inst.specs.declared.relocation.Symbol.{Symbol}
+use Rattle.pw_inst.specs.Limits.{routine_count}
 use Rattle.pw_inst.specs.declared.relocation.Symbol.TheVariants as symbol
 use Rattle.pw_inst.specs.declared.relocation.Fix.{Fix}
 use Rattle.pw_object.specs.declared.functions.ObjectFn.{ObjectFn}
@@ -20,7 +21,7 @@ abbrev pub IsSymbol : Symbol → Type 0
 IsSymbol (symbol.Named name) = Unit {0}
 IsSymbol (symbol.Word word) = FitsU32 word
 IsSymbol symbol.StackLimit = Unit {0}
-IsSymbol (symbol.Routine number) = number < 5
+IsSymbol (symbol.Routine number) = number < routine_count
 
 -- it names a word of a function of so many words
 pub record IsFix (words : ℕ) (f : Fix) : Type 0 where

@@ -10,6 +10,7 @@ use Rattle.pw_value.specs.declared.program_names.StartName.TheVariants.{Allowed}
 use Rattle.pw_flow.specs.declared.flow.FlowGlobal.{FlowGlobal}
 use Rattle.pw_flowops.specs.Reading.{one_of_at}
 use Rattle.pw_flowfile.specs.Reading.{global_body_at}
+use Rattle.pw_inst.specs.Limits.{routine_count}
 use Rattle.pw_inst.specs.declared.relocation.FixKind.{FixKind}
 use Rattle.pw_inst.specs.declared.relocation.FixKind.TheVariants as kind
 use Rattle.pw_inst.specs.declared.relocation.Symbol.{Symbol}
@@ -42,7 +43,7 @@ word_at = do
 
 unfoldable pub routine_at : List ℕ → Result (Symbol × List ℕ) ℕ
 routine_at = do
-  number ← choice_at 5
+  number ← choice_at routine_count
   done (symbol.Routine number)
 
 abbrev pub symbol_of_form_at : List (List ℕ) → SymbolForm → List ℕ → Result (Symbol × List ℕ) ℕ

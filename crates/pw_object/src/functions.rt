@@ -8,7 +8,7 @@ ghost use Rattle.pw_flowops.specs.Reading.{one_of_at};
 ghost use Rattle.pw_object.specs.Reading.{fix_kinds, symbol_forms, named_at, word_at, routine_at, symbol_of_form_at, symbol_at, fix_at, function_at};
 
 use pw_flowops::{read_below, read_one_of};
-use pw_inst::{Fix, FixKind, Symbol};
+use pw_inst::{Fix, FixKind, ROUTINE_COUNT, Symbol};
 use pw_items::Items;
 use pw_value::Name;
 use pw_value::fields::names::read_name;
@@ -87,7 +87,7 @@ fn read_routine(bytes: &[u8]) -> Result<(Symbol, &[u8]), FieldError>
     ensures found { Gives (λ x. (x.0, x.1.now)) result (routine_at bytes.now) }
     ensures no_memory { IfErr result (λ e. e ≢ FieldError.NoMemory) }
 {
-    let (number, rest) = read_choice(5, bytes)?;
+    let (number, rest) = read_choice(ROUTINE_COUNT, bytes)?;
     Ok((Symbol::Routine(number), rest))
 }
 

@@ -2,20 +2,15 @@
 
 ghost use Rattle.std.specs.Prelude.{◌≡◌, ◌++◌, map, IfOk, OnOk};
 ghost use Rattle.std.specs.List.{flat_map};
-ghost use Rattle.pw_value.specs.FieldFaults.{Gives};
-ghost use Rattle.pw_files.specs.Start.{start_rule};
-ghost use Rattle.pw_files.specs.Contents.{broken_at};
 ghost use Rattle.pw_object.specs.Functions.{names_of_symbol, names_of_function};
-ghost use Rattle.pw_object.specs.Object.{names_of, function_names, global_names};
+ghost use Rattle.pw_object.specs.Object.{names_of};
 
 use crate::functions::ObjectFn;
 use crate::object::Object;
-use pw_files::late::check_start;
 use pw_files::used::{add_names, add_shaped};
-use pw_flowfile::{add_global_names, add_globals};
+use pw_flowfile::add_globals;
 use pw_inst::{Fix, Symbol};
 use pw_value::Name;
-use pw_value::fields::FieldError;
 use std::alloc::{AllocError, Global};
 
 /// Adds the names of fixes.
@@ -54,30 +49,16 @@ pub(crate) fn used_names(alloc: Global, object: &Object) -> Result<Vec<&Name>, A
     Ok(used)
 }
 
-/// Adds the names of functions alone.
-fn add_function_names<'a>(
-    used: &mut Vec<&'a Name>,
-    functions: &'a [ObjectFn],
-) -> Result<(), AllocError>
-    ensures { OnOk result (map (λ name. name.now) used.new.items ≡ map (λ name. name.now) used.old.items ++ map (λ f. f.name) functions.now) }
-{
-    for function in functions {
-        used.push(&function.name)?;
-    }
-    Ok(())
-}
-
-/// The rule of `$start`, where so many bytes are left from the count of the functions on.
-pub(crate) fn check_start_beside_main(
+/// The names of functions alone.
+pub(crate) fn function_names(
     alloc: Global,
-    object: &Object,
-    count: usize,
-) -> Result<(), FieldError>
-    ensures { Gives (λ x. x) result (broken_at (start_rule (function_names object.now) (global_names object.now) count)) }
+    functions: &[ObjectFn],
+) -> Result<Vec<&Name>, AllocError>
+    ensures { IfOk result (λ v. map (λ name. name.now) v.items ≡ map (λ f. f.name) functions.now) }
 {
-    let mut functions = Vec::new(alloc);
-    add_function_names(&mut functions, object.functions.as_slice())?;
-    let mut globals = Vec::new(alloc);
-    add_global_names(&mut globals, object.globals.as_slice())?;
-    check_start(&functions, &globals, count)
+    let mut names = Vec::new(alloc);
+    for function in functions {
+        names.push(&function.name)?;
+    }
+    Ok(names)
 }

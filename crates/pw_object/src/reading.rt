@@ -12,13 +12,13 @@ ghost use Rattle.pw_object.specs.Object.{kind as kind_of_file, object_version, I
 ghost use Rattle.pw_object.specs.Reading.{global_at, function_at, last_rules, fields_at, object_file_at};
 
 use crate::functions::{ObjectFn, read_function};
-use crate::names::{check_start_beside_main, used_names};
+use crate::names::{function_names, used_names};
 use crate::object::{Object, VERSION};
 use pw_files::format::{Format, read_value};
-use pw_files::late::check_used;
+use pw_files::late::check_module;
 use pw_files::lists::{read_name_list, read_shaped_list};
 use pw_flow::FlowGlobal;
-use pw_flowfile::read_global_body;
+use pw_flowfile::{global_names, read_global_body};
 use pw_items::Items;
 use pw_value::fields::names::read_name;
 use pw_value::fields::{FieldError, read_text_in_place, read_u32};
@@ -166,8 +166,9 @@ fn check_last(
     ensures { Gives (λ x. x) result (broken_at (last_rules names.now behind object.now count)) }
 {
     let used = used_names(alloc, object)?;
-    check_used(alloc, names, used, behind)?;
-    check_start_beside_main(alloc, object, count)
+    let functions = function_names(alloc, object.functions.as_slice())?;
+    let globals = global_names(alloc, object.globals.as_slice())?;
+    check_module(alloc, names, used, behind, &functions, &globals, count)
 }
 
 /// Object files, which are read as all files of the compiler are.

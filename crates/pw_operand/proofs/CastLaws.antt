@@ -6,7 +6,8 @@ use Rattle.pw_types.specs.TypeTrees.{CType, Void, Int, Pointer, Array, Function,
 use Rattle.pw_types.specs.TypedTrees.{Expression, Node, token_of}
 use Rattle.pw_types.specs.TypedTrees as T
 use Rattle.pw_rules.specs.Kinds.{is_integral, kind_in, plain, same_type}
-use Rattle.pw_rules.specs.Operands.{cast_to, promote, promoted_type, type_in}
+use Rattle.pw_rules.specs.Operands.{cast_to, promote, promoted_type}
+use Rattle.pw_types.specs.WellTyped.{type_in}
 use Rattle.pw_rules.proofs.Booleans.{no}
 use Rattle.pw_operand.proofs.SameLaws.{same_exact, same_refl}
 

@@ -3,7 +3,8 @@ use Rattle.std.specs.Prelude.{ℕ, ◌≡◌, Bool, true, false, ◌&&◌, Optio
 use Rattle.std.proofs.Common.{ap, ◌∙◌}
 use Rattle.std.proofs.lemmas.Bool.{eqb-true, eq-eqb}
 use Rattle.pw_types.specs.TypeTrees.{CType, Void, Int, Pointer, Array, Function, Record, QType, Qualified, QTypes, NoType, OneType}
-use Rattle.pw_rules.specs.Kinds.{same_type, same_qualified, same_types, same_truth, same_length}
+use Rattle.pw_rules.specs.Kinds.{same_type, same_qualified, same_types, same_length}
+use Rattle.pw_value.specs.ProgramNames.{same_truth}
 use Rattle.pw_rules.proofs.Booleans.{no, both, left, right}
 use Rattle.pw_rules.proofs.CompatibleLaws.{kinds_same, same_kinds}
 

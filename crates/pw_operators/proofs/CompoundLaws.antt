@@ -7,7 +7,8 @@ use Rattle.pw_types.specs.TypeTrees.{CType}
 use Rattle.pw_types.specs.TypedTrees.{Expression, Node, type_at}
 use Rattle.pw_types.specs.TypedTrees as T
 use Rattle.pw_rules.specs.Kinds.{is_pointer, unqualified}
-use Rattle.pw_rules.specs.Operands.{type_in, common_type, cast_to}
+use Rattle.pw_rules.specs.Operands.{common_type, cast_to}
+use Rattle.pw_types.specs.WellTyped.{type_in}
 use Rattle.pw_rules.specs.Operators.{compound_node, typed_binary}
 use Rattle.pw_operators.specs.Compounds.{compound_operands}
 

@@ -6,7 +6,8 @@ use Rattle.pw_tree.specs.declared.operator.BinaryOperator.TheVariants as O
 use Rattle.pw_types.specs.TypeTrees.{CType}
 use Rattle.pw_types.specs.TypedTrees.{Expression}
 use Rattle.pw_rules.specs.Kinds.{is_pointer}
-use Rattle.pw_rules.specs.Operands.{type_in, promote, common_type, cast_to}
+use Rattle.pw_rules.specs.Operands.{promote, common_type, cast_to}
+use Rattle.pw_types.specs.WellTyped.{type_in}
 
 -- each operand of a shift is promoted by itself
 abbrev pub shift_operands : Expression → Expression → CType × Expression

@@ -328,30 +328,38 @@ fn put_call_by_value(out: &mut Items<Line>, f: Place, args: &[Place]) -> Result<
 
 // ---- operations
 
-/// The operations that are calls; of every other operation want of memory.
-fn put_call_op(
+/// A call by name, and its result.
+fn put_call_to(
     alloc: Global,
     out: &mut Items<Line>,
     places: &[Place],
-    slots: &[i32],
-    op: &Op,
+    t: Option<u32>,
+    name: &Name,
+    args: &[u32],
 ) -> Result<(), AllocError>
-    requires { HasFewArguments op.now }
-    ensures { OnOk result (out.new ≡ out.old ++ op_lines (layout places.now slots.now) op.now) }
+    requires { length args.now ≤ parameter_limit }
+    ensures { OnOk result (out.new ≡ out.old ++ (called name.now (map (place_of places.now) args.now) ++ call_result places.now t)) }
 {
-    match op {
-        Op::Call(t, name, args) => {
-            let args = arguments(alloc, places, args.as_slice())?;
-            put_call(alloc, out, name, args.as_slice())?;
-            put_call_result(out, places, *t)
-        }
-        Op::CallInd(t, f, _, args) => {
-            let args = arguments(alloc, places, args.as_slice())?;
-            put_call_by_value(out, place_of(places, *f), args.as_slice())?;
-            put_call_result(out, places, *t)
-        }
-        _ => Err(AllocError),
-    }
+    let args = arguments(alloc, places, args)?;
+    put_call(alloc, out, name, args.as_slice())?;
+    put_call_result(out, places, t)
+}
+
+/// A call of a function that a temporary holds, and its result.
+fn put_call_through(
+    alloc: Global,
+    out: &mut Items<Line>,
+    places: &[Place],
+    t: Option<u32>,
+    f: u32,
+    args: &[u32],
+) -> Result<(), AllocError>
+    requires { length args.now ≤ parameter_limit }
+    ensures { OnOk result (out.new ≡ out.old ++ (called_by_value (place_of places.now f) (map (place_of places.now) args.now) ++ call_result places.now t)) }
+{
+    let args = arguments(alloc, places, args)?;
+    put_call_by_value(out, place_of(places, f), args.as_slice())?;
+    put_call_result(out, places, t)
 }
 
 /// The lines of an operation of a flow graph.
@@ -386,7 +394,10 @@ fn put_op(
             let (a, b) = (place_of(places, *a), place_of(places, *b));
             put_moved(out, a, b, *size, *unit)
         }
-        call => put_call_op(alloc, out, places, slots, call),
+        Op::Call(t, name, args) => put_call_to(alloc, out, places, *t, name, args.as_slice()),
+        Op::CallInd(t, f, _, args) => {
+            put_call_through(alloc, out, places, *t, *f, args.as_slice())
+        }
     }
 }
 

@@ -1,2 +1,5 @@
 pub mod Distinct
 pub mod ObjectLaws
+pub mod FixLaws
+pub mod SelectedLaws
+pub mod CompiledLaws

@@ -1,13 +1,13 @@
 -- The object of a lawful module keeps the rules of its file.
 use Rattle.std.proofs.Common.{◌≡◌, ◌≢◌, ℕ, ◌+◌, ◌≤◌, Bool, true, false, cond, List, [], ◌∷◌, ◌++◌, map, refl, sym, ap, ◌∙◌, subst, arith}
-use Rattle.std.specs.Prelude.{Contains, count_by}
+use Rattle.std.specs.Prelude.{Contains}
 use Rattle.std.specs.List.{AllByRecursion}
 use Rattle.std.specs.Str.{bytes_eq}
 use Rattle.std.proofs.lemmas.List.Sums.{sum_by-cons}
 use Rattle.std.proofs.lemmas.Slice.Eq.{bytes_eq-Decides}
 use Rattle.pw_value.specs.ProgramNames.{KeepsStart, IsOrdinary, start_name, times}
 use Rattle.pw_files.specs.Rising.{IsRising}
-use Rattle.pw_files.proofs.Standing.{Has, has_by, has_each}
+use Rattle.pw_files.proofs.Standing.{has_by, has_each}
 use Rattle.pw_flow.specs.declared.flow.FlowFn.{FlowFn}
 use Rattle.pw_flow.specs.declared.flow.FlowModule.{FlowModule}
 use Rattle.pw_flow.specs.FlowGraph.{function_names, global_names}

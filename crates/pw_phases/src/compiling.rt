@@ -10,7 +10,7 @@ ghost use Rattle.pw_alloc.specs.Allocation.{allocated};
 ghost use Rattle.pw_alloc.specs.ValidPlaces.{IsLocated};
 ghost use Rattle.pw_phases.specs.Phases.{code_of, compiled, all_compiled};
 
-use crate::lawful::is_function;
+use crate::numbers::numbers_fit;
 use pw_alloc::{Located, allocate};
 use pw_db::Directives;
 use pw_delay::{Code, place};
@@ -58,8 +58,7 @@ fn made(alloc: Global, f: &FlowFn, d: &Directives) -> Result<ObjectFn, AllocErro
     })
 }
 
-/// A function as words that can stand in an object's file, under its directives. No other is ever made; it would be told
-/// as want of memory.
+/// A function as words that can stand in an object's file, under its directives.
 fn compile(alloc: Global, f: &FlowFn, d: &Directives) -> Result<ObjectFn, AllocError>
     requires function { IsFunction f.now }
     requires directives { IsDirectives d.now }
@@ -67,11 +66,8 @@ fn compile(alloc: Global, f: &FlowFn, d: &Directives) -> Result<ObjectFn, AllocE
     ensures lawful { IfOk result (λ r. object.IsFunction r) }
 {
     let made = made(alloc, f, d)?;
-    if is_function(&made) {
-        Ok(made)
-    } else {
-        Err(AllocError)
-    }
+    numbers_fit(&made);
+    Ok(made)
 }
 
 /// Functions as words, each under the directives that stand at its place.

@@ -4,8 +4,8 @@
 mod compiling;
 mod copying;
 mod directives;
-mod lawful;
 pub mod laws;
+mod numbers;
 mod phases;
 
 pub use directives::directives_for;

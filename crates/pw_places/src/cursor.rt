@@ -1,6 +1,6 @@
 //! Where a list's initialisers stand: the objects that are initialised, the innermost last.
 
-ghost use Rattle.std.specs.Prelude.{◌≡◌, ◌||◌, [], ◌∷◌, false, is_some, option_map, slice_get, true, IfNone, IfOk, IfSome};
+ghost use Rattle.std.specs.Prelude.{◌≡◌, ◌^◌, ◌≤◌, ◌||◌, [], ◌∷◌, false, is_some, option_map, slice_get, true, IfNone, IfOk, IfSome, MatchResult};
 ghost use Rattle.std.specs.Option.{option_copied};
 ghost use Rattle.pw_places.specs.Views.{view_cursor, view_frame, view_target};
 ghost use Rattle.pw_rules.specs.Initialisers as spec;
@@ -54,9 +54,10 @@ pub fn passed(types: &Types, cursor: Vec<Frame>) -> Result<Vec<Frame>, AllocErro
     Ok(cursor)
 }
 
-/// How many elements a list gave to the array in braces.
+/// How many elements a list gave to the array in braces. Want of memory is the answer for a count that 64 bits do not
+/// hold, and for no other.
 pub fn elements_given(cursor: &[Frame]) -> Result<u64, AllocError>
-    ensures { IfOk result (λ n. n ≡ spec.elements_given (view_cursor cursor.now)) }
+    ensures { MatchResult result (λ n. n ≡ spec.elements_given (view_cursor cursor.now)) (λ _. 2 ^ 64 ≤ spec.elements_given (view_cursor cursor.now)) }
 {
     let Some((outermost, within)) = cursor.split_first() else {
         return Ok(0);

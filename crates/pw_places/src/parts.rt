@@ -1,6 +1,6 @@
 //! The parts of an object, as its initialisers come to them.
 
-ghost use Rattle.std.specs.Prelude.{◌≡◌, is_some, nat_lt, option_map, slice_get, true, zip, IfOk};
+ghost use Rattle.std.specs.Prelude.{◌≡◌, ◌^◌, ◌≤◌, is_some, nat_lt, option_map, slice_get, true, zip, IfOk, MatchResult};
 ghost use Rattle.std.specs.Option.{option_copied, option_map_or};
 ghost use Rattle.pw_places.specs.Members.{member_in, own_part, view_found};
 ghost use Rattle.pw_places.specs.Views.{view_frame, view_target};
@@ -38,9 +38,9 @@ pub fn frame_of(target: Target) -> Frame
     }
 }
 
-/// The object behind the part that came next. A number that 64 bits cannot count answers want of memory.
+/// The object behind the part that came next. A number that 64 bits cannot count answers want of memory, and no other.
 pub fn one_on(frame: Frame) -> Result<Frame, AllocError>
-    ensures { IfOk result (λ after. view_frame after ≡ spec.one_on (view_frame frame)) }
+    ensures { MatchResult result (λ after. view_frame after ≡ spec.one_on (view_frame frame)) (λ _. 2 ^ 64 ≤ (spec.one_on (view_frame frame)).next) }
 {
     let Some(next) = frame.next.checked_add(1) else {
         return Err(AllocError);

@@ -8,7 +8,8 @@ use Rattle.pw_types.specs.TypeTrees.{CType, Void, Int, Pointer, Array, Function,
 use Rattle.pw_rules.specs.Compatible.{compatible_types, compatible, compatible_parameters, lengths_agree}
 use Rattle.pw_rules.specs.Judgements.{LengthsAgree, CompatibleTypes, VoidTypes, IntegerTypes, PointerTypes, ArrayTypes, FunctionTypes, RecordTypes, Compatible, QualifiedAlike, CompatibleParameters, NoParameters, OneParameter}
 use Rattle.pw_rules.proofs.Booleans.{no, both, left, right}
-use Rattle.pw_rules.specs.Kinds.{same_kind, number_of_kind, same_truth}
+use Rattle.pw_rules.specs.Kinds.{same_kind, number_of_kind}
+use Rattle.pw_value.specs.ProgramNames.{same_truth}
 
 -- ---- parts
 

@@ -6,7 +6,8 @@ use Rattle.pw_types.specs.TypedTrees.{type_at}
 use Rattle.pw_rules.specs.Judgements.{ModifiableLvalue, InternalLinkage, ByStatic, ByVisible}
 use Rattle.pw_rules.specs.Kinds.{is_array, is_complete, is_free_of_const}
 use Rattle.pw_rules.specs.Linkage.{Asking, AsInternal, AsBefore, AsExternal, is_internal_by, visible_linkage}
-use Rattle.pw_rules.specs.Operands.{Operand, type_in}
+use Rattle.pw_rules.specs.Operands.{Operand}
+use Rattle.pw_types.specs.WellTyped.{type_in}
 use Rattle.pw_rules.specs.Operators.{is_modifiable}
 use Rattle.pw_rules.specs.States.{State}
 use Rattle.pw_rules.proofs.Booleans.{no, both, left, right, opposite}

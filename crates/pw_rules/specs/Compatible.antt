@@ -1,7 +1,8 @@
 -- Compatible and composite types (ISO C90 6.1.2.6, 6.5.2 to 6.5.4).
 use Rattle.std.specs.Prelude.{ℕ, ◌==◌, Bool, true, false, not, ◌&&◌, ◌||◌, Option, None, Some}
 use Rattle.pw_types.specs.TypeTrees.{CType, Void, Int, Pointer, Array, Function, Record, QType, Qualified, QTypes, NoType, OneType, is_constant, is_volatile}
-use Rattle.pw_rules.specs.Kinds.{same_kind, same_truth}
+use Rattle.pw_rules.specs.Kinds.{same_kind}
+use Rattle.pw_value.specs.ProgramNames.{same_truth}
 
 -- lengths that do not differ where both are known
 abbrev pub lengths_agree : Option ℕ → Option ℕ → Bool

@@ -16,7 +16,7 @@ use Rattle.pw_value.specs.Values.{extended}
 use Rattle.pw_value.specs.Words.{signed_sum, signed_difference, signed_product, signed_negation, signed_quotient, signed_remainder, signed_less, signed_at_most, signed_shift_right, unsigned_sum, unsigned_difference, unsigned_product, unsigned_negation, unsigned_quotient, unsigned_remainder, unsigned_less, unsigned_at_most, unsigned_shift_right, shift_left}
 use Rattle.pw_value.specs.declared.words.WordFault.{WordFault}
 use Rattle.pw_rules.specs.Kinds.{is_pointer, kind_in, pointee}
-use Rattle.pw_rules.specs.Operands.{type_in}
+use Rattle.pw_types.specs.WellTyped.{type_in}
 
 -- what an expression is: a constant with its value as a word, no constant expression, or one in which something that is
 -- evaluated has no value

@@ -19,7 +19,8 @@ use Rattle.pw_walk.specs.Causes.{needs, InitialiserType, InitialiserForm, Initia
 use Rattle.pw_walk.specs.Walks.{meets, granted, pure, asks, ◌>>=◌, ◌>>◌}
 use Rattle.pw_rules.specs.Kinds.{plain, is_scalar, is_array, is_character_array}
 use Rattle.pw_rules.specs.Constants.{constant_value, is_null_pointer, address_of, Place}
-use Rattle.pw_rules.specs.Operands.{type_in, cast_to}
+use Rattle.pw_rules.specs.Operands.{cast_to}
+use Rattle.pw_types.specs.WellTyped.{type_in}
 use Rattle.pw_rules.specs.Operators.{value_rule, is_assignable, same_record}
 use Rattle.pw_rules.specs.Leaves.{texts_of, string_type, string_point, is_nil}
 use Rattle.pw_rules.specs.States.{Rule, records_in}

@@ -7,7 +7,8 @@ use Rattle.pw_types.specs.TypedTrees.{Expression, Node, type_at}
 use Rattle.pw_types.specs.TypedTrees as T
 use Rattle.pw_rules.specs.Constants.{constant_value}
 use Rattle.pw_rules.specs.Kinds.{is_complete, is_free_of_const}
-use Rattle.pw_rules.specs.Operands.{Operand, type_in}
+use Rattle.pw_rules.specs.Operands.{Operand}
+use Rattle.pw_types.specs.WellTyped.{type_in}
 use Rattle.pw_rules.specs.Linkage.{Asking, AsInternal, AsBefore, visible_linkage}
 use Rattle.pw_rules.specs.States.{State}
 

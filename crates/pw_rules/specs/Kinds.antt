@@ -1,6 +1,7 @@
 -- What types are (ISO C90 6.1.2.5, 6.2.1): the tests that constraints speak of.
 use Rattle.std.specs.Prelude.{ℕ, zero, suc, ◌+◌, ◌==◌, Bool, true, false, not, ◌&&◌, ◌||◌, Option, None, Some, is_some, List, [], ◌∷◌, option_map, unwrap_or}
 use Rattle.std.specs.List.{list_any}
+pub use Rattle.pw_value.specs.ProgramNames.{same_truth}
 use Rattle.pw_types.specs.declared.kind.IntKind.{IntKind}
 use Rattle.pw_types.specs.declared.kind.IntKind.TheVariants as K
 use Rattle.pw_types.specs.TypeTrees.{CType, Void, Int, Pointer, Array, Function, Record, QType, Qualified, QTypes, NoType, OneType, type_of, MemberValue, RecordValue}
@@ -31,10 +32,6 @@ number_of_kind K.ULong = 8
 
 abbrev pub same_kind : IntKind → IntKind → Bool
 same_kind a b = number_of_kind a == number_of_kind b
-
-abbrev pub same_truth : Bool → Bool → Bool
-same_truth true b = b
-same_truth false b = not b
 
 abbrev pub same_length : Option ℕ → Option ℕ → Bool
 same_length None None = true

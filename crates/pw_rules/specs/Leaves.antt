@@ -25,7 +25,8 @@ use Rattle.pw_walk.specs.declared.fault.Which.TheVariants.{ObjectSize, ShapeLeng
 use Rattle.pw_walk.specs.Walks.{meets, granted, refused, pure, asks, change, ◌>>=◌, ◌>>◌}
 use Rattle.pw_rules.specs.Kinds.{plain, int_type, is_function, is_record, is_void, types_in, kind_in}
 use Rattle.pw_rules.specs.Constants.{constant_value}
-use Rattle.pw_rules.specs.Operands.{Operand, value_operand, type_in}
+use Rattle.pw_rules.specs.Operands.{Operand, value_operand}
+use Rattle.pw_types.specs.WellTyped.{type_in}
 use Rattle.pw_rules.specs.States.{Rule, State, Entity, TypeName, EnumerationConstant, LocalObject, StaticObject, Linked, records_in, entity_of, tag_of, tag_here, enter, enter_tag, add_record, put_record, add_hidden, next_hidden, with_types, put_at}
 use Rattle.pw_rules.specs.Limits.{completed, name_within, type_within}
 use Rattle.pw_rules.specs.Linkage.{fresh_name, symbol_at}

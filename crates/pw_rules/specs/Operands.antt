@@ -1,6 +1,7 @@
 -- Operands: typed expressions with what constraints ask of them beside their types, and the conversions of operands
 -- (ISO C90 6.2).
 use Rattle.std.specs.Prelude.{Bool, true, false, ◌&&◌, if◌then◌else◌}
+pub use Rattle.pw_types.specs.WellTyped.{type_in}
 use Rattle.pw_types.specs.Conversions.{promoted, usual_of}
 use Rattle.pw_types.specs.TypeTrees.{CType, Int, Pointer, Array, Function, type_of}
 use Rattle.pw_types.specs.TypedTrees.{Expression, Node, token_of, type_at}
@@ -12,10 +13,6 @@ pub record Operand : Type 0 where
   pub node : Expression
   pub lvalue : Bool
   pub register : Bool
-
--- the type of a node, qualifiers aside
-abbrev pub type_in : Expression → CType
-type_in e = type_of (type_at e)
 
 -- an operand that is no lvalue
 abbrev pub value_operand : Expression → Operand

@@ -2,6 +2,7 @@
 -- values taken, as 6.2.2.1 says, except those of `&`, `++`, `--`, `sizeof`, `.` and the left one of an assignment.
 use Rattle.std.specs.Prelude.{ℕ, ◌==◌, Bool, true, false, not, ◌&&◌, ◌||◌, if◌then◌else◌, Option, None, unwrap_or, option_and_then, List, [], ◌∷◌, length, find, zip}
 use Rattle.std.specs.Str.{bytes_eq}
+use Rattle.pw_value.specs.ProgramNames.{same_truth}
 use Rattle.pw_tree.specs.declared.operator.AssignOperator.{AssignOperator}
 use Rattle.pw_tree.specs.declared.operator.AssignOperator.TheVariants as A
 use Rattle.pw_tree.specs.declared.operator.BinaryOperator.{BinaryOperator}
@@ -26,7 +27,8 @@ use Rattle.pw_walk.specs.Walks.{meets, granted, pure, asks, ◌>>=◌, ◌>>◌}
 use Rattle.pw_rules.specs.Kinds.{plain, unqualified, int_type, is_integral, is_pointer, is_scalar, is_void, is_array, is_function, is_record, is_complete, points_to_object, points_to_function, points_to_void, pointee, qualify, is_free_of_const, parameters_of, result_of, count_of_types}
 use Rattle.pw_rules.specs.Compatible.{compatible_types, composite_type, qualified_within}
 use Rattle.pw_rules.specs.Constants.{is_null_constant, is_zero_constant}
-use Rattle.pw_rules.specs.Operands.{Operand, type_in, value_operand, cast_to, promote, common_type, value_of, is_register_array}
+use Rattle.pw_rules.specs.Operands.{Operand, value_operand, cast_to, promote, common_type, value_of, is_register_array}
+use Rattle.pw_types.specs.WellTyped.{type_in}
 use Rattle.pw_rules.specs.Limits.{Spot, completed}
 use Rattle.pw_rules.specs.States.{Rule, records_in}
 
@@ -124,17 +126,13 @@ type_size_rule t spot q =
 
 -- ---- casts (6.3.4)
 
-abbrev pub both_alike : Bool → Bool → Bool
-both_alike true b = b
-both_alike false b = not b
-
 -- to void everything, else from a scalar to a scalar; an object pointer and a function pointer are two things
 abbrev pub fits_cast : CType → Expression → Bool
 fits_cast to e =
     is_void to
     || (is_scalar to && is_scalar (type_in e)
     && not (is_pointer to && is_pointer (type_in e) && not (is_null_constant e)
-    && not (both_alike (points_to_function to) (points_to_function (type_in e)))))
+    && not (same_truth (points_to_function to) (points_to_function (type_in e)))))
 
 -- between a pointer and a number only the constant 0 is converted
 abbrev pub mixes_pointer : CType → Expression → Bool

@@ -15,7 +15,8 @@ use Rattle.pw_walk.specs.Causes.{needs, CaseInSwitch, OneDefault, ScalarConditio
 use Rattle.pw_walk.specs.Walks.{meets, pure, asks, change, ◌>>=◌, ◌>>◌}
 use Rattle.pw_rules.specs.Kinds.{is_integral, is_scalar, is_void, kind_in}
 use Rattle.pw_rules.specs.Constants.{constant_value, convert_word}
-use Rattle.pw_rules.specs.Operands.{type_in, cast_to, promote}
+use Rattle.pw_rules.specs.Operands.{cast_to, promote}
+use Rattle.pw_types.specs.WellTyped.{type_in}
 use Rattle.pw_rules.specs.Operators.{value_rule, is_assignable}
 use Rattle.pw_rules.specs.States.{Rule, State, SwitchState, scoped, with_body, next_local}
 use Rattle.pw_rules.specs.Limits.{name_within}

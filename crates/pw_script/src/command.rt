@@ -7,6 +7,7 @@ ghost use Rattle.pw_words.specs.CommandLine.{number_in};
 ghost use Rattle.pw_script.specs.Script.{IsLawfulCommand, command_of, content_length, file_in, first_word, is_space, long_command, put_in, put_of, words_behind};
 ghost use Rattle.pw_script.specs.Reading.{command_view};
 
+use crate::limits::{PUT_LIMIT, RUN_LIMIT};
 use pw_modules::is_module_name;
 use pw_words::number_in;
 
@@ -29,12 +30,6 @@ pub fn content_length(command: &Command<'_>) -> u64
         Command::Remove(_) | Command::Build => 0,
     }
 }
-
-/// The greatest count of bytes of a module's text.
-const PUT_LIMIT: u64 = 2_097_152;
-
-/// The greatest count of bytes of a run's input.
-const RUN_LIMIT: u64 = 1_048_576;
 
 /// The place of the first space.
 fn first_space(line: &[u8]) -> Option<usize>

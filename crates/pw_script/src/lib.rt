@@ -2,8 +2,10 @@
 #![tactic(auto)]
 
 mod command;
+mod limits;
 mod line;
 mod reading;
 
+pub use limits::{LINE_LIMIT, PUT_LIMIT, RUN_LIMIT, limits_of_a_script};
 pub use line::{Line, ScriptFault, TakenLine};
 pub use reading::next_line;

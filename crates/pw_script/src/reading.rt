@@ -6,12 +6,10 @@ ghost use Rattle.pw_script.specs.Reading.{EndsHead, IsReadInPart, ReadsBehind, R
 ghost use Rattle.pw_script.specs.Script.{IsLawfulCommand, NamesModule, PutFile, RunWith, line_limit, taken_limit};
 
 use crate::command::{Command, command_of, content_length};
+use crate::limits::LINE_LIMIT;
 use crate::line::{Line, ScriptFault, TakenLine};
 use pw_io::Source;
 use std::alloc::{AllocError, Global};
-
-/// The greatest count of bytes of a command's line, with its newline.
-const LINE_LIMIT: u32 = 512;
 
 /// Puts a byte behind others.
 fn push_byte(bytes: &mut Vec<u8>, byte: u8) -> Result<(), AllocError>

@@ -18,6 +18,7 @@ use Rattle.pw_webflow.specs.declared.web.WebFn.{WebFn}
 use Rattle.pw_webflow.specs.ValidWebs.{IsWebOp, IsWebBlock, IsWebFn}
 use Rattle.std.proofs.lemmas.Bool.Decides.{nat_tests}
 use Rattle.pw_inst.specs.Fields.{IsSigned}
+use Rattle.pw_inst.specs.Limits.{near_least, near_most}
 use Rattle.pw_inst.specs.InstructionTable.{IsInRange}
 use Rattle.pw_inst.specs.declared.Inst.TheVariants as i
 use Rattle.pw_inst.specs.declared.line.Line.{Line}
@@ -144,23 +145,23 @@ incoming_good frame k d hd = by (nat_lt k 4)
 
 frame_end_good : (frame : ℕ) → frame < 2 ^ 21 → AreLines (frame_end frame)
 unfolding IsInRange
-frame_end_good frame h = by (nat_lt 8191 frame) refl
+frame_end_good frame h = by (nat_lt near_most frame) refl
   where
-    by : (t : Bool) → nat_lt 8191 frame ≡ t → AreLines (if t then constant frame 1 ++ word (i.Addl 30 1 1) else word (i.Ldo (pos frame) 30 1))
+    by : (t : Bool) → nat_lt near_most frame ≡ t → AreLines (if t then constant frame 1 ++ word (i.Addl 30 1 1) else word (i.Ldo (pos frame) 30 1))
     by true e = joined (constant frame 1) (word (i.Addl 30 1 1)) (constant_good frame 1 (omega arith) (omega arith)) ((omega arith, omega arith, omega arith), tt)
-    by false e = let small : frame ≤ 8191 = grind (arith, nat_tests) in (((omega (arith, ints), omega (arith, ints)), omega arith, omega arith), tt)
+    by false e = let small : frame ≤ near_most = grind (arith, nat_tests) in (((omega (arith, ints), omega (arith, ints)), omega arith, omega arith), tt)
 
-below_small : (n : ℕ) → n ≤ 8192 → IsSigned 14 (below n)
+below_small : (n : ℕ) → n ≤ near_least → IsSigned 14 (below n)
 below_small zero h = (omega (arith, ints), omega (arith, ints))
 below_small (suc n) h = (omega (arith, ints), omega (arith, ints))
 
 frame_left_good : (frame : ℕ) → frame < 2 ^ 21 → AreLines (frame_left frame)
 unfolding IsInRange
-frame_left_good frame h = by (nat_lt 8192 frame) refl
+frame_left_good frame h = by (nat_lt near_least frame) refl
   where
-    by : (t : Bool) → nat_lt 8192 frame ≡ t → AreLines (if t then constant frame 1 ++ word (i.Sub 30 1 30) else word (i.Ldo (below frame) 30 30))
+    by : (t : Bool) → nat_lt near_least frame ≡ t → AreLines (if t then constant frame 1 ++ word (i.Sub 30 1 30) else word (i.Ldo (below frame) 30 30))
     by true e = joined (constant frame 1) (word (i.Sub 30 1 30)) (constant_good frame 1 (omega arith) (omega arith)) ((omega arith, omega arith, omega arith), tt)
-    by false e = let small : frame ≤ 8192 = grind (arith, nat_tests) in ((below_small frame small, omega arith, omega arith), tt)
+    by false e = let small : frame ≤ near_least = grind (arith, nat_tests) in ((below_small frame small, omega arith, omega arith), tt)
 
 parameter_good : (frame k : ℕ) (p : Place) → PlaceGood p → AreLines (parameter_in frame k p)
 parameter_good frame k (Reg r) h = incoming_good frame k r h

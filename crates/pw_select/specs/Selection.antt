@@ -5,6 +5,7 @@ use Rattle.pw_flow.specs.declared.flow.End.{End}
 use Rattle.pw_flow.specs.declared.flow.End.TheVariants as end
 use Rattle.pw_db.specs.declared.database.Web.{Web}
 use Rattle.pw_db.specs.declared.database.Role.{Role}
+use Rattle.pw_inst.specs.Limits.{near_least, near_most}
 use Rattle.pw_inst.specs.declared.Inst.TheVariants as i
 use Rattle.pw_inst.specs.declared.line.Line.{Line}
 use Rattle.pw_inst.specs.declared.line.Line.TheVariants.{Plain, Jump, BranchNonZero, Label, Leave}
@@ -80,7 +81,7 @@ parameters_in frame places k (suc more) =
 -- the end of the frame in register 1
 abbrev pub frame_end : ℕ → List Line
 frame_end frame =
-    if nat_lt 8191 frame
+    if nat_lt near_most frame
     then constant frame help ++ word (i.Addl stack_pointer help help)
     else word (i.Ldo (pos frame) stack_pointer help)
 
@@ -98,7 +99,7 @@ prologue f =
 
 abbrev pub frame_left : ℕ → List Line
 frame_left frame =
-    if nat_lt 8192 frame
+    if nat_lt near_least frame
     then constant frame help ++ word (i.Sub stack_pointer help stack_pointer)
     else word (i.Ldo (below frame) stack_pointer stack_pointer)
 

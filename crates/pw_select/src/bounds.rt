@@ -8,7 +8,7 @@ ghost use Rattle.pw_select.specs.Selectable.{IsFrame};
 
 use crate::webs::{put_webs_loaded, put_webs_stored};
 use pw_alloc::{Located, Place, below, head_size};
-use pw_inst::{Inst, Line, Symbol};
+use pw_inst::{Inst, Line, NEAR_LEAST, NEAR_MOST, Symbol};
 use pw_items::Items;
 use pw_registers::{
     ARGUMENT, FIRST, HELP, RETURN_ADDRESS, SECOND, STACK_POINTER, place_of, put, put_address,
@@ -93,7 +93,7 @@ fn put_frame_end(out: &mut Items<Line>, frame: u32) -> Result<(), AllocError>
     ensures { OnOk result (out.new ≡ out.old ++ frame_end frame) }
 {
     let t = HELP;
-    if frame > 8191 {
+    if frame > NEAR_MOST {
         put_constant(out, frame, t)?;
         put(
             out,
@@ -163,7 +163,7 @@ fn put_frame_left(out: &mut Items<Line>, frame: u32) -> Result<(), AllocError>
     ensures { OnOk result (out.new ≡ out.old ++ frame_left frame) }
 {
     let t = STACK_POINTER;
-    if frame > 8192 {
+    if frame > NEAR_LEAST {
         put_constant(out, frame, HELP)?;
         put(out, Inst::Sub { r1: t, r2: HELP, t })
     } else {

@@ -129,9 +129,9 @@ pub core_is : (machine : Snapshot) (image : ImageValue) → ◌≡◌ {A = Resul
 core_is machine image e = let f : loaded image ≡ machine = cc in sym (ap (λ (m : Snapshot). m.core) f)
 
 -- the file of an image has no fault
-pub no_load_fault : (bytes : List ℕ) (error : LoadError) (at : ℕ) → error ≡ load.LoadFault at → HoldsImage bytes → ((c : Contents) → IsImageFile bytes c → FailsLoad {Y = Snapshot} error (Ok (loaded c.image))) → ⊥
+pub no_load_fault : (bytes : List ℕ) (error : LoadError) (at : ℕ) → error ≡ load.LoadFault at → HoldsImage bytes → ((c : Contents ImageValue) → IsImageFile bytes c → FailsLoad {Y = Snapshot} error (Ok (loaded c.value))) → ⊥
 no_load_fault bytes error at e h only =
-    let fails : ◌≡◌ {A = Result Snapshot ℕ} (Ok (loaded h.0.image)) (Err at) = subst (λ (x : LoadError). FailsLoad {Y = Snapshot} x (Ok (loaded h.0.image))) e (only h.0 h.1) in
+    let fails : ◌≡◌ {A = Result Snapshot ℕ} (Ok (loaded h.0.value)) (Err at) = subst (λ (x : LoadError). FailsLoad {Y = Snapshot} x (Ok (loaded h.0.value))) e (only h.0 h.1) in
     cc
 
 -- the answer of a run over an empty source

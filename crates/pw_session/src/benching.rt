@@ -21,8 +21,8 @@ use std::alloc::{AllocError, Global};
 /// How many modules are made beside the main.
 const MODULES: u8 = 64;
 
-/// How many functions the program has: eight of each module, and the main.
-const FUNCTIONS: u32 = 513;
+/// How many functions the program has: those of the modules, and the main.
+const FUNCTIONS: u32 = MODULES as u32 * pw_gen::FUNCTIONS + 1;
 
 /// A store with the files of the program of so many modules that is made from a number.
 fn made_store(alloc: Global, number: u32, modules: u8) -> Result<SureStore, AllocError>

@@ -14,4 +14,4 @@ pub use pw_driving::{
     Opts, build_modules, builds_leave_genuine_objects, genuine_files_keep_genuine,
     genuine_objects_give_the_full_image, module_texts_are_no_objects,
 };
-pub use session::run_session;
+pub use session::{LINES_LIMIT, limit_of_a_session, run_session};

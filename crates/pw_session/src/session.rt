@@ -7,6 +7,7 @@ ghost use Rattle.pw_driving.specs.FromBuilding.Outcomes.{AreOpts};
 ghost use Rattle.pw_script.specs.Reading.{IsReadInPart, line_view};
 ghost use Rattle.pw_script.specs.Script.{NamesModule};
 ghost use Rattle.pw_session.specs.Changes.{MakesSome};
+ghost use Rattle.pw_session.specs.Session.{lines_limit};
 ghost use Rattle.pw_session.specs.Removals.{IsRemovedBy, MayRemove, MayRemoveFirst};
 ghost use Rattle.pw_session.specs.Outcomes.{EndsAs, EndsTurn, IsLastAnswer, IsReadAnswer, IsSessionAnswer, IsTaken, IsTurn, KeepsImage, LeavesScript, LeavesTurn, ObeysLine, ObeysSession, TakesTurn, image_view, end_answer, turn_answer, unread};
 
@@ -18,7 +19,12 @@ use pw_script::{ScriptFault, TakenLine, next_line};
 use std::alloc::Global;
 
 /// The greatest count of lines of a script.
-const LINES_LIMIT: u64 = 10_000;
+pub const LINES_LIMIT: u64 = 10_000;
+
+/// The limit is the one that the definitions speak of.
+pub fn limit_of_a_session()
+    ensures { LINES_LIMIT ≡ lines_limit }
+{}
 
 /// What came of the next line of a script.
 pub enum Turn {

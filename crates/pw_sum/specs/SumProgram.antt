@@ -5,6 +5,7 @@ use Rattle.std.specs.Option.{option_map, option_map_or}
 use Rattle.std.specs.Fmt.{decimal}
 use Rattle.std.specs.Str.{bytes_eq}
 use Rattle.std.specs.Char.{is_ascii_digit}
+use Rattle.pw_value.specs.ProgramNames.{main_name}
 use Rattle.pw_token.specs.Limits.{text_limit}
 use Rattle.pw_sum.specs.Tokens.{tokens}
 
@@ -21,7 +22,7 @@ prefix_limit = number_limit / 10
 
 -- the tokens before the sum and behind it
 abbrev pub opening : List (List ℕ)
-opening = codes "int" ∷ codes "main" ∷ codes "(" ∷ codes "void" ∷ codes ")" ∷ codes "{" ∷ codes "return" ∷ []
+opening = codes "int" ∷ main_name ∷ codes "(" ∷ codes "void" ∷ codes ")" ∷ codes "{" ∷ codes "return" ∷ []
 
 abbrev pub closing : List (List ℕ)
 closing = codes ";" ∷ codes "}" ∷ []

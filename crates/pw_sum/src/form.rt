@@ -8,6 +8,7 @@ ghost use Rattle.pw_sum.specs.SumProgram.{IsSumProgram, sum_limit, number_limit,
 
 use crate::tokens::next_token;
 use pw_token::MAX_TEXT;
+use pw_value::program_names::MAIN;
 use std::alloc::{AllocError, Global};
 
 /// The greatest count of numbers in a sum.
@@ -69,7 +70,7 @@ fn after_opening(text: &[u8]) -> Option<&[u8]>
     ensures { option_map (λ rest. tokens rest.now) result ≡ without_front opening (tokens text.now) }
 {
     let text = after_token(text, b"int")?;
-    let text = after_token(text, b"main")?;
+    let text = after_token(text, MAIN)?;
     let text = after_token(text, b"(")?;
     let text = after_token(text, b"void")?;
     let text = after_token(text, b")")?;

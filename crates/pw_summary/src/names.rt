@@ -2,15 +2,10 @@
 
 ghost use Rattle.std.specs.Prelude.{◌≡◌, ◌++◌, ℕ, List, map, IfOk, OnOk};
 ghost use Rattle.std.specs.List.{flat_map};
-ghost use Rattle.pw_value.specs.FieldFaults.{Gives};
-ghost use Rattle.pw_files.specs.Start.{start_rule};
-ghost use Rattle.pw_files.specs.Contents.{broken_at};
-ghost use Rattle.pw_summary.specs.Summary.{names_of, names_of_uses, function_names, global_names};
+ghost use Rattle.pw_summary.specs.Summary.{names_of, names_of_uses};
 
 use crate::summary::{Summary, Uses};
-use pw_files::late::check_start;
 use pw_files::used::{add_names, add_shaped};
-use pw_value::fields::FieldError;
 use pw_value::{Kind, Name, Shape};
 use std::alloc::{AllocError, Global};
 
@@ -74,17 +69,26 @@ pub(crate) fn used_names(alloc: Global, summary: &Summary) -> Result<Vec<&Name>,
     Ok(used)
 }
 
-/// The rule of `$start`, where so many bytes are left from the count of the functions on.
-pub(crate) fn check_start_beside_main(
+/// The names of functions alone.
+pub(crate) fn function_names(
     alloc: Global,
-    summary: &Summary,
-    count: usize,
-) -> Result<(), FieldError>
-    ensures { Gives (λ x. x) result (broken_at (start_rule (function_names summary.now) (global_names summary.now) count)) }
+    functions: &[(Name, Shape)],
+) -> Result<Vec<&Name>, AllocError>
+    ensures { IfOk result (λ v. map (λ name. name.now) v.items ≡ map (λ f. f.0) functions.now) }
 {
-    let mut functions = Vec::new(alloc);
-    add_shaped(&mut functions, summary.functions.as_slice())?;
-    let mut globals = Vec::new(alloc);
-    add_globals(&mut globals, summary.globals.as_slice())?;
-    check_start(&functions, &globals, count)
+    let mut names = Vec::new(alloc);
+    add_shaped(&mut names, functions)?;
+    Ok(names)
+}
+
+/// The names of globals alone.
+pub(crate) fn global_names(
+    alloc: Global,
+    globals: &[(Name, Shape, Option<Kind>, bool)],
+) -> Result<Vec<&Name>, AllocError>
+    ensures { IfOk result (λ v. map (λ name. name.now) v.items ≡ map (λ g. g.0) globals.now) }
+{
+    let mut names = Vec::new(alloc);
+    add_globals(&mut names, globals)?;
+    Ok(names)
 }

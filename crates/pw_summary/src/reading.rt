@@ -11,11 +11,11 @@ ghost use Rattle.pw_summary.specs.declared.summary.Summary.{Summary as AnySummar
 ghost use Rattle.pw_summary.specs.Summary.{IsSummaryFile, kind as kind_of_file, summary_version};
 ghost use Rattle.pw_summary.specs.Reading.{global_at, weight_at, reference_at, uses_at, defined_at, used_at, last_rules, fields_at, summary_file_at};
 
-use crate::names::{check_start_beside_main, used_names};
+use crate::names::{function_names, global_names, used_names};
 use crate::summary::{Defined, Summary, Used, Uses, summary_of};
 use pw_files::format::{Format, read_value};
 use pw_files::kinds::read_kind;
-use pw_files::late::check_used;
+use pw_files::late::check_module;
 use pw_files::lists::{read_name_above, read_name_list, read_shape_list, read_shaped_list};
 use pw_items::Items;
 use pw_value::fields::names::read_name;
@@ -260,8 +260,9 @@ fn check_last(
     ensures { Gives (λ x. x) result (broken_at (last_rules names.now behind summary.now count)) }
 {
     let used = used_names(alloc, summary)?;
-    check_used(alloc, names, used, behind)?;
-    check_start_beside_main(alloc, summary, count)
+    let functions = function_names(alloc, summary.functions.as_slice())?;
+    let globals = global_names(alloc, summary.globals.as_slice())?;
+    check_module(alloc, names, used, behind, &functions, &globals, count)
 }
 
 /// Summary files, which are read as all files of the compiler are.

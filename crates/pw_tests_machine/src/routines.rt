@@ -87,7 +87,7 @@ const SCRATCH: [usize; 7] = [1, 21, 22, 25, 26, 28, 29];
 /// The routine of a name.
 fn named(name: &str) -> Option<Routine> {
     for routine in library() {
-        if routine.name == name {
+        if routine.name == name.as_bytes() {
             return Some(*routine);
         }
     }

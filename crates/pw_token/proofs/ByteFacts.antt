@@ -2,8 +2,7 @@
 use Rattle.std.proofs.Common.{◌≡◌, ℕ, ◌⊎◌, inl, inr, Bool, true, false, ◌&&◌, ◌||◌, eqb, refl, arith}
 use Rattle.std.proofs.lemmas.Bool.{eqb-true}
 use Rattle.std.proofs.lemmas.Bool.Decides.{nat_tests}
-use Rattle.pw_token.specs.Bytes.{is_in, is_either}
-use Rattle.pw_token.specs.Spelling.{is_u, is_l}
+use Rattle.pw_token.specs.Bytes.{is_in, is_either, is_u, is_l}
 use Rattle.pw_token.specs.declared.bytes.Class.TheVariants.{Digit, OctalDigit, HexDigit}
 
 pub and-split : (p q : Bool) → (p && q) ≡ true → (p ≡ true) × (q ≡ true)

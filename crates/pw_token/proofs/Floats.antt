@@ -5,9 +5,9 @@ use Rattle.std.proofs.lemmas.Bool.Decides.{nat_tests}
 use Rattle.std.proofs.lemmas.List.{drop_at}
 use Rattle.pw_token.proofs.Runs.{Begins, begins-drop, run-front, run-in, run-reaches, run-stops, Ends, either, all-some, some-all, some-long}
 use Rattle.pw_token.proofs.ByteFacts.{and-split, and-left, and-right, or-split}
-use Rattle.pw_token.specs.Bytes.{is_in, is_either, AllIn, SomeIn}
+use Rattle.pw_token.specs.Bytes.{is_in, is_either, AllIn, SomeIn, is_u, is_l}
 use Rattle.pw_token.specs.Scanning.{run, exponent_start, exponent_len, fraction_len, floating_suffix_len, scaled_len, floating_len}
-use Rattle.pw_token.specs.Spelling.{IsFloating, IsFractional, IsExponent, IsOptionalSign, IsFloatingSuffix, IsScaled, IsInteger, IsDecimal, IsOctal, IsHexadecimal, IsIntegerSuffix, is_u, is_l}
+use Rattle.pw_token.specs.Spelling.{IsFloating, IsFractional, IsExponent, IsOptionalSign, IsFloatingSuffix, IsScaled, IsInteger, IsDecimal, IsOctal, IsHexadecimal, IsIntegerSuffix}
 use Rattle.pw_token.specs.declared.bytes.Class.TheVariants.{Digit, OctalDigit}
 
 -- ---- suffixes

@@ -5,9 +5,9 @@ use Rattle.std.proofs.lemmas.Bool.Decides.{nat_tests}
 use Rattle.std.proofs.lemmas.List.{drop_at}
 use Rattle.pw_token.proofs.Runs.{Begins, begins-drop, run-front, run-in, run-reaches, run-stops, Ends, either, some-all}
 use Rattle.pw_token.proofs.ByteFacts.{and-split, and-left, and-right, or-split, octal-not_x, octal-hexadecimal, digit-hexadecimal, u-not_hexadecimal, l-not_hexadecimal, u-not_x, l-not_x}
-use Rattle.pw_token.specs.Bytes.{is_in, is_either, AllIn, SomeIn}
+use Rattle.pw_token.specs.Bytes.{is_in, is_either, AllIn, SomeIn, is_u, is_l}
 use Rattle.pw_token.specs.Scanning.{run, integer_suffix_len, begins_hexadecimal, digits_len, integer_len}
-use Rattle.pw_token.specs.Spelling.{IsInteger, IsDecimal, IsOctal, IsHexadecimal, IsIntegerSuffix, is_u, is_l}
+use Rattle.pw_token.specs.Spelling.{IsInteger, IsDecimal, IsOctal, IsHexadecimal, IsIntegerSuffix}
 use Rattle.pw_token.specs.declared.bytes.Class.TheVariants.{Digit, OctalDigit, HexDigit}
 
 -- ---- suffixes

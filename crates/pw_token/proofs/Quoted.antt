@@ -6,8 +6,8 @@ use Rattle.std.proofs.lemmas.Bool.Decides.{nat_tests}
 use Rattle.pw_token.proofs.Closing.{closing-splice, closing-step, closing-open, closing-closed}
 use Rattle.pw_token.proofs.Runs.{Begins, either}
 use Rattle.pw_token.proofs.ByteFacts.{and-right, octal-hexadecimal}
-use Rattle.pw_token.specs.Bytes.{is_in, AllIn, SomeIn}
-use Rattle.pw_token.specs.Scanning.{closing, settle, next_mode, is_splice, is_closed, is_broken, literal_len, wide_len, is_simple_escape}
+use Rattle.pw_token.specs.Bytes.{is_in, AllIn, SomeIn, is_simple_escape}
+use Rattle.pw_token.specs.Scanning.{closing, settle, next_mode, is_splice, is_closed, is_broken, literal_len, wide_len}
 use Rattle.pw_token.specs.Spelling.{joined, IsCharacter, AreCharacters, IsQuoted, IsWide}
 use Rattle.pw_token.specs.declared.bytes.Class.TheVariants.{OctalDigit, HexDigit}
 use Rattle.pw_token.specs.declared.literals.Mode.{Mode}

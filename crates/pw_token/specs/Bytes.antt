@@ -30,3 +30,13 @@ AllIn c (b ∷ s) = (is_in c b ≡ true) × AllIn c s
 abbrev pub SomeIn : Class → List ℕ → Type 0
 SomeIn c [] = ⊥
 SomeIn c (b ∷ s) = (is_in c b ≡ true) × AllIn c s
+
+abbrev pub is_u : ℕ → Bool
+is_u b = is_either b 117 85
+
+abbrev pub is_l : ℕ → Bool
+is_l b = is_either b 108 76
+
+-- one of ' " `?` \ a b f n r t v, which stand behind a backslash
+abbrev pub is_simple_escape : ℕ → Bool
+is_simple_escape b = b == 39 || b == 34 || b == 63 || b == 92 || b == 97 || b == 98 || b == 102 || b == 110 || b == 114 || b == 116 || b == 118

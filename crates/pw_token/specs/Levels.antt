@@ -1,5 +1,6 @@
 -- The open levels that a fixed place holds.
-use Rattle.std.specs.Prelude.{◌≡◌, ◌≤◌, ℕ, zero, suc, List, [], ◌∷◌, slice_index_or, length}
+use Rattle.std.specs.Prelude.{◌≡◌, ◌≤◌, ◌+◌, ℕ, zero, suc, List, [], ◌∷◌, slice_index_or, length}
+use Rattle.pw_token.specs.Limits.{nest_limit}
 use Rattle.pw_token.specs.Nesting.{nest_of}
 use Rattle.pw_token.specs.declared.levels.Level.{Level}
 use Rattle.pw_token.specs.declared.levels.Levels.{Levels}
@@ -8,9 +9,10 @@ use Rattle.pw_token.specs.declared.levels.Opener.TheVariants as opener
 abbrev pub text_level : Level
 text_level = record { opener = opener.Text; expressions = 0; controls = 0 }
 
--- how many levels stand outside the innermost one at most, and how far their nesting goes
+-- How many levels stand outside the innermost one at most, and how far their nesting goes: a token is still taken where
+-- the nesting is one above the limit, and a token adds at most one.
 abbrev pub level_room : ℕ
-level_room = 255
+level_room = nest_limit + 2
 
 -- the first n of a list, the last first
 abbrev pub outers : List Level → ℕ → List Level

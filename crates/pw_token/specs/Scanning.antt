@@ -2,6 +2,7 @@
 use Rattle.std.specs.Prelude.{ℕ, ◌+◌, Bool, true, false, ◌&&◌, ◌||◌, if◌then◌else◌, ◌==◌, nat_lt, List, [], ◌∷◌, drop, length, slice_index, nat_eq}
 use Rattle.std.specs.List.{prefix_len, starts_with}
 use Rattle.pw_token.specs.Bytes.{is_in, is_nondigit, is_either}
+pub use Rattle.pw_token.specs.Bytes.{is_u, is_l, is_simple_escape}
 use Rattle.pw_token.specs.declared.bytes.Class.{Class}
 use Rattle.pw_token.specs.declared.bytes.Class.TheVariants as class
 use Rattle.pw_token.specs.declared.literals.Mode.{Mode}
@@ -15,12 +16,6 @@ abbrev pub word_len : List ℕ → ℕ
 word_len t = if is_nondigit (slice_index t 0) then run class.Word t else 0
 
 -- ---- integer constants
-
-abbrev pub is_u : ℕ → Bool
-is_u b = is_either b 117 85
-
-abbrev pub is_l : ℕ → Bool
-is_l b = is_either b 108 76
 
 unfoldable pub integer_suffix_len : List ℕ → ℕ
 integer_suffix_len t =
@@ -76,10 +71,7 @@ floating_len t =
 abbrev pub is_splice : List ℕ → Bool
 is_splice t = slice_index t 0 == 92 && slice_index t 1 == 10
 
--- how a constant goes on after its next byte; a simple escape is one of ' " `?` \ a b f n r t v
-abbrev pub is_simple_escape : ℕ → Bool
-is_simple_escape b = b == 39 || b == 34 || b == 63 || b == 92 || b == 97 || b == 98 || b == 102 || b == 110 || b == 114 || b == 116 || b == 118
-
+-- how a constant goes on after its next byte
 abbrev pub next_mode : ℕ → Mode → ℕ → Mode
 next_mode quote mode.Plain b =
     if b == quote then mode.Closed else (if b == 92 then mode.Escaped else (if b == 10 then mode.Broken else mode.Plain))

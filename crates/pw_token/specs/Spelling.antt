@@ -1,7 +1,7 @@
 -- The spellings of the tokens of C90, by kind (ISO/IEC 9899:1990, 6.1).
 use Rattle.std.specs.Prelude.{◌≡◌, ◌≢◌, ℕ, Bool, true, false, ◌&&◌, ◌||◌, ◌⊎◌, ◌==◌, ◌≤◌, if◌then◌else◌, length, List, [], ◌∷◌, ◌++◌, ⊤}
 use Rattle.std.specs.List.{AllByRecursion, flat_map}
-use Rattle.pw_token.specs.Bytes.{is_in, is_nondigit, is_either, AllIn, SomeIn}
+use Rattle.pw_token.specs.Bytes.{is_in, is_nondigit, is_either, AllIn, SomeIn, is_u, is_l, is_simple_escape}
 use Rattle.pw_token.specs.Words.{is_keyword, is_mark}
 use Rattle.pw_token.specs.declared.bytes.Class.TheVariants as class
 use Rattle.pw_token.specs.declared.token.TokenKind.{TokenKind}
@@ -27,12 +27,6 @@ IsOctal s = (digits : List ℕ) × (s ≡ 48 ∷ digits) × AllIn class.OctalDig
 -- 0, then x or X, then hexadecimal digits
 abbrev pub IsHexadecimal : List ℕ → Type 0
 IsHexadecimal s = (x : ℕ) × (digits : List ℕ) × (s ≡ 48 ∷ x ∷ digits) × (is_either x 120 88 ≡ true) × SomeIn class.HexDigit digits
-
-abbrev pub is_u : ℕ → Bool
-is_u b = is_either b 117 85
-
-abbrev pub is_l : ℕ → Bool
-is_l b = is_either b 108 76
 
 -- nothing, u, l, ul or lu, in either case
 abbrev pub IsIntegerSuffix : List ℕ → Type 0
@@ -88,10 +82,6 @@ abbrev pub joined : List ℕ → List ℕ
 joined [] = []
 joined (b ∷ []) = b ∷ []
 joined (b ∷ c ∷ s) = if b == 92 && c == 10 then joined s else b ∷ joined (c ∷ s)
-
--- a backslash and one of ' " `?` \ a b f n r t v
-abbrev pub is_simple_escape : ℕ → Bool
-is_simple_escape b = b == 39 || b == 34 || b == 63 || b == 92 || b == 97 || b == 98 || b == 102 || b == 110 || b == 114 || b == 116 || b == 118
 
 abbrev pub IsSimpleEscape : List ℕ → Type 0
 IsSimpleEscape s = (b : ℕ) × (s ≡ 92 ∷ b ∷ []) × (is_simple_escape b ≡ true)

@@ -3,6 +3,8 @@
 ghost use Rattle.std.specs.Prelude.{◌≡◌, ◌≤◌, ◌<◌, ◌+◌, ◌∷◌};
 ghost use Rattle.pw_token.specs.Nesting.{is_bracket};
 
+use crate::nesting::MAX_NEST;
+
 /// What opened a level.
 #[derive(Clone, Copy, Debug, PartialEq, Eq)]
 pub enum Opener {
@@ -22,8 +24,9 @@ pub struct Level {
     pub controls: usize,
 }
 
-/// The most levels that can stand outside the innermost one.
-const ROOM: usize = 255;
+/// The most levels that can stand outside the innermost one: a token is still taken where the nesting is one
+/// above the limit, and a token adds at most one.
+const ROOM: usize = MAX_NEST + 2;
 
 /// The open levels and their nesting. The outer ones begin with the text.
 #[derive(Clone, Copy, Debug)]

@@ -4,7 +4,7 @@ use Rattle.std.specs.Prelude.{ℕ, zero, suc, ◌≡◌, ◌⊎◌, Bool, false,
 use Rattle.std.specs.Coded.{Coded, code_by, coded×, coded⊎, coded_ℕ, coded_bool, coded_list, coded_option}
 use mathlib.Core.Logic.{inl, inr}
 use mathlib.Core.Path.{refl, ap, ◌∙◌}
-use Rattle.pw_types.specs.TypeTrees.{CType, Void, Int, Pointer, Array, Function, Record, QType, Qualified, QTypes, NoType, OneType, MemberValue, ContentValue, RecordValue}
+use Rattle.pw_types.specs.TypeTrees.{CType, Void, Int, Pointer, Array, Function, Record, QType, Qualified, QTypes, NoType, OneType, type_of, MemberValue, ContentValue, RecordValue}
 use Rattle.pw_types.specs.contracts.kind.IntKind as int_kind
 use Rattle.pw_types.specs.contracts.record.RecordKind as record_kind
 use Rattle.pw_types.specs.declared.kind.IntKind.{IntKind}
@@ -42,9 +42,6 @@ abbrev first : QTypes → QType
 first NoType = Qualified Void false false
 first (OneType q rest) = q
 
-abbrev bare : QType → CType
-bare (Qualified ty constant volatile) = ty
-
 abbrev top : List QTypes → QTypes
 top [] = NoType
 top (all ∷ rest) = all
@@ -56,7 +53,7 @@ below (all ∷ rest) = rest
 abbrev taken : Step → List QTypes → List QTypes
 taken (inl kind) stack = one (Int kind) ∷ stack
 taken (inr (inl number)) stack = one (Record number) ∷ stack
-taken (inr (inr (inl both))) stack = OneType (Qualified (bare (first (top stack))) both.0 both.1) NoType ∷ below stack
+taken (inr (inr (inl both))) stack = OneType (Qualified (type_of (first (top stack))) both.0 both.1) NoType ∷ below stack
 taken (inr (inr (inr (inl count)))) stack = one (Array (first (top stack)) count) ∷ below stack
 taken (inr (inr (inr (inr zero)))) stack = one Void ∷ stack
 taken (inr (inr (inr (inr (suc zero))))) stack = one (Pointer (first (top stack))) ∷ below stack
@@ -91,10 +88,10 @@ mutual
       ∙ made-types others (numbered 3 ∷ rest) (OneType q NoType ∷ stack)
 
 abbrev type_from : List Step → CType
-type_from steps = bare (first (top (made steps [])))
+type_from steps = type_of (first (top (made steps [])))
 
 pub type_from-steps : (ty : CType) → type_from (type_steps ty []) ≡ ty
-type_from-steps ty = ap (λ stack. bare (first (top stack))) (made-type ty [] [])
+type_from-steps ty = ap (λ stack. type_of (first (top stack))) (made-type ty [] [])
 
 abbrev pub type_code : Coded CType
 type_code =

@@ -1,10 +1,12 @@
 //! Copies of operations and of directed functions.
 
 ghost use Rattle.std.specs.Prelude.{◌≡◌, IfOk};
+ghost use Rattle.pw_flow.specs.declared.flow.Op.TheVariants as flow;
 
 use crate::web::{WebBlock, WebFn, WebOp};
 use pw_flow::Op;
 use pw_items::Items;
+use pw_value::{Kind, Name, Shape};
 use std::alloc::{AllocError, Global};
 
 /// The same numbers again.
@@ -14,21 +16,47 @@ pub fn copy_numbers(alloc: Global, numbers: &[u32]) -> Result<Items<u32>, AllocE
     Ok(Items::from_vec(Vec::from_slice(alloc, numbers)?))
 }
 
-/// The same call again, by name or through a value; of every other operation want of memory.
-fn copy_call(alloc: Global, op: &Op) -> Result<Op, AllocError>
-    ensures { IfOk result (λ o. o ≡ op.now) }
+/// The same call of a function by its name again.
+fn copy_call(alloc: Global, t: Option<u32>, f: &Name, args: &[u32]) -> Result<Op, AllocError>
+    ensures { IfOk result (λ o. o ≡ flow.Call t f.now args.now) }
 {
-    match op {
-        Op::Call(t, f, args) => {
-            let args = copy_numbers(alloc, args.as_slice())?;
-            Ok(Op::Call(*t, f.copy(alloc)?, args))
-        }
-        Op::CallInd(t, a, shape, args) => {
-            let args = copy_numbers(alloc, args.as_slice())?;
-            Ok(Op::CallInd(*t, *a, shape.copy(alloc)?, args))
-        }
-        _ => Err(AllocError),
-    }
+    let args = copy_numbers(alloc, args)?;
+    Ok(Op::Call(t, f.copy(alloc)?, args))
+}
+
+/// The same call of the function that a temporary holds again.
+fn copy_call_ind(
+    alloc: Global,
+    t: Option<u32>,
+    a: u32,
+    shape: &Shape,
+    args: &[u32],
+) -> Result<Op, AllocError>
+    ensures { IfOk result (λ o. o ≡ flow.CallInd t a shape.now args.now) }
+{
+    let args = copy_numbers(alloc, args)?;
+    Ok(Op::CallInd(t, a, shape.copy(alloc)?, args))
+}
+
+/// The same address of an object again.
+fn copy_address(alloc: Global, t: u32, g: &Name, n: u32) -> Result<Op, AllocError>
+    ensures { IfOk result (λ o. o ≡ flow.AddrGlobal t g.now n) }
+{
+    Ok(Op::AddrGlobal(t, g.copy(alloc)?, n))
+}
+
+/// The same read of an object again.
+fn copy_load(alloc: Global, t: u32, g: &Name, k: Kind) -> Result<Op, AllocError>
+    ensures { IfOk result (λ o. o ≡ flow.LoadG t g.now k) }
+{
+    Ok(Op::LoadG(t, g.copy(alloc)?, k))
+}
+
+/// The same write of an object again.
+fn copy_store(alloc: Global, g: &Name, a: u32, k: Kind) -> Result<Op, AllocError>
+    ensures { IfOk result (λ o. o ≡ flow.StoreG g.now a k) }
+{
+    Ok(Op::StoreG(g.copy(alloc)?, a, k))
 }
 
 /// The same operation again.
@@ -41,15 +69,16 @@ pub fn copy_op(alloc: Global, op: &Op) -> Result<Op, AllocError>
         Op::Un(k, t, a) => Ok(Op::Un(*k, *t, *a)),
         Op::Bin(k, t, a, b) => Ok(Op::Bin(*k, *t, *a, *b)),
         Op::Ext(k, t, a) => Ok(Op::Ext(*k, *t, *a)),
-        Op::AddrGlobal(t, g, n) => Ok(Op::AddrGlobal(*t, g.copy(alloc)?, *n)),
+        Op::AddrGlobal(t, g, n) => copy_address(alloc, *t, g, *n),
         Op::AddrSlot(t, s) => Ok(Op::AddrSlot(*t, *s)),
         Op::AddrFn(t, f) => Ok(Op::AddrFn(*t, f.copy(alloc)?)),
-        Op::LoadG(t, g, k) => Ok(Op::LoadG(*t, g.copy(alloc)?, *k)),
-        Op::StoreG(g, a, k) => Ok(Op::StoreG(g.copy(alloc)?, *a, *k)),
+        Op::LoadG(t, g, k) => copy_load(alloc, *t, g, *k),
+        Op::StoreG(g, a, k) => copy_store(alloc, g, *a, *k),
         Op::Load(k, t, a) => Ok(Op::Load(*k, *t, *a)),
         Op::Store(k, a, b) => Ok(Op::Store(*k, *a, *b)),
         Op::Move(a, b, size, unit) => Ok(Op::Move(*a, *b, *size, *unit)),
-        call => copy_call(alloc, call),
+        Op::Call(t, f, args) => copy_call(alloc, *t, f, args.as_slice()),
+        Op::CallInd(t, a, shape, args) => copy_call_ind(alloc, *t, *a, shape, args.as_slice()),
     }
 }
 

@@ -10,7 +10,7 @@ use Rattle.pw_types.specs.declared.record.RecordKind.{RecordKind}
 use Rattle.pw_types.specs.TypeTrees.{QType, type_of}
 use Rattle.pw_types.specs.TypedTrees.{Hidden, Expression, Initialiser, LocalValue, GlobalValue, ModuleValue}
 use Rattle.pw_types.specs.TypedTrees as T
-use Rattle.pw_types.specs.WellTyped.{IsTyped}
+use Rattle.pw_types.specs.WellTyped.{IsTyped, type_in}
 use Rattle.pw_walk.specs.Causes.{needs, DeclaresSomething}
 use Rattle.pw_walk.specs.Walks.{Walk, Done, bind, meets}
 use Rattle.pw_rules.specs.Declarations.{Sort, ATypedef, AFunction, AGlobal, AnExtern, AStatic, ALocal, sort_of, asking_of, name_rule, hidden_of, local_of, is_tentative, completed_rule, fitting_rule, context_of, global_rule, static_rule, first_part, bytes_rule, single_rule, local_initialiser, local_rule, declare_rule, name_of, place_here, init_declarator_rule, init_declarators_rule, storage_rule, declares_something, specified_rule, bare_rule, declarators_rule, decl_rule, decls_rule}
@@ -20,7 +20,6 @@ use Rattle.pw_rules.specs.Kinds.{is_const_object, is_function}
 use Rattle.pw_rules.specs.Leaves.{alone_by, alone_rule, record_kind, first_of_list}
 use Rattle.pw_rules.specs.Limits.{Spot}
 use Rattle.pw_rules.specs.Linkage.{Asking, AsBefore, declare_linked, note_linked, note_here, linked_before, place_for, linked_again, linked_anew, is_internal_by, type_here, change_linked, slot_for, has_slot, define_tentatively, define_object, initialise_linked, named_type}
-use Rattle.pw_rules.specs.Operands.{type_in}
 use Rattle.pw_rules.specs.SpecifierLists.{Specified, nothing_gathered, is_typedef, is_extern, is_static, is_register}
 use Rattle.pw_rules.specs.States.{State, BodyState, LinkedName, Entity, TypeName, LocalObject, StaticObject, Linked, HiddenObject, is_file_scope, add_hidden, put_hidden, add_local, put_entity, put_linked, add_linked, add_slot, enter, put_at, next_hidden, next_local, entry_here, entity_here, linked_at, tag_here}
 use Rattle.pw_rules.specs.declared.names.Entry.{Entry}

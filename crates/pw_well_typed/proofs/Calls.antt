@@ -5,9 +5,9 @@ use Rattle.std.proofs.lemmas.Bool.{eqb-true}
 use Rattle.pw_types.specs.TypeTrees.{CType, Void, Int, Pointer, Array, Function, Record, QType, Qualified, QTypes, NoType, OneType, type_of}
 use Rattle.pw_types.specs.TypedTrees.{Symbol, External, Internal, Hidden, Expression, Node, Form, Expressions, NoExpression, OneExpression, LocalValue, ModuleValue, type_at, form_of}
 use Rattle.pw_types.specs.TypedTrees as T
-use Rattle.pw_types.specs.WellTyped.{IsTyped, AreArguments, IsResult, IsFunctionType, IsFunctionOf, Decays}
+use Rattle.pw_types.specs.WellTyped.{IsTyped, AreArguments, IsResult, IsFunctionType, IsFunctionOf, Decays, type_in}
 use Rattle.pw_rules.specs.Kinds.{plain, unqualified, is_function, points_to_function, pointee, parameters_of, result_of, count_of_types}
-use Rattle.pw_rules.specs.Operands.{type_in, value_operand}
+use Rattle.pw_rules.specs.Operands.{value_operand}
 use Rattle.pw_rules.specs.Operators.{is_assignable, arguments_fit, arguments_cast, callee_type, call_node}
 use Rattle.pw_well_typed.specs.Lawful.{IsLawfulType, AreLawfulTypes, AreWords, AreWordsOf}
 use Rattle.pw_well_typed.proofs.States.{GoodOperand, GoodValue}

@@ -13,7 +13,8 @@ use Rattle.pw_types.specs.Shapes.{shape_of, length_text, letter_of, letters_of, 
 use Rattle.pw_types.specs.TypeTrees.{CType, Void, Int, Pointer, Array, Function, Record, QType, Qualified, QTypes, NoType, OneType, type_of, is_volatile, RecordValue}
 use Rattle.pw_types.specs.WellTyped.{IsComplete, AgreeInShape}
 use Rattle.pw_rules.specs.Compatible.{compatible, compatible_types, compatible_parameters, lengths_agree, composite, composite_type, composite_parameters}
-use Rattle.pw_rules.specs.Kinds.{same_truth, is_array, is_function}
+use Rattle.pw_rules.specs.Kinds.{is_array, is_function}
+use Rattle.pw_value.specs.ProgramNames.{same_truth}
 use Rattle.pw_well_typed.specs.Lawful.{IsLawfulType}
 use Rattle.pw_well_typed.proofs.Lists.{some_same, never_some}
 use Rattle.pw_well_typed.proofs.Types.{no, left, right, kinds_same, truths_same, element_complete}

@@ -7,9 +7,9 @@ use Rattle.pw_types.specs.declared.kind.IntKind.TheVariants as K
 use Rattle.pw_types.specs.TypeTrees.{CType, Void, Int, Pointer, Array, Function, Record}
 use Rattle.pw_types.specs.TypedTrees.{Expression, Node, Form, LocalValue, ModuleValue, token_of, type_at, form_of}
 use Rattle.pw_types.specs.TypedTrees as T
-use Rattle.pw_types.specs.WellTyped.{IsTyped, HasForm, IsArithmetic, IsScalar, IsFunctionType, FitsCast}
+use Rattle.pw_types.specs.WellTyped.{IsTyped, HasForm, IsArithmetic, IsScalar, IsFunctionType, FitsCast, type_in}
 use Rattle.pw_rules.specs.Kinds.{plain, same_type, is_integral, is_pointer, is_scalar, is_function, is_record, is_void, pointee}
-use Rattle.pw_rules.specs.Operands.{Operand, type_in, value_operand, cast_to, promoted_type, promote, value_by, value_of}
+use Rattle.pw_rules.specs.Operands.{Operand, value_operand, cast_to, promoted_type, promote, value_by, value_of}
 use Rattle.pw_well_typed.specs.Lawful.{IsLawfulType, AreWords}
 use Rattle.pw_well_typed.proofs.States.{GoodOperand, GoodValue}
 use Rattle.pw_well_typed.proofs.Types.{no, types_same, type_itself, lawful_known, lawful_element, lawful_pointer}

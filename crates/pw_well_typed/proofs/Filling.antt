@@ -5,15 +5,16 @@ use Rattle.std.proofs.Common.{ap, sym, subst, ◌∙◌, inl, inr}
 use Rattle.pw_tree.specs.FirstTokens.{first_of_expr}
 use Rattle.pw_tree.specs.Trees.{Word, Expr, Init, Inits}
 use Rattle.pw_tree.specs.Trees as S
+use Rattle.pw_value.specs.Limits.{depth_limit}
 use Rattle.pw_types.specs.TypeTrees.{CType, Void, Int, Pointer, Function, Record, Array, QType, type_of, RecordValue}
 use Rattle.pw_types.specs.TypedTrees.{Expression, LocalValue, ModuleValue}
-use Rattle.pw_types.specs.WellTyped.{IsTyped, IsScalar}
+use Rattle.pw_types.specs.WellTyped.{IsTyped, IsScalar, type_in}
 use Rattle.pw_walk.specs.Causes.{InitialiserCount, needs, InitialiserForm}
 use Rattle.pw_walk.specs.Walks.{Walk, Done, bind, granted}
 use Rattle.pw_rules.specs.Initialisers.{Context, Filled, Frame, Cursor, Target, Reached, target_at, frame_of, one_on, nothing_filled, value_filled, string_filled, listed_value, listed_string, listed_expression, listed_by, listed_form, StringForm, IsString, IsOther, string_form, braced_string, braced_target, braced_by, fills_characters, words_in, meets_characters, takes_record, takes_braces, next_target, next_part, part_of, reach, reached, inits_rule, init_rule, Initialised, passed, object_string, object_value, object_list, object_by, object_rule, is_by_bytes}
 use Rattle.pw_rules.specs.Kinds.{is_character_array, is_scalar}
 use Rattle.pw_rules.specs.Leaves.{string_point}
-use Rattle.pw_rules.specs.Operands.{type_in, cast_to}
+use Rattle.pw_rules.specs.Operands.{cast_to}
 use Rattle.pw_rules.specs.States.{State, Rule, records_in}
 use Rattle.pw_well_typed.specs.Lawful.{IsLawful, IsLawfulType, Denotes, AreWords}
 use Rattle.pw_well_typed.proofs.Walking.{post_bind, post_weaken, truth}
@@ -69,17 +70,17 @@ reached_at r takes f x t deep h e =
 scalar_reached : (r : List RecordValue) (takes : CType → Bool) (f : Frame) (x : Reached) (ty : CType) → IsScalar ty → f.ty ≡ ty → reach r takes (f ∷ []) ≡ Some x
     → (type_of x.target.ty ≡ ty) × (x.cursor ≡ f ∷ [])
 unfolding reached
-scalar_reached r takes f x (Int k) scalar same e = by (f.next == 0) (sym (ap (λ c. option_and_then (λ (t : Target). if is_scalar (type_of t.ty) || takes (type_of t.ty) then Some (record { target = t; cursor = f ∷ [] }) else reached 200 r takes (frame_of t ∷ f ∷ [])) (part_of r c f)) same) ∙ e)
+scalar_reached r takes f x (Int k) scalar same e = by (f.next == 0) (sym (ap (λ c. option_and_then (λ (t : Target). if is_scalar (type_of t.ty) || takes (type_of t.ty) then Some (record { target = t; cursor = f ∷ [] }) else reached depth_limit r takes (frame_of t ∷ f ∷ [])) (part_of r c f)) same) ∙ e)
   where
-    by : (b : Bool) → option_and_then (λ (t : Target). if is_scalar (type_of t.ty) || takes (type_of t.ty) then Some (record { target = t; cursor = f ∷ [] }) else reached 200 r takes (frame_of t ∷ f ∷ []))
+    by : (b : Bool) → option_and_then (λ (t : Target). if is_scalar (type_of t.ty) || takes (type_of t.ty) then Some (record { target = t; cursor = f ∷ [] }) else reached depth_limit r takes (frame_of t ∷ f ∷ []))
         (if b then Some (target_at (Rattle.pw_rules.specs.Kinds.plain (Int k)) f.offset) else None) ≡ Some x → (type_of x.target.ty ≡ Int k) × (x.cursor ≡ f ∷ [])
-    by true g = reached_at r takes f x (target_at (Rattle.pw_rules.specs.Kinds.plain (Int k)) f.offset) 200 refl g
+    by true g = reached_at r takes f x (target_at (Rattle.pw_rules.specs.Kinds.plain (Int k)) f.offset) depth_limit refl g
     by false g = never_some g
-scalar_reached r takes f x (Pointer q) scalar same e = by (f.next == 0) (sym (ap (λ c. option_and_then (λ (t : Target). if is_scalar (type_of t.ty) || takes (type_of t.ty) then Some (record { target = t; cursor = f ∷ [] }) else reached 200 r takes (frame_of t ∷ f ∷ [])) (part_of r c f)) same) ∙ e)
+scalar_reached r takes f x (Pointer q) scalar same e = by (f.next == 0) (sym (ap (λ c. option_and_then (λ (t : Target). if is_scalar (type_of t.ty) || takes (type_of t.ty) then Some (record { target = t; cursor = f ∷ [] }) else reached depth_limit r takes (frame_of t ∷ f ∷ [])) (part_of r c f)) same) ∙ e)
   where
-    by : (b : Bool) → option_and_then (λ (t : Target). if is_scalar (type_of t.ty) || takes (type_of t.ty) then Some (record { target = t; cursor = f ∷ [] }) else reached 200 r takes (frame_of t ∷ f ∷ []))
+    by : (b : Bool) → option_and_then (λ (t : Target). if is_scalar (type_of t.ty) || takes (type_of t.ty) then Some (record { target = t; cursor = f ∷ [] }) else reached depth_limit r takes (frame_of t ∷ f ∷ []))
         (if b then Some (target_at (Rattle.pw_rules.specs.Kinds.plain (Pointer q)) f.offset) else None) ≡ Some x → (type_of x.target.ty ≡ Pointer q) × (x.cursor ≡ f ∷ [])
-    by true g = reached_at r takes f x (target_at (Rattle.pw_rules.specs.Kinds.plain (Pointer q)) f.offset) 200 refl g
+    by true g = reached_at r takes f x (target_at (Rattle.pw_rules.specs.Kinds.plain (Pointer q)) f.offset) depth_limit refl g
     by false g = never_some g
 scalar_reached r takes f x Void scalar same e = absurd scalar
 scalar_reached r takes f x (Array q n) scalar same e = absurd scalar

@@ -19,12 +19,11 @@ use Rattle.pw_types.specs.TypeTrees.{Int}
 use Rattle.pw_types.specs.TypedTrees.{Expression, Statement, CaseValue, LocalValue, FunctionValue}
 use Rattle.pw_types.specs.TypedModules.{AreLabels}
 use Rattle.pw_types.specs.TypedTrees as T
-use Rattle.pw_types.specs.WellTyped.{IsNumber}
+use Rattle.pw_types.specs.WellTyped.{IsNumber, type_in}
 use Rattle.pw_walk.specs.Walks.{Walk, Done, bind}
 use Rattle.pw_rules.specs.Constants.{constant_value, convert_word}
 use Rattle.pw_rules.specs.Kinds.{kind_in}
 use Rattle.pw_rules.specs.Leaves.{is_nil}
-use Rattle.pw_rules.specs.Operands.{type_in}
 use Rattle.pw_rules.specs.States.{State, Rule, BodyState, SwitchState, one_deeper, scoped}
 use Rattle.pw_rules.specs.Statements as R
 use Rattle.pw_rules.specs.Statements.{case_rule, new_label, inside_switch, default_rule, name_label_rule, label_rule, labels_rule, whole_rule, optional_rule, condition_rule, optional_condition, switch_rule, in_switch, in_loop, goto_rule, continue_rule, break_rule, return_rule, stmt_rule, alternative_rule, block_rule, stmts_rule, first_switch, change_switches, switch_kind, has_case, has_default, switch_of, tail_of, has_name, names_of_labels}

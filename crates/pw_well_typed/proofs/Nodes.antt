@@ -14,11 +14,11 @@ use Rattle.pw_types.specs.declared.tree.UnaryOperator.{UnaryOperator as TypedUna
 use Rattle.pw_types.specs.TypeTrees.{CType, Void, Int, Pointer, Array, Function, Record, Qualified, type_of, RecordValue}
 use Rattle.pw_types.specs.TypedTrees.{Expression, Node, Form, LocalValue, ModuleValue, token_of, type_at, form_of}
 use Rattle.pw_types.specs.TypedTrees as T
-use Rattle.pw_types.specs.WellTyped.{IsTyped, IsPromoted, IsPointer, IsScalar, PointsToObject, IsFunctionType, FitsUnary, FitsBinary, FitsCast, AreNumbers, MovesPointer, AreShifted, AreCompared}
+use Rattle.pw_types.specs.WellTyped.{IsTyped, IsPromoted, IsPointer, IsScalar, PointsToObject, IsFunctionType, FitsUnary, FitsBinary, FitsCast, AreNumbers, MovesPointer, AreShifted, AreCompared, type_in}
 use Rattle.pw_rules.specs.Compatible.{composite_type}
 use Rattle.pw_rules.specs.Constants.{constant_of, is_null_constant}
 use Rattle.pw_rules.specs.Kinds.{plain, unqualified, int_type, is_integral, is_pointer, is_scalar, is_void, points_to_object, points_to_function, points_to_void, pointee}
-use Rattle.pw_rules.specs.Operands.{type_in, value_operand, cast_to, promote, common_type}
+use Rattle.pw_rules.specs.Operands.{value_operand, cast_to, promote, common_type}
 use Rattle.pw_rules.specs.Operators.{deref, both_integral, pointer_and_number, pointers_agree, points_into_objects, pointer_and_void, pointer_and_null, pointers_meet, fits_order, fits_binary, in_common, arithmetic_node, shift_node, pointer_with_both, chosen_pointer, met_type, comparison_node, sum_node, difference_node, binary_node, typed_binary, comma_node, same_record, fits_choice, choice_type}
 use Rattle.pw_well_typed.specs.Lawful.{IsLawfulType, AreWords, Extends}
 use Rattle.pw_well_typed.proofs.States.{GoodOperand, GoodValue}

@@ -19,7 +19,8 @@ use Rattle.pw_walk.specs.Causes.{DeclaredMember}
 use Rattle.pw_walk.specs.Walks.{bind, granted}
 use Rattle.pw_rules.specs.Kinds.{is_integral, is_pointer, points_to_object, unqualified}
 use Rattle.pw_rules.specs.Limits.{Spot}
-use Rattle.pw_rules.specs.Operands.{Operand, type_in, value_operand}
+use Rattle.pw_rules.specs.Operands.{Operand, value_operand}
+use Rattle.pw_types.specs.WellTyped.{type_in}
 use Rattle.pw_rules.specs.Operators.{value_rule, sign_rule, deref, deref_rule, address_rule, step_rule, size_rule, type_size_rule, cast_rule, binary_rule, logic_rule, operation_rule, conditional_rule, assign_rule, compound_rule, compound_operator, assignment_rule, index_rule, both_integral, pointer_and_number, arithmetic_node, sum_node, call_rule, member_of, member_operand, select_rule, dot_rule, arrow_rule}
 use Rattle.pw_rules.specs.States.{State, records_in}
 use Rattle.pw_types.specs.declared.tree.BinaryOperator.TheVariants as B

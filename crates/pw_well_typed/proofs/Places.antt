@@ -16,12 +16,12 @@ use Rattle.pw_types.specs.Layouts.{content_at}
 use Rattle.pw_types.specs.TypeTrees.{CType, Void, Int, Pointer, Array, Function, Record, QType, Qualified, type_of, is_constant, is_volatile, MemberValue, ContentValue, RecordValue}
 use Rattle.pw_types.specs.TypedTrees.{Expression, Node, Form, LocalValue, ModuleValue, token_of, type_at, form_of}
 use Rattle.pw_types.specs.TypedTrees as T
-use Rattle.pw_types.specs.WellTyped.{IsTyped, IsArithmetic, IsPromoted, IsScalar, IsComplete, PointsToObject, IsFunctionType, FitsCast, FitsCompound, WorksInCommon, WorksPromoted, MovesPointer, IsModifiable}
+use Rattle.pw_types.specs.WellTyped.{IsTyped, IsArithmetic, IsPromoted, IsScalar, IsComplete, PointsToObject, IsFunctionType, FitsCast, FitsCompound, WorksInCommon, WorksPromoted, MovesPointer, IsModifiable, type_in}
 use Rattle.pw_value.specs.declared.value.Value.TheVariants.{Num}
 use Rattle.pw_value.specs.Values.{extended}
 use Rattle.pw_rules.specs.Constants.{is_null_constant}
 use Rattle.pw_rules.specs.Kinds.{plain, unqualified, int_type, is_integral, is_pointer, is_scalar, is_void, is_array, is_function, is_record, is_complete, points_to_object, points_to_function, points_to_void, pointee, qualify, is_const_object, holds_const, is_free_of_const, members_of, innermost}
-use Rattle.pw_rules.specs.Operands.{Operand, type_in, value_operand, cast_to, promote, common_type}
+use Rattle.pw_rules.specs.Operands.{Operand, value_operand, cast_to, promote, common_type}
 use Rattle.pw_rules.specs.Compatible.{compatible_types, qualified_within}
 use Rattle.pw_rules.specs.Operators.{is_modifiable, can_step, fits_cast, mixes_pointer, same_record, is_assignable, compound_operator, compound_node, fits_sum, fits_compound, member_in, member_of, member_operand}
 use Rattle.pw_well_typed.specs.Lawful.{IsLawfulType, IsObjectLike, HasLawfulMembers, AreWords, Extends}

@@ -17,12 +17,12 @@ use Rattle.pw_types.specs.TypedTrees.{Expression, Initialiser, Statement, LocalV
 use Rattle.pw_types.specs.TypedTrees as T
 use Rattle.pw_types.specs.TypedModules.{Initialises, IsSwitch, Returns, IsStatement}
 use Rattle.pw_types.specs.TypedModules as M
-use Rattle.pw_types.specs.WellTyped.{IsTyped, IsTypedOrAbsent, IsCondition, IsConditionOrAbsent, IsScalar, IsResult}
+use Rattle.pw_types.specs.WellTyped.{IsTyped, IsTypedOrAbsent, IsCondition, IsConditionOrAbsent, IsScalar, IsResult, type_in}
 use Rattle.pw_walk.specs.Walks.{Walk, Done, bind}
 use Rattle.pw_rules.specs.Functions.{numbers_below}
 use Rattle.pw_rules.specs.Kinds.{kind_in, is_void}
 use Rattle.pw_rules.specs.Leaves.{is_nil}
-use Rattle.pw_rules.specs.Operands.{type_in, cast_to, promote}
+use Rattle.pw_rules.specs.Operands.{cast_to, promote}
 use Rattle.pw_rules.specs.Operators.{is_assignable}
 use Rattle.pw_rules.specs.States.{State, Rule, BodyState, SwitchState, one_deeper, leave_scope, scoped}
 use Rattle.pw_rules.specs.Statements as R

@@ -31,7 +31,8 @@ use Rattle.pw_rules.specs.Leaves.{entity_operand, identifier_rule, number_rule, 
 use Rattle.pw_rules.specs.Derivations.{spot_of}
 use Rattle.pw_rules.specs.Limits.{Spot}
 use Rattle.pw_rules.specs.Linkage.{symbol_at, symbol_of_linked}
-use Rattle.pw_rules.specs.Operands.{Operand, value_operand, cast_to, promoted_type, common_type, value_by, value_of, type_in}
+use Rattle.pw_rules.specs.Operands.{Operand, value_operand, cast_to, promoted_type, common_type, value_by, value_of}
+use Rattle.pw_types.specs.WellTyped.{type_in}
 use Rattle.pw_rules.specs.Operators.{value_rule, unary_node, sign_rule, deref, deref_rule, address_rule, step_rule, size_rule, type_size_rule, cast_rule, binary_node, sum_node, difference_node, shift_node, comparison_node, arithmetic_node, in_common, both_integral, typed_binary, met_type, binary_rule, logic_rule, operation_rule, conditional_rule, assign_rule, compound_node, compound_operator, compound_rule, assignment_rule, index_rule, call_node, call_rule, member_of, member_operand, select_rule, dot_rule, arrow_rule}
 use Rattle.pw_rules.specs.Phrases.{expr_rule, postfixes_rule, operations_rule}
 use Rattle.pw_rules.specs.SpecifierLists.{nothing_gathered}

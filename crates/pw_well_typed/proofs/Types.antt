@@ -9,7 +9,8 @@ use Rattle.pw_types.specs.Layouts.{content_at, layout_of, array_layout}
 use Rattle.pw_types.specs.TypeTrees.{CType, Void, Int, Pointer, Array, Function, Record, QType, Qualified, QTypes, NoType, OneType, type_of, ContentValue, RecordValue}
 use Rattle.pw_types.specs.WellTyped.{IsScalar, IsResult, IsComplete, IsKnownType, AreKnownTypes, IsFunctionType, so_qualified}
 use Rattle.pw_rules.specs.Compatible.{composite_type, composite_parameters}
-use Rattle.pw_rules.specs.Kinds.{same_type, same_qualified, same_types, same_kind, same_truth, same_length, number_of_kind, is_complete, qualify}
+use Rattle.pw_rules.specs.Kinds.{same_type, same_qualified, same_types, same_kind, same_length, number_of_kind, is_complete, qualify}
+use Rattle.pw_value.specs.ProgramNames.{same_truth}
 use Rattle.pw_well_typed.specs.Lawful.{IsLawfulType, AreLawfulTypes, Extends}
 
 pub no : {A : Type 0} → false ≡ true → A

@@ -2,7 +2,7 @@
 
 ghost use Rattle.std.specs.Prelude.{◌≡◌, ◌≢◌, ◌≤◌, ℕ, List, IfErr, IfOk, drop, map, string_bytes, codes, option_map, option_and_then, Option};
 ghost use Rattle.clap.specs.Matches.{first_value, found_of};
-ghost use Rattle.pw_words.specs.CommandLine.{Part, Reads, colours_in, command_of, go_of, command_by_name, module_in, number_or, parts_of, seed_in, stack_in, steps_in, with_build, with_run, build_of, session_of, bench_of, phase_one_of, phase_two_of, analyse_of, link_of, run_of, list_of, db_of};
+ghost use Rattle.pw_words.specs.CommandLine.{Part, Reads, colours_in, command_of, go_of, command_by_name, module_in, number_or, parts_of, seed_in, stack_in, steps_in, with_build, with_run, build_of, session_of, bench_of, phase_one_of, phase_two_of, analyse_of, link_of, run_of, list_of, db_of, usual_stack, steps_limit, seed_limit, usual_steps};
 ghost use Rattle.pw_words.specs.Reading.{IsMatchOf};
 
 use crate::commands::Command;
@@ -41,16 +41,24 @@ const RUN: [&str; 1] = [STEPS];
 const MOST_COLOURS: u64 = COLOUR_LIMIT as u64;
 
 /// The stack that stands for none given.
-const USUAL_STACK: u64 = 1_048_576;
+pub const USUAL_STACK: u64 = 1_048_576;
 
 /// The greatest count of instructions of a run.
-const MOST_STEPS: u64 = 4_611_686_018_427_387_904;
+pub const STEPS_LIMIT: u64 = 4_611_686_018_427_387_904;
 
 /// The greatest number from which modules are made.
-const MOST_SEED: u64 = 4_294_967_295;
+pub const SEED_LIMIT: u64 = 4_294_967_295;
 
 /// The count of instructions that stands for none given.
-const USUAL_STEPS: u64 = 100_000_000;
+pub const USUAL_STEPS: u64 = 100_000_000;
+
+/// The numbers are those that the definitions speak of.
+pub fn limits_of_a_command()
+    ensures stack { USUAL_STACK ≡ usual_stack }
+    ensures steps { STEPS_LIMIT ≡ steps_limit }
+    ensures seed { SEED_LIMIT ≡ seed_limit }
+    ensures usual_steps { USUAL_STEPS ≡ usual_steps }
+{}
 
 /// The number that is given to an option, within limits, or what stands for it.
 fn number_or(
@@ -98,7 +106,7 @@ fn steps(matches: &ArgMatches) -> Result<u64, WordsFault>
     ensures read { (parts : List Part) → IsMatchOf parts matches.now → Reads (steps_in parts) result }
     ensures no_memory { IfErr result (λ fault. fault ≢ WordsFault.NoMemory) }
 {
-    number_or(matches, STEPS, 1, MOST_STEPS, USUAL_STEPS)
+    number_or(matches, STEPS, 1, STEPS_LIMIT, USUAL_STEPS)
 }
 
 /// The module that the words name.
@@ -126,7 +134,7 @@ fn seed(matches: &ArgMatches) -> Result<u32, WordsFault>
     let Some(text) = matches.get_str(OPERAND) else {
         return Err(WordsFault::Usage);
     };
-    match number_in(0, MOST_SEED, text) {
+    match number_in(0, SEED_LIMIT, text) {
         Some(number) => Ok(number as u32),
         None => Err(WordsFault::Usage),
     }

@@ -6,7 +6,7 @@ use Rattle.pw_typed.specs.Views.{view_expr}
 use Rattle.pw_walk.proofs.CallLaws.{step_ok, step_err}
 use Rattle.pw_filled.specs.Views.{view_context, view_filled}
 use Rattle.pw_filled.proofs.WalkLemmas.{same_walk, done_with}
-use Rattle.pw_rules.specs.Operands.{type_in}
+use Rattle.pw_types.specs.WellTyped.{type_in}
 use Rattle.pw_rules.specs.Operators.{same_record}
 use Rattle.pw_initial.specs.Placing.{reached_rule}
 use Rattle.pw_initial.proofs.ListLemmas.{value_placed}

@@ -3,7 +3,7 @@ use Rattle.pw_walk.proofs.CallLaws.{step_ok, step_err}
 use Rattle.pw_labels.proofs.Steps.{ends, one_met, one_broken}
 use Rattle.pw_checking.specs.Views.{view_node}
 use Rattle.pw_rules.specs.Kinds.{is_integral}
-use Rattle.pw_rules.specs.Operands.{type_in}
+use Rattle.pw_types.specs.WellTyped.{type_in}
 use Rattle.pw_rules.specs.Statements.{switch_rule}
 use Rattle.pw_typed.specs.declared.tree.TExpr.{TExpr}
 use Rattle.pw_types.specs.Views.{view_type}

@@ -7,3 +7,8 @@ pub returns-in-Some-checked_add : goal.returns-in-Some-checked_add
 returns-in-Some-checked_add c =
     c.in-Some-checked_add.ensures.1
     ∙ sym (given_within c.in-Some.outermost.now c.args.cursor.now c.in-Some.within.now c.in-Some.ensures.cases.0 (grind (arith, common_steps)))
+
+pub returns-in-None : goal.returns-in-None
+returns-in-None c =
+    let given = given_within c.in-Some.outermost.now c.args.cursor.now c.in-Some.within.now c.in-Some.ensures.cases.0 (grind (arith, common_steps)) in
+    grind (arith, common_steps, given)

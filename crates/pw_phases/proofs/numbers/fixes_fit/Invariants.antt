@@ -1,10 +1,10 @@
 use Rattle.std.proofs.Common.{length}
 use Rattle.std.specs.List.{AllByRecursion}
-use Rattle.pw_value.specs.Fields.{FitsU32}
-use Rattle.pw_phases.proofs.lawful.words_fit.Given as goal
+use Rattle.pw_phases.specs.Numbers.{HasWordNumbers}
+use Rattle.pw_phases.proofs.numbers.fixes_fit.Given as goal
 
 abbrev pub invariant-loop-rest : goal.invariant-loop-rest
-invariant-loop-rest l = AllByRecursion FitsU32 l.rest → AllByRecursion FitsU32 l.words
+invariant-loop-rest l = AllByRecursion HasWordNumbers l.rest → AllByRecursion HasWordNumbers l.fixes
 
 abbrev pub decreases-loop-rest : goal.decreases-loop-rest
 decreases-loop-rest l = length l.rest
