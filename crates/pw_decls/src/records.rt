@@ -1,6 +1,6 @@
 //! Structures and unions with their members (C90 6.5.2.1).
 
-ghost use Rattle.std.specs.Prelude.{[]};
+ghost use Rattle.std.specs.Prelude.{◌≢◌, [], IfErr};
 ghost use Rattle.pw_rules.specs.Phrases as spec;
 ghost use Rattle.pw_checking.specs.Follows.{Follows, Leads};
 ghost use Rattle.pw_checking.specs.PhraseViews.{view_name, view_specified};
@@ -40,7 +40,8 @@ fn plain_member<'a, P: Phrases<'a>>(
 /// There are no bit-fields; the fault of one stands at this token.
 #[tactic(auto, unfolding(pw_walk::specs::Walks::outcome))]
 fn no_bit_field<'a>(state: &State<'a>, token: usize) -> Result<MemberList<'a>, CheckFault>
-    ensures { Follows view_member_list (refused NoBitField token) (view_state state.now) result }
+    ensures follows { Follows view_member_list (refused NoBitField token) (view_state state.now) result }
+    ensures no_memory { IfErr result (λ fault. fault.kind ≢ CheckKind.NoMemory) }
 {
     let _state = state;
     Err(fault(CheckKind::Unsupported(Feature::BitField), token))

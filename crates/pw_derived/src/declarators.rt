@@ -1,5 +1,6 @@
 //! Declarators (C90 6.5.4, 6.5.5).
 
+ghost use Rattle.std.specs.Prelude.{◌≢◌, IfErr};
 ghost use Rattle.pw_checking.specs.Follows.{Follows, Leads};
 ghost use Rattle.pw_checking.specs.PhraseViews.{view_declared};
 ghost use Rattle.pw_checking.specs.StateViews.{view_state};
@@ -36,7 +37,8 @@ fn array_length<'a, P: Phrases<'a>>(
 /// An array as a step.
 #[tactic(auto, unfolding(pw_walk::specs::Walks::outcome))]
 fn array_step<'a>(state: &State<'a>, length: Option<u32>) -> Result<Step<'a>, CheckFault>
-    ensures { Follows view_step (pure (turns.array_step length)) (view_state state.now) result }
+    ensures follows { Follows view_step (pure (turns.array_step length)) (view_state state.now) result }
+    ensures no_memory { IfErr result (λ fault. fault.kind ≢ CheckKind.NoMemory) }
 {
     let _state = state;
     Ok(Step {

@@ -9,4 +9,4 @@ returns-in_err-_declared g c = step_err _ c.declarator.ensures c.in_err-_declare
 
 pub returns : goal.returns
 unfolding bit_field_rule
-returns g c = step_ok _ c.declarator.ensures c.in_ok-_declared.was (rw (c.unwrap_or-first.ensures, c.first_token.ensures) at c.no_bit_field.ensures)
+returns g c = step_ok _ c.declarator.ensures c.in_ok-_declared.was (rw (c.unwrap_or-first.ensures, c.first_token.ensures) at c.no_bit_field.ensures.follows)

@@ -11,7 +11,7 @@ returns-in_err-length-in-Array g c = rw c.in-Array.is (step_err _ c.array_length
 
 pub returns-in_ok-length-in-Array : goal.returns-in_ok-length-in-Array
 unfolding view_expr first_suffix
-returns-in_ok-length-in-Array g c = rw c.in-Array.is (step_ok _ c.array_length.ensures c.in_ok-length-in-Array.was c.array_step.ensures)
+returns-in_ok-length-in-Array g c = rw c.in-Array.is (step_ok _ c.array_length.ensures c.in_ok-length-in-Array.was c.array_step.ensures.follows)
 
 pub returns-in-Parameters : goal.returns-in-Parameters
 unfolding first_suffix
