@@ -1,6 +1,6 @@
 //! Declarations without declarators, and what all declarations ask of their specifiers (C90 6.5, 6.7).
 
-ghost use Rattle.std.specs.Prelude.{◌≡◌, ◌||◌, option_map};
+ghost use Rattle.std.specs.Prelude.{◌≡◌, ◌≢◌, ◌||◌, IfErr, option_map};
 ghost use Rattle.pw_checking.specs.Follows.{Follows, Leads};
 ghost use Rattle.pw_checking.specs.PhraseViews.{view_specified};
 ghost use Rattle.pw_checking.specs.StateViews.{view_state};
@@ -8,6 +8,7 @@ ghost use Rattle.pw_declared.specs.Parts as part;
 ghost use Rattle.pw_declared.specs.Views.{view_made, view_tag_alone};
 ghost use Rattle.pw_rules.specs.Declarations as spec;
 ghost use Rattle.pw_tree.specs.Views.{view_specifier, view_specifiers};
+ghost use Rattle.pw_walk.specs.declared.fault.CheckKind.TheVariants.{NoMemory};
 
 use pw_checking::{Phrases, Specified, State, first_of_list, typing};
 use pw_members::{alone_rule, record_kind};
@@ -20,7 +21,8 @@ use std::alloc::Global;
 /// At file scope nothing is `auto` or `register` (C90 6.7).
 #[tactic(auto, unfolding(pw_walk::specs::Walks::bind, pw_walk::specs::Walks::outcome, pw_rules::specs::Declarations::storage_rule))]
 pub(crate) fn storage_rule(state: &State<'_>, specified: &Specified) -> Result<(), CheckFault>
-    ensures { Follows (λ u. u) (spec.storage_rule (view_specified specified.now)) (view_state state.now) result }
+    ensures follows { Follows (λ u. u) (spec.storage_rule (view_specified specified.now)) (view_state state.now) result }
+    ensures no_memory { IfErr result (λ fault. fault.kind ≢ NoMemory) }
 {
     let automatic = is_auto(specified.storage) || is_register(specified.storage);
     if state.is_file_scope() && automatic {
@@ -60,7 +62,8 @@ fn declares_something(specifiers: &[Specifier]) -> bool
 /// A declaration without declarators declares something.
 #[tactic(auto, unfolding(pw_walk::specs::Walks::bind, pw_walk::specs::Walks::outcome, crate::specs::Parts::something_rule))]
 fn something_rule(specifiers: &[Specifier], first: usize) -> Result<(), CheckFault>
-    ensures { (s : _) → Follows (λ u. u) (part.something_rule (view_specifiers specifiers.now) first) s result }
+    ensures follows { (s : _) → Follows (λ u. u) (part.something_rule (view_specifiers specifiers.now) first) s result }
+    ensures no_memory { IfErr result (λ fault. fault.kind ≢ NoMemory) }
 {
     if declares_something(specifiers) {
         Ok(())

@@ -1,3 +1,4 @@
 pub mod Bodies
+pub mod Depth
 pub mod Nests
 pub mod Views

@@ -1,6 +1,8 @@
 //! The knot of statements, which hold one another: each is checked with the rules of the smaller ones, to a depth. A
 //! tree of greater depth is want of memory: the stack is memory.
 
+ghost use Rattle.std.specs.Prelude.{◌≡◌};
+ghost use Rattle.pw_functions.specs.Depth.{depth_limit};
 ghost use Rattle.pw_functions.specs.Nests.{Nests};
 ghost use Rattle.pw_body.specs.Views.{view_body};
 ghost use Rattle.pw_checking.specs.Follows.{Leads};
@@ -22,10 +24,12 @@ use std::alloc::Global;
 
 /// How deep the phrases and statements of a module may hold one another: within a token of nesting an expression has one
 /// level for each of the levels of operators.
-pub(crate) const DEPTH: usize = 20 * MAX_NEST;
+const DEPTH: usize = 20 * MAX_NEST;
 
 /// The rules of phrases, to the depth.
-pub fn phrases() -> Knot {
+pub fn phrases() -> Knot
+    ensures { result.depth ≡ depth_limit }
+{
     Knot { depth: DEPTH }
 }
 
@@ -35,6 +39,16 @@ struct Smaller<F> {
     /// How deep the statements may still hold one another.
     depth: usize,
     stmt: F,
+}
+
+impl<F> Smaller<F> {
+    /// The function, to the depth.
+    fn whole(stmt: F) -> Smaller<F>
+        ensures depth { result.depth ≡ depth_limit }
+        ensures stmt { result.stmt ≡ stmt }
+    {
+        Smaller { depth: DEPTH, stmt }
+    }
 }
 
 impl<'a, F: Fn(Global, &mut State<'a>, usize, &'a Stmt) -> Result<TStmt, CheckFault>> BodyParts<'a>
@@ -96,10 +110,7 @@ pub(crate) fn check_body<'a>(
 ) -> Result<Box<TStmt>, CheckFault>
     ensures { Leads view_body (spec.block_rule (view_block block.now)) (view_state state.old) result (view_state state.new) }
 {
-    let smaller = Smaller {
-        depth: DEPTH,
-        stmt: check_stmt,
-    };
+    let smaller = Smaller::whole(check_stmt);
     let made = block_rule(alloc, &smaller, state, block)?;
     Ok(Box::new(alloc, made)?)
 }

@@ -12,12 +12,12 @@ pub returns-in_err-specified : goal.returns-in_err-specified
 returns-in_err-specified g c = same_walk (others_joined (view_specifiers c.args.specifiers.now) (view_state c.args.state.now)) (step_err _ (same_walk (ap (λ n. specified_rule (view_specifiers c.args.specifiers.now) n (view_state c.args.state.now)) (sym c.first_of_list-first.ensures)) c.specifiers.ensures) c.in_err-specified.was (search rules))
 
 pub returns-in_err-storage_rule : goal.returns-in_err-storage_rule
-returns-in_err-storage_rule g c = same_walk (others_joined (view_specifiers c.args.specifiers.now) (view_state c.args.state.now)) (step_ok _ (same_walk (ap (λ n. specified_rule (view_specifiers c.args.specifiers.now) n (view_state c.args.state.now)) (sym c.first_of_list-first.ensures)) c.specifiers.ensures) c.in_ok-specified.was (step_err _ c.storage_rule.ensures c.in_err-storage_rule.was (search rules)))
+returns-in_err-storage_rule g c = same_walk (others_joined (view_specifiers c.args.specifiers.now) (view_state c.args.state.now)) (step_ok _ (same_walk (ap (λ n. specified_rule (view_specifiers c.args.specifiers.now) n (view_state c.args.state.now)) (sym c.first_of_list-first.ensures)) c.specifiers.ensures) c.in_ok-specified.was (step_err _ c.storage_rule.ensures.follows c.in_err-storage_rule.was (search rules)))
 
 pub returns-in_err-something_rule : goal.returns-in_err-something_rule
 returns-in_err-something_rule g c =
-    same_walk (others_joined (view_specifiers c.args.specifiers.now) (view_state c.args.state.now)) (step_ok _ (same_walk (ap (λ n. specified_rule (view_specifiers c.args.specifiers.now) n (view_state c.args.state.now)) (sym c.first_of_list-first.ensures)) c.specifiers.ensures) c.in_ok-specified.was (step_ok _ c.storage_rule.ensures c.in_ok-storage_rule.was (step_err _ (c.something_rule.ensures _) c.in_err-something_rule.was (search rules))))
+    same_walk (others_joined (view_specifiers c.args.specifiers.now) (view_state c.args.state.now)) (step_ok _ (same_walk (ap (λ n. specified_rule (view_specifiers c.args.specifiers.now) n (view_state c.args.state.now)) (sym c.first_of_list-first.ensures)) c.specifiers.ensures) c.in_ok-specified.was (step_ok _ c.storage_rule.ensures.follows c.in_ok-storage_rule.was (step_err _ (c.something_rule.ensures.follows _) c.in_err-something_rule.was (search rules))))
 
 pub returns : goal.returns
 returns g c =
-    same_walk (others_joined (view_specifiers c.args.specifiers.now) (view_state c.args.state.now)) (step_ok _ (same_walk (ap (λ n. specified_rule (view_specifiers c.args.specifiers.now) n (view_state c.args.state.now)) (sym c.first_of_list-first.ensures)) c.specifiers.ensures) c.in_ok-specified.was (step_ok _ c.storage_rule.ensures c.in_ok-storage_rule.was (step_ok _ (c.something_rule.ensures _) c.in_ok-something_rule.was (done_with refl (ap view_initialisers c.new.ensures.items) refl))))
+    same_walk (others_joined (view_specifiers c.args.specifiers.now) (view_state c.args.state.now)) (step_ok _ (same_walk (ap (λ n. specified_rule (view_specifiers c.args.specifiers.now) n (view_state c.args.state.now)) (sym c.first_of_list-first.ensures)) c.specifiers.ensures) c.in_ok-specified.was (step_ok _ c.storage_rule.ensures.follows c.in_ok-storage_rule.was (step_ok _ (c.something_rule.ensures.follows _) c.in_ok-something_rule.was (done_with refl (ap view_initialisers c.new.ensures.items) refl))))

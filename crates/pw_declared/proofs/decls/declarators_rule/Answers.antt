@@ -15,7 +15,7 @@ pub returns-in_err-specified : goal.returns-in_err-specified
 returns-in_err-specified g c = same_walk (some_declared (view_specifiers c.args.specifiers.now) c.args.declarators.now (view_state c.args.state.now) (grind (arith, common_steps))) (step_err _ (same_walk (ap (λ n. specified_rule (view_specifiers c.args.specifiers.now) n (view_state c.args.state.now)) (sym c.first_of_list-first.ensures)) c.specifiers.ensures) c.in_err-specified.was (search rules))
 
 pub returns-in_err-storage_rule : goal.returns-in_err-storage_rule
-returns-in_err-storage_rule g c = same_walk (some_declared (view_specifiers c.args.specifiers.now) c.args.declarators.now (view_state c.args.state.now) (grind (arith, common_steps))) (step_ok _ (same_walk (ap (λ n. specified_rule (view_specifiers c.args.specifiers.now) n (view_state c.args.state.now)) (sym c.first_of_list-first.ensures)) c.specifiers.ensures) c.in_ok-specified.was (step_err _ c.storage_rule.ensures c.in_err-storage_rule.was (search rules)))
+returns-in_err-storage_rule g c = same_walk (some_declared (view_specifiers c.args.specifiers.now) c.args.declarators.now (view_state c.args.state.now) (grind (arith, common_steps))) (step_ok _ (same_walk (ap (λ n. specified_rule (view_specifiers c.args.specifiers.now) n (view_state c.args.state.now)) (sym c.first_of_list-first.ensures)) c.specifiers.ensures) c.in_ok-specified.was (step_err _ c.storage_rule.ensures.follows c.in_err-storage_rule.was (search rules)))
 
 pub returns : goal.returns
-returns g c = same_walk (some_declared (view_specifiers c.args.specifiers.now) c.args.declarators.now (view_state c.args.state.now) (grind (arith, common_steps))) (step_ok _ (same_walk (ap (λ n. specified_rule (view_specifiers c.args.specifiers.now) n (view_state c.args.state.now)) (sym c.first_of_list-first.ensures)) c.specifiers.ensures) c.in_ok-specified.was (step_ok _ c.storage_rule.ensures c.in_ok-storage_rule.was c.init_declarators_rule.ensures))
+returns g c = same_walk (some_declared (view_specifiers c.args.specifiers.now) c.args.declarators.now (view_state c.args.state.now) (grind (arith, common_steps))) (step_ok _ (same_walk (ap (λ n. specified_rule (view_specifiers c.args.specifiers.now) n (view_state c.args.state.now)) (sym c.first_of_list-first.ensures)) c.specifiers.ensures) c.in_ok-specified.was (step_ok _ c.storage_rule.ensures.follows c.in_ok-storage_rule.was c.init_declarators_rule.ensures))

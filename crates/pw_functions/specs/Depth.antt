@@ -1,0 +1,11 @@
+-- How deep the phrases and statements of a module may hold one another: as deep as a text may nest, and within one level
+-- of nesting through each rank of operators.
+use Rattle.std.specs.Prelude.{ℕ, ◌*◌}
+use Rattle.pw_token.specs.Limits.{nest_limit}
+
+-- no fewer than there are ranks of operators (C90 6.3.1 to 6.3.17)
+abbrev pub operator_ranks : ℕ
+operator_ranks = 20
+
+abbrev pub depth_limit : ℕ
+depth_limit = operator_ranks * nest_limit
