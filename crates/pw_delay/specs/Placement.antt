@@ -1,5 +1,5 @@
 -- Items as words (PA-RISC 1.1: branches, delay slots, nullification).
-use Rattle.std.specs.Prelude.{ℕ, ℤ, pos, ◌+◌, ◌-ℤ◌, ◌==◌, nat_lt, Bool, true, false, if◌then◌else◌, Option, Some, None, List, [], ◌∷◌, ◌++◌, length, map, sum_by}
+use Rattle.std.specs.Prelude.{ℕ, ℤ, pos, ◌+◌, ◌-◌, ◌^◌, ◌-ℤ◌, ◌==◌, nat_lt, Bool, true, false, if◌then◌else◌, Option, Some, None, List, [], ◌∷◌, ◌++◌, length, map, sum_by}
 use Rattle.pw_inst.specs.declared.Inst.TheVariants.{Or, Combt, Combf, Bl, Bv, Ble}
 use Rattle.pw_inst.specs.InstructionTable.{word_of}
 use Rattle.pw_inst.specs.declared.line.Line.{Line}
@@ -119,6 +119,10 @@ laid long items = code_of (words_from long (mark_at long 0 items) 0 items)
 -- how many words short conditional branches can reach over
 abbrev pub short_limit : ℕ
 short_limit = 2040
+
+-- the greatest count of words of a function's code: the number of each word, and of the four behind the last, has 32 bits
+abbrev pub words_max : ℕ
+words_max = 2 ^ 32 - 4
 
 -- Conditional branches are long where the words with short ones are too many.
 abbrev pub placed_items : List Item → Code

@@ -1,8 +1,8 @@
 //! Placement.
 
-ghost use Rattle.std.specs.Prelude.{true, ◌≡◌, IfOk};
+ghost use Rattle.std.specs.Prelude.{true, ◌≡◌, ◌≤◌, IfOk, OkIff};
 ghost use Rattle.pw_delay.specs.Lines.{AreLines};
-ghost use Rattle.pw_delay.specs.Placement.{laid, placed_items, placed, short_limit};
+ghost use Rattle.pw_delay.specs.Placement.{laid, placed_items, placed, short_limit, words_max};
 ghost use Rattle.pw_delay.specs.Lawful.{AreItems};
 
 use crate::code::Code;
@@ -22,18 +22,25 @@ pub fn limit_of_short_branches()
 {}
 
 /// The greatest count of words of a function's code.
-const WORDS_MAX: usize = 4_294_967_000;
+const WORDS_MAX: usize = 4_294_967_292;
+
+/// A count of words, where a function's code may have so many; else want of memory.
+fn told_count(count: usize) -> Result<u32, AllocError>
+    ensures { OkIff result (count ≤ words_max) count }
+{
+    if count > WORDS_MAX {
+        return Err(AllocError);
+    }
+    Ok(count as u32)
+}
 
 /// The words and relocations of items with long conditional branches.
 fn lay_long(alloc: Global, items: &[Item]) -> Result<Code, AllocError>
     requires { AreItems items.now }
     ensures { IfOk result (λ code. code ≡ laid true items.now) }
 {
-    let count = count_words(true, items);
-    if count > WORDS_MAX {
-        return Err(AllocError);
-    }
-    lay(alloc, true, items, count as u32)
+    let count = told_count(count_words(true, items))?;
+    lay(alloc, true, items, count)
 }
 
 /// The words and relocations of items. Conditional branches are long where the words with short ones are
