@@ -1,6 +1,6 @@
 //! The first phases of all modules, in order.
 
-ghost use Rattle.std.specs.Prelude.{◌≡◌, ◌+◌, ◌*◌, ◌≤◌, ◌++◌, ◌∷◌, [], Ok, Err, IfErr, IfOk, OnErr, OnOk, length, map, sum_by};
+ghost use Rattle.std.specs.Prelude.{◌≡◌, ◌+◌, ◌*◌, ◌≤◌, ◌++◌, ◌∷◌, [], Ok, Err, IfErr, IfOk, IfSome, IsErrAnd, OnErr, OnOk, length, map, sum_by};
 ghost use Rattle.std.specs.List.{AllByRecursion};
 ghost use Rattle.pw_value.specs.Limits.{module_limit};
 ghost use Rattle.pw_flow.specs.ValidFlow.{IsValid};
@@ -105,6 +105,7 @@ fn flows_of(alloc: Global, modules: &[Module]) -> Result<Vec<FlowModule>, Unbuil
 pub fn first_phases(alloc: Global, modules: &[Module]) -> Result<Vec<FlowModule>, Unbuilt>
     ensures flows { IfOk result (λ flows. first_phases (map source modules.now) ≡ Ok flows.items) }
     ensures lawful { IfOk result (λ flows. AllByRecursion IsValid flows.items) }
+    ensures limit { IfSome (limit_passed (map source modules.now)) (λ fault. IsErrAnd result (λ unbuilt. unbuilt.fault ≡ BuildFault.LinkRefused fault)) }
     ensures fault { IfErr result (λ unbuilt. FaultsAs (first_phases (map source modules.now)) unbuilt.fault) }
     ensures line { IfErr result (λ unbuilt. IsLine (refused_line (map source modules.now)) unbuilt.fault unbuilt.line) }
 {
