@@ -1,6 +1,6 @@
 -- What acts at a node come to, from what their functions answer of the objects.
 use Rattle.std.proofs.Common.{ℕ, ◌≡◌, refl, sym, ap, subst, ◌∙◌, Option, Some, None, Result, Ok, Err, List}
-use Rattle.std.specs.Prelude.{option_map}
+use Rattle.std.specs.Prelude.{◌≢◌, IfErr, option_map}
 use Rattle.pw_value.specs.declared.value.Value.{Value}
 use Rattle.pw_value.specs.Objects.{Object}
 use Rattle.pw_types.specs.TypeTrees.{CType, Void, Int, Pointer, Array, Function, Record, QType, type_of}
@@ -25,6 +25,7 @@ use Rattle.pw_cstate.specs.Shown.{Shown}
 use Rattle.pw_cstate.specs.Runs.{Runs, at_node, done_at, with_new}
 use Rattle.pw_cstate.proofs.RunLaws.{answers_at, changes_at}
 use Rattle.pw_ccalls.specs.declared.ending.Stop.{Stop}
+use Rattle.pw_ccalls.specs.declared.ending.Stop.TheVariants.{Ended, NoMemory}
 use Rattle.pw_ccalls.specs.Answers.{Answers}
 use Rattle.pw_ccalls.specs.Endings.{view_ending, told}
 use Rattle.pw_ccalls.proofs.AnswerLaws.{tells, gives, ends_so}
@@ -100,7 +101,20 @@ cast_is at (Array q count) (Some v) s = converted_is at (Array q count) v s
 cast_is at (Function q params) (Some v) s = converted_is at (Function q params) v s
 cast_is at (Record number) (Some v) s = converted_is at (Record number) v s
 
+-- what tells an answer is no want of memory
+pub known : {A : Type 0} {answer : Result A Ending} (result : Result A Stop) → told result ≡ Some answer → IfErr result (λ stop. stop ≢ NoMemory)
+known (Ok a) e = tt
+known (Err (Ended ending)) e = λ is. cc is
+known (Err NoMemory) e = absurd (cc e)
+
 -- ---- what must be there
+
+pub needed_known : {B : Type 0} {result : Result B Stop} (value : Option B) → result ≡ needed value → IfErr result (λ stop. stop ≢ NoMemory)
+needed_known {B = B} value is = subst (λ (x : Result B Stop). IfErr x (λ stop. stop ≢ NoMemory)) (sym is) (by value)
+  where
+    by : (v : Option B) → IfErr (needed v) (λ stop. stop ≢ NoMemory)
+    by (Some b) = tt
+    by None = λ e. cc e
 
 pub needs : {A B : Type 0} {view : B → A} {world : World} {o : Option A} {result : Result B Stop} (value : Option B) (s : Shown)
     → o ≡ option_map view value → result ≡ needed value → Answers view world (need o) s result s

@@ -1,6 +1,6 @@
 //! Calls.
 
-ghost use Rattle.std.specs.Prelude.{◌≡◌, false, Some, IfOk, option_map, [], ◌∷◌};
+ghost use Rattle.std.specs.Prelude.{◌≡◌, ◌≢◌, false, Some, IfOk, option_map, [], ◌∷◌, IfErr};
 ghost use Rattle.std.specs.Str.{bytes_eq};
 ghost use Rattle.pw_types.specs.Shapes.{shape_of};
 ghost use Rattle.pw_types.specs.Views.{view_type};
@@ -27,7 +27,8 @@ use std::alloc::{AllocError, Global};
 
 /// Whether the functions that would be active have room on the stack.
 pub fn take_room<'a>(world: &World<'a>, state: &State<'a>, name: &[u8]) -> Result<(), Stop<'a>>
-    ensures { Answers (λ x. tt) (view_world world.now) (meaning.take_room (view_world world.now) name.now) (view_state state.now) result (view_state state.now) }
+    ensures answers { Answers (λ x. tt) (view_world world.now) (meaning.take_room (view_world world.now) name.now) (view_state state.now) result (view_state state.now) }
+    ensures no_memory { IfErr result (λ stop. stop ≢ Stop.NoMemory) }
 {
     if has_room(state, world.frame(name), world.stack) {
         Ok(())

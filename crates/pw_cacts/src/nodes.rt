@@ -1,6 +1,6 @@
 //! Operators and accesses at a node: what they answer of the objects is a value or the end of the run.
 
-ghost use Rattle.std.specs.Prelude.{◌≡◌, Some, pos};
+ghost use Rattle.std.specs.Prelude.{◌≡◌, ◌≢◌, Some, pos, IfErr};
 ghost use Rattle.pw_types.specs.Views.{view_type};
 ghost use Rattle.pw_cmean.specs.Access as access;
 ghost use Rattle.pw_cmean.specs.Acts as acts;
@@ -55,7 +55,8 @@ pub fn settle<'a, T>(env: &Env<'a>, token: usize, answer: Result<T, Fault>) -> R
 
 /// Whether a scalar is unlike 0.
 pub fn truth<'a>(env: &Env<'a>, state: &State<'a>, token: usize, v: Value) -> Result<bool, Stop<'a>>
-    ensures { Answers (λ x. x) (view_env env.now).world (operators.truth (site (view_env env.now) token) v) (view_state state.now) result (view_state state.now) }
+    ensures answers { Answers (λ x. x) (view_env env.now).world (operators.truth (site (view_env env.now) token) v) (view_state state.now) result (view_state state.now) }
+    ensures no_memory { IfErr result (λ stop. stop ≢ Stop.NoMemory) }
 {
     settle(env, token, pw_coperators::truth(&state.objects, v))
 }
@@ -69,7 +70,8 @@ pub fn unary<'a>(
     ty: &CType,
     v: Value,
 ) -> Result<Value, Stop<'a>>
-    ensures { Answers (λ x. x) (view_env env.now).world (operators.unary (site (view_env env.now) token) op (view_type ty.now) v) (view_state state.now) result (view_state state.now) }
+    ensures answers { Answers (λ x. x) (view_env env.now).world (operators.unary (site (view_env env.now) token) op (view_type ty.now) v) (view_state state.now) result (view_state state.now) }
+    ensures no_memory { IfErr result (λ stop. stop ≢ Stop.NoMemory) }
 {
     let answer = pw_coperators::unary(&state.objects, op, categorise(ty), v);
     settle(env, token, answer)
@@ -96,7 +98,8 @@ pub fn binary<'a>(
 
 /// A conversion to a type.
 pub fn convert<'a>(env: &Env<'a>, token: usize, ty: &CType, v: Value) -> Result<Value, Stop<'a>>
-    ensures { (s : Shown) → Answers (λ x. x) (view_env env.now).world (operators.convert (site (view_env env.now) token) (view_type ty.now) v) s result s }
+    ensures answers { (s : Shown) → Answers (λ x. x) (view_env env.now).world (operators.convert (site (view_env env.now) token) (view_type ty.now) v) s result s }
+    ensures no_memory { IfErr result (λ stop. stop ≢ Stop.NoMemory) }
 {
     settle(env, token, pw_coperators::convert(categorise(ty), v))
 }
@@ -109,7 +112,8 @@ pub fn advance<'a>(
     p: Value,
     offset: u32,
 ) -> Result<Value, Stop<'a>>
-    ensures { Answers (λ x. x) (view_env env.now).world (operators.advance (site (view_env env.now) token) p (pos offset)) (view_state state.now) result (view_state state.now) }
+    ensures answers { Answers (λ x. x) (view_env env.now).world (operators.advance (site (view_env env.now) token) p (pos offset)) (view_state state.now) result (view_state state.now) }
+    ensures no_memory { IfErr result (λ stop. stop ≢ Stop.NoMemory) }
 {
     let answer = pw_coperators::advance(&state.objects, p, Move::On(u64::from(offset)));
     settle(env, token, answer)
@@ -123,7 +127,8 @@ pub fn load<'a>(
     ty: &CType,
     place: Value,
 ) -> Result<Value, Stop<'a>>
-    ensures { Answers (λ x. x) (view_env env.now).world (access.load (site (view_env env.now) token) (view_type ty.now) place) (view_state state.now) result (view_state state.now) }
+    ensures answers { Answers (λ x. x) (view_env env.now).world (access.load (site (view_env env.now) token) (view_type ty.now) place) (view_state state.now) result (view_state state.now) }
+    ensures no_memory { IfErr result (λ stop. stop ≢ Stop.NoMemory) }
 {
     let answer = pw_coperators::load(&state.objects, categorise(ty), place);
     settle(env, token, answer)
@@ -137,7 +142,8 @@ pub fn fetch<'a>(
     ty: &CType,
     place: Value,
 ) -> Result<Value, Stop<'a>>
-    ensures { Answers (λ x. x) (view_env env.now).world (access.fetch (site (view_env env.now) token) (view_type ty.now) place) (view_state state.now) result (view_state state.now) }
+    ensures answers { Answers (λ x. x) (view_env env.now).world (access.fetch (site (view_env env.now) token) (view_type ty.now) place) (view_state state.now) result (view_state state.now) }
+    ensures no_memory { IfErr result (λ stop. stop ≢ Stop.NoMemory) }
 {
     let answer = pw_coperators::fetch(&state.objects, categorise(ty), place);
     settle(env, token, answer)

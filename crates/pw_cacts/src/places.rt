@@ -1,6 +1,6 @@
 //! The places of names.
 
-ghost use Rattle.std.specs.Prelude.{◌≡◌, option_map, option_and_then, slice_get};
+ghost use Rattle.std.specs.Prelude.{◌≡◌, ◌≢◌, option_map, option_and_then, slice_get, IfErr};
 ghost use Rattle.pw_typed.specs.Views.{view_symbol};
 ghost use Rattle.pw_cmean.specs.Acts.{need};
 ghost use Rattle.pw_cmean.specs.Evaluation as meaning;
@@ -40,7 +40,8 @@ fn object_place(numbers: &[Option<u128>], local: u32) -> Option<Value>
 
 /// The place of a local that is in scope.
 pub fn local_place<'a>(env: &Env<'a>, local: u32) -> Result<Value, Stop<'a>>
-    ensures { (s : Shown) → Answers (λ x. x) (view_env env.now).world (meaning.local_place (view_env env.now) local) s result s }
+    ensures answers { (s : Shown) → Answers (λ x. x) (view_env env.now).world (meaning.local_place (view_env env.now) local) s result s }
+    ensures no_memory { IfErr result (λ stop. stop ≢ Stop.NoMemory) }
 {
     need(object_place(&env.numbers, local))
 }

@@ -1,6 +1,6 @@
 //! Results of operands, lvalues and conversions.
 
-ghost use Rattle.std.specs.Prelude.{◌≡◌};
+ghost use Rattle.std.specs.Prelude.{◌≡◌, ◌≢◌, IfErr};
 ghost use Rattle.pw_types.specs.Views.{view_qtype, view_type};
 ghost use Rattle.pw_cmean.specs.Evaluation as meaning;
 ghost use Rattle.pw_cmean.specs.Evaluation.{site};
@@ -27,7 +27,8 @@ fn present(answer: Option<Value>) -> Result<Value, Fault>
 
 /// The result of an operand. A function may have returned none, which its operator meets (ISO C90 6.6.6.4).
 pub fn used<'a>(env: &Env<'a>, token: usize, answer: Option<Value>) -> Result<Value, Stop<'a>>
-    ensures { (s : Shown) → Answers (λ x. x) (view_env env.now).world (meaning.used (site (view_env env.now) token) answer) s result s }
+    ensures answers { (s : Shown) → Answers (λ x. x) (view_env env.now).world (meaning.used (site (view_env env.now) token) answer) s result s }
+    ensures no_memory { IfErr result (λ stop. stop ≢ Stop.NoMemory) }
 {
     settle(env, token, present(answer))
 }
@@ -57,7 +58,8 @@ pub fn value_at<'a>(
     ty: &QType,
     place: Value,
 ) -> Result<Option<Value>, Stop<'a>>
-    ensures { Answers (λ x. x) (view_env env.now).world (meaning.value_at (view_env env.now) token (view_qtype ty.now) place) (view_state state.now) result (view_state state.now) }
+    ensures answers { Answers (λ x. x) (view_env env.now).world (meaning.value_at (view_env env.now) token (view_qtype ty.now) place) (view_state state.now) result (view_state state.now) }
+    ensures no_memory { IfErr result (λ stop. stop ≢ Stop.NoMemory) }
 {
     let answer = value_by(&state.objects, categorise(&ty.ty), place);
     settle(env, token, answer)
@@ -88,7 +90,8 @@ pub fn cast<'a>(
     ty: &CType,
     answer: Option<Value>,
 ) -> Result<Option<Value>, Stop<'a>>
-    ensures { (s : Shown) → Answers (λ x. x) (view_env env.now).world (meaning.cast (site (view_env env.now) token) (view_type ty.now) answer) s result s }
+    ensures answers { (s : Shown) → Answers (λ x. x) (view_env env.now).world (meaning.cast (site (view_env env.now) token) (view_type ty.now) answer) s result s }
+    ensures no_memory { IfErr result (λ stop. stop ≢ Stop.NoMemory) }
 {
     settle(env, token, cast_to(categorise(ty), answer))
 }

@@ -1,6 +1,6 @@
 //! Assignments that read what they write.
 
-ghost use Rattle.std.specs.Prelude.{◌≡◌};
+ghost use Rattle.std.specs.Prelude.{◌≡◌, ◌≢◌, IfErr};
 ghost use Rattle.pw_types.specs.Views.{view_type};
 ghost use Rattle.pw_cmean.specs.Evaluation as meaning;
 ghost use Rattle.pw_cstate.specs.Shown.{view_state};
@@ -36,7 +36,8 @@ pub fn old_value<'a>(
     working: &CType,
     place: Value,
 ) -> Result<Value, Stop<'a>>
-    ensures { Answers (λ x. x) (view_env env.now).world (meaning.old_value (view_env env.now) token (view_type ty.now) (view_type working.now) place) (view_state state.now) result (view_state state.now) }
+    ensures answers { Answers (λ x. x) (view_env env.now).world (meaning.old_value (view_env env.now) token (view_type ty.now) (view_type working.now) place) (view_state state.now) result (view_state state.now) }
+    ensures no_memory { IfErr result (λ stop. stop ≢ Stop.NoMemory) }
 {
     let old = load(env, state, token, ty, place)?;
     convert(env, token, working, old)

@@ -1,12 +1,13 @@
 -- Code that tests the constraints of one point, behind which nothing is made.
-use Rattle.std.proofs.Common.{◌≡◌, nat_lt, ℕ, Option, None, Some, Result, Ok, [], ◌∷◌, ◌++◌, ap, sym, subst, ◌∙◌}
+use Rattle.std.specs.Prelude.{◌≢◌, if◌then◌else◌, IfErr}
+use Rattle.std.proofs.Common.{◌≡◌, nat_lt, ℕ, Bool, true, false, Option, None, Some, Result, Ok, [], ◌∷◌, ◌++◌, ap, sym, subst, ◌∙◌}
 use mathlib.Core.Logic.{inr}
 use Rattle.pw_walk.specs.declared.fault.CheckFault.{CheckFault}
 use Rattle.pw_walk.specs.Calls.{Obeys}
 use Rattle.pw_value.specs.Limits.{node_limit, room_limit}
-use Rattle.pw_walk.specs.declared.fault.CheckKind.TheVariants.{Limit}
+use Rattle.pw_walk.specs.declared.fault.CheckKind.TheVariants.{Limit, NoMemory}
 use Rattle.pw_walk.specs.declared.fault.Which.TheVariants.{Nodes, Room}
-use Rattle.pw_walk.specs.Causes.{Cause, Point, keeps}
+use Rattle.pw_walk.specs.Causes.{Cause, Point, keeps, rank_of_kind}
 use Rattle.pw_walk.specs.Walks.{Walk, Done, Passing, outcome}
 use Rattle.pw_finding.specs.Found.{found, found_behind, lesser_found, told, with_cause}
 use Rattle.pw_finding.proofs.FindingLaws.{found_after, found_append, stopped_by_found}
@@ -55,3 +56,28 @@ measured t n m most nodes bytes begun one two e f g h i k =
     (f ∙ ap (λ o. with_cause o (nat_lt node_limit n) (record { kind = Limit Nodes n; token = t })) e)
     ∙ ap (λ x. found (keeps Nodes node_limit t x ∷ keeps Room room_limit t m ∷ [])) h
     ∙ ap (λ x. found (keeps Nodes node_limit t nodes ∷ keeps Room room_limit t x ∷ [])) i
+
+-- of two faults that are no want of memory the lesser is none
+lesser_told : (f g : CheckFault) (x : Bool) → f.kind ≢ NoMemory → g.kind ≢ NoMemory
+    → IfErr (told {A = Unit {0}} (if x then Some g else Some f) (Ok tt)) (λ e. e.kind ≢ NoMemory)
+lesser_told f g true one two = two
+lesser_told f g false one two = one
+
+two_told : (a b : Bool) (f g : CheckFault) → f.kind ≢ NoMemory → g.kind ≢ NoMemory
+    → IfErr (told {A = Unit {0}} (with_cause (with_cause None a f) b g) (Ok tt)) (λ e. e.kind ≢ NoMemory)
+two_told false false f g one two = tt
+two_told false true f g one two = two
+two_told true false f g one two = one
+two_told true true f g one two = lesser_told f g (nat_lt (rank_of_kind g.kind) (rank_of_kind f.kind)) one two
+
+-- what two limits tell is no want of memory
+pub limits_told : (a b : Bool) (n m t : ℕ) (begun one two : Option CheckFault) (r : Result (Unit {0}) CheckFault) → begun ≡ None
+    → one ≡ with_cause begun a (record { kind = Limit Nodes n; token = t })
+    → two ≡ with_cause one b (record { kind = Limit Room m; token = t })
+    → r ≡ told two (Ok tt) → IfErr r (λ e. e.kind ≢ NoMemory)
+limits_told a b n m t begun one two r none f g is =
+    let nodes : CheckFault = record { kind = Limit Nodes n; token = t } in
+    let bytes : CheckFault = record { kind = Limit Room m; token = t } in
+    subst (λ (x : Result (Unit {0}) CheckFault). IfErr x (λ e. e.kind ≢ NoMemory))
+    (sym (is ∙ ap (λ o. told {A = Unit {0}} o (Ok tt)) (g ∙ ap (λ o. with_cause o b bytes) (f ∙ ap (λ o. with_cause o a nodes) none))))
+    (two_told a b nodes bytes (λ e. cc e) (λ e. cc e))

@@ -1,23 +1,26 @@
 //! The limits of a function.
 
-ghost use Rattle.std.specs.Prelude.{◌≡◌, ℕ, IfOk};
+ghost use Rattle.std.specs.Prelude.{◌≡◌, ◌≢◌, ◌<◌, ◌≤◌, ◌-◌, ◌^◌, ℕ, IfOk, IfErr};
 ghost use Rattle.pw_checking.specs.Follows.{Follows};
 ghost use Rattle.pw_checking.specs.StateViews.{view_state};
 ghost use Rattle.pw_rules.specs.Functions as spec;
+ghost use Rattle.pw_rules.specs.States.{records_in};
 ghost use Rattle.pw_tree.specs.Views.{view_word};
 ghost use Rattle.pw_typed.specs.Views as typed;
 ghost use Rattle.pw_types.specs.Caps.{capped};
+ghost use Rattle.pw_types.specs.Rooms.{nodes_of, room_of};
 
 use pw_checking::{Finding, State};
 use pw_tree::Word;
 use pw_typed::{TFunction, room, stmt_nodes};
 use pw_value::limits::{NODE_LIMIT, ROOM_LIMIT};
-use pw_walk::{CheckFault, Which};
+use pw_walk::{CheckFault, CheckKind, Which};
 use std::alloc::AllocError;
 
 /// A count that is told by 64 bits; one that is not is want of memory.
 fn told(count: u64) -> Result<u64, AllocError>
-    ensures { (n : ℕ) → count ≡ capped n → IfOk result (λ m. m ≡ n) }
+    ensures told { (n : ℕ) → count ≡ capped n → IfOk result (λ m. m ≡ n) }
+    ensures beyond { (n : ℕ) → count ≡ capped n → IfErr result (λ none. 2 ^ 64 - 1 ≤ n) }
 {
     if count == u64::MAX {
         return Err(AllocError);
@@ -27,7 +30,9 @@ fn told(count: u64) -> Result<u64, AllocError>
 
 /// The limits of a function, behind its body. What 64 bits cannot count answers want of memory.
 pub fn measured_rule(state: &State<'_>, word: &Word, f: &TFunction) -> Result<(), CheckFault>
-    ensures { Follows (λ u. u) (spec.measured_rule (view_word word.now) (typed.view_function f.now)) (view_state state.now) result }
+    ensures follows { Follows (λ u. u) (spec.measured_rule (view_word word.now) (typed.view_function f.now)) (view_state state.now) result }
+    ensures no_memory { nodes_of (typed.view_function f.now) < 2 ^ 64 - 1 → room_of (records_in (view_state state.now)) (typed.view_function f.now) < 2 ^ 64 - 1
+        → IfErr result (λ fault. fault.kind ≢ CheckKind.NoMemory) }
 {
     let nodes = told(stmt_nodes(&f.body))?;
     let bytes = told(room(state.records(), f))?;

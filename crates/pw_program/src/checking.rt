@@ -40,7 +40,8 @@ fn check_globals(modules: &[Interface]) -> Result<(), LinkFault>
 
 /// The tests of the counts.
 fn check_counts(modules: &[Interface]) -> Result<(), LinkFault>
-    ensures { AnswersUpTo 2 modules.now result }
+    ensures answers { AnswersUpTo 2 modules.now result }
+    ensures no_memory { IfErr result (λ fault. fault ≢ LinkFault.NoMemory) }
 {
     check_functions(modules)?;
     check_globals(modules)

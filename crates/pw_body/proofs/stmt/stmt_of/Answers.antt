@@ -25,15 +25,15 @@ returns-in-If g c =
 
 pub returns-in-Goto : goal.returns-in-Goto
 unfolding stmt_rule view_stmt
-returns-in-Goto g c = same (ap (λ x. stmt_rule (view_stmt x) (view_state c.args.state.now)) c.in-Goto.is) c.goto_rule.ensures
+returns-in-Goto g c = same (ap (λ x. stmt_rule (view_stmt x) (view_state c.args.state.now)) c.in-Goto.is) c.goto_rule.ensures.follows
 
 pub returns-in-Continue : goal.returns-in-Continue
 unfolding stmt_rule view_stmt
-returns-in-Continue g c = same (ap (λ x. stmt_rule (view_stmt x) (view_state c.args.state.now)) c.in-Continue.is) c.continue_rule.ensures
+returns-in-Continue g c = same (ap (λ x. stmt_rule (view_stmt x) (view_state c.args.state.now)) c.in-Continue.is) c.continue_rule.ensures.follows
 
 pub returns-in-Break : goal.returns-in-Break
 unfolding stmt_rule view_stmt
-returns-in-Break g c = same (ap (λ x. stmt_rule (view_stmt x) (view_state c.args.state.now)) c.in-Break.is) c.break_rule.ensures
+returns-in-Break g c = same (ap (λ x. stmt_rule (view_stmt x) (view_state c.args.state.now)) c.in-Break.is) c.break_rule.ensures.follows
 
 pub returns-in-Return : goal.returns-in-Return
 unfolding stmt_rule view_stmt

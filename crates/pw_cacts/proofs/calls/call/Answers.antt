@@ -16,7 +16,7 @@ returns-in_err-take_room-in-Library g c =
     same
     (ap (λ f. meaning.call world (runs.calls world c.args.bound) (callable_of f) c.args.args.now) c.in-Library.is
     ∙ library_is world (runs.calls world c.args.bound) c.in-Library.g c.args.args.now)
-    (then_err _ (subst (λ n. Answers (λ x. tt) world (meaning.take_room world n) s c.take_room.result s) c.library_name.ensures c.take_room.ensures)
+    (then_err _ (subst (λ n. Answers (λ x. tt) world (meaning.take_room world n) s c.take_room.result s) c.library_name.ensures c.take_room.ensures.answers)
     c.in_err-take_room-in-Library.was (search rules))
 
 pub returns-in_ok-take_room-in-Library : goal.returns-in_ok-take_room-in-Library
@@ -26,7 +26,7 @@ returns-in_ok-take_room-in-Library g c =
     same
     (ap (λ f. meaning.call world (runs.calls world c.args.bound) (callable_of f) c.args.args.now) c.in-Library.is
     ∙ library_is world (runs.calls world c.args.bound) c.in-Library.g c.args.args.now)
-    (then_ok _ (subst (λ n. Answers (λ x. tt) world (meaning.take_room world n) s c.take_room.result s) c.library_name.ensures c.take_room.ensures)
+    (then_ok _ (subst (λ n. Answers (λ x. tt) world (meaning.take_room world n) s c.take_room.result s) c.library_name.ensures c.take_room.ensures.answers)
     c.in_ok-take_room-in-Library.was c.library_call.ensures)
 
 pub returns-in-Defined : goal.returns-in-Defined

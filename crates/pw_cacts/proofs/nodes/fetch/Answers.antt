@@ -3,10 +3,13 @@ use Rattle.pw_types.specs.Views.{view_type}
 use Rattle.pw_coperators.specs.Categories.{category_of}
 use Rattle.pw_coperators.specs.Accesses.{fetched}
 use Rattle.pw_coperators.proofs.AccessLaws.{fetch_is}
-use Rattle.pw_cacts.proofs.NodeLaws.{node_answers}
+use Rattle.pw_cacts.proofs.NodeLaws.{known, node_answers}
 use Rattle.pw_cmean.specs.Evaluation.{site}
 use Rattle.pw_ccalls.specs.Views.{view_env}
 use Rattle.pw_cacts.proofs.nodes.fetch.Goals as goal
 
-pub returns : goal.returns
-returns c = node_answers (site (view_env c.args.env.now) c.args.token) c.fetch-answer.result (λ o. fetched o (category_of (view_type c.args.ty.now)) c.args.place) c.settle.ensures (c.fetch-answer.ensures ∙ ap (λ k. fetched c.args.state.now.objects k c.args.place) c.categorise.ensures) (fetch_is _ _ _)
+pub returns-clause-answers : goal.returns-clause-answers
+returns-clause-answers c = node_answers (site (view_env c.args.env.now) c.args.token) c.fetch-answer.result (λ o. fetched o (category_of (view_type c.args.ty.now)) c.args.place) c.settle.ensures (c.fetch-answer.ensures ∙ ap (λ k. fetched c.args.state.now.objects k c.args.place) c.categorise.ensures) (fetch_is _ _ _)
+
+pub returns-clause-no_memory : goal.returns-clause-no_memory
+returns-clause-no_memory c = known c.settle.result c.settle.ensures

@@ -1,9 +1,12 @@
 use Rattle.pw_coperators.specs.Operations.{truth_of}
 use Rattle.pw_coperators.proofs.OperatorLaws.{truth_is}
-use Rattle.pw_cacts.proofs.NodeLaws.{node_answers}
+use Rattle.pw_cacts.proofs.NodeLaws.{known, node_answers}
 use Rattle.pw_cmean.specs.Evaluation.{site}
 use Rattle.pw_ccalls.specs.Views.{view_env}
 use Rattle.pw_cacts.proofs.nodes.truth.Goals as goal
 
-pub returns : goal.returns
-returns c = node_answers (site (view_env c.args.env.now) c.args.token) c.truth.result (λ o. truth_of o c.args.v) c.settle.ensures (c.truth.ensures) (truth_is _ _)
+pub returns-clause-answers : goal.returns-clause-answers
+returns-clause-answers c = node_answers (site (view_env c.args.env.now) c.args.token) c.truth.result (λ o. truth_of o c.args.v) c.settle.ensures (c.truth.ensures) (truth_is _ _)
+
+pub returns-clause-no_memory : goal.returns-clause-no_memory
+returns-clause-no_memory c = known c.settle.result c.settle.ensures

@@ -1,8 +1,11 @@
 use Rattle.pw_cacts.specs.Results.{present}
-use Rattle.pw_cacts.proofs.NodeLaws.{node_answers, used_is}
+use Rattle.pw_cacts.proofs.NodeLaws.{known, node_answers, used_is}
 use Rattle.pw_cmean.specs.Evaluation.{site}
 use Rattle.pw_ccalls.specs.Views.{view_env}
 use Rattle.pw_cacts.proofs.results.used.Goals as goal
 
-pub returns : goal.returns
-returns c = λ s. node_answers (site (view_env c.args.env.now) c.args.token) c.present.result (λ o. present c.args.answer) c.settle.ensures (c.present.ensures) (used_is _ _)
+pub returns-clause-answers : goal.returns-clause-answers
+returns-clause-answers c = λ s. node_answers (site (view_env c.args.env.now) c.args.token) c.present.result (λ o. present c.args.answer) c.settle.ensures (c.present.ensures) (used_is _ _)
+
+pub returns-clause-no_memory : goal.returns-clause-no_memory
+returns-clause-no_memory c = known c.settle.result c.settle.ensures

@@ -3,13 +3,13 @@ use Rattle.pw_cmean.specs.Evaluation.{old_value}
 use Rattle.pw_ccalls.proofs.AnswerLaws.{then_ok, then_err}
 use Rattle.pw_cacts.proofs.updates.old_value.Goals as goal
 
-pub returns-in_err-old : goal.returns-in_err-old
+pub returns-in_err-old-clause-answers : goal.returns-in_err-old-clause-answers
 unfolding old_value
-returns-in_err-old c =
-    then_err _ c.load.ensures c.in_err-old.was (search rules)
+returns-in_err-old-clause-answers c =
+    then_err _ c.load.ensures.answers c.in_err-old.was (search rules)
 
-pub returns : goal.returns
+pub returns-clause-answers : goal.returns-clause-answers
 unfolding old_value
-returns c =
-    then_ok _ c.load.ensures c.in_ok-old.was
-    (c.convert.ensures _)
+returns-clause-answers c =
+    then_ok _ c.load.ensures.answers c.in_ok-old.was
+    (c.convert.ensures.answers _)

@@ -3,4 +3,4 @@ use Rattle.pw_cforms.proofs.names.own_place.Goals as goal
 
 pub returns : goal.returns
 unfolding answer_of
-returns c bound token ty s = c.local_place.ensures s
+returns c bound token ty s = c.local_place.ensures.answers s

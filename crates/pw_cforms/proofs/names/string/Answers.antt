@@ -10,4 +10,4 @@ returns-in_err-place c bound = then_err _ (c.string_place.ensures bound c.args.t
 
 pub returns : goal.returns
 unfolding answer_of
-returns c bound = then_ok _ (c.string_place.ensures bound c.args.token (view_qtype c.args.ty.now) _) c.in_ok-place.was c.value_at.ensures
+returns c bound = then_ok _ (c.string_place.ensures bound c.args.token (view_qtype c.args.ty.now) _) c.in_ok-place.was c.value_at.ensures.answers

@@ -9,4 +9,4 @@ returns-in_err-value g c =
 pub returns : goal.returns
 returns g c =
     then_ok _ c.operand.ensures c.in_ok-value.was
-    (c.truth.ensures)
+    (c.truth.ensures.answers)

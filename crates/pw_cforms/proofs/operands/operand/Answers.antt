@@ -9,4 +9,4 @@ returns-in_err-answer g c =
 pub returns : goal.returns
 returns g c =
     then_ok _ c.answer_of.ensures c.in_ok-answer.was
-    (c.used.ensures _)
+    (c.used.ensures.answers _)

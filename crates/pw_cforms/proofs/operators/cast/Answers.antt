@@ -12,4 +12,4 @@ pub returns : goal.returns
 unfolding answer_of
 returns g c =
     then_ok _ c.answer_of.ensures c.in_ok-answer.was
-    (c.cast.ensures _)
+    (c.cast.ensures.answers _)

@@ -13,11 +13,11 @@ pub returns-in_err-result : goal.returns-in_err-result
 unfolding answer_of
 returns-in_err-result g c =
     then_ok _ c.operand.ensures c.in_ok-value.was
-    (then_err _ c.unary.ensures c.in_err-result.was (search rules))
+    (then_err _ c.unary.ensures.answers c.in_err-result.was (search rules))
 
 pub returns : goal.returns
 unfolding answer_of
 returns g c =
     then_ok _ c.operand.ensures c.in_ok-value.was
-    (then_ok _ c.unary.ensures c.in_ok-result.was
+    (then_ok _ c.unary.ensures.answers c.in_ok-result.was
     (gives (Some c.in_ok-result.result)))

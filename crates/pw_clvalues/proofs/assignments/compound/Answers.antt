@@ -13,20 +13,20 @@ pub returns-in_err-old : goal.returns-in_err-old
 unfolding answer_of
 returns-in_err-old g c =
     then_ok _ c.place_of.ensures c.in_ok-place.was
-    (then_err _ c.old_value.ensures c.in_err-old.was (search rules))
+    (then_err _ c.old_value.ensures.answers c.in_err-old.was (search rules))
 
 pub returns-in_err-right : goal.returns-in_err-right
 unfolding answer_of
 returns-in_err-right g c =
     then_ok _ c.place_of.ensures c.in_ok-place.was
-    (then_ok _ c.old_value.ensures c.in_ok-old.was
+    (then_ok _ c.old_value.ensures.answers c.in_ok-old.was
     (then_err _ c.operand.ensures c.in_err-right.was (search rules)))
 
 pub returns-in_err-result : goal.returns-in_err-result
 unfolding answer_of
 returns-in_err-result g c =
     then_ok _ c.place_of.ensures c.in_ok-place.was
-    (then_ok _ c.old_value.ensures c.in_ok-old.was
+    (then_ok _ c.old_value.ensures.answers c.in_ok-old.was
     (then_ok _ c.operand.ensures c.in_ok-right.was
     (then_err _ c.update.ensures c.in_err-result.was (search rules))))
 
@@ -34,7 +34,7 @@ pub returns : goal.returns
 unfolding answer_of
 returns g c =
     then_ok _ c.place_of.ensures c.in_ok-place.was
-    (then_ok _ c.old_value.ensures c.in_ok-old.was
+    (then_ok _ c.old_value.ensures.answers c.in_ok-old.was
     (then_ok _ c.operand.ensures c.in_ok-right.was
     (then_ok _ c.update.ensures c.in_ok-result.was
     (gives (Some c.in_ok-result.result)))))

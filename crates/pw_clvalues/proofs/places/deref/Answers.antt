@@ -12,4 +12,4 @@ pub returns : goal.returns
 unfolding answer_of
 returns g c =
     then_ok _ c.operand.ensures c.in_ok-place.was
-    (c.value_at.ensures)
+    (c.value_at.ensures.answers)

@@ -12,4 +12,4 @@ pub returns : goal.returns
 unfolding answer_of
 returns g c =
     then_ok _ c.place_of.ensures c.in_ok-place.was
-    (c.advance.ensures)
+    (c.advance.ensures.answers)

@@ -12,10 +12,10 @@ pub returns-in_err-place : goal.returns-in_err-place
 unfolding by_bytes
 returns-in_err-place c =
     then_ok _ (c.symbol_place.ensures (view_state c.args.state.now)) c.in_ok-source.was
-    (then_err _ (c.local_place.ensures (view_state c.args.state.now)) c.in_err-place.was (search rules))
+    (then_err _ (c.local_place.ensures.answers (view_state c.args.state.now)) c.in_err-place.was (search rules))
 
 pub returns : goal.returns
 unfolding by_bytes
 returns c =
     then_ok _ (c.symbol_place.ensures (view_state c.args.state.now)) c.in_ok-source.was
-    (then_ok _ (c.local_place.ensures (view_state c.args.state.now)) c.in_ok-place.was c.copy_all.ensures)
+    (then_ok _ (c.local_place.ensures.answers (view_state c.args.state.now)) c.in_ok-place.was c.copy_all.ensures)

@@ -26,7 +26,7 @@ returns-in_err-place-in-Some c =
     let there = slice_get_read all (length all) k d refl (ltb-true k (length all) (sym c.in-Some.ensures.lookup.0)) c.in-Some.ensures.lookup.1 in
     local_some e.world (site e c.args.token) k c.args.value e (view_state c.args.state.now) (view_local d) _ _
     (slice_get-map view_local all k ∙ ap (option_map view_local) there)
-    (then_err _ (c.local_place.ensures (view_state c.args.state.now)) c.in_err-place-in-Some.was (search rules))
+    (then_err _ (c.local_place.ensures.answers (view_state c.args.state.now)) c.in_err-place-in-Some.was (search rules))
 
 pub returns-in_ok-place-in-Some : goal.returns-in_ok-place-in-Some
 returns-in_ok-place-in-Some c =
@@ -37,4 +37,4 @@ returns-in_ok-place-in-Some c =
     let there = slice_get_read all (length all) k d refl (ltb-true k (length all) (sym c.in-Some.ensures.lookup.0)) c.in-Some.ensures.lookup.1 in
     local_some e.world (site e c.args.token) k c.args.value e (view_state c.args.state.now) (view_local d) _ _
     (slice_get-map view_local all k ∙ ap (option_map view_local) there)
-    (then_ok _ (c.local_place.ensures (view_state c.args.state.now)) c.in_ok-place-in-Some.was c.put.ensures)
+    (then_ok _ (c.local_place.ensures.answers (view_state c.args.state.now)) c.in_ok-place-in-Some.was c.put.ensures)

@@ -9,4 +9,4 @@ returns-in_err-value g c = then_err _ c.value_of.ensures c.in_err-value.was (sea
 
 pub returns : goal.returns
 unfolding condition
-returns g c = then_ok _ c.value_of.ensures c.in_ok-value.was c.truth.ensures
+returns g c = then_ok _ c.value_of.ensures c.in_ok-value.was c.truth.ensures.answers

@@ -10,4 +10,4 @@ returns-in_err-answer g c = then_err _ c.answer_of.ensures c.in_err-answer.was (
 
 pub returns : goal.returns
 unfolding value_of
-returns g c = then_ok _ c.answer_of.ensures c.in_ok-answer.was (c.used.ensures (view_state c.answer_of.new.state))
+returns g c = then_ok _ c.answer_of.ensures c.in_ok-answer.was (c.used.ensures.answers (view_state c.answer_of.new.state))

@@ -5,7 +5,7 @@ use Rattle.pw_program.proofs.checking.check_program.Goals as goal
 pub returns-in_err-check_counts-clause-refused : goal.returns-in_err-check_counts-clause-refused
 returns-in_err-check_counts-clause-refused c =
     let p = err_from_is_err_and c.from_residual.result c.from_residual.ensures.1 in
-    rw (p.1, p.2) c.in_err-check_counts.ensures
+    rw (p.1, p.2) c.in_err-check_counts.ensures.answers
 
 pub returns-in_err-check_names-clause-refused : goal.returns-in_err-check_names-clause-refused
 returns-in_err-check_names-clause-refused c =
@@ -19,4 +19,4 @@ pub returns-clause-links : goal.returns-clause-links
 returns-clause-links c = last_links c.args.modules.now c.check_main.result c.in_ok-check_names.ensures c.check_main.ensures.answers
 
 pub check_names-requires-clause-counts : goal.check_names-requires-clause-counts
-check_names-requires-clause-counts c = c.in_ok-check_counts.ensures
+check_names-requires-clause-counts c = c.in_ok-check_counts.ensures.answers
