@@ -1,5 +1,5 @@
 -- What checking answers of a module whose constraints are met, and of one of which one is not.
-use Rattle.std.specs.Prelude.{◌⊎◌, ◌≢◌, IfErr}
+use Rattle.std.specs.Prelude.{◌⊎◌, ◌≢◌, IfOk, IfErr}
 use Rattle.std.proofs.Common.{◌≡◌, ℕ, ◌+◌, ◌<◌, ◌≤◌, Option, None, Some, Result, Ok, Err, List, [], ◌∷◌, length, map, not, ◌&&◌, true, false, get_or, drop, refl, ap, sym, subst, ◌∙◌}
 use Rattle.std.proofs.lemmas.List.{at_drop_more, at_drop_all}
 use mathlib.Core.Logic.{inl, inr}
@@ -14,9 +14,10 @@ use Rattle.pw_types.specs.TypedTrees.{ModuleValue}
 use Rattle.pw_walk.specs.declared.fault.CheckFault.{CheckFault}
 use Rattle.pw_walk.specs.declared.fault.CheckKind.TheVariants.{NoMemory}
 use Rattle.pw_walk.specs.Calls.{Obeys}
-use Rattle.pw_walk.specs.Walks.{Walk, Done, bind, outcome, asks}
+use Rattle.pw_walk.specs.Walks.{Walk, Done, Passing, bind, outcome, asks}
 use Rattle.pw_walk.proofs.BindLaws.{bind_made, bind_stopped}
 use Rattle.pw_walk.proofs.CallLaws.{bind_assoc}
+use Rattle.pw_walk.proofs.KindLaws.{never_memory}
 use Rattle.pw_walk.proofs.WalkLaws.{one_answer}
 use Rattle.pw_rules.specs.Checks.{Checks, checking}
 use Rattle.pw_rules.specs.Modules.{end_cause, end_rule, end_spot, external_rule, externals_rule, final_type, module_in, module_rule}
@@ -24,7 +25,7 @@ use Rattle.pw_rules.specs.States as states
 use Rattle.pw_rules.specs.Limits.{completed}
 use Rattle.pw_rules.specs.States.{State, records_in, start}
 use Rattle.pw_types.specs.TypeTrees.{type_of}
-use Rattle.pw_walk.specs.Causes.{CompleteAtEnd}
+use Rattle.pw_walk.specs.Causes.{CompleteAtEnd, Point}
 use Rattle.pw_check.specs.Parts.{met_rule}
 
 -- the rule of modules is that of the constraints, and then what is made
@@ -110,6 +111,21 @@ end_told {r} {ended} {fault} {here} all walk s n l before less is seen end was s
     subst (λ x. Obeys (λ (u : Unit {0}). u) walk x s) (sym same)
     (record { made = tt; told = inr (end_stopped all (outcome walk) s n l fault before less is (sym seen ∙ end_err here fault (sym end ∙ was))) })
 
+-- the fault of a point is that of a constraint, and no want of memory
+abbrev point_alone : Point → Walk (Unit {0})
+point_alone p = Passing p (Done tt)
+
+point_outcome : (p : Point) → outcome (point_alone p) ≡ told (found p) (Ok tt)
+unfolding outcome
+point_outcome p = stopped_by_found p (Ok tt)
+
+pub no_want : {r ended : Result (Unit {0}) CheckFault} {fault : CheckFault} {here : Option CheckFault} (p : Point)
+    → here ≡ found p → ended ≡ told here (Ok tt) → ended ≡ Err fault → r ≡ Err fault → IfErr r (λ f. f.kind ≢ NoMemory)
+no_want {r} {ended} {fault} {here} p seen end was same =
+    let told_there : outcome (point_alone p) ≡ Err fault = point_outcome p ∙ ap (λ o. told o (Ok tt)) (sym seen) ∙ sym end ∙ was in
+    subst (λ (x : Result (Unit {0}) CheckFault). IfErr x (λ f. f.kind ≢ NoMemory)) (sym same)
+    (never_memory (point_alone p) fault ((one_answer (point_alone p) (Err fault)).1 (sym told_there)))
+
 -- ---- what code answers that begins at the start
 
 pub typed_by : (m : Module) (first s : State) (u : Unit {0}) (made : ModuleValue) → first ≡ start → outcome (met_rule m first) ≡ Ok (u, s)
@@ -122,9 +138,21 @@ pub refused_by : (m : Module) (first : State) (fault : CheckFault) → first ≡
 refused_by m first fault e (inl none) not = absurd (not none)
 refused_by m first fault e (inr h) not = told_of m fault (ap (λ x. outcome (met_rule m x)) (sym e) ∙ h)
 
-pub refused_after : {R : Type 0} {r : Result R CheckFault} {ended : Result (Unit {0}) CheckFault} {fault : CheckFault} {left : State}
-    (m : Module) (first : State) → first ≡ start → Obeys (λ (u : Unit {0}). u) (met_rule m first) ended left → ended ≡ Err fault → r ≡ Err fault
+-- what is answered behind the constraints, by what they answered
+pub typed_behind : {R : Type 0} (view : R → ModuleValue) (m : Module) (first left : State) (met : Result (Unit {0}) CheckFault) (r : Result R CheckFault)
+    → first ≡ start → Obeys (λ (u : Unit {0}). u) (met_rule m first) met left
+    → IfOk met (λ _. IfOk r (λ made. view made ≡ module_in left)) → IfErr met (λ fault. r ≡ Err fault)
+    → IfOk r (λ made. Checks m (Ok (view made)))
+typed_behind view m first left (Ok u) (Ok made) e o is other = typed_by m first left u (view made) e o.made is
+typed_behind view m first left (Ok u) (Err fault) e o is other = tt
+typed_behind {R} view m first left (Err fault) r e o is other =
+    subst (λ (x : Result R CheckFault). IfOk x (λ made. Checks m (Ok (view made)))) (sym other) tt
+
+pub refused_behind : {R : Type 0} (m : Module) (first left : State) (met : Result (Unit {0}) CheckFault) (r : Result R CheckFault)
+    → first ≡ start → Obeys (λ (u : Unit {0}). u) (met_rule m first) met left
+    → IfOk met (λ _. IfErr r (λ fault. fault.kind ≡ NoMemory)) → IfErr met (λ fault. r ≡ Err fault)
     → IfErr r (λ f. f.kind ≢ NoMemory → Checks m (Err f))
-refused_after {R} {r} {ended} {fault} {left} m first e o was same =
-    subst (λ (x : Result R CheckFault). IfErr x (λ f. f.kind ≢ NoMemory → Checks m (Err f))) (sym same)
-    (refused_by m first fault e (subst (λ x. Obeys (λ (u : Unit {0}). u) (met_rule m first) x left) was o).told)
+refused_behind m first left (Ok u) (Ok made) e o none other = tt
+refused_behind m first left (Ok u) (Err fault) e o none other = λ not. absurd (not none)
+refused_behind {R} m first left (Err fault) r e o none other =
+    subst (λ (x : Result R CheckFault). IfErr x (λ f. f.kind ≢ NoMemory → Checks m (Err f))) (sym other) (refused_by m first fault e o.told)

@@ -81,7 +81,8 @@ fn end_cause(state: &State<'_>, linked: &LinkedName<'_>) -> Finding
 
 /// What is asked at the end of the module of each name with linkage, in the order of first declarations.
 fn end_rule(state: &State<'_>, linked: &[LinkedName<'_>]) -> Result<(), CheckFault>
-    ensures { Follows (λ u. u) (spec.end_rule (map view_linked linked.now)) (view_state state.now) result }
+    ensures follows { Follows (λ u. u) (spec.end_rule (map view_linked linked.now)) (view_state state.now) result }
+    ensures no_memory { IfErr result (λ fault. fault.kind ≢ NoMemory) }
 {
     for next in linked {
         end_cause(state, next).end()?;
@@ -97,14 +98,28 @@ fn met_rule<'a>(alloc: Global, state: &mut State<'a>, tree: &'a Module) -> Resul
     end_rule(state, state.linked())
 }
 
+/// What a module is, where its constraints are met; and else the fault that was told.
+fn behind(
+    alloc: Global,
+    met: Result<(), CheckFault>,
+    state: State<'_>,
+) -> Result<TModule, CheckFault>
+    ensures made { IfOk met (λ _. IfOk result (λ made. typed.view_module made ≡ spec.module_in (view_state state.entry))) }
+    ensures memory { IfOk met (λ _. IfErr result (λ fault. fault.kind ≡ NoMemory)) }
+    ensures told { IfErr met (λ fault. result ≡ Err fault) }
+{
+    met?;
+    Ok(module_in(alloc, state)?)
+}
+
 /// The answer of the rules, or want of memory.
 fn answer_of(alloc: Global, tree: &Module) -> Result<TModule, CheckFault>
     ensures typed { IfOk result (λ made. Checks (view_module tree.now) (Ok (typed.view_module made))) }
     ensures refused { IfErr result (λ fault. fault.kind ≢ NoMemory → Checks (view_module tree.now) (Err fault)) }
 {
     let mut state = State::new(alloc);
-    met_rule(alloc, &mut state, tree)?;
-    Ok(module_in(alloc, state)?)
+    let met = met_rule(alloc, &mut state, tree);
+    behind(alloc, met, state)
 }
 
 /// Checks a module: the answer is its typed tree where every constraint is met, or the fault of least rank at the first

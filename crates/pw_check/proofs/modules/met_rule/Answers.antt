@@ -13,4 +13,4 @@ pub returns : goal.returns
 unfolding met_rule
 returns c =
     regroup _ _ _
-    (step_ok _ (rw c.deref.ensures.value at c.externals_rule.ensures) c.in_ok-externals_rule.was (from _ c.linked.ensures refl c.end_rule.ensures))
+    (step_ok _ (rw c.deref.ensures.value at c.externals_rule.ensures) c.in_ok-externals_rule.was (from _ c.linked.ensures refl c.end_rule.ensures.follows))
