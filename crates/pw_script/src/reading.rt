@@ -3,7 +3,7 @@
 ghost use Rattle.std.specs.Prelude.{◌≡◌, ◌+◌, ◌<◌, ◌≤◌, ◌++◌, ◌∷◌, [], IfErr, IfOk, IfSome, OnOk, length, string_bytes, true};
 ghost use Rattle.pw_modules.specs.Modules.{is_module_file};
 ghost use Rattle.pw_script.specs.Reading.{EndsHead, IsReadInPart, ReadsBehind, ReadsCommand, ReadsContent, ReadsHead, ReadsLine, ReadsTaken, ScriptCount, command_view, line_view};
-ghost use Rattle.pw_script.specs.Script.{IsLawfulCommand, NamesModule, PutFile, RunWith, line_limit, taken_limit};
+ghost use Rattle.pw_script.specs.Script.{IsLawfulCommand, NamesModule, PutFile, RunWith, command_of, line_limit, taken_limit};
 
 use crate::command::{Command, command_of, content_length};
 use crate::limits::LINE_LIMIT;
@@ -158,6 +158,7 @@ fn line_behind<I: Source>(
 ) -> Result<TakenLine, ScriptFault>
     requires { length head.now < line_limit }
     ensures line { IfSome (I.rest input.old) (λ rest. ReadsBehind head.now rest (I.rest input.new) result) }
+    ensures no_command { command_of head.now ≡ None → result ≡ Err ScriptFault.BadLine }
     ensures short { IfOk result (λ taken. taken.length ≤ taken_limit) }
     ensures named { IfOk result (λ taken. NamesModule (line_view taken.line)) }
     ensures part { IfSome (I.rest input.old) (λ rest. IsReadInPart rest (I.rest input.new)) }
