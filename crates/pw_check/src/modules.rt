@@ -98,6 +98,14 @@ fn met_rule<'a>(alloc: Global, state: &mut State<'a>, tree: &'a Module) -> Resul
     end_rule(state, state.linked())
 }
 
+/// What a module is, whose constraints are met; or want of memory.
+fn made_of(alloc: Global, state: State<'_>) -> Result<TModule, CheckFault>
+    ensures made { IfOk result (λ made. typed.view_module made ≡ spec.module_in (view_state state.entry)) }
+    ensures memory { IfErr result (λ fault. fault.kind ≡ NoMemory) }
+{
+    Ok(module_in(alloc, state)?)
+}
+
 /// What a module is, where its constraints are met; and else the fault that was told.
 fn behind(
     alloc: Global,
@@ -108,8 +116,10 @@ fn behind(
     ensures memory { IfOk met (λ _. IfErr result (λ fault. fault.kind ≡ NoMemory)) }
     ensures told { IfErr met (λ fault. result ≡ Err fault) }
 {
-    met?;
-    Ok(module_in(alloc, state)?)
+    match met {
+        Ok(()) => made_of(alloc, state),
+        Err(fault) => Err(fault),
+    }
 }
 
 /// The answer of the rules, or want of memory.
