@@ -5,6 +5,7 @@ ghost use Rattle.pw_value.specs.Limits.{room_limit};
 ghost use Rattle.pw_value.specs.Fields.{u32_at, checked, items_at, repeated};
 ghost use Rattle.pw_value.specs.FieldFaults.{Gives};
 ghost use Rattle.pw_value.specs.FieldNames.{IsRisingFrom};
+ghost use Rattle.pw_flow.specs.ValidFlow.{slot_room};
 ghost use Rattle.pw_flowfile.specs.Reading.{block_at, slot_at, next_room, code_at, function_body_at, function_at, next_function, seen_after};
 ghost use Rattle.pw_flowfile.specs.Marks.{Marks};
 
@@ -58,6 +59,13 @@ fn read_blocks<'a>(
     Ok((blocks, rest))
 }
 
+/// What a slot of this size takes: a byte more, up to a multiple of 8.
+fn room_of_slot(size: u32) -> u64
+    ensures { result ≡ slot_room size }
+{
+    (u64::from(size) + 1 + 7) / 8 * 8
+}
+
 /// A slot's size, behind temporaries and slots of so many bytes.
 #[tactic(auto, unfolding(crate::specs::Reading::slot_at))]
 fn read_slot(room: u64, bytes: &[u8]) -> Result<(u32, &[u8]), FieldError>
@@ -66,7 +74,7 @@ fn read_slot(room: u64, bytes: &[u8]) -> Result<(u32, &[u8]), FieldError>
     ensures no_memory { IfErr result (λ e. e ≢ FieldError.NoMemory) }
 {
     let (size, rest) = read_u32(bytes)?;
-    let more = (u64::from(size) + 8) / 8 * 8;
+    let more = room_of_slot(size);
     if room <= MOST_ROOM && more <= MOST_ROOM - room {
         Ok((size, rest))
     } else {
@@ -88,7 +96,7 @@ fn read_slots(
     let mut used = room;
     for _ in 0..count {
         let (slot, after) = read_slot(used, rest)?;
-        used += (u64::from(slot) + 8) / 8 * 8;
+        used += room_of_slot(slot);
         slots.push(slot)?;
         rest = after;
     }

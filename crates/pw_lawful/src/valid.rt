@@ -161,7 +161,7 @@ fn has_room(temps: u32, slots: &[u32]) -> bool
         if room > u64::from(ROOM_LIMIT) {
             return false;
         }
-        room += (u64::from(*size) + 8) / 8 * 8;
+        room += (u64::from(*size) + 1 + 7) / 8 * 8;
     }
     room <= u64::from(ROOM_LIMIT)
 }

@@ -22,7 +22,7 @@ pub(crate) struct Standing<'a> {
 fn taken(global: &FlowGlobal) -> u64
     ensures { result ≡ taken global.now }
 {
-    (global.size as u64 + 8) / 8 * 8
+    (global.size as u64 + 1 + 7) / 8 * 8
 }
 
 /// Adds the objects of a module.
