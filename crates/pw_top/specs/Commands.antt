@@ -1,5 +1,5 @@
 -- Kinds of commands, and what each leaves alone.
-use Rattle.std.specs.Prelude.{◌≡◌, ℕ, List, [], ◌∷◌, codes, Option, Some, None, IfSome, IsSomeAnd}
+use Rattle.std.specs.Prelude.{◌≡◌, ℕ, Bool, true, false, List, [], ◌∷◌, codes, Option, Some, None, IfSome, IsSomeAnd}
 use Rattle.pw_io.specs.Files.{Files, Told}
 use Rattle.pw_answer.specs.declared.answer.Answer.{Answer}
 use Rattle.pw_answer.specs.declared.answer.Answer.TheVariants.{Done, Usage}
@@ -21,11 +21,34 @@ use Rattle.pw_top.specs.Rest.{LeavesRest}
 use Rattle.pw_compiling.specs.First.{phase_line, phase_one_puts}
 use Rattle.pw_compiling.specs.Second.{phase_two_puts}
 use Rattle.pw_words.specs.declared.commands.Command.{Command}
-use Rattle.pw_words.specs.declared.commands.Command.TheVariants.{Go, Build, Session, PhaseOne, Analyse, PhaseTwo, Link, Bench}
+use Rattle.pw_words.specs.declared.commands.Command.TheVariants.{Go, Build, Session, PhaseOne, Analyse, PhaseTwo, Link, Run, List as ListImage, Db, Bench}
 
 -- how a session and `bench` build, and for how many instructions they run a program at most
 abbrev pub opts_of : ℕ → ℕ → ℕ → SessionOpts
 opts_of colours stack steps = record { build = record { colours = colours; stack = stack }; budget = steps }
+
+-- the command is a phase of separate compiling, the analysis or the link
+abbrev pub is_phase : Command → Bool
+is_phase (PhaseOne name) = true
+is_phase (Analyse colours) = true
+is_phase (PhaseTwo name) = true
+is_phase (Link stack) = true
+is_phase _ = false
+
+-- the command reads what was linked or analysed
+abbrev pub is_reader : Command → Bool
+is_reader (Run steps) = true
+is_reader ListImage = true
+is_reader Db = true
+is_reader _ = false
+
+-- the command builds whole programs
+abbrev pub is_builder : Command → Bool
+is_builder (Go colours stack steps) = true
+is_builder (Build colours stack) = true
+is_builder (Session colours stack steps) = true
+is_builder (Bench number colours stack steps) = true
+is_builder _ = false
 
 -- the command is `go`
 abbrev pub IsGo : Option Command → Type 0

@@ -1,3 +1,4 @@
 pub mod Commands
 pub mod Does
+pub mod Obeying
 pub mod Rest

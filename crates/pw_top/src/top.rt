@@ -1,17 +1,17 @@
 //! The top call: obeys the words, and tells its answer in one line.
 
-ghost use Rattle.std.specs.Prelude.{◌≡◌, ◌⊎◌, ℕ, IfSome, None, Some, map, string_bytes};
+ghost use Rattle.std.specs.Prelude.{◌≡◌, ◌⊎◌, ℕ, IfSome, List, None, Option, Some, map, string_bytes, true};
 ghost use Rattle.pw_io.specs.Files.{Keeps};
 ghost use Rattle.pw_answer.specs.Answers.{line_text};
 ghost use Rattle.pw_answer.specs.Outcomes.{InputCount, LeavesStreams, OutputCount, StoreCount, Tells, TellsSome};
 ghost use Rattle.pw_run_laws.specs.FromGo.FullBuild.{full_build};
-ghost use Rattle.pw_run_laws.specs.FromGo.Going.{AnswersBuild, BuiltAgrees, IsNoUsage, ReturnsSum};
+ghost use Rattle.pw_run_laws.specs.FromGo.Going.{AnswersBuild, BuiltAgrees, ReturnsSum};
 ghost use Rattle.pw_run_laws.specs.FromGo.Refusals.{HoldsNoWantOfMemory, NoMainComes, NoMainIs, RefusalComes, RefusalIs};
 ghost use Rattle.pw_modules.specs.Modules.{modules_of};
-ghost use Rattle.pw_compiling.specs.First.{IsLine};
 ghost use Rattle.pw_session_laws.specs.FromBuilding.Genuine.{KeepsGenuine};
-ghost use Rattle.pw_top.specs.Commands.{BuildsWhole, EndsScript, IsGo, IsNoSession, IsUsageDue, KeepsTheRest, OnlyReads, line_of, opts_of};
+ghost use Rattle.pw_top.specs.Commands.{BuildsWhole, EndsScript, IsGo, IsNoSession, IsUsageDue, KeepsTheRest, OnlyReads, is_builder, is_phase, is_reader, line_of, opts_of};
 ghost use Rattle.pw_top.specs.Does.{DoesAs};
+ghost use Rattle.pw_top.specs.Obeying.{CarriesOut, outside_of};
 ghost use Rattle.pw_words.specs.CommandLine.{command_of};
 ghost use Rattle.pw_words.specs.Limits.{IsWithin};
 
@@ -41,30 +41,74 @@ fn opts_of(colours: u8, stack: u32, steps: u64) -> SessionOpts
     }
 }
 
-/// Obeys a command.
-fn obey<S: Store, I: Source, O: Sink>(
+/// Obeys a command that is one phase of separate compiling, the analysis or the link: it touches the store alone.
+fn obey_phase<S: Store>(alloc: Global, command: &Command, store: &mut S) -> Reply
+    requires within { IsWithin command.now }
+    requires phase { is_phase command.now ≡ true }
+    ensures usage { IsUsageDue (Some command.now) result.answer }
+    ensures obeys { (rest taken : Option (List ℕ)) (input output : ℕ) → CarriesOut (Some command.now) result.answer result.line (outside_of (S.told store.old) rest taken (S.faults store.old) input output) (outside_of (S.told store.new) rest taken (S.faults store.new) input output) }
+{
+    genuine_files_keep_genuine();
+    match command {
+        Command::PhaseOne(name) => compile_text(alloc, store, name),
+        Command::Analyse { colours } => Reply {
+            answer: analyse_modules(alloc, store, *colours),
+            line: 1,
+        },
+        Command::PhaseTwo(name) => Reply {
+            answer: compile_flow(alloc, store, name),
+            line: 1,
+        },
+        Command::Link { stack } => Reply {
+            answer: link_modules(alloc, store, *stack),
+            line: 1,
+        },
+        _ => unreachable!(),
+    }
+}
+
+/// Obeys a command that reads what was linked or analysed: it runs it, or prints it.
+fn obey_reader<S: Store, I: Source, O: Sink>(
     alloc: Global,
     command: &Command,
     store: &mut S,
     input: &mut I,
     out: &mut O,
 ) -> Reply
-    requires { IsWithin command.now }
-    ensures does { IfSome (S.told store.old) (λ told. IfSome (I.rest input.old) (λ rest. DoesAs (Some command.now) result.answer told (S.told store.new) rest (I.rest input.new) (O.taken out.old) (O.taken out.new))) }
+    requires { is_reader command.now ≡ true }
     ensures usage { IsUsageDue (Some command.now) result.answer }
-    ensures ends { EndsScript (Some command.now) (I.rest input.old) result.answer }
-    ensures refusal { IfSome (S.told store.old) (λ told. IsGo (Some command.now) → AnswersBuild (full_build told.files) result.answer) }
-    ensures proper { HoldsNoWantOfMemory result.answer }
-    ensures others { KeepsTheRest (Some command.now) (I.rest input.old) result.answer (S.told store.old) (S.told store.new) }
-    ensures genuine { IfSome (S.told store.old) (λ told. KeepsGenuine told.files → IfSome (S.told store.new) (λ now. KeepsGenuine now.files)) }
-    ensures reads { OnlyReads (Some command.now) → Keeps (S.told store.old) (S.told store.new) }
-    ensures store { StoreCount (S.faults store.old) (S.faults store.new) result.answer }
-    ensures read { InputCount (I.faults input.old) (I.faults input.new) result.answer }
-    ensures write { OutputCount (O.faults out.old) (O.faults out.new) result.answer }
-    ensures streams { IsNoSession (Some command.now) → LeavesStreams result.answer (I.rest input.old) (I.rest input.new) (O.taken out.old) (O.taken out.new) }
-    ensures line { IfSome (S.told store.old) (λ told. IsLine (line_of (Some command.now) told.files) result.answer result.line) }
+    ensures obeys { CarriesOut (Some command.now) result.answer result.line (outside_of (S.told store.old) (I.rest input.old) (O.taken out.old) (S.faults store.old) (I.faults input.old) (O.faults out.old)) (outside_of (S.told store.new) (I.rest input.new) (O.taken out.new) (S.faults store.new) (I.faults input.new) (O.faults out.new)) }
 {
-    genuine_files_keep_genuine();
+    match command {
+        Command::Run { steps } => Reply {
+            answer: run_image(alloc, store, input, out, *steps),
+            line: 1,
+        },
+        Command::List => Reply {
+            answer: list_image(alloc, store, out),
+            line: 1,
+        },
+        Command::Db => Reply {
+            answer: show_database(alloc, store, out),
+            line: 1,
+        },
+        _ => unreachable!(),
+    }
+}
+
+/// Obeys a command that builds whole programs.
+fn obey_builder<S: Store, I: Source, O: Sink>(
+    alloc: Global,
+    command: &Command,
+    store: &mut S,
+    input: &mut I,
+    out: &mut O,
+) -> Reply
+    requires within { IsWithin command.now }
+    requires builder { is_builder command.now ≡ true }
+    ensures usage { IsUsageDue (Some command.now) result.answer }
+    ensures obeys { CarriesOut (Some command.now) result.answer result.line (outside_of (S.told store.old) (I.rest input.old) (O.taken out.old) (S.faults store.old) (I.faults input.old) (O.faults out.old)) (outside_of (S.told store.new) (I.rest input.new) (O.taken out.new) (S.faults store.new) (I.faults input.new) (O.faults out.new)) }
+{
     other_files();
     match command {
         Command::Go { steps, .. } => go(alloc, store, *steps, input, out),
@@ -91,31 +135,34 @@ fn obey<S: Store, I: Source, O: Sink>(
             stack,
             steps,
         } => bench(alloc, *number, &opts_of(*colours, *stack, *steps), out),
-        Command::PhaseOne(name) => compile_text(alloc, store, name),
-        Command::Analyse { colours } => Reply {
-            answer: analyse_modules(alloc, store, *colours),
-            line: 1,
-        },
-        Command::PhaseTwo(name) => Reply {
-            answer: compile_flow(alloc, store, name),
-            line: 1,
-        },
-        Command::Link { stack } => Reply {
-            answer: link_modules(alloc, store, *stack),
-            line: 1,
-        },
-        Command::Run { steps } => Reply {
-            answer: run_image(alloc, store, input, out, *steps),
-            line: 1,
-        },
-        Command::List => Reply {
-            answer: list_image(alloc, store, out),
-            line: 1,
-        },
-        Command::Db => Reply {
-            answer: show_database(alloc, store, out),
-            line: 1,
-        },
+        _ => unreachable!(),
+    }
+}
+
+/// Obeys a command.
+fn obey<S: Store, I: Source, O: Sink>(
+    alloc: Global,
+    command: &Command,
+    store: &mut S,
+    input: &mut I,
+    out: &mut O,
+) -> Reply
+    requires { IsWithin command.now }
+    ensures usage { IsUsageDue (Some command.now) result.answer }
+    ensures obeys { CarriesOut (Some command.now) result.answer result.line (outside_of (S.told store.old) (I.rest input.old) (O.taken out.old) (S.faults store.old) (I.faults input.old) (O.faults out.old)) (outside_of (S.told store.new) (I.rest input.new) (O.taken out.new) (S.faults store.new) (I.faults input.new) (O.faults out.new)) }
+{
+    match command {
+        Command::PhaseOne(_)
+        | Command::Analyse { .. }
+        | Command::PhaseTwo(_)
+        | Command::Link { .. } => obey_phase(alloc, command, store),
+        Command::Run { .. } | Command::List | Command::Db => {
+            obey_reader(alloc, command, store, input, out)
+        }
+        Command::Go { .. }
+        | Command::Build { .. }
+        | Command::Session { .. }
+        | Command::Bench { .. } => obey_builder(alloc, command, store, input, out),
     }
 }
 
@@ -127,20 +174,9 @@ fn obey_words<S: Store, I: Source, O: Sink>(
     input: &mut I,
     out: &mut O,
 ) -> Reply
-    ensures does { IfSome (S.told store.old) (λ told. IfSome (I.rest input.old) (λ rest. DoesAs (command_of (map string_bytes words.now)) result.answer told (S.told store.new) rest (I.rest input.new) (O.taken out.old) (O.taken out.new))) }
     ensures usage_is { result.answer ≡ Answer.Usage → command_of (map string_bytes words.now) ≡ None }
     ensures usage_comes { command_of (map string_bytes words.now) ≡ None → (result.answer ≡ Answer.Usage) ⊎ (result.answer ≡ Answer.NoMemory) }
-    ensures ends { EndsScript (command_of (map string_bytes words.now)) (I.rest input.old) result.answer }
-    ensures refusal { IfSome (S.told store.old) (λ told. IsGo (command_of (map string_bytes words.now)) → AnswersBuild (full_build told.files) result.answer) }
-    ensures proper { HoldsNoWantOfMemory result.answer }
-    ensures others { KeepsTheRest (command_of (map string_bytes words.now)) (I.rest input.old) result.answer (S.told store.old) (S.told store.new) }
-    ensures genuine { IfSome (S.told store.old) (λ told. KeepsGenuine told.files → IfSome (S.told store.new) (λ now. KeepsGenuine now.files)) }
-    ensures reads { OnlyReads (command_of (map string_bytes words.now)) → Keeps (S.told store.old) (S.told store.new) }
-    ensures store { StoreCount (S.faults store.old) (S.faults store.new) result.answer }
-    ensures read { InputCount (I.faults input.old) (I.faults input.new) result.answer }
-    ensures write { OutputCount (O.faults out.old) (O.faults out.new) result.answer }
-    ensures streams { IsNoSession (command_of (map string_bytes words.now)) → LeavesStreams result.answer (I.rest input.old) (I.rest input.new) (O.taken out.old) (O.taken out.new) }
-    ensures line { IfSome (S.told store.old) (λ told. IsLine (line_of (command_of (map string_bytes words.now)) told.files) result.answer result.line) }
+    ensures obeys { CarriesOut (command_of (map string_bytes words.now)) result.answer result.line (outside_of (S.told store.old) (I.rest input.old) (O.taken out.old) (S.faults store.old) (I.faults input.old) (O.faults out.old)) (outside_of (S.told store.new) (I.rest input.new) (O.taken out.new) (S.faults store.new) (I.faults input.new) (O.faults out.new)) }
 {
     commands_are_within();
     runs_leave_an_end();

@@ -22,14 +22,14 @@ returns-clause-usage_comes g c =
 pub returns-clause-does : goal.returns-clause-does
 returns-clause-does g c =
     told_does c.runs_leave_an_end.ensures.run c.runs_leave_an_end.ensures.go (command_of (map string_bytes c.args.words.now)) (g.S.Store.told c.args.store.now) _ (g.I.Source.rest c.args.input.now) _ (g.O.Sink.taken c.args.out.now) _
-    c.obey_words-reply.result.answer c.tell.result c.tell.ensures.answer c.obey_words-reply.ensures.does
+    c.obey_words-reply.result.answer c.tell.result c.tell.ensures.answer c.obey_words-reply.ensures.obeys.does
 
 pub returns-clause-ends_script : goal.returns-clause-ends_script
-returns-clause-ends_script g c = ends_told (command_of (map string_bytes c.args.words.now)) (g.I.Source.rest c.args.input.now) c.obey_words-reply.result.answer c.tell.result c.tell.ensures.answer c.obey_words-reply.ensures.ends
+returns-clause-ends_script g c = ends_told (command_of (map string_bytes c.args.words.now)) (g.I.Source.rest c.args.input.now) c.obey_words-reply.result.answer c.tell.result c.tell.ensures.answer c.obey_words-reply.ensures.obeys.ends
 
 pub returns-clause-refuses : goal.returns-clause-refuses
 returns-clause-refuses g c =
-    told_refuses (IsGo (command_of (map string_bytes c.args.words.now))) (g.S.Store.told c.args.store.now) c.obey_words-reply.result.answer c.tell.result c.tell.ensures.answer c.obey_words-reply.ensures.refusal
+    told_refuses (IsGo (command_of (map string_bytes c.args.words.now))) (g.S.Store.told c.args.store.now) c.obey_words-reply.result.answer c.tell.result c.tell.ensures.answer c.obey_words-reply.ensures.obeys.refusal
 
 pub returns-clause-refusal_is : goal.returns-clause-refusal_is
 returns-clause-refusal_is g c =
@@ -53,7 +53,7 @@ returns-clause-no_main_comes g c =
 
 pub returns-clause-no_want_refused : goal.returns-clause-no_want_refused
 returns-clause-no_want_refused g c =
-    told_proper c.obey_words-reply.result.answer c.tell.result c.tell.ensures.answer c.obey_words-reply.ensures.proper
+    told_proper c.obey_words-reply.result.answer c.tell.result c.tell.ensures.answer c.obey_words-reply.ensures.obeys.proper
 
 pub returns-clause-returns_sum : goal.returns-clause-returns_sum
 returns-clause-returns_sum g c =
@@ -65,21 +65,21 @@ returns-clause-agrees g c = of_files (λ files. BuiltAgrees (full_build files)) 
 
 pub returns-clause-streams_left : goal.returns-clause-streams_left
 returns-clause-streams_left g c =
-    streams_told (IsNoSession (command_of (map string_bytes c.args.words.now))) c.obey_words-reply.result.answer c.tell.result (g.I.Source.rest c.args.input.now) _ (g.O.Sink.taken c.args.out.now) _ c.tell.ensures.answer c.obey_words-reply.ensures.streams
+    streams_told (IsNoSession (command_of (map string_bytes c.args.words.now))) c.obey_words-reply.result.answer c.tell.result (g.I.Source.rest c.args.input.now) _ (g.O.Sink.taken c.args.out.now) _ c.tell.ensures.answer c.obey_words-reply.ensures.obeys.streams
 
 pub returns-clause-store_faults : goal.returns-clause-store_faults
-returns-clause-store_faults g c = store_told _ _ c.obey_words-reply.result.answer c.tell.result c.tell.ensures.answer c.obey_words-reply.ensures.store
+returns-clause-store_faults g c = store_told _ _ c.obey_words-reply.result.answer c.tell.result c.tell.ensures.answer c.obey_words-reply.ensures.obeys.store
 
 pub returns-clause-input_faults : goal.returns-clause-input_faults
-returns-clause-input_faults g c = input_told _ _ c.obey_words-reply.result.answer c.tell.result c.tell.ensures.answer c.obey_words-reply.ensures.read
+returns-clause-input_faults g c = input_told _ _ c.obey_words-reply.result.answer c.tell.result c.tell.ensures.answer c.obey_words-reply.ensures.obeys.read
 
 pub returns-clause-output_faults : goal.returns-clause-output_faults
-returns-clause-output_faults g c = output_told _ _ c.obey_words-reply.result.answer c.tell.result c.tell.ensures.answer c.obey_words-reply.ensures.write
+returns-clause-output_faults g c = output_told _ _ c.obey_words-reply.result.answer c.tell.result c.tell.ensures.answer c.obey_words-reply.ensures.obeys.write
 
 pub returns-clause-line : goal.returns-clause-line
 returns-clause-line g c =
     told_line (λ files. line_of (command_of (map string_bytes c.args.words.now)) files) (g.S.Store.told c.args.store.now) c.obey_words-reply.result.answer c.tell.result c.obey_words-reply.result.line
-    (λ (text : List ℕ). Tells text (g.E.Sink.taken c.args.err.now) (g.E.Sink.taken c.tell.new.err) (g.E.Sink.faults c.args.err.now) (g.E.Sink.faults c.tell.new.err)) c.tell.ensures.answer c.obey_words-reply.ensures.line c.tell.ensures.line
+    (λ (text : List ℕ). Tells text (g.E.Sink.taken c.args.err.now) (g.E.Sink.taken c.tell.new.err) (g.E.Sink.faults c.args.err.now) (g.E.Sink.faults c.tell.new.err)) c.tell.ensures.answer c.obey_words-reply.ensures.obeys.line c.tell.ensures.line
 
 pub returns-clause-some_line : goal.returns-clause-some_line
 returns-clause-some_line g c = (c.obey_words-reply.result.line, c.tell.ensures.line)
@@ -91,4 +91,10 @@ returns-clause-builds_whole g c =
 
 pub returns-clause-keeps_others : goal.returns-clause-keeps_others
 returns-clause-keeps_others g c =
-    rest_told (command_of (map string_bytes c.args.words.now)) (g.I.Source.rest c.args.input.now) (g.S.Store.told c.args.store.now) _ c.obey_words-reply.result.answer c.tell.result c.tell.ensures.answer c.obey_words-reply.ensures.others
+    rest_told (command_of (map string_bytes c.args.words.now)) (g.I.Source.rest c.args.input.now) (g.S.Store.told c.args.store.now) _ c.obey_words-reply.result.answer c.tell.result c.tell.ensures.answer c.obey_words-reply.ensures.obeys.others
+
+pub returns-clause-keeps_genuine : goal.returns-clause-keeps_genuine
+returns-clause-keeps_genuine g c = c.obey_words-reply.ensures.obeys.genuine
+
+pub returns-clause-store_after : goal.returns-clause-store_after
+returns-clause-store_after g c = c.obey_words-reply.ensures.obeys.reads
