@@ -5,11 +5,11 @@ ghost use Rattle.pw_value.specs.Limits.{parameter_limit};
 ghost use Rattle.pw_inst.specs.declared.relocation.Symbol.TheVariants.{Named};
 ghost use Rattle.pw_oplines.specs.Selectable.{HasFewArguments, HasSmallUnit, IsSelectable};
 ghost use Rattle.pw_registers.specs.Registers.{word, copied, constant, address_of, frame_address, read_global, place_of};
-ghost use Rattle.pw_registers.specs.Arithmetic.{unary_word, extension_word, with_one, with_none};
+ghost use Rattle.pw_registers.specs.Arithmetic.{unary_word, extension_word, with_one, with_none, binary_by, routine_of};
 ghost use Rattle.pw_oplines.specs.Operations.{load_unit, store_unit, unit_copied, bytes_counted, unit_loop, moved, loaded_scalar, stored_scalar, stored_global, stacked_arguments, register_arguments, call_result, called, called_by_value, op_lines, web_op_lines, layout};
 
 use pw_alloc::Place;
-use pw_flow::{ExtKind, Op, UnKind};
+use pw_flow::{BinKind, ExtKind, Op, UnKind};
 use pw_inst::{Inst, Line, Symbol};
 use pw_items::Items;
 use pw_registers::{
@@ -362,6 +362,36 @@ fn put_call_through(
     put_call_result(out, places, t)
 }
 
+/// An operation on what two temporaries hold.
+fn put_bin(
+    out: &mut Items<Line>,
+    places: &[Place],
+    kind: BinKind,
+    t: u32,
+    a: u32,
+    b: u32,
+) -> Result<(), AllocError>
+    ensures { OnOk result (out.new ≡ out.old ++ binary_by (routine_of kind) kind (place_of places.now a) (place_of places.now b) (place_of places.now t)) }
+{
+    let (a, b) = (place_of(places, a), place_of(places, b));
+    put_binary(out, kind, a, b, place_of(places, t))
+}
+
+/// So many bytes are copied between the addresses that two temporaries hold.
+fn put_move(
+    out: &mut Items<Line>,
+    places: &[Place],
+    a: u32,
+    b: u32,
+    size: u32,
+    unit: u32,
+) -> Result<(), AllocError>
+    requires { unit ≤ 4 }
+    ensures { OnOk result (out.new ≡ out.old ++ moved (place_of places.now a) (place_of places.now b) size unit) }
+{
+    put_moved(out, place_of(places, a), place_of(places, b), size, unit)
+}
+
 /// The lines of an operation of a flow graph.
 fn put_op(
     alloc: Global,
@@ -378,10 +408,7 @@ fn put_op(
         Op::Const(t, n) => put_number(out, place_of(places, *t), *n),
         Op::Copy(t, a) => put_copied(out, place_of(places, *a), place_of(places, *t)),
         Op::Un(k, t, a) => put_unary(out, *k, place_of(places, *a), place_of(places, *t)),
-        Op::Bin(k, t, a, b) => {
-            let (a, b) = (place_of(places, *a), place_of(places, *b));
-            put_binary(out, *k, a, b, place_of(places, *t))
-        }
+        Op::Bin(k, t, a, b) => put_bin(out, places, *k, *t, *a, *b),
         Op::Ext(k, t, a) => put_extension(out, *k, place_of(places, *a), place_of(places, *t)),
         Op::AddrGlobal(t, g, n) => put_symbol(alloc, out, place_of(places, *t), g, *n),
         Op::AddrSlot(t, s) => put_slot(out, place_of(places, *t), offset_of(slots, *s)),
@@ -390,10 +417,7 @@ fn put_op(
         Op::StoreG(g, a, k) => put_global_write(alloc, out, g, place_of(places, *a), *k),
         Op::Load(k, t, a) => put_scalar_load(out, *k, place_of(places, *t), place_of(places, *a)),
         Op::Store(k, a, b) => put_scalar_store(out, *k, place_of(places, *a), place_of(places, *b)),
-        Op::Move(a, b, size, unit) => {
-            let (a, b) = (place_of(places, *a), place_of(places, *b));
-            put_moved(out, a, b, *size, *unit)
-        }
+        Op::Move(a, b, size, unit) => put_move(out, places, *a, *b, *size, *unit),
         Op::Call(t, name, args) => put_call_to(alloc, out, places, *t, name, args.as_slice()),
         Op::CallInd(t, f, _, args) => {
             put_call_through(alloc, out, places, *t, *f, args.as_slice())
