@@ -1,6 +1,6 @@
 //! Declarators (C90 6.5.4, 6.5.5).
 
-ghost use Rattle.std.specs.Prelude.{◌≡◌, Ok};
+ghost use Rattle.std.specs.Prelude.{◌≡◌, ◌≢◌, Ok, IfErr};
 ghost use Rattle.std.specs.Option.{option_or};
 ghost use Rattle.pw_grammar.specs.Declarators as spec;
 ghost use Rattle.pw_grammar.specs.Input.{Input};
@@ -86,7 +86,8 @@ fn absent<'a>() -> Cored<'a>
 }
 
 fn may_be_absent<'a>(place: Place) -> Result<Cored<'a>, Stop>
-    ensures { (i : Input) → Reads view_cored (spec.may_be_absent place i) result i }
+    ensures reads { (i : Input) → Reads view_cored (spec.may_be_absent place i) result i }
+    ensures no_memory { IfErr result (λ stop. stop ≢ Stop.NoMemory) }
 {
     match place {
         Place::Named => Err(Stop::Fault),
