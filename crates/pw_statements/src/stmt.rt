@@ -1,6 +1,6 @@
 //! Statements (C90 6.6).
 
-ghost use Rattle.std.specs.Prelude.{◌≡◌, Ok, IfOk, IfErr};
+ghost use Rattle.std.specs.Prelude.{◌≡◌, ◌≢◌, Ok, IfOk, IfErr};
 ghost use Rattle.pw_cursor.specs.Reads.{Reads};
 ghost use Rattle.pw_cursor.specs.declared.stop.Stop.TheVariants.{NoMemory};
 ghost use Rattle.pw_grammar.specs.Statements as spec;
@@ -36,7 +36,8 @@ fn case_label<'a, P: StmtParts<'a>>(
 
 #[tactic(auto, unfolding(pw_grammar::specs::Statements::default_label))]
 fn default_label(tokens: &mut Tokens<'_>) -> Result<Label, Stop>
-    ensures { Reads view_label (spec.default_label tokens.old) result tokens.new }
+    ensures reads { Reads view_label (spec.default_label tokens.old) result tokens.new }
+    ensures no_memory { IfErr result (λ stop. stop ≢ Stop.NoMemory) }
 {
     let token = tokens.take_number();
     tokens.expect(Mark::Colon)?;
@@ -121,7 +122,8 @@ fn goto_stmt(alloc: Global, tokens: &mut Tokens<'_>) -> Result<Stmt, Stop>
 
 #[tactic(auto, unfolding(pw_grammar::specs::Statements::continue_stmt, pw_tree::specs::Views::view_stmt))]
 fn continue_stmt(tokens: &mut Tokens<'_>) -> Result<Stmt, Stop>
-    ensures { Reads view_stmt (spec.continue_stmt tokens.old) result tokens.new }
+    ensures reads { Reads view_stmt (spec.continue_stmt tokens.old) result tokens.new }
+    ensures no_memory { IfErr result (λ stop. stop ≢ Stop.NoMemory) }
 {
     let token = tokens.take_number();
     tokens.expect(Mark::Semicolon)?;
@@ -130,7 +132,8 @@ fn continue_stmt(tokens: &mut Tokens<'_>) -> Result<Stmt, Stop>
 
 #[tactic(auto, unfolding(pw_grammar::specs::Statements::break_stmt, pw_tree::specs::Views::view_stmt))]
 fn break_stmt(tokens: &mut Tokens<'_>) -> Result<Stmt, Stop>
-    ensures { Reads view_stmt (spec.break_stmt tokens.old) result tokens.new }
+    ensures reads { Reads view_stmt (spec.break_stmt tokens.old) result tokens.new }
+    ensures no_memory { IfErr result (λ stop. stop ≢ Stop.NoMemory) }
 {
     let token = tokens.take_number();
     tokens.expect(Mark::Semicolon)?;
