@@ -1,6 +1,7 @@
 //! The knot of expressions, statements and calls: each is done with what does the smaller ones, to a depth. What nests
 //! deeper is want of memory: the stack is memory.
 
+ghost use Rattle.std.specs.Prelude.{◌-◌, ◌<◌, SomeIff};
 ghost use Rattle.pw_typed.specs.Views.{view_expr, view_stmt};
 ghost use Rattle.pw_cmean.specs.Evaluation.{bounded_call};
 ghost use Rattle.pw_cmean.specs.Execution as execution;
@@ -120,6 +121,25 @@ impl<
     }
 }
 
+/// What does the phrases within one to this depth: one level less is left for them, and nothing at the last.
+fn within<A: Copy, P: Copy, S: Copy, C: Copy>(
+    depth: usize,
+    answer: A,
+    place: P,
+    statement: S,
+    call: C,
+) -> Option<Smaller<A, P, S, C>>
+    ensures { SomeIff result (0 < depth) (record { depth = depth - 1; answer = answer; place = place; statement = statement; call = call }) }
+{
+    Some(Smaller {
+        depth: depth.checked_sub(1)?,
+        answer,
+        place,
+        statement,
+        call,
+    })
+}
+
 /// The result of an expression.
 #[cycle(phrases)]
 fn run_answer<'a>(
@@ -132,15 +152,8 @@ fn run_answer<'a>(
 ) -> Result<Option<Value>, Stop<'a>>
     ensures { Evaluates (view_env env.now) bound (view_expr e.now) (view_state state.old) result (view_state state.new) }
 {
-    if depth == 0 {
+    let Some(smaller) = within(depth, run_answer, run_place, run_statement, run_call) else {
         return Err(Stop::NoMemory);
-    }
-    let smaller = Smaller {
-        depth: depth - 1,
-        answer: run_answer,
-        place: run_place,
-        statement: run_statement,
-        call: run_call,
     };
     answer_of(alloc, &smaller, &smaller, env, state, bound, e)
 }
@@ -157,15 +170,8 @@ fn run_place<'a>(
 ) -> Result<Value, Stop<'a>>
     ensures { Locates (view_env env.now) bound (view_expr e.now) (view_state state.old) result (view_state state.new) }
 {
-    if depth == 0 {
+    let Some(smaller) = within(depth, run_answer, run_place, run_statement, run_call) else {
         return Err(Stop::NoMemory);
-    }
-    let smaller = Smaller {
-        depth: depth - 1,
-        answer: run_answer,
-        place: run_place,
-        statement: run_statement,
-        call: run_call,
     };
     place_of(alloc, &smaller, env, state, bound, e)
 }
@@ -183,15 +189,8 @@ fn run_statement<'a>(
 ) -> Result<Flow, Stop<'a>>
     ensures { Answers view_flow (view_env env.now).world (execution.meaning (view_stmt statement.now) (view_entry at) (calls (view_env env.now).world bound) (view_env env.now)) (view_state state.old) result (view_state state.new) }
 {
-    if depth == 0 {
+    let Some(smaller) = within(depth, run_answer, run_place, run_statement, run_call) else {
         return Err(Stop::NoMemory);
-    }
-    let smaller = Smaller {
-        depth: depth - 1,
-        answer: run_answer,
-        place: run_place,
-        statement: run_statement,
-        call: run_call,
     };
     form_of(alloc, &smaller, env, state, bound, statement, at)
 }
@@ -209,15 +208,8 @@ fn run_call<'a>(
 ) -> Result<Option<Value>, Stop<'a>>
     ensures { Answers (λ v. v) (view_world world.now) (bounded_call (calls (view_world world.now) bound) (callable_of function.entry) args.now) (view_state state.old) result (view_state state.new) }
 {
-    if depth == 0 {
+    let Some(smaller) = within(depth, run_answer, run_place, run_statement, run_call) else {
         return Err(Stop::NoMemory);
-    }
-    let smaller = Smaller {
-        depth: depth - 1,
-        answer: run_answer,
-        place: run_place,
-        statement: run_statement,
-        call: run_call,
     };
     call_within(alloc, &smaller, world, state, bound, function, args)
 }
