@@ -4,6 +4,7 @@ use Rattle.std.proofs.lemmas.List.{length-map}
 use Rattle.std.specs.Prelude.{nat_lt}
 use Rattle.std.specs.List.{AllByRecursion}
 use Rattle.pw_inst.specs.InstructionTable.{word_of}
+use Rattle.pw_inst.specs.Limits.{routine_count}
 use Rattle.pw_inst.specs.declared.Inst.{Inst}
 use Rattle.pw_inst.specs.declared.Inst.TheVariants as i
 use Rattle.pw_inst.specs.declared.line.Line.{Line}
@@ -25,7 +26,7 @@ abbrev pub IsThere : Symbol → Type 0
 IsThere (symbol.Named name) = Unit {0}
 IsThere (symbol.Word word) = Unit {0}
 IsThere symbol.StackLimit = Unit {0}
-IsThere (symbol.Routine number) = number < 5
+IsThere (symbol.Routine number) = number < routine_count
 
 -- the relocation is of one of so many words
 abbrev pub Stands : ℕ → Fix → Type 0

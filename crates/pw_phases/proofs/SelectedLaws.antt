@@ -13,6 +13,7 @@ use Rattle.pw_flow.specs.declared.flow.End.{End}
 use Rattle.pw_flow.specs.declared.flow.End.TheVariants as end
 use Rattle.pw_db.specs.declared.database.Web.{Web}
 use Rattle.pw_db.specs.declared.database.Role.{Role}
+use Rattle.pw_inst.specs.Limits.{routine_count}
 use Rattle.pw_inst.specs.declared.Inst.TheVariants as i
 use Rattle.pw_inst.specs.declared.line.Line.{Line}
 use Rattle.pw_inst.specs.declared.line.Line.TheVariants.{Plain, Jump, BranchNonZero, CallTo, CallReg, Leave}
@@ -139,15 +140,15 @@ moved_unless_there_there r d = by (r == d)
     by true = tt
     by false = (tt, tt)
 
-by_routine_there : (k : ℕ) (a b t : Place) → k < 5 → LinesThere (by_routine k a b t)
+by_routine_there : (k : ℕ) (a b t : Place) → k < routine_count → LinesThere (by_routine k a b t)
 by_routine_there k a b t less =
     joined (loaded a 26 ++ loaded b 25) (CallTo (Routine k) 31 ∷ routine_result t) (joined (loaded a 26) (loaded b 25) (loaded_there a 26) (loaded_there b 25))
     (less, joined (moved_unless_there 29 (result_register t)) (result_lines t) (moved_unless_there_there 29 (result_register t)) (result_there t))
 
--- the number of a routine is one of the five
+-- the number is a routine's
 abbrev IsRoutine : Option ℕ → Type 0
 IsRoutine None = Unit {0}
-IsRoutine (Some k) = k < 5
+IsRoutine (Some k) = k < routine_count
 
 routine_there : (k : BinKind) → IsRoutine (routine_of k)
 routine_there bin.DivS = omega arith
