@@ -1,6 +1,8 @@
 //! What is done to the bytes of a kept file.
 
-use crate::steps::Edit;
+use crate::stores::put_file;
+use pw_io::MemStore;
+use pw_rows::Text;
 use sha2::{Digest, Sha256};
 use std::alloc::AllocError;
 
@@ -24,23 +26,43 @@ fn last_load(bytes: &[u8]) -> usize {
 }
 
 /// Makes the last load of 1 a load of 2, and the digest that of the new bytes.
-fn forge(bytes: &mut Vec<u8>) -> Result<(), AllocError> {
+fn forge(text: &mut Text, bytes: &mut Vec<u8>) {
     let place = last_load(bytes);
     if let Some(byte) = bytes.iter_mut().nth(place.saturating_add(3)) {
         *byte = 4;
     }
     bytes.truncate(bytes.len().saturating_sub(32));
     let digest = Sha256::digest(bytes.as_slice());
-    bytes.extend_from_slice(&digest)
+    if bytes.extend_from_slice(&digest).is_err() {
+        text.cut();
+    }
 }
 
-/// Does to the bytes of a file what an edit says.
-pub fn change_bytes(bytes: &mut Vec<u8>, edit: Edit) -> Result<(), AllocError> {
-    match edit {
-        Edit::Change(_, offset) => change(bytes, offset),
-        Edit::Cut(_) => bytes.truncate(bytes.len().saturating_sub(1)),
-        Edit::Forge(_) => return forge(bytes),
-        _ => {}
+/// Does to bytes what a row says.
+fn change_bytes(text: &mut Text, bytes: &mut Vec<u8>, word: &str, offset: &str) {
+    match word {
+        "change" => change(bytes, offset.parse::<usize>().unwrap_or(0)),
+        "cut" => bytes.truncate(bytes.len().saturating_sub(1)),
+        "forge" => forge(text, bytes),
+        _ => text.cut(),
     }
-    Ok(())
+}
+
+/// The bytes of a file; none where it is absent.
+fn bytes_of(text: &mut Text, store: &MemStore, name: &str) -> Vec<u8> {
+    match Vec::from_slice(text.alloc(), store.bytes_of(name).unwrap_or(&[])) {
+        Ok(bytes) => bytes,
+        Err(AllocError) => {
+            text.cut();
+            Vec::new(text.alloc())
+        }
+    }
+}
+
+/// Does to a file what a row says.
+pub fn change_file(text: &mut Text, store: &mut MemStore, word: &str, row: &str) {
+    let (name, offset) = row.split_once(' ').unwrap_or((row, ""));
+    let mut bytes = bytes_of(text, store, name);
+    change_bytes(text, &mut bytes, word, offset);
+    put_file(text, store, name, &bytes);
 }

@@ -1,186 +1,107 @@
-//! Command lines: each command with its options in their forms, and words that are none.
+//! Command lines: the commands that they say.
 
-use crate::rows::Row;
 use crate::stores::words_of;
+use pw_rows::Text;
 use pw_words::{Command, WordsFault, command};
-use std::alloc::{AllocError, Global};
 
-/// What a command line is to say: the number, the colours, the stack, the steps and the module of its command, as far as
-/// it has them; `Usage` of no command line.
-#[derive(Clone, Copy)]
-enum Said {
-    Go(u8, u32, u64),
-    Build(u8, u32),
-    Session(u8, u32, u64),
-    PhaseOne(&'static str),
-    Analyse(u8),
-    PhaseTwo(&'static str),
-    Link(u32),
-    Run(u64),
-    List,
-    Db,
-    Bench(u32, u8, u32, u64),
-    Usage,
-}
-
-/// Words, apart by single spaces, and what they say.
-pub struct Line(&'static str, Said);
-
-pub static LINES: &[Line] = &[
-    Line("go", Said::Go(8, 1_048_576, 100_000_000)),
-    Line("go --colours 0", Said::Go(0, 1_048_576, 100_000_000)),
-    Line(
-        "go --colours=3 --stack 4096",
-        Said::Go(3, 4096, 100_000_000),
-    ),
-    Line(
-        "go --steps 1 --colours 8 --stack=16777216",
-        Said::Go(8, 16_777_216, 1),
-    ),
-    Line(
-        "go --steps 4611686018427387904",
-        Said::Go(8, 1_048_576, 4_611_686_018_427_387_904),
-    ),
-    Line("go --steps 0000000000000000007", Said::Go(8, 1_048_576, 7)),
-    Line("go --", Said::Go(8, 1_048_576, 100_000_000)),
-    Line("build", Said::Build(8, 1_048_576)),
-    Line("build --stack 4096 --colours=0", Said::Build(0, 4096)),
-    Line("build --", Said::Build(8, 1_048_576)),
-    Line("session", Said::Session(8, 1_048_576, 100_000_000)),
-    Line(
-        "session --steps=5 --colours 2 --stack 5000",
-        Said::Session(2, 5000, 5),
-    ),
-    Line("bench 1", Said::Bench(1, 8, 1_048_576, 100_000_000)),
-    Line("bench -- 0", Said::Bench(0, 8, 1_048_576, 100_000_000)),
-    Line(
-        "bench --steps 9 4294967295 --colours 1 --stack=4096",
-        Said::Bench(4_294_967_295, 1, 4096, 9),
-    ),
-    Line(
-        "bench 0000000000000000012",
-        Said::Bench(12, 8, 1_048_576, 100_000_000),
-    ),
-    Line("phase1 a", Said::PhaseOne("a")),
-    Line("phase1 -- a", Said::PhaseOne("a")),
-    Line("phase1 -- --", Said::PhaseOne("--")),
-    Line("phase1 -", Said::PhaseOne("-")),
-    Line("phase1 -- -x", Said::PhaseOne("-x")),
-    Line("analyse", Said::Analyse(8)),
-    Line("analyse --colours 1", Said::Analyse(1)),
-    Line("phase2 A_b-9", Said::PhaseTwo("A_b-9")),
-    Line("link", Said::Link(1_048_576)),
-    Line("link --stack=5000", Said::Link(5000)),
-    Line("run", Said::Run(100_000_000)),
-    Line("run --steps=12", Said::Run(12)),
-    Line("list", Said::List),
-    Line("db", Said::Db),
-    Line("", Said::Usage),
-    Line("frob", Said::Usage),
-    Line("go x", Said::Usage),
-    Line("go --colours 9", Said::Usage),
-    Line("go --steps 0", Said::Usage),
-    Line("go --steps 4611686018427387905", Said::Usage),
-    Line("go --steps 00000000000000000007", Said::Usage),
-    Line("go --stack 4095", Said::Usage),
-    Line("go --stack 16777217", Said::Usage),
-    Line("go --stack", Said::Usage),
-    Line("go --stack --", Said::Usage),
-    Line("go --stack=", Said::Usage),
-    Line("go --stack +4096", Said::Usage),
-    Line("go --colours -1", Said::Usage),
-    Line("go --colours 1 --colours 1", Said::Usage),
-    Line("go -c 1", Said::Usage),
-    Line("go --colour 1", Said::Usage),
-    Line("go --help", Said::Usage),
-    Line("phase1", Said::Usage),
-    Line("phase1 a b", Said::Usage),
-    Line("phase1 a.i", Said::Usage),
-    Line("analyse --stack 4096", Said::Usage),
-    Line("list --", Said::List),
-    Line("build a", Said::Usage),
-    Line("build --steps 1", Said::Usage),
-    Line("build --stack 4095", Said::Usage),
-    Line("session x", Said::Usage),
-    Line("session --colours 9", Said::Usage),
-    Line("bench", Said::Usage),
-    Line("bench 1 2", Said::Usage),
-    Line("bench x", Said::Usage),
-    Line("bench +1", Said::Usage),
-    Line("bench -1", Said::Usage),
-    Line("bench 4294967296", Said::Usage),
-    Line("bench 00000000000000000012", Said::Usage),
-];
-
-/// Whether a command that builds and runs is what a row says.
-fn builds_and_runs(found: &Command, said: Said) -> bool {
-    match (found, said) {
-        (
-            Command::Go {
-                colours,
-                stack,
-                steps,
-            },
-            Said::Go(c, s, n),
-        )
-        | (
-            Command::Session {
-                colours,
-                stack,
-                steps,
-            },
-            Said::Session(c, s, n),
-        ) => { *colours == c && *stack == s && *steps == n }
-        (
-            Command::Bench {
-                number,
-                colours,
-                stack,
-                steps,
-            },
-            Said::Bench(x, c, s, n),
-        ) => { *number == x && *colours == c && *stack == s && *steps == n }
-        _ => false,
+/// The word of a command.
+fn word_of(command: &Command) -> &'static str {
+    match command {
+        Command::Go { .. } => "go",
+        Command::Build { .. } => "build",
+        Command::Session { .. } => "session",
+        Command::PhaseOne(_) => "phase1",
+        Command::Analyse { .. } => "analyse",
+        Command::PhaseTwo(_) => "phase2",
+        Command::Link { .. } => "link",
+        Command::Run { .. } => "run",
+        Command::List => "list",
+        Command::Db => "db",
+        Command::Bench { .. } => "bench",
     }
 }
 
-/// Whether a command with numbers is what a row says.
-fn has_numbers(found: &Command, said: Said) -> bool {
-    match (found, said) {
-        (Command::Build { colours, stack }, Said::Build(c, s)) => *colours == c && *stack == s,
-        (Command::Analyse { colours }, Said::Analyse(c)) => *colours == c,
-        (Command::Link { stack }, Said::Link(s)) => *stack == s,
-        (Command::Run { steps }, Said::Run(n)) => *steps == n,
-        _ => builds_and_runs(found, said),
+/// The module of a command, or nothing.
+fn module_of(command: &Command) -> &[u8] {
+    match command {
+        Command::PhaseOne(name) | Command::PhaseTwo(name) => name.as_bytes(),
+        _ => &[],
     }
 }
 
-/// Whether a command is what a row says.
-fn is_command(found: &Command, said: Said) -> bool {
-    match (found, said) {
-        (Command::PhaseOne(name), Said::PhaseOne(wanted))
-        | (Command::PhaseTwo(name), Said::PhaseTwo(wanted)) => {
-            name.as_bytes() == wanted.as_bytes()
+/// The number of a command, its colours, its stack and its steps, as far as it has them.
+fn numbers_of(command: &Command) -> [Option<u64>; 4] {
+    match command {
+        Command::Go {
+            colours,
+            stack,
+            steps,
         }
-        (Command::List, Said::List) | (Command::Db, Said::Db) => true,
-        _ => has_numbers(found, said),
+        | Command::Session {
+            colours,
+            stack,
+            steps,
+        } => [
+            None,
+            Some(u64::from(*colours)),
+            Some(u64::from(*stack)),
+            Some(*steps),
+        ],
+        Command::Bench {
+            number,
+            colours,
+            stack,
+            steps,
+        } => [
+            Some(u64::from(*number)),
+            Some(u64::from(*colours)),
+            Some(u64::from(*stack)),
+            Some(*steps),
+        ],
+        Command::Build { colours, stack } => [
+            None,
+            Some(u64::from(*colours)),
+            Some(u64::from(*stack)),
+            None,
+        ],
+        Command::Analyse { colours } => [None, Some(u64::from(*colours)), None, None],
+        Command::Link { stack } => [None, None, Some(u64::from(*stack)), None],
+        Command::Run { steps } => [None, None, None, Some(*steps)],
+        _ => [None, None, None, None],
     }
 }
 
-/// Whether words say what a row says.
-fn say(alloc: Global, words: &[String], said: Said) -> bool {
-    match command(alloc, words) {
-        Ok(found) => is_command(&found, said),
-        Err(WordsFault::Usage) => matches!(said, Said::Usage),
-        Err(WordsFault::NoMemory) => false,
+/// Adds a blank and a word, where there is one.
+fn push_word(text: &mut Text, word: &[u8]) {
+    if !word.is_empty() {
+        text.push(b" ");
+        text.push(word);
     }
 }
 
-impl Row for Line {
-    fn holds(&self, alloc: Global) -> bool {
-        match words_of(alloc, self.0) {
-            Ok(words) => say(alloc, &words, self.1),
-            Err(AllocError) => false,
+/// Adds the numbers that there are.
+fn push_numbers(text: &mut Text, numbers: &[Option<u64>]) {
+    for number in numbers {
+        if let Some(number) = number {
+            text.push(b" ");
+            text.display(number);
         }
+    }
+}
+
+/// Adds a command.
+fn push_command(text: &mut Text, command: &Command) {
+    push_word(text, word_of(command).as_bytes());
+    push_word(text, module_of(command));
+    push_numbers(text, &numbers_of(command));
+}
+
+/// Adds the command that a line says.
+pub fn push_command_line(text: &mut Text, line: &str) {
+    let words = words_of(text, line);
+    match command(text.alloc(), &words) {
+        Ok(command) => push_command(text, &command),
+        Err(WordsFault::Usage) => text.push(b" usage"),
+        Err(WordsFault::NoMemory) => text.cut(),
     }
 }

@@ -1,206 +1,140 @@
-//! The separate commands over one store, one behind the other. The expected values are the language's and the formats'
-//! worked examples, by hand.
+//! Commands over a store in memory, and what they tell.
 
-use crate::programs::{CALCULATOR, COUNTER, RESULT, SUM};
-use crate::steps::{Edit, Output, STEP, Step};
+use crate::outputs::{First, Told, push_told};
+use pw_io::{MemSink, MemSource, MemStore, Sink, Source, Store};
+use pw_rows::Text;
+use pw_top::{pawc_top, status};
+use std::alloc::{AllocError, Global};
+use std::mem::ManuallyDrop;
 
-/// The calculator through all commands.
-pub static CALCULATION: [Step; 9] = [
-    Step {
-        edit: Edit::New(CALCULATOR),
-        line: "phase1 main",
-        puts: "main.flow main.sum",
-        ..STEP
-    },
-    Step {
-        line: "phase1 ops",
-        puts: "ops.flow ops.sum",
-        ..STEP
-    },
-    Step {
-        line: "phase1 stack",
-        puts: "stack.flow stack.sum",
-        ..STEP
-    },
-    Step {
-        line: "analyse",
-        puts: "prog.db",
-        ..STEP
-    },
-    Step {
-        line: "phase2 stack",
-        puts: "stack.obj",
-        ..STEP
-    },
-    Step {
-        line: "phase2 ops",
-        puts: "ops.obj",
-        ..STEP
-    },
-    Step {
-        line: "phase2 main",
-        puts: "main.obj",
-        ..STEP
-    },
-    Step {
-        line: "link",
-        puts: "prog.img",
-        ..STEP
-    },
-    Step {
-        line: "run",
-        input: &[(SUM, 1)],
-        output: Output::Lines(RESULT),
-        ..STEP
-    },
-];
+/// More bytes than a command puts out.
+const ROOM: usize = 100_000;
 
-/// The counter through all commands, and its database without registers for webs.
-pub static COUNT: [Step; 10] = [
-    Step {
-        edit: Edit::New(COUNTER),
-        line: "phase1 a",
-        puts: "a.flow a.sum",
-        ..STEP
-    },
-    Step {
-        line: "phase1 b",
-        puts: "b.flow b.sum",
-        ..STEP
-    },
-    Step {
-        line: "analyse",
-        puts: "prog.db",
-        ..STEP
-    },
-    Step {
-        line: "db",
-        output: Output::Lines("n r3 writes entry main member bump\n"),
-        ..STEP
-    },
-    Step {
-        line: "phase2 a",
-        puts: "a.obj",
-        ..STEP
-    },
-    Step {
-        line: "phase2 b",
-        puts: "b.obj",
-        ..STEP
-    },
-    Step {
-        line: "link",
-        puts: "prog.img",
-        ..STEP
-    },
-    Step {
-        line: "run",
-        status: 100,
-        ..STEP
-    },
-    Step {
-        line: "analyse --colours 0",
-        puts: "prog.db",
-        ..STEP
-    },
-    Step { line: "db", ..STEP },
-];
+/// The call of the input that fails and the call of the output, or 0, and how many bytes `err` takes.
+#[derive(Clone, Copy)]
+pub struct Streams {
+    read: u64,
+    put: u64,
+    room: usize,
+}
 
-/// Each command where what it needs is refused or absent: a name, a token, a limit; a file.
-pub static REFUSALS: [Step; 11] = [
-    Step {
-        edit: Edit::New(&[
-            ("a.i", "int main(void){return x;}"),
-            ("b.i", "\nfloat f;"),
-            ("c.i", "int a[300000];"),
-        ]),
-        line: "phase1 a",
-        status: 113,
-        err: "a.i:1: UnknownName at token 8\n",
-        ..STEP
-    },
-    Step {
-        line: "phase1 b",
-        status: 113,
-        err: "b.i:2: Unsupported Float at token 1\n",
-        ..STEP
-    },
-    Step {
-        line: "phase1 c",
-        status: 113,
-        err: "c.i:1: Limit ObjectSize 1200000 at token 2\n",
-        ..STEP
-    },
-    Step {
-        line: "phase1 d",
-        status: 122,
-        err: "BadFile d.i\n",
-        ..STEP
-    },
-    Step {
-        line: "analyse",
-        status: 122,
-        err: "BadFile a.sum\n",
-        ..STEP
-    },
-    Step {
-        line: "phase2 a",
-        status: 122,
-        err: "BadFile a.flow\n",
-        ..STEP
-    },
-    Step {
-        line: "link",
-        status: 122,
-        err: "BadFile a.obj\n",
-        ..STEP
-    },
-    Step {
-        line: "run",
-        status: 122,
-        err: "BadFile prog.img\n",
-        ..STEP
-    },
-    Step {
-        line: "list",
-        status: 122,
-        err: "BadFile prog.img\n",
-        ..STEP
-    },
-    Step {
-        line: "db",
-        status: 122,
-        err: "BadFile prog.db\n",
-        ..STEP
-    },
-    Step {
-        line: "phase1",
-        status: 112,
-        err: "usage\n",
-        ..STEP
-    },
-];
+/// Nothing fails.
+const SURE: Streams = Streams {
+    read: 0,
+    put: 0,
+    room: 1000,
+};
 
-/// Modules, each accepted, that call what none defines. They are refused together.
-pub static TOGETHER: [Step; 3] = [
-    Step {
-        edit: Edit::New(&[
-            ("a.i", "int f(void); int g(void){return f();}"),
-            ("b.i", "int f(void);"),
-        ]),
-        line: "phase1 a",
-        puts: "a.flow a.sum",
-        ..STEP
-    },
-    Step {
-        line: "phase1 b",
-        puts: "b.flow b.sum",
-        ..STEP
-    },
-    Step {
-        line: "analyse",
-        status: 114,
-        err: "link: Undefined f\n",
-        ..STEP
-    },
-];
+/// A command's words, its input, and what fails of its streams.
+#[derive(Clone, Copy)]
+pub struct Command<'a> {
+    pub words: &'a [String],
+    pub input: &'a [u8],
+    pub streams: Streams,
+}
+
+/// The number of a call.
+fn call_of(digits: &str) -> u64 {
+    digits.parse::<u64>().unwrap_or(0)
+}
+
+/// What fails of the streams of a row.
+pub fn streams_of(how: &str) -> Streams {
+    if let Some(call) = how.strip_prefix('<') {
+        return Streams {
+            read: call_of(call),
+            ..SURE
+        };
+    }
+    if let Some(call) = how.strip_prefix('>') {
+        return Streams {
+            put: call_of(call),
+            ..SURE
+        };
+    }
+    let room = if how == "!" { 0 } else { SURE.room };
+    Streams { room, ..SURE }
+}
+
+/// The status of words: nothing of the top call's contract is kept but that it is met. The answer's memory goes back with the
+/// program's.
+fn status_of<S: Store, I: Source, O: Sink, E: Sink>(
+    alloc: Global,
+    words: &[String],
+    store: &mut S,
+    input: &mut I,
+    out: &mut O,
+    err: &mut E,
+) -> u8 {
+    let answer = pawc_top(alloc, words, store, input, out, err);
+    status(&ManuallyDrop::new(answer))
+}
+
+/// The bytes of a store's image, or none.
+fn image_of(store: &MemStore) -> &[u8] {
+    store.bytes_of("prog.img").unwrap_or(&[])
+}
+
+/// Adds what a command with this input, output and `err` tells.
+fn push_all(
+    text: &mut Text,
+    store: &mut MemStore,
+    first: &mut First,
+    words: &[String],
+    input: &mut MemSource,
+    out: &mut MemSink,
+    err: &mut MemSink,
+) {
+    let before = store.puts().len();
+    let status = status_of(text.alloc(), words, store, input, out, err);
+    let told = Told {
+        status,
+        out: out.bytes(),
+        err: err.bytes(),
+        puts: store.puts().get(before..).unwrap_or(&[]),
+        image: image_of(store),
+    };
+    push_told(text, first, &told);
+}
+
+/// Adds what a command with this input and output tells.
+fn push_with_output(
+    text: &mut Text,
+    store: &mut MemStore,
+    first: &mut First,
+    command: &Command<'_>,
+    input: &mut MemSource,
+    out: &mut MemSink,
+) {
+    match MemSink::new(text.alloc(), command.streams.room, &[]) {
+        Ok(mut err) => push_all(text, store, first, command.words, input, out, &mut err),
+        Err(AllocError) => text.cut(),
+    }
+}
+
+/// Adds what a command with this input tells.
+fn push_with_input(
+    text: &mut Text,
+    store: &mut MemStore,
+    first: &mut First,
+    command: &Command<'_>,
+    input: &mut MemSource,
+) {
+    match MemSink::new(text.alloc(), ROOM, &[command.streams.put]) {
+        Ok(mut out) => push_with_output(text, store, first, command, input, &mut out),
+        Err(AllocError) => text.cut(),
+    }
+}
+
+/// Adds what a command tells.
+pub fn push_command(
+    text: &mut Text,
+    store: &mut MemStore,
+    first: &mut First,
+    command: &Command<'_>,
+) {
+    match MemSource::new(text.alloc(), command.input, &[command.streams.read]) {
+        Ok(mut input) => push_with_input(text, store, first, command, &mut input),
+        Err(AllocError) => text.cut(),
+    }
+}

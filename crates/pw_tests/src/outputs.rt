@@ -1,54 +1,116 @@
-//! What a command puts out, against what is wanted.
+//! What a command tells, in one line.
 
-use crate::steps::Output;
+use crate::texts::push_text;
+use pw_rows::Text;
+use std::alloc::Global;
 
-/// Whether a line is the wanted one, in which one `*` stands for any text, and which is another line where `=` is wanted.
-fn is_line(line: &str, wanted: &str, other: &[u8]) -> bool {
-    match wanted.split_once('*') {
-        Some((front, end)) => line.starts_with(front) && line.ends_with(end),
-        None if wanted == "=" => line.as_bytes() == other,
-        None => line == wanted,
-    }
+/// The most bytes of an output that are printed themselves.
+const MOST: usize = 1000;
+
+/// What came first in a table: the bytes of an image, and what was told of one. Empty where there was none.
+#[derive(Drop)]
+pub struct First {
+    image: Vec<u8>,
+    report: Vec<u8>,
 }
 
-/// Whether a text has the wanted lines, of which `=` is the line of the last `*`.
-fn are_lines(text: &str, wanted: &str) -> bool {
-    let mut starred = b"".as_slice();
-    for (line, row) in text.split('\n').zip(wanted.split('\n')) {
-        if !is_line(line, row, starred) {
-            return false;
+impl First {
+    /// There was none.
+    pub fn new(alloc: Global) -> First {
+        First {
+            image: Vec::new(alloc),
+            report: Vec::new(alloc),
         }
-        if row.ends_with('*') {
-            starred = line.as_bytes();
+    }
+}
+
+/// What a command tells: its status, what it put out and what `err` took, the names that it put, in order, and the bytes of
+/// the image behind it, or none.
+#[derive(Clone, Copy)]
+pub struct Told<'a> {
+    pub status: u8,
+    pub out: &'a [u8],
+    pub err: &'a [u8],
+    pub puts: &'a [String],
+    pub image: &'a [u8],
+}
+
+/// Adds a word and whether bytes are the first ones, which they are where there were none so far.
+fn push_place(text: &mut Text, word: &[u8], first: &mut Vec<u8>, bytes: &[u8]) {
+    if first.is_empty() && first.extend_from_slice(bytes).is_err() {
+        text.cut();
+    }
+    text.push(word);
+    text.push(if first.as_slice() == bytes {
+        b"first"
+    } else {
+        b"other"
+    });
+}
+
+/// Adds a line of an output, with the bytes and the digest of an image as the first or another one's.
+fn push_line(text: &mut Text, first: &mut Vec<u8>, line: &str) {
+    let Some((front, rest)) = line.split_once("image ") else {
+        return text.push(line.as_bytes());
+    };
+    text.push(front.as_bytes());
+    match rest.split_once(" stop") {
+        Some((image, stop)) => {
+            push_place(text, b"image ", first, image.as_bytes());
+            text.push(b" stop");
+            text.push(stop.as_bytes());
         }
-    }
-    text.split('\n').count() == wanted.split('\n').count()
-}
-
-/// Whether a text is another with this line in place of its first one.
-fn is_headed(text: &str, line: &str, other: &str) -> bool {
-    match (text.split_once('\n'), other.split_once('\n')) {
-        (Some((head, rest)), Some((_, wanted))) => head == line && rest == wanted,
-        _ => false,
+        None => push_place(text, b"image ", first, rest.as_bytes()),
     }
 }
 
-/// Whether a text is what is wanted, where a table's first output is known.
-fn is_text(text: &str, first: &str, wanted: Output) -> bool {
-    match wanted {
-        Output::Lines(lines) => are_lines(text, lines),
-        Output::Length(length) => text.len() == length,
-        Output::First => text == first,
-        Output::Headed(line) => is_headed(text, line, first),
-        Output::Front => first.starts_with(text),
-        Output::Part => first.starts_with(text) && text.len() < first.len(),
+/// Adds the lines of an output.
+fn push_lines(text: &mut Text, first: &mut Vec<u8>, lines: &str) {
+    text.push(b"\"");
+    for (index, line) in lines.split('\n').enumerate() {
+        if index > 0 {
+            text.push(b"\\n");
+        }
+        push_line(text, first, line);
+    }
+    text.push(b"\"");
+}
+
+/// Adds an output.
+fn push_output(text: &mut Text, first: &mut Vec<u8>, out: &[u8]) {
+    text.push(b" out ");
+    if out.len() > MOST {
+        text.display(&out.len());
+        text.push(b" bytes");
+    } else {
+        push_lines(text, first, str::from_utf8(out).unwrap_or("no text"));
     }
 }
 
-/// Whether an output is a text, and what is wanted, where a table's first output is known.
-pub fn is_output(bytes: &[u8], first: &[u8], wanted: Output) -> bool {
-    match (str::from_utf8(bytes), str::from_utf8(first)) {
-        (Ok(text), Ok(first)) => is_text(text, first, wanted),
-        _ => false,
+/// Adds names.
+fn push_names(text: &mut Text, names: &[String]) {
+    text.push(b" puts");
+    for name in names {
+        text.push(b" ");
+        text.push(name.as_bytes());
+    }
+}
+
+/// Adds what a command tells; of an output, `err`, names and an image only where there is one.
+pub fn push_told(text: &mut Text, first: &mut First, told: &Told<'_>) {
+    text.push(b" ");
+    text.display(&told.status);
+    if !told.out.is_empty() {
+        push_output(text, &mut first.report, told.out);
+    }
+    if !told.err.is_empty() {
+        text.push(b" err");
+        push_text(text, told.err);
+    }
+    if !told.puts.is_empty() {
+        push_names(text, told.puts);
+    }
+    if !told.image.is_empty() {
+        push_place(text, b" image ", &mut first.image, told.image);
     }
 }
