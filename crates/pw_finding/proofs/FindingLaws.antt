@@ -1,12 +1,16 @@
 -- What is found at a point is the fault that the point tells.
+use Rattle.std.specs.Prelude.{◌≢◌, IfErr}
 use Rattle.std.proofs.Common.{◌≡◌, ◌<◌, ◌≤◌, Bool, true, false, cond, nat_lt, Option, None, Some, Result, Ok, Err, [], ◌∷◌, ◌++◌, option_map, refl, ap, sym, ◌∙◌, arith, subst}
 use Rattle.std.proofs.lemmas.Bool.{ltb-true, ltb-false}
 use mathlib.Core.Logic.{inr}
 use Rattle.pw_walk.specs.declared.fault.CheckFault.{CheckFault}
 use Rattle.pw_walk.specs.Calls.{Obeys}
 use Rattle.pw_walk.specs.Causes.{Cause, Point, rank, rank_of_kind, fault_of}
-use Rattle.pw_walk.specs.Walks.{Walk, Passing, bind, lesser, least, stopped, outcome, meets, ◌>>◌}
+use Rattle.pw_walk.specs.Walks.{Walk, Done, Passing, bind, lesser, least, stopped, outcome, meets, ◌>>◌}
+use Rattle.pw_walk.specs.declared.fault.CheckKind.TheVariants.{NoMemory}
 use Rattle.pw_walk.proofs.CallLaws.{same_call}
+use Rattle.pw_walk.proofs.KindLaws.{never_memory}
+use Rattle.pw_walk.proofs.WalkLaws.{one_answer}
 use Rattle.pw_finding.specs.Found.{lesser_fault, with_cause, found_behind, found, lesser_found, told}
 
 -- ---- the same by faults and by causes
@@ -133,3 +137,13 @@ point_err {S} {B} {R} {view} {least_here} {ended} {fault} {r} {left} p next s he
       told = inr (ap outcome (passed p next s) ∙ outcome_passing p (next s)
           ∙ ap (λ o. told o (outcome (next s))) (sym here ∙ end_err least_here fault (sym end ∙ is)));
     })
+
+-- what is found at a point is the fault of a constraint, and no want of memory
+pub no_want : {R : Type 0} {r : Result R CheckFault} {fault : CheckFault} (p : Point)
+    → found p ≡ Some fault → r ≡ Err fault → IfErr r (λ f. f.kind ≢ NoMemory)
+unfolding outcome
+no_want {R} {r} {fault} p is same =
+    let w : Walk (Unit {0}) = Passing p (Done tt) in
+    let stops : outcome w ≡ Err fault = stopped_by_found p (Ok tt) ∙ ap (λ o. told o (Ok tt)) is in
+    subst (λ (x : Result R CheckFault). IfErr x (λ f. f.kind ≢ NoMemory)) (sym same)
+    (never_memory w fault ((one_answer w (Err fault)).1 (sym stops)))

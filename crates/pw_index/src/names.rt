@@ -6,6 +6,7 @@ ghost use Rattle.std.specs.Option.{option_copied};
 ghost use Rattle.std.specs.Str.{bytes_eq};
 ghost use Rattle.pw_index.specs.Names.{noted};
 
+use crate::words::word_of;
 use pw_scope::Scopes;
 use std::alloc::{AllocError, Global};
 use std::marker::Model;
@@ -46,9 +47,7 @@ impl<'a> NameList<'a> {
         ensures ok { OnOk result (self.new ≡ self.old ++ name.now ∷ []) }
         ensures err { OnErr result (self.new ≡ self.old) }
     {
-        let Ok(place) = u32::try_from(self.names.len()) else {
-            return Err(AllocError);
-        };
+        let place = word_of(self.names.len())?;
         self.names.reserve(1)?;
         note(&mut self.places, name, place)?;
         self.names.push(name)?;

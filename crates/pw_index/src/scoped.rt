@@ -4,6 +4,7 @@ ghost use Rattle.std.specs.Prelude.{◌≡◌, [], ◌∷◌, ◌++◌, ◌==◌
 ghost use Rattle.pw_scope.specs.Visible.{visible};
 ghost use Rattle.pw_index.specs.Scoping.{deeper, found_names, left, names_here, no_names, places_in, tags_here, tags_in};
 
+use crate::words::next_word;
 use pw_rules::{Entry, Tag, TagEntry};
 use pw_scope::Scopes;
 use std::alloc::{AllocError, Global};
@@ -92,9 +93,7 @@ impl<'a> VisibleNames<'a> {
     pub fn enter(&mut self) -> Result<(), AllocError>
         ensures { OnOk result (self.new ≡ deeper self.old) }
     {
-        let Some(depth) = self.depth.checked_add(1) else {
-            return Err(AllocError);
-        };
+        let depth = next_word(self.depth)?;
         self.starts.push(Start {
             names: self.ordinary.len(),
             tags: self.tags.len(),
