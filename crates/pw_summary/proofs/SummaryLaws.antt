@@ -1,5 +1,5 @@
 -- What is read is the file of a summary, and the file of a summary is read.
-use Rattle.std.proofs.Common.{◌≡◌, ℕ, ◌<◌, ◌^◌, Bool, List, [], ◌∷◌, ◌++◌, length, map, Result, Ok, refl, sym, ap, subst, ◌∙◌, append_assoc, arith, lit<}
+use Rattle.std.proofs.Common.{◌≡◌, ℕ, ◌<◌, Bool, List, [], ◌∷◌, ◌++◌, length, map, Result, Ok, refl, sym, ap, subst, ◌∙◌, append_assoc, arith, lit<}
 use Rattle.std.specs.Prelude.{IsTrue, IfOk, Option, Contains, nat_lt}
 use Rattle.std.specs.List.{flat_map, AllByRecursion}
 use Rattle.std.proofs.lemmas.Bool.{ltb-true, lt-ltb}
@@ -28,7 +28,7 @@ use Rattle.pw_files.proofs.ContentsLaws.{ModuleRules, module_rules_forth, module
 use Rattle.pw_files.proofs.ContentsLaws as files
 use Rattle.pw_summary.specs.declared.summary.Uses.{Uses}
 use Rattle.pw_summary.specs.declared.summary.Summary.{Summary}
-use Rattle.pw_summary.specs.Summary.{global_names, function_names, IsUses, IsSummary, global, reference, uses, others, names_of_uses, names_of, FitsUses, FitsSummary, spelling, kind, summary_version, IsSummaryFile}
+use Rattle.pw_summary.specs.Summary.{global_names, function_names, IsUses, IsSummary, global, reference, uses, others, names_of_uses, names_of, FitsUses, FitsSummary, spelling, kind, summary_version, weight_bound, IsSummaryFile}
 use Rattle.pw_summary.specs.Reading.{global_at, weight_at, reference_at, uses_at, last_rules, fields_at, summary_file_at}
 
 -- ---- items
@@ -47,11 +47,11 @@ global_spells names table before = format (global names) (FitsBehind (λ g. g.0)
     (λ g. refl) (λ g h. ((h.0.0, h.1.0), h.0.1)) (λ g h. ((h.0.0, h.1), (h.0.1, (tt, (tt, tt)))))
 
 abbrev FitsWeight : ℕ → Type 0
-FitsWeight n = n < 2 ^ 32
+FitsWeight n = n < weight_bound
 
 weight_spells : Spells u64 FitsWeight weight_at
 unfolding weight_at
-weight_spells = refit u64 (λ n. FitsU64 n × IsTrue (nat_lt n (2 ^ 32))) FitsWeight _ (λ n h. ltb-true _ _ h.1) (λ n h. (omega (arith, h), lt-ltb _ _ h)) (checked_spells u64 FitsU64 u64_at (λ n. nat_lt n (2 ^ 32)) u64_spells)
+weight_spells = refit u64 (λ n. FitsU64 n × IsTrue (nat_lt n weight_bound)) FitsWeight _ (λ n h. ltb-true _ _ h.1) (λ n h. (omega (arith, h), lt-ltb _ _ h)) (checked_spells u64 FitsU64 u64_at (λ n. nat_lt n weight_bound) u64_spells)
 
 abbrev FitsReference : List (List ℕ) → List ℕ × ℕ × ℕ → Type 0
 FitsReference names r = FitsName names Allowed r.0 × (FitsWeight r.1 × FitsWeight r.2)
@@ -149,7 +149,7 @@ uses_forth names u h = record {
   no_call = λ k. never_start (λ name. name) u.calls (each_weaker (FitsName names Refused) (λ name. IsTrue (may_stand Refused name)) (λ name f. f.1) u.calls h.0.each) (subst (λ (xs : List (List ℕ)). Contains xs start_name) (sym (same_names u.calls)) k);
   shapes = rises u.shapes h.1.0.rising;
   refs = h.1.1.0.rising;
-  weights = each_weaker (FitsReference names) (λ r. (r.1 < 2 ^ 32) × (r.2 < 2 ^ 32)) (λ r f. (f.1.0, f.1.1)) u.refs h.1.1.0.each;
+  weights = each_weaker (FitsReference names) (λ r. (r.1 < weight_bound) × (r.2 < weight_bound)) (λ r f. (f.1.0, f.1.1)) u.refs h.1.1.0.each;
 }
 
 uses_fit : (names : List (List ℕ)) (u : Uses) → UsesSteps names u → FitsUses u
@@ -240,7 +240,7 @@ uses_back names u is fits used = (
     record { count = fits.shapes.0; rising = rises_back u.shapes is.shapes; each = fits.shapes.1 },
     (
       items_back (λ r. r.0) (λ r. FitsWeight r.1 × FitsWeight r.2) names Allowed u.refs fits.refs is.refs (used_back u.calls (map (λ r. r.0) u.refs) names used) (each_may (λ r. r.0) u.refs)
-          (each_weaker (λ r. (r.1 < 2 ^ 32) × (r.2 < 2 ^ 32)) (λ r. FitsWeight r.1 × FitsWeight r.2) (λ r k. (k.0, k.1)) u.refs is.weights),
+          (each_weaker (λ r. (r.1 < weight_bound) × (r.2 < weight_bound)) (λ r. FitsWeight r.1 × FitsWeight r.2) (λ r k. (k.0, k.1)) u.refs is.weights),
       tt,
     ),
   ),

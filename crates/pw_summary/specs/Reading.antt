@@ -1,5 +1,5 @@
 -- Reading a summary file from left to right, with the first fault that is met.
-use Rattle.std.specs.Prelude.{ℕ, Bool, nat_lt, ◌^◌, List, length, Option, Result}
+use Rattle.std.specs.Prelude.{ℕ, Bool, nat_lt, List, length, Option, Result}
 use Rattle.pw_value.specs.declared.value.Kind.{Kind}
 use Rattle.pw_value.specs.Fields.{◌>>=◌, done, checked, u64_at, text_at, flag_at, repeated}
 use Rattle.pw_value.specs.FieldFrame.{here, ended}
@@ -13,7 +13,7 @@ use Rattle.pw_summary.specs.declared.summary.Defined.{Defined}
 use Rattle.pw_summary.specs.declared.summary.Used.{Used}
 use Rattle.pw_summary.specs.declared.summary.Uses.{Uses}
 use Rattle.pw_summary.specs.declared.summary.Summary.{Summary}
-use Rattle.pw_summary.specs.Summary.{global_names, function_names, names_of, kind, summary_version}
+use Rattle.pw_summary.specs.Summary.{global_names, function_names, names_of, kind, summary_version, weight_bound}
 
 -- ---- items
 
@@ -27,7 +27,7 @@ global_at names before = do
 
 -- a weight of four bytes, in eight
 unfoldable pub weight_at : List ℕ → Result (ℕ × List ℕ) ℕ
-weight_at = checked (λ n. nat_lt n (2 ^ 32)) u64_at
+weight_at = checked (λ n. nat_lt n weight_bound) u64_at
 
 unfoldable pub reference_at : List (List ℕ) → Option (List ℕ) → List ℕ → Result ((List ℕ × ℕ × ℕ) × List ℕ) ℕ
 reference_at names before = do
