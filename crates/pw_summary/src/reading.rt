@@ -18,7 +18,7 @@ use pw_files::kinds::read_kind;
 use pw_files::late::check_module;
 use pw_files::lists::{read_name_above, read_name_list, read_shape_list, read_shaped_list};
 use pw_items::Items;
-use pw_value::fields::names::read_name;
+use pw_value::fields::names::{find_unused, read_name};
 use pw_value::fields::{FieldError, read_flag, read_text, read_u32, read_u64};
 use pw_value::program_names::StartName;
 use pw_value::{FileError, Kind, Name, Shape};
@@ -268,9 +268,10 @@ fn check_last(
     ensures { Gives (λ x. x) result (broken_at (last_rules names.now behind summary.now count)) }
 {
     let used = used_names(alloc, summary)?;
+    let unused = find_unused(alloc, names, used, behind)?;
     let functions = function_names(alloc, summary.functions.as_slice())?;
     let globals = global_names(alloc, summary.globals.as_slice())?;
-    check_module(alloc, names, used, behind, &functions, &globals, count)
+    check_module(unused, &functions, &globals, count)
 }
 
 /// Summary files, which are read as all files of the compiler are.
