@@ -196,15 +196,15 @@ fn is_undefined(records: &Types, number: u32, kind: RecordKind) -> bool
     ensures { IsTrue result ↔ slice_get records.now number ≡ Some (declared kind) }
 {
     match records.record(number) {
-        Some(record) => is_declared(record, kind),
+        Some(known) => is_declared(known, kind),
         None => false,
     }
 }
 
 // Whether a structure or union is of the kind and not defined.
 #[tactic(auto, using(crate::proofs::RecordLemmas::declared_shown, crate::proofs::RecordLemmas::declared_open, crate::proofs::RecordLemmas::declared_kind))]
-fn is_declared(record: &RecordType, kind: RecordKind) -> bool
-    ensures { IsTrue result ↔ view_record record.now ≡ declared kind }
+fn is_declared(known: &RecordType, kind: RecordKind) -> bool
+    ensures { IsTrue result ↔ view_record known.now ≡ declared kind }
 {
-    record.content.is_none() && record.kind == kind
+    known.content.is_none() && known.kind == kind
 }
