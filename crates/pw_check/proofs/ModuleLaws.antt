@@ -7,7 +7,7 @@ use Rattle.pw_tree.specs.Trees.{Module}
 use Rattle.pw_tree.specs.Views.{view_external, view_externals}
 use Rattle.pw_tree.specs.declared.module.External.{External}
 use Rattle.pw_checking.specs.EntityViews.{view_linked}
-use Rattle.pw_checking.specs.declared.entity.LinkedName.{LinkedName}
+use Rattle.pw_entities.specs.declared.entity.LinkedName.{LinkedName}
 use Rattle.pw_finding.specs.Found.{found, told}
 use Rattle.pw_finding.proofs.FindingLaws.{stopped_by_found, end_err}
 use Rattle.pw_types.specs.TypedTrees.{ModuleValue}

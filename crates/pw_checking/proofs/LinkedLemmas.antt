@@ -1,35 +1,11 @@
--- Names with linkage by their places, and changes of one of them.
-use Rattle.std.proofs.Common.{◌≡◌, ℕ, suc, ◌+◌, cond, not, nat_lt, List, [], ◌∷◌, length, map, position, bytes_eq, Option, None, Some, slice_get, refl, ap, sym, ◌∙◌}
-use Rattle.std.specs.Cmp.Lexicographic.{nat_list_eq_equiv}
-use Rattle.std.specs.List.{position_or_len}
+-- Changes of one of the names with linkage.
+use Rattle.std.proofs.Common.{◌≡◌, ℕ, Option, None, Some, slice_get, refl, ap, sym, ◌∙◌}
 use Rattle.std.specs.Option.{option_map_or}
+use Rattle.pw_entities.specs.LinkedViews.{changed_at}
 use Rattle.pw_rules.specs.States as states
 use Rattle.pw_rules.specs.States.{State, linked_at, with_types}
 use Rattle.pw_rules.specs.Linkage.{change_linked}
-use Rattle.pw_checking.specs.declared.entity.LinkedName.{LinkedName}
-use Rattle.pw_checking.specs.EntityViews.{view_linked, names_linked}
-use Rattle.pw_checking.specs.LinkedViews.{changed_at}
 use Rattle.pw_checking.proofs.PlaceLemmas.{changed_put}
-
-module _ (name : List ℕ) where
-  first_linked : (xs : List LinkedName) → position_or_len (bytes_eq name) (names_linked xs) ≡ position_or_len (λ l. bytes_eq l.name name) (map view_linked xs)
-  first_linked [] = refl
-  first_linked (x ∷ xs) =
-      ap (λ b. cond (not b) (1 + position_or_len (bytes_eq name) (names_linked xs)) 0) (nat_list_eq_equiv.symm name x.name.now)
-      ∙ ap (λ n. cond (not (bytes_eq x.name.now name)) (1 + n) 0) (first_linked xs)
-
-  length_linked : (xs : List LinkedName) → length (names_linked xs) ≡ length (map view_linked xs)
-  length_linked [] = refl
-  length_linked (x ∷ xs) = ap suc (length_linked xs)
-
-  position_step : (m n k l : ℕ) → m ≡ n → k ≡ l → cond (nat_lt m k) (Some m) None ≡ cond (nat_lt n l) (Some n) None
-  position_step m n k l e f = rw (e, f) refl
-
-  -- the place of a name among the names is that among what they are of
-  pub position_linked : (xs : List LinkedName) → position (bytes_eq name) (names_linked xs) ≡ position (λ l. bytes_eq l.name name) (map view_linked xs)
-  position_linked xs =
-      position_step (position_or_len (bytes_eq name) (names_linked xs)) (position_or_len (λ l. bytes_eq l.name name) (map view_linked xs))
-      (length (names_linked xs)) (length (map view_linked xs)) (first_linked xs) (length_linked xs)
 
 -- a change of a name with linkage is one of the list
 pub change_is : (place : ℕ) (f : states.LinkedName → states.LinkedName) (s : State)

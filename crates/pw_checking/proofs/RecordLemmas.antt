@@ -15,8 +15,18 @@ none_known : (o : Option Content) → is_some o ≡ false → view_known o ≡ N
 none_known None e = refl
 none_known (Some c) e = absurd (cc)
 
+none_shown : (o : Option Content) → view_known o ≡ None → is_some o ≡ false
+none_shown None e = refl
+none_shown (Some c) e = absurd (cc)
+
 pub declared_shown : (r : RecordType) (kind : RecordKind) → is_some r.content ≡ false → r.kind ≡ kind → view_record r ≡ declared kind
 declared_shown r kind e f = cc (none_known r.content e)
+
+pub declared_open : (r : RecordType) (kind : RecordKind) → view_record r ≡ declared kind → is_some r.content ≡ false
+declared_open r kind e = none_shown r.content (ap (λ v. v.content) e)
+
+pub declared_kind : (r : RecordType) (kind : RecordKind) → view_record r ≡ declared kind → r.kind ≡ kind
+declared_kind r kind e = ap (λ v. v.kind) e
 
 module _ (records : List RecordValue) (number : ℕ) (kind : RecordKind) (is : slice_get records number ≡ Some (declared kind)) where
   pub kind_found : kind_at records number ≡ kind

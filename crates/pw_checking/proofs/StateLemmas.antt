@@ -11,11 +11,13 @@ use Rattle.pw_checking.specs.declared.state.State.{State}
 use Rattle.pw_checking.specs.declared.state.BodyState.{BodyState}
 use Rattle.pw_checking.specs.StateViews.{view_state, view_body_state}
 
--- a scope is entered, the names of the parameter list are declared in it, and the body is another
-pub entered_by : (q : QType) (locals : List LocalValue) (bindings : Bindings) (names : List (List ℕ)) (s again : State) (b : BodyState)
-    → view_state again ≡ with_scopes (declared_again bindings) (one_deeper (view_state s))
+-- the body is another, and a scope is entered in which the names of the parameter list are declared
+pub entered_by : (q : QType) (locals : List LocalValue) (bindings : Bindings) (names : List (List ℕ)) (s mid left : State) (b : BodyState)
+    → view_state mid ≡ with_body (λ _. view_body_state b) (view_state s)
+    → view_state left ≡ with_scopes (declared_again bindings) (one_deeper (view_state mid))
     → view_body_state b ≡ record no_body { result = q; locals = locals; names = names; labels = length names }
-    → with_body (λ _. view_body_state b) (view_state again) ≡ entered_body q locals bindings names (view_state s)
-entered_by q locals bindings names s again b a is =
-    ap (with_body (λ _. view_body_state b)) a
+    → view_state left ≡ entered_body q locals bindings names (view_state s)
+entered_by q locals bindings names s mid left b put entered is =
+    entered
+    ∙ ap (λ (t : states.State). with_scopes (declared_again bindings) (one_deeper t)) put
     ∙ ap (λ (w : states.BodyState). with_body (λ _. w) (with_scopes (declared_again bindings) (one_deeper (view_state s)))) is

@@ -1,6 +1,6 @@
 //! The function that is read, as the state knows it.
 
-ghost use Rattle.std.specs.Prelude.{◌≡◌, not, ◌||◌, nat_lt, length, option_map, OnOk, IfOk};
+ghost use Rattle.std.specs.Prelude.{◌≡◌, ◌≤◌, ◌-◌, ◌^◌, not, ◌||◌, nat_lt, length, option_map, OnOk, OnErr, IfOk};
 ghost use Rattle.std.specs.List.{list_any};
 ghost use Rattle.std.specs.Option.{option_copied, option_map_or};
 ghost use Rattle.pw_types.specs.declared.kind.IntKind.TheVariants as K;
@@ -10,17 +10,17 @@ ghost use Rattle.pw_rules.specs.Functions.{declared_again};
 ghost use Rattle.pw_rules.specs.Leaves.{is_nil};
 ghost use Rattle.pw_rules.specs.Statements as statements;
 ghost use Rattle.pw_checking.specs.Changes as changes;
-ghost use Rattle.pw_checking.specs.EntityViews.{view_switch};
+ghost use Rattle.pw_entities.specs.EntityViews.{view_switch};
 ghost use Rattle.pw_checking.specs.PhraseViews.{view_bindings};
 ghost use Rattle.pw_checking.specs.StateViews.{view_body_state, view_state};
 ghost use Rattle.pw_typed.specs.Views.{view_case, view_local, view_locals};
 ghost use Rattle.pw_types.specs.Views.{view_qtype};
 
-use crate::entity::SwitchState;
 use crate::phrase::Bindings;
 use crate::places::put;
 use crate::state::{BodyState, State};
-use pw_index::{CaseList, NameList};
+use pw_entities::SwitchState;
+use pw_index::{CaseList, NameList, next_word, word_of};
 use pw_typed::{Case, Local};
 use pw_types::{IntKind, QType};
 use std::alloc::{AllocError, Global};
@@ -40,8 +40,8 @@ impl<'a> State<'a> {
         ensures { OnOk result (view_state self.new ≡ changes.entered_body (view_qtype result_type) (view_locals locals.items) (view_bindings bindings.now) names.entry (view_state self.old)) }
     {
         let body = BodyState::begun(alloc, result_type, locals, names)?;
-        self.enter_parameters(bindings)?;
         self.put_body(body);
+        self.enter_parameters(bindings)?;
         Ok(())
     }
 
@@ -75,14 +75,12 @@ impl<'a> State<'a> {
         self.body.locals.as_slice()
     }
 
-    /// The place of the next local.
+    /// The place of the next local. What 32 bits cannot count is want of memory.
     pub fn next_local(&self) -> Result<u32, AllocError>
-        ensures { IfOk result (λ n. n ≡ spec.next_local (view_state self.now)) }
+        ensures place { IfOk result (λ n. n ≡ spec.next_local (view_state self.now)) }
+        ensures wants { OnErr result (2 ^ 32 ≤ length (view_state self.now).body.locals) }
     {
-        let Ok(place) = u32::try_from(self.body.locals.len()) else {
-            return Err(AllocError);
-        };
-        Ok(place)
+        Ok(word_of(self.body.locals.len())?)
     }
 
     /// A local more.
@@ -114,16 +112,14 @@ impl<'a> State<'a> {
         self.body.names.len()
     }
 
-    /// The number of a label more.
+    /// The number of a label more. What 32 bits cannot count is want of memory.
     pub fn next_label(&mut self) -> Result<u32, AllocError>
         ensures number { IfOk result (λ n. n ≡ (view_state self.old).body.labels) }
         ensures state { OnOk result (view_state self.new ≡ changes.with_label (view_state self.old)) }
+        ensures wants { OnErr result ((view_state self.old).body.labels ≡ 2 ^ 32 - 1) }
     {
         let label = self.body.labels;
-        let Some(labels) = label.checked_add(1) else {
-            return Err(AllocError);
-        };
-        self.body.labels = labels;
+        self.body.labels = next_word(label)?;
         Ok(label)
     }
 
@@ -221,14 +217,12 @@ impl<'a> State<'a> {
         self.body.loops > 0 || self.innermost_switch().is_some()
     }
 
-    /// Enters a loop.
+    /// Enters a loop. What 32 bits cannot count is want of memory.
     pub fn enter_loop(&mut self) -> Result<(), AllocError>
-        ensures { OnOk result (view_state self.new ≡ changes.in_loop (view_state self.old)) }
+        ensures state { OnOk result (view_state self.new ≡ changes.in_loop (view_state self.old)) }
+        ensures wants { OnErr result ((view_state self.old).body.loops ≡ 2 ^ 32 - 1) }
     {
-        let Some(loops) = self.body.loops.checked_add(1) else {
-            return Err(AllocError);
-        };
-        self.body.loops = loops;
+        self.body.loops = next_word(self.body.loops)?;
         Ok(())
     }
 

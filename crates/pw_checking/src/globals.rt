@@ -1,24 +1,25 @@
 //! Types, names with linkage and what is made, as the state knows them.
 
-ghost use Rattle.std.specs.Prelude.{◌≡◌, true, Some, map, length, option_map, slice_get, OnOk, IfOk};
+ghost use Rattle.std.specs.Prelude.{◌≡◌, ◌↔◌, ◌≤◌, ◌^◌, true, Some, map, length, option_map, slice_get, IsOk, IsTrue, OnOk, OnErr, IfOk};
 ghost use Rattle.std.specs.Option.{option_copied};
 ghost use Rattle.pw_rules.specs.States as spec;
 ghost use Rattle.pw_rules.specs.Leaves as leaves;
 ghost use Rattle.pw_rules.specs.Functions.{add_function};
 ghost use Rattle.pw_rules.specs.Linkage as linkage;
 ghost use Rattle.pw_checking.specs.Changes.{with_type, with_items};
-ghost use Rattle.pw_checking.specs.EntityViews.{view_linked, view_hidden};
+ghost use Rattle.pw_entities.specs.EntityViews.{view_linked, view_hidden};
 ghost use Rattle.pw_checking.specs.StateViews.{view_state};
 ghost use Rattle.pw_types.specs.Records.{Follows, declared, defined};
-ghost use Rattle.pw_types.specs.Views.{view_content, view_qtype};
+ghost use Rattle.pw_types.specs.Views.{view_content, view_qtype, view_record};
 ghost use Rattle.pw_typed.specs.Views.{view_function, view_placed};
 
-use crate::entity::{HiddenObject, LinkedName};
 use crate::places::put;
 use crate::state::State;
+use pw_entities::{HiddenObject, LinkedName};
+use pw_index::word_of;
 use pw_rules::Slot;
 use pw_typed::{TFunction, TItem};
-use pw_types::{Content, QType, RecordKind, Types};
+use pw_types::{Content, QType, RecordKind, RecordType, Types};
 use std::alloc::AllocError;
 
 #[tactic(auto, unfolding(crate::specs::StateViews::view_state), using(crate::proofs::PlaceLemmas::map_push, crate::proofs::PlaceLemmas::length_map, crate::proofs::PlaceLemmas::map_put_at))]
@@ -67,7 +68,8 @@ impl<'a> State<'a> {
         content: Content,
     ) -> Result<(), AllocError>
         requires follows { Follows (spec.records_in (view_state self.old)) kind (view_content content) }
-        ensures { OnOk result (view_state self.new ≡ spec.put_record number (defined kind (view_content content)) (view_state self.old)) }
+        ensures state { OnOk result (view_state self.new ≡ spec.put_record number (defined kind (view_content content)) (view_state self.old)) }
+        ensures defined { slice_get (spec.records_in (view_state self.old)) number ≡ Some (declared kind) → IsOk result }
     {
         if !is_undefined(&self.types.records, number, kind) {
             return Err(AllocError);
@@ -133,14 +135,12 @@ impl<'a> State<'a> {
         self.types.linked.set_items(place, ty, items);
     }
 
-    /// The number of the next hidden object.
+    /// The number of the next hidden object. What 32 bits cannot count is want of memory.
     pub fn next_hidden(&self) -> Result<u32, AllocError>
-        ensures { IfOk result (λ n. n ≡ spec.next_hidden (view_state self.now)) }
+        ensures number { IfOk result (λ n. n ≡ spec.next_hidden (view_state self.now)) }
+        ensures wants { OnErr result (2 ^ 32 ≤ spec.next_hidden (view_state self.now)) }
     {
-        let Ok(number) = u32::try_from(self.made.hidden.len()) else {
-            return Err(AllocError);
-        };
-        Ok(number)
+        Ok(word_of(self.made.hidden.len())?)
     }
 
     /// A hidden object more, with its slot.
@@ -192,12 +192,19 @@ impl<'a> State<'a> {
 }
 
 // Whether this is a structure or union of the kind that is not defined yet.
-#[tactic(auto, using(crate::proofs::RecordLemmas::declared_shown))]
 fn is_undefined(records: &Types, number: u32, kind: RecordKind) -> bool
-    ensures { result ≡ true → slice_get records.now number ≡ Some (declared kind) }
+    ensures { IsTrue result ↔ slice_get records.now number ≡ Some (declared kind) }
 {
     match records.record(number) {
-        Some(record) => record.content.is_none() && record.kind == kind,
+        Some(known) => is_declared(known, kind),
         None => false,
     }
+}
+
+// Whether a structure or union is of the kind and not defined.
+#[tactic(auto, using(crate::proofs::RecordLemmas::declared_shown, crate::proofs::RecordLemmas::declared_open, crate::proofs::RecordLemmas::declared_kind))]
+fn is_declared(known: &RecordType, kind: RecordKind) -> bool
+    ensures { IsTrue result ↔ view_record known.now ≡ declared kind }
+{
+    known.content.is_none() && known.kind == kind
 }

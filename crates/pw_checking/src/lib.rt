@@ -2,9 +2,7 @@
 #![tactic(auto)]
 
 mod bodies;
-pub mod entity;
 mod globals;
-pub mod linked;
 mod names;
 pub mod operand;
 pub mod phrase;
@@ -14,13 +12,12 @@ pub mod state;
 mod trees;
 pub mod values;
 
-pub use entity::{Entity, HiddenObject, LinkedName, SwitchState};
-pub use linked::LinkedNames;
 pub use operand::Operand;
 pub use phrase::{Bindings, Declared, Derivation, Gathered, Parameter, Specified, Spot};
 pub use phrases::{Phrases, whole_rule};
+pub use pw_entities::{Entity, HiddenObject, LinkedName, LinkedNames, SwitchState};
 pub use pw_finding::{Finding, fault, typing};
-pub use pw_index::{CaseList, NameList};
+pub use pw_index::{CaseList, NameList, word_of};
 pub use state::{BodyState, MadeState, ScopeState, State, TypeState};
 pub use trees::{first_of_declaration, first_of_list};
 pub use values::{boxed, value_operand, value_rule};

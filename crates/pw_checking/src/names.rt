@@ -5,16 +5,16 @@ ghost use Rattle.std.specs.Option.{option_copied};
 ghost use Rattle.pw_rules.specs.States as spec;
 ghost use Rattle.pw_checking.specs.Changes.{bindings_in, names_again, tags_again};
 ghost use Rattle.pw_index.specs.Scoping.{found_names};
-ghost use Rattle.pw_checking.specs.EntityViews.{view_entity};
+ghost use Rattle.pw_entities.specs.EntityViews.{view_entity};
 ghost use Rattle.pw_checking.specs.PhraseViews.{view_parameters, view_bindings};
 ghost use Rattle.pw_checking.specs.StateViews.{view_state};
 ghost use Rattle.pw_rules.specs.Functions.{declared_again};
 
-use crate::entity::Entity;
 use crate::phrase::{Bindings, Parameter};
 use crate::places::put;
 use crate::state::State;
-use pw_index::VisibleNames;
+use pw_entities::Entity;
+use pw_index::{VisibleNames, word_of};
 use pw_rules::{Entry, Tag};
 use std::alloc::{AllocError, Global};
 
@@ -93,9 +93,7 @@ impl<'a> State<'a> {
     pub fn enter(&mut self, name: &'a [u8], entity: Entity) -> Result<(), AllocError>
         ensures { OnOk result (view_state self.new ≡ spec.enter name.now (view_entity entity) (view_state self.old)) }
     {
-        let Ok(place) = u32::try_from(self.scopes.entities.len()) else {
-            return Err(AllocError);
-        };
+        let place = word_of(self.scopes.entities.len())?;
         self.scopes.names.declare(name, place)?;
         self.scopes.entities.push(entity)?;
         Ok(())

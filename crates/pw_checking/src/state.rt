@@ -6,9 +6,8 @@ ghost use Rattle.pw_checking.specs.StateViews.{view_body_state, view_state};
 ghost use Rattle.pw_typed.specs.Views.{view_locals};
 ghost use Rattle.pw_types.specs.Views.{view_qtype};
 
-use crate::entity::{Entity, HiddenObject, SwitchState};
-use crate::linked::LinkedNames;
-use pw_index::{NameList, VisibleNames};
+use pw_entities::{Entity, HiddenObject, LinkedNames, SwitchState};
+use pw_index::{NameList, VisibleNames, word_of};
 use pw_kinds::plain;
 use pw_rules::Slot;
 use pw_typed::{Local, TFunction};
@@ -116,9 +115,7 @@ impl<'a> BodyState<'a> {
     ) -> Result<BodyState<'a>, AllocError>
         ensures { IfOk result (λ b. view_body_state b ≡ record spec.no_body { result = view_qtype result_type; locals = view_locals locals.items; names = names.entry; labels = length names.entry }) }
     {
-        let Ok(labels) = u32::try_from(names.len()) else {
-            return Err(AllocError);
-        };
+        let labels = word_of(names.len())?;
         Ok(BodyState {
             result: result_type,
             locals,

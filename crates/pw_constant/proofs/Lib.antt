@@ -2,3 +2,4 @@ mod FrameLemmas
 mod MoveLemmas
 mod NullLemmas
 mod PlaceLemmas
+mod SizeLemmas

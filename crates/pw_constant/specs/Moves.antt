@@ -1,5 +1,5 @@
 -- Moves of an address within an object of static lifetime.
-use Rattle.std.specs.Prelude.{ℕ, ◌<◌, Bool, if◌then◌else◌, List, [], ◌∷◌, Option, None, option_map, option_and_then}
+use Rattle.std.specs.Prelude.{ℕ, ◌<◌, Bool, if◌then◌else◌, List, [], ◌∷◌, Option, None, option_map, option_and_then, unwrap_or}
 use Rattle.pw_types.specs.TypeTrees.{RecordValue}
 use Rattle.pw_types.specs.TypedTrees.{Expression, Form}
 use Rattle.pw_types.specs.TypedTrees as T
@@ -38,6 +38,10 @@ abbrev pub place_by : List RecordValue → Way → Option Place
 place_by records (way.Ends p) = option_map view_place p
 place_by records (way.Through asked a) = place_of records (view_asked asked) (view_expr a.now)
 place_by records (way.Moves m a asked) = option_and_then (taken m) (place_of records (view_asked asked) (view_expr a.now))
+
+-- the size of the object at a place, 0 where there is none that is known
+abbrev pub object_size : Option Place → ℕ
+object_size p = unwrap_or (option_and_then (λ q. q.size) p) 0
 
 -- of a sum or a difference that is a pointer
 abbrev pub moved_place : List RecordValue → BinaryOperator → Expression → Expression → Option Place

@@ -1,7 +1,7 @@
 //! Address constants (ISO C90 6.4). Each form leads to one of its operands, so a loop goes down them.
 
-ghost use Rattle.std.specs.Prelude.{◌≡◌, ◌+◌, max, IfOk, Option, Some, option_and_then, option_map};
-ghost use Rattle.pw_constant.specs.Moves.{IsBelow, IsPartOf, moved_place, place_by, reversed, taken};
+ghost use Rattle.std.specs.Prelude.{◌≡◌, ◌+◌, ◌-◌, ◌≤◌, ◌^◌, max, IfOk, OnErr, Option, Some, option_and_then, option_map, unwrap_or};
+ghost use Rattle.pw_constant.specs.Moves.{IsBelow, IsPartOf, moved_place, object_size, place_by, reversed, taken};
 ghost use Rattle.pw_constant.specs.Views.{view_asked, view_place};
 ghost use Rattle.pw_rules.specs.Constants as spec;
 ghost use Rattle.pw_typed.specs.Views.{view_expr};
@@ -27,8 +27,10 @@ pub enum Way<'t> {
 
 /// The size of a type, where it has one; want of memory where 64 bits cannot tell it, which no type within the limits
 /// comes to.
+#[tactic(auto, using(crate::proofs::SizeLemmas::size_beyond))]
 pub fn told_size(types: &Types, ty: &CType) -> Result<Option<u64>, AllocError>
-    ensures { IfOk result (λ bytes. bytes ≡ size_of types.now (view_type ty.now)) }
+    ensures told { IfOk result (λ bytes. bytes ≡ size_of types.now (view_type ty.now)) }
+    ensures wants { OnErr result (2 ^ 64 - 1 ≤ unwrap_or (size_of types.now (view_type ty.now)) 0) }
 {
     match size(types, ty) {
         Some(bytes) if bytes == u64::MAX => Err(AllocError),
@@ -36,9 +38,10 @@ pub fn told_size(types: &Types, ty: &CType) -> Result<Option<u64>, AllocError>
     }
 }
 
-/// The size of what a pointer points to, where it has one, else 0.
+/// The size of what a pointer points to, where it has one, else 0; want of memory where 64 bits cannot tell it.
 fn step_of(types: &Types, ty: &CType) -> Result<u64, AllocError>
-    ensures { IfOk result (λ bytes. bytes ≡ spec.step_of types.now (view_type ty.now)) }
+    ensures told { IfOk result (λ bytes. bytes ≡ spec.step_of types.now (view_type ty.now)) }
+    ensures wants { OnErr result (2 ^ 64 - 1 ≤ spec.step_of types.now (view_type ty.now)) }
 {
     let size = match pointee(ty) {
         Some(target) => told_size(types, &target.ty)?,
@@ -93,11 +96,13 @@ fn next_way<'t>(
     }
 }
 
-/// One step of an expression that is asked for the place that it denotes.
+/// One step of an expression that is asked for the place that it denotes; want of memory where 64 bits cannot tell the
+/// size of the object.
 #[tactic(auto, unfolding(pw_typed::specs::Views::view_form, pw_rules::specs::Constants::place_of))]
 fn place_way<'t>(types: &Types, e: &'t TExpr) -> Result<Way<'t>, AllocError>
     ensures value { IfOk result (λ way. place_by types.now way ≡ spec.place_of types.now spec.AsPlace (view_expr e.now)) }
     ensures smaller { IfOk result (λ way. IsPartOf way e.now) }
+    ensures wants { OnErr result (2 ^ 64 - 1 ≤ object_size (spec.place_of types.now spec.AsPlace (view_expr e.now))) }
 {
     match &e.form {
         TForm::Global(symbol) => {

@@ -1,10 +1,12 @@
--- Rows of keywords with the integer types that they say, and the qualifiers that fit a type.
+-- Rows of keywords with the integer types that they say, and qualifiers: how many there are, and which fit a type.
 use Rattle.std.specs.Prelude.{ℕ, ◌+◌, ◌==◌, Bool, not, ◌&&◌, ◌||◌, nat_le, Option, List, find, option_map}
 use Rattle.pw_tree.specs.declared.expr.BasicType.{BasicType}
+use Rattle.pw_tree.specs.declared.expr.Qualifier.{Qualifier}
+use Rattle.pw_tree.specs.declared.expr.Qualifier.TheVariants as qualifier
 use Rattle.pw_types.specs.declared.kind.IntKind.{IntKind}
 use Rattle.pw_types.specs.TypeTrees.{QType, type_of}
 use Rattle.pw_rules.specs.Kinds.{is_const_object, is_volatile_object, is_function}
-use Rattle.pw_rules.specs.SpecifierLists.{same_words, one_if}
+use Rattle.pw_rules.specs.SpecifierLists.{Gathered, same_words, one_if}
 
 -- the first row with these keywords
 abbrev pub row_found : List (List BasicType × Option IntKind) → List BasicType → Option (Option IntKind)
@@ -16,3 +18,8 @@ lawful_qualifiers constants volatiles ty =
     nat_le (constants + one_if (is_const_object ty)) 1
     && (nat_le (volatiles + one_if (is_volatile_object ty)) 1
     && not ((not (constants == 0) || not (volatiles == 0)) && is_function (type_of ty)))
+
+-- how often a qualifier was gathered
+abbrev pub count_of : Qualifier → Gathered → ℕ
+count_of qualifier.Const g = g.constants
+count_of qualifier.Volatile g = g.volatiles

@@ -1,10 +1,10 @@
 //! Lists of specifiers (C90 6.5.1 to 6.5.3).
 
-ghost use Rattle.std.specs.Prelude.{◌≡◌, ◌+◌, nat_le, IfOk};
+ghost use Rattle.std.specs.Prelude.{◌≡◌, ◌≢◌, ◌+◌, ◌-◌, ◌^◌, nat_le, IfOk, IfErr, OnErr};
 ghost use Rattle.pw_checking.specs.Follows.{Follows};
 ghost use Rattle.pw_checking.specs.PhraseViews.{view_gathered, view_specified};
 ghost use Rattle.pw_checking.specs.StateViews.{view_state};
-ghost use Rattle.pw_specified.specs.Rows.{lawful_qualifiers};
+ghost use Rattle.pw_specified.specs.Rows.{count_of, lawful_qualifiers};
 ghost use Rattle.pw_rules.specs.SpecifierLists as spec;
 ghost use Rattle.pw_types.specs.Views.{view_qtype};
 
@@ -13,7 +13,7 @@ use pw_checking::{Gathered, Specified, State, typing};
 use pw_kinds::{is_const_object, is_function, is_volatile_object, qualify};
 use pw_tree::{BasicType, Qualifier, StorageClass};
 use pw_types::QType;
-use pw_walk::CheckFault;
+use pw_walk::{CheckFault, CheckKind};
 use std::alloc::{AllocError, Global};
 
 /// No specifiers yet.
@@ -39,9 +39,10 @@ pub fn gather_storage(storage: StorageClass, gathered: Gathered) -> Result<Gathe
     Ok(gathered)
 }
 
-/// One more of what was counted.
+/// One more of what was counted. What 64 bits cannot count is want of memory.
 fn one_more(count: usize) -> Result<usize, AllocError>
-    ensures { IfOk result (λ n. n ≡ count + 1) }
+    ensures more { IfOk result (λ n. n ≡ count + 1) }
+    ensures wants { OnErr result (count ≡ 2 ^ 64 - 1) }
 {
     match count.checked_add(1) {
         Some(more) => Ok(more),
@@ -49,9 +50,10 @@ fn one_more(count: usize) -> Result<usize, AllocError>
     }
 }
 
-/// What was gathered with a qualifier more.
+/// What was gathered with a qualifier more. What 64 bits cannot count is want of memory.
 pub fn gather_qualifier(qualifier: Qualifier, gathered: Gathered) -> Result<Gathered, AllocError>
-    ensures { IfOk result (λ g. view_gathered g ≡ spec.gather_qualifier qualifier (view_gathered gathered)) }
+    ensures gathers { IfOk result (λ g. view_gathered g ≡ spec.gather_qualifier qualifier (view_gathered gathered)) }
+    ensures wants { OnErr result (count_of qualifier (view_gathered gathered) ≡ 2 ^ 64 - 1) }
 {
     let mut gathered = gathered;
     match qualifier {
@@ -105,7 +107,8 @@ fn are_lawful(constants: usize, volatiles: usize, ty: &QType) -> bool
 /// What a list of specifiers says, by its first token.
 #[tactic(auto, unfolding(pw_walk::specs::Walks::bind, pw_walk::specs::Walks::outcome, pw_rules::specs::SpecifierLists::specified))]
 pub fn specified(state: &State, first: usize, gathered: Gathered) -> Result<Specified, CheckFault>
-    ensures { Follows view_specified (spec.specified first (view_gathered gathered)) (view_state state.now) result }
+    ensures follows { Follows view_specified (spec.specified first (view_gathered gathered)) (view_state state.now) result }
+    ensures no_memory { IfErr result (λ fault. fault.kind ≢ CheckKind.NoMemory) }
 {
     let Gathered {
         storages,

@@ -11,22 +11,22 @@ use Rattle.pw_body.proofs.stmt.block_rule.Goals as goal
 pub returns-in_err-initialisers : goal.returns-in_err-initialisers
 unfolding stmt_rule
 returns-in_err-initialisers g c =
-    from _ c.in_ok-first.ensures refl (step_err _ (rw c.deref.ensures.value at c.decls.ensures) c.in_err-initialisers.was (search rules))
+    from _ c.in_ok-first.ensures.place refl (step_err _ (rw c.deref.ensures.value at c.decls.ensures) c.in_err-initialisers.was (search rules))
 
 pub returns-in_err-items : goal.returns-in_err-items
 unfolding stmt_rule
 returns-in_err-items g c =
-    from _ c.in_ok-first.ensures refl
+    from _ c.in_ok-first.ensures.place refl
     (step_ok _ (rw c.deref.ensures.value at c.decls.ensures) c.in_ok-initialisers.was
-    (from _ c.in_ok-end.ensures refl
+    (from _ c.in_ok-end.ensures.place refl
     (step_err _ (rw c.deref-2.ensures.value at c.stmts_rule.ensures) c.in_err-items.was (search rules))))
 
 pub returns : goal.returns
 unfolding stmt_rule
 returns g c =
-    from _ c.in_ok-first.ensures refl
+    from _ c.in_ok-first.ensures.place refl
     (step_ok _ (rw c.deref.ensures.value at c.decls.ensures) c.in_ok-initialisers.was
-    (from _ c.in_ok-end.ensures refl
+    (from _ c.in_ok-end.ensures.place refl
     (step_ok _ (rw c.deref-2.ensures.value at c.stmts_rule.ensures) c.in_ok-items.was
     (ends
     (block_view c.args.block.now.token c.in_ok-first.first c.saturating_sub.result c.in_ok-initialisers.initialisers c.in_ok-items.items

@@ -7,10 +7,10 @@ use Rattle.pw_body.proofs.stmt.in_loop.Goals as goal
 pub returns-in_err-made : goal.returns-in_err-made
 unfolding in_loop
 returns-in_err-made g c =
-    from_within _ _ refl c.in_ok-enter_loop.ensures (step_err _ c.boxed_stmt.ensures c.in_err-made.was (search rules))
+    from_within _ _ refl c.in_ok-enter_loop.ensures.state (step_err _ c.boxed_stmt.ensures c.in_err-made.was (search rules))
 
 pub returns : goal.returns
 unfolding in_loop
 returns g c =
-    from_within _ _ refl c.in_ok-enter_loop.ensures
+    from_within _ _ refl c.in_ok-enter_loop.ensures.state
     (step_ok _ c.boxed_stmt.ensures c.in_ok-made.was (from _ refl c.leave_loop.ensures (ends refl refl)))

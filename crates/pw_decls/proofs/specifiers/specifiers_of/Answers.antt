@@ -9,4 +9,4 @@ returns-in_err-gathered g c = step_err _ c.gather.ensures c.in_err-gathered.was 
 
 pub returns : goal.returns
 unfolding specified_rule
-returns g c = step_ok _ c.gather.ensures c.in_ok-gathered.was c.specified.ensures
+returns g c = step_ok _ c.gather.ensures c.in_ok-gathered.was c.specified.ensures.follows

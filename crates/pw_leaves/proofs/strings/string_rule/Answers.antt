@@ -30,5 +30,5 @@ returns c =
     (c.in_ok-lvalue_operand.ensures
     ∙ ap (λ q. lvalue_operand false (T.Node c.first_of_words-token.result q (T.Str c.in_ok-number.number))) (c.in_ok-ty.ensures ∙ ap string_type c.deref.ensures.value)
     ∙ ap (λ t. lvalue_operand false (T.Node t (string_type c.in_ok-bytes.bytes.items) (T.Str c.in_ok-number.number))) c.first_of_words-token.ensures
-    ∙ ap (λ k. lvalue_operand false (T.Node (first_of_words ws) (string_type c.in_ok-bytes.bytes.items) (T.Str k))) c.in_ok-number.ensures)
+    ∙ ap (λ k. lvalue_operand false (T.Node (first_of_words ws) (string_type c.in_ok-bytes.bytes.items) (T.Str k))) c.in_ok-number.ensures.number)
     (search rules))

@@ -29,7 +29,7 @@ returns-in_ok-define_record-in-Ok c =
     passed_ok view_qtype (content_point c.args.token here) (Done (plain (Record c.args.number), put_record c.args.number (defined c.args.kind here) s)) _ _
     (content_met (records_in s) c.args.kind members c.args.token _ d)
     (made_ok view_qtype _ _ _ _ (sym c.plain.ensures)
-    (sym (c.in_ok-define_record-in-Ok.ensures ∙ ap (λ v. put_record c.args.number (defined c.args.kind v) s) (content_is (records_in s) c.args.kind members c.args.token _ d))))
+    (sym (c.in_ok-define_record-in-Ok.ensures.state ∙ ap (λ v. put_record c.args.number (defined c.args.kind v) s) (content_is (records_in s) c.args.kind members c.args.token _ d))))
 
 pub returns-in-Err : goal.returns-in-Err
 unfolding closing_rule bind

@@ -1,7 +1,7 @@
 use Rattle.std.proofs.Common.{[], ◌∷◌, ◌++◌, ap, rules, arith}
 use Rattle.pw_typed.specs.Views.{view_case}
 use Rattle.pw_rules.specs.States.{with_body}
-use Rattle.pw_checking.specs.EntityViews.{view_switch}
+use Rattle.pw_entities.specs.EntityViews.{view_switch}
 use Rattle.pw_checking.specs.StateViews.{view_state}
 use Rattle.pw_checking.proofs.SwitchLemmas.{last_changed}
 use Rattle.pw_checking.proofs.state.State.add_case.Goals as goal

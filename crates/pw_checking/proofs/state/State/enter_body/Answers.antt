@@ -1,4 +1,3 @@
-use Rattle.std.proofs.Common.{◌∙◌}
 use Rattle.pw_typed.specs.Views.{view_locals}
 use Rattle.pw_types.specs.Views.{view_qtype}
 use Rattle.pw_checking.specs.PhraseViews.{view_bindings}
@@ -7,7 +6,7 @@ use Rattle.pw_checking.proofs.state.State.enter_body.Goals as goal
 
 pub returns : goal.returns
 returns c =
-    c.put_body.ensures
-    ∙ entered_by
+    entered_by
     (view_qtype c.args.result_type) (view_locals c.args.locals.items) (view_bindings c.args.bindings.now) c.args.names
-    c.args.self.now c.enter_parameters.new.self c.in_ok-body.body c.in_ok-enter_parameters.ensures c.in_ok-body.ensures
+    c.args.self.now c.put_body.new.self c.enter_parameters.new.self c.in_ok-body.body
+    c.put_body.ensures c.in_ok-enter_parameters.ensures c.in_ok-body.ensures

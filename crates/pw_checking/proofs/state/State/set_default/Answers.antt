@@ -1,6 +1,6 @@
 use Rattle.std.proofs.Common.{Some, refl, ap, rules, arith}
 use Rattle.pw_rules.specs.States.{with_body}
-use Rattle.pw_checking.specs.EntityViews.{view_switch}
+use Rattle.pw_entities.specs.EntityViews.{view_switch}
 use Rattle.pw_checking.specs.StateViews.{view_state}
 use Rattle.pw_checking.proofs.SwitchLemmas.{last_changed}
 use Rattle.pw_checking.proofs.state.State.set_default.Goals as goal

@@ -1,6 +1,6 @@
 use Rattle.std.proofs.Common.{position, bytes_eq, ap, ◌∙◌}
-use Rattle.pw_checking.proofs.LinkedLemmas.{position_linked}
-use Rattle.pw_checking.proofs.linked.LinkedNames.position.Goals as goal
+use Rattle.pw_entities.proofs.LinkedLemmas.{position_linked}
+use Rattle.pw_entities.proofs.linked.LinkedNames.position.Goals as goal
 
 pub returns : goal.returns
 returns c =

@@ -5,7 +5,7 @@ ghost use Rattle.std.specs.Option.{option_copied};
 ghost use Rattle.std.specs.Str.{bytes_eq};
 ghost use Rattle.pw_types.specs.Views.{view_qtype};
 ghost use Rattle.pw_typed.specs.Views.{view_placed};
-ghost use Rattle.pw_checking.specs.EntityViews.{names_linked};
+ghost use Rattle.pw_entities.specs.EntityViews.{names_linked};
 
 use crate::entity::LinkedName;
 use pw_index::NameList;
@@ -22,8 +22,8 @@ pub struct LinkedNames<'a> {
 }
 
 impl<'a> LinkedNames<'a> {
-    ghost use Rattle.pw_checking.specs.LinkedViews.{linked_names, changed_at};
-    ghost use Rattle.pw_checking.specs.EntityViews.{view_linked};
+    ghost use Rattle.pw_entities.specs.LinkedViews.{linked_names, changed_at};
+    ghost use Rattle.pw_entities.specs.EntityViews.{view_linked};
 
     /// No names.
     pub fn new(alloc: Global) -> LinkedNames<'a>
@@ -67,7 +67,7 @@ impl<'a> LinkedNames<'a> {
     }
 
     /// The type of a name is this from here on.
-    #[tactic(auto, using(crate::proofs::PlaceLemmas::map_same, crate::proofs::PlaceLemmas::map_changed, crate::proofs::PlaceLemmas::map_past))]
+    #[tactic(auto, using(crate::proofs::ChangeLemmas::map_same, crate::proofs::ChangeLemmas::map_changed, crate::proofs::ChangeLemmas::map_past))]
     pub fn set_type(&mut self, place: u32, ty: QType)
         ensures { linked_names self.new ≡ changed_at place (λ l. record l { ty = view_qtype ty }) (linked_names self.old) }
     {
@@ -77,7 +77,7 @@ impl<'a> LinkedNames<'a> {
     }
 
     /// A name is tentatively defined.
-    #[tactic(auto, using(crate::proofs::PlaceLemmas::map_same, crate::proofs::PlaceLemmas::map_changed, crate::proofs::PlaceLemmas::map_past))]
+    #[tactic(auto, using(crate::proofs::ChangeLemmas::map_same, crate::proofs::ChangeLemmas::map_changed, crate::proofs::ChangeLemmas::map_past))]
     pub fn set_tentative(&mut self, place: u32)
         ensures { linked_names self.new ≡ changed_at place (λ l. record l { tentative = true }) (linked_names self.old) }
     {
@@ -87,7 +87,7 @@ impl<'a> LinkedNames<'a> {
     }
 
     /// A name is defined.
-    #[tactic(auto, using(crate::proofs::PlaceLemmas::map_same, crate::proofs::PlaceLemmas::map_changed, crate::proofs::PlaceLemmas::map_past))]
+    #[tactic(auto, using(crate::proofs::ChangeLemmas::map_same, crate::proofs::ChangeLemmas::map_changed, crate::proofs::ChangeLemmas::map_past))]
     pub fn set_defined(&mut self, place: u32)
         ensures { linked_names self.new ≡ changed_at place (λ l. record l { defined = true }) (linked_names self.old) }
     {
@@ -97,7 +97,7 @@ impl<'a> LinkedNames<'a> {
     }
 
     /// The type and the first bytes of a name are these from here on.
-    #[tactic(auto, using(crate::proofs::PlaceLemmas::map_same, crate::proofs::PlaceLemmas::map_changed, crate::proofs::PlaceLemmas::map_past))]
+    #[tactic(auto, using(crate::proofs::ChangeLemmas::map_same, crate::proofs::ChangeLemmas::map_changed, crate::proofs::ChangeLemmas::map_past))]
     pub fn set_items(&mut self, place: u32, ty: QType, items: Vec<(u32, TItem)>)
         ensures { linked_names self.new ≡ changed_at place (λ l. record l { ty = view_qtype ty; items = map view_placed items.items }) (linked_names self.old) }
     {

@@ -1,8 +1,8 @@
 -- The names with linkage as a list, and changes of one of them.
 use Rattle.std.specs.Prelude.{ℕ, zero, suc, List, [], ◌∷◌, map}
 use Rattle.pw_rules.specs.States as states
-use Rattle.pw_checking.specs.EntityViews.{view_linked}
-use Rattle.pw_checking.specs.declared.linked.LinkedNames.{LinkedNames}
+use Rattle.pw_entities.specs.EntityViews.{view_linked}
+use Rattle.pw_entities.specs.declared.linked.LinkedNames.{LinkedNames}
 
 abbrev pub linked_names : LinkedNames → List states.LinkedName
 linked_names l = map view_linked l.items.items

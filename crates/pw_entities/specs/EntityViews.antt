@@ -3,11 +3,11 @@ use Rattle.std.specs.Prelude.{ℕ, List, map}
 use Rattle.pw_typed.specs.Views.{view_placed}
 use Rattle.pw_types.specs.Views.{view_qtype}
 use Rattle.pw_rules.specs.States as states
-use Rattle.pw_checking.specs.declared.entity.Entity.{Entity}
-use Rattle.pw_checking.specs.declared.entity.Entity.TheVariants as entity
-use Rattle.pw_checking.specs.declared.entity.LinkedName.{LinkedName}
-use Rattle.pw_checking.specs.declared.entity.HiddenObject.{HiddenObject}
-use Rattle.pw_checking.specs.declared.entity.SwitchState.{SwitchState}
+use Rattle.pw_entities.specs.declared.entity.Entity.{Entity}
+use Rattle.pw_entities.specs.declared.entity.Entity.TheVariants as entity
+use Rattle.pw_entities.specs.declared.entity.LinkedName.{LinkedName}
+use Rattle.pw_entities.specs.declared.entity.HiddenObject.{HiddenObject}
+use Rattle.pw_entities.specs.declared.entity.SwitchState.{SwitchState}
 
 abbrev pub view_entity : Entity → states.Entity
 view_entity (entity.TypeName q) = states.TypeName (view_qtype q)

@@ -1,0 +1,2 @@
+pub mod EntityViews
+pub mod LinkedViews
