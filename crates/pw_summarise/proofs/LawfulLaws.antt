@@ -117,11 +117,11 @@ globals_over m s is name h = subst (λ (ns : List (List ℕ)). Contains ns name)
 keeps_start : (m : FlowModule) (s : Summary) → IsValid m → Summarises m s → KeepsStart (names_of_functions s) (names_of_globals s)
 keeps_start m s valid is = record {
   beside = (
-    λ h. functions_back m s is main_name (valid.names.start.included.0 (functions_over m s is start_name h)),
-    λ h. functions_back m s is start_name (valid.names.start.included.1 (functions_over m s is main_name h)),
+    λ h. functions_back m s is main_name (valid.names.start.beside.0 (functions_over m s is start_name h)),
+    λ h. functions_back m s is start_name (valid.names.start.beside.1 (functions_over m s is main_name h)),
   );
   once = once start_name None (names_of_functions s) is.functions.rising;
-  no_global = λ h. has_each IsOrdinary (global_names m) start_name valid.names.start.no_global (has_by start_name (global_names m) (globals_over m s is start_name h)) refl;
+  no_global = λ h. valid.names.start.no_global (globals_over m s is start_name h);
 }
 
 -- ---- the summary

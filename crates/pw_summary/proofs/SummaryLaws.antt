@@ -30,6 +30,7 @@ use Rattle.pw_summary.specs.declared.summary.Uses.{Uses}
 use Rattle.pw_summary.specs.declared.summary.Summary.{Summary}
 use Rattle.pw_summary.specs.Summary.{global_names, function_names, IsUses, IsSummary, global, reference, uses, others, names_of_uses, names_of, FitsUses, FitsSummary, spelling, kind, summary_version, weight_bound, IsSummaryFile}
 use Rattle.pw_summary.specs.Reading.{global_at, weight_at, reference_at, uses_at, last_rules, fields_at, summary_file_at}
+use Rattle.pw_summary.proofs.Parts.{row_at, in_a_row}
 
 -- ---- items
 
@@ -93,17 +94,16 @@ abbrev body : List (List ℕ) → Summary → List ℕ
 body names s = name_index names s.module ++ (counted (global names) s.globals ++ (counted (shaped names) s.functions ++ (counted (shaped names) s.declared
     ++ (counted (name_index names) s.used ++ (counted (shaped names) s.taken ++ (counted (name_index names) s.escaped ++ (flat_map (uses names) s.uses ++ [])))))))
 
-in_a_row : (a b c d tail : List ℕ) → a ++ (b ++ (c ++ (d ++ tail))) ≡ (a ++ (b ++ (c ++ (d ++ [])))) ++ (tail ++ [])
-in_a_row a b c d tail = simp (append_assoc, append-nil)
+regrouped : (a b c d tail : List ℕ) → a ++ (b ++ (c ++ (d ++ tail))) ≡ (a ++ (b ++ (c ++ (d ++ [])))) ++ (tail ++ [])
+regrouped a b c d tail = simp (append_assoc, append-nil)
 
 abbrev BodySteps : List (List ℕ) → Summary → Type 0
 BodySteps names s = Contains names s.module × (FitsRising (λ g. g.0) (FitsGlobal names) s.globals × (Functions names s.functions × (Functions names s.declared
     × (FitsRising (λ name. name) (FitsName names Allowed) s.used × (FitsRising (λ f. f.0) (FitsShaped names Refused) s.taken × (FitsRising (λ name. name) (FitsName names Allowed) s.escaped
     × (((length s.uses ≡ length s.functions) × AllByRecursion (UsesSteps names) s.uses) × LastRules names s)))))))
 
-summary_steps : (names : List (List ℕ)) → IsNameTable names → (behind : ℕ) → Completes {X = Contents Summary} Nothing (λ c. Unit {0} × (c.names ≡ names)) (λ c. body names c.value) (λ c. BodySteps names c.value) (fields_at names (last_rules names behind))
-unfolding fields_at
-summary_steps names table behind =
+row_steps : (names : List (List ℕ)) → IsNameTable names → (behind : ℕ) → Completes {X = Contents Summary} Nothing (λ c. Unit {0} × (c.names ≡ names)) (λ c. body names c.value) (λ c. BodySteps names c.value) (row_at names (last_rules names behind))
+row_steps names table behind =
     step _ _ (name_index names) (Contains names) (name_at names) _ _ _ (λ c. c.value.module) (name_spells names table)
     (λ m m_fits. step _ _ (counted (global names)) (FitsRising (λ g. g.0) (FitsGlobal names)) (rising_at (λ g. g.0) (global_at names)) _ _ _ (λ c. c.value.globals)
     (rising_spells (global names) (λ g. g.0) (FitsGlobal names) (global_at names) (global_spells names table))
@@ -123,6 +123,15 @@ summary_steps names table behind =
     (((((((((tt, refl), refl), refl), refl), refl), refl), refl), refl), refl)
     (λ c k. sym (λ j. record { names = k.0.0.0.0.0.0.0.0.1 j; value = record { «module» = k.0.0.0.0.0.0.0.1 j; globals = k.0.0.0.0.0.0.1 j; functions = k.0.0.0.0.0.1 j; declared = k.0.0.0.0.1 j; used = k.0.0.0.1 j; taken = k.0.0.1 j; escaped = k.0.1 j; uses = k.1 j } }))
     (module_rules_forth names (names_of s) behind (function_names s) (global_names s) count) (module_rules_back names (names_of s) behind (function_names s) (global_names s) count))))))))))
+
+summary_steps : (names : List (List ℕ)) → IsNameTable names → (behind : ℕ) → Completes {X = Contents Summary} Nothing (λ c. Unit {0} × (c.names ≡ names)) (λ c. body names c.value) (λ c. BodySteps names c.value) (fields_at names (last_rules names behind))
+summary_steps names table behind =
+    let row = row_steps names table behind in
+    let same = in_a_row names (last_rules names behind) in
+    record {
+      takes = λ bytes c rest fits e. row.takes bytes c rest fits (sym (same bytes) ∙ e);
+      again = λ c rest follows known fits. same (body names c.value ++ rest) ∙ row.again c rest follows known fits;
+    }
 
 abbrev ContentsSteps : Contents Summary → Type 0
 ContentsSteps c = IsNameTable c.names × BodySteps c.names c.value
@@ -291,7 +300,7 @@ contents_back c is =
 
 pub contents_spells : SpellsWhole spelling (IsContents IsSummary FitsSummary names_of) (contents_at fields_at last_rules)
 contents_spells = contents_spell fields_at last_rules spelling body BodySteps (IsContents IsSummary FitsSummary names_of) summary_steps
-    (λ c. ap (λ (w : List ℕ). name_table c.names ++ w) (in_a_row (name_index c.names c.value.module) (counted (global c.names) c.value.globals) (counted (shaped c.names) c.value.functions) (counted (shaped c.names) c.value.declared) (others c.names c.value)))
+    (λ c. ap (λ (w : List ℕ). name_table c.names ++ w) (regrouped (name_index c.names c.value.module) (counted (global c.names) c.value.globals) (counted (shaped c.names) c.value.functions) (counted (shaped c.names) c.value.declared) (others c.names c.value)))
     contents_forth contents_back
 
 -- ---- the file
