@@ -1,8 +1,9 @@
 //! The limits on types and names that are declared (C90 5.2.4.1).
 
-ghost use Rattle.std.specs.Prelude.{◌≡◌, [], ◌∷◌, length, IfOk};
+ghost use Rattle.std.specs.Prelude.{◌≡◌, ◌-◌, ◌≤◌, ◌^◌, [], ◌∷◌, length, IfOk, OnErr};
 ghost use Rattle.pw_finding.specs.Found.{found, found_behind};
 ghost use Rattle.pw_rules.specs.Limits as spec;
+ghost use Rattle.pw_types.specs.Records.{depth_of};
 ghost use Rattle.pw_types.specs.Shapes.{shape_of};
 ghost use Rattle.pw_types.specs.Views.{view_type, view_qtype};
 ghost use Rattle.pw_value.specs.Limits.{shape_limit};
@@ -94,6 +95,18 @@ pub fn name_within(so_far: Finding, token: usize, name: &[u8]) -> Finding
     )
 }
 
+/// The depth of a type. What 64 bits cannot tell is want of memory.
+fn told_depth(types: &Types, ty: &CType) -> Result<u64, AllocError>
+    ensures told { IfOk result (λ n. n ≡ depth_of types.now (view_type ty.now)) }
+    ensures wants { OnErr result (2 ^ 64 - 1 ≤ depth_of types.now (view_type ty.now)) }
+{
+    let depth = depth(types, ty);
+    if depth == u64::MAX {
+        return Err(AllocError);
+    }
+    Ok(depth)
+}
+
 /// What is found of the limits on a type that a declarator builds. A depth that 64 bits cannot tell is want of memory.
 pub fn type_within(
     alloc: Global,
@@ -103,10 +116,7 @@ pub fn type_within(
 ) -> Result<Finding, AllocError>
     ensures { IfOk result (λ finding. finding.least ≡ found (spec.type_within types.now token (view_qtype q.now))) }
 {
-    let depth = depth(types, &q.ty);
-    if depth == u64::MAX {
-        return Err(AllocError);
-    }
+    let depth = told_depth(types, &q.ty)?;
     let large = passes(
         Finding::none(),
         Which::ObjectSize,

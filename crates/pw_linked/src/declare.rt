@@ -1,6 +1,6 @@
 //! Declarations of names with linkage (C90 6.1.2.2, 6.1.2.6).
 
-ghost use Rattle.std.specs.Prelude.{◌≡◌, option_map, unwrap_or, OnOk, IfOk};
+ghost use Rattle.std.specs.Prelude.{◌≡◌, ◌≤◌, ◌^◌, option_map, unwrap_or, OnOk, OnErr, IfOk};
 ghost use Rattle.std.specs.Option.{option_copied};
 ghost use Rattle.pw_checking.specs.EntityViews.{view_entity, view_linked};
 ghost use Rattle.pw_checking.specs.Follows.{Leads};
@@ -12,7 +12,7 @@ ghost use Rattle.pw_rules.specs.States as states;
 ghost use Rattle.pw_types.specs.Views.{view_qtype};
 
 use crate::meanings::linked_before;
-use pw_checking::{Entity, LinkedName, State};
+use pw_checking::{Entity, LinkedName, State, word_of};
 use pw_kinds::{composite, copy_qtype};
 use pw_tree::Word;
 use pw_types::QType;
@@ -52,17 +52,15 @@ pub fn is_internal_by(state: &State, name: &[u8], asking: Asking) -> bool
     }
 }
 
-// The place among the names with linkage that a name has or gets.
+// The place among the names with linkage that a name has or gets. What 32 bits cannot count is want of memory.
 fn place_for(state: &State, name: &[u8]) -> Result<u32, AllocError>
-    ensures { IfOk result (λ place. place ≡ spec.place_for (view_state state.now) name.now) }
+    ensures place { IfOk result (λ place. place ≡ spec.place_for (view_state state.now) name.now) }
+    ensures wants { OnErr result (2 ^ 32 ≤ spec.place_for (view_state state.now) name.now) }
 {
-    if let Some(place) = state.place_of_linked(name) {
-        return Ok(place);
+    match state.place_of_linked(name) {
+        Some(place) => Ok(place),
+        None => Ok(word_of(state.linked().len())?),
     }
-    let Ok(place) = u32::try_from(state.linked().len()) else {
-        return Err(AllocError);
-    };
-    Ok(place)
 }
 
 // A name that was not declared before, with what this declaration says of it.

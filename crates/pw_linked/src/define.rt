@@ -1,9 +1,10 @@
 //! Definitions of names with linkage (C90 6.7).
 
-ghost use Rattle.std.specs.Prelude.{◌≡◌, map, OnOk, IfOk};
+ghost use Rattle.std.specs.Prelude.{◌≡◌, map, OnOk, OnErr, IfOk};
 ghost use Rattle.pw_checking.specs.EntityViews.{view_linked};
 ghost use Rattle.pw_checking.specs.StateViews.{view_state};
 ghost use Rattle.pw_rules.specs.Linkage as spec;
+ghost use Rattle.pw_rules.specs.States as states;
 ghost use Rattle.pw_typed.specs.Views.{view_placed, view_symbol};
 ghost use Rattle.pw_types.specs.Views.{view_qtype};
 
@@ -93,12 +94,20 @@ pub fn symbol_of_linked(alloc: Global, linked: &LinkedName) -> Result<Symbol, Al
     }
 }
 
+// The name with linkage at a place; one that is not there, no rule lets come: it is want of memory.
+fn linked_there<'s, 'a>(state: &'s State<'a>, place: u32) -> Result<&'s LinkedName<'a>, AllocError>
+    ensures linked { IfOk result (λ l. states.linked_at (view_state state.now) place ≡ Some (view_linked l.now)) }
+    ensures wants { OnErr result (states.linked_at (view_state state.now) place ≡ None) }
+{
+    match state.linked_at(place) {
+        Some(linked) => Ok(linked),
+        None => Err(AllocError),
+    }
+}
+
 /// How a module speaks of a name with linkage, by its place; one that is not there answers want of memory.
 pub fn symbol_at(alloc: Global, state: &State, place: u32) -> Result<Symbol, AllocError>
     ensures { IfOk result (λ symbol. view_symbol symbol ≡ spec.symbol_at (view_state state.now) place) }
 {
-    match state.linked_at(place) {
-        Some(linked) => symbol_of_linked(alloc, linked),
-        None => Err(AllocError),
-    }
+    symbol_of_linked(alloc, linked_there(state, place)?)
 }
