@@ -1,5 +1,4 @@
 -- What ends a rule, and a point by what is found there.
-use Rattle.std.specs.Prelude.{◌≢◌, IfErr}
 use Rattle.std.proofs.Common.{◌≡◌, ◌⊎◌, ℕ, true, Option, None, Some, Result, Ok, Err, refl, ap, sym, subst, ◌∙◌}
 use mathlib.Core.Logic.{inl, inr}
 use Rattle.pw_walk.specs.Calls.{Obeys}
@@ -8,8 +7,6 @@ use Rattle.pw_walk.specs.Walks.{Walk, Done, Passing, Closed, outcome}
 use Rattle.pw_walk.specs.declared.fault.CheckFault.{CheckFault}
 use Rattle.pw_walk.specs.declared.fault.CheckKind.TheVariants.{NoMemory}
 use Rattle.pw_walk.proofs.CallLaws.{same_call}
-use Rattle.pw_walk.proofs.KindLaws.{never_memory}
-use Rattle.pw_walk.proofs.WalkLaws.{one_answer}
 use Rattle.pw_finding.specs.Found.{found, told}
 use Rattle.pw_finding.proofs.FindingLaws.{stopped_by_found}
 
@@ -50,11 +47,3 @@ told_obeys p s None r seen e =
     (passed_ok (λ u. u) p (Done (tt, s)) (Ok tt) s (sym seen) (made_ok (λ u. u) tt tt s s refl refl))
 told_obeys p s (Some f) r seen e =
     subst (λ x. Obeys (λ u. u) (Passing p (Done (tt, s))) x s) (sym e) (passed_err (λ u. u) p (Done (tt, s)) f s (inr (sym seen)))
-
--- what is found at a point is the fault of a constraint, and no want of memory
-pub no_want : {R : Type 0} {r : Result R CheckFault} {fault : CheckFault} (p : Point) → found p ≡ Some fault → r ≡ Err fault → IfErr r (λ f. f.kind ≢ NoMemory)
-unfolding outcome
-no_want {R} {r} {fault} p is same =
-    let w : Walk (Unit {0}) = Passing p (Done tt) in
-    let stops : outcome w ≡ Err fault = stopped_by_found p (Ok tt) ∙ ap (λ o. told o (Ok tt)) is in
-    subst (λ (x : Result R CheckFault). IfErr x (λ f. f.kind ≢ NoMemory)) (sym same) (never_memory w fault ((one_answer w (Err fault)).1 (sym stops)))

@@ -2,12 +2,12 @@ use Rattle.std.proofs.Common.{◌≡◌, [], ◌∷◌, not, rules, refl, sym, �
 use Rattle.pw_tree.specs.Views.{view_word}
 use Rattle.pw_checking.specs.StateViews.{view_state}
 use Rattle.pw_finding.specs.Found.{found}
-use Rattle.pw_finding.proofs.FindingLaws.{end_err, point_ok, point_err}
+use Rattle.pw_finding.proofs.FindingLaws.{end_err, no_want, point_ok, point_err}
 use Rattle.pw_walk.specs.Causes.{needs, OneContent}
 use Rattle.pw_walk.specs.Walks.{bind, pure}
 use Rattle.pw_rules.specs.Leaves.{is_opened, kind_point, opening_by}
 use Rattle.pw_rules.specs.States.{records_in}
-use Rattle.pw_members.proofs.RuleLaws.{made_ok, no_want}
+use Rattle.pw_members.proofs.RuleLaws.{made_ok}
 use Rattle.pw_members.proofs.records.opening_of.Goals as goal
 
 pub returns-in_err-end-clause-follows : goal.returns-in_err-end-clause-follows

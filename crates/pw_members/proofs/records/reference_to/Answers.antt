@@ -4,13 +4,13 @@ use Rattle.pw_types.specs.TypeTrees.{Record}
 use Rattle.pw_types.specs.Views.{view_type}
 use Rattle.pw_checking.specs.StateViews.{view_state}
 use Rattle.pw_finding.specs.Found.{found}
-use Rattle.pw_finding.proofs.FindingLaws.{end_err, point_ok, point_err}
+use Rattle.pw_finding.proofs.FindingLaws.{end_err, no_want, point_ok, point_err}
 use Rattle.pw_walk.specs.Walks.{bind, pure}
 use Rattle.pw_rules.specs.Kinds.{plain}
 use Rattle.pw_rules.specs.Leaves.{kind_point, reference_by}
 use Rattle.pw_rules.specs.States.{records_in}
 use Rattle.pw_members.specs.Views.{view_tagged}
-use Rattle.pw_members.proofs.RuleLaws.{made_ok, no_want}
+use Rattle.pw_members.proofs.RuleLaws.{made_ok}
 use Rattle.pw_members.proofs.records.reference_to.Goals as goal
 
 pub returns-in_err-end-clause-follows : goal.returns-in_err-end-clause-follows
