@@ -6,3 +6,8 @@ pub mod Linked
 pub mod Names
 pub mod Lexed
 pub mod Records
+pub mod Fits
+pub mod Still
+pub mod FitPhrases
+pub mod FitDeclarations
+pub mod FitStatements

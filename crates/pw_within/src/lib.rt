@@ -3,35 +3,40 @@
 
 mod numbers;
 
-ghost use Rattle.std.specs.Prelude.{◌≡◌, ◌<◌, ◌≤◌, ◌^◌, ℕ, All, List, Ok, Some};
-ghost use Rattle.pw_lower.specs.Operators.{bytes_of};
+ghost use Rattle.std.specs.Prelude.{◌≡◌, ◌≤◌, ℕ, All, List, Ok};
 ghost use Rattle.pw_lower_laws.specs.Parts.{partless};
-ghost use Rattle.pw_lowered.specs.Within.{IsIdentifier, IsNamed};
+ghost use Rattle.pw_lowered.specs.Within.{AreRecordsWithin, IsCopied, IsIdentifier, IsNamed};
 ghost use Rattle.pw_rules.specs.Checks.{Checks};
 ghost use Rattle.pw_token.specs.Tokenization.{IsLexed};
 ghost use Rattle.pw_token.specs.declared.token.Token.{Token};
 ghost use Rattle.pw_tree.specs.Grammar.{IsTreeOf, spelled_all};
 ghost use Rattle.pw_tree.specs.Trees.{Module};
 ghost use Rattle.pw_tree.specs.WellFormed.{WellFormedModule};
-ghost use Rattle.pw_types.specs.Layouts.{content_at};
 ghost use Rattle.pw_types.specs.Rooms.{room_of};
-ghost use Rattle.pw_types.specs.TypeTrees.{ContentValue, Record};
+ghost use Rattle.pw_types.specs.TypeTrees.{type_of};
 ghost use Rattle.pw_types.specs.TypedTrees.{ModuleValue};
-ghost use Rattle.pw_value.specs.Limits.{parameter_limit, room_limit, size_limit};
+ghost use Rattle.pw_value.specs.Limits.{parameter_limit, room_limit};
 ghost use Rattle.pw_within.specs.Names.{AreIdentifiers, AreNumbered};
 
 pub use numbers::numbers_of_objects;
-use pw_well_typed::accepted_records_are_laid;
+use pw_well_typed::{accepted_locals_are_objects, accepted_records_are_laid};
 
-/// In a module that checking accepts the offsets of members are words of 32 bits, and each structure or union that is defined keeps
-/// the limit on sizes.
-pub fn accepted_records_keep_limits()
-    ensures offsets { (tree : Module) (m : ModuleValue) → Checks tree (Ok m)
-        → (number : ℕ) (c : ContentValue) → content_at m.records number ≡ Some c → All (λ o. o < 2 ^ 32) c.offsets }
-    ensures size { (tree : Module) (m : ModuleValue) → Checks tree (Ok m)
-        → (number : ℕ) (c : ContentValue) → content_at m.records number ≡ Some c → bytes_of m.records (Record number) ≤ size_limit }
+/// In a module that checking accepts each structure or union that is defined is copied in lawful units: its alignment is 1, 2 or 4,
+/// it has a member, and it keeps the limit on sizes; the offsets of its members are words of 32 bits. One premise: the syntax tree
+/// is one of C90's grammar.
+pub fn accepted_records_are_within()
+    ensures { (tree : Module) (m : ModuleValue) → WellFormedModule tree → Checks tree (Ok m) → AreRecordsWithin m.records }
 {
     accepted_records_are_laid();
+}
+
+/// Each parameter and local of a function that checking accepts is copied in lawful units, with the same premise: no array is empty
+/// (ISO C90 6.5.4.2).
+pub fn accepted_locals_are_copied()
+    ensures { (tree : Module) (m : ModuleValue) → WellFormedModule tree → Checks tree (Ok m)
+        → All (λ f. All (λ l. IsCopied m.records (type_of l.ty)) f.locals) m.functions }
+{
+    accepted_locals_are_objects();
 }
 
 /// In a module that checking accepts each local that is initialised by the bytes of a hidden object has an expression of which they
