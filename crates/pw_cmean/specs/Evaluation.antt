@@ -6,7 +6,7 @@ use Rattle.pw_value.specs.declared.value.Value.{Value}
 use Rattle.pw_value.specs.declared.value.Value.TheVariants as V
 use Rattle.pw_value.specs.declared.value.Pointer.TheVariants as P
 use Rattle.pw_types.specs.TypeTrees.{CType, Void, Int, Pointer, Record, QType, type_of, RecordValue}
-use Rattle.pw_types.specs.Conversions.{promoted}
+use Rattle.pw_types.specs.WellTyped.{promoted_type}
 use Rattle.pw_types.specs.declared.kind.IntKind.TheVariants as K
 use Rattle.pw_types.specs.declared.tree.BinaryOperator.{BinaryOperator}
 use Rattle.pw_types.specs.declared.tree.BinaryOperator.TheVariants.{Add, Subtract}
@@ -162,8 +162,7 @@ step_operator DecrementBehind = Subtract
 
 -- in the promoted type
 abbrev pub step_type : CType → CType
-step_type (Int kind) = Int (promoted kind)
-step_type ty = ty
+step_type = promoted_type
 
 -- behind its operand the value is the old one
 abbrev pub step_result : StepOperator → Value → Value → Value

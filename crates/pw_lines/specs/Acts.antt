@@ -9,7 +9,8 @@ use Rattle.pw_inst.specs.declared.relocation.FixKind.{FixKind}
 use Rattle.pw_inst.specs.declared.relocation.FixKind.TheVariants as kind
 use Rattle.pw_inst.specs.declared.relocation.Symbol.{Symbol}
 use Rattle.pw_inst.specs.declared.relocation.Symbol.TheVariants as symbol
-use Rattle.pw_machine.specs.Effect.{difference, condition, extracted, sign_extended, deposited}
+use Rattle.pw_value.specs.Words.{unsigned_difference}
+use Rattle.pw_machine.specs.Effect.{condition, extracted, sign_extended, deposited}
 use Rattle.pw_delay.specs.declared.items.Relocation.{Relocation}
 use Rattle.pw_delay.specs.declared.items.Word.{Word}
 use Rattle.pw_lines.specs.Addresses.{Addresses}
@@ -113,14 +114,14 @@ executed w (Ldil im t) c = gives t (im * 2048) c
 executed w (And r1 r2 t) c = gives t (bit_and (register c r1) (register c r2)) c
 executed w (Or r1 r2 t) c = gives t (bit_or (register c r1) (register c r2)) c
 executed w (Xor r1 r2 t) c = gives t (bit_xor (register c r1) (register c r2)) c
-executed w (Sub r1 r2 t) c = gives t (difference (register c r1) (register c r2)) c
+executed w (Sub r1 r2 t) c = gives t (unsigned_difference (register c r1) (register c r2)) c
 executed w (Addl r1 r2 t) c = gives t ((register c r1 + register c r2) % 2 ^ 32) c
 executed w (Vshd r1 r2 t) c = gives t ((register c r1 * 2 ^ 32 + register c r2) / 2 ^ c.shift % 2 ^ 32) c
 executed w (Mtctl r) c = Acts (record c { shift = register c r % 32 })
 executed w (Comclr k f r1 r2 t) c =
     let holds = condition k (register c r1) (register c r2) in
     Acts (record (with_register t 0 c) { skip = if f then not holds else holds })
-executed w (Subi im r t) c = gives t (difference (cast_unsigned w32 im) (register c r)) c
+executed w (Subi im r t) c = gives t (unsigned_difference (cast_unsigned w32 im) (register c r)) c
 executed w (Extru r p len t) c = gives t (extracted (register c r) p len) c
 executed w (Extrs r p len t) c = gives t (sign_extended len (extracted (register c r) p len)) c
 executed w (Zdep r p len t) c = gives t (deposited (register c r) p len) c

@@ -10,7 +10,8 @@ use Rattle.pw_machine.specs.declared.ends.End.TheVariants.{Ended, StackStop}
 use Rattle.pw_machine.specs.declared.ends.Halt.{Halt}
 use Rattle.pw_machine.specs.declared.ends.Halt.TheVariants.{BadBranch, BadBreak}
 use Rattle.pw_machine.specs.Core.{Core, register, with_register, next, moved, advanced, byte_at, half_at, word_at, with_byte, with_half, with_word}
-use Rattle.pw_machine.specs.Effect.{Effect, Goes, Reads, Writes, Stops, executed, effect_of, effect_of_inst, unless, puts, loads, stores, breaks, halts, address, access_fault, condition, extracted, sign_extended, deposited, difference, is_in_text, target}
+use Rattle.pw_value.specs.Words.{unsigned_difference}
+use Rattle.pw_machine.specs.Effect.{Effect, Goes, Reads, Writes, Stops, executed, effect_of, effect_of_inst, unless, puts, loads, stores, breaks, halts, address, access_fault, condition, extracted, sign_extended, deposited, is_in_text, target}
 
 -- where the step goes on, `stopped` is as it was
 abbrev pub KeepsStopped : Option End → Effect → Type 0
@@ -69,14 +70,14 @@ executed-keeps core (Ldil im t) = puts-keeps core t (im * 2048)
 executed-keeps core (And r1 r2 t) = puts-keeps core t (bit_and (register core r1) (register core r2))
 executed-keeps core (Or r1 r2 t) = puts-keeps core t (bit_or (register core r1) (register core r2))
 executed-keeps core (Xor r1 r2 t) = puts-keeps core t (bit_xor (register core r1) (register core r2))
-executed-keeps core (Sub r1 r2 t) = puts-keeps core t (difference (register core r1) (register core r2))
+executed-keeps core (Sub r1 r2 t) = puts-keeps core t (unsigned_difference (register core r1) (register core r2))
 executed-keeps core (Addl r1 r2 t) = puts-keeps core t ((register core r1 + register core r2) % 2 ^ 32)
 executed-keeps core (Vshd r1 r2 t) = puts-keeps core t ((register core r1 * 2 ^ 32 + register core r2) / 2 ^ core.shift % 2 ^ 32)
 executed-keeps core (Mtctl r) = refl
 executed-keeps core (Comclr c f r1 r2 t) =
     let holds = condition c (register core r1) (register core r2) in
     with_register-stopped (moved core (next core) (if f then not holds else holds)) t 0
-executed-keeps core (Subi im r t) = puts-keeps core t (difference (cast_unsigned w32 im) (register core r))
+executed-keeps core (Subi im r t) = puts-keeps core t (unsigned_difference (cast_unsigned w32 im) (register core r))
 executed-keeps core (Extru r p len t) = puts-keeps core t (extracted (register core r) p len)
 executed-keeps core (Extrs r p len t) = puts-keeps core t (sign_extended len (extracted (register core r) p len))
 executed-keeps core (Zdep r p len t) = puts-keeps core t (deposited (register core r) p len)

@@ -3,6 +3,7 @@
 use Rattle.std.specs.Prelude.{ℕ, ℤ, ◌+◌, ◌-◌, ◌*◌, ◌/◌, ◌%◌, ◌^◌, List, Option, Some, None, Bool, true, false, not, ◌&&◌, ◌||◌, ◌==◌, nat_lt, nat_le, int_lt, int_le, bit_and, bit_or, bit_xor, if◌then◌else◌}
 use Rattle.std.specs.Int.{cast_signed, cast_unsigned, w32}
 use Rattle.pw_value.specs.Limits.{text_start, memory_size}
+use Rattle.pw_value.specs.Words.{unsigned_difference}
 use Rattle.pw_inst.specs.declared.Inst.{Inst}
 use Rattle.pw_inst.specs.declared.Inst.TheVariants.{Ldb, Ldh, Ldw, Ldo, Stb, Sth, Stw, Ldil, And, Or, Xor, Sub, Addl, Vshd, Mtctl, Comclr, Subi, Extru, Extrs, Zdep, Combt, Combf, Bl, Bv, Ble, Break}
 use Rattle.pw_inst.specs.InstructionTable.{decoded}
@@ -20,10 +21,6 @@ pub data Effect : Type 0 where
   Stops : End → Effect
 
 -- ---- words
-
--- the difference of two words, modulo 2^32
-abbrev pub difference : ℕ → ℕ → ℕ
-difference a b = (a + (2 ^ 32 - b)) % 2 ^ 32
 
 -- Conditions on two words: 1 equal, 2 signed less, 3 signed less or equal, 4 unsigned less,
 -- 5 unsigned less or equal, and 0 never.
@@ -118,14 +115,14 @@ executed core (Ldil im t) = puts core t (im * 2048)
 executed core (And r1 r2 t) = puts core t (bit_and (register core r1) (register core r2))
 executed core (Or r1 r2 t) = puts core t (bit_or (register core r1) (register core r2))
 executed core (Xor r1 r2 t) = puts core t (bit_xor (register core r1) (register core r2))
-executed core (Sub r1 r2 t) = puts core t (difference (register core r1) (register core r2))
+executed core (Sub r1 r2 t) = puts core t (unsigned_difference (register core r1) (register core r2))
 executed core (Addl r1 r2 t) = puts core t ((register core r1 + register core r2) % 2 ^ 32)
 executed core (Vshd r1 r2 t) = puts core t ((register core r1 * 2 ^ 32 + register core r2) / 2 ^ core.shift % 2 ^ 32)
 executed core (Mtctl r) = Goes (record (advanced core) { shift = register core r % 32 })
 executed core (Comclr c f r1 r2 t) =
     let holds = condition c (register core r1) (register core r2) in
     Goes (with_register (moved core (next core) (if f then not holds else holds)) t 0)
-executed core (Subi im r t) = puts core t (difference (cast_unsigned w32 im) (register core r))
+executed core (Subi im r t) = puts core t (unsigned_difference (cast_unsigned w32 im) (register core r))
 executed core (Extru r p len t) = puts core t (extracted (register core r) p len)
 executed core (Extrs r p len t) = puts core t (sign_extended len (extracted (register core r) p len))
 executed core (Zdep r p len t) = puts core t (deposited (register core r) p len)

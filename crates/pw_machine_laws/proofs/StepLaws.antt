@@ -15,7 +15,8 @@ use Rattle.pw_machine.specs.declared.ends.End.TheVariants.{Ended, StackStop}
 use Rattle.pw_machine.specs.declared.ends.Halt.{Halt}
 use Rattle.pw_machine.specs.declared.ends.Halt.TheVariants.{Unaligned, OutOfMemoryRange, TextWrite, BadBranch, BadBreak}
 use Rattle.pw_machine.specs.Core.{Core, register, with_register, next, moved, advanced, byte_at, half_at, word_at, with_byte, with_half, with_word}
-use Rattle.pw_machine.specs.Effect.{Effect, Goes, Reads, Writes, Stops, executed, effect_of, effect_of_inst, unless, puts, loads, stores, breaks, halts, address, access_fault, condition, extracted, sign_extended, deposited, difference, is_in_text, target}
+use Rattle.pw_value.specs.Words.{unsigned_difference}
+use Rattle.pw_machine.specs.Effect.{Effect, Goes, Reads, Writes, Stops, executed, effect_of, effect_of_inst, unless, puts, loads, stores, breaks, halts, address, access_fault, condition, extracted, sign_extended, deposited, is_in_text, target}
 use Rattle.pw_machine.proofs.FieldSizes.{deposited_small}
 use Rattle.pw_machine_laws.specs.Lawful.{AreBytes, AreRegistersLawful, IsLawfulCore, HasSameText}
 use Rattle.pw_machine_laws.proofs.StoreLaws.{byte_size, half_size, word_size, byte_other, half_other, word_other}
@@ -253,14 +254,14 @@ executed_follows core (Ldil im t) is r = puts_follows core t (im * 2048) is (ome
 executed_follows core (And r1 r2 t) is r = puts_follows core t (bit_and (register core r1) (register core r2)) is (and_small (register core r1) (register core r2) (register_small core r1 is.registers))
 executed_follows core (Or r1 r2 t) is r = puts_follows core t (bit_or (register core r1) (register core r2)) is (or_lt 32 (register core r1) (register core r2) (register_small core r1 is.registers) (register_small core r2 is.registers))
 executed_follows core (Xor r1 r2 t) is r = puts_follows core t (bit_xor (register core r1) (register core r2)) is (xor_lt 32 (register core r1) (register core r2) (register_small core r1 is.registers) (register_small core r2 is.registers))
-executed_follows core (Sub r1 r2 t) is r = puts_follows core t (difference (register core r1) (register core r2)) is (omega arith)
+executed_follows core (Sub r1 r2 t) is r = puts_follows core t (unsigned_difference (register core r1) (register core r2)) is (omega arith)
 executed_follows core (Addl r1 r2 t) is r = puts_follows core t ((register core r1 + register core r2) % 2 ^ 32) is (omega arith)
 executed_follows core (Vshd r1 r2 t) is r = puts_follows core t ((register core r1 * 2 ^ 32 + register core r2) / 2 ^ core.shift % 2 ^ 32) is (omega arith)
 executed_follows core (Mtctl r) is k = shifted_follows core (register core r) is
 executed_follows core (Comclr c f r1 r2 t) is r =
     let holds = condition c (register core r1) (register core r2) in
     moved_and_put core (next core) (if f then not holds else holds) t 0 is (next_small core) (omega arith)
-executed_follows core (Subi im r t) is k = puts_follows core t (difference (cast_unsigned w32 im) (register core r)) is (omega arith)
+executed_follows core (Subi im r t) is k = puts_follows core t (unsigned_difference (cast_unsigned w32 im) (register core r)) is (omega arith)
 executed_follows core (Extru r p len t) is k = puts_follows core t (extracted (register core r) p len) is (extracted_small (register core r) p len (register_small core r is.registers))
 executed_follows core (Extrs r p len t) is k = puts_follows core t (sign_extended len (extracted (register core r) p len)) is (extended_small (register core r) p len (omega (arith, k.0.0, k.0.2)))
 executed_follows core (Zdep r p len t) is k = puts_follows core t (deposited (register core r) p len) is (deposited_small (register core r) p len k.0.0 k.0.2)

@@ -13,7 +13,8 @@ use Rattle.pw_inst.specs.declared.Inst.{Inst}
 use Rattle.pw_inst.specs.declared.Inst.TheVariants.{Ldb, Ldh, Ldw, Ldo, Stb, Sth, Stw, Ldil, And, Or, Xor, Sub, Addl, Vshd, Mtctl, Comclr, Subi, Extru, Extrs, Zdep, Combt, Combf, Bl, Bv, Ble, Break}
 use Rattle.pw_inst.specs.InstructionTable.{decoded}
 use Rattle.pw_machine.specs.Core.{Core, register, with_register, next, moved, advanced, word_at}
-use Rattle.pw_machine.specs.Effect.{Effect, Goes, puts, difference, extracted, sign_extended, deposited, executed, effect_of, is_in_text, branches_if}
+use Rattle.pw_value.specs.Words.{unsigned_difference}
+use Rattle.pw_machine.specs.Effect.{Effect, Goes, puts, extracted, sign_extended, deposited, executed, effect_of, is_in_text, branches_if}
 use Rattle.pw_machine.specs.Run.{State, Running, goes_on, taken, run_of}
 use Rattle.pw_milli.specs.Calls.{is_scratch, is_access, IsInside, StaysInside}
 use Rattle.pw_milli.proofs.Small.{Small, at, read, set, when, writes, hop, jumps, skips, is_field, does, inst_at, does_some, passed, small_step, then_run, small_run}
@@ -155,7 +156,7 @@ if_field : {A : Type 0} (b : Bool) (x : Option A) (y : A) → (if b then x else 
 if_field true x y e = (refl, e)
 if_field false x y e = absurd cc
 
-difference_range : (a b : ℕ) → difference a b < 2 ^ 32
+difference_range : (a b : ℕ) → unsigned_difference a b < 2 ^ 32
 difference_range a b = omega arith
 
 and_range : (a b : ℕ) → a < 2 ^ 32 → bit_and a b < 2 ^ 32

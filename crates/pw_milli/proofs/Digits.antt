@@ -2,7 +2,8 @@
 use Rattle.std.proofs.Common.{ℕ, zero, suc, ◌+◌, ◌*◌, ◌%◌, ◌^◌, ◌<◌, ◌≤◌, ◌≡◌, Bool, true, false, not, Some, refl, ap, ◌∙◌, arith}
 use Rattle.std.specs.Prelude.{◌==◌, if◌then◌else◌}
 use Rattle.pw_inst.specs.declared.Inst.TheVariants.{Bv}
-use Rattle.pw_machine.specs.Effect.{difference, extracted, deposited}
+use Rattle.pw_value.specs.Words.{unsigned_difference}
+use Rattle.pw_machine.specs.Effect.{extracted, deposited}
 use Rattle.pw_milli.proofs.Small.{at, small_run, run_on, inst_at}
 use Rattle.pw_milli.proofs.Codes.{multiplying}
 
@@ -225,14 +226,14 @@ turn_6 f b e acc y =
     }
 
 -- 7: 3 instructions
-adds_7 : (f : ℕ → ℕ) → (g : ℕ → ℕ) × (small_run multiplying 4 (record { registers = f; front = 137; back = 62; nullify = false }) ≡ Some (at 65 g)) × (g 26 ≡ extracted (f 26) 27 28) × (g 25 ≡ f 25) × (g 22 ≡ f 22) × (g 29 ≡ ((difference (f 29) (f 25)) + (deposited (f 25) 28 29)) % 2 ^ 32)
+adds_7 : (f : ℕ → ℕ) → (g : ℕ → ℕ) × (small_run multiplying 4 (record { registers = f; front = 137; back = 62; nullify = false }) ≡ Some (at 65 g)) × (g 26 ≡ extracted (f 26) 27 28) × (g 25 ≡ f 25) × (g 22 ≡ f 22) × (g 29 ≡ ((unsigned_difference (f 29) (f 25)) + (deposited (f 25) 28 29)) % 2 ^ 32)
 adds_7 f = (_, refl, refl, refl, refl, refl)
 
 ends_7 : (f : ℕ → ℕ) (b : Bool) → (f 26 == 0) ≡ b → (g : ℕ → ℕ) × (small_run multiplying 2 (at 65 f) ≡ Some (at (if b then 67 else 134) g)) × (g 26 ≡ f 26) × (g 25 ≡ deposited (f 25) 27 28) × (g 22 ≡ f 22) × (g 29 ≡ f 29)
 ends_7 f true e = (_, run_on multiplying 1 1 (at 65 f) _ (ap (λ (c : Bool). Some (record { registers = f; front = 66; back = if not c then 134 else 67; nullify = false })) e) ∙ refl, refl, refl, refl, refl)
 ends_7 f false e = (_, run_on multiplying 1 1 (at 65 f) _ (ap (λ (c : Bool). Some (record { registers = f; front = 66; back = if not c then 134 else 67; nullify = false })) e) ∙ refl, refl, refl, refl, refl)
 
-value_7 : (f : ℕ → ℕ) → f 29 < 2 ^ 32 → f 25 < 2 ^ 32 → ((difference (f 29) (f 25)) + (deposited (f 25) 28 29)) % 2 ^ 32 ≡ (f 29 + 7 * f 25) % 2 ^ 32
+value_7 : (f : ℕ → ℕ) → f 29 < 2 ^ 32 → f 25 < 2 ^ 32 → ((unsigned_difference (f 29) (f 25)) + (deposited (f 25) 28 29)) % 2 ^ 32 ≡ (f 29 + 7 * f 25) % 2 ^ 32
 value_7 f acc y = omega arith
 
 turn_7 : (f : ℕ → ℕ) (b : Bool) → (extracted (f 26) 27 28 == 0) ≡ b → f 29 < 2 ^ 32 → f 25 < 2 ^ 32 → Turn 7 f b
@@ -428,14 +429,14 @@ turn_13 f b e acc y =
     }
 
 -- 14: 4 instructions
-adds_14 : (f : ℕ → ℕ) → (g : ℕ → ℕ) × (small_run multiplying 5 (record { registers = f; front = 137; back = 118; nullify = false }) ≡ Some (at 122 g)) × (g 26 ≡ extracted (f 26) 27 28) × (g 25 ≡ f 25) × (g 22 ≡ f 22) × (g 29 ≡ ((difference (f 29) (((f 25) + (f 25)) % 2 ^ 32)) + (deposited (((f 25) + (f 25)) % 2 ^ 32) 28 29)) % 2 ^ 32)
+adds_14 : (f : ℕ → ℕ) → (g : ℕ → ℕ) × (small_run multiplying 5 (record { registers = f; front = 137; back = 118; nullify = false }) ≡ Some (at 122 g)) × (g 26 ≡ extracted (f 26) 27 28) × (g 25 ≡ f 25) × (g 22 ≡ f 22) × (g 29 ≡ ((unsigned_difference (f 29) (((f 25) + (f 25)) % 2 ^ 32)) + (deposited (((f 25) + (f 25)) % 2 ^ 32) 28 29)) % 2 ^ 32)
 adds_14 f = (_, refl, refl, refl, refl, refl)
 
 ends_14 : (f : ℕ → ℕ) (b : Bool) → (f 26 == 0) ≡ b → (g : ℕ → ℕ) × (small_run multiplying 2 (at 122 f) ≡ Some (at (if b then 124 else 134) g)) × (g 26 ≡ f 26) × (g 25 ≡ deposited (f 25) 27 28) × (g 22 ≡ f 22) × (g 29 ≡ f 29)
 ends_14 f true e = (_, run_on multiplying 1 1 (at 122 f) _ (ap (λ (c : Bool). Some (record { registers = f; front = 123; back = if not c then 134 else 124; nullify = false })) e) ∙ refl, refl, refl, refl, refl)
 ends_14 f false e = (_, run_on multiplying 1 1 (at 122 f) _ (ap (λ (c : Bool). Some (record { registers = f; front = 123; back = if not c then 134 else 124; nullify = false })) e) ∙ refl, refl, refl, refl, refl)
 
-value_14 : (f : ℕ → ℕ) → f 29 < 2 ^ 32 → f 25 < 2 ^ 32 → ((difference (f 29) (((f 25) + (f 25)) % 2 ^ 32)) + (deposited (((f 25) + (f 25)) % 2 ^ 32) 28 29)) % 2 ^ 32 ≡ (f 29 + 14 * f 25) % 2 ^ 32
+value_14 : (f : ℕ → ℕ) → f 29 < 2 ^ 32 → f 25 < 2 ^ 32 → ((unsigned_difference (f 29) (((f 25) + (f 25)) % 2 ^ 32)) + (deposited (((f 25) + (f 25)) % 2 ^ 32) 28 29)) % 2 ^ 32 ≡ (f 29 + 14 * f 25) % 2 ^ 32
 value_14 f acc y = omega arith
 
 turn_14 : (f : ℕ → ℕ) (b : Bool) → (extracted (f 26) 27 28 == 0) ≡ b → f 29 < 2 ^ 32 → f 25 < 2 ^ 32 → Turn 14 f b
@@ -457,14 +458,14 @@ turn_14 f b e acc y =
     }
 
 -- 15: 3 instructions
-adds_15 : (f : ℕ → ℕ) → (g : ℕ → ℕ) × (small_run multiplying 4 (record { registers = f; front = 137; back = 126; nullify = false }) ≡ Some (at 129 g)) × (g 26 ≡ extracted (f 26) 27 28) × (g 25 ≡ f 25) × (g 22 ≡ f 22) × (g 29 ≡ ((difference (f 29) (f 25)) + (deposited (f 25) 27 28)) % 2 ^ 32)
+adds_15 : (f : ℕ → ℕ) → (g : ℕ → ℕ) × (small_run multiplying 4 (record { registers = f; front = 137; back = 126; nullify = false }) ≡ Some (at 129 g)) × (g 26 ≡ extracted (f 26) 27 28) × (g 25 ≡ f 25) × (g 22 ≡ f 22) × (g 29 ≡ ((unsigned_difference (f 29) (f 25)) + (deposited (f 25) 27 28)) % 2 ^ 32)
 adds_15 f = (_, refl, refl, refl, refl, refl)
 
 ends_15 : (f : ℕ → ℕ) (b : Bool) → (f 26 == 0) ≡ b → (g : ℕ → ℕ) × (small_run multiplying 2 (at 129 f) ≡ Some (at (if b then 131 else 134) g)) × (g 26 ≡ f 26) × (g 25 ≡ deposited (f 25) 27 28) × (g 22 ≡ f 22) × (g 29 ≡ f 29)
 ends_15 f true e = (_, run_on multiplying 1 1 (at 129 f) _ (ap (λ (c : Bool). Some (record { registers = f; front = 130; back = if not c then 134 else 131; nullify = false })) e) ∙ refl, refl, refl, refl, refl)
 ends_15 f false e = (_, run_on multiplying 1 1 (at 129 f) _ (ap (λ (c : Bool). Some (record { registers = f; front = 130; back = if not c then 134 else 131; nullify = false })) e) ∙ refl, refl, refl, refl, refl)
 
-value_15 : (f : ℕ → ℕ) → f 29 < 2 ^ 32 → f 25 < 2 ^ 32 → ((difference (f 29) (f 25)) + (deposited (f 25) 27 28)) % 2 ^ 32 ≡ (f 29 + 15 * f 25) % 2 ^ 32
+value_15 : (f : ℕ → ℕ) → f 29 < 2 ^ 32 → f 25 < 2 ^ 32 → ((unsigned_difference (f 29) (f 25)) + (deposited (f 25) 27 28)) % 2 ^ 32 ≡ (f 29 + 15 * f 25) % 2 ^ 32
 value_15 f acc y = omega arith
 
 turn_15 : (f : ℕ → ℕ) (b : Bool) → (extracted (f 26) 27 28 == 0) ≡ b → f 29 < 2 ^ 32 → f 25 < 2 ^ 32 → Turn 15 f b

@@ -7,7 +7,8 @@ use Rattle.std.specs.Prelude.{◌==◌, nat_lt, nat_le}
 use Rattle.std.specs.Int.Bits.{or_zero_r}
 use Rattle.std.proofs.lemmas.Bool.{ltb-true, ltb-false, leb-true, leb-false, eqb-true, eqb-false, eq-eqb, ne_eqb}
 use Rattle.std.proofs.Math.Nat.{add-mul, mul_assoc, zero-mul, le-mul_of_pos_right}
-use Rattle.pw_machine.specs.Effect.{difference, extracted, deposited}
+use Rattle.pw_value.specs.Words.{unsigned_difference}
+use Rattle.pw_machine.specs.Effect.{extracted, deposited}
 use Rattle.pw_milli.proofs.Small.{at, Arrives, after, there, and_on, weaker, scaled}
 use Rattle.pw_milli.proofs.Codes.{dividing}
 use Rattle.pw_milli.proofs.Stretches.{zero_divisor, some_divisor, sixteenth, short_quotient, long_quotient, lesser_part, shift_on, shift_last, halved, first_bit, second_on, second_bit, third_on, third_bit, fourth_on, eights_clear, eights_set, fours_clear, fours_set, twos_clear, twos_set, ones_clear, ones_set, digit_last, digit_on}
@@ -77,7 +78,7 @@ fours_when n d s D f false e small pos h =
     let go = fours_set f e in
     let le : f 22 ≤ f 26 = ltb-false (f 26) (f 22) e in
     let half : go.0 21 ≡ extracted (f 22) 30 31 = go.2 in
-    let rest : go.0 26 ≡ difference (f 26) (f 22) = go.5 in
+    let rest : go.0 26 ≡ unsigned_difference (f 26) (f 22) = go.5 in
     let less : f 26 < 2 ^ 32 = omega (arith, h.whole) in
     let left : go.0 26 ≡ f 26 - 4 * D = omega (arith, h.trial, h.fits, rest, le) in
     let taken : ((f 29 + 4) % 2 ^ 32) * D + (f 26 - 4 * D) ≡ n = takes (f 29) D (f 26) n 4 h.whole (omega (arith, h.trial, le)) pos small in
@@ -114,7 +115,7 @@ twos_when n d s D f false e small pos h =
     let go = twos_set f e in
     let le : f 21 ≤ f 26 = ltb-false (f 26) (f 21) e in
     let half : go.0 22 ≡ extracted (f 21) 30 31 = go.3 in
-    let rest : go.0 26 ≡ difference (f 26) (f 21) = go.5 in
+    let rest : go.0 26 ≡ unsigned_difference (f 26) (f 21) = go.5 in
     let less : f 26 < 2 ^ 32 = omega (arith, h.whole) in
     let left : go.0 26 ≡ f 26 - 2 * D = omega (arith, h.trial, h.fits, rest, le) in
     let taken : ((f 29 + 2) % 2 ^ 32) * D + (f 26 - 2 * D) ≡ n = takes (f 29) D (f 26) n 2 h.whole (omega (arith, h.trial, le)) pos small in
@@ -152,7 +153,7 @@ ones_when n d s D f false e small pos h =
     let go = ones_set f e in
     let le : f 22 ≤ f 26 = ltb-false (f 26) (f 22) e in
     let half : go.0 21 ≡ extracted (f 22) 30 31 = go.2 in
-    let rest : go.0 26 ≡ difference (f 26) (f 22) = go.5 in
+    let rest : go.0 26 ≡ unsigned_difference (f 26) (f 22) = go.5 in
     let less : f 26 < 2 ^ 32 = omega (arith, h.whole) in
     let left : go.0 26 ≡ f 26 - 1 * D = omega (arith, h.trial, h.fits, rest, le) in
     let taken : ((f 29 + 1) % 2 ^ 32) * D + (f 26 - 1 * D) ≡ n = takes (f 29) D (f 26) n 1 h.whole (omega (arith, h.trial, le)) pos small in
@@ -196,7 +197,7 @@ eights_when n d s D f true e small pos h =
 eights_when n d s D f false e small pos h =
     let go = eights_set f e in
     let le : f 21 ≤ f 26 = ltb-false (f 26) (f 21) e in
-    let rest : go.0 26 ≡ difference (f 26) (f 21) = go.5 in
+    let rest : go.0 26 ≡ unsigned_difference (f 26) (f 21) = go.5 in
     let less : f 26 < 2 ^ 32 = omega (arith, h.whole) in
     let left : go.0 26 ≡ f 26 - 8 * D = omega (arith, h.trial, h.fits, rest, le) in
     let whole : deposited (f 29) 27 28 * D + f 26 ≡ n = shifted (f 29) D (f 26) n h.whole small pos in

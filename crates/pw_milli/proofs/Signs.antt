@@ -6,7 +6,7 @@ use Rattle.std.proofs.lemmas.Bool.{cases_lt, cond-false, le-ltb}
 use Rattle.std.proofs.lemmas.Int.{ints}
 use Rattle.std.proofs.lemmas.Nat.{xor_shr, div-mul-add, mod-mul-add}
 use Rattle.std.proofs.Math.Nat.{le-mul_of_pos_right}
-use Rattle.pw_machine.specs.Effect.{difference}
+use Rattle.pw_value.specs.Words.{unsigned_difference}
 
 -- whether a word is below 0
 abbrev pub is_negative : ℕ → Bool
@@ -14,7 +14,7 @@ is_negative x = int_lt (cast_signed w32 x) (pos 0)
 
 -- a word, or what is left of 2^32
 abbrev pub signed_by : Bool → ℕ → ℕ
-signed_by b x = if b then difference 0 x else x
+signed_by b x = if b then unsigned_difference 0 x else x
 
 -- whether a number is below 0
 abbrev pub below : ℤ → Bool
@@ -65,7 +65,7 @@ pub sign_of : (x : ℕ) → x < 2 ^ 32 → (z : ℤ) × Sign x z
 sign_of x lt = elim (cases_lt x (2 ^ 31)) as (λ c. (z : ℤ) × Sign x z) [ inl less ↦ (pos x, sign_pos x less) | inr more ↦ (negsuc (2 ^ 32 - 1 - x), sign_neg x lt more) ]
 
 -- the word of a number that is not above 0
-word_of_negative : (q : ℕ) → q < 2 ^ 32 → cast_unsigned w32 (neg_ℤ (pos q)) ≡ difference 0 q
+word_of_negative : (q : ℕ) → q < 2 ^ 32 → cast_unsigned w32 (neg_ℤ (pos q)) ≡ unsigned_difference 0 q
 word_of_negative zero lt = refl
 word_of_negative (suc q) lt = omega arith
 

@@ -6,7 +6,8 @@ use Rattle.std.specs.Prelude.{◌==◌, ◌&&◌, nat_lt, nat_le, bit_and, bit_o
 use Rattle.std.specs.Int.{cast_unsigned, w32}
 use Rattle.pw_inst.specs.declared.Inst.{Inst}
 use Rattle.pw_inst.specs.declared.Inst.TheVariants.{Ldb, Ldh, Ldw, Ldo, Stb, Sth, Stw, Ldil, And, Or, Xor, Sub, Addl, Vshd, Mtctl, Comclr, Subi, Extru, Extrs, Zdep, Combt, Combf, Bl, Bv, Ble, Break}
-use Rattle.pw_machine.specs.Effect.{difference, condition, extracted, sign_extended, deposited}
+use Rattle.pw_value.specs.Words.{unsigned_difference}
+use Rattle.pw_machine.specs.Effect.{condition, extracted, sign_extended, deposited}
 use Rattle.pw_milli.specs.Calls.{is_scratch}
 
 pub record Small : Type 0 where
@@ -53,7 +54,7 @@ abbrev pub does : ℕ → Small → Inst → Option Small
 does size w (And r1 r2 t) = writes w t (bit_and (read w.registers r1) (read w.registers r2))
 does size w (Or r1 r2 t) = writes w t (bit_or (read w.registers r1) (read w.registers r2))
 does size w (Xor r1 r2 t) = writes w t (bit_xor (read w.registers r1) (read w.registers r2))
-does size w (Sub r1 r2 t) = writes w t (difference (read w.registers r1) (read w.registers r2))
+does size w (Sub r1 r2 t) = writes w t (unsigned_difference (read w.registers r1) (read w.registers r2))
 does size w (Addl r1 r2 t) = writes w t ((read w.registers r1 + read w.registers r2) % 2 ^ 32)
 does size w (Ldo im b t) = writes w t ((read w.registers b + cast_unsigned w32 im) % 2 ^ 32)
 does size w (Extru r p len t) = if is_field p len then writes w t (extracted (read w.registers r) p len) else None

@@ -2,7 +2,8 @@
 -- way its branch goes.
 use Rattle.std.proofs.Common.{ℕ, ◌+◌, ◌%◌, ◌^◌, ◌≡◌, Bool, true, false, not, Some, refl, ap, ◌∙◌}
 use Rattle.std.specs.Prelude.{◌==◌, nat_lt, nat_le, bit_or, if◌then◌else◌}
-use Rattle.pw_machine.specs.Effect.{difference, extracted, deposited}
+use Rattle.pw_value.specs.Words.{unsigned_difference}
+use Rattle.pw_machine.specs.Effect.{extracted, deposited}
 use Rattle.pw_milli.proofs.Small.{at, small_run, run_on}
 use Rattle.pw_milli.proofs.Codes.{dividing}
 
@@ -73,7 +74,7 @@ pub eights_clear : (f : ℕ → ℕ) → nat_lt (f 26) (f 21) ≡ true → (g : 
 eights_clear f e = (_, run_on dividing 1 1 (at 15 f) _ (ap (λ (c : Bool). Some (record { registers = f; front = 16; back = if c then 19 else 17; nullify = false })) e) ∙ refl, refl, refl, refl, refl, refl, refl)
 
 -- the bit is 1
-pub eights_set : (f : ℕ → ℕ) → nat_lt (f 26) (f 21) ≡ false → (g : ℕ → ℕ) × (small_run dividing 4 (at 15 f) ≡ Some (at 19 g)) × (g 21 ≡ f 21) × (g 22 ≡ f 22) × (g 25 ≡ f 25) × (g 26 ≡ difference (f 26) (f 21)) × (g 28 ≡ f 28) × (g 29 ≡ (deposited (f 29) 27 28 + 8) % 2 ^ 32)
+pub eights_set : (f : ℕ → ℕ) → nat_lt (f 26) (f 21) ≡ false → (g : ℕ → ℕ) × (small_run dividing 4 (at 15 f) ≡ Some (at 19 g)) × (g 21 ≡ f 21) × (g 22 ≡ f 22) × (g 25 ≡ f 25) × (g 26 ≡ unsigned_difference (f 26) (f 21)) × (g 28 ≡ f 28) × (g 29 ≡ (deposited (f 29) 27 28 + 8) % 2 ^ 32)
 eights_set f e = (_, run_on dividing 1 3 (at 15 f) _ (ap (λ (c : Bool). Some (record { registers = f; front = 16; back = if c then 19 else 17; nullify = false })) e) ∙ refl, refl, refl, refl, refl, refl, refl)
 
 -- the bit is 0
@@ -81,7 +82,7 @@ pub fours_clear : (f : ℕ → ℕ) → nat_lt (f 26) (f 22) ≡ true → (g : �
 fours_clear f e = (_, run_on dividing 1 1 (at 19 f) _ (ap (λ (c : Bool). Some (record { registers = f; front = 20; back = if c then 23 else 21; nullify = false })) e) ∙ refl, refl, refl, refl, refl, refl, refl)
 
 -- the bit is 1
-pub fours_set : (f : ℕ → ℕ) → nat_lt (f 26) (f 22) ≡ false → (g : ℕ → ℕ) × (small_run dividing 4 (at 19 f) ≡ Some (at 23 g)) × (g 21 ≡ extracted (f 22) 30 31) × (g 22 ≡ f 22) × (g 25 ≡ f 25) × (g 26 ≡ difference (f 26) (f 22)) × (g 28 ≡ f 28) × (g 29 ≡ (f 29 + 4) % 2 ^ 32)
+pub fours_set : (f : ℕ → ℕ) → nat_lt (f 26) (f 22) ≡ false → (g : ℕ → ℕ) × (small_run dividing 4 (at 19 f) ≡ Some (at 23 g)) × (g 21 ≡ extracted (f 22) 30 31) × (g 22 ≡ f 22) × (g 25 ≡ f 25) × (g 26 ≡ unsigned_difference (f 26) (f 22)) × (g 28 ≡ f 28) × (g 29 ≡ (f 29 + 4) % 2 ^ 32)
 fours_set f e = (_, run_on dividing 1 3 (at 19 f) _ (ap (λ (c : Bool). Some (record { registers = f; front = 20; back = if c then 23 else 21; nullify = false })) e) ∙ refl, refl, refl, refl, refl, refl, refl)
 
 -- the bit is 0
@@ -89,7 +90,7 @@ pub twos_clear : (f : ℕ → ℕ) → nat_lt (f 26) (f 21) ≡ true → (g : �
 twos_clear f e = (_, run_on dividing 1 1 (at 23 f) _ (ap (λ (c : Bool). Some (record { registers = f; front = 24; back = if c then 27 else 25; nullify = false })) e) ∙ refl, refl, refl, refl, refl, refl, refl)
 
 -- the bit is 1
-pub twos_set : (f : ℕ → ℕ) → nat_lt (f 26) (f 21) ≡ false → (g : ℕ → ℕ) × (small_run dividing 4 (at 23 f) ≡ Some (at 27 g)) × (g 21 ≡ f 21) × (g 22 ≡ extracted (f 21) 30 31) × (g 25 ≡ f 25) × (g 26 ≡ difference (f 26) (f 21)) × (g 28 ≡ f 28) × (g 29 ≡ (f 29 + 2) % 2 ^ 32)
+pub twos_set : (f : ℕ → ℕ) → nat_lt (f 26) (f 21) ≡ false → (g : ℕ → ℕ) × (small_run dividing 4 (at 23 f) ≡ Some (at 27 g)) × (g 21 ≡ f 21) × (g 22 ≡ extracted (f 21) 30 31) × (g 25 ≡ f 25) × (g 26 ≡ unsigned_difference (f 26) (f 21)) × (g 28 ≡ f 28) × (g 29 ≡ (f 29 + 2) % 2 ^ 32)
 twos_set f e = (_, run_on dividing 1 3 (at 23 f) _ (ap (λ (c : Bool). Some (record { registers = f; front = 24; back = if c then 27 else 25; nullify = false })) e) ∙ refl, refl, refl, refl, refl, refl, refl)
 
 -- the bit is 0
@@ -97,7 +98,7 @@ pub ones_clear : (f : ℕ → ℕ) → nat_lt (f 26) (f 22) ≡ true → (g : �
 ones_clear f e = (_, run_on dividing 1 1 (at 27 f) _ (ap (λ (c : Bool). Some (record { registers = f; front = 28; back = if c then 31 else 29; nullify = false })) e) ∙ refl, refl, refl, refl, refl, refl, refl)
 
 -- the bit is 1
-pub ones_set : (f : ℕ → ℕ) → nat_lt (f 26) (f 22) ≡ false → (g : ℕ → ℕ) × (small_run dividing 4 (at 27 f) ≡ Some (at 31 g)) × (g 21 ≡ extracted (f 22) 30 31) × (g 22 ≡ f 22) × (g 25 ≡ f 25) × (g 26 ≡ difference (f 26) (f 22)) × (g 28 ≡ f 28) × (g 29 ≡ (f 29 + 1) % 2 ^ 32)
+pub ones_set : (f : ℕ → ℕ) → nat_lt (f 26) (f 22) ≡ false → (g : ℕ → ℕ) × (small_run dividing 4 (at 27 f) ≡ Some (at 31 g)) × (g 21 ≡ extracted (f 22) 30 31) × (g 22 ≡ f 22) × (g 25 ≡ f 25) × (g 26 ≡ unsigned_difference (f 26) (f 22)) × (g 28 ≡ f 28) × (g 29 ≡ (f 29 + 1) % 2 ^ 32)
 ones_set f e = (_, run_on dividing 1 3 (at 27 f) _ (ap (λ (c : Bool). Some (record { registers = f; front = 28; back = if c then 31 else 29; nullify = false })) e) ∙ refl, refl, refl, refl, refl, refl, refl)
 
 -- the divisor is down again

@@ -39,6 +39,7 @@ abbrev pub by_result : Result ℕ WordFault → Constancy
 by_result (Ok n) = Known n
 by_result (Err fault) = NoValue
 
+-- a truth value as a number
 abbrev pub truth : Bool → ℕ
 truth true = 1
 truth false = 0

@@ -1,8 +1,8 @@
 -- Operands: typed expressions with what constraints ask of them beside their types, and the conversions of operands
 -- (ISO C90 6.2).
 use Rattle.std.specs.Prelude.{Bool, true, false, ◌&&◌, if◌then◌else◌}
-pub use Rattle.pw_types.specs.WellTyped.{type_in}
-use Rattle.pw_types.specs.Conversions.{promoted, usual_of}
+pub use Rattle.pw_types.specs.WellTyped.{promoted_type, type_in}
+use Rattle.pw_types.specs.Conversions.{usual_of}
 use Rattle.pw_types.specs.TypeTrees.{CType, Int, Pointer, Array, Function, type_of}
 use Rattle.pw_types.specs.TypedTrees.{Expression, Node, token_of, type_at}
 use Rattle.pw_types.specs.TypedTrees as T
@@ -23,10 +23,6 @@ abbrev pub cast_to : CType → Expression → Expression
 cast_to ty e = if same_type ty (type_in e) then e else Node (token_of e) (plain ty) (T.Cast e)
 
 -- the integral promotions (6.2.1.1), and the conversion to the type that two operands have in common (6.2.1.5)
-abbrev pub promoted_type : CType → CType
-promoted_type (Int kind) = Int (promoted kind)
-promoted_type ty = ty
-
 abbrev pub promote : Expression → Expression
 promote e = cast_to (promoted_type (type_in e)) e
 

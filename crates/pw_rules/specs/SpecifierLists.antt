@@ -12,6 +12,7 @@ use Rattle.pw_types.specs.declared.kind.IntKind.TheVariants as K
 use Rattle.pw_types.specs.TypeTrees.{CType, Void, Int, QType, type_of}
 use Rattle.pw_walk.specs.Causes.{needs, OneStorageClass, ListOfSpecifiers, OneQualifier, UnqualifiedFunction}
 use Rattle.pw_walk.specs.Walks.{meets, pure, ◌>>◌}
+use Rattle.pw_rules.specs.Constants.{truth}
 use Rattle.pw_rules.specs.Kinds.{plain, qualify, is_const_object, is_volatile_object, is_function, int_type}
 use Rattle.pw_rules.specs.States.{Rule}
 
@@ -97,10 +98,6 @@ type_listed words [] = type_of_words words
 type_listed [] (ty ∷ []) = Some ty
 type_listed _ _ = None
 
-abbrev pub one_if : Bool → ℕ
-one_if true = 1
-one_if false = 0
-
 -- What a list says: the storage class, the type with its qualifiers, the tag that it brings in, its first token.
 pub record Specified : Type 0 where
   pub storage : Option StorageClass
@@ -115,7 +112,7 @@ first_storage (c ∷ rest) = Some c
 -- each qualifier once, a typedef name's included
 abbrev pub qualifiers_once : Gathered → QType → Bool
 qualifiers_once g ty =
-    nat_le (g.constants + one_if (is_const_object ty)) 1 && nat_le (g.volatiles + one_if (is_volatile_object ty)) 1
+    nat_le (g.constants + truth (is_const_object ty)) 1 && nat_le (g.volatiles + truth (is_volatile_object ty)) 1
 
 abbrev pub is_qualified_by : Gathered → Bool
 is_qualified_by g = not (g.constants == 0) || not (g.volatiles == 0)

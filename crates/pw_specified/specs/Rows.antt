@@ -6,7 +6,8 @@ use Rattle.pw_tree.specs.declared.expr.Qualifier.TheVariants as qualifier
 use Rattle.pw_types.specs.declared.kind.IntKind.{IntKind}
 use Rattle.pw_types.specs.TypeTrees.{QType, type_of}
 use Rattle.pw_rules.specs.Kinds.{is_const_object, is_volatile_object, is_function}
-use Rattle.pw_rules.specs.SpecifierLists.{Gathered, same_words, one_if}
+use Rattle.pw_rules.specs.Constants.{truth}
+use Rattle.pw_rules.specs.SpecifierLists.{Gathered, same_words}
 
 -- the first row with these keywords
 abbrev pub row_found : List (List BasicType × Option IntKind) → List BasicType → Option (Option IntKind)
@@ -15,8 +16,8 @@ row_found table words = option_map (λ row. row.1) (find (λ row. same_words row
 -- each qualifier once, a typedef name's included, and none at a function
 abbrev pub lawful_qualifiers : ℕ → ℕ → QType → Bool
 lawful_qualifiers constants volatiles ty =
-    nat_le (constants + one_if (is_const_object ty)) 1
-    && (nat_le (volatiles + one_if (is_volatile_object ty)) 1
+    nat_le (constants + truth (is_const_object ty)) 1
+    && (nat_le (volatiles + truth (is_volatile_object ty)) 1
     && not ((not (constants == 0) || not (volatiles == 0)) && is_function (type_of ty)))
 
 -- how often a qualifier was gathered

@@ -4,6 +4,7 @@ ghost use Rattle.std.specs.Prelude.{◌≡◌, ◌≢◌, ◌+◌, ◌-◌, ◌^
 ghost use Rattle.pw_checking.specs.Follows.{Follows};
 ghost use Rattle.pw_checking.specs.PhraseViews.{view_gathered, view_specified};
 ghost use Rattle.pw_checking.specs.StateViews.{view_state};
+ghost use Rattle.pw_rules.specs.Constants.{truth};
 ghost use Rattle.pw_specified.specs.Rows.{count_of, lawful_qualifiers};
 ghost use Rattle.pw_rules.specs.SpecifierLists as spec;
 ghost use Rattle.pw_types.specs.Views.{view_qtype};
@@ -89,7 +90,7 @@ pub fn gather_type(
 
 /// Whether a qualifier stands once at most, a typedef name's included.
 fn stands_once(count: usize, named: bool) -> bool
-    ensures { result ≡ nat_le (count + spec.one_if named) 1 }
+    ensures { result ≡ nat_le (count + truth named) 1 }
 {
     if named { count == 0 } else { count <= 1 }
 }

@@ -33,6 +33,11 @@ abbrev pub IsPromoted : CType → Type 0
 IsPromoted (Int kind) = promoted kind ≡ kind
 IsPromoted _ = ⊥
 
+-- what the integral promotions make of a type (6.2.1.1)
+abbrev pub promoted_type : CType → CType
+promoted_type (Int kind) = Int (promoted kind)
+promoted_type ty = ty
+
 abbrev pub IsPointer : CType → Type 0
 IsPointer ty = (q : QType) × (ty ≡ Pointer q)
 
