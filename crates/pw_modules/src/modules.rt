@@ -41,15 +41,14 @@ pub fn is_module_name(name: &[u8]) -> bool
     are_name_bytes(name)
 }
 
-/// Whether a file of a store is a module's text.
-fn is_module_file(file: &str) -> bool
+/// Whether a file of a store is a module's text: the name of a module, and `.i` behind it.
+pub fn is_module_file(file: &[u8]) -> bool
     ensures { result ≡ is_module_file file.now }
 {
-    let bytes = file.as_bytes();
-    if bytes.len() < 2 {
+    if file.len() < 2 {
         return false;
     }
-    let (name, ending) = bytes.split_at(bytes.len() - 2);
+    let (name, ending) = file.split_at(file.len() - 2);
     ending == b".i".as_slice() && is_module_name(name)
 }
 
@@ -94,7 +93,7 @@ fn first_behind(files: &[String], file: &str) -> usize
 fn place_module(files: &mut Vec<String>, name: &String) -> Result<(), AllocError>
     ensures { OnOk result (map string_bytes files.new.items ≡ with_file (map string_bytes files.old.items) (string_bytes name.now)) }
 {
-    if !is_module_file(name.as_str()) {
+    if !is_module_file(name.as_bytes()) {
         return Ok(());
     }
     place(files, name.clone()?)

@@ -8,7 +8,7 @@ ghost use Rattle.pw_script.specs.Script.{IsLawfulCommand, command_of, content_le
 ghost use Rattle.pw_script.specs.Reading.{command_view};
 
 use crate::limits::{PUT_LIMIT, RUN_LIMIT};
-use pw_modules::is_module_name;
+use pw_modules::is_module_file;
 use pw_words::number_in;
 
 /// The command of a line, with the name of a module's file and how many bytes stand behind the line.
@@ -48,17 +48,6 @@ fn words_of(line: &[u8]) -> (&[u8], Option<&[u8]>)
         Some(at) => (&line[..at], Some(&line[at + 1..])),
         None => (line, None),
     }
-}
-
-/// Whether a file is that of a module.
-fn is_module_file(file: &[u8]) -> bool
-    ensures { result ≡ is_module_file file.now }
-{
-    if file.len() < 2 {
-        return false;
-    }
-    let (name, ending) = file.split_at(file.len() - 2);
-    ending == b".i".as_slice() && is_module_name(name)
 }
 
 /// The name of a module's file.
