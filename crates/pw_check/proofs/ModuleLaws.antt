@@ -14,10 +14,9 @@ use Rattle.pw_types.specs.TypedTrees.{ModuleValue}
 use Rattle.pw_walk.specs.declared.fault.CheckFault.{CheckFault}
 use Rattle.pw_walk.specs.declared.fault.CheckKind.TheVariants.{NoMemory}
 use Rattle.pw_walk.specs.Calls.{Obeys}
-use Rattle.pw_walk.specs.Walks.{Walk, Done, Passing, bind, outcome, asks}
+use Rattle.pw_walk.specs.Walks.{Walk, Done, bind, outcome, asks}
 use Rattle.pw_walk.proofs.BindLaws.{bind_made, bind_stopped}
 use Rattle.pw_walk.proofs.CallLaws.{bind_assoc}
-use Rattle.pw_walk.proofs.KindLaws.{never_memory}
 use Rattle.pw_walk.proofs.WalkLaws.{one_answer}
 use Rattle.pw_rules.specs.Checks.{Checks, checking}
 use Rattle.pw_rules.specs.Modules.{end_cause, end_rule, end_spot, external_rule, externals_rule, final_type, module_in, module_rule}
@@ -25,7 +24,7 @@ use Rattle.pw_rules.specs.States as states
 use Rattle.pw_rules.specs.Limits.{completed}
 use Rattle.pw_rules.specs.States.{State, records_in, start}
 use Rattle.pw_types.specs.TypeTrees.{type_of}
-use Rattle.pw_walk.specs.Causes.{CompleteAtEnd, Point}
+use Rattle.pw_walk.specs.Causes.{CompleteAtEnd}
 use Rattle.pw_check.specs.Parts.{met_rule}
 
 -- the rule of modules is that of the constraints, and then what is made
@@ -110,21 +109,6 @@ pub end_told : {r ended : Result (Unit {0}) CheckFault} {fault : CheckFault} {he
 end_told {r} {ended} {fault} {here} all walk s n l before less is seen end was same =
     subst (λ x. Obeys (λ (u : Unit {0}). u) walk x s) (sym same)
     (record { made = tt; told = inr (end_stopped all (outcome walk) s n l fault before less is (sym seen ∙ end_err here fault (sym end ∙ was))) })
-
--- the fault of a point is that of a constraint, and no want of memory
-abbrev point_alone : Point → Walk (Unit {0})
-point_alone p = Passing p (Done tt)
-
-point_outcome : (p : Point) → outcome (point_alone p) ≡ told (found p) (Ok tt)
-unfolding outcome
-point_outcome p = stopped_by_found p (Ok tt)
-
-pub no_want : {r ended : Result (Unit {0}) CheckFault} {fault : CheckFault} {here : Option CheckFault} (p : Point)
-    → here ≡ found p → ended ≡ told here (Ok tt) → ended ≡ Err fault → r ≡ Err fault → IfErr r (λ f. f.kind ≢ NoMemory)
-no_want {r} {ended} {fault} {here} p seen end was same =
-    let told_there : outcome (point_alone p) ≡ Err fault = point_outcome p ∙ ap (λ o. told o (Ok tt)) (sym seen) ∙ sym end ∙ was in
-    subst (λ (x : Result (Unit {0}) CheckFault). IfErr x (λ f. f.kind ≢ NoMemory)) (sym same)
-    (never_memory (point_alone p) fault ((one_answer (point_alone p) (Err fault)).1 (sym told_there)))
 
 -- ---- what code answers that begins at the start
 

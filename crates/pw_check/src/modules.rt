@@ -106,6 +106,14 @@ fn made_of(alloc: Global, state: State<'_>) -> Result<TModule, CheckFault>
     Ok(module_in(alloc, state)?)
 }
 
+/// The fault that was told; what is known of the module is let go.
+fn let_go(state: State<'_>, fault: CheckFault) -> Result<TModule, CheckFault>
+    ensures { result ≡ Err fault }
+{
+    let _state = state;
+    Err(fault)
+}
+
 /// What a module is, where its constraints are met; and else the fault that was told.
 fn behind(
     alloc: Global,
@@ -118,7 +126,7 @@ fn behind(
 {
     match met {
         Ok(()) => made_of(alloc, state),
-        Err(fault) => Err(fault),
+        Err(fault) => let_go(state, fault),
     }
 }
 

@@ -16,7 +16,7 @@ ghost use Rattle.pw_types.specs.TypedTrees.{Statement};
 ghost use Rattle.pw_types.specs.Views.{view_qtype};
 
 use crate::knot::{check_body, phrases};
-use pw_checking::{Bindings, State};
+use pw_checking::{Bindings, State, word_of};
 use pw_heads::{
     Head, copy_locals, head_declared, head_meets, head_rule, measured_rule, numbers_below,
     parameter_locals, result_of,
@@ -60,7 +60,8 @@ impl Outline {
     }
 }
 
-/// What the definition of a function makes, but for its body, behind which it is known.
+/// What the definition of a function makes, but for its body, behind which it is known. What 32 bits cannot count is
+/// want of memory.
 #[tactic(auto, using(pw_checking::proofs::PlaceLemmas::length_map))]
 fn outline_of(
     alloc: Global,
@@ -70,9 +71,7 @@ fn outline_of(
 ) -> Result<Outline, AllocError>
     ensures { IfOk result (λ o. (body : Statement) → outlined o body ≡ spec.function_of (view_state state.now) (view_head head.now).word place (view_head head.now).ty (view_head head.now).bindings body) }
 {
-    let Ok(params) = u32::try_from(head.bindings.parameters.len()) else {
-        return Err(AllocError);
-    };
+    let params = word_of(head.bindings.parameters.len())?;
     let named = numbers_below(alloc, state.named())?;
     let locals = copy_locals(alloc, state.locals())?;
     let ty = copy_qtype(alloc, &head.ty)?;

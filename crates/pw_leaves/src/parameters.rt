@@ -1,6 +1,6 @@
 //! Parameters (C90 6.5.4.3).
 
-ghost use Rattle.std.specs.Prelude.{◌≡◌, ◌≢◌, [], ◌∷◌, ◌++◌, not, ◌||◌, length, OnOk, IfOk, IfErr};
+ghost use Rattle.std.specs.Prelude.{◌≡◌, ◌≢◌, ◌≤◌, ◌^◌, [], ◌∷◌, ◌++◌, not, ◌||◌, length, OnOk, OnErr, IfOk, IfErr};
 ghost use Rattle.pw_checking.specs.EntityViews.{view_entity};
 ghost use Rattle.pw_checking.specs.Follows.{Follows, Leads};
 ghost use Rattle.pw_checking.specs.PhraseViews.{view_bindings, view_declared, view_name, view_parameters, view_specified, view_spot};
@@ -14,7 +14,9 @@ ghost use Rattle.pw_rules.specs.States.{LocalObject};
 ghost use Rattle.pw_types.specs.Views.{view_qtype, view_type};
 
 use crate::names::type_declared;
-use pw_checking::{Bindings, Declared, Entity, Finding, Parameter, Specified, Spot, State, typing};
+use pw_checking::{
+    Bindings, Declared, Entity, Finding, Parameter, Specified, Spot, State, typing, word_of,
+};
 use pw_kinds::{copy_qtype, is_record, is_void, plain};
 use pw_limits::{name_within, spot_of, type_within};
 use pw_linked::fresh_name;
@@ -115,15 +117,13 @@ fn parameter_asked(
     Ok(ty)
 }
 
-/// The place of the parameter behind these.
+/// The place of the parameter behind these. What 32 bits cannot count is want of memory.
 #[tactic(auto, using(pw_checking::proofs::PlaceLemmas::length_map))]
 fn place_behind(parameters: &[Parameter]) -> Result<u32, AllocError>
-    ensures { IfOk result (λ place. place ≡ length (view_parameters parameters.now)) }
+    ensures place { IfOk result (λ place. place ≡ length (view_parameters parameters.now)) }
+    ensures wants { OnErr result (2 ^ 32 ≤ length (view_parameters parameters.now)) }
 {
-    match u32::try_from(parameters.len()) {
-        Ok(place) => Ok(place),
-        Err(_) => Err(AllocError),
-    }
+    Ok(word_of(parameters.len())?)
 }
 
 /// A parameter's name stands for it, where it has one.

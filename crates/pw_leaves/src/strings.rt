@@ -11,7 +11,7 @@ ghost use Rattle.pw_tree.specs.Views.{view_words};
 ghost use Rattle.pw_types.specs.Views.{view_qtype};
 
 use crate::primary::lvalue_operand;
-use pw_checking::{HiddenObject, Operand, State, fault};
+use pw_checking::{HiddenObject, Operand, State, fault, word_of};
 use pw_kinds::plain;
 use pw_literal::push_characters;
 use pw_tree::Word;
@@ -45,14 +45,12 @@ pub fn string_bytes(alloc: Global, state: &State, words: &[Word]) -> Result<Vec<
     Ok(bytes)
 }
 
-/// An array of char for these bytes.
+/// An array of char for these bytes. What 32 bits cannot count is want of memory.
 #[tactic(auto, unfolding(pw_types::specs::Views::view_type))]
 pub fn string_type(alloc: Global, bytes: &[u8]) -> Result<QType, AllocError>
     ensures { IfOk result (λ ty. view_qtype ty ≡ spec.string_type bytes.now) }
 {
-    let Ok(count) = u32::try_from(bytes.len()) else {
-        return Err(AllocError);
-    };
+    let count = word_of(bytes.len())?;
     let element = Box::new(alloc, plain(CType::Int(IntKind::Char)))?;
     Ok(plain(CType::Array(element, Some(count))))
 }

@@ -10,7 +10,7 @@ ghost use Rattle.pw_rules.specs.Operators as spec;
 ghost use Rattle.pw_types.specs.Layouts.{size_of};
 ghost use Rattle.pw_types.specs.Views.{view_qtype, view_type};
 
-use pw_checking::{Operand, Spot, State, typing, value_operand};
+use pw_checking::{Operand, Spot, State, typing, value_operand, word_of};
 use pw_constant::told_size;
 use pw_kinds::{is_complete, plain};
 use pw_limits::completed;
@@ -31,9 +31,7 @@ fn size_operand(
     ensures { IfOk result (λ a. view_operand a ≡ operands.value_operand (spec.size_node token (unwrap_or (size_of types.now (view_type ty.now)) 0))) }
 {
     let size = told_size(types, ty)?.unwrap_or(0);
-    let Ok(number) = u32::try_from(size) else {
-        return Err(AllocError);
-    };
+    let number = word_of(size as usize)?;
     let form = TForm::Number(number);
     value_operand(alloc, token, plain(CType::Int(IntKind::UInt)), form)
 }

@@ -1,9 +1,9 @@
 use Rattle.std.proofs.Common.{[], ◌∷◌, sym, ◌∙◌, map, rules}
 use Rattle.pw_checking.specs.EntityViews.{view_linked}
 use Rattle.pw_checking.specs.StateViews.{view_state}
-use Rattle.pw_finding.proofs.FindingLaws.{end_ok}
+use Rattle.pw_finding.proofs.FindingLaws.{end_err, end_ok, no_want}
 use Rattle.pw_rules.specs.Modules.{end_cause, end_rule}
-use Rattle.pw_check.proofs.ModuleLaws.{all_ended, end_met, end_told, no_want}
+use Rattle.pw_check.proofs.ModuleLaws.{all_ended, end_met, end_told}
 use Rattle.pw_check.proofs.modules.end_rule.Goals as goal
 
 pub returns-in_err-end-clause-follows : goal.returns-in_err-end-clause-follows
@@ -13,7 +13,8 @@ returns-in_err-end-clause-follows c =
 
 pub returns-in_err-end-clause-no_memory : goal.returns-in_err-end-clause-no_memory
 returns-in_err-end-clause-no_memory c =
-    no_want (end_cause (view_state c.args.state.now) (view_linked c.next-item.result) ∷ []) c.end_cause.ensures c.end.ensures c.in_err-end.was (search rules)
+    no_want (end_cause (view_state c.args.state.now) (view_linked c.next-item.result) ∷ [])
+    (sym c.end_cause.ensures ∙ end_err c.end_cause.result.least _ (sym c.end.ensures ∙ c.in_err-end.was)) (search rules)
 
 pub loop-next-preserved : goal.loop-next-preserved
 loop-next-preserved c =
