@@ -58,7 +58,7 @@ module _ (q : Program) (is : IsProgram q) (alike : DeclareAlike q) where
       let f = has_map_back (λ (f : FlowFn). f.name) start_name (functions_of q) (has_by start_name (map (λ (f : FlowFn). f.name) (functions_of q)) is.start) in
       let m = has_flat_back (λ (m : FlowModule). m.functions) f.0 q.modules f.1 in
       let start : Has start_name (function_names m.0) = subst (λ (n : List ℕ). Has n (function_names m.0)) f.2 (has_map (λ (f : FlowFn). f.name) f.0 m.0.functions m.2) in
-      let beside = (valid_there m.0 m.1).names.start.included.0 (contains_by start_name (function_names m.0) start) in
+      let beside = (valid_there m.0 m.1).names.start.beside.0 (contains_by start_name (function_names m.0) start) in
       let g = has_map_back (λ (f : FlowFn). f.name) main_name m.0.functions (has_by main_name (function_names m.0) beside) in
       subst (λ (n : List ℕ). Has n (map (λ (f : FlowFn). f.name) (functions_of q))) g.2 (has_map (λ (f : FlowFn). f.name) g.0 (functions_of q) (has_flat (λ (m : FlowModule). m.functions) m.0 g.0 q.modules m.1 g.1))
 

@@ -1,5 +1,6 @@
 -- Laws of allocation.
-use Rattle.std.proofs.Common.{◌≡◌, ℕ, zero, suc, ◌+◌, ◌-◌, ◌≤◌, ◌<◌, Bool, true, false, if◌then◌else◌, List, [], ◌∷◌, length, refl, ap, sym, ◌∙◌, subst, arith}
+use Rattle.std.proofs.Common.{◌≡◌, ℕ, zero, suc, ◌+◌, ◌-◌, ◌≤◌, ◌<◌, Bool, true, false, if◌then◌else◌, List, [], ◌∷◌, length, refl, ap, sym, ◌∙◌, arith}
+use Rattle.pw_db.specs.Limits.{first_register, last_register, register_count}
 use Rattle.pw_db.specs.declared.database.Web.{Web}
 use Rattle.pw_db.specs.declared.database.Role.{Role}
 use Rattle.pw_alloc.specs.declared.located.Place.{Place}
@@ -12,23 +13,24 @@ use Rattle.pw_alloc.specs.Frames.{head_size, temp_offset, slots_begin, last_reac
 use Rattle.pw_alloc.specs.Allocation.{is_entered, entered_from, saved_of, slots_from, in_frame, allocated}
 use Rattle.pw_alloc.specs.ValidPlaces.{IsPlace, IsLocated}
 use Rattle.pw_alloc.proofs.FrameLaws.{Fits, frame_fits}
+use Rattle.pw_alloc.proofs.SavedLaws.{few_kept, saved_lawful}
 
 pub entered_none : (webs : List (Web × Role)) (r : ℕ) → entered_from webs r 0 ≡ []
 unfolding entered_from
 entered_none webs r = refl
 
-pub entered_more : (webs : List (Web × Role)) (r : ℕ) → r < 19 → entered_from webs r (19 - r) ≡ (if is_entered webs r then r ∷ entered_from webs (r + 1) (19 - (r + 1)) else entered_from webs (r + 1) (19 - (r + 1)))
+pub entered_more : (webs : List (Web × Role)) (r : ℕ) → r ≤ last_register → entered_from webs r (last_register + 1 - r) ≡ (if is_entered webs r then r ∷ entered_from webs (r + 1) (last_register + 1 - (r + 1)) else entered_from webs (r + 1) (last_register + 1 - (r + 1)))
 unfolding entered_from
 entered_more webs r h =
-    let e : 19 - r ≡ suc (19 - (r + 1)) = omega arith in
+    let e : last_register + 1 - r ≡ suc (last_register + 1 - (r + 1)) = omega arith in
     let next : r + 1 ≡ suc r = omega arith in
     rw (e, next) refl
 
-pub entered_here : (webs : List (Web × Role)) (r : ℕ) → r < 19 → is_entered webs r ≡ true → entered_from webs r (19 - r) ≡ r ∷ entered_from webs (r + 1) (19 - (r + 1))
-entered_here webs r h e = entered_more webs r h ∙ ap (λ t. if t then r ∷ entered_from webs (r + 1) (19 - (r + 1)) else entered_from webs (r + 1) (19 - (r + 1))) e
+pub entered_here : (webs : List (Web × Role)) (r : ℕ) → r ≤ last_register → is_entered webs r ≡ true → entered_from webs r (last_register + 1 - r) ≡ r ∷ entered_from webs (r + 1) (last_register + 1 - (r + 1))
+entered_here webs r h e = entered_more webs r h ∙ ap (λ t. if t then r ∷ entered_from webs (r + 1) (last_register + 1 - (r + 1)) else entered_from webs (r + 1) (last_register + 1 - (r + 1))) e
 
-pub entered_not : (webs : List (Web × Role)) (r : ℕ) → r < 19 → is_entered webs r ≡ false → entered_from webs r (19 - r) ≡ entered_from webs (r + 1) (19 - (r + 1))
-entered_not webs r h e = entered_more webs r h ∙ ap (λ t. if t then r ∷ entered_from webs (r + 1) (19 - (r + 1)) else entered_from webs (r + 1) (19 - (r + 1))) e
+pub entered_not : (webs : List (Web × Role)) (r : ℕ) → r ≤ last_register → is_entered webs r ≡ false → entered_from webs r (last_register + 1 - r) ≡ entered_from webs (r + 1) (last_register + 1 - (r + 1))
+entered_not webs r h e = entered_more webs r h ∙ ap (λ t. if t then r ∷ entered_from webs (r + 1) (last_register + 1 - (r + 1)) else entered_from webs (r + 1) (last_register + 1 - (r + 1))) e
 
 pub slots_more : (head saved temps i : ℕ) → i < temps → slots_from head saved i (temps - i) ≡ Slot (temp_offset head saved i) ∷ slots_from head saved (i + 1) (temps - (i + 1))
 slots_more head saved temps i h =
@@ -47,8 +49,8 @@ length_entered webs r (suc more) = by (is_entered webs r) (length_entered webs (
     by true h = omega arith
     by false h = omega arith
 
-pub few_saved : (f : WebFn) → length (saved_of f) ≤ 16
-few_saved f = length_entered f.directives.webs 3 16
+pub few_saved : (f : WebFn) → length (saved_of f) ≤ register_count
+few_saved f = length_entered f.directives.webs first_register register_count
 
 length_slots : (head saved i more : ℕ) → length (slots_from head saved i more) ≡ more
 length_slots head saved i zero = refl
@@ -78,13 +80,13 @@ allocated_lawful f h =
       body = h;
       count = length_slots (head_size f) (length (saved_of f)) 0 f.temps;
       places = each_slot (IsPlace (allocated f)) (head_size f) (length (saved_of f)) 0 f.temps (λ k lt. (k, (omega arith, refl)));
-      saved = refl;
+      saved = saved_lawful f;
       frame = ap (λ n. last_reach (slots_begin (head_size f) (length (saved_of f)) n) f.slots) (sym all);
     }
 
 pub located_fits : (l : Located) → IsLocated l → Fits l.body (length l.saved) (in_frame l.places)
 located_fits l h =
-    let few : length l.saved ≤ 16 = subst (λ (rs : List ℕ). length rs ≤ 16) (sym h.saved) (few_saved l.body) in
+    let few = few_kept l.body l.saved h.saved in
     let within = in_frame_within l.places in
     let count = h.count in
     frame_fits l.body (length l.saved) (in_frame l.places) h.body few (omega arith)

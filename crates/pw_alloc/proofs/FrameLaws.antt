@@ -3,6 +3,7 @@ use Rattle.std.proofs.Common.{◌≡◌, ℕ, ◌+◌, ◌*◌, ◌/◌, ◌≤�
 use Rattle.std.specs.Prelude.{slice_index_or}
 use Rattle.std.specs.List.{flat_map, AllByRecursion}
 use Rattle.pw_value.specs.Limits.{parameter_limit}
+use Rattle.pw_db.specs.Limits.{register_count}
 use Rattle.pw_flow.specs.ValidFlow.{slot_room, rooms}
 use Rattle.pw_flow.specs.declared.flow.Op.TheVariants as op
 use Rattle.pw_webflow.specs.declared.web.WebOp.TheVariants.{Flow, Read, Write}
@@ -81,7 +82,7 @@ pub record Fits (f : WebFn) (saved temps : ℕ) : Type 0 where
   pub words : head_size f + 4 * saved + 4 * temps < 2 ^ 21
   pub reach : last_reach (slots_begin (head_size f) saved temps) f.slots < 2 ^ 21
 
-pub frame_fits : (f : WebFn) (saved temps : ℕ) → IsWebFn f → saved ≤ 16 → temps ≤ f.temps → Fits f saved temps
+pub frame_fits : (f : WebFn) (saved temps : ℕ) → IsWebFn f → saved ≤ register_count → temps ≤ f.temps → Fits f saved temps
 frame_fits f saved temps h few below =
     let args = few_arguments f h in
     let room = rooms_above (4 * f.temps) f.slots in
@@ -89,7 +90,7 @@ frame_fits f saved temps h few below =
     let e = reach_of_rooms (slots_begin (head_size f) saved temps) (4 * f.temps) f.slots in
     record { words = omega arith; reach = omega arith }
 
-pub frame_reach : (f : WebFn) (begin head saved : ℕ) (slots : List ℕ) → IsWebFn f → begin ≡ slots_begin head saved f.temps → head ≡ head_size f → saved ≤ 16 → slots ≡ f.slots → last_reach begin slots < 2 ^ 31
+pub frame_reach : (f : WebFn) (begin head saved : ℕ) (slots : List ℕ) → IsWebFn f → begin ≡ slots_begin head saved f.temps → head ≡ head_size f → saved ≤ register_count → slots ≡ f.slots → last_reach begin slots < 2 ^ 31
 frame_reach f begin head saved slots h b e few s =
     let fits = frame_fits f saved f.temps h few (omega arith) in
     let start : begin ≡ slots_begin (head_size f) saved f.temps = b ∙ ap (λ n. slots_begin n saved f.temps) e in

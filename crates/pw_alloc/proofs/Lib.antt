@@ -1,3 +1,4 @@
 pub mod FrameLaws
+pub mod SavedLaws
 pub mod AllocationLaws
 pub mod RoomLaws

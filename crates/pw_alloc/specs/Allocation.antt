@@ -1,5 +1,6 @@
 -- Allocation in its first form: each temporary has a place of its own in the frame.
 use Rattle.std.specs.Prelude.{ℕ, zero, suc, ◌+◌, ◌==◌, ◌&&◌, Bool, true, false, if◌then◌else◌, List, [], ◌∷◌, length}
+use Rattle.pw_db.specs.Limits.{first_register, register_count}
 use Rattle.pw_db.specs.declared.database.Web.{Web}
 use Rattle.pw_db.specs.declared.database.Role.{Role}
 use Rattle.pw_db.specs.declared.database.Role.TheVariants.{Entry, Member}
@@ -24,9 +25,9 @@ entered_from webs r zero = []
 entered_from webs r (suc more) =
     if is_entered webs r then r ∷ entered_from webs (suc r) more else entered_from webs (suc r) more
 
--- the registers that a function saves are those of the webs that it enters, of 3 to 18
+-- the registers that a function saves are those of the webs that it enters, of those that a callee keeps
 abbrev pub saved_of : WebFn → List ℕ
-saved_of f = entered_from f.directives.webs 3 16
+saved_of f = entered_from f.directives.webs first_register register_count
 
 -- the places of so many temporaries from a number on
 abbrev pub slots_from : ℕ → ℕ → ℕ → ℕ → List Place

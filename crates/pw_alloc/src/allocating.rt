@@ -3,11 +3,12 @@
 ghost use Rattle.std.specs.Prelude.{◌≡◌, ◌<◌, ◌+◌, ◌-◌, ◌++◌, OnOk, ◌*◌, ◌^◌, ◌≤◌, length, IfOk};
 ghost use Rattle.pw_webflow.specs.ValidWebs.{IsWebFn};
 ghost use Rattle.pw_alloc.specs.ValidPlaces.{IsLocated};
+ghost use Rattle.pw_db.specs.Limits.{first_register, last_register, register_count};
 ghost use Rattle.pw_alloc.specs.Allocation.{is_entry, is_entered, entered_from, slots_from, allocated};
 
 use crate::frames::{below, head_size, last_reach, slots_begin};
 use crate::located::{Located, Place};
-use pw_db::{Role, Web};
+use pw_db::{FIRST_REGISTER, LAST_REGISTER, Role, Web};
 use pw_items::Items;
 use pw_webflow::WebFn;
 use std::alloc::{AllocError, Global};
@@ -38,8 +39,8 @@ fn is_entered(webs: &[(Web, Role)], r: u8) -> bool
 
 /// The register behind the others, where the function enters a web of it.
 fn put_entered(saved: &mut Items<u8>, webs: &[(Web, Role)], r: u8) -> Result<(), AllocError>
-    requires { r < 19 }
-    ensures value { OnOk result (saved.new ++ entered_from webs.now (r + 1) (19 - (r + 1)) ≡ saved.old ++ entered_from webs.now r (19 - r)) }
+    requires { r ≤ last_register }
+    ensures value { OnOk result (saved.new ++ entered_from webs.now (r + 1) (last_register + 1 - (r + 1)) ≡ saved.old ++ entered_from webs.now r (last_register + 1 - r)) }
     ensures few { OnOk result (length saved.new ≤ length saved.old + 1) }
 {
     if is_entered(webs, r) {
@@ -50,11 +51,11 @@ fn put_entered(saved: &mut Items<u8>, webs: &[(Web, Role)], r: u8) -> Result<(),
 
 /// The registers that a function saves.
 fn saved(alloc: Global, webs: &[(Web, Role)]) -> Result<Items<u8>, AllocError>
-    ensures value { IfOk result (λ saved. saved ≡ entered_from webs.now 3 16) }
-    ensures few { IfOk result (λ saved. length saved ≤ 16) }
+    ensures value { IfOk result (λ saved. saved ≡ entered_from webs.now first_register register_count) }
+    ensures few { IfOk result (λ saved. length saved ≤ register_count) }
 {
     let mut saved = Items::new(alloc);
-    for r in 3..19 {
+    for r in FIRST_REGISTER..LAST_REGISTER + 1 {
         put_entered(&mut saved, webs, r)?;
     }
     Ok(saved)

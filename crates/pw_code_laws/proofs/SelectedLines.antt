@@ -16,6 +16,7 @@ use Rattle.pw_flow.specs.declared.flow.Op.{Op}
 use Rattle.pw_flow.specs.declared.flow.Op.TheVariants as op
 use Rattle.pw_flow.specs.declared.flow.End.{End}
 use Rattle.pw_flow.specs.declared.flow.End.TheVariants as end
+use Rattle.pw_db.specs.Limits.{first_register, register_count}
 use Rattle.pw_db.specs.declared.database.Web.{Web}
 use Rattle.pw_db.specs.declared.database.Role.{Role}
 use Rattle.pw_inst.specs.declared.Inst.{Inst}
@@ -373,7 +374,7 @@ prologue_in f =
     joined (entry_lines f.frame ++ saves ++ webs) (parameters_in f.frame f.places 0 f.body.params)
     (joined (entry_lines f.frame ++ saves) webs
     (joined (entry_lines f.frame) saves (entry_in f.frame) (saved_in store_to (head_size f.body) 0 f.saved store_in))
-    (all_entered_in loaded_web f.body.directives.webs 3 16 (λ w. read_in w.global w.kind w.reg)))
+    (all_entered_in loaded_web f.body.directives.webs first_register register_count (λ w. read_in w.global w.kind w.reg)))
     (parameters_are_in f.frame f.places 0 f.body.params)
 
 epilogue_in : (f : Located) → AreInside (epilogue f)
@@ -384,7 +385,7 @@ epilogue_in f =
     joined (webs ++ restores ++ back ++ frame_left f.frame) (Leave ∷ [])
     (joined (webs ++ restores ++ back) (frame_left f.frame)
     (joined (webs ++ restores) back
-    (joined webs restores (all_entered_in stored_back f.body.directives.webs 3 16 stored_back_in) (saved_in load_from (head_size f.body) 0 f.saved load_in))
+    (joined webs restores (all_entered_in stored_back f.body.directives.webs first_register register_count stored_back_in) (saved_in load_from (head_size f.body) 0 f.saved load_in))
     (load_in (below (f.frame + 20)) 2))
     (frame_left_in f.frame))
     (tt, tt)

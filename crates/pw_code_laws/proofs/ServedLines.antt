@@ -2,6 +2,7 @@
 use Rattle.std.proofs.Common.{◌≡◌, ℕ, zero, suc, ◌+◌, ◌*◌, ◌^◌, ◌≤◌, ◌<◌, List, [], ◌∷◌, map, length, get_or, refl, sym, ap, subst, ◌∙◌, arith}
 use Rattle.std.specs.Prelude.{Contains}
 use Rattle.std.specs.List.{AllByRecursion}
+use Rattle.pw_db.specs.Limits.{first_register, last_register, register_count}
 use Rattle.pw_db.specs.Database.{EachTwo, IsDirectives, IsWeb}
 use Rattle.pw_db.specs.declared.database.Web.{Web}
 use Rattle.pw_db.specs.declared.database.Role.{Role}
@@ -20,21 +21,12 @@ use Rattle.pw_registers.proofs.Placeable.{Fits, below_fits, PlaceGood}
 use Rattle.pw_oplines.specs.Operations.{Layout, layout}
 use Rattle.pw_select.specs.Selection.{slot_offsets}
 use Rattle.pw_select.proofs.PlaceableFn.{Good, LayoutGood, selected_good}
+use Rattle.pw_alloc.proofs.SavedLaws.{few_between}
 use Rattle.pw_webrun.specs.Serving.{slots_alone, Changes, places, enters, Serves}
 use Rattle.pw_linkrun.specs.CodeStands.{AreReady, SelectionIsReady}
 use Rattle.pw_code_laws.proofs.SelectedLines.{ready_by}
 
 -- ---- saved registers
-
--- numbers that rise, from one on and below another
-few_between : (low high : ℕ) (rs : List ℕ) → low ≤ high → AllByRecursion (λ r. low ≤ r) rs → AllByRecursion (λ r. r < high) rs → EachTwo (λ r q. r < q) rs → length rs + low ≤ high
-few_between low high [] le above below rising = omega (arith, le)
-few_between low high (r ∷ rs) le above below rising =
-    omega (arith, above.0, few_between (r + 1) high rs (omega (arith, below.0)) (next rs rising.0) below.1 rising.1)
-  where
-    next : (qs : List ℕ) → AllByRecursion (λ q. r < q) qs → AllByRecursion (λ q. r + 1 ≤ q) qs
-    next [] h = tt
-    next (q ∷ qs) h = (omega (arith, h.0), next qs h.1)
 
 each : (P : ℕ → Type 0) (rs : List ℕ) → ((r : ℕ) → Contains rs r → P r) → AllByRecursion P rs
 each P [] all = tt
@@ -45,8 +37,8 @@ web_is [] k w all lt e = absurd (omega (arith, lt))
 web_is (x ∷ rest) zero w all lt e = subst (λ (y : Web × Role). IsWeb y.0) e all.0
 web_is (x ∷ rest) (suc k) w all lt e = web_is rest k w all.1 (omega (arith, lt)) e
 
-register_between : (f : WebFn) (l : Located) → IsWebFn f → Serves f l → (r : ℕ) → Changes f l r → (3 ≤ r) × (r < 19)
-register_between f l is serves r (places c small) = let h = (serves.registers r c).0.low in (h, omega (arith, small))
+register_between : (f : WebFn) (l : Located) → IsWebFn f → Serves f l → (r : ℕ) → Changes f l r → (first_register ≤ r) × (r ≤ last_register)
+register_between f l is serves r (places c small) = let h = (serves.registers r c).0.low in (h, small)
 register_between f l is serves r (enters w) =
     let web = web_is f.directives.webs w.there.0 (w.web, Entry) is.directives.each w.there.1 w.there.2 in
     (omega (arith, web.low, w.is), omega (arith, web.high, w.is))
@@ -76,9 +68,9 @@ all_below_fit (n ∷ rest) = (below_fits n, all_below_fit rest)
 served_good : (f : WebFn) (l : Located) → IsWebFn f → Serves f l → Good l
 served_good f l is serves =
     let between = λ (r : ℕ) (c : Contains l.saved r). register_between f l is serves r ((serves.saved r).0 c) in
-    let low = each (λ r. 3 ≤ r) l.saved (λ r c. (between r c).0) in
-    let high = each (λ r. r < 19) l.saved (λ r c. (between r c).1) in
-    let few : length l.saved ≤ 16 = omega (arith, few_between 3 19 l.saved (omega arith) low high serves.order) in
+    let low = each (λ r. first_register ≤ r) l.saved (λ r c. (between r c).0) in
+    let high = each (λ r. r < last_register + 1) l.saved (λ r c. omega (arith, (between r c).1)) in
+    let few : length l.saved ≤ register_count = omega (arith, few_between first_register (last_register + 1) l.saved (omega arith) low high serves.order) in
     let slots : length (slots_alone l.places) ≤ f.temps = omega (arith, few_slots l.places, serves.count) in
     let fits = frame_fits f (length l.saved) (length (slots_alone l.places)) is few slots in
     record {

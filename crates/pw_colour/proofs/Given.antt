@@ -12,7 +12,8 @@ use Rattle.pw_db.specs.Database.{EachTwo}
 use Rattle.pw_graph.proofs.Steps.{take_whole}
 use Rattle.pw_webs.specs.declared.web.RawWeb.{RawWeb}
 use Rattle.pw_webs.specs.Webs.{IsSameWeb}
-use Rattle.pw_colour.specs.Colours.{first_register, IsFree, IsColour, AreColoured}
+use Rattle.pw_db.specs.Limits.{first_register}
+use Rattle.pw_colour.specs.Colours.{IsFree, IsColour, AreColoured}
 use Rattle.pw_colour.specs.Giving.{IsBusyIn, IsLeastFree, IsColourOf, IsGiven, AreAllBusy, paired}
 
 -- a colour is busy in the functions of the webs that have its register
@@ -73,7 +74,7 @@ is_colour colours busy new done earlier w None count is there back differ given 
   | inr all ↦ inr (λ r reg free.
       let low = reg.0 in
       let high = reg.1 in
-      taken busy done earlier w is there differ (r - 3) r (omega (arith, low)) (all (r - 3) (omega (arith, low, high, count))) free)
+      taken busy done earlier w is there differ (r - first_register) r (omega (arith, low)) (all (r - first_register) (omega (arith, low, high, count))) free)
 ]
 is_colour colours busy new done earlier w (Some r) count is there back differ given =
     let c = given.0 in
@@ -87,7 +88,7 @@ is_colour colours busy new done earlier w (Some r) count is there back differ gi
         busy_there = is.from c i.function u (subst (λ n. Has (u, Some n) done) e (back (u, Some r) (has_by (u, Some r) earlier stands))) i.in_one;
         member = i.in_other;
       }),
-      λ q low lt free. taken busy done earlier w is there differ (q - 3) q (omega (arith, low)) (least.least (q - 3) (omega (arith, low, lt, e))) free,
+      λ q low lt free. taken busy done earlier w is there differ (q - first_register) q (omega (arith, low)) (least.least (q - first_register) (omega (arith, low, lt, e))) free,
     )
 
 -- ---- one web more

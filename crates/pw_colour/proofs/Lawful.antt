@@ -26,7 +26,7 @@ use Rattle.pw_colour.specs.Colours.{IsColour, AreColoured, numbered, global_of, 
 use Rattle.pw_colour.proofs.Same.{differ}
 use Rattle.pw_colour.proofs.Numbered.{web_at, number_there}
 use Rattle.pw_colour.proofs.Unique.{raw_in}
-use Rattle.pw_db.specs.Limits.{colour_limit}
+use Rattle.pw_db.specs.Limits.{colour_limit, first_register}
 
 -- ---- names stand once
 
@@ -175,7 +175,7 @@ all_two R (x ∷ xs) f = (each_by (R x) xs (λ y h. f x y (inl refl) (inr h)), a
 
 pub record IsMade (g : CallGraph) (colours : ℕ) (qs : List (ℕ × RawWeb × ℕ)) (db : List (List ℕ × Directives)) : Type 0 where
   pub raw : (q : ℕ × RawWeb × ℕ) → Has q qs → IsRawWeb g q.1
-  pub register : (q : ℕ × RawWeb × ℕ) → Has q qs → (3 ≤ q.2) × (q.2 < 3 + colours)
+  pub register : (q : ℕ × RawWeb × ℕ) → Has q qs → (first_register ≤ q.2) × (q.2 < first_register + colours)
   pub rise : EachTwo (λ a b. a.0 < b.0) qs
   pub once : (q p : ℕ × RawWeb × ℕ) → Has q qs → Has p qs → q.0 ≡ p.0 → q ≡ p
   pub apart : EachTwo AreApart qs
@@ -184,10 +184,10 @@ pub record IsMade (g : CallGraph) (colours : ℕ) (qs : List (ℕ × RawWeb × �
   pub rising : IsRising (map (λ f. f.0) db)
   pub of : (f : List ℕ) (d : Directives) → Contains db (f, d) ↔ ((place : ℕ) × (slice_get g.functions place ≡ Some f) × (d ≡ directives_of g qs place) × (0 < length d.webs))
 
-registers_of : (colours n : ℕ) (es cs : List (RawWeb × Option ℕ)) → AreColoured colours es cs → (q : ℕ × RawWeb × ℕ) → Has q (numbered n cs) → (3 ≤ q.2) × (q.2 < 3 + colours)
+registers_of : (colours n : ℕ) (es cs : List (RawWeb × Option ℕ)) → AreColoured colours es cs → (q : ℕ × RawWeb × ℕ) → Has q (numbered n cs) → (first_register ≤ q.2) × (q.2 < first_register + colours)
 registers_of colours n es [] all q h = absurd h
 registers_of colours n es ((w, None) ∷ cs) all q h = registers_of colours n ((w, None) ∷ es) cs all.1 q h
-registers_of colours n es ((w, Some r) ∷ cs) all q (inl e) = subst (λ (p : ℕ × RawWeb × ℕ). (3 ≤ p.2) × (p.2 < 3 + colours)) e all.0.1
+registers_of colours n es ((w, Some r) ∷ cs) all q (inl e) = subst (λ (p : ℕ × RawWeb × ℕ). (first_register ≤ p.2) × (p.2 < first_register + colours)) e all.0.1
 registers_of colours n es ((w, Some r) ∷ cs) all q (inr h) = registers_of colours (suc n) ((w, Some r) ∷ es) cs all.1 q h
 
 pub is_made : (ss : List Summary) (colours : ℕ) (db : List (List ℕ × Directives)) (d : IsDatabaseOf ss colours db) → ((u w : RawWeb) (f : ℕ) → IsRawWeb d.graph u → IsRawWeb d.graph w → u.global ≡ w.global → Holds u.members f → Holds w.members f → IsSameWeb u w) → IsMade d.graph colours (numbered 0 d.coloured) db

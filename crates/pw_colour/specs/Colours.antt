@@ -10,6 +10,7 @@ use Rattle.pw_fix.specs.Row.{members as numbers}
 use Rattle.pw_fix.specs.declared.bit_row.BitRow.{BitRow}
 use Rattle.pw_summary.specs.declared.summary.Summary.{Summary}
 use Rattle.pw_db.specs.Database.{EachTwo}
+use Rattle.pw_db.specs.Limits.{first_register}
 use Rattle.pw_db.specs.declared.database.Web.{Web}
 use Rattle.pw_db.specs.declared.database.Role.{Role}
 use Rattle.pw_db.specs.declared.database.Role.TheVariants.{Entry, Member}
@@ -24,10 +25,6 @@ abbrev pub ComesFirst : RawWeb → RawWeb → Type 0
 ComesFirst a b = (b.priority <ℤ a.priority) ⊎ ((a.priority ≡ b.priority) × StandsBefore a b)
 
 -- ---- the register of a web
-
--- the first register of webs
-abbrev pub first_register : ℕ
-first_register = 3
 
 -- one of so many registers
 abbrev pub IsRegister : ℕ → ℕ → Type 0

@@ -9,7 +9,8 @@ use Rattle.pw_db.specs.declared.database.Directives.{Directives}
 use Rattle.pw_graph.specs.declared.graph.CallGraph.{CallGraph}
 use Rattle.pw_webs.specs.declared.web.RawWeb.{RawWeb}
 use Rattle.pw_colour.specs.declared.directing.Coloured.{Coloured}
-use Rattle.pw_colour.specs.Colours.{first_register, directives_of, webs_of}
+use Rattle.pw_db.specs.Limits.{first_register}
+use Rattle.pw_colour.specs.Colours.{directives_of, webs_of}
 
 -- ---- registers
 

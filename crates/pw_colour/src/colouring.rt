@@ -7,13 +7,11 @@ ghost use Rattle.pw_colour.specs.Colours.{AreColoured};
 ghost use Rattle.pw_colour.specs.Giving.{AreAllBusy, IsLeastFree, IsColourOf, IsGiven, paired};
 ghost use Rattle.pw_db.specs.Limits.{colour_limit};
 
+use pw_db::FIRST_REGISTER;
 use pw_fix::{BitRow, BitRows};
 use pw_refs::join;
 use pw_webs::RawWeb;
 use std::alloc::{AllocError, Global};
-
-/// The first register of webs.
-const FIRST: u8 = 3;
 
 /// The least colour that no function of a web has yet.
 fn least_free(busy: &BitRows, members: &BitRow) -> Option<usize>
@@ -50,7 +48,7 @@ fn give(busy: &mut BitRows, web: &RawWeb) -> Option<u8>
 {
     let colour = colour_of(busy, web)?;
     join(busy, colour, &web.members);
-    Some(FIRST + colour as u8)
+    Some(FIRST_REGISTER + colour as u8)
 }
 
 /// The register of each web, in their order.

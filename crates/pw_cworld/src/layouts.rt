@@ -15,7 +15,7 @@ use pw_types::{CType, Layout, Types, layout};
 use pw_value::Value;
 use std::alloc::{AllocError, Global};
 
-/// The layout of a type. There is no memory for one that 32 bits cannot tell, which passes the limit on sizes, and for
+/// The layout of a type. There is no memory for one of 2^32 - 1 bytes or more, which passes the limit on sizes, and for
 /// no other.
 #[tactic(auto, using(crate::proofs::LayoutLemmas::told_is))]
 pub fn exact_layout(types: &Types, ty: &CType) -> Result<Option<Layout>, AllocError>

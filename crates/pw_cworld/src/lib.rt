@@ -9,4 +9,4 @@ pub mod program;
 pub use globals::global_names;
 pub use layouts::{element_layout, exact_layout, put_value};
 pub use numbers::function_numbers;
-pub use program::{Body, Callable, LibraryFunction, Part, callables};
+pub use program::{Body, Callable, LibraryFunction, Part, callables, plain_shape};

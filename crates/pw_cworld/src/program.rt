@@ -1,13 +1,17 @@
 //! The modules of a program and its functions.
 
-ghost use Rattle.std.specs.Prelude.{◌≡◌, ◌++◌, ◌∷◌, [], map, IfOk, OnOk};
+ghost use Rattle.std.specs.Prelude.{◌≡◌, ◌++◌, ◌∷◌, [], false, length, map, IfOk, OnOk};
 ghost use Rattle.pw_typed.specs.Views.{view_module, view_function};
+ghost use Rattle.pw_types.specs.Shapes.{shape_of};
+ghost use Rattle.pw_types.specs.Views.{view_type};
+ghost use Rattle.pw_value.specs.Names.{IsNameLength};
 ghost use Rattle.pw_cmean.specs.Worlds as worlds;
 ghost use Rattle.pw_cworld.specs.Views.{view_part, view_program, view_callable, view_callables, view_library};
 
-use pw_lforms::full_name;
+use pw_kinds::{copy_type, plain};
+use pw_lforms::{full_name, name_of};
 use pw_typed::{TFunction, TModule};
-use pw_types::shape;
+use pw_types::{CType, Types, shape};
 use pw_value::program_names::{EXIT, EXIT_SHAPE, GETCHAR, GETCHAR_SHAPE, PUTCHAR, PUTCHAR_SHAPE};
 use pw_value::{Name, Shape};
 use std::alloc::{AllocError, Global};
@@ -71,10 +75,11 @@ fn built_in<'a>(
     shape: &[u8],
     body: LibraryFunction,
 ) -> Result<Callable<'a>, AllocError>
+    requires { IsNameLength (length name.now) }
     ensures { IfOk result (λ c. view_callable c ≡ record { name = name.now; shape = shape.now; body = worlds.Library (view_library body) }) }
 {
     Ok(Callable {
-        name: Name::new(alloc, name).ok().ok_or(AllocError)?,
+        name: name_of(alloc, name)?,
         shape: Shape::new(Vec::from_slice(alloc, shape)?),
         body: Body::Library(body),
     })
@@ -95,7 +100,15 @@ fn add_functions<'a>(
     Ok(())
 }
 
-/// A function of a module. Its type, which is that of a function, is not volatile; of another there is no memory.
+/// The shape of a type without its own mark.
+pub fn plain_shape(alloc: Global, types: &Types, ty: &CType) -> Result<Shape, AllocError>
+    ensures { IfOk result (λ shape. shape ≡ shape_of types.now (view_type ty.now) false) }
+{
+    let unmarked = plain(copy_type(alloc, ty)?);
+    shape(alloc, types, &unmarked)
+}
+
+/// A function of a module.
 fn callable_of<'a>(
     alloc: Global,
     part: Part<'a>,
@@ -103,12 +116,9 @@ fn callable_of<'a>(
 ) -> Result<Callable<'a>, AllocError>
     ensures { IfOk result (λ c. view_callable c ≡ worlds.callable (view_part part.entry) (view_function f.now)) }
 {
-    if f.ty.volatile {
-        return Err(AllocError);
-    }
     Ok(Callable {
         name: full_name(alloc, part.name, &f.name)?,
-        shape: shape(alloc, &part.tree.types, &f.ty)?,
+        shape: plain_shape(alloc, &part.tree.types, &f.ty.ty)?,
         body: Body::Defined(part, f),
     })
 }

@@ -1,10 +1,10 @@
 -- A database gives each function one list of directives.
-use Rattle.std.proofs.Common.{◌≡◌, ◌≢◌, ◌⊎◌, ⊎_elim, ℕ, List, [], ◌∷◌, map, All, Option, None, refl, sym, ap, subst, ◌∙◌, inl, inr}
+use Rattle.std.proofs.Common.{◌≡◌, ◌≢◌, ⊎_elim, ℕ, List, [], ◌∷◌, map, All, None, refl, sym, ap, subst, ◌∙◌, inl, inr}
 use Rattle.std.proofs.lemmas.List.Elements.{recursion_from_All}
 use Rattle.std.specs.List.{AllByRecursion}
 use Rattle.pw_files.proofs.Standing.{Has, contains_by, has_by, has_each, stands_or_not}
 use Rattle.pw_db.specs.declared.database.Directives.{Directives}
-use Rattle.pw_db.specs.Database.{EachTwo, IsDatabase, HasDirectives, empty}
+use Rattle.pw_db.specs.Database.{EachTwo, IsDatabase, HasDirectives}
 use Rattle.pw_db.proofs.StoringLaws.{rising_differ}
 
 -- no two functions of one name

@@ -19,6 +19,7 @@ use Rattle.pw_value.specs.ProgramNames.{same_truth}
 use Rattle.pw_files.proofs.KindLaws.{scalar_spells, scalar_again}
 use Rattle.pw_value.proofs.StartLaws.{same_forth, same_back}
 use Rattle.pw_files.proofs.RisingLaws.{refit}
+use Rattle.pw_db.specs.Limits.{first_register, last_register}
 use Rattle.pw_db.specs.declared.database.Web.{Web}
 use Rattle.pw_db.specs.declared.database.Role.{Role}
 use Rattle.pw_db.specs.declared.database.Role.TheVariants.{Entry, Member}
@@ -38,7 +39,7 @@ abbrev KindRule : List Web → ℕ → Kind → Type 0
 KindRule seen id k = IsTrue (fits_first (first_with id seen) (λ w. scalar_code w.kind == scalar_code k))
 
 abbrev RegisterRule : List Web → List Web → ℕ → ℕ → Type 0
-RegisterRule seen own id r = IsTrue ((nat_le 3 r && nat_le r 18) && (fits_first (first_with id seen) (λ w. w.reg == r) && list_all (λ w. not (w.reg == r)) own))
+RegisterRule seen own id r = IsTrue ((nat_le first_register r && nat_le r last_register) && (fits_first (first_with id seen) (λ w. w.reg == r) && list_all (λ w. not (w.reg == r)) own))
 
 abbrev WritesRule : List Web → ℕ → Bool → Type 0
 WritesRule seen id b = IsTrue (fits_first (first_with id seen) (λ w. same_truth w.writes b))
@@ -76,7 +77,7 @@ kind_spells seen id = checked_spells scalar (λ k. Unit {0}) scalar_at (λ k. fi
 
 register_spells : (seen own : List Web) (id : ℕ) → Spells u8 (λ r. FitsU8 r × RegisterRule seen own id r) (register_at (first_with id seen) own)
 unfolding register_at
-register_spells seen own id = checked_spells u8 FitsU8 u8_at (λ r. (nat_le 3 r && nat_le r 18) && (fits_first (first_with id seen) (λ w. w.reg == r) && list_all (λ w. not (w.reg == r)) own)) u8_spells
+register_spells seen own id = checked_spells u8 FitsU8 u8_at (λ r. (nat_le first_register r && nat_le r last_register) && (fits_first (first_with id seen) (λ w. w.reg == r) && list_all (λ w. not (w.reg == r)) own)) u8_spells
 
 writes_spells : (seen : List Web) (id : ℕ) → Spells flag (λ b. Unit {0} × WritesRule seen id b) (writes_at (first_with id seen))
 unfolding writes_at
@@ -155,7 +156,7 @@ web_forth names seen own p h =
     let f = first_with w.id seen in
     let g = h.1.0.1 in
     let r = h.1.1.1.0.1 in
-    let range = nat_le 3 w.reg && nat_le w.reg 18 in
+    let range = nat_le first_register w.reg && nat_le w.reg last_register in
     let fit = fits_first f (λ x. x.reg == w.reg) in
     let free = list_all (λ x. not (x.reg == w.reg)) own in
     let g_fit = fits_first f (λ x. bytes_eq x.global w.global) in
@@ -167,7 +168,7 @@ web_forth names seen own p h =
       named = h.1.0.0;
       global = all_forth (λ x. not (bytes_eq x.global w.global)) (λ x. x.global ≢ w.global) (λ x e same. not_true _ e ((bytes_eq-Decides x.global w.global).1 same)) own (second_so g_fit g_free g);
       register = all_forth (λ x. not (x.reg == w.reg)) (λ x. x.reg ≢ w.reg) (λ x e same. not_true _ e (eq-eqb _ _ same)) own (second_so fit free (second_so range (fit && free) r));
-      is = record { low = leb-true _ _ (first_so (nat_le 3 w.reg) (nat_le w.reg 18) within); high = leb-true _ _ (second_so (nat_le 3 w.reg) (nat_le w.reg 18) within) };
+      is = record { low = leb-true _ _ (first_so (nat_le first_register w.reg) (nat_le w.reg last_register) within); high = leb-true _ _ (second_so (nat_le first_register w.reg) (nat_le w.reg last_register) within) };
       first = λ v e. first_forth_by f w v (first_number w.id seen v e) e (first_so g_fit g_free g) h.1.1.0.1 (first_so fit free (second_so range (fit && free) r)) h.1.1.1.1.0.1;
     }
 

@@ -7,6 +7,7 @@ use Rattle.pw_value.specs.FieldNames.{name_table, name_index}
 use Rattle.pw_files.specs.Rising.{IsRising, counted}
 use Rattle.pw_files.specs.Kinds.{scalar}
 use Rattle.pw_files.specs.Contents.{Contents, IsContents, IsFileWith, IsContentsOf}
+use Rattle.pw_db.specs.Limits.{first_register, last_register}
 use Rattle.pw_db.specs.declared.database.Web.{Web}
 use Rattle.pw_db.specs.declared.database.Role.{Role}
 use Rattle.pw_db.specs.declared.database.Role.TheVariants.{Entry, Member}
@@ -21,8 +22,8 @@ EachTwo Holds (x ∷ xs) = AllByRecursion (Holds x) xs × EachTwo Holds xs
 
 -- its register is one of those that a callee keeps
 pub record IsWeb (w : Web) : Type 0 where
-  pub low : 3 ≤ w.reg
-  pub high : w.reg ≤ 18
+  pub low : first_register ≤ w.reg
+  pub high : w.reg ≤ last_register
 
 abbrev pub webs_of : Directives → List Web
 webs_of d = map (λ w. w.0) d.webs

@@ -11,6 +11,7 @@ use Rattle.pw_value.specs.declared.program_names.StartName.TheVariants.{Allowed}
 use Rattle.pw_files.specs.Kinds.{scalar_code, scalar_at}
 use Rattle.pw_files.specs.Names.{name_above_at}
 use Rattle.pw_files.specs.Contents.{Contents, contents_at, contents_file_at}
+use Rattle.pw_db.specs.Limits.{first_register, last_register}
 use Rattle.pw_db.specs.declared.database.Web.{Web}
 use Rattle.pw_db.specs.declared.database.Role.{Role}
 use Rattle.pw_db.specs.declared.database.Role.TheVariants.{Entry, Member}
@@ -44,7 +45,7 @@ kind_at first = checked (λ k. fits_first first (λ w. scalar_code w.kind == sca
 
 -- a register that a callee keeps, that of no web of the function before it
 unfoldable pub register_at : Option Web → List Web → List ℕ → Result (ℕ × List ℕ) ℕ
-register_at first own = checked (λ r. (nat_le 3 r && nat_le r 18) && (fits_first first (λ w. w.reg == r) && list_all (λ w. not (w.reg == r)) own)) u8_at
+register_at first own = checked (λ r. (nat_le first_register r && nat_le r last_register) && (fits_first first (λ w. w.reg == r) && list_all (λ w. not (w.reg == r)) own)) u8_at
 
 unfoldable pub writes_at : Option Web → List ℕ → Result (Bool × List ℕ) ℕ
 writes_at first = checked (λ b. fits_first first (λ w. same_truth w.writes b)) flag_at

@@ -16,6 +16,7 @@ ghost use Rattle.pw_db.specs.Reading.{fits_first, number_at, global_at, kind_at,
 ghost use Rattle.pw_db.specs.Seen.{known_web};
 
 use crate::database::{Database, Directives, Role, Web};
+use crate::limits::{FIRST_REGISTER, LAST_REGISTER};
 use crate::names::{refs_of, used_names};
 use crate::seen::{Known, Seen};
 use pw_files::format::{Format, read_contents, read_value};
@@ -162,7 +163,7 @@ fn read_kind<'a>(first: Option<Known>, bytes: &'a [u8]) -> Result<(Kind, &'a [u8
     }
 }
 
-/// A register from 3 to 18 that no web of the function before has.
+/// A register that a callee keeps and that no web of the function before has.
 #[tactic(auto, unfolding(crate::specs::Reading::register_at))]
 fn read_register<'a>(
     first: Option<Known>,
@@ -173,7 +174,11 @@ fn read_register<'a>(
     ensures no_memory { IfErr result (λ e. e ≢ FieldError.NoMemory) }
 {
     let (reg, rest) = read_u8(bytes)?;
-    if 3 <= reg && reg <= 18 && fits_register(first, reg) && is_register_free(own, reg) {
+    if FIRST_REGISTER <= reg
+        && reg <= LAST_REGISTER
+        && fits_register(first, reg)
+        && is_register_free(own, reg)
+    {
         Ok((reg, rest))
     } else {
         Err(FieldError::Fault { left: bytes.len() })

@@ -47,7 +47,7 @@ pub contents_keep : {V : Type 0} (fields : FieldsReader V) (late : List (List �
 unfolding contents_at
 contents_keep fields late keeps = keeps_behind names_at _ _ (λ names. keeps_behind here _ _ (λ place. keeps names (late names place)))
 
-header_onward : (kind first last total : ℕ) → Onward (header_at kind first last total)
+pub header_onward : (kind first last total : ℕ) → Onward (header_at kind first last total)
 header_onward kind first last total = behind _ _ (one_onward _ (checked_one (λ k. k == kind) u32_at u32_one)) (λ k. behind _ _ (one_onward _ (checked_one (λ n. n == total) u32_at u32_one)) (λ n. behind _ _ (one_onward _ (checked_one (λ v. nat_le first v && nat_le v last) u32_at u32_one)) (λ v. done_onward v)))
 
 -- ---- lists that begin alike
@@ -85,7 +85,7 @@ longer tail d n (inr (inr (inl h))) = inr (inr (inl h))
 longer tail d n (inr (inr (inr h))) = inr (inr (inr (longer_text tail d n h)))
 
 -- what begins alike begins alike in its front
-swapped : (m n : ℕ) (xs ys : List ℕ) → take m xs ≡ take m ys → take m (take n xs) ≡ take m (take n ys)
+pub swapped : (m n : ℕ) (xs ys : List ℕ) → take m xs ≡ take m ys → take m (take n xs) ≡ take m (take n ys)
 swapped m n xs ys same =
     elim (cases_lt m n) [
       | inl lt ↦ take-take m n xs (omega (arith, lt)) ∙ same ∙ sym (take-take m n ys (omega (arith, lt)))

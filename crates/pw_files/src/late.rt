@@ -5,8 +5,8 @@ ghost use Rattle.std.specs.List.{flat_map};
 ghost use Rattle.pw_value.specs.Fields.{text};
 ghost use Rattle.pw_value.specs.FieldFaults.{Gives};
 ghost use Rattle.pw_value.specs.FieldNames.{first_unused};
-ghost use Rattle.pw_files.specs.Start.{start_rule};
-ghost use Rattle.pw_files.specs.Contents.{broken_at, module_rules};
+ghost use Rattle.pw_files.specs.Start.{start_rule, sooner};
+ghost use Rattle.pw_files.specs.Contents.{broken_at};
 
 use pw_value::Name;
 use pw_value::fields::FieldError;
@@ -43,22 +43,23 @@ fn check_start(functions: &[&Name], globals: &[&Name], count: usize) -> Result<(
     }
 }
 
-/// The rules of a module's file: each name of the table is used, where so many bytes are left behind the
-/// table, and then that of `$start`, where so many are left from the count of the functions on. `used` are
-/// the names that are used, in whatever order and however often, and `functions` and `globals` those of
-/// the functions and of the objects.
+/// The rules of a module's file: that each name of the table is used, where `unused` tells the place of the
+/// first that is not, as [`find_unused`] finds it; and then that of `$start`, where so many bytes are left
+/// from the count of the functions on. `functions` and `globals` are the names of the functions and of the
+/// objects.
+///
+/// [`find_unused`]: pw_value::fields::names::find_unused
 pub fn check_module(
-    alloc: Global,
-    names: &[Name],
-    used: Vec<&Name>,
-    behind: usize,
+    unused: Option<usize>,
     functions: &[&Name],
     globals: &[&Name],
     count: usize,
 ) -> Result<(), FieldError>
-    requires { length (flat_map text names.now) + behind < 2 ^ 64 }
-    ensures { Gives (λ x. x) result (broken_at (module_rules names.now (map (λ name. name.now) used.entry.items) behind (map (λ name. name.now) functions.now) (map (λ name. name.now) globals.now) count)) }
+    ensures found { Gives (λ x. x) result (broken_at (sooner unused (start_rule (map (λ name. name.now) functions.now) (map (λ name. name.now) globals.now) count))) }
+    ensures no_memory { IfErr result (λ e. e ≢ FieldError.NoMemory) }
 {
-    check_used(alloc, names, used, behind)?;
-    check_start(functions, globals, count)
+    match unused {
+        Some(left) => Err(FieldError::Fault { left }),
+        None => check_start(functions, globals, count),
+    }
 }

@@ -12,11 +12,9 @@ ghost use Rattle.pw_files.specs.Names.{shaped, FitsShapes};
 use pw_value::fields::frame::{FRAME_LEN, seal};
 use pw_value::fields::names::{push_name, table_of};
 use pw_value::fields::writing::{push_text, push_u32};
+use pw_value::words::word_of;
 use pw_value::{Name, Shape};
 use std::alloc::{AllocError, Global};
-
-/// The greatest count of items or bytes that a file can hold.
-pub const COUNT_LIMIT: usize = u32::MAX as usize;
 
 /// The table of the names that are used, in whatever order and however often.
 pub fn make_table(alloc: Global, used: Vec<&Name>) -> Result<Vec<Name>, AllocError>
@@ -24,9 +22,7 @@ pub fn make_table(alloc: Global, used: Vec<&Name>) -> Result<Vec<Name>, AllocErr
     ensures table { IfOk result (λ v. IsTableOf v.items (map (λ name. name.now) used.entry.items)) }
 {
     let names = table_of(alloc, used)?;
-    if names.len() > COUNT_LIMIT {
-        return Err(AllocError);
-    }
+    word_of(names.len())?;
     Ok(names)
 }
 
@@ -40,9 +36,7 @@ pub fn seal_payload(
     ensures room { OnOk result (FitsFile payload.now) }
     ensures sealed { IfOk result (λ v. v.items ≡ file kind version payload.now) }
 {
-    if payload.len() > COUNT_LIMIT - FRAME_LEN {
-        return Err(AllocError);
-    }
+    word_of(FRAME_LEN + payload.len())?;
     seal(alloc, kind, version, payload)
 }
 
@@ -51,10 +45,7 @@ pub fn push_count(out: &mut Vec<u8>, count: usize) -> Result<(), AllocError>
     ensures fits { OnOk result (FitsU32 count) }
     ensures written { OnOk result (out.new.items ≡ out.old.items ++ u32 count) }
 {
-    if count > COUNT_LIMIT {
-        return Err(AllocError);
-    }
-    push_u32(out, count as u32)
+    push_u32(out, word_of(count)?)
 }
 
 /// Numbers, one after the other.
@@ -72,9 +63,7 @@ pub fn push_bytes(out: &mut Vec<u8>, bytes: &[u8]) -> Result<(), AllocError>
     ensures fits { OnOk result (FitsText bytes.now) }
     ensures written { OnOk result (out.new.items ≡ out.old.items ++ text bytes.now) }
 {
-    if bytes.len() > COUNT_LIMIT {
-        return Err(AllocError);
-    }
+    word_of(bytes.len())?;
     push_text(out, bytes)
 }
 

@@ -9,7 +9,7 @@ ghost use Rattle.pw_places.specs.Views.{view_target};
 ghost use Rattle.pw_rules.specs.Initialisers as spec;
 ghost use Rattle.pw_typed.specs.Views.{view_expr, view_item};
 
-use crate::items::item_of;
+use crate::items::{item_of, word_of};
 use pw_checking::{State, fault, typing};
 use pw_kinds::is_array;
 use pw_operand::{cast_to, is_assignable};
@@ -57,10 +57,7 @@ impl Filled {
         ensures { IfOk result (λ f. view_filled f ≡ spec.fill (spec.item_list offset (option_map view_item item)) (view_expr part) (view_filled self)) }
     {
         if let Some(item) = item {
-            let Ok(offset) = u32::try_from(offset) else {
-                return Err(AllocError);
-            };
-            self.items.push((offset, item))?;
+            self.items.push((word_of(offset)?, item))?;
         }
         self.parts.push(part)?;
         Ok(self)

@@ -1,6 +1,6 @@
 //! Constants as they stand in an object (C90 6.4).
 
-ghost use Rattle.std.specs.Prelude.{◌≡◌, option_map, IfOk};
+ghost use Rattle.std.specs.Prelude.{◌≡◌, ◌≤◌, ◌^◌, option_map, IfOk, MatchResult};
 ghost use Rattle.pw_filled.specs.Items.{pointer_item};
 ghost use Rattle.pw_rules.specs.Initialisers as spec;
 ghost use Rattle.pw_constant.specs.Views.{view_place};
@@ -37,13 +37,18 @@ pub fn copy_symbol(alloc: Global, symbol: &Symbol) -> Result<Symbol, AllocError>
     }
 }
 
+/// A number as a word. Want of memory is the answer for one that 32 bits cannot count, and for no other.
+pub fn word_of(number: u64) -> Result<u32, AllocError>
+    ensures { MatchResult result (λ word. word ≡ number) (λ _. 2 ^ 32 ≤ number) }
+{
+    u32::try_from(number).ok().ok_or(AllocError)
+}
+
 /// An address as it stands in an object. A distance that 32 bits cannot count answers want of memory.
 fn address_item(alloc: Global, place: &Place<'_>) -> Result<TItem, AllocError>
     ensures { IfOk result (λ item. view_item item ≡ spec.address_item (view_place place.now)) }
 {
-    let Ok(offset) = u32::try_from(place.offset) else {
-        return Err(AllocError);
-    };
+    let offset = word_of(place.offset)?;
     let symbol = match place.base {
         Base::Named(symbol) => copy_symbol(alloc, symbol)?,
         Base::Text(number) => Symbol::Hidden(number),

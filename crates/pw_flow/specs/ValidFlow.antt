@@ -3,7 +3,7 @@ use Rattle.std.specs.Prelude.{ℕ, ◌≡◌, ◌≢◌, ◌+◌, ◌*◌, ◌/�
 use Rattle.std.specs.List.{AllByRecursion}
 use Rattle.pw_value.specs.Limits.{size_limit, parameter_limit, room_limit}
 use Rattle.pw_value.specs.Objects.{round8}
-use Rattle.pw_value.specs.ProgramNames.{IsOrdinary, IncludesStart}
+use Rattle.pw_value.specs.ProgramNames.{IsOrdinary, KeepsStart}
 use Rattle.pw_value.specs.declared.value.Kind.{Kind}
 use Rattle.pw_value.specs.declared.value.Kind.TheVariants as kind
 use Rattle.pw_flow.specs.declared.flow.End.{End}
@@ -133,14 +133,10 @@ pub record HasDistinctNames (m : FlowModule) : Type 0 where
   pub defined : AreDistinct (global_names m ++ function_names m)
   pub declared : AreDistinct (declared_names m)
 
-pub record IsStartLawful (m : FlowModule) : Type 0 where
-  pub included : IncludesStart (function_names m)
-  pub no_global : AllByRecursion IsOrdinary (global_names m)
-
 -- what a module defines and declares
 pub record AreNamesLawful (m : FlowModule) : Type 0 where
   pub distinct : HasDistinctNames m
-  pub start : IsStartLawful m
+  pub start : KeepsStart (function_names m) (global_names m)
 
 -- each object and function by itself, and what they name
 pub record ArePartsLawful (m : FlowModule) : Type 0 where

@@ -3,6 +3,7 @@
 #![tactic(auto)]
 
 mod flow;
+pub mod names;
 
 pub use flow::{
     BinKind, Block, End, ExtKind, FlowFn, FlowGlobal, FlowModule, Item, Op, UnKind, kind_size,

@@ -20,13 +20,13 @@ use Rattle.pw_flow.specs.declared.flow.FlowModule.{FlowModule}
 use Rattle.pw_flow.specs.declared.flow.FlowGlobal.{FlowGlobal}
 use Rattle.pw_flow.specs.declared.flow.FlowFn.{FlowFn}
 use Rattle.pw_flow.specs.FlowGraph.{names_in_global, names_in_function, global_names, function_names, declared_names, named_in}
-use Rattle.pw_flow.specs.ValidFlow.{IsGlobal, IsFunction, IsStartLawful, IsValid}
+use Rattle.pw_flow.specs.ValidFlow.{IsGlobal, IsFunction, IsValid}
 use Rattle.pw_flow.proofs.Lists.{all_flat, all_flat_back, all_both, all_first, all_second, all_append, all_left, all_right}
 use Rattle.pw_flowfile.specs.FlowFile.{all_in_global, all_in_function, names_of, global, function, spelling, FitsGlobal, FitsFunction, FitsModule}
 use Rattle.pw_flowfile.specs.Reading.{global_at, next_global, declared_at, next_declared, function_at, next_function, seen_after, list_at, parts_at, fields_at, late_rules}
 use Rattle.pw_flowops.proofs.FieldChains.{Takes, takes_field, takes_here, takes_done, ended_is, again_field}
 use Rattle.pw_flowfile.proofs.GraphLaws.{FunctionFits, FunctionStands, function_spells, GlobalFits, GlobalStands, global_spells, DeclaredStands, declared_spells}
-use Rattle.pw_flowfile.proofs.Turns.{InTurn, turn_forth, turn_back, turn_append, turn_left, turn_right, turn_distinct, distinct_turn, start_lawful, lawful_start}
+use Rattle.pw_flowfile.proofs.Turns.{InTurn, turn_forth, turn_back, turn_append, turn_left, turn_right, turn_distinct, distinct_turn}
 
 -- ---- tools
 
@@ -89,7 +89,7 @@ parts_ordinary names m p = all_append IsOrdinary (flat_map names_in_global m.glo
 abbrev pub IsRight : Contents FlowModule → Type 0
 IsRight = IsContents IsValid FitsModule names_of
 
-parts_forth : (names : List (List ℕ)) (m : FlowModule) → Parts names m → AllUsed names (names_of m) → IsStartLawful m → IsRight (record { names = names; value = m })
+parts_forth : (names : List (List ℕ)) (m : FlowModule) → Parts names m → AllUsed names (names_of m) → KeepsStart (function_names m) (global_names m) → IsRight (record { names = names; value = m })
 parts_forth names m p used start = record {
   lawful = record {
     parts = record {
@@ -106,12 +106,9 @@ parts_forth names m p used start = record {
     };
   };
   fits = record {
-    global_count = p.global_count;
-    globals = all_map (OneGlobal names) FitsGlobal (λ g q. q.1.1.0) m.globals p.globals;
-    declared_count = p.declared_count;
-    declared = all_second (λ d. Contains names d.0) (λ d. FitsText d.1) m.declared p.declared;
-    function_count = p.function_count;
-    functions = all_map (FunctionFits names) FitsFunction (λ f q. q.1.0) m.functions p.functions;
+    globals = (p.global_count, all_map (OneGlobal names) FitsGlobal (λ g q. q.1.1.0) m.globals p.globals);
+    declared = (p.declared_count, all_second (λ d. Contains names d.0) (λ d. FitsText d.1) m.declared p.declared);
+    functions = (p.function_count, all_map (FunctionFits names) FitsFunction (λ f q. q.1.0) m.functions p.functions);
   };
   name_count = p.table.count;
   names = table_of_used names (names_of m) p.table used (used_forth names (names_of m) (parts_used names m p));
@@ -136,25 +133,23 @@ parts_back c is =
     record {
       table = record { count = is.name_count; rising = is.names.rising };
       name = used.0;
-      global_count = is.fits.global_count;
+      global_count = is.fits.globals.0;
       globals = all_map (λ g. (IsGlobal g × FitsGlobal g) × (GS g × GO g)) (OneGlobal names) (λ g q. (q.1.0.0, (q.0.0, (q.0.1, all_both (Contains names) IsOrdinary (names_in_global g) q.1.0.1 q.1.1)))) m.globals
-          (all_both (λ g. IsGlobal g × FitsGlobal g) (λ g. GS g × GO g) m.globals (all_both IsGlobal FitsGlobal m.globals is.lawful.parts.globals is.fits.globals) (all_both GS GO m.globals gs og));
+          (all_both (λ g. IsGlobal g × FitsGlobal g) (λ g. GS g × GO g) m.globals (all_both IsGlobal FitsGlobal m.globals is.lawful.parts.globals is.fits.globals.1) (all_both GS GO m.globals gs og));
       global_turn = turn_left [] (global_names m) (function_names m) turn;
-      declared_count = is.fits.declared_count;
-      declared = all_both (λ d. Contains names d.0) (λ d. FitsText d.1) m.declared ds is.fits.declared;
+      declared_count = is.fits.declared.0;
+      declared = all_both (λ d. Contains names d.0) (λ d. FitsText d.1) m.declared ds is.fits.declared.1;
       declared_turn = distinct_turn (declared_names m) is.lawful.names.distinct.declared;
-      function_count = is.fits.function_count;
+      function_count = is.fits.functions.0;
       functions = all_map (λ f. (IsFunction f × FitsFunction f) × (FS f × FO f)) (FunctionFits names) (λ f q. (q.0.0, (q.0.1, (q.1.0.0, all_both (Contains names) IsOrdinary (names_in_function f) q.1.0.1 q.1.1)))) m.functions
-          (all_both (λ f. IsFunction f × FitsFunction f) (λ f. FS f × FO f) m.functions (all_both IsFunction FitsFunction m.functions is.lawful.parts.functions is.fits.functions) (all_both FS FO m.functions fs of));
+          (all_both (λ f. IsFunction f × FitsFunction f) (λ f. FS f × FO f) m.functions (all_both IsFunction FitsFunction m.functions is.lawful.parts.functions is.fits.functions.1) (all_both FS FO m.functions fs of));
       function_turn = turn_right [] (global_names m) (function_names m) turn;
     }
 
 -- ---- the late rules
 
-late_forth : (names : List (List ℕ)) (m : FlowModule) (behind place : ℕ) → late_rules names behind m place ≡ None → AllUsed names (names_of m) × IsStartLawful m
-late_forth names m behind place e =
-    let both = module_rules_forth names (names_of m) behind (function_names m) (global_names m) place e in
-    (both.0, start_lawful m both.1)
+late_forth : (names : List (List ℕ)) (m : FlowModule) (behind place : ℕ) → late_rules names behind m place ≡ None → AllUsed names (names_of m) × KeepsStart (function_names m) (global_names m)
+late_forth names m behind place e = module_rules_forth names (names_of m) behind (function_names m) (global_names m) place e
 
 late_back : (names : List (List ℕ)) (m : FlowModule) (behind place : ℕ) → AllUsed names (names_of m) → KeepsStart (function_names m) (global_names m) → late_rules names behind m place ≡ None
 late_back names m behind place used start = module_rules_back names (names_of m) behind (function_names m) (global_names m) place (used, start)
@@ -274,7 +269,7 @@ fields_again c is behind =
     let p = parts_back c is in
     rw (
       parts_again c.names c.value p,
-      late_back c.names c.value behind (length ((counted (function c.names) c.value.functions ++ []) ++ [])) (used_by_table c.names (names_of c.value) is.names).0 (lawful_start c.value is.lawful.names.distinct.defined is.lawful.names.start),
+      late_back c.names c.value behind (length ((counted (function c.names) c.value.functions ++ []) ++ [])) (used_by_table c.names (names_of c.value) is.names).0 is.lawful.names.start,
     ) refl
 
 contents_again : (c : Contents FlowModule) → IsRight c → contents_at fields_at late_rules (spelling c ++ []) ≡ Ok (c, [])

@@ -16,8 +16,8 @@ use Rattle.pw_flowops.specs.Reading.{one_of_at, op_at}
 use Rattle.pw_flowops.proofs.OnwardLaws.{choice_of_one, named_one, op_onward, end_onward}
 use Rattle.pw_flowfile.specs.declared.globals.ItemForm.{ItemForm}
 use Rattle.pw_flowfile.specs.declared.globals.ItemForm.TheVariants as form
-use Rattle.pw_flowfile.specs.FlowFile.{kind_of_file, flow_version}
-use Rattle.pw_flowfile.specs.Reading.{fresh_at, item_forms, content_at, item_at, placed_item_at, next_free, global_body_at, global_at, next_global, block_at, slot_at, next_room, code_at, function_body_at, function_at, next_function, declared_body_at, declared_at, next_declared, seen_after, list_at, parts_at, fields_at, late_rules, flow_file_at}
+use Rattle.pw_flowfile.specs.FlowFile.{item_forms, kind_of_file, flow_version}
+use Rattle.pw_flowfile.specs.Reading.{fresh_at, content_at, item_at, placed_item_at, next_free, global_body_at, global_at, next_global, block_at, slot_at, next_room, code_at, function_body_at, function_at, next_function, declared_body_at, declared_at, next_declared, seen_after, list_at, parts_at, fields_at, late_rules, flow_file_at}
 
 fresh_one : (names seen : List (List ℕ)) → OneField (fresh_at names seen)
 unfolding fresh_at

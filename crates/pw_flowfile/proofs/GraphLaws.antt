@@ -38,8 +38,8 @@ use Rattle.pw_flowops.proofs.OpLaws.{op_spells}
 use Rattle.pw_flowops.proofs.EndLaws.{end_spells}
 use Rattle.pw_flowfile.specs.declared.globals.ItemForm.{ItemForm}
 use Rattle.pw_flowfile.specs.declared.globals.ItemForm.TheVariants as form
-use Rattle.pw_flowfile.specs.FlowFile.{form_number, item, placed_item, global_body, global, block, function, FitsBlock, FitsFunction, FitsGlobal}
-use Rattle.pw_flowfile.specs.Reading.{item_forms, has_room, content_at, item_at, placed_item_at, next_free, has_kind_size, global_body_at, global_at, block_at, slot_at, next_room, code_at, function_body_at, function_at, fresh_at, declared_body_at, declared_at}
+use Rattle.pw_flowfile.specs.FlowFile.{item_forms, form_number, item, placed_item, global_body, global, block, function, FitsBlock, FitsFunction, FitsGlobal}
+use Rattle.pw_flowfile.specs.Reading.{has_room, content_at, item_at, placed_item_at, next_free, has_kind_size, global_body_at, global_at, block_at, slot_at, next_room, code_at, function_body_at, function_at, fresh_at, declared_body_at, declared_at}
 
 -- ---- a value that is made of what was read
 

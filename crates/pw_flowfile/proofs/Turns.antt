@@ -1,17 +1,12 @@
--- Names that come one after the other, none of them twice; and the rule on $start.
-use Rattle.std.proofs.Common.{◌≡◌, ◌≢◌, ℕ, zero, suc, ◌+◌, ◌<◌, ◌≤◌, Bool, true, false, cond, List, [], ◌∷◌, ◌++◌, map, refl, sym, subst, arith}
-use Rattle.std.specs.Prelude.{Contains, ◌||◌}
+-- Names that come one after the other, none of them twice.
+use Rattle.std.proofs.Common.{◌≡◌, ◌≢◌, ℕ, Bool, true, false, List, [], ◌∷◌, ◌++◌, map, refl, sym}
+use Rattle.std.specs.Prelude.{◌||◌}
 use Rattle.std.specs.List.{AllByRecursion}
 use Rattle.std.specs.Str.{bytes_eq}
 use Rattle.std.proofs.lemmas.Slice.Eq.{bytes_eq-Decides}
-use Rattle.std.proofs.lemmas.List.Sums.{sum_by-cons}
 use Rattle.pw_value.specs.Fields.{FitInTurn}
 use Rattle.pw_value.specs.FieldNames.{is_among}
-use Rattle.pw_value.specs.ProgramNames.{start_name, times, KeepsStart, IsOrdinary}
-use Rattle.pw_value.proofs.StartLaws.{stands_by_times}
-use Rattle.pw_flow.specs.declared.flow.FlowModule.{FlowModule}
-use Rattle.pw_flow.specs.FlowGraph.{global_names, function_names}
-use Rattle.pw_flow.specs.ValidFlow.{AreDistinct, IsStartLawful}
+use Rattle.pw_flow.specs.ValidFlow.{AreDistinct}
 use Rattle.pw_flowfile.specs.Reading.{seen_after}
 
 -- no name is among those before it
@@ -94,43 +89,3 @@ turn_distinct names turn = (distinct_forth [] names turn).0
 
 pub distinct_turn : (names : List (List ℕ)) → AreDistinct names → InTurn [] names
 distinct_turn names distinct = distinct_back [] names distinct (apart_from_none names)
-
--- ---- $start: the rule of a flow graph is that of files, since names are distinct
-
-ordinary_forth : (names : List (List ℕ)) → ¬ Contains names start_name → AllByRecursion IsOrdinary names
-ordinary_forth [] none = tt
-ordinary_forth (name ∷ names) none = (λ same. none (0, omega arith, same), ordinary_forth names (λ has. none (suc has.0, omega (arith, has.1), has.2)))
-
-absent : (wanted : List ℕ) (names : List (List ℕ)) → AllByRecursion (λ other. other ≢ wanted) names → ¬ Contains names wanted
-absent wanted [] none (k, lt, e) = absurd (omega arith)
-absent wanted (name ∷ names) none (zero, lt, e) = none.0 e
-absent wanted (name ∷ names) none (suc k, lt, e) = absent wanted names none.1 (k, omega arith, e)
-
-none_by : (n : ℕ) → (0 < n → ⊥) → n ≡ 0
-none_by zero h = refl
-none_by (suc n) h = absurd (h (omega arith))
-
-once_by : (name : List ℕ) (names : List (List ℕ)) (same : Bool) → bytes_eq name start_name ≡ same → AllByRecursion (λ other. other ≢ name) names → times start_name names ≤ 1 → cond same 1 0 + times start_name names ≤ 1
-once_by name names true is none few =
-    let e : name ≡ start_name = (bytes_eq-Decides name start_name).0 is in
-    let no : times start_name names ≡ 0 = none_by (times start_name names) (λ lt. absent name names none (subst (λ (n : List ℕ). Contains names n) (sym e) (stands_by_times start_name names lt))) in
-    omega (arith, no)
-once_by name names false is none few = omega (arith, few)
-
-once : (names : List (List ℕ)) → AreDistinct names → times start_name names ≤ 1
-once [] distinct = omega arith
-once (name ∷ names) distinct = rw (sum_by-cons (λ other. cond (bytes_eq other start_name) 1 0) name names) (once_by name names (bytes_eq name start_name) refl distinct.0 (once names distinct.1))
-
-distinct_right : (xs ys : List (List ℕ)) → AreDistinct (xs ++ ys) → AreDistinct ys
-distinct_right [] ys distinct = distinct
-distinct_right (x ∷ xs) ys distinct = distinct_right xs ys distinct.1
-
-pub start_lawful : (m : FlowModule) → KeepsStart (function_names m) (global_names m) → IsStartLawful m
-start_lawful m keeps = record { included = keeps.beside; no_global = ordinary_forth (global_names m) keeps.no_global }
-
-pub lawful_start : (m : FlowModule) → AreDistinct (global_names m ++ function_names m) → IsStartLawful m → KeepsStart (function_names m) (global_names m)
-lawful_start m distinct lawful = record {
-  beside = lawful.included;
-  once = once (function_names m) (distinct_right (global_names m) (function_names m) distinct);
-  no_global = absent start_name (global_names m) lawful.no_global;
-}

@@ -171,12 +171,9 @@ module_fits names m room =
     let ds : length (flat_map (shaped names) m.declared) < 2 ^ 32 = omega (arith, room, e0, e1, e2, e3) in
     let fs : length (flat_map (function names) m.functions) < 2 ^ 32 = omega (arith, room, e0, e1, e2, e3, e4) in
     record {
-      global_count = omega (arith, gs, counted (global names) (global_long names) m.globals);
-      globals = all_fit (global names) FitsGlobal (global_fits names) m.globals gs;
-      declared_count = omega (arith, ds, counted (shaped names) (declared_long names) m.declared);
-      declared = all_fit (shaped names) (λ d. FitsText d.1) (declared_fits names) m.declared ds;
-      function_count = omega (arith, fs, counted (function names) (function_long names) m.functions);
-      functions = all_fit (function names) FitsFunction (function_fits names) m.functions fs;
+      globals = (omega (arith, gs, counted (global names) (global_long names) m.globals), all_fit (global names) FitsGlobal (global_fits names) m.globals gs);
+      declared = (omega (arith, ds, counted (shaped names) (declared_long names) m.declared), all_fit (shaped names) (λ d. FitsText d.1) (declared_fits names) m.declared ds);
+      functions = (omega (arith, fs, counted (function names) (function_long names) m.functions), all_fit (function names) FitsFunction (function_fits names) m.functions fs);
     }
 
 back_to : (names : List (List ℕ)) (used : List (List ℕ)) → AllUsed used names → AllByRecursion (Contains names) used

@@ -1,11 +1,12 @@
 -- The file of a flow graph: how a module is spelled as bytes, and which modules have a spelling.
 use Rattle.std.specs.Prelude.{ℕ, List, [], ◌∷◌, ◌++◌, length}
 use Rattle.std.specs.List.{flat_map, AllByRecursion}
+use denote.Enum.Bare.{sameb}
 use Rattle.pw_value.specs.Fields.{u8, u32, text, flag, parts, FitsU32, FitsText}
 use Rattle.pw_value.specs.FieldNames.{name_table, name_index}
 use Rattle.pw_files.specs.Kinds.{kind as kind_byte}
-use Rattle.pw_files.specs.Names.{shaped}
-use Rattle.pw_files.specs.Rising.{counted}
+use Rattle.pw_files.specs.Names.{shaped, FitsShapes}
+use Rattle.pw_files.specs.Rising.{counted, FitsList}
 use Rattle.pw_files.specs.Contents.{Contents, IsContents, IsFileWith}
 use Rattle.pw_flow.specs.declared.flow.FlowModule.{FlowModule}
 use Rattle.pw_flow.specs.declared.flow.Item.{Item}
@@ -15,15 +16,19 @@ use Rattle.pw_flow.specs.declared.flow.FlowFn.{FlowFn}
 use Rattle.pw_flow.specs.declared.flow.Item.TheVariants.{Bytes, Address}
 use Rattle.pw_flow.specs.FlowGraph.{names_in_global, names_in_function, declared_names}
 use Rattle.pw_flow.specs.ValidFlow.{IsValid}
-use Rattle.pw_flowops.specs.Operations.{op, ending, FitsOp}
+use Rattle.pw_flowops.specs.Operations.{place, op, ending, FitsOp}
+use Rattle.pw_flowfile.specs.contracts.globals.ItemForm.{the_type as the_item_forms}
 use Rattle.pw_flowfile.specs.declared.globals.ItemForm.{ItemForm}
 use Rattle.pw_flowfile.specs.declared.globals.ItemForm.TheVariants as form
 
 -- ---- global objects, under a table of names
 
+-- in the order of their bytes
+abbrev pub item_forms : List ItemForm
+item_forms = form.Bytes ∷ form.Address ∷ []
+
 abbrev pub form_number : ItemForm → ℕ
-form_number form.Bytes = 0
-form_number form.Address = 1
+form_number = place (sameb the_item_forms) item_forms
 
 -- the byte at the front of an item
 abbrev pub form_byte : ItemForm → List ℕ
@@ -85,12 +90,9 @@ pub record FitsGlobal (g : FlowGlobal) : Type 0 where
   pub count : FitsU32 (length g.items)
 
 pub record FitsModule (m : FlowModule) : Type 0 where
-  pub global_count : FitsU32 (length m.globals)
-  pub globals : AllByRecursion FitsGlobal m.globals
-  pub declared_count : FitsU32 (length m.declared)
-  pub declared : AllByRecursion (λ d. FitsText d.1) m.declared
-  pub function_count : FitsU32 (length m.functions)
-  pub functions : AllByRecursion FitsFunction m.functions
+  pub globals : FitsList FitsGlobal m.globals
+  pub declared : FitsShapes m.declared
+  pub functions : FitsList FitsFunction m.functions
 
 -- PAWF
 abbrev pub kind_of_file : ℕ

@@ -21,7 +21,7 @@ use Rattle.pw_flow.specs.ValidFlow.{kind_size, item_size, slot_room}
 use Rattle.pw_flowops.specs.Reading.{one_of_at, named_at, op_at, end_at}
 use Rattle.pw_flowfile.specs.declared.globals.ItemForm.{ItemForm}
 use Rattle.pw_flowfile.specs.declared.globals.ItemForm.TheVariants as form
-use Rattle.pw_flowfile.specs.FlowFile.{names_of, kind_of_file, flow_version}
+use Rattle.pw_flowfile.specs.FlowFile.{item_forms, names_of, kind_of_file, flow_version}
 
 -- ---- names
 
@@ -35,9 +35,6 @@ seen_after seen [] = seen
 seen_after seen (name ∷ names) = seen_after (name ∷ seen) names
 
 -- ---- global objects
-
-abbrev pub item_forms : List ItemForm
-item_forms = form.Bytes ∷ form.Address ∷ []
 
 abbrev pub has_room : ItemForm → ℕ → ℕ → Bool
 has_room form.Bytes size offset = true

@@ -6,7 +6,8 @@ ghost use Rattle.pw_value.specs.FieldFaults.{Gives};
 ghost use Rattle.pw_value.specs.FieldNames.{IsRisingFrom};
 ghost use Rattle.pw_files.specs.Kinds.{kind_at};
 ghost use Rattle.pw_flowops.specs.Reading.{one_of_at};
-ghost use Rattle.pw_flowfile.specs.Reading.{item_forms, has_room, content_at, item_at, placed_item_at, next_free, has_kind_size, global_body_at, global_at, next_global, declared_body_at, declared_at, next_declared, seen_after};
+ghost use Rattle.pw_flowfile.specs.FlowFile.{item_forms};
+ghost use Rattle.pw_flowfile.specs.Reading.{has_room, content_at, item_at, placed_item_at, next_free, has_kind_size, global_body_at, global_at, next_global, declared_body_at, declared_at, next_declared, seen_after};
 ghost use Rattle.pw_flowfile.specs.Marks.{Marks};
 
 use crate::met::read_fresh;

@@ -11,5 +11,5 @@ mod writing;
 
 pub use globals::read_global_body;
 pub use reading::{KIND, read};
-pub use used::{add_globals, global_names};
+pub use used::add_globals;
 pub use writing::{push_global, push_global_body, write};

@@ -15,12 +15,13 @@ ghost use Rattle.pw_flowfile.specs.Marks.{Marks};
 use crate::globals::{read_declared, read_globals};
 use crate::graphs::read_functions;
 use crate::met::unmarked;
-use crate::used::{function_names, global_names, used_names};
+use crate::used::used_names;
 use pw_files::format::{Format, read_value};
 use pw_files::late::check_module;
+use pw_flow::names::{function_names, global_names};
 use pw_flow::{FlowFn, FlowGlobal, FlowModule};
 use pw_items::Items;
-use pw_value::fields::names::read_name;
+use pw_value::fields::names::{find_unused, read_name};
 use pw_value::fields::{FieldError, read_u32};
 use pw_value::{FileError, Name, Shape};
 use std::alloc::Global;
@@ -116,9 +117,10 @@ fn check_late(
     ensures { Gives (λ x. x) result (broken_at (late_rules names.now behind flow.now place)) }
 {
     let used = used_names(alloc, flow)?;
+    let unused = find_unused(alloc, names, used, behind)?;
     let functions = function_names(alloc, flow.functions.as_slice())?;
     let globals = global_names(alloc, flow.globals.as_slice())?;
-    check_module(alloc, names, used, behind, &functions, &globals, place)
+    check_module(unused, &functions, &globals, place)
 }
 
 /// The fields of a module, how many bytes are left from the count of its functions on, and what is left behind them.

@@ -1,29 +1,15 @@
 //! The names that a module uses, in the order of the file.
 
-ghost use Rattle.std.specs.Prelude.{◌≡◌, ◌++◌, ◌∷◌, ℕ, List, [], map, OnOk, IfOk};
+ghost use Rattle.std.specs.Prelude.{◌≡◌, ◌++◌, map, OnOk, IfOk};
 ghost use Rattle.std.specs.List.{flat_map};
-ghost use Rattle.pw_flow.specs.FlowGraph.{item_names, op_names, names_in_block, names_in_function, names_in_global};
+ghost use Rattle.pw_flow.specs.FlowGraph.{op_names, names_in_block};
 ghost use Rattle.pw_flowfile.specs.FlowFile.{all_in_global, all_in_function, names_of};
 
 use pw_files::used::add_shaped;
-use pw_flow::{Block, FlowFn, FlowGlobal, FlowModule, Item, Op};
+use pw_flow::names::{add_items, add_op};
+use pw_flow::{Block, FlowFn, FlowGlobal, FlowModule, Op};
 use pw_value::Name;
 use std::alloc::{AllocError, Global};
-
-/// The name that an operation names.
-fn add_op<'a>(used: &mut Vec<&'a Name>, op: &'a Op) -> Result<(), AllocError>
-    ensures { OnOk result (map (λ name. name.now) used.new.items ≡ map (λ name. name.now) used.old.items ++ op_names op.now) }
-{
-    match op {
-        Op::AddrGlobal(_, name, _)
-        | Op::AddrFn(_, name)
-        | Op::LoadG(_, name, _)
-        | Op::StoreG(name, _, _)
-        | Op::Call(_, name, _) => used.push(name)?,
-        _ => {}
-    }
-    Ok(())
-}
 
 /// The names that operations name.
 fn add_ops<'a>(used: &mut Vec<&'a Name>, ops: &'a [Op]) -> Result<(), AllocError>
@@ -52,18 +38,6 @@ fn add_functions<'a>(used: &mut Vec<&'a Name>, functions: &'a [FlowFn]) -> Resul
     for function in functions {
         used.push(&function.name)?;
         add_blocks(used, function.blocks.as_slice())?;
-    }
-    Ok(())
-}
-
-/// The names that items name.
-pub fn add_items<'a>(used: &mut Vec<&'a Name>, items: &'a [(u32, Item)]) -> Result<(), AllocError>
-    ensures { OnOk result (map (λ name. name.now) used.new.items ≡ map (λ name. name.now) used.old.items ++ flat_map (λ placed. item_names placed.1) items.now) }
-{
-    for (_, item) in items {
-        if let Item::Address(name, _) = item {
-            used.push(name)?;
-        }
     }
     Ok(())
 }
@@ -99,26 +73,4 @@ pub fn used_names(alloc: Global, flow: &FlowModule) -> Result<Vec<&Name>, AllocE
     add_shaped(&mut used, flow.declared.as_slice())?;
     add_functions(&mut used, flow.functions.as_slice())?;
     Ok(used)
-}
-
-/// The names of objects alone.
-pub fn global_names(alloc: Global, globals: &[FlowGlobal]) -> Result<Vec<&Name>, AllocError>
-    ensures { IfOk result (λ v. map (λ name. name.now) v.items ≡ map (λ g. g.name) globals.now) }
-{
-    let mut names = Vec::new(alloc);
-    for global in globals {
-        names.push(&global.name)?;
-    }
-    Ok(names)
-}
-
-/// The names of functions alone.
-pub fn function_names(alloc: Global, functions: &[FlowFn]) -> Result<Vec<&Name>, AllocError>
-    ensures { IfOk result (λ v. map (λ name. name.now) v.items ≡ map (λ f. f.name) functions.now) }
-{
-    let mut names = Vec::new(alloc);
-    for function in functions {
-        names.push(&function.name)?;
-    }
-    Ok(names)
 }

@@ -5,6 +5,7 @@ use Rattle.std.specs.List.{flat_map, AllByRecursion}
 use Rattle.std.specs.Cmp.{first_so, second_so}
 use Rattle.std.specs.Cmp.Derive.{both_true}
 use Rattle.std.proofs.lemmas.Bool.{eqb-true, eq-eqb, leb-true, le-leb, ltb-true, lt-ltb}
+use Rattle.std.proofs.lemmas.List.{append-nil}
 use Rattle.pw_value.specs.Fields.{checked, u32_at, repeated, u32, FitsU32}
 use Rattle.pw_value.specs.FieldLaws.{Spells}
 use Rattle.pw_value.specs.FieldNames.{name_at, name_index, IsNameTable}
@@ -16,7 +17,8 @@ use Rattle.pw_value.specs.declared.program_names.StartName.{StartName}
 use Rattle.pw_value.specs.ProgramNames.{may_stand}
 use Rattle.pw_value.proofs.StartLaws.{place_forth, place_back}
 use Rattle.pw_flow.specs.ValidFlow.{IsResult, AreArguments, IsUnit, IsMoved}
-use Rattle.pw_flowops.specs.Operations.{result, arguments, Named}
+use Rattle.pw_files.specs.Rising.{counted}
+use Rattle.pw_flowops.specs.Operations.{absent, result, arguments, Named}
 use Rattle.pw_flowops.specs.Reading.{named_at, below_at, as_result, result_at, arguments_at, is_unit, is_whole, size_and_unit_at, moved_at}
 use Rattle.pw_flowops.proofs.FieldChains.{takes_field, takes_done, again_field, chained}
 
@@ -54,21 +56,21 @@ named_spells start names table = ruled_spells (name_index names) _ (Named start 
 -- ---- results and arguments
 
 abbrev back_from : Option ℕ → ℕ
-back_from None = 4294967295
+back_from None = absent
 back_from (Some t) = t
 
-result_forth : (temps t : ℕ) (b : Bool) → (t == 4294967295) ≡ b → (b || nat_lt t temps) ≡ true → (back_from (cond b None (Some t)) ≡ t) × IsResult temps (cond b None (Some t))
+result_forth : (temps t : ℕ) (b : Bool) → (t == absent) ≡ b → (b || nat_lt t temps) ≡ true → (back_from (cond b None (Some t)) ≡ t) × IsResult temps (cond b None (Some t))
 result_forth temps t true is h = (sym (eqb-true _ _ is), tt)
 result_forth temps t false is h = (refl, ltb-true _ _ h)
 
-differs : (t temps : ℕ) (b : Bool) → (t == 4294967295) ≡ b → t < temps → temps < 2 ^ 31 → b ≡ false
-differs t temps true is lt small = let e : t ≡ 4294967295 = eqb-true _ _ is in absurd (omega arith)
+differs : (t temps : ℕ) (b : Bool) → (t == absent) ≡ b → t < temps → temps < 2 ^ 31 → b ≡ false
+differs t temps true is lt small = let e : t ≡ absent = eqb-true _ _ is in absurd (omega arith)
 differs t temps false is lt small = refl
 
-result_back : (temps : ℕ) → temps < 2 ^ 31 → (o : Option ℕ) → IsResult temps o → (as_result (back_from o) ≡ o) × (FitsU32 (back_from o) × (((back_from o == 4294967295) || nat_lt (back_from o) temps) ≡ true))
+result_back : (temps : ℕ) → temps < 2 ^ 31 → (o : Option ℕ) → IsResult temps o → (as_result (back_from o) ≡ o) × (FitsU32 (back_from o) × (((back_from o == absent) || nat_lt (back_from o) temps) ≡ true))
 result_back temps small None h = (refl, (lit< tt, refl))
 result_back temps small (Some t) h =
-    let d : (t == 4294967295) ≡ false = differs t temps _ refl h small in
+    let d : (t == absent) ≡ false = differs t temps _ refl h small in
     (rw d refl, (omega (arith, h), rw d (lt-ltb _ _ h)))
 
 result_text : (o : Option ℕ) → u32 (back_from o) ≡ result o
@@ -84,22 +86,29 @@ respelled one other Fits read same laws = record {
 pub result_spells : (temps : ℕ) → temps < 2 ^ 31 → Spells result (IsResult temps) (result_at temps)
 unfolding result_at
 result_spells temps small = respelled (λ o. u32 (back_from o)) result (IsResult temps) _ result_text
-    (mapped_spells u32 (λ t. FitsU32 t × IsTrue ((t == 4294967295) || nat_lt t temps)) (IsResult temps) (checked (λ t. (t == 4294967295) || nat_lt t temps) u32_at) as_result back_from
-    (checked_spells u32 FitsU32 u32_at (λ t. (t == 4294967295) || nat_lt t temps) u32_spells)
-    (λ t h. result_forth temps t (t == 4294967295) refl h.1)
+    (mapped_spells u32 (λ t. FitsU32 t × IsTrue ((t == absent) || nat_lt t temps)) (IsResult temps) (checked (λ t. (t == absent) || nat_lt t temps) u32_at) as_result back_from
+    (checked_spells u32 FitsU32 u32_at (λ t. (t == absent) || nat_lt t temps) u32_spells)
+    (λ t h. result_forth temps t (t == absent) refl h.1)
     (λ o h. result_back temps small o h))
 
 few_spells : Spells u32 (λ n. n ≤ parameter_limit) (checked (λ n. nat_le n parameter_limit) u32_at)
 few_spells = ruled_spells u32 _ (λ n. n ≤ parameter_limit) _ (checked_spells u32 FitsU32 u32_at (λ n. nat_le n parameter_limit) u32_spells) (λ n h. leb-true _ _ h.1) (λ n h. (omega (arith, h), le-leb _ _ h))
 
-pub arguments_spells : (temps : ℕ) → temps < 2 ^ 31 → Spells arguments (AreArguments temps) (arguments_at temps)
+abbrev in_parts : List ℕ → List ℕ
+in_parts args = u32 (length args) ++ (flat_map u32 args ++ [])
+
+parts_spell : (temps : ℕ) → temps < 2 ^ 31 → Spells in_parts (AreArguments temps) (arguments_at temps)
 unfolding arguments_at
-arguments_spells temps small = chained arguments (AreArguments temps) _
+parts_spell temps small = chained in_parts (AreArguments temps) _
     (takes_field _ u32 (λ n. n ≤ parameter_limit) (checked (λ n. nat_le n parameter_limit) u32_at) _ few_spells
     (λ count few. takes_field _ (flat_map u32) (λ args. (length args ≡ count) × AllByRecursion (λ n. n < temps) args) (repeated (below_at temps) count) _ (repeated_spells u32 (λ n. n < temps) (below_at temps) (below_spells temps (omega arith)) count)
     (λ args fit. takes_done _ args (λ rest. (ap (λ n. u32 n ++ (flat_map u32 args ++ [])) (sym fit.0), record { few = omega (arith, fit.0, few); below = fit.1 })))))
     (λ args rest h. again_field u32 (λ n. n ≤ parameter_limit) (checked (λ n. nat_le n parameter_limit) u32_at) _ few_spells (length args) h.few (flat_map u32 args ++ []) rest args
     (again_field (flat_map u32) (λ xs. (length xs ≡ length args) × AllByRecursion (λ n. n < temps) xs) (repeated (below_at temps) (length args)) _ (repeated_spells u32 (λ n. n < temps) (below_at temps) (below_spells temps (omega arith)) (length args)) args (refl, h.below) [] rest args refl))
+
+pub arguments_spells : (temps : ℕ) → temps < 2 ^ 31 → Spells arguments (AreArguments temps) (arguments_at temps)
+unfolding counted
+arguments_spells temps small = respelled in_parts arguments (AreArguments temps) (arguments_at temps) (λ args. ap (λ (w : List ℕ). u32 (length args) ++ w) (append-nil (flat_map u32 args))) (parts_spell temps small)
 
 -- ---- what is copied
 

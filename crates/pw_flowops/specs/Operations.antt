@@ -1,6 +1,6 @@
 -- How the operations of a flow graph and the ends of its blocks are spelled as bytes, under a table of names.
-use Rattle.std.specs.Prelude.{ℕ, suc, Bool, Option, Some, None, List, [], ◌∷◌, length, Contains, if◌then◌else◌}
-use Rattle.std.specs.List.{flat_map, AllByRecursion}
+use Rattle.std.specs.Prelude.{ℕ, suc, Bool, Option, Some, None, List, [], ◌∷◌, Contains, if◌then◌else◌}
+use Rattle.std.specs.List.{AllByRecursion}
 use denote.Enum.Bare.{sameb}
 use Rattle.pw_value.specs.Fields.{u8, u32, text, parts, FitsText}
 use Rattle.pw_value.specs.FieldNames.{name_index}
@@ -8,6 +8,7 @@ use Rattle.pw_value.specs.declared.program_names.StartName.{StartName}
 use Rattle.pw_value.specs.declared.program_names.StartName.TheVariants.{Refused}
 use Rattle.pw_value.specs.ProgramNames.{MayStand}
 use Rattle.pw_files.specs.Kinds.{scalar}
+use Rattle.pw_files.specs.Rising.{counted}
 use Rattle.pw_flow.specs.contracts.flow.UnKind.{the_type as the_un_kinds}
 use Rattle.pw_flow.specs.declared.flow.UnKind.{UnKind}
 use Rattle.pw_flow.specs.declared.flow.UnKind.TheVariants as un
@@ -67,13 +68,17 @@ code_number = place (sameb the_op_codes) op_codes
 abbrev pub op_code : OpCode → List ℕ
 op_code c = u8 (code_number c)
 
+-- what stands for a temporary that is not there: the greatest number of 32 bits
+abbrev pub absent : ℕ
+absent = 4294967295
+
 -- a temporary that may be absent
 abbrev pub result : Option ℕ → List ℕ
-result None = u32 4294967295
+result None = u32 absent
 result (Some t) = u32 t
 
 abbrev pub arguments : List ℕ → List ℕ
-arguments args = parts (u32 (length args) ∷ flat_map u32 args ∷ [])
+arguments args = counted u32 args
 
 abbrev pub op : List (List ℕ) → Op → List ℕ
 op names (Const t n) = parts (op_code code.Const ∷ u32 t ∷ u32 n ∷ [])

@@ -16,7 +16,7 @@ use Rattle.pw_flowops.specs.declared.codes.OpCode.{OpCode}
 use Rattle.pw_flowops.specs.declared.codes.OpCode.TheVariants as code
 use Rattle.pw_flowops.specs.declared.codes.EndCode.{EndCode}
 use Rattle.pw_flowops.specs.declared.codes.EndCode.TheVariants as end_code
-use Rattle.pw_flowops.specs.Operations.{un_kinds, bin_kinds, ext_kinds, op_codes, end_codes}
+use Rattle.pw_flowops.specs.Operations.{absent, un_kinds, bin_kinds, ext_kinds, op_codes, end_codes}
 
 -- ---- a byte that is the place of a choice
 
@@ -40,11 +40,11 @@ abbrev pub below_at : ℕ → List ℕ → Result (ℕ × List ℕ) ℕ
 below_at count = checked (λ n. nat_lt n count) u32_at
 
 abbrev pub as_result : ℕ → Option ℕ
-as_result t = if t == 4294967295 then None else Some t
+as_result t = if t == absent then None else Some t
 
 unfoldable pub result_at : ℕ → List ℕ → Result (Option ℕ × List ℕ) ℕ
 result_at temps = do
-  t ← checked (λ t. (t == 4294967295) || nat_lt t temps) u32_at
+  t ← checked (λ t. (t == absent) || nat_lt t temps) u32_at
   done (as_result t)
 
 unfoldable pub arguments_at : ℕ → List ℕ → Result (List ℕ × List ℕ) ℕ

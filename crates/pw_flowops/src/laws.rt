@@ -1,12 +1,19 @@
 //! The laws of operations and ends as bytes. The proofs of the formats that hold them stand on the lemmas of
 //! `proofs/OpLaws`, `proofs/EndLaws` and `proofs/PartLaws`, and on `proofs/FieldChains`.
 
-ghost use Rattle.std.specs.Prelude.{◌<◌, ◌≤◌, ◌^◌, ℕ, List};
+ghost use Rattle.std.specs.Prelude.{◌≡◌, ◌<◌, ◌≤◌, ◌^◌, ℕ, List};
 ghost use Rattle.pw_value.specs.FieldLaws.{Spells};
 ghost use Rattle.pw_value.specs.FieldNames.{IsNameTable};
 ghost use Rattle.pw_flow.specs.ValidFlow.{IsEnd};
-ghost use Rattle.pw_flowops.specs.Operations.{op, ending, OpFits};
+ghost use Rattle.pw_flowops.specs.Operations.{absent, op, ending, OpFits};
 ghost use Rattle.pw_flowops.specs.Reading.{op_at, end_at};
+
+use crate::parts::ABSENT;
+
+/// What stands for a result that is not there is the number of the definitions.
+pub fn absent_is_the_number()
+    ensures { ABSENT ≡ absent }
+{}
 
 /// What is read of an operation is spelled so and lawful, and what is lawful and spelled so is read again,
 /// whatever follows.

@@ -18,6 +18,7 @@ use pw_value::{Kind, Name, Shape};
 use std::alloc::AllocError;
 
 /// The arguments of a call.
+#[tactic(auto, unfolding(pw_files::specs::Rising::counted))]
 fn push_arguments(out: &mut Vec<u8>, args: &[u32]) -> Result<(), AllocError>
     ensures { OnOk result (out.new.items ≡ out.old.items ++ arguments args.now) }
 {

@@ -1,8 +1,9 @@
 -- The run of a list of flow modules, by small steps. Counted as events are calls, those of the library too, and
 -- ends of blocks that go to another block than the next by number.
 use Rattle.std.specs.Prelude.{ℕ, zero, suc, ◌+◌, ◌-◌, ◌%◌, ◌^◌, ◌==◌, nat_lt, ◌&&◌, Bool, true, false, if◌then◌else◌, Option, Some, None, List, [], ◌∷◌, ◌++◌, length, replicate, slice_set, slice_index_or, sum_by}
+use denote.Enum.Bare.{sameb}
+use Rattle.pw_value.specs.contracts.value.Kind.{the_type as the_kinds}
 use Rattle.pw_value.specs.declared.value.Kind.{Kind}
-use Rattle.pw_value.specs.declared.value.Kind.TheVariants.{S8, U8, S16, U16, W32}
 use Rattle.pw_value.specs.declared.value.Value.{Value}
 use Rattle.pw_value.specs.declared.value.Value.TheVariants.{Undefined, Num, At}
 use Rattle.pw_value.specs.declared.value.Byte.TheVariants as B
@@ -79,19 +80,11 @@ counted m = record m { events = m.events + 1 }
 -- ---- global objects
 
 -- a scalar global is read and written by its own kind alone
--- a number for each kind
-abbrev pub kind_number : Kind → ℕ
-kind_number S8 = 1
-kind_number U8 = 2
-kind_number S16 = 3
-kind_number U16 = 4
-kind_number W32 = 5
-
 abbrev pub is_own_kind : Program → List ℕ → Kind → Bool
 is_own_kind p g k = is_own (global_named p g)
   where
     same : Option Kind → Bool
-    same (Some own) = kind_number own == kind_number k
+    same (Some own) = sameb the_kinds own k
     same None = false
 
     is_own : Option FlowGlobal → Bool

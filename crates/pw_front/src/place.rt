@@ -1,6 +1,6 @@
 //! The line on which a refusal stands.
 
-ghost use Rattle.std.specs.Prelude.{◌≡◌, ◌≢◌, ◌-◌, [], IfOk, Err, slice_get};
+ghost use Rattle.std.specs.Prelude.{◌≡◌, ◌≢◌, ◌-◌, [], IfOk, IsOk, Err, slice_get};
 ghost use Rattle.std.specs.Option.{option_map_or};
 ghost use Rattle.pw_token.specs.declared.token.LexFault.{LexFault};
 ghost use Rattle.pw_front.specs.Lexed.{lexed};
@@ -23,6 +23,7 @@ fn line_at(text: &[u8], place: usize) -> usize
 fn no_tokens(alloc: Global, fault: LexFault) -> Result<Vec<Token>, AllocError>
     ensures none { IfOk result (λ tokens. tokens.items ≡ []) }
     ensures fault { IfOk result (λ _. fault ≢ LexFault.NoMemory) }
+    ensures only { fault ≢ LexFault.NoMemory → IsOk result }
 {
     match fault {
         LexFault::NoMemory => Err(AllocError),
@@ -44,6 +45,7 @@ fn tokens_or_none(alloc: Global, text: &[u8]) -> Result<Vec<Token>, AllocError>
 fn tokens_before(alloc: Global, text: &[u8], fault: LexFault) -> Result<Vec<Token>, AllocError>
     ensures before { IfOk result (λ tokens. tokens.items ≡ tokens_before text.now (Err fault)) }
     ensures fault { IfOk result (λ _. fault ≢ LexFault.NoMemory) }
+    ensures long { fault ≡ LexFault.TooLong → IsOk result }
 {
     match fault {
         LexFault::NoMemory => Err(AllocError),

@@ -7,5 +7,5 @@ use Rattle.pw_token.specs.Limits.{nest_limit}
 abbrev pub operator_ranks : ℕ
 operator_ranks = 20
 
-abbrev pub depth_limit : ℕ
-depth_limit = operator_ranks * nest_limit
+abbrev pub phrase_depth : ℕ
+phrase_depth = operator_ranks * nest_limit

@@ -2,7 +2,7 @@
 //! tree of greater depth is want of memory: the stack is memory.
 
 ghost use Rattle.std.specs.Prelude.{◌≡◌};
-ghost use Rattle.pw_functions.specs.Depth.{depth_limit};
+ghost use Rattle.pw_functions.specs.Depth.{phrase_depth};
 ghost use Rattle.pw_functions.specs.Nests.{Nests};
 ghost use Rattle.pw_body.specs.Views.{view_body};
 ghost use Rattle.pw_checking.specs.Follows.{Leads};
@@ -24,13 +24,15 @@ use std::alloc::Global;
 
 /// How deep the phrases and statements of a module may hold one another: within a token of nesting an expression has one
 /// level for each of the levels of operators.
-const DEPTH: usize = 20 * MAX_NEST;
+const PHRASE_DEPTH: usize = 20 * MAX_NEST;
 
 /// The rules of phrases, to the depth.
 pub fn phrases() -> Knot
-    ensures { result.depth ≡ depth_limit }
+    ensures { result.depth ≡ phrase_depth }
 {
-    Knot { depth: DEPTH }
+    Knot {
+        depth: PHRASE_DEPTH,
+    }
 }
 
 /// A function that checks statements to a depth.
@@ -44,10 +46,13 @@ struct Smaller<F> {
 impl<F> Smaller<F> {
     /// The function, to the depth.
     fn whole(stmt: F) -> Smaller<F>
-        ensures depth { result.depth ≡ depth_limit }
+        ensures depth { result.depth ≡ phrase_depth }
         ensures stmt { result.stmt ≡ stmt }
     {
-        Smaller { depth: DEPTH, stmt }
+        Smaller {
+            depth: PHRASE_DEPTH,
+            stmt,
+        }
     }
 }
 

@@ -1,6 +1,6 @@
 //! The build: from the files of a store to the numbers of its program, or to a refusal.
 
-ghost use Rattle.std.specs.Prelude.{◌≡◌, IfOk, IfSome, map};
+ghost use Rattle.std.specs.Prelude.{◌≡◌, [], IfOk, IfSome, IsOk, map};
 ghost use Rattle.std.specs.Option.{option_map};
 ghost use Rattle.pw_io.specs.Files.{Keeps};
 ghost use Rattle.pw_io.specs.Faults.{HasStoreCause};
@@ -63,7 +63,8 @@ fn refused_alone(alloc: Global, which: &Module) -> Result<Option<Built>, AllocEr
 
 /// What the first of the modules comes to that is refused by itself.
 fn first_refused(alloc: Global, modules: &[Module]) -> Result<Option<Built>, AllocError>
-    ensures { IfOk result (λ found. option_map build_view found ≡ option_map refused_build (first_refused (map source modules.now))) }
+    ensures found { IfOk result (λ found. option_map build_view found ≡ option_map refused_build (first_refused (map source modules.now))) }
+    ensures none { modules.now ≡ [] → IsOk result }
 {
     for which in modules {
         if let Some(built) = refused_alone(alloc, which)? {
@@ -95,7 +96,8 @@ fn by_form(alloc: Global, first: &Module, others: &[Module]) -> Result<Built, Al
 
 /// What modules come to together, none of which is refused by itself.
 fn together(alloc: Global, modules: &[Module]) -> Result<Built, AllocError>
-    ensures { IfOk result (λ built. build_view built ≡ together (map source modules.now)) }
+    ensures built { IfOk result (λ built. build_view built ≡ together (map source modules.now)) }
+    ensures none { modules.now ≡ [] → IsOk result }
 {
     match modules {
         [] => Ok(Built::LinkRefused(LinkFault::NoMain)),
@@ -107,6 +109,7 @@ fn together(alloc: Global, modules: &[Module]) -> Result<Built, AllocError>
 fn build_of(alloc: Global, modules: &[Module]) -> Result<Built, AllocError>
     ensures built { IfOk result (λ built. build_view built ≡ build_of_sources (map source modules.now)) }
     ensures proper { IfOk result (λ built. IsProper (build_view built)) }
+    ensures none { modules.now ≡ [] → IsOk result }
 {
     front_is_exact();
     phase_one_is_exact();

@@ -1,5 +1,5 @@
 -- What writing asks of an image's parts.
-use Rattle.std.proofs.Common.{◌≡◌, ℕ, ◌^◌, ◌<◌, List, [], ◌∷◌, ◌++◌, length, map, All, Result, Ok, Err, ap, subst, ◌∙◌, arith}
+use Rattle.std.proofs.Common.{◌≡◌, ℕ, ◌^◌, ◌<◌, List, [], ◌∷◌, ◌++◌, length, map, All, Result, arith}
 use Rattle.std.specs.Prelude.{Contains, IfOk, OnOk}
 use Rattle.std.specs.Global.{Vec}
 use Rattle.std.specs.List.{AllByRecursion}
@@ -8,6 +8,7 @@ use Rattle.pw_value.specs.Fields.{FitsText, FitsU32}
 use Rattle.pw_value.specs.FieldFrame.{file, FitsFile}
 use Rattle.pw_value.specs.FieldNames.{IsNameTable, IsTableOf}
 use Rattle.pw_value.proofs.NameLaws.{AllUsed, used_by_table}
+use Rattle.pw_files.proofs.ContentsLaws.{is_file}
 use Rattle.pw_image.specs.declared.image.DataItem.{DataItem}
 use Rattle.pw_image.specs.declared.image.Function.{Function}
 use Rattle.pw_image.specs.declared.image.GlobalObject.{GlobalObject}
@@ -41,6 +42,4 @@ table_is names used count table = record { count = count; rising = table.rising 
 -- what is written is the image's file
 pub written : {E : Type 0} (names : List (List ℕ)) (v : ImageValue) (payload : List ℕ) (r : Result (Vec ℕ) E) → IsContents (record { names = names; value = v }) → payload ≡ spelling (record { names = names; value = v }) → OnOk r (FitsFile payload)
     → IfOk r (λ w. w.items ≡ file kind image_version payload) → IfOk r (λ w. (ns : List (List ℕ)) × IsImageFile w.items (record { names = ns; value = v }))
-written names v payload (Ok w) is same room made =
-    (names, record { version = image_version; not_below = omega arith; not_above = omega arith; fits = is; room = subst FitsFile same room; spelled = made ∙ ap (file kind image_version) same })
-written names v payload (Err e) is same room made = tt
+written names v payload r is same room made = is_file kind image_version spelling IsContents (record { names = names; value = v }) payload r is same room made

@@ -8,6 +8,7 @@ use Rattle.pw_files.proofs.OnwardLaws.{Onward, one_onward, behind, done_onward, 
 use Rattle.pw_files.proofs.FaultLaws.{Keeps, keeps_behind, keeps_ended, lies_within, fault_stays}
 use Rattle.pw_image.specs.Image.{Item, MemoryValue, ImageValue, Contents, names_of, kind, image_version}
 use Rattle.pw_image.specs.Reading.{item_at, next_free, memory_at, function_at, global_at, contents_at, payload_at, image_file_at}
+use Rattle.pw_image_laws.proofs.Entries.{entry_fault, entry_fault_again, stays_later}
 use Rattle.pw_image_laws.specs.ImageFaults.{fields_at, HasEntry, read, ImageFaultsStay}
 
 item_onward : (size free : ℕ) → Onward (item_at size free)
@@ -66,4 +67,11 @@ faults_stay = record {
   stays = λ bytes at e holds.
       let both = fault_stays kind image_version fields_at payload_at HasEntry fields_onward payload_keeps bytes at e holds in
       (ap value_of both.0, still bytes at both.1);
+  later = λ bytes at late e holds.
+      let both = fault_stays kind image_version fields_at payload_at HasEntry fields_onward payload_keeps bytes at e holds in
+      stays_later bytes at late holds (still bytes at both.1);
+  entry = λ bytes lacks. (
+    ap value_of (entry_fault bytes lacks.0 lacks.1 lacks.2),
+    λ others len same. ap value_of (entry_fault_again bytes others lacks.0 lacks.1 lacks.2 len same),
+  );
 }

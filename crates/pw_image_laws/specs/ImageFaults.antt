@@ -1,10 +1,10 @@
 -- On which bytes a fault of an image file rests.
-use Rattle.std.specs.Prelude.{◌≡◌, ℕ, ◌≤◌, true, List, length, Result, Err, None}
+use Rattle.std.specs.Prelude.{◌≡◌, ℕ, ◌≤◌, true, false, List, length, take, Result, Ok, Err, None}
 use Rattle.pw_value.specs.Fields.{◌>>=◌, u32_at, repeated}
 use Rattle.pw_value.specs.FieldFrame.{ended, opened_at}
 use Rattle.pw_value.specs.FieldNames.{names_at}
 use Rattle.pw_files.specs.Contents.{value_of}
-use Rattle.pw_files.specs.Faults.{OfPayload, StaysFault, unsealed}
+use Rattle.pw_files.specs.Faults.{Anything, OfPayload, StaysFault, unsealed}
 use Rattle.pw_image.specs.Image.{ImageValue, Contents, kind, image_version}
 use Rattle.pw_image.specs.Reading.{memory_at, function_at, global_at, start_at, is_lawful_start, image_file_at}
 
@@ -27,9 +27,29 @@ HasEntry payload = is_lawful_start (start_at payload) ≡ true
 abbrev pub read : List ℕ → Result ImageValue ℕ
 read bytes = value_of (image_file_at bytes)
 
+-- the header is lawful, and the entry is no address of a word
+abbrev pub LacksEntry : List ℕ → Type 0
+LacksEntry bytes = (o : ℕ × List ℕ × ℕ) × (opened_at kind image_version image_version bytes ≡ Ok o) × (is_lawful_start (start_at o.1) ≡ false)
+
+-- The entry stands behind the header's three numbers; behind it the stack and its end, and then the count of words, up to
+-- whose end stands what decides whether the entry is the address of a word.
+abbrev pub entry_place : ℕ
+entry_place = 12
+
+abbrev pub count_place : ℕ
+count_place = 24
+
+abbrev pub count_end : ℕ
+count_end = 28
+
 -- A fault lies within the bytes. Where the entry is the address of a word, a fault of the fields is the file's, and rests on
--- the bytes up to the faulty field's end.
+-- the bytes up to the faulty field's end: of whatever other bytes from the count of words on, and before it of those whose
+-- entry is the address of a word. An entry that is none is the file's fault, and rests on the bytes up to the count's end.
 pub record ImageFaultsStay : Type 0 where
   pub within : (bytes : List ℕ) (at : ℕ) → read bytes ≡ Err at → at ≤ length bytes
   pub stays : (bytes : List ℕ) (at : ℕ) → unsealed (λ version. fields_at) (opened_at kind image_version image_version bytes) ≡ Err at → OfPayload kind image_version HasEntry bytes
       → (read bytes ≡ Err at) × StaysFault (OfPayload kind image_version HasEntry) read bytes at
+  pub later : (bytes : List ℕ) (at : ℕ) → count_place ≤ at → unsealed (λ version. fields_at) (opened_at kind image_version image_version bytes) ≡ Err at → OfPayload kind image_version HasEntry bytes
+      → StaysFault Anything read bytes at
+  pub entry : (bytes : List ℕ) → LacksEntry bytes
+      → (read bytes ≡ Err entry_place) × ((others : List ℕ) → length others ≡ length bytes → take count_end others ≡ take count_end bytes → read others ≡ Err entry_place)

@@ -15,6 +15,7 @@ use crate::readings::inits_rule;
 use pw_checking::{Phrases, State, whole_rule};
 use pw_filled::{
     Context, Filled, braced_string, bytes_filled, filling_string, string_form, value_filled,
+    word_of,
 };
 use pw_kinds::{boxed_copy, copy_qtype, is_scalar};
 use pw_leaves::string_bytes;
@@ -45,9 +46,7 @@ fn with_length(alloc: Global, count: u64, q: QType) -> Result<QType, AllocError>
         | CType::Function(_)
         | CType::Record(_) => return Ok(q),
     };
-    let Ok(length) = u32::try_from(count) else {
-        return Err(AllocError);
-    };
+    let length = word_of(count)?;
     Ok(QType {
         ty: CType::Array(element, Some(length)),
         constant: q.constant,

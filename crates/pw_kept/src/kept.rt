@@ -1,6 +1,6 @@
 //! What a store keeps of builds before.
 
-ghost use Rattle.std.specs.Prelude.{◌≡◌, ◌++◌, ◌∷◌, [], IfOk, IfSome, OnOk, map, not, string_bytes};
+ghost use Rattle.std.specs.Prelude.{◌≡◌, ◌≢◌, ◌↔◌, ◌++◌, ◌∷◌, [], None, Some, Ok, Err, IfErr, IfOk, IfSome, IsErr, OnOk, map, not, string_bytes};
 ghost use Rattle.std.specs.Option.{option_map};
 ghost use Rattle.std.specs.List.{AllByRecursion};
 ghost use Rattle.pw_io.specs.Files.{Keeps};
@@ -45,16 +45,25 @@ pub fn object_name(alloc: Global, name: &Name) -> Result<String, AllocError>
     }
 }
 
+/// What a file that was read comes to: its object, or none where its bytes are no object's file.
+fn found_in(read: Result<Object, FileError>) -> Result<Option<Object>, AllocError>
+    ensures found { IfOk read (λ object. result ≡ Ok (Some object)) }
+    ensures broken { IfErr read (λ error. error ≢ FileError.NoMemory → result ≡ Ok None) }
+    ensures wants { IsErr result ↔ (read ≡ Err FileError.NoMemory) }
+{
+    match read {
+        Ok(object) => Ok(Some(object)),
+        Err(FileError::FileFault { .. }) => Ok(None),
+        Err(FileError::NoMemory) => Err(AllocError),
+    }
+}
+
 /// The object whose file the bytes are; bytes that are no object's file count as none.
 fn object_in(alloc: Global, bytes: &[u8]) -> Result<Option<Object>, AllocError>
     ensures object { IfOk result (λ found. found ≡ if_object (value_of (object_file_at bytes.now))) }
     ensures lawful { IfOk result (λ found. IfSome found IsObject) }
 {
-    match pw_object::read(alloc, bytes) {
-        Ok(object) => Ok(Some(object)),
-        Err(FileError::FileFault { .. }) => Ok(None),
-        Err(FileError::NoMemory) => Err(AllocError),
-    }
+    found_in(pw_object::read(alloc, bytes))
 }
 
 /// The object that is kept of a module.

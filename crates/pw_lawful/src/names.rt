@@ -1,72 +1,16 @@
 //! The rules on a module's names.
 
-ghost use Rattle.std.specs.Prelude.{ℕ, ◌≡◌, ◌≢◌, ◌↔◌, ◌++◌, List, map, IsTrue, IfOk, OnOk, All};
-ghost use Rattle.std.specs.List.{AllByRecursion};
-ghost use Rattle.pw_flow.specs.FlowGraph.{global_names, function_names, declared_names};
-ghost use Rattle.pw_value.specs.ProgramNames.{start_name, main_name, IsOrdinary, IncludesStart};
-ghost use Rattle.pw_flow.specs.ValidFlow.{AreDistinct, HasDistinctNames, IsStartLawful, AreNamesLawful};
+ghost use Rattle.std.specs.Prelude.{◌≡◌, ◌↔◌, ◌++◌, map, IsTrue, IfOk};
+ghost use Rattle.pw_value.specs.ProgramNames.{KeepsStart};
+ghost use Rattle.pw_flow.specs.FlowGraph as flow_names;
+ghost use Rattle.pw_flow.specs.ValidFlow.{AreDistinct, HasDistinctNames, AreNamesLawful};
 
 use crate::distinct::are_distinct;
+use pw_flow::names::{function_names, global_names};
 use pw_flow::{FlowFn, FlowGlobal, FlowModule};
-use pw_value::program_names::{MAIN, START};
+use pw_value::program_names::{is_start_kept, start_tests_are_the_rules};
 use pw_value::{Name, Shape};
 use std::alloc::{AllocError, Global};
-
-/// Whether no object has the name.
-fn is_no_global(globals: &[FlowGlobal], name: &[u8]) -> bool
-    ensures { IsTrue result ↔ All (λ g. g.name ≢ name.now) globals.now }
-{
-    globals.iter().all(|global| global.name.as_bytes() != name)
-}
-
-/// Whether no function has the name.
-fn is_no_function(functions: &[FlowFn], name: &[u8]) -> bool
-    ensures { IsTrue result ↔ All (λ f. f.name ≢ name.now) functions.now }
-{
-    functions
-        .iter()
-        .all(|function| function.name.as_bytes() != name)
-}
-
-/// Puts the objects' names behind others.
-fn put_global_names<'a>(
-    names: &mut Vec<&'a [u8]>,
-    globals: &'a [FlowGlobal],
-) -> Result<(), AllocError>
-    ensures { OnOk result (map (λ name. name.now) names.new.items ≡ map (λ name. name.now) names.old.items ++ map (λ g. g.name) globals.now) }
-{
-    for global in globals {
-        names.push(global.name.as_bytes())?;
-    }
-    Ok(())
-}
-
-/// Puts the functions' names behind others.
-fn put_function_names<'a>(
-    names: &mut Vec<&'a [u8]>,
-    functions: &'a [FlowFn],
-) -> Result<(), AllocError>
-    ensures { OnOk result (map (λ name. name.now) names.new.items ≡ map (λ name. name.now) names.old.items ++ map (λ f. f.name) functions.now) }
-{
-    for function in functions {
-        names.push(function.name.as_bytes())?;
-    }
-    Ok(())
-}
-
-/// The names that are declared.
-fn declared_names<'a>(
-    alloc: Global,
-    declared: &'a [(Name, Shape)],
-) -> Result<Vec<&'a [u8]>, AllocError>
-    ensures { IfOk result (λ names. map (λ name. name.now) names.items ≡ map (λ d. d.0) declared.now) }
-{
-    let mut names = Vec::new(alloc);
-    for (name, _) in declared {
-        names.push(name.as_bytes())?;
-    }
-    Ok(names)
-}
 
 /// Whether no two of the objects and functions, taken together, have one name.
 fn are_defined_distinct(
@@ -76,10 +20,24 @@ fn are_defined_distinct(
 ) -> Result<bool, AllocError>
     ensures { IfOk result (λ distinct. IsTrue distinct ↔ AreDistinct (map (λ g. g.name) globals.now ++ map (λ f. f.name) functions.now)) }
 {
-    let mut names = Vec::new(alloc);
-    put_global_names(&mut names, globals)?;
-    put_function_names(&mut names, functions)?;
+    let mut names = global_names(alloc, globals)?;
+    let functions = function_names(alloc, functions)?;
+    names.extend_from_slice(&functions)?;
     are_distinct(alloc, &names)
+}
+
+/// The names that are declared.
+fn declared_names<'a>(
+    alloc: Global,
+    declared: &'a [(Name, Shape)],
+) -> Result<Vec<&'a Name>, AllocError>
+    ensures { IfOk result (λ names. map (λ name. name.now) names.items ≡ map (λ d. d.0) declared.now) }
+{
+    let mut names = Vec::new(alloc);
+    for (name, _) in declared {
+        names.push(name)?;
+    }
+    Ok(names)
 }
 
 /// Whether no two declared names are one.
@@ -90,18 +48,12 @@ fn are_declared_distinct(alloc: Global, declared: &[(Name, Shape)]) -> Result<bo
     are_distinct(alloc, &names)
 }
 
-/// Whether the functions include `$start` exactly where they include `main`.
-fn is_start_included(functions: &[FlowFn]) -> bool
-    ensures { IsTrue result ↔ IncludesStart (map (λ f. f.name) functions.now) }
+/// Whether functions and objects keep the rule of `$start`.
+fn keeps_start(functions: &[&Name], globals: &[&Name]) -> bool
+    ensures { IsTrue result ↔ KeepsStart (map (λ name. name.now) functions.now) (map (λ name. name.now) globals.now) }
 {
-    is_no_function(functions, START) == is_no_function(functions, MAIN)
-}
-
-/// Whether no object is named `$start`.
-fn are_globals_ordinary(globals: &[FlowGlobal]) -> bool
-    ensures { IsTrue result ↔ AllByRecursion IsOrdinary (map (λ g. g.name) globals.now) }
-{
-    is_no_global(globals, START)
+    start_tests_are_the_rules();
+    is_start_kept(functions, globals)
 }
 
 /// Whether names are distinct: those of what a module defines, and those that it declares.
@@ -113,11 +65,13 @@ fn has_distinct_names(alloc: Global, flow: &FlowModule) -> Result<bool, AllocErr
     Ok(defined && declared)
 }
 
-/// Whether the functions include `$start` exactly where they include `main`, and no object does.
-fn is_start_lawful(flow: &FlowModule) -> bool
-    ensures { IsTrue result ↔ IsStartLawful flow.now }
+/// Whether a module keeps the rule of `$start`.
+fn is_start_lawful(alloc: Global, flow: &FlowModule) -> Result<bool, AllocError>
+    ensures { IfOk result (λ lawful. IsTrue lawful ↔ KeepsStart (flow_names.function_names flow.now) (flow_names.global_names flow.now)) }
 {
-    is_start_included(flow.functions.as_slice()) && are_globals_ordinary(flow.globals.as_slice())
+    let globals = global_names(alloc, flow.globals.as_slice())?;
+    let functions = function_names(alloc, flow.functions.as_slice())?;
+    Ok(keeps_start(&functions, &globals))
 }
 
 /// Whether the names of what a module defines and declares are lawful.
@@ -125,5 +79,6 @@ pub fn are_names_lawful(alloc: Global, flow: &FlowModule) -> Result<bool, AllocE
     ensures { IfOk result (λ lawful. IsTrue lawful ↔ AreNamesLawful flow.now) }
 {
     let distinct = has_distinct_names(alloc, flow)?;
-    Ok(distinct && is_start_lawful(flow))
+    let start = is_start_lawful(alloc, flow)?;
+    Ok(distinct && start)
 }

@@ -126,7 +126,7 @@ starts_in : (m : ProgramModule) → IsValid (lowered m.name m.tree) → Contains
 unfolding lowered
 starts_in m valid c =
     Contains-append_right (map (lowered_function m.name m.tree.records) m.tree.functions) (start_of m.tree.functions) start_function
-    (main_starts m.name m.tree (valid.names.start.included.0 c))
+    (main_starts m.name m.tree (valid.names.start.beside.0 c))
 
 -- among the functions of modules that are made of typed trees
 pub starts : (ms : List ProgramModule) → AllByRecursion IsValid (map (λ m. lowered m.name m.tree) ms)

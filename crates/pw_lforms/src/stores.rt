@@ -1,9 +1,9 @@
 //! Assignments: what is stored where, and the value that this gives.
 
-ghost use Rattle.std.specs.Prelude.{◌≡◌, IfOk, OnOk, Some};
+ghost use Rattle.std.specs.Prelude.{◌≡◌, ◌⊎◌, IfOk, OnErr, OnOk, Some};
 ghost use Rattle.pw_lower.specs.Codes.{lowered_as, value_is, temp_of};
 ghost use Rattle.pw_lower.specs.Expressions as spec;
-ghost use Rattle.pw_lower.specs.Operators.{sum_or, target_size, side_of as side, converted as converted_by};
+ghost use Rattle.pw_lower.specs.Operators.{HasVastTarget, sum_or, target_size, side_of as side, converted as converted_by};
 ghost use Rattle.pw_types.specs.Views.{view_type};
 
 use crate::targets::write;
@@ -61,7 +61,8 @@ pub struct Working {
     pub right: Option<u32>,
 }
 
-/// An operator that works in a type on a right operand of another.
+/// An operator that works in a type on a right operand of another. There is no memory only where one of them is a
+/// pointer to what 32 bits cannot count.
 pub fn working_in(
     types: &Types,
     operator: BinaryOperator,
@@ -71,6 +72,7 @@ pub fn working_in(
     ensures operator { IfOk result (λ w. w.operator ≡ operator) }
     ensures side { IfOk result (λ w. w.side ≡ side (types.now) (view_type work.now)) }
     ensures right { IfOk result (λ w. w.right ≡ target_size types.now (view_type right.now)) }
+    ensures wants { OnErr result (HasVastTarget types.now (view_type work.now) ⊎ HasVastTarget types.now (view_type right.now)) }
 {
     let side = side_of(types, work)?;
     let right = side_of(types, right)?.size;

@@ -5,6 +5,7 @@ ghost use Rattle.pw_checking.specs.Follows.{Follows};
 ghost use Rattle.pw_checking.specs.PhraseViews.{view_derivation, view_derivations, view_spot};
 ghost use Rattle.pw_checking.specs.StateViews.{view_state};
 ghost use Rattle.pw_finding.specs.Found.{found};
+ghost use Rattle.pw_limits.specs.Steps.{steps_max};
 ghost use Rattle.pw_rules.specs.Derivations as spec;
 ghost use Rattle.pw_types.specs.Views.{view_qtype};
 
@@ -21,6 +22,11 @@ use std::alloc::{AllocError, Global};
 /// The most steps of one declarator that a type is built of: what goes down a deeper type would take too much of the
 /// stack. The depth that a type may have is far below.
 pub const STEPS_MAX: usize = 4096;
+
+/// The limit of a declarator is the one that its definition speaks of.
+pub fn limit_of_a_declarator()
+    ensures { STEPS_MAX ≡ steps_max }
+{}
 
 /// How often `const` stands among qualifiers.
 fn constants(qualifiers: &[Qualifier]) -> usize

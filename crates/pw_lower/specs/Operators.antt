@@ -1,5 +1,5 @@
 -- What lowering makes of operators on values that stand in temporaries.
-use Rattle.std.specs.Prelude.{ℕ, ◌==◌, Bool, true, false, if◌then◌else◌, Option, Some, None, option_map, unwrap_or, List}
+use Rattle.std.specs.Prelude.{ℕ, ◌==◌, ◌^◌, ◌≤◌, Bool, true, false, if◌then◌else◌, Option, Some, None, IsSomeAnd, option_map, unwrap_or, List}
 use Rattle.pw_value.specs.declared.value.Kind.{Kind}
 use Rattle.pw_value.specs.declared.value.Kind.TheVariants.{S8, U8, S16, U16, W32}
 use Rattle.pw_types.specs.declared.kind.IntKind.{IntKind}
@@ -58,6 +58,10 @@ unit_of records ty = unwrap_or (option_map (λ layout. layout.align) (layout_of 
 abbrev pub target_size : List RecordValue → CType → Option ℕ
 target_size records (Pointer (Qualified ty constant volatile)) = Some (bytes_of records ty)
 target_size records _ = None
+
+-- a pointer to an object of more bytes than 32 bits can count
+abbrev pub HasVastTarget : List RecordValue → CType → Type 0
+HasVastTarget records ty = IsSomeAnd (target_size records ty) (λ size. 2 ^ 32 ≤ size)
 
 -- the type in which `++` and `--` work
 abbrev pub step_type : CType → CType

@@ -1,6 +1,6 @@
 //! The code of a function while it is made: the blocks that are closed, and the one that is filled.
 
-ghost use Rattle.std.specs.Prelude.{◌≡◌, ◌+◌, ◌<◌, ◌^◌, length, Some, IfOk, OnOk};
+ghost use Rattle.std.specs.Prelude.{◌≡◌, ◌+◌, ◌<◌, ◌≤◌, ◌^◌, length, Some, IfOk, MatchResult, OnErr, OnOk};
 ghost use Rattle.pw_lower.specs.Codes as spec;
 ghost use Rattle.pw_lower.specs.Codes.{value_is};
 
@@ -30,9 +30,9 @@ pub struct Code {
     pub labels: Items<u32>,
 }
 
-/// The sum of two numbers. There is no memory for as many things as 32 bits cannot count.
+/// The sum of two numbers. There is no memory for as many things as 32 bits cannot count, and for no others.
 pub fn further(number: u32, count: u32) -> Result<u32, NoMemory>
-    ensures { IfOk result (λ n. n ≡ number + count) }
+    ensures { MatchResult result (λ n. n ≡ number + count) (λ _. 2 ^ 32 ≤ number + count) }
 {
     number.checked_add(count).ok_or(NoMemory)
 }
@@ -45,20 +45,24 @@ impl Code {
         self.ops.push(op)
     }
 
-    /// Numbers so many temporaries, and answers the first number.
+    /// Numbers so many temporaries, and answers the first number. There is no memory for more than 32 bits can
+    /// count, and for no fewer.
     pub fn reserve_temps(&mut self, count: u32) -> Result<u32, NoMemory>
         ensures first { IfOk result (λ t. t ≡ self.old.temps) }
         ensures code { OnOk result (self.new ≡ spec.reserve_temps count self.old) }
+        ensures wants { OnErr result (2 ^ 32 ≤ self.old.temps + count) }
     {
         let first = self.temps;
         self.temps = further(first, count)?;
         Ok(first)
     }
 
-    /// Numbers so many blocks, and answers the first number.
+    /// Numbers so many blocks, and answers the first number. There is no memory for more than 32 bits can count, and
+    /// for no fewer.
     pub fn reserve(&mut self, count: u32) -> Result<u32, NoMemory>
         ensures first { IfOk result (λ n. n ≡ self.old.blocks) }
         ensures code { OnOk result (self.new ≡ spec.reserve count self.old) }
+        ensures wants { OnErr result (2 ^ 32 ≤ self.old.blocks + count) }
     {
         let first = self.blocks;
         self.blocks = further(first, count)?;

@@ -1,6 +1,6 @@
 //! What lowering makes of types, conversions and operators on values that stand in temporaries.
 
-ghost use Rattle.std.specs.Prelude.{◌≡◌, ◌∷◌, [], IfOk, OnOk, Some, Option, ℕ};
+ghost use Rattle.std.specs.Prelude.{◌≡◌, ◌≤◌, ◌^◌, ◌∷◌, [], IfOk, MatchResult, OnOk, Some, Option, ℕ};
 ghost use Rattle.pw_lower.specs.Codes.{lowered_as, value_is, temp_of};
 ghost use Rattle.pw_lower.specs.Operators as spec;
 ghost use Rattle.pw_types.specs.Views.{view_type};
@@ -58,9 +58,9 @@ fn is_signed(ty: &CType) -> bool
     }
 }
 
-/// The size of an object of a type.
+/// The size of an object of a type. There is no memory for one that 32 bits cannot count, and for no other.
 pub fn bytes_of(types: &Types, ty: &CType) -> Result<u32, NoMemory>
-    ensures { IfOk result (λ n. n ≡ spec.bytes_of types.now (view_type ty.now)) }
+    ensures { MatchResult result (λ n. n ≡ spec.bytes_of types.now (view_type ty.now)) (λ _. 2 ^ 32 ≤ spec.bytes_of types.now (view_type ty.now)) }
 {
     match size(types, ty) {
         Some(bytes) => u32::try_from(bytes).ok().ok_or(NoMemory),
@@ -78,10 +78,11 @@ pub fn unit_of(types: &Types, ty: &CType) -> u32
     }
 }
 
-/// The size of what a pointer points to; of no pointer, none.
+/// The size of what a pointer points to; of no pointer, none. There is no memory for one that 32 bits cannot count, and
+/// for no other.
 #[tactic(auto, unfolding(pw_types::specs::Views::view_type), using(pw_types::proofs::ViewLemmas::signature_view))]
 fn target_size(types: &Types, ty: &CType) -> Result<Option<u32>, NoMemory>
-    ensures { IfOk result (λ n. n ≡ spec.target_size types.now (view_type ty.now)) }
+    ensures { MatchResult result (λ n. n ≡ spec.target_size types.now (view_type ty.now)) (λ _. spec.HasVastTarget types.now (view_type ty.now)) }
 {
     match ty {
         CType::Pointer(target) => Ok(Some(bytes_of(types, &target.ty)?)),
@@ -90,9 +91,9 @@ fn target_size(types: &Types, ty: &CType) -> Result<Option<u32>, NoMemory>
     }
 }
 
-/// What an operator's work depends on in a type.
+/// What an operator's work depends on in a type. There is no memory only for a pointer to what 32 bits cannot count.
 pub fn side_of(types: &Types, ty: &CType) -> Result<Side, NoMemory>
-    ensures { IfOk result (λ side. side ≡ spec.side_of types.now (view_type ty.now)) }
+    ensures { MatchResult result (λ side. side ≡ spec.side_of types.now (view_type ty.now)) (λ _. spec.HasVastTarget types.now (view_type ty.now)) }
 {
     Ok(Side {
         signed: is_signed(ty),
@@ -104,7 +105,7 @@ pub fn side_of(types: &Types, ty: &CType) -> Result<Side, NoMemory>
 /// The same of the type in which `++` and `--` work on an operand of a type.
 #[tactic(auto, unfolding(pw_types::specs::Views::view_type), using(pw_types::proofs::ViewLemmas::signature_view))]
 pub fn step_side(types: &Types, ty: &CType) -> Result<Side, NoMemory>
-    ensures { IfOk result (λ side. side ≡ spec.side_of types.now (spec.step_type (view_type ty.now))) }
+    ensures { MatchResult result (λ side. side ≡ spec.side_of types.now (spec.step_type (view_type ty.now))) (λ _. spec.HasVastTarget types.now (spec.step_type (view_type ty.now))) }
 {
     match ty {
         CType::Int(kind) => Ok(Side {

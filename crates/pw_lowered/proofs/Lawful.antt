@@ -13,6 +13,7 @@ use Rattle.pw_flow.specs.declared.flow.Op.TheVariants as op
 use Rattle.pw_flow.specs.declared.flow.FlowFn.{FlowFn}
 use Rattle.pw_flow.specs.declared.flow.FlowGlobal.{FlowGlobal}
 use Rattle.pw_flow.proofs.Lists.{all_append, all_flat}
+use Rattle.pw_flow.proofs.Once.{once, distinct_right}
 use Rattle.pw_lower.specs.Expressions.{full_name}
 use Rattle.pw_lower.specs.Modules.{lowered_function, start_function, is_main, start_of, lowered_global, lowered_declared, lowered}
 use Rattle.pw_lower_laws.proofs.Laws.{function_lawful}
@@ -222,6 +223,8 @@ module_lawful home m t w =
     let globals_are : global_names (lowered home m) ≡ map (full_name home) gs = names_of_globals home m m.globals in
     let functions_are : function_names (lowered home m) ≡ map (full_name home) fs ++ start_names has =
     names_of_functions home m m.functions (start_of m.functions) ∙ ap (λ more. map (full_name home) fs ++ map (λ (f : FlowFn). f.name) more) (start_is m.functions) in
+    let defined = subst (λ (names : List (List ℕ)). AreDistinct (names ++ function_names (lowered home m))) (sym globals_are)
+    (subst (λ (names : List (List ℕ)). AreDistinct (map (full_name home) gs ++ names)) (sym functions_are) (defined_distinct home gs fs has named_gs named_fs apart_gs apart_fs apart)) in
     record {
       parts = record {
         globals = all_mapped (lowered_global home m.records) IsGlobal m.globals
@@ -240,14 +243,14 @@ module_lawful home m t w =
       };
       names = record {
         distinct = record {
-          defined = subst (λ (names : List (List ℕ)). AreDistinct (names ++ function_names (lowered home m))) (sym globals_are)
-              (subst (λ (names : List (List ℕ)). AreDistinct (map (full_name home) gs ++ names)) (sym functions_are) (defined_distinct home gs fs has named_gs named_fs apart_gs apart_fs apart));
+          defined = defined;
           declared = declared_distinct m m.declared (apart_from_pairs (λ (d e : DeclaredValue). d.name ≢ e.name) m.declared t.one_declared);
         };
         start = record {
-          included = subst IncludesStart (sym functions_are)
+          beside = subst IncludesStart (sym functions_are)
               (start_beside (map (full_name home) fs) has (names_ordinary home fs named_fs) (main_there home m.functions (start_names has)) (main_absent home m.functions));
-          no_global = subst (λ (names : List (List ℕ)). AllByRecursion IsOrdinary names) (sym globals_are) (names_ordinary home gs named_gs);
+          once = once start_name (function_names (lowered home m)) (distinct_right (global_names (lowered home m)) (function_names (lowered home m)) defined);
+          no_global = lacks (global_names (lowered home m)) start_name (subst (λ (names : List (List ℕ)). AllByRecursion IsOrdinary names) (sym globals_are) (names_ordinary home gs named_gs));
         };
       };
     }

@@ -1,6 +1,6 @@
 //! Where the parameters and locals of a function stand.
 
-ghost use Rattle.std.specs.Prelude.{◌≡◌, IfOk, OnOk, map};
+ghost use Rattle.std.specs.Prelude.{◌≡◌, ◌≤◌, ◌^◌, IfOk, MatchResult, OnOk, map};
 ghost use Rattle.pw_lower.specs.Modules as spec;
 ghost use Rattle.pw_lower.specs.Places.{places_of as places, temps_from, is_scalar as scalar};
 ghost use Rattle.pw_lplaces.specs.Placing.{kept_unless, placed, parameter_stored};
@@ -10,7 +10,7 @@ ghost use Rattle.pw_types.specs.Views.{view_type};
 use crate::addressed::mark_in_statement;
 use pw_flow::Op;
 use pw_items::Items;
-use pw_lexpr::stores::scalar_kind;
+use pw_lforms::stores::scalar_kind;
 use pw_lower::code::further;
 use pw_lower::operators::{bytes_of, kind_of};
 use pw_lower::{Code, LocalPlace};
@@ -78,9 +78,10 @@ fn place_locals(
     Ok(places)
 }
 
-/// How many temporaries the parameters and the kept locals have.
+/// How many temporaries the parameters and the kept locals have. There is no memory for more than 32 bits can count,
+/// and for no fewer.
 pub fn temps_of(params: u32, places: &[LocalPlace]) -> Result<u32, NoMemory>
-    ensures { IfOk result (λ n. n ≡ temps_from params places.now) }
+    ensures { MatchResult result (λ n. n ≡ temps_from params places.now) (λ _. 2 ^ 32 ≤ temps_from params places.now) }
 {
     let mut temps = params;
     for place in places {

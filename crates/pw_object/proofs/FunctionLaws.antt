@@ -24,8 +24,8 @@ use Rattle.pw_inst.specs.declared.relocation.Fix.{Fix}
 use Rattle.pw_object.specs.declared.functions.ObjectFn.{ObjectFn}
 use Rattle.pw_object.specs.declared.functions.SymbolForm.{SymbolForm}
 use Rattle.pw_object.specs.declared.functions.SymbolForm.TheVariants as form
-use Rattle.pw_object.specs.Functions.{IsSymbol, IsFix, IsFunction, kind_code, form_number, symbol_spelling, fix, function, names_of_symbol, names_of_function}
-use Rattle.pw_object.specs.Reading.{fix_kinds, symbol_forms, named_at, word_at, routine_at, symbol_of_form_at, symbol_at, fix_at, function_at}
+use Rattle.pw_object.specs.Functions.{IsSymbol, IsFix, IsFunction, fix_kinds, kind_code, symbol_forms, form_number, symbol_spelling, fix, function, names_of_symbol, names_of_function}
+use Rattle.pw_object.specs.Reading.{named_at, word_at, routine_at, symbol_of_form_at, symbol_at, fix_at, function_at}
 
 -- ---- kinds
 

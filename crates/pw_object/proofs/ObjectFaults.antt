@@ -22,7 +22,8 @@ use Rattle.pw_object.specs.declared.functions.SymbolForm.{SymbolForm}
 use Rattle.pw_object.specs.declared.functions.SymbolForm.TheVariants as form
 use Rattle.pw_object.specs.declared.object.Object.{Object}
 use Rattle.pw_object.specs.Object.{kind, object_version}
-use Rattle.pw_object.specs.Reading.{fix_kinds, symbol_forms, named_at, word_at, routine_at, symbol_of_form_at, symbol_at, fix_at, function_at, global_at, last_rules, fields_at, object_file_at}
+use Rattle.pw_object.specs.Functions.{fix_kinds, symbol_forms}
+use Rattle.pw_object.specs.Reading.{named_at, word_at, routine_at, symbol_of_form_at, symbol_at, fix_at, function_at, global_at, last_rules, fields_at, object_file_at}
 
 named_onward : (names : List (List ℕ)) → Onward (named_at names)
 unfolding named_at

@@ -1,9 +1,12 @@
 -- The functions of an object file: words, and fixes that a linker puts into them.
 use Rattle.std.specs.Prelude.{ℕ, ◌<◌, List, [], ◌∷◌, length, All, Contains}
 use Rattle.std.specs.List.{flat_map, AllByRecursion}
+use denote.Enum.Bare.{sameb}
 use Rattle.pw_value.specs.Fields.{u8, u32, parts, FitsU32}
 use Rattle.pw_value.specs.FieldNames.{name_index}
 use Rattle.pw_files.specs.Rising.{counted}
+use Rattle.pw_flowops.specs.Operations.{place}
+use Rattle.pw_inst.specs.contracts.relocation.FixKind.{the_type as the_fix_kinds}
 use Rattle.pw_inst.specs.declared.relocation.FixKind.{FixKind}
 use Rattle.pw_inst.specs.declared.relocation.FixKind.TheVariants as kind
 use Rattle.pw_inst.specs.declared.relocation.Symbol.{Symbol}
@@ -11,6 +14,7 @@ use Rattle.pw_inst.specs.Limits.{routine_count}
 use Rattle.pw_inst.specs.declared.relocation.Symbol.TheVariants as symbol
 use Rattle.pw_inst.specs.declared.relocation.Fix.{Fix}
 use Rattle.pw_object.specs.declared.functions.ObjectFn.{ObjectFn}
+use Rattle.pw_object.specs.contracts.functions.SymbolForm.{the_type as the_symbol_forms}
 use Rattle.pw_object.specs.declared.functions.SymbolForm.{SymbolForm}
 use Rattle.pw_object.specs.declared.functions.SymbolForm.TheVariants as form
 
@@ -37,16 +41,18 @@ pub record IsFunction (f : ObjectFn) : Type 0 where
 
 -- ---- the spelling
 
+-- in the order of their bytes
+abbrev pub fix_kinds : List FixKind
+fix_kinds = kind.Ldil ∷ kind.Im14 ∷ kind.Bl ∷ []
+
 abbrev pub kind_code : FixKind → ℕ
-kind_code kind.Ldil = 0
-kind_code kind.Im14 = 1
-kind_code kind.Bl = 2
+kind_code = place (sameb the_fix_kinds) fix_kinds
+
+abbrev pub symbol_forms : List SymbolForm
+symbol_forms = form.Named ∷ form.Word ∷ form.StackLimit ∷ form.Routine ∷ []
 
 abbrev pub form_number : SymbolForm → ℕ
-form_number form.Named = 0
-form_number form.Word = 1
-form_number form.StackLimit = 2
-form_number form.Routine = 3
+form_number = place (sameb the_symbol_forms) symbol_forms
 
 -- the byte at the front of a symbol
 abbrev pub form_byte : SymbolForm → List ℕ

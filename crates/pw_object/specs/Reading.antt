@@ -11,8 +11,6 @@ use Rattle.pw_flow.specs.declared.flow.FlowGlobal.{FlowGlobal}
 use Rattle.pw_flowops.specs.Reading.{one_of_at}
 use Rattle.pw_flowfile.specs.Reading.{global_body_at}
 use Rattle.pw_inst.specs.Limits.{routine_count}
-use Rattle.pw_inst.specs.declared.relocation.FixKind.{FixKind}
-use Rattle.pw_inst.specs.declared.relocation.FixKind.TheVariants as kind
 use Rattle.pw_inst.specs.declared.relocation.Symbol.{Symbol}
 use Rattle.pw_inst.specs.declared.relocation.Symbol.TheVariants as symbol
 use Rattle.pw_inst.specs.declared.relocation.Fix.{Fix}
@@ -20,15 +18,9 @@ use Rattle.pw_object.specs.declared.functions.ObjectFn.{ObjectFn}
 use Rattle.pw_object.specs.declared.functions.SymbolForm.{SymbolForm}
 use Rattle.pw_object.specs.declared.functions.SymbolForm.TheVariants as form
 use Rattle.pw_object.specs.declared.object.Object.{Object}
+use Rattle.pw_object.specs.Functions.{fix_kinds, symbol_forms}
 use Rattle.pw_object.specs.Object.{object_version, global_names, function_names, names_of}
 use Rattle.pw_object.specs.Object.{kind as kind_of_file}
-
--- in the order of their bytes
-abbrev pub fix_kinds : List FixKind
-fix_kinds = kind.Ldil ∷ kind.Im14 ∷ kind.Bl ∷ []
-
-abbrev pub symbol_forms : List SymbolForm
-symbol_forms = form.Named ∷ form.Word ∷ form.StackLimit ∷ form.Routine ∷ []
 
 -- a name, a word of the function, the end of the stack, or a routine
 unfoldable pub named_at : List (List ℕ) → List ℕ → Result (Symbol × List ℕ) ℕ

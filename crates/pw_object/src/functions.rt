@@ -5,7 +5,8 @@ ghost use Rattle.pw_value.specs.Fields.{u32_at, repeated};
 ghost use Rattle.pw_value.specs.FieldFaults.{Gives};
 ghost use Rattle.pw_files.specs.Rising.{counted_at};
 ghost use Rattle.pw_flowops.specs.Reading.{one_of_at};
-ghost use Rattle.pw_object.specs.Reading.{fix_kinds, symbol_forms, named_at, word_at, routine_at, symbol_of_form_at, symbol_at, fix_at, function_at};
+ghost use Rattle.pw_object.specs.Functions.{fix_kinds, symbol_forms};
+ghost use Rattle.pw_object.specs.Reading.{named_at, word_at, routine_at, symbol_of_form_at, symbol_at, fix_at, function_at};
 
 use pw_flowops::{read_below, read_one_of};
 use pw_inst::{Fix, FixKind, ROUTINE_COUNT, Symbol};

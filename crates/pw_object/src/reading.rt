@@ -18,9 +18,10 @@ use pw_files::format::{Format, read_value};
 use pw_files::late::check_module;
 use pw_files::lists::{read_name_list, read_shaped_list};
 use pw_flow::FlowGlobal;
-use pw_flowfile::{global_names, read_global_body};
+use pw_flow::names::global_names;
+use pw_flowfile::read_global_body;
 use pw_items::Items;
-use pw_value::fields::names::read_name;
+use pw_value::fields::names::{find_unused, read_name};
 use pw_value::fields::{FieldError, read_text_in_place, read_u32};
 use pw_value::program_names::StartName;
 use pw_value::{FileError, Name, Shape};
@@ -166,9 +167,10 @@ fn check_last(
     ensures { Gives (λ x. x) result (broken_at (last_rules names.now behind object.now count)) }
 {
     let used = used_names(alloc, object)?;
+    let unused = find_unused(alloc, names, used, behind)?;
     let functions = function_names(alloc, object.functions.as_slice())?;
     let globals = global_names(alloc, object.globals.as_slice())?;
-    check_module(alloc, names, used, behind, &functions, &globals, count)
+    check_module(unused, &functions, &globals, count)
 }
 
 /// Object files, which are read as all files of the compiler are.

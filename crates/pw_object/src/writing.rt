@@ -1,6 +1,6 @@
 //! Writing an object file.
 
-ghost use Rattle.std.specs.Prelude.{◌≡◌, ◌++◌, List, length, IsTrue, OnOk, IfOk, All, Contains};
+ghost use Rattle.std.specs.Prelude.{◌≡◌, ◌++◌, ◌↔◌, List, length, IsTrue, OnOk, IfOk, All, Contains};
 ghost use Rattle.std.specs.List.{flat_map, AllByRecursion};
 ghost use Rattle.pw_value.specs.Fields.{u8, u32, FitsU32, FitsText};
 ghost use Rattle.pw_value.specs.FieldNames.{IsNameTable};
@@ -15,8 +15,7 @@ use crate::names::used_names;
 use crate::object::{Object, VERSION};
 use crate::reading::KIND;
 use pw_files::writing::{
-    COUNT_LIMIT, make_table, push_bytes, push_count, push_name_list, push_shaped_list, push_words,
-    seal_payload,
+    make_table, push_bytes, push_count, push_name_list, push_shaped_list, push_words, seal_payload,
 };
 use pw_flow::FlowGlobal;
 use pw_flowfile::push_global;
@@ -24,6 +23,7 @@ use pw_inst::{Fix, FixKind, Symbol};
 use pw_value::Name;
 use pw_value::fields::names::{push_name, push_names};
 use pw_value::fields::writing::{push_u8, push_u32};
+use pw_value::words::word_of;
 use std::alloc::{AllocError, Global};
 
 /// A symbol.
@@ -104,9 +104,9 @@ pub fn push_function(
 
 /// Whether a file can hold the counts and texts of a global.
 fn has_room(global: &FlowGlobal) -> bool
-    ensures { IsTrue result → FitsGlobal global.now }
+    ensures { IsTrue result ↔ FitsGlobal global.now }
 {
-    global.shape.as_bytes().len() <= COUNT_LIMIT && global.items.len() <= COUNT_LIMIT
+    word_of(global.shape.as_bytes().len()).is_ok() && word_of(global.items.len()).is_ok()
 }
 
 /// Globals, one after the other.

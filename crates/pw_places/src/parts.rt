@@ -1,6 +1,6 @@
 //! The parts of an object, as its initialisers come to them.
 
-ghost use Rattle.std.specs.Prelude.{◌≡◌, ◌^◌, ◌≤◌, is_some, nat_lt, option_map, slice_get, true, zip, IfOk, MatchResult};
+ghost use Rattle.std.specs.Prelude.{◌≡◌, ◌+◌, ◌*◌, ◌^◌, ◌≤◌, is_some, nat_lt, option_map, slice_get, true, zip, IfOk, MatchResult};
 ghost use Rattle.std.specs.Option.{option_copied, option_map_or};
 ghost use Rattle.pw_places.specs.Members.{member_in, own_part, view_found};
 ghost use Rattle.pw_places.specs.Views.{view_frame, view_target};
@@ -62,6 +62,20 @@ fn has_element(count: Option<u32>, next: u64) -> bool
     }
 }
 
+/// The width of so many elements. Want of memory is the answer for one that 64 bits cannot count, and for no other.
+fn width_of(count: u64, width: u64) -> Result<u64, AllocError>
+    ensures { MatchResult result (λ bytes. bytes ≡ count * width) (λ _. 2 ^ 64 ≤ count * width) }
+{
+    count.checked_mul(width).ok_or(AllocError)
+}
+
+/// An offset so many bytes on. Want of memory is the answer for one that 64 bits cannot count, and for no other.
+fn offset_on(offset: u64, bytes: u64) -> Result<u64, AllocError>
+    ensures { MatchResult result (λ further. further ≡ offset + bytes) (λ _. 2 ^ 64 ≤ offset + bytes) }
+{
+    offset.checked_add(bytes).ok_or(AllocError)
+}
+
 /// The element of an array that comes next. An offset that 64 bits cannot count answers want of memory.
 fn element_of(
     alloc: Global,
@@ -76,12 +90,7 @@ fn element_of(
         return Ok(None);
     }
     let width = told_size(types, &element.ty)?.unwrap_or(0);
-    let Some(distance) = frame.next.checked_mul(width) else {
-        return Err(AllocError);
-    };
-    let Some(offset) = frame.offset.checked_add(distance) else {
-        return Err(AllocError);
-    };
+    let offset = offset_on(frame.offset, width_of(frame.next, width)?)?;
     Ok(Some(Target {
         ty: copy_qtype(alloc, element)?,
         offset,
@@ -135,9 +144,7 @@ fn member_at(
     let Some((member, within)) = member_in(types, number, frame.next) else {
         return Ok(None);
     };
-    let Some(offset) = frame.offset.checked_add(u64::from(within)) else {
-        return Err(AllocError);
-    };
+    let offset = offset_on(frame.offset, u64::from(within))?;
     Ok(Some(Target {
         ty: copy_qtype(alloc, &member.ty)?,
         offset,

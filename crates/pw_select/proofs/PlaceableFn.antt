@@ -3,6 +3,7 @@ use Rattle.std.proofs.Common.{◌≡◌, ℕ, zero, suc, ◌+◌, ◌-◌, ◌*�
 use Rattle.std.proofs.lemmas.Int.{ints}
 use Rattle.std.specs.Prelude.{ℤ, pos, negsuc, nat_lt, Contains, slice_get, slice_index_or, unwrap_or}
 use Rattle.std.specs.List.{AllByRecursion, flat_map}
+use Rattle.pw_db.specs.Limits.{first_register, last_register, register_count}
 use Rattle.pw_db.specs.declared.database.Web.{Web}
 use Rattle.pw_db.specs.declared.database.Role.{Role}
 use Rattle.pw_db.specs.Database.{IsWeb, IsDirectives}
@@ -29,7 +30,7 @@ use Rattle.pw_alloc.specs.declared.located.Place.{Place}
 use Rattle.pw_alloc.specs.declared.located.Place.TheVariants.{Slot, Reg}
 use Rattle.pw_alloc.specs.declared.located.Located.{Located}
 use Rattle.pw_alloc.specs.Frames.{below, head_size, reaches_from, slots_begin}
-use Rattle.pw_alloc.specs.Allocation.{is_entry, is_entered, entered_from, in_frame}
+use Rattle.pw_alloc.specs.Allocation.{is_entry, in_frame}
 use Rattle.pw_alloc.proofs.AllocationLaws.{located_fits}
 use Rattle.pw_alloc.specs.ValidPlaces.{IsPlace, IsLocated}
 use Rattle.pw_registers.specs.Registers.{word, copied, constant, address_of, frame_address, load_from, store_to, place_of, operand_register, operand_lines, loaded, load_scalar, store_scalar, sign_spread, read_global, write_global}
@@ -84,7 +85,7 @@ op_good l temps slots (op.CallInd t a shape args) g h =
 
 -- ---- webs
 
--- the webs have registers of 3 to 18
+-- the webs have registers that a callee keeps
 abbrev WebsGood : List (Web × Role) → Type 0
 WebsGood webs = AllByRecursion IsWeb (map (λ w. w.0) webs)
 
@@ -195,7 +196,7 @@ prologue_good f g =
     joined (entry_lines f.frame ++ saves ++ webs_loaded webs) (parameters_in f.frame f.places 0 f.body.params)
     (joined (entry_lines f.frame ++ saves) (webs_loaded webs)
     (joined (entry_lines f.frame) saves (entry_good f.frame g.frame) (saved_good store_to head 0 f.saved (λ n r hr. store_good (below n) r (below_fits n) hr) g.saved))
-    (all_entered_good loaded_web webs 3 16 loaded_web_good g.body.directives.each))
+    (all_entered_good loaded_web webs first_register register_count loaded_web_good g.body.directives.each))
     (parameters_good f.frame f.places 0 f.body.params g.layout.places)
 
 epilogue_good : (f : Located) → Good f → AreLines (epilogue f)
@@ -208,7 +209,7 @@ epilogue_good f g =
     (joined (webs_stored webs ++ restores ++ back) (frame_left f.frame)
     (joined (webs_stored webs ++ restores) back
     (joined (webs_stored webs) restores
-    (all_entered_good stored_back webs 3 16 stored_back_good g.body.directives.each)
+    (all_entered_good stored_back webs first_register register_count stored_back_good g.body.directives.each)
     (saved_good load_from head 0 f.saved (λ n r hr. load_good (below n) r (below_fits n) hr) g.saved))
     (load_good (below (f.frame + 20)) 2 (below_fits (f.frame + 20)) (omega arith)))
     (frame_left_good f.frame g.frame))
@@ -245,14 +246,9 @@ selected_good f g =
 
 -- ---- lawful functions are good
 
-entered_small : (webs : List (Web × Role)) (r more : ℕ) → r + more ≤ 32 → AllByRecursion (λ r. r < 32) (entered_from webs r more)
-unfolding entered_from
-entered_small webs r zero h = tt
-entered_small webs r (suc more) h = by (is_entered webs r) (entered_small webs (suc r) more (omega arith))
-  where
-    by : (t : Bool) → AllByRecursion (λ r. r < 32) (entered_from webs (suc r) more) → AllByRecursion (λ r. r < 32) (if t then r ∷ entered_from webs (suc r) more else entered_from webs (suc r) more)
-    by true more_small = (omega arith, more_small)
-    by false more_small = more_small
+kept_small : (rs : List ℕ) → AllByRecursion (λ r. (first_register ≤ r) × (r ≤ last_register)) rs → AllByRecursion (λ r. r < 32) rs
+kept_small [] h = tt
+kept_small (r ∷ rs) h = (omega (arith, h.0.1), kept_small rs h.1)
 
 place_of_located : (f : Located) (p : Place) → IsPlace f p → PlaceGood p
 place_of_located f (Reg r) h = let high = h.1 in omega arith
@@ -271,7 +267,7 @@ located_good : (f : Located) → IsLocated f → Good f
 located_good f h = record {
   body = h.body;
   frame = subst (λ n. n < 2 ^ 21) (sym h.frame) (located_fits f h).reach;
-  saved = subst (λ rs. AllByRecursion (λ (r : ℕ). r < 32) rs) (sym h.saved) (entered_small f.body.directives.webs 3 16 (omega arith));
+  saved = kept_small f.saved h.saved.kept;
   layout = record {
     places = places_of_located f f.places h.places;
     slots = all_below_fit (reaches_from (slots_begin (head_size f.body) (length f.saved) (in_frame f.places)) f.body.slots);

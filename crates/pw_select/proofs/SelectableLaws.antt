@@ -9,11 +9,13 @@ use Rattle.pw_webflow.specs.declared.web.WebBlock.{WebBlock}
 use Rattle.pw_webflow.specs.declared.web.WebFn.{WebFn}
 use Rattle.pw_webflow.specs.ValidWebs.{IsWebOp, IsWebBlock}
 use Rattle.pw_alloc.specs.declared.located.Located.{Located}
+use Rattle.pw_db.specs.Limits.{register_count}
 use Rattle.pw_alloc.specs.ValidPlaces.{IsLocated}
 use Rattle.pw_alloc.specs.Allocation.{in_frame}
 use Rattle.pw_alloc.specs.Frames.{head_size, slots_begin, last_reach}
 use Rattle.pw_alloc.proofs.FrameLaws.{few_arguments, frame_fits}
-use Rattle.pw_alloc.proofs.AllocationLaws.{few_saved, located_fits}
+use Rattle.pw_alloc.proofs.AllocationLaws.{located_fits}
+use Rattle.pw_alloc.proofs.SavedLaws.{few_kept}
 use Rattle.pw_oplines.specs.Selectable.{IsSelectable}
 use Rattle.pw_select.specs.Selectable.{IsSelectableBlock, IsFrame}
 
@@ -66,8 +68,8 @@ few_places l h =
     let count = h.count in
     omega arith
 
-pub few_saved_registers : (l : Located) → IsLocated l → length l.saved ≤ 16
-few_saved_registers l h = subst (λ (rs : List ℕ). length rs ≤ 16) (sym h.saved) (few_saved l.body)
+pub few_saved_registers : (l : Located) → IsLocated l → length l.saved ≤ register_count
+few_saved_registers l h = few_kept l.body l.saved h.saved
 
 pub reach_located : (l : Located) (begin head saved temps : ℕ) (slots : List ℕ) → IsLocated l → begin ≡ slots_begin head saved temps → head ≡ head_size l.body → saved ≡ length l.saved → temps ≡ in_frame l.places → slots ≡ l.body.slots → last_reach begin slots < 2 ^ 31
 reach_located l begin head saved temps slots h b e s t same =

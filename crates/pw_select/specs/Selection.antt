@@ -3,6 +3,7 @@ use Rattle.std.specs.Prelude.{ℕ, zero, suc, ℤ, pos, neg_ℤ, ◌+◌, ◌-�
 use Rattle.std.specs.List.{flat_map}
 use Rattle.pw_flow.specs.declared.flow.End.{End}
 use Rattle.pw_flow.specs.declared.flow.End.TheVariants as end
+use Rattle.pw_db.specs.Limits.{first_register, register_count}
 use Rattle.pw_db.specs.declared.database.Web.{Web}
 use Rattle.pw_db.specs.declared.database.Role.{Role}
 use Rattle.pw_inst.specs.Limits.{near_least, near_most}
@@ -55,10 +56,10 @@ loaded_web w = read_global w.global w.kind w.reg
 
 -- the registers that a web may have
 abbrev pub webs_loaded : List (Web × Role) → List Line
-webs_loaded webs = entered_lines loaded_web webs 3 16
+webs_loaded webs = entered_lines loaded_web webs first_register register_count
 
 abbrev pub webs_stored : List (Web × Role) → List Line
-webs_stored webs = entered_lines stored_back webs 3 16
+webs_stored webs = entered_lines stored_back webs first_register register_count
 
 -- ---- parameters
 

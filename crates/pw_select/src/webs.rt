@@ -4,7 +4,7 @@ ghost use Rattle.std.specs.Prelude.{◌≡◌, ◌++◌, None, Some, IfSome, IfN
 ghost use Rattle.pw_select.specs.Selection.{entered_web, lines_of_web, loaded_web, stored_back, webs_loaded, webs_stored};
 
 use pw_alloc::is_entry;
-use pw_db::{Role, Web};
+use pw_db::{FIRST_REGISTER, LAST_REGISTER, Role, Web};
 use pw_inst::Line;
 use pw_items::Items;
 use pw_registers::{put_read, put_write};
@@ -69,7 +69,7 @@ pub fn put_webs_loaded(
 ) -> Result<(), AllocError>
     ensures { OnOk result (out.new ≡ out.old ++ webs_loaded webs.now) }
 {
-    for r in 3..19 {
+    for r in FIRST_REGISTER..LAST_REGISTER + 1 {
         put_web_loaded(alloc, out, webs, r)?;
     }
     Ok(())
@@ -83,7 +83,7 @@ pub fn put_webs_stored(
 ) -> Result<(), AllocError>
     ensures { OnOk result (out.new ≡ out.old ++ webs_stored webs.now) }
 {
-    for r in 3..19 {
+    for r in FIRST_REGISTER..LAST_REGISTER + 1 {
         put_web_stored(alloc, out, webs, r)?;
     }
     Ok(())

@@ -4,15 +4,17 @@ use Rattle.std.specs.List.{AllByRecursion}
 use Rattle.std.proofs.Common.{arith, subst, sym, ap, refl, inl, inr, ◌∙◌}
 use Rattle.std.proofs.Math.IntN.{neg_ℤ-neg_ℤ}
 use Rattle.std.proofs.lemmas.List.Elements.{All-contains, All-from_recursion, Contains-append_left, Contains-append_right, Contains-append_cases, Contains-push_cases}
+use Rattle.pw_db.specs.Limits.{first_register, register_count}
 use Rattle.pw_db.specs.declared.database.Web.{Web}
 use Rattle.pw_db.specs.declared.database.Role.{Role}
 use Rattle.pw_db.specs.declared.database.Role.TheVariants.{Entry, Member}
-use Rattle.pw_db.specs.Database.{EachTwo, IsWeb}
+use Rattle.pw_db.specs.Database.{IsWeb}
 use Rattle.pw_webflow.specs.declared.web.WebFn.{WebFn}
 use Rattle.pw_alloc.specs.declared.located.Place.{Place}
 use Rattle.pw_alloc.specs.declared.located.Place.TheVariants.{Slot, Reg}
 use Rattle.pw_alloc.specs.Allocation.{is_entry, is_entered, entered_from, saved_of, slots_from, allocated}
 use Rattle.pw_alloc.specs.Frames.{head_size, temp_offset, slots_begin, last_reach}
+use Rattle.pw_alloc.proofs.SavedLaws.{rises}
 use Rattle.pw_webrun.specs.Serving.{Interfere, by_operation, by_start, parameters, IsKept, slots_alone, Changes, places, enters, Serves}
 use Rattle.std.proofs.lemmas.Bool.{cases_lt, eqb-true, eqb-false}
 use Rattle.std.proofs.lemmas.Option.{slice_get_past}
@@ -207,28 +209,6 @@ so_saved webs r (suc more) q low high e = elim (cases_lt r q) [
       (subst (Contains (r ∷ entered_from webs (suc r) more)) (sym same) (first_there r (entered_from webs (suc r) more)))
 ]
 
-above_step : (b : Bool) (low r : ℕ) (rest : List ℕ) → low < r → AllByRecursion (λ q. low < q) rest → AllByRecursion (λ q. low < q) (if b then r ∷ rest else rest)
-above_step true low r rest up all = (up, all)
-above_step false low r rest up all = all
-
-above : (webs : List (Web × Role)) (low r more : ℕ) → low < r → AllByRecursion (λ q. low < q) (entered_from webs r more)
-unfolding entered_from
-above webs low r zero up = tt
-above webs low r (suc more) up =
-    let next : low < suc r = omega (arith, up) in
-    above_step (is_entered webs r) low r (entered_from webs (suc r) more) up (above webs low (suc r) more next)
-
-rise_step : (b : Bool) (r : ℕ) (rest : List ℕ) → AllByRecursion (λ q. r < q) rest → EachTwo (λ r q. r < q) rest → EachTwo (λ r q. r < q) (if b then r ∷ rest else rest)
-rise_step true r rest all rise = (all, rise)
-rise_step false r rest all rise = rise
-
-rises : (webs : List (Web × Role)) (r more : ℕ) → EachTwo (λ r q. r < q) (entered_from webs r more)
-unfolding entered_from
-rises webs r zero = tt
-rises webs r (suc more) =
-    let up : r < suc r = omega arith in
-    rise_step (is_entered webs r) r (entered_from webs (suc r) more) (above webs r (suc r) more up) (rises webs (suc r) more)
-
 -- ---- together
 
 changes : (f : WebFn) → AllByRecursion IsWeb (map (λ w. w.0) f.directives.webs) → (r : ℕ) → Changes f (allocated f) r → Contains (saved_of f) r
@@ -239,9 +219,9 @@ changes f lawful r (enters has) =
     (All-from_recursion IsWeb (map (λ w. w.0) f.directives.webs) lawful)
     (map_there f.directives.webs (has.web, Entry) has.there) in
     let is : has.web.reg ≡ r = has.is in
-    let low : 3 ≤ r = omega (arith, web.low, is) in
-    let high : r < 3 + 16 = omega (arith, web.high, is) in
-    so_saved f.directives.webs 3 16 r low high (enters_so f.directives.webs has.web r has.there has.is)
+    let low : first_register ≤ r = omega (arith, web.low, is) in
+    let high : r < first_register + register_count = omega (arith, web.high, is) in
+    so_saved f.directives.webs first_register register_count r low high (enters_so f.directives.webs has.web r has.there has.is)
   where
     map_there : (webs : List (Web × Role)) (w : Web × Role) → Contains webs w → Contains (map (λ w. w.0) webs) w.0
     map_there [] w c = absurd (nowhere w c)
@@ -255,7 +235,7 @@ changes f lawful r (enters has) =
 
 changed : (f : WebFn) (r : ℕ) → Contains (saved_of f) r → Changes f (allocated f) r
 changed f r c =
-    let k = saved_so f.directives.webs 3 16 r c in
+    let k = saved_so f.directives.webs first_register register_count r c in
     let e = entered_by f.directives.webs r k.2 in
     enters (record { web = e.web; there = e.there; is = e.is })
 
@@ -273,7 +253,7 @@ serves f lawful =
       held = λ t place h e. subst KeptIn e (all_kept head saved 0 f.temps t);
       registers = λ r c. absurd (no_register head saved f.temps r c);
       saved = λ r. (changed f r, changes f lawful r);
-      order = rises f.directives.webs 3 16;
+      order = rises f.directives.webs first_register register_count;
       words = words ∙ ap (slots_from head saved 0) (sym count);
       frame = ap (λ (n : ℕ). last_reach (slots_begin head saved n) f.slots) (sym count);
     }

@@ -2,6 +2,7 @@
 use Rattle.std.specs.Prelude.{◌≡◌, false, List, ◌++◌, map}
 use Rattle.pw_tree.specs.Symbols as symbol
 use Rattle.pw_tree.specs.Symbols.{Symbol, spelled}
+use Rattle.pw_tree.specs.Trees.{Expr, Unary, Chain, Conditional, Assign}
 use Rattle.pw_spell.specs.declared.spelled.Spelled.{Spelled}
 use Rattle.pw_spell.specs.declared.spelled.Writer.{Writer}
 
@@ -23,3 +24,11 @@ Goes rest whole old new = new.full ≡ false → (old.full ≡ false) × ((z : L
 -- The same for whatever rest of a list is still to come.
 abbrev pub GoesBefore : {A : Type 0} → (A → List Symbol → List Symbol) → (A → List Symbol → List Symbol) → Writer → Writer → Type 0
 GoesBefore {A = A} rest whole old new = new.full ≡ false → (old.full ≡ false) × ((more : A) (z : List Symbol) → followed new.tokens.items (rest more z) ≡ followed old.tokens.items (whole more z))
+
+-- the expression's operands have operators before or between them
+abbrev pub HasOperators : Expr → Type 0
+HasOperators (Unary n op e) = Unit {0}
+HasOperators (Chain e ops) = Unit {0}
+HasOperators (Conditional n c a b) = Unit {0}
+HasOperators (Assign n op l r) = Unit {0}
+HasOperators _ = ⊥

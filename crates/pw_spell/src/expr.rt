@@ -5,7 +5,7 @@ ghost use Rattle.pw_tree.specs.declared.symbol.Mark.TheVariants as mark;
 ghost use Rattle.pw_tree.specs.Spelling as spell;
 ghost use Rattle.pw_tree.specs.Symbols.{Sign, unary_symbol};
 ghost use Rattle.pw_tree.specs.Views as view;
-ghost use Rattle.pw_spell.specs.Writing.{Writes, GoesBefore};
+ghost use Rattle.pw_spell.specs.Writing.{GoesBefore, HasOperators, Writes};
 
 use crate::spelled::Writer;
 use pw_token::TokenKind;
@@ -56,14 +56,6 @@ impl Writer {
                 self.expr(operand);
                 self.postfixes(operations);
             }
-            Expr::Unary {
-                token: _,
-                operator,
-                operand,
-            } => {
-                self.unary_operator(*operator);
-                self.expr(operand);
-            }
             Expr::SizeofType { token: _, named } => {
                 self.keyword(Keyword::Sizeof);
                 self.type_in_parens(named);
@@ -74,6 +66,30 @@ impl Writer {
                 operand,
             } => {
                 self.type_in_parens(named);
+                self.expr(operand);
+            }
+            Expr::Unary { .. }
+            | Expr::Chain { .. }
+            | Expr::Conditional { .. }
+            | Expr::Assign { .. } => self.with_operators(e),
+        }
+    }
+
+    /// An expression whose operands have operators before or between them.
+    #[cycle(spell)]
+    #[tactic(auto, unfolding(pw_tree::specs::Views::view_expr, pw_tree::specs::Spelling::spell_expr))]
+    fn with_operators(&mut self, e: &Expr)
+        requires { HasOperators (view.view_expr e.now) }
+        ensures { Writes (spell.spell_expr (view.view_expr e.now)) self.old self.new }
+    {
+        expressions_show_their_lists();
+        match e {
+            Expr::Unary {
+                token: _,
+                operator,
+                operand,
+            } => {
+                self.unary_operator(*operator);
                 self.expr(operand);
             }
             Expr::Chain { first, rest } => {
@@ -102,6 +118,7 @@ impl Writer {
                 self.mark(operator.mark());
                 self.expr(right);
             }
+            _ => unreachable!(),
         }
     }
 

@@ -1,5 +1,5 @@
 -- The summary of a lawful flow graph is a lawful summary.
-use Rattle.std.proofs.Common.{◌≡◌, ℕ, zero, suc, ◌+◌, ◌<◌, ◌≤◌, ◌^◌, Bool, true, false, cond, List, [], ◌∷◌, length, map, refl, sym, ap, subst, ◌∙◌, arith, inl, inr}
+use Rattle.std.proofs.Common.{◌≡◌, ℕ, zero, suc, ◌+◌, ◌<◌, ◌≤◌, Bool, true, false, cond, List, [], ◌∷◌, length, map, refl, sym, ap, subst, ◌∙◌, arith, inl, inr}
 use Rattle.std.specs.Prelude.{Contains, Option, Some, None, min}
 use Rattle.std.specs.List.{AllByRecursion, flat_map}
 use Rattle.std.specs.Str.{bytes_eq}
@@ -18,7 +18,7 @@ use Rattle.pw_value.specs.ProgramNames.{start_name, main_name, times, KeepsStart
 use Rattle.pw_value.proofs.StartLaws.{stands_by_times}
 use Rattle.pw_summary.specs.declared.summary.Uses.{Uses}
 use Rattle.pw_summary.specs.declared.summary.Summary.{Summary}
-use Rattle.pw_summary.specs.Summary.{IsUses, IsSummary, global_names as names_of_globals, function_names as names_of_functions}
+use Rattle.pw_summary.specs.Summary.{IsUses, IsSummary, global_names as names_of_globals, function_names as names_of_functions, weight_bound}
 use Rattle.pw_summarise.specs.Summarises.{called, referenced, addressed, in_function, in_module, most, reference, function_shape, as_taken, taken_of, global_entry, function_entry, function_entries, IsUsesOf, AreUsesOf, Summarises}
 use Rattle.pw_files.proofs.Standing.{Has, contains_by, has_by, has_each, each_by, has_left, has_right, has_split, has_map_back, has_flat, has_flat_back}
 use Rattle.pw_files.proofs.Views.{seen}
@@ -61,7 +61,7 @@ not_start m valid h = has_each IsOrdinary (named_in m) start_name valid.parts.or
 
 -- ---- what functions use
 
-capped : (n : ℕ) → min most n < 2 ^ 32
+capped : (n : ℕ) → min most n < weight_bound
 capped n = omega arith
 
 is_uses : (m : FlowModule) → IsValid m → (f : FlowFn) → Has f m.functions → (u : Uses) → IsUsesOf f u → IsUses u
@@ -70,9 +70,9 @@ is_uses m valid f there u is = record {
   no_call = λ h. not_start m valid (of_function called called_named m f there start_name (has_by start_name (in_function called f) ((is.calls.of start_name).0 h)));
   shapes = subst IsRising (map-id u.shapes) is.shapes.rising;
   refs = is.refs.rising;
-  weights = each_by (λ (r : List ℕ × ℕ × ℕ). (r.1 < 2 ^ 32) × (r.2 < 2 ^ 32)) u.refs (λ r h.
+  weights = each_by (λ (r : List ℕ × ℕ × ℕ). (r.1 < weight_bound) × (r.2 < weight_bound)) u.refs (λ r h.
       let p = has_map_back (reference f) r (in_function referenced f) (has_by r (map (reference f) (in_function referenced f)) ((is.refs.of r).0 (contains_by r u.refs h))) in
-      subst (λ (r : List ℕ × ℕ × ℕ). (r.1 < 2 ^ 32) × (r.2 < 2 ^ 32)) p.2 (capped _, capped _));
+      subst (λ (r : List ℕ × ℕ × ℕ). (r.1 < weight_bound) × (r.2 < weight_bound)) p.2 (capped _, capped _));
 }
 
 all_uses : (m : FlowModule) → IsValid m → (entries : List (List ℕ × List ℕ)) (us : List Uses) → AreUsesOf m.functions entries us → AllByRecursion IsUses us
@@ -117,11 +117,11 @@ globals_over m s is name h = subst (λ (ns : List (List ℕ)). Contains ns name)
 keeps_start : (m : FlowModule) (s : Summary) → IsValid m → Summarises m s → KeepsStart (names_of_functions s) (names_of_globals s)
 keeps_start m s valid is = record {
   beside = (
-    λ h. functions_back m s is main_name (valid.names.start.included.0 (functions_over m s is start_name h)),
-    λ h. functions_back m s is start_name (valid.names.start.included.1 (functions_over m s is main_name h)),
+    λ h. functions_back m s is main_name (valid.names.start.beside.0 (functions_over m s is start_name h)),
+    λ h. functions_back m s is start_name (valid.names.start.beside.1 (functions_over m s is main_name h)),
   );
   once = once start_name None (names_of_functions s) is.functions.rising;
-  no_global = λ h. has_each IsOrdinary (global_names m) start_name valid.names.start.no_global (has_by start_name (global_names m) (globals_over m s is start_name h)) refl;
+  no_global = λ h. valid.names.start.no_global (globals_over m s is start_name h);
 }
 
 -- ---- the summary

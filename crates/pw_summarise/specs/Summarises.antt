@@ -1,5 +1,5 @@
 -- What a summary says of a module's flow graph.
-use Rattle.std.specs.Prelude.{ℕ, ◌≡◌, ◌*◌, ◌^◌, ◌↔◌, ◌==◌, Bool, false, if◌then◌else◌, Option, Some, None, List, [], ◌∷◌, ◌++◌, map, min, count_by, Contains}
+use Rattle.std.specs.Prelude.{ℕ, ◌≡◌, ◌*◌, ◌-◌, ◌^◌, ◌↔◌, ◌==◌, Bool, false, if◌then◌else◌, Option, Some, None, List, [], ◌∷◌, ◌++◌, map, min, count_by, Contains}
 use Rattle.std.specs.List.{flat_map, sum_by}
 use Rattle.std.specs.Str.{bytes_eq}
 use Rattle.pw_value.specs.declared.value.Kind.{Kind}
@@ -10,6 +10,7 @@ use Rattle.pw_flow.specs.declared.flow.FlowModule.{FlowModule}
 use Rattle.pw_flow.specs.declared.flow.Op.TheVariants.{AddrGlobal, AddrFn, LoadG, StoreG, Call, CallInd}
 use Rattle.pw_flow.specs.FlowGraph.{names_in_global, named_in}
 use Rattle.pw_files.specs.Rising.{IsRising}
+use Rattle.pw_summary.specs.Summary.{weight_bound}
 use Rattle.pw_summary.specs.declared.summary.Uses.{Uses}
 use Rattle.pw_summary.specs.declared.summary.Summary.{Summary}
 
@@ -54,7 +55,7 @@ in_module parts m = flat_map names_in_global m.globals ++ flat_map (in_function 
 
 -- the greatest that a summary holds
 abbrev pub most : ℕ
-most = 4294967295
+most = weight_bound - 1
 
 -- the loops from which on deeper ones weigh no more
 abbrev pub deepest : ℕ

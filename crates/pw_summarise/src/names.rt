@@ -2,12 +2,13 @@
 
 ghost use Rattle.std.specs.Prelude.{◌≡◌, ◌++◌, map, OnOk, IfOk};
 ghost use Rattle.std.specs.List.{flat_map};
-ghost use Rattle.pw_flow.specs.FlowGraph.{item_names, op_names, names_in_global};
+ghost use Rattle.pw_flow.specs.FlowGraph.{names_in_global};
 ghost use Rattle.pw_value.specs.FieldNames.{IsTableOf};
 ghost use Rattle.pw_summarise.specs.Summarises.{called, referenced, addressed, in_function, in_module};
 ghost use Rattle.pw_summarise.specs.Tallies.{names_as};
 
-use pw_flow::{Block, FlowFn, FlowGlobal, FlowModule, Item, Op};
+use pw_flow::names::{add_items_of_all, add_op};
+use pw_flow::{Block, FlowFn, FlowModule, Op};
 use pw_items::Items;
 use pw_value::Name;
 use pw_value::fields::names::table_of;
@@ -24,21 +25,6 @@ pub(crate) enum Part {
     Referenced,
     /// The names whose address is taken.
     Addressed,
-}
-
-/// The name that an operation names.
-fn add_named<'a>(names: &mut Vec<&'a Name>, op: &'a Op) -> Result<(), AllocError>
-    ensures { OnOk result (map (λ name. name.now) names.new.items ≡ map (λ name. name.now) names.old.items ++ op_names op.now) }
-{
-    match op {
-        Op::AddrGlobal(_, name, _)
-        | Op::AddrFn(_, name)
-        | Op::LoadG(_, name, _)
-        | Op::StoreG(name, _, _)
-        | Op::Call(_, name, _) => names.push(name)?,
-        _ => {}
-    }
-    Ok(())
 }
 
 /// The function that an operation calls by its name.
@@ -72,11 +58,11 @@ fn add_addressed<'a>(names: &mut Vec<&'a Name>, op: &'a Op) -> Result<(), AllocE
 }
 
 /// The name of an operation, where it is asked for.
-fn add_op<'a>(names: &mut Vec<&'a Name>, part: Part, op: &'a Op) -> Result<(), AllocError>
+fn add_as<'a>(names: &mut Vec<&'a Name>, part: Part, op: &'a Op) -> Result<(), AllocError>
     ensures { OnOk result (map (λ name. name.now) names.new.items ≡ map (λ name. name.now) names.old.items ++ names_as part op.now) }
 {
     match part {
-        Part::Named => add_named(names, op),
+        Part::Named => add_op(names, op),
         Part::Called => add_called(names, op),
         Part::Referenced => add_referenced(names, op),
         Part::Addressed => add_addressed(names, op),
@@ -88,7 +74,7 @@ fn add_ops<'a>(names: &mut Vec<&'a Name>, part: Part, ops: &'a [Op]) -> Result<(
     ensures { OnOk result (map (λ name. name.now) names.new.items ≡ map (λ name. name.now) names.old.items ++ flat_map (names_as part) ops.now) }
 {
     for op in ops {
-        add_op(names, part, op)?;
+        add_as(names, part, op)?;
     }
     Ok(())
 }
@@ -121,28 +107,6 @@ fn add_functions<'a>(
     Ok(())
 }
 
-/// The names of items.
-fn add_items<'a>(names: &mut Vec<&'a Name>, items: &'a [(u32, Item)]) -> Result<(), AllocError>
-    ensures { OnOk result (map (λ name. name.now) names.new.items ≡ map (λ name. name.now) names.old.items ++ flat_map (λ placed. item_names placed.1) items.now) }
-{
-    for (_, item) in items {
-        if let Item::Address(name, _) = item {
-            names.push(name)?;
-        }
-    }
-    Ok(())
-}
-
-/// The names in the items of objects.
-fn add_globals<'a>(names: &mut Vec<&'a Name>, globals: &'a [FlowGlobal]) -> Result<(), AllocError>
-    ensures { OnOk result (map (λ name. name.now) names.new.items ≡ map (λ name. name.now) names.old.items ++ flat_map names_in_global globals.now) }
-{
-    for global in globals {
-        add_items(names, global.items.as_slice())?;
-    }
-    Ok(())
-}
-
 /// The names of a function that are asked for, each once and in byte order.
 pub(crate) fn function_names(
     alloc: Global,
@@ -166,7 +130,7 @@ pub(crate) fn module_names(
     ensures { IfOk result (λ v. IsTableOf v (in_module (names_as part) flow.now)) }
 {
     let mut names = Vec::new(alloc);
-    add_globals(&mut names, flow.globals.as_slice())?;
+    add_items_of_all(&mut names, flow.globals.as_slice())?;
     add_functions(&mut names, part, flow.functions.as_slice())?;
     Ok(Items::from_vec(table_of(alloc, names)?))
 }

@@ -9,11 +9,12 @@ ghost use Rattle.pw_summarise.specs.Tallies.{with_weight as sum_with, with_read,
 use crate::names::{Part, function_names};
 use pw_flow::{Block, FlowFn, Op};
 use pw_items::Items;
+use pw_summary::WEIGHT_BOUND;
 use pw_value::Name;
 use std::alloc::{AllocError, Global};
 
 /// The greatest weight that a summary holds.
-pub const MOST: u64 = 4_294_967_295;
+pub const MOST: u64 = WEIGHT_BOUND - 1;
 
 /// The depth from which on deeper loops weigh no more.
 pub const DEEPEST: u32 = 4;

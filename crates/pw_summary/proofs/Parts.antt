@@ -77,9 +77,23 @@ defined globals count functions declared = (record { globals = globals; function
 abbrev used_names : List (List ℕ) → List (List ℕ × List ℕ) → List (List ℕ) → List Uses → Used
 used_names used taken escaped uses = record { used = used; taken = taken; escaped = escaped; uses = uses }
 
-in_parts : (names : List (List ℕ)) (late : Summary → ℕ → Option ℕ) (bytes : List ℕ) → after (name_at names bytes) (behind_name names late) ≡ fields_at names late bytes
+-- the fields in a row
+abbrev pub row_at : List (List ℕ) → (Summary → ℕ → Option ℕ) → List ℕ → Result (Contents Summary × List ℕ) ℕ
+row_at names late = do
+  name ← name_at names
+  globals ← rising_at (λ g. g.0) (global_at names)
+  count ← here
+  functions ← shaped_list_at names Allowed
+  declared ← shaped_list_at names Allowed
+  used ← name_list_at names Allowed
+  taken ← shaped_list_at names Refused
+  escaped ← name_list_at names Allowed
+  uses ← repeated (uses_at names) (length functions)
+  end_at names late name (defined globals count functions declared) (used_names used taken escaped uses)
+
+pub in_a_row : (names : List (List ℕ)) (late : Summary → ℕ → Option ℕ) (bytes : List ℕ) → fields_at names late bytes ≡ row_at names late bytes
 unfolding fields_at defined_at used_at
-in_parts names late bytes =
+in_a_row names late bytes =
     same_after (name_at names bytes) (behind_name names late) _ (λ m rest.
     four (rising_at (λ g. g.0) (global_at names)) here (shaped_list_at names Allowed) (shaped_list_at names Allowed) defined (behind_defined names late m) _
     (λ globals count functions declared behind.
@@ -97,30 +111,31 @@ stops r next left e = ap (λ f. after f next) e
 pub found_in_parts : (names : List (List ℕ)) (late : Summary → ℕ → Option ℕ) (bytes m first : List ℕ) (d : Defined) (count n : ℕ) (second : List ℕ) (u : Used) (rest name : List ℕ) (s : Summary)
     → name_at names bytes ≡ Ok (m, first) → defined_at names first ≡ Ok ((d, count), second) → n ≡ length d.functions → used_at names n second ≡ Ok (u, rest)
     → name ≡ m → s ≡ whole_summary name d u → fields_at names late bytes ≡ ended (late s count) (contents names s) rest
+unfolding fields_at
 found_in_parts names late bytes m first d count n second u rest name s e1 e2 en e3 em es =
-    sym (in_parts names late bytes)
-    ∙ passes (name_at names bytes) (behind_name names late) m first e1
+    passes (name_at names bytes) (behind_name names late) m first e1
     ∙ passes (defined_at names first) (behind_defined names late m) (d, count) second e2
     ∙ passes (used_at names (length d.functions) second) (end_at names late m (d, count)) u rest (ap (λ k. used_at names k second) (sym en) ∙ e3)
     ∙ ap (λ x. ended (late x count) (contents names x) rest) (sym (es ∙ ap (λ x. whole_summary x d u) em))
 
 pub fault_in_name : (names : List (List ℕ)) (late : Summary → ℕ → Option ℕ) (bytes : List ℕ) (e : FieldError) → Fails e (name_at names bytes) → Fails e (fields_at names late bytes)
+unfolding fields_at
 fault_in_name names late bytes field.NoMemory h = tt
-fault_in_name names late bytes (field.Fault left) h = sym (in_parts names late bytes) ∙ stops (name_at names bytes) (behind_name names late) left h
+fault_in_name names late bytes (field.Fault left) h = stops (name_at names bytes) (behind_name names late) left h
 
 pub fault_in_defined : (names : List (List ℕ)) (late : Summary → ℕ → Option ℕ) (bytes m first : List ℕ) (e : FieldError)
     → name_at names bytes ≡ Ok (m, first) → Fails e (defined_at names first) → Fails e (fields_at names late bytes)
+unfolding fields_at
 fault_in_defined names late bytes m first field.NoMemory e1 h = tt
 fault_in_defined names late bytes m first (field.Fault left) e1 h =
-    sym (in_parts names late bytes)
-    ∙ passes (name_at names bytes) (behind_name names late) m first e1
+    passes (name_at names bytes) (behind_name names late) m first e1
     ∙ stops (defined_at names first) (behind_defined names late m) left h
 
 pub fault_in_used : (names : List (List ℕ)) (late : Summary → ℕ → Option ℕ) (bytes m first : List ℕ) (d : Defined) (count n : ℕ) (second : List ℕ) (e : FieldError)
     → name_at names bytes ≡ Ok (m, first) → defined_at names first ≡ Ok ((d, count), second) → n ≡ length d.functions → Fails e (used_at names n second) → Fails e (fields_at names late bytes)
+unfolding fields_at
 fault_in_used names late bytes m first d count n second field.NoMemory e1 e2 en h = tt
 fault_in_used names late bytes m first d count n second (field.Fault left) e1 e2 en h =
-    sym (in_parts names late bytes)
-    ∙ passes (name_at names bytes) (behind_name names late) m first e1
+    passes (name_at names bytes) (behind_name names late) m first e1
     ∙ passes (defined_at names first) (behind_defined names late m) (d, count) second e2
     ∙ stops (used_at names (length d.functions) second) (end_at names late m (d, count)) left (ap (λ k. used_at names k second) (sym en) ∙ h)

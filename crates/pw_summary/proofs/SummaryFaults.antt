@@ -1,22 +1,19 @@
 -- A fault of a summary's fields rests on the bytes up to the faulty field's end.
 use Rattle.std.proofs.Common.{ℕ, List, length}
-use Rattle.std.specs.Prelude.{Option, None, Bool}
-use Rattle.pw_value.specs.Fields.{u64_at, repeated}
+use Rattle.std.specs.Prelude.{Option, None}
+use Rattle.pw_value.specs.Fields.{u64_at}
 use Rattle.pw_value.specs.declared.program_names.StartName.TheVariants.{Allowed, Refused}
-use Rattle.pw_value.specs.FieldFrame.{here}
 use Rattle.pw_value.specs.FieldNames.{name_at}
-use Rattle.pw_files.specs.Rising.{rising_at}
-use Rattle.pw_files.specs.Names.{name_list_at, shaped_list_at}
 use Rattle.pw_files.specs.Contents.{Contents, value_of}
 use Rattle.pw_files.specs.Faults.{FaultsStay}
 use Rattle.pw_files.proofs.OnwardLaws.{Onward, one_onward, behind, done_onward, here_onward, ended_onward, checked_one, u64_one, text_one, flag_one, kind_one, name_one, repeated_onward, rising_onward, name_above_one, name_list_onward, text_list_onward, shaped_list_onward}
 use Rattle.pw_files.proofs.FaultLaws.{Keeps, keeps_behind, keeps_ended, contents_onward, contents_keep}
 use Rattle.pw_files.proofs.FaultLaws as files
-use Rattle.pw_value.specs.declared.value.Kind.{Kind}
-use Rattle.pw_summary.specs.declared.summary.Uses.{Uses}
+use Rattle.pw_summary.specs.declared.summary.Defined.{Defined}
+use Rattle.pw_summary.specs.declared.summary.Used.{Used}
 use Rattle.pw_summary.specs.declared.summary.Summary.{Summary}
-use Rattle.pw_summary.specs.Summary.{kind, summary_version}
-use Rattle.pw_summary.specs.Reading.{global_at, weight_at, reference_at, uses_at, last_rules, fields_at, summary_file_at}
+use Rattle.pw_summary.specs.Summary.{whole_summary, kind, summary_version}
+use Rattle.pw_summary.specs.Reading.{global_at, weight_at, reference_at, uses_at, defined_at, used_at, last_rules, fields_at, summary_file_at}
 
 global_onward : (names : List (List ℕ)) (before : Option (List ℕ)) → Onward (global_at names before)
 unfolding global_at
@@ -34,25 +31,31 @@ uses_onward : (names : List (List ℕ)) → Onward (uses_at names)
 unfolding uses_at
 uses_onward names = behind _ _ (name_list_onward names Refused) (λ calls. behind _ _ text_list_onward (λ shapes. behind _ _ (rising_onward _ _ (reference_onward names)) (λ refs. done_onward _)))
 
-abbrev summary : List ℕ → List (List ℕ × List ℕ × Option Kind × Bool) → List (List ℕ × List ℕ) → List (List ℕ × List ℕ) → List (List ℕ) → List (List ℕ × List ℕ) → List (List ℕ) → List Uses → Summary
-summary m globals functions declared used taken escaped uses = record { «module» = m; globals = globals; functions = functions; declared = declared; used = used; taken = taken; escaped = escaped; uses = uses }
+defined_onward : (names : List (List ℕ)) → Onward (defined_at names)
+unfolding defined_at
+defined_onward names =
+    behind _ _ (rising_onward _ _ (global_onward names)) (λ globals. behind _ _ here_onward (λ count. behind _ _ (shaped_list_onward names Allowed) (λ functions.
+    behind _ _ (shaped_list_onward names Allowed) (λ declared. done_onward (record { globals = globals; functions = functions; declared = declared }, count)))))
 
-abbrev contents : List (List ℕ) → List ℕ → List (List ℕ × List ℕ × Option Kind × Bool) → List (List ℕ × List ℕ) → List (List ℕ × List ℕ) → List (List ℕ) → List (List ℕ × List ℕ) → List (List ℕ) → List Uses → Contents Summary
-contents names m globals functions declared used taken escaped uses = record { names = names; value = summary m globals functions declared used taken escaped uses }
+used_onward : (names : List (List ℕ)) (functions : ℕ) → Onward (used_at names functions)
+unfolding used_at
+used_onward names functions =
+    behind _ _ (name_list_onward names Allowed) (λ used. behind _ _ (shaped_list_onward names Refused) (λ taken. behind _ _ (name_list_onward names Allowed) (λ escaped.
+    behind _ _ (repeated_onward _ (uses_onward names) functions) (λ uses. done_onward _))))
+
+abbrev contents : List (List ℕ) → List ℕ → Defined → Used → Contents Summary
+contents names name d u = record { names = names; value = whole_summary name d u }
 
 fields_onward : (names : List (List ℕ)) → Onward (fields_at names (λ s count. None))
 unfolding fields_at
 fields_onward names =
-    behind _ _ (one_onward _ (name_one names)) (λ m. behind _ _ (rising_onward _ _ (global_onward names)) (λ globals. behind _ _ here_onward (λ count. behind _ _ (shaped_list_onward names Allowed) (λ functions.
-    behind _ _ (shaped_list_onward names Allowed) (λ declared. behind _ _ (name_list_onward names Allowed) (λ used. behind _ _ (shaped_list_onward names Refused) (λ taken. behind _ _ (name_list_onward names Allowed) (λ escaped.
-    behind _ _ (repeated_onward _ (uses_onward names) (length functions)) (λ uses. ended_onward (contents names m globals functions declared used taken escaped uses))))))))))
+    behind _ _ (one_onward _ (name_one names)) (λ name. behind _ _ (defined_onward names) (λ d. behind _ _ (used_onward names (length d.0.functions)) (λ u. ended_onward (contents names name d.0 u))))
 
 fields_keep : (names : List (List ℕ)) (rule : Summary → ℕ → Option ℕ) → Keeps (fields_at names (λ s count. None)) (fields_at names rule)
 unfolding fields_at
 fields_keep names rule =
-    keeps_behind (name_at names) _ _ (λ m. keeps_behind (rising_at (λ g. g.0) (global_at names)) _ _ (λ globals. keeps_behind here _ _ (λ count. keeps_behind (shaped_list_at names Allowed) _ _ (λ functions.
-    keeps_behind (shaped_list_at names Allowed) _ _ (λ declared. keeps_behind (name_list_at names Allowed) _ _ (λ used. keeps_behind (shaped_list_at names Refused) _ _ (λ taken. keeps_behind (name_list_at names Allowed) _ _ (λ escaped.
-    keeps_behind (repeated (uses_at names) (length functions)) _ _ (λ uses. keeps_ended (rule (summary m globals functions declared used taken escaped uses) count) (contents names m globals functions declared used taken escaped uses))))))))))
+    keeps_behind (name_at names) _ _ (λ name. keeps_behind (defined_at names) _ _ (λ d. keeps_behind (used_at names (length d.0.functions)) _ _ (λ u.
+    keeps_ended (rule (whole_summary name d.0 u) d.1) (contents names name d.0 u))))
 
 pub faults_stay : FaultsStay kind summary_version fields_at (λ bytes. value_of (summary_file_at bytes))
 faults_stay = files.faults_stay kind summary_version fields_at last_rules (contents_onward fields_at fields_onward) (contents_keep fields_at last_rules fields_keep)

@@ -1,5 +1,5 @@
 -- What is read is the file of a summary, and the file of a summary is read.
-use Rattle.std.proofs.Common.{◌≡◌, ℕ, ◌<◌, ◌^◌, Bool, List, [], ◌∷◌, ◌++◌, length, map, Result, Ok, refl, sym, ap, subst, ◌∙◌, append_assoc, arith, lit<}
+use Rattle.std.proofs.Common.{◌≡◌, ℕ, ◌<◌, Bool, List, [], ◌∷◌, ◌++◌, length, map, Result, Ok, refl, sym, ap, subst, ◌∙◌, append_assoc, arith, lit<}
 use Rattle.std.specs.Prelude.{IsTrue, IfOk, Option, Contains, nat_lt}
 use Rattle.std.specs.List.{flat_map, AllByRecursion}
 use Rattle.std.proofs.lemmas.Bool.{ltb-true, lt-ltb}
@@ -28,8 +28,9 @@ use Rattle.pw_files.proofs.ContentsLaws.{ModuleRules, module_rules_forth, module
 use Rattle.pw_files.proofs.ContentsLaws as files
 use Rattle.pw_summary.specs.declared.summary.Uses.{Uses}
 use Rattle.pw_summary.specs.declared.summary.Summary.{Summary}
-use Rattle.pw_summary.specs.Summary.{global_names, function_names, IsUses, IsSummary, global, reference, uses, others, names_of_uses, names_of, FitsUses, FitsSummary, spelling, kind, summary_version, IsSummaryFile}
+use Rattle.pw_summary.specs.Summary.{global_names, function_names, IsUses, IsSummary, global, reference, uses, others, names_of_uses, names_of, FitsUses, FitsSummary, spelling, kind, summary_version, weight_bound, IsSummaryFile}
 use Rattle.pw_summary.specs.Reading.{global_at, weight_at, reference_at, uses_at, last_rules, fields_at, summary_file_at}
+use Rattle.pw_summary.proofs.Parts.{row_at, in_a_row}
 
 -- ---- items
 
@@ -47,11 +48,11 @@ global_spells names table before = format (global names) (FitsBehind (λ g. g.0)
     (λ g. refl) (λ g h. ((h.0.0, h.1.0), h.0.1)) (λ g h. ((h.0.0, h.1), (h.0.1, (tt, (tt, tt)))))
 
 abbrev FitsWeight : ℕ → Type 0
-FitsWeight n = n < 2 ^ 32
+FitsWeight n = n < weight_bound
 
 weight_spells : Spells u64 FitsWeight weight_at
 unfolding weight_at
-weight_spells = refit u64 (λ n. FitsU64 n × IsTrue (nat_lt n (2 ^ 32))) FitsWeight _ (λ n h. ltb-true _ _ h.1) (λ n h. (omega (arith, h), lt-ltb _ _ h)) (checked_spells u64 FitsU64 u64_at (λ n. nat_lt n (2 ^ 32)) u64_spells)
+weight_spells = refit u64 (λ n. FitsU64 n × IsTrue (nat_lt n weight_bound)) FitsWeight _ (λ n h. ltb-true _ _ h.1) (λ n h. (omega (arith, h), lt-ltb _ _ h)) (checked_spells u64 FitsU64 u64_at (λ n. nat_lt n weight_bound) u64_spells)
 
 abbrev FitsReference : List (List ℕ) → List ℕ × ℕ × ℕ → Type 0
 FitsReference names r = FitsName names Allowed r.0 × (FitsWeight r.1 × FitsWeight r.2)
@@ -93,17 +94,16 @@ abbrev body : List (List ℕ) → Summary → List ℕ
 body names s = name_index names s.module ++ (counted (global names) s.globals ++ (counted (shaped names) s.functions ++ (counted (shaped names) s.declared
     ++ (counted (name_index names) s.used ++ (counted (shaped names) s.taken ++ (counted (name_index names) s.escaped ++ (flat_map (uses names) s.uses ++ [])))))))
 
-in_a_row : (a b c d tail : List ℕ) → a ++ (b ++ (c ++ (d ++ tail))) ≡ (a ++ (b ++ (c ++ (d ++ [])))) ++ (tail ++ [])
-in_a_row a b c d tail = simp (append_assoc, append-nil)
+regrouped : (a b c d tail : List ℕ) → a ++ (b ++ (c ++ (d ++ tail))) ≡ (a ++ (b ++ (c ++ (d ++ [])))) ++ (tail ++ [])
+regrouped a b c d tail = simp (append_assoc, append-nil)
 
 abbrev BodySteps : List (List ℕ) → Summary → Type 0
 BodySteps names s = Contains names s.module × (FitsRising (λ g. g.0) (FitsGlobal names) s.globals × (Functions names s.functions × (Functions names s.declared
     × (FitsRising (λ name. name) (FitsName names Allowed) s.used × (FitsRising (λ f. f.0) (FitsShaped names Refused) s.taken × (FitsRising (λ name. name) (FitsName names Allowed) s.escaped
     × (((length s.uses ≡ length s.functions) × AllByRecursion (UsesSteps names) s.uses) × LastRules names s)))))))
 
-summary_steps : (names : List (List ℕ)) → IsNameTable names → (behind : ℕ) → Completes {X = Contents Summary} Nothing (λ c. Unit {0} × (c.names ≡ names)) (λ c. body names c.value) (λ c. BodySteps names c.value) (fields_at names (last_rules names behind))
-unfolding fields_at
-summary_steps names table behind =
+row_steps : (names : List (List ℕ)) → IsNameTable names → (behind : ℕ) → Completes {X = Contents Summary} Nothing (λ c. Unit {0} × (c.names ≡ names)) (λ c. body names c.value) (λ c. BodySteps names c.value) (row_at names (last_rules names behind))
+row_steps names table behind =
     step _ _ (name_index names) (Contains names) (name_at names) _ _ _ (λ c. c.value.module) (name_spells names table)
     (λ m m_fits. step _ _ (counted (global names)) (FitsRising (λ g. g.0) (FitsGlobal names)) (rising_at (λ g. g.0) (global_at names)) _ _ _ (λ c. c.value.globals)
     (rising_spells (global names) (λ g. g.0) (FitsGlobal names) (global_at names) (global_spells names table))
@@ -123,6 +123,15 @@ summary_steps names table behind =
     (((((((((tt, refl), refl), refl), refl), refl), refl), refl), refl), refl)
     (λ c k. sym (λ j. record { names = k.0.0.0.0.0.0.0.0.1 j; value = record { «module» = k.0.0.0.0.0.0.0.1 j; globals = k.0.0.0.0.0.0.1 j; functions = k.0.0.0.0.0.1 j; declared = k.0.0.0.0.1 j; used = k.0.0.0.1 j; taken = k.0.0.1 j; escaped = k.0.1 j; uses = k.1 j } }))
     (module_rules_forth names (names_of s) behind (function_names s) (global_names s) count) (module_rules_back names (names_of s) behind (function_names s) (global_names s) count))))))))))
+
+summary_steps : (names : List (List ℕ)) → IsNameTable names → (behind : ℕ) → Completes {X = Contents Summary} Nothing (λ c. Unit {0} × (c.names ≡ names)) (λ c. body names c.value) (λ c. BodySteps names c.value) (fields_at names (last_rules names behind))
+summary_steps names table behind =
+    let row = row_steps names table behind in
+    let same = in_a_row names (last_rules names behind) in
+    record {
+      takes = λ bytes c rest fits e. row.takes bytes c rest fits (sym (same bytes) ∙ e);
+      again = λ c rest follows known fits. same (body names c.value ++ rest) ∙ row.again c rest follows known fits;
+    }
 
 abbrev ContentsSteps : Contents Summary → Type 0
 ContentsSteps c = IsNameTable c.names × BodySteps c.names c.value
@@ -149,7 +158,7 @@ uses_forth names u h = record {
   no_call = λ k. never_start (λ name. name) u.calls (each_weaker (FitsName names Refused) (λ name. IsTrue (may_stand Refused name)) (λ name f. f.1) u.calls h.0.each) (subst (λ (xs : List (List ℕ)). Contains xs start_name) (sym (same_names u.calls)) k);
   shapes = rises u.shapes h.1.0.rising;
   refs = h.1.1.0.rising;
-  weights = each_weaker (FitsReference names) (λ r. (r.1 < 2 ^ 32) × (r.2 < 2 ^ 32)) (λ r f. (f.1.0, f.1.1)) u.refs h.1.1.0.each;
+  weights = each_weaker (FitsReference names) (λ r. (r.1 < weight_bound) × (r.2 < weight_bound)) (λ r f. (f.1.0, f.1.1)) u.refs h.1.1.0.each;
 }
 
 uses_fit : (names : List (List ℕ)) (u : Uses) → UsesSteps names u → FitsUses u
@@ -240,7 +249,7 @@ uses_back names u is fits used = (
     record { count = fits.shapes.0; rising = rises_back u.shapes is.shapes; each = fits.shapes.1 },
     (
       items_back (λ r. r.0) (λ r. FitsWeight r.1 × FitsWeight r.2) names Allowed u.refs fits.refs is.refs (used_back u.calls (map (λ r. r.0) u.refs) names used) (each_may (λ r. r.0) u.refs)
-          (each_weaker (λ r. (r.1 < 2 ^ 32) × (r.2 < 2 ^ 32)) (λ r. FitsWeight r.1 × FitsWeight r.2) (λ r k. (k.0, k.1)) u.refs is.weights),
+          (each_weaker (λ r. (r.1 < weight_bound) × (r.2 < weight_bound)) (λ r. FitsWeight r.1 × FitsWeight r.2) (λ r k. (k.0, k.1)) u.refs is.weights),
       tt,
     ),
   ),
@@ -291,7 +300,7 @@ contents_back c is =
 
 pub contents_spells : SpellsWhole spelling (IsContents IsSummary FitsSummary names_of) (contents_at fields_at last_rules)
 contents_spells = contents_spell fields_at last_rules spelling body BodySteps (IsContents IsSummary FitsSummary names_of) summary_steps
-    (λ c. ap (λ (w : List ℕ). name_table c.names ++ w) (in_a_row (name_index c.names c.value.module) (counted (global c.names) c.value.globals) (counted (shaped c.names) c.value.functions) (counted (shaped c.names) c.value.declared) (others c.names c.value)))
+    (λ c. ap (λ (w : List ℕ). name_table c.names ++ w) (regrouped (name_index c.names c.value.module) (counted (global c.names) c.value.globals) (counted (shaped c.names) c.value.functions) (counted (shaped c.names) c.value.declared) (others c.names c.value)))
     contents_forth contents_back
 
 -- ---- the file

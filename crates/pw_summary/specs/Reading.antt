@@ -1,5 +1,5 @@
 -- Reading a summary file from left to right, with the first fault that is met.
-use Rattle.std.specs.Prelude.{ℕ, Bool, nat_lt, ◌^◌, List, length, Option, Result}
+use Rattle.std.specs.Prelude.{ℕ, Bool, nat_lt, List, length, Option, Result}
 use Rattle.pw_value.specs.declared.value.Kind.{Kind}
 use Rattle.pw_value.specs.Fields.{◌>>=◌, done, checked, u64_at, text_at, flag_at, repeated}
 use Rattle.pw_value.specs.FieldFrame.{here, ended}
@@ -13,7 +13,7 @@ use Rattle.pw_summary.specs.declared.summary.Defined.{Defined}
 use Rattle.pw_summary.specs.declared.summary.Used.{Used}
 use Rattle.pw_summary.specs.declared.summary.Uses.{Uses}
 use Rattle.pw_summary.specs.declared.summary.Summary.{Summary}
-use Rattle.pw_summary.specs.Summary.{global_names, function_names, names_of, kind, summary_version}
+use Rattle.pw_summary.specs.Summary.{whole_summary, global_names, function_names, names_of, kind, summary_version, weight_bound}
 
 -- ---- items
 
@@ -27,7 +27,7 @@ global_at names before = do
 
 -- a weight of four bytes, in eight
 unfoldable pub weight_at : List ℕ → Result (ℕ × List ℕ) ℕ
-weight_at = checked (λ n. nat_lt n (2 ^ 32)) u64_at
+weight_at = checked (λ n. nat_lt n weight_bound) u64_at
 
 unfoldable pub reference_at : List (List ℕ) → Option (List ℕ) → List ℕ → Result ((List ℕ × ℕ × ℕ) × List ℕ) ℕ
 reference_at names before = do
@@ -43,31 +43,7 @@ uses_at names = do
   refs ← rising_at (λ r. r.0) (reference_at names)
   done (record { calls = calls; shapes = shapes; refs = refs })
 
--- ---- the payload
-
--- The rules that are looked at last: each name of the table is used, where so many bytes are left behind
--- the table; and $start stands beside main, where so many are left from the count of the functions on.
-abbrev pub last_rules : List (List ℕ) → ℕ → Summary → ℕ → Option ℕ
-last_rules names behind s count = module_rules names (names_of s) behind (function_names s) (global_names s) count
-
--- the fields to their end, under such a rule
-unfoldable pub fields_at : List (List ℕ) → (Summary → ℕ → Option ℕ) → List ℕ → Result (Contents Summary × List ℕ) ℕ
-fields_at names late = do
-  «module» ← name_at names
-  globals ← rising_at (λ g. g.0) (global_at names)
-  count ← here
-  functions ← shaped_list_at names Allowed
-  declared ← shaped_list_at names Allowed
-  used ← name_list_at names Allowed
-  taken ← shaped_list_at names Refused
-  escaped ← name_list_at names Allowed
-  uses ← repeated (uses_at names) (length functions)
-  let summary : Summary = record { «module» = «module»; globals = globals; functions = functions; declared = declared; used = used; taken = taken; escaped = escaped; uses = uses } in ended (late summary count) (record { names = names; value = summary })
-
-abbrev pub summary_file_at : List ℕ → Result (Contents Summary) ℕ
-summary_file_at = contents_file_at kind summary_version fields_at last_rules
-
--- ---- the fields in two parts behind the module's name
+-- ---- the payload: the module's name, and two parts behind it
 
 -- what the module defines and declares, and how many bytes are left from the count of the functions on
 unfoldable pub defined_at : List (List ℕ) → List ℕ → Result ((Defined × ℕ) × List ℕ) ℕ
@@ -86,3 +62,19 @@ used_at names functions = do
   escaped ← name_list_at names Allowed
   uses ← repeated (uses_at names) functions
   done (record { used = used; taken = taken; escaped = escaped; uses = uses })
+
+-- The rules that are looked at last: each name of the table is used, where so many bytes are left behind
+-- the table; and $start stands beside main, where so many are left from the count of the functions on.
+abbrev pub last_rules : List (List ℕ) → ℕ → Summary → ℕ → Option ℕ
+last_rules names behind s count = module_rules names (names_of s) behind (function_names s) (global_names s) count
+
+-- the fields to their end, under such a rule
+unfoldable pub fields_at : List (List ℕ) → (Summary → ℕ → Option ℕ) → List ℕ → Result (Contents Summary × List ℕ) ℕ
+fields_at names late = do
+  name ← name_at names
+  defined ← defined_at names
+  used ← used_at names (length defined.0.functions)
+  let summary = whole_summary name defined.0 used in ended (late summary defined.1) (record { names = names; value = summary })
+
+abbrev pub summary_file_at : List ℕ → Result (Contents Summary) ℕ
+summary_file_at = contents_file_at kind summary_version fields_at last_rules

@@ -28,12 +28,16 @@ global_names s = map (λ g. g.0) s.globals
 abbrev pub function_names : Summary → List (List ℕ)
 function_names s = map (λ f. f.0) s.functions
 
+-- what a weight is below
+abbrev pub weight_bound : ℕ
+weight_bound = 2 ^ 32
+
 pub record IsUses (u : Uses) : Type 0 where
   pub calls : IsRising u.calls
   pub no_call : ¬ Contains u.calls start_name
   pub shapes : IsRising u.shapes
   pub refs : IsRising (map (λ r. r.0) u.refs)
-  pub weights : AllByRecursion (λ r. (r.1 < 2 ^ 32) × (r.2 < 2 ^ 32)) u.refs
+  pub weights : AllByRecursion (λ r. (r.1 < weight_bound) × (r.2 < weight_bound)) u.refs
 
 -- each list is in byte order without repeats, and each function has its uses
 pub record IsSummary (s : Summary) : Type 0 where

@@ -8,7 +8,7 @@ ghost use Rattle.pw_value.specs.FieldFrame.{ended};
 ghost use Rattle.pw_files.specs.Rising.{next_key, rising_at};
 ghost use Rattle.pw_files.specs.Contents.{broken_at, value_of};
 ghost use Rattle.pw_summary.specs.declared.summary.Summary.{Summary as AnySummary};
-ghost use Rattle.pw_summary.specs.Summary.{IsSummaryFile, kind as kind_of_file, summary_version};
+ghost use Rattle.pw_summary.specs.Summary.{IsSummaryFile, kind as kind_of_file, summary_version, weight_bound};
 ghost use Rattle.pw_summary.specs.Reading.{global_at, weight_at, reference_at, uses_at, defined_at, used_at, last_rules, fields_at, summary_file_at};
 
 use crate::names::{function_names, global_names, used_names};
@@ -18,7 +18,7 @@ use pw_files::kinds::read_kind;
 use pw_files::late::check_module;
 use pw_files::lists::{read_name_above, read_name_list, read_shape_list, read_shaped_list};
 use pw_items::Items;
-use pw_value::fields::names::read_name;
+use pw_value::fields::names::{find_unused, read_name};
 use pw_value::fields::{FieldError, read_flag, read_text, read_u32, read_u64};
 use pw_value::program_names::StartName;
 use pw_value::{FileError, Kind, Name, Shape};
@@ -30,6 +30,14 @@ pub const KIND: u32 = 0x5041_5753;
 /// The version of the form of a summary file.
 pub(crate) const VERSION: u32 = 1;
 
+/// What a weight is below.
+pub const WEIGHT_BOUND: u64 = 4_294_967_296;
+
+/// The bound is the one that its definition speaks of.
+pub fn bound_of_weights()
+    ensures { WEIGHT_BOUND ≡ weight_bound }
+{}
+
 /// A weight.
 #[tactic(auto, unfolding(crate::specs::Reading::weight_at))]
 fn read_weight(bytes: &[u8]) -> Result<(u64, &[u8]), FieldError>
@@ -37,7 +45,7 @@ fn read_weight(bytes: &[u8]) -> Result<(u64, &[u8]), FieldError>
     ensures no_memory { IfErr result (λ e. e ≢ FieldError.NoMemory) }
 {
     let (weight, rest) = read_u64(bytes)?;
-    if weight <= u64::from(u32::MAX) {
+    if weight < WEIGHT_BOUND {
         Ok((weight, rest))
     } else {
         Err(FieldError::Fault { left: bytes.len() })
@@ -260,9 +268,10 @@ fn check_last(
     ensures { Gives (λ x. x) result (broken_at (last_rules names.now behind summary.now count)) }
 {
     let used = used_names(alloc, summary)?;
+    let unused = find_unused(alloc, names, used, behind)?;
     let functions = function_names(alloc, summary.functions.as_slice())?;
     let globals = global_names(alloc, summary.globals.as_slice())?;
-    check_module(alloc, names, used, behind, &functions, &globals, count)
+    check_module(unused, &functions, &globals, count)
 }
 
 /// Summary files, which are read as all files of the compiler are.

@@ -16,6 +16,7 @@ use Rattle.pw_flow.specs.declared.flow.FlowGlobal.{FlowGlobal}
 use Rattle.pw_flow.specs.declared.flow.FlowModule.{FlowModule}
 use Rattle.pw_flow.specs.FlowGraph.{named_in}
 use Rattle.pw_flow.specs.ValidFlow.{IsGlobal, IsFunction, IsValid}
+use Rattle.pw_flow.proofs.Once.{absent, once}
 use Rattle.pw_lower.specs.Modules.{lowered, lowered_function}
 use Rattle.pw_lower.specs.Statements.{lower_statement, lower_statements}
 use Rattle.pw_lower.specs.Expressions.{lower, place, arguments}
@@ -23,7 +24,7 @@ use Rattle.pw_flowrun.specs.Programs.{Program, Library, PutChar, functions_of, g
 use Rattle.pw_webrun.specs.Programs.{IsProgram, NamesRightly, IsItem, ops_of}
 use Rattle.pw_layers.specs.Lowering.{DeclareAlike, IsAccepted}
 use Rattle.pw_tests_runs.proofs.Programs.{block, function, frames, bump, start}
-use Rattle.pw_tests_runs.proofs.ProgramRows.{are_distinct, all_differ, differ, distinct, lawful_bump, lawful_start}
+use Rattle.pw_tests_runs.proofs.ProgramRows.{are_distinct, all_differ, distinct, lawful_bump, lawful_start}
 use Rattle.pw_tests_runs.proofs.SourceRows.{in_c, tree, well_typed_program}
 
 -- ---- what lowering makes of them
@@ -105,8 +106,9 @@ lawful_module = record {
       declared = distinct (codes "n" ∷ codes "bump" ∷ codes "main" ∷ codes "putchar" ∷ []) refl;
     };
     start = record {
-      included = ((λ c. (1, omega arith, refl)), (λ c. (2, omega arith, refl)));
-      no_global = (differ (codes "n") start_name refl, tt);
+      beside = ((λ c. (1, omega arith, refl)), (λ c. (2, omega arith, refl)));
+      once = once start_name (codes "bump" ∷ codes "main" ∷ codes "$start" ∷ []) (distinct (codes "bump" ∷ codes "main" ∷ codes "$start" ∷ []) refl);
+      no_global = absent start_name (codes "n" ∷ []) (all_differ start_name (codes "n" ∷ []) refl);
     };
   };
 }

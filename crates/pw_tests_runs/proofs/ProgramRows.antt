@@ -13,6 +13,7 @@ use Rattle.pw_flow.specs.declared.flow.FlowGlobal.{FlowGlobal}
 use Rattle.pw_flow.specs.declared.flow.FlowModule.{FlowModule}
 use Rattle.pw_flow.specs.FlowGraph.{named_in}
 use Rattle.pw_flow.specs.ValidFlow.{IsGlobal, IsFunction, IsValid, AreDistinct}
+use Rattle.pw_flow.proofs.Once.{absent, once}
 use Rattle.pw_flowrun.specs.Programs.{functions_of, globals_of, names_of}
 use Rattle.pw_webrun.specs.Programs.{IsProgram, NamesRightly, IsItem, ops_of}
 use Rattle.pw_linkrun.specs.Laws.{AreNamesApart}
@@ -133,8 +134,9 @@ lawful_module = record {
   names = record {
     distinct = record { defined = distinct (codes "n" ∷ codes "bump" ∷ codes "main" ∷ codes "$start" ∷ []) refl; declared = tt };
     start = record {
-      included = ((λ c. (1, omega arith, refl)), (λ c. (2, omega arith, refl)));
-      no_global = (differ (codes "n") start_name refl, tt);
+      beside = ((λ c. (1, omega arith, refl)), (λ c. (2, omega arith, refl)));
+      once = once start_name (codes "bump" ∷ codes "main" ∷ codes "$start" ∷ []) (distinct (codes "bump" ∷ codes "main" ∷ codes "$start" ∷ []) refl);
+      no_global = absent start_name (codes "n" ∷ []) (all_differ start_name (codes "n" ∷ []) refl);
     };
   };
 }

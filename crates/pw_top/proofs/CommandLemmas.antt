@@ -1,5 +1,5 @@
 -- What each command did, by its own clauses.
-use Rattle.std.proofs.Common.{◌≡◌, ℕ, ◌⊎◌, ⊎_elim, inl, List, [], ◌++◌, codes, Option, Some, None, Result, Ok, Err, refl, sym, ap, ◌∙◌, subst}
+use Rattle.std.proofs.Common.{◌≡◌, ℕ, ◌⊎◌, ⊎_elim, List, [], ◌++◌, codes, Option, Some, None, Result, Ok, Err, refl, sym, ap, ◌∙◌, subst}
 use Rattle.std.specs.Prelude.{IfSome}
 use Rattle.pw_io.specs.Files.{Files, Told, Keeps}
 use Rattle.pw_object.specs.declared.object.Object.{Object}
@@ -32,7 +32,7 @@ use Rattle.pw_words.specs.declared.commands.Command.TheVariants.{Go, Build as Bu
 use Rattle.pw_compiling.specs.First.{ComesOfPhase, IsLine, PhaseOneComes, PhaseOneOver, text_name}
 use Rattle.pw_compiling.specs.Made.{IsPhaseAnswer}
 use Rattle.pw_compiling.specs.Second.{PhaseTwoComes, PhaseTwoOver, database_at, flow_at}
-use Rattle.pw_top.specs.Commands.{IsUsageDue, opts_of}
+use Rattle.pw_top.specs.Commands.{opts_of}
 use Rattle.pw_top.specs.Does.{Does}
 use Rattle.pw_top.proofs.SessionLemmas.{bench_prints}
 use Rattle.pw_top.proofs.DoesLemmas.{Prints, Quiet, left_so, nothing_put, one_does, prints_does, quiet_does}
@@ -297,14 +297,12 @@ pub run_no_usage : (answer : Answer) → IsRunOrStop answer → IsNoUsage answer
 run_no_usage Usage h = h
 run_no_usage _ h = tt
 
--- an answer that is due is the one of no command, or another
-pub due_is : (command : Option Command) (answer : Answer) → IsUsageDue command answer → answer ≡ Usage → command ≡ None
-due_is None answer h e = refl
-due_is (Some command) answer h e = absurd (subst IsNoUsage e h)
+-- no command is answered as words that say none
+pub usage_apart : (command : Command) (answer : Answer) → IsNoUsage answer → answer ≡ Usage → Some command ≡ None
+usage_apart command answer h e = absurd (subst IsNoUsage e h)
 
-pub due_comes : (command : Option Command) (answer : Answer) → IsUsageDue command answer → command ≡ None → (answer ≡ Usage) ⊎ (answer ≡ NoMemory)
-due_comes None answer h e = inl h
-due_comes (Some command) answer h e = absurd (none_and_some (Some command) command e refl)
+pub no_command : (command : Command) (answer : Answer) → Some command ≡ None → (answer ≡ Usage) ⊎ (answer ≡ NoMemory)
+no_command command answer e = absurd (none_and_some (Some command) command e refl)
 
 first_line : (answer : Answer) → IsLine 1 answer 1
 first_line (Refused name refusal) = refl

@@ -1,12 +1,12 @@
 -- Kinds of commands, and what each leaves alone.
-use Rattle.std.specs.Prelude.{◌≡◌, ℕ, Bool, true, false, List, [], ◌∷◌, codes, Option, Some, None, IfSome, IsSomeAnd}
+use Rattle.std.specs.Prelude.{ℕ, Bool, true, false, List, [], ◌∷◌, codes, Option, Some, IfSome, IsSomeAnd}
 use Rattle.pw_io.specs.Files.{Files, Told}
 use Rattle.pw_answer.specs.declared.answer.Answer.{Answer}
-use Rattle.pw_answer.specs.declared.answer.Answer.TheVariants.{Done, Usage}
+use Rattle.pw_answer.specs.declared.answer.Answer.TheVariants.{Done}
 use Rattle.pw_modules.specs.Modules.{module_map, modules_of}
 use Rattle.pw_session_laws.specs.FromBuild.Phases as phases
 use Rattle.pw_run_laws.specs.FromGo.FullBuild.{full_build}
-use Rattle.pw_run_laws.specs.FromGo.Going.{IsNoUsage, refused_line}
+use Rattle.pw_run_laws.specs.FromGo.Going.{refused_line}
 use Rattle.pw_run_laws.specs.FromCommands.Others.{KeepsOthers}
 use Rattle.pw_session_laws.specs.FromBuilding.Genuine.{KeepsGenuine}
 use Rattle.pw_session_laws.specs.FromBuildLaws.Whole.{HoldsFullBuild}
@@ -54,11 +54,6 @@ is_builder _ = false
 abbrev pub IsGo : Option Command → Type 0
 IsGo (Some (Go colours stack steps)) = Unit {0}
 IsGo _ = ⊥
-
--- words that say no command are answered so, and no others
-abbrev pub IsUsageDue : Option Command → Answer → Type 0
-IsUsageDue None answer = answer ≡ Usage
-IsUsageDue (Some command) answer = IsNoUsage answer
 
 -- the command puts no file
 abbrev pub OnlyReads : Option Command → Type 0

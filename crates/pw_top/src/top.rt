@@ -5,11 +5,11 @@ ghost use Rattle.pw_io.specs.Files.{Keeps};
 ghost use Rattle.pw_answer.specs.Answers.{line_text};
 ghost use Rattle.pw_answer.specs.Outcomes.{InputCount, LeavesStreams, OutputCount, StoreCount, Tells, TellsSome};
 ghost use Rattle.pw_run_laws.specs.FromGo.FullBuild.{full_build};
-ghost use Rattle.pw_run_laws.specs.FromGo.Going.{AnswersBuild, BuiltAgrees, ReturnsSum};
+ghost use Rattle.pw_run_laws.specs.FromGo.Going.{AnswersBuild, BuiltAgrees, IsNoUsage, ReturnsSum};
 ghost use Rattle.pw_run_laws.specs.FromGo.Refusals.{HoldsNoWantOfMemory, NoMainComes, NoMainIs, RefusalComes, RefusalIs};
 ghost use Rattle.pw_modules.specs.Modules.{modules_of};
 ghost use Rattle.pw_session_laws.specs.FromBuilding.Genuine.{KeepsGenuine};
-ghost use Rattle.pw_top.specs.Commands.{BuildsWhole, EndsScript, IsGo, IsNoSession, IsUsageDue, KeepsTheRest, OnlyReads, is_builder, is_phase, is_reader, line_of, opts_of};
+ghost use Rattle.pw_top.specs.Commands.{BuildsWhole, EndsScript, IsGo, IsNoSession, KeepsTheRest, OnlyReads, is_builder, is_phase, is_reader, line_of, opts_of};
 ghost use Rattle.pw_top.specs.Does.{DoesAs};
 ghost use Rattle.pw_top.specs.Obeying.{CarriesOut, outside_of};
 ghost use Rattle.pw_words.specs.CommandLine.{command_of};
@@ -45,7 +45,7 @@ fn opts_of(colours: u8, stack: u32, steps: u64) -> SessionOpts
 fn obey_phase<S: Store>(alloc: Global, command: &Command, store: &mut S) -> Reply
     requires within { IsWithin command.now }
     requires phase { is_phase command.now ≡ true }
-    ensures usage { IsUsageDue (Some command.now) result.answer }
+    ensures usage { IsNoUsage result.answer }
     ensures obeys { (rest taken : Option (List ℕ)) (input output : ℕ) → CarriesOut (Some command.now) result.answer result.line (outside_of (S.told store.old) rest taken (S.faults store.old) input output) (outside_of (S.told store.new) rest taken (S.faults store.new) input output) }
 {
     genuine_files_keep_genuine();
@@ -76,7 +76,7 @@ fn obey_reader<S: Store, I: Source, O: Sink>(
     out: &mut O,
 ) -> Reply
     requires { is_reader command.now ≡ true }
-    ensures usage { IsUsageDue (Some command.now) result.answer }
+    ensures usage { IsNoUsage result.answer }
     ensures obeys { CarriesOut (Some command.now) result.answer result.line (outside_of (S.told store.old) (I.rest input.old) (O.taken out.old) (S.faults store.old) (I.faults input.old) (O.faults out.old)) (outside_of (S.told store.new) (I.rest input.new) (O.taken out.new) (S.faults store.new) (I.faults input.new) (O.faults out.new)) }
 {
     match command {
@@ -106,7 +106,7 @@ fn obey_builder<S: Store, I: Source, O: Sink>(
 ) -> Reply
     requires within { IsWithin command.now }
     requires builder { is_builder command.now ≡ true }
-    ensures usage { IsUsageDue (Some command.now) result.answer }
+    ensures usage { IsNoUsage result.answer }
     ensures obeys { CarriesOut (Some command.now) result.answer result.line (outside_of (S.told store.old) (I.rest input.old) (O.taken out.old) (S.faults store.old) (I.faults input.old) (O.faults out.old)) (outside_of (S.told store.new) (I.rest input.new) (O.taken out.new) (S.faults store.new) (I.faults input.new) (O.faults out.new)) }
 {
     other_files();
@@ -148,7 +148,7 @@ fn obey<S: Store, I: Source, O: Sink>(
     out: &mut O,
 ) -> Reply
     requires { IsWithin command.now }
-    ensures usage { IsUsageDue (Some command.now) result.answer }
+    ensures usage { IsNoUsage result.answer }
     ensures obeys { CarriesOut (Some command.now) result.answer result.line (outside_of (S.told store.old) (I.rest input.old) (O.taken out.old) (S.faults store.old) (I.faults input.old) (O.faults out.old)) (outside_of (S.told store.new) (I.rest input.new) (O.taken out.new) (S.faults store.new) (I.faults input.new) (O.faults out.new)) }
 {
     match command {

@@ -4,6 +4,7 @@ use Rattle.std.specs.Prelude.{ℕ, ◌≡◌, ◌≤◌, ◌+◌, ◌-◌, ◌&&
 use Rattle.std.specs.List.{list_any}
 use Rattle.std.specs.Str.{bytes_eq}
 use Rattle.pw_value.specs.ProgramNames.{start_name, library_functions}
+use Rattle.pw_db.specs.Limits.{first_register, last_register}
 use Rattle.pw_db.specs.declared.database.Web.{Web}
 use Rattle.pw_db.specs.declared.database.Role.TheVariants.{Member}
 use Rattle.pw_db.specs.declared.database.Directives.{Directives}
@@ -17,7 +18,7 @@ pub data Standing (B V : Type 0) : Type 0 where
 
 -- what a run notes, where bytes of memory and contents of registers are of these types
 pub data Event (B V : Type 0) : Type 0 where
-  -- The global objects stand in the order of linking, the registers from 3 to 18.
+  -- The global objects stand in the order of linking, the registers from the first that a callee keeps to the last.
   Called : (f : List ℕ) (globals : List (Standing B V)) (registers : List V) → Event B V
   -- a call for which there is no stack left
   Refused : (f : List ℕ) → Event B V
@@ -104,11 +105,11 @@ pub record IsMembers (d : List (List ℕ × Directives)) (f : List ℕ) (r : ℕ
   pub has : Has d f web Member
   pub is : web.reg ≡ r
 
--- On the return from a function each register from 3 to 18 holds what it held at the call, but those of the webs in
+-- On the return from a function each register that a callee keeps holds what it held at the call, but those of the webs in
 -- which the function is a member.
 abbrev pub KeepsRegisters : {B V : Type 0} → List (List ℕ × Directives) → Event B V → Type 0
 KeepsRegisters d (Returned f inner gs before after) =
-    (r : ℕ) → 3 ≤ r → r ≤ 18 → ¬ IsMembers d f r → slice_get after (r - 3) ≡ slice_get before (r - 3)
+    (r : ℕ) → first_register ≤ r → r ≤ last_register → ¬ IsMembers d f r → slice_get after (r - first_register) ≡ slice_get before (r - first_register)
 KeepsRegisters d _ = Unit {0}
 
 abbrev pub KeepRegisters : {B V : Type 0} → List (List ℕ × Directives) → List (Event B V) → Type 0

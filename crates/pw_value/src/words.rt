@@ -1,8 +1,10 @@
 //! Arithmetic on words of 32 bits, as C has it for int and unsigned int (ISO C90 6.3). An int is given and
 //! answered as the word that it stands in.
 
-ghost use Rattle.std.specs.Prelude.{ℕ, ◌≡◌, ◌+◌, ◌-◌, ◌*◌, ◌%◌, ◌^◌, ◌<◌, Ok};
+ghost use Rattle.std.specs.Prelude.{ℕ, ◌≡◌, ◌+◌, ◌-◌, ◌*◌, ◌%◌, ◌^◌, ◌<◌, ◌≤◌, Ok, MatchResult};
 ghost use Rattle.pw_value.specs.Words as spec;
+
+use std::alloc::AllocError;
 
 /// Why an operation on words has no result: the exact result is no int, the divisor is zero, or the count
 /// of a shift is not from 0 to 31.
@@ -11,6 +13,17 @@ pub enum WordFault {
     Overflow,
     ZeroDivisor,
     ShiftCount,
+}
+
+/// The word of a number, as what counts in words has it.
+///
+/// # Errors
+///
+/// `AllocError` where the number takes more than 32 bits, and nowhere else.
+pub fn word_of(number: usize) -> Result<u32, AllocError>
+    ensures { MatchResult result (λ word. word ≡ number) (λ _. 2 ^ 32 ≤ number) }
+{
+    u32::try_from(number).ok().ok_or(AllocError)
 }
 
 /// The sum of unsigned ints.

@@ -1,6 +1,7 @@
 -- When places serve a function: no value is lost that is still needed. What is needed is said by paths over what is
 -- left of the code.
 use Rattle.std.specs.Prelude.{ℕ, ◌≡◌, ◌≢◌, ◌≤◌, ◌<◌, Option, Some, None, List, [], ◌∷◌, ◌++◌, length, slice_get, Contains, ◌↔◌}
+use Rattle.pw_db.specs.Limits.{first_register, last_register}
 use Rattle.pw_db.specs.Database.{EachTwo}
 use Rattle.pw_db.specs.declared.database.Role.{Role}
 use Rattle.pw_db.specs.declared.database.Web.{Web}
@@ -120,13 +121,13 @@ pub record IsHeld (f : WebFn) (t : ℕ) : Type 0 where
 
 -- ---- places
 
--- the registers that temporaries may have; a callee keeps those from 3 to 18
+-- the registers that temporaries may have; of these a callee keeps the ones that webs may have
 pub record IsTempRegister (r : ℕ) : Type 0 where
-  pub low : 3 ≤ r
+  pub low : first_register ≤ r
   pub high : r ≤ 20
 
 abbrev pub IsKept : Place → Type 0
-IsKept (Reg r) = (3 ≤ r) × (r ≤ 18)
+IsKept (Reg r) = (first_register ≤ r) × (r ≤ last_register)
 IsKept (Slot offset) = Unit {0}
 
 -- the places that are words of the frame
@@ -143,7 +144,7 @@ pub record HasWebIn (f : WebFn) (role : Role) (r : ℕ) : Type 0 where
 
 -- a register that the function has to save: a temporary's, or that of a web that it enters
 pub data Changes (f : WebFn) (l : Located) (r : ℕ) : Type 0 where
-  places : Contains l.places (Reg r) → r ≤ 18 → Changes f l r
+  places : Contains l.places (Reg r) → r ≤ last_register → Changes f l r
   enters : HasWebIn f Entry r → Changes f l r
 
 pub record Serves (f : WebFn) (l : Located) : Type 0 where

@@ -43,6 +43,9 @@ module_refused parts name e bad = ap (option_and_then module_named) (sym e) ∙ 
 pub module_found : (parts : List Part) (name : Text) → Some name ≡ plain_word parts → is_module_name name ≡ true → module_in parts ≡ Some name
 module_found parts name e good = ap (option_and_then module_named) (sym e) ∙ ap (λ (b : Bool). if b then Some name else None) good
 
+pub names_a_module : (parts : List Part) (name : Text) → Some name ≡ plain_word parts → is_module_name name ≡ true → module_in parts ≡ None → ⊥
+names_a_module parts name e good none = let found = module_found parts name e good in cc
+
 -- ---- the number from which modules are made
 
 pub seed_missing : (parts : List Part) → None ≡ plain_word parts → seed_in parts ≡ None

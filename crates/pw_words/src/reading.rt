@@ -1,6 +1,6 @@
 //! The command that words say.
 
-ghost use Rattle.std.specs.Prelude.{◌≡◌, ◌≢◌, ◌≤◌, ℕ, List, IfErr, IfOk, drop, map, string_bytes, codes, option_map, option_and_then, Option};
+ghost use Rattle.std.specs.Prelude.{◌≡◌, ◌≢◌, ◌≤◌, ℕ, List, None, Err, IfErr, IfOk, drop, map, string_bytes, codes, option_map, option_and_then, Option};
 ghost use Rattle.clap.specs.Matches.{first_value, found_of};
 ghost use Rattle.pw_words.specs.CommandLine.{Part, Reads, colours_in, command_of, go_of, command_by_name, module_in, number_or, parts_of, seed_in, stack_in, steps_in, with_build, with_run, build_of, session_of, bench_of, phase_one_of, phase_two_of, analyse_of, link_of, run_of, list_of, db_of, usual_stack, steps_limit, seed_limit, usual_steps};
 ghost use Rattle.pw_words.specs.Reading.{IsMatchOf};
@@ -111,7 +111,8 @@ fn steps(matches: &ArgMatches) -> Result<u64, WordsFault>
 
 /// The module that the words name.
 fn module(alloc: Global, matches: &ArgMatches) -> Result<Name, WordsFault>
-    ensures { (parts : List Part) → IsMatchOf parts matches.now → Reads (module_in parts) result }
+    ensures read { (parts : List Part) → IsMatchOf parts matches.now → Reads (module_in parts) result }
+    ensures usage { (parts : List Part) → IsMatchOf parts matches.now → module_in parts ≡ None → result ≡ Err WordsFault.Usage }
 {
     let Some(name) = matches.get_str(OPERAND) else {
         return Err(WordsFault::Usage);

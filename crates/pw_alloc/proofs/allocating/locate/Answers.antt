@@ -1,4 +1,5 @@
 use Rattle.std.proofs.Common.{◌≤◌, length, arith}
+use Rattle.pw_db.specs.Limits.{register_count}
 use Rattle.pw_alloc.proofs.FrameLaws.{few_arguments, frame_fits, frame_reach}
 use Rattle.pw_alloc.proofs.allocating.locate.Goals as goal
 
@@ -12,7 +13,7 @@ slots_begin-begin-requires c =
 
 pub last_reach-frame-requires : goal.last_reach-frame-requires
 last_reach-frame-requires c =
-    let few : c.len-count.result ≤ 16 = omega (arith, c.in_ok-saved.ensures.few) in
+    let few : c.len-count.result ≤ register_count = omega (arith, c.in_ok-saved.ensures.few) in
     frame_reach c.args.f.now c.slots_begin-begin.result c.head_size-head.result c.len-count.result c.as_slice-2.result.now
     c.requires c.slots_begin-begin.ensures c.head_size-head.ensures.value few c.as_slice-2.ensures
 

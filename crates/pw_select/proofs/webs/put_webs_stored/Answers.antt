@@ -1,5 +1,6 @@
 use Rattle.std.proofs.Common.{◌++◌, rules, arith}
 use Rattle.std.proofs.lemmas.Grind.{common_steps}
+use Rattle.pw_db.specs.Limits.{first_register, register_count}
 use Rattle.pw_select.specs.Selection.{entered_lines, stored_back}
 use Rattle.pw_select.proofs.Steps.{lines_more, lines_end}
 use Rattle.pw_select.proofs.webs.put_webs_stored.Goals as goal
@@ -11,4 +12,4 @@ loop-r-preserved c =
 
 pub returns : goal.returns
 returns c =
-    lines_end stored_back c.args.webs.now c.loop-r.r c.loop-r.out (c.args.out.now ++ entered_lines stored_back c.args.webs.now 3 16) (omega arith) c.loop-r.invariant
+    lines_end stored_back c.args.webs.now c.loop-r.r c.loop-r.out (c.args.out.now ++ entered_lines stored_back c.args.webs.now first_register register_count) (omega arith) c.loop-r.invariant

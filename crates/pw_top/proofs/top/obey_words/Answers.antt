@@ -3,7 +3,7 @@ use Rattle.std.specs.Prelude.{string_bytes}
 use Rattle.pw_answer.specs.declared.answer.Answer.TheVariants.{Usage}
 use Rattle.pw_words.specs.CommandLine.{command_of}
 use Rattle.pw_top.proofs.DoesLemmas.{usage_does}
-use Rattle.pw_top.proofs.CommandLemmas.{due_comes, due_is, kept_alone, left_alone, no_line, of_other}
+use Rattle.pw_top.proofs.CommandLemmas.{kept_alone, left_alone, no_command, no_line, of_other, usage_apart}
 use Rattle.pw_top.proofs.GenuineLemmas.{genuine_alone, others_alone, rest_alone}
 use Rattle.pw_top.proofs.ToldLemmas.{memory_does, memory_ends, memory_refuses, no_memory_is_no_usage}
 use Rattle.pw_top.proofs.top.obey_words.Goals as goal
@@ -12,10 +12,10 @@ pub obey-requires : goal.obey-requires
 obey-requires g c = c.commands_are_within.ensures (map string_bytes c.args.words.now) c.in-Ok.command c.in-Ok.ensures
 
 pub returns-in-Ok-clause-usage_is : goal.returns-in-Ok-clause-usage_is
-returns-in-Ok-clause-usage_is g c = rw c.in-Ok.ensures (due_is _ _ c.obey.ensures.usage)
+returns-in-Ok-clause-usage_is g c = rw c.in-Ok.ensures (usage_apart _ _ c.obey.ensures.usage)
 
 pub returns-in-Ok-clause-usage_comes : goal.returns-in-Ok-clause-usage_comes
-returns-in-Ok-clause-usage_comes g c = rw c.in-Ok.ensures (due_comes _ _ c.obey.ensures.usage)
+returns-in-Ok-clause-usage_comes g c = rw c.in-Ok.ensures (no_command _ _)
 
 pub returns-in-Ok-clause-obeys : goal.returns-in-Ok-clause-obeys
 returns-in-Ok-clause-obeys g c = rw c.in-Ok.ensures c.obey.ensures.obeys

@@ -16,8 +16,8 @@ expr-returns-in-SizeofType t c = grind (arith, common_steps, spell_sizeof_node _
 pub expr-returns-in-Cast : goal.expr-returns-in-Cast
 expr-returns-in-Cast t c = grind (arith, common_steps, spell_cast_node _ _ _ _ _ (c.expressions_show_their_lists.ensures.cast c.in-Cast.token c.in-Cast.named c.in-Cast.operand))
 
-pub expr-returns-in-Chain : goal.expr-returns-in-Chain
-expr-returns-in-Chain t c = grind (arith, common_steps, spell_chain_node _ _ _ (c.expressions_show_their_lists.ensures.chain c.in-Chain.first c.in-Chain.rest))
+pub with_operators-returns-in-Chain : goal.with_operators-returns-in-Chain
+with_operators-returns-in-Chain t c = grind (arith, common_steps, spell_chain_node _ _ _ (c.expressions_show_their_lists.ensures.chain c.in-Chain.first c.in-Chain.rest))
 
 pub member_declarator-returns-in-Plain : goal.member_declarator-returns-in-Plain
 member_declarator-returns-in-Plain t c = grind (arith, common_steps, spell_plain_member_node c.args.first _ _ (c.declarators_show_their_lists.ensures.plain_members c.in-Plain.declarator))

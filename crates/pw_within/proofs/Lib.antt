@@ -1,0 +1,13 @@
+pub mod Parts
+pub mod Functions
+pub mod Quiet
+pub mod Spelled
+pub mod Linked
+pub mod Names
+pub mod Lexed
+pub mod Records
+pub mod Fits
+pub mod Still
+pub mod FitPhrases
+pub mod FitDeclarations
+pub mod FitStatements

@@ -1,0 +1,67 @@
+//! What checking keeps of a module beside its types: laws, as the contracts of functions that do nothing.
+#![tactic(auto)]
+
+mod numbers;
+
+ghost use Rattle.std.specs.Prelude.{◌≡◌, ◌≤◌, ℕ, All, List, Ok};
+ghost use Rattle.pw_lower_laws.specs.Parts.{partless};
+ghost use Rattle.pw_lowered.specs.Within.{AreRecordsWithin, IsCopied, IsIdentifier, IsNamed};
+ghost use Rattle.pw_rules.specs.Checks.{Checks};
+ghost use Rattle.pw_token.specs.Tokenization.{IsLexed};
+ghost use Rattle.pw_token.specs.declared.token.Token.{Token};
+ghost use Rattle.pw_tree.specs.Grammar.{IsTreeOf, spelled_all};
+ghost use Rattle.pw_tree.specs.Trees.{Module};
+ghost use Rattle.pw_tree.specs.WellFormed.{WellFormedModule};
+ghost use Rattle.pw_types.specs.Rooms.{room_of};
+ghost use Rattle.pw_types.specs.TypeTrees.{type_of};
+ghost use Rattle.pw_types.specs.TypedTrees.{ModuleValue};
+ghost use Rattle.pw_value.specs.Limits.{parameter_limit, room_limit};
+ghost use Rattle.pw_within.specs.Names.{AreIdentifiers, AreNumbered};
+
+pub use numbers::numbers_of_objects;
+use pw_well_typed::{accepted_locals_are_objects, accepted_records_are_laid};
+
+/// In a module that checking accepts each structure or union that is defined is copied in lawful units: its alignment is 1, 2 or 4,
+/// it has a member, and it keeps the limit on sizes; the offsets of its members are words of 32 bits. One premise: the syntax tree
+/// is one of C90's grammar.
+pub fn accepted_records_are_within()
+    ensures { (tree : Module) (m : ModuleValue) → WellFormedModule tree → Checks tree (Ok m) → AreRecordsWithin m.records }
+{
+    accepted_records_are_laid();
+}
+
+/// Each parameter and local of a function that checking accepts is copied in lawful units, with the same premise: no array is empty
+/// (ISO C90 6.5.4.2).
+pub fn accepted_locals_are_copied()
+    ensures { (tree : Module) (m : ModuleValue) → WellFormedModule tree → Checks tree (Ok m)
+        → All (λ f. All (λ l. IsCopied m.records (type_of l.ty)) f.locals) m.functions }
+{
+    accepted_locals_are_objects();
+}
+
+/// In a module that checking accepts each local that is initialised by the bytes of a hidden object has an expression of which they
+/// are made, if the syntax tree is one of C90's grammar (ISO C90 6.5.7).
+pub fn accepted_initialisers_have_parts()
+    ensures { (tree : Module) (m : ModuleValue) → WellFormedModule tree → Checks tree (Ok m) → All (λ f. partless f.body ≡ 0) m.functions }
+{}
+
+/// Each function of a module that checking accepts has no more parameters than a function may have, and its room keeps the limit
+/// (ISO C90 5.2.4.1).
+pub fn accepted_functions_keep_limits()
+    ensures params { (tree : Module) (m : ModuleValue) → WellFormedModule tree → Checks tree (Ok m) → All (λ f. f.params ≤ parameter_limit) m.functions }
+    ensures room { (tree : Module) (m : ModuleValue) → WellFormedModule tree → Checks tree (Ok m) → All (λ f. room_of m.records f ≤ room_limit) m.functions }
+{}
+
+/// The names that a module that checking accepts shares, and those of its functions and objects, are identifiers (ISO C90 6.1.2), if
+/// those of the syntax tree are and the tree is one of C90's grammar; an object without a name has a number of 32 bits, as in each
+/// module that the code makes.
+pub fn accepted_names_are_identifiers()
+    ensures declared { (tree : Module) (m : ModuleValue) → WellFormedModule tree → AreIdentifiers tree → Checks tree (Ok m) → All (λ d. IsIdentifier d.name) m.declared }
+    ensures functions { (tree : Module) (m : ModuleValue) → WellFormedModule tree → AreIdentifiers tree → Checks tree (Ok m) → All (λ f. IsNamed f.name) m.functions }
+    ensures objects { (tree : Module) (m : ModuleValue) → WellFormedModule tree → AreIdentifiers tree → Checks tree (Ok m) → AreNumbered m → All (λ g. IsNamed g.name) m.globals }
+{}
+
+/// Each identifier of a text's tree is one of C90 6.1.2.
+pub fn identifiers_of_texts()
+    ensures { (text : List ℕ) (tokens : List Token) (tree : Module) → IsLexed text tokens → IsTreeOf (spelled_all text tokens) tree → AreIdentifiers tree }
+{}
