@@ -16,7 +16,7 @@ ghost use Rattle.pw_types.specs.TypedTrees.{Statement};
 ghost use Rattle.pw_types.specs.Views.{view_qtype};
 
 use crate::knot::{check_body, phrases};
-use pw_checking::{Bindings, State, word_of};
+use pw_checking::{Bindings, State};
 use pw_heads::{
     Head, copy_locals, head_declared, head_meets, head_rule, measured_rule, numbers_below,
     parameter_locals, result_of,
@@ -27,6 +27,7 @@ use pw_linked::symbol_at;
 use pw_tree::{Block, Function, Word};
 use pw_typed::{Local, Symbol, TFunction, TStmt};
 use pw_types::QType;
+use pw_value::words::word_of;
 use pw_walk::CheckFault;
 use std::alloc::{AllocError, Global};
 

@@ -7,12 +7,13 @@ ghost use Rattle.pw_rules.specs.Kinds as kinds;
 ghost use Rattle.pw_typed.specs.Views as typed;
 ghost use Rattle.pw_types.specs.Views.{view_qtype, view_type};
 
-use pw_checking::{Parameter, word_of};
+use pw_checking::Parameter;
 use pw_kinds::{copy_qtype, copy_type, is_const_object, plain};
 use pw_tree::Word;
 use pw_typed::Local;
 use pw_types::{CType, QType};
 use pw_value::Name;
+use pw_value::words::word_of;
 use std::alloc::{AllocError, Global};
 
 /// The type that a function returns; of a type that is no function's it is that type.

@@ -10,12 +10,13 @@ ghost use Rattle.pw_rules.specs.Operators as spec;
 ghost use Rattle.pw_types.specs.Layouts.{size_of};
 ghost use Rattle.pw_types.specs.Views.{view_qtype, view_type};
 
-use pw_checking::{Operand, Spot, State, typing, value_operand, word_of};
+use pw_checking::{Operand, Spot, State, typing, value_operand};
 use pw_constant::told_size;
 use pw_kinds::{is_complete, plain};
 use pw_limits::completed;
 use pw_typed::TForm;
 use pw_types::{CType, IntKind, QType, Types};
+use pw_value::words::word_of;
 use pw_walk::{CheckFault, CheckKind};
 use std::alloc::{AllocError, Global};
 
