@@ -1,2 +1,2 @@
-pub mod Parts
-pub mod Views
+pub mod Items
+pub use Rattle.pw_branches.specs.Views

@@ -3,54 +3,26 @@
 ghost use Rattle.std.specs.Prelude.{◌≡◌};
 ghost use Rattle.pw_rules.specs.Statements as spec;
 ghost use Rattle.pw_tree.specs.FirstTokens as first;
-ghost use Rattle.pw_body.specs.Parts as part;
-ghost use Rattle.pw_body.specs.Views.{view_arm, view_arm_list, view_behind, view_body, view_items, view_switched};
+ghost use Rattle.pw_body.specs.Items.{view_items};
+ghost use Rattle.pw_branches.specs.Views.{view_body};
 ghost use Rattle.pw_checking.specs.Follows.{Leads};
 ghost use Rattle.pw_checking.specs.StateViews.{view_state};
 ghost use Rattle.pw_jumps.specs.Views.{view_held};
 ghost use Rattle.pw_tree.specs.Trees as tree;
-ghost use Rattle.pw_tree.specs.Views.{view_block, view_else_ifs, view_expr, view_labels, view_optional, view_otherwise, view_stmt, view_stmts};
+ghost use Rattle.pw_tree.specs.Views.{view_block, view_expr, view_labels, view_optional, view_stmt, view_stmts};
 ghost use Rattle.pw_typed.specs.Views as typed;
 
-use pw_checking::{State, SwitchState};
+use pw_branches::{boxed_stmt, if_stmt, switch_stmt};
+use pw_checking::State;
 use pw_jumps::{
     break_rule, condition_rule, continue_rule, goto_rule, optional_condition, optional_rule,
-    return_rule, switch_rule,
+    return_rule,
 };
-use pw_kinds::kind_in;
 use pw_labels::{BodyParts, labels_rule};
-use pw_tree::{Block, ElseIf, Expr, Label, Stmt, statements_show_their_lists};
-use pw_typed::{Arm, TExpr, TStmt, TStmtForm};
+use pw_tree::{Block, Expr, Label, Stmt, statements_show_their_lists};
+use pw_typed::{TExpr, TStmt, TStmtForm};
 use pw_walk::CheckFault;
 use std::alloc::Global;
-
-/// The body of a switch, and what is known of the switch behind it.
-#[derive(Drop)]
-pub(crate) struct Switched {
-    pub(crate) body: Box<TStmt>,
-    pub(crate) switch: SwitchState,
-}
-
-/// The arms of an `if`, and what stands behind a last `else`.
-#[derive(Drop)]
-pub(crate) struct Behind {
-    pub(crate) arms: Vec<Arm>,
-    pub(crate) otherwise: Option<Box<TStmt>>,
-}
-
-/// A statement in a box.
-fn boxed_stmt<'a, P: BodyParts<'a>>(
-    alloc: Global,
-    parts: &P,
-    state: &mut State<'a>,
-    stmt: &'a Stmt,
-) -> Result<Box<TStmt>, CheckFault>
-    requires { P.can_check parts.now }
-    ensures { Leads view_body (spec.stmt_rule (view_stmt stmt.now)) (view_state state.old) result (view_state state.new) }
-{
-    let made = parts.stmt(alloc, state, stmt)?;
-    Ok(Box::new(alloc, made)?)
-}
 
 /// Statements in their order.
 fn stmts_rule<'a, P: BodyParts<'a>>(
@@ -154,144 +126,6 @@ fn labeled_stmt<'a, P: BodyParts<'a>>(
     Ok(TStmt {
         token: first_of_labels(labels),
         form: TStmtForm::Label(numbers, body),
-    })
-}
-
-/// An arm of an `if`: its condition and its statement.
-fn arm_rule<'a, P: BodyParts<'a>>(
-    alloc: Global,
-    parts: &P,
-    state: &mut State<'a>,
-    token: usize,
-    condition: &'a Expr,
-    chosen: &'a Stmt,
-) -> Result<Arm, CheckFault>
-    requires { P.can_check parts.now }
-    ensures { Leads view_arm (part.arm_rule token (view_expr condition.now) (view_stmt chosen.now)) (view_state state.old) result (view_state state.new) }
-{
-    let condition = condition_rule(alloc, parts, state, token, condition)?;
-    let body = parts.stmt(alloc, state, chosen)?;
-    Ok(Arm {
-        token,
-        condition: Box::into_inner(condition),
-        body,
-    })
-}
-
-/// What stands behind a last `else`.
-fn otherwise_rule<'a, P: BodyParts<'a>>(
-    alloc: Global,
-    parts: &P,
-    state: &mut State<'a>,
-    arms: Vec<Arm>,
-    otherwise: &'a Option<Box<Stmt>>,
-) -> Result<Behind, CheckFault>
-    requires { P.can_check parts.now }
-    ensures { Leads view_behind (part.alternative_after (view_arm_list arms.items) (view_otherwise otherwise.now)) (view_state state.old) result (view_state state.new) }
-{
-    match otherwise {
-        Some(last) => {
-            let body = boxed_stmt(alloc, parts, state, last)?;
-            Ok(Behind {
-                arms,
-                otherwise: Some(body),
-            })
-        }
-        None => Ok(Behind {
-            arms,
-            otherwise: None,
-        }),
-    }
-}
-
-/// Each `else if` and the last `else`, with the arms before them.
-fn alternative_rule<'a, P: BodyParts<'a>>(
-    alloc: Global,
-    parts: &P,
-    state: &mut State<'a>,
-    before: Vec<Arm>,
-    else_ifs: &'a [ElseIf],
-    otherwise: &'a Option<Box<Stmt>>,
-) -> Result<Behind, CheckFault>
-    requires { P.can_check parts.now }
-    ensures { Leads view_behind (part.alternative_after (view_arm_list before.items) (view_else_ifs else_ifs.now (view_otherwise otherwise.now))) (view_state state.old) result (view_state state.new) }
-{
-    let mut arms = before;
-    for next in else_ifs {
-        let arm = arm_rule(
-            alloc,
-            parts,
-            state,
-            next.token,
-            &next.condition,
-            &next.chosen,
-        )?;
-        arms.push(arm)?;
-    }
-    otherwise_rule(alloc, parts, state, arms, otherwise)
-}
-
-/// An `if` with what stands behind it (C90 6.6.4.1).
-fn if_stmt<'a, P: BodyParts<'a>>(
-    alloc: Global,
-    parts: &P,
-    state: &mut State<'a>,
-    token: usize,
-    condition: &'a Expr,
-    chosen: &'a Stmt,
-    else_ifs: &'a [ElseIf],
-    otherwise: &'a Option<Box<Stmt>>,
-) -> Result<TStmt, CheckFault>
-    requires { P.can_check parts.now }
-    ensures { Leads typed.view_stmt (spec.stmt_rule (tree.If token (view_expr condition.now) (view_stmt chosen.now) (view_else_ifs else_ifs.now (view_otherwise otherwise.now)))) (view_state state.old) result (view_state state.new) }
-{
-    let first = arm_rule(alloc, parts, state, token, condition, chosen)?;
-    let mut arms = Vec::new(alloc);
-    arms.push(first)?;
-    let behind = alternative_rule(alloc, parts, state, arms, else_ifs, otherwise)?;
-    let Behind { arms, otherwise } = behind;
-    Ok(TStmt {
-        token,
-        form: TStmtForm::If(arms, otherwise),
-    })
-}
-
-/// The body of a switch over this value.
-fn in_switch<'a, P: BodyParts<'a>>(
-    alloc: Global,
-    parts: &P,
-    state: &mut State<'a>,
-    value: &TExpr,
-    body: &'a Stmt,
-) -> Result<Switched, CheckFault>
-    requires { P.can_check parts.now }
-    ensures { Leads view_switched (spec.in_switch (typed.view_expr value.now) (spec.stmt_rule (view_stmt body.now))) (view_state state.old) result (view_state state.new) }
-{
-    state.enter_switch(alloc, kind_in(&value.ty.ty))?;
-    let body = boxed_stmt(alloc, parts, state, body)?;
-    let switch = state.leave_switch(alloc);
-    Ok(Switched { body, switch })
-}
-
-/// C90 6.6.4.2
-fn switch_stmt<'a, P: BodyParts<'a>>(
-    alloc: Global,
-    parts: &P,
-    state: &mut State<'a>,
-    token: usize,
-    value: &'a Expr,
-    body: &'a Stmt,
-) -> Result<TStmt, CheckFault>
-    requires { P.can_check parts.now }
-    ensures { Leads typed.view_stmt (spec.stmt_rule (tree.Switch token (view_expr value.now) (view_stmt body.now))) (view_state state.old) result (view_state state.new) }
-{
-    let value = switch_rule(alloc, parts, state, token, value)?;
-    let switched = in_switch(alloc, parts, state, &value, body)?;
-    let Switched { body, switch } = switched;
-    let SwitchState { cases, default, .. } = switch;
-    Ok(TStmt {
-        token,
-        form: TStmtForm::Switch(Box::into_inner(value), cases.into_cases(), default, body),
     })
 }
 

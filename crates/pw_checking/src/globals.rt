@@ -16,10 +16,10 @@ ghost use Rattle.pw_typed.specs.Views.{view_function, view_placed};
 use crate::places::put;
 use crate::state::State;
 use pw_entities::{HiddenObject, LinkedName};
-use pw_index::word_of;
 use pw_rules::Slot;
 use pw_typed::{TFunction, TItem};
 use pw_types::{Content, QType, RecordKind, RecordType, Types};
+use pw_value::words::word_of;
 use std::alloc::AllocError;
 
 #[tactic(auto, unfolding(crate::specs::StateViews::view_state), using(crate::proofs::PlaceLemmas::map_push, crate::proofs::PlaceLemmas::length_map, crate::proofs::PlaceLemmas::map_put_at))]

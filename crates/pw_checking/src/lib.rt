@@ -17,7 +17,7 @@ pub use phrase::{Bindings, Declared, Derivation, Gathered, Parameter, Specified,
 pub use phrases::{Phrases, whole_rule};
 pub use pw_entities::{Entity, HiddenObject, LinkedName, LinkedNames, SwitchState};
 pub use pw_finding::{Finding, fault, typing};
-pub use pw_index::{CaseList, NameList, word_of};
+pub use pw_index::{CaseList, NameList};
 pub use state::{BodyState, MadeState, ScopeState, State, TypeState};
 pub use trees::{first_of_declaration, first_of_list};
 pub use values::{boxed, value_operand, value_rule};

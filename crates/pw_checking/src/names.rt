@@ -14,8 +14,9 @@ use crate::phrase::{Bindings, Parameter};
 use crate::places::put;
 use crate::state::State;
 use pw_entities::Entity;
-use pw_index::{VisibleNames, word_of};
+use pw_index::VisibleNames;
 use pw_rules::{Entry, Tag};
+use pw_value::words::word_of;
 use std::alloc::{AllocError, Global};
 
 #[tactic(auto, unfolding(crate::specs::StateViews::view_state), using(crate::proofs::PlaceLemmas::map_push, crate::proofs::PlaceLemmas::length_map, crate::proofs::PlaceLemmas::map_put_at))]

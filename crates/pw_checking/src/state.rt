@@ -7,11 +7,12 @@ ghost use Rattle.pw_typed.specs.Views.{view_locals};
 ghost use Rattle.pw_types.specs.Views.{view_qtype};
 
 use pw_entities::{Entity, HiddenObject, LinkedNames, SwitchState};
-use pw_index::{NameList, VisibleNames, word_of};
+use pw_index::{NameList, VisibleNames};
 use pw_kinds::plain;
 use pw_rules::Slot;
 use pw_typed::{Local, TFunction};
 use pw_types::{CType, IntKind, QType, Types};
+use pw_value::words::word_of;
 use std::alloc::{AllocError, Global};
 
 /// The structures and unions, of each whether its members were begun, and the names with linkage in the order of their

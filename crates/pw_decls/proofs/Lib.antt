@@ -1,1 +1,2 @@
 mod Splits
+mod ToldLaws

@@ -1,6 +1,6 @@
 //! Lists of specifiers (C90 6.5.1 to 6.5.3).
 
-ghost use Rattle.std.specs.Prelude.{◌≡◌};
+ghost use Rattle.std.specs.Prelude.{◌≡◌, ◌-◌, ◌^◌, Err, IfErr, OnErr};
 ghost use Rattle.pw_rules.specs.Declarations.{specified_rule};
 ghost use Rattle.pw_rules.specs.Leaves as leaves;
 ghost use Rattle.pw_rules.specs.Phrases as spec;
@@ -9,10 +9,11 @@ ghost use Rattle.pw_checking.specs.Follows.{Follows, Leads};
 ghost use Rattle.pw_checking.specs.PhraseViews.{view_gathered, view_name, view_specified};
 ghost use Rattle.pw_checking.specs.StateViews.{view_state};
 ghost use Rattle.pw_decls.specs.Specifying as turns;
+ghost use Rattle.pw_specified.specs.Rows.{count_of};
 ghost use Rattle.pw_tree.specs.Trees.{NoSpecifier};
 ghost use Rattle.pw_tree.specs.Views.{view_enumerators, view_members, view_specifier, view_specifiers, view_tag, view_word};
 ghost use Rattle.pw_types.specs.Views.{view_qtype};
-ghost use Rattle.pw_walk.specs.Walks.{pure};
+ghost use Rattle.pw_walk.specs.Walks.{outcome, pure};
 
 use crate::enumerations::enumeration_list;
 use crate::records::record_list;
@@ -53,7 +54,8 @@ fn basic(
     word: BasicType,
     gathered: Gathered,
 ) -> Result<Gathered, CheckFault>
-    ensures { Follows view_gathered (turns.basic_rule token word (view_gathered gathered)) (view_state state.now) result }
+    ensures follows { Follows view_gathered (turns.basic_rule token word (view_gathered gathered)) (view_state state.now) result }
+    ensures told { IfErr (outcome (turns.basic_rule token word (view_gathered gathered) (view_state state.now))) (λ fault. result ≡ Err fault) }
 {
     let _state = state;
     match word {
@@ -98,7 +100,8 @@ fn record_tag<'a>(
 
 /// An enumeration by its tag (C90 6.5.2.3).
 fn enumeration_tag(state: &State, tag: &Word, gathered: Gathered) -> Result<Gathered, CheckFault>
-    ensures { Follows view_gathered (turns.enumeration_tag_rule (view_word tag.now) (view_gathered gathered)) (view_state state.now) result }
+    ensures follows { Follows view_gathered (turns.enumeration_tag_rule (view_word tag.now) (view_gathered gathered)) (view_state state.now) result }
+    ensures told { IfErr (outcome (turns.enumeration_tag_rule (view_word tag.now) (view_gathered gathered) (view_state state.now))) (λ fault. result ≡ Err fault) }
 {
     let ty = enumeration_rule(state, tag)?;
     type_gathered(state, ty, None, gathered)
@@ -137,14 +140,15 @@ fn storage_class(
     Ok(gather_storage(class, gathered)?)
 }
 
-/// A type qualifier (C90 6.5.3).
+/// A type qualifier (C90 6.5.3). What 64 bits cannot count is want of memory.
 #[tactic(auto, unfolding(pw_walk::specs::Walks::outcome))]
 fn type_qualifier(
     state: &State,
     qualifier: Qualifier,
     gathered: Gathered,
 ) -> Result<Gathered, CheckFault>
-    ensures { Follows view_gathered (pure (lists.gather_qualifier qualifier (view_gathered gathered))) (view_state state.now) result }
+    ensures follows { Follows view_gathered (pure (lists.gather_qualifier qualifier (view_gathered gathered))) (view_state state.now) result }
+    ensures wants { OnErr result (count_of qualifier (view_gathered gathered) ≡ 2 ^ 64 - 1) }
 {
     let _state = state;
     Ok(gather_qualifier(qualifier, gathered)?)

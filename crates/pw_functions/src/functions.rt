@@ -27,6 +27,7 @@ use pw_linked::symbol_at;
 use pw_tree::{Block, Function, Word};
 use pw_typed::{Local, Symbol, TFunction, TStmt};
 use pw_types::QType;
+use pw_value::words::word_of;
 use pw_walk::CheckFault;
 use std::alloc::{AllocError, Global};
 
@@ -60,7 +61,8 @@ impl Outline {
     }
 }
 
-/// What the definition of a function makes, but for its body, behind which it is known.
+/// What the definition of a function makes, but for its body, behind which it is known. What 32 bits cannot count is
+/// want of memory.
 #[tactic(auto, using(pw_checking::proofs::PlaceLemmas::length_map))]
 fn outline_of(
     alloc: Global,
@@ -70,9 +72,7 @@ fn outline_of(
 ) -> Result<Outline, AllocError>
     ensures { IfOk result (λ o. (body : Statement) → outlined o body ≡ spec.function_of (view_state state.now) (view_head head.now).word place (view_head head.now).ty (view_head head.now).bindings body) }
 {
-    let Ok(params) = u32::try_from(head.bindings.parameters.len()) else {
-        return Err(AllocError);
-    };
+    let params = word_of(head.bindings.parameters.len())?;
     let named = numbers_below(alloc, state.named())?;
     let locals = copy_locals(alloc, state.locals())?;
     let ty = copy_qtype(alloc, &head.ty)?;

@@ -1,6 +1,6 @@
 //! What a function's definition has of its locals and labels.
 
-ghost use Rattle.std.specs.Prelude.{◌≡◌, map, IfOk};
+ghost use Rattle.std.specs.Prelude.{◌≡◌, map, IfOk, OnErr};
 ghost use Rattle.pw_checking.specs.PhraseViews.{view_parameter, view_parameters};
 ghost use Rattle.pw_rules.specs.Functions as spec;
 ghost use Rattle.pw_rules.specs.Kinds as kinds;
@@ -9,9 +9,11 @@ ghost use Rattle.pw_types.specs.Views.{view_qtype, view_type};
 
 use pw_checking::Parameter;
 use pw_kinds::{copy_qtype, copy_type, is_const_object, plain};
+use pw_tree::Word;
 use pw_typed::Local;
 use pw_types::{CType, QType};
 use pw_value::Name;
+use pw_value::words::word_of;
 use std::alloc::{AllocError, Global};
 
 /// The type that a function returns; of a type that is no function's it is that type.
@@ -27,13 +29,22 @@ pub fn result_of(alloc: Global, ty: &CType) -> Result<QType, AllocError>
     }
 }
 
+/// The name of a parameter; one without a name, no rule lets come: it is want of memory.
+fn parameter_word<'s>(parameter: &Parameter<'s>) -> Result<&'s Word, AllocError>
+    ensures word { IfOk result (λ w. parameter.now.name ≡ Some w) }
+    ensures wants { OnErr result (parameter.now.name ≡ None) }
+{
+    match parameter.name {
+        Some(word) => Ok(word),
+        None => Err(AllocError),
+    }
+}
+
 /// A parameter as a local. One that no local may be named by, no rule lets come: it answers want of memory.
 fn parameter_local(alloc: Global, parameter: &Parameter<'_>) -> Result<Local, AllocError>
     ensures { IfOk result (λ l. typed.view_local l ≡ spec.parameter_local (view_parameter parameter.now)) }
 {
-    let Some(word) = parameter.name else {
-        return Err(AllocError);
-    };
+    let word = parameter_word(parameter)?;
     let Ok(name) = Name::new(alloc, &word.text) else {
         return Err(AllocError);
     };
@@ -84,9 +95,7 @@ pub fn copy_locals(alloc: Global, locals: &[Local]) -> Result<Vec<Local>, AllocE
 pub fn numbers_below(alloc: Global, count: usize) -> Result<Vec<u32>, AllocError>
     ensures { IfOk result (λ numbers. numbers.items ≡ spec.numbers_below count) }
 {
-    let Ok(count) = u32::try_from(count) else {
-        return Err(AllocError);
-    };
+    let count = word_of(count)?;
     let mut numbers = Vec::new(alloc);
     for number in 0..count {
         numbers.push(number)?;

@@ -10,4 +10,4 @@ pub mod words;
 pub use cases::CaseList;
 pub use names::NameList;
 pub use scoped::VisibleNames;
-pub use words::{next_word, word_of};
+pub use words::next_word;

@@ -6,8 +6,8 @@ ghost use Rattle.std.specs.Option.{option_copied};
 ghost use Rattle.std.specs.Str.{bytes_eq};
 ghost use Rattle.pw_index.specs.Names.{noted};
 
-use crate::words::word_of;
 use pw_scope::Scopes;
+use pw_value::words::word_of;
 use std::alloc::{AllocError, Global};
 use std::marker::Model;
 

@@ -23,6 +23,7 @@ use pw_linked::fresh_name;
 use pw_token::Feature;
 use pw_tree::{StorageClass, Word};
 use pw_types::{CType, QType};
+use pw_value::words::word_of;
 use pw_walk::{CheckFault, CheckKind};
 use std::alloc::{AllocError, Global};
 

@@ -17,6 +17,7 @@ use pw_literal::push_characters;
 use pw_tree::Word;
 use pw_typed::{TForm, TItem};
 use pw_types::{CType, IntKind, QType};
+use pw_value::words::word_of;
 use pw_walk::{CheckFault, CheckKind};
 use std::alloc::{AllocError, Global};
 

@@ -12,10 +12,11 @@ ghost use Rattle.pw_rules.specs.States as states;
 ghost use Rattle.pw_types.specs.Views.{view_qtype};
 
 use crate::meanings::linked_before;
-use pw_checking::{Entity, LinkedName, State, word_of};
+use pw_checking::{Entity, LinkedName, State};
 use pw_kinds::{composite, copy_qtype};
 use pw_tree::Word;
 use pw_types::QType;
+use pw_value::words::word_of;
 use pw_walk::CheckFault;
 use std::alloc::{AllocError, Global};
 

@@ -3,7 +3,7 @@ use Rattle.pw_walk.proofs.CallLaws.{step_ok, step_err}
 use Rattle.pw_labels.proofs.Steps.{from, ends}
 use Rattle.pw_labels.specs.Views.{view_made}
 use Rattle.pw_rules.specs.Statements.{stmt_rule}
-use Rattle.pw_body.specs.Views.{view_items}
+use Rattle.pw_body.specs.Items.{view_items}
 use Rattle.pw_typed.proofs.Rows.{block_view}
 use Rattle.pw_types.specs.TypedTrees as T
 use Rattle.pw_body.proofs.stmt.block_rule.Goals as goal

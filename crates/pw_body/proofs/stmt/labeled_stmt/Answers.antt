@@ -4,7 +4,7 @@ use Rattle.pw_labels.proofs.Steps.{ends}
 use Rattle.pw_rules.specs.Statements.{stmt_rule}
 use Rattle.pw_typed.specs.Views.{view_stmt_form}
 use Rattle.pw_labels.specs.Views.{view_numbers}
-use Rattle.pw_body.specs.Views.{view_body}
+use Rattle.pw_branches.specs.Views.{view_body}
 use Rattle.pw_types.specs.TypedTrees as T
 use Rattle.pw_body.proofs.stmt.labeled_stmt.Goals as goal
 

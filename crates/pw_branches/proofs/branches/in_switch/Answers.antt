@@ -3,7 +3,7 @@ use Rattle.pw_walk.proofs.CallLaws.{step_ok, step_err}
 use Rattle.pw_labels.proofs.Steps.{from, from_within, ends}
 use Rattle.pw_checking.specs.StateViews.{view_state}
 use Rattle.pw_rules.specs.Statements.{enter_switch, in_switch}
-use Rattle.pw_body.proofs.stmt.in_switch.Goals as goal
+use Rattle.pw_branches.proofs.branches.in_switch.Goals as goal
 
 pub returns-in_err-body : goal.returns-in_err-body
 unfolding in_switch

@@ -4,9 +4,9 @@ use Rattle.pw_labels.proofs.Steps.{ends}
 use Rattle.pw_rules.specs.Statements.{stmt_rule}
 use Rattle.pw_typed.specs.Views.{view_stmt_form}
 use Rattle.pw_typed.specs.Views.{view_expr}
-use Rattle.pw_body.specs.Views.{view_body}
+use Rattle.pw_branches.specs.Views.{view_body}
 use Rattle.pw_types.specs.TypedTrees as T
-use Rattle.pw_body.proofs.stmt.switch_stmt.Goals as goal
+use Rattle.pw_branches.proofs.branches.switch_stmt.Goals as goal
 
 pub returns-in_err-value : goal.returns-in_err-value
 unfolding stmt_rule

@@ -1,10 +1,10 @@
 use Rattle.std.proofs.Common.{◌≡◌, drop}
 use Rattle.pw_checking.specs.StateViews.{view_state}
-use Rattle.pw_body.specs.Parts.{alternative_after}
-use Rattle.pw_body.specs.Views.{view_arm_list}
+use Rattle.pw_branches.specs.Parts.{alternative_after}
+use Rattle.pw_branches.specs.Views.{view_arm_list}
 use Rattle.pw_tree.specs.Views.{view_else_ifs, view_otherwise}
 use Rattle.pw_walk.specs.Walks.{outcome}
-use Rattle.pw_body.proofs.stmt.alternative_rule.Given as goal
+use Rattle.pw_branches.proofs.branches.alternative_rule.Given as goal
 
 -- what is left comes to what the whole does
 abbrev pub invariant-loop-next : goal.invariant-loop-next

@@ -2,8 +2,8 @@ use Rattle.std.proofs.Common.{refl, ap, ◌∙◌, rules}
 use Rattle.pw_walk.proofs.CallLaws.{step_ok, step_err}
 use Rattle.pw_labels.proofs.Steps.{ends, same}
 use Rattle.std.proofs.Common.{[], ◌∷◌, ◌++◌}
-use Rattle.pw_body.proofs.StatementLaws.{if_split, if_made}
-use Rattle.pw_body.proofs.stmt.if_stmt.Goals as goal
+use Rattle.pw_branches.proofs.BranchLaws.{if_split, if_made}
+use Rattle.pw_branches.proofs.branches.if_stmt.Goals as goal
 
 pub returns-in_err-first : goal.returns-in_err-first
 returns-in_err-first g c = same (if_split _ _ _ _ _) (step_err _ c.arm_rule.ensures c.in_err-first.was (search rules))

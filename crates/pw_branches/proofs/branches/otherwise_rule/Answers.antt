@@ -1,12 +1,12 @@
 use Rattle.std.proofs.Common.{refl, ap, ◌∙◌, rules}
 use Rattle.pw_walk.proofs.CallLaws.{step_ok, step_err}
 use Rattle.pw_labels.proofs.Steps.{ends, same}
-use Rattle.pw_body.proofs.StatementLaws.{none_after, otherwise_after}
-use Rattle.pw_body.specs.Parts.{alternative_after}
-use Rattle.pw_body.specs.Views.{view_arm_list}
+use Rattle.pw_branches.proofs.BranchLaws.{none_after, otherwise_after}
+use Rattle.pw_branches.specs.Parts.{alternative_after}
+use Rattle.pw_branches.specs.Views.{view_arm_list}
 use Rattle.pw_checking.specs.StateViews.{view_state}
 use Rattle.pw_tree.specs.Views.{view_otherwise, view_stmt}
-use Rattle.pw_body.proofs.stmt.otherwise_rule.Goals as goal
+use Rattle.pw_branches.proofs.branches.otherwise_rule.Goals as goal
 
 pub returns-in_err-body-in-Some : goal.returns-in_err-body-in-Some
 returns-in_err-body-in-Some g c =

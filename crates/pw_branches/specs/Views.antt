@@ -1,22 +1,18 @@
--- The plain data that the parts of statements show.
+-- The plain data that statements in boxes, and the parts of branches, show.
 use Rattle.std.specs.Prelude.{List, map}
 use Rattle.std.specs.declared.alloc.Global.{Global}
 use Rattle.std.specs.declared.boxed.Box.{Box}
-use Rattle.std.specs.declared.vec.Vec.{Vec}
 use Rattle.pw_types.specs.TypedTrees as tree
 use Rattle.pw_typed.specs.declared.tree.Arm.{Arm}
 use Rattle.pw_typed.specs.declared.tree.TStmt.{TStmt}
-use Rattle.pw_typed.specs.Views.{view_expr, view_stmt, view_stmts, view_otherwise}
+use Rattle.pw_typed.specs.Views.{view_expr, view_stmt, view_otherwise}
 use Rattle.pw_checking.specs.EntityViews.{view_switch}
 use Rattle.pw_rules.specs.States as states
 use Rattle.pw_rules.specs.Statements as rules
 use Rattle.pw_labels.specs.Gathered.{gathered}
-use Rattle.pw_body.specs.Parts.{OneArm, with_arm}
-use Rattle.pw_body.specs.declared.stmt.Behind.{Behind}
-use Rattle.pw_body.specs.declared.stmt.Switched.{Switched}
-
-abbrev pub view_items : Vec TStmt Global → tree.Statements
-view_items all = view_stmts all.items
+use Rattle.pw_branches.specs.Parts.{OneArm, with_arm}
+use Rattle.pw_branches.specs.declared.branches.Behind.{Behind}
+use Rattle.pw_branches.specs.declared.branches.Switched.{Switched}
 
 abbrev pub view_body : Box TStmt Global → tree.Statement
 view_body s = view_stmt s.value

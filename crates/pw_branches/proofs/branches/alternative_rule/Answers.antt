@@ -8,10 +8,10 @@ use Rattle.pw_walk.proofs.CallLaws.{made_by, same_call}
 use Rattle.pw_labels.proofs.Gathering.{item_made, item_stopped}
 use Rattle.pw_rules.specs.Statements.{alternative_rule}
 use Rattle.pw_tree.specs.Views.{view_else_ifs, view_expr, view_otherwise, view_stmt}
-use Rattle.pw_body.proofs.StatementLaws.{arms_more}
-use Rattle.pw_body.specs.Parts.{alternative_after, arm_rule, with_arm}
-use Rattle.pw_body.specs.Views.{view_arm, view_arm_list}
-use Rattle.pw_body.proofs.stmt.alternative_rule.Goals as goal
+use Rattle.pw_branches.proofs.BranchLaws.{arms_more}
+use Rattle.pw_branches.specs.Parts.{alternative_after, arm_rule, with_arm}
+use Rattle.pw_branches.specs.Views.{view_arm, view_arm_list}
+use Rattle.pw_branches.proofs.branches.alternative_rule.Goals as goal
 
 pub returns-in_err-arm : goal.returns-in_err-arm
 unfolding alternative_after

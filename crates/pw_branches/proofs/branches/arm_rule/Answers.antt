@@ -2,8 +2,8 @@ use Rattle.std.proofs.Common.{refl, ap, rules}
 use Rattle.pw_walk.proofs.CallLaws.{step_ok, step_err}
 use Rattle.pw_labels.proofs.Steps.{ends}
 use Rattle.pw_typed.specs.Views.{view_expr, view_stmt}
-use Rattle.pw_body.specs.Parts.{arm_rule, one_arm}
-use Rattle.pw_body.proofs.stmt.arm_rule.Goals as goal
+use Rattle.pw_branches.specs.Parts.{arm_rule, one_arm}
+use Rattle.pw_branches.proofs.branches.arm_rule.Goals as goal
 
 pub returns-in_err-condition : goal.returns-in_err-condition
 unfolding arm_rule
