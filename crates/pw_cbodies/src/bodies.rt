@@ -1,6 +1,6 @@
 //! The bodies of functions (ISO C90 6.3.2.2, 6.6.6.4).
 
-ghost use Rattle.std.specs.Prelude.{◌≡◌, ◌+◌, ◌<◌, ◌^◌, IfOk};
+ghost use Rattle.std.specs.Prelude.{◌≡◌, ◌≢◌, ◌+◌, ◌<◌, ◌≤◌, ◌^◌, IfErr, IfOk, MatchResult};
 ghost use Rattle.pw_cmean.specs.Acts.{during};
 ghost use Rattle.pw_cmean.specs.Evaluation.{bounded_call, site};
 ghost use Rattle.pw_cmean.specs.Execution as execution;
@@ -26,6 +26,13 @@ use pw_typed::TFunction;
 use pw_value::Value;
 use std::alloc::{AllocError, Global};
 
+/// The local that is the parameter of a place. There is no memory for one that 32 bits cannot count, and for no other.
+fn parameter_at(place: usize) -> Result<u32, AllocError>
+    ensures { MatchResult result (λ local. local ≡ place) (λ _. 2 ^ 32 ≤ place) }
+{
+    u32::try_from(place).ok().ok_or(AllocError)
+}
+
 /// Puts the arguments of a call into the parameters, at the node of a token. Of more than 32 bits can count there is
 /// want of memory.
 fn set_parameters<'a>(
@@ -38,7 +45,7 @@ fn set_parameters<'a>(
     ensures { Answers (λ done. tt) (view_env env.now).world (runs.set_parameters (site (view_env env.now) token) 0 args.now (view_env env.now)) (view_state state.old) result (view_state state.new) }
 {
     for (k, value) in args.iter().enumerate() {
-        let local = u32::try_from(k).ok().ok_or(AllocError)?;
+        let local = parameter_at(k)?;
         set_local(alloc, env, state, token, local, *value)?;
     }
     Ok(())
@@ -46,7 +53,8 @@ fn set_parameters<'a>(
 
 /// What the body of a function leaves: its end returns no result.
 fn result_of<'a>(flow: Flow) -> Result<Option<Value>, Stop<'a>>
-    ensures { (world : worlds.World) (s : Shown) → Answers (λ v. v) world (runs.result_of (view_flow flow)) s result s }
+    ensures answers { (world : worlds.World) (s : Shown) → Answers (λ v. v) world (runs.result_of (view_flow flow)) s result s }
+    ensures no_memory { IfErr result (λ stop. stop ≢ Stop.NoMemory) }
 {
     match flow {
         Flow::Normal => Ok(None),

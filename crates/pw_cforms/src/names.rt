@@ -1,6 +1,6 @@
 //! Names and strings: the places that they denote and their values.
 
-ghost use Rattle.std.specs.Prelude.{ℕ};
+ghost use Rattle.std.specs.Prelude.{◌≢◌, ℕ, IfErr};
 ghost use Rattle.pw_typed.specs.Views.{view_symbol};
 ghost use Rattle.pw_types.specs.TypeTrees as types;
 ghost use Rattle.pw_types.specs.TypedTrees as tree;
@@ -27,7 +27,8 @@ pub fn string_place<'a>(alloc: Global, env: &Env<'a>, number: u32) -> Result<Val
 
 /// The place of a local.
 pub fn own_place<'a>(env: &Env<'a>, local: u32) -> Result<Value, Stop<'a>>
-    ensures { (bound token : ℕ) (ty : types.QType) (s : Shown) → Locates (view_env env.now) bound (tree.Node token ty (tree.Local local)) s result s }
+    ensures locates { (bound token : ℕ) (ty : types.QType) (s : Shown) → Locates (view_env env.now) bound (tree.Node token ty (tree.Local local)) s result s }
+    ensures no_memory { IfErr result (λ stop. stop ≢ Stop.NoMemory) }
 {
     local_place(env, local)
 }
@@ -69,7 +70,8 @@ pub fn local<'a>(
     ty: &QType,
     local: u32,
 ) -> Result<Option<Value>, Stop<'a>>
-    ensures { (bound : ℕ) → Evaluates (view_env env.now) bound (tree.Node token (view_qtype ty.now) (tree.Local local)) (view_state state.now) result (view_state state.now) }
+    ensures evaluates { (bound : ℕ) → Evaluates (view_env env.now) bound (tree.Node token (view_qtype ty.now) (tree.Local local)) (view_state state.now) result (view_state state.now) }
+    ensures no_memory { IfErr result (λ stop. stop ≢ Stop.NoMemory) }
 {
     let place = own_place(env, local)?;
     value_at(env, state, token, ty, place)

@@ -1,6 +1,6 @@
 //! Lvalues: the places that they denote and their values.
 
-ghost use Rattle.std.specs.Prelude.{◌≡◌, ℕ, false};
+ghost use Rattle.std.specs.Prelude.{◌≡◌, ◌≢◌, ℕ, false, IfErr};
 ghost use Rattle.pw_typed.specs.Views.{view_expr};
 ghost use Rattle.pw_types.specs.TypeTrees as types;
 ghost use Rattle.pw_types.specs.TypedTrees as tree;
@@ -174,7 +174,8 @@ pub fn deref_place<'a, P: Expressions<'a>>(
 
 /// What denotes no place is so in no accepted program.
 pub fn no_place<'a>() -> Result<Value, Stop<'a>>
-    ensures { (e : meaning.Env) (bound token : ℕ) (ty : types.QType) (form : tree.Form) (s : Shown) → denotes form ≡ false → Locates e bound (tree.Node token ty form) s result s }
+    ensures locates { (e : meaning.Env) (bound token : ℕ) (ty : types.QType) (form : tree.Form) (s : Shown) → denotes form ≡ false → Locates e bound (tree.Node token ty form) s result s }
+    ensures no_memory { IfErr result (λ stop. stop ≢ Stop.NoMemory) }
 {
     Err(Stop::Ended(Ending::Wrong))
 }

@@ -6,20 +6,13 @@ ghost use Rattle.pw_typed.specs.Views.{view_function, view_global, view_item, vi
 
 use pw_flow::{Block, End, FlowFn, FlowGlobal, Item, Op};
 use pw_items::Items;
-use pw_lexpr::full_name;
+use pw_lforms::{full_name, name_of};
 use pw_lower::operators::{bytes_of, kind_of};
 use pw_typed::{Declared, Symbol, TFunction, TGlobal, TItem};
 use pw_types::{Types, shape};
 use pw_value::program_names::{EXIT, MAIN, START, START_SHAPE};
 use pw_value::{Name, NoMemory, Shape};
 use std::alloc::Global;
-
-/// A name of the compiler's own.
-fn name_of(alloc: Global, bytes: &[u8]) -> Result<Name, NoMemory>
-    ensures { IfOk result (λ name. name ≡ bytes.now) }
-{
-    Name::new(alloc, bytes).ok().ok_or(NoMemory)
-}
 
 /// What the program starts with: it calls `main`, and passes the result to `exit`.
 pub fn start_function(alloc: Global) -> Result<FlowFn, NoMemory>

@@ -5,22 +5,22 @@ use Rattle.pw_ccalls.proofs.AnswerLaws.{gives, same, ends_so}
 use Rattle.pw_clists.specs.Flows.{view_flow}
 use Rattle.pw_cbodies.proofs.bodies.result_of.Goals as goal
 
-pub returns-in-Normal : goal.returns-in-Normal
+pub returns-in-Normal-clause-answers : goal.returns-in-Normal-clause-answers
 unfolding result_of
-returns-in-Normal c world s = same (ap (λ f. result_of (view_flow f)) c.in-Normal.is) (gives None)
+returns-in-Normal-clause-answers c world s = same (ap (λ f. result_of (view_flow f)) c.in-Normal.is) (gives None)
 
-pub returns-in-Returns : goal.returns-in-Returns
+pub returns-in-Returns-clause-answers : goal.returns-in-Returns-clause-answers
 unfolding result_of
-returns-in-Returns c world s = same (ap (λ f. result_of (view_flow f)) c.in-Returns.is) (gives c.in-Returns.value)
+returns-in-Returns-clause-answers c world s = same (ap (λ f. result_of (view_flow f)) c.in-Returns.is) (gives c.in-Returns.value)
 
-pub returns-in-Breaks : goal.returns-in-Breaks
+pub returns-in-Breaks-clause-answers : goal.returns-in-Breaks-clause-answers
 unfolding result_of wrong
-returns-in-Breaks c world s = same (ap (λ f. result_of (view_flow f)) c.in-Breaks.is) (ends_so refl)
+returns-in-Breaks-clause-answers c world s = same (ap (λ f. result_of (view_flow f)) c.in-Breaks.is) (ends_so refl)
 
-pub returns-in-Continues : goal.returns-in-Continues
+pub returns-in-Continues-clause-answers : goal.returns-in-Continues-clause-answers
 unfolding result_of wrong
-returns-in-Continues c world s = same (ap (λ f. result_of (view_flow f)) c.in-Continues.is) (ends_so refl)
+returns-in-Continues-clause-answers c world s = same (ap (λ f. result_of (view_flow f)) c.in-Continues.is) (ends_so refl)
 
-pub returns-in-Goes : goal.returns-in-Goes
+pub returns-in-Goes-clause-answers : goal.returns-in-Goes-clause-answers
 unfolding result_of wrong
-returns-in-Goes c world s = same (ap (λ f. result_of (view_flow f)) c.in-Goes.is) (ends_so refl)
+returns-in-Goes-clause-answers c world s = same (ap (λ f. result_of (view_flow f)) c.in-Goes.is) (ends_so refl)

@@ -18,4 +18,4 @@ pub returns : goal.returns
 unfolding with_arguments
 returns g c =
     then_ok _ c.set_parameters.ensures c.in_ok-set_parameters.was
-    (then_ok result_of c.meaning.ensures c.in_ok-flow.was (c.result_of.ensures (view_env c.args.env.now).world (view_state c.meaning.new.state)))
+    (then_ok result_of c.meaning.ensures c.in_ok-flow.was (c.result_of.ensures.answers (view_env c.args.env.now).world (view_state c.meaning.new.state)))

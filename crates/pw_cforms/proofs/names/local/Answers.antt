@@ -4,10 +4,10 @@ use Rattle.pw_ccalls.proofs.AnswerLaws.{then_ok, then_err}
 use Rattle.pw_types.specs.Views.{view_qtype}
 use Rattle.pw_cforms.proofs.names.local.Goals as goal
 
-pub returns-in_err-place : goal.returns-in_err-place
+pub returns-in_err-place-clause-evaluates : goal.returns-in_err-place-clause-evaluates
 unfolding answer_of
-returns-in_err-place c bound = then_err _ (c.own_place.ensures bound c.args.token (view_qtype c.args.ty.now) _) c.in_err-place.was (search rules)
+returns-in_err-place-clause-evaluates c bound = then_err _ (c.own_place.ensures.locates bound c.args.token (view_qtype c.args.ty.now) _) c.in_err-place.was (search rules)
 
-pub returns : goal.returns
+pub returns-clause-evaluates : goal.returns-clause-evaluates
 unfolding answer_of
-returns c bound = then_ok _ (c.own_place.ensures bound c.args.token (view_qtype c.args.ty.now) _) c.in_ok-place.was c.value_at.ensures.answers
+returns-clause-evaluates c bound = then_ok _ (c.own_place.ensures.locates bound c.args.token (view_qtype c.args.ty.now) _) c.in_ok-place.was c.value_at.ensures.answers

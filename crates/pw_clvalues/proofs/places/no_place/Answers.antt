@@ -5,6 +5,6 @@ use Rattle.pw_cmean.specs.Acts.{wrong}
 use Rattle.pw_clvalues.proofs.PlaceLemmas.{no_lvalue}
 use Rattle.pw_clvalues.proofs.places.no_place.Goals as goal
 
-pub returns : goal.returns
+pub returns-clause-locates : goal.returns-clause-locates
 unfolding wrong
-returns c e bound token ty form s is = same (no_lvalue token ty form (calls e.world bound) e is) (ends_so refl)
+returns-clause-locates c e bound token ty form s is = same (no_lvalue token ty form (calls e.world bound) e is) (ends_so refl)
