@@ -1,6 +1,7 @@
 //! A folder of files, whose calls answer with the library's errors.
 
-ghost use Rattle.std.specs.Prelude.{◌≡◌, ◌≢◌, Option, None, Some, Ok, IfOk, IfErr, IfSome, OnOk, OnErr, take, string_cmp};
+ghost use Rattle.std.specs.Prelude.{◌≡◌, ◌≢◌, ◌↔◌, ◌⊎◌, ◌++◌, ◌∷◌, [], Option, None, Some, Ok, Err, IfOk, IfErr, IfSome, IsErrAnd, IsOk, IsOkAnd, IsTrue, OnOk, OnErr, false, map, take, true, string_bytes, string_cmp};
+ghost use Rattle.std.specs.Fs.{IsDir, dir_entry_name, file_type};
 ghost use Rattle.std.specs.List.Sorted.{IsSorted};
 ghost use Rattle.std.specs.IoError.{error_kind};
 ghost use Rattle.std.specs.declared.io.ErrorKind.{ErrorKind};
@@ -10,7 +11,7 @@ ghost use Rattle.pw_system.specs.Folders.{IsAbsent, Opens};
 
 use std::alloc::Global;
 use std::fs;
-use std::fs::{DirEntry, OpenFile};
+use std::fs::{DirEntry, Metadata, OpenFile};
 use std::io::{self, ErrorKind, Read};
 use std::rt::Files;
 
@@ -97,9 +98,14 @@ impl<'a, R> CurrentFolder<'a, R> {
     }
 }
 
-/// Whether the name is that of a file or of a link to one. A folder, a link to one and a link to nothing are no files.
-fn is_file<R: Files>(rt: &R, name: &str) -> io::Result<bool> {
-    match fs::metadata(rt, name) {
+/// Whether what the system tells of a name is that it is a file's, or that of a link to one. A folder, a link to one and a
+/// link to nothing are no files.
+fn is_file(told: io::Result<Metadata>) -> io::Result<bool>
+    ensures file { IfOk told (λ metadata. IsOkAnd result (λ is. IsTrue is ↔ ¬ (IsDir (file_type metadata)))) }
+    ensures none { IfErr told (λ e. error_kind e ≡ ErrorKind.NotFound → result ≡ Ok false) }
+    ensures fault { IfErr told (λ e. error_kind e ≢ ErrorKind.NotFound → result ≡ Err e) }
+{
+    match told {
         Ok(metadata) => Ok(!metadata.is_dir()),
         Err(fault) if fault.kind() == ErrorKind::NotFound => Ok(false),
         Err(fault) => Err(fault),
@@ -110,6 +116,7 @@ fn is_file<R: Files>(rt: &R, name: &str) -> io::Result<bool> {
 fn with_text<E: Drop>(entry: io::Result<E>) -> io::Result<Option<E>>
     ensures text { IfOk entry (λ found. result ≡ Ok (Some found)) }
     ensures none { IfErr entry (λ e. error_kind e ≡ ErrorKind.InvalidFilename → result ≡ Ok None) }
+    ensures other { IfErr entry (λ e. error_kind e ≢ ErrorKind.InvalidFilename → result ≡ Err e) }
 {
     match entry {
         Ok(entry) => Ok(Some(entry)),
@@ -118,20 +125,35 @@ fn with_text<E: Drop>(entry: io::Result<E>) -> io::Result<Option<E>>
     }
 }
 
+/// Puts a name behind others, where it is a file's.
+fn push_name(alloc: Global, names: &mut Vec<String>, name: &str, is_file: bool) -> io::Result<()>
+    ensures file { is_file ≡ true → OnOk result (map string_bytes names.new.items ≡ map string_bytes names.old.items ++ name.now ∷ []) }
+    ensures same { is_file ≡ false → names.new ≡ names.old }
+    ensures done { is_file ≡ false → IsOk result }
+{
+    if is_file {
+        names.push(String::from_str(alloc, name)?)?;
+    }
+    Ok(())
+}
+
 /// Puts the name of an entry behind others, where it is a text and that of a file.
 fn push_entry<R: Files + AllocGlobal + Clone + Drop>(
     alloc: Global,
     rt: &R,
     names: &mut Vec<String>,
     entry: io::Result<DirEntry<R, R::A>>,
-) -> io::Result<()> {
+) -> io::Result<()>
+    ensures name { IfOk entry (λ found. OnOk result ((names.new ≡ names.old) ⊎ (map string_bytes names.new.items ≡ map string_bytes names.old.items ++ dir_entry_name found ∷ []))) }
+    ensures same { IfErr entry (λ e. names.new ≡ names.old) }
+    ensures none { IfErr entry (λ e. error_kind e ≡ ErrorKind.InvalidFilename → IsOk result) }
+    ensures fault { IfErr entry (λ e. error_kind e ≢ ErrorKind.InvalidFilename → result ≡ Err e) }
+{
     let Some(entry) = with_text(entry)? else {
         return Ok(());
     };
-    if is_file(rt, entry.file_name())? {
-        names.push(String::from_str(alloc, entry.file_name())?)?;
-    }
-    Ok(())
+    let is_file = is_file(fs::metadata(rt, entry.file_name()))?;
+    push_name(alloc, names, entry.file_name(), is_file)
 }
 
 /// The names of the files in the current folder, in byte order. A name that is no text is left out.
@@ -149,18 +171,30 @@ fn file_names<R: Files + AllocGlobal + Clone + Drop>(
     Ok(names)
 }
 
+/// The file that was opened, by what the system tells of it: a folder is not found.
+fn unless_folder<F: Drop>(file: F, told: io::Result<Metadata>) -> io::Result<F>
+    ensures file { IfOk told (λ metadata. ¬ (IsDir (file_type metadata)) → result ≡ Ok file) }
+    ensures folder { IfOk told (λ metadata. IsDir (file_type metadata) → IsErrAnd result (λ e. error_kind e ≡ ErrorKind.NotFound)) }
+    ensures fault { IfErr told (λ e. result ≡ Err e) }
+{
+    match told {
+        Ok(metadata) if metadata.is_dir() => Err(io::Error::from(ErrorKind::NotFound)),
+        Ok(_) => Ok(file),
+        Err(fault) => Err(fault),
+    }
+}
+
 /// Opens a file of the current folder. A folder of the name is not found.
 fn open_file<R: Files>(rt: &R, name: &str) -> io::Result<R::File> {
     let file = fs::open(rt, name)?;
-    if file.metadata()?.is_dir() {
-        return Err(io::Error::from(ErrorKind::NotFound));
-    }
-    Ok(file)
+    let told = file.metadata();
+    unless_folder(file, told)
 }
 
 /// What a fault in reading an opened file comes to. The file was there: one that says otherwise is answered as another.
 fn read_fault(fault: io::Error) -> io::Error
     ensures found { error_kind result ≢ ErrorKind.NotFound }
+    ensures gone { error_kind fault ≡ ErrorKind.NotFound → error_kind result ≡ ErrorKind.Other }
     ensures other { error_kind fault ≢ ErrorKind.NotFound → result ≡ fault }
 {
     if fault.kind() == ErrorKind::NotFound {
