@@ -3,7 +3,7 @@
 
 mod numbers;
 
-ghost use Rattle.std.specs.Prelude.{◌≡◌, ◌≤◌, ℕ, All, List, Ok};
+ghost use Rattle.std.specs.Prelude.{◌≡◌, ◌<◌, ◌≤◌, ℕ, All, List, Ok};
 ghost use Rattle.pw_lower_laws.specs.Parts.{partless};
 ghost use Rattle.pw_lowered.specs.Within.{AreRecordsWithin, IsCopied, IsIdentifier, IsNamed};
 ghost use Rattle.pw_rules.specs.Checks.{Checks};
@@ -14,6 +14,7 @@ ghost use Rattle.pw_tree.specs.Trees.{Module};
 ghost use Rattle.pw_tree.specs.WellFormed.{WellFormedModule};
 ghost use Rattle.pw_types.specs.Rooms.{room_of};
 ghost use Rattle.pw_types.specs.TypeTrees.{type_of};
+ghost use Rattle.pw_types.specs.TypedModules.{item_size};
 ghost use Rattle.pw_types.specs.TypedTrees.{ModuleValue};
 ghost use Rattle.pw_value.specs.Limits.{parameter_limit, room_limit};
 ghost use Rattle.pw_within.specs.Names.{AreIdentifiers, AreNumbered};
@@ -64,4 +65,10 @@ pub fn accepted_names_are_identifiers()
 /// Each identifier of a text's tree is one of C90 6.1.2.
 pub fn identifiers_of_texts()
     ensures { (text : List ℕ) (tokens : List Token) (tree : Module) → IsLexed text tokens → IsTreeOf (spelled_all text tokens) tree → AreIdentifiers tree }
+{}
+
+/// No item of the first bytes of an object of a module that checking accepts is empty, with the same premise.
+pub fn accepted_items_are_not_empty()
+    ensures { (tree : Module) (m : ModuleValue) → WellFormedModule tree → Checks tree (Ok m)
+        → All (λ g. All (λ p. 0 < item_size p.item) g.items) m.globals }
 {}
