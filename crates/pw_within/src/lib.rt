@@ -5,7 +5,7 @@ mod numbers;
 
 ghost use Rattle.std.specs.Prelude.{◌≡◌, ◌<◌, ◌≤◌, ℕ, All, List, Ok};
 ghost use Rattle.pw_lower_laws.specs.Parts.{partless};
-ghost use Rattle.pw_lowered.specs.Within.{AreRecordsWithin, IsCopied, IsIdentifier, IsNamed};
+ghost use Rattle.pw_lowered.specs.Within.{AreRecordsWithin, IsCopied, IsIdentifier, IsNamed, IsWithin, KeepsLimits};
 ghost use Rattle.pw_rules.specs.Checks.{Checks};
 ghost use Rattle.pw_token.specs.Tokenization.{IsLexed};
 ghost use Rattle.pw_token.specs.declared.token.Token.{Token};
@@ -72,3 +72,13 @@ pub fn accepted_items_are_not_empty()
     ensures { (tree : Module) (m : ModuleValue) → WellFormedModule tree → Checks tree (Ok m)
         → All (λ g. All (λ p. 0 < item_size p.item) g.items) m.globals }
 {}
+
+/// A module that checking accepts is within the limits for which its flow graph is lawful (`IsWithin`), if the types of its
+/// expressions and the arguments of its calls keep theirs; the other premises are those of the laws above.
+pub fn accepted_is_within()
+    ensures { (tree : Module) (m : ModuleValue) → WellFormedModule tree → AreIdentifiers tree → Checks tree (Ok m) → AreNumbered m
+        → All (λ f. KeepsLimits m.records f.body) m.functions → IsWithin m }
+{
+    accepted_records_are_laid();
+    accepted_locals_are_objects();
+}
