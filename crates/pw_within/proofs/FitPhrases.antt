@@ -24,13 +24,13 @@ use Rattle.pw_walk.specs.Walks.{Walk, bind}
 use Rattle.pw_rules.specs.Constants.{constant_value}
 use Rattle.pw_rules.specs.Derivations.{Derivation, ToPointer, ToArray, ToFunction, Declared, ParameterValue, pointer_step, spot_of, step_type, built}
 use Rattle.pw_rules.specs.Kinds.{plain, int_type, qualify}
-use Rattle.pw_rules.specs.Leaves.{length_rule, is_positive, string_rule, string_point, new_record, new_tag, reference_by, reference_rule, opening_by, opening_rule, open_record, member_rule, content_by, closing_rule, enumeration_rule, enumerating_rule, enumerator_rule, parameter_rule, enter_parameter, bindings_rule, record_kind, record_spot, parameter_types, is_nil, is_last, first_of_list, first_of_declaration, name_text}
+use Rattle.pw_rules.specs.Leaves.{length_rule, is_positive, string_rule, string_point, new_record, new_tag, reference_by, reference_rule, opening_by, opening_rule, open_record, member_rule, content_by, closing_rule, enumeration_rule, enumerating_rule, enumerator_rule, parameter_rule, enter_parameter, bindings_rule, record_kind, record_spot, parameter_types, is_nil, is_last, first_of_list, first_of_declaration, name_text, texts_of}
 use Rattle.pw_rules.specs.Limits.{Spot}
 use Rattle.pw_rules.specs.Operands.{Operand}
 use Rattle.pw_rules.specs.Operators.{value_rule}
 use Rattle.pw_rules.specs.Phrases.{typedef_type, typedef_rule, expr_rule, postfixes_rule, arguments_rule, operations_rule, specifiers_rule, members_rule, member_declarators_rule, enumerators_rule, declarator_rule, core_rule, suffixes_rule, parameters_rule}
 use Rattle.pw_rules.specs.SpecifierLists.{Gathered, nothing_gathered, gather_storage, gather_qualifier, gather_word, gather_type, Specified, specified, table, type_listed, same_words}
-use Rattle.pw_rules.specs.States.{State, Rule, Entity, TypeName, EnumerationConstant, LocalObject, StaticObject, Linked, MadeState, BodyState, enter, enter_tag, add_record, put_record, scoped, uncounted, one_deeper, leave_scope, with_made, with_body, tag_of, tag_here, entity_of}
+use Rattle.pw_rules.specs.States.{State, Rule, Entity, TypeName, EnumerationConstant, LocalObject, StaticObject, Linked, MadeState, BodyState, enter, enter_tag, add_record, put_record, scoped, uncounted, one_deeper, leave_scope, with_made, with_body, tag_of, tag_here, entity_of, LinkedName, HiddenObject, add_hidden}
 use Rattle.pw_rules.specs.declared.names.Tag.{Tag}
 use Rattle.pw_rules.specs.declared.names.Tag.TheVariants as G
 use Rattle.pw_well_typed.specs.Lawful.{IsLawful}
@@ -42,7 +42,8 @@ use Rattle.pw_well_typed.proofs.Objects.{object_complete}
 use Rattle.pw_well_typed.proofs.Changes.{deeper_lawful, left_lawful_alone, Opened, opened_later}
 use Rattle.pw_well_typed.proofs.Leaves.{Nothing, string_runs, reference_runs, GoodReference, opening_runs, GoodMembers, closing_runs, GoodGathered, GoodSpecified, specified_runs, GoodDeclared, GoodType, GoodParameters, scalars_later, members_later, member_runs, parameter_storage_runs, parameter_runs, enumerator_runs, enumerating_runs}
 use Rattle.pw_well_typed.proofs.Phrases.{specifiers_post, declarator_post, scalars_only, later_type}
-use Rattle.pw_within.proofs.Fits.{HasElements, IsFit, IsSolid, AreSolid, MembersFit, content_solid}
+use Rattle.pw_literal.specs.Characters.{characters_of_strings}
+use Rattle.pw_within.proofs.Fits.{AreSome, some_end, HasElements, IsFit, IsSolid, AreSolid, MembersFit, content_solid}
 use Rattle.pw_within.proofs.Still.{Still, value_still, identifier_still, number_still, character_still, sign_still, deref_still, address_still, step_still, size_still, type_size_still, cast_still, operation_still, conditional_still, assignment_still, index_still, call_still, dot_still, arrow_still, length_still, typedef_still, enumeration_still, enumerator_value_still, specified_still, built_still, named_still, storage_still, bindings_still}
 
 -- ---- options
@@ -58,12 +59,18 @@ NameFits (TypeName q) = IsFit (type_of q)
 NameFits (EnumerationConstant n) = Unit {0}
 NameFits (LocalObject k q register) = Unit {0}
 NameFits (StaticObject k q) = Unit {0}
-NameFits (Linked k q) = Unit {0}
+NameFits (Linked k q) = IsFit (type_of q)
+
+abbrev pub HaveFitMembers : List RecordValue → Type 0
+HaveFitMembers r = (n : ℕ) (c : ContentValue) → content_at r n ≡ Some c → MembersFit c.members
 
 -- each record that is defined has a lawful size and alignment, and arrays of types with a name have elements
 pub record Fit (s : State) : Type 0 where
   pub contents : AreSolid s.types.records
   pub names : (k : ℕ) (e : Entity) → slice_get s.scopes.entities k ≡ Some e → NameFits e
+  pub members : HaveFitMembers s.types.records
+  pub items : (i : ℕ) (l : LinkedName) → slice_get s.types.linked i ≡ Some l → AreSome l.items
+  pub objects : (k : ℕ) (h : HiddenObject) → slice_get s.made.hidden k ≡ Some h → AreSome h.items
 
 abbrev pub IsFitting : State → Type 0
 IsFitting s = IsLawful s × Fit s
@@ -95,30 +102,30 @@ both_fit {A} s w Good h k =
 
 -- ---- changes of the state
 
-pub made_fit : (s : State) (f : MadeState → MadeState) → IsFitting s → IsFitting (with_made f s)
-made_fit s f h = (
+pub made_fit : (s : State) (b : Bool) → IsFitting s → IsFitting (with_made (λ m. record m { counting = b }) s)
+made_fit s b h = (
   record { contents = h.0.contents; begun = h.0.begun; counted = h.0.counted; entities = h.0.entities; tags = h.0.tags; linked = h.0.linked; laid = h.0.laid; apart = h.0.apart; depths = h.0.depths },
-  record { contents = h.1.contents; names = h.1.names },
+  record { contents = h.1.contents; names = h.1.names; members = h.1.members; items = h.1.items; objects = h.1.objects },
 )
 
 pub body_fit : (s : State) (f : BodyState → BodyState) → IsFitting s → IsFitting (with_body f s)
 body_fit s f h = (
   record { contents = h.0.contents; begun = h.0.begun; counted = h.0.counted; entities = h.0.entities; tags = h.0.tags; linked = h.0.linked; laid = h.0.laid; apart = h.0.apart; depths = h.0.depths },
-  record { contents = h.1.contents; names = h.1.names },
+  record { contents = h.1.contents; names = h.1.names; members = h.1.members; items = h.1.items; objects = h.1.objects },
 )
 
 pub scoped_fit : {A : Type 0} (s : State) (inside : Rule A) → IsFitting s → ((t : State) → IsFitting t → Post (inside t) Fitted) → Post (scoped inside s) Fitted
 unfolding scoped bind
 scoped_fit s inside l h =
-    then_fit (inside (one_deeper s)) _ (h (one_deeper s) (deeper_lawful s l.0, record { contents = l.1.contents; names = l.1.names }))
-    (λ r k. (left_lawful_alone r.1 k.0, record { contents = k.1.contents; names = k.1.names }))
+    then_fit (inside (one_deeper s)) _ (h (one_deeper s) (deeper_lawful s l.0, record { contents = l.1.contents; names = l.1.names; members = l.1.members; items = l.1.items; objects = l.1.objects }))
+    (λ r k. (left_lawful_alone r.1 k.0, record { contents = k.1.contents; names = k.1.names; members = k.1.members; items = k.1.items; objects = k.1.objects }))
 
 uncounted_fit : {A : Type 0} (s : State) (inside : Rule A) → IsFitting s → ((t : State) → IsFitting t → Post (inside t) Fitted) → Post (uncounted inside s) Fitted
 unfolding uncounted bind
-uncounted_fit s inside l h = then_fit (inside _) _ (h _ (made_fit s (λ m. record m { counting = false }) l)) (λ r k. made_fit r.1 (λ m. record m { counting = s.made.counting }) k)
+uncounted_fit s inside l h = then_fit (inside _) _ (h _ (made_fit s false l)) (λ r k. made_fit r.1 s.made.counting k)
 
 pub entered_fit : (s : State) (name : List ℕ) (x : Entity) → Fit s → NameFits x → Fit (enter name x s)
-entered_fit s name x f h = record { contents = f.contents; names = λ k e g. by k e (get_more s.scopes.entities x k e g) }
+entered_fit s name x f h = record { members = f.members; items = f.items; objects = f.objects; contents = f.contents; names = λ k e g. by k e (get_more s.scopes.entities x k e g) }
   where
     by : (k : ℕ) (e : Entity) → (slice_get s.scopes.entities k ≡ Some e) ⊎ ((k ≡ length s.scopes.entities) × (x ≡ e)) → NameFits e
     by k e (inl g) = f.names k e g
@@ -137,6 +144,13 @@ added_solid r kind solid n c e = let x = content_of (r ++ declared kind ∷ []) 
     by x f (inl g) = solid n c (content_by_record r n x c g f)
     by x f (inr g) = never_some (Rattle.std.proofs.Common.ap (λ (y : RecordValue). y.content) g.1 ∙ f)
 
+pub added_members : (r : List RecordValue) (kind : RecordKind) → HaveFitMembers r → HaveFitMembers (r ++ declared kind ∷ [])
+added_members r kind solid n c e = let x = content_of (r ++ declared kind ∷ []) n c e in by x.0 x.2 (get_more r (declared kind) n x.0 x.1)
+  where
+    by : (x : RecordValue) → x.content ≡ Some c → (slice_get r n ≡ Some x) ⊎ ((n ≡ length r) × (declared kind ≡ x)) → MembersFit c.members
+    by x f (inl g) = solid n c (content_by_record r n x c g f)
+    by x f (inr g) = never_some (Rattle.std.proofs.Common.ap (λ (y : RecordValue). y.content) g.1 ∙ f)
+
 put_solid : (r : List RecordValue) (kind : RecordKind) (place : ℕ) (c : ContentValue) → AreSolid r → IsSolid c.layout → AreSolid (Rattle.pw_rules.specs.States.put_at place (defined kind c) r)
 put_solid r kind place c solid h n d e =
     let x = content_of (Rattle.pw_rules.specs.States.put_at place (defined kind c) r) n d e in by x.0 x.1 x.2 (put_either place (defined kind c) r n)
@@ -147,6 +161,18 @@ put_solid r kind place c solid h n d e =
         let one : defined kind c ≡ x = some_same (sym k.1 ∙ g) in
         let same : c ≡ d = some_same (Rattle.std.proofs.Common.ap (λ (y : RecordValue). y.content) one ∙ f) in
         subst (λ (y : ContentValue). IsSolid y.layout) same h
+    by x g f (inr k) = solid n d (content_by_record r n x d (sym k ∙ g) f)
+
+pub put_members : (r : List RecordValue) (kind : RecordKind) (place : ℕ) (c : ContentValue) → HaveFitMembers r → MembersFit c.members → HaveFitMembers (Rattle.pw_rules.specs.States.put_at place (defined kind c) r)
+put_members r kind place c solid h n d e =
+    let x = content_of (Rattle.pw_rules.specs.States.put_at place (defined kind c) r) n d e in by x.0 x.1 x.2 (put_either place (defined kind c) r n)
+  where
+    by : (x : RecordValue) → slice_get (Rattle.pw_rules.specs.States.put_at place (defined kind c) r) n ≡ Some x → x.content ≡ Some d
+        → ((n ≡ place) × (slice_get (Rattle.pw_rules.specs.States.put_at place (defined kind c) r) n ≡ Some (defined kind c))) ⊎ (slice_get (Rattle.pw_rules.specs.States.put_at place (defined kind c) r) n ≡ slice_get r n) → MembersFit d.members
+    by x g f (inl k) =
+        let one : defined kind c ≡ x = some_same (sym k.1 ∙ g) in
+        let same : c ≡ d = some_same (Rattle.std.proofs.Common.ap (λ (y : RecordValue). y.content) one ∙ f) in
+        subst (λ (y : ContentValue). MembersFit y.members) same h
     by x g f (inr k) = solid n d (content_by_record r n x d (sym k ∙ g) f)
 
 -- ---- types
@@ -244,9 +270,16 @@ noted_fit : (s : State) (b : Bool) (t : State) → Fit s → Fit t → Fit (if b
 noted_fit s true t f g = g
 noted_fit s false t f g = f
 
+pub hidden_more : (s : State) (h : HiddenObject) → Fit s → AreSome h.items → Fit (add_hidden h s)
+hidden_more s h f some = record { contents = f.contents; names = f.names; members = f.members; items = f.items; objects = λ k x e. by k x (get_more s.made.hidden h k x e) }
+  where
+    by : (k : ℕ) (x : HiddenObject) → (slice_get s.made.hidden k ≡ Some x) ⊎ ((k ≡ length s.made.hidden) × (h ≡ x)) → AreSome x.items
+    by k x (inl e) = f.objects k x e
+    by k x (inr e) = subst (λ (y : HiddenObject). AreSome y.items) e.1 some
+
 string_kept : (ws : List Word) (s : State) → Fit s → Post (string_rule ws s) (λ r. Fit r.1)
 unfolding string_rule string_point bind
-string_kept ws s f = λ met. noted_fit s s.made.counting _ f (record { contents = f.contents; names = f.names })
+string_kept ws s f = λ met. noted_fit s s.made.counting _ f (hidden_more s _ f (some_end (characters_of_strings (texts_of ws)) 0, tt))
 
 string_fit : (ws : List Word) (s : State) → IsFitting s → Post (string_rule ws s) Fitted
 string_fit ws s l = both_fit s (string_rule ws s) Fine (string_runs s ws l.0) (string_kept ws s l.1)
@@ -265,7 +298,7 @@ typedef_fit w s f =
 
 new_tag_fit : (kind : RecordKind) (w : Word) (s : State) → Fit s → Post (new_tag kind w s) (λ r. Fit r.1)
 unfolding new_tag new_record bind
-new_tag_fit kind w s f = λ met. record { contents = added_solid s.types.records kind f.contents; names = f.names }
+new_tag_fit kind w s f = λ met. record { contents = added_solid s.types.records kind f.contents; names = f.names; members = added_members s.types.records kind f.members; items = f.items; objects = f.objects }
 
 reference_by_fit : (kind : RecordKind) (w : Word) (o : Option Tag) (s : State) → Fit s → Post (reference_by kind w o s) (λ r. Fit r.1 × IsFit (type_of r.0.0))
 unfolding reference_by bind
@@ -285,9 +318,9 @@ opening_by_fit kind w (Some G.Enumeration) s f = tt
 
 opening_fit : (kind : RecordKind) (o : Option Word) (s : State) → Fit s → Post (opening_rule kind o s) (λ r. Fit r.1)
 unfolding opening_rule new_record bind
-opening_fit kind None s f = record { contents = added_solid s.types.records kind f.contents; names = f.names }
+opening_fit kind None s f = record { contents = added_solid s.types.records kind f.contents; names = f.names; members = added_members s.types.records kind f.members; items = f.items; objects = f.objects }
 opening_fit kind (Some w) s f =
-    post_bind (opening_by kind w (tag_here s w.text) s) _ (λ r. Fit r.1) (λ r. Fit r.1) (opening_by_fit kind w (tag_here s w.text) s f) (λ r g. record { contents = g.contents; names = g.names })
+    post_bind (opening_by kind w (tag_here s w.text) s) _ (λ r. Fit r.1) (λ r. Fit r.1) (opening_by_fit kind w (tag_here s w.text) s f) (λ r g. record { contents = g.contents; names = g.names; members = g.members; items = g.items; objects = g.objects })
 
 closing_fit : (kind : RecordKind) (token n : ℕ) (ms : List MemberValue) (s : State) → Fit s → NotEmpty ms → MembersFit ms → GoodMembers s ms → Post (closing_rule kind token n ms s) (λ r. Fit r.1 × IsFit (type_of r.0))
 unfolding closing_rule bind
@@ -296,6 +329,9 @@ closing_fit kind token n ms s f some fit good = λ met. (
     contents = put_solid s.types.records kind n (content_by s.types.records kind ms) f.contents
         (content_solid s.types.records kind ms f.contents some fit (λ i m e. object_complete s.types.records (type_of m.ty) (good i m e).1));
     names = f.names;
+    members = put_members s.types.records kind n (content_by s.types.records kind ms) f.members fit;
+    items = f.items;
+    objects = f.objects;
   },
   tt,
 )
@@ -303,7 +339,7 @@ closing_fit kind token n ms s f some fit good = λ met. (
 enumerating_kept : (o : Option Word) (s : State) → Fit s → Post (enumerating_rule o s) (λ r. Fit r.1)
 unfolding enumerating_rule bind
 enumerating_kept None s f = f
-enumerating_kept (Some w) s f = λ met. record { contents = f.contents; names = f.names }
+enumerating_kept (Some w) s f = λ met. record { contents = f.contents; names = f.names; members = f.members; items = f.items; objects = f.objects }
 
 enumerator_kept : (w : Word) (value : Option ℕ) (s : State) → Fit s → Post (enumerator_rule w value s) (λ r. Fit r.1)
 unfolding enumerator_rule bind

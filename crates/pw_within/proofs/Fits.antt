@@ -1,5 +1,8 @@
 -- Types whose arrays have elements, and the sizes and alignments of their objects (ISO C90 6.5.4.2).
-use Rattle.std.specs.Prelude.{ℕ, zero, suc, ◌≡◌, ◌+◌, ◌-◌, ◌*◌, ◌/◌, ◌%◌, ◌<◌, ◌≤◌, max, true, IsSomeAnd, Option, None, Some, is_some, unwrap_or, option_map, List, [], ◌∷◌, map, slice_get, refl}
+use Rattle.std.specs.Prelude.{ℕ, zero, suc, ◌≡◌, ◌+◌, ◌-◌, ◌*◌, ◌/◌, ◌%◌, ◌<◌, ◌≤◌, max, true, IsSomeAnd, Option, None, Some, is_some, unwrap_or, option_map, List, [], ◌∷◌, map, slice_get, refl, length, take, ◌++◌}
+use Rattle.std.specs.List.{AllByRecursion}
+use Rattle.pw_types.specs.TypedModules.{item_size}
+use Rattle.pw_types.specs.TypedTrees.{PlacedItem}
 use Rattle.std.proofs.Math.Nat.{mul_right_comm}
 use Rattle.std.proofs.Common.{arith, ap, sym, subst, ◌∙◌, inl, inr}
 use Rattle.pw_flow.specs.ValidFlow.{IsUnit, IsMoved}
@@ -169,3 +172,22 @@ object_copied r ty solid fit object = by (layout_of r ty) refl object
     by (Some l) e h =
         let s = layout_solid r solid ty fit l e in
         record { units = s.unit; whole = whole_units l.size l.align s.times s.unit s.whole; positive = s.some; few = h }
+
+-- ---- items
+
+-- no item is empty
+abbrev pub AreSome : List PlacedItem → Type 0
+AreSome items = AllByRecursion (λ p. 0 < item_size p.item) items
+
+pub some_append : (xs ys : List PlacedItem) → AreSome xs → AreSome ys → AreSome (xs ++ ys)
+some_append [] ys h k = k
+some_append (x ∷ xs) ys h k = (h.0, some_append xs ys h.1 k)
+
+pub some_end : (xs : List ℕ) (y : ℕ) → 0 < length (xs ++ y ∷ [])
+some_end [] y = omega arith
+some_end (x ∷ xs) y = let h : 0 < length (xs ++ y ∷ []) = some_end xs y in omega (arith, h)
+
+pub some_taken : (n : ℕ) (xs : List ℕ) → 0 < n → 0 < length xs → 0 < length (take n xs)
+some_taken zero xs h k = absurd (omega (arith, h))
+some_taken (suc n) [] h k = absurd (omega (arith, k))
+some_taken (suc n) (x ∷ xs) h k = omega arith

@@ -3,9 +3,9 @@
 
 mod numbers;
 
-ghost use Rattle.std.specs.Prelude.{◌≡◌, ◌≤◌, ℕ, All, List, Ok};
+ghost use Rattle.std.specs.Prelude.{◌≡◌, ◌<◌, ◌≤◌, ℕ, All, List, Ok};
 ghost use Rattle.pw_lower_laws.specs.Parts.{partless};
-ghost use Rattle.pw_lowered.specs.Within.{AreRecordsWithin, IsCopied, IsIdentifier, IsNamed};
+ghost use Rattle.pw_lowered.specs.Within.{AreRecordsWithin, IsCopied, IsIdentifier, IsNamed, IsWithin, KeepsLimits};
 ghost use Rattle.pw_rules.specs.Checks.{Checks};
 ghost use Rattle.pw_token.specs.Tokenization.{IsLexed};
 ghost use Rattle.pw_token.specs.declared.token.Token.{Token};
@@ -14,6 +14,7 @@ ghost use Rattle.pw_tree.specs.Trees.{Module};
 ghost use Rattle.pw_tree.specs.WellFormed.{WellFormedModule};
 ghost use Rattle.pw_types.specs.Rooms.{room_of};
 ghost use Rattle.pw_types.specs.TypeTrees.{type_of};
+ghost use Rattle.pw_types.specs.TypedModules.{item_size};
 ghost use Rattle.pw_types.specs.TypedTrees.{ModuleValue};
 ghost use Rattle.pw_value.specs.Limits.{parameter_limit, room_limit};
 ghost use Rattle.pw_within.specs.Names.{AreIdentifiers, AreNumbered};
@@ -65,3 +66,19 @@ pub fn accepted_names_are_identifiers()
 pub fn identifiers_of_texts()
     ensures { (text : List ℕ) (tokens : List Token) (tree : Module) → IsLexed text tokens → IsTreeOf (spelled_all text tokens) tree → AreIdentifiers tree }
 {}
+
+/// No item of the first bytes of an object of a module that checking accepts is empty, with the same premise.
+pub fn accepted_items_are_not_empty()
+    ensures { (tree : Module) (m : ModuleValue) → WellFormedModule tree → Checks tree (Ok m)
+        → All (λ g. All (λ p. 0 < item_size p.item) g.items) m.globals }
+{}
+
+/// A module that checking accepts is within the limits for which its flow graph is lawful (`IsWithin`), if the types of its
+/// expressions and the arguments of its calls keep theirs; the other premises are those of the laws above.
+pub fn accepted_is_within()
+    ensures { (tree : Module) (m : ModuleValue) → WellFormedModule tree → AreIdentifiers tree → Checks tree (Ok m) → AreNumbered m
+        → All (λ f. KeepsLimits m.records f.body) m.functions → IsWithin m }
+{
+    accepted_records_are_laid();
+    accepted_locals_are_objects();
+}
