@@ -54,7 +54,6 @@ MakesOfPhase name phase (Err answer) = AnswersPhase name phase answer
 -- how a refusal or want of memory of the phase is told
 abbrev pub TellsError : List ℕ → FrontError → Answer → Type 0
 TellsError name front.NoMemory answer = answer ≡ NoMemory
-TellsError name (front.Refused refusal) NoMemory = Unit {0}
 TellsError name (front.Refused refusal) answer = answer ≡ Refused name refusal
 
 -- the line of an answer, in the text of its module

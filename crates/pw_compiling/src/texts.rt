@@ -15,7 +15,7 @@ use crate::files::{module_bytes, put_bytes};
 use pw_answer::{Answer, Reply};
 use pw_flow::FlowModule;
 use pw_flowfile::laws::flow_graphs_and_files_are_one_to_one;
-use pw_front::{FrontError, Refusal, refusal_line};
+use pw_front::{FrontError, refusal_line};
 use pw_io::Store;
 use pw_phase_one::laws::no_refusal_is_want_of_memory;
 use pw_phase_one::{PhaseError, phase_one};
@@ -51,23 +51,13 @@ fn files_of(alloc: Global, flow: &FlowModule) -> Result<MadeFiles, AllocError>
     Ok(MadeFiles { flow: bytes, sum })
 }
 
-/// How a refusal of a module is told.
-fn told_refusal(alloc: Global, name: &Name, refusal: Refusal) -> Answer
-    ensures { TellsError name.now (FrontError.Refused refusal) result }
-{
-    match name.copy(alloc) {
-        Ok(own) => Answer::Refused(own, refusal),
-        Err(AllocError) => Answer::NoMemory,
-    }
-}
-
-/// How an error of the first phase is told.
-fn told_error(alloc: Global, name: &Name, error: PhaseError) -> Answer
-    ensures { TellsError name.now error result }
+/// How an error of the first phase is told of the module of this name.
+fn told_error(own: Name, error: PhaseError) -> Answer
+    ensures { TellsError own error result }
 {
     match error {
         FrontError::NoMemory => Answer::NoMemory,
-        FrontError::Refused(refusal) => told_refusal(alloc, name, refusal),
+        FrontError::Refused(refusal) => Answer::Refused(own, refusal),
     }
 }
 
@@ -89,7 +79,7 @@ fn made_of_text(alloc: Global, name: &Name, text: &[u8]) -> Result<MadeFiles, An
 {
     match phase_one(alloc, name, text) {
         Ok(flow) => made_of_flow(alloc, &flow),
-        Err(error) => Err(told_error(alloc, name, error)),
+        Err(error) => Err(told_error(name.copy(alloc)?, error)),
     }
 }
 
