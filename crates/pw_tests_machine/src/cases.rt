@@ -1,6 +1,6 @@
 //! Tables of cases, and that each case is answered as its row says.
 
-use crate::{images, instructions, loading, outside, programs, routines, solver};
+use crate::{images, instructions, loading, programs, routines};
 use pw_rows::Text;
 use std::alloc::Global;
 use std::fmt::Debug;
@@ -73,14 +73,4 @@ fn branches_of_programs(rt: HostRuntime) {
 #[test]
 fn results_of_routines(rt: HostRuntime) {
     assert_answers(&rt, rt.alloc(), &routines::CASES);
-}
-
-#[test]
-fn outside_in_memory(rt: HostRuntime) {
-    assert_answers(&rt, rt.alloc(), &outside::CASES);
-}
-
-#[test]
-fn data_flow(rt: HostRuntime) {
-    assert_answers(&rt, rt.alloc(), &solver::CASES);
 }

@@ -1,6 +1,6 @@
-//! Tests of the machine and of what stands beside it: instructions, images, loading, runs, the routines behind
-//! each program, the outside in memory and the data-flow solver. What the contracts do not say, as tables of
-//! cases whose answers come from outside. It has no code of its own.
+//! Tests of the machine and of what stands beside it: instructions, images, loading, runs and the routines behind
+//! each program. What the contracts do not say, as tables of cases whose answers come from outside. It has no code of
+//! its own.
 #![tactic(auto)]
 
 #[cfg(test)]
@@ -14,12 +14,8 @@ mod loading;
 #[cfg(test)]
 mod machines;
 #[cfg(test)]
-mod outside;
-#[cfg(test)]
 mod pairs;
 #[cfg(test)]
 mod programs;
 #[cfg(test)]
 mod routines;
-#[cfg(test)]
-mod solver;

@@ -1,7 +1,7 @@
 use Rattle.std.proofs.Common.{ℕ, ◌<◌, ◌-◌, ◌+◌, take, ◌≡◌, ◌≢◌}
 use Rattle.pw_fix.specs.Solution.{HasEdge}
 use Rattle.pw_fix.specs.Walks.{Reaches}
-use Rattle.pw_tests_machine.proofs.solver.+reaches_within.Given as goal
+use Rattle.pw_tests_base.proofs.solver.+reaches_within.Given as goal
 
 abbrev pub decreases-reaches_within : goal.decreases-reaches_within
 decreases-reaches_within l = l.steps

@@ -2,7 +2,7 @@
 
 ghost use Rattle.std.specs.Prelude.{◌≡◌, ℕ, ◌<◌, ◌≤◌, ◌⊎◌, ◌↔◌, All, IsTrue, vec_len, nat_lt, ◌+◌, if◌then◌else◌};
 ghost use Rattle.std.proofs.Common.{inl, inr};
-ghost use Rattle.pw_tests_machine.specs.Flat.{IsFlatBelow, flat_order, flat_rank, flat_rank_fits, choice_monotone};
+ghost use Rattle.pw_tests_base.specs.Flat.{IsFlatBelow, flat_order, flat_rank, flat_rank_fits, choice_monotone};
 ghost use Rattle.pw_fix.specs.Row.{Holds};
 ghost use Rattle.pw_fix.specs.RowLaws.{insert_monotone, members_fit};
 ghost use Rattle.pw_fix.specs.Table.{HoldsAt};

@@ -1,5 +1,5 @@
 use Rattle.std.proofs.Common.{ℕ, inl, inr}
-use Rattle.pw_tests_machine.proofs.solver.LiveProblem.step.Goals as goal
+use Rattle.pw_tests_base.proofs.solver.LiveProblem.step.Goals as goal
 
 pub returns-clause-outflow : goal.returns-clause-outflow
 returns-clause-outflow c = λ k.
