@@ -41,25 +41,40 @@ fn put_to_place(out: &mut Items<Line>, r: u8, t: Place) -> Result<(), AllocError
     put_result(out, t)
 }
 
-fn put_copied(out: &mut Items<Line>, a: Place, t: Place) -> Result<(), AllocError>
-    ensures { OnOk result (out.new ≡ out.old ++ with_one a t copied) }
+/// What a temporary holds comes to another.
+fn put_copied(out: &mut Items<Line>, places: &[Place], t: u32, a: u32) -> Result<(), AllocError>
+    ensures { OnOk result (out.new ≡ out.old ++ with_one (place_of places.now a) (place_of places.now t) copied) }
 {
-    let r = put_operand(out, a, FIRST)?;
-    put_to_place(out, r, t)
+    let r = put_operand(out, place_of(places, a), FIRST)?;
+    put_to_place(out, r, place_of(places, t))
 }
 
-fn put_unary(out: &mut Items<Line>, kind: UnKind, a: Place, t: Place) -> Result<(), AllocError>
-    ensures { OnOk result (out.new ≡ out.old ++ with_one a t (λ a d. word (unary_word kind a d))) }
+fn put_unary(
+    out: &mut Items<Line>,
+    places: &[Place],
+    kind: UnKind,
+    t: u32,
+    a: u32,
+) -> Result<(), AllocError>
+    ensures { OnOk result (out.new ≡ out.old ++ with_one (place_of places.now a) (place_of places.now t) (λ a d. word (unary_word kind a d))) }
 {
-    let r = put_operand(out, a, FIRST)?;
+    let t = place_of(places, t);
+    let r = put_operand(out, place_of(places, a), FIRST)?;
     put(out, unary_word(kind, r, result_register(t)))?;
     put_result(out, t)
 }
 
-fn put_extension(out: &mut Items<Line>, kind: ExtKind, a: Place, t: Place) -> Result<(), AllocError>
-    ensures { OnOk result (out.new ≡ out.old ++ with_one a t (λ a d. word (extension_word kind a d))) }
+fn put_extension(
+    out: &mut Items<Line>,
+    places: &[Place],
+    kind: ExtKind,
+    t: u32,
+    a: u32,
+) -> Result<(), AllocError>
+    ensures { OnOk result (out.new ≡ out.old ++ with_one (place_of places.now a) (place_of places.now t) (λ a d. word (extension_word kind a d))) }
 {
-    let r = put_operand(out, a, FIRST)?;
+    let t = place_of(places, t);
+    let r = put_operand(out, place_of(places, a), FIRST)?;
     put(out, extension_word(kind, r, result_register(t)))?;
     put_result(out, t)
 }
@@ -123,10 +138,17 @@ fn put_global_write(
 }
 
 /// The scalar at an address is read.
-fn put_scalar_load(out: &mut Items<Line>, kind: Kind, t: Place, a: Place) -> Result<(), AllocError>
-    ensures { OnOk result (out.new ≡ out.old ++ loaded_scalar kind t a) }
+fn put_scalar_load(
+    out: &mut Items<Line>,
+    places: &[Place],
+    kind: Kind,
+    t: u32,
+    a: u32,
+) -> Result<(), AllocError>
+    ensures { OnOk result (out.new ≡ out.old ++ loaded_scalar kind (place_of places.now t) (place_of places.now a)) }
 {
-    let r = put_operand(out, a, FIRST)?;
+    let t = place_of(places, t);
+    let r = put_operand(out, place_of(places, a), FIRST)?;
     let d = result_register(t);
     put(out, load_scalar(kind, 0, r, d))?;
     put_sign(out, kind, d)?;
@@ -134,11 +156,17 @@ fn put_scalar_load(out: &mut Items<Line>, kind: Kind, t: Place, a: Place) -> Res
 }
 
 /// The scalar at an address is written.
-fn put_scalar_store(out: &mut Items<Line>, kind: Kind, a: Place, b: Place) -> Result<(), AllocError>
-    ensures { OnOk result (out.new ≡ out.old ++ stored_scalar kind a b) }
+fn put_scalar_store(
+    out: &mut Items<Line>,
+    places: &[Place],
+    kind: Kind,
+    a: u32,
+    b: u32,
+) -> Result<(), AllocError>
+    ensures { OnOk result (out.new ≡ out.old ++ stored_scalar kind (place_of places.now a) (place_of places.now b)) }
 {
-    let address = put_operand(out, a, FIRST)?;
-    let r = put_operand(out, b, SECOND)?;
+    let address = put_operand(out, place_of(places, a), FIRST)?;
+    let r = put_operand(out, place_of(places, b), SECOND)?;
     put(out, store_scalar(kind, r, 0, address))
 }
 
@@ -406,17 +434,17 @@ fn put_op(
 {
     match op {
         Op::Const(t, n) => put_number(out, place_of(places, *t), *n),
-        Op::Copy(t, a) => put_copied(out, place_of(places, *a), place_of(places, *t)),
-        Op::Un(k, t, a) => put_unary(out, *k, place_of(places, *a), place_of(places, *t)),
+        Op::Copy(t, a) => put_copied(out, places, *t, *a),
+        Op::Un(k, t, a) => put_unary(out, places, *k, *t, *a),
         Op::Bin(k, t, a, b) => put_bin(out, places, *k, *t, *a, *b),
-        Op::Ext(k, t, a) => put_extension(out, *k, place_of(places, *a), place_of(places, *t)),
+        Op::Ext(k, t, a) => put_extension(out, places, *k, *t, *a),
         Op::AddrGlobal(t, g, n) => put_symbol(alloc, out, place_of(places, *t), g, *n),
         Op::AddrSlot(t, s) => put_slot(out, place_of(places, *t), offset_of(slots, *s)),
         Op::AddrFn(t, f) => put_symbol(alloc, out, place_of(places, *t), f, 0),
         Op::LoadG(t, g, k) => put_global_read(alloc, out, place_of(places, *t), g, *k),
         Op::StoreG(g, a, k) => put_global_write(alloc, out, g, place_of(places, *a), *k),
-        Op::Load(k, t, a) => put_scalar_load(out, *k, place_of(places, *t), place_of(places, *a)),
-        Op::Store(k, a, b) => put_scalar_store(out, *k, place_of(places, *a), place_of(places, *b)),
+        Op::Load(k, t, a) => put_scalar_load(out, places, *k, *t, *a),
+        Op::Store(k, a, b) => put_scalar_store(out, places, *k, *a, *b),
         Op::Move(a, b, size, unit) => put_move(out, places, *a, *b, *size, *unit),
         Op::Call(t, name, args) => put_call_to(alloc, out, places, *t, name, args.as_slice()),
         Op::CallInd(t, f, _, args) => {
