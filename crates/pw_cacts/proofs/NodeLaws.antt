@@ -107,6 +107,11 @@ known (Ok a) e = tt
 known (Err (Ended ending)) e = λ is. cc is
 known (Err NoMemory) e = absurd (cc e)
 
+-- of what is no want of memory nothing is to be said where it were one
+pub never : {A : Type 0} (B : Type 0) (result : Result A Stop) → IfErr result (λ stop. stop ≢ NoMemory) → IfErr result (λ stop. stop ≡ NoMemory → B)
+never B (Ok a) h = tt
+never B (Err met) h = λ e. absurd (h e)
+
 -- ---- what must be there
 
 pub needed_known : {B : Type 0} {result : Result B Stop} (value : Option B) → result ≡ needed value → IfErr result (λ stop. stop ≢ NoMemory)

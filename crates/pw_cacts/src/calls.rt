@@ -19,8 +19,8 @@ use crate::nodes::undefined_at;
 use pw_ccalls::{Calls, Ending, Env, Stop, World};
 use pw_cmean::Undef;
 use pw_cstate::{State, get_char, has_room, put_char};
-use pw_cworld::{Body, LibraryFunction};
-use pw_types::{CType, QType, Types, shape};
+use pw_cworld::{Body, LibraryFunction, plain_shape};
+use pw_types::CType;
 use pw_value::program_names::{EXIT, EXIT_SHAPE, GETCHAR, GETCHAR_SHAPE, PUTCHAR, PUTCHAR_SHAPE};
 use pw_value::{Pointer, Shape, Value};
 use std::alloc::{AllocError, Global};
@@ -140,7 +140,7 @@ fn callee_of<'a>(world: &World<'a>, p: Value) -> Option<Body<'a>>
     }
 }
 
-/// The shape of a function. A type that is marked volatile, which no accepted program has there, is want of memory.
+/// The shape of a function.
 fn shape_by<'a>(alloc: Global, function: Body<'a>) -> Result<Shape, AllocError>
     ensures { IfOk result (λ shape. shape ≡ (callable_of function.entry).shape) }
 {
@@ -148,7 +148,7 @@ fn shape_by<'a>(alloc: Global, function: Body<'a>) -> Result<Shape, AllocError>
         Body::Library(LibraryFunction::ExitRun) => literal(alloc, EXIT_SHAPE),
         Body::Library(LibraryFunction::GetChar) => literal(alloc, GETCHAR_SHAPE),
         Body::Library(LibraryFunction::PutChar) => literal(alloc, PUTCHAR_SHAPE),
-        Body::Defined(part, f) => plain_shape(alloc, &part.tree.types, &f.ty),
+        Body::Defined(part, f) => plain_shape(alloc, &part.tree.types, &f.ty.ty),
     }
 }
 
@@ -159,19 +159,19 @@ fn literal(alloc: Global, letters: &[u8]) -> Result<Shape, AllocError>
     Ok(Shape::new(Vec::from_slice(alloc, letters)?))
 }
 
-/// The shape of a type that is not volatile; for another there is no memory.
-fn plain_shape(alloc: Global, types: &Types, ty: &QType) -> Result<Shape, AllocError>
-    ensures { IfOk result (λ shape. shape ≡ shape_of types.now (view_type ty.now.ty) false) }
+/// What a pointer of a type points to; of another type, the type itself.
+#[tactic(auto, unfolding(pw_types::specs::Views::view_type), using(pw_types::proofs::ViewLemmas::signature_view))]
+fn pointed(ty: &CType) -> &CType
+    ensures { view_type result.now ≡ meaning.pointed (view_type ty.now) }
 {
-    if ty.volatile {
-        return Err(AllocError);
+    match ty {
+        CType::Pointer(target) => &target.ty,
+        CType::Void | CType::Int(_) | CType::Array(_, _) => ty,
+        CType::Function(_) | CType::Record(_) => ty,
     }
-    shape(alloc, types, ty)
 }
 
-/// Whether a function has the shape of a call through a pointer of a type. A type that no accepted program has there is
-/// want of memory.
-#[tactic(auto, unfolding(pw_types::specs::Views::view_type), using(pw_types::proofs::ViewLemmas::signature_view))]
+/// Whether a function has the shape of a call through a pointer of a type.
 fn has_shape<'a>(
     alloc: Global,
     env: &Env<'a>,
@@ -180,14 +180,9 @@ fn has_shape<'a>(
 ) -> Result<bool, AllocError>
     ensures { IfOk result (λ has. has ≡ bytes_eq (callable_of function.entry).shape (shape_of (meaning.records_of (view_env env.now)) (meaning.pointed (view_type ty.now)) false)) }
 {
-    match ty {
-        CType::Pointer(target) => {
-            let wanted = plain_shape(alloc, &env.home.tree.types, target)?;
-            let shape = shape_by(alloc, function)?;
-            Ok(shape.as_bytes() == wanted.as_bytes())
-        }
-        _ => Err(AllocError),
-    }
+    let wanted = plain_shape(alloc, &env.home.tree.types, pointed(ty))?;
+    let shape = shape_by(alloc, function)?;
+    Ok(shape.as_bytes() == wanted.as_bytes())
 }
 
 /// Calls a function to which a pointer of a type points: it is to have the shape of the call.

@@ -1,6 +1,6 @@
 //! Operators and accesses at a node: what they answer of the objects is a value or the end of the run.
 
-ghost use Rattle.std.specs.Prelude.{◌≡◌, ◌≢◌, Some, pos, IfErr};
+ghost use Rattle.std.specs.Prelude.{◌≡◌, ◌≢◌, ◌-◌, ◌^◌, ◌≤◌, Some, pos, IfErr, IsSomeAnd};
 ghost use Rattle.pw_types.specs.Views.{view_type};
 ghost use Rattle.pw_cmean.specs.Access as access;
 ghost use Rattle.pw_cmean.specs.Acts as acts;
@@ -8,6 +8,7 @@ ghost use Rattle.pw_cmean.specs.Evaluation.{site, records_of};
 ghost use Rattle.pw_cmean.specs.Operators as operators;
 ghost use Rattle.pw_coperators.specs.Answers.{ending_of};
 ghost use Rattle.pw_coperators.specs.Categories.{view_purpose};
+ghost use Rattle.pw_coperators.specs.Elements as elements;
 ghost use Rattle.pw_coperators.specs.Moves.{bytes_by};
 ghost use Rattle.pw_cstate.specs.Runs.{at_node};
 ghost use Rattle.pw_cstate.specs.Shown.{Shown, view_state};
@@ -77,7 +78,8 @@ pub fn unary<'a>(
     settle(env, token, answer)
 }
 
-/// A binary operator on operands of these types.
+/// A binary operator on operands of these types. There is no memory only where what a pointer among them points to has
+/// 2^32 - 1 bytes or more.
 pub fn binary<'a>(
     env: &Env<'a>,
     state: &State<'a>,
@@ -86,7 +88,8 @@ pub fn binary<'a>(
     types: (&CType, &CType),
     values: (Value, Value),
 ) -> Result<Value, Stop<'a>>
-    ensures { Answers (λ x. x) (view_env env.now).world (operators.binary (site (view_env env.now) token) (records_of (view_env env.now)) op (view_type types.entry.0.now) (view_type types.entry.1.now) values.0 values.1) (view_state state.now) result (view_state state.now) }
+    ensures answers { Answers (λ x. x) (view_env env.now).world (operators.binary (site (view_env env.now) token) (records_of (view_env env.now)) op (view_type types.entry.0.now) (view_type types.entry.1.now) values.0 values.1) (view_state state.now) result (view_state state.now) }
+    ensures wants { IfErr result (λ stop. stop ≡ Stop.NoMemory → IsSomeAnd (elements.element_layout (records_of (view_env env.now)) (view_type types.entry.0.now) (view_type types.entry.1.now)) (λ l. 2 ^ 32 - 1 ≤ l.size)) }
 {
     let (a, b) = types;
     let (v, w) = values;

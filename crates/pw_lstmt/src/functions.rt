@@ -9,7 +9,6 @@ use crate::statements::lower_statement;
 use pw_flow::{End, FlowFn};
 use pw_items::Items;
 use pw_lexpr::{Home, full_name};
-use pw_lower::code::further;
 use pw_lower::{Code, LocalPlace, Numbered, Ways};
 use pw_lparts::Frame;
 use pw_lparts::blocks::{bare, in_order};
@@ -22,20 +21,20 @@ use std::alloc::Global;
 /// What is closed at the start: behind the blocks of the labels that a `goto` can name, where there are
 /// any, a block to which nothing goes, so that each of them is another block than the next by number.
 fn closed_at_start(alloc: Global, named: &[u32]) -> Result<Items<Numbered>, NoMemory>
+    requires { 1 + length named.now < 2 ^ 32 }
     ensures { IfOk result (λ closed. closed ≡ spec.closed_at_start named.now) }
 {
     let mut closed = Items::new(alloc);
     if let [_, rest @ ..] = named {
-        let count = u32::try_from(rest.len()).ok().ok_or(NoMemory)?;
         closed.push(Numbered {
-            number: further(count, 2)?,
+            number: rest.len() as u32 + 2,
             block: bare(alloc),
         })?;
     }
     Ok(closed)
 }
 
-/// How many blocks are numbered at the start.
+/// How many blocks are numbered at the start. There is no memory for more than 32 bits can count, and for no fewer.
 fn blocks_at_start(named: &[u32]) -> Result<u32, NoMemory>
     ensures value { IfOk result (λ n. n ≡ spec.blocks_at_start named.now) }
     ensures fits { OnOk result (1 + length named.now < 2 ^ 32) }

@@ -1,6 +1,6 @@
 //! Lowering of statements.
 
-ghost use Rattle.std.specs.Prelude.{◌≡◌, ◌+◌, ◌<◌, ◌^◌, ◌||◌, nat_lt, length, OnOk, IfOk};
+ghost use Rattle.std.specs.Prelude.{◌≡◌, ◌+◌, ◌<◌, ◌≤◌, ◌^◌, ◌||◌, nat_lt, length, OnErr, OnOk, IfOk};
 ghost use Rattle.pw_lexpr.specs.Homes.{view_home};
 ghost use Rattle.pw_lower.specs.Codes as codes;
 ghost use Rattle.pw_lower.specs.Expressions.{lower as lowered};
@@ -395,6 +395,18 @@ fn lower_switch(
     code.cut(alloc, End::Jump(out), out, outer)
 }
 
+/// Numbers the block behind a `switch`, which is answered, and behind it as many as the `switch` has labels. There is
+/// no memory for more blocks than 32 bits can count, and for no fewer.
+fn reserve_labels(count: usize, code: &mut Code) -> Result<u32, NoMemory>
+    ensures out { IfOk result (λ out. out ≡ code.old.blocks) }
+    ensures code { OnOk result (code.new ≡ codes.reserve (1 + count) code.old) }
+    ensures fits { OnOk result (code.old.blocks + 1 + count < 2 ^ 32) }
+    ensures wants { OnErr result (2 ^ 32 ≤ code.old.blocks + 1 + count) }
+{
+    let count = u32::try_from(count).ok().ok_or(NoMemory)?;
+    code.reserve(further(count, 1)?)
+}
+
 /// Numbers the blocks of a `switch`: the one behind it, which is answered, and those of its labels.
 fn open_switch(
     alloc: Global,
@@ -407,10 +419,7 @@ fn open_switch(
         ≡ codes.named_from (code.old.blocks + 1) (spec.labels_of (view_cases cases.now) default) (codes.reserve (1 + length (spec.labels_of (view_cases cases.now) default)) code.old)) }
 {
     let labels = labels_of(alloc, cases, default)?;
-    let count = u32::try_from(labels.len()).ok().ok_or(NoMemory)?;
-    let out = code.reserve(further(count, 1)?)?;
-    let first = further(out, 1)?;
-    let _ = further(first, count)?;
-    code.name_blocks(alloc, &labels, first);
+    let out = reserve_labels(labels.len(), code)?;
+    code.name_blocks(alloc, &labels, out + 1);
     Ok(out)
 }

@@ -7,14 +7,17 @@ use Rattle.pw_coperators.specs.Operations.{binary_by}
 use Rattle.pw_coperators.proofs.OperatorLaws.{binary_is}
 use Rattle.pw_ccalls.specs.Views.{view_env}
 use Rattle.pw_ccalls.proofs.AnswerLaws.{no_memory}
-use Rattle.pw_cacts.proofs.NodeLaws.{node_answers}
+use Rattle.pw_cacts.proofs.NodeLaws.{known, never, node_answers}
 use Rattle.pw_cacts.proofs.nodes.binary.Goals as goal
 
-pub returns-in_err-layout : goal.returns-in_err-layout
-returns-in_err-layout c = no_memory (search rules)
+pub returns-in_err-layout-clause-answers : goal.returns-in_err-layout-clause-answers
+returns-in_err-layout-clause-answers c = no_memory (search rules)
 
-pub returns : goal.returns
-returns c =
+pub returns-clause-wants : goal.returns-clause-wants
+returns-clause-wants c = never _ c.settle.result (known c.settle.result c.settle.ensures)
+
+pub returns-clause-answers : goal.returns-clause-answers
+returns-clause-answers c =
     let e = view_env c.args.env.now in
     let at = site e c.args.token in
     let a = view_type c.args.types.0.now in

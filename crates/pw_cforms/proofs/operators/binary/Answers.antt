@@ -20,12 +20,12 @@ unfolding answer_of
 returns-in_err-result g c =
     then_ok _ c.operand.ensures c.in_ok-left.was
     (then_ok _ c.operand-2.ensures c.in_ok-right.was
-    (then_err _ c.binary.ensures c.in_err-result.was (search rules)))
+    (then_err _ c.binary.ensures.answers c.in_err-result.was (search rules)))
 
 pub returns : goal.returns
 unfolding answer_of
 returns g c =
     then_ok _ c.operand.ensures c.in_ok-left.was
     (then_ok _ c.operand-2.ensures c.in_ok-right.was
-    (then_ok _ c.binary.ensures c.in_ok-result.was
+    (then_ok _ c.binary.ensures.answers c.in_ok-result.was
     (gives (Some c.in_ok-result.result))))
