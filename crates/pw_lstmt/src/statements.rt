@@ -404,7 +404,10 @@ fn reserve_labels(count: usize, code: &mut Code) -> Result<u32, NoMemory>
     ensures wants { OnErr result (2 ^ 32 ≤ code.old.blocks + 1 + count) }
 {
     let count = u32::try_from(count).ok().ok_or(NoMemory)?;
-    code.reserve(further(count, 1)?)
+    let blocks = further(count, 1)?;
+    let out = code.reserve(blocks)?;
+    let _ = further(out, blocks)?;
+    Ok(out)
 }
 
 /// Numbers the blocks of a `switch`: the one behind it, which is answered, and those of its labels.
