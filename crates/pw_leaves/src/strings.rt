@@ -11,7 +11,7 @@ ghost use Rattle.pw_tree.specs.Views.{view_words};
 ghost use Rattle.pw_types.specs.Views.{view_qtype};
 
 use crate::primary::lvalue_operand;
-use pw_checking::{HiddenObject, Operand, State, fault, word_of};
+use pw_checking::{HiddenObject, Operand, State, fault};
 use pw_kinds::plain;
 use pw_literal::push_characters;
 use pw_tree::Word;
