@@ -27,8 +27,8 @@ told_err {S} {A} {B} {Q} {R} {seen} {w} {fault} {mid} {first} {r} next o other e
 
 -- behind a call that made something there is no fault, where what follows makes something
 pub told_ok : {S A B Q R : Type 0} {seen : Q → A} {w : Walk (A × S)} {made : Q} {mid : S} {first : Result Q CheckFault}
-    {r : Result R CheckFault} (next : A × S → Walk (B × S)) (end : B × S)
+    (r : Result R CheckFault) (next : A × S → Walk (B × S)) (end : B × S)
     → Obeys seen w first mid → first ≡ Ok made → outcome (next (seen made, mid)) ≡ Ok end
     → IfErr (outcome (bind w next)) (λ f. r ≡ Err f)
-told_ok {S} {A} {B} {Q} {R} {seen} {w} {made} {mid} {first} {r} next end o e makes =
+told_ok {S} {A} {B} {Q} {R} {seen} {w} {made} {mid} {first} r next end o e makes =
     subst (λ x. IfErr x (λ f. r ≡ Err f)) (sym (bind_made w next (seen made, mid) (made_by o e) ∙ makes)) tt

@@ -25,5 +25,5 @@ returns-clause-follows c = step_ok _ c.enumeration_rule.ensures.follows c.in_ok-
 pub returns-clause-told : goal.returns-clause-told
 unfolding enumeration_tag_rule outcome
 returns-clause-told c =
-    told_ok _ (gather_type (view_qtype c.in_ok-ty.ty) None (view_gathered c.args.gathered), view_state c.args.state.now)
+    told_ok _ _ (gather_type (view_qtype c.in_ok-ty.ty) None (view_gathered c.args.gathered), view_state c.args.state.now)
     c.enumeration_rule.ensures.follows c.in_ok-ty.was refl
