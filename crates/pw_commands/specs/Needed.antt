@@ -62,7 +62,7 @@ IsBadFile name at answer = answer ≡ BadFile name at
 
 -- the answer for a file that was not read
 abbrev pub IsRefusedFile : List ℕ → FileError → Answer → Type 0
-IsRefusedFile name (FileFault at) answer = IsBadFile name (Some at) answer
+IsRefusedFile name (FileFault at) answer = answer ≡ BadFile name (Some at)
 IsRefusedFile name file.NoMemory answer = answer ≡ NoMemory
 
 -- a value that is wanted was put behind others

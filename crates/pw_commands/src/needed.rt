@@ -12,27 +12,37 @@ use pw_value::limits::KEPT_LIMIT;
 use pw_value::{FileError, Name, NameError};
 use std::alloc::{AllocError, Global};
 
+/// A needed file's name, for an answer to keep.
+pub fn own_name(alloc: Global, name: &str) -> Result<Name, AllocError>
+    requires { IsNameLength (length name.now) }
+    ensures { IfOk result (λ own. own ≡ name.now) }
+{
+    match Name::new(alloc, name.as_bytes()) {
+        Ok(own) => Ok(own),
+        Err(NameError::NoMemory) => Err(AllocError),
+        Err(NameError::Length) => unreachable!(),
+    }
+}
+
 /// The answer where a needed file is absent, or refused at an offset.
 pub fn bad_file(alloc: Global, name: &str, at: Option<usize>) -> Answer
     requires { IsNameLength (length name.now) }
     ensures bad { IsBadFile name.now at result }
     ensures stop { IsFileStop result }
 {
-    match Name::new(alloc, name.as_bytes()) {
-        Ok(name) => Answer::BadFile(name, at),
-        Err(NameError::NoMemory) => Answer::NoMemory,
-        Err(NameError::Length) => unreachable!(),
+    match own_name(alloc, name) {
+        Ok(own) => Answer::BadFile(own, at),
+        Err(AllocError) => Answer::NoMemory,
     }
 }
 
-/// The answer where a needed file was not read.
-pub fn refused(alloc: Global, name: &str, error: FileError) -> Answer
-    requires { IsNameLength (length name.now) }
-    ensures fault { IsRefusedFile name.now error result }
+/// The answer where the needed file of this name was not read: a refusal is always told.
+pub fn refused(own: Name, error: FileError) -> Answer
+    ensures fault { IsRefusedFile own error result }
     ensures stop { IsFileStop result }
 {
     match error {
-        FileError::FileFault { at } => bad_file(alloc, name, Some(at)),
+        FileError::FileFault { at } => Answer::BadFile(own, Some(at)),
         FileError::NoMemory => Answer::NoMemory,
     }
 }

@@ -32,7 +32,7 @@ use Rattle.pw_object.specs.declared.functions.ObjectFn.{ObjectFn}
 use Rattle.pw_object.specs.declared.object.Object.{Object}
 use Rattle.pw_object.specs.Functions.{IsFunction, function, names_of_function}
 use Rattle.pw_object.specs.Object.{object_version, global_names, function_names, IsObject, names_of, FitsFunction, FitsObject, code, spelling, kind, IsObjectFile}
-use Rattle.pw_object.specs.Reading.{function_at, global_at, last_rules, fields_at, object_file_at}
+use Rattle.pw_object.specs.Reading.{function_at, global_at, last_rules, members_at, fields_at, object_file_at}
 use Rattle.pw_object.proofs.FunctionLaws.{function_spells, lawful, function_used, function_back}
 use Rattle.pw_object.proofs.FunctionLaws.{FitsFunction as FunctionSteps}
 
@@ -124,7 +124,7 @@ version_spells = record {
 }
 
 object_steps : (names : List (List ℕ)) → IsNameTable names → (behind : ℕ) → Completes {X = Contents Object} Nothing (λ c. Unit {0} × (c.names ≡ names)) (λ c. body names c.value) (λ c. BodySteps names c.value) (fields_at names (last_rules names behind))
-unfolding fields_at
+unfolding fields_at members_at
 object_steps names table behind =
     step _ _ (λ n. []) (λ n. n ≡ object_version) (done object_version) _ _ _ (λ c. c.value.version) version_spells
     (λ version version_fits. step _ _ (name_index names) (Contains names) (name_at names) _ _ _ (λ c. c.value.module) (name_spells names table)
