@@ -2,17 +2,21 @@
 //! top call with its words and ends with the answer's status.
 #![tactic(auto)]
 
-ghost use Rattle.std.specs.Prelude.{◌≡◌};
-ghost use Rattle.pawc.specs.Flushed.{after_flush};
+ghost use Rattle.std.specs.Prelude.{◌≡◌, ◌≢◌, ◌∷◌, [], IfErr, IfOk, IsErr, drop, map, string_bytes};
+ghost use Rattle.std.specs.IoError.{error_kind};
+ghost use Rattle.std.specs.Vec.Iter.{into_iter_items};
+ghost use Rattle.pw_answer.specs.Outcomes.{Tells};
+ghost use Rattle.pawc.specs.Flushed.{after_flush, line_after_flush};
 
+use pw_answer::tell;
 use pw_io::{Failed, Sink};
 use pw_system::{CurrentFolder, FileStore, StdSink, StdSource};
 use pw_top::{Answer, pawc_top, status};
-use std::alloc::AllocError;
-use std::env;
+use std::alloc::{AllocError, Global};
+use std::env::{self, Args};
 use std::io::{self, BufWriter, ErrorKind, IsTerminal, Read, Write};
 use std::process::ExitCode;
-use std::rt::{Env, Files};
+use std::rt::Files;
 
 /// The status with which the program ends where there is no memory for its words.
 const NO_MEMORY: u8 = 121;
@@ -20,32 +24,47 @@ const NO_MEMORY: u8 = 121;
 /// How many bytes of the output are kept back at most, where nobody waits for them at a terminal.
 const BLOCK: usize = 8192;
 
-/// The words after the program's name. Words that are no text are one empty word, which is no command line.
-fn words<R: Env + AllocGlobal>(rt: &R) -> Result<Vec<String>, AllocError> {
-    let alloc = rt.alloc();
+/// One empty word, which is no command line.
+fn no_command(alloc: Global) -> Result<Vec<String>, AllocError>
+    ensures { IfOk result (λ words. map string_bytes words.items ≡ [] ∷ []) }
+{
     let mut words = Vec::new(alloc);
-    match env::args(rt) {
-        Ok(args) => {
-            for word in args.skip(1) {
-                words.push(word)?;
-            }
-        }
-        Err(fault) => {
-            if fault.kind() == ErrorKind::OutOfMemory {
-                return Err(AllocError);
-            }
-            words.push(String::new(alloc))?;
-        }
-    }
+    words.push(String::new(alloc))?;
     Ok(words)
 }
 
-/// The answer behind the flush of the output: one that no line told is a write fault where the flush failed.
-fn after_flush(answer: Answer, flushed: Result<(), Failed>) -> Answer
-    ensures { result ≡ after_flush answer flushed }
+/// The words behind the program's name.
+fn behind_name(alloc: Global, args: Args) -> Result<Vec<String>, AllocError>
+    ensures { IfOk result (λ words. words.items ≡ drop 1 (into_iter_items args)) }
+{
+    args.skip(1).collect(alloc)
+}
+
+/// The words after the program's name, by what the system tells. Words that are no text are one empty word.
+fn words_of(alloc: Global, told: io::Result<Args>) -> Result<Vec<String>, AllocError>
+    ensures words { IfOk told (λ args. IfOk result (λ words. words.items ≡ drop 1 (into_iter_items args))) }
+    ensures no_text { IfErr told (λ e. error_kind e ≢ ErrorKind.OutOfMemory → IfOk result (λ words. map string_bytes words.items ≡ [] ∷ [])) }
+    ensures no_memory { IfErr told (λ e. error_kind e ≡ ErrorKind.OutOfMemory → IsErr result) }
+{
+    match told {
+        Ok(args) => behind_name(alloc, args),
+        Err(fault) if fault.kind() == ErrorKind::OutOfMemory => Err(AllocError),
+        Err(_) => no_command(alloc),
+    }
+}
+
+/// The answer behind the flush of the output: one that no line told is a write fault where the flush failed, and is told.
+fn after_flush<E: Sink>(
+    alloc: Global,
+    answer: Answer,
+    flushed: Result<(), Failed>,
+    err: &mut E,
+) -> Answer
+    ensures answer { result ≡ after_flush answer flushed }
+    ensures line { Tells (line_after_flush answer flushed) (E.taken err.old) (E.taken err.new) (E.faults err.old) (E.faults err.new) }
 {
     match (answer, flushed) {
-        (Answer::Done | Answer::Ended(_), Err(Failed)) => Answer::WriteFault,
+        (Answer::Done | Answer::Ended(_), Err(Failed)) => tell(alloc, Answer::WriteFault, 1, err),
         (answer, _) => answer,
     }
 }
@@ -63,10 +82,7 @@ fn obey<F: Files + AllocGlobal + Clone + Drop, I: Read + Drop, O: Write + Drop, 
     let mut out = StdSink::new(writer);
     let answer = pawc_top(files.alloc(), words, &mut store, &mut input, &mut out, err);
     let flushed = out.flush();
-    if flushed.is_err() && matches!(answer, Answer::Done | Answer::Ended(_)) {
-        let _ = err.put(b"WriteFault\n");
-    }
-    after_flush(answer, flushed)
+    after_flush(files.alloc(), answer, flushed, err)
 }
 
 fn main(rt: HostRuntime) -> ExitCode {
@@ -74,7 +90,7 @@ fn main(rt: HostRuntime) -> ExitCode {
     let at_terminal = rt.stdin().is_terminal() || rt.stdout().is_terminal();
     let block = if at_terminal { 0 } else { BLOCK };
     let (Ok(words), Ok(writer)) = (
-        words(&rt),
+        words_of(rt.alloc(), env::args(&rt)),
         BufWriter::with_capacity(rt.alloc(), block, rt.stdout()),
     ) else {
         let _ = err.put(b"NoMemory\n");
