@@ -1,6 +1,8 @@
 //! Lowering of objects and declarations, and what a program starts with.
 
-ghost use Rattle.std.specs.Prelude.{◌≡◌, ◌∷◌, [], if◌then◌else◌, IfOk, map};
+ghost use Rattle.std.specs.Prelude.{◌≡◌, ◌∷◌, [], Some, None, if◌then◌else◌, IfOk, map};
+ghost use Rattle.pw_value.specs.ProgramNames.{main_name, exit_name};
+ghost use Rattle.pw_flow.specs.declared.flow.Op.TheVariants as op;
 ghost use Rattle.pw_lower.specs.Modules as spec;
 ghost use Rattle.pw_typed.specs.Views.{view_function, view_global, view_item, view_placed, view_declared, view_symbol};
 
@@ -14,19 +16,26 @@ use pw_value::program_names::{EXIT, MAIN, START, START_SHAPE};
 use pw_value::{Name, NoMemory, Shape};
 use std::alloc::Global;
 
-/// What the program starts with: it calls `main`, and passes the result to `exit`.
-pub fn start_function(alloc: Global) -> Result<FlowFn, NoMemory>
-    ensures { IfOk result (λ f. f ≡ spec.start_function) }
+/// The calls of what the program starts with: of `main`, and of `exit` with its result.
+fn start_ops(alloc: Global) -> Result<Items<Op>, NoMemory>
+    ensures { IfOk result (λ ops. ops ≡ op.Call (Some 0) main_name [] ∷ op.Call None exit_name (0 ∷ []) ∷ []) }
 {
     let mut args = Items::new(alloc);
     args.push(0)?;
     let mut ops = Items::new(alloc);
     ops.push(Op::Call(Some(0), name_of(alloc, MAIN)?, Items::new(alloc)))?;
     ops.push(Op::Call(None, name_of(alloc, EXIT)?, args))?;
+    Ok(ops)
+}
+
+/// What the program starts with: it calls `main`, and passes the result to `exit`.
+pub fn start_function(alloc: Global) -> Result<FlowFn, NoMemory>
+    ensures { IfOk result (λ f. f ≡ spec.start_function) }
+{
     let mut blocks = Items::new(alloc);
     blocks.push(Block {
         depth: 0,
-        ops,
+        ops: start_ops(alloc)?,
         end: End::Return(None),
     })?;
     Ok(FlowFn {
