@@ -1,9 +1,9 @@
 //! Statements (C90 6.6). Each form's rule is written for any parts; `stmt_of` chooses by the form.
 
-ghost use Rattle.std.specs.Prelude.{◌≡◌};
+ghost use Rattle.std.specs.Prelude.{◌≡◌, true};
 ghost use Rattle.pw_rules.specs.Statements as spec;
 ghost use Rattle.pw_tree.specs.FirstTokens as first;
-ghost use Rattle.pw_body.specs.Items.{view_items};
+ghost use Rattle.pw_body.specs.Items.{is_loop, view_items};
 ghost use Rattle.pw_branches.specs.Views.{view_body};
 ghost use Rattle.pw_checking.specs.Follows.{Leads};
 ghost use Rattle.pw_checking.specs.StateViews.{view_state};
@@ -219,6 +219,49 @@ fn for_stmt<'a, P: BodyParts<'a>>(
     })
 }
 
+/// A loop (C90 6.6.5).
+#[tactic(auto, unfolding(pw_tree::specs::Views::view_stmt))]
+fn loop_stmt<'a, P: BodyParts<'a>>(
+    alloc: Global,
+    parts: &P,
+    state: &mut State<'a>,
+    stmt: &'a Stmt,
+) -> Result<TStmt, CheckFault>
+    requires checks { P.can_check parts.now }
+    requires loops { is_loop stmt.now ≡ true }
+    ensures { Leads typed.view_stmt (spec.stmt_rule (view_stmt stmt.now)) (view_state state.old) result (view_state state.new) }
+{
+    match stmt {
+        Stmt::While {
+            token,
+            condition,
+            body,
+        } => while_stmt(alloc, parts, state, *token, condition, body),
+        Stmt::Do {
+            token,
+            body,
+            condition,
+        } => do_stmt(alloc, parts, state, *token, body, condition),
+        Stmt::For {
+            token,
+            start,
+            condition,
+            step,
+            body,
+        } => for_stmt(alloc, parts, state, *token, start, condition, step, body),
+        Stmt::Block(_)
+        | Stmt::Expression(_)
+        | Stmt::Empty { .. }
+        | Stmt::Labeled { .. }
+        | Stmt::If { .. }
+        | Stmt::Switch { .. }
+        | Stmt::Goto { .. }
+        | Stmt::Continue { .. }
+        | Stmt::Break { .. }
+        | Stmt::Return { .. } => unreachable!(),
+    }
+}
+
 /// A statement (C90 6.6).
 #[tactic(auto, unfolding(pw_tree::specs::Views::view_stmt))]
 pub fn stmt_of<'a, P: BodyParts<'a>>(
@@ -251,23 +294,9 @@ pub fn stmt_of<'a, P: BodyParts<'a>>(
         Stmt::Switch { token, value, body } => {
             switch_stmt(alloc, parts, state, *token, value, body)
         }
-        Stmt::While {
-            token,
-            condition,
-            body,
-        } => while_stmt(alloc, parts, state, *token, condition, body),
-        Stmt::Do {
-            token,
-            body,
-            condition,
-        } => do_stmt(alloc, parts, state, *token, body, condition),
-        Stmt::For {
-            token,
-            start,
-            condition,
-            step,
-            body,
-        } => for_stmt(alloc, parts, state, *token, start, condition, step, body),
+        Stmt::While { .. } | Stmt::Do { .. } | Stmt::For { .. } => {
+            loop_stmt(alloc, parts, state, stmt)
+        }
         Stmt::Goto { token, label } => goto_rule(state, *token, label),
         Stmt::Continue { token } => continue_rule(state, *token),
         Stmt::Break { token } => break_rule(state, *token),
