@@ -1,5 +1,6 @@
 //! The forms of statements.
 
+ghost use Rattle.std.specs.Prelude.{◌≡◌, true};
 ghost use Rattle.pw_typed.specs.Views.{view_expr, view_optional, view_stmt};
 ghost use Rattle.pw_cmean.specs.Execution as execution;
 ghost use Rattle.pw_cmean.specs.SourceRun.{calls};
@@ -7,7 +8,7 @@ ghost use Rattle.pw_cstate.specs.Shown.{view_state};
 ghost use Rattle.pw_ccalls.specs.Answers.{Answers};
 ghost use Rattle.pw_ccalls.specs.Views.{view_env};
 ghost use Rattle.pw_clists.specs.Flows.{view_entry, view_flow};
-ghost use Rattle.pw_cstmt.specs.Loops.{ahead_of, behind_of, body_of};
+ghost use Rattle.pw_cstmt.specs.Loops.{ahead_of, behind_of, body_of, is_breakable};
 ghost use Rattle.pw_clists.specs.Steps as spec;
 
 use crate::loops::{Tests, repeat};
@@ -96,6 +97,47 @@ fn for_loop<'a, P: Expressions<'a> + Statements<'a>>(
     repeat(alloc, parts, env, state, bound, tests, body, at)
 }
 
+/// Runs a loop or a switch, which is met at its front or at a label in it.
+fn breakable<'a, P: Expressions<'a> + Statements<'a>>(
+    alloc: Global,
+    parts: &P,
+    env: &Env<'a>,
+    state: &mut State<'a>,
+    bound: u64,
+    statement: &TStmt,
+    at: Entry,
+) -> Result<Flow, Stop<'a>>
+    requires evaluates { P.can_evaluate parts.now }
+    requires runs { P.can_run parts.now }
+    requires breakable { is_breakable statement.now.form ≡ true }
+    ensures { Answers view_flow (view_env env.now).world (execution.meaning (view_stmt statement.now) (view_entry at) (calls (view_env env.now).world bound) (view_env env.now)) (view_state state.old) result (view_state state.new) }
+{
+    match &statement.form {
+        TStmtForm::While(c, body) => {
+            repeat(alloc, parts, env, state, bound, Tests::While(c), body, at)
+        }
+        TStmtForm::Do(body, c) => repeat(alloc, parts, env, state, bound, Tests::Do(c), body, at),
+        TStmtForm::For(first, c, third, body) => {
+            let tests = Tests::For(c, third);
+            for_loop(alloc, parts, env, state, bound, first, tests, body, at)
+        }
+        TStmtForm::Switch(e, cases, default, body) => {
+            switch(
+                alloc, parts, env, state, bound, e, cases, *default, body, at,
+            )
+        }
+        TStmtForm::Empty
+        | TStmtForm::Expr(_)
+        | TStmtForm::Block { .. }
+        | TStmtForm::If(_, _)
+        | TStmtForm::Label(_, _)
+        | TStmtForm::Goto(_)
+        | TStmtForm::Break
+        | TStmtForm::Continue
+        | TStmtForm::Return(_) => unreachable!(),
+    }
+}
+
 /// Runs a statement that is met at its front or at a label in it, with what runs the smaller ones.
 pub fn form_of<'a, P: Expressions<'a> + Statements<'a>>(
     alloc: Global,
@@ -134,18 +176,11 @@ pub fn form_of<'a, P: Expressions<'a> + Statements<'a>>(
             let taking = Taking::Arms(arms, otherwise);
             take_up(alloc, parts, env, state, bound, taking, at)
         }
-        TStmtForm::While(c, body) => {
-            repeat(alloc, parts, env, state, bound, Tests::While(c), body, at)
-        }
-        TStmtForm::Do(body, c) => repeat(alloc, parts, env, state, bound, Tests::Do(c), body, at),
-        TStmtForm::For(first, c, third, body) => {
-            let tests = Tests::For(c, third);
-            for_loop(alloc, parts, env, state, bound, first, tests, body, at)
-        }
-        TStmtForm::Switch(e, cases, default, body) => {
-            switch(
-                alloc, parts, env, state, bound, e, cases, *default, body, at,
-            )
+        TStmtForm::While(_, _)
+        | TStmtForm::Do(_, _)
+        | TStmtForm::For(_, _, _, _)
+        | TStmtForm::Switch(_, _, _, _) => {
+            breakable(alloc, parts, env, state, bound, statement, at)
         }
         TStmtForm::Label(labels, body) => {
             let taking = Taking::Labels(labels, body);
