@@ -9,6 +9,7 @@ ghost use Rattle.pw_value.specs.Objects.{round8};
 
 use pw_flow::Op;
 use pw_items::Items;
+use pw_value::round8;
 use pw_webflow::{WebBlock, WebFn, WebOp};
 use std::alloc::{AllocError, Global};
 
@@ -75,12 +76,13 @@ pub fn below(bytes: u32) -> i32
     -(bytes as i32)
 }
 
-fn round8(bytes: u32) -> u32
+/// A part of a frame, rounded up to a multiple of 8.
+fn rounded(bytes: u32) -> u32
     requires { bytes < 2 ^ 31 }
     ensures value { result ≡ round8 bytes }
     ensures up { bytes ≤ result }
 {
-    (bytes + 7) / 8 * 8
+    round8(u64::from(bytes)) as u32
 }
 
 /// Where the slots begin, with so many saved registers and temporaries in the frame.
@@ -88,7 +90,7 @@ pub fn slots_begin(head: u32, saved: u32, temps: u32) -> u32
     requires { head + 4 * saved + 4 * temps < 2 ^ 31 }
     ensures { result ≡ slots_begin head saved temps }
 {
-    round8(head + 4 * saved + 4 * temps)
+    rounded(head + 4 * saved + 4 * temps)
 }
 
 /// How far a slot reaches behind others.
@@ -97,7 +99,7 @@ fn next_reach(at: u32, size: u32) -> u32
     ensures value { result ≡ at + round8 (size + 1) }
     ensures small { result < 2 ^ 31 }
 {
-    at + round8(size + 1)
+    at + rounded(size + 1)
 }
 
 /// How far the last slot reaches.

@@ -15,7 +15,7 @@ use pw_flowops::{Counts, read_end, read_few, read_ops};
 use pw_items::Items;
 use pw_value::fields::{FieldError, read_text_in_place, read_u32};
 use pw_value::limits::ROOM_LIMIT;
-use pw_value::{Name, Shape};
+use pw_value::{Name, Shape, round8};
 use std::alloc::Global;
 
 /// The most bytes that a function's temporaries and slots come to.
@@ -63,7 +63,7 @@ fn read_blocks<'a>(
 fn room_of_slot(size: u32) -> u64
     ensures { result ≡ slot_room size }
 {
-    (u64::from(size) + 1 + 7) / 8 * 8
+    round8(u64::from(size) + 1)
 }
 
 /// A slot's size, behind temporaries and slots of so many bytes.

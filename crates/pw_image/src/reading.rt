@@ -19,7 +19,7 @@ use pw_value::fields::frame::{check_digest, open};
 use pw_value::fields::names::{read_name, read_names};
 use pw_value::fields::{FieldError, read_bytes, read_u32};
 use pw_value::limits::{MEMORY_SIZE, TEXT_START, WORD_LIMIT};
-use pw_value::{FileError, Name};
+use pw_value::{FileError, Name, round8};
 use std::alloc::{AllocError, Global};
 
 /// `PAWI`, the first four bytes of an image file.
@@ -68,7 +68,7 @@ fn read_data_size(words: u32, stack_end: u32, bytes: &[u8]) -> Result<(u32, &[u8
     ensures no_memory { IfErr result (λ e. e ≢ FieldError.NoMemory) }
 {
     let (size, rest) = read_u32(bytes)?;
-    let start = (u64::from(TEXT_START) + 4 * u64::from(words) + 7) / 8 * 8;
+    let start = round8(u64::from(TEXT_START) + 4 * u64::from(words));
     if start + u64::from(size) <= u64::from(stack_end) {
         Ok((size, rest))
     } else {

@@ -9,6 +9,7 @@ ghost use Rattle.pw_link.specs.Views.{standing_view};
 
 use pw_flow::FlowGlobal;
 use pw_object::Object;
+use pw_value::round8;
 use std::alloc::{AllocError, Global};
 
 /// An object at its offset from the start of the data.
@@ -22,7 +23,7 @@ pub(crate) struct Standing<'a> {
 fn taken(global: &FlowGlobal) -> u64
     ensures { result ≡ taken global.now }
 {
-    (global.size as u64 + 1 + 7) / 8 * 8
+    round8(u64::from(global.size) + 1)
 }
 
 /// Adds the objects of a module.

@@ -21,9 +21,9 @@ use pw_flow::FlowGlobal;
 use pw_image::{Image, Memory};
 use pw_inst::ROUTINE_COUNT;
 use pw_object::Object;
-use pw_value::LinkFault;
 use pw_value::limits::{MEMORY_SIZE, TEXT_START, WORD_LIMIT};
 use pw_value::program_names::START;
+use pw_value::{LinkFault, round8};
 use std::alloc::{AllocError, Global};
 
 /// The size of a program's parts.
@@ -43,7 +43,7 @@ fn sizes_of(words: u64, bytes: u64, stack: u32) -> Result<Sizes, LinkFault>
     if words > WORD_LIMIT as u64 {
         return Err(LinkFault::TextTooLarge(words.saturating_mul(4)));
     }
-    let begin = (TEXT_START as u64 + 4 * words + 7) / 8 * 8;
+    let begin = round8(u64::from(TEXT_START) + 4 * words);
     let end = bytes.saturating_add(begin + 63) / 64 * 64;
     let stack_end = end.saturating_add(stack as u64 + 64);
     if stack_end > MEMORY_SIZE as u64 {

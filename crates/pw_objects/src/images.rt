@@ -3,7 +3,7 @@
 use pw_image::{DataItem, Function, GlobalObject, Image};
 use pw_rows::Text;
 use pw_value::limits::TEXT_START;
-use pw_value::{LinkFault, Name};
+use pw_value::{LinkFault, Name, round8};
 
 /// How many functions of a map are the library's and the routines.
 const ROUTINES: usize = 8;
@@ -69,7 +69,8 @@ fn push_item(text: &mut Text, item: &DataItem) {
 /// Where the data of a text of so many words start.
 fn data_start(words: usize) -> u32 {
     let words = u32::try_from(words).unwrap_or(0);
-    words.wrapping_mul(4).wrapping_add(TEXT_START + 7) / 8 * 8
+    let start = round8(u64::from(TEXT_START) + 4 * u64::from(words));
+    u32::try_from(start).unwrap_or(0)
 }
 
 /// Adds what an image is, as far as it rests on no word of a routine.
