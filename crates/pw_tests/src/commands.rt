@@ -31,6 +31,8 @@ pub struct Command<'a> {
     pub words: &'a [String],
     pub input: &'a [u8],
     pub streams: Streams,
+    /// What it puts out is told as it is.
+    pub as_it_is: bool,
 }
 
 /// The number of a call.
@@ -80,16 +82,17 @@ fn push_all(
     text: &mut Text,
     store: &mut MemStore,
     first: &mut First,
-    words: &[String],
+    command: &Command<'_>,
     input: &mut MemSource,
     out: &mut MemSink,
     err: &mut MemSink,
 ) {
     let before = store.puts().len();
-    let status = status_of(text.alloc(), words, store, input, out, err);
+    let status = status_of(text.alloc(), command.words, store, input, out, err);
     let told = Told {
         status,
         out: out.bytes(),
+        as_it_is: command.as_it_is,
         err: err.bytes(),
         puts: store.puts().get(before..).unwrap_or(&[]),
         image: image_of(store),
@@ -107,7 +110,7 @@ fn push_with_output(
     out: &mut MemSink,
 ) {
     match MemSink::new(text.alloc(), command.streams.room, &[]) {
-        Ok(mut err) => push_all(text, store, first, command.words, input, out, &mut err),
+        Ok(mut err) => push_all(text, store, first, command, input, out, &mut err),
         Err(AllocError) => text.cut(),
     }
 }

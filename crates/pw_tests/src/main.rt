@@ -21,7 +21,8 @@
 //!   put, in order, and whether `prog.img` is the `first` image of the table or an`other`. A newline is printed as `\n`, an
 //!   output of more than 1,000 bytes as its length, and the bytes and the digest of an image as `first`, the first that
 //!   were told in the table, or `other`. In a row `$<CALL LINE` this call of the input fails, in `$>CALL LINE` this call of
-//!   the output, and in `$! LINE` `err` takes nothing.
+//!   the output, and in `$! LINE` `err` takes nothing. In a row `$= LINE` what is put out is printed as it is, with the
+//!   bytes and the digest of each image.
 //! - `? words LINE`: the command that a command line says, its operand, and its number, colours, stack and steps, as far as it
 //!   has them.
 //! - `? script`: how many lawful lines the text begins with, up to its end or up to the first place where none stands, and

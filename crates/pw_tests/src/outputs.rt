@@ -30,6 +30,8 @@ impl First {
 pub struct Told<'a> {
     pub status: u8,
     pub out: &'a [u8],
+    /// What was put out is told as it is, with the bytes and the digest of each image.
+    pub as_it_is: bool,
     pub err: &'a [u8],
     pub puts: &'a [String],
     pub image: &'a [u8],
@@ -76,9 +78,13 @@ fn push_lines(text: &mut Text, first: &mut Vec<u8>, lines: &str) {
     text.push(b"\"");
 }
 
-/// Adds an output.
-fn push_output(text: &mut Text, first: &mut Vec<u8>, out: &[u8]) {
-    text.push(b" out ");
+/// Adds an output, with the bytes and the digests of images as they are, or as the first or other ones.
+fn push_output(text: &mut Text, first: &mut Vec<u8>, out: &[u8], as_it_is: bool) {
+    text.push(b" out");
+    if as_it_is {
+        return push_text(text, out);
+    }
+    text.push(b" ");
     if out.len() > MOST {
         text.display(&out.len());
         text.push(b" bytes");
@@ -101,7 +107,7 @@ pub fn push_told(text: &mut Text, first: &mut First, told: &Told<'_>) {
     text.push(b" ");
     text.display(&told.status);
     if !told.out.is_empty() {
-        push_output(text, &mut first.report, told.out);
+        push_output(text, &mut first.report, told.out, told.as_it_is);
     }
     if !told.err.is_empty() {
         text.push(b" err");

@@ -95,6 +95,7 @@ impl Trial {
             words: &words,
             input: &self.input,
             streams: streams_of(how),
+            as_it_is: how == "=",
         };
         push_command(text, &mut self.store, &mut self.first, &command);
     }
