@@ -62,6 +62,16 @@ impl Name {
         })
     }
 
+    /// The name of bytes of which there are as many as a name may have.
+    pub fn within(alloc: Global, bytes: &[u8]) -> Result<Name, AllocError>
+        requires { IsNameLength (length bytes.now) }
+        ensures { IfOk result (λ name. name ≡ bytes.now) }
+    {
+        Ok(Name {
+            bytes: Vec::from_slice(alloc, bytes)?,
+        })
+    }
+
     /// The name's bytes.
     pub fn as_bytes(&self) -> &[u8]
         ensures bytes { result.now ≡ self.now }
@@ -74,9 +84,7 @@ impl Name {
     pub fn copy(&self, alloc: Global) -> Result<Name, AllocError>
         ensures { IfOk result (λ name. name ≡ self.now) }
     {
-        Ok(Name {
-            bytes: Vec::from_slice(alloc, self.bytes.as_slice())?,
-        })
+        Name::within(alloc, self.as_bytes())
     }
 }
 

@@ -15,12 +15,23 @@ pub enum WordFault {
     ShiftCount,
 }
 
-/// The word of a number, as what counts in words has it.
+/// The word of a count, as what counts in words has it.
+///
+/// # Errors
+///
+/// `AllocError` where the count takes more than 32 bits, and nowhere else.
+pub fn word_of(count: usize) -> Result<u32, AllocError>
+    ensures { MatchResult result (λ word. word ≡ count) (λ _. 2 ^ 32 ≤ count) }
+{
+    word_of_u64(count as u64)
+}
+
+/// The word of a number.
 ///
 /// # Errors
 ///
 /// `AllocError` where the number takes more than 32 bits, and nowhere else.
-pub fn word_of(number: usize) -> Result<u32, AllocError>
+pub fn word_of_u64(number: u64) -> Result<u32, AllocError>
     ensures { MatchResult result (λ word. word ≡ number) (λ _. 2 ^ 32 ≤ number) }
 {
     u32::try_from(number).ok().ok_or(AllocError)
