@@ -1,6 +1,7 @@
 //! How a program's run ends, in words.
 
 use crate::job::Job;
+use crate::ones::return_ones;
 use pw_check::{CheckKind, check};
 use pw_cmean::undefined_text;
 use pw_cworld::Part;
@@ -76,11 +77,22 @@ fn typed(alloc: Global, text: &[u8]) -> Result<Option<TModule>, AllocError> {
     }
 }
 
+/// The same, whose last function returns the sum of so many ones, if not 0.
+fn typed_by(alloc: Global, text: &[u8], ones: u32) -> Result<Option<TModule>, AllocError> {
+    let Some(mut tree) = typed(alloc, text)? else {
+        return Ok(None);
+    };
+    if ones > 0 {
+        return_ones(alloc, &mut tree, ones)?;
+    }
+    Ok(Some(tree))
+}
+
 /// The typed trees of a program's modules, where each is taken.
 fn all_typed(alloc: Global, job: &Job) -> Result<Option<Vec<TModule>>, AllocError> {
     let mut trees = Vec::new(alloc);
     for module in &job.modules {
-        match typed(alloc, &module.text)? {
+        match typed_by(alloc, &module.text, job.ones)? {
             Some(tree) => trees.push(tree)?,
             None => return Ok(None),
         }

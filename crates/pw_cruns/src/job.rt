@@ -20,6 +20,8 @@ pub struct Job {
     pub bound: u64,
     pub depth: usize,
     pub input: Vec<u8>,
+    /// Where it is not 0, the last function of each module returns the sum of so many ones in place of its body.
+    pub ones: u32,
 }
 
 /// A name of these characters; of others `?`.
@@ -58,6 +60,7 @@ impl Job {
             bound: 100000,
             depth: 4000,
             input: Vec::new(alloc),
+            ones: 0,
         }
     }
 
@@ -82,6 +85,7 @@ impl Job {
             "stack" => self.stack = value.parse::<u32>().unwrap_or(0),
             "bound" => self.bound = value.parse::<u64>().unwrap_or(0),
             "depth" => self.depth = value.parse::<usize>().unwrap_or(0),
+            "ones" => self.ones = value.parse::<u32>().unwrap_or(0),
             "input" => self.input = bytes_of(alloc, value.as_bytes())?,
             _ => {
                 let (name, frame) = value.split_once(' ').unwrap_or((value, ""));
