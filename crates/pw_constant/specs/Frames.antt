@@ -1,5 +1,5 @@
 -- What operators make of their first operands, when their others are known.
-use Rattle.std.specs.Prelude.{◌<◌, Bool, ◌&&◌, if◌then◌else◌, List, [], ◌∷◌}
+use Rattle.std.specs.Prelude.{◌≡◌, ◌<◌, Bool, ◌&&◌, if◌then◌else◌, List, [], ◌∷◌}
 use Rattle.pw_types.specs.Conversions.{is_signed_kind}
 use Rattle.pw_types.specs.TypedTrees.{Form}
 use Rattle.pw_types.specs.TypedTrees as T
@@ -63,3 +63,8 @@ constancy_by (turn.Goes f a) = applied f (constant_of (view_expr a.now))
 abbrev pub IsPartOf : Turn → TExpr → Type 0
 IsPartOf (turn.Ends c) e = Unit {0}
 IsPartOf (turn.Goes f a) e = size-TForm a.now.form < size-TForm e.form
+
+-- where the step leads to an expression, it is this one
+abbrev pub LeadsTo : Turn → TExpr → Type 0
+LeadsTo (turn.Ends c) a = Unit {0}
+LeadsTo (turn.Goes f b) a = b.now ≡ a
