@@ -43,7 +43,7 @@ registers name r1 r2 t = parts (name ∷ codes " " ∷ decimal r1 ∷ codes "," 
 abbrev pub bit_field : List ℕ → ℕ → ℕ → ℕ → ℕ → List ℕ
 bit_field name r p len t = parts (name ∷ codes " " ∷ decimal r ∷ codes "," ∷ decimal p ∷ codes "," ∷ decimal len ∷ codes "," ∷ decimal t ∷ [])
 
-abbrev pub compare_branch : List ℕ → List ℕ → ℕ → ℕ → ℕ → List ℕ
+unfoldable pub compare_branch : List ℕ → List ℕ → ℕ → ℕ → ℕ → List ℕ
 compare_branch name told r1 r2 to =
     parts (name ∷ codes "," ∷ told ∷ codes " " ∷ decimal r1 ∷ codes "," ∷ decimal r2 ∷ codes "," ∷ hexadecimal 8 to ∷ [])
 
@@ -51,7 +51,7 @@ abbrev pub compare_clear : List ℕ → ℕ → ℕ → ℕ → List ℕ
 compare_clear told r1 r2 t =
     parts (codes "COMCLR," ∷ told ∷ codes " " ∷ decimal r1 ∷ codes "," ∷ decimal r2 ∷ codes "," ∷ decimal t ∷ [])
 
-abbrev pub branch_and_link : Bool → ℕ → ℕ → List ℕ
+unfoldable pub branch_and_link : Bool → ℕ → ℕ → List ℕ
 branch_and_link n to t = parts (codes "BL" ∷ nullification n ∷ codes " " ∷ hexadecimal 8 to ∷ codes "," ∷ decimal t ∷ [])
 
 abbrev pub pair : List ℕ → ℕ → ℕ → List ℕ

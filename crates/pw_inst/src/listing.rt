@@ -168,7 +168,7 @@ fn compare_clear_text(
     format!(in alloc; "COMCLR,{condition} {r1},{r2},{t}")
 }
 
-#[tactic(auto, using(crate::proofs::HexadecimalLemmas::hexadecimal_of_word))]
+#[tactic(auto, unfolding(crate::specs::Listing::compare_branch), using(crate::proofs::HexadecimalLemmas::hexadecimal_of_word))]
 fn compare_branch_text(
     alloc: Global,
     name: &str,
@@ -182,7 +182,7 @@ fn compare_branch_text(
     format!(in alloc; "{name},{condition} {r1},{r2},{to:08x}")
 }
 
-#[tactic(auto, using(crate::proofs::HexadecimalLemmas::hexadecimal_of_word))]
+#[tactic(auto, unfolding(crate::specs::Listing::branch_and_link), using(crate::proofs::HexadecimalLemmas::hexadecimal_of_word))]
 fn branch_and_link_text(alloc: Global, n: bool, to: u32, t: u8) -> Result<String, NoMemory>
     ensures { IfOk result (λ s. string_bytes s ≡ branch_and_link n to t) }
 {
