@@ -5,8 +5,8 @@ use Rattle.pw_flow.specs.declared.flow.End.TheVariants.{Jump}
 use Rattle.pw_typed.specs.Views.{view_expr, view_optional, view_stmt, view_stmt_form, view_stmts, view_arms, view_cases, view_initialisers, view_otherwise}
 use Rattle.pw_typed.proofs.Rows.{block_view}
 use Rattle.pw_lower.specs.Codes.{leave}
-use Rattle.pw_lower.specs.Statements.{initialised_all, begun, looping, repeating, counting, switching, lower_statement, lower_statements}
-use Rattle.pw_lstmt.specs.Frames.{view_frame, joins_of, arms_code, else_code, is_followed}
+use Rattle.pw_lower.specs.Statements.{initialised_all, begun, looping, repeating, counting, switching, lower_statement, lower_statements, lower_arms, lower_otherwise}
+use Rattle.pw_lstmt.specs.Frames.{view_frame, joins_of, arms_code, is_followed}
 use Rattle.pw_lstmt.proofs.StatementLaws.{statements_none, statements_more, statement_block, if_is, empty_is, evaluate_is, while_is, do_is, for_is, switch_is, label_is, goto_is, break_is, continue_is, return_is, if_whole, arms_on, joins_on, followed}
 use Rattle.pw_lstmt.proofs.statements.+statement.Goals as goal
 
@@ -40,8 +40,8 @@ lower_statement-returns-in-Expr t c =
     let f = view_frame c.args.frame in
     subst (λ d. OnOk c.evaluate.result (c.evaluate.new.code ≡ d)) (sym (ap (λ x. lower_statement f c.args.ways (view_stmt_form k x) c.args.code.now) c.in-Expr.is ∙ evaluate_is f c.args.ways k c.in-Expr.e c.args.code.now)) c.evaluate.ensures
 
-pub lower_statement-returns-in_ok-initialise_all-in-Block : goal.lower_statement-returns-in_ok-initialise_all-in-Block
-lower_statement-returns-in_ok-initialise_all-in-Block t c =
+pub lower_statement-returns-in-Block : goal.lower_statement-returns-in-Block
+lower_statement-returns-in-Block t c =
     let k = c.args.s.now.token in
     let f = view_frame c.args.frame in
     let w = c.args.ways in
@@ -49,8 +49,16 @@ lower_statement-returns-in_ok-initialise_all-in-Block t c =
     let all = c.in-Block.initialisers in
     let ss = c.in-Block.items in
     let e = ap (λ s. lower_statement f w s code) (ap (view_stmt_form k) c.in-Block.is ∙ block_view k c.in-Block.first c.in-Block.count all ss) ∙ statement_block f w k c.in-Block.first c.in-Block.count (view_initialisers all.items) (view_stmts ss.items) code in
-    let a : c.initialise_all.new.code ≡ initialised_all f.home f.locals (view_initialisers all.items) code = c.in_ok-initialise_all-in-Block.ensures ∙ ap (λ l. initialised_all f.home f.locals (view_initialisers l) code) c.deref.ensures.value in
-    subst (λ d. OnOk c.lower_statements.result (c.lower_statements.new.code ≡ d)) (ap (λ l. lower_statements f w (view_stmts l) c.initialise_all.new.code) c.deref-in-Block.ensures.value ∙ ap (lower_statements f w (view_stmts ss.items)) a ∙ sym e) c.lower_statements.ensures
+    subst (λ d. OnOk c.lower_block.result (c.lower_block.new.code ≡ d))
+    (ap (λ l. lower_statements f w (view_stmts c.deref-in-Block.result.now) (initialised_all f.home f.locals (view_initialisers l) code)) c.deref.ensures.value
+    ∙ ap (λ l. lower_statements f w (view_stmts l) (initialised_all f.home f.locals (view_initialisers all.items) code)) c.deref-in-Block.ensures.value
+    ∙ sym e)
+    c.lower_block.ensures
+
+pub lower_block-returns-in_ok-initialise_all : goal.lower_block-returns-in_ok-initialise_all
+lower_block-returns-in_ok-initialise_all t c =
+    let f = view_frame c.args.frame in
+    subst (λ d. OnOk c.lower_statements.result (c.lower_statements.new.code ≡ lower_statements f c.args.ways (view_stmts c.args.items.now) d)) c.in_ok-initialise_all.ensures c.lower_statements.ensures
 
 pub lower_statement-returns-in-While : goal.lower_statement-returns-in-While
 lower_statement-returns-in-While t c =
@@ -140,25 +148,29 @@ lower_statement-returns-in-Return t c =
     let e = ap (λ x. lower_statement f w (view_stmt_form k x) code) c.in-Return.is ∙ return_is f w k c.in-Return.e code in
     subst (λ d. OnOk c.lower_return.result (c.lower_return.new.code ≡ d)) (sym e) c.lower_return.ensures
 
-pub lower_statement-returns-in_ok-lower_otherwise-in-If : goal.lower_statement-returns-in_ok-lower_otherwise-in-If
-lower_statement-returns-in_ok-lower_otherwise-in-If t c =
+pub lower_statement-returns-in-If : goal.lower_statement-returns-in-If
+lower_statement-returns-in-If t c =
     let k = c.args.s.now.token in
     let f = view_frame c.args.frame in
     let w = c.args.ways in
     let code = c.args.code.now in
-    let arms = c.in-If.arms in
     let o = c.in-If.otherwise in
+    let e = ap (λ x. lower_statement f w (view_stmt_form k x) code) c.in-If.is ∙ if_is f w k c.in-If.arms o code in
+    subst (λ d. OnOk c.lower_if.result (c.lower_if.new.code ≡ d)) (ap (λ l. lower_arms f w (view_arms l) (lower_otherwise f w (view_otherwise o)) code) c.deref-in-If.ensures.value ∙ sym e) c.lower_if.ensures
+
+pub lower_if-returns-in_ok-lower_otherwise : goal.lower_if-returns-in_ok-lower_otherwise
+lower_if-returns-in_ok-lower_otherwise t c =
+    let f = view_frame c.args.frame in
+    let w = c.args.ways in
+    let code = c.args.code.now in
+    let arms = view_arms c.args.arms.now in
+    let o = c.args.otherwise.now in
     let more = c.is_some.result in
-    let joins = c.in_ok-joins-in-If.joins.items in
-    let behind = c.lower_arms.new.code in
-    let after = c.lower_otherwise.new.code in
-    let v = c.deref-in-If.ensures.value in
     let m : more ≡ is_some o = first_of (cc, search rules) in
-    let j : joins ≡ joins_of f w more (view_arms arms.items) code = c.in_ok-joins-in-If.ensures.joins ∙ ap (λ l. joins_of f w more (view_arms l) code) v in
-    let b : behind ≡ arms_code f w more (view_arms arms.items) code = c.in_ok-joins-in-If.ensures.code ∙ ap (λ l. arms_code f w more (view_arms l) code) v in
-    let a : after ≡ else_code f w (view_otherwise o) behind = c.in_ok-lower_otherwise-in-If.ensures in
-    let e = ap (λ x. lower_statement f w (view_stmt_form k x) code) c.in-If.is ∙ if_is f w k arms o code in
-    subst (λ d. OnOk c.close_joins.result (c.close_joins.new.code ≡ d)) (if_whole f w (view_arms arms.items) o more joins code behind after m j b a ∙ sym e) c.close_joins.ensures
+    let j = c.in_ok-joins.ensures.joins in
+    let b = c.in_ok-joins.ensures.code in
+    let a = c.in_ok-lower_otherwise.ensures in
+    subst (λ d. OnOk c.close_joins.result (c.close_joins.new.code ≡ d)) (if_whole f w arms o more c.in_ok-joins.joins.items code c.lower_arms.new.code c.lower_otherwise.new.code m j b a) c.close_joins.ensures
 
 pub lower_arms-loop-arm-preserved : goal.lower_arms-loop-arm-preserved
 lower_arms-loop-arm-preserved t c =
