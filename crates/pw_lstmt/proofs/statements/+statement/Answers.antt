@@ -55,11 +55,6 @@ lower_statement-returns-in-Block t c =
     ∙ sym e)
     c.lower_block.ensures
 
-pub lower_block-returns-in_ok-initialise_all : goal.lower_block-returns-in_ok-initialise_all
-lower_block-returns-in_ok-initialise_all t c =
-    let f = view_frame c.args.frame in
-    subst (λ d. OnOk c.lower_statements.result (c.lower_statements.new.code ≡ lower_statements f c.args.ways (view_stmts c.args.items.now) d)) c.in_ok-initialise_all.ensures c.lower_statements.ensures
-
 pub lower_statement-returns-in-While : goal.lower_statement-returns-in-While
 lower_statement-returns-in-While t c =
     let k = c.args.s.now.token in
@@ -158,8 +153,8 @@ lower_statement-returns-in-If t c =
     let e = ap (λ x. lower_statement f w (view_stmt_form k x) code) c.in-If.is ∙ if_is f w k c.in-If.arms o code in
     subst (λ d. OnOk c.lower_if.result (c.lower_if.new.code ≡ d)) (ap (λ l. lower_arms f w (view_arms l) (lower_otherwise f w (view_otherwise o)) code) c.deref-in-If.ensures.value ∙ sym e) c.lower_if.ensures
 
-pub lower_if-returns-in_ok-lower_otherwise : goal.lower_if-returns-in_ok-lower_otherwise
-lower_if-returns-in_ok-lower_otherwise t c =
+pub lower_if-returns : goal.lower_if-returns
+lower_if-returns t c =
     let f = view_frame c.args.frame in
     let w = c.args.ways in
     let code = c.args.code.now in
