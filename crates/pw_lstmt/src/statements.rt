@@ -92,7 +92,10 @@ pub fn lower_statement(
             items,
             ..
         } => lower_block(alloc, frame, ways, initialisers, items, code),
-        TStmtForm::If(arms, otherwise) => lower_if(alloc, frame, ways, arms, otherwise, code),
+        TStmtForm::If(arms, otherwise) => {
+            let joins = lower_arms(alloc, frame, ways, arms, otherwise.is_some(), code)?;
+            close_if(alloc, frame, ways, otherwise, joins, code)
+        }
         TStmtForm::While(e, body) => lower_while(alloc, frame, body, e, code),
         TStmtForm::Do(body, e) => lower_do(alloc, frame, body, e, code),
         TStmtForm::For(first, test, step, body) => {
@@ -267,20 +270,19 @@ fn lower_otherwise(
     }
 }
 
-/// Lowers an `if`.
+/// What stands behind the arms of an `if`: a last `else`, where there is one, and the blocks in which the ways of
+/// the arms join.
 #[cycle(statement)]
-fn lower_if(
+fn close_if(
     alloc: Global,
     frame: Frame,
     ways: Ways,
-    arms: &[Arm],
     otherwise: &Option<Box<TStmt>>,
+    joins: Vec<u32>,
     code: &mut Code,
 ) -> Result<(), NoMemory>
-    ensures { OnOk result (code.new
-        ≡ spec.lower_arms (view_frame frame.entry) ways (view_arms arms.now) (spec.lower_otherwise (view_frame frame.entry) ways (view_otherwise otherwise.now)) code.old) }
+    ensures { OnOk result (code.new ≡ all_joined joins.items (else_code (view_frame frame.entry) ways (view_otherwise otherwise.now) code.old)) }
 {
-    let joins = lower_arms(alloc, frame, ways, arms, otherwise.is_some(), code)?;
     lower_otherwise(alloc, frame, ways, otherwise, code)?;
     close_joins(alloc, joins, code)
 }

@@ -1,12 +1,12 @@
-use Rattle.std.proofs.Common.{◌≡◌, OnOk, is_some, ◌||◌, nat_lt, ◌++◌, ◌+◌, ◌-◌, length, length-drop, drop, sym, ap, ◌∙◌, subst, arith, rules}
+use Rattle.std.proofs.Common.{◌≡◌, OnOk, is_some, ◌||◌, nat_lt, ◌++◌, ◌+◌, ◌-◌, length, length-drop, drop, refl, sym, ap, ◌∙◌, subst, arith, rules}
 use Rattle.std.proofs.lemmas.Grind.{common_steps}
 use Rattle.std.proofs.lemmas.List.{at_drop_more, at_drop_all}
 use Rattle.pw_flow.specs.declared.flow.End.TheVariants.{Jump}
 use Rattle.pw_typed.specs.Views.{view_expr, view_optional, view_stmt, view_stmt_form, view_stmts, view_arms, view_cases, view_initialisers, view_otherwise}
 use Rattle.pw_typed.proofs.Rows.{block_view}
 use Rattle.pw_lower.specs.Codes.{leave}
-use Rattle.pw_lower.specs.Statements.{initialised_all, begun, looping, repeating, counting, switching, lower_statement, lower_statements, lower_arms, lower_otherwise}
-use Rattle.pw_lstmt.specs.Frames.{view_frame, joins_of, arms_code, is_followed}
+use Rattle.pw_lower.specs.Statements.{initialised_all, begun, looping, repeating, counting, switching, lower_statement, lower_statements}
+use Rattle.pw_lstmt.specs.Frames.{view_frame, joins_of, arms_code, else_code, is_followed}
 use Rattle.pw_lstmt.proofs.StatementLaws.{statements_none, statements_more, statement_block, if_is, empty_is, evaluate_is, while_is, do_is, for_is, switch_is, label_is, goto_is, break_is, continue_is, return_is, if_whole, arms_on, joins_on, followed}
 use Rattle.pw_lstmt.proofs.statements.+statement.Goals as goal
 
@@ -143,29 +143,23 @@ lower_statement-returns-in-Return t c =
     let e = ap (λ x. lower_statement f w (view_stmt_form k x) code) c.in-Return.is ∙ return_is f w k c.in-Return.e code in
     subst (λ d. OnOk c.lower_return.result (c.lower_return.new.code ≡ d)) (sym e) c.lower_return.ensures
 
-pub lower_statement-returns-in-If : goal.lower_statement-returns-in-If
-lower_statement-returns-in-If t c =
+pub lower_statement-returns-in_ok-joins-in-If : goal.lower_statement-returns-in_ok-joins-in-If
+lower_statement-returns-in_ok-joins-in-If t c =
     let k = c.args.s.now.token in
     let f = view_frame c.args.frame in
     let w = c.args.ways in
     let code = c.args.code.now in
+    let arms = c.in-If.arms in
     let o = c.in-If.otherwise in
-    let e = ap (λ x. lower_statement f w (view_stmt_form k x) code) c.in-If.is ∙ if_is f w k c.in-If.arms o code in
-    subst (λ d. OnOk c.lower_if.result (c.lower_if.new.code ≡ d)) (ap (λ l. lower_arms f w (view_arms l) (lower_otherwise f w (view_otherwise o)) code) c.deref-in-If.ensures.value ∙ sym e) c.lower_if.ensures
-
-pub lower_if-returns : goal.lower_if-returns
-lower_if-returns t c =
-    let f = view_frame c.args.frame in
-    let w = c.args.ways in
-    let code = c.args.code.now in
-    let arms = view_arms c.args.arms.now in
-    let o = c.args.otherwise.now in
     let more = c.is_some.result in
+    let joins = c.in_ok-joins-in-If.joins.items in
+    let behind = c.lower_arms.new.code in
+    let v = c.deref-in-If.ensures.value in
     let m : more ≡ is_some o = first_of (cc, search rules) in
-    let j = c.in_ok-joins.ensures.joins in
-    let b = c.in_ok-joins.ensures.code in
-    let a = c.in_ok-lower_otherwise.ensures in
-    subst (λ d. OnOk c.close_joins.result (c.close_joins.new.code ≡ d)) (if_whole f w arms o more c.in_ok-joins.joins.items code c.lower_arms.new.code c.lower_otherwise.new.code m j b a) c.close_joins.ensures
+    let j : joins ≡ joins_of f w more (view_arms arms.items) code = c.in_ok-joins-in-If.ensures.joins ∙ ap (λ l. joins_of f w more (view_arms l) code) v in
+    let b : behind ≡ arms_code f w more (view_arms arms.items) code = c.in_ok-joins-in-If.ensures.code ∙ ap (λ l. arms_code f w more (view_arms l) code) v in
+    let e = ap (λ x. lower_statement f w (view_stmt_form k x) code) c.in-If.is ∙ if_is f w k arms o code in
+    subst (λ d. OnOk c.close_if.result (c.close_if.new.code ≡ d)) (if_whole f w (view_arms arms.items) o more joins code behind (else_code f w (view_otherwise o) behind) m j b refl ∙ sym e) c.close_if.ensures
 
 pub lower_arms-loop-arm-preserved : goal.lower_arms-loop-arm-preserved
 lower_arms-loop-arm-preserved t c =
