@@ -165,8 +165,7 @@ listed_value_parts cx cursor filled first e s l at v h =
     post_bind (value_filled cx first r.0.target e filled r.1) _ (λ u. (u.1 ≡ r.1) × AreKeptValues r.1 u.0.parts) ScalarRead
     (value_parts cx first r.0.target e filled r.1 (subst (λ t. IsKeptFrom t.types.records (type_of r.0.target.ty)) (sym k.0) (subst (IsKeptFrom s.types.records) (sym k.1.0) at.kept))
     (subst (λ t. KeptValue t e) (sym k.0) v) (subst (λ t. AreKeptValues t filled.parts) (sym k.0) h)) (λ u j.
-    let same : u.1 ≡ s = j.0 ∙ k.0 in
-    (
+    let same : u.1 ≡ s = j.0 ∙ k.0 in (
       subst IsReady (sym same) l,
       (
         record { frame = one_on at.frame; alone = ap (passed (records_in s)) k.1.1 ∙ passed_alone (records_in s) at.frame; scalar = at.scalar; kept = subst (λ t. IsKeptFrom t.types.records at.frame.ty) (sym same) at.kept },

@@ -289,8 +289,11 @@ unfolding select_rule bind
 select_leaf t w a s k h =
     post_bind (granted _ w.token [] (member_of (records_in s) (type_in a.node) w.text) s) _ (λ r. (r.1 ≡ s) × (member_of (records_in s) (type_in a.node) w.text ≡ Some r.0)) (Leaf s)
     (post_granted _ w.token [] (member_of (records_in s) (type_in a.node) w.text) s (λ r. (r.1 ≡ s) × (member_of (records_in s) (type_in a.node) w.text ≡ Some r.0)) (λ x e met. (refl, e)))
-    (λ r g. (g.0, λ l c. node_keeps l t (qualify (is_constant (type_at a.node)) (is_volatile (type_at a.node)) r.0.0.ty) (T.Member a.node r.0.1)
-    (kept_qualify l (is_constant (type_at a.node)) (is_volatile (type_at a.node)) r.0.0.ty (member_found (records_in s) (type_in a.node) w.text r.0 k.members g.1 l c.laid c.records)) (h l c).small tt))
+    (λ r g. (
+      g.0,
+      λ l c. node_keeps l t (qualify (is_constant (type_at a.node)) (is_volatile (type_at a.node)) r.0.0.ty) (T.Member a.node r.0.1)
+          (kept_qualify l (is_constant (type_at a.node)) (is_volatile (type_at a.node)) r.0.0.ty (member_found (records_in s) (type_in a.node) w.text r.0 k.members g.1 l c.laid c.records)) (h l c).small tt,
+    ))
 
 pub dot_leaf : (t : ℕ) (w : Word) (a : Operand) (s : State) → Keeping s → KeptOperand s a → Post (dot_rule t w a s) (Leaf s)
 unfolding dot_rule bind

@@ -196,8 +196,7 @@ noted_small s name internal ty token tag lawful keep sound narrowed link = by (l
     )
     by (Some l) e =
         let at : slice_get s.types.linked (place_for s name) ≡ Some l = place_is s name l e in
-        let alike : compatible l.ty ty ≡ true = link.alike l e in
-        (
+        let alike : compatible l.ty ty ≡ true = link.alike l e in (
           (record { entities = keep.entities; members = keep.members }, places_so s sound),
           (
             λ i x y f there. narrowed_on s.types.linked (put_at (place_for s name) (linked_again ty l) s.types.linked) (put_narrows (place_for s name) l (linked_again ty l) s.types.linked at (wider_composite l.ty ty)) y (narrowed i x y f there),

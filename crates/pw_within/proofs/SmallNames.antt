@@ -147,8 +147,7 @@ global_declared w b spot q (Some i) s l lawful kept sound narrowed link =
     let wide : AreNarrowed o.1 = narrowed_grows {s = define_object r.0 r.1} {t = o.1} places grown small.1 in
     let f = found_here o.1 w.text (Linked r.0 h.type) now in
     let known = wide f.index (w.text, f.entry) (Linked r.0 h.type) f.listed f.there in
-    let alike : compatible known.0.ty o.0.ty ≡ true = sym (ap (λ x. option_map_or (λ (y : LinkedName). compatible y.ty o.0.ty) x true) known.1) ∙ truth _ met.0 in
-    (
+    let alike : compatible known.0.ty o.0.ty ≡ true = sym (ap (λ x. option_map_or (λ (y : LinkedName). compatible y.ty o.0.ty) x true) known.1) ∙ truth _ met.0 in (
       initialised o.1 w.text r.0 o.0.ty h.type o.0.filled.items known.0 j.1.0.1 (places_grow (define_object r.0 r.1) o.1 places grown) wide known.1 now known.2 alike (within_kept o.1.types.records w.token o.0.ty j.1.1 met.1),
       λ x c. tt,
     )))

@@ -199,8 +199,11 @@ unfolding member_rule bind
 member_kept s b d ms l h k all =
     post_bind (built (spot_of d.name b.first b.tag) d.derivations b.ty s) _ (λ r. (r.1 ≡ s) × IsLawfulType s.types.records (type_of r.0)) (λ r. (r.1 ≡ s) × AreKeptMembers s.types.records r.0)
     (built_here s b d (spot_of d.name b.first b.tag) l h k)
-    (λ r g met. (g.0, more_kept s.types.records ms (record { name = name_text d.name; ty = r.0 }) all
-    (within_kept s.types.records (spot_of d.name b.first b.tag).token r.0 g.1 (subst (λ t. Rattle.pw_well_typed.proofs.Walking.AreMet (Rattle.pw_rules.specs.Limits.type_within t.types.records (spot_of d.name b.first b.tag).token r.0)) g.0 met.1.1.1.1))))
+    (λ r g met. (
+      g.0,
+      more_kept s.types.records ms (record { name = name_text d.name; ty = r.0 }) all
+          (within_kept s.types.records (spot_of d.name b.first b.tag).token r.0 g.1 (subst (λ t. Rattle.pw_well_typed.proofs.Walking.AreMet (Rattle.pw_rules.specs.Limits.type_within t.types.records (spot_of d.name b.first b.tag).token r.0)) g.0 met.1.1.1.1)),
+    ))
 
 adjusted_lawful : (r : List RecordValue) (q : QType) → IsLawfulType r (type_of q) → IsLawfulType r (type_of (adjusted q))
 adjusted_lawful r (Qualified (Array (Qualified ty c v) n) d w) h = h.0

@@ -187,8 +187,7 @@ scoped_goes : (inside : Rule Statement) (s : State) → IsSet s → ((t : State)
 unfolding scoped bind
 scoped_goes inside s h k =
     post_bind (inside (one_deeper s)) _ (Goes (one_deeper s) SmallStatement) (Goes s SmallStatement)
-    (k (one_deeper s) ((deeper_lawful s h.0.0, record { entities = h.0.1.entities; members = h.0.1.members }), (h.1.0, (record { backed = h.1.1.0.backed; spelled = h.1.1.0.spelled; functions = h.1.1.0.functions; slots = h.1.1.0.slots }, h.1.1.1)))) (λ r g.
-    (
+    (k (one_deeper s) ((deeper_lawful s h.0.0, record { entities = h.0.1.entities; members = h.0.1.members }), (h.1.0, (record { backed = h.1.1.0.backed; spelled = h.1.1.0.spelled; functions = h.1.1.0.functions; slots = h.1.1.0.slots }, h.1.1.1)))) (λ r g. (
       (((left_lawful_alone r.1 g.0.0.0.0, record { entities = g.0.0.0.1.entities; members = g.0.0.0.1.members }), (g.0.0.1.0, (left_sound_alone r.1 None g.0.0.1.1.0, left_narrowed r.1 g.0.0.1.1.1))), record { extends = g.0.1.extends; counting = g.0.1.counting; hidden = g.0.1.hidden; result = g.0.1.result }),
       λ x c. g.1 x (record { laid = c.laid; records = c.records; counting = c.counting; strings = c.strings }),
     ))
@@ -196,8 +195,7 @@ scoped_goes inside s h k =
 in_loop_goes : (body : Rule Statement) (s : State) → IsSet s → ((t : State) → IsSet t → Post (body t) (Goes t SmallStatement)) → Post (in_loop body s) (Goes s SmallStatement)
 unfolding in_loop bind
 in_loop_goes body s h k =
-    post_bind (body _) _ (Goes _ SmallStatement) (Goes s SmallStatement) (k _ (set_in s _ refl h)) (λ r g.
-    (
+    post_bind (body _) _ (Goes _ SmallStatement) (Goes s SmallStatement) (k _ (set_in s _ refl h)) (λ r g. (
       (set_in r.1 _ refl g.0.0, record { extends = g.0.1.extends; counting = g.0.1.counting; hidden = g.0.1.hidden; result = g.0.1.result }),
       λ x c. g.1 x (record { laid = c.laid; records = c.records; counting = c.counting; strings = c.strings }),
     ))
@@ -205,8 +203,7 @@ in_loop_goes body s h k =
 in_switch_goes : (e : Expression) (body : Rule Statement) (s : State) → IsSet s → ((t : State) → IsSet t → Post (body t) (Goes t SmallStatement)) → Post (in_switch e body s) (Goes s SmallSwitch)
 unfolding in_switch bind
 in_switch_goes e body s h k =
-    post_bind (body _) _ (Goes _ SmallStatement) (Goes s SmallSwitch) (k _ (set_in s _ refl h)) (λ r g.
-    (
+    post_bind (body _) _ (Goes _ SmallStatement) (Goes s SmallSwitch) (k _ (set_in s _ refl h)) (λ r g. (
       (set_in r.1 _ refl g.0.0, record { extends = g.0.1.extends; counting = g.0.1.counting; hidden = g.0.1.hidden; result = g.0.1.result }),
       λ x c. g.1 x (record { laid = c.laid; records = c.records; counting = c.counting; strings = c.strings }),
     ))
@@ -250,11 +247,13 @@ mutual
       then_goes s _ _ SmallIfAny SmallStatement (optional_goes a s h) (λ x1 k1 o1 v1.
       then_goes x1.1 _ _ SmallIfAny SmallStatement (optional_condition_goes t b x1.1 k1) (λ x2 k2 o2 v2.
       then_goes x2.1 _ _ SmallIfAny SmallStatement (optional_goes c x2.1 k2) (λ x3 k3 o3 v3.
-      then_goes x3.1 _ _ SmallStatement SmallStatement (in_loop_goes (stmt_rule st) x3.1 k3 (λ u k. stmt_small all st u k)) (λ x4 k4 o4 v4.
-      ((k4, onward_same x4.1), λ y d.
-          let d3 = reaches_on {s = x3.1} {t = x4.1} o4 d in
-          let d2 = reaches_on {s = x2.1} {t = x3.1} o3 d3 in
-          (v1 y (reaches_on {s = x1.1} {t = x2.1} o2 d2), v2 y d2, v3 y d3, v4 y d))))))
+      then_goes x3.1 _ _ SmallStatement SmallStatement (in_loop_goes (stmt_rule st) x3.1 k3 (λ u k. stmt_small all st u k)) (λ x4 k4 o4 v4. (
+        (k4, onward_same x4.1),
+        λ y d.
+            let d3 = reaches_on {s = x3.1} {t = x4.1} o4 d in
+            let d2 = reaches_on {s = x2.1} {t = x3.1} o3 d3 in
+            (v1 y (reaches_on {s = x1.1} {t = x2.1} o2 d2), v2 y d2, v3 y d3, v4 y d),
+      )))))
   stmt_small all (S.Goto t w) s h = goto_goes t w s h
   stmt_small all (S.Continue t) s h = continue_goes t s h
   stmt_small all (S.Break t) s h = break_goes t s h
