@@ -611,7 +611,7 @@ unfolding storage_rule bind
 listed_runs s specifiers l =
     goes_on (specified_rule specifiers (first_of_list specifiers) s) _ GoodSpecified (λ t is. is ≡ []) (specified_all s specifiers (first_of_list specifiers) l) (λ r m g h met more. (m, grows_same r.1, refl))
 
-bare_runs : (s : State) (specifiers : Specifiers) → IsLawful s → Runs s (bare_rule specifiers s) (λ t is. is ≡ [])
+pub bare_runs : (s : State) (specifiers : Specifiers) → IsLawful s → Runs s (bare_rule specifiers s) (λ t is. is ≡ [])
 unfolding bare_rule
 bare_runs s (S.RecordTag t kind w S.NoSpecifier) l = goes_on _ _ Nothing (λ t is. is ≡ []) (alone_runs s (record_kind kind) w l) (λ r m g h. (m, grows_same r.1, refl))
 bare_runs s specifiers l = listed_runs s specifiers l

@@ -22,3 +22,5 @@ pub mod Wider
 pub mod SmallLinkage
 pub mod SmallGlobals
 pub mod SmallNames
+pub mod SmallDecls
+pub mod SmallModules

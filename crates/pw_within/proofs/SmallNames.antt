@@ -181,29 +181,3 @@ pub name_declared : (sort : Sort) (spot : Spot) (w : Word) (b : Specified) (q : 
 unfolding name_rule bind
 name_declared sort spot w b q i s l lawful f sound narrowed = λ met.
     declare_declared sort w b spot q i s l lawful f (within_kept s.types.records w.token q lawful (met_right (sort_point s sort spot w (is_some i) b q) _ met).1) sound narrowed (met_left (sort_point s sort spot w (is_some i) b q) _ met)
-
--- ---- whole declarations
-
--- a state in which all is known
-abbrev pub Holds : State → Type 0
-Holds s = IsReady s × (Sound None s × AreNarrowed s)
-
-pub holds_grows : {s t : State} → IsReady t → Grows s t → Holds s → Holds t
-holds_grows {s} {t} ready g h = (ready, (g.sound None h.1.0, narrowed_grows {s = s} {t = t} (places_so s h.1.0) g h.1.1))
-
-abbrev After : State → List Initialiser × State → Type 0
-After s r = (IsLawful r.1 × Rattle.pw_well_typed.proofs.Keeping.After s r.1 × Unit {0}) × Declared r
-
-holds_after : {s : State} (r : List Initialiser × State) → After s r → Holds s → Holds r.1
-holds_after {s} r g h = ((g.0.0, g.1.0.0), (g.0.1.sound h.1.0, g.1.0.1))
-
-init_declarator_declared : (b : Specified) (d : Rattle.pw_tree.specs.Trees.InitDeclarator) (s : State) → Holds s → Rattle.pw_well_typed.proofs.Leaves.GoodSpecified s b → Post (Rattle.pw_rules.specs.Declarations.init_declarator_rule b d s) Declared
-unfolding Rattle.pw_rules.specs.Declarations.init_declarator_rule
-init_declarator_declared b d s h known =
-    Rattle.pw_within.proofs.SmallPhrases.from_declarator d.declarator s _ Declared h.0.0 (Rattle.pw_within.proofs.SmallPhrases.declarator_set d.declarator s h.0) (λ r m g c.
-    post_bind _ _ (λ u. (u.1 ≡ r.1) × IsLawfulType r.1.types.records (type_of u.0)) Declared
-    (Rattle.pw_within.proofs.SmallPhrases.built_here r.1 b r.0 (Rattle.pw_rules.specs.Derivations.spot_of r.0.name b.first b.tag) m.0 (Rattle.pw_well_typed.proofs.Phrases.later_type b.ty g known) c) (λ u j.
-    let k : Holds u.1 = subst Holds (sym j.0) (holds_grows {s = s} {t = r.1} m g h) in
-    Rattle.pw_well_typed.proofs.LabelLaws.asked_post u.1 (Rattle.pw_rules.specs.Declarations.sort_of (Rattle.pw_rules.specs.States.is_file_scope u.1) b u.0) _ Declared
-    (name_declared (Rattle.pw_rules.specs.Declarations.sort_of (Rattle.pw_rules.specs.States.is_file_scope u.1) b u.0) (Rattle.pw_rules.specs.Derivations.spot_of r.0.name b.first b.tag) (Rattle.pw_rules.specs.Declarations.name_of r.0) b u.0 d.initializer u.1 k.0
-    (subst (λ t. IsLawfulType t.types.records (type_of u.0)) (sym j.0) j.1) (Rattle.pw_well_typed.proofs.Declarations.sort_fits (Rattle.pw_rules.specs.States.is_file_scope u.1) b u.0) k.1.0 k.1.1)))

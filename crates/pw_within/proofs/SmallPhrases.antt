@@ -116,13 +116,13 @@ put_extends r kind place c unknown = record {
 
 -- ---- rules that change the state
 
-new_tag_keeping : (kind : RecordKind) (w : Word) (s : State) → IsReady s → Post (new_tag kind w s) (λ r. Keeping r.1)
+pub new_tag_keeping : (kind : RecordKind) (w : Word) (s : State) → IsReady s → Post (new_tag kind w s) (λ r. Keeping r.1)
 unfolding new_tag new_record bind
 new_tag_keeping kind w s l = λ met.
     let later = (record_grows s kind l.0).extends in
     record { entities = λ k x e. entity_from s.types.records (s.types.records ++ declared kind ∷ []) later x (l.1.entities k x e); members = added_members s.types.records kind later l.1.members }
 
-reference_by_keeping : (kind : RecordKind) (w : Word) (o : Option Tag) (s : State) → IsReady s → Post (reference_by kind w o s) (λ r. Keeping r.1)
+pub reference_by_keeping : (kind : RecordKind) (w : Word) (o : Option Tag) (s : State) → IsReady s → Post (reference_by kind w o s) (λ r. Keeping r.1)
 unfolding reference_by bind
 reference_by_keeping kind w None s l = post_bind (new_tag kind w s) _ (λ r. Keeping r.1) (λ r. Keeping r.1) (new_tag_keeping kind w s l) (λ r g. g)
 reference_by_keeping kind w (Some (G.Record n)) s l = λ met. l.1

@@ -1,4 +1,4 @@
--- Statements: their expressions keep the limit on sizes, and their calls that on arguments (ISO C90 5.2.4.1), if the declarations of blocks do.
+-- Statements: their expressions keep the limit on sizes, and their calls that on arguments (ISO C90 5.2.4.1).
 use Rattle.std.specs.Prelude.{ℕ, ◌≡◌, true, nat_lt, Option, None, Some, List, [], ◌∷◌, slice_get, refl}
 use Rattle.std.specs.List.{AllByRecursion}
 use Rattle.std.proofs.Common.{ap, sym, subst, ◌∙◌}
@@ -32,30 +32,10 @@ use Rattle.pw_well_typed.proofs.Sound.{Sound}
 use Rattle.pw_within.proofs.SmallLinkage.{AreNarrowed, places_so, narrowed_grows}
 use Rattle.pw_within.proofs.SmallLeaves.{Keeping, IsReady, Reaches, KeptValue, AreSmallFrom}
 use Rattle.pw_within.proofs.SmallPhrases.{from_expr, from_valued, expr_made}
+use Rattle.pw_within.proofs.SmallGlobals.{Declared}
+use Rattle.pw_within.proofs.SmallDecls.{Onward, onward_same, onward_trans, onward_grows, onward_adds, reaches_on, decls_declared}
 
 -- ---- states
-
--- how the state goes on within a function
-pub record Onward (s t : State) : Type 0 where
-  pub extends : Extends s.types.records t.types.records
-  pub counting : t.made.counting ≡ s.made.counting
-  pub hidden : Longer s.made.hidden t.made.hidden
-  pub result : t.body.result ≡ s.body.result
-
-onward_same : (s : State) → Onward s s
-onward_same s = record { extends = extends_same s.types.records; counting = refl; hidden = λ k h e. e; result = refl }
-
-onward_trans : {s t u : State} → Onward s t → Onward t u → Onward s u
-onward_trans {s} {t} {u} a b = record { extends = extends_trans a.extends b.extends; counting = b.counting ∙ a.counting; hidden = λ k h e. b.hidden k h (a.hidden k h e); result = b.result ∙ a.result }
-
-onward_grows : {s t : State} → Grows s t → Onward s t
-onward_grows g = record { extends = g.extends; counting = g.counting; hidden = g.hidden; result = ap (λ (b : BodyState). b.result) g.body }
-
-onward_adds : {s t : State} → After s t → Adds s t → Onward s t
-onward_adds x a = record { extends = x.extends; counting = a.counting; hidden = a.hidden; result = ap (λ (b : BodyState). b.result) a.steady }
-
-reaches_on : {s t : State} {r : List RecordValue} → Onward s t → Reaches t r → Reaches s r
-reaches_on {s} {t} {r} o c = record { laid = c.laid; records = extends_trans o.extends c.records; counting = sym o.counting ∙ c.counting; strings = λ k h e. c.strings k h (o.hidden k h e) }
 
 -- a state in a function, whose result keeps the limits
 abbrev pub IsSet : State → Type 0
@@ -104,11 +84,7 @@ SmallBehind s b = Ever (λ r. ArmsKeepLimits r b.arms × ElseKeepsLimits r b.oth
 abbrev SmallSwitch : State → Statement × SwitchState → Type 0
 SmallSwitch s x = SmallStatement s x.0
 
--- what is wanted of the declarations of a block
-abbrev pub DeclarationsKeep : Type 0
-DeclarationsKeep = (ds : List Decl) (s : State) → IsSet s → Post (decls_rule ds s) (λ r. (Keeping r.1 × AreNarrowed r.1) × AreSmallFrom r.1 r.0)
-
-left_narrowed : (s : State) → AreNarrowed s → AreNarrowed (leave_scope s)
+pub left_narrowed : (s : State) → AreNarrowed s → AreNarrowed (leave_scope s)
 left_narrowed s h i e x at there = let y = get_filter (λ (p : List ℕ × Entry). nat_lt p.1.depth s.scopes.depth) s.scopes.ordinary i e at in h y.0 e x y.1 there
 
 -- a change of the body alone
@@ -211,74 +187,74 @@ in_switch_goes e body s h k =
 -- ---- statements
 
 -- the declarations of a block
-declared : (all : DeclarationsKeep) (ds : List Decl) (s : State) → IsSet s → Post (decls_rule ds s) (Goes s AreSmallFrom)
-declared all ds s h =
-    post_weaken (decls_rule ds s) (λ r. Declaring s r × ((Keeping r.1 × AreNarrowed r.1) × AreSmallFrom r.1 r.0)) (Goes s AreSmallFrom) (post_both (decls_rule ds s) (Declaring s) (λ r. (Keeping r.1 × AreNarrowed r.1) × AreSmallFrom r.1 r.0) (decls_declare ds s h.0.0) (all ds s h))
+declared : (ds : List Decl) (s : State) → IsSet s → Post (decls_rule ds s) (Goes s AreSmallFrom)
+declared ds s h =
+    post_weaken (decls_rule ds s) (λ r. Declaring s r × Declared r) (Goes s AreSmallFrom) (post_both (decls_rule ds s) (Declaring s) Declared (decls_declare ds s h.0.0) (decls_declared ds s (h.0, h.1.1)))
     (λ r g. let o : Onward s r.1 = onward_adds g.0.1 g.0.2.0 in ((set_on {s = s} {t = r.1} (g.0.0, g.1.0.0) o (g.0.1.sound h.1.1.0) g.1.0.1 h, o), g.1.1))
 
 mutual
   unfolding stmt_rule
 
-  stmt_small : (all : DeclarationsKeep) (st : Stmt) (s : State) → IsSet s → Post (stmt_rule st s) (Goes s SmallStatement)
-  stmt_small all (S.Compound b) s h = scoped_goes (block_rule b) s h (λ t k. block_small all b t k)
-  stmt_small all (S.Expression e) s h =
+  stmt_small : (st : Stmt) (s : State) → IsSet s → Post (stmt_rule st s) (Goes s SmallStatement)
+  stmt_small (S.Compound b) s h = scoped_goes (block_rule b) s h (λ t k. block_small b t k)
+  stmt_small (S.Expression e) s h =
       from_valued e s _ (Goes s SmallStatement) h.0.0 (expr_made e s h.0) (λ r m g v.
       let o : Onward s r.1 = onward_grows g in ((set_grows {s = s} {t = r.1} m g h, o), λ x c. (v x c).small))
-  stmt_small all (S.Empty t) s h = ((h, onward_same s), λ r c. tt)
-  stmt_small all (S.Labeled ls st) s h = then_goes s _ _ Nothing SmallStatement (labels_goes ls s h) (λ r k o v. then_goes r.1 _ _ SmallStatement SmallStatement (stmt_small all st r.1 k) (λ u j p w. ((j, onward_same u.1), w)))
-  stmt_small all (S.If t c st a) s h =
+  stmt_small (S.Empty t) s h = ((h, onward_same s), λ r c. tt)
+  stmt_small (S.Labeled ls st) s h = then_goes s _ _ Nothing SmallStatement (labels_goes ls s h) (λ r k o v. then_goes r.1 _ _ SmallStatement SmallStatement (stmt_small st r.1 k) (λ u j p w. ((j, onward_same u.1), w)))
+  stmt_small (S.If t c st a) s h =
       then_goes s _ _ SmallValue SmallStatement (condition_goes t c s h) (λ q i o v.
-      then_goes q.1 _ _ SmallStatement SmallStatement (stmt_small all st q.1 i) (λ r j p w.
-      then_goes r.1 _ _ SmallBehind SmallStatement (alternative_small all a r.1 j) (λ u k n x.
+      then_goes q.1 _ _ SmallStatement SmallStatement (stmt_small st q.1 i) (λ r j p w.
+      then_goes r.1 _ _ SmallBehind SmallStatement (alternative_small a r.1 j) (λ u k n x.
       ((k, onward_same u.1), λ y c. let d = reaches_on {s = r.1} {t = u.1} n c in ((v y (reaches_on {s = q.1} {t = r.1} p d), w y d, (x y c).0), (x y c).1)))))
-  stmt_small all (S.Switch t e st) s h =
+  stmt_small (S.Switch t e st) s h =
       then_goes s _ _ SmallValue SmallStatement (switch_goes t e s h) (λ q i o v.
-      then_goes q.1 _ _ SmallSwitch SmallStatement (in_switch_goes q.0 (stmt_rule st) q.1 i (λ u k. stmt_small all st u k)) (λ r j p w.
+      then_goes q.1 _ _ SmallSwitch SmallStatement (in_switch_goes q.0 (stmt_rule st) q.1 i (λ u k. stmt_small st u k)) (λ r j p w.
       ((j, onward_same r.1), λ y c. (v y (reaches_on {s = q.1} {t = r.1} p c), w y c))))
-  stmt_small all (S.While t e st) s h =
+  stmt_small (S.While t e st) s h =
       then_goes s _ _ SmallValue SmallStatement (condition_goes t e s h) (λ q i o v.
-      then_goes q.1 _ _ SmallStatement SmallStatement (in_loop_goes (stmt_rule st) q.1 i (λ u k. stmt_small all st u k)) (λ r j p w.
+      then_goes q.1 _ _ SmallStatement SmallStatement (in_loop_goes (stmt_rule st) q.1 i (λ u k. stmt_small st u k)) (λ r j p w.
       ((j, onward_same r.1), λ y c. (v y (reaches_on {s = q.1} {t = r.1} p c), w y c))))
-  stmt_small all (S.Do t st e) s h =
-      then_goes s _ _ SmallStatement SmallStatement (in_loop_goes (stmt_rule st) s h (λ u k. stmt_small all st u k)) (λ q i o v.
+  stmt_small (S.Do t st e) s h =
+      then_goes s _ _ SmallStatement SmallStatement (in_loop_goes (stmt_rule st) s h (λ u k. stmt_small st u k)) (λ q i o v.
       then_goes q.1 _ _ SmallValue SmallStatement (condition_goes t e q.1 i) (λ r j p w.
       ((j, onward_same r.1), λ y c. (w y c, v y (reaches_on {s = q.1} {t = r.1} p c)))))
-  stmt_small all (S.For t a b c st) s h =
+  stmt_small (S.For t a b c st) s h =
       then_goes s _ _ SmallIfAny SmallStatement (optional_goes a s h) (λ x1 k1 o1 v1.
       then_goes x1.1 _ _ SmallIfAny SmallStatement (optional_condition_goes t b x1.1 k1) (λ x2 k2 o2 v2.
       then_goes x2.1 _ _ SmallIfAny SmallStatement (optional_goes c x2.1 k2) (λ x3 k3 o3 v3.
-      then_goes x3.1 _ _ SmallStatement SmallStatement (in_loop_goes (stmt_rule st) x3.1 k3 (λ u k. stmt_small all st u k)) (λ x4 k4 o4 v4. (
+      then_goes x3.1 _ _ SmallStatement SmallStatement (in_loop_goes (stmt_rule st) x3.1 k3 (λ u k. stmt_small st u k)) (λ x4 k4 o4 v4. (
         (k4, onward_same x4.1),
         λ y d.
             let d3 = reaches_on {s = x3.1} {t = x4.1} o4 d in
             let d2 = reaches_on {s = x2.1} {t = x3.1} o3 d3 in
             (v1 y (reaches_on {s = x1.1} {t = x2.1} o2 d2), v2 y d2, v3 y d3, v4 y d),
       )))))
-  stmt_small all (S.Goto t w) s h = goto_goes t w s h
-  stmt_small all (S.Continue t) s h = continue_goes t s h
-  stmt_small all (S.Break t) s h = break_goes t s h
-  stmt_small all (S.Return t e) s h = return_goes t e s h
+  stmt_small (S.Goto t w) s h = goto_goes t w s h
+  stmt_small (S.Continue t) s h = continue_goes t s h
+  stmt_small (S.Break t) s h = break_goes t s h
+  stmt_small (S.Return t e) s h = return_goes t e s h
 
-  alternative_small : (all : DeclarationsKeep) (a : Alternative) (s : State) → IsSet s → Post (alternative_rule a s) (Goes s SmallBehind)
-  alternative_small all S.NoElse s h = ((h, onward_same s), λ r c. (tt, tt))
-  alternative_small all (S.Otherwise st) s h = then_goes s _ _ SmallStatement SmallBehind (stmt_small all st s h) (λ r k o v. ((k, onward_same r.1), λ x c. (tt, v x c)))
-  alternative_small all (S.ElseIf t c st a) s h =
+  alternative_small : (a : Alternative) (s : State) → IsSet s → Post (alternative_rule a s) (Goes s SmallBehind)
+  alternative_small S.NoElse s h = ((h, onward_same s), λ r c. (tt, tt))
+  alternative_small (S.Otherwise st) s h = then_goes s _ _ SmallStatement SmallBehind (stmt_small st s h) (λ r k o v. ((k, onward_same r.1), λ x c. (tt, v x c)))
+  alternative_small (S.ElseIf t c st a) s h =
       then_goes s _ _ SmallValue SmallBehind (condition_goes t c s h) (λ q i o v.
-      then_goes q.1 _ _ SmallStatement SmallBehind (stmt_small all st q.1 i) (λ r j p w.
-      then_goes r.1 _ _ SmallBehind SmallBehind (alternative_small all a r.1 j) (λ u k n x.
+      then_goes q.1 _ _ SmallStatement SmallBehind (stmt_small st q.1 i) (λ r j p w.
+      then_goes r.1 _ _ SmallBehind SmallBehind (alternative_small a r.1 j) (λ u k n x.
       ((k, onward_same u.1), λ y c. let d = reaches_on {s = r.1} {t = u.1} n c in ((v y (reaches_on {s = q.1} {t = r.1} p d), w y d, (x y c).0), (x y c).1)))))
 
-  pub block_small : (all : DeclarationsKeep) (b : Block) (s : State) → IsSet s → Post (block_rule b s) (Goes s SmallStatement)
-  block_small all (S.Braced t ds ss) s h =
+  pub block_small : (b : Block) (s : State) → IsSet s → Post (block_rule b s) (Goes s SmallStatement)
+  block_small (S.Braced t ds ss) s h =
       asked_post s _ _ (Goes s SmallStatement)
-      (then_goes s _ _ AreSmallFrom SmallStatement (declared all ds s h) (λ r k o v.
+      (then_goes s _ _ AreSmallFrom SmallStatement (declared ds s h) (λ r k o v.
       asked_post r.1 _ _ (Goes r.1 SmallStatement)
-      (then_goes r.1 _ _ SmallStatements SmallStatement (stmts_small all ss r.1 k) (λ u j p w.
+      (then_goes r.1 _ _ SmallStatements SmallStatement (stmts_small ss r.1 k) (λ u j p w.
       ((j, onward_same u.1), λ x c. (v x (reaches_on {s = r.1} {t = u.1} p c), w x c))))))
 
-  stmts_small : (all : DeclarationsKeep) (ss : Stmts) (s : State) → IsSet s → Post (stmts_rule ss s) (Goes s SmallStatements)
-  stmts_small all S.NoStmt s h = ((h, onward_same s), λ r c. tt)
-  stmts_small all (S.Next st rest) s h =
-      then_goes s _ _ SmallStatement SmallStatements (stmt_small all st s h) (λ r k o v.
-      then_goes r.1 _ _ SmallStatements SmallStatements (stmts_small all rest r.1 k) (λ u j p w.
+  stmts_small : (ss : Stmts) (s : State) → IsSet s → Post (stmts_rule ss s) (Goes s SmallStatements)
+  stmts_small S.NoStmt s h = ((h, onward_same s), λ r c. tt)
+  stmts_small (S.Next st rest) s h =
+      then_goes s _ _ SmallStatement SmallStatements (stmt_small st s h) (λ r k o v.
+      then_goes r.1 _ _ SmallStatements SmallStatements (stmts_small rest r.1 k) (λ u j p w.
       ((j, onward_same u.1), λ x c. (v x (reaches_on {s = r.1} {t = u.1} p c), w x c))))
