@@ -17,7 +17,7 @@ ghost use Rattle.pw_compiling.specs.Made.{MakesObject};
 
 use crate::files::{module_file, put_bytes};
 use pw_answer::Answer;
-use pw_commands::{own_name, read_needed, refused};
+use pw_commands::{read_needed, refused};
 use pw_db::Database;
 use pw_db::laws::directives_are_one;
 use pw_flow::FlowModule;
@@ -41,7 +41,7 @@ fn flow_in<S: Store>(alloc: Global, store: &mut S, file: &str) -> Result<FlowMod
     let bytes = read_needed(alloc, store, file)?;
     match pw_flowfile::read(alloc, &bytes) {
         Ok(flow) => Ok(flow),
-        Err(error) => Err(refused(own_name(alloc, file)?, error)),
+        Err(error) => Err(refused(Name::within(alloc, file.as_bytes())?, error)),
     }
 }
 
@@ -56,7 +56,7 @@ fn needed_database<S: Store>(alloc: Global, store: &mut S) -> Result<Database, A
     let bytes = read_needed(alloc, store, "prog.db")?;
     match pw_db::read(alloc, &bytes) {
         Ok(db) => Ok(db),
-        Err(error) => Err(refused(own_name(alloc, "prog.db")?, error)),
+        Err(error) => Err(refused(Name::within(alloc, "prog.db".as_bytes())?, error)),
     }
 }
 

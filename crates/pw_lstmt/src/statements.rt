@@ -10,13 +10,13 @@ ghost use Rattle.pw_typed.specs.Views.{view_expr, view_optional, view_stmt, view
 
 use pw_flow::End;
 use pw_lexpr::{Home, lower};
-use pw_lower::code::further;
 use pw_lower::{Code, Ways};
 use pw_lparts::Frame;
 use pw_lparts::cases::{begin_labels, choose, go_on, labels_of};
 use pw_lparts::initialisers::initialise_all;
 use pw_typed::{Arm, Case, Initialiser, TExpr, TStmt, TStmtForm};
 use pw_value::NoMemory;
+use pw_value::words::{next_word, word_of};
 use std::alloc::Global;
 
 /// An expression, for its side effects.
@@ -433,11 +433,8 @@ fn reserve_labels(count: usize, code: &mut Code) -> Result<u32, NoMemory>
     ensures fits { OnOk result (code.old.blocks + 1 + count < 2 ^ 32) }
     ensures wants { OnErr result (2 ^ 32 ≤ code.old.blocks + 1 + count) }
 {
-    let count = u32::try_from(count).ok().ok_or(NoMemory)?;
-    let blocks = further(count, 1)?;
-    let out = code.reserve(blocks)?;
-    let _ = further(out, blocks)?;
-    Ok(out)
+    let blocks = next_word(word_of(count)?)?;
+    code.reserve(blocks)
 }
 
 /// Numbers the blocks of a `switch`: the one behind it, which is answered, and those of its labels.
