@@ -12,7 +12,6 @@ use Rattle.pw_types.specs.Layouts.{content_at, layout_of, array_layout, scalar_l
 use Rattle.pw_types.specs.Records.{Follows, IsLaid, IsObjectType, layouts_of, kind_at}
 use Rattle.pw_types.specs.TypeTrees.{CType, Void, Int, Pointer, Array, Function, Record, Qualified, type_of, MemberValue, ContentValue, RecordValue}
 use Rattle.pw_value.specs.Limits.{size_limit}
-use Rattle.pw_lower.specs.Operators.{bytes_of}
 use Rattle.pw_well_typed.proofs.Lists.{some_same, never_some, get_map, get_within}
 use Rattle.pw_well_typed.proofs.Types.{no}
 use Rattle.pw_well_typed.proofs.Objects.{object_complete}
@@ -102,7 +101,3 @@ offset_word r Union c laid f i o e =
 
 pub offsets_words : (r : List RecordValue) → IsLaid r → (number : ℕ) (c : ContentValue) → content_at r number ≡ Some c → All (λ o. o < 2 ^ 32) c.offsets
 offsets_words r laid number c e = λ k d below. offset_word r (kind_at r number) c laid (laid number c e) k _ (slice_get-get_or c.offsets k d below)
-
-pub record_sizes : (r : List RecordValue) → IsLaid r → (number : ℕ) (c : ContentValue) → content_at r number ≡ Some c → bytes_of r (Record number) ≤ size_limit
-record_sizes r laid number c e =
-    subst (λ n. n ≤ size_limit) (sym (ap (λ o. unwrap_or (option_map (λ (l : Layout). l.size) (option_map (λ (x : ContentValue). x.layout) o)) 0) e)) (laid number c e).within
