@@ -13,6 +13,7 @@ use Rattle.pw_files.specs.Rising.{IsRising}
 use Rattle.pw_flow.specs.declared.flow.FlowGlobal.{FlowGlobal}
 use Rattle.pw_flow.specs.declared.flow.FlowFn.{FlowFn}
 use Rattle.pw_flow.specs.ValidFlow.{AreDistinct}
+use Rattle.pw_flow.proofs.Once.{distinct_right}
 use Rattle.pw_db.specs.declared.database.Directives.{Directives}
 use Rattle.pw_webflow.specs.Direction.{directed}
 use Rattle.pw_alloc.specs.declared.located.Located.{Located}
@@ -33,7 +34,7 @@ use Rattle.pw_webrun.specs.Serving.{AllServe}
 use Rattle.pw_lines.specs.Addresses.{AreLawful}
 use Rattle.pw_linkrun.specs.Laws.{compiled, AreObjectsOf, AreNamesApart, address_of}
 use Rattle.pw_code_laws.specs.LinkedAddresses.{linked_addresses}
-use Rattle.pw_code_laws.proofs.NamedAddresses.{piece_names, function_found, any_named, one_function, behind_functions, global_names, offset_of, global_found, Stands, global_stands, globals_apart, name_there, distinct_right, others_before}
+use Rattle.pw_code_laws.proofs.NamedAddresses.{piece_names, function_found, any_named, one_function, behind_functions, global_names, offset_of, global_found, Stands, global_stands, globals_apart, name_there, others_before}
 
 -- ---- the modules stand in order already
 

@@ -8,6 +8,7 @@ use Rattle.std.proofs.lemmas.List.Sums.{sum_by-cons}
 use Rattle.std.proofs.lemmas.Slice.Eq.{bytes_eq-Decides}
 use Rattle.pw_flow.specs.declared.flow.FlowGlobal.{FlowGlobal}
 use Rattle.pw_flow.specs.ValidFlow.{AreDistinct}
+use Rattle.pw_flow.proofs.Lists.{all_right}
 use Rattle.pw_link.specs.Layout.{Piece, placed_from, function_site, standing_from, global_site}
 use Rattle.pw_flow.specs.ValidFlow.{taken}
 use Rattle.pw_link_laws.proofs.Starting.{IsFound, found}
@@ -31,14 +32,6 @@ all_at P (n ∷ names) name all c = by c.0 c.1 c.2 (all_at P names name all.1)
     by : (k : ℕ) → k < length (n ∷ names) → get_or (n ∷ names) k name ≡ name → (Contains names name → P name) → P name
     by zero lt e later = subst P e all.0
     by (suc k) lt e later = later (k, omega (arith, lt), e)
-
-pub all_right : (P : List ℕ → Type 0) (xs ys : List (List ℕ)) → AllByRecursion P (xs ++ ys) → AllByRecursion P ys
-all_right P [] ys all = all
-all_right P (x ∷ xs) ys all = all_right P xs ys all.1
-
-pub distinct_right : (xs ys : List (List ℕ)) → AreDistinct (xs ++ ys) → AreDistinct ys
-distinct_right [] ys d = d
-distinct_right (x ∷ xs) ys d = distinct_right xs ys d.1
 
 -- what stands before a name has others
 pub others_before : (xs ys : List (List ℕ)) (name : List ℕ) → AreDistinct (xs ++ ys) → Contains ys name → AllByRecursion (λ x. x ≢ name) xs

@@ -135,6 +135,18 @@ point_err {S} {B} {R} {view} {least_here} {ended} {fault} {r} {left} p next s he
           ∙ ap (λ o. told o (outcome (next s))) (sym here ∙ end_err least_here fault (sym end ∙ is)));
     })
 
+-- behind a point that is all
+obeyed : {S : Type 0} (w : Walk (Unit {0} × S)) (s : S) (o : Option CheckFault) → outcome w ≡ told o (Ok (tt, s)) → Obeys (λ (u : Unit {0}). u) w (told o (Ok tt)) s
+obeyed w s None e = record { made = e; told = tt }
+obeyed w s (Some fault) e = record { made = tt; told = inr e }
+
+pub point_end : {S : Type 0} (p : Point) (s : S) (o : Option CheckFault) (r : Result (Unit {0}) CheckFault)
+    → o ≡ found p → r ≡ told o (Ok tt) → Obeys (λ (u : Unit {0}). u) (Passing p (Done (tt, s))) r s
+unfolding outcome
+point_end p s o r here is =
+    subst (λ x. Obeys (λ (u : Unit {0}). u) (Passing p (Done (tt, s))) x s) (sym is)
+    (obeyed (Passing p (Done (tt, s))) s o (stopped_by_found p (Ok (tt, s)) ∙ ap (λ x. told x (Ok (tt, s))) (sym here)))
+
 -- what is found at a point is the fault of a constraint, and no want of memory
 pub no_want : {R : Type 0} {r : Result R CheckFault} {fault : CheckFault} (p : Point)
     → found p ≡ Some fault → r ≡ Err fault → IfErr r (λ f. f.kind ≢ NoMemory)

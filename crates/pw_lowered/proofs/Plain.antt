@@ -45,7 +45,7 @@ use Rattle.pw_lower.specs.Codes.{Lowered, lowered_as, temp_of, emit, fresh, cons
 use Rattle.pw_lower.specs.Places.{place_at}
 use Rattle.pw_lower.specs.Operators.{kind_of, with, scaled, moved_by, distance, on_numbers, operation_of, is_turned, sum_or, combined, is_signed, target_size, truth_in, unary_on, extension, extended, converted, step_operator, is_behind, bytes_of, unit_of}
 use Rattle.pw_lower.specs.Expressions.{Home, Placed, full_name, shape_at, read_target, read, write, further, address_of_global, address_of_local, target_of_local, value_at, value_of_global, value_of_local, stored, copied, scalar_kind, updated, fork, decides, says, gives, is_void, lower, place, arguments}
-use Rattle.pw_lowered.specs.Within.{IsIdentifier, IsCopied, AreRecordsWithin, IsSized, count_of, IsSmall, AreSmall}
+use Rattle.pw_lowered.specs.Within.{AreLetters, IsCopied, AreRecordsWithin, IsSized, count_of, IsSmall, AreSmall}
 use Rattle.pw_lowered.proofs.Names.{IsShared, name_ordinary}
 use Rattle.pw_lowered.proofs.Objects.{declared_shared}
 
@@ -340,17 +340,17 @@ module _ (d : ℕ) (dw : d < 2 ^ 32) where
 
   -- ---- expressions
 
-  module _ (m : ModuleValue) (known : AreRecordsWithin m.records) (ids : All (λ d. IsIdentifier d.name) m.declared) (locals : List LocalValue) (name : List ℕ) (places : List LocalPlace) where
+  module _ (m : ModuleValue) (known : AreRecordsWithin m.records) (ids : All (λ d. AreLetters d.name) m.declared) (locals : List LocalValue) (name : List ℕ) (places : List LocalPlace) where
     abbrev pub here : Home
     here = record { name = name; records = m.records; places = places }
 
     object-shared : (s : Symbol) (ty : QType) → IsObject m s ty → IsShared s
-    object-shared (External x) ty w = subst IsIdentifier w.name_is (declared_shared m ids w.entry w.there)
+    object-shared (External x) ty w = subst AreLetters w.name_is (declared_shared m ids w.entry w.there)
     object-shared (Internal x) ty w = tt
     object-shared (Hidden k) ty w = tt
 
     function-shared : (s : Symbol) (ty : QType) → IsFunctionOf m s ty → IsShared s
-    function-shared (External x) ty w = subst IsIdentifier w.name_is (declared_shared m ids w.entry w.there)
+    function-shared (External x) ty w = subst AreLetters w.name_is (declared_shared m ids w.entry w.there)
     function-shared (Internal x) ty w = tt
     function-shared (Hidden k) ty w = tt
 

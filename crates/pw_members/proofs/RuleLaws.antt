@@ -1,5 +1,5 @@
 -- What ends a rule, and a point by what is found there.
-use Rattle.std.proofs.Common.{◌≡◌, ◌⊎◌, Option, None, Some, Result, Ok, Err, refl, ap, sym, subst, ◌∙◌}
+use Rattle.std.proofs.Common.{◌≡◌, ◌⊎◌, None, Some, Result, Ok, Err, ap, sym, ◌∙◌}
 use mathlib.Core.Logic.{inl, inr}
 use Rattle.pw_walk.specs.Calls.{Obeys}
 use Rattle.pw_walk.specs.Causes.{Point}
@@ -31,12 +31,3 @@ passed_err view p w fault left h = record { made = tt; told = told_by h }
     told_by : (fault.kind ≡ NoMemory) ⊎ (found p ≡ Some fault) → (fault.kind ≡ NoMemory) ⊎ (outcome (Passing p w) ≡ Err fault)
     told_by (inl none) = inl none
     told_by (inr is) = inr (stopped_by_found p (outcome w) ∙ ap (λ o. told o (outcome w)) is)
-
--- a point alone
-pub told_obeys : {S : Type 0} (p : Point) (s : S) (o : Option CheckFault) (r : Result (Unit {0}) CheckFault)
-    → o ≡ found p → r ≡ told o (Ok tt) → Obeys (λ u. u) (Passing p (Done (tt, s))) r s
-told_obeys p s None r seen e =
-    subst (λ x. Obeys (λ u. u) (Passing p (Done (tt, s))) x s) (sym e)
-    (passed_ok (λ u. u) p (Done (tt, s)) (Ok tt) s (sym seen) (made_ok (λ u. u) tt tt s s refl refl))
-told_obeys p s (Some f) r seen e =
-    subst (λ x. Obeys (λ u. u) (Passing p (Done (tt, s))) x s) (sym e) (passed_err (λ u. u) p (Done (tt, s)) f s (inr (sym seen)))

@@ -5,7 +5,7 @@ use Rattle.std.proofs.Common.{arith, ap, sym, subst, ◌∙◌, append_assoc, le
 use Rattle.std.proofs.lemmas.Bool.Decides.{nat_tests}
 use Rattle.std.proofs.Math.Seq.{take-append_seam, drop-append_seam}
 use Rattle.pw_flow.proofs.Lists.{all_append}
-use Rattle.pw_lowered.specs.Within.{IsLetter, IsIdentifier}
+use Rattle.pw_lowered.specs.Within.{IsLetter, AreLetters}
 use Rattle.pw_token.specs.Bytes.{is_in, is_nondigit, AllIn}
 use Rattle.pw_token.specs.Roles.{spelling}
 use Rattle.pw_token.specs.Spelling.{IsWord}
@@ -22,7 +22,7 @@ use Rattle.pw_tree.specs.Spelling.{symbols}
 use Rattle.pw_tree.specs.Symbols.{Symbol, Spelled, spelled}
 use Rattle.pw_tree.specs.Symbols as symbol
 use Rattle.pw_tree.specs.Trees.{Module}
-use Rattle.pw_within.specs.Names.{IsLawfulSymbol, AreIdentifiers}
+use Rattle.pw_within.specs.Names.{IsLawfulSymbol, NamesAreLetters}
 
 -- ---- words
 
@@ -32,11 +32,11 @@ nondigit_letter b h = grind (arith, nat_tests)
 word_letter : (b : ℕ) → is_in class.Word b ≡ true → IsLetter b
 word_letter b h = grind (arith, nat_tests)
 
-letters : (s : List ℕ) → AllIn class.Word s → IsIdentifier s
+letters : (s : List ℕ) → AllIn class.Word s → AreLetters s
 letters [] h = tt
 letters (b ∷ s) h = (word_letter b h.0, letters s h.1)
 
-word_identifier : (s : List ℕ) → IsWord s → IsIdentifier s
+word_identifier : (s : List ℕ) → IsWord s → AreLetters s
 word_identifier [] h = absurd h
 word_identifier (b ∷ s) h = (nondigit_letter b h.0, letters s h.1)
 
@@ -44,12 +44,12 @@ word_identifier (b ∷ s) h = (nondigit_letter b h.0, letters s h.1)
 
 -- a token that is an identifier is spelled so
 abbrev IsLawfulToken : List ℕ → Token → Type 0
-IsLawfulToken text t = t.kind ≡ kind.Identifier → IsIdentifier (spelling text t)
+IsLawfulToken text t = t.kind ≡ kind.Identifier → AreLetters (spelling text t)
 
-identifier_stands : (start : Bool) (k : TokenKind) (s after : List ℕ) → k ≡ kind.Identifier → Stands start (piece.Token k) s after → IsIdentifier s
+identifier_stands : (start : Bool) (k : TokenKind) (s after : List ℕ) → k ≡ kind.Identifier → Stands start (piece.Token k) s after → AreLetters s
 identifier_stands start k s after e h = by (subst (λ x. Stands start (piece.Token x) s after) e h)
   where
-    by : Stands start (piece.Token kind.Identifier) s after → IsIdentifier s
+    by : Stands start (piece.Token kind.Identifier) s after → AreLetters s
     by here = word_identifier s here.spelled.0
 
 spelled_piece : (before s after : List ℕ) → take (length s) (drop (length before) (before ++ (s ++ after))) ≡ s
@@ -60,7 +60,7 @@ piece_tokens whole before s after start piece.Blank e h = tt
 piece_tokens whole before s after start piece.Comment e h = tt
 piece_tokens whole before s after start piece.LineMarker e h = tt
 piece_tokens whole before s after start (piece.Token k) e h =
-    (λ same. subst IsIdentifier (sym (ap (λ text. take (length s) (drop (length before) text)) e ∙ spelled_piece before s after)) (identifier_stands start k s after same h), tt)
+    (λ same. subst AreLetters (sym (ap (λ text. take (length s) (drop (length before) text)) e ∙ spelled_piece before s after)) (identifier_stands start k s after same h), tt)
 
 cut_tokens : (whole before rest : List ℕ) (start end : Bool) (ps : List Piece) → whole ≡ before ++ rest → Cuts start rest ps end [] → AllByRecursion (IsLawfulToken whole) (tokens_of (length before) ps)
 cut_tokens whole before rest start end [] e h = tt
@@ -79,7 +79,7 @@ lexed_tokens text tokens h = subst (AllByRecursion (IsLawfulToken text)) (sym h.
 
 symbol_lawful : (text : List ℕ) (x : Symbol) (t : Token) → spelled x ≡ spelled_in text t → IsLawfulToken text t → IsLawfulSymbol x
 symbol_lawful text (symbol.Identifier name) t e h =
-    subst IsIdentifier (sym (ap (λ (y : Spelled). y.text) e)) (h (sym (ap (λ (y : Spelled). y.kind) e)))
+    subst AreLetters (sym (ap (λ (y : Spelled). y.text) e)) (h (sym (ap (λ (y : Spelled). y.kind) e)))
 symbol_lawful text (symbol.Reserved w) t e h = tt
 symbol_lawful text (symbol.Sign w) t e h = tt
 symbol_lawful text (symbol.Number s) t e h = tt
@@ -102,5 +102,5 @@ symbols_lawful text (x ∷ xs) (t ∷ ts) e h = (
   symbols_lawful text xs ts (rest_same (spelled x) (spelled_in text t) (map spelled xs) (map (spelled_in text) ts) e) h.1,
 )
 
-pub tree_identifiers : (text : List ℕ) (tokens : List Token) (tree : Module) → IsLexed text tokens → IsTreeOf (spelled_all text tokens) tree → AreIdentifiers tree
+pub tree_identifiers : (text : List ℕ) (tokens : List Token) (tree : Module) → IsLexed text tokens → IsTreeOf (spelled_all text tokens) tree → NamesAreLetters tree
 tree_identifiers text tokens tree lexed tree_of = symbols_lawful text (symbols tree) tokens tree_of.spells (lexed_tokens text tokens lexed)

@@ -11,3 +11,16 @@ pub mod Still
 pub mod FitPhrases
 pub mod FitDeclarations
 pub mod FitStatements
+pub mod Sizes
+pub mod Small
+pub mod SmallLeaves
+pub mod SmallPhrases
+pub mod SmallStatements
+pub mod SmallInitialisers
+pub mod SmallDeclarations
+pub mod Wider
+pub mod SmallLinkage
+pub mod SmallGlobals
+pub mod SmallNames
+pub mod SmallDecls
+pub mod SmallModules

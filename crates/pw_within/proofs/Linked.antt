@@ -3,7 +3,7 @@ use Rattle.std.specs.Prelude.{ℕ, zero, suc, ◌≡◌, Bool, true, false, Opti
 use Rattle.std.specs.List.{AllByRecursion}
 use Rattle.std.specs.Option.{option_map_or}
 use Rattle.std.proofs.Common.{sym, subst}
-use Rattle.pw_lowered.specs.Within.{IsIdentifier}
+use Rattle.pw_lowered.specs.Within.{AreLetters}
 use Rattle.pw_tree.specs.FirstTokens.{first_of_expr}
 use Rattle.pw_tree.specs.Spelling.{spell_declarator, spell_core, spell_init_declarators, spell_specifiers, spell_decl, spell_decls, spell_stmt, spell_alternative, spell_block, spell_stmts, spell_external, spell_externals}
 use Rattle.pw_tree.specs.Symbols.{Symbol}
@@ -37,17 +37,17 @@ use Rattle.pw_within.proofs.Spelled.{AreLawful, separated_rest, pointers_rest, e
 -- ---- lists of names with linkage
 
 abbrev pub AreNamed : List LinkedName → Type 0
-AreNamed ls = AllByRecursion (λ l. IsIdentifier l.name) ls
+AreNamed ls = AllByRecursion (λ l. AreLetters l.name) ls
 
 abbrev pub Named : {A : Type 0} → A × State → Type 0
 Named r = AreNamed r.1.types.linked
 
-put_named : (n : ℕ) (x : LinkedName) (xs : List LinkedName) → IsIdentifier x.name → AreNamed xs → AreNamed (put_at n x xs)
+put_named : (n : ℕ) (x : LinkedName) (xs : List LinkedName) → AreLetters x.name → AreNamed xs → AreNamed (put_at n x xs)
 put_named n x [] h all = tt
 put_named zero x (y ∷ xs) h all = (h, all.1)
 put_named (suc n) x (y ∷ xs) h all = (all.0, put_named n x xs h all.1)
 
-more_named : (xs : List LinkedName) (x : LinkedName) → AreNamed xs → IsIdentifier x.name → AreNamed (xs ++ x ∷ [])
+more_named : (xs : List LinkedName) (x : LinkedName) → AreNamed xs → AreLetters x.name → AreNamed (xs ++ x ∷ [])
 more_named [] x all h = (h, tt)
 more_named (y ∷ xs) x all h = (all.0, more_named xs x all.1 h)
 
@@ -56,8 +56,8 @@ at_all P [] i x e all = never_some e
 at_all P (y ∷ xs) zero x e all = subst P (some_same e) all.0
 at_all P (y ∷ xs) (suc i) x e all = at_all P xs i x e all.1
 
-pub at_named : (xs : List LinkedName) (i : ℕ) (x : LinkedName) → slice_get xs i ≡ Some x → AreNamed xs → IsIdentifier x.name
-at_named xs i x e all = at_all (λ (l : LinkedName). IsIdentifier l.name) xs i x e all
+pub at_named : (xs : List LinkedName) (i : ℕ) (x : LinkedName) → slice_get xs i ≡ Some x → AreNamed xs → AreLetters x.name
+at_named xs i x e all = at_all (λ (l : LinkedName). AreLetters l.name) xs i x e all
 
 named_so : {A : Type 0} (s : State) (w : Walk (A × State)) → AreNamed s.types.linked → Post w (Same s) → Post w Named
 named_so s w all h = post_weaken w (Same s) Named h (λ r e. subst AreNamed (sym e) all)
@@ -73,19 +73,19 @@ both_named w next h k = post_bind w next Named Named h k
 
 -- ---- declarations of names
 
-note_named : (s : State) (name : List ℕ) (internal : Bool) (ty : QType) (token : ℕ) (tag : Option ℕ) → AreNamed s.types.linked → IsIdentifier name → AreNamed (note_linked name internal ty token tag s).types.linked
+note_named : (s : State) (name : List ℕ) (internal : Bool) (ty : QType) (token : ℕ) (tag : Option ℕ) → AreNamed s.types.linked → AreLetters name → AreNamed (note_linked name internal ty token tag s).types.linked
 note_named s name internal ty token tag all h = by (linked_before s name) refl
   where
     by : (o : Option LinkedName) → linked_before s name ≡ o → AreNamed (option_map_or (λ l. put_linked (place_for s name) (linked_again ty l) s) o (add_linked (linked_anew name internal ty token tag) s)).types.linked
     by None e = more_named s.types.linked (linked_anew name internal ty token tag) all h
-    by (Some l) e = put_named (place_for s name) (linked_again ty l) s.types.linked (subst IsIdentifier (sym (named_before s name l e)) h) all
+    by (Some l) e = put_named (place_for s name) (linked_again ty l) s.types.linked (subst AreLetters (sym (named_before s name l e)) h) all
 
 change_named : (s : State) (place : ℕ) (f : LinkedName → LinkedName) → ((l : LinkedName) → (f l).name ≡ l.name) → AreNamed s.types.linked → AreNamed (change_linked place f s).types.linked
 change_named s place f same all = by (linked_at s place) refl
   where
     by : (o : Option LinkedName) → linked_at s place ≡ o → AreNamed (option_map_or (λ l. put_linked place (f l) s) o s).types.linked
     by None e = all
-    by (Some l) e = put_named place (f l) s.types.linked (subst IsIdentifier (sym (same l)) (at_named s.types.linked place l e all)) all
+    by (Some l) e = put_named place (f l) s.types.linked (subst AreLetters (sym (same l)) (at_named s.types.linked place l e all)) all
 
 slot_same : (s : State) (place : ℕ) → (slot_for place s).types.linked ≡ s.types.linked
 slot_same s place = by (has_slot s place)
@@ -101,7 +101,7 @@ tentative_named : (s : State) (place : ℕ) (b : Bool) → AreNamed s.types.link
 tentative_named s place true all = change_named (slot_for place s) place (λ l. record l { tentative = true }) (λ l. refl) (subst AreNamed (sym (slot_same s place)) all)
 tentative_named s place false all = all
 
-declare_named : (name : List ℕ) (token : ℕ) (tag : Option ℕ) (asking : Asking) (ty : QType) (s : State) → AreNamed s.types.linked → IsIdentifier name → Post (declare_linked name token tag asking ty s) Named
+declare_named : (name : List ℕ) (token : ℕ) (tag : Option ℕ) (asking : Asking) (ty : QType) (s : State) → AreNamed s.types.linked → AreLetters name → Post (declare_linked name token tag asking ty s) Named
 unfolding declare_linked bind
 declare_named name token tag asking ty s all h = subst AreNamed (sym (here_linked (note_linked name _ ty token tag s) name (place_for s name) ty)) (note_named s name _ ty token tag all h)
 
@@ -113,17 +113,17 @@ met_same p s = λ met. refl
 mutual
   unfolding declarator_rule spell_declarator
 
-  declarator_named : (d : Declarator) (z : List Symbol) (s : State) → AreLawful (spell_declarator d z) → Post (declarator_rule d s) (λ r. IsIdentifier (name_of r.0).text)
+  declarator_named : (d : Declarator) (z : List Symbol) (s : State) → AreLawful (spell_declarator d z) → Post (declarator_rule d s) (λ r. AreLetters (name_of r.0).text)
   declarator_named (S.Declaring ps core suffixes) z s h =
-      post_bind _ _ (λ r. IsIdentifier (name_of r.0).text) (λ r. IsIdentifier (name_of r.0).text) (core_named core _ s (pointers_rest ps _ h)) (λ r k.
-      after_any _ _ (λ u. IsIdentifier (name_of u.0).text) (λ u. k))
+      post_bind _ _ (λ r. AreLetters (name_of r.0).text) (λ r. AreLetters (name_of r.0).text) (core_named core _ s (pointers_rest ps _ h)) (λ r k.
+      after_any _ _ (λ u. AreLetters (name_of u.0).text) (λ u. k))
 
-  core_named : (core : Core) (z : List Symbol) (s : State) → AreLawful (spell_core core z) → Post (core_rule core s) (λ r. IsIdentifier (name_of r.0).text)
+  core_named : (core : Core) (z : List Symbol) (s : State) → AreLawful (spell_core core z) → Post (core_rule core s) (λ r. AreLetters (name_of r.0).text)
   core_named S.Absent z s h = tt
   core_named (S.Name w) z s h = h.0
   core_named (S.Enclosed t d) z s h = declarator_named d _ s h.1
 
-global_named : (w : Word) (b : Specified) (spot : Spot) (q : QType) (i : Option Initializer) (s : State) → AreNamed s.types.linked → IsIdentifier w.text → Post (global_rule w b spot q i s) Named
+global_named : (w : Word) (b : Specified) (spot : Spot) (q : QType) (i : Option Initializer) (s : State) → AreNamed s.types.linked → AreLetters w.text → Post (global_rule w b spot q i s) Named
 unfolding global_rule fitting_rule bind
 global_named w b spot q None s all h =
     both_named (declare_linked w.text w.token b.tag (asking_of AGlobal b) q s) _ (declare_named w.text w.token b.tag (asking_of AGlobal b) q s all h) (λ r k. tentative_named r.1 r.0 (is_tentative b) k)
@@ -149,7 +149,7 @@ unfolding local_rule bind
 local_same w b q None s = refl
 local_same w b q (Some i) s = post_bind (local_initialiser (is_by_bytes (type_of q) i.init) w _ q i.init _) _ (Same s) (Same s) (local_initialiser_same (is_by_bytes (type_of q) i.init) w _ q i.init _) (λ r e. e)
 
-declare_all : (sort : Sort) (w : Word) (b : Specified) (spot : Spot) (q : QType) (i : Option Initializer) (s : State) → AreNamed s.types.linked → IsIdentifier w.text → Post (declare_rule sort w b spot q i s) Named
+declare_all : (sort : Sort) (w : Word) (b : Specified) (spot : Spot) (q : QType) (i : Option Initializer) (s : State) → AreNamed s.types.linked → AreLetters w.text → Post (declare_rule sort w b spot q i s) Named
 unfolding declare_rule bind
 declare_all ATypedef w b spot q i s all h = all
 declare_all AFunction w b spot q i s all h = both_named (declare_linked w.text w.token b.tag (asking_of AFunction b) q s) _ (declare_named w.text w.token b.tag (asking_of AFunction b) q s all h) (λ r k. k)
@@ -164,10 +164,10 @@ name_same sort spot w initialised b q s = λ met. refl
 
 -- what a declarator says, where it declares nothing itself
 declared_named : {B : Type 0} (d : Declarator) (z : List Symbol) (s : State) (next : Rattle.pw_rules.specs.Derivations.Declared × State → Walk (B × State)) → AreLawful (spell_declarator d z) → AreNamed s.types.linked
-    → ((c : Rattle.pw_rules.specs.Derivations.Declared × State) → AreNamed c.1.types.linked → IsIdentifier (name_of c.0).text → Post (next c) Named) → Post (bind (declarator_rule d s) next) Named
+    → ((c : Rattle.pw_rules.specs.Derivations.Declared × State) → AreNamed c.1.types.linked → AreLetters (name_of c.0).text → Post (next c) Named) → Post (bind (declarator_rule d s) next) Named
 declared_named d z s next h all k =
-    post_bind (declarator_rule d s) next (λ c. Same s c × IsIdentifier (name_of c.0).text) Named
-    (post_both (declarator_rule d s) (Same s) (λ c. IsIdentifier (name_of c.0).text) (declarator_same d s) (declarator_named d z s h)) (λ c j. k c (subst AreNamed (sym j.0) all) j.1)
+    post_bind (declarator_rule d s) next (λ c. Same s c × AreLetters (name_of c.0).text) Named
+    (post_both (declarator_rule d s) (Same s) (λ c. AreLetters (name_of c.0).text) (declarator_same d s) (declarator_named d z s h)) (λ c j. k c (subst AreNamed (sym j.0) all) j.1)
 
 init_declarator_named : (b : Specified) (d : InitDeclarator) (z : List Symbol) (s : State) → AreLawful (spell_declarator d.declarator z) → AreNamed s.types.linked → Post (init_declarator_rule b d s) Named
 unfolding init_declarator_rule

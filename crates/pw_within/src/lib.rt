@@ -5,7 +5,7 @@ mod numbers;
 
 ghost use Rattle.std.specs.Prelude.{◌≡◌, ◌<◌, ◌≤◌, ℕ, All, List, Ok};
 ghost use Rattle.pw_lower_laws.specs.Parts.{partless};
-ghost use Rattle.pw_lowered.specs.Within.{AreRecordsWithin, IsCopied, IsIdentifier, IsNamed, IsWithin, KeepsLimits};
+ghost use Rattle.pw_lowered.specs.Within.{AreRecordsWithin, IsCopied, AreLetters, IsNamed, IsWithin, KeepsLimits};
 ghost use Rattle.pw_rules.specs.Checks.{Checks};
 ghost use Rattle.pw_token.specs.Tokenization.{IsLexed};
 ghost use Rattle.pw_token.specs.declared.token.Token.{Token};
@@ -17,7 +17,7 @@ ghost use Rattle.pw_types.specs.TypeTrees.{type_of};
 ghost use Rattle.pw_types.specs.TypedModules.{item_size};
 ghost use Rattle.pw_types.specs.TypedTrees.{ModuleValue};
 ghost use Rattle.pw_value.specs.Limits.{parameter_limit, room_limit};
-ghost use Rattle.pw_within.specs.Names.{AreIdentifiers, AreNumbered};
+ghost use Rattle.pw_within.specs.Names.{NamesAreLetters, AreNumbered};
 
 pub use numbers::numbers_of_objects;
 use pw_well_typed::{accepted_locals_are_objects, accepted_records_are_laid};
@@ -57,14 +57,14 @@ pub fn accepted_functions_keep_limits()
 /// those of the syntax tree are and the tree is one of C90's grammar; an object without a name has a number of 32 bits, as in each
 /// module that the code makes.
 pub fn accepted_names_are_identifiers()
-    ensures declared { (tree : Module) (m : ModuleValue) → WellFormedModule tree → AreIdentifiers tree → Checks tree (Ok m) → All (λ d. IsIdentifier d.name) m.declared }
-    ensures functions { (tree : Module) (m : ModuleValue) → WellFormedModule tree → AreIdentifiers tree → Checks tree (Ok m) → All (λ f. IsNamed f.name) m.functions }
-    ensures objects { (tree : Module) (m : ModuleValue) → WellFormedModule tree → AreIdentifiers tree → Checks tree (Ok m) → AreNumbered m → All (λ g. IsNamed g.name) m.globals }
+    ensures declared { (tree : Module) (m : ModuleValue) → WellFormedModule tree → NamesAreLetters tree → Checks tree (Ok m) → All (λ d. AreLetters d.name) m.declared }
+    ensures functions { (tree : Module) (m : ModuleValue) → WellFormedModule tree → NamesAreLetters tree → Checks tree (Ok m) → All (λ f. IsNamed f.name) m.functions }
+    ensures objects { (tree : Module) (m : ModuleValue) → WellFormedModule tree → NamesAreLetters tree → Checks tree (Ok m) → AreNumbered m → All (λ g. IsNamed g.name) m.globals }
 {}
 
 /// Each identifier of a text's tree is one of C90 6.1.2.
 pub fn identifiers_of_texts()
-    ensures { (text : List ℕ) (tokens : List Token) (tree : Module) → IsLexed text tokens → IsTreeOf (spelled_all text tokens) tree → AreIdentifiers tree }
+    ensures { (text : List ℕ) (tokens : List Token) (tree : Module) → IsLexed text tokens → IsTreeOf (spelled_all text tokens) tree → NamesAreLetters tree }
 {}
 
 /// No item of the first bytes of an object of a module that checking accepts is empty, with the same premise.
@@ -76,7 +76,7 @@ pub fn accepted_items_are_not_empty()
 /// A module that checking accepts is within the limits for which its flow graph is lawful (`IsWithin`), if the types of its
 /// expressions and the arguments of its calls keep theirs; the other premises are those of the laws above.
 pub fn accepted_is_within()
-    ensures { (tree : Module) (m : ModuleValue) → WellFormedModule tree → AreIdentifiers tree → Checks tree (Ok m) → AreNumbered m
+    ensures { (tree : Module) (m : ModuleValue) → WellFormedModule tree → NamesAreLetters tree → Checks tree (Ok m) → AreNumbered m
         → All (λ f. KeepsLimits m.records f.body) m.functions → IsWithin m }
 {
     accepted_records_are_laid();
