@@ -1,5 +1,5 @@
 -- What ends a rule, and a point by what is found there.
-use Rattle.std.proofs.Common.{◌≡◌, ◌⊎◌, None, Some, Result, Ok, Err, ap, sym, ◌∙◌}
+use Rattle.std.proofs.Common.{◌≡◌, ◌⊎◌, None, Some, Result, Ok, Err, ap, ◌∙◌}
 use mathlib.Core.Logic.{inl, inr}
 use Rattle.pw_walk.specs.Calls.{Obeys}
 use Rattle.pw_walk.specs.Causes.{Point}
