@@ -222,7 +222,11 @@ fn told_name(c: u8, f: bool) -> &'static str
     requires { IsCondition c }
     ensures { result.now ≡ if f then negated c else condition c }
 {
-    if f { negated_name(c) } else { condition_name(c) }
+    if f {
+        negated_name(c)
+    } else {
+        condition_name(c)
+    }
 }
 
 fn nullification_name(n: bool) -> &'static str
