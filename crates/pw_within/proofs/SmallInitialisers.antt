@@ -16,6 +16,7 @@ use Rattle.pw_rules.specs.Operands.{cast_to}
 use Rattle.pw_rules.specs.States.{State, Rule, records_in}
 use Rattle.pw_well_typed.specs.Lawful.{IsLawful}
 use Rattle.pw_well_typed.proofs.Walking.{Post, post_bind, post_weaken, post_granted, truth}
+use Rattle.pw_well_typed.proofs.Filling.{alone_passed}
 use Rattle.pw_well_typed.proofs.Lists.{some_same, never_some}
 use Rattle.pw_well_typed.proofs.Types.{no}
 use Rattle.pw_well_typed.proofs.States.{Grows}
@@ -120,14 +121,6 @@ scalar_reached (suc deep) r takes f x h e = by (next_part r f) refl e
     by None d g = never_some g
     by (Some t) d g = let same = own_part r f t h d in tested t (is_scalar (type_of t.ty)) (ap is_scalar same ∙ h) same g
 
-passed_alone : (r : List RecordValue) (f : Frame) → passed r (f ∷ []) ≡ one_on f ∷ []
-unfolding passed
-passed_alone r f = by (is_some (next_part r (one_on f)))
-  where
-    by : (b : Bool) → (if b || true then one_on f ∷ [] else passed r []) ≡ one_on f ∷ []
-    by true = refl
-    by false = refl
-
 scalar_no_characters : (ty : CType) → is_scalar ty ≡ true → is_character_array ty ≡ false
 scalar_no_characters (Int k) h = refl
 scalar_no_characters (Pointer q) h = refl
@@ -168,7 +161,7 @@ listed_value_parts cx cursor filled first e s l at v h =
     let same : u.1 ≡ s = j.0 ∙ k.0 in (
       subst IsReady (sym same) l,
       (
-        record { frame = one_on at.frame; alone = ap (passed (records_in s)) k.1.1 ∙ passed_alone (records_in s) at.frame; scalar = at.scalar; kept = subst (λ t. IsKeptFrom t.types.records at.frame.ty) (sym same) at.kept },
+        record { frame = one_on at.frame; alone = ap (passed (records_in s)) k.1.1 ∙ alone_passed (records_in s) at.frame; scalar = at.scalar; kept = subst (λ t. IsKeptFrom t.types.records at.frame.ty) (sym same) at.kept },
         subst (λ t. AreKeptValues t u.0.parts) (sym j.0) j.1,
       ),
     )))
@@ -221,10 +214,6 @@ unfolding object_list
 object_list_parts cx q is s l k scalar =
     post_bind _ _ ScalarRead PartsKept (inits_parts is cx (frame_of (target_at q 0) ∷ []) nothing_filled s l (record { frame = frame_of (target_at q 0); alone = refl; scalar = scalar; kept = k }) (λ x c. tt)) (λ r j. j.1.1)
 
-not_not : (b : Bool) → not b ≡ false → b ≡ true
-not_not true e = refl
-not_not false e = no (sym e)
-
 no_string : (ty : CType) (form : StringForm) → is_scalar ty ≡ true → fills_characters ty form ≡ false
 no_string ty IsOther h = refl
 no_string ty (IsString ws) h = scalar_no_characters ty h
@@ -235,5 +224,5 @@ unfolding object_rule object_by
 object_parts cx q (S.Value e) s l k single =
     subst (λ b. Post (object_by b cx q (words_in (string_form e)) (object_value cx q e) s) PartsKept) (sym single) (object_value_parts cx q e s l k)
 object_parts cx q (S.Braces token is trailing) s l k single =
-    let scalar : is_scalar (type_of q) ≡ true = not_not (is_scalar (type_of q)) single in
+    let scalar : is_scalar (type_of q) ≡ true = truth (is_scalar (type_of q)) single in
     subst (λ b. Post (object_by b cx q (words_in (braced_string is)) (object_list cx q is) s) PartsKept) (sym (no_string (type_of q) (braced_string is) scalar)) (object_list_parts cx q is s l k scalar)
