@@ -7,12 +7,13 @@ ghost use Rattle.pw_commands.specs.Needed.{Needs};
 ghost use Rattle.pw_commands.specs.Outcome.{IsFileStop, StopCount};
 ghost use Rattle.pw_commands.specs.Showing.{DatabaseComes, IsPrintAnswer, IsShowAnswer, ListComes, ListsOver, Shows, database_text, image_in};
 
-use crate::needed::{bad_file, own_name, read_needed, refused};
+use crate::needed::{bad_file, read_needed, refused};
 use pw_answer::Answer;
 use pw_image::LoadError;
 use pw_io::{Failed, Sink, Store};
 use pw_list::laws::an_image_has_one_listing;
 use pw_list::{db_text, listing};
+use pw_value::Name;
 use std::alloc::Global;
 
 /// Puts a text out.
@@ -58,7 +59,7 @@ fn texted<S: Store>(alloc: Global, store: &mut S) -> Result<Vec<u8>, Answer>
                 Ok(text) => Ok(text),
                 Err(_none) => Err(Answer::NoMemory),
             },
-            Err(error) => Err(refused(own_name(alloc, "prog.db")?, error)),
+            Err(error) => Err(refused(Name::within(alloc, "prog.db".as_bytes())?, error)),
         },
     }
 }

@@ -1,6 +1,6 @@
 //! The command `phase2`.
 
-ghost use Rattle.std.specs.Prelude.{◌≡◌, ℕ, List, Ok, ◌++◌, true, IfErr, IfOk, IfSome, codes, length};
+ghost use Rattle.std.specs.Prelude.{◌≡◌, ℕ, List, Err, ◌++◌, true, IfErr, IfOk, IfSome, codes, length};
 ghost use Rattle.pw_io.specs.Files.{Keeps};
 ghost use Rattle.pw_answer.specs.Outcomes.{StoreCount};
 ghost use Rattle.pw_db.specs.Database.{IsDatabase};
@@ -17,7 +17,7 @@ ghost use Rattle.pw_compiling.specs.Made.{MakesObject};
 
 use crate::files::{module_file, put_bytes};
 use pw_answer::Answer;
-use pw_commands::{own_name, read_needed, refused};
+use pw_commands::{read_needed, refused};
 use pw_db::Database;
 use pw_db::laws::directives_are_one;
 use pw_flow::FlowModule;
@@ -41,7 +41,7 @@ fn flow_in<S: Store>(alloc: Global, store: &mut S, file: &str) -> Result<FlowMod
     let bytes = read_needed(alloc, store, file)?;
     match pw_flowfile::read(alloc, &bytes) {
         Ok(flow) => Ok(flow),
-        Err(error) => Err(refused(own_name(alloc, file)?, error)),
+        Err(error) => Err(refused(Name::within(alloc, file.as_bytes())?, error)),
     }
 }
 
@@ -56,7 +56,7 @@ fn needed_database<S: Store>(alloc: Global, store: &mut S) -> Result<Database, A
     let bytes = read_needed(alloc, store, "prog.db")?;
     match pw_db::read(alloc, &bytes) {
         Ok(db) => Ok(db),
-        Err(error) => Err(refused(own_name(alloc, "prog.db")?, error)),
+        Err(error) => Err(refused(Name::within(alloc, "prog.db".as_bytes())?, error)),
     }
 }
 
@@ -90,16 +90,20 @@ fn file_of_flow(alloc: Global, flow: &FlowModule, db: &Database) -> Result<Vec<u
     Ok(bytes)
 }
 
-/// The object's file of a flow graph, or the answer in its place.
-fn file_under<S: Store>(alloc: Global, store: &mut S, flow: &FlowModule) -> Result<Vec<u8>, Answer>
-    requires { IsValid flow.now }
-    ensures object { IfSome (S.told store.old) (λ told. MakesObject (Ok flow.now) (needed database_at told.files (codes "prog.db")) result) }
+/// The object's file of a flow graph under what was found of the database: an answer in the database's place is handed on.
+fn file_under(
+    alloc: Global,
+    flow: &FlowModule,
+    found: Result<Database, Answer>,
+) -> Result<Vec<u8>, Answer>
+    requires flow { IsValid flow.now }
+    requires database { IfOk found (λ db. IsDatabase db.functions) }
+    ensures file { IfOk found (λ db. IfOk result (λ bytes. IsFileOfFlow flow.now db.functions bytes.items)) }
     ensures made { IfOk result (λ bytes. IsMadeFile bytes.items) }
-    ensures same { Keeps (S.told store.old) (S.told store.new) }
-    ensures count { StopCount (S.faults store.old) (S.faults store.new) result }
-    ensures stop { IfErr result IsFileStop }
+    ensures wants { IfOk found (λ _. IfErr result (λ answer. answer ≡ Answer.NoMemory)) }
+    ensures stopped { IfErr found (λ answer. result ≡ Err answer) }
 {
-    let db = needed_database(alloc, store)?;
+    let db = found?;
     Ok(file_of_flow(alloc, flow, &db)?)
 }
 
@@ -113,7 +117,8 @@ fn object_file<S: Store>(alloc: Global, store: &mut S, file: &str) -> Result<Vec
     ensures stop { IfErr result IsFileStop }
 {
     let flow = flow_in(alloc, store, file)?;
-    file_under(alloc, store, &flow)
+    let found = needed_database(alloc, store);
+    file_under(alloc, &flow, found)
 }
 
 /// The file of a module's object, or the answer in its place.

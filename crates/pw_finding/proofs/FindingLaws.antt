@@ -41,10 +41,7 @@ stopped_told (Some c) r = refl
 pub stopped_by_found : {A : Type 0} (p : Point) (r : Result A CheckFault) → stopped (least None p) r ≡ told (found p) r
 stopped_by_found p r = stopped_told (least None p) r ∙ ap (λ o. told o r) (least_found None p)
 
--- ---- one constraint more, and two lists of them
-
-pub found_cons : (best : Option CheckFault) (c : Cause) (rest : Point) → found_behind best (c ∷ rest) ≡ found_behind (with_cause best c.broken (fault_of c)) rest
-found_cons best c rest = refl
+-- ---- two lists of constraints
 
 abbrev before : CheckFault → CheckFault → Bool
 before f g = nat_lt (rank_of_kind f.kind) (rank_of_kind g.kind)

@@ -43,15 +43,15 @@ registers name r1 r2 t = parts (name ∷ codes " " ∷ decimal r1 ∷ codes "," 
 abbrev pub bit_field : List ℕ → ℕ → ℕ → ℕ → ℕ → List ℕ
 bit_field name r p len t = parts (name ∷ codes " " ∷ decimal r ∷ codes "," ∷ decimal p ∷ codes "," ∷ decimal len ∷ codes "," ∷ decimal t ∷ [])
 
-abbrev pub compare_branch : List ℕ → ℕ → ℕ → ℕ → ℕ → List ℕ
-compare_branch name c r1 r2 to =
-    parts (name ∷ codes "," ∷ condition c ∷ codes " " ∷ decimal r1 ∷ codes "," ∷ decimal r2 ∷ codes "," ∷ hexadecimal 8 to ∷ [])
+unfoldable pub compare_branch : List ℕ → List ℕ → ℕ → ℕ → ℕ → List ℕ
+compare_branch name told r1 r2 to =
+    parts (name ∷ codes "," ∷ told ∷ codes " " ∷ decimal r1 ∷ codes "," ∷ decimal r2 ∷ codes "," ∷ hexadecimal 8 to ∷ [])
 
-abbrev pub compare_clear : ℕ → Bool → ℕ → ℕ → ℕ → List ℕ
-compare_clear c f r1 r2 t =
-    parts (codes "COMCLR," ∷ (if f then negated c else condition c) ∷ codes " " ∷ decimal r1 ∷ codes "," ∷ decimal r2 ∷ codes "," ∷ decimal t ∷ [])
+abbrev pub compare_clear : List ℕ → ℕ → ℕ → ℕ → List ℕ
+compare_clear told r1 r2 t =
+    parts (codes "COMCLR," ∷ told ∷ codes " " ∷ decimal r1 ∷ codes "," ∷ decimal r2 ∷ codes "," ∷ decimal t ∷ [])
 
-abbrev pub branch_and_link : Bool → ℕ → ℕ → List ℕ
+unfoldable pub branch_and_link : Bool → ℕ → ℕ → List ℕ
 branch_and_link n to t = parts (codes "BL" ∷ nullification n ∷ codes " " ∷ hexadecimal 8 to ∷ codes "," ∷ decimal t ∷ [])
 
 abbrev pub pair : List ℕ → ℕ → ℕ → List ℕ
@@ -80,13 +80,13 @@ listed (Sub r1 r2 t) address = registers (codes "SUB") r1 r2 t
 listed (Addl r1 r2 t) address = registers (codes "ADDL") r1 r2 t
 listed (Vshd r1 r2 t) address = registers (codes "VSHD") r1 r2 t
 listed (Mtctl r) address = pair (codes "MTCTL") r 11
-listed (Comclr c f r1 r2 t) address = compare_clear c f r1 r2 t
+listed (Comclr c f r1 r2 t) address = compare_clear (if f then negated c else condition c) r1 r2 t
 listed (Subi im r t) address = subtract im r t
 listed (Extru r p len t) address = bit_field (codes "EXTRU") r p len t
 listed (Extrs r p len t) address = bit_field (codes "EXTRS") r p len t
 listed (Zdep r p len t) address = bit_field (codes "ZDEP") r p len t
-listed (Combt c r1 r2 disp) address = compare_branch (codes "COMBT") c r1 r2 (target address disp)
-listed (Combf c r1 r2 disp) address = compare_branch (codes "COMBF") c r1 r2 (target address disp)
+listed (Combt c r1 r2 disp) address = compare_branch (codes "COMBT") (condition c) r1 r2 (target address disp)
+listed (Combf c r1 r2 disp) address = compare_branch (codes "COMBF") (condition c) r1 r2 (target address disp)
 listed (Bl disp t n) address = branch_and_link n (target address disp) t
 listed (Bv b n) address = register_branch (codes "BV") n [] b
 listed (Ble b n) address = register_branch (codes "BLE") n (codes "4,") b

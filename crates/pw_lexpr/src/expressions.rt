@@ -70,14 +70,7 @@ fn finish(
         }
         TForm::Call(symbol, args) => named(alloc, home, args, ty, symbol, code),
         TForm::CallValue(a, args) => through(alloc, home, args, ty, &a.ty, first, code),
-        TForm::Number(_) | TForm::Str(_) | TForm::Local(_) => alone(alloc, home, e, first, code),
-        TForm::Global(_) | TForm::Function(_) => alone(alloc, home, e, first, code),
-        TForm::Unary(_, _) | TForm::Step(_, _) | TForm::Member(_, _) => {
-            alone(alloc, home, e, first, code)
-        }
-        TForm::Cast(_) | TForm::Decay(_) | TForm::Deref(_) | TForm::Address(_) => {
-            alone(alloc, home, e, first, code)
-        }
+        _ => alone(alloc, home, e, first, code),
     }
 }
 

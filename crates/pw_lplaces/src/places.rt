@@ -12,7 +12,7 @@ use pw_flow::Op;
 use pw_items::Items;
 use pw_lforms::stores::scalar_kind;
 use pw_lower::code::further;
-use pw_lower::operators::{bytes_of, kind_of};
+use pw_lower::operators::bytes_of;
 use pw_lower::{Code, LocalPlace};
 use pw_typed::{Local, TFunction};
 use pw_types::{CType, Types};

@@ -327,10 +327,6 @@ pub of_go : (P : Told → Type 0) (told : Option Told) → IfSome told P → IfS
 of_go P None h = tt
 of_go P (Some t) h = λ u. h
 
--- what holds of every command that is not left out
-pub of_any : (P : Told → Type 0) (told : Option Told) → IfSome told P → IfSome told (λ t. Unit {0} → P t)
-of_any P told h = of_go P told h
-
 pub of_other : (P : Told → Type 0) (told : Option Told) → IfSome told (λ t. ⊥ → P t)
 of_other P None = tt
 of_other P (Some t) = λ h. absurd h

@@ -8,7 +8,6 @@ ghost use Rattle.pw_types.specs.Records as spec;
 ghost use Rattle.pw_types.specs.Views.{view_type, view_types};
 
 use crate::ctype::{CType, QType};
-use crate::record::Member;
 use crate::types::Types;
 
 /// The depth of a type: the pointers, arrays, functions and records that lie within one another in it.

@@ -30,7 +30,7 @@ use Rattle.pw_rules.specs.Operands.{Operand}
 use Rattle.pw_rules.specs.Operators.{value_rule}
 use Rattle.pw_rules.specs.Phrases.{typedef_type, typedef_rule, expr_rule, postfixes_rule, arguments_rule, operations_rule, specifiers_rule, members_rule, member_declarators_rule, enumerators_rule, declarator_rule, core_rule, suffixes_rule, parameters_rule}
 use Rattle.pw_rules.specs.SpecifierLists.{Gathered, nothing_gathered, gather_storage, gather_qualifier, gather_word, gather_type, Specified, specified, table, type_listed, same_words}
-use Rattle.pw_rules.specs.States.{State, Rule, Entity, TypeName, EnumerationConstant, LocalObject, StaticObject, Linked, MadeState, BodyState, enter, enter_tag, add_record, put_record, scoped, uncounted, one_deeper, leave_scope, with_made, with_body, tag_of, tag_here, entity_of, LinkedName, HiddenObject, add_hidden}
+use Rattle.pw_rules.specs.States.{State, Rule, Entity, TypeName, EnumerationConstant, LocalObject, StaticObject, Linked, MadeState, enter, enter_tag, add_record, put_record, scoped, uncounted, one_deeper, leave_scope, with_made, tag_of, tag_here, entity_of, LinkedName, HiddenObject, add_hidden}
 use Rattle.pw_rules.specs.declared.names.Tag.{Tag}
 use Rattle.pw_rules.specs.declared.names.Tag.TheVariants as G
 use Rattle.pw_well_typed.specs.Lawful.{IsLawful}
@@ -100,12 +100,6 @@ both_fit {A} s w Good h k =
 
 pub made_fit : (s : State) (b : Bool) → IsFitting s → IsFitting (with_made (λ m. record m { counting = b }) s)
 made_fit s b h = (
-  record { contents = h.0.contents; begun = h.0.begun; counted = h.0.counted; entities = h.0.entities; tags = h.0.tags; linked = h.0.linked; laid = h.0.laid; apart = h.0.apart; depths = h.0.depths },
-  record { contents = h.1.contents; names = h.1.names; members = h.1.members; items = h.1.items; objects = h.1.objects },
-)
-
-pub body_fit : (s : State) (f : BodyState → BodyState) → IsFitting s → IsFitting (with_body f s)
-body_fit s f h = (
   record { contents = h.0.contents; begun = h.0.begun; counted = h.0.counted; entities = h.0.entities; tags = h.0.tags; linked = h.0.linked; laid = h.0.laid; apart = h.0.apart; depths = h.0.depths },
   record { contents = h.1.contents; names = h.1.names; members = h.1.members; items = h.1.items; objects = h.1.objects },
 )
