@@ -17,9 +17,13 @@ use Rattle.pw_rules.specs.Kinds.{is_array, is_function}
 use Rattle.pw_value.specs.ProgramNames.{same_truth}
 use Rattle.pw_well_typed.specs.Lawful.{IsLawfulType}
 use Rattle.pw_well_typed.proofs.Lists.{some_same, never_some}
-use Rattle.pw_well_typed.proofs.Types.{no, left, right, both, kinds_same, truths_same, element_complete}
+use Rattle.pw_well_typed.proofs.Types.{no, left, right, kinds_same, truths_same, element_complete}
 
 -- ---- the digits of a length
+
+both_true : (a b : Bool) → a ≡ true → b ≡ true → (a && b) ≡ true
+both_true true b e f = f
+both_true false b e f = no e
 
 glyph_digit : (d : ℕ) → d < 10 → is_ascii_digit (digit_glyph false d) ≡ true
 glyph_digit d h = grind (arith, h)
@@ -28,7 +32,7 @@ onto_digits : (k n : ℕ) (acc : List ℕ) → list_all is_ascii_digit acc ≡ t
 onto_digits zero n acc h = h
 onto_digits (suc k) n acc h =
     let more : list_all is_ascii_digit (digit_glyph false (n % 10) ∷ acc) ≡ true =
-    both (is_ascii_digit (digit_glyph false (n % 10))) (list_all is_ascii_digit acc) (glyph_digit (n % 10) (omega arith)) h in
+    both_true (is_ascii_digit (digit_glyph false (n % 10))) (list_all is_ascii_digit acc) (glyph_digit (n % 10) (omega arith)) h in
     by (n / 10 == 0) more (onto_digits k (n / 10) (digit_glyph false (n % 10) ∷ acc) more)
   where
     by : (b : Bool) → list_all is_ascii_digit (digit_glyph false (n % 10) ∷ acc) ≡ true

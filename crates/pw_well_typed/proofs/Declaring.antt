@@ -452,7 +452,7 @@ abbrev pub DeclaredHere : List ℕ → ScopeState → Type 0
 DeclaredHere name c =
     (e : Entry) × (option_and_then (if_here c.depth) (visible c.ordinary name) ≡ Some e) × ((y : Entity) → slice_get c.entities e.place ≡ Some y → is_linked y ≡ true)
 
-pub entry_entered : (s : State) (name : List ℕ) (x : Entity) → entry_here (enter name x s) name ≡ Some (record { place = length s.scopes.entities; depth = s.scopes.depth })
+entry_entered : (s : State) (name : List ℕ) (x : Entity) → entry_here (enter name x s) name ≡ Some (record { place = length s.scopes.entities; depth = s.scopes.depth })
 entry_entered s name x =
     ap (option_and_then (if_here s.scopes.depth))
     (visible_more s.scopes.ordinary name (record { place = length s.scopes.entities; depth = s.scopes.depth }) name

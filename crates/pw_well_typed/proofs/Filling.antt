@@ -51,7 +51,7 @@ IsAt ty [] = Unit {0}
 IsAt ty (f ∷ []) = f.ty ≡ ty
 IsAt ty (f ∷ g ∷ outer) = ⊥
 
-pub alone_passed : (r : List RecordValue) (f : Frame) → passed r (f ∷ []) ≡ one_on f ∷ []
+alone_passed : (r : List RecordValue) (f : Frame) → passed r (f ∷ []) ≡ one_on f ∷ []
 unfolding passed
 alone_passed r f = by (is_some (next_part r (one_on f)))
   where

@@ -542,7 +542,7 @@ scalars_more : (r : List RecordValue) (ps : List ParameterValue) (p : ParameterV
 scalars_more r [] p h k i = (k, i, tt)
 scalars_more r (x ∷ ps) p h k i = (h.0, h.1, scalars_more r ps p h.2 k i)
 
-pub adjusted_lawful : (r : List RecordValue) (q : QType) → IsLawfulType r (type_of q) → IsLawfulType r (type_of (adjusted q))
+adjusted_lawful : (r : List RecordValue) (q : QType) → IsLawfulType r (type_of q) → IsLawfulType r (type_of (adjusted q))
 adjusted_lawful r (Qualified (Array (Qualified ty c v) n) d w) h = h.0
 adjusted_lawful r (Qualified (Function q ps) c v) h = h
 adjusted_lawful r (Qualified Void c v) h = h

@@ -22,7 +22,7 @@ use Rattle.pw_rules.specs.Operands.{value_operand, cast_to, promote, common_type
 use Rattle.pw_rules.specs.Operators.{deref, both_integral, pointer_and_number, pointers_agree, points_into_objects, pointer_and_void, pointer_and_null, pointers_meet, fits_order, fits_binary, in_common, arithmetic_node, shift_node, pointer_with_both, chosen_pointer, met_type, comparison_node, sum_node, difference_node, binary_node, typed_binary, comma_node, same_record, fits_choice, choice_type}
 use Rattle.pw_well_typed.specs.Lawful.{IsLawfulType, AreWords, Extends}
 use Rattle.pw_well_typed.proofs.States.{GoodOperand, GoodValue}
-use Rattle.pw_well_typed.proofs.Types.{no, left, right, both, one_of, lawful_known, lawful_target, lawful_composite, complete_later, is_complete_so}
+use Rattle.pw_well_typed.proofs.Types.{no, left, right, one_of, lawful_known, lawful_target, lawful_composite, complete_later, is_complete_so}
 use Rattle.pw_well_typed.proofs.Conversions.{integral_is, pointer_is, void_is, scalar_is, pointer_scalar, integral_arithmetic, no_function, promoted_twice, usual_promoted, cast_type, cast_words, cast_typed, promote_type, promote_typed, same_typed, node_good}
 
 -- ---- unary operators
@@ -166,6 +166,10 @@ lawful_pointee r (Array q n) h = h
 lawful_pointee r (Function q ps) h = h
 lawful_pointee r (Record n) h = h
 
+both_so : (a b : Bool) → a ≡ true → b ≡ true → (a && b) ≡ true
+both_so true b e f = f
+both_so false b e f = no e
+
 -- what two pointers become is a pointer
 pub chosen : (r : List RecordValue) (a b : Expression) → IsLawfulType r (type_in a) → IsLawfulType r (type_in b) → Meeting a b
     → IsPointer (chosen_pointer a b) × IsLawfulType r (chosen_pointer a b)
@@ -183,7 +187,7 @@ chosen r a b la lb meets =
         × IsLawfulType r (if x then type_in a else if y then type_in b else if z then pointer_with_both Void (pointee (type_in a)) (pointee (type_in b)) else pointer_with_both (composite_type (type_of (pointee (type_in a))) (type_of (pointee (type_in b)))) (pointee (type_in a)) (pointee (type_in b)))
     by_tests true h y k z meets = ((_, pointer_is (type_in a) (right (is_null_constant b) (is_pointer (type_in a)) h)), la)
     by_tests false h true k z (BothPointers p q) = ((_, pointer_is (type_in b) q), lb)
-    by_tests false h true k z (LeftPointer p q) = no (sym h ∙ both (is_null_constant b) (is_pointer (type_in a)) q p)
+    by_tests false h true k z (LeftPointer p q) = no (sym h ∙ both_so (is_null_constant b) (is_pointer (type_in a)) q p)
     by_tests false h true k z (RightPointer p q) = ((_, pointer_is (type_in b) p), lb)
     by_tests false h false k true meets = ((_, refl), tt)
     by_tests false h false k false meets =

@@ -234,7 +234,7 @@ length_itself : (n : Option ℕ) → same_length n n ≡ true
 length_itself None = refl
 length_itself (Some n) = eq-eqb n n refl
 
-pub both : (a b : Bool) → a ≡ true → b ≡ true → (a && b) ≡ true
+both : (a b : Bool) → a ≡ true → b ≡ true → (a && b) ≡ true
 both true b e f = f
 both false b e f = no e
 

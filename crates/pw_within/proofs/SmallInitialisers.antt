@@ -16,7 +16,6 @@ use Rattle.pw_rules.specs.Operands.{cast_to}
 use Rattle.pw_rules.specs.States.{State, Rule, records_in}
 use Rattle.pw_well_typed.specs.Lawful.{IsLawful}
 use Rattle.pw_well_typed.proofs.Walking.{Post, post_bind, post_weaken, post_granted, truth}
-use Rattle.pw_well_typed.proofs.Filling.{alone_passed}
 use Rattle.pw_well_typed.proofs.Lists.{some_same, never_some}
 use Rattle.pw_well_typed.proofs.Types.{no}
 use Rattle.pw_well_typed.proofs.States.{Grows}
@@ -121,6 +120,14 @@ scalar_reached (suc deep) r takes f x h e = by (next_part r f) refl e
     by None d g = never_some g
     by (Some t) d g = let same = own_part r f t h d in tested t (is_scalar (type_of t.ty)) (ap is_scalar same ∙ h) same g
 
+passed_alone : (r : List RecordValue) (f : Frame) → passed r (f ∷ []) ≡ one_on f ∷ []
+unfolding passed
+passed_alone r f = by (is_some (next_part r (one_on f)))
+  where
+    by : (b : Bool) → (if b || true then one_on f ∷ [] else passed r []) ≡ one_on f ∷ []
+    by true = refl
+    by false = refl
+
 scalar_no_characters : (ty : CType) → is_scalar ty ≡ true → is_character_array ty ≡ false
 scalar_no_characters (Int k) h = refl
 scalar_no_characters (Pointer q) h = refl
@@ -161,7 +168,7 @@ listed_value_parts cx cursor filled first e s l at v h =
     let same : u.1 ≡ s = j.0 ∙ k.0 in (
       subst IsReady (sym same) l,
       (
-        record { frame = one_on at.frame; alone = ap (passed (records_in s)) k.1.1 ∙ alone_passed (records_in s) at.frame; scalar = at.scalar; kept = subst (λ t. IsKeptFrom t.types.records at.frame.ty) (sym same) at.kept },
+        record { frame = one_on at.frame; alone = ap (passed (records_in s)) k.1.1 ∙ passed_alone (records_in s) at.frame; scalar = at.scalar; kept = subst (λ t. IsKeptFrom t.types.records at.frame.ty) (sym same) at.kept },
         subst (λ t. AreKeptValues t u.0.parts) (sym j.0) j.1,
       ),
     )))

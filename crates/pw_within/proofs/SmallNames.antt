@@ -23,7 +23,7 @@ use Rattle.pw_well_typed.proofs.Sound.{Sound}
 use Rattle.pw_well_typed.proofs.States.{Grows}
 use Rattle.pw_well_typed.proofs.Initialisers.{IsLawfully}
 use Rattle.pw_well_typed.proofs.Keeping.{Knows, defined_kept}
-use Rattle.pw_well_typed.proofs.Declaring.{Linkable, entry_entered, mapped, declared_knows, defined_scopes, visible_named}
+use Rattle.pw_well_typed.proofs.Declaring.{Linkable, mapped, declared_knows, defined_scopes, visible_named}
 use Rattle.pw_well_typed.proofs.Declarations.{Fits}
 use Rattle.pw_within.proofs.Sizes.{IsKeptFrom, within_kept}
 use Rattle.pw_within.proofs.SmallLeaves.{Keeping, IsReady}
@@ -44,6 +44,13 @@ pub record HereIn (c : ScopeState) (name : List ℕ) (place : ℕ) : Type 0 wher
 
 abbrev PlacesIn : ScopeState → Type 0
 PlacesIn c = (i : ℕ) (e : List ℕ × Entry) → slice_get c.ordinary i ≡ Some e → (x : Entity) × (slice_get c.entities e.1.place ≡ Some x)
+
+entry_entered : (s : State) (name : List ℕ) (x : Entity) → entry_here (enter name x s) name ≡ Some (record { place = length s.scopes.entities; depth = s.scopes.depth })
+entry_entered s name x =
+    ap (option_and_then (if_here s.scopes.depth))
+    (visible_more s.scopes.ordinary name (record { place = length s.scopes.entities; depth = s.scopes.depth }) name
+    ∙ ap (λ b. if b then Some (record { place = length s.scopes.entities; depth = s.scopes.depth }) else entry_of s name) ((bytes_eq-Decides name name).1 refl))
+    ∙ ap (λ b. if b then Some (record { place = length s.scopes.entities; depth = s.scopes.depth }) else None) (eq-eqb s.scopes.depth s.scopes.depth refl)
 
 entry_there : (s : State) (name : List ℕ) (e : Entry) → HavePlaces s → entry_here s name ≡ Some e → (x : Entity) × (slice_get s.scopes.entities e.place ≡ Some x)
 entry_there s name e places h = by (entry_of s name) refl h

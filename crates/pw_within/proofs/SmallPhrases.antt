@@ -33,7 +33,7 @@ use Rattle.pw_well_typed.proofs.Lists.{some_same, never_some, get_more, get_eith
 use Rattle.pw_well_typed.proofs.Types.{lawful_pointer, lawful_element}
 use Rattle.pw_well_typed.proofs.States.{Runs, Grows, grows_trans, grows_same, Fine, goes_on, Widens}
 use Rattle.pw_well_typed.proofs.Changes.{record_grows, deeper_lawful, left_lawful_alone, Opened, opened_later}
-use Rattle.pw_well_typed.proofs.Leaves.{Nothing, reference_runs, GoodReference, opening_runs, GoodMembers, closing_runs, GoodGathered, GoodSpecified, specified_runs, GoodDeclared, GoodType, built_runs, GoodParameters, adjusted_lawful, scalars_later, members_later, member_runs, parameter_storage_runs, parameter_runs, enumerator_runs, enumerating_runs}
+use Rattle.pw_well_typed.proofs.Leaves.{Nothing, reference_runs, GoodReference, opening_runs, GoodMembers, closing_runs, GoodGathered, GoodSpecified, specified_runs, GoodDeclared, GoodType, built_runs, GoodParameters, scalars_later, members_later, member_runs, parameter_storage_runs, parameter_runs, enumerator_runs, enumerating_runs}
 use Rattle.pw_well_typed.proofs.Phrases.{expr_post, arguments_post, specifiers_post, declarator_post, scalars_only, later_type}
 use Rattle.pw_well_typed.proofs.Operations.{AreFine}
 use Rattle.pw_within.proofs.Sizes.{IsKeptFrom, kept_from, within_kept}
@@ -195,6 +195,14 @@ member_kept s b d ms l h k all =
       more_kept s.types.records ms (record { name = name_text d.name; ty = r.0 }) all
           (within_kept s.types.records (spot_of d.name b.first b.tag).token r.0 g.1 (subst (λ t. Rattle.pw_well_typed.proofs.Walking.AreMet (Rattle.pw_rules.specs.Limits.type_within t.types.records (spot_of d.name b.first b.tag).token r.0)) g.0 met.1.1.1.1)),
     ))
+
+adjusted_lawful : (r : List RecordValue) (q : QType) → IsLawfulType r (type_of q) → IsLawfulType r (type_of (adjusted q))
+adjusted_lawful r (Qualified (Array (Qualified ty c v) n) d w) h = h.0
+adjusted_lawful r (Qualified (Function q ps) c v) h = h
+adjusted_lawful r (Qualified Void c v) h = h
+adjusted_lawful r (Qualified (Int k) c v) h = h
+adjusted_lawful r (Qualified (Pointer q) c v) h = h
+adjusted_lawful r (Qualified (Record n) c v) h = h
 
 entered_parameter : (o : Option Word) (x : Entity) (s : State) → Keeping s → IsKeptEntity s.types.records x → Keeping (enter_parameter o x s)
 entered_parameter None x s k h = k

@@ -5,13 +5,17 @@ use Rattle.std.proofs.lemmas.Bool.{eqb-true, eq-eqb}
 use Rattle.pw_types.specs.TypeTrees.{CType, Void, Int, Pointer, Array, Function, Record, QType, Qualified, QTypes, NoType, OneType}
 use Rattle.pw_value.specs.ProgramNames.{same_truth}
 use Rattle.pw_rules.specs.Compatible.{compatible, compatible_types, compatible_parameters, compatible_plainly, lengths_agree, known_length, composite, composite_type, composite_parameters}
-use Rattle.pw_well_typed.proofs.Types.{no, left, right, both, kinds_same}
+use Rattle.pw_well_typed.proofs.Types.{no, left, right, kinds_same}
 
 abbrev pub Wider : QType → QType → Type 0
 Wider a b = (t : QType) → compatible a t ≡ true → compatible b t ≡ true
 
 pub wider_trans : (a b c : QType) → Wider a b → Wider b c → Wider a c
 wider_trans a b c x y t h = y t (x t h)
+
+both : (a b : Bool) → a ≡ true → b ≡ true → (a && b) ≡ true
+both true b e f = f
+both false b e f = no e
 
 -- ---- lengths
 
