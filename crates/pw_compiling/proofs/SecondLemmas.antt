@@ -159,11 +159,11 @@ under_found flow wanted (Ok db) (Ok bytes) is file wants stopped = subst (λ (w 
 under_found flow wanted (Ok db) (Err answer) is file wants stopped = subst (λ (a : Answer). MakesObject (Ok flow) wanted (Err a)) (sym wants) tt
 under_found flow wanted (Err answer) result is file wants stopped = subst (MakesObject (Ok flow) wanted) (sym stopped) (database_over flow wanted answer is)
 
-pub object_under : (first : Option Told) (flow : FlowModule) (found : Result Database Answer) (result : Result (Vec ℕ Global) Answer) → IfSome first (λ t. Needs (λ (db : Database). db.functions) found (needed database_at t.files (codes "prog.db")))
+pub object_under : (first : Option Told) (flow : FlowModule) (found : Result Database Answer) (result : Result (Vec ℕ Global) Answer) → IfSome first (λ t. Needs (λ (db : Database). db.functions) found (needed database_at t.files database_name))
     → IfOk found (λ db. IfOk result (λ bytes. IsFileOfFlow flow db.functions bytes.items)) → IfOk found (λ _. IfErr result (λ answer. answer ≡ NoMemory)) → IfErr found (λ answer. result ≡ Err answer)
-    → IfSome first (λ t. MakesObject (Ok flow) (needed database_at t.files (codes "prog.db")) result)
+    → IfSome first (λ t. MakesObject (Ok flow) (needed database_at t.files database_name) result)
 object_under None flow found result is file wants stopped = tt
-object_under (Some t) flow found result is file wants stopped = under_found flow (needed database_at t.files (codes "prog.db")) found result is file wants stopped
+object_under (Some t) flow found result is file wants stopped = under_found flow (needed database_at t.files database_name) found result is file wants stopped
 
 -- the bytes of an object's file are those of the flow graph's
 pub file_made : {E : Type 0} → (flow : FlowModule) (db : Db) (object : Object) (result : Result (Vec ℕ Global) E) → IsDatabase db → IsObjectUnder flow db object → IfOk result (λ bytes. IsObjectFile bytes.items object)
