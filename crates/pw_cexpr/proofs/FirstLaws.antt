@@ -225,10 +225,10 @@ module _ (e : Env) (bound : ℕ) (start behind : Shown) (ending : Ending) where
       subst (λ f. Runs e.world (act_first f e bound) start (Err ending) behind) (sym is) (both_end asked (all_end (first_of asked) more rest leads run))
 
 -- the same of what code answers
-pub stop_above : {e : Env} {bound : ℕ} {from rest : Option Asked} {start behind : Shown} {stop : Stop} {one result : Result (Option Value) Stop} (nodes : List Asked)
+pub stop_above : (e : Env) (bound : ℕ) {from rest : Option Asked} {start behind : Shown} {stop : Stop} {one result : Result (Option Value) Stop} (nodes : List Asked)
     → Leads from nodes rest → Answers (λ x. x) e.world (act_first rest e bound) start one behind → one ≡ Err stop → result ≡ Err stop
     → Answers (λ x. x) e.world (act_first from e bound) start result behind
-stop_above {e = e} {bound = bound} {from = from} {rest = rest} {start = start} {behind = behind} {stop = stop} nodes leads answers err same =
+stop_above e bound {from = from} {rest = rest} {start = start} {behind = behind} {stop = stop} nodes leads answers err same =
     subst (λ x. Answers (λ x. x) e.world (act_first from e bound) start x behind) (sym same)
     (by stop (subst (λ x. Answers (λ x. x) e.world (act_first rest e bound) start x behind) err answers))
   where

@@ -28,7 +28,7 @@ ran_place {world = world} {act = act} {place = place} {start = start} {here = he
     by (Ends ending t) (is, at) = cc is
 
 -- an operand's value, which the node of the token meets where it is missing
-pub ran_operand : {token : ℕ} {a : Expression} {cs : Calls} {e : Env} {given : Option Value} {start here behind : Shown} {one : Result Value Stop}
-    → Runs e.world (answer_of a cs e) start (Ok given) here → Answers (λ x. x) e.world (used (site e token) given) here one behind
-    → Answers (λ x. x) e.world (operand a token cs e) start one behind
+pub ran_operand : {world : World} {token : ℕ} {a : Expression} {cs : Calls} {e : Env} {given : Option Value} {start here behind : Shown} {one : Result Value Stop}
+    → Runs world (answer_of a cs e) start (Ok given) here → Answers (λ x. x) world (used (site e token) given) here one behind
+    → Answers (λ x. x) world (operand a token cs e) start one behind
 ran_operand {token = token} {e = e} run rest = then_ok (used (site e token)) (ran run) refl rest

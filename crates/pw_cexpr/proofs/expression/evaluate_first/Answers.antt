@@ -27,7 +27,7 @@ returns-in_err-given g c =
     let inv = c.loop-last.invariant in
     let back = leads_back view_asked (first_of (view_asked c.args.asked)) c.loop-last.below.items c.pop.new.self.items c.in-Some.last inv.0 inv.1 c.in-Some.ensures.items in
     let run = subst (λ f. Runs e.world (act_first f e c.args.bound) (view_state c.args.state.now) (Ok c.loop-last.given) (view_state c.loop-last.state)) (sym back.1) inv.2 in
-    stop_above {rest = Some (view_asked c.in-Some.last)} (map view_asked c.pop.new.self.items) back.0 (c.finish.ensures.answers _ run) c.in_err-given.was (search rules)
+    stop_above e c.args.bound {rest = Some (view_asked c.in-Some.last)} (map view_asked c.pop.new.self.items) back.0 (c.finish.ensures.answers _ run) c.in_err-given.was (search rules)
 
 pub returns : goal.returns
 returns g c =
