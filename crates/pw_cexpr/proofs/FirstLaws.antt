@@ -161,7 +161,12 @@ module _ {world : World} {start behind : Shown} {ending : Ending} where
   -- what gives does not end
   never : {A B : Type 0} {act : Act B} {a : A} → Runs world (give a) start (Err ending) behind → Runs world act start (Err ending) behind
   unfolding give
-  never {act = act} run = record { comes = λ s e. cc (run.comes s e).0 }
+  never run = record {
+    comes = λ s e.
+        let both = run.comes s e in
+        let is = both.0 in
+        cc is;
+  }
 
 module _ (e : Env) (bound : ℕ) (start behind : Shown) (ending : Ending) where
   answer_ends : (t : ℕ) (ty : QType) (form : Form) → Runs e.world (act_first (answer_first form) e bound) start (Err ending) behind
