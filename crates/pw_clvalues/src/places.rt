@@ -107,11 +107,7 @@ pub fn comma_place<'a, P: Expressions<'a>>(
 }
 
 /// The place of what a pointer points to, behind the pointer.
-pub fn deref_place<'a>(
-    env: &Env<'a>,
-    token: usize,
-    given: Option<Value>,
-) -> Result<Value, Stop<'a>>
+pub fn deref_place<'a>(env: &Env<'a>, token: usize, given: Option<Value>) -> Result<Value, Stop<'a>>
     ensures { (bound : ℕ) (ty : types.QType) (a : tree.Expression) (here : Shown) → Behind (view_env env.now) bound (answer_act a) given (place_act (tree.Node token ty (tree.Deref a))) here result here }
 {
     used(env, token, given)
