@@ -9,13 +9,14 @@ use Rattle.pw_flow.specs.declared.flow.FlowGlobal.{FlowGlobal}
 use Rattle.pw_flow.specs.declared.flow.FlowModule.{FlowModule}
 use Rattle.pw_flow.specs.FlowGraph.{function_names, global_names, named_in}
 use Rattle.pw_flow.specs.ValidFlow.{AreDistinct}
+use Rattle.pw_flow.proofs.Once.{distinct_left, distinct_right}
 use Rattle.pw_files.proofs.Standing.{Has, has_by, contains_by, has_left, has_right, has_split, has_map, has_map_back, has_flat, has_flat_back}
 use Rattle.pw_program.specs.declared.interface.Interface.{Interface}
 use Rattle.pw_program.specs.Linking.{library, names_in, defined_in, definitions, defined_names, used_names, IsUndefined, IsDefinedTwice}
 use Rattle.pw_flowrun.specs.Programs.{Program, functions_of, globals_of, names_of}
 use Rattle.pw_webrun.specs.Programs.{IsProgram}
 use Rattle.pw_alike.specs.Alike.{shown}
-use Rattle.pw_alike.proofs.Names.{both_distinct, left_distinct, right_distinct, across_distinct}
+use Rattle.pw_alike.proofs.Names.{both_distinct, across_distinct}
 use Rattle.pw_alike.proofs.Twice.{Twice, twice_by, twice_split, beside, once_beside}
 use Rattle.pw_alike.proofs.Tests.{beside_all}
 
@@ -53,19 +54,19 @@ parts_once m ms all =
 
 module _ (f fs g gs : List (List ℕ)) (all : AreDistinct ((f ++ fs) ++ (g ++ gs))) where
   functions_once : AreDistinct (f ++ fs)
-  functions_once = left_distinct (f ++ fs) (g ++ gs) all
+  functions_once = distinct_left (f ++ fs) (g ++ gs) all
 
   globals_once : AreDistinct (g ++ gs)
-  globals_once = right_distinct (f ++ fs) (g ++ gs) all
+  globals_once = distinct_right (f ++ fs) (g ++ gs) all
 
   kinds_apart : (n : List ℕ) → Has n (f ++ fs) → Has n (g ++ gs) → ⊥
   kinds_apart n h k = across_distinct (f ++ fs) (g ++ gs) all n h k
 
   own_once : AreDistinct (f ++ g)
-  own_once = both_distinct f g (left_distinct f fs functions_once) (left_distinct g gs globals_once) (λ n h k. kinds_apart n (has_left n f fs h) (has_left n g gs k))
+  own_once = both_distinct f g (distinct_left f fs functions_once) (distinct_left g gs globals_once) (λ n h k. kinds_apart n (has_left n f fs h) (has_left n g gs k))
 
   rest_once : AreDistinct (fs ++ gs)
-  rest_once = both_distinct fs gs (right_distinct f fs functions_once) (right_distinct g gs globals_once) (λ n h k. kinds_apart n (has_right n f fs h) (has_right n g gs k))
+  rest_once = both_distinct fs gs (distinct_right f fs functions_once) (distinct_right g gs globals_once) (λ n h k. kinds_apart n (has_right n f fs h) (has_right n g gs k))
 
   own_and_rest : (n : List ℕ) → Has n (f ++ g) → Has n fs ⊎ Has n gs → ⊥
   own_and_rest n h (inl k) = elim (has_split n f g h) [ inl j ↦ across_distinct f fs functions_once n j k | inr j ↦ kinds_apart n (has_right n f fs k) (has_left n g gs j) ]
@@ -126,11 +127,11 @@ module _ (q : Program) (is : IsProgram q) where
       (subst (λ (gs : List (List ℕ)). AreDistinct (names_of q ++ gs)) (globals_are q.modules) is.names)
 
   both_once : AreDistinct (library_functions ++ all_functions q.modules)
-  both_once = left_distinct (library_functions ++ all_functions q.modules) (all_globals q.modules) all_once
+  both_once = distinct_left (library_functions ++ all_functions q.modules) (all_globals q.modules) all_once
 
   names_once : AreDistinct (all_functions q.modules ++ all_globals q.modules)
   names_once =
-      both_distinct (all_functions q.modules) (all_globals q.modules) (right_distinct library_functions (all_functions q.modules) both_once) (right_distinct (library_functions ++ all_functions q.modules) (all_globals q.modules) all_once)
+      both_distinct (all_functions q.modules) (all_globals q.modules) (distinct_right library_functions (all_functions q.modules) both_once) (distinct_right (library_functions ++ all_functions q.modules) (all_globals q.modules) all_once)
       (λ n h k. across_distinct (library_functions ++ all_functions q.modules) (all_globals q.modules) all_once n (has_right n library_functions (all_functions q.modules) h) k)
 
   library_apart : (n : List ℕ) → Has n (names_in library) → Has n (all_functions q.modules) ⊎ Has n (all_globals q.modules) → ⊥
@@ -141,7 +142,7 @@ module _ (q : Program) (is : IsProgram q) where
   never_twice n a b h =
       let rest = flat_map defined_in (map shown q.modules) in
       elim (twice_split (n, a) (n, b) (defined_in library) rest h) [
-        | inl k ↦ once_in library (left_distinct library_functions (all_functions q.modules) both_once) n a b k
+        | inl k ↦ once_in library (distinct_left library_functions (all_functions q.modules) both_once) n a b k
         | inr (inl k) ↦ modules_once q.modules names_once n a b k
         | inr (inr (inl k)) ↦ library_apart n (named_by library n a k.0) (named_among q.modules n b k.1)
         | inr (inr (inr k)) ↦ library_apart n (named_by library n b k.0) (named_among q.modules n a k.1)

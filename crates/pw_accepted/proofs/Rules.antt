@@ -12,6 +12,7 @@ use Rattle.pw_flow.specs.declared.flow.FlowFn.{FlowFn}
 use Rattle.pw_flow.specs.declared.flow.FlowModule.{FlowModule}
 use Rattle.pw_flow.specs.FlowGraph.{function_names, global_names}
 use Rattle.pw_flow.specs.ValidFlow.{AreDistinct, IsValid}
+use Rattle.pw_flow.proofs.Once.{distinct_right}
 use Rattle.pw_files.proofs.Standing.{Has, has_by, contains_by, has_each, has_map, has_map_back, has_flat, has_flat_back}
 use Rattle.pw_files.proofs.Views.{seen}
 use Rattle.pw_summarise.specs.Summarises.{function_entry, function_entries}
@@ -21,7 +22,6 @@ use Rattle.pw_flowrun.specs.Programs.{Program, functions_of}
 use Rattle.pw_webrun.specs.Programs.{IsProgram}
 use Rattle.pw_layers.specs.Lowering.{DeclareAlike}
 use Rattle.pw_alike.specs.Alike.{shown}
-use Rattle.pw_alike.proofs.Names.{right_distinct}
 use Rattle.pw_alike.proofs.Mains.{main_found}
 use Rattle.pw_accepted.specs.Few.{AreFew}
 use Rattle.pw_accepted.proofs.Declared.{no_conflict}
@@ -64,7 +64,7 @@ module _ (q : Program) (is : IsProgram q) (alike : DeclareAlike q) where
 
   entries_once : (m : FlowModule) → Has m q.modules → AreDistinct (map (λ f. f.0) (function_entries m))
   entries_once m h =
-      subst AreDistinct (sym (seen function_entry (λ (e : List ℕ × List ℕ). e.0) m.functions)) (right_distinct (global_names m) (function_names m) (valid_there m h).names.distinct.defined)
+      subst AreDistinct (sym (seen function_entry (λ (e : List ℕ × List ℕ). e.0) m.functions)) (distinct_right (global_names m) (function_names m) (valid_there m h).names.distinct.defined)
 
   main_shown : HasMain (map shown q.modules)
   main_shown =

@@ -11,6 +11,7 @@ use Rattle.pw_flow.specs.declared.flow.FlowGlobal.{FlowGlobal}
 use Rattle.pw_flow.specs.declared.flow.FlowModule.{FlowModule}
 use Rattle.pw_flow.specs.FlowGraph.{function_names, global_names, names_in_global, names_in_function, named_in}
 use Rattle.pw_flow.specs.ValidFlow.{AreDistinct, IsValid}
+use Rattle.pw_flow.proofs.Once.{distinct_left, distinct_right}
 use Rattle.pw_files.proofs.Standing.{Has, has_by, contains_by, each_by, has_left, has_right, has_split, has_map, has_map_back, has_flat, stands_or_not}
 use Rattle.pw_files.proofs.Views.{seen}
 use Rattle.pw_db.specs.declared.database.Directives.{Directives}
@@ -24,24 +25,15 @@ use Rattle.pw_object.specs.declared.object.Object.{Object}
 use Rattle.pw_object.specs.declared.functions.ObjectFn.{ObjectFn}
 use Rattle.pw_object.specs.Object as object
 use Rattle.pw_phases.specs.Phases.{compiled, all_compiled}
+use Rattle.pw_phases.proofs.ObjectLaws.{compiled_names as names_compiled}
 use Rattle.pw_program.specs.Linking.{names_in}
 use Rattle.pw_interface.specs.Interface.{names_of_fixes, main_of, interface}
 use Rattle.pw_graph.specs.Program.{main_in, interface_of}
 use Rattle.pw_alike.specs.Alike.{shown, DeclaresMain, globals_of, IsObjectIn}
-use Rattle.pw_alike.proofs.Names.{same_count, rising_distinct, both_distinct, left_distinct, right_distinct, across_distinct}
+use Rattle.pw_alike.proofs.Names.{same_count, rising_distinct, both_distinct, across_distinct}
 use Rattle.pw_alike.proofs.Mains.{main_found, main_lacks, lookup_found, any_found, any_lacks}
 use Rattle.pw_alike.proofs.CodeNames.{compiled_names}
 use Rattle.pw_alike.proofs.Tests.{Alike, UsesAlike}
-
--- ---- functions have the names of the module's
-
-tails : (n m : List ℕ) (ns ms : List (List ℕ)) → n ∷ ns ≡ m ∷ ms → ns ≡ ms
-tails n m ns ms e = cc
-
-names_compiled : (fs : List FlowFn) (ds : List (List ℕ × Directives)) → map (λ d. d.0) ds ≡ map (λ f. f.name) fs → map (λ o. o.name) (all_compiled fs ds) ≡ map (λ f. f.name) fs
-names_compiled [] ds e = refl
-names_compiled (f ∷ fs) [] e = absurd cc
-names_compiled (f ∷ fs) (d ∷ ds) e = ap (λ (ns : List (List ℕ)). f.name ∷ ns) (names_compiled fs ds (tails d.0 f.name (map (λ d. d.0) ds) (map (λ f. f.name) fs) e))
 
 -- ---- names in relocations
 
@@ -87,10 +79,10 @@ module _ (m : FlowModule) (s : Summary) (valid : IsValid m) (of : Summarises m s
       has_by n (map (λ g. g.0) s.globals) (keys_back (λ g. g.0) (map global_entry m.globals) s.globals of.globals n (contains_by n (map (λ g. g.0) (map global_entry m.globals)) there))
 
   functions_once : AreDistinct (function_names m)
-  functions_once = right_distinct (global_names m) (function_names m) valid.names.distinct.defined
+  functions_once = distinct_right (global_names m) (function_names m) valid.names.distinct.defined
 
   globals_once : AreDistinct (global_names m)
-  globals_once = left_distinct (global_names m) (function_names m) valid.names.distinct.defined
+  globals_once = distinct_left (global_names m) (function_names m) valid.names.distinct.defined
 
   apart : (n : List ℕ) → Has n (function_names m) → Has n (global_names m) → ⊥
   apart n h k = across_distinct (global_names m) (function_names m) valid.names.distinct.defined n k h

@@ -1,6 +1,5 @@
 -- Lists of names that stand once.
 use Rattle.std.proofs.Common.{◌≡◌, ◌≢◌, ℕ, suc, ◌≤◌, List, [], ◌∷◌, ◌++◌, length, refl, sym, ap, subst, ◌∙◌, arith, inl, inr}
-use Rattle.std.specs.List.{AllByRecursion}
 use Rattle.pw_flow.specs.ValidFlow.{AreDistinct}
 use Rattle.pw_files.specs.Rising.{IsRising, IsRisingBehind}
 use Rattle.pw_files.proofs.Standing.{Has, has_each, each_by, has_right, has_split}
@@ -57,18 +56,6 @@ both_distinct (x ∷ xs) ys one two across = (
   ]),
   both_distinct xs ys one.1 two (λ n h k. across n (inr h) k),
 )
-
-front_of : (P : List ℕ → Type 0) (xs ys : List (List ℕ)) → AllByRecursion P (xs ++ ys) → AllByRecursion P xs
-front_of P [] ys all = tt
-front_of P (x ∷ xs) ys all = (all.0, front_of P xs ys all.1)
-
-pub left_distinct : (xs ys : List (List ℕ)) → AreDistinct (xs ++ ys) → AreDistinct xs
-left_distinct [] ys all = tt
-left_distinct (x ∷ xs) ys all = (front_of (λ (o : List ℕ). o ≢ x) xs ys all.0, left_distinct xs ys all.1)
-
-pub right_distinct : (xs ys : List (List ℕ)) → AreDistinct (xs ++ ys) → AreDistinct ys
-right_distinct [] ys all = all
-right_distinct (x ∷ xs) ys all = right_distinct xs ys all.1
 
 pub across_distinct : (xs ys : List (List ℕ)) → AreDistinct (xs ++ ys) → (n : List ℕ) → Has n xs → Has n ys → ⊥
 across_distinct [] ys all n h k = h

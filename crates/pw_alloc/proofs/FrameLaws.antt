@@ -5,6 +5,7 @@ use Rattle.std.specs.List.{flat_map, AllByRecursion}
 use Rattle.pw_value.specs.Limits.{parameter_limit}
 use Rattle.pw_db.specs.Limits.{register_count}
 use Rattle.pw_flow.specs.ValidFlow.{slot_room, rooms}
+use Rattle.pw_flow.proofs.Rooms.{grows}
 use Rattle.pw_flow.specs.declared.flow.Op.TheVariants as op
 use Rattle.pw_webflow.specs.declared.web.WebOp.TheVariants.{Flow, Read, Write}
 use Rattle.pw_webflow.specs.declared.web.WebFn.{WebFn}
@@ -36,10 +37,6 @@ reach_of_rooms at room [] = omega arith
 reach_of_rooms at room (size ∷ slots) =
     let same : round8 (size + 1) ≡ slot_room size = ap (λ n. n / 8 * 8) (omega arith) in
     let h = reach_of_rooms (at + round8 (size + 1)) (room + slot_room size) slots in omega arith
-
-rooms_above : (room : ℕ) (slots : List ℕ) → room ≤ rooms room slots
-rooms_above room [] = omega arith
-rooms_above room (size ∷ slots) = let h = rooms_above (room + slot_room size) slots in omega arith
 
 -- ---- the calls of a lawful function have few arguments
 
@@ -85,7 +82,7 @@ pub record Fits (f : WebFn) (saved temps : ℕ) : Type 0 where
 pub frame_fits : (f : WebFn) (saved temps : ℕ) → IsWebFn f → saved ≤ register_count → temps ≤ f.temps → Fits f saved temps
 frame_fits f saved temps h few below =
     let args = few_arguments f h in
-    let room = rooms_above (4 * f.temps) f.slots in
+    let room = grows (4 * f.temps) f.slots in
     let all = h.room in
     let e = reach_of_rooms (slots_begin (head_size f) saved temps) (4 * f.temps) f.slots in
     record { words = omega arith; reach = omega arith }

@@ -2,7 +2,7 @@
 use Rattle.std.specs.Prelude.{ℕ, ◌≡◌, ◌<◌, ◌≤◌, List, length, Contains}
 use Rattle.std.specs.List.{AllByRecursion}
 use Rattle.pw_db.specs.Database.{EachTwo}
-use Rattle.pw_db.specs.Limits.{first_register, last_register}
+use Rattle.pw_db.specs.Limits.{first_register, last_register, last_temporary}
 use Rattle.pw_webflow.specs.declared.web.WebFn.{WebFn}
 use Rattle.pw_webflow.specs.ValidWebs.{HasRegister, IsWebFn}
 use Rattle.pw_alloc.specs.declared.located.Place.{Place}
@@ -14,7 +14,7 @@ use Rattle.pw_alloc.specs.Allocation.{saved_of, in_frame}
 -- A register that a function uses is none of its webs, and it is saved unless every function may change it. A word of
 -- the frame is one of those for temporaries.
 abbrev pub IsPlace : Located → Place → Type 0
-IsPlace l (Reg r) = (first_register ≤ r) × (r ≤ 20) × ¬ HasRegister l.body.directives r × (r ≤ last_register → Contains l.saved r)
+IsPlace l (Reg r) = (first_register ≤ r) × (r ≤ last_temporary) × ¬ HasRegister l.body.directives r × (r ≤ last_register → Contains l.saved r)
 IsPlace l (Slot offset) =
     (i : ℕ) × ((i < in_frame l.places) × (offset ≡ temp_offset (head_size l.body) (length l.saved) i))
 

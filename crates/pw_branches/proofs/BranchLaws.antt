@@ -7,8 +7,8 @@ use Rattle.pw_tree.specs.declared.stmt.ElseIf.{ElseIf}
 use Rattle.pw_types.specs.TypedTrees as T
 use Rattle.pw_typed.specs.Views as typed
 use Rattle.pw_typed.specs.declared.tree.Arm.{Arm}
-use Rattle.pw_walk.specs.Walks.{Walk, Done, bind}
-use Rattle.pw_walk.proofs.CallLaws.{bind_assoc}
+use Rattle.pw_walk.specs.Walks.{Done, bind}
+use Rattle.pw_walk.proofs.CallLaws.{bind_assoc, bind_done}
 use Rattle.pw_rules.specs.States.{State}
 use Rattle.pw_rules.specs.Statements.{Behind, arms_behind, alternative_rule, stmt_rule}
 use Rattle.pw_labels.specs.Gathered.{gathered}
@@ -19,10 +19,6 @@ use Rattle.pw_branches.specs.declared.branches.Behind.{Behind as Made}
 use Rattle.pw_typed.proofs.Rows.{if_view}
 use Rattle.pw_typed.specs.Views.{view_stmt_form}
 use Rattle.pw_typed.specs.declared.tree.TStmtForm as TStmtForm
-
-bind_done : {A B : Type 0} (a : A) (next : A → Walk B) → bind (Done a) next ≡ next a
-unfolding bind
-bind_done a next = refl
 
 pub arms_more : (a : Alternative) (x : ElseIf) (xs : List ElseIf) (s : State)
     → alternative_rule (view_else_ifs (x ∷ xs) a) s

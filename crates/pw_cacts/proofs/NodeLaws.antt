@@ -5,6 +5,7 @@ use Rattle.pw_value.specs.declared.value.Value.{Value}
 use Rattle.pw_value.specs.Objects.{Object}
 use Rattle.pw_types.specs.TypeTrees.{CType, Void, Int, Pointer, Array, Function, Record, QType, type_of}
 use Rattle.pw_types.specs.Conversions.{promoted}
+use Rattle.pw_types.specs.WellTyped.{promoted_type}
 use Rattle.pw_types.specs.declared.kind.IntKind.{IntKind}
 use Rattle.pw_types.specs.declared.tree.StepOperator.{StepOperator}
 use Rattle.pw_cmean.specs.Worlds.{World}
@@ -137,11 +138,11 @@ itself (Some a) = refl
 
 -- ---- steps
 
-pub step_by : (e : Env) (token : ℕ) (op : StepOperator) (ty working : CType) (place : Value) → meaning.step_type ty ≡ working → meaning.step e token op ty place ≡ step_in e token op ty working place
+pub step_by : (e : Env) (token : ℕ) (op : StepOperator) (ty working : CType) (place : Value) → promoted_type ty ≡ working → meaning.step e token op ty place ≡ step_in e token op ty working place
 unfolding meaning.step step_in
 step_by e token op ty working place is = ap (λ w. step_in e token op ty w place) is
 
-pub step_integer : (ty : CType) (kind : IntKind) → working_kind ty ≡ Some kind → meaning.step_type ty ≡ Int kind
+pub step_integer : (ty : CType) (kind : IntKind) → working_kind ty ≡ Some kind → promoted_type ty ≡ Int kind
 step_integer Void kind e = cc e
 step_integer (Int k) kind e = let is : promoted k ≡ kind = cc e in ap Int is
 step_integer (Pointer q) kind e = cc e
@@ -149,7 +150,7 @@ step_integer (Array q count) kind e = cc e
 step_integer (Function q params) kind e = cc e
 step_integer (Record number) kind e = cc e
 
-pub step_plain : (ty : CType) → working_kind ty ≡ None → meaning.step_type ty ≡ ty
+pub step_plain : (ty : CType) → working_kind ty ≡ None → promoted_type ty ≡ ty
 step_plain Void e = refl
 step_plain (Int k) e = cc e
 step_plain (Pointer q) e = refl

@@ -1,6 +1,6 @@
 //! The bodies of functions (ISO C90 6.3.2.2, 6.6.6.4).
 
-ghost use Rattle.std.specs.Prelude.{◌≡◌, ◌≢◌, ◌+◌, ◌<◌, ◌≤◌, ◌^◌, IfErr, IfOk, MatchResult};
+ghost use Rattle.std.specs.Prelude.{◌≡◌, ◌≢◌, ◌+◌, IfErr, IfOk};
 ghost use Rattle.pw_cmean.specs.Acts.{during};
 ghost use Rattle.pw_cmean.specs.Evaluation.{bounded_call, site};
 ghost use Rattle.pw_cmean.specs.Execution as execution;
@@ -24,14 +24,8 @@ use pw_cworld::{Body, Part};
 use pw_lforms::full_name;
 use pw_typed::TFunction;
 use pw_value::Value;
+use pw_value::words::word_of;
 use std::alloc::{AllocError, Global};
-
-/// The local that is the parameter of a place. There is no memory for one that 32 bits cannot count, and for no other.
-fn parameter_at(place: usize) -> Result<u32, AllocError>
-    ensures { MatchResult result (λ local. local ≡ place) (λ _. 2 ^ 32 ≤ place) }
-{
-    u32::try_from(place).ok().ok_or(AllocError)
-}
 
 /// Puts the arguments of a call into the parameters, at the node of a token. Of more than 32 bits can count there is
 /// want of memory.
@@ -45,7 +39,7 @@ fn set_parameters<'a>(
     ensures { Answers (λ done. tt) (view_env env.now).world (runs.set_parameters (site (view_env env.now) token) 0 args.now (view_env env.now)) (view_state state.old) result (view_state state.new) }
 {
     for (k, value) in args.iter().enumerate() {
-        let local = parameter_at(k)?;
+        let local = word_of(k)?;
         set_local(alloc, env, state, token, local, *value)?;
     }
     Ok(())

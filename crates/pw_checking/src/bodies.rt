@@ -20,10 +20,10 @@ use crate::phrase::Bindings;
 use crate::places::put;
 use crate::state::{BodyState, State};
 use pw_entities::SwitchState;
-use pw_index::{CaseList, NameList, next_word};
+use pw_index::{CaseList, NameList};
 use pw_typed::{Case, Local};
 use pw_types::{IntKind, QType};
-use pw_value::words::word_of;
+use pw_value::words::{next_word, word_of};
 use std::alloc::{AllocError, Global};
 
 #[tactic(auto, unfolding(crate::specs::StateViews::view_state), using(crate::proofs::PlaceLemmas::map_push, crate::proofs::PlaceLemmas::length_map, crate::proofs::PlaceLemmas::map_put_at, crate::proofs::PlaceLemmas::reverse_push))]

@@ -24,9 +24,9 @@ use Rattle.pw_cmean.specs.Worlds.{Program, World, Callable, Body, Defined, Libra
 use Rattle.pw_cmean.specs.Acts.{Act, Site, StackFull, Bound, give, ◌>>=◌}
 use Rattle.pw_cmean.specs.Access.{fetch, load}
 use Rattle.pw_cmean.specs.Operators.{binary, convert}
-use Rattle.pw_cmean.specs.Evaluation.{Env, Calls as CallList, records_of, local_place, symbol_place, used, value_by, value_at, cast, bounded_call, take_room, library_call, call_body, call, callee_of, pointed, call_value, assigned, old_value, update, step_type, step_operator, step_result, step}
+use Rattle.pw_cmean.specs.Evaluation.{Env, Calls as CallList, records_of, local_place, symbol_place, used, value_by, value_at, cast, bounded_call, take_room, library_call, call_body, call, callee_of, pointed, call_value, assigned, old_value, update, step_operator, step_result, step}
 use Rattle.pw_cmean.specs.Typed.{IsNumberOf, IsPointer, IsValueOf, IsResultOf, IsLetterResult, result_letter}
-use Rattle.pw_types.specs.WellTyped.{IsScalar}
+use Rattle.pw_types.specs.WellTyped.{promoted_type, IsScalar}
 use Rattle.pw_cmean.proofs.NodeTypes.{IsPointerType, CanUpdate, CanCast, Calls, library_letter, IsTypedBody, IsTypedCallable, IsTypedProgram}
 use Rattle.pw_cmean.proofs.ValueLaws.{word-of}
 use Rattle.pw_cmean.proofs.SoundActs.{Sound, Any, bind-s, give-s, stop-s, branch-s, wrong-s, need-s, undefined-s, judge-s, look-s, get_char-s, put_char-s}
@@ -273,7 +273,7 @@ update-s e t ty working p op right old w c h i =
     bind-s (new_value-s _ _ op working ty right old w c h i) λ new k. bind-s (convert-s _ ty new k) λ v x.
     bind-s (put-s _ _ _ ty p v) λ u y. give-s (IsValueOf ty) v x
 
-step-types : (ty : CType) → IsScalar ty → CanUpdate (step_type ty) ty (Int K.Int)
+step-types : (ty : CType) → IsScalar ty → CanUpdate (promoted_type ty) ty (Int K.Int)
 step-types (Int k) h = tt
 step-types (Pointer q) h = tt
 step-types Void h = absurd h
@@ -281,7 +281,7 @@ step-types (Array q n) h = absurd h
 step-types (FunctionType q ps) h = absurd h
 step-types (Record n) h = absurd h
 
-step-converts : (ty : CType) (v : Value) → IsScalar ty → IsValueOf ty v → Converts (step_type ty) v
+step-converts : (ty : CType) (v : Value) → IsScalar ty → IsValueOf ty v → Converts (promoted_type ty) v
 step-converts (Int k) v h i = integer-value k v i
 step-converts (Pointer q) v h i = tt
 step-converts Void v h i = absurd h
@@ -298,8 +298,8 @@ step-result DecrementBehind ty old new h k = h
 pub step-s : (e : Env) (t : ℕ) (op : StepOperator) (ty : CType) (p : Value) → IsScalar ty → Sound (IsValueOf ty) (step e t op ty p)
 unfolding step
 step-s e t op ty p sc =
-    bind-s (load-s _ ty p sc) λ old h. bind-s (convert-s _ (step_type ty) old (step-converts ty old sc h)) λ v i.
-    bind-s (update-s e t ty (step_type ty) p (step_operator op) (Int K.Int) v (V.Num 1) (step-types ty sc) (small-value (step_type ty) v i) (omega arith)) λ new k.
+    bind-s (load-s _ ty p sc) λ old h. bind-s (convert-s _ (promoted_type ty) old (step-converts ty old sc h)) λ v i.
+    bind-s (update-s e t ty (promoted_type ty) p (step_operator op) (Int K.Int) v (V.Num 1) (step-types ty sc) (small-value (promoted_type ty) v i) (omega arith)) λ new k.
     give-s (IsValueOf ty) _ (step-result op ty old new h k)
 
 -- the value of an assignment

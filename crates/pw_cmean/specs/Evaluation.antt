@@ -160,10 +160,6 @@ step_operator IncrementBehind = Add
 step_operator DecrementBefore = Subtract
 step_operator DecrementBehind = Subtract
 
--- in the promoted type
-abbrev pub step_type : CType → CType
-step_type = promoted_type
-
 -- behind its operand the value is the old one
 abbrev pub step_result : StepOperator → Value → Value → Value
 step_result IncrementBefore old new = new
@@ -171,11 +167,12 @@ step_result DecrementBefore old new = new
 step_result IncrementBehind old new = old
 step_result DecrementBehind old new = old
 
+-- they work in the promoted type
 unfoldable pub step : Env → ℕ → StepOperator → CType → Value → Act Value
 step e token op ty place = do
   old ← load (site e token) ty place
-  v ← convert (site e token) (step_type ty) old
-  new ← update e token ty (step_type ty) place (step_operator op) (Int K.Int) v (V.Num 1)
+  v ← convert (site e token) (promoted_type ty) old
+  new ← update e token ty (promoted_type ty) place (step_operator op) (Int K.Int) v (V.Num 1)
   give (step_result op old new)
 
 -- ---- expressions

@@ -13,6 +13,7 @@ use Rattle.pw_files.specs.Rising.{IsRising}
 use Rattle.pw_flow.specs.declared.flow.FlowGlobal.{FlowGlobal}
 use Rattle.pw_flow.specs.declared.flow.FlowFn.{FlowFn}
 use Rattle.pw_flow.specs.ValidFlow.{AreDistinct}
+use Rattle.pw_flow.proofs.Once.{distinct_right}
 use Rattle.pw_db.specs.declared.database.Directives.{Directives}
 use Rattle.pw_webflow.specs.Direction.{directed}
 use Rattle.pw_alloc.specs.declared.located.Located.{Located}
@@ -21,7 +22,7 @@ use Rattle.pw_delay.specs.Placement.{laid, placed}
 use Rattle.pw_object.specs.declared.object.Object.{Object}
 use Rattle.pw_milli.specs.Library.{routines}
 use Rattle.pw_link.specs.Layout.{is_before, in_order, Piece, piece_of, routine_piece, routine_pieces, function_pieces, pieces_of, Placed, placed_from, text_of, word_count, Standing, standing_from, data_of, data_size, data_begin, stack_end, function_site, global_site, address_in}
-use Rattle.pw_flow.specs.ValidFlow.{taken}
+use Rattle.pw_flow.specs.ValidFlow.{global_room}
 use Rattle.pw_link.specs.Layout as link
 use Rattle.pw_link.specs.Linking.{function_of, global_of, size_fault, linked}
 use Rattle.pw_link_laws.proofs.Ordered.{modules_stay}
@@ -33,7 +34,7 @@ use Rattle.pw_webrun.specs.Serving.{AllServe}
 use Rattle.pw_lines.specs.Addresses.{AreLawful}
 use Rattle.pw_linkrun.specs.Laws.{compiled, AreObjectsOf, AreNamesApart, address_of}
 use Rattle.pw_code_laws.specs.LinkedAddresses.{linked_addresses}
-use Rattle.pw_code_laws.proofs.NamedAddresses.{piece_names, function_found, any_named, one_function, behind_functions, global_names, offset_of, global_found, Stands, global_stands, globals_apart, name_there, distinct_right, others_before}
+use Rattle.pw_code_laws.proofs.NamedAddresses.{piece_names, function_found, any_named, one_function, behind_functions, global_names, offset_of, global_found, Stands, global_stands, globals_apart, name_there, others_before}
 
 -- ---- the modules stand in order already
 
@@ -196,7 +197,7 @@ function_at p objects f k c =
 
 record IsGlobalAt (p : Program) (objects : List Object) (g : FlowGlobal) : Type 0 where
   is : address_of (linked objects p.stack) g.name ≡ data_begin objects + offset_of 0 (link.globals_of objects) g.name
-  stands : Stands 0 (offset_of 0 (link.globals_of objects) g.name) (taken g) (0 + data_size objects)
+  stands : Stands 0 (offset_of 0 (link.globals_of objects) g.name) (global_room g) (0 + data_size objects)
 
 global_at : (p : Program) (objects : List Object) (g : FlowGlobal) → Known p objects → Contains (link.globals_of objects) g → IsGlobalAt p objects g
 unfolding named_sites

@@ -20,7 +20,7 @@ use Rattle.pw_alloc.proofs.FrameLaws.{frame_fits}
 use Rattle.pw_registers.proofs.Placeable.{Fits, below_fits, PlaceGood}
 use Rattle.pw_oplines.specs.Operations.{Layout, layout}
 use Rattle.pw_select.specs.Selection.{slot_offsets}
-use Rattle.pw_select.proofs.PlaceableFn.{Good, LayoutGood, selected_good}
+use Rattle.pw_select.proofs.PlaceableFn.{Good, LayoutGood, all_below_fit, selected_good}
 use Rattle.pw_alloc.proofs.SavedLaws.{few_between}
 use Rattle.pw_webrun.specs.Serving.{slots_alone, Changes, places, enters, Serves}
 use Rattle.pw_linkrun.specs.CodeStands.{AreReady, SelectionIsReady}
@@ -58,10 +58,6 @@ places_good : (ps : List Place) → ((r : ℕ) → Contains ps (Reg r) → r < 3
 places_good [] small all = tt
 places_good (Slot offset ∷ rest) small all = (all.0, places_good rest (λ r c. small r (suc c.0, omega (arith, c.1), c.2)) all.1)
 places_good (Reg r ∷ rest) small all = (small r (0, omega arith, refl), places_good rest (λ q c. small q (suc c.0, omega (arith, c.1), c.2)) all)
-
-all_below_fit : (ns : List ℕ) → AllByRecursion Fits (map below ns)
-all_below_fit [] = tt
-all_below_fit (n ∷ rest) = (below_fits n, all_below_fit rest)
 
 -- ---- all of it
 

@@ -1,6 +1,6 @@
 -- The registers of webs, one web after another.
 use Rattle.std.proofs.Common.{◌≡◌, ◌⊎◌, ℕ, zero, suc, ◌+◌, ◌-◌, ◌<◌, ◌≤◌, List, [], ◌∷◌, ◌++◌, length, get_or, take, map, refl, sym, ap, subst, ◌∙◌, arith, inl, inr, length-append}
-use Rattle.std.specs.Prelude.{Option, Some, None, vec_len, IfSome, IfNone, pos, ◌<ℤ◌}
+use Rattle.std.specs.Prelude.{Option, Some, None, vec_len}
 use Rattle.std.proofs.lemmas.Bool.{cases_eq}
 use Rattle.std.proofs.lemmas.Grind.{take_at_read}
 use Rattle.pw_files.proofs.Standing.{Has, has_each, has_by, contains_by, has_left, has_right, has_split}
@@ -14,7 +14,7 @@ use Rattle.pw_webs.specs.declared.web.RawWeb.{RawWeb}
 use Rattle.pw_webs.specs.Webs.{IsSameWeb}
 use Rattle.pw_db.specs.Limits.{first_register}
 use Rattle.pw_colour.specs.Colours.{IsFree, IsColour, AreColoured}
-use Rattle.pw_colour.specs.Giving.{IsBusyIn, IsLeastFree, IsColourOf, IsGiven, AreAllBusy, paired}
+use Rattle.pw_colour.specs.Giving.{IsBusyIn, IsGiven, paired}
 
 -- a colour is busy in the functions of the webs that have its register
 pub record IsBusy (busy : BitRows) (done : List (RawWeb × Option ℕ)) : Type 0 where
@@ -177,7 +177,3 @@ busy_more busy members i here before k lt = elim (cases_eq k i) [
   | inl e ↦ subst (IsBusyIn busy members) (sym e) here
   | inr other ↦ before k (omega (arith, lt, other))
 ]
-
-pub colour_from : (busy : BitRows) (w : RawWeb) (r : Option ℕ) → (pos 0 <ℤ w.priority) → IfSome r (IsLeastFree busy w.members) → IfNone r (AreAllBusy busy w.members) → IsColourOf busy w r
-colour_from busy w None lt some none = inr none
-colour_from busy w (Some colour) lt some none = (lt, some)

@@ -10,14 +10,14 @@ ghost use Rattle.pw_commands.specs.Linking.{few_names, of_names};
 ghost use Rattle.pw_commands.specs.Needed.{AddsNeeded, Needs, all_needed, needed};
 ghost use Rattle.pw_commands.specs.Outcome.{IsFileStop, IsStop, StopCount};
 
-use crate::needed::{file_of, own_name, read_needed, refused};
+use crate::needed::{file_of, read_needed, refused};
 use pw_answer::Answer;
 use pw_io::Store;
 use pw_modules::module_names;
 use pw_object::Object;
 use pw_summary::Summary;
 use pw_value::limits::MODULE_LIMIT;
-use pw_value::{FileError, LinkFault, What};
+use pw_value::{FileError, LinkFault, Name, What};
 use std::alloc::Global;
 
 /// What stands in a kept file of its own kind.
@@ -76,7 +76,7 @@ fn needed_value<S: Store, K: Kept + Drop>(
     let bytes = read_needed(alloc, store, name)?;
     match K::read(alloc, &bytes) {
         Ok(value) => Ok(value),
-        Err(error) => Err(refused(own_name(alloc, name)?, error)),
+        Err(error) => Err(refused(Name::within(alloc, name.as_bytes())?, error)),
     }
 }
 

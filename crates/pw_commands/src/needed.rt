@@ -9,20 +9,8 @@ ghost use Rattle.pw_commands.specs.Outcome.{IsFileStop, StopCount};
 use pw_answer::Answer;
 use pw_io::{Store, StoreError};
 use pw_value::limits::KEPT_LIMIT;
-use pw_value::{FileError, Name, NameError};
+use pw_value::{FileError, Name};
 use std::alloc::{AllocError, Global};
-
-/// A needed file's name, for an answer to keep.
-pub fn own_name(alloc: Global, name: &str) -> Result<Name, AllocError>
-    requires { IsNameLength (length name.now) }
-    ensures { IfOk result (λ own. own ≡ name.now) }
-{
-    match Name::new(alloc, name.as_bytes()) {
-        Ok(own) => Ok(own),
-        Err(NameError::NoMemory) => Err(AllocError),
-        Err(NameError::Length) => unreachable!(),
-    }
-}
 
 /// The answer where a needed file is absent, or refused at an offset.
 pub fn bad_file(alloc: Global, name: &str, at: Option<usize>) -> Answer
@@ -30,7 +18,7 @@ pub fn bad_file(alloc: Global, name: &str, at: Option<usize>) -> Answer
     ensures bad { IsBadFile name.now at result }
     ensures stop { IsFileStop result }
 {
-    match own_name(alloc, name) {
+    match Name::within(alloc, name.as_bytes()) {
         Ok(own) => Answer::BadFile(own, at),
         Err(AllocError) => Answer::NoMemory,
     }

@@ -1,7 +1,8 @@
 //! The command `phase2`.
 
-ghost use Rattle.std.specs.Prelude.{◌≡◌, ℕ, List, Ok, ◌++◌, true, IfErr, IfOk, IfSome, codes, length};
+ghost use Rattle.std.specs.Prelude.{◌≡◌, ℕ, List, Ok, Err, true, IfErr, IfOk, IfSome, length};
 ghost use Rattle.pw_io.specs.Files.{Keeps};
+ghost use Rattle.pw_modules.specs.FileNames.{database_name, flow_name};
 ghost use Rattle.pw_answer.specs.Outcomes.{StoreCount};
 ghost use Rattle.pw_db.specs.Database.{IsDatabase};
 ghost use Rattle.pw_flow.specs.ValidFlow.{IsValid};
@@ -17,11 +18,12 @@ ghost use Rattle.pw_compiling.specs.Made.{MakesObject};
 
 use crate::files::{module_file, put_bytes};
 use pw_answer::Answer;
-use pw_commands::{own_name, read_needed, refused};
+use pw_commands::{read_needed, refused};
 use pw_db::Database;
 use pw_db::laws::directives_are_one;
 use pw_flow::FlowModule;
 use pw_io::Store;
+use pw_modules::{DATABASE_NAME, FLOW_ENDING, OBJECT_ENDING};
 use pw_object::Object;
 use pw_object::laws::objects_and_files_are_one_to_one;
 use pw_phases::laws::a_module_has_one_object;
@@ -41,22 +43,22 @@ fn flow_in<S: Store>(alloc: Global, store: &mut S, file: &str) -> Result<FlowMod
     let bytes = read_needed(alloc, store, file)?;
     match pw_flowfile::read(alloc, &bytes) {
         Ok(flow) => Ok(flow),
-        Err(error) => Err(refused(own_name(alloc, file)?, error)),
+        Err(error) => Err(refused(Name::within(alloc, file.as_bytes())?, error)),
     }
 }
 
 /// The database.
 fn needed_database<S: Store>(alloc: Global, store: &mut S) -> Result<Database, Answer>
-    ensures database { IfSome (S.told store.old) (λ told. Needs (λ db. db.functions) result (needed database_at told.files (codes "prog.db"))) }
+    ensures database { IfSome (S.told store.old) (λ told. Needs (λ db. db.functions) result (needed database_at told.files database_name)) }
     ensures lawful { IfOk result (λ db. IsDatabase db.functions) }
     ensures same { Keeps (S.told store.old) (S.told store.new) }
     ensures count { StopCount (S.faults store.old) (S.faults store.new) result }
     ensures stop { IfErr result IsFileStop }
 {
-    let bytes = read_needed(alloc, store, "prog.db")?;
+    let bytes = read_needed(alloc, store, DATABASE_NAME)?;
     match pw_db::read(alloc, &bytes) {
         Ok(db) => Ok(db),
-        Err(error) => Err(refused(own_name(alloc, "prog.db")?, error)),
+        Err(error) => Err(refused(Name::within(alloc, DATABASE_NAME.as_bytes())?, error)),
     }
 }
 
@@ -90,42 +92,49 @@ fn file_of_flow(alloc: Global, flow: &FlowModule, db: &Database) -> Result<Vec<u
     Ok(bytes)
 }
 
-/// The object's file of a flow graph, or the answer in its place.
-fn file_under<S: Store>(alloc: Global, store: &mut S, flow: &FlowModule) -> Result<Vec<u8>, Answer>
-    requires { IsValid flow.now }
-    ensures object { IfSome (S.told store.old) (λ told. MakesObject (Ok flow.now) (needed database_at told.files (codes "prog.db")) result) }
+/// The object's file of a flow graph under what was found of the database: an answer in the database's place is handed on.
+fn file_under(
+    alloc: Global,
+    flow: &FlowModule,
+    found: Result<Database, Answer>,
+) -> Result<Vec<u8>, Answer>
+    requires flow { IsValid flow.now }
+    requires database { IfOk found (λ db. IsDatabase db.functions) }
+    ensures object { (wanted : _) → Needs (λ db. db.functions) found wanted → MakesObject (Ok flow.now) wanted result }
     ensures made { IfOk result (λ bytes. IsMadeFile bytes.items) }
-    ensures same { Keeps (S.told store.old) (S.told store.new) }
-    ensures count { StopCount (S.faults store.old) (S.faults store.new) result }
-    ensures stop { IfErr result IsFileStop }
+    ensures count { (before after : ℕ) → StopCount before after found → StopCount before after result }
+    ensures stop { IfErr found IsFileStop → IfErr result IsFileStop }
+    ensures wants { IfOk found (λ _. IfErr result (λ answer. answer ≡ Answer.NoMemory)) }
+    ensures stopped { IfErr found (λ answer. result ≡ Err answer) }
 {
-    let db = needed_database(alloc, store)?;
+    let db = found?;
     Ok(file_of_flow(alloc, flow, &db)?)
 }
 
 /// The object's file of the flow graph in a file, or the answer in its place.
 fn object_file<S: Store>(alloc: Global, store: &mut S, file: &str) -> Result<Vec<u8>, Answer>
     requires { IsNameLength (length file.now) }
-    ensures object { IfSome (S.told store.old) (λ told. MakesObject (needed flow_at told.files file.now) (needed database_at told.files (codes "prog.db")) result) }
+    ensures object { IfSome (S.told store.old) (λ told. MakesObject (needed flow_at told.files file.now) (needed database_at told.files database_name) result) }
     ensures made { IfOk result (λ bytes. IsMadeFile bytes.items) }
     ensures same { Keeps (S.told store.old) (S.told store.new) }
     ensures count { StopCount (S.faults store.old) (S.faults store.new) result }
     ensures stop { IfErr result IsFileStop }
 {
     let flow = flow_in(alloc, store, file)?;
-    file_under(alloc, store, &flow)
+    let found = needed_database(alloc, store);
+    file_under(alloc, &flow, found)
 }
 
 /// The file of a module's object, or the answer in its place.
 fn object_bytes<S: Store>(alloc: Global, store: &mut S, name: &Name) -> Result<Vec<u8>, Answer>
     requires { is_module_name name.now ≡ true }
-    ensures object { IfSome (S.told store.old) (λ told. MakesObject (needed flow_at told.files (name.now ++ codes ".flow")) (needed database_at told.files (codes "prog.db")) result) }
+    ensures object { IfSome (S.told store.old) (λ told. MakesObject (needed flow_at told.files (flow_name name.now)) (needed database_at told.files database_name) result) }
     ensures made { IfOk result (λ bytes. IsMadeFile bytes.items) }
     ensures same { Keeps (S.told store.old) (S.told store.new) }
     ensures count { StopCount (S.faults store.old) (S.faults store.new) result }
     ensures stop { IfErr result IsFileStop }
 {
-    let file = module_file(alloc, name, ".flow")?;
+    let file = module_file(alloc, name, FLOW_ENDING)?;
     object_file(alloc, store, file.as_str())
 }
 
@@ -145,7 +154,7 @@ pub fn compile_flow<S: Store>(alloc: Global, store: &mut S, name: &Name) -> Answ
     a_module_has_one_object();
     objects_and_files_are_one_to_one();
     match object_bytes(alloc, store, name) {
-        Ok(bytes) => put_bytes(alloc, store, name, ".obj", &bytes),
+        Ok(bytes) => put_bytes(alloc, store, name, OBJECT_ENDING, &bytes),
         Err(answer) => answer,
     }
 }

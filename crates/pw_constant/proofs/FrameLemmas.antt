@@ -1,5 +1,5 @@
 -- Operators along the first operands, and what an expression is by its form.
-use Rattle.std.proofs.Common.{◌≡◌, ℕ, Bool, true, false, ◌&&◌, if◌then◌else◌, List, [], ◌∷◌, ◌++◌, refl, ap, sym, ◌∙◌}
+use Rattle.std.proofs.Common.{◌≡◌, ◌<◌, ℕ, Bool, true, false, ◌&&◌, if◌then◌else◌, List, [], ◌∷◌, ◌++◌, refl, ap, sym, subst, ◌∙◌}
 use Rattle.pw_types.specs.Conversions.{is_signed_kind}
 use Rattle.pw_types.specs.declared.kind.IntKind.{IntKind}
 use Rattle.pw_types.specs.declared.tree.UnaryOperator.{UnaryOperator}
@@ -10,7 +10,11 @@ use Rattle.pw_rules.specs.Constants.{Constancy, Known, NoConstant, constant_of, 
 use Rattle.pw_rules.specs.Kinds.{is_integral, kind_in}
 use Rattle.pw_types.specs.WellTyped.{type_in}
 use Rattle.pw_rules.proofs.Booleans.{no}
-use Rattle.pw_constant.specs.Frames.{applied, binary_of, formed, unwound}
+use Rattle.pw_typed.specs.declared.tree.TExpr.{TExpr}
+use Rattle.pw_typed.specs.declared.tree.TForm.{size-TForm}
+use Rattle.pw_constant.specs.Frames.{applied, binary_of, formed, unwound, IsPartOf, LeadsTo}
+use Rattle.pw_constant.specs.declared.constants.Turn.{Turn}
+use Rattle.pw_constant.specs.declared.constants.Turn.TheVariants as turn
 use Rattle.pw_constant.specs.declared.frames.Frame.{Frame}
 
 -- one operator more, next to the operand
@@ -74,3 +78,8 @@ by_form t (Qualified (Pointer q) c v) form h = no h
 by_form t (Qualified (Array q n) c v) form h = no h
 by_form t (Qualified (Function q ps) c v) form h = no h
 by_form t (Qualified (Record n) c v) form h = no h
+
+-- a step to a part of an expression
+pub part_below : (t : Turn) (a e : TExpr) → LeadsTo t a → size-TForm a.form < size-TForm e.form → IsPartOf t e
+part_below (turn.Ends c) a e l h = tt
+part_below (turn.Goes f b) a e l h = subst (λ (x : TExpr). size-TForm x.form < size-TForm e.form) (sym l) h

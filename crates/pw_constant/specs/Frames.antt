@@ -1,5 +1,5 @@
 -- What operators make of their first operands, when their others are known.
-use Rattle.std.specs.Prelude.{◌<◌, Bool, ◌&&◌, if◌then◌else◌, List, [], ◌∷◌}
+use Rattle.std.specs.Prelude.{◌≡◌, ◌<◌, Bool, ◌&&◌, if◌then◌else◌, List, [], ◌∷◌}
 use Rattle.pw_types.specs.Conversions.{is_signed_kind}
 use Rattle.pw_types.specs.TypedTrees.{Form}
 use Rattle.pw_types.specs.TypedTrees as T
@@ -27,6 +27,9 @@ logic_of op a b = then_formed b (then_known a (λ n. logic_word op n b))
 abbrev pub choice_of : Constancy → Constancy → Constancy → Constancy
 choice_of a b c = then_formed b (then_formed c (then_known a (λ n. choice_word n b c)))
 
+abbrev pub cast_of : IntKind → Constancy → Constancy
+cast_of kind a = then_known a (λ n. Known (convert_word kind n))
+
 -- of this integral type, by its form
 abbrev pub formed : IntKind → Form → Constancy
 formed kind (T.Number n) = Known n
@@ -38,7 +41,7 @@ formed kind (T.Binary op a b) =
 formed kind (T.Logic op a b) = logic_of op (constant_of a) (constant_of b)
 formed kind (T.Cond a b c) = choice_of (constant_of a) (constant_of b) (constant_of c)
 formed kind (T.Cast a) =
-    if is_integral (type_in a) then then_known (constant_of a) (λ n. Known (convert_word kind n)) else NoConstant
+    if is_integral (type_in a) then cast_of kind (constant_of a) else NoConstant
 formed kind _ = NoConstant
 
 -- by what the first operand is
@@ -47,7 +50,7 @@ applied (frame.Unary op kind) a = then_known a (λ n. unary_word op kind n)
 applied (frame.Binary op signed b) a = binary_of op signed a (view_constancy b)
 applied (frame.Logic op b) a = logic_of op a (view_constancy b)
 applied (frame.Choice b c) a = choice_of a (view_constancy b) (view_constancy c)
-applied (frame.Cast kind) a = then_known a (λ n. Known (convert_word kind n))
+applied (frame.Cast kind) a = cast_of kind a
 
 -- several, from the outermost operator inward
 abbrev pub unwound : List Frame → Constancy → Constancy
@@ -63,3 +66,8 @@ constancy_by (turn.Goes f a) = applied f (constant_of (view_expr a.now))
 abbrev pub IsPartOf : Turn → TExpr → Type 0
 IsPartOf (turn.Ends c) e = Unit {0}
 IsPartOf (turn.Goes f a) e = size-TForm a.now.form < size-TForm e.form
+
+-- where the step leads to an expression, it is this one
+abbrev pub LeadsTo : Turn → TExpr → Type 0
+LeadsTo (turn.Ends c) a = Unit {0}
+LeadsTo (turn.Goes f b) a = b.now ≡ a

@@ -1,16 +1,20 @@
 //! Integral constant expressions (ISO C90 6.4). A chain of operators may be longer than the stack is deep, so the first
 //! operands are gone down by a loop.
 
-ghost use Rattle.std.specs.Prelude.{◌≡◌, IfOk};
-ghost use Rattle.pw_constant.specs.Frames.{constancy_by, IsPartOf};
+ghost use Rattle.std.specs.Prelude.{◌≡◌, ◌&&◌, if◌then◌else◌, IfOk};
+ghost use Rattle.pw_constant.specs.Frames.{binary_of, cast_of, constancy_by, IsPartOf, LeadsTo};
 ghost use Rattle.pw_constant.specs.Views.{view_constancy};
 ghost use Rattle.pw_rules.specs.Constants as spec;
+ghost use Rattle.pw_rules.specs.Kinds as kinds;
 ghost use Rattle.pw_typed.specs.Views.{view_expr};
+ghost use Rattle.pw_types.specs.Conversions.{is_signed_kind};
+ghost use Rattle.pw_types.specs.WellTyped.{type_in};
 
 use crate::constancy::Constancy;
 use crate::frames::{Frame, unwind};
 use pw_kinds::{is_integral, kind_in};
 use pw_typed::{TExpr, TForm};
+use pw_types::{BinaryOperator, IntKind};
 use std::alloc::{AllocError, Global};
 
 /// Where the value of an expression is to be sought: it is known, or an operator makes it of the first operand.
@@ -39,9 +43,42 @@ pub fn constant_of(alloc: Global, e: &TExpr) -> Result<Constancy, AllocError>
     }
 }
 
+/// One step down from a conversion to this type, which is no constant where its operand is of no integral type.
+fn cast_turn<'a>(kind: IntKind, a: &'a TExpr) -> Turn<'a>
+    ensures value { constancy_by result
+        ≡ if kinds.is_integral (type_in (view_expr a.now)) then cast_of kind (spec.constant_of (view_expr a.now)) else spec.NoConstant }
+    ensures down { LeadsTo result a.now }
+{
+    if !is_integral(&a.ty.ty) {
+        return Turn::Ends(Constancy::NoConstant);
+    }
+    Turn::Goes(Frame::Cast(kind), a)
+}
+
+/// One step down from a binary operator to its first operand, with what the second is. No constant is made of operands
+/// of which one is of no integral type.
+#[cycle(constants)]
+fn binary_turn<'a>(
+    alloc: Global,
+    operator: BinaryOperator,
+    b: &TExpr,
+    a: &'a TExpr,
+) -> Result<Turn<'a>, AllocError>
+    ensures value { IfOk result (λ way. constancy_by way
+        ≡ if kinds.is_integral (type_in (view_expr a.now)) && kinds.is_integral (type_in (view_expr b.now)) then binary_of operator (is_signed_kind (kinds.kind_in (type_in (view_expr a.now)))) (spec.constant_of (view_expr a.now)) (spec.constant_of (view_expr b.now)) else spec.NoConstant) }
+    ensures down { IfOk result (λ way. LeadsTo way a.now) }
+{
+    if !is_integral(&a.ty.ty) || !is_integral(&b.ty.ty) {
+        return Ok(Turn::Ends(Constancy::NoConstant));
+    }
+    let signed = kind_in(&a.ty.ty).is_signed();
+    let second = constant_of(alloc, b)?;
+    Ok(Turn::Goes(Frame::Binary(operator, signed, second), a))
+}
+
 /// One step down the first operands, with the other operands of the node.
 #[cycle(constants)]
-#[tactic(auto, unfolding(pw_typed::specs::Views::view_form), using(crate::proofs::FrameLemmas::not_integral, crate::proofs::FrameLemmas::by_form))]
+#[tactic(auto, unfolding(pw_typed::specs::Views::view_form), using(crate::proofs::FrameLemmas::not_integral, crate::proofs::FrameLemmas::by_form, crate::proofs::FrameLemmas::part_below))]
 fn next_turn<'a>(alloc: Global, e: &'a TExpr) -> Result<Turn<'a>, AllocError>
     ensures value { IfOk result (λ way. constancy_by way ≡ spec.constant_of (view_expr e.now)) }
     ensures smaller { IfOk result (λ way. IsPartOf way e.now) }
@@ -54,20 +91,8 @@ fn next_turn<'a>(alloc: Global, e: &'a TExpr) -> Result<Turn<'a>, AllocError>
         TForm::Unary(operator, a) => {
             Ok(Turn::Goes(Frame::Unary(*operator, kind_in(&a.ty.ty)), a))
         }
-        TForm::Cast(a) => {
-            if !is_integral(&a.ty.ty) {
-                return Ok(Turn::Ends(Constancy::NoConstant));
-            }
-            Ok(Turn::Goes(Frame::Cast(kind_in(&e.ty.ty)), a))
-        }
-        TForm::Binary(operator, a, b) => {
-            if !is_integral(&a.ty.ty) || !is_integral(&b.ty.ty) {
-                return Ok(Turn::Ends(Constancy::NoConstant));
-            }
-            let signed = kind_in(&a.ty.ty).is_signed();
-            let second = constant_of(alloc, b)?;
-            Ok(Turn::Goes(Frame::Binary(*operator, signed, second), a))
-        }
+        TForm::Cast(a) => Ok(cast_turn(kind_in(&e.ty.ty), a)),
+        TForm::Binary(operator, a, b) => binary_turn(alloc, *operator, b, a),
         TForm::Logic(operator, a, b) => {
             let second = constant_of(alloc, b)?;
             Ok(Turn::Goes(Frame::Logic(*operator, second), a))

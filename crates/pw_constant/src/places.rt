@@ -25,7 +25,7 @@ pub enum Way<'t> {
     Moves(Move, &'t TExpr, Asked),
 }
 
-/// The size of a type, where it has one; want of memory where 64 bits cannot tell it, which no type within the limits
+/// The size of a type, where it has one; want of memory where it is 2^64 - 1 or more, which no type within the limits
 /// comes to.
 #[tactic(auto, using(crate::proofs::SizeLemmas::size_beyond))]
 pub fn told_size(types: &Types, ty: &CType) -> Result<Option<u64>, AllocError>
@@ -38,7 +38,7 @@ pub fn told_size(types: &Types, ty: &CType) -> Result<Option<u64>, AllocError>
     }
 }
 
-/// The size of what a pointer points to, where it has one, else 0; want of memory where 64 bits cannot tell it.
+/// The size of what a pointer points to, where it has one, else 0; want of memory where it is 2^64 - 1 or more.
 fn step_of(types: &Types, ty: &CType) -> Result<u64, AllocError>
     ensures told { IfOk result (λ bytes. bytes ≡ spec.step_of types.now (view_type ty.now)) }
     ensures wants { OnErr result (2 ^ 64 - 1 ≤ spec.step_of types.now (view_type ty.now)) }
@@ -96,8 +96,8 @@ fn next_way<'t>(
     }
 }
 
-/// One step of an expression that is asked for the place that it denotes; want of memory where 64 bits cannot tell the
-/// size of the object.
+/// One step of an expression that is asked for the place that it denotes; want of memory where the size of the object is
+/// 2^64 - 1 or more.
 #[tactic(auto, unfolding(pw_typed::specs::Views::view_form, pw_rules::specs::Constants::place_of))]
 fn place_way<'t>(types: &Types, e: &'t TExpr) -> Result<Way<'t>, AllocError>
     ensures value { IfOk result (λ way. place_by types.now way ≡ spec.place_of types.now spec.AsPlace (view_expr e.now)) }

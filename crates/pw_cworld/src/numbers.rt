@@ -7,6 +7,7 @@ ghost use Rattle.pw_cworld.specs.Views.{view_callables};
 
 use crate::program::Callable;
 use pw_value::program_names::START;
+use pw_value::words::word_of;
 use std::alloc::{AllocError, Global};
 use std::cmp::Ordering;
 
@@ -34,9 +35,7 @@ fn number_of(callables: &[Callable], name: &[u8]) -> usize
 fn number_word(callables: &[Callable], name: &[u8]) -> Result<u32, AllocError>
     ensures { MatchResult result (λ number. number ≡ number_among (view_callables callables.now) name.now) (λ _. 2 ^ 32 ≤ number_among (view_callables callables.now) name.now) }
 {
-    u32::try_from(number_of(callables, name))
-        .ok()
-        .ok_or(AllocError)
+    word_of(number_of(callables, name))
 }
 
 /// The number of each function.

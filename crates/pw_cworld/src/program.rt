@@ -9,7 +9,7 @@ ghost use Rattle.pw_cmean.specs.Worlds as worlds;
 ghost use Rattle.pw_cworld.specs.Views.{view_part, view_program, view_callable, view_callables, view_library};
 
 use pw_kinds::{copy_type, plain};
-use pw_lforms::{full_name, name_of};
+use pw_lforms::full_name;
 use pw_typed::{TFunction, TModule};
 use pw_types::{CType, Types, shape};
 use pw_value::program_names::{EXIT, EXIT_SHAPE, GETCHAR, GETCHAR_SHAPE, PUTCHAR, PUTCHAR_SHAPE};
@@ -79,7 +79,7 @@ fn built_in<'a>(
     ensures { IfOk result (λ c. view_callable c ≡ record { name = name.now; shape = shape.now; body = worlds.Library (view_library body) }) }
 {
     Ok(Callable {
-        name: name_of(alloc, name)?,
+        name: Name::within(alloc, name)?,
         shape: Shape::new(Vec::from_slice(alloc, shape)?),
         body: Body::Library(body),
     })

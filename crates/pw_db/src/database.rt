@@ -9,7 +9,7 @@ pub struct Web {
     pub id: u32,
     pub global: Name,
     pub kind: Kind,
-    /// The register, from 3 to 18.
+    /// The register, one of those that a callee keeps, from `FIRST_REGISTER` to `LAST_REGISTER`.
     pub reg: u8,
     /// Whether a function of the web writes the global.
     pub writes: bool,

@@ -13,7 +13,7 @@ mod writing;
 
 pub use choosing::of_module;
 pub use database::{Database, Directives, Role, Web};
-pub use limits::{COLOUR_LIMIT, FIRST_REGISTER, LAST_REGISTER};
+pub use limits::{COLOUR_LIMIT, FIRST_REGISTER, LAST_REGISTER, LAST_TEMPORARY};
 pub use reading::{KIND, read, read_payload};
 pub use storing::payload;
 pub use writing::write;

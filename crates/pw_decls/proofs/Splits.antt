@@ -12,23 +12,14 @@ use Rattle.pw_tree.specs.declared.expr.Specifier.{Specifier}
 use Rattle.pw_tree.specs.declared.expr.Specifier as specifier
 use Rattle.pw_tree.specs.Views.{view_expr, view_specifier, view_specifiers, view_members, view_member_declarator, view_member_declarators, view_enumerator, view_enumerators}
 use Rattle.pw_types.specs.TypeTrees.{MemberValue}
-use Rattle.pw_walk.specs.Causes.{Constraint}
-use Rattle.pw_walk.specs.Walks.{Walk, Done, Closed, bind, outcome}
-use Rattle.pw_walk.proofs.CallLaws.{bind_assoc}
+use Rattle.pw_walk.specs.Walks.{bind, outcome}
+use Rattle.pw_walk.proofs.CallLaws.{bind_assoc, bind_done, bind_closed}
 use Rattle.pw_rules.specs.Declarations.{specified_rule}
 use Rattle.pw_rules.specs.Phrases.{specifiers_rule, members_rule, member_declarators_rule, enumerators_rule}
 use Rattle.pw_rules.specs.SpecifierLists.{Gathered, Specified}
 use Rattle.pw_rules.specs.States.{Rule, State}
 use Rattle.pw_rules.specs.Statements.{whole_rule}
 use Rattle.pw_decls.specs.Specifying.{basic_rule, typedef_name_rule, record_tag_rule, record_rule, record_list_rule, enumeration_tag_rule, listed_enumeration, enumeration_list_rule, first_specifier, member_declaration, bit_field_rule, plain_member_rule, first_member, valued_enumerator, first_enumerator}
-
-bind_done : {A B : Type 0} (a : A) (next : A → Walk B) → bind (Done a) next ≡ next a
-unfolding bind
-bind_done a next = refl
-
-bind_closed : {A B : Type 0} (constraint : Constraint) (token : ℕ) (next : A → Walk B) → bind (Closed constraint token) next ≡ Closed constraint token
-unfolding bind
-bind_closed constraint token next = refl
 
 -- ---- specifiers
 

@@ -8,10 +8,9 @@ use Rattle.pw_tree.specs.declared.expr.Parameter.{Parameter}
 use Rattle.pw_tree.specs.declared.expr.Suffix.{Suffix}
 use Rattle.pw_tree.specs.declared.expr.Suffix as suffix
 use Rattle.pw_tree.specs.Views.{view_expr, view_suffix, view_suffixes, view_specifiers, view_declarator, view_parameters}
-use Rattle.pw_walk.specs.Causes.{Constraint}
 use Rattle.pw_walk.specs.Walks.{Walk, Done, Passing, Closed, bind, outcome}
 use Rattle.pw_walk.proofs.BindLaws.{bind_made}
-use Rattle.pw_walk.proofs.CallLaws.{bind_assoc, same_call, step_err}
+use Rattle.pw_walk.proofs.CallLaws.{bind_assoc, bind_done, bind_closed, same_call, step_err}
 use Rattle.pw_walk.specs.Calls.{Obeys}
 use Rattle.pw_walk.specs.declared.fault.CheckFault.{CheckFault}
 use Rattle.pw_rules.specs.Declarations.{specified_rule}
@@ -21,14 +20,6 @@ use Rattle.pw_rules.specs.Phrases.{suffixes_rule, parameters_rule}
 use Rattle.pw_rules.specs.States.{Rule, State, one_deeper, leave_scope, scoped}
 use Rattle.pw_rules.specs.Statements.{whole_rule}
 use Rattle.pw_derived.specs.Declaring.{array_length_rule, within_list, listed_rule, prototype_rule, first_suffix, nothing_read, before_rest, suffixes_behind, suffix_behind, one_parameter}
-
-bind_done : {A B : Type 0} (a : A) (next : A → Walk B) → bind (Done a) next ≡ next a
-unfolding bind
-bind_done a next = refl
-
-bind_closed : {A B : Type 0} (constraint : Constraint) (token : ℕ) (next : A → Walk B) → bind (Closed constraint token) next ≡ Closed constraint token
-unfolding bind
-bind_closed constraint token next = refl
 
 -- the first of three counts
 or_none : {X : Type 0} (o : Option X) → option_or o None ≡ o

@@ -9,12 +9,13 @@ ghost use Rattle.pw_places.specs.Views.{view_target};
 ghost use Rattle.pw_rules.specs.Initialisers as spec;
 ghost use Rattle.pw_typed.specs.Views.{view_expr, view_item};
 
-use crate::items::{item_of, word_of};
+use crate::items::item_of;
 use pw_checking::{State, fault, typing};
 use pw_kinds::is_array;
 use pw_operand::{cast_to, is_assignable};
 use pw_places::Target;
 use pw_typed::{TExpr, TItem};
+use pw_value::words::word_of_u64;
 use pw_walk::{CheckFault, CheckKind};
 use std::alloc::{AllocError, Global};
 
@@ -57,7 +58,7 @@ impl Filled {
         ensures { IfOk result (λ f. view_filled f ≡ spec.fill (spec.item_list offset (option_map view_item item)) (view_expr part) (view_filled self)) }
     {
         if let Some(item) = item {
-            self.items.push((word_of(offset)?, item))?;
+            self.items.push((word_of_u64(offset)?, item))?;
         }
         self.parts.push(part)?;
         Ok(self)

@@ -1,6 +1,6 @@
 //! Constants as they stand in an object (C90 6.4).
 
-ghost use Rattle.std.specs.Prelude.{◌≡◌, ◌≤◌, ◌^◌, option_map, IfOk, MatchResult};
+ghost use Rattle.std.specs.Prelude.{◌≡◌, option_map, IfOk};
 ghost use Rattle.pw_filled.specs.Items.{pointer_item};
 ghost use Rattle.pw_rules.specs.Initialisers as spec;
 ghost use Rattle.pw_constant.specs.Views.{view_place};
@@ -10,6 +10,7 @@ ghost use Rattle.pw_types.specs.Views.{view_type};
 use pw_constant::{Base, Place, address_of, constant_value, is_null_pointer};
 use pw_typed::{Symbol, TExpr, TItem};
 use pw_types::{CType, Types};
+use pw_value::words::word_of_u64;
 use std::alloc::{AllocError, Global};
 
 /// A word in its bytes, the highest first, of which there are so many.
@@ -37,18 +38,11 @@ pub fn copy_symbol(alloc: Global, symbol: &Symbol) -> Result<Symbol, AllocError>
     }
 }
 
-/// A number as a word. Want of memory is the answer for one that 32 bits cannot count, and for no other.
-pub fn word_of(number: u64) -> Result<u32, AllocError>
-    ensures { MatchResult result (λ word. word ≡ number) (λ _. 2 ^ 32 ≤ number) }
-{
-    u32::try_from(number).ok().ok_or(AllocError)
-}
-
 /// An address as it stands in an object. A distance that 32 bits cannot count answers want of memory.
 fn address_item(alloc: Global, place: &Place<'_>) -> Result<TItem, AllocError>
     ensures { IfOk result (λ item. view_item item ≡ spec.address_item (view_place place.now)) }
 {
-    let offset = word_of(place.offset)?;
+    let offset = word_of_u64(place.offset)?;
     let symbol = match place.base {
         Base::Named(symbol) => copy_symbol(alloc, symbol)?,
         Base::Text(number) => Symbol::Hidden(number),

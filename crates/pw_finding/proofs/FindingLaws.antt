@@ -41,10 +41,7 @@ stopped_told (Some c) r = refl
 pub stopped_by_found : {A : Type 0} (p : Point) (r : Result A CheckFault) → stopped (least None p) r ≡ told (found p) r
 stopped_by_found p r = stopped_told (least None p) r ∙ ap (λ o. told o r) (least_found None p)
 
--- ---- one constraint more, and two lists of them
-
-pub found_cons : (best : Option CheckFault) (c : Cause) (rest : Point) → found_behind best (c ∷ rest) ≡ found_behind (with_cause best c.broken (fault_of c)) rest
-found_cons best c rest = refl
+-- ---- two lists of constraints
 
 abbrev before : CheckFault → CheckFault → Bool
 before f g = nat_lt (rank_of_kind f.kind) (rank_of_kind g.kind)
@@ -137,6 +134,18 @@ point_err {S} {B} {R} {view} {least_here} {ended} {fault} {r} {left} p next s he
       told = inr (ap outcome (passed p next s) ∙ outcome_passing p (next s)
           ∙ ap (λ o. told o (outcome (next s))) (sym here ∙ end_err least_here fault (sym end ∙ is)));
     })
+
+-- behind a point that is all
+obeyed : {S : Type 0} (w : Walk (Unit {0} × S)) (s : S) (o : Option CheckFault) → outcome w ≡ told o (Ok (tt, s)) → Obeys (λ (u : Unit {0}). u) w (told o (Ok tt)) s
+obeyed w s None e = record { made = e; told = tt }
+obeyed w s (Some fault) e = record { made = tt; told = inr e }
+
+pub point_end : {S : Type 0} (p : Point) (s : S) (o : Option CheckFault) (r : Result (Unit {0}) CheckFault)
+    → o ≡ found p → r ≡ told o (Ok tt) → Obeys (λ (u : Unit {0}). u) (Passing p (Done (tt, s))) r s
+unfolding outcome
+point_end p s o r here is =
+    subst (λ x. Obeys (λ (u : Unit {0}). u) (Passing p (Done (tt, s))) x s) (sym is)
+    (obeyed (Passing p (Done (tt, s))) s o (stopped_by_found p (Ok (tt, s)) ∙ ap (λ x. told x (Ok (tt, s))) (sym here)))
 
 -- what is found at a point is the fault of a constraint, and no want of memory
 pub no_want : {R : Type 0} {r : Result R CheckFault} {fault : CheckFault} (p : Point)

@@ -8,6 +8,7 @@ use Rattle.std.proofs.lemmas.List.Sums.{sum_by-cons}
 use Rattle.pw_value.specs.ProgramNames.{times}
 use Rattle.pw_value.proofs.StartLaws.{stands_by_times}
 use Rattle.pw_flow.specs.ValidFlow.{AreDistinct}
+use Rattle.pw_flow.proofs.Lists.{all_left}
 
 -- a name that each of them differs from is none of them
 pub absent : (name : List ℕ) (names : List (List ℕ)) → AllByRecursion (λ other. other ≢ name) names → ¬ Contains names name
@@ -30,6 +31,12 @@ pub once : (name : List ℕ) (names : List (List ℕ)) → AreDistinct names →
 once name [] distinct = omega arith
 once name (first ∷ names) distinct =
     rw (sum_by-cons (λ other. cond (bytes_eq other name) 1 0) first names) (once_by name first names (bytes_eq first name) refl distinct.0 (once name names distinct.1))
+
+-- ---- names of two lists
+
+pub distinct_left : (xs ys : List (List ℕ)) → AreDistinct (xs ++ ys) → AreDistinct xs
+distinct_left [] ys distinct = tt
+distinct_left (x ∷ xs) ys distinct = (all_left (λ other. other ≢ x) xs ys distinct.0, distinct_left xs ys distinct.1)
 
 pub distinct_right : (xs ys : List (List ℕ)) → AreDistinct (xs ++ ys) → AreDistinct ys
 distinct_right [] ys distinct = distinct

@@ -196,10 +196,5 @@ written names used m payload (Err e) valid table same count made room sealed = t
 pub put : (o0 o1 o2 a t : List ℕ) → o1 ≡ o0 ++ a → o2 ≡ o1 ++ t → o2 ≡ o0 ++ (a ++ t)
 put o0 o1 o2 a t e d = d ∙ ap (λ (w : List ℕ). w ++ t) e ∙ append_assoc o0 a t
 
--- a list's count and its items
-pub put_list : {X : Type 0} (spell : X → List ℕ) (xs : List X) (o0 o1 o2 t : List ℕ) → o1 ≡ o0 ++ counted_text spell xs → o2 ≡ o1 ++ t → o2 ≡ o0 ++ (u32 (length xs) ++ (flat_map spell xs ++ t))
-unfolding counted_text
-put_list spell xs o0 o1 o2 t e d = put o0 o1 o2 (u32 (length xs) ++ flat_map spell xs) t e d ∙ ap (λ (w : List ℕ). o0 ++ w) (append_assoc (u32 (length xs)) (flat_map spell xs) t)
-
 pub last_put : (o1 o2 a : List ℕ) → o2 ≡ o1 ++ a → o2 ≡ o1 ++ (a ++ [])
 last_put o1 o2 a d = d ∙ ap (λ (w : List ℕ). o1 ++ w) (sym (append-nil a))

@@ -1,16 +1,12 @@
 -- The rule of function definitions, in the order in which the code has its parts.
-use Rattle.std.proofs.Common.{◌≡◌, refl}
+use Rattle.std.proofs.Common.{◌≡◌}
 use Rattle.pw_tree.specs.Trees.{Function}
-use Rattle.pw_walk.specs.Walks.{Walk, Done, bind}
-use Rattle.pw_walk.proofs.CallLaws.{bind_assoc}
+use Rattle.pw_walk.specs.Walks.{bind}
+use Rattle.pw_walk.proofs.CallLaws.{bind_assoc, bind_done}
 use Rattle.pw_rules.specs.Functions.{function_rule}
 use Rattle.pw_rules.specs.States.{State}
 use Rattle.pw_heads.specs.Parts.{head_declared, head_meets, head_of, head_rule}
 use Rattle.pw_functions.specs.Bodies.{behind_head}
-
-bind_done : {A B : Type 0} (a : A) (next : A → Walk B) → bind (Done a) next ≡ next a
-unfolding bind
-bind_done a next = refl
 
 -- a definition is its head, and then what stands behind it
 pub function_split : (f : Function) (s : State) → function_rule f s ≡ bind (head_rule f s) (λ h. behind_head h.0 f h.1)

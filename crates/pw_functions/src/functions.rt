@@ -21,6 +21,7 @@ use pw_heads::{
     Head, copy_locals, head_declared, head_meets, head_rule, measured_rule, numbers_below,
     parameter_locals, result_of,
 };
+use pw_items::Boxed;
 use pw_kinds::copy_qtype;
 use pw_labels::labels_in_block;
 use pw_linked::symbol_at;
@@ -95,11 +96,11 @@ fn function_of(
     place: u32,
     head: &Head<'_>,
     body: Box<TStmt>,
-) -> Result<Box<TFunction>, AllocError>
-    ensures { IfOk result (λ f. typed.view_function f.value ≡ spec.function_of (view_state state.now) (view_head head.now).word place (view_head head.now).ty (view_head head.now).bindings (view_body body)) }
+) -> Result<Boxed<TFunction>, AllocError>
+    ensures { IfOk result (λ f. typed.view_function f ≡ spec.function_of (view_state state.now) (view_head head.now).word place (view_head head.now).ty (view_head head.now).bindings (view_body body)) }
 {
     let outline = outline_of(alloc, state, place, head)?;
-    Ok(Box::new(alloc, outline.with(body))?)
+    Boxed::new(alloc, outline.with(body))
 }
 
 /// The body of a function is read, in the scope of its parameters.
@@ -119,12 +120,12 @@ fn begin_body<'a>(
 }
 
 /// Behind a function's body its scope is left, and the function keeps the limits.
-fn end_body(state: &mut State<'_>, word: &Word, f: Box<TFunction>) -> Result<(), CheckFault>
-    ensures { Leads (λ u. u) (part.end_body (view_word word.now) (typed.view_function f.value)) (view_state state.old) result (view_state state.new) }
+fn end_body(state: &mut State<'_>, word: &Word, f: Boxed<TFunction>) -> Result<(), CheckFault>
+    ensures { Leads (λ u. u) (part.end_body (view_word word.now) (typed.view_function f)) (view_state state.old) result (view_state state.new) }
 {
     state.leave_scope();
-    measured_rule(state, word, &f)?;
-    state.add_function(Box::into_inner(f))?;
+    measured_rule(state, word, f.get())?;
+    state.add_function(f.into_inner())?;
     Ok(())
 }
 

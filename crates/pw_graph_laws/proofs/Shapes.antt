@@ -15,7 +15,7 @@ use Rattle.pw_files.proofs.ByteOrder.{differ}
 use Rattle.pw_program.specs.Linking.{library_declarations}
 use Rattle.pw_summary.specs.declared.summary.Summary.{Summary}
 use Rattle.pw_summarise.specs.Summarises.{function_entry, function_entries}
-use Rattle.pw_summarise.proofs.UniqueLaws.{distinct_left, distinct_right}
+use Rattle.pw_flow.proofs.Once.{distinct_left, distinct_right}
 use Rattle.pw_graph.specs.Program as summaries
 use Rattle.pw_webrun.specs.Programs.{has_shape, IsProgram}
 use Rattle.pw_graph_laws.specs.Graphs.{AllSummarise}

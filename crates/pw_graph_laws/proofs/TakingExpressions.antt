@@ -2,7 +2,7 @@
 use Rattle.std.proofs.Common.{◌≡◌, ℕ, ◌+◌, ◌==◌, Bool, true, false, if◌then◌else◌, Option, Some, None, List, [], ◌∷◌, refl}
 use Rattle.std.specs.List.{AllByRecursion}
 use Rattle.pw_value.specs.declared.value.Kind.{Kind}
-use Rattle.pw_types.specs.Records.{is_record}
+use Rattle.pw_types.specs.Kinds.{is_record}
 use Rattle.pw_types.specs.TypeTrees.{CType, Void, QType, QTypes, NoType, OneType, type_of, RecordValue}
 use Rattle.pw_types.specs.TypedTrees.{Symbol, Expression, Node, type_at, Number, Str, Local, Global, Function, Unary, Binary, Logic, Cond, Comma, Assign, Compound, Step, Cast, Decay, Member, Deref, Address, Call, CallValue, Expressions, NoExpression, OneExpression, Hidden, LocalValue, ModuleValue}
 use Rattle.pw_types.specs.declared.tree.UnaryOperator.{UnaryOperator}
@@ -10,7 +10,7 @@ use Rattle.pw_types.specs.declared.tree.UnaryOperator.TheVariants as unary
 use Rattle.pw_types.specs.declared.tree.BinaryOperator.{BinaryOperator}
 use Rattle.pw_types.specs.declared.tree.BinaryOperator.TheVariants as binary
 use Rattle.pw_types.specs.declared.tree.LogicOperator.TheVariants as logic
-use Rattle.pw_types.specs.WellTyped.{type_in, IsFunctionType, IsFunctionOf, IsTyped, AreArguments}
+use Rattle.pw_types.specs.WellTyped.{promoted_type, type_in, IsFunctionType, IsFunctionOf, IsTyped, AreArguments}
 use Rattle.pw_flow.specs.declared.flow.Op.{Op}
 use Rattle.pw_flow.specs.declared.flow.Op.TheVariants as op
 use Rattle.pw_flow.specs.declared.flow.BinKind.{BinKind}
@@ -28,7 +28,7 @@ use Rattle.pw_lower.specs.declared.place.Target.{Target}
 use Rattle.pw_lower.specs.declared.place.Target.TheVariants.{Kept, Named, Led}
 use Rattle.pw_lower.specs.Codes.{Lowered, lowered_as, temp_of, emit, fresh, constant, reserve, reserve_temps, cut, cut_here, leave, value_is}
 use Rattle.pw_lower.specs.Places.{place_at}
-use Rattle.pw_lower.specs.Operators.{kind_of, with, scaled, moved_by, distance, on_numbers, operation_of, is_turned, sum_or, combined, is_signed, target_size, truth_in, unary_on, extension, extended, converted, step_operator, step_type, is_behind, bytes_of, unit_of}
+use Rattle.pw_lower.specs.Operators.{kind_of, with, scaled, moved_by, distance, on_numbers, operation_of, is_turned, sum_or, combined, is_signed, target_size, truth_in, unary_on, extension, extended, converted, step_operator, is_behind, bytes_of, unit_of}
 use Rattle.pw_lower.specs.Expressions.{Home, Placed, full_name, shape_at, read_target, read, write, further, address_of_global, address_of_local, target_of_local, value_at, value_of_global, value_of_local, stored, copied, scalar_kind, updated, fork, in_result, decides, says, gives, is_void, lower, place, arguments}
 
 -- what is wanted of an operation: the name whose address it takes is a function by the module, which has this name
@@ -289,10 +289,10 @@ module _ (m : ModuleValue) (locals : List LocalValue) (h : Home) where
         let p = place h a c in
         let old = read (scalar_kind (type_of y)) p in
         let one = constant 1 old.code in
-        let new = updated h.records (step_operator o) (step_type (type_of y)) Void (scalar_kind (type_of y)) p.target (temp_of old) one in
+        let new = updated h.records (step_operator o) (promoted_type (type_of y)) Void (scalar_kind (type_of y)) p.target (temp_of old) one in
         let go = read_good m h.name (scalar_kind (type_of y)) p.target p.code (place_good a c w.1.0 g) in
         step_value_good m h.name (is_behind o) (temp_of old) new
-        (updated_good m h.name h.records (step_operator o) (step_type (type_of y)) Void (scalar_kind (type_of y)) p.target (temp_of old) one (constant_good m h.name 1 old.code go))
+        (updated_good m h.name h.records (step_operator o) (promoted_type (type_of y)) Void (scalar_kind (type_of y)) p.target (temp_of old) one (constant_good m h.name 1 old.code go))
     lower_good (Node t y (Cast a)) c w g = cast_good m h.name (is_void (type_of y)) (kind_of (type_in a)) (kind_of (type_of y)) (lower h a c) (lower_good a c w.1.0 g)
     lower_good (Node t y (Decay a)) c w g = lower_good a c w.1.0 g
     lower_good (Node t y (Member a offset)) c w g = value_at_good m h.name (kind_of (type_of y)) (further offset (lower h a c)) (further_good m h.name offset (lower h a c) (lower_good a c w.1.0 g))

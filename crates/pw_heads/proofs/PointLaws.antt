@@ -1,31 +1,13 @@
--- Code that tests the constraints of one point, behind which nothing is made.
+-- What is found at the points of definitions: constraints one behind the other, and limits.
 use Rattle.std.specs.Prelude.{◌≢◌, if◌then◌else◌, IfErr}
 use Rattle.std.proofs.Common.{◌≡◌, nat_lt, ℕ, Bool, true, false, Option, None, Some, Result, Ok, [], ◌∷◌, ◌++◌, ap, sym, subst, ◌∙◌}
-use mathlib.Core.Logic.{inr}
 use Rattle.pw_walk.specs.declared.fault.CheckFault.{CheckFault}
-use Rattle.pw_walk.specs.Calls.{Obeys}
 use Rattle.pw_value.specs.Limits.{node_limit, room_limit}
 use Rattle.pw_walk.specs.declared.fault.CheckKind.TheVariants.{Limit, NoMemory}
 use Rattle.pw_walk.specs.declared.fault.Which.TheVariants.{Nodes, Room}
 use Rattle.pw_walk.specs.Causes.{Cause, Point, keeps, rank_of_kind}
-use Rattle.pw_walk.specs.Walks.{Walk, Done, Passing, outcome}
 use Rattle.pw_finding.specs.Found.{found, found_behind, lesser_found, told, with_cause}
-use Rattle.pw_finding.proofs.FindingLaws.{found_after, found_append, stopped_by_found}
-
-ended : {S : Type 0} (p : Point) (s : S) (o : Option CheckFault) → o ≡ found p → outcome {A = Unit {0} × S} (Passing p (Done (tt, s))) ≡ told o (Ok (tt, s))
-unfolding outcome
-ended p s o e = stopped_by_found p (Ok (tt, s)) ∙ ap (λ x. told x (Ok (tt, s))) (sym e)
-
-obeyed : {S : Type 0} (w : Walk (Unit {0} × S)) (s : S) (o : Option CheckFault) → outcome w ≡ told o (Ok (tt, s))
-    → Obeys (λ (u : Unit {0}). u) w (told o (Ok tt)) s
-obeyed w s None e = record { made = e; told = tt }
-obeyed w s (Some fault) e = record { made = tt; told = inr e }
-
-pub point_end : {S : Type 0} (p : Point) (s : S) (o : Option CheckFault) (r : Result (Unit {0}) CheckFault)
-    → o ≡ found p → r ≡ told o (Ok tt) → Obeys (λ (u : Unit {0}). u) (Passing p (Done (tt, s))) r s
-point_end p s o r e is =
-    subst (λ x. Obeys (λ (u : Unit {0}). u) (Passing p (Done (tt, s))) x s) (sym is)
-    (obeyed (Passing p (Done (tt, s))) s o (ended p s o e))
+use Rattle.pw_finding.proofs.FindingLaws.{found_after, found_append}
 
 -- ---- constraints found one behind the other
 

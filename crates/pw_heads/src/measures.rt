@@ -17,7 +17,7 @@ use pw_value::limits::{NODE_LIMIT, ROOM_LIMIT};
 use pw_walk::{CheckFault, CheckKind, Which};
 use std::alloc::AllocError;
 
-/// A count that is told by 64 bits; one that is not is want of memory.
+/// A count as it is; one of 2^64 - 1 or more is want of memory.
 fn told(count: u64) -> Result<u64, AllocError>
     ensures told { (n : ℕ) → count ≡ capped n → IfOk result (λ m. m ≡ n) }
     ensures beyond { (n : ℕ) → count ≡ capped n → IfErr result (λ none. 2 ^ 64 - 1 ≤ n) }
@@ -28,7 +28,7 @@ fn told(count: u64) -> Result<u64, AllocError>
     Ok(count)
 }
 
-/// The limits of a function, behind its body. What 64 bits cannot count answers want of memory.
+/// The limits of a function, behind its body. A count of 2^64 - 1 or more answers want of memory.
 pub fn measured_rule(state: &State<'_>, word: &Word, f: &TFunction) -> Result<(), CheckFault>
     ensures follows { Follows (λ u. u) (spec.measured_rule (view_word word.now) (typed.view_function f.now)) (view_state state.now) result }
     ensures no_memory { nodes_of (typed.view_function f.now) < 2 ^ 64 - 1 → room_of (records_in (view_state state.now)) (typed.view_function f.now) < 2 ^ 64 - 1

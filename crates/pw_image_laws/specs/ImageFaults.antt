@@ -1,7 +1,7 @@
 -- On which bytes a fault of an image file rests.
-use Rattle.std.specs.Prelude.{◌≡◌, ℕ, ◌≤◌, true, false, List, length, take, Result, Ok, Err, None}
+use Rattle.std.specs.Prelude.{◌≡◌, ℕ, ◌+◌, ◌≤◌, true, false, List, length, take, Result, Ok, Err, None}
 use Rattle.pw_value.specs.Fields.{◌>>=◌, u32_at, repeated}
-use Rattle.pw_value.specs.FieldFrame.{ended, opened_at}
+use Rattle.pw_value.specs.FieldFrame.{ended, header_size, opened_at}
 use Rattle.pw_value.specs.FieldNames.{names_at}
 use Rattle.pw_files.specs.Contents.{value_of}
 use Rattle.pw_files.specs.Faults.{Anything, OfPayload, StaysFault, unsealed}
@@ -31,16 +31,16 @@ read bytes = value_of (image_file_at bytes)
 abbrev pub LacksEntry : List ℕ → Type 0
 LacksEntry bytes = (o : ℕ × List ℕ × ℕ) × (opened_at kind image_version image_version bytes ≡ Ok o) × (is_lawful_start (start_at o.1) ≡ false)
 
--- The entry stands behind the header's three numbers; behind it the stack and its end, and then the count of words, up to
+-- The entry stands behind the header; behind it the stack and its end, and then the count of words, each in four bytes, up to
 -- whose end stands what decides whether the entry is the address of a word.
 abbrev pub entry_place : ℕ
-entry_place = 12
+entry_place = header_size
 
 abbrev pub count_place : ℕ
-count_place = 24
+count_place = entry_place + 12
 
 abbrev pub count_end : ℕ
-count_end = 28
+count_end = count_place + 4
 
 -- A fault lies within the bytes. Where the entry is the address of a word, a fault of the fields is the file's, and rests on
 -- the bytes up to the faulty field's end: of whatever other bytes from the count of words on, and before it of those whose

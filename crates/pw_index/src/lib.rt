@@ -5,9 +5,7 @@
 pub mod cases;
 pub mod names;
 pub mod scoped;
-pub mod words;
 
 pub use cases::CaseList;
 pub use names::NameList;
 pub use scoped::VisibleNames;
-pub use words::next_word;

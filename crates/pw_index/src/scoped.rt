@@ -4,9 +4,9 @@ ghost use Rattle.std.specs.Prelude.{◌≡◌, [], ◌∷◌, ◌++◌, ◌==◌
 ghost use Rattle.pw_scope.specs.Visible.{visible};
 ghost use Rattle.pw_index.specs.Scoping.{deeper, found_names, left, names_here, no_names, places_in, tags_here, tags_in};
 
-use crate::words::next_word;
 use pw_rules::{Entry, Tag, TagEntry};
 use pw_scope::Scopes;
+use pw_value::words::next_word;
 use std::alloc::{AllocError, Global};
 use std::marker::Model;
 

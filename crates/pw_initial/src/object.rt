@@ -15,13 +15,13 @@ use crate::readings::inits_rule;
 use pw_checking::{Phrases, State, whole_rule};
 use pw_filled::{
     Context, Filled, braced_string, bytes_filled, filling_string, string_form, value_filled,
-    word_of,
 };
 use pw_kinds::{boxed_copy, copy_qtype, is_scalar};
 use pw_leaves::string_bytes;
 use pw_places::{Target, elements_given, within_braces};
 use pw_tree::{Expr, Init, Word, statements_show_their_lists};
 use pw_types::{CType, QType};
+use pw_value::words::word_of_u64;
 use pw_walk::CheckFault;
 use std::alloc::{AllocError, Global};
 
@@ -46,7 +46,7 @@ fn with_length(alloc: Global, count: u64, q: QType) -> Result<QType, AllocError>
         | CType::Function(_)
         | CType::Record(_) => return Ok(q),
     };
-    let length = word_of(count)?;
+    let length = word_of_u64(count)?;
     Ok(QType {
         ty: CType::Array(element, Some(length)),
         constant: q.constant,

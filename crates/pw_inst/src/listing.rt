@@ -2,7 +2,7 @@
 ghost use Rattle.std.specs.Prelude.{◌≡◌, IfOk};
 ghost use Rattle.std.specs.String.{string_bytes};
 ghost use Rattle.pw_inst.specs.InstructionTable.{IsInRange, IsCondition};
-ghost use Rattle.pw_inst.specs.Listing.{target, condition, negated, nullification, load, store, registers, bit_field, compare_clear, compare_branch, branch_and_link, pair, subtract, register_branch, listed};
+ghost use Rattle.pw_inst.specs.Listing.{target, condition, negated, nullification, load, store, registers, bit_field, compare_clear, compare_branch, branch_and_link, pair, subtract, register_branch, listed, mnemonic};
 
 use crate::{Inst, NoMemory};
 use std::alloc::Global;
@@ -17,38 +17,74 @@ pub fn target(address: u32, disp: i32) -> u32
         .wrapping_add(disp.cast_unsigned().wrapping_mul(4))
 }
 
+/// The name of an instruction's form.
+#[tactic(auto, unfolding(crate::specs::Listing::mnemonic))]
+fn mnemonic(inst: Inst) -> &'static str
+    ensures { result.now ≡ mnemonic inst }
+{
+    match inst {
+        Inst::Ldb { .. } => "LDB",
+        Inst::Ldh { .. } => "LDH",
+        Inst::Ldw { .. } => "LDW",
+        Inst::Ldo { .. } => "LDO",
+        Inst::Stb { .. } => "STB",
+        Inst::Sth { .. } => "STH",
+        Inst::Stw { .. } => "STW",
+        Inst::Ldil { .. } => "LDIL",
+        Inst::And { .. } => "AND",
+        Inst::Or { .. } => "OR",
+        Inst::Xor { .. } => "XOR",
+        Inst::Sub { .. } => "SUB",
+        Inst::Addl { .. } => "ADDL",
+        Inst::Vshd { .. } => "VSHD",
+        Inst::Mtctl { .. } => "MTCTL",
+        Inst::Comclr { .. } => "COMCLR",
+        Inst::Subi { .. } => "SUBI",
+        Inst::Extru { .. } => "EXTRU",
+        Inst::Extrs { .. } => "EXTRS",
+        Inst::Zdep { .. } => "ZDEP",
+        Inst::Combt { .. } => "COMBT",
+        Inst::Combf { .. } => "COMBF",
+        Inst::Bl { .. } => "BL",
+        Inst::Bv { .. } => "BV",
+        Inst::Ble { .. } => "BLE",
+        Inst::Break { .. } => "BREAK",
+    }
+}
+
 /// The text of an instruction at an address, as a listing has it: `LDW -20(30),2`.
 ///
 /// A branch shows its target as eight hexadecimal digits. Fails only where memory runs out.
-#[tactic(auto, unfolding(crate::specs::Listing::listed, crate::specs::InstructionTable::IsInRange))]
+#[tactic(auto, unfolding(crate::specs::Listing::listed, crate::specs::Listing::line, crate::specs::InstructionTable::IsInRange))]
 pub fn text(alloc: Global, inst: Inst, address: u32) -> Result<String, NoMemory>
     requires { IsInRange inst }
     ensures { IfOk result (λ s. string_bytes s ≡ listed inst address) }
 {
+    let name = mnemonic(inst);
     match inst {
-        Inst::Ldb { im, b, t } => load_text(alloc, "LDB", im, b, t),
-        Inst::Ldh { im, b, t } => load_text(alloc, "LDH", im, b, t),
-        Inst::Ldw { im, b, t } => load_text(alloc, "LDW", im, b, t),
-        Inst::Ldo { im, b, t } => load_text(alloc, "LDO", im, b, t),
-        Inst::Stb { r, im, b } => store_text(alloc, "STB", r, im, b),
-        Inst::Sth { r, im, b } => store_text(alloc, "STH", r, im, b),
-        Inst::Stw { r, im, b } => store_text(alloc, "STW", r, im, b),
-        Inst::Ldil { im, t } => pair_text(alloc, "LDIL", im, u32::from(t)),
-        Inst::And { r1, r2, t } => registers_text(alloc, "AND", r1, r2, t),
-        Inst::Or { r1, r2, t } => registers_text(alloc, "OR", r1, r2, t),
-        Inst::Xor { r1, r2, t } => registers_text(alloc, "XOR", r1, r2, t),
-        Inst::Sub { r1, r2, t } => registers_text(alloc, "SUB", r1, r2, t),
-        Inst::Addl { r1, r2, t } => registers_text(alloc, "ADDL", r1, r2, t),
-        Inst::Vshd { r1, r2, t } => registers_text(alloc, "VSHD", r1, r2, t),
-        Inst::Mtctl { r } => pair_text(alloc, "MTCTL", u32::from(r), 11),
-        Inst::Comclr { c, f, r1, r2, t } => compare_clear_text(alloc, c, f, r1, r2, t),
-        Inst::Subi { im, r, t } => subtract_text(alloc, im, r, t),
-        Inst::Extru { r, p, len, t } => bit_field_text(alloc, "EXTRU", r, p, len, t),
-        Inst::Extrs { r, p, len, t } => bit_field_text(alloc, "EXTRS", r, p, len, t),
-        Inst::Zdep { r, p, len, t } => bit_field_text(alloc, "ZDEP", r, p, len, t),
+        Inst::Ldb { im, b, t } => load_text(alloc, name, im, b, t),
+        Inst::Ldh { im, b, t } => load_text(alloc, name, im, b, t),
+        Inst::Ldw { im, b, t } => load_text(alloc, name, im, b, t),
+        Inst::Ldo { im, b, t } => load_text(alloc, name, im, b, t),
+        Inst::Stb { r, im, b } => store_text(alloc, name, r, im, b),
+        Inst::Sth { r, im, b } => store_text(alloc, name, r, im, b),
+        Inst::Stw { r, im, b } => store_text(alloc, name, r, im, b),
+        Inst::Ldil { im, t } => pair_text(alloc, name, im, u32::from(t)),
+        Inst::And { r1, r2, t } => registers_text(alloc, name, r1, r2, t),
+        Inst::Or { r1, r2, t } => registers_text(alloc, name, r1, r2, t),
+        Inst::Xor { r1, r2, t } => registers_text(alloc, name, r1, r2, t),
+        Inst::Sub { r1, r2, t } => registers_text(alloc, name, r1, r2, t),
+        Inst::Addl { r1, r2, t } => registers_text(alloc, name, r1, r2, t),
+        Inst::Vshd { r1, r2, t } => registers_text(alloc, name, r1, r2, t),
+        Inst::Mtctl { r } => pair_text(alloc, name, u32::from(r), 11),
+        Inst::Comclr { c, f, r1, r2, t } => compare_clear_text(alloc, name, c, f, r1, r2, t),
+        Inst::Subi { im, r, t } => subtract_text(alloc, name, im, r, t),
+        Inst::Extru { r, p, len, t } => bit_field_text(alloc, name, r, p, len, t),
+        Inst::Extrs { r, p, len, t } => bit_field_text(alloc, name, r, p, len, t),
+        Inst::Zdep { r, p, len, t } => bit_field_text(alloc, name, r, p, len, t),
         Inst::Combt { c, r1, r2, disp } => compare_branch_text(
             alloc,
-            "COMBT",
+            name,
             c,
             r1,
             r2,
@@ -56,16 +92,16 @@ pub fn text(alloc: Global, inst: Inst, address: u32) -> Result<String, NoMemory>
         ),
         Inst::Combf { c, r1, r2, disp } => compare_branch_text(
             alloc,
-            "COMBF",
+            name,
             c,
             r1,
             r2,
             target(address, disp),
         ),
-        Inst::Bl { disp, t, n } => branch_and_link_text(alloc, n, target(address, disp), t),
-        Inst::Bv { b, n } => register_branch_text(alloc, "BV", n, "", b),
-        Inst::Ble { b, n } => register_branch_text(alloc, "BLE", n, "4,", b),
-        Inst::Break { im5, im13 } => pair_text(alloc, "BREAK", u32::from(im5), u32::from(im13)),
+        Inst::Bl { disp, t, n } => branch_and_link_text(alloc, name, n, target(address, disp), t),
+        Inst::Bv { b, n } => register_branch_text(alloc, name, n, "", b),
+        Inst::Ble { b, n } => register_branch_text(alloc, name, n, "4,", b),
+        Inst::Break { im5, im13 } => pair_text(alloc, name, u32::from(im5), u32::from(im13)),
     }
 }
 
@@ -75,10 +111,10 @@ fn pair_text(alloc: Global, name: &str, first: u32, second: u32) -> Result<Strin
     format!(in alloc; "{name} {first},{second}")
 }
 
-fn subtract_text(alloc: Global, im: i32, r: u8, t: u8) -> Result<String, NoMemory>
-    ensures { IfOk result (λ s. string_bytes s ≡ subtract im r t) }
+fn subtract_text(alloc: Global, name: &str, im: i32, r: u8, t: u8) -> Result<String, NoMemory>
+    ensures { IfOk result (λ s. string_bytes s ≡ subtract name.now im r t) }
 {
-    format!(in alloc; "SUBI {im},{r},{t}")
+    format!(in alloc; "{name} {im},{r},{t}")
 }
 
 fn register_branch_text(
@@ -126,6 +162,7 @@ fn bit_field_text(
 
 fn compare_clear_text(
     alloc: Global,
+    name: &str,
     c: u8,
     f: bool,
     r1: u8,
@@ -133,14 +170,14 @@ fn compare_clear_text(
     t: u8,
 ) -> Result<String, NoMemory>
     requires { IsCondition c }
-    ensures { IfOk result (λ s. string_bytes s ≡ compare_clear c f r1 r2 t) }
+    ensures { IfOk result (λ s. string_bytes s ≡ compare_clear name.now c f r1 r2 t) }
 {
     let condition = if f {
         negated_name(c)
     } else {
         condition_name(c)
     };
-    format!(in alloc; "COMCLR,{condition} {r1},{r2},{t}")
+    format!(in alloc; "{name},{condition} {r1},{r2},{t}")
 }
 
 #[tactic(auto, using(crate::proofs::HexadecimalLemmas::hexadecimal_of_word))]
@@ -159,10 +196,16 @@ fn compare_branch_text(
 }
 
 #[tactic(auto, using(crate::proofs::HexadecimalLemmas::hexadecimal_of_word))]
-fn branch_and_link_text(alloc: Global, n: bool, to: u32, t: u8) -> Result<String, NoMemory>
-    ensures { IfOk result (λ s. string_bytes s ≡ branch_and_link n to t) }
+fn branch_and_link_text(
+    alloc: Global,
+    name: &str,
+    n: bool,
+    to: u32,
+    t: u8,
+) -> Result<String, NoMemory>
+    ensures { IfOk result (λ s. string_bytes s ≡ branch_and_link name.now n to t) }
 {
-    format!(in alloc; "BL{} {to:08x},{t}", nullification_name(n))
+    format!(in alloc; "{name}{} {to:08x},{t}", nullification_name(n))
 }
 
 fn condition_name(c: u8) -> &'static str

@@ -1,6 +1,9 @@
-//! A `Vec` that contracts see as the list of its items, so that a type that holds it is plain data there.
+//! A `Vec` and a `Box` that contracts see as the list of its items and as the value in it, so that a type that holds
+//! them is plain data there.
 #![tactic(auto)]
 
+mod boxed;
 mod items;
 
+pub use boxed::Boxed;
 pub use items::Items;

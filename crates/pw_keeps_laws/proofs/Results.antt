@@ -2,12 +2,12 @@
 use Rattle.std.proofs.Common.{◌≡◌, ◌≢◌, ℕ, suc, ◌+◌, ◌≤◌, ◌==◌, ◌&&◌, not, nat_lt, zero, get_or, inl, inr, Bool, true, false, true≢false, if◌then◌else◌, Option, Some, None, unwrap_or, List, [], ◌∷◌, refl, ap, sym, ◌∙◌, subst, arith, slice_get}
 use Rattle.std.proofs.lemmas.List.Elements.{Contains-append_left, Contains-append_right}
 use Rattle.pw_value.specs.declared.value.Kind.{Kind}
-use Rattle.pw_types.specs.Records.{is_record}
+use Rattle.pw_types.specs.Kinds.{is_record}
 use Rattle.std.proofs.lemmas.Option.{same_Some, slice_get_within, unwrap_or-slice_get}
 use Rattle.pw_types.specs.TypeTrees.{CType, Void, Int, Pointer, Array, Record, QType, type_of, is_volatile, RecordValue}
 use Rattle.pw_types.specs.TypeTrees as types
 use Rattle.pw_types.specs.TypedTrees.{Expression, Node, type_at, Number, Str, Local, Global, Function, Unary, Binary, Logic, Cond, Comma, Assign, Compound, Step, Cast, Decay, Member, Deref, Address, Call, CallValue, Hidden, LocalValue}
-use Rattle.pw_types.specs.WellTyped.{IsTyped, HasForm, FitsCast, Decays, IsPromoted, type_in}
+use Rattle.pw_types.specs.WellTyped.{promoted_type, IsTyped, HasForm, FitsCast, Decays, IsPromoted, type_in}
 use Rattle.pw_types.specs.declared.tree.UnaryOperator.TheVariants as unary
 use Rattle.pw_types.specs.declared.tree.BinaryOperator.{BinaryOperator}
 use Rattle.pw_types.specs.declared.tree.BinaryOperator.TheVariants as binary
@@ -26,7 +26,7 @@ use Rattle.pw_lower.specs.declared.place.Target.{Target}
 use Rattle.pw_lower.specs.declared.place.Target.TheVariants.{Kept, Named, Led}
 use Rattle.pw_lower.specs.Codes.{Lowered, lowered_as, temp_of, emit, fresh, constant, cut_here, value_is}
 use Rattle.pw_lower.specs.Places.{is_scalar, is_kept, places_from, has, places_of, addressed_in, addressed_in_statement}
-use Rattle.pw_lower.specs.Operators.{kind_of, with, scaled, moved_by, distance, on_numbers, operation_of, is_turned, sum_or, is_signed, target_size, extension, extended, converted, combined, step_operator, step_type, is_behind}
+use Rattle.pw_lower.specs.Operators.{kind_of, with, scaled, moved_by, distance, on_numbers, operation_of, is_turned, sum_or, is_signed, target_size, extension, extended, converted, combined, step_operator, is_behind}
 use Rattle.pw_lower.specs.Expressions.{full_name, shape_at, read_target, read, further, address_of_local, value_at, value_of_global, value_of_local, stored, copied, scalar_kind, updated, fork, in_result, says, gives, is_void, lower, place, arguments}
 use Rattle.pw_keeps.specs.Activations.{Activation, home_of, place_in, HaveSlots}
 use Rattle.pw_keeps_laws.specs.Results.{HasNewResult}
@@ -319,11 +319,11 @@ results x (Node t ty (Step o a)) c typed slots there =
     let n = read-new k p.target p.code in
     let old = read k p in
     let one = constant 1 old.code in
-    let z = updated h.records (step_operator o) (step_type (type_of ty)) Void k p.target (temp_of old) one in
+    let z = updated h.records (step_operator o) (promoted_type (type_of ty)) Void k p.target (temp_of old) one in
     either c (is_behind o) (record z { temp = Some (temp_of old) }) z
     (passes c old (record z { temp = Some (temp_of old) }) (since c p.code old (place-spreads h a c).temps n)
-    (omega (arith, (updated-adds h.records (step_operator o) (step_type (type_of ty)) Void k p.target (temp_of old) one).temps)) refl)
-    (updated-new h.records (step_operator o) (step_type (type_of ty)) Void k p.target (temp_of old) c one (omega (arith, (place-spreads h a c).temps, n.since, n.given)))
+    (omega (arith, (updated-adds h.records (step_operator o) (promoted_type (type_of ty)) Void k p.target (temp_of old) one).temps)) refl)
+    (updated-new h.records (step_operator o) (promoted_type (type_of ty)) Void k p.target (temp_of old) c one (omega (arith, (place-spreads h a c).temps, n.since, n.given)))
 results x (Node t ty (Cast a)) c typed slots there =
     cast-new (is_void (type_of ty)) (kind_of (type_in a)) (kind_of (type_of ty)) c (lower (home_of x) a c) (void-test (type_of ty) there)
     (results x a c typed.1.0 slots (cast-nonvoid (type_in a) (type_of ty) typed.1.1 there))

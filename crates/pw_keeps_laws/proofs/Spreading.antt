@@ -1,9 +1,10 @@
 -- What blocks the code of an expression begins: those whose numbers were given out since, each once.
 use Rattle.std.proofs.Common.{◌≡◌, ℕ, ◌+◌, ◌≤◌, ◌==◌, Bool, true, false, if◌then◌else◌, Option, Some, None, List, [], ◌∷◌, ◌++◌, refl, ap, arith}
 use Rattle.pw_value.specs.declared.value.Kind.{Kind}
-use Rattle.pw_types.specs.Records.{is_record}
+use Rattle.pw_types.specs.Kinds.{is_record}
 use Rattle.pw_types.specs.TypeTrees.{CType, Void, type_of, RecordValue}
 use Rattle.pw_types.specs.TypedTrees.{Expression, Node, type_at, Number, Str, Local, Global, Function, Unary, Binary, Logic, Cond, Comma, Assign, Compound, Step, Cast, Decay, Member, Deref, Address, Call, CallValue, Expressions, NoExpression, OneExpression, Hidden}
+use Rattle.pw_types.specs.WellTyped.{promoted_type}
 use Rattle.pw_types.specs.declared.tree.UnaryOperator.{UnaryOperator}
 use Rattle.pw_types.specs.declared.tree.UnaryOperator.TheVariants as unary
 use Rattle.pw_types.specs.declared.tree.BinaryOperator.{BinaryOperator}
@@ -24,7 +25,7 @@ use Rattle.pw_lower.specs.declared.place.Target.{Target}
 use Rattle.pw_lower.specs.declared.place.Target.TheVariants.{Kept, Named, Led}
 use Rattle.pw_lower.specs.Codes.{Lowered, lowered_as, temp_of, emit, fresh, constant, cut, cut_here, value_is}
 use Rattle.pw_lower.specs.Places.{place_at}
-use Rattle.pw_lower.specs.Operators.{kind_of, with, scaled, moved_by, distance, on_numbers, operation_of, is_turned, sum_or, is_signed, target_size, truth_in, unary_on, extension, extended, converted, combined, step_operator, step_type, is_behind, bytes_of, unit_of}
+use Rattle.pw_lower.specs.Operators.{kind_of, with, scaled, moved_by, distance, on_numbers, operation_of, is_turned, sum_or, is_signed, target_size, truth_in, unary_on, extension, extended, converted, combined, step_operator, is_behind, bytes_of, unit_of}
 use Rattle.pw_lower.specs.Expressions.{Home, full_name, shape_at, read_target, read, write, further, address_of_global, address_of_local, target_of_local, value_at, value_of_global, value_of_local, stored, copied, scalar_kind, updated, fork, in_result, decides, says, gives, is_void, lower, place, arguments}
 use Rattle.pw_keeps.specs.Containing.{same, given, times_closed, begun, Spreads}
 
@@ -300,9 +301,9 @@ mutual
       let p = place h a c in
       let old = read (scalar_kind (type_of ty)) p in
       let one = constant 1 old.code in
-      let x = updated h.records (step_operator o) (step_type (type_of ty)) Void (scalar_kind (type_of ty)) p.target (temp_of old) one in
+      let x = updated h.records (step_operator o) (promoted_type (type_of ty)) Void (scalar_kind (type_of ty)) p.target (temp_of old) one in
       let all = and (place-spreads h a c) (and (read_target-adds (scalar_kind (type_of ty)) p.target p.code) (and (constant-adds 1 old.code)
-      (updated-adds h.records (step_operator o) (step_type (type_of ty)) Void (scalar_kind (type_of ty)) p.target (temp_of old) one))) in
+      (updated-adds h.records (step_operator o) (promoted_type (type_of ty)) Void (scalar_kind (type_of ty)) p.target (temp_of old) one))) in
       either (is_behind o) (record x { temp = Some (temp_of old) }) x all all
   lower-spreads h (Node t ty (Cast a)) c =
       let x = lower h a c in

@@ -1,14 +1,15 @@
 -- An expression is lowered as the part of it that is evaluated first, and the step behind that.
 use Rattle.std.proofs.Common.{◌≡◌, ℕ, Bool, true, false, if◌then◌else◌, Option, Some, None, List, [], ◌∷◌, ◌++◌, map, refl, ap, ◌∙◌, sym}
 use Rattle.std.proofs.lemmas.List.{map-append}
-use Rattle.pw_types.specs.Records.{is_record}
+use Rattle.pw_types.specs.Kinds.{is_record}
 use Rattle.pw_types.specs.TypeTrees.{QType, CType, Void, type_of}
 use Rattle.pw_types.specs.TypedTrees.{Expression, Node, Form, type_at, form_of, Number, Str, Local, Global, Function, Unary, Binary, Logic, Cond, Comma, Assign, Compound, Step, Cast, Decay, Member, Deref, Address, Call, CallValue}
+use Rattle.pw_types.specs.WellTyped.{promoted_type}
 use Rattle.pw_types.specs.declared.tree.LogicOperator.TheVariants as logic
 use Rattle.pw_flow.specs.declared.flow.End.TheVariants.{Jump}
 use Rattle.pw_lower.specs.declared.code.Code.{Code}
 use Rattle.pw_lower.specs.Codes.{Lowered, lowered_as, temp_of, constant, cut_here}
-use Rattle.pw_lower.specs.Operators.{step_operator, step_type}
+use Rattle.pw_lower.specs.Operators.{step_operator}
 use Rattle.pw_lower.specs.Expressions.{Home, Placed, read, stored, copied, scalar_kind, updated, step_value, fork, gives, in_result, is_void, lower, place, arguments}
 use Rattle.std.specs.declared.alloc.Global.{Global as Heap}
 use Rattle.std.specs.declared.boxed.Box.{Box}
@@ -127,7 +128,7 @@ module _ (h : Home) where
       (place_is a c)
   form_is t ty (Step o a) c =
       ap
-      (λ (p : Placed). step_value o (temp_of (read (scalar_kind (type_of ty)) p)) (updated h.records (step_operator o) (step_type (type_of ty)) Void (scalar_kind (type_of ty)) p.target (temp_of (read (scalar_kind (type_of ty)) p)) (constant 1 (read (scalar_kind (type_of ty)) p).code)))
+      (λ (p : Placed). step_value o (temp_of (read (scalar_kind (type_of ty)) p)) (updated h.records (step_operator o) (promoted_type (type_of ty)) Void (scalar_kind (type_of ty)) p.target (temp_of (read (scalar_kind (type_of ty)) p)) (constant 1 (read (scalar_kind (type_of ty)) p).code)))
       (place_is a c)
   form_is t ty (Cast a) c = refl
   form_is t ty (Decay a) c = refl

@@ -11,6 +11,6 @@ pub mod stores;
 pub mod targets;
 
 pub use home::Home;
-pub use names::{full_name, hidden_name, name_of};
+pub use names::{full_name, hidden_name};
 pub use stores::{Working, copied, stored};
 pub use targets::{address_of_local, target_of_local};

@@ -1,29 +1,16 @@
 //! The names of objects and functions among all modules.
 
-ghost use Rattle.std.specs.Prelude.{◌≡◌, ◌<◌, ◌≤◌, ◌++◌, ◌∷◌, [], decimal, length, IfOk, MatchResult, OnOk};
+ghost use Rattle.std.specs.Prelude.{◌≡◌, ◌<◌, ◌≤◌, ◌++◌, ◌∷◌, [], decimal, IfOk, MatchResult};
 ghost use Rattle.pw_typed.specs.Views.{view_symbol};
 ghost use Rattle.pw_types.specs.FullNames as symbols;
 ghost use Rattle.pw_types.specs.TypedTrees as tree;
 ghost use Rattle.pw_value.specs.Limits.{name_limit};
-ghost use Rattle.pw_value.specs.Names.{IsNameLength};
 
 use itoa::Buffer;
 use pw_typed::Symbol;
 use pw_value::limits::NAME_MAX;
-use pw_value::{Name, NameError, NoMemory};
+use pw_value::{Name, NoMemory};
 use std::alloc::Global;
-
-/// The name of bytes of which there are as many as a name may have.
-pub fn name_of(alloc: Global, bytes: &[u8]) -> Result<Name, NoMemory>
-    requires { IsNameLength (length bytes.now) }
-    ensures { IfOk result (λ name. name ≡ bytes.now) }
-{
-    match Name::new(alloc, bytes) {
-        Ok(name) => Ok(name),
-        Err(NameError::NoMemory) => Err(NoMemory),
-        Err(NameError::Length) => unreachable!(),
-    }
-}
 
 /// Whether so many bytes are within the limit on names. There is no memory for more, and for no fewer.
 fn check_length(count: usize) -> Result<(), NoMemory>
@@ -54,7 +41,7 @@ fn own_name(alloc: Global, home: &Name, name: &[u8]) -> Result<Name, NoMemory>
     bytes.push(b':')?;
     bytes.extend_from_slice(name)?;
     check_length(bytes.len())?;
-    name_of(alloc, &bytes)
+    Name::within(alloc, &bytes)
 }
 
 /// The name `m:.k` of a module's hidden object.

@@ -12,7 +12,6 @@ use pw_lower::operators::{bytes_of, combined, converted, kind_of, side_of, unit_
 use pw_lower::{Code, Side, Target};
 use pw_types::{BinaryOperator, CType, Types};
 use pw_value::{Kind, NoMemory};
-use std::alloc::Global;
 
 /// How an lvalue that is a scalar stands in memory.
 pub fn scalar_kind(ty: &CType) -> Kind

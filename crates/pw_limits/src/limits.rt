@@ -95,7 +95,7 @@ pub fn name_within(so_far: Finding, token: usize, name: &[u8]) -> Finding
     )
 }
 
-/// The depth of a type. What 64 bits cannot tell is want of memory.
+/// The depth of a type. One of 2^64 - 1 or more is want of memory.
 fn told_depth(types: &Types, ty: &CType) -> Result<u64, AllocError>
     ensures told { IfOk result (λ n. n ≡ depth_of types.now (view_type ty.now)) }
     ensures wants { OnErr result (2 ^ 64 - 1 ≤ depth_of types.now (view_type ty.now)) }
@@ -107,7 +107,7 @@ fn told_depth(types: &Types, ty: &CType) -> Result<u64, AllocError>
     Ok(depth)
 }
 
-/// What is found of the limits on a type that a declarator builds. A depth that 64 bits cannot tell is want of memory.
+/// What is found of the limits on a type that a declarator builds. A depth of 2^64 - 1 or more is want of memory.
 pub fn type_within(
     alloc: Global,
     types: &Types,

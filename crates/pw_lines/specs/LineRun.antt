@@ -12,6 +12,7 @@ use Rattle.pw_inst.specs.declared.relocation.Symbol.TheVariants as symbol
 use Rattle.pw_flow.specs.declared.flow.FlowGlobal.{FlowGlobal}
 use Rattle.pw_flow.specs.declared.flow.Item.{Item as FlowItem}
 use Rattle.pw_flow.specs.declared.flow.Item.TheVariants.{Bytes, Address}
+use Rattle.pw_db.specs.Limits.{kept_registers}
 use Rattle.pw_alloc.specs.declared.located.Located.{Located}
 use Rattle.pw_machine.specs.Effect.{condition}
 use Rattle.pw_delay.specs.declared.items.Word.{Word}
@@ -21,7 +22,7 @@ use Rattle.pw_delay.specs.declared.items.Turn.TheVariants.{Back, Goto, If, CallT
 use Rattle.pw_delay.specs.declared.items.Item.TheVariants.{Plain, Turns, Mark}
 use Rattle.pw_run.specs.Runs.{View, Stage, Going, Over, Wrong, Ended, StackFull}
 use Rattle.pw_run.specs.Runs as run
-use Rattle.pw_trace.specs.Traces.{Standing, Event, Called, Returned, Loaded, Stored, kept_registers, with_refusal, touches}
+use Rattle.pw_trace.specs.Traces.{Standing, Event, Called, Returned, Loaded, Stored, with_refusal, touches}
 use Rattle.pw_flowrun.specs.Programs.{Program, Library, GetChar, PutChar, Exit, library_at, globals_of}
 use Rattle.pw_lines.specs.Addresses.{Addresses}
 use Rattle.pw_lines.specs.Acts.{Core, register, put, with_register, Act, Acts, Full, Fails, acts, settled, loaded_at, stored_at}

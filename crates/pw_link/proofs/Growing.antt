@@ -1,6 +1,6 @@
 -- Laws of lists that grow at their end.
 use Rattle.std.proofs.Common.{◌≡◌, ℕ, zero, suc, ◌+◌, ◌*◌, ◌<◌, ◌≤◌, Bool, true, false, not, cond, List, [], ◌∷◌, ◌++◌, map, length, take, insert, get_or, refl, sym, ap, ◌∙◌, arith, add-one, zero-add, append_assoc, subst, drop, ◌-◌}
-use Rattle.std.specs.List.{sum_by, position_or_len}
+use Rattle.std.specs.List.{sum_by, position_or_len, AllByRecursion}
 use Rattle.std.proofs.lemmas.Grind.{take_at_read}
 use Rattle.std.proofs.lemmas.List.{take_all, take-map, drop-map, length-map, length-drop}
 use Rattle.std.proofs.lemmas.List.Sums.{sum_by-cons, sum_by_push}
@@ -10,9 +10,10 @@ use Rattle.pw_flow.specs.declared.flow.FlowGlobal.{FlowGlobal}
 use Rattle.pw_object.specs.declared.functions.ObjectFn.{ObjectFn}
 use Rattle.pw_object.specs.declared.object.Object.{Object}
 use Rattle.pw_milli.specs.declared.routine.Routine.{Routine}
-use Rattle.pw_milli.specs.Library.{listed}
+use Rattle.pw_value.specs.Names.{IsNameLength}
+use Rattle.pw_milli.specs.Library.{listed, routines}
 use Rattle.pw_link.specs.Layout.{Piece, Placed, placed_from, piece_of, Standing, standing_from, Sites, routine_addresses, pieces_of, globals_of}
-use Rattle.pw_flow.specs.ValidFlow.{taken}
+use Rattle.pw_flow.specs.ValidFlow.{global_room}
 use Rattle.pw_link.specs.Sizes.{image_of_parts, fault_of_parts}
 use Rattle.pw_link.specs.Linking.{with_fix, with_fixes, linked, size_fault}
 
@@ -82,14 +83,14 @@ placed_from_push at (q ∷ pieces) p =
     ∙ ap (λ a. here ∷ (placed_from next pieces ++ record { address = a; piece = p } ∷ []))
     (times at (length q.words) (sum_by (λ r. length r.words) pieces) (sum_by (λ r. length r.words) (q ∷ pieces)) (sum_by-cons (λ r. length r.words) q pieces))
 
-pub standing_from_push : (at : ℕ) (globals : List FlowGlobal) (g : FlowGlobal) → standing_from at (globals ++ g ∷ []) ≡ standing_from at globals ++ record { offset = at + sum_by taken globals; global = g } ∷ []
+pub standing_from_push : (at : ℕ) (globals : List FlowGlobal) (g : FlowGlobal) → standing_from at (globals ++ g ∷ []) ≡ standing_from at globals ++ record { offset = at + sum_by global_room globals; global = g } ∷ []
 standing_from_push at [] g = ap (λ a. record { offset = a; global = g } ∷ []) (end at)
 standing_from_push at (h ∷ globals) g =
     let here : Standing = record { offset = at; global = h } in
-    let next : ℕ = at + taken h in
+    let next : ℕ = at + global_room h in
     ap (λ rest. here ∷ rest) (standing_from_push next globals g)
     ∙ ap (λ a. here ∷ (standing_from next globals ++ record { offset = a; global = g } ∷ []))
-    (sums at (taken h) (sum_by taken globals) (sum_by taken (h ∷ globals)) (sum_by-cons taken h globals))
+    (sums at (global_room h) (sum_by global_room globals) (sum_by global_room (h ∷ globals)) (sum_by-cons global_room h globals))
 
 pub with_fixes_push : (sites : Sites) (at : ℕ) (fixes : List Fix) (f : Fix) (words : List ℕ) → with_fixes sites at (fixes ++ f ∷ []) words ≡ with_fix sites at f (with_fixes sites at fixes words)
 with_fixes_push sites at [] f words = refl
@@ -102,10 +103,10 @@ placed_more ps p text at address e f =
     ∙ ap (λ (a : ℕ). placed_from at ps ++ record { address = a; piece = p } ∷ []) f
     ∙ sym (placed_from_push at ps p)
 
-pub stood_more : (gs : List FlowGlobal) (g : FlowGlobal) (stood : List Standing) (offset : ℕ) → stood ≡ standing_from 0 gs → offset ≡ sum_by taken gs → stood ++ record { offset = offset; global = g } ∷ [] ≡ standing_from 0 (gs ++ g ∷ [])
+pub stood_more : (gs : List FlowGlobal) (g : FlowGlobal) (stood : List Standing) (offset : ℕ) → stood ≡ standing_from 0 gs → offset ≡ sum_by global_room gs → stood ++ record { offset = offset; global = g } ∷ [] ≡ standing_from 0 (gs ++ g ∷ [])
 stood_more gs g stood offset e f =
     ap (λ (t : List Standing). t ++ record { offset = offset; global = g } ∷ []) e
-    ∙ ap (λ (a : ℕ). standing_from 0 gs ++ record { offset = a; global = g } ∷ []) (f ∙ sym (zero-add (sum_by taken gs)))
+    ∙ ap (λ (a : ℕ). standing_from 0 gs ++ record { offset = a; global = g } ∷ []) (f ∙ sym (zero-add (sum_by global_room gs)))
     ∙ sym (standing_from_push 0 gs g)
 
 -- one more function of a module
@@ -130,6 +131,24 @@ names_more lib i d lt rs same =
     ∙ ap (λ (n : ℕ). map first (map listed (take n lib))) (add-one i)
     ∙ taken_more_twice first listed lib i d lt
     ∙ ap (λ (rest : List (List ℕ × List ℕ)). map first rest ++ (get_or lib i d).name.now ∷ []) (sym (take-map listed i lib)))
+
+-- each routine has a name of a lawful length
+abbrev HasName : List ℕ × List ℕ → Type 0
+HasName r = IsNameLength (length r.0)
+
+have_names : AllByRecursion HasName routines
+have_names = (
+  (omega arith, omega arith),
+  ((omega arith, omega arith), ((omega arith, omega arith), ((omega arith, omega arith), ((omega arith, omega arith), ((omega arith, omega arith), ((omega arith, omega arith), ((omega arith, omega arith), tt))))))),
+)
+
+has_name_at : (lib : List Routine) (i : ℕ) (d : Routine) → i < length lib → AllByRecursion HasName (map listed lib) → IsNameLength (length (get_or lib i d).name.now)
+has_name_at [] i d lt all = absurd (omega (arith, lt))
+has_name_at (r ∷ lib) zero d lt all = all.0
+has_name_at (r ∷ lib) (suc i) d lt all = has_name_at lib i d (omega (arith, lt)) all.1
+
+pub has_name : (lib : List Routine) (i : ℕ) (d : Routine) → i < length lib → map listed lib ≡ routines → IsNameLength (length (get_or lib i d).name.now)
+has_name lib i d lt same = has_name_at lib i d lt (subst (AllByRecursion HasName) (sym same) have_names)
 
 -- the addresses of the routines that a symbol may be
 abbrev site : Placed → ℕ

@@ -10,7 +10,7 @@ use crate::text::Placed;
 use indexmap::IndexMap;
 use pw_inst::Symbol;
 use pw_value::Name;
-use std::alloc::{AllocError, Global};
+use std::alloc::AllocError;
 
 /// The addresses that go into words and data.
 #[derive(Drop)]

@@ -30,23 +30,13 @@ pub(crate) struct Placed<'a> {
     pub piece: Piece<'a>,
 }
 
-/// Bytes as a name. Bytes that are no name's are told as want of memory.
-fn name_of(alloc: Global, bytes: &[u8]) -> Result<Name, AllocError>
-    ensures { IfOk result (λ name. name ≡ bytes.now) }
-{
-    match Name::new(alloc, bytes) {
-        Ok(name) => Ok(name),
-        Err(_) => Err(AllocError),
-    }
-}
-
 /// The names of the routines.
 pub(crate) fn routine_names(alloc: Global) -> Result<Vec<Name>, AllocError>
     ensures { IfOk result (λ names. names.items ≡ map (λ r. r.0) routines) }
 {
     let mut names = Vec::new(alloc);
     for routine in library() {
-        names.push(name_of(alloc, routine.name)?)?;
+        names.push(Name::within(alloc, routine.name)?)?;
     }
     Ok(names)
 }

@@ -7,13 +7,14 @@ use Rattle.std.specs.Str.{bytes_eq}
 use Rattle.pw_inst.specs.declared.Inst.{Inst}
 use Rattle.pw_inst.specs.InstructionTable.{decoded}
 use Rattle.pw_flow.specs.declared.flow.FlowGlobal.{FlowGlobal}
+use Rattle.pw_db.specs.Limits.{kept_registers}
 use Rattle.pw_alloc.specs.declared.located.Located.{Located}
 use Rattle.pw_machine.specs.declared.ends.End.TheVariants as machine
 use Rattle.pw_machine.specs.Core.{Core, byte_at, word_at}
 use Rattle.pw_machine.specs.Core as core
 use Rattle.pw_machine.specs.Run.{State, Progress, Running, Stopped, run_of}
 use Rattle.pw_run.specs.Runs.{View, Stage, Going, Over, Wrong, Ended, StackFull}
-use Rattle.pw_trace.specs.Traces.{Standing, Event, Called, Returned, Loaded, Stored, kept_registers, with_refusal, touches}
+use Rattle.pw_trace.specs.Traces.{Standing, Event, Called, Returned, Loaded, Stored, with_refusal, touches}
 use Rattle.pw_trace.specs.Traffic.{active}
 use Rattle.pw_flowrun.specs.Programs.{Program, names_of, globals_of}
 use Rattle.pw_lines.specs.Acts as lines

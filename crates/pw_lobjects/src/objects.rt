@@ -8,7 +8,7 @@ ghost use Rattle.pw_typed.specs.Views.{view_function, view_global, view_item, vi
 
 use pw_flow::{Block, End, FlowFn, FlowGlobal, Item, Op};
 use pw_items::Items;
-use pw_lforms::{full_name, name_of};
+use pw_lforms::full_name;
 use pw_lower::operators::{bytes_of, kind_of};
 use pw_typed::{Declared, Symbol, TFunction, TGlobal, TItem};
 use pw_types::{Types, shape};
@@ -23,8 +23,8 @@ fn start_ops(alloc: Global) -> Result<Items<Op>, NoMemory>
     let mut args = Items::new(alloc);
     args.push(0)?;
     let mut ops = Items::new(alloc);
-    ops.push(Op::Call(Some(0), name_of(alloc, MAIN)?, Items::new(alloc)))?;
-    ops.push(Op::Call(None, name_of(alloc, EXIT)?, args))?;
+    ops.push(Op::Call(Some(0), Name::within(alloc, MAIN)?, Items::new(alloc)))?;
+    ops.push(Op::Call(None, Name::within(alloc, EXIT)?, args))?;
     Ok(ops)
 }
 
@@ -39,7 +39,7 @@ pub fn start_function(alloc: Global) -> Result<FlowFn, NoMemory>
         end: End::Return(None),
     })?;
     Ok(FlowFn {
-        name: name_of(alloc, START)?,
+        name: Name::within(alloc, START)?,
         shape: Shape::new(Vec::from_slice(alloc, START_SHAPE)?),
         params: 0,
         temps: 1,

@@ -2,11 +2,12 @@
 use Rattle.std.specs.Prelude.{ℕ, ◌+◌, ◌==◌, Bool, true, false, if◌then◌else◌, Option, Some, None, unwrap_or, List, [], ◌∷◌}
 use Rattle.pw_value.specs.declared.value.Kind.{Kind}
 use Rattle.pw_value.specs.declared.value.Kind.TheVariants.{W32}
-use Rattle.pw_types.specs.Records.{is_record}
+pub use Rattle.pw_types.specs.Kinds.{is_void, is_record}
 use Rattle.pw_types.specs.Shapes.{shape_of}
 use Rattle.pw_types.specs.TypeTrees.{CType, Void, Pointer, QType, Qualified, type_of, is_volatile, RecordValue}
 pub use Rattle.pw_types.specs.FullNames.{full_name}
 use Rattle.pw_types.specs.TypedTrees.{Hidden, Expression, Node, type_at, Number, Str, Local, Global, Function, Unary, Binary, Logic, Cond, Comma, Assign, Compound, Step, Cast, Decay, Member, Deref, Address, Call, CallValue, Expressions, NoExpression, OneExpression}
+use Rattle.pw_types.specs.WellTyped.{promoted_type}
 use Rattle.pw_types.specs.declared.tree.BinaryOperator.{BinaryOperator}
 use Rattle.pw_types.specs.declared.tree.LogicOperator.TheVariants as logic
 use Rattle.pw_types.specs.declared.tree.StepOperator.{StepOperator}
@@ -21,7 +22,7 @@ use Rattle.pw_lower.specs.declared.place.Target.TheVariants.{Kept, Named, Led}
 use Rattle.pw_lower.specs.declared.place.LocalPlace.{LocalPlace}
 use Rattle.pw_lower.specs.declared.place.LocalPlace.TheVariants.{Temp, Slot}
 use Rattle.pw_lower.specs.Places.{place_at}
-use Rattle.pw_lower.specs.Operators.{with, kind_of, bytes_of, unit_of, converted, combined, truth_in, unary_on, step_operator, step_type, is_behind}
+use Rattle.pw_lower.specs.Operators.{with, kind_of, bytes_of, unit_of, converted, combined, truth_in, unary_on, step_operator, is_behind}
 
 -- what an expression is lowered in: the module's name and record types, and the places of the function's locals
 pub record Home : Type 0 where
@@ -161,10 +162,6 @@ pub record Arguments : Type 0 where
   pub code : Code
   pub temps : List ℕ
 
-abbrev pub is_void : CType → Bool
-is_void Void = true
-is_void _ = false
-
 -- a value of one type as one of another; as one of void it is none (C90 6.3.4)
 abbrev pub cast_to : CType → CType → Lowered → Lowered
 cast_to to from x = if is_void to then lowered_as None x.code else converted (kind_of from) (kind_of to) x
@@ -220,7 +217,7 @@ unfoldable mutual
       let p = place h a c in
       let old = read (scalar_kind (type_of ty)) p in
       step_value o (temp_of old)
-      (updated h.records (step_operator o) (step_type (type_of ty)) Void (scalar_kind (type_of ty)) p.target (temp_of old) (constant 1 old.code))
+      (updated h.records (step_operator o) (promoted_type (type_of ty)) Void (scalar_kind (type_of ty)) p.target (temp_of old) (constant 1 old.code))
   lower h (Node t ty (Cast a)) c = cast_to (type_of ty) (type_of (type_at a)) (lower h a c)
   lower h (Node t ty (Decay a)) c = lower h a c
   lower h (Node t ty (Member a offset)) c = value_at (kind_of (type_of ty)) (further offset (lower h a c))

@@ -5,7 +5,6 @@ use Rattle.pw_value.specs.declared.value.Kind.TheVariants.{S8, U8, S16, U16, W32
 use Rattle.pw_types.specs.declared.kind.IntKind.{IntKind}
 use Rattle.pw_types.specs.declared.kind.IntKind.TheVariants.{Char, SChar, UChar, Short, UShort, Int as KInt, UInt, Long, ULong}
 use Rattle.pw_types.specs.Conversions.{is_signed_kind}
-use Rattle.pw_types.specs.WellTyped.{promoted_type}
 use Rattle.pw_types.specs.Layouts.{size_of, layout_of}
 use Rattle.pw_types.specs.TypeTrees.{CType, Int, Pointer, Qualified, RecordValue}
 use Rattle.pw_types.specs.declared.tree.UnaryOperator.{UnaryOperator}
@@ -63,10 +62,6 @@ target_size records _ = None
 -- a pointer to an object of more bytes than 32 bits can count
 abbrev pub HasVastTarget : List RecordValue → CType → Type 0
 HasVastTarget records ty = IsSomeAnd (target_size records ty) (λ size. 2 ^ 32 ≤ size)
-
--- the type in which `++` and `--` work
-abbrev pub step_type : CType → CType
-step_type = promoted_type
 
 -- what an operator's work depends on in the type of an operand
 abbrev pub side_of : List RecordValue → CType → Side

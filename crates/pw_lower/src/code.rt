@@ -62,6 +62,7 @@ impl Code {
     pub fn reserve(&mut self, count: u32) -> Result<u32, NoMemory>
         ensures first { IfOk result (λ n. n ≡ self.old.blocks) }
         ensures code { OnOk result (self.new ≡ spec.reserve count self.old) }
+        ensures fits { OnOk result (self.old.blocks + count < 2 ^ 32) }
         ensures wants { OnErr result (2 ^ 32 ≤ self.old.blocks + count) }
     {
         let first = self.blocks;

@@ -4,12 +4,14 @@ ghost use Rattle.std.specs.Prelude.{◌≡◌, ◌≤◌, ◌^◌, ◌∷◌, []
 ghost use Rattle.pw_lower.specs.Codes.{lowered_as, value_is, temp_of};
 ghost use Rattle.pw_lower.specs.Operators as spec;
 ghost use Rattle.pw_types.specs.Views.{view_type};
+ghost use Rattle.pw_types.specs.WellTyped.{promoted_type};
 
 use crate::code::Code;
 use pw_flow::{BinKind, ExtKind, Op, UnKind};
 use pw_types::{
     BinaryOperator, CType, IntKind, StepOperator, Types, UnaryOperator, layout, promote, size,
 };
+use pw_value::words::word_of_u64;
 use pw_value::{Kind, NoMemory};
 
 /// What an operator's work depends on in the type of an operand: whether it is signed, for a pointer the
@@ -63,7 +65,7 @@ pub fn bytes_of(types: &Types, ty: &CType) -> Result<u32, NoMemory>
     ensures { MatchResult result (λ n. n ≡ spec.bytes_of types.now (view_type ty.now)) (λ _. 2 ^ 32 ≤ spec.bytes_of types.now (view_type ty.now)) }
 {
     match size(types, ty) {
-        Some(bytes) => u32::try_from(bytes).ok().ok_or(NoMemory),
+        Some(bytes) => word_of_u64(bytes),
         None => Ok(0),
     }
 }
@@ -105,7 +107,7 @@ pub fn side_of(types: &Types, ty: &CType) -> Result<Side, NoMemory>
 /// The same of the type in which `++` and `--` work on an operand of a type.
 #[tactic(auto, unfolding(pw_types::specs::Views::view_type), using(pw_types::proofs::ViewLemmas::signature_view))]
 pub fn step_side(types: &Types, ty: &CType) -> Result<Side, NoMemory>
-    ensures { MatchResult result (λ side. side ≡ spec.side_of types.now (spec.step_type (view_type ty.now))) (λ _. spec.HasVastTarget types.now (spec.step_type (view_type ty.now))) }
+    ensures { MatchResult result (λ side. side ≡ spec.side_of types.now (promoted_type (view_type ty.now))) (λ _. spec.HasVastTarget types.now (promoted_type (view_type ty.now))) }
 {
     match ty {
         CType::Int(kind) => Ok(Side {

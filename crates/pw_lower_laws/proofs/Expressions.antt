@@ -2,9 +2,10 @@
 use Rattle.std.proofs.Common.{◌≡◌, ℕ, ◌+◌, ◌*◌, ◌==◌, Bool, true, false, if◌then◌else◌, Option, Some, None, List, length, refl, arith}
 use Rattle.pw_value.specs.declared.value.Kind.{Kind}
 use Rattle.pw_types.specs.Rooms.{expr_nodes, nodes_of_all}
-use Rattle.pw_types.specs.Records.{is_record}
+use Rattle.pw_types.specs.Kinds.{is_record}
 use Rattle.pw_types.specs.TypeTrees.{CType, Void, type_of, RecordValue}
 use Rattle.pw_types.specs.TypedTrees.{Expression, Node, type_at, Number, Str, Local, Global, Function, Unary, Binary, Logic, Cond, Comma, Assign, Compound, Step, Cast, Decay, Member, Deref, Address, Call, CallValue, Expressions, NoExpression, OneExpression, Hidden}
+use Rattle.pw_types.specs.WellTyped.{promoted_type}
 use Rattle.pw_types.specs.declared.tree.UnaryOperator.{UnaryOperator}
 use Rattle.pw_types.specs.declared.tree.UnaryOperator.TheVariants as unary
 use Rattle.pw_types.specs.declared.tree.BinaryOperator.{BinaryOperator}
@@ -23,7 +24,7 @@ use Rattle.pw_lower.specs.declared.place.Target.{Target}
 use Rattle.pw_lower.specs.declared.place.Target.TheVariants.{Kept, Named, Led}
 use Rattle.pw_lower.specs.Codes.{Lowered, lowered_as, temp_of, emit, fresh, constant, reserve, reserve_temps, cut_here, value_is}
 use Rattle.pw_lower.specs.Places.{place_at}
-use Rattle.pw_lower.specs.Operators.{kind_of, with, scaled, moved_by, distance, on_numbers, operation_of, is_turned, sum_or, combined, is_signed, target_size, truth_in, unary_on, extension, extended, converted, step_operator, step_type, is_behind, bytes_of, unit_of}
+use Rattle.pw_lower.specs.Operators.{kind_of, with, scaled, moved_by, distance, on_numbers, operation_of, is_turned, sum_or, combined, is_signed, target_size, truth_in, unary_on, extension, extended, converted, step_operator, is_behind, bytes_of, unit_of}
 use Rattle.pw_flow.specs.FrameRooms.{argument_count}
 use Rattle.pw_lower.specs.Expressions.{Home, Placed, full_name, shape_at, read_target, read, write, further, address_of_global, address_of_local, target_of_local, value_at, value_of_global, value_of_local, stored, copied, scalar_kind, updated, fork, in_result, decides, says, gives, is_void, lower, place, arguments}
 use Rattle.pw_lower_laws.proofs.Growth.{Grows, joins, within, same, emits, reserves_temps, reserves, cuts, turns, adds}
@@ -261,9 +262,9 @@ mutual
       let old = read (scalar_kind (type_of ty)) p in
       let one = constant 1 old.code in
       within
-      (step_value-by (is_behind o) (temp_of old) c (updated h.records (step_operator o) (step_type (type_of ty)) Void (scalar_kind (type_of ty)) p.target (temp_of old) one)
+      (step_value-by (is_behind o) (temp_of old) c (updated h.records (step_operator o) (promoted_type (type_of ty)) Void (scalar_kind (type_of ty)) p.target (temp_of old) one)
       (joins (place-adds h a c) (joins (read_target-adds (scalar_kind (type_of ty)) p.target p.code) (joins (constant-adds 1 old.code)
-      (updated-adds h.records (step_operator o) (step_type (type_of ty)) Void (scalar_kind (type_of ty)) p.target (temp_of old) one)))))
+      (updated-adds h.records (step_operator o) (promoted_type (type_of ty)) Void (scalar_kind (type_of ty)) p.target (temp_of old) one)))))
       (omega arith)
   lower-adds h (Node t ty (Cast a)) c =
       within (joins (lower-adds h a c) (cast_to-by (is_void (type_of ty)) (type_of ty) (type_of (type_at a)) (lower h a c))) (omega arith)

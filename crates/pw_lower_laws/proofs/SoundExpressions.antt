@@ -3,7 +3,7 @@ use Rattle.std.proofs.Common.{◌≡◌, ℕ, ◌+◌, ◌<◌, ◌≤◌, ◌==
 use Rattle.std.specs.Prelude.{slice_get}
 use Rattle.std.specs.List.{AllByRecursion}
 use Rattle.pw_value.specs.declared.value.Kind.{Kind}
-use Rattle.pw_types.specs.Records.{is_record}
+use Rattle.pw_types.specs.Kinds.{is_record}
 use Rattle.pw_types.specs.TypeTrees.{CType, Void, Int, Pointer, Array, Function as FunctionType, Record, QType, QTypes, NoType, OneType, type_of, RecordValue}
 use Rattle.pw_types.specs.TypedTrees.{Expression, Node, Form, type_at, Number, Str, Local, Global, Function, Unary, Binary, Logic, Cond, Comma, Assign, Compound, Step, Cast, Decay, Member, Deref, Address, Call, CallValue, Expressions, NoExpression, OneExpression, Hidden, LocalValue, ModuleValue}
 use Rattle.pw_types.specs.declared.tree.UnaryOperator.{UnaryOperator}
@@ -11,7 +11,7 @@ use Rattle.pw_types.specs.declared.tree.UnaryOperator.TheVariants as unary
 use Rattle.pw_types.specs.declared.tree.BinaryOperator.{BinaryOperator}
 use Rattle.pw_types.specs.declared.tree.BinaryOperator.TheVariants as binary
 use Rattle.pw_types.specs.declared.tree.LogicOperator.TheVariants as logic
-use Rattle.pw_types.specs.WellTyped.{type_in, IsScalar, IsPromoted, IsArithmetic, IsAddressed, FitsUnary, FitsCast, IsModifiable, IsFunctionType, IsLvalueForm, Decays, IsTyped, AreArguments}
+use Rattle.pw_types.specs.WellTyped.{promoted_type, type_in, IsScalar, IsPromoted, IsArithmetic, IsAddressed, FitsUnary, FitsCast, IsModifiable, IsFunctionType, IsLvalueForm, Decays, IsTyped, AreArguments}
 use Rattle.pw_flow.specs.declared.flow.Op.{Op}
 use Rattle.pw_flow.specs.declared.flow.Op.TheVariants as op
 use Rattle.pw_flow.specs.declared.flow.BinKind.{BinKind}
@@ -26,7 +26,7 @@ use Rattle.pw_lower.specs.declared.place.Target.{Target}
 use Rattle.pw_lower.specs.declared.place.Target.TheVariants.{Kept, Named, Led}
 use Rattle.pw_lower.specs.Codes.{Lowered, lowered_as, temp_of, emit, fresh, constant, reserve, reserve_temps, cut_here, value_is}
 use Rattle.pw_lower.specs.Places.{place_at}
-use Rattle.pw_lower.specs.Operators.{kind_of, with, scaled, moved_by, distance, on_numbers, operation_of, is_turned, sum_or, combined, is_signed, target_size, truth_in, unary_on, extension, extended, converted, step_operator, step_type, is_behind, bytes_of, unit_of}
+use Rattle.pw_lower.specs.Operators.{kind_of, with, scaled, moved_by, distance, on_numbers, operation_of, is_turned, sum_or, combined, is_signed, target_size, truth_in, unary_on, extension, extended, converted, step_operator, is_behind, bytes_of, unit_of}
 use Rattle.pw_lower.specs.Expressions.{Home, Placed, full_name, shape_at, read_target, read, write, further, address_of_global, address_of_local, target_of_local, value_at, value_of_global, value_of_local, stored, copied, scalar_kind, updated, fork, in_result, decides, says, gives, is_void, cast_to, lower, place, arguments, Arguments}
 use Rattle.pw_lower_laws.specs.Ranges.{IsInRange}
 use Rattle.pw_lower_laws.proofs.Sound.{below_more_all, Sound, Goes, Made, stays, goes_then, made_then, less, emits-in, temps-in, blocks-in, cuts-in, adds-in, constant-in}
@@ -476,10 +476,10 @@ module _ (m : ModuleValue) (locals : List LocalValue) (h : Home) (slots : ℕ) w
         let old = read (scalar_kind (type_of y)) p in
         let r = read-in slots (scalar_kind (type_of y)) p.target p.code q.goes.sound q.target in
         let one = constant 1 old.code in
-        let new = updated h.records (step_operator o) (step_type (type_of y)) Void (scalar_kind (type_of y)) p.target (temp_of old) one in
+        let new = updated h.records (step_operator o) (promoted_type (type_of y)) Void (scalar_kind (type_of y)) p.target (temp_of old) one in
         valued_of slots c _ (type_of y)
         (made_then (goes_then q.goes r.goes) (step_value-in slots (is_behind o) (temp_of old) old.code new
-        (updated-in slots h.records (step_operator o) (step_type (type_of y)) Void (scalar_kind (type_of y)) p.target (temp_of old) old.code one (constant-in slots 0 1 old.code r.goes.sound (omega arith)) (target_more p.code.temps old.code.temps p.target r.goes.temps q.target) (omega (arith, r.reach)))
+        (updated-in slots h.records (step_operator o) (promoted_type (type_of y)) Void (scalar_kind (type_of y)) p.target (temp_of old) old.code one (constant-in slots 0 1 old.code r.goes.sound (omega arith)) (target_more p.code.temps old.code.temps p.target r.goes.temps q.target) (omega (arith, r.reach)))
         (omega (arith, r.reach))))
     lower-in (Node t y (Cast a)) c w f s = cast-in slots (type_of y) (type_in a) c (lower h a c) w.1.1 (lower-in a c w.1.0 f s)
     lower-in (Node t y (Decay a)) c w f s =

@@ -10,7 +10,7 @@ use Rattle.pw_types.specs.TypedTrees.{Symbol, External, Internal, Hidden}
 use Rattle.pw_flow.specs.ValidFlow.{AreDistinct}
 use Rattle.pw_flow.proofs.Lists.{all_append}
 use Rattle.pw_lower.specs.Expressions.{full_name}
-use Rattle.pw_lowered.specs.Within.{IsLetter, IsIdentifier, IsNamed}
+use Rattle.pw_lowered.specs.Within.{IsLetter, AreLetters, IsNamed}
 
 pub all_more : {X : Type 0} (P Q : X → Type 0) (xs : List X) → ((x : X) → P x → Q x) → AllByRecursion P xs → AllByRecursion Q xs
 all_more P Q [] f h = tt
@@ -31,7 +31,7 @@ colon_in : (home x : List ℕ) → AllByRecursion (λ (b : ℕ). b ≢ 58) (home
 colon_in [] x h = h.0 refl
 colon_in (b ∷ home) x h = colon_in home x h.1
 
-no_colon : (name : List ℕ) → IsIdentifier name → AllByRecursion (λ (b : ℕ). b ≢ 58) name
+no_colon : (name : List ℕ) → AreLetters name → AllByRecursion (λ (b : ℕ). b ≢ 58) name
 no_colon name h = all_more IsLetter (λ (b : ℕ). b ≢ 58) name letter_no_colon h
 
 apart : (a b : ℕ) → a < b → a ≢ b
@@ -52,12 +52,12 @@ own_is_not home x name h = λ e. colon_in home x (subst (λ (n : List ℕ). AllB
 
 -- ---- ordinary names
 
-pub identifier_ordinary : (name : List ℕ) → IsIdentifier name → IsOrdinary name
-identifier_ordinary name h = λ e. letter_no_dollar (subst IsIdentifier e h).0
+pub identifier_ordinary : (name : List ℕ) → AreLetters name → IsOrdinary name
+identifier_ordinary name h = λ e. letter_no_dollar (subst AreLetters e h).0
 
 -- a name that all modules share is an identifier
 abbrev pub IsShared : Symbol → Type 0
-IsShared (External name) = IsIdentifier name
+IsShared (External name) = AreLetters name
 IsShared (Internal name) = Unit {0}
 IsShared (Hidden k) = Unit {0}
 
@@ -79,8 +79,8 @@ named_main home (Hidden k) e = absurd (own_is_not home (46 ∷ decimal k) main_n
 
 -- ---- one name, one symbol
 
-no_dot : (x : List ℕ) (k : ℕ) → IsIdentifier x → x ≡ 46 ∷ decimal k → ⊥
-no_dot x k h e = letter_no_dot (subst IsIdentifier e h).0
+no_dot : (x : List ℕ) (k : ℕ) → AreLetters x → x ≡ 46 ∷ decimal k → ⊥
+no_dot x k h e = letter_no_dot (subst AreLetters e h).0
 
 pub one_symbol : (home : List ℕ) (s t : Symbol) → IsNamed s → IsNamed t → full_name home s ≡ full_name home t → s ≡ t
 one_symbol home (External x) (External y) h i e = ap External e

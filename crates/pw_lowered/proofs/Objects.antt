@@ -20,7 +20,7 @@ use Rattle.pw_flow.specs.declared.flow.Item.{Item}
 use Rattle.pw_flow.proofs.Lists.{all_flat}
 use Rattle.pw_lower.specs.Operators.{kind_of, kind_of_int, bytes_of}
 use Rattle.pw_lower.specs.Modules.{item_of, lowered_item, lowered_global}
-use Rattle.pw_lowered.specs.Within.{IsIdentifier, IsObjectWithin}
+use Rattle.pw_lowered.specs.Within.{AreLetters, IsObjectWithin}
 use Rattle.pw_lowered.proofs.Names.{IsShared, name_ordinary}
 
 -- ---- sizes
@@ -78,20 +78,20 @@ items_lawful home m from size (p ∷ rest) h full =
       subst (λ (k : ℕ). AreItems size k (map (lowered_item home) rest)) next (items_lawful home m (p.offset + typed_size p.item) size rest h.2 full.1),
     )
 
-pub declared_shared : (m : ModuleValue) → All (λ d. IsIdentifier d.name) m.declared → (d : DeclaredValue) → Contains m.declared d → IsIdentifier d.name
-declared_shared m ids d there = subst (λ (e : DeclaredValue). IsIdentifier e.name) there.2 (ids there.0 d there.1)
+pub declared_shared : (m : ModuleValue) → All (λ d. AreLetters d.name) m.declared → (d : DeclaredValue) → Contains m.declared d → AreLetters d.name
+declared_shared m ids d there = subst (λ (e : DeclaredValue). AreLetters e.name) there.2 (ids there.0 d there.1)
 
-name_shared : (m : ModuleValue) (s : Symbol) → All (λ d. IsIdentifier d.name) m.declared → IsName m s → IsShared s
-name_shared m (External x) ids h = subst IsIdentifier h.2 (declared_shared m ids h.0 h.1)
+name_shared : (m : ModuleValue) (s : Symbol) → All (λ d. AreLetters d.name) m.declared → IsName m s → IsShared s
+name_shared m (External x) ids h = subst AreLetters h.2 (declared_shared m ids h.0 h.1)
 name_shared m (Internal x) ids h = tt
 name_shared m (Hidden k) ids h = tt
 
-item_ordinary : (home : List ℕ) (m : ModuleValue) (i : ItemValue) → All (λ d. IsIdentifier d.name) m.declared → IsTypedItem m i → AllByRecursion IsOrdinary (item_names (item_of home i))
+item_ordinary : (home : List ℕ) (m : ModuleValue) (i : ItemValue) → All (λ d. AreLetters d.name) m.declared → IsTypedItem m i → AllByRecursion IsOrdinary (item_names (item_of home i))
 item_ordinary home m (ItemBytes bytes) ids h = tt
 item_ordinary home m (ItemAddress s n) ids h = (name_ordinary home s (name_shared m s ids h.0), tt)
 
 items_ordinary :
-    (home : List ℕ) (m : ModuleValue) (from size : ℕ) (items : List PlacedItem) → All (λ d. IsIdentifier d.name) m.declared → AreTypedItems m from size items
+    (home : List ℕ) (m : ModuleValue) (from size : ℕ) (items : List PlacedItem) → All (λ d. AreLetters d.name) m.declared → AreTypedItems m from size items
     → AllByRecursion (λ (i : ℕ × Item). AllByRecursion IsOrdinary (item_names i.1)) (map (lowered_item home) items)
 items_ordinary home m from size [] ids h = tt
 items_ordinary home m from size (p ∷ rest) ids h =
@@ -106,6 +106,6 @@ global_lawful home m g h w = record {
   items = items_lawful home m 0 (bytes_of m.records (type_of g.ty)) g.items h.items (recursion_from_All (λ (p : PlacedItem). 0 < typed_size p.item) g.items w.items);
 }
 
-pub global_ordinary : (home : List ℕ) (m : ModuleValue) (g : GlobalValue) → All (λ d. IsIdentifier d.name) m.declared → IsTypedGlobal m g → AllByRecursion IsOrdinary (names_in_global (lowered_global home m.records g))
+pub global_ordinary : (home : List ℕ) (m : ModuleValue) (g : GlobalValue) → All (λ d. AreLetters d.name) m.declared → IsTypedGlobal m g → AllByRecursion IsOrdinary (names_in_global (lowered_global home m.records g))
 global_ordinary home m g ids h =
     all_flat (λ (placed : ℕ × Item). item_names placed.1) IsOrdinary (map (lowered_item home) g.items) (items_ordinary home m 0 (bytes_of m.records (type_of g.ty)) g.items ids h.items)

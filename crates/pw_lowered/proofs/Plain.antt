@@ -13,7 +13,7 @@ use Rattle.pw_types.specs.declared.kind.IntKind.TheVariants as K
 use Rattle.pw_types.specs.Conversions.{size_of_kind}
 use Rattle.pw_types.specs.Layouts.{content_at, size_of}
 use Rattle.pw_types.specs.Sizes.{passing, oversize_of}
-use Rattle.pw_types.specs.Records.{is_record}
+use Rattle.pw_types.specs.Kinds.{is_record}
 use Rattle.pw_types.specs.TypeTrees.{CType, Void, Int, Pointer, Array, Function as FunctionType, Record, QType, Qualified, QTypes, NoType, OneType, type_of, ContentValue, RecordValue}
 use Rattle.pw_types.specs.TypedTrees.{Symbol, External, Internal, Expression, Node, type_at, Number, Str, Local, Global, Function, Unary, Binary, Logic, Cond, Comma, Assign, Compound, Step, Cast, Decay, Member, Deref, Address, Call, CallValue, Expressions, NoExpression, OneExpression, Hidden, LocalValue, ModuleValue}
 use Rattle.pw_types.specs.declared.tree.UnaryOperator.{UnaryOperator}
@@ -21,7 +21,7 @@ use Rattle.pw_types.specs.declared.tree.UnaryOperator.TheVariants as unary
 use Rattle.pw_types.specs.declared.tree.BinaryOperator.{BinaryOperator}
 use Rattle.pw_types.specs.declared.tree.BinaryOperator.TheVariants as binary
 use Rattle.pw_types.specs.declared.tree.LogicOperator.TheVariants as logic
-use Rattle.pw_types.specs.WellTyped.{type_in, IsComplete, IsMember, IsNumber, IsObject, IsFunctionOf, IsTyped, AreArguments}
+use Rattle.pw_types.specs.WellTyped.{promoted_type, type_in, IsComplete, IsMember, IsNumber, IsObject, IsFunctionOf, IsTyped, AreArguments}
 use Rattle.pw_flow.specs.FlowGraph.{op_names}
 use Rattle.pw_flow.specs.ValidFlow.{IsWord}
 use Rattle.pw_flow.specs.declared.flow.Block.{Block}
@@ -43,9 +43,9 @@ use Rattle.pw_lower.specs.declared.place.Target.{Target}
 use Rattle.pw_lower.specs.declared.place.Target.TheVariants.{Kept, Named, Led}
 use Rattle.pw_lower.specs.Codes.{Lowered, lowered_as, temp_of, emit, fresh, constant, reserve, reserve_temps, cut, cut_here, value_is}
 use Rattle.pw_lower.specs.Places.{place_at}
-use Rattle.pw_lower.specs.Operators.{kind_of, with, scaled, moved_by, distance, on_numbers, operation_of, is_turned, sum_or, combined, is_signed, target_size, truth_in, unary_on, extension, extended, converted, step_operator, step_type, is_behind, bytes_of, unit_of}
+use Rattle.pw_lower.specs.Operators.{kind_of, with, scaled, moved_by, distance, on_numbers, operation_of, is_turned, sum_or, combined, is_signed, target_size, truth_in, unary_on, extension, extended, converted, step_operator, is_behind, bytes_of, unit_of}
 use Rattle.pw_lower.specs.Expressions.{Home, Placed, full_name, shape_at, read_target, read, write, further, address_of_global, address_of_local, target_of_local, value_at, value_of_global, value_of_local, stored, copied, scalar_kind, updated, fork, decides, says, gives, is_void, lower, place, arguments}
-use Rattle.pw_lowered.specs.Within.{IsIdentifier, IsCopied, AreRecordsWithin, IsSized, count_of, IsSmall, AreSmall}
+use Rattle.pw_lowered.specs.Within.{AreLetters, IsCopied, AreRecordsWithin, IsSized, count_of, IsSmall, AreSmall}
 use Rattle.pw_lowered.proofs.Names.{IsShared, name_ordinary}
 use Rattle.pw_lowered.proofs.Objects.{declared_shared}
 
@@ -108,7 +108,7 @@ target_small records (Array q n) e = tt
 target_small records (FunctionType q ps) e = tt
 target_small records (Record n) e = tt
 
-step_small : (records : List RecordValue) (ty : CType) → IsSized records ty → IfSome (target_size records (step_type ty)) IsWord
+step_small : (records : List RecordValue) (ty : CType) → IsSized records ty → IfSome (target_size records (promoted_type ty)) IsWord
 step_small records Void e = tt
 step_small records (Int k) e = tt
 step_small records (Pointer q) e = target_small records (Pointer q) e
@@ -340,17 +340,17 @@ module _ (d : ℕ) (dw : d < 2 ^ 32) where
 
   -- ---- expressions
 
-  module _ (m : ModuleValue) (known : AreRecordsWithin m.records) (ids : All (λ d. IsIdentifier d.name) m.declared) (locals : List LocalValue) (name : List ℕ) (places : List LocalPlace) where
+  module _ (m : ModuleValue) (known : AreRecordsWithin m.records) (ids : All (λ d. AreLetters d.name) m.declared) (locals : List LocalValue) (name : List ℕ) (places : List LocalPlace) where
     abbrev pub here : Home
     here = record { name = name; records = m.records; places = places }
 
     object-shared : (s : Symbol) (ty : QType) → IsObject m s ty → IsShared s
-    object-shared (External x) ty w = subst IsIdentifier w.name_is (declared_shared m ids w.entry w.there)
+    object-shared (External x) ty w = subst AreLetters w.name_is (declared_shared m ids w.entry w.there)
     object-shared (Internal x) ty w = tt
     object-shared (Hidden k) ty w = tt
 
     function-shared : (s : Symbol) (ty : QType) → IsFunctionOf m s ty → IsShared s
-    function-shared (External x) ty w = subst IsIdentifier w.name_is (declared_shared m ids w.entry w.there)
+    function-shared (External x) ty w = subst AreLetters w.name_is (declared_shared m ids w.entry w.there)
     function-shared (Internal x) ty w = tt
     function-shared (Hidden k) ty w = tt
 
@@ -414,8 +414,8 @@ module _ (d : ℕ) (dw : d < 2 ^ 32) where
           let q = place here a c in
           let old = read (scalar_kind (type_of y)) q in
           let one = constant 1 old.code in
-          step-plain (is_behind o) (temp_of old) (updated m.records (step_operator o) (step_type (type_of y)) Void (scalar_kind (type_of y)) q.target (temp_of old) one)
-          (updated-plain m.records (step_operator o) (step_type (type_of y)) Void (scalar_kind (type_of y)) q.target (temp_of old) one (step_small m.records (type_of y) s.0) tt (place-target a c w.1.0)
+          step-plain (is_behind o) (temp_of old) (updated m.records (step_operator o) (promoted_type (type_of y)) Void (scalar_kind (type_of y)) q.target (temp_of old) one)
+          (updated-plain m.records (step_operator o) (promoted_type (type_of y)) Void (scalar_kind (type_of y)) q.target (temp_of old) one (step_small m.records (type_of y) s.0) tt (place-target a c w.1.0)
           (constant-plain 1 old.code (omega arith) (read-plain (scalar_kind (type_of y)) q.target q.code (place-target a c w.1.0) (place-plain a c w.1.0 s.1 p))))
       lower-plain (Node t y (Cast a)) c w s p = cast-plain (is_void (type_of y)) (type_of y) (type_in a) (lower here a c) (lower-plain a c w.1.0 s.1 p)
       lower-plain (Node t y (Decay a)) c w s p = lower-plain a c w.1.0 s.1 p

@@ -31,7 +31,7 @@ use Rattle.pw_lower.specs.Expressions.{Home, full_name, scalar_kind, address_of_
 use Rattle.pw_lower.specs.Statements.{labels_of, local_type, initialised_by, copied_from, initialised, initialised_all, effects, test, test_or_go, choose, default_or, chosen, begun, looping, repeating, counting, switching, returning, Frame, lower_statement, lower_arms, lower_otherwise, lower_statements}
 use Rattle.pw_lower.specs.Modules.{parameters_stored, closed_at_start, start_code, frame_of, entered, function_code, lowered_function}
 use Rattle.pw_lower_laws.specs.Bounds.{IsBounded, IsBlockBounded, IsFunctionBounded}
-use Rattle.pw_lowered.specs.Within.{IsIdentifier, IsCopied, AreRecordsWithin, IsSmall, IsSmallOrAbsent, IsSmallIn, KeepsLimits, KeepLimits, ArmsKeepLimits, ElseKeepsLimits, IsFunctionWithin}
+use Rattle.pw_lowered.specs.Within.{AreLetters, IsCopied, AreRecordsWithin, IsSmall, IsSmallOrAbsent, IsSmallIn, KeepsLimits, KeepLimits, ArmsKeepLimits, ElseKeepsLimits, IsFunctionWithin}
 use Rattle.pw_lowered.proofs.Names.{all_more, name_ordinary}
 use Rattle.pw_lowered.proofs.Plain.{IsPlainOp, IsPlainBlock, IsPlain, at_place, number_small, emit-plain, constant-plain, cut-plain, turn-plain, with-plain, global-plain, address-plain, local-target, local-plain, stored-plain, copied-plain, lower-plain}
 
@@ -39,7 +39,7 @@ leave-plain : (d : ℕ) → d < 2 ^ 32 → (end : End) (c : Code) → IsPlain d 
 leave-plain d dw end c p = turn-plain d dw end c.blocks (reserve 1 c) p
 
 module _
-    (m : ModuleValue) (known : AreRecordsWithin m.records) (ids : All (λ d. IsIdentifier d.name) m.declared) (f : FunctionValue) (name : List ℕ) (places : List LocalPlace)
+    (m : ModuleValue) (known : AreRecordsWithin m.records) (ids : All (λ d. AreLetters d.name) m.declared) (f : FunctionValue) (name : List ℕ) (places : List LocalPlace)
     (objects : AllByRecursion (λ (l : LocalValue). IsCopied m.records (type_of l.ty)) f.locals)
   where
     abbrev here : Home
@@ -312,7 +312,7 @@ bounded-blocks (b ∷ rest) h = (record { depth = h.0.0; ops = all_more IsPlainO
 plain_room : (m : ModuleValue) (f : FunctionValue) → room_of m.records f ≤ room_limit → 0 + stmt_nodes f.body < 2 ^ 32
 plain_room m f r = omega (arith, r)
 
-function-plain : (home : List ℕ) (m : ModuleValue) (f : FunctionValue) → AreRecordsWithin m.records → All (λ d. IsIdentifier d.name) m.declared → IsFunction m f → IsFunctionWithin m f → AllByRecursion IsPlainBlock (lowered_function home m.records f).blocks
+function-plain : (home : List ℕ) (m : ModuleValue) (f : FunctionValue) → AreRecordsWithin m.records → All (λ d. AreLetters d.name) m.declared → IsFunction m f → IsFunctionWithin m f → AllByRecursion IsPlainBlock (lowered_function home m.records f).blocks
 unfolding lowered_function
 function-plain home m f known ids h i =
     let places = places_of f in
@@ -326,7 +326,7 @@ function-plain home m f known ids h i =
     let done = turn-plain 0 (omega arith) (Returned None) 0 (lower_statement fr ways f.body (entered f)) body in
     blocks-plain c.closed c.blocks done.1
 
-pub function_ordinary : (home : List ℕ) (m : ModuleValue) (f : FunctionValue) → AreRecordsWithin m.records → All (λ d. IsIdentifier d.name) m.declared → IsFunction m f → IsFunctionWithin m f → AllByRecursion IsOrdinary (names_in_function (lowered_function home m.records f))
+pub function_ordinary : (home : List ℕ) (m : ModuleValue) (f : FunctionValue) → AreRecordsWithin m.records → All (λ d. AreLetters d.name) m.declared → IsFunction m f → IsFunctionWithin m f → AllByRecursion IsOrdinary (names_in_function (lowered_function home m.records f))
 function_ordinary home m f known ids h i =
     let blocks = (lowered_function home m.records f).blocks in
     all_flat names_in_block IsOrdinary blocks (ordinary-blocks blocks (function-plain home m f known ids h i))
@@ -335,7 +335,7 @@ params_are : (home : List ℕ) (m : ModuleValue) (f : FunctionValue) → (lowere
 unfolding lowered_function
 params_are home m f = refl
 
-pub function_bounded : (home : List ℕ) (m : ModuleValue) (f : FunctionValue) → AreRecordsWithin m.records → All (λ d. IsIdentifier d.name) m.declared → IsFunction m f → IsFunctionWithin m f → IsFunctionBounded (lowered_function home m.records f)
+pub function_bounded : (home : List ℕ) (m : ModuleValue) (f : FunctionValue) → AreRecordsWithin m.records → All (λ d. AreLetters d.name) m.declared → IsFunction m f → IsFunctionWithin m f → IsFunctionBounded (lowered_function home m.records f)
 function_bounded home m f known ids h i = record {
   params = omega (arith, params_are home m f, i.params);
   blocks = bounded-blocks (lowered_function home m.records f).blocks (function-plain home m f known ids h i);

@@ -1,4 +1,4 @@
--- What checking keeps of a module beside its types: names are identifiers, no part of an object's bytes is empty, and
+-- What checking keeps of a module beside its types: names are of letters, no part of an object's bytes is empty, and
 -- sizes, arguments, parameters and rooms keep their limits.
 use Rattle.std.specs.Prelude.{ℕ, suc, ◌≡◌, ◌<◌, ◌≤◌, ◌^◌, ◌⊎◌, Option, None, Some, List, All}
 use Rattle.std.specs.List.{AllByRecursion}
@@ -19,13 +19,14 @@ use Rattle.pw_lower_laws.specs.Parts.{partless}
 abbrev pub IsLetter : ℕ → Type 0
 IsLetter b = ((48 ≤ b) × (b ≤ 57)) ⊎ ((65 ≤ b) × (b ≤ 90)) ⊎ (b ≡ 95) ⊎ ((97 ≤ b) × (b ≤ 122))
 
-abbrev pub IsIdentifier : List ℕ → Type 0
-IsIdentifier name = AllByRecursion IsLetter name
+-- the bytes of names, whichever of them is first: an identifier is more, it begins with no digit and is no keyword
+abbrev pub AreLetters : List ℕ → Type 0
+AreLetters name = AllByRecursion IsLetter name
 
 -- a name that a text can give, or the number of a hidden object
 abbrev pub IsNamed : Symbol → Type 0
-IsNamed (External name) = IsIdentifier name
-IsNamed (Internal name) = IsIdentifier name
+IsNamed (External name) = AreLetters name
+IsNamed (Internal name) = AreLetters name
 IsNamed (Hidden k) = k < 2 ^ 32
 
 -- ---- types
@@ -131,6 +132,6 @@ pub record IsFunctionWithin (m : ModuleValue) (f : FunctionValue) : Type 0 where
 
 pub record IsWithin (m : ModuleValue) : Type 0 where
   pub records : AreRecordsWithin m.records
-  pub declared : All (λ d. IsIdentifier d.name) m.declared
+  pub declared : All (λ d. AreLetters d.name) m.declared
   pub globals : All IsObjectWithin m.globals
   pub functions : All (IsFunctionWithin m) m.functions

@@ -15,6 +15,7 @@ use pw_lparts::blocks::{bare, in_order};
 use pw_lplaces::{places_of, slots_of, store_parameters, temps_of};
 use pw_typed::TFunction;
 use pw_types::{Types, shape};
+use pw_value::words::word_of;
 use pw_value::{Name, NoMemory};
 use std::alloc::Global;
 
@@ -42,7 +43,7 @@ fn blocks_at_start(named: &[u32]) -> Result<u32, NoMemory>
 {
     match named {
         [] => Ok(1),
-        [_, rest @ ..] => u32::try_from(rest.len() + 3).ok().ok_or(NoMemory),
+        [_, rest @ ..] => word_of(rest.len() + 3),
     }
 }
 

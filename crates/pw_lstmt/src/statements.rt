@@ -6,17 +6,17 @@ ghost use Rattle.pw_lower.specs.Codes as codes;
 ghost use Rattle.pw_lower.specs.Expressions.{lower as lowered};
 ghost use Rattle.pw_lower.specs.Statements as spec;
 ghost use Rattle.pw_lstmt.specs.Frames.{view_frame, all_joined, arm_closed, arm_code, arm_opened, arms_code, else_code, for_closed, for_opened, join_from, join_of, joins_of};
-ghost use Rattle.pw_typed.specs.Views.{view_expr, view_optional, view_stmt, view_stmts, view_arms, view_cases, view_otherwise};
+ghost use Rattle.pw_typed.specs.Views.{view_expr, view_optional, view_stmt, view_stmts, view_arms, view_cases, view_initialisers, view_otherwise};
 
 use pw_flow::End;
 use pw_lexpr::{Home, lower};
-use pw_lower::code::further;
 use pw_lower::{Code, Ways};
 use pw_lparts::Frame;
 use pw_lparts::cases::{begin_labels, choose, go_on, labels_of};
 use pw_lparts::initialisers::initialise_all;
-use pw_typed::{Arm, Case, TExpr, TStmt, TStmtForm};
+use pw_typed::{Arm, Case, Initialiser, TExpr, TStmt, TStmtForm};
 use pw_value::NoMemory;
+use pw_value::words::{next_word, word_of};
 use std::alloc::Global;
 
 /// An expression, for its side effects.
@@ -91,14 +91,10 @@ pub fn lower_statement(
             initialisers,
             items,
             ..
-        } => {
-            initialise_all(alloc, frame, initialisers, code)?;
-            lower_statements(alloc, frame, ways, items, code)
-        }
+        } => lower_block(alloc, frame, ways, initialisers, items, code),
         TStmtForm::If(arms, otherwise) => {
             let joins = lower_arms(alloc, frame, ways, arms, otherwise.is_some(), code)?;
-            lower_otherwise(alloc, frame, ways, otherwise, code)?;
-            close_joins(alloc, joins, code)
+            close_if(alloc, frame, ways, otherwise, joins, code)
         }
         TStmtForm::While(e, body) => lower_while(alloc, frame, body, e, code),
         TStmtForm::Do(body, e) => lower_do(alloc, frame, body, e, code),
@@ -136,6 +132,23 @@ fn lower_return(
         None => None,
     };
     code.leave(alloc, End::Return(value))
+}
+
+/// Lowers a block.
+#[cycle(statement)]
+fn lower_block(
+    alloc: Global,
+    frame: Frame,
+    ways: Ways,
+    initialisers: &[Initialiser],
+    items: &[TStmt],
+    code: &mut Code,
+) -> Result<(), NoMemory>
+    ensures { OnOk result (code.new
+        ≡ spec.lower_statements (view_frame frame.entry) ways (view_stmts items.now) (spec.initialised_all (view_frame frame.entry).home (view_frame frame.entry).locals (view_initialisers initialisers.now) code.old)) }
+{
+    initialise_all(alloc, frame, initialisers, code)?;
+    lower_statements(alloc, frame, ways, items, code)
 }
 
 /// Lowers statements in order.
@@ -255,6 +268,23 @@ fn lower_otherwise(
         Some(s) => lower_statement(alloc, frame, ways, s, code),
         None => Ok(()),
     }
+}
+
+/// What stands behind the arms of an `if`: a last `else`, where there is one, and the blocks in which the ways of
+/// the arms join.
+#[cycle(statement)]
+fn close_if(
+    alloc: Global,
+    frame: Frame,
+    ways: Ways,
+    otherwise: &Option<Box<TStmt>>,
+    joins: Vec<u32>,
+    code: &mut Code,
+) -> Result<(), NoMemory>
+    ensures { OnOk result (code.new ≡ all_joined joins.items (else_code (view_frame frame.entry) ways (view_otherwise otherwise.now) code.old)) }
+{
+    lower_otherwise(alloc, frame, ways, otherwise, code)?;
+    close_joins(alloc, joins, code)
 }
 
 /// Closes joins from the last to the first.
@@ -403,11 +433,8 @@ fn reserve_labels(count: usize, code: &mut Code) -> Result<u32, NoMemory>
     ensures fits { OnOk result (code.old.blocks + 1 + count < 2 ^ 32) }
     ensures wants { OnErr result (2 ^ 32 ≤ code.old.blocks + 1 + count) }
 {
-    let count = u32::try_from(count).ok().ok_or(NoMemory)?;
-    let blocks = further(count, 1)?;
-    let out = code.reserve(blocks)?;
-    let _ = further(out, blocks)?;
-    Ok(out)
+    let blocks = next_word(word_of(count)?)?;
+    code.reserve(blocks)
 }
 
 /// Numbers the blocks of a `switch`: the one behind it, which is answered, and those of its labels.

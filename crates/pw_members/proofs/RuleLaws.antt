@@ -1,9 +1,9 @@
 -- What ends a rule, and a point by what is found there.
-use Rattle.std.proofs.Common.{◌≡◌, ◌⊎◌, ℕ, true, Option, None, Some, Result, Ok, Err, refl, ap, sym, subst, ◌∙◌}
+use Rattle.std.proofs.Common.{◌≡◌, ◌⊎◌, None, Some, Result, Ok, Err, ap, ◌∙◌}
 use mathlib.Core.Logic.{inl, inr}
 use Rattle.pw_walk.specs.Calls.{Obeys}
-use Rattle.pw_walk.specs.Causes.{Constraint, Point, fault_of}
-use Rattle.pw_walk.specs.Walks.{Walk, Done, Passing, Closed, outcome}
+use Rattle.pw_walk.specs.Causes.{Point}
+use Rattle.pw_walk.specs.Walks.{Walk, Done, Passing, outcome}
 use Rattle.pw_walk.specs.declared.fault.CheckFault.{CheckFault}
 use Rattle.pw_walk.specs.declared.fault.CheckKind.TheVariants.{NoMemory}
 use Rattle.pw_walk.proofs.CallLaws.{same_call}
@@ -14,13 +14,6 @@ use Rattle.pw_finding.proofs.FindingLaws.{stopped_by_found}
 pub made_ok : {S A R : Type 0} (view : R → A) (x : R) (a : A) (s left : S) → a ≡ view x → s ≡ left → Obeys view (Done (a, s)) (Ok x) left
 unfolding outcome
 made_ok view x a s left e f = record { made = cc; told = tt }
-
--- nothing can stand here
-pub refused_err : {S A R : Type 0} (view : R → A) (constraint : Constraint) (token : ℕ) (fault : CheckFault) (left : S)
-    → fault ≡ fault_of (record { constraint = constraint; token = token; broken = true })
-    → Obeys {S = S} {A = A} {R = R} view (Closed constraint token) (Err fault) left
-unfolding outcome
-refused_err {S} {A} {R} view constraint token fault left e = record { made = tt; told = inr (ap Err (sym e)) }
 
 -- behind a point at which nothing is found, what follows decides
 pub passed_ok : {S A R : Type 0} (view : R → A) (p : Point) (w : Walk (A × S)) (r : Result R CheckFault) (left : S)
@@ -38,12 +31,3 @@ passed_err view p w fault left h = record { made = tt; told = told_by h }
     told_by : (fault.kind ≡ NoMemory) ⊎ (found p ≡ Some fault) → (fault.kind ≡ NoMemory) ⊎ (outcome (Passing p w) ≡ Err fault)
     told_by (inl none) = inl none
     told_by (inr is) = inr (stopped_by_found p (outcome w) ∙ ap (λ o. told o (outcome w)) is)
-
--- a point alone
-pub told_obeys : {S : Type 0} (p : Point) (s : S) (o : Option CheckFault) (r : Result (Unit {0}) CheckFault)
-    → o ≡ found p → r ≡ told o (Ok tt) → Obeys (λ u. u) (Passing p (Done (tt, s))) r s
-told_obeys p s None r seen e =
-    subst (λ x. Obeys (λ u. u) (Passing p (Done (tt, s))) x s) (sym e)
-    (passed_ok (λ u. u) p (Done (tt, s)) (Ok tt) s (sym seen) (made_ok (λ u. u) tt tt s s refl refl))
-told_obeys p s (Some f) r seen e =
-    subst (λ x. Obeys (λ u. u) (Passing p (Done (tt, s))) x s) (sym e) (passed_err (λ u. u) p (Done (tt, s)) f s (inr (sym seen)))

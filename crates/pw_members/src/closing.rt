@@ -15,7 +15,7 @@ use pw_types::{CType, QType, RecordFault, RecordKind, are_object_types, record_c
 use pw_walk::{CheckFault, CheckKind, Which};
 use std::alloc::Global;
 
-// A limit that a structure or union passes, at a token. A number that 64 bits cannot tell is want of memory.
+// A limit that a structure or union passes, at a token. A number of 2^64 - 1 or more is want of memory.
 fn record_fault(refused: RecordFault, token: usize) -> CheckFault
     ensures { result ≡ fault_of_record refused token }
 {

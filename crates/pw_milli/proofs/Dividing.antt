@@ -52,9 +52,6 @@ takes q D r n j e le pos lt =
     let same : (q + j) % 2 ^ 32 ≡ q + j = omega (arith, sum, small) in
     rw same (omega (arith, sum))
 
-product_of : (a b D r n : ℕ) → a ≡ b → b * D + r ≡ n → a * D + r ≡ n
-product_of a b D r n e h = rw e h
-
 one_of : (D : ℕ) → 1 * D ≡ D
 one_of D = omega arith
 

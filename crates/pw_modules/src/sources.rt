@@ -11,7 +11,7 @@ ghost use Rattle.pw_modules.specs.Views.{source};
 use crate::modules::{Module, module_files, stem};
 use pw_io::{Store, StoreError};
 use pw_token::MAX_TEXT;
-use pw_value::{Name, NameError};
+use pw_value::Name;
 use std::alloc::{AllocError, Global};
 
 /// The greatest count of bytes that is read of a module's text: one more than a text may have.
@@ -32,10 +32,9 @@ fn read_source<S: Store>(
         return Ok(None);
     };
     text.truncate(TEXT_READ);
-    match Name::new(alloc, stem(file)) {
+    match Name::within(alloc, stem(file)) {
         Ok(name) => Ok(Some(Module { name, text })),
-        Err(NameError::NoMemory) => Err(StoreError::NoMemory),
-        Err(NameError::Length) => unreachable!(),
+        Err(_) => Err(StoreError::NoMemory),
     }
 }
 

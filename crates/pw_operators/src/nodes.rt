@@ -8,7 +8,7 @@ ghost use Rattle.pw_rules.specs.Operators as spec;
 ghost use Rattle.pw_types.specs.TypeTrees as tree;
 
 use pw_checking::{Operand, boxed};
-use pw_kinds::{copy_type, is_pointer, plain, unqualified};
+use pw_kinds::{is_pointer, plain, unqualified};
 use pw_operand::{both_integral, cast_to, chosen_pointer, common_kind, convert, promote};
 use pw_tree::BinaryOperator;
 use pw_typed::{BinaryOperator as TypedOperator, TExpr, TForm};

@@ -16,7 +16,7 @@ use pw_kinds::{is_complete, plain};
 use pw_limits::completed;
 use pw_typed::TForm;
 use pw_types::{CType, IntKind, QType, Types};
-use pw_value::words::word_of;
+use pw_value::words::word_of_u64;
 use pw_walk::{CheckFault, CheckKind};
 use std::alloc::{AllocError, Global};
 
@@ -32,7 +32,7 @@ fn size_operand(
     ensures { IfOk result (λ a. view_operand a ≡ operands.value_operand (spec.size_node token (unwrap_or (size_of types.now (view_type ty.now)) 0))) }
 {
     let size = told_size(types, ty)?.unwrap_or(0);
-    let number = word_of(size as usize)?;
+    let number = word_of_u64(size)?;
     let form = TForm::Number(number);
     value_operand(alloc, token, plain(CType::Int(IntKind::UInt)), form)
 }

@@ -18,7 +18,7 @@ use Rattle.pw_phases.specs.Phases.{AreDirectivesOf, IsObjectOf, all_compiled}
 rest_same : (n m : List ℕ) (ns ms : List (List ℕ)) → n ∷ ns ≡ m ∷ ms → ns ≡ ms
 rest_same n m ns ms e = cc
 
-compiled_names : (fs : List FlowFn) (ds : List (List ℕ × Directives)) → map (λ d. d.0) ds ≡ map (λ f. f.name) fs → map (λ o. o.name) (all_compiled fs ds) ≡ map (λ f. f.name) fs
+pub compiled_names : (fs : List FlowFn) (ds : List (List ℕ × Directives)) → map (λ d. d.0) ds ≡ map (λ f. f.name) fs → map (λ o. o.name) (all_compiled fs ds) ≡ map (λ f. f.name) fs
 compiled_names [] ds e = refl
 compiled_names (f ∷ fs) [] e = cc
 compiled_names (f ∷ fs) (d ∷ ds) e = ap (λ (ns : List (List ℕ)). f.name ∷ ns) (compiled_names fs ds (rest_same d.0 f.name (map (λ d. d.0) ds) (map (λ f. f.name) fs) e))

@@ -1,7 +1,8 @@
 //! The library as a module.
 
-ghost use Rattle.std.specs.Prelude.{◌≡◌, ◌++◌, ◌∷◌, [], IfOk, OnOk};
+ghost use Rattle.std.specs.Prelude.{◌≡◌, ◌++◌, ◌∷◌, [], length, IfOk, OnOk};
 ghost use Rattle.pw_program.specs.Linking.{library, library_declarations};
+ghost use Rattle.pw_value.specs.Names.{IsNameLength};
 ghost use Rattle.pw_value.specs.ProgramNames.{library_functions};
 
 use crate::interface::Interface;
@@ -12,24 +13,14 @@ use pw_value::program_names::{
 use pw_value::{Name, Shape};
 use std::alloc::{AllocError, Global};
 
-/// The name of these bytes, or want of memory.
-fn name_of(alloc: Global, text: &[u8]) -> Result<Name, AllocError>
-    ensures { IfOk result (λ name. name ≡ text.now) }
-{
-    match Name::new(alloc, text) {
-        Ok(name) => Ok(name),
-        Err(_) => Err(AllocError),
-    }
-}
-
 /// The library's functions.
 fn functions(alloc: Global) -> Result<Items<Name>, AllocError>
     ensures { IfOk result (λ names. names ≡ library_functions) }
 {
     let mut names = Items::new(alloc);
-    names.push(name_of(alloc, EXIT)?)?;
-    names.push(name_of(alloc, GETCHAR)?)?;
-    names.push(name_of(alloc, PUTCHAR)?)?;
+    names.push(Name::within(alloc, EXIT)?)?;
+    names.push(Name::within(alloc, GETCHAR)?)?;
+    names.push(Name::within(alloc, PUTCHAR)?)?;
     Ok(names)
 }
 
@@ -40,10 +31,11 @@ fn declare(
     name: &[u8],
     shape: &[u8],
 ) -> Result<(), AllocError>
+    requires { IsNameLength (length name.now) }
     ensures { OnOk result (declared.new ≡ declared.old ++ (name.now, shape.now) ∷ []) }
 {
     let shape = Shape::new(Vec::from_slice(alloc, shape)?);
-    declared.push((name_of(alloc, name)?, shape))
+    declared.push((Name::within(alloc, name)?, shape))
 }
 
 /// The library's declarations.
@@ -62,7 +54,7 @@ pub fn built_in(alloc: Global) -> Result<Interface, AllocError>
     ensures { IfOk result (λ i. i ≡ library) }
 {
     Ok(Interface {
-        module: name_of(alloc, LIBRARY)?,
+        module: Name::within(alloc, LIBRARY)?,
         functions: functions(alloc)?,
         globals: Items::new(alloc),
         declared: declarations(alloc)?,

@@ -1,6 +1,6 @@
 -- Lists of objects and of declared names, item by item.
-use Rattle.std.proofs.Common.{◌≡◌, ℕ, ◌+◌, ◌<◌, length, get_or, drop, Bool, true, false, cond, not, None, Some, slice_get, List, [], ◌∷◌, ◌++◌, map, filter, flat_map, refl, ap, sym, ◌∙◌}
-use Rattle.std.proofs.lemmas.List.{append-nil, get_or_default}
+use Rattle.std.proofs.Common.{◌≡◌, ℕ, ◌+◌, ◌<◌, length, get_or, drop, Bool, true, false, cond, not, None, Some, slice_get, List, [], ◌∷◌, ◌++◌, map, filter, flat_map, refl, ap, ◌∙◌}
+use Rattle.std.proofs.lemmas.List.{get_or_default}
 use Rattle.std.specs.Option.{option_map_or}
 use Rattle.pw_checking.specs.EntityViews.{view_linked}
 use Rattle.pw_entities.specs.declared.entity.LinkedName.{LinkedName}
@@ -52,13 +52,7 @@ pub hidden_there : (s : states.State) (number : ℕ) (h : states.HiddenObject) �
     → hidden_global number h ∷ [] ≡ global_in s (slot.Hidden number)
 hidden_there s number h e = ap (λ o. option_map_or (λ x. hidden_global number x ∷ []) o []) e
 
-pub none_hidden : (s : states.State) (number : ℕ) → None ≡ slice_get s.made.hidden number → [] ≡ global_in s (slot.Hidden number)
-none_hidden s number e = ap (λ o. option_map_or (λ x. hidden_global number x ∷ []) o []) e
-
 pub pushed : (old new : List TGlobal) (g : TGlobal) (v : GlobalValue) (more : List GlobalValue)
     → new ≡ old ++ g ∷ [] → view_global g ≡ v → v ∷ [] ≡ more → map view_global new ≡ map view_global old ++ more
 pushed old new g v more e is shown =
     ap (map view_global) e ∙ map_push view_global old g ∙ ap (λ x. map view_global old ++ x ∷ []) is ∙ ap (λ xs. map view_global old ++ xs) shown
-
-pub none_pushed : (old : List TGlobal) (more : List GlobalValue) → [] ≡ more → map view_global old ≡ map view_global old ++ more
-none_pushed old more shown = sym (append-nil (map view_global old)) ∙ ap (λ xs. map view_global old ++ xs) shown

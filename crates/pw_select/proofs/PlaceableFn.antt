@@ -259,7 +259,7 @@ places_of_located : (f : Located) (places : List Place) → AllByRecursion (IsPl
 places_of_located f [] h = tt
 places_of_located f (p ∷ rest) h = (place_of_located f p h.0, places_of_located f rest h.1)
 
-all_below_fit : (ns : List ℕ) → AllByRecursion Fits (map below ns)
+pub all_below_fit : (ns : List ℕ) → AllByRecursion Fits (map below ns)
 all_below_fit [] = tt
 all_below_fit (n ∷ rest) = (below_fits n, all_below_fit rest)
 

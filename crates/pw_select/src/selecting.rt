@@ -1,6 +1,6 @@
 //! Selection.
 
-ghost use Rattle.std.specs.Prelude.{◌≡◌, ◌+◌, ◌<◌, ◌≤◌, ◌^◌, ◌++◌, length, IfOk, MatchResult, OnOk};
+ghost use Rattle.std.specs.Prelude.{◌≡◌, ◌+◌, ◌<◌, ◌≤◌, ◌^◌, ◌++◌, length, IfOk, OnOk};
 ghost use Rattle.std.specs.List.{flat_map, AllByRecursion};
 ghost use Rattle.pw_oplines.specs.Operations.{web_op_lines, layout};
 ghost use Rattle.pw_select.specs.Selection.{end_lines, block_lines, blocks_lines, slot_offsets, selected};
@@ -18,6 +18,7 @@ use pw_inst::Line;
 use pw_items::Items;
 use pw_oplines::put_web_op;
 use pw_registers::{ANSWER, FIRST, place_of, put_loaded, put_operand};
+use pw_value::words::next_word;
 use pw_webflow::{WebBlock, WebOp};
 use std::alloc::{AllocError, Global};
 
@@ -102,13 +103,6 @@ fn put_block(
     put_end(alloc, out, f, head, block.end)
 }
 
-/// The number behind a block's. There is no memory for one that 32 bits cannot count, and for no other.
-fn next_number(number: u32) -> Result<u32, AllocError>
-    ensures { MatchResult result (λ next. next ≡ number + 1) (λ _. 2 ^ 32 ≤ number + 1) }
-{
-    number.checked_add(1).ok_or(AllocError)
-}
-
 /// The lines of blocks, the first of which has the number 0.
 fn put_blocks(
     alloc: Global,
@@ -127,7 +121,7 @@ fn put_blocks(
     let mut rest = blocks;
     while let [block, after @ ..] = rest {
         put_block(alloc, out, f, head, slots, number, block)?;
-        number = next_number(number)?;
+        number = next_word(number)?;
         rest = after;
     }
     Ok(())

@@ -15,7 +15,7 @@ use Rattle.pw_files.proofs.Standing.{Has, contains_by}
 use Rattle.pw_files.proofs.Views.{seen}
 use Rattle.pw_summarise.proofs.Orders.{ordered_map, table_ordered}
 use Rattle.pw_summarise.proofs.ShapeLaws.{taken_ordered, escaped_ordered}
-use Rattle.pw_summarise.proofs.UniqueLaws.{distinct_left, distinct_right}
+use Rattle.pw_flow.proofs.Once.{distinct_left, distinct_right}
 
 -- ---- the names of what a lawful module defines differ
 

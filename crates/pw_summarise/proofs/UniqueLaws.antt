@@ -1,27 +1,17 @@
 -- A lawful flow graph has at most one summary.
-use Rattle.std.proofs.Common.{◌≡◌, ℕ, Bool, List, [], ◌∷◌, ◌++◌, map, refl, sym, ap, subst, ◌∙◌, inl, inr}
+use Rattle.std.proofs.Common.{◌≡◌, ℕ, Bool, List, [], ◌∷◌, map, refl, sym, ap, subst, ◌∙◌, inl, inr}
 use Rattle.std.specs.Prelude.{Option}
 use Rattle.pw_value.specs.declared.value.Kind.{Kind}
 use Rattle.pw_flow.specs.declared.flow.FlowFn.{FlowFn}
 use Rattle.pw_flow.specs.declared.flow.FlowModule.{FlowModule}
 use Rattle.pw_flow.specs.FlowGraph.{named_in, global_names, function_names}
 use Rattle.pw_flow.specs.ValidFlow.{AreDistinct, IsValid}
-use Rattle.pw_flow.proofs.Lists.{all_left}
+use Rattle.pw_flow.proofs.Once.{distinct_left, distinct_right}
 use Rattle.pw_summary.specs.declared.summary.Uses.{Uses}
 use Rattle.pw_summary.specs.declared.summary.Summary.{Summary}
 use Rattle.pw_summarise.specs.Summarises.{called, called_shape, referenced, addressed, in_function, in_module, reference, taken_of, escaped_of, global_entry, function_entries, IsUsesOf, AreUsesOf, Summarises}
 use Rattle.pw_files.proofs.Standing.{Has, has_by, has_each, has_map}
 use Rattle.pw_summarise.proofs.Orders.{one_ordered}
-
--- ---- names of two lists
-
-pub distinct_left : (xs ys : List (List ℕ)) → AreDistinct (xs ++ ys) → AreDistinct xs
-distinct_left [] ys all = tt
-distinct_left (x ∷ xs) ys all = (all_left _ xs ys all.0, distinct_left xs ys all.1)
-
-pub distinct_right : (xs ys : List (List ℕ)) → AreDistinct (xs ++ ys) → AreDistinct ys
-distinct_right [] ys all = all
-distinct_right (x ∷ xs) ys all = distinct_right xs ys all.1
 
 -- ---- a name is one function's
 

@@ -1,4 +1,4 @@
--- Lawful programs exist: bump and main are one, with names apart from those of routines, and lawful directives.
+-- Lawful programs exist: bump and main are one, with names apart from those of routines.
 use Rattle.std.specs.Prelude.{ℕ, ◌≡◌, ◌≢◌, ◌&&◌, Bool, true, false, not, List, [], ◌∷◌, ◌++◌, map, codes, Contains}
 use Rattle.std.specs.List.{flat_map, list_all, AllByRecursion}
 use Rattle.std.specs.Str.{bytes_eq}
@@ -7,7 +7,6 @@ use Rattle.std.proofs.lemmas.List.Elements.{All-contains, All-from_recursion}
 use Rattle.std.proofs.lemmas.Slice.Eq.{bytes_eq-Decides}
 use Rattle.pw_value.specs.ProgramNames.{start_name}
 use Rattle.pw_milli.specs.Library.{routines}
-use Rattle.pw_db.specs.Database.{IsDatabase}
 use Rattle.pw_flow.specs.declared.flow.FlowFn.{FlowFn}
 use Rattle.pw_flow.specs.declared.flow.FlowGlobal.{FlowGlobal}
 use Rattle.pw_flow.specs.declared.flow.FlowModule.{FlowModule}
@@ -17,7 +16,7 @@ use Rattle.pw_flow.proofs.Once.{absent, once}
 use Rattle.pw_flowrun.specs.Programs.{functions_of, globals_of, names_of}
 use Rattle.pw_webrun.specs.Programs.{IsProgram, NamesRightly, IsItem, ops_of}
 use Rattle.pw_linkrun.specs.Laws.{AreNamesApart}
-use Rattle.pw_tests_runs.proofs.Programs.{bumping, bump, bump_main, start, global, bump_directives}
+use Rattle.pw_tests_runs.proofs.Programs.{bumping, bump, bump_main, start, global}
 
 -- ---- names that differ, by a test
 
@@ -213,18 +212,3 @@ lawful_program = record {
 apart : AreNamesApart bumping
 unfolding are_distinct
 apart = distinct (map (λ r. r.0) routines ++ (map (λ f. f.name) (functions_of bumping) ++ map (λ g. g.name) (globals_of bumping))) refl
-
--- ---- directives
-
-lawful_directives : IsDatabase bump_directives
-lawful_directives = record {
-  functions = (tt, (refl, tt));
-  directives = (
-    record { each = (record { low = omega arith; high = omega arith }, tt); numbers = (tt, tt); globals = (tt, tt); registers = (tt, tt); free = refl },
-    (
-      record { each = (record { low = omega arith; high = omega arith }, tt); numbers = (tt, tt); globals = (tt, tt); registers = (tt, tt); free = refl },
-      tt,
-    ),
-  );
-  agree = (((λ e. refl), tt), (tt, tt));
-}

@@ -95,10 +95,6 @@ touches (Some x) a size = nat_lt x.0 (a + size) && nat_lt a (x.0 + x.1)
 
 -- ---- registers that are kept
 
--- those that a callee keeps
-abbrev pub kept_registers : List ℕ
-kept_registers = 3 ∷ 4 ∷ 5 ∷ 6 ∷ 7 ∷ 8 ∷ 9 ∷ 10 ∷ 11 ∷ 12 ∷ 13 ∷ 14 ∷ 15 ∷ 16 ∷ 17 ∷ 18 ∷ []
-
 -- the register of a web in which a function is a member
 pub record IsMembers (d : List (List ℕ × Directives)) (f : List ℕ) (r : ℕ) : Type 0 where
   pub web : Web

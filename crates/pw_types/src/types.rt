@@ -6,6 +6,7 @@ ghost use Rattle.pw_types.specs.Records.{Follows, IsLaid, declared, defined, kin
 ghost use Rattle.pw_types.specs.Views.{view_content, view_record, view_records};
 
 use crate::record::{Content, RecordKind, RecordType};
+use pw_value::words::word_of;
 use std::alloc::{AllocError, Global};
 use std::marker::Model;
 
@@ -63,9 +64,7 @@ impl Types {
         ensures ok { IfOk result (λ number. self.new ≡ self.old ++ declared kind ∷ []) }
         ensures err { OnErr result (self.new ≡ self.old) }
     {
-        let Ok(number) = u32::try_from(self.records.len()) else {
-            return Err(AllocError);
-        };
+        let number = word_of(self.records.len())?;
         self.records.push(RecordType {
             kind,
             content: None,

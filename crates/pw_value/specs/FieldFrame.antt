@@ -71,9 +71,13 @@ file_at kind first last payload bytes = framed payload bytes (opened_at kind fir
 
 -- ---- the spelling of a file
 
--- bytes of a file besides its payload: the three numbers before it, and the digest
+-- bytes of the three numbers before the payload
+abbrev pub header_size : ℕ
+header_size = 12
+
+-- bytes of a file besides its payload: the numbers before it, and the digest
 abbrev pub frame_size : ℕ
-frame_size = 12 + digest_size
+frame_size = header_size + digest_size
 
 unfoldable pub before_digest : ℕ → ℕ → List ℕ → List ℕ
 before_digest kind version payload = u32 kind ++ (u32 (frame_size + length payload) ++ (u32 version ++ payload))

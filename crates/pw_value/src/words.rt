@@ -37,6 +37,17 @@ pub fn word_of_u64(number: u64) -> Result<u32, AllocError>
     u32::try_from(number).ok().ok_or(AllocError)
 }
 
+/// The number behind a count, for what counts in words.
+///
+/// # Errors
+///
+/// `AllocError` where 32 bits cannot count it, and nowhere else. It takes no memory.
+pub fn next_word(count: u32) -> Result<u32, AllocError>
+    ensures { MatchResult result (λ next. next ≡ count + 1) (λ _. 2 ^ 32 ≤ count + 1) }
+{
+    count.checked_add(1).ok_or(AllocError)
+}
+
 /// The sum of unsigned ints.
 pub fn unsigned_sum(a: u32, b: u32) -> u32
     ensures { result ≡ spec.unsigned_sum a b }

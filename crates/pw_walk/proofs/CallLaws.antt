@@ -1,5 +1,5 @@
 -- Code that follows one rule behind another follows both.
-use Rattle.std.specs.Prelude.{◌≡◌, ◌⊎◌, Result, Ok, Err, IfOk, IfErr, refl}
+use Rattle.std.specs.Prelude.{ℕ, ◌≡◌, ◌⊎◌, Result, Ok, Err, IfOk, IfErr, refl}
 use Rattle.std.proofs.Common.{ap, sym, ◌∙◌}
 use Rattle.std.proofs.Math.Path.{subst}
 use Rattle.std.specs.Result.{IsErr, IsErrAnd}
@@ -7,6 +7,7 @@ use mathlib.Core.Logic.{inl, inr}
 use Rattle.pw_walk.specs.declared.fault.CheckFault.{CheckFault}
 use Rattle.pw_walk.specs.declared.fault.CheckKind.TheVariants.{NoMemory}
 use Rattle.pw_walk.specs.Calls.{Obeys}
+use Rattle.pw_walk.specs.Causes.{Constraint}
 use Rattle.pw_walk.specs.Walks.{Walk, Done, Passing, Closed, bind, outcome}
 use Rattle.pw_walk.proofs.BindLaws.{bind_made, bind_stopped}
 
@@ -16,6 +17,14 @@ unfolding bind
 bind_assoc (Done a) f g = refl
 bind_assoc (Passing p rest) f g = ap (Passing p) (bind_assoc rest f g)
 bind_assoc (Closed constraint token) f g = refl
+
+pub bind_done : {A B : Type 0} (a : A) (next : A → Walk B) → bind (Done a) next ≡ next a
+unfolding bind
+bind_done a next = refl
+
+pub bind_closed : {A B : Type 0} (constraint : Constraint) (token : ℕ) (next : A → Walk B) → bind (Closed constraint token) next ≡ Closed constraint token
+unfolding bind
+bind_closed constraint token next = refl
 
 -- the same call, of a walk that comes to the same
 pub same_call : {S A R : Type 0} (view : R → A) (v w : Walk (A × S)) (r : Result R CheckFault) (left : S)

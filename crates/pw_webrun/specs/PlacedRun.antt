@@ -2,7 +2,7 @@
 -- other by its number in the frame. It differs from the run of flow graphs in this: accesses of a directed global go
 -- to its register; a function saves registers at its start and restores them at its end; an entry of a web loads
 -- the global at its start, and stores it back at its end where the web writes.
-use Rattle.std.specs.Prelude.{ℕ, zero, suc, ◌+◌, ◌-◌, ◌%◌, ◌^◌, ◌==◌, nat_lt, ◌&&◌, ◌||◌, Bool, true, false, if◌then◌else◌, Option, Some, None, option_map, List, [], ◌∷◌, ◌++◌, map, find, length, replicate, slice_get, slice_set, slice_index_or, sum_by}
+use Rattle.std.specs.Prelude.{ℕ, zero, suc, ◌+◌, ◌-◌, ◌%◌, ◌^◌, ◌==◌, nat_lt, nat_le, ◌&&◌, ◌||◌, Bool, true, false, if◌then◌else◌, Option, Some, None, option_map, List, [], ◌∷◌, ◌++◌, map, find, length, replicate, slice_get, slice_set, slice_index_or, sum_by}
 use Rattle.std.specs.List.{flat_map, list_any}
 use Rattle.std.specs.Str.{bytes_eq}
 use Rattle.pw_value.specs.declared.value.Kind.{Kind}
@@ -12,6 +12,7 @@ use Rattle.pw_value.specs.declared.value.Byte.{Byte}
 use Rattle.pw_value.specs.declared.value.Pointer.TheVariants as P
 use Rattle.pw_value.specs.ProgramNames.{start_name, exit_name, getchar_name, putchar_name}
 use Rattle.pw_value.specs.Objects.{Object, object_at}
+use Rattle.pw_db.specs.Limits.{last_register, last_temporary, kept_registers}
 use Rattle.pw_db.specs.declared.database.Web.{Web}
 use Rattle.pw_db.specs.declared.database.Role.{Role}
 use Rattle.pw_flow.specs.declared.flow.End.{End}
@@ -25,7 +26,7 @@ use Rattle.pw_alloc.specs.declared.located.Located.{Located}
 use Rattle.pw_alloc.specs.Allocation.{is_entry}
 use Rattle.pw_run.specs.Runs.{View, Stage, Going, Over, Wrong, Ended, StackFull}
 use Rattle.pw_run.specs.Runs as run
-use Rattle.pw_trace.specs.Traces.{Standing, InMemory, InPlace, Event, Called, Refused, Returned, Loaded, Stored, kept_registers}
+use Rattle.pw_trace.specs.Traces.{Standing, InMemory, InPlace, Event, Called, Refused, Returned, Loaded, Stored}
 use Rattle.pw_flowrun.specs.Values.{binary, is_somewhere}
 use Rattle.pw_flowrun.specs.Memory.{look, poke, copy}
 use Rattle.pw_flowrun.specs.Programs.{Program, Library, GetChar, PutChar, Exit, library_at, globals_of, global_number, start_objects}
@@ -205,9 +206,9 @@ abbrev pub library_return : PlacedProgram → List ℕ → Machine → Machine
 library_return p f m =
     noted (Returned f 0 (globals_now p m.registers (m.frame ∷ m.callers) m.objects) (kept m.registers) (kept m.registers)) m
 
--- Registers 19 and 20 are kept over no call.
+-- The temporaries' registers behind those that a callee keeps are kept over no call.
 abbrev pub without_scratch : (ℕ → Value) → ℕ → Value
-without_scratch registers = with_register 19 Undefined (with_register 20 Undefined registers)
+without_scratch registers r = if nat_lt last_register r && nat_le r last_temporary then Undefined else registers r
 
 abbrev pub gives_back : PlacedProgram → List ℕ → Option ℕ → Value → Machine → Step
 gives_back p f t v m =

@@ -1,7 +1,7 @@
 -- When places serve a function: no value is lost that is still needed. What is needed is said by paths over what is
 -- left of the code.
 use Rattle.std.specs.Prelude.{ℕ, ◌≡◌, ◌≢◌, ◌≤◌, ◌<◌, Option, Some, None, List, [], ◌∷◌, ◌++◌, length, slice_get, Contains, ◌↔◌}
-use Rattle.pw_db.specs.Limits.{first_register, last_register}
+use Rattle.pw_db.specs.Limits.{first_register, last_register, last_temporary}
 use Rattle.pw_db.specs.Database.{EachTwo}
 use Rattle.pw_db.specs.declared.database.Role.{Role}
 use Rattle.pw_db.specs.declared.database.Web.{Web}
@@ -124,7 +124,7 @@ pub record IsHeld (f : WebFn) (t : ℕ) : Type 0 where
 -- the registers that temporaries may have; of these a callee keeps the ones that webs may have
 pub record IsTempRegister (r : ℕ) : Type 0 where
   pub low : first_register ≤ r
-  pub high : r ≤ 20
+  pub high : r ≤ last_temporary
 
 abbrev pub IsKept : Place → Type 0
 IsKept (Reg r) = (first_register ≤ r) × (r ≤ last_register)

@@ -585,6 +585,12 @@ init_declarators_adds (d ∷ rest) s b l h =
     let k = lawful_later s.types.records r.types.records x.extends (type_of b.ty) h in
     declaring r (init_declarators_rule b rest r) (init_declarators_goes rest r b m k) (init_declarators_adds rest r b m k))
 
+pub init_declarator_declares : (s : State) (b : Specified) (d : InitDeclarator) → IsLawful s → GoodSpecified s b → Post (init_declarator_rule b d s) (Declaring s)
+init_declarator_declares s b d l h = declaring s (init_declarator_rule b d s) (init_declarator_goes s b d l h) (init_declarator_adds s b d l h)
+
+pub init_declarators_declare : (ds : List InitDeclarator) (s : State) (b : Specified) → IsLawful s → GoodSpecified s b → Post (init_declarators_rule b ds s) (Declaring s)
+init_declarators_declare ds s b l h = declaring s (init_declarators_rule b ds s) (init_declarators_goes ds s b l h) (init_declarators_adds ds s b l h)
+
 pub specified_all : (s : State) (specifiers : Specifiers) (first : ℕ) → IsLawful s → Runs s (specified_rule specifiers first s) GoodSpecified
 unfolding specified_rule
 specified_all s specifiers first l =
@@ -605,7 +611,7 @@ unfolding storage_rule bind
 listed_runs s specifiers l =
     goes_on (specified_rule specifiers (first_of_list specifiers) s) _ GoodSpecified (λ t is. is ≡ []) (specified_all s specifiers (first_of_list specifiers) l) (λ r m g h met more. (m, grows_same r.1, refl))
 
-bare_runs : (s : State) (specifiers : Specifiers) → IsLawful s → Runs s (bare_rule specifiers s) (λ t is. is ≡ [])
+pub bare_runs : (s : State) (specifiers : Specifiers) → IsLawful s → Runs s (bare_rule specifiers s) (λ t is. is ≡ [])
 unfolding bare_rule
 bare_runs s (S.RecordTag t kind w S.NoSpecifier) l = goes_on _ _ Nothing (λ t is. is ≡ []) (alone_runs s (record_kind kind) w l) (λ r m g h. (m, grows_same r.1, refl))
 bare_runs s specifiers l = listed_runs s specifiers l

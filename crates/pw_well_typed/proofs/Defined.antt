@@ -114,7 +114,7 @@ open_no_array (Qualified (Record k) c v) e = refl
 
 array_open : (r : List RecordValue) (q : QType) → IsLawfulType r (type_of q) → is_array (type_of q) ≡ true → IsOpen r q
 array_open r (Qualified (Array (Qualified ty d w) None) c v) lawful e = inl refl
-array_open r (Qualified (Array (Qualified ty d w) (Some n)) c v) lawful e = inr (Rattle.pw_well_typed.proofs.Types.map_some (array_layout n) (layout_of r ty) ∙ lawful.1)
+array_open r (Qualified (Array (Qualified ty d w) (Some n)) c v) lawful e = inr (Rattle.pw_well_typed.proofs.Types.map_is_some (array_layout n) (layout_of r ty) ∙ lawful.1)
 array_open r (Qualified Void c v) lawful e = no e
 array_open r (Qualified (Int k) c v) lawful e = no e
 array_open r (Qualified (Pointer p) c v) lawful e = no e

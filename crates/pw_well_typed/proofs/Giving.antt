@@ -10,7 +10,7 @@ use Rattle.pw_rules.specs.Kinds.{is_array, is_open_array}
 use Rattle.pw_rules.specs.States.{State}
 use Rattle.pw_well_typed.specs.Lawful.{IsLawful, Extends}
 use Rattle.pw_well_typed.proofs.Walking.{post_both, post_if, post_weaken}
-use Rattle.pw_well_typed.proofs.Types.{no, complete_later, lawful_later, map_some}
+use Rattle.pw_well_typed.proofs.Types.{no, complete_later, lawful_later, map_is_some}
 use Rattle.pw_well_typed.proofs.Composite.{Covers, covers_same, covers_trans}
 use Rattle.pw_well_typed.proofs.States.{Grows}
 use Rattle.pw_well_typed.proofs.Parts.{sized}
@@ -31,7 +31,7 @@ open_later a b t x (inl h) = inl h
 open_later a b t x (inr h) = inr (complete_later a b x (type_of t) h)
 
 length_complete : (r : List RecordValue) (n : ℕ) (t : QType) → IsLawfully r t → IsOpen r t → IsComplete r (type_of (with_length n t))
-length_complete r n (Qualified (Array (Qualified ty d w) None) c v) lawful h = map_some (array_layout n) (layout_of r ty) ∙ lawful.1
+length_complete r n (Qualified (Array (Qualified ty d w) None) c v) lawful h = map_is_some (array_layout n) (layout_of r ty) ∙ lawful.1
 length_complete r n (Qualified (Array q (Some k)) c v) lawful (inl h) = no h
 length_complete r n (Qualified (Array q (Some k)) c v) lawful (inr h) = h
 length_complete r n (Qualified Void c v) lawful (inl h) = no h

@@ -134,7 +134,7 @@ sort_object s k h short there (inr e) =
     let fits = short (hidden_global k h) k e.0 there refl (ap type_of e.1) in
     subst (λ q. IsObjectType s.types.records (type_of q)) (sym e.1) (omega (arith, fits))
 
-hidden_there : (s : State) (k : ℕ) (h : HiddenObject) → Sound None s → slice_get s.made.hidden k ≡ Some h → Contains (module_in s).globals (hidden_global k h)
+pub hidden_there : (s : State) (k : ℕ) (h : HiddenObject) → Sound None s → slice_get s.made.hidden k ≡ Some h → Contains (module_in s).globals (hidden_global k h)
 hidden_there s k h sound at =
     let i = sound.slots.strings k h at in
     let r = get_flat (global_in s) s.made.slots i.0 (slot.Hidden k) 0 (hidden_global k h) i.1 (ap (λ o. slice_get (option_map_or (λ (z : HiddenObject). hidden_global k z ∷ []) o []) 0) at) in

@@ -36,22 +36,12 @@ use Rattle.pw_rules.specs.Leaves.{entity_operand, linked_operand, lvalue_operand
 use Rattle.pw_well_typed.specs.Lawful.{IsLawful, IsLawfulType, AreLawfulTypes, IsObjectLike, IsLawfulEntity, IsLawfulTag, Extends, HasLocal, IsNamed}
 use Rattle.pw_well_typed.proofs.Walking.{Post, truth, met_right, post_bind, post_granted, met_left, AreMet}
 use Rattle.pw_well_typed.proofs.States.{GoodOperand, Fine, Runs, IsConstant, Grows, Widens, Widely, grows_same, grows_trans, widens_so}
-use Rattle.pw_well_typed.proofs.Lists.{get_map, some_same, never_some, get_append, get_either, get_one, get_last, get_filter, visible_at, Longer}
+use Rattle.pw_well_typed.proofs.Lists.{get_map, some_same, never_some, and_then_some, map_some, get_append, get_either, get_one, get_last, get_filter, visible_at, Longer}
 use Rattle.pw_well_typed.proofs.Types.{no, left, not_true, is_complete_so, lawful_known, lawful_later, all_lawful_later, lawful_qualify, lawful_pointer}
 use Rattle.pw_well_typed.proofs.Conversions.{no_function}
 use Rattle.pw_well_typed.proofs.Places.{number_good, constant_wide}
 use Rattle.pw_well_typed.proofs.Objects.{object_later, completed_so, within_so, object_type, follows_so}
 use Rattle.pw_well_typed.proofs.Changes.{like_later, tag_later, record_added, record_grows, entered, entered_grows, tagged, tagged_grows, hidden_added, hidden_grows, Opened, Closed, opening_lawful, opening_grows, opened_now, defined_lawful, defined_grows}
-
--- ---- what an option gives
-
-and_then_some : {A B : Type 0} (f : A → Option B) (o : Option A) (y : B) → option_and_then f o ≡ Some y → (x : A) × (o ≡ Some x) × (f x ≡ Some y)
-and_then_some f None y e = never_some e
-and_then_some f (Some x) y e = (x, refl, e)
-
-map_some : {A B : Type 0} (f : A → B) (o : Option A) (y : B) → option_map f o ≡ Some y → (x : A) × (o ≡ Some x) × (f x ≡ y)
-map_some f None y e = never_some e
-map_some f (Some x) y e = (x, refl, some_same e)
 
 -- ---- identifiers (6.3.1)
 

@@ -1,5 +1,5 @@
 -- Places of lists: of one that grew, of one that was filtered, of one in which one place was put anew.
-use Rattle.std.specs.Prelude.{ℕ, zero, suc, ◌≡◌, ◌<◌, ◌⊎◌, Bool, true, false, Option, None, Some, List, [], ◌∷◌, ◌++◌, length, map, filter, slice_get, if◌then◌else◌, cond, not, nat_lt, ◌+◌, ◌≤◌, position, option_and_then, refl}
+use Rattle.std.specs.Prelude.{ℕ, zero, suc, ◌≡◌, ◌<◌, ◌⊎◌, Bool, true, false, Option, None, Some, List, [], ◌∷◌, ◌++◌, length, map, filter, slice_get, if◌then◌else◌, cond, not, nat_lt, ◌+◌, ◌≤◌, position, option_and_then, option_map, refl}
 use Rattle.std.specs.List.{position_or_len}
 use Rattle.std.proofs.lemmas.Bool.{ltb-false, ltb-true}
 use Rattle.std.specs.Option.{option_or}
@@ -21,6 +21,15 @@ never_some {X} {A} {x} e = absurd (subst (λ o. P o) e tt)
     P : Option X → Type 0
     P None = Unit {0}
     P (Some z) = ⊥
+
+-- what an option gives
+pub and_then_some : {A B : Type 0} (f : A → Option B) (o : Option A) (y : B) → option_and_then f o ≡ Some y → (x : A) × (o ≡ Some x) × (f x ≡ Some y)
+and_then_some f None y e = never_some e
+and_then_some f (Some x) y e = (x, refl, e)
+
+pub map_some : {A B : Type 0} (f : A → B) (o : Option A) (y : B) → option_map f o ≡ Some y → (x : A) × (o ≡ Some x) × (f x ≡ y)
+map_some f None y e = never_some e
+map_some f (Some x) y e = (x, refl, some_same e)
 
 -- what stands in the first list stands at the same place in the second
 abbrev pub Longer : {X : Type 0} → List X → List X → Type 0

@@ -15,7 +15,7 @@ use Rattle.pw_rules.specs.Limits.{type_within}
 use Rattle.pw_well_typed.specs.Lawful.{IsLawfulType, Extends}
 use Rattle.pw_well_typed.proofs.Walking.{AreMet}
 use Rattle.pw_well_typed.proofs.Lists.{some_same, never_some, put_cases, get_more}
-use Rattle.pw_well_typed.proofs.Types.{lawful_later, no, left, map_some, complete_composite}
+use Rattle.pw_well_typed.proofs.Types.{lawful_later, no, left, map_is_some, complete_composite}
 use Rattle.pw_well_typed.proofs.Objects.{layout_same, object_type, within_so, small}
 use Rattle.pw_well_typed.proofs.Composite.{types_compatible, layout_composite, layout_compatible, layout_alone, layout_covered, Covers}
 
@@ -73,8 +73,8 @@ pub complete_second : (r : List RecordValue) (a b : CType) → compatible_types 
 unfolding composite_type compatible_types
 complete_second r (Pointer q) (Pointer p) e h k = refl
 complete_second r (Int i) (Int j) e h k = refl
-complete_second r (Array (Qualified a c w) (Some n)) (Array (Qualified b d u) m) e h k = map_some (array_layout n) (layout_of r (composite_type a b)) ∙ complete_composite r a b h.1
-complete_second r (Array (Qualified a c w) None) (Array (Qualified b d u) (Some m)) e h k = map_some (array_layout m) (layout_of r (composite_type a b)) ∙ complete_composite r a b h.1
+complete_second r (Array (Qualified a c w) (Some n)) (Array (Qualified b d u) m) e h k = map_is_some (array_layout n) (layout_of r (composite_type a b)) ∙ complete_composite r a b h.1
+complete_second r (Array (Qualified a c w) None) (Array (Qualified b d u) (Some m)) e h k = map_is_some (array_layout m) (layout_of r (composite_type a b)) ∙ complete_composite r a b h.1
 complete_second r (Array (Qualified a c w) None) (Array (Qualified b d u) None) e h k = no k
 complete_second r (Record i) (Record j) e h k = subst (λ n. IsComplete r (Record n)) (sym (eqb-true i j e)) k
 complete_second r (Function q ps) (Function p qs) e h k = no k
@@ -98,8 +98,8 @@ alone_complete r a b x e k = ap is_some (layout_alone r a e ∙ (sym (x.sizes r)
 
 pub complete_with : (r : List RecordValue) (a b : QType) → Covers b a → IsLawfulType r (type_of a) → IsComplete r (type_of b) → IsComplete r (type_of (composite a b))
 unfolding composite composite_type
-complete_with r (Qualified (Array (Qualified a c w) (Some n)) e f) (Qualified (Array (Qualified b d u) m) g i) x h k = map_some (array_layout n) (layout_of r (composite_type a b)) ∙ complete_composite r a b h.1
-complete_with r (Qualified (Array (Qualified a c w) None) e f) (Qualified (Array (Qualified b d u) (Some m)) g i) x h k = map_some (array_layout m) (layout_of r (composite_type a b)) ∙ complete_composite r a b h.1
+complete_with r (Qualified (Array (Qualified a c w) (Some n)) e f) (Qualified (Array (Qualified b d u) m) g i) x h k = map_is_some (array_layout n) (layout_of r (composite_type a b)) ∙ complete_composite r a b h.1
+complete_with r (Qualified (Array (Qualified a c w) None) e f) (Qualified (Array (Qualified b d u) (Some m)) g i) x h k = map_is_some (array_layout m) (layout_of r (composite_type a b)) ∙ complete_composite r a b h.1
 complete_with r (Qualified (Array (Qualified a c w) None) e f) (Qualified (Array (Qualified b d u) None) g i) x h k = no k
 complete_with r (Qualified (Array p n) e f) (Qualified Void g i) x h k = no x.array
 complete_with r (Qualified (Array p n) e f) (Qualified (Int j) g i) x h k = no x.array

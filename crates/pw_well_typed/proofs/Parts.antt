@@ -26,19 +26,16 @@ sized r ty = unwrap_or (size_of r ty) 0
 abbrev pub AreAligned : List Layout → Type 0
 AreAligned ls = (i : ℕ) (l : Layout) → slice_get ls i ≡ Some l → 1 ≤ l.align
 
-end_behind : (from : ℕ) (ls : List Layout) → AreAligned ls → from ≤ end_from from ls
+pub round_behind : (n align : ℕ) → 1 ≤ align → n ≤ round_up n align
+round_behind n align some = omega arith
+
+pub end_behind : (from : ℕ) (ls : List Layout) → AreAligned ls → from ≤ end_from from ls
 end_behind from [] h = omega arith
 end_behind from (l ∷ rest) h =
     let one : 1 ≤ l.align = h 0 l refl in
-    let up : from ≤ round_up from l.align = round_least from l.align one in
+    let up : from ≤ round_up from l.align = round_behind from l.align one in
     let on : round_up from l.align + l.size ≤ end_from (round_up from l.align + l.size) rest = end_behind (round_up from l.align + l.size) rest (λ i x e. h (suc i) x e) in
     omega (arith, up, on)
-  where
-    round_least : (n align : ℕ) → 1 ≤ align → n ≤ round_up n align
-    round_least n align some = omega arith
-
-round_behind : (n align : ℕ) → 1 ≤ align → n ≤ round_up n align
-round_behind n align some = omega arith
 
 -- a member of a structure ends before the structure does
 member_span : (from : ℕ) (ls : List Layout) → AreAligned ls → (i : ℕ) (l : Layout) (o : ℕ) → slice_get ls i ≡ Some l → slice_get (offsets_from from ls) i ≡ Some o
@@ -84,7 +81,7 @@ element_within s i zero h = grind (arith, h)
 
 -- ---- the parts of a record
 
-at_least_one : (n : ℕ) → 1 ≤ max 1 n
+pub at_least_one : (n : ℕ) → 1 ≤ max 1 n
 at_least_one n = omega arith
 
 from_zero : (n k : ℕ) → n ≤ k → 0 + n ≤ k
@@ -118,7 +115,7 @@ members_complete r kind c f i m e =
     object_complete r (type_of m.ty)
     (subst (λ (x : MemberValue). Rattle.pw_types.specs.Records.IsObjectType r (type_of x.ty)) (get_or_from_slice_get c.members i m m e) (f.complete i m (get_within c.members i m e)))
 
-members_aligned : (r : List RecordValue) (kind : RecordKind) (c : ContentValue) → IsLaid r → Follows r kind c → AreAligned (layouts_of r c.members)
+pub members_aligned : (r : List RecordValue) (kind : RecordKind) (c : ContentValue) → IsLaid r → Follows r kind c → AreAligned (layouts_of r c.members)
 members_aligned r kind c laid f i l e =
     let x = get_map (λ (m : MemberValue). unwrap_or (layout_of r (type_of m.ty)) (scalar_layout 0)) c.members i l e in
     by x.0 (layout_of r (type_of x.0.ty)) refl (members_complete r kind c f i x.0 x.1) x.2

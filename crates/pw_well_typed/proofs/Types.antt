@@ -43,12 +43,12 @@ extends_trans {a} {b} {c} e f = record {
 pub extends_same : (a : List RecordValue) → Extends a a
 extends_same a = record { longer = omega arith; kept = λ n x h. h }
 
-pub map_some : {A B : Type 0} (f : A → B) (o : Option A) → is_some (option_map f o) ≡ is_some o
-map_some f None = refl
-map_some f (Some x) = refl
+pub map_is_some : {A B : Type 0} (f : A → B) (o : Option A) → is_some (option_map f o) ≡ is_some o
+map_is_some f None = refl
+map_is_some f (Some x) = refl
 
 pub is_complete_so : (records : List RecordValue) (ty : CType) → is_complete records ty ≡ true → IsComplete records ty
-is_complete_so records ty e = sym (map_some (λ (l : Layout). l.size) (layout_of records ty)) ∙ e
+is_complete_so records ty e = sym (map_is_some (λ (l : Layout). l.size) (layout_of records ty)) ∙ e
 
 complete_record : (a b : List RecordValue) → Extends a b → (n : ℕ) → IsComplete a (Record n) → IsComplete b (Record n)
 complete_record a b e n h = by_content (content_at a n) refl h
@@ -63,12 +63,12 @@ complete_later a b e (Int kind) h = h
 complete_later a b e (Pointer q) h = h
 complete_later a b e (Array (Qualified ty c v) None) h = h
 complete_later a b e (Array (Qualified ty c v) (Some n)) h =
-    map_some (array_layout n) (layout_of b ty) ∙ complete_later a b e ty (sym (map_some (array_layout n) (layout_of a ty)) ∙ h)
+    map_is_some (array_layout n) (layout_of b ty) ∙ complete_later a b e ty (sym (map_is_some (array_layout n) (layout_of a ty)) ∙ h)
 complete_later a b e (Function q ps) h = h
 complete_later a b e (Record n) h = complete_record a b e n h
 
 pub element_complete : (r : List RecordValue) (ty : CType) (c v : Bool) (n : ℕ) → IsComplete r (Array (Qualified ty c v) (Some n)) → IsComplete r ty
-element_complete r ty c v n h = sym (map_some (array_layout n) (layout_of r ty)) ∙ h
+element_complete r ty c v n h = sym (map_is_some (array_layout n) (layout_of r ty)) ∙ h
 
 pub element_whole : (r : List RecordValue) (q : QType) (n : ℕ) → IsComplete r (Array q (Some n)) → IsComplete r (type_of q)
 element_whole r (Qualified ty c v) n h = element_complete r ty c v n h
@@ -130,7 +130,7 @@ unfolding qualify
 complete_qualify a c v (Qualified (Array q (Some n)) d w) h = complete_array a n (qualify c v q) (complete_qualify a c v q (element_whole a q n h))
   where
     complete_array : (a : List RecordValue) (n : ℕ) (q : QType) → IsComplete a (type_of q) → IsComplete a (Array q (Some n))
-    complete_array a n (Qualified ty c v) h = map_some (array_layout n) (layout_of a ty) ∙ h
+    complete_array a n (Qualified ty c v) h = map_is_some (array_layout n) (layout_of a ty) ∙ h
 complete_qualify a c v (Qualified (Array q None) d w) h = absurd (no_length a q h)
 complete_qualify a c v (Qualified _ d w) h = h
 
@@ -263,7 +263,7 @@ pub complete_composite : (r : List RecordValue) (a b : CType) → IsComplete r a
 unfolding composite_type
 complete_composite r (Pointer q) (Pointer p) h = refl
 complete_composite r (Array (Qualified a c w) (Some n)) (Array (Qualified b d u) m) h =
-    map_some (array_layout n) (layout_of r (composite_type a b)) ∙ complete_composite r a b (element_complete r a c w n h)
+    map_is_some (array_layout n) (layout_of r (composite_type a b)) ∙ complete_composite r a b (element_complete r a c w n h)
 complete_composite r (Array (Qualified a c w) None) (Array (Qualified b d u) m) h = no h
 complete_composite r (Function q ps) (Function p qs) h = no h
 complete_composite r _ _ h = h

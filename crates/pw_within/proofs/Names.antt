@@ -5,9 +5,10 @@ use Rattle.std.specs.Option.{option_map_or}
 use Rattle.std.proofs.Common.{sym, subst}
 use Rattle.std.proofs.lemmas.Option.{slice_get-get_or}
 use Rattle.pw_flow.proofs.Lists.{all_flat}
-use Rattle.pw_lowered.specs.Within.{IsIdentifier, IsNamed}
+use Rattle.pw_lowered.specs.Within.{AreLetters, IsNamed}
 use Rattle.pw_tree.specs.Trees.{Module}
 use Rattle.pw_tree.specs.WellFormed.{WellFormedModule}
+use Rattle.pw_tree.specs.Words.{WordsSpellModule}
 use Rattle.pw_types.specs.TypedTrees.{Symbol, External, Internal, Hidden, FunctionValue, GlobalValue, DeclaredValue, ModuleValue}
 use Rattle.pw_walk.specs.Walks.{Done, bind}
 use Rattle.pw_rules.specs.Checks.{Checks, checking}
@@ -23,29 +24,29 @@ use Rattle.pw_well_typed.proofs.Texts.{module_text}
 use Rattle.pw_well_typed.proofs.Bodies.{IsWhollyStated, module_stated}
 use Rattle.pw_well_typed.proofs.FunctionLaws.{end_same}
 use Rattle.pw_well_typed.proofs.Laws.{start_lawful}
-use Rattle.pw_within.specs.Names.{AreIdentifiers, HasWord, AreNumbered}
+use Rattle.pw_within.specs.Names.{HasWord, AreNumbered}
 use Rattle.pw_within.proofs.Linked.{AreNamed, Named, at_all, at_named, externals_named}
 
 -- ---- the state at a module's end
 
-module_named : (m : Module) → AreIdentifiers m → Post (module_rule m start) (λ r. AreNamed r.1.types.linked)
+module_named : (m : Module) → WordsSpellModule m → Post (module_rule m start) (λ r. AreNamed r.1.types.linked)
 unfolding module_rule
 module_named m ids =
     post_bind _ _ Named (λ r. AreNamed r.1.types.linked)
-    (post_bind _ _ Named Named (externals_named m.externals [] start ids tt) (λ r h. h)) (λ r h.
+    (post_bind _ _ Named Named (externals_named m.externals start ids tt) (λ r h. h)) (λ r h.
     post_bind _ _ (λ u. u.1 ≡ r.1) (λ u. AreNamed u.1.types.linked) (end_same r.0 r.1) (λ u e. subst (λ (t : State). AreNamed t.types.linked) (sym e) h))
 
 -- ---- what is shared
 
-declared_named : (t : State) → AreNamed t.types.linked → (i : ℕ) (d : DeclaredValue) → slice_get (module_in t).declared i ≡ Some d → IsIdentifier d.name
+declared_named : (t : State) → AreNamed t.types.linked → (i : ℕ) (d : DeclaredValue) → slice_get (module_in t).declared i ≡ Some d → AreLetters d.name
 declared_named t all i d e =
     let x = get_map declared_value (filter (λ (l : LinkedName). not l.internal) t.types.linked) i d e in
     let y = get_filter (λ (l : LinkedName). not l.internal) t.types.linked i x.0 x.1 in
-    subst (λ (z : DeclaredValue). IsIdentifier z.name) x.2 (at_named t.types.linked y.0 x.0 y.1 all)
+    subst (λ (z : DeclaredValue). AreLetters z.name) x.2 (at_named t.types.linked y.0 x.0 y.1 all)
 
 -- ---- what is defined
 
-symbol_named : (l : LinkedName) → IsIdentifier l.name → IsNamed (symbol_of_linked l)
+symbol_named : (l : LinkedName) → AreLetters l.name → IsNamed (symbol_of_linked l)
 symbol_named l h = by l.internal
   where
     by : (b : Bool) → IsNamed (if b then Internal l.name else External l.name)
@@ -59,8 +60,8 @@ function_named t sound all i f e =
 
 -- a name that the text gives, or any number
 abbrev IsTextual : Symbol → Type 0
-IsTextual (External name) = IsIdentifier name
-IsTextual (Internal name) = IsIdentifier name
+IsTextual (External name) = AreLetters name
+IsTextual (Internal name) = AreLetters name
 IsTextual (Hidden k) = Unit {0}
 
 textual : (s : Symbol) → IsNamed s → IsTextual s
@@ -97,7 +98,7 @@ global_named t all i g e =
 -- ---- the laws
 
 record HasNames (m : ModuleValue) : Type 0 where
-  declared : All (λ d. IsIdentifier d.name) m.declared
+  declared : All (λ d. AreLetters d.name) m.declared
   functions : All (λ f. IsNamed f.name) m.functions
   globals : All (λ g. IsTextual g.name) m.globals
 
@@ -108,21 +109,21 @@ names_in t sound all = record {
   globals = λ k d below. global_named t all k _ (slice_get-get_or (module_in t).globals k d below);
 }
 
-checking_named : (m : Module) → WellFormedModule m → AreIdentifiers m → Post (bind (module_rule m start) (λ r. Done r.0)) HasNames
+checking_named : (m : Module) → WellFormedModule m → WordsSpellModule m → Post (bind (module_rule m start) (λ r. Done r.0)) HasNames
 checking_named m text ids =
     post_bind (module_rule m start) (λ r. Done r.0) (λ r. IsWhollyStated r × AreNamed r.1.types.linked) HasNames
     (post_both (module_rule m start) IsWhollyStated (λ r. AreNamed r.1.types.linked) (module_stated m start_lawful (module_text m text)) (module_named m ids))
     (λ r h. subst HasNames (sym h.0.0) (names_in r.1 h.0.1.1.0 h.1))
 
-all_names : (tree : Module) (m : ModuleValue) → WellFormedModule tree → AreIdentifiers tree → Checks tree (Ok m) → HasNames m
+all_names : (tree : Module) (m : ModuleValue) → WellFormedModule tree → WordsSpellModule tree → Checks tree (Ok m) → HasNames m
 unfolding checking
 all_names tree m text ids h = post_end (checking tree) m HasNames h (checking_named tree text ids)
 
-pub declared_names : (tree : Module) (m : ModuleValue) → WellFormedModule tree → AreIdentifiers tree → Checks tree (Ok m) → All (λ d. IsIdentifier d.name) m.declared
+pub declared_names : (tree : Module) (m : ModuleValue) → WellFormedModule tree → WordsSpellModule tree → Checks tree (Ok m) → All (λ d. AreLetters d.name) m.declared
 declared_names tree m text ids h = (all_names tree m text ids h).declared
 
-pub function_names : (tree : Module) (m : ModuleValue) → WellFormedModule tree → AreIdentifiers tree → Checks tree (Ok m) → All (λ f. IsNamed f.name) m.functions
+pub function_names : (tree : Module) (m : ModuleValue) → WellFormedModule tree → WordsSpellModule tree → Checks tree (Ok m) → All (λ f. IsNamed f.name) m.functions
 function_names tree m text ids h = (all_names tree m text ids h).functions
 
-pub global_names : (tree : Module) (m : ModuleValue) → WellFormedModule tree → AreIdentifiers tree → Checks tree (Ok m) → AreNumbered m → All (λ g. IsNamed g.name) m.globals
+pub global_names : (tree : Module) (m : ModuleValue) → WellFormedModule tree → WordsSpellModule tree → Checks tree (Ok m) → AreNumbered m → All (λ g. IsNamed g.name) m.globals
 global_names tree m text ids h few = λ k d below. numbered _ ((all_names tree m text ids h).globals k d below) (few k d below)

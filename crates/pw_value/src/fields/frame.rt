@@ -5,7 +5,7 @@ ghost use Rattle.std.specs.Prelude.{◌≡◌, ◌≢◌, ◌+◌, ◌-◌, ◌<
 ghost use Rattle.std.specs.Prelude.{nat_le, ◌&&◌, IsTrue, OnOk, OnErr};
 ghost use Rattle.pw_value.specs.Fields.{checked, u32_at};
 ghost use Rattle.pw_value.specs.FieldFaults.{Gives, GivesFile};
-ghost use Rattle.pw_value.specs.FieldFrame.{header_at, opened_at, is_sealed, before_digest, file, FitsFile, digest_size, frame_size};
+ghost use Rattle.pw_value.specs.FieldFrame.{header_at, opened_at, is_sealed, before_digest, file, FitsFile, digest_size, header_size, frame_size};
 
 use super::writing::push_u32;
 use super::{FieldError, read_u32};
@@ -16,12 +16,16 @@ use std::alloc::{AllocError, Global};
 /// The bytes of a SHA-256 digest.
 pub const DIGEST_LEN: usize = 32;
 
+/// The bytes of the three numbers before the payload.
+pub const HEADER_LEN: usize = 12;
+
 /// The bytes of a file besides its payload.
-pub const FRAME_LEN: usize = 12 + DIGEST_LEN;
+pub const FRAME_LEN: usize = HEADER_LEN + DIGEST_LEN;
 
 /// The sizes are those that the definitions speak of.
 pub fn sizes_of_a_frame()
     ensures digest { DIGEST_LEN ≡ digest_size }
+    ensures header { HEADER_LEN ≡ header_size }
     ensures frame { FRAME_LEN ≡ frame_size }
 {}
 

@@ -4,7 +4,7 @@ use Rattle.pw_tree.specs.Views.{view_decls}
 use Rattle.pw_labels.proofs.Steps.{from}
 use Rattle.pw_heads.specs.Parts.{head_meets, head_point}
 use Rattle.pw_heads.specs.Views.{view_head}
-use Rattle.pw_heads.proofs.PointLaws.{point_end}
+use Rattle.pw_finding.proofs.FindingLaws.{point_end}
 use Rattle.pw_heads.proofs.heads.head_meets.Goals as goal
 
 pub returns : goal.returns

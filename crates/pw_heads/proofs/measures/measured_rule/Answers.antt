@@ -9,7 +9,8 @@ use Rattle.pw_types.specs.Rooms.{nodes_of, room_of}
 use Rattle.pw_value.specs.Limits.{node_limit, room_limit}
 use Rattle.pw_walk.specs.Causes.{keeps}
 use Rattle.pw_walk.specs.declared.fault.Which.TheVariants.{Nodes, Room}
-use Rattle.pw_heads.proofs.PointLaws.{limits_told, measured, point_end}
+use Rattle.pw_finding.proofs.FindingLaws.{point_end}
+use Rattle.pw_heads.proofs.PointLaws.{limits_told, measured}
 use Rattle.pw_heads.proofs.measures.measured_rule.Goals as goal
 
 pub returns-clause-follows : goal.returns-clause-follows

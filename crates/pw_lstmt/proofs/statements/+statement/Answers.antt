@@ -1,4 +1,4 @@
-use Rattle.std.proofs.Common.{◌≡◌, OnOk, is_some, ◌||◌, nat_lt, ◌++◌, ◌+◌, ◌-◌, length, length-drop, drop, sym, ap, ◌∙◌, subst, arith, rules}
+use Rattle.std.proofs.Common.{◌≡◌, OnOk, is_some, ◌||◌, nat_lt, ◌++◌, ◌+◌, ◌-◌, length, length-drop, drop, refl, sym, ap, ◌∙◌, subst, arith, rules}
 use Rattle.std.proofs.lemmas.Grind.{common_steps}
 use Rattle.std.proofs.lemmas.List.{at_drop_more, at_drop_all}
 use Rattle.pw_flow.specs.declared.flow.End.TheVariants.{Jump}
@@ -40,8 +40,8 @@ lower_statement-returns-in-Expr t c =
     let f = view_frame c.args.frame in
     subst (λ d. OnOk c.evaluate.result (c.evaluate.new.code ≡ d)) (sym (ap (λ x. lower_statement f c.args.ways (view_stmt_form k x) c.args.code.now) c.in-Expr.is ∙ evaluate_is f c.args.ways k c.in-Expr.e c.args.code.now)) c.evaluate.ensures
 
-pub lower_statement-returns-in_ok-initialise_all-in-Block : goal.lower_statement-returns-in_ok-initialise_all-in-Block
-lower_statement-returns-in_ok-initialise_all-in-Block t c =
+pub lower_statement-returns-in-Block : goal.lower_statement-returns-in-Block
+lower_statement-returns-in-Block t c =
     let k = c.args.s.now.token in
     let f = view_frame c.args.frame in
     let w = c.args.ways in
@@ -49,8 +49,11 @@ lower_statement-returns-in_ok-initialise_all-in-Block t c =
     let all = c.in-Block.initialisers in
     let ss = c.in-Block.items in
     let e = ap (λ s. lower_statement f w s code) (ap (view_stmt_form k) c.in-Block.is ∙ block_view k c.in-Block.first c.in-Block.count all ss) ∙ statement_block f w k c.in-Block.first c.in-Block.count (view_initialisers all.items) (view_stmts ss.items) code in
-    let a : c.initialise_all.new.code ≡ initialised_all f.home f.locals (view_initialisers all.items) code = c.in_ok-initialise_all-in-Block.ensures ∙ ap (λ l. initialised_all f.home f.locals (view_initialisers l) code) c.deref.ensures.value in
-    subst (λ d. OnOk c.lower_statements.result (c.lower_statements.new.code ≡ d)) (ap (λ l. lower_statements f w (view_stmts l) c.initialise_all.new.code) c.deref-in-Block.ensures.value ∙ ap (lower_statements f w (view_stmts ss.items)) a ∙ sym e) c.lower_statements.ensures
+    subst (λ d. OnOk c.lower_block.result (c.lower_block.new.code ≡ d))
+    (ap (λ l. lower_statements f w (view_stmts c.deref-in-Block.result.now) (initialised_all f.home f.locals (view_initialisers l) code)) c.deref.ensures.value
+    ∙ ap (λ l. lower_statements f w (view_stmts l) (initialised_all f.home f.locals (view_initialisers all.items) code)) c.deref-in-Block.ensures.value
+    ∙ sym e)
+    c.lower_block.ensures
 
 pub lower_statement-returns-in-While : goal.lower_statement-returns-in-While
 lower_statement-returns-in-While t c =
@@ -140,8 +143,8 @@ lower_statement-returns-in-Return t c =
     let e = ap (λ x. lower_statement f w (view_stmt_form k x) code) c.in-Return.is ∙ return_is f w k c.in-Return.e code in
     subst (λ d. OnOk c.lower_return.result (c.lower_return.new.code ≡ d)) (sym e) c.lower_return.ensures
 
-pub lower_statement-returns-in_ok-lower_otherwise-in-If : goal.lower_statement-returns-in_ok-lower_otherwise-in-If
-lower_statement-returns-in_ok-lower_otherwise-in-If t c =
+pub lower_statement-returns-in_ok-joins-in-If : goal.lower_statement-returns-in_ok-joins-in-If
+lower_statement-returns-in_ok-joins-in-If t c =
     let k = c.args.s.now.token in
     let f = view_frame c.args.frame in
     let w = c.args.ways in
@@ -151,14 +154,12 @@ lower_statement-returns-in_ok-lower_otherwise-in-If t c =
     let more = c.is_some.result in
     let joins = c.in_ok-joins-in-If.joins.items in
     let behind = c.lower_arms.new.code in
-    let after = c.lower_otherwise.new.code in
     let v = c.deref-in-If.ensures.value in
     let m : more ≡ is_some o = first_of (cc, search rules) in
     let j : joins ≡ joins_of f w more (view_arms arms.items) code = c.in_ok-joins-in-If.ensures.joins ∙ ap (λ l. joins_of f w more (view_arms l) code) v in
     let b : behind ≡ arms_code f w more (view_arms arms.items) code = c.in_ok-joins-in-If.ensures.code ∙ ap (λ l. arms_code f w more (view_arms l) code) v in
-    let a : after ≡ else_code f w (view_otherwise o) behind = c.in_ok-lower_otherwise-in-If.ensures in
     let e = ap (λ x. lower_statement f w (view_stmt_form k x) code) c.in-If.is ∙ if_is f w k arms o code in
-    subst (λ d. OnOk c.close_joins.result (c.close_joins.new.code ≡ d)) (if_whole f w (view_arms arms.items) o more joins code behind after m j b a ∙ sym e) c.close_joins.ensures
+    subst (λ d. OnOk c.close_if.result (c.close_if.new.code ≡ d)) (if_whole f w (view_arms arms.items) o more joins code behind (else_code f w (view_otherwise o) behind) m j b refl ∙ sym e) c.close_if.ensures
 
 pub lower_arms-loop-arm-preserved : goal.lower_arms-loop-arm-preserved
 lower_arms-loop-arm-preserved t c =

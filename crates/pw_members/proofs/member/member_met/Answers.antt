@@ -7,7 +7,7 @@ use Rattle.pw_walk.specs.Walks.{bind}
 use Rattle.pw_rules.specs.States.{records_in}
 use Rattle.pw_members.specs.Parts.{member_point}
 use Rattle.pw_members.specs.Views.{view_member_list}
-use Rattle.pw_members.proofs.RuleLaws.{told_obeys}
+use Rattle.pw_finding.proofs.FindingLaws.{point_end}
 use Rattle.pw_members.proofs.member.member_met.Goals as goal
 
 pub returns : goal.returns
@@ -17,6 +17,6 @@ returns c =
     let spot = view_spot c.args.spot.now in
     let q = view_qtype c.args.ty.now in
     let members = view_member_list c.args.members.now in
-    told_obeys (member_point (records_in s) spot c.args.name.now q members) s _ _
+    point_end (member_point (records_in s) spot c.args.name.now q members) s _ _
     (c.in_ok-member_found.ensures ∙ ap (λ rs. found (member_point rs spot c.args.name.now q members)) c.records.ensures)
     c.end.ensures

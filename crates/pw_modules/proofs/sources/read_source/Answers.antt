@@ -8,4 +8,4 @@ use Rattle.pw_modules.proofs.sources.read_source.Goals as goal
 pub returns-in-Ok-clause-read : goal.returns-in-Ok-clause-read
 returns-in-Ok-clause-read g c =
     IfSome_then (g.S.Store.told c.args.store.now) (rw c.in-Some.is at c.in_ok-text.ensures.file)
-    (λ told read. read_and_cut text_read (finite.get told.files c.args.file.now) c.in-Some.text.items c.truncate.new.self.items c.in-Ok.name (stem c.args.file.now) read c.truncate.ensures.items (c.in-Ok.ensures.holds ∙ c.stem.ensures))
+    (λ told read. read_and_cut text_read (finite.get told.files c.args.file.now) c.in-Some.text.items c.truncate.new.self.items c.in-Ok.name (stem c.args.file.now) read c.truncate.ensures.items (c.in-Ok.ensures ∙ c.stem.ensures))

@@ -1,0 +1,240 @@
+-- Functions and modules: at a module's end the types of all expressions keep the limit on sizes, and calls that on arguments
+-- (ISO C90 5.2.4.1).
+use Rattle.std.specs.Prelude.{ℕ, ◌≡◌, ◌+◌, ◌⊎◌, true, Option, None, Some, List, [], ◌∷◌, length, map, slice_get, All, Ok, refl}
+use Rattle.std.proofs.Common.{sym, subst, ◌∙◌, inl, inr}
+use Rattle.std.proofs.lemmas.Option.{slice_get-get_or}
+use Rattle.pw_tree.specs.Trees.{Word, Decl, Block, Function, External, Module}
+use Rattle.pw_tree.specs.Trees as S
+use Rattle.pw_types.specs.TypeTrees.{QType, type_of, RecordValue}
+use Rattle.pw_types.specs.TypedTrees.{FunctionValue, ModuleValue}
+use Rattle.pw_lowered.specs.Within.{KeepsLimits}
+use Rattle.pw_walk.specs.Walks.{Walk, Done, bind}
+use Rattle.pw_rules.specs.Checks.{Checks, checking}
+use Rattle.pw_rules.specs.Declarations.{name_of, decl_rule}
+use Rattle.pw_rules.specs.Derivations.{Bindings, Declared as Declarator, spot_of}
+use Rattle.pw_rules.specs.Functions.{function_of, bindings_of, enter_body, definition_asking, definition_rules, ends_in_function, measured_rule, body_rule, function_rule}
+use Rattle.pw_rules.specs.Kinds.{is_function}
+use Rattle.pw_rules.specs.Leaves.{first_of_declaration}
+use Rattle.pw_rules.specs.Linkage.{Asking, declare_linked, define_function, place_for}
+use Rattle.pw_rules.specs.Modules.{external_rule, externals_rule, module_rule, module_in, hidden_global}
+use Rattle.pw_rules.specs.SpecifierLists.{Specified}
+use Rattle.pw_rules.specs.States.{State, LinkedName, Entity, TypeName, EnumerationConstant, LocalObject, StaticObject, Linked, start}
+use Rattle.pw_rules.specs.Statements.{block_rule, labels_in_block}
+use Rattle.pw_rules.specs.declared.names.Entry.{Entry}
+use Rattle.pw_well_typed.specs.Lawful.{IsLawful, IsLawfulType}
+use Rattle.pw_well_typed.specs.Words.{AreShortStrings}
+use Rattle.pw_well_typed.proofs.Walking.{Post, AreMet, post_end, post_bind, post_weaken, post_both}
+use Rattle.pw_well_typed.proofs.Lists.{get_either, get_map, get_more, never_some, some_same}
+use Rattle.pw_well_typed.proofs.Types.{no, extends_same}
+use Rattle.pw_well_typed.proofs.Sound.{Sound, IsPlain}
+use Rattle.pw_well_typed.proofs.States.{Grows, grows_trans}
+use Rattle.pw_well_typed.proofs.Leaves.{GoodIfAny, GoodBindings}
+use Rattle.pw_well_typed.proofs.Phrases.{later_type}
+use Rattle.pw_well_typed.proofs.Keeping.{After, Kept, after_same, after_trans, later_after, later_trans, deeper_sound, plain_stays}
+use Rattle.pw_well_typed.proofs.Declaring.{GoodPlace, declared_goes, function_after}
+use Rattle.pw_well_typed.proofs.ObjectTypes.{function_keeps}
+use Rattle.pw_well_typed.proofs.Statements.{block_goes}
+use Rattle.pw_well_typed.proofs.Adding.{Adds, Declaring, adds_trans, declared_adds, changed_adds, decl_declares}
+use Rattle.pw_well_typed.proofs.LabelLaws.{asked_post}
+use Rattle.pw_well_typed.proofs.FunctionLaws.{ends_here, met_post, end_same}
+use Rattle.pw_well_typed.proofs.Ending.{start_sound}
+use Rattle.pw_well_typed.proofs.Laws.{start_lawful}
+use Rattle.pw_well_typed.proofs.Settled.{Settled}
+use Rattle.pw_well_typed.proofs.Globals.{hidden_there}
+use Rattle.pw_well_typed.proofs.Modules.{Onwards, OnceDefined, IsWhole, body_entered, good_bindings, built_kind, is_linkable, external_post, module_post, none_defined, start_settled}
+use Rattle.pw_within.proofs.Sizes.{IsKeptFrom, kept_from, within_kept, kept_callee}
+use Rattle.pw_within.proofs.SmallLeaves.{Keeping, IsReady, Reaches, reaches_back}
+use Rattle.pw_within.proofs.SmallPhrases.{from_declarator, declarator_set, built_here}
+use Rattle.pw_within.proofs.SmallLinkage.{IsNarrowed, AreNarrowed, declare_small}
+use Rattle.pw_within.proofs.SmallGlobals.{Declared, function_small}
+use Rattle.pw_within.proofs.SmallDecls.{Holds, holds_grows, Specifies, specified_made, reaches_on, onward_adds, decl_declared}
+use Rattle.pw_within.proofs.SmallStatements.{IsSet, Goes, SmallStatement, left_narrowed, block_small}
+
+-- ---- states at file scope
+
+-- the bodies of functions keep the limits
+abbrev AreSmallBodies : State → Type 0
+AreSmallBodies s = (i : ℕ) (f : FunctionValue) → slice_get s.made.functions i ≡ Some f → SmallStatement s f.body
+
+-- the records that the later state reaches, the one before reaches
+abbrev Backs : State → State → Type 0
+Backs s t = (r : List RecordValue) → Reaches t r → Reaches s r
+
+abbrev Ends : {A : Type 0} → State → A × State → Type 0
+Ends s r = (Keeping r.1 × AreNarrowed r.1) × (Backs s r.1 × (AreSmallBodies s → AreSmallBodies r.1))
+
+bodies_on : (s t : State) → Backs s t → t.made.functions ≡ s.made.functions → AreSmallBodies s → AreSmallBodies t
+bodies_on s t back same all i f e = λ r c. all i f (subst (λ fs. slice_get fs i ≡ Some f) same e) r (back r c)
+
+ends_later : {A : Type 0} (s t : State) (w : Walk (A × State)) → Backs s t → t.made.functions ≡ s.made.functions → Post w (Ends t) → Post w (Ends s)
+ends_later s t w back same h = post_weaken w (Ends t) (Ends s) h (λ r g. (g.0, (λ x c. back x (g.1.0 x c), λ all. g.1.1 (bodies_on s t back same all))))
+
+-- ---- the body of a function
+
+plain_narrowed : (linked : List LinkedName) (x : Entity) → IsPlain x → IsNarrowed linked x
+plain_narrowed linked (TypeName q) h = tt
+plain_narrowed linked (EnumerationConstant n) h = tt
+plain_narrowed linked (LocalObject k q register) h = tt
+plain_narrowed linked (StaticObject k q) h = absurd h
+plain_narrowed linked (Linked k q) h = absurd h
+
+entered_narrowed : (v s : State) (q : QType) (b : Bindings) (names : List (List ℕ)) → After v s → Sound None v → GoodBindings v.types.records v.scopes.entities b → AreNarrowed s → AreNarrowed (enter_body q b names s)
+entered_narrowed v s q b names a sound good h i e x at there =
+    by (get_either s.scopes.ordinary (map (λ (y : List ℕ × ℕ). (y.0, record { place = y.1; depth = s.scopes.depth + 1 })) b.ordinary) i e at)
+  where
+    by : (slice_get s.scopes.ordinary i ≡ Some e) ⊎ ((j : ℕ) × (slice_get (map (λ (y : List ℕ × ℕ). (y.0, record { place = y.1; depth = s.scopes.depth + 1 })) b.ordinary) j ≡ Some e)) → IsNarrowed s.types.linked x
+    by (inl f) = h i e x f there
+    by (inr f) =
+        let y = get_map (λ (y : List ℕ × ℕ). let z : List ℕ × Entry = (y.0, record { place = y.1; depth = s.scopes.depth + 1 }) in z) b.ordinary f.0 e f.1 in
+        let p = good.plain f.0 y.0 y.1 in
+        let k = a.entities sound y.0.1 p.0 p.1 in
+        let same : slice_get s.scopes.entities y.0.1 ≡ Some x = subst (λ (z : List ℕ × Entry). slice_get s.scopes.entities z.1.place ≡ Some x) (sym y.2) there in
+        plain_narrowed s.types.linked x (subst IsPlain (some_same (sym k.1 ∙ same)) (plain_stays p.0 k.0 p.2 k.2))
+
+-- what is known where a function's body begins, some time behind its declarator
+record Begins (v s : State) (q : QType) (b : Bindings) : Type 0 where
+  before : IsLawful v
+  sound : Sound None v
+  after : After v s
+  good : GoodBindings v.types.records v.scopes.entities b
+  ready : IsReady s
+  narrowed : AreNarrowed s
+  kept : IsKeptFrom s.types.records (type_of q)
+
+body_set : (v s : State) (q : QType) (b : Bindings) (names : List (List ℕ)) → Begins v s q b → IsSet (enter_body q b names s)
+body_set v s q b names h =
+    let c = body_entered v s q b names h.after h.ready.0 h.good h.before.depths in (
+      (c.0, record { entities = h.ready.1.entities; members = h.ready.1.members }),
+      (λ r laid x. (kept_callee r (type_of q) (h.kept r laid x)).result, (c.1.sound (deeper_sound h.sound), entered_narrowed v s q b names h.after h.sound h.good h.narrowed)),
+    )
+
+body_small : (v s : State) (w : Word) (place : ℕ) (q : QType) (b : Bindings) (block : Block) → Begins v s q b → Post (body_rule w place q b block s) (Ends s)
+unfolding body_rule measured_rule bind
+body_small v s w place q b block h =
+    let c : IsSet (enter_body q b (labels_in_block block) s) = body_set v s q b (labels_in_block block) h in
+    post_bind (block_rule block (enter_body q b (labels_in_block block) s)) _
+    (λ r. (IsLawful r.1 × After (enter_body q b (labels_in_block block) s) r.1 × Unit {0}) × Goes (enter_body q b (labels_in_block block) s) SmallStatement r) (Ends s)
+    (post_both _ (λ r. IsLawful r.1 × After (enter_body q b (labels_in_block block) s) r.1 × Unit {0}) (Goes (enter_body q b (labels_in_block block) s) SmallStatement)
+    (block_goes block (enter_body q b (labels_in_block block) s) c.0.0) (block_small block (enter_body q b (labels_in_block block) s) c)) (λ r g met.
+    let back : Backs s r.1 =
+    (λ x d.
+    let k = reaches_on {s = enter_body q b (labels_in_block block) s} {t = r.1} g.1.0.1 d in
+    record { laid = k.laid; records = k.records; counting = k.counting; strings = k.strings }) in (
+      (record { entities = g.1.0.0.0.1.entities; members = g.1.0.0.0.1.members }, left_narrowed r.1 g.1.0.0.1.1.1),
+      (
+        λ x d. back x (record { laid = d.laid; records = d.records; counting = d.counting; strings = d.strings }),
+        λ all i f e x d. by r.1 (function_of r.1 w place q b r.0) g.0.1.functions back all g.1.1 i f x (record { laid = d.laid; records = d.records; counting = d.counting; strings = d.strings })
+            (get_more r.1.made.functions (function_of r.1 w place q b r.0) i f e),
+      ),
+    ))
+  where
+    by : (t : State) (f : FunctionValue) → t.made.functions ≡ s.made.functions → Backs s t → AreSmallBodies s → SmallStatement t f.body → (i : ℕ) (g : FunctionValue) (x : List RecordValue) → Reaches t x
+        → (slice_get t.made.functions i ≡ Some g) ⊎ ((i ≡ length t.made.functions) × (f ≡ g)) → KeepsLimits x g.body
+    by t f same back all new i g x d (inl k) = bodies_on s t back same all i g k x d
+    by t f same back all new i g x d (inr k) = subst (λ (y : FunctionValue). KeepsLimits x y.body) k.1 (new x d)
+
+-- ---- definitions
+
+-- what is known behind the name of a definition
+abbrev Defines : State → Declarator → QType → ℕ × State → Type 0
+Defines v d q e =
+    (IsLawful e.1 × After v e.1 × GoodPlace (name_of d).text q (place_for v (name_of d).text) e.1 e.0) × ((Keeping e.1 × AreNarrowed e.1) × (Adds v e.1 × (IsKeptFrom v.types.records (type_of q) × (ends_in_function d.derivations ≡ true))))
+
+linked_adds : (name : List ℕ) (token : ℕ) (tag : Option ℕ) (asking : Asking) (q : QType) (s : State) → Post (declare_linked name token tag asking q s) (λ e. Adds s e.1)
+unfolding declare_linked bind
+linked_adds name token tag asking q s = declared_adds s name token tag asking q
+
+name_defines : (v : State) (b : Specified) (d : Declarator) (ds : List Decl) (q : QType) → Holds v → IsLawfulType v.types.records (type_of q) → (ends_in_function d.derivations ≡ true → is_function (type_of q) ≡ true)
+    → AreMet (definition_rules v (name_of d) b d ds q) → Post (declare_linked (name_of d).text (name_of d).token b.tag (definition_asking b) q v) (Defines v d q)
+name_defines v b d ds q h lawful kind met =
+    let ends : ends_in_function d.derivations ≡ true = ends_here v (name_of d) b d ds q met in
+    let kept : IsKeptFrom v.types.records (type_of q) = within_kept v.types.records (name_of d).token q lawful met.1.1.1.1.1.1.1.1.1 in
+    post_weaken (declare_linked (name_of d).text (name_of d).token b.tag (definition_asking b) q v)
+    (λ e. (IsLawful e.1 × After v e.1 × GoodPlace (name_of d).text q (place_for v (name_of d).text) e.1 e.0) × ((Keeping e.1 × AreNarrowed e.1) × Adds v e.1)) (Defines v d q)
+    (post_both (declare_linked (name_of d).text (name_of d).token b.tag (definition_asking b) q v) (λ e. IsLawful e.1 × After v e.1 × GoodPlace (name_of d).text q (place_for v (name_of d).text) e.1 e.0)
+    (λ e. (Keeping e.1 × AreNarrowed e.1) × Adds v e.1)
+    (declared_goes None v (name_of d).text (name_of d).token b.tag (definition_asking b) q h.0.0 lawful (function_keeps v.types.records (type_of q) (kind ends)) (is_linkable v (name_of d) b d ds q met) (λ hs none e g. no (sym g ∙ kind ends)))
+    (post_both (declare_linked (name_of d).text (name_of d).token b.tag (definition_asking b) q v) (λ e. Keeping e.1 × AreNarrowed e.1) (λ e. Adds v e.1)
+    (declare_small (name_of d).text (name_of d).token b.tag (definition_asking b) q v h.0.0 h.0.1 h.1.0 h.1.1 (is_linkable v (name_of d) b d ds q met) kept) (linked_adds (name_of d).text (name_of d).token b.tag (definition_asking b) q v)))
+    (λ e g. (g.0, (g.1.0, (g.1.1, (kept, ends)))))
+
+definition_small : (s : State) (f : Function) → Holds s → Post (function_rule f s) (Ends s)
+unfolding function_rule
+definition_small s f h =
+    post_bind _ _ (Specifies s) (Ends s) (specified_made f.specifiers (first_of_declaration f.specifiers f.declarator) s h.0) (λ r g.
+    from_declarator f.declarator r.1 _ (Ends s) g.0.0 (declarator_set f.declarator r.1 g.1) (λ u m x c.
+    post_bind _ _ (λ v. ((v.1 ≡ u.1) × IsLawfulType u.1.types.records (type_of v.0)) × (ends_in_function u.0.derivations ≡ true → is_function (type_of v.0) ≡ true)) (Ends s)
+    (post_both _ (λ v. (v.1 ≡ u.1) × IsLawfulType u.1.types.records (type_of v.0)) (λ v. ends_in_function u.0.derivations ≡ true → is_function (type_of v.0) ≡ true)
+    (built_here u.1 r.0 u.0 (spot_of u.0.name r.0.first r.0.tag) m.0 (later_type r.0.ty x g.0.2) c) (built_kind u.0.derivations (spot_of u.0.name r.0.first r.0.tag) r.0.ty u.1)) (λ v j.
+    let grown : Grows s v.1 = subst (Grows s) (sym j.0.0) (grows_trans g.0.1 x) in
+    let ready : IsReady v.1 = subst IsReady (sym j.0.0) m in
+    let k : Holds v.1 = holds_grows {s = s} {t = v.1} ready grown h in
+    asked_post v.1 _ _ (Ends s)
+    (post_bind _ _ (Defines v.1 u.0 v.0) (Ends s)
+    (met_post v.1 _ _ (Defines v.1 u.0 v.0) (name_defines v.1 r.0 u.0 f.declarations v.0 k (subst (λ t. IsLawfulType t.types.records (type_of v.0)) (sym j.0.0) j.0.1) j.1)) (λ e n.
+    let d : Kept e.1 (define_function e.0 e.1) = function_after e.1 e.0 n.0.2.1.0 n.0.0 n.0.2.1.1 (n.0.2.1.3.function ∙ j.1 n.1.1.1.1) in
+    let later : After v.1 (define_function e.0 e.1) = after_trans n.0.1 d.1 in
+    let adds : Adds v.1 (define_function e.0 e.1) = adds_trans n.1.1.0 (changed_adds e.1 e.0 (λ y. record y { defined = true })) in
+    let small = function_small e.1 e.0 n.1.0.0 n.1.0.1 in
+    asked_post _ _ _ (Ends s)
+    (ends_later s (define_function e.0 e.1) (body_rule (name_of u.0) e.0 v.0 (bindings_of u.0) f.body (define_function e.0 e.1))
+    (λ y a. reaches_back {s = s} {t = v.1} grown (reaches_on {s = v.1} {t = define_function e.0 e.1} (onward_adds later adds) a)) (later.functions ∙ grown.functions)
+    (body_small v.1 (define_function e.0 e.1) (name_of u.0) e.0 v.0 (bindings_of u.0) f.body (record {
+      before = k.0.0;
+      sound = k.1.0;
+      after = later;
+      good = good_bindings v.1 u.0.bindings (subst (λ t. GoodIfAny t.types.records t.scopes.entities u.0.bindings) (sym j.0.0) c.1);
+      ready = (d.0, small.0);
+      narrowed = small.1;
+      kept = kept_from v.1.types.records (define_function e.0 e.1).types.records (type_of v.0) later.extends n.1.1.1.0;
+    }))))))))
+
+-- ---- modules
+
+external_ends : (s : State) (x : External) → Holds s → Post (external_rule x s) (Ends s)
+unfolding external_rule
+external_ends s (S.Definition f) h = definition_small s f h
+external_ends s (S.Declaration d) h =
+    post_bind (decl_rule d s) _ (λ r. Declaring s r × Declared r) (Ends s) (post_both (decl_rule d s) (Declaring s) Declared (decl_declares d s h.0.0) (decl_declared d s h)) (λ r g.
+    let back : Backs s r.1 = (λ x c. reaches_on {s = s} {t = r.1} (onward_adds g.0.1 g.0.2.0) c) in
+    (g.1.0, (back, λ all. bodies_on s r.1 back g.0.1.functions all)))
+
+abbrev GoesOn : {A : Type 0} → State → A × State → Type 0
+GoesOn s r = Onwards s r × Ends s r
+
+externals_go_on : (xs : List External) (s : State) → Holds s → OnceDefined s → Post (externals_rule xs s) (GoesOn s)
+unfolding externals_rule
+externals_go_on [] s h o = ((h.0.0, o, later_after (after_same s)), ((h.0.1, h.1.1), (λ x c. c, λ all. all)))
+externals_go_on (x ∷ rest) s h o =
+    post_bind _ _ (GoesOn s) (GoesOn s) (post_both (external_rule x s) (Onwards s) (Ends s) (external_post s x h.0.0 o) (external_ends s x h)) (λ r g.
+    post_weaken (externals_rule rest r.1) (GoesOn r.1) (GoesOn s) (externals_go_on rest r.1 ((g.0.0, g.1.0.0), (g.0.2.sound h.1.0, g.1.0.1)) g.0.1)
+    (λ u k. ((k.0.0, k.0.1, later_trans g.0.2 k.0.2), (k.1.0, (λ y c. g.1.1.0 y (k.1.1.0 y c), λ all. k.1.1.1 (g.1.1.1 all))))))
+
+start_holds : Holds start
+start_holds = ((start_lawful, record { entities = λ k x e. never_some e; members = λ n c e. never_some e }), (start_sound, λ i e x at there. never_some at))
+
+module_bodies : (m : Module) → Post (module_rule m start) (λ r. AreSmallBodies r.1)
+unfolding module_rule
+module_bodies m =
+    post_bind _ _ (GoesOn start) (λ r. AreSmallBodies r.1) (post_bind _ _ (GoesOn start) (GoesOn start) (externals_go_on m.externals start start_holds none_defined) (λ r h. h)) (λ r h.
+    post_bind _ _ (λ u. u.1 ≡ r.1) (λ u. AreSmallBodies u.1) (end_same r.0 r.1) (λ u e. subst AreSmallBodies (sym e) (h.1.1.1 (λ i f k. never_some k))))
+
+-- ---- the law
+
+abbrev HaveSmallBodies : ModuleValue → Type 0
+HaveSmallBodies m = AreShortStrings m → All (λ f. KeepsLimits m.records f.body) m.functions
+
+bodies_end : (t : State) → IsLawful t → Sound None t → Settled None t → AreSmallBodies t → HaveSmallBodies (module_in t)
+bodies_end t l sound settled all short = λ k d below.
+    all k _ (slice_get-get_or t.made.functions k d below) t.types.records
+    (record { laid = l.laid; records = extends_same t.types.records; counting = settled.counting; strings = λ n h e m is. short (hidden_global n h) n m (hidden_there t n h sound e) refl is })
+
+checking_small : (m : Module) → Post (bind (module_rule m start) (λ r. Done r.0)) HaveSmallBodies
+checking_small m =
+    post_bind (module_rule m start) (λ r. Done r.0) (λ r. IsWhole r × AreSmallBodies r.1) HaveSmallBodies
+    (post_both (module_rule m start) IsWhole (λ r. AreSmallBodies r.1) (module_post m start start_lawful none_defined start_sound (λ n x e. never_some e) refl start_settled) (module_bodies m))
+    (λ r h. subst HaveSmallBodies (sym h.0.3) (bodies_end r.1 h.0.0 h.0.2 h.0.7 h.1))
+
+pub module_small : (tree : Module) (m : ModuleValue) → Checks tree (Ok m) → AreShortStrings m → All (λ f. KeepsLimits m.records f.body) m.functions
+unfolding checking
+module_small tree m h = post_end (checking tree) m HaveSmallBodies h (checking_small tree)
