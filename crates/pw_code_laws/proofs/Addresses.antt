@@ -22,7 +22,7 @@ use Rattle.pw_delay.specs.Placement.{laid, placed}
 use Rattle.pw_object.specs.declared.object.Object.{Object}
 use Rattle.pw_milli.specs.Library.{routines}
 use Rattle.pw_link.specs.Layout.{is_before, in_order, Piece, piece_of, routine_piece, routine_pieces, function_pieces, pieces_of, Placed, placed_from, text_of, word_count, Standing, standing_from, data_of, data_size, data_begin, stack_end, function_site, global_site, address_in}
-use Rattle.pw_flow.specs.ValidFlow.{taken}
+use Rattle.pw_flow.specs.ValidFlow.{global_room}
 use Rattle.pw_link.specs.Layout as link
 use Rattle.pw_link.specs.Linking.{function_of, global_of, size_fault, linked}
 use Rattle.pw_link_laws.proofs.Ordered.{modules_stay}
@@ -197,7 +197,7 @@ function_at p objects f k c =
 
 record IsGlobalAt (p : Program) (objects : List Object) (g : FlowGlobal) : Type 0 where
   is : address_of (linked objects p.stack) g.name ≡ data_begin objects + offset_of 0 (link.globals_of objects) g.name
-  stands : Stands 0 (offset_of 0 (link.globals_of objects) g.name) (taken g) (0 + data_size objects)
+  stands : Stands 0 (offset_of 0 (link.globals_of objects) g.name) (global_room g) (0 + data_size objects)
 
 global_at : (p : Program) (objects : List Object) (g : FlowGlobal) → Known p objects → Contains (link.globals_of objects) g → IsGlobalAt p objects g
 unfolding named_sites

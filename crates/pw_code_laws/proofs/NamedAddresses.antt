@@ -10,7 +10,7 @@ use Rattle.pw_flow.specs.declared.flow.FlowGlobal.{FlowGlobal}
 use Rattle.pw_flow.specs.ValidFlow.{AreDistinct}
 use Rattle.pw_flow.proofs.Lists.{all_right}
 use Rattle.pw_link.specs.Layout.{Piece, placed_from, function_site, standing_from, global_site}
-use Rattle.pw_flow.specs.ValidFlow.{taken}
+use Rattle.pw_flow.specs.ValidFlow.{global_room}
 use Rattle.pw_link_laws.proofs.Starting.{IsFound, found}
 
 -- ---- names
@@ -115,13 +115,13 @@ global_names gs = map (λ g. g.name) gs
 -- the offset of the first of a name, where the first object stands at one
 abbrev pub offset_of : ℕ → List FlowGlobal → List ℕ → ℕ
 offset_of at [] name = at
-offset_of at (g ∷ gs) name = if bytes_eq name g.name then at else offset_of (at + taken g) gs name
+offset_of at (g ∷ gs) name = if bytes_eq name g.name then at else offset_of (at + global_room g) gs name
 
 offset_here : (x : FlowGlobal) (at : ℕ) (gs : List FlowGlobal) (name : List ℕ) → name ≡ x.name → offset_of at (x ∷ gs) name ≡ at
-offset_here x at gs name e = ap (λ (b : Bool). if b then at else offset_of (at + taken x) gs name) (same_name name x.name e)
+offset_here x at gs name e = ap (λ (b : Bool). if b then at else offset_of (at + global_room x) gs name) (same_name name x.name e)
 
-offset_there : (x : FlowGlobal) (at : ℕ) (gs : List FlowGlobal) (name : List ℕ) → name ≢ x.name → offset_of at (x ∷ gs) name ≡ offset_of (at + taken x) gs name
-offset_there x at gs name other = ap (λ (b : Bool). if b then at else offset_of (at + taken x) gs name) (other_name name x.name other)
+offset_there : (x : FlowGlobal) (at : ℕ) (gs : List FlowGlobal) (name : List ℕ) → name ≢ x.name → offset_of at (x ∷ gs) name ≡ offset_of (at + global_room x) gs name
+offset_there x at gs name other = ap (λ (b : Bool). if b then at else offset_of (at + global_room x) gs name) (other_name name x.name other)
 
 -- an object behind the first has another name
 names_differ : (name : List ℕ) (g : FlowGlobal) (gs : List FlowGlobal) (k : ℕ) → k < length gs → get_or gs k g ≡ g → AllByRecursion (λ other. other ≢ name) (global_names gs) → g.name ≢ name
@@ -134,12 +134,12 @@ pub global_found : (g : FlowGlobal) (begin at : ℕ) (gs : List FlowGlobal) (k :
 global_found g begin at [] k lt e distinct = absurd (omega (arith, lt))
 global_found g begin at (x ∷ gs) zero lt e distinct =
     let same : g.name ≡ x.name = ap (λ (y : FlowGlobal). y.name) (sym e) in
-    ap (λ (b : Bool). cond b (Some ((begin + at) % 2 ^ 32)) (lookup (bytes_eq g.name) (map (global_site begin) (standing_from (at + taken x) gs)))) (same_name g.name x.name same)
+    ap (λ (b : Bool). cond b (Some ((begin + at) % 2 ^ 32)) (lookup (bytes_eq g.name) (map (global_site begin) (standing_from (at + global_room x) gs)))) (same_name g.name x.name same)
     ∙ ap (λ (n : ℕ). Some ((begin + n) % 2 ^ 32)) (sym (offset_here x at gs g.name same))
 global_found g begin at (x ∷ gs) (suc k) lt e distinct =
     let other = names_differ x.name g gs k (omega (arith, lt)) e distinct.0 in
-    ap (λ (b : Bool). cond b (Some ((begin + at) % 2 ^ 32)) (lookup (bytes_eq g.name) (map (global_site begin) (standing_from (at + taken x) gs)))) (other_name g.name x.name other)
-    ∙ global_found g begin (at + taken x) gs k (omega (arith, lt)) e distinct.1
+    ap (λ (b : Bool). cond b (Some ((begin + at) % 2 ^ 32)) (lookup (bytes_eq g.name) (map (global_site begin) (standing_from (at + global_room x) gs)))) (other_name g.name x.name other)
+    ∙ global_found g begin (at + global_room x) gs k (omega (arith, lt)) e distinct.1
     ∙ ap (λ (n : ℕ). Some ((begin + n) % 2 ^ 32)) (sym (offset_there x at gs g.name other))
 
 -- where an object stands, with its room
@@ -149,40 +149,40 @@ pub record Stands (at offset room end : ℕ) : Type 0 where
   pub within : offset + room ≤ end
 
 pub global_stands : (g : FlowGlobal) (at : ℕ) (gs : List FlowGlobal) (k : ℕ) → k < length gs → get_or gs k g ≡ g → at % 8 ≡ 0 → AreDistinct (global_names gs)
-    → Stands at (offset_of at gs g.name) (taken g) (at + sum_by taken gs)
+    → Stands at (offset_of at gs g.name) (global_room g) (at + sum_by global_room gs)
 global_stands g at [] k lt e aligned distinct = absurd (omega (arith, lt))
 global_stands g at (x ∷ gs) zero lt e aligned distinct =
     let here = offset_here x at gs g.name (ap (λ (y : FlowGlobal). y.name) (sym e)) in
-    let room : taken x ≡ taken g = ap taken e in
-    let all = sum_by-cons taken x gs in
+    let room : global_room x ≡ global_room g = ap global_room e in
+    let all = sum_by-cons global_room x gs in
     record { aligned = rw here aligned; start = omega (arith, here); within = omega (arith, here, room, all) }
 global_stands g at (x ∷ gs) (suc k) lt e aligned distinct =
-    let s = global_stands g (at + taken x) gs k (omega (arith, lt)) e (omega (arith, aligned)) distinct.1 in
+    let s = global_stands g (at + global_room x) gs k (omega (arith, lt)) e (omega (arith, aligned)) distinct.1 in
     let there = offset_there x at gs g.name (names_differ x.name g gs k (omega (arith, lt)) e distinct.0) in
-    let all = sum_by-cons taken x gs in
+    let all = sum_by-cons global_room x gs in
     record { aligned = rw there s.aligned; start = omega (arith, there, s.start); within = omega (arith, there, s.within, all) }
 
 pub globals_apart : (g h : FlowGlobal) (at : ℕ) (gs : List FlowGlobal) (j k : ℕ) → j < length gs → get_or gs j g ≡ g → k < length gs → get_or gs k h ≡ h → g.name ≢ h.name
     → at % 8 ≡ 0 → AreDistinct (global_names gs)
-    → (offset_of at gs g.name + taken g ≤ offset_of at gs h.name) ⊎ (offset_of at gs h.name + taken h ≤ offset_of at gs g.name)
+    → (offset_of at gs g.name + global_room g ≤ offset_of at gs h.name) ⊎ (offset_of at gs h.name + global_room h ≤ offset_of at gs g.name)
 globals_apart g h at [] j k lt e less same other aligned distinct = absurd (omega (arith, lt))
 globals_apart g h at (x ∷ gs) zero zero lt e less same other aligned distinct = absurd (other (ap (λ (y : FlowGlobal). y.name) (sym e ∙ same)))
 globals_apart g h at (x ∷ gs) zero (suc k) lt e less same other aligned distinct =
     let here = offset_here x at gs g.name (ap (λ (y : FlowGlobal). y.name) (sym e)) in
-    let room : taken x ≡ taken g = ap taken e in
+    let room : global_room x ≡ global_room g = ap global_room e in
     let there = offset_there x at gs h.name (names_differ x.name h gs k (omega (arith, less)) same distinct.0) in
-    let s = global_stands h (at + taken x) gs k (omega (arith, less)) same (omega (arith, aligned)) distinct.1 in
+    let s = global_stands h (at + global_room x) gs k (omega (arith, less)) same (omega (arith, aligned)) distinct.1 in
     inl (omega (arith, here, there, room, s.start))
 globals_apart g h at (x ∷ gs) (suc j) zero lt e less same other aligned distinct =
     let here = offset_here x at gs h.name (ap (λ (y : FlowGlobal). y.name) (sym same)) in
-    let room : taken x ≡ taken h = ap taken same in
+    let room : global_room x ≡ global_room h = ap global_room same in
     let there = offset_there x at gs g.name (names_differ x.name g gs j (omega (arith, lt)) e distinct.0) in
-    let s = global_stands g (at + taken x) gs j (omega (arith, lt)) e (omega (arith, aligned)) distinct.1 in
+    let s = global_stands g (at + global_room x) gs j (omega (arith, lt)) e (omega (arith, aligned)) distinct.1 in
     inr (omega (arith, here, there, room, s.start))
 globals_apart g h at (x ∷ gs) (suc j) (suc k) lt e less same other aligned distinct =
     let one = offset_there x at gs g.name (names_differ x.name g gs j (omega (arith, lt)) e distinct.0) in
     let two = offset_there x at gs h.name (names_differ x.name h gs k (omega (arith, less)) same distinct.0) in
-    elim (globals_apart g h (at + taken x) gs j k (omega (arith, lt)) e (omega (arith, less)) same other (omega (arith, aligned)) distinct.1) [
+    elim (globals_apart g h (at + global_room x) gs j k (omega (arith, lt)) e (omega (arith, less)) same other (omega (arith, aligned)) distinct.1) [
       | inl before ↦ inl (omega (arith, one, two, before))
       | inr behind ↦ inr (omega (arith, one, two, behind))
     ]

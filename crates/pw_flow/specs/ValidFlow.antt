@@ -105,8 +105,9 @@ pub record IsBlock (temps slots blocks : ℕ) (b : Block) : Type 0 where
 abbrev pub slot_room : ℕ → ℕ
 slot_room size = round8 (size + 1)
 
-abbrev pub taken : FlowGlobal → ℕ
-taken g = slot_room g.size
+-- what a global object takes
+abbrev pub global_room : FlowGlobal → ℕ
+global_room g = slot_room g.size
 
 -- what the temporaries, of four bytes each, and the slots come to
 abbrev pub rooms : ℕ → List ℕ → ℕ

@@ -4,9 +4,9 @@ ghost use Rattle.std.specs.Prelude.{◌≡◌};
 ghost use Rattle.pw_rules.specs.Compatible as spec;
 ghost use Rattle.pw_types.specs.Views.{view_type, view_qtype, view_types};
 
-use crate::kinds::{is_kind, is_record_of, is_void};
+use crate::kinds::{is_kind, is_record_of};
 use crate::same::same_truth;
-use pw_types::{CType, QType};
+use pw_types::{CType, QType, is_void};
 
 /// Whether two lengths do not differ, where both are known.
 fn lengths_agree(a: Option<u32>, b: Option<u32>) -> bool

@@ -6,9 +6,8 @@ ghost use Rattle.pw_types.specs.TypeTrees as tree;
 ghost use Rattle.pw_types.specs.declared.ctype.Signature.{out-Signature};
 ghost use Rattle.pw_types.specs.Views.{view_type, view_qtype, view_types};
 
-use crate::kinds::{is_function, is_record, is_void};
 use crate::objects::is_complete;
-use pw_types::{CType, QType, Signature, Types};
+use pw_types::{CType, QType, Signature, Types, is_function, is_record, is_void};
 
 /// What a pointer points to, or None where the type is no pointer.
 #[tactic(auto, unfolding(pw_types::specs::Views::view_type), using(pw_types::proofs::ViewLemmas::signature_view))]

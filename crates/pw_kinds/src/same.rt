@@ -4,8 +4,8 @@ ghost use Rattle.std.specs.Prelude.{◌≡◌};
 ghost use Rattle.pw_rules.specs.Kinds as spec;
 ghost use Rattle.pw_types.specs.Views.{view_type, view_qtype, view_types};
 
-use crate::kinds::{is_kind, is_record_of, is_void};
-use pw_types::{CType, QType};
+use crate::kinds::{is_kind, is_record_of};
+use pw_types::{CType, QType, is_void};
 
 /// Whether two truths are one.
 pub(crate) fn same_truth(a: bool, b: bool) -> bool

@@ -3,18 +3,17 @@
 ghost use Rattle.std.specs.Prelude.{◌≡◌, option_map, IfOk};
 ghost use Rattle.pw_checking.specs.EntityViews.{view_entity};
 ghost use Rattle.pw_checking.specs.Follows.{Follows};
-ghost use Rattle.pw_checking.specs.PhraseViews.{view_declared, view_specified, view_spot};
+ghost use Rattle.pw_checking.specs.PhraseViews.{view_declared, view_specified};
 ghost use Rattle.pw_checking.specs.StateViews.{view_state};
-ghost use Rattle.pw_rules.specs.Derivations as derivations;
 ghost use Rattle.pw_rules.specs.Kinds as kinds;
 ghost use Rattle.pw_rules.specs.Leaves as spec;
 ghost use Rattle.pw_rules.specs.Phrases as phrases;
 ghost use Rattle.pw_tree.specs.Views.{view_word};
 ghost use Rattle.pw_types.specs.Views.{view_qtype};
 
-use pw_checking::{Declared, Entity, Specified, Spot, State, fault};
+use pw_checking::{Declared, Entity, Specified, State, fault};
 use pw_kinds::{copy_qtype, plain};
-use pw_limits::{built, spot_of, type_within};
+use pw_limits::{spot_of, type_declared, type_within};
 use pw_tree::Word;
 use pw_types::{CType, IntKind, QType};
 use pw_walk::{CheckFault, CheckKind};
@@ -54,20 +53,6 @@ pub fn typedef_rule(alloc: Global, state: &State, word: &Word) -> Result<QType, 
         Some(ty) => Ok(ty),
         None => Err(unknown),
     }
-}
-
-/// The type that a declarator makes of that of its specifiers.
-pub(crate) fn type_declared<'a>(
-    alloc: Global,
-    state: &State<'a>,
-    spot: &Spot,
-    specified: &Specified,
-    declared: Declared<'a>,
-) -> Result<QType, CheckFault>
-    ensures { Follows view_qtype (derivations.built (view_spot spot.now) (view_declared declared.entry).derivations (view_qtype specified.now.ty)) (view_state state.now) result }
-{
-    let base = copy_qtype(alloc, &specified.ty)?;
-    built(alloc, state, spot, declared.derivations, base)
 }
 
 /// The type that a type name names (C90 6.5.5), by its specifiers and its declarator.

@@ -13,10 +13,9 @@ ghost use Rattle.pw_rules.specs.SpecifierLists as specifiers;
 ghost use Rattle.pw_rules.specs.States.{LocalObject};
 ghost use Rattle.pw_types.specs.Views.{view_qtype, view_type};
 
-use crate::names::type_declared;
 use pw_checking::{Bindings, Declared, Entity, Finding, Parameter, Specified, Spot, State, typing};
 use pw_kinds::{copy_qtype, is_record, is_void, plain};
-use pw_limits::{name_within, spot_of, type_within};
+use pw_limits::{name_within, spot_of, type_declared, type_within};
 use pw_linked::fresh_name;
 use pw_token::Feature;
 use pw_tree::{StorageClass, Word};

@@ -1,7 +1,7 @@
 -- An expression is lowered as the part of it that is evaluated first, and the step behind that.
 use Rattle.std.proofs.Common.{◌≡◌, ℕ, Bool, true, false, if◌then◌else◌, Option, Some, None, List, [], ◌∷◌, ◌++◌, map, refl, ap, ◌∙◌, sym}
 use Rattle.std.proofs.lemmas.List.{map-append}
-use Rattle.pw_types.specs.Records.{is_record}
+use Rattle.pw_types.specs.Kinds.{is_record}
 use Rattle.pw_types.specs.TypeTrees.{QType, CType, Void, type_of}
 use Rattle.pw_types.specs.TypedTrees.{Expression, Node, Form, type_at, form_of, Number, Str, Local, Global, Function, Unary, Binary, Logic, Cond, Comma, Assign, Compound, Step, Cast, Decay, Member, Deref, Address, Call, CallValue}
 use Rattle.pw_types.specs.WellTyped.{promoted_type}

@@ -2,7 +2,7 @@
 use Rattle.std.specs.Prelude.{ℕ, if◌then◌else◌, Option, Some, None, List, [], ◌∷◌, ◌++◌}
 use Rattle.pw_types.specs.Spines.{first_in}
 use Rattle.pw_types.specs.TypeTrees.{QType, CType, type_of}
-use Rattle.pw_types.specs.Records.{is_record}
+use Rattle.pw_types.specs.Kinds.{is_record}
 use Rattle.pw_types.specs.TypedTrees.{Expression, Node, Form, type_at, form_of, Local, Global, Binary, Logic, Cond, Comma, Assign, Compound, Step, Member, Deref, Address, Call, CallValue}
 use Rattle.pw_types.specs.declared.tree.BinaryOperator.{BinaryOperator}
 use Rattle.pw_types.specs.declared.tree.LogicOperator.{LogicOperator}

@@ -9,21 +9,11 @@ ghost use Rattle.pw_lower.specs.Expressions as lowering;
 ghost use Rattle.pw_lower.specs.declared.code.Code.{Code};
 ghost use Rattle.pw_typed.specs.Views.{view_expr, view_form};
 ghost use Rattle.pw_typed.specs.declared.tree.TForm.{size-TForm};
-ghost use Rattle.pw_types.specs.Records.{is_record as record_type};
-ghost use Rattle.pw_types.specs.Views.{view_qtype, view_type};
 
 use pw_typed::{TExpr, TForm, first_operand};
-use pw_types::CType;
+use pw_types::is_record;
 use pw_value::NoMemory;
 use std::alloc::Global;
-
-/// Whether a type is a structure or a union.
-#[tactic(auto, unfolding(pw_types::specs::Views::view_type), using(pw_types::proofs::ViewLemmas::signature_view))]
-pub fn is_record(ty: &CType) -> bool
-    ensures { result ≡ record_type (view_type ty.now) }
-{
-    matches!(ty, CType::Record(_))
-}
 
 /// What gives the address of a scalar lvalue; None where it is known by itself.
 #[tactic(auto, unfolding(pw_typed::specs::Views::view_form, pw_types::specs::Views::view_type), using(pw_typed::proofs::Rows::call_view, pw_typed::proofs::Rows::call_value_view, pw_types::proofs::ViewLemmas::signature_view))]

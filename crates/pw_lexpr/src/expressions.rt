@@ -11,7 +11,7 @@ ghost use Rattle.pw_lexpr.specs.Finish as steps;
 ghost use Rattle.pw_typed.specs.Views.{view_expr, view_exprs, view_form, view_symbol};
 ghost use Rattle.pw_types.specs.Views.{view_type, view_qtype};
 
-use crate::edges::{edge_below, is_record};
+use crate::edges::edge_below;
 use pw_flow::End;
 use pw_items::Items;
 use pw_lforms::Home;
@@ -25,7 +25,7 @@ use pw_lforms::targets::read;
 use pw_lower::Code;
 use pw_lower::operators::{combined, side_of};
 use pw_typed::{BinaryOperator, LogicOperator, Symbol, TExpr, TForm};
-use pw_types::{CType, QType};
+use pw_types::{CType, QType, is_record};
 use pw_value::NoMemory;
 use std::alloc::Global;
 

@@ -12,7 +12,6 @@ ghost use Rattle.pw_types.specs.FullNames as symbols;
 ghost use Rattle.pw_types.specs.TypedTrees as tree;
 ghost use Rattle.pw_types.specs.Views.{view_type, view_qtype};
 
-use crate::calls::is_void;
 use crate::home::{Home, place_of};
 use crate::names::{full_name, hidden_name};
 use crate::stores::{Working, scalar_kind, updated};
@@ -22,7 +21,7 @@ use crate::targets::{
 use pw_lower::operators::{converted, is_behind, kind_of, step_operator, step_side, unary_on};
 use pw_lower::{Code, Target};
 use pw_typed::{StepOperator, Symbol, TExpr, TForm, UnaryOperator};
-use pw_types::CType;
+use pw_types::{CType, is_void};
 use pw_value::NoMemory;
 use std::alloc::Global;
 

@@ -14,17 +14,9 @@ use pw_flow::Op;
 use pw_items::Items;
 use pw_lower::Code;
 use pw_typed::Symbol;
-use pw_types::{CType, QType, Types, shape};
+use pw_types::{CType, QType, Types, is_void, shape};
 use pw_value::{NoMemory, Shape};
 use std::alloc::Global;
-
-/// Whether a type is void.
-#[tactic(auto, unfolding(pw_types::specs::Views::view_type), using(pw_types::proofs::ViewLemmas::signature_view))]
-pub fn is_void(ty: &CType) -> bool
-    ensures { result ≡ spec.is_void (view_type ty.now) }
-{
-    matches!(ty, CType::Void)
-}
 
 /// A new temporary for the result of a call, unless its type is void.
 fn result_of(ty: &CType, code: &mut Code) -> Result<Option<u32>, NoMemory>

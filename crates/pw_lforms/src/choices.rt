@@ -6,12 +6,11 @@ ghost use Rattle.pw_lower.specs.Expressions as spec;
 ghost use Rattle.pw_lforms.specs.Steps as steps;
 ghost use Rattle.pw_types.specs.Views.{view_type};
 
-use crate::calls::is_void;
 use pw_flow::{End, Op};
 use pw_lower::Code;
 use pw_lower::code::further;
 use pw_lower::operators::truth_in;
-use pw_types::CType;
+use pw_types::{CType, is_void};
 use pw_value::NoMemory;
 use std::alloc::Global;
 

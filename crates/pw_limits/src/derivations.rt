@@ -2,7 +2,7 @@
 
 ghost use Rattle.std.specs.Prelude.{◌≡◌, count_by, IfOk};
 ghost use Rattle.pw_checking.specs.Follows.{Follows};
-ghost use Rattle.pw_checking.specs.PhraseViews.{view_derivation, view_derivations, view_spot};
+ghost use Rattle.pw_checking.specs.PhraseViews.{view_declared, view_derivation, view_derivations, view_spot};
 ghost use Rattle.pw_checking.specs.StateViews.{view_state};
 ghost use Rattle.pw_finding.specs.Found.{found};
 ghost use Rattle.pw_limits.specs.Steps.{steps_max};
@@ -10,9 +10,9 @@ ghost use Rattle.pw_rules.specs.Derivations as spec;
 ghost use Rattle.pw_types.specs.Views.{view_qtype};
 
 use crate::completeness::completed;
-use pw_checking::{Derivation, Spot, State};
+use pw_checking::{Declared, Derivation, Specified, Spot, State};
 use pw_finding::{Finding, fault};
-use pw_kinds::{is_array, is_function, is_record, plain};
+use pw_kinds::{copy_qtype, is_array, is_function, is_record, plain};
 use pw_token::Feature;
 use pw_tree::Qualifier;
 use pw_types::{CType, QType, Signature, Types};
@@ -114,4 +114,18 @@ pub fn built<'a>(
         q = step_type(alloc, step, q)?;
     }
     Ok(q)
+}
+
+/// The type that a declarator makes of that of its specifiers, of which it takes a copy.
+pub fn type_declared<'a>(
+    alloc: Global,
+    state: &State<'a>,
+    spot: &Spot,
+    specified: &Specified,
+    declared: Declared<'a>,
+) -> Result<QType, CheckFault>
+    ensures { Follows view_qtype (spec.built (view_spot spot.now) (view_declared declared.entry).derivations (view_qtype specified.now.ty)) (view_state state.now) result }
+{
+    let base = copy_qtype(alloc, &specified.ty)?;
+    built(alloc, state, spot, declared.derivations, base)
 }

@@ -3,7 +3,7 @@
 use Rattle.std.specs.Prelude.{ℕ, ◌≡◌, ◌≢◌, ◌+◌, ◌%◌, ◌^◌, ◌<◌, ◌≤◌, ◌⊎◌, List, Contains}
 use Rattle.pw_value.specs.Limits.{memory_size, text_start}
 use Rattle.pw_flow.specs.declared.flow.FlowGlobal.{FlowGlobal}
-use Rattle.pw_flow.specs.ValidFlow.{taken}
+use Rattle.pw_flow.specs.ValidFlow.{global_room}
 use Rattle.pw_flowrun.specs.Programs.{Program, globals_of, names_of}
 
 pub record Addresses : Type 0 where
@@ -23,9 +23,9 @@ pub record Addresses : Type 0 where
 pub record AreLawful (p : Program) (w : Addresses) : Type 0 where
   pub aligned : (g : FlowGlobal) → Contains (globals_of p) g → w.named g.name % 8 ≡ 0
   pub above : (g : FlowGlobal) → Contains (globals_of p) g → w.data_start ≤ w.named g.name
-  pub below : (g : FlowGlobal) → Contains (globals_of p) g → w.named g.name + taken g + 64 ≤ w.base
+  pub below : (g : FlowGlobal) → Contains (globals_of p) g → w.named g.name + global_room g + 64 ≤ w.base
   pub apart : (g h : FlowGlobal) → Contains (globals_of p) g → Contains (globals_of p) h → g.name ≢ h.name
-      → (w.named g.name + taken g ≤ w.named h.name) ⊎ (w.named h.name + taken h ≤ w.named g.name)
+      → (w.named g.name + global_room g ≤ w.named h.name) ⊎ (w.named h.name + global_room h ≤ w.named g.name)
   pub function_aligned : (f : List ℕ) → Contains (names_of p) f → w.named f % 4 ≡ 0
   pub function_above : (f : List ℕ) → Contains (names_of p) f → text_start ≤ w.named f
   pub function_below : (f : List ℕ) → Contains (names_of p) f → w.named f < w.data_start

@@ -12,7 +12,7 @@ use Rattle.pw_object.specs.declared.object.Object.{Object}
 use Rattle.pw_milli.specs.declared.routine.Routine.{Routine}
 use Rattle.pw_milli.specs.Library.{listed}
 use Rattle.pw_link.specs.Layout.{Piece, Placed, placed_from, piece_of, Standing, standing_from, Sites, routine_addresses, pieces_of, globals_of}
-use Rattle.pw_flow.specs.ValidFlow.{taken}
+use Rattle.pw_flow.specs.ValidFlow.{global_room}
 use Rattle.pw_link.specs.Sizes.{image_of_parts, fault_of_parts}
 use Rattle.pw_link.specs.Linking.{with_fix, with_fixes, linked, size_fault}
 
@@ -82,14 +82,14 @@ placed_from_push at (q ∷ pieces) p =
     ∙ ap (λ a. here ∷ (placed_from next pieces ++ record { address = a; piece = p } ∷ []))
     (times at (length q.words) (sum_by (λ r. length r.words) pieces) (sum_by (λ r. length r.words) (q ∷ pieces)) (sum_by-cons (λ r. length r.words) q pieces))
 
-pub standing_from_push : (at : ℕ) (globals : List FlowGlobal) (g : FlowGlobal) → standing_from at (globals ++ g ∷ []) ≡ standing_from at globals ++ record { offset = at + sum_by taken globals; global = g } ∷ []
+pub standing_from_push : (at : ℕ) (globals : List FlowGlobal) (g : FlowGlobal) → standing_from at (globals ++ g ∷ []) ≡ standing_from at globals ++ record { offset = at + sum_by global_room globals; global = g } ∷ []
 standing_from_push at [] g = ap (λ a. record { offset = a; global = g } ∷ []) (end at)
 standing_from_push at (h ∷ globals) g =
     let here : Standing = record { offset = at; global = h } in
-    let next : ℕ = at + taken h in
+    let next : ℕ = at + global_room h in
     ap (λ rest. here ∷ rest) (standing_from_push next globals g)
     ∙ ap (λ a. here ∷ (standing_from next globals ++ record { offset = a; global = g } ∷ []))
-    (sums at (taken h) (sum_by taken globals) (sum_by taken (h ∷ globals)) (sum_by-cons taken h globals))
+    (sums at (global_room h) (sum_by global_room globals) (sum_by global_room (h ∷ globals)) (sum_by-cons global_room h globals))
 
 pub with_fixes_push : (sites : Sites) (at : ℕ) (fixes : List Fix) (f : Fix) (words : List ℕ) → with_fixes sites at (fixes ++ f ∷ []) words ≡ with_fix sites at f (with_fixes sites at fixes words)
 with_fixes_push sites at [] f words = refl
@@ -102,10 +102,10 @@ placed_more ps p text at address e f =
     ∙ ap (λ (a : ℕ). placed_from at ps ++ record { address = a; piece = p } ∷ []) f
     ∙ sym (placed_from_push at ps p)
 
-pub stood_more : (gs : List FlowGlobal) (g : FlowGlobal) (stood : List Standing) (offset : ℕ) → stood ≡ standing_from 0 gs → offset ≡ sum_by taken gs → stood ++ record { offset = offset; global = g } ∷ [] ≡ standing_from 0 (gs ++ g ∷ [])
+pub stood_more : (gs : List FlowGlobal) (g : FlowGlobal) (stood : List Standing) (offset : ℕ) → stood ≡ standing_from 0 gs → offset ≡ sum_by global_room gs → stood ++ record { offset = offset; global = g } ∷ [] ≡ standing_from 0 (gs ++ g ∷ [])
 stood_more gs g stood offset e f =
     ap (λ (t : List Standing). t ++ record { offset = offset; global = g } ∷ []) e
-    ∙ ap (λ (a : ℕ). standing_from 0 gs ++ record { offset = a; global = g } ∷ []) (f ∙ sym (zero-add (sum_by taken gs)))
+    ∙ ap (λ (a : ℕ). standing_from 0 gs ++ record { offset = a; global = g } ∷ []) (f ∙ sym (zero-add (sum_by global_room gs)))
     ∙ sym (standing_from_push 0 gs g)
 
 -- one more function of a module

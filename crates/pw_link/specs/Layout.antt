@@ -8,7 +8,7 @@ use Rattle.std.specs.Cmp.Lexicographic.{slice_cmp}
 use Rattle.pw_value.specs.Limits.{text_start}
 use Rattle.pw_inst.specs.Limits.{routine_count}
 use Rattle.pw_inst.specs.declared.relocation.Fix.{Fix}
-use Rattle.pw_flow.specs.ValidFlow.{taken}
+use Rattle.pw_flow.specs.ValidFlow.{global_room}
 use Rattle.pw_flow.specs.declared.flow.FlowGlobal.{FlowGlobal}
 use Rattle.pw_object.specs.declared.object.Object.{Object}
 use Rattle.pw_object.specs.declared.functions.ObjectFn.{ObjectFn}
@@ -81,13 +81,13 @@ pub record Standing : Type 0 where
 
 abbrev pub standing_from : ℕ → List FlowGlobal → List Standing
 standing_from at [] = []
-standing_from at (g ∷ rest) = record { offset = at; global = g } ∷ standing_from (at + taken g) rest
+standing_from at (g ∷ rest) = record { offset = at; global = g } ∷ standing_from (at + global_room g) rest
 
 abbrev pub data_of : List Object → List Standing
 data_of objects = standing_from 0 (globals_of objects)
 
 abbrev pub data_size : List Object → ℕ
-data_size objects = sum_by taken (globals_of objects)
+data_size objects = sum_by global_room (globals_of objects)
 
 abbrev pub data_begin : List Object → ℕ
 data_begin objects = data_start (word_count objects)

@@ -9,7 +9,7 @@ use Rattle.pw_image.specs.Image.{data_start, ImageValue}
 use Rattle.pw_image.specs.declared.image.Image.{Image}
 use Rattle.pw_link.specs.declared.layout.Sizes.{Sizes}
 use Rattle.pw_link.specs.Layout.{Piece, placed_from, standing_from, end_behind}
-use Rattle.pw_flow.specs.ValidFlow.{taken}
+use Rattle.pw_flow.specs.ValidFlow.{global_room}
 use Rattle.pw_link.specs.Linking.{image_by, fault_by}
 
 -- the sizes of a program of so many words and so many bytes of data, or the first that is too large
@@ -30,10 +30,10 @@ abbrev pub words_of_parts : List Piece → ℕ
 words_of_parts ps = sum_by (λ p. length p.words) ps + 1
 
 abbrev pub end_of_parts : List Piece → List FlowGlobal → ℕ → ℕ
-end_of_parts ps gs stack = end_behind (data_start (words_of_parts ps)) (sum_by taken gs) stack
+end_of_parts ps gs stack = end_behind (data_start (words_of_parts ps)) (sum_by global_room gs) stack
 
 abbrev pub image_of_parts : List Piece → List FlowGlobal → ℕ → ImageValue
-image_of_parts ps gs stack = image_by (placed_from text_start ps) (standing_from 0 gs) (data_start (words_of_parts ps)) (sum_by taken gs) stack (end_of_parts ps gs stack)
+image_of_parts ps gs stack = image_by (placed_from text_start ps) (standing_from 0 gs) (data_start (words_of_parts ps)) (sum_by global_room gs) stack (end_of_parts ps gs stack)
 
 abbrev pub fault_of_parts : List Piece → List FlowGlobal → ℕ → Option LinkFault
 fault_of_parts ps gs stack = fault_by (words_of_parts ps) (end_of_parts ps gs stack)

@@ -4,7 +4,7 @@ ghost use Rattle.std.specs.Prelude.{◌≡◌, ◌++◌, ◌+◌, ◌≤◌, map
 ghost use Rattle.std.specs.List.{flat_map, sum_by};
 ghost use Rattle.pw_value.specs.Limits.{memory_size};
 ghost use Rattle.pw_link.specs.Layout.{told, standing_from};
-ghost use Rattle.pw_flow.specs.ValidFlow.{taken};
+ghost use Rattle.pw_flow.specs.ValidFlow.{global_room};
 ghost use Rattle.pw_link.specs.Views.{standing_view};
 
 use pw_flow::FlowGlobal;
@@ -20,8 +20,8 @@ pub(crate) struct Standing<'a> {
 }
 
 /// What an object takes: its size and one byte, rounded up to a multiple of 8.
-fn taken(global: &FlowGlobal) -> u64
-    ensures { result ≡ taken global.now }
+fn global_room(global: &FlowGlobal) -> u64
+    ensures { result ≡ global_room global.now }
 {
     round8(u64::from(global.size) + 1)
 }
@@ -55,11 +55,11 @@ pub(crate) fn globals_of<'a>(
 
 /// How many bytes objects take, as far as the number goes.
 pub(crate) fn count_bytes(globals: &[&FlowGlobal]) -> u64
-    ensures { result ≡ told (sum_by taken (map (λ g. g.now) globals.now)) }
+    ensures { result ≡ told (sum_by global_room (map (λ g. g.now) globals.now)) }
 {
     let mut count: u64 = 0;
     for each in globals {
-        count = count.saturating_add(taken(each));
+        count = count.saturating_add(global_room(each));
     }
     count
 }
@@ -70,14 +70,14 @@ pub(crate) fn at_offsets<'a>(
     alloc: Global,
     globals: &[&'a FlowGlobal],
 ) -> Result<Vec<Standing<'a>>, AllocError>
-    requires { sum_by taken (map (λ g. g.now) globals.now) ≤ memory_size }
+    requires { sum_by global_room (map (λ g. g.now) globals.now) ≤ memory_size }
     ensures { IfOk result (λ stood. map standing_view stood.items ≡ standing_from 0 (map (λ g. g.now) globals.now)) }
 {
     let mut stood = Vec::new(alloc);
     let mut offset: u32 = 0;
     for global in globals {
         stood.push(Standing { offset, global })?;
-        offset += taken(global) as u32;
+        offset += global_room(global) as u32;
     }
     Ok(stood)
 }

@@ -5,7 +5,7 @@ ghost use Rattle.std.specs.List.{sum_by};
 ghost use Rattle.pw_value.specs.Limits.{text_start, word_limit, memory_size};
 ghost use Rattle.pw_image.specs.Image.{view, memory_view};
 ghost use Rattle.pw_link.specs.Layout.{told, placed_from, standing_from, routine_addresses};
-ghost use Rattle.pw_flow.specs.ValidFlow.{taken};
+ghost use Rattle.pw_flow.specs.ValidFlow.{global_room};
 ghost use Rattle.pw_link.specs.Linking.{memory_by, image_by, linked, size_fault};
 ghost use Rattle.pw_link.specs.Sizes.{AreSizes, AnswersSizes, words_of_parts, image_of_parts, fault_of_parts};
 ghost use Rattle.pw_link.specs.Views.{piece_view, placed_view, standing_view, StandsFor};
@@ -131,7 +131,7 @@ fn image_at(
     globals: &[&FlowGlobal],
 ) -> Result<Image, AllocError>
     requires words { words_of_parts (map piece_view pieces.now) ≤ word_limit }
-    requires data { sum_by taken (map (λ g. g.now) globals.now) ≤ memory_size }
+    requires data { sum_by global_room (map (λ g. g.now) globals.now) ≤ memory_size }
     ensures { IfOk result (λ image. view image ≡ image_by (placed_from text_start (map piece_view pieces.now)) (standing_from 0 (map (λ g. g.now) globals.now)) sizes.data_begin sizes.data_size sizes.stack sizes.stack_end) }
 {
     let text = at_addresses(alloc, pieces)?;

@@ -20,7 +20,7 @@ use Rattle.pw_object.specs.Object.{IsObject}
 use Rattle.pw_image.specs.Image.{Item, IsInText, IsImage, AreItems}
 use Rattle.pw_program.specs.Linking.{has_main}
 use Rattle.pw_link.specs.Layout.{Piece, placed_from, in_order, pieces_of, word_count, globals_of, Standing, standing_from, data_of, data_size, data_begin, stack_end, told, global_site, Sites}
-use Rattle.pw_flow.specs.ValidFlow.{taken}
+use Rattle.pw_flow.specs.ValidFlow.{global_room}
 use Rattle.pw_link.specs.Linking.{with_fix, with_fixes, piece_words, linked_words, nop, item_bytes, item_at, items_of, function_of, global_of, fault_by, linked, AreLinked}
 use Rattle.pw_link_laws.specs.Standing.{sites}
 use Rattle.pw_link_laws.proofs.Kept.{all_flat, all_by}
@@ -91,14 +91,14 @@ object_items named size own at next free (i ∷ items) rest are low fits within 
     let after = object_items named size own at next (i.0 + max 1 (item_size i.1)) items rest are.1 (omega (arith, here.1)) fits within small_size later in
     rw (offset, count) (omega (arith, here.0), omega (arith, here.1, fits, within), rw (add_assoc at i.0 (max 1 (item_size i.1))) after)
 
-all_items : (named : List (List ℕ × ℕ)) (size at : ℕ) (gs : List FlowGlobal) → AllByRecursion IsGlobal gs → at + sum_by taken gs ≤ size → size < 2 ^ 32
+all_items : (named : List (List ℕ × ℕ)) (size at : ℕ) (gs : List FlowGlobal) → AllByRecursion IsGlobal gs → at + sum_by global_room gs ≤ size → size < 2 ^ 32
     → AreItems size at (flat_map (items_of named) (standing_from at gs))
 all_items named size at [] all within small_size = tt
 all_items named size at (g ∷ gs) all within small_size =
-    let e = sum_by-cons taken g gs in
-    let rest = all_items named size (at + taken g) gs all.1 (omega (arith, within, e)) small_size in
-    subst (λ free. AreItems size free (map (item_at named at) g.items ++ flat_map (items_of named) (standing_from (at + taken g) gs))) (add-zero at)
-    (object_items named size g.size at (at + taken g) 0 g.items (flat_map (items_of named) (standing_from (at + taken g) gs)) all.0.items (omega arith) (omega arith) (omega (arith, within, e)) small_size rest)
+    let e = sum_by-cons global_room g gs in
+    let rest = all_items named size (at + global_room g) gs all.1 (omega (arith, within, e)) small_size in
+    subst (λ free. AreItems size free (map (item_at named at) g.items ++ flat_map (items_of named) (standing_from (at + global_room g) gs))) (add-zero at)
+    (object_items named size g.size at (at + global_room g) 0 g.items (flat_map (items_of named) (standing_from (at + global_room g) gs)) all.0.items (omega arith) (omega arith) (omega (arith, within, e)) small_size rest)
 
 globals_lawful : (objects : List Object) → AllByRecursion IsObject objects → AllByRecursion IsGlobal (globals_of objects)
 globals_lawful objects all = all_flat IsGlobal (λ o. o.globals) (in_order objects) (all_by IsObject (λ o. AllByRecursion IsGlobal o.globals) (in_order objects) (λ o is. is.globals) (ordered objects all))

@@ -9,7 +9,7 @@ use Rattle.pw_flow.specs.declared.flow.Item.{Item as FlowItem}
 use Rattle.pw_object.specs.declared.object.Object.{Object}
 use Rattle.pw_image.specs.Image.{Item}
 use Rattle.pw_link.specs.Layout.{Piece, Placed, placed_from, pieces_of, text_of, globals_of, standing_from, data_of, data_size, data_begin, stack_end, Sites}
-use Rattle.pw_flow.specs.ValidFlow.{taken}
+use Rattle.pw_flow.specs.ValidFlow.{global_room}
 use Rattle.pw_link.specs.Linking.{piece_words, nop, item_at, items_of, function_of, global_of, linked}
 use Rattle.pw_link_laws.specs.Standing.{sites, StandsInText, StandsInData, ItemsStand, AreApart, OwnTheirBytes}
 use Rattle.pw_link_laws.proofs.Lawful.{fix_length}
@@ -64,9 +64,9 @@ objects_behind : (named : List (List ℕ × ℕ)) (at : ℕ) (gs : List FlowGlob
 objects_behind named at [] before = tt
 objects_behind named at (g ∷ gs) before =
     let own = map (item_at named at) g.items in
-    let rest = flat_map (items_of named) (standing_from (at + taken g) gs) in
-    let Stand = λ (all : List Item). AllByRecursion (λ s. AllByRecursion (λ i. StandsInData all (item_at named s.offset i)) s.global.items) (standing_from (at + taken g) gs) in
-    (items_behind named at g.items before rest, subst Stand (append_assoc before own rest) (objects_behind named (at + taken g) gs (before ++ own)))
+    let rest = flat_map (items_of named) (standing_from (at + global_room g) gs) in
+    let Stand = λ (all : List Item). AllByRecursion (λ s. AllByRecursion (λ i. StandsInData all (item_at named s.offset i)) s.global.items) (standing_from (at + global_room g) gs) in
+    (items_behind named at g.items before rest, subst Stand (append_assoc before own rest) (objects_behind named (at + global_room g) gs (before ++ own)))
 
 pub items_stand : (objects : List Object) (stack : ℕ) → AllByRecursion (ItemsStand objects stack (linked objects stack).memory.items) (data_of objects)
 unfolding linked
@@ -76,11 +76,11 @@ pub globals_are : (objects : List Object) (stack : ℕ) → (linked objects stac
 unfolding linked
 globals_are objects stack = refl
 
-own_from : (end free at : ℕ) (gs : List FlowGlobal) → at % 8 ≡ 0 → free ≤ at → at + sum_by taken gs ≤ end → OwnTheirBytes end free (standing_from at gs)
+own_from : (end free at : ℕ) (gs : List FlowGlobal) → at % 8 ≡ 0 → free ≤ at → at + sum_by global_room gs ≤ end → OwnTheirBytes end free (standing_from at gs)
 own_from end free at [] aligned low within = omega (arith, low, within)
 own_from end free at (g ∷ gs) aligned low within =
-    let e = sum_by-cons taken g gs in
-    (low, aligned, own_from end (at + (g.size + 1)) (at + taken g) gs (omega (arith, aligned)) (omega arith) (omega (arith, within, e)))
+    let e = sum_by-cons global_room g gs in
+    (low, aligned, own_from end (at + (g.size + 1)) (at + global_room g) gs (omega (arith, aligned)) (omega arith) (omega (arith, within, e)))
 
 pub own_bytes : (objects : List Object) → OwnTheirBytes (data_size objects) 0 (data_of objects)
 own_bytes objects = own_from (data_size objects) 0 0 (globals_of objects) refl (omega arith) (omega arith)
@@ -96,7 +96,7 @@ all_pieces objects = each_piece text_start (pieces_of objects)
 
 each_global : (at : ℕ) (gs : List FlowGlobal) → map (λ s. s.global) (standing_from at gs) ≡ gs
 each_global at [] = refl
-each_global at (g ∷ gs) = ap (λ (rest : List FlowGlobal). g ∷ rest) (each_global (at + taken g) gs)
+each_global at (g ∷ gs) = ap (λ (rest : List FlowGlobal). g ∷ rest) (each_global (at + global_room g) gs)
 
 pub all_globals : (objects : List Object) → map (λ s. s.global) (data_of objects) ≡ globals_of objects
 all_globals objects = each_global 0 (globals_of objects)

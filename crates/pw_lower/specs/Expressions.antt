@@ -2,7 +2,7 @@
 use Rattle.std.specs.Prelude.{ℕ, ◌+◌, ◌==◌, Bool, true, false, if◌then◌else◌, Option, Some, None, unwrap_or, List, [], ◌∷◌}
 use Rattle.pw_value.specs.declared.value.Kind.{Kind}
 use Rattle.pw_value.specs.declared.value.Kind.TheVariants.{W32}
-use Rattle.pw_types.specs.Records.{is_record}
+pub use Rattle.pw_types.specs.Kinds.{is_void, is_record}
 use Rattle.pw_types.specs.Shapes.{shape_of}
 use Rattle.pw_types.specs.TypeTrees.{CType, Void, Pointer, QType, Qualified, type_of, is_volatile, RecordValue}
 pub use Rattle.pw_types.specs.FullNames.{full_name}
@@ -161,10 +161,6 @@ gives r x = emit (op.Copy r (temp_of x)) x.code
 pub record Arguments : Type 0 where
   pub code : Code
   pub temps : List ℕ
-
-abbrev pub is_void : CType → Bool
-is_void Void = true
-is_void _ = false
 
 -- a value of one type as one of another; as one of void it is none (C90 6.3.4)
 abbrev pub cast_to : CType → CType → Lowered → Lowered

@@ -1,7 +1,8 @@
 -- Where the parameters and locals of a function stand.
 use Rattle.std.specs.Prelude.{ℕ, ◌+◌, ◌==◌, nat_lt, not, ◌&&◌, Bool, true, false, if◌then◌else◌, Option, Some, None, unwrap_or, List, [], ◌∷◌, ◌++◌, slice_get}
 use Rattle.std.specs.List.{flat_map}
-use Rattle.pw_types.specs.TypeTrees.{CType, Int, Pointer, type_of, is_volatile}
+pub use Rattle.pw_types.specs.Kinds.{is_scalar}
+use Rattle.pw_types.specs.TypeTrees.{type_of, is_volatile}
 use Rattle.pw_types.specs.TypedTrees.{Expression, Node, Form, Local, Unary, Binary, Logic, Cond, Comma, Assign, Compound, Step, Cast, Decay, Member, Deref, Address, Call, CallValue, Expressions, NoExpression, OneExpression, Initialiser, Value, Bytes, Statement, Evaluate, Block, If, While, Do, For, Switch, Label, Return, Arms, NoArm, Arm, Otherwise, NoElse, Else, Statements, NoStatement, OneStatement, LocalValue, FunctionValue}
 use Rattle.pw_lower.specs.declared.place.LocalPlace.{LocalPlace}
 use Rattle.pw_lower.specs.declared.place.LocalPlace.TheVariants.{Temp, Slot}
@@ -72,11 +73,6 @@ abbrev mutual
   addressed_in_statements (OneStatement s rest) = addressed_in_statement s ++ addressed_in_statements rest
 
 -- ---- places
-
-abbrev pub is_scalar : CType → Bool
-is_scalar (Int kind) = true
-is_scalar (Pointer target) = true
-is_scalar _ = false
 
 abbrev pub has : ℕ → List ℕ → Bool
 has k [] = false

@@ -2,7 +2,7 @@
 use Rattle.std.proofs.Common.{◌≡◌, ℕ, ◌+◌, ◌*◌, ◌==◌, Bool, true, false, if◌then◌else◌, Option, Some, None, List, length, refl, arith}
 use Rattle.pw_value.specs.declared.value.Kind.{Kind}
 use Rattle.pw_types.specs.Rooms.{expr_nodes, nodes_of_all}
-use Rattle.pw_types.specs.Records.{is_record}
+use Rattle.pw_types.specs.Kinds.{is_record}
 use Rattle.pw_types.specs.TypeTrees.{CType, Void, type_of, RecordValue}
 use Rattle.pw_types.specs.TypedTrees.{Expression, Node, type_at, Number, Str, Local, Global, Function, Unary, Binary, Logic, Cond, Comma, Assign, Compound, Step, Cast, Decay, Member, Deref, Address, Call, CallValue, Expressions, NoExpression, OneExpression, Hidden}
 use Rattle.pw_types.specs.WellTyped.{promoted_type}

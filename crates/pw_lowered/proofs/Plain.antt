@@ -13,7 +13,7 @@ use Rattle.pw_types.specs.declared.kind.IntKind.TheVariants as K
 use Rattle.pw_types.specs.Conversions.{size_of_kind}
 use Rattle.pw_types.specs.Layouts.{content_at, size_of}
 use Rattle.pw_types.specs.Sizes.{passing, oversize_of}
-use Rattle.pw_types.specs.Records.{is_record}
+use Rattle.pw_types.specs.Kinds.{is_record}
 use Rattle.pw_types.specs.TypeTrees.{CType, Void, Int, Pointer, Array, Function as FunctionType, Record, QType, Qualified, QTypes, NoType, OneType, type_of, ContentValue, RecordValue}
 use Rattle.pw_types.specs.TypedTrees.{Symbol, External, Internal, Expression, Node, type_at, Number, Str, Local, Global, Function, Unary, Binary, Logic, Cond, Comma, Assign, Compound, Step, Cast, Decay, Member, Deref, Address, Call, CallValue, Expressions, NoExpression, OneExpression, Hidden, LocalValue, ModuleValue}
 use Rattle.pw_types.specs.declared.tree.UnaryOperator.{UnaryOperator}

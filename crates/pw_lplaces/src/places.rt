@@ -2,10 +2,9 @@
 
 ghost use Rattle.std.specs.Prelude.{◌≡◌, ◌≤◌, ◌^◌, IfOk, MatchResult, OnOk, map};
 ghost use Rattle.pw_lower.specs.Modules as spec;
-ghost use Rattle.pw_lower.specs.Places.{places_of as places, temps_from, is_scalar as scalar};
+ghost use Rattle.pw_lower.specs.Places.{places_of as places, temps_from};
 ghost use Rattle.pw_lplaces.specs.Placing.{kept_unless, placed, parameter_stored};
 ghost use Rattle.pw_typed.specs.Views.{view_function, view_local, view_locals};
-ghost use Rattle.pw_types.specs.Views.{view_type};
 
 use crate::addressed::mark_in_statement;
 use pw_flow::Op;
@@ -15,7 +14,7 @@ use pw_lower::code::further;
 use pw_lower::operators::bytes_of;
 use pw_lower::{Code, LocalPlace};
 use pw_typed::{Local, TFunction};
-use pw_types::{CType, Types};
+use pw_types::{Types, is_scalar};
 use pw_value::NoMemory;
 use std::alloc::Global;
 
@@ -27,18 +26,6 @@ pub fn places_of(alloc: Global, f: &TFunction) -> Result<Vec<LocalPlace>, NoMemo
     let mut addressed = vec![in alloc; false; f.locals.len()]?;
     mark_in_statement(&f.body, &mut addressed);
     place_locals(alloc, &f.locals, f.params, &addressed)
-}
-
-/// Whether a type is scalar: an integer type or a pointer.
-#[tactic(auto, unfolding(pw_types::specs::Views::view_type), using(pw_types::proofs::ViewLemmas::signature_view))]
-fn is_scalar(ty: &CType) -> bool
-    ensures { result ≡ scalar (view_type ty.now) }
-{
-    match ty {
-        CType::Int(_) | CType::Pointer(_) => true,
-        CType::Void | CType::Array(_, _) => false,
-        CType::Function(_) | CType::Record(_) => false,
-    }
 }
 
 /// Whether a local is kept in a temporary, by whether its address is taken: it is scalar and not

@@ -2,19 +2,18 @@
 
 ghost use Rattle.std.specs.Prelude.{◌≡◌, IfOk};
 ghost use Rattle.pw_checking.specs.Follows.{Follows};
-ghost use Rattle.pw_checking.specs.PhraseViews.{view_declared, view_derivations, view_name, view_specified, view_spot};
+ghost use Rattle.pw_checking.specs.PhraseViews.{view_declared, view_name, view_specified, view_spot};
 ghost use Rattle.pw_checking.specs.StateViews.{view_state};
 ghost use Rattle.pw_finding.specs.Found.{found};
 ghost use Rattle.pw_members.specs.Parts.{member_asks, member_behind, member_point};
 ghost use Rattle.pw_members.specs.Views.{view_member_list};
-ghost use Rattle.pw_rules.specs.Derivations as derivations;
 ghost use Rattle.pw_rules.specs.Leaves as spec;
 ghost use Rattle.pw_types.specs.Views.{view_qtype};
 
 use crate::members::MemberList;
 use pw_checking::{Declared, Finding, Specified, Spot, State};
-use pw_kinds::{copy_qtype, is_function};
-use pw_limits::{built, completed, name_within, spot_of, type_within};
+use pw_kinds::is_function;
+use pw_limits::{completed, name_within, spot_of, type_declared, type_within};
 use pw_tree::Word;
 use pw_types::{QType, Types};
 use pw_walk::{CheckFault, CheckKind};
@@ -80,20 +79,6 @@ fn member_added<'a>(
     Ok(members)
 }
 
-// The type of a member.
-fn member_type<'a>(
-    alloc: Global,
-    state: &State<'a>,
-    spot: &Spot,
-    specified: &Specified,
-    declared: Declared<'a>,
-) -> Result<QType, CheckFault>
-    ensures { Follows view_qtype (derivations.built (view_spot spot.now) (view_derivations declared.entry.derivations.items) (view_qtype specified.now.ty)) (view_state state.now) result }
-{
-    let base = copy_qtype(alloc, &specified.ty)?;
-    built(alloc, state, spot, declared.derivations, base)
-}
-
 /// A member more (C90 6.5.2.1): its name once, and a complete type.
 pub fn member_rule<'a>(
     alloc: Global,
@@ -106,6 +91,6 @@ pub fn member_rule<'a>(
 {
     let name = declared.name;
     let spot = spot_of(name, specified.first, specified.tag);
-    let ty = member_type(alloc, state, &spot, specified, declared)?;
+    let ty = type_declared(alloc, state, &spot, specified, declared)?;
     member_added(alloc, state, &spot, name_text(name), ty, members)
 }

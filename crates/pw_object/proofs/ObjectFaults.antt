@@ -14,16 +14,15 @@ use Rattle.pw_files.proofs.FaultLaws.{Keeps, keeps_behind, keeps_ended, contents
 use Rattle.pw_files.proofs.FaultLaws as files
 use Rattle.pw_inst.specs.Limits.{routine_count}
 use Rattle.pw_inst.specs.declared.relocation.Symbol.TheVariants as symbol
-use Rattle.pw_flow.specs.declared.flow.FlowGlobal.{FlowGlobal}
 use Rattle.pw_flowops.proofs.OnwardLaws.{choice_of_one}
 use Rattle.pw_flowfile.proofs.FlowFaults.{global_body_onward}
 use Rattle.pw_object.specs.declared.functions.ObjectFn.{ObjectFn}
 use Rattle.pw_object.specs.declared.functions.SymbolForm.{SymbolForm}
 use Rattle.pw_object.specs.declared.functions.SymbolForm.TheVariants as form
 use Rattle.pw_object.specs.declared.object.Object.{Object}
-use Rattle.pw_object.specs.Object.{kind, object_version}
+use Rattle.pw_object.specs.Object.{kind, object_version, whole_object}
 use Rattle.pw_object.specs.Functions.{fix_kinds, symbol_forms}
-use Rattle.pw_object.specs.Reading.{named_at, word_at, routine_at, symbol_of_form_at, symbol_at, fix_at, function_at, global_at, last_rules, members_at, fields_at, object_file_at}
+use Rattle.pw_object.specs.Reading.{named_at, word_at, routine_at, symbol_of_form_at, symbol_at, fix_at, function_at, global_at, last_rules, defined_at, fields_at, object_file_at}
 
 named_onward : (names : List (List ℕ)) → Onward (named_at names)
 unfolding named_at
@@ -62,25 +61,22 @@ global_onward : (names : List (List ℕ)) → Onward (global_at names)
 unfolding global_at
 global_onward names = behind _ _ (one_onward _ (name_one names)) (λ name. global_body_onward Allowed names name)
 
-abbrev object : List ℕ → List ℕ → List ℕ → List (List ℕ × List ℕ) → List (List ℕ) → List FlowGlobal → List ObjectFn → Object
-object m flow directives declared used globals functions = record { version = object_version; «module» = m; flow = flow; directives = directives; declared = declared; used = used; globals = globals; functions = functions }
-
 abbrev contents : List (List ℕ) → Object → Contents Object
 contents names o = record { names = names; value = o }
 
 fields_onward : (names : List (List ℕ)) → Onward (fields_at names (λ o count. None))
-unfolding fields_at members_at
+unfolding fields_at defined_at
 fields_onward names =
     behind _ _ (one_onward _ (name_one names)) (λ m. behind _ _ (one_onward _ text_one) (λ flow. behind _ _ (one_onward _ text_one) (λ directives. behind _ _ (shaped_list_onward names Allowed) (λ declared.
     behind _ _ (name_list_onward names Allowed) (λ used. behind _ _ (counted_onward (global_at names) (global_onward names)) (λ globals. behind _ _ here_onward (λ count.
-    behind _ _ (counted_onward (function_at names) (function_onward names)) (λ functions. ended_onward (contents names (object m flow directives declared used globals functions))))))))))
+    behind _ _ (counted_onward (function_at names) (function_onward names)) (λ functions. ended_onward (contents names (whole_object m flow directives declared used globals functions))))))))))
 
 fields_keep : (names : List (List ℕ)) (rule : Object → ℕ → Option ℕ) → Keeps (fields_at names (λ o count. None)) (fields_at names rule)
-unfolding fields_at members_at
+unfolding fields_at defined_at
 fields_keep names rule =
     keeps_behind (name_at names) _ _ (λ m. keeps_behind text_at _ _ (λ flow. keeps_behind text_at _ _ (λ directives. keeps_behind (shaped_list_at names Allowed) _ _ (λ declared. keeps_behind (name_list_at names Allowed) _ _ (λ used.
     keeps_behind (counted_at (global_at names)) _ _ (λ globals. keeps_behind here _ _ (λ count. keeps_behind (counted_at (function_at names)) _ _ (λ functions.
-    keeps_ended (rule (object m flow directives declared used globals functions) count) (contents names (object m flow directives declared used globals functions))))))))))
+    keeps_ended (rule (whole_object m flow directives declared used globals functions) count) (contents names (whole_object m flow directives declared used globals functions))))))))))
 
 pub faults_stay : FaultsStay kind object_version fields_at (λ bytes. value_of (object_file_at bytes))
 faults_stay = files.faults_stay kind object_version fields_at last_rules (contents_onward fields_at fields_onward) (contents_keep fields_at last_rules fields_keep)

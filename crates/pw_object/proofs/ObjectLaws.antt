@@ -31,8 +31,8 @@ use Rattle.pw_flowfile.proofs.GraphLaws.{GlobalFits, body_spells}
 use Rattle.pw_object.specs.declared.functions.ObjectFn.{ObjectFn}
 use Rattle.pw_object.specs.declared.object.Object.{Object}
 use Rattle.pw_object.specs.Functions.{IsFunction, function, names_of_function}
-use Rattle.pw_object.specs.Object.{object_version, global_names, function_names, IsObject, names_of, FitsFunction, FitsObject, code, spelling, kind, IsObjectFile}
-use Rattle.pw_object.specs.Reading.{function_at, global_at, last_rules, members_at, fields_at, object_file_at}
+use Rattle.pw_object.specs.Object.{object_version, whole_object, global_names, function_names, IsObject, names_of, FitsFunction, FitsObject, code, spelling, kind, IsObjectFile}
+use Rattle.pw_object.specs.Reading.{function_at, global_at, last_rules, defined_at, fields_at, object_file_at}
 use Rattle.pw_object.proofs.FunctionLaws.{function_spells, lawful, function_used, function_back}
 use Rattle.pw_object.proofs.FunctionLaws.{FitsFunction as FunctionSteps}
 
@@ -124,7 +124,7 @@ version_spells = record {
 }
 
 object_steps : (names : List (List ℕ)) → IsNameTable names → (behind : ℕ) → Completes {X = Contents Object} Nothing (λ c. Unit {0} × (c.names ≡ names)) (λ c. body names c.value) (λ c. BodySteps names c.value) (fields_at names (last_rules names behind))
-unfolding fields_at members_at
+unfolding fields_at defined_at
 object_steps names table behind =
     step _ _ (λ n. []) (λ n. n ≡ object_version) (done object_version) _ _ _ (λ c. c.value.version) version_spells
     (λ version version_fits. step _ _ (name_index names) (Contains names) (name_at names) _ _ _ (λ c. c.value.module) (name_spells names table)
@@ -135,7 +135,7 @@ object_steps names table behind =
     (λ used used_fit. step _ _ (counted (global names)) (FitsList (OneGlobal names)) (counted_at (global_at names)) _ _ _ (λ c. c.value.globals) (counted_spells (global names) (OneGlobal names) (global_at names) (global_spells names table))
     (λ globals globals_fit. keep_place _ _ _ _ _
     (λ count. step _ _ (counted (function names)) (FitsList (FunctionSteps names)) (counted_at (function_at names)) _ _ _ (λ c. c.value.functions) (counted_spells (function names) (FunctionSteps names) (function_at names) (function_spells names table))
-    (λ functions functions_fit. let o : Object = record { version = object_version; «module» = m; flow = flow; directives = directives; declared = declared; used = used; globals = globals; functions = functions } in
+    (λ functions functions_fit. let o = whole_object m flow directives declared used globals functions in
     finish_whole _ (λ c. LastRules names c.value) (last_rules names behind o count) (record { names = names; value = o })
     (((((((((tt, refl), sym version_fits), refl), refl), refl), refl), refl), refl), refl)
     (λ c k. sym (λ j. record { names = k.0.0.0.0.0.0.0.0.1 j; value = record { version = (k.0.0.0.0.0.0.0.1 ∙ version_fits) j; «module» = k.0.0.0.0.0.0.1 j; flow = k.0.0.0.0.0.1 j; directives = k.0.0.0.0.1 j; declared = k.0.0.0.1 j; used = k.0.0.1 j; globals = k.0.1 j; functions = k.1 j } }))

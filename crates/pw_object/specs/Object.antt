@@ -8,6 +8,7 @@ use Rattle.pw_files.specs.Rising.{IsRising, counted, FitsList}
 use Rattle.pw_files.specs.Names.{shaped, FitsShapes}
 use Rattle.pw_files.specs.Contents.{Contents, IsContents, IsFileWith}
 use Rattle.pw_value.specs.ProgramNames.{KeepsStart}
+use Rattle.pw_flow.specs.declared.flow.FlowGlobal.{FlowGlobal}
 use Rattle.pw_flow.specs.ValidFlow.{IsGlobal}
 use Rattle.pw_flowfile.specs.FlowFile.{global, all_in_global, FitsGlobal}
 use Rattle.pw_object.specs.declared.object.Object.{Object}
@@ -17,6 +18,12 @@ use Rattle.pw_object.specs.Functions.{IsFunction, function, names_of_function, I
 -- the version of object files and of the form of an object's words
 abbrev pub object_version : ℕ
 object_version = 1
+
+-- ---- the parts
+
+-- an object of these parts, in the version that objects have
+abbrev pub whole_object : List ℕ → List ℕ → List ℕ → List (List ℕ × List ℕ) → List (List ℕ) → List FlowGlobal → List ObjectFn → Object
+whole_object name flow directives declared used globals functions = record { version = object_version; «module» = name; flow = flow; directives = directives; declared = declared; used = used; globals = globals; functions = functions }
 
 -- ---- the rules
 

@@ -19,7 +19,7 @@ use Rattle.pw_object.specs.declared.functions.SymbolForm.{SymbolForm}
 use Rattle.pw_object.specs.declared.functions.SymbolForm.TheVariants as form
 use Rattle.pw_object.specs.declared.object.Object.{Object}
 use Rattle.pw_object.specs.Functions.{fix_kinds, symbol_forms}
-use Rattle.pw_object.specs.Object.{object_version, global_names, function_names, names_of}
+use Rattle.pw_object.specs.Object.{object_version, whole_object, global_names, function_names, names_of}
 use Rattle.pw_object.specs.Object.{kind as kind_of_file}
 
 -- a name, a word of the function, the end of the stack, or a routine
@@ -68,13 +68,13 @@ function_at names = do
 unfoldable pub global_at : List (List ℕ) → List ℕ → Result (FlowGlobal × List ℕ) ℕ
 global_at names = name_at names >>= λ name. global_body_at Allowed names name
 
--- the globals and the functions, behind the other fields
-unfoldable pub members_at : List (List ℕ) → (Object → ℕ → Option ℕ) → List ℕ → List ℕ → List ℕ → List (List ℕ × List ℕ) → List (List ℕ) → List ℕ → Result (Contents Object × List ℕ) ℕ
-members_at names late «module» flow directives declared used = do
+-- the globals and functions that the module defines, behind the other fields
+unfoldable pub defined_at : List (List ℕ) → (Object → ℕ → Option ℕ) → List ℕ → List ℕ → List ℕ → List (List ℕ × List ℕ) → List (List ℕ) → List ℕ → Result (Contents Object × List ℕ) ℕ
+defined_at names late «module» flow directives declared used = do
   globals ← counted_at (global_at names)
   count ← here
   functions ← counted_at (function_at names)
-  let o : Object = record { version = object_version; «module» = «module»; flow = flow; directives = directives; declared = declared; used = used; globals = globals; functions = functions } in ended (late o count) (record { names = names; value = o })
+  let o = whole_object «module» flow directives declared used globals functions in ended (late o count) (record { names = names; value = o })
 
 -- the fields to their end, under a rule that is looked at last
 unfoldable pub fields_at : List (List ℕ) → (Object → ℕ → Option ℕ) → List ℕ → Result (Contents Object × List ℕ) ℕ
@@ -84,7 +84,7 @@ fields_at names late = do
   directives ← text_at
   declared ← shaped_list_at names Allowed
   used ← name_list_at names Allowed
-  members_at names late «module» flow directives declared used
+  defined_at names late «module» flow directives declared used
 
 -- The rules that are looked at last: each name of the table is used, where so many bytes are left behind
 -- the table; and $start stands beside main, where so many are left from the count of the functions on.

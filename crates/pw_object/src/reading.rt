@@ -8,8 +8,8 @@ ghost use Rattle.pw_value.specs.FieldFrame.{ended};
 ghost use Rattle.pw_files.specs.Rising.{counted_at};
 ghost use Rattle.pw_files.specs.Contents.{broken_at, value_of};
 ghost use Rattle.pw_object.specs.declared.object.Object.{Object as AnyObject};
-ghost use Rattle.pw_object.specs.Object.{kind as kind_of_file, object_version, IsObjectFile};
-ghost use Rattle.pw_object.specs.Reading.{global_at, function_at, last_rules, members_at, fields_at, object_file_at};
+ghost use Rattle.pw_object.specs.Object.{kind as kind_of_file, object_version, whole_object, IsObjectFile};
+ghost use Rattle.pw_object.specs.Reading.{global_at, function_at, last_rules, defined_at, fields_at, object_file_at};
 
 use crate::functions::{ObjectFn, read_function};
 use crate::names::{function_names, used_names};
@@ -116,7 +116,7 @@ fn object_of(
     globals: Items<FlowGlobal>,
     functions: Items<ObjectFn>,
 ) -> Result<Object, AllocError>
-    ensures { IfOk result (λ o. o ≡ record { version = object_version; «module» = texts.entry.0.now; flow = texts.entry.1.now; directives = texts.entry.2.now; declared = declared; used = used; globals = globals; functions = functions }) }
+    ensures { IfOk result (λ o. o ≡ whole_object texts.entry.0.now texts.entry.1.now texts.entry.2.now declared used globals functions) }
 {
     let (module, flow, directives) = texts;
     Ok(Object {
@@ -133,8 +133,8 @@ fn object_of(
 
 /// The globals and the functions behind the other fields: the object, how many bytes are left from the count of its
 /// functions on, and what is left behind it.
-#[tactic(auto, unfolding(crate::specs::Reading::members_at))]
-fn read_members<'a>(
+#[tactic(auto, unfolding(crate::specs::Reading::defined_at))]
+fn read_defined<'a>(
     alloc: Global,
     names: &[Name],
     texts: (&Name, &[u8], &[u8]),
@@ -142,8 +142,8 @@ fn read_members<'a>(
     used: Items<Name>,
     bytes: &'a [u8],
 ) -> Result<(Object, usize, &'a [u8]), FieldError>
-    ensures found { IfOk result (λ x. (late : AnyObject → ℕ → Option ℕ) → members_at names.now late texts.entry.0.now texts.entry.1.now texts.entry.2.now declared used bytes.now ≡ ended (late x.0 x.1) (record { names = names.now; value = x.0 }) x.2.now) }
-    ensures fault { IfErr result (λ e. (late : AnyObject → ℕ → Option ℕ) → Fails e (members_at names.now late texts.entry.0.now texts.entry.1.now texts.entry.2.now declared used bytes.now)) }
+    ensures found { IfOk result (λ x. (late : AnyObject → ℕ → Option ℕ) → defined_at names.now late texts.entry.0.now texts.entry.1.now texts.entry.2.now declared used bytes.now ≡ ended (late x.0 x.1) (record { names = names.now; value = x.0 }) x.2.now) }
+    ensures fault { IfErr result (λ e. (late : AnyObject → ℕ → Option ℕ) → Fails e (defined_at names.now late texts.entry.0.now texts.entry.1.now texts.entry.2.now declared used bytes.now)) }
 {
     let (globals, count) = read_globals(alloc, names, bytes)?;
     let (functions, rest) = read_functions(alloc, names, count)?;
@@ -168,7 +168,7 @@ fn read_parts<'a>(
     let (declared, rest) = read_shaped_list(alloc, names, StartName::Allowed, rest)?;
     let (used, rest) = read_name_list(alloc, names, StartName::Allowed, rest)?;
     let texts = (module, flow, directives);
-    read_members(alloc, names, texts, declared, used, rest)
+    read_defined(alloc, names, texts, declared, used, rest)
 }
 
 /// The rules that are looked at last: each name of the table is used, where so many bytes are left behind

@@ -2,6 +2,7 @@
 use Rattle.std.specs.Prelude.{ℕ, zero, suc, ◌+◌, ◌==◌, Bool, true, false, not, ◌&&◌, ◌||◌, Option, None, Some, is_some, List, [], ◌∷◌, option_map, unwrap_or}
 use Rattle.std.specs.List.{list_any}
 pub use Rattle.pw_value.specs.ProgramNames.{same_truth}
+pub use Rattle.pw_types.specs.Kinds.{is_integral, is_pointer, is_scalar, is_void, is_array, is_function, is_record}
 use Rattle.pw_types.specs.declared.kind.IntKind.{IntKind}
 use Rattle.pw_types.specs.declared.kind.IntKind.TheVariants as K
 use Rattle.pw_types.specs.TypeTrees.{CType, Void, Int, Pointer, Array, Function, Record, QType, Qualified, QTypes, NoType, OneType, type_of, MemberValue, RecordValue}
@@ -56,35 +57,6 @@ unfoldable mutual
   same_types NoType NoType = true
   same_types (OneType a ps) (OneType b qs) = same_qualified a b && same_types ps qs
   same_types _ _ = false
-
--- integral types; there are no other arithmetic ones
-abbrev pub is_integral : CType → Bool
-is_integral (Int kind) = true
-is_integral _ = false
-
-abbrev pub is_pointer : CType → Bool
-is_pointer (Pointer q) = true
-is_pointer _ = false
-
-abbrev pub is_scalar : CType → Bool
-is_scalar ty = is_integral ty || is_pointer ty
-
-abbrev pub is_void : CType → Bool
-is_void Void = true
-is_void _ = false
-
-abbrev pub is_array : CType → Bool
-is_array (Array q n) = true
-is_array _ = false
-
-abbrev pub is_function : CType → Bool
-is_function (Function q ps) = true
-is_function _ = false
-
--- a structure or a union
-abbrev pub is_record : CType → Bool
-is_record (Record n) = true
-is_record _ = false
 
 -- char, signed char, unsigned char
 abbrev pub is_character_kind : IntKind → Bool

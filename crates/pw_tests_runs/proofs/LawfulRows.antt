@@ -7,7 +7,7 @@ use Rattle.std.proofs.lemmas.List.Elements.{All-contains, All-from_recursion}
 use Rattle.pw_flow.specs.declared.flow.FlowGlobal.{FlowGlobal}
 use Rattle.pw_flowrun.specs.Programs.{globals_of, names_of}
 use Rattle.pw_lines.specs.Addresses.{Addresses, AreLawful}
-use Rattle.pw_flow.specs.ValidFlow.{taken}
+use Rattle.pw_flow.specs.ValidFlow.{global_room}
 use Rattle.pw_tests_runs.proofs.Programs.{bumping, global}
 
 abbrev place : List ℕ → ℕ
@@ -37,7 +37,7 @@ lawful : AreLawful bumping addresses
 lawful = record {
   aligned = of_globals (λ g. place g.name % 8 ≡ 0) refl;
   above = of_globals (λ g. 8192 ≤ place g.name) (omega arith);
-  below = of_globals (λ g. place g.name + taken g + 64 ≤ 16384) (omega arith);
+  below = of_globals (λ g. place g.name + global_room g + 64 ≤ 16384) (omega arith);
   apart = λ g h c k other. absurd (other
       (of_globals (λ g. g.name ≡ codes "n") refl g c ∙ sym (of_globals (λ h. h.name ≡ codes "n") refl h k)));
   function_aligned = of_names (λ f. place f % 4 ≡ 0) (refl, (refl, (refl, (refl, (refl, (refl, tt))))));

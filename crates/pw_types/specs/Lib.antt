@@ -1,5 +1,6 @@
 pub mod Caps
 pub mod Conversions
+pub mod Kinds
 pub mod Layouts
 pub mod Sizes
 pub mod Shapes

@@ -5,14 +5,10 @@ use Rattle.pw_types.specs.TypeTrees.{CType, Void, Int, Pointer, Array, Function,
 use Rattle.pw_types.specs.declared.record.RecordKind.{RecordKind}
 use Rattle.pw_types.specs.declared.record.RecordKind.TheVariants.{Structure}
 use Rattle.pw_types.specs.declared.record.Layout.{Layout}
+use Rattle.pw_types.specs.Kinds.{is_record}
 use Rattle.pw_types.specs.Layouts.{content_at, layout_of, scalar_layout, record_layout, record_offsets, greatest}
 use Rattle.pw_value.specs.Limits.{size_limit, shape_limit, depth_limit}
 use Rattle.pw_types.specs.Shapes.{record_shape, member_shapes}
-
--- whether a type is a structure or a union
-abbrev pub is_record : CType → Bool
-is_record (Record number) = true
-is_record _ = false
 
 -- The depth of a type counts pointers, arrays, functions and records. A record counts one more than
 -- its deepest member, which stands in its definition; a pointer to a record ends there.

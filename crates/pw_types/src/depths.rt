@@ -8,6 +8,7 @@ ghost use Rattle.pw_types.specs.Records as spec;
 ghost use Rattle.pw_types.specs.Views.{view_type, view_types};
 
 use crate::ctype::{CType, QType};
+use crate::kinds::is_record;
 use crate::types::Types;
 
 /// The depth of a type: the pointers, arrays, functions and records that lie within one another in it.
@@ -40,14 +41,6 @@ fn greatest_depth(types: &Types, all: &[QType]) -> u64
         greatest = depth(types, &ty.ty).max(greatest);
     }
     greatest
-}
-
-/// Whether a type is a structure or a union.
-#[tactic(auto, unfolding(crate::specs::Views::view_type), using(crate::proofs::ViewLemmas::signature_view))]
-fn is_record(ty: &CType) -> bool
-    ensures { result ≡ spec.is_record (view_type ty.now) }
-{
-    matches!(ty, CType::Record(_))
 }
 
 /// The depth of the record of a number.

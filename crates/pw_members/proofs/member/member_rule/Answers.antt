@@ -16,8 +16,8 @@ returns-in_err-ty c =
     let s = view_state c.args.state.now in
     let ds = view_derivations c.args.declared.derivations.items in
     let by_spot =
-    subst (λ p. Obeys view_qtype (built p ds (view_qtype c.args.specified.now.ty) s) c.member_type.result s)
-    c.spot_of-spot.ensures c.member_type.ensures in
+    subst (λ p. Obeys view_qtype (built p ds (view_qtype c.args.specified.now.ty) s) c.type_declared.result s)
+    c.spot_of-spot.ensures c.type_declared.ensures in
     step_err _ by_spot c.in_err-ty.was (search rules)
 
 pub returns : goal.returns
@@ -30,8 +30,8 @@ returns c =
     let q = view_qtype c.in_ok-ty.ty in
     let members = view_member_list c.args.members in
     let by_spot =
-    subst (λ p. Obeys view_qtype (built p ds (view_qtype c.args.specified.now.ty) s) c.member_type.result s)
-    c.spot_of-spot.ensures c.member_type.ensures in
+    subst (λ p. Obeys view_qtype (built p ds (view_qtype c.args.specified.now.ty) s) c.type_declared.result s)
+    c.spot_of-spot.ensures c.type_declared.ensures in
     let added =
     subst (λ n. Obeys view_member_list (member_behind spot n q members s) c.member_added.result s) c.name_text.ensures
     (subst (λ p. Obeys view_member_list (member_behind p c.name_text.result.now q members s) c.member_added.result s) c.spot_of-spot.ensures c.member_added.ensures) in
