@@ -31,10 +31,10 @@ waiting (Octal value digits) = 1
 waiting (Hexadecimal value) = 1
 waiting _ = 0
 
-plain_step : (c : ℕ) → length (plainly c) + waiting (begun_by c) ≤ 1
+plain_step : (c : ℕ) → length (plainly c) + waiting (begun_by c) ≤ 1 + 0
 plain_step c = by (c == 92)
   where
-    by : (b : Bool) → length (if b then [] else c ∷ []) + waiting (if b then Backslash else NoEscape) ≤ 1
+    by : (b : Bool) → length (if b then [] else c ∷ []) + waiting (if b then Backslash else NoEscape) ≤ 1 + 0
     by true = omega arith
     by false = omega arith
 
@@ -42,18 +42,18 @@ escape_step : (e : Escape) (c : ℕ) → length (known_with e c) + waiting (esca
 escape_step NoEscape c = plain_step c
 escape_step Backslash c = by (is_octal_digit c) (c == 120)
   where
-    by : (a b : Bool) → length (if a || b then [] else simple_escape c ∷ []) + waiting (if a then Octal (digit_value c) 1 else (if b then Hexadecimal 0 else NoEscape)) ≤ 1
+    by : (a b : Bool) → length (if a || b then [] else simple_escape c ∷ []) + waiting (if a then Octal (digit_value c) 1 else (if b then Hexadecimal 0 else NoEscape)) ≤ 1 + 0
     by true b = omega arith
     by false true = omega arith
     by false false = omega arith
 escape_step (Octal value digits) c = by (goes_on digits c) (plain_step c)
   where
-    by : (b : Bool) → length (plainly c) + waiting (begun_by c) ≤ 1 → length (if b then [] else value ∷ plainly c) + waiting (if b then Octal (value * 8 + digit_value c) (digits + 1) else begun_by c) ≤ 2
+    by : (b : Bool) → length (plainly c) + waiting (begun_by c) ≤ 1 + 0 → length (if b then [] else value ∷ plainly c) + waiting (if b then Octal (value * 8 + digit_value c) (digits + 1) else begun_by c) ≤ 1 + 1
     by true h = omega arith
     by false h = omega (arith, h)
 escape_step (Hexadecimal value) c = by (is_hexadecimal_digit c) (plain_step c)
   where
-    by : (b : Bool) → length (plainly c) + waiting (begun_by c) ≤ 1 → length (if b then [] else value ∷ plainly c) + waiting (if b then Hexadecimal (value * 16 + digit_value c) else begun_by c) ≤ 2
+    by : (b : Bool) → length (plainly c) + waiting (begun_by c) ≤ 1 + 0 → length (if b then [] else value ∷ plainly c) + waiting (if b then Hexadecimal (value * 16 + digit_value c) else begun_by c) ≤ 1 + 1
     by true h = omega arith
     by false h = omega (arith, h)
 
@@ -64,7 +64,7 @@ end_step (Octal value digits) = omega arith
 end_step (Hexadecimal value) = omega arith
 
 from_length : (e : Escape) (s : List ℕ) → length (characters_from e s) ≤ length s + waiting e
-from_length e [] = end_step e
+from_length e [] = let h : length (known_at_end e) ≤ waiting e = end_step e in omega (arith, h)
 from_length e (c ∷ rest) =
     let one : length (known_with e c) + waiting (escape_after e c) ≤ 1 + waiting e = escape_step e c in
     let more : length (characters_from (escape_after e c) rest) ≤ length rest + waiting (escape_after e c) = from_length (escape_after e c) rest in

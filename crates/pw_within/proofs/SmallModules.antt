@@ -231,7 +231,7 @@ module_kept : (m : Module) → HasShortStrings m → Post (module_rule m start) 
 unfolding module_rule
 module_kept m short =
     post_bind _ _ (GoesOn start) AreKept (post_bind _ _ (GoesOn start) (GoesOn start) (externals_go_on m.externals [] (all_short (symbols m) short) start start_holds none_defined) (λ r h. h)) (λ r h.
-    post_bind _ _ (λ u. u.1 ≡ r.1) AreKept (end_same r.0 r.1) (λ u e. subst (λ t. AreSmallBodies t × AreShortObjects t.made.hidden) (sym e) (h.1.1.1 (λ i f k. never_some k), h.1.0.0.strings)))
+    post_bind _ _ (λ u. u.1 ≡ r.1) AreKept (end_same r.0 r.1) (λ u e. subst (λ (t : State). AreSmallBodies t × AreShortObjects t.made.hidden) (sym e) (h.1.1.1 (λ i f k. never_some k), h.1.0.0.strings)))
 
 -- ---- the laws
 
