@@ -115,7 +115,7 @@ tokens_length [] = 0
 tokens_length (t ∷ ts) = t.len + tokens_length ts
 
 both_lengths : (ts us : List Token) → tokens_length (ts ++ us) ≡ tokens_length ts + tokens_length us
-both_lengths [] us = refl
+both_lengths [] us = omega arith
 both_lengths (t ∷ ts) us = let e : tokens_length (ts ++ us) ≡ tokens_length ts + tokens_length us = both_lengths ts us in omega (arith, e)
 
 piece_length : (p : PieceKind) (at len : ℕ) → tokens_length (token_in p at len) ≤ len

@@ -294,7 +294,7 @@ size_made t spot q s l = λ met. (l, λ u r c. Rattle.pw_within.proofs.Small.nod
 
 sized_made : (s : State) (inside : Rule Operand) → IsReady s → ((t : State) → IsReady t → Post (inside t) Sized) → Post (uncounted inside s) Made
 unfolding uncounted bind
-sized_made s inside l h = post_bind (inside _) _ Sized Made (h _ (counted s false l)) (λ r k. ((counted r.1 s.made.counting k.0).1, k.1 _))
+sized_made s inside l h = post_bind (inside _) _ Sized Made (h _ (counted s false l)) (λ r k. ((counted r.1 s.made.counting k.0).1, k.1 r.1))
 
 mutual
   unfolding expr_rule spell_expr
