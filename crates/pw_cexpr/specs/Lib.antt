@@ -1,3 +1,1 @@
-pub mod First
 pub mod Groups
-pub mod Views

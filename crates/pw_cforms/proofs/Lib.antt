@@ -1,2 +1,1 @@
 mod Arguments
-pub mod Firsts
