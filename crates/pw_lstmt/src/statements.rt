@@ -105,14 +105,8 @@ pub fn lower_statement(
         TStmtForm::Switch(e, cases, default, body) => {
             lower_switch(alloc, frame, ways, body, e, cases, *default, code)
         }
-        TStmtForm::Label(labels, body) => {
-            begin_labels(alloc, labels, code)?;
-            lower_statement(alloc, frame, ways, body, code)
-        }
-        TStmtForm::Goto(label) => {
-            let block = code.block_of_label(*label);
-            code.leave(alloc, End::Jump(block))
-        }
+        TStmtForm::Label(labels, body) => lower_labelled(alloc, frame, ways, labels, body, code),
+        TStmtForm::Goto(label) => lower_goto(alloc, *label, code),
         TStmtForm::Break => code.leave(alloc, End::Jump(ways.out)),
         TStmtForm::Continue => code.leave(alloc, End::Jump(ways.on)),
         TStmtForm::Return(e) => lower_return(alloc, frame.home, e, code),
@@ -133,6 +127,30 @@ fn lower_return(
         None => None,
     };
     code.leave(alloc, End::Return(value))
+}
+
+/// Lowers a `goto`.
+fn lower_goto(alloc: Global, label: u32, code: &mut Code) -> Result<(), NoMemory>
+    ensures { OnOk result (code.new ≡ codes.leave (End.Jump (codes.block_of_label code.old label)) code.old) }
+{
+    let block = code.block_of_label(label);
+    code.leave(alloc, End::Jump(block))
+}
+
+/// Lowers a statement behind its labels.
+#[cycle(statement)]
+fn lower_labelled(
+    alloc: Global,
+    frame: Frame,
+    ways: Ways,
+    labels: &[u32],
+    body: &TStmt,
+    code: &mut Code,
+) -> Result<(), NoMemory>
+    ensures { OnOk result (code.new ≡ spec.lower_statement (view_frame frame.entry) ways (view_stmt body.now) (spec.begun labels.now code.old)) }
+{
+    begin_labels(alloc, labels, code)?;
+    lower_statement(alloc, frame, ways, body, code)
 }
 
 /// Lowers a block.

@@ -1,10 +1,8 @@
 use Rattle.std.proofs.Common.{◌≡◌, OnOk, is_some, ◌||◌, nat_lt, ◌++◌, ◌+◌, ◌-◌, length, length-drop, drop, refl, sym, ap, ◌∙◌, subst, arith, rules}
 use Rattle.std.proofs.lemmas.Grind.{common_steps}
 use Rattle.std.proofs.lemmas.List.{at_drop_more, at_drop_all}
-use Rattle.pw_flow.specs.declared.flow.End.TheVariants.{Jump}
 use Rattle.pw_typed.specs.Views.{view_expr, view_optional, view_stmt, view_stmt_form, view_stmts, view_arms, view_cases, view_initialisers, view_otherwise}
 use Rattle.pw_typed.proofs.Rows.{block_view}
-use Rattle.pw_lower.specs.Codes.{leave}
 use Rattle.pw_lower.specs.Statements.{initialised_all, begun, looping, repeating, counting, switching, lower_statement, lower_statements}
 use Rattle.pw_lstmt.specs.Frames.{view_frame, joins_of, arms_code, else_code, is_followed}
 use Rattle.pw_lstmt.proofs.StatementLaws.{statements_none, statements_more, statement_block, if_is, empty_is, evaluate_is, while_is, do_is, for_is, switch_is, label_is, goto_is, break_is, continue_is, return_is, if_whole, arms_on, joins_on, followed}
@@ -95,17 +93,18 @@ lower_statement-returns-in-Switch t c =
     ∙ sym e)
     c.lower_switch.ensures
 
-pub lower_statement-returns-in_ok-begin_labels-in-Label : goal.lower_statement-returns-in_ok-begin_labels-in-Label
-lower_statement-returns-in_ok-begin_labels-in-Label t c =
+pub lower_statement-returns-in-Label : goal.lower_statement-returns-in-Label
+lower_statement-returns-in-Label t c =
     let k = c.args.s.now.token in
     let f = view_frame c.args.frame in
     let w = c.args.ways in
     let code = c.args.code.now in
     let e = ap (λ x. lower_statement f w (view_stmt_form k x) code) c.in-Label.is ∙ label_is f w k c.in-Label.labels c.in-Label.body code in
-    let a : c.begin_labels.new.code ≡ begun c.in-Label.labels.items code = c.in_ok-begin_labels-in-Label.ensures ∙ ap (λ l. begun l code) c.deref-in-Label.ensures.value in
-    subst (λ d. OnOk c.lower_statement.result (c.lower_statement.new.code ≡ d))
-    (ap (λ b. lower_statement f w (view_stmt b) c.begin_labels.new.code) c.deref-in-Label-2.ensures ∙ ap (lower_statement f w (view_stmt c.in-Label.body.value)) a ∙ sym e)
-    c.lower_statement.ensures
+    subst (λ d. OnOk c.lower_labelled.result (c.lower_labelled.new.code ≡ d))
+    (ap (λ l. lower_statement f w (view_stmt c.deref-in-Label-2.result.now) (begun l code)) c.deref-in-Label.ensures.value
+    ∙ ap (λ b. lower_statement f w (view_stmt b) (begun c.in-Label.labels.items code)) c.deref-in-Label-2.ensures
+    ∙ sym e)
+    c.lower_labelled.ensures
 
 pub lower_statement-returns-in-Goto : goal.lower_statement-returns-in-Goto
 lower_statement-returns-in-Goto t c =
@@ -114,7 +113,7 @@ lower_statement-returns-in-Goto t c =
     let w = c.args.ways in
     let code = c.args.code.now in
     let e = ap (λ x. lower_statement f w (view_stmt_form k x) code) c.in-Goto.is ∙ goto_is f w k c.in-Goto.label code in
-    subst (λ d. OnOk c.leave.result (c.leave.new.self ≡ d)) (ap (λ b. leave (Jump b) code) c.block_of_label-block.ensures ∙ sym e) c.leave.ensures
+    subst (λ d. OnOk c.lower_goto.result (c.lower_goto.new.code ≡ d)) (sym e) c.lower_goto.ensures
 
 pub lower_statement-returns-in-Break : goal.lower_statement-returns-in-Break
 lower_statement-returns-in-Break t c =
@@ -123,7 +122,7 @@ lower_statement-returns-in-Break t c =
     let w = c.args.ways in
     let code = c.args.code.now in
     let e = ap (λ x. lower_statement f w (view_stmt_form k x) code) c.in-Break.is ∙ break_is f w k code in
-    subst (λ d. OnOk c.leave-in-Break.result (c.leave-in-Break.new.self ≡ d)) (sym e) c.leave-in-Break.ensures
+    subst (λ d. OnOk c.leave.result (c.leave.new.self ≡ d)) (sym e) c.leave.ensures
 
 pub lower_statement-returns-in-Continue : goal.lower_statement-returns-in-Continue
 lower_statement-returns-in-Continue t c =
