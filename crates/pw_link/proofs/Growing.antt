@@ -1,6 +1,6 @@
 -- Laws of lists that grow at their end.
 use Rattle.std.proofs.Common.{◌≡◌, ℕ, zero, suc, ◌+◌, ◌*◌, ◌<◌, ◌≤◌, Bool, true, false, not, cond, List, [], ◌∷◌, ◌++◌, map, length, take, insert, get_or, refl, sym, ap, ◌∙◌, arith, add-one, zero-add, append_assoc, subst, drop, ◌-◌}
-use Rattle.std.specs.List.{sum_by, position_or_len}
+use Rattle.std.specs.List.{sum_by, position_or_len, AllByRecursion}
 use Rattle.std.proofs.lemmas.Grind.{take_at_read}
 use Rattle.std.proofs.lemmas.List.{take_all, take-map, drop-map, length-map, length-drop}
 use Rattle.std.proofs.lemmas.List.Sums.{sum_by-cons, sum_by_push}
@@ -10,7 +10,8 @@ use Rattle.pw_flow.specs.declared.flow.FlowGlobal.{FlowGlobal}
 use Rattle.pw_object.specs.declared.functions.ObjectFn.{ObjectFn}
 use Rattle.pw_object.specs.declared.object.Object.{Object}
 use Rattle.pw_milli.specs.declared.routine.Routine.{Routine}
-use Rattle.pw_milli.specs.Library.{listed}
+use Rattle.pw_value.specs.Names.{IsNameLength}
+use Rattle.pw_milli.specs.Library.{listed, routines}
 use Rattle.pw_link.specs.Layout.{Piece, Placed, placed_from, piece_of, Standing, standing_from, Sites, routine_addresses, pieces_of, globals_of}
 use Rattle.pw_flow.specs.ValidFlow.{global_room}
 use Rattle.pw_link.specs.Sizes.{image_of_parts, fault_of_parts}
@@ -130,6 +131,24 @@ names_more lib i d lt rs same =
     ∙ ap (λ (n : ℕ). map first (map listed (take n lib))) (add-one i)
     ∙ taken_more_twice first listed lib i d lt
     ∙ ap (λ (rest : List (List ℕ × List ℕ)). map first rest ++ (get_or lib i d).name.now ∷ []) (sym (take-map listed i lib)))
+
+-- each routine has a name of a lawful length
+abbrev HasName : List ℕ × List ℕ → Type 0
+HasName r = IsNameLength (length r.0)
+
+have_names : AllByRecursion HasName routines
+have_names = (
+  (omega arith, omega arith),
+  ((omega arith, omega arith), ((omega arith, omega arith), ((omega arith, omega arith), ((omega arith, omega arith), ((omega arith, omega arith), ((omega arith, omega arith), ((omega arith, omega arith), tt))))))),
+)
+
+has_name_at : (lib : List Routine) (i : ℕ) (d : Routine) → i < length lib → AllByRecursion HasName (map listed lib) → IsNameLength (length (get_or lib i d).name.now)
+has_name_at [] i d lt all = absurd (omega (arith, lt))
+has_name_at (r ∷ lib) zero d lt all = all.0
+has_name_at (r ∷ lib) (suc i) d lt all = has_name_at lib i d (omega (arith, lt)) all.1
+
+pub has_name : (lib : List Routine) (i : ℕ) (d : Routine) → i < length lib → map listed lib ≡ routines → IsNameLength (length (get_or lib i d).name.now)
+has_name lib i d lt same = has_name_at lib i d lt (subst (AllByRecursion HasName) (sym same) have_names)
 
 -- the addresses of the routines that a symbol may be
 abbrev site : Placed → ℕ
