@@ -1,10 +1,8 @@
 pub mod Parts
 pub mod Functions
 pub mod Quiet
-pub mod Spelled
 pub mod Linked
 pub mod Names
-pub mod Lexed
 pub mod Records
 pub mod Fits
 pub mod Still

@@ -12,7 +12,7 @@ use Rattle.pw_lowered.specs.Within.{IsSmallIn}
 use Rattle.pw_walk.specs.Causes.{needs, DeclaresSomething}
 use Rattle.pw_walk.specs.Walks.{Walk, Done, bind, meets}
 use Rattle.pw_rules.specs.Declarations.{sort_of, name_of, init_declarator_rule, init_declarators_rule, storage_rule, declares_something, specified_rule, bare_rule, declarators_rule, decl_rule, decls_rule}
-use Rattle.pw_rules.specs.Derivations.{spot_of, built}
+use Rattle.pw_rules.specs.Derivations.{spot_of}
 use Rattle.pw_rules.specs.Leaves.{new_tag, reference_by, alone_by, alone_rule, record_kind, first_of_list}
 use Rattle.pw_rules.specs.SpecifierLists.{Specified, nothing_gathered}
 use Rattle.pw_rules.specs.States.{State, BodyState, is_file_scope, tag_here}
@@ -29,8 +29,8 @@ use Rattle.pw_well_typed.proofs.Keeping.{After}
 use Rattle.pw_well_typed.proofs.Declarations.{sort_fits}
 use Rattle.pw_well_typed.proofs.Adding.{Adds, Declaring, init_declarator_declares, init_declarators_declare, specified_all, bare_runs, decl_declares, decls_declare}
 use Rattle.pw_well_typed.proofs.LabelLaws.{asked_post}
-use Rattle.pw_within.proofs.Still.{Still, specified_still}
-use Rattle.pw_within.proofs.SmallLeaves.{Keeping, IsReady, Reaches, AreSmallFrom}
+use Rattle.pw_within.proofs.Still.{Still, specified_still, declared_storage_still}
+use Rattle.pw_within.proofs.SmallLeaves.{Keeping, IsReady, Reaches}
 use Rattle.pw_within.proofs.SmallPhrases.{Set, set_still, then_set, from_declarator, declarator_set, specifiers_set, built_here, new_tag_keeping, reference_by_keeping}
 use Rattle.pw_within.proofs.SmallLinkage.{AreNarrowed, places_so, narrowed_grows}
 use Rattle.pw_within.proofs.SmallGlobals.{Declared}
@@ -112,10 +112,6 @@ pub specified_made : (specifiers : Specifiers) (first : ℕ) (s : State) → IsR
 specified_made specifiers first s l =
     post_both (specified_rule specifiers first s) (λ r. IsLawful r.1 × Grows s r.1 × GoodSpecified r.1 r.0) Set (specified_all s specifiers first l.0) (specified_set specifiers first s l)
 
-storage_asks : (b : Specified) (s : State) → Post (storage_rule b s) (Still s)
-unfolding storage_rule bind
-storage_asks b s = λ met. refl
-
 -- ---- a declaration of a tag alone
 
 alone_by_keeping : (kind : RecordKind) (w : Word) (o : Option Tag) (s : State) → IsReady s → Post (alone_by kind w o s) (λ r. Keeping r.1)
@@ -151,7 +147,7 @@ unfolding declarators_rule
 declarators_declared specifiers [] s h = bare_declared specifiers s h
 declarators_declared specifiers (d ∷ rest) s h =
     post_bind _ _ (Specifies s) Declared (specified_made specifiers (first_of_list specifiers) s h.0) (λ r g.
-    post_bind _ _ (Still r.1) Declared (storage_asks r.0 r.1) (λ u e.
+    post_bind _ _ (Still r.1) Declared (declared_storage_still r.0 r.1) (λ u e.
     init_declarators_declared (d ∷ rest) r.0 u.1 (subst Holds (sym e) (holds_grows {s = s} {t = r.1} g.1 g.0.1 h)) (subst (λ t. GoodSpecified t r.0) (sym e) g.0.2)))
 
 pub decl_declared : (d : Decl) (s : State) → Holds s → Post (decl_rule d s) Declared

@@ -221,10 +221,6 @@ unfolding object_list
 object_list_parts cx q is s l k scalar =
     post_bind _ _ ScalarRead PartsKept (inits_parts is cx (frame_of (target_at q 0) ∷ []) nothing_filled s l (record { frame = frame_of (target_at q 0); alone = refl; scalar = scalar; kept = k }) (λ x c. tt)) (λ r j. j.1.1)
 
-not_not : (b : Bool) → not b ≡ false → b ≡ true
-not_not true e = refl
-not_not false e = no (sym e)
-
 no_string : (ty : CType) (form : StringForm) → is_scalar ty ≡ true → fills_characters ty form ≡ false
 no_string ty IsOther h = refl
 no_string ty (IsString ws) h = scalar_no_characters ty h
@@ -235,5 +231,5 @@ unfolding object_rule object_by
 object_parts cx q (S.Value e) s l k single =
     subst (λ b. Post (object_by b cx q (words_in (string_form e)) (object_value cx q e) s) PartsKept) (sym single) (object_value_parts cx q e s l k)
 object_parts cx q (S.Braces token is trailing) s l k single =
-    let scalar : is_scalar (type_of q) ≡ true = not_not (is_scalar (type_of q)) single in
+    let scalar : is_scalar (type_of q) ≡ true = truth (is_scalar (type_of q)) single in
     subst (λ b. Post (object_by b cx q (words_in (braced_string is)) (object_list cx q is) s) PartsKept) (sym (no_string (type_of q) (braced_string is) scalar)) (object_list_parts cx q is s l k scalar)

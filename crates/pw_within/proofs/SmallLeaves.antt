@@ -1,7 +1,7 @@
 -- The rules that read no phrase any more: what they make keeps the limits on sizes and arguments (ISO C90 5.2.4.1), and of the
 -- state the types of names and members.
-use Rattle.std.specs.Prelude.{ℕ, zero, suc, ◌≡◌, ◌≤◌, ◌*◌, ◌⊎◌, Bool, true, false, not, ◌&&◌, ◌||◌, if◌then◌else◌, Option, None, Some, option_and_then, cond, find, zip, List, [], ◌∷◌, ◌++◌, length, slice_get, refl}
-use Rattle.std.proofs.Common.{arith, ap, sym, subst, ◌∙◌, inl, inr}
+use Rattle.std.specs.Prelude.{ℕ, suc, ◌≡◌, ◌≤◌, Bool, true, false, not, if◌then◌else◌, Option, Some, option_and_then, cond, find, zip, List, [], ◌∷◌, length, slice_get, refl}
+use Rattle.std.proofs.Common.{ap, sym, subst, ◌∙◌}
 use Rattle.pw_value.specs.Limits.{size_limit}
 use Rattle.pw_literal.specs.Characters.{string_bytes_of}
 use Rattle.pw_tree.specs.declared.operator.BinaryOperator.{BinaryOperator}
@@ -11,35 +11,29 @@ use Rattle.pw_tree.specs.declared.operator.AssignOperator.TheVariants as A
 use Rattle.pw_tree.specs.declared.operator.UnaryOperator.{UnaryOperator}
 use Rattle.pw_tree.specs.Trees.{Word}
 use Rattle.pw_types.specs.declared.kind.IntKind.TheVariants as K
-use Rattle.pw_types.specs.declared.record.RecordKind.{RecordKind}
 use Rattle.pw_types.specs.declared.tree.LogicOperator.{LogicOperator}
 use Rattle.pw_types.specs.declared.tree.StepOperator.{StepOperator}
 use Rattle.pw_types.specs.Layouts.{content_at}
-use Rattle.pw_types.specs.Records.{IsLaid, declared, defined}
-use Rattle.pw_types.specs.TypeTrees.{CType, Void, Int, Pointer, Array, Function, Record, QType, Qualified, type_of, is_constant, is_volatile, MemberValue, ContentValue, RecordValue}
+use Rattle.pw_types.specs.Records.{IsLaid}
+use Rattle.pw_types.specs.TypeTrees.{CType, Void, Int, Pointer, Array, Function, Record, QType, type_of, is_constant, is_volatile, MemberValue, ContentValue, RecordValue}
 use Rattle.std.specs.List.{AllByRecursion}
 use Rattle.pw_lowered.specs.Within.{IsSmallIn}
 use Rattle.pw_types.specs.TypedTrees.{Expression, Node, type_at, Initialiser}
 use Rattle.pw_types.specs.TypedTrees as T
 use Rattle.pw_types.specs.WellTyped.{type_in}
 use Rattle.pw_walk.specs.Walks.{Walk, bind, granted}
-use Rattle.pw_rules.specs.Derivations.{Declared, ParameterValue, built, spot_of}
-use Rattle.pw_rules.specs.Kinds.{plain, int_type, unqualified, qualify, is_function, is_scalar}
-use Rattle.pw_rules.specs.Leaves.{entity_operand, linked_operand, identifier_rule, number_rule, character_rule, string_rule, string_point, string_type, bytes_at_start, texts_of, adjusted, member_rule, parameter_rule, named_point, named_type, enter_parameter, name_text}
-use Rattle.pw_rules.specs.Limits.{Spot}
+use Rattle.pw_rules.specs.Kinds.{plain, unqualified, qualify, is_function, is_scalar}
+use Rattle.pw_rules.specs.Leaves.{entity_operand, linked_operand, identifier_rule, number_rule, character_rule, string_rule, string_point, string_type, bytes_at_start, texts_of}
 use Rattle.pw_rules.specs.Operands.{Operand, value_of}
-use Rattle.pw_rules.specs.Operators.{value_rule, sign_rule, deref, deref_rule, address_rule, step_rule, size_rule, type_size_rule, cast_rule, binary_rule, logic_rule, operation_rule, conditional_rule, assign_rule, compound_rule, assignment_rule, index_rule, call_rule, member_in, member_of, member_operand, select_rule, dot_rule, arrow_rule, sum_node, fits_choice}
-use Rattle.pw_rules.specs.SpecifierLists.{Specified}
-use Rattle.pw_rules.specs.States.{State, Rule, Entity, TypeName, EnumerationConstant, LocalObject, StaticObject, Linked, HiddenObject, enter, add_hidden, entity_at, entry_of, entity_of, records_in, put_at}
-use Rattle.pw_well_typed.specs.Lawful.{IsLawful, IsLawfulType, Extends}
-use Rattle.pw_well_typed.proofs.Walking.{Post, AreMet, post_bind, post_weaken, post_both, post_granted, truth, met_right}
-use Rattle.pw_well_typed.proofs.Lists.{some_same, never_some, get_more, get_last, put_either, length_put}
-use Rattle.pw_well_typed.proofs.Types.{right, lawful_pointer, lawful_element, extends_trans}
-use Rattle.pw_well_typed.proofs.States.{Grows, Runs}
-use Rattle.pw_well_typed.proofs.Leaves.{GoodType, GoodSpecified, GoodDeclared, built_runs}
-use Rattle.pw_within.proofs.Sizes.{IsKept, IsKeptFrom, kept_from, within_kept, kept_int, kept_qualify, kept_string}
+use Rattle.pw_rules.specs.Operators.{value_rule, sign_rule, deref, deref_rule, address_rule, step_rule, size_rule, cast_rule, binary_rule, logic_rule, operation_rule, conditional_rule, assign_rule, compound_rule, assignment_rule, index_rule, call_rule, member_in, member_of, select_rule, dot_rule, arrow_rule, sum_node, fits_choice}
+use Rattle.pw_rules.specs.States.{State, Entity, TypeName, EnumerationConstant, LocalObject, StaticObject, Linked, HiddenObject, add_hidden, entity_at, entry_of, entity_of, records_in}
+use Rattle.pw_well_typed.specs.Lawful.{IsLawful, Extends}
+use Rattle.pw_well_typed.proofs.Walking.{Post, post_bind, post_weaken, post_granted, truth}
+use Rattle.pw_well_typed.proofs.Lists.{some_same, never_some, and_then_some, get_last}
+use Rattle.pw_well_typed.proofs.Types.{right, extends_trans}
+use Rattle.pw_well_typed.proofs.States.{Grows}
+use Rattle.pw_within.proofs.Sizes.{IsKept, IsKeptFrom, kept_int, kept_qualify, kept_string}
 use Rattle.pw_within.proofs.Small.{Keeps, AllKeep, node_keeps, int_keeps, value_keeps, unary_keeps, deref_keeps, address_keeps, sum_keeps, binary_keeps, choice_keeps, assign_keeps, compound_keeps, call_keeps}
-use Rattle.pw_within.proofs.Still.{Still, built_still}
 
 -- ---- states
 
@@ -122,10 +116,6 @@ unfolding value_rule bind
 from_value s a next P h k = λ met. k (value_of a) (λ r c. value_keeps r a (h r c))
 
 -- ---- primary expressions
-
-and_then_some : {X Y : Type 0} (f : X → Option Y) (o : Option X) (y : Y) → option_and_then f o ≡ Some y → (x : X) × (o ≡ Some x) × (f x ≡ Some y)
-and_then_some f None y e = never_some e
-and_then_some f (Some x) y e = (x, refl, e)
 
 linked_kept : (s : State) (t place : ℕ) (q : QType) → IsKeptFrom s.types.records (type_of q) → KeptOperand s (linked_operand s t place q)
 linked_kept s t place q h = λ r c. by r (h r c.laid c.records) (is_function (type_of q))

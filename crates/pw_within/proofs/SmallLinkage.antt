@@ -3,23 +3,23 @@
 use Rattle.std.specs.Prelude.{ℕ, ◌≡◌, ◌⊎◌, Bool, true, false, Option, None, Some, option_and_then, unwrap_or, List, [], ◌∷◌, ◌++◌, slice_get, length, refl}
 use Rattle.std.specs.Option.{option_map_or}
 use Rattle.std.proofs.Common.{ap, sym, subst, ◌∙◌, inl, inr}
-use Rattle.pw_types.specs.TypeTrees.{CType, QType, Qualified, type_of, RecordValue}
+use Rattle.pw_types.specs.TypeTrees.{QType, Qualified, type_of, RecordValue}
 use Rattle.pw_rules.specs.Compatible.{compatible, composite, composite_type}
-use Rattle.pw_rules.specs.Linkage.{linked_before, linked_again, linked_anew, place_for, note_linked, note_here, type_here, change_linked}
-use Rattle.pw_rules.specs.States.{State, LinkedName, Entity, TypeName, EnumerationConstant, LocalObject, StaticObject, Linked, enter, put_at, put_entity, put_linked, add_linked, entity_at, entity_here, entry_here, entry_of, if_here, linked_at}
+use Rattle.pw_rules.specs.Linkage.{linked_before, linked_again, linked_anew, place_for, note_linked, note_here, type_here}
+use Rattle.pw_rules.specs.States.{State, LinkedName, Entity, TypeName, EnumerationConstant, LocalObject, StaticObject, Linked, enter, put_at, put_entity, put_linked, add_linked, entity_at, entity_here, entry_here, entry_of, if_here}
 use Rattle.pw_rules.specs.declared.names.Entry.{Entry}
 use Rattle.pw_well_typed.specs.Lawful.{IsLawful}
-use Rattle.pw_well_typed.proofs.Lists.{some_same, never_some, get_append, get_either, get_one, get_last, get_more, get_within, put_either, put_same, visible_at}
+use Rattle.pw_well_typed.proofs.Lists.{some_same, never_some, and_then_some, get_append, get_either, get_one, get_last, get_within, put_either, put_same}
 use Rattle.pw_well_typed.proofs.Sound.{Sound, Spelled}
 use Rattle.pw_well_typed.proofs.States.{Grows, IsConstant}
 use Rattle.pw_well_typed.proofs.Keeping.{place_is, place_new, named_before, none_named}
 use Rattle.pw_well_typed.proofs.Declaring.{Linkable, visible_named}
 use Rattle.pw_well_typed.proofs.Composite.{types_compatible}
-use Rattle.pw_within.proofs.Sizes.{IsKept, IsKeptFrom, kept_composite}
+use Rattle.pw_within.proofs.Sizes.{IsKeptFrom, kept_composite}
 use Rattle.pw_within.proofs.SmallLeaves.{IsKeptEntity, Keeping}
 use Rattle.pw_within.proofs.SmallPhrases.{entered_keeping}
 use Rattle.pw_within.proofs.SmallDeclarations.{put_keeping}
-use Rattle.pw_within.proofs.Wider.{Wider, wider_trans, wider_composite, wider_second, wider_composites}
+use Rattle.pw_within.proofs.Wider.{Wider, wider_composite, wider_second, wider_composites}
 
 -- ---- states
 
@@ -104,10 +104,6 @@ pub record Meets (s : State) (name : List ℕ) (place : ℕ) (ty : QType) : Type
   pub there : slice_get s.types.linked place ≡ Some linked
   pub narrow : Wider linked.ty ty
   pub before : (n : ℕ) (q : QType) → entity_here s name ≡ Some (Linked n q) → (compatible q ty ≡ true) × Wider linked.ty (composite q ty)
-
-and_then_some : {X Y : Type 0} (f : X → Option Y) (o : Option X) (y : Y) → option_and_then f o ≡ Some y → (x : X) × (o ≡ Some x) × (f x ≡ Some y)
-and_then_some f None y e = never_some e
-and_then_some f (Some x) y e = (x, refl, e)
 
 kept_both : (r : List RecordValue) (a b : QType) → IsKeptFrom r (type_of a) → IsKeptFrom r (type_of b) → compatible a b ≡ true → IsKeptFrom r (type_of (composite a b))
 unfolding composite_type

@@ -11,14 +11,14 @@ use Rattle.pw_lowered.specs.Within.{KeepsLimits}
 use Rattle.pw_walk.specs.Walks.{Walk, Done, bind}
 use Rattle.pw_rules.specs.Checks.{Checks, checking}
 use Rattle.pw_rules.specs.Declarations.{name_of, decl_rule}
-use Rattle.pw_rules.specs.Derivations.{Bindings, Declared as Declarator, spot_of, built}
-use Rattle.pw_rules.specs.Functions.{function_of, bindings_of, enter_body, definition_asking, definition_rules, ends_in_function, measured_rule, add_function, body_rule, function_rule}
+use Rattle.pw_rules.specs.Derivations.{Bindings, Declared as Declarator, spot_of}
+use Rattle.pw_rules.specs.Functions.{function_of, bindings_of, enter_body, definition_asking, definition_rules, ends_in_function, measured_rule, body_rule, function_rule}
 use Rattle.pw_rules.specs.Kinds.{is_function}
 use Rattle.pw_rules.specs.Leaves.{first_of_declaration}
 use Rattle.pw_rules.specs.Linkage.{Asking, declare_linked, define_function, place_for}
 use Rattle.pw_rules.specs.Modules.{external_rule, externals_rule, module_rule, module_in, hidden_global}
 use Rattle.pw_rules.specs.SpecifierLists.{Specified}
-use Rattle.pw_rules.specs.States.{State, LinkedName, Entity, TypeName, EnumerationConstant, LocalObject, StaticObject, Linked, leave_scope, start}
+use Rattle.pw_rules.specs.States.{State, LinkedName, Entity, TypeName, EnumerationConstant, LocalObject, StaticObject, Linked, start}
 use Rattle.pw_rules.specs.Statements.{block_rule, labels_in_block}
 use Rattle.pw_rules.specs.declared.names.Entry.{Entry}
 use Rattle.pw_well_typed.specs.Lawful.{IsLawful, IsLawfulType}
@@ -28,9 +28,9 @@ use Rattle.pw_well_typed.proofs.Lists.{get_either, get_map, get_more, never_some
 use Rattle.pw_well_typed.proofs.Types.{no, extends_same}
 use Rattle.pw_well_typed.proofs.Sound.{Sound, IsPlain}
 use Rattle.pw_well_typed.proofs.States.{Grows, grows_trans}
-use Rattle.pw_well_typed.proofs.Leaves.{GoodSpecified, GoodIfAny, GoodBindings}
+use Rattle.pw_well_typed.proofs.Leaves.{GoodIfAny, GoodBindings}
 use Rattle.pw_well_typed.proofs.Phrases.{later_type}
-use Rattle.pw_well_typed.proofs.Keeping.{After, Kept, Anything, after_same, after_trans, later_after, later_trans, deeper_sound, plain_stays}
+use Rattle.pw_well_typed.proofs.Keeping.{After, Kept, after_same, after_trans, later_after, later_trans, deeper_sound, plain_stays}
 use Rattle.pw_well_typed.proofs.Declaring.{GoodPlace, declared_goes, function_after}
 use Rattle.pw_well_typed.proofs.ObjectTypes.{function_keeps}
 use Rattle.pw_well_typed.proofs.Statements.{block_goes}

@@ -1,13 +1,13 @@
 -- Declarations of objects with linkage that are initialised, and of every sort: the types of names keep the limits (ISO C90 5.2.4.1).
-use Rattle.std.specs.Prelude.{ℕ, ◌≡◌, ◌⊎◌, ◌==◌, Bool, true, false, Option, None, Some, is_some, option_and_then, unwrap_or, List, [], ◌∷◌, ◌++◌, slice_get, length, if◌then◌else◌, refl}
+use Rattle.std.specs.Prelude.{ℕ, ◌≡◌, ◌⊎◌, ◌==◌, Bool, true, false, Option, None, Some, is_some, option_and_then, unwrap_or, List, slice_get, length, if◌then◌else◌, refl}
 use Rattle.std.specs.Option.{option_map_or}
 use Rattle.std.proofs.lemmas.Bool.{eq-eqb}
 use Rattle.std.proofs.lemmas.Slice.Eq.{bytes_eq-Decides}
 use Rattle.std.proofs.Common.{ap, sym, subst, ◌∙◌, inl, inr}
-use Rattle.pw_tree.specs.Trees.{Word, Init, Initializer}
+use Rattle.pw_tree.specs.Trees.{Word, Initializer}
 use Rattle.pw_types.specs.TypeTrees.{QType, type_of}
-use Rattle.pw_types.specs.TypedTrees.{Initialiser, PlacedItem}
-use Rattle.pw_walk.specs.Walks.{Walk, bind}
+use Rattle.pw_types.specs.TypedTrees.{PlacedItem}
+use Rattle.pw_walk.specs.Walks.{bind}
 use Rattle.pw_rules.specs.Compatible.{compatible, composite}
 use Rattle.pw_rules.specs.Declarations.{asking_of, Sort, ATypedef, AFunction, AGlobal, AnExtern, AStatic, ALocal, sort_point, name_rule, declare_rule, context_of, global_rule, fitting_rule, is_tentative}
 use Rattle.pw_rules.specs.Initialisers.{object_rule}
@@ -15,9 +15,9 @@ use Rattle.pw_rules.specs.Limits.{Spot}
 use Rattle.pw_rules.specs.Linkage.{Asking, AsBefore, note_here, note_linked, is_internal_by, place_for, define_object, initialise_linked, named_type, type_now, type_here, declare_linked, is_linked, linked_before, linked_again, linked_anew}
 use Rattle.pw_rules.specs.SpecifierLists.{Specified}
 use Rattle.pw_rules.specs.declared.names.Entry.{Entry}
-use Rattle.pw_rules.specs.States.{State, ScopeState, LinkedName, Entity, TypeName, Linked, enter, put_at, put_entity, put_linked, add_linked, linked_at, entity_at, entity_here, entry_here, entry_of, if_here, start}
+use Rattle.pw_rules.specs.States.{State, ScopeState, LinkedName, Entity, TypeName, Linked, enter, put_at, put_entity, put_linked, add_linked, entity_at, entity_here, entry_here, entry_of, if_here, start}
 use Rattle.pw_well_typed.specs.Lawful.{IsLawful, IsLawfulType}
-use Rattle.pw_well_typed.proofs.Walking.{Post, AreMet, post_bind, post_weaken, post_both, truth, met_left, met_right}
+use Rattle.pw_well_typed.proofs.Walking.{Post, AreMet, post_bind, post_both, truth, met_left, met_right}
 use Rattle.pw_well_typed.proofs.Lists.{some_same, get_last, get_within, put_same, put_either, visible_more}
 use Rattle.pw_well_typed.proofs.Sound.{Sound}
 use Rattle.pw_well_typed.proofs.States.{Grows}
@@ -30,7 +30,7 @@ use Rattle.pw_within.proofs.SmallLeaves.{Keeping, IsReady}
 use Rattle.pw_within.proofs.SmallPhrases.{entered_keeping}
 use Rattle.pw_within.proofs.SmallDeclarations.{ObjectRead, object_read}
 use Rattle.pw_within.proofs.Wider.{Wider, wider_composite, wider_second, wider_composites}
-use Rattle.pw_within.proofs.SmallLinkage.{AreNarrowed, HavePlaces, places_so, put_narrows, narrowed_on, narrowed_grows, narrowed_entered, Meets, FoundHere, found_here, note_small, declare_small}
+use Rattle.pw_within.proofs.SmallLinkage.{AreNarrowed, HavePlaces, places_so, put_narrows, narrowed_on, narrowed_grows, narrowed_entered, found_here, note_small, declare_small}
 use Rattle.pw_within.proofs.SmallGlobals.{Declared, places_entered, defined_small, tentative_small, local_declared, static_declared}
 
 -- ---- where a name that is declared stands

@@ -39,6 +39,7 @@ use Rattle.pw_well_typed.proofs.Operations.{AreFine}
 use Rattle.pw_within.proofs.Sizes.{IsKeptFrom, kept_from, within_kept}
 use Rattle.pw_within.proofs.Small.{AllKeep}
 use Rattle.pw_within.proofs.SmallLeaves.{IsKeptEntity, AreKeptMembers, HaveKeptMembers, Keeping, IsReady, Reaches, reaches_back, KeptValue, KeptOperand, AreKeptValues, kept_later, Leaf, Made, leaf_made, then_leaf, from_value, identifier_leaf, number_leaf, character_leaf, string_made, sign_leaf, deref_leaf, address_leaf, step_leaf, size_leaf, cast_leaf, operation_leaf, conditional_leaf, assignment_leaf, index_leaf, call_leaf, dot_leaf, arrow_leaf}
+use Rattle.pw_within.proofs.FitPhrases.{content_of, content_by_record}
 use Rattle.pw_within.proofs.Still.{Still, value_still, type_size_still, length_still, typedef_still, enumeration_still, enumerator_value_still, specified_still, built_still, named_still, storage_still, bindings_still}
 
 -- ---- states
@@ -73,21 +74,11 @@ entered_keeping s name x k h = record { members = k.members; entities = λ i e g
     by i e (inl g) = k.entities i e g
     by i e (inr g) = subst (IsKeptEntity s.types.records) g.1 h
 
-content_of : (r : List RecordValue) (n : ℕ) (c : ContentValue) → content_at r n ≡ Some c → (x : RecordValue) × (slice_get r n ≡ Some x) × (x.content ≡ Some c)
-content_of r n c e = by (slice_get r n) refl e
-  where
-    by : (o : Option RecordValue) → slice_get r n ≡ o → option_and_then (λ (x : RecordValue). x.content) o ≡ Some c → (x : RecordValue) × (slice_get r n ≡ Some x) × (x.content ≡ Some c)
-    by None f g = never_some g
-    by (Some x) f g = (x, f, g)
-
-content_is : (r : List RecordValue) (n : ℕ) (x : RecordValue) (c : ContentValue) → slice_get r n ≡ Some x → x.content ≡ Some c → content_at r n ≡ Some c
-content_is r n x c e f = ap (option_and_then (λ (y : RecordValue). y.content)) e ∙ f
-
 added_members : (r : List RecordValue) (kind : RecordKind) → Extends r (r ++ declared kind ∷ []) → HaveKeptMembers r → HaveKeptMembers (r ++ declared kind ∷ [])
 added_members r kind later h n c e = let x = content_of (r ++ declared kind ∷ []) n c e in by x.0 x.2 (get_more r (declared kind) n x.0 x.1)
   where
     by : (x : RecordValue) → x.content ≡ Some c → (slice_get r n ≡ Some x) ⊎ ((n ≡ length r) × (declared kind ≡ x)) → AreKeptMembers (r ++ declared kind ∷ []) c.members
-    by x f (inl g) = members_from r (r ++ declared kind ∷ []) later c.members (h n c (content_is r n x c g f))
+    by x f (inl g) = members_from r (r ++ declared kind ∷ []) later c.members (h n c (content_by_record r n x c g f))
     by x f (inr g) = never_some (ap (λ (y : RecordValue). y.content) g.1 ∙ f)
 
 put_members : (r : List RecordValue) (kind : RecordKind) (place : ℕ) (c : ContentValue) → Extends r (put_at place (defined kind c) r) → HaveKeptMembers r → AreKeptMembers r c.members → HaveKeptMembers (put_at place (defined kind c) r)
@@ -100,7 +91,7 @@ put_members r kind place c later h fit n d e =
         let one : defined kind c ≡ x = some_same (sym k.1 ∙ g) in
         let same : c ≡ d = some_same (ap (λ (y : RecordValue). y.content) one ∙ f) in
         members_from r (put_at place (defined kind c) r) later d.members (subst (λ (y : ContentValue). AreKeptMembers r y.members) same fit)
-    by x g f (inr k) = members_from r (put_at place (defined kind c) r) later d.members (h n d (content_is r n x d (sym k ∙ g) f))
+    by x g f (inr k) = members_from r (put_at place (defined kind c) r) later d.members (h n d (content_by_record r n x d (sym k ∙ g) f))
 
 put_extends : (r : List RecordValue) (kind : RecordKind) (place : ℕ) (c : ContentValue) → content_at r place ≡ None → Extends r (put_at place (defined kind c) r)
 put_extends r kind place c unknown = record {

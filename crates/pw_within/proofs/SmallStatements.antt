@@ -1,36 +1,29 @@
 -- Statements: their expressions keep the limit on sizes, and their calls that on arguments (ISO C90 5.2.4.1).
-use Rattle.std.specs.Prelude.{ℕ, ◌≡◌, true, nat_lt, Option, None, Some, List, [], ◌∷◌, slice_get, refl}
-use Rattle.std.specs.List.{AllByRecursion}
-use Rattle.std.proofs.Common.{ap, sym, subst, ◌∙◌}
-use Rattle.pw_tree.specs.FirstTokens.{first_of_expr, first_of_labels}
+use Rattle.std.specs.Prelude.{ℕ, ◌≡◌, nat_lt, Option, None, Some, List, [], ◌∷◌, refl}
+use Rattle.std.proofs.Common.{sym, subst}
 use Rattle.pw_tree.specs.Trees.{Word, Expr, Decl, Stmt, Alternative, Block, Stmts, Label}
 use Rattle.pw_tree.specs.Trees as S
 use Rattle.pw_types.specs.TypeTrees.{type_of, RecordValue}
-use Rattle.pw_types.specs.TypedTrees.{Expression, Statement, Statements, Initialiser}
-use Rattle.pw_types.specs.TypedTrees as T
-use Rattle.pw_lowered.specs.Within.{IsSmall, IsSmallOrAbsent, IsSmallIn, KeepsLimits, KeepLimits, ArmsKeepLimits, ElseKeepsLimits}
+use Rattle.pw_types.specs.TypedTrees.{Expression, Statement, Statements}
+use Rattle.pw_lowered.specs.Within.{IsSmall, IsSmallOrAbsent, KeepsLimits, KeepLimits, ArmsKeepLimits, ElseKeepsLimits}
 use Rattle.pw_walk.specs.Walks.{Walk, bind}
 use Rattle.pw_rules.specs.Declarations.{decls_rule}
 use Rattle.pw_rules.specs.Operators.{value_rule}
-use Rattle.pw_rules.specs.Operands.{cast_to}
-use Rattle.pw_rules.specs.Phrases.{expr_rule}
-use Rattle.pw_rules.specs.States.{State, Rule, BodyState, SwitchState, scoped, one_deeper, leave_scope, next_local}
-use Rattle.pw_rules.specs.Statements.{Behind, arms_behind, new_label, case_rule, inside_switch, default_rule, name_label_rule, label_rule, labels_rule, whole_rule, optional_rule, condition_rule, optional_condition, switch_rule, in_switch, in_loop, goto_rule, continue_rule, break_rule, return_rule, stmt_rule, alternative_rule, block_rule, stmts_rule}
-use Rattle.pw_well_typed.specs.Lawful.{IsLawful, Extends}
+use Rattle.pw_rules.specs.States.{State, Rule, BodyState, SwitchState, scoped, one_deeper, leave_scope}
+use Rattle.pw_rules.specs.Statements.{Behind, new_label, case_rule, inside_switch, default_rule, name_label_rule, label_rule, labels_rule, whole_rule, optional_rule, condition_rule, optional_condition, switch_rule, in_switch, in_loop, goto_rule, continue_rule, break_rule, return_rule, stmt_rule, alternative_rule, block_rule, stmts_rule}
 use Rattle.pw_well_typed.proofs.Walking.{Post, post_bind, post_weaken, post_both}
-use Rattle.pw_well_typed.proofs.Lists.{Longer, get_filter}
-use Rattle.pw_well_typed.proofs.Types.{extends_trans, extends_same}
+use Rattle.pw_well_typed.proofs.Lists.{get_filter}
+use Rattle.pw_well_typed.proofs.Types.{extends_same}
 use Rattle.pw_well_typed.proofs.States.{Grows}
 use Rattle.pw_well_typed.proofs.Changes.{deeper_lawful, left_lawful_alone, left_sound_alone}
-use Rattle.pw_well_typed.proofs.Keeping.{After}
-use Rattle.pw_well_typed.proofs.Adding.{Adds, Declaring, decls_declare}
+use Rattle.pw_well_typed.proofs.Adding.{Declaring, decls_declare}
 use Rattle.pw_well_typed.proofs.LabelLaws.{asked_post}
 use Rattle.pw_within.proofs.Sizes.{IsKeptFrom, kept_from}
 use Rattle.pw_within.proofs.Small.{cast_keeps, value_keeps, promote_keeps}
 use Rattle.pw_rules.specs.declared.names.Entry.{Entry}
 use Rattle.pw_well_typed.proofs.Sound.{Sound}
 use Rattle.pw_within.proofs.SmallLinkage.{AreNarrowed, places_so, narrowed_grows}
-use Rattle.pw_within.proofs.SmallLeaves.{Keeping, IsReady, Reaches, KeptValue, AreSmallFrom}
+use Rattle.pw_within.proofs.SmallLeaves.{IsReady, Reaches, KeptValue, AreSmallFrom}
 use Rattle.pw_within.proofs.SmallPhrases.{from_expr, from_valued, expr_made}
 use Rattle.pw_within.proofs.SmallGlobals.{Declared}
 use Rattle.pw_within.proofs.SmallDecls.{Onward, onward_same, onward_trans, onward_grows, onward_adds, reaches_on, decls_declared}
