@@ -1,10 +1,9 @@
 -- What `phase2` answered and put, by the one object of the flow graph under the database.
 use Rattle.std.proofs.Common.{◌≡◌, ℕ, inl, inr, List, [], ◌∷◌, All, map, Option, Some, None, Result, Ok, Err, refl, sym, ap, ◌∙◌, subst, append-nil}
-use Rattle.std.specs.Prelude.{IfErr, IfOk, IfSome, Vec}
+use Rattle.std.specs.Prelude.{IfOk, IfSome, Vec}
 use Rattle.std.specs.declared.alloc.Global.{Global}
 use Rattle.pw_io.specs.Files.{Told, Keeps}
 use Rattle.pw_flow.specs.declared.flow.FlowModule.{FlowModule}
-use Rattle.pw_db.specs.declared.database.Database.{Database}
 use Rattle.pw_db.specs.declared.database.Directives.{Directives}
 use Rattle.pw_db.specs.Database.{HasDirectives, IsDatabase}
 use Rattle.pw_object.specs.declared.object.Object.{Object}
@@ -15,7 +14,7 @@ use Rattle.pw_answer.specs.declared.answer.Answer.{Answer}
 use Rattle.pw_answer.specs.declared.answer.Answer.TheVariants.{Done, StoreFault, NoMemory, BadFile}
 use Rattle.pw_answer.specs.Effects.{Effect, IsLeft, NamedFile, PutFront, PutPart, PutsFiles, after_puts, answers_alone, puts_files}
 use Rattle.pw_answer.specs.Outcomes.{Answers}
-use Rattle.pw_commands.specs.Needed.{Needs, StopsAs, needed}
+use Rattle.pw_commands.specs.Needed.{StopsAs, needed}
 use Rattle.pw_commands.specs.Outcome.{IsFileStop, IsPutAnswer, IsStoreAnswer, Obeys}
 use Rattle.pw_commands.proofs.ObeysLemmas.{obeys_fault, obeys_no_memory, obeys_one, put_answers, puts_none}
 use Rattle.pw_compiling.specs.Second.{ComesOfFlow, IsFileOfFlow, IsMade, IsMadeFile, IsObjectUnder, PhaseTwoComes, PhaseTwoOver, PutsMade, database_at, flow_at}
@@ -151,19 +150,6 @@ both_made (Some t) flow db bytes e h = subst (λ (x : Result Db Answer). IsOfFlo
 pub none_made : (first : Option Told) (flow : FlowModule) → IfSome first (λ t. MakesObject (Ok flow) (needed database_at t.files database_name) (Err NoMemory))
 none_made None flow = tt
 none_made (Some t) flow = tt
-
--- what was found of the database comes to the object's file, or to the answer in its place
-under_found : (flow : FlowModule) (wanted : Result Db Answer) (found : Result Database Answer) (result : Result (Vec ℕ Global) Answer) → Needs (λ (db : Database). db.functions) found wanted
-    → IfOk found (λ db. IfOk result (λ bytes. IsFileOfFlow flow db.functions bytes.items)) → IfOk found (λ _. IfErr result (λ answer. answer ≡ NoMemory)) → IfErr found (λ answer. result ≡ Err answer) → MakesObject (Ok flow) wanted result
-under_found flow wanted (Ok db) (Ok bytes) is file wants stopped = subst (λ (w : Result Db Answer). IsOfFlow (Ok flow) w bytes.items) (sym is) file
-under_found flow wanted (Ok db) (Err answer) is file wants stopped = subst (λ (a : Answer). MakesObject (Ok flow) wanted (Err a)) (sym wants) tt
-under_found flow wanted (Err answer) result is file wants stopped = subst (MakesObject (Ok flow) wanted) (sym stopped) (database_over flow wanted answer is)
-
-pub object_under : (first : Option Told) (flow : FlowModule) (found : Result Database Answer) (result : Result (Vec ℕ Global) Answer) → IfSome first (λ t. Needs (λ (db : Database). db.functions) found (needed database_at t.files database_name))
-    → IfOk found (λ db. IfOk result (λ bytes. IsFileOfFlow flow db.functions bytes.items)) → IfOk found (λ _. IfErr result (λ answer. answer ≡ NoMemory)) → IfErr found (λ answer. result ≡ Err answer)
-    → IfSome first (λ t. MakesObject (Ok flow) (needed database_at t.files database_name) result)
-object_under None flow found result is file wants stopped = tt
-object_under (Some t) flow found result is file wants stopped = under_found flow (needed database_at t.files database_name) found result is file wants stopped
 
 -- the bytes of an object's file are those of the flow graph's
 pub file_made : {E : Type 0} → (flow : FlowModule) (db : Db) (object : Object) (result : Result (Vec ℕ Global) E) → IsDatabase db → IsObjectUnder flow db object → IfOk result (λ bytes. IsObjectFile bytes.items object)

@@ -1,6 +1,6 @@
 //! The command `phase2`.
 
-ghost use Rattle.std.specs.Prelude.{◌≡◌, ℕ, List, Err, true, IfErr, IfOk, IfSome, length};
+ghost use Rattle.std.specs.Prelude.{◌≡◌, ℕ, List, Ok, Err, true, IfErr, IfOk, IfSome, length};
 ghost use Rattle.pw_io.specs.Files.{Keeps};
 ghost use Rattle.pw_modules.specs.FileNames.{database_name, flow_name};
 ghost use Rattle.pw_answer.specs.Outcomes.{StoreCount};
@@ -100,8 +100,10 @@ fn file_under(
 ) -> Result<Vec<u8>, Answer>
     requires flow { IsValid flow.now }
     requires database { IfOk found (λ db. IsDatabase db.functions) }
-    ensures file { IfOk found (λ db. IfOk result (λ bytes. IsFileOfFlow flow.now db.functions bytes.items)) }
+    ensures object { (wanted : _) → Needs (λ db. db.functions) found wanted → MakesObject (Ok flow.now) wanted result }
     ensures made { IfOk result (λ bytes. IsMadeFile bytes.items) }
+    ensures count { (before after : ℕ) → StopCount before after found → StopCount before after result }
+    ensures stop { IfErr found IsFileStop → IfErr result IsFileStop }
     ensures wants { IfOk found (λ _. IfErr result (λ answer. answer ≡ Answer.NoMemory)) }
     ensures stopped { IfErr found (λ answer. result ≡ Err answer) }
 {
