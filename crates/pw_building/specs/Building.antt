@@ -12,7 +12,7 @@ use Rattle.pw_making.specs.Programs.{Parts}
 use Rattle.pw_filing.specs.FromBuild.BuildFault.{BuildFault}
 use Rattle.pw_filing.specs.FromBuild.Builds.{Builds}
 use Rattle.pw_kept.specs.Kept.{is_same, kept_bytes}
-pub use Rattle.pw_kept.specs.Kept.{counted, kept_object, object_in, object_name}
+pub use Rattle.pw_kept.specs.Kept.{counted, kept_object, object_in}
 use Rattle.pw_kept.specs.Files.{AreObjectFiles, HoldBytes, made_anew}
 
 -- the objects that are kept of all modules, in their order

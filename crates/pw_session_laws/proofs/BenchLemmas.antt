@@ -13,7 +13,7 @@ use Rattle.pw_modules.specs.Modules.{module_map}
 use Rattle.pw_answer.specs.Effects.{Effect}
 use Rattle.pw_gen.specs.Generator.{generated, main_text, module_file, module_of}
 use Rattle.pw_session.specs.FromBuild.BuildFault.{BuildFault}
-use Rattle.pw_session.specs.FromBuilding.Building.{BuildComes, Outcome, counted, object_in, object_name}
+use Rattle.pw_session.specs.FromBuilding.Building.{BuildComes, Outcome, counted, object_in}
 use Rattle.pw_session.specs.FromBuilding.Full.{BuildsImage, image_of}
 use Rattle.pw_session.specs.FromBuilding.Genuine.{KeepsGenuine}
 use Rattle.pw_session.specs.declared.opts.SessionOpts.{SessionOpts}
