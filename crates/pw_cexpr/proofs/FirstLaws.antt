@@ -1,5 +1,5 @@
 -- What runs first, and what is finished behind it.
-use Rattle.std.proofs.Common.{ℕ, ◌≡◌, refl, sym, ap, subst, ◌∙◌, true, Option, Some, None, unwrap_or, Result, Ok, Err, List, [], ◌∷◌, ◌++◌, map}
+use Rattle.std.proofs.Common.{ℕ, ◌≡◌, refl, sym, ap, subst, ◌∙◌, true, Option, Some, None, unwrap_or, Result, Ok, Err, List, [], ◌∷◌, ◌++◌, map, length, arith}
 use Rattle.std.proofs.lemmas.List.{map-append}
 use Rattle.pw_value.specs.declared.value.Value.{Value}
 use Rattle.pw_types.specs.TypeTrees.{QType}
@@ -161,7 +161,12 @@ module _ {world : World} {start behind : Shown} {ending : Ending} where
   -- what gives does not end
   never : {A B : Type 0} {act : Act B} {a : A} → Runs world (give a) start (Err ending) behind → Runs world act start (Err ending) behind
   unfolding give
-  never {act = act} run = record { comes = λ s e. cc (run.comes s e).0 }
+  never run = record {
+    comes = λ s e.
+        let both = run.comes s e in
+        let is = both.0 in
+        cc is;
+  }
 
 module _ (e : Env) (bound : ℕ) (start behind : Shown) (ending : Ending) where
   answer_ends : (t : ℕ) (ty : QType) (form : Form) → Runs e.world (act_first (answer_first form) e bound) start (Err ending) behind
@@ -263,6 +268,12 @@ pub leads_back : {A : Type 0} (view : A → Asked) (from : Option Asked) (nodes 
     → Leads from (map view less) (Some (view last)) × (first_of (view last) ≡ rest)
 leads_back view from nodes less last rest leads popped =
     leads_pop from (map view less) (view last) rest (subst (λ xs. Leads from xs rest) (ap (map view) popped ∙ map-append view less (last ∷ [])) leads)
+
+-- none
+pub leads_end : {A : Type 0} (view : A → Asked) (from : Option Asked) (nodes : List A) (rest : Option Asked)
+    → length nodes ≡ 0 → Leads from (map view nodes) rest → from ≡ rest
+leads_end view from [] rest none leads = leads
+leads_end view from (node ∷ more) rest none leads = absurd (omega (arith, none))
 
 -- ---- results by what a form shows
 

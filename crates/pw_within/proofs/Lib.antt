@@ -9,6 +9,8 @@ pub mod Still
 pub mod FitPhrases
 pub mod FitDeclarations
 pub mod FitStatements
+pub mod Spelled
+pub mod Literals
 pub mod Sizes
 pub mod Small
 pub mod SmallLeaves

@@ -179,7 +179,7 @@ noted_small s name internal ty token tag lawful keep sound narrowed link = by (l
         → (Keeping (option_map_or (λ l. put_linked (place_for s name) (linked_again ty l) s) o (add_linked (linked_anew name internal ty token tag) s)) × HavePlaces (option_map_or (λ l. put_linked (place_for s name) (linked_again ty l) s) o (add_linked (linked_anew name internal ty token tag) s)))
         × (AreNarrowed (option_map_or (λ l. put_linked (place_for s name) (linked_again ty l) s) o (add_linked (linked_anew name internal ty token tag) s)) × Meets (option_map_or (λ l. put_linked (place_for s name) (linked_again ty l) s) o (add_linked (linked_anew name internal ty token tag) s)) name (place_for s name) ty)
     by None e = (
-      (record { entities = keep.entities; members = keep.members }, places_so s sound),
+      (record { entities = keep.entities; members = keep.members; strings = keep.strings }, places_so s sound),
       (
         λ i x y at there. narrowed_on s.types.linked (s.types.linked ++ linked_anew name internal ty token tag ∷ []) (λ n l f. (l, get_append s.types.linked (linked_anew name internal ty token tag ∷ []) n l f, λ t h. h)) y (narrowed i x y at there),
         record {
@@ -193,7 +193,7 @@ noted_small s name internal ty token tag lawful keep sound narrowed link = by (l
     by (Some l) e =
         let at : slice_get s.types.linked (place_for s name) ≡ Some l = place_is s name l e in
         let alike : compatible l.ty ty ≡ true = link.alike l e in (
-          (record { entities = keep.entities; members = keep.members }, places_so s sound),
+          (record { entities = keep.entities; members = keep.members; strings = keep.strings }, places_so s sound),
           (
             λ i x y f there. narrowed_on s.types.linked (put_at (place_for s name) (linked_again ty l) s.types.linked) (put_narrows (place_for s name) l (linked_again ty l) s.types.linked at (wider_composite l.ty ty)) y (narrowed i x y f there),
             record {

@@ -1,12 +1,12 @@
-use Rattle.std.proofs.Common.{refl, sym, subst, Option, Some, None, Ok, map, rules}
-use Rattle.pw_cstate.specs.Shown.{Shown, view_state}
+use Rattle.std.proofs.Common.{◌≡◌, sym, subst, Some, None, Ok, map, length, rules, arith}
+use Rattle.pw_cstate.specs.Shown.{view_state}
 use Rattle.pw_cstate.specs.Runs.{Runs}
 use Rattle.pw_cstate.proofs.RunLaws.{given}
 use Rattle.pw_ccalls.specs.Views.{view_env}
 use Rattle.pw_ccalls.proofs.AnswerLaws.{given_by}
-use Rattle.pw_cexpr.specs.First.{Leads, first_of, act_first}
+use Rattle.pw_cexpr.specs.First.{first_of, act_first}
 use Rattle.pw_cexpr.specs.Views.{view_asked}
-use Rattle.pw_cexpr.proofs.FirstLaws.{leads_back, stop_above}
+use Rattle.pw_cexpr.proofs.FirstLaws.{leads_back, leads_end, stop_above}
 use Rattle.pw_cexpr.proofs.expression.evaluate_first.Goals as goal
 
 pub loop-last-init : goal.loop-last-init
@@ -33,7 +33,8 @@ pub returns : goal.returns
 returns g c =
     let e = view_env c.args.env.now in
     let inv = c.loop-last.invariant in
-    let end = subst (λ nodes. Leads (first_of (view_asked c.args.asked)) (map view_asked nodes) inv.0) c.in-None.ensures.items inv.1 in
+    let none : length c.loop-last.below.items ≡ 0 = omega (arith, c.in-None.ensures.cases.0, c.loop-last.below.ok.0) in
+    let end = leads_end view_asked (first_of (view_asked c.args.asked)) c.loop-last.below.items inv.0 none inv.1 in
     record {
       given = subst (λ f. Runs e.world (act_first f e c.args.bound) (view_state c.args.state.now) (Ok c.loop-last.given) (view_state c.loop-last.state)) (sym end) inv.2;
       stopped = tt;
