@@ -4,7 +4,7 @@ ghost use Rattle.std.specs.Prelude.{◌≡◌, option_map, IfOk};
 ghost use Rattle.pw_filled.specs.Items.{pointer_item};
 ghost use Rattle.pw_rules.specs.Initialisers as spec;
 ghost use Rattle.pw_constant.specs.Views.{view_place};
-ghost use Rattle.pw_typed.specs.Views.{view_expr, view_item, view_symbol};
+ghost use Rattle.pw_typed.specs.Views.{view_expr, view_item};
 ghost use Rattle.pw_types.specs.Views.{view_type};
 
 use pw_constant::{Base, Place, address_of, constant_value, is_null_pointer};
@@ -27,24 +27,13 @@ fn word_bytes(alloc: Global, size: u8, word: u32) -> Result<Vec<u8>, AllocError>
     Ok(bytes)
 }
 
-/// A copy of a symbol.
-pub fn copy_symbol(alloc: Global, symbol: &Symbol) -> Result<Symbol, AllocError>
-    ensures { IfOk result (λ copy. view_symbol copy ≡ view_symbol symbol.now) }
-{
-    match symbol {
-        Symbol::External(name) => Ok(Symbol::External(name.copy(alloc)?)),
-        Symbol::Internal(name) => Ok(Symbol::Internal(name.copy(alloc)?)),
-        Symbol::Hidden(number) => Ok(Symbol::Hidden(*number)),
-    }
-}
-
 /// An address as it stands in an object. A distance that 32 bits cannot count answers want of memory.
 fn address_item(alloc: Global, place: &Place<'_>) -> Result<TItem, AllocError>
     ensures { IfOk result (λ item. view_item item ≡ spec.address_item (view_place place.now)) }
 {
     let offset = word_of_u64(place.offset)?;
     let symbol = match place.base {
-        Base::Named(symbol) => copy_symbol(alloc, symbol)?,
+        Base::Named(symbol) => symbol.copy(alloc)?,
         Base::Text(number) => Symbol::Hidden(number),
     };
     Ok(TItem::Address(symbol, offset))

@@ -8,5 +8,4 @@ mod strings;
 
 pub use filled::{Context, Filled, value_filled};
 pub use forms::{braced_string, filling_string, string_form};
-pub use items::copy_symbol;
 pub use strings::{bytes_filled, string_filled};

@@ -43,17 +43,6 @@ fn copy_result(alloc: Global, ty: &CType) -> Result<QType, AllocError>
     }
 }
 
-/// A copy of a symbol.
-fn copy_symbol(alloc: Global, symbol: &Symbol) -> Result<Symbol, AllocError>
-    ensures { IfOk result (λ copy. view_symbol copy ≡ view_symbol symbol.now) }
-{
-    match symbol {
-        Symbol::External(name) => Ok(Symbol::External(name.copy(alloc)?)),
-        Symbol::Internal(name) => Ok(Symbol::Internal(name.copy(alloc)?)),
-        Symbol::Hidden(number) => Ok(Symbol::Hidden(*number)),
-    }
-}
-
 /// Whether each argument can be assigned to its parameter.
 fn arguments_fit(alloc: Global, parameters: &[QType], args: &[TExpr]) -> Result<bool, AllocError>
     ensures { IfOk result (λ fits. fits ≡ spec.arguments_fit (view_types parameters.now) (map view_expr args.now)) }
@@ -133,7 +122,7 @@ fn named_call(
 ) -> Result<Operand, AllocError>
     ensures { IfOk result (λ a. view_operand a ≡ operands.value_operand (calls.named_call token (view_symbol symbol.now) (view_type function.now) (map view_expr args.items))) }
 {
-    let symbol = copy_symbol(alloc, symbol)?;
+    let symbol = symbol.copy(alloc)?;
     let ty = copy_result(alloc, function)?;
     let cast = arguments_cast(alloc, parameters_of(function), args)?;
     value_operand(alloc, token, ty, TForm::Call(symbol, cast))

@@ -11,7 +11,6 @@ ghost use Rattle.pw_typed.specs.Views as typed;
 ghost use Rattle.pw_types.specs.Views.{view_qtype};
 
 use pw_checking::{Entity, HiddenObject, LinkedName, MadeState, State, TypeState};
-use pw_filled::copy_symbol;
 use pw_kinds::{copy_qtype, is_const_object};
 use pw_linked::symbol_of_linked;
 use pw_rules::Slot;
@@ -47,7 +46,7 @@ fn copy_item(alloc: Global, item: &TItem) -> Result<TItem, AllocError>
             copy.extend_from_slice(bytes)?;
             Ok(TItem::Bytes(copy))
         }
-        TItem::Address(symbol, offset) => Ok(TItem::Address(copy_symbol(alloc, symbol)?, *offset)),
+        TItem::Address(symbol, offset) => Ok(TItem::Address(symbol.copy(alloc)?, *offset)),
     }
 }
 

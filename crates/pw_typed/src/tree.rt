@@ -8,10 +8,12 @@
 //! name the token itself, of an implicit `Cast` or a `Decay` that of its operand. A statement's token
 //! is its first.
 
-ghost use Rattle.std.specs.Prelude.{◌≡◌};
+ghost use Rattle.std.specs.Prelude.{◌≡◌, IfOk};
+ghost use Rattle.pw_typed.specs.Views.{view_symbol};
 
 use pw_types::{BinaryOperator, CType, LogicOperator, QType, StepOperator, Types, UnaryOperator};
 use pw_value::Name;
+use std::alloc::{AllocError, Global};
 
 /// An object or function of static lifetime, as the module `m` speaks of it.
 #[derive(Drop)]
@@ -23,6 +25,19 @@ pub enum Symbol {
     /// The module's static local, string or local brace initialiser of this number, counted from 0 in
     /// the order of the text: `m:.k` outside it.
     Hidden(u32),
+}
+
+impl Symbol {
+    /// Another symbol of the same name or number.
+    pub fn copy(&self, alloc: Global) -> Result<Symbol, AllocError>
+        ensures { IfOk result (λ copy. view_symbol copy ≡ view_symbol self.now) }
+    {
+        match self {
+            Symbol::External(name) => Ok(Symbol::External(name.copy(alloc)?)),
+            Symbol::Internal(name) => Ok(Symbol::Internal(name.copy(alloc)?)),
+            Symbol::Hidden(number) => Ok(Symbol::Hidden(*number)),
+        }
+    }
 }
 
 /// An expression with its type: of an lvalue that of the object, which no `Cast` wraps before it is
