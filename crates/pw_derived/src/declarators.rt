@@ -14,9 +14,11 @@ ghost use Rattle.pw_walk.specs.Walks.{pure};
 use crate::parameters::prototype;
 use crate::steps::{Step, Suffixed, joined, step_gathered};
 use pw_checking::{Declared, Derivation, Phrases, State, fault, whole_rule};
-use pw_leaves::{first_of_words, length_rule};
+use pw_leaves::length_rule;
 use pw_token::Feature;
-use pw_tree::{Core, Declarator, Expr, Suffix, declarators_show_their_lists};
+use pw_tree::{
+    Core, Declarator, Expr, Suffix, declarators_show_their_lists, first_of_words,
+};
 use pw_walk::{CheckFault, CheckKind};
 use std::alloc::Global;
 

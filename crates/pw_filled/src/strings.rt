@@ -12,9 +12,9 @@ ghost use Rattle.pw_types.specs.Views.{view_type};
 
 use crate::filled::{Context, Filled};
 use pw_checking::{State, typing};
-use pw_leaves::{first_of_words, string_bytes, string_type};
+use pw_leaves::{string_bytes, string_type};
 use pw_places::Target;
-use pw_tree::Word;
+use pw_tree::{Word, first_of_words};
 use pw_typed::{TExpr, TForm, TItem};
 use pw_types::CType;
 use pw_walk::CheckFault;

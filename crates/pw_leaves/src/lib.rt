@@ -13,4 +13,4 @@ pub use enumerations::{enumerating_rule, enumeration_rule, enumerator_rule};
 pub use names::{int_type, named_type, typedef_rule};
 pub use parameters::{bindings_rule, parameter_rule, parameter_storage};
 pub use primary::{character_rule, identifier_rule, number_rule};
-pub use strings::{first_of_words, string_bytes, string_rule, string_type};
+pub use strings::{string_bytes, string_rule, string_type};

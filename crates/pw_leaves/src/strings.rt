@@ -6,7 +6,6 @@ ghost use Rattle.pw_checking.specs.StateViews.{view_state};
 ghost use Rattle.pw_checking.specs.Views.{view_operand};
 ghost use Rattle.pw_leaves.specs.Parts.{string_bytes_rule};
 ghost use Rattle.pw_rules.specs.Leaves as spec;
-ghost use Rattle.pw_tree.specs.FirstTokens as first;
 ghost use Rattle.pw_tree.specs.Views.{view_words};
 ghost use Rattle.pw_types.specs.Views.{view_qtype};
 
@@ -14,22 +13,12 @@ use crate::primary::lvalue_operand;
 use pw_checking::{HiddenObject, Operand, State, fault};
 use pw_kinds::plain;
 use pw_literal::push_characters;
-use pw_tree::Word;
+use pw_tree::{Word, first_of_words};
 use pw_typed::{TForm, TItem};
 use pw_types::{CType, IntKind, QType};
 use pw_value::words::word_of;
 use pw_walk::{CheckFault, CheckKind};
 use std::alloc::{AllocError, Global};
-
-/// The number of the first word, 0 where there is none.
-pub fn first_of_words(words: &[Word]) -> usize
-    ensures { result ≡ first.first_of_words (view_words words.now) }
-{
-    match words.split_first() {
-        Some((first, _)) => first.token,
-        None => 0,
-    }
-}
 
 /// The bytes of a string, with the zero at its end.
 #[tactic(auto, unfolding(pw_walk::specs::Walks::bind, pw_walk::specs::Walks::outcome, crate::specs::Parts::string_bytes_rule, pw_rules::specs::Leaves::string_point), using(crate::proofs::TextLemmas::characters_more, crate::proofs::TextLemmas::some_unfit, crate::proofs::TextLemmas::fits_append))]

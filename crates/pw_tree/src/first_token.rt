@@ -11,7 +11,7 @@ use crate::expr::{
 use crate::stmt::{Label, Stmt};
 
 /// The number of the first word, 0 where there is none.
-fn first_of_words(words: &[Word]) -> usize
+pub fn first_of_words(words: &[Word]) -> usize
     ensures { result ≡ first.first_of_words (view.view_words words.now) }
 {
     match words.split_first() {

@@ -18,7 +18,7 @@ pub use expr::{
     Pointer, PostfixOperation, Qualifier, RecordKind, Specifier, StorageClass, Suffix, TypeName,
     Word,
 };
-pub use first_token::first_of_specifiers;
+pub use first_token::{first_of_specifiers, first_of_words};
 pub use laws::{first_tokens_are_first, symbols_have_one_spelling, words_spell_what_they_are};
 pub use lexeme::{Lexeme, lexeme_of};
 pub use module::{External, Function, Module};
