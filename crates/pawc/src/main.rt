@@ -4,7 +4,9 @@
 
 ghost use Rattle.std.specs.Prelude.{◌≡◌, ◌≢◌, ◌∷◌, [], IfErr, IfOk, IsErr, drop, map, string_bytes};
 ghost use Rattle.std.specs.IoError.{error_kind};
+ghost use Rattle.std.specs.Process.{exit_status};
 ghost use Rattle.std.specs.Vec.Iter.{into_iter_items};
+ghost use Rattle.pw_answer.specs.Answers.{status_of};
 ghost use Rattle.pw_answer.specs.Outcomes.{Tells};
 ghost use Rattle.pawc.specs.Flushed.{after_flush, line_after_flush};
 
@@ -69,6 +71,13 @@ fn after_flush<E: Sink>(
     }
 }
 
+/// What the process ends with, by the answer.
+fn exit_of(answer: &Answer) -> ExitCode
+    ensures { exit_status result ≡ status_of answer.now }
+{
+    ExitCode::from(status(answer))
+}
+
 /// Obeys the words over the files of the current folder, and tells and answers what came of it.
 fn obey<F: Files + AllocGlobal + Clone + Drop, I: Read + Drop, O: Write + Drop, E: Write>(
     files: &F,
@@ -97,5 +106,5 @@ fn main(rt: HostRuntime) -> ExitCode {
         return ExitCode::from(NO_MEMORY);
     };
     let answer = obey(&rt, &words, rt.stdin(), writer, &mut err);
-    ExitCode::from(status(&answer))
+    exit_of(&answer)
 }

@@ -20,6 +20,7 @@ use Rattle.pw_value.specs.declared.fault.LinkFault.{LinkFault}
 use Rattle.pw_value.specs.declared.fault.LinkFault.TheVariants as link
 use Rattle.pw_value.specs.declared.fault.What.{What}
 use Rattle.pw_value.specs.declared.fault.What.TheVariants.{Modules, TextBytes, Functions, Globals}
+use Rattle.pw_modules.specs.FileNames.{text_name}
 use Rattle.pw_answer.specs.declared.answer.Answer.{Answer}
 use Rattle.pw_answer.specs.declared.answer.Answer.TheVariants.{Done, Ended, Usage, Refused, LinkRefused, StackStop, Spent, Halted, ReadFault, WriteFault, StoreFault, NoMemory, BadFile, BadScript}
 
@@ -134,7 +135,7 @@ abbrev pub line_text : ℕ → Answer → List ℕ
 line_text line Done = []
 line_text line (Ended status) = []
 line_text line Usage = codes "usage" ++ newline
-line_text line (Refused name refusal) = name ++ codes ".i:" ++ decimal line ++ codes ": " ++ refusal_text refusal ++ newline
+line_text line (Refused name refusal) = text_name name ++ codes ":" ++ decimal line ++ codes ": " ++ refusal_text refusal ++ newline
 line_text line (LinkRefused fault) = codes "link: " ++ link_text fault ++ newline
 line_text line StackStop = codes "StackStop" ++ newline
 line_text line Spent = codes "Spent" ++ newline

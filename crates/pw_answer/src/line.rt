@@ -8,6 +8,7 @@ ghost use Rattle.pw_answer.specs.Lines.{line_bytes};
 use crate::answer::Answer;
 use pw_front::{ParseFault, Refusal};
 use pw_machine::Halt;
+use pw_modules::TEXT_ENDING;
 use pw_token::{Feature, LexFault};
 use pw_value::{LinkFault, Name, What, Word};
 use pw_walk::{CheckKind, Which};
@@ -265,7 +266,8 @@ fn refused_line(
     ensures { IfOk result (λ text. text.items ≡ line_text line (Answer.Refused name.now refusal.now)) }
 {
     let mut text = Vec::from_slice(alloc, name.as_bytes())?;
-    text.extend_from_slice(b".i:")?;
+    text.extend_from_slice(TEXT_ENDING.as_bytes())?;
+    text.extend_from_slice(b":")?;
     push_decimal(alloc, &mut text, line as u64)?;
     text.extend_from_slice(b": ")?;
     push_refusal(alloc, &mut text, refusal)?;

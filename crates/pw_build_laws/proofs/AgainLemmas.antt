@@ -1,5 +1,5 @@
 -- A build over what a build left, where no flow graph changed since.
-use Rattle.std.proofs.Common.{◌≡◌, inl, inr, ℕ, cond, Bool, true, false, List, [], ◌∷◌, ◌++◌, codes, length, map, Option, Some, Result, Ok, refl, sym, ap, ◌∙◌, subst}
+use Rattle.std.proofs.Common.{◌≡◌, inl, inr, ℕ, cond, Bool, true, false, List, [], ◌∷◌, ◌++◌, length, map, Option, Some, Result, Ok, refl, sym, ap, ◌∙◌, subst}
 use Rattle.std.specs.Ordering.{nat_cmp, eq_by_cmp}
 use Rattle.std.specs.Cmp.Lexicographic.{slice_cmp, nat_list_cmp_total}
 use Rattle.std.specs.FinMap as finite
@@ -11,12 +11,13 @@ use Rattle.pw_io.specs.Files.{Files, Told}
 use Rattle.pw_value.specs.Limits.{kept_limit}
 use Rattle.pw_flow.specs.declared.flow.FlowModule.{FlowModule}
 use Rattle.pw_object.specs.declared.object.Object.{Object}
+use Rattle.pw_modules.specs.FileNames.{database_name, image_name, object_name}
 use Rattle.pw_modules.specs.Modules.{Source, modules_of, names_of_modules}
 use Rattle.pw_answer.specs.Effects.{NamedFile, after_puts}
 use Rattle.pw_making.specs.Programs.{AreObjectsFrom, AreParts, DirectivesList, IsMadeOf, IsObjectFrom, Parts, kept_behind}
 use Rattle.pw_building.specs.FromBuild.BuildFault.{BuildFault}
 use Rattle.pw_building.specs.FromBuild.Builds.{Builds, BuildsBy, first_phases}
-use Rattle.pw_kept.specs.Kept.{counted, is_same, kept_bytes, kept_object, object_in, object_name}
+use Rattle.pw_kept.specs.Kept.{counted, is_same, kept_bytes, kept_object, object_in}
 use Rattle.pw_kept.specs.Files.{AreObjectFiles, made_anew}
 use Rattle.pw_building.specs.Building.{BuildComes, IsOutcome, Outcome, if_changed, kept_objects}
 use Rattle.pw_build_laws.specs.Whole.{HoldsFile}
@@ -83,10 +84,10 @@ edit_comes laws told colours stack parts outcome files builds o fits edit =
     let kept : kept_objects files ≡ map (λ x. Some x) parts.objects =
     ap (λ (ns : List (List ℕ)). map (kept_object files) ns) edit.names ∙ kept_alike left files (names_of_modules left) (λ n. edit.built (object_name n) (inl (n, refl))) ∙ keeps.objects fits.objects in
     let stands = both_stand laws.files told stack parts outcome o in
-    let db_stands : HoldsFile files (codes "prog.db") o.database = ap counted (edit.built (codes "prog.db") (inr (inl refl))) ∙ stands.0 in
-    let img_stands : HoldsFile files (codes "prog.img") outcome.image = ap counted (edit.built (codes "prog.img") (inr (inr refl))) ∙ stands.1 in
-    let db : if_changed files (codes "prog.db") o.database ≡ [] = none_put files (codes "prog.db") o.database (same_there laws files (codes "prog.db") o.database (fits.database o.database o.database_file) db_stands) in
-    let img : if_changed files (codes "prog.img") outcome.image ≡ [] = none_put files (codes "prog.img") outcome.image (same_there laws files (codes "prog.img") outcome.image fits.image img_stands) in (
+    let db_stands : HoldsFile files database_name o.database = ap counted (edit.built database_name (inr (inl refl))) ∙ stands.0 in
+    let img_stands : HoldsFile files image_name outcome.image = ap counted (edit.built image_name (inr (inr refl))) ∙ stands.1 in
+    let db : if_changed files database_name o.database ≡ [] = none_put files database_name o.database (same_there laws files database_name o.database (fits.database o.database o.database_file) db_stands) in
+    let img : if_changed files image_name outcome.image ≡ [] = none_put files image_name outcome.image (same_there laws files image_name outcome.image fits.image img_stands) in (
       stayed parts,
       subst (λ (ks : List (Option Object)). Builds (modules_of files) ks colours stack (Ok (stayed parts))) (sym kept)
           (builds_on (modules_of told.files) (modules_of files) (kept_objects told.files) colours stack parts phases builds),
@@ -100,7 +101,7 @@ edit_comes laws told colours stack parts outcome files builds o fits edit =
         database_file = o.database_file;
         image_names = o.image_names;
         image_file = o.image_file;
-        puts = sym (ap (λ (fs : List NamedFile). fs ++ if_changed files (codes "prog.img") outcome.image) db ∙ img);
+        puts = sym (ap (λ (fs : List NamedFile). fs ++ if_changed files image_name outcome.image) db ∙ img);
       },
     )
 

@@ -22,13 +22,14 @@ use Rattle.pw_object.specs.declared.object.Object.{Object}
 use Rattle.pw_object.specs.Object.{IsObjectFile}
 use Rattle.pw_object.specs.Reading.{object_file_at}
 use Rattle.pw_object.proofs.ObjectLaws.{only_by}
+use Rattle.pw_modules.specs.FileNames.{database_name, image_name, text_ending, object_ending, text_name, object_name}
 use Rattle.pw_modules.specs.Modules.{HoldsModule, Source, module_map, modules_of, names_of_modules, text_read}
 use Rattle.pw_answer.specs.Effects.{NamedFile, after_puts}
 use Rattle.pw_making.specs.Programs.{AreObjectsFrom, Completes, DirectivesList, Parts}
 use Rattle.pw_building.specs.FromBuild.BuildFault.{BuildFault}
 use Rattle.pw_building.specs.FromBuild.FirstPhase.{Phase, compiled}
 use Rattle.pw_building.specs.FromBuild.Builds.{Builds, BuildsBy, before_others, first_phases, flows_of, limit_passed, within}
-use Rattle.pw_kept.specs.Kept.{counted, if_object, kept_object, object_in, object_name}
+use Rattle.pw_kept.specs.Kept.{counted, if_object, kept_object, object_in}
 use Rattle.pw_kept.specs.Files.{AreObjectFiles, made_anew}
 use Rattle.pw_building.specs.Building.{IsOutcome, Outcome, if_changed, kept_objects}
 use Rattle.pw_build_laws.specs.Kept.{FitObjects, KeepsObjects}
@@ -44,7 +45,7 @@ pub record Laws : Type 0 where
 -- ---- names
 
 object_apart : (n m : List ℕ) → n ≢ m → object_name n ≢ object_name m
-object_apart n m apart = λ e. apart (append_cancel_right n m (codes ".obj") e)
+object_apart n m apart = λ e. apart (append_cancel_right n m object_ending e)
 
 no_less : ◌≡◌ {A = Ordering} Equal Less → ⊥
 no_less e = cc
@@ -128,14 +129,14 @@ all_both : {X : Type 0} (P : X → Type 0) (xs ys : List X) → AllByRecursion P
 all_both P [] ys a b = b
 all_both P (x ∷ xs) ys a b = (a.0, all_both P xs ys a.1 b)
 
-program_apart : (old : Files) (db img name : List ℕ) → name ≢ codes "prog.db" → name ≢ codes "prog.img" → AllByRecursion (λ (f : NamedFile). name ≢ f.0) (if_changed old (codes "prog.db") db ++ if_changed old (codes "prog.img") img)
+program_apart : (old : Files) (db img name : List ℕ) → name ≢ database_name → name ≢ image_name → AllByRecursion (λ (f : NamedFile). name ≢ f.0) (if_changed old database_name db ++ if_changed old image_name img)
 program_apart old db img name a b =
-    all_both (λ (f : NamedFile). name ≢ f.0) (if_changed old (codes "prog.db") db) (if_changed old (codes "prog.img") img) (changed_apart old (codes "prog.db") db name a) (changed_apart old (codes "prog.img") img name b)
+    all_both (λ (f : NamedFile). name ≢ f.0) (if_changed old database_name db) (if_changed old image_name img) (changed_apart old database_name db name a) (changed_apart old image_name img name b)
 
-behind_objects : FileLaws → (told : Told) (stack : ℕ) (parts : Parts) (outcome : Outcome) (o : IsOutcome told.files stack parts outcome) (name : List ℕ) → name ≢ codes "prog.db" → name ≢ codes "prog.img"
+behind_objects : FileLaws → (told : Told) (stack : ℕ) (parts : Parts) (outcome : Outcome) (o : IsOutcome told.files stack parts outcome) (name : List ℕ) → name ≢ database_name → name ≢ image_name
     → finite.get (after_puts told outcome.puts).files name ≡ finite.get (after_puts told o.objects).files name
 behind_objects laws told stack parts outcome o name a b =
-    let program : List NamedFile = if_changed told.files (codes "prog.db") o.database ++ if_changed told.files (codes "prog.img") outcome.image in
+    let program : List NamedFile = if_changed told.files database_name o.database ++ if_changed told.files image_name outcome.image in
     ap (λ (puts : List NamedFile). finite.get (after_puts told puts).files name) o.puts
     ∙ ap (λ (t : Told). finite.get t.files name) (after_both told o.objects program)
     ∙ get_other laws (after_puts told o.objects) program name (program_apart told.files o.database outcome.image name a b)
@@ -216,37 +217,37 @@ completed (Ok flows) kept colours stack parts h = record { flows = flows; are = 
 
 -- ---- the modules are as before
 
-text_ends : (name file other : List ℕ) (n : ℕ) → length file ≡ n + 2 → drop n file ≡ other → name ++ codes ".i" ≡ file → codes ".i" ≡ other
+text_ends : (name file other : List ℕ) (n : ℕ) → length file ≡ n + 2 → drop n file ≡ other → text_name name ≡ file → text_ending ≡ other
 text_ends name file other n size end e =
-    let l = length-append name (codes ".i") in
+    let l = length-append name text_ending in
     let k : length name ≡ n = omega (arith, l, ap length e, size) in
-    sym (drop_at name (codes ".i") n k) ∙ ap (drop n) e ∙ end
+    sym (drop_at name text_ending n k) ∙ ap (drop n) e ∙ end
 
-no_dot : (b c : ℕ) → codes ".i" ≡ b ∷ c ∷ [] → b ≡ 46
+no_dot : (b c : ℕ) → text_ending ≡ b ∷ c ∷ [] → b ≡ 46
 no_dot b c e = cc
 
-pub text_no_object : (name n : List ℕ) → object_name n ≡ name ++ codes ".i" → ⊥
+pub text_no_object : (name n : List ℕ) → object_name n ≡ text_name name → ⊥
 text_no_object name n e =
-    let l = length-append n (codes ".obj") in
-    let h : 98 ≡ 46 = no_dot 98 106 (text_ends name (object_name n) (codes "bj") (length n + 2) (omega (arith, l)) (drop-append-add n (codes ".obj") 2) (sym e)) in
+    let l = length-append n object_ending in
+    let h : 98 ≡ 46 = no_dot 98 106 (text_ends name (object_name n) (codes "bj") (length n + 2) (omega (arith, l)) (drop-append-add n object_ending 2) (sym e)) in
     omega (arith, h)
 
-pub text_no_database : (name : List ℕ) → name ++ codes ".i" ≡ codes "prog.db" → ⊥
+pub text_no_database : (name : List ℕ) → text_name name ≡ database_name → ⊥
 text_no_database name e =
-    let h : 100 ≡ 46 = no_dot 100 98 (text_ends name (codes "prog.db") (codes "db") 5 refl refl e) in
+    let h : 100 ≡ 46 = no_dot 100 98 (text_ends name database_name (codes "db") 5 refl refl e) in
     omega (arith, h)
 
-pub text_no_image : (name : List ℕ) → name ++ codes ".i" ≡ codes "prog.img" → ⊥
+pub text_no_image : (name : List ℕ) → text_name name ≡ image_name → ⊥
 text_no_image name e =
-    let h : 109 ≡ 46 = no_dot 109 103 (text_ends name (codes "prog.img") (codes "mg") 6 refl refl e) in
+    let h : 109 ≡ 46 = no_dot 109 103 (text_ends name image_name (codes "mg") 6 refl refl e) in
     omega (arith, h)
 
-text_same : FileLaws → (told : Told) (stack : ℕ) (parts : Parts) (outcome : Outcome) → IsOutcome told.files stack parts outcome → (name : List ℕ) → finite.get (after_puts told outcome.puts).files (name ++ codes ".i") ≡ finite.get told.files (name ++ codes ".i")
+text_same : FileLaws → (told : Told) (stack : ℕ) (parts : Parts) (outcome : Outcome) → IsOutcome told.files stack parts outcome → (name : List ℕ) → finite.get (after_puts told outcome.puts).files (text_name name) ≡ finite.get told.files (text_name name)
 text_same laws told stack parts outcome o name =
-    behind_objects laws told stack parts outcome o (name ++ codes ".i") (text_no_database name) (text_no_image name)
-    ∙ get_other laws told o.objects (name ++ codes ".i") (objects_apart _ o.objects (name ++ codes ".i") (text_no_object name) o.object_files)
+    behind_objects laws told stack parts outcome o (text_name name) (text_no_database name) (text_no_image name)
+    ∙ get_other laws told o.objects (text_name name) (objects_apart _ o.objects (text_name name) (text_no_object name) o.object_files)
 
-pub holds_on : (old new : Files) (name text : List ℕ) → finite.get new (name ++ codes ".i") ≡ finite.get old (name ++ codes ".i") → HoldsModule old name text → HoldsModule new name text
+pub holds_on : (old new : Files) (name text : List ℕ) → finite.get new (text_name name) ≡ finite.get old (text_name name) → HoldsModule old name text → HoldsModule new name text
 holds_on old new name text e h = record { named = h.named; reads = ap (option_map (front_of text_read)) e ∙ h.reads }
 
 pub same_option : (a b : Option (List ℕ)) → ((t : List ℕ) → a ≡ Some t → b ≡ Some t) → ((t : List ℕ) → b ≡ Some t → a ≡ Some t) → a ≡ b
@@ -254,7 +255,7 @@ same_option None None f g = refl
 same_option None (Some t) f g = g t refl
 same_option (Some t) b f g = sym (f t refl)
 
-modules_same : Laws → (old new : Files) → ((name : List ℕ) → finite.get new (name ++ codes ".i") ≡ finite.get old (name ++ codes ".i")) → modules_of new ≡ modules_of old
+modules_same : Laws → (old new : Files) → ((name : List ℕ) → finite.get new (text_name name) ≡ finite.get old (text_name name)) → modules_of new ≡ modules_of old
 modules_same laws old new same =
     ap finite.entries (same_map nat_list_cmp_total (slice_cmp-IsAntisymmetric nat_cmp-IsAntisymmetric) (module_map new) (module_map old) (λ q.
     same_option (finite.get (module_map new) q) (finite.get (module_map old) q)

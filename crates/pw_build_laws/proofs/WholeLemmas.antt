@@ -8,6 +8,7 @@ use Rattle.std.proofs.lemmas.Slice.Eq.{bytes_eq-Decides}
 use Rattle.pw_io.specs.Files.{Files, Told, after_put, front_of}
 use Rattle.pw_value.specs.Limits.{kept_limit}
 use Rattle.pw_object.specs.declared.object.Object.{Object}
+use Rattle.pw_modules.specs.FileNames.{database_name, image_name, object_ending, object_name}
 use Rattle.pw_modules.specs.Modules.{module_map, modules_of}
 use Rattle.pw_answer.specs.Effects.{NamedFile, after_puts}
 use Rattle.pw_making.specs.Programs.{Parts}
@@ -15,7 +16,7 @@ use Rattle.pw_making.specs.Kept.{all_fresh}
 use Rattle.pw_building.specs.FromBuild.BuildFault.{BuildFault}
 use Rattle.pw_building.specs.FromBuild.Builds.{Builds}
 use Rattle.pw_building.specs.FromBuild.Full.{built_anew}
-use Rattle.pw_kept.specs.Kept.{counted, is_same, kept_bytes, object_name}
+use Rattle.pw_kept.specs.Kept.{counted, is_same, kept_bytes}
 use Rattle.pw_kept.specs.Files.{AreObjectFiles}
 use Rattle.pw_building.specs.Building.{BuildComes, IsOutcome, Outcome, if_changed, kept_objects}
 use Rattle.pw_building.specs.Genuine.{KeepsGenuine}
@@ -78,11 +79,11 @@ changed_holds laws old told name bytes e =
 
 -- ---- names
 
-apart_at : (name file ending : List ℕ) (n : ℕ) → length file ≡ n + 4 → drop n file ≡ ending → name ++ codes ".obj" ≡ file → codes ".obj" ≡ ending
+apart_at : (name file ending : List ℕ) (n : ℕ) → length file ≡ n + 4 → drop n file ≡ ending → object_name name ≡ file → object_ending ≡ ending
 apart_at name file ending n size end e =
-    let l = length-append name (codes ".obj") in
+    let l = length-append name object_ending in
     let k : length name ≡ n = omega (arith, l, ap length e, size) in
-    sym (drop_at name (codes ".obj") n k) ∙ ap (drop n) e ∙ end
+    sym (drop_at name object_ending n k) ∙ ap (drop n) e ∙ end
 
 first_is : (a b : ℕ) (xs ys : List ℕ) → a ∷ xs ≡ b ∷ ys → a ≡ b
 first_is a b xs ys e = cc
@@ -90,28 +91,28 @@ first_is a b xs ys e = cc
 rest_is : (a b : ℕ) (xs ys : List ℕ) → a ∷ xs ≡ b ∷ ys → xs ≡ ys
 rest_is a b xs ys e = cc
 
-pub no_database : (name : List ℕ) → object_name name ≡ codes "prog.db" → ⊥
-no_database name e = differ (apart_at name (codes "prog.db") (codes "g.db") 3 refl refl e)
+pub no_database : (name : List ℕ) → object_name name ≡ database_name → ⊥
+no_database name e = differ (apart_at name database_name (codes "g.db") 3 refl refl e)
   where
-    differ : codes ".obj" ≡ codes "g.db" → ⊥
+    differ : object_ending ≡ codes "g.db" → ⊥
     differ e = let h : 46 ≡ 103 = first_is 46 103 _ _ e in omega (arith, h)
 
-pub no_image : (name : List ℕ) → object_name name ≡ codes "prog.img" → ⊥
-no_image name e = differ (apart_at name (codes "prog.img") (codes ".img") 4 refl refl e)
+pub no_image : (name : List ℕ) → object_name name ≡ image_name → ⊥
+no_image name e = differ (apart_at name image_name (codes ".img") 4 refl refl e)
   where
-    differ : codes ".obj" ≡ codes ".img" → ⊥
+    differ : object_ending ≡ codes ".img" → ⊥
     differ e = let h : 111 ≡ 105 = first_is 111 105 _ _ (rest_is 46 46 _ _ e) in omega (arith, h)
 
-two_names : codes "prog.db" ≡ codes "prog.img" → ⊥
+two_names : database_name ≡ image_name → ⊥
 two_names e = let h : 7 ≡ 8 = ap length e in omega (arith, h)
 
 -- ---- the build
 
 -- both files of the program stand there
-pub both_stand : FileLaws → (told : Told) (stack : ℕ) (parts : Parts) (outcome : Outcome) (o : IsOutcome told.files stack parts outcome) → HoldsFile (after_puts told outcome.puts).files (codes "prog.db") o.database × HoldsFile (after_puts told outcome.puts).files (codes "prog.img") outcome.image
+pub both_stand : FileLaws → (told : Told) (stack : ℕ) (parts : Parts) (outcome : Outcome) (o : IsOutcome told.files stack parts outcome) → HoldsFile (after_puts told outcome.puts).files database_name o.database × HoldsFile (after_puts told outcome.puts).files image_name outcome.image
 both_stand laws told stack parts outcome o =
-    let db : List ℕ = codes "prog.db" in
-    let img : List ℕ = codes "prog.img" in
+    let db : List ℕ = database_name in
+    let img : List ℕ = image_name in
     let first : Told = after_puts told o.objects in
     let second : Told = after_puts first (if_changed told.files db o.database) in
     let third : Told = after_puts second (if_changed told.files img outcome.image) in

@@ -1,7 +1,8 @@
 -- The program of a full build, as it stands in the files of a store.
-use Rattle.std.specs.Prelude.{◌≡◌, ℕ, List, codes, Some, Ok}
+use Rattle.std.specs.Prelude.{◌≡◌, ℕ, List, Some, Ok}
 use Rattle.pw_io.specs.Files.{Files}
 use Rattle.pw_db.specs.Database.{IsDatabaseFile}
+use Rattle.pw_modules.specs.FileNames.{database_name, image_name}
 use Rattle.pw_making.specs.Programs.{Parts}
 use Rattle.pw_modules.specs.Modules.{modules_of}
 use Rattle.pw_building.specs.FromBuild.Builds.{Builds, FullBuild, Texts}
@@ -17,10 +18,10 @@ HoldsFile files name bytes = kept_bytes files name ≡ counted (Some bytes)
 pub record HoldsProgram (parts : Parts) (stack : ℕ) (files : Files) : Type 0 where
   pub database : List ℕ
   pub database_file : IsDatabaseFile database parts.database
-  pub database_stands : HoldsFile files (codes "prog.db") database
+  pub database_stands : HoldsFile files database_name database
   pub image : List ℕ
   pub image_file : IsImageOf parts stack image
-  pub image_stands : HoldsFile files (codes "prog.img") image
+  pub image_stands : HoldsFile files image_name image
 
 -- those to which the modules and the kept objects of a store's files come stand there
 abbrev pub HoldsBuild : Files → ℕ → ℕ → Files → Type 0

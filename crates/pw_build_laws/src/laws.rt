@@ -1,8 +1,9 @@
 //! Laws of what a build leaves. A function here does nothing: its clauses are facts about all values.
 
-ghost use Rattle.std.specs.Prelude.{◌≡◌, ◌++◌, ℕ, List, Ok, Some, codes};
+ghost use Rattle.std.specs.Prelude.{◌≡◌, ℕ, List, Ok, Some};
 ghost use Rattle.std.specs.FinMap as finite;
 ghost use Rattle.pw_io.specs.Files.{Files, Told, front_of};
+ghost use Rattle.pw_modules.specs.FileNames.{text_name};
 ghost use Rattle.pw_modules.specs.Modules.{HoldsModule, module_map, modules_of, text_read};
 ghost use Rattle.pw_answer.specs.Effects.{after_puts};
 ghost use Rattle.pw_making.specs.Programs.{Parts};
@@ -58,7 +59,7 @@ pub fn an_edit_that_keeps_flows_makes_nothing()
 /// A text that is put in place of a module's keeps the flow graphs, and so rebuilds nothing, where the first phase makes of it
 /// what it made of the text before, and the texts together pass no other limit than before.
 pub fn a_text_with_the_same_flow_keeps_flows()
-    ensures { (files : Files) (name old text : List ℕ) → HoldsModule files name old → compiled name (front_of text_read text) ≡ compiled name old → limit_passed (modules_of (finite.insert files (name ++ codes ".i") text)) ≡ limit_passed (modules_of files) → KeepsFlows files (finite.insert files (name ++ codes ".i") text) }
+    ensures { (files : Files) (name old text : List ℕ) → HoldsModule files name old → compiled name (front_of text_read text) ≡ compiled name old → limit_passed (modules_of (finite.insert files (text_name name) text)) ≡ limit_passed (modules_of files) → KeepsFlows files (finite.insert files (text_name name) text) }
 {
     front();
     modules_are_exact();

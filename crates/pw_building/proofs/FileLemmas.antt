@@ -1,5 +1,5 @@
 -- What a build comes to as far as its puts.
-use Rattle.std.proofs.Common.{◌≡◌, ◌⊎◌, inl, inr, arith, ℕ, Bool, true, false, not, cond, List, [], ◌∷◌, ◌++◌, codes, length, map, Option, Some, None, Result, Ok, Err, refl, sym, ap, ◌∙◌, subst}
+use Rattle.std.proofs.Common.{◌≡◌, ◌⊎◌, inl, inr, arith, ℕ, Bool, true, false, not, cond, List, [], ◌∷◌, ◌++◌, length, map, Option, Some, None, Result, Ok, Err, refl, sym, ap, ◌∙◌, subst}
 use Rattle.std.specs.Prelude.{IfErr, IfSome}
 use Rattle.std.proofs.lemmas.List.{length-map}
 use Rattle.pw_io.specs.Files.{Files, Told, Keeps}
@@ -9,6 +9,7 @@ use Rattle.pw_db.specs.Database.{IsDatabaseFile}
 use Rattle.pw_object.specs.declared.object.Object.{Object}
 use Rattle.pw_image.specs.Image.{IsImageFile}
 use Rattle.pw_link.specs.Linking.{linked}
+use Rattle.pw_modules.specs.FileNames.{database_name, image_name}
 use Rattle.pw_modules.specs.declared.modules.Module.{Module}
 use Rattle.pw_modules.specs.Modules.{Source, modules_of, names_of_modules}
 use Rattle.pw_modules.specs.Views.{source}
@@ -71,12 +72,12 @@ comes_told files opts ms made p count sources builds fits few cmp =
         image_names = m.image_names;
         image_file = subst (λ (b : List ℕ). IsImageFile b (record { names = m.image_names; value = linked parts.objects opts.stack })) (sym cmp.image) m.image;
         puts = ap (λ (fs : List NamedFile). map file_view p.objects.items ++ fs)
-            (ap (λ (fs : List NamedFile). fs ++ one_if p.image_changed (codes "prog.img") p.image.items)
-            (one_if_changed (is_same (kept_bytes files (codes "prog.db")) p.database.items) p.database_changed (codes "prog.db") p.database.items
-            (cmp.database_changed ∙ ap (λ (b : List ℕ). not (is_same (kept_bytes files (codes "prog.db")) b)) (sym cmp.database)))
-            ∙ ap (λ (fs : List NamedFile). if_changed files (codes "prog.db") p.database.items ++ fs)
-            (one_if_changed (is_same (kept_bytes files (codes "prog.img")) p.image.items) p.image_changed (codes "prog.img") p.image.items
-            (cmp.image_changed ∙ ap (λ (b : List ℕ). not (is_same (kept_bytes files (codes "prog.img")) b)) (sym cmp.image))));
+            (ap (λ (fs : List NamedFile). fs ++ one_if p.image_changed image_name p.image.items)
+            (one_if_changed (is_same (kept_bytes files database_name) p.database.items) p.database_changed database_name p.database.items
+            (cmp.database_changed ∙ ap (λ (b : List ℕ). not (is_same (kept_bytes files database_name) b)) (sym cmp.database)))
+            ∙ ap (λ (fs : List NamedFile). if_changed files database_name p.database.items ++ fs)
+            (one_if_changed (is_same (kept_bytes files image_name) p.image.items) p.image_changed image_name p.image.items
+            (cmp.image_changed ∙ ap (λ (b : List ℕ). not (is_same (kept_bytes files image_name) b)) (sym cmp.image))));
       },
     )
 

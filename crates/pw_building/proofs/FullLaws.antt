@@ -1,11 +1,12 @@
 -- Builds over genuine objects are full builds, and leave genuine objects.
-use Rattle.std.proofs.Common.{◌≡◌, ℕ, ◌≤◌, cond, inl, inr, Bool, true, false, List, [], ◌∷◌, ◌++◌, codes, Option, Result, Ok, Err, refl, sym, ap, subst}
+use Rattle.std.proofs.Common.{◌≡◌, ℕ, ◌≤◌, cond, inl, inr, Bool, true, false, List, [], ◌∷◌, ◌++◌, Option, Result, Ok, Err, refl, sym, ap, subst}
 use Rattle.std.specs.List.{AllByRecursion}
 use Rattle.std.specs.FinMap as finite
 use Rattle.pw_io.specs.Files.{Files, Told}
 use Rattle.pw_object.specs.declared.object.Object.{Object}
 use Rattle.pw_image.specs.Image.{Contents, ImageValue, IsImageFile}
 use Rattle.pw_link.specs.Linking.{linked}
+use Rattle.pw_modules.specs.FileNames.{database_name, image_name, object_name}
 use Rattle.pw_modules.specs.Modules.{Source, module_map, modules_of, names_of_modules}
 use Rattle.pw_answer.specs.Effects.{after_puts}
 use Rattle.pw_making.specs.Programs.{Parts}
@@ -13,7 +14,7 @@ use Rattle.pw_making.specs.Kept.{all_fresh}
 use Rattle.pw_filing.specs.FromBuild.BuildFault.{BuildFault}
 use Rattle.pw_filing.specs.FromBuild.Builds.{Builds, Texts, first_phases}
 use Rattle.pw_filing.specs.FromBuild.Full.{built_anew}
-use Rattle.pw_kept.specs.Kept.{is_same, kept_bytes, object_name}
+use Rattle.pw_kept.specs.Kept.{is_same, kept_bytes}
 use Rattle.pw_kept.specs.Files.{made_anew}
 use Rattle.pw_building.specs.Building.{BuildComes, IsOutcome, Outcome, if_changed, kept_objects}
 use Rattle.pw_building.specs.Full.{BuildsImage, image_of}
@@ -71,11 +72,11 @@ objects_good files colours stack parts outcome builds o =
 
 outcome_good : (files : Files) (colours stack : ℕ) (parts : Parts) (outcome : Outcome) → Builds (modules_of files) (kept_objects files) colours stack (Ok parts) → IsOutcome files stack parts outcome → AllByRecursion IsOwnFile outcome.puts
 outcome_good files colours stack parts outcome builds o =
-    let db = if_changed files (codes "prog.db") o.database in
-    let img = if_changed files (codes "prog.img") outcome.image in
+    let db = if_changed files database_name o.database in
+    let img = if_changed files image_name outcome.image in
     subst (AllByRecursion IsOwnFile) (sym o.puts)
     (good_append o.objects (db ++ img) (objects_good files colours stack parts outcome builds o)
-    (good_append db img (if_changed_good files (codes "prog.db") o.database (inr (inl refl)) no_database) (if_changed_good files (codes "prog.img") outcome.image (inr (inr refl)) no_image)))
+    (good_append db img (if_changed_good files database_name o.database (inr (inl refl)) no_database) (if_changed_good files image_name outcome.image (inr (inr refl)) no_image)))
 
 pub genuine_left : FileLaws → (told : Told) (colours stack : ℕ) (outcome : Outcome) → KeepsGenuine told.files → BuildComes told.files colours stack (Ok outcome) → KeepsGenuine (after_puts told outcome.puts).files
 genuine_left laws told colours stack outcome keeps h = after_keeps laws told outcome.puts keeps (own_genuine outcome.puts (outcome_good told.files colours stack h.0 outcome h.1 h.2))

@@ -13,6 +13,7 @@ use Rattle.pw_value.specs.FieldLaws.{AreBytes}
 use Rattle.pw_value.proofs.FieldLaws.{AreBytes-take}
 use Rattle.pw_flow.specs.declared.flow.FlowModule.{FlowModule}
 use Rattle.pw_object.specs.declared.object.Object.{Object}
+use Rattle.pw_modules.specs.FileNames.{database_name, image_name, object_ending, object_name}
 use Rattle.pw_modules.specs.Modules.{Source}
 use Rattle.pw_answer.specs.Effects.{NamedFile, PutPart, PutsFiles, IsLeft, after_puts}
 use Rattle.pw_making.specs.Programs.{AreObjectsFrom, DirectivesList, Parts, kept_behind}
@@ -22,7 +23,7 @@ use Rattle.pw_filing.specs.FromBuild.Unbuilt.{Unbuilt}
 use Rattle.pw_filing.specs.FromBuild.Builds.{BuildsBy, first_phases}
 use Rattle.pw_kept.specs.declared.files.ProgramFiles.{ProgramFiles}
 use Rattle.pw_kept.specs.declared.prepared.Prepared.{Prepared}
-use Rattle.pw_kept.specs.Kept.{counted, kept_object, object_in, object_name}
+use Rattle.pw_kept.specs.Kept.{counted, kept_object, object_in}
 use Rattle.pw_kept.specs.Files.{AreObjectFiles, HoldBytes, IsCompared, changed_files, file_view, made_anew, one_if}
 use Rattle.pw_building.specs.declared.report.Opts.{Opts}
 use Rattle.pw_building.specs.declared.report.Report.{Report}
@@ -145,11 +146,11 @@ files_good (m ∷ ms) [] genuine fits h = absurd h
 files_good (m ∷ ms) (f ∷ fs) genuine fits h = ((inl (m.0, h.0), λ name named. (m.1, fits.0, h.1, genuine.0)), files_good ms fs genuine.1 fits.1 h.2)
 
 -- `prog.db` and `prog.img` are no object's files
-apart_at : (name file ending : List ℕ) (n : ℕ) → length file ≡ n + 4 → drop n file ≡ ending → name ++ codes ".obj" ≡ file → codes ".obj" ≡ ending
+apart_at : (name file ending : List ℕ) (n : ℕ) → length file ≡ n + 4 → drop n file ≡ ending → object_name name ≡ file → object_ending ≡ ending
 apart_at name file ending n size end e =
-    let l = length-append name (codes ".obj") in
+    let l = length-append name object_ending in
     let k : length name ≡ n = omega (arith, l, ap length e, size) in
-    sym (drop_at name (codes ".obj") n k) ∙ ap (drop n) e ∙ end
+    sym (drop_at name object_ending n k) ∙ ap (drop n) e ∙ end
 
 first_is : (a b : ℕ) (xs ys : List ℕ) → a ∷ xs ≡ b ∷ ys → a ≡ b
 first_is a b xs ys e = cc
@@ -157,16 +158,16 @@ first_is a b xs ys e = cc
 rest_is : (a b : ℕ) (xs ys : List ℕ) → a ∷ xs ≡ b ∷ ys → xs ≡ ys
 rest_is a b xs ys e = cc
 
-pub no_database : (name : List ℕ) → name ++ codes ".obj" ≡ codes "prog.db" → ⊥
-no_database name e = differ (apart_at name (codes "prog.db") (codes "g.db") 3 refl refl e)
+pub no_database : (name : List ℕ) → object_name name ≡ database_name → ⊥
+no_database name e = differ (apart_at name database_name (codes "g.db") 3 refl refl e)
   where
-    differ : codes ".obj" ≡ codes "g.db" → ⊥
+    differ : object_ending ≡ codes "g.db" → ⊥
     differ e = let h : 46 ≡ 103 = first_is 46 103 _ _ e in omega (arith, h)
 
-pub no_image : (name : List ℕ) → name ++ codes ".obj" ≡ codes "prog.img" → ⊥
-no_image name e = differ (apart_at name (codes "prog.img") (codes ".img") 4 refl refl e)
+pub no_image : (name : List ℕ) → object_name name ≡ image_name → ⊥
+no_image name e = differ (apart_at name image_name (codes ".img") 4 refl refl e)
   where
-    differ : codes ".obj" ≡ codes ".img" → ⊥
+    differ : object_ending ≡ codes ".img" → ⊥
     differ e = let h : 111 ≡ 105 = first_is 111 105 _ _ (rest_is 46 46 _ _ e) in omega (arith, h)
 
 pub alone_good : (changed : Bool) (name bytes : List ℕ) → IsBuiltName name → ((other : List ℕ) → object_name other ≡ name → ⊥) → AllByRecursion IsOwnFile (one_if changed name bytes)
@@ -189,10 +190,10 @@ good_told files sources kept opts made p count builds fits cmp =
     let anew = made_anew (map (λ s. s.0) sources) builds.0.objects builds.0.fresh in
     let genuine : AllByRecursion (λ m. IsGenuine m.1) anew = parts_genuine (map (λ s. s.0) sources) (first_phases sources) kept opts.colours opts.stack builds.0 builds.1 in
     let own : AllByRecursion IsOwnFile (map file_view made.fresh.files.items) = files_good anew (map file_view made.fresh.files.items) genuine fits builds.2.objects in
-    let db = one_if p.database_changed (codes "prog.db") p.database.items in
-    let img = one_if p.image_changed (codes "prog.img") p.image.items in
+    let db = one_if p.database_changed database_name p.database.items in
+    let img = one_if p.image_changed image_name p.image.items in
     good_append (map file_view p.objects.items) (db ++ img) (subst (λ fs. AllByRecursion IsOwnFile (map file_view fs)) (sym cmp.objects) own)
-    (good_append db img (alone_good p.database_changed (codes "prog.db") p.database.items (inr (inl refl)) no_database) (alone_good p.image_changed (codes "prog.img") p.image.items (inr (inr refl)) no_image))
+    (good_append db img (alone_good p.database_changed database_name p.database.items (inr (inl refl)) no_database) (alone_good p.image_changed image_name p.image.items (inr (inr refl)) no_image))
 
 pub good_prepared : (opts : Opts) (first now : Option Told) (sources : List Source) (kept : Told → List (Option Object)) (made : ProgramFiles) (p : Prepared) (count : ℕ) → IfSome first (λ told. BuildsFiles sources (kept told) opts.colours opts.stack made) → HoldBytes (map file_view made.fresh.files.items)
     → Keeps first now → IfSome now (λ told. IsCompared told.files count made p) → IfSome first (λ told. AllByRecursion IsOwnFile (changed_files p))

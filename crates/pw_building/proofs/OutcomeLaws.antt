@@ -1,11 +1,12 @@
 -- The files of a store come to one build.
-use Rattle.std.proofs.Common.{◌≡◌, ℕ, ◌≤◌, List, [], ◌∷◌, ◌++◌, codes, Option, Result, Ok, Err, refl, sym, ap, ◌∙◌, subst}
+use Rattle.std.proofs.Common.{◌≡◌, ℕ, ◌≤◌, List, [], ◌∷◌, ◌++◌, Option, Result, Ok, Err, refl, sym, ap, ◌∙◌, subst}
 use Rattle.pw_io.specs.Files.{Files}
 use Rattle.pw_db.specs.declared.database.Directives.{Directives}
 use Rattle.pw_db.specs.Database.{IsDatabaseFile}
 use Rattle.pw_object.specs.declared.object.Object.{Object}
 use Rattle.pw_object.specs.Object.{IsObjectFile}
 use Rattle.pw_image.specs.Image.{Contents, ImageValue, IsImageFile}
+use Rattle.pw_modules.specs.FileNames.{database_name, image_name}
 use Rattle.pw_modules.specs.Modules.{Source, modules_of, names_of_modules}
 use Rattle.pw_answer.specs.Effects.{NamedFile}
 use Rattle.pw_making.specs.Programs.{Parts}
@@ -47,9 +48,9 @@ outcome_one laws files stack parts o p a b =
     let database : a.database ≡ b.database = laws.database a.database b.database parts.database a.database_file b.database_file in
     let image : o.image ≡ p.image = laws.image o.image p.image _ _ a.image_file b.image_file refl in
     let puts : o.puts ≡ p.puts = a.puts
-    ∙ ap (λ (zs : List NamedFile). zs ++ (if_changed files (codes "prog.db") a.database ++ if_changed files (codes "prog.img") o.image)) objects
-    ∙ ap (λ (z : List ℕ). b.objects ++ (if_changed files (codes "prog.db") z ++ if_changed files (codes "prog.img") o.image)) database
-    ∙ ap (λ (z : List ℕ). b.objects ++ (if_changed files (codes "prog.db") b.database ++ if_changed files (codes "prog.img") z)) image
+    ∙ ap (λ (zs : List NamedFile). zs ++ (if_changed files database_name a.database ++ if_changed files image_name o.image)) objects
+    ∙ ap (λ (z : List ℕ). b.objects ++ (if_changed files database_name z ++ if_changed files image_name o.image)) database
+    ∙ ap (λ (z : List ℕ). b.objects ++ (if_changed files database_name b.database ++ if_changed files image_name z)) image
     ∙ sym b.puts in
     λ i. record {
       modules = (a.modules ∙ sym b.modules) i;

@@ -4,24 +4,25 @@ use Rattle.std.specs.FinMap as finite
 use Rattle.std.proofs.Math.Seq.{drop-append-add}
 use Rattle.std.proofs.lemmas.Slice.Eq.{bytes_eq-Decides}
 use Rattle.pw_io.specs.Files.{Files}
+use Rattle.pw_modules.specs.FileNames.{text_ending, object_ending, object_name}
 use Rattle.pw_modules.specs.Modules.{is_module_file, is_module_name, stem}
-use Rattle.pw_kept.specs.Kept.{counted, object_in, object_name}
+use Rattle.pw_kept.specs.Kept.{counted, object_in}
 use Rattle.pw_building.specs.Genuine.{KeepsGenuine}
 
 both : (a b : Bool) → (a && b) ≡ true → (a ≡ true) × (b ≡ true)
 both true b h = (refl, h)
 both false b h = absurd (true≢false (sym h))
 
-text_ends : (file : List ℕ) → is_module_file file ≡ true → drop (length file - 2) file ≡ codes ".i"
-text_ends file h = (bytes_eq-Decides (drop (length file - 2) file) (codes ".i")).0 (both _ (is_module_name (stem file)) (both _ _ h).1).0
+text_ends : (file : List ℕ) → is_module_file file ≡ true → drop (length file - 2) file ≡ text_ending
+text_ends file h = (bytes_eq-Decides (drop (length file - 2) file) text_ending).0 (both _ (is_module_name (stem file)) (both _ _ h).1).0
 
 object_ends : (name : List ℕ) → drop (length (object_name name) - 2) (object_name name) ≡ codes "bj"
 object_ends name =
-    let l = length-append name (codes ".obj") in
+    let l = length-append name object_ending in
     let k : length (object_name name) - 2 ≡ length name + 2 = omega (arith, l) in
-    ap (λ (n : ℕ). drop n (object_name name)) k ∙ drop-append-add name (codes ".obj") 2
+    ap (λ (n : ℕ). drop n (object_name name)) k ∙ drop-append-add name object_ending 2
 
-endings_differ : codes ".i" ≡ codes "bj" → ⊥
+endings_differ : text_ending ≡ codes "bj" → ⊥
 endings_differ e = cc
 
 not_object : (file name : List ℕ) → is_module_file file ≡ true → object_name name ≢ file

@@ -1,17 +1,18 @@
 -- What a build comes to over the files of a store: its report, and the files that it puts.
-use Rattle.std.specs.Prelude.{◌≡◌, ℕ, if◌then◌else◌, List, [], ◌∷◌, ◌++◌, codes, length, map, Option, Result, Ok, Err}
+use Rattle.std.specs.Prelude.{◌≡◌, ℕ, if◌then◌else◌, List, [], ◌∷◌, ◌++◌, length, map, Option, Result, Ok, Err}
 use Rattle.pw_io.specs.Files.{Files}
 use Rattle.pw_db.specs.Database.{IsDatabaseFile}
 use Rattle.pw_object.specs.declared.object.Object.{Object}
 use Rattle.pw_image.specs.Image.{IsImageFile}
 use Rattle.pw_link.specs.Linking.{linked}
+use Rattle.pw_modules.specs.FileNames.{database_name, image_name}
 use Rattle.pw_modules.specs.Modules.{modules_of, names_of_modules}
 use Rattle.pw_answer.specs.Effects.{NamedFile}
 use Rattle.pw_making.specs.Programs.{Parts}
 use Rattle.pw_filing.specs.FromBuild.BuildFault.{BuildFault}
 use Rattle.pw_filing.specs.FromBuild.Builds.{Builds}
 use Rattle.pw_kept.specs.Kept.{is_same, kept_bytes}
-pub use Rattle.pw_kept.specs.Kept.{counted, kept_object, object_in, object_name}
+pub use Rattle.pw_kept.specs.Kept.{counted, kept_object, object_in}
 use Rattle.pw_kept.specs.Files.{AreObjectFiles, HoldBytes, made_anew}
 
 -- the objects that are kept of all modules, in their order
@@ -44,7 +45,7 @@ pub record IsOutcome (files : Files) (stack : ℕ) (parts : Parts) (outcome : Ou
   pub database_file : IsDatabaseFile database parts.database
   pub image_names : List (List ℕ)
   pub image_file : IsImageFile outcome.image (record { names = image_names; value = linked parts.objects stack })
-  pub puts : outcome.puts ≡ objects ++ (if_changed files (codes "prog.db") database ++ if_changed files (codes "prog.img") outcome.image)
+  pub puts : outcome.puts ≡ objects ++ (if_changed files database_name database ++ if_changed files image_name outcome.image)
 
 -- A build over the files of a store, for so many registers and such a stack, comes to this: its modules and the objects
 -- that are kept of them come to parts of a program and these to the outcome; or to a fault, and nothing is put.

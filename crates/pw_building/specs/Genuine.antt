@@ -1,14 +1,15 @@
 -- Kept objects that the second phase made.
-use Rattle.std.specs.Prelude.{◌≡◌, ℕ, ◌⊎◌, List, Option, Some, IsSomeAnd, codes, true}
+use Rattle.std.specs.Prelude.{◌≡◌, ℕ, ◌⊎◌, List, Option, Some, IsSomeAnd, true}
 use Rattle.std.specs.FinMap as finite
 use Rattle.pw_io.specs.Files.{Files, Told}
 use Rattle.pw_value.specs.FieldLaws.{AreBytes}
 use Rattle.pw_object.specs.declared.object.Object.{Object}
 use Rattle.pw_object.specs.Object.{IsObjectFile}
+use Rattle.pw_modules.specs.FileNames.{database_name, image_name, object_name}
 use Rattle.pw_modules.specs.Modules.{is_module_name}
 use Rattle.pw_answer.specs.Effects.{NamedFile}
 use Rattle.pw_making.specs.Kept.{IsGenuine}
-use Rattle.pw_kept.specs.Kept.{kept_object, object_name}
+use Rattle.pw_kept.specs.Kept.{kept_object}
 
 -- Each file of an object that stands there under a module's name is that of what the second phase makes of the flow graph
 -- and the directives that stand in it.
@@ -17,7 +18,7 @@ KeepsGenuine files = (name : List ℕ) (object : Object) → is_module_name name
 
 -- the name is that of an object's file, the database's or the image's
 abbrev pub IsBuiltName : List ℕ → Type 0
-IsBuiltName name = ((module_name : List ℕ) × (name ≡ object_name module_name)) ⊎ (name ≡ codes "prog.db") ⊎ (name ≡ codes "prog.img")
+IsBuiltName name = ((module_name : List ℕ) × (name ≡ object_name module_name)) ⊎ (name ≡ database_name) ⊎ (name ≡ image_name)
 
 -- files of other names are as they were
 abbrev pub LeavesOthers : Told → Option Told → Type 0

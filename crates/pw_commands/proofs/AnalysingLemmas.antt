@@ -1,5 +1,5 @@
 -- What `analyse` answered and put, by the one database of the summaries.
-use Rattle.std.proofs.Common.{◌≡◌, ℕ, ⊎_elim, inl, inr, List, [], ◌∷◌, codes, map, Option, Some, None, Result, Ok, Err, refl, sym, ap, ◌∙◌, subst}
+use Rattle.std.proofs.Common.{◌≡◌, ℕ, ⊎_elim, inl, inr, List, [], ◌∷◌, map, Option, Some, None, Result, Ok, Err, refl, sym, ap, ◌∙◌, subst}
 use Rattle.std.specs.Prelude.{IfSome, Vec}
 use Rattle.std.specs.declared.alloc.Global.{Global}
 use Rattle.pw_io.specs.Files.{Told, Keeps}
@@ -11,6 +11,7 @@ use Rattle.pw_db.specs.declared.database.Directives.{Directives}
 use Rattle.pw_db.specs.Database.{IsDatabaseFile}
 use Rattle.pw_graph.specs.Program.{AreLinked, AreRefused, interface_of}
 use Rattle.pw_colour.specs.Colours.{IsDatabaseOf}
+use Rattle.pw_modules.specs.FileNames.{database_name}
 use Rattle.pw_answer.specs.declared.answer.Answer.{Answer}
 use Rattle.pw_answer.specs.declared.answer.Answer.TheVariants.{LinkRefused, StoreFault, NoMemory}
 use Rattle.pw_answer.specs.Effects.{Effect, PutsFiles, answers_alone, puts_files}
@@ -32,25 +33,25 @@ one_file laws ss colours bytes others a b =
     let same : b.0 ≡ a.0 = laws.database ss colours b.0 a.0 b.1 a.1 in
     laws.file bytes others a.0 a.2 (subst (IsDatabaseFile others) same b.2)
 
-analysed_alone : Laws → (ss : List Summary) (colours : ℕ) (input bytes : List ℕ) → AreLinked ss → IsDatabaseFileOf ss colours bytes → (e : Effect) → ComesOfSummaries ss colours input e → e ≡ puts_files ((codes "prog.db", bytes) ∷ []) input
+analysed_alone : Laws → (ss : List Summary) (colours : ℕ) (input bytes : List ℕ) → AreLinked ss → IsDatabaseFileOf ss colours bytes → (e : Effect) → ComesOfSummaries ss colours input e → e ≡ puts_files ((database_name, bytes) ∷ []) input
 analysed_alone laws ss colours input bytes linked file e c =
-    ⊎_elim {C = e ≡ puts_files ((codes "prog.db", bytes) ∷ []) input}
+    ⊎_elim {C = e ≡ puts_files ((database_name, bytes) ∷ []) input}
     (λ r. absurd (laws.not_both (map interface_of ss) r.0 linked r.1))
-    (λ l. l.1.2 ∙ ap (λ (b : List ℕ). puts_files ((codes "prog.db", b) ∷ []) input) (one_file laws ss colours l.1.0 bytes l.1.1 file))
+    (λ l. l.1.2 ∙ ap (λ (b : List ℕ). puts_files ((database_name, b) ∷ []) input) (one_file laws ss colours l.1.0 bytes l.1.1 file))
     c
 
-over_analysed : Laws → (wanted : Result (List Summary) Answer) (colours : ℕ) (bytes : List ℕ) (answer : Answer) (told : Told) (new : Option Told) (input : List ℕ) → AnalysedFile wanted colours bytes → IsPutAnswer answer → PutsFiles ((codes "prog.db", bytes) ∷ []) answer told new → Obeys (AnalyseOver wanted colours input) answer told new
+over_analysed : Laws → (wanted : Result (List Summary) Answer) (colours : ℕ) (bytes : List ℕ) (answer : Answer) (told : Told) (new : Option Told) (input : List ℕ) → AnalysedFile wanted colours bytes → IsPutAnswer answer → PutsFiles ((database_name, bytes) ∷ []) answer told new → Obeys (AnalyseOver wanted colours input) answer told new
 over_analysed laws (Ok ss) colours bytes answer told new input file h puts =
-    obeys_one (AnalyseOver (Ok ss) colours input) (puts_files ((codes "prog.db", bytes) ∷ []) input) answer told new (inr (file.0, (bytes, file.1, refl)))
+    obeys_one (AnalyseOver (Ok ss) colours input) (puts_files ((database_name, bytes) ∷ []) input) answer told new (inr (file.0, (bytes, file.1, refl)))
     (analysed_alone laws ss colours input bytes file.0 file.1) (put_answers answer h) puts
 over_analysed laws (Err refusal) colours bytes answer told new input file h puts = absurd file
 
 -- the database was put, as far as the store put it
 pub obeys_analysed : Laws → (first now new : Option Told) (colours : ℕ) (bytes : List ℕ) (answer : Answer) → IfSome first (λ t. AnalysedFile (summaries_of t.files) colours bytes) → Keeps first now
-    → IfSome now (λ t. PutsFiles ((codes "prog.db", bytes) ∷ []) answer t new) → IsPutAnswer answer → IfSome first (λ t. (input : List ℕ) → Obeys (AnalyseComes t.files colours input) answer t new)
+    → IfSome now (λ t. PutsFiles ((database_name, bytes) ∷ []) answer t new) → IsPutAnswer answer → IfSome first (λ t. (input : List ℕ) → Obeys (AnalyseComes t.files colours input) answer t new)
 obeys_analysed laws None now new colours bytes answer file same puts h = tt
 obeys_analysed laws (Some told) now new colours bytes answer file same puts h =
-    let P : Option Told → Type 0 = λ o. IfSome o (λ t. PutsFiles ((codes "prog.db", bytes) ∷ []) answer t new) in
+    let P : Option Told → Type 0 = λ o. IfSome o (λ t. PutsFiles ((database_name, bytes) ∷ []) answer t new) in
     λ input. over_analysed laws (summaries_of told.files) colours bytes answer told new input file h (subst P same puts)
 
 refused_alone : Laws → (ss : List Summary) (colours : ℕ) (input : List ℕ) (fault : LinkFault) → AreRefused ss fault → (e : Effect) → ComesOfSummaries ss colours input e → e ≡ answers_alone (LinkRefused fault) input

@@ -1,5 +1,5 @@
 -- What a command answered and put, by the one effect to which it comes.
-use Rattle.std.proofs.Common.{◌≡◌, ℕ, ⊎_elim, inl, inr, List, [], ◌∷◌, codes, Option, Some, None, Result, Ok, Err, refl, sym, ap, ◌∙◌, subst}
+use Rattle.std.proofs.Common.{◌≡◌, ℕ, ⊎_elim, inl, inr, List, [], ◌∷◌, Option, Some, None, Result, Ok, Err, refl, sym, ap, ◌∙◌, subst}
 use Rattle.std.specs.Prelude.{IfSome, Vec}
 use Rattle.std.specs.declared.alloc.Global.{Global}
 use Rattle.pw_io.specs.Files.{Files, Told, Keeps}
@@ -7,6 +7,7 @@ use Rattle.pw_value.specs.declared.fault.LinkFault.{LinkFault}
 use Rattle.pw_object.specs.declared.object.Object.{Object}
 use Rattle.pw_image.specs.Image.{Contents, ImageValue, IsImageFile}
 use Rattle.pw_link.specs.Linking.{linked, AreLinked, IsRefusal}
+use Rattle.pw_modules.specs.FileNames.{image_name}
 use Rattle.pw_answer.specs.declared.answer.Answer.{Answer}
 use Rattle.pw_answer.specs.declared.answer.Answer.TheVariants.{Done, LinkRefused, ReadFault, WriteFault, StoreFault, NoMemory, BadFile}
 use Rattle.pw_answer.specs.Effects.{Effect, NamedFile, PutsFiles, PutPart, PutFront, IsLeft, answers_alone, puts_files}
@@ -61,11 +62,11 @@ NotBoth = (objects : List Object) (stack : ℕ) (fault : LinkFault) → AreLinke
 abbrev pub OneFault : Type 0
 OneFault = (objects : List Object) (stack : ℕ) (fault other : LinkFault) → IsRefusal objects stack fault → IsRefusal objects stack other → fault ≡ other
 
-linked_alone : OneFile → NotBoth → (objects : List Object) (stack : ℕ) (input bytes : List ℕ) → AreLinked objects stack → IsImageOf objects stack bytes → (e : Effect) → ComesOfObjects objects stack input e → e ≡ puts_files ((codes "prog.img", bytes) ∷ []) input
+linked_alone : OneFile → NotBoth → (objects : List Object) (stack : ℕ) (input bytes : List ℕ) → AreLinked objects stack → IsImageOf objects stack bytes → (e : Effect) → ComesOfObjects objects stack input e → e ≡ puts_files ((image_name, bytes) ∷ []) input
 linked_alone one not_both objects stack input bytes linked image e c =
-    ⊎_elim {C = e ≡ puts_files ((codes "prog.img", bytes) ∷ []) input}
+    ⊎_elim {C = e ≡ puts_files ((image_name, bytes) ∷ []) input}
     (λ r. absurd (not_both objects stack r.0 linked r.1))
-    (λ l. l.1.2 ∙ ap (λ (b : List ℕ). puts_files ((codes "prog.img", b) ∷ []) input) (one l.1.0 bytes _ _ l.1.1.1 image.1 refl))
+    (λ l. l.1.2 ∙ ap (λ (b : List ℕ). puts_files ((image_name, b) ∷ []) input) (one l.1.0 bytes _ _ l.1.1.1 image.1 refl))
     c
 
 pub put_answers : (answer : Answer) → IsPutAnswer answer → Answers Done answer
@@ -74,18 +75,18 @@ put_answers StoreFault h = tt
 put_answers NoMemory h = tt
 put_answers _ h = absurd h
 
-over_linked : OneFile → NotBoth → (wanted : Result (List Object) Answer) (stack : ℕ) (bytes : List ℕ) (answer : Answer) (told : Told) (new : Option Told) (input : List ℕ) → LinkedFile wanted stack bytes → IsPutAnswer answer → PutsFiles ((codes "prog.img", bytes) ∷ []) answer told new → Obeys (LinkOver wanted stack input) answer told new
+over_linked : OneFile → NotBoth → (wanted : Result (List Object) Answer) (stack : ℕ) (bytes : List ℕ) (answer : Answer) (told : Told) (new : Option Told) (input : List ℕ) → LinkedFile wanted stack bytes → IsPutAnswer answer → PutsFiles ((image_name, bytes) ∷ []) answer told new → Obeys (LinkOver wanted stack input) answer told new
 over_linked one not_both (Ok objects) stack bytes answer told new input image h puts =
-    obeys_one (LinkOver (Ok objects) stack input) (puts_files ((codes "prog.img", bytes) ∷ []) input) answer told new (inr (image.0, (bytes, image.1, refl)))
+    obeys_one (LinkOver (Ok objects) stack input) (puts_files ((image_name, bytes) ∷ []) input) answer told new (inr (image.0, (bytes, image.1, refl)))
     (linked_alone one not_both objects stack input bytes image.0 image.1) (put_answers answer h) puts
 over_linked one not_both (Err refusal) stack bytes answer told new input image h puts = absurd image
 
 -- the image was put, as far as the store put it
 pub obeys_linked : OneFile → NotBoth → (first now new : Option Told) (stack : ℕ) (bytes : List ℕ) (answer : Answer) → IfSome first (λ t. LinkedFile (objects_of t.files) stack bytes) → Keeps first now
-    → IfSome now (λ t. PutsFiles ((codes "prog.img", bytes) ∷ []) answer t new) → IsPutAnswer answer → IfSome first (λ t. (input : List ℕ) → Obeys (LinkComes t.files stack input) answer t new)
+    → IfSome now (λ t. PutsFiles ((image_name, bytes) ∷ []) answer t new) → IsPutAnswer answer → IfSome first (λ t. (input : List ℕ) → Obeys (LinkComes t.files stack input) answer t new)
 obeys_linked one not_both None now new stack bytes answer image same puts h = tt
 obeys_linked one not_both (Some told) now new stack bytes answer image same puts h =
-    let P : Option Told → Type 0 = λ o. IfSome o (λ t. PutsFiles ((codes "prog.img", bytes) ∷ []) answer t new) in
+    let P : Option Told → Type 0 = λ o. IfSome o (λ t. PutsFiles ((image_name, bytes) ∷ []) answer t new) in
     λ input. over_linked one not_both (objects_of told.files) stack bytes answer told new input image h (subst P same puts)
 
 refused_alone : NotBoth → OneFault → (objects : List Object) (stack : ℕ) (input : List ℕ) (fault : LinkFault) → IsRefusal objects stack fault → (e : Effect) → ComesOfObjects objects stack input e → e ≡ answers_alone (LinkRefused fault) input

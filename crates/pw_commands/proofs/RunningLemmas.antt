@@ -1,5 +1,5 @@
 -- What `run` comes to where it does not run, and the machine that was loaded.
-use Rattle.std.proofs.Common.{◌≡◌, ℕ, List, [], ◌++◌, codes, Option, Some, None, Result, Ok, Err, refl, sym, ap, ◌∙◌, subst}
+use Rattle.std.proofs.Common.{◌≡◌, ℕ, List, [], Option, Some, None, Result, Ok, Err, refl, sym, ap, ◌∙◌, subst}
 use Rattle.std.specs.Prelude.{IfSome}
 use Rattle.pw_io.specs.Files.{Files, Told}
 use Rattle.pw_image.specs.Image.{Contents, ImageValue}
@@ -8,6 +8,7 @@ use Rattle.pw_image.specs.Reading.{image_file_at}
 use Rattle.pw_machine.specs.Core.{Core}
 use Rattle.pw_machine.specs.Start.{image_start}
 use Rattle.pw_machine.specs.Stops.{Snapshot, loaded}
+use Rattle.pw_modules.specs.FileNames.{image_name}
 use Rattle.pw_answer.specs.declared.answer.Answer.{Answer}
 use Rattle.pw_answer.specs.declared.answer.Answer.TheVariants.{StoreFault, NoMemory, BadFile}
 use Rattle.pw_answer.specs.Outcomes.{LeavesInput, WasReadInPart}
@@ -71,17 +72,17 @@ stop_is_no_refusal (BadFile name at) h = tt
 stop_is_no_refusal _ h = absurd h
 
 -- the bytes that were read are those that count, and the machine is the one that they hold
-pub machine_needed : (told : Option Told) (bytes : List ℕ) (machine : Snapshot) → IfSome told (λ t. needed_bytes t.files (codes "prog.img") ≡ Ok bytes) → loaded_as loaded (image_file_at bytes) ≡ Ok machine → IfSome told (λ t. core_in t.files ≡ Ok machine.core)
+pub machine_needed : (told : Option Told) (bytes : List ℕ) (machine : Snapshot) → IfSome told (λ t. needed_bytes t.files image_name ≡ Ok bytes) → loaded_as loaded (image_file_at bytes) ≡ Ok machine → IfSome told (λ t. core_in t.files ≡ Ok machine.core)
 machine_needed None bytes machine h e = tt
 machine_needed (Some t) bytes machine h e =
-    ap (read_by core_at (codes "prog.img")) h ∙ ap (found_in (codes "prog.img")) (core_of_loaded bytes machine e)
+    ap (read_by core_at image_name) h ∙ ap (found_in image_name) (core_of_loaded bytes machine e)
 
 bad_stops : (name : List ℕ) (at : ℕ) (answer : Answer) (wanted : Result Core Answer) → IsBadFile name (Some at) answer → wanted ≡ Err (BadFile name (Some at)) → StopsAs answer wanted
 bad_stops name at StoreFault wanted h e = tt
 bad_stops name at NoMemory wanted h e = tt
 bad_stops name at _ wanted h e = e ∙ ap (λ (a : Answer). Err a) (sym h)
 
-pub machine_refused : (told : Option Told) (bytes : List ℕ) (at : ℕ) (answer : Answer) → IfSome told (λ t. needed_bytes t.files (codes "prog.img") ≡ Ok bytes) → loaded_as loaded (image_file_at bytes) ≡ Err at → IsBadFile (codes "prog.img") (Some at) answer → IfSome told (λ t. StopsAs answer (core_in t.files))
+pub machine_refused : (told : Option Told) (bytes : List ℕ) (at : ℕ) (answer : Answer) → IfSome told (λ t. needed_bytes t.files image_name ≡ Ok bytes) → loaded_as loaded (image_file_at bytes) ≡ Err at → IsBadFile image_name (Some at) answer → IfSome told (λ t. StopsAs answer (core_in t.files))
 machine_refused None bytes at answer h e bad = tt
 machine_refused (Some t) bytes at answer h e bad =
-    bad_stops (codes "prog.img") at answer (core_in t.files) bad (ap (read_by core_at (codes "prog.img")) h ∙ ap (found_in (codes "prog.img")) (core_of_fault bytes at e))
+    bad_stops image_name at answer (core_in t.files) bad (ap (read_by core_at image_name) h ∙ ap (found_in image_name) (core_of_fault bytes at e))

@@ -1,5 +1,5 @@
 -- What a command that prints answered and put out.
-use Rattle.std.proofs.Common.{◌≡◌, ℕ, ◌<◌, List, [], ◌∷◌, ◌++◌, length, take, drop, codes, Option, Some, None, Result, Ok, Err, refl, sym, ap, ◌∙◌, subst, append-nil}
+use Rattle.std.proofs.Common.{◌≡◌, ℕ, ◌<◌, List, [], ◌∷◌, length, take, drop, Option, Some, None, Result, Ok, Err, refl, sym, ap, ◌∙◌, subst, append-nil}
 use Rattle.std.specs.Prelude.{IfSome, Vec}
 use Rattle.std.specs.declared.alloc.Global.{Global}
 use Rattle.std.proofs.lemmas.List.{take-append-drop}
@@ -8,6 +8,7 @@ use Rattle.pw_io.specs.Streams.{Appends, AppendsPart}
 use Rattle.pw_files.specs.Contents.{value_of}
 use Rattle.pw_image.specs.Image.{Contents, ImageValue}
 use Rattle.pw_image.specs.Reading.{image_file_at}
+use Rattle.pw_modules.specs.FileNames.{image_name}
 use Rattle.pw_list.specs.Listing.{IsListing, IsListingOf}
 use Rattle.pw_answer.specs.declared.answer.Answer.{Answer}
 use Rattle.pw_answer.specs.declared.answer.Answer.TheVariants.{Done, WriteFault, ReadFault, StoreFault, NoMemory, BadFile}
@@ -115,14 +116,14 @@ shows_not (Some t) answer taken stops h = λ input. stop_shows (DatabaseComes t.
 
 -- ---- what was read
 
-listed_image : (found : Result (Contents ImageValue) ℕ) (text : List ℕ) → IsListingOf found text → IsListed (found_in (codes "prog.img") (value_of found)) text
+listed_image : (found : Result (Contents ImageValue) ℕ) (text : List ℕ) → IsListingOf found text → IsListed (found_in image_name (value_of found)) text
 listed_image (Ok c) text h = h
 listed_image (Err at) text h = absurd h
 
-pub listing_needed : (told : Option Told) (bytes text : List ℕ) → IfSome told (λ t. needed_bytes t.files (codes "prog.img") ≡ Ok bytes) → IsListingOf (image_file_at bytes) text → IfSome told (λ t. IsListed (image_in t.files) text)
+pub listing_needed : (told : Option Told) (bytes text : List ℕ) → IfSome told (λ t. needed_bytes t.files image_name ≡ Ok bytes) → IsListingOf (image_file_at bytes) text → IfSome told (λ t. IsListed (image_in t.files) text)
 listing_needed None bytes text h is = tt
 listing_needed (Some t) bytes text h is =
-    subst (λ (w : Result (List ℕ) Answer). IsListed (read_by image_at (codes "prog.img") w) text) (sym h) (listed_image (image_file_at bytes) text is)
+    subst (λ (w : Result (List ℕ) Answer). IsListed (read_by image_at image_name w) text) (sym h) (listed_image (image_file_at bytes) text is)
 
 no_contents : (c : Contents ImageValue) (at : ℕ) → ◌≡◌ {A = Result (Contents ImageValue) ℕ} (Ok c) (Err at) → ⊥
 no_contents c at e = cc
@@ -130,16 +131,16 @@ no_contents c at e = cc
 err_is : (at other : ℕ) → ◌≡◌ {A = Result (Contents ImageValue) ℕ} (Err at) (Err other) → at ≡ other
 err_is at other e = cc
 
-fault_image : (found : Result (Contents ImageValue) ℕ) (at : ℕ) → found ≡ Err at → found_in (codes "prog.img") (value_of found) ≡ Err (BadFile (codes "prog.img") (Some at))
+fault_image : (found : Result (Contents ImageValue) ℕ) (at : ℕ) → found ≡ Err at → found_in image_name (value_of found) ≡ Err (BadFile image_name (Some at))
 fault_image (Ok c) at e = absurd (no_contents c at e)
-fault_image (Err other) at e = ap (λ (n : ℕ). Err (BadFile (codes "prog.img") (Some n))) (err_is other at e)
+fault_image (Err other) at e = ap (λ (n : ℕ). Err (BadFile image_name (Some n))) (err_is other at e)
 
 bad_stops : {V : Type 0} (name : List ℕ) (at : ℕ) (answer : Answer) (wanted : Result V Answer) → IsBadFile name (Some at) answer → wanted ≡ Err (BadFile name (Some at)) → StopsAs answer wanted
 bad_stops name at StoreFault wanted h e = tt
 bad_stops name at NoMemory wanted h e = tt
 bad_stops name at _ wanted h e = e ∙ ap (λ (a : Answer). Err a) (sym h)
 
-pub listing_refused : (told : Option Told) (bytes : List ℕ) (at : ℕ) (answer : Answer) → IfSome told (λ t. needed_bytes t.files (codes "prog.img") ≡ Ok bytes) → image_file_at bytes ≡ Err at → IsBadFile (codes "prog.img") (Some at) answer → IfSome told (λ t. StopsAs answer (image_in t.files))
+pub listing_refused : (told : Option Told) (bytes : List ℕ) (at : ℕ) (answer : Answer) → IfSome told (λ t. needed_bytes t.files image_name ≡ Ok bytes) → image_file_at bytes ≡ Err at → IsBadFile image_name (Some at) answer → IfSome told (λ t. StopsAs answer (image_in t.files))
 listing_refused None bytes at answer h e bad = tt
 listing_refused (Some t) bytes at answer h e bad =
-    bad_stops (codes "prog.img") at answer (image_in t.files) bad (ap (read_by image_at (codes "prog.img")) h ∙ fault_image (image_file_at bytes) at e)
+    bad_stops image_name at answer (image_in t.files) bad (ap (read_by image_at image_name) h ∙ fault_image (image_file_at bytes) at e)

@@ -1,5 +1,5 @@
 -- What `analyse` comes to: the database of the modules' summaries.
-use Rattle.std.specs.Prelude.{◌≡◌, ℕ, ◌⊎◌, List, [], ◌∷◌, codes, Result, Ok, Err, Vec}
+use Rattle.std.specs.Prelude.{◌≡◌, ℕ, ◌⊎◌, List, [], ◌∷◌, Result, Ok, Err, Vec}
 use Rattle.std.specs.declared.alloc.Global.{Global}
 use Rattle.pw_io.specs.Files.{Files}
 use Rattle.pw_value.specs.declared.fault.LinkFault.{LinkFault}
@@ -10,6 +10,7 @@ use Rattle.pw_db.specs.declared.database.Directives.{Directives}
 use Rattle.pw_db.specs.Database.{IsDatabaseFile}
 use Rattle.pw_graph.specs.Program.{AreLinked, AreRefused}
 use Rattle.pw_colour.specs.Colours.{IsDatabaseOf}
+use Rattle.pw_modules.specs.FileNames.{database_name, summary_ending}
 use Rattle.pw_answer.specs.declared.answer.Answer.{Answer}
 use Rattle.pw_answer.specs.declared.answer.Answer.TheVariants.{LinkRefused, StoreFault, NoMemory}
 use Rattle.pw_answer.specs.Effects.{Effect, answers_alone, puts_files}
@@ -21,7 +22,7 @@ summary_at bytes = value_of (summary_file_at bytes)
 
 -- the summaries of all modules; or that there are too many modules, or the first summary's file that is absent or refused
 abbrev pub summaries_of : Files → Result (List Summary) Answer
-summaries_of files = of_names summary_at (codes ".sum") files (few_names files)
+summaries_of files = of_names summary_at summary_ending files (few_names files)
 
 -- the file of the database of summaries
 abbrev pub IsDatabaseFileOf : List Summary → ℕ → List ℕ → Type 0
@@ -31,7 +32,7 @@ IsDatabaseFileOf summaries colours bytes = (db : List (List ℕ × Directives)) 
 abbrev pub ComesOfSummaries : List Summary → ℕ → List ℕ → Effect → Type 0
 ComesOfSummaries summaries colours input effect =
     ((fault : LinkFault) × AreRefused summaries fault × (effect ≡ answers_alone (LinkRefused fault) input))
-    ⊎ (AreLinked summaries × ((bytes : List ℕ) × IsDatabaseFileOf summaries colours bytes × (effect ≡ puts_files ((codes "prog.db", bytes) ∷ []) input)))
+    ⊎ (AreLinked summaries × ((bytes : List ℕ) × IsDatabaseFileOf summaries colours bytes × (effect ≡ puts_files ((database_name, bytes) ∷ []) input)))
 
 abbrev pub AnalyseOver : Result (List Summary) Answer → ℕ → List ℕ → Effect → Type 0
 AnalyseOver (Err answer) colours input effect = effect ≡ answers_alone answer input

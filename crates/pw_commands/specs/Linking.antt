@@ -1,5 +1,5 @@
 -- What `link` comes to: the image of the modules' objects.
-use Rattle.std.specs.Prelude.{◌≡◌, ℕ, ◌⊎◌, nat_le, List, [], ◌∷◌, ◌++◌, codes, length, map, if◌then◌else◌, Result, Ok, Err, Vec}
+use Rattle.std.specs.Prelude.{◌≡◌, ℕ, ◌⊎◌, nat_le, List, [], ◌∷◌, ◌++◌, length, map, if◌then◌else◌, Result, Ok, Err, Vec}
 use Rattle.std.specs.declared.alloc.Global.{Global}
 use Rattle.pw_io.specs.Files.{Files}
 use Rattle.pw_value.specs.Limits.{module_limit}
@@ -11,6 +11,7 @@ use Rattle.pw_object.specs.declared.object.Object.{Object}
 use Rattle.pw_object.specs.Reading.{object_file_at}
 use Rattle.pw_image.specs.Image.{IsImageFile}
 use Rattle.pw_link.specs.Linking.{linked, AreLinked, IsRefusal}
+use Rattle.pw_modules.specs.FileNames.{image_name, object_ending}
 use Rattle.pw_modules.specs.Modules.{names_of_modules}
 use Rattle.pw_answer.specs.declared.answer.Answer.{Answer}
 use Rattle.pw_answer.specs.declared.answer.Answer.TheVariants.{LinkRefused, StoreFault, NoMemory}
@@ -35,7 +36,7 @@ object_at bytes = value_of (object_file_at bytes)
 
 -- the objects of all modules; or that there are too many modules, or the first object's file that is absent or refused
 abbrev pub objects_of : Files → Result (List Object) Answer
-objects_of files = of_names object_at (codes ".obj") files (few_names files)
+objects_of files = of_names object_at object_ending files (few_names files)
 
 -- the file of the linked image
 abbrev pub IsImageOf : List Object → ℕ → List ℕ → Type 0
@@ -45,7 +46,7 @@ IsImageOf objects stack bytes = (names : List (List ℕ)) × IsImageFile bytes (
 abbrev pub ComesOfObjects : List Object → ℕ → List ℕ → Effect → Type 0
 ComesOfObjects objects stack input effect =
     ((fault : LinkFault) × IsRefusal objects stack fault × (effect ≡ answers_alone (LinkRefused fault) input))
-    ⊎ (AreLinked objects stack × ((bytes : List ℕ) × IsImageOf objects stack bytes × (effect ≡ puts_files ((codes "prog.img", bytes) ∷ []) input)))
+    ⊎ (AreLinked objects stack × ((bytes : List ℕ) × IsImageOf objects stack bytes × (effect ≡ puts_files ((image_name, bytes) ∷ []) input)))
 
 abbrev pub LinkOver : Result (List Object) Answer → ℕ → List ℕ → Effect → Type 0
 LinkOver (Err answer) stack input effect = effect ≡ answers_alone answer input

@@ -1,5 +1,5 @@
 -- What `run` comes to: the run of the program that stands in `prog.img`.
-use Rattle.std.specs.Prelude.{ℕ, List, [], codes, Result, Ok, Err}
+use Rattle.std.specs.Prelude.{ℕ, List, [], Result, Ok, Err}
 use Rattle.pw_io.specs.Files.{Files}
 use Rattle.pw_image.specs.Image.{ImageValue}
 use Rattle.pw_image.specs.Reading.{image_file_at}
@@ -7,6 +7,7 @@ use Rattle.pw_image.specs.Loading.{loaded_as}
 use Rattle.pw_machine.specs.Core.{Core}
 use Rattle.pw_machine.specs.Start.{image_start}
 use Rattle.pw_machine.specs.Run.{run_of}
+use Rattle.pw_modules.specs.FileNames.{image_name}
 use Rattle.pw_answer.specs.declared.answer.Answer.{Answer}
 use Rattle.pw_answer.specs.declared.answer.Answer.TheVariants.{Done, Usage, Refused, LinkRefused}
 use Rattle.pw_answer.specs.Effects.{Effect, answers_alone}
@@ -19,7 +20,7 @@ core_at bytes = loaded_as (λ image. image_start image.memory) (image_file_at by
 
 -- the machine at the start of the program that stands there
 abbrev pub core_in : Files → Result Core Answer
-core_in files = needed core_at files (codes "prog.img")
+core_in files = needed core_at files image_name
 
 abbrev pub runs : Result Core Answer → ℕ → List ℕ → Effect
 runs (Err answer) budget input = answers_alone answer input

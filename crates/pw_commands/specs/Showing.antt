@@ -1,5 +1,5 @@
 -- What `list` and `db` come to: the text of the file that stands there.
-use Rattle.std.specs.Prelude.{◌≡◌, ℕ, List, [], codes, Option, Result, Ok, Err, Vec}
+use Rattle.std.specs.Prelude.{◌≡◌, ℕ, List, [], Option, Result, Ok, Err, Vec}
 use Rattle.std.specs.declared.alloc.Global.{Global}
 use Rattle.pw_io.specs.Files.{Files}
 use Rattle.pw_files.specs.Contents.{value_of}
@@ -7,6 +7,7 @@ use Rattle.pw_image.specs.Image.{ImageValue}
 use Rattle.pw_image.specs.Reading.{image_file_at}
 use Rattle.pw_db.specs.declared.database.Directives.{Directives}
 use Rattle.pw_db.specs.Reading.{database_file_at}
+use Rattle.pw_modules.specs.FileNames.{database_name, image_name}
 use Rattle.pw_list.specs.Listing.{IsListing}
 use Rattle.pw_list.specs.DatabaseText.{text_of}
 use Rattle.pw_answer.specs.declared.answer.Answer.{Answer}
@@ -21,7 +22,7 @@ abbrev pub image_at : List ℕ → Result ImageValue ℕ
 image_at bytes = value_of (image_file_at bytes)
 
 abbrev pub image_in : Files → Result ImageValue Answer
-image_in files = needed image_at files (codes "prog.img")
+image_in files = needed image_at files image_name
 
 abbrev pub ListOver : Result ImageValue Answer → List ℕ → Effect → Type 0
 ListOver (Err answer) input effect = effect ≡ answers_alone answer input
@@ -40,7 +41,7 @@ texted (Ok functions) = Ok (text_of functions)
 texted (Err answer) = Err answer
 
 abbrev pub database_text : Files → Result (List ℕ) Answer
-database_text files = texted (needed database_at files (codes "prog.db"))
+database_text files = texted (needed database_at files database_name)
 
 abbrev pub printed : Result (List ℕ) Answer → List ℕ → Effect
 printed (Ok text) input = prints text input

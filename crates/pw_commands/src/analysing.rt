@@ -1,7 +1,8 @@
 //! The command `analyse`.
 
-ghost use Rattle.std.specs.Prelude.{◌≤◌, ℕ, List, [], ◌∷◌, All, IfErr, IfSome, codes};
+ghost use Rattle.std.specs.Prelude.{◌≤◌, ℕ, List, [], ◌∷◌, All, IfErr, IfSome};
 ghost use Rattle.pw_io.specs.Files.{Keeps};
+ghost use Rattle.pw_modules.specs.FileNames.{database_name};
 ghost use Rattle.pw_answer.specs.Outcomes.{StoreCount};
 ghost use Rattle.pw_summary.specs.Summary.{IsSummary};
 ghost use Rattle.pw_commands.specs.Analysing.{AnalyseComes, AnalysesInto, AnalysesOver, summaries_of};
@@ -16,6 +17,7 @@ use pw_colour::analyse;
 use pw_colour::laws::{databases_are_lawful, databases_are_one};
 use pw_db::laws::databases_and_files_are_one_to_one;
 use pw_io::Store;
+use pw_modules::{DATABASE_NAME, SUMMARY_ENDING};
 use pw_program::laws::modules_have_one_answer;
 use pw_summary::Summary;
 use pw_value::LinkFault;
@@ -47,7 +49,7 @@ fn analysed_file<S: Store>(alloc: Global, store: &mut S, colours: u8) -> Result<
     ensures count { StopCount (S.faults store.old) (S.faults store.new) result }
     ensures stop { IfErr result IsStop }
 {
-    match kept_of_modules(alloc, store, ".sum") {
+    match kept_of_modules(alloc, store, SUMMARY_ENDING) {
         Ok(summaries) => database_file(alloc, &summaries, colours),
         Err(answer) => Err(answer),
     }
@@ -61,7 +63,7 @@ fn analysed_file<S: Store>(alloc: Global, store: &mut S, colours: u8) -> Result<
 pub fn analyse_modules<S: Store>(alloc: Global, store: &mut S, colours: u8) -> Answer
     requires { colours ≤ colour_limit }
     ensures obeys { IfSome (S.told store.old) (λ told. (input : List ℕ) → Obeys (AnalyseComes told.files colours input) result told (S.told store.new)) }
-    ensures others { KeepsOthers (codes "prog.db" ∷ []) result (S.told store.old) (S.told store.new) }
+    ensures others { KeepsOthers (database_name ∷ []) result (S.told store.old) (S.told store.new) }
     ensures answer { IsStoreAnswer result }
     ensures count { StoreCount (S.faults store.old) (S.faults store.new) result }
 {
@@ -69,7 +71,7 @@ pub fn analyse_modules<S: Store>(alloc: Global, store: &mut S, colours: u8) -> A
     databases_and_files_are_one_to_one();
     modules_have_one_answer();
     match analysed_file(alloc, store, colours) {
-        Ok(bytes) => put_file(alloc, store, "prog.db", &bytes),
+        Ok(bytes) => put_file(alloc, store, DATABASE_NAME, &bytes),
         Err(answer) => answer,
     }
 }

@@ -1,10 +1,11 @@
 //! The command `link`.
 
-ghost use Rattle.std.specs.Prelude.{◌≤◌, ℕ, List, [], ◌∷◌, IfErr, IfSome, codes};
+ghost use Rattle.std.specs.Prelude.{◌≤◌, ℕ, List, [], ◌∷◌, IfErr, IfSome};
 ghost use Rattle.std.specs.List.{AllByRecursion};
 ghost use Rattle.pw_io.specs.Files.{Keeps};
 ghost use Rattle.pw_value.specs.Limits.{stack_least, stack_most};
 ghost use Rattle.pw_object.specs.Object.{IsObject};
+ghost use Rattle.pw_modules.specs.FileNames.{image_name};
 ghost use Rattle.pw_answer.specs.Effects.{PutsFiles};
 ghost use Rattle.pw_answer.specs.Outcomes.{StoreCount};
 ghost use Rattle.pw_commands.specs.Linking.{LinkComes, LinksInto, LinksOver, objects_of};
@@ -18,6 +19,7 @@ use pw_image::write_image;
 use pw_io::{Store, StoreError};
 use pw_link::link;
 use pw_link_laws::laws::{linked_images_are_lawful, objects_have_one_answer};
+use pw_modules::{IMAGE_NAME, OBJECT_ENDING};
 use pw_object::Object;
 use pw_value::LinkFault;
 use std::alloc::Global;
@@ -56,7 +58,7 @@ fn linked_file<S: Store>(alloc: Global, store: &mut S, stack: u32) -> Result<Vec
     ensures count { StopCount (S.faults store.old) (S.faults store.new) result }
     ensures stop { IfErr result IsStop }
 {
-    match kept_of_modules(alloc, store, ".obj") {
+    match kept_of_modules(alloc, store, OBJECT_ENDING) {
         Ok(objects) => image_file(alloc, &objects, stack),
         Err(answer) => Err(answer),
     }
@@ -71,14 +73,14 @@ pub fn link_modules<S: Store>(alloc: Global, store: &mut S, stack: u32) -> Answe
     requires least { stack_least ≤ stack }
     requires most { stack ≤ stack_most }
     ensures obeys { IfSome (S.told store.old) (λ told. (input : List ℕ) → Obeys (LinkComes told.files stack input) result told (S.told store.new)) }
-    ensures others { KeepsOthers (codes "prog.img" ∷ []) result (S.told store.old) (S.told store.new) }
+    ensures others { KeepsOthers (image_name ∷ []) result (S.told store.old) (S.told store.new) }
     ensures answer { IsStoreAnswer result }
     ensures count { StoreCount (S.faults store.old) (S.faults store.new) result }
 {
     images_and_files_are_one_to_one();
     objects_have_one_answer();
     match linked_file(alloc, store, stack) {
-        Ok(bytes) => put_file(alloc, store, "prog.img", &bytes),
+        Ok(bytes) => put_file(alloc, store, IMAGE_NAME, &bytes),
         Err(answer) => answer,
     }
 }

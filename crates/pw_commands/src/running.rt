@@ -12,6 +12,7 @@ use pw_answer::Answer;
 use pw_image::LoadError;
 use pw_io::{Sink, Source, Store};
 use pw_machine::Machine;
+use pw_modules::IMAGE_NAME;
 use pw_running::run_machine;
 use std::alloc::Global;
 
@@ -22,10 +23,10 @@ fn needed_machine<S: Store>(alloc: Global, store: &mut S) -> Result<Machine, Ans
     ensures count { StopCount (S.faults store.old) (S.faults store.new) result }
     ensures stop { IfErr result IsFileStop }
 {
-    let bytes = read_needed(alloc, store, "prog.img")?;
+    let bytes = read_needed(alloc, store, IMAGE_NAME)?;
     match Machine::load(alloc, &bytes) {
         Ok(machine) => Ok(machine),
-        Err(LoadError::LoadFault { at }) => Err(bad_file(alloc, "prog.img", Some(at))),
+        Err(LoadError::LoadFault { at }) => Err(bad_file(alloc, IMAGE_NAME, Some(at))),
         Err(LoadError::NoMemory) => Err(Answer::NoMemory),
     }
 }

@@ -13,6 +13,7 @@ use pw_image::LoadError;
 use pw_io::{Failed, Sink, Store};
 use pw_list::laws::an_image_has_one_listing;
 use pw_list::{db_text, listing};
+use pw_modules::{DATABASE_NAME, IMAGE_NAME};
 use pw_value::Name;
 use std::alloc::Global;
 
@@ -35,11 +36,11 @@ fn listed<S: Store>(alloc: Global, store: &mut S) -> Result<Vec<u8>, Answer>
     ensures count { StopCount (S.faults store.old) (S.faults store.new) result }
     ensures stop { IfErr result IsFileStop }
 {
-    match read_needed(alloc, store, "prog.img") {
+    match read_needed(alloc, store, IMAGE_NAME) {
         Err(answer) => Err(answer),
         Ok(bytes) => match listing(alloc, &bytes) {
             Ok(text) => Ok(text),
-            Err(LoadError::LoadFault { at }) => Err(bad_file(alloc, "prog.img", Some(at))),
+            Err(LoadError::LoadFault { at }) => Err(bad_file(alloc, IMAGE_NAME, Some(at))),
             Err(LoadError::NoMemory) => Err(Answer::NoMemory),
         },
     }
@@ -52,14 +53,14 @@ fn texted<S: Store>(alloc: Global, store: &mut S) -> Result<Vec<u8>, Answer>
     ensures count { StopCount (S.faults store.old) (S.faults store.new) result }
     ensures stop { IfErr result IsFileStop }
 {
-    match read_needed(alloc, store, "prog.db") {
+    match read_needed(alloc, store, DATABASE_NAME) {
         Err(answer) => Err(answer),
         Ok(bytes) => match pw_db::read(alloc, &bytes) {
             Ok(db) => match db_text(alloc, &db) {
                 Ok(text) => Ok(text),
                 Err(_none) => Err(Answer::NoMemory),
             },
-            Err(error) => Err(refused(Name::within(alloc, "prog.db".as_bytes())?, error)),
+            Err(error) => Err(refused(Name::within(alloc, DATABASE_NAME.as_bytes())?, error)),
         },
     }
 }

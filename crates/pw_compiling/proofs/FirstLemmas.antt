@@ -13,6 +13,7 @@ use Rattle.pw_summary.specs.declared.summary.Summary.{Summary}
 use Rattle.pw_summary.specs.Summary.{IsSummaryFile}
 use Rattle.pw_summarise.specs.Summarises.{Summarises}
 use Rattle.pw_phase_one.specs.FirstPhase.{Phase, compiled}
+use Rattle.pw_modules.specs.FileNames.{text_name}
 use Rattle.pw_answer.specs.declared.answer.Answer.{Answer}
 use Rattle.pw_answer.specs.declared.answer.Answer.TheVariants.{Done, Refused, StoreFault, NoMemory, BadFile}
 use Rattle.pw_answer.specs.Effects.{Effect, PutsFiles, answers_alone, puts_files}
@@ -20,7 +21,7 @@ use Rattle.pw_answer.specs.Outcomes.{Answers, StoreCount}
 use Rattle.pw_commands.specs.Needed.{StopsAs, needed_bytes}
 use Rattle.pw_commands.specs.Outcome.{IsFileStop, IsPutAnswer, Obeys}
 use Rattle.pw_commands.proofs.ObeysLemmas.{obeys_fault, obeys_no_memory, obeys_one, put_answers, puts_none}
-use Rattle.pw_compiling.specs.First.{AreBytesOf, ComesOfPhase, IsLine, IsSumOf, PhaseOneComes, PhaseOneOver, line_in, line_over, phase_line, text_name, two_files}
+use Rattle.pw_compiling.specs.First.{AreBytesOf, ComesOfPhase, IsLine, IsSumOf, PhaseOneComes, PhaseOneOver, line_in, line_over, phase_line, two_files}
 use Rattle.pw_compiling.specs.Made.{AnswersPhase, AreOfPhase, IsPhaseAnswer, IsTextStop, RefusesPhase, TellsReply, line_of}
 
 -- the laws on which it stands: one file of a flow graph, one summary, one file of it

@@ -1,20 +1,20 @@
 -- What `phase2` answered and put, by the one object of the flow graph under the database.
-use Rattle.std.proofs.Common.{◌≡◌, ℕ, inl, inr, List, [], ◌∷◌, ◌++◌, All, map, codes, Option, Some, None, Result, Ok, Err, refl, sym, ap, ◌∙◌, subst, append-nil}
-use Rattle.std.specs.Prelude.{IfErr, IfOk, IfSome, Vec}
+use Rattle.std.proofs.Common.{◌≡◌, ℕ, inl, inr, List, [], ◌∷◌, All, map, Option, Some, None, Result, Ok, Err, refl, sym, ap, ◌∙◌, subst, append-nil}
+use Rattle.std.specs.Prelude.{IfOk, IfSome, Vec}
 use Rattle.std.specs.declared.alloc.Global.{Global}
 use Rattle.pw_io.specs.Files.{Told, Keeps}
 use Rattle.pw_flow.specs.declared.flow.FlowModule.{FlowModule}
-use Rattle.pw_db.specs.declared.database.Database.{Database}
 use Rattle.pw_db.specs.declared.database.Directives.{Directives}
 use Rattle.pw_db.specs.Database.{HasDirectives, IsDatabase}
 use Rattle.pw_object.specs.declared.object.Object.{Object}
 use Rattle.pw_object.specs.Object.{IsObjectFile}
 use Rattle.pw_phases.specs.Phases.{IsObjectOf}
+use Rattle.pw_modules.specs.FileNames.{database_name, flow_name, object_name}
 use Rattle.pw_answer.specs.declared.answer.Answer.{Answer}
 use Rattle.pw_answer.specs.declared.answer.Answer.TheVariants.{Done, StoreFault, NoMemory, BadFile}
 use Rattle.pw_answer.specs.Effects.{Effect, IsLeft, NamedFile, PutFront, PutPart, PutsFiles, after_puts, answers_alone, puts_files}
 use Rattle.pw_answer.specs.Outcomes.{Answers}
-use Rattle.pw_commands.specs.Needed.{Needs, StopsAs, needed}
+use Rattle.pw_commands.specs.Needed.{StopsAs, needed}
 use Rattle.pw_commands.specs.Outcome.{IsFileStop, IsPutAnswer, IsStoreAnswer, Obeys}
 use Rattle.pw_commands.proofs.ObeysLemmas.{obeys_fault, obeys_no_memory, obeys_one, put_answers, puts_none}
 use Rattle.pw_compiling.specs.Second.{ComesOfFlow, IsFileOfFlow, IsMade, IsMadeFile, IsObjectUnder, PhaseTwoComes, PhaseTwoOver, PutsMade, database_at, flow_at}
@@ -38,25 +38,25 @@ one_file : Laws → (flow : FlowModule) (db : Db) (bytes others : List ℕ) → 
 one_file laws flow db bytes others a b =
     laws.file others bytes a.object (subst (IsObjectFile others) (one_object laws flow db a.object b.object a.lawful a.made b.made) b.file) a.file
 
-made_alone : Laws → (name : List ℕ) (flow : FlowModule) (db : Db) (input bytes : List ℕ) → IsFileOfFlow flow db bytes → (e : Effect) → ComesOfFlow name flow db input e → e ≡ puts_files ((name ++ codes ".obj", bytes) ∷ []) input
+made_alone : Laws → (name : List ℕ) (flow : FlowModule) (db : Db) (input bytes : List ℕ) → IsFileOfFlow flow db bytes → (e : Effect) → ComesOfFlow name flow db input e → e ≡ puts_files ((object_name name, bytes) ∷ []) input
 made_alone laws name flow db input bytes is e (others, file, same) =
-    same ∙ ap (λ (b : List ℕ). puts_files ((name ++ codes ".obj", b) ∷ []) input) (one_file laws flow db bytes others is file)
+    same ∙ ap (λ (b : List ℕ). puts_files ((object_name name, b) ∷ []) input) (one_file laws flow db bytes others is file)
 
 over_made : Laws → (name : List ℕ) (flow : Result FlowModule Answer) (db : Result Db Answer) (bytes : List ℕ) (answer : Answer) (told : Told) (new : Option Told) (input : List ℕ) → IsOfFlow flow db bytes → IsPutAnswer answer
-    → PutsFiles ((name ++ codes ".obj", bytes) ∷ []) answer told new → Obeys (PhaseTwoOver name flow db input) answer told new
+    → PutsFiles ((object_name name, bytes) ∷ []) answer told new → Obeys (PhaseTwoOver name flow db input) answer told new
 over_made laws name (Ok flow) (Ok db) bytes answer told new input is h puts =
-    obeys_one (PhaseTwoOver name (Ok flow) (Ok db) input) (puts_files ((name ++ codes ".obj", bytes) ∷ []) input) answer told new (bytes, is, refl) (made_alone laws name flow db input bytes is) (put_answers answer h) puts
+    obeys_one (PhaseTwoOver name (Ok flow) (Ok db) input) (puts_files ((object_name name, bytes) ∷ []) input) answer told new (bytes, is, refl) (made_alone laws name flow db input bytes is) (put_answers answer h) puts
 over_made laws name (Ok flow) (Err refusal) bytes answer told new input is h puts = absurd is
 over_made laws name (Err refusal) db bytes answer told new input is h puts = absurd is
 
 -- the object's file was put, as far as the store put it
 pub obeys_made : Laws → (first now new : Option Told) (name bytes : List ℕ) (answer : Answer)
-    → IfSome first (λ t. IsOfFlow (needed flow_at t.files (name ++ codes ".flow")) (needed database_at t.files (codes "prog.db")) bytes) → Keeps first now
-    → IfSome now (λ t. PutsFiles ((name ++ codes ".obj", bytes) ∷ []) answer t new) → IsPutAnswer answer → IfSome first (λ t. (input : List ℕ) → Obeys (PhaseTwoComes t.files name input) answer t new)
+    → IfSome first (λ t. IsOfFlow (needed flow_at t.files (flow_name name)) (needed database_at t.files database_name) bytes) → Keeps first now
+    → IfSome now (λ t. PutsFiles ((object_name name, bytes) ∷ []) answer t new) → IsPutAnswer answer → IfSome first (λ t. (input : List ℕ) → Obeys (PhaseTwoComes t.files name input) answer t new)
 obeys_made laws None now new name bytes answer is same puts h = tt
 obeys_made laws (Some told) now new name bytes answer is same puts h =
-    let P : Option Told → Type 0 = λ o. IfSome o (λ t. PutsFiles ((name ++ codes ".obj", bytes) ∷ []) answer t new) in
-    λ input. over_made laws name (needed flow_at told.files (name ++ codes ".flow")) (needed database_at told.files (codes "prog.db")) bytes answer told new input is h (subst P same puts)
+    let P : Option Told → Type 0 = λ o. IfSome o (λ t. PutsFiles ((object_name name, bytes) ∷ []) answer t new) in
+    λ input. over_made laws name (needed flow_at told.files (flow_name name)) (needed database_at told.files database_name) bytes answer told new input is h (subst P same puts)
 
 -- ---- an answer in place of the file
 
@@ -84,11 +84,11 @@ over_stopped name flow db NoMemory told new input h is e = obeys_no_memory (Phas
 over_stopped name flow db _ told new input h is e = over_answered name flow db _ told new input h is e
 
 pub obeys_stopped : (first new : Option Told) (name : List ℕ) (answer : Answer)
-    → IfSome first (λ t. MakesObject (needed flow_at t.files (name ++ codes ".flow")) (needed database_at t.files (codes "prog.db")) (Err answer)) → Keeps first new → IsFileStop answer
+    → IfSome first (λ t. MakesObject (needed flow_at t.files (flow_name name)) (needed database_at t.files database_name) (Err answer)) → Keeps first new → IsFileStop answer
     → IfSome first (λ t. (input : List ℕ) → Obeys (PhaseTwoComes t.files name input) answer t new)
 obeys_stopped None new name answer is same h = tt
 obeys_stopped (Some told) new name answer is same h =
-    λ input. over_stopped name (needed flow_at told.files (name ++ codes ".flow")) (needed database_at told.files (codes "prog.db")) answer told new input h is same
+    λ input. over_stopped name (needed flow_at told.files (flow_name name)) (needed database_at told.files database_name) answer told new input h is same
 
 pub stop_is_store : (answer : Answer) → IsFileStop answer → IsStoreAnswer answer
 stop_is_store StoreFault h = tt
@@ -114,18 +114,18 @@ flow_over flow db _ h = first_answers flow db _ h
 
 -- the flow graph's file is absent or refused
 pub flow_stops : (first : Option Told) (file : List ℕ) (answer : Answer) → IfSome first (λ t. StopsAs answer (needed flow_at t.files file))
-    → IfSome first (λ t. MakesObject (needed flow_at t.files file) (needed database_at t.files (codes "prog.db")) (Err answer))
+    → IfSome first (λ t. MakesObject (needed flow_at t.files file) (needed database_at t.files database_name) (Err answer))
 flow_stops None file answer h = tt
-flow_stops (Some t) file answer h = flow_over (needed flow_at t.files file) (needed database_at t.files (codes "prog.db")) answer h
+flow_stops (Some t) file answer h = flow_over (needed flow_at t.files file) (needed database_at t.files database_name) answer h
 
 -- it was read, and the store tells what it told
 pub flow_goes : (first now : Option Told) (file : List ℕ) (flow : FlowModule) (result : Result (Vec ℕ Global) Answer) → Keeps first now → IfSome first (λ t. needed flow_at t.files file ≡ Ok flow)
-    → IfSome now (λ t. MakesObject (Ok flow) (needed database_at t.files (codes "prog.db")) result)
-    → IfSome first (λ t. MakesObject (needed flow_at t.files file) (needed database_at t.files (codes "prog.db")) result)
+    → IfSome now (λ t. MakesObject (Ok flow) (needed database_at t.files database_name) result)
+    → IfSome first (λ t. MakesObject (needed flow_at t.files file) (needed database_at t.files database_name) result)
 flow_goes None now file flow result same e h = tt
 flow_goes (Some t) now file flow result same e h =
-    let P : Option Told → Type 0 = λ o. IfSome o (λ u. MakesObject (Ok flow) (needed database_at u.files (codes "prog.db")) result) in
-    subst (λ (f : Result FlowModule Answer). MakesObject f (needed database_at t.files (codes "prog.db")) result) (sym e) (subst P same h)
+    let P : Option Told → Type 0 = λ o. IfSome o (λ u. MakesObject (Ok flow) (needed database_at u.files database_name) result) in
+    subst (λ (f : Result FlowModule Answer). MakesObject f (needed database_at t.files database_name) result) (sym e) (subst P same h)
 
 then_answers : (flow : FlowModule) (db : Result Db Answer) (answer : Answer) → db ≡ Err answer → AnswersFlow (Ok flow) db answer
 then_answers flow db answer d = subst (λ (x : Result Db Answer). AnswersFlow (Ok flow) x answer) (sym d) refl
@@ -136,33 +136,20 @@ database_over flow db NoMemory h = tt
 database_over flow db _ h = then_answers flow db _ h
 
 -- the database is absent or refused
-pub database_stops : (first : Option Told) (flow : FlowModule) (answer : Answer) → IfSome first (λ t. StopsAs answer (needed database_at t.files (codes "prog.db")))
-    → IfSome first (λ t. MakesObject (Ok flow) (needed database_at t.files (codes "prog.db")) (Err answer))
+pub database_stops : (first : Option Told) (flow : FlowModule) (answer : Answer) → IfSome first (λ t. StopsAs answer (needed database_at t.files database_name))
+    → IfSome first (λ t. MakesObject (Ok flow) (needed database_at t.files database_name) (Err answer))
 database_stops None flow answer h = tt
-database_stops (Some t) flow answer h = database_over flow (needed database_at t.files (codes "prog.db")) answer h
+database_stops (Some t) flow answer h = database_over flow (needed database_at t.files database_name) answer h
 
 -- the file was made
-pub both_made : (first : Option Told) (flow : FlowModule) (db : Db) (bytes : List ℕ) → IfSome first (λ t. needed database_at t.files (codes "prog.db") ≡ Ok db) → IsFileOfFlow flow db bytes
-    → IfSome first (λ t. IsOfFlow (Ok flow) (needed database_at t.files (codes "prog.db")) bytes)
+pub both_made : (first : Option Told) (flow : FlowModule) (db : Db) (bytes : List ℕ) → IfSome first (λ t. needed database_at t.files database_name ≡ Ok db) → IsFileOfFlow flow db bytes
+    → IfSome first (λ t. IsOfFlow (Ok flow) (needed database_at t.files database_name) bytes)
 both_made None flow db bytes e h = tt
 both_made (Some t) flow db bytes e h = subst (λ (x : Result Db Answer). IsOfFlow (Ok flow) x bytes) (sym e) h
 
-pub none_made : (first : Option Told) (flow : FlowModule) → IfSome first (λ t. MakesObject (Ok flow) (needed database_at t.files (codes "prog.db")) (Err NoMemory))
+pub none_made : (first : Option Told) (flow : FlowModule) → IfSome first (λ t. MakesObject (Ok flow) (needed database_at t.files database_name) (Err NoMemory))
 none_made None flow = tt
 none_made (Some t) flow = tt
-
--- what was found of the database comes to the object's file, or to the answer in its place
-under_found : (flow : FlowModule) (wanted : Result Db Answer) (found : Result Database Answer) (result : Result (Vec ℕ Global) Answer) → Needs (λ (db : Database). db.functions) found wanted
-    → IfOk found (λ db. IfOk result (λ bytes. IsFileOfFlow flow db.functions bytes.items)) → IfOk found (λ _. IfErr result (λ answer. answer ≡ NoMemory)) → IfErr found (λ answer. result ≡ Err answer) → MakesObject (Ok flow) wanted result
-under_found flow wanted (Ok db) (Ok bytes) is file wants stopped = subst (λ (w : Result Db Answer). IsOfFlow (Ok flow) w bytes.items) (sym is) file
-under_found flow wanted (Ok db) (Err answer) is file wants stopped = subst (λ (a : Answer). MakesObject (Ok flow) wanted (Err a)) (sym wants) tt
-under_found flow wanted (Err answer) result is file wants stopped = subst (MakesObject (Ok flow) wanted) (sym stopped) (database_over flow wanted answer is)
-
-pub object_under : (first : Option Told) (flow : FlowModule) (found : Result Database Answer) (result : Result (Vec ℕ Global) Answer) → IfSome first (λ t. Needs (λ (db : Database). db.functions) found (needed database_at t.files (codes "prog.db")))
-    → IfOk found (λ db. IfOk result (λ bytes. IsFileOfFlow flow db.functions bytes.items)) → IfOk found (λ _. IfErr result (λ answer. answer ≡ NoMemory)) → IfErr found (λ answer. result ≡ Err answer)
-    → IfSome first (λ t. MakesObject (Ok flow) (needed database_at t.files (codes "prog.db")) result)
-object_under None flow found result is file wants stopped = tt
-object_under (Some t) flow found result is file wants stopped = under_found flow (needed database_at t.files (codes "prog.db")) found result is file wants stopped
 
 -- the bytes of an object's file are those of the flow graph's
 pub file_made : {E : Type 0} → (flow : FlowModule) (db : Db) (object : Object) (result : Result (Vec ℕ Global) E) → IsDatabase db → IsObjectUnder flow db object → IfOk result (λ bytes. IsObjectFile bytes.items object)
@@ -190,11 +177,11 @@ part_put _ told files new h puts = absurd h
 
 -- the object's file was put, as far as the store put it
 pub made_put : (first now new : Option Told) (name bytes : List ℕ) (answer : Answer) → IsMadeFile bytes → Keeps first now
-    → IfSome now (λ t. PutsFiles ((name ++ codes ".obj", bytes) ∷ []) answer t new) → IsPutAnswer answer → IfSome first (λ t. PutsMade name t new)
+    → IfSome now (λ t. PutsFiles ((object_name name, bytes) ∷ []) answer t new) → IsPutAnswer answer → IfSome first (λ t. PutsMade name t new)
 made_put None now new name bytes answer made same puts h = tt
 made_put (Some told) now new name bytes answer made same puts h =
-    let P : Option Told → Type 0 = λ o. IfSome o (λ t. PutsFiles ((name ++ codes ".obj", bytes) ∷ []) answer t new) in
-    inr (bytes, made, part_put answer told ((name ++ codes ".obj", bytes) ∷ []) new h (subst P same puts))
+    let P : Option Told → Type 0 = λ o. IfSome o (λ t. PutsFiles ((object_name name, bytes) ∷ []) answer t new) in
+    inr (bytes, made, part_put answer told ((object_name name, bytes) ∷ []) new h (subst P same puts))
 
 -- nothing was put
 pub none_put : (first new : Option Told) (name : List ℕ) → Keeps first new → IfSome first (λ t. PutsMade name t new)

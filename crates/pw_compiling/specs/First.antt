@@ -1,5 +1,5 @@
 -- What `phase1` comes to: the flow graph of a module's text and its summary.
-use Rattle.std.specs.Prelude.{◌≡◌, ℕ, List, [], ◌∷◌, ◌++◌, codes, Result, Ok, Err}
+use Rattle.std.specs.Prelude.{◌≡◌, ℕ, List, [], ◌∷◌, Result, Ok, Err}
 use Rattle.pw_io.specs.Files.{Files}
 use Rattle.pw_front.specs.Places.{refusal_line}
 use Rattle.pw_flow.specs.declared.flow.FlowModule.{FlowModule}
@@ -9,14 +9,11 @@ use Rattle.pw_summary.specs.declared.summary.Summary.{Summary}
 use Rattle.pw_summary.specs.Summary.{IsSummaryFile}
 use Rattle.pw_summarise.specs.Summarises.{Summarises}
 use Rattle.pw_phase_one.specs.FirstPhase.{Phase, compiled}
+use Rattle.pw_modules.specs.FileNames.{text_name, flow_name, summary_name}
 use Rattle.pw_answer.specs.declared.answer.Answer.{Answer}
 use Rattle.pw_answer.specs.declared.answer.Answer.TheVariants.{Refused}
 use Rattle.pw_answer.specs.Effects.{Effect, NamedFile, answers_alone, puts_files}
 use Rattle.pw_commands.specs.Needed.{needed_bytes}
-
--- the name of a module's text
-abbrev pub text_name : List ℕ → List ℕ
-text_name name = name ++ codes ".i"
 
 -- the bytes of the file of a flow graph's summary
 pub record IsSumOf (flow : FlowModule) (sum : List ℕ) : Type 0 where
@@ -32,11 +29,11 @@ pub record AreBytesOf (flow : FlowModule) (bytes sum : List ℕ) : Type 0 where
 
 -- the two files, in the order in which they are put
 abbrev pub two_files : List ℕ → List ℕ → List ℕ → List NamedFile
-two_files name bytes sum = (name ++ codes ".flow", bytes) ∷ (name ++ codes ".sum", sum) ∷ []
+two_files name bytes sum = (flow_name name, bytes) ∷ (summary_name name, sum) ∷ []
 
 -- the names of the files that `phase1 NAME` puts
 abbrev pub phase_one_puts : List ℕ → List (List ℕ)
-phase_one_puts name = (name ++ codes ".flow") ∷ (name ++ codes ".sum") ∷ []
+phase_one_puts name = flow_name name ∷ summary_name name ∷ []
 
 -- a flow graph comes to its two files, which are put; a refusal is told
 abbrev pub ComesOfPhase : List ℕ → Phase → List ℕ → Effect → Type 0

@@ -1,5 +1,5 @@
 -- What `phase2` comes to: the object of a module under the directives that the database has for it.
-use Rattle.std.specs.Prelude.{◌≡◌, ℕ, ◌⊎◌, List, [], ◌∷◌, ◌++◌, All, codes, map, Option, Some, Result, Ok, Err}
+use Rattle.std.specs.Prelude.{◌≡◌, ℕ, ◌⊎◌, List, [], ◌∷◌, All, map, Option, Some, Result, Ok, Err}
 use Rattle.pw_io.specs.Files.{Files, Told}
 use Rattle.pw_value.specs.FieldLaws.{AreBytes}
 use Rattle.pw_files.specs.Contents.{value_of}
@@ -12,6 +12,7 @@ use Rattle.pw_db.specs.Reading.{database_file_at}
 use Rattle.pw_object.specs.declared.object.Object.{Object}
 use Rattle.pw_object.specs.Object.{IsObjectFile}
 use Rattle.pw_phases.specs.Phases.{AreDirectivesOf, IsObjectOf}
+use Rattle.pw_modules.specs.FileNames.{database_name, flow_name, object_name}
 use Rattle.pw_answer.specs.declared.answer.Answer.{Answer}
 use Rattle.pw_answer.specs.Effects.{Effect, PutPart, answers_alone, puts_files}
 use Rattle.pw_commands.specs.Needed.{needed}
@@ -42,10 +43,10 @@ pub record IsFileOfFlow (flow : FlowModule) (db : List (List ℕ × Directives))
 
 -- the names of the files that `phase2 NAME` puts
 abbrev pub phase_two_puts : List ℕ → List (List ℕ)
-phase_two_puts name = (name ++ codes ".obj") ∷ []
+phase_two_puts name = object_name name ∷ []
 
 abbrev pub ComesOfFlow : List ℕ → FlowModule → List (List ℕ × Directives) → List ℕ → Effect → Type 0
-ComesOfFlow name flow db input effect = (bytes : List ℕ) × IsFileOfFlow flow db bytes × (effect ≡ puts_files ((name ++ codes ".obj", bytes) ∷ []) input)
+ComesOfFlow name flow db input effect = (bytes : List ℕ) × IsFileOfFlow flow db bytes × (effect ≡ puts_files ((object_name name, bytes) ∷ []) input)
 
 abbrev pub PhaseTwoOver : List ℕ → Result FlowModule Answer → Result (List (List ℕ × Directives)) Answer → List ℕ → Effect → Type 0
 PhaseTwoOver name (Err answer) db input effect = effect ≡ answers_alone answer input
@@ -54,7 +55,7 @@ PhaseTwoOver name (Ok flow) (Ok db) input effect = ComesOfFlow name flow db inpu
 
 -- `phase2 NAME` over a store's files: the flow graph is read first, then the database
 abbrev pub PhaseTwoComes : Files → List ℕ → List ℕ → Effect → Type 0
-PhaseTwoComes files name input effect = PhaseTwoOver name (needed flow_at files (name ++ codes ".flow")) (needed database_at files (codes "prog.db")) input effect
+PhaseTwoComes files name input effect = PhaseTwoOver name (needed flow_at files (flow_name name)) (needed database_at files database_name) input effect
 
 -- ---- what is put, whatever the answer
 
@@ -74,4 +75,4 @@ pub record IsMadeFile (bytes : List ℕ) : Type 0 where
 
 -- Nothing was put; or such a file was put under the module's name, whole, or in part where the store failed.
 abbrev pub PutsMade : List ℕ → Told → Option Told → Type 0
-PutsMade name told new = (new ≡ Some told) ⊎ ((bytes : List ℕ) × IsMadeFile bytes × PutPart told ((name ++ codes ".obj", bytes) ∷ []) new)
+PutsMade name told new = (new ≡ Some told) ⊎ ((bytes : List ℕ) × IsMadeFile bytes × PutPart told ((object_name name, bytes) ∷ []) new)

@@ -1,7 +1,8 @@
 //! The command `phase2`.
 
-ghost use Rattle.std.specs.Prelude.{◌≡◌, ℕ, List, Err, ◌++◌, true, IfErr, IfOk, IfSome, codes, length};
+ghost use Rattle.std.specs.Prelude.{◌≡◌, ℕ, List, Ok, Err, true, IfErr, IfOk, IfSome, length};
 ghost use Rattle.pw_io.specs.Files.{Keeps};
+ghost use Rattle.pw_modules.specs.FileNames.{database_name, flow_name};
 ghost use Rattle.pw_answer.specs.Outcomes.{StoreCount};
 ghost use Rattle.pw_db.specs.Database.{IsDatabase};
 ghost use Rattle.pw_flow.specs.ValidFlow.{IsValid};
@@ -22,6 +23,7 @@ use pw_db::Database;
 use pw_db::laws::directives_are_one;
 use pw_flow::FlowModule;
 use pw_io::Store;
+use pw_modules::{DATABASE_NAME, FLOW_ENDING, OBJECT_ENDING};
 use pw_object::Object;
 use pw_object::laws::objects_and_files_are_one_to_one;
 use pw_phases::laws::a_module_has_one_object;
@@ -47,16 +49,16 @@ fn flow_in<S: Store>(alloc: Global, store: &mut S, file: &str) -> Result<FlowMod
 
 /// The database.
 fn needed_database<S: Store>(alloc: Global, store: &mut S) -> Result<Database, Answer>
-    ensures database { IfSome (S.told store.old) (λ told. Needs (λ db. db.functions) result (needed database_at told.files (codes "prog.db"))) }
+    ensures database { IfSome (S.told store.old) (λ told. Needs (λ db. db.functions) result (needed database_at told.files database_name)) }
     ensures lawful { IfOk result (λ db. IsDatabase db.functions) }
     ensures same { Keeps (S.told store.old) (S.told store.new) }
     ensures count { StopCount (S.faults store.old) (S.faults store.new) result }
     ensures stop { IfErr result IsFileStop }
 {
-    let bytes = read_needed(alloc, store, "prog.db")?;
+    let bytes = read_needed(alloc, store, DATABASE_NAME)?;
     match pw_db::read(alloc, &bytes) {
         Ok(db) => Ok(db),
-        Err(error) => Err(refused(Name::within(alloc, "prog.db".as_bytes())?, error)),
+        Err(error) => Err(refused(Name::within(alloc, DATABASE_NAME.as_bytes())?, error)),
     }
 }
 
@@ -98,8 +100,10 @@ fn file_under(
 ) -> Result<Vec<u8>, Answer>
     requires flow { IsValid flow.now }
     requires database { IfOk found (λ db. IsDatabase db.functions) }
-    ensures file { IfOk found (λ db. IfOk result (λ bytes. IsFileOfFlow flow.now db.functions bytes.items)) }
+    ensures object { (wanted : _) → Needs (λ db. db.functions) found wanted → MakesObject (Ok flow.now) wanted result }
     ensures made { IfOk result (λ bytes. IsMadeFile bytes.items) }
+    ensures count { (before after : ℕ) → StopCount before after found → StopCount before after result }
+    ensures stop { IfErr found IsFileStop → IfErr result IsFileStop }
     ensures wants { IfOk found (λ _. IfErr result (λ answer. answer ≡ Answer.NoMemory)) }
     ensures stopped { IfErr found (λ answer. result ≡ Err answer) }
 {
@@ -110,7 +114,7 @@ fn file_under(
 /// The object's file of the flow graph in a file, or the answer in its place.
 fn object_file<S: Store>(alloc: Global, store: &mut S, file: &str) -> Result<Vec<u8>, Answer>
     requires { IsNameLength (length file.now) }
-    ensures object { IfSome (S.told store.old) (λ told. MakesObject (needed flow_at told.files file.now) (needed database_at told.files (codes "prog.db")) result) }
+    ensures object { IfSome (S.told store.old) (λ told. MakesObject (needed flow_at told.files file.now) (needed database_at told.files database_name) result) }
     ensures made { IfOk result (λ bytes. IsMadeFile bytes.items) }
     ensures same { Keeps (S.told store.old) (S.told store.new) }
     ensures count { StopCount (S.faults store.old) (S.faults store.new) result }
@@ -124,13 +128,13 @@ fn object_file<S: Store>(alloc: Global, store: &mut S, file: &str) -> Result<Vec
 /// The file of a module's object, or the answer in its place.
 fn object_bytes<S: Store>(alloc: Global, store: &mut S, name: &Name) -> Result<Vec<u8>, Answer>
     requires { is_module_name name.now ≡ true }
-    ensures object { IfSome (S.told store.old) (λ told. MakesObject (needed flow_at told.files (name.now ++ codes ".flow")) (needed database_at told.files (codes "prog.db")) result) }
+    ensures object { IfSome (S.told store.old) (λ told. MakesObject (needed flow_at told.files (flow_name name.now)) (needed database_at told.files database_name) result) }
     ensures made { IfOk result (λ bytes. IsMadeFile bytes.items) }
     ensures same { Keeps (S.told store.old) (S.told store.new) }
     ensures count { StopCount (S.faults store.old) (S.faults store.new) result }
     ensures stop { IfErr result IsFileStop }
 {
-    let file = module_file(alloc, name, ".flow")?;
+    let file = module_file(alloc, name, FLOW_ENDING)?;
     object_file(alloc, store, file.as_str())
 }
 
@@ -150,7 +154,7 @@ pub fn compile_flow<S: Store>(alloc: Global, store: &mut S, name: &Name) -> Answ
     a_module_has_one_object();
     objects_and_files_are_one_to_one();
     match object_bytes(alloc, store, name) {
-        Ok(bytes) => put_bytes(alloc, store, name, ".obj", &bytes),
+        Ok(bytes) => put_bytes(alloc, store, name, OBJECT_ENDING, &bytes),
         Err(answer) => answer,
     }
 }

@@ -17,6 +17,7 @@ use pw_flow::FlowModule;
 use pw_flowfile::laws::flow_graphs_and_files_are_one_to_one;
 use pw_front::{FrontError, refusal_line};
 use pw_io::Store;
+use pw_modules::{FLOW_ENDING, SUMMARY_ENDING, TEXT_ENDING};
 use pw_phase_one::laws::no_refusal_is_want_of_memory;
 use pw_phase_one::{PhaseError, phase_one};
 use pw_summarise::laws::a_module_has_one_summary;
@@ -113,8 +114,8 @@ fn put_made<S: Store>(alloc: Global, store: &mut S, name: &Name, made: &MadeFile
     ensures answer { IsPutAnswer result }
     ensures count { StoreCount (S.faults store.old) (S.faults store.new) result }
 {
-    match put_bytes(alloc, store, name, ".flow", &made.flow) {
-        Answer::Done => put_bytes(alloc, store, name, ".sum", &made.sum),
+    match put_bytes(alloc, store, name, FLOW_ENDING, &made.flow) {
+        Answer::Done => put_bytes(alloc, store, name, SUMMARY_ENDING, &made.sum),
         answer => answer,
     }
 }
@@ -153,7 +154,7 @@ pub fn compile_text<S: Store>(alloc: Global, store: &mut S, name: &Name) -> Repl
     ensures answer { IsPhaseAnswer result.answer }
     ensures count { StoreCount (S.faults store.old) (S.faults store.new) result.answer }
 {
-    match module_bytes(alloc, store, name, ".i") {
+    match module_bytes(alloc, store, name, TEXT_ENDING) {
         Ok(text) => compile_bytes(alloc, store, name, &text),
         Err(answer) => Reply { answer, line: 1 },
     }

@@ -1,51 +1,37 @@
-//! A program that is to be run, as its lines say.
+//! A program that is to be run, as its rows say.
 
+use crate::ones::return_ones;
+use pw_check::{CheckKind, check};
+use pw_front::{FrontError, front};
+use pw_rows::Text;
+use pw_tree::Module;
+use pw_typed::TModule;
 use pw_value::Name;
 use pw_value::limits::STACK_MOST;
-use std::alloc::{AllocError, Global};
+use std::alloc::Global;
+use std::mem::ManuallyDrop;
 
-/// A module's name and its text.
+/// A module's name and its typed tree, whose memory goes back with the program's.
 #[derive(Drop)]
-pub struct Module {
+pub struct Checked {
     pub name: Name,
-    pub text: Vec<u8>,
+    pub tree: ManuallyDrop<TModule>,
 }
 
 /// A program with all that its run rests on.
 #[derive(Drop)]
 pub struct Job {
-    pub modules: Vec<Module>,
+    /// Its modules, as far as they are taken.
+    pub modules: Vec<Checked>,
+    /// The front end or checking refuses a module.
+    pub is_refused: bool,
     pub frames: Vec<(Name, u32)>,
     pub stack: u32,
     pub bound: u64,
     pub depth: usize,
     pub input: Vec<u8>,
-}
-
-/// A name of these characters; of others `?`.
-fn name_of(alloc: Global, text: &str) -> Result<Name, AllocError> {
-    match Name::new(alloc, text.as_bytes()) {
-        Ok(name) => Ok(name),
-        Err(_) => Name::new(alloc, b"?").ok().ok_or(AllocError),
-    }
-}
-
-/// A hexadecimal digit; another character is 0.
-fn digit(byte: u8) -> u8 {
-    match byte {
-        b'0'..=b'9' => byte - b'0',
-        b'a'..=b'f' => byte - b'a' + 10,
-        _ => 0,
-    }
-}
-
-/// Bytes in hexadecimal.
-fn bytes_of(alloc: Global, text: &[u8]) -> Result<Vec<u8>, AllocError> {
-    let mut bytes = Vec::new(alloc);
-    for pair in text.chunks_exact(2) {
-        bytes.push(digit(pair[0]) << 4 | digit(pair[1]))?;
-    }
-    Ok(bytes)
+    /// Where it is not 0, the last function of each module returns the sum of so many ones in place of its body.
+    pub ones: u32,
 }
 
 impl Job {
@@ -53,42 +39,80 @@ impl Job {
     pub fn new(alloc: Global) -> Job {
         Job {
             modules: Vec::new(alloc),
+            is_refused: false,
             frames: Vec::new(alloc),
             stack: STACK_MOST,
             bound: 100000,
             depth: 4000,
             input: Vec::new(alloc),
+            ones: 0,
         }
     }
 
-    /// Forgets the program.
-    pub fn clear(&mut self, alloc: Global) -> Result<(), AllocError> {
-        *self = Job::new(alloc);
-        Ok(())
+    /// Adds the typed tree of a module.
+    fn add_checked(&mut self, text: &mut Text, name: &str, tree: ManuallyDrop<TModule>) {
+        match Name::new(text.alloc(), name.as_bytes()) {
+            Ok(name) => {
+                if self.modules.push(Checked { name, tree }).is_err() {
+                    text.cut();
+                }
+            }
+            Err(_) => text.cut(),
+        }
     }
 
-    /// Adds a module.
-    pub fn add_module(&mut self, alloc: Global, name: &str, text: &str) -> Result<(), AllocError> {
-        let name = name_of(alloc, name)?;
-        let text = Vec::from_slice(alloc, text.as_bytes())?;
-        self.modules.push(Module { name, text })?;
-        Ok(())
+    /// The same, whose last function returns ones where that is set.
+    fn add_typed(&mut self, text: &mut Text, name: &str, mut tree: TModule) {
+        if self.ones > 0 && return_ones(text.alloc(), &mut tree, self.ones).is_err() {
+            text.cut();
+        }
+        self.add_checked(text, name, ManuallyDrop::new(tree));
+    }
+
+    /// Adds a module by its syntax tree, where checking takes it.
+    fn add_tree(&mut self, text: &mut Text, name: &str, tree: &Module) {
+        match check(text.alloc(), tree) {
+            Ok(typed) => self.add_typed(text, name, typed),
+            Err(fault) => match fault.kind {
+                CheckKind::NoMemory => text.cut(),
+                _ => self.is_refused = true,
+            },
+        }
+    }
+
+    /// Adds a module by its text, where the front end and checking take it.
+    pub fn add_module(&mut self, text: &mut Text, name: &str, source: &str) {
+        match front(text.alloc(), source.as_bytes()) {
+            Ok(tree) => self.add_tree(text, name, &ManuallyDrop::new(tree)),
+            Err(FrontError::NoMemory) => text.cut(),
+            Err(FrontError::Refused(_)) => self.is_refused = true,
+        }
+    }
+
+    /// Adds the frame of a function, by a row that has its name and its size.
+    fn add_frame(&mut self, text: &mut Text, row: &str) {
+        let (name, frame) = row.split_once(' ').unwrap_or((row, ""));
+        match Name::new(text.alloc(), name.as_bytes()) {
+            Ok(name) => {
+                let frame = frame.parse::<u32>().unwrap_or(0);
+                if self.frames.push((name, frame)).is_err() {
+                    text.cut();
+                }
+            }
+            Err(_) => text.cut(),
+        }
     }
 
     /// Takes a setting, by its words.
-    pub fn set(&mut self, alloc: Global, setting: &str) -> Result<(), AllocError> {
+    pub fn set(&mut self, text: &mut Text, setting: &str) {
         let (word, value) = setting.split_once(' ').unwrap_or((setting, ""));
         match word {
             "stack" => self.stack = value.parse::<u32>().unwrap_or(0),
             "bound" => self.bound = value.parse::<u64>().unwrap_or(0),
             "depth" => self.depth = value.parse::<usize>().unwrap_or(0),
-            "input" => self.input = bytes_of(alloc, value.as_bytes())?,
-            _ => {
-                let (name, frame) = value.split_once(' ').unwrap_or((value, ""));
-                let frame = frame.parse::<u32>().unwrap_or(0);
-                self.frames.push((name_of(alloc, name)?, frame))?;
-            }
+            "ones" => self.ones = value.parse::<u32>().unwrap_or(0),
+            "input" => self.input = text.spelled(value),
+            _ => self.add_frame(text, value),
         }
-        Ok(())
     }
 }

@@ -5,51 +5,55 @@
 //! - `=stack N`, `=bound N`, `=input BYTES` (in hexadecimal), `=frame NAME N`, `=depth N`: for the next program alone;
 //!   with none the stack is the greatest that there is, the bound is 100,000, there is no input, a frame takes no room,
 //!   and what nests deeper than 4,000 levels is want of memory.
+//! - `=ones N`: in the next program the last function of each module returns `1 + 1 + ..` of so many operands in place of
+//!   its body, as a tree: no text may be so long.
 //! - `:NAME TEXT`: a module of the next program; modules come in byte order of their names.
 //! - `+TEXT`: the last module, which is called `a`; and then the program runs. `!` runs those that came.
 #![tactic(auto)]
 
 mod answers;
 mod job;
+mod ones;
 
-use answers::{push_line_number, push_run};
+use answers::push_run;
 use job::Job;
-use std::alloc::{AllocError, Global};
-use std::io::{self, BufRead, BufReader};
+use pw_rows::{Program, Text, answer_rows};
+use std::io;
 
-/// Adds what is printed for a line, which may be a part of a program only.
-fn add_line(
-    alloc: Global,
-    output: &mut Vec<u8>,
-    job: &mut Job,
-    number: usize,
-    line: &str,
-) -> Result<(), AllocError> {
-    if let Some(setting) = line.strip_prefix('=') {
-        return job.set(alloc, setting);
+/// Adds the number of a program's last line and how its run ends; none of it is left.
+fn answer_job(text: &mut Text, number: usize, job: &mut Job) {
+    text.display(&number);
+    text.push(b" ");
+    push_run(text, job);
+    text.push(b"\n");
+    *job = Job::new(text.alloc());
+}
+
+/// Adds a module, by a row that has its name and its text.
+fn add_named(text: &mut Text, job: &mut Job, row: &str) {
+    let (name, source) = row.split_once(' ').unwrap_or((row, ""));
+    job.add_module(text, name, source);
+}
+
+impl Program for Job {
+    fn answer(&mut self, text: &mut Text, number: usize, row: &str) {
+        if let Some(setting) = row.strip_prefix('=') {
+            self.set(text, setting);
+        } else if let Some(module) = row.strip_prefix(':') {
+            add_named(text, self, module);
+        } else if let Some(source) = row.strip_prefix('+') {
+            self.add_module(text, "a", source);
+            answer_job(text, number, self);
+        } else if row == "!" {
+            answer_job(text, number, self);
+        } else {
+            text.push(row.as_bytes());
+            text.push(b"\n");
+        }
     }
-    if let Some(module) = line.strip_prefix(':') {
-        let (name, text) = module.split_once(' ').unwrap_or((module, ""));
-        return job.add_module(alloc, name, text);
-    }
-    if let Some(text) = line.strip_prefix('+') {
-        job.add_module(alloc, "a", text)?;
-    } else if line != "!" {
-        output.extend_from_slice(line.as_bytes())?;
-        return Ok(output.push(b'\n')?);
-    }
-    push_line_number(alloc, output, number)?;
-    push_run(alloc, output, job)?;
-    output.push(b'\n')?;
-    job.clear(alloc)
 }
 
 fn main(rt: HostRuntime) -> io::Result<()> {
-    let alloc = rt.alloc();
-    let mut output = Vec::new(alloc);
-    let mut job = Job::new(alloc);
-    for (index, line) in BufReader::new(alloc, rt.reader())?.lines(alloc).enumerate() {
-        add_line(alloc, &mut output, &mut job, index + 1, &line?)?;
-    }
-    io::Write::write_all(&mut rt.stdout(), &output)
+    let mut job = Job::new(rt.alloc());
+    answer_rows(rt.alloc(), rt.reader(), &mut rt.stdout(), &mut job)
 }

@@ -1,9 +1,8 @@
 // The text of an instruction in a listing.
-ghost use Rattle.std.specs.Prelude.{◌≡◌, IfOk, if◌then◌else◌};
+ghost use Rattle.std.specs.Prelude.{◌≡◌, IfOk};
 ghost use Rattle.std.specs.String.{string_bytes};
 ghost use Rattle.pw_inst.specs.InstructionTable.{IsInRange, IsCondition};
-ghost use Rattle.pw_inst.specs.Lines.{shown};
-ghost use Rattle.pw_inst.specs.Listing.{target, condition, negated, nullification, load, store, registers, bit_field, compare_clear, compare_branch, branch_and_link, pair, subtract, register_branch, listed};
+ghost use Rattle.pw_inst.specs.Listing.{target, condition, negated, nullification, load, store, registers, bit_field, compare_clear, compare_branch, branch_and_link, pair, subtract, register_branch, listed, mnemonic};
 
 use crate::{Inst, NoMemory};
 use std::alloc::Global;
@@ -18,86 +17,91 @@ pub fn target(address: u32, disp: i32) -> u32
         .wrapping_add(disp.cast_unsigned().wrapping_mul(4))
 }
 
-/// The form of a line in a listing, with what stands in it in the order of the text: a name where several instructions
-/// have the form, and operands.
-#[derive(Clone, Copy)]
-enum Line {
-    Load(&'static str, i32, u8, u8),
-    Store(&'static str, u8, i32, u8),
-    Registers(&'static str, u8, u8, u8),
-    BitField(&'static str, u8, u8, u8, u8),
-    Pair(&'static str, u32, u32),
-    Subtract(i32, u8, u8),
-    /// With the text of the condition, as the next has it.
-    CompareClear(&'static str, u8, u8, u8),
-    CompareBranch(&'static str, &'static str, u8, u8, u32),
-    BranchAndLink(bool, u32, u8),
-    /// Whether it nullifies, and what stands before the register.
-    RegisterBranch(&'static str, bool, &'static str, u8),
-}
-
-/// The line of an instruction at an address.
-#[tactic(auto, unfolding(crate::specs::Listing::listed, crate::specs::InstructionTable::IsInRange))]
-fn line_of(inst: Inst, address: u32) -> Line
-    requires { IsInRange inst }
-    ensures { shown result ≡ listed inst address }
+/// The name of an instruction's form.
+#[tactic(auto, unfolding(crate::specs::Listing::mnemonic))]
+fn mnemonic(inst: Inst) -> &'static str
+    ensures { result.now ≡ mnemonic inst }
 {
     match inst {
-        Inst::Ldb { im, b, t } => Line::Load("LDB", im, b, t),
-        Inst::Ldh { im, b, t } => Line::Load("LDH", im, b, t),
-        Inst::Ldw { im, b, t } => Line::Load("LDW", im, b, t),
-        Inst::Ldo { im, b, t } => Line::Load("LDO", im, b, t),
-        Inst::Stb { r, im, b } => Line::Store("STB", r, im, b),
-        Inst::Sth { r, im, b } => Line::Store("STH", r, im, b),
-        Inst::Stw { r, im, b } => Line::Store("STW", r, im, b),
-        Inst::Ldil { im, t } => Line::Pair("LDIL", im, u32::from(t)),
-        Inst::And { r1, r2, t } => Line::Registers("AND", r1, r2, t),
-        Inst::Or { r1, r2, t } => Line::Registers("OR", r1, r2, t),
-        Inst::Xor { r1, r2, t } => Line::Registers("XOR", r1, r2, t),
-        Inst::Sub { r1, r2, t } => Line::Registers("SUB", r1, r2, t),
-        Inst::Addl { r1, r2, t } => Line::Registers("ADDL", r1, r2, t),
-        Inst::Vshd { r1, r2, t } => Line::Registers("VSHD", r1, r2, t),
-        Inst::Mtctl { r } => Line::Pair("MTCTL", u32::from(r), 11),
-        Inst::Comclr { c, f, r1, r2, t } => Line::CompareClear(told_name(c, f), r1, r2, t),
-        Inst::Subi { im, r, t } => Line::Subtract(im, r, t),
-        Inst::Extru { r, p, len, t } => Line::BitField("EXTRU", r, p, len, t),
-        Inst::Extrs { r, p, len, t } => Line::BitField("EXTRS", r, p, len, t),
-        Inst::Zdep { r, p, len, t } => Line::BitField("ZDEP", r, p, len, t),
-        Inst::Combt { c, r1, r2, disp } => {
-            Line::CompareBranch("COMBT", condition_name(c), r1, r2, target(address, disp))
-        }
-        Inst::Combf { c, r1, r2, disp } => {
-            Line::CompareBranch("COMBF", condition_name(c), r1, r2, target(address, disp))
-        }
-        Inst::Bl { disp, t, n } => Line::BranchAndLink(n, target(address, disp), t),
-        Inst::Bv { b, n } => Line::RegisterBranch("BV", n, "", b),
-        Inst::Ble { b, n } => Line::RegisterBranch("BLE", n, "4,", b),
-        Inst::Break { im5, im13 } => Line::Pair("BREAK", u32::from(im5), u32::from(im13)),
+        Inst::Ldb { .. } => "LDB",
+        Inst::Ldh { .. } => "LDH",
+        Inst::Ldw { .. } => "LDW",
+        Inst::Ldo { .. } => "LDO",
+        Inst::Stb { .. } => "STB",
+        Inst::Sth { .. } => "STH",
+        Inst::Stw { .. } => "STW",
+        Inst::Ldil { .. } => "LDIL",
+        Inst::And { .. } => "AND",
+        Inst::Or { .. } => "OR",
+        Inst::Xor { .. } => "XOR",
+        Inst::Sub { .. } => "SUB",
+        Inst::Addl { .. } => "ADDL",
+        Inst::Vshd { .. } => "VSHD",
+        Inst::Mtctl { .. } => "MTCTL",
+        Inst::Comclr { .. } => "COMCLR",
+        Inst::Subi { .. } => "SUBI",
+        Inst::Extru { .. } => "EXTRU",
+        Inst::Extrs { .. } => "EXTRS",
+        Inst::Zdep { .. } => "ZDEP",
+        Inst::Combt { .. } => "COMBT",
+        Inst::Combf { .. } => "COMBF",
+        Inst::Bl { .. } => "BL",
+        Inst::Bv { .. } => "BV",
+        Inst::Ble { .. } => "BLE",
+        Inst::Break { .. } => "BREAK",
     }
 }
 
 /// The text of an instruction at an address, as a listing has it: `LDW -20(30),2`.
 ///
 /// A branch shows its target as eight hexadecimal digits. Fails only where memory runs out.
+#[tactic(auto, unfolding(crate::specs::Listing::listed, crate::specs::Listing::line, crate::specs::InstructionTable::IsInRange))]
 pub fn text(alloc: Global, inst: Inst, address: u32) -> Result<String, NoMemory>
     requires { IsInRange inst }
     ensures { IfOk result (λ s. string_bytes s ≡ listed inst address) }
 {
-    match line_of(inst, address) {
-        Line::Load(name, im, b, t) => load_text(alloc, name, im, b, t),
-        Line::Store(name, r, im, b) => store_text(alloc, name, r, im, b),
-        Line::Registers(name, r1, r2, t) => registers_text(alloc, name, r1, r2, t),
-        Line::BitField(name, r, p, len, t) => bit_field_text(alloc, name, r, p, len, t),
-        Line::Pair(name, first, second) => pair_text(alloc, name, first, second),
-        Line::Subtract(im, r, t) => subtract_text(alloc, im, r, t),
-        Line::CompareClear(condition, r1, r2, t) => {
-            compare_clear_text(alloc, condition, r1, r2, t)
-        }
-        Line::CompareBranch(name, condition, r1, r2, to) => {
-            compare_branch_text(alloc, name, condition, r1, r2, to)
-        }
-        Line::BranchAndLink(n, to, t) => branch_and_link_text(alloc, n, to, t),
-        Line::RegisterBranch(name, n, space, b) => register_branch_text(alloc, name, n, space, b),
+    let name = mnemonic(inst);
+    match inst {
+        Inst::Ldb { im, b, t } => load_text(alloc, name, im, b, t),
+        Inst::Ldh { im, b, t } => load_text(alloc, name, im, b, t),
+        Inst::Ldw { im, b, t } => load_text(alloc, name, im, b, t),
+        Inst::Ldo { im, b, t } => load_text(alloc, name, im, b, t),
+        Inst::Stb { r, im, b } => store_text(alloc, name, r, im, b),
+        Inst::Sth { r, im, b } => store_text(alloc, name, r, im, b),
+        Inst::Stw { r, im, b } => store_text(alloc, name, r, im, b),
+        Inst::Ldil { im, t } => pair_text(alloc, name, im, u32::from(t)),
+        Inst::And { r1, r2, t } => registers_text(alloc, name, r1, r2, t),
+        Inst::Or { r1, r2, t } => registers_text(alloc, name, r1, r2, t),
+        Inst::Xor { r1, r2, t } => registers_text(alloc, name, r1, r2, t),
+        Inst::Sub { r1, r2, t } => registers_text(alloc, name, r1, r2, t),
+        Inst::Addl { r1, r2, t } => registers_text(alloc, name, r1, r2, t),
+        Inst::Vshd { r1, r2, t } => registers_text(alloc, name, r1, r2, t),
+        Inst::Mtctl { r } => pair_text(alloc, name, u32::from(r), 11),
+        Inst::Comclr { c, f, r1, r2, t } => compare_clear_text(alloc, name, c, f, r1, r2, t),
+        Inst::Subi { im, r, t } => subtract_text(alloc, name, im, r, t),
+        Inst::Extru { r, p, len, t } => bit_field_text(alloc, name, r, p, len, t),
+        Inst::Extrs { r, p, len, t } => bit_field_text(alloc, name, r, p, len, t),
+        Inst::Zdep { r, p, len, t } => bit_field_text(alloc, name, r, p, len, t),
+        Inst::Combt { c, r1, r2, disp } => compare_branch_text(
+            alloc,
+            name,
+            c,
+            r1,
+            r2,
+            target(address, disp),
+        ),
+        Inst::Combf { c, r1, r2, disp } => compare_branch_text(
+            alloc,
+            name,
+            c,
+            r1,
+            r2,
+            target(address, disp),
+        ),
+        Inst::Bl { disp, t, n } => branch_and_link_text(alloc, name, n, target(address, disp), t),
+        Inst::Bv { b, n } => register_branch_text(alloc, name, n, "", b),
+        Inst::Ble { b, n } => register_branch_text(alloc, name, n, "4,", b),
+        Inst::Break { im5, im13 } => pair_text(alloc, name, u32::from(im5), u32::from(im13)),
     }
 }
 
@@ -107,10 +111,10 @@ fn pair_text(alloc: Global, name: &str, first: u32, second: u32) -> Result<Strin
     format!(in alloc; "{name} {first},{second}")
 }
 
-fn subtract_text(alloc: Global, im: i32, r: u8, t: u8) -> Result<String, NoMemory>
-    ensures { IfOk result (λ s. string_bytes s ≡ subtract im r t) }
+fn subtract_text(alloc: Global, name: &str, im: i32, r: u8, t: u8) -> Result<String, NoMemory>
+    ensures { IfOk result (λ s. string_bytes s ≡ subtract name.now im r t) }
 {
-    format!(in alloc; "SUBI {im},{r},{t}")
+    format!(in alloc; "{name} {im},{r},{t}")
 }
 
 fn register_branch_text(
@@ -158,35 +162,50 @@ fn bit_field_text(
 
 fn compare_clear_text(
     alloc: Global,
-    condition: &str,
+    name: &str,
+    c: u8,
+    f: bool,
     r1: u8,
     r2: u8,
     t: u8,
 ) -> Result<String, NoMemory>
-    ensures { IfOk result (λ s. string_bytes s ≡ compare_clear condition.now r1 r2 t) }
+    requires { IsCondition c }
+    ensures { IfOk result (λ s. string_bytes s ≡ compare_clear name.now c f r1 r2 t) }
 {
-    format!(in alloc; "COMCLR,{condition} {r1},{r2},{t}")
+    let condition = if f {
+        negated_name(c)
+    } else {
+        condition_name(c)
+    };
+    format!(in alloc; "{name},{condition} {r1},{r2},{t}")
 }
 
-#[tactic(auto, unfolding(crate::specs::Listing::compare_branch), using(crate::proofs::HexadecimalLemmas::hexadecimal_of_word))]
+#[tactic(auto, using(crate::proofs::HexadecimalLemmas::hexadecimal_of_word))]
 fn compare_branch_text(
     alloc: Global,
     name: &str,
-    condition: &str,
+    c: u8,
     r1: u8,
     r2: u8,
     to: u32,
 ) -> Result<String, NoMemory>
-    ensures { IfOk result (λ s. string_bytes s ≡ compare_branch name.now condition.now r1 r2 to) }
+    requires { IsCondition c }
+    ensures { IfOk result (λ s. string_bytes s ≡ compare_branch name.now c r1 r2 to) }
 {
-    format!(in alloc; "{name},{condition} {r1},{r2},{to:08x}")
+    format!(in alloc; "{name},{} {r1},{r2},{to:08x}", condition_name(c))
 }
 
-#[tactic(auto, unfolding(crate::specs::Listing::branch_and_link), using(crate::proofs::HexadecimalLemmas::hexadecimal_of_word))]
-fn branch_and_link_text(alloc: Global, n: bool, to: u32, t: u8) -> Result<String, NoMemory>
-    ensures { IfOk result (λ s. string_bytes s ≡ branch_and_link n to t) }
+#[tactic(auto, using(crate::proofs::HexadecimalLemmas::hexadecimal_of_word))]
+fn branch_and_link_text(
+    alloc: Global,
+    name: &str,
+    n: bool,
+    to: u32,
+    t: u8,
+) -> Result<String, NoMemory>
+    ensures { IfOk result (λ s. string_bytes s ≡ branch_and_link name.now n to t) }
 {
-    format!(in alloc; "BL{} {to:08x},{t}", nullification_name(n))
+    format!(in alloc; "{name}{} {to:08x},{t}", nullification_name(n))
 }
 
 fn condition_name(c: u8) -> &'static str
@@ -214,18 +233,6 @@ fn negated_name(c: u8) -> &'static str
         3 => ">",
         4 => ">>=",
         _ => ">>",
-    }
-}
-
-/// The text of a condition, or of its negation.
-fn told_name(c: u8, f: bool) -> &'static str
-    requires { IsCondition c }
-    ensures { result.now ≡ if f then negated c else condition c }
-{
-    if f {
-        negated_name(c)
-    } else {
-        condition_name(c)
     }
 }
 

@@ -5,9 +5,9 @@ use Rattle.std.specs.List.{AllByRecursion}
 use Rattle.pw_value.specs.FieldLaws.{AreBytes}
 use Rattle.pw_object.specs.declared.object.Object.{Object}
 use Rattle.pw_object.specs.Object.{IsObjectFile}
+use Rattle.pw_modules.specs.FileNames.{object_name}
 use Rattle.pw_modules.specs.declared.modules.Module.{Module}
 use Rattle.pw_answer.specs.Effects.{NamedFile}
-use Rattle.pw_kept.specs.Kept.{object_name}
 use Rattle.pw_kept.specs.Files.{AreObjectFiles, HoldBytes, made_anew}
 
 -- what was made of the modules so far, with what is to be made of those that are left, is what is to be made of all

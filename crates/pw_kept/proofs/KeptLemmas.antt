@@ -10,10 +10,11 @@ use Rattle.pw_io.specs.declared.StoreError.{StoreError}
 use Rattle.pw_files.specs.Contents.{value_of}
 use Rattle.pw_object.specs.Reading.{object_file_at}
 use Rattle.pw_object.specs.declared.object.Object.{Object}
+use Rattle.pw_modules.specs.FileNames.{object_name}
 use Rattle.pw_modules.specs.declared.modules.Module.{Module}
 use Rattle.pw_modules.proofs.ModuleLemmas.{mapped_rest}
 use Rattle.pw_value.specs.Limits.{kept_limit}
-use Rattle.pw_kept.specs.Kept.{counted, if_object, kept_bytes, kept_object, object_in, object_name}
+use Rattle.pw_kept.specs.Kept.{counted, if_object, kept_bytes, kept_object, object_in}
 
 pub keeps_on : (first now later : Option Told) → Keeps first now → Keeps now later → Keeps first later
 keeps_on None now later h k = tt

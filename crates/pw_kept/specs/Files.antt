@@ -1,5 +1,5 @@
 -- The files of a program that was built, and which of them are put.
-use Rattle.std.specs.Prelude.{◌≡◌, ℕ, Bool, true, false, not, if◌then◌else◌, List, [], ◌∷◌, ◌++◌, codes, map, Result, Ok, Err, String, Vec, string_bytes}
+use Rattle.std.specs.Prelude.{◌≡◌, ℕ, Bool, true, false, not, if◌then◌else◌, List, [], ◌∷◌, ◌++◌, map, Result, Ok, Err, String, Vec, string_bytes}
 use Rattle.std.specs.List.{AllByRecursion}
 use Rattle.std.specs.declared.alloc.Global.{Global}
 use Rattle.pw_io.specs.Files.{Files}
@@ -7,13 +7,14 @@ use Rattle.pw_io.specs.declared.StoreError.{StoreError}
 use Rattle.pw_value.specs.FieldLaws.{AreBytes}
 use Rattle.pw_object.specs.declared.object.Object.{Object}
 use Rattle.pw_object.specs.Object.{IsObjectFile}
+use Rattle.pw_modules.specs.FileNames.{database_name, image_name, object_name}
 use Rattle.pw_answer.specs.declared.answer.Answer.{Answer}
 use Rattle.pw_answer.specs.declared.answer.Answer.TheVariants as answer
 use Rattle.pw_answer.specs.Effects.{NamedFile}
 use Rattle.pw_answer.specs.Outcomes.{store_answer}
 use Rattle.pw_kept.specs.declared.files.ProgramFiles.{ProgramFiles}
 use Rattle.pw_kept.specs.declared.prepared.Prepared.{Prepared}
-use Rattle.pw_kept.specs.Kept.{is_same, kept_bytes, object_name}
+use Rattle.pw_kept.specs.Kept.{is_same, kept_bytes}
 
 -- ---- the objects
 
@@ -46,9 +47,9 @@ pub record IsCompared (files : Files) (count : ℕ) (made : ProgramFiles) (p : P
   pub rebuilt : p.rebuilt.items ≡ made.fresh.names.items
   pub objects : p.objects.items ≡ made.fresh.files.items
   pub database : p.database.items ≡ made.database.items
-  pub database_changed : p.database_changed ≡ not (is_same (kept_bytes files (codes "prog.db")) made.database.items)
+  pub database_changed : p.database_changed ≡ not (is_same (kept_bytes files database_name) made.database.items)
   pub image : p.image.items ≡ made.image.items
-  pub image_changed : p.image_changed ≡ not (is_same (kept_bytes files (codes "prog.img")) made.image.items)
+  pub image_changed : p.image_changed ≡ not (is_same (kept_bytes files image_name) made.image.items)
 
 abbrev pub one_if : Bool → List ℕ → List ℕ → List NamedFile
 one_if true name bytes = (name, bytes) ∷ []
@@ -56,7 +57,7 @@ one_if false name bytes = []
 
 -- the database and the image, each if it changed
 abbrev pub program_files : Prepared → List NamedFile
-program_files p = one_if p.database_changed (codes "prog.db") p.database.items ++ one_if p.image_changed (codes "prog.img") p.image.items
+program_files p = one_if p.database_changed database_name p.database.items ++ one_if p.image_changed image_name p.image.items
 
 -- the files that are put: the objects that are made anew, then the database and the image, each if it changed
 abbrev pub changed_files : Prepared → List NamedFile

@@ -1,5 +1,5 @@
 -- What a store keeps of builds before.
-use Rattle.std.specs.Prelude.{ℕ, Bool, false, List, ◌++◌, codes, Option, Some, None, Result, Ok, Err}
+use Rattle.std.specs.Prelude.{ℕ, Bool, false, List, Option, Some, None, Result, Ok, Err}
 use Rattle.std.specs.Str.{bytes_eq}
 use Rattle.std.specs.FinMap as finite
 use Rattle.pw_io.specs.Files.{Files, front_of}
@@ -7,6 +7,7 @@ use Rattle.pw_value.specs.Limits.{kept_limit}
 use Rattle.pw_files.specs.Contents.{value_of}
 use Rattle.pw_object.specs.declared.object.Object.{Object}
 use Rattle.pw_object.specs.Reading.{object_file_at}
+use Rattle.pw_modules.specs.FileNames.{object_name}
 
 -- of a kept file so many bytes are read, and count as the file
 abbrev pub counted : Option (List ℕ) → Option (List ℕ)
@@ -16,10 +17,6 @@ counted (Some bytes) = Some (front_of kept_limit bytes)
 -- the bytes of a kept file, as far as they count
 abbrev pub kept_bytes : Files → List ℕ → Option (List ℕ)
 kept_bytes files name = counted (finite.get files name)
-
--- the name of the file of a module's object
-abbrev pub object_name : List ℕ → List ℕ
-object_name name = name ++ codes ".obj"
 
 abbrev pub if_object : Result Object ℕ → Option Object
 if_object (Ok object) = Some object

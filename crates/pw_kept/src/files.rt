@@ -6,7 +6,7 @@ ghost use Rattle.pw_value.specs.FieldLaws.{AreBytes};
 ghost use Rattle.pw_db.specs.Database.{IsDatabase, IsDatabaseFile};
 ghost use Rattle.pw_object.specs.Object.{IsObject, IsObjectFile};
 ghost use Rattle.pw_image.specs.Image.{IsImage, IsImageFile, view};
-ghost use Rattle.pw_kept.specs.Kept.{object_name};
+ghost use Rattle.pw_modules.specs.FileNames.{object_name};
 ghost use Rattle.pw_kept.specs.Files.{AreObjectFiles, HoldBytes, file_view, made_anew};
 
 use crate::kept::object_name;

@@ -8,10 +8,11 @@ ghost use Rattle.pw_io.specs.Faults.{HasStoreCause};
 ghost use Rattle.pw_object.specs.Object.{IsObject};
 ghost use Rattle.pw_files.specs.Contents.{value_of};
 ghost use Rattle.pw_object.specs.Reading.{object_file_at};
-ghost use Rattle.pw_kept.specs.Kept.{if_object, is_same, kept_bytes, kept_object, object_name};
+ghost use Rattle.pw_modules.specs.FileNames.{object_name};
+ghost use Rattle.pw_kept.specs.Kept.{if_object, is_same, kept_bytes, kept_object};
 
 use pw_io::{Store, StoreError};
-use pw_modules::Module;
+use pw_modules::{Module, OBJECT_ENDING};
 use pw_object::Object;
 use pw_value::limits::KEPT_LIMIT;
 use pw_value::{FileError, Name};
@@ -38,7 +39,7 @@ pub fn object_name(alloc: Global, name: &Name) -> Result<String, AllocError>
     match str::from_utf8(name.as_bytes()) {
         Ok(text) => {
             let mut file = String::from_str(alloc, text)?;
-            file.push_str(".obj")?;
+            file.push_str(OBJECT_ENDING)?;
             Ok(file)
         }
         Err(_bad) => Err(AllocError),

@@ -8,6 +8,7 @@ ghost use Rattle.pw_kept.specs.Files.{IsCompared};
 use crate::files::{FreshFiles, ProgramFiles};
 use crate::kept::is_changed;
 use pw_io::{Store, StoreError};
+use pw_modules::{DATABASE_NAME, IMAGE_NAME};
 use pw_value::Name;
 use std::alloc::Global;
 
@@ -38,8 +39,8 @@ pub fn compared<S: Store>(
     ensures same { Keeps (S.told store.old) (S.told store.new) }
     ensures cause { HasStoreCause (S.faults store.old) (S.faults store.new) result }
 {
-    let database_changed = is_changed(alloc, store, "prog.db", &files.database)?;
-    let image_changed = is_changed(alloc, store, "prog.img", &files.image)?;
+    let database_changed = is_changed(alloc, store, DATABASE_NAME, &files.database)?;
+    let image_changed = is_changed(alloc, store, IMAGE_NAME, &files.image)?;
     let ProgramFiles {
         fresh,
         database,

@@ -7,6 +7,7 @@ ghost use Rattle.pw_kept.specs.Files.{changed_files, file_view, one_if, program_
 
 use crate::prepared::Prepared;
 use pw_io::{Store, StoreError};
+use pw_modules::{DATABASE_NAME, IMAGE_NAME};
 use std::alloc::Global;
 
 /// Puts one file.
@@ -71,14 +72,14 @@ fn put_program<S: Store>(
         alloc,
         store,
         prepared.database_changed,
-        "prog.db",
+        DATABASE_NAME,
         &prepared.database,
     ) {
         Ok(()) => put_if(
             alloc,
             store,
             prepared.image_changed,
-            "prog.img",
+            IMAGE_NAME,
             &prepared.image,
         ),
         Err(error) => Err(error),

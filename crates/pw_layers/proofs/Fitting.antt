@@ -11,6 +11,7 @@ use Rattle.pw_db.specs.declared.database.Role.{Role}
 use Rattle.pw_db.specs.declared.database.Role.TheVariants.{Entry}
 use Rattle.pw_db.specs.declared.database.Directives.{Directives}
 use Rattle.pw_db.specs.Database.{EachTwo, IsWeb, IsDirectives}
+use Rattle.pw_db.specs.Limits.{first_register, last_register, register_count}
 use Rattle.pw_flow.specs.declared.flow.Op.{Op}
 use Rattle.pw_flow.specs.declared.flow.Op.TheVariants.{LoadG, StoreG}
 use Rattle.pw_flow.specs.declared.flow.Block.{Block}
@@ -35,26 +36,26 @@ few_slots [] = omega arith
 few_slots (Slot offset ∷ rest) = let h = few_slots rest in omega arith
 few_slots (Reg r ∷ rest) = let h = few_slots rest in omega arith
 
--- registers that rise, from one on to 18
-few_registers : (rs : List ℕ) (low : ℕ) → ((r : ℕ) → Contains rs r → (low ≤ r) × (r ≤ 18)) → EachTwo (λ r q. r < q) rs → length rs ≤ 19 - low
+-- registers that rise, from one on to the last that a callee keeps
+few_registers : (rs : List ℕ) (low : ℕ) → ((r : ℕ) → Contains rs r → (low ≤ r) × (r ≤ last_register)) → EachTwo (λ r q. r < q) rs → length rs ≤ last_register + 1 - low
 few_registers [] low within rise = omega arith
 few_registers (x ∷ rs) low within rise =
-    let here : (low ≤ x) × (x ≤ 18) = within x (first_there x rs) in
-    let rest : length rs ≤ 19 - suc x = few_registers rs (suc x) (λ r c.
+    let here : (low ≤ x) × (x ≤ last_register) = within x (first_there x rs) in
+    let rest : length rs ≤ last_register + 1 - suc x = few_registers rs (suc x) (λ r c.
     let above : x < r = All-contains (λ q. x < q) rs r (All-from_recursion (λ q. x < q) rs rise.0) c in
     let next : suc x ≤ r = omega (arith, above) in
     (next, (within r (Contains-append_right (x ∷ []) rs r c)).1)) rise.1 in
     omega (arith, here.0, here.1, rest)
 
 saved_within : (f : FlowFn) (d : Directives) (l : Located) → IsDirectives d → Serves (directed f d) l
-    → (r : ℕ) → Changes (directed f d) l r → (3 ≤ r) × (r ≤ 18)
+    → (r : ℕ) → Changes (directed f d) l r → (first_register ≤ r) × (r ≤ last_register)
 unfolding directed
 saved_within f d l lawful s r (places c high) = (((s.registers r c).0).low, high)
 saved_within f d l lawful s r (enters has) =
     let web : IsWeb has.web = All-contains IsWeb (map (λ w. w.0) d.webs) has.web
     (All-from_recursion IsWeb (map (λ w. w.0) d.webs) lawful.each)
     (map_there (λ (w : Web × Role). w.0) d.webs (has.web, Entry) has.there) in
-    (subst (λ r. 3 ≤ r) has.is web.low, subst (λ r. r ≤ 18) has.is web.high)
+    (subst (λ r. first_register ≤ r) has.is web.low, subst (λ r. r ≤ last_register) has.is web.high)
 
 -- ---- arguments
 
@@ -88,14 +89,14 @@ directed_ops webs (b ∷ bs) =
 
 -- ---- together
 
-bound : (m s t temps sizes : ℕ) → s ≤ 16 → t ≤ temps
+bound : (m s t temps sizes : ℕ) → s ≤ register_count → t ≤ temps
     → slots_begin (48 + 4 * (m - 4)) s t + sizes ≤ 128 + 4 * temps + 4 * m + sizes
 bound m s t temps sizes p q = omega (arith, p, q)
 
 pub places_fit : PlacesFit
 unfolding directed
 places_fit f d l lawful ds s =
-    let few : length l.saved ≤ 16 = few_registers l.saved 3 (λ r c. saved_within f d l ds s r ((s.saved r).0 c)) s.order in
+    let few : length l.saved ≤ register_count = few_registers l.saved first_register (λ r c. saved_within f d l ds s r ((s.saved r).0 c)) s.order in
     let words : length (slots_alone l.places) ≤ f.temps = let a = few_slots l.places in let b : length l.places ≡ f.temps = s.count in omega (arith, a, b) in
     let m : ℕ = most_arguments (ops_of (directed f d)) in
     let n : ℕ = flow.most_arguments (flat_map (λ b. b.ops) f.blocks) in

@@ -10,6 +10,7 @@ ghost use Rattle.pw_typed.specs.Views.{view_expr, view_optional, view_stmt, view
 
 use pw_flow::End;
 use pw_lexpr::{Home, lower};
+use pw_lower::code::further;
 use pw_lower::{Code, Ways};
 use pw_lparts::Frame;
 use pw_lparts::cases::{begin_labels, choose, go_on, labels_of};

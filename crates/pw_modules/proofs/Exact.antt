@@ -1,5 +1,5 @@
 -- The map of the modules holds exactly what the files hold.
-use Rattle.std.proofs.Common.{◌≡◌, ◌↔◌, ◌⊎◌, ⊎_elim, inl, inr, ℕ, zero, suc, ◌+◌, ◌-◌, ◌≤◌, Bool, true, false, cond, ◌&&◌, nat_le, List, [], ◌∷◌, ◌++◌, length, take, drop, codes, Option, Some, None, IsSome, Contains, refl, sym, ap, ◌∙◌, subst, arith, length-append}
+use Rattle.std.proofs.Common.{◌≡◌, ◌↔◌, ◌⊎◌, ⊎_elim, inl, inr, ℕ, zero, suc, ◌+◌, ◌-◌, ◌≤◌, Bool, true, false, cond, ◌&&◌, nat_le, List, [], ◌∷◌, ◌++◌, length, take, drop, Option, Some, None, IsSome, Contains, refl, sym, ap, ◌∙◌, subst, arith, length-append}
 use Rattle.std.specs.Prelude.{fold}
 use Rattle.std.specs.Option.{option_map, option_map_or}
 use Rattle.std.specs.Ordering.{nat_cmp}
@@ -14,6 +14,7 @@ use Rattle.std.proofs.lemmas.Bool.Decides.{nat_tests, not_from_Decides}
 use Rattle.std.proofs.Math.Seq.{take-append_seam, drop-append_seam}
 use Rattle.pw_io.specs.Files.{Files, front_of}
 use Rattle.pw_io.proofs.FileMaps.{get-insert_same, get-insert_other, keys-order, keys-exact}
+use Rattle.pw_modules.specs.FileNames.{text_ending, text_name}
 use Rattle.pw_modules.specs.Modules.{stem, is_module_name, is_module_file, HoldsModule, with_module, module_map, text_read}
 
 -- ---- a module's file is its name and `.i`
@@ -30,33 +31,33 @@ all_true true false c p q r = cc
 all_true false b c p q r = cc
 
 -- the file is its module's name and `.i`
-pub file_split : (file : List ℕ) → is_module_file file ≡ true → (file ≡ stem file ++ codes ".i") × (is_module_name (stem file) ≡ true)
+pub file_split : (file : List ℕ) → is_module_file file ≡ true → (file ≡ stem file ++ text_ending) × (is_module_name (stem file) ≡ true)
 file_split file e =
-    let first = both (nat_le 2 (length file)) (bytes_eq (drop (length file - 2) file) (codes ".i") && is_module_name (stem file)) e in
-    let second = both (bytes_eq (drop (length file - 2) file) (codes ".i")) (is_module_name (stem file)) first.1 in
-    let ending : drop (length file - 2) file ≡ codes ".i" = (bytes_eq-Decides (drop (length file - 2) file) (codes ".i")).0 second.0 in
+    let first = both (nat_le 2 (length file)) (bytes_eq (drop (length file - 2) file) text_ending && is_module_name (stem file)) e in
+    let second = both (bytes_eq (drop (length file - 2) file) text_ending) (is_module_name (stem file)) first.1 in
+    let ending : drop (length file - 2) file ≡ text_ending = (bytes_eq-Decides (drop (length file - 2) file) text_ending).0 second.0 in
     (sym (take-append-drop (length file - 2) file) ∙ ap (λ (l : List ℕ). stem file ++ l) ending, second.1)
 
-size : (name : List ℕ) → length (name ++ codes ".i") ≡ length name + 2
-size name = length-append name (codes ".i")
+size : (name : List ℕ) → length (text_name name) ≡ length name + 2
+size name = length-append name text_ending
 
-two_less : (name : List ℕ) → length (name ++ codes ".i") - 2 ≡ length name
+two_less : (name : List ℕ) → length (text_name name) - 2 ≡ length name
 two_less name = omega (arith, size name)
 
-pub stem_of : (name : List ℕ) → stem (name ++ codes ".i") ≡ name
-stem_of name = ap (λ (n : ℕ). take n (name ++ codes ".i")) (two_less name) ∙ take-append_seam name (codes ".i")
+pub stem_of : (name : List ℕ) → stem (text_name name) ≡ name
+stem_of name = ap (λ (n : ℕ). take n (text_name name)) (two_less name) ∙ take-append_seam name text_ending
 
-ending_of : (name : List ℕ) → drop (length (name ++ codes ".i") - 2) (name ++ codes ".i") ≡ codes ".i"
-ending_of name = ap (λ (n : ℕ). drop n (name ++ codes ".i")) (two_less name) ∙ drop-append_seam name (codes ".i")
+ending_of : (name : List ℕ) → drop (length (text_name name) - 2) (text_name name) ≡ text_ending
+ending_of name = ap (λ (n : ℕ). drop n (text_name name)) (two_less name) ∙ drop-append_seam name text_ending
 
 long : (n : ℕ) → 2 ≤ n → nat_le 2 n ≡ true
 long n h = grind (arith, nat_tests)
 
-pub is_file : (name : List ℕ) → is_module_name name ≡ true → is_module_file (name ++ codes ".i") ≡ true
+pub is_file : (name : List ℕ) → is_module_name name ≡ true → is_module_file (text_name name) ≡ true
 is_file name named =
     all_true _ _ _
-    (long (length (name ++ codes ".i")) (omega (arith, size name)))
-    ((bytes_eq-Decides (drop (length (name ++ codes ".i") - 2) (name ++ codes ".i")) (codes ".i")).1 (ending_of name))
+    (long (length (text_name name)) (omega (arith, size name)))
+    ((bytes_eq-Decides (drop (length (text_name name) - 2) (text_name name)) text_ending).1 (ending_of name))
     (ap is_module_name (stem_of name) ∙ named)
 
 -- ---- one entry
@@ -124,7 +125,7 @@ changed_stays files modules file true (Some own) e f name text h g =
     (λ same. one_text files (stem file) (front_of text_read own) text (held files file own e f) (subst (λ (n : List ℕ). HoldsModule files n text) same h))
 
 changed_has : (files modules : Files) (file : List ℕ) (b : Bool) (found : Option (List ℕ)) → is_module_file file ≡ b → finite.get files file ≡ found
-    → (name text : List ℕ) → HoldsModule files name text → file ≡ name ++ codes ".i" → finite.get (changed modules file b found) name ≡ Some text
+    → (name text : List ℕ) → HoldsModule files name text → file ≡ text_name name → finite.get (changed modules file b found) name ≡ Some text
 changed_has files modules file false found e f name text h same = absurd (no_file (is_module_file file) e (ap is_module_file same ∙ is_file name h.named))
   where
     no_file : (b : Bool) → b ≡ false → b ≡ true → ⊥
@@ -154,13 +155,13 @@ first_or_later : (n : List ℕ) (ns : List (List ℕ)) (q : List ℕ) → Contai
 first_or_later n ns q (zero, lt, e) = inl e
 first_or_later n ns q (suc k, lt, e) = inr (k, omega (arith, lt), e)
 
-complete : (files modules : Files) (names : List (List ℕ)) (name text : List ℕ) → HoldsModule files name text → Contains names (name ++ codes ".i") → finite.get (fold (with_module files) modules names) name ≡ Some text
+complete : (files modules : Files) (names : List (List ℕ)) (name text : List ℕ) → HoldsModule files name text → Contains names (text_name name) → finite.get (fold (with_module files) modules names) name ≡ Some text
 complete files modules [] name text h (k, lt, e) = absurd (omega (arith, lt))
 complete files modules (file ∷ names) name text h within =
     ⊎_elim {C = finite.get (fold (with_module files) (with_module files modules file) names) name ≡ Some text}
     (λ same. keeps files (with_module files modules file) names name text h (changed_has files modules file (is_module_file file) (finite.get files file) refl refl name text h same))
     (λ later. complete files (with_module files modules file) names name text h later)
-    (first_or_later file names (name ++ codes ".i") within)
+    (first_or_later file names (text_name name) within)
 
 is_there : (o : Option (List ℕ)) (text : List ℕ) → option_map (front_of text_read) o ≡ Some text → IsSome o
 is_there None text e = cc
@@ -170,7 +171,7 @@ pub map_is_exact : (files : Files) (name text : List ℕ) → (finite.get (modul
 unfolding module_map
 map_is_exact files name text = (
   λ g. sound files finite.empty (finite.keys files) name text (λ n t found. absurd (none_is_some t (sym (get-empty (slice_cmp nat_cmp) n) ∙ found))) g,
-  λ h. complete files finite.empty (finite.keys files) name text h ((keys-exact files (name ++ codes ".i")).1 (is_there (finite.get files (name ++ codes ".i")) text h.reads)),
+  λ h. complete files finite.empty (finite.keys files) name text h ((keys-exact files (text_name name)).1 (is_there (finite.get files (text_name name)) text h.reads)),
 )
 
 pub map_rises : (files : Files) → IsStrictlySortedBy (slice_cmp nat_cmp) (finite.keys (module_map files))

@@ -1,5 +1,5 @@
 -- The modules that are read in order are those of the map.
-use Rattle.std.proofs.Common.{◌≡◌, ℕ, zero, suc, ◌+◌, Bool, true, false, cond, not, List, [], ◌∷◌, ◌++◌, length, map, codes, Option, Some, None, IsSome, Contains, refl, sym, ap, ◌∙◌, subst, arith}
+use Rattle.std.proofs.Common.{◌≡◌, ℕ, zero, suc, ◌+◌, Bool, true, false, cond, not, List, [], ◌∷◌, length, map, Option, Some, None, IsSome, Contains, refl, sym, ap, ◌∙◌, subst, arith}
 use Rattle.std.specs.Prelude.{fold, insert}
 use Rattle.std.specs.Option.{option_map, option_map_or}
 use Rattle.std.specs.Ordering.{nat_cmp, is_lt}
@@ -15,6 +15,7 @@ use Rattle.std.proofs.lemmas.Cmp.{nat_list_cmp_total, tied_itself}
 use Rattle.std.proofs.lemmas.List.Elements.{All-contains_itself, All-weaker, recursion_from_All}
 use Rattle.pw_io.specs.Files.{Files, front_of}
 use Rattle.pw_io.proofs.FileMaps.{keys-order, keys-exact}
+use Rattle.pw_modules.specs.FileNames.{text_name}
 use Rattle.pw_modules.specs.Modules.{Source, stem, is_module_file, with_module, module_map, modules_of, names_of_modules, text_read}
 use Rattle.pw_modules.specs.Reading.{is_before, placed, with_file, module_files, sources_of}
 use Rattle.pw_modules.proofs.Exact.{file_split}
@@ -34,7 +35,7 @@ equal_is_not_less o e f = cc
 apart : (file other : List ℕ) → is_module_file file ≡ true → is_module_file other ≡ true → by_bytes other file ≡ Less → by_bytes (stem file) (stem other) ≡ Equal → ⊥
 apart file other p q less equal =
     let stems : stem file ≡ stem other = slice_cmp-IsAntisymmetric nat_cmp-IsAntisymmetric (stem file) (stem other) equal in
-    let same : file ≡ other = (file_split file p).0 ∙ ap (λ (l : List ℕ). l ++ codes ".i") stems ∙ sym (file_split other q).0 in
+    let same : file ≡ other = (file_split file p).0 ∙ ap (λ (l : List ℕ). text_name l) stems ∙ sym (file_split other q).0 in
     equal_is_not_less (by_bytes other file) (ap (by_bytes other) same ∙ tied_itself nat_list_cmp_total other) less
 
 -- the text that is there

@@ -1,3 +1,4 @@
+pub mod FileNames
 pub mod Limits
 pub mod Modules
 pub mod Reading

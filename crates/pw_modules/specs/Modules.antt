@@ -1,5 +1,5 @@
 -- The modules of a store: each file named `NAME.i` is the module NAME, and their order is that of these names.
-use Rattle.std.specs.Prelude.{◌≡◌, ℕ, ◌+◌, ◌-◌, Bool, true, ◌==◌, ◌&&◌, ◌||◌, nat_le, List, length, take, drop, map, fold, codes, ◌++◌, Some, if◌then◌else◌}
+use Rattle.std.specs.Prelude.{◌≡◌, ℕ, ◌+◌, ◌-◌, Bool, true, ◌==◌, ◌&&◌, ◌||◌, nat_le, List, length, take, drop, map, fold, Some, if◌then◌else◌}
 use Rattle.std.specs.Option.{option_map, option_map_or}
 use Rattle.std.specs.List.{list_all}
 use Rattle.std.specs.Char.{is_ascii_alphanumeric}
@@ -7,6 +7,7 @@ use Rattle.std.specs.Str.{bytes_eq}
 use Rattle.std.specs.FinMap as finite
 use Rattle.pw_io.specs.Files.{Files, front_of}
 use Rattle.pw_token.specs.Limits.{text_limit}
+use Rattle.pw_modules.specs.FileNames.{text_ending, text_name}
 use Rattle.pw_modules.specs.Limits.{module_name_limit}
 
 -- bytes of a module's text that are read: one more than a text may have, so that one that is too long is seen to be
@@ -27,7 +28,7 @@ stem file = take (length file - 2) file
 
 -- the file of a module
 abbrev pub is_module_file : List ℕ → Bool
-is_module_file file = nat_le 2 (length file) && (bytes_eq (drop (length file - 2) file) (codes ".i") && is_module_name (stem file))
+is_module_file file = nat_le 2 (length file) && (bytes_eq (drop (length file - 2) file) text_ending && is_module_name (stem file))
 
 abbrev pub IsModuleFile : List ℕ → Type 0
 IsModuleFile file = is_module_file file ≡ true
@@ -35,7 +36,7 @@ IsModuleFile file = is_module_file file ≡ true
 -- The files hold a module of this name with this text: that of its file, as far as texts are read.
 pub record HoldsModule (files : Files) (name text : List ℕ) : Type 0 where
   pub named : is_module_name name ≡ true
-  pub reads : option_map (front_of text_read) (finite.get files (name ++ codes ".i")) ≡ Some text
+  pub reads : option_map (front_of text_read) (finite.get files (text_name name)) ≡ Some text
 
 -- What the modules are, said as a map from names to texts: `finite.get (module_map files) name` is `Some text` exactly
 -- where `HoldsModule files name text`, which the public law `modules_are_exact` states.

@@ -5,6 +5,7 @@ ghost use Rattle.std.specs.List.{list_all, position_or_len};
 ghost use Rattle.pw_modules.specs.Modules.{is_name_byte, is_module_name, is_module_file, IsModuleFile, stem, text_read};
 ghost use Rattle.pw_modules.specs.Reading.{is_before, placed, with_file, module_files};
 
+use crate::file_names::TEXT_ENDING;
 use crate::limits::MODULE_NAME_LIMIT;
 use pw_value::Name;
 use std::alloc::{AllocError, Global};
@@ -49,7 +50,7 @@ pub fn is_module_file(file: &[u8]) -> bool
         return false;
     }
     let (name, ending) = file.split_at(file.len() - 2);
-    ending == b".i".as_slice() && is_module_name(name)
+    ending == TEXT_ENDING.as_bytes() && is_module_name(name)
 }
 
 /// The name of a file without its last two bytes.

@@ -8,11 +8,12 @@ use Rattle.std.specs.FinMap as finite
 use Rattle.std.specs.FinMap.{get-empty}
 use Rattle.std.proofs.lemmas.List.{reverse-append}
 use Rattle.pw_io.specs.Files.{Files}
+use Rattle.pw_modules.specs.FileNames.{text_ending, object_ending, text_name, object_name}
 use Rattle.pw_modules.specs.Modules.{module_map}
 use Rattle.pw_answer.specs.Effects.{Effect}
 use Rattle.pw_gen.specs.Generator.{generated, main_text, module_file, module_of}
 use Rattle.pw_session.specs.FromBuild.BuildFault.{BuildFault}
-use Rattle.pw_session.specs.FromBuilding.Building.{BuildComes, Outcome, counted, object_in, object_name}
+use Rattle.pw_session.specs.FromBuilding.Building.{BuildComes, Outcome, counted, object_in}
 use Rattle.pw_session.specs.FromBuilding.Full.{BuildsImage, image_of}
 use Rattle.pw_session.specs.FromBuilding.Genuine.{KeepsGenuine}
 use Rattle.pw_session.specs.declared.opts.SessionOpts.{SessionOpts}
@@ -24,7 +25,7 @@ use Rattle.pw_session_laws.proofs.FullLemmas.{opened}
 
 -- the name ends as that of a module's text
 abbrev IsTextName : List ℕ → Type 0
-IsTextName name = (stem : List ℕ) × (name ≡ stem ++ codes ".i")
+IsTextName name = (stem : List ℕ) × (name ≡ text_name stem)
 
 first_of : List ℕ → ℕ
 first_of [] = 0
@@ -33,7 +34,7 @@ first_of (x ∷ xs) = x
 no_object : (file name : List ℕ) → IsTextName file → object_name name ≢ file
 unfolding first_of
 no_object file name is e =
-    let last : 106 ≡ 105 = ap first_of (sym (reverse-append name (codes ".obj")) ∙ ap reverse (e ∙ is.1) ∙ reverse-append is.0 (codes ".i")) in
+    let last : 106 ≡ 105 = ap first_of (sym (reverse-append name object_ending) ∙ ap reverse (e ∙ is.1) ∙ reverse-append is.0 text_ending) in
     omega (arith, last)
 
 -- ---- the files that are made

@@ -1,10 +1,11 @@
 -- What each command did, by its own clauses.
-use Rattle.std.proofs.Common.{◌≡◌, ℕ, ◌⊎◌, ⊎_elim, List, [], ◌++◌, codes, Option, Some, None, Result, Ok, Err, refl, sym, ap, ◌∙◌, subst}
+use Rattle.std.proofs.Common.{◌≡◌, ℕ, ◌⊎◌, ⊎_elim, List, [], Option, Some, None, Result, Ok, Err, refl, sym, ap, ◌∙◌, subst}
 use Rattle.std.specs.Prelude.{IfSome}
 use Rattle.pw_io.specs.Files.{Files, Told, Keeps}
 use Rattle.pw_object.specs.declared.object.Object.{Object}
 use Rattle.pw_db.specs.declared.database.Directives.{Directives}
 use Rattle.pw_flow.specs.declared.flow.FlowModule.{FlowModule}
+use Rattle.pw_modules.specs.FileNames.{database_name, text_name, flow_name}
 use Rattle.pw_compiling.specs.FromPhaseOne.FirstPhase.{Phase, compiled}
 use Rattle.pw_summary.specs.declared.summary.Summary.{Summary}
 use Rattle.pw_image.specs.Image.{ImageValue}
@@ -29,7 +30,7 @@ use Rattle.pw_run_laws.specs.FromCommands.Showing.{DatabaseComes, IsShowAnswer, 
 use Rattle.pw_session_laws.specs.FromSession.Bench.{BenchComes}
 use Rattle.pw_words.specs.declared.commands.Command.{Command}
 use Rattle.pw_words.specs.declared.commands.Command.TheVariants.{Go, Build as BuildAll, Session, PhaseOne, Analyse, PhaseTwo, Link, Run, List as ListImage, Db, Bench}
-use Rattle.pw_compiling.specs.First.{ComesOfPhase, IsLine, PhaseOneComes, PhaseOneOver, text_name}
+use Rattle.pw_compiling.specs.First.{ComesOfPhase, IsLine, PhaseOneComes, PhaseOneOver}
 use Rattle.pw_compiling.specs.Made.{IsPhaseAnswer}
 use Rattle.pw_compiling.specs.Second.{PhaseTwoComes, PhaseTwoOver, database_at, flow_at}
 use Rattle.pw_top.specs.Commands.{opts_of}
@@ -106,7 +107,7 @@ pub phase_two_does : (told new : Option Told) (rest taken : Option (List ℕ)) (
     → IfSome told (λ t. IfSome rest (λ input. Does (PhaseTwoComes t.files name input) answer t new input rest taken taken))
 phase_two_does told new rest taken name answer h =
     store_does (λ files input. PhaseTwoComes files name input) told new rest taken answer
-    (λ files input e d. phase_two_quiet name (needed flow_at files (name ++ codes ".flow")) (needed database_at files (codes "prog.db")) input e d) h
+    (λ files input e d. phase_two_quiet name (needed flow_at files (flow_name name)) (needed database_at files database_name) input e d) h
 
 pub link_does : (told new : Option Told) (rest taken : Option (List ℕ)) (stack : ℕ) (answer : Answer) → IfSome told (λ t. (input : List ℕ) → Obeys (LinkComes t.files stack input) answer t new)
     → IfSome told (λ t. IfSome rest (λ input. Does (LinkComes t.files stack input) answer t new input rest taken taken))
@@ -240,7 +241,7 @@ comes_ends runs builds (Some (Session colours stack steps)) files input e h = ab
 comes_ends runs builds (Some (Bench number colours stack steps)) files input e h = left_all input e (bench_prints number (opts_of colours stack steps) input e h).rest
 comes_ends runs builds (Some (PhaseOne name)) files input e h = left_all input e (phase_one_quiet name (needed_bytes files (text_name name)) input e h).rest
 comes_ends runs builds (Some (Analyse colours)) files input e h = left_all input e (analyse_quiet (summaries_of files) colours input e h).rest
-comes_ends runs builds (Some (PhaseTwo name)) files input e h = left_all input e (phase_two_quiet name (needed flow_at files (name ++ codes ".flow")) (needed database_at files (codes "prog.db")) input e h).rest
+comes_ends runs builds (Some (PhaseTwo name)) files input e h = left_all input e (phase_two_quiet name (needed flow_at files (flow_name name)) (needed database_at files database_name) input e h).rest
 comes_ends runs builds (Some (Link stack)) files input e h = left_all input e (link_quiet (objects_of files) stack input e h).rest
 comes_ends runs builds (Some (Run steps)) files input e h = subst (λ (x : Effect). Ends input x.rest) (sym h) (runs files steps input)
 comes_ends runs builds (Some ListImage) files input e h = left_all input e (list_prints (image_in files) input e h).rest

@@ -1,15 +1,16 @@
 -- Kept objects stay genuine where no object's file is put, and files that were not put stay as they were.
-use Rattle.std.proofs.Common.{◌≡◌, ℕ, ⊎_elim, List, [], ◌∷◌, ◌++◌, codes, Option, Some, None, refl, sym, ap, ◌∙◌, subst, arith, append-nil}
+use Rattle.std.proofs.Common.{◌≡◌, ℕ, ⊎_elim, List, [], ◌∷◌, ◌++◌, Option, Some, None, refl, sym, ap, ◌∙◌, subst, arith, append-nil}
 use Rattle.std.specs.Prelude.{IfSome, IsSomeAnd}
 use Rattle.std.specs.List.{AllByRecursion}
 use Rattle.pw_io.specs.Files.{Told, Keeps}
 use Rattle.pw_object.specs.declared.object.Object.{Object}
+use Rattle.pw_modules.specs.FileNames.{database_name, image_name, flow_name, summary_name, object_name}
 use Rattle.pw_answer.specs.declared.answer.Answer.{Answer}
 use Rattle.pw_answer.specs.declared.answer.Answer.TheVariants.{NoMemory}
 use Rattle.pw_answer.specs.Effects.{NamedFile, PutPart}
 use Rattle.pw_making.specs.Kept.{IsGenuine}
 use Rattle.pw_run_laws.specs.FromCommands.Others.{IsNoneOf, IsOneOf, KeepsOthers, PutsOnly}
-use Rattle.pw_kept.specs.Kept.{counted, object_in, object_name}
+use Rattle.pw_kept.specs.Kept.{counted, object_in}
 use Rattle.pw_session_laws.specs.FromBuilding.Genuine.{IsGenuineFile, KeepsGenuine}
 use Rattle.pw_compiling.specs.First.{phase_one_puts}
 use Rattle.pw_compiling.specs.Second.{IsMade, IsMadeFile, PutsMade}
@@ -36,16 +37,16 @@ last_behind (a ∷ b ∷ front) x more = last_behind (b ∷ front) x more
 differs : (name other : List ℕ) (last : ℕ) → last_of other ≡ last → (106 ≡ last → ⊥) → object_name name ≡ other → ⊥
 differs name other last e apart same = apart (sym (last_behind name 46 (111 ∷ 98 ∷ 106 ∷ [])) ∙ ap last_of same ∙ e)
 
-pub database_apart : (name : List ℕ) → IsNoneOf (codes "prog.db" ∷ []) (object_name name)
-database_apart name = (differs name (codes "prog.db") 98 refl (λ e. let h : 106 ≡ 98 = e in omega (arith, h)), tt)
+pub database_apart : (name : List ℕ) → IsNoneOf (database_name ∷ []) (object_name name)
+database_apart name = (differs name database_name 98 refl (λ e. let h : 106 ≡ 98 = e in omega (arith, h)), tt)
 
-pub image_apart : (name : List ℕ) → IsNoneOf (codes "prog.img" ∷ []) (object_name name)
-image_apart name = (differs name (codes "prog.img") 103 refl (λ e. let h : 106 ≡ 103 = e in omega (arith, h)), tt)
+pub image_apart : (name : List ℕ) → IsNoneOf (image_name ∷ []) (object_name name)
+image_apart name = (differs name image_name 103 refl (λ e. let h : 106 ≡ 103 = e in omega (arith, h)), tt)
 
 pub phase_one_apart : (unit name : List ℕ) → IsNoneOf (phase_one_puts unit) (object_name name)
 phase_one_apart unit name = (
-  differs name (unit ++ codes ".flow") 119 (last_behind unit 46 (102 ∷ 108 ∷ 111 ∷ 119 ∷ [])) (λ e. let h : 106 ≡ 119 = e in omega (arith, h)),
-  (differs name (unit ++ codes ".sum") 109 (last_behind unit 46 (115 ∷ 117 ∷ 109 ∷ [])) (λ e. let h : 106 ≡ 109 = e in omega (arith, h)), tt),
+  differs name (flow_name unit) 119 (last_behind unit 46 (102 ∷ 108 ∷ 111 ∷ 119 ∷ [])) (λ e. let h : 106 ≡ 119 = e in omega (arith, h)),
+  (differs name (summary_name unit) 109 (last_behind unit 46 (115 ∷ 117 ∷ 109 ∷ [])) (λ e. let h : 106 ≡ 109 = e in omega (arith, h)), tt),
 )
 
 -- ---- genuine objects
@@ -101,7 +102,7 @@ FilesKeepGenuine = (told : Told) (files : List NamedFile) (new : Option Told) �
 made_genuine : (object : Object) → IsMade object → IsGenuine object
 made_genuine object made = record { flow = made.flow; directives = made.directives; of_module = made.of_module; made = made.made }
 
-made_file : (name bytes : List ℕ) → IsMadeFile bytes → IsGenuineFile (name ++ codes ".obj", bytes)
+made_file : (name bytes : List ℕ) → IsMadeFile bytes → IsGenuineFile (object_name name, bytes)
 made_file name bytes made = λ other named. (made.object, made.fits, made.file, made_genuine made.object made.made)
 
 pub phase_two_genuine : FilesKeepGenuine → (told new : Option Told) (name : List ℕ) → IfSome told (λ t. PutsMade name t new) → IfSome told (λ t. KeepsGenuine t.files → IfSome new (λ now. KeepsGenuine now.files))
@@ -109,7 +110,7 @@ phase_two_genuine law None new name h = tt
 phase_two_genuine law (Some t) new name h =
     λ k. ⊎_elim {C = IfSome new (λ now. KeepsGenuine now.files)}
     (λ e. subst (λ (o : Option Told). IfSome o (λ now. KeepsGenuine now.files)) (sym e) k)
-    (λ m. law t ((name ++ codes ".obj", m.0) ∷ []) new k (made_file name m.0 m.1, tt) m.2)
+    (λ m. law t ((object_name name, m.0) ∷ []) new k (made_file name m.0 m.1, tt) m.2)
     h
 
 -- ---- files that stay

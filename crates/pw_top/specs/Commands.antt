@@ -1,6 +1,7 @@
 -- Kinds of commands, and what each leaves alone.
-use Rattle.std.specs.Prelude.{ℕ, Bool, true, false, List, [], ◌∷◌, codes, Option, Some, IfSome, IsSomeAnd}
+use Rattle.std.specs.Prelude.{ℕ, Bool, true, false, List, [], ◌∷◌, Option, Some, IfSome, IsSomeAnd}
 use Rattle.pw_io.specs.Files.{Files, Told}
+use Rattle.pw_modules.specs.FileNames.{database_name, image_name}
 use Rattle.pw_answer.specs.declared.answer.Answer.{Answer}
 use Rattle.pw_answer.specs.declared.answer.Answer.TheVariants.{Done}
 use Rattle.pw_modules.specs.Modules.{module_map, modules_of}
@@ -68,9 +69,9 @@ OnlyReads _ = Unit {0}
 -- the names of the files that a command puts, where they are known from its words
 abbrev pub files_put : Option Command → List (List ℕ)
 files_put (Some (PhaseOne name)) = phase_one_puts name
-files_put (Some (Analyse colours)) = codes "prog.db" ∷ []
+files_put (Some (Analyse colours)) = database_name ∷ []
 files_put (Some (PhaseTwo name)) = phase_two_puts name
-files_put (Some (Link stack)) = codes "prog.img" ∷ []
+files_put (Some (Link stack)) = image_name ∷ []
 files_put _ = []
 
 -- the command is not `session`

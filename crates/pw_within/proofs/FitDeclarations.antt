@@ -49,7 +49,7 @@ use Rattle.pw_types.specs.declared.kind.IntKind.TheVariants as K
 use Rattle.pw_well_typed.proofs.Parts.{element_is}
 use Rattle.pw_well_typed.proofs.ItemBytes.{scalar_item}
 use Rattle.pw_within.proofs.Fits.{IsFit, AreSome, MembersFit, some_append, some_end, some_taken, HasElements}
-use Rattle.pw_within.proofs.Still.{Still, built_still, specified_still, value_filled_still, string_filled_still, listed_value_still, listed_string_still, braced_target_still, value_still}
+use Rattle.pw_within.proofs.Still.{declared_storage_still, Still, built_still, specified_still, value_filled_still, string_filled_still, listed_value_still, listed_string_still, braced_target_still, value_still}
 use Rattle.pw_within.proofs.FitPhrases.{NameFits, SpecifiersFit, added_solid, Fit, IsFitting, Fitted, fitted_still, then_fit, valued_fit, entered_fit, fit_array, array_parts, DeclaratorFits, built_fit, expr_fit, specifiers_fit, declarator_fit, specified_fit, HaveFitMembers, hidden_more, added_members}
 
 -- ---- initialisers
@@ -709,16 +709,12 @@ alone_rule_held : (kind : RecordKind) (w : Word) (s : State) → Held s → Post
 unfolding alone_rule bind
 alone_rule_held kind w s h = alone_held kind w (tag_here s w.text) s h
 
-storage_still : (b : Specified) (s : State) → Post (storage_rule b s) (Still s)
-unfolding storage_rule bind
-storage_still b s = λ met. refl
-
 bare_listed : (env : Env) (specifiers : Specifiers) (s : State) → WellFormedSpecifiers env false specifiers → IsLawful s → Held s
     → Post {A = List Initialiser × State} (bind (specified_rule specifiers (first_of_list specifiers) s) (λ t. bind (bind (storage_rule t.0 t.1) (λ u. Rattle.pw_walk.specs.Walks.meets (Rattle.pw_walk.specs.Causes.needs Rattle.pw_walk.specs.Causes.DeclaresSomething t.0.first (declares_something specifiers) ∷ []) u.1)) (λ u. Done ([], u.1)))) HeldAt
 bare_listed env specifiers s good l h =
     post_bind _ _ (λ r. (IsLawful r.1 × Grows s r.1 × GoodSpecified r.1 r.0) × (Fit r.1 × IsFit (type_of r.0.ty))) HeldAt (specified_held env specifiers (first_of_list specifiers) s good l h.0) (λ r k.
     post_bind _ _ (Still r.1) HeldAt
-    (post_bind _ _ (Still r.1) (Still r.1) (storage_still r.0 r.1) (λ u e met. e)) (λ u e. subst Held (sym e) (k.1.0, body_held k.0.1 h.1)))
+    (post_bind _ _ (Still r.1) (Still r.1) (declared_storage_still r.0 r.1) (λ u e met. e)) (λ u e. subst Held (sym e) (k.1.0, body_held k.0.1 h.1)))
 
 bare_held : (env : Env) (specifiers : Specifiers) (s : State) → WellFormedSpecifiers env false specifiers → IsLawful s → Held s → Post (bare_rule specifiers s) HeldAt
 unfolding bare_rule
@@ -731,7 +727,7 @@ unfolding declarators_rule
 declarators_held env specifiers [] s good1 good2 l h = bare_held env specifiers s good1 l h
 declarators_held env specifiers (d ∷ rest) s good1 good2 l h =
     post_bind _ _ (λ r. (IsLawful r.1 × Grows s r.1 × GoodSpecified r.1 r.0) × (Fit r.1 × IsFit (type_of r.0.ty))) HeldAt (specified_held env specifiers (first_of_list specifiers) s good1 l h.0) (λ r k.
-    post_bind _ _ (Still r.1) HeldAt (storage_still r.0 r.1) (λ u e.
+    post_bind _ _ (Still r.1) HeldAt (declared_storage_still r.0 r.1) (λ u e.
     init_declarators_held (after_specifiers env specifiers) specifiers r.0 (d ∷ rest) u.1 good2 (subst IsLawful (sym e) k.0.0) (subst (λ (t : State). GoodSpecified t r.0) (sym e) k.0.2) k.1.1 (subst Held (sym e) (k.1.0, body_held k.0.1 h.1))))
 
 pub decl_held : (env : Env) (d : Decl) (s : State) → WellFormedDecl env d → IsLawful s → Held s → Post (decl_rule d s) HeldAt

@@ -35,7 +35,7 @@ use Rattle.pw_rules.specs.declared.names.Tag.{Tag}
 use Rattle.pw_rules.specs.declared.names.Tag.TheVariants as G
 use Rattle.pw_well_typed.specs.Lawful.{IsLawful}
 use Rattle.pw_well_typed.proofs.Walking.{Post, post_bind, post_weaken, post_both, post_granted, truth, after_any}
-use Rattle.pw_well_typed.proofs.Lists.{some_same, never_some, get_more, put_either}
+use Rattle.pw_well_typed.proofs.Lists.{some_same, never_some, and_then_some, get_more, put_either}
 use Rattle.pw_well_typed.proofs.Types.{left}
 use Rattle.pw_well_typed.proofs.States.{Runs, Grows, grows_trans, Fine, goes_on, Widens}
 use Rattle.pw_well_typed.proofs.Objects.{object_complete}
@@ -47,10 +47,6 @@ use Rattle.pw_within.proofs.Fits.{AreSome, some_end, HasElements, IsFit, IsSolid
 use Rattle.pw_within.proofs.Still.{Still, value_still, identifier_still, number_still, character_still, sign_still, deref_still, address_still, step_still, size_still, type_size_still, cast_still, operation_still, conditional_still, assignment_still, index_still, call_still, dot_still, arrow_still, length_still, typedef_still, enumeration_still, enumerator_value_still, specified_still, built_still, named_still, storage_still, bindings_still}
 
 -- ---- options
-
-and_then_some : {A B : Type 0} (f : A → Option B) (o : Option A) (y : B) → Rattle.std.specs.Prelude.option_and_then f o ≡ Some y → (x : A) × (o ≡ Some x) × (f x ≡ Some y)
-and_then_some f None y e = never_some e
-and_then_some f (Some x) y e = (x, refl, e)
 
 -- ---- states
 
@@ -125,10 +121,10 @@ entered_fit s name x f h = record { members = f.members; items = f.items; object
     by k e (inl g) = f.names k e g
     by k e (inr g) = subst NameFits g.1 h
 
-content_of : (r : List RecordValue) (n : ℕ) (c : ContentValue) → content_at r n ≡ Some c → (x : RecordValue) × (slice_get r n ≡ Some x) × (x.content ≡ Some c)
+pub content_of : (r : List RecordValue) (n : ℕ) (c : ContentValue) → content_at r n ≡ Some c → (x : RecordValue) × (slice_get r n ≡ Some x) × (x.content ≡ Some c)
 content_of r n c e = and_then_some (λ (x : RecordValue). x.content) (slice_get r n) c e
 
-content_by_record : (r : List RecordValue) (n : ℕ) (x : RecordValue) (c : ContentValue) → slice_get r n ≡ Some x → x.content ≡ Some c → content_at r n ≡ Some c
+pub content_by_record : (r : List RecordValue) (n : ℕ) (x : RecordValue) (c : ContentValue) → slice_get r n ≡ Some x → x.content ≡ Some c → content_at r n ≡ Some c
 content_by_record r n x c e f = Rattle.std.proofs.Common.ap (Rattle.std.specs.Prelude.option_and_then (λ (y : RecordValue). y.content)) e ∙ f
 
 pub added_solid : (r : List RecordValue) (kind : RecordKind) → AreSolid r → AreSolid (r ++ declared kind ∷ [])

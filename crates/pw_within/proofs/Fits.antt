@@ -18,8 +18,9 @@ use Rattle.pw_types.specs.TypeTrees.{CType, Void, Int, Pointer, Array, Function,
 use Rattle.pw_value.specs.Limits.{size_limit}
 use Rattle.pw_lowered.specs.Within.{IsCopied}
 use Rattle.pw_tree.specs.WellFormed.{NotEmpty}
-use Rattle.pw_well_typed.proofs.Lists.{some_same, never_some}
+use Rattle.pw_well_typed.proofs.Lists.{some_same, never_some, map_some}
 use Rattle.pw_well_typed.proofs.Types.{no}
+use Rattle.pw_well_typed.proofs.Parts.{round_behind}
 
 -- ---- types
 
@@ -70,10 +71,6 @@ times_whole size align k n e = ap (λ m. m * n) e ∙ mul_right_comm k align n
 array_solid : (n : ℕ) (l : Layout) → 0 < n → IsSolid l → IsSolid (array_layout n l)
 array_solid n l h s = record { unit = s.unit; some = times_positive l.size n s.some h; times = s.times * n; whole = times_whole l.size l.align s.times n s.whole }
 
-map_some : {A B : Type 0} (f : A → B) (o : Option A) (y : B) → option_map f o ≡ Some y → (x : A) × (o ≡ Some x) × (f x ≡ y)
-map_some f None y e = never_some e
-map_some f (Some x) y e = (x, refl, some_same e)
-
 pub layout_solid : (r : List RecordValue) → AreSolid r → (ty : CType) → IsFit ty → (l : Layout) → layout_of r ty ≡ Some l → IsSolid l
 layout_solid r solid Void h l e = never_some e
 layout_solid r solid (Int k) h l e = subst IsSolid (some_same e) (scalar_solid (size_of_kind k) (kind_solid k))
@@ -110,10 +107,7 @@ one_more : (a : ℕ) → IsUnit a → IsUnit (max 1 a)
 one_more a h = one_of_units 1 a (inl refl) h
 
 rounded : (n align : ℕ) → IsUnit align → 0 < n → 0 < round_up n align
-rounded n align h k = let one : 1 ≤ align = unit_least align h in let up : n ≤ round_up n align = behind n align one in omega (arith, up, k)
-  where
-    behind : (n align : ℕ) → 1 ≤ align → n ≤ round_up n align
-    behind n align some = omega arith
+rounded n align h k = let one : 1 ≤ align = unit_least align h in let up : n ≤ round_up n align = round_behind n align one in omega (arith, up, k)
 
 end_some : (from : ℕ) (l : Layout) (ls : List Layout) → IsSolid l → AreAllSolid ls → 0 < end_from from (l ∷ ls)
 end_some from l [] h all = let k : 0 < l.size = h.some in omega (arith, k)

@@ -2,18 +2,21 @@
 use Rattle.std.specs.Prelude.{ℕ, zero, suc, ◌≡◌, Bool, true, false, Option, None, Some, is_some, List, [], ◌∷◌, ◌++◌, if◌then◌else◌, slice_get, refl}
 use Rattle.std.specs.List.{AllByRecursion}
 use Rattle.std.specs.Option.{option_map_or}
-use Rattle.std.proofs.Common.{sym, subst}
-use Rattle.pw_lowered.specs.Within.{AreLetters}
+use Rattle.std.proofs.Common.{arith, sym, subst}
+use Rattle.std.proofs.lemmas.Bool.Decides.{nat_tests}
+use Rattle.pw_lowered.specs.Within.{IsLetter, AreLetters}
+use Rattle.pw_token.specs.Bytes.{is_in, is_nondigit, AllIn}
+use Rattle.pw_token.specs.Spelling.{IsWord}
+use Rattle.pw_token.specs.declared.bytes.Class.TheVariants as class
 use Rattle.pw_tree.specs.FirstTokens.{first_of_expr}
-use Rattle.pw_tree.specs.Spelling.{spell_declarator, spell_core, spell_init_declarators, spell_specifiers, spell_decl, spell_decls, spell_stmt, spell_alternative, spell_block, spell_stmts, spell_external, spell_externals}
-use Rattle.pw_tree.specs.Symbols.{Symbol}
-use Rattle.pw_tree.specs.Trees.{Word, Expr, Initializer, Init, InitDeclarator, Decl, Declarator, Core, Specifiers, Stmt, Alternative, Block, Stmts, Label, Function, External, Module}
+use Rattle.pw_tree.specs.Trees.{Word, Expr, Initializer, Init, InitDeclarator, Decl, Declarator, Core, Specifiers, Stmt, Alternative, Block, Stmts, Label, External}
 use Rattle.pw_tree.specs.Trees as S
+use Rattle.pw_tree.specs.Words.{WordsSpell, WordsSpellDeclarator, WordsSpellCore, WordsSpellInitDeclarators, WordsSpellDecl, WordsSpellDecls, WordsSpellStmt, WordsSpellAlternative, WordsSpellBlock, WordsSpellStmts, WordsSpellExternal, WordsSpellExternals}
 use Rattle.pw_types.specs.TypeTrees.{QType, type_of}
 use Rattle.pw_types.specs.TypedTrees.{Expression, Initialiser, Statement}
 use Rattle.pw_walk.specs.Walks.{Walk, Done, bind}
 use Rattle.pw_rules.specs.Declarations.{Sort, ATypedef, AFunction, AGlobal, AnExtern, AStatic, ALocal, asking_of, name_rule, name_of, global_rule, fitting_rule, completed_rule, static_rule, bytes_rule, single_rule, local_initialiser, local_rule, declare_rule, init_declarator_rule, init_declarators_rule, bare_rule, specified_rule, storage_rule, declarators_rule, decl_rule, decls_rule, context_of, is_tentative, declares_something}
-use Rattle.pw_rules.specs.Derivations.{spot_of, built}
+use Rattle.pw_rules.specs.Derivations.{spot_of}
 use Rattle.pw_rules.specs.Functions.{measured_rule, body_rule, function_rule}
 use Rattle.pw_rules.specs.Initialisers.{object_rule, is_by_bytes}
 use Rattle.pw_rules.specs.Leaves.{alone_by, alone_rule, record_kind, first_of_list, new_tag, new_record, reference_by}
@@ -31,8 +34,8 @@ use Rattle.pw_rules.specs.Statements.{new_label, case_rule, inside_switch, defau
 use Rattle.pw_well_typed.proofs.Walking.{Post, post_bind, post_weaken, post_both, after_any}
 use Rattle.pw_well_typed.proofs.Lists.{some_same, never_some}
 use Rattle.pw_well_typed.proofs.Keeping.{here_linked, named_before}
-use Rattle.pw_within.proofs.Quiet.{Same, then_same, built_same, expr_same, specifiers_same, declarator_same, object_same}
-use Rattle.pw_within.proofs.Spelled.{AreLawful, separated_rest, pointers_rest, expr_rest, specifiers_rest, declarator_rest, initializer_rest, decl_rest, decls_rest, labels_rest, optional_rest, stmt_rest, block_rest}
+use Rattle.pw_within.proofs.Still.{built_still, declared_storage_still}
+use Rattle.pw_within.proofs.Quiet.{Same, then_same, still_same, expr_same, specifiers_same, declarator_same, object_same}
 
 -- ---- lists of names with linkage
 
@@ -110,18 +113,32 @@ met_same : (p : Rattle.pw_walk.specs.Causes.Point) (s : State) → Post (Rattle.
 met_same p s = λ met. refl
 
 -- a declarator's name
-mutual
-  unfolding declarator_rule spell_declarator
+nondigit_letter : (b : ℕ) → is_nondigit b ≡ true → IsLetter b
+nondigit_letter b h = grind (arith, nat_tests)
 
-  declarator_named : (d : Declarator) (z : List Symbol) (s : State) → AreLawful (spell_declarator d z) → Post (declarator_rule d s) (λ r. AreLetters (name_of r.0).text)
-  declarator_named (S.Declaring ps core suffixes) z s h =
-      post_bind _ _ (λ r. AreLetters (name_of r.0).text) (λ r. AreLetters (name_of r.0).text) (core_named core _ s (pointers_rest ps _ h)) (λ r k.
+word_letter : (b : ℕ) → is_in class.Word b ≡ true → IsLetter b
+word_letter b h = grind (arith, nat_tests)
+
+letters : (s : List ℕ) → AllIn class.Word s → AreLetters s
+letters [] h = tt
+letters (b ∷ s) h = (word_letter b h.0, letters s h.1)
+
+word_letters : (s : List ℕ) → IsWord s → AreLetters s
+word_letters [] h = absurd h
+word_letters (b ∷ s) h = (nondigit_letter b h.0, letters s h.1)
+
+mutual
+  unfolding declarator_rule WordsSpell
+
+  declarator_named : (d : Declarator) (s : State) → WordsSpellDeclarator d → Post (declarator_rule d s) (λ r. AreLetters (name_of r.0).text)
+  declarator_named (S.Declaring ps core suffixes) s h =
+      post_bind _ _ (λ r. AreLetters (name_of r.0).text) (λ r. AreLetters (name_of r.0).text) (core_named core s h.0) (λ r k.
       after_any _ _ (λ u. AreLetters (name_of u.0).text) (λ u. k))
 
-  core_named : (core : Core) (z : List Symbol) (s : State) → AreLawful (spell_core core z) → Post (core_rule core s) (λ r. AreLetters (name_of r.0).text)
-  core_named S.Absent z s h = tt
-  core_named (S.Name w) z s h = h.0
-  core_named (S.Enclosed t d) z s h = declarator_named d _ s h.1
+  core_named : (core : Core) (s : State) → WordsSpellCore core → Post (core_rule core s) (λ r. AreLetters (name_of r.0).text)
+  core_named S.Absent s h = tt
+  core_named (S.Name w) s h = word_letters w.text h.0
+  core_named (S.Enclosed t d) s h = declarator_named d s h
 
 global_named : (w : Word) (b : Specified) (spot : Spot) (q : QType) (i : Option Initializer) (s : State) → AreNamed s.types.linked → AreLetters w.text → Post (global_rule w b spot q i s) Named
 unfolding global_rule fitting_rule bind
@@ -163,28 +180,25 @@ unfolding name_rule bind
 name_same sort spot w initialised b q s = λ met. refl
 
 -- what a declarator says, where it declares nothing itself
-declared_named : {B : Type 0} (d : Declarator) (z : List Symbol) (s : State) (next : Rattle.pw_rules.specs.Derivations.Declared × State → Walk (B × State)) → AreLawful (spell_declarator d z) → AreNamed s.types.linked
+declared_named : {B : Type 0} (d : Declarator) (s : State) (next : Rattle.pw_rules.specs.Derivations.Declared × State → Walk (B × State)) → WordsSpellDeclarator d → AreNamed s.types.linked
     → ((c : Rattle.pw_rules.specs.Derivations.Declared × State) → AreNamed c.1.types.linked → AreLetters (name_of c.0).text → Post (next c) Named) → Post (bind (declarator_rule d s) next) Named
-declared_named d z s next h all k =
+declared_named d s next h all k =
     post_bind (declarator_rule d s) next (λ c. Same s c × AreLetters (name_of c.0).text) Named
-    (post_both (declarator_rule d s) (Same s) (λ c. AreLetters (name_of c.0).text) (declarator_same d s) (declarator_named d z s h)) (λ c j. k c (subst AreNamed (sym j.0) all) j.1)
+    (post_both (declarator_rule d s) (Same s) (λ c. AreLetters (name_of c.0).text) (declarator_same d s) (declarator_named d s h)) (λ c j. k c (subst AreNamed (sym j.0) all) j.1)
 
-init_declarator_named : (b : Specified) (d : InitDeclarator) (z : List Symbol) (s : State) → AreLawful (spell_declarator d.declarator z) → AreNamed s.types.linked → Post (init_declarator_rule b d s) Named
+init_declarator_named : (b : Specified) (d : InitDeclarator) (s : State) → WordsSpellDeclarator d.declarator → AreNamed s.types.linked → Post (init_declarator_rule b d s) Named
 unfolding init_declarator_rule
-init_declarator_named b d z s h all =
-    declared_named d.declarator z s _ h all (λ c all1 named.
-    named_then c.1 _ _ all1 (built_same (spot_of c.0.name b.first b.tag) c.0.derivations b.ty c.1) (λ q all2.
+init_declarator_named b d s h all =
+    declared_named d.declarator s _ h all (λ c all1 named.
+    named_then c.1 _ _ all1 (still_same c.1 _ (built_still (spot_of c.0.name b.first b.tag) c.0.derivations b.ty c.1)) (λ q all2.
     named_then q.1 _ _ all2 refl (λ sort all3.
     named_then sort.1 _ _ all3 (name_same sort.0 _ (name_of c.0) (is_some d.initializer) b q.0 sort.1) (λ n all4.
     declare_all sort.0 (name_of c.0) b _ q.0 d.initializer n.1 all4 named))))
 
-init_declarators_named : (b : Specified) (first : Bool) (ds : List InitDeclarator) (z : List Symbol) (s : State) → AreLawful (spell_init_declarators first ds z) → AreNamed s.types.linked → Post (init_declarators_rule b ds s) Named
+init_declarators_named : (b : Specified) (ds : List InitDeclarator) (s : State) → WordsSpellInitDeclarators ds → AreNamed s.types.linked → Post (init_declarators_rule b ds s) Named
 unfolding init_declarators_rule
-init_declarators_named b first [] z s h all = all
-init_declarators_named b first (d ∷ rest) z s h all =
-    let here = separated_rest first _ h in
-    both_named _ _ (init_declarator_named b d _ s here all) (λ r all1.
-    both_named _ _ (init_declarators_named b false rest z r.1 (initializer_rest d.initializer _ (declarator_rest d.declarator _ here)) all1) (λ u all2. all2))
+init_declarators_named b [] s h all = all
+init_declarators_named b (d ∷ rest) s h all = both_named _ _ (init_declarator_named b d s h.0 all) (λ r all1. both_named _ _ (init_declarators_named b rest r.1 h.2 all1) (λ u all2. all2))
 
 specified_all_same : (specifiers : Specifiers) (first : ℕ) (s : State) → Post (specified_rule specifiers first s) (Same s)
 unfolding specified_rule specified
@@ -200,36 +214,31 @@ alone_same : (kind : Rattle.pw_types.specs.declared.record.RecordKind.RecordKind
 unfolding alone_rule bind
 alone_same kind w s = alone_by_same kind w (tag_here s w.text) s
 
-storage_all_same : (b : Specified) (s : State) → Post (storage_rule b s) (Same s)
-unfolding storage_rule bind
-storage_all_same b s = λ met. refl
-
 bare_listed : (specifiers : Specifiers) (s : State)
     → Post {A = List Initialiser × State} (bind (specified_rule specifiers (first_of_list specifiers) s) (λ t. bind (bind (storage_rule t.0 t.1) (λ u. Rattle.pw_walk.specs.Walks.meets (Rattle.pw_walk.specs.Causes.needs Rattle.pw_walk.specs.Causes.DeclaresSomething t.0.first (declares_something specifiers) ∷ []) u.1)) (λ u. Done ([], u.1)))) (Same s)
 bare_listed specifiers s =
-    then_same s _ _ (specified_all_same specifiers (first_of_list specifiers) s) (λ t. then_same t.1 _ _ (then_same t.1 _ _ (storage_all_same t.0 t.1) (λ u met. refl)) (λ u. refl))
+    then_same s _ _ (specified_all_same specifiers (first_of_list specifiers) s) (λ t. then_same t.1 _ _ (then_same t.1 _ _ (still_same t.1 _ (declared_storage_still t.0 t.1)) (λ u met. refl)) (λ u. refl))
 
 bare_same : (specifiers : Specifiers) (s : State) → Post (bare_rule specifiers s) (Same s)
 unfolding bare_rule
 bare_same (S.RecordTag t kind w S.NoSpecifier) s = then_same s _ _ (alone_same (record_kind kind) w s) (λ r. refl)
 bare_same specifiers s = bare_listed specifiers s
 
-declarators_named : (specifiers : Specifiers) (ds : List InitDeclarator) (z : List Symbol) (s : State) → AreLawful (spell_specifiers specifiers (spell_init_declarators true ds z)) → AreNamed s.types.linked
-    → Post (declarators_rule specifiers ds s) Named
+declarators_named : (specifiers : Specifiers) (ds : List InitDeclarator) (s : State) → WordsSpellInitDeclarators ds → AreNamed s.types.linked → Post (declarators_rule specifiers ds s) Named
 unfolding declarators_rule
-declarators_named specifiers [] z s h all = named_so s (bare_rule specifiers s) all (bare_same specifiers s)
-declarators_named specifiers (d ∷ rest) z s h all =
+declarators_named specifiers [] s h all = named_so s (bare_rule specifiers s) all (bare_same specifiers s)
+declarators_named specifiers (d ∷ rest) s h all =
     named_then s _ _ all (specified_all_same specifiers (first_of_list specifiers) s) (λ b all1.
-    named_then b.1 _ _ all1 (storage_all_same b.0 b.1) (λ u all2. init_declarators_named b.0 true (d ∷ rest) z u.1 (specifiers_rest specifiers _ h) all2))
+    named_then b.1 _ _ all1 (still_same b.1 _ (declared_storage_still b.0 b.1)) (λ u all2. init_declarators_named b.0 (d ∷ rest) u.1 h all2))
 
-decl_named : (d : Decl) (z : List Symbol) (s : State) → AreLawful (spell_decl d z) → AreNamed s.types.linked → Post (decl_rule d s) Named
+decl_named : (d : Decl) (s : State) → WordsSpellDecl d → AreNamed s.types.linked → Post (decl_rule d s) Named
 unfolding decl_rule
-decl_named d z s h all = declarators_named d.specifiers d.declarators _ s h all
+decl_named d s h all = declarators_named d.specifiers d.declarators s h.1 all
 
-decls_named : (ds : List Decl) (z : List Symbol) (s : State) → AreLawful (spell_decls ds z) → AreNamed s.types.linked → Post (decls_rule ds s) Named
+decls_named : (ds : List Decl) (s : State) → WordsSpellDecls ds → AreNamed s.types.linked → Post (decls_rule ds s) Named
 unfolding decls_rule
-decls_named [] z s h all = all
-decls_named (d ∷ rest) z s h all = both_named _ _ (decl_named d _ s h all) (λ r all1. both_named _ _ (decls_named rest z r.1 (decl_rest d _ h) all1) (λ u all2. all2))
+decls_named [] s h all = all
+decls_named (d ∷ rest) s h all = both_named _ _ (decl_named d s h.0 all) (λ r all1. both_named _ _ (decls_named rest r.1 h.1 all1) (λ u all2. all2))
 
 -- ---- statements
 
@@ -299,84 +308,72 @@ unfolding in_switch bind
 in_switch_named e body s all h = both_named (body _) _ (h _ all) (λ r k. k)
 
 mutual
-  unfolding stmt_rule spell_stmt
+  unfolding stmt_rule WordsSpellStmt
 
-  stmt_named : (st : Stmt) (z : List Symbol) (s : State) → AreLawful (spell_stmt st z) → AreNamed s.types.linked → Post (stmt_rule st s) Named
-  stmt_named (S.Compound b) z s h all = scoped_named (block_rule b) s all (λ t k. block_named b z t h k)
-  stmt_named (S.Expression e) z s h all = named_so s _ all (whole_then e s)
-  stmt_named (S.Empty t) z s h all = all
-  stmt_named (S.Labeled ls st) z s h all = named_then s _ _ all (labels_same ls s) (λ r k. both_named _ _ (stmt_named st z r.1 (labels_rest ls _ h) k) (λ u j. j))
-  stmt_named (S.If t c st a) z s h all =
-      let body = (expr_rest c _ h.1.1).1 in
+  stmt_named : (st : Stmt) (s : State) → WordsSpellStmt st → AreNamed s.types.linked → Post (stmt_rule st s) Named
+  stmt_named (S.Compound b) s h all = scoped_named (block_rule b) s all (λ t k. block_named b t h k)
+  stmt_named (S.Expression e) s h all = named_so s _ all (whole_then e s)
+  stmt_named (S.Empty t) s h all = all
+  stmt_named (S.Labeled ls st) s h all = named_then s _ _ all (labels_same ls s) (λ r k. both_named _ _ (stmt_named st r.1 h.1 k) (λ u j. j))
+  stmt_named (S.If t c st a) s h all =
       named_then s _ _ all (condition_same t c s) (λ r k.
-      both_named _ _ (stmt_named st _ r.1 body k) (λ u j.
-      both_named _ _ (alternative_named a z u.1 (stmt_rest st _ body) j) (λ v i. i)))
-  stmt_named (S.Switch t e st) z s h all =
+      both_named _ _ (stmt_named st r.1 h.1 k) (λ u j.
+      both_named _ _ (alternative_named a u.1 h.2 j) (λ v i. i)))
+  stmt_named (S.Switch t e st) s h all =
       named_then s _ _ all (switch_same t e s) (λ r k.
-      both_named _ _ (in_switch_named r.0 (stmt_rule st) r.1 k (λ v i. stmt_named st z v (expr_rest e _ h.1.1).1 i)) (λ u j. j))
-  stmt_named (S.While t e st) z s h all =
-      named_then s _ _ all (condition_same t e s) (λ r k. both_named _ _ (in_loop_named (stmt_rule st) r.1 k (λ v i. stmt_named st z v (expr_rest e _ h.1.1).1 i)) (λ u j. j))
-  stmt_named (S.Do t st e) z s h all =
-      both_named _ _ (in_loop_named (stmt_rule st) s all (λ v i. stmt_named st _ v h.1 i)) (λ r k. named_then r.1 _ _ k (condition_same t e r.1) (λ u j. j))
-  stmt_named (S.For t a b c st) z s h all =
+      both_named _ _ (in_switch_named r.0 (stmt_rule st) r.1 k (λ v i. stmt_named st v h.1 i)) (λ u j. j))
+  stmt_named (S.While t e st) s h all =
+      named_then s _ _ all (condition_same t e s) (λ r k. both_named _ _ (in_loop_named (stmt_rule st) r.1 k (λ v i. stmt_named st v h.1 i)) (λ u j. j))
+  stmt_named (S.Do t st e) s h all =
+      both_named _ _ (in_loop_named (stmt_rule st) s all (λ v i. stmt_named st v h.0 i)) (λ r k. named_then r.1 _ _ k (condition_same t e r.1) (λ u j. j))
+  stmt_named (S.For t a b c st) s h all =
       named_then s _ _ all (optional_same a s) (λ r k.
       named_then r.1 _ _ k (optional_condition_same t b r.1) (λ u j.
       named_then u.1 _ _ j (optional_same c u.1) (λ v i.
-      both_named _ _ (in_loop_named (stmt_rule st) v.1 i (λ x y. stmt_named st z x (optional_rest c _ (optional_rest b _ (optional_rest a _ h.1.1).1).1).1 y)) (λ x y. y))))
-  stmt_named (S.Goto t w) z s h all = named_so s (goto_rule t w s) all (goto_same t w s)
-  stmt_named (S.Continue t) z s h all = named_so s (continue_rule t s) all (continue_same t s)
-  stmt_named (S.Break t) z s h all = named_so s (break_rule t s) all (break_same t s)
-  stmt_named (S.Return t e) z s h all = named_so s (return_rule t e s) all (return_same t e s)
+      both_named _ _ (in_loop_named (stmt_rule st) v.1 i (λ x y. stmt_named st x h.3 y)) (λ x y. y))))
+  stmt_named (S.Goto t w) s h all = named_so s (goto_rule t w s) all (goto_same t w s)
+  stmt_named (S.Continue t) s h all = named_so s (continue_rule t s) all (continue_same t s)
+  stmt_named (S.Break t) s h all = named_so s (break_rule t s) all (break_same t s)
+  stmt_named (S.Return t e) s h all = named_so s (return_rule t e s) all (return_same t e s)
 
-  alternative_named : (a : Alternative) (z : List Symbol) (s : State) → AreLawful (spell_alternative a z) → AreNamed s.types.linked → Post (alternative_rule a s) Named
-  alternative_named S.NoElse z s h all = all
-  alternative_named (S.Otherwise st) z s h all = both_named _ _ (stmt_named st z s h.1 all) (λ r k. k)
-  alternative_named (S.ElseIf t c st a) z s h all =
-      let body = (expr_rest c _ h.1.1.1).1 in
+  alternative_named : (a : Alternative) (s : State) → WordsSpellAlternative a → AreNamed s.types.linked → Post (alternative_rule a s) Named
+  alternative_named S.NoElse s h all = all
+  alternative_named (S.Otherwise st) s h all = both_named _ _ (stmt_named st s h all) (λ r k. k)
+  alternative_named (S.ElseIf t c st a) s h all =
       named_then s _ _ all (condition_same t c s) (λ r k.
-      both_named _ _ (stmt_named st _ r.1 body k) (λ u j.
-      both_named _ _ (alternative_named a z u.1 (stmt_rest st _ body) j) (λ v i. i)))
+      both_named _ _ (stmt_named st r.1 h.1 k) (λ u j.
+      both_named _ _ (alternative_named a u.1 h.2 j) (λ v i. i)))
 
-  block_named : (b : Block) (z : List Symbol) (s : State) → AreLawful (spell_block b z) → AreNamed s.types.linked → Post (block_rule b s) Named
-  block_named (S.Braced t ds ss) z s h all =
+  block_named : (b : Block) (s : State) → WordsSpellBlock b → AreNamed s.types.linked → Post (block_rule b s) Named
+  block_named (S.Braced t ds ss) s h all =
       named_then s _ _ all refl (λ r k.
-      both_named _ _ (decls_named ds _ r.1 h.1 k) (λ u j.
+      both_named _ _ (decls_named ds r.1 h.0 k) (λ u j.
       named_then u.1 _ _ j refl (λ v i.
-      both_named _ _ (stmts_named ss _ v.1 (decls_rest ds _ h.1) i) (λ x y. y))))
+      both_named _ _ (stmts_named ss v.1 h.1 i) (λ x y. y))))
 
-  stmts_named : (ss : Stmts) (z : List Symbol) (s : State) → AreLawful (spell_stmts ss z) → AreNamed s.types.linked → Post (stmts_rule ss s) Named
-  stmts_named S.NoStmt z s h all = all
-  stmts_named (S.Next st rest) z s h all = both_named _ _ (stmt_named st _ s h all) (λ r k. both_named _ _ (stmts_named rest z r.1 (stmt_rest st _ h) k) (λ u j. j))
+  stmts_named : (ss : Stmts) (s : State) → WordsSpellStmts ss → AreNamed s.types.linked → Post (stmts_rule ss s) Named
+  stmts_named S.NoStmt s h all = all
+  stmts_named (S.Next st rest) s h all = both_named _ _ (stmt_named st s h.0 all) (λ r k. both_named _ _ (stmts_named rest r.1 h.1 k) (λ u j. j))
 
 -- ---- functions and modules
 
-body_named : (w : Word) (place : ℕ) (q : QType) (b : Rattle.pw_rules.specs.Derivations.Bindings) (block : Block) (z : List Symbol) (s : State) → AreLawful (spell_block block z) → AreNamed s.types.linked
-    → Post (body_rule w place q b block s) Named
+body_named : (w : Word) (place : ℕ) (q : QType) (b : Rattle.pw_rules.specs.Derivations.Bindings) (block : Block) (s : State) → WordsSpellBlock block → AreNamed s.types.linked → Post (body_rule w place q b block s) Named
 unfolding body_rule measured_rule bind
-body_named w place q b block z s h all = both_named (block_rule block _) _ (block_named block z _ h all) (λ r k met. k)
+body_named w place q b block s h all = both_named (block_rule block _) _ (block_named block _ h all) (λ r k met. k)
 
-function_named : (f : Function) (z : List Symbol) (s : State) → AreLawful (spell_external (S.Definition f) z) → AreNamed s.types.linked → Post (function_rule f s) Named
-unfolding function_rule
-function_named f z s h all =
-    let head = specifiers_rest f.specifiers _ h in
+external_named : (x : External) (s : State) → WordsSpellExternal x → AreNamed s.types.linked → Post (external_rule x s) Named
+unfolding external_rule function_rule
+external_named (S.Definition f) s h all =
     named_then s _ _ all (specified_all_same f.specifiers _ s) (λ b all1.
-    declared_named f.declarator _ b.1 _ head all1 (λ c all2 named.
-    named_then c.1 _ _ all2 (built_same (spot_of c.0.name b.0.first b.0.tag) c.0.derivations b.0.ty c.1) (λ q all3.
+    declared_named f.declarator b.1 _ h.1 all1 (λ c all2 named.
+    named_then c.1 _ _ all2 (still_same c.1 _ (built_still (spot_of c.0.name b.0.first b.0.tag) c.0.derivations b.0.ty c.1)) (λ q all3.
     named_then q.1 _ _ all3 refl (λ p all4.
     both_named _ _ (named_then p.1 _ _ all4 (met_same p.0 p.1) (λ m all5. declare_named (name_of c.0).text (name_of c.0).token b.0.tag _ q.0 m.1 all5 named)) (λ e all6.
     named_then (define_function e.0 e.1) _ _ (change_named e.1 e.0 (λ l. record l { defined = true }) (λ l. refl) all6) refl (λ d all7.
-    body_named (name_of c.0) e.0 q.0 _ f.body z d.1 (decls_rest f.declarations _ (declarator_rest f.declarator _ head)) all7))))))
+    body_named (name_of c.0) e.0 q.0 _ f.body d.1 h.3 all7))))))
+external_named (S.Declaration d) s h all = both_named _ _ (decl_named d s h all) (λ r k. k)
 
-external_named : (x : External) (z : List Symbol) (s : State) → AreLawful (spell_external x z) → AreNamed s.types.linked → Post (external_rule x s) Named
-unfolding external_rule
-external_named (S.Definition f) z s h all = function_named f z s h all
-external_named (S.Declaration d) z s h all = both_named _ _ (decl_named d z s h all) (λ r k. k)
-
-external_rest : (x : External) (z : List Symbol) → AreLawful (spell_external x z) → AreLawful z
-external_rest (S.Definition f) z h = block_rest f.body z (decls_rest f.declarations _ (declarator_rest f.declarator _ (specifiers_rest f.specifiers _ h)))
-external_rest (S.Declaration d) z h = decl_rest d z h
-
-pub externals_named : (xs : List External) (z : List Symbol) (s : State) → AreLawful (spell_externals xs z) → AreNamed s.types.linked → Post (externals_rule xs s) Named
+pub externals_named : (xs : List External) (s : State) → WordsSpellExternals xs → AreNamed s.types.linked → Post (externals_rule xs s) Named
 unfolding externals_rule
-externals_named [] z s h all = all
-externals_named (x ∷ rest) z s h all = both_named _ _ (external_named x _ s h all) (λ r k. externals_named rest z r.1 (external_rest x _ h) k)
+externals_named [] s h all = all
+externals_named (x ∷ rest) s h all = both_named _ _ (external_named x s h.0 all) (λ r k. externals_named rest r.1 h.1 k)

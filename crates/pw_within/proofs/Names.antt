@@ -8,6 +8,7 @@ use Rattle.pw_flow.proofs.Lists.{all_flat}
 use Rattle.pw_lowered.specs.Within.{AreLetters, IsNamed}
 use Rattle.pw_tree.specs.Trees.{Module}
 use Rattle.pw_tree.specs.WellFormed.{WellFormedModule}
+use Rattle.pw_tree.specs.Words.{WordsSpellModule}
 use Rattle.pw_types.specs.TypedTrees.{Symbol, External, Internal, Hidden, FunctionValue, GlobalValue, DeclaredValue, ModuleValue}
 use Rattle.pw_walk.specs.Walks.{Done, bind}
 use Rattle.pw_rules.specs.Checks.{Checks, checking}
@@ -23,16 +24,16 @@ use Rattle.pw_well_typed.proofs.Texts.{module_text}
 use Rattle.pw_well_typed.proofs.Bodies.{IsWhollyStated, module_stated}
 use Rattle.pw_well_typed.proofs.FunctionLaws.{end_same}
 use Rattle.pw_well_typed.proofs.Laws.{start_lawful}
-use Rattle.pw_within.specs.Names.{NamesAreLetters, HasWord, AreNumbered}
+use Rattle.pw_within.specs.Names.{HasWord, AreNumbered}
 use Rattle.pw_within.proofs.Linked.{AreNamed, Named, at_all, at_named, externals_named}
 
 -- ---- the state at a module's end
 
-module_named : (m : Module) → NamesAreLetters m → Post (module_rule m start) (λ r. AreNamed r.1.types.linked)
+module_named : (m : Module) → WordsSpellModule m → Post (module_rule m start) (λ r. AreNamed r.1.types.linked)
 unfolding module_rule
 module_named m ids =
     post_bind _ _ Named (λ r. AreNamed r.1.types.linked)
-    (post_bind _ _ Named Named (externals_named m.externals [] start ids tt) (λ r h. h)) (λ r h.
+    (post_bind _ _ Named Named (externals_named m.externals start ids tt) (λ r h. h)) (λ r h.
     post_bind _ _ (λ u. u.1 ≡ r.1) (λ u. AreNamed u.1.types.linked) (end_same r.0 r.1) (λ u e. subst (λ (t : State). AreNamed t.types.linked) (sym e) h))
 
 -- ---- what is shared
@@ -108,21 +109,21 @@ names_in t sound all = record {
   globals = λ k d below. global_named t all k _ (slice_get-get_or (module_in t).globals k d below);
 }
 
-checking_named : (m : Module) → WellFormedModule m → NamesAreLetters m → Post (bind (module_rule m start) (λ r. Done r.0)) HasNames
+checking_named : (m : Module) → WellFormedModule m → WordsSpellModule m → Post (bind (module_rule m start) (λ r. Done r.0)) HasNames
 checking_named m text ids =
     post_bind (module_rule m start) (λ r. Done r.0) (λ r. IsWhollyStated r × AreNamed r.1.types.linked) HasNames
     (post_both (module_rule m start) IsWhollyStated (λ r. AreNamed r.1.types.linked) (module_stated m start_lawful (module_text m text)) (module_named m ids))
     (λ r h. subst HasNames (sym h.0.0) (names_in r.1 h.0.1.1.0 h.1))
 
-all_names : (tree : Module) (m : ModuleValue) → WellFormedModule tree → NamesAreLetters tree → Checks tree (Ok m) → HasNames m
+all_names : (tree : Module) (m : ModuleValue) → WellFormedModule tree → WordsSpellModule tree → Checks tree (Ok m) → HasNames m
 unfolding checking
 all_names tree m text ids h = post_end (checking tree) m HasNames h (checking_named tree text ids)
 
-pub declared_names : (tree : Module) (m : ModuleValue) → WellFormedModule tree → NamesAreLetters tree → Checks tree (Ok m) → All (λ d. AreLetters d.name) m.declared
+pub declared_names : (tree : Module) (m : ModuleValue) → WellFormedModule tree → WordsSpellModule tree → Checks tree (Ok m) → All (λ d. AreLetters d.name) m.declared
 declared_names tree m text ids h = (all_names tree m text ids h).declared
 
-pub function_names : (tree : Module) (m : ModuleValue) → WellFormedModule tree → NamesAreLetters tree → Checks tree (Ok m) → All (λ f. IsNamed f.name) m.functions
+pub function_names : (tree : Module) (m : ModuleValue) → WellFormedModule tree → WordsSpellModule tree → Checks tree (Ok m) → All (λ f. IsNamed f.name) m.functions
 function_names tree m text ids h = (all_names tree m text ids h).functions
 
-pub global_names : (tree : Module) (m : ModuleValue) → WellFormedModule tree → NamesAreLetters tree → Checks tree (Ok m) → AreNumbered m → All (λ g. IsNamed g.name) m.globals
+pub global_names : (tree : Module) (m : ModuleValue) → WellFormedModule tree → WordsSpellModule tree → Checks tree (Ok m) → AreNumbered m → All (λ g. IsNamed g.name) m.globals
 global_names tree m text ids h few = λ k d below. numbered _ ((all_names tree m text ids h).globals k d below) (few k d below)

@@ -1,5 +1,5 @@
 -- Types that keep the limits on sizes and on parameters (ISO C90 5.2.4.1), wherever more is known of the records that they name.
-use Rattle.std.specs.Prelude.{ℕ, ◌≡◌, ◌≤◌, ◌*◌, Bool, true, false, ◌&&◌, nat_lt, if◌then◌else◌, Option, None, Some, option_map, List, refl}
+use Rattle.std.specs.Prelude.{ℕ, ◌≡◌, ◌≤◌, ◌*◌, Bool, true, false, nat_lt, if◌then◌else◌, Option, None, Some, option_map, List, refl}
 use Rattle.std.specs.Option.{option_or}
 use Rattle.std.proofs.Common.{arith, ap, sym, subst, ◌∙◌}
 use Rattle.std.proofs.lemmas.Bool.Decides.{nat_tests}
@@ -12,14 +12,13 @@ use Rattle.pw_types.specs.Records.{IsLaid}
 use Rattle.pw_types.specs.Sizes.{oversize_of, first_oversize, passing}
 use Rattle.pw_types.specs.TypeTrees.{CType, Void, Int, Pointer, Array, Function, Record, QType, Qualified, QTypes, NoType, OneType, type_of, ContentValue, RecordValue}
 use Rattle.pw_types.specs.WellTyped.{IsComplete}
-use Rattle.pw_walk.specs.Causes.{Point}
 use Rattle.pw_rules.specs.Compatible.{compatible, compatible_types, compatible_parameters, lengths_agree, composite_type, composite_parameters}
 use Rattle.pw_rules.specs.Kinds.{qualify, pointee, parameters_of, result_of, count_of_types}
 use Rattle.pw_rules.specs.Limits.{many_parameters, above, type_within}
 use Rattle.pw_well_typed.specs.Lawful.{IsLawfulType, AreLawfulTypes, Extends}
 use Rattle.pw_well_typed.proofs.Walking.{AreMet}
 use Rattle.pw_well_typed.proofs.Lists.{never_some}
-use Rattle.pw_well_typed.proofs.Types.{no, left, right, lawful_later, lawful_target, lawful_pointer, lawful_element, lawful_result, lawful_qualify, lawful_composite, extends_trans}
+use Rattle.pw_well_typed.proofs.Types.{no, left, right, lawful_later, lawful_qualify, lawful_composite, extends_trans, extends_same}
 use Rattle.pw_well_typed.proofs.Objects.{layout_same}
 use Rattle.pw_well_typed.proofs.Composite.{types_compatible, layout_composite, layout_compatible}
 
@@ -42,6 +41,9 @@ above_none most n = by (nat_lt most n) refl
     by : (b : Bool) → nat_lt most n ≡ b → (if b then Some n else None) ≡ None → n ≤ most
     by true e f = never_some (sym f)
     by false e f = grind (arith, nat_tests, e)
+
+passed_small : (n : ℕ) → passing (Some n) ≡ None → n ≤ size_limit
+passed_small n = above_none size_limit n
 
 -- ---- types
 
@@ -124,6 +126,13 @@ kept_int r k = record { sized = refl; few = refl; lawful = tt }
 pub kept_string : (r : List RecordValue) (n : ℕ) → n ≤ size_limit → IsKept r (Array (Qualified (Int K.Char) false false) (Some n))
 unfolding many_parameters
 kept_string r n h = record { sized = small_passes (1 * n) (omega (arith, h)); few = refl; lawful = (tt, refl) }
+
+-- an array of characters that keeps them
+pub kept_short : (r : List RecordValue) (ty : CType) (n : ℕ) → IsLaid r → IsKeptFrom r ty → ty ≡ Array (Qualified (Int K.Char) false false) (Some n) → n ≤ size_limit
+kept_short r ty n laid h e =
+    let sized : oversize_of r (Array (Qualified (Int K.Char) false false) (Some n)) ≡ None = subst (λ x. oversize_of r x ≡ None) e (h r laid (extends_same r)).sized in
+    let few : 1 * n ≤ size_limit = passed_small (1 * n) (either_none (oversize_of r (Int K.Char)) (passing (size_of r (Array (Qualified (Int K.Char) false false) (Some n)))) sized).1 in
+    omega (arith, few)
 
 pub kept_void : (r : List RecordValue) → IsKept r Void
 unfolding many_parameters

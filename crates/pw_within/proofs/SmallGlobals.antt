@@ -1,37 +1,35 @@
 -- Declarations: the types of names keep the limits (ISO C90 5.2.4.1), and what the declarations of a name say in its scope stays compatible
 -- with what they say in all.
-use Rattle.std.specs.Prelude.{ℕ, ◌≡◌, ◌⊎◌, ◌<◌, Bool, true, false, not, Option, None, Some, is_some, option_and_then, unwrap_or, List, [], ◌∷◌, ◌++◌, slice_get, length, if◌then◌else◌, refl}
-use Rattle.std.specs.List.{AllByRecursion}
+use Rattle.std.specs.Prelude.{ℕ, ◌≡◌, ◌⊎◌, Bool, true, false, not, Option, None, Some, List, [], ◌∷◌, ◌++◌, slice_get, length, if◌then◌else◌, refl}
 use Rattle.std.specs.Option.{option_map_or}
-use Rattle.std.specs.Str.{bytes_eq}
-use Rattle.std.proofs.Common.{ap, sym, subst, ◌∙◌, inl, inr}
+use Rattle.std.proofs.Common.{subst, inl, inr}
 use Rattle.pw_tree.specs.Trees.{Word, Init, Initializer}
+use Rattle.pw_tree.specs.Spelling.{spell_initializer}
+use Rattle.pw_tree.specs.Symbols.{Symbol}
 use Rattle.pw_types.specs.TypeTrees.{QType, type_of}
 use Rattle.pw_types.specs.TypedTrees.{Initialiser}
 use Rattle.pw_walk.specs.Walks.{Walk, bind}
-use Rattle.pw_rules.specs.Compatible.{compatible, composite}
-use Rattle.pw_rules.specs.Declarations.{asking_of, AGlobal, context_of, hidden_of, local_of, local_rule, local_initialiser, bytes_rule, single_rule, completed_rule, static_rule, global_rule, fitting_rule, is_tentative}
+use Rattle.pw_rules.specs.Compatible.{compatible}
+use Rattle.pw_rules.specs.Declarations.{context_of, hidden_of, local_of, local_rule, local_initialiser, bytes_rule, single_rule, completed_rule, static_rule}
 use Rattle.pw_rules.specs.Initialisers.{object_rule, is_by_bytes}
 use Rattle.pw_rules.specs.Kinds.{is_const_object}
-use Rattle.pw_rules.specs.Limits.{Spot}
-use Rattle.pw_rules.specs.Linkage.{note_here, note_linked, place_for, change_linked, slot_for, has_slot, define_tentatively, define_object, initialise_linked, named_type, type_now, type_here, declare_linked}
+use Rattle.pw_rules.specs.Linkage.{change_linked, slot_for, has_slot, define_tentatively, define_object}
 use Rattle.pw_rules.specs.SpecifierLists.{Specified, is_register}
 use Rattle.pw_rules.specs.declared.names.Entry.{Entry}
 use Rattle.pw_rules.specs.declared.names.Slot.TheVariants as slot
-use Rattle.pw_rules.specs.States.{State, LinkedName, HiddenObject, Entity, TypeName, LocalObject, StaticObject, Linked, enter, put_at, put_entity, put_linked, add_slot, add_hidden, put_hidden, add_local, next_hidden, next_local, linked_at, entity_at, entity_here, entry_here}
-use Rattle.pw_well_typed.specs.Lawful.{IsLawful, IsLawfulType, IsObjectLike}
-use Rattle.pw_well_typed.proofs.Walking.{Post, post_bind, post_weaken, post_both, truth}
-use Rattle.pw_well_typed.proofs.Lists.{some_same, never_some, get_append, get_either, get_one, get_last, get_within, put_same}
-use Rattle.pw_well_typed.proofs.Sound.{Sound}
+use Rattle.pw_rules.specs.States.{State, LinkedName, Entity, LocalObject, StaticObject, enter, put_at, put_linked, add_slot, add_hidden, add_local, next_hidden, next_local, linked_at}
+use Rattle.pw_well_typed.specs.Lawful.{IsLawful, IsObjectLike}
+use Rattle.pw_well_typed.proofs.Walking.{Post, post_bind, post_weaken, post_both}
+use Rattle.pw_well_typed.proofs.Lists.{get_append, get_either, get_one, get_last}
 use Rattle.pw_well_typed.proofs.States.{Grows}
 use Rattle.pw_well_typed.proofs.Changes.{entered, hidden_added}
 use Rattle.pw_well_typed.proofs.Filling.{object_runs, runs_whatever}
-use Rattle.pw_well_typed.proofs.Initialisers.{IsLawfully}
 use Rattle.pw_well_typed.proofs.Keeping.{around}
-use Rattle.pw_within.proofs.Sizes.{IsKeptFrom, within_kept}
+use Rattle.pw_within.proofs.Spelled.{AreShort}
+use Rattle.pw_within.proofs.Sizes.{IsKeptFrom}
 use Rattle.pw_within.proofs.SmallLeaves.{Keeping, IsReady, AreSmallFrom}
 use Rattle.pw_within.proofs.SmallDeclarations.{Declares, local_small, static_small}
-use Rattle.pw_within.proofs.SmallLinkage.{AreNarrowed, HavePlaces, places_so, put_narrows, narrowed_on, narrowed_grows, narrowed_entered, narrowed_put}
+use Rattle.pw_within.proofs.SmallLinkage.{AreNarrowed, HavePlaces, put_narrows, narrowed_on, narrowed_grows, narrowed_entered, narrowed_put}
 
 -- ---- locals
 
@@ -85,11 +83,11 @@ Declared r = (Keeping r.1 × AreNarrowed r.1) × AreSmallFrom r.1 r.0
 with_narrowed : (w : Walk (List Initialiser × State)) → Post w Declares → Post w (λ r. AreNarrowed r.1) → Post w Declared
 with_narrowed w h k = post_weaken w (λ r. Declares r × AreNarrowed r.1) Declared (post_both w Declares (λ r. AreNarrowed r.1) h k) (λ r g. ((g.0.0, g.1), g.0.1))
 
-pub local_declared : (w : Word) (b : Specified) (q : QType) (i : Option Initializer) (s : State) → IsReady s → IsObjectLike s.types.records q → IsKeptFrom s.types.records (type_of q) → HavePlaces s → AreNarrowed s → Post (local_rule w b q i s) Declared
-local_declared w b q i s l like kept places h = with_narrowed (local_rule w b q i s) (local_small w b q i s l like kept) (local_narrowed w b q i s l.0 like places h)
+pub local_declared : (w : Word) (b : Specified) (q : QType) (i : Option Initializer) (z : List Symbol) (sh : AreShort (spell_initializer i z)) (s : State) → IsReady s → IsObjectLike s.types.records q → IsKeptFrom s.types.records (type_of q) → HavePlaces s → AreNarrowed s → Post (local_rule w b q i s) Declared
+local_declared w b q i z sh s l like kept places h = with_narrowed (local_rule w b q i s) (local_small w b q i z sh s l like kept) (local_narrowed w b q i s l.0 like places h)
 
-pub static_declared : (w : Word) (q : QType) (i : Option Initializer) (s : State) → IsReady s → IsObjectLike s.types.records q → IsKeptFrom s.types.records (type_of q) → HavePlaces s → AreNarrowed s → Post (static_rule w q i s) Declared
-static_declared w q i s l like kept places h = with_narrowed (static_rule w q i s) (static_small w q i s l like kept) (static_narrowed w q i s l.0 like places h)
+pub static_declared : (w : Word) (q : QType) (i : Option Initializer) (z : List Symbol) (sh : AreShort (spell_initializer i z)) (s : State) → IsReady s → IsObjectLike s.types.records q → IsKeptFrom s.types.records (type_of q) → HavePlaces s → AreNarrowed s → Post (static_rule w q i s) Declared
+static_declared w q i z sh s l like kept places h = with_narrowed (static_rule w q i s) (static_small w q i z sh s l like kept) (static_narrowed w q i s l.0 like places h)
 
 -- ---- names with linkage whose types stay
 
@@ -99,7 +97,7 @@ change_small s place f same keep h = by (linked_at s place) refl
     by : (o : Option LinkedName) → linked_at s place ≡ o → Keeping (option_map_or (λ l. put_linked place (f l) s) o s) × AreNarrowed (option_map_or (λ l. put_linked place (f l) s) o s)
     by None e = (keep, h)
     by (Some l) e = (
-      record { entities = keep.entities; members = keep.members },
+      record { entities = keep.entities; members = keep.members; strings = keep.strings },
       λ i x y at there. narrowed_on s.types.linked (put_at place (f l) s.types.linked) (put_narrows place l (f l) s.types.linked e (λ t k. subst (λ q. compatible q t ≡ true) (same l) k)) y (h i x y at there),
     )
 
@@ -108,7 +106,7 @@ slot_small s place keep h = by (has_slot s place)
   where
     by : (b : Bool) → Keeping (if b then s else add_slot (slot.Named place) s) × AreNarrowed (if b then s else add_slot (slot.Named place) s)
     by true = (keep, h)
-    by false = (record { entities = keep.entities; members = keep.members }, h)
+    by false = (record { entities = keep.entities; members = keep.members; strings = keep.strings }, h)
 
 pub defined_small : (s : State) (place : ℕ) → Keeping s → AreNarrowed s → Keeping (define_object place s) × AreNarrowed (define_object place s)
 defined_small s place keep h = let x = slot_small s place keep h in change_small (slot_for place s) place (λ l. record l { defined = true }) (λ l. refl) x.0 x.1

@@ -1,7 +1,7 @@
 -- The rules that read no phrase any more: what they make keeps the limits on sizes and arguments (ISO C90 5.2.4.1), and of the
 -- state the types of names and members.
-use Rattle.std.specs.Prelude.{ℕ, zero, suc, ◌≡◌, ◌≤◌, ◌*◌, ◌⊎◌, Bool, true, false, not, ◌&&◌, ◌||◌, if◌then◌else◌, Option, None, Some, option_and_then, cond, find, zip, List, [], ◌∷◌, ◌++◌, length, slice_get, refl}
-use Rattle.std.proofs.Common.{arith, ap, sym, subst, ◌∙◌, inl, inr}
+use Rattle.std.specs.Prelude.{ℕ, ◌⊎◌, ◌++◌, suc, ◌≡◌, ◌≤◌, Bool, true, false, if◌then◌else◌, Option, Some, option_and_then, cond, find, zip, List, [], ◌∷◌, length, slice_get, refl}
+use Rattle.std.proofs.Common.{inl, inr, ap, sym, subst, ◌∙◌}
 use Rattle.pw_value.specs.Limits.{size_limit}
 use Rattle.pw_literal.specs.Characters.{string_bytes_of}
 use Rattle.pw_tree.specs.declared.operator.BinaryOperator.{BinaryOperator}
@@ -11,35 +11,29 @@ use Rattle.pw_tree.specs.declared.operator.AssignOperator.TheVariants as A
 use Rattle.pw_tree.specs.declared.operator.UnaryOperator.{UnaryOperator}
 use Rattle.pw_tree.specs.Trees.{Word}
 use Rattle.pw_types.specs.declared.kind.IntKind.TheVariants as K
-use Rattle.pw_types.specs.declared.record.RecordKind.{RecordKind}
 use Rattle.pw_types.specs.declared.tree.LogicOperator.{LogicOperator}
 use Rattle.pw_types.specs.declared.tree.StepOperator.{StepOperator}
 use Rattle.pw_types.specs.Layouts.{content_at}
-use Rattle.pw_types.specs.Records.{IsLaid, declared, defined}
-use Rattle.pw_types.specs.TypeTrees.{CType, Void, Int, Pointer, Array, Function, Record, QType, Qualified, type_of, is_constant, is_volatile, MemberValue, ContentValue, RecordValue}
+use Rattle.pw_types.specs.Records.{IsLaid}
+use Rattle.pw_types.specs.TypeTrees.{CType, Void, Int, Pointer, Array, Function, Record, QType, type_of, is_constant, is_volatile, MemberValue, ContentValue, RecordValue}
 use Rattle.std.specs.List.{AllByRecursion}
 use Rattle.pw_lowered.specs.Within.{IsSmallIn}
 use Rattle.pw_types.specs.TypedTrees.{Expression, Node, type_at, Initialiser}
 use Rattle.pw_types.specs.TypedTrees as T
 use Rattle.pw_types.specs.WellTyped.{type_in}
 use Rattle.pw_walk.specs.Walks.{Walk, bind, granted}
-use Rattle.pw_rules.specs.Derivations.{Declared, ParameterValue, built, spot_of}
-use Rattle.pw_rules.specs.Kinds.{plain, int_type, unqualified, qualify, is_function, is_scalar}
-use Rattle.pw_rules.specs.Leaves.{entity_operand, linked_operand, identifier_rule, number_rule, character_rule, string_rule, string_point, string_type, bytes_at_start, texts_of, adjusted, member_rule, parameter_rule, named_point, named_type, enter_parameter, name_text}
-use Rattle.pw_rules.specs.Limits.{Spot}
+use Rattle.pw_rules.specs.Kinds.{plain, unqualified, qualify, is_function, is_scalar}
+use Rattle.pw_rules.specs.Leaves.{entity_operand, linked_operand, identifier_rule, number_rule, character_rule, string_rule, string_point, string_type, bytes_at_start, texts_of}
 use Rattle.pw_rules.specs.Operands.{Operand, value_of}
-use Rattle.pw_rules.specs.Operators.{value_rule, sign_rule, deref, deref_rule, address_rule, step_rule, size_rule, type_size_rule, cast_rule, binary_rule, logic_rule, operation_rule, conditional_rule, assign_rule, compound_rule, assignment_rule, index_rule, call_rule, member_in, member_of, member_operand, select_rule, dot_rule, arrow_rule, sum_node, fits_choice}
-use Rattle.pw_rules.specs.SpecifierLists.{Specified}
-use Rattle.pw_rules.specs.States.{State, Rule, Entity, TypeName, EnumerationConstant, LocalObject, StaticObject, Linked, HiddenObject, enter, add_hidden, entity_at, entry_of, entity_of, records_in, put_at}
-use Rattle.pw_well_typed.specs.Lawful.{IsLawful, IsLawfulType, Extends}
-use Rattle.pw_well_typed.proofs.Walking.{Post, AreMet, post_bind, post_weaken, post_both, post_granted, truth, met_right}
-use Rattle.pw_well_typed.proofs.Lists.{some_same, never_some, get_more, get_last, put_either, length_put}
-use Rattle.pw_well_typed.proofs.Types.{right, lawful_pointer, lawful_element, extends_trans}
-use Rattle.pw_well_typed.proofs.States.{Grows, Runs}
-use Rattle.pw_well_typed.proofs.Leaves.{GoodType, GoodSpecified, GoodDeclared, built_runs}
-use Rattle.pw_within.proofs.Sizes.{IsKept, IsKeptFrom, kept_from, within_kept, kept_int, kept_qualify, kept_string}
+use Rattle.pw_rules.specs.Operators.{value_rule, sign_rule, deref, deref_rule, address_rule, step_rule, size_rule, cast_rule, binary_rule, logic_rule, operation_rule, conditional_rule, assign_rule, compound_rule, assignment_rule, index_rule, call_rule, member_in, member_of, select_rule, dot_rule, arrow_rule, sum_node, fits_choice}
+use Rattle.pw_rules.specs.States.{put_at, State, Entity, TypeName, EnumerationConstant, LocalObject, StaticObject, Linked, HiddenObject, add_hidden, entity_at, entry_of, entity_of, records_in}
+use Rattle.pw_well_typed.specs.Lawful.{IsLawful, Extends}
+use Rattle.pw_well_typed.proofs.Walking.{Post, post_bind, post_weaken, post_granted, truth}
+use Rattle.pw_well_typed.proofs.Lists.{some_same, never_some, and_then_some, get_more, put_either}
+use Rattle.pw_well_typed.proofs.Types.{right, extends_trans}
+use Rattle.pw_well_typed.proofs.States.{Grows}
+use Rattle.pw_within.proofs.Sizes.{IsKept, IsKeptFrom, kept_int, kept_qualify, kept_string}
 use Rattle.pw_within.proofs.Small.{Keeps, AllKeep, node_keeps, int_keeps, value_keeps, unary_keeps, deref_keeps, address_keeps, sum_keeps, binary_keeps, choice_keeps, assign_keeps, compound_keeps, call_keeps}
-use Rattle.pw_within.proofs.Still.{Still, built_still}
 
 -- ---- states
 
@@ -56,32 +50,42 @@ AreKeptMembers r ms = (i : ℕ) (m : MemberValue) → slice_get ms i ≡ Some m 
 abbrev pub HaveKeptMembers : List RecordValue → Type 0
 HaveKeptMembers r = (n : ℕ) (c : ContentValue) → content_at r n ≡ Some c → AreKeptMembers r c.members
 
--- the types of names and members keep the limits
-pub record Keeping (s : State) : Type 0 where
-  pub entities : (k : ℕ) (x : Entity) → slice_get s.scopes.entities k ≡ Some x → IsKeptEntity s.types.records x
-  pub members : HaveKeptMembers s.types.records
-
-abbrev pub IsReady : State → Type 0
-IsReady s = IsLawful s × Keeping s
-
 -- no string is longer than an object can be
 abbrev pub IsShortType : QType → Type 0
 IsShortType q = (n : ℕ) → type_of q ≡ Array (plain (Int K.Char)) (Some n) → n ≤ size_limit
 
--- The records are those of a module in the end, whose strings are not too long; so the state is in no operand of `sizeof`.
-pub record Reaches (s : State) (r : List RecordValue) : Type 0 where
-  pub laid : IsLaid r
-  pub records : Extends s.types.records r
-  pub counting : s.made.counting ≡ true
-  pub strings : (k : ℕ) (h : HiddenObject) → slice_get s.made.hidden k ≡ Some h → IsShortType h.ty
+abbrev pub AreShortObjects : List HiddenObject → Type 0
+AreShortObjects hs = (k : ℕ) (h : HiddenObject) → slice_get hs k ≡ Some h → IsShortType h.ty
+
+pub more_short : (hs : List HiddenObject) (h : HiddenObject) → AreShortObjects hs → IsShortType h.ty → AreShortObjects (hs ++ h ∷ [])
+more_short hs h all short k x e = by (get_more hs h k x e)
+  where
+    by : (slice_get hs k ≡ Some x) ⊎ ((k ≡ length hs) × (h ≡ x)) → IsShortType x.ty
+    by (inl f) = all k x f
+    by (inr f) = subst (λ (y : HiddenObject). IsShortType y.ty) f.1 short
+
+pub put_short : (place : ℕ) (h : HiddenObject) (hs : List HiddenObject) → AreShortObjects hs → IsShortType h.ty → AreShortObjects (put_at place h hs)
+put_short place h hs all short k x e = by (put_either place h hs k)
+  where
+    by : ((k ≡ place) × (slice_get (put_at place h hs) k ≡ Some h)) ⊎ (slice_get (put_at place h hs) k ≡ slice_get hs k) → IsShortType x.ty
+    by (inl f) = subst (λ (y : HiddenObject). IsShortType y.ty) (some_same (sym f.1 ∙ e)) short
+    by (inr f) = all k x (sym f ∙ e)
+
+-- the types of names, members and strings keep the limits
+pub record Keeping (s : State) : Type 0 where
+  pub entities : (k : ℕ) (x : Entity) → slice_get s.scopes.entities k ≡ Some x → IsKeptEntity s.types.records x
+  pub members : HaveKeptMembers s.types.records
+  pub strings : AreShortObjects s.made.hidden
+
+abbrev pub IsReady : State → Type 0
+IsReady s = IsLawful s × Keeping s
+
+-- The records are those of a module in the end.
+abbrev pub Reaches : State → List RecordValue → Type 0
+Reaches s r = IsLaid r × Extends s.types.records r
 
 pub reaches_back : {s t : State} {r : List RecordValue} → Grows s t → Reaches t r → Reaches s r
-reaches_back {s} {t} {r} g h = record {
-  laid = h.laid;
-  records = extends_trans g.extends h.records;
-  counting = sym g.counting ∙ h.counting;
-  strings = λ k x e. h.strings k x (g.hidden k x e);
-}
+reaches_back {s} {t} {r} g h = (h.0, extends_trans g.extends h.1)
 
 -- ---- what is made
 
@@ -123,12 +127,8 @@ from_value s a next P h k = λ met. k (value_of a) (λ r c. value_keeps r a (h r
 
 -- ---- primary expressions
 
-and_then_some : {X Y : Type 0} (f : X → Option Y) (o : Option X) (y : Y) → option_and_then f o ≡ Some y → (x : X) × (o ≡ Some x) × (f x ≡ Some y)
-and_then_some f None y e = never_some e
-and_then_some f (Some x) y e = (x, refl, e)
-
 linked_kept : (s : State) (t place : ℕ) (q : QType) → IsKeptFrom s.types.records (type_of q) → KeptOperand s (linked_operand s t place q)
-linked_kept s t place q h = λ r c. by r (h r c.laid c.records) (is_function (type_of q))
+linked_kept s t place q h = λ r c. by r (h r c.0 c.1) (is_function (type_of q))
   where
     by : (r : List RecordValue) → IsKept r (type_of q) → (b : Bool) → Keeps r (if b then Rattle.pw_rules.specs.Operands.value_operand (Node t q (T.Function (Rattle.pw_rules.specs.Linkage.symbol_at s place)))
         else Rattle.pw_rules.specs.Leaves.lvalue_operand false (Node t q (T.Global (Rattle.pw_rules.specs.Linkage.symbol_at s place)))).node
@@ -138,8 +138,8 @@ linked_kept s t place q h = λ r c. by r (h r c.laid c.records) (is_function (ty
 entity_kept : (s : State) (t : ℕ) (x : Entity) (a : Operand) → IsKeptEntity s.types.records x → entity_operand s t x ≡ Some a → KeptOperand s a
 entity_kept s t (TypeName q) a h e = never_some e
 entity_kept s t (EnumerationConstant n) a h e = subst (KeptOperand s) (some_same e) (λ r c. int_keeps r t (T.Number n) tt tt)
-entity_kept s t (LocalObject k q register) a h e = subst (KeptOperand s) (some_same e) (λ r c. node_keeps r t q (T.Local k) (h r c.laid c.records) tt tt)
-entity_kept s t (StaticObject k q) a h e = subst (KeptOperand s) (some_same e) (λ r c. node_keeps r t q (T.Global (T.Hidden k)) (h r c.laid c.records) tt tt)
+entity_kept s t (LocalObject k q register) a h e = subst (KeptOperand s) (some_same e) (λ r c. node_keeps r t q (T.Local k) (h r c.0 c.1) tt tt)
+entity_kept s t (StaticObject k q) a h e = subst (KeptOperand s) (some_same e) (λ r c. node_keeps r t q (T.Global (T.Hidden k)) (h r c.0 c.1) tt tt)
 entity_kept s t (Linked place q) a h e = subst (KeptOperand s) (some_same e) (linked_kept s t place q h)
 
 pub identifier_leaf : (w : Word) (s : State) → Keeping s → Post (identifier_rule w s) (Leaf s)
@@ -161,18 +161,20 @@ character_leaf w s = λ met. (refl, λ r c. int_keeps r w.token (T.Number _) tt 
 abbrev string_object : List ℕ → HiddenObject
 string_object bytes = record { ty = string_type bytes; writable = false; items = bytes_at_start bytes }
 
-pub string_made : (ws : List Word) (s : State) → Keeping s → Post (string_rule ws s) Made
+abbrev array_count : CType → ℕ
+array_count (Array q (Some n)) = n
+array_count _ = 0
+
+string_type_short : (bytes : List ℕ) → length bytes ≤ size_limit → IsShortType (string_type bytes)
+string_type_short bytes short n e = subst (λ i. i ≤ size_limit) (ap array_count e) short
+
+pub string_made : (ws : List Word) (s : State) → length (string_bytes_of (texts_of ws)) ≤ size_limit → Keeping s → Post (string_rule ws s) Made
 unfolding string_rule string_point bind
-string_made ws s k = λ met. by s.made.counting refl
+string_made ws s short k = λ met. (by s.made.counting, λ r c. node_keeps r _ (string_type (string_bytes_of (texts_of ws))) (T.Str (length s.made.hidden)) (kept_string r (length (string_bytes_of (texts_of ws))) short) tt tt)
   where
-    by : (b : Bool) → s.made.counting ≡ b → Keeping (if b then add_hidden (string_object (string_bytes_of (texts_of ws))) s else s)
-        × KeptValue (if b then add_hidden (string_object (string_bytes_of (texts_of ws))) s else s) (Node (Rattle.pw_tree.specs.FirstTokens.first_of_words ws) (string_type (string_bytes_of (texts_of ws))) (T.Str (length s.made.hidden)))
-    by true e = (
-      record { entities = k.entities; members = k.members },
-      λ r c. node_keeps r _ (string_type (string_bytes_of (texts_of ws))) (T.Str (length s.made.hidden))
-          (kept_string r (length (string_bytes_of (texts_of ws))) (c.strings (length s.made.hidden) (string_object (string_bytes_of (texts_of ws))) (get_last s.made.hidden (string_object (string_bytes_of (texts_of ws)))) _ refl)) tt tt,
-    )
-    by false e = (k, λ r c. Rattle.pw_well_typed.proofs.Types.no (sym e ∙ c.counting))
+    by : (b : Bool) → Keeping (if b then add_hidden (string_object (string_bytes_of (texts_of ws))) s else s)
+    by true = record { entities = k.entities; members = k.members; strings = more_short s.made.hidden (string_object (string_bytes_of (texts_of ws))) k.strings (string_type_short (string_bytes_of (texts_of ws)) short) }
+    by false = k
 
 -- ---- operators
 
@@ -198,7 +200,7 @@ size_leaf t a s = λ met. (refl, λ r c. node_keeps r t (plain (Int K.UInt)) (T.
 
 pub cast_leaf : (t : ℕ) (q : QType) (e : Expression) (s : State) → IsKeptFrom s.types.records (type_of q) → KeptValue s e → Post (cast_rule t q e s) (Leaf s)
 unfolding cast_rule bind
-cast_leaf t q e s k h = λ met. (refl, λ r c. node_keeps r t (unqualified q) (T.Cast e) (k r c.laid c.records) (h r c).small tt)
+cast_leaf t q e s k h = λ met. (refl, λ r c. node_keeps r t (unqualified q) (T.Cast e) (k r c.0 c.1) (h r c).small tt)
 
 binary_leaf : (t : ℕ) (op : BinaryOperator) (a b : Expression) (s : State) → KeptValue s a → KeptValue s b → Post (binary_rule t op a b s) (Leaf s)
 unfolding binary_rule bind
@@ -292,7 +294,7 @@ select_leaf t w a s k h =
     (λ r g. (
       g.0,
       λ l c. node_keeps l t (qualify (is_constant (type_at a.node)) (is_volatile (type_at a.node)) r.0.0.ty) (T.Member a.node r.0.1)
-          (kept_qualify l (is_constant (type_at a.node)) (is_volatile (type_at a.node)) r.0.0.ty (member_found (records_in s) (type_in a.node) w.text r.0 k.members g.1 l c.laid c.records)) (h l c).small tt,
+          (kept_qualify l (is_constant (type_at a.node)) (is_volatile (type_at a.node)) r.0.0.ty (member_found (records_in s) (type_in a.node) w.text r.0 k.members g.1 l c.0 c.1)) (h l c).small tt,
     ))
 
 pub dot_leaf : (t : ℕ) (w : Word) (a : Operand) (s : State) → Keeping s → KeptOperand s a → Post (dot_rule t w a s) (Leaf s)

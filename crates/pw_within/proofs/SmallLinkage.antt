@@ -3,23 +3,23 @@
 use Rattle.std.specs.Prelude.{ℕ, ◌≡◌, ◌⊎◌, Bool, true, false, Option, None, Some, option_and_then, unwrap_or, List, [], ◌∷◌, ◌++◌, slice_get, length, refl}
 use Rattle.std.specs.Option.{option_map_or}
 use Rattle.std.proofs.Common.{ap, sym, subst, ◌∙◌, inl, inr}
-use Rattle.pw_types.specs.TypeTrees.{CType, QType, Qualified, type_of, RecordValue}
+use Rattle.pw_types.specs.TypeTrees.{QType, Qualified, type_of, RecordValue}
 use Rattle.pw_rules.specs.Compatible.{compatible, composite, composite_type}
-use Rattle.pw_rules.specs.Linkage.{linked_before, linked_again, linked_anew, place_for, note_linked, note_here, type_here, change_linked}
-use Rattle.pw_rules.specs.States.{State, LinkedName, Entity, TypeName, EnumerationConstant, LocalObject, StaticObject, Linked, enter, put_at, put_entity, put_linked, add_linked, entity_at, entity_here, entry_here, entry_of, if_here, linked_at}
+use Rattle.pw_rules.specs.Linkage.{linked_before, linked_again, linked_anew, place_for, note_linked, note_here, type_here}
+use Rattle.pw_rules.specs.States.{State, LinkedName, Entity, TypeName, EnumerationConstant, LocalObject, StaticObject, Linked, enter, put_at, put_entity, put_linked, add_linked, entity_at, entity_here, entry_here, entry_of, if_here}
 use Rattle.pw_rules.specs.declared.names.Entry.{Entry}
 use Rattle.pw_well_typed.specs.Lawful.{IsLawful}
-use Rattle.pw_well_typed.proofs.Lists.{some_same, never_some, get_append, get_either, get_one, get_last, get_more, get_within, put_either, put_same, visible_at}
+use Rattle.pw_well_typed.proofs.Lists.{some_same, never_some, and_then_some, get_append, get_either, get_one, get_last, get_within, put_either, put_same}
 use Rattle.pw_well_typed.proofs.Sound.{Sound, Spelled}
 use Rattle.pw_well_typed.proofs.States.{Grows, IsConstant}
 use Rattle.pw_well_typed.proofs.Keeping.{place_is, place_new, named_before, none_named}
 use Rattle.pw_well_typed.proofs.Declaring.{Linkable, visible_named}
 use Rattle.pw_well_typed.proofs.Composite.{types_compatible}
-use Rattle.pw_within.proofs.Sizes.{IsKept, IsKeptFrom, kept_composite}
+use Rattle.pw_within.proofs.Sizes.{IsKeptFrom, kept_composite}
 use Rattle.pw_within.proofs.SmallLeaves.{IsKeptEntity, Keeping}
 use Rattle.pw_within.proofs.SmallPhrases.{entered_keeping}
 use Rattle.pw_within.proofs.SmallDeclarations.{put_keeping}
-use Rattle.pw_within.proofs.Wider.{Wider, wider_trans, wider_composite, wider_second, wider_composites}
+use Rattle.pw_within.proofs.Wider.{Wider, wider_composite, wider_second, wider_composites}
 
 -- ---- states
 
@@ -105,10 +105,6 @@ pub record Meets (s : State) (name : List ℕ) (place : ℕ) (ty : QType) : Type
   pub narrow : Wider linked.ty ty
   pub before : (n : ℕ) (q : QType) → entity_here s name ≡ Some (Linked n q) → (compatible q ty ≡ true) × Wider linked.ty (composite q ty)
 
-and_then_some : {X Y : Type 0} (f : X → Option Y) (o : Option X) (y : Y) → option_and_then f o ≡ Some y → (x : X) × (o ≡ Some x) × (f x ≡ Some y)
-and_then_some f None y e = never_some e
-and_then_some f (Some x) y e = (x, refl, e)
-
 kept_both : (r : List RecordValue) (a b : QType) → IsKeptFrom r (type_of a) → IsKeptFrom r (type_of b) → compatible a b ≡ true → IsKeptFrom r (type_of (composite a b))
 unfolding composite_type
 kept_both r (Qualified a c v) (Qualified b d w) h k e = λ x laid later. kept_composite x a b (h x laid later) (k x laid later) (types_compatible a b c v d w e).0
@@ -183,7 +179,7 @@ noted_small s name internal ty token tag lawful keep sound narrowed link = by (l
         → (Keeping (option_map_or (λ l. put_linked (place_for s name) (linked_again ty l) s) o (add_linked (linked_anew name internal ty token tag) s)) × HavePlaces (option_map_or (λ l. put_linked (place_for s name) (linked_again ty l) s) o (add_linked (linked_anew name internal ty token tag) s)))
         × (AreNarrowed (option_map_or (λ l. put_linked (place_for s name) (linked_again ty l) s) o (add_linked (linked_anew name internal ty token tag) s)) × Meets (option_map_or (λ l. put_linked (place_for s name) (linked_again ty l) s) o (add_linked (linked_anew name internal ty token tag) s)) name (place_for s name) ty)
     by None e = (
-      (record { entities = keep.entities; members = keep.members }, places_so s sound),
+      (record { entities = keep.entities; members = keep.members; strings = keep.strings }, places_so s sound),
       (
         λ i x y at there. narrowed_on s.types.linked (s.types.linked ++ linked_anew name internal ty token tag ∷ []) (λ n l f. (l, get_append s.types.linked (linked_anew name internal ty token tag ∷ []) n l f, λ t h. h)) y (narrowed i x y at there),
         record {
@@ -197,7 +193,7 @@ noted_small s name internal ty token tag lawful keep sound narrowed link = by (l
     by (Some l) e =
         let at : slice_get s.types.linked (place_for s name) ≡ Some l = place_is s name l e in
         let alike : compatible l.ty ty ≡ true = link.alike l e in (
-          (record { entities = keep.entities; members = keep.members }, places_so s sound),
+          (record { entities = keep.entities; members = keep.members; strings = keep.strings }, places_so s sound),
           (
             λ i x y f there. narrowed_on s.types.linked (put_at (place_for s name) (linked_again ty l) s.types.linked) (put_narrows (place_for s name) l (linked_again ty l) s.types.linked at (wider_composite l.ty ty)) y (narrowed i x y f there),
             record {

@@ -1,13 +1,15 @@
 -- Declarations of objects with linkage that are initialised, and of every sort: the types of names keep the limits (ISO C90 5.2.4.1).
-use Rattle.std.specs.Prelude.{ℕ, ◌≡◌, ◌⊎◌, ◌==◌, Bool, true, false, Option, None, Some, is_some, option_and_then, unwrap_or, List, [], ◌∷◌, ◌++◌, slice_get, length, if◌then◌else◌, refl}
+use Rattle.std.specs.Prelude.{ℕ, ◌≡◌, ◌⊎◌, ◌==◌, Bool, true, false, Option, None, Some, is_some, option_and_then, unwrap_or, List, slice_get, length, if◌then◌else◌, refl}
 use Rattle.std.specs.Option.{option_map_or}
 use Rattle.std.proofs.lemmas.Bool.{eq-eqb}
 use Rattle.std.proofs.lemmas.Slice.Eq.{bytes_eq-Decides}
 use Rattle.std.proofs.Common.{ap, sym, subst, ◌∙◌, inl, inr}
-use Rattle.pw_tree.specs.Trees.{Word, Init, Initializer}
+use Rattle.pw_tree.specs.Trees.{Word, Initializer}
+use Rattle.pw_tree.specs.Spelling.{spell_initializer}
+use Rattle.pw_tree.specs.Symbols.{Symbol}
 use Rattle.pw_types.specs.TypeTrees.{QType, type_of}
-use Rattle.pw_types.specs.TypedTrees.{Initialiser, PlacedItem}
-use Rattle.pw_walk.specs.Walks.{Walk, bind}
+use Rattle.pw_types.specs.TypedTrees.{PlacedItem}
+use Rattle.pw_walk.specs.Walks.{bind}
 use Rattle.pw_rules.specs.Compatible.{compatible, composite}
 use Rattle.pw_rules.specs.Declarations.{asking_of, Sort, ATypedef, AFunction, AGlobal, AnExtern, AStatic, ALocal, sort_point, name_rule, declare_rule, context_of, global_rule, fitting_rule, is_tentative}
 use Rattle.pw_rules.specs.Initialisers.{object_rule}
@@ -15,9 +17,9 @@ use Rattle.pw_rules.specs.Limits.{Spot}
 use Rattle.pw_rules.specs.Linkage.{Asking, AsBefore, note_here, note_linked, is_internal_by, place_for, define_object, initialise_linked, named_type, type_now, type_here, declare_linked, is_linked, linked_before, linked_again, linked_anew}
 use Rattle.pw_rules.specs.SpecifierLists.{Specified}
 use Rattle.pw_rules.specs.declared.names.Entry.{Entry}
-use Rattle.pw_rules.specs.States.{State, ScopeState, LinkedName, Entity, TypeName, Linked, enter, put_at, put_entity, put_linked, add_linked, linked_at, entity_at, entity_here, entry_here, entry_of, if_here, start}
+use Rattle.pw_rules.specs.States.{State, ScopeState, LinkedName, Entity, TypeName, Linked, enter, put_at, put_entity, put_linked, add_linked, entity_at, entity_here, entry_here, entry_of, if_here, start}
 use Rattle.pw_well_typed.specs.Lawful.{IsLawful, IsLawfulType}
-use Rattle.pw_well_typed.proofs.Walking.{Post, AreMet, post_bind, post_weaken, post_both, truth, met_left, met_right}
+use Rattle.pw_well_typed.proofs.Walking.{Post, AreMet, post_bind, post_both, truth, met_left, met_right}
 use Rattle.pw_well_typed.proofs.Lists.{some_same, get_last, get_within, put_same, put_either, visible_more}
 use Rattle.pw_well_typed.proofs.Sound.{Sound}
 use Rattle.pw_well_typed.proofs.States.{Grows}
@@ -25,12 +27,13 @@ use Rattle.pw_well_typed.proofs.Initialisers.{IsLawfully}
 use Rattle.pw_well_typed.proofs.Keeping.{Knows, defined_kept}
 use Rattle.pw_well_typed.proofs.Declaring.{Linkable, mapped, declared_knows, defined_scopes, visible_named}
 use Rattle.pw_well_typed.proofs.Declarations.{Fits}
+use Rattle.pw_within.proofs.Spelled.{AreShort}
 use Rattle.pw_within.proofs.Sizes.{IsKeptFrom, within_kept}
 use Rattle.pw_within.proofs.SmallLeaves.{Keeping, IsReady}
 use Rattle.pw_within.proofs.SmallPhrases.{entered_keeping}
 use Rattle.pw_within.proofs.SmallDeclarations.{ObjectRead, object_read}
 use Rattle.pw_within.proofs.Wider.{Wider, wider_composite, wider_second, wider_composites}
-use Rattle.pw_within.proofs.SmallLinkage.{AreNarrowed, HavePlaces, places_so, put_narrows, narrowed_on, narrowed_grows, narrowed_entered, Meets, FoundHere, found_here, note_small, declare_small}
+use Rattle.pw_within.proofs.SmallLinkage.{AreNarrowed, HavePlaces, places_so, put_narrows, narrowed_on, narrowed_grows, narrowed_entered, found_here, note_small, declare_small}
 use Rattle.pw_within.proofs.SmallGlobals.{Declared, places_entered, defined_small, tentative_small, local_declared, static_declared}
 
 -- ---- where a name that is declared stands
@@ -103,7 +106,7 @@ initialised : (u : State) (name : List ℕ) (place : ℕ) (ty t : QType) (items 
 initialised u name place ty t items l keep places narrowed at here wide alike k =
     subst (λ o. Keeping (note_here name place ty (option_map_or (λ (x : LinkedName). put_linked place (record x { ty = composite x.ty ty; items = items }) u) o u)) × AreNarrowed (note_here name place ty (option_map_or (λ (x : LinkedName). put_linked place (record x { ty = composite x.ty ty; items = items }) u) o u)))
     (sym at)
-    (note_small (put_linked place (record l { ty = composite l.ty ty; items = items }) u) name place ty (record { entities = keep.entities; members = keep.members }) places
+    (note_small (put_linked place (record l { ty = composite l.ty ty; items = items }) u) name place ty (record { entities = keep.entities; members = keep.members; strings = keep.strings }) places
     (λ i e x f there. narrowed_on u.types.linked (put_at place (record l { ty = composite l.ty ty; items = items }) u.types.linked) (put_narrows place l (record l { ty = composite l.ty ty; items = items }) u.types.linked at (wider_composite l.ty ty)) x (narrowed i e x f there))
     (record {
       linked = record l { ty = composite l.ty ty; items = items };
@@ -121,13 +124,13 @@ initialised u name place ty t items l keep places narrowed at here wide alike k 
     linked_same : {n m : ℕ} {p q : QType} → Linked n p ≡ Linked m q → p ≡ q
     linked_same {n} {m} {p} {q} e = ap (λ x. type_in_entity x p) e
 
-global_declared : (w : Word) (b : Specified) (spot : Spot) (q : QType) (i : Option Initializer) (s : State) → IsReady s → IsLawfulType s.types.records (type_of q) → IsKeptFrom s.types.records (type_of q) → Sound None s → AreNarrowed s
+global_declared : (w : Word) (b : Specified) (spot : Spot) (q : QType) (i : Option Initializer) (z : List Symbol) (sh : AreShort (spell_initializer i z)) (s : State) → IsReady s → IsLawfulType s.types.records (type_of q) → IsKeptFrom s.types.records (type_of q) → Sound None s → AreNarrowed s
     → Linkable s w.text q → Post (global_rule w b spot q i s) Declared
 unfolding global_rule fitting_rule bind
-global_declared w b spot q None s l lawful kept sound narrowed link =
+global_declared w b spot q None z sh s l lawful kept sound narrowed link =
     post_bind (declare_linked w.text w.token b.tag (asking_of AGlobal b) q s) _ (λ r. Keeping r.1 × AreNarrowed r.1) Declared (declare_small w.text w.token b.tag (asking_of AGlobal b) q s l.0 l.1 sound narrowed link kept)
     (λ r g. (tentative_small (is_tentative b) r.1 r.0 g.0 g.1, λ x c. tt))
-global_declared w b spot q (Some i) s l lawful kept sound narrowed link =
+global_declared w b spot q (Some i) z sh s l lawful kept sound narrowed link =
     post_bind (declare_linked w.text w.token b.tag (asking_of AGlobal b) q s) _ (λ r. (IsLawful r.1 × Knows s r.1) × ((Keeping r.1 × AreNarrowed r.1) × (HavePlaces r.1 × HereIn r.1.scopes w.text r.0))) Declared
     (post_both (declare_linked w.text w.token b.tag (asking_of AGlobal b) q s) (λ r. IsLawful r.1 × Knows s r.1) (λ r. (Keeping r.1 × AreNarrowed r.1) × (HavePlaces r.1 × HereIn r.1.scopes w.text r.0))
     (declared_knows s w.text w.token b.tag (asking_of AGlobal b) q l.0 lawful)
@@ -140,7 +143,7 @@ global_declared w b spot q (Some i) s l lawful kept sound narrowed link =
     let here : entity_here (define_object r.0 r.1) w.text ≡ Some (Linked r.0 h.type) = ap (option_and_then (entity_at (define_object r.0 r.1))) h.here ∙ h.there in
     let same : named_type (define_object r.0 r.1) w.text q ≡ h.type = ap (λ o. option_map_or (type_now q) o q) here in
     post_bind (object_rule (context_of w true 0) (named_type (define_object r.0 r.1) w.text q) i.init (define_object r.0 r.1)) _ (ObjectRead (define_object r.0 r.1)) Declared
-    (object_read (context_of w true 0) (named_type (define_object r.0 r.1) w.text q) i.init (define_object r.0 r.1) ready
+    (object_read (context_of w true 0) (named_type (define_object r.0 r.1) w.text q) i.init z sh.1 (define_object r.0 r.1) ready
     (subst (IsLawfully (define_object r.0 r.1).types.records) (sym same) (ready.0.entities h.entry.place (Linked r.0 h.type) h.there))) (λ o j met.
     let grown : Grows (define_object r.0 r.1) o.1 = j.0.1 in
     let now : entity_here o.1 w.text ≡ Some (Linked r.0 h.type) = ap (option_and_then (entity_at o.1)) (grown.here w.text h.entry h.here) ∙ grown.entities h.entry.place (Linked r.0 h.type) h.there in
@@ -161,23 +164,23 @@ global_declared w b spot q (Some i) s l lawful kept sound narrowed link =
 
 -- ---- every sort
 
-declare_declared : (sort : Sort) (w : Word) (b : Specified) (spot : Spot) (q : QType) (i : Option Initializer) (s : State) → IsReady s → IsLawfulType s.types.records (type_of q) → Fits sort q → IsKeptFrom s.types.records (type_of q)
+declare_declared : (sort : Sort) (w : Word) (b : Specified) (spot : Spot) (q : QType) (i : Option Initializer) (z : List Symbol) (sh : AreShort (spell_initializer i z)) (s : State) → IsReady s → IsLawfulType s.types.records (type_of q) → Fits sort q → IsKeptFrom s.types.records (type_of q)
     → Sound None s → AreNarrowed s → AreMet (sort_point s sort spot w (is_some i) b q) → Post (declare_rule sort w b spot q i s) Declared
 unfolding declare_rule bind
-declare_declared ATypedef w b spot q i s l lawful f kept sound narrowed met = ((entered_keeping s w.text (TypeName q) l.1 tt, narrowed_entered s w.text (TypeName q) (places_so s sound) tt narrowed), λ r c. tt)
-declare_declared AFunction w b spot q i s l lawful f kept sound narrowed met =
+declare_declared ATypedef w b spot q i z sh s l lawful f kept sound narrowed met = ((entered_keeping s w.text (TypeName q) l.1 tt, narrowed_entered s w.text (TypeName q) (places_so s sound) tt narrowed), λ r c. tt)
+declare_declared AFunction w b spot q i z sh s l lawful f kept sound narrowed met =
     post_bind (declare_linked w.text w.token b.tag (asking_of AFunction b) q s) _ (λ r. Keeping r.1 × AreNarrowed r.1) Declared
     (declare_small w.text w.token b.tag (asking_of AFunction b) q s l.0 l.1 sound narrowed (record { linked = λ x e. mapped is_linked (entity_here s w.text) x (truth _ met.0) e; alike = λ y e. mapped (λ (z : LinkedName). compatible z.ty q) (linked_before s w.text) y (truth _ met.1.1.0) e }) kept) (λ r g. (g, λ x c. tt))
-declare_declared AGlobal w b spot q i s l lawful f kept sound narrowed met = global_declared w b spot q i s l lawful kept sound narrowed (record { linked = λ x e. mapped is_linked (entity_here s w.text) x (truth _ met.0) e; alike = λ y e. mapped (λ (z : LinkedName). compatible z.ty q) (linked_before s w.text) y (truth _ met.1.1.0) e })
-declare_declared AnExtern w b spot q i s l lawful f kept sound narrowed met =
+declare_declared AGlobal w b spot q i z sh s l lawful f kept sound narrowed met = global_declared w b spot q i z sh s l lawful kept sound narrowed (record { linked = λ x e. mapped is_linked (entity_here s w.text) x (truth _ met.0) e; alike = λ y e. mapped (λ (z : LinkedName). compatible z.ty q) (linked_before s w.text) y (truth _ met.1.1.0) e })
+declare_declared AnExtern w b spot q i z sh s l lawful f kept sound narrowed met =
     post_bind (declare_linked w.text w.token b.tag AsBefore q s) _ (λ r. Keeping r.1 × AreNarrowed r.1) Declared
     (declare_small w.text w.token b.tag AsBefore q s l.0 l.1 sound narrowed (record { linked = λ x e. mapped is_linked (entity_here s w.text) x (truth _ met.0) e; alike = λ y e. mapped (λ (z : LinkedName). compatible z.ty q) (linked_before s w.text) y (truth _ met.1.1.0) e }) kept) (λ r g. (g, λ x c. tt))
-declare_declared AStatic w b spot q i s l lawful f kept sound narrowed met = static_declared w q i s l (record { lawful = lawful; object = f }) kept (places_so s sound) narrowed
-declare_declared ALocal w b spot q i s l lawful f kept sound narrowed met = local_declared w b q i s l (record { lawful = lawful; object = f }) kept (places_so s sound) narrowed
+declare_declared AStatic w b spot q i z sh s l lawful f kept sound narrowed met = static_declared w q i z sh s l (record { lawful = lawful; object = f }) kept (places_so s sound) narrowed
+declare_declared ALocal w b spot q i z sh s l lawful f kept sound narrowed met = local_declared w b q i z sh s l (record { lawful = lawful; object = f }) kept (places_so s sound) narrowed
 
 -- a declarator's name, and what it declares
-pub name_declared : (sort : Sort) (spot : Spot) (w : Word) (b : Specified) (q : QType) (i : Option Initializer) (s : State) → IsReady s → IsLawfulType s.types.records (type_of q) → Fits sort q → Sound None s → AreNarrowed s
+pub name_declared : (sort : Sort) (spot : Spot) (w : Word) (b : Specified) (q : QType) (i : Option Initializer) (z : List Symbol) (sh : AreShort (spell_initializer i z)) (s : State) → IsReady s → IsLawfulType s.types.records (type_of q) → Fits sort q → Sound None s → AreNarrowed s
     → Post (bind (name_rule sort spot w (is_some i) b q s) (λ v. declare_rule sort w b spot q i v.1)) Declared
 unfolding name_rule bind
-name_declared sort spot w b q i s l lawful f sound narrowed = λ met.
-    declare_declared sort w b spot q i s l lawful f (within_kept s.types.records w.token q lawful (met_right (sort_point s sort spot w (is_some i) b q) _ met).1) sound narrowed (met_left (sort_point s sort spot w (is_some i) b q) _ met)
+name_declared sort spot w b q i z sh s l lawful f sound narrowed = λ met.
+    declare_declared sort w b spot q i z sh s l lawful f (within_kept s.types.records w.token q lawful (met_right (sort_point s sort spot w (is_some i) b q) _ met).1) sound narrowed (met_left (sort_point s sort spot w (is_some i) b q) _ met)

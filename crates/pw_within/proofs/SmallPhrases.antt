@@ -1,28 +1,29 @@
 -- Expressions, specifiers and declarators: the types of expressions keep the limit on sizes, and calls that on arguments
 -- (ISO C90 5.2.4.1), and of the state the types of names and members.
-use Rattle.std.specs.Prelude.{ℕ, ◌≡◌, ◌⊎◌, ◌<◌, Bool, true, false, Option, None, Some, option_and_then, List, [], ◌∷◌, ◌++◌, length, slice_get, refl}
+use Rattle.std.specs.Prelude.{ℕ, ◌≡◌, ◌⊎◌, Bool, true, false, Option, None, Some, option_and_then, List, [], ◌∷◌, ◌++◌, length, slice_get}
 use Rattle.std.proofs.Common.{arith, ap, sym, subst, ◌∙◌, inl, inr}
 use Rattle.pw_tree.specs.declared.expr.BasicType.TheVariants as W
-use Rattle.pw_tree.specs.declared.expr.Qualifier.TheVariants as R
 use Rattle.pw_tree.specs.declared.operator.Access.TheVariants.{Dot, Arrow}
 use Rattle.pw_tree.specs.declared.operator.StepOperator.TheVariants as J
 use Rattle.pw_tree.specs.declared.operator.UnaryOperator.TheVariants as P
 use Rattle.pw_tree.specs.FirstTokens.{first_of_expr}
 use Rattle.pw_tree.specs.Trees.{Expr, Postfixes, Arguments, Operations, Specifiers, Members, MemberDeclarators, Enumerators, Declarator, Core, Suffixes, Parameters, Word}
 use Rattle.pw_tree.specs.Trees as S
+use Rattle.pw_tree.specs.Spelling.{spell_expr, spell_postfixes, spell_arguments, spell_operations, spell_specifiers, spell_members, spell_member_declarators, spell_enumerators, spell_declarator, spell_core, spell_suffixes, spell_parameters}
+use Rattle.pw_tree.specs.Symbols.{Symbol}
 use Rattle.pw_types.specs.declared.kind.IntKind.TheVariants as K
 use Rattle.pw_types.specs.declared.record.RecordKind.{RecordKind}
 use Rattle.pw_types.specs.Layouts.{content_at}
 use Rattle.pw_types.specs.Records.{declared, defined}
-use Rattle.pw_types.specs.TypeTrees.{CType, Void, Int, Pointer, Array, Function, Record, QType, Qualified, type_of, MemberValue, ContentValue, RecordValue}
+use Rattle.pw_types.specs.TypeTrees.{Void, Int, Pointer, Array, Function, Record, QType, Qualified, type_of, MemberValue, ContentValue, RecordValue}
 use Rattle.pw_types.specs.TypedTrees.{Expression}
 use Rattle.pw_walk.specs.Walks.{Walk, bind}
-use Rattle.pw_rules.specs.Derivations.{Declared, Bindings, ParameterValue, built, spot_of}
+use Rattle.pw_rules.specs.Derivations.{Declared, ParameterValue, built, spot_of}
 use Rattle.pw_rules.specs.Kinds.{int_type}
-use Rattle.pw_rules.specs.Leaves.{new_record, new_tag, reference_by, reference_rule, opening_by, opening_rule, member_rule, content_by, closing_rule, enumerating_rule, enumerator_rule, named_type, named_point, parameter_rule, enter_parameter, bindings_rule, record_kind, record_spot, adjusted, is_last, first_of_list, first_of_declaration, name_text}
+use Rattle.pw_rules.specs.Leaves.{new_record, new_tag, reference_by, reference_rule, opening_by, opening_rule, member_rule, content_by, closing_rule, enumerating_rule, enumerator_rule, named_type, named_point, parameter_rule, enter_parameter, record_kind, record_spot, adjusted, is_last, first_of_list, first_of_declaration, name_text}
 use Rattle.pw_rules.specs.Operands.{Operand}
 use Rattle.pw_rules.specs.Operators.{value_rule}
-use Rattle.pw_rules.specs.Phrases.{typedef_rule, expr_rule, postfixes_rule, arguments_rule, operations_rule, specifiers_rule, members_rule, member_declarators_rule, enumerators_rule, declarator_rule, core_rule, suffixes_rule, parameters_rule}
+use Rattle.pw_rules.specs.Phrases.{expr_rule, postfixes_rule, arguments_rule, operations_rule, specifiers_rule, members_rule, member_declarators_rule, enumerators_rule, declarator_rule, core_rule, suffixes_rule, parameters_rule}
 use Rattle.pw_rules.specs.SpecifierLists.{Gathered, nothing_gathered, gather_storage, gather_qualifier, gather_word, gather_type, Specified, specified}
 use Rattle.pw_rules.specs.States.{State, Rule, Entity, TypeName, EnumerationConstant, LocalObject, StaticObject, Linked, enter, put_at, scoped, uncounted, one_deeper, tag_of, tag_here, with_made}
 use Rattle.pw_rules.specs.declared.names.Tag.{Tag}
@@ -30,16 +31,17 @@ use Rattle.pw_rules.specs.declared.names.Tag.TheVariants as G
 use Rattle.pw_well_typed.specs.Lawful.{IsLawful, IsLawfulType, Extends}
 use Rattle.pw_well_typed.proofs.Walking.{Post, post_bind, post_weaken, post_both, met_right}
 use Rattle.pw_well_typed.proofs.Lists.{some_same, never_some, get_more, get_either, get_one, put_either, length_put}
-use Rattle.pw_well_typed.proofs.Types.{lawful_pointer, lawful_element}
-use Rattle.pw_well_typed.proofs.States.{Runs, Grows, grows_trans, grows_same, Fine, goes_on, Widens}
+use Rattle.pw_well_typed.proofs.States.{Runs, Grows, grows_trans, grows_same, Fine, Widens}
 use Rattle.pw_well_typed.proofs.Changes.{record_grows, deeper_lawful, left_lawful_alone, Opened, opened_later}
-use Rattle.pw_well_typed.proofs.Leaves.{Nothing, reference_runs, GoodReference, opening_runs, GoodMembers, closing_runs, GoodGathered, GoodSpecified, specified_runs, GoodDeclared, GoodType, built_runs, GoodParameters, scalars_later, members_later, member_runs, parameter_storage_runs, parameter_runs, enumerator_runs, enumerating_runs}
+use Rattle.pw_well_typed.proofs.Leaves.{Nothing, reference_runs, GoodReference, opening_runs, GoodMembers, closing_runs, GoodGathered, GoodSpecified, specified_runs, GoodDeclared, GoodType, built_runs, GoodParameters, scalars_later, members_later, member_runs, parameter_runs, enumerator_runs, enumerating_runs}
 use Rattle.pw_well_typed.proofs.Phrases.{expr_post, arguments_post, specifiers_post, declarator_post, scalars_only, later_type}
 use Rattle.pw_well_typed.proofs.Operations.{AreFine}
+use Rattle.pw_within.proofs.Spelled.{AreShort, separated_rest, tag_rest, pointers_rest, expr_rest, arguments_rest, specifiers_rest, members_rest, member_declarators_rest, enumerators_rest, declarator_rest, core_rest, parameters_rest}
+use Rattle.pw_within.proofs.Literals.{strings_short}
 use Rattle.pw_within.proofs.Sizes.{IsKeptFrom, kept_from, within_kept}
-use Rattle.pw_within.proofs.Small.{AllKeep}
-use Rattle.pw_within.proofs.SmallLeaves.{IsKeptEntity, AreKeptMembers, HaveKeptMembers, Keeping, IsReady, Reaches, reaches_back, KeptValue, KeptOperand, AreKeptValues, kept_later, Leaf, Made, leaf_made, then_leaf, from_value, identifier_leaf, number_leaf, character_leaf, string_made, sign_leaf, deref_leaf, address_leaf, step_leaf, size_leaf, cast_leaf, operation_leaf, conditional_leaf, assignment_leaf, index_leaf, call_leaf, dot_leaf, arrow_leaf}
-use Rattle.pw_within.proofs.Still.{Still, value_still, type_size_still, length_still, typedef_still, enumeration_still, enumerator_value_still, specified_still, built_still, named_still, storage_still, bindings_still}
+use Rattle.pw_within.proofs.SmallLeaves.{IsKeptEntity, AreKeptMembers, HaveKeptMembers, Keeping, IsReady, KeptValue, KeptOperand, AreKeptValues, kept_later, Made, leaf_made, then_leaf, from_value, identifier_leaf, number_leaf, character_leaf, string_made, sign_leaf, deref_leaf, address_leaf, step_leaf, size_leaf, cast_leaf, operation_leaf, conditional_leaf, assignment_leaf, index_leaf, call_leaf, dot_leaf, arrow_leaf}
+use Rattle.pw_within.proofs.FitPhrases.{content_of, content_by_record}
+use Rattle.pw_within.proofs.Still.{Still, length_still, typedef_still, enumeration_still, enumerator_value_still, specified_still, built_still, named_still, storage_still, bindings_still}
 
 -- ---- states
 
@@ -67,27 +69,17 @@ members_from : (a b : List RecordValue) → Extends a b → (ms : List MemberVal
 members_from a b e ms h = λ i m f. kept_from a b (type_of m.ty) e (h i m f)
 
 pub entered_keeping : (s : State) (name : List ℕ) (x : Entity) → Keeping s → IsKeptEntity s.types.records x → Keeping (enter name x s)
-entered_keeping s name x k h = record { members = k.members; entities = λ i e g. by i e (get_more s.scopes.entities x i e g) }
+entered_keeping s name x k h = record { members = k.members; strings = k.strings; entities = λ i e g. by i e (get_more s.scopes.entities x i e g) }
   where
     by : (i : ℕ) (e : Entity) → (slice_get s.scopes.entities i ≡ Some e) ⊎ ((i ≡ length s.scopes.entities) × (x ≡ e)) → IsKeptEntity s.types.records e
     by i e (inl g) = k.entities i e g
     by i e (inr g) = subst (IsKeptEntity s.types.records) g.1 h
 
-content_of : (r : List RecordValue) (n : ℕ) (c : ContentValue) → content_at r n ≡ Some c → (x : RecordValue) × (slice_get r n ≡ Some x) × (x.content ≡ Some c)
-content_of r n c e = by (slice_get r n) refl e
-  where
-    by : (o : Option RecordValue) → slice_get r n ≡ o → option_and_then (λ (x : RecordValue). x.content) o ≡ Some c → (x : RecordValue) × (slice_get r n ≡ Some x) × (x.content ≡ Some c)
-    by None f g = never_some g
-    by (Some x) f g = (x, f, g)
-
-content_is : (r : List RecordValue) (n : ℕ) (x : RecordValue) (c : ContentValue) → slice_get r n ≡ Some x → x.content ≡ Some c → content_at r n ≡ Some c
-content_is r n x c e f = ap (option_and_then (λ (y : RecordValue). y.content)) e ∙ f
-
 added_members : (r : List RecordValue) (kind : RecordKind) → Extends r (r ++ declared kind ∷ []) → HaveKeptMembers r → HaveKeptMembers (r ++ declared kind ∷ [])
 added_members r kind later h n c e = let x = content_of (r ++ declared kind ∷ []) n c e in by x.0 x.2 (get_more r (declared kind) n x.0 x.1)
   where
     by : (x : RecordValue) → x.content ≡ Some c → (slice_get r n ≡ Some x) ⊎ ((n ≡ length r) × (declared kind ≡ x)) → AreKeptMembers (r ++ declared kind ∷ []) c.members
-    by x f (inl g) = members_from r (r ++ declared kind ∷ []) later c.members (h n c (content_is r n x c g f))
+    by x f (inl g) = members_from r (r ++ declared kind ∷ []) later c.members (h n c (content_by_record r n x c g f))
     by x f (inr g) = never_some (ap (λ (y : RecordValue). y.content) g.1 ∙ f)
 
 put_members : (r : List RecordValue) (kind : RecordKind) (place : ℕ) (c : ContentValue) → Extends r (put_at place (defined kind c) r) → HaveKeptMembers r → AreKeptMembers r c.members → HaveKeptMembers (put_at place (defined kind c) r)
@@ -100,7 +92,7 @@ put_members r kind place c later h fit n d e =
         let one : defined kind c ≡ x = some_same (sym k.1 ∙ g) in
         let same : c ≡ d = some_same (ap (λ (y : RecordValue). y.content) one ∙ f) in
         members_from r (put_at place (defined kind c) r) later d.members (subst (λ (y : ContentValue). AreKeptMembers r y.members) same fit)
-    by x g f (inr k) = members_from r (put_at place (defined kind c) r) later d.members (h n d (content_is r n x d (sym k ∙ g) f))
+    by x g f (inr k) = members_from r (put_at place (defined kind c) r) later d.members (h n d (content_by_record r n x d (sym k ∙ g) f))
 
 put_extends : (r : List RecordValue) (kind : RecordKind) (place : ℕ) (c : ContentValue) → content_at r place ≡ None → Extends r (put_at place (defined kind c) r)
 put_extends r kind place c unknown = record {
@@ -120,7 +112,7 @@ pub new_tag_keeping : (kind : RecordKind) (w : Word) (s : State) → IsReady s �
 unfolding new_tag new_record bind
 new_tag_keeping kind w s l = λ met.
     let later = (record_grows s kind l.0).extends in
-    record { entities = λ k x e. entity_from s.types.records (s.types.records ++ declared kind ∷ []) later x (l.1.entities k x e); members = added_members s.types.records kind later l.1.members }
+    record { entities = λ k x e. entity_from s.types.records (s.types.records ++ declared kind ∷ []) later x (l.1.entities k x e); members = added_members s.types.records kind later l.1.members; strings = l.1.strings }
 
 pub reference_by_keeping : (kind : RecordKind) (w : Word) (o : Option Tag) (s : State) → IsReady s → Post (reference_by kind w o s) (λ r. Keeping r.1)
 unfolding reference_by bind
@@ -142,9 +134,9 @@ opening_keeping : (kind : RecordKind) (o : Option Word) (s : State) → IsReady 
 unfolding opening_rule new_record bind
 opening_keeping kind None s l =
     let later = (record_grows s kind l.0).extends in
-    record { entities = λ k x e. entity_from s.types.records (s.types.records ++ declared kind ∷ []) later x (l.1.entities k x e); members = added_members s.types.records kind later l.1.members }
+    record { entities = λ k x e. entity_from s.types.records (s.types.records ++ declared kind ∷ []) later x (l.1.entities k x e); members = added_members s.types.records kind later l.1.members; strings = l.1.strings }
 opening_keeping kind (Some w) s l =
-    post_bind (opening_by kind w (tag_here s w.text) s) _ (λ r. Keeping r.1) (λ r. Keeping r.1) (opening_by_keeping kind w (tag_here s w.text) s l) (λ r g. record { entities = g.entities; members = g.members })
+    post_bind (opening_by kind w (tag_here s w.text) s) _ (λ r. Keeping r.1) (λ r. Keeping r.1) (opening_by_keeping kind w (tag_here s w.text) s l) (λ r g. record { entities = g.entities; members = g.members; strings = g.strings })
 
 closing_keeping : (kind : RecordKind) (token n : ℕ) (ms : List MemberValue) (s : State) → Keeping s → content_at s.types.records n ≡ None → AreKeptMembers s.types.records ms → Post (closing_rule kind token n ms s) (λ r. Keeping r.1)
 unfolding closing_rule bind
@@ -153,12 +145,13 @@ closing_keeping kind token n ms s k unknown fit = λ met.
     record {
       entities = λ i x e. entity_from s.types.records (put_at n (defined kind (content_by s.types.records kind ms)) s.types.records) later x (k.entities i x e);
       members = put_members s.types.records kind n (content_by s.types.records kind ms) later k.members fit;
+      strings = k.strings;
     }
 
 enumerating_keeping : (o : Option Word) (s : State) → Keeping s → Post (enumerating_rule o s) (λ r. Keeping r.1)
 unfolding enumerating_rule bind
 enumerating_keeping None s k = k
-enumerating_keeping (Some w) s k = λ met. record { entities = k.entities; members = k.members }
+enumerating_keeping (Some w) s k = λ met. record { entities = k.entities; members = k.members; strings = k.strings }
 
 enumerator_keeping : (w : Word) (value : Option ℕ) (s : State) → Keeping s → Post (enumerator_rule w value s) (λ r. Keeping r.1)
 unfolding enumerator_rule bind
@@ -229,13 +222,13 @@ parameter_keeping sole b d ps s l h k =
 pub scoped_set : {A : Type 0} (s : State) (inside : Rule A) → IsReady s → ((t : State) → IsReady t → Post (inside t) Set) → Post (scoped inside s) Set
 unfolding scoped bind
 scoped_set s inside l h =
-    then_set (inside (one_deeper s)) _ (h (one_deeper s) (deeper_lawful s l.0, record { entities = l.1.entities; members = l.1.members }))
-    (λ r k. (left_lawful_alone r.1 k.0, record { entities = k.1.entities; members = k.1.members }))
+    then_set (inside (one_deeper s)) _ (h (one_deeper s) (deeper_lawful s l.0, record { entities = l.1.entities; members = l.1.members; strings = l.1.strings }))
+    (λ r k. (left_lawful_alone r.1 k.0, record { entities = k.1.entities; members = k.1.members; strings = k.1.strings }))
 
 counted : (s : State) (b : Bool) → IsReady s → IsReady (with_made (λ m. record m { counting = b }) s)
 counted s b h = (
   record { contents = h.0.contents; begun = h.0.begun; counted = h.0.counted; entities = h.0.entities; tags = h.0.tags; linked = h.0.linked; laid = h.0.laid; apart = h.0.apart; depths = h.0.depths },
-  record { entities = h.1.entities; members = h.1.members },
+  record { entities = h.1.entities; members = h.1.members; strings = h.1.strings },
 )
 
 uncounted_set : {A : Type 0} (s : State) (inside : Rule A) → IsReady s → ((t : State) → IsReady t → Post (inside t) Set) → Post (uncounted inside s) Set
@@ -301,172 +294,172 @@ size_made t spot q s l = λ met. (l, λ u r c. Rattle.pw_within.proofs.Small.nod
 
 sized_made : (s : State) (inside : Rule Operand) → IsReady s → ((t : State) → IsReady t → Post (inside t) Sized) → Post (uncounted inside s) Made
 unfolding uncounted bind
-sized_made s inside l h = post_bind (inside _) _ Sized Made (h _ (counted s false l)) (λ r k. ((counted r.1 s.made.counting k.0).1, k.1 _))
+sized_made s inside l h = post_bind (inside _) _ Sized Made (h _ (counted s false l)) (λ r k. ((counted r.1 s.made.counting k.0).1, k.1 r.1))
 
 mutual
-  unfolding expr_rule
+  unfolding expr_rule spell_expr
 
-  pub expr_made : (e : Expr) (s : State) → IsReady s → Post (expr_rule e s) Made
-  expr_made (S.Identifier w) s l = leaf_made s _ l.1 (identifier_leaf w s l.1)
-  expr_made (S.Number w) s l = leaf_made s _ l.1 (number_leaf w s)
-  expr_made (S.Floating w) s l = tt
-  expr_made (S.Character w) s l = leaf_made s _ l.1 (character_leaf w s)
-  expr_made (S.Wide w) s l = tt
-  expr_made (S.Strings ws) s l = string_made ws s l.1
-  expr_made (S.Paren t e) s l = expr_made e s l
-  expr_made (S.Postfix e rest) s l = from_expr e s _ Made l.0 (expr_made e s l) (λ r m g a. postfixes_made rest r.0 r.1 m a)
-  expr_made (S.Unary t P.Sizeof e) s l =
-      post_bind _ _ Set Made (uncounted_set s (expr_rule e) l (λ u k. expr_set e u k (expr_made e u k))) (λ r m. leaf_made r.1 _ m.1 (size_leaf t r.0 r.1))
-  expr_made (S.Unary t P.Address e) s l = from_expr e s _ Made l.0 (expr_made e s l) (λ r m g a. leaf_made r.1 _ m.1 (address_leaf t r.0 r.1 a))
-  expr_made (S.Unary t P.Increment e) s l = from_expr e s _ Made l.0 (expr_made e s l) (λ r m g a. leaf_made r.1 _ m.1 (step_leaf t _ r.0 r.1 a))
-  expr_made (S.Unary t P.Decrement e) s l = from_expr e s _ Made l.0 (expr_made e s l) (λ r m g a. leaf_made r.1 _ m.1 (step_leaf t _ r.0 r.1 a))
-  expr_made (S.Unary t P.Dereference e) s l = from_valued e s _ Made l.0 (expr_made e s l) (λ r m g v. leaf_made r.1 _ m.1 (deref_leaf t r.0 r.1 v))
-  expr_made (S.Unary t P.Plus e) s l = from_valued e s _ Made l.0 (expr_made e s l) (λ r m g v. leaf_made r.1 _ m.1 (sign_leaf t P.Plus r.0 r.1 v))
-  expr_made (S.Unary t P.Minus e) s l = from_valued e s _ Made l.0 (expr_made e s l) (λ r m g v. leaf_made r.1 _ m.1 (sign_leaf t P.Minus r.0 r.1 v))
-  expr_made (S.Unary t P.Complement e) s l = from_valued e s _ Made l.0 (expr_made e s l) (λ r m g v. leaf_made r.1 _ m.1 (sign_leaf t P.Complement r.0 r.1 v))
-  expr_made (S.Unary t P.Not e) s l = from_valued e s _ Made l.0 (expr_made e s l) (λ r m g v. leaf_made r.1 _ m.1 (sign_leaf t P.Not r.0 r.1 v))
-  expr_made (S.SizeofType t specifiers d) s l =
+  pub expr_made : (e : Expr) (z : List Symbol) → AreShort (spell_expr e z) → (s : State) → IsReady s → Post (expr_rule e s) Made
+  expr_made (S.Identifier w) z sh s l = leaf_made s _ l.1 (identifier_leaf w s l.1)
+  expr_made (S.Number w) z sh s l = leaf_made s _ l.1 (number_leaf w s)
+  expr_made (S.Floating w) z sh s l = tt
+  expr_made (S.Character w) z sh s l = leaf_made s _ l.1 (character_leaf w s)
+  expr_made (S.Wide w) z sh s l = tt
+  expr_made (S.Strings ws) z sh s l = string_made ws s (strings_short ws z sh) l.1
+  expr_made (S.Paren t e) z sh s l = expr_made e _ sh.1 s l
+  expr_made (S.Postfix e rest) z sh s l = from_expr e s _ Made l.0 (expr_made e _ sh s l) (λ r m g a. postfixes_made rest _ (expr_rest e _ sh) r.0 r.1 m a)
+  expr_made (S.Unary t P.Sizeof e) z sh s l =
+      post_bind _ _ Set Made (uncounted_set s (expr_rule e) l (λ u k. expr_set e u k (expr_made e _ sh.1 u k))) (λ r m. leaf_made r.1 _ m.1 (size_leaf t r.0 r.1))
+  expr_made (S.Unary t P.Address e) z sh s l = from_expr e s _ Made l.0 (expr_made e _ sh.1 s l) (λ r m g a. leaf_made r.1 _ m.1 (address_leaf t r.0 r.1 a))
+  expr_made (S.Unary t P.Increment e) z sh s l = from_expr e s _ Made l.0 (expr_made e _ sh.1 s l) (λ r m g a. leaf_made r.1 _ m.1 (step_leaf t _ r.0 r.1 a))
+  expr_made (S.Unary t P.Decrement e) z sh s l = from_expr e s _ Made l.0 (expr_made e _ sh.1 s l) (λ r m g a. leaf_made r.1 _ m.1 (step_leaf t _ r.0 r.1 a))
+  expr_made (S.Unary t P.Dereference e) z sh s l = from_valued e s _ Made l.0 (expr_made e _ sh.1 s l) (λ r m g v. leaf_made r.1 _ m.1 (deref_leaf t r.0 r.1 v))
+  expr_made (S.Unary t P.Plus e) z sh s l = from_valued e s _ Made l.0 (expr_made e _ sh.1 s l) (λ r m g v. leaf_made r.1 _ m.1 (sign_leaf t P.Plus r.0 r.1 v))
+  expr_made (S.Unary t P.Minus e) z sh s l = from_valued e s _ Made l.0 (expr_made e _ sh.1 s l) (λ r m g v. leaf_made r.1 _ m.1 (sign_leaf t P.Minus r.0 r.1 v))
+  expr_made (S.Unary t P.Complement e) z sh s l = from_valued e s _ Made l.0 (expr_made e _ sh.1 s l) (λ r m g v. leaf_made r.1 _ m.1 (sign_leaf t P.Complement r.0 r.1 v))
+  expr_made (S.Unary t P.Not e) z sh s l = from_valued e s _ Made l.0 (expr_made e _ sh.1 s l) (λ r m g v. leaf_made r.1 _ m.1 (sign_leaf t P.Not r.0 r.1 v))
+  expr_made (S.SizeofType t specifiers d) z sh s l =
       sized_made s _ l
-      (λ u k. from_specifiers specifiers (first_of_declaration specifiers d) u _ Sized k.0 (specifiers_set specifiers (first_of_declaration specifiers d) nothing_gathered u k) (λ r1 m1 g1 b.
-      from_declarator d r1.1 _ Sized m1.0 (declarator_set d r1.1 m1) (λ r2 m2 g2 c.
+      (λ u k. from_specifiers specifiers (first_of_declaration specifiers d) u _ Sized k.0 (specifiers_set specifiers _ sh.1.1 (first_of_declaration specifiers d) nothing_gathered u k) (λ r1 m1 g1 b.
+      from_declarator d r1.1 _ Sized m1.0 (declarator_set d _ (specifiers_rest specifiers _ sh.1.1) r1.1 m1) (λ r2 m2 g2 c.
       post_bind _ _ (Still r2.1) Sized (named_still r1.0 r2.0 r2.1) (λ r3 e. size_made t _ r3.0 r3.1 (subst IsReady (sym e) m2)))))
-  expr_made (S.Cast t specifiers d e) s l =
-      from_specifiers specifiers (first_of_declaration specifiers d) s _ Made l.0 (specifiers_set specifiers (first_of_declaration specifiers d) nothing_gathered s l) (λ r1 m1 g1 b.
-      from_declarator d r1.1 _ Made m1.0 (declarator_set d r1.1 m1) (λ r2 m2 g2 c.
+  expr_made (S.Cast t specifiers d e) z sh s l =
+      from_specifiers specifiers (first_of_declaration specifiers d) s _ Made l.0 (specifiers_set specifiers _ sh.1 (first_of_declaration specifiers d) nothing_gathered s l) (λ r1 m1 g1 b.
+      from_declarator d r1.1 _ Made m1.0 (declarator_set d _ (specifiers_rest specifiers _ sh.1) r1.1 m1) (λ r2 m2 g2 c.
       post_bind _ _ (Named r2.1) Made (named_here r2.1 r1.0 r2.0 m2.0 (later_type r1.0.ty g2 b) c) (λ r3 k3.
       let m3 : IsReady r3.1 = subst IsReady (sym k3.0) m2 in
-      from_valued e r3.1 _ Made m3.0 (expr_made e r3.1 m3) (λ r4 m4 g4 v.
+      from_valued e r3.1 _ Made m3.0 (expr_made e _ (declarator_rest d _ (specifiers_rest specifiers _ sh.1)).1 r3.1 m3) (λ r4 m4 g4 v.
       leaf_made r4.1 _ m4.1 (cast_leaf t r3.0 r4.0 r4.1 (kept_from r3.1.types.records r4.1.types.records (type_of r3.0) g4.extends (subst (λ u. IsKeptFrom u.types.records (type_of r3.0)) (sym k3.0) k3.1)) v)))))
-  expr_made (S.Chain e rest) s l = from_expr e s _ Made l.0 (expr_made e s l) (λ r m g a. operations_made rest r.0 r.1 m a)
-  expr_made (S.Conditional t c a b) s l =
-      from_valued c s _ Made l.0 (expr_made c s l) (λ r1 m1 g1 v1.
-      from_valued a r1.1 _ Made m1.0 (expr_made a r1.1 m1) (λ r2 m2 g2 v2.
-      from_valued b r2.1 _ Made m2.0 (expr_made b r2.1 m2) (λ r3 m3 g3 v3.
+  expr_made (S.Chain e rest) z sh s l = from_expr e s _ Made l.0 (expr_made e _ sh s l) (λ r m g a. operations_made rest _ (expr_rest e _ sh) r.0 r.1 m a)
+  expr_made (S.Conditional t c a b) z sh s l =
+      from_valued c s _ Made l.0 (expr_made c _ sh s l) (λ r1 m1 g1 v1.
+      from_valued a r1.1 _ Made m1.0 (expr_made a _ (expr_rest c _ sh).1 r1.1 m1) (λ r2 m2 g2 v2.
+      from_valued b r2.1 _ Made m2.0 (expr_made b _ (expr_rest a _ (expr_rest c _ sh).1).1 r2.1 m2) (λ r3 m3 g3 v3.
       leaf_made r3.1 _ m3.1 (conditional_leaf t r1.0 r2.0 r3.0 r3.1 (kept_later {s = r1.1} {t = r3.1} {e = r1.0} (grows_trans g2 g3) v1) (kept_later {s = r2.1} {t = r3.1} {e = r2.0} g3 v2) v3))))
-  expr_made (S.Assign t op a b) s l =
-      from_expr a s _ Made l.0 (expr_made a s l) (λ r1 m1 g1 v1.
-      from_valued b r1.1 _ Made m1.0 (expr_made b r1.1 m1) (λ r2 m2 g2 v2.
+  expr_made (S.Assign t op a b) z sh s l =
+      from_expr a s _ Made l.0 (expr_made a _ sh s l) (λ r1 m1 g1 v1.
+      from_valued b r1.1 _ Made m1.0 (expr_made b _ (expr_rest a _ sh).1 r1.1 m1) (λ r2 m2 g2 v2.
       leaf_made r2.1 _ m2.1 (assignment_leaf t op r1.0 r2.0 r2.1 (kept_later {s = r1.1} {t = r2.1} {e = r1.0.node} g2 v1) v2)))
 
-  postfixes_made : (rest : Postfixes) (a : Operand) (s : State) → IsReady s → KeptOperand s a → Post (postfixes_rule rest a s) Made
-  postfixes_made S.NoPostfix a s l f = (l.1, f)
-  postfixes_made (S.Index t e rest) a s l f =
+  postfixes_made : (rest : Postfixes) (z : List Symbol) → AreShort (spell_postfixes rest z) → (a : Operand) (s : State) → IsReady s → KeptOperand s a → Post (postfixes_rule rest a s) Made
+  postfixes_made S.NoPostfix z sh a s l f = (l.1, f)
+  postfixes_made (S.Index t e rest) z sh a s l f =
       from_value s a _ Made f (λ x v.
-      from_valued e s _ Made l.0 (expr_made e s l) (λ r m g w.
-      then_leaf r.1 _ _ Made (index_leaf t x r.0 r.1 (kept_later {s = s} {t = r.1} {e = x} g v) w) (λ c k. postfixes_made rest c r.1 m k)))
-  postfixes_made (S.Call t args rest) a s l f =
+      from_valued e s _ Made l.0 (expr_made e _ sh.1 s l) (λ r m g w.
+      then_leaf r.1 _ _ Made (index_leaf t x r.0 r.1 (kept_later {s = s} {t = r.1} {e = x} g v) w) (λ c k. postfixes_made rest _ (expr_rest e _ sh.1).1 c r.1 m k)))
+  postfixes_made (S.Call t args rest) z sh a s l f =
       from_value s a _ Made f (λ x v.
-      from_arguments args s _ Made l.0 (arguments_made args s l) (λ r m g ws.
-      then_leaf r.1 _ _ Made (call_leaf t x r.0 r.1 (kept_later {s = s} {t = r.1} {e = x} g v) ws) (λ c k. postfixes_made rest c r.1 m k)))
-  postfixes_made (S.Select t Dot w rest) a s l f = then_leaf s _ _ Made (dot_leaf t w a s l.1 f) (λ c k. postfixes_made rest c s l k)
-  postfixes_made (S.Select t Arrow w rest) a s l f = from_value s a _ Made f (λ x v. then_leaf s _ _ Made (arrow_leaf t w x s l.1 v) (λ c k. postfixes_made rest c s l k))
-  postfixes_made (S.Step t J.Increment rest) a s l f = then_leaf s _ _ Made (step_leaf t _ a s f) (λ c k. postfixes_made rest c s l k)
-  postfixes_made (S.Step t J.Decrement rest) a s l f = then_leaf s _ _ Made (step_leaf t _ a s f) (λ c k. postfixes_made rest c s l k)
+      from_arguments args s _ Made l.0 (arguments_made true args _ sh.1 s l) (λ r m g ws.
+      then_leaf r.1 _ _ Made (call_leaf t x r.0 r.1 (kept_later {s = s} {t = r.1} {e = x} g v) ws) (λ c k. postfixes_made rest _ (arguments_rest true args _ sh.1).1 c r.1 m k)))
+  postfixes_made (S.Select t Dot w rest) z sh a s l f = then_leaf s _ _ Made (dot_leaf t w a s l.1 f) (λ c k. postfixes_made rest _ sh.1.1 c s l k)
+  postfixes_made (S.Select t Arrow w rest) z sh a s l f = from_value s a _ Made f (λ x v. then_leaf s _ _ Made (arrow_leaf t w x s l.1 v) (λ c k. postfixes_made rest _ sh.1.1 c s l k))
+  postfixes_made (S.Step t J.Increment rest) z sh a s l f = then_leaf s _ _ Made (step_leaf t _ a s f) (λ c k. postfixes_made rest _ sh.1 c s l k)
+  postfixes_made (S.Step t J.Decrement rest) z sh a s l f = then_leaf s _ _ Made (step_leaf t _ a s f) (λ c k. postfixes_made rest _ sh.1 c s l k)
 
-  arguments_made : (args : Arguments) (s : State) → IsReady s → Post (arguments_rule args s) MadeAll
-  arguments_made S.NoArgument s l = (l.1, λ r c. tt)
-  arguments_made (S.Argument e rest) s l =
-      from_valued e s _ MadeAll l.0 (expr_made e s l) (λ r1 m1 g1 v.
-      from_arguments rest r1.1 _ MadeAll m1.0 (arguments_made rest r1.1 m1) (λ r2 m2 g2 ws.
+  arguments_made : (first : Bool) (args : Arguments) (z : List Symbol) → AreShort (spell_arguments first args z) → (s : State) → IsReady s → Post (arguments_rule args s) MadeAll
+  arguments_made first S.NoArgument z sh s l = (l.1, λ r c. tt)
+  arguments_made first (S.Argument e rest) z sh s l =
+      from_valued e s _ MadeAll l.0 (expr_made e _ (separated_rest first _ sh) s l) (λ r1 m1 g1 v.
+      from_arguments rest r1.1 _ MadeAll m1.0 (arguments_made false rest _ (expr_rest e _ (separated_rest first _ sh)) r1.1 m1) (λ r2 m2 g2 ws.
       (m2.1, λ r c. (kept_later {s = r1.1} {t = r2.1} {e = r1.0} g2 v r c, ws r c))))
 
-  operations_made : (rest : Operations) (a : Operand) (s : State) → IsReady s → KeptOperand s a → Post (operations_rule rest a s) Made
-  operations_made S.NoOperation a s l f = (l.1, f)
-  operations_made (S.Operation t op e rest) a s l f =
+  operations_made : (rest : Operations) (z : List Symbol) → AreShort (spell_operations rest z) → (a : Operand) (s : State) → IsReady s → KeptOperand s a → Post (operations_rule rest a s) Made
+  operations_made S.NoOperation z sh a s l f = (l.1, f)
+  operations_made (S.Operation t op e rest) z sh a s l f =
       from_value s a _ Made f (λ x v.
-      from_valued e s _ Made l.0 (expr_made e s l) (λ r m g w.
-      then_leaf r.1 _ _ Made (operation_leaf t op x r.0 r.1 (kept_later {s = s} {t = r.1} {e = x} g v) w) (λ c k. operations_made rest c r.1 m k)))
+      from_valued e s _ Made l.0 (expr_made e _ sh.1 s l) (λ r m g w.
+      then_leaf r.1 _ _ Made (operation_leaf t op x r.0 r.1 (kept_later {s = s} {t = r.1} {e = x} g v) w) (λ c k. operations_made rest _ (expr_rest e _ sh.1) c r.1 m k)))
 
-  pub specifiers_set : (specifiers : Specifiers) (first : ℕ) (g : Gathered) (s : State) → IsReady s → Post (specifiers_rule specifiers first g s) Set
-  specifiers_set S.NoSpecifier first g s l = l
-  specifiers_set (S.Storage t storage rest) first g s l = specifiers_set rest first (gather_storage storage g) s l
-  specifiers_set (S.Qualified t q rest) first g s l = specifiers_set rest first (Rattle.pw_rules.specs.SpecifierLists.gather_qualifier q g) s l
-  specifiers_set (S.Basic t W.Float rest) first g s l = tt
-  specifiers_set (S.Basic t W.Double rest) first g s l = tt
-  specifiers_set (S.Basic t W.Void rest) first g s l = specifiers_set rest first (gather_word W.Void g) s l
-  specifiers_set (S.Basic t W.Char rest) first g s l = specifiers_set rest first (gather_word W.Char g) s l
-  specifiers_set (S.Basic t W.Short rest) first g s l = specifiers_set rest first (gather_word W.Short g) s l
-  specifiers_set (S.Basic t W.Int rest) first g s l = specifiers_set rest first (gather_word W.Int g) s l
-  specifiers_set (S.Basic t W.Long rest) first g s l = specifiers_set rest first (gather_word W.Long g) s l
-  specifiers_set (S.Basic t W.Signed rest) first g s l = specifiers_set rest first (gather_word W.Signed g) s l
-  specifiers_set (S.Basic t W.Unsigned rest) first g s l = specifiers_set rest first (gather_word W.Unsigned g) s l
-  specifiers_set (S.TypedefName w rest) first g s l = then_set _ _ (set_still s _ l (typedef_still w s)) (λ r k. specifiers_set rest first (gather_type r.0 None g) r.1 k)
-  specifiers_set (S.RecordTag t kind w rest) first g s l = then_set _ _ (reference_set (record_kind kind) w s l) (λ r k. specifiers_set rest first (gather_type r.0.0 r.0.1 g) r.1 k)
-  specifiers_set (S.Record t kind w members rest) first g s l =
+  pub specifiers_set : (specifiers : Specifiers) (z : List Symbol) → AreShort (spell_specifiers specifiers z) → (first : ℕ) (g : Gathered) (s : State) → IsReady s → Post (specifiers_rule specifiers first g s) Set
+  specifiers_set S.NoSpecifier z sh first g s l = l
+  specifiers_set (S.Storage t storage rest) z sh first g s l = specifiers_set rest _ sh.1 first (gather_storage storage g) s l
+  specifiers_set (S.Qualified t q rest) z sh first g s l = specifiers_set rest _ sh.1 first (Rattle.pw_rules.specs.SpecifierLists.gather_qualifier q g) s l
+  specifiers_set (S.Basic t W.Float rest) z sh first g s l = tt
+  specifiers_set (S.Basic t W.Double rest) z sh first g s l = tt
+  specifiers_set (S.Basic t W.Void rest) z sh first g s l = specifiers_set rest _ sh.1 first (gather_word W.Void g) s l
+  specifiers_set (S.Basic t W.Char rest) z sh first g s l = specifiers_set rest _ sh.1 first (gather_word W.Char g) s l
+  specifiers_set (S.Basic t W.Short rest) z sh first g s l = specifiers_set rest _ sh.1 first (gather_word W.Short g) s l
+  specifiers_set (S.Basic t W.Int rest) z sh first g s l = specifiers_set rest _ sh.1 first (gather_word W.Int g) s l
+  specifiers_set (S.Basic t W.Long rest) z sh first g s l = specifiers_set rest _ sh.1 first (gather_word W.Long g) s l
+  specifiers_set (S.Basic t W.Signed rest) z sh first g s l = specifiers_set rest _ sh.1 first (gather_word W.Signed g) s l
+  specifiers_set (S.Basic t W.Unsigned rest) z sh first g s l = specifiers_set rest _ sh.1 first (gather_word W.Unsigned g) s l
+  specifiers_set (S.TypedefName w rest) z sh first g s l = then_set _ _ (set_still s _ l (typedef_still w s)) (λ r k. specifiers_set rest _ sh.1 first (gather_type r.0 None g) r.1 k)
+  specifiers_set (S.RecordTag t kind w rest) z sh first g s l = then_set _ _ (reference_set (record_kind kind) w s l) (λ r k. specifiers_set rest _ sh.1.1 first (gather_type r.0.0 r.0.1 g) r.1 k)
+  specifiers_set (S.Record t kind w members rest) z sh first g s l =
       post_bind _ _ (λ r. (IsLawful r.1 × Grows s r.1 × Opened s r.1 (record_kind kind) r.0) × Keeping r.1) Set
       (post_both _ (λ r. IsLawful r.1 × Grows s r.1 × Opened s r.1 (record_kind kind) r.0) (λ r. Keeping r.1) (opening_runs s (record_kind kind) w l.0) (opening_keeping (record_kind kind) w s l)) (λ r1 k1.
-      post_bind _ _ (MembersRead r1.1) Set (members_read members [] r1.1 (k1.0.0, k1.1) (λ i m e. never_some e) (λ i m e. never_some e)) (λ r2 k2.
+      post_bind _ _ (MembersRead r1.1) Set (members_read members _ (tag_rest w _ sh.1).1 [] r1.1 (k1.0.0, k1.1) (λ i m e. never_some e) (λ i m e. never_some e)) (λ r2 k2.
       let begun : Opened s r2.1 (record_kind kind) r1.0 = opened_later {s = s} {t = r1.1} {u = r2.1} {kind = record_kind kind} {n = r1.0} k2.0.1 k1.0.2 in
       post_bind _ _ (λ r. (IsLawful r.1 × Grows s r.1 × GoodType r.1 r.0) × Keeping r.1) Set
       (post_both _ (λ r. IsLawful r.1 × Grows s r.1 × GoodType r.1 r.0) (λ r. Keeping r.1)
       (closing_runs s r2.1 (record_kind kind) (record_spot w first) r1.0 r2.0 k2.0.0 (grows_trans k1.0.1 k2.0.1) begun k2.0.2)
       (closing_keeping (record_kind kind) (record_spot w first) r1.0 r2.0 r2.1 k2.1.0 begun.unknown k2.1.1)) (λ r3 k3.
-      specifiers_set rest first (gather_type r3.0 None g) r3.1 (k3.0.0, k3.1))))
-  specifiers_set (S.EnumTag t w rest) first g s l = then_set _ _ (set_still s _ l (enumeration_still w s)) (λ r k. specifiers_set rest first (gather_type r.0 None g) r.1 k)
-  specifiers_set (S.Enum t w enumerators rest) first g s l =
-      then_set _ _ (then_set _ _ (enumerating_set w s l) (λ r k. enumerators_set enumerators (Some 0) r.1 k)) (λ r k. specifiers_set rest first (gather_type int_type None g) r.1 k)
+      specifiers_set rest _ (members_rest members _ (tag_rest w _ sh.1).1).1 first (gather_type r3.0 None g) r3.1 (k3.0.0, k3.1))))
+  specifiers_set (S.EnumTag t w rest) z sh first g s l = then_set _ _ (set_still s _ l (enumeration_still w s)) (λ r k. specifiers_set rest _ sh.1.1 first (gather_type r.0 None g) r.1 k)
+  specifiers_set (S.Enum t w enumerators rest) z sh first g s l =
+      then_set _ _ (then_set _ _ (enumerating_set w s l) (λ r k. enumerators_set true enumerators _ (tag_rest w _ sh.1).1 (Some 0) r.1 k)) (λ r k. specifiers_set rest _ (enumerators_rest true enumerators _ (tag_rest w _ sh.1).1).1 first (gather_type int_type None g) r.1 k)
 
-  members_read : (members : Members) (ms : List MemberValue) (s : State) → IsReady s → GoodMembers s ms → AreKeptMembers s.types.records ms → Post (members_rule members ms s) (MembersRead s)
-  members_read S.NoMember ms s l good fit = ((l.0, grows_same s, good), (l.1, fit))
-  members_read (S.Member specifiers ds rest) ms s l good fit =
-      from_specifiers specifiers (first_of_list specifiers) s _ (MembersRead s) l.0 (specifiers_set specifiers (first_of_list specifiers) nothing_gathered s l) (λ r1 m1 g1 b.
+  members_read : (members : Members) (z : List Symbol) → AreShort (spell_members members z) → (ms : List MemberValue) (s : State) → IsReady s → GoodMembers s ms → AreKeptMembers s.types.records ms → Post (members_rule members ms s) (MembersRead s)
+  members_read S.NoMember z sh ms s l good fit = ((l.0, grows_same s, good), (l.1, fit))
+  members_read (S.Member specifiers ds rest) z sh ms s l good fit =
+      from_specifiers specifiers (first_of_list specifiers) s _ (MembersRead s) l.0 (specifiers_set specifiers _ sh (first_of_list specifiers) nothing_gathered s l) (λ r1 m1 g1 b.
       post_bind _ _ (MembersRead r1.1) (MembersRead s)
-      (member_declarators_read ds r1.0 ms r1.1 m1 b (members_later ms g1 good) (members_from s.types.records r1.1.types.records g1.extends ms fit)) (λ r2 k2.
-      post_weaken _ (MembersRead r2.1) (MembersRead s) (members_read rest r2.0 r2.1 (k2.0.0, k2.1.0) k2.0.2 k2.1.1) (λ r3 k3. read_later {s = s} {t = r2.1} r3 (grows_trans g1 k2.0.1) k3)))
+      (member_declarators_read true ds _ (specifiers_rest specifiers _ sh) r1.0 ms r1.1 m1 b (members_later ms g1 good) (members_from s.types.records r1.1.types.records g1.extends ms fit)) (λ r2 k2.
+      post_weaken _ (MembersRead r2.1) (MembersRead s) (members_read rest _ (member_declarators_rest true ds _ (specifiers_rest specifiers _ sh)).1 r2.0 r2.1 (k2.0.0, k2.1.0) k2.0.2 k2.1.1) (λ r3 k3. read_later {s = s} {t = r2.1} r3 (grows_trans g1 k2.0.1) k3)))
 
-  member_declarators_read : (ds : MemberDeclarators) (b : Specified) (ms : List MemberValue) (s : State) → IsReady s → GoodSpecified s b → GoodMembers s ms → AreKeptMembers s.types.records ms
+  member_declarators_read : (lead : Bool) (ds : MemberDeclarators) (z : List Symbol) → AreShort (spell_member_declarators lead ds z) → (b : Specified) (ms : List MemberValue) (s : State) → IsReady s → GoodSpecified s b → GoodMembers s ms → AreKeptMembers s.types.records ms
       → Post (member_declarators_rule ds b ms s) (MembersRead s)
-  member_declarators_read S.NoMemberDeclarator b ms s l known good fit = ((l.0, grows_same s, good), (l.1, fit))
-  member_declarators_read (S.PlainMember d rest) b ms s l known good fit =
-      from_declarator d s _ (MembersRead s) l.0 (declarator_set d s l) (λ r1 m1 g1 c.
+  member_declarators_read lead S.NoMemberDeclarator z sh b ms s l known good fit = ((l.0, grows_same s, good), (l.1, fit))
+  member_declarators_read lead (S.PlainMember d rest) z sh b ms s l known good fit =
+      from_declarator d s _ (MembersRead s) l.0 (declarator_set d _ (separated_rest lead _ sh) s l) (λ r1 m1 g1 c.
       let all = members_from s.types.records r1.1.types.records g1.extends ms fit in
       post_bind _ _ (λ r. (IsLawful r.1 × Grows r1.1 r.1 × GoodMembers r.1 r.0) × ((r.1 ≡ r1.1) × AreKeptMembers r1.1.types.records r.0)) (MembersRead s)
       (post_both _ (λ r. IsLawful r.1 × Grows r1.1 r.1 × GoodMembers r.1 r.0) (λ r. (r.1 ≡ r1.1) × AreKeptMembers r1.1.types.records r.0)
       (member_runs r1.1 b r1.0 ms m1.0 (later_type b.ty g1 known) c (members_later ms g1 good)) (member_kept r1.1 b r1.0 ms m1.0 (later_type b.ty g1 known) c all)) (λ r2 k2.
       post_weaken _ (MembersRead r2.1) (MembersRead s)
-      (member_declarators_read rest b r2.0 r2.1 (k2.0.0, subst Keeping (sym k2.1.0) m1.1) (later_type b.ty (grows_trans g1 k2.0.1) known) k2.0.2 (subst (λ t. AreKeptMembers t.types.records r2.0) (sym k2.1.0) k2.1.1))
+      (member_declarators_read false rest _ (declarator_rest d _ (separated_rest lead _ sh)) b r2.0 r2.1 (k2.0.0, subst Keeping (sym k2.1.0) m1.1) (later_type b.ty (grows_trans g1 k2.0.1) known) k2.0.2 (subst (λ t. AreKeptMembers t.types.records r2.0) (sym k2.1.0) k2.1.1))
       (λ r3 k3. read_later {s = s} {t = r2.1} r3 (grows_trans g1 k2.0.1) k3)))
-  member_declarators_read (S.BitField d t e rest) b ms s l known good fit = from_declarator d s _ (MembersRead s) l.0 (declarator_set d s l) (λ r m g c. tt)
-  member_declarators_read (S.Padding t e rest) b ms s l known good fit = tt
+  member_declarators_read lead (S.BitField d t e rest) z sh b ms s l known good fit = from_declarator d s _ (MembersRead s) l.0 (declarator_set d _ (separated_rest lead _ sh) s l) (λ r m g c. tt)
+  member_declarators_read lead (S.Padding t e rest) z sh b ms s l known good fit = tt
 
-  enumerators_set : (enumerators : Enumerators) (value : Option ℕ) (s : State) → IsReady s → Post (enumerators_rule enumerators value s) Set
-  enumerators_set S.NoEnumerator value s l = l
-  enumerators_set (S.PlainEnumerator w rest) value s l = then_set _ _ (enumerator_set w value s l) (λ r k. enumerators_set rest r.0 r.1 k)
-  enumerators_set (S.ValuedEnumerator w e rest) value s l =
-      from_valued e s _ Set l.0 (expr_made e s l) (λ r1 m1 g1 v.
-      then_set _ _ (set_still r1.1 _ m1 (enumerator_value_still (first_of_expr e) r1.0 r1.1)) (λ r2 k2. then_set _ _ (enumerator_set w (Some r2.0) r2.1 k2) (λ r3 k3. enumerators_set rest r3.0 r3.1 k3)))
+  enumerators_set : (lead : Bool) (enumerators : Enumerators) (z : List Symbol) → AreShort (spell_enumerators lead enumerators z) → (value : Option ℕ) (s : State) → IsReady s → Post (enumerators_rule enumerators value s) Set
+  enumerators_set lead S.NoEnumerator z sh value s l = l
+  enumerators_set lead (S.PlainEnumerator w rest) z sh value s l = then_set _ _ (enumerator_set w value s l) (λ r k. enumerators_set false rest _ (separated_rest lead _ sh).1 r.0 r.1 k)
+  enumerators_set lead (S.ValuedEnumerator w e rest) z sh value s l =
+      from_valued e s _ Set l.0 (expr_made e _ (separated_rest lead _ sh).1.1 s l) (λ r1 m1 g1 v.
+      then_set _ _ (set_still r1.1 _ m1 (enumerator_value_still (first_of_expr e) r1.0 r1.1)) (λ r2 k2. then_set _ _ (enumerator_set w (Some r2.0) r2.1 k2) (λ r3 k3. enumerators_set false rest _ (expr_rest e _ (separated_rest lead _ sh).1.1) r3.0 r3.1 k3)))
 
-  pub declarator_set : (d : Declarator) (s : State) → IsReady s → Post (declarator_rule d s) Set
-  declarator_set (S.Declaring pointers core suffixes) s l = then_set _ _ (core_set core s l) (λ r1 k1. then_set _ _ (suffixes_set suffixes r1.1 k1) (λ r2 k2. k2))
+  pub declarator_set : (d : Declarator) (z : List Symbol) → AreShort (spell_declarator d z) → (s : State) → IsReady s → Post (declarator_rule d s) Set
+  declarator_set (S.Declaring pointers core suffixes) z sh s l = then_set _ _ (core_set core _ (pointers_rest pointers _ sh) s l) (λ r1 k1. then_set _ _ (suffixes_set suffixes _ (core_rest core _ (pointers_rest pointers _ sh)) r1.1 k1) (λ r2 k2. k2))
 
-  core_set : (core : Core) (s : State) → IsReady s → Post (core_rule core s) Set
-  core_set S.Absent s l = l
-  core_set (S.Name w) s l = l
-  core_set (S.Enclosed t d) s l = declarator_set d s l
+  core_set : (core : Core) (z : List Symbol) → AreShort (spell_core core z) → (s : State) → IsReady s → Post (core_rule core s) Set
+  core_set S.Absent z sh s l = l
+  core_set (S.Name w) z sh s l = l
+  core_set (S.Enclosed t d) z sh s l = declarator_set d _ sh.1 s l
 
-  suffixes_set : (suffixes : Suffixes) (s : State) → IsReady s → Post (suffixes_rule suffixes s) Set
-  suffixes_set S.NoSuffix s l = l
-  suffixes_set (S.Array t e rest) s l =
-      from_valued e s _ Set l.0 (expr_made e s l) (λ r1 m1 g1 v.
-      then_set _ _ (set_still r1.1 _ m1 (length_still (first_of_expr e) r1.0 r1.1)) (λ r2 k2. then_set _ _ (suffixes_set rest r2.1 k2) (λ r3 k3. k3)))
-  suffixes_set (S.OpenArray t rest) s l = then_set _ _ (suffixes_set rest s l) (λ r k. k)
-  suffixes_set (S.Prototype t parameters rest) s l =
-      then_set _ _ (scoped_set s _ l (λ u k. then_set _ _ (parameters_set parameters [] u k (inl tt)) (λ r j. set_still r.1 _ j (bindings_still r.0 r.1)))) (λ r1 k1.
-      then_set _ _ (suffixes_set rest r1.1 k1) (λ r2 k2. k2))
-  suffixes_set (S.Variadic t parameters rest) s l = tt
-  suffixes_set (S.Identifiers t ws rest) s l = tt
+  suffixes_set : (suffixes : Suffixes) (z : List Symbol) → AreShort (spell_suffixes suffixes z) → (s : State) → IsReady s → Post (suffixes_rule suffixes s) Set
+  suffixes_set S.NoSuffix z sh s l = l
+  suffixes_set (S.Array t e rest) z sh s l =
+      from_valued e s _ Set l.0 (expr_made e _ sh.1 s l) (λ r1 m1 g1 v.
+      then_set _ _ (set_still r1.1 _ m1 (length_still (first_of_expr e) r1.0 r1.1)) (λ r2 k2. then_set _ _ (suffixes_set rest _ (expr_rest e _ sh.1).1 r2.1 k2) (λ r3 k3. k3)))
+  suffixes_set (S.OpenArray t rest) z sh s l = then_set _ _ (suffixes_set rest _ sh.1.1 s l) (λ r k. k)
+  suffixes_set (S.Prototype t parameters rest) z sh s l =
+      then_set _ _ (scoped_set s _ l (λ u k. then_set _ _ (parameters_set true parameters _ sh.1 [] u k (inl tt)) (λ r j. set_still r.1 _ j (bindings_still r.0 r.1)))) (λ r1 k1.
+      then_set _ _ (suffixes_set rest _ (parameters_rest true parameters _ sh.1).1 r1.1 k1) (λ r2 k2. k2))
+  suffixes_set (S.Variadic t parameters rest) z sh s l = tt
+  suffixes_set (S.Identifiers t ws rest) z sh s l = tt
 
-  parameters_set : (rest : Parameters) (ps : List ParameterValue) (s : State) → IsReady s → GoodParameters s.types.records (is_last rest) ps → Post (parameters_rule rest ps s) Set
-  parameters_set S.NoParameter ps s l good = l
-  parameters_set (S.Parameter specifiers d rest) ps s l good =
-      from_specifiers specifiers (first_of_declaration specifiers d) s _ Set l.0 (specifiers_set specifiers (first_of_declaration specifiers d) nothing_gathered s l) (λ r1 m1 g1 b.
+  parameters_set : (lead : Bool) (rest : Parameters) (z : List Symbol) → AreShort (spell_parameters lead rest z) → (ps : List ParameterValue) (s : State) → IsReady s → GoodParameters s.types.records (is_last rest) ps → Post (parameters_rule rest ps s) Set
+  parameters_set lead S.NoParameter z sh ps s l good = l
+  parameters_set lead (S.Parameter specifiers d rest) z sh ps s l good =
+      from_specifiers specifiers (first_of_declaration specifiers d) s _ Set l.0 (specifiers_set specifiers _ (separated_rest lead _ sh) (first_of_declaration specifiers d) nothing_gathered s l) (λ r1 m1 g1 b.
       post_bind _ _ (λ r. (IsLawful r.1 × Grows r1.1 r.1 × GoodDeclared r.1 r.0) × Set r) Set
       (post_bind _ _ (Still r1.1) (λ r. (IsLawful r.1 × Grows r1.1 r.1 × GoodDeclared r.1 r.0) × Set r) (storage_still r1.0 r1.1) (λ u e.
       subst (λ t. Post (declarator_rule d t) (λ r. (IsLawful r.1 × Grows r1.1 r.1 × GoodDeclared r.1 r.0) × Set r)) (sym e)
-      (post_both (declarator_rule d r1.1) (λ r. IsLawful r.1 × Grows r1.1 r.1 × GoodDeclared r.1 r.0) Set (declarator_post d r1.1 m1.0) (declarator_set d r1.1 m1)))) (λ r2 k2.
+      (post_both (declarator_rule d r1.1) (λ r. IsLawful r.1 × Grows r1.1 r.1 × GoodDeclared r.1 r.0) Set (declarator_post d r1.1 m1.0) (declarator_set d _ (specifiers_rest specifiers _ (separated_rest lead _ sh)) r1.1 m1)))) (λ r2 k2.
       post_bind _ _ (λ r. (IsLawful r.1 × Widens r2.1 r.1 × GoodParameters r.1.types.records (is_last rest) r.0) × Keeping r.1) Set
       (post_both _ (λ r. IsLawful r.1 × Widens r2.1 r.1 × GoodParameters r.1.types.records (is_last rest) r.0) (λ r. Keeping r.1)
       (parameter_runs r2.1 (is_last rest) r1.0 r2.0 ps k2.0.0 (later_type r1.0.ty k2.0.1 b) k2.0.2
       (scalars_later s.types.records r2.1.types.records (grows_trans g1 k2.0.1).extends ps (scalars_only s.types.records ps good)))
       (parameter_keeping _ r1.0 r2.0 ps r2.1 k2.1 (later_type r1.0.ty k2.0.1 b) k2.0.2)) (λ r3 k3.
-      parameters_set rest r3.0 r3.1 (k3.0.0, k3.1) k3.0.2)))
+      parameters_set false rest _ (declarator_rest d _ (specifiers_rest specifiers _ (separated_rest lead _ sh))) r3.0 r3.1 (k3.0.0, k3.1) k3.0.2)))

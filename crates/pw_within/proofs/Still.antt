@@ -15,6 +15,7 @@ use Rattle.pw_walk.specs.Walks.{Walk, bind, granted}
 use Rattle.pw_rules.specs.Operands.{Operand}
 use Rattle.pw_rules.specs.Operators.{value_rule, sign_rule, deref_rule, address_rule, step_rule, size_rule, type_size_rule, cast_rule, binary_rule, logic_rule, operation_rule, conditional_rule, assign_rule, compound_rule, assignment_rule, index_rule, call_rule, select_rule, dot_rule, arrow_rule}
 use Rattle.pw_rules.specs.Leaves.{identifier_rule, number_rule, character_rule, string_point, length_rule, enumeration_by, enumeration_rule, enumerator_value, named_type, parameter_storage, bindings_rule}
+use Rattle.pw_rules.specs.Declarations.{storage_rule}
 use Rattle.pw_rules.specs.Limits.{Spot}
 use Rattle.pw_rules.specs.Phrases.{typedef_rule}
 use Rattle.pw_rules.specs.SpecifierLists.{Gathered, Specified, specified}
@@ -195,6 +196,10 @@ named_still b d s = then_still s (built _ d.derivations b.ty s) _ (built_still _
 pub storage_still : (b : Specified) (s : State) → Post (parameter_storage b s) (Still s)
 unfolding parameter_storage
 storage_still b s = λ met. refl
+
+pub declared_storage_still : (b : Specified) (s : State) → Post (storage_rule b s) (Still s)
+unfolding storage_rule bind
+declared_storage_still b s = λ met. refl
 
 pub bindings_still : (ps : List ParameterValue) (s : State) → Post (bindings_rule ps s) (Still s)
 unfolding bindings_rule

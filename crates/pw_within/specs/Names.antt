@@ -1,19 +1,23 @@
--- The names of a tree and of a module. Each identifier in a tree's spelling is of letters, digits and underscores, as each that the
--- lexer gives (C90 6.1.2); and the numbers of hidden objects have 32 bits, as in each module that the code makes.
-use Rattle.std.specs.Prelude.{◌<◌, ◌^◌, All}
-use Rattle.std.specs.List.{AllByRecursion}
-use Rattle.pw_lowered.specs.Within.{AreLetters}
+-- What is asked of texts beside their grammar: the string literals of a tree are no longer than an object can be, all together. And the
+-- numbers of hidden objects have 32 bits, as in each module that the code makes.
+use Rattle.std.specs.Prelude.{ℕ, ◌+◌, ◌<◌, ◌≤◌, ◌^◌, List, [], ◌∷◌, length, All}
+use Rattle.pw_value.specs.Limits.{size_limit}
 use Rattle.pw_tree.specs.Spelling.{symbols}
 use Rattle.pw_tree.specs.Symbols as symbol
 use Rattle.pw_tree.specs.Trees.{Module}
 use Rattle.pw_types.specs.TypedTrees.{Symbol, External, Internal, Hidden, ModuleValue}
 
-abbrev pub IsLawfulSymbol : symbol.Symbol → Type 0
-IsLawfulSymbol (symbol.Identifier name) = AreLetters name
-IsLawfulSymbol _ = Unit {0}
+-- bytes of a string literal, its quotes included
+abbrev pub text_length : symbol.Symbol → ℕ
+text_length (symbol.Text text) = length text
+text_length _ = 0
 
-abbrev pub NamesAreLetters : Module → Type 0
-NamesAreLetters tree = AllByRecursion IsLawfulSymbol (symbols tree)
+abbrev pub texts_length : List symbol.Symbol → ℕ
+texts_length [] = 0
+texts_length (x ∷ xs) = text_length x + texts_length xs
+
+abbrev pub HasShortStrings : Module → Type 0
+HasShortStrings tree = texts_length (symbols tree) ≤ size_limit
 
 abbrev pub HasWord : Symbol → Type 0
 HasWord (External name) = Unit {0}

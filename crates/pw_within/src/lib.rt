@@ -5,19 +5,21 @@ mod numbers;
 
 ghost use Rattle.std.specs.Prelude.{◌≡◌, ◌<◌, ◌≤◌, ℕ, All, List, Ok};
 ghost use Rattle.pw_lower_laws.specs.Parts.{partless};
-ghost use Rattle.pw_lowered.specs.Within.{AreRecordsWithin, IsCopied, AreLetters, IsNamed, IsWithin, KeepsLimits};
+ghost use Rattle.pw_lowered.specs.Within.{AreLetters, AreRecordsWithin, IsCopied, IsNamed, IsWithin, KeepsLimits};
 ghost use Rattle.pw_rules.specs.Checks.{Checks};
 ghost use Rattle.pw_token.specs.Tokenization.{IsLexed};
 ghost use Rattle.pw_token.specs.declared.token.Token.{Token};
 ghost use Rattle.pw_tree.specs.Grammar.{IsTreeOf, spelled_all};
 ghost use Rattle.pw_tree.specs.Trees.{Module};
 ghost use Rattle.pw_tree.specs.WellFormed.{WellFormedModule};
+ghost use Rattle.pw_tree.specs.Words.{WordsSpellModule};
 ghost use Rattle.pw_types.specs.Rooms.{room_of};
 ghost use Rattle.pw_types.specs.TypeTrees.{type_of};
 ghost use Rattle.pw_types.specs.TypedModules.{item_size};
 ghost use Rattle.pw_types.specs.TypedTrees.{ModuleValue};
 ghost use Rattle.pw_value.specs.Limits.{parameter_limit, room_limit};
-ghost use Rattle.pw_within.specs.Names.{NamesAreLetters, AreNumbered};
+ghost use Rattle.pw_well_typed.specs.Words.{AreShortStrings};
+ghost use Rattle.pw_within.specs.Names.{AreNumbered, HasShortStrings};
 
 pub use numbers::numbers_of_objects;
 use pw_well_typed::{accepted_locals_are_objects, accepted_records_are_laid};
@@ -53,18 +55,13 @@ pub fn accepted_functions_keep_limits()
     ensures room { (tree : Module) (m : ModuleValue) → WellFormedModule tree → Checks tree (Ok m) → All (λ f. room_of m.records f ≤ room_limit) m.functions }
 {}
 
-/// The names that a module that checking accepts shares, and those of its functions and objects, are identifiers (ISO C90 6.1.2), if
-/// those of the syntax tree are and the tree is one of C90's grammar; an object without a name has a number of 32 bits, as in each
-/// module that the code makes.
+/// The names that a module that checking accepts shares, and those of its functions and objects, are of the bytes of identifiers
+/// (ISO C90 6.1.2), if the words of the syntax tree spell what they are (as in the tree of each text) and the tree is one of C90's
+/// grammar; an object without a name has a number of 32 bits, as in each module that the code makes.
 pub fn accepted_names_are_identifiers()
-    ensures declared { (tree : Module) (m : ModuleValue) → WellFormedModule tree → NamesAreLetters tree → Checks tree (Ok m) → All (λ d. AreLetters d.name) m.declared }
-    ensures functions { (tree : Module) (m : ModuleValue) → WellFormedModule tree → NamesAreLetters tree → Checks tree (Ok m) → All (λ f. IsNamed f.name) m.functions }
-    ensures objects { (tree : Module) (m : ModuleValue) → WellFormedModule tree → NamesAreLetters tree → Checks tree (Ok m) → AreNumbered m → All (λ g. IsNamed g.name) m.globals }
-{}
-
-/// Each identifier of a text's tree is one of C90 6.1.2.
-pub fn identifiers_of_texts()
-    ensures { (text : List ℕ) (tokens : List Token) (tree : Module) → IsLexed text tokens → IsTreeOf (spelled_all text tokens) tree → NamesAreLetters tree }
+    ensures declared { (tree : Module) (m : ModuleValue) → WellFormedModule tree → WordsSpellModule tree → Checks tree (Ok m) → All (λ d. AreLetters d.name) m.declared }
+    ensures functions { (tree : Module) (m : ModuleValue) → WellFormedModule tree → WordsSpellModule tree → Checks tree (Ok m) → All (λ f. IsNamed f.name) m.functions }
+    ensures objects { (tree : Module) (m : ModuleValue) → WellFormedModule tree → WordsSpellModule tree → Checks tree (Ok m) → AreNumbered m → All (λ g. IsNamed g.name) m.globals }
 {}
 
 /// No item of the first bytes of an object of a module that checking accepts is empty, with the same premise.
@@ -73,11 +70,27 @@ pub fn accepted_items_are_not_empty()
         → All (λ g. All (λ p. 0 < item_size p.item) g.items) m.globals }
 {}
 
-/// A module that checking accepts is within the limits for which its flow graph is lawful (`IsWithin`), if the types of its
-/// expressions and the arguments of its calls keep theirs; the other premises are those of the laws above.
+/// The string literals of a text's tree are no longer than an object can be, all together, since the text is no longer.
+pub fn strings_of_texts()
+    ensures { (text : List ℕ) (tokens : List Token) (tree : Module) → IsLexed text tokens → IsTreeOf (spelled_all text tokens) tree → HasShortStrings tree }
+{}
+
+/// No string literal of a module that checking accepts is longer than an object can be, if those of the syntax tree are not.
+pub fn accepted_strings_are_short()
+    ensures { (tree : Module) (m : ModuleValue) → HasShortStrings tree → Checks tree (Ok m) → AreShortStrings m }
+{}
+
+/// In each function of a module that checking accepts the types of expressions keep the limit on sizes, and calls that on arguments
+/// (ISO C90 5.2.4.1), if no string literal is longer than an object can be.
+pub fn accepted_bodies_keep_limits()
+    ensures { (tree : Module) (m : ModuleValue) → HasShortStrings tree → Checks tree (Ok m) → All (λ f. KeepsLimits m.records f.body) m.functions }
+{}
+
+/// A module that checking accepts is within the limits for which its flow graph is lawful (`IsWithin`). Four premises: the syntax
+/// tree is one of C90's grammar, its words spell what they are, no string literal is longer than an object can be, and an object
+/// without a name has a number of 32 bits, as in each module that the code makes.
 pub fn accepted_is_within()
-    ensures { (tree : Module) (m : ModuleValue) → WellFormedModule tree → NamesAreLetters tree → Checks tree (Ok m) → AreNumbered m
-        → All (λ f. KeepsLimits m.records f.body) m.functions → IsWithin m }
+    ensures { (tree : Module) (m : ModuleValue) → WellFormedModule tree → WordsSpellModule tree → HasShortStrings tree → Checks tree (Ok m) → AreNumbered m → IsWithin m }
 {
     accepted_records_are_laid();
     accepted_locals_are_objects();

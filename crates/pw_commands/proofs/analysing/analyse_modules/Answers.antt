@@ -1,4 +1,5 @@
-use Rattle.std.proofs.Common.{[], ◌∷◌, codes}
+use Rattle.std.proofs.Common.{[], ◌∷◌}
+use Rattle.pw_modules.specs.FileNames.{database_name}
 use Rattle.pw_commands.proofs.AnalysingLemmas.{obeys_analysed, obeys_not_analysed}
 use Rattle.pw_commands.proofs.OthersLemmas.{kept_others, put_others}
 use Rattle.pw_commands.proofs.analysing.analyse_modules.Goals as goal
@@ -17,7 +18,7 @@ returns-in-Err-clause-obeys g c =
 
 pub returns-in-Ok-clause-others : goal.returns-in-Ok-clause-others
 returns-in-Ok-clause-others g c =
-    put_others (g.S.Store.told c.args.store.now) _ _ ((codes "prog.db", c.in-Ok.bytes.items) ∷ []) c.put_file.result c.analysed_file.ensures.same (rw c.deref.ensures.value at c.put_file.ensures.put)
+    put_others (g.S.Store.told c.args.store.now) _ _ ((database_name, c.in-Ok.bytes.items) ∷ []) c.put_file.result c.analysed_file.ensures.same (rw c.deref.ensures.value at c.put_file.ensures.put)
 
 pub returns-in-Err-clause-others : goal.returns-in-Err-clause-others
-returns-in-Err-clause-others g c = kept_others (codes "prog.db" ∷ []) c.in-Err.answer (g.S.Store.told c.args.store.now) _ c.analysed_file.ensures.same
+returns-in-Err-clause-others g c = kept_others (database_name ∷ []) c.in-Err.answer (g.S.Store.told c.args.store.now) _ c.analysed_file.ensures.same

@@ -1,4 +1,5 @@
-use Rattle.std.proofs.Common.{[], ◌∷◌, codes}
+use Rattle.std.proofs.Common.{[], ◌∷◌}
+use Rattle.pw_modules.specs.FileNames.{image_name}
 use Rattle.pw_commands.proofs.ObeysLemmas.{obeys_linked, obeys_refused}
 use Rattle.pw_commands.proofs.OthersLemmas.{kept_others, put_others}
 use Rattle.pw_commands.proofs.linking.link_modules.Goals as goal
@@ -15,7 +16,7 @@ returns-in-Err-clause-obeys g c =
 
 pub returns-in-Ok-clause-others : goal.returns-in-Ok-clause-others
 returns-in-Ok-clause-others g c =
-    put_others (g.S.Store.told c.args.store.now) _ _ ((codes "prog.img", c.in-Ok.bytes.items) ∷ []) c.put_file.result c.linked_file.ensures.same (rw c.deref.ensures.value at c.put_file.ensures.put)
+    put_others (g.S.Store.told c.args.store.now) _ _ ((image_name, c.in-Ok.bytes.items) ∷ []) c.put_file.result c.linked_file.ensures.same (rw c.deref.ensures.value at c.put_file.ensures.put)
 
 pub returns-in-Err-clause-others : goal.returns-in-Err-clause-others
-returns-in-Err-clause-others g c = kept_others (codes "prog.img" ∷ []) c.in-Err.answer (g.S.Store.told c.args.store.now) _ c.linked_file.ensures.same
+returns-in-Err-clause-others g c = kept_others (image_name ∷ []) c.in-Err.answer (g.S.Store.told c.args.store.now) _ c.linked_file.ensures.same

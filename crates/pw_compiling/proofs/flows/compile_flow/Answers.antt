@@ -1,4 +1,5 @@
-use Rattle.std.proofs.Common.{[], ◌∷◌, ◌++◌, codes}
+use Rattle.std.proofs.Common.{[], ◌∷◌, ◌++◌}
+use Rattle.pw_modules.specs.FileNames.{object_ending}
 use Rattle.pw_compiling.specs.Second.{phase_two_puts}
 use Rattle.pw_commands.proofs.OthersLemmas.{kept_others, put_others}
 use Rattle.pw_compiling.proofs.SecondLemmas.{made_put, none_put, obeys_made, obeys_stopped, put_is_store, stop_is_store}
@@ -23,7 +24,7 @@ returns-in-Err-clause-answer g c = stop_is_store c.in-Err.answer c.in-Err.ensure
 
 pub returns-in-Ok-clause-others : goal.returns-in-Ok-clause-others
 returns-in-Ok-clause-others g c =
-    put_others (g.S.Store.told c.args.store.now) _ _ ((c.args.name.now ++ codes ".obj", c.in-Ok.bytes.items) ∷ []) c.put_bytes.result c.object_bytes.ensures.same (rw c.deref.ensures.value at c.put_bytes.ensures.put)
+    put_others (g.S.Store.told c.args.store.now) _ _ ((c.args.name.now ++ object_ending, c.in-Ok.bytes.items) ∷ []) c.put_bytes.result c.object_bytes.ensures.same (rw c.deref.ensures.value at c.put_bytes.ensures.put)
 
 pub returns-in-Err-clause-others : goal.returns-in-Err-clause-others
 returns-in-Err-clause-others g c = kept_others (phase_two_puts c.args.name.now) c.in-Err.answer (g.S.Store.told c.args.store.now) _ c.object_bytes.ensures.same

@@ -1,7 +1,7 @@
 //! Rows over one store, one behind another: which of them does what.
 
 use crate::changes::change_file;
-use crate::commands::{Command, push_command, streams_of};
+use crate::commands::{Command, Top, push_command, streams_of};
 use crate::outputs::First;
 use crate::stores::{put_file, put_many, remove_file, renew, words_of};
 use crate::texts::push_asked;
@@ -11,7 +11,7 @@ use std::alloc::{AllocError, Global};
 
 /// A store, and what the rows so far leave for those below.
 #[derive(Drop)]
-pub struct Trial {
+struct Trial {
     store: MemStore,
     /// The text that is put together.
     source: Text,
@@ -40,7 +40,7 @@ fn push_spelled(source: &mut Text, row: &str) {
 
 impl Trial {
     /// An empty store, and nothing else.
-    pub fn new(alloc: Global) -> Result<Box<Trial>, AllocError> {
+    fn new(alloc: Global) -> Result<Box<Trial>, AllocError> {
         let store = MemStore::new(alloc, &[], &[])?;
         Ok(Box::new(
             alloc,
@@ -87,19 +87,6 @@ impl Trial {
         }
     }
 
-    /// Adds what a command tells.
-    fn obey(&mut self, text: &mut Text, row: &str) {
-        let (how, line) = row.split_once(' ').unwrap_or((row, ""));
-        let words = words_of(text, line);
-        let command = Command {
-            words: &words,
-            input: &self.input,
-            streams: streams_of(how),
-            as_it_is: how == "=",
-        };
-        push_command(text, &mut self.store, &mut self.first, &command);
-    }
-
     /// Adds what a question is answered.
     fn ask(&mut self, text: &mut Text, row: &str) {
         let source = taken(text, &mut self.source);
@@ -118,26 +105,66 @@ impl Trial {
         }
     }
 
-    /// Adds a row that asks, and its answer.
-    fn answer_row(&mut self, text: &mut Text, row: &str) {
+    /// Adds what a command tells, by its row behind the first character.
+    fn obey<T: Top>(&mut self, text: &mut Text, top: &T, row: &str) {
+        let (how, line) = row.split_once(' ').unwrap_or((row, ""));
+        let words = words_of(text, line);
+        let command = Command {
+            words: &words,
+            input: &self.input,
+            streams: streams_of(how),
+            as_it_is: how == "=",
+        };
+        push_command(text, top, &mut self.store, &mut self.first, &command);
+    }
+
+    /// Adds a question and what it is answered.
+    fn answer_question(&mut self, text: &mut Text, row: &str) {
         text.push(row.as_bytes());
         text.push(b":");
-        match row.strip_prefix('$') {
-            Some(command) => self.obey(text, command),
-            None => self.ask(text, row.strip_prefix("? ").unwrap_or(row)),
-        }
+        self.ask(text, row.strip_prefix("? ").unwrap_or(row));
         text.push(b"\n");
+    }
+
+    /// Adds what is printed for a row that is no command.
+    fn answer(&mut self, text: &mut Text, row: &str) {
+        if row.is_empty() || row.starts_with('#') {
+            self.heading(text, row);
+        } else if row.starts_with('?') {
+            self.answer_question(text, row);
+        } else {
+            self.prepare(text, row);
+        }
     }
 }
 
-impl Program for Trial {
+/// What is printed for rows over one store, one behind another, by what obeys the commands among them.
+#[derive(Drop)]
+pub struct Rows<T> {
+    top: T,
+    trial: Box<Trial>,
+}
+
+impl<T: Copy> Rows<T> {
+    /// No row so far.
+    pub fn new(alloc: Global, top: T) -> Result<Rows<T>, AllocError> {
+        Ok(Rows {
+            top,
+            trial: Trial::new(alloc)?,
+        })
+    }
+}
+
+impl<T: Top> Program for Rows<T> {
     fn answer(&mut self, text: &mut Text, _number: usize, row: &str) {
-        if row.is_empty() || row.starts_with('#') {
-            self.heading(text, row);
-        } else if row.starts_with(['$', '?']) {
-            self.answer_row(text, row);
-        } else {
-            self.prepare(text, row);
+        match row.strip_prefix('$') {
+            Some(command) => {
+                text.push(row.as_bytes());
+                text.push(b":");
+                self.trial.obey(text, &self.top, command);
+                text.push(b"\n");
+            }
+            None => self.trial.answer(text, row),
         }
     }
 }

@@ -1,11 +1,23 @@
 //! Commands over a store in memory, and what they tell.
 
 use crate::outputs::{First, Told, push_told};
-use pw_io::{MemSink, MemSource, MemStore, Sink, Source, Store};
+use pw_io::{MemSink, MemSource, MemStore};
 use pw_rows::Text;
-use pw_top::{pawc_top, status};
 use std::alloc::{AllocError, Global};
-use std::mem::ManuallyDrop;
+
+/// What obeys commands.
+pub trait Top {
+    /// The status of words over a store, an input, an output and `err`.
+    fn status_of(
+        &self,
+        alloc: Global,
+        words: &[String],
+        store: &mut MemStore,
+        input: &mut MemSource,
+        out: &mut MemSink,
+        err: &mut MemSink,
+    ) -> u8;
+}
 
 /// More bytes than a command puts out.
 const ROOM: usize = 100_000;
@@ -58,28 +70,15 @@ pub fn streams_of(how: &str) -> Streams {
     Streams { room, ..SURE }
 }
 
-/// The status of words: nothing of the top call's contract is kept but that it is met. The answer's memory goes back with the
-/// program's.
-fn status_of<S: Store, I: Source, O: Sink, E: Sink>(
-    alloc: Global,
-    words: &[String],
-    store: &mut S,
-    input: &mut I,
-    out: &mut O,
-    err: &mut E,
-) -> u8 {
-    let answer = pawc_top(alloc, words, store, input, out, err);
-    status(&ManuallyDrop::new(answer))
-}
-
 /// The bytes of a store's image, or none.
 fn image_of(store: &MemStore) -> &[u8] {
     store.bytes_of("prog.img").unwrap_or(&[])
 }
 
 /// Adds what a command with this input, output and `err` tells.
-fn push_all(
+fn push_all<T: Top>(
     text: &mut Text,
+    top: &T,
     store: &mut MemStore,
     first: &mut First,
     command: &Command<'_>,
@@ -88,7 +87,7 @@ fn push_all(
     err: &mut MemSink,
 ) {
     let before = store.puts().len();
-    let status = status_of(text.alloc(), command.words, store, input, out, err);
+    let status = top.status_of(text.alloc(), command.words, store, input, out, err);
     let told = Told {
         status,
         out: out.bytes(),
@@ -101,8 +100,9 @@ fn push_all(
 }
 
 /// Adds what a command with this input and output tells.
-fn push_with_output(
+fn push_with_output<T: Top>(
     text: &mut Text,
+    top: &T,
     store: &mut MemStore,
     first: &mut First,
     command: &Command<'_>,
@@ -110,34 +110,36 @@ fn push_with_output(
     out: &mut MemSink,
 ) {
     match MemSink::new(text.alloc(), command.streams.room, &[]) {
-        Ok(mut err) => push_all(text, store, first, command, input, out, &mut err),
+        Ok(mut err) => push_all(text, top, store, first, command, input, out, &mut err),
         Err(AllocError) => text.cut(),
     }
 }
 
 /// Adds what a command with this input tells.
-fn push_with_input(
+fn push_with_input<T: Top>(
     text: &mut Text,
+    top: &T,
     store: &mut MemStore,
     first: &mut First,
     command: &Command<'_>,
     input: &mut MemSource,
 ) {
     match MemSink::new(text.alloc(), ROOM, &[command.streams.put]) {
-        Ok(mut out) => push_with_output(text, store, first, command, input, &mut out),
+        Ok(mut out) => push_with_output(text, top, store, first, command, input, &mut out),
         Err(AllocError) => text.cut(),
     }
 }
 
 /// Adds what a command tells.
-pub fn push_command(
+pub fn push_command<T: Top>(
     text: &mut Text,
+    top: &T,
     store: &mut MemStore,
     first: &mut First,
     command: &Command<'_>,
 ) {
     match MemSource::new(text.alloc(), command.input, &[command.streams.read]) {
-        Ok(mut input) => push_with_input(text, store, first, command, &mut input),
+        Ok(mut input) => push_with_input(text, top, store, first, command, &mut input),
         Err(AllocError) => text.cut(),
     }
 }
