@@ -13,7 +13,7 @@ use Rattle.pw_webflow.specs.ValidWebs.{IsWebOp, IsWebBlock, IsWebFn}
 use Rattle.pw_webflow.specs.declared.web.WebOp.{WebOp}
 use Rattle.pw_webflow.specs.declared.web.WebBlock.{WebBlock}
 use Rattle.pw_alloc.specs.Frames.{argument_count, most_arguments, ops_of, head_size, slots_begin, last_reach}
-use Rattle.pw_value.specs.Objects.{round8}
+use Rattle.pw_value.specs.Rounding.{round8}
 
 pub most_arguments-append : (xs ys : List WebOp) → most_arguments (xs ++ ys) ≡ max (most_arguments xs) (most_arguments ys)
 most_arguments-append [] ys = omega arith

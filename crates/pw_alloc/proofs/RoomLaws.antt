@@ -5,7 +5,7 @@ use Rattle.std.proofs.lemmas.List.Sums.{sum_by-cons}
 use Rattle.pw_flow.specs.ValidFlow.{slot_room}
 use Rattle.pw_webflow.specs.declared.web.WebFn.{WebFn}
 use Rattle.pw_alloc.specs.Frames.{head_size, slots_begin, last_reach}
-use Rattle.pw_value.specs.Objects.{round8}
+use Rattle.pw_value.specs.Rounding.{round8}
 use Rattle.pw_alloc.specs.Allocation.{saved_of, allocated}
 use Rattle.pw_alloc.specs.Room.{web_room}
 use Rattle.pw_alloc.proofs.AllocationLaws.{few_saved}

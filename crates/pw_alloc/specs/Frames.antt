@@ -2,7 +2,7 @@
 -- saved registers; the temporaries that stand in the frame; the slots.
 use Rattle.std.specs.Prelude.{ℕ, ℤ, pos, neg_ℤ, ◌+◌, ◌-◌, ◌*◌, ◌/◌, max, List, [], ◌∷◌, length}
 use Rattle.std.specs.List.{flat_map}
-use Rattle.pw_value.specs.Objects.{round8}
+use Rattle.pw_value.specs.Rounding.{round8}
 use Rattle.pw_flow.specs.declared.flow.Op.TheVariants.{Call, CallInd}
 use Rattle.pw_webflow.specs.declared.web.WebOp.{WebOp}
 use Rattle.pw_webflow.specs.declared.web.WebOp.TheVariants.{Flow}

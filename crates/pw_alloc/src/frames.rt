@@ -5,7 +5,7 @@ ghost use Rattle.pw_value.specs.Limits.{parameter_limit};
 ghost use Rattle.std.specs.List.{flat_map};
 ghost use Rattle.pw_webflow.specs.declared.web.WebBlock.{WebBlock as BlockValue};
 ghost use Rattle.pw_alloc.specs.Frames.{argument_count, most_arguments, ops_of, head_size, below, last_reach, slots_begin, reaches_from};
-ghost use Rattle.pw_value.specs.Objects.{round8};
+ghost use Rattle.pw_value.specs.Rounding.{round8};
 
 use pw_flow::Op;
 use pw_items::Items;

@@ -8,10 +8,10 @@ ghost use Rattle.pw_value.specs.Words as words;
 use crate::constancy::Constancy;
 use pw_types::{BinaryOperator, IntKind, LogicOperator, UnaryOperator, convert};
 use pw_value::words::{
-    shift_left, signed_at_most, signed_difference, signed_less, signed_negation, signed_product,
-    signed_quotient, signed_remainder, signed_shift_right, signed_sum, unsigned_at_most,
-    unsigned_difference, unsigned_less, unsigned_negation, unsigned_product, unsigned_quotient,
-    unsigned_remainder, unsigned_shift_right, unsigned_sum,
+    is_at_most, is_less, shift_left, signed_difference, signed_negation, signed_product,
+    signed_quotient, signed_remainder, signed_shift_right, signed_sum, unsigned_difference,
+    unsigned_negation, unsigned_product, unsigned_quotient, unsigned_remainder,
+    unsigned_shift_right, unsigned_sum,
 };
 use pw_value::{Value, WordFault};
 
@@ -84,10 +84,10 @@ pub fn binary_word(operator: BinaryOperator, signed: bool, a: u32, b: u32) -> Co
         BinaryOperator::Remainder => by_result(remainder(signed, a, b)),
         BinaryOperator::ShiftLeft => by_result(shift_left(a, b)),
         BinaryOperator::ShiftRight => by_result(shift_right(signed, a, b)),
-        BinaryOperator::Less => decided(less(signed, a, b)),
-        BinaryOperator::Greater => decided(less(signed, b, a)),
-        BinaryOperator::LessEqual => decided(at_most(signed, a, b)),
-        BinaryOperator::GreaterEqual => decided(at_most(signed, b, a)),
+        BinaryOperator::Less => decided(is_less(signed, a, b)),
+        BinaryOperator::Greater => decided(is_less(signed, b, a)),
+        BinaryOperator::LessEqual => decided(is_at_most(signed, a, b)),
+        BinaryOperator::GreaterEqual => decided(is_at_most(signed, b, a)),
         BinaryOperator::Equal => decided(a == b),
         BinaryOperator::NotEqual => decided(a != b),
         BinaryOperator::And => Constancy::Known(a & b),
@@ -159,28 +159,6 @@ fn shift_right(signed: bool, a: u32, count: u32) -> Result<u32, WordFault>
         signed_shift_right(a, count)
     } else {
         unsigned_shift_right(a, count)
-    }
-}
-
-/// Whether a word is less than another, signed or unsigned.
-fn less(signed: bool, a: u32, b: u32) -> bool
-    ensures { result ≡ (if signed then words.signed_less a b else words.unsigned_less a b) }
-{
-    if signed {
-        signed_less(a, b)
-    } else {
-        unsigned_less(a, b)
-    }
-}
-
-/// Whether a word is less than another or equal to it, signed or unsigned.
-fn at_most(signed: bool, a: u32, b: u32) -> bool
-    ensures { result ≡ (if signed then words.signed_at_most a b else words.unsigned_at_most a b) }
-{
-    if signed {
-        signed_at_most(a, b)
-    } else {
-        unsigned_at_most(a, b)
     }
 }
 

@@ -1,7 +1,6 @@
 //! Operators on numbers (ISO C90 6.3.3.3, 6.3.5 to 6.3.12).
 
-ghost use Rattle.std.specs.Prelude.{◌≡◌, if◌then◌else◌};
-ghost use Rattle.pw_value.specs.Words as words;
+ghost use Rattle.std.specs.Prelude.{◌≡◌};
 ghost use Rattle.pw_cmean.specs.Operators as meaning;
 ghost use Rattle.pw_coperators.specs.Operations as spec;
 
@@ -11,10 +10,10 @@ use pw_cmean::Undef;
 use pw_types::{BinaryOperator, IntKind, UnaryOperator};
 use pw_value::Value;
 use pw_value::words::{
-    WordFault, shift_left, signed_at_most, signed_difference, signed_less, signed_negation,
-    signed_product, signed_quotient, signed_remainder, signed_shift_right, signed_sum,
-    unsigned_at_most, unsigned_difference, unsigned_less, unsigned_negation, unsigned_product,
-    unsigned_quotient, unsigned_remainder, unsigned_shift_right, unsigned_sum,
+    WordFault, is_at_most, is_less, shift_left, signed_difference, signed_negation, signed_product,
+    signed_quotient, signed_remainder, signed_shift_right, signed_sum, unsigned_difference,
+    unsigned_negation, unsigned_product, unsigned_quotient, unsigned_remainder,
+    unsigned_shift_right, unsigned_sum,
 };
 
 /// 1 where it holds, and else 0.
@@ -51,28 +50,6 @@ pub(crate) fn arithmetic(op: BinaryOperator, signed: bool, a: u32, b: u32) -> Re
         (BinaryOperator::And, _) => Ok(a & b),
         (BinaryOperator::ExclusiveOr, _) => Ok(a ^ b),
         (BinaryOperator::Or, _) => Ok(a | b),
-    }
-}
-
-/// Whether a word is less than another.
-fn is_less(signed: bool, a: u32, b: u32) -> bool
-    ensures { result ≡ (if signed then words.signed_less a b else words.unsigned_less a b) }
-{
-    if signed {
-        signed_less(a, b)
-    } else {
-        unsigned_less(a, b)
-    }
-}
-
-/// Whether a word is less than another or equal to it.
-fn is_at_most(signed: bool, a: u32, b: u32) -> bool
-    ensures { result ≡ (if signed then words.signed_at_most a b else words.unsigned_at_most a b) }
-{
-    if signed {
-        signed_at_most(a, b)
-    } else {
-        unsigned_at_most(a, b)
     }
 }
 

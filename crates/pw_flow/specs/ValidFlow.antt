@@ -2,7 +2,7 @@
 use Rattle.std.specs.Prelude.{ℕ, ◌≡◌, ◌≢◌, ◌+◌, ◌*◌, ◌/◌, ◌%◌, ◌<◌, ◌≤◌, ◌^◌, ◌⊎◌, Option, IfSome, List, [], ◌∷◌, ◌++◌, length, max}
 use Rattle.std.specs.List.{AllByRecursion}
 use Rattle.pw_value.specs.Limits.{size_limit, parameter_limit, room_limit}
-use Rattle.pw_value.specs.Objects.{round8}
+use Rattle.pw_value.specs.Rounding.{round8}
 use Rattle.pw_value.specs.ProgramNames.{IsOrdinary, KeepsStart}
 use Rattle.pw_value.specs.declared.value.Kind.{Kind}
 use Rattle.pw_value.specs.declared.value.Kind.TheVariants as kind

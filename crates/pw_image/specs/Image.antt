@@ -1,7 +1,7 @@
 -- The image of a linked program: what a machine starts with, and where functions and globals stand.
 use Rattle.std.specs.Prelude.{◌≡◌, ℕ, ◌+◌, ◌*◌, ◌/◌, ◌%◌, ◌<◌, ◌≤◌, ◌^◌, List, [], ◌∷◌, ◌++◌, length, map, max}
 use Rattle.std.specs.List.{flat_map, AllByRecursion}
-use Rattle.pw_value.specs.Objects.{round8}
+use Rattle.pw_value.specs.Rounding.{round8}
 use Rattle.pw_value.specs.Limits.{text_start, word_limit, memory_size}
 use Rattle.pw_value.specs.Fields.{u32, text, parts, FitsU32}
 use Rattle.pw_value.specs.FieldFrame.{IsFileOf}

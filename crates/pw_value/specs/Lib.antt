@@ -10,3 +10,4 @@ pub mod Shapes
 pub mod Values
 pub mod Words
 pub mod Objects
+pub mod Rounding

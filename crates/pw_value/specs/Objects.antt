@@ -1,12 +1,8 @@
 -- The objects of a run: a list in which each object stands at its number. An object is a list of
 -- bytes with two marks: whether it lives, and whether it may be written (ISO C90 6.1.2.4, 6.5.3).
-use Rattle.std.specs.Prelude.{ℕ, zero, suc, ◌+◌, ◌/◌, ◌*◌, ◌≤◌, Bool, false, List, [], ◌∷◌, ◌++◌, length, slice_index_or, slice_set}
+use Rattle.std.specs.Prelude.{ℕ, zero, suc, ◌+◌, ◌≤◌, Bool, false, List, [], ◌∷◌, ◌++◌, length, slice_index_or, slice_set}
 use Rattle.pw_value.specs.declared.value.Byte.{Byte}
 use Rattle.pw_value.specs.declared.value.Byte.TheVariants as B
-
--- a number of bytes rounded up to a multiple of 8
-abbrev pub round8 : ℕ → ℕ
-round8 n = (n + 7) / 8 * 8
 
 pub record Object : Type 0 where
   pub bytes : List Byte

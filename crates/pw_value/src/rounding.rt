@@ -1,7 +1,7 @@
 //! Counts of bytes at the next place of eight.
 
 ghost use Rattle.std.specs.Prelude.{◌≡◌, ◌≤◌, ◌+◌, ◌<◌, ◌^◌};
-ghost use Rattle.pw_value.specs.Objects.{round8};
+ghost use Rattle.pw_value.specs.Rounding.{round8};
 
 /// A count of bytes, rounded up to a multiple of 8.
 pub fn round8(bytes: u64) -> u64

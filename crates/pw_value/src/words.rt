@@ -1,7 +1,7 @@
 //! Arithmetic on words of 32 bits, as C has it for int and unsigned int (ISO C90 6.3). An int is given and
 //! answered as the word that it stands in.
 
-ghost use Rattle.std.specs.Prelude.{ℕ, ◌≡◌, ◌+◌, ◌-◌, ◌*◌, ◌%◌, ◌^◌, ◌<◌, ◌≤◌, Ok, MatchResult};
+ghost use Rattle.std.specs.Prelude.{ℕ, ◌≡◌, ◌+◌, ◌-◌, ◌*◌, ◌%◌, ◌^◌, ◌<◌, ◌≤◌, Ok, MatchResult, if◌then◌else◌};
 ghost use Rattle.pw_value.specs.Words as spec;
 
 use std::alloc::AllocError;
@@ -188,6 +188,28 @@ pub fn signed_at_most(a: u32, b: u32) -> bool
     ensures { result ≡ spec.signed_at_most a b }
 {
     a.cast_signed() <= b.cast_signed()
+}
+
+/// Whether a word is less than another, as ints or as unsigned ints.
+pub fn is_less(signed: bool, a: u32, b: u32) -> bool
+    ensures { result ≡ (if signed then spec.signed_less a b else spec.unsigned_less a b) }
+{
+    if signed {
+        signed_less(a, b)
+    } else {
+        unsigned_less(a, b)
+    }
+}
+
+/// Whether a word is less than another or equal to it, as ints or as unsigned ints.
+pub fn is_at_most(signed: bool, a: u32, b: u32) -> bool
+    ensures { result ≡ (if signed then spec.signed_at_most a b else spec.unsigned_at_most a b) }
+{
+    if signed {
+        signed_at_most(a, b)
+    } else {
+        unsigned_at_most(a, b)
+    }
 }
 
 /// The bits of a word moved to the left.
