@@ -3,7 +3,8 @@
 
 A program of cruns.txt is the lines that the program of runs reads, the last of which begins with `+`, and behind them
 `> END` where the end is by hand; an undefined operation's token follows a backquote. Where there is no `> END`, the
-status and the output are those of gcc (-m32 -fwrapv), and clang's are the same. Other lines are headings.
+status and the output are those of gcc (-m32 -fwrapv), and clang's are the same. `@N{TEXT}` stands for the text N times.
+Other lines are headings.
 
 With `--write` the script writes crates/pw_cruns/stdin and stdout; without, it compares them with the table. It fails
 where gcc and clang answer otherwise than the table says, and prints what the sanitizers say of undefined operations
@@ -28,6 +29,7 @@ FLAGS = "-m32 -std=c90 -w -fwrapv -fno-builtin".split()
 UNBUFFERED = """#include <stdio.h>
 __attribute__((constructor)) static void unbuffered(void) { setvbuf(stdin, NULL, _IONBF, 0); }
 """
+MANY = re.compile(r"@(\d+)\{([^{}]*)\}")
 KNOWN = {
     "signed overflow": "overflow|cannot be represented",
     "zero divisor": "division by zero",
@@ -81,7 +83,7 @@ class Program:
 def programs_of(text):
     """The table's lines: a heading, or a program."""
     rows, lines = [], []
-    table = text.splitlines()
+    table = MANY.sub(lambda many: many[2] * int(many[1]), text).splitlines()
     for i, line in enumerate(table):
         if line.startswith("+"):
             behind = table[i + 1] if i + 1 < len(table) else ""

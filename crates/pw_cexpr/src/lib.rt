@@ -2,6 +2,9 @@
 //! one, and calls, are taken.
 #![tactic(auto)]
 
+mod answers;
+mod edges;
 mod expression;
+mod places;
 
 pub use expression::{answer_of, place_of};

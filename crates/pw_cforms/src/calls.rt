@@ -6,9 +6,10 @@ ghost use Rattle.pw_types.specs.Views.{view_qtype};
 ghost use Rattle.pw_cstate.specs.Shown.{view_state};
 ghost use Rattle.pw_ccalls.specs.Evaluates.{Evaluates};
 ghost use Rattle.pw_ccalls.specs.Views.{view_env};
+ghost use Rattle.pw_cforms.specs.Behind.{Behind, answer_act};
 
-use crate::operands::{operand, values};
-use pw_cacts::{call, call_value, function_of};
+use crate::operands::values;
+use pw_cacts::{call, call_value, function_of, used};
 use pw_ccalls::{Calls, Env, Expressions, Stop};
 use pw_cstate::State;
 use pw_typed::{Symbol, TExpr};
@@ -38,7 +39,7 @@ pub fn call_named<'a, P: Expressions<'a>, C: Calls<'a>>(
     call(alloc, calls, env.world, state, bound, function, &values)
 }
 
-/// A call through a value, which is evaluated before the arguments.
+/// A call through a value, which was evaluated before the arguments.
 pub fn call_through<'a, P: Expressions<'a>, C: Calls<'a>>(
     alloc: Global,
     parts: &P,
@@ -50,12 +51,13 @@ pub fn call_through<'a, P: Expressions<'a>, C: Calls<'a>>(
     ty: &QType,
     a: &TExpr,
     args: &[TExpr],
+    given: Option<Value>,
 ) -> Result<Option<Value>, Stop<'a>>
     requires parts { P.can_evaluate parts.now }
     requires calls { C.can_call calls.now }
-    ensures { Evaluates (view_env env.now) bound (tree.Node token (view_qtype ty.now) (tree.CallValue (view_expr a.now) (view_exprs args.now))) (view_state state.old) result (view_state state.new) }
+    ensures { Behind (view_env env.now) bound (answer_act (view_expr a.now)) given (answer_act (tree.Node token (view_qtype ty.now) (tree.CallValue (view_expr a.now) (view_exprs args.now)))) (view_state state.old) result (view_state state.new) }
 {
-    let callee = operand(alloc, parts, env, state, bound, token, a)?;
+    let callee = used(env, token, given)?;
     let values = values(alloc, parts, env, state, bound, token, args)?;
     call_value(
         alloc, calls, env, state, bound, token, &a.ty.ty, callee, &values,

@@ -1,11 +1,14 @@
 //! Operands: values that operators use, conditions, and the arguments of calls.
 
+ghost use Rattle.std.specs.Prelude.{ℕ};
+ghost use Rattle.pw_types.specs.TypedTrees as tree;
 ghost use Rattle.pw_typed.specs.Views.{view_expr, view_exprs};
 ghost use Rattle.pw_cmean.specs.Evaluation.{values_of};
 ghost use Rattle.pw_cmean.specs.SourceRun.{calls};
 ghost use Rattle.pw_cstate.specs.Shown.{view_state};
 ghost use Rattle.pw_ccalls.specs.Answers.{Answers};
 ghost use Rattle.pw_ccalls.specs.Views.{view_env};
+ghost use Rattle.pw_cforms.specs.Behind.{Behind, answer_act};
 ghost use Rattle.pw_cforms.specs.Operands as spec;
 
 use pw_cacts::{truth, used};
@@ -46,6 +49,19 @@ pub fn holds<'a, P: Expressions<'a>>(
     ensures { Answers (λ x. x) (view_env env.now).world (spec.holds (view_expr a.now) token (calls (view_env env.now).world bound) (view_env env.now)) (view_state state.old) result (view_state state.new) }
 {
     let value = operand(alloc, parts, env, state, bound, token, a)?;
+    truth(env, state, token, value)
+}
+
+/// Whether an operand that gave this result is unlike 0.
+pub fn truth_of<'a>(
+    env: &Env<'a>,
+    state: &State<'a>,
+    token: usize,
+    given: Option<Value>,
+) -> Result<bool, Stop<'a>>
+    ensures { (bound : ℕ) (a : tree.Expression) → Behind (view_env env.now) bound (answer_act a) given (λ e n. spec.holds a token (calls e.world n) e) (view_state state.now) result (view_state state.now) }
+{
+    let value = used(env, token, given)?;
     truth(env, state, token, value)
 }
 

@@ -1,16 +1,18 @@
-//! Operators whose operands are values.
+//! Operators whose operands are values, behind the first operand: who calls has evaluated that, and gives its result.
 
-ghost use Rattle.std.specs.Prelude.{◌≡◌};
+ghost use Rattle.std.specs.Prelude.{◌≡◌, ℕ, Option};
+ghost use Rattle.pw_value.specs.declared.value.Value as value;
 ghost use Rattle.pw_typed.specs.Views.{view_expr};
 ghost use Rattle.pw_types.specs.TypedTrees as tree;
 ghost use Rattle.pw_types.specs.Views.{view_qtype};
 ghost use Rattle.pw_cmean.specs.Evaluation as meaning;
 ghost use Rattle.pw_cmean.specs.Operators.{number_for};
-ghost use Rattle.pw_cstate.specs.Shown.{view_state};
-ghost use Rattle.pw_ccalls.specs.Evaluates.{Evaluates};
+ghost use Rattle.pw_cstate.specs.Shown.{Shown, view_state};
 ghost use Rattle.pw_ccalls.specs.Views.{view_env};
+ghost use Rattle.pw_cforms.specs.Behind.{Behind, answer_act};
 
-use crate::operands::{holds, operand};
+use crate::operands::{holds, operand, truth_of};
+use pw_cacts::used;
 use pw_ccalls::{Env, Expressions, Stop};
 use pw_cstate::State;
 use pw_typed::TExpr;
@@ -19,26 +21,22 @@ use pw_value::Value;
 use std::alloc::Global;
 
 /// A unary operator.
-pub fn unary<'a, P: Expressions<'a>>(
-    alloc: Global,
-    parts: &P,
+pub fn unary<'a>(
     env: &Env<'a>,
-    state: &mut State<'a>,
-    bound: u64,
+    state: &State<'a>,
     token: usize,
     ty: &QType,
     op: UnaryOperator,
-    a: &TExpr,
+    given: Option<Value>,
 ) -> Result<Option<Value>, Stop<'a>>
-    requires { P.can_evaluate parts.now }
-    ensures { Evaluates (view_env env.now) bound (tree.Node token (view_qtype ty.now) (tree.Unary op (view_expr a.now))) (view_state state.old) result (view_state state.new) }
+    ensures { (bound : ℕ) (a : tree.Expression) → Behind (view_env env.now) bound (answer_act a) given (answer_act (tree.Node token (view_qtype ty.now) (tree.Unary op a))) (view_state state.now) result (view_state state.now) }
 {
-    let value = operand(alloc, parts, env, state, bound, token, a)?;
+    let value = used(env, token, given)?;
     let result = pw_cacts::unary(env, state, token, op, &ty.ty, value)?;
     Ok(Some(result))
 }
 
-/// A binary operator, whose left operand comes first.
+/// A binary operator, whose left operand came first.
 pub fn binary<'a, P: Expressions<'a>>(
     alloc: Global,
     parts: &P,
@@ -50,11 +48,12 @@ pub fn binary<'a, P: Expressions<'a>>(
     op: BinaryOperator,
     a: &TExpr,
     b: &TExpr,
+    given: Option<Value>,
 ) -> Result<Option<Value>, Stop<'a>>
     requires { P.can_evaluate parts.now }
-    ensures { Evaluates (view_env env.now) bound (tree.Node token (view_qtype ty.now) (tree.Binary op (view_expr a.now) (view_expr b.now))) (view_state state.old) result (view_state state.new) }
+    ensures { Behind (view_env env.now) bound (answer_act (view_expr a.now)) given (answer_act (tree.Node token (view_qtype ty.now) (tree.Binary op (view_expr a.now) (view_expr b.now)))) (view_state state.old) result (view_state state.new) }
 {
-    let left = operand(alloc, parts, env, state, bound, token, a)?;
+    let left = used(env, token, given)?;
     let right = operand(alloc, parts, env, state, bound, token, b)?;
     let types = (&a.ty.ty, &b.ty.ty);
     let result = pw_cacts::binary(env, state, token, op, types, (left, right))?;
@@ -88,13 +87,13 @@ pub fn logic<'a, P: Expressions<'a>>(
     token: usize,
     ty: &QType,
     op: LogicOperator,
-    a: &TExpr,
     b: &TExpr,
+    given: Option<Value>,
 ) -> Result<Option<Value>, Stop<'a>>
     requires { P.can_evaluate parts.now }
-    ensures { Evaluates (view_env env.now) bound (tree.Node token (view_qtype ty.now) (tree.Logic op (view_expr a.now) (view_expr b.now))) (view_state state.old) result (view_state state.new) }
+    ensures { (a : tree.Expression) → Behind (view_env env.now) bound (answer_act a) given (answer_act (tree.Node token (view_qtype ty.now) (tree.Logic op a (view_expr b.now)))) (view_state state.old) result (view_state state.new) }
 {
-    let first = holds(alloc, parts, env, state, bound, token, a)?;
+    let first = truth_of(env, state, token, given)?;
     if decides(op, first) {
         return Ok(Some(Value::Num(word(first))));
     }
@@ -111,14 +110,14 @@ pub fn cond<'a, P: Expressions<'a>>(
     bound: u64,
     token: usize,
     ty: &QType,
-    c: &TExpr,
     a: &TExpr,
     b: &TExpr,
+    given: Option<Value>,
 ) -> Result<Option<Value>, Stop<'a>>
     requires { P.can_evaluate parts.now }
-    ensures { Evaluates (view_env env.now) bound (tree.Node token (view_qtype ty.now) (tree.Cond (view_expr c.now) (view_expr a.now) (view_expr b.now))) (view_state state.old) result (view_state state.new) }
+    ensures { (c : tree.Expression) → Behind (view_env env.now) bound (answer_act c) given (answer_act (tree.Node token (view_qtype ty.now) (tree.Cond c (view_expr a.now) (view_expr b.now)))) (view_state state.old) result (view_state state.new) }
 {
-    let chosen = holds(alloc, parts, env, state, bound, token, c)?;
+    let chosen = truth_of(env, state, token, given)?;
     if chosen {
         parts.answer_of(alloc, env, state, bound, a)
     } else {
@@ -135,30 +134,22 @@ pub fn comma<'a, P: Expressions<'a>>(
     bound: u64,
     token: usize,
     ty: &QType,
-    a: &TExpr,
     b: &TExpr,
 ) -> Result<Option<Value>, Stop<'a>>
     requires { P.can_evaluate parts.now }
-    ensures { Evaluates (view_env env.now) bound (tree.Node token (view_qtype ty.now) (tree.Comma (view_expr a.now) (view_expr b.now))) (view_state state.old) result (view_state state.new) }
+    ensures { (a : tree.Expression) (given : Option value.Value) → Behind (view_env env.now) bound (answer_act a) given (answer_act (tree.Node token (view_qtype ty.now) (tree.Comma a (view_expr b.now)))) (view_state state.old) result (view_state state.new) }
 {
-    parts.answer_of(alloc, env, state, bound, a)?;
     parts.answer_of(alloc, env, state, bound, b)
 }
 
 /// A conversion.
-pub fn cast<'a, P: Expressions<'a>>(
-    alloc: Global,
-    parts: &P,
+pub fn cast<'a>(
     env: &Env<'a>,
-    state: &mut State<'a>,
-    bound: u64,
     token: usize,
     ty: &QType,
-    a: &TExpr,
+    given: Option<Value>,
 ) -> Result<Option<Value>, Stop<'a>>
-    requires { P.can_evaluate parts.now }
-    ensures { Evaluates (view_env env.now) bound (tree.Node token (view_qtype ty.now) (tree.Cast (view_expr a.now))) (view_state state.old) result (view_state state.new) }
+    ensures { (bound : ℕ) (a : tree.Expression) (here : Shown) → Behind (view_env env.now) bound (answer_act a) given (answer_act (tree.Node token (view_qtype ty.now) (tree.Cast a))) here result here }
 {
-    let answer = parts.answer_of(alloc, env, state, bound, a)?;
-    pw_cacts::cast(env, token, &ty.ty, answer)
+    pw_cacts::cast(env, token, &ty.ty, given)
 }

@@ -173,7 +173,7 @@ fn run_place<'a>(
     let Some(smaller) = within(depth, run_answer, run_place, run_statement, run_call) else {
         return Err(Stop::NoMemory);
     };
-    place_of(alloc, &smaller, env, state, bound, e)
+    place_of(alloc, &smaller, &smaller, env, state, bound, e)
 }
 
 /// A statement.

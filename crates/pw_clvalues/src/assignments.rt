@@ -1,11 +1,12 @@
-//! Assignments.
+//! Assignments, behind the left operand: who calls has found its place, and gives it.
 
+ghost use Rattle.std.specs.Prelude.{ℕ, Some};
 ghost use Rattle.pw_typed.specs.Views.{view_expr};
 ghost use Rattle.pw_types.specs.TypedTrees as tree;
 ghost use Rattle.pw_types.specs.Views.{view_qtype, view_type};
 ghost use Rattle.pw_cstate.specs.Shown.{view_state};
-ghost use Rattle.pw_ccalls.specs.Evaluates.{Evaluates, Locates};
 ghost use Rattle.pw_ccalls.specs.Views.{view_env};
+ghost use Rattle.pw_cforms.specs.Behind.{Behind, answer_act, place_act, placed_act};
 
 use pw_cacts::{assigned, old_value, put, update};
 use pw_ccalls::{Env, Expressions, Stop};
@@ -28,11 +29,11 @@ pub fn assign<'a, P: Expressions<'a>>(
     ty: &QType,
     a: &TExpr,
     b: &TExpr,
+    place: Value,
 ) -> Result<Option<Value>, Stop<'a>>
     requires { P.can_evaluate parts.now }
-    ensures { Evaluates (view_env env.now) bound (tree.Node token (view_qtype ty.now) (tree.Assign (view_expr a.now) (view_expr b.now))) (view_state state.old) result (view_state state.new) }
+    ensures { Behind (view_env env.now) bound (placed_act (view_expr a.now)) (Some place) (answer_act (tree.Node token (view_qtype ty.now) (tree.Assign (view_expr a.now) (view_expr b.now)))) (view_state state.old) result (view_state state.new) }
 {
-    let place = parts.place_of(alloc, env, state, bound, a)?;
     let value = operand(alloc, parts, env, state, bound, token, b)?;
     put(
         alloc,
@@ -58,11 +59,11 @@ pub fn assign_place<'a, P: Expressions<'a>>(
     ty: &QType,
     a: &TExpr,
     b: &TExpr,
+    place: Value,
 ) -> Result<Value, Stop<'a>>
     requires { P.can_evaluate parts.now }
-    ensures { Locates (view_env env.now) bound (tree.Node token (view_qtype ty.now) (tree.Assign (view_expr a.now) (view_expr b.now))) (view_state state.old) result (view_state state.new) }
+    ensures { Behind (view_env env.now) bound (placed_act (view_expr a.now)) (Some place) (place_act (tree.Node token (view_qtype ty.now) (tree.Assign (view_expr a.now) (view_expr b.now)))) (view_state state.old) result (view_state state.new) }
 {
-    let place = parts.place_of(alloc, env, state, bound, a)?;
     let value = operand(alloc, parts, env, state, bound, token, b)?;
     put(
         alloc,
@@ -90,11 +91,11 @@ pub fn compound<'a, P: Expressions<'a>>(
     working: &CType,
     a: &TExpr,
     b: &TExpr,
+    place: Value,
 ) -> Result<Option<Value>, Stop<'a>>
     requires { P.can_evaluate parts.now }
-    ensures { Evaluates (view_env env.now) bound (tree.Node token (view_qtype ty.now) (tree.Compound op (view_type working.now) (view_expr a.now) (view_expr b.now))) (view_state state.old) result (view_state state.new) }
+    ensures { Behind (view_env env.now) bound (placed_act (view_expr a.now)) (Some place) (answer_act (tree.Node token (view_qtype ty.now) (tree.Compound op (view_type working.now) (view_expr a.now) (view_expr b.now)))) (view_state state.old) result (view_state state.new) }
 {
-    let place = parts.place_of(alloc, env, state, bound, a)?;
     let old = old_value(env, state, token, &a.ty.ty, working, place)?;
     let right = operand(alloc, parts, env, state, bound, token, b)?;
     let types = (working, &b.ty.ty);
@@ -104,21 +105,18 @@ pub fn compound<'a, P: Expressions<'a>>(
 }
 
 /// `++` and `--`.
-pub fn step<'a, P: Expressions<'a>>(
+pub fn step<'a>(
     alloc: Global,
-    parts: &P,
     env: &Env<'a>,
     state: &mut State<'a>,
-    bound: u64,
     token: usize,
     ty: &QType,
     op: StepOperator,
     a: &TExpr,
+    place: Value,
 ) -> Result<Option<Value>, Stop<'a>>
-    requires { P.can_evaluate parts.now }
-    ensures { Evaluates (view_env env.now) bound (tree.Node token (view_qtype ty.now) (tree.Step op (view_expr a.now))) (view_state state.old) result (view_state state.new) }
+    ensures { (bound : ℕ) → Behind (view_env env.now) bound (placed_act (view_expr a.now)) (Some place) (answer_act (tree.Node token (view_qtype ty.now) (tree.Step op (view_expr a.now)))) (view_state state.old) result (view_state state.new) }
 {
-    let place = parts.place_of(alloc, env, state, bound, a)?;
     let result = pw_cacts::step(alloc, env, state, token, op, &a.ty.ty, place)?;
     Ok(Some(result))
 }

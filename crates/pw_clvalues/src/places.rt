@@ -1,118 +1,71 @@
-//! Lvalues: the places that they denote and their values.
+//! Lvalues: the places that they denote and their values, behind the first operand: who calls has evaluated that, and gives
+//! its result or its place.
 
-ghost use Rattle.std.specs.Prelude.{◌≡◌, ◌≢◌, ℕ, false, IfErr};
+ghost use Rattle.std.specs.Prelude.{◌≡◌, ◌≢◌, ℕ, false, Option, Some, IfErr};
+ghost use Rattle.pw_value.specs.declared.value.Value as value;
 ghost use Rattle.pw_typed.specs.Views.{view_expr};
 ghost use Rattle.pw_types.specs.TypeTrees as types;
 ghost use Rattle.pw_types.specs.TypedTrees as tree;
 ghost use Rattle.pw_types.specs.Views.{view_qtype};
 ghost use Rattle.pw_cmean.specs.Evaluation as meaning;
 ghost use Rattle.pw_cstate.specs.Shown.{Shown, view_state};
-ghost use Rattle.pw_ccalls.specs.Evaluates.{Evaluates, Locates};
+ghost use Rattle.pw_ccalls.specs.Evaluates.{Locates};
 ghost use Rattle.pw_ccalls.specs.Views.{view_env};
+ghost use Rattle.pw_cforms.specs.Behind.{Behind, answer_act, place_act, placed_act};
 ghost use Rattle.pw_clvalues.specs.Lvalues.{denotes};
 
-use pw_cacts::{advance, value_at};
+use pw_cacts::{advance, used, value_at};
 use pw_ccalls::{Ending, Env, Expressions, Stop};
-use pw_cforms::operands::{holds, operand};
+use pw_cforms::operands::truth_of;
 use pw_cstate::State;
 use pw_typed::TExpr;
 use pw_types::QType;
 use pw_value::Value;
 use std::alloc::Global;
 
-/// The address that an array or a function decays to.
-pub fn decay<'a, P: Expressions<'a>>(
-    alloc: Global,
-    parts: &P,
+/// The place of a member, behind that of the whole.
+pub fn member_place<'a>(
     env: &Env<'a>,
-    state: &mut State<'a>,
-    bound: u64,
+    state: &State<'a>,
     token: usize,
-    ty: &QType,
-    a: &TExpr,
-) -> Result<Option<Value>, Stop<'a>>
-    requires { P.can_evaluate parts.now }
-    ensures { Evaluates (view_env env.now) bound (tree.Node token (view_qtype ty.now) (tree.Decay (view_expr a.now))) (view_state state.old) result (view_state state.new) }
-{
-    let place = parts.place_of(alloc, env, state, bound, a)?;
-    Ok(Some(place))
-}
-
-/// `&`.
-pub fn address<'a, P: Expressions<'a>>(
-    alloc: Global,
-    parts: &P,
-    env: &Env<'a>,
-    state: &mut State<'a>,
-    bound: u64,
-    token: usize,
-    ty: &QType,
-    a: &TExpr,
-) -> Result<Option<Value>, Stop<'a>>
-    requires { P.can_evaluate parts.now }
-    ensures { Evaluates (view_env env.now) bound (tree.Node token (view_qtype ty.now) (tree.Address (view_expr a.now))) (view_state state.old) result (view_state state.new) }
-{
-    let place = parts.place_of(alloc, env, state, bound, a)?;
-    Ok(Some(place))
-}
-
-/// The place of a member.
-pub fn member_place<'a, P: Expressions<'a>>(
-    alloc: Global,
-    parts: &P,
-    env: &Env<'a>,
-    state: &mut State<'a>,
-    bound: u64,
-    token: usize,
-    ty: &QType,
-    a: &TExpr,
     offset: u32,
+    place: Value,
 ) -> Result<Value, Stop<'a>>
-    requires { P.can_evaluate parts.now }
-    ensures { Locates (view_env env.now) bound (tree.Node token (view_qtype ty.now) (tree.Member (view_expr a.now) offset)) (view_state state.old) result (view_state state.new) }
+    ensures { (bound : ℕ) (ty : types.QType) (a : tree.Expression) → Behind (view_env env.now) bound (placed_act a) (Some place) (place_act (tree.Node token ty (tree.Member a offset))) (view_state state.now) result (view_state state.now) }
 {
-    let place = parts.place_of(alloc, env, state, bound, a)?;
     advance(env, state, token, place, offset)
 }
 
-/// The value of a member.
-pub fn member<'a, P: Expressions<'a>>(
-    alloc: Global,
-    parts: &P,
+/// The value of a member, behind the place of the whole.
+pub fn member<'a>(
     env: &Env<'a>,
-    state: &mut State<'a>,
-    bound: u64,
+    state: &State<'a>,
     token: usize,
     ty: &QType,
-    a: &TExpr,
     offset: u32,
+    place: Value,
 ) -> Result<Option<Value>, Stop<'a>>
-    requires { P.can_evaluate parts.now }
-    ensures { Evaluates (view_env env.now) bound (tree.Node token (view_qtype ty.now) (tree.Member (view_expr a.now) offset)) (view_state state.old) result (view_state state.new) }
+    ensures { (bound : ℕ) (a : tree.Expression) → Behind (view_env env.now) bound (placed_act a) (Some place) (answer_act (tree.Node token (view_qtype ty.now) (tree.Member a offset))) (view_state state.now) result (view_state state.now) }
 {
-    let place = member_place(alloc, parts, env, state, bound, token, ty, a, offset)?;
-    value_at(env, state, token, ty, place)
+    let at = member_place(env, state, token, offset, place)?;
+    value_at(env, state, token, ty, at)
 }
 
-/// The value of what a pointer points to.
-pub fn deref<'a, P: Expressions<'a>>(
-    alloc: Global,
-    parts: &P,
+/// The value of what a pointer points to, behind the pointer.
+pub fn deref<'a>(
     env: &Env<'a>,
-    state: &mut State<'a>,
-    bound: u64,
+    state: &State<'a>,
     token: usize,
     ty: &QType,
-    a: &TExpr,
+    given: Option<Value>,
 ) -> Result<Option<Value>, Stop<'a>>
-    requires { P.can_evaluate parts.now }
-    ensures { Evaluates (view_env env.now) bound (tree.Node token (view_qtype ty.now) (tree.Deref (view_expr a.now))) (view_state state.old) result (view_state state.new) }
+    ensures { (bound : ℕ) (a : tree.Expression) → Behind (view_env env.now) bound (answer_act a) given (answer_act (tree.Node token (view_qtype ty.now) (tree.Deref a))) (view_state state.now) result (view_state state.now) }
 {
-    let place = operand(alloc, parts, env, state, bound, token, a)?;
+    let place = used(env, token, given)?;
     value_at(env, state, token, ty, place)
 }
 
-/// The place of a structure or union that `?:` chooses.
+/// The place of a structure or union that `?:` chooses, behind its first operand.
 pub fn cond_place<'a, P: Expressions<'a>>(
     alloc: Global,
     parts: &P,
@@ -121,14 +74,14 @@ pub fn cond_place<'a, P: Expressions<'a>>(
     bound: u64,
     token: usize,
     ty: &QType,
-    c: &TExpr,
     a: &TExpr,
     b: &TExpr,
+    given: Option<Value>,
 ) -> Result<Value, Stop<'a>>
     requires { P.can_evaluate parts.now }
-    ensures { Locates (view_env env.now) bound (tree.Node token (view_qtype ty.now) (tree.Cond (view_expr c.now) (view_expr a.now) (view_expr b.now))) (view_state state.old) result (view_state state.new) }
+    ensures { (c : tree.Expression) → Behind (view_env env.now) bound (answer_act c) given (place_act (tree.Node token (view_qtype ty.now) (tree.Cond c (view_expr a.now) (view_expr b.now)))) (view_state state.old) result (view_state state.new) }
 {
-    let chosen = holds(alloc, parts, env, state, bound, token, c)?;
+    let chosen = truth_of(env, state, token, given)?;
     if chosen {
         parts.place_of(alloc, env, state, bound, a)
     } else {
@@ -136,7 +89,7 @@ pub fn cond_place<'a, P: Expressions<'a>>(
     }
 }
 
-/// The place of a structure or union behind a comma.
+/// The place of a structure or union behind a comma, whose left operand's result is dropped.
 pub fn comma_place<'a, P: Expressions<'a>>(
     alloc: Global,
     parts: &P,
@@ -145,31 +98,19 @@ pub fn comma_place<'a, P: Expressions<'a>>(
     bound: u64,
     token: usize,
     ty: &QType,
-    a: &TExpr,
     b: &TExpr,
 ) -> Result<Value, Stop<'a>>
     requires { P.can_evaluate parts.now }
-    ensures { Locates (view_env env.now) bound (tree.Node token (view_qtype ty.now) (tree.Comma (view_expr a.now) (view_expr b.now))) (view_state state.old) result (view_state state.new) }
+    ensures { (a : tree.Expression) (given : Option value.Value) → Behind (view_env env.now) bound (answer_act a) given (place_act (tree.Node token (view_qtype ty.now) (tree.Comma a (view_expr b.now)))) (view_state state.old) result (view_state state.new) }
 {
-    parts.answer_of(alloc, env, state, bound, a)?;
     parts.place_of(alloc, env, state, bound, b)
 }
 
-/// The place of what a pointer points to.
-pub fn deref_place<'a, P: Expressions<'a>>(
-    alloc: Global,
-    parts: &P,
-    env: &Env<'a>,
-    state: &mut State<'a>,
-    bound: u64,
-    token: usize,
-    ty: &QType,
-    a: &TExpr,
-) -> Result<Value, Stop<'a>>
-    requires { P.can_evaluate parts.now }
-    ensures { Locates (view_env env.now) bound (tree.Node token (view_qtype ty.now) (tree.Deref (view_expr a.now))) (view_state state.old) result (view_state state.new) }
+/// The place of what a pointer points to, behind the pointer.
+pub fn deref_place<'a>(env: &Env<'a>, token: usize, given: Option<Value>) -> Result<Value, Stop<'a>>
+    ensures { (bound : ℕ) (ty : types.QType) (a : tree.Expression) (here : Shown) → Behind (view_env env.now) bound (answer_act a) given (place_act (tree.Node token ty (tree.Deref a))) here result here }
 {
-    operand(alloc, parts, env, state, bound, token, a)
+    used(env, token, given)
 }
 
 /// What denotes no place is so in no accepted program.

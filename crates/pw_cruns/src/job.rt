@@ -1,5 +1,6 @@
 //! A program that is to be run, as its rows say.
 
+use crate::ones::return_ones;
 use pw_check::{CheckKind, check};
 use pw_front::{FrontError, front};
 use pw_rows::Text;
@@ -29,6 +30,8 @@ pub struct Job {
     pub bound: u64,
     pub depth: usize,
     pub input: Vec<u8>,
+    /// Where it is not 0, the last function of each module returns the sum of so many ones in place of its body.
+    pub ones: u32,
 }
 
 impl Job {
@@ -42,6 +45,7 @@ impl Job {
             bound: 100000,
             depth: 4000,
             input: Vec::new(alloc),
+            ones: 0,
         }
     }
 
@@ -57,10 +61,18 @@ impl Job {
         }
     }
 
+    /// The same, whose last function returns ones where that is set.
+    fn add_typed(&mut self, text: &mut Text, name: &str, mut tree: TModule) {
+        if self.ones > 0 && return_ones(text.alloc(), &mut tree, self.ones).is_err() {
+            text.cut();
+        }
+        self.add_checked(text, name, ManuallyDrop::new(tree));
+    }
+
     /// Adds a module by its syntax tree, where checking takes it.
     fn add_tree(&mut self, text: &mut Text, name: &str, tree: &Module) {
         match check(text.alloc(), tree) {
-            Ok(typed) => self.add_checked(text, name, ManuallyDrop::new(typed)),
+            Ok(typed) => self.add_typed(text, name, typed),
             Err(fault) => match fault.kind {
                 CheckKind::NoMemory => text.cut(),
                 _ => self.is_refused = true,
@@ -98,6 +110,7 @@ impl Job {
             "stack" => self.stack = value.parse::<u32>().unwrap_or(0),
             "bound" => self.bound = value.parse::<u64>().unwrap_or(0),
             "depth" => self.depth = value.parse::<usize>().unwrap_or(0),
+            "ones" => self.ones = value.parse::<u32>().unwrap_or(0),
             "input" => self.input = text.spelled(value),
             _ => self.add_frame(text, value),
         }

@@ -5,12 +5,15 @@
 //! - `=stack N`, `=bound N`, `=input BYTES` (in hexadecimal), `=frame NAME N`, `=depth N`: for the next program alone;
 //!   with none the stack is the greatest that there is, the bound is 100,000, there is no input, a frame takes no room,
 //!   and what nests deeper than 4,000 levels is want of memory.
+//! - `=ones N`: in the next program the last function of each module returns `1 + 1 + ..` of so many operands in place of
+//!   its body, as a tree: no text may be so long.
 //! - `:NAME TEXT`: a module of the next program; modules come in byte order of their names.
 //! - `+TEXT`: the last module, which is called `a`; and then the program runs. `!` runs those that came.
 #![tactic(auto)]
 
 mod answers;
 mod job;
+mod ones;
 
 use answers::push_run;
 use job::Job;

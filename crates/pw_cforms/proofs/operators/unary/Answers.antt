@@ -1,23 +1,28 @@
-use Rattle.std.proofs.Common.{rules}
+use Rattle.std.proofs.Common.{rules, refl, Some}
 use Rattle.pw_cmean.specs.Evaluation.{answer_of}
 use Rattle.pw_ccalls.proofs.AnswerLaws.{then_ok, then_err, gives}
-use Rattle.std.proofs.Common.{Some}
+use Rattle.pw_cforms.proofs.Firsts.{ran}
 use Rattle.pw_cforms.proofs.operators.unary.Goals as goal
 
 pub returns-in_err-value : goal.returns-in_err-value
 unfolding answer_of
-returns-in_err-value g c =
-    then_err _ c.operand.ensures c.in_err-value.was (search rules)
+returns-in_err-value c bound a = record {
+  answers = λ start run. then_err _ (then_ok _ (ran run) refl (c.used.ensures.answers _)) c.in_err-value.was (search rules);
+}
 
 pub returns-in_err-result : goal.returns-in_err-result
 unfolding answer_of
-returns-in_err-result g c =
-    then_ok _ c.operand.ensures c.in_ok-value.was
-    (then_err _ c.unary.ensures.answers c.in_err-result.was (search rules))
+returns-in_err-result c bound a = record {
+  answers = λ start run.
+      then_ok _ (then_ok _ (ran run) refl (c.used.ensures.answers _)) c.in_ok-value.was
+      (then_err _ c.unary.ensures.answers c.in_err-result.was (search rules));
+}
 
 pub returns : goal.returns
 unfolding answer_of
-returns g c =
-    then_ok _ c.operand.ensures c.in_ok-value.was
-    (then_ok _ c.unary.ensures.answers c.in_ok-result.was
-    (gives (Some c.in_ok-result.result)))
+returns c bound a = record {
+  answers = λ start run.
+      then_ok _ (then_ok _ (ran run) refl (c.used.ensures.answers _)) c.in_ok-value.was
+      (then_ok _ c.unary.ensures.answers c.in_ok-result.was
+      (gives (Some c.in_ok-result.result)));
+}

@@ -1,15 +1,12 @@
-use Rattle.std.proofs.Common.{rules}
+use Rattle.std.proofs.Common.{refl}
 use Rattle.pw_cmean.specs.Evaluation.{answer_of}
-use Rattle.pw_ccalls.proofs.AnswerLaws.{then_ok, then_err}
+use Rattle.pw_ccalls.proofs.AnswerLaws.{then_ok}
+use Rattle.pw_cforms.proofs.Firsts.{ran_place}
 use Rattle.pw_clvalues.proofs.places.member_place.Goals as goal
-
-pub returns-in_err-place : goal.returns-in_err-place
-unfolding answer_of
-returns-in_err-place g c =
-    then_err _ c.place_of.ensures c.in_err-place.was (search rules)
 
 pub returns : goal.returns
 unfolding answer_of
-returns g c =
-    then_ok _ c.place_of.ensures c.in_ok-place.was
-    (c.advance.ensures.answers)
+returns c bound ty a = record {
+  answers = λ start run.
+      then_ok _ (ran_place run) refl c.advance.ensures.answers;
+}

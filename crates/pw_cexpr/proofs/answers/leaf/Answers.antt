@@ -7,7 +7,7 @@ use Rattle.pw_cmean.specs.Evaluation.{answer_of}
 use Rattle.pw_cmean.specs.SourceRun.{calls}
 use Rattle.pw_ccalls.specs.Views.{view_env}
 use Rattle.pw_ccalls.proofs.AnswerLaws.{same, gives}
-use Rattle.pw_cexpr.proofs.expression.leaf.Goals as goal
+use Rattle.pw_cexpr.proofs.answers.leaf.Goals as goal
 
 pub returns-in-Number : goal.returns-in-Number
 unfolding answer_of view_form

@@ -1,0 +1,6 @@
+use Rattle.pw_typed.specs.Views.{view_form}
+use Rattle.pw_cexpr.proofs.FirstLaws.{leaf_first, alone}
+use Rattle.pw_cexpr.proofs.answers.leaf_alone.Goals as goal
+
+pub returns : goal.returns
+returns g c bound given = alone (leaf_first (view_form c.args.e.now.form) g) (c.leaf.ensures bound)
