@@ -16,9 +16,7 @@ use crate::steps::{Step, Suffixed, joined, step_gathered};
 use pw_checking::{Declared, Derivation, Phrases, State, fault, whole_rule};
 use pw_leaves::length_rule;
 use pw_token::Feature;
-use pw_tree::{
-    Core, Declarator, Expr, Suffix, declarators_show_their_lists, first_of_words,
-};
+use pw_tree::{Core, Declarator, Expr, Suffix, declarators_show_their_lists, first_of_words};
 use pw_walk::{CheckFault, CheckKind};
 use std::alloc::Global;
 
