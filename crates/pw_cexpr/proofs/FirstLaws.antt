@@ -156,7 +156,7 @@ module _ {world : World} {start behind : Shown} {ending : Ending} where
     where
       by : (o : Outcome Value) → Shows world (go_on o (λ p. give (Some p))) (Err ending) behind → Shows world o (Err ending) behind
       by (Gives p t) (is, at) = cc is
-      by (Ends other t) (is, at) = (is, at)
+      by (Ends other t) (is, at) = let same : other ≡ ending = cc is in (ap Err same, at)
 
   -- what gives does not end
   never : {B : Type 0} {act : Act B} → Runs world (give {A = Option Value} None) start (Err ending) behind → Runs world act start (Err ending) behind
