@@ -284,6 +284,13 @@ pub by_form : {e : Env} {bound : ℕ} {given : Option Value} {form shows : Form}
 by_form {e = e} {bound = bound} {given = given} {here = here} {behind = behind} {r = r} t ty is b =
     subst (λ f. Behind e bound (act_first (answer_first f)) given (answer_act (Node t ty f)) here r behind) (sym is) b
 
+-- what is asked by another name
+pub by_asked : {e : Env} {bound : ℕ} {given : Option Value} {asked shows : Asked} {here behind : Shown} {r : Result (Option Value) Stop}
+    → asked ≡ shows → Behind e bound (act_first (first_of shows)) given (act_of shows) here r behind
+    → Behind e bound (act_first (first_of asked)) given (act_of asked) here r behind
+by_asked {e = e} {bound = bound} {given = given} {here = here} {behind = behind} {r = r} is b =
+    subst (λ a. Behind e bound (act_first (first_of a)) given (act_of a) here r behind) (sym is) b
+
 -- the address that an array or a function decays to, and that `&` gives, is the place that is found first
 pub placed_decay : {e : Env} {bound : ℕ} {given : Option Value} {here : Shown} (t : ℕ) (ty : QType) (a : Expression)
     → Behind e bound (act_first (answer_first (Decay a))) given (answer_act (Node t ty (Decay a))) here (Ok given) here
