@@ -7,7 +7,7 @@ use Rattle.pw_types.specs.TypedTrees.{Expression, Form, Node, Number, Str, Local
 use Rattle.pw_cmean.specs.Worlds.{World}
 use Rattle.pw_cmean.specs.Acts.{Act, Ending, Outcome, Gives, Ends, give, go_on, ◌>>=◌}
 use Rattle.pw_cmean.specs.Evaluation.{Env, answer_of}
-use Rattle.pw_cstate.specs.Shown.{Shown, shown}
+use Rattle.pw_cstate.specs.Shown.{Shown}
 use Rattle.pw_cstate.specs.Runs.{Shows, Runs}
 use Rattle.pw_cstate.proofs.RunLaws.{ends}
 use Rattle.pw_ccalls.specs.declared.ending.Stop.{Stop}
