@@ -12,6 +12,7 @@ that they know.
 """
 import os
 import re
+import resource
 import subprocess
 import sys
 import tempfile
@@ -117,6 +118,9 @@ def answer(program):
 
 
 def main():
+    # clang goes down a chain of operands by recursion, and a chain of the table is longer than its usual stack is deep
+    most = resource.getrlimit(resource.RLIMIT_STACK)[1]
+    resource.setrlimit(resource.RLIMIT_STACK, (most, most))
     rows = programs_of((BENCH / "cruns.txt").read_text())
     programs = [row for row in rows if isinstance(row, Program)]
     with ThreadPoolExecutor(2) as pool:

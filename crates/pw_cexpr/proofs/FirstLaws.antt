@@ -7,7 +7,7 @@ use Rattle.pw_types.specs.TypedTrees.{Expression, Form, Node, Number, Str, Local
 use Rattle.pw_cmean.specs.Worlds.{World}
 use Rattle.pw_cmean.specs.Acts.{Act, Ending, Outcome, Gives, Ends, give, go_on, ◌>>=◌}
 use Rattle.pw_cmean.specs.Evaluation.{Env, answer_of}
-use Rattle.pw_cstate.specs.Shown.{Shown, shown}
+use Rattle.pw_cstate.specs.Shown.{Shown}
 use Rattle.pw_cstate.specs.Runs.{Shows, Runs}
 use Rattle.pw_cstate.proofs.RunLaws.{ends}
 use Rattle.pw_ccalls.specs.declared.ending.Stop.{Stop}
@@ -156,7 +156,7 @@ module _ {world : World} {start behind : Shown} {ending : Ending} where
     where
       by : (o : Outcome Value) → Shows world (go_on o (λ p. give (Some p))) (Err ending) behind → Shows world o (Err ending) behind
       by (Gives p t) (is, at) = cc is
-      by (Ends other t) (is, at) = (is, at)
+      by (Ends other t) (is, at) = let same : other ≡ ending = cc is in (ap Err same, at)
 
   -- what gives does not end
   never : {B : Type 0} {act : Act B} → Runs world (give {A = Option Value} None) start (Err ending) behind → Runs world act start (Err ending) behind
@@ -283,6 +283,13 @@ pub by_form : {e : Env} {bound : ℕ} {given : Option Value} {form shows : Form}
     → Behind e bound (act_first (answer_first form)) given (answer_act (Node t ty form)) here r behind
 by_form {e = e} {bound = bound} {given = given} {here = here} {behind = behind} {r = r} t ty is b =
     subst (λ f. Behind e bound (act_first (answer_first f)) given (answer_act (Node t ty f)) here r behind) (sym is) b
+
+-- what is asked by another name
+pub by_asked : {e : Env} {bound : ℕ} {given : Option Value} {asked shows : Asked} {here behind : Shown} {r : Result (Option Value) Stop}
+    → asked ≡ shows → Behind e bound (act_first (first_of shows)) given (act_of shows) here r behind
+    → Behind e bound (act_first (first_of asked)) given (act_of asked) here r behind
+by_asked {e = e} {bound = bound} {given = given} {here = here} {behind = behind} {r = r} is b =
+    subst (λ a. Behind e bound (act_first (first_of a)) given (act_of a) here r behind) (sym is) b
 
 -- the address that an array or a function decays to, and that `&` gives, is the place that is found first
 pub placed_decay : {e : Env} {bound : ℕ} {given : Option Value} {here : Shown} (t : ℕ) (ty : QType) (a : Expression)

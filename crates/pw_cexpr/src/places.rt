@@ -35,7 +35,8 @@ fn place_alone<'a>(alloc: Global, env: &Env<'a>, e: &TExpr) -> Result<Value, Sto
         TForm::Logic(_, _, _) | TForm::Compound(_, _, _, _) | TForm::Step(_, _) => no_place(),
         TForm::Cast(_) | TForm::Decay(_) | TForm::Address(_) => no_place(),
         TForm::Call(_, _) | TForm::CallValue(_, _) => no_place(),
-        _ => unreachable!(),
+        TForm::Cond(_, _, _) | TForm::Comma(_, _) | TForm::Assign(_, _) => unreachable!(),
+        TForm::Member(_, _) | TForm::Deref(_) => unreachable!(),
     }
 }
 

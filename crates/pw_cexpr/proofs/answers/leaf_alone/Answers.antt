@@ -3,4 +3,4 @@ use Rattle.pw_cexpr.proofs.FirstLaws.{leaf_first, alone}
 use Rattle.pw_cexpr.proofs.answers.leaf_alone.Goals as goal
 
 pub returns : goal.returns
-returns g c bound given = alone (leaf_first (view_form c.args.e.now.form) g) (c.leaf.ensures bound)
+returns c bound given = alone (leaf_first (view_form c.args.e.now.form) c.requires) (c.leaf.ensures bound)

@@ -6,7 +6,7 @@ use Rattle.pw_cexpr.proofs.edges.edge_below.Given as goal
 
 -- what is evaluated first of the last node is left
 abbrev pub invariant-loop-first : goal.invariant-loop-first
-invariant-loop-first l = Leads (first_of (view_asked l.asked)) (map view_asked l.nodes.items) (first_of (view_asked l.node))
+invariant-loop-first l = Leads (first_of (view_asked l.fn.asked)) (map view_asked l.nodes.items) (first_of (view_asked l.node))
 
 abbrev pub decreases-loop-first : goal.decreases-loop-first
 decreases-loop-first l = size-TForm (expression_in l.node).form

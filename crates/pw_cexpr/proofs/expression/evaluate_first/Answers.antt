@@ -33,7 +33,7 @@ pub returns : goal.returns
 returns g c =
     let e = view_env c.args.env.now in
     let inv = c.loop-last.invariant in
-    let none : length c.loop-last.below.items ≡ 0 = omega (arith, c.in-None.ensures.cases.0, c.loop-last.below.ok.0) in
+    let none : length c.loop-last.below.items ≡ 0 = omega (arith, c.in_default.ensures.cases.0, c.loop-last.below.ok.0) in
     let end = leads_end view_asked (first_of (view_asked c.args.asked)) c.loop-last.below.items inv.0 none inv.1 in
     record {
       given = subst (λ f. Runs e.world (act_first f e c.args.bound) (view_state c.args.state.now) (Ok c.loop-last.given) (view_state c.loop-last.state)) (sym end) inv.2;

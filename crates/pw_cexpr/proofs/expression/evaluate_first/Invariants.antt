@@ -10,7 +10,7 @@ use Rattle.pw_cexpr.proofs.expression.evaluate_first.Given as goal
 abbrev pub invariant-loop-last : goal.invariant-loop-last
 invariant-loop-last g l =
     (rest : Option Asked)
-    × Leads (first_of (view_asked l.asked)) (map view_asked l.below.items) rest
+    × Leads (first_of (view_asked l.fn.asked)) (map view_asked l.below.items) rest
     × Runs (view_env l.env).world (act_first rest (view_env l.env) l.bound) (view_state l.initial.state) (Ok l.given) (view_state l.state)
 
 abbrev pub decreases-loop-last : goal.decreases-loop-last

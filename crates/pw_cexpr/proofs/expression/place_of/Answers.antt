@@ -1,4 +1,4 @@
-use Rattle.std.proofs.Common.{rules, ap, sym, subst, Ok, Some}
+use Rattle.std.proofs.Common.{rules}
 use Rattle.pw_cexpr.proofs.FirstLaws.{place_found, place_stopped}
 use Rattle.pw_cexpr.proofs.expression.place_of.Goals as goal
 

@@ -3,4 +3,4 @@ use Rattle.pw_cexpr.proofs.FirstLaws.{alone_first, alone}
 use Rattle.pw_cexpr.proofs.places.lone_place.Goals as goal
 
 pub returns : goal.returns
-returns g c bound given s = alone (alone_first (view_form c.args.e.now.form) g) (c.place_alone.ensures bound s)
+returns c bound given s = alone (alone_first (view_form c.args.e.now.form) c.requires) (c.place_alone.ensures bound s)
