@@ -1,10 +1,11 @@
 -- The numbers of nodes with lists in them, by those of their parts.
-use Rattle.std.specs.Prelude.{ℕ, ◌≡◌, Option, List, All}
+use Rattle.std.specs.Prelude.{ℕ, ◌≡◌, Option, List, All, IfSome}
 use Rattle.std.specs.declared.alloc.Global.{Global}
 use Rattle.std.specs.declared.boxed.Box.{Box}
 use Rattle.std.specs.declared.vec.Vec.{Vec}
 use Rattle.std.proofs.Common.{ap, sym, subst, ◌∙◌}
-use Rattle.pw_typed.specs.Views.{view_form, view_expr, view_exprs, view_initialisers, view_stmt_form, view_stmts, view_arms, view_otherwise}
+use Rattle.pw_types.specs.Spines.{first_in}
+use Rattle.pw_typed.specs.Views.{view_form, view_exprs, view_initialisers, view_stmt_form, view_stmts, view_arms, view_otherwise}
 use Rattle.pw_typed.specs.declared.tree.Arm.{Arm}
 use Rattle.pw_typed.specs.declared.tree.Initialiser.{Initialiser}
 use Rattle.pw_typed.specs.declared.tree.Symbol.{Symbol}
@@ -21,10 +22,10 @@ use Rattle.pw_well_typed.specs.Words.{HasWords, WordsInArms, WordsInElse, WordsI
 pub call_words : (f : TForm) (s : Symbol) (args : Vec TExpr Global) (es : List TExpr) → f ≡ form.Call s args → es ≡ args.items → AreWordsOf (view_exprs es) → AreWordsIn (view_form f)
 call_words f s args es is same h = subst AreWordsIn (sym (ap view_form is ∙ call_view s args)) (subst (λ xs. AreWordsOf (view_exprs xs)) same h)
 
-pub call_value_words : (f : TForm) (a : Box TExpr Global) (args : Vec TExpr Global) (e : TExpr) (es : List TExpr) → f ≡ form.CallValue a args → e ≡ a.value → es ≡ args.items → AreWords (view_expr e) → AreWordsOf (view_exprs es)
-    → AreWordsIn (view_form f)
-call_value_words f a args e es is one same h k =
-    subst AreWordsIn (sym (ap view_form is ∙ call_value_view a args)) (subst (λ x. AreWords (view_expr x)) one h, subst (λ xs. AreWordsOf (view_exprs xs)) same k)
+pub call_value_words : (f : TForm) (a : Box TExpr Global) (args : Vec TExpr Global) (es : List TExpr) → f ≡ form.CallValue a args → es ≡ args.items → AreWordsOf (view_exprs es)
+    → IfSome (first_in (view_form f)) AreWords → AreWordsIn (view_form f)
+call_value_words f a args es is same k =
+    subst (λ v. IfSome (first_in v) AreWords → AreWordsIn v) (sym (ap view_form is ∙ call_value_view a args)) (λ h. (h, subst (λ xs. AreWordsOf (view_exprs xs)) same k))
 
 pub block_words : (t : ℕ) (f : TStmtForm) (first count : ℕ) (initialisers : Vec Initialiser Global) (items : Vec TStmt Global) (is : List Initialiser) (ss : List TStmt) → f ≡ stmt.Block first count initialisers items
     → is ≡ initialisers.items → ss ≡ items.items → All HasWords (view_initialisers is) → WordsInStatements (view_stmts ss) → WordsInStatement (view_stmt_form t f)

@@ -1,45 +1,52 @@
 //! The numbers of a typed tree: each is one of 32 bits, since the tree's types hold it so.
 
-ghost use Rattle.std.specs.Prelude.{All, map};
+ghost use Rattle.std.specs.Prelude.{All, IfSome, map};
 ghost use Rattle.pw_typed.specs.Views as view;
+ghost use Rattle.pw_types.specs.Spines.{first_of};
 ghost use Rattle.pw_well_typed.specs.Lawful.{AreWords, AreWordsOf};
 ghost use Rattle.pw_well_typed.specs.Words.{AreWordsInModule, HasOffset, HasWords, HasWordsIfAny, WordsInArms, WordsInElse, WordsInItems, WordsInStatement, WordsInStatements};
 
 use pw_typed::{
     Arm, Initialiser, TExpr, TForm, TFunction, TGlobal, TItem, TModule, TStmt, TStmtForm,
+    first_operand,
 };
 
 /// The numbers of an expression.
 #[cycle(expr_words)]
-#[tactic(auto, unfolding(pw_typed::specs::Views::view_form), using(pw_typed::proofs::Rows::call_view, pw_typed::proofs::Rows::call_value_view))]
 fn expr_words(e: &TExpr)
     ensures { AreWords (view.view_expr e.now) }
+{
+    node_words(e);
+    let mut node = e;
+    while let Some(first) = first_operand(node) {
+        node_words(first);
+        node = first;
+    }
+}
+
+/// The number of a node, and those of its operands behind the first: with its first operand's they are all that it has.
+#[cycle(expr_words)]
+#[tactic(auto, unfolding(pw_typed::specs::Views::view_form), using(pw_typed::proofs::Rows::call_view, pw_typed::proofs::Rows::call_value_view))]
+fn node_words(e: &TExpr)
+    ensures { IfSome (first_of (view.view_expr e.now)) AreWords → AreWords (view.view_expr e.now) }
 {
     match &e.form {
         TForm::Number(number) => {
             let _word = *number;
         }
         TForm::Str(_) | TForm::Local(_) | TForm::Global(_) | TForm::Function(_) => {}
-        TForm::Unary(_, a) | TForm::Step(_, a) | TForm::Member(a, _) => expr_words(a),
-        TForm::Cast(a) | TForm::Decay(a) | TForm::Deref(a) | TForm::Address(a) => expr_words(a),
-        TForm::Binary(_, a, b) | TForm::Logic(_, a, b) | TForm::Compound(_, _, a, b) => {
-            expr_words(a);
-            expr_words(b);
+        TForm::Unary(_, _) | TForm::Step(_, _) | TForm::Member(_, _) => {}
+        TForm::Cast(_) | TForm::Decay(_) | TForm::Deref(_) | TForm::Address(_) => {}
+        TForm::Binary(_, _, b) | TForm::Logic(_, _, b) | TForm::Compound(_, _, _, b) => {
+            expr_words(b)
         }
-        TForm::Comma(a, b) | TForm::Assign(a, b) => {
-            expr_words(a);
-            expr_words(b);
-        }
-        TForm::Cond(a, b, c) => {
-            expr_words(a);
+        TForm::Comma(_, b) | TForm::Assign(_, b) => expr_words(b),
+        TForm::Cond(_, b, c) => {
             expr_words(b);
             expr_words(c);
         }
         TForm::Call(_, args) => words_of_all(args),
-        TForm::CallValue(a, args) => {
-            expr_words(a);
-            words_of_all(args);
-        }
+        TForm::CallValue(_, args) => words_of_all(args),
     }
 }
 
