@@ -1,11 +1,16 @@
 //! A folder of files, whose calls answer with the library's errors.
 
-ghost use Rattle.std.specs.Prelude.{◌≡◌, ◌≢◌, ◌↔◌, ◌⊎◌, ◌++◌, ◌∷◌, [], Option, None, Some, Ok, Err, IfOk, IfErr, IfSome, IsErrAnd, IsOk, IsOkAnd, IsTrue, OnOk, OnErr, false, map, take, true, string_bytes, string_cmp};
-ghost use Rattle.std.specs.Fs.{IsDir, dir_entry_name, file_type};
+ghost use Rattle.std.specs.Prelude.{◌≡◌, ◌≢◌, ◌↔◌, ◌⊎◌, ◌++◌, ◌∷◌, [], Option, Result, None, Some, Ok, Err, IfOk, IfErr, IfSome, IsErrAnd, IsOk, IsOkAnd, IsTrue, OnOk, OnErr, false, map, take, true, string_bytes, string_cmp};
+ghost use Rattle.std.specs.Fn.{FnOnceReturnsAt, FnReturnsAt};
+ghost use Rattle.std.specs.Fs.{IsDir, file_type};
+ghost use Rattle.std.specs.Iterator.{IsFinite};
 ghost use Rattle.std.specs.List.Sorted.{IsSorted};
+ghost use Rattle.std.specs.declared.fs.attrs.Metadata.{Metadata};
+ghost use Rattle.std.specs.declared.io.Error.{Error};
 ghost use Rattle.std.specs.IoError.{error_kind};
 ghost use Rattle.std.specs.declared.io.ErrorKind.{ErrorKind};
 ghost use Rattle.pw_io.specs.Files.{Told, Keeps, ListsNames, Puts, PutsPart, Removes};
+ghost use Rattle.pw_system.specs.Entries.{FailsAt, FailsInList, GivesFile, ListsFiles, PutsEntry, PutsName};
 ghost use Rattle.pw_system.specs.Faults.{TellsKind};
 ghost use Rattle.pw_system.specs.Folders.{IsAbsent, Opens};
 
@@ -130,6 +135,7 @@ fn push_name(alloc: Global, names: &mut Vec<String>, name: &str, is_file: bool) 
     ensures file { is_file ≡ true → OnOk result (map string_bytes names.new.items ≡ map string_bytes names.old.items ++ name.now ∷ []) }
     ensures same { is_file ≡ false → names.new ≡ names.old }
     ensures done { is_file ≡ false → IsOk result }
+    ensures memory { IfErr result (λ e. error_kind e ≡ ErrorKind.OutOfMemory) }
 {
     if is_file {
         names.push(String::from_str(alloc, name)?)?;
@@ -137,45 +143,64 @@ fn push_name(alloc: Global, names: &mut Vec<String>, name: &str, is_file: bool) 
     Ok(())
 }
 
-/// Puts the name of an entry behind others, where it is a text and that of a file.
-fn push_entry<R: Files + AllocGlobal + Clone + Drop>(
+/// Puts a name behind others, where what is told of it says that it is a file's.
+fn push_told(
     alloc: Global,
-    rt: &R,
+    names: &mut Vec<String>,
+    name: &str,
+    told: io::Result<Metadata>,
+) -> io::Result<()>
+    ensures puts { OnOk result (PutsName names.old.items name.now told names.new.items) }
+    ensures fault { IfErr result (λ e. (error_kind e ≡ ErrorKind.OutOfMemory) ⊎ ((told ≡ Err e) × (error_kind e ≢ ErrorKind.NotFound))) }
+{
+    let is_file = is_file(told)?;
+    push_name(alloc, names, name, is_file)
+}
+
+/// Puts the name of an entry behind others, where it is a text and, by what `ask` tells of it, that of a file.
+fn push_entry<R: Files + AllocGlobal + Clone + Drop, F: Fn(&str) -> io::Result<Metadata>>(
+    alloc: Global,
     names: &mut Vec<String>,
     entry: io::Result<DirEntry<R, R::A>>,
+    ask: &F,
 ) -> io::Result<()>
-    ensures name { IfOk entry (λ found. OnOk result ((names.new ≡ names.old) ⊎ (map string_bytes names.new.items ≡ map string_bytes names.old.items ++ dir_entry_name found ∷ []))) }
-    ensures same { IfErr entry (λ e. names.new ≡ names.old) }
-    ensures none { IfErr entry (λ e. error_kind e ≡ ErrorKind.InvalidFilename → IsOk result) }
-    ensures fault { IfErr entry (λ e. error_kind e ≢ ErrorKind.InvalidFilename → result ≡ Err e) }
+    requires { F.IsAlwaysCallable ask.now }
+    ensures puts { OnOk result (PutsEntry (FnReturnsAt F.Fn ask.now) names.old.items entry names.new.items) }
+    ensures fault { IfErr result (λ e. FailsAt (FnReturnsAt F.Fn ask.now) entry e) }
 {
     let Some(entry) = with_text(entry)? else {
         return Ok(());
     };
-    let is_file = is_file(fs::metadata(rt, entry.file_name()))?;
-    push_name(alloc, names, entry.file_name(), is_file)
+    let told = ask(entry.file_name());
+    push_told(alloc, names, entry.file_name(), told)
 }
 
-/// The names of the files in the current folder, in byte order. A name that is no text is left out.
-fn file_names<R: Files + AllocGlobal + Clone + Drop>(
-    alloc: Global,
-    rt: &R,
-) -> io::Result<Vec<String>>
+/// The names of the files among the entries of a folder, in byte order, by what is told of the folder and what `ask` tells of
+/// each name. The first fault is the answer.
+fn file_names<R, I, F>(alloc: Global, told: io::Result<I>, ask: F) -> io::Result<Vec<String>>
+where
+    R: Files + AllocGlobal + Clone + Drop,
+    I: Iterator<Item = io::Result<DirEntry<R, R::A>>>,
+    F: Fn(&str) -> io::Result<Metadata> + Drop,
+    requires can { IfOk told (λ entries. I.can_next entries) }
+    requires ends { IfOk told (λ entries. IsFinite (I.remaining entries)) }
+    requires asks { F.IsAlwaysCallable ask }
+    ensures folder { IfErr told (λ e. result ≡ Err e) }
+    ensures names { IfOk told (λ entries. IfOk result (λ names. ListsFiles I.next_gives (FnReturnsAt F.Fn ask) entries names.items)) }
     ensures sorted { IfOk result (λ names. IsSorted string_cmp names.items) }
+    ensures fault { IfOk told (λ entries. IfErr result (λ e. FailsInList I.next_gives (FnReturnsAt F.Fn ask) entries e)) }
 {
     let mut names = Vec::new(alloc);
-    for entry in fs::read_dir(rt, ".")? {
-        push_entry(alloc, rt, &mut names, entry)?;
+    for entry in told? {
+        push_entry(alloc, &mut names, entry, &ask)?;
     }
     names.sort()?;
     Ok(names)
 }
 
-/// The file that was opened, by what the system tells of it: a folder is not found.
-fn unless_folder<F: Drop>(file: F, told: io::Result<Metadata>) -> io::Result<F>
-    ensures file { IfOk told (λ metadata. ¬ (IsDir (file_type metadata)) → result ≡ Ok file) }
-    ensures folder { IfOk told (λ metadata. IsDir (file_type metadata) → IsErrAnd result (λ e. error_kind e ≡ ErrorKind.NotFound)) }
-    ensures fault { IfErr told (λ e. result ≡ Err e) }
+/// The file that was opened, by what is told of it: a folder is not found.
+fn unless_folder<T: Drop>(file: T, told: io::Result<Metadata>) -> io::Result<T>
+    ensures { GivesFile file told result }
 {
     match told {
         Ok(metadata) if metadata.is_dir() => Err(io::Error::from(ErrorKind::NotFound)),
@@ -184,10 +209,17 @@ fn unless_folder<F: Drop>(file: F, told: io::Result<Metadata>) -> io::Result<F>
     }
 }
 
-/// Opens a file of the current folder. A folder of the name is not found.
-fn open_file<R: Files>(rt: &R, name: &str) -> io::Result<R::File> {
-    let file = fs::open(rt, name)?;
-    let told = file.metadata();
+/// The file that was opened, which is no folder by what `ask` tells of it. A fault of either is the answer.
+fn opened_file<T: Drop, F: FnOnce(&T) -> io::Result<Metadata>>(
+    opened: io::Result<T>,
+    ask: F,
+) -> io::Result<T>
+    requires { F.IsAlwaysCallable ask }
+    ensures file { IfOk opened (λ file. (told : Result Metadata Error) × FnOnceReturnsAt F.FnOnce ask file told × GivesFile file told result) }
+    ensures fault { IfErr opened (λ e. result ≡ Err e) }
+{
+    let file = opened?;
+    let told = ask(&file);
     unless_folder(file, told)
 }
 
@@ -203,16 +235,26 @@ fn read_fault(fault: io::Error) -> io::Error
     fault
 }
 
+/// The bytes that were read, by what is told of the reading.
+fn bytes_read(bytes: Vec<u8>, told: io::Result<usize>) -> io::Result<Vec<u8>>
+    ensures bytes { IfOk told (λ _. result ≡ Ok bytes) }
+    ensures gone { IfErr told (λ e. error_kind e ≡ ErrorKind.NotFound → IsErrAnd result (λ f. error_kind f ≡ ErrorKind.Other)) }
+    ensures other { IfErr told (λ e. error_kind e ≢ ErrorKind.NotFound → result ≡ Err e) }
+{
+    match told {
+        Ok(_) => Ok(bytes),
+        Err(fault) => Err(read_fault(fault)),
+    }
+}
+
 /// The first `most` bytes that a reader has left.
 fn front_of<R: Read + Drop>(alloc: Global, reader: R, most: usize) -> io::Result<Vec<u8>>
     ensures bytes { IfOk result (λ bytes. IfSome (R.remaining reader) (λ rest. bytes.items ≡ take most rest)) }
     ensures found { IfErr result (λ e. error_kind e ≢ ErrorKind.NotFound) }
 {
     let mut bytes = Vec::new(alloc);
-    match reader.take(most as u64).read_to_end(&mut bytes) {
-        Ok(_) => Ok(bytes),
-        Err(fault) => Err(read_fault(fault)),
-    }
+    let told = reader.take(most as u64).read_to_end(&mut bytes);
+    bytes_read(bytes, told)
 }
 
 impl<'a, R: Files + AllocGlobal + Clone + Drop> Folder for CurrentFolder<'a, R> {
@@ -223,12 +265,13 @@ impl<'a, R: Files + AllocGlobal + Clone + Drop> Folder for CurrentFolder<'a, R> 
     ghost last_fault = { λ folder. folder.last_fault };
 
     fn names(&mut self, alloc: Global) -> io::Result<Vec<String>> {
-        let names = file_names(alloc, self.rt);
+        let rt = self.rt;
+        let names = file_names(alloc, fs::read_dir(rt, "."), |name| fs::metadata(rt, name));
         self.noted(names)
     }
 
     fn open(&mut self, name: &str) -> io::Result<R::File> {
-        let file = open_file(self.rt, name);
+        let file = opened_file(fs::open(self.rt, name), |file| file.metadata());
         self.noted(file)
     }
 

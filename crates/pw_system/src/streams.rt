@@ -2,13 +2,15 @@
 //! said by what a reader or a writer tells. The system's tell nothing.
 
 ghost use Rattle.std.specs.Prelude.{◌≡◌, ◌==◌, [], None, IsOk, IfOk, OnOk, OnErr, length, drop, slice_get};
+ghost use Rattle.std.specs.Io.Buffered.{writer_contents};
 ghost use Rattle.std.specs.Io.KnownBytes.{Appends, Consumes, IsAtEnd, Keeps, prepend_known};
 ghost use Rattle.pw_io.specs.Faults.{HasCause, Rose};
 ghost use Rattle.pw_io.specs.Streams.{Appends as Taken, AppendsPart as TakenInPart};
+ghost use Rattle.pw_system.specs.Sinks.{kept_back};
 ghost use Rattle.pw_system.specs.Streams.{AppendsFront};
 
 use pw_io::{Failed, Sink, Source};
-use std::io::{self, Read, Write};
+use std::io::{self, BufWriter, Read, Write};
 use std::marker::Model;
 
 /// One more fault, up to the greatest count.
@@ -140,10 +142,14 @@ impl<W: Write> StdSink<W> {
     {
         StdSink { writer, faults: 0 }
     }
+}
 
-    /// Has the writer write out what it keeps back. A fault counts, and nothing is lost by it.
+impl<W: Write + Drop> StdSink<BufWriter<W>> {
+    /// Has the writer write out what it keeps back, of which nothing is left after `Ok`. A fault counts, and nothing is lost by
+    /// it.
     pub fn flush(&mut self) -> Result<(), Failed>
-        ensures bytes { Keeps (W.contents self.old.writer) (W.contents self.new.writer) }
+        ensures bytes { Keeps (writer_contents W.contents self.old.writer) (writer_contents W.contents self.new.writer) }
+        ensures whole { OnOk result (kept_back self.new ≡ []) }
         ensures cause { HasCause self.old.faults self.new.faults result }
     {
         match self.writer.flush() {

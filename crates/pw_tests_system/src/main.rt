@@ -1,6 +1,9 @@
 //! The system's files and streams, tried in a folder of the program's own: what each call answers, line by line.
 #![tactic(auto)]
 
+mod failing;
+
+use failing::{Call, Failing};
 use pw_io::{Sink, Source, Store, StoreError};
 use pw_system::{CurrentFolder, FileStore, StdSink, StdSource};
 use std::fs;
@@ -35,6 +38,52 @@ const PUTS: [(&str, &str); 4] = [
 /// The files that are taken out.
 const REMOVALS: [&str; 4] = ["new", "new", "folder.i", "to_a.i"];
 
+/// The calls of the system that fail, one a row, and the kind of the fault.
+const FAILING: [(&str, Call, ErrorKind); 10] = [
+    (
+        "open folder, denied",
+        Call::OpenFolder,
+        ErrorKind::PermissionDenied,
+    ),
+    (
+        "open folder, no memory",
+        Call::OpenFolder,
+        ErrorKind::OutOfMemory,
+    ),
+    (
+        "read folder, denied",
+        Call::ReadFolder,
+        ErrorKind::PermissionDenied,
+    ),
+    (
+        "read folder, no text",
+        Call::ReadFolder,
+        ErrorKind::InvalidFilename,
+    ),
+    ("ask, denied", Call::AskName, ErrorKind::PermissionDenied),
+    ("ask, gone", Call::AskName, ErrorKind::NotFound),
+    (
+        "open file, denied",
+        Call::OpenFile,
+        ErrorKind::PermissionDenied,
+    ),
+    (
+        "open file, no memory",
+        Call::OpenFile,
+        ErrorKind::OutOfMemory,
+    ),
+    (
+        "remove, denied",
+        Call::RemoveFile,
+        ErrorKind::PermissionDenied,
+    ),
+    (
+        "remove, no memory",
+        Call::RemoveFile,
+        ErrorKind::OutOfMemory,
+    ),
+];
+
 /// A folder and links to it, to nothing and to a file.
 fn make_folder(rt: &HostRuntime) -> io::Result<()> {
     fs::create_dir(rt, "folder.i")?;
@@ -53,10 +102,10 @@ fn got(file: &Result<Option<Vec<u8>>, StoreError>) -> &str {
     }
 }
 
-/// What a change of a file answered.
-fn changed(change: &Result<(), StoreError>) -> &str {
-    match change {
-        Ok(()) => "done",
+/// Whether a call was done.
+fn done<T>(answer: &Result<T, StoreError>) -> &str {
+    match answer {
+        Ok(_) => "done",
         Err(StoreError::Failed) => "fault",
         Err(StoreError::NoMemory) => "no memory",
     }
@@ -86,7 +135,7 @@ fn tell_puts<S: Store>(rt: &HostRuntime, store: &mut S) -> io::Result<()> {
     for (name, text) in PUTS {
         let change = store.put(rt.alloc(), name, text.as_bytes());
         let file = store.get(rt.alloc(), name, 9);
-        println!(rt; "put {name}: {}, {}", changed(&change), got(&file))?;
+        println!(rt; "put {name}: {}, {}", done(&change), got(&file))?;
     }
     Ok(())
 }
@@ -94,7 +143,7 @@ fn tell_puts<S: Store>(rt: &HostRuntime, store: &mut S) -> io::Result<()> {
 fn tell_removals<S: Store>(rt: &HostRuntime, store: &mut S) -> io::Result<()> {
     for name in REMOVALS {
         let change = store.remove(rt.alloc(), name);
-        println!(rt; "remove {name}: {}", changed(&change))?;
+        println!(rt; "remove {name}: {}", done(&change))?;
     }
     Ok(())
 }
@@ -131,7 +180,7 @@ impl Write for FullWriter {
 
 /// A flush that fails is told.
 fn tell_lost_block(rt: &HostRuntime) -> io::Result<()> {
-    let mut out = StdSink::new(FullWriter);
+    let mut out = StdSink::new(BufWriter::new(rt.alloc(), FullWriter)?);
     let taken = out.put(b"lost").is_ok();
     let flushed = out.flush().is_ok();
     println!(rt; "a full writer: taken {taken}, flushed {flushed}")
@@ -147,9 +196,30 @@ fn tell_all<R: Files + AllocGlobal + Clone + Drop>(rt: &HostRuntime, files: &R) 
     tell_names(rt, &mut store)
 }
 
+/// What each call of the store answers where one call of the system fails.
+fn tell_failing(rt: &HostRuntime) -> io::Result<()> {
+    for (title, call, kind) in FAILING {
+        let files = Failing { rt, call, kind };
+        let mut store = FileStore::new(CurrentFolder::new(&files));
+        let names = store.names(rt.alloc());
+        let file = store.get(rt.alloc(), "a.i", 3);
+        let put = store.put(rt.alloc(), "new", b"x");
+        let removal = store.remove(rt.alloc(), "new");
+        println!(rt;
+            "{title}: names {}, get {}, put {}, remove {}",
+            done(&names),
+            got(&file),
+            done(&put),
+            done(&removal)
+        )?;
+    }
+    Ok(())
+}
+
 fn main(rt: HostRuntime) -> io::Result<()> {
     make_folder(&rt)?;
     tell_all(&rt, &rt)?;
+    tell_failing(&rt)?;
     tell_lost_block(&rt)?;
     pass_on(&rt)
 }

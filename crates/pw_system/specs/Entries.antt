@@ -1,0 +1,50 @@
+-- The names of the files in a folder, by what is told of each entry and of each name. `tells name told` says that `told` is
+-- what is told of that name.
+use Rattle.std.specs.Prelude.{◌≡◌, ◌≢◌, ◌⊎◌, ℕ, List, [], ◌∷◌, ◌++◌, map, Some, Ok, Err, Option, Result, String, IsErrAnd, string_bytes}
+use Rattle.std.specs.Fs.{IsDir, dir_entry_name, file_type}
+use Rattle.std.specs.IoError.{error_kind}
+use Rattle.std.specs.Iterator.{Drains, YieldsThen}
+use Rattle.std.specs.List.{FoldsTo}
+use Rattle.std.specs.List.Sorted.{IsPermutation}
+use Rattle.std.specs.declared.alloc.Global.{Global}
+use Rattle.std.specs.declared.fs.attrs.Metadata.{Metadata}
+use Rattle.std.specs.declared.fs.dir.DirEntry.{DirEntry}
+use Rattle.std.specs.declared.io.Error.{Error}
+use Rattle.std.specs.declared.io.ErrorKind.{ErrorKind}
+
+-- The names behind a name of which this is told: it stands last where it is a file's; a folder's, and one of nothing, is left out.
+abbrev pub PutsName : List (String Global) → List ℕ → Result Metadata Error → List (String Global) → Type 0
+PutsName old name (Ok metadata) new =
+    (IsDir (file_type metadata) → new ≡ old) × (¬ (IsDir (file_type metadata)) → map string_bytes new ≡ map string_bytes old ++ name ∷ [])
+PutsName old name (Err fault) new = (error_kind fault ≡ ErrorKind.NotFound) × (new ≡ old)
+
+-- The names behind an entry. One whose name is no text is left out.
+abbrev pub PutsEntry : {R A F D : Type 0} → (List ℕ → Result Metadata Error → Type 0) → List (String Global) → Result (DirEntry R A F D) Error → List (String Global) → Type 0
+PutsEntry tells old (Ok entry) new =
+    (told : Result Metadata Error) × tells (dir_entry_name entry) told × PutsName old (dir_entry_name entry) told new
+PutsEntry tells old (Err fault) new = (error_kind fault ≡ ErrorKind.InvalidFilename) × (new ≡ old)
+
+-- The fault at an entry: the entry's own, that of what is told of its name, or want of memory.
+abbrev pub FailsAt : {R A F D : Type 0} → (List ℕ → Result Metadata Error → Type 0) → Result (DirEntry R A F D) Error → Error → Type 0
+FailsAt tells (Ok entry) fault =
+    (told : Result Metadata Error) × tells (dir_entry_name entry) told
+    × ((error_kind fault ≡ ErrorKind.OutOfMemory) ⊎ ((told ≡ Err fault) × (error_kind fault ≢ ErrorKind.NotFound)))
+FailsAt tells (Err own) fault = (fault ≡ own) × (error_kind own ≢ ErrorKind.InvalidFilename)
+
+-- Of the entries, which were taken to their end, none had a fault, and these are the names of the files among them.
+abbrev pub ListsFiles : {S R A F D : Type 0} → (S → Option (Result (DirEntry R A F D) Error) → S → Type 0) → (List ℕ → Result Metadata Error → Type 0) → S → List (String Global) → Type 0
+ListsFiles {S} {R} {A} {F} {D} gives tells entries names =
+    (items : List (Result (DirEntry R A F D) Error)) × (found : List (String Global)) × Drains gives entries items × FoldsTo (PutsEntry tells) [] items found × IsPermutation found names
+
+-- This is the fault of the first entry that has one, or want of memory.
+abbrev pub FailsInList : {S R A F D : Type 0} → (S → Option (Result (DirEntry R A F D) Error) → S → Type 0) → (List ℕ → Result Metadata Error → Type 0) → S → Error → Type 0
+FailsInList {S} {R} {A} {F} {D} gives tells entries fault =
+    (error_kind fault ≡ ErrorKind.OutOfMemory)
+    ⊎ ((items : List (Result (DirEntry R A F D) Error)) × (found : List (String Global)) × (item : Result (DirEntry R A F D) Error) × (left : S)
+    × YieldsThen gives entries items (Some item) left × FoldsTo (PutsEntry tells) [] items found × FailsAt tells item fault)
+
+-- What opening comes to, by what is told of the file that was opened: a folder is not found.
+abbrev pub GivesFile : {F : Type 0} → F → Result Metadata Error → Result F Error → Type 0
+GivesFile file (Ok metadata) result =
+    (IsDir (file_type metadata) → IsErrAnd result (λ e. error_kind e ≡ ErrorKind.NotFound)) × (¬ (IsDir (file_type metadata)) → result ≡ Ok file)
+GivesFile file (Err fault) result = result ≡ Err fault
