@@ -5,4 +5,4 @@ use Rattle.pawc.proofs.finish.Goals as goal
 
 pub returns-clause-whole : goal.returns-clause-whole
 returns-clause-whole g c untold =
-    untold_is_flushed c.args.answer c.flush.result _ c.flush.ensures.whole (subst IsUntold c.after_flush.ensures.answer untold)
+    untold_is_flushed c.args.answer c.flush-flushed.result _ c.flush-flushed.ensures.whole (subst IsUntold c.after_flush.ensures.answer untold)
