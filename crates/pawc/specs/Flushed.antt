@@ -16,3 +16,9 @@ abbrev pub line_after_flush : Answer → Result (Unit {0}) Failed → List ℕ
 line_after_flush Done (Err fault) = line_text 1 WriteFault
 line_after_flush (Ended status) (Err fault) = line_text 1 WriteFault
 line_after_flush answer _ = []
+
+-- No line tells this answer.
+abbrev pub IsUntold : Answer → Type 0
+IsUntold Done = Unit {0}
+IsUntold (Ended status) = Unit {0}
+IsUntold answer = ⊥

@@ -2,13 +2,16 @@
 //! top call with its words and ends with the answer's status.
 #![tactic(auto)]
 
-ghost use Rattle.std.specs.Prelude.{◌≡◌, ◌≢◌, ◌∷◌, [], IfErr, IfOk, IsErr, drop, map, string_bytes};
+ghost use Rattle.std.specs.Prelude.{◌≡◌, ◌≢◌, ◌∷◌, [], IfErr, IfOk, IsErr, OnOk, Result, drop, false, map, string_bytes, true};
 ghost use Rattle.std.specs.IoError.{error_kind};
 ghost use Rattle.std.specs.Process.{exit_status};
 ghost use Rattle.std.specs.Vec.Iter.{into_iter_items};
 ghost use Rattle.pw_answer.specs.Answers.{status_of};
 ghost use Rattle.pw_answer.specs.Outcomes.{Tells};
-ghost use Rattle.pawc.specs.Flushed.{after_flush, line_after_flush};
+ghost use Rattle.pw_io.specs.declared.Failed.{Failed};
+ghost use Rattle.pw_system.specs.Sinks.{kept_back};
+ghost use Rattle.pawc.specs.Flushed.{IsUntold, after_flush, line_after_flush};
+ghost use Rattle.pawc.specs.declared.TheConstants.{BLOCK};
 
 use pw_answer::tell;
 use pw_io::{Failed, Sink};
@@ -23,7 +26,7 @@ use std::rt::Files;
 /// The status with which the program ends where there is no memory for its words.
 const NO_MEMORY: u8 = 121;
 
-/// How many bytes of the output are kept back at most, where nobody waits for them at a terminal.
+/// How many bytes of the output are kept back at most.
 const BLOCK: usize = 8192;
 
 /// One empty word, which is no command line.
@@ -71,6 +74,21 @@ fn after_flush<E: Sink>(
     }
 }
 
+/// The output is written out to its end, and this is the answer. Where it cannot be, one that no line told is a write fault,
+/// which is told.
+fn finish<O: Write + Drop, E: Sink>(
+    alloc: Global,
+    answer: Answer,
+    out: &mut StdSink<BufWriter<O>>,
+    err: &mut E,
+) -> Answer
+    ensures answer { (flushed : Result (Unit {0}) Failed) × OnOk flushed (kept_back out.new ≡ []) × (result ≡ after_flush answer flushed) × Tells (line_after_flush answer flushed) (E.taken err.old) (E.taken err.new) (E.faults err.old) (E.faults err.new) }
+    ensures whole { IsUntold result → kept_back out.new ≡ [] }
+{
+    let flushed = out.flush();
+    after_flush(alloc, answer, flushed, err)
+}
+
 /// What the process ends with, by the answer.
 fn exit_of(answer: &Answer) -> ExitCode
     ensures { exit_status result ≡ status_of answer.now }
@@ -78,26 +96,34 @@ fn exit_of(answer: &Answer) -> ExitCode
     ExitCode::from(status(answer))
 }
 
-/// Obeys the words over the files of the current folder, and tells and answers what came of it.
+/// Obeys the words over the files of the current folder, and tells and answers what came of it. An answer that no line told
+/// leaves nothing of the output kept back.
 fn obey<F: Files + AllocGlobal + Clone + Drop, I: Read + Drop, O: Write + Drop, E: Write>(
     files: &F,
     words: &[String],
     reader: I,
-    writer: BufWriter<O>,
+    out: &mut StdSink<BufWriter<O>>,
     err: &mut StdSink<E>,
-) -> Answer {
+) -> Answer
+    ensures { IsUntold result → kept_back out.new ≡ [] }
+{
     let mut store = FileStore::new(CurrentFolder::new(files));
     let mut input = StdSource::new(reader);
-    let mut out = StdSink::new(writer);
-    let answer = pawc_top(files.alloc(), words, &mut store, &mut input, &mut out, err);
-    let flushed = out.flush();
-    after_flush(files.alloc(), answer, flushed, err)
+    let answer = pawc_top(files.alloc(), words, &mut store, &mut input, out, err);
+    finish(files.alloc(), answer, out, err)
+}
+
+/// How many bytes of the output are kept back at most: none where somebody waits for them at a terminal.
+fn block_of(at_terminal: bool) -> usize
+    ensures terminal { at_terminal ≡ true → result ≡ 0 }
+    ensures other { at_terminal ≡ false → result ≡ BLOCK }
+{
+    if at_terminal { 0 } else { BLOCK }
 }
 
 fn main(rt: HostRuntime) -> ExitCode {
     let mut err = StdSink::new(rt.stderr());
-    let at_terminal = rt.stdin().is_terminal() || rt.stdout().is_terminal();
-    let block = if at_terminal { 0 } else { BLOCK };
+    let block = block_of(rt.stdin().is_terminal() || rt.stdout().is_terminal());
     let (Ok(words), Ok(writer)) = (
         words_of(rt.alloc(), env::args(&rt)),
         BufWriter::with_capacity(rt.alloc(), block, rt.stdout()),
@@ -105,6 +131,7 @@ fn main(rt: HostRuntime) -> ExitCode {
         let _ = err.put(b"NoMemory\n");
         return ExitCode::from(NO_MEMORY);
     };
-    let answer = obey(&rt, &words, rt.stdin(), writer, &mut err);
+    let mut out = StdSink::new(writer);
+    let answer = obey(&rt, &words, rt.stdin(), &mut out, &mut err);
     exit_of(&answer)
 }
