@@ -22,7 +22,6 @@ fn feature_name(feature: Feature) -> &'static [u8]
         Feature::Wide => b"Wide",
         Feature::Variadic => b"Variadic",
         Feature::Directive => b"Directive",
-        Feature::Goto => b"Goto",
         Feature::BitField => b"BitField",
         Feature::OldStyle => b"OldStyle",
         Feature::StructByValue => b"StructByValue",
