@@ -48,6 +48,25 @@ pub fn next_word(count: u32) -> Result<u32, AllocError>
     count.checked_add(1).ok_or(AllocError)
 }
 
+/// Whether a word stands for a negative number, where it is an int's or an unsigned int's.
+pub fn is_negative(signed: bool, a: u32) -> bool
+    ensures { result ≡ spec.is_negative signed a }
+{
+    signed && a >= 1 << 31
+}
+
+/// How far from 0 the number is that a word stands for, where it is negative or not.
+pub fn magnitude(negative: bool, a: u32) -> u64
+    ensures value { result ≡ spec.magnitude negative a }
+    ensures fits { result ≤ 2 ^ 32 }
+{
+    if negative {
+        (1 << 32) - u64::from(a)
+    } else {
+        u64::from(a)
+    }
+}
+
 /// The sum of unsigned ints.
 pub fn unsigned_sum(a: u32, b: u32) -> u32
     ensures { result ≡ spec.unsigned_sum a b }
