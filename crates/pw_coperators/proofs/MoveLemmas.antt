@@ -1,12 +1,12 @@
 -- Moves, distances and quotients as whole numbers.
 use Rattle.std.proofs.Common.{ℕ, zero, suc, ◌-◌, ◌*◌, ◌/◌, ◌^◌, ◌<◌, ◌≤◌, ◌≡◌, refl, sym, ap, ◌∙◌, Bool, true, false, None, Some, arith, zero-mul}
-use Rattle.std.specs.Prelude.{pos, neg_ℤ, ◌-ℤ◌, ◌*ℤ◌, not, nat_le, unsigned_abs, int_div, if◌then◌else◌}
+use Rattle.std.specs.Prelude.{pos, neg_ℤ, ◌-ℤ◌, ◌*ℤ◌, not, nat_le, nat_lt, unsigned_abs, int_div, if◌then◌else◌}
 use Rattle.std.proofs.lemmas.Bool.Decides.{nat_tests}
 use native.Mathlib.Nat.{zero-div}
 use Rattle.std.proofs.lemmas.Grind.{common_steps}
 use Rattle.std.proofs.lemmas.Int.{ints}
 use Rattle.pw_value.specs.declared.value.Value.TheVariants as V
-use Rattle.pw_value.specs.Words.{signed, exact, is_negative, magnitude}
+use Rattle.pw_value.specs.Words.{signed, exact, int_most, is_negative, magnitude}
 use Rattle.pw_types.specs.declared.kind.IntKind.{IntKind}
 use Rattle.pw_types.specs.Conversions.{is_signed_kind}
 use Rattle.pw_cmean.specs.Operators.{further}
@@ -44,9 +44,9 @@ element_none false size = rw zero-mul refl
 whole : (sign : Bool) (n : ℕ) → n < 2 ^ 32
     → (if sign then signed n else pos n) ≡ (if is_negative sign n then neg_ℤ (pos (2 ^ 32 - n)) else pos n)
 whole false n h = refl
-whole true n h = halves (nat_le (2 ^ 31) n) refl
+whole true n h = halves (nat_lt int_most n) refl
   where
-    halves : (b : Bool) → nat_le (2 ^ 31) n ≡ b → signed n ≡ (if b then neg_ℤ (pos (2 ^ 32 - n)) else pos n)
+    halves : (b : Bool) → nat_lt int_most n ≡ b → signed n ≡ (if b then neg_ℤ (pos (2 ^ 32 - n)) else pos n)
     halves true e = signed_high n (grind (arith, nat_tests)) h
     halves false e = signed_low n (grind (arith, nat_tests))
 

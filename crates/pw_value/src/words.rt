@@ -48,11 +48,19 @@ pub fn next_word(count: u32) -> Result<u32, AllocError>
     count.checked_add(1).ok_or(AllocError)
 }
 
+/// The greatest int.
+pub const INT_MOST: u32 = (1 << 31) - 1;
+
+/// The greatest int is that of the definitions.
+pub fn int_most_is_the_greatest_int()
+    ensures { INT_MOST ≡ spec.int_most }
+{}
+
 /// Whether a word stands for a negative number, where it is an int's or an unsigned int's.
 pub fn is_negative(signed: bool, a: u32) -> bool
     ensures { result ≡ spec.is_negative signed a }
 {
-    signed && a >= 1 << 31
+    signed && a > INT_MOST
 }
 
 /// How far from 0 the number is that a word stands for, where it is negative or not.
