@@ -204,6 +204,7 @@ pub fn signed_remainder(a: u32, b: u32) -> Result<u32, WordFault>
 }
 
 /// Whether an int is less than another.
+#[inline(always)]
 pub fn signed_less(a: u32, b: u32) -> bool
     ensures { result ≡ spec.signed_less a b }
 {
@@ -211,6 +212,7 @@ pub fn signed_less(a: u32, b: u32) -> bool
 }
 
 /// Whether an int is less than another or equal to it.
+#[inline(always)]
 pub fn signed_at_most(a: u32, b: u32) -> bool
     ensures { result ≡ spec.signed_at_most a b }
 {
