@@ -4,7 +4,7 @@
 ghost use Rattle.std.specs.Prelude.{◌≡◌, ◌+◌, ◌<◌, ◌≤◌, ◌^◌, ◌++◌, All, IfOk, IfErr, OnOk, IsTrue, ◌↔◌, Some};
 ghost use Rattle.pw_types.specs.Layouts as spec;
 ghost use Rattle.pw_types.specs.Records.{IsObjectType, layouts_of, deepest as depth_of_deepest};
-ghost use Rattle.pw_types.specs.Caps.{capped};
+ghost use Rattle.pw_value.specs.Caps.{capped};
 ghost use Rattle.pw_types.specs.Measures.{Measures, size_by, offsets_by, Defines, Refuses};
 ghost use Rattle.pw_types.specs.Shapes.{record_shape, member_shapes};
 ghost use Rattle.pw_types.specs.TypeTrees.{type_of};
