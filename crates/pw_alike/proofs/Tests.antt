@@ -5,6 +5,7 @@ use Rattle.std.specs.List.{flat_map, sum_by}
 use Rattle.std.proofs.lemmas.List.{map-append}
 use Rattle.std.proofs.lemmas.List.Concat.{flat_map-cons}
 use Rattle.std.proofs.lemmas.List.Sums.{sum_by-cons}
+use Rattle.pw_value.specs.Caps.{capped}
 use Rattle.pw_value.specs.Limits.{function_limit, global_limit}
 use Rattle.pw_value.specs.declared.fault.LinkFault.{LinkFault}
 use Rattle.pw_value.specs.declared.fault.LinkFault.TheVariants as F
@@ -12,7 +13,7 @@ use Rattle.pw_value.specs.declared.fault.What.TheVariants.{Functions, Globals}
 use Rattle.pw_flow.specs.ValidFlow.{AreDistinct}
 use Rattle.pw_files.proofs.Standing.{Has, has_by, contains_by, has_left, has_right, has_split, has_map, has_map_back, has_flat, has_flat_back}
 use Rattle.pw_program.specs.declared.interface.Interface.{Interface}
-use Rattle.pw_program.specs.Linking.{library, names_in, defined_in, declared_in, definitions, declarations, defined_names, used_names, told_count, function_count, global_count, IsUndefined, IsDefinedTwice, IsInConflict, HasMain, IsLeastName, IsLeastPair, Test, few_functions, few_globals, all_defined, defined_once, all_agree, has_main, Passes, Fails, Links, Refusal}
+use Rattle.pw_program.specs.Linking.{library, names_in, defined_in, declared_in, definitions, declarations, defined_names, used_names, function_count, global_count, IsUndefined, IsDefinedTwice, IsInConflict, HasMain, IsLeastName, IsLeastPair, Test, few_functions, few_globals, all_defined, defined_once, all_agree, has_main, Passes, Fails, Links, Refusal}
 use Rattle.pw_alike.proofs.Twice.{Twice, twice_by, places, twice_left, twice_right, twice_across, twice_crossed, twice_split, beside, once_beside}
 
 -- ---- what the tests look at is the same
@@ -50,8 +51,8 @@ passes is js same all_agree p = λ n a b h. p n a b ((same.conflict n a b).1 h)
 passes is js same has_main p = same.main.0 p
 
 fails : (is js : List Interface) → Same is js → (t : Test) (fault : LinkFault) → Fails t is fault → Fails t js fault
-fails is js same few_functions fault h = subst (λ (n : ℕ). (function_limit < n) × (fault ≡ F.TooMany Functions (told_count n))) same.functions h
-fails is js same few_globals fault h = subst (λ (n : ℕ). (global_limit < n) × (fault ≡ F.TooMany Globals (told_count n))) same.globals h
+fails is js same few_functions fault h = subst (λ (n : ℕ). (function_limit < n) × (fault ≡ F.TooMany Functions (capped n))) same.functions h
+fails is js same few_globals fault h = subst (λ (n : ℕ). (global_limit < n) × (fault ≡ F.TooMany Globals (capped n))) same.globals h
 fails is js same all_defined fault h = (h.0, least_name (IsUndefined is) (IsUndefined js) same.undefined h.0 h.1, h.2)
 fails is js same defined_once fault h = (h.0, h.1, h.2, least_pair (IsDefinedTwice is) (IsDefinedTwice js) same.twice h.0 h.1 h.2 h.3, h.4)
 fails is js same all_agree fault h = (h.0, h.1, h.2, least_pair (IsInConflict is) (IsInConflict js) same.conflict h.0 h.1 h.2 h.3, h.4)

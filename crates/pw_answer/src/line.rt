@@ -10,7 +10,7 @@ use pw_front::{ParseFault, Refusal};
 use pw_machine::Halt;
 use pw_modules::TEXT_ENDING;
 use pw_token::{Feature, LexFault};
-use pw_value::{LinkFault, Name, What, Word};
+use pw_value::{LinkFault, Name, What, Word, push_decimal};
 use pw_walk::{CheckKind, Which};
 use std::alloc::{AllocError, Global};
 
@@ -22,7 +22,6 @@ fn feature_name(feature: Feature) -> &'static [u8]
         Feature::Wide => b"Wide",
         Feature::Variadic => b"Variadic",
         Feature::Directive => b"Directive",
-        Feature::Goto => b"Goto",
         Feature::BitField => b"BitField",
         Feature::OldStyle => b"OldStyle",
         Feature::StructByValue => b"StructByValue",
@@ -70,56 +69,37 @@ pub fn halt_name(halt: Halt) -> &'static [u8]
     }
 }
 
-/// Puts a number behind a text, in decimal.
-fn push_decimal(alloc: Global, text: &mut Vec<u8>, number: u64) -> Result<(), AllocError>
-    ensures { OnOk result (text.new.items ≡ text.old.items ++ decimal number) }
-{
-    let digits = format!(in alloc; "{number}")?;
-    text.extend_from_slice(digits.as_bytes())?;
-    Ok(())
-}
-
 /// Puts a number behind a text, in decimal, behind what it counts.
-fn push_numbered(
-    alloc: Global,
-    text: &mut Vec<u8>,
-    what: &[u8],
-    number: usize,
-) -> Result<(), AllocError>
+fn push_numbered(text: &mut Vec<u8>, what: &[u8], number: usize) -> Result<(), AllocError>
     ensures { OnOk result (text.new.items ≡ text.old.items ++ what.now ++ decimal number) }
 {
     text.extend_from_slice(what)?;
-    push_decimal(alloc, text, number as u64)?;
+    push_decimal(text, number as u64)?;
     Ok(())
 }
 
 /// Puts behind a text what is not compiled, and at which token.
-fn push_unsupported(
-    alloc: Global,
-    text: &mut Vec<u8>,
-    token: usize,
-    feature: Feature,
-) -> Result<(), AllocError>
+fn push_unsupported(text: &mut Vec<u8>, token: usize, feature: Feature) -> Result<(), AllocError>
     ensures { OnOk result (text.new.items ≡ text.old.items ++ refusal_text (Refusal.Unsupported token feature)) }
 {
     text.extend_from_slice(b"Unsupported ")?;
     text.extend_from_slice(feature_name(feature))?;
     text.extend_from_slice(b" at token ")?;
-    push_decimal(alloc, text, token as u64)?;
+    push_decimal(text, token as u64)?;
     Ok(())
 }
 
 /// Puts behind a text why a text has no tokens.
-fn push_lex_fault(alloc: Global, text: &mut Vec<u8>, fault: LexFault) -> Result<(), AllocError>
+fn push_lex_fault(text: &mut Vec<u8>, fault: LexFault) -> Result<(), AllocError>
     ensures { OnOk result (text.new.items ≡ text.old.items ++ lex_text fault) }
 {
     match fault {
         LexFault::Bad { at } => {
-            push_numbered(alloc, text, b"Bad at byte ", at)?;
+            push_numbered(text, b"Bad at byte ", at)?;
             Ok(())
         }
         LexFault::TooMany { at } => {
-            push_numbered(alloc, text, b"TooMany at byte ", at)?;
+            push_numbered(text, b"TooMany at byte ", at)?;
             Ok(())
         }
         LexFault::TooLong => {
@@ -134,12 +114,12 @@ fn push_lex_fault(alloc: Global, text: &mut Vec<u8>, fault: LexFault) -> Result<
 }
 
 /// Puts behind a text why its tokens have no syntax tree.
-fn push_parse_fault(alloc: Global, text: &mut Vec<u8>, fault: ParseFault) -> Result<(), AllocError>
+fn push_parse_fault(text: &mut Vec<u8>, fault: ParseFault) -> Result<(), AllocError>
     ensures { OnOk result (text.new.items ≡ text.old.items ++ parse_text fault) }
 {
     match fault {
-        ParseFault::TooDeep { token } => push_numbered(alloc, text, b"TooDeep at token ", token),
-        ParseFault::Syntax { token } => push_numbered(alloc, text, b"Syntax at token ", token),
+        ParseFault::TooDeep { token } => push_numbered(text, b"TooDeep at token ", token),
+        ParseFault::Syntax { token } => push_numbered(text, b"Syntax at token ", token),
         ParseFault::NoMemory => {
             text.extend_from_slice(b"NoMemory")?;
             Ok(())
@@ -148,61 +128,50 @@ fn push_parse_fault(alloc: Global, text: &mut Vec<u8>, fault: ParseFault) -> Res
 }
 
 /// Puts behind a text which limit a count passes, the count, and at which token.
-fn push_limit(
-    alloc: Global,
-    text: &mut Vec<u8>,
-    which: Which,
-    count: u64,
-    token: usize,
-) -> Result<(), AllocError>
+fn push_limit(text: &mut Vec<u8>, which: Which, count: u64, token: usize) -> Result<(), AllocError>
     ensures { OnOk result (text.new.items ≡ text.old.items ++ kind_text (CheckKind.Limit which count) token) }
 {
     text.extend_from_slice(b"Limit ")?;
     text.extend_from_slice(which_name(which))?;
     text.extend_from_slice(b" ")?;
-    push_decimal(alloc, text, count)?;
+    push_decimal(text, count)?;
     text.extend_from_slice(b" at token ")?;
-    push_decimal(alloc, text, token as u64)?;
+    push_decimal(text, token as u64)?;
     Ok(())
 }
 
 /// Puts a word behind a text, and at which token.
-fn push_at(alloc: Global, text: &mut Vec<u8>, word: &[u8], token: usize) -> Result<(), AllocError>
+fn push_at(text: &mut Vec<u8>, word: &[u8], token: usize) -> Result<(), AllocError>
     ensures { OnOk result (text.new.items ≡ text.old.items ++ word.now ++ codes " at token " ++ decimal token) }
 {
     text.extend_from_slice(word)?;
-    push_numbered(alloc, text, b" at token ", token)?;
+    push_numbered(text, b" at token ", token)?;
     Ok(())
 }
 
 /// Puts behind a text what is wrong with its tree, and at which token.
-fn push_kind(
-    alloc: Global,
-    text: &mut Vec<u8>,
-    kind: &CheckKind,
-    token: usize,
-) -> Result<(), AllocError>
+fn push_kind(text: &mut Vec<u8>, kind: &CheckKind, token: usize) -> Result<(), AllocError>
     ensures { OnOk result (text.new.items ≡ text.old.items ++ kind_text kind.now token) }
 {
     match kind {
-        CheckKind::UnknownName => push_at(alloc, text, b"UnknownName", token),
-        CheckKind::Redeclared => push_at(alloc, text, b"Redeclared", token),
-        CheckKind::Typing => push_at(alloc, text, b"Typing", token),
-        CheckKind::Constant => push_at(alloc, text, b"Constant", token),
-        CheckKind::Unsupported(feature) => push_unsupported(alloc, text, token, *feature),
-        CheckKind::Limit(which, count) => push_limit(alloc, text, *which, *count, token),
-        CheckKind::NoMemory => push_at(alloc, text, b"NoMemory", token),
+        CheckKind::UnknownName => push_at(text, b"UnknownName", token),
+        CheckKind::Redeclared => push_at(text, b"Redeclared", token),
+        CheckKind::Typing => push_at(text, b"Typing", token),
+        CheckKind::Constant => push_at(text, b"Constant", token),
+        CheckKind::Unsupported(feature) => push_unsupported(text, token, *feature),
+        CheckKind::Limit(which, count) => push_limit(text, *which, *count, token),
+        CheckKind::NoMemory => push_at(text, b"NoMemory", token),
     }
 }
 
-fn push_refusal(alloc: Global, text: &mut Vec<u8>, refusal: &Refusal) -> Result<(), AllocError>
+fn push_refusal(text: &mut Vec<u8>, refusal: &Refusal) -> Result<(), AllocError>
     ensures { OnOk result (text.new.items ≡ text.old.items ++ refusal_text refusal.now) }
 {
     match refusal {
-        Refusal::Lex(fault) => push_lex_fault(alloc, text, *fault),
-        Refusal::Unsupported(token, feature) => push_unsupported(alloc, text, *token, *feature),
-        Refusal::Parse(fault) => push_parse_fault(alloc, text, *fault),
-        Refusal::Check(fault) => push_kind(alloc, text, &fault.kind, fault.token),
+        Refusal::Lex(fault) => push_lex_fault(text, *fault),
+        Refusal::Unsupported(token, feature) => push_unsupported(text, *token, *feature),
+        Refusal::Parse(fault) => push_parse_fault(text, *fault),
+        Refusal::Check(fault) => push_kind(text, &fault.kind, fault.token),
     }
 }
 
@@ -245,12 +214,12 @@ fn link_text(alloc: Global, fault: &LinkFault) -> Result<Vec<u8>, AllocError>
         }
         LinkFault::NoMain | LinkFault::NoMemory => {}
         LinkFault::TextTooLarge(number) | LinkFault::MemoryTooLarge(number) => {
-            push_decimal(alloc, &mut text, *number)?;
+            push_decimal(&mut text, *number)?;
         }
         LinkFault::TooMany(what, count) => {
             text.extend_from_slice(what_name(*what))?;
             text.extend_from_slice(b" ")?;
-            push_decimal(alloc, &mut text, *count)?;
+            push_decimal(&mut text, *count)?;
         }
     }
     Ok(text)
@@ -268,9 +237,9 @@ fn refused_line(
     let mut text = Vec::from_slice(alloc, name.as_bytes())?;
     text.extend_from_slice(TEXT_ENDING.as_bytes())?;
     text.extend_from_slice(b":")?;
-    push_decimal(alloc, &mut text, line as u64)?;
+    push_decimal(&mut text, line as u64)?;
     text.extend_from_slice(b": ")?;
-    push_refusal(alloc, &mut text, refusal)?;
+    push_refusal(&mut text, refusal)?;
     text.extend_from_slice(b"\n")?;
     Ok(text)
 }
@@ -293,7 +262,7 @@ fn halted_line(alloc: Global, halt: Halt, at: Word) -> Result<Vec<u8>, AllocErro
     let mut text = Vec::from_slice(alloc, b"Halted ")?;
     text.extend_from_slice(halt_name(halt))?;
     text.extend_from_slice(b" ")?;
-    push_decimal(alloc, &mut text, u64::from(at))?;
+    push_decimal(&mut text, u64::from(at))?;
     text.extend_from_slice(b"\n")?;
     Ok(text)
 }
@@ -305,7 +274,7 @@ fn bad_file_line(alloc: Global, name: &Name, at: Option<usize>) -> Result<Vec<u8
     let mut text = Vec::from_slice(alloc, b"BadFile ")?;
     text.extend_from_slice(name.as_bytes())?;
     if let Some(offset) = at {
-        push_numbered(alloc, &mut text, b" at ", offset)?;
+        push_numbered(&mut text, b" at ", offset)?;
     }
     text.extend_from_slice(b"\n")?;
     Ok(text)
@@ -316,7 +285,7 @@ fn bad_script_line(alloc: Global, at: u64) -> Result<Vec<u8>, AllocError>
     ensures { IfOk result (λ text. text.items ≡ codes "BadScript at " ++ decimal at ++ codes "\n") }
 {
     let mut text = Vec::from_slice(alloc, b"BadScript at ")?;
-    push_decimal(alloc, &mut text, at)?;
+    push_decimal(&mut text, at)?;
     text.extend_from_slice(b"\n")?;
     Ok(text)
 }

@@ -1,6 +1,7 @@
 //! The objects of a run, each at its number.
 
-ghost use Rattle.std.specs.Prelude.{true, ◌≡◌, ◌<◌, ◌^◌, ◌-◌, [], length, min, OnErr, IfOk};
+ghost use Rattle.std.specs.Prelude.{true, ◌≡◌, ◌<◌, ◌^◌, [], length, OnErr, IfOk};
+ghost use Rattle.pw_value.specs.Caps.{capped};
 ghost use Rattle.pw_value.specs.Objects.{object_at, with_object, written, ended, with_bytes};
 ghost use Rattle.pw_cobjects.specs.Views.{fresh, view_object};
 
@@ -39,7 +40,7 @@ impl Model for Objects {
 
 /// The place in memory of the object of a number, or past all places.
 fn place(number: u128) -> usize
-    ensures { result ≡ min number (2 ^ 64 - 1) }
+    ensures { result ≡ capped number }
 {
     match usize::try_from(number) {
         Ok(place) => place,

@@ -7,6 +7,7 @@ ghost use Rattle.pw_rules.specs.Constants as rules;
 
 use crate::place::Place;
 use pw_types::IntKind;
+use pw_value::words::{is_negative, magnitude};
 
 /// A move of an address: so many bytes on or back, or to no place, because the number is not known.
 #[derive(Clone, Copy)]
@@ -54,11 +55,12 @@ pub fn move_by(kind: IntKind, size: u64, count: u32) -> Move
     ensures on { (p : rules.Place) → spec.taken result p ≡ rules.moved kind size count p }
     ensures back { (p : rules.Place) → spec.taken (spec.reversed result) p ≡ rules.moved_against kind size count p }
 {
-    let size = u128::from(size);
-    if kind.is_signed() && count >= 2147483648 {
-        Move::Back(size * (4294967296 - u128::from(count)))
+    let negative = is_negative(kind.is_signed(), count);
+    let bytes = u128::from(size) * u128::from(magnitude(negative, count));
+    if negative {
+        Move::Back(bytes)
     } else {
-        Move::On(size * u128::from(count))
+        Move::On(bytes)
     }
 }
 

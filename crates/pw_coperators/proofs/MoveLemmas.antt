@@ -1,12 +1,12 @@
 -- Moves, distances and quotients as whole numbers.
 use Rattle.std.proofs.Common.{ℕ, zero, suc, ◌-◌, ◌*◌, ◌/◌, ◌^◌, ◌<◌, ◌≤◌, ◌≡◌, refl, sym, ap, ◌∙◌, Bool, true, false, None, Some, arith, zero-mul}
-use Rattle.std.specs.Prelude.{pos, neg_ℤ, ◌-ℤ◌, ◌*ℤ◌, ◌&&◌, not, nat_le, unsigned_abs, int_div, if◌then◌else◌}
+use Rattle.std.specs.Prelude.{pos, neg_ℤ, ◌-ℤ◌, ◌*ℤ◌, not, nat_le, nat_lt, unsigned_abs, int_div, if◌then◌else◌}
 use Rattle.std.proofs.lemmas.Bool.Decides.{nat_tests}
 use native.Mathlib.Nat.{zero-div}
 use Rattle.std.proofs.lemmas.Grind.{common_steps}
 use Rattle.std.proofs.lemmas.Int.{ints}
 use Rattle.pw_value.specs.declared.value.Value.TheVariants as V
-use Rattle.pw_value.specs.Words.{signed, exact}
+use Rattle.pw_value.specs.Words.{signed, exact, int_most, is_negative, magnitude}
 use Rattle.pw_types.specs.declared.kind.IntKind.{IntKind}
 use Rattle.pw_types.specs.Conversions.{is_signed_kind}
 use Rattle.pw_cmean.specs.Operators.{further}
@@ -42,16 +42,16 @@ element_none false size = rw zero-mul refl
 
 -- the number that a word of a kind stands for
 whole : (sign : Bool) (n : ℕ) → n < 2 ^ 32
-    → (if sign then signed n else pos n) ≡ (if sign && nat_le (2 ^ 31) n then neg_ℤ (pos (2 ^ 32 - n)) else pos n)
+    → (if sign then signed n else pos n) ≡ (if is_negative sign n then neg_ℤ (pos (2 ^ 32 - n)) else pos n)
 whole false n h = refl
-whole true n h = halves (nat_le (2 ^ 31) n) refl
+whole true n h = halves (nat_lt int_most n) refl
   where
-    halves : (b : Bool) → nat_le (2 ^ 31) n ≡ b → signed n ≡ (if b then neg_ℤ (pos (2 ^ 32 - n)) else pos n)
+    halves : (b : Bool) → nat_lt int_most n ≡ b → signed n ≡ (if b then neg_ℤ (pos (2 ^ 32 - n)) else pos n)
     halves true e = signed_high n (grind (arith, nat_tests)) h
     halves false e = signed_low n (grind (arith, nat_tests))
 
 product : (negative back : Bool) (n size : ℕ)
-    → turned (if back then not negative else negative) (pos ((if negative then 2 ^ 32 - n else n) * size))
+    → turned (if back then not negative else negative) (pos (magnitude negative n * size))
     ≡ turned back ((if negative then neg_ℤ (pos (2 ^ 32 - n)) else pos n) *ℤ pos size)
 product true true n size = rw (negated_product (2 ^ 32 - n) size) (sym (negated_twice ((2 ^ 32 - n) * size)))
 product true false n size = rw (negated_product (2 ^ 32 - n) size) refl
@@ -59,9 +59,9 @@ product false true n size = refl
 product false false n size = refl
 
 pub element_is : (back : Bool) (kind : IntKind) (n size : ℕ) → n < 2 ^ 32
-    → turned (if back then not (is_signed_kind kind && nat_le (2 ^ 31) n) else (is_signed_kind kind && nat_le (2 ^ 31) n)) (pos ((if is_signed_kind kind && nat_le (2 ^ 31) n then 2 ^ 32 - n else n) * size))
+    → turned (if back then not (is_negative (is_signed_kind kind) n) else is_negative (is_signed_kind kind) n) (pos (magnitude (is_negative (is_signed_kind kind) n) n * size))
     ≡ element_bytes back kind (V.Num n) size
-element_is back kind n size h = product (is_signed_kind kind && nat_le (2 ^ 31) n) back n size ∙ ap (λ z. turned back (z *ℤ pos size)) (sym (whole (is_signed_kind kind) n h))
+element_is back kind n size h = product (is_negative (is_signed_kind kind) n) back n size ∙ ap (λ z. turned back (z *ℤ pos size)) (sym (whole (is_signed_kind kind) n h))
 
 -- ---- distances
 

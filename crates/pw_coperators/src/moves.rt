@@ -1,13 +1,13 @@
 //! Moves of a pointer within its object (ISO C90 6.3.6).
 
-ghost use Rattle.std.specs.Prelude.{◌≡◌, ◌<◌, ◌≤◌, ◌-◌, ◌^◌, ◌&&◌, ◌*ℤ◌, pos, nat_le, if◌then◌else◌};
-ghost use Rattle.pw_types.specs.Conversions.{is_signed_kind};
+ghost use Rattle.std.specs.Prelude.{◌≡◌, ◌<◌, ◌^◌, ◌*ℤ◌, pos};
 ghost use Rattle.pw_cmean.specs.Operators as meaning;
 ghost use Rattle.pw_coperators.specs.Moves.{bytes_by, turned};
 ghost use Rattle.pw_coperators.specs.Operations.{element_bytes};
 
 use pw_types::IntKind;
 use pw_value::Value;
+use pw_value::words::{is_negative, magnitude};
 
 /// A move by so many bytes, on or back.
 #[derive(Clone, Copy)]
@@ -44,25 +44,6 @@ fn move_of(back: bool, bytes: u64) -> Move
     }
 }
 
-/// Whether a word of a kind stands for a negative number.
-fn is_negative(kind: IntKind, n: u32) -> bool
-    ensures { result ≡ (is_signed_kind kind && nat_le (2 ^ 31) n) }
-{
-    kind.is_signed() && n >= 2147483648
-}
-
-/// How far a word is from 0, where it stands for a negative number or does not.
-fn magnitude(negative: bool, n: u32) -> u64
-    ensures value { result ≡ (if negative then 2 ^ 32 - n else n) }
-    ensures fits { result ≤ 2 ^ 32 }
-{
-    if negative {
-        4294967296 - u64::from(n)
-    } else {
-        u64::from(n)
-    }
-}
-
 /// The move by so many elements of a size, or against it: the number is a word of its kind. What is no number
 /// moves by nothing.
 pub(crate) fn element_move(back: bool, kind: IntKind, count: Value, size: u32) -> Move
@@ -86,7 +67,7 @@ fn no_move(back: bool, size: u32) -> Move
 fn word_move(back: bool, kind: IntKind, n: u32, size: u32) -> Move
     ensures { bytes_by result ≡ element_bytes back kind (Value.Num n) size }
 {
-    let negative = is_negative(kind, n);
+    let negative = is_negative(kind.is_signed(), n);
     let bytes = magnitude(negative, n) * u64::from(size);
     move_of(if back { !negative } else { negative }, bytes)
 }

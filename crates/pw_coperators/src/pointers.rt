@@ -15,6 +15,7 @@ use crate::numbers::{arithmetic, number_for, word_answer};
 use pw_cmean::Undef;
 use pw_cobjects::Objects;
 use pw_types::{BinaryOperator, IntKind, Layout};
+use pw_value::words::{INT_MOST, unsigned_negation};
 use pw_value::{Pointer, Value, WordFault};
 
 /// Whether a value is a byte of a pointer.
@@ -107,7 +108,7 @@ fn offset_of(p: Value) -> u32
 fn forward(count: u32) -> Result<u32, WordFault>
     ensures { result ≡ int_forward count }
 {
-    if count < 2147483648 {
+    if count <= INT_MOST {
         Ok(count)
     } else {
         Err(WordFault::Overflow)
@@ -118,8 +119,8 @@ fn forward(count: u32) -> Result<u32, WordFault>
 fn backward(count: u32) -> Result<u32, WordFault>
     ensures { result ≡ int_backward count }
 {
-    if count <= 2147483648 {
-        Ok(0u32.wrapping_sub(count))
+    if count <= INT_MOST + 1 {
+        Ok(unsigned_negation(count))
     } else {
         Err(WordFault::Overflow)
     }

@@ -4,7 +4,7 @@ use Rattle.std.specs.Prelude.{option_map}
 use Rattle.std.proofs.lemmas.Grind.{common_steps}
 use Rattle.pw_types.specs.declared.record.Layout.{Layout}
 use Rattle.pw_types.specs.Layouts.{told}
-use Rattle.pw_types.specs.Caps.{clipped}
+use Rattle.pw_value.specs.Caps.{clipped}
 
 unclipped : (n : ℕ) → clipped n ≢ 2 ^ 32 - 1 → n ≡ clipped n
 unclipped n h = grind (arith, common_steps)

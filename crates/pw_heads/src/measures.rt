@@ -7,7 +7,7 @@ ghost use Rattle.pw_rules.specs.Functions as spec;
 ghost use Rattle.pw_rules.specs.States.{records_in};
 ghost use Rattle.pw_tree.specs.Views.{view_word};
 ghost use Rattle.pw_typed.specs.Views as typed;
-ghost use Rattle.pw_types.specs.Caps.{capped};
+ghost use Rattle.pw_value.specs.Caps.{capped};
 ghost use Rattle.pw_types.specs.Rooms.{nodes_of, room_of};
 
 use pw_checking::{Finding, State};

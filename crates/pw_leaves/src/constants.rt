@@ -12,24 +12,22 @@ use pw_constant::constant_value;
 use pw_kinds::kind_in;
 use pw_typed::TExpr;
 use pw_types::CType;
+use pw_value::words::{INT_MOST, is_negative};
 use pw_walk::{CheckFault, CheckKind};
 use std::alloc::Global;
-
-/// The least number above those of an `int`.
-const ABOVE_INT: u32 = 1 << 31;
 
 /// Whether a number of the type is above 0.
 fn is_positive(ty: &CType, n: u32) -> bool
     ensures { result ≡ spec.is_positive (view_type ty.now) n }
 {
-    n >= 1 && (!kind_in(ty).is_signed() || n < ABOVE_INT)
+    n >= 1 && !is_negative(kind_in(ty).is_signed(), n)
 }
 
 /// Whether an `int` can hold a number of the type.
 fn is_int(ty: &CType, n: u32) -> bool
     ensures { result ≡ spec.is_int (view_type ty.now) n }
 {
-    kind_in(ty).is_signed() || n < ABOVE_INT
+    kind_in(ty).is_signed() || n <= INT_MOST
 }
 
 /// The length of an array, which is at least 1 (C90 6.5.4.2), by the expression's first token.

@@ -17,10 +17,8 @@ use pw_linked::fresh_name;
 use pw_rules::Tag;
 use pw_tree::Word;
 use pw_types::QType;
+use pw_value::words::{INT_MOST, unsigned_sum};
 use pw_walk::{CheckFault, CheckKind};
-
-/// The greatest value of an `int`.
-const GREATEST_INT: u32 = (1 << 31) - 1;
 
 /// An enumeration by its tag; it is an `int`.
 #[tactic(auto, unfolding(pw_walk::specs::Walks::bind, pw_walk::specs::Walks::outcome, pw_rules::specs::Leaves::enumeration_rule, pw_rules::specs::Leaves::enumeration_by))]
@@ -77,10 +75,10 @@ fn enumerating_by<'a>(state: &mut State<'a>, word: &'a Word) -> Result<(), Check
 fn value_after(n: u32) -> Option<u32>
     ensures { result ≡ spec.value_after n }
 {
-    if n == GREATEST_INT {
+    if n == INT_MOST {
         None
     } else {
-        Some(n.wrapping_add(1))
+        Some(unsigned_sum(n, 1))
     }
 }
 

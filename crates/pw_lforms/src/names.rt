@@ -1,15 +1,14 @@
 //! The names of objects and functions among all modules.
 
-ghost use Rattle.std.specs.Prelude.{◌≡◌, ◌<◌, ◌≤◌, ◌++◌, ◌∷◌, [], decimal, IfOk, MatchResult};
+ghost use Rattle.std.specs.Prelude.{◌≡◌, ◌<◌, ◌≤◌, ◌++◌, ◌∷◌, [], IfOk, MatchResult};
 ghost use Rattle.pw_typed.specs.Views.{view_symbol};
 ghost use Rattle.pw_types.specs.FullNames as symbols;
 ghost use Rattle.pw_types.specs.TypedTrees as tree;
 ghost use Rattle.pw_value.specs.Limits.{name_limit};
 
-use itoa::Buffer;
 use pw_typed::Symbol;
 use pw_value::limits::NAME_MAX;
-use pw_value::{Name, NoMemory};
+use pw_value::{Name, NoMemory, push_decimal};
 use std::alloc::Global;
 
 /// Whether so many bytes are within the limit on names. There is no memory for more, and for no fewer.
@@ -50,7 +49,6 @@ pub fn hidden_name(alloc: Global, home: &Name, number: u32) -> Result<Name, NoMe
 {
     let mut bytes = Vec::new(alloc);
     bytes.push(b'.')?;
-    let mut buffer = Buffer::new();
-    bytes.extend_from_slice(buffer.format(number).as_bytes())?;
+    push_decimal(&mut bytes, u64::from(number))?;
     own_name(alloc, home, &bytes)
 }

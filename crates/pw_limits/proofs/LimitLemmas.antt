@@ -2,7 +2,7 @@
 use Rattle.std.proofs.Common.{◌≡◌, ◌≢◌, ℕ, ◌-◌, ◌^◌, Bool, true, false, if◌then◌else◌, arith, Option, None, Some, is_some, unwrap_or, [], ◌∷◌, List, refl, ap}
 use Rattle.std.proofs.lemmas.Option.{same_Some}
 use Rattle.pw_walk.specs.Causes.{Cause, Constraint, Point, needs, DeclaredTag}
-use Rattle.pw_types.specs.Caps.{capped}
+use Rattle.pw_value.specs.Caps.{capped}
 use Rattle.pw_types.specs.TypeTrees.{CType, RecordValue}
 use Rattle.pw_finding.specs.Found.{found, lesser_found}
 use Rattle.pw_finding.proofs.FindingLaws.{found_append}

@@ -1,5 +1,5 @@
 -- Where the functions, the routines and the global objects of a linked program stand.
-use Rattle.std.specs.Prelude.{Bool, ℕ, ◌+◌, ◌-◌, ◌*◌, ◌/◌, ◌%◌, ◌^◌, min, List, [], ◌∷◌, ◌++◌, map, length, drop, fold, insert, unwrap_or}
+use Rattle.std.specs.Prelude.{Bool, ℕ, ◌+◌, ◌-◌, ◌*◌, ◌/◌, ◌%◌, ◌^◌, List, [], ◌∷◌, ◌++◌, map, length, drop, fold, insert, unwrap_or}
 use Rattle.std.specs.List.{flat_map, sum_by, position_or_len}
 use Rattle.std.specs.Map.{lookup}
 use Rattle.std.specs.Str.{bytes_eq}
@@ -102,10 +102,6 @@ end_behind begin size stack = round64 (begin + size) + 64 + stack
 
 abbrev pub stack_end : List Object → ℕ → ℕ
 stack_end objects stack = end_behind (data_begin objects) (data_size objects) stack
-
--- a number in a fault, which goes to 2^64 - 1
-abbrev pub told : ℕ → ℕ
-told n = min n (2 ^ 64 - 1)
 
 -- ---- names
 

@@ -2,6 +2,7 @@
 use Rattle.std.specs.Prelude.{◌≡◌, ℕ, pos, ◌+◌, ◌-◌, ◌*◌, ◌/◌, ◌%◌, ◌^◌, nat_lt, if◌then◌else◌, Option, Some, None, List, [], ◌∷◌, ◌++◌, map, slice_index_or, slice_set}
 use Rattle.std.specs.List.{flat_map}
 use Rattle.std.specs.Int.{to_be_bytes, w32}
+use Rattle.pw_value.specs.Caps.{capped}
 use Rattle.pw_value.specs.Limits.{memory_size, word_limit}
 use Rattle.pw_value.specs.ProgramNames.{start_name}
 use Rattle.pw_value.specs.declared.fault.LinkFault.{LinkFault}
@@ -20,7 +21,7 @@ use Rattle.pw_image.specs.declared.image.Function.{Function}
 use Rattle.pw_image.specs.declared.image.GlobalObject.{GlobalObject}
 use Rattle.pw_interface.specs.Interface.{interface}
 use Rattle.pw_program.specs.Linking.{Links, Refusal}
-use Rattle.pw_link.specs.Layout.{Placed, text_of, word_count, Standing, data_of, data_size, data_begin, stack_end, told, address_in, Sites, sites_by}
+use Rattle.pw_link.specs.Layout.{Placed, text_of, word_count, Standing, data_of, data_size, data_begin, stack_end, address_in, Sites, sites_by}
 
 -- ---- relocations
 
@@ -114,8 +115,8 @@ linked objects stack =
 -- the stack.
 abbrev pub fault_by : ℕ → ℕ → Option LinkFault
 fault_by words end =
-    if nat_lt word_limit words then Some (TextTooLarge (told (4 * words))) else
-    if nat_lt memory_size end then Some (MemoryTooLarge (told end)) else None
+    if nat_lt word_limit words then Some (TextTooLarge (capped (4 * words))) else
+    if nat_lt memory_size end then Some (MemoryTooLarge (capped end)) else None
 
 abbrev pub size_fault : List Object → ℕ → Option LinkFault
 size_fault objects stack = fault_by (word_count objects) (stack_end objects stack)

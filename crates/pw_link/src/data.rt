@@ -2,8 +2,9 @@
 
 ghost use Rattle.std.specs.Prelude.{◌≡◌, ◌++◌, ◌+◌, ◌≤◌, map, IfOk, OnOk};
 ghost use Rattle.std.specs.List.{flat_map, sum_by};
+ghost use Rattle.pw_value.specs.Caps.{capped};
 ghost use Rattle.pw_value.specs.Limits.{memory_size};
-ghost use Rattle.pw_link.specs.Layout.{told, standing_from};
+ghost use Rattle.pw_link.specs.Layout.{standing_from};
 ghost use Rattle.pw_flow.specs.ValidFlow.{global_room};
 ghost use Rattle.pw_link.specs.Views.{standing_view};
 
@@ -55,7 +56,7 @@ pub(crate) fn globals_of<'a>(
 
 /// How many bytes objects take, as far as the number goes.
 pub(crate) fn count_bytes(globals: &[&FlowGlobal]) -> u64
-    ensures { result ≡ told (sum_by global_room (map (λ g. g.now) globals.now)) }
+    ensures { result ≡ capped (sum_by global_room (map (λ g. g.now) globals.now)) }
 {
     let mut count: u64 = 0;
     for each in globals {

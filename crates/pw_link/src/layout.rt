@@ -2,9 +2,10 @@
 
 ghost use Rattle.std.specs.Prelude.{◌≡◌, ◌+◌, ◌≤◌, ℕ, map, IfOk};
 ghost use Rattle.std.specs.List.{sum_by};
+ghost use Rattle.pw_value.specs.Caps.{capped};
 ghost use Rattle.pw_value.specs.Limits.{text_start, word_limit, memory_size};
 ghost use Rattle.pw_image.specs.Image.{view, memory_view};
-ghost use Rattle.pw_link.specs.Layout.{told, placed_from, standing_from, routine_addresses};
+ghost use Rattle.pw_link.specs.Layout.{placed_from, standing_from, routine_addresses};
 ghost use Rattle.pw_flow.specs.ValidFlow.{global_room};
 ghost use Rattle.pw_link.specs.Linking.{memory_by, image_by, linked, size_fault};
 ghost use Rattle.pw_link.specs.Sizes.{AreSizes, AnswersSizes, words_of_parts, image_of_parts, fault_of_parts};
@@ -37,7 +38,7 @@ struct Sizes {
 
 /// The sizes of a program of so many words without the last and so many bytes of data.
 fn sizes_of(words: u64, bytes: u64, stack: u32) -> Result<Sizes, LinkFault>
-    ensures { (count size : ℕ) → words ≡ told count → bytes ≡ told size → AreSizes (count + 1) size stack result }
+    ensures { (count size : ℕ) → words ≡ capped count → bytes ≡ capped size → AreSizes (count + 1) size stack result }
 {
     let words = words.saturating_add(1);
     if words > WORD_LIMIT as u64 {

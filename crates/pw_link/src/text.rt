@@ -2,9 +2,10 @@
 
 ghost use Rattle.std.specs.Prelude.{◌≡◌, ◌++◌, ◌+◌, ◌*◌, ◌≤◌, ◌<◌, ◌^◌, map, length, IfOk, OnOk};
 ghost use Rattle.std.specs.List.{flat_map, sum_by};
+ghost use Rattle.pw_value.specs.Caps.{capped};
 ghost use Rattle.pw_value.specs.Limits.{word_limit, text_start};
 ghost use Rattle.pw_milli.specs.Library.{routines};
-ghost use Rattle.pw_link.specs.Layout.{told, piece_of, routine_piece, routine_pieces, function_pieces, placed_from};
+ghost use Rattle.pw_link.specs.Layout.{piece_of, routine_piece, routine_pieces, function_pieces, placed_from};
 ghost use Rattle.pw_link.specs.Views.{piece_view, placed_view};
 
 use pw_inst::Fix;
@@ -106,7 +107,7 @@ pub(crate) fn pieces<'a>(
 
 /// How many words pieces have, as far as the number goes.
 pub(crate) fn count_words(pieces: &[Piece]) -> u64
-    ensures { result ≡ told (sum_by (λ p. length p.words) (map piece_view pieces.now)) }
+    ensures { result ≡ capped (sum_by (λ p. length p.words) (map piece_view pieces.now)) }
 {
     let mut count: u64 = 0;
     for each in pieces {

@@ -5,6 +5,7 @@ use Rattle.std.specs.List.{AllByRecursion, sum_by, flat_map}
 use Rattle.std.proofs.lemmas.Bool.{ltb-false}
 use Rattle.std.proofs.lemmas.List.{length-set, length-append}
 use Rattle.std.proofs.lemmas.List.Sums.{sum_by-cons}
+use Rattle.pw_value.specs.Caps.{capped}
 use Rattle.pw_value.specs.Limits.{text_start, word_limit, memory_size}
 use Rattle.pw_value.specs.Fields.{FitsU32}
 use Rattle.pw_value.specs.ProgramNames.{start_name}
@@ -19,7 +20,7 @@ use Rattle.pw_object.specs.declared.object.Object.{Object}
 use Rattle.pw_object.specs.Object.{IsObject}
 use Rattle.pw_image.specs.Image.{Item, IsInText, IsImage, AreItems}
 use Rattle.pw_program.specs.Linking.{has_main}
-use Rattle.pw_link.specs.Layout.{Piece, placed_from, in_order, pieces_of, word_count, globals_of, Standing, standing_from, data_of, data_size, data_begin, stack_end, told, global_site, Sites}
+use Rattle.pw_link.specs.Layout.{Piece, placed_from, in_order, pieces_of, word_count, globals_of, Standing, standing_from, data_of, data_size, data_begin, stack_end, global_site, Sites}
 use Rattle.pw_flow.specs.ValidFlow.{global_room}
 use Rattle.pw_link.specs.Linking.{with_fix, with_fixes, piece_words, linked_words, nop, item_bytes, item_at, items_of, function_of, global_of, fault_by, linked, AreLinked}
 use Rattle.pw_link_laws.specs.Standing.{sites}
@@ -112,7 +113,7 @@ pub record Sized (words end : ℕ) : Type 0 where
 pub sized : (words end : ℕ) → fault_by words end ≡ None → Sized words end
 sized words end none = by (nat_lt word_limit words) (nat_lt memory_size end) refl refl none
   where
-    by : (a b : Bool) → nat_lt word_limit words ≡ a → nat_lt memory_size end ≡ b → (if a then Some (TextTooLarge (told (4 * words))) else if b then Some (MemoryTooLarge (told end)) else None) ≡ None → Sized words end
+    by : (a b : Bool) → nat_lt word_limit words ≡ a → nat_lt memory_size end ≡ b → (if a then Some (TextTooLarge (capped (4 * words))) else if b then Some (MemoryTooLarge (capped end)) else None) ≡ None → Sized words end
     by true b e f none = absurd cc
     by false true e f none = absurd cc
     by false false e f none = record { text = ltb-false word_limit words e; memory = ltb-false memory_size end f }

@@ -5,6 +5,7 @@ ghost use Rattle.std.specs.List.{list_any};
 ghost use Rattle.pw_literal.specs.Integers as spec;
 
 use pw_types::IntKind;
+use pw_value::words::INT_MOST;
 
 /// An integer constant: its value and its type.
 #[derive(Clone, Copy)]
@@ -112,7 +113,7 @@ fn is_decimal(text: &[u8]) -> bool
 fn kind_of(value: u32, decimal: bool, unsigned: bool, long: bool) -> IntKind
     ensures { Some result ≡ find (λ kind. nat_le value (spec.greatest_of_kind kind)) (spec.types_of_constant decimal unsigned long) }
 {
-    let signed_holds = value <= i32::MAX as u32;
+    let signed_holds = value <= INT_MOST;
     match (unsigned, long) {
         (true, true) => IntKind::ULong,
         (true, false) => IntKind::UInt,

@@ -1,9 +1,9 @@
 -- The effect of each form of instruction on the machine, and of the step at front. All registers are
 -- read before one is written.
-use Rattle.std.specs.Prelude.{ℕ, ℤ, ◌+◌, ◌-◌, ◌*◌, ◌/◌, ◌%◌, ◌^◌, List, Option, Some, None, Bool, true, false, not, ◌&&◌, ◌||◌, ◌==◌, nat_lt, nat_le, int_lt, int_le, bit_and, bit_or, bit_xor, if◌then◌else◌}
-use Rattle.std.specs.Int.{cast_signed, cast_unsigned, w32}
+use Rattle.std.specs.Prelude.{ℕ, ℤ, ◌+◌, ◌-◌, ◌*◌, ◌/◌, ◌%◌, ◌^◌, List, Option, Some, None, Bool, true, false, not, ◌&&◌, ◌||◌, ◌==◌, nat_lt, nat_le, bit_and, bit_or, bit_xor, if◌then◌else◌}
+use Rattle.std.specs.Int.{cast_unsigned, w32}
 use Rattle.pw_value.specs.Limits.{text_start, memory_size}
-use Rattle.pw_value.specs.Words.{unsigned_difference}
+use Rattle.pw_value.specs.Words.{signed_less, signed_at_most, unsigned_less, unsigned_at_most, unsigned_difference}
 use Rattle.pw_inst.specs.declared.Inst.{Inst}
 use Rattle.pw_inst.specs.declared.Inst.TheVariants.{Ldb, Ldh, Ldw, Ldo, Stb, Sth, Stw, Ldil, And, Or, Xor, Sub, Addl, Vshd, Mtctl, Comclr, Subi, Extru, Extrs, Zdep, Combt, Combf, Bl, Bv, Ble, Break}
 use Rattle.pw_inst.specs.InstructionTable.{decoded}
@@ -27,10 +27,10 @@ pub data Effect : Type 0 where
 abbrev pub condition : ℕ → ℕ → ℕ → Bool
 condition c a b =
     if c == 1 then a == b
-    else if c == 2 then int_lt (cast_signed w32 a) (cast_signed w32 b)
-    else if c == 3 then int_le (cast_signed w32 a) (cast_signed w32 b)
-    else if c == 4 then nat_lt a b
-    else if c == 5 then nat_le a b
+    else if c == 2 then signed_less a b
+    else if c == 3 then signed_at_most a b
+    else if c == 4 then unsigned_less a b
+    else if c == 5 then unsigned_at_most a b
     else false
 
 -- the `len` bits of a word that end at bit p, bit 31 being the last

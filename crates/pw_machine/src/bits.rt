@@ -3,6 +3,8 @@
 ghost use Rattle.std.specs.Prelude.{◌≡◌, ◌+◌, ◌-◌, ◌*◌, ◌/◌, ◌%◌, ◌^◌, ◌<◌, ◌≤◌};
 ghost use Rattle.pw_machine.specs.Effect as effect;
 
+use pw_value::words::{signed_at_most, signed_less};
+
 /// Whether a condition holds of two words.
 #[inline(always)]
 pub(crate) fn condition(c: u8, a: u32, b: u32) -> bool
@@ -10,8 +12,8 @@ pub(crate) fn condition(c: u8, a: u32, b: u32) -> bool
 {
     match c {
         1 => a == b,
-        2 => a.cast_signed() < b.cast_signed(),
-        3 => a.cast_signed() <= b.cast_signed(),
+        2 => signed_less(a, b),
+        3 => signed_at_most(a, b),
         4 => a < b,
         5 => a <= b,
         _ => false,

@@ -2,7 +2,7 @@
 use Rattle.std.proofs.Common.{◌≡◌, ◌⊎◌, ℕ, ◌-◌, ◌^◌, ◌==◌, ◌≤◌, ◌<◌, nat_lt, Bool, true, false, if◌then◌else◌, Option, None, Some, List, length, refl, ap, sym, subst, ◌∙◌, arith}
 use mathlib.Core.Logic.{inl, inr}
 use Rattle.pw_value.specs.Limits.{depth_limit, shape_limit, size_limit}
-use Rattle.pw_types.specs.Caps.{capped}
+use Rattle.pw_value.specs.Caps.{capped}
 use Rattle.pw_types.specs.Layouts.{record_layout, record_offsets}
 use Rattle.pw_types.specs.Measures.{Defines, Refuses, layout_by_members, shape_by_members, depth_by_members}
 use Rattle.pw_types.specs.Records.{layouts_of}

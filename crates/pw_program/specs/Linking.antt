@@ -1,11 +1,12 @@
 -- When modules make a program: each name that is used is defined, and once (ISO C90 6.7), all declarations
 -- of a name are of one type (6.1.2.6), and the program has a `main` that takes nothing and returns an int
 -- (5.1.2.2.1). The library is one more module.
-use Rattle.std.specs.Prelude.{ℕ, ◌≡◌, ◌≢◌, ◌<◌, ◌≤◌, ◌⊎◌, ◌-◌, ◌^◌, min, Result, MatchResult, Some, None, List, [], ◌∷◌, ◌++◌, length, map, Contains, slice_get}
+use Rattle.std.specs.Prelude.{ℕ, ◌≡◌, ◌≢◌, ◌<◌, ◌≤◌, ◌⊎◌, Result, MatchResult, Some, None, List, [], ◌∷◌, ◌++◌, length, map, Contains, slice_get}
 use Rattle.std.specs.List.{flat_map, sum_by}
 use Rattle.std.specs.Ordering.{nat_cmp}
 use Rattle.std.specs.Cmp.Lexicographic.{slice_cmp}
 use Rattle.std.specs.declared.cmp.Ordering.TheVariants.{Less}
+use Rattle.pw_value.specs.Caps.{capped}
 use Rattle.pw_value.specs.Limits.{function_limit, global_limit}
 use Rattle.pw_value.specs.ProgramNames.{library_name, library_functions, exit_name, getchar_name, putchar_name, main_shape, exit_shape, getchar_shape, putchar_shape, IsOrdinary}
 use Rattle.pw_value.specs.Shapes.{Agree}
@@ -46,11 +47,7 @@ defined_names modules = names_in library ++ flat_map names_in modules
 abbrev pub used_names : List Interface → List (List ℕ)
 used_names modules = flat_map (λ i. i.used) modules
 
--- how many functions and how many objects the modules define, $start included and the library not; a count
--- stands still at its end
-abbrev pub told_count : ℕ → ℕ
-told_count n = min n (2 ^ 64 - 1)
-
+-- how many functions and how many objects the modules define, $start included and the library not
 abbrev pub function_count : List Interface → ℕ
 function_count modules = sum_by (λ i. length i.functions) modules
 
@@ -129,8 +126,8 @@ Passes has_main modules = HasMain modules
 
 -- what a test that fails tells
 abbrev pub Fails : Test → List Interface → LinkFault → Type 0
-Fails few_functions modules fault = (function_limit < function_count modules) × (fault ≡ F.TooMany Functions (told_count (function_count modules)))
-Fails few_globals modules fault = (global_limit < global_count modules) × (fault ≡ F.TooMany Globals (told_count (global_count modules)))
+Fails few_functions modules fault = (function_limit < function_count modules) × (fault ≡ F.TooMany Functions (capped (function_count modules)))
+Fails few_globals modules fault = (global_limit < global_count modules) × (fault ≡ F.TooMany Globals (capped (global_count modules)))
 Fails all_defined modules fault = (name : List ℕ) × IsLeastName (IsUndefined modules) name × (fault ≡ F.Undefined name)
 Fails defined_once modules fault = (name : List ℕ) × (one : List ℕ) × (other : List ℕ) × IsLeastPair (IsDefinedTwice modules) name one other × (fault ≡ F.Duplicate name one other)
 Fails all_agree modules fault = (name : List ℕ) × (one : List ℕ) × (other : List ℕ) × IsLeastPair (IsInConflict modules) name one other × (fault ≡ F.Conflict name one other)

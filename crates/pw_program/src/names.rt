@@ -1,8 +1,9 @@
 //! What modules define, declare and use, each in one list.
 
-ghost use Rattle.std.specs.Prelude.{◌≡◌, ◌++◌, map, min, ◌-◌, ◌^◌, OnOk, IfOk, length};
+ghost use Rattle.std.specs.Prelude.{◌≡◌, ◌++◌, map, OnOk, IfOk, length};
 ghost use Rattle.std.specs.List.{flat_map, sum_by};
-ghost use Rattle.pw_program.specs.Linking.{names_in, defined_in, declared_in, told_count, function_count, global_count};
+ghost use Rattle.pw_value.specs.Caps.{capped};
+ghost use Rattle.pw_program.specs.Linking.{names_in, defined_in, declared_in, function_count, global_count};
 ghost use Rattle.pw_program.specs.Entries.{definition, declaration};
 
 use crate::interface::Interface;
@@ -27,7 +28,7 @@ pub(crate) struct Declared<'a> {
 
 /// How many functions the modules define.
 pub(crate) fn count_functions(modules: &[Interface]) -> u64
-    ensures { result ≡ told_count (function_count modules.now) }
+    ensures { result ≡ capped (function_count modules.now) }
 {
     let mut count: u64 = 0;
     for each in modules {
@@ -38,7 +39,7 @@ pub(crate) fn count_functions(modules: &[Interface]) -> u64
 
 /// How many objects the modules define.
 pub(crate) fn count_globals(modules: &[Interface]) -> u64
-    ensures { result ≡ told_count (global_count modules.now) }
+    ensures { result ≡ capped (global_count modules.now) }
 {
     let mut count: u64 = 0;
     for each in modules {

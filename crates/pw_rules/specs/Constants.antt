@@ -1,5 +1,5 @@
 -- Constant expressions (ISO C90 6.4), told from typed trees.
-use Rattle.std.specs.Prelude.{ℕ, ◌+◌, ◌-◌, ◌*◌, ◌%◌, ◌^◌, ◌==◌, Bool, true, false, not, ◌&&◌, ◌||◌, nat_le, if◌then◌else◌, Option, None, Some, option_and_then, unwrap_or, Result, Ok, Err, List, bit_and, bit_or, bit_xor}
+use Rattle.std.specs.Prelude.{ℕ, ◌+◌, ◌-◌, ◌*◌, ◌%◌, ◌^◌, ◌==◌, Bool, true, false, not, ◌||◌, nat_le, if◌then◌else◌, Option, None, Some, option_and_then, unwrap_or, Result, Ok, Err, List, bit_and, bit_or, bit_xor}
 use Rattle.pw_types.specs.Conversions.{size_of_kind, is_signed_kind}
 use Rattle.pw_types.specs.declared.kind.IntKind.{IntKind}
 use Rattle.pw_types.specs.declared.tree.BinaryOperator.{BinaryOperator}
@@ -13,7 +13,7 @@ use Rattle.pw_types.specs.TypedTrees.{Symbol, Hidden, Expression, Node, type_at}
 use Rattle.pw_types.specs.TypedTrees as T
 use Rattle.pw_types.specs.Layouts.{size_of}
 use Rattle.pw_value.specs.Values.{extended}
-use Rattle.pw_value.specs.Words.{signed_sum, signed_difference, signed_product, signed_negation, signed_quotient, signed_remainder, signed_less, signed_at_most, signed_shift_right, unsigned_sum, unsigned_difference, unsigned_product, unsigned_negation, unsigned_quotient, unsigned_remainder, unsigned_less, unsigned_at_most, unsigned_shift_right, shift_left}
+use Rattle.pw_value.specs.Words.{is_negative, magnitude, signed_sum, signed_difference, signed_product, signed_negation, signed_quotient, signed_remainder, signed_less, signed_at_most, signed_shift_right, unsigned_sum, unsigned_difference, unsigned_product, unsigned_negation, unsigned_quotient, unsigned_remainder, unsigned_less, unsigned_at_most, unsigned_shift_right, shift_left}
 use Rattle.pw_value.specs.declared.words.WordFault.{WordFault}
 use Rattle.pw_rules.specs.Kinds.{is_pointer, kind_in, pointee}
 use Rattle.pw_types.specs.WellTyped.{type_in}
@@ -182,11 +182,11 @@ moved_back bytes p = if nat_le bytes p.offset then Some (record p { offset = p.o
 -- so many elements on, where the count is a word of its type
 abbrev pub moved : IntKind → ℕ → ℕ → Place → Option Place
 moved kind size n p =
-    if is_signed_kind kind && nat_le (2 ^ 31) n then moved_back (size * (2 ^ 32 - n)) p else moved_on (size * n) p
+    if is_negative (is_signed_kind kind) n then moved_back (size * magnitude true n) p else moved_on (size * magnitude false n) p
 
 abbrev pub moved_against : IntKind → ℕ → ℕ → Place → Option Place
 moved_against kind size n p =
-    if is_signed_kind kind && nat_le (2 ^ 31) n then moved_on (size * (2 ^ 32 - n)) p else moved_back (size * n) p
+    if is_negative (is_signed_kind kind) n then moved_on (size * magnitude true n) p else moved_back (size * magnitude false n) p
 
 -- the size of what a pointer points to
 abbrev pub step_of : List RecordValue → CType → ℕ

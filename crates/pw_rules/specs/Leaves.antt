@@ -1,5 +1,5 @@
 -- What single names, constants and parts of declarators say, where no phrase within them is read any more.
-use Rattle.std.specs.Prelude.{ℕ, ◌+◌, ◌-◌, ◌%◌, ◌^◌, ◌==◌, Bool, true, false, not, ◌&&◌, ◌||◌, nat_le, nat_lt, if◌then◌else◌, Option, None, Some, is_some, is_none, unwrap_or, option_and_then, List, [], ◌∷◌, ◌++◌, length, map, filter, slice_get}
+use Rattle.std.specs.Prelude.{ℕ, ◌+◌, ◌==◌, Bool, true, false, not, ◌&&◌, ◌||◌, nat_le, if◌then◌else◌, Option, None, Some, is_some, is_none, unwrap_or, option_and_then, List, [], ◌∷◌, ◌++◌, length, map, filter, slice_get}
 use Rattle.std.specs.List.{list_any}
 use Rattle.std.specs.Option.{option_map_or}
 use Rattle.std.specs.Str.{bytes_eq}
@@ -20,6 +20,7 @@ use Rattle.pw_types.specs.Layouts.{record_layout, record_offsets}
 use Rattle.pw_types.specs.Records.{kind_at, layouts_of, deepest, declared, defined}
 use Rattle.pw_types.specs.Shapes.{record_shape, member_shapes}
 use Rattle.pw_value.specs.Limits.{depth_limit, shape_limit, size_limit}
+use Rattle.pw_value.specs.Words.{int_most, is_negative, unsigned_sum}
 use Rattle.pw_walk.specs.Causes.{Point, Cause, needs, keeps, DeclaredIdentifier, DeclaredTag, OneKindOfTag, OneContent, OneMember, LawfulStorage, VoidAlone, CompleteMember, IntegerFits, OneCharacter, EscapeFits, ConstantExpression, PositiveLength, EnumeratorFits, NoRecordByValue}
 use Rattle.pw_walk.specs.declared.fault.Which.TheVariants.{ObjectSize, ShapeLength, TypeDepth}
 use Rattle.pw_walk.specs.Walks.{meets, granted, refused, pure, asks, change, ◌>>=◌, ◌>>◌}
@@ -121,11 +122,11 @@ constant_point first e = needs ConstantExpression first (is_some (constant_value
 
 -- a number of the type that is above 0
 abbrev pub is_positive : CType → ℕ → Bool
-is_positive ty n = nat_le 1 n && (not (is_signed_kind (kind_in ty)) || nat_lt n (2 ^ 31))
+is_positive ty n = nat_le 1 n && not (is_negative (is_signed_kind (kind_in ty)) n)
 
 -- a number of the type that an int can hold
 abbrev pub is_int : CType → ℕ → Bool
-is_int ty n = is_signed_kind (kind_in ty) || nat_lt n (2 ^ 31)
+is_int ty n = is_signed_kind (kind_in ty) || nat_le n int_most
 
 -- the length of an array is at least 1 (6.5.4.2)
 unfoldable pub length_rule : ℕ → Expression → Rule ℕ
@@ -298,7 +299,7 @@ enumerator_value first e =
 
 -- one more than the value before, unless that is the greatest int
 abbrev pub value_after : ℕ → Option ℕ
-value_after n = if n == 2 ^ 31 - 1 then None else Some ((n + 1) % 2 ^ 32)
+value_after n = if n == int_most then None else Some (unsigned_sum n 1)
 
 -- an enumerator with its value, where there is one
 unfoldable pub enumerator_rule : Word → Option ℕ → Rule (Option ℕ)

@@ -79,8 +79,6 @@ pub enum Feature {
     Variadic,
     /// A directive line.
     Directive,
-    /// A `goto` or a label for one.
-    Goto,
     /// A bit-field.
     BitField,
     /// A parameter list of identifiers.

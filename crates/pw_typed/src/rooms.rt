@@ -1,7 +1,7 @@
 //! The nodes of typed trees, and the room of a function.
 
 ghost use Rattle.std.specs.Prelude.{◌≡◌, ◌+◌, sum_by};
-ghost use Rattle.pw_types.specs.Caps.{capped};
+ghost use Rattle.pw_value.specs.Caps.{capped};
 ghost use Rattle.pw_types.specs.Rooms as spec;
 ghost use Rattle.pw_types.specs.Spines.{others_of};
 ghost use Rattle.pw_typed.specs.Views as view;

@@ -12,10 +12,10 @@ use Rattle.pw_value.specs.Limits.{size_limit}
 use Rattle.pw_types.specs.Shapes.{record_shape, member_shapes}
 use Rattle.pw_types.specs.Records.{IsLaid, IsObjectType, layouts_of, deepest}
 use Rattle.pw_value.specs.Limits.{shape_limit, depth_limit}
-use Rattle.pw_types.specs.Caps.{clipped}
+use Rattle.pw_value.specs.Caps.{clipped}
 use Rattle.pw_types.specs.Measures.{Measures, size_by, offsets_by, layout_by_members, shape_by_members, depth_by_members, Defines, Refuses}
 use Rattle.pw_types.specs.declared.contents.RecordFault.TheVariants.{TooLarge, ShapeTooLong, TooDeep}
-use Rattle.pw_types.specs.Caps.{capped}
+use Rattle.pw_value.specs.Caps.{capped}
 use Rattle.pw_types.proofs.RecordLemmas.{aligned-by_laid, IsSome-object_type}
 
 -- a number is not above the next multiple of an alignment

@@ -10,7 +10,7 @@ use Rattle.pw_types.specs.declared.record.Member.{Member}
 use Rattle.pw_types.specs.declared.record.Layout.{Layout}
 use Rattle.pw_types.specs.Layouts.{layout_of, scalar_layout, round_up, offsets_from, end_from, greatest, align_of}
 use Rattle.pw_types.specs.Records.{layouts_of, IsObjectType}
-use Rattle.pw_types.specs.Caps.{clipped}
+use Rattle.pw_value.specs.Caps.{clipped}
 use Rattle.std.proofs.lemmas.List.{take_more}
 use Rattle.pw_types.proofs.ListLemmas.{map-append_one, greatest-append_one}
 

@@ -12,7 +12,7 @@ use Rattle.pw_types.specs.declared.kind.IntKind.TheVariants as K
 use Rattle.pw_types.specs.Conversions.{size_of_kind}
 use Rattle.pw_types.specs.declared.ctype.QType.{QType}
 use Rattle.pw_types.specs.declared.record.Layout.{Layout}
-use Rattle.pw_types.specs.Caps.{clipped, capped}
+use Rattle.pw_value.specs.Caps.{clipped, capped}
 use Rattle.pw_types.specs.Layouts.{layout_of, array_layout, size_of, told}
 use Rattle.pw_value.specs.Limits.{size_limit}
 use Rattle.pw_types.specs.Sizes.{passing, oversize_of, first_oversize}

@@ -5,7 +5,7 @@ use Rattle.pw_types.specs.TypeTrees.{CType, Void, Int, Pointer, Array, Function,
 use Rattle.pw_types.specs.declared.record.RecordKind.{RecordKind}
 use Rattle.pw_types.specs.declared.record.RecordKind.TheVariants.{Structure, Union}
 use Rattle.pw_types.specs.declared.record.Layout.{Layout}
-use Rattle.pw_types.specs.Caps.{clipped}
+use Rattle.pw_value.specs.Caps.{clipped}
 use Rattle.pw_types.specs.Conversions.{size_of_kind}
 
 -- what a record's definition says; None for one that is not defined

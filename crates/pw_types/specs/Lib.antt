@@ -1,4 +1,3 @@
-pub mod Caps
 pub mod Conversions
 pub mod Kinds
 pub mod Layouts

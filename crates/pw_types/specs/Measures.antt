@@ -12,7 +12,7 @@ use Rattle.pw_value.specs.Limits.{size_limit}
 use Rattle.pw_types.specs.Shapes.{record_shape, member_shapes}
 use Rattle.pw_types.specs.Records.{layouts_of, deepest, Follows}
 use Rattle.pw_value.specs.Limits.{shape_limit, depth_limit}
-use Rattle.pw_types.specs.Caps.{clipped, capped}
+use Rattle.pw_value.specs.Caps.{clipped, capped}
 
 -- The members of these layouts, one after another: their offsets, where the last one ends, the
 -- greatest size and the greatest alignment.

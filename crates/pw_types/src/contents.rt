@@ -4,7 +4,7 @@
 ghost use Rattle.std.specs.Prelude.{◌≡◌, ◌+◌, ◌<◌, ◌≤◌, ◌^◌, ◌++◌, All, IfOk, IfErr, OnOk, IsTrue, ◌↔◌, Some};
 ghost use Rattle.pw_types.specs.Layouts as spec;
 ghost use Rattle.pw_types.specs.Records.{IsObjectType, layouts_of, deepest as depth_of_deepest};
-ghost use Rattle.pw_types.specs.Caps.{capped};
+ghost use Rattle.pw_value.specs.Caps.{capped};
 ghost use Rattle.pw_types.specs.Measures.{Measures, size_by, offsets_by, Defines, Refuses};
 ghost use Rattle.pw_types.specs.Shapes.{record_shape, member_shapes};
 ghost use Rattle.pw_types.specs.TypeTrees.{type_of};
@@ -13,10 +13,10 @@ ghost use Rattle.pw_types.specs.Views.{view_type, view_members, view_content};
 use crate::depths::depth;
 use crate::layouts::{cap, clip, is_object_type, layout, round_up};
 use crate::record::{Content, Layout, Member, RecordKind};
-use crate::shapes::{closing, opening, push_decimal, push_shape};
+use crate::shapes::{closing, opening, push_shape};
 use crate::types::Types;
-use pw_value::Shape;
 use pw_value::limits::{DEPTH_LIMIT, SHAPE_LIMIT, SIZE_LIMIT};
+use pw_value::{Shape, push_decimal};
 use std::alloc::{AllocError, Global};
 
 /// Why a structure or union type is refused: its size, the length of its shape or its depth passes the
@@ -132,7 +132,7 @@ fn record_text(
 {
     let mut text = Vec::new(alloc);
     text.push(opening(kind))?;
-    push_decimal(&mut text, size)?;
+    push_decimal(&mut text, u64::from(size))?;
     text.push(b':')?;
     push_members(&mut text, types, members)?;
     text.push(closing(kind))?;

@@ -3,7 +3,7 @@
 ghost use Rattle.std.specs.Prelude.{◌≡◌, min, ◌^◌, ◌-◌};
 ghost use Rattle.std.specs.Option.{option_map_or};
 ghost use Rattle.pw_types.specs.Layouts.{content_at};
-ghost use Rattle.pw_types.specs.Caps.{capped};
+ghost use Rattle.pw_value.specs.Caps.{capped};
 ghost use Rattle.pw_types.specs.Records as spec;
 ghost use Rattle.pw_types.specs.Views.{view_type, view_types};
 

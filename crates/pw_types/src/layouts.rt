@@ -1,7 +1,7 @@
 //! Sizes and alignments of types (ISO C90 6.1.2.5), and the limit on sizes.
 
 ghost use Rattle.std.specs.Prelude.{◌≡◌, ◌≤◌, ◌<◌, ◌+◌, ◌*◌, ◌^◌, ◌↔◌, IsTrue, option_map, option_and_then, IfSome, IfOk, IfErr, OnOk};
-ghost use Rattle.pw_types.specs.Caps.{clipped, capped};
+ghost use Rattle.pw_value.specs.Caps.{clipped, capped};
 ghost use Rattle.pw_types.specs.Layouts as spec;
 ghost use Rattle.pw_value.specs.Limits.{size_limit};
 ghost use Rattle.pw_types.specs.Records.{IsObjectType};

@@ -1,6 +1,6 @@
 //! Shapes of types.
 
-ghost use Rattle.std.specs.Prelude.{◌≡◌, ◌∷◌, ◌++◌, List, ℕ, IfOk, OnOk, decimal, map, take, drop};
+ghost use Rattle.std.specs.Prelude.{◌≡◌, ◌∷◌, ◌++◌, List, ℕ, IfOk, OnOk, map, take, drop};
 ghost use Rattle.pw_types.specs.Shapes as spec;
 ghost use Rattle.pw_types.specs.Views.{view_type, view_qtype, view_types, view_record};
 
@@ -8,8 +8,7 @@ use crate::ctype::{CType, QType};
 use crate::kind::IntKind;
 use crate::record::{RecordKind, RecordType};
 use crate::types::Types;
-use itoa::Buffer;
-use pw_value::Shape;
+use pw_value::{Shape, push_decimal};
 use std::alloc::{AllocError, Global};
 
 /// The shape of a type.
@@ -64,18 +63,10 @@ fn push_length(text: &mut Vec<u8>, count: Option<u32>) -> Result<(), AllocError>
 {
     text.push(b'[')?;
     if let Some(count) = count {
-        push_decimal(text, count)?;
+        push_decimal(text, u64::from(count))?;
     }
     text.push(b']')?;
     Ok(())
-}
-
-/// Puts a number in decimal.
-pub(crate) fn push_decimal(text: &mut Vec<u8>, number: u32) -> Result<(), AllocError>
-    ensures { OnOk result (text.new.items ≡ text.old.items ++ decimal number) }
-{
-    let mut buffer = Buffer::new();
-    text.extend_from_slice(buffer.format(number).as_bytes())
 }
 
 /// Puts the shape of a function's type.

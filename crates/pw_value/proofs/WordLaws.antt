@@ -1,17 +1,17 @@
 -- The product of ints, where an int can hold it, is the product modulo 2^32.
-use Rattle.std.proofs.Common.{◌≡◌, ℕ, ◌<◌, ◌*◌, ◌%◌, ◌^◌, Bool, true, false, cond, arith, refl, sym, ap, ◌∙◌}
+use Rattle.std.proofs.Common.{◌≡◌, ℕ, ◌<◌, ◌≤◌, ◌*◌, ◌%◌, ◌^◌, Bool, true, false, cond, arith, refl, sym, ap, ◌∙◌}
 use Rattle.std.specs.Prelude.{ℤ, pos, negsuc, ◌*ℤ◌, nat_lt, Result, Ok, Err}
 use Rattle.std.specs.Int.{w32, cast_signed, cast_unsigned}
 use Rattle.std.specs.Int.RustNames.{FitsSigned}
 use Rattle.std.proofs.lemmas.Int.{wrapping_mul-bits, int_wrap_fits, of_z-to_z}
-use Rattle.std.proofs.lemmas.Bool.{ltb-true}
+use Rattle.std.proofs.lemmas.Bool.{leb-true}
 use Rattle.pw_value.specs.declared.words.WordFault.{WordFault}
 use Rattle.pw_value.specs.declared.words.WordFault.TheVariants.{Overflow}
-use Rattle.pw_value.specs.Words.{signed, word, fits, exact, signed_product, unsigned_product}
+use Rattle.pw_value.specs.Words.{signed, word, int_most, fits, exact, signed_product, unsigned_product}
 
 fits_signed : (z : ℤ) → fits z ≡ true → FitsSigned w32 z
-fits_signed (pos n) e = record { sfits = ltb-true n (2 ^ 31) e }
-fits_signed (negsuc n) e = record { sfits = ltb-true n (2 ^ 31) e }
+fits_signed (pos n) e = record { sfits = let h : n ≤ int_most = leb-true n int_most e in omega arith }
+fits_signed (negsuc n) e = record { sfits = let h : n ≤ int_most = leb-true n int_most e in omega arith }
 
 product_by : (a b : ℕ) → a < 2 ^ 32 → b < 2 ^ 32 → fits (signed a *ℤ signed b) ≡ true → word (signed a *ℤ signed b) ≡ unsigned_product a b
 product_by a b small little e =

@@ -1,4 +1,5 @@
 pub mod Limits
+pub mod Caps
 pub mod Names
 pub mod ProgramNames
 pub mod Fields

@@ -1,6 +1,6 @@
 -- Arithmetic on words of 32 bits, as C has it for int and unsigned int. A word is a number from 0 to
 -- 2^32 - 1; an int stands in it in two's complement (ISO C90 6.1.2.5).
-use Rattle.std.specs.Prelude.{ℕ, ℤ, pos, negsuc, neg_ℤ, ◌+◌, ◌-◌, ◌*◌, ◌/◌, ◌%◌, ◌^◌, ◌+ℤ◌, ◌-ℤ◌, ◌*ℤ◌, ◌==◌, Bool, nat_lt, nat_le, int_lt, int_le, int_div, int_rem, Result, Ok, Err, if◌then◌else◌}
+use Rattle.std.specs.Prelude.{ℕ, ℤ, pos, negsuc, neg_ℤ, ◌+◌, ◌-◌, ◌*◌, ◌/◌, ◌%◌, ◌^◌, ◌+ℤ◌, ◌-ℤ◌, ◌*ℤ◌, ◌==◌, ◌&&◌, Bool, nat_lt, nat_le, int_lt, int_le, int_div, int_rem, Result, Ok, Err, if◌then◌else◌}
 use Rattle.std.specs.Int.{w32, cast_signed, cast_unsigned, int_shr}
 use Rattle.pw_value.specs.declared.words.WordFault.{WordFault}
 use Rattle.pw_value.specs.declared.words.WordFault.TheVariants.{Overflow, ZeroDivisor, ShiftCount}
@@ -12,10 +12,22 @@ signed a = cast_signed w32 a
 abbrev pub word : ℤ → ℕ
 word z = cast_unsigned w32 z
 
--- whether an int can hold the number: it lies in -2^31 to 2^31 - 1 (5.2.4.2.1)
+-- the greatest int (5.2.4.2.1)
+abbrev pub int_most : ℕ
+int_most = 2 ^ 31 - 1
+
+-- whether a word stands for a negative number, where it is an int's or an unsigned int's; and how far from 0
+-- the number is that it stands for, where it is negative or not
+abbrev pub is_negative : Bool → ℕ → Bool
+is_negative sign a = sign && nat_lt int_most a
+
+abbrev pub magnitude : Bool → ℕ → ℕ
+magnitude negative a = if negative then 2 ^ 32 - a else a
+
+-- whether an int can hold the number: it lies in -2^31 to 2^31 - 1
 abbrev pub fits : ℤ → Bool
-fits (pos n) = nat_lt n (2 ^ 31)
-fits (negsuc n) = nat_lt n (2 ^ 31)
+fits (pos n) = nat_le n int_most
+fits (negsuc n) = nat_le n int_most
 
 -- The exact result of an operation on ints, where an int can hold it; else the operation overflows (6.3).
 abbrev pub exact : ℤ → Result ℕ WordFault

@@ -3,6 +3,7 @@
 #![tactic(auto)]
 
 pub mod codec;
+pub mod decimal;
 pub mod fault;
 pub mod fields;
 pub mod laws;
@@ -15,6 +16,7 @@ pub mod value;
 pub mod words;
 
 pub use codec::{decode, decode_pointer, encode};
+pub use decimal::push_decimal;
 pub use fault::{FileError, LinkFault, What};
 pub use name::{Name, NameError};
 pub use rounding::round8;

@@ -48,6 +48,33 @@ pub fn next_word(count: u32) -> Result<u32, AllocError>
     count.checked_add(1).ok_or(AllocError)
 }
 
+/// The greatest int.
+pub const INT_MOST: u32 = (1 << 31) - 1;
+
+/// The greatest int is that of the definitions.
+pub fn int_most_is_the_greatest_int()
+    ensures { INT_MOST ≡ spec.int_most }
+{}
+
+/// Whether a word stands for a negative number, where it is an int's or an unsigned int's.
+pub fn is_negative(signed: bool, a: u32) -> bool
+    ensures { result ≡ spec.is_negative signed a }
+{
+    signed && a > INT_MOST
+}
+
+/// How far from 0 the number is that a word stands for, where it is negative or not.
+pub fn magnitude(negative: bool, a: u32) -> u64
+    ensures value { result ≡ spec.magnitude negative a }
+    ensures fits { result ≤ 2 ^ 32 }
+{
+    if negative {
+        (1 << 32) - u64::from(a)
+    } else {
+        u64::from(a)
+    }
+}
+
 /// The sum of unsigned ints.
 pub fn unsigned_sum(a: u32, b: u32) -> u32
     ensures { result ≡ spec.unsigned_sum a b }
@@ -177,6 +204,7 @@ pub fn signed_remainder(a: u32, b: u32) -> Result<u32, WordFault>
 }
 
 /// Whether an int is less than another.
+#[inline(always)]
 pub fn signed_less(a: u32, b: u32) -> bool
     ensures { result ≡ spec.signed_less a b }
 {
@@ -184,6 +212,7 @@ pub fn signed_less(a: u32, b: u32) -> bool
 }
 
 /// Whether an int is less than another or equal to it.
+#[inline(always)]
 pub fn signed_at_most(a: u32, b: u32) -> bool
     ensures { result ≡ spec.signed_at_most a b }
 {

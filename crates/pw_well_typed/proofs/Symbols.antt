@@ -24,6 +24,7 @@ use Rattle.pw_types.specs.TypedTrees as T
 use Rattle.pw_walk.specs.Causes.{DeclaredIdentifier, DeclaredMember}
 use Rattle.pw_walk.specs.Walks.{Walk, Done, bind, granted}
 use Rattle.pw_types.specs.Conversions.{is_signed_kind}
+use Rattle.pw_value.specs.Words.{is_negative}
 use Rattle.pw_types.specs.declared.kind.IntKind.{IntKind}
 use Rattle.pw_rules.specs.Constants.{Place, Asked, AsAddress, AsPlace, constant_value, is_within, within, moved_on, moved_back, moved, moved_against, step_of, moved_by, place_of}
 use Rattle.pw_rules.specs.Kinds.{plain, unqualified, kind_in, int_type, is_function, is_pointer, same_type}
@@ -475,14 +476,14 @@ abbrev KeepsSymbol : (IntKind → ℕ → ℕ → Place → Option Place) → Ty
 KeepsSymbol move = (kind : IntKind) (size n : ℕ) (q p : Place) → move kind size n q ≡ Some p → p.symbol ≡ q.symbol
 
 moved_symbol : KeepsSymbol moved
-moved_symbol kind size n q p e = by (is_signed_kind kind && nat_le (2 ^ 31) n) e
+moved_symbol kind size n q p e = by (is_negative (is_signed_kind kind) n) e
   where
     by : (b : Bool) → (if b then moved_back (size * (2 ^ 32 - n)) q else moved_on (size * n) q) ≡ Some p → p.symbol ≡ q.symbol
     by true f = back_symbol (size * (2 ^ 32 - n)) q p f
     by false f = within_symbol (record q { offset = q.offset + size * n }) p f
 
 against_symbol : KeepsSymbol moved_against
-against_symbol kind size n q p e = by (is_signed_kind kind && nat_le (2 ^ 31) n) e
+against_symbol kind size n q p e = by (is_negative (is_signed_kind kind) n) e
   where
     by : (b : Bool) → (if b then moved_on (size * (2 ^ 32 - n)) q else moved_back (size * n) q) ≡ Some p → p.symbol ≡ q.symbol
     by true f = within_symbol (record q { offset = q.offset + size * (2 ^ 32 - n) }) p f

@@ -4,7 +4,7 @@ use Rattle.pw_labels.proofs.Steps.{from}
 use Rattle.pw_rules.specs.Functions.{measured_rule}
 use Rattle.pw_rules.specs.States.{records_in}
 use Rattle.pw_typed.specs.Views as typed
-use Rattle.pw_types.specs.Caps.{capped}
+use Rattle.pw_value.specs.Caps.{capped}
 use Rattle.pw_types.specs.Rooms.{nodes_of, room_of}
 use Rattle.pw_value.specs.Limits.{node_limit, room_limit}
 use Rattle.pw_walk.specs.Causes.{keeps}

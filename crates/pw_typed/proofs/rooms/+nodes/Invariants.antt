@@ -1,5 +1,5 @@
 use Rattle.std.proofs.Common.{◌≡◌, ◌+◌, ◌≤◌, drop}
-use Rattle.pw_types.specs.Caps.{capped}
+use Rattle.pw_value.specs.Caps.{capped}
 use Rattle.pw_types.specs.Rooms as spec
 use Rattle.pw_typed.specs.Views as view
 use Rattle.pw_typed.specs.declared.tree.TForm.{size-TForm}

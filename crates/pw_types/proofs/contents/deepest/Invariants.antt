@@ -1,5 +1,5 @@
 use Rattle.std.proofs.Common.{◌≡◌, max, drop}
-use Rattle.pw_types.specs.Caps.{capped}
+use Rattle.pw_value.specs.Caps.{capped}
 use Rattle.pw_types.specs.Records as spec
 use Rattle.pw_types.specs.Views.{view_members}
 use Rattle.pw_types.proofs.contents.deepest.Given as goal
