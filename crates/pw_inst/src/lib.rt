@@ -13,7 +13,7 @@ mod relocation;
 mod setting;
 
 pub use decoding::{decode, word_is_decoded_again, words_differ};
-pub use encoding::encode;
+pub use encoding::{NOP, encode, nop_is_an_instruction};
 pub use limits::{NEAR_LEAST, NEAR_MOST, ROUTINE_COUNT, limits_of_instructions};
 pub use line::Line;
 pub use listing::{target, text};
