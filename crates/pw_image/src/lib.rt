@@ -9,5 +9,5 @@ mod writing;
 
 pub use image::{DataItem, Function, GlobalObject, Image, Memory, data_start};
 pub use load::{LoadError, Map, read_map};
-pub use reading::{KIND, read_image};
+pub use reading::{KIND, VERSION, read_image};
 pub use writing::write_image;

@@ -26,7 +26,7 @@ use std::alloc::{AllocError, Global};
 pub const KIND: u32 = 0x5041_5749;
 
 /// The version of the form of an image file.
-pub(crate) const VERSION: u32 = 1;
+pub const VERSION: u32 = 1;
 
 /// Whether an address is that of a word, in a text of so many words.
 fn is_word_address(words: u64, address: u32) -> bool
