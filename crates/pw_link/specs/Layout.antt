@@ -1,11 +1,10 @@
 -- Where the functions, the routines and the global objects of a linked program stand.
-use Rattle.std.specs.Prelude.{Bool, ℕ, ◌+◌, ◌-◌, ◌*◌, ◌%◌, ◌^◌, min, List, [], ◌∷◌, ◌++◌, map, length, drop, fold, insert, unwrap_or}
+use Rattle.std.specs.Prelude.{ℕ, ◌+◌, ◌-◌, ◌*◌, ◌%◌, ◌^◌, min, List, [], ◌∷◌, ◌++◌, map, length, drop, fold, insert, unwrap_or}
 use Rattle.std.specs.List.{flat_map, sum_by, position_or_len}
 use Rattle.std.specs.Map.{lookup}
 use Rattle.std.specs.Str.{bytes_eq}
-use Rattle.std.specs.Ordering.{nat_cmp, is_lt}
-use Rattle.std.specs.Cmp.Lexicographic.{slice_cmp}
 use Rattle.pw_value.specs.Limits.{text_start}
+use Rattle.pw_value.specs.Names.{is_before}
 use Rattle.pw_value.specs.Rounding.{stack_start}
 use Rattle.pw_inst.specs.Limits.{routine_count}
 use Rattle.pw_inst.specs.declared.relocation.Fix.{Fix}
@@ -17,9 +16,6 @@ use Rattle.pw_image.specs.Image.{data_start}
 use Rattle.pw_milli.specs.Library.{routines}
 
 -- ---- order
-
-abbrev pub is_before : List ℕ → List ℕ → Bool
-is_before a b = is_lt (slice_cmp nat_cmp a b)
 
 -- an object put before the first whose module's name is behind its own
 abbrev pub inserted : Object → List Object → List Object

@@ -13,7 +13,8 @@ use Rattle.pw_object.specs.declared.object.Object.{Object}
 use Rattle.pw_object.specs.Functions.{IsFunction}
 use Rattle.pw_object.specs.Object.{IsObject}
 use Rattle.pw_milli.specs.Library.{routines}
-use Rattle.pw_link.specs.Layout.{Piece, piece_of, routine_piece, routine_pieces, function_pieces, in_order, is_before, pieces_of, placed_from, Sites}
+use Rattle.pw_value.specs.Names.{is_before}
+use Rattle.pw_link.specs.Layout.{Piece, piece_of, routine_piece, routine_pieces, function_pieces, in_order, pieces_of, placed_from, Sites}
 use Rattle.pw_link.specs.Linking.{settled, with_fix, with_fixes, piece_words, linked_words}
 use Rattle.std.specs.List.{position_or_len}
 use Rattle.pw_link_laws.proofs.Kept.{all_placed, all_append, all_map, all_flat, all_by}
