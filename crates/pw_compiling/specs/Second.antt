@@ -15,7 +15,7 @@ use Rattle.pw_modules.specs.FileNames.{database_name, flow_name, object_name}
 use Rattle.pw_answer.specs.declared.answer.Answer.{Answer}
 use Rattle.pw_answer.specs.Effects.{Effect, PutPart, answers_alone, puts_files}
 use Rattle.pw_commands.specs.Needed.{needed}
-use Rattle.pw_commands.specs.Showing.{database_at}
+pub use Rattle.pw_commands.specs.Showing.{database_at}
 
 abbrev pub flow_at : List ℕ → Result FlowModule ℕ
 flow_at bytes = value_of (flow_file_at bytes)

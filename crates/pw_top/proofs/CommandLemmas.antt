@@ -32,8 +32,7 @@ use Rattle.pw_words.specs.declared.commands.Command.{Command}
 use Rattle.pw_words.specs.declared.commands.Command.TheVariants.{Go, Build as BuildAll, Session, PhaseOne, Analyse, PhaseTwo, Link, Run, List as ListImage, Db, Bench}
 use Rattle.pw_compiling.specs.First.{ComesOfPhase, PhaseOneComes, PhaseOneOver}
 use Rattle.pw_compiling.specs.Made.{IsPhaseAnswer}
-use Rattle.pw_commands.specs.Showing.{database_at}
-use Rattle.pw_compiling.specs.Second.{PhaseTwoComes, PhaseTwoOver, flow_at}
+use Rattle.pw_compiling.specs.Second.{PhaseTwoComes, PhaseTwoOver, database_at, flow_at}
 use Rattle.pw_top.specs.Commands.{opts_of}
 use Rattle.pw_top.specs.Does.{Does}
 use Rattle.pw_top.proofs.SessionLemmas.{bench_prints}
