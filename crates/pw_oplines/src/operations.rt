@@ -10,9 +10,7 @@ ghost use Rattle.pw_oplines.specs.Operations.{load_unit, store_unit, unit_copied
 
 use pw_alloc::Place;
 use pw_flow::{BinKind, ExtKind, Op, UnKind};
-use pw_inst::{
-    ANSWER, ARGUMENT, FIRST, HELP, Inst, Line, RESULT, RETURN_ADDRESS, SECOND, Symbol,
-};
+use pw_inst::{ANSWER, ARGUMENT, FIRST, HELP, Inst, Line, RESULT, RETURN_ADDRESS, SECOND, Symbol};
 use pw_items::Items;
 use pw_registers::{
     extension_word, load_scalar, place_of, put, put_address, put_binary, put_constant, put_copy,
