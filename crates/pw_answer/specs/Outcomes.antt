@@ -40,6 +40,11 @@ RefusesAs refusal ReadFault = ⊥
 RefusesAs refusal WriteFault = ⊥
 RefusesAs refusal answer = Answers refusal answer
 
+-- the line, where the answer names a module
+abbrev pub IsLineDue : ℕ → Answer → ℕ → Type 0
+IsLineDue due (Refused name refusal) line = line ≡ due
+IsLineDue due _ line = Unit {0}
+
 -- ---- what it puts out
 
 -- nothing is left of the output, unless a fault or want of memory came

@@ -1,10 +1,9 @@
 -- A program, and what is there when it starts: the full names of its functions and objects, the functions
 -- with their numbers, and the objects of static lifetime (ISO C90 5.1.2, 6.1.2.2, 6.1.2.4).
-use Rattle.std.specs.Prelude.{ℕ, ◌+◌, ◌==◌, Bool, true, false, Option, Some, None, option_map, unwrap_or, List, [], ◌∷◌, ◌++◌, map, find, position, count_by, replicate}
+use Rattle.std.specs.Prelude.{ℕ, ◌+◌, ◌==◌, true, false, Option, Some, None, option_map, unwrap_or, List, [], ◌∷◌, ◌++◌, map, find, position, count_by, replicate}
 use Rattle.std.specs.List.{flat_map}
 use Rattle.std.specs.Str.{bytes_eq}
-use Rattle.std.specs.Ordering.{nat_cmp, is_lt}
-use Rattle.std.specs.Cmp.Lexicographic.{slice_cmp}
+use Rattle.pw_value.specs.Names.{is_before}
 use Rattle.pw_value.specs.declared.value.Byte.{Byte}
 use Rattle.pw_value.specs.declared.value.Byte.TheVariants as B
 use Rattle.pw_value.specs.declared.value.Pointer.{Pointer}
@@ -26,10 +25,6 @@ pub record ProgramModule : Type 0 where
 -- the modules in byte order of their names
 pub record Program : Type 0 where
   pub modules : List ProgramModule
-
--- in byte order
-abbrev pub is_before : List ℕ → List ℕ → Bool
-is_before a b = is_lt (slice_cmp nat_cmp a b)
 
 -- ---- functions
 

@@ -21,7 +21,8 @@ use Rattle.pw_select.specs.Selection.{selected}
 use Rattle.pw_delay.specs.Placement.{laid, placed}
 use Rattle.pw_object.specs.declared.object.Object.{Object}
 use Rattle.pw_milli.specs.Library.{routines}
-use Rattle.pw_link.specs.Layout.{is_before, in_order, Piece, piece_of, routine_piece, routine_pieces, function_pieces, pieces_of, Placed, placed_from, text_of, word_count, Standing, standing_from, data_of, data_size, data_begin, stack_end, function_site, global_site, address_in}
+use Rattle.pw_value.specs.Names.{is_before}
+use Rattle.pw_link.specs.Layout.{in_order, Piece, piece_of, routine_piece, routine_pieces, function_pieces, pieces_of, Placed, placed_from, text_of, word_count, Standing, standing_from, data_of, data_size, data_begin, stack_end, function_site, global_site, address_in}
 use Rattle.pw_flow.specs.ValidFlow.{global_room}
 use Rattle.pw_link.specs.Layout as link
 use Rattle.pw_link.specs.Linking.{function_of, global_of, size_fault, linked}

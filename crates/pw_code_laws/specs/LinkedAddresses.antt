@@ -1,7 +1,8 @@
 -- The addresses that the linker gives, as the run of lines sees them.
 use Rattle.std.specs.Prelude.{ℕ, ◌+◌, List, slice_index_or}
+use Rattle.pw_value.specs.Rounding.{stack_start}
 use Rattle.pw_object.specs.declared.object.Object.{Object}
-use Rattle.pw_link.specs.Layout.{text_of, routine_addresses, data_begin, data_size, round64, stack_end}
+use Rattle.pw_link.specs.Layout.{text_of, routine_addresses, data_begin, data_size, stack_end}
 use Rattle.pw_link.specs.Linking.{linked}
 use Rattle.pw_lines.specs.Addresses.{Addresses}
 use Rattle.pw_linkrun.specs.Laws.{address_of}
@@ -13,6 +14,6 @@ linked_addresses objects stack behind = record {
   routine = λ k. slice_index_or (routine_addresses (text_of objects)) k 0;
   behind = behind;
   data_start = data_begin objects;
-  base = round64 (data_begin objects + data_size objects) + 64;
+  base = stack_start (data_begin objects + data_size objects);
   limit = stack_end objects stack;
 }

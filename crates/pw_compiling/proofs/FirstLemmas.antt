@@ -17,11 +17,11 @@ use Rattle.pw_modules.specs.FileNames.{text_name}
 use Rattle.pw_answer.specs.declared.answer.Answer.{Answer}
 use Rattle.pw_answer.specs.declared.answer.Answer.TheVariants.{Done, Refused, StoreFault, NoMemory, BadFile}
 use Rattle.pw_answer.specs.Effects.{Effect, PutsFiles, answers_alone, puts_files}
-use Rattle.pw_answer.specs.Outcomes.{Answers, StoreCount}
+use Rattle.pw_answer.specs.Outcomes.{Answers, IsLineDue, StoreCount}
 use Rattle.pw_commands.specs.Needed.{StopsAs, needed_bytes}
 use Rattle.pw_commands.specs.Outcome.{IsFileStop, IsPutAnswer, Obeys}
 use Rattle.pw_commands.proofs.ObeysLemmas.{obeys_fault, obeys_no_memory, obeys_one, put_answers, puts_none}
-use Rattle.pw_compiling.specs.First.{AreBytesOf, ComesOfPhase, IsLine, IsSumOf, PhaseOneComes, PhaseOneOver, line_in, line_over, phase_line, two_files}
+use Rattle.pw_compiling.specs.First.{AreBytesOf, ComesOfPhase, IsSumOf, PhaseOneComes, PhaseOneOver, line_in, line_over, phase_line, two_files}
 use Rattle.pw_compiling.specs.Made.{AnswersPhase, AreOfPhase, IsPhaseAnswer, IsTextStop, RefusesPhase, TellsReply, line_of}
 
 -- the laws on which it stands: one file of a flow graph, one summary, one file of it
@@ -114,13 +114,13 @@ phase_due : (name text : List ℕ) (phase : Phase) (answer : Answer) (line : ℕ
 phase_due name text (Ok flow) answer line h = absurd h
 phase_due name text (Err refusal) answer line h = h.1
 
-pub reply_due : (name text : List ℕ) (phase : Phase) (answer : Answer) (line : ℕ) → Replies name text phase answer line → IsLine (line_in text phase) answer line
+pub reply_due : (name text : List ℕ) (phase : Phase) (answer : Answer) (line : ℕ) → Replies name text phase answer line → IsLineDue (line_in text phase) answer line
 reply_due name text phase (Refused own refusal) line h = phase_due name text phase (Refused own refusal) line h
 reply_due name text phase _ line h = tt
 
 -- ---- answers that name no module
 
-pub put_line : (due : ℕ) (answer : Answer) (line : ℕ) → IsPutAnswer answer → IsLine due answer line
+pub put_line : (due : ℕ) (answer : Answer) (line : ℕ) → IsPutAnswer answer → IsLineDue due answer line
 put_line due (Refused own refusal) line h = absurd h
 put_line due _ line h = tt
 
@@ -136,11 +136,11 @@ file_stop_is NoMemory h = tt
 file_stop_is (BadFile name at) h = tt
 file_stop_is _ h = absurd h
 
-stop_line : (due : ℕ) (answer : Answer) (line : ℕ) → IsFileStop answer → IsLine due answer line
+stop_line : (due : ℕ) (answer : Answer) (line : ℕ) → IsFileStop answer → IsLineDue due answer line
 stop_line due (Refused own refusal) line h = absurd h
 stop_line due _ line h = tt
 
-pub file_stop_line : (first : Option Told) (name : List ℕ) (answer : Answer) (line : ℕ) → IsFileStop answer → IfSome first (λ t. IsLine (phase_line t.files name) answer line)
+pub file_stop_line : (first : Option Told) (name : List ℕ) (answer : Answer) (line : ℕ) → IsFileStop answer → IfSome first (λ t. IsLineDue (phase_line t.files name) answer line)
 file_stop_line None name answer line h = tt
 file_stop_line (Some t) name answer line h = stop_line (phase_line t.files name) answer line h
 
@@ -178,10 +178,10 @@ obeys_text (Some told) now new name text answer e same h =
     let P : Option Told → Type 0 = λ o. IfSome o (λ t. (input : List ℕ) → Obeys (ComesOfPhase name (compiled name text) input) answer t new) in
     λ input. subst (λ (w : Result (List ℕ) Answer). Obeys (PhaseOneOver name w input) answer told new) (sym e) (subst P same h input)
 
-pub text_line : (first : Option Told) (name text : List ℕ) (answer : Answer) (line : ℕ) → IfSome first (λ t. needed_bytes t.files (text_name name) ≡ Ok text) → IsLine (line_in text (compiled name text)) answer line
-    → IfSome first (λ t. IsLine (phase_line t.files name) answer line)
+pub text_line : (first : Option Told) (name text : List ℕ) (answer : Answer) (line : ℕ) → IfSome first (λ t. needed_bytes t.files (text_name name) ≡ Ok text) → IsLineDue (line_in text (compiled name text)) answer line
+    → IfSome first (λ t. IsLineDue (phase_line t.files name) answer line)
 text_line None name text answer line e h = tt
-text_line (Some t) name text answer line e h = subst (λ (w : Result (List ℕ) Answer). IsLine (line_over name w) answer line) (sym e) h
+text_line (Some t) name text answer line e h = subst (λ (w : Result (List ℕ) Answer). IsLineDue (line_over name w) answer line) (sym e) h
 
 -- ---- inside
 

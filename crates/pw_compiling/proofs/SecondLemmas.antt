@@ -17,7 +17,8 @@ use Rattle.pw_answer.specs.Outcomes.{Answers}
 use Rattle.pw_commands.specs.Needed.{StopsAs, needed}
 use Rattle.pw_commands.specs.Outcome.{IsFileStop, IsPutAnswer, IsStoreAnswer, Obeys}
 use Rattle.pw_commands.proofs.ObeysLemmas.{obeys_fault, obeys_no_memory, obeys_one, put_answers, puts_none}
-use Rattle.pw_compiling.specs.Second.{ComesOfFlow, IsFileOfFlow, IsMade, IsMadeFile, IsObjectUnder, PhaseTwoComes, PhaseTwoOver, PutsMade, database_at, flow_at}
+use Rattle.pw_commands.specs.Showing.{database_at}
+use Rattle.pw_compiling.specs.Second.{ComesOfFlow, IsFileOfFlow, IsMade, IsMadeFile, IsObjectUnder, PhaseTwoComes, PhaseTwoOver, PutsMade, flow_at}
 use Rattle.pw_compiling.specs.Made.{AnswersFlow, IsOfFlow, MakesObject}
 
 abbrev Db : Type 0

@@ -60,8 +60,3 @@ line_over name (Ok text) = line_in text (compiled name text)
 
 abbrev pub phase_line : Files → List ℕ → ℕ
 phase_line files name = line_over name (needed_bytes files (text_name name))
-
--- the line, where the answer names a module
-abbrev pub IsLine : ℕ → Answer → ℕ → Type 0
-IsLine due (Refused name refusal) line = line ≡ due
-IsLine due _ line = Unit {0}

@@ -8,7 +8,6 @@ use Rattle.pw_flow.specs.declared.flow.FlowModule.{FlowModule}
 use Rattle.pw_flowfile.specs.Reading.{flow_file_at}
 use Rattle.pw_db.specs.declared.database.Directives.{Directives}
 use Rattle.pw_db.specs.Database.{HasDirectives, IsDatabase}
-use Rattle.pw_db.specs.Reading.{database_file_at}
 use Rattle.pw_object.specs.declared.object.Object.{Object}
 use Rattle.pw_object.specs.Object.{IsObjectFile}
 use Rattle.pw_phases.specs.Phases.{AreDirectivesOf, IsObjectOf}
@@ -16,12 +15,10 @@ use Rattle.pw_modules.specs.FileNames.{database_name, flow_name, object_name}
 use Rattle.pw_answer.specs.declared.answer.Answer.{Answer}
 use Rattle.pw_answer.specs.Effects.{Effect, PutPart, answers_alone, puts_files}
 use Rattle.pw_commands.specs.Needed.{needed}
+pub use Rattle.pw_commands.specs.Showing.{database_at}
 
 abbrev pub flow_at : List ℕ → Result FlowModule ℕ
 flow_at bytes = value_of (flow_file_at bytes)
-
-abbrev pub database_at : List ℕ → Result (List (List ℕ × Directives)) ℕ
-database_at bytes = value_of (database_file_at bytes)
 
 -- the functions of a module in its order, each with its directives in a database; they are empty where it lacks the function
 pub record AreDirectivesIn (db : List (List ℕ × Directives)) (flow : FlowModule) (directives : List (List ℕ × Directives)) : Type 0 where

@@ -13,7 +13,8 @@ ghost use Rattle.pw_value.specs.Names.{IsNameLength};
 ghost use Rattle.pw_commands.specs.Needed.{Needs, needed};
 ghost use Rattle.pw_commands.specs.Others.{KeepsOthers};
 ghost use Rattle.pw_commands.specs.Outcome.{IsFileStop, IsStoreAnswer, Obeys, StopCount};
-ghost use Rattle.pw_compiling.specs.Second.{IsFileOfFlow, IsMade, IsMadeFile, IsObjectUnder, PhaseTwoComes, PutsMade, database_at, flow_at, phase_two_puts};
+ghost use Rattle.pw_commands.specs.Showing.{database_at};
+ghost use Rattle.pw_compiling.specs.Second.{IsFileOfFlow, IsMade, IsMadeFile, IsObjectUnder, PhaseTwoComes, PutsMade, flow_at, phase_two_puts};
 ghost use Rattle.pw_compiling.specs.Made.{MakesObject};
 
 use crate::files::{module_file, put_bytes};

@@ -2,13 +2,13 @@
 
 ghost use Rattle.std.specs.Prelude.{◌≡◌, ℕ, List, true, IfErr, IfOk, IfSome};
 ghost use Rattle.pw_answer.specs.Effects.{PutsFiles};
-ghost use Rattle.pw_answer.specs.Outcomes.{StoreCount};
+ghost use Rattle.pw_answer.specs.Outcomes.{IsLineDue, StoreCount};
 ghost use Rattle.pw_flow.specs.ValidFlow.{IsValid};
 ghost use Rattle.pw_modules.specs.Modules.{is_module_name};
 ghost use Rattle.pw_phase_one.specs.FirstPhase.{compiled};
 ghost use Rattle.pw_commands.specs.Others.{KeepsOthers};
 ghost use Rattle.pw_commands.specs.Outcome.{IsPutAnswer, Obeys};
-ghost use Rattle.pw_compiling.specs.First.{AreBytesOf, ComesOfPhase, IsLine, IsSumOf, PhaseOneComes, line_in, phase_line, phase_one_puts, two_files};
+ghost use Rattle.pw_compiling.specs.First.{AreBytesOf, ComesOfPhase, IsSumOf, PhaseOneComes, line_in, phase_line, phase_one_puts, two_files};
 ghost use Rattle.pw_compiling.specs.Made.{IsPhaseAnswer, MakesOfPhase, TellsError, TellsReply, line_of};
 
 use crate::files::{module_bytes, put_bytes};
@@ -125,7 +125,7 @@ fn compile_bytes<S: Store>(alloc: Global, store: &mut S, name: &Name, text: &[u8
     requires { is_module_name name.now ≡ true }
     ensures obeys { IfSome (S.told store.old) (λ told. (input : List ℕ) → Obeys (ComesOfPhase name.now (compiled name.now text.now) input) result.answer told (S.told store.new)) }
     ensures others { KeepsOthers (phase_one_puts name.now) result.answer (S.told store.old) (S.told store.new) }
-    ensures line { IsLine (line_in text.now (compiled name.now text.now)) result.answer result.line }
+    ensures line { IsLineDue (line_in text.now (compiled name.now text.now)) result.answer result.line }
     ensures answer { IsPhaseAnswer result.answer }
     ensures count { StoreCount (S.faults store.old) (S.faults store.new) result.answer }
 {
@@ -150,7 +150,7 @@ pub fn compile_text<S: Store>(alloc: Global, store: &mut S, name: &Name) -> Repl
     requires { is_module_name name.now ≡ true }
     ensures obeys { IfSome (S.told store.old) (λ told. (input : List ℕ) → Obeys (PhaseOneComes told.files name.now input) result.answer told (S.told store.new)) }
     ensures others { KeepsOthers (phase_one_puts name.now) result.answer (S.told store.old) (S.told store.new) }
-    ensures line { IfSome (S.told store.old) (λ told. IsLine (phase_line told.files name.now) result.answer result.line) }
+    ensures line { IfSome (S.told store.old) (λ told. IsLineDue (phase_line told.files name.now) result.answer result.line) }
     ensures answer { IsPhaseAnswer result.answer }
     ensures count { StoreCount (S.faults store.old) (S.faults store.new) result.answer }
 {

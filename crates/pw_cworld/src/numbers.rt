@@ -1,7 +1,7 @@
 //! The numbers of functions, by which pointers to them are told apart.
 
 ghost use Rattle.std.specs.Prelude.{◌≡◌, ◌^◌, ◌≤◌, ◌∷◌, map, count_by, IfOk, MatchResult};
-ghost use Rattle.pw_cmean.specs.Worlds.{is_before};
+ghost use Rattle.pw_value.specs.Names.{is_before};
 ghost use Rattle.pw_cworld.specs.Names.{number_among, numbers_of};
 ghost use Rattle.pw_cworld.specs.Views.{view_callables};
 

@@ -8,6 +8,13 @@ ghost use Rattle.pw_db.specs.declared.database.Directives.{Directives};
 ghost use Rattle.pw_db.specs.Database.{HasDirectives, IsDatabase, IsDatabaseFile, IsPayload, IsStored, kind, database_version};
 ghost use Rattle.pw_db.specs.Reading.{fields_at, payload_at, database_file_at};
 
+use crate::reading::VERSION;
+
+/// The version is the one that its definition speaks of.
+pub fn version_of_databases()
+    ensures { VERSION ≡ database_version }
+{}
+
 /// No bytes are the file of two databases, and no database has two files.
 pub fn databases_and_files_are_one_to_one()
     ensures one_database { (bytes : List ℕ) (fs gs : List (List ℕ × Directives)) → IsDatabaseFile bytes fs → IsDatabaseFile bytes gs → fs ≡ gs }

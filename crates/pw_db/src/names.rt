@@ -8,16 +8,13 @@ use crate::database::{Directives, Role, Web};
 use pw_value::Name;
 use std::alloc::{AllocError, Global};
 
-/// Functions by reference.
-pub(crate) fn refs_of(
-    alloc: Global,
-    functions: &[(Name, Directives)],
-) -> Result<Vec<&(Name, Directives)>, AllocError>
-    ensures { IfOk result (λ v. map (λ f. f.now) v.items ≡ functions.now) }
+/// Items by reference.
+pub fn refs_of<T>(alloc: Global, items: &[T]) -> Result<Vec<&T>, AllocError>
+    ensures { IfOk result (λ v. map (λ item. item.now) v.items ≡ items.now) }
 {
     let mut refs = Vec::new(alloc);
-    for function in functions {
-        refs.push(function)?;
+    for item in items {
+        refs.push(item)?;
     }
     Ok(refs)
 }

@@ -34,7 +34,7 @@ use std::alloc::Global;
 pub const KIND: u32 = 0x5041_5744;
 
 /// The version of the form of a database's file.
-pub(crate) const VERSION: u32 = 1;
+pub const VERSION: u32 = 1;
 
 // ---- whether a field fits the webs before
 

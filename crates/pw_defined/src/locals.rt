@@ -39,9 +39,7 @@ pub struct Made {
 fn local_of(alloc: Global, word: &Word, q: &QType) -> Result<Local, AllocError>
     ensures { IfOk result (λ l. view_local l ≡ spec.local_of (view_word word.now) (view_qtype q.now)) }
 {
-    let Ok(name) = Name::new(alloc, &word.text) else {
-        return Err(AllocError);
-    };
+    let name = Name::lawful(alloc, &word.text)?;
     Ok(Local {
         name,
         ty: copy_qtype(alloc, q)?,

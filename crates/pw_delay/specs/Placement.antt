@@ -1,7 +1,7 @@
 -- Items as words (PA-RISC 1.1: branches, delay slots, nullification).
 use Rattle.std.specs.Prelude.{ℕ, ℤ, pos, ◌+◌, ◌-◌, ◌^◌, ◌-ℤ◌, ◌==◌, nat_lt, Bool, true, false, if◌then◌else◌, Option, Some, None, List, [], ◌∷◌, ◌++◌, length, map, sum_by}
-use Rattle.pw_inst.specs.declared.Inst.TheVariants.{Or, Combt, Combf, Bl, Bv, Ble}
-use Rattle.pw_inst.specs.InstructionTable.{word_of}
+use Rattle.pw_inst.specs.declared.Inst.TheVariants.{Combt, Combf, Bl, Bv, Ble}
+use Rattle.pw_inst.specs.InstructionTable.{word_of, nop}
 use Rattle.pw_inst.specs.declared.line.Line.{Line}
 use Rattle.pw_inst.specs.declared.relocation.Fix.{Fix}
 use Rattle.pw_inst.specs.declared.relocation.FixKind.TheVariants as kind
@@ -16,12 +16,9 @@ use Rattle.pw_delay.specs.declared.items.Item.{Item}
 use Rattle.pw_delay.specs.declared.items.Item.TheVariants.{Plain, Turns, Mark}
 use Rattle.pw_delay.specs.Items.{bare, slotted}
 
--- the instruction that does nothing
-abbrev pub nop : Word
-nop = bare (Or 0 0 0)
-
+-- an empty slot has the instruction that does nothing
 abbrev pub in_slot : Option Word → Word
-in_slot None = nop
+in_slot None = bare nop
 in_slot (Some w) = w
 
 -- ---- how many words there are
@@ -64,7 +61,7 @@ abbrev pub displacement : ℕ → ℕ → ℤ
 displacement at to = pos to -ℤ pos (at + 2)
 
 abbrev pub long_branch : ℕ → ℕ → Option Word → List Word
-long_branch r to slot = bare (Combt 1 r 0 (pos 2)) ∷ in_slot slot ∷ to_block to ∷ nop ∷ []
+long_branch r to slot = bare (Combt 1 r 0 (pos 2)) ∷ in_slot slot ∷ to_block to ∷ bare nop ∷ []
 
 abbrev pub branch_words : Bool → ℕ → ℕ → ℕ → Option Word → List Word
 branch_words false at r to slot = bare (Combf 1 r 0 (displacement at to)) ∷ in_slot slot ∷ []

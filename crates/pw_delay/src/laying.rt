@@ -13,12 +13,9 @@ use crate::code::Code;
 use crate::items::{Item, Relocation, Turn, Word};
 use crate::marking::{Blocks, mark};
 use crate::slotting::{bare, copy_symbol};
-use pw_inst::{Fix, FixKind, Inst, Symbol, encode};
+use pw_inst::{Fix, FixKind, Inst, NOP, Symbol, encode};
 use pw_items::Items;
 use std::alloc::{AllocError, Global};
-
-/// The instruction that does nothing.
-const NOP: Inst = Inst::Or { r1: 0, r2: 0, t: 0 };
 
 /// Puts the relocation of the word of a number behind the others, where it has one.
 fn put_fix(

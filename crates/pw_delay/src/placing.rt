@@ -16,13 +16,14 @@ use std::alloc::{AllocError, Global};
 /// How many words short conditional branches can reach over.
 pub const SHORT_LIMIT: usize = 2040;
 
-/// The limit is the one that the definitions speak of.
-pub fn limit_of_short_branches()
-    ensures { SHORT_LIMIT ≡ short_limit }
-{}
-
 /// The greatest count of words of a function's code.
-const WORDS_MAX: usize = 4_294_967_292;
+pub const WORDS_MAX: usize = 4_294_967_292;
+
+/// The limits are those that the definitions speak of.
+pub fn limits_of_code()
+    ensures short_branches { SHORT_LIMIT ≡ short_limit }
+    ensures words { WORDS_MAX ≡ words_max }
+{}
 
 /// A count of words, where a function's code may have so many; else want of memory.
 fn told_count(count: usize) -> Result<u32, AllocError>

@@ -7,7 +7,7 @@ use Rattle.pw_io.specs.Streams.{Appends, AppendsPart}
 use Rattle.pw_answer.specs.declared.answer.Answer.{Answer}
 use Rattle.pw_answer.specs.declared.answer.Answer.TheVariants as answer
 use Rattle.pw_answer.specs.Effects.{Effect, NamedFile, PutsFiles, after_puts}
-use Rattle.pw_answer.specs.Outcomes.{Answers, LeavesStreams, OutputCount, PutsOut, StoreCount}
+use Rattle.pw_answer.specs.Outcomes.{Answers, IsLineDue, LeavesStreams, OutputCount, PutsOut, StoreCount}
 use Rattle.pw_modules.specs.Modules.{modules_of}
 use Rattle.pw_building.specs.FromBuild.BuildFault.{BuildFault}
 use Rattle.pw_building.specs.FromBuild.BuildFault.TheVariants as build
@@ -19,7 +19,7 @@ use Rattle.pw_building.specs.Building.{Outcome, puts_of}
 use Rattle.pw_building.specs.Lines.{report_lines, report_text}
 use Rattle.pw_building.specs.Outcomes.{FaultComes, FaultFound, IsLineOfBuild, IsNoWant, ObeysBuild, Reports, fault_answer}
 use Rattle.pw_commands.specs.Outcome.{IsFound, Obeys}
-use Rattle.pw_driving.specs.Driving.{BuildComesTo, IsBuildAnswer, IsLineDue, IsPrintAnswer, built_effect, outcome_lines}
+use Rattle.pw_driving.specs.Driving.{BuildComesTo, IsBuildAnswer, IsPrintAnswer, built_effect, outcome_lines}
 
 appends_none : (taken : Option (List ℕ)) → Appends taken taken []
 appends_none None = tt

@@ -41,11 +41,6 @@ IsBuildAnswer StoreFault = Unit {0}
 IsBuildAnswer NoMemory = Unit {0}
 IsBuildAnswer _ = ⊥
 
--- the line, where the answer names a module
-abbrev pub IsLineDue : ℕ → Answer → ℕ → Type 0
-IsLineDue due (Refused name refusal) line = line ≡ due
-IsLineDue due _ line = Unit {0}
-
 -- ---- what it leaves alone
 
 -- The store tells the names that were put besides, all of a build, and every file has its old bytes, or is absent as

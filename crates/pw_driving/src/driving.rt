@@ -3,13 +3,13 @@
 ghost use Rattle.std.specs.Prelude.{◌≡◌, ◌<◌, ℕ, List, Option, IfErr, IfOk, IfSome};
 ghost use Rattle.pw_modules.specs.Modules.{modules_of};
 ghost use Rattle.pw_answer.specs.Effects.{Effect};
-ghost use Rattle.pw_answer.specs.Outcomes.{LeavesStreams, OutputCount, PutsOut, StoreCount};
+ghost use Rattle.pw_answer.specs.Outcomes.{IsLineDue, LeavesStreams, OutputCount, PutsOut, StoreCount};
 ghost use Rattle.pw_building.specs.FromBuild.Phases.{refused_line};
 ghost use Rattle.pw_building.specs.Genuine.{KeepsGenuine};
 ghost use Rattle.pw_building.specs.Lines.{report_text};
 ghost use Rattle.pw_building.specs.Outcomes.{AreOpts, FaultCount, HoldsImage, IsLineOfBuild, IsNoWant, ObeysBuild, PutsSome, build_answer, fault_answer};
 ghost use Rattle.pw_commands.specs.Outcome.{Obeys};
-ghost use Rattle.pw_driving.specs.Driving.{BuildComesTo, IsBuildAnswer, IsLineDue, IsPrintAnswer, KeepsUnput};
+ghost use Rattle.pw_driving.specs.Driving.{BuildComesTo, IsBuildAnswer, IsPrintAnswer, KeepsUnput};
 
 use pw_answer::{Answer, Reply};
 use pw_building::{BuildFault, Opts, Report, Unbuilt, build, report_lines};

@@ -7,6 +7,13 @@ ghost use Rattle.pw_flow.specs.declared.flow.FlowModule.{FlowModule};
 ghost use Rattle.pw_flowfile.specs.FlowFile.{IsFlowFile, kind_of_file, flow_version};
 ghost use Rattle.pw_flowfile.specs.Reading.{fields_at, flow_file_at};
 
+use crate::reading::VERSION;
+
+/// The version is the one that its definition speaks of.
+pub fn version_of_flow_files()
+    ensures { VERSION ≡ flow_version }
+{}
+
 /// No bytes are the file of two flow graphs, and no flow graph has two files.
 pub fn flow_graphs_and_files_are_one_to_one()
     ensures one_module { (bytes : List ℕ) (m n : FlowModule) → IsFlowFile bytes m → IsFlowFile bytes n → m ≡ n }

@@ -10,6 +10,6 @@ mod used;
 mod writing;
 
 pub use globals::read_global_body;
-pub use reading::{KIND, read};
+pub use reading::{KIND, VERSION, read};
 pub use used::add_globals;
 pub use writing::{push_global, push_global_body, write};

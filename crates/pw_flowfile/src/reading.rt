@@ -30,7 +30,7 @@ use std::alloc::Global;
 pub const KIND: u32 = 0x5041_5746;
 
 /// The version of the form of a flow file.
-pub(crate) const VERSION: u32 = 1;
+pub const VERSION: u32 = 1;
 
 /// The objects, and which names were met in them.
 #[tactic(auto, unfolding(crate::specs::Reading::list_at))]

@@ -2,7 +2,7 @@
 //! tree of greater depth is want of memory: the stack is memory.
 
 ghost use Rattle.std.specs.Prelude.{◌≡◌};
-ghost use Rattle.pw_functions.specs.Depth.{phrase_depth};
+ghost use Rattle.pw_functions.specs.Depth.{operator_ranks, phrase_depth};
 ghost use Rattle.pw_functions.specs.Nests.{Nests};
 ghost use Rattle.pw_body.specs.Views.{view_body};
 ghost use Rattle.pw_checking.specs.Follows.{Leads};
@@ -22,9 +22,18 @@ use pw_typing::Knot;
 use pw_walk::{CheckFault, CheckKind};
 use std::alloc::Global;
 
+/// No fewer than there are ranks of operators (C90 6.3.1 to 6.3.17).
+pub const OPERATOR_RANKS: usize = 20;
+
 /// How deep the phrases and statements of a module may hold one another: within a token of nesting an expression has one
-/// level for each of the levels of operators.
-const PHRASE_DEPTH: usize = 20 * MAX_NEST;
+/// level for each rank of operators.
+pub const PHRASE_DEPTH: usize = OPERATOR_RANKS * MAX_NEST;
+
+/// The limits are those that the definitions speak of.
+pub fn limits_of_phrases()
+    ensures ranks { OPERATOR_RANKS ≡ operator_ranks }
+    ensures depth { PHRASE_DEPTH ≡ phrase_depth }
+{}
 
 /// The rules of phrases, to the depth.
 pub fn phrases() -> Knot

@@ -136,7 +136,7 @@ fn callees(
 }
 
 /// The numbers of a set, rising.
-fn numbers(alloc: Global, row: &BitRow) -> Result<Vec<usize>, AllocError>
+pub fn numbers(alloc: Global, row: &BitRow) -> Result<Vec<usize>, AllocError>
     ensures { IfOk result (λ v. v.items ≡ members row.now) }
 {
     let mut places = Vec::new(alloc);

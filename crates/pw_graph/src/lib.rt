@@ -12,4 +12,5 @@ mod references;
 mod views;
 
 pub use building::build_graph;
+pub use calls::numbers;
 pub use graph::{CallGraph, RefSets};

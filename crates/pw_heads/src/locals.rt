@@ -45,9 +45,7 @@ fn parameter_local(alloc: Global, parameter: &Parameter<'_>) -> Result<Local, Al
     ensures { IfOk result (λ l. typed.view_local l ≡ spec.parameter_local (view_parameter parameter.now)) }
 {
     let word = parameter_word(parameter)?;
-    let Ok(name) = Name::new(alloc, &word.text) else {
-        return Err(AllocError);
-    };
+    let name = Name::lawful(alloc, &word.text)?;
     Ok(Local {
         name,
         ty: copy_qtype(alloc, &parameter.ty)?,

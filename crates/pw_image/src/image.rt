@@ -1,6 +1,10 @@
 //! The image of a linked program.
 
-use pw_value::Name;
+ghost use Rattle.std.specs.Prelude.{◌≡◌};
+ghost use Rattle.pw_image.specs.Image.{data_start};
+
+use pw_value::limits::TEXT_START;
+use pw_value::{Name, round8};
 
 /// Bytes at an offset from the start of the data.
 #[derive(Drop)]
@@ -23,6 +27,13 @@ pub struct Memory {
     /// The bytes of the data.
     pub data_size: u32,
     pub items: Vec<DataItem>,
+}
+
+/// The address at which the data start behind a text of so many words.
+pub fn data_start(words: u32) -> u64
+    ensures { result ≡ data_start words }
+{
+    round8(u64::from(TEXT_START) + 4 * u64::from(words))
 }
 
 /// Where a function stands, and the bytes of its frame.

@@ -1,7 +1,14 @@
 //! The laws of image files.
 
 ghost use Rattle.std.specs.Prelude.{◌≡◌, ℕ, List};
-ghost use Rattle.pw_image.specs.Image.{Contents, ImageValue, IsImageFile};
+ghost use Rattle.pw_image.specs.Image.{Contents, ImageValue, IsImageFile, image_version};
+
+use crate::reading::VERSION;
+
+/// The version is the one that its definition speaks of.
+pub fn version_of_images()
+    ensures { VERSION ≡ image_version }
+{}
 
 /// No bytes are the file of two images, and no image has two files.
 pub fn images_and_files_are_one_to_one()

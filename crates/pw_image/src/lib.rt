@@ -7,7 +7,7 @@ mod load;
 mod reading;
 mod writing;
 
-pub use image::{DataItem, Function, GlobalObject, Image, Memory};
+pub use image::{DataItem, Function, GlobalObject, Image, Memory, data_start};
 pub use load::{LoadError, Map, read_map};
-pub use reading::{KIND, read_image};
+pub use reading::{KIND, VERSION, read_image};
 pub use writing::write_image;

@@ -12,21 +12,21 @@ ghost use Rattle.pw_files.specs.Contents.{broken_at, value_of};
 ghost use Rattle.pw_image.specs.Image.{Contents, ImageValue, data_start, free_behind, item_view, memory_view, view, contents_view, names_of, IsImageFile};
 ghost use Rattle.pw_image.specs.Reading.{is_in_text, item_at, next_free, memory_at, function_at, global_at, start_at, is_lawful_start, contents_at, payload_at, image_file_at};
 
-use crate::image::{DataItem, Function, GlobalObject, Image, Memory};
+use crate::image::{DataItem, Function, GlobalObject, Image, Memory, data_start};
 use pw_files::late::check_used;
 use pw_files::places::{read_item_bytes, read_offset};
 use pw_value::fields::frame::{check_digest, open};
 use pw_value::fields::names::{read_name, read_names};
 use pw_value::fields::{FieldError, read_bytes, read_u32};
 use pw_value::limits::{MEMORY_SIZE, TEXT_START, WORD_LIMIT};
-use pw_value::{FileError, Name, round8};
+use pw_value::{FileError, Name};
 use std::alloc::{AllocError, Global};
 
 /// `PAWI`, the first four bytes of an image file.
 pub const KIND: u32 = 0x5041_5749;
 
 /// The version of the form of an image file.
-pub(crate) const VERSION: u32 = 1;
+pub const VERSION: u32 = 1;
 
 /// Whether an address is that of a word, in a text of so many words.
 fn is_word_address(words: u64, address: u32) -> bool
@@ -68,8 +68,7 @@ fn read_data_size(words: u32, stack_end: u32, bytes: &[u8]) -> Result<(u32, &[u8
     ensures no_memory { IfErr result (λ e. e ≢ FieldError.NoMemory) }
 {
     let (size, rest) = read_u32(bytes)?;
-    let start = round8(u64::from(TEXT_START) + 4 * u64::from(words));
-    if start + u64::from(size) <= u64::from(stack_end) {
+    if data_start(words) + u64::from(size) <= u64::from(stack_end) {
         Ok((size, rest))
     } else {
         Err(FieldError::Fault { left: bytes.len() })

@@ -75,6 +75,10 @@ word_of (Bv b n) = at 0 6 0x3A + at 6 5 b + at 16 3 6 + at 30 1 (bit n)
 word_of (Ble b n) = at 0 6 0x39 + at 6 5 b + at 16 3 1 + at 30 1 (bit n)
 word_of (Break im5 im13) = at 6 13 im13 + at 27 5 im5
 
+-- the instruction that does nothing
+abbrev pub nop : Inst
+nop = Or 0 0 0
+
 -- ---- what the fields of an instruction may hold
 
 abbrev pub IsRegister : ℕ → Type 0

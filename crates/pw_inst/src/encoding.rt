@@ -1,10 +1,20 @@
 // The word of an instruction.
 ghost use Rattle.std.specs.Prelude.{◌≡◌, ◌+◌, ◌^◌, ◌<◌, ◌≤◌};
 ghost use Rattle.pw_inst.specs.Fields.{at, IsSigned};
-ghost use Rattle.pw_inst.specs.InstructionTable.{decoded, word_of, memory_word, long_immediate_word, three_register_word, extract_word, deposit_word, compare_word, branch_word, IsRegister, IsCondition, IsBitField, IsInRange};
+ghost use Rattle.pw_inst.specs.InstructionTable.{decoded, word_of, memory_word, long_immediate_word, three_register_word, extract_word, deposit_word, compare_word, branch_word, IsRegister, IsCondition, IsBitField, IsInRange, nop};
 
 use crate::Inst;
 use crate::fields::{low_sign, place, twos_complement};
+
+/// The instruction that does nothing.
+pub const NOP: Inst = Inst::Or { r1: 0, r2: 0, t: 0 };
+
+/// It is the one of the instruction table, and its fields are in range.
+#[tactic(auto, unfolding(crate::specs::InstructionTable::IsInRange))]
+pub fn nop_is_an_instruction()
+    ensures nop { NOP ≡ nop }
+    ensures in_range { IsInRange nop }
+{}
 
 /// The word of an instruction whose fields are in range. Takes no memory.
 pub fn encode(inst: Inst) -> u32

@@ -1,6 +1,6 @@
 //! Instruction words of PA-RISC 1.1, as far as this system's code uses them: 26 forms of instruction, the
-//! word of each and the instruction of a word; and what stands between instructions and words: the lines of
-//! a function, and relocations.
+//! word of each and the instruction of a word; the registers of the calling convention; and what stands
+//! between instructions and words: the lines of a function, and relocations.
 #![tactic(auto)]
 
 mod decoding;
@@ -9,14 +9,19 @@ mod fields;
 mod limits;
 mod line;
 mod listing;
+mod registers;
 mod relocation;
 mod setting;
 
 pub use decoding::{decode, word_is_decoded_again, words_differ};
-pub use encoding::encode;
+pub use encoding::{NOP, encode, nop_is_an_instruction};
 pub use limits::{NEAR_LEAST, NEAR_MOST, ROUTINE_COUNT, limits_of_instructions};
 pub use line::Line;
 pub use listing::{target, text};
+pub use registers::{
+    ANSWER, ARGUMENT, FIRST, HELP, RESULT, RETURN_ADDRESS, ROUTINE_LINK, SECOND, STACK_POINTER,
+    registers_of_the_convention,
+};
 pub use relocation::{Fix, FixKind, Symbol};
 pub use setting::{
     left_part, parts_make_the_address, right_part, set_branch, set_displacement,

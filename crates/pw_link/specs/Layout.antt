@@ -1,11 +1,11 @@
 -- Where the functions, the routines and the global objects of a linked program stand.
-use Rattle.std.specs.Prelude.{Bool, ℕ, ◌+◌, ◌-◌, ◌*◌, ◌/◌, ◌%◌, ◌^◌, List, [], ◌∷◌, ◌++◌, map, length, drop, fold, insert, unwrap_or}
+use Rattle.std.specs.Prelude.{ℕ, ◌+◌, ◌-◌, ◌*◌, ◌%◌, ◌^◌, List, [], ◌∷◌, ◌++◌, map, length, drop, fold, insert, unwrap_or}
 use Rattle.std.specs.List.{flat_map, sum_by, position_or_len}
 use Rattle.std.specs.Map.{lookup}
 use Rattle.std.specs.Str.{bytes_eq}
-use Rattle.std.specs.Ordering.{nat_cmp, is_lt}
-use Rattle.std.specs.Cmp.Lexicographic.{slice_cmp}
 use Rattle.pw_value.specs.Limits.{text_start}
+use Rattle.pw_value.specs.Names.{is_before}
+use Rattle.pw_value.specs.Rounding.{stack_start}
 use Rattle.pw_inst.specs.Limits.{routine_count}
 use Rattle.pw_inst.specs.declared.relocation.Fix.{Fix}
 use Rattle.pw_flow.specs.ValidFlow.{global_room}
@@ -16,9 +16,6 @@ use Rattle.pw_image.specs.Image.{data_start}
 use Rattle.pw_milli.specs.Library.{routines}
 
 -- ---- order
-
-abbrev pub is_before : List ℕ → List ℕ → Bool
-is_before a b = is_lt (slice_cmp nat_cmp a b)
 
 -- an object put before the first whose module's name is behind its own
 abbrev pub inserted : Object → List Object → List Object
@@ -92,13 +89,10 @@ data_size objects = sum_by global_room (globals_of objects)
 abbrev pub data_begin : List Object → ℕ
 data_begin objects = data_start (word_count objects)
 
--- ---- the stack begins 64 bytes above the end of the data, which is rounded up to a multiple of 64
-
-abbrev pub round64 : ℕ → ℕ
-round64 n = (n + 63) / 64 * 64
+-- ---- the stack
 
 abbrev pub end_behind : ℕ → ℕ → ℕ → ℕ
-end_behind begin size stack = round64 (begin + size) + 64 + stack
+end_behind begin size stack = stack_start (begin + size) + stack
 
 abbrev pub stack_end : List Object → ℕ → ℕ
 stack_end objects stack = end_behind (data_begin objects) (data_size objects) stack

@@ -7,6 +7,7 @@ use Rattle.pw_value.specs.Limits.{memory_size, word_limit}
 use Rattle.pw_value.specs.ProgramNames.{start_name}
 use Rattle.pw_value.specs.declared.fault.LinkFault.{LinkFault}
 use Rattle.pw_value.specs.declared.fault.LinkFault.TheVariants.{TextTooLarge, MemoryTooLarge}
+use Rattle.pw_inst.specs.InstructionTable.{word_of, nop}
 use Rattle.pw_inst.specs.Setting.{left_part, right_part, with_long_immediate, with_displacement, with_branch}
 use Rattle.pw_inst.specs.declared.relocation.Fix.{Fix}
 use Rattle.pw_inst.specs.declared.relocation.FixKind.{FixKind}
@@ -61,12 +62,9 @@ with_fixes sites at (f ∷ rest) words = with_fixes sites at rest (with_fix site
 abbrev pub piece_words : Sites → Placed → List ℕ
 piece_words sites p = with_fixes sites p.address p.piece.fixes p.piece.words
 
--- OR 0,0,0
-abbrev pub nop : ℕ
-nop = 134218304
-
+-- a last instruction that does nothing stands behind the routines
 abbrev pub linked_words : Sites → List Placed → List ℕ
-linked_words sites text = flat_map (piece_words sites) text ++ nop ∷ []
+linked_words sites text = flat_map (piece_words sites) text ++ word_of nop ∷ []
 
 -- ---- data
 

@@ -19,12 +19,12 @@ use crate::text::{Piece, Placed, at_addresses, count_words, pieces, routine_name
 use crate::words::linked_words;
 use indexmap::IndexMap;
 use pw_flow::FlowGlobal;
-use pw_image::{Image, Memory};
+use pw_image::{Image, Memory, data_start};
 use pw_inst::ROUTINE_COUNT;
 use pw_object::Object;
-use pw_value::limits::{MEMORY_SIZE, TEXT_START, WORD_LIMIT};
+use pw_value::limits::{MEMORY_SIZE, WORD_LIMIT};
 use pw_value::program_names::START;
-use pw_value::{LinkFault, round8};
+use pw_value::{LinkFault, stack_start};
 use std::alloc::{AllocError, Global};
 
 /// The size of a program's parts.
@@ -44,9 +44,9 @@ fn sizes_of(words: u64, bytes: u64, stack: u32) -> Result<Sizes, LinkFault>
     if words > WORD_LIMIT as u64 {
         return Err(LinkFault::TextTooLarge(words.saturating_mul(4)));
     }
-    let begin = round8(u64::from(TEXT_START) + 4 * words);
-    let end = bytes.saturating_add(begin + 63) / 64 * 64;
-    let stack_end = end.saturating_add(stack as u64 + 64);
+    let begin = data_start(words as u32);
+    let base = stack_start(bytes.saturating_add(begin));
+    let stack_end = base.saturating_add(u64::from(stack));
     if stack_end > MEMORY_SIZE as u64 {
         return Err(LinkFault::MemoryTooLarge(stack_end));
     }

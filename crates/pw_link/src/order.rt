@@ -2,7 +2,8 @@
 
 ghost use Rattle.std.specs.Prelude.{◌≡◌, ◌≤◌, map, length, IfOk, OnOk};
 ghost use Rattle.std.specs.List.{position_or_len};
-ghost use Rattle.pw_link.specs.Layout.{is_before, inserted, in_order};
+ghost use Rattle.pw_value.specs.Names.{is_before};
+ghost use Rattle.pw_link.specs.Layout.{inserted, in_order};
 
 use pw_object::Object;
 use std::alloc::{AllocError, Global};

@@ -8,12 +8,10 @@ ghost use Rattle.pw_link.specs.Views.{placed_view, Tells, plain_sites};
 use crate::sites::Sites;
 use crate::text::Placed;
 use pw_inst::{
-    Fix, FixKind, left_part, right_part, set_branch, set_displacement, set_long_immediate,
+    Fix, FixKind, NOP, encode, left_part, right_part, set_branch, set_displacement,
+    set_long_immediate,
 };
 use std::alloc::{AllocError, Global};
-
-/// OR 0,0,0, which does nothing.
-const NOP: u32 = 0x0800_0240;
 
 /// A word at its own address, into which an address goes.
 #[tactic(auto, unfolding(crate::specs::Linking::settled))]
@@ -60,6 +58,7 @@ fn add_words(out: &mut Vec<u32>, sites: &Sites, placed: &Placed) -> Result<(), A
 }
 
 /// The words of the text.
+#[tactic(auto, unfolding(pw_inst::specs::InstructionTable::IsInRange))]
 pub(crate) fn linked_words(
     alloc: Global,
     sites: &Sites,
@@ -71,6 +70,6 @@ pub(crate) fn linked_words(
     for placed in text {
         add_words(&mut words, sites, placed)?;
     }
-    words.push(NOP)?;
+    words.push(encode(NOP))?;
     Ok(words)
 }

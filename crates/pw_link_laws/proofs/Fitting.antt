@@ -3,6 +3,7 @@ use Rattle.std.proofs.Common.{◌≡◌, ℕ, zero, suc, ◌+◌, ◌-◌, ◌*�
 use Rattle.std.specs.List.{AllByRecursion, flat_map}
 use Rattle.std.proofs.lemmas.Bool.{ltb-true}
 use Rattle.pw_value.specs.Fields.{FitsU32}
+use Rattle.pw_inst.specs.InstructionTable.{word_of, nop}
 use Rattle.pw_inst.specs.Setting.{with_long_immediate, with_displacement, with_branch}
 use Rattle.pw_inst.specs.declared.relocation.Fix.{Fix}
 use Rattle.pw_inst.specs.declared.relocation.FixKind.{FixKind}
@@ -12,8 +13,9 @@ use Rattle.pw_object.specs.declared.object.Object.{Object}
 use Rattle.pw_object.specs.Functions.{IsFunction}
 use Rattle.pw_object.specs.Object.{IsObject}
 use Rattle.pw_milli.specs.Library.{routines}
-use Rattle.pw_link.specs.Layout.{Piece, piece_of, routine_piece, routine_pieces, function_pieces, in_order, is_before, pieces_of, placed_from, Sites}
-use Rattle.pw_link.specs.Linking.{settled, with_fix, with_fixes, piece_words, linked_words, nop}
+use Rattle.pw_value.specs.Names.{is_before}
+use Rattle.pw_link.specs.Layout.{Piece, piece_of, routine_piece, routine_pieces, function_pieces, in_order, pieces_of, placed_from, Sites}
+use Rattle.pw_link.specs.Linking.{settled, with_fix, with_fixes, piece_words, linked_words}
 use Rattle.std.specs.List.{position_or_len}
 use Rattle.pw_link_laws.proofs.Kept.{all_placed, all_append, all_map, all_flat, all_by}
 
@@ -105,5 +107,9 @@ texts_fit sites at (p ∷ ps) all =
     all_append FitsU32 (with_fixes sites at p.fixes p.words) (flat_map (piece_words sites) (placed_from (at + 4 * length p.words) ps))
     (fixes_fit sites at p.fixes p.words all.0.words) (texts_fit sites (at + 4 * length p.words) ps all.1)
 
+nop_fits : FitsU32 (word_of nop)
+unfolding word_of
+nop_fits = omega arith
+
 pub words_fit : (sites : Sites) (at : ℕ) (ps : List Piece) → AllByRecursion IsPiece ps → AllByRecursion FitsU32 (linked_words sites (placed_from at ps))
-words_fit sites at ps all = all_append FitsU32 (flat_map (piece_words sites) (placed_from at ps)) (nop ∷ []) (texts_fit sites at ps all) (omega arith, tt)
+words_fit sites at ps all = all_append FitsU32 (flat_map (piece_words sites) (placed_from at ps)) (word_of nop ∷ []) (texts_fit sites at ps all) (nop_fits, tt)

@@ -16,13 +16,14 @@ use Rattle.pw_flow.specs.declared.flow.Item.{Item as FlowItem}
 use Rattle.pw_flow.specs.declared.flow.Item.TheVariants.{Bytes, Address}
 use Rattle.pw_flow.specs.ValidFlow.{IsGlobal, item_size}
 use Rattle.pw_flow.specs.ValidFlow.{AreItems as FlowItems}
+use Rattle.pw_inst.specs.InstructionTable.{word_of, nop}
 use Rattle.pw_object.specs.declared.object.Object.{Object}
 use Rattle.pw_object.specs.Object.{IsObject}
 use Rattle.pw_image.specs.Image.{Item, IsInText, IsImage, AreItems}
 use Rattle.pw_program.specs.Linking.{has_main}
 use Rattle.pw_link.specs.Layout.{Piece, placed_from, in_order, pieces_of, word_count, globals_of, Standing, standing_from, data_of, data_size, data_begin, stack_end, global_site, Sites}
 use Rattle.pw_flow.specs.ValidFlow.{global_room}
-use Rattle.pw_link.specs.Linking.{with_fix, with_fixes, piece_words, linked_words, nop, item_bytes, item_at, items_of, function_of, global_of, fault_by, linked, AreLinked}
+use Rattle.pw_link.specs.Linking.{with_fix, with_fixes, piece_words, linked_words, item_bytes, item_at, items_of, function_of, global_of, fault_by, linked, AreLinked}
 use Rattle.pw_link_laws.specs.Standing.{sites}
 use Rattle.pw_link_laws.proofs.Kept.{all_flat, all_by}
 use Rattle.pw_link_laws.proofs.Fitting.{IsPiece, pieces_fit, words_fit, ordered}
@@ -51,7 +52,7 @@ texts_length s at (p ∷ ps) =
 
 pub words_length : (s : Sites) (at : ℕ) (ps : List Piece) → length (linked_words s (placed_from at ps)) ≡ size_of ps + 1
 words_length s at ps =
-    length-append (flat_map (piece_words s) (placed_from at ps)) (nop ∷ []) ∙ both_sums _ (size_of ps) 1 1 (texts_length s at ps) refl
+    length-append (flat_map (piece_words s) (placed_from at ps)) (word_of nop ∷ []) ∙ both_sums _ (size_of ps) 1 1 (texts_length s at ps) refl
 
 -- ---- functions and objects
 

@@ -12,7 +12,8 @@ use Rattle.std.proofs.lemmas.List.Sorted.{ranks_by}
 use Rattle.std.proofs.lemmas.Slice.Eq.{bytes_eq-Decides}
 use Rattle.pw_files.specs.Rising.{IsRising, IsRisingBehind}
 use Rattle.pw_object.specs.declared.object.Object.{Object}
-use Rattle.pw_link.specs.Layout.{is_before, inserted, in_order}
+use Rattle.pw_value.specs.Names.{is_before}
+use Rattle.pw_link.specs.Layout.{inserted, in_order}
 use Rattle.pw_link_laws.specs.Standing.{AreInOrder}
 use Rattle.pw_link_laws.proofs.Kept.{all_append, all_insert, all_by}
 use Rattle.pw_link_laws.proofs.Fitting.{place_of}

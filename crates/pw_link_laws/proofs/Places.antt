@@ -6,11 +6,12 @@ use Rattle.std.proofs.lemmas.List.Sums.{sum_by-cons}
 use Rattle.pw_value.specs.Limits.{text_start}
 use Rattle.pw_flow.specs.declared.flow.FlowGlobal.{FlowGlobal}
 use Rattle.pw_flow.specs.declared.flow.Item.{Item as FlowItem}
+use Rattle.pw_inst.specs.InstructionTable.{word_of, nop}
 use Rattle.pw_object.specs.declared.object.Object.{Object}
 use Rattle.pw_image.specs.Image.{Item}
 use Rattle.pw_link.specs.Layout.{Piece, Placed, placed_from, pieces_of, text_of, globals_of, standing_from, data_of, data_size, data_begin, stack_end, Sites}
 use Rattle.pw_flow.specs.ValidFlow.{global_room}
-use Rattle.pw_link.specs.Linking.{piece_words, nop, item_at, items_of, function_of, global_of, linked}
+use Rattle.pw_link.specs.Linking.{piece_words, item_at, items_of, function_of, global_of, linked}
 use Rattle.pw_link_laws.specs.Standing.{sites, StandsInText, StandsInData, ItemsStand, AreApart, OwnTheirBytes}
 use Rattle.pw_link_laws.proofs.Lawful.{fix_length}
 
@@ -34,7 +35,7 @@ stand_behind s at (p ∷ ps) before after e =
 
 pub words_stand : (objects : List Object) (stack : ℕ) → AllByRecursion (λ p. StandsInText (linked objects stack).memory.words p.address (piece_words (sites objects stack) p)) (text_of objects)
 unfolding linked
-words_stand objects stack = stand_behind (sites objects stack) text_start (pieces_of objects) [] (nop ∷ []) refl
+words_stand objects stack = stand_behind (sites objects stack) text_start (pieces_of objects) [] (word_of nop ∷ []) refl
 
 pub functions_are : (objects : List Object) (stack : ℕ) → (linked objects stack).functions ≡ map function_of (text_of objects)
 unfolding linked

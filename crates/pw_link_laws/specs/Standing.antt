@@ -5,7 +5,8 @@ use Rattle.pw_value.specs.Limits.{text_start}
 use Rattle.pw_object.specs.declared.object.Object.{Object}
 use Rattle.pw_image.specs.Image.{Item}
 use Rattle.pw_machine.specs.Core.{byte_at, word_at}
-use Rattle.pw_link.specs.Layout.{is_before, Placed, Standing, Sites, sites_by, text_of, data_of, data_begin, stack_end}
+use Rattle.pw_value.specs.Names.{is_before}
+use Rattle.pw_link.specs.Layout.{Placed, Standing, Sites, sites_by, text_of, data_of, data_begin, stack_end}
 use Rattle.pw_link.specs.Linking.{item_at, item_bytes}
 
 -- the addresses of a linked program

@@ -84,9 +84,7 @@ pub fn initialise_linked(
 pub fn symbol_of_linked(alloc: Global, linked: &LinkedName) -> Result<Symbol, AllocError>
     ensures { IfOk result (λ symbol. view_symbol symbol ≡ spec.symbol_of_linked (view_linked linked.now)) }
 {
-    let Ok(name) = Name::new(alloc, linked.name) else {
-        return Err(AllocError);
-    };
+    let name = Name::lawful(alloc, linked.name)?;
     if linked.internal {
         Ok(Symbol::Internal(name))
     } else {

@@ -9,6 +9,7 @@ ghost use Rattle.pw_image.specs.Loading.{FailsLoad};
 ghost use Rattle.pw_list.specs.Listing.{IsByAddress, IsListing, IsListingOf, function_lines, lines_of, next_address, words_between};
 
 use crate::lines::push_words;
+use pw_db::refs_of;
 use pw_image::{Function, Image, LoadError, read_image};
 use pw_value::limits::TEXT_START;
 use std::alloc::{AllocError, Global};
@@ -21,17 +22,6 @@ fn by_address(alloc: Global, functions: &[Function]) -> Result<Vec<&Function>, A
     let mut ordered = refs_of(alloc, functions)?;
     ordered.sort_by_key(|function| function.address)?;
     Ok(ordered)
-}
-
-/// Functions by reference.
-fn refs_of(alloc: Global, functions: &[Function]) -> Result<Vec<&Function>, AllocError>
-    ensures { IfOk result (λ v. map (λ f. f.now) v.items ≡ functions.now) }
-{
-    let mut refs = Vec::new(alloc);
-    for function in functions {
-        refs.push(function)?;
-    }
-    Ok(refs)
 }
 
 /// The words from one address up to another, as far as the text goes.

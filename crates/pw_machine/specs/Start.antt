@@ -1,7 +1,8 @@
 -- The state in which a program begins: its words as text, its data, and a stack above them.
-use Rattle.std.specs.Prelude.{ℕ, ◌+◌, ◌-◌, ◌*◌, ◌/◌, ◌%◌, ◌^◌, ◌<◌, ◌≤◌, ◌⊎◌, List, [], ◌∷◌, ◌++◌, length, take, drop, replicate, None, false, slice_set}
+use Rattle.std.specs.Prelude.{ℕ, ◌+◌, ◌%◌, ◌^◌, ◌<◌, ◌≤◌, ◌⊎◌, List, [], ◌∷◌, ◌++◌, length, take, drop, replicate, None, false, slice_set}
 use Rattle.std.specs.Int.{to_be_bytes, w32}
 use Rattle.pw_value.specs.Limits.{text_start, memory_size}
+use Rattle.pw_value.specs.Rounding.{stack_start}
 use Rattle.pw_image.specs.Image.{Item, MemoryValue, data_start}
 use Rattle.pw_machine.specs.Core.{Core}
 
@@ -27,17 +28,13 @@ abbrev pub bytes_of : List ℕ → List ℕ
 bytes_of [] = []
 bytes_of (word ∷ words) = to_be_bytes w32 word ++ bytes_of words
 
--- n rounded up to a multiple of k
-abbrev pub rounded_up : ℕ → ℕ → ℕ
-rounded_up k n = (n + (k - 1)) / k * k
-
 -- The data begin at the first multiple of 8 after the text.
 abbrev pub data_start_of : List ℕ → ℕ
 data_start_of words = data_start (length words)
 
--- The stack begins 64 bytes above the end of the data, which is rounded up to 64.
+-- The stack begins above the end of the data.
 abbrev pub stack_start_of : List ℕ → ℕ → ℕ
-stack_start_of words data_size = rounded_up 64 (data_start_of words + data_size) + 64
+stack_start_of words data_size = stack_start (data_start_of words + data_size)
 
 -- The memory is 0 but for the text, at its start, and the items of the data, at their offsets.
 abbrev pub start_memory : List ℕ → List Item → List ℕ

@@ -6,7 +6,7 @@ ghost use Rattle.pw_value.specs.Limits.{word_limit, memory_size};
 
 use crate::ends::{End, Halt};
 use crate::{bits, memory, start};
-use pw_image::DataItem;
+use pw_image::{DataItem, data_start};
 use pw_inst::Inst;
 use pw_io::NoMemory;
 use pw_value::limits::{MEMORY_SIZE, TEXT_START};
@@ -67,9 +67,9 @@ impl Processor {
         ensures { IfOk result (λ p. p ≡ start_core entry words.now data_size (map item_view items.now)) }
     {
         let text = words.len() as u32;
-        let data_start = start::rounded_up(8, TEXT_START + 4 * text);
+        let data_start = data_start(text) as u32;
         let mut registers = [0; 32];
-        registers[30] = start::rounded_up(64, data_start + data_size) + 64;
+        registers[30] = start::stack_start(data_start + data_size);
         let mut memory = start::blank(alloc, MEMORY_SIZE as usize)?;
         start::put_words(&mut memory, TEXT_START as usize, words);
         start::put_items(&mut memory, data_start as usize, data_size, items);

@@ -1,9 +1,10 @@
 // The start of a program: its words and its data in the memory.
 
-ghost use Rattle.std.specs.Prelude.{◌≡◌, ◌+◌, ◌-◌, ◌*◌, ◌^◌, ◌<◌, ◌≤◌, length, map, vec_len, IfOk};
+ghost use Rattle.std.specs.Prelude.{◌≡◌, ◌+◌, ◌*◌, ◌≤◌, length, map, vec_len, IfOk};
+ghost use Rattle.pw_value.specs.Limits.{memory_size};
+ghost use Rattle.pw_value.specs.Rounding.{stack_start};
 ghost use Rattle.pw_image.specs.Image.{AreItems, item_view};
 ghost use Rattle.pw_machine.specs.Start.{zeros, overwritten, with_items, bytes_of};
-ghost use Rattle.pw_machine.specs.Start as start;
 
 use pw_image::DataItem;
 use pw_io::NoMemory;
@@ -47,11 +48,10 @@ pub(crate) fn put_items(memory: &mut [u8], at: usize, size: u32, items: &[DataIt
     }
 }
 
-/// A number rounded up to a multiple of k.
-pub(crate) fn rounded_up(k: u32, n: u32) -> u32
-    requires some { 0 < k }
-    requires small { n + k < 2 ^ 32 }
-    ensures { result ≡ start.rounded_up k n }
+/// Where the stack begins above data that end at an address of the memory.
+pub(crate) fn stack_start(data_end: u32) -> u32
+    requires { data_end ≤ memory_size }
+    ensures { result ≡ stack_start data_end }
 {
-    (n + (k - 1)) / k * k
+    pw_value::stack_start(u64::from(data_end)) as u32
 }

@@ -44,9 +44,7 @@ impl<'a> MemberList<'a> {
     pub fn push(&mut self, alloc: Global, name: &'a [u8], ty: QType) -> Result<(), AllocError>
         ensures { OnOk result (view_member_list self.new ≡ view_member_list self.old ++ record { name = name.now; ty = view_qtype ty } ∷ []) }
     {
-        let Ok(own_name) = Name::new(alloc, name) else {
-            return Err(AllocError);
-        };
+        let own_name = Name::lawful(alloc, name)?;
         self.items.reserve(1)?;
         self.names.push(name)?;
         self.items.push(Member { name: own_name, ty })?;

@@ -1,9 +1,8 @@
 //! Images and refusals as texts.
 
-use pw_image::{DataItem, Function, GlobalObject, Image};
+use pw_image::{DataItem, Function, GlobalObject, Image, data_start};
 use pw_rows::Text;
-use pw_value::limits::TEXT_START;
-use pw_value::{LinkFault, Name, round8};
+use pw_value::{LinkFault, Name};
 
 /// How many functions of a map are the library's and the routines.
 const ROUTINES: usize = 8;
@@ -66,11 +65,10 @@ fn push_item(text: &mut Text, item: &DataItem) {
     }
 }
 
-/// Where the data of a text of so many words start.
-fn data_start(words: usize) -> u32 {
-    let words = u32::try_from(words).unwrap_or(0);
-    let start = round8(u64::from(TEXT_START) + 4 * u64::from(words));
-    u32::try_from(start).unwrap_or(0)
+/// The address at which the data start behind words.
+fn start_behind(words: &[u32]) -> u32 {
+    let words = u32::try_from(words.len()).unwrap_or(0);
+    u32::try_from(data_start(words)).unwrap_or(0)
 }
 
 /// Adds what an image is, as far as it rests on no word of a routine.
@@ -83,7 +81,7 @@ pub fn push_image(text: &mut Text, image: &Image, marks: &[u8]) {
     text.push(b" |");
     push_words(text, &memory.words, marks);
     push_functions(text, &image.functions[..known]);
-    push_globals(text, data_start(memory.words.len()), &image.globals);
+    push_globals(text, start_behind(&memory.words), &image.globals);
     for item in &memory.items {
         push_item(text, item);
     }

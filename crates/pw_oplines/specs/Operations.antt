@@ -3,6 +3,7 @@ use Rattle.std.specs.Prelude.{ℕ, ℤ, pos, neg_ℤ, ◌-◌, ◌-ℤ◌, ◌==
 use Rattle.pw_value.specs.declared.value.Kind.{Kind}
 use Rattle.pw_flow.specs.declared.flow.Op.{Op}
 use Rattle.pw_flow.specs.declared.flow.Op.TheVariants as op
+use Rattle.pw_inst.specs.Registers.{help, first, second, result, answer, return_address, argument_register}
 use Rattle.pw_inst.specs.declared.Inst.{Inst}
 use Rattle.pw_inst.specs.declared.Inst.TheVariants as i
 use Rattle.pw_inst.specs.declared.line.Line.{Line}
@@ -12,7 +13,7 @@ use Rattle.pw_webflow.specs.declared.web.WebOp.{WebOp}
 use Rattle.pw_webflow.specs.declared.web.WebOp.TheVariants.{Flow, Read, Write}
 use Rattle.pw_alloc.specs.declared.located.Place.{Place}
 use Rattle.pw_registers.specs.Arithmetic.{unary_word, routine_of, extension_word, with_one, with_none, binary_by}
-use Rattle.pw_registers.specs.Registers.{word, copied, constant, address_of, frame_address, store_to, place_of, operand_register, operand_lines, loaded, load_scalar, store_scalar, sign_spread, read_global, write_global, help, first, second, result, answer, return_address, argument_register}
+use Rattle.pw_registers.specs.Registers.{word, copied, constant, address_of, frame_address, store_to, place_of, operand_register, operand_lines, loaded, load_scalar, store_scalar, sign_spread, read_global, write_global}
 
 -- where the temporaries and the slots of the function stand
 pub record Layout : Type 0 where

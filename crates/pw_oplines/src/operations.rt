@@ -10,13 +10,12 @@ ghost use Rattle.pw_oplines.specs.Operations.{load_unit, store_unit, unit_copied
 
 use pw_alloc::Place;
 use pw_flow::{BinKind, ExtKind, Op, UnKind};
-use pw_inst::{Inst, Line, Symbol};
+use pw_inst::{ANSWER, ARGUMENT, FIRST, HELP, Inst, Line, RESULT, RETURN_ADDRESS, SECOND, Symbol};
 use pw_items::Items;
 use pw_registers::{
-    ANSWER, ARGUMENT, FIRST, HELP, RESULT, RETURN_ADDRESS, SECOND, extension_word, load_scalar,
-    place_of, put, put_address, put_binary, put_constant, put_copy, put_frame_address, put_loaded,
-    put_operand, put_read, put_result, put_sign, put_store, put_write, result_register,
-    store_scalar, unary_word,
+    extension_word, load_scalar, place_of, put, put_address, put_binary, put_constant, put_copy,
+    put_frame_address, put_loaded, put_operand, put_read, put_result, put_sign, put_store,
+    put_write, result_register, store_scalar, unary_word,
 };
 use pw_value::{Kind, Name};
 use pw_webflow::WebOp;

@@ -6,13 +6,14 @@ use Rattle.pw_flow.specs.declared.flow.BinKind.{BinKind}
 use Rattle.pw_flow.specs.declared.flow.BinKind.TheVariants as bin
 use Rattle.pw_flow.specs.declared.flow.ExtKind.{ExtKind}
 use Rattle.pw_flow.specs.declared.flow.ExtKind.TheVariants as ext
+use Rattle.pw_inst.specs.Registers.{help, first, second, result, routine_link, argument_register}
 use Rattle.pw_inst.specs.declared.Inst.{Inst}
 use Rattle.pw_inst.specs.declared.Inst.TheVariants as i
 use Rattle.pw_inst.specs.declared.line.Line.{Line}
 use Rattle.pw_inst.specs.declared.line.Line.TheVariants.{Plain, CallTo}
 use Rattle.pw_inst.specs.declared.relocation.Symbol.TheVariants.{Routine}
 use Rattle.pw_alloc.specs.declared.located.Place.{Place}
-use Rattle.pw_registers.specs.Registers.{word, copied, operand_register, operand_lines, loaded, result_register, result_lines, help, first, second, result, routine_link, argument_register}
+use Rattle.pw_registers.specs.Registers.{word, copied, operand_register, operand_lines, loaded, result_register, result_lines}
 
 -- ---- arithmetic on two registers, into a third
 

@@ -1,11 +1,12 @@
--- The registers of the calling convention (PA-RISC 1.1), and lines that move words between them and the frame.
-use Rattle.std.specs.Prelude.{ℕ, ℤ, pos, neg_ℤ, ◌-◌, ◌&&◌, int_le, Bool, if◌then◌else◌, List, [], ◌∷◌, ◌++◌, slice_get, unwrap_or}
+-- Lines that move words between the registers of the calling convention (PA-RISC 1.1) and the frame.
+use Rattle.std.specs.Prelude.{ℕ, ℤ, pos, neg_ℤ, ◌&&◌, int_le, Bool, if◌then◌else◌, List, [], ◌∷◌, ◌++◌, slice_get, unwrap_or}
 use Rattle.std.specs.Int.{w32, cast_signed, cast_unsigned}
 use Rattle.pw_value.specs.declared.value.Kind.{Kind}
 use Rattle.pw_value.specs.declared.value.Kind.TheVariants.{S8, U8, S16, U16, W32}
 use Rattle.pw_inst.specs.declared.Inst.{Inst}
 use Rattle.pw_inst.specs.declared.Inst.TheVariants as i
 use Rattle.pw_inst.specs.Limits.{near_least, near_most}
+use Rattle.pw_inst.specs.Registers.{help, stack_pointer, result}
 use Rattle.pw_inst.specs.Setting.{left_part, right_part}
 use Rattle.pw_inst.specs.declared.line.Line.{Line}
 use Rattle.pw_inst.specs.declared.line.Line.TheVariants.{Plain, Fixed}
@@ -14,40 +15,6 @@ use Rattle.pw_inst.specs.declared.relocation.Symbol.{Symbol}
 use Rattle.pw_inst.specs.declared.relocation.Symbol.TheVariants.{Named}
 use Rattle.pw_alloc.specs.declared.located.Place.{Place}
 use Rattle.pw_alloc.specs.declared.located.Place.TheVariants.{Slot, Reg}
-
--- ---- the registers by their parts
-abbrev pub zero_register : ℕ
-zero_register = 0
-
--- for addresses and small things on the way; for the second operand; for the first; for a result
-abbrev pub help : ℕ
-help = 1
-
-abbrev pub second : ℕ
-second = 21
-
-abbrev pub first : ℕ
-first = 22
-
-abbrev pub result : ℕ
-result = 29
-
--- the return address, the stack pointer, a call's result, the address behind a routine's call
-abbrev pub return_address : ℕ
-return_address = 2
-
-abbrev pub stack_pointer : ℕ
-stack_pointer = 30
-
-abbrev pub answer : ℕ
-answer = 28
-
-abbrev pub routine_link : ℕ
-routine_link = 31
-
--- the first four arguments, from 26 downward
-abbrev pub argument_register : ℕ → ℕ
-argument_register k = 26 - k
 
 -- ---- words
 

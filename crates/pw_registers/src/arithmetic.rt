@@ -3,13 +3,10 @@
 ghost use Rattle.std.specs.Prelude.{◌≡◌, ◌++◌, OnOk};
 ghost use Rattle.pw_registers.specs.Arithmetic.{unary_word, compared, routine_of, binary_lines, extension_word, with_two, routine_result, by_routine, binary_by};
 
-use crate::registers::{
-    ARGUMENT, FIRST, HELP, RESULT, ROUTINE_LINK, SECOND, put, put_copy, put_loaded, put_operand,
-    put_result, result_register,
-};
+use crate::registers::{put, put_copy, put_loaded, put_operand, put_result, result_register};
 use pw_alloc::Place;
 use pw_flow::{BinKind, ExtKind, UnKind};
-use pw_inst::{Inst, Line, Symbol};
+use pw_inst::{ARGUMENT, FIRST, HELP, Inst, Line, RESULT, ROUTINE_LINK, SECOND, Symbol};
 use pw_items::Items;
 use std::alloc::AllocError;
 

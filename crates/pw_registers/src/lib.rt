@@ -1,5 +1,5 @@
-//! The registers of the calling convention, the lines that move words between them, places, the frame and
-//! globals, and arithmetic.
+//! The lines that move words between the registers of the calling convention, places, the frame and globals,
+//! and arithmetic.
 #![tactic(auto)]
 
 mod arithmetic;
@@ -7,8 +7,7 @@ mod registers;
 
 pub use arithmetic::{extension_word, put_binary, unary_word};
 pub use registers::{
-    ANSWER, ARGUMENT, FIRST, HELP, RESULT, RETURN_ADDRESS, SECOND, STACK_POINTER, load_scalar,
-    place_of, put, put_address, put_constant, put_copy, put_frame_address, put_load, put_loaded,
-    put_operand, put_read, put_result, put_sign, put_store, put_write, result_register,
+    load_scalar, place_of, put, put_address, put_constant, put_copy, put_frame_address, put_load,
+    put_loaded, put_operand, put_read, put_result, put_sign, put_store, put_write, result_register,
     store_scalar,
 };

@@ -1,4 +1,4 @@
-//! The registers of the calling convention, and lines that move words between them and the frame.
+//! Lines that move words between the registers of the calling convention and the frame.
 
 ghost use Rattle.std.specs.Prelude.{◌≡◌, ◌++◌, ◌∷◌, [], IfOk, OnOk};
 ghost use Rattle.pw_inst.specs.declared.line.Line.TheVariants.{Fixed};
@@ -6,34 +6,13 @@ ghost use Rattle.pw_registers.specs.Registers.{word, copied, is_near, long_const
 
 use pw_alloc::Place;
 use pw_delay::copy_symbol;
-use pw_inst::{FixKind, Inst, Line, NEAR_LEAST, NEAR_MOST, Symbol, left_part, right_part};
+use pw_inst::{
+    FixKind, HELP, Inst, Line, NEAR_LEAST, NEAR_MOST, RESULT, STACK_POINTER, Symbol, left_part,
+    right_part,
+};
 use pw_items::Items;
 use pw_value::{Kind, Name};
 use std::alloc::{AllocError, Global};
-
-/// For addresses and small things on the way.
-pub const HELP: u8 = 1;
-
-/// The return address.
-pub const RETURN_ADDRESS: u8 = 2;
-
-/// The second operand, and the first.
-pub const SECOND: u8 = 21;
-
-pub const FIRST: u8 = 22;
-
-/// The first argument; the others follow downward.
-pub const ARGUMENT: u8 = 26;
-
-/// What a called function answers, and what a routine or an operation gives.
-pub const ANSWER: u8 = 28;
-
-pub const RESULT: u8 = 29;
-
-pub const STACK_POINTER: u8 = 30;
-
-/// The address behind a routine's call.
-pub const ROUTINE_LINK: u8 = 31;
 
 // ---- words
 

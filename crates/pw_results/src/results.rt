@@ -178,9 +178,7 @@ fn push_declared(
     if linked.internal {
         return Ok(());
     }
-    let Ok(name) = Name::new(alloc, linked.name) else {
-        return Err(AllocError);
-    };
+    let name = Name::lawful(alloc, linked.name)?;
     let ty = copy_qtype(alloc, &linked.ty)?;
     declared.push(Declared { name, ty })?;
     Ok(())

@@ -7,6 +7,7 @@ use Rattle.pw_db.specs.Limits.{first_register, register_count}
 use Rattle.pw_db.specs.declared.database.Web.{Web}
 use Rattle.pw_db.specs.declared.database.Role.{Role}
 use Rattle.pw_inst.specs.Limits.{near_least, near_most}
+use Rattle.pw_inst.specs.Registers.{help, first, second, answer, return_address, stack_pointer, argument_register}
 use Rattle.pw_inst.specs.declared.Inst.TheVariants as i
 use Rattle.pw_inst.specs.declared.line.Line.{Line}
 use Rattle.pw_inst.specs.declared.line.Line.TheVariants.{Plain, Jump, BranchNonZero, Label, Leave}
@@ -17,7 +18,7 @@ use Rattle.pw_alloc.specs.declared.located.Place.TheVariants.{Slot, Reg}
 use Rattle.pw_alloc.specs.declared.located.Located.{Located}
 use Rattle.pw_alloc.specs.Frames.{head_size, saved_offset, slots_begin, reaches_from, below}
 use Rattle.pw_alloc.specs.Allocation.{is_entry, in_frame}
-use Rattle.pw_registers.specs.Registers.{word, copied, constant, address_of, load_from, store_to, place_of, operand_register, operand_lines, loaded, read_global, write_global, help, first, second, answer, return_address, stack_pointer, argument_register}
+use Rattle.pw_registers.specs.Registers.{word, copied, constant, address_of, load_from, store_to, place_of, operand_register, operand_lines, loaded, read_global, write_global}
 use Rattle.pw_oplines.specs.Operations.{layout, web_op_lines}
 
 -- ---- the frame

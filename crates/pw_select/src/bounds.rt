@@ -8,12 +8,12 @@ ghost use Rattle.pw_select.specs.Selectable.{IsFrame};
 
 use crate::webs::{put_webs_loaded, put_webs_stored};
 use pw_alloc::{Located, Place, below, head_size};
-use pw_inst::{Inst, Line, NEAR_LEAST, NEAR_MOST, Symbol};
-use pw_items::Items;
-use pw_registers::{
-    ARGUMENT, FIRST, HELP, RETURN_ADDRESS, SECOND, STACK_POINTER, place_of, put, put_address,
-    put_constant, put_copy, put_load, put_store,
+use pw_inst::{
+    ARGUMENT, FIRST, HELP, Inst, Line, NEAR_LEAST, NEAR_MOST, RETURN_ADDRESS, SECOND,
+    STACK_POINTER, Symbol,
 };
+use pw_items::Items;
+use pw_registers::{place_of, put, put_address, put_constant, put_copy, put_load, put_store};
 use std::alloc::{AllocError, Global};
 
 /// The saved registers go into the frame.

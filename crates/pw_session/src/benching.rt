@@ -5,7 +5,7 @@ ghost use Rattle.pw_answer.specs.Outcomes.{Answers, LeavesStreams, OutputCount, 
 ghost use Rattle.pw_running.specs.Running.{run_answer};
 ghost use Rattle.pw_driving.specs.FromBuilding.Outcomes.{AreOpts, HoldsImage};
 ghost use Rattle.pw_driving.specs.Driving.{IsPrintAnswer};
-ghost use Rattle.pw_session.specs.Bench.{BenchComes, IsBenchAnswer, IsBenchLine, ObeysBench, ObeysReport, StopsAs, bench_front, bench_line, made_files};
+ghost use Rattle.pw_session.specs.Bench.{BenchComes, IsBenchAnswer, IsBenchLine, ObeysBench, ObeysReport, StopsAs, bench_front, bench_functions, bench_line, bench_modules, made_files};
 ghost use Rattle.pw_session.specs.Runs.{runs_as};
 
 use crate::opts::SessionOpts;
@@ -18,11 +18,17 @@ use pw_machine::{LoadError, Machine};
 use pw_running::run_machine;
 use std::alloc::{AllocError, Global};
 
-/// How many modules are made beside the main.
-const MODULES: u8 = 64;
+/// How many modules of the made program stand beside the main.
+pub const BENCH_MODULES: u8 = 64;
 
-/// How many functions the program has: those of the modules, and the main.
-const FUNCTIONS: u32 = MODULES as u32 * pw_gen::FUNCTIONS + 1;
+/// How many functions the made program has: those of the modules, and the main.
+pub const BENCH_FUNCTIONS: u32 = BENCH_MODULES as u32 * pw_gen::FUNCTIONS + 1;
+
+/// The counts are those that the definitions speak of.
+pub fn counts_of_the_bench()
+    ensures modules { BENCH_MODULES ≡ bench_modules }
+    ensures functions { BENCH_FUNCTIONS ≡ bench_functions }
+{}
 
 /// A store with the files of the program of so many modules that is made from a number.
 fn made_store(alloc: Global, number: u32, modules: u8) -> Result<SureStore, AllocError>
@@ -66,7 +72,7 @@ fn bench_front(
     ensures { IfOk result (λ text. string_bytes text ≡ bench_front number modules size digits.now) }
 {
     format!(in alloc;
-        "bench {number} modules {modules} functions {FUNCTIONS} image {size} {digits} stop "
+        "bench {number} modules {modules} functions {BENCH_FUNCTIONS} image {size} {digits} stop "
     )
 }
 
@@ -79,7 +85,7 @@ fn bench_line(
 ) -> Result<Vec<u8>, AllocError>
     ensures { IfOk result (λ text. text.items ≡ bench_line number report.now.image.items report.now.digest stop.now) }
 {
-    let modules = u32::from(MODULES) + 1;
+    let modules = u32::from(BENCH_MODULES) + 1;
     let digits = hex::encode(alloc, report.digest.as_slice())?;
     let front = bench_front(alloc, number, modules, report.image.len(), digits.as_str())?;
     let stop = stop_text(alloc, stop)?;
@@ -140,7 +146,7 @@ pub fn bench<O: Sink>(alloc: Global, number: u32, opts: &SessionOpts, out: &mut 
     ensures streams { (input : Option (List ℕ)) → LeavesStreams result.answer input input (O.taken out.old) (O.taken out.new) }
     ensures answer { IsBenchAnswer result.answer }
 {
-    let Ok(mut store) = made_store(alloc, number, MODULES) else {
+    let Ok(mut store) = made_store(alloc, number, BENCH_MODULES) else {
         return Reply {
             answer: Answer::NoMemory,
             line: 1,

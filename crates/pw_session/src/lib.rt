@@ -8,7 +8,7 @@ mod opts;
 mod runs;
 mod session;
 
-pub use benching::bench;
+pub use benching::{BENCH_FUNCTIONS, BENCH_MODULES, bench, counts_of_the_bench};
 pub use opts::SessionOpts;
 pub use pw_driving::{
     Opts, build_modules, builds_leave_genuine_objects, genuine_files_keep_genuine,

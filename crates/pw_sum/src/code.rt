@@ -10,17 +10,17 @@ ghost use Rattle.pw_agreement.specs.Agreement.{Agree};
 ghost use Rattle.pw_sum.specs.SourceRun.{source_run};
 ghost use Rattle.pw_sum.specs.Built.{EndsWithin, FramesFit, core_of, frames_of, rooms_of, sum_steps};
 
-use pw_inst::{Inst, encode};
+use pw_inst::{ANSWER, ARGUMENT, HELP, Inst, encode};
 use std::alloc::{AllocError, Global};
 
-/// Register 28, which holds the sum so far.
-const SUM: u8 = 28;
+/// The register that holds the sum so far.
+const SUM: u8 = ANSWER;
 
-/// Register 1, which holds a number that is added.
-const TERM: u8 = 1;
+/// The register that holds a number that is added.
+const TERM: u8 = HELP;
 
-/// Register 26, whose low 8 bits are the status with which a program ends.
-const STATUS: u8 = 26;
+/// The register whose low 8 bits are the status with which a program ends.
+const STATUS: u8 = ARGUMENT;
 
 /// The word that puts a number into a register.
 #[tactic(auto, unfolding(pw_inst::specs::InstructionTable::IsInRange))]

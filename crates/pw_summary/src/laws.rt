@@ -7,6 +7,13 @@ ghost use Rattle.pw_summary.specs.declared.summary.Summary.{Summary};
 ghost use Rattle.pw_summary.specs.Summary.{IsSummaryFile, kind, summary_version};
 ghost use Rattle.pw_summary.specs.Reading.{fields_at, summary_file_at};
 
+use crate::reading::VERSION;
+
+/// The version is the one that its definition speaks of.
+pub fn version_of_summaries()
+    ensures { VERSION ≡ summary_version }
+{}
+
 /// No bytes are the file of two summaries, and no summary has two files.
 pub fn summaries_and_files_are_one_to_one()
     ensures one_summary { (bytes : List ℕ) (s t : Summary) → IsSummaryFile bytes s → IsSummaryFile bytes t → s ≡ t }

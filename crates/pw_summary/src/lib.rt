@@ -7,6 +7,6 @@ mod reading;
 mod summary;
 mod writing;
 
-pub use reading::{KIND, WEIGHT_BOUND, bound_of_weights, read};
+pub use reading::{KIND, VERSION, WEIGHT_BOUND, bound_of_weights, read};
 pub use summary::{Defined, Summary, Used, Uses, summary_of};
 pub use writing::write;

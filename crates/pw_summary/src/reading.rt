@@ -28,7 +28,7 @@ use std::alloc::Global;
 pub const KIND: u32 = 0x5041_5753;
 
 /// The version of the form of a summary file.
-pub(crate) const VERSION: u32 = 1;
+pub const VERSION: u32 = 1;
 
 /// What a weight is below.
 pub const WEIGHT_BOUND: u64 = 4_294_967_296;

@@ -13,11 +13,11 @@ use Rattle.pw_machine.specs.Core.{Core}
 use Rattle.pw_answer.specs.declared.answer.Answer.{Answer}
 use Rattle.pw_answer.specs.declared.answer.Answer.TheVariants.{Usage, Refused, LinkRefused, ReadFault, WriteFault, StoreFault, NoMemory, BadFile}
 use Rattle.pw_answer.specs.Effects.{Effect, NamedFile, PutsFiles, answers_alone, prints}
-use Rattle.pw_answer.specs.Outcomes.{Answers, InputCount, LeavesInput, LeavesStreams, OutputCount, PutsOut}
+use Rattle.pw_answer.specs.Outcomes.{Answers, InputCount, IsLineDue, LeavesInput, LeavesStreams, OutputCount, PutsOut}
 use Rattle.pw_run_laws.specs.Ends.{Ends}
 use Rattle.pw_session_laws.specs.FromBuild.BuildFault.{BuildFault}
 use Rattle.pw_session_laws.specs.FromBuilding.Building.{Outcome}
-use Rattle.pw_session_laws.specs.FromDriving.Driving.{BuildComesTo, IsBuildAnswer, IsLineDue, built_effect}
+use Rattle.pw_session_laws.specs.FromDriving.Driving.{BuildComesTo, IsBuildAnswer, built_effect}
 use Rattle.pw_run_laws.specs.FromGo.FullBuild.{Build, full_build}
 use Rattle.pw_run_laws.specs.FromGo.FullBuild as build
 use Rattle.pw_run_laws.specs.FromGo.Going.{IsLineOf, IsNoUsage, build_effect, refused_line}
@@ -30,7 +30,7 @@ use Rattle.pw_run_laws.specs.FromCommands.Showing.{DatabaseComes, IsShowAnswer, 
 use Rattle.pw_session_laws.specs.FromSession.Bench.{BenchComes}
 use Rattle.pw_words.specs.declared.commands.Command.{Command}
 use Rattle.pw_words.specs.declared.commands.Command.TheVariants.{Go, Build as BuildAll, Session, PhaseOne, Analyse, PhaseTwo, Link, Run, List as ListImage, Db, Bench}
-use Rattle.pw_compiling.specs.First.{ComesOfPhase, IsLine, PhaseOneComes, PhaseOneOver}
+use Rattle.pw_compiling.specs.First.{ComesOfPhase, PhaseOneComes, PhaseOneOver}
 use Rattle.pw_compiling.specs.Made.{IsPhaseAnswer}
 use Rattle.pw_compiling.specs.Second.{PhaseTwoComes, PhaseTwoOver, database_at, flow_at}
 use Rattle.pw_top.specs.Commands.{opts_of}
@@ -211,14 +211,6 @@ pub build_reads : (count : ℕ) (answer : Answer) → IsBuildAnswer answer → I
 build_reads count ReadFault h = absurd h
 build_reads count _ h = refl
 
-line_is_due : (due : ℕ) (answer : Answer) (line : ℕ) → IsLineDue due answer line → IsLine due answer line
-line_is_due due (Refused name refusal) line h = h
-line_is_due due _ line h = tt
-
-pub build_line : (due : Files → ℕ) (told : Option Told) (answer : Answer) (line : ℕ) → IfSome told (λ t. IsLineDue (due t.files) answer line) → IfSome told (λ t. IsLine (due t.files) answer line)
-build_line due None answer line h = tt
-build_line due (Some t) answer line h = line_is_due (due t.files) answer line h
-
 -- ---- what each command leaves of the input is a rest of it
 
 abbrev pub RunsEnd : Type 0
@@ -305,20 +297,20 @@ usage_apart command answer h e = absurd (subst IsNoUsage e h)
 pub no_command : (command : Command) (answer : Answer) → Some command ≡ None → (answer ≡ Usage) ⊎ (answer ≡ NoMemory)
 no_command command answer e = absurd (none_and_some (Some command) command e refl)
 
-first_line : (answer : Answer) → IsLine 1 answer 1
+first_line : (answer : Answer) → IsLineDue 1 answer 1
 first_line (Refused name refusal) = refl
 first_line _ = tt
 
 -- an answer of a command that refuses no module
-pub plain_line : (told : Option Told) (answer : Answer) → IfSome told (λ t. IsLine 1 answer 1)
+pub plain_line : (told : Option Told) (answer : Answer) → IfSome told (λ t. IsLineDue 1 answer 1)
 plain_line None answer = tt
 plain_line (Some t) answer = first_line answer
 
-built_line : (built : Build) (answer : Answer) (line : ℕ) → IsLineOf built answer line → IsLine (refused_line built) answer line
+built_line : (built : Build) (answer : Answer) (line : ℕ) → IsLineOf built answer line → IsLineDue (refused_line built) answer line
 built_line built (Refused name refusal) line h = h
 built_line built _ line h = tt
 
-pub go_line : (told : Option Told) (answer : Answer) (line : ℕ) → IfSome told (λ t. IsLineOf (full_build t.files) answer line) → IfSome told (λ t. IsLine (refused_line (full_build t.files)) answer line)
+pub go_line : (told : Option Told) (answer : Answer) (line : ℕ) → IfSome told (λ t. IsLineOf (full_build t.files) answer line) → IfSome told (λ t. IsLineDue (refused_line (full_build t.files)) answer line)
 go_line None answer line h = tt
 go_line (Some t) answer line h = built_line (full_build t.files) answer line h
 

@@ -6,14 +6,13 @@ use Rattle.pw_answer.specs.declared.answer.Answer.{Answer}
 use Rattle.pw_answer.specs.declared.answer.Answer.TheVariants.{Done, Usage, Refused, LinkRefused, Halted, ReadFault, WriteFault, StoreFault, NoMemory, BadFile, BadScript}
 use Rattle.pw_answer.specs.Answers.{NeedsMemory}
 use Rattle.pw_answer.specs.Effects.{Effect, NamedFile, PutsFiles}
-use Rattle.pw_answer.specs.Outcomes.{InputCount, StoreCount}
+use Rattle.pw_answer.specs.Outcomes.{InputCount, IsLineDue, StoreCount}
 use Rattle.pw_modules.specs.Modules.{modules_of}
 use Rattle.pw_session_laws.specs.FromBuild.Phases.{refused_line}
 use Rattle.pw_session_laws.specs.FromBuild.BuildFault.{BuildFault}
 use Rattle.pw_session_laws.specs.FromBuilding.Building.{Outcome}
 use Rattle.pw_run_laws.specs.FromCommands.Outcome.{IsFound}
 use Rattle.pw_run_laws.specs.FromGo.Going.{IsNoUsage}
-use Rattle.pw_compiling.specs.First.{IsLine}
 use Rattle.pw_session_laws.specs.FromSession.SessionOpts.{SessionOpts}
 use Rattle.pw_session_laws.specs.FromSession.Bench.{BenchComes, BenchOver, IsBenchAnswer, IsBenchFound, IsBenchLine, ObeysBench, bench_files}
 use Rattle.pw_session_laws.specs.FromSession.Changes.{Change, ChangeFront, MakesChanges, MakesSome}
@@ -153,10 +152,10 @@ pub bench_stores : (count : ℕ) (answer : Answer) → IsBenchAnswer answer → 
 bench_stores count StoreFault h = absurd h
 bench_stores count _ h = refl
 
-bench_due : (number : ℕ) (answer : Answer) (line : ℕ) → IsBenchLine number answer line → IsLine (refused_line (modules_of (bench_files number))) answer line
+bench_due : (number : ℕ) (answer : Answer) (line : ℕ) → IsBenchLine number answer line → IsLineDue (refused_line (modules_of (bench_files number))) answer line
 bench_due number (Refused name refusal) line h = h
 bench_due number _ line h = tt
 
-pub bench_line : (told : Option Told) (number : ℕ) (answer : Answer) (line : ℕ) → IsBenchLine number answer line → IfSome told (λ t. IsLine (refused_line (modules_of (bench_files number))) answer line)
+pub bench_line : (told : Option Told) (number : ℕ) (answer : Answer) (line : ℕ) → IsBenchLine number answer line → IfSome told (λ t. IsLineDue (refused_line (modules_of (bench_files number))) answer line)
 bench_line None number answer line h = tt
 bench_line (Some t) number answer line h = bench_due number answer line h

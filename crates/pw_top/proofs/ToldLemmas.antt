@@ -7,7 +7,7 @@ use Rattle.pw_answer.specs.declared.answer.Answer.{Answer}
 use Rattle.pw_answer.specs.declared.answer.Answer.TheVariants.{Usage, Refused, LinkRefused, Halted, StoreFault, NoMemory, BadFile, BadScript}
 use Rattle.pw_answer.specs.Answers.{line_text, NeedsMemory}
 use Rattle.pw_answer.specs.Effects.{Effect, NamedFile, PutsFiles, PutFront}
-use Rattle.pw_answer.specs.Outcomes.{Answers, InputCount, LeavesInput, LeavesStreams, OutputCount, StoreCount, ToldAs, WasReadInPart}
+use Rattle.pw_answer.specs.Outcomes.{Answers, InputCount, IsLineDue, LeavesInput, LeavesStreams, OutputCount, StoreCount, ToldAs, WasReadInPart}
 use Rattle.pw_run_laws.specs.Ends.{Ends}
 use Rattle.pw_run_laws.specs.FromCommands.Others.{KeepsOthers}
 use Rattle.pw_run_laws.specs.FromGo.FullBuild as build
@@ -16,7 +16,6 @@ use Rattle.pw_run_laws.specs.FromGo.Going.{AnswersBuild, ReturnsSum, build_effec
 use Rattle.pw_run_laws.specs.FromGo.Refusals.{HoldsNoWantOfMemory}
 use Rattle.pw_words.specs.declared.commands.Command.{Command}
 use Rattle.pw_words.specs.declared.commands.Command.TheVariants.{Go, Build as BuildAll, Session}
-use Rattle.pw_compiling.specs.First.{IsLine}
 use Rattle.pw_session_laws.specs.FromDriving.Driving.{KeepsUnput, Unput}
 use Rattle.pw_session_laws.specs.FromSession.Removals.{MayRemove}
 use Rattle.pw_top.specs.Commands.{EndsScript, KeepsTheRest, files_put, opts_of}
@@ -227,15 +226,15 @@ rest_told command script old new answer last t h = told_by (λ a. KeepsTheRest c
 
 -- ---- the line
 
-same_line : (due : ℕ) (answer last : Answer) (line : ℕ) → IsLine due answer line → ToldAs answer last → line_text line last ≡ line_text due last
+same_line : (due : ℕ) (answer last : Answer) (line : ℕ) → IsLineDue due answer line → ToldAs answer last → line_text line last ≡ line_text due last
 same_line due answer (Refused name refusal) line l t =
     ⊎_elim
-    (λ e. let P : Answer → Type 0 = λ a. IsLine due a line in ap (λ n. line_text n (Refused name refusal)) (subst P (sym e) l))
+    (λ e. let P : Answer → Type 0 = λ a. IsLineDue due a line in ap (λ n. line_text n (Refused name refusal)) (subst P (sym e) l))
     (λ n. absurd (refused_is_some_memory name refusal n.1))
     t
 same_line due answer _ line l t = refl
 
-pub told_line : (due : Files → ℕ) (first : Option Told) (answer last : Answer) (line : ℕ) (Q : List ℕ → Type 0) → ToldAs answer last → IfSome first (λ t. IsLine (due t.files) answer line) → Q (line_text line last)
+pub told_line : (due : Files → ℕ) (first : Option Told) (answer last : Answer) (line : ℕ) (Q : List ℕ → Type 0) → ToldAs answer last → IfSome first (λ t. IsLineDue (due t.files) answer line) → Q (line_text line last)
     → IfSome first (λ t. Q (line_text (due t.files) last))
 told_line due None answer last line Q t l h = tt
 told_line due (Some now) answer last line Q t l h = subst Q (same_line (due now.files) answer last line l t) h

@@ -2,11 +2,10 @@
 use Rattle.std.specs.Prelude.{ℕ, List, Option, IfSome}
 use Rattle.pw_io.specs.Files.{Told, Keeps}
 use Rattle.pw_answer.specs.declared.answer.Answer.{Answer}
-use Rattle.pw_answer.specs.Outcomes.{InputCount, LeavesStreams, OutputCount, StoreCount}
+use Rattle.pw_answer.specs.Outcomes.{InputCount, IsLineDue, LeavesStreams, OutputCount, StoreCount}
 use Rattle.pw_run_laws.specs.FromGo.FullBuild.{full_build}
 use Rattle.pw_run_laws.specs.FromGo.Going.{AnswersBuild}
 use Rattle.pw_run_laws.specs.FromGo.Refusals.{HoldsNoWantOfMemory}
-use Rattle.pw_compiling.specs.First.{IsLine}
 use Rattle.pw_session_laws.specs.FromBuilding.Genuine.{KeepsGenuine}
 use Rattle.pw_words.specs.declared.commands.Command.{Command}
 use Rattle.pw_top.specs.Commands.{EndsScript, IsGo, IsNoSession, KeepsTheRest, OnlyReads, line_of}
@@ -38,4 +37,4 @@ pub record CarriesOut (command : Option Command) (answer : Answer) (number : ℕ
   pub read : InputCount old.input_faults new.input_faults answer
   pub write : OutputCount old.output_faults new.output_faults answer
   pub streams : IsNoSession command → LeavesStreams answer old.rest new.rest old.taken new.taken
-  pub line : IfSome old.told (λ told. IsLine (line_of command told.files) answer number)
+  pub line : IfSome old.told (λ told. IsLineDue (line_of command told.files) answer number)

@@ -62,6 +62,20 @@ impl Name {
         })
     }
 
+    /// The name of these bytes, where no rule lets others come than a name may have.
+    ///
+    /// # Errors
+    ///
+    /// `AllocError` for want of memory, and where no name may have the bytes.
+    pub fn lawful(alloc: Global, bytes: &[u8]) -> Result<Name, AllocError>
+        ensures { IfOk result (λ name. name ≡ bytes.now) }
+    {
+        match Name::new(alloc, bytes) {
+            Ok(name) => Ok(name),
+            Err(_) => Err(AllocError),
+        }
+    }
+
     /// The name of bytes of which there are as many as a name may have.
     pub fn within(alloc: Global, bytes: &[u8]) -> Result<Name, AllocError>
         requires { IsNameLength (length bytes.now) }

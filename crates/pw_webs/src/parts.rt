@@ -12,10 +12,10 @@ ghost use Rattle.pw_webs.specs.Walking.{AreSteps, Part, AreEntries, AreNeighbour
 
 use crate::neighbours::Neighbours;
 use crate::region::is_any_within;
-use crate::walks::{closure, listed};
+use crate::walks::closure;
 use crate::web::RawWeb;
 use pw_fix::BitRow;
-use pw_graph::CallGraph;
+use pw_graph::{CallGraph, numbers};
 use pw_items::Items;
 use std::alloc::{AllocError as NoMemory, Global};
 
@@ -148,9 +148,9 @@ fn web_of(
     ensures web { IfOk result (IsWebAt graph.now global) }
     ensures same { IfOk result (λ w. w.members ≡ members) }
 {
-    let places = listed(alloc, &members)?;
+    let places = numbers(alloc, &members)?;
     let entries = entries(alloc, &beside.callers, region, &places)?;
-    let entered = listed(alloc, &entries)?.len();
+    let entered = numbers(alloc, &entries)?.len();
     let writes = is_written(graph, &places, global);
     let priority = saved(total(graph, &places, global), writes, entered as u64);
     Ok(RawWeb {

@@ -8,9 +8,9 @@ ghost use Rattle.pw_webs.specs.Webs.{Region};
 ghost use Rattle.pw_webs.specs.Walking.{AreSteps, IsMarked, IsOutside, IsBetween, AreNeighbours};
 
 use crate::neighbours::Neighbours;
-use crate::walks::{add_row, listed, reached};
+use crate::walks::{add_row, reached};
 use pw_fix::BitRow;
-use pw_graph::{CallGraph, RefSets};
+use pw_graph::{CallGraph, RefSets, numbers};
 use pw_items::Items;
 use std::alloc::{AllocError as NoMemory, Global};
 
@@ -91,7 +91,7 @@ fn outside(alloc: Global, callers: &[Items<u32>], set: &BitRow) -> Result<BitRow
     ensures holds { IfOk result (λ found. (f : ℕ) → Holds found f ↔ IsOutside callers.now set.now f) }
 {
     let mut found = BitRow::new(alloc, set.len)?;
-    let places = listed(alloc, set)?;
+    let places = numbers(alloc, set)?;
     for place in &places {
         add_called(&mut found, callers[*place].as_slice(), set);
     }

@@ -1,23 +1,13 @@
 //! Walks over the calls of a program.
 
 ghost use Rattle.std.specs.Prelude.{◌≡◌, ℕ, ◌<◌, ◌⊎◌, ◌↔◌, [], ◌∷◌, All, Contains, length, IfOk, OnOk};
-ghost use Rattle.pw_fix.specs.Row.{Holds, members};
+ghost use Rattle.pw_fix.specs.Row.{Holds};
 ghost use Rattle.pw_webs.specs.Walking.{AreSteps, Chain, IsNext, IsReached, IsVisit};
 
 use pw_fix::BitRow;
+use pw_graph::numbers;
 use pw_items::Items;
 use std::alloc::{AllocError as NoMemory, Global};
-
-/// The numbers of a set.
-pub(crate) fn listed(alloc: Global, row: &BitRow) -> Result<Vec<usize>, NoMemory>
-    ensures { IfOk result (λ v. v.items ≡ members row.now) }
-{
-    let mut places = Vec::new(alloc);
-    for place in row.iter() {
-        places.push(place)?;
-    }
-    Ok(places)
-}
 
 /// Finds a function that stands within a set, and lets it wait if it is new.
 fn find(
@@ -67,7 +57,7 @@ pub(crate) fn closure(
     ensures length { IfOk result (λ found. found.len ≡ from.len) }
     ensures holds { IfOk result (λ found. (f : ℕ) → Holds found f ↔ Chain steps.now within.now from f) }
 {
-    let mut waiting = listed(alloc, &from)?;
+    let mut waiting = numbers(alloc, &from)?;
     let mut found = from;
     while let Some(place) = waiting.pop() {
         visit(steps[place].as_slice(), within, &mut found, &mut waiting)?;
@@ -94,7 +84,7 @@ fn next(alloc: Global, steps: &[Items<u32>], from: &BitRow) -> Result<BitRow, No
     ensures holds { IfOk result (λ found. (f : ℕ) → Holds found f ↔ IsNext steps.now from.now f) }
 {
     let mut found = BitRow::new(alloc, from.len)?;
-    let places = listed(alloc, from)?;
+    let places = numbers(alloc, from)?;
     for place in &places {
         add_row(&mut found, steps[*place].as_slice());
     }

@@ -1,6 +1,6 @@
 use Rattle.std.proofs.Common.{◌≡◌, ◌∷◌, take, map, count_by}
 use Rattle.pw_value.specs.ProgramNames.{start_name}
-use Rattle.pw_cmean.specs.Worlds.{is_before}
+use Rattle.pw_value.specs.Names.{is_before}
 use Rattle.pw_cworld.specs.Views.{view_callables}
 use Rattle.pw_cworld.proofs.numbers.number_of.Given as goal
 

@@ -1,5 +1,5 @@
 use Rattle.std.proofs.Common.{◌≡◌, map, take}
 use Rattle.pw_db.proofs.names.refs_of.Given as goal
 
-abbrev pub invariant-loop-function : goal.invariant-loop-function
-invariant-loop-function l = map (λ f. f.now) l.refs.items ≡ take l.function-index l.functions
+abbrev pub invariant-loop-item : goal.invariant-loop-item
+invariant-loop-item l = map (λ item. item.now) l.refs.items ≡ take l.item-index l.items

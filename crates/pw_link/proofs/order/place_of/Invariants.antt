@@ -1,6 +1,6 @@
 use Rattle.std.proofs.Common.{◌≡◌, map, take}
 use Rattle.std.specs.List.{position_or_len}
-use Rattle.pw_link.specs.Layout.{is_before}
+use Rattle.pw_value.specs.Names.{is_before}
 use Rattle.pw_link.proofs.order.place_of.Given as goal
 
 abbrev pub invariant-loop-place : goal.invariant-loop-place

@@ -1,6 +1,6 @@
 use Rattle.std.proofs.Common.{[]}
 use Rattle.pw_session_laws.specs.FromSession.Removals.{MayRemove}
-use Rattle.pw_top.proofs.CommandLemmas.{build_does, build_line, build_no_usage, build_reads, go_does, go_line, kept_alone, of_go, of_other, plain_line}
+use Rattle.pw_top.proofs.CommandLemmas.{build_does, build_no_usage, build_reads, go_does, go_line, kept_alone, of_go, of_other, plain_line}
 use Rattle.pw_top.proofs.GenuineLemmas.{genuine_alone, kept_others, others_alone, stays_genuine}
 use Rattle.pw_top.proofs.ProperLemmas.{bench_proper, build_proper, session_proper}
 use Rattle.pw_top.proofs.RestLemmas.{leaves_rest}
@@ -50,7 +50,7 @@ returns-in-Build-clause-obeys g c =
       read = build_reads _ _ c.build_modules.ensures.answer;
       write = c.build_modules.ensures.write;
       streams = λ h. c.build_modules.ensures.streams rest;
-      line = build_line _ told _ _ c.build_modules.ensures.line;
+      line = c.build_modules.ensures.line;
     })
 
 pub returns-in-Session-clause-usage : goal.returns-in-Session-clause-usage

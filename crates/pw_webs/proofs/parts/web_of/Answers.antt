@@ -41,9 +41,9 @@ pub saved-priority-requires-clause-entries : goal.saved-priority-requires-clause
 saved-priority-requires-clause-entries c =
     let entries = c.in_ok-entries.entries in
     let fit : length (numbers entries) ≤ entries.len = members_fit entries.len entries refl in
-    let count : length c.in_ok-listed.field-0.items ≡ length (numbers entries) = ap length c.in_ok-listed.ensures in
+    let count : length c.in_ok-numbers.field-0.items ≡ length (numbers entries) = ap length c.in_ok-numbers.ensures in
     let entered = c.len-entered.ensures in
-    let long = c.in_ok-listed.field-0.ok.0 in
+    let long = c.in_ok-numbers.field-0.ok.0 in
     let same = c.in_ok-entries.ensures.length in
     let size = c.requires.count in
     let few = c.requires.graph.functions in
@@ -62,8 +62,8 @@ returns-clause-web c =
     let are = subst (λ (ps : List ℕ). AreEntries b.callers.items region ps entries) listed seen in
     let fits : SFits w64 c.saved-priority.result = search rules in
     let entered = c.len-entered.ensures in
-    let long = c.in_ok-listed.field-0.ok.0 in
-    let count : length c.in_ok-listed.field-0.items ≡ length (numbers entries) = ap length c.in_ok-listed.ensures in
+    let long = c.in_ok-numbers.field-0.ok.0 in
+    let count : length c.in_ok-numbers.field-0.items ≡ length (numbers entries) = ap length c.in_ok-numbers.ensures in
     record {
       raw = record {
         global = c.requires.global;

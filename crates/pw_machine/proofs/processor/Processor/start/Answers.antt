@@ -16,7 +16,7 @@ returns c =
     c.deref_mut-2.ensures.value ∙ take_whole _ _ _ first ∙ c.put_words.ensures ∙ ap (λ (m : List ℕ). overwritten m text_start (bytes_of words)) blank in
     let memory : c.put_items.new.memory ≡ start_memory words items =
     c.put_items.ensures
-    ∙ ap (λ (m : List ℕ). with_items m c.rounded_up-data_start.result items) with_text
-    ∙ ap (λ (a : ℕ). with_items text a items) c.rounded_up-data_start.ensures in
+    ∙ ap (λ (m : List ℕ). with_items m c.data_start-data_start.result items) with_text
+    ∙ ap (λ (a : ℕ). with_items text a items) c.data_start-data_start.ensures in
     let second : c.in_ok-memory.memory.len ≡ length c.put_items.new.memory = omega arith in
-    start_core_is c.args.entry words c.args.data_size items _ c.rounded_up-data_start.result c.rounded_up.result (take_whole _ _ _ second ∙ memory) c.rounded_up-data_start.ensures c.rounded_up.ensures
+    start_core_is c.args.entry words c.args.data_size items _ c.data_start-data_start.result c.stack_start.result (take_whole _ _ _ second ∙ memory) c.data_start-data_start.ensures c.stack_start.ensures
