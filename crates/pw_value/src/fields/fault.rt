@@ -7,7 +7,7 @@ use crate::fault::FileError;
 use std::alloc::{AllocError, AllocFailed};
 
 /// A field is short or breaks its rule, with `left` bytes left where it begins, or there is no memory.
-#[derive(Clone, Copy, PartialEq, Eq, Debug)]
+#[derive(Clone, Copy, Debug)]
 pub enum FieldError {
     Fault { left: usize },
     NoMemory,
