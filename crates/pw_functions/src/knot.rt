@@ -20,7 +20,7 @@ use pw_tree::{Block, Decl, Expr, Stmt};
 use pw_typed::{Initialiser, TExpr, TStmt};
 use pw_typing::Knot;
 use pw_walk::{CheckFault, CheckKind};
-use std::alloc::Global;
+use std::alloc::{AllocError, Global};
 
 /// How deep the phrases and statements of a module may hold one another: within a token of nesting an expression has one
 /// level for each of the levels of operators.
@@ -36,12 +36,19 @@ pub fn phrases() -> Knot
 }
 
 /// A function that checks statements to a depth.
-#[derive(Clone, Copy)]
 struct Smaller<F> {
     /// How deep the statements may still hold one another.
     depth: usize,
     stmt: F,
 }
+
+impl<F: Copy> Clone for Smaller<F> {
+    fn clone(&self) -> Result<Smaller<F>, AllocError> {
+        Ok(*self)
+    }
+}
+
+impl<F: Copy> Copy for Smaller<F> {}
 
 impl<F> Smaller<F> {
     /// The function, to the depth.
