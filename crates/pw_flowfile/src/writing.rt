@@ -16,7 +16,7 @@ use pw_files::writing::{
     make_table, push_bytes, push_count, push_shaped_list, push_words, seal_payload,
 };
 use pw_flow::{Block, FlowFn, FlowGlobal, FlowModule, Item};
-use pw_flowops::{push_end, push_ops};
+use pw_opwriting::{push_end, push_ops};
 use pw_value::Name;
 use pw_value::fields::names::{push_name, push_names};
 use pw_value::fields::writing::{push_flag, push_u8, push_u32};
