@@ -1,14 +1,14 @@
 //! Reading the ends of blocks.
 
 ghost use Rattle.std.specs.Prelude.{◌≡◌, ◌≢◌, IfErr};
-ghost use Rattle.pw_value.specs.FieldFaults.{Gives};
+ghost use Rattle.pw_fields.specs.FieldFaults.{Gives};
 ghost use Rattle.pw_flowops.specs.Reading.{targets_at, end_at};
 
 use crate::choices::read_end_code;
 use crate::codes::EndCode;
 use crate::parts::{read_below, read_result};
+use pw_fields::FieldError;
 use pw_flow::End;
-use pw_value::fields::FieldError;
 
 /// What stands behind an end's byte.
 #[tactic(auto, unfolding(crate::specs::Reading::targets_at))]

@@ -4,9 +4,9 @@ ghost use Rattle.std.specs.Prelude.{◌≡◌, ◌++◌, OnOk};
 ghost use Rattle.pw_flowops.specs.Operations.{ending as ending_text};
 
 use crate::ops::push_result;
+use pw_fields::writing::{push_u8, push_u32};
 use pw_flow::End;
 use pw_flowops::EndCode;
-use pw_value::fields::writing::{push_u8, push_u32};
 use std::alloc::AllocError;
 
 /// Where a block goes on.

@@ -2,17 +2,17 @@
 
 ghost use Rattle.std.specs.Prelude.{◌≡◌, ◌++◌, ℕ, List, [], OnOk, Contains, Option, None, Some};
 ghost use Rattle.std.specs.List.{flat_map, AllByRecursion};
-ghost use Rattle.pw_value.specs.FieldNames.{IsNameTable};
+ghost use Rattle.pw_fields.specs.FieldNames.{IsNameTable};
 ghost use Rattle.pw_flow.specs.declared.flow.Op.TheVariants.{Const, Copy, Un, Bin, Ext, AddrGlobal, AddrSlot, AddrFn, LoadG, StoreG, Load, Store, Move, Call, CallInd};
 ghost use Rattle.pw_flow.specs.FlowGraph.{op_names};
 ghost use Rattle.pw_flowops.specs.Operations.{result as result_text, arguments, op as op_text};
 
+use pw_fields::names::push_name;
+use pw_fields::writing::{push_u8, push_u32};
 use pw_files::kinds::push_scalar;
 use pw_files::writing::{push_bytes, push_count, push_words};
 use pw_flow::{BinKind, ExtKind, Op, UnKind};
 use pw_flowops::{ABSENT, OpCode};
-use pw_value::fields::names::push_name;
-use pw_value::fields::writing::{push_u8, push_u32};
 use pw_value::{Kind, Name, Shape};
 use std::alloc::AllocError;
 

@@ -4,7 +4,6 @@
 
 pub mod codec;
 pub mod fault;
-pub mod fields;
 pub mod laws;
 pub mod limits;
 pub mod name;
