@@ -10,7 +10,7 @@ use pw_value::{LinkFault, Name, Word};
 use std::alloc::AllocError;
 
 /// What a call of the program answers.
-#[derive(Debug, Drop)]
+#[derive(Drop)]
 pub enum Answer {
     /// The command did what it is for.
     Done,

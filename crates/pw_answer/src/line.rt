@@ -291,7 +291,7 @@ fn bad_script_line(alloc: Global, at: u64) -> Result<Vec<u8>, AllocError>
 }
 
 /// A line that is told.
-#[derive(Debug, Drop)]
+#[derive(Drop)]
 pub enum Line {
     /// A line that is always the same.
     Fixed(&'static [u8]),

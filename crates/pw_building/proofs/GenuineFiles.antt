@@ -2,11 +2,11 @@
 use Rattle.std.proofs.Common.{◌≡◌, ℕ, ◌+◌, ◌-◌, ◌<◌, ◌≤◌, ◌^◌, List, [], ◌∷◌, ◌++◌, length, take, drop, Some, Result, Ok, Err, refl, sym, ap, ◌∙◌, subst, append_assoc, append-nil, arith, length-append}
 use Rattle.std.proofs.lemmas.List.{take_at, drop_at, take-append-drop, take-append-le, drop-append-le, length-take}
 use Rattle.sha2.specs.Sha256.{sha256}
-use Rattle.pw_value.specs.Fields.{u32, u32_at}
-use Rattle.pw_value.specs.FieldLaws.{AreBytes}
-use Rattle.pw_value.specs.FieldFrame.{frame_size, before_digest, file}
-use Rattle.pw_value.proofs.FieldLaws.{u32_spells}
-use Rattle.pw_value.proofs.FileLaws.{length-sha256, length-u32}
+use Rattle.pw_fields.specs.Fields.{u32, u32_at}
+use Rattle.pw_fields.specs.FieldLaws.{AreBytes}
+use Rattle.pw_fields.specs.FieldFrame.{frame_size, before_digest, file}
+use Rattle.pw_fields.proofs.FieldLaws.{u32_spells}
+use Rattle.pw_fields.proofs.FileLaws.{length-sha256, length-u32}
 use Rattle.pw_files.specs.Contents.{value_of}
 use Rattle.pw_object.specs.declared.object.Object.{Object}
 use Rattle.pw_object.specs.Object.{IsObjectFile}

@@ -9,8 +9,8 @@ use Rattle.std.proofs.lemmas.Slice.Eq.{bytes_eq-Decides}
 use Rattle.std.proofs.lemmas.Bool.Decides.{not_from_Decides}
 use Rattle.pw_io.specs.Files.{Files, Told, Keeps, LeavesFile, after_put, front_of}
 use Rattle.pw_value.specs.Limits.{kept_limit}
-use Rattle.pw_value.specs.FieldLaws.{AreBytes}
-use Rattle.pw_value.proofs.FieldLaws.{AreBytes-take}
+use Rattle.pw_fields.specs.FieldLaws.{AreBytes}
+use Rattle.pw_fields.proofs.FieldLaws.{AreBytes-take}
 use Rattle.pw_flow.specs.declared.flow.FlowModule.{FlowModule}
 use Rattle.pw_object.specs.declared.object.Object.{Object}
 use Rattle.pw_modules.specs.FileNames.{database_name, image_name, object_ending, object_name}

@@ -1,6 +1,6 @@
 -- The lines of a report.
 use Rattle.std.specs.Prelude.{ℕ, List, [], ◌∷◌, codes, length}
-use Rattle.pw_value.specs.Fields.{parts}
+use Rattle.pw_fields.specs.Fields.{parts}
 use Rattle.std.specs.Fmt.{decimal}
 use Rattle.hex.specs.Hex.{encode_lower}
 use Rattle.pw_building.specs.declared.report.Report.{Report}

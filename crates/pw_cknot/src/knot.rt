@@ -24,10 +24,9 @@ use pw_cstmt::form_of;
 use pw_cworld::Body;
 use pw_typed::{TExpr, TStmt};
 use pw_value::Value;
-use std::alloc::Global;
+use std::alloc::{AllocError, Global};
 
 /// Functions that evaluate expressions, run statements and call functions to a depth.
-#[derive(Clone, Copy)]
 struct Smaller<A, P, S, C> {
     /// How deep what they do may still nest.
     depth: usize,
@@ -36,6 +35,14 @@ struct Smaller<A, P, S, C> {
     statement: S,
     call: C,
 }
+
+impl<A: Copy, P: Copy, S: Copy, C: Copy> Clone for Smaller<A, P, S, C> {
+    fn clone(&self) -> Result<Smaller<A, P, S, C>, AllocError> {
+        Ok(*self)
+    }
+}
+
+impl<A: Copy, P: Copy, S: Copy, C: Copy> Copy for Smaller<A, P, S, C> {}
 
 impl<
     'a,

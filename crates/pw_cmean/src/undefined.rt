@@ -5,7 +5,7 @@ ghost use Rattle.pw_cmean.specs.Undefined.{text_of};
 
 /// The undefined operations, in the order of their numbers, which begin at 1. Where one step meets several,
 /// the one with the least number is told.
-#[derive(Clone, Copy, PartialEq, Eq)]
+#[derive(Clone, Copy)]
 pub enum Undef {
     /// A sum, difference, product, negation or quotient of signed integers that its type cannot hold.
     SignedOverflow,

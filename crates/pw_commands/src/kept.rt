@@ -3,7 +3,7 @@
 ghost use Rattle.std.specs.Prelude.{◌≡◌, ◌≤◌, ℕ, List, Result, ◌++◌, true, All, IfErr, IfOk, IfSome, length, map, string_bytes};
 ghost use Rattle.std.specs.List.{AllByRecursion};
 ghost use Rattle.pw_io.specs.Files.{Keeps};
-ghost use Rattle.pw_value.specs.FieldFaults.{GivesFile};
+ghost use Rattle.pw_fields.specs.FieldFaults.{GivesFile};
 ghost use Rattle.pw_value.specs.Names.{IsNameLength};
 ghost use Rattle.pw_modules.specs.Modules.{is_module_name};
 ghost use Rattle.pw_commands.specs.Linking.{few_names, of_names};

@@ -1,7 +1,7 @@
 -- What `phase2` comes to: the object of a module under the directives that the database has for it.
 use Rattle.std.specs.Prelude.{◌≡◌, ℕ, ◌⊎◌, List, [], ◌∷◌, All, map, Option, Some, Result, Ok, Err}
 use Rattle.pw_io.specs.Files.{Files, Told}
-use Rattle.pw_value.specs.FieldLaws.{AreBytes}
+use Rattle.pw_fields.specs.FieldLaws.{AreBytes}
 use Rattle.pw_files.specs.Contents.{value_of}
 use Rattle.pw_flow.specs.FlowGraph.{function_names}
 use Rattle.pw_flow.specs.declared.flow.FlowModule.{FlowModule}

@@ -8,7 +8,7 @@ ghost use Rattle.pw_db.specs.Database.{IsDatabase};
 ghost use Rattle.pw_flow.specs.ValidFlow.{IsValid};
 ghost use Rattle.pw_modules.specs.Modules.{is_module_name};
 ghost use Rattle.pw_object.specs.Object.{IsObject};
-ghost use Rattle.pw_value.specs.FieldLaws.{AreBytes};
+ghost use Rattle.pw_fields.specs.FieldLaws.{AreBytes};
 ghost use Rattle.pw_value.specs.Names.{IsNameLength};
 ghost use Rattle.pw_commands.specs.Needed.{Needs, needed};
 ghost use Rattle.pw_commands.specs.Others.{KeepsOthers};

@@ -1,9 +1,9 @@
 -- A fault of a database's fields rests on the bytes up to the faulty field's end.
 use Rattle.std.proofs.Common.{ℕ, List, [], length}
 use Rattle.std.specs.Prelude.{Option, None}
-use Rattle.pw_value.specs.Fields.{u8_at, u32_at, flag_at}
-use Rattle.pw_value.specs.FieldFrame.{here, placed}
-use Rattle.pw_value.specs.FieldNames.{name_at}
+use Rattle.pw_fields.specs.Fields.{u8_at, u32_at, flag_at}
+use Rattle.pw_fields.specs.FieldFrame.{here, placed}
+use Rattle.pw_fields.specs.FieldNames.{name_at}
 use Rattle.pw_value.specs.declared.program_names.StartName.TheVariants.{Allowed}
 use Rattle.pw_files.specs.Contents.{Contents, value_of}
 use Rattle.pw_files.specs.Faults.{FaultsStay, PayloadFaultsStay}

@@ -7,15 +7,15 @@ use Rattle.std.proofs.lemmas.List.{append-nil}
 use Rattle.std.proofs.lemmas.List.Concat.{flat_map-cons}
 use Rattle.pw_value.specs.declared.fault.FileError.{FileError}
 use Rattle.pw_value.specs.declared.program_names.StartName.TheVariants.{Allowed}
-use Rattle.pw_value.specs.Fields.{checked, u32_at, items_at, u8, u32, FitsU32, FitInTurn}
-use Rattle.pw_value.specs.FieldFaults.{GivesFile}
-use Rattle.pw_value.specs.FieldFrame.{placed}
-use Rattle.pw_value.specs.FieldLaws.{AreBytes, Spells, SpellsWhole}
-use Rattle.pw_value.specs.FieldNames.{name_index, first_unused, IsNameTable}
-use Rattle.pw_value.proofs.FieldLaws.{checked_spells, u32_spells, after_passes, found_is}
-use Rattle.pw_value.proofs.FieldSteps.{Completes, Nothing, finish, finish_whole, step, step_where, keep_place, format, items_spell}
-use Rattle.pw_value.proofs.NameTables.{one_table}
-use Rattle.pw_value.proofs.NameLaws.{AllUsed, all_used, none_unused, table_of_used, used_by_table}
+use Rattle.pw_fields.specs.Fields.{checked, u32_at, items_at, u8, u32, FitsU32, FitInTurn}
+use Rattle.pw_fields.specs.FieldFaults.{GivesFile}
+use Rattle.pw_fields.specs.FieldFrame.{placed}
+use Rattle.pw_fields.specs.FieldLaws.{AreBytes, Spells, SpellsWhole}
+use Rattle.pw_fields.specs.FieldNames.{name_index, first_unused, IsNameTable}
+use Rattle.pw_fields.proofs.FieldLaws.{checked_spells, u32_spells, after_passes, found_is}
+use Rattle.pw_fields.proofs.FieldSteps.{Completes, Nothing, finish, finish_whole, step, step_where, keep_place, format, items_spell}
+use Rattle.pw_fields.proofs.NameTables.{one_table}
+use Rattle.pw_fields.proofs.NameLaws.{AllUsed, all_used, none_unused, table_of_used, used_by_table}
 use Rattle.pw_files.specs.Contents.{Contents, value_of}
 use Rattle.pw_files.specs.Rising.{IsRisingBehind, counted}
 use Rattle.pw_files.specs.Names.{name_above_at}

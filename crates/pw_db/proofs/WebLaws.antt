@@ -8,12 +8,12 @@ use Rattle.std.specs.Cmp.Derive.{both_true}
 use Rattle.std.proofs.lemmas.Bool.{ltb-true, lt-ltb, leb-true, le-leb, eqb-true, eq-eqb}
 use Rattle.std.proofs.lemmas.Slice.Eq.{bytes_eq-Decides}
 use Rattle.pw_value.specs.declared.value.Kind.{Kind}
-use Rattle.pw_value.specs.Fields.{u8_at, u32_at, flag_at, choice_at, u8, u32, flag, FitsU8, FitsU32}
-use Rattle.pw_value.specs.FieldLaws.{Spells}
-use Rattle.pw_value.specs.FieldNames.{name_at, name_index, IsNameTable}
-use Rattle.pw_value.proofs.FieldLaws.{checked_spells, u8_spells, u32_spells, flag_spells, choice_spells, mapped_spells}
-use Rattle.pw_value.proofs.FieldSteps.{finish, step, step_where, format}
-use Rattle.pw_value.proofs.NameLaws.{name_spells}
+use Rattle.pw_fields.specs.Fields.{u8_at, u32_at, flag_at, choice_at, u8, u32, flag, FitsU8, FitsU32}
+use Rattle.pw_fields.specs.FieldLaws.{Spells}
+use Rattle.pw_fields.specs.FieldNames.{name_at, name_index, IsNameTable}
+use Rattle.pw_fields.proofs.FieldLaws.{checked_spells, u8_spells, u32_spells, flag_spells, choice_spells, mapped_spells}
+use Rattle.pw_fields.proofs.FieldSteps.{finish, step, step_where, format}
+use Rattle.pw_fields.proofs.NameLaws.{name_spells}
 use Rattle.pw_files.specs.Kinds.{scalar, scalar_code, scalar_of, scalar_at}
 use Rattle.pw_value.specs.ProgramNames.{same_truth}
 use Rattle.pw_files.proofs.KindLaws.{scalar_spells, scalar_again}

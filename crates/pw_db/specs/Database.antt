@@ -2,8 +2,8 @@
 -- registers. Its file, and the payload alone, are one spelling of it.
 use Rattle.std.specs.Prelude.{Bool, ℕ, ◌≡◌, ◌≢◌, ◌<◌, ◌≤◌, List, [], ◌∷◌, length, map, All, Contains, ◌↔◌, IsTrue, nat_lt}
 use Rattle.std.specs.List.{flat_map, AllByRecursion}
-use Rattle.pw_value.specs.Fields.{u8, u32, flag, parts, FitsU32}
-use Rattle.pw_value.specs.FieldNames.{name_table, name_index}
+use Rattle.pw_fields.specs.Fields.{u8, u32, flag, parts, FitsU32}
+use Rattle.pw_fields.specs.FieldNames.{name_table, name_index}
 use Rattle.pw_files.specs.Rising.{IsRising, counted}
 use Rattle.pw_files.specs.Kinds.{scalar}
 use Rattle.pw_files.specs.Contents.{Contents, IsContents, IsFileWith, IsContentsOf}

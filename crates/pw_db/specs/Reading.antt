@@ -3,9 +3,9 @@ use Rattle.std.specs.Prelude.{ℕ, zero, suc, ◌==◌, ◌&&◌, nat_le, nat_lt
 use Rattle.std.specs.List.{list_all}
 use Rattle.std.specs.Str.{bytes_eq}
 use Rattle.pw_value.specs.declared.value.Kind.{Kind}
-use Rattle.pw_value.specs.Fields.{◌>>=◌, done, checked, u8_at, u32_at, flag_at, choice_at, items_at}
-use Rattle.pw_value.specs.FieldFrame.{here, ended}
-use Rattle.pw_value.specs.FieldNames.{name_at, first_unused}
+use Rattle.pw_fields.specs.Fields.{◌>>=◌, done, checked, u8_at, u32_at, flag_at, choice_at, items_at}
+use Rattle.pw_fields.specs.FieldFrame.{here, ended}
+use Rattle.pw_fields.specs.FieldNames.{name_at, first_unused}
 use Rattle.pw_value.specs.ProgramNames.{same_truth}
 use Rattle.pw_value.specs.declared.program_names.StartName.TheVariants.{Allowed}
 use Rattle.pw_files.specs.Kinds.{scalar_code, scalar_at}

@@ -2,7 +2,7 @@
 
 ghost use Rattle.std.specs.Prelude.{◌≡◌, ℕ, List, All, map, length};
 ghost use Rattle.pw_files.specs.Contents.{value_of};
-ghost use Rattle.pw_value.specs.FieldFrame.{placed};
+ghost use Rattle.pw_fields.specs.FieldFrame.{placed};
 ghost use Rattle.pw_files.specs.Faults.{FaultsStay, PayloadFaultsStay};
 ghost use Rattle.pw_db.specs.declared.database.Directives.{Directives};
 ghost use Rattle.pw_db.specs.Database.{HasDirectives, IsDatabase, IsDatabaseFile, IsPayload, IsStored, kind, database_version};

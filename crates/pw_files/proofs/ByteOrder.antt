@@ -12,7 +12,7 @@ use Rattle.std.proofs.lemmas.Cmp.{nat_list_cmp_total, tied_itself}
 use Rattle.std.proofs.lemmas.Slice.Eq.{bytes_eq-Decides}
 use Rattle.std.proofs.lemmas.List.Sorted.{IsPermutation-map, IsPermutation-sym, Contains-permutation}
 use Rattle.std.proofs.lemmas.Map.Keys.{IsDistinct-IsPermutation}
-use Rattle.pw_value.specs.FieldNames.{IsRisingFrom}
+use Rattle.pw_fields.specs.FieldNames.{IsRisingFrom}
 use Rattle.pw_files.specs.Rising.{IsRising, IsRisingBehind, IsAbove}
 use Rattle.pw_files.proofs.Standing.{Has, apart, contains_by, has_by, has_map}
 use Rattle.pw_files.proofs.Views.{seen}

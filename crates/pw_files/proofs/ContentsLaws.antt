@@ -5,16 +5,16 @@ use Rattle.std.specs.Prelude.{◌==◌, IfOk, OnOk, Option, None, Some}
 use Rattle.std.specs.Global.{Vec}
 use Rattle.std.proofs.lemmas.Bool.{eqb-true}
 use Rattle.pw_value.specs.declared.fault.FileError.{FileError}
-use Rattle.pw_value.specs.declared.fields.fault.FieldError.{FieldError}
-use Rattle.pw_value.specs.declared.fields.fault.FieldError.TheVariants as field
-use Rattle.pw_value.specs.FieldFaults.{Fails, GivesFile}
-use Rattle.pw_value.specs.FieldFrame.{ended, file, FitsFile}
-use Rattle.pw_value.specs.FieldLaws.{AreBytes, SpellsWhole}
-use Rattle.pw_value.specs.FieldNames.{names_at, name_table, first_unused, IsNameTable, IsTableOf}
-use Rattle.pw_value.proofs.FieldSteps.{Completes, Nothing, step, keep_place, payload_format}
-use Rattle.pw_value.proofs.FileLaws.{file_takes, file_again}
-use Rattle.pw_value.proofs.NameTables.{one_table}
-use Rattle.pw_value.proofs.NameLaws.{names_spell, AllUsed, all_used, none_unused}
+use Rattle.pw_fields.specs.declared.fault.FieldError.{FieldError}
+use Rattle.pw_fields.specs.declared.fault.FieldError.TheVariants as field
+use Rattle.pw_fields.specs.FieldFaults.{Fails, GivesFile}
+use Rattle.pw_fields.specs.FieldFrame.{ended, file, FitsFile}
+use Rattle.pw_fields.specs.FieldLaws.{AreBytes, SpellsWhole}
+use Rattle.pw_fields.specs.FieldNames.{names_at, name_table, first_unused, IsNameTable, IsTableOf}
+use Rattle.pw_fields.proofs.FieldSteps.{Completes, Nothing, step, keep_place, payload_format}
+use Rattle.pw_fields.proofs.FileLaws.{file_takes, file_again}
+use Rattle.pw_fields.proofs.NameTables.{one_table}
+use Rattle.pw_fields.proofs.NameLaws.{names_spell, AllUsed, all_used, none_unused}
 use Rattle.pw_value.specs.ProgramNames.{KeepsStart}
 use Rattle.pw_files.specs.Start.{start_rule, sooner}
 use Rattle.pw_files.specs.Contents.{Contents, IsFileWith, module_rules, broken_at, FieldsReader, contents_at, contents_file_at, value_of}

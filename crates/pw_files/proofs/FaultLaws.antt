@@ -5,9 +5,9 @@ use Rattle.std.specs.Prelude.{Option, None, nat_le, ◌==◌, ◌&&◌}
 use Rattle.std.specs.Int.{w32, from_be_bytes}
 use Rattle.std.proofs.lemmas.Bool.{cases_lt}
 use Rattle.std.proofs.lemmas.List.{take_at, drop_at, take-append-drop, length-append, length-take, length-drop, take-take, take_all, take-append-le}
-use Rattle.pw_value.specs.Fields.{◌>>=◌, after, u32_at}
-use Rattle.pw_value.specs.FieldFrame.{here, ended, header_at, digest_size, payload_of, digest_of, opened, opened_at, placed, is_sealed, sealed, framed, file_at}
-use Rattle.pw_value.specs.FieldNames.{names_at}
+use Rattle.pw_fields.specs.Fields.{◌>>=◌, after, u32_at}
+use Rattle.pw_fields.specs.FieldFrame.{here, ended, header_at, digest_size, payload_of, digest_of, opened, opened_at, placed, is_sealed, sealed, framed, file_at}
+use Rattle.pw_fields.specs.FieldNames.{names_at}
 use Rattle.pw_files.specs.Contents.{Contents, FieldsReader, contents_at, contents_file_at, value_of}
 use Rattle.pw_files.specs.Faults.{IsFieldLength, OfPayload, Anything, StaysFault, no_rule, unsealed, FaultsStay, PayloadFaultsStay}
 use Rattle.pw_files.proofs.OnwardLaws.{Onward, one_onward, checked_one, u32_one, behind, done_onward, here_onward, names_onward}

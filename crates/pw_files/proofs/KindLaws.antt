@@ -5,9 +5,9 @@ use Rattle.std.specs.Cmp.{first_so, second_so}
 use Rattle.std.proofs.lemmas.Bool.{ltb-true, leb-true}
 use Rattle.pw_value.specs.declared.value.Kind.{Kind}
 use Rattle.pw_value.specs.declared.value.Kind.TheVariants.{S8, U8, S16, U16, W32}
-use Rattle.pw_value.specs.Fields.{choice_at, u8_at, u8, checked, FitsU8}
-use Rattle.pw_value.specs.FieldLaws.{Spells}
-use Rattle.pw_value.proofs.FieldLaws.{choice_spells, checked_spells, u8_spells, mapped_spells}
+use Rattle.pw_fields.specs.Fields.{choice_at, u8_at, u8, checked, FitsU8}
+use Rattle.pw_fields.specs.FieldLaws.{Spells}
+use Rattle.pw_fields.proofs.FieldLaws.{choice_spells, checked_spells, u8_spells, mapped_spells}
 use Rattle.pw_files.specs.Kinds.{scalar_code, kind_code, kind, scalar, scalar_of, kind_of, kind_at, scalar_at}
 
 code_again : (code : ℕ) → code < 6 → kind_code (kind_of code) ≡ code

@@ -4,12 +4,12 @@ use Rattle.std.specs.Prelude.{IsTrue, Option, Contains, ◌&&◌}
 use Rattle.std.specs.List.{AllByRecursion}
 use Rattle.std.specs.Cmp.{first_so, second_so}
 use Rattle.std.specs.Cmp.Derive.{both_true}
-use Rattle.pw_value.specs.Fields.{text_at, text, FitsText}
-use Rattle.pw_value.specs.FieldLaws.{Spells}
-use Rattle.pw_value.specs.FieldNames.{name_at, name_index, IsNameTable}
-use Rattle.pw_value.proofs.FieldLaws.{checked_spells, text_spells}
-use Rattle.pw_value.proofs.FieldSteps.{step, finish, format}
-use Rattle.pw_value.proofs.NameLaws.{name_spells}
+use Rattle.pw_fields.specs.Fields.{text_at, text, FitsText}
+use Rattle.pw_fields.specs.FieldLaws.{Spells}
+use Rattle.pw_fields.specs.FieldNames.{name_at, name_index, IsNameTable}
+use Rattle.pw_fields.proofs.FieldLaws.{checked_spells, text_spells}
+use Rattle.pw_fields.proofs.FieldSteps.{step, finish, format}
+use Rattle.pw_fields.proofs.NameLaws.{name_spells}
 use Rattle.pw_value.proofs.StartLaws.{place_forth, place_back}
 use Rattle.pw_value.specs.declared.program_names.StartName.{StartName}
 use Rattle.pw_value.specs.declared.program_names.StartName.TheVariants.{Allowed, Refused}

@@ -6,10 +6,10 @@ use Rattle.std.specs.Int.{Width, w32, w64, byte_len, from_be_bytes}
 use Rattle.std.proofs.lemmas.Bool.{ltb-false, le-ltb}
 use Rattle.std.proofs.lemmas.List.{take_at, drop_at, take-append-drop, length-append, length-take}
 use Rattle.pw_value.specs.declared.program_names.StartName.{StartName}
-use Rattle.pw_value.specs.Fields.{◌>>=◌, after, done, kept, checked, number_at, u8_at, u32_at, u64_at, text_within, text_at, choice_at, flag_at, items_at, same_state, repeated}
-use Rattle.pw_value.specs.FieldFrame.{here, ended}
-use Rattle.pw_value.specs.FieldNames.{entry_at, next_entry, names_at, name_at}
-use Rattle.pw_value.proofs.FieldLaws.{found_is, not_found, after_passes, guard_passes}
+use Rattle.pw_fields.specs.Fields.{◌>>=◌, after, done, kept, checked, number_at, u8_at, u32_at, u64_at, text_within, text_at, choice_at, flag_at, items_at, same_state, repeated}
+use Rattle.pw_fields.specs.FieldFrame.{here, ended}
+use Rattle.pw_fields.specs.FieldNames.{entry_at, next_entry, names_at, name_at}
+use Rattle.pw_fields.proofs.FieldLaws.{found_is, not_found, after_passes, guard_passes}
 use Rattle.pw_files.specs.Rising.{next_key, counted_at, rising_at}
 use Rattle.pw_files.specs.Kinds.{kind_at, scalar_at}
 use Rattle.pw_files.specs.Names.{name_above_at, text_above_at, shaped_at, name_list_at, text_list_at, shaped_list_at}

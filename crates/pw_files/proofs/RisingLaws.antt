@@ -6,11 +6,11 @@ use Rattle.std.specs.Ordering.{is_lt}
 use Rattle.std.specs.declared.cmp.Ordering.{Ordering}
 use Rattle.std.specs.declared.cmp.Ordering.TheVariants.{Less, Equal, Greater}
 use Rattle.std.proofs.lemmas.List.{append-nil}
-use Rattle.pw_value.specs.Fields.{u32_at, u32, FitsU32, FitInTurn}
-use Rattle.pw_value.specs.FieldLaws.{Spells, SpellsWhole}
-use Rattle.pw_value.proofs.FieldLaws.{u32_spells}
-use Rattle.pw_value.proofs.FieldSteps.{Completes, step, step_where, finish, format, items_spell, repeated_spells}
-use Rattle.pw_value.proofs.NameLaws.{AllUsed}
+use Rattle.pw_fields.specs.Fields.{u32_at, u32, FitsU32, FitInTurn}
+use Rattle.pw_fields.specs.FieldLaws.{Spells, SpellsWhole}
+use Rattle.pw_fields.proofs.FieldLaws.{u32_spells}
+use Rattle.pw_fields.proofs.FieldSteps.{Completes, step, step_where, finish, format, items_spell, repeated_spells}
+use Rattle.pw_fields.proofs.NameLaws.{AllUsed}
 use Rattle.pw_files.specs.Rising.{IsAbove, IsRisingBehind, IsRising, counted, FitsList, counted_at, is_above, next_key, rising_at}
 
 -- ---- the same rules in other words

@@ -1,9 +1,9 @@
 -- What stands behind a file's header: the table of the names that its value uses, and the value's fields,
 -- to their end.
 use Rattle.std.specs.Prelude.{◌≡◌, ℕ, List, length, Option, Some, None, Result, Ok, Err}
-use Rattle.pw_value.specs.Fields.{◌>>=◌, FitsU32}
-use Rattle.pw_value.specs.FieldFrame.{here, IsFileOf, file_at}
-use Rattle.pw_value.specs.FieldNames.{names_at, first_unused, IsTableOf}
+use Rattle.pw_fields.specs.Fields.{◌>>=◌, FitsU32}
+use Rattle.pw_fields.specs.FieldFrame.{here, IsFileOf, file_at}
+use Rattle.pw_fields.specs.FieldNames.{names_at, first_unused, IsTableOf}
 use Rattle.pw_files.specs.Start.{start_rule, sooner}
 
 -- a value and the table of its names

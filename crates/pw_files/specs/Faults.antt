@@ -1,7 +1,7 @@
 -- On which bytes a fault rests: those up to the faulty field's end.
 use Rattle.std.specs.Prelude.{◌≡◌, ◌⊎◌, ℕ, ◌+◌, ◌≤◌, List, length, take, drop, Option, None, Result, Ok, Err}
 use Rattle.std.specs.Int.{w32, from_be_bytes}
-use Rattle.pw_value.specs.FieldFrame.{opened_at, placed}
+use Rattle.pw_fields.specs.FieldFrame.{opened_at, placed}
 use Rattle.pw_files.specs.Contents.{Contents, FieldsReader, contents_at}
 
 -- how many bytes belong to the field that begins here: one, four, eight, or a text's count and its bytes

@@ -2,7 +2,7 @@
 use Rattle.std.specs.Prelude.{ℕ, zero, suc, ◌&&◌, nat_le, Option, Some, None, List, Result}
 use Rattle.pw_value.specs.declared.value.Kind.{Kind}
 use Rattle.pw_value.specs.declared.value.Kind.TheVariants.{S8, U8, S16, U16, W32}
-use Rattle.pw_value.specs.Fields.{◌>>=◌, done, checked, u8_at, choice_at, u8}
+use Rattle.pw_fields.specs.Fields.{◌>>=◌, done, checked, u8_at, choice_at, u8}
 
 abbrev pub scalar_code : Kind → ℕ
 scalar_code S8 = 1

@@ -1,7 +1,7 @@
 -- Names in byte order, and names with their shapes.
 use Rattle.std.specs.Prelude.{ℕ, ◌&&◌, List, [], ◌∷◌, Option, Result}
-use Rattle.pw_value.specs.Fields.{◌>>=◌, done, checked, text_at, text, parts, FitsText}
-use Rattle.pw_value.specs.FieldNames.{name_at, name_index}
+use Rattle.pw_fields.specs.Fields.{◌>>=◌, done, checked, text_at, text, parts, FitsText}
+use Rattle.pw_fields.specs.FieldNames.{name_at, name_index}
 use Rattle.pw_value.specs.declared.program_names.StartName.{StartName}
 use Rattle.pw_value.specs.ProgramNames.{may_stand}
 use Rattle.pw_files.specs.Rising.{is_above, rising_at, FitsList}

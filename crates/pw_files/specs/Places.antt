@@ -1,6 +1,6 @@
 -- Items that stand at rising offsets inside an object of so many bytes.
 use Rattle.std.specs.Prelude.{ℕ, ◌+◌, ◌&&◌, nat_le, List, length, Result}
-use Rattle.pw_value.specs.Fields.{checked, u32_at, text_at}
+use Rattle.pw_fields.specs.Fields.{checked, u32_at, text_at}
 
 -- the offset of an item, from the first free byte to the object's size
 abbrev pub offset_at : ℕ → ℕ → List ℕ → Result (ℕ × List ℕ) ℕ

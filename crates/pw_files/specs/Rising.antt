@@ -4,7 +4,7 @@ use Rattle.std.specs.List.{flat_map, AllByRecursion}
 use Rattle.std.specs.Ordering.{nat_cmp, is_lt}
 use Rattle.std.specs.Cmp.Lexicographic.{slice_cmp}
 use Rattle.std.specs.declared.cmp.Ordering.TheVariants.{Less}
-use Rattle.pw_value.specs.Fields.{◌>>=◌, done, u32_at, items_at, repeated, u32, FitsU32}
+use Rattle.pw_fields.specs.Fields.{◌>>=◌, done, u32_at, items_at, repeated, u32, FitsU32}
 
 -- ---- a list: the count of its items, and the items
 

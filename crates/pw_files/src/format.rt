@@ -3,15 +3,15 @@
 
 ghost use Rattle.std.specs.Prelude.{◌≡◌, ◌+◌, ◌<◌, ◌^◌, ℕ, List, [], length, Option, IfOk, IfErr};
 ghost use Rattle.std.specs.List.{flat_map};
-ghost use Rattle.pw_value.specs.Fields.{text};
-ghost use Rattle.pw_value.specs.FieldFaults.{Fails, Gives, GivesFile};
-ghost use Rattle.pw_value.specs.FieldFrame.{ended};
-ghost use Rattle.pw_value.specs.FieldNames.{IsRisingFrom};
+ghost use Rattle.pw_fields.specs.Fields.{text};
+ghost use Rattle.pw_fields.specs.FieldFaults.{Fails, Gives, GivesFile};
+ghost use Rattle.pw_fields.specs.FieldFrame.{ended};
+ghost use Rattle.pw_fields.specs.FieldNames.{IsRisingFrom};
 ghost use Rattle.pw_files.specs.Contents.{FieldsReader, broken_at, contents_at, contents_file_at, value_of};
 
-use pw_value::fields::FieldError;
-use pw_value::fields::frame::{check_digest, open};
-use pw_value::fields::names::read_names;
+use pw_fields::FieldError;
+use pw_fields::frame::{check_digest, open};
+use pw_fields::names::read_names;
 use pw_value::{FileError, Name};
 use std::alloc::Global;
 
@@ -93,7 +93,7 @@ pub fn read_contents<F: Format>(
 }
 
 /// The table of names and the value of a whole file.
-#[tactic(auto, unfolding(pw_value::specs::FieldFrame::file_at))]
+#[tactic(auto, unfolding(pw_fields::specs::FieldFrame::file_at))]
 fn read_named<F: Format>(alloc: Global, bytes: &[u8]) -> Result<(Vec<Name>, F::Value), FileError>
     ensures { GivesFile (λ x. record { names = x.0.items; value = x.1 }) result (contents_file_at F.KIND F.VERSION F.fields F.late bytes.now) }
 {

@@ -1,12 +1,12 @@
 //! The byte of a kind: 0 where there is none, and 1 to 5 for the kinds of scalars.
 
 ghost use Rattle.std.specs.Prelude.{◌≡◌, ◌≢◌, ◌++◌, OnOk, IfErr};
-ghost use Rattle.pw_value.specs.FieldFaults.{Gives};
+ghost use Rattle.pw_fields.specs.FieldFaults.{Gives};
 ghost use Rattle.pw_files.specs.Kinds.{kind as kind_byte, scalar, scalar_code, kind_at, scalar_at, scalar_of};
 
+use pw_fields::writing::push_u8;
+use pw_fields::{FieldError, read_choice, read_u8};
 use pw_value::Kind;
-use pw_value::fields::writing::push_u8;
-use pw_value::fields::{FieldError, read_choice, read_u8};
 use std::alloc::AllocError;
 
 /// The kind of a byte from 1 to 5.

@@ -2,15 +2,15 @@
 
 ghost use Rattle.std.specs.Prelude.{◌≡◌, ◌≢◌, ◌+◌, ◌<◌, ◌^◌, length, map, IfErr};
 ghost use Rattle.std.specs.List.{flat_map};
-ghost use Rattle.pw_value.specs.Fields.{text};
-ghost use Rattle.pw_value.specs.FieldFaults.{Gives};
-ghost use Rattle.pw_value.specs.FieldNames.{first_unused};
+ghost use Rattle.pw_fields.specs.Fields.{text};
+ghost use Rattle.pw_fields.specs.FieldFaults.{Gives};
+ghost use Rattle.pw_fields.specs.FieldNames.{first_unused};
 ghost use Rattle.pw_files.specs.Start.{start_rule, sooner};
 ghost use Rattle.pw_files.specs.Contents.{broken_at};
 
+use pw_fields::FieldError;
+use pw_fields::names::find_unused;
 use pw_value::Name;
-use pw_value::fields::FieldError;
-use pw_value::fields::names::find_unused;
 use pw_value::program_names::is_start_kept;
 use std::alloc::Global;
 
@@ -48,7 +48,7 @@ fn check_start(functions: &[&Name], globals: &[&Name], count: usize) -> Result<(
 /// from the count of the functions on. `functions` and `globals` are the names of the functions and of the
 /// objects.
 ///
-/// [`find_unused`]: pw_value::fields::names::find_unused
+/// [`find_unused`]: pw_fields::names::find_unused
 pub fn check_module(
     unused: Option<usize>,
     functions: &[&Name],

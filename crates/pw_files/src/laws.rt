@@ -2,7 +2,7 @@
 //! `proofs/RisingLaws`, `proofs/NameLists`, `proofs/KindLaws`, `proofs/ContentsLaws` and
 //! `proofs/FaultLaws`.
 
-ghost use Rattle.pw_value.specs.FieldLaws.{Spells};
+ghost use Rattle.pw_fields.specs.FieldLaws.{Spells};
 ghost use Rattle.pw_files.specs.Kinds.{kind, scalar, kind_at, scalar_at};
 
 /// What is read of a kind is spelled so, and what is spelled so is read again, whatever follows.

@@ -1,14 +1,14 @@
 //! Names, shapes and names with shapes that stand in byte order without repeats.
 
 ghost use Rattle.std.specs.Prelude.{◌≡◌, ◌≢◌, option_map, None, IfErr};
-ghost use Rattle.pw_value.specs.Fields.{items_at};
-ghost use Rattle.pw_value.specs.FieldFaults.{Gives};
+ghost use Rattle.pw_fields.specs.Fields.{items_at};
+ghost use Rattle.pw_fields.specs.FieldFaults.{Gives};
 ghost use Rattle.pw_files.specs.Rising.{is_above, next_key, rising_at};
 ghost use Rattle.pw_files.specs.Names.{name_above_at, text_above_at, shaped_at, name_list_at, text_list_at, shaped_list_at};
 
+use pw_fields::names::read_name;
+use pw_fields::{FieldError, read_text, read_text_in_place, read_u32};
 use pw_items::Items;
-use pw_value::fields::names::read_name;
-use pw_value::fields::{FieldError, read_text, read_text_in_place, read_u32};
 use pw_value::program_names::{StartName, is_allowed};
 use pw_value::{Name, Shape};
 use std::alloc::Global;

@@ -1,10 +1,10 @@
 //! Items that stand at rising offsets inside an object of so many bytes.
 
 ghost use Rattle.std.specs.Prelude.{◌≢◌, IfErr};
-ghost use Rattle.pw_value.specs.FieldFaults.{Gives};
+ghost use Rattle.pw_fields.specs.FieldFaults.{Gives};
 ghost use Rattle.pw_files.specs.Places.{offset_at, item_bytes_at};
 
-use pw_value::fields::{FieldError, read_text_in_place, read_u32};
+use pw_fields::{FieldError, read_text_in_place, read_u32};
 
 /// The offset of an item, from `free` to the object's size.
 pub fn read_offset(size: u32, free: u64, bytes: &[u8]) -> Result<(u32, &[u8]), FieldError>

@@ -3,15 +3,15 @@
 
 ghost use Rattle.std.specs.Prelude.{◌≡◌, ◌++◌, List, length, map, OnOk, IfOk, All, Contains};
 ghost use Rattle.std.specs.List.{flat_map};
-ghost use Rattle.pw_value.specs.Fields.{u32, text, FitsU32, FitsText};
-ghost use Rattle.pw_value.specs.FieldFrame.{file, FitsFile};
-ghost use Rattle.pw_value.specs.FieldNames.{name_index, IsNameTable, IsTableOf};
+ghost use Rattle.pw_fields.specs.Fields.{u32, text, FitsU32, FitsText};
+ghost use Rattle.pw_fields.specs.FieldFrame.{file, FitsFile};
+ghost use Rattle.pw_fields.specs.FieldNames.{name_index, IsNameTable, IsTableOf};
 ghost use Rattle.pw_files.specs.Rising.{counted, FitsList};
 ghost use Rattle.pw_files.specs.Names.{shaped, FitsShapes};
 
-use pw_value::fields::frame::{FRAME_LEN, seal};
-use pw_value::fields::names::{push_name, table_of};
-use pw_value::fields::writing::{push_text, push_u32};
+use pw_fields::frame::{FRAME_LEN, seal};
+use pw_fields::names::{push_name, table_of};
+use pw_fields::writing::{push_text, push_u32};
 use pw_value::words::word_of;
 use pw_value::{Name, Shape};
 use std::alloc::{AllocError, Global};

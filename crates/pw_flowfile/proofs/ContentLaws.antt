@@ -4,14 +4,14 @@ use Rattle.std.specs.Prelude.{None, Contains}
 use Rattle.std.specs.List.{flat_map, AllByRecursion}
 use Rattle.std.proofs.lemmas.List.{append-nil}
 use Rattle.pw_value.specs.declared.program_names.StartName.TheVariants.{Refused}
-use Rattle.pw_value.specs.Fields.{u32_at, items_at, u32, FitsU32, FitsText, FitInTurn}
-use Rattle.pw_value.specs.FieldFrame.{ended}
-use Rattle.pw_value.specs.FieldLaws.{Spells, SpellsWhole}
-use Rattle.pw_value.specs.FieldNames.{names_at, name_at, name_table, name_index, IsNameTable}
+use Rattle.pw_fields.specs.Fields.{u32_at, items_at, u32, FitsU32, FitsText, FitInTurn}
+use Rattle.pw_fields.specs.FieldFrame.{ended}
+use Rattle.pw_fields.specs.FieldLaws.{Spells, SpellsWhole}
+use Rattle.pw_fields.specs.FieldNames.{names_at, name_at, name_table, name_index, IsNameTable}
 use Rattle.pw_value.specs.ProgramNames.{IsOrdinary, KeepsStart}
-use Rattle.pw_value.proofs.FieldLaws.{u32_spells, AreBytes-rest, joins, after_passes}
-use Rattle.pw_value.proofs.FieldSteps.{items_spell}
-use Rattle.pw_value.proofs.NameLaws.{names_spell, name_spells, AllUsed, table_of_used, used_by_table}
+use Rattle.pw_fields.proofs.FieldLaws.{u32_spells, AreBytes-rest, joins, after_passes}
+use Rattle.pw_fields.proofs.FieldSteps.{items_spell}
+use Rattle.pw_fields.proofs.NameLaws.{names_spell, name_spells, AllUsed, table_of_used, used_by_table}
 use Rattle.pw_files.specs.Names.{shaped}
 use Rattle.pw_files.specs.Rising.{counted}
 use Rattle.pw_files.specs.Contents.{Contents, IsContents, contents_at}

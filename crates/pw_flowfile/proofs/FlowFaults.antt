@@ -3,8 +3,8 @@ use Rattle.std.proofs.Common.{ℕ, List, [], map}
 use Rattle.std.specs.Prelude.{Option, None, Result}
 use Rattle.pw_value.specs.declared.program_names.StartName.{StartName}
 use Rattle.pw_value.specs.declared.program_names.StartName.TheVariants.{Refused}
-use Rattle.pw_value.specs.Fields.{u32_at}
-use Rattle.pw_value.specs.FieldNames.{name_at}
+use Rattle.pw_fields.specs.Fields.{u32_at}
+use Rattle.pw_fields.specs.FieldNames.{name_at}
 use Rattle.pw_files.specs.Contents.{Contents, value_of}
 use Rattle.pw_files.specs.Faults.{FaultsStay}
 use Rattle.pw_files.specs.Kinds.{kind_at}

@@ -11,12 +11,12 @@ use Rattle.pw_value.specs.Limits.{parameter_limit, room_limit}
 use Rattle.pw_value.specs.declared.program_names.StartName.{StartName}
 use Rattle.pw_value.specs.declared.program_names.StartName.TheVariants.{Refused}
 use Rattle.pw_value.specs.declared.value.Kind.{Kind}
-use Rattle.pw_value.specs.Fields.{◌>>=◌, done, checked, u32_at, text_at, flag_at, items_at, repeated, u8, u32, text, flag, FitsU32, FitsText, FitInTurn}
-use Rattle.pw_value.specs.FieldLaws.{Spells}
-use Rattle.pw_value.specs.FieldNames.{name_at, name_index, is_among, IsNameTable}
-use Rattle.pw_value.proofs.FieldLaws.{checked_spells, u32_spells, text_spells, flag_spells, found_is, after_passes}
-use Rattle.pw_value.proofs.NameLaws.{name_spells}
-use Rattle.pw_value.proofs.FieldSteps.{items_spell, repeated_spells}
+use Rattle.pw_fields.specs.Fields.{◌>>=◌, done, checked, u32_at, text_at, flag_at, items_at, repeated, u8, u32, text, flag, FitsU32, FitsText, FitInTurn}
+use Rattle.pw_fields.specs.FieldLaws.{Spells}
+use Rattle.pw_fields.specs.FieldNames.{name_at, name_index, is_among, IsNameTable}
+use Rattle.pw_fields.proofs.FieldLaws.{checked_spells, u32_spells, text_spells, flag_spells, found_is, after_passes}
+use Rattle.pw_fields.proofs.NameLaws.{name_spells}
+use Rattle.pw_fields.proofs.FieldSteps.{items_spell, repeated_spells}
 use Rattle.pw_files.specs.Kinds.{kind as kind_byte, kind_at}
 use Rattle.pw_files.specs.Names.{shaped}
 use Rattle.pw_files.proofs.KindLaws.{kind_spells}

@@ -4,12 +4,12 @@ use Rattle.std.specs.Prelude.{slice_index_or, replicate}
 use Rattle.std.specs.Str.{bytes_eq}
 use Rattle.std.proofs.Math.ListN.{length-set}
 use Rattle.std.proofs.lemmas.Slice.Eq.{bytes_eq-Decides}
-use Rattle.pw_value.specs.declared.fields.fault.FieldError.{FieldError}
-use Rattle.pw_value.specs.declared.fields.fault.FieldError.TheVariants as field
-use Rattle.pw_value.specs.FieldFaults.{Fails}
-use Rattle.pw_value.specs.Fields.{◌>>=◌}
-use Rattle.pw_value.specs.FieldNames.{is_among, name_at, place_of, IsRisingFrom}
-use Rattle.pw_value.proofs.NameLaws.{place-get}
+use Rattle.pw_fields.specs.declared.fault.FieldError.{FieldError}
+use Rattle.pw_fields.specs.declared.fault.FieldError.TheVariants as field
+use Rattle.pw_fields.specs.FieldFaults.{Fails}
+use Rattle.pw_fields.specs.Fields.{◌>>=◌}
+use Rattle.pw_fields.specs.FieldNames.{is_among, name_at, place_of, IsRisingFrom}
+use Rattle.pw_fields.proofs.NameLaws.{place-get}
 use Rattle.pw_flowops.specs.Reading.{below_at}
 use Rattle.pw_flowfile.specs.Reading.{fresh_at, seen_after}
 use Rattle.pw_flowfile.specs.Marks.{Marks}

@@ -4,8 +4,8 @@ use Rattle.std.specs.Prelude.{◌||◌}
 use Rattle.std.specs.List.{AllByRecursion}
 use Rattle.std.specs.Str.{bytes_eq}
 use Rattle.std.proofs.lemmas.Slice.Eq.{bytes_eq-Decides}
-use Rattle.pw_value.specs.Fields.{FitInTurn}
-use Rattle.pw_value.specs.FieldNames.{is_among}
+use Rattle.pw_fields.specs.Fields.{FitInTurn}
+use Rattle.pw_fields.specs.FieldNames.{is_among}
 use Rattle.pw_flow.specs.ValidFlow.{AreDistinct}
 use Rattle.pw_flowfile.specs.Reading.{seen_after}
 

@@ -5,11 +5,11 @@ use Rattle.std.specs.Global.{Vec}
 use Rattle.std.specs.List.{flat_map, AllByRecursion}
 use Rattle.std.proofs.lemmas.List.{length-append, append-nil}
 use Rattle.std.proofs.lemmas.List.Concat.{flat_map-cons}
-use Rattle.pw_value.specs.Fields.{u32, text, flag, FitsU32, FitsText}
-use Rattle.pw_value.specs.FieldFrame.{file, FitsFile}
-use Rattle.pw_value.specs.FieldNames.{name_table, name_index, IsTableOf}
-use Rattle.pw_value.proofs.FileLaws.{length-u32}
-use Rattle.pw_value.proofs.NameLaws.{AllUsed, used_by_table}
+use Rattle.pw_fields.specs.Fields.{u32, text, flag, FitsU32, FitsText}
+use Rattle.pw_fields.specs.FieldFrame.{file, FitsFile}
+use Rattle.pw_fields.specs.FieldNames.{name_table, name_index, IsTableOf}
+use Rattle.pw_fields.proofs.FileLaws.{length-u32}
+use Rattle.pw_fields.proofs.NameLaws.{AllUsed, used_by_table}
 use Rattle.pw_files.specs.Kinds.{kind as kind_byte}
 use Rattle.pw_files.specs.Names.{shaped}
 use Rattle.pw_files.specs.Rising.{counted as counted_text}

@@ -2,8 +2,8 @@
 use Rattle.std.specs.Prelude.{ℕ, List, [], ◌∷◌, ◌++◌, length}
 use Rattle.std.specs.List.{flat_map, AllByRecursion}
 use denote.Enum.Bare.{sameb}
-use Rattle.pw_value.specs.Fields.{u8, u32, text, flag, parts, FitsU32, FitsText}
-use Rattle.pw_value.specs.FieldNames.{name_table, name_index}
+use Rattle.pw_fields.specs.Fields.{u8, u32, text, flag, parts, FitsU32, FitsText}
+use Rattle.pw_fields.specs.FieldNames.{name_table, name_index}
 use Rattle.pw_files.specs.Kinds.{kind as kind_byte}
 use Rattle.pw_files.specs.Names.{shaped, FitsShapes}
 use Rattle.pw_files.specs.Rising.{counted, FitsList}

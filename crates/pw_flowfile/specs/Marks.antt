@@ -1,6 +1,6 @@
 -- Marks beside a table of names: which of its names were met.
 use Rattle.std.specs.Prelude.{◌≡◌, ℕ, ◌<◌, Bool, false, List, [], length, slice_index_or}
-use Rattle.pw_value.specs.FieldNames.{is_among}
+use Rattle.pw_fields.specs.FieldNames.{is_among}
 
 pub record Marks (names seen : List (List ℕ)) (flags : List Bool) : Type 0 where
   pub count : length flags ≡ length names

@@ -4,9 +4,9 @@ use Rattle.pw_value.specs.Limits.{parameter_limit, room_limit}
 use Rattle.pw_value.specs.declared.program_names.StartName.{StartName}
 use Rattle.pw_value.specs.declared.program_names.StartName.TheVariants.{Refused}
 use Rattle.pw_value.specs.declared.value.Kind.{Kind}
-use Rattle.pw_value.specs.Fields.{◌>>=◌, done, checked, u32_at, text_at, flag_at, items_at, repeated}
-use Rattle.pw_value.specs.FieldFrame.{here, ended}
-use Rattle.pw_value.specs.FieldNames.{name_at, is_among}
+use Rattle.pw_fields.specs.Fields.{◌>>=◌, done, checked, u32_at, text_at, flag_at, items_at, repeated}
+use Rattle.pw_fields.specs.FieldFrame.{here, ended}
+use Rattle.pw_fields.specs.FieldNames.{name_at, is_among}
 use Rattle.pw_files.specs.Kinds.{kind_at}
 use Rattle.pw_files.specs.Places.{offset_at, item_bytes_at}
 use Rattle.pw_files.specs.Contents.{Contents, module_rules, contents_file_at}

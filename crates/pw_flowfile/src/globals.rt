@@ -1,9 +1,9 @@
 //! Reading the global objects and the declared names of a flow file.
 
 ghost use Rattle.std.specs.Prelude.{◌≡◌, ◌+◌, ◌∷◌, ◌≤◌, ℕ, List, [], length, map, IfOk, IfErr, ◌≢◌};
-ghost use Rattle.pw_value.specs.Fields.{checked, items_at};
-ghost use Rattle.pw_value.specs.FieldFaults.{Gives};
-ghost use Rattle.pw_value.specs.FieldNames.{IsRisingFrom};
+ghost use Rattle.pw_fields.specs.Fields.{checked, items_at};
+ghost use Rattle.pw_fields.specs.FieldFaults.{Gives};
+ghost use Rattle.pw_fields.specs.FieldNames.{IsRisingFrom};
 ghost use Rattle.pw_files.specs.Kinds.{kind_at};
 ghost use Rattle.pw_flowops.specs.Reading.{one_of_at};
 ghost use Rattle.pw_flowfile.specs.FlowFile.{item_forms};
@@ -11,12 +11,12 @@ ghost use Rattle.pw_flowfile.specs.Reading.{has_room, content_at, item_at, place
 ghost use Rattle.pw_flowfile.specs.Marks.{Marks};
 
 use crate::met::read_fresh;
+use pw_fields::{FieldError, read_flag, read_text, read_u32};
 use pw_files::kinds::read_kind;
 use pw_files::places::{read_item_bytes, read_offset};
 use pw_flow::{FlowGlobal, Item, kind_size};
 use pw_flowops::{read_named, read_one_of};
 use pw_items::Items;
-use pw_value::fields::{FieldError, read_flag, read_text, read_u32};
 use pw_value::program_names::StartName;
 use pw_value::{Kind, Name, Shape};
 use std::alloc::Global;

@@ -2,18 +2,18 @@
 
 ghost use Rattle.std.specs.Prelude.{◌≡◌, ◌*◌, ◌≤◌, ◌&&◌, ◌∷◌, ℕ, nat_le, nat_lt, List, [], length, map, IfOk, IfErr, ◌≢◌};
 ghost use Rattle.pw_value.specs.Limits.{room_limit};
-ghost use Rattle.pw_value.specs.Fields.{u32_at, checked, items_at, repeated};
-ghost use Rattle.pw_value.specs.FieldFaults.{Gives};
-ghost use Rattle.pw_value.specs.FieldNames.{IsRisingFrom};
+ghost use Rattle.pw_fields.specs.Fields.{u32_at, checked, items_at, repeated};
+ghost use Rattle.pw_fields.specs.FieldFaults.{Gives};
+ghost use Rattle.pw_fields.specs.FieldNames.{IsRisingFrom};
 ghost use Rattle.pw_flow.specs.ValidFlow.{slot_room};
 ghost use Rattle.pw_flowfile.specs.Reading.{block_at, slot_at, next_room, code_at, function_body_at, function_at, next_function, seen_after};
 ghost use Rattle.pw_flowfile.specs.Marks.{Marks};
 
 use crate::met::read_fresh;
+use pw_fields::{FieldError, read_text_in_place, read_u32};
 use pw_flow::{Block, FlowFn};
 use pw_flowops::{Counts, read_end, read_few, read_ops};
 use pw_items::Items;
-use pw_value::fields::{FieldError, read_text_in_place, read_u32};
 use pw_value::limits::ROOM_LIMIT;
 use pw_value::{Name, Shape, round8};
 use std::alloc::Global;

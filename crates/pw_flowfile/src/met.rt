@@ -1,14 +1,14 @@
 //! Names that are met once.
 
 ghost use Rattle.std.specs.Prelude.{◌≡◌, ◌∷◌, ℕ, List, [], length, IfOk, IfErr, ◌≢◌};
-ghost use Rattle.pw_value.specs.FieldFaults.{Gives};
-ghost use Rattle.pw_value.specs.FieldNames.{IsRisingFrom};
+ghost use Rattle.pw_fields.specs.FieldFaults.{Gives};
+ghost use Rattle.pw_fields.specs.FieldNames.{IsRisingFrom};
 ghost use Rattle.pw_flowfile.specs.Reading.{fresh_at};
 ghost use Rattle.pw_flowfile.specs.Marks.{Marks};
 
+use pw_fields::FieldError;
 use pw_flowops::read_below;
 use pw_value::Name;
-use pw_value::fields::FieldError;
 use std::alloc::{AllocError, Global};
 
 /// Marks beside a table of names, of which none was met.

@@ -2,10 +2,10 @@
 
 ghost use Rattle.std.specs.Prelude.{◌≡◌, ◌+◌, ◌<◌, ◌^◌, ℕ, [], length, map, Option, IfOk, IfErr, Ok};
 ghost use Rattle.std.specs.List.{flat_map};
-ghost use Rattle.pw_value.specs.Fields.{text};
-ghost use Rattle.pw_value.specs.FieldFaults.{Fails, Gives, GivesFile};
-ghost use Rattle.pw_value.specs.FieldFrame.{ended};
-ghost use Rattle.pw_value.specs.FieldNames.{IsRisingFrom};
+ghost use Rattle.pw_fields.specs.Fields.{text};
+ghost use Rattle.pw_fields.specs.FieldFaults.{Fails, Gives, GivesFile};
+ghost use Rattle.pw_fields.specs.FieldFrame.{ended};
+ghost use Rattle.pw_fields.specs.FieldNames.{IsRisingFrom};
 ghost use Rattle.pw_files.specs.Contents.{broken_at, value_of};
 ghost use Rattle.pw_flow.specs.declared.flow.FlowModule.{FlowModule as AnyModule};
 ghost use Rattle.pw_flowfile.specs.FlowFile.{IsFlowFile, kind_of_file, flow_version};
@@ -16,13 +16,13 @@ use crate::globals::{read_declared, read_globals};
 use crate::graphs::read_functions;
 use crate::met::unmarked;
 use crate::used::used_names;
+use pw_fields::names::{find_unused, read_name};
+use pw_fields::{FieldError, read_u32};
 use pw_files::format::{Format, read_value};
 use pw_files::late::check_module;
 use pw_flow::names::{function_names, global_names};
 use pw_flow::{FlowFn, FlowGlobal, FlowModule};
 use pw_items::Items;
-use pw_value::fields::names::{find_unused, read_name};
-use pw_value::fields::{FieldError, read_u32};
 use pw_value::{FileError, Name, Shape};
 use std::alloc::Global;
 

@@ -2,7 +2,7 @@
 
 ghost use Rattle.std.specs.Prelude.{◌≡◌, ◌++◌, ℕ, List, map, OnOk, IfOk, Contains};
 ghost use Rattle.std.specs.List.{flat_map, AllByRecursion};
-ghost use Rattle.pw_value.specs.FieldNames.{IsNameTable};
+ghost use Rattle.pw_fields.specs.FieldNames.{IsNameTable};
 ghost use Rattle.pw_flow.specs.FlowGraph.{item_names, names_in_block, names_in_global};
 ghost use Rattle.pw_files.specs.Rising.{counted};
 ghost use Rattle.pw_flow.specs.ValidFlow.{IsValid};
@@ -11,15 +11,15 @@ ghost use Rattle.pw_flowfile.specs.FlowFile.{all_in_global, all_in_function, nam
 use crate::globals::ItemForm;
 use crate::reading::{KIND, VERSION};
 use crate::used::used_names;
+use pw_fields::names::{push_name, push_names};
+use pw_fields::writing::{push_flag, push_u8, push_u32};
 use pw_files::kinds::push_kind;
 use pw_files::writing::{
     make_table, push_bytes, push_count, push_shaped_list, push_words, seal_payload,
 };
 use pw_flow::{Block, FlowFn, FlowGlobal, FlowModule, Item};
-use pw_flowops::{push_end, push_ops};
+use pw_opwriting::{push_end, push_ops};
 use pw_value::Name;
-use pw_value::fields::names::{push_name, push_names};
-use pw_value::fields::writing::{push_flag, push_u8, push_u32};
 use std::alloc::{AllocError, Global};
 
 /// An item.

@@ -1,9 +1,9 @@
 -- Bytes that stand for a choice: what is read is spelled so, and what is spelled so is read again.
 use Rattle.std.proofs.Common.{◌≡◌, ℕ, zero, suc, ◌+◌, List, [], ◌∷◌, ◌++◌, Ok, refl, sym, ap, ◌∙◌, arith}
 use Rattle.std.specs.Prelude.{Option, Some, None, slice_get}
-use Rattle.pw_value.specs.Fields.{u8}
-use Rattle.pw_value.specs.FieldLaws.{Spells}
-use Rattle.pw_value.proofs.FieldLaws.{found_is, not_found}
+use Rattle.pw_fields.specs.Fields.{u8}
+use Rattle.pw_fields.specs.FieldLaws.{Spells}
+use Rattle.pw_fields.proofs.FieldLaws.{found_is, not_found}
 use Rattle.pw_flow.specs.declared.flow.UnKind.{UnKind}
 use Rattle.pw_flow.specs.declared.flow.UnKind.TheVariants as un
 use Rattle.pw_flow.specs.declared.flow.BinKind.{BinKind}

@@ -1,7 +1,7 @@
 -- Ends of blocks: what is read is spelled so and lawful, and what is spelled so and lawful is read again.
 use Rattle.std.proofs.Common.{◌≡◌, ℕ, ◌^◌, ◌<◌, ◌≤◌, List, [], ◌++◌, Ok, refl, arith}
-use Rattle.pw_value.specs.Fields.{u8, u32}
-use Rattle.pw_value.specs.FieldLaws.{Spells}
+use Rattle.pw_fields.specs.Fields.{u8, u32}
+use Rattle.pw_fields.specs.FieldLaws.{Spells}
 use Rattle.pw_flow.specs.declared.flow.End.{End}
 use Rattle.pw_flow.specs.declared.flow.End.TheVariants as end
 use Rattle.pw_flow.specs.ValidFlow.{IsResult, IsEnd}

@@ -2,10 +2,10 @@
 -- field puts its spelling in front of the text of the fields behind it.
 use Rattle.std.proofs.Common.{◌≡◌, ℕ, List, [], ◌∷◌, ◌++◌, length, Result, Ok, refl, sym, ap, subst, ◌∙◌, append_assoc}
 use Rattle.std.specs.Prelude.{Option, Some, None}
-use Rattle.pw_value.specs.Fields.{◌>>=◌, done}
-use Rattle.pw_value.specs.FieldFrame.{here, ended}
-use Rattle.pw_value.specs.FieldLaws.{AreBytes, Spells}
-use Rattle.pw_value.proofs.FieldLaws.{AreBytes-rest, joins, found_is, not_found, after_passes}
+use Rattle.pw_fields.specs.Fields.{◌>>=◌, done}
+use Rattle.pw_fields.specs.FieldFrame.{here, ended}
+use Rattle.pw_fields.specs.FieldLaws.{AreBytes, Spells}
+use Rattle.pw_fields.proofs.FieldLaws.{AreBytes-rest, joins, found_is, not_found, after_passes}
 
 -- the text that was read, the bytes behind it, and the value
 pub record Takes {X : Type 0} (P : List ℕ → List ℕ → X → Type 0) (read : List ℕ → Result (X × List ℕ) ℕ) : Type 0 where

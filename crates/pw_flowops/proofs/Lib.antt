@@ -1,5 +1,4 @@
 pub mod FieldChains
-pub mod FlatLists
 pub mod ChoiceLaws
 pub mod PartLaws
 pub mod OpLaws

@@ -7,9 +7,9 @@ use Rattle.std.proofs.lemmas.Bool.{ltb-false}
 use Rattle.std.proofs.lemmas.List.{length-append, length-drop}
 use Rattle.pw_value.specs.declared.program_names.StartName.{StartName}
 use Rattle.pw_value.specs.declared.program_names.StartName.TheVariants.{Refused}
-use Rattle.pw_value.specs.Fields.{kept, checked, u32_at}
-use Rattle.pw_value.specs.FieldNames.{name_at}
-use Rattle.pw_value.proofs.FieldLaws.{found_is, not_found, after_passes, guard_passes}
+use Rattle.pw_fields.specs.Fields.{kept, checked, u32_at}
+use Rattle.pw_fields.specs.FieldNames.{name_at}
+use Rattle.pw_fields.proofs.FieldLaws.{found_is, not_found, after_passes, guard_passes}
 use Rattle.pw_files.specs.Faults.{IsFieldLength}
 use Rattle.pw_files.proofs.OnwardLaws.{Found, Faulty, Onward, OneField, one_onward, behind, done_onward, kept_found, begins_alike, checked_one, mapped_one, u32_one, text_one, repeated_onward, name_one, scalar_one}
 use Rattle.pw_flowops.specs.declared.codes.OpCode.{OpCode}

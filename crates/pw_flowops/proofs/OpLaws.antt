@@ -1,10 +1,10 @@
 -- Operations: what is read is spelled so and lawful, and what is spelled so and lawful is read again.
 use Rattle.std.proofs.Common.{◌≡◌, ℕ, ◌^◌, ◌<◌, List, [], ◌++◌, Ok, refl, sym, ap, ◌∙◌, arith}
 use Rattle.std.proofs.lemmas.List.{append-nil}
-use Rattle.pw_value.specs.Fields.{u32_at, text_at, u8, u32, text, FitsU32, FitsText}
-use Rattle.pw_value.specs.FieldLaws.{Spells}
-use Rattle.pw_value.specs.FieldNames.{name_index, IsNameTable}
-use Rattle.pw_value.proofs.FieldLaws.{u32_spells, text_spells}
+use Rattle.pw_fields.specs.Fields.{u32_at, text_at, u8, u32, text, FitsU32, FitsText}
+use Rattle.pw_fields.specs.FieldLaws.{Spells}
+use Rattle.pw_fields.specs.FieldNames.{name_index, IsNameTable}
+use Rattle.pw_fields.proofs.FieldLaws.{u32_spells, text_spells}
 use Rattle.pw_value.specs.declared.program_names.StartName.TheVariants.{Refused}
 use Rattle.pw_files.specs.Kinds.{scalar, scalar_at}
 use Rattle.pw_files.proofs.KindLaws.{scalar_spells}

@@ -6,12 +6,12 @@ use Rattle.std.specs.Cmp.{first_so, second_so}
 use Rattle.std.specs.Cmp.Derive.{both_true}
 use Rattle.std.proofs.lemmas.Bool.{eqb-true, eq-eqb, leb-true, le-leb, ltb-true, lt-ltb}
 use Rattle.std.proofs.lemmas.List.{append-nil}
-use Rattle.pw_value.specs.Fields.{checked, u32_at, repeated, u32, FitsU32}
-use Rattle.pw_value.specs.FieldLaws.{Spells}
-use Rattle.pw_value.specs.FieldNames.{name_at, name_index, IsNameTable}
-use Rattle.pw_value.proofs.FieldLaws.{checked_spells, u32_spells, mapped_spells}
-use Rattle.pw_value.proofs.FieldSteps.{repeated_spells}
-use Rattle.pw_value.proofs.NameLaws.{name_spells}
+use Rattle.pw_fields.specs.Fields.{checked, u32_at, repeated, u32, FitsU32}
+use Rattle.pw_fields.specs.FieldLaws.{Spells}
+use Rattle.pw_fields.specs.FieldNames.{name_at, name_index, IsNameTable}
+use Rattle.pw_fields.proofs.FieldLaws.{checked_spells, u32_spells, mapped_spells}
+use Rattle.pw_fields.proofs.FieldSteps.{repeated_spells}
+use Rattle.pw_fields.proofs.NameLaws.{name_spells}
 use Rattle.pw_value.specs.Limits.{size_limit, parameter_limit}
 use Rattle.pw_value.specs.declared.program_names.StartName.{StartName}
 use Rattle.pw_value.specs.ProgramNames.{may_stand}

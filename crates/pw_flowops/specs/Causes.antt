@@ -1,7 +1,7 @@
 -- Which cause is told by a reader that takes memory.
 use Rattle.std.specs.Prelude.{◌≡◌, ℕ, Result, IsOk, IfErr}
-use Rattle.pw_value.specs.declared.fields.fault.FieldError.{FieldError}
-use Rattle.pw_value.specs.declared.fields.fault.FieldError.TheVariants as field
+use Rattle.pw_fields.specs.declared.fault.FieldError.{FieldError}
+use Rattle.pw_fields.specs.declared.fault.FieldError.TheVariants as field
 
 -- Where reading finds a fault, want of memory is not told in its place.
 abbrev pub FaultFirst : {X Y : Type 0} → Result X FieldError → Result Y ℕ → Type 0

@@ -2,8 +2,8 @@
 use Rattle.std.specs.Prelude.{ℕ, suc, Bool, Option, Some, None, List, [], ◌∷◌, Contains, if◌then◌else◌}
 use Rattle.std.specs.List.{AllByRecursion}
 use denote.Enum.Bare.{sameb}
-use Rattle.pw_value.specs.Fields.{u8, u32, text, parts, FitsText}
-use Rattle.pw_value.specs.FieldNames.{name_index}
+use Rattle.pw_fields.specs.Fields.{u8, u32, text, parts, FitsText}
+use Rattle.pw_fields.specs.FieldNames.{name_index}
 use Rattle.pw_value.specs.declared.program_names.StartName.{StartName}
 use Rattle.pw_value.specs.declared.program_names.StartName.TheVariants.{Refused}
 use Rattle.pw_value.specs.ProgramNames.{MayStand}

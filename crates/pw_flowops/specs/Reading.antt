@@ -1,8 +1,8 @@
 -- Reading the operations of a flow graph and the ends of its blocks from left to right, with the first fault
 -- that is met.
 use Rattle.std.specs.Prelude.{ℕ, ◌%◌, List, [], ◌∷◌, length, Result, Ok, Err, Option, Some, None, Bool, nat_le, nat_lt, ◌==◌, ◌&&◌, ◌||◌, if◌then◌else◌, slice_get}
-use Rattle.pw_value.specs.Fields.{◌>>=◌, done, checked, u32_at, text_at, repeated}
-use Rattle.pw_value.specs.FieldNames.{name_at}
+use Rattle.pw_fields.specs.Fields.{◌>>=◌, done, checked, u32_at, text_at, repeated}
+use Rattle.pw_fields.specs.FieldNames.{name_at}
 use Rattle.pw_files.specs.Kinds.{scalar_at}
 use Rattle.pw_value.specs.Limits.{size_limit, parameter_limit}
 use Rattle.pw_value.specs.declared.program_names.StartName.{StartName}

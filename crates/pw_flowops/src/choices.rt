@@ -1,16 +1,16 @@
 //! Bytes that stand for a choice.
 
 ghost use Rattle.std.specs.Prelude.{◌≡◌, ◌≢◌, List, length, IfErr};
-ghost use Rattle.pw_value.specs.FieldFaults.{Gives};
+ghost use Rattle.pw_fields.specs.FieldFaults.{Gives};
 ghost use Rattle.pw_flowops.specs.Operations.{un_kinds, bin_kinds, ext_kinds, op_codes, end_codes};
 ghost use Rattle.pw_flowops.specs.Reading.{one_of_at};
 
 use crate::codes::{BIN_KINDS, END_CODES, EXT_KINDS, EndCode, OP_CODES, OpCode, UN_KINDS};
+use pw_fields::{FieldError, read_u8};
 use pw_flow::{BinKind, ExtKind, UnKind};
-use pw_value::fields::{FieldError, read_u8};
 
 /// A byte that is the place of one of the choices.
-#[tactic(auto, unfolding(crate::specs::Reading::one_of_at, pw_value::specs::Fields::u8_at))]
+#[tactic(auto, unfolding(crate::specs::Reading::one_of_at, pw_fields::specs::Fields::u8_at))]
 pub fn read_one_of<'a, T: Copy>(choices: &[T], bytes: &'a [u8]) -> Result<(T, &'a [u8]), FieldError>
     ensures found { Gives (λ x. (x.0, x.1.now)) result (one_of_at choices.now bytes.now) }
     ensures no_memory { IfErr result (λ e. e ≢ FieldError.NoMemory) }

@@ -1,18 +1,14 @@
-//! The ends of blocks.
+//! Reading the ends of blocks.
 
-ghost use Rattle.std.specs.Prelude.{◌≡◌, ◌≢◌, ◌++◌, OnOk, IfErr};
-ghost use Rattle.pw_value.specs.FieldFaults.{Gives};
-ghost use Rattle.pw_flowops.specs.Operations.{ending as ending_text};
+ghost use Rattle.std.specs.Prelude.{◌≡◌, ◌≢◌, IfErr};
+ghost use Rattle.pw_fields.specs.FieldFaults.{Gives};
 ghost use Rattle.pw_flowops.specs.Reading.{targets_at, end_at};
 
 use crate::choices::read_end_code;
 use crate::codes::EndCode;
-use crate::op_writing::push_result;
 use crate::parts::{read_below, read_result};
+use pw_fields::FieldError;
 use pw_flow::End;
-use pw_value::fields::FieldError;
-use pw_value::fields::writing::{push_u8, push_u32};
-use std::alloc::AllocError;
 
 /// What stands behind an end's byte.
 #[tactic(auto, unfolding(crate::specs::Reading::targets_at))]
@@ -51,26 +47,4 @@ pub fn read_end(temps: u32, blocks: u32, bytes: &[u8]) -> Result<(End, &[u8]), F
 {
     let (code, rest) = read_end_code(bytes)?;
     read_targets(temps, blocks, code, rest)
-}
-
-/// Where a block goes on.
-pub fn push_end(out: &mut Vec<u8>, end: End) -> Result<(), AllocError>
-    ensures { OnOk result (out.new.items ≡ out.old.items ++ ending_text end) }
-{
-    match end {
-        End::Jump(b) => {
-            push_u8(out, EndCode::Jump as u8)?;
-            push_u32(out, b)
-        }
-        End::Branch(a, b, c) => {
-            push_u8(out, EndCode::Branch as u8)?;
-            push_u32(out, a)?;
-            push_u32(out, b)?;
-            push_u32(out, c)
-        }
-        End::Return(a) => {
-            push_u8(out, EndCode::Return as u8)?;
-            push_result(out, a)
-        }
-    }
 }

@@ -2,8 +2,8 @@
 //! `proofs/OpLaws`, `proofs/EndLaws` and `proofs/PartLaws`, and on `proofs/FieldChains`.
 
 ghost use Rattle.std.specs.Prelude.{◌≡◌, ◌<◌, ◌≤◌, ◌^◌, ℕ, List};
-ghost use Rattle.pw_value.specs.FieldLaws.{Spells};
-ghost use Rattle.pw_value.specs.FieldNames.{IsNameTable};
+ghost use Rattle.pw_fields.specs.FieldLaws.{Spells};
+ghost use Rattle.pw_fields.specs.FieldNames.{IsNameTable};
 ghost use Rattle.pw_flow.specs.ValidFlow.{IsEnd};
 ghost use Rattle.pw_flowops.specs.Operations.{absent, op, ending, OpFits};
 ghost use Rattle.pw_flowops.specs.Reading.{op_at, end_at};

@@ -1,8 +1,8 @@
 //! Reading operations.
 
 ghost use Rattle.std.specs.Prelude.{◌≡◌, ◌≢◌, ℕ, List, length, IfErr};
-ghost use Rattle.pw_value.specs.Fields.{repeated};
-ghost use Rattle.pw_value.specs.FieldFaults.{Gives};
+ghost use Rattle.pw_fields.specs.Fields.{repeated};
+ghost use Rattle.pw_fields.specs.FieldFaults.{Gives};
 ghost use Rattle.pw_flowops.specs.Causes.{FaultFirst};
 ghost use Rattle.pw_flowops.specs.Reading.{operands_at, op_at};
 ghost use Rattle.pw_flowops.specs.declared.codes.OpCode.TheVariants as code;
@@ -10,10 +10,10 @@ ghost use Rattle.pw_flowops.specs.declared.codes.OpCode.TheVariants as code;
 use crate::choices::{read_bin_kind, read_ext_kind, read_op_code, read_un_kind};
 use crate::codes::OpCode;
 use crate::parts::{read_arguments, read_below, read_moved, read_named, read_result};
+use pw_fields::{FieldError, read_text_in_place, read_u32};
 use pw_files::kinds::read_scalar;
 use pw_flow::Op;
 use pw_items::Items;
-use pw_value::fields::{FieldError, read_text_in_place, read_u32};
 use pw_value::program_names::StartName;
 use pw_value::{Name, Shape};
 use std::alloc::Global;

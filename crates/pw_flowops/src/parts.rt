@@ -1,17 +1,17 @@
 //! The small parts of operations: indices, names, results, arguments, and what is copied.
 
 ghost use Rattle.std.specs.Prelude.{◌≡◌, ◌<◌, ℕ, nat_le, nat_lt, List, length, IsOk, IfOk, IfErr, OnOk, ◌≢◌};
-ghost use Rattle.pw_value.specs.Fields.{u32_at, repeated, checked};
+ghost use Rattle.pw_fields.specs.Fields.{u32_at, repeated, checked};
 ghost use Rattle.pw_value.specs.Limits.{parameter_limit};
-ghost use Rattle.pw_value.specs.FieldFaults.{Gives, Fails};
+ghost use Rattle.pw_fields.specs.FieldFaults.{Gives, Fails};
 ghost use Rattle.pw_flow.specs.ValidFlow.{IsUnit};
 ghost use Rattle.pw_flowops.specs.Causes.{FaultFirst};
 ghost use Rattle.pw_flowops.specs.Reading.{named_at, below_at, result_at, arguments_at, is_unit, is_whole, size_and_unit_at, moved_at};
 
+use pw_fields::names::read_name;
+use pw_fields::{FieldError, read_u32};
 use pw_items::Items;
 use pw_value::Name;
-use pw_value::fields::names::read_name;
-use pw_value::fields::{FieldError, read_u32};
 use pw_value::limits::{PARAMETER_LIMIT, SIZE_LIMIT};
 use pw_value::program_names::{StartName, is_allowed};
 use std::alloc::Global;

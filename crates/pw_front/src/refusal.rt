@@ -21,7 +21,7 @@ pub enum Refusal {
 }
 
 /// Why the front gives no syntax tree.
-#[derive(Clone, Copy, Debug, Error, PartialEq, Eq)]
+#[derive(Clone, Copy, Debug, Error)]
 pub enum FrontError {
     /// The text is refused. The refusal is never want of memory.
     #[error("the text is refused")]

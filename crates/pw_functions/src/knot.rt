@@ -20,7 +20,7 @@ use pw_tree::{Block, Decl, Expr, Stmt};
 use pw_typed::{Initialiser, TExpr, TStmt};
 use pw_typing::Knot;
 use pw_walk::{CheckFault, CheckKind};
-use std::alloc::Global;
+use std::alloc::{AllocError, Global};
 
 /// No fewer than there are ranks of operators (C90 6.3.1 to 6.3.17).
 pub const OPERATOR_RANKS: usize = 20;
@@ -45,12 +45,19 @@ pub fn phrases() -> Knot
 }
 
 /// A function that checks statements to a depth.
-#[derive(Clone, Copy)]
 struct Smaller<F> {
     /// How deep the statements may still hold one another.
     depth: usize,
     stmt: F,
 }
+
+impl<F: Copy> Clone for Smaller<F> {
+    fn clone(&self) -> Result<Smaller<F>, AllocError> {
+        Ok(*self)
+    }
+}
+
+impl<F: Copy> Copy for Smaller<F> {}
 
 impl<F> Smaller<F> {
     /// The function, to the depth.

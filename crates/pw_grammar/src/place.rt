@@ -1,7 +1,7 @@
 //! Where a declarator stands.
 
 /// Where a declarator stands, and with that whether it has a name.
-#[derive(Clone, Copy, PartialEq, Eq)]
+#[derive(Clone, Copy)]
 pub enum Place {
     /// In a declaration of objects, functions or members: it has a name (C90 6.5.4).
     Named,

@@ -3,7 +3,7 @@
 use pw_tree::{BasicType, Qualifier, RecordKind, StorageClass};
 
 /// What a keyword at the front of a declaration is (C90 6.5.1 to 6.5.3).
-#[derive(Clone, Copy, PartialEq, Eq)]
+#[derive(Clone, Copy)]
 pub enum SpecifierWord {
     Storage(StorageClass),
     Qualified(Qualifier),

@@ -4,8 +4,8 @@ use Rattle.std.specs.Prelude.{Option, Some, None, slice_get, if◌then◌else◌
 use Rattle.std.specs.List.{flat_map}
 use Rattle.std.proofs.lemmas.Option.{same_Some}
 use Rattle.pw_value.specs.declared.value.Kind.{Kind}
-use Rattle.pw_value.specs.FieldNames.{is_among, IsTableOf}
-use Rattle.pw_value.proofs.NameLaws.{among_contains, contains_among}
+use Rattle.pw_fields.specs.FieldNames.{is_among, IsTableOf}
+use Rattle.pw_fields.proofs.NameLaws.{among_contains, contains_among}
 use Rattle.pw_files.proofs.Standing.{Has, has_by, contains_by, has_left, has_right, has_split, has_flat, has_flat_back}
 use Rattle.pw_summary.specs.declared.summary.Summary.{Summary}
 use Rattle.pw_summary.specs.declared.summary.Uses.{Uses}

@@ -12,7 +12,7 @@ use Rattle.std.proofs.lemmas.Option.{slice_get_within, same_Some}
 use Rattle.std.proofs.lemmas.List.Elements.{recursion_from_All}
 use Rattle.pw_value.specs.declared.value.Kind.{Kind}
 use Rattle.pw_value.specs.Limits.{function_limit, global_limit}
-use Rattle.pw_value.specs.FieldNames.{is_among, IsRisingFrom, IsTableOf}
+use Rattle.pw_fields.specs.FieldNames.{is_among, IsRisingFrom, IsTableOf}
 use Rattle.pw_files.specs.Rising.{IsRising, IsRisingBehind}
 use Rattle.pw_files.proofs.Standing.{Has, has_by, contains_by, each_by, has_each, has_map, has_map_back, has_left, has_right, has_split, has_flat, has_flat_back}
 use Rattle.pw_files.proofs.ByteOrder.{table_rises, one_rising, behind}

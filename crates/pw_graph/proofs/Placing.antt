@@ -7,8 +7,8 @@ use Rattle.std.specs.declared.cmp.Ordering.TheVariants.{Less}
 use Rattle.std.proofs.lemmas.Bool.{cases_lt, cases_eq, ltb-true, lt-ltb}
 use Rattle.std.proofs.lemmas.Cmp.{nat_list_cmp_total}
 use Rattle.std.proofs.lemmas.Option.{slice_get-get_or, slice_get_within, get_or_from_slice_get}
-use Rattle.pw_value.specs.FieldNames.{place_of, IsRisingFrom}
-use Rattle.pw_value.proofs.NameLaws.{place-get, get-place}
+use Rattle.pw_fields.specs.FieldNames.{place_of, IsRisingFrom}
+use Rattle.pw_fields.proofs.NameLaws.{place-get, get-place}
 use Rattle.pw_files.specs.Rising.{IsRising, IsRisingBehind}
 use Rattle.pw_files.proofs.Standing.{has_map}
 use Rattle.pw_files.proofs.ByteOrder.{behind, less_differs}

@@ -9,12 +9,12 @@ use Rattle.std.proofs.lemmas.List.Elements.{Contains-append_left, Contains-appen
 use Rattle.std.proofs.lemmas.Bool.{cases_lt, lt-ltb, le-ltb}
 use Rattle.std.proofs.lemmas.Grind.{take_at_read, flat_map-append}
 use Rattle.std.proofs.lemmas.List.Concat.{flat_map-cons}
-use Rattle.pw_value.proofs.NameLaws.{get-place}
+use Rattle.pw_fields.proofs.NameLaws.{get-place}
 use Rattle.pw_files.proofs.Standing.{has_each, has_by}
 use Rattle.pw_fix.specs.Row.{Holds}
 use Rattle.pw_fix.specs.declared.bit_row.BitRow.{BitRow}
 use Rattle.pw_value.specs.ProgramNames.{main_name}
-use Rattle.pw_value.specs.FieldNames.{is_among, place_of}
+use Rattle.pw_fields.specs.FieldNames.{is_among, place_of}
 use Rattle.pw_summary.specs.declared.summary.Uses.{Uses}
 use Rattle.pw_graph.specs.Program.{main_in}
 use Rattle.pw_graph.specs.Making.{homes_in, targets_from, place_in, place_if}

@@ -5,7 +5,7 @@ use Rattle.std.specs.List.{flat_map, filter_map}
 use Rattle.std.specs.List.Sorted.{IsStrictlyIncreasing}
 use Rattle.std.specs.Str.{bytes_eq}
 use Rattle.pw_value.specs.declared.value.Kind.{Kind}
-use Rattle.pw_value.specs.FieldNames.{is_among, place_of, IsTableOf}
+use Rattle.pw_fields.specs.FieldNames.{is_among, place_of, IsTableOf}
 use Rattle.pw_files.specs.Rising.{IsRising}
 use Rattle.pw_summary.specs.declared.summary.Summary.{Summary}
 use Rattle.pw_summary.specs.declared.summary.Uses.{Uses}

@@ -2,7 +2,7 @@
 
 ghost use Rattle.std.specs.Prelude.{◌≡◌, ◌<◌, ◌≤◌, ◌^◌, ◌⊎◌, ℕ, [], List, length, map, All, IfOk, IfErr, OnOk};
 ghost use Rattle.std.specs.List.{AllByRecursion, AllZip};
-ghost use Rattle.pw_value.specs.FieldNames.{IsRisingFrom, IsTableOf};
+ghost use Rattle.pw_fields.specs.FieldNames.{IsRisingFrom, IsTableOf};
 ghost use Rattle.pw_files.specs.Rising.{IsRising};
 ghost use Rattle.pw_summary.specs.Summary.{IsSummary};
 ghost use Rattle.pw_graph.specs.CallGraph.{IsGraph};

@@ -3,7 +3,7 @@
 ghost use Rattle.std.specs.Prelude.{◌≡◌, ℕ, ◌<◌, ◌≤◌, ◌^◌, ◌⊎◌, ◌↔◌, ◌++◌, ◌∷◌, [], length, map, option_map, All, Contains, IfOk, OnOk};
 ghost use Rattle.std.specs.List.{flat_map, filter_map, AllZip, AllByRecursion};
 ghost use Rattle.pw_fix.specs.Row.{Holds, members};
-ghost use Rattle.pw_value.specs.FieldNames.{IsRisingFrom};
+ghost use Rattle.pw_fields.specs.FieldNames.{IsRisingFrom};
 ghost use Rattle.pw_graph.specs.Making.{home as home_of, target as target_of, targets_from, place_in, place_if as place_of_shape, of_shape, callees as places_of_callees, IsCallRow};
 
 use crate::eligible::is_among;

@@ -3,13 +3,13 @@
 ghost use Rattle.std.specs.Prelude.{◌≡◌, ◌++◌, [], length, map, option_map, IfOk, OnOk};
 ghost use Rattle.std.specs.List.{IsDistinct};
 ghost use Rattle.std.specs.Str.{bytes_eq};
-ghost use Rattle.pw_value.specs.FieldNames.{IsRisingFrom, IsTableOf, is_among as among};
+ghost use Rattle.pw_fields.specs.FieldNames.{IsRisingFrom, IsTableOf, is_among as among};
 ghost use Rattle.pw_graph.specs.Making.{IsOrdered, scalar, all_taken, all_escaped, eligible_one, eligible_in, all_eligible};
 
+use pw_fields::names::{find_name, table_of};
 use pw_files::used::{add_names, add_shaped};
 use pw_items::Items;
 use pw_summary::Summary;
-use pw_value::fields::names::{find_name, table_of};
 use pw_value::{Kind, Name, Shape};
 use std::alloc::{AllocError, Global};
 

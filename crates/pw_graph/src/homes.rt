@@ -3,13 +3,13 @@
 ghost use Rattle.std.specs.Prelude.{ℕ, ◌≡◌, ◌<◌, ◌++◌, List, length, slice_get, Some, map, IfOk, OnOk};
 ghost use Rattle.std.specs.List.{IsDistinct};
 ghost use Rattle.std.specs.Str.{bytes_eq};
-ghost use Rattle.pw_value.specs.FieldNames.{IsTableOf};
+ghost use Rattle.pw_fields.specs.FieldNames.{IsTableOf};
 ghost use Rattle.pw_program.specs.Linking.{library as the_library};
 ghost use Rattle.pw_graph.specs.Making.{IsOrdered, home, homes_in, all_homes};
 
+use pw_fields::names::table_of;
 use pw_program::Interface;
 use pw_summary::{Summary, Uses};
-use pw_value::fields::names::table_of;
 use pw_value::{Name, Shape};
 use std::alloc::{AllocError, Global};
 

@@ -2,7 +2,7 @@
 
 ghost use Rattle.std.specs.Prelude.{◌≡◌, ◌≤◌, ◌^◌, [], length, map, option_map, IfOk};
 ghost use Rattle.std.specs.List.{filter_map};
-ghost use Rattle.pw_value.specs.FieldNames.{IsRisingFrom};
+ghost use Rattle.pw_fields.specs.FieldNames.{IsRisingFrom};
 ghost use Rattle.pw_graph.specs.Making.{home, placed as placed_ref, ref_row as refs_of};
 
 use crate::homes::Home;

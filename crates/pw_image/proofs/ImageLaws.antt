@@ -8,16 +8,16 @@ use Rattle.std.proofs.lemmas.Bool.{eqb-true, eq-eqb, leb-true, le-leb, ltb-true,
 use Rattle.std.proofs.lemmas.List.{length-append}
 use Rattle.pw_value.specs.declared.fault.FileError.{FileError}
 use Rattle.pw_value.specs.Limits.{text_start, word_limit, memory_size}
-use Rattle.pw_value.specs.Fields.{checked, u32_at, text_at, items_at, repeated, u32, text, FitsU32, FitsText, FitInTurn}
-use Rattle.pw_value.specs.FieldFaults.{GivesFile}
-use Rattle.pw_value.specs.FieldLaws.{AreBytes, Spells, SpellsWhole}
-use Rattle.pw_value.specs.FieldNames.{names_at, name_at, name_table, name_index, first_unused, IsNameTable, IsTableOf}
-use Rattle.pw_value.proofs.FieldLaws.{not_found, checked_spells, u32_spells, text_spells, bytes_spells}
-use Rattle.pw_value.proofs.FieldSteps.{Completes, finish, finish_whole, step, step_where, keep_place, format, payload_format, items_spell, repeated_spells}
-use Rattle.pw_value.proofs.FileLaws.{file_takes, file_again, length-u32}
-use Rattle.pw_value.proofs.NameTables.{one_table}
-use Rattle.pw_value.specs.FieldFrame.{file}
-use Rattle.pw_value.proofs.NameLaws.{names_spell, name_spells, AllUsed, all_used, none_unused, table_of_used, used_by_table}
+use Rattle.pw_fields.specs.Fields.{checked, u32_at, text_at, items_at, repeated, u32, text, FitsU32, FitsText, FitInTurn}
+use Rattle.pw_fields.specs.FieldFaults.{GivesFile}
+use Rattle.pw_fields.specs.FieldLaws.{AreBytes, Spells, SpellsWhole}
+use Rattle.pw_fields.specs.FieldNames.{names_at, name_at, name_table, name_index, first_unused, IsNameTable, IsTableOf}
+use Rattle.pw_fields.proofs.FieldLaws.{not_found, checked_spells, u32_spells, text_spells, bytes_spells}
+use Rattle.pw_fields.proofs.FieldSteps.{Completes, finish, finish_whole, step, step_where, keep_place, format, payload_format, items_spell, repeated_spells}
+use Rattle.pw_fields.proofs.FileLaws.{file_takes, file_again, length-u32}
+use Rattle.pw_fields.proofs.NameTables.{one_table}
+use Rattle.pw_fields.specs.FieldFrame.{file}
+use Rattle.pw_fields.proofs.NameLaws.{names_spell, name_spells, AllUsed, all_used, none_unused, table_of_used, used_by_table}
 use Rattle.pw_files.specs.Contents.{value_of}
 use Rattle.pw_image.specs.declared.image.Function.{Function}
 use Rattle.pw_image.specs.declared.image.GlobalObject.{GlobalObject}

@@ -1,7 +1,7 @@
 -- What a call that takes an image file answers is what its image comes to.
 use Rattle.std.specs.Prelude.{◌≡◌, ℕ, List, Result, Ok, Err, IfOk}
 use Rattle.std.proofs.Common.{refl, ap, subst}
-use Rattle.pw_value.specs.FieldLaws.{AreBytes}
+use Rattle.pw_fields.specs.FieldLaws.{AreBytes}
 use Rattle.pw_image.specs.declared.load.LoadError.{LoadError}
 use Rattle.pw_image.specs.Image.{ImageValue, Contents, IsImageFile}
 use Rattle.pw_image.specs.Reading.{image_file_at}

@@ -4,10 +4,10 @@ use Rattle.std.specs.Prelude.{Contains, IfOk, OnOk}
 use Rattle.std.specs.Global.{Vec}
 use Rattle.std.specs.List.{AllByRecursion}
 use Rattle.std.proofs.lemmas.List.Elements.{All-from_recursion}
-use Rattle.pw_value.specs.Fields.{FitsText, FitsU32}
-use Rattle.pw_value.specs.FieldFrame.{file, FitsFile}
-use Rattle.pw_value.specs.FieldNames.{IsNameTable, IsTableOf}
-use Rattle.pw_value.proofs.NameLaws.{AllUsed, used_by_table}
+use Rattle.pw_fields.specs.Fields.{FitsText, FitsU32}
+use Rattle.pw_fields.specs.FieldFrame.{file, FitsFile}
+use Rattle.pw_fields.specs.FieldNames.{IsNameTable, IsTableOf}
+use Rattle.pw_fields.proofs.NameLaws.{AllUsed, used_by_table}
 use Rattle.pw_files.proofs.ContentsLaws.{is_file}
 use Rattle.pw_image.specs.declared.image.DataItem.{DataItem}
 use Rattle.pw_image.specs.declared.image.Function.{Function}

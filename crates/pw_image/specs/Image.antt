@@ -3,9 +3,9 @@ use Rattle.std.specs.Prelude.{◌≡◌, ℕ, ◌+◌, ◌*◌, ◌/◌, ◌%◌
 use Rattle.std.specs.List.{flat_map, AllByRecursion}
 use Rattle.pw_value.specs.Rounding.{round8}
 use Rattle.pw_value.specs.Limits.{text_start, word_limit, memory_size}
-use Rattle.pw_value.specs.Fields.{u32, text, parts, FitsU32}
-use Rattle.pw_value.specs.FieldFrame.{IsFileOf}
-use Rattle.pw_value.specs.FieldNames.{name_table, name_index, IsTableOf}
+use Rattle.pw_fields.specs.Fields.{u32, text, parts, FitsU32}
+use Rattle.pw_fields.specs.FieldFrame.{IsFileOf}
+use Rattle.pw_fields.specs.FieldNames.{name_table, name_index, IsTableOf}
 pub use Rattle.pw_files.specs.Contents.{Contents}
 use Rattle.std.specs.Prelude.{Vec}
 use Rattle.std.specs.declared.alloc.Global.{Global}

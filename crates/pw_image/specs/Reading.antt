@@ -1,9 +1,9 @@
 -- Reading an image file from left to right, with the first fault that is met.
 use Rattle.std.specs.Prelude.{ℕ, ◌+◌, ◌*◌, ◌%◌, List, length, Result, Ok, Err, Bool, false, nat_le, nat_lt, ◌==◌, ◌&&◌, if◌then◌else◌}
 use Rattle.pw_value.specs.Limits.{text_start, word_limit, memory_size}
-use Rattle.pw_value.specs.Fields.{◌>>=◌, done, checked, u32_at, bytes_at, items_at, repeated}
-use Rattle.pw_value.specs.FieldFrame.{here, ended, file_at}
-use Rattle.pw_value.specs.FieldNames.{names_at, name_at, first_unused}
+use Rattle.pw_fields.specs.Fields.{◌>>=◌, done, checked, u32_at, bytes_at, items_at, repeated}
+use Rattle.pw_fields.specs.FieldFrame.{here, ended, file_at}
+use Rattle.pw_fields.specs.FieldNames.{names_at, name_at, first_unused}
 use Rattle.pw_files.specs.Places.{offset_at, item_bytes_at}
 use Rattle.pw_image.specs.declared.image.Function.{Function}
 use Rattle.pw_image.specs.declared.image.GlobalObject.{GlobalObject}

@@ -12,7 +12,7 @@ use std::alloc::{AllocError, Global};
 
 /// Why an image is not loaded: the bytes are the file of none, or there is no memory. `at` is the offset
 /// of the first field, in order, that is short or breaks its rule.
-#[derive(Clone, Copy, PartialEq, Eq, Debug)]
+#[derive(Clone, Copy, Debug)]
 pub enum LoadError {
     LoadFault { at: usize },
     NoMemory,

@@ -1,23 +1,23 @@
 //! Reading an image file.
 
 ghost use Rattle.std.specs.Prelude.{◌≡◌, ◌≢◌, ◌+◌, ℕ, nat_le, List, length, map, IfOk, IfErr, Ok};
-ghost use Rattle.pw_value.specs.Fields.{u32_at, items_at, repeated, checked};
+ghost use Rattle.pw_fields.specs.Fields.{u32_at, items_at, repeated, checked};
 ghost use Rattle.std.specs.Prelude.{◌<◌, ◌^◌};
 ghost use Rattle.std.specs.List.{flat_map};
-ghost use Rattle.pw_value.specs.Fields.{text};
-ghost use Rattle.pw_value.specs.FieldFrame.{ended};
-ghost use Rattle.pw_value.specs.FieldNames.{first_unused};
-ghost use Rattle.pw_value.specs.FieldFaults.{Gives, GivesFile};
+ghost use Rattle.pw_fields.specs.Fields.{text};
+ghost use Rattle.pw_fields.specs.FieldFrame.{ended};
+ghost use Rattle.pw_fields.specs.FieldNames.{first_unused};
+ghost use Rattle.pw_fields.specs.FieldFaults.{Gives, GivesFile};
 ghost use Rattle.pw_files.specs.Contents.{broken_at, value_of};
 ghost use Rattle.pw_image.specs.Image.{Contents, ImageValue, data_start, free_behind, item_view, memory_view, view, contents_view, names_of, IsImageFile};
 ghost use Rattle.pw_image.specs.Reading.{is_in_text, item_at, next_free, memory_at, function_at, global_at, start_at, is_lawful_start, contents_at, payload_at, image_file_at};
 
 use crate::image::{DataItem, Function, GlobalObject, Image, Memory, data_start};
+use pw_fields::frame::{check_digest, open};
+use pw_fields::names::{read_name, read_names};
+use pw_fields::{FieldError, read_bytes, read_u32};
 use pw_files::late::check_used;
 use pw_files::places::{read_item_bytes, read_offset};
-use pw_value::fields::frame::{check_digest, open};
-use pw_value::fields::names::{read_name, read_names};
-use pw_value::fields::{FieldError, read_bytes, read_u32};
 use pw_value::limits::{MEMORY_SIZE, TEXT_START, WORD_LIMIT};
 use pw_value::{FileError, Name};
 use std::alloc::{AllocError, Global};
@@ -338,7 +338,7 @@ fn read_payload(alloc: Global, bytes: &[u8]) -> Result<((Vec<Name>, Image), &[u8
 }
 
 /// The table of names and the image of a whole file.
-#[tactic(auto, unfolding(crate::specs::Reading::image_file_at, pw_value::specs::FieldFrame::file_at))]
+#[tactic(auto, unfolding(crate::specs::Reading::image_file_at, pw_fields::specs::FieldFrame::file_at))]
 fn read_file(alloc: Global, bytes: &[u8]) -> Result<(Vec<Name>, Image), FileError>
     ensures { GivesFile contents_view result (image_file_at bytes.now) }
 {

@@ -2,17 +2,17 @@
 
 ghost use Rattle.std.specs.Prelude.{◌≡◌, [], ◌∷◌, ◌++◌, ◌<◌, ◌^◌, ℕ, List, length, map, OnOk, IfOk, All, Contains};
 ghost use Rattle.std.specs.List.{flat_map};
-ghost use Rattle.pw_value.specs.Fields.{u32, parts, FitsText, FitsU32};
-ghost use Rattle.pw_value.specs.FieldFrame.{FitsFile};
-ghost use Rattle.pw_value.specs.FieldNames.{IsNameTable, IsTableOf};
+ghost use Rattle.pw_fields.specs.Fields.{u32, parts, FitsText, FitsU32};
+ghost use Rattle.pw_fields.specs.FieldFrame.{FitsFile};
+ghost use Rattle.pw_fields.specs.FieldNames.{IsNameTable, IsTableOf};
 ghost use Rattle.pw_image.specs.Image.{Contents, IsMemory, IsImage, IsContents, IsImageFile, item as item_text, memory as memory_text, function as function_text, global as global_text, item_view, memory_view, view, names_of, spelling};
 
 use crate::image::{DataItem, Function, GlobalObject, Image, Memory};
 use crate::reading::{KIND, VERSION, used_names};
+use pw_fields::names::{push_name, push_names};
+use pw_fields::writing::{push_text, push_u32};
 use pw_files::writing::{make_table, push_count, push_words, seal_payload};
 use pw_value::Name;
-use pw_value::fields::names::{push_name, push_names};
-use pw_value::fields::writing::{push_text, push_u32};
 use std::alloc::{AllocError, Global};
 
 /// An item of the data.

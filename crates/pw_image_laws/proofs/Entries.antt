@@ -4,9 +4,9 @@ use Rattle.std.specs.Prelude.{nat_le, ◌==◌, ◌&&◌}
 use Rattle.std.specs.Int.{w32, from_be_bytes}
 use Rattle.std.proofs.lemmas.Bool.{cases_lt, ltb-false, le-ltb}
 use Rattle.std.proofs.lemmas.List.{take_at, drop_at, take-append-drop, length-append, length-take, length-drop, take-take, drop-take}
-use Rattle.pw_value.specs.Fields.{checked, u32_at, bytes_at}
-use Rattle.pw_value.specs.FieldFrame.{header_at, digest_size, payload_of, digest_of, opened, opened_at, placed, sealed, framed, file_at}
-use Rattle.pw_value.proofs.FieldLaws.{found_is, after_passes, guard_passes}
+use Rattle.pw_fields.specs.Fields.{checked, u32_at, bytes_at}
+use Rattle.pw_fields.specs.FieldFrame.{header_at, digest_size, payload_of, digest_of, opened, opened_at, placed, sealed, framed, file_at}
+use Rattle.pw_fields.proofs.FieldLaws.{found_is, after_passes, guard_passes}
 use Rattle.pw_files.specs.Faults.{IsFieldLength, Anything, OfPayload, StaysFault}
 use Rattle.pw_files.proofs.OnwardLaws.{kept_found}
 use Rattle.pw_files.proofs.FaultLaws.{header_onward, swapped}

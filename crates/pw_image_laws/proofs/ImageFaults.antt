@@ -1,7 +1,7 @@
 -- A fault of an image's fields rests on the bytes up to the faulty field's end.
 use Rattle.std.proofs.Common.{◌≡◌, ℕ, List, length, Result, Ok, Err, ap}
-use Rattle.pw_value.specs.Fields.{u32_at, text_at, repeated}
-use Rattle.pw_value.specs.FieldNames.{names_at, first_unused}
+use Rattle.pw_fields.specs.Fields.{u32_at, text_at, repeated}
+use Rattle.pw_fields.specs.FieldNames.{names_at, first_unused}
 use Rattle.pw_files.specs.Contents.{value_of}
 use Rattle.pw_files.specs.Faults.{OfPayload, StaysFault}
 use Rattle.pw_files.proofs.OnwardLaws.{Onward, one_onward, behind, done_onward, ended_onward, checked_one, u32_one, text_one, name_one, names_onward, items_onward, repeated_onward}

@@ -1,8 +1,8 @@
 -- On which bytes a fault of an image file rests.
 use Rattle.std.specs.Prelude.{◌≡◌, ℕ, ◌+◌, ◌≤◌, true, false, List, length, take, Result, Ok, Err, None}
-use Rattle.pw_value.specs.Fields.{◌>>=◌, u32_at, repeated}
-use Rattle.pw_value.specs.FieldFrame.{ended, header_size, opened_at}
-use Rattle.pw_value.specs.FieldNames.{names_at}
+use Rattle.pw_fields.specs.Fields.{◌>>=◌, u32_at, repeated}
+use Rattle.pw_fields.specs.FieldFrame.{ended, header_size, opened_at}
+use Rattle.pw_fields.specs.FieldNames.{names_at}
 use Rattle.pw_files.specs.Contents.{value_of}
 use Rattle.pw_files.specs.Faults.{Anything, OfPayload, StaysFault, unsealed}
 use Rattle.pw_image.specs.Image.{ImageValue, Contents, kind, image_version}

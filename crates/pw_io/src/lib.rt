@@ -31,11 +31,11 @@ pub use sure_store::SureStore;
 pub use std::alloc::AllocError as NoMemory;
 
 /// A source or a sink had a fault.
-#[derive(Clone, Copy, PartialEq, Eq, Debug)]
+#[derive(Clone, Copy, Debug)]
 pub struct Failed;
 
 /// Why a store did not do what it was asked.
-#[derive(Clone, Copy, PartialEq, Eq, Debug)]
+#[derive(Clone, Copy, Debug)]
 pub enum StoreError {
     /// The store had a fault.
     Failed,

@@ -15,7 +15,7 @@ use std::alloc::Global;
 use std::marker::Model;
 
 /// What a failed put leaves of the file.
-#[derive(Clone, Copy, PartialEq, Eq, Debug)]
+#[derive(Clone, Copy)]
 pub enum Left {
     /// The file as it was.
     Old,
@@ -27,7 +27,7 @@ pub enum Left {
 }
 
 /// A call of a store that fails.
-#[derive(Clone, Copy, PartialEq, Eq, Debug)]
+#[derive(Clone, Copy)]
 pub struct StoreFail {
     /// The call's number among all calls of the store, from 1.
     pub call: u64,

@@ -192,7 +192,7 @@ impl Sink for MemSink {
 }
 
 /// A sink that takes every piece and keeps none. It has no fault, and does not tell what it took.
-#[derive(Clone, Copy, Default, Debug)]
+#[derive(Clone, Copy)]
 pub struct DropSink;
 
 impl DropSink {

@@ -4,7 +4,7 @@ use Rattle.std.specs.List.{AllByRecursion}
 use Rattle.std.specs.declared.alloc.Global.{Global}
 use Rattle.pw_io.specs.Files.{Files}
 use Rattle.pw_io.specs.declared.StoreError.{StoreError}
-use Rattle.pw_value.specs.FieldLaws.{AreBytes}
+use Rattle.pw_fields.specs.FieldLaws.{AreBytes}
 use Rattle.pw_object.specs.declared.object.Object.{Object}
 use Rattle.pw_object.specs.Object.{IsObjectFile}
 use Rattle.pw_modules.specs.FileNames.{database_name, image_name, object_name}

@@ -2,7 +2,7 @@
 
 ghost use Rattle.std.specs.Prelude.{◌≡◌, ◌++◌, ◌∷◌, [], ℕ, List, IfOk, OnOk, map};
 ghost use Rattle.std.specs.List.{AllByRecursion};
-ghost use Rattle.pw_value.specs.FieldLaws.{AreBytes};
+ghost use Rattle.pw_fields.specs.FieldLaws.{AreBytes};
 ghost use Rattle.pw_db.specs.Database.{IsDatabase, IsDatabaseFile};
 ghost use Rattle.pw_object.specs.Object.{IsObject, IsObjectFile};
 ghost use Rattle.pw_image.specs.Image.{IsImage, IsImageFile, view};

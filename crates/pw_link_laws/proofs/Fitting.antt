@@ -2,7 +2,7 @@
 use Rattle.std.proofs.Common.{◌≡◌, ℕ, zero, suc, ◌+◌, ◌-◌, ◌*◌, ◌/◌, ◌%◌, ◌^◌, Bool, true, false, ◌&&◌, List, [], ◌∷◌, map, length, set, refl, arith, nat_lt, pos}
 use Rattle.std.specs.List.{AllByRecursion, flat_map}
 use Rattle.std.proofs.lemmas.Bool.{ltb-true}
-use Rattle.pw_value.specs.Fields.{FitsU32}
+use Rattle.pw_fields.specs.Fields.{FitsU32}
 use Rattle.pw_inst.specs.InstructionTable.{word_of, nop}
 use Rattle.pw_inst.specs.Setting.{with_long_immediate, with_displacement, with_branch}
 use Rattle.pw_inst.specs.declared.relocation.Fix.{Fix}

@@ -22,7 +22,7 @@ use std::alloc::{AllocError, Global};
 
 /// How a declaration asks for linkage: `static` at file scope; as an earlier declaration has it, where there is a
 /// visible one; external.
-#[derive(Clone, Copy, PartialEq, Eq)]
+#[derive(Clone, Copy)]
 pub enum Asking {
     AsInternal,
     AsBefore,

@@ -4,7 +4,7 @@ ghost use Rattle.std.specs.Prelude.{◌≡◌, Some};
 ghost use Rattle.pw_machine.specs.Stops.{end_of};
 
 /// Why an instruction halts the run.
-#[derive(Clone, Copy, PartialEq, Eq, Debug)]
+#[derive(Clone, Copy, Debug)]
 pub enum Halt {
     /// The word is no instruction.
     Illegal,
@@ -32,7 +32,7 @@ pub enum End {
 }
 
 /// What a call of `run` answers.
-#[derive(Clone, Copy, PartialEq, Eq, Debug)]
+#[derive(Clone, Copy, Debug)]
 pub enum Stop {
     /// The program ended with this status.
     Ended(u8),

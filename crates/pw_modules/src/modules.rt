@@ -11,7 +11,7 @@ use pw_value::Name;
 use std::alloc::{AllocError, Global};
 
 /// A module: its name, and its text as far as it is read.
-#[derive(Debug, Drop)]
+#[derive(Drop)]
 pub struct Module {
     pub name: Name,
     pub text: Vec<u8>,

@@ -4,12 +4,12 @@ use Rattle.std.specs.List.{AllByRecursion, flat_map}
 use Rattle.std.proofs.lemmas.List.Concat.{flat_map-cons}
 use Rattle.std.specs.Prelude.{IsTrue, Contains, Some, nat_lt, slice_get}
 use Rattle.std.proofs.lemmas.Bool.{ltb-true, lt-ltb}
-use Rattle.pw_value.specs.Fields.{checked, u32_at, choice_at, u8, u32, FitsU8, FitsU32}
-use Rattle.pw_value.specs.FieldLaws.{Spells}
-use Rattle.pw_value.specs.FieldNames.{name_at, name_index, IsNameTable}
-use Rattle.pw_value.proofs.FieldLaws.{checked_spells, choice_spells, u32_spells}
-use Rattle.pw_value.proofs.FieldSteps.{finish, step, step_where, format}
-use Rattle.pw_value.proofs.NameLaws.{name_spells, AllUsed}
+use Rattle.pw_fields.specs.Fields.{checked, u32_at, choice_at, u8, u32, FitsU8, FitsU32}
+use Rattle.pw_fields.specs.FieldLaws.{Spells}
+use Rattle.pw_fields.specs.FieldNames.{name_at, name_index, IsNameTable}
+use Rattle.pw_fields.proofs.FieldLaws.{checked_spells, choice_spells, u32_spells}
+use Rattle.pw_fields.proofs.FieldSteps.{finish, step, step_where, format}
+use Rattle.pw_fields.proofs.NameLaws.{name_spells, AllUsed}
 use Rattle.pw_files.specs.Rising.{counted, counted_at, FitsList}
 use Rattle.pw_files.proofs.RisingLaws.{counted_spells, each_weaker, used_append, used_front, used_back}
 use Rattle.pw_flowops.specs.Reading.{one_of_at}

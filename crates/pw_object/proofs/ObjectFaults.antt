@@ -2,9 +2,9 @@
 use Rattle.std.proofs.Common.{ℕ, List, length}
 use Rattle.std.specs.Prelude.{Option, None}
 use Rattle.pw_value.specs.declared.program_names.StartName.TheVariants.{Allowed}
-use Rattle.pw_value.specs.Fields.{u32_at, text_at, choice_at}
-use Rattle.pw_value.specs.FieldFrame.{here}
-use Rattle.pw_value.specs.FieldNames.{name_at}
+use Rattle.pw_fields.specs.Fields.{u32_at, text_at, choice_at}
+use Rattle.pw_fields.specs.FieldFrame.{here}
+use Rattle.pw_fields.specs.FieldNames.{name_at}
 use Rattle.pw_files.specs.Rising.{counted_at}
 use Rattle.pw_files.specs.Names.{name_list_at, shaped_list_at}
 use Rattle.pw_files.specs.Contents.{Contents, value_of}

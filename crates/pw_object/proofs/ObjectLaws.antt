@@ -7,13 +7,13 @@ use Rattle.std.proofs.lemmas.List.Concat.{flat_map-cons}
 use Rattle.pw_value.specs.declared.fault.FileError.{FileError}
 use Rattle.pw_value.specs.declared.program_names.StartName.TheVariants.{Allowed}
 use Rattle.pw_value.specs.ProgramNames.{KeepsStart, may_stand}
-use Rattle.pw_value.specs.Fields.{done, text_at, text, FitsText}
-use Rattle.pw_value.specs.FieldFaults.{GivesFile}
-use Rattle.pw_value.specs.FieldLaws.{AreBytes, Spells, SpellsWhole}
-use Rattle.pw_value.specs.FieldNames.{name_at, name_table, name_index, IsNameTable}
-use Rattle.pw_value.proofs.FieldLaws.{AreBytes-rest, after_passes, found_is, text_spells}
-use Rattle.pw_value.proofs.FieldSteps.{Completes, Nothing, finish_whole, step, keep_place}
-use Rattle.pw_value.proofs.NameLaws.{name_spells, AllUsed, table_of_used, used_by_table}
+use Rattle.pw_fields.specs.Fields.{done, text_at, text, FitsText}
+use Rattle.pw_fields.specs.FieldFaults.{GivesFile}
+use Rattle.pw_fields.specs.FieldLaws.{AreBytes, Spells, SpellsWhole}
+use Rattle.pw_fields.specs.FieldNames.{name_at, name_table, name_index, IsNameTable}
+use Rattle.pw_fields.proofs.FieldLaws.{AreBytes-rest, after_passes, found_is, text_spells}
+use Rattle.pw_fields.proofs.FieldSteps.{Completes, Nothing, finish_whole, step, keep_place}
+use Rattle.pw_fields.proofs.NameLaws.{name_spells, AllUsed, table_of_used, used_by_table}
 use Rattle.pw_files.specs.Rising.{IsRising, counted, counted_at, FitsList}
 use Rattle.pw_files.specs.Names.{shaped, name_list_at, shaped_list_at}
 use Rattle.pw_files.specs.Contents.{Contents, IsContents, contents_at, value_of}

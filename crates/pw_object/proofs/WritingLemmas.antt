@@ -5,10 +5,10 @@ use Rattle.std.specs.Global.{Vec}
 use Rattle.std.specs.List.{flat_map, AllByRecursion}
 use Rattle.std.proofs.lemmas.List.Concat.{flat_map-cons}
 use Rattle.std.proofs.lemmas.List.Elements.{All-from_recursion}
-use Rattle.pw_value.specs.Fields.{FitsU32}
-use Rattle.pw_value.specs.FieldFrame.{file, FitsFile}
-use Rattle.pw_value.specs.FieldNames.{IsTableOf}
-use Rattle.pw_value.proofs.NameLaws.{AllUsed, used_by_table}
+use Rattle.pw_fields.specs.Fields.{FitsU32}
+use Rattle.pw_fields.specs.FieldFrame.{file, FitsFile}
+use Rattle.pw_fields.specs.FieldNames.{IsTableOf}
+use Rattle.pw_fields.proofs.NameLaws.{AllUsed, used_by_table}
 use Rattle.pw_files.proofs.RisingLaws.{each_by_used, used_front, used_back}
 use Rattle.pw_flow.specs.declared.flow.FlowGlobal.{FlowGlobal}
 use Rattle.pw_flowfile.specs.FlowFile.{all_in_global}

@@ -2,8 +2,8 @@
 use Rattle.std.specs.Prelude.{ℕ, ◌<◌, List, [], ◌∷◌, length, All, Contains}
 use Rattle.std.specs.List.{flat_map, AllByRecursion}
 use denote.Enum.Bare.{sameb}
-use Rattle.pw_value.specs.Fields.{u8, u32, parts, FitsU32}
-use Rattle.pw_value.specs.FieldNames.{name_index}
+use Rattle.pw_fields.specs.Fields.{u8, u32, parts, FitsU32}
+use Rattle.pw_fields.specs.FieldNames.{name_index}
 use Rattle.pw_files.specs.Rising.{counted}
 use Rattle.pw_flowops.specs.Operations.{place}
 use Rattle.pw_inst.specs.contracts.relocation.FixKind.{the_type as the_fix_kinds}

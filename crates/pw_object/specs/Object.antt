@@ -2,8 +2,8 @@
 -- uses, its globals, and its functions as words.
 use Rattle.std.specs.Prelude.{All, ℕ, ◌≡◌, List, [], ◌∷◌, ◌++◌, length, map, Contains}
 use Rattle.std.specs.List.{flat_map, AllByRecursion}
-use Rattle.pw_value.specs.Fields.{text, parts, FitsU32, FitsText}
-use Rattle.pw_value.specs.FieldNames.{name_table, name_index}
+use Rattle.pw_fields.specs.Fields.{text, parts, FitsU32, FitsText}
+use Rattle.pw_fields.specs.FieldNames.{name_table, name_index}
 use Rattle.pw_files.specs.Rising.{IsRising, counted, FitsList}
 use Rattle.pw_files.specs.Names.{shaped, FitsShapes}
 use Rattle.pw_files.specs.Contents.{Contents, IsContents, IsFileWith}

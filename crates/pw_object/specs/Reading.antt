@@ -1,8 +1,8 @@
 -- Reading an object file from left to right, with the first fault that is met.
 use Rattle.std.specs.Prelude.{ℕ, nat_lt, List, [], ◌∷◌, length, Option, Result}
-use Rattle.pw_value.specs.Fields.{◌>>=◌, done, checked, u32_at, text_at, choice_at}
-use Rattle.pw_value.specs.FieldFrame.{here, ended}
-use Rattle.pw_value.specs.FieldNames.{name_at}
+use Rattle.pw_fields.specs.Fields.{◌>>=◌, done, checked, u32_at, text_at, choice_at}
+use Rattle.pw_fields.specs.FieldFrame.{here, ended}
+use Rattle.pw_fields.specs.FieldNames.{name_at}
 use Rattle.pw_files.specs.Rising.{counted_at}
 use Rattle.pw_files.specs.Names.{name_list_at, shaped_list_at}
 use Rattle.pw_files.specs.Contents.{Contents, module_rules, contents_file_at}

@@ -1,8 +1,8 @@
 //! The laws of object files and of their functions.
 
 ghost use Rattle.std.specs.Prelude.{◌≡◌, ◌++◌, ℕ, List, Ok};
-ghost use Rattle.pw_value.specs.FieldLaws.{AreBytes};
-ghost use Rattle.pw_value.specs.FieldNames.{IsNameTable};
+ghost use Rattle.pw_fields.specs.FieldLaws.{AreBytes};
+ghost use Rattle.pw_fields.specs.FieldNames.{IsNameTable};
 ghost use Rattle.pw_files.specs.Contents.{value_of};
 ghost use Rattle.pw_files.specs.Faults.{FaultsStay};
 ghost use Rattle.pw_object.specs.declared.functions.ObjectFn.{ObjectFn};

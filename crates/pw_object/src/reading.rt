@@ -2,9 +2,9 @@
 
 ghost use Rattle.std.specs.Prelude.{◌≡◌, ◌+◌, ◌<◌, ◌^◌, ℕ, length, Option, IfOk, IfErr, Ok};
 ghost use Rattle.std.specs.List.{flat_map};
-ghost use Rattle.pw_value.specs.Fields.{text, repeated};
-ghost use Rattle.pw_value.specs.FieldFaults.{Gives, GivesFile, Fails};
-ghost use Rattle.pw_value.specs.FieldFrame.{ended};
+ghost use Rattle.pw_fields.specs.Fields.{text, repeated};
+ghost use Rattle.pw_fields.specs.FieldFaults.{Gives, GivesFile, Fails};
+ghost use Rattle.pw_fields.specs.FieldFrame.{ended};
 ghost use Rattle.pw_files.specs.Rising.{counted_at};
 ghost use Rattle.pw_files.specs.Contents.{broken_at, value_of};
 ghost use Rattle.pw_object.specs.declared.object.Object.{Object as AnyObject};
@@ -14,6 +14,8 @@ ghost use Rattle.pw_object.specs.Reading.{global_at, function_at, last_rules, de
 use crate::functions::{ObjectFn, read_function};
 use crate::names::{function_names, used_names};
 use crate::object::{Object, VERSION};
+use pw_fields::names::{find_unused, read_name};
+use pw_fields::{FieldError, read_text_in_place, read_u32};
 use pw_files::format::{Format, read_value};
 use pw_files::late::check_module;
 use pw_files::lists::{read_name_list, read_shaped_list};
@@ -21,8 +23,6 @@ use pw_flow::FlowGlobal;
 use pw_flow::names::global_names;
 use pw_flowfile::read_global_body;
 use pw_items::Items;
-use pw_value::fields::names::{find_unused, read_name};
-use pw_value::fields::{FieldError, read_text_in_place, read_u32};
 use pw_value::program_names::StartName;
 use pw_value::{FileError, Name, Shape};
 use std::alloc::{AllocError, Global};

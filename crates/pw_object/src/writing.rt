@@ -2,8 +2,8 @@
 
 ghost use Rattle.std.specs.Prelude.{◌≡◌, ◌++◌, ◌↔◌, List, length, IsTrue, OnOk, IfOk, All, Contains};
 ghost use Rattle.std.specs.List.{flat_map, AllByRecursion};
-ghost use Rattle.pw_value.specs.Fields.{u8, u32, FitsU32, FitsText};
-ghost use Rattle.pw_value.specs.FieldNames.{IsNameTable};
+ghost use Rattle.pw_fields.specs.Fields.{u8, u32, FitsU32, FitsText};
+ghost use Rattle.pw_fields.specs.FieldNames.{IsNameTable};
 ghost use Rattle.pw_files.specs.Rising.{counted, FitsList};
 ghost use Rattle.pw_files.specs.Names.{FitsShapes};
 ghost use Rattle.pw_flowfile.specs.FlowFile.{global as global_text, all_in_global, FitsGlobal};
@@ -14,6 +14,8 @@ use crate::functions::{ObjectFn, SymbolForm};
 use crate::names::used_names;
 use crate::object::{Object, VERSION};
 use crate::reading::KIND;
+use pw_fields::names::{push_name, push_names};
+use pw_fields::writing::{push_u8, push_u32};
 use pw_files::writing::{
     make_table, push_bytes, push_count, push_name_list, push_shaped_list, push_words, seal_payload,
 };
@@ -21,8 +23,6 @@ use pw_flow::FlowGlobal;
 use pw_flowfile::push_global;
 use pw_inst::{Fix, FixKind, Symbol};
 use pw_value::Name;
-use pw_value::fields::names::{push_name, push_names};
-use pw_value::fields::writing::{push_u8, push_u32};
 use pw_value::words::word_of;
 use std::alloc::{AllocError, Global};
 

@@ -20,7 +20,7 @@ use pw_rows::{Program, Text, answer_rows};
 use std::io;
 
 /// What is printed for the rows of a table.
-#[derive(Clone, Copy, PartialEq, Eq)]
+#[derive(Clone, Copy)]
 enum Table {
     Codes,
     Images,

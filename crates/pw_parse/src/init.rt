@@ -9,10 +9,9 @@ use pw_cursor::{Stop, Tokens};
 use pw_declarations::{InitParts, init_of};
 use pw_phrase::read_expr;
 use pw_tree::{Expr, Init};
-use std::alloc::Global;
+use std::alloc::{AllocError, Global};
 
 /// A function that reads initializers to a depth.
-#[derive(Clone, Copy)]
 struct Knot<F> {
     /// How deep the parts of expressions may hold one another.
     limit: usize,
@@ -20,6 +19,14 @@ struct Knot<F> {
     depth: usize,
     init: F,
 }
+
+impl<F: Copy> Clone for Knot<F> {
+    fn clone(&self) -> Result<Knot<F>, AllocError> {
+        Ok(*self)
+    }
+}
+
+impl<F: Copy> Copy for Knot<F> {}
 
 impl<'a, F: Fn(Global, &mut Tokens<'a>, usize, usize) -> Result<Init, Stop>> InitParts<'a>
     for Knot<F> {

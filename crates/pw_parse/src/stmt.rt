@@ -11,10 +11,9 @@ use pw_declarations::declarations;
 use pw_phrase::read_expr;
 use pw_statements::{StmtParts, block, stmt_of};
 use pw_tree::{Block, Decl, Expr, Stmt};
-use std::alloc::Global;
+use std::alloc::{AllocError, Global};
 
 /// A function that reads statements to a depth.
-#[derive(Clone, Copy)]
 struct Knot<F> {
     /// How deep the parts of expressions and declarations may hold one another.
     limit: usize,
@@ -22,6 +21,14 @@ struct Knot<F> {
     depth: usize,
     stmt: F,
 }
+
+impl<F: Copy> Clone for Knot<F> {
+    fn clone(&self) -> Result<Knot<F>, AllocError> {
+        Ok(*self)
+    }
+}
+
+impl<F: Copy> Copy for Knot<F> {}
 
 impl<'a, F: Fn(Global, &mut Tokens<'a>, usize, usize) -> Result<Stmt, Stop>> StmtParts<'a>
     for Knot<F> {

@@ -1,7 +1,7 @@
 -- What a function is compiled to can stand in an object's file.
 use Rattle.std.proofs.Common.{◌≡◌, ℕ, List, [], ◌∷◌, length, sym, subst}
 use Rattle.std.specs.List.{AllByRecursion}
-use Rattle.pw_value.specs.Fields.{FitsU32}
+use Rattle.pw_fields.specs.Fields.{FitsU32}
 use Rattle.pw_flow.specs.declared.flow.FlowFn.{FlowFn}
 use Rattle.pw_db.specs.declared.database.Directives.{Directives}
 use Rattle.pw_inst.specs.declared.relocation.Fix.{Fix}

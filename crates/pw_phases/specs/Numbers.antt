@@ -1,5 +1,5 @@
 -- Numbers of 32 bits in the words and relocations of a function.
-use Rattle.pw_value.specs.Fields.{FitsU32}
+use Rattle.pw_fields.specs.Fields.{FitsU32}
 use Rattle.pw_inst.specs.declared.relocation.Symbol.{Symbol}
 use Rattle.pw_inst.specs.declared.relocation.Symbol.TheVariants as symbol
 use Rattle.pw_inst.specs.declared.relocation.Fix.{Fix}

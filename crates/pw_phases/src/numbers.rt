@@ -2,7 +2,7 @@
 
 ghost use Rattle.std.specs.List.{AllByRecursion};
 ghost use Rattle.pw_phases.specs.Numbers.{HasWordNumber, HasWordNumbers};
-ghost use Rattle.pw_value.specs.Fields.{FitsU32};
+ghost use Rattle.pw_fields.specs.Fields.{FitsU32};
 
 use pw_inst::{Fix, Symbol};
 use pw_object::ObjectFn;

@@ -14,10 +14,9 @@ use pw_grammar::Place;
 use pw_parts::{Declared, SmallerParts};
 use pw_specifiers::specifiers_of;
 use pw_tree::{Expr, Specifier};
-use std::alloc::Global;
+use std::alloc::{AllocError, Global};
 
 /// Functions that read the three parts to a depth.
-#[derive(Clone, Copy)]
 struct Knot<E, S, D> {
     /// How deep the parts may still hold one another.
     depth: usize,
@@ -25,6 +24,14 @@ struct Knot<E, S, D> {
     specifiers: S,
     declarator: D,
 }
+
+impl<E: Copy, S: Copy, D: Copy> Clone for Knot<E, S, D> {
+    fn clone(&self) -> Result<Knot<E, S, D>, AllocError> {
+        Ok(*self)
+    }
+}
+
+impl<E: Copy, S: Copy, D: Copy> Copy for Knot<E, S, D> {}
 
 impl<
     'a,

@@ -2,17 +2,17 @@
 use Rattle.std.proofs.Common.{◌≡◌, ℕ, zero, suc, ◌+◌, Bool, true, false, ◌<◌, ◌≤◌, List, [], ◌∷◌, length, get_or, sym, ap, subst, ◌∙◌, arith, inl, inr}
 use Rattle.std.specs.Prelude.{Option, Some, None, slice_get, Contains, is_some, IfSome, IfNone}
 use Rattle.std.specs.Bool.{MatchBool}
-use Rattle.pw_value.specs.FieldNames.{place_of}
-use Rattle.pw_value.proofs.NameTables.{found_among}
-use Rattle.pw_value.proofs.NameLaws.{among_contains}
+use Rattle.pw_fields.specs.FieldNames.{place_of}
+use Rattle.pw_fields.proofs.NameTables.{found_among}
+use Rattle.pw_fields.proofs.NameLaws.{among_contains}
 use Rattle.std.specs.Ordering.{nat_cmp, is_lt, ordering_reverse}
 use Rattle.std.specs.Cmp.Lexicographic.{slice_cmp}
 use Rattle.std.specs.declared.cmp.Ordering.TheVariants.{Less}
 use Rattle.std.proofs.lemmas.Bool.{cases_lt, cases_eq}
 use Rattle.std.proofs.lemmas.Cmp.{nat_list_cmp_total, tied_itself}
-use Rattle.pw_value.specs.FieldNames.{IsRisingFrom, IsTableOf}
+use Rattle.pw_fields.specs.FieldNames.{IsRisingFrom, IsTableOf}
 use Rattle.pw_value.specs.ProgramNames.{IsOrdinary}
-use Rattle.pw_value.proofs.NameLaws.{above}
+use Rattle.pw_fields.proofs.NameLaws.{above}
 use Rattle.pw_program.specs.declared.interface.Interface.{Interface}
 use Rattle.pw_program.specs.Linking.{used_names, defined_names, IsUndefined, IsLeastName}
 use Rattle.pw_program.proofs.Sorted.{Up, not_less, one_item, get_some, some_get}

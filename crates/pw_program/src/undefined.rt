@@ -2,13 +2,13 @@
 
 ghost use Rattle.std.specs.Prelude.{◌≡◌, ◌<◌, ℕ, List, [], Some, slice_get, Contains, MatchOption, IfOk};
 ghost use Rattle.std.specs.Bool.{MatchBool};
-ghost use Rattle.pw_value.specs.FieldNames.{IsRisingFrom};
+ghost use Rattle.pw_fields.specs.FieldNames.{IsRisingFrom};
 ghost use Rattle.pw_value.specs.ProgramNames.{IsOrdinary};
 ghost use Rattle.pw_program.specs.Linking.{library, all_defined, Answers};
 
 use crate::interface::Interface;
 use crate::names::{defined_names, used_names};
-use pw_value::fields::names::{find_name, table_of};
+use pw_fields::names::{find_name, table_of};
 use pw_value::program_names::is_ordinary;
 use pw_value::{LinkFault, Name};
 use std::alloc::Global;

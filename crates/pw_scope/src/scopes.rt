@@ -15,7 +15,7 @@ use std::marker::Model;
 ///
 /// A contract sees it as the list of the declarations that count, the newest last. The last one of
 /// a name is visible and hides the others.
-#[derive(Debug, Drop)]
+#[derive(Drop)]
 pub struct Scopes<'a, T> {
     entries: Vec<Entry<'a, T>>,
     // For each name the place of its last entry.

@@ -24,7 +24,7 @@ pub struct TakenLine {
 }
 
 /// Why no line was read.
-#[derive(Clone, Copy, Debug)]
+#[derive(Clone, Copy)]
 pub enum ScriptFault {
     /// No lawful line stands there.
     BadLine,

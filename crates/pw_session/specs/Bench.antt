@@ -2,7 +2,7 @@
 use Rattle.std.specs.Prelude.{◌≡◌, ◌≢◌, ℕ, ◌+◌, ◌*◌, true, List, [], ◌∷◌, ◌++◌, codes, length, reverse, Option, Result, Ok, Err}
 use Rattle.std.specs.Fmt.{decimal}
 use Rattle.std.specs.FinMap as finite
-use Rattle.pw_value.specs.Fields.{parts}
+use Rattle.pw_fields.specs.Fields.{parts}
 use Rattle.pw_value.specs.declared.fault.LinkFault.TheVariants as link
 use Rattle.pw_front.specs.Fronts.{HoldsNoWant}
 use Rattle.hex.specs.Hex.{encode_lower}

@@ -15,7 +15,7 @@ use std::alloc::{AllocError, Global};
 pub type NoMemory = AllocError;
 
 /// A token's kind and its bytes.
-#[derive(Debug, PartialEq, Eq, Drop)]
+#[derive(Drop)]
 pub struct Spelled {
     pub kind: TokenKind,
     pub text: Vec<u8>,

@@ -15,7 +15,7 @@ use Rattle.std.proofs.lemmas.List.Concat.{flat_map-cons}
 use Rattle.std.proofs.lemmas.List.Filters.{dedup_is}
 use Rattle.std.proofs.lemmas.List.Kept.{Contains-dedup, Contains-from_dedup, IsStrictlySortedBy-dedup}
 use Rattle.std.proofs.lemmas.List.Sorted.{IsPermutation-sym, Contains-permutation}
-use Rattle.pw_value.specs.FieldNames.{IsTableOf}
+use Rattle.pw_fields.specs.FieldNames.{IsTableOf}
 use Rattle.pw_flow.specs.ValidFlow.{AreDistinct}
 use Rattle.pw_files.specs.Rising.{IsRising, IsRisingBehind, IsAbove}
 use Rattle.pw_files.proofs.Standing.{contains_by, has_by, has_map, has_map_back, has_flat, has_flat_back}

@@ -5,7 +5,7 @@ use Rattle.std.specs.List.{HoldsAt}
 use Rattle.std.proofs.lemmas.List.{get_or_default}
 use Rattle.std.specs.Str.{bytes_eq}
 use Rattle.std.proofs.lemmas.Slice.Eq.{bytes_eq-Decides}
-use Rattle.pw_value.specs.FieldNames.{IsTableOf}
+use Rattle.pw_fields.specs.FieldNames.{IsTableOf}
 use Rattle.pw_files.specs.Rising.{IsRising, IsRisingBehind}
 use Rattle.pw_summarise.specs.Summarises.{IsOrdered, shape_in, if_function, or_else, function_shape, as_taken, as_escaped, taken_of, escaped_of}
 use Rattle.pw_files.proofs.Standing.{Has, contains_by, has_by, has_map}

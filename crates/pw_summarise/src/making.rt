@@ -2,7 +2,7 @@
 
 ghost use Rattle.std.specs.Prelude.{◌≡◌, List, ℕ, map, IfOk};
 ghost use Rattle.std.specs.List.{AllZip};
-ghost use Rattle.pw_value.specs.FieldNames.{IsTableOf};
+ghost use Rattle.pw_fields.specs.FieldNames.{IsTableOf};
 ghost use Rattle.pw_flow.specs.FlowGraph.{named_in};
 ghost use Rattle.pw_flow.specs.ValidFlow.{IsValid};
 ghost use Rattle.pw_files.specs.Rising.{IsRising};

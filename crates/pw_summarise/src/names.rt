@@ -3,15 +3,15 @@
 ghost use Rattle.std.specs.Prelude.{◌≡◌, ◌++◌, map, OnOk, IfOk};
 ghost use Rattle.std.specs.List.{flat_map};
 ghost use Rattle.pw_flow.specs.FlowGraph.{names_in_global};
-ghost use Rattle.pw_value.specs.FieldNames.{IsTableOf};
+ghost use Rattle.pw_fields.specs.FieldNames.{IsTableOf};
 ghost use Rattle.pw_summarise.specs.Summarises.{called, referenced, addressed, in_function, in_module};
 ghost use Rattle.pw_summarise.specs.Tallies.{names_as};
 
+use pw_fields::names::table_of;
 use pw_flow::names::{add_items_of_all, add_op};
 use pw_flow::{Block, FlowFn, FlowModule, Op};
 use pw_items::Items;
 use pw_value::Name;
-use pw_value::fields::names::table_of;
 use std::alloc::{AllocError, Global};
 
 /// Which names of operations are asked for.

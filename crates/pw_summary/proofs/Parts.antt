@@ -1,12 +1,12 @@
 -- The fields behind the module's name are those of two parts, one behind the other.
 use Rattle.std.proofs.Common.{◌≡◌, ℕ, List, length, refl, ap, sym, ◌∙◌}
 use Rattle.std.specs.Prelude.{Bool, Option, Result, Ok, Err}
-use Rattle.pw_value.specs.Fields.{◌>>=◌, after, done, repeated}
-use Rattle.pw_value.specs.FieldFaults.{Fails}
-use Rattle.pw_value.specs.FieldFrame.{here, ended}
-use Rattle.pw_value.specs.FieldNames.{name_at}
-use Rattle.pw_value.specs.declared.fields.fault.FieldError.{FieldError}
-use Rattle.pw_value.specs.declared.fields.fault.FieldError.TheVariants as field
+use Rattle.pw_fields.specs.Fields.{◌>>=◌, after, done, repeated}
+use Rattle.pw_fields.specs.FieldFaults.{Fails}
+use Rattle.pw_fields.specs.FieldFrame.{here, ended}
+use Rattle.pw_fields.specs.FieldNames.{name_at}
+use Rattle.pw_fields.specs.declared.fault.FieldError.{FieldError}
+use Rattle.pw_fields.specs.declared.fault.FieldError.TheVariants as field
 use Rattle.pw_value.specs.declared.value.Kind.{Kind}
 use Rattle.pw_value.specs.declared.program_names.StartName.TheVariants.{Allowed, Refused}
 use Rattle.pw_files.specs.Rising.{rising_at}

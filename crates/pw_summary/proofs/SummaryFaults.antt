@@ -1,9 +1,9 @@
 -- A fault of a summary's fields rests on the bytes up to the faulty field's end.
 use Rattle.std.proofs.Common.{ℕ, List, length}
 use Rattle.std.specs.Prelude.{Option, None}
-use Rattle.pw_value.specs.Fields.{u64_at}
+use Rattle.pw_fields.specs.Fields.{u64_at}
 use Rattle.pw_value.specs.declared.program_names.StartName.TheVariants.{Allowed, Refused}
-use Rattle.pw_value.specs.FieldNames.{name_at}
+use Rattle.pw_fields.specs.FieldNames.{name_at}
 use Rattle.pw_files.specs.Contents.{Contents, value_of}
 use Rattle.pw_files.specs.Faults.{FaultsStay}
 use Rattle.pw_files.proofs.OnwardLaws.{Onward, one_onward, behind, done_onward, here_onward, ended_onward, checked_one, u64_one, text_one, flag_one, kind_one, name_one, repeated_onward, rising_onward, name_above_one, name_list_onward, text_list_onward, shaped_list_onward}

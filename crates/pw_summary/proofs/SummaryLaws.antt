@@ -10,13 +10,13 @@ use Rattle.pw_value.specs.declared.program_names.StartName.{StartName}
 use Rattle.pw_value.specs.declared.program_names.StartName.TheVariants.{Allowed, Refused}
 use Rattle.pw_value.specs.declared.value.Kind.{Kind}
 use Rattle.pw_value.specs.ProgramNames.{start_name, may_stand}
-use Rattle.pw_value.specs.Fields.{u64_at, text_at, flag_at, repeated, u64, text, flag, FitsU32, FitsU64, FitsText}
-use Rattle.pw_value.specs.FieldFaults.{GivesFile}
-use Rattle.pw_value.specs.FieldLaws.{AreBytes, Spells, SpellsWhole}
-use Rattle.pw_value.specs.FieldNames.{name_at, name_table, name_index, IsNameTable}
-use Rattle.pw_value.proofs.FieldLaws.{checked_spells, u64_spells, text_spells, flag_spells}
-use Rattle.pw_value.proofs.FieldSteps.{Completes, Nothing, finish, finish_whole, step, step_where, keep_place, format, repeated_spells}
-use Rattle.pw_value.proofs.NameLaws.{name_spells, AllUsed, table_of_used, used_by_table}
+use Rattle.pw_fields.specs.Fields.{u64_at, text_at, flag_at, repeated, u64, text, flag, FitsU32, FitsU64, FitsText}
+use Rattle.pw_fields.specs.FieldFaults.{GivesFile}
+use Rattle.pw_fields.specs.FieldLaws.{AreBytes, Spells, SpellsWhole}
+use Rattle.pw_fields.specs.FieldNames.{name_at, name_table, name_index, IsNameTable}
+use Rattle.pw_fields.proofs.FieldLaws.{checked_spells, u64_spells, text_spells, flag_spells}
+use Rattle.pw_fields.proofs.FieldSteps.{Completes, Nothing, finish, finish_whole, step, step_where, keep_place, format, repeated_spells}
+use Rattle.pw_fields.proofs.NameLaws.{name_spells, AllUsed, table_of_used, used_by_table}
 use Rattle.pw_files.specs.Contents.{Contents, IsContents, contents_at, value_of}
 use Rattle.pw_files.specs.Rising.{IsRising, counted, rising_at}
 use Rattle.pw_files.specs.Kinds.{kind_at, kind as kind_byte}

@@ -1,9 +1,9 @@
 -- Reading a summary file from left to right, with the first fault that is met.
 use Rattle.std.specs.Prelude.{ℕ, Bool, nat_lt, List, length, Option, Result}
 use Rattle.pw_value.specs.declared.value.Kind.{Kind}
-use Rattle.pw_value.specs.Fields.{◌>>=◌, done, checked, u64_at, text_at, flag_at, repeated}
-use Rattle.pw_value.specs.FieldFrame.{here, ended}
-use Rattle.pw_value.specs.FieldNames.{name_at}
+use Rattle.pw_fields.specs.Fields.{◌>>=◌, done, checked, u64_at, text_at, flag_at, repeated}
+use Rattle.pw_fields.specs.FieldFrame.{here, ended}
+use Rattle.pw_fields.specs.FieldNames.{name_at}
 use Rattle.pw_value.specs.declared.program_names.StartName.TheVariants.{Allowed, Refused}
 use Rattle.pw_files.specs.Rising.{rising_at}
 use Rattle.pw_files.specs.Kinds.{kind_at}

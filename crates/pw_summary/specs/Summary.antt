@@ -2,8 +2,8 @@
 use Rattle.std.specs.Prelude.{ℕ, ◌≡◌, ◌<◌, ◌^◌, Bool, Option, List, [], ◌∷◌, ◌++◌, length, map, All, Contains}
 use Rattle.std.specs.List.{flat_map, AllByRecursion}
 use Rattle.pw_value.specs.declared.value.Kind.{Kind}
-use Rattle.pw_value.specs.Fields.{u64, text, flag, parts, FitsU32, FitsText}
-use Rattle.pw_value.specs.FieldNames.{name_table, name_index}
+use Rattle.pw_fields.specs.Fields.{u64, text, flag, parts, FitsU32, FitsText}
+use Rattle.pw_fields.specs.FieldNames.{name_table, name_index}
 use Rattle.pw_value.specs.ProgramNames.{start_name, KeepsStart}
 use Rattle.pw_summary.specs.declared.summary.Uses.{Uses}
 use Rattle.pw_summary.specs.declared.summary.Defined.{Defined}

@@ -2,9 +2,9 @@
 
 ghost use Rattle.std.specs.Prelude.{◌≡◌, ◌≢◌, ◌+◌, ◌<◌, ◌^◌, ℕ, Option, length, option_map, None, IfOk, IfErr, Ok};
 ghost use Rattle.std.specs.List.{flat_map};
-ghost use Rattle.pw_value.specs.Fields.{items_at, repeated, text};
-ghost use Rattle.pw_value.specs.FieldFaults.{Gives, GivesFile, Fails};
-ghost use Rattle.pw_value.specs.FieldFrame.{ended};
+ghost use Rattle.pw_fields.specs.Fields.{items_at, repeated, text};
+ghost use Rattle.pw_fields.specs.FieldFaults.{Gives, GivesFile, Fails};
+ghost use Rattle.pw_fields.specs.FieldFrame.{ended};
 ghost use Rattle.pw_files.specs.Rising.{next_key, rising_at};
 ghost use Rattle.pw_files.specs.Contents.{broken_at, value_of};
 ghost use Rattle.pw_summary.specs.declared.summary.Summary.{Summary as AnySummary};
@@ -13,13 +13,13 @@ ghost use Rattle.pw_summary.specs.Reading.{global_at, weight_at, reference_at, u
 
 use crate::names::{function_names, global_names, used_names};
 use crate::summary::{Defined, Summary, Used, Uses, summary_of};
+use pw_fields::names::{find_unused, read_name};
+use pw_fields::{FieldError, read_flag, read_text, read_u32, read_u64};
 use pw_files::format::{Format, read_value};
 use pw_files::kinds::read_kind;
 use pw_files::late::check_module;
 use pw_files::lists::{read_name_above, read_name_list, read_shape_list, read_shaped_list};
 use pw_items::Items;
-use pw_value::fields::names::{find_unused, read_name};
-use pw_value::fields::{FieldError, read_flag, read_text, read_u32, read_u64};
 use pw_value::program_names::StartName;
 use pw_value::{FileError, Kind, Name, Shape};
 use std::alloc::Global;

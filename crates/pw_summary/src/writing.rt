@@ -2,8 +2,8 @@
 
 ghost use Rattle.std.specs.Prelude.{◌≡◌, ◌++◌, ◌<◌, ◌^◌, length, OnOk, IfOk, All, Contains};
 ghost use Rattle.std.specs.List.{flat_map};
-ghost use Rattle.pw_value.specs.Fields.{FitsU32, FitsText};
-ghost use Rattle.pw_value.specs.FieldNames.{IsNameTable};
+ghost use Rattle.pw_fields.specs.Fields.{FitsU32, FitsText};
+ghost use Rattle.pw_fields.specs.FieldNames.{IsNameTable};
 ghost use Rattle.pw_files.specs.Rising.{counted, FitsList};
 ghost use Rattle.pw_files.specs.Names.{FitsShapes};
 ghost use Rattle.pw_summary.specs.Summary.{IsSummary, IsSummaryFile, FitsUses, FitsSummary, AreNamed, IsNamedBy, global as global_text, reference as reference_text, uses as uses_text, own, others, spelling};
@@ -11,13 +11,13 @@ ghost use Rattle.pw_summary.specs.Summary.{IsSummary, IsSummaryFile, FitsUses, F
 use crate::names::used_names;
 use crate::reading::{KIND, VERSION};
 use crate::summary::{Summary, Uses};
+use pw_fields::names::{push_name, push_names};
+use pw_fields::writing::{push_flag, push_u64};
 use pw_files::kinds::push_kind;
 use pw_files::writing::{
     make_table, push_count, push_name_list, push_shape_list, push_shaped, push_shaped_list,
     seal_payload,
 };
-use pw_value::fields::names::{push_name, push_names};
-use pw_value::fields::writing::{push_flag, push_u64};
 use pw_value::{Kind, Name, Shape};
 use std::alloc::{AllocError, Global};
 

@@ -1,12 +1,12 @@
 //! The functions of object files as text.
 
 use crate::shown::{push_value, push_word};
+use pw_fields::FieldError;
+use pw_fields::names::read_names;
 use pw_object::ObjectFn;
 use pw_object::functions::read_function;
 use pw_rows::Text;
 use pw_value::FileError;
-use pw_value::fields::FieldError;
-use pw_value::fields::names::read_names;
 use std::alloc::Global;
 
 /// Adds a function: its name, its frame, its words, and its relocations.

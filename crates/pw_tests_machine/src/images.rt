@@ -2,10 +2,10 @@
 //! The payload is written by hand.
 
 use crate::cases::Case;
+use pw_fields::frame::seal;
 use pw_image::{DataItem, Image, KIND, Map, Memory, read_image, read_map, write_image};
 use pw_rows::Text;
 use pw_value::Name;
-use pw_value::fields::frame::seal;
 use std::process::Abort;
 
 /// What is asked of files.

@@ -2,12 +2,12 @@
 //! digest is that of `sha256sum`.
 
 use crate::cases::{Case, push_made};
+use pw_fields::frame::{check_digest, open, seal};
+use pw_fields::names::{read_name, read_names, table_of};
+use pw_fields::writing::{push_flag, push_text, push_u8, push_u32, push_u64};
+use pw_fields::{read_flag, read_text, read_u8, read_u32, read_u64};
 use pw_rows::Text;
 use pw_value::Name;
-use pw_value::fields::frame::{check_digest, open, seal};
-use pw_value::fields::names::{read_name, read_names, table_of};
-use pw_value::fields::writing::{push_flag, push_text, push_u8, push_u32, push_u64};
-use pw_value::fields::{read_flag, read_text, read_u8, read_u32, read_u64};
 use std::alloc::Global;
 use std::process::Abort;
 

@@ -9,7 +9,7 @@ use pw_token::{LexFault, Token, lex, unsupported};
 use pw_tree::Module;
 
 /// What is printed for a text that has a tree.
-#[derive(Clone, Copy, PartialEq, Eq)]
+#[derive(Clone, Copy)]
 pub enum Wanted {
     /// That it is accepted.
     Verdict,

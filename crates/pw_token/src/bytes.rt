@@ -5,7 +5,7 @@ ghost use Rattle.std.specs.List.{prefix_len};
 ghost use Rattle.pw_token.specs.Bytes as spec;
 
 /// A class of bytes that a spelling names.
-#[derive(Clone, Copy, Debug)]
+#[derive(Clone, Copy)]
 pub enum Class {
     /// A blank within a line: space, tab, vertical tab, form feed, carriage return.
     Gap,

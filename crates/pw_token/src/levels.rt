@@ -6,7 +6,7 @@ ghost use Rattle.pw_token.specs.Nesting.{is_bracket};
 use crate::nesting::MAX_NEST;
 
 /// What opened a level.
-#[derive(Clone, Copy, Debug, PartialEq, Eq)]
+#[derive(Clone, Copy)]
 pub enum Opener {
     /// The text itself, the outermost level.
     Text,
@@ -17,7 +17,7 @@ pub enum Opener {
 }
 
 /// An open level: what opened it, and how much nesting its expressions and its control words add.
-#[derive(Clone, Copy, Debug)]
+#[derive(Clone, Copy)]
 pub struct Level {
     pub opener: Opener,
     pub expressions: usize,
@@ -29,7 +29,7 @@ pub struct Level {
 const ROOM: usize = MAX_NEST + 2;
 
 /// The open levels and their nesting. The outer ones begin with the text.
-#[derive(Clone, Copy, Debug)]
+#[derive(Clone, Copy)]
 pub struct Levels {
     pub innermost: Level,
     pub outer: [Level; ROOM],

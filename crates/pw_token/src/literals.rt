@@ -6,7 +6,7 @@ ghost use Rattle.pw_token.specs.Scanning as spec;
 use crate::bytes::{Class, byte_at, is_in, text_from};
 
 /// Where a reader of a constant stands.
-#[derive(Clone, Copy, Debug)]
+#[derive(Clone, Copy)]
 pub enum Mode {
     /// Between two characters.
     Plain,

@@ -10,7 +10,7 @@ use crate::marks::{is_keyword, mark_len};
 use crate::token::TokenKind;
 
 /// What a text is cut into.
-#[derive(Clone, Copy, Debug, PartialEq, Eq)]
+#[derive(Clone, Copy)]
 pub enum PieceKind {
     /// A space, tab, newline, carriage return, form feed or vertical tab, or a backslash before a newline.
     Blank,

@@ -7,7 +7,7 @@ use crate::bytes::text_from;
 use crate::token::{Token, TokenKind};
 
 /// What the rules of nesting know a token as.
-#[derive(Clone, Copy, Debug, PartialEq, Eq)]
+#[derive(Clone, Copy)]
 pub enum Role {
     /// An identifier, a constant or a string.
     Operand,

@@ -9,7 +9,7 @@ use crate::operator::{Access, AssignOperator, BinaryOperator, StepOperator, Unar
 use crate::symbol::Keyword;
 
 /// A token with bytes of its own: an identifier, a constant or a string literal, with its number.
-#[derive(PartialEq, Eq, Drop)]
+#[derive(Drop)]
 pub struct Word {
     pub token: usize,
     pub text: Vec<u8>,
@@ -119,7 +119,7 @@ pub struct TypeName {
 }
 
 /// A storage class (C90 6.5.1).
-#[derive(Clone, Copy, PartialEq, Eq)]
+#[derive(Clone, Copy)]
 pub enum StorageClass {
     Typedef,
     Extern,
@@ -136,7 +136,7 @@ pub enum Qualifier {
 }
 
 /// A type specifier that is a keyword (C90 6.5.2).
-#[derive(Clone, Copy, PartialEq, Eq)]
+#[derive(Clone, Copy)]
 pub enum BasicType {
     Void,
     Char,
@@ -150,7 +150,7 @@ pub enum BasicType {
 }
 
 /// A structure or a union (C90 6.5.2.1).
-#[derive(Clone, Copy, PartialEq, Eq)]
+#[derive(Clone, Copy)]
 pub enum RecordKind {
     Struct,
     Union,
@@ -239,7 +239,7 @@ pub struct Declarator {
 }
 
 /// A `*` with the qualifiers behind it (C90 6.5.4.1), at the `*`.
-#[derive(PartialEq, Eq, Drop)]
+#[derive(Drop)]
 pub struct Pointer {
     pub token: usize,
     pub qualifiers: Vec<Qualifier>,

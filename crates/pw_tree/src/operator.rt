@@ -6,7 +6,7 @@ ghost use Rattle.pw_tree.specs.Symbols as spec;
 use crate::symbol::Mark;
 
 /// What stands before its operand (C90 6.3.3).
-#[derive(Clone, Copy, PartialEq, Eq)]
+#[derive(Clone, Copy)]
 pub enum UnaryOperator {
     /// `&`
     Address,
@@ -29,7 +29,7 @@ pub enum UnaryOperator {
 }
 
 /// What stands between two operands and groups to the left (C90 6.3.5 to 6.3.14, 6.3.17).
-#[derive(Clone, Copy, PartialEq, Eq)]
+#[derive(Clone, Copy)]
 pub enum BinaryOperator {
     /// `*`
     Multiply,
@@ -72,7 +72,7 @@ pub enum BinaryOperator {
 }
 
 /// An assignment operator (C90 6.3.16).
-#[derive(Clone, Copy, PartialEq, Eq)]
+#[derive(Clone, Copy)]
 pub enum AssignOperator {
     /// `=`
     Plain,
@@ -99,7 +99,7 @@ pub enum AssignOperator {
 }
 
 /// What stands between a record, or a pointer to one, and a member's name (C90 6.3.2.3).
-#[derive(Clone, Copy, PartialEq, Eq)]
+#[derive(Clone, Copy)]
 pub enum Access {
     /// `.`
     Dot,
@@ -108,7 +108,7 @@ pub enum Access {
 }
 
 /// An increment or a decrement behind its operand (C90 6.3.2.4).
-#[derive(Clone, Copy, PartialEq, Eq)]
+#[derive(Clone, Copy)]
 pub enum StepOperator {
     /// `++`
     Increment,

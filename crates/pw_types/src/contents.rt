@@ -21,7 +21,7 @@ use std::alloc::{AllocError, Global};
 
 /// Why a structure or union type is refused: its size, the length of its shape or its depth passes the
 /// limit, with that number, or there is no memory.
-#[derive(Clone, Copy, PartialEq, Eq, Debug)]
+#[derive(Clone, Copy)]
 pub enum RecordFault {
     TooLarge(u64),
     ShapeTooLong(u64),

@@ -8,7 +8,7 @@ use pw_value::Value;
 
 /// The integer types (ISO C90 6.1.2.5). A plain `char` is signed, `long` has the size of `int`, and an
 /// enumerated type is `int`.
-#[derive(Clone, Copy, PartialEq, Eq)]
+#[derive(Clone, Copy)]
 pub enum IntKind {
     Char,
     SChar,

@@ -11,7 +11,7 @@ pub enum RecordKind {
 }
 
 /// The size of a type in bytes, and what the offsets of its objects are multiples of.
-#[derive(Clone, Copy, PartialEq, Eq)]
+#[derive(Clone, Copy)]
 pub struct Layout {
     pub size: u32,
     pub align: u32,

@@ -1,7 +1,7 @@
 //! The operators of typed trees (ISO C90 6.3).
 
 /// The unary operators `+`, `-`, `~` and `!`.
-#[derive(Clone, Copy, PartialEq, Eq)]
+#[derive(Clone, Copy)]
 pub enum UnaryOperator {
     Plus,
     Minus,
@@ -10,7 +10,7 @@ pub enum UnaryOperator {
 }
 
 /// The binary operators on values.
-#[derive(Clone, Copy, PartialEq, Eq)]
+#[derive(Clone, Copy)]
 pub enum BinaryOperator {
     Add,
     Subtract,
@@ -31,14 +31,14 @@ pub enum BinaryOperator {
 }
 
 /// The operators `&&` and `||`.
-#[derive(Clone, Copy, PartialEq, Eq)]
+#[derive(Clone, Copy)]
 pub enum LogicOperator {
     And,
     Or,
 }
 
 /// The operators `++` and `--`, before and behind their operand.
-#[derive(Clone, Copy, PartialEq, Eq)]
+#[derive(Clone, Copy)]
 pub enum StepOperator {
     IncrementBefore,
     DecrementBefore,

@@ -16,10 +16,9 @@ use pw_derived::declarator_of;
 use pw_exprs::expr_of;
 use pw_tree::{Declarator, Expr, Specifier};
 use pw_walk::{CheckFault, CheckKind};
-use std::alloc::Global;
+use std::alloc::{AllocError, Global};
 
 /// Functions that check the three kinds of phrases to a depth.
-#[derive(Clone, Copy)]
 struct Smaller<E, S, D> {
     /// How deep the phrases may still hold one another.
     depth: usize,
@@ -27,6 +26,14 @@ struct Smaller<E, S, D> {
     specifiers: S,
     declarator: D,
 }
+
+impl<E: Copy, S: Copy, D: Copy> Clone for Smaller<E, S, D> {
+    fn clone(&self) -> Result<Smaller<E, S, D>, AllocError> {
+        Ok(*self)
+    }
+}
+
+impl<E: Copy, S: Copy, D: Copy> Copy for Smaller<E, S, D> {}
 
 impl<
     'a,

@@ -2,11 +2,6 @@ pub mod Limits
 pub mod Caps
 pub mod Names
 pub mod ProgramNames
-pub mod Fields
-pub mod FieldFaults
-pub mod FieldFrame
-pub mod FieldLaws
-pub mod FieldNames
 pub mod Shapes
 pub mod Values
 pub mod Words

@@ -25,7 +25,7 @@ impl From<AllocError> for FileError {
 
 /// What there can be too much of in a program: modules, bytes of their texts together, functions,
 /// objects with static lifetime.
-#[derive(Clone, Copy, PartialEq, Eq, Debug)]
+#[derive(Clone, Copy, Debug)]
 pub enum What {
     Modules,
     TextBytes,

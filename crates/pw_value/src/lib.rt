@@ -5,7 +5,6 @@
 pub mod codec;
 pub mod decimal;
 pub mod fault;
-pub mod fields;
 pub mod laws;
 pub mod limits;
 pub mod name;

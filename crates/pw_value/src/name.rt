@@ -32,7 +32,7 @@ impl Model for Name {
 }
 
 /// Why there is no name: the count of bytes is 0 or passes `NAME_MAX`, or there is no memory.
-#[derive(Clone, Copy, PartialEq, Eq, Debug)]
+#[derive(Clone, Copy, Debug)]
 pub enum NameError {
     Length,
     NoMemory,

@@ -45,7 +45,7 @@ pub const GETCHAR_SHAPE: &[u8] = b"fi";
 pub const PUTCHAR_SHAPE: &[u8] = b"fii";
 
 /// Whether `$start` may stand in a name's place.
-#[derive(Clone, Copy, PartialEq, Eq, Debug)]
+#[derive(Clone, Copy)]
 pub enum StartName {
     Allowed,
     Refused,

@@ -22,7 +22,7 @@ use std::marker::Model;
 ///
 /// Any bytes are a shape here, since a file may hold any. Shapes are equal where their bytes are, and
 /// they are ordered byte by byte, a proper prefix first. A contract sees a shape as its bytes.
-#[derive(Debug, Drop)]
+#[derive(Drop)]
 pub struct Shape {
     bytes: Vec<u8>,
 }

@@ -30,7 +30,7 @@ pub enum Byte {
 
 /// The kind of a scalar in memory: its width, and whether reading it extends the sign. Pointers and
 /// numbers of four bytes are `W32`.
-#[derive(Clone, Copy, PartialEq, Eq, Debug)]
+#[derive(Clone, Copy, Debug)]
 pub enum Kind {
     S8,
     U8,

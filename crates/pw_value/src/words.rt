@@ -8,7 +8,7 @@ use std::alloc::AllocError;
 
 /// Why an operation on words has no result: the exact result is no int, the divisor is zero, or the count
 /// of a shift is not from 0 to 31.
-#[derive(Clone, Copy, PartialEq, Eq, Debug)]
+#[derive(Clone, Copy, Debug)]
 pub enum WordFault {
     Overflow,
     ZeroDivisor,

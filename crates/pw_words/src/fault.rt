@@ -9,7 +9,7 @@ use clap::error::ErrorKind;
 use std::alloc::AllocError;
 
 /// Why there is no command: the words are no command line, or there is no memory.
-#[derive(Clone, Copy, PartialEq, Eq, Debug)]
+#[derive(Clone, Copy)]
 pub enum WordsFault {
     Usage,
     NoMemory,

@@ -1,7 +1,7 @@
 use Rattle.std.proofs.Common.{map}
 use Rattle.std.specs.Prelude.{option_map}
 use Rattle.std.proofs.lemmas.Result.{err_from_is_err_and}
-use Rattle.pw_value.proofs.FieldLoops.{goes_on, ends, is_done}
+use Rattle.pw_fields.proofs.FieldLoops.{goes_on, ends, is_done}
 use Rattle.pw_db.specs.Reading.{function_at, next_function}
 use Rattle.pw_db.specs.Seen.{known_web}
 use Rattle.pw_db.proofs.reading.read_function_items.Goals as goal

@@ -1,7 +1,7 @@
 use Rattle.std.proofs.Common.{◌≡◌, ◌-◌, map}
 use Rattle.std.specs.Prelude.{option_map}
-use Rattle.pw_value.specs.Fields.{items_at}
-use Rattle.pw_value.proofs.FieldLoops.{with_front}
+use Rattle.pw_fields.specs.Fields.{items_at}
+use Rattle.pw_fields.proofs.FieldLoops.{with_front}
 use Rattle.pw_db.specs.Reading.{function_at, next_function, nothing_before}
 use Rattle.pw_db.specs.Seen.{known_web}
 use Rattle.pw_db.proofs.reading.read_function_items.Given as goal

@@ -1,7 +1,7 @@
 use Rattle.std.proofs.Common.{◌≡◌, ◌++◌, map, Ok}
 use Rattle.std.proofs.lemmas.Result.{err_from_is_err_and}
-use Rattle.pw_value.specs.FieldFaults.{Fails}
-use Rattle.pw_value.proofs.FieldLoops.{goes_on, ends, is_done}
+use Rattle.pw_fields.specs.FieldFaults.{Fails}
+use Rattle.pw_fields.proofs.FieldLoops.{goes_on, ends, is_done}
 use Rattle.pw_db.specs.Reading.{web_at, next_web}
 use Rattle.pw_db.specs.Seen.{known_web}
 use Rattle.pw_db.proofs.SeenLaws.{web_behind, one_more, webs_pushed, seen_more}

@@ -1,5 +1,5 @@
 use Rattle.std.proofs.Common.{arith, List, All, subst}
-use Rattle.pw_value.specs.Fields.{FitsU32}
+use Rattle.pw_fields.specs.Fields.{FitsU32}
 use Rattle.pw_db.specs.declared.database.Web.{Web}
 use Rattle.pw_db.specs.declared.database.Role.{Role}
 use Rattle.pw_files.proofs.Views.{all_by_seen}

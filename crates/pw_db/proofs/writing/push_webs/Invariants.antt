@@ -1,6 +1,6 @@
 use Rattle.std.proofs.Common.{◌≡◌, ◌++◌, take, ◌<◌, get_or, ℕ}
 use Rattle.std.specs.List.{flat_map}
-use Rattle.pw_value.specs.Fields.{FitsU32}
+use Rattle.pw_fields.specs.Fields.{FitsU32}
 use Rattle.pw_db.specs.declared.database.Web.{Web}
 use Rattle.pw_db.specs.declared.database.Role.{Role}
 use Rattle.pw_db.specs.Database.{web}

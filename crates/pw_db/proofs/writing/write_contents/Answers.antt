@@ -1,6 +1,6 @@
 use Rattle.std.proofs.Common.{subst, sym}
 use Rattle.std.proofs.lemmas.List.{length-map}
-use Rattle.pw_value.specs.Fields.{FitsU32}
+use Rattle.pw_fields.specs.Fields.{FitsU32}
 use Rattle.pw_db.specs.Database.{FitsFunction}
 use Rattle.pw_files.proofs.Views.{all_by_seen}
 use Rattle.pw_db.proofs.writing.write_contents.Goals as goal

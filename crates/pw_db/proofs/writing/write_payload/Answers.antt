@@ -1,6 +1,6 @@
 use Rattle.std.proofs.Common.{ℕ, List, length, map, sym, subst}
-use Rattle.pw_value.specs.Fields.{FitsU32}
-use Rattle.pw_value.specs.FieldNames.{IsTableOf}
+use Rattle.pw_fields.specs.Fields.{FitsU32}
+use Rattle.pw_fields.specs.FieldNames.{IsTableOf}
 use Rattle.pw_db.specs.Database.{names_of}
 use Rattle.pw_db.proofs.WritingLemmas.{all_named, is_payload}
 use Rattle.pw_db.proofs.writing.write_payload.Goals as goal

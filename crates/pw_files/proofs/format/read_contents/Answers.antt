@@ -1,6 +1,6 @@
 use Rattle.std.proofs.Common.{[], List, ℕ, sym, subst, arith}
-use Rattle.pw_value.specs.FieldNames.{IsRisingFrom}
-use Rattle.pw_value.proofs.NameLaws.{names_spell}
+use Rattle.pw_fields.specs.FieldNames.{IsRisingFrom}
+use Rattle.pw_fields.proofs.NameLaws.{names_spell}
 use Rattle.pw_files.proofs.format.read_contents.Goals as goal
 
 pub read_fields-requires-clause-rising : goal.read_fields-requires-clause-rising

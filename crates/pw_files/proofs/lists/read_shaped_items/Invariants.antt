@@ -1,7 +1,7 @@
 use Rattle.std.proofs.Common.{◌≡◌, ◌-◌}
 use Rattle.std.specs.Prelude.{option_map, None}
-use Rattle.pw_value.specs.Fields.{items_at}
-use Rattle.pw_value.proofs.FieldLoops.{with_front}
+use Rattle.pw_fields.specs.Fields.{items_at}
+use Rattle.pw_fields.proofs.FieldLoops.{with_front}
 use Rattle.pw_files.specs.Rising.{next_key}
 use Rattle.pw_files.specs.Names.{shaped_at}
 use Rattle.pw_files.proofs.lists.read_shaped_items.Given as goal

@@ -1,6 +1,6 @@
 use Rattle.std.proofs.Common.{◌≡◌, ◌++◌, take, ◌<◌, get_or, List, ℕ}
 use Rattle.std.specs.List.{flat_map}
-use Rattle.pw_value.specs.Fields.{text, FitsText}
+use Rattle.pw_fields.specs.Fields.{text, FitsText}
 use Rattle.pw_files.proofs.writing.push_shape_items.Given as goal
 
 abbrev pub invariant-loop-item : goal.invariant-loop-item

@@ -1,6 +1,6 @@
 use Rattle.std.proofs.Common.{◌≡◌, ◌++◌, take, ◌<◌, get_or, List, ℕ}
 use Rattle.std.specs.List.{flat_map}
-use Rattle.pw_value.specs.Fields.{FitsText}
+use Rattle.pw_fields.specs.Fields.{FitsText}
 use Rattle.pw_files.specs.Names.{shaped}
 use Rattle.pw_files.proofs.writing.push_shaped_items.Given as goal
 

@@ -1,7 +1,7 @@
 use Rattle.std.proofs.Common.{◌≡◌, ◌++◌, ◌∷◌, [], map, ap, ◌∙◌}
 use Rattle.std.proofs.lemmas.Result.{err_from_is_err_and}
 use Rattle.std.proofs.lemmas.List.{map_push}
-use Rattle.pw_value.proofs.FieldLoops.{goes_on, ends, is_done}
+use Rattle.pw_fields.proofs.FieldLoops.{goes_on, ends, is_done}
 use Rattle.pw_flowfile.specs.Reading.{declared_at, next_declared, seen_after}
 use Rattle.pw_flowfile.proofs.MarkLaws.{seen_more}
 use Rattle.pw_flowfile.proofs.globals.read_declared.Goals as goal

@@ -1,6 +1,6 @@
 use Rattle.std.proofs.Common.{◌≡◌, ◌-◌, ℕ, List, map}
-use Rattle.pw_value.specs.Fields.{items_at}
-use Rattle.pw_value.proofs.FieldLoops.{with_front}
+use Rattle.pw_fields.specs.Fields.{items_at}
+use Rattle.pw_fields.proofs.FieldLoops.{with_front}
 use Rattle.pw_flowfile.specs.Reading.{declared_at, next_declared, seen_after}
 use Rattle.pw_flowfile.specs.Marks.{Marks}
 use Rattle.pw_flowfile.proofs.globals.read_declared.Given as goal

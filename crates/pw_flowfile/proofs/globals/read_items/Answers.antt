@@ -1,5 +1,5 @@
 use Rattle.std.proofs.lemmas.Result.{err_from_is_err_and}
-use Rattle.pw_value.proofs.FieldLoops.{goes_on, ends, is_done}
+use Rattle.pw_fields.proofs.FieldLoops.{goes_on, ends, is_done}
 use Rattle.pw_flowfile.specs.Reading.{placed_item_at, next_free}
 use Rattle.pw_flowfile.proofs.globals.read_items.Goals as goal
 

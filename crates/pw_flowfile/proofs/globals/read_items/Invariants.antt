@@ -1,6 +1,6 @@
 use Rattle.std.proofs.Common.{◌≡◌, ◌-◌}
-use Rattle.pw_value.specs.Fields.{items_at}
-use Rattle.pw_value.proofs.FieldLoops.{with_front}
+use Rattle.pw_fields.specs.Fields.{items_at}
+use Rattle.pw_fields.proofs.FieldLoops.{with_front}
 use Rattle.pw_flowfile.specs.Reading.{placed_item_at, next_free}
 use Rattle.pw_flowfile.proofs.globals.read_items.Given as goal
 

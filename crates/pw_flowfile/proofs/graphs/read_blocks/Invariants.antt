@@ -1,6 +1,6 @@
 use Rattle.std.proofs.Common.{◌≡◌, ◌-◌}
-use Rattle.pw_value.specs.Fields.{repeated}
-use Rattle.pw_value.proofs.FieldLoops.{with_front}
+use Rattle.pw_fields.specs.Fields.{repeated}
+use Rattle.pw_fields.proofs.FieldLoops.{with_front}
 use Rattle.pw_flowfile.specs.Reading.{block_at}
 use Rattle.pw_flowfile.proofs.graphs.read_blocks.Given as goal
 

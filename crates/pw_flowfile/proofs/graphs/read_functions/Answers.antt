@@ -1,7 +1,7 @@
 use Rattle.std.proofs.Common.{map, ap, ◌∙◌}
 use Rattle.std.proofs.lemmas.Result.{err_from_is_err_and}
 use Rattle.std.proofs.lemmas.List.{map_push}
-use Rattle.pw_value.proofs.FieldLoops.{goes_on, ends, is_done}
+use Rattle.pw_fields.proofs.FieldLoops.{goes_on, ends, is_done}
 use Rattle.pw_flowfile.specs.Reading.{function_at, next_function, seen_after}
 use Rattle.pw_flowfile.proofs.MarkLaws.{seen_more}
 use Rattle.pw_flowfile.proofs.graphs.read_functions.Goals as goal

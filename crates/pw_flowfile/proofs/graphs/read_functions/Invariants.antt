@@ -1,6 +1,6 @@
 use Rattle.std.proofs.Common.{◌≡◌, ◌-◌, ℕ, List, map}
-use Rattle.pw_value.specs.Fields.{items_at}
-use Rattle.pw_value.proofs.FieldLoops.{with_front}
+use Rattle.pw_fields.specs.Fields.{items_at}
+use Rattle.pw_fields.proofs.FieldLoops.{with_front}
 use Rattle.pw_flowfile.specs.Reading.{function_at, next_function, seen_after}
 use Rattle.pw_flowfile.specs.Marks.{Marks}
 use Rattle.pw_flowfile.proofs.graphs.read_functions.Given as goal

@@ -1,5 +1,5 @@
 use Rattle.std.proofs.lemmas.Result.{err_from_is_err_and}
-use Rattle.pw_value.proofs.FieldLoops.{goes_on, ends, is_done}
+use Rattle.pw_fields.proofs.FieldLoops.{goes_on, ends, is_done}
 use Rattle.pw_flowfile.specs.Reading.{slot_at, next_room}
 use Rattle.pw_flowfile.proofs.graphs.read_slots.Goals as goal
 

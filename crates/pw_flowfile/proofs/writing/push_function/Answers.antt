@@ -1,8 +1,8 @@
 use Rattle.std.proofs.Common.{◌≡◌, ◌++◌, [], length}
 use Rattle.std.specs.List.{flat_map}
 use Rattle.std.proofs.lemmas.Result.{on_ok_weaker}
-use Rattle.pw_value.specs.Fields.{u32, text}
-use Rattle.pw_value.specs.FieldNames.{name_index}
+use Rattle.pw_fields.specs.Fields.{u32, text}
+use Rattle.pw_fields.specs.FieldNames.{name_index}
 use Rattle.pw_flowfile.specs.FlowFile.{block}
 use Rattle.pw_flowfile.proofs.WritingLemmas.{put, last_put}
 use Rattle.pw_flowfile.proofs.writing.push_function.Goals as goal

@@ -1,8 +1,8 @@
 use Rattle.std.proofs.Common.{◌≡◌, ◌++◌, ℕ, List, length, map, ap, subst, sym, ◌∙◌}
 use Rattle.std.specs.Prelude.{Contains}
 use Rattle.std.specs.List.{AllByRecursion}
-use Rattle.pw_value.specs.Fields.{FitsU32}
-use Rattle.pw_value.specs.FieldNames.{IsTableOf}
+use Rattle.pw_fields.specs.Fields.{FitsU32}
+use Rattle.pw_fields.specs.FieldNames.{IsTableOf}
 use Rattle.pw_flowfile.specs.FlowFile.{names_of, spelling}
 use Rattle.pw_flowfile.proofs.WritingLemmas.{all_stand, written}
 use Rattle.pw_flowfile.proofs.writing.write.Goals as goal

@@ -1,8 +1,8 @@
 use Rattle.std.proofs.Common.{◌≡◌, ◌-◌, [], ◌∷◌, ◌++◌, ap, ◌∙◌, arith}
 use Rattle.std.specs.Prelude.{is_ok}
 use Rattle.std.proofs.lemmas.Result.{err_from_is_err_and}
-use Rattle.pw_value.specs.Fields.{repeated}
-use Rattle.pw_value.proofs.FieldLoops.{repeat_goes_on, repeat_ends, repeat_is_done, with_nothing}
+use Rattle.pw_fields.specs.Fields.{repeated}
+use Rattle.pw_fields.proofs.FieldLoops.{repeat_goes_on, repeat_ends, repeat_is_done, with_nothing}
 use Rattle.pw_flowops.specs.Reading.{below_at}
 use Rattle.pw_flowops.proofs.parts.check_temps.Goals as goal
 

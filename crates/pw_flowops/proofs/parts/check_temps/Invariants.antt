@@ -1,6 +1,6 @@
 use Rattle.std.proofs.Common.{◌≡◌, ℕ, List, ◌-◌}
-use Rattle.pw_value.specs.Fields.{repeated}
-use Rattle.pw_value.proofs.FieldLoops.{with_front}
+use Rattle.pw_fields.specs.Fields.{repeated}
+use Rattle.pw_fields.proofs.FieldLoops.{with_front}
 use Rattle.pw_flowops.specs.Reading.{below_at}
 use Rattle.pw_flowops.proofs.parts.check_temps.Given as goal
 

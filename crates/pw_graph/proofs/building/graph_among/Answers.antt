@@ -1,5 +1,5 @@
 use Rattle.std.proofs.Common.{ℕ, List, subst, sym}
-use Rattle.pw_value.specs.FieldNames.{IsTableOf}
+use Rattle.pw_fields.specs.FieldNames.{IsTableOf}
 use Rattle.pw_graph.specs.Making.{all_taken, all_escaped}
 use Rattle.pw_graph.proofs.building.graph_among.Goals as goal
 

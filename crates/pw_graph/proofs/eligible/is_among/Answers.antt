@@ -1,5 +1,5 @@
 use Rattle.std.proofs.Common.{sym, ◌∙◌}
-use Rattle.pw_value.proofs.NameTables.{found_among}
+use Rattle.pw_fields.proofs.NameTables.{found_among}
 use Rattle.pw_graph.proofs.eligible.is_among.Goals as goal
 
 pub returns : goal.returns

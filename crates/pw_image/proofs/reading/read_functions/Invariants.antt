@@ -1,6 +1,6 @@
 use Rattle.std.proofs.Common.{◌≡◌, ◌-◌}
-use Rattle.pw_value.specs.Fields.{repeated}
-use Rattle.pw_value.proofs.FieldLoops.{with_front}
+use Rattle.pw_fields.specs.Fields.{repeated}
+use Rattle.pw_fields.proofs.FieldLoops.{with_front}
 use Rattle.pw_image.specs.Reading.{function_at}
 use Rattle.pw_image.proofs.reading.read_functions.Given as goal
 

@@ -1,6 +1,6 @@
 use Rattle.std.proofs.Common.{◌≡◌, ◌-◌, map}
-use Rattle.pw_value.specs.Fields.{items_at}
-use Rattle.pw_value.proofs.FieldLoops.{with_front}
+use Rattle.pw_fields.specs.Fields.{items_at}
+use Rattle.pw_fields.proofs.FieldLoops.{with_front}
 use Rattle.pw_image.specs.Image.{item_view}
 use Rattle.pw_image.specs.Reading.{item_at, next_free}
 use Rattle.pw_image.proofs.reading.read_items.Given as goal

@@ -1,5 +1,5 @@
 use Rattle.std.proofs.Common.{List, All, sym, subst, arith}
-use Rattle.pw_value.specs.Fields.{FitsText}
+use Rattle.pw_fields.specs.Fields.{FitsText}
 use Rattle.pw_image.specs.declared.image.DataItem.{DataItem}
 use Rattle.pw_image.proofs.WritingLemmas.{texts_fit}
 use Rattle.pw_image.proofs.writing.push_memory.Goals as goal

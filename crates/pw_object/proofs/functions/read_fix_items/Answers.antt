@@ -1,5 +1,5 @@
 use Rattle.std.proofs.lemmas.Result.{err_from_is_err_and}
-use Rattle.pw_value.proofs.FieldLoops.{repeat_goes_on, repeat_ends, repeat_is_done}
+use Rattle.pw_fields.proofs.FieldLoops.{repeat_goes_on, repeat_ends, repeat_is_done}
 use Rattle.pw_object.specs.Reading.{fix_at}
 use Rattle.pw_object.proofs.functions.read_fix_items.Goals as goal
 

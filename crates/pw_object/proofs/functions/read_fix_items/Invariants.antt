@@ -1,6 +1,6 @@
 use Rattle.std.proofs.Common.{◌≡◌, ◌-◌}
-use Rattle.pw_value.proofs.FieldLoops.{with_front}
-use Rattle.pw_value.specs.Fields.{repeated}
+use Rattle.pw_fields.proofs.FieldLoops.{with_front}
+use Rattle.pw_fields.specs.Fields.{repeated}
 use Rattle.pw_object.specs.Reading.{fix_at}
 use Rattle.pw_object.proofs.functions.read_fix_items.Given as goal
 

@@ -1,6 +1,6 @@
 use Rattle.std.proofs.lemmas.Result.{err_from_is_err_and}
-use Rattle.pw_value.proofs.FieldLoops.{repeat_goes_on, repeat_ends, repeat_is_done}
-use Rattle.pw_value.specs.Fields.{u32_at}
+use Rattle.pw_fields.proofs.FieldLoops.{repeat_goes_on, repeat_ends, repeat_is_done}
+use Rattle.pw_fields.specs.Fields.{u32_at}
 use Rattle.pw_object.proofs.functions.read_word_items.Goals as goal
 
 pub returns-in_err-word : goal.returns-in_err-word

@@ -1,6 +1,6 @@
 use Rattle.std.proofs.Common.{◌≡◌, ◌-◌}
-use Rattle.pw_value.proofs.FieldLoops.{with_front}
-use Rattle.pw_value.specs.Fields.{u32_at, repeated}
+use Rattle.pw_fields.proofs.FieldLoops.{with_front}
+use Rattle.pw_fields.specs.Fields.{u32_at, repeated}
 use Rattle.pw_object.proofs.functions.read_word_items.Given as goal
 
 abbrev pub invariant-loop : goal.invariant-loop

@@ -1,6 +1,6 @@
 use Rattle.std.proofs.Common.{ℕ, List, length, sym, subst, ◌∙◌}
-use Rattle.pw_value.specs.Fields.{FitsU32}
-use Rattle.pw_value.specs.FieldNames.{IsTableOf}
+use Rattle.pw_fields.specs.Fields.{FitsU32}
+use Rattle.pw_fields.specs.FieldNames.{IsTableOf}
 use Rattle.pw_object.specs.Object.{IsNamedBy, names_of}
 use Rattle.pw_object.proofs.WritingLemmas.{named_by, made}
 use Rattle.pw_object.proofs.writing.write.Goals as goal

@@ -1,6 +1,6 @@
 use Rattle.std.proofs.Common.{length}
 use Rattle.std.specs.List.{AllByRecursion}
-use Rattle.pw_value.specs.Fields.{FitsU32}
+use Rattle.pw_fields.specs.Fields.{FitsU32}
 use Rattle.pw_phases.proofs.numbers.words_fit.Given as goal
 
 abbrev pub invariant-loop-rest : goal.invariant-loop-rest

@@ -1,6 +1,6 @@
 use Rattle.std.proofs.Common.{◌++◌, subst, ap, inr, ◌∙◌}
 use Rattle.std.specs.List.{flat_map}
-use Rattle.pw_value.specs.FieldNames.{IsTableOf}
+use Rattle.pw_fields.specs.FieldNames.{IsTableOf}
 use Rattle.pw_program.specs.declared.interface.Interface.{Interface}
 use Rattle.pw_value.specs.declared.fault.LinkFault.TheVariants.{Undefined}
 use Rattle.pw_program.specs.Linking.{names_in}

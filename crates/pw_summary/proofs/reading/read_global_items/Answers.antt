@@ -1,6 +1,6 @@
 use Rattle.std.specs.Prelude.{option_map}
 use Rattle.std.proofs.lemmas.Result.{err_from_is_err_and}
-use Rattle.pw_value.proofs.FieldLoops.{goes_on, ends, is_done}
+use Rattle.pw_fields.proofs.FieldLoops.{goes_on, ends, is_done}
 use Rattle.pw_files.specs.Rising.{next_key}
 use Rattle.pw_summary.specs.Reading.{global_at}
 use Rattle.pw_summary.proofs.reading.read_global_items.Goals as goal

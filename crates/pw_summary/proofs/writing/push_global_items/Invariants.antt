@@ -2,7 +2,7 @@ use Rattle.std.proofs.Common.{◌≡◌, ◌++◌, take, ◌<◌, get_or, List, 
 use Rattle.std.specs.List.{flat_map}
 use Rattle.std.specs.Prelude.{Option, Bool}
 use Rattle.pw_value.specs.declared.value.Kind.{Kind}
-use Rattle.pw_value.specs.Fields.{FitsText}
+use Rattle.pw_fields.specs.Fields.{FitsText}
 use Rattle.pw_summary.specs.Summary.{global}
 use Rattle.pw_summary.proofs.writing.push_global_items.Given as goal
 

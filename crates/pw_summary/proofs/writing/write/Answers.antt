@@ -1,6 +1,6 @@
 use Rattle.std.proofs.Common.{ℕ, List, length, sym, subst, ◌∙◌}
-use Rattle.pw_value.specs.Fields.{FitsU32}
-use Rattle.pw_value.specs.FieldNames.{IsTableOf}
+use Rattle.pw_fields.specs.Fields.{FitsU32}
+use Rattle.pw_fields.specs.FieldNames.{IsTableOf}
 use Rattle.pw_summary.specs.Summary.{IsNamedBy, names_of}
 use Rattle.pw_summary.proofs.WritingLemmas.{named_by, is_file}
 use Rattle.pw_summary.proofs.writing.write.Goals as goal

@@ -1,0 +1,5 @@
+pub mod Fields
+pub mod FieldFaults
+pub mod FieldFrame
+pub mod FieldLaws
+pub mod FieldNames

@@ -1,5 +1,0 @@
-use Rattle.pw_value.proofs.FileLaws.{any_again}
-use Rattle.pw_value.proofs.fields.laws.files_are_framed.Goals as goal
-
-pub returns-clause-again : goal.returns-clause-again
-returns-clause-again c = any_again

@@ -1,6 +1,0 @@
-use Rattle.std.proofs.Common.{arith}
-use Rattle.pw_value.proofs.NameTables.{table_within}
-use Rattle.pw_value.proofs.fields.names.read_names.Goals as goal
-
-pub returns-clause-within : goal.returns-clause-within
-returns-clause-within c = table_within c.args.bytes.now c.read_counted.result (λ i. omega (arith, c.type_inv.bytes i)) c.read_counted.ensures
