@@ -3,12 +3,13 @@
 
 ghost use Rattle.pw_token.specs.Tokenization.{IsLexed};
 
-use crate::modules::{CALCULATOR, tokens_of};
+use crate::modules::{CALCULATOR, Parts, text_of, tokens_of};
 use pw_parse::parse;
 use pw_spell::{Spelled, spell};
 use pw_token::Token;
 use pw_tree::Module;
 use std::alloc::Global;
+use std::test::Fail;
 
 /// Texts of every form: declarations and initializers, expressions, specifiers and declarators, statements.
 static TEXTS: [&[u8]; 4] = [
@@ -82,4 +83,14 @@ fn modules_round_trip(rt: HostRuntime) {
     for (text, count) in CALCULATOR.iter() {
         assert!(rt; is_spelled(rt.alloc(), text), "{count}");
     }
+}
+
+/// The longest sum that a text may have: 99,998 operands in 199,999 tokens.
+static LONGEST: Parts = &[(b"int x=1", 1), (b"+1", 99_997), (b";", 1)];
+
+#[test]
+fn the_longest_sum_round_trips(rt: HostRuntime) -> Result<(), Fail> {
+    let text = text_of(rt.alloc(), LONGEST)?;
+    assert!(rt; is_spelled(rt.alloc(), &text));
+    Ok(())
 }
