@@ -64,8 +64,8 @@ abbrev pub StaysInside : ℕ → ℕ → ℕ → State → Type 0
 StaysInside address top steps s = (k : ℕ) (mid : State) → k < steps → run_of k s ≡ Running mid → IsInside address top mid.core
 
 -- The run returns to the address in register 31 within so many steps, with a word in register 29 that is a
--- result, and with the scratch registers alone changed. Until then each step is inside the routine's words,
--- and none loads or stores.
+-- result, and with the scratch registers alone changed. Until then each step is inside the routine's words
+-- (one that is nullified may stand right behind them), and none loads or stores.
 pub record Computes (routine : List ℕ) (address : ℕ) (s : State) (bound : ℕ) (IsResult : ℕ → Type 0) : Type 0 where
   pub steps : ℕ
   pub soon : steps ≤ bound

@@ -48,7 +48,7 @@ pub fn exit_ends()
 {}
 
 /// `getchar` puts the next byte of the input into register 28, or -1 at its end, and returns to register 2. Each of its
-/// steps is inside its words, and none loads or stores.
+/// steps is inside its words (one that is nullified may stand right behind them), and none loads or stores.
 #[tactic(auto, using(crate::proofs::LibraryCalls::getchar_runs, crate::proofs::LibraryCalls::getchar_ends))]
 pub fn getchar_reads()
     ensures byte { (address byte : ℕ) (rest : List ℕ) (s : State) → Enters getchar_words address s →
@@ -59,7 +59,7 @@ pub fn getchar_reads()
 {}
 
 /// `putchar` writes the low 8 bits of register 26, puts them into register 28 and returns to register 2. Each of its
-/// steps is inside its words, and none loads or stores.
+/// steps is inside its words (one that is nullified may stand right behind them), and none loads or stores.
 #[tactic(auto, using(crate::proofs::LibraryCalls::putchar_runs))]
 pub fn putchar_writes()
     ensures byte { (address : ℕ) (s : State) → Enters putchar_words address s →
