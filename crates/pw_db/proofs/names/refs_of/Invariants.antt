@@ -2,4 +2,4 @@ use Rattle.std.proofs.Common.{◌≡◌, map, take}
 use Rattle.pw_db.proofs.names.refs_of.Given as goal
 
 abbrev pub invariant-loop-item : goal.invariant-loop-item
-invariant-loop-item l = map (λ item. item.now) l.refs.items ≡ take l.item-index l.items
+invariant-loop-item g l = map (λ item. item.now) l.refs.items ≡ take l.item-index l.items
