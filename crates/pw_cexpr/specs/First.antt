@@ -1,4 +1,5 @@
--- What of an expression is evaluated first (ISO C90 6.3), and what of that, and so on.
+-- The operand of an expression that is evaluated first (ISO C90 6.3), and that of this operand, and so on. A call of a
+-- function that is named has none here: its arguments are a list of their own.
 use Rattle.std.specs.Prelude.{ℕ, ◌≡◌, Option, Some, None, List, [], ◌∷◌}
 use Rattle.pw_value.specs.declared.value.Value.{Value}
 use Rattle.pw_types.specs.TypedTrees.{Expression, Form, form_of, Unary, Binary, Logic, Cond, Comma, Assign, Compound, Step, Cast, Decay, Member, Deref, Address, CallValue}
@@ -11,7 +12,7 @@ pub data Asked : Type 0 where
   Answer : Expression → Asked
   Place : Expression → Asked
 
--- for the result of an expression of the form
+-- the one for the result of an expression of the form
 abbrev pub answer_first : Form → Option Asked
 answer_first (Unary op a) = Some (Answer a)
 answer_first (Binary op a b) = Some (Answer a)
@@ -29,7 +30,7 @@ answer_first (Address a) = Some (Place a)
 answer_first (CallValue a args) = Some (Answer a)
 answer_first _ = None
 
--- for its place
+-- the one for its place
 abbrev pub place_first : Form → Option Asked
 place_first (Member a offset) = Some (Place a)
 place_first (Assign a b) = Some (Place a)

@@ -2,7 +2,7 @@
 -- Streams: what the streams pass on.
 -- Sinks: what a sink keeps back.
 -- Folders: what the calls of a folder answer.
--- Entries: the names of a folder's files, by what is told of its entries.
+-- Entries: the names of a folder's files, by what is told of its entries; what opening a file comes to.
 pub mod Faults
 pub mod Streams
 pub mod Sinks
