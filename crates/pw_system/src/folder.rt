@@ -10,9 +10,9 @@ ghost use Rattle.std.specs.declared.io.Error.{Error};
 ghost use Rattle.std.specs.IoError.{error_kind};
 ghost use Rattle.std.specs.declared.io.ErrorKind.{ErrorKind};
 ghost use Rattle.pw_io.specs.Files.{Told, Keeps, ListsNames, Puts, PutsPart, Removes};
-ghost use Rattle.pw_system.specs.Entries.{FailsAt, FailsInList, GivesFile, ListsFiles, PutsEntry, PutsName};
+ghost use Rattle.pw_system.specs.Entries.{FailsAt, FailsInList, FindsFiles, HasNoText, ListsFiles, PutsEntry, PutsName};
 ghost use Rattle.pw_system.specs.Faults.{TellsKind};
-ghost use Rattle.pw_system.specs.Folders.{IsAbsent, Opens};
+ghost use Rattle.pw_system.specs.Folders.{IsAbsent, Opens, OpensAs};
 
 use std::alloc::Global;
 use std::fs;
@@ -117,15 +117,22 @@ fn is_file(told: io::Result<Metadata>) -> io::Result<bool>
     }
 }
 
+/// Whether this is the fault of an entry whose name is no text, and none of the system's own, which have a number.
+fn is_no_text(fault: &io::Error) -> bool
+    ensures { IsTrue result ↔ HasNoText fault.now }
+{
+    fault.kind() == ErrorKind::InvalidFilename && fault.raw_os_error().is_none()
+}
+
 /// An entry of a folder, or `None` where its name is no text.
 fn with_text<E: Drop>(entry: io::Result<E>) -> io::Result<Option<E>>
     ensures text { IfOk entry (λ found. result ≡ Ok (Some found)) }
-    ensures none { IfErr entry (λ e. error_kind e ≡ ErrorKind.InvalidFilename → result ≡ Ok None) }
-    ensures other { IfErr entry (λ e. error_kind e ≢ ErrorKind.InvalidFilename → result ≡ Err e) }
+    ensures none { IfErr entry (λ e. HasNoText e → result ≡ Ok None) }
+    ensures other { IfErr entry (λ e. ¬ (HasNoText e) → result ≡ Err e) }
 {
     match entry {
         Ok(entry) => Ok(Some(entry)),
-        Err(fault) if fault.kind() == ErrorKind::InvalidFilename => Ok(None),
+        Err(fault) if is_no_text(&fault) => Ok(None),
         Err(fault) => Err(fault),
     }
 }
@@ -175,6 +182,26 @@ fn push_entry<R: Files + AllocGlobal + Clone + Drop, F: Fn(&str) -> io::Result<M
     push_told(alloc, names, entry.file_name(), told)
 }
 
+/// The names of the files among the entries of a folder, in the order of the entries, by what `ask` tells of each name. The
+/// first fault is the answer.
+fn files_among<R, I, F>(alloc: Global, entries: I, ask: F) -> io::Result<Vec<String>>
+where
+    R: Files + AllocGlobal + Clone + Drop,
+    I: Iterator<Item = io::Result<DirEntry<R, R::A>>>,
+    F: Fn(&str) -> io::Result<Metadata> + Drop,
+    requires can { I.can_next entries }
+    requires ends { IsFinite (I.remaining entries) }
+    requires asks { F.IsAlwaysCallable ask }
+    ensures names { IfOk result (λ names. FindsFiles I.next_gives (FnReturnsAt F.Fn ask) entries names.items) }
+    ensures fault { IfErr result (λ e. FailsInList I.next_gives (FnReturnsAt F.Fn ask) entries e) }
+{
+    let mut names = Vec::new(alloc);
+    for entry in entries {
+        push_entry(alloc, &mut names, entry, &ask)?;
+    }
+    Ok(names)
+}
+
 /// The names of the files among the entries of a folder, in byte order, by what is told of the folder and what `ask` tells of
 /// each name. The first fault is the answer.
 fn file_names<R, I, F>(alloc: Global, told: io::Result<I>, ask: F) -> io::Result<Vec<String>>
@@ -190,40 +217,12 @@ where
     ensures sorted { IfOk result (λ names. IsSorted string_cmp names.items) }
     ensures fault { IfOk told (λ entries. IfErr result (λ e. FailsInList I.next_gives (FnReturnsAt F.Fn ask) entries e)) }
 {
-    let mut names = Vec::new(alloc);
-    for entry in told? {
-        push_entry(alloc, &mut names, entry, &ask)?;
-    }
+    let mut names = files_among(alloc, told?, ask)?;
     names.sort()?;
     Ok(names)
 }
 
-/// The file that was opened, by what is told of it: a folder is not found.
-fn unless_folder<T: Drop>(file: T, told: io::Result<Metadata>) -> io::Result<T>
-    ensures { GivesFile file told result }
-{
-    match told {
-        Ok(metadata) if metadata.is_dir() => Err(io::Error::from(ErrorKind::NotFound)),
-        Ok(_) => Ok(file),
-        Err(fault) => Err(fault),
-    }
-}
-
-/// The file that was opened, which is no folder by what `ask` tells of it. A fault of either is the answer.
-fn opened_file<T: Drop, F: FnOnce(&T) -> io::Result<Metadata>>(
-    opened: io::Result<T>,
-    ask: F,
-) -> io::Result<T>
-    requires { F.IsAlwaysCallable ask }
-    ensures file { IfOk opened (λ file. (told : Result Metadata Error) × FnOnceReturnsAt F.FnOnce ask file told × GivesFile file told result) }
-    ensures fault { IfErr opened (λ e. result ≡ Err e) }
-{
-    let file = opened?;
-    let told = ask(&file);
-    unless_folder(file, told)
-}
-
-/// What a fault in reading an opened file comes to. The file was there: one that says otherwise is answered as another.
+/// What a fault of an opened file comes to. The file was there: one that says otherwise is answered as another.
 fn read_fault(fault: io::Error) -> io::Error
     ensures found { error_kind result ≢ ErrorKind.NotFound }
     ensures gone { error_kind fault ≡ ErrorKind.NotFound → error_kind result ≡ ErrorKind.Other }
@@ -233,6 +232,32 @@ fn read_fault(fault: io::Error) -> io::Error
         return io::Error::from(ErrorKind::Other);
     }
     fault
+}
+
+/// The file that was opened, by what is told of it: a folder is not found. A file that was there is never told as one that
+/// is not.
+fn unless_folder<T: Drop>(file: T, told: io::Result<Metadata>) -> io::Result<T>
+    ensures { OpensAs file told result }
+{
+    match told {
+        Ok(metadata) if metadata.is_dir() => Err(io::Error::from(ErrorKind::NotFound)),
+        Ok(_) => Ok(file),
+        Err(fault) => Err(read_fault(fault)),
+    }
+}
+
+/// The file that was opened, which is no folder by what `ask` tells of it. A fault of either is the answer.
+fn opened_file<T: Drop, F: FnOnce(&T) -> io::Result<Metadata>>(
+    opened: io::Result<T>,
+    ask: F,
+) -> io::Result<T>
+    requires { F.IsAlwaysCallable ask }
+    ensures file { IfOk opened (λ file. (told : Result Metadata Error) × FnOnceReturnsAt F.FnOnce ask file told × OpensAs file told result) }
+    ensures fault { IfErr opened (λ e. result ≡ Err e) }
+{
+    let file = opened?;
+    let told = ask(&file);
+    unless_folder(file, told)
 }
 
 /// The bytes that were read, by what is told of the reading.

@@ -15,19 +15,35 @@ pub enum Call {
     RemoveFile,
 }
 
-/// The system, but that this call answers a fault of this kind.
+/// A fault of a call: one of a kind, without a number, or that of the system which has this number.
+#[derive(Clone, Copy)]
+pub enum Fault {
+    Of(ErrorKind),
+    Numbered(i32),
+}
+
+impl Fault {
+    fn error(self) -> io::Error {
+        match self {
+            Fault::Of(kind) => io::Error::from(kind),
+            Fault::Numbered(number) => io::Error::from_raw_os_error(number),
+        }
+    }
+}
+
+/// The system, but that this call answers this fault.
 #[derive(Drop)]
 pub struct Failing<'a> {
     pub rt: &'a HostRuntime,
     pub call: Call,
-    pub kind: ErrorKind,
+    pub fault: Fault,
 }
 
 impl<'a> Failing<'a> {
     /// The fault, where this is the call that fails.
     fn fail_at(&self, call: Call) -> io::Result<()> {
         if self.call == call {
-            return Err(io::Error::from(self.kind));
+            return Err(self.fault.error());
         }
         Ok(())
     }
@@ -38,7 +54,7 @@ impl<'a> Clone for Failing<'a> {
         Ok(Failing {
             rt: self.rt,
             call: self.call,
-            kind: self.kind,
+            fault: self.fault,
         })
     }
 }
@@ -55,13 +71,13 @@ impl<'a> Alloc for Failing<'a> {
 #[derive(Drop)]
 pub struct Names<D> {
     names: D,
-    fault: Option<ErrorKind>,
+    fault: Option<Fault>,
 }
 
 impl<D: Read> Read for Names<D> {
     fn read(&mut self, bytes: &mut [u8]) -> io::Result<usize> {
         match self.fault {
-            Some(kind) => Err(io::Error::from(kind)),
+            Some(fault) => Err(fault.error()),
             None => self.names.read(bytes),
         }
     }
@@ -85,7 +101,7 @@ impl<'a> Files for Failing<'a> {
     fn open_dir(&self, path: &str) -> io::Result<Self::Dir> {
         self.fail_at(Call::OpenFolder)?;
         let names = self.rt.open_dir(path)?;
-        let fault = (self.call == Call::ReadFolder).then_some(self.kind);
+        let fault = (self.call == Call::ReadFolder).then_some(self.fault);
         Ok(Names { names, fault })
     }
 

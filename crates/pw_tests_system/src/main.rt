@@ -3,7 +3,7 @@
 
 mod failing;
 
-use failing::{Call, Failing};
+use failing::{Call, Failing, Fault};
 use pw_io::{Sink, Source, Store, StoreError};
 use pw_system::{CurrentFolder, FileStore, StdSink, StdSource};
 use std::fs;
@@ -38,49 +38,63 @@ const PUTS: [(&str, &str); 4] = [
 /// The files that are taken out.
 const REMOVALS: [&str; 4] = ["new", "new", "folder.i", "to_a.i"];
 
-/// The calls of the system that fail, one a row, and the kind of the fault.
-const FAILING: [(&str, Call, ErrorKind); 10] = [
+/// The calls of the system that fail, one a row, and the fault. A name that is no text is told without a number; number 36
+/// is the system's fault of a name that is too long, and is of the same kind.
+const FAILING: [(&str, Call, Fault); 11] = [
     (
         "open folder, denied",
         Call::OpenFolder,
-        ErrorKind::PermissionDenied,
+        Fault::Of(ErrorKind::PermissionDenied),
     ),
     (
         "open folder, no memory",
         Call::OpenFolder,
-        ErrorKind::OutOfMemory,
+        Fault::Of(ErrorKind::OutOfMemory),
     ),
     (
         "read folder, denied",
         Call::ReadFolder,
-        ErrorKind::PermissionDenied,
+        Fault::Of(ErrorKind::PermissionDenied),
     ),
     (
         "read folder, no text",
         Call::ReadFolder,
-        ErrorKind::InvalidFilename,
+        Fault::Of(ErrorKind::InvalidFilename),
     ),
-    ("ask, denied", Call::AskName, ErrorKind::PermissionDenied),
-    ("ask, gone", Call::AskName, ErrorKind::NotFound),
+    (
+        "read folder, too long",
+        Call::ReadFolder,
+        Fault::Numbered(36),
+    ),
+    (
+        "ask, denied",
+        Call::AskName,
+        Fault::Of(ErrorKind::PermissionDenied),
+    ),
+    (
+        "ask, gone",
+        Call::AskName,
+        Fault::Of(ErrorKind::NotFound),
+    ),
     (
         "open file, denied",
         Call::OpenFile,
-        ErrorKind::PermissionDenied,
+        Fault::Of(ErrorKind::PermissionDenied),
     ),
     (
         "open file, no memory",
         Call::OpenFile,
-        ErrorKind::OutOfMemory,
+        Fault::Of(ErrorKind::OutOfMemory),
     ),
     (
         "remove, denied",
         Call::RemoveFile,
-        ErrorKind::PermissionDenied,
+        Fault::Of(ErrorKind::PermissionDenied),
     ),
     (
         "remove, no memory",
         Call::RemoveFile,
-        ErrorKind::OutOfMemory,
+        Fault::Of(ErrorKind::OutOfMemory),
     ),
 ];
 
@@ -198,8 +212,8 @@ fn tell_all<R: Files + AllocGlobal + Clone + Drop>(rt: &HostRuntime, files: &R) 
 
 /// What each call of the store answers where one call of the system fails.
 fn tell_failing(rt: &HostRuntime) -> io::Result<()> {
-    for (title, call, kind) in FAILING {
-        let files = Failing { rt, call, kind };
+    for (title, call, fault) in FAILING {
+        let files = Failing { rt, call, fault };
         let mut store = FileStore::new(CurrentFolder::new(&files));
         let names = store.names(rt.alloc());
         let file = store.get(rt.alloc(), "a.i", 3);

@@ -1,5 +1,5 @@
 use Rattle.std.proofs.lemmas.Fn.{FoldsTo-push}
-use Rattle.pw_system.proofs.folder.file_names.Goals as goal
+use Rattle.pw_system.proofs.folder.files_among.Goals as goal
 
 pub loop-entry-preserved : goal.loop-entry-preserved
 loop-entry-preserved g c =

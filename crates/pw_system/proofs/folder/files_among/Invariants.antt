@@ -2,7 +2,7 @@ use Rattle.std.proofs.Common.{[]}
 use Rattle.std.specs.Fn.{FnReturnsAt}
 use Rattle.std.specs.List.{FoldsTo}
 use Rattle.pw_system.specs.Entries.{PutsEntry}
-use Rattle.pw_system.proofs.folder.file_names.Given as goal
+use Rattle.pw_system.proofs.folder.files_among.Given as goal
 
 -- the names are those of the entries so far, of which none had a fault
 abbrev pub invariant-loop-entry : goal.invariant-loop-entry
