@@ -13,7 +13,7 @@ ghost use Rattle.pw_system.specs.Sinks.{kept_back};
 ghost use Rattle.pawc.specs.Flushed.{IsUntold, after_flush, line_after_flush};
 ghost use Rattle.pawc.specs.declared.TheConstants.{BLOCK};
 
-use pw_answer::tell;
+use pw_answer::{is_untold, tell};
 use pw_io::{Failed, Sink};
 use pw_system::{CurrentFolder, FileStore, StdSink, StdSource};
 use pw_top::{Answer, pawc_top, status};
@@ -22,9 +22,6 @@ use std::env::{self, Args};
 use std::io::{self, BufWriter, ErrorKind, IsTerminal, Read, Write};
 use std::process::ExitCode;
 use std::rt::Files;
-
-/// The status with which the program ends where there is no memory for its words.
-const NO_MEMORY: u8 = 121;
 
 /// How many bytes of the output are kept back at most.
 const BLOCK: usize = 8192;
@@ -68,9 +65,9 @@ fn after_flush<E: Sink>(
     ensures answer { result ≡ after_flush answer flushed }
     ensures line { Tells (line_after_flush answer flushed) (E.taken err.old) (E.taken err.new) (E.faults err.old) (E.faults err.new) }
 {
-    match (answer, flushed) {
-        (Answer::Done | Answer::Ended(_), Err(Failed)) => tell(alloc, Answer::WriteFault, 1, err),
-        (answer, _) => answer,
+    match flushed {
+        Err(Failed) if is_untold(&answer) => tell(alloc, Answer::WriteFault, 1, err),
+        _ => answer,
     }
 }
 
@@ -128,8 +125,7 @@ fn main(rt: HostRuntime) -> ExitCode {
         words_of(rt.alloc(), env::args(&rt)),
         BufWriter::with_capacity(rt.alloc(), block, rt.stdout()),
     ) else {
-        let _ = err.put(b"NoMemory\n");
-        return ExitCode::from(NO_MEMORY);
+        return exit_of(&tell(rt.alloc(), Answer::NoMemory, 1, &mut err));
     };
     let mut out = StdSink::new(writer);
     let answer = obey(&rt, &words, rt.stdin(), &mut out, &mut err);

@@ -1,5 +1,5 @@
 -- The status and the line of each answer.
-use Rattle.std.specs.Prelude.{ℕ, List, [], ◌++◌, codes, Option, Some, None}
+use Rattle.std.specs.Prelude.{Bool, ℕ, List, [], ◌++◌, codes, false, true, Option, Some, None}
 use Rattle.std.specs.Fmt.{decimal}
 use Rattle.pw_machine.specs.declared.ends.Halt.{Halt}
 use Rattle.pw_machine.specs.declared.ends.Halt.TheVariants.{Illegal, Unaligned, OutOfMemoryRange, TextWrite, BadBranch, BadBreak}
@@ -128,6 +128,12 @@ halt_name BadBreak = codes "BadBreak"
 abbrev pub bad_file_text : List ℕ → Option ℕ → List ℕ
 bad_file_text name None = codes "BadFile " ++ name
 bad_file_text name (Some offset) = codes "BadFile " ++ name ++ codes " at " ++ decimal offset
+
+-- No line tells this answer.
+abbrev pub is_untold : Answer → Bool
+is_untold Done = true
+is_untold (Ended status) = true
+is_untold answer = false
 
 -- The line of an answer, where a refused module is refused on this line of its text. A command that is done and a run that ended have none.
 abbrev pub line_text : ℕ → Answer → List ℕ

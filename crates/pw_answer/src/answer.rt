@@ -1,7 +1,7 @@
 //! What a call of the program answers.
 
 ghost use Rattle.std.specs.Prelude.{◌≡◌};
-ghost use Rattle.pw_answer.specs.Answers.{status_of};
+ghost use Rattle.pw_answer.specs.Answers.{is_untold, status_of};
 
 use pw_front::Refusal;
 use pw_io::StoreError;
@@ -95,4 +95,11 @@ pub fn status(answer: &Answer) -> u8
         Answer::BadFile(_, _) => 122,
         Answer::BadScript(_) => 123,
     }
+}
+
+/// Whether no line tells the answer: the command did what it is for, or the program ended.
+pub fn is_untold(answer: &Answer) -> bool
+    ensures { result ≡ is_untold answer.now }
+{
+    matches!(answer, Answer::Done | Answer::Ended(_))
 }

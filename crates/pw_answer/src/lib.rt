@@ -6,6 +6,6 @@ mod answer;
 mod line;
 mod telling;
 
-pub use answer::{Answer, Reply, status};
+pub use answer::{Answer, Reply, is_untold, status};
 pub use line::{Line, halt_name, line_of};
 pub use telling::tell;

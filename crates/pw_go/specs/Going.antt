@@ -2,7 +2,7 @@
 use Rattle.std.specs.Prelude.{◌≡◌, ℕ, ◌≤◌, ◌%◌, List, sum}
 use Rattle.pw_machine.specs.Run.{Progress, run_of}
 use Rattle.pw_answer.specs.Effects.{Effect, answers_alone}
-use Rattle.pw_answer.specs.Outcomes.{Answers, IsNoRefusal, RefusesAs}
+use Rattle.pw_answer.specs.Outcomes.{Answers, IsLineDue, IsNoRefusal, RefusesAs}
 use Rattle.pw_running.specs.Running.{ran}
 use Rattle.pw_answer.specs.declared.answer.Answer.{Answer}
 use Rattle.pw_answer.specs.declared.answer.Answer.TheVariants.{Ended, Usage, Refused, LinkRefused, StoreFault}
@@ -69,8 +69,7 @@ IsObeyed _ = Unit {0}
 
 -- the line on which a module is refused, where the answer names one
 abbrev pub IsLineOf : Build → Answer → ℕ → Type 0
-IsLineOf built (Refused name refusal) line = line ≡ refused_line built
-IsLineOf built _ line = Unit {0}
+IsLineOf built answer line = IsLineDue (refused_line built) answer line
 
 -- the answer is not that the words are no command line
 abbrev pub IsNoUsage : Answer → Type 0

@@ -14,7 +14,7 @@ use Rattle.pw_modules.specs.Modules.{modules_of}
 use Rattle.pw_answer.specs.declared.answer.Answer.{Answer}
 use Rattle.pw_answer.specs.declared.answer.Answer.TheVariants.{Done, Refused, LinkRefused, WriteFault, NoMemory}
 use Rattle.pw_answer.specs.Effects.{Effect, answers_alone, prints}
-use Rattle.pw_answer.specs.Outcomes.{Answers, PutsOut}
+use Rattle.pw_answer.specs.Outcomes.{Answers, IsLineDue, PutsOut}
 use Rattle.pw_gen.specs.Generator.{functions_of_a_module, generated}
 use Rattle.pw_driving.specs.FromBuild.BuildFault.{BuildFault}
 use Rattle.pw_driving.specs.FromBuild.Phases.{refused_line}
@@ -92,8 +92,7 @@ IsBenchAnswer _ = ⊥
 
 -- the line on which a module is refused, where one is
 abbrev pub IsBenchLine : ℕ → Answer → ℕ → Type 0
-IsBenchLine number (Refused name refusal) line = line ≡ refused_line (modules_of (bench_files number))
-IsBenchLine number _ line = Unit {0}
+IsBenchLine number answer line = IsLineDue (refused_line (modules_of (bench_files number))) answer line
 
 -- ---- inside
 

@@ -117,7 +117,7 @@ fn got(file: &Result<Option<Vec<u8>>, StoreError>) -> &str {
 }
 
 /// Whether a call was done.
-fn done<T>(answer: &Result<T, StoreError>) -> &str {
+fn done<T>(answer: &Result<T, StoreError>) -> &'static str {
     match answer {
         Ok(_) => "done",
         Err(StoreError::Failed) => "fault",
@@ -210,22 +210,21 @@ fn tell_all<R: Files + AllocGlobal + Clone + Drop>(rt: &HostRuntime, files: &R) 
     tell_names(rt, &mut store)
 }
 
+/// What each call of the store answers where this call of the system fails.
+fn tell_fault(rt: &HostRuntime, title: &str, call: Call, fault: Fault) -> io::Result<()> {
+    let files = Failing { rt, call, fault };
+    let mut store = FileStore::new(CurrentFolder::new(&files));
+    let names = done(&store.names(rt.alloc()));
+    let file = store.get(rt.alloc(), "a.i", 3);
+    let put = done(&store.put(rt.alloc(), "new", b"x"));
+    let removal = done(&store.remove(rt.alloc(), "new"));
+    println!(rt; "{title}: names {names}, get {}, put {put}, remove {removal}", got(&file))
+}
+
 /// What each call of the store answers where one call of the system fails.
 fn tell_failing(rt: &HostRuntime) -> io::Result<()> {
     for (title, call, fault) in FAILING {
-        let files = Failing { rt, call, fault };
-        let mut store = FileStore::new(CurrentFolder::new(&files));
-        let names = store.names(rt.alloc());
-        let file = store.get(rt.alloc(), "a.i", 3);
-        let put = store.put(rt.alloc(), "new", b"x");
-        let removal = store.remove(rt.alloc(), "new");
-        println!(rt;
-            "{title}: names {}, get {}, put {}, remove {}",
-            done(&names),
-            got(&file),
-            done(&put),
-            done(&removal)
-        )?;
+        tell_fault(rt, title, call, fault)?;
     }
     Ok(())
 }

@@ -101,9 +101,13 @@ plain_word (Plain word ∷ parts) = Some word
 abbrev pub are_digits : Text → Bool
 are_digits text = list_all is_ascii_digit text
 
+-- how many digits a number has at most: with as many it is less than 2^64
+abbrev pub digits_limit : ℕ
+digits_limit = 19
+
 -- one to nineteen decimal digits
 abbrev pub is_numeral : Text → Bool
-is_numeral text = nat_le 1 (length text) && (nat_le (length text) 19 && are_digits text)
+is_numeral text = nat_le 1 (length text) && (nat_le (length text) digits_limit && are_digits text)
 
 -- the number within limits that a text writes
 abbrev pub number_in : ℕ → ℕ → Text → Option ℕ

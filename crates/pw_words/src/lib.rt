@@ -10,7 +10,7 @@ mod reading;
 
 pub use commands::Command;
 pub use fault::WordsFault;
-pub use numbers::number_in;
+pub use numbers::{DIGITS_LIMIT, number_in};
 pub use reading::{
     SEED_LIMIT, STEPS_LIMIT, USUAL_STACK, USUAL_STEPS, command, limits_of_a_command,
 };

@@ -3,6 +3,9 @@
 ghost use Rattle.std.specs.Prelude.{◌≡◌, ◌≤◌, IfSome};
 ghost use Rattle.pw_words.specs.CommandLine.{are_digits, is_numeral, number_in};
 
+/// How many digits a number of a command line has at most. With as many it is less than 2^64.
+pub const DIGITS_LIMIT: usize = 19;
+
 /// Whether all bytes are decimal digits.
 fn are_digits(text: &[u8]) -> bool
     ensures { result ≡ are_digits text.now }
@@ -14,7 +17,7 @@ fn are_digits(text: &[u8]) -> bool
 fn is_numeral(text: &[u8]) -> bool
     ensures { result ≡ is_numeral text.now }
 {
-    1 <= text.len() && text.len() <= 19 && are_digits(text)
+    1 <= text.len() && text.len() <= DIGITS_LIMIT && are_digits(text)
 }
 
 /// The number that a text writes, within limits: one to nineteen decimal digits.

@@ -2,12 +2,12 @@
 
 ghost use Rattle.std.specs.Prelude.{◌≡◌, ◌≢◌, ◌≤◌, ℕ, List, None, Err, IfErr, IfOk, drop, map, string_bytes, codes, option_map, option_and_then, Option};
 ghost use Rattle.clap.specs.Matches.{first_value, found_of};
-ghost use Rattle.pw_words.specs.CommandLine.{Part, Reads, colours_in, command_of, go_of, command_by_name, module_in, number_or, parts_of, seed_in, stack_in, steps_in, with_build, with_run, build_of, session_of, bench_of, phase_one_of, phase_two_of, analyse_of, link_of, run_of, list_of, db_of, usual_stack, steps_limit, seed_limit, usual_steps};
+ghost use Rattle.pw_words.specs.CommandLine.{Part, Reads, colours_in, command_of, go_of, command_by_name, module_in, number_or, parts_of, seed_in, stack_in, steps_in, with_build, with_run, build_of, session_of, bench_of, phase_one_of, phase_two_of, analyse_of, link_of, run_of, list_of, db_of, digits_limit, usual_stack, steps_limit, seed_limit, usual_steps};
 ghost use Rattle.pw_words.specs.Reading.{IsMatchOf};
 
 use crate::commands::Command;
 use crate::fault::WordsFault;
-use crate::numbers::number_in;
+use crate::numbers::{DIGITS_LIMIT, number_in};
 use crate::reader::{OPERAND, read_parts};
 use clap::ArgMatches;
 use pw_db::COLOUR_LIMIT;
@@ -58,6 +58,7 @@ pub fn limits_of_a_command()
     ensures steps { STEPS_LIMIT ≡ steps_limit }
     ensures seed { SEED_LIMIT ≡ seed_limit }
     ensures usual_steps { USUAL_STEPS ≡ usual_steps }
+    ensures digits { DIGITS_LIMIT ≡ digits_limit }
 {}
 
 /// The number that is given to an option, within limits, or what stands for it.
