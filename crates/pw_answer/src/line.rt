@@ -94,8 +94,14 @@ fn push_lex_fault(text: &mut Vec<u8>, fault: LexFault) -> Result<(), AllocError>
     ensures { OnOk result (text.new.items ≡ text.old.items ++ lex_text fault) }
 {
     match fault {
-        LexFault::Bad { at } => push_numbered(text, b"Bad at byte ", at),
-        LexFault::TooMany { at } => push_numbered(text, b"TooMany at byte ", at),
+        LexFault::Bad { at } => {
+            push_numbered(text, b"Bad at byte ", at)?;
+            Ok(())
+        }
+        LexFault::TooMany { at } => {
+            push_numbered(text, b"TooMany at byte ", at)?;
+            Ok(())
+        }
         LexFault::TooLong => {
             text.extend_from_slice(b"TooLong")?;
             Ok(())
