@@ -379,7 +379,9 @@ fn define(rt: &impl Abort, alloc: Global, types: &mut Types, kind: RecordKind, o
     let members = members_of(rt, alloc, types_of(rt, alloc, of));
     let number = types.declare(kind).expect(rt, "a record");
     assert!(rt; are_object_types(types, &members));
-    let content = record_content(alloc, types, kind, members).expect(rt, "a content");
+    let content = record_content(alloc, types, kind, members)
+        .ok()
+        .expect(rt, "a content");
     types.define(number, content);
     number
 }
