@@ -8,7 +8,7 @@ use Rattle.pw_answer.specs.declared.answer.Answer.TheVariants.{WriteFault}
 use Rattle.pawc.specs.Flushed.{IsUntold, after_flush}
 
 apart : false ≡ true → ⊥
-apart h = absurd h
+apart h = cc
 
 -- where the answer is no write fault, a line tells it
 told : (answer : Answer) (is : Bool) → is_untold answer ≡ is → is_untold (if is then WriteFault else answer) ≡ true → ⊥
