@@ -4,7 +4,7 @@ use Rattle.std.specs.Prelude.{slice_index_or}
 use Rattle.std.specs.List.{flat_map, AllByRecursion}
 use Rattle.pw_value.specs.Limits.{parameter_limit}
 use Rattle.pw_db.specs.Limits.{register_count}
-use Rattle.pw_flow.specs.ValidFlow.{slot_room, rooms}
+use Rattle.pw_flow.specs.ValidFlow.{rooms}
 use Rattle.pw_flow.proofs.Rooms.{grows}
 use Rattle.pw_flow.specs.declared.flow.Op.TheVariants as op
 use Rattle.pw_webflow.specs.declared.web.WebOp.TheVariants.{Flow, Read, Write}
@@ -13,7 +13,7 @@ use Rattle.pw_webflow.specs.ValidWebs.{IsWebOp, IsWebBlock, IsWebFn}
 use Rattle.pw_webflow.specs.declared.web.WebOp.{WebOp}
 use Rattle.pw_webflow.specs.declared.web.WebBlock.{WebBlock}
 use Rattle.pw_alloc.specs.Frames.{argument_count, most_arguments, ops_of, head_size, slots_begin, last_reach}
-use Rattle.pw_value.specs.Rounding.{round8}
+use Rattle.pw_value.specs.Rounding.{slot_room}
 
 pub most_arguments-append : (xs ys : List WebOp) → most_arguments (xs ++ ys) ≡ max (most_arguments xs) (most_arguments ys)
 most_arguments-append [] ys = omega arith
@@ -25,18 +25,17 @@ block_more least most b rest h = let e = most_arguments-append b.ops (flat_map (
 
 pub last_reach_above : (at : ℕ) (slots : List ℕ) → at ≤ last_reach at slots
 last_reach_above at [] = omega arith
-last_reach_above at (size ∷ slots) = let h = last_reach_above (at + round8 (size + 1)) slots in omega arith
+last_reach_above at (size ∷ slots) = let h = last_reach_above (at + slot_room size) slots in omega arith
 
-pub next_fits : (at : ℕ) (slots : List ℕ) → 0 < length slots → last_reach at slots < 2 ^ 31 → at + round8 (slice_index_or slots 0 0 + 1) < 2 ^ 31
+pub next_fits : (at : ℕ) (slots : List ℕ) → 0 < length slots → last_reach at slots < 2 ^ 31 → at + slot_room (slice_index_or slots 0 0) < 2 ^ 31
 next_fits at [] h k = absurd (omega arith)
-next_fits at (size ∷ slots) h k = let a = last_reach_above (at + round8 (size + 1)) slots in omega arith
+next_fits at (size ∷ slots) h k = let a = last_reach_above (at + slot_room size) slots in omega arith
 
 -- slots reach as far as their room is
 pub reach_of_rooms : (at room : ℕ) (slots : List ℕ) → last_reach at slots + room ≡ rooms room slots + at
 reach_of_rooms at room [] = omega arith
 reach_of_rooms at room (size ∷ slots) =
-    let same : round8 (size + 1) ≡ slot_room size = ap (λ n. n / 8 * 8) (omega arith) in
-    let h = reach_of_rooms (at + round8 (size + 1)) (room + slot_room size) slots in omega arith
+    let h = reach_of_rooms (at + slot_room size) (room + slot_room size) slots in omega arith
 
 -- ---- the calls of a lawful function have few arguments
 

@@ -2,10 +2,9 @@
 use Rattle.std.proofs.Common.{◌≡◌, ℕ, ◌+◌, ◌-◌, ◌*◌, ◌/◌, ◌≤◌, List, [], ◌∷◌, length, arith}
 use Rattle.std.specs.List.{sum_by}
 use Rattle.std.proofs.lemmas.List.Sums.{sum_by-cons}
-use Rattle.pw_flow.specs.ValidFlow.{slot_room}
 use Rattle.pw_webflow.specs.declared.web.WebFn.{WebFn}
 use Rattle.pw_alloc.specs.Frames.{head_size, slots_begin, last_reach}
-use Rattle.pw_value.specs.Rounding.{round8}
+use Rattle.pw_value.specs.Rounding.{slot_room}
 use Rattle.pw_alloc.specs.Allocation.{saved_of, allocated}
 use Rattle.pw_alloc.specs.Room.{web_room}
 use Rattle.pw_alloc.proofs.AllocationLaws.{few_saved}
@@ -15,7 +14,7 @@ pub reach_of_sizes : (at : ℕ) (slots : List ℕ) → last_reach at slots ≡ a
 reach_of_sizes at [] = omega arith
 reach_of_sizes at (size ∷ slots) =
     let e = sum_by-cons slot_room size slots in
-    let h = reach_of_sizes (at + round8 (size + 1)) slots in
+    let h = reach_of_sizes (at + slot_room size) slots in
     omega arith
 
 pub frame_fits_room : (f : WebFn) → (allocated f).frame ≤ web_room f

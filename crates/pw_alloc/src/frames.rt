@@ -4,14 +4,30 @@ ghost use Rattle.std.specs.Prelude.{ℤ, List, ◌∷◌, ◌≡◌, ◌≤◌, 
 ghost use Rattle.pw_value.specs.Limits.{parameter_limit};
 ghost use Rattle.std.specs.List.{flat_map};
 ghost use Rattle.pw_webflow.specs.declared.web.WebBlock.{WebBlock as BlockValue};
-ghost use Rattle.pw_alloc.specs.Frames.{argument_count, most_arguments, ops_of, head_size, below, last_reach, slots_begin, reaches_from};
-ghost use Rattle.pw_value.specs.Rounding.{round8};
+ghost use Rattle.pw_alloc.specs.Frames.{argument_count, most_arguments, ops_of, head_bytes, first_stacked, link_place, head_size, below, last_reach, slots_begin, reaches_from};
+ghost use Rattle.pw_value.specs.Rounding.{round8, slot_room};
 
 use pw_flow::Op;
 use pw_items::Items;
-use pw_value::round8;
+use pw_value::{round8, slot_room};
 use pw_webflow::{WebBlock, WebFn, WebOp};
 use std::alloc::{AllocError, Global};
+
+/// The bytes of every frame that stand nearest to the stack pointer, without the arguments of calls behind the fourth.
+pub const HEAD_BYTES: u32 = 48;
+
+/// How far below the stack pointer of the caller the fifth argument of a call stands, in bytes.
+pub const FIRST_STACKED: u32 = 52;
+
+/// How far below the stack pointer of the caller a function keeps the address that it returns to, in bytes.
+pub const LINK_PLACE: u32 = 20;
+
+/// The numbers of frames are those that the definitions speak of.
+pub fn numbers_of_frames()
+    ensures head { HEAD_BYTES ≡ head_bytes }
+    ensures stacked { FIRST_STACKED ≡ first_stacked }
+    ensures link { LINK_PLACE ≡ link_place }
+{}
 
 /// How many arguments an operation has, where it is a call.
 fn argument_count(op: &WebOp) -> usize
@@ -62,10 +78,10 @@ fn most_arguments(blocks: &[WebBlock]) -> usize
 pub fn head_size(f: &WebFn) -> u32
     requires { most_arguments (ops_of f.now) ≤ parameter_limit }
     ensures value { result ≡ head_size f.now }
-    ensures small { result ≤ 48 + 4 * parameter_limit }
+    ensures small { result ≤ head_bytes + 4 * parameter_limit }
 {
     let most = most_arguments(f.blocks.as_slice()) as u32;
-    48 + 4 * most.saturating_sub(4)
+    HEAD_BYTES + 4 * most.saturating_sub(4)
 }
 
 /// The offset of the word that ends so many bytes below the stack pointer.
@@ -95,11 +111,11 @@ pub fn slots_begin(head: u32, saved: u32, temps: u32) -> u32
 
 /// How far a slot reaches behind others.
 fn next_reach(at: u32, size: u32) -> u32
-    requires { at + round8 (size + 1) < 2 ^ 31 }
-    ensures value { result ≡ at + round8 (size + 1) }
+    requires { at + slot_room size < 2 ^ 31 }
+    ensures value { result ≡ at + slot_room size }
     ensures small { result < 2 ^ 31 }
 {
-    at + rounded(size + 1)
+    at + slot_room(size) as u32
 }
 
 /// How far the last slot reaches.

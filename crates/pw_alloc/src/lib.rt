@@ -7,5 +7,8 @@ pub mod laws;
 mod located;
 
 pub use allocating::{allocate, is_entry};
-pub use frames::{below, head_size, slot_offsets, slots_begin};
+pub use frames::{
+    FIRST_STACKED, HEAD_BYTES, LINK_PLACE, below, head_size, numbers_of_frames, slot_offsets,
+    slots_begin,
+};
 pub use located::{Located, Place};

@@ -1,7 +1,8 @@
 -- What a step of a run does: an act gives a value and goes on with the state behind it, or it ends the run.
-use Rattle.std.specs.Prelude.{ℕ, ◌+◌, ◌-◌, ◌^◌, Bool, true, false, Option, Some, None, List, [], ◌∷◌, ◌++◌, length, replicate}
+use Rattle.std.specs.Prelude.{ℕ, ◌+◌, Bool, true, false, Option, Some, None, List, [], ◌∷◌, ◌++◌, length, replicate}
 use Rattle.pw_value.specs.declared.value.Byte.{Byte}
 use Rattle.pw_value.specs.declared.value.Byte.TheVariants as B
+use Rattle.pw_value.specs.Words.{end_of_input}
 use Rattle.pw_value.specs.Objects.{Object, written, ended}
 use Rattle.pw_value.specs.Objects as objects
 use Rattle.pw_cmean.specs.declared.undefined.Undef.{Undef}
@@ -90,7 +91,7 @@ write number offset bytes s = Gives tt (record s { objects = written number offs
 
 -- the next byte of the input, or -1 at its end (7.9.7.6)
 unfoldable pub next_byte : List ℕ → State → Outcome ℕ
-next_byte [] s = Gives (2 ^ 32 - 1) s
+next_byte [] s = Gives end_of_input s
 next_byte (byte ∷ rest) s = Gives byte (record s { rest = rest; read = s.read + 1 })
 
 unfoldable pub get_char : Act ℕ

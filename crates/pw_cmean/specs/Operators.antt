@@ -1,5 +1,5 @@
 -- The operators on values (ISO C90 6.3.3 to 6.3.15), and conversions (6.2.1, 6.2.2.3).
-use Rattle.std.specs.Prelude.{ℕ, ℤ, zero, suc, pos, negsuc, neg_ℤ, unsigned_abs, int_div, ◌+◌, ◌-◌, ◌%◌, ◌^◌, ◌-ℤ◌, ◌*ℤ◌, ◌==◌, ◌&&◌, ◌||◌, Bool, true, false, not, nat_le, nat_lt, if◌then◌else◌, bit_and, bit_or, bit_xor, Option, Some, None, is_none, option_map, unwrap_or, Result, Ok, Err, List, [], ◌∷◌, length}
+use Rattle.std.specs.Prelude.{ℕ, ℤ, zero, suc, pos, negsuc, neg_ℤ, unsigned_abs, int_div, ◌+◌, ◌-◌, ◌%◌, ◌-ℤ◌, ◌*ℤ◌, ◌==◌, ◌&&◌, ◌||◌, Bool, true, false, not, nat_le, nat_lt, if◌then◌else◌, bit_and, bit_or, bit_xor, Option, Some, None, is_none, option_map, unwrap_or, Result, Ok, Err, List, [], ◌∷◌, length}
 use Rattle.pw_value.specs.declared.value.Value.{Value}
 use Rattle.pw_value.specs.declared.value.Value.TheVariants as V
 use Rattle.pw_value.specs.declared.value.Pointer.TheVariants as P
@@ -19,7 +19,7 @@ use Rattle.pw_cmean.specs.Access.{objects_now}
 use Rattle.pw_types.specs.Layouts.{layout_of}
 use Rattle.pw_value.specs.declared.words.WordFault.{WordFault}
 use Rattle.pw_value.specs.declared.words.WordFault.TheVariants.{Overflow, ZeroDivisor, ShiftCount}
-use Rattle.pw_value.specs.Words.{signed, exact, unsigned_sum, unsigned_difference, unsigned_product, unsigned_negation, unsigned_quotient, unsigned_remainder, unsigned_less, unsigned_at_most, signed_sum, signed_difference, signed_product, signed_negation, signed_quotient, signed_remainder, signed_less, signed_at_most, shift_left, unsigned_shift_right, signed_shift_right}
+use Rattle.pw_value.specs.Words.{signed, exact, complement, unsigned_sum, unsigned_difference, unsigned_product, unsigned_negation, unsigned_quotient, unsigned_remainder, unsigned_less, unsigned_at_most, signed_sum, signed_difference, signed_product, signed_negation, signed_quotient, signed_remainder, signed_less, signed_at_most, shift_left, unsigned_shift_right, signed_shift_right}
 
 -- ---- values
 
@@ -103,7 +103,7 @@ negation false n = Ok (unsigned_negation n)
 unfoldable pub unary_number : Site → UnaryOperator → CType → Value → Act Value
 unary_number site Minus (Int kind) (V.Num n) = outcome_of site (negation (is_signed_kind kind) n)
 unary_number site Plus (Int kind) (V.Num n) = give (V.Num n)
-unary_number site Complement (Int kind) (V.Num n) = give (V.Num (2 ^ 32 - 1 - n))
+unary_number site Complement (Int kind) (V.Num n) = give (V.Num (complement n))
 unary_number site _ _ _ = wrong
 
 unfoldable pub unary : Site → UnaryOperator → CType → Value → Act Value

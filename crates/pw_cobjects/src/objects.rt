@@ -6,7 +6,7 @@ ghost use Rattle.pw_value.specs.Objects.{object_at, with_object, written, ended,
 ghost use Rattle.pw_cobjects.specs.Views.{fresh, view_object};
 
 use crate::bytes::write_bytes;
-use pw_value::Byte;
+use pw_value::{Byte, cap};
 use std::alloc::{AllocError, Global};
 use std::marker::Model;
 
@@ -42,10 +42,7 @@ impl Model for Objects {
 fn place(number: u128) -> usize
     ensures { result ≡ capped number }
 {
-    match usize::try_from(number) {
-        Ok(place) => place,
-        Err(_) => usize::MAX,
-    }
+    cap(number) as usize
 }
 
 /// Puts new bytes in place of those of an object from an offset on.

@@ -8,10 +8,10 @@ ghost use Rattle.pw_value.specs.Words as words;
 use crate::constancy::Constancy;
 use pw_types::{BinaryOperator, IntKind, LogicOperator, UnaryOperator, convert};
 use pw_value::words::{
-    is_at_most, is_less, shift_left, signed_difference, signed_negation, signed_product,
-    signed_quotient, signed_remainder, signed_shift_right, signed_sum, unsigned_difference,
-    unsigned_negation, unsigned_product, unsigned_quotient, unsigned_remainder,
-    unsigned_shift_right, unsigned_sum,
+    complement, is_at_most, is_less, shift_left, signed_difference, signed_negation,
+    signed_product, signed_quotient, signed_remainder, signed_shift_right, signed_sum,
+    unsigned_difference, unsigned_negation, unsigned_product, unsigned_quotient,
+    unsigned_remainder, unsigned_shift_right, unsigned_sum,
 };
 use pw_value::{Value, WordFault};
 
@@ -56,7 +56,7 @@ pub fn unary_word(operator: UnaryOperator, kind: IntKind, n: u32) -> Constancy
     match operator {
         UnaryOperator::Plus => Constancy::Known(n),
         UnaryOperator::Minus => negation(kind.is_signed(), n),
-        UnaryOperator::Complement => Constancy::Known(u32::MAX - n),
+        UnaryOperator::Complement => Constancy::Known(complement(n)),
         UnaryOperator::Not => decided(n == 0),
     }
 }

@@ -1,11 +1,11 @@
 -- What operators and conversions come to, as functions of the objects.
-use Rattle.std.specs.Prelude.{ℕ, ℤ, pos, int_div, unsigned_abs, ◌-◌, ◌%◌, ◌^◌, ◌*ℤ◌, ◌==◌, ◌&&◌, ◌||◌, Bool, true, false, not, if◌then◌else◌, Option, Some, None, is_none, unwrap_or, Result, Ok, Err, List, [], ◌∷◌}
+use Rattle.std.specs.Prelude.{ℕ, ℤ, pos, int_div, unsigned_abs, ◌%◌, ◌*ℤ◌, ◌==◌, ◌&&◌, ◌||◌, Bool, true, false, not, if◌then◌else◌, Option, Some, None, is_none, unwrap_or, Result, Ok, Err, List, [], ◌∷◌}
 use Rattle.pw_value.specs.declared.value.Value.{Value}
 use Rattle.pw_value.specs.declared.value.Value.TheVariants as V
 use Rattle.pw_value.specs.Objects.{Object}
 use Rattle.pw_value.specs.declared.words.WordFault.{WordFault}
 use Rattle.pw_value.specs.declared.words.WordFault.TheVariants.{Overflow, ZeroDivisor, ShiftCount}
-use Rattle.pw_value.specs.Words.{exact}
+use Rattle.pw_value.specs.Words.{complement, exact}
 use Rattle.pw_types.specs.Conversions.{size_of_kind, is_signed_kind, converted}
 use Rattle.pw_types.specs.declared.kind.IntKind.{IntKind}
 use Rattle.pw_types.specs.declared.record.Layout.{Layout}
@@ -48,7 +48,7 @@ numbers_by op kind _ _ = Err F.Wrong
 abbrev pub unary_number_by : UnaryOperator → Category → Value → Result Value Fault
 unary_number_by Minus (C.Int kind) (V.Num n) = word_answer (negation (is_signed_kind kind) n)
 unary_number_by Plus (C.Int kind) (V.Num n) = Ok (V.Num n)
-unary_number_by Complement (C.Int kind) (V.Num n) = Ok (V.Num (2 ^ 32 - 1 - n))
+unary_number_by Complement (C.Int kind) (V.Num n) = Ok (V.Num (complement n))
 unary_number_by _ _ _ = Err F.Wrong
 
 abbrev pub unary_by : List Object → UnaryOperator → Category → Value → Result Value Fault

@@ -10,10 +10,10 @@ use pw_cmean::Undef;
 use pw_types::{BinaryOperator, IntKind, UnaryOperator};
 use pw_value::Value;
 use pw_value::words::{
-    WordFault, is_at_most, is_less, shift_left, signed_difference, signed_negation, signed_product,
-    signed_quotient, signed_remainder, signed_shift_right, signed_sum, unsigned_difference,
-    unsigned_negation, unsigned_product, unsigned_quotient, unsigned_remainder,
-    unsigned_shift_right, unsigned_sum,
+    WordFault, complement, is_at_most, is_less, shift_left, signed_difference, signed_negation,
+    signed_product, signed_quotient, signed_remainder, signed_shift_right, signed_sum,
+    unsigned_difference, unsigned_negation, unsigned_product, unsigned_quotient,
+    unsigned_remainder, unsigned_shift_right, unsigned_sum,
 };
 
 /// 1 where it holds, and else 0.
@@ -101,7 +101,7 @@ pub(crate) fn unary_number(op: UnaryOperator, category: Category, v: Value) -> R
     match op {
         UnaryOperator::Minus => word_answer(negation(kind.is_signed(), n)),
         UnaryOperator::Plus => Ok(Value::Num(n)),
-        UnaryOperator::Complement => Ok(Value::Num(u32::MAX - n)),
+        UnaryOperator::Complement => Ok(Value::Num(complement(n))),
         UnaryOperator::Not => Err(Fault::Wrong),
     }
 }

@@ -1,7 +1,8 @@
 -- What of the state of a run the code holds: the objects, the room that the active functions take on the stack,
 -- what is left of the input, how much was read, and the output.
-use Rattle.std.specs.Prelude.{ℕ, ◌+◌, ◌-◌, ◌^◌, List, [], ◌∷◌, drop}
+use Rattle.std.specs.Prelude.{ℕ, ◌+◌, List, [], ◌∷◌, drop}
 use Rattle.pw_value.specs.Objects.{Object}
+use Rattle.pw_value.specs.Words.{end_of_input}
 use Rattle.pw_cmean.specs.Worlds as worlds
 use Rattle.pw_cmean.specs.Worlds.{depth}
 use Rattle.pw_cmean.specs.Acts as acts
@@ -24,7 +25,7 @@ view_state s = record { objects = s.objects; used = s.used; rest = drop s.read s
 
 -- the next byte of the input, or -1 at its end
 abbrev pub byte_read : List ℕ → ℕ
-byte_read [] = 2 ^ 32 - 1
+byte_read [] = end_of_input
 byte_read (byte ∷ rest) = byte
 
 abbrev pub behind_read : List ℕ → Shown → Shown

@@ -4,6 +4,7 @@ ghost use Rattle.std.specs.Prelude.{◌≡◌, ◌+◌, ◌++◌, ◌∷◌, [],
 ghost use Rattle.pw_cstate.specs.Shown.{view_state, byte_read, behind_read};
 
 use pw_cobjects::Objects;
+use pw_value::words::END_OF_INPUT;
 use std::alloc::AllocError;
 
 /// What changes in a run: the objects; the room in bytes that the active functions take on the stack; the input
@@ -28,7 +29,7 @@ pub fn get_char(state: &mut State) -> u32
             state.read += 1;
             u32::from(*byte)
         }
-        None => u32::MAX,
+        None => END_OF_INPUT,
     }
 }
 

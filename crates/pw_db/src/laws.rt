@@ -8,11 +8,12 @@ ghost use Rattle.pw_db.specs.declared.database.Directives.{Directives};
 ghost use Rattle.pw_db.specs.Database.{HasDirectives, IsDatabase, IsDatabaseFile, IsPayload, IsStored, kind, database_version};
 ghost use Rattle.pw_db.specs.Reading.{fields_at, payload_at, database_file_at};
 
-use crate::reading::VERSION;
+use crate::reading::{KIND, VERSION};
 
-/// The version is the one that its definition speaks of.
+/// The kind and the version of the file are those that its definition speaks of.
 pub fn version_of_databases()
-    ensures { VERSION ≡ database_version }
+    ensures kind { KIND ≡ kind }
+    ensures version { VERSION ≡ database_version }
 {}
 
 /// No bytes are the file of two databases, and no database has two files.

@@ -14,7 +14,6 @@ mod writing;
 pub use choosing::of_module;
 pub use database::{Database, Directives, Role, Web};
 pub use limits::{COLOUR_LIMIT, FIRST_REGISTER, LAST_REGISTER, LAST_TEMPORARY};
-pub use names::refs_of;
 pub use reading::{KIND, VERSION, read, read_payload};
 pub use storing::payload;
 pub use writing::write;

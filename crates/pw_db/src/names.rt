@@ -8,17 +8,6 @@ use crate::database::{Directives, Role, Web};
 use pw_value::Name;
 use std::alloc::{AllocError, Global};
 
-/// Items by reference.
-pub fn refs_of<T>(alloc: Global, items: &[T]) -> Result<Vec<&T>, AllocError>
-    ensures { IfOk result (λ v. map (λ item. item.now) v.items ≡ items.now) }
-{
-    let mut refs = Vec::new(alloc);
-    for item in items {
-        refs.push(item)?;
-    }
-    Ok(refs)
-}
-
 /// Adds the globals of webs.
 fn add_webs<'a>(used: &mut Vec<&'a Name>, webs: &'a [(Web, Role)]) -> Result<(), AllocError>
     ensures { OnOk result (map (λ name. name.now) used.new.items ≡ map (λ name. name.now) used.old.items ++ map (λ w. w.global) (map (λ w. w.0) webs.now)) }

@@ -17,7 +17,7 @@ ghost use Rattle.pw_db.specs.Seen.{known_web};
 
 use crate::database::{Database, Directives, Role, Web};
 use crate::limits::{FIRST_REGISTER, LAST_REGISTER};
-use crate::names::{refs_of, used_names};
+use crate::names::used_names;
 use crate::seen::{Known, Seen};
 use pw_fields::names::read_name;
 use pw_fields::{FieldError, read_choice, read_flag, read_u8, read_u32};
@@ -25,7 +25,7 @@ use pw_files::format::{Format, read_contents, read_value};
 use pw_files::kinds::{code_of, read_scalar};
 use pw_files::late::check_used;
 use pw_files::lists::read_name_above;
-use pw_items::Items;
+use pw_items::{Items, refs_of};
 use pw_value::program_names::StartName;
 use pw_value::{FileError, Kind, Name};
 use std::alloc::Global;

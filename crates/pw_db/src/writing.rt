@@ -8,12 +8,13 @@ ghost use Rattle.pw_files.specs.Rising.{counted};
 ghost use Rattle.pw_db.specs.Database.{IsDatabase, IsDatabaseFile, IsPayload, FitsFunction, FitsDatabase, IsNamedBy, role_code, web as web_text, function as function_text, names_of, spelling};
 
 use crate::database::{Database, Directives, Role, Web};
-use crate::names::{refs_of, used_names};
+use crate::names::used_names;
 use crate::reading::{KIND, VERSION};
 use pw_fields::names::{push_name, push_names};
 use pw_fields::writing::{push_flag, push_u8, push_u32};
 use pw_files::kinds::push_scalar;
 use pw_files::writing::{make_table, push_count, seal_payload};
+use pw_items::refs_of;
 use pw_value::Name;
 use std::alloc::{AllocError, Global};
 

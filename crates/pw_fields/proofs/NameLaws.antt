@@ -1,6 +1,6 @@
 -- The table of names, and names by their index.
 use Rattle.std.proofs.Common.{subst, ◌≡◌, ℕ, zero, suc, ◌<◌, Bool, true, false, cond, List, [], ◌∷◌, ◌++◌, length, get_or, refl, sym, ap, ◌∙◌, arith}
-use Rattle.std.specs.Prelude.{IsTrue, nat_le, nat_lt, ◌&&◌, ◌||◌, slice_index_or, Contains, Some, None}
+use Rattle.std.specs.Prelude.{IsTrue, nat_le, nat_lt, ◌||◌, slice_index_or, Contains, Some, None}
 use Rattle.std.specs.List.{flat_map}
 use Rattle.std.specs.Str.{bytes_eq}
 use Rattle.std.specs.Ordering.{nat_cmp, is_lt, is_eq}
@@ -15,6 +15,7 @@ use Rattle.std.proofs.Math.Bool.{or-true}
 use Rattle.std.proofs.lemmas.Bool.{leb-true, le-leb, ltb-true, lt-ltb}
 use Rattle.std.proofs.lemmas.List.{append-nil, get_or_default}
 use Rattle.pw_value.specs.Limits.{name_limit}
+use Rattle.pw_value.specs.Names.{is_name_length, is_before}
 use Rattle.pw_fields.specs.Fields.{checked, u32_at, text_at, u32, text, FitsU32, FitsText, FitInTurn}
 use Rattle.pw_fields.specs.FieldLaws.{Spells}
 use Rattle.pw_fields.specs.FieldNames.{IsTableOf, is_entry, entry_at, next_entry, names_at, IsRisingFrom, IsNameTable, name_table, place_of, name_at, name_index, is_among, first_unused}
@@ -39,9 +40,9 @@ rising_forth : (before : List ℕ) (names : List (List ℕ)) → FitInTurn FitsE
 rising_forth before [] fits = tt
 rising_forth before (name ∷ names) fits =
     let rule = fits.0.1 in
-    let short = second_so (nat_le 1 (length name)) (nat_le (length name) name_limit && is_lt (slice_cmp nat_cmp before name)) rule in (
-      (leb-true 1 (length name) (first_so (nat_le 1 (length name)) (nat_le (length name) name_limit && is_lt (slice_cmp nat_cmp before name)) rule), leb-true (length name) name_limit (first_so (nat_le (length name) name_limit) (is_lt (slice_cmp nat_cmp before name)) short)),
-      less_is _ (second_so (nat_le (length name) name_limit) (is_lt (slice_cmp nat_cmp before name)) short),
+    let sized = first_so (is_name_length (length name)) (is_before before name) rule in (
+      (leb-true 1 (length name) (first_so (nat_le 1 (length name)) (nat_le (length name) name_limit) sized), leb-true (length name) name_limit (second_so (nat_le 1 (length name)) (nat_le (length name) name_limit) sized)),
+      less_is _ (second_so (is_name_length (length name)) (is_before before name) rule),
       rising_forth name names fits.1,
     )
 
@@ -49,7 +50,7 @@ rising_back : (before : List ℕ) (names : List (List ℕ)) → IsRisingFrom bef
 rising_back before [] rising = tt
 rising_back before (name ∷ names) rising =
     let l = rising.0 in
-    ((omega arith, both_true (le-leb 1 (length name) l.0) (both_true (le-leb (length name) name_limit l.1) (ap is_lt rising.1))), rising_back name names rising.2)
+    ((omega arith, both_true (both_true (le-leb 1 (length name) l.0) (le-leb (length name) name_limit l.1)) (ap is_lt rising.1)), rising_back name names rising.2)
 
 pub names_spell : Spells name_table IsNameTable names_at
 unfolding names_at name_table

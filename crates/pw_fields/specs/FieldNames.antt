@@ -1,19 +1,18 @@
 -- The table of names of a file: names in rising order, which other fields name by their index.
-use Rattle.std.specs.Prelude.{◌≡◌, ℕ, suc, ◌+◌, ◌<◌, ◌^◌, ◌↔◌, List, [], ◌∷◌, ◌++◌, length, Option, Some, None, Result, nat_le, nat_lt, ◌&&◌, Bool, if◌then◌else◌, slice_index_or, Contains}
+use Rattle.std.specs.Prelude.{◌≡◌, ℕ, suc, ◌+◌, ◌<◌, ◌^◌, ◌↔◌, List, [], ◌∷◌, ◌++◌, length, Option, Some, None, Result, nat_lt, ◌&&◌, Bool, if◌then◌else◌, slice_index_or, Contains}
 use Rattle.std.specs.List.{flat_map, list_any}
 use Rattle.std.specs.Str.{bytes_eq}
-use Rattle.std.specs.Ordering.{nat_cmp, is_lt}
+use Rattle.std.specs.Ordering.{nat_cmp}
 use Rattle.std.specs.Cmp.Lexicographic.{slice_cmp}
 use Rattle.std.specs.declared.cmp.Ordering.TheVariants.{Less}
-use Rattle.pw_value.specs.Limits.{name_limit}
-use Rattle.pw_value.specs.Names.{IsNameLength}
+use Rattle.pw_value.specs.Names.{IsNameLength, is_name_length, is_before}
 use Rattle.pw_fields.specs.Fields.{◌>>=◌, done, checked, u32_at, text_at, items_at, u32, text}
 
 -- ---- the table
 
 -- a text that may follow another in the table: as long as a name may be, and above it in byte order
 abbrev pub is_entry : List ℕ → List ℕ → Bool
-is_entry before name = nat_le 1 (length name) && (nat_le (length name) name_limit && is_lt (slice_cmp nat_cmp before name))
+is_entry before name = is_name_length (length name) && is_before before name
 
 unfoldable pub entry_at : List ℕ → List ℕ → Result (List ℕ × List ℕ) ℕ
 entry_at before = checked (is_entry before) text_at

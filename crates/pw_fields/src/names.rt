@@ -35,17 +35,6 @@ fn read_entry<'a>(before: &[u8], bytes: &'a [u8]) -> Result<(&'a [u8], &'a [u8])
     }
 }
 
-/// The name of these bytes, or want of memory: an entry of the table has a name's length.
-fn name_of(alloc: Global, text: &[u8]) -> Result<Name, FieldError>
-    ensures name { IfOk result (λ name. name ≡ text.now) }
-    ensures error { IfErr result (λ e. e ≡ FieldError.NoMemory) }
-{
-    match Name::new(alloc, text) {
-        Ok(name) => Ok(name),
-        Err(_) => Err(FieldError::NoMemory),
-    }
-}
-
 /// So many names of the table.
 fn read_entries(alloc: Global, count: u32, bytes: &[u8]) -> Result<(Vec<Name>, &[u8]), FieldError>
     ensures { Gives (λ x. (x.0.items, x.1.now)) result (items_at entry_at next_entry count [] bytes.now) }
@@ -55,7 +44,7 @@ fn read_entries(alloc: Global, count: u32, bytes: &[u8]) -> Result<(Vec<Name>, &
     let mut before: &[u8] = &[];
     for _ in 0..count {
         let (text, after) = read_entry(before, rest)?;
-        names.push(name_of(alloc, text)?)?;
+        names.push(Name::lawful(alloc, text)?)?;
         before = text;
         rest = after;
     }

@@ -1,9 +1,10 @@
 -- Lists of a file: a count and as many items; and those in byte order without repeats.
 use Rattle.std.specs.Prelude.{◌≡◌, ℕ, Bool, true, List, [], ◌∷◌, ◌++◌, length, Option, Some, None, Result}
 use Rattle.std.specs.List.{flat_map, AllByRecursion}
-use Rattle.std.specs.Ordering.{nat_cmp, is_lt}
+use Rattle.std.specs.Ordering.{nat_cmp}
 use Rattle.std.specs.Cmp.Lexicographic.{slice_cmp}
 use Rattle.std.specs.declared.cmp.Ordering.TheVariants.{Less}
+use Rattle.pw_value.specs.Names.{is_before}
 use Rattle.pw_fields.specs.Fields.{◌>>=◌, done, u32_at, items_at, repeated, u32, FitsU32}
 
 -- ---- a list: the count of its items, and the items
@@ -38,7 +39,7 @@ IsRising texts = IsRisingBehind None texts
 
 abbrev pub is_above : Option (List ℕ) → List ℕ → Bool
 is_above None text = true
-is_above (Some before) text = is_lt (slice_cmp nat_cmp before text)
+is_above (Some before) text = is_before before text
 
 -- each item is the one before of the next
 abbrev pub next_key : {X : Type 0} → (X → List ℕ) → Option (List ℕ) → X → Option (List ℕ)

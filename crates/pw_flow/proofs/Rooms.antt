@@ -1,6 +1,7 @@
 -- What slots come to only grows.
 use Rattle.std.proofs.Common.{ℕ, ◌+◌, ◌≤◌, List, [], ◌∷◌, arith}
-use Rattle.pw_flow.specs.ValidFlow.{slot_room, rooms}
+use Rattle.pw_value.specs.Rounding.{slot_room}
+use Rattle.pw_flow.specs.ValidFlow.{rooms}
 
 pub grows : (room : ℕ) (slots : List ℕ) → room ≤ rooms room slots
 grows room [] = omega arith

@@ -4,7 +4,7 @@ use Rattle.std.specs.List.{flat_map}
 use Rattle.pw_flow.specs.declared.flow.Op.{Op}
 use Rattle.pw_flow.specs.declared.flow.Op.TheVariants.{Call, CallInd}
 use Rattle.pw_flow.specs.declared.flow.FlowFn.{FlowFn}
-use Rattle.pw_flow.specs.ValidFlow.{slot_room}
+use Rattle.pw_value.specs.Rounding.{slot_room}
 
 -- What a frame has at most: 128 bytes, 4 for each temporary and for each argument of the call that has most, and
 -- the slots.

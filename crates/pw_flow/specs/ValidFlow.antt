@@ -2,7 +2,7 @@
 use Rattle.std.specs.Prelude.{ℕ, ◌≡◌, ◌≢◌, ◌+◌, ◌*◌, ◌/◌, ◌%◌, ◌<◌, ◌≤◌, ◌^◌, ◌⊎◌, Option, IfSome, List, [], ◌∷◌, ◌++◌, length, max}
 use Rattle.std.specs.List.{AllByRecursion}
 use Rattle.pw_value.specs.Limits.{size_limit, parameter_limit, room_limit}
-use Rattle.pw_value.specs.Rounding.{round8}
+use Rattle.pw_value.specs.Rounding.{slot_room}
 use Rattle.pw_value.specs.ProgramNames.{IsOrdinary, KeepsStart}
 use Rattle.pw_value.specs.declared.value.Kind.{Kind}
 use Rattle.pw_value.specs.declared.value.Kind.TheVariants as kind
@@ -100,10 +100,6 @@ pub record IsBlock (temps slots blocks : ℕ) (b : Block) : Type 0 where
   pub depth : IsWord b.depth
   pub ops : AllByRecursion (IsOp temps slots) b.ops
   pub end : IsEnd temps blocks b.end
-
--- an object takes a byte more than its size, rounded up to a multiple of 8
-abbrev pub slot_room : ℕ → ℕ
-slot_room size = round8 (size + 1)
 
 -- what a global object takes
 abbrev pub global_room : FlowGlobal → ℕ

@@ -26,7 +26,8 @@ use Rattle.pw_flow.specs.declared.flow.Block.{Block}
 use Rattle.pw_flow.specs.declared.flow.FlowFn.{FlowFn}
 use Rattle.pw_flow.specs.declared.flow.Item.TheVariants.{Bytes, Address}
 use Rattle.pw_flow.specs.FlowGraph.{item_names, op_names, names_in_global, names_in_block, names_in_function}
-use Rattle.pw_flow.specs.ValidFlow.{kind_size, item_size, IsItem, AreItems, IsGlobal, IsOp, IsEnd, IsBlock, slot_room, rooms, HasFewParts, IsFunction}
+use Rattle.pw_value.specs.Rounding.{slot_room}
+use Rattle.pw_flow.specs.ValidFlow.{kind_size, item_size, IsItem, AreItems, IsGlobal, IsOp, IsEnd, IsBlock, rooms, HasFewParts, IsFunction}
 use Rattle.pw_flow.proofs.Lists.{all_flat, all_flat_back, all_both, all_first, all_second}
 use Rattle.pw_flow.proofs.Rooms.{grows}
 use Rattle.pw_flowops.specs.Operations.{op, ending, FitsOp, Named, OpFits}

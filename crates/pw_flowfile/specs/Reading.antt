@@ -17,7 +17,8 @@ use Rattle.pw_flow.specs.declared.flow.FlowFn.{FlowFn}
 use Rattle.pw_flow.specs.declared.flow.FlowModule.{FlowModule}
 use Rattle.pw_flow.specs.declared.flow.Item.TheVariants.{Bytes, Address}
 use Rattle.pw_flow.specs.FlowGraph.{global_names, function_names}
-use Rattle.pw_flow.specs.ValidFlow.{kind_size, item_size, slot_room}
+use Rattle.pw_value.specs.Rounding.{slot_room}
+use Rattle.pw_flow.specs.ValidFlow.{kind_size, item_size}
 use Rattle.pw_flowops.specs.Reading.{one_of_at, named_at, op_at, end_at}
 use Rattle.pw_flowfile.specs.declared.globals.ItemForm.{ItemForm}
 use Rattle.pw_flowfile.specs.declared.globals.ItemForm.TheVariants as form

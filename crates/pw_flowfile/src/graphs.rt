@@ -5,7 +5,6 @@ ghost use Rattle.pw_value.specs.Limits.{room_limit};
 ghost use Rattle.pw_fields.specs.Fields.{u32_at, checked, items_at, repeated};
 ghost use Rattle.pw_fields.specs.FieldFaults.{Gives};
 ghost use Rattle.pw_fields.specs.FieldNames.{IsRisingFrom};
-ghost use Rattle.pw_flow.specs.ValidFlow.{slot_room};
 ghost use Rattle.pw_flowfile.specs.Reading.{block_at, slot_at, next_room, code_at, function_body_at, function_at, next_function, seen_after};
 ghost use Rattle.pw_flowfile.specs.Marks.{Marks};
 
@@ -15,7 +14,7 @@ use pw_flow::{Block, FlowFn};
 use pw_flowops::{Counts, read_end, read_few, read_ops};
 use pw_items::Items;
 use pw_value::limits::ROOM_LIMIT;
-use pw_value::{Name, Shape, round8};
+use pw_value::{Name, Shape, slot_room};
 use std::alloc::Global;
 
 /// The most bytes that a function's temporaries and slots come to.
@@ -59,13 +58,6 @@ fn read_blocks<'a>(
     Ok((blocks, rest))
 }
 
-/// What a slot of this size takes: a byte more, up to a multiple of 8.
-fn room_of_slot(size: u32) -> u64
-    ensures { result ≡ slot_room size }
-{
-    round8(u64::from(size) + 1)
-}
-
 /// A slot's size, behind temporaries and slots of so many bytes.
 #[tactic(auto, unfolding(crate::specs::Reading::slot_at))]
 fn read_slot(room: u64, bytes: &[u8]) -> Result<(u32, &[u8]), FieldError>
@@ -74,7 +66,7 @@ fn read_slot(room: u64, bytes: &[u8]) -> Result<(u32, &[u8]), FieldError>
     ensures no_memory { IfErr result (λ e. e ≢ FieldError.NoMemory) }
 {
     let (size, rest) = read_u32(bytes)?;
-    let more = room_of_slot(size);
+    let more = slot_room(size);
     if room <= MOST_ROOM && more <= MOST_ROOM - room {
         Ok((size, rest))
     } else {
@@ -96,7 +88,7 @@ fn read_slots(
     let mut used = room;
     for _ in 0..count {
         let (slot, after) = read_slot(used, rest)?;
-        used += room_of_slot(slot);
+        used += slot_room(slot);
         slots.push(slot)?;
         rest = after;
     }

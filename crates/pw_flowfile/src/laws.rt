@@ -7,11 +7,12 @@ ghost use Rattle.pw_flow.specs.declared.flow.FlowModule.{FlowModule};
 ghost use Rattle.pw_flowfile.specs.FlowFile.{IsFlowFile, kind_of_file, flow_version};
 ghost use Rattle.pw_flowfile.specs.Reading.{fields_at, flow_file_at};
 
-use crate::reading::VERSION;
+use crate::reading::{KIND, VERSION};
 
-/// The version is the one that its definition speaks of.
+/// The kind and the version of the file are those that its definition speaks of.
 pub fn version_of_flow_files()
-    ensures { VERSION ≡ flow_version }
+    ensures kind { KIND ≡ kind_of_file }
+    ensures version { VERSION ≡ flow_version }
 {}
 
 /// No bytes are the file of two flow graphs, and no flow graph has two files.

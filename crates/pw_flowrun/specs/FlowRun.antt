@@ -1,6 +1,6 @@
 -- The run of a list of flow modules, by small steps. Counted as events are calls, those of the library too, and
 -- ends of blocks that go to another block than the next by number.
-use Rattle.std.specs.Prelude.{ℕ, zero, suc, ◌+◌, ◌-◌, ◌%◌, ◌^◌, ◌==◌, nat_lt, ◌&&◌, Bool, true, false, if◌then◌else◌, Option, Some, None, List, [], ◌∷◌, ◌++◌, length, replicate, slice_set, slice_index_or, sum_by}
+use Rattle.std.specs.Prelude.{ℕ, zero, suc, ◌+◌, ◌-◌, ◌%◌, ◌==◌, nat_lt, ◌&&◌, Bool, true, false, if◌then◌else◌, Option, Some, None, List, [], ◌∷◌, ◌++◌, length, replicate, slice_set, slice_index_or, sum_by}
 use denote.Enum.Bare.{sameb}
 use Rattle.pw_value.specs.contracts.value.Kind.{the_type as the_kinds}
 use Rattle.pw_value.specs.declared.value.Kind.{Kind}
@@ -9,6 +9,7 @@ use Rattle.pw_value.specs.declared.value.Value.TheVariants.{Undefined, Num, At}
 use Rattle.pw_value.specs.declared.value.Byte.TheVariants as B
 use Rattle.pw_value.specs.Objects.{Object, with_object, ended}
 use Rattle.pw_value.specs.ProgramNames.{start_name}
+use Rattle.pw_value.specs.Words.{end_of_input}
 use Rattle.pw_flow.specs.declared.flow.Op.{Op}
 use Rattle.pw_flow.specs.declared.flow.End.{End}
 use Rattle.pw_flow.specs.declared.flow.End.TheVariants.{Jump, Branch, Return}
@@ -121,7 +122,7 @@ abbrev pub calls_library : Library → Option ℕ → List Value → Machine →
 calls_library GetChar t [] m = reads m.rest
   where
     reads : List ℕ → Step
-    reads [] = On (counted (takes_result t (Num (2 ^ 32 - 1)) m))
+    reads [] = On (counted (takes_result t (Num end_of_input) m))
     reads (byte ∷ rest) = On (counted (takes_result t (Num byte) (record m { rest = rest; read = m.read + 1 })))
 calls_library PutChar t (Num n ∷ []) m =
     On (counted (takes_result t (Num (n % 256)) (record m { out = m.out ++ n % 256 ∷ [] })))

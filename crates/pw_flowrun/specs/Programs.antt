@@ -1,13 +1,12 @@
 -- A list of flow modules as a program: its functions and objects by their names and numbers.
 use Rattle.std.specs.Prelude.{ℕ, ◌≡◌, ◌<◌, ◌==◌, true, if◌then◌else◌, Option, Some, None, option_map, List, [], ◌∷◌, ◌++◌, map, find, position, count_by, replicate, slice_get, bytes_eq, Contains}
 use Rattle.std.specs.List.{flat_map, AllByRecursion}
-use Rattle.std.specs.Cmp.Lexicographic.{slice_cmp}
-use Rattle.std.specs.Ordering.{nat_cmp, is_lt}
 use Rattle.pw_value.specs.declared.value.Byte.{Byte}
 use Rattle.pw_value.specs.declared.value.Byte.TheVariants as B
 use Rattle.pw_value.specs.declared.value.Pointer.{Pointer}
 use Rattle.pw_value.specs.declared.value.Pointer.TheVariants as P
 use Rattle.pw_value.specs.Objects.{Object, with_bytes}
+use Rattle.pw_value.specs.Names.{is_before}
 use Rattle.pw_value.specs.ProgramNames.{exit_name, getchar_name, putchar_name, library_functions, exit_shape, getchar_shape, putchar_shape}
 use Rattle.pw_value.specs.Values.{pieces_of}
 use Rattle.pw_flow.specs.declared.flow.Item.{Item}
@@ -63,7 +62,7 @@ names_of p = library_functions ++ map (λ f. f.name) (functions_of p)
 
 -- a function's number is its place among the names of all functions in byte order
 abbrev pub function_number : Program → List ℕ → ℕ
-function_number p name = count_by (λ other. is_lt (slice_cmp nat_cmp other name)) (names_of p)
+function_number p name = count_by (λ other. is_before other name) (names_of p)
 
 abbrev pub function_at : Program → ℕ → Option (List ℕ)
 function_at p n = find (λ name. function_number p name == n) (names_of p)

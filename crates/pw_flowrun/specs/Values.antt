@@ -1,12 +1,12 @@
 -- What operations make of values. A value is a number, a pointer, a piece of one, or undefined; a null pointer is
 -- the number 0. None is where no lawful program leads.
-use Rattle.std.specs.Prelude.{ℕ, zero, ◌-◌, ◌%◌, ◌^◌, ◌==◌, ◌&&◌, nat_le, nat_lt, not, Bool, true, false, if◌then◌else◌, bit_and, bit_or, bit_xor, Option, Some, None, option_map, Result, Ok, Err, List, length}
+use Rattle.std.specs.Prelude.{ℕ, zero, ◌%◌, ◌==◌, ◌&&◌, nat_le, nat_lt, not, Bool, true, false, if◌then◌else◌, bit_and, bit_or, bit_xor, Option, Some, None, option_map, Result, Ok, Err, List, length}
 use Rattle.pw_value.specs.declared.value.Value.{Value}
 use Rattle.pw_value.specs.declared.value.Value.TheVariants.{Num, At, Piece}
 use Rattle.pw_value.specs.declared.value.Pointer.{Pointer}
 use Rattle.pw_value.specs.declared.value.Pointer.TheVariants as P
 use Rattle.pw_value.specs.Objects.{Object, object_at}
-use Rattle.pw_value.specs.Words.{unsigned_sum, unsigned_difference, unsigned_product, unsigned_negation, unsigned_quotient, unsigned_remainder, unsigned_less, unsigned_at_most, signed_quotient, signed_remainder, signed_less, signed_at_most, shift_left, unsigned_shift_right, signed_shift_right}
+use Rattle.pw_value.specs.Words.{complement, unsigned_sum, unsigned_difference, unsigned_product, unsigned_negation, unsigned_quotient, unsigned_remainder, unsigned_less, unsigned_at_most, signed_quotient, signed_remainder, signed_less, signed_at_most, shift_left, unsigned_shift_right, signed_shift_right}
 use Rattle.pw_value.specs.declared.words.WordFault.{WordFault}
 use Rattle.pw_value.specs.Values.{extended}
 use Rattle.pw_flow.specs.declared.flow.UnKind.{UnKind}
@@ -24,7 +24,7 @@ truth false = Num 0
 
 abbrev pub unary : UnKind → Value → Option Value
 unary Neg (Num n) = Some (Num (unsigned_negation n))
-unary Not (Num n) = Some (Num (2 ^ 32 - 1 - n))
+unary Not (Num n) = Some (Num (complement n))
 unary k v = None
 
 -- the low bits of a number; a byte of a pointer stays one as a character

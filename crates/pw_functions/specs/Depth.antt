@@ -3,9 +3,9 @@
 use Rattle.std.specs.Prelude.{ℕ, ◌*◌}
 use Rattle.pw_token.specs.Limits.{nest_limit}
 
--- no fewer than there are ranks of operators (C90 6.3.1 to 6.3.17)
-abbrev pub operator_ranks : ℕ
-operator_ranks = 20
+-- the levels of phrases within a level of nesting: no fewer than there are ranks of operators (C90 6.3.1 to 6.3.17)
+abbrev pub levels_within_a_nest : ℕ
+levels_within_a_nest = 20
 
 abbrev pub phrase_depth : ℕ
-phrase_depth = operator_ranks * nest_limit
+phrase_depth = levels_within_a_nest * nest_limit

@@ -2,7 +2,7 @@
 //! tree of greater depth is want of memory: the stack is memory.
 
 ghost use Rattle.std.specs.Prelude.{◌≡◌};
-ghost use Rattle.pw_functions.specs.Depth.{operator_ranks, phrase_depth};
+ghost use Rattle.pw_functions.specs.Depth.{levels_within_a_nest, phrase_depth};
 ghost use Rattle.pw_functions.specs.Nests.{Nests};
 ghost use Rattle.pw_body.specs.Views.{view_body};
 ghost use Rattle.pw_checking.specs.Follows.{Leads};
@@ -22,16 +22,16 @@ use pw_typing::Knot;
 use pw_walk::{CheckFault, CheckKind};
 use std::alloc::{AllocError, Global};
 
-/// No fewer than there are ranks of operators (C90 6.3.1 to 6.3.17).
-pub const OPERATOR_RANKS: usize = 20;
+/// The levels of phrases within a level of nesting: no fewer than there are ranks of operators (C90 6.3.1 to 6.3.17).
+pub const LEVELS_WITHIN_A_NEST: usize = 20;
 
 /// How deep the phrases and statements of a module may hold one another: within a token of nesting an expression has one
 /// level for each rank of operators.
-pub const PHRASE_DEPTH: usize = OPERATOR_RANKS * MAX_NEST;
+pub const PHRASE_DEPTH: usize = LEVELS_WITHIN_A_NEST * MAX_NEST;
 
 /// The limits are those that the definitions speak of.
 pub fn limits_of_phrases()
-    ensures ranks { OPERATOR_RANKS ≡ operator_ranks }
+    ensures levels { LEVELS_WITHIN_A_NEST ≡ levels_within_a_nest }
     ensures depth { PHRASE_DEPTH ≡ phrase_depth }
 {}
 

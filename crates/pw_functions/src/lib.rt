@@ -5,5 +5,5 @@ mod functions;
 mod knot;
 
 pub use functions::function_rule;
-pub use knot::{OPERATOR_RANKS, PHRASE_DEPTH, limits_of_phrases, phrases};
+pub use knot::{LEVELS_WITHIN_A_NEST, PHRASE_DEPTH, limits_of_phrases, phrases};
 pub use pw_declared::decl_rule;

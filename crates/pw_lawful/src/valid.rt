@@ -11,7 +11,7 @@ use crate::names::are_names_lawful;
 use pw_flow::{Block, End, FlowFn, FlowGlobal, FlowModule, Item, Op, kind_size};
 use pw_value::limits::{PARAMETER_LIMIT, ROOM_LIMIT, SIZE_LIMIT};
 use pw_value::program_names::is_ordinary;
-use pw_value::{Kind, round8};
+use pw_value::{Kind, slot_room};
 use std::alloc::{AllocError, Global};
 
 /// Whether an object of the kind has its size.
@@ -161,7 +161,7 @@ fn has_room(temps: u32, slots: &[u32]) -> bool
         if room > u64::from(ROOM_LIMIT) {
             return false;
         }
-        room += round8(u64::from(*size) + 1);
+        room += slot_room(*size);
     }
     room <= u64::from(ROOM_LIMIT)
 }

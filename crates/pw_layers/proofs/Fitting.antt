@@ -19,7 +19,7 @@ use Rattle.pw_flow.specs.declared.flow.FlowFn.{FlowFn}
 use Rattle.pw_webflow.specs.Direction.{register_of, read_of, write_of, directed_op, directed_block, directed}
 use Rattle.pw_flow.specs.FrameRooms as flow
 use Rattle.pw_flow.specs.FrameRooms.{flow_room}
-use Rattle.pw_flow.specs.ValidFlow.{slot_room}
+use Rattle.pw_value.specs.Rounding.{slot_room}
 use Rattle.pw_alloc.specs.declared.located.Place.{Place}
 use Rattle.pw_alloc.specs.declared.located.Place.TheVariants.{Slot, Reg}
 use Rattle.pw_alloc.specs.declared.located.Located.{Located}

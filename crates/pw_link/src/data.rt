@@ -10,7 +10,7 @@ ghost use Rattle.pw_link.specs.Views.{standing_view};
 
 use pw_flow::FlowGlobal;
 use pw_object::Object;
-use pw_value::round8;
+use pw_value::slot_room;
 use std::alloc::{AllocError, Global};
 
 /// An object at its offset from the start of the data.
@@ -20,11 +20,11 @@ pub(crate) struct Standing<'a> {
     pub global: &'a FlowGlobal,
 }
 
-/// What an object takes: its size and one byte, rounded up to a multiple of 8.
+/// What an object takes of the data.
 fn global_room(global: &FlowGlobal) -> u64
     ensures { result ≡ global_room global.now }
 {
-    round8(u64::from(global.size) + 1)
+    slot_room(global.size)
 }
 
 /// Adds the objects of a module.

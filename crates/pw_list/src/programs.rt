@@ -9,8 +9,8 @@ ghost use Rattle.pw_image.specs.Loading.{FailsLoad};
 ghost use Rattle.pw_list.specs.Listing.{IsByAddress, IsListing, IsListingOf, function_lines, lines_of, next_address, words_between};
 
 use crate::lines::push_words;
-use pw_db::refs_of;
 use pw_image::{Function, Image, LoadError, read_image};
+use pw_items::refs_of;
 use pw_value::limits::TEXT_START;
 use std::alloc::{AllocError, Global};
 

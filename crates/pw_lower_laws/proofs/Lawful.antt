@@ -9,7 +9,8 @@ use Rattle.pw_flow.specs.declared.flow.Op.TheVariants.{Const, Copy, Un, Bin, Ext
 use Rattle.pw_flow.specs.declared.flow.Block.{Block}
 use Rattle.pw_flow.specs.declared.flow.FlowFn.{FlowFn}
 use Rattle.pw_flow.specs.FrameRooms.{flow_room}
-use Rattle.pw_flow.specs.ValidFlow.{IsOp, IsBlock, IsFunction, rooms, slot_room}
+use Rattle.pw_value.specs.Rounding.{slot_room}
+use Rattle.pw_flow.specs.ValidFlow.{IsOp, IsBlock, IsFunction, rooms}
 use Rattle.pw_lower_laws.specs.Bounds.{IsBounded, IsBlockBounded, IsFunctionBounded}
 use Rattle.pw_lower_laws.specs.Ranges.{IsInRange, IsBlockInRange, IsFunctionInRange}
 

@@ -15,7 +15,7 @@ use Rattle.pw_flow.specs.declared.flow.Op.TheVariants as op
 use Rattle.pw_flow.specs.declared.flow.Block.{Block}
 use Rattle.pw_flow.specs.declared.flow.End.TheVariants.{Return}
 use Rattle.pw_flow.specs.FrameRooms.{most_arguments, flow_room}
-use Rattle.pw_flow.specs.ValidFlow.{slot_room}
+use Rattle.pw_value.specs.Rounding.{slot_room}
 use Rattle.pw_lower.specs.declared.code.Code.{Code}
 use Rattle.pw_lower.specs.declared.code.Numbered.{Numbered}
 use Rattle.pw_lower.specs.declared.place.LocalPlace.{LocalPlace}

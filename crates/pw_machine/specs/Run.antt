@@ -1,5 +1,6 @@
 -- One step of the machine over its input and output, and runs of many steps.
-use Rattle.std.specs.Prelude.{ℕ, zero, suc, ◌+◌, ◌-◌, ◌^◌, List, [], ◌∷◌, ◌++◌, Option, Some, None}
+use Rattle.std.specs.Prelude.{ℕ, zero, suc, ◌+◌, List, [], ◌∷◌, ◌++◌, Option, Some, None}
+use Rattle.pw_value.specs.Words.{end_of_input}
 use Rattle.pw_machine.specs.declared.ends.End.{End}
 use Rattle.pw_machine.specs.Core.{Core, with_register, advanced}
 use Rattle.pw_machine.specs.Effect.{Effect, Goes, Reads, Writes, Stops, effect_of}
@@ -22,7 +23,7 @@ answered core value = with_register (advanced core) 28 value
 -- what a read answers: the byte, or -1 at the end of the input
 abbrev pub input_word : Option ℕ → ℕ
 input_word (Some byte) = byte
-input_word None = 2 ^ 32 - 1
+input_word None = end_of_input
 
 -- BREAK 0,1 reads the first byte of the input.
 abbrev pub reads : Core → List ℕ → List ℕ → Progress

@@ -8,6 +8,7 @@ use crate::ends::{Stop, stop_of};
 use crate::execute::step;
 use crate::processor::{Outcome, Processor};
 use pw_io::{Failed, Sink, Source};
+use pw_value::words::END_OF_INPUT;
 
 /// What a run came to, and how many steps it took.
 #[derive(Clone, Copy)]
@@ -22,7 +23,7 @@ fn input_word(byte: Option<u8>) -> u32
 {
     match byte {
         Some(byte) => byte.into(),
-        None => u32::MAX,
+        None => END_OF_INPUT,
     }
 }
 

@@ -1,6 +1,7 @@
 //! What the routines do, wherever their words stand in a program's text.
 
-ghost use Rattle.std.specs.Prelude.{◌≡◌, ℕ, ◌+◌, ◌-◌, ◌*◌, ◌^◌, ◌++◌, List, [], ◌∷◌, length, Some};
+ghost use Rattle.std.specs.Prelude.{◌≡◌, ℕ, ◌+◌, ◌*◌, ◌++◌, List, [], ◌∷◌, length, Some};
+ghost use Rattle.pw_value.specs.Words.{end_of_input};
 ghost use Rattle.pw_machine.specs.declared.ends.End.TheVariants.{Ended};
 ghost use Rattle.pw_machine.specs.Run.{State, Running, Stopped, run_of};
 ghost use Rattle.pw_milli.specs.Words.{exit_words, getchar_words, putchar_words, divs_words, divu_words, mul_words, rems_words, remu_words};
@@ -54,7 +55,7 @@ pub fn getchar_reads()
     ensures byte { (address byte : ℕ) (rest : List ℕ) (s : State) → Enters getchar_words address s →
         s.rest ≡ byte ∷ rest → run_of 3 s ≡ Running (record (answers s byte) { rest = rest }) }
     ensures end { (address : ℕ) (s : State) → Enters getchar_words address s →
-        s.rest ≡ [] → run_of 3 s ≡ Running (answers s (2 ^ 32 - 1)) }
+        s.rest ≡ [] → run_of 3 s ≡ Running (answers s end_of_input) }
     ensures inside { (address : ℕ) (s : State) → Enters getchar_words address s → StaysInside address (address + 4 * length getchar_words) 3 s }
 {}
 

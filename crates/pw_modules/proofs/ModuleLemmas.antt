@@ -5,7 +5,7 @@ use Rattle.std.specs.List.{position_or_len}
 use Rattle.std.proofs.lemmas.List.{take-map, drop-map, map-append}
 use Rattle.std.proofs.lemmas.List.Elements.{All-nil, All-cons, All-append, All-take, All-drop, All-tail}
 use Rattle.pw_modules.specs.Modules.{is_module_file, IsModuleFile}
-use Rattle.pw_modules.specs.Reading.{is_before, placed, with_file, module_files}
+use Rattle.pw_modules.specs.Reading.{is_file_before, placed, with_file, module_files}
 
 -- what is left of a mapped list, from an element on
 pub mapped_rest : {A B : Type 0} (f : A → B) (xs : List A) (i : ℕ) (x : A) → i < length xs → x ≡ get_or xs i x → drop i (map f xs) ≡ f x ∷ drop (i + 1) (map f xs)
@@ -37,7 +37,7 @@ folded f b xs rest i x all inv e = sym (ap (fold f b) e) ∙ inv
 -- every file among the modules' files is a module's
 placed_modules : (files : List (List ℕ)) (file : List ℕ) → All IsModuleFile files → IsModuleFile file → All IsModuleFile (placed files file)
 placed_modules files file all h =
-    let at = position_or_len (is_before file) files in
+    let at = position_or_len (is_file_before file) files in
     All-append IsModuleFile (take at files) (file ∷ drop at files) (All-take IsModuleFile at files all) (All-cons IsModuleFile file (drop at files) h (All-drop IsModuleFile at files all))
 
 with_modules : (files : List (List ℕ)) (file : List ℕ) → All IsModuleFile files → All IsModuleFile (with_file files file)

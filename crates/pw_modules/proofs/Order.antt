@@ -17,7 +17,7 @@ use Rattle.pw_io.specs.Files.{Files, front_of}
 use Rattle.pw_io.proofs.FileMaps.{keys-order, keys-exact}
 use Rattle.pw_modules.specs.FileNames.{text_name}
 use Rattle.pw_modules.specs.Modules.{Source, stem, is_module_file, with_module, module_map, modules_of, names_of_modules, text_read}
-use Rattle.pw_modules.specs.Reading.{is_before, placed, with_file, module_files, sources_of}
+use Rattle.pw_modules.specs.Reading.{is_file_before, placed, with_file, module_files, sources_of}
 use Rattle.pw_modules.proofs.Exact.{file_split}
 
 -- the order of names
@@ -59,7 +59,7 @@ placed_put files file text names (x ∷ xs) is found ((own, some, (less, later))
     let t = there (finite.get files x) some in
     let e : Source = (stem x, front_of text_read t.0) in
     let s = sources_of files xs in
-    let p = position_or_len (is_before file) xs in
+    let p = position_or_len (is_file_before file) xs in
     elim (by_bytes k (stem x)) as (λ r. by_bytes k (stem x) ≡ r → sources_of files (insert (x ∷ xs) (cond (not (is_lt r)) (1 + p) 0) file) ≡ by_order r ((k, v) ∷ e ∷ s) ((stem x, v) ∷ s) (e ∷ put by_bytes k v s)) [
       | Less ↦ λ r. sources_first files file text (x ∷ xs) found ∙ ap (λ (l : List Source). (k, v) ∷ l) (sources_first files x t.0 xs t.1)
       | Equal ↦ λ r. absurd (apart file x is own less r)
@@ -86,7 +86,7 @@ stepped : (files modules : Files) (file : List ℕ) (names acc : List (List ℕ)
     × (sources_of files (cond b (placed acc file) acc) ≡ finite.entries (cond b (option_map_or (λ t. finite.insert modules (stem file) (front_of text_read t)) (finite.get files file) modules) modules))
 stepped files modules file names acc false text e found less all same = (one_fewer files file names acc all, same)
 stepped files modules file names acc true text e found less all same = (
-  all_insert (Stands files names) acc (position_or_len (is_before file) acc) file (e, is_some_of found, less) (one_fewer files file names acc all),
+  all_insert (Stands files names) acc (position_or_len (is_file_before file) acc) file (e, is_some_of found, less) (one_fewer files file names acc all),
   placed_put files file text names acc e found all
       ∙ ap (put by_bytes (stem file) (front_of text_read text)) same
       ∙ sym (entries-insert nat_list_cmp_total modules (stem file) (front_of text_read text))

@@ -2,19 +2,18 @@
 use Rattle.std.specs.Prelude.{ℕ, Bool, if◌then◌else◌, List, [], fold, Option, insert}
 use Rattle.std.specs.Option.{option_map}
 use Rattle.std.specs.List.{position_or_len, filter_map}
-use Rattle.std.specs.Ordering.{nat_cmp, is_lt}
-use Rattle.std.specs.Cmp.Lexicographic.{slice_cmp}
 use Rattle.std.specs.FinMap as finite
+use Rattle.pw_value.specs.Names.{is_before}
 use Rattle.pw_io.specs.Files.{Files, front_of}
 use Rattle.pw_modules.specs.Modules.{Source, stem, is_module_file, text_read}
 
 -- the one module stands before the other
-abbrev pub is_before : List ℕ → List ℕ → Bool
-is_before file other = is_lt (slice_cmp nat_cmp (stem file) (stem other))
+abbrev pub is_file_before : List ℕ → List ℕ → Bool
+is_file_before file other = is_before (stem file) (stem other)
 
 -- a file in its place among files in the order of their modules
 abbrev pub placed : List (List ℕ) → List ℕ → List (List ℕ)
-placed files file = insert files (position_or_len (is_before file) files) file
+placed files file = insert files (position_or_len (is_file_before file) files) file
 
 abbrev pub with_file : List (List ℕ) → List ℕ → List (List ℕ)
 with_file files file = if is_module_file file then placed files file else files

@@ -3,7 +3,7 @@
 ghost use Rattle.std.specs.Prelude.{◌≡◌, ◌≤◌, map, IfOk, OnOk, IfSome, string_bytes, length, take, ◌-◌, fold, [], count_by, All, vec_len};
 ghost use Rattle.std.specs.List.{list_all, position_or_len};
 ghost use Rattle.pw_modules.specs.Modules.{is_name_byte, is_module_name, is_module_file, IsModuleFile, stem, text_read};
-ghost use Rattle.pw_modules.specs.Reading.{is_before, placed, with_file, module_files};
+ghost use Rattle.pw_modules.specs.Reading.{is_file_before, placed, with_file, module_files};
 
 use crate::file_names::TEXT_ENDING;
 use crate::limits::MODULE_NAME_LIMIT;
@@ -62,8 +62,8 @@ pub fn stem(file: &str) -> &[u8]
 }
 
 /// Whether the module of one file stands before that of another.
-fn is_before(file: &str, other: &str) -> bool
-    ensures { result ≡ is_before file.now other.now }
+fn is_file_before(file: &str, other: &str) -> bool
+    ensures { result ≡ is_file_before file.now other.now }
 {
     stem(file).cmp(stem(other)).is_lt()
 }
@@ -79,11 +79,11 @@ fn place(files: &mut Vec<String>, file: String) -> Result<(), AllocError>
 
 /// The place of the first file whose module stands behind that of `file`, or the end.
 fn first_behind(files: &[String], file: &str) -> usize
-    ensures place { result ≡ position_or_len (is_before file.now) (map string_bytes files.now) }
+    ensures place { result ≡ position_or_len (is_file_before file.now) (map string_bytes files.now) }
     ensures within { result ≤ length files.now }
 {
     for (i, other) in files.iter().enumerate() {
-        if is_before(file, other.as_str()) {
+        if is_file_before(file, other.as_str()) {
             return i;
         }
     }

@@ -12,10 +12,12 @@ ghost use Rattle.pw_object.specs.Object.{kind, object_version, IsObjectFile};
 ghost use Rattle.pw_object.specs.Reading.{function_at, fields_at, object_file_at};
 
 use crate::object::VERSION;
+use crate::reading::KIND;
 
-/// The version is the one that its definition speaks of.
+/// The kind and the version of the file are those that its definition speaks of.
 pub fn version_of_objects()
-    ensures { VERSION ≡ object_version }
+    ensures kind { KIND ≡ kind }
+    ensures version { VERSION ≡ object_version }
 {}
 
 /// What is read of a function is spelled so, and its fixes name words of it.

@@ -12,6 +12,7 @@ use Rattle.pw_inst.specs.declared.relocation.Symbol.TheVariants.{Named}
 use Rattle.pw_webflow.specs.declared.web.WebOp.{WebOp}
 use Rattle.pw_webflow.specs.declared.web.WebOp.TheVariants.{Flow, Read, Write}
 use Rattle.pw_alloc.specs.declared.located.Place.{Place}
+use Rattle.pw_alloc.specs.Frames.{first_stacked, below}
 use Rattle.pw_registers.specs.Arithmetic.{unary_word, routine_of, extension_word, with_one, with_none, binary_by}
 use Rattle.pw_registers.specs.Registers.{word, copied, constant, address_of, frame_address, store_to, place_of, operand_register, operand_lines, loaded, load_scalar, store_scalar, sign_spread, read_global, write_global}
 
@@ -79,11 +80,11 @@ register_arguments r (a ∷ rest) = loaded a r ++ register_arguments (r - 1) res
 -- the arguments behind the fourth go first, since the registers are free for them then
 abbrev pub called : List ℕ → List Place → List Line
 called f args =
-    stacked_arguments (neg_ℤ (pos 52)) (drop 4 args) ++ register_arguments (argument_register 0) (take 4 args) ++ CallTo (Named f) return_address ∷ []
+    stacked_arguments (below first_stacked) (drop 4 args) ++ register_arguments (argument_register 0) (take 4 args) ++ CallTo (Named f) return_address ∷ []
 
 abbrev pub called_by_value : Place → List Place → List Line
 called_by_value f args =
-    stacked_arguments (neg_ℤ (pos 52)) (drop 4 args) ++ loaded f first ++ register_arguments (argument_register 0) (take 4 args) ++ CallReg ∷ []
+    stacked_arguments (below first_stacked) (drop 4 args) ++ loaded f first ++ register_arguments (argument_register 0) (take 4 args) ++ CallReg ∷ []
 
 -- a call's result, where it has a temporary
 abbrev pub call_result : List Place → Option ℕ → List Line

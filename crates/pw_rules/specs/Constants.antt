@@ -13,7 +13,7 @@ use Rattle.pw_types.specs.TypedTrees.{Symbol, Hidden, Expression, Node, type_at}
 use Rattle.pw_types.specs.TypedTrees as T
 use Rattle.pw_types.specs.Layouts.{size_of}
 use Rattle.pw_value.specs.Values.{extended}
-use Rattle.pw_value.specs.Words.{is_negative, magnitude, signed_sum, signed_difference, signed_product, signed_negation, signed_quotient, signed_remainder, signed_less, signed_at_most, signed_shift_right, unsigned_sum, unsigned_difference, unsigned_product, unsigned_negation, unsigned_quotient, unsigned_remainder, unsigned_less, unsigned_at_most, unsigned_shift_right, shift_left}
+use Rattle.pw_value.specs.Words.{complement, is_negative, magnitude, signed_sum, signed_difference, signed_product, signed_negation, signed_quotient, signed_remainder, signed_less, signed_at_most, signed_shift_right, unsigned_sum, unsigned_difference, unsigned_product, unsigned_negation, unsigned_quotient, unsigned_remainder, unsigned_less, unsigned_at_most, unsigned_shift_right, shift_left}
 use Rattle.pw_value.specs.declared.words.WordFault.{WordFault}
 use Rattle.pw_rules.specs.Kinds.{is_pointer, kind_in, pointee}
 use Rattle.pw_types.specs.WellTyped.{type_in}
@@ -48,15 +48,11 @@ truth false = 0
 abbrev pub convert_word : IntKind → ℕ → ℕ
 convert_word kind n = extended (size_of_kind kind) (is_signed_kind kind) (n % 256 ^ size_of_kind kind)
 
--- the bits of a word inverted
-abbrev pub complement_word : ℕ → ℕ
-complement_word n = 2 ^ 32 - 1 - n
-
 -- unary operators on a word of the type
 abbrev pub unary_word : UnaryOperator → IntKind → ℕ → Constancy
 unary_word U.Plus kind n = Known n
 unary_word U.Minus kind n = if is_signed_kind kind then by_result (signed_negation n) else Known (unsigned_negation n)
-unary_word U.Complement kind n = Known (complement_word n)
+unary_word U.Complement kind n = Known (complement n)
 unary_word U.Not kind n = Known (truth (n == 0))
 
 -- by whether the operands are signed: the signed operation, or the unsigned one

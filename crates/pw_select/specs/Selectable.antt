@@ -4,7 +4,7 @@ use Rattle.std.specs.List.{AllByRecursion}
 use Rattle.pw_value.specs.Limits.{parameter_limit}
 use Rattle.pw_webflow.specs.declared.web.WebBlock.{WebBlock}
 use Rattle.pw_alloc.specs.declared.located.Located.{Located}
-use Rattle.pw_alloc.specs.Frames.{most_arguments, ops_of, head_size}
+use Rattle.pw_alloc.specs.Frames.{first_stacked, most_arguments, ops_of, head_size}
 use Rattle.pw_oplines.specs.Selectable.{IsSelectable}
 
 abbrev pub IsSelectableBlock : WebBlock → Type 0
@@ -14,4 +14,4 @@ IsSelectableBlock b = AllByRecursion IsSelectable b.ops
 pub record IsFrame (f : Located) : Type 0 where
   pub arguments : most_arguments (ops_of f.body) ≤ parameter_limit
   pub saved : head_size f.body + 4 * length f.saved < 2 ^ 31
-  pub frame : f.frame + 52 + 4 * f.body.params < 2 ^ 31
+  pub frame : f.frame + first_stacked + 4 * f.body.params < 2 ^ 31

@@ -1,5 +1,5 @@
 -- Selection: the prologue, the blocks in order, and at each return the epilogue.
-use Rattle.std.specs.Prelude.{ℕ, zero, suc, ℤ, pos, neg_ℤ, ◌+◌, ◌-◌, ◌*◌, ◌==◌, ◌&&◌, nat_lt, false, if◌then◌else◌, Option, Some, None, List, [], ◌∷◌, ◌++◌, map, length}
+use Rattle.std.specs.Prelude.{ℕ, zero, suc, ℤ, pos, ◌+◌, ◌-◌, ◌*◌, ◌==◌, ◌&&◌, nat_lt, false, if◌then◌else◌, Option, Some, None, List, [], ◌∷◌, ◌++◌, map, length}
 use Rattle.std.specs.List.{flat_map}
 use Rattle.pw_flow.specs.declared.flow.End.{End}
 use Rattle.pw_flow.specs.declared.flow.End.TheVariants as end
@@ -16,7 +16,7 @@ use Rattle.pw_webflow.specs.declared.web.WebBlock.{WebBlock}
 use Rattle.pw_alloc.specs.declared.located.Place.{Place}
 use Rattle.pw_alloc.specs.declared.located.Place.TheVariants.{Slot, Reg}
 use Rattle.pw_alloc.specs.declared.located.Located.{Located}
-use Rattle.pw_alloc.specs.Frames.{head_size, saved_offset, slots_begin, reaches_from, below}
+use Rattle.pw_alloc.specs.Frames.{first_stacked, link_place, head_size, saved_offset, slots_begin, reaches_from, below}
 use Rattle.pw_alloc.specs.Allocation.{is_entry, in_frame}
 use Rattle.pw_registers.specs.Registers.{word, copied, constant, address_of, load_from, store_to, place_of, operand_register, operand_lines, loaded, read_global, write_global}
 use Rattle.pw_oplines.specs.Operations.{layout, web_op_lines}
@@ -67,7 +67,7 @@ webs_stored webs = entered_lines stored_back webs first_register register_count
 -- the first four come in registers; the others from the caller's frame
 abbrev pub incoming : ℕ → ℕ → ℕ → List Line
 incoming frame k d =
-    if nat_lt k 4 then copied (argument_register k) d else load_from (below (frame + 52 + 4 * (k - 4))) d
+    if nat_lt k 4 then copied (argument_register k) d else load_from (below (frame + first_stacked + 4 * (k - 4))) d
 
 abbrev pub parameter_in : ℕ → ℕ → Place → List Line
 parameter_in frame k (Reg r) = incoming frame k r
@@ -92,7 +92,7 @@ abbrev pub entry_lines : ℕ → List Line
 entry_lines frame =
     address_of StackLimit 0 second ++ frame_end frame
     ++ Plain (i.Comclr 5 false help second 0) ∷ Plain (i.Break 0 4)
-    ∷ Plain (i.Stw return_address (neg_ℤ (pos 20)) stack_pointer) ∷ copied help stack_pointer
+    ∷ Plain (i.Stw return_address (below link_place) stack_pointer) ∷ copied help stack_pointer
 
 abbrev pub prologue : Located → List Line
 prologue f =
@@ -109,7 +109,7 @@ abbrev pub epilogue : Located → List Line
 epilogue f =
     webs_stored f.body.directives.webs
     ++ saved_lines load_from (head_size f.body) 0 f.saved
-    ++ load_from (below (f.frame + 20)) return_address
+    ++ load_from (below (f.frame + link_place)) return_address
     ++ frame_left f.frame
     ++ Leave ∷ []
 

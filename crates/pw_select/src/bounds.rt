@@ -1,13 +1,13 @@
 //! The prologue and the epilogue.
 
 ghost use Rattle.std.specs.Prelude.{◌≡◌, ◌<◌, ◌+◌, ◌*◌, ◌^◌, ◌++◌, length, OnOk};
-ghost use Rattle.pw_alloc.specs.Frames.{head_size};
+ghost use Rattle.pw_alloc.specs.Frames.{first_stacked, head_size};
 ghost use Rattle.pw_registers.specs.Registers.{load_from, store_to};
 ghost use Rattle.pw_select.specs.Selection.{saved_lines, incoming, parameter_in, parameters_in, frame_end, frame_left, entry_lines, prologue, epilogue};
 ghost use Rattle.pw_select.specs.Selectable.{IsFrame};
 
 use crate::webs::{put_webs_loaded, put_webs_stored};
-use pw_alloc::{Located, Place, below, head_size};
+use pw_alloc::{FIRST_STACKED, LINK_PLACE, Located, Place, below, head_size};
 use pw_inst::{
     ARGUMENT, FIRST, HELP, Inst, Line, NEAR_LEAST, NEAR_MOST, RETURN_ADDRESS, SECOND,
     STACK_POINTER, Symbol,
@@ -48,19 +48,19 @@ fn put_restores(out: &mut Items<Line>, head: u32, saved: &[u8]) -> Result<(), Al
 
 /// A parameter comes to a register: the first four from registers, the others from the caller's frame.
 fn put_incoming(out: &mut Items<Line>, frame: u32, k: u32, d: u8) -> Result<(), AllocError>
-    requires { frame + 52 + 4 * k < 2 ^ 31 }
+    requires { frame + first_stacked + 4 * k < 2 ^ 31 }
     ensures { OnOk result (out.new ≡ out.old ++ incoming frame k d) }
 {
     if k < 4 {
         put_copy(out, ARGUMENT - k as u8, d)
     } else {
-        put_load(out, below(frame + 52 + 4 * (k - 4)), d)
+        put_load(out, below(frame + FIRST_STACKED + 4 * (k - 4)), d)
     }
 }
 
 /// A parameter comes to its place.
 fn put_parameter(out: &mut Items<Line>, frame: u32, k: u32, place: Place) -> Result<(), AllocError>
-    requires { frame + 52 + 4 * k < 2 ^ 31 }
+    requires { frame + first_stacked + 4 * k < 2 ^ 31 }
     ensures { OnOk result (out.new ≡ out.old ++ parameter_in frame k place) }
 {
     match place {
@@ -78,7 +78,7 @@ fn put_parameters(
     places: &[Place],
     count: u32,
 ) -> Result<(), AllocError>
-    requires { frame + 52 + 4 * count < 2 ^ 31 }
+    requires { frame + first_stacked + 4 * count < 2 ^ 31 }
     ensures { OnOk result (out.new ≡ out.old ++ parameters_in frame places.now 0 count) }
 {
     for k in 0..count {
@@ -139,7 +139,7 @@ fn put_entry(alloc: Global, out: &mut Items<Line>, frame: u32) -> Result<(), All
         out,
         Inst::Stw {
             r: RETURN_ADDRESS,
-            im: -20,
+            im: below(LINK_PLACE),
             b,
         },
     )?;
@@ -191,7 +191,7 @@ pub fn put_epilogue(
 {
     put_webs_stored(alloc, out, f.body.directives.webs.as_slice())?;
     put_restores(out, head, f.saved.as_slice())?;
-    put_load(out, below(f.frame + 20), RETURN_ADDRESS)?;
+    put_load(out, below(f.frame + LINK_PLACE), RETURN_ADDRESS)?;
     put_frame_left(out, f.frame)?;
     out.push(Line::Leave)
 }

@@ -7,11 +7,12 @@ ghost use Rattle.pw_summary.specs.declared.summary.Summary.{Summary};
 ghost use Rattle.pw_summary.specs.Summary.{IsSummaryFile, kind, summary_version};
 ghost use Rattle.pw_summary.specs.Reading.{fields_at, summary_file_at};
 
-use crate::reading::VERSION;
+use crate::reading::{KIND, VERSION};
 
-/// The version is the one that its definition speaks of.
+/// The kind and the version of the file are those that its definition speaks of.
 pub fn version_of_summaries()
-    ensures { VERSION ≡ summary_version }
+    ensures kind { KIND ≡ kind }
+    ensures version { VERSION ≡ summary_version }
 {}
 
 /// No bytes are the file of two summaries, and no summary has two files.

@@ -8,10 +8,14 @@ ghost use Rattle.pw_typed.specs.Views as view;
 
 use crate::spines::first_operand;
 use crate::tree::{Arm, Initialiser, Local, TExpr, TForm, TFunction, TStmt, TStmtForm};
-use pw_types::{Types, cap, round_up, size};
+use pw_types::{Types, round_up, size};
+use pw_value::cap;
 
 /// The room of the function that the program starts with, which calls `main`.
 pub const START_ROOM: u64 = 256;
+
+/// What a parameter takes of a function's room beside its local.
+pub const PARAMETER_ROOM: u64 = 8;
 
 /// What a node of a function's body takes of its room.
 pub const NODE_ROOM: u64 = 16;
@@ -19,6 +23,7 @@ pub const NODE_ROOM: u64 = 16;
 /// The numbers of rooms are those that the definitions speak of.
 pub fn numbers_of_rooms()
     ensures start { START_ROOM ≡ spec.start_room }
+    ensures parameter { PARAMETER_ROOM ≡ spec.parameter_room }
     ensures node { NODE_ROOM ≡ spec.node_room }
 {}
 
@@ -184,7 +189,7 @@ fn nodes_of_three(a: &Option<TExpr>, b: &Option<TExpr>, c: &Option<TExpr>) -> u6
 }
 
 /// The room of a function, which bounds its frame (in bytes): for each local and parameter its size
-/// and one byte, rounded up to a multiple of 8; 8 for each parameter; `NODE_ROOM` for each node of its
+/// and one byte, rounded up to a multiple of 8; `PARAMETER_ROOM` for each parameter; `NODE_ROOM` for each node of its
 /// body; and `START_ROOM`. It is the greatest u64 where it would be more.
 pub fn room(types: &Types, f: &TFunction) -> u64
     ensures { result ≡ capped (spec.room_of types.now (view.view_function f.now)) }
@@ -193,7 +198,7 @@ pub fn room(types: &Types, f: &TFunction) -> u64
     for local in &f.locals {
         room = room.saturating_add(local_room(types, local));
     }
-    room.saturating_add(8 * u64::from(f.params))
+    room.saturating_add(PARAMETER_ROOM * u64::from(f.params))
         .saturating_add(stmt_nodes(&f.body).saturating_mul(NODE_ROOM))
 }
 

@@ -1,9 +1,10 @@
 -- The nodes of typed trees, and the room of a function: a bound on its frame that can be told from its typed tree.
 use Rattle.std.specs.Prelude.{ℕ, ◌+◌, ◌*◌, Option, None, Some, unwrap_or, List, length, sum_by}
+use Rattle.pw_value.specs.Rounding.{slot_room}
 use Rattle.pw_types.specs.TypeTrees.{RecordValue, type_of}
 use Rattle.pw_types.specs.TypedTrees.{Expression, Node, Form, Number, Str, Local, Global, Function, Unary, Binary, Logic, Cond, Comma, Assign, Compound, Step, Cast, Decay, Member, Deref, Address, Call, CallValue, Expressions, NoExpression, OneExpression, Initialiser, Value, Bytes, LocalValue, FunctionValue}
 use Rattle.pw_types.specs.TypedTrees.{Statement, Empty, Evaluate, Block, If, While, Do, For, Switch, Label, Goto, Break, Continue, Return, Arms, NoArm, Arm, Otherwise, NoElse, Else, Statements, NoStatement, OneStatement}
-use Rattle.pw_types.specs.Layouts.{size_of, round_up}
+use Rattle.pw_types.specs.Layouts.{size_of}
 
 -- the nodes of an expression, itself included
 abbrev mutual
@@ -82,7 +83,7 @@ local_size records local = unwrap_or (size_of records (type_of local.ty)) 0
 
 -- what a local or parameter takes: its size and one byte, rounded up to a multiple of 8
 abbrev pub local_room : List RecordValue → LocalValue → ℕ
-local_room records local = round_up (local_size records local + 1) 8
+local_room records local = slot_room (local_size records local)
 
 -- the nodes of a function: those of its body, the block included
 abbrev pub nodes_of : FunctionValue → ℕ
@@ -92,9 +93,13 @@ nodes_of f = stmt_nodes f.body
 abbrev pub start_room : ℕ
 start_room = 256
 
+-- what a parameter takes beside its local
+abbrev pub parameter_room : ℕ
+parameter_room = 8
+
 -- what a node of the body takes
 abbrev pub node_room : ℕ
 node_room = 16
 
 abbrev pub room_of : List RecordValue → FunctionValue → ℕ
-room_of records f = sum_by (local_room records) f.locals + 8 * f.params + node_room * nodes_of f + start_room
+room_of records f = sum_by (local_room records) f.locals + parameter_room * f.params + node_room * nodes_of f + start_room

@@ -11,12 +11,12 @@ ghost use Rattle.pw_types.specs.TypeTrees.{type_of};
 ghost use Rattle.pw_types.specs.Views.{view_type, view_members, view_content};
 
 use crate::depths::depth;
-use crate::layouts::{cap, clip, is_object_type, layout, round_up};
+use crate::layouts::{is_object_type, layout, round_up};
 use crate::record::{Content, Layout, Member, RecordKind};
 use crate::shapes::{closing, opening, push_shape};
 use crate::types::Types;
 use pw_value::limits::{DEPTH_LIMIT, SHAPE_LIMIT, SIZE_LIMIT};
-use pw_value::{Shape, push_decimal};
+use pw_value::{Shape, cap, clip, push_decimal};
 use std::alloc::{AllocError, Global};
 
 /// Why a structure or union type is refused: its size, the length of its shape or its depth passes the

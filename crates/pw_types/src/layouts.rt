@@ -1,7 +1,7 @@
 //! Sizes and alignments of types (ISO C90 6.1.2.5), and the limit on sizes.
 
 ghost use Rattle.std.specs.Prelude.{◌≡◌, ◌≤◌, ◌<◌, ◌+◌, ◌*◌, ◌^◌, ◌↔◌, IsTrue, option_map, option_and_then, IfSome, IfOk, IfErr, OnOk};
-ghost use Rattle.pw_value.specs.Caps.{clipped, capped};
+ghost use Rattle.pw_value.specs.Caps.{capped};
 ghost use Rattle.pw_types.specs.Layouts as spec;
 ghost use Rattle.pw_value.specs.Limits.{size_limit};
 ghost use Rattle.pw_types.specs.Records.{IsObjectType};
@@ -166,18 +166,4 @@ pub fn round_up(number: u128, align: u32) -> u128
 {
     let align = u128::from(align);
     (number + (align - 1)) / align * align
-}
-
-/// A number as far as 32 bits can tell it.
-pub(crate) fn clip(number: u128) -> u32
-    ensures { result ≡ clipped number }
-{
-    number.min(4294967295) as u32
-}
-
-/// A number as far as 64 bits can tell it.
-pub fn cap(number: u128) -> u64
-    ensures { result ≡ capped number }
-{
-    number.min(18446744073709551615) as u64
 }

@@ -17,7 +17,7 @@ pub use ctype::{CType, QType, Signature};
 pub use depths::depth;
 pub use kind::{IntKind, convert, promote, usual};
 pub use kinds::{is_array, is_function, is_integral, is_pointer, is_record, is_scalar, is_void};
-pub use layouts::{cap, is_object_type, layout, oversize, round_up, size};
+pub use layouts::{is_object_type, layout, oversize, round_up, size};
 pub use record::{Content, Layout, Member, RecordKind, RecordType};
 pub use shapes::shape;
 pub use tree::{BinaryOperator, LogicOperator, StepOperator, UnaryOperator};

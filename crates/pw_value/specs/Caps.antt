@@ -1,4 +1,4 @@
--- Numbers as far as a word of the machine can tell them: a greater one is the greatest that it can.
+-- Numbers as far as so many bits can tell them: a greater one is the greatest that they can.
 use Rattle.std.specs.Prelude.{ℕ, ◌-◌, ◌^◌, min}
 
 -- in 32 bits

@@ -5,6 +5,10 @@ use Rattle.std.specs.Prelude.{ℕ, ◌+◌, ◌/◌, ◌*◌}
 abbrev pub round8 : ℕ → ℕ
 round8 n = (n + 7) / 8 * 8
 
+-- what an object takes of a frame or of the data: a byte more than its size, rounded up to a multiple of 8
+abbrev pub slot_room : ℕ → ℕ
+slot_room size = round8 (size + 1)
+
 -- a number of bytes rounded up to a multiple of 64
 abbrev pub round64 : ℕ → ℕ
 round64 n = (n + 63) / 64 * 64

@@ -16,6 +16,14 @@ word z = cast_unsigned w32 z
 abbrev pub int_most : ℕ
 int_most = 2 ^ 31 - 1
 
+-- what a read of a byte answers at the end of the input: the word of -1 (7.9.7.6)
+abbrev pub end_of_input : ℕ
+end_of_input = 2 ^ 32 - 1
+
+-- the bits of a word inverted (6.3.3.3)
+abbrev pub complement : ℕ → ℕ
+complement a = 2 ^ 32 - 1 - a
+
 -- whether a word stands for a negative number, where it is an int's or an unsigned int's; and how far from 0
 -- the number is that it stands for, where it is negative or not
 abbrev pub is_negative : Bool → ℕ → Bool

@@ -2,6 +2,7 @@
 //! types, what a C program's expressions and objects hold, limits, and faults that several layers answer.
 #![tactic(auto)]
 
+pub mod caps;
 pub mod codec;
 pub mod decimal;
 pub mod fault;
@@ -14,11 +15,12 @@ pub mod shape;
 pub mod value;
 pub mod words;
 
+pub use caps::{cap, clip};
 pub use codec::{decode, decode_pointer, encode};
 pub use decimal::push_decimal;
 pub use fault::{FileError, LinkFault, What};
 pub use name::{Name, NameError};
-pub use rounding::{round8, stack_start};
+pub use rounding::{round8, slot_room, stack_start};
 pub use shape::{Shape, agree};
 pub use std::alloc::AllocError as NoMemory;
 pub use value::{Byte, Kind, Pointer, Value};

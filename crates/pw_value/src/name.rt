@@ -62,7 +62,7 @@ impl Name {
         })
     }
 
-    /// The name of these bytes, where no rule lets others come than a name may have.
+    /// The name of these bytes, which the rules that the caller keeps to let a name have.
     ///
     /// # Errors
     ///

@@ -51,10 +51,21 @@ pub fn next_word(count: u32) -> Result<u32, AllocError>
 /// The greatest int.
 pub const INT_MOST: u32 = (1 << 31) - 1;
 
-/// The greatest int is that of the definitions.
-pub fn int_most_is_the_greatest_int()
-    ensures { INT_MOST ≡ spec.int_most }
+/// What a read of a byte answers at the end of the input: the word of -1 (7.9.7.6).
+pub const END_OF_INPUT: u32 = u32::MAX;
+
+/// The greatest int, and the word of the end of the input, are those of the definitions.
+pub fn words_with_names()
+    ensures int_most { INT_MOST ≡ spec.int_most }
+    ensures end_of_input { END_OF_INPUT ≡ spec.end_of_input }
 {}
+
+/// The bits of a word inverted (6.3.3.3).
+pub fn complement(a: u32) -> u32
+    ensures { result ≡ spec.complement a }
+{
+    u32::MAX - a
+}
 
 /// Whether a word stands for a negative number, where it is an int's or an unsigned int's.
 pub fn is_negative(signed: bool, a: u32) -> bool

@@ -2,7 +2,7 @@
 -- other by its number in the frame. It differs from the run of flow graphs in this: accesses of a directed global go
 -- to its register; a function saves registers at its start and restores them at its end; an entry of a web loads
 -- the global at its start, and stores it back at its end where the web writes.
-use Rattle.std.specs.Prelude.{ℕ, zero, suc, ◌+◌, ◌-◌, ◌%◌, ◌^◌, ◌==◌, nat_lt, nat_le, ◌&&◌, ◌||◌, Bool, true, false, if◌then◌else◌, Option, Some, None, option_map, List, [], ◌∷◌, ◌++◌, map, find, length, replicate, slice_get, slice_set, slice_index_or, sum_by}
+use Rattle.std.specs.Prelude.{ℕ, zero, suc, ◌+◌, ◌-◌, ◌%◌, ◌==◌, nat_lt, nat_le, ◌&&◌, ◌||◌, Bool, true, false, if◌then◌else◌, Option, Some, None, option_map, List, [], ◌∷◌, ◌++◌, map, find, length, replicate, slice_get, slice_set, slice_index_or, sum_by}
 use Rattle.std.specs.List.{flat_map, list_any}
 use Rattle.std.specs.Str.{bytes_eq}
 use Rattle.pw_value.specs.declared.value.Kind.{Kind}
@@ -12,6 +12,7 @@ use Rattle.pw_value.specs.declared.value.Byte.{Byte}
 use Rattle.pw_value.specs.declared.value.Pointer.TheVariants as P
 use Rattle.pw_value.specs.ProgramNames.{start_name, exit_name, getchar_name, putchar_name}
 use Rattle.pw_value.specs.Objects.{Object, object_at}
+use Rattle.pw_value.specs.Words.{end_of_input}
 use Rattle.pw_db.specs.Limits.{last_register, last_temporary, kept_registers}
 use Rattle.pw_db.specs.declared.database.Web.{Web}
 use Rattle.pw_db.specs.declared.database.Role.{Role}
@@ -218,7 +219,7 @@ abbrev pub calls_library : PlacedProgram → Library → Option ℕ → List Val
 calls_library p GetChar t [] m = reads m.rest
   where
     reads : List ℕ → Step
-    reads [] = gives_back p getchar_name t (Num (2 ^ 32 - 1)) (library_call p getchar_name m)
+    reads [] = gives_back p getchar_name t (Num end_of_input) (library_call p getchar_name m)
     reads (byte ∷ rest) =
         gives_back p getchar_name t (Num byte) (record (library_call p getchar_name m) { rest = rest; read = m.read + 1 })
 calls_library p PutChar t (Num n ∷ []) m =

@@ -13,7 +13,7 @@ use Rattle.pw_tree.specs.WellFormed.{WellFormedBlock, WellFormedFunction, WellFo
 use Rattle.pw_lower_laws.specs.Parts.{partless}
 use Rattle.pw_types.specs.Records.{IsObjectType}
 use Rattle.pw_types.specs.Layouts.{round_up}
-use Rattle.pw_types.specs.Rooms.{local_room, room_of, nodes_of, node_room, start_room}
+use Rattle.pw_types.specs.Rooms.{local_room, room_of, nodes_of, parameter_room, node_room, start_room}
 use Rattle.pw_types.specs.TypeTrees.{Void, Int, Pointer, Array, Function as FunctionType, Record, QType, Qualified, QTypes, type_of, RecordValue}
 use Rattle.pw_types.specs.WellTyped.{IsScalar}
 use Rattle.pw_types.specs.TypedTrees.{FunctionValue, LocalValue, ModuleValue}
@@ -127,7 +127,7 @@ kept_later a b f x h = record {
   params = h.params;
   locals = λ k l e. object_later a b x (type_of l.ty) (h.locals k l e);
   parts = h.parts;
-  room = subst (λ n. ((n + 8 * f.params) + node_room * nodes_of f) + start_room ≤ room_limit) (sym (rooms_same a b f.locals x h.locals)) h.room;
+  room = subst (λ n. ((n + parameter_room * f.params) + node_room * nodes_of f) + start_room ≤ room_limit) (sym (rooms_same a b f.locals x h.locals)) h.room;
 }
 
 abbrev AreKept : List RecordValue → List FunctionValue → Type 0

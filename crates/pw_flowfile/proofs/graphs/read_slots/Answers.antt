@@ -10,7 +10,7 @@ returns-in_err-slot c =
 
 pub loop-preserved : goal.loop-preserved
 loop-preserved c =
-    rw (c.in_ok-push.ensures, c.room_of_slot-used.ensures) (goes_on slot_at next_room c.loop.slots c.args.count c.loop.counter c.loop.used c.loop.rest.now c.in_ok-slot.slot c.in_ok-slot.after.now _ c.loop-test.true c.in_ok-slot.ensures.found c.loop.invariant)
+    rw (c.in_ok-push.ensures, c.slot_room-used.ensures.value) (goes_on slot_at next_room c.loop.slots c.args.count c.loop.counter c.loop.used c.loop.rest.now c.in_ok-slot.slot c.in_ok-slot.after.now _ c.loop-test.true c.in_ok-slot.ensures.found c.loop.invariant)
 
 pub returns : goal.returns
 returns c = is_done slot_at next_room c.loop.slots c.args.count c.loop.counter c.loop.used c.loop.rest.now _ c.loop-test.false c.loop.invariant
