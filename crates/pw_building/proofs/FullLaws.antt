@@ -4,7 +4,8 @@ use Rattle.std.specs.List.{AllByRecursion}
 use Rattle.std.specs.FinMap as finite
 use Rattle.pw_io.specs.Files.{Files, Told}
 use Rattle.pw_object.specs.declared.object.Object.{Object}
-use Rattle.pw_image.specs.Image.{Contents, ImageValue, IsImageFile}
+use Rattle.pw_image.specs.declared.image.Image.{Image}
+use Rattle.pw_image.specs.Image.{Contents, IsImageFile}
 use Rattle.pw_link.specs.Linking.{linked}
 use Rattle.pw_modules.specs.FileNames.{database_name, image_name, object_name}
 use Rattle.pw_modules.specs.Modules.{Source, module_map, modules_of, names_of_modules}
@@ -37,7 +38,7 @@ abbrev HasOneBuild : Type 0
 HasOneBuild = (sources : List Source) (kept : List (Option Object)) (colours stack : ℕ) (a b : Result Parts BuildFault) → colours ≤ colour_limit → Builds sources kept colours stack a → Builds sources kept colours stack b → a ≡ b
 
 abbrev HasOneFile : Type 0
-HasOneFile = (bytes others : List ℕ) (c d : Contents ImageValue) → IsImageFile bytes c → IsImageFile others d → c.value ≡ d.value → bytes ≡ others
+HasOneFile = (bytes others : List ℕ) (c d : Contents Image) → IsImageFile bytes c → IsImageFile others d → c.value ≡ d.value → bytes ≡ others
 
 pub one_image : HasOneBuild → HasOneFile → (texts : Texts) (colours stack : ℕ) (a b : Result (List ℕ) BuildFault) → colours ≤ colour_limit → BuildsImage texts colours stack a → BuildsImage texts colours stack b → a ≡ b
 one_image build file texts colours stack (Ok x) (Ok y) few a b =

@@ -5,7 +5,8 @@ use Rattle.pw_db.specs.declared.database.Directives.{Directives}
 use Rattle.pw_db.specs.Database.{IsDatabaseFile}
 use Rattle.pw_object.specs.declared.object.Object.{Object}
 use Rattle.pw_object.specs.Object.{IsObjectFile}
-use Rattle.pw_image.specs.Image.{Contents, ImageValue, IsImageFile}
+use Rattle.pw_image.specs.declared.image.Image.{Image}
+use Rattle.pw_image.specs.Image.{Contents, IsImageFile}
 use Rattle.pw_modules.specs.FileNames.{database_name, image_name}
 use Rattle.pw_modules.specs.Modules.{Source, modules_of, names_of_modules}
 use Rattle.pw_answer.specs.Effects.{NamedFile}
@@ -20,7 +21,7 @@ use Rattle.pw_db.specs.Limits.{colour_limit}
 pub record Laws : Type 0 where
   pub build : (sources : List Source) (kept : List (Option Object)) (colours stack : ℕ) (a b : Result Parts BuildFault) → colours ≤ colour_limit → Builds sources kept colours stack a → Builds sources kept colours stack b → a ≡ b
   pub database : (bytes others : List ℕ) (fs : List (List ℕ × Directives)) → IsDatabaseFile bytes fs → IsDatabaseFile others fs → bytes ≡ others
-  pub image : (bytes others : List ℕ) (c d : Contents ImageValue) → IsImageFile bytes c → IsImageFile others d → c.value ≡ d.value → bytes ≡ others
+  pub image : (bytes others : List ℕ) (c d : Contents Image) → IsImageFile bytes c → IsImageFile others d → c.value ≡ d.value → bytes ≡ others
   pub object : (bytes others : List ℕ) (o : Object) → IsObjectFile bytes o → IsObjectFile others o → bytes ≡ others
 
 ok_one : (a b : Parts) → ◌≡◌ {A = Result Parts BuildFault} (Ok a) (Ok b) → a ≡ b

@@ -5,7 +5,8 @@ use Rattle.std.specs.declared.alloc.Global.{Global}
 use Rattle.pw_io.specs.Files.{Files, Told, Keeps}
 use Rattle.pw_value.specs.declared.fault.LinkFault.{LinkFault}
 use Rattle.pw_object.specs.declared.object.Object.{Object}
-use Rattle.pw_image.specs.Image.{Contents, ImageValue, IsImageFile}
+use Rattle.pw_image.specs.declared.image.Image.{Image}
+use Rattle.pw_image.specs.Image.{Contents, IsImageFile}
 use Rattle.pw_link.specs.Linking.{linked, AreLinked, IsRefusal}
 use Rattle.pw_modules.specs.FileNames.{image_name}
 use Rattle.pw_answer.specs.declared.answer.Answer.{Answer}
@@ -54,7 +55,7 @@ obeys_no_memory comes told new e = record {
 
 -- two images of one program have one file
 abbrev pub OneFile : Type 0
-OneFile = (bytes others : List ℕ) (c d : Contents ImageValue) → IsImageFile bytes c → IsImageFile others d → c.value ≡ d.value → bytes ≡ others
+OneFile = (bytes others : List ℕ) (c d : Contents Image) → IsImageFile bytes c → IsImageFile others d → c.value ≡ d.value → bytes ≡ others
 
 abbrev pub NotBoth : Type 0
 NotBoth = (objects : List Object) (stack : ℕ) (fault : LinkFault) → AreLinked objects stack → ¬ IsRefusal objects stack fault

@@ -2,7 +2,8 @@
 use Rattle.std.proofs.Common.{◌≡◌, ℕ, List, [], Option, Some, None, Result, Ok, Err, refl, sym, ap, ◌∙◌, subst}
 use Rattle.std.specs.Prelude.{IfSome}
 use Rattle.pw_io.specs.Files.{Files, Told}
-use Rattle.pw_image.specs.Image.{Contents, ImageValue}
+use Rattle.pw_image.specs.declared.image.Image.{Image}
+use Rattle.pw_image.specs.Image.{Contents}
 use Rattle.pw_image.specs.Loading.{loaded_as}
 use Rattle.pw_image.specs.Reading.{image_file_at}
 use Rattle.pw_machine.specs.Core.{Core}
@@ -25,7 +26,7 @@ no_machine : (at : ℕ) (m : Snapshot) → ◌≡◌ {A = Result Snapshot ℕ} (
 no_machine at m e = cc
 
 -- the machine that was loaded stands at the start of the image
-loaded_core : (found : Result (Contents ImageValue) ℕ) (machine : Snapshot) → loaded_as loaded found ≡ Ok machine → loaded_as (λ image. image_start image.memory) found ≡ Ok machine.core
+loaded_core : (found : Result (Contents Image) ℕ) (machine : Snapshot) → loaded_as loaded found ≡ Ok machine → loaded_as (λ image. image_start image.memory) found ≡ Ok machine.core
 loaded_core (Ok c) machine e = ap (λ (m : Snapshot). Ok m.core) (ok_is (loaded c.value) machine e)
 loaded_core (Err at) machine e = absurd (no_machine at machine e)
 
@@ -38,7 +39,7 @@ err_is at other e = cc
 no_fault : (at : ℕ) (m : Snapshot) → ◌≡◌ {A = Result Snapshot ℕ} (Ok m) (Err at) → ⊥
 no_fault at m e = cc
 
-fault_core : (found : Result (Contents ImageValue) ℕ) (at : ℕ) → loaded_as loaded found ≡ Err at → loaded_as (λ image. image_start image.memory) found ≡ Err at
+fault_core : (found : Result (Contents Image) ℕ) (at : ℕ) → loaded_as loaded found ≡ Err at → loaded_as (λ image. image_start image.memory) found ≡ Err at
 fault_core (Ok c) at e = absurd (no_fault at (loaded c.value) e)
 fault_core (Err other) at e = ap (λ (n : ℕ). Err n) (err_is other at e)
 

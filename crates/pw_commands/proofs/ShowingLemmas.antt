@@ -6,7 +6,8 @@ use Rattle.std.proofs.lemmas.List.{take-append-drop}
 use Rattle.pw_io.specs.Files.{Files, Told, Keeps}
 use Rattle.pw_io.specs.Streams.{Appends, AppendsPart}
 use Rattle.pw_files.specs.Contents.{value_of}
-use Rattle.pw_image.specs.Image.{Contents, ImageValue}
+use Rattle.pw_image.specs.declared.image.Image.{Image}
+use Rattle.pw_image.specs.Image.{Contents}
 use Rattle.pw_image.specs.Reading.{image_file_at}
 use Rattle.pw_modules.specs.FileNames.{image_name}
 use Rattle.pw_list.specs.Listing.{IsListing, IsListingOf}
@@ -72,12 +73,12 @@ stop_shows comes _ wanted taken input h stops one = absurd h
 -- ---- list
 
 abbrev pub OneListing : Type 0
-OneListing = (image : ImageValue) (one other : List ℕ) → IsListing image one → IsListing image other → one ≡ other
+OneListing = (image : Image) (one other : List ℕ) → IsListing image one → IsListing image other → one ≡ other
 
-list_alone : OneListing → (image : ImageValue) (input text : List ℕ) → IsListing image text → (e : Effect) → ListOver (Ok image) input e → e ≡ prints text input
+list_alone : OneListing → (image : Image) (input text : List ℕ) → IsListing image text → (e : Effect) → ListOver (Ok image) input e → e ≡ prints text input
 list_alone one image input text listing e c = c.2 ∙ ap (λ (t : List ℕ). prints t input) (one image c.0 text c.1 listing)
 
-over_listed : OneListing → (wanted : Result ImageValue Answer) (text : List ℕ) (answer : Answer) (old new : Option (List ℕ)) (input : List ℕ) → IsListed wanted text → IsPrintAnswer answer → PutsOut text answer old new → Shows (ListOver wanted input) answer old new
+over_listed : OneListing → (wanted : Result Image Answer) (text : List ℕ) (answer : Answer) (old new : Option (List ℕ)) (input : List ℕ) → IsListed wanted text → IsPrintAnswer answer → PutsOut text answer old new → Shows (ListOver wanted input) answer old new
 over_listed one (Ok image) text answer old new input listing h out = shows_one (ListOver (Ok image) input) (prints text input) answer old new (text, listing, refl) (list_alone one image input text listing) (print_answers answer h) out
 over_listed one (Err refusal) text answer old new input listing h out = absurd listing
 
@@ -85,9 +86,9 @@ pub lists : OneListing → (told : Option Told) (text : List ℕ) (answer : Answ
 lists one None text answer old new listing h out = tt
 lists one (Some t) text answer old new listing h out = λ input. over_listed one (image_in t.files) text answer old new input listing h out
 
-refused_list : (wanted : Result ImageValue Answer) (input : List ℕ) (refusal : Answer) → wanted ≡ Err refusal → ListOver wanted input (answers_alone refusal input) × ((e : Effect) → ListOver wanted input e → e ≡ answers_alone refusal input)
+refused_list : (wanted : Result Image Answer) (input : List ℕ) (refusal : Answer) → wanted ≡ Err refusal → ListOver wanted input (answers_alone refusal input) × ((e : Effect) → ListOver wanted input e → e ≡ answers_alone refusal input)
 refused_list wanted input refusal is =
-    let P : Result ImageValue Answer → Type 0 = λ w. ListOver w input (answers_alone refusal input) × ((e : Effect) → ListOver w input e → e ≡ answers_alone refusal input) in
+    let P : Result Image Answer → Type 0 = λ w. ListOver w input (answers_alone refusal input) × ((e : Effect) → ListOver w input e → e ≡ answers_alone refusal input) in
     subst P (sym is) (refl, (λ e d. d))
 
 pub lists_not : (told : Option Told) (answer : Answer) (taken : Option (List ℕ)) → IfSome told (λ t. StopsAs answer (image_in t.files)) → IsFileStop answer → IfSome told (λ t. (input : List ℕ) → Shows (ListComes t.files input) answer taken taken)
@@ -116,7 +117,7 @@ shows_not (Some t) answer taken stops h = λ input. stop_shows (DatabaseComes t.
 
 -- ---- what was read
 
-listed_image : (found : Result (Contents ImageValue) ℕ) (text : List ℕ) → IsListingOf found text → IsListed (found_in image_name (value_of found)) text
+listed_image : (found : Result (Contents Image) ℕ) (text : List ℕ) → IsListingOf found text → IsListed (found_in image_name (value_of found)) text
 listed_image (Ok c) text h = h
 listed_image (Err at) text h = absurd h
 
@@ -125,13 +126,13 @@ listing_needed None bytes text h is = tt
 listing_needed (Some t) bytes text h is =
     subst (λ (w : Result (List ℕ) Answer). IsListed (read_by image_at image_name w) text) (sym h) (listed_image (image_file_at bytes) text is)
 
-no_contents : (c : Contents ImageValue) (at : ℕ) → ◌≡◌ {A = Result (Contents ImageValue) ℕ} (Ok c) (Err at) → ⊥
+no_contents : (c : Contents Image) (at : ℕ) → ◌≡◌ {A = Result (Contents Image) ℕ} (Ok c) (Err at) → ⊥
 no_contents c at e = cc
 
-err_is : (at other : ℕ) → ◌≡◌ {A = Result (Contents ImageValue) ℕ} (Err at) (Err other) → at ≡ other
+err_is : (at other : ℕ) → ◌≡◌ {A = Result (Contents Image) ℕ} (Err at) (Err other) → at ≡ other
 err_is at other e = cc
 
-fault_image : (found : Result (Contents ImageValue) ℕ) (at : ℕ) → found ≡ Err at → found_in image_name (value_of found) ≡ Err (BadFile image_name (Some at))
+fault_image : (found : Result (Contents Image) ℕ) (at : ℕ) → found ≡ Err at → found_in image_name (value_of found) ≡ Err (BadFile image_name (Some at))
 fault_image (Ok c) at e = absurd (no_contents c at e)
 fault_image (Err other) at e = ap (λ (n : ℕ). Err (BadFile image_name (Some n))) (err_is other at e)
 

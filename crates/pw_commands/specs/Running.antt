@@ -1,7 +1,6 @@
 -- What `run` comes to: the run of the program that stands in `prog.img`.
 use Rattle.std.specs.Prelude.{ℕ, List, [], Result, Ok, Err}
 use Rattle.pw_io.specs.Files.{Files}
-use Rattle.pw_image.specs.Image.{ImageValue}
 use Rattle.pw_image.specs.Reading.{image_file_at}
 use Rattle.pw_image.specs.Loading.{loaded_as}
 use Rattle.pw_machine.specs.Core.{Core}

@@ -3,7 +3,7 @@ use Rattle.std.specs.Prelude.{◌≡◌, ℕ, List, [], Option, Result, Ok, Err,
 use Rattle.std.specs.declared.alloc.Global.{Global}
 use Rattle.pw_io.specs.Files.{Files}
 use Rattle.pw_files.specs.Contents.{value_of}
-use Rattle.pw_image.specs.Image.{ImageValue}
+use Rattle.pw_image.specs.declared.image.Image.{Image}
 use Rattle.pw_image.specs.Reading.{image_file_at}
 use Rattle.pw_db.specs.declared.database.Directives.{Directives}
 use Rattle.pw_db.specs.Reading.{database_file_at}
@@ -18,13 +18,13 @@ use Rattle.pw_commands.specs.Needed.{StopsAs, needed}
 use Rattle.pw_commands.specs.Outcome.{IsFound}
 
 -- the program that stands in `prog.img`
-abbrev pub image_at : List ℕ → Result ImageValue ℕ
+abbrev pub image_at : List ℕ → Result Image ℕ
 image_at bytes = value_of (image_file_at bytes)
 
-abbrev pub image_in : Files → Result ImageValue Answer
+abbrev pub image_in : Files → Result Image Answer
 image_in files = needed image_at files image_name
 
-abbrev pub ListOver : Result ImageValue Answer → List ℕ → Effect → Type 0
+abbrev pub ListOver : Result Image Answer → List ℕ → Effect → Type 0
 ListOver (Err answer) input effect = effect ≡ answers_alone answer input
 ListOver (Ok image) input effect = (text : List ℕ) × IsListing image text × (effect ≡ prints text input)
 
@@ -75,11 +75,11 @@ IsPrintAnswer WriteFault = Unit {0}
 IsPrintAnswer _ = ⊥
 
 -- the listing of the program that is wanted
-abbrev pub IsListed : Result ImageValue Answer → List ℕ → Type 0
+abbrev pub IsListed : Result Image Answer → List ℕ → Type 0
 IsListed (Ok image) text = IsListing image text
 IsListed (Err answer) text = ⊥
 
 -- the same, or the answer in its place
-abbrev pub ListsOver : Result ImageValue Answer → Result (Vec ℕ Global) Answer → Type 0
+abbrev pub ListsOver : Result Image Answer → Result (Vec ℕ Global) Answer → Type 0
 ListsOver wanted (Ok text) = IsListed wanted text.items
 ListsOver wanted (Err answer) = StopsAs answer wanted

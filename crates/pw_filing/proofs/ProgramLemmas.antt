@@ -13,7 +13,8 @@ use Rattle.pw_value.specs.declared.fault.LinkFault.TheVariants.{TooMany}
 use Rattle.pw_value.specs.declared.fault.What.TheVariants.{Modules, TextBytes}
 use Rattle.pw_db.specs.Database.{IsDatabaseFile}
 use Rattle.pw_object.specs.declared.object.Object.{Object}
-use Rattle.pw_image.specs.Image.{ImageValue, IsImageFile, view}
+use Rattle.pw_image.specs.declared.image.Image.{Image}
+use Rattle.pw_image.specs.Image.{IsImageFile}
 use Rattle.pw_link.specs.Linking.{linked}
 use Rattle.pw_modules.specs.declared.modules.Module.{Module}
 use Rattle.pw_modules.specs.Modules.{Source}
@@ -128,7 +129,7 @@ counted_names ms built names before now many e counted =
 
 made_files : (ms : List Module) (colours stack : ℕ) (kept : List (Option Object)) (built : Built) (made : ProgramFiles) → Builds (map source ms) kept colours stack (Ok (parts_of built)) → made.fresh.names.items ≡ map (λ m. m.0) (made_anew (map (λ m. m.name) ms) built.objects.items built.fresh.items)
     → AreObjectFiles (made_anew (map (λ m. m.name) ms) built.objects.items built.fresh.items) (map file_view made.fresh.files.items) → IsDatabaseFile made.database.items built.database.functions
-    → ((names : List (List ℕ)) × IsImageFile made.image.items (record { names = names; value = view built.image })) → view built.image ≡ linked built.objects.items stack → BuildsFiles (map source ms) kept colours stack made
+    → ((names : List (List ℕ)) × IsImageFile made.image.items (record { names = names; value = built.image })) → built.image ≡ linked built.objects.items stack → BuildsFiles (map source ms) kept colours stack made
 made_files ms colours stack kept built made builds names objects database image is_linked =
     let same : map (λ m. m.name) ms ≡ map (λ s. s.0) (map source ms) = sym (names_by ms) in
     let anew : List (List ℕ) → List (List ℕ × Object) = λ ns. made_anew ns built.objects.items built.fresh.items in (
@@ -146,11 +147,11 @@ made_files ms colours stack kept built made builds names objects database image 
 pub made_of_program : (ms : List Module) (colours stack : ℕ) (kept : Told → List (Option Object)) (first : Option Told) (built : Built) (made : ProgramFiles) → IfSome first (λ told. Builds (map source ms) (kept told) colours stack (Ok (parts_of built)))
     → made.fresh.names.items ≡ map (λ m. m.0) (made_anew (map (λ m. m.name) ms) built.objects.items built.fresh.items)
     → AreObjectFiles (made_anew (map (λ m. m.name) ms) built.objects.items built.fresh.items) (map file_view made.fresh.files.items) → IsDatabaseFile made.database.items built.database.functions
-    → ((names : List (List ℕ)) × IsImageFile made.image.items (record { names = names; value = view built.image })) → view built.image ≡ linked built.objects.items stack → IfSome first (λ told. BuildsFiles (map source ms) (kept told) colours stack made)
+    → ((names : List (List ℕ)) × IsImageFile made.image.items (record { names = names; value = built.image })) → built.image ≡ linked built.objects.items stack → IfSome first (λ told. BuildsFiles (map source ms) (kept told) colours stack made)
 made_of_program ms colours stack kept None built made builds names objects database image is_linked = tt
 made_of_program ms colours stack kept (Some told) built made builds names objects database image is_linked = made_files ms colours stack (kept told) built made builds names objects database image is_linked
 
-pub holds_image : (bytes : List ℕ) (image : ImageValue) → (names : List (List ℕ)) × IsImageFile bytes (record { names = names; value = image }) → HoldsImage bytes
+pub holds_image : (bytes : List ℕ) (image : Image) → (names : List (List ℕ)) × IsImageFile bytes (record { names = names; value = image }) → HoldsImage bytes
 holds_image bytes image h = (record { names = h.0; value = image }, h.1)
 
 -- ---- faults

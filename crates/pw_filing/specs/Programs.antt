@@ -6,7 +6,8 @@ use Rattle.pw_answer.specs.Outcomes.{StoreCount}
 use Rattle.pw_value.specs.declared.fault.LinkFault.TheVariants as link
 use Rattle.pw_front.specs.Fronts.{HoldsNoWant}
 use Rattle.pw_db.specs.Database.{IsDatabaseFile}
-use Rattle.pw_image.specs.Image.{Contents, ImageValue, IsImageFile}
+use Rattle.pw_image.specs.declared.image.Image.{Image}
+use Rattle.pw_image.specs.Image.{Contents, IsImageFile}
 use Rattle.pw_link.specs.Linking.{linked}
 use Rattle.pw_flow.specs.declared.flow.FlowModule.{FlowModule}
 use Rattle.pw_making.specs.declared.making.Built.{Built}
@@ -74,7 +75,7 @@ IsCounted sources kept colours fault before now = (made : ℕ) × BuildsAnew sou
 
 -- the bytes are the file of an image
 abbrev pub HoldsImage : List ℕ → Type 0
-HoldsImage bytes = (c : Contents ImageValue) × IsImageFile bytes c
+HoldsImage bytes = (c : Contents Image) × IsImageFile bytes c
 
 -- as many objects as modules, each marked
 pub record AreAsMany (modules : List Module) (built : Built) : Type 0 where

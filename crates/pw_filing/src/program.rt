@@ -7,7 +7,7 @@ ghost use Rattle.pw_modules.specs.Modules.{modules_of};
 ghost use Rattle.pw_modules.specs.Views.{source};
 ghost use Rattle.pw_db.specs.Database.{IsDatabase};
 ghost use Rattle.pw_object.specs.Object.{IsObject};
-ghost use Rattle.pw_image.specs.Image.{IsImage, view};
+ghost use Rattle.pw_image.specs.Image.{IsImage};
 ghost use Rattle.pw_link.specs.Linking.{linked};
 ghost use Rattle.pw_value.specs.Limits.{module_limit};
 ghost use Rattle.pw_making.specs.Choosing.{parts_of};
@@ -67,10 +67,10 @@ fn built_of<S: Store, L: Ledger>(
     ensures line { IfErr result (λ unbuilt. IsLine (refused_line (map source modules.now)) unbuilt.fault unbuilt.line) }
     ensures few { OnOk result (length modules.now ≤ module_limit) }
     ensures many { IfOk result (λ built. AreAsMany modules.now built) }
-    ensures image { IfOk result (λ built. view built.image ≡ linked built.objects.items stack) }
+    ensures image { IfOk result (λ built. built.image ≡ linked built.objects.items stack) }
     ensures lawful_database { IfOk result (λ built. IsDatabase built.database.functions) }
     ensures lawful_objects { IfOk result (λ built. AllByRecursion IsObject built.objects.items) }
-    ensures lawful_image { IfOk result (λ built. IsImage (view built.image)) }
+    ensures lawful_image { IfOk result (λ built. IsImage built.image) }
     ensures counted { IfOk result (λ built. steps.new ≡ steps.old + count_by (λ fresh. fresh) built.fresh.items) }
     ensures counted_fault { IfSome (S.told store.old) (λ told. IfErr result (λ unbuilt. IsCounted (map source modules.now) (map (λ m. kept_object told.files m.name) modules.now) colours unbuilt.fault steps.old steps.new)) }
     ensures bound { CountsAtMost (first_phases (map source modules.now)) steps.old steps.new }

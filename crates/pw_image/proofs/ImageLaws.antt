@@ -19,10 +19,12 @@ use Rattle.pw_fields.proofs.NameTables.{one_table}
 use Rattle.pw_fields.specs.FieldFrame.{file}
 use Rattle.pw_fields.proofs.NameLaws.{names_spell, name_spells, AllUsed, all_used, none_unused, table_of_used, used_by_table}
 use Rattle.pw_files.specs.Contents.{value_of}
+use Rattle.pw_image.specs.declared.image.DataItem.{DataItem}
+use Rattle.pw_image.specs.declared.image.Memory.{Memory}
 use Rattle.pw_image.specs.declared.image.Function.{Function}
 use Rattle.pw_image.specs.declared.image.GlobalObject.{GlobalObject}
 use Rattle.pw_image.specs.declared.image.Image.{Image}
-use Rattle.pw_image.specs.Image.{Item, MemoryValue, ImageValue, Contents, IsInText, data_start, free_behind, AreItems, IsContents, IsImageFile, view, item, memory, function, global, names_of, spelling, kind, image_version}
+use Rattle.pw_image.specs.Image.{Contents, IsInText, data_start, free_behind, AreItems, IsContents, IsImageFile, item, memory, function, global, names_of, spelling, kind, image_version}
 use Rattle.pw_image.specs.Reading.{is_in_text, item_at, next_free, memory_at, function_at, global_at, start_at, is_lawful_start, contents_at, payload_at, image_file_at}
 
 -- ---- addresses
@@ -41,10 +43,10 @@ text_back words address h = both_true (eq-eqb _ _ h.aligned) (both_true (le-leb 
 
 -- ---- items of the data
 
-abbrev FitsItem : ℕ → ℕ → Item → Type 0
+abbrev FitsItem : ℕ → ℕ → DataItem → Type 0
 FitsItem size free i = (free ≤ i.offset) × (i.offset + length i.bytes ≤ size)
 
-abbrev ItemSteps : ℕ → ℕ → Item → Type 0
+abbrev ItemSteps : ℕ → ℕ → DataItem → Type 0
 ItemSteps size free i = ((free ≤ i.offset) × (i.offset ≤ size)) × ((FitsText i.bytes × (i.offset + length i.bytes ≤ size)) × Unit {0})
 
 item_spells : (size : ℕ) → size < 2 ^ 32 → (free : ℕ) → Spells item (FitsItem size free) (item_at size free)
@@ -63,17 +65,17 @@ item_spells size below free = format item (FitsItem size free) item (ItemSteps s
     (λ i h. (h.0.0, h.1.0.1))
     (λ i h. ((h.0, omega (arith, h.1)), ((omega (arith, h.1), h.1), tt)))
 
-items_forth : (size free : ℕ) (items : List Item) → FitInTurn (FitsItem size) next_free free items → AreItems size free items
+items_forth : (size free : ℕ) (items : List DataItem) → FitInTurn (FitsItem size) next_free free items → AreItems size free items
 items_forth size free [] fits = tt
 items_forth size free (i ∷ items) fits = (fits.0.0, fits.0.1, items_forth size (free_behind i) items fits.1)
 
-items_back : (size free : ℕ) (items : List Item) → AreItems size free items → FitInTurn (FitsItem size) next_free free items
+items_back : (size free : ℕ) (items : List DataItem) → AreItems size free items → FitInTurn (FitsItem size) next_free free items
 items_back size free [] are = tt
 items_back size free (i ∷ items) are = ((are.0, are.1), items_back size (free_behind i) items are.2)
 
 -- ---- the memory, but for the rule of the entry
 
-abbrev MemorySteps : MemoryValue → Type 0
+abbrev MemorySteps : Memory → Type 0
 MemorySteps m = FitsU32 m.entry × (FitsU32 m.stack × ((m.stack_end ≤ memory_size) × ((length m.words ≤ word_limit) × (AllByRecursion FitsU32 m.words
     × ((data_start (length m.words) + m.data_size ≤ m.stack_end) × (FitsU32 (length m.items) × (AreItems m.data_size 0 m.items × Unit {0})))))))
 
@@ -168,13 +170,13 @@ globals_back names (f ∷ fs) gs used fit = globals_back names fs gs used.1 fit
 
 -- ---- the contents, but for the rule of the entry
 
-abbrev ContentsSteps : Contents ImageValue → Type 0
+abbrev ContentsSteps : Contents Image → Type 0
 ContentsSteps c = MemorySteps c.value.memory × (IsNameTable c.names × (FitsU32 (length c.value.functions)
     × (AllByRecursion (FitsFunction c.names (length c.value.memory.words)) c.value.functions × (FitsU32 (length c.value.globals)
     × (AllByRecursion (FitsGlobal c.names) c.value.globals × AllUsed c.names (names_of c.value))))))
 
 -- the map's spelling under a table of names
-abbrev map_spelling : List (List ℕ) → Contents ImageValue → List ℕ
+abbrev map_spelling : List (List ℕ) → Contents Image → List ℕ
 map_spelling names c = u32 (length c.value.functions) ++ (flat_map (function names) c.value.functions ++ (u32 (length c.value.globals) ++ (flat_map (global names) c.value.globals ++ [])))
 
 respell : {X : Type 0} (Follows : List ℕ → Type 0) (Known : X → Type 0) (one other : X → List ℕ) (Fits : X → Type 0) (read : List ℕ → Result (X × List ℕ) ℕ)
@@ -184,10 +186,10 @@ respell Follows Known one other Fits read same laws = record {
   again = λ x rest follows k fits. ap read (ap (λ (w : List ℕ). w ++ rest) (sym (same x k))) ∙ laws.again x rest follows k fits;
 }
 
-functions_same : (names others : List (List ℕ)) (m n : MemoryValue) (fs : List Function) → names ≡ others → m ≡ n → AllByRecursion (FitsFunction others (length n.words)) fs → AllByRecursion (FitsFunction names (length m.words)) fs
+functions_same : (names others : List (List ℕ)) (m n : Memory) (fs : List Function) → names ≡ others → m ≡ n → AllByRecursion (FitsFunction others (length n.words)) fs → AllByRecursion (FitsFunction names (length m.words)) fs
 functions_same names others m n fs same_names same_memory h =
     subst (λ (ns : List (List ℕ)). AllByRecursion (FitsFunction ns (length m.words)) fs) (sym same_names)
-    (subst (λ (v : MemoryValue). AllByRecursion (FitsFunction others (length v.words)) fs) (sym same_memory) h)
+    (subst (λ (v : Memory). AllByRecursion (FitsFunction others (length v.words)) fs) (sym same_memory) h)
 
 globals_same : (names others : List (List ℕ)) (gs : List GlobalObject) → names ≡ others → AllByRecursion (FitsGlobal others) gs → AllByRecursion (FitsGlobal names) gs
 globals_same names others gs same_names h = subst (λ (ns : List (List ℕ)). AllByRecursion (FitsGlobal ns) gs) (sym same_names) h
@@ -211,7 +213,7 @@ contents_spells = payload_format spelling ContentsSteps spelling ContentsSteps _
     (repeated_spells (global names) (FitsGlobal names) (global_at names) (global_spells names table) global_count)
     (λ c k h. globals_same c.names names c.value.globals k.0.0.0.1 h.1)
     (λ c k h. (k.1, globals_same names c.names c.value.globals (sym k.0.0.0.1) h))
-    (λ globals gs_fit. let image : ImageValue = record { memory = m; functions = functions; globals = globals } in
+    (λ globals gs_fit. let image : Image = record { memory = m; functions = functions; globals = globals } in
     finish_whole _ (λ c. AllUsed c.names (names_of c.value)) (first_unused names (names_of image) behind) (record { names = names; value = image })
     ((((((tt, refl), refl), fs_fit.0), refl), gs_fit.0), refl)
     (λ c k. sym (λ j. record { names = k.0.0.0.0.1 j; value = record { memory = k.0.0.0.0.0.1 j; functions = k.0.0.1 j; globals = k.1 j } }))
@@ -229,7 +231,7 @@ start_of entry a b n tail entry_fits n_fits =
 regroup : (entry a b n : ℕ) (tail more : List ℕ) → (u32 entry ++ (u32 a ++ (u32 b ++ (u32 n ++ tail)))) ++ more ≡ u32 entry ++ ((u32 a ++ u32 b) ++ (u32 n ++ (tail ++ more)))
 regroup entry a b n tail more = simp append_assoc
 
-start_is : (c : Contents ImageValue) → ContentsSteps c → is_lawful_start (start_at (spelling c)) ≡ is_in_text (length c.value.memory.words) c.value.memory.entry
+start_is : (c : Contents Image) → ContentsSteps c → is_lawful_start (start_at (spelling c)) ≡ is_in_text (length c.value.memory.words) c.value.memory.entry
 start_is c h =
     let m = c.value.memory in
     let tail : List ℕ = flat_map u32 m.words ++ (u32 m.data_size ++ (u32 (length m.items) ++ (flat_map item m.items ++ []))) in
@@ -241,7 +243,7 @@ chosen : {X : Type 0} (b : Bool) (r : Result (X × List ℕ) ℕ) (left : ℕ) (
 chosen true r left x rest e = (refl, e)
 chosen false r left x rest e = absurd (not_found left x rest e)
 
-contents_forth : (c : Contents ImageValue) → ContentsSteps c → IsInText (length c.value.memory.words) c.value.memory.entry → IsContents c
+contents_forth : (c : Contents Image) → ContentsSteps c → IsInText (length c.value.memory.words) c.value.memory.entry → IsContents c
 contents_forth c s entry =
     let n = length c.value.memory.words in
     let m = s.0 in
@@ -258,16 +260,16 @@ contents_forth c s entry =
     }
 
 -- items in rising order are no more than there are offsets
-items_within : (size free : ℕ) (items : List Item) → AreItems size free items → length items ≤ size + 1 - free
+items_within : (size free : ℕ) (items : List DataItem) → AreItems size free items → length items ≤ size + 1 - free
 items_within size free [] are = omega arith
 items_within size free (i ∷ items) are = omega (arith, are.0, are.1, items_within size (free_behind i) items are.2)
 
-items_few : (c : Contents ImageValue) → IsContents c → FitsU32 (length c.value.memory.items)
+items_few : (c : Contents Image) → IsContents c → FitsU32 (length c.value.memory.items)
 items_few c is =
     let m = is.image.memory in
     omega (arith, items_within c.value.memory.data_size 0 c.value.memory.items m.items, m.data_fits, m.stack_end)
 
-contents_back : (c : Contents ImageValue) → IsContents c → ContentsSteps c
+contents_back : (c : Contents Image) → IsContents c → ContentsSteps c
 contents_back c is =
     let n = length c.value.memory.words in
     let m = is.image.memory in
@@ -304,40 +306,40 @@ payload_spells = record {
 
 -- ---- the file
 
-pub image_takes : (bytes : List ℕ) (c : Contents ImageValue) → AreBytes bytes → image_file_at bytes ≡ Ok c → IsImageFile bytes c
+pub image_takes : (bytes : List ℕ) (c : Contents Image) → AreBytes bytes → image_file_at bytes ≡ Ok c → IsImageFile bytes c
 unfolding image_file_at
 image_takes bytes c fits e = file_takes kind image_version image_version (λ version. spelling) (λ version. IsContents) (λ version. payload_at) (λ v f l. payload_spells) bytes c fits e
 
-pub image_again : (bytes : List ℕ) (c : Contents ImageValue) → IsImageFile bytes c → image_file_at bytes ≡ Ok c
+pub image_again : (bytes : List ℕ) (c : Contents Image) → IsImageFile bytes c → image_file_at bytes ≡ Ok c
 unfolding image_file_at
 image_again bytes c is = file_again kind image_version image_version (λ version. spelling) (λ version. IsContents) (λ version. payload_at) (lit< tt) (lit< tt) (λ v f l. payload_spells) bytes c is
 
 -- ---- the same of what a function returned
 
-image_found : (bytes : List ℕ) (v : ImageValue) (r : Result (Contents ImageValue) ℕ) → value_of r ≡ Ok v → (c : Contents ImageValue) × (r ≡ Ok c) × (c.value ≡ v)
+image_found : (bytes : List ℕ) (v : Image) (r : Result (Contents Image) ℕ) → value_of r ≡ Ok v → (c : Contents Image) × (r ≡ Ok c) × (c.value ≡ v)
 image_found bytes v (Ok c) e = (c, refl, cc)
 image_found bytes v (Err at) e = absurd cc
 
-pub found_by : (bytes : List ℕ) (r : Result Image FileError) → AreBytes bytes → GivesFile view r (value_of (image_file_at bytes)) → IfOk r (λ image. (names : List (List ℕ)) × IsImageFile bytes (record { names = names; value = view image }))
+pub found_by : (bytes : List ℕ) (r : Result Image FileError) → AreBytes bytes → GivesFile (λ image. image) r (value_of (image_file_at bytes)) → IfOk r (λ image. (names : List (List ℕ)) × IsImageFile bytes (record { names = names; value = image }))
 found_by bytes (Ok image) fits given =
-    let p = image_found bytes (view image) (image_file_at bytes) given in
-    (p.0.names, subst (λ (v : ImageValue). IsImageFile bytes (record { names = p.0.names; value = v })) p.2 (image_takes bytes p.0 fits p.1))
+    let p = image_found bytes image (image_file_at bytes) given in
+    (p.0.names, subst (λ (v : Image). IsImageFile bytes (record { names = p.0.names; value = v })) p.2 (image_takes bytes p.0 fits p.1))
 found_by bytes (Err e) fits given = tt
 
-pub only_by : (bytes : List ℕ) (r : Result Image FileError) → GivesFile view r (value_of (image_file_at bytes)) → (c : Contents ImageValue) → IsImageFile bytes c → GivesFile view r (Ok c.value)
-only_by bytes r given c is = subst (GivesFile view r) (ap value_of (image_again bytes c is)) given
+pub only_by : (bytes : List ℕ) (r : Result Image FileError) → GivesFile (λ image. image) r (value_of (image_file_at bytes)) → (c : Contents Image) → IsImageFile bytes c → GivesFile (λ image. image) r (Ok c.value)
+only_by bytes r given c is = subst (GivesFile (λ image. image) r) (ap value_of (image_again bytes c is)) given
 
-abbrev value : Contents ImageValue → Result (Contents ImageValue) ℕ
+abbrev value : Contents Image → Result (Contents Image) ℕ
 value c = Ok c
 
 -- ---- one file for each image, and one image for each file
 
-pub one_image : (bytes : List ℕ) (c d : Contents ImageValue) → IsImageFile bytes c → IsImageFile bytes d → c ≡ d
+pub one_image : (bytes : List ℕ) (c d : Contents Image) → IsImageFile bytes c → IsImageFile bytes d → c ≡ d
 one_image bytes c d p q = let both : value c ≡ value d = sym (image_again bytes c p) ∙ image_again bytes d q in cc
 
-pub one_file : (bytes others : List ℕ) (c d : Contents ImageValue) → IsImageFile bytes c → IsImageFile others d → c.value ≡ d.value → bytes ≡ others
+pub one_file : (bytes others : List ℕ) (c d : Contents Image) → IsImageFile bytes c → IsImageFile others d → c.value ≡ d.value → bytes ≡ others
 one_file bytes others c d p q same =
-    let names : c.names ≡ d.names = one_table c.names d.names (names_of c.value) p.fits.names (subst (λ (v : ImageValue). IsTableOf d.names (names_of v)) (sym same) q.fits.names) in
+    let names : c.names ≡ d.names = one_table c.names d.names (names_of c.value) p.fits.names (subst (λ (v : Image). IsTableOf d.names (names_of v)) (sym same) q.fits.names) in
     let version : p.version ≡ q.version = omega (arith, p.not_below, p.not_above, q.not_below, q.not_above) in
     let whole : c ≡ d = λ j. record { names = names j; value = same j } in
-    p.spelled ∙ ap (λ n. file kind n (spelling c)) version ∙ ap (λ (x : Contents ImageValue). file kind q.version (spelling x)) whole ∙ sym q.spelled
+    p.spelled ∙ ap (λ n. file kind n (spelling c)) version ∙ ap (λ (x : Contents Image). file kind q.version (spelling x)) whole ∙ sym q.spelled

@@ -1,5 +1,5 @@
 -- The image of a linked program: what a machine starts with, and where functions and globals stand.
-use Rattle.std.specs.Prelude.{◌≡◌, ℕ, ◌+◌, ◌*◌, ◌/◌, ◌%◌, ◌<◌, ◌≤◌, ◌^◌, List, [], ◌∷◌, ◌++◌, length, map, max}
+use Rattle.std.specs.Prelude.{◌≡◌, ℕ, ◌+◌, ◌*◌, ◌/◌, ◌%◌, ◌<◌, ◌≤◌, ◌^◌, List, [], ◌∷◌, ◌++◌, length, map, max, Vec}
 use Rattle.std.specs.List.{flat_map, AllByRecursion}
 use Rattle.pw_value.specs.Rounding.{round8}
 use Rattle.pw_value.specs.Limits.{text_start, word_limit, memory_size}
@@ -7,7 +7,6 @@ use Rattle.pw_fields.specs.Fields.{u32, text, parts, FitsU32}
 use Rattle.pw_fields.specs.FieldFrame.{IsFileOf}
 use Rattle.pw_fields.specs.FieldNames.{name_table, name_index, IsTableOf}
 pub use Rattle.pw_files.specs.Contents.{Contents}
-use Rattle.std.specs.Prelude.{Vec}
 use Rattle.std.specs.declared.alloc.Global.{Global}
 use Rattle.pw_value.specs.declared.name.Name.{Name}
 use Rattle.pw_image.specs.declared.image.DataItem.{DataItem}
@@ -15,35 +14,6 @@ use Rattle.pw_image.specs.declared.image.Memory.{Memory}
 use Rattle.pw_image.specs.declared.image.Function.{Function}
 use Rattle.pw_image.specs.declared.image.GlobalObject.{GlobalObject}
 use Rattle.pw_image.specs.declared.image.Image.{Image}
-
--- ---- values, without where they lie in memory
-
--- bytes at an offset from the start of the data
-pub record Item : Type 0 where
-  pub offset : ℕ
-  pub bytes : List ℕ
-
-pub record MemoryValue : Type 0 where
-  pub entry : ℕ
-  pub stack : ℕ
-  pub stack_end : ℕ
-  pub words : List ℕ
-  pub data_size : ℕ
-  pub items : List Item
-
-pub record ImageValue : Type 0 where
-  pub memory : MemoryValue
-  pub functions : List Function
-  pub globals : List GlobalObject
-
-abbrev pub item_view : DataItem → Item
-item_view i = record { offset = i.offset; bytes = i.bytes.items }
-
-abbrev pub memory_view : Memory → MemoryValue
-memory_view m = record { entry = m.entry; stack = m.stack; stack_end = m.stack_end; words = m.words.items; data_size = m.data_size; items = map item_view m.items.items }
-
-abbrev pub view : Image → ImageValue
-view i = record { memory = memory_view i.memory; functions = i.functions.items; globals = i.globals.items }
 
 -- ---- the rules
 
@@ -58,15 +28,15 @@ abbrev pub data_start : ℕ → ℕ
 data_start words = round8 (text_start + 4 * words)
 
 -- the least offset that the next item may have: offsets rise, and items do not overlap
-abbrev pub free_behind : Item → ℕ
+abbrev pub free_behind : DataItem → ℕ
 free_behind i = i.offset + max 1 (length i.bytes)
 
 -- items in rising order without overlap, inside the data
-abbrev pub AreItems : ℕ → ℕ → List Item → Type 0
+abbrev pub AreItems : ℕ → ℕ → List DataItem → Type 0
 AreItems size free [] = Unit {0}
 AreItems size free (i ∷ items) = (free ≤ i.offset) × (i.offset + length i.bytes ≤ size) × AreItems size (free_behind i) items
 
-pub record IsMemory (m : MemoryValue) : Type 0 where
+pub record IsMemory (m : Memory) : Type 0 where
   pub entry : IsInText (length m.words) m.entry
   pub stack : m.stack < 2 ^ 32
   pub stack_end : m.stack_end ≤ memory_size
@@ -75,17 +45,17 @@ pub record IsMemory (m : MemoryValue) : Type 0 where
   pub data_fits : data_start (length m.words) + m.data_size ≤ m.stack_end
   pub items : AreItems m.data_size 0 m.items
 
-pub record IsImage (v : ImageValue) : Type 0 where
+pub record IsImage (v : Image) : Type 0 where
   pub memory : IsMemory v.memory
   pub functions : AllByRecursion (λ f. IsInText (length v.memory.words) f.address × FitsU32 f.frame) v.functions
   pub globals : AllByRecursion (λ g. FitsU32 g.address) v.globals
 
 -- ---- the spelling
 
-abbrev pub item : Item → List ℕ
+abbrev pub item : DataItem → List ℕ
 item i = parts (u32 i.offset ∷ text i.bytes ∷ [])
 
-abbrev pub memory : MemoryValue → List ℕ
+abbrev pub memory : Memory → List ℕ
 memory m = parts (u32 m.entry ∷ u32 m.stack ∷ u32 m.stack_end ∷ u32 (length m.words) ∷ flat_map u32 m.words
     ∷ u32 m.data_size ∷ u32 (length m.items) ∷ flat_map item m.items ∷ [])
 
@@ -96,20 +66,20 @@ abbrev pub global : List (List ℕ) → GlobalObject → List ℕ
 global names g = parts (name_index names g.name ∷ u32 g.address ∷ [])
 
 -- the names that an image uses, in the order of their use
-abbrev pub names_of : ImageValue → List (List ℕ)
+abbrev pub names_of : Image → List (List ℕ)
 names_of v = map (λ f. f.name) v.functions ++ map (λ g. g.name) v.globals
 
 -- an image and the table of its names
-abbrev pub contents_view : Vec Name Global × Image → Contents ImageValue
-contents_view x = record { names = x.0.items; value = view x.1 }
+abbrev pub contents_view : Vec Name Global × Image → Contents Image
+contents_view x = record { names = x.0.items; value = x.1 }
 
-abbrev pub spelling : Contents ImageValue → List ℕ
+abbrev pub spelling : Contents Image → List ℕ
 spelling c = parts (memory c.value.memory ∷ name_table c.names
     ∷ u32 (length c.value.functions) ∷ flat_map (function c.names) c.value.functions
     ∷ u32 (length c.value.globals) ∷ flat_map (global c.names) c.value.globals ∷ [])
 
 -- the image is lawful, its lists fit into the file's counts, and the table has the names that it uses
-pub record IsContents (c : Contents ImageValue) : Type 0 where
+pub record IsContents (c : Contents Image) : Type 0 where
   pub image : IsImage c.value
   pub function_count : FitsU32 (length c.value.functions)
   pub global_count : FitsU32 (length c.value.globals)
@@ -125,5 +95,5 @@ abbrev pub image_version : ℕ
 image_version = 1
 
 -- the bytes are the image file of the contents
-abbrev pub IsImageFile : List ℕ → Contents ImageValue → Type 0
+abbrev pub IsImageFile : List ℕ → Contents Image → Type 0
 IsImageFile bytes c = IsFileOf kind image_version image_version (λ version. spelling) (λ version. IsContents) bytes c

@@ -4,10 +4,11 @@ use Rattle.pw_value.specs.declared.fault.FileError.{FileError}
 use Rattle.pw_value.specs.declared.fault.FileError.TheVariants as file
 use Rattle.pw_image.specs.declared.image.Function.{Function}
 use Rattle.pw_image.specs.declared.image.GlobalObject.{GlobalObject}
+use Rattle.pw_image.specs.declared.image.Image.{Image}
 use Rattle.pw_image.specs.declared.load.LoadError.{LoadError}
 use Rattle.pw_image.specs.declared.load.LoadError.TheVariants as load
 use Rattle.pw_image.specs.declared.load.Map.{Map}
-use Rattle.pw_image.specs.Image.{ImageValue, Contents}
+use Rattle.pw_image.specs.Image.{Contents}
 
 -- ---- answers
 
@@ -27,20 +28,11 @@ GivesLoad view (Ok x) found = found ≡ Ok (view x)
 GivesLoad view (Err e) found = FailsLoad e found
 
 -- what reading finds, as a function of the image
-abbrev pub loaded_as : {Y : Type 0} → (ImageValue → Y) → Result (Contents ImageValue) ℕ → Result Y ℕ
+abbrev pub loaded_as : {Y : Type 0} → (Image → Y) → Result (Contents Image) ℕ → Result Y ℕ
 loaded_as f (Ok c) = Ok (f c.value)
 loaded_as f (Err at) = Err at
 
 -- ---- the map
-
--- a map without where it lies in memory: the functions with their addresses and frames, and the global
--- objects with their addresses
-pub record MapValue : Type 0 where
-  pub functions : List (List ℕ × ℕ × ℕ)
-  pub globals : List (List ℕ × ℕ)
-
-abbrev pub map_view : Map → MapValue
-map_view m = record { functions = m.functions.items; globals = m.globals.items }
 
 abbrev pub function_entry : Function → List ℕ × ℕ × ℕ
 function_entry f = (f.name, f.address, f.frame)
@@ -48,5 +40,5 @@ function_entry f = (f.name, f.address, f.frame)
 abbrev pub global_entry : GlobalObject → List ℕ × ℕ
 global_entry g = (g.name, g.address)
 
-abbrev pub map_of : ImageValue → MapValue
+abbrev pub map_of : Image → Map
 map_of v = record { functions = map function_entry v.functions; globals = map global_entry v.globals }

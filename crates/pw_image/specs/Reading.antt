@@ -5,25 +5,28 @@ use Rattle.pw_fields.specs.Fields.{◌>>=◌, done, checked, u32_at, bytes_at, i
 use Rattle.pw_fields.specs.FieldFrame.{here, ended, file_at}
 use Rattle.pw_fields.specs.FieldNames.{names_at, name_at, first_unused}
 use Rattle.pw_files.specs.Places.{offset_at, item_bytes_at}
+use Rattle.pw_image.specs.declared.image.DataItem.{DataItem}
+use Rattle.pw_image.specs.declared.image.Memory.{Memory}
 use Rattle.pw_image.specs.declared.image.Function.{Function}
 use Rattle.pw_image.specs.declared.image.GlobalObject.{GlobalObject}
-use Rattle.pw_image.specs.Image.{Item, MemoryValue, ImageValue, Contents, data_start, free_behind, names_of, kind, image_version}
+use Rattle.pw_image.specs.declared.image.Image.{Image}
+use Rattle.pw_image.specs.Image.{Contents, data_start, free_behind, names_of, kind, image_version}
 
 abbrev pub is_in_text : ℕ → ℕ → Bool
 is_in_text words address = (address % 4 == 0) && (nat_le text_start address && nat_lt address (text_start + 4 * words))
 
 -- ---- the memory
 
-unfoldable pub item_at : ℕ → ℕ → List ℕ → Result (Item × List ℕ) ℕ
+unfoldable pub item_at : ℕ → ℕ → List ℕ → Result (DataItem × List ℕ) ℕ
 item_at size free = do
   offset ← offset_at size free
   bytes ← item_bytes_at size offset
   done (record { offset = offset; bytes = bytes })
 
-abbrev pub next_free : ℕ → Item → ℕ
+abbrev pub next_free : ℕ → DataItem → ℕ
 next_free free i = free_behind i
 
-unfoldable pub memory_at : List ℕ → Result (MemoryValue × List ℕ) ℕ
+unfoldable pub memory_at : List ℕ → Result (Memory × List ℕ) ℕ
 memory_at = do
   entry ← u32_at
   stack ← u32_at
@@ -64,7 +67,7 @@ abbrev pub is_lawful_start : Result (Bool × List ℕ) ℕ → Bool
 is_lawful_start (Ok x) = x.0
 is_lawful_start (Err left) = false
 
-unfoldable pub contents_at : List ℕ → Result (Contents ImageValue × List ℕ) ℕ
+unfoldable pub contents_at : List ℕ → Result (Contents Image × List ℕ) ℕ
 contents_at = do
   memory ← memory_at
   names ← names_at
@@ -73,11 +76,11 @@ contents_at = do
   functions ← repeated (function_at names (length memory.words)) function_count
   global_count ← u32_at
   globals ← repeated (global_at names) global_count
-  let image : ImageValue = record { memory = memory; functions = functions; globals = globals } in ended (first_unused names (names_of image) behind) (record { names = names; value = image })
+  let image : Image = record { memory = memory; functions = functions; globals = globals } in ended (first_unused names (names_of image) behind) (record { names = names; value = image })
 
 -- the entry is looked at first: no word of the text is known where the count of words is short
-unfoldable pub payload_at : List ℕ → Result (Contents ImageValue × List ℕ) ℕ
+unfoldable pub payload_at : List ℕ → Result (Contents Image × List ℕ) ℕ
 payload_at bytes = if is_lawful_start (start_at bytes) then contents_at bytes else Err (length bytes)
 
-unfoldable pub image_file_at : List ℕ → Result (Contents ImageValue) ℕ
+unfoldable pub image_file_at : List ℕ → Result (Contents Image) ℕ
 image_file_at bytes = file_at kind image_version image_version (λ version. payload_at) bytes

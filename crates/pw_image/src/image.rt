@@ -3,6 +3,7 @@
 ghost use Rattle.std.specs.Prelude.{◌≡◌};
 ghost use Rattle.pw_image.specs.Image.{data_start};
 
+use pw_items::Items;
 use pw_value::limits::TEXT_START;
 use pw_value::{Name, round8};
 
@@ -10,7 +11,7 @@ use pw_value::{Name, round8};
 #[derive(Drop)]
 pub struct DataItem {
     pub offset: u32,
-    pub bytes: Vec<u8>,
+    pub bytes: Items<u8>,
 }
 
 /// What a machine starts with. The text has its words from the address `TEXT_START` on, and the data start
@@ -23,10 +24,10 @@ pub struct Memory {
     pub stack: u32,
     /// The address behind the stack.
     pub stack_end: u32,
-    pub words: Vec<u32>,
+    pub words: Items<u32>,
     /// The bytes of the data.
     pub data_size: u32,
-    pub items: Vec<DataItem>,
+    pub items: Items<DataItem>,
 }
 
 /// The address at which the data start behind a text of so many words.
@@ -55,6 +56,6 @@ pub struct GlobalObject {
 #[derive(Drop)]
 pub struct Image {
     pub memory: Memory,
-    pub functions: Vec<Function>,
-    pub globals: Vec<GlobalObject>,
+    pub functions: Items<Function>,
+    pub globals: Items<GlobalObject>,
 }

@@ -9,7 +9,8 @@ ghost use Rattle.pw_fields.specs.FieldFrame.{ended};
 ghost use Rattle.pw_fields.specs.FieldNames.{first_unused};
 ghost use Rattle.pw_fields.specs.FieldFaults.{Gives, GivesFile};
 ghost use Rattle.pw_files.specs.Contents.{broken_at, value_of};
-ghost use Rattle.pw_image.specs.Image.{Contents, ImageValue, data_start, free_behind, item_view, memory_view, view, contents_view, names_of, IsImageFile};
+ghost use Rattle.pw_image.specs.declared.image.Image.{Image as AnyImage};
+ghost use Rattle.pw_image.specs.Image.{Contents, data_start, free_behind, contents_view, names_of, IsImageFile};
 ghost use Rattle.pw_image.specs.Reading.{is_in_text, item_at, next_free, memory_at, function_at, global_at, start_at, is_lawful_start, contents_at, payload_at, image_file_at};
 
 use crate::image::{DataItem, Function, GlobalObject, Image, Memory, data_start};
@@ -18,6 +19,7 @@ use pw_fields::names::{read_name, read_names};
 use pw_fields::{FieldError, read_bytes, read_u32};
 use pw_files::late::check_used;
 use pw_files::places::{read_item_bytes, read_offset};
+use pw_items::Items;
 use pw_value::limits::{MEMORY_SIZE, TEXT_START, WORD_LIMIT};
 use pw_value::{FileError, Name};
 use std::alloc::{AllocError, Global};
@@ -49,10 +51,10 @@ fn read_at_most(most: u32, bytes: &[u8]) -> Result<(u32, &[u8]), FieldError>
 }
 
 /// The words of the text.
-fn read_words(alloc: Global, count: u32, bytes: &[u8]) -> Result<(Vec<u32>, &[u8]), FieldError>
-    ensures { Gives (λ x. (x.0.items, x.1.now)) result (repeated u32_at count bytes.now) }
+fn read_words(alloc: Global, count: u32, bytes: &[u8]) -> Result<(Items<u32>, &[u8]), FieldError>
+    ensures { Gives (λ x. (x.0, x.1.now)) result (repeated u32_at count bytes.now) }
 {
-    let mut words = Vec::new(alloc);
+    let mut words = Items::new(alloc);
     let mut rest = bytes;
     for _ in 0..count {
         let (word, after) = read_u32(rest)?;
@@ -83,11 +85,11 @@ fn read_item(
     free: u64,
     bytes: &[u8],
 ) -> Result<(DataItem, &[u8]), FieldError>
-    ensures { Gives (λ x. (item_view x.0, x.1.now)) result (item_at size free bytes.now) }
+    ensures { Gives (λ x. (x.0, x.1.now)) result (item_at size free bytes.now) }
 {
     let (offset, rest) = read_offset(size, free, bytes)?;
     let (text, rest) = read_item_bytes(size, offset, rest)?;
-    let bytes = Vec::from_slice(alloc, text)?;
+    let bytes = Items::from_vec(Vec::from_slice(alloc, text)?);
     Ok((DataItem { offset, bytes }, rest))
 }
 
@@ -97,10 +99,10 @@ fn read_items(
     size: u32,
     count: u32,
     bytes: &[u8],
-) -> Result<(Vec<DataItem>, &[u8]), FieldError>
-    ensures { Gives (λ x. (map item_view x.0.items, x.1.now)) result (items_at (item_at size) next_free count 0 bytes.now) }
+) -> Result<(Items<DataItem>, &[u8]), FieldError>
+    ensures { Gives (λ x. (x.0, x.1.now)) result (items_at (item_at size) next_free count 0 bytes.now) }
 {
-    let mut items = Vec::new(alloc);
+    let mut items = Items::new(alloc);
     let mut rest = bytes;
     let mut free = 0u64;
     for _ in 0..count {
@@ -114,7 +116,7 @@ fn read_items(
 
 /// The least offset of an item behind this one.
 fn free_after(item: &DataItem) -> u64
-    ensures { result ≡ free_behind (item_view item.now) }
+    ensures { result ≡ free_behind item.now }
 {
     u64::from(item.offset) + (item.bytes.len() as u64).max(1)
 }
@@ -122,7 +124,7 @@ fn free_after(item: &DataItem) -> u64
 /// What a machine starts with, but for the rule of the entry.
 #[tactic(auto, unfolding(crate::specs::Reading::memory_at))]
 fn read_memory(alloc: Global, bytes: &[u8]) -> Result<(Memory, &[u8]), FieldError>
-    ensures { Gives (λ x. (memory_view x.0, x.1.now)) result (memory_at bytes.now) }
+    ensures { Gives (λ x. (x.0, x.1.now)) result (memory_at bytes.now) }
 {
     let (entry, rest) = read_u32(bytes)?;
     let (stack, rest) = read_u32(rest)?;
@@ -187,10 +189,10 @@ fn read_functions<'a>(
     words: u64,
     count: u32,
     bytes: &'a [u8],
-) -> Result<(Vec<Function>, &'a [u8]), FieldError>
-    ensures { Gives (λ x. (x.0.items, x.1.now)) result (repeated (function_at names.now words) count bytes.now) }
+) -> Result<(Items<Function>, &'a [u8]), FieldError>
+    ensures { Gives (λ x. (x.0, x.1.now)) result (repeated (function_at names.now words) count bytes.now) }
 {
-    let mut functions = Vec::new(alloc);
+    let mut functions = Items::new(alloc);
     let mut rest = bytes;
     for _ in 0..count {
         let (function, after) = read_function(alloc, names, words, rest)?;
@@ -221,10 +223,10 @@ fn read_globals<'a>(
     names: &[Name],
     count: u32,
     bytes: &'a [u8],
-) -> Result<(Vec<GlobalObject>, &'a [u8]), FieldError>
-    ensures { Gives (λ x. (x.0.items, x.1.now)) result (repeated (global_at names.now) count bytes.now) }
+) -> Result<(Items<GlobalObject>, &'a [u8]), FieldError>
+    ensures { Gives (λ x. (x.0, x.1.now)) result (repeated (global_at names.now) count bytes.now) }
 {
-    let mut globals = Vec::new(alloc);
+    let mut globals = Items::new(alloc);
     let mut rest = bytes;
     for _ in 0..count {
         let (global, after) = read_global(alloc, names, rest)?;
@@ -269,10 +271,10 @@ fn function_names(alloc: Global, functions: &[Function]) -> Result<Vec<&Name>, A
 
 /// The names that an image uses.
 pub(crate) fn used_names(alloc: Global, image: &Image) -> Result<Vec<&Name>, AllocError>
-    ensures { IfOk result (λ v. map (λ name. name.now) v.items ≡ names_of (view image.now)) }
+    ensures { IfOk result (λ v. map (λ name. name.now) v.items ≡ names_of image.now) }
 {
-    let mut used = function_names(alloc, &image.functions)?;
-    for global in &image.globals {
+    let mut used = function_names(alloc, image.functions.as_slice())?;
+    for global in image.globals.as_slice() {
         used.push(&global.name)?;
     }
     Ok(used)
@@ -307,7 +309,7 @@ fn end_contents(
     rest: &[u8],
 ) -> Result<((Vec<Name>, Image), &[u8]), FieldError>
     requires { length (flat_map text names.items) + behind < 2 ^ 64 }
-    ensures { Gives (λ x. (contents_view x.0, x.1.now)) result (ended (first_unused names.items (names_of (view image)) behind) (contents_view (names, image)) rest.now) }
+    ensures { Gives (λ x. (contents_view x.0, x.1.now)) result (ended (first_unused names.items (names_of image) behind) (contents_view (names, image)) rest.now) }
 {
     if !rest.is_empty() {
         return Err(FieldError::Fault { left: rest.len() });
@@ -319,7 +321,7 @@ fn end_contents(
 /// The rule that is looked at last: each name of the table is used, where so many bytes are left behind the table.
 fn check_last(alloc: Global, names: &[Name], image: &Image, behind: usize) -> Result<(), FieldError>
     requires { length (flat_map text names.now) + behind < 2 ^ 64 }
-    ensures { Gives (λ x. x) result (broken_at (first_unused names.now (names_of (view image.now)) behind)) }
+    ensures { Gives (λ x. x) result (broken_at (first_unused names.now (names_of image.now) behind)) }
 {
     let used = used_names(alloc, image)?;
     check_used(alloc, names, used, behind)
@@ -356,18 +358,18 @@ fn read_file(alloc: Global, bytes: &[u8]) -> Result<(Vec<Name>, Image), FileErro
 /// breaks its rule.
 pub fn read_image(alloc: Global, bytes: &[u8]) -> Result<Image, FileError>
     // What is read is an image, and the bytes are its file.
-    ensures found { IfOk result (λ image. (names : List (List ℕ)) × IsImageFile bytes.now (record { names = names; value = view image })) }
+    ensures found { IfOk result (λ image. (names : List (List ℕ)) × IsImageFile bytes.now (record { names = names; value = image })) }
     // A file of an image is read, unless memory runs out.
-    ensures only { (c : Contents ImageValue) → IsImageFile bytes.now c → GivesFile view result (Ok c.value) }
+    ensures only { (c : Contents AnyImage) → IsImageFile bytes.now c → GivesFile (λ image. image) result (Ok c.value) }
     // Which fault it is.
-    ensures exact { GivesFile view result (value_of (image_file_at bytes.now)) }
+    ensures exact { GivesFile (λ image. image) result (value_of (image_file_at bytes.now)) }
 {
     read_alone(alloc, bytes)
 }
 
 /// The image of a whole file, without its table of names.
 fn read_alone(alloc: Global, bytes: &[u8]) -> Result<Image, FileError>
-    ensures { GivesFile view result (value_of (image_file_at bytes.now)) }
+    ensures { GivesFile (λ image. image) result (value_of (image_file_at bytes.now)) }
 {
     let (_names, image) = read_file(alloc, bytes)?;
     Ok(image)

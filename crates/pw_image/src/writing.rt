@@ -1,11 +1,11 @@
 //! Writing an image file.
 
-ghost use Rattle.std.specs.Prelude.{◌≡◌, [], ◌∷◌, ◌++◌, ◌<◌, ◌^◌, ℕ, List, length, map, OnOk, IfOk, All, Contains};
+ghost use Rattle.std.specs.Prelude.{◌≡◌, [], ◌∷◌, ◌++◌, ◌<◌, ◌^◌, ℕ, List, length, OnOk, IfOk, All, Contains};
 ghost use Rattle.std.specs.List.{flat_map};
 ghost use Rattle.pw_fields.specs.Fields.{u32, parts, FitsText, FitsU32};
 ghost use Rattle.pw_fields.specs.FieldFrame.{FitsFile};
 ghost use Rattle.pw_fields.specs.FieldNames.{IsNameTable, IsTableOf};
-ghost use Rattle.pw_image.specs.Image.{Contents, IsMemory, IsImage, IsContents, IsImageFile, item as item_text, memory as memory_text, function as function_text, global as global_text, item_view, memory_view, view, names_of, spelling};
+ghost use Rattle.pw_image.specs.Image.{IsMemory, IsImage, IsContents, IsImageFile, item as item_text, memory as memory_text, function as function_text, global as global_text, names_of, spelling};
 
 use crate::image::{DataItem, Function, GlobalObject, Image, Memory};
 use crate::reading::{KIND, VERSION, used_names};
@@ -17,18 +17,18 @@ use std::alloc::{AllocError, Global};
 
 /// An item of the data.
 fn push_item(out: &mut Vec<u8>, item: &DataItem) -> Result<(), AllocError>
-    requires { FitsText item.now.bytes.items }
-    ensures { OnOk result (out.new.items ≡ out.old.items ++ item_text (item_view item.now)) }
+    requires { FitsText item.now.bytes }
+    ensures { OnOk result (out.new.items ≡ out.old.items ++ item_text item.now) }
 {
     push_u32(out, item.offset)?;
-    push_text(out, &item.bytes)?;
+    push_text(out, item.bytes.as_slice())?;
     Ok(())
 }
 
 /// The items of the data.
 fn push_items(out: &mut Vec<u8>, items: &[DataItem]) -> Result<(), AllocError>
-    requires { All (λ i. FitsText i.bytes.items) items.now }
-    ensures { OnOk result (out.new.items ≡ out.old.items ++ flat_map item_text (map item_view items.now)) }
+    requires { All (λ i. FitsText i.bytes) items.now }
+    ensures { OnOk result (out.new.items ≡ out.old.items ++ flat_map item_text items.now) }
 {
     for item in items {
         push_item(out, item)?;
@@ -112,8 +112,8 @@ fn push_code(out: &mut Vec<u8>, words: &[u32]) -> Result<(), AllocError>
 
 /// The data.
 fn push_data(out: &mut Vec<u8>, size: u32, items: &[DataItem]) -> Result<(), AllocError>
-    requires { All (λ i. FitsText i.bytes.items) items.now }
-    ensures { OnOk result (out.new.items ≡ out.old.items ++ parts (u32 size ∷ u32 (length items.now) ∷ flat_map item_text (map item_view items.now) ∷ [])) }
+    requires { All (λ i. FitsText i.bytes) items.now }
+    ensures { OnOk result (out.new.items ≡ out.old.items ++ parts (u32 size ∷ u32 (length items.now) ∷ flat_map item_text items.now ∷ [])) }
 {
     push_u32(out, size)?;
     push_count(out, items.len())?;
@@ -123,38 +123,38 @@ fn push_data(out: &mut Vec<u8>, size: u32, items: &[DataItem]) -> Result<(), All
 
 /// What a machine starts with.
 fn push_memory(out: &mut Vec<u8>, memory: &Memory) -> Result<(), AllocError>
-    requires { IsMemory (memory_view memory.now) }
-    ensures { OnOk result (out.new.items ≡ out.old.items ++ memory_text (memory_view memory.now)) }
+    requires { IsMemory memory.now }
+    ensures { OnOk result (out.new.items ≡ out.old.items ++ memory_text memory.now) }
 {
     push_start(out, memory)?;
-    push_code(out, &memory.words)?;
-    push_data(out, memory.data_size, &memory.items)?;
+    push_code(out, memory.words.as_slice())?;
+    push_data(out, memory.data_size, memory.items.as_slice())?;
     Ok(())
 }
 
 /// The functions and the global objects of the map.
 fn push_map(out: &mut Vec<u8>, names: &[Name], image: &Image) -> Result<(), AllocError>
     requires count { FitsU32 (length names.now) }
-    requires table { IsTableOf names.now (names_of (view image.now)) }
-    ensures functions { OnOk result (FitsU32 (length image.now.functions.items)) }
-    ensures globals { OnOk result (FitsU32 (length image.now.globals.items)) }
-    ensures written { OnOk result (out.new.items ≡ out.old.items ++ parts (u32 (length image.now.functions.items) ∷ flat_map (function_text names.now) image.now.functions.items
-        ∷ u32 (length image.now.globals.items) ∷ flat_map (global_text names.now) image.now.globals.items ∷ [])) }
+    requires table { IsTableOf names.now (names_of image.now) }
+    ensures functions { OnOk result (FitsU32 (length image.now.functions)) }
+    ensures globals { OnOk result (FitsU32 (length image.now.globals)) }
+    ensures written { OnOk result (out.new.items ≡ out.old.items ++ parts (u32 (length image.now.functions) ∷ flat_map (function_text names.now) image.now.functions
+        ∷ u32 (length image.now.globals) ∷ flat_map (global_text names.now) image.now.globals ∷ [])) }
 {
     push_count(out, image.functions.len())?;
-    push_functions(out, names, &image.functions)?;
+    push_functions(out, names, image.functions.as_slice())?;
     push_count(out, image.globals.len())?;
-    push_globals(out, names, &image.globals)?;
+    push_globals(out, names, image.globals.as_slice())?;
     Ok(())
 }
 
 /// The payload of an image file.
 fn write_payload(alloc: Global, names: &[Name], image: &Image) -> Result<Vec<u8>, AllocError>
-    requires image { IsImage (view image.now) }
+    requires image { IsImage image.now }
     requires count { FitsU32 (length names.now) }
-    requires table { IsTableOf names.now (names_of (view image.now)) }
-    ensures contents { OnOk result (IsContents (record { names = names.now; value = view image.now })) }
-    ensures spelled { IfOk result (λ v. v.items ≡ spelling (record { names = names.now; value = view image.now })) }
+    requires table { IsTableOf names.now (names_of image.now) }
+    ensures contents { OnOk result (IsContents (record { names = names.now; value = image.now })) }
+    ensures spelled { IfOk result (λ v. v.items ≡ spelling (record { names = names.now; value = image.now })) }
 {
     let mut out = Vec::new(alloc);
     push_memory(&mut out, &image.memory)?;
@@ -165,8 +165,8 @@ fn write_payload(alloc: Global, names: &[Name], image: &Image) -> Result<Vec<u8>
 
 /// The one file of an image. A file that would be too long for its fields is answered as want of memory.
 pub fn write_image(alloc: Global, image: &Image) -> Result<Vec<u8>, AllocError>
-    requires { IsImage (view image.now) }
-    ensures { IfOk result (λ v. (names : List (List ℕ)) × IsImageFile v.items (record { names = names; value = view image.now })) }
+    requires { IsImage image.now }
+    ensures { IfOk result (λ v. (names : List (List ℕ)) × IsImageFile v.items (record { names = names; value = image.now })) }
 {
     let used = used_names(alloc, image)?;
     let names = make_table(alloc, used)?;

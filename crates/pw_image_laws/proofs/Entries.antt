@@ -10,7 +10,8 @@ use Rattle.pw_fields.proofs.FieldLaws.{found_is, after_passes, guard_passes}
 use Rattle.pw_files.specs.Faults.{IsFieldLength, Anything, OfPayload, StaysFault}
 use Rattle.pw_files.proofs.OnwardLaws.{kept_found}
 use Rattle.pw_files.proofs.FaultLaws.{header_onward, swapped}
-use Rattle.pw_image.specs.Image.{ImageValue, Contents, kind, image_version}
+use Rattle.pw_image.specs.declared.image.Image.{Image}
+use Rattle.pw_image.specs.Image.{Contents, kind, image_version}
 use Rattle.pw_image.specs.Reading.{is_in_text, start_at, is_lawful_start, contents_at, payload_at, image_file_at}
 use Rattle.pw_image_laws.specs.ImageFaults.{HasEntry, read, entry_place, count_place, count_end}
 
@@ -153,7 +154,7 @@ entry_stands bytes o e =
     let place : (length bytes - length (digest_of rest)) - length (payload_of rest) ≡ entry_place = omega (arith, far, length-take (length rest - digest_size) rest, length-drop (length rest - digest_size) rest) in
     subst (λ (p : ℕ × List ℕ × ℕ). p.2 - length p.1 ≡ entry_place) q.2 place
 
-abbrev failed : ℕ → Result (Contents ImageValue) ℕ
+abbrev failed : ℕ → Result (Contents Image) ℕ
 failed at = Err at
 
 pub entry_fault : (bytes : List ℕ) (o : ℕ × List ℕ × ℕ) → opened_at kind image_version image_version bytes ≡ Ok o → is_lawful_start (start_at o.1) ≡ false → image_file_at bytes ≡ failed entry_place

@@ -6,14 +6,17 @@ use Rattle.pw_files.specs.Contents.{value_of}
 use Rattle.pw_files.specs.Faults.{OfPayload, StaysFault}
 use Rattle.pw_files.proofs.OnwardLaws.{Onward, one_onward, behind, done_onward, ended_onward, checked_one, u32_one, text_one, name_one, names_onward, items_onward, repeated_onward}
 use Rattle.pw_files.proofs.FaultLaws.{Keeps, keeps_behind, keeps_ended, lies_within, fault_stays}
-use Rattle.pw_image.specs.Image.{Item, MemoryValue, ImageValue, Contents, names_of, kind, image_version}
+use Rattle.pw_image.specs.declared.image.DataItem.{DataItem}
+use Rattle.pw_image.specs.declared.image.Memory.{Memory}
+use Rattle.pw_image.specs.declared.image.Image.{Image}
+use Rattle.pw_image.specs.Image.{Contents, names_of, kind, image_version}
 use Rattle.pw_image.specs.Reading.{item_at, next_free, memory_at, function_at, global_at, contents_at, payload_at, image_file_at}
 use Rattle.pw_image_laws.proofs.Entries.{entry_fault, entry_fault_again, stays_later}
 use Rattle.pw_image_laws.specs.ImageFaults.{fields_at, HasEntry, read, ImageFaultsStay}
 
 item_onward : (size free : ℕ) → Onward (item_at size free)
 unfolding item_at
-item_onward size free = behind _ _ (one_onward _ (checked_one _ u32_at u32_one)) (λ offset. behind _ _ (one_onward _ (checked_one _ text_at text_one)) (λ bytes. done_onward {X = Item} (record { offset = offset; bytes = bytes })))
+item_onward size free = behind _ _ (one_onward _ (checked_one _ u32_at u32_one)) (λ offset. behind _ _ (one_onward _ (checked_one _ text_at text_one)) (λ bytes. done_onward {X = DataItem} (record { offset = offset; bytes = bytes })))
 
 memory_onward : Onward memory_at
 unfolding memory_at
@@ -21,7 +24,7 @@ memory_onward =
     behind _ _ (one_onward _ u32_one) (λ entry. behind _ _ (one_onward _ u32_one) (λ stack. behind _ _ (one_onward _ (checked_one _ u32_at u32_one)) (λ stack_end. behind _ _ (one_onward _ (checked_one _ u32_at u32_one)) (λ count.
     behind _ _ (repeated_onward u32_at (one_onward _ u32_one) count) (λ words. behind _ _ (one_onward _ (checked_one _ u32_at u32_one)) (λ data_size. behind _ _ (one_onward _ u32_one) (λ item_count.
     behind _ _ (items_onward (item_at data_size) next_free (λ free. item_onward data_size free) item_count 0) (λ items.
-    done_onward {X = MemoryValue} (record { entry = entry; stack = stack; stack_end = stack_end; words = words; data_size = data_size; items = items })))))))))
+    done_onward {X = Memory} (record { entry = entry; stack = stack; stack_end = stack_end; words = words; data_size = data_size; items = items })))))))))
 
 function_onward : (names : List (List ℕ)) (words : ℕ) → Onward (function_at names words)
 unfolding function_at
@@ -53,7 +56,7 @@ payload_keeps : (payload : List ℕ) (left : ℕ) → HasEntry payload → field
 unfolding payload_at
 payload_keeps payload left entry e = rw entry (fields_keep.same payload left e)
 
-image_fault : (r : Result (Contents ImageValue) ℕ) (at : ℕ) → value_of r ≡ Err at → r ≡ Err at
+image_fault : (r : Result (Contents Image) ℕ) (at : ℕ) → value_of r ≡ Err at → r ≡ Err at
 image_fault (Ok c) at e = absurd cc
 image_fault (Err d) at e = cc
 

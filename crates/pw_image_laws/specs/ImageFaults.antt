@@ -5,12 +5,13 @@ use Rattle.pw_fields.specs.FieldFrame.{ended, header_size, opened_at}
 use Rattle.pw_fields.specs.FieldNames.{names_at}
 use Rattle.pw_files.specs.Contents.{value_of}
 use Rattle.pw_files.specs.Faults.{Anything, OfPayload, StaysFault, unsealed}
-use Rattle.pw_image.specs.Image.{ImageValue, Contents, kind, image_version}
+use Rattle.pw_image.specs.declared.image.Image.{Image}
+use Rattle.pw_image.specs.Image.{Contents, kind, image_version}
 use Rattle.pw_image.specs.Reading.{memory_at, function_at, global_at, start_at, is_lawful_start, image_file_at}
 
 -- the fields of an image's payload, without the rules on several of them: that the entry is the address of a word, and
 -- that each name of the table is used
-unfoldable pub fields_at : List ℕ → Result (Contents ImageValue × List ℕ) ℕ
+unfoldable pub fields_at : List ℕ → Result (Contents Image × List ℕ) ℕ
 fields_at = do
   memory ← memory_at
   names ← names_at
@@ -24,7 +25,7 @@ fields_at = do
 abbrev pub HasEntry : List ℕ → Type 0
 HasEntry payload = is_lawful_start (start_at payload) ≡ true
 
-abbrev pub read : List ℕ → Result ImageValue ℕ
+abbrev pub read : List ℕ → Result Image ℕ
 read bytes = value_of (image_file_at bytes)
 
 -- the header is lawful, and the entry is no address of a word

@@ -5,7 +5,7 @@ ghost use Rattle.std.specs.List.{AllByRecursion};
 ghost use Rattle.pw_fields.specs.FieldLaws.{AreBytes};
 ghost use Rattle.pw_db.specs.Database.{IsDatabase, IsDatabaseFile};
 ghost use Rattle.pw_object.specs.Object.{IsObject, IsObjectFile};
-ghost use Rattle.pw_image.specs.Image.{IsImage, IsImageFile, view};
+ghost use Rattle.pw_image.specs.Image.{IsImage, IsImageFile};
 ghost use Rattle.pw_modules.specs.FileNames.{object_name};
 ghost use Rattle.pw_kept.specs.Files.{AreObjectFiles, HoldBytes, file_view, made_anew};
 
@@ -114,12 +114,12 @@ pub fn files_of(
 ) -> Result<ProgramFiles, AllocError>
     requires database { IsDatabase database.now.functions }
     requires objects { AllByRecursion IsObject objects.now }
-    requires image { IsImage (view image.now) }
+    requires image { IsImage image.now }
     ensures names { IfOk result (λ files. files.fresh.names.items ≡ map (λ m. m.0) (made_anew (map (λ m. m.name) modules.now) objects.now fresh.now)) }
     ensures objects { IfOk result (λ files. AreObjectFiles (made_anew (map (λ m. m.name) modules.now) objects.now fresh.now) (map file_view files.fresh.files.items)) }
     ensures bytes { IfOk result (λ files. HoldBytes (map file_view files.fresh.files.items)) }
     ensures database { IfOk result (λ files. IsDatabaseFile files.database.items database.now.functions) }
-    ensures image { IfOk result (λ files. (names : List (List ℕ)) × IsImageFile files.image.items (record { names = names; value = view image.now })) }
+    ensures image { IfOk result (λ files. (names : List (List ℕ)) × IsImageFile files.image.items (record { names = names; value = image.now })) }
 {
     let fresh = fresh_files(alloc, modules, objects, fresh)?;
     let database = pw_db::write(alloc, database)?;

@@ -7,7 +7,7 @@ use Rattle.pw_value.specs.ProgramNames.{start_name}
 use Rattle.pw_value.specs.declared.value.Byte.{Byte}
 use Rattle.pw_db.specs.declared.database.Directives.{Directives}
 use Rattle.pw_alloc.specs.declared.located.Located.{Located}
-use Rattle.pw_image.specs.Image.{ImageValue}
+use Rattle.pw_image.specs.declared.image.Image.{Image}
 use Rattle.pw_machine.specs.Start.{image_start}
 use Rattle.pw_cmean.specs.Worlds as source
 use Rattle.pw_cmean.specs.Acts.{Moment}
@@ -57,21 +57,21 @@ traffic_down p named g d s webs places lines machine a b c m =
     (carried (EventAlike Same Same) (ObeysTraffic g d) (ObeysTraffic g d)
     (λ l k q. traffic_alike g d l k (same_kinds (EventAlike Same Same) places_kind l k q)) s webs places a m))
 
-record Holding (p : source.Program) (q : Program) (d : List (List ℕ × Directives)) (functions : List Located) (v : ImageValue) (frame_of : List ℕ → ℕ) (stack : ℕ) (input : List ℕ) : Type 0 where
+record Holding (p : source.Program) (q : Program) (d : List (List ℕ × Directives)) (functions : List Located) (v : Image) (frame_of : List ℕ → ℕ) (stack : ℕ) (input : List ℕ) : Type 0 where
   agree : Agree (source_runs p frame_of stack input) (image_start v.memory) input
   places : Refines (InMachine q (address_of v)) (source_stages p frame_of stack input) (calls_of (image_run q functions v input))
   registers : IsDefined (source_runs p frame_of stack input) → (n : ℕ) → Notes (KeepRegisters d) (image_run q functions v input n)
   traffic : IsDefined (source_runs p frame_of stack input) → (n : ℕ) → Notes (ObeysTraffic (graph_of q) d) (image_run q functions v input n)
 
 -- the runs of a built program, and what each layer keeps
-record Layers (p : source.Program) (q : Program) (d : List (List ℕ × Directives)) (functions : List Located) (v : ImageValue) (frame_of : List ℕ → ℕ) (stack : ℕ) (input : List ℕ) : Type 0 where
+record Layers (p : source.Program) (q : Program) (d : List (List ℕ × Directives)) (functions : List Located) (v : Image) (frame_of : List ℕ → ℕ) (stack : ℕ) (input : List ℕ) : Type 0 where
   low : Refines (MomentKept q) (source_stages p frame_of stack input) (flow_run q input)
   direction : DirectionKeeps q d input
   places : PlacesKeep q d functions input
   link : LinkKeeps q functions v input
   selection : SelectionKeeps q d functions link.addresses link.scratch input
 
-whole : (p : source.Program) (q : Program) (d : List (List ℕ × Directives)) (functions : List Located) (v : ImageValue) (frame_of : List ℕ → ℕ) (stack : ℕ) (input : List ℕ)
+whole : (p : source.Program) (q : Program) (d : List (List ℕ × Directives)) (functions : List Located) (v : Image) (frame_of : List ℕ → ℕ) (stack : ℕ) (input : List ℕ)
     → (l : Layers p q d functions v frame_of stack input)
     → Refines (EventInWords q (address_of v)) (placed_run (with_functions q functions) input) (line_run (line_program q functions) l.link.addresses l.link.scratch input)
     → Holding p q d functions v frame_of stack input

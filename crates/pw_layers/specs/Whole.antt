@@ -17,7 +17,7 @@ use Rattle.pw_db.specs.Database.{IsDatabase}
 use Rattle.pw_flow.specs.declared.flow.FlowGlobal.{FlowGlobal}
 use Rattle.pw_alloc.specs.declared.located.Located.{Located}
 use Rattle.pw_object.specs.declared.object.Object.{Object}
-use Rattle.pw_image.specs.Image.{ImageValue}
+use Rattle.pw_image.specs.declared.image.Image.{Image}
 use Rattle.pw_link.specs.Linking.{linked, size_fault}
 use Rattle.pw_machine.specs.Start.{image_start}
 use Rattle.pw_lower.specs.Modules.{start_of, start_function}
@@ -99,7 +99,7 @@ InMachine p named m e = ⊥
 -- ---- a program and what was made of it
 
 -- the frames are those of the image's map
-abbrev pub image_of : List Object → ℕ → ImageValue
+abbrev pub image_of : List Object → ℕ → Image
 image_of objects stack = linked objects stack
 
 abbrev pub program_of : Program → List Object → ℕ → flows.Program
@@ -137,7 +137,7 @@ pub record Holds (p : Program) (d : List (List ℕ × Directives)) (functions : 
       Notes (ObeysTraffic (graph_of (program_of p objects stack)) d) (image_run (program_of p objects stack) functions (image_of objects stack) input n)
 
 -- each frame is at most its function's room
-pub record FramesFit (p : Program) (v : ImageValue) : Type 0 where
+pub record FramesFit (p : Program) (v : Image) : Type 0 where
   pub functions : (m : ProgramModule) (f : FunctionValue) → Contains p.modules m → Contains m.tree.functions f →
       frame_in v (full_name m.name f.name) ≤ room_of m.tree.records f
   pub start : (m : ProgramModule) → Contains p.modules m → Contains (start_of m.tree.functions) start_function →

@@ -14,10 +14,12 @@ use Rattle.pw_inst.specs.declared.relocation.FixKind.{FixKind}
 use Rattle.pw_inst.specs.declared.relocation.FixKind.TheVariants.{Ldil, Im14, Bl}
 use Rattle.pw_inst.specs.declared.relocation.Symbol.{Symbol}
 use Rattle.pw_inst.specs.declared.relocation.Symbol.TheVariants.{Named, Word, StackLimit, Routine}
-use Rattle.pw_flow.specs.declared.flow.Item.{Item as FlowItem}
+use Rattle.pw_flow.specs.declared.flow.Item.{Item}
 use Rattle.pw_flow.specs.declared.flow.Item.TheVariants.{Bytes, Address}
 use Rattle.pw_object.specs.declared.object.Object.{Object}
-use Rattle.pw_image.specs.Image.{Item, MemoryValue, ImageValue}
+use Rattle.pw_image.specs.declared.image.DataItem.{DataItem}
+use Rattle.pw_image.specs.declared.image.Memory.{Memory}
+use Rattle.pw_image.specs.declared.image.Image.{Image}
 use Rattle.pw_image.specs.declared.image.Function.{Function}
 use Rattle.pw_image.specs.declared.image.GlobalObject.{GlobalObject}
 use Rattle.pw_interface.specs.Interface.{interface}
@@ -69,14 +71,14 @@ linked_words sites text = flat_map (piece_words sites) text ++ word_of nop ∷ [
 -- ---- data
 
 -- an address in an object is four bytes
-abbrev pub item_bytes : List (List ℕ × ℕ) → FlowItem → List ℕ
+abbrev pub item_bytes : List (List ℕ × ℕ) → Item → List ℕ
 item_bytes named (Bytes bytes) = bytes
 item_bytes named (Address name n) = to_be_bytes w32 ((address_in named name + n) % 2 ^ 32)
 
-abbrev pub item_at : List (List ℕ × ℕ) → ℕ → ℕ × FlowItem → Item
+abbrev pub item_at : List (List ℕ × ℕ) → ℕ → ℕ × Item → DataItem
 item_at named offset i = record { offset = (offset + i.0) % 2 ^ 32; bytes = item_bytes named i.1 }
 
-abbrev pub items_of : List (List ℕ × ℕ) → Standing → List Item
+abbrev pub items_of : List (List ℕ × ℕ) → Standing → List DataItem
 items_of named s = map (item_at named s.offset) s.global.items
 
 -- ---- the image
@@ -88,7 +90,7 @@ abbrev pub global_of : ℕ → Standing → GlobalObject
 global_of start s = record { name = s.global.name; address = (start + s.offset) % 2 ^ 32 }
 
 -- the memory and the image of pieces and objects that stand at their places
-abbrev pub memory_by : List Placed → List Standing → ℕ → ℕ → ℕ → ℕ → MemoryValue
+abbrev pub memory_by : List Placed → List Standing → ℕ → ℕ → ℕ → ℕ → Memory
 memory_by text stood begin size stack end = record {
   entry = address_in (sites_by text begin stood end).named start_name;
   stack = stack;
@@ -98,14 +100,14 @@ memory_by text stood begin size stack end = record {
   items = flat_map (items_of (sites_by text begin stood end).named) stood;
 }
 
-abbrev pub image_by : List Placed → List Standing → ℕ → ℕ → ℕ → ℕ → ImageValue
+abbrev pub image_by : List Placed → List Standing → ℕ → ℕ → ℕ → ℕ → Image
 image_by text stood begin size stack end = record {
   memory = memory_by text stood begin size stack end;
   functions = map function_of text;
   globals = map (global_of begin) stood;
 }
 
-unfoldable pub linked : List Object → ℕ → ImageValue
+unfoldable pub linked : List Object → ℕ → Image
 linked objects stack =
     image_by (text_of objects) (data_of objects) (data_begin objects) (data_size objects) stack (stack_end objects stack)
 

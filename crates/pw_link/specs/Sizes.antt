@@ -5,7 +5,7 @@ use Rattle.pw_value.specs.declared.fault.LinkFault.TheVariants.{NoMemory}
 use Rattle.std.specs.List.{sum_by}
 use Rattle.pw_value.specs.Limits.{text_start}
 use Rattle.pw_flow.specs.declared.flow.FlowGlobal.{FlowGlobal}
-use Rattle.pw_image.specs.Image.{data_start, ImageValue}
+use Rattle.pw_image.specs.Image.{data_start}
 use Rattle.pw_image.specs.declared.image.Image.{Image}
 use Rattle.pw_link.specs.declared.layout.Sizes.{Sizes}
 use Rattle.pw_link.specs.Layout.{Piece, placed_from, standing_from, end_behind}
@@ -32,7 +32,7 @@ words_of_parts ps = sum_by (λ p. length p.words) ps + 1
 abbrev pub end_of_parts : List Piece → List FlowGlobal → ℕ → ℕ
 end_of_parts ps gs stack = end_behind (data_start (words_of_parts ps)) (sum_by global_room gs) stack
 
-abbrev pub image_of_parts : List Piece → List FlowGlobal → ℕ → ImageValue
+abbrev pub image_of_parts : List Piece → List FlowGlobal → ℕ → Image
 image_of_parts ps gs stack = image_by (placed_from text_start ps) (standing_from 0 gs) (data_start (words_of_parts ps)) (sum_by global_room gs) stack (end_of_parts ps gs stack)
 
 abbrev pub fault_of_parts : List Piece → List FlowGlobal → ℕ → Option LinkFault

@@ -2,7 +2,6 @@
 
 ghost use Rattle.std.specs.Prelude.{◌≡◌, ◌++◌, ◌+◌, ◌≤◌, ◌<◌, ℕ, List, map, IfOk, OnOk};
 ghost use Rattle.std.specs.List.{flat_map};
-ghost use Rattle.pw_image.specs.Image.{item_view};
 ghost use Rattle.pw_link.specs.Linking.{item_bytes, items_of, function_of, global_of};
 ghost use Rattle.pw_link.specs.Views.{placed_view, standing_view, Tells};
 
@@ -11,6 +10,7 @@ use crate::sites::Sites;
 use crate::text::Placed;
 use pw_flow::Item;
 use pw_image::{DataItem, Function, GlobalObject};
+use pw_items::Items;
 use std::alloc::{AllocError, Global};
 
 /// The bytes of an item: an address is four of them.
@@ -29,16 +29,16 @@ fn item_bytes(alloc: Global, sites: &Sites, item: &Item) -> Result<Vec<u8>, Allo
 /// Adds the items of an object.
 fn add_items(
     alloc: Global,
-    out: &mut Vec<DataItem>,
+    out: &mut Items<DataItem>,
     sites: &Sites,
     standing: &Standing,
 ) -> Result<(), AllocError>
-    ensures { OnOk result ((named : List (List ℕ × ℕ)) → Tells sites.now.names.entries named → map item_view out.new.items ≡ map item_view out.old.items ++ items_of named (standing_view standing.now)) }
+    ensures { OnOk result ((named : List (List ℕ × ℕ)) → Tells sites.now.names.entries named → out.new ≡ out.old ++ items_of named (standing_view standing.now)) }
 {
     for (offset, item) in standing.global.items.as_slice() {
         out.push(DataItem {
             offset: standing.offset.wrapping_add(*offset),
-            bytes: item_bytes(alloc, sites, item)?,
+            bytes: Items::from_vec(item_bytes(alloc, sites, item)?),
         })?;
     }
     Ok(())
@@ -49,10 +49,10 @@ pub(crate) fn items(
     alloc: Global,
     sites: &Sites,
     objects: &[Standing],
-) -> Result<Vec<DataItem>, AllocError>
-    ensures { IfOk result (λ items. (named : List (List ℕ × ℕ)) → Tells sites.now.names.entries named → map item_view items.items ≡ flat_map (items_of named) (map standing_view objects.now)) }
+) -> Result<Items<DataItem>, AllocError>
+    ensures { IfOk result (λ items. (named : List (List ℕ × ℕ)) → Tells sites.now.names.entries named → items ≡ flat_map (items_of named) (map standing_view objects.now)) }
 {
-    let mut items = Vec::new(alloc);
+    let mut items = Items::new(alloc);
     for each in objects {
         add_items(alloc, &mut items, sites, each)?;
     }
@@ -60,10 +60,10 @@ pub(crate) fn items(
 }
 
 /// The functions and routines of the map.
-pub(crate) fn functions(alloc: Global, text: &[Placed]) -> Result<Vec<Function>, AllocError>
-    ensures { IfOk result (λ functions. functions.items ≡ map function_of (map placed_view text.now)) }
+pub(crate) fn functions(alloc: Global, text: &[Placed]) -> Result<Items<Function>, AllocError>
+    ensures { IfOk result (λ functions. functions ≡ map function_of (map placed_view text.now)) }
 {
-    let mut functions = Vec::new(alloc);
+    let mut functions = Items::new(alloc);
     for each in text {
         functions.push(Function {
             name: each.piece.name.copy(alloc)?,
@@ -79,10 +79,10 @@ pub(crate) fn globals(
     alloc: Global,
     start: u32,
     objects: &[Standing],
-) -> Result<Vec<GlobalObject>, AllocError>
-    ensures { IfOk result (λ globals. globals.items ≡ map (global_of start) (map standing_view objects.now)) }
+) -> Result<Items<GlobalObject>, AllocError>
+    ensures { IfOk result (λ globals. globals ≡ map (global_of start) (map standing_view objects.now)) }
 {
-    let mut globals = Vec::new(alloc);
+    let mut globals = Items::new(alloc);
     for each in objects {
         globals.push(GlobalObject {
             name: each.global.name.copy(alloc)?,

@@ -4,7 +4,6 @@ ghost use Rattle.std.specs.Prelude.{◌≡◌, ◌+◌, ◌≤◌, ℕ, map, IfO
 ghost use Rattle.std.specs.List.{sum_by};
 ghost use Rattle.pw_value.specs.Caps.{capped};
 ghost use Rattle.pw_value.specs.Limits.{text_start, word_limit, memory_size};
-ghost use Rattle.pw_image.specs.Image.{view, memory_view};
 ghost use Rattle.pw_link.specs.Layout.{placed_from, standing_from, routine_addresses};
 ghost use Rattle.pw_flow.specs.ValidFlow.{global_room};
 ghost use Rattle.pw_link.specs.Linking.{memory_by, image_by, linked, size_fault};
@@ -21,6 +20,7 @@ use indexmap::IndexMap;
 use pw_flow::FlowGlobal;
 use pw_image::{Image, Memory, data_start};
 use pw_inst::ROUTINE_COUNT;
+use pw_items::Items;
 use pw_object::Object;
 use pw_value::limits::{MEMORY_SIZE, WORD_LIMIT};
 use pw_value::program_names::START;
@@ -95,14 +95,14 @@ fn memory_of(
     text: &[Placed],
     stood: &[Standing],
 ) -> Result<Memory, AllocError>
-    ensures { IfOk result (λ memory. memory_view memory ≡ memory_by (map placed_view text.now) (map standing_view stood.now) sizes.data_begin sizes.data_size sizes.stack sizes.stack_end) }
+    ensures { IfOk result (λ memory. memory ≡ memory_by (map placed_view text.now) (map standing_view stood.now) sizes.data_begin sizes.data_size sizes.stack sizes.stack_end) }
 {
     let sites = sites_of(alloc, sizes, text, stood)?;
     Ok(Memory {
         entry: sites.address(START),
         stack: sizes.stack,
         stack_end: sizes.stack_end,
-        words: linked_words(alloc, &sites, text)?,
+        words: Items::from_vec(linked_words(alloc, &sites, text)?),
         data_size: sizes.data_size,
         items: items(alloc, &sites, stood)?,
     })
@@ -115,7 +115,7 @@ fn image_of(
     text: &[Placed],
     stood: &[Standing],
 ) -> Result<Image, AllocError>
-    ensures { IfOk result (λ image. view image ≡ image_by (map placed_view text.now) (map standing_view stood.now) sizes.data_begin sizes.data_size sizes.stack sizes.stack_end) }
+    ensures { IfOk result (λ image. image ≡ image_by (map placed_view text.now) (map standing_view stood.now) sizes.data_begin sizes.data_size sizes.stack sizes.stack_end) }
 {
     Ok(Image {
         memory: memory_of(alloc, sizes, text, stood)?,
@@ -133,7 +133,7 @@ fn image_at(
 ) -> Result<Image, AllocError>
     requires words { words_of_parts (map piece_view pieces.now) ≤ word_limit }
     requires data { sum_by global_room (map (λ g. g.now) globals.now) ≤ memory_size }
-    ensures { IfOk result (λ image. view image ≡ image_by (placed_from text_start (map piece_view pieces.now)) (standing_from 0 (map (λ g. g.now) globals.now)) sizes.data_begin sizes.data_size sizes.stack sizes.stack_end) }
+    ensures { IfOk result (λ image. image ≡ image_by (placed_from text_start (map piece_view pieces.now)) (standing_from 0 (map (λ g. g.now) globals.now)) sizes.data_begin sizes.data_size sizes.stack sizes.stack_end) }
 {
     let text = at_addresses(alloc, pieces)?;
     let stood = at_offsets(alloc, globals)?;
@@ -148,7 +148,7 @@ fn image_of_parts(
     globals: &[&FlowGlobal],
     stack: u32,
 ) -> Result<Image, LinkFault>
-    ensures image { IfOk result (λ image. view image ≡ image_of_parts (map piece_view pieces.now) (map (λ g. g.now) globals.now) stack) }
+    ensures image { IfOk result (λ image. image ≡ image_of_parts (map piece_view pieces.now) (map (λ g. g.now) globals.now) stack) }
     ensures sizes { AnswersSizes result (fault_of_parts (map piece_view pieces.now) (map (λ g. g.now) globals.now) stack) }
 {
     let sizes = sizes_of(count_words(pieces), count_bytes(globals), stack)?;
@@ -158,7 +158,7 @@ fn image_of_parts(
 /// The image of objects, with so many bytes of stack, or the first of the text and the memory that is too
 /// small for it.
 pub(crate) fn laid_out(alloc: Global, objects: &[Object], stack: u32) -> Result<Image, LinkFault>
-    ensures image { IfOk result (λ image. view image ≡ linked objects.now stack) }
+    ensures image { IfOk result (λ image. image ≡ linked objects.now stack) }
     ensures sizes { AnswersSizes result (size_fault objects.now stack) }
 {
     let order = in_order(alloc, objects)?;

@@ -1,7 +1,6 @@
 //! The linker.
 
 ghost use Rattle.std.specs.Prelude.{◌≡◌, ◌⊎◌, map, IfOk, IfErr, OnOk};
-ghost use Rattle.pw_image.specs.Image.{view};
 ghost use Rattle.pw_interface.specs.Interface.{interface};
 ghost use Rattle.pw_program.specs.Linking.{Links, Refusal};
 ghost use Rattle.pw_link.specs.Linking.{linked, AreLinked, IsRefusal};
@@ -36,7 +35,7 @@ fn check_objects(alloc: Global, objects: &[Object]) -> Result<(), LinkFault>
 /// then `TextTooLarge` with the bytes of the text, and `MemoryTooLarge` with the end of the stack.
 /// `NoMemory` may come at any point.
 pub fn link(alloc: Global, objects: &[Object], stack: u32) -> Result<Image, LinkFault>
-    ensures image { IfOk result (λ image. view image ≡ linked objects.now stack) }
+    ensures image { IfOk result (λ image. image ≡ linked objects.now stack) }
     ensures accepted { OnOk result (AreLinked objects.now stack) }
     ensures refused { IfErr result (λ fault. (fault ≡ LinkFault.NoMemory) ⊎ IsRefusal objects.now stack fault) }
 {

@@ -12,14 +12,15 @@ use Rattle.pw_value.specs.ProgramNames.{start_name}
 use Rattle.pw_value.specs.declared.fault.LinkFault.TheVariants.{TextTooLarge, MemoryTooLarge}
 use Rattle.pw_inst.specs.declared.relocation.Fix.{Fix}
 use Rattle.pw_flow.specs.declared.flow.FlowGlobal.{FlowGlobal}
-use Rattle.pw_flow.specs.declared.flow.Item.{Item as FlowItem}
+use Rattle.pw_flow.specs.declared.flow.Item.{Item}
 use Rattle.pw_flow.specs.declared.flow.Item.TheVariants.{Bytes, Address}
 use Rattle.pw_flow.specs.ValidFlow.{IsGlobal, item_size}
 use Rattle.pw_flow.specs.ValidFlow.{AreItems as FlowItems}
 use Rattle.pw_inst.specs.InstructionTable.{word_of, nop}
 use Rattle.pw_object.specs.declared.object.Object.{Object}
 use Rattle.pw_object.specs.Object.{IsObject}
-use Rattle.pw_image.specs.Image.{Item, IsInText, IsImage, AreItems}
+use Rattle.pw_image.specs.declared.image.DataItem.{DataItem}
+use Rattle.pw_image.specs.Image.{IsInText, IsImage, AreItems}
 use Rattle.pw_program.specs.Linking.{has_main}
 use Rattle.pw_link.specs.Layout.{Piece, placed_from, in_order, pieces_of, word_count, globals_of, Standing, standing_from, data_of, data_size, data_begin, stack_end, global_site, Sites}
 use Rattle.pw_flow.specs.ValidFlow.{global_room}
@@ -71,19 +72,19 @@ globals_fit begin (s ∷ stood) = (omega arith, globals_fit begin stood)
 
 -- ---- items
 
-item_length : (named : List (List ℕ × ℕ)) (i : FlowItem) → length (item_bytes named i) ≡ item_size i
+item_length : (named : List (List ℕ × ℕ)) (i : Item) → length (item_bytes named i) ≡ item_size i
 item_length named (Bytes bytes) = refl
 item_length named (Address name n) = refl
 
 small : (n : ℕ) → n < 2 ^ 32 → n % 2 ^ 32 ≡ n
 small n lt = omega (arith, lt)
 
-more_free : (size low high : ℕ) (items : List Item) → low ≤ high → AreItems size high items → AreItems size low items
+more_free : (size low high : ℕ) (items : List DataItem) → low ≤ high → AreItems size high items → AreItems size low items
 more_free size low high [] le items = tt
 more_free size low high (i ∷ items) le are = (omega (arith, le, are.0), are.1, are.2)
 
 -- an object's items, before those of the next objects
-object_items : (named : List (List ℕ × ℕ)) (size own at next free : ℕ) (items : List (ℕ × FlowItem)) (rest : List Item) → FlowItems own free items → free ≤ own + 1 → at + own + 1 ≤ next → next ≤ size → size < 2 ^ 32
+object_items : (named : List (List ℕ × ℕ)) (size own at next free : ℕ) (items : List (ℕ × Item)) (rest : List DataItem) → FlowItems own free items → free ≤ own + 1 → at + own + 1 ≤ next → next ≤ size → size < 2 ^ 32
     → AreItems size next rest → AreItems size (at + free) (map (item_at named at) items ++ rest)
 object_items named size own at next free [] rest are low fits within small_size later = more_free size (at + free) next rest (omega (arith, low, fits)) later
 object_items named size own at next free (i ∷ items) rest are low fits within small_size later =

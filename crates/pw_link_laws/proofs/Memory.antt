@@ -5,10 +5,12 @@ use Rattle.std.proofs.Math.ListN.{get_or-append}
 use Rattle.std.proofs.lemmas.List.{get_or-append-add, length-append}
 use Rattle.pw_value.specs.Limits.{text_start, word_limit, memory_size}
 use Rattle.pw_fields.specs.Fields.{FitsU32}
-use Rattle.pw_flow.specs.declared.flow.Item.{Item as FlowItem}
+use Rattle.pw_flow.specs.declared.flow.Item.{Item}
 use Rattle.pw_object.specs.declared.object.Object.{Object}
 use Rattle.pw_object.specs.Object.{IsObject}
-use Rattle.pw_image.specs.Image.{Item, MemoryValue, IsMemory, data_start}
+use Rattle.pw_image.specs.declared.image.DataItem.{DataItem}
+use Rattle.pw_image.specs.declared.image.Memory.{Memory}
+use Rattle.pw_image.specs.Image.{IsMemory, data_start}
 use Rattle.pw_machine.specs.Core.{byte_at, word_at}
 use Rattle.pw_machine.specs.Start.{data_start_of, start_memory, start_core, image_start, IsOutside}
 use Rattle.pw_link.specs.Layout.{text_of, data_of, data_begin, pieces_of}
@@ -27,14 +29,14 @@ fits_at (w ∷ words) (suc i) all lt = fits_at words i all.1 (omega (arith, lt))
 
 -- how the start has words, and data, as the machine's laws say
 abbrev pub Words : Type 0
-Words = (words : List ℕ) (items : List Item) (i : ℕ) → length words ≤ word_limit → i < length words → get_or words i 0 < 2 ^ 32
+Words = (words : List ℕ) (items : List DataItem) (i : ℕ) → length words ≤ word_limit → i < length words → get_or words i 0 < 2 ^ 32
     → word_at (start_memory words items) (text_start + 4 * i) ≡ get_or words i 0
 
 abbrev pub Data : Type 0
-Data = (m : MemoryValue) (before after : List Item) (i : Item) (k : ℕ) → IsMemory m → m.items ≡ before ++ i ∷ after → k < length i.bytes
+Data = (m : Memory) (before after : List DataItem) (i : DataItem) (k : ℕ) → IsMemory m → m.items ≡ before ++ i ∷ after → k < length i.bytes
     → byte_at (image_start m).memory (data_start_of m.words + i.offset + k) ≡ get_or i.bytes k 0
 
-own_words : Words → (m : MemoryValue) (address : ℕ) (own : List ℕ) → IsMemory m → StandsInText m.words address own → HasWords (image_start m).memory address own
+own_words : Words → (m : Memory) (address : ℕ) (own : List ℕ) → IsMemory m → StandsInText m.words address own → HasWords (image_start m).memory address own
 unfolding start_core
 own_words law m address own is stands = λ i lt.
     let before = stands.before in
@@ -73,8 +75,8 @@ items_held law objects stack all links small =
     let begin = begin_is objects stack in
     all_by (ItemsStand objects stack m.items) (HasItems objects stack (image_start m).memory) (data_of objects)
     (λ s stands. all_by
-    (λ (i : ℕ × FlowItem). StandsInData m.items (item_at (sites objects stack).named s.offset i))
-    (λ (i : ℕ × FlowItem). HasBytes (image_start m).memory (data_begin objects + (item_at (sites objects stack).named s.offset i).offset) (item_bytes (sites objects stack).named i.1))
+    (λ (i : ℕ × Item). StandsInData m.items (item_at (sites objects stack).named s.offset i))
+    (λ (i : ℕ × Item). HasBytes (image_start m).memory (data_begin objects + (item_at (sites objects stack).named s.offset i).offset) (item_bytes (sites objects stack).named i.1))
     s.global.items
     (λ i there k lt.
     ap (λ (n : ℕ). byte_at (image_start m).memory (n + (item_at (sites objects stack).named s.offset i).offset + k)) (sym begin)
@@ -83,7 +85,7 @@ items_held law objects stack all links small =
     (items_stand objects stack)
 
 abbrev pub Rest : Type 0
-Rest = (m : MemoryValue) (place : ℕ) → IsMemory m → data_start_of m.words ≤ place → place < memory_size
+Rest = (m : Memory) (place : ℕ) → IsMemory m → data_start_of m.words ≤ place → place < memory_size
     → AllByRecursion (IsOutside (data_start_of m.words) place) m.items → byte_at (image_start m).memory place ≡ 0
 
 pub rest_is_zero : Rest → (objects : List Object) (stack place : ℕ) → AllByRecursion IsObject objects → AreLinked objects stack → stack < 2 ^ 32

@@ -5,10 +5,10 @@ use Rattle.std.proofs.lemmas.List.{length-append}
 use Rattle.std.proofs.lemmas.List.Sums.{sum_by-cons}
 use Rattle.pw_value.specs.Limits.{text_start}
 use Rattle.pw_flow.specs.declared.flow.FlowGlobal.{FlowGlobal}
-use Rattle.pw_flow.specs.declared.flow.Item.{Item as FlowItem}
+use Rattle.pw_flow.specs.declared.flow.Item.{Item}
 use Rattle.pw_inst.specs.InstructionTable.{word_of, nop}
 use Rattle.pw_object.specs.declared.object.Object.{Object}
-use Rattle.pw_image.specs.Image.{Item}
+use Rattle.pw_image.specs.declared.image.DataItem.{DataItem}
 use Rattle.pw_link.specs.Layout.{Piece, Placed, placed_from, pieces_of, text_of, globals_of, standing_from, data_of, data_size, data_begin, stack_end, Sites}
 use Rattle.pw_flow.specs.ValidFlow.{global_room}
 use Rattle.pw_link.specs.Linking.{piece_words, item_at, items_of, function_of, global_of, linked}
@@ -50,23 +50,23 @@ functions_apart objects = apart_from text_start (pieces_of objects) refl
 
 -- ---- data
 
-items_behind : (named : List (List ℕ × ℕ)) (at : ℕ) (items : List (ℕ × FlowItem)) (before after : List Item)
+items_behind : (named : List (List ℕ × ℕ)) (at : ℕ) (items : List (ℕ × Item)) (before after : List DataItem)
     → AllByRecursion (λ i. StandsInData (before ++ (map (item_at named at) items ++ after)) (item_at named at i)) items
 items_behind named at [] before after = tt
 items_behind named at (i ∷ items) before after =
-    let here : Item = item_at named at i in
+    let here : DataItem = item_at named at i in
     let rest = map (item_at named at) items ++ after in
     let moved : (before ++ here ∷ []) ++ rest ≡ before ++ here ∷ rest = append_assoc before (here ∷ []) rest in
-    let Stand = λ (all : List Item). AllByRecursion (λ i. StandsInData all (item_at named at i)) items in
+    let Stand = λ (all : List DataItem). AllByRecursion (λ i. StandsInData all (item_at named at i)) items in
     (record { before = before; after = rest; is = refl }, subst Stand moved (items_behind named at items (before ++ here ∷ []) after))
 
-objects_behind : (named : List (List ℕ × ℕ)) (at : ℕ) (gs : List FlowGlobal) (before : List Item)
+objects_behind : (named : List (List ℕ × ℕ)) (at : ℕ) (gs : List FlowGlobal) (before : List DataItem)
     → AllByRecursion (λ s. AllByRecursion (λ i. StandsInData (before ++ flat_map (items_of named) (standing_from at gs)) (item_at named s.offset i)) s.global.items) (standing_from at gs)
 objects_behind named at [] before = tt
 objects_behind named at (g ∷ gs) before =
     let own = map (item_at named at) g.items in
     let rest = flat_map (items_of named) (standing_from (at + global_room g) gs) in
-    let Stand = λ (all : List Item). AllByRecursion (λ s. AllByRecursion (λ i. StandsInData all (item_at named s.offset i)) s.global.items) (standing_from (at + global_room g) gs) in
+    let Stand = λ (all : List DataItem). AllByRecursion (λ s. AllByRecursion (λ i. StandsInData all (item_at named s.offset i)) s.global.items) (standing_from (at + global_room g) gs) in
     (items_behind named at g.items before rest, subst Stand (append_assoc before own rest) (objects_behind named (at + global_room g) gs (before ++ own)))
 
 pub items_stand : (objects : List Object) (stack : ℕ) → AllByRecursion (ItemsStand objects stack (linked objects stack).memory.items) (data_of objects)

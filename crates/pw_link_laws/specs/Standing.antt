@@ -3,7 +3,7 @@ use Rattle.std.specs.Prelude.{ℕ, ◌≡◌, false, ◌+◌, ◌*◌, ◌%◌, 
 use Rattle.std.specs.List.{AllByRecursion}
 use Rattle.pw_value.specs.Limits.{text_start}
 use Rattle.pw_object.specs.declared.object.Object.{Object}
-use Rattle.pw_image.specs.Image.{Item}
+use Rattle.pw_image.specs.declared.image.DataItem.{DataItem}
 use Rattle.pw_machine.specs.Core.{byte_at, word_at}
 use Rattle.pw_value.specs.Names.{is_before}
 use Rattle.pw_link.specs.Layout.{Placed, Standing, Sites, sites_by, text_of, data_of, data_begin, stack_end}
@@ -21,13 +21,13 @@ pub record StandsInText (words : List ℕ) (address : ℕ) (own : List ℕ) : Ty
   pub at : address ≡ text_start + 4 * length before
 
 -- this is one of the items of the data
-pub record StandsInData (items : List Item) (i : Item) : Type 0 where
-  pub before : List Item
-  pub after : List Item
+pub record StandsInData (items : List DataItem) (i : DataItem) : Type 0 where
+  pub before : List DataItem
+  pub after : List DataItem
   pub is : items ≡ before ++ i ∷ after
 
 -- an object's items stand in the data, each at the object's offset and its own
-abbrev pub ItemsStand : List Object → ℕ → List Item → Standing → Type 0
+abbrev pub ItemsStand : List Object → ℕ → List DataItem → Standing → Type 0
 ItemsStand objects stack items s = AllByRecursion (λ i. StandsInData items (item_at (sites objects stack).named s.offset i)) s.global.items
 
 -- What is placed one behind the other: each at a multiple of 4 from an address on, with its words before the next.

@@ -10,7 +10,7 @@ use Rattle.pw_select.specs.Selection.{selected}
 use Rattle.pw_delay.specs.Placement.{placed}
 use Rattle.pw_object.specs.declared.object.Object.{Object}
 use Rattle.pw_object.specs.declared.functions.ObjectFn.{ObjectFn}
-use Rattle.pw_image.specs.Image.{ImageValue}
+use Rattle.pw_image.specs.declared.image.Image.{Image}
 use Rattle.pw_link.specs.Layout.{address_in}
 use Rattle.pw_link.specs.Linking.{linked, size_fault}
 use Rattle.pw_machine.specs.Start.{image_start}
@@ -46,24 +46,24 @@ AreNamesApart p =
 -- ---- the image
 
 -- where its map has a function or a global
-abbrev pub address_of : ImageValue → List ℕ → ℕ
+abbrev pub address_of : Image → List ℕ → ℕ
 address_of v name = address_in (map (λ f. (f.name, f.address)) v.functions ++ map (λ g. (g.name, g.address)) v.globals) name
 
 -- the frame of a function by its map
-abbrev pub frame_in : ImageValue → List ℕ → ℕ
+abbrev pub frame_in : Image → List ℕ → ℕ
 frame_in v name = address_in (map (λ f. (f.name, f.frame)) v.functions) name
 
-abbrev pub map_of : Program → List Located → ImageValue → Map
+abbrev pub map_of : Program → List Located → Image → Map
 map_of p functions v = record { flow = p; functions = functions; eligible = eligible_names p; named = address_of v }
 
-abbrev pub image_run : Program → List Located → ImageValue → List ℕ → ℕ → Stage (Event ℕ ℕ)
+abbrev pub image_run : Program → List Located → Image → List ℕ → ℕ → Stage (Event ℕ ℕ)
 image_run p functions v input = traced_run (map_of p functions v) (image_start v.memory) input
 
 -- ---- the law
 
 -- For some words that the routines leave, the machine does what the lines do at the addresses of the map, and notes
 -- the same.
-pub record LinkKeeps (p : Program) (functions : List Located) (v : ImageValue) (input : List ℕ) : Type 0 where
+pub record LinkKeeps (p : Program) (functions : List Located) (v : Image) (input : List ℕ) : Type 0 where
   pub addresses : Addresses
   pub lawful : AreLawful p addresses
   pub named : addresses.named ≡ address_of v

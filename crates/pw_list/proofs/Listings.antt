@@ -3,12 +3,13 @@ use Rattle.std.proofs.Common.{◌≡◌, ℕ, zero, suc, List, [], ◌∷◌, ma
 use Rattle.std.specs.List.{All, AllByRecursion}
 use Rattle.std.specs.List.Sorted.{IsPermutation}
 use Rattle.pw_fields.specs.Fields.{FitsU32}
-use Rattle.pw_image.specs.Image.{ImageValue, IsInText}
+use Rattle.pw_image.specs.declared.image.Image.{Image}
+use Rattle.pw_image.specs.Image.{IsInText}
 use Rattle.pw_image.specs.declared.image.Function.{Function}
 use Rattle.pw_list.specs.Listing.{IsListing, lines_of}
 use Rattle.pw_list.proofs.Ordered.{moved, one_order}
 
-pub one_listing : (image : ImageValue) (one other : List ℕ) → IsListing image one → IsListing image other → one ≡ other
+pub one_listing : (image : Image) (one other : List ℕ) → IsListing image one → IsListing image other → one ≡ other
 one_listing image one other a b =
     let same = one_order (λ (f : Function). f.address) a.ordered b.ordered a.order.rising b.order.rising (λ n. a.order.each n ∙ sym (b.order.each n)) in
     a.lines ∙ ap (lines_of image.memory.words) same ∙ sym b.lines

@@ -7,7 +7,8 @@ use Rattle.pw_value.specs.Limits.{text_start}
 use Rattle.pw_inst.specs.InstructionTable.{decoded}
 use Rattle.pw_inst.specs.Listing.{hexadecimal, listed, parts}
 use Rattle.pw_image.specs.declared.image.Function.{Function}
-use Rattle.pw_image.specs.Image.{ImageValue, Contents}
+use Rattle.pw_image.specs.declared.image.Image.{Image}
+use Rattle.pw_image.specs.Image.{Contents}
 
 -- ---- words
 
@@ -51,12 +52,12 @@ pub record IsByAddress (functions ordered : List Function) : Type 0 where
   pub each : (address : ℕ) → filter (λ f. f.address == address) ordered ≡ filter (λ f. f.address == address) functions
 
 -- the text is the listing of the image
-pub record IsListing (image : ImageValue) (text : List ℕ) : Type 0 where
+pub record IsListing (image : Image) (text : List ℕ) : Type 0 where
   pub ordered : List Function
   pub order : IsByAddress image.functions ordered
   pub lines : text ≡ lines_of image.memory.words ordered
 
 -- the text is the listing of the image that reading finds
-abbrev pub IsListingOf : Result (Contents ImageValue) ℕ → List ℕ → Type 0
+abbrev pub IsListingOf : Result (Contents Image) ℕ → List ℕ → Type 0
 IsListingOf (Ok c) text = IsListing c.value text
 IsListingOf (Err at) text = ⊥

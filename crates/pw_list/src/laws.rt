@@ -1,10 +1,10 @@
 //! The law of listings.
 
 ghost use Rattle.std.specs.Prelude.{◌≡◌, ℕ, List};
-ghost use Rattle.pw_image.specs.Image.{ImageValue};
+ghost use Rattle.pw_image.specs.declared.image.Image.{Image};
 ghost use Rattle.pw_list.specs.Listing.{IsListing};
 
 /// An image has one listing.
 pub fn an_image_has_one_listing()
-    ensures { (image : ImageValue) (one other : List ℕ) → IsListing image one → IsListing image other → one ≡ other }
+    ensures { (image : Image) (one other : List ℕ) → IsListing image one → IsListing image other → one ≡ other }
 {}

@@ -3,7 +3,8 @@
 ghost use Rattle.std.specs.Prelude.{◌≡◌, ◌++◌, ◌+◌, ◌*◌, ◌<◌, ◌≤◌, ◌^◌, List, All, length, map, IfOk, IfErr, OnOk};
 ghost use Rattle.std.specs.List.Sorted.{IsPermutation};
 ghost use Rattle.pw_value.specs.Limits.{text_start, word_limit};
-ghost use Rattle.pw_image.specs.Image.{Contents, ImageValue, IsImage, IsImageFile, IsInText, view};
+ghost use Rattle.pw_image.specs.declared.image.Image.{Image as AnyImage};
+ghost use Rattle.pw_image.specs.Image.{Contents, IsImage, IsImageFile, IsInText};
 ghost use Rattle.pw_image.specs.Reading.{image_file_at};
 ghost use Rattle.pw_image.specs.Loading.{FailsLoad};
 ghost use Rattle.pw_list.specs.Listing.{IsByAddress, IsListing, IsListingOf, function_lines, lines_of, next_address, words_between};
@@ -89,12 +90,12 @@ fn push_functions(
 /// A word's line has its address and the word as eight hexadecimal digits each, and its instruction, or `?` for a
 /// word that is none. Fails only where memory runs out.
 pub fn image_text(alloc: Global, image: &Image) -> Result<Vec<u8>, AllocError>
-    requires { IsImage (view image.now) }
-    ensures { IfOk result (λ text. IsListing (view image.now) text.items) }
+    requires { IsImage image.now }
+    ensures { IfOk result (λ text. IsListing image.now text.items) }
 {
-    let ordered = by_address(alloc, &image.functions)?;
+    let ordered = by_address(alloc, image.functions.as_slice())?;
     let mut text = Vec::new(alloc);
-    push_functions(alloc, &mut text, &image.memory.words, &ordered)?;
+    push_functions(alloc, &mut text, image.memory.words.as_slice(), &ordered)?;
     Ok(text)
 }
 
@@ -102,7 +103,7 @@ pub fn image_text(alloc: Global, image: &Image) -> Result<Vec<u8>, AllocError>
 /// order, that is short or breaks its rule.
 pub fn listing(alloc: Global, bytes: &[u8]) -> Result<Vec<u8>, LoadError>
     // The bytes are an image's file, and the text is its listing.
-    ensures found { IfOk result (λ text. (c : Contents ImageValue) × IsImageFile bytes.now c × IsListing c.value text.items) }
+    ensures found { IfOk result (λ text. (c : Contents AnyImage) × IsImageFile bytes.now c × IsListing c.value text.items) }
     // It is that of the image that reading finds.
     ensures exact { IfOk result (λ text. IsListingOf (image_file_at bytes.now) text.items) }
     // Which fault it is.

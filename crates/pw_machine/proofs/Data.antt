@@ -4,7 +4,9 @@ use Rattle.std.proofs.lemmas.List.{take-append-drop, length-take, length-take-le
 use Rattle.std.proofs.Math.ListN.{get_or-append}
 use Rattle.std.specs.List.{AllByRecursion}
 use Rattle.pw_value.specs.Limits.{text_start, memory_size}
-use Rattle.pw_image.specs.Image.{Item, MemoryValue, IsMemory, AreItems, free_behind}
+use Rattle.pw_image.specs.declared.image.DataItem.{DataItem}
+use Rattle.pw_image.specs.declared.image.Memory.{Memory}
+use Rattle.pw_image.specs.Image.{IsMemory, AreItems, free_behind}
 use Rattle.pw_machine.specs.Core.{word_at}
 use Rattle.pw_machine.specs.Start.{overwritten, with_items, bytes_of, zeros, data_start_of, start_memory, IsOutside}
 use Rattle.pw_machine.proofs.Memories.{length-bytes_of}
@@ -49,13 +51,13 @@ byte_above memory a bytes p above within =
 -- ---- items
 
 -- a byte below all items
-pub below_items : (memory : List ℕ) (a : ℕ) (items : List Item) (p : ℕ) → p < a → p < length memory → get_or (with_items memory a items) p 0 ≡ get_or memory p 0
+pub below_items : (memory : List ℕ) (a : ℕ) (items : List DataItem) (p : ℕ) → p < a → p < length memory → get_or (with_items memory a items) p 0 ≡ get_or memory p 0
 below_items memory a [] p below within = refl
 below_items memory a (i ∷ items) p below within =
     below_items (overwritten memory (a + i.offset) i.bytes) a items p below (omega (arith, length-overwritten-grows memory (a + i.offset) i.bytes))
     ∙ byte_below memory (a + i.offset) i.bytes p (omega arith) within
 
-pub word_below_items : (memory : List ℕ) (a : ℕ) (items : List Item) (k : ℕ) → k + 4 ≤ a → k + 4 ≤ length memory → word_at (with_items memory a items) k ≡ word_at memory k
+pub word_below_items : (memory : List ℕ) (a : ℕ) (items : List DataItem) (k : ℕ) → k + 4 ≤ a → k + 4 ≤ length memory → word_at (with_items memory a items) k ≡ word_at memory k
 word_below_items memory a items k below within =
     let all = with_items memory a items in
     let b0 : get_or all k 0 ≡ get_or memory k 0 = below_items memory a items k (omega arith) (omega arith) in
@@ -65,7 +67,7 @@ word_below_items memory a items k below within =
     cc
 
 -- a byte outside each item
-pub outside_items : (memory : List ℕ) (a : ℕ) (items : List Item) (p : ℕ) → p < length memory → AllByRecursion (IsOutside a p) items → get_or (with_items memory a items) p 0 ≡ get_or memory p 0
+pub outside_items : (memory : List ℕ) (a : ℕ) (items : List DataItem) (p : ℕ) → p < length memory → AllByRecursion (IsOutside a p) items → get_or (with_items memory a items) p 0 ≡ get_or memory p 0
 outside_items memory a [] p within outside = refl
 outside_items memory a (i ∷ items) p within outside =
     let start = a + i.offset in
@@ -74,14 +76,14 @@ outside_items memory a (i ∷ items) p within outside =
     ∙ elim outside.0 [ inl low ↦ byte_below memory start i.bytes p low within | inr high ↦ byte_above memory start i.bytes p high within ]
 
 -- a byte below the least offset that an item may have
-before_items : (memory : List ℕ) (a size free : ℕ) (items : List Item) (p : ℕ) → AreItems size free items → p < a + free → p < length memory → get_or (with_items memory a items) p 0 ≡ get_or memory p 0
+before_items : (memory : List ℕ) (a size free : ℕ) (items : List DataItem) (p : ℕ) → AreItems size free items → p < a + free → p < length memory → get_or (with_items memory a items) p 0 ≡ get_or memory p 0
 before_items memory a size free [] p are low within = refl
 before_items memory a size free (i ∷ items) p are low within =
     before_items (overwritten memory (a + i.offset) i.bytes) a size (free_behind i) items p are.2 (omega (arith, are.0)) (omega (arith, length-overwritten-grows memory (a + i.offset) i.bytes))
     ∙ byte_below memory (a + i.offset) i.bytes p (omega (arith, are.0)) within
 
 -- a byte inside an item
-pub inside_items : (memory : List ℕ) (a size free : ℕ) (before after : List Item) (i : Item) (k : ℕ) → AreItems size free (before ++ i ∷ after) → a + size ≤ length memory → k < length i.bytes → get_or (with_items memory a (before ++ i ∷ after)) (a + i.offset + k) 0 ≡ get_or i.bytes k 0
+pub inside_items : (memory : List ℕ) (a size free : ℕ) (before after : List DataItem) (i : DataItem) (k : ℕ) → AreItems size free (before ++ i ∷ after) → a + size ≤ length memory → k < length i.bytes → get_or (with_items memory a (before ++ i ∷ after)) (a + i.offset + k) 0 ≡ get_or i.bytes k 0
 inside_items memory a size free [] after i k are room within =
     let start = a + i.offset in
     let grows = length-overwritten-grows memory start i.bytes in
@@ -100,22 +102,22 @@ length-zeros : (n : ℕ) → length (zeros n) ≡ n
 unfolding zeros
 length-zeros n = length-replicate n 0
 
-item_placed : (blank : List ℕ) (m : MemoryValue) (before after : List Item) (i : Item) (k : ℕ) → length blank ≡ memory_size → IsMemory m → m.items ≡ before ++ i ∷ after → k < length i.bytes
+item_placed : (blank : List ℕ) (m : Memory) (before after : List DataItem) (i : DataItem) (k : ℕ) → length blank ≡ memory_size → IsMemory m → m.items ≡ before ++ i ∷ after → k < length i.bytes
     → get_or (with_items (overwritten blank text_start (bytes_of m.words)) (data_start_of m.words) m.items) (data_start_of m.words + i.offset + k) 0 ≡ get_or i.bytes k 0
 item_placed blank m before after i k size is same within =
     let text = overwritten blank text_start (bytes_of m.words) in
     let a = data_start_of m.words in
     let room : a + m.data_size ≤ length text = omega (arith, is.data_fits, is.stack_end, length-overwritten-grows blank text_start (bytes_of m.words)) in
     let are : AreItems m.data_size 0 (before ++ i ∷ after) = subst (AreItems m.data_size 0) same is.items in
-    subst (λ (items : List Item). get_or (with_items text a items) (a + i.offset + k) 0 ≡ get_or i.bytes k 0) (sym same)
+    subst (λ (items : List DataItem). get_or (with_items text a items) (a + i.offset + k) 0 ≡ get_or i.bytes k 0) (sym same)
     (inside_items text a m.data_size 0 before after i k are room within)
 
 -- the bytes of an item stand at its offset
-pub item_at_start : (m : MemoryValue) (before after : List Item) (i : Item) (k : ℕ) → IsMemory m → m.items ≡ before ++ i ∷ after → k < length i.bytes
+pub item_at_start : (m : Memory) (before after : List DataItem) (i : DataItem) (k : ℕ) → IsMemory m → m.items ≡ before ++ i ∷ after → k < length i.bytes
     → get_or (start_memory m.words m.items) (data_start_of m.words + i.offset + k) 0 ≡ get_or i.bytes k 0
 item_at_start m before after i k is same within = item_placed (zeros memory_size) m before after i k (length-zeros memory_size) is same within
 
-other_placed : (blank : List ℕ) (m : MemoryValue) (p : ℕ) → length blank ≡ memory_size → get_or blank p 0 ≡ 0 → IsMemory m → data_start_of m.words ≤ p → p < memory_size → AllByRecursion (IsOutside (data_start_of m.words) p) m.items
+other_placed : (blank : List ℕ) (m : Memory) (p : ℕ) → length blank ≡ memory_size → get_or blank p 0 ≡ 0 → IsMemory m → data_start_of m.words ≤ p → p < memory_size → AllByRecursion (IsOutside (data_start_of m.words) p) m.items
     → get_or (with_items (overwritten blank text_start (bytes_of m.words)) (data_start_of m.words) m.items) p 0 ≡ 0
 other_placed blank m p size zero is above within outside =
     let text = overwritten blank text_start (bytes_of m.words) in
@@ -124,5 +126,5 @@ other_placed blank m p size zero is above within outside =
     ∙ zero
 
 -- any other byte of the data is 0
-pub other_at_start : (m : MemoryValue) (p : ℕ) → IsMemory m → data_start_of m.words ≤ p → p < memory_size → AllByRecursion (IsOutside (data_start_of m.words) p) m.items → get_or (start_memory m.words m.items) p 0 ≡ 0
+pub other_at_start : (m : Memory) (p : ℕ) → IsMemory m → data_start_of m.words ≤ p → p < memory_size → AllByRecursion (IsOutside (data_start_of m.words) p) m.items → get_or (start_memory m.words m.items) p 0 ≡ 0
 other_at_start m p is above within outside = other_placed (zeros memory_size) m p (length-zeros memory_size) (zero_at memory_size p within) is above within outside

@@ -5,7 +5,7 @@ use Rattle.std.proofs.Math.ListN.{get_or-append}
 use Rattle.std.specs.Int.{to_be_bytes, w32}
 use Rattle.pw_value.specs.Limits.{text_start, word_limit, memory_size}
 use Rattle.pw_machine.specs.Core.{word_at}
-use Rattle.pw_image.specs.Image.{Item}
+use Rattle.pw_image.specs.declared.image.DataItem.{DataItem}
 use Rattle.pw_machine.specs.Start.{overwritten, with_items, bytes_of, start_memory, zeros, data_start_of}
 use Rattle.pw_machine.proofs.Data.{word_below_items}
 use Rattle.pw_machine.proofs.Memories.{length-bytes_of}
@@ -85,7 +85,7 @@ length-zeros : (n : ℕ) → length (zeros n) ≡ n
 unfolding zeros
 length-zeros n = length-replicate n 0
 
-placed : (words : List ℕ) (items : List Item) (i : ℕ) (memory : List ℕ) → length memory ≡ memory_size → length words ≤ word_limit → i < length words → get_or words i 0 < 2 ^ 32 → word_at (with_items (overwritten memory text_start (bytes_of words)) (data_start_of words) items) (text_start + 4 * i) ≡ get_or words i 0
+placed : (words : List ℕ) (items : List DataItem) (i : ℕ) (memory : List ℕ) → length memory ≡ memory_size → length words ≤ word_limit → i < length words → get_or words i 0 < 2 ^ 32 → word_at (with_items (overwritten memory text_start (bytes_of words)) (data_start_of words) items) (text_start + 4 * i) ≡ get_or words i 0
 placed words items i memory size few lt small =
     let len : length (bytes_of words) ≡ 4 * length words = length-bytes_of words in
     let text = overwritten memory text_start (bytes_of words) in
@@ -97,5 +97,5 @@ placed words items i memory size few lt small =
     ∙ word_at_bytes_of words i lt small
 
 -- the words of a program stand in its memory from 4096 on
-pub word_at_start : (words : List ℕ) (items : List Item) (i : ℕ) → length words ≤ word_limit → i < length words → get_or words i 0 < 2 ^ 32 → word_at (start_memory words items) (text_start + 4 * i) ≡ get_or words i 0
+pub word_at_start : (words : List ℕ) (items : List DataItem) (i : ℕ) → length words ≤ word_limit → i < length words → get_or words i 0 < 2 ^ 32 → word_at (start_memory words items) (text_start + 4 * i) ≡ get_or words i 0
 word_at_start words items i few lt small = placed words items i (zeros memory_size) (length-zeros memory_size) few lt small

@@ -4,7 +4,7 @@ use Rattle.std.proofs.lemmas.List.{take-append-drop, drop-drop, length-take-le, 
 use Rattle.std.proofs.Math.Seq.{take-append_seam, drop-append-add}
 use Rattle.std.specs.Int.{to_be_bytes, w32}
 use Rattle.std.specs.Prelude.{slice_set, replicate, false, None}
-use Rattle.pw_image.specs.Image.{Item}
+use Rattle.pw_image.specs.declared.image.DataItem.{DataItem}
 use Rattle.pw_value.specs.Rounding.{stack_start}
 use Rattle.pw_machine.specs.Start.{overwritten, bytes_of, start_memory, start_core, data_start_of}
 
@@ -56,7 +56,7 @@ pub take_whole : (n : ℕ) (xs ys : List ℕ) → n ≡ length xs → take n (xs
 take_whole n xs ys e = ap (λ (k : ℕ). take k (xs ++ ys)) e ∙ take-append_seam xs ys
 
 -- the fields of the start state, one by one
-pub start_core_is : (entry : ℕ) (words : List ℕ) (size : ℕ) (items : List Item) (memory : List ℕ) (start stack : ℕ) → memory ≡ start_memory words items → start ≡ data_start_of words → stack ≡ stack_start (start + size) → record { registers = slice_set (replicate 32 0) 30 stack; front = entry; back = (entry + 4) % 2 ^ 32; nullify = false; shift = 0; memory = memory; text = length words; data_start = start; stopped = None } ≡ start_core entry words size items
+pub start_core_is : (entry : ℕ) (words : List ℕ) (size : ℕ) (items : List DataItem) (memory : List ℕ) (start stack : ℕ) → memory ≡ start_memory words items → start ≡ data_start_of words → stack ≡ stack_start (start + size) → record { registers = slice_set (replicate 32 0) 30 stack; front = entry; back = (entry + 4) % 2 ^ 32; nullify = false; shift = 0; memory = memory; text = length words; data_start = start; stopped = None } ≡ start_core entry words size items
 unfolding start_core
 start_core_is entry words size items memory start stack m d s =
     let top : stack ≡ stack_start (data_start_of words + size) = s ∙ ap (λ (n : ℕ). stack_start (n + size)) d in

@@ -3,7 +3,9 @@ use Rattle.std.specs.Prelude.{ℕ, ◌+◌, ◌%◌, ◌^◌, ◌<◌, ◌≤◌
 use Rattle.std.specs.Int.{to_be_bytes, w32}
 use Rattle.pw_value.specs.Limits.{text_start, memory_size}
 use Rattle.pw_value.specs.Rounding.{stack_start}
-use Rattle.pw_image.specs.Image.{Item, MemoryValue, data_start}
+use Rattle.pw_image.specs.declared.image.DataItem.{DataItem}
+use Rattle.pw_image.specs.declared.image.Memory.{Memory}
+use Rattle.pw_image.specs.Image.{data_start}
 use Rattle.pw_machine.specs.Core.{Core}
 
 -- n zeros
@@ -15,12 +17,12 @@ abbrev pub overwritten : List ℕ → ℕ → List ℕ → List ℕ
 overwritten memory a bytes = take a memory ++ bytes ++ drop (a + length bytes) memory
 
 -- a list with items of data written over it, each at its offset from an address
-abbrev pub with_items : List ℕ → ℕ → List Item → List ℕ
+abbrev pub with_items : List ℕ → ℕ → List DataItem → List ℕ
 with_items memory a [] = memory
 with_items memory a (i ∷ items) = with_items (overwritten memory (a + i.offset) i.bytes) a items
 
 -- a place outside an item, whose offset is from an address
-abbrev pub IsOutside : ℕ → ℕ → Item → Type 0
+abbrev pub IsOutside : ℕ → ℕ → DataItem → Type 0
 IsOutside a place i = (place < a + i.offset) ⊎ (a + i.offset + length i.bytes ≤ place)
 
 -- the bytes of words, one word after another, the highest byte of a word first
@@ -37,11 +39,11 @@ abbrev pub stack_start_of : List ℕ → ℕ → ℕ
 stack_start_of words data_size = stack_start (data_start_of words + data_size)
 
 -- The memory is 0 but for the text, at its start, and the items of the data, at their offsets.
-abbrev pub start_memory : List ℕ → List Item → List ℕ
+abbrev pub start_memory : List ℕ → List DataItem → List ℕ
 start_memory words items = with_items (overwritten (zeros memory_size) text_start (bytes_of words)) (data_start_of words) items
 
 -- Front is at the entry and back 4 beyond. Register 30 points to the stack, and the other registers are 0.
-unfoldable pub start_core : ℕ → List ℕ → ℕ → List Item → Core
+unfoldable pub start_core : ℕ → List ℕ → ℕ → List DataItem → Core
 start_core entry words data_size items = record {
   registers = slice_set (replicate 32 0) 30 (stack_start_of words data_size);
   front = entry;
@@ -55,5 +57,5 @@ start_core entry words data_size items = record {
 }
 
 -- the state in which the program of an image begins
-abbrev pub image_start : MemoryValue → Core
+abbrev pub image_start : Memory → Core
 image_start m = start_core m.entry m.words m.data_size m.items

@@ -6,7 +6,7 @@ use Rattle.pw_machine.specs.declared.ends.Stop.{Stop}
 use Rattle.pw_machine.specs.declared.ends.Stop.TheVariants.{Ended, StackStop, Spent, Halted, ReadFault, WriteFault}
 use Rattle.pw_io.specs.Faults.{Rose}
 use Rattle.pw_io.specs.Streams.{Appends}
-use Rattle.pw_image.specs.Image.{ImageValue}
+use Rattle.pw_image.specs.declared.image.Image.{Image}
 use Rattle.pw_machine.specs.Core.{Core}
 use Rattle.pw_machine.specs.Start.{image_start}
 use Rattle.pw_machine.specs.Effect.{Reads, Writes, effect_of}
@@ -22,7 +22,7 @@ abbrev pub at_start : Core → Snapshot
 at_start core = record { core = core; steps = 0 }
 
 -- the machine at the start of an image's program
-abbrev pub loaded : ImageValue → Snapshot
+abbrev pub loaded : Image → Snapshot
 loaded v = at_start (image_start v.memory)
 
 -- the end that an answer tells

@@ -3,7 +3,9 @@
 ghost use Rattle.std.specs.Prelude.{◌≡◌, ℕ, ◌+◌, ◌*◌, ◌^◌, ◌<◌, ◌≤◌, List, ◌∷◌, ◌++◌, None, length, slice_index};
 ghost use Rattle.std.specs.List.{AllByRecursion};
 ghost use Rattle.pw_value.specs.Limits.{text_start, word_limit, memory_size};
-ghost use Rattle.pw_image.specs.Image.{Item, MemoryValue, IsMemory};
+ghost use Rattle.pw_image.specs.declared.image.DataItem.{DataItem};
+ghost use Rattle.pw_image.specs.declared.image.Memory.{Memory};
+ghost use Rattle.pw_image.specs.Image.{IsMemory};
 ghost use Rattle.pw_machine.specs.declared.ends.End.{End};
 ghost use Rattle.pw_machine.specs.Core.{byte_at, word_at};
 ghost use Rattle.pw_machine.specs.Start.{overwritten, data_start_of, start_memory, image_start, IsOutside};
@@ -41,10 +43,10 @@ pub fn overwritten_words()
 /// and every other byte from there on is 0.
 #[tactic(auto, using(crate::proofs::Data::item_at_start, crate::proofs::Data::other_at_start), unfolding(crate::specs::Start::start_core))]
 pub fn data_bytes()
-    ensures item { (m : MemoryValue) (before after : List Item) (i : Item) (k : ℕ) →
+    ensures item { (m : Memory) (before after : List DataItem) (i : DataItem) (k : ℕ) →
         IsMemory m → m.items ≡ before ++ i ∷ after → k < length i.bytes →
         byte_at (image_start m).memory (data_start_of m.words + i.offset + k) ≡ slice_index i.bytes k }
-    ensures other { (m : MemoryValue) (place : ℕ) →
+    ensures other { (m : Memory) (place : ℕ) →
         IsMemory m → data_start_of m.words ≤ place → place < memory_size →
         AllByRecursion (IsOutside (data_start_of m.words) place) m.items →
         byte_at (image_start m).memory place ≡ 0 }
@@ -53,6 +55,6 @@ pub fn data_bytes()
 /// At the start the words of a program stand in the memory from the start of the text on.
 #[tactic(auto, using(crate::proofs::Loaded::word_at_start))]
 pub fn text_words()
-    ensures { (words : List ℕ) (items : List Item) (i : ℕ) → length words ≤ word_limit → i < length words →
+    ensures { (words : List ℕ) (items : List DataItem) (i : ℕ) → length words ≤ word_limit → i < length words →
         slice_index words i < 2 ^ 32 → word_at (start_memory words items) (text_start + 4 * i) ≡ slice_index words i }
 {}

@@ -2,7 +2,8 @@
 
 ghost use Rattle.std.specs.Prelude.{◌≡◌, ◌+◌, ◌%◌, ◌<◌, ◌≤◌, ◌≢◌, ◌⊎◌, ◌↔◌, [], length, IfOk, IfSome, IsNone, Ok};
 ghost use Rattle.pw_value.specs.Limits.{stack_least, stack_most, text_start, word_limit, memory_size};
-ghost use Rattle.pw_image.specs.Image.{Contents, ImageValue, IsImageFile};
+ghost use Rattle.pw_image.specs.declared.image.Image.{Image as AnyImage};
+ghost use Rattle.pw_image.specs.Image.{Contents, IsImageFile};
 ghost use Rattle.pw_image.specs.Reading.{image_file_at};
 ghost use Rattle.pw_image.specs.Loading.{GivesLoad, loaded_as};
 ghost use Rattle.pw_machine.specs.Core as core;
@@ -38,9 +39,9 @@ impl Machine {
     /// A fault is the first field of the file, in order, that is short or breaks its rule.
     pub fn load(alloc: Global, image: &[u8]) -> Result<Machine, LoadError>
         // What is loaded stands at the start of an image whose file the bytes are.
-        ensures found { IfOk result (λ machine. (c : Contents ImageValue) × IsImageFile image.now c × (machine ≡ loaded c.value)) }
+        ensures found { IfOk result (λ machine. (c : Contents AnyImage) × IsImageFile image.now c × (machine ≡ loaded c.value)) }
         // The file of an image is loaded, unless memory runs out.
-        ensures only { (c : Contents ImageValue) → IsImageFile image.now c → GivesLoad (λ machine. machine) result (Ok (loaded c.value)) }
+        ensures only { (c : Contents AnyImage) → IsImageFile image.now c → GivesLoad (λ machine. machine) result (Ok (loaded c.value)) }
         // Which fault it is.
         ensures exact { GivesLoad (λ machine. machine) result (loaded_as loaded (image_file_at image.now)) }
     {
@@ -55,9 +56,9 @@ impl Machine {
         let processor = Processor::start(
             alloc,
             memory.entry,
-            &memory.words,
+            memory.words.as_slice(),
             memory.data_size,
-            &memory.items,
+            memory.items.as_slice(),
         )?;
         Ok(Machine {
             processor,

@@ -1,6 +1,6 @@
 // The processor: the machine apart from its input and output. One step of it is `step`.
 
-ghost use Rattle.std.specs.Prelude.{◌≡◌, ◌+◌, ◌-◌, ◌*◌, ◌^◌, ◌%◌, ◌<◌, ◌≤◌, IfNone, IfOk, length, map};
+ghost use Rattle.std.specs.Prelude.{◌≡◌, ◌+◌, ◌-◌, ◌*◌, ◌^◌, ◌%◌, ◌<◌, ◌≤◌, IfNone, IfOk, length};
 ghost use Rattle.std.specs.Bool.{OnTrue};
 ghost use Rattle.pw_value.specs.Limits.{word_limit, memory_size};
 
@@ -48,7 +48,7 @@ impl Model for Processor {
 }
 
 impl Processor {
-    ghost use Rattle.pw_image.specs.Image.{AreItems, data_start, item_view};
+    ghost use Rattle.pw_image.specs.Image.{AreItems, data_start};
     ghost use Rattle.pw_machine.specs.Start.{start_core};
 
     /// The processor at the start of a program: its entry, its words, and its `data_size` bytes of data,
@@ -63,8 +63,8 @@ impl Processor {
     ) -> Result<Processor, NoMemory>
         requires few_words { length words.now ≤ word_limit }
         requires data_fits { data_start (length words.now) + data_size ≤ memory_size }
-        requires items { AreItems data_size 0 (map item_view items.now) }
-        ensures { IfOk result (λ p. p ≡ start_core entry words.now data_size (map item_view items.now)) }
+        requires items { AreItems data_size 0 items.now }
+        ensures { IfOk result (λ p. p ≡ start_core entry words.now data_size items.now) }
     {
         let text = words.len() as u32;
         let data_start = data_start(text) as u32;

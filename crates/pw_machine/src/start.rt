@@ -1,9 +1,9 @@
 // The start of a program: its words and its data in the memory.
 
-ghost use Rattle.std.specs.Prelude.{◌≡◌, ◌+◌, ◌*◌, ◌≤◌, length, map, vec_len, IfOk};
+ghost use Rattle.std.specs.Prelude.{◌≡◌, ◌+◌, ◌*◌, ◌≤◌, length, vec_len, IfOk};
 ghost use Rattle.pw_value.specs.Limits.{memory_size};
 ghost use Rattle.pw_value.specs.Rounding.{stack_start};
-ghost use Rattle.pw_image.specs.Image.{AreItems, item_view};
+ghost use Rattle.pw_image.specs.Image.{AreItems};
 ghost use Rattle.pw_machine.specs.Start.{zeros, overwritten, with_items, bytes_of};
 
 use pw_image::DataItem;
@@ -40,11 +40,11 @@ pub(crate) fn put_words(memory: &mut [u8], at: usize, words: &[u32])
 /// Puts the items of `size` bytes of data at their offsets from a place.
 pub(crate) fn put_items(memory: &mut [u8], at: usize, size: u32, items: &[DataItem])
     requires room { at + size ≤ length memory.old }
-    requires items { AreItems size 0 (map item_view items.now) }
-    ensures { memory.new ≡ with_items memory.old at (map item_view items.now) }
+    requires items { AreItems size 0 items.now }
+    ensures { memory.new ≡ with_items memory.old at items.now }
 {
     for item in items {
-        put(memory, at + item.offset as usize, &item.bytes);
+        put(memory, at + item.offset as usize, item.bytes.as_slice());
     }
 }
 

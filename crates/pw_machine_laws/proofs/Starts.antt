@@ -3,7 +3,9 @@ use Rattle.std.proofs.Common.{ℕ, zero, suc, ◌≡◌, ◌+◌, ◌^◌, ◌<�
 use Rattle.std.specs.Prelude.{replicate}
 use Rattle.std.specs.Int.{to_be_bytes, w32}
 use Rattle.pw_value.specs.Limits.{text_start, memory_size}
-use Rattle.pw_image.specs.Image.{Item, MemoryValue, IsMemory, AreItems, free_behind}
+use Rattle.pw_image.specs.declared.image.DataItem.{DataItem}
+use Rattle.pw_image.specs.declared.image.Memory.{Memory}
+use Rattle.pw_image.specs.Image.{IsMemory, AreItems, free_behind}
 use Rattle.pw_machine.specs.Start.{zeros, overwritten, with_items, bytes_of, stack_start_of, data_start_of, start_core, image_start}
 use Rattle.pw_machine.proofs.Memories.{length-bytes_of}
 use Rattle.pw_machine_laws.specs.Lawful.{AreBytes, IsLawfulCore}
@@ -42,7 +44,7 @@ overwritten_bytes : (memory : List ℕ) (a : ℕ) (bytes : List ℕ) → AreByte
 overwritten_bytes memory a bytes one two =
     both_bytes (take a memory ++ bytes) (drop (a + length bytes) memory) (both_bytes (take a memory) bytes (taken a memory one) two) (dropped (a + length bytes) memory one)
 
-items_bytes : (memory : List ℕ) (a : ℕ) (items : List Item) → AreBytes memory → AllByRecursion (λ i. AreBytes i.bytes) items → AreBytes (with_items memory a items)
+items_bytes : (memory : List ℕ) (a : ℕ) (items : List DataItem) → AreBytes memory → AllByRecursion (λ i. AreBytes i.bytes) items → AreBytes (with_items memory a items)
 items_bytes memory a [] one all = one
 items_bytes memory a (i ∷ items) one all = items_bytes (overwritten memory (a + i.offset) i.bytes) a items (overwritten_bytes memory (a + i.offset) i.bytes one all.0) all.1
 
@@ -61,18 +63,18 @@ zeros_bytes : (n : ℕ) → AreBytes (zeros n)
 unfolding zeros
 zeros_bytes n i = subst (λ (k : ℕ). k < 2 ^ 8) (sym (zero_at n i)) (omega arith)
 
-start_bytes : (blank words : List ℕ) (items : List Item) → AreBytes blank → AllByRecursion (λ i. AreBytes i.bytes) items → AreBytes (with_items (overwritten blank text_start (bytes_of words)) (data_start_of words) items)
+start_bytes : (blank words : List ℕ) (items : List DataItem) → AreBytes blank → AllByRecursion (λ i. AreBytes i.bytes) items → AreBytes (with_items (overwritten blank text_start (bytes_of words)) (data_start_of words) items)
 start_bytes blank words items one all = items_bytes (overwritten blank text_start (bytes_of words)) (data_start_of words) items (overwritten_bytes blank text_start (bytes_of words) one (words_bytes words)) all
 
 -- ---- sizes
 
-items_size : (memory : List ℕ) (a size free : ℕ) (items : List Item) → a + size ≤ length memory → AreItems size free items → length (with_items memory a items) ≡ length memory
+items_size : (memory : List ℕ) (a size free : ℕ) (items : List DataItem) → a + size ≤ length memory → AreItems size free items → length (with_items memory a items) ≡ length memory
 items_size memory a size free [] room are = refl
 items_size memory a size free (i ∷ items) room are =
     let one : length (overwritten memory (a + i.offset) i.bytes) ≡ length memory = length-overwritten memory (a + i.offset) i.bytes (omega (arith, are.1)) in
     items_size (overwritten memory (a + i.offset) i.bytes) a size (free_behind i) items (omega (arith, one)) are.2 ∙ one
 
-start_size : (blank : List ℕ) (m : MemoryValue) → length blank ≡ memory_size → IsMemory m → length (with_items (overwritten blank text_start (bytes_of m.words)) (data_start_of m.words) m.items) ≡ memory_size
+start_size : (blank : List ℕ) (m : Memory) → length blank ≡ memory_size → IsMemory m → length (with_items (overwritten blank text_start (bytes_of m.words)) (data_start_of m.words) m.items) ≡ memory_size
 start_size blank m size is =
     let text : length (overwritten blank text_start (bytes_of m.words)) ≡ length blank =
     length-overwritten blank text_start (bytes_of m.words) (omega (arith, length-bytes_of m.words, is.count, size)) in
@@ -83,7 +85,7 @@ start_size blank m size is =
 registers_start : (stack entry : ℕ) → stack < 2 ^ 32 → (r : ℕ) → get_or (set (replicate 32 0) 30 stack) r 0 < 2 ^ 32
 registers_start stack entry small r = set_bound (replicate 32 0) 30 stack (2 ^ 32) r (λ k. subst (λ (n : ℕ). n < 2 ^ 32) (sym (zero_at 32 k)) (omega arith)) small
 
-pub starts_lawful : (m : MemoryValue) → IsMemory m → AllByRecursion (λ i. AreBytes i.bytes) m.items → IsLawfulCore (image_start m)
+pub starts_lawful : (m : Memory) → IsMemory m → AllByRecursion (λ i. AreBytes i.bytes) m.items → IsLawfulCore (image_start m)
 unfolding start_core
 starts_lawful m is all =
     let stack : stack_start_of m.words m.data_size < 2 ^ 32 = omega (arith, is.data_fits, is.stack_end) in

@@ -3,7 +3,8 @@
 #![tactic(auto)]
 
 ghost use Rattle.std.specs.Prelude.{◌≡◌, ◌≢◌, ℕ, ◌+◌, ◌%◌, ◌^◌, ◌<◌, ◌≤◌, ◌⊎◌, List, length};
-ghost use Rattle.pw_image.specs.Image.{MemoryValue, IsMemory};
+ghost use Rattle.pw_image.specs.declared.image.Memory.{Memory};
+ghost use Rattle.pw_image.specs.Image.{IsMemory};
 ghost use Rattle.pw_machine.specs.Core.{Core, byte_at, half_at, word_at, with_byte, with_half, with_word};
 ghost use Rattle.pw_machine.specs.Start.{image_start};
 ghost use Rattle.pw_machine.specs.Run.{State, run_of};
@@ -13,7 +14,7 @@ ghost use Rattle.std.specs.List.{AllByRecursion};
 /// The program of an image starts in a lawful state, and every state of a run from a lawful one is lawful:
 /// the text and all below the data stay, the output only grows, and the rest of the input only shrinks.
 pub fn runs_keep_lawful_states()
-    ensures start { (m : MemoryValue) → IsMemory m → AllByRecursion (λ i. AreBytes i.bytes) m.items → IsLawfulCore (image_start m) }
+    ensures start { (m : Memory) → IsMemory m → AllByRecursion (λ i. AreBytes i.bytes) m.items → IsLawfulCore (image_start m) }
     ensures run { (m : ℕ) (s : State) → IsLawful s → IsLater s (state_of (run_of m s)) }
     ensures later { (m n : ℕ) (s : State) → IsLawful s → IsLater (state_of (run_of m s)) (state_of (run_of (m + n) s)) }
 {}

@@ -5,7 +5,7 @@ ghost use Rattle.std.specs.List.{AllByRecursion};
 ghost use Rattle.pw_flow.specs.ValidFlow.{IsValid};
 ghost use Rattle.pw_db.specs.Database.{IsDatabase};
 ghost use Rattle.pw_object.specs.Object.{IsObject};
-ghost use Rattle.pw_image.specs.Image.{IsImage, view};
+ghost use Rattle.pw_image.specs.Image.{IsImage};
 ghost use Rattle.pw_link.specs.Linking.{linked, AreLinked, IsRefusal};
 ghost use Rattle.pw_making.specs.Programs.{Completes};
 ghost use Rattle.pw_making.specs.Choosing.{parts_of};
@@ -40,8 +40,8 @@ pub struct Built {
 fn linked(alloc: Global, database: Database, made: Objects, stack: u32) -> Result<Built, LinkFault>
     requires { AllByRecursion IsObject made.objects.items }
     ensures built { IfOk result (λ built. (built.database.functions ≡ database.functions) × (built.objects.items ≡ made.objects.items) × (built.fresh.items ≡ made.fresh.items)) }
-    ensures image { IfOk result (λ built. view built.image ≡ linked made.objects.items stack) }
-    ensures lawful { IfOk result (λ built. IsImage (view built.image)) }
+    ensures image { IfOk result (λ built. built.image ≡ linked made.objects.items stack) }
+    ensures lawful { IfOk result (λ built. IsImage built.image) }
     ensures accepted { OnOk result (AreLinked made.objects.items stack) }
     ensures refused { IfErr result (λ fault. (fault ≡ LinkFault.NoMemory) ⊎ IsRefusal made.objects.items stack fault) }
 {
@@ -73,10 +73,10 @@ pub fn complete<L: Ledger>(
     requires few { colours ≤ colour_limit }
     ensures built { IfOk result (λ built. Completes flows.now kept.items colours stack (Ok (parts_of built))) }
     ensures refused { IfErr result (λ fault. (fault ≡ LinkFault.NoMemory) ⊎ Completes flows.now kept.items colours stack (Err fault)) }
-    ensures image { IfOk result (λ built. view built.image ≡ linked built.objects.items stack) }
+    ensures image { IfOk result (λ built. built.image ≡ linked built.objects.items stack) }
     ensures lawful_database { IfOk result (λ built. IsDatabase built.database.functions) }
     ensures lawful_objects { IfOk result (λ built. AllByRecursion IsObject built.objects.items) }
-    ensures lawful_image { IfOk result (λ built. IsImage (view built.image)) }
+    ensures lawful_image { IfOk result (λ built. IsImage built.image) }
     ensures counted { IfOk result (λ built. steps.new ≡ steps.old + count_by (λ fresh. fresh) built.fresh.items) }
     ensures counted_fault { IfErr result (λ fault. (fault ≡ LinkFault.NoMemory) ⊎ CountsAnew flows.now kept.items colours steps.old steps.new) }
     ensures bound { CountsUpTo (length flows.now) steps.old steps.new }

@@ -60,7 +60,7 @@ fn push_globals(text: &mut Text, start: u32, globals: &[GlobalObject]) {
 fn push_item(text: &mut Text, item: &DataItem) {
     push_number(text, item.offset);
     text.push(b":");
-    for byte in &item.bytes {
+    for byte in item.bytes.as_slice() {
         text.byte(*byte);
     }
 }
@@ -79,10 +79,10 @@ pub fn push_image(text: &mut Text, image: &Image, marks: &[u8]) {
     push_number(text, memory.entry);
     push_number(text, memory.data_size);
     text.push(b" |");
-    push_words(text, &memory.words, marks);
-    push_functions(text, &image.functions[..known]);
-    push_globals(text, start_behind(&memory.words), &image.globals);
-    for item in &memory.items {
+    push_words(text, memory.words.as_slice(), marks);
+    push_functions(text, &image.functions.as_slice()[..known]);
+    push_globals(text, start_behind(memory.words.as_slice()), image.globals.as_slice());
+    for item in memory.items.as_slice() {
         push_item(text, item);
     }
 }

@@ -7,7 +7,8 @@ use Rattle.sha2.specs.Sha256.{sha256}
 use Rattle.pw_io.specs.Faults.{Rose}
 use Rattle.pw_io.specs.Files.{Files, Told}
 use Rattle.pw_io.specs.Shelf.{file_shown, files_of}
-use Rattle.pw_image.specs.Image.{Contents, ImageValue, IsImageFile}
+use Rattle.pw_image.specs.declared.image.Image.{Image}
+use Rattle.pw_image.specs.Image.{Contents, IsImageFile}
 use Rattle.pw_machine.specs.Core.{Core}
 use Rattle.pw_machine.specs.Start.{image_start}
 use Rattle.pw_running.specs.Running.{run_answer}
@@ -190,7 +191,7 @@ pub said_line_so : (number : ℕ) (image i digest : List ℕ) (budget : ℕ) (st
 said_line_so number image i digest budget stop answer taken taken' e stops is out =
     said_line number image digest budget stop answer taken taken' (subst (λ (x : List ℕ). StopsAs x budget stop) e stops) is out
 
-pub stops_loaded : (image : List ℕ) (budget : ℕ) (core : Core) (answer : Answer) → ((c : Contents ImageValue) → IsImageFile image c → core ≡ image_start c.value.memory) → (c : Contents ImageValue) × IsImageFile image c → Answers (run_answer (runs_as budget [] core)) answer → StopsAs image budget answer
+pub stops_loaded : (image : List ℕ) (budget : ℕ) (core : Core) (answer : Answer) → ((c : Contents Image) → IsImageFile image c → core ≡ image_start c.value.memory) → (c : Contents Image) × IsImageFile image c → Answers (run_answer (runs_as budget [] core)) answer → StopsAs image budget answer
 stops_loaded image budget core answer same found h = record { each = λ c k. subst (λ (x : Core). Answers (run_answer (runs_as budget [] x)) answer) (same c k) h; found = λ e. found }
 
 pub stops_none : (image : List ℕ) (budget : ℕ) → StopsAs image budget NoMemory

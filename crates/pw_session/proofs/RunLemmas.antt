@@ -2,7 +2,8 @@
 use Rattle.std.proofs.Common.{◌≡◌, ℕ, true, false, List, [], Option, Some, None, Result, Ok, Err, refl, sym, ap, ◌∙◌, subst, arith}
 use Rattle.std.specs.Prelude.{codes}
 use Rattle.pw_io.specs.Faults.{Rose}
-use Rattle.pw_image.specs.Image.{Contents, ImageValue, IsImageFile}
+use Rattle.pw_image.specs.declared.image.Image.{Image}
+use Rattle.pw_image.specs.Image.{Contents, IsImageFile}
 use Rattle.pw_image.specs.Loading.{FailsLoad}
 use Rattle.pw_image.specs.declared.load.LoadError.{LoadError}
 use Rattle.pw_image.specs.declared.load.LoadError.TheVariants as load
@@ -105,13 +106,13 @@ run_none built budget input answer t0 t1 e p = record {
   found = λ d. (codes "no image\n", subst (λ (b : Option (List ℕ)). RunComes b budget input (codes "no image\n")) (sym e) refl);
 }
 
-image_output : (budget : ℕ) (input image : List ℕ) (core : Core) (answer : Answer) (t0 t1 : Option (List ℕ)) (output : List ℕ) → ((c : Contents ImageValue) → IsImageFile image c → core ≡ image_start c.value.memory) → PutsOut (ran_text (runs_as budget input core)) answer t0 t1
+image_output : (budget : ℕ) (input image : List ℕ) (core : Core) (answer : Answer) (t0 t1 : Option (List ℕ)) (output : List ℕ) → ((c : Contents Image) → IsImageFile image c → core ≡ image_start c.value.memory) → PutsOut (ran_text (runs_as budget input core)) answer t0 t1
     → RunComes (Some image) budget input output → PutsOut output answer t0 t1
 image_output budget input image core answer t0 t1 output same p h =
     subst (λ (o : List ℕ). PutsOut o answer t0 t1) (ap (λ (k : Core). ran_text (runs_as budget input k)) (same h.0 h.1) ∙ sym h.2) p
 
-pub run_some : (built : Option (List ℕ)) (budget : ℕ) (input image : List ℕ) (core : Core) (answer : Answer) (t0 t1 : Option (List ℕ)) → built ≡ Some image → ((c : Contents ImageValue) → IsImageFile image c → core ≡ image_start c.value.memory)
-    → (c : Contents ImageValue) × IsImageFile image c → PutsOut (ran_text (runs_as budget input core)) answer t0 t1 → ObeysRun built budget input answer t0 t1
+pub run_some : (built : Option (List ℕ)) (budget : ℕ) (input image : List ℕ) (core : Core) (answer : Answer) (t0 t1 : Option (List ℕ)) → built ≡ Some image → ((c : Contents Image) → IsImageFile image c → core ≡ image_start c.value.memory)
+    → (c : Contents Image) × IsImageFile image c → PutsOut (ran_text (runs_as budget input core)) answer t0 t1 → ObeysRun built budget input answer t0 t1
 run_some built budget input image core answer t0 t1 e same found p = record {
   output = λ output h. image_output budget input image core answer t0 t1 output same p (subst (λ (b : Option (List ℕ)). RunComes b budget input output) e h);
   found = λ d. (
@@ -125,11 +126,11 @@ run_memory built budget input taken = record { output = λ output h. puts_alone 
 
 -- ---- a machine that was loaded
 
-pub core_is : (machine : Snapshot) (image : ImageValue) → ◌≡◌ {A = Result Snapshot ℕ} (Ok (loaded image)) (Ok machine) → machine.core ≡ image_start image.memory
+pub core_is : (machine : Snapshot) (image : Image) → ◌≡◌ {A = Result Snapshot ℕ} (Ok (loaded image)) (Ok machine) → machine.core ≡ image_start image.memory
 core_is machine image e = let f : loaded image ≡ machine = cc in sym (ap (λ (m : Snapshot). m.core) f)
 
 -- the file of an image has no fault
-pub no_load_fault : (bytes : List ℕ) (error : LoadError) (at : ℕ) → error ≡ load.LoadFault at → HoldsImage bytes → ((c : Contents ImageValue) → IsImageFile bytes c → FailsLoad {Y = Snapshot} error (Ok (loaded c.value))) → ⊥
+pub no_load_fault : (bytes : List ℕ) (error : LoadError) (at : ℕ) → error ≡ load.LoadFault at → HoldsImage bytes → ((c : Contents Image) → IsImageFile bytes c → FailsLoad {Y = Snapshot} error (Ok (loaded c.value))) → ⊥
 no_load_fault bytes error at e h only =
     let fails : ◌≡◌ {A = Result Snapshot ℕ} (Ok (loaded h.0.value)) (Err at) = subst (λ (x : LoadError). FailsLoad {Y = Snapshot} x (Ok (loaded h.0.value))) e (only h.0 h.1) in
     cc

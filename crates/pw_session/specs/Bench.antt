@@ -8,7 +8,8 @@ use Rattle.pw_front.specs.Fronts.{HoldsNoWant}
 use Rattle.hex.specs.Hex.{encode_lower}
 use Rattle.sha2.specs.Sha256.{sha256}
 use Rattle.pw_io.specs.Files.{Files}
-use Rattle.pw_image.specs.Image.{Contents, ImageValue, IsImageFile}
+use Rattle.pw_image.specs.declared.image.Image.{Image}
+use Rattle.pw_image.specs.Image.{Contents, IsImageFile}
 use Rattle.pw_machine.specs.Start.{image_start}
 use Rattle.pw_modules.specs.Modules.{modules_of}
 use Rattle.pw_answer.specs.declared.answer.Answer.{Answer}
@@ -51,12 +52,12 @@ abbrev pub bench_line : ℕ → List ℕ → List ℕ → Answer → List ℕ
 bench_line number image digest stop = bench_front number (bench_modules + 1) (length image) (encode_lower digest) ++ stop_text stop ++ codes "\n"
 
 -- how the run of a program over no input stops, as an answer
-abbrev pub stop_of : ℕ → Contents ImageValue → Answer
+abbrev pub stop_of : ℕ → Contents Image → Answer
 stop_of budget c = run_answer (runs_as budget [] (image_start c.value.memory))
 
 -- the line of a program that was built: that of its image's run over no input
 abbrev pub IsBenchText : ℕ → ℕ → List ℕ → List ℕ → Type 0
-IsBenchText number budget image text = (c : Contents ImageValue) × IsImageFile image c × (text ≡ bench_line number image (sha256 image) (stop_of budget c))
+IsBenchText number budget image text = (c : Contents Image) × IsImageFile image c × (text ≡ bench_line number image (sha256 image) (stop_of budget c))
 
 -- what comes of what a build over the files comes to: the line is put out, or the refusal is told
 abbrev pub BenchOver : ℕ → ℕ → List ℕ → Result Outcome BuildFault → Effect → Type 0
@@ -98,10 +99,10 @@ IsBenchLine number answer line = IsLineDue (refused_line (modules_of (bench_file
 
 -- the answer to the run of an image over no input
 pub record StopsAs (image : List ℕ) (budget : ℕ) (answer : Answer) : Type 0 where
-  pub each : (c : Contents ImageValue) → IsImageFile image c → Answers (stop_of budget c) answer
-  pub found : is_stop answer ≡ true → (c : Contents ImageValue) × IsImageFile image c
+  pub each : (c : Contents Image) → IsImageFile image c → Answers (stop_of budget c) answer
+  pub found : is_stop answer ≡ true → (c : Contents Image) × IsImageFile image c
 
 -- the line of a program that was built, with this digest, was put out
 pub record ObeysReport (number : ℕ) (image digest : List ℕ) (budget : ℕ) (answer : Answer) (taken taken' : Option (List ℕ)) : Type 0 where
-  pub output : (c : Contents ImageValue) → IsImageFile image c → PutsOut (bench_line number image digest (stop_of budget c)) answer taken taken'
-  pub found : answer ≢ NoMemory → (c : Contents ImageValue) × IsImageFile image c
+  pub output : (c : Contents Image) → IsImageFile image c → PutsOut (bench_line number image digest (stop_of budget c)) answer taken taken'
+  pub found : answer ≢ NoMemory → (c : Contents Image) × IsImageFile image c

@@ -1,7 +1,8 @@
 -- The run of an image, as a session and `bench` tell it.
 use Rattle.std.specs.Prelude.{◌≡◌, ℕ, Bool, true, false, List, [], ◌++◌, codes, Option, Some, None}
 use Rattle.std.specs.Fmt.{decimal}
-use Rattle.pw_image.specs.Image.{Contents, ImageValue, IsImageFile}
+use Rattle.pw_image.specs.declared.image.Image.{Image}
+use Rattle.pw_image.specs.Image.{Contents, IsImageFile}
 use Rattle.pw_machine.specs.Core.{Core}
 use Rattle.pw_machine.specs.Run.{Progress, run_of}
 use Rattle.pw_machine.specs.Start.{image_start}
@@ -33,7 +34,7 @@ runs_as budget input core = run_of budget (started core input)
 -- what comes of the run of the image that was built last: its output and how it stopped; where there is none, a line of that
 abbrev pub RunComes : Option (List ℕ) → ℕ → List ℕ → List ℕ → Type 0
 RunComes None budget input output = output ≡ codes "no image\n"
-RunComes (Some image) budget input output = (c : Contents ImageValue) × IsImageFile image c × (output ≡ ran_text (runs_as budget input (image_start c.value.memory)))
+RunComes (Some image) budget input output = (c : Contents Image) × IsImageFile image c × (output ≡ ran_text (runs_as budget input (image_start c.value.memory)))
 
 -- ---- inside
 

@@ -8,7 +8,7 @@ use Rattle.pw_flow.specs.declared.flow.FlowModule.{FlowModule}
 use Rattle.pw_modules.specs.FileNames.{database_name, text_name, flow_name}
 use Rattle.pw_compiling.specs.FromPhaseOne.FirstPhase.{Phase, compiled}
 use Rattle.pw_summary.specs.declared.summary.Summary.{Summary}
-use Rattle.pw_image.specs.Image.{ImageValue}
+use Rattle.pw_image.specs.declared.image.Image.{Image}
 use Rattle.pw_machine.specs.Core.{Core}
 use Rattle.pw_answer.specs.declared.answer.Answer.{Answer}
 use Rattle.pw_answer.specs.declared.answer.Answer.TheVariants.{Usage, Refused, LinkRefused, ReadFault, WriteFault, StoreFault, NoMemory, BadFile}
@@ -116,7 +116,7 @@ link_does told new rest taken stack answer h =
 
 -- ---- the commands that print
 
-list_prints : (wanted : Result ImageValue Answer) (input : List ℕ) (e : Effect) → ListOver wanted input e → Prints input e
+list_prints : (wanted : Result Image Answer) (input : List ℕ) (e : Effect) → ListOver wanted input e → Prints input e
 list_prints (Err answer) input e h = subst (Prints input) (sym h) (record { puts = refl; rest = refl })
 list_prints (Ok image) input e h = subst (Prints input) (sym h.2) (record { puts = refl; rest = refl })
 

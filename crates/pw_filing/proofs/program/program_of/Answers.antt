@@ -1,5 +1,4 @@
 use Rattle.std.proofs.Common.{map}
-use Rattle.pw_image.specs.Image.{view}
 use Rattle.pw_kept.specs.Kept.{kept_object}
 use Rattle.pw_modules.specs.Views.{source}
 use Rattle.pw_filing.proofs.ProgramLemmas.{counted_names, holds_image, made_of_program, most_counted}
@@ -26,4 +25,4 @@ pub returns-clause-most : goal.returns-clause-most
 returns-clause-most g c = most_counted (map source c.args.modules.now) c.args.steps.now c.built_of.new.steps c.built_of.ensures.bound
 
 pub returns-clause-image : goal.returns-clause-image
-returns-clause-image g c = holds_image c.in_ok-files_of.field-0.image.items (view c.in_ok-built.built.image) c.in_ok-files_of.ensures.image
+returns-clause-image g c = holds_image c.in_ok-files_of.field-0.image.items c.in_ok-built.built.image c.in_ok-files_of.ensures.image

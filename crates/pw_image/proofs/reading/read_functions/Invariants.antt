@@ -5,4 +5,4 @@ use Rattle.pw_image.specs.Reading.{function_at}
 use Rattle.pw_image.proofs.reading.read_functions.Given as goal
 
 abbrev pub invariant-loop : goal.invariant-loop
-invariant-loop l = with_front l.functions.items (repeated (function_at l.names l.words) (l.count - l.counter) l.rest) ≡ repeated (function_at l.names l.words) l.count l.bytes
+invariant-loop l = with_front l.functions (repeated (function_at l.names l.words) (l.count - l.counter) l.rest) ≡ repeated (function_at l.names l.words) l.count l.bytes

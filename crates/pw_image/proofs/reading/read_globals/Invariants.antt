@@ -5,4 +5,4 @@ use Rattle.pw_image.specs.Reading.{global_at}
 use Rattle.pw_image.proofs.reading.read_globals.Given as goal
 
 abbrev pub invariant-loop : goal.invariant-loop
-invariant-loop l = with_front l.globals.items (repeated (global_at l.names) (l.count - l.counter) l.rest) ≡ repeated (global_at l.names) l.count l.bytes
+invariant-loop l = with_front l.globals (repeated (global_at l.names) (l.count - l.counter) l.rest) ≡ repeated (global_at l.names) l.count l.bytes

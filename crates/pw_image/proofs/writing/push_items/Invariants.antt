@@ -1,7 +1,7 @@
-use Rattle.std.proofs.Common.{◌≡◌, ◌++◌, take, map}
+use Rattle.std.proofs.Common.{◌≡◌, ◌++◌, take}
 use Rattle.std.specs.List.{flat_map}
-use Rattle.pw_image.specs.Image.{item, item_view}
+use Rattle.pw_image.specs.Image.{item}
 use Rattle.pw_image.proofs.writing.push_items.Given as goal
 
 abbrev pub invariant-loop-item : goal.invariant-loop-item
-invariant-loop-item l = l.out.items ≡ l.fn.out.items ++ flat_map item (map item_view (take l.item-index l.items))
+invariant-loop-item l = l.out.items ≡ l.fn.out.items ++ flat_map item (take l.item-index l.items)

@@ -4,4 +4,4 @@ use Rattle.pw_link.specs.Views.{placed_view}
 use Rattle.pw_link.proofs.image.functions.Given as goal
 
 abbrev pub invariant-loop-each : goal.invariant-loop-each
-invariant-loop-each l = l.functions.items ≡ map function_of (map placed_view (take l.each-index l.text))
+invariant-loop-each l = l.functions ≡ map function_of (map placed_view (take l.each-index l.text))

@@ -10,6 +10,6 @@ pub push_functions-requires-clause-within : goal.push_functions-requires-clause-
 push_functions-requires-clause-within c =
     let image = c.args.image.now in
     let refs = c.in_ok-ordered.ordered.items in
-    let within = all_within (length image.memory.words.items) image.functions.items refs c.requires.functions (subst (λ (fs : List Function). IsPermutation fs (map (λ f. f.now) refs)) c.deref.ensures.value c.in_ok-ordered.ensures.same) in
-    subst (λ (rs : List (Bor Function)). All (λ f. IsInText (length c.deref-2.result.now) f.now.address) rs) (sym c.deref-3.ensures.value)
-    (subst (λ (ws : List ℕ). All (λ f. IsInText (length ws) f.now.address) refs) (sym c.deref-2.ensures.value) within)
+    let within = all_within (length image.memory.words) image.functions refs c.requires.functions (subst (λ (fs : List Function). IsPermutation fs (map (λ f. f.now) refs)) c.as_slice.ensures c.in_ok-ordered.ensures.same) in
+    subst (λ (rs : List (Bor Function)). All (λ f. IsInText (length c.as_slice-2.result.now) f.now.address) rs) (sym c.deref.ensures.value)
+    (subst (λ (ws : List ℕ). All (λ f. IsInText (length ws) f.now.address) refs) (sym c.as_slice-2.ensures) within)

@@ -1,6 +1,5 @@
-use Rattle.std.proofs.Common.{◌≡◌, ℕ, suc, ◌+◌, ◌≤◌, List, length, take, map, sym, ap, subst, ◌∙◌, arith, add-one}
+use Rattle.std.proofs.Common.{◌≡◌, ℕ, suc, ◌+◌, ◌≤◌, List, length, take, sym, ap, subst, ◌∙◌, arith, add-one}
 use Rattle.pw_image.specs.declared.image.DataItem.{DataItem}
-use Rattle.pw_image.specs.Image.{item_view}
 use Rattle.pw_machine.specs.Start.{overwritten, with_items}
 use Rattle.pw_machine.proofs.Items.{with_items-more, items_within}
 use Rattle.pw_machine.proofs.start.put_items.Goals as goal
@@ -8,9 +7,9 @@ use Rattle.pw_machine.proofs.start.put_items.Goals as goal
 pub put-requires : goal.put-requires
 put-requires c =
     let item = c.item-item.result in
-    let fits : item.offset + length item.bytes.items ≤ c.args.size =
-    subst (λ (i : DataItem). i.offset + length i.bytes.items ≤ c.args.size) (sym c.item-item.is) (items_within c.args.size 0 c.args.items.now c.requires.items c.loop-item.item-index item c.loop-item-test.true) in
-    omega (arith, fits, c.deref.ensures.len)
+    let fits : item.offset + length item.bytes ≤ c.args.size =
+    subst (λ (i : DataItem). i.offset + length i.bytes ≤ c.args.size) (sym c.item-item.is) (items_within c.args.size 0 c.args.items.now c.requires.items c.loop-item.item-index item c.loop-item-test.true) in
+    omega (arith, fits, ap length c.as_slice.ensures)
 
 pub loop-item-preserved : goal.loop-item-preserved
 loop-item-preserved c =
@@ -18,12 +17,12 @@ loop-item-preserved c =
     let k = c.loop-item.item-index in
     let at = c.args.at + item.offset in
     let items = c.args.items.now in
-    let so_far = with_items c.args.memory.now c.args.at (map item_view (take k items)) in
-    let more : with_items c.args.memory.now c.args.at (map item_view (take (suc k) items)) ≡ overwritten so_far at item.bytes.items =
-    subst (λ (i : DataItem). with_items c.args.memory.now c.args.at (map item_view (take (suc k) items)) ≡ overwritten so_far (c.args.at + i.offset) i.bytes.items) (sym c.item-item.is)
+    let so_far = with_items c.args.memory.now c.args.at (take k items) in
+    let more : with_items c.args.memory.now c.args.at (take (suc k) items) ≡ overwritten so_far at item.bytes =
+    subst (λ (i : DataItem). with_items c.args.memory.now c.args.at (take (suc k) items) ≡ overwritten so_far (c.args.at + i.offset) i.bytes) (sym c.item-item.is)
     (with_items-more c.args.memory.now c.args.at items k item c.loop-item-test.true) in
     c.put.ensures
-    ∙ ap (λ (bytes : List ℕ). overwritten c.loop-item.memory at bytes) c.deref.ensures.value
-    ∙ ap (λ (memory : List ℕ). overwritten memory at item.bytes.items) c.loop-item.invariant
+    ∙ ap (λ (bytes : List ℕ). overwritten c.loop-item.memory at bytes) c.as_slice.ensures
+    ∙ ap (λ (memory : List ℕ). overwritten memory at item.bytes) c.loop-item.invariant
     ∙ sym more
-    ∙ ap (λ (n : ℕ). with_items c.args.memory.now c.args.at (map item_view (take n items))) (sym (add-one k))
+    ∙ ap (λ (n : ℕ). with_items c.args.memory.now c.args.at (take n items)) (sym (add-one k))

@@ -1,6 +1,5 @@
-use Rattle.std.proofs.Common.{◌≡◌, List, ℕ, ap, ◌∙◌, arith, length, map}
+use Rattle.std.proofs.Common.{◌≡◌, List, ℕ, ap, ◌∙◌, arith, length}
 use Rattle.pw_value.specs.Limits.{text_start, memory_size}
-use Rattle.pw_image.specs.Image.{item_view}
 use Rattle.pw_machine.specs.Start.{zeros, overwritten, with_items, bytes_of, start_memory}
 use Rattle.pw_machine.proofs.Memories.{take_whole, start_core_is}
 use Rattle.pw_machine.proofs.processor.Processor.start.Goals as goal
@@ -8,7 +7,7 @@ use Rattle.pw_machine.proofs.processor.Processor.start.Goals as goal
 pub returns : goal.returns
 returns c =
     let words = c.args.words.now in
-    let items = map item_view c.args.items.now in
+    let items = c.args.items.now in
     let text = overwritten (zeros memory_size) text_start (bytes_of words) in
     let blank : c.deref_mut.result.now ≡ zeros memory_size = c.deref_mut.ensures.value ∙ c.in_ok-memory.ensures.zeros in
     let first : c.in_ok-memory.memory.len ≡ length c.put_words.new.memory = omega arith in
