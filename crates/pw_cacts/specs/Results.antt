@@ -3,6 +3,7 @@ use Rattle.std.specs.Prelude.{ℕ, Bool, true, false, Option, Some, None, Result
 use Rattle.pw_value.specs.declared.value.Value.{Value}
 use Rattle.pw_value.specs.declared.value.Value.TheVariants as V
 use Rattle.pw_value.specs.Objects.{Object}
+use Rattle.pw_types.specs.StepOperators.{step_operator}
 use Rattle.pw_types.specs.TypeTrees.{CType, Int}
 use Rattle.pw_types.specs.Conversions.{promoted}
 use Rattle.pw_types.specs.declared.kind.IntKind.{IntKind}
@@ -12,7 +13,7 @@ use Rattle.pw_cmean.specs.declared.undefined.Undef.TheVariants.{MissingResult}
 use Rattle.pw_cmean.specs.Acts.{Act, ◌>>=◌, give}
 use Rattle.pw_cmean.specs.Access.{load}
 use Rattle.pw_cmean.specs.Operators.{convert}
-use Rattle.pw_cmean.specs.Evaluation.{Env, site, update, step_operator, step_result}
+use Rattle.pw_cmean.specs.Evaluation.{Env, site, update, step_result}
 use Rattle.pw_coperators.specs.declared.category.Category.{Category}
 use Rattle.pw_coperators.specs.declared.category.Category.TheVariants as C
 use Rattle.pw_coperators.specs.declared.fault.Fault.{Fault}

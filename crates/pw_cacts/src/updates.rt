@@ -12,7 +12,7 @@ use crate::nodes::{binary, convert, load, put};
 use pw_ccalls::{Env, Stop};
 use pw_coperators::Purpose;
 use pw_cstate::State;
-use pw_types::{BinaryOperator, CType, IntKind, StepOperator, promote};
+use pw_types::{BinaryOperator, CType, IntKind, StepOperator, promote, step_operator};
 use pw_value::Value;
 use std::alloc::Global;
 
@@ -70,16 +70,6 @@ pub fn update<'a>(
         value,
     )?;
     Ok(value)
-}
-
-/// `++` adds, `--` subtracts.
-fn step_operator(op: StepOperator) -> BinaryOperator
-    ensures { result ≡ meaning.step_operator op }
-{
-    match op {
-        StepOperator::IncrementBefore | StepOperator::IncrementBehind => BinaryOperator::Add,
-        StepOperator::DecrementBefore | StepOperator::DecrementBehind => BinaryOperator::Subtract,
-    }
 }
 
 /// Behind its operand the value of a step is the old one.

@@ -24,7 +24,8 @@ use Rattle.pw_cmean.specs.Worlds.{Program, World, Callable, Body, Defined, Libra
 use Rattle.pw_cmean.specs.Acts.{Act, Site, StackFull, Bound, give, ◌>>=◌}
 use Rattle.pw_cmean.specs.Access.{fetch, load}
 use Rattle.pw_cmean.specs.Operators.{binary, convert}
-use Rattle.pw_cmean.specs.Evaluation.{Env, Calls as CallList, records_of, local_place, symbol_place, used, value_by, value_at, cast, bounded_call, take_room, library_call, call_body, call, callee_of, pointed, call_value, assigned, old_value, update, step_operator, step_result, step}
+use Rattle.pw_types.specs.StepOperators.{step_operator}
+use Rattle.pw_cmean.specs.Evaluation.{Env, Calls as CallList, records_of, local_place, symbol_place, used, value_by, value_at, cast, bounded_call, take_room, library_call, call_body, call, callee_of, pointed, call_value, assigned, old_value, update, step_result, step}
 use Rattle.pw_cmean.specs.Typed.{IsNumberOf, IsPointer, IsValueOf, IsResultOf, IsLetterResult, result_letter}
 use Rattle.pw_types.specs.WellTyped.{promoted_type, IsScalar}
 use Rattle.pw_cmean.proofs.NodeTypes.{IsPointerType, CanUpdate, CanCast, Calls, library_letter, IsTypedBody, IsTypedCallable, IsTypedProgram}

@@ -5,11 +5,11 @@ use Rattle.std.specs.Str.{bytes_eq}
 use Rattle.pw_value.specs.declared.value.Value.{Value}
 use Rattle.pw_value.specs.declared.value.Value.TheVariants as V
 use Rattle.pw_value.specs.declared.value.Pointer.TheVariants as P
+use Rattle.pw_types.specs.StepOperators.{step_operator}
 use Rattle.pw_types.specs.TypeTrees.{CType, Void, Int, Pointer, Record, QType, type_of, RecordValue}
 use Rattle.pw_types.specs.WellTyped.{promoted_type}
 use Rattle.pw_types.specs.declared.kind.IntKind.TheVariants as K
 use Rattle.pw_types.specs.declared.tree.BinaryOperator.{BinaryOperator}
-use Rattle.pw_types.specs.declared.tree.BinaryOperator.TheVariants.{Add, Subtract}
 use Rattle.pw_types.specs.declared.tree.LogicOperator.{LogicOperator}
 use Rattle.pw_types.specs.declared.tree.LogicOperator.TheVariants as L
 use Rattle.pw_types.specs.declared.tree.StepOperator.{StepOperator}
@@ -153,13 +153,6 @@ update e token ty working place op right old w = do
   put Assigning (site e token) (records_of e) ty place v
   give v
 
--- `++` and `--` add and subtract the int 1 (6.3.2.4, 6.3.3.1)
-abbrev pub step_operator : StepOperator → BinaryOperator
-step_operator IncrementBefore = Add
-step_operator IncrementBehind = Add
-step_operator DecrementBefore = Subtract
-step_operator DecrementBehind = Subtract
-
 -- behind its operand the value is the old one
 abbrev pub step_result : StepOperator → Value → Value → Value
 step_result IncrementBefore old new = new
@@ -167,7 +160,7 @@ step_result DecrementBefore old new = new
 step_result IncrementBehind old new = old
 step_result DecrementBehind old new = old
 
--- they work in the promoted type
+-- `++` and `--` add and subtract the int 1 (6.3.2.4, 6.3.3.1), in the promoted type
 unfoldable pub step : Env → ℕ → StepOperator → CType → Value → Act Value
 step e token op ty place = do
   old ← load (site e token) ty place

@@ -1,6 +1,7 @@
 -- Lines as items: words, turns of control with what stands in their delay slots, and the places where blocks begin.
 -- Short and long branches, and slots that are filled or not, are one list of items.
 use Rattle.std.specs.Prelude.{ℕ, ◌==◌, Bool, false, if◌then◌else◌, Option, Some, None, List, [], ◌∷◌}
+use Rattle.pw_inst.specs.Registers.{return_address, routine_link}
 use Rattle.pw_inst.specs.declared.Inst.{Inst}
 use Rattle.pw_inst.specs.declared.Inst.TheVariants.{Or, Combf}
 use Rattle.pw_inst.specs.declared.line.Line.{Line}
@@ -15,9 +16,9 @@ use Rattle.pw_delay.specs.declared.items.Item.TheVariants.{Plain, Turns, Mark}
 abbrev pub bare : Inst → Word
 bare i = record { inst = i; relocation = None }
 
--- a call through register 22 takes its return address from register 31 in its slot
+-- a call through a register takes its return address from the register of a routine's link in its slot
 abbrev pub link_moved : Word
-link_moved = bare (Or 31 0 2)
+link_moved = bare (Or routine_link 0 return_address)
 
 -- whether a block begins at the next line
 abbrev pub begins_next : ℕ → List Line → Bool

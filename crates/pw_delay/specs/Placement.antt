@@ -1,5 +1,6 @@
 -- Items as words (PA-RISC 1.1: branches, delay slots, nullification).
 use Rattle.std.specs.Prelude.{ℕ, ℤ, pos, ◌+◌, ◌-◌, ◌^◌, ◌-ℤ◌, ◌==◌, nat_lt, Bool, true, false, if◌then◌else◌, Option, Some, None, List, [], ◌∷◌, ◌++◌, length, map, sum_by}
+use Rattle.pw_inst.specs.Registers.{first}
 use Rattle.pw_inst.specs.declared.Inst.TheVariants.{Combt, Combf, Bl, Bv, Ble}
 use Rattle.pw_inst.specs.InstructionTable.{word_of, nop}
 use Rattle.pw_inst.specs.declared.line.Line.{Line}
@@ -77,7 +78,7 @@ turn_words long begins at (Back branch) slot = bare branch ∷ in_slot slot ∷ 
 turn_words long begins at (Goto b) slot = to_block (begins b) ∷ in_slot slot ∷ []
 turn_words long begins at (If r b) slot = branch_words long at r (begins b) slot
 turn_words long begins at (CallTo s link) slot = call_word s link ∷ in_slot slot ∷ []
-turn_words long begins at CallReg slot = bare (Ble 22 false) ∷ in_slot slot ∷ []
+turn_words long begins at CallReg slot = bare (Ble first false) ∷ in_slot slot ∷ []
 turn_words long begins at Leave slot = return_words slot
 
 abbrev pub item_words : Bool → (ℕ → ℕ) → ℕ → Item → List Word

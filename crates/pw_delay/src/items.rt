@@ -29,7 +29,7 @@ pub enum Turn {
     If(u8, u32),
     /// A call of a symbol, whose return address goes to a register.
     CallTo(Symbol, u8),
-    /// A call of the address in register 22.
+    /// A call of the address in the register of a first operand.
     CallReg,
     /// The return.
     Leave,

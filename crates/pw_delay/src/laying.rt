@@ -13,7 +13,7 @@ use crate::code::Code;
 use crate::items::{Item, Relocation, Turn, Word};
 use crate::marking::{Blocks, mark};
 use crate::slotting::{bare, copy_symbol};
-use pw_inst::{Fix, FixKind, Inst, NOP, Symbol, encode};
+use pw_inst::{FIRST, Fix, FixKind, Inst, NOP, Symbol, encode};
 use pw_items::Items;
 use std::alloc::{AllocError, Global};
 
@@ -230,7 +230,7 @@ fn put_turn(
             let call = call_word(copy_symbol(alloc, symbol)?, *link);
             put_both(alloc, code, call, slot)
         }
-        Turn::CallReg => put_both(alloc, code, bare(Inst::Ble { b: 22, n: false }), slot),
+        Turn::CallReg => put_both(alloc, code, bare(Inst::Ble { b: FIRST, n: false }), slot),
         Turn::Leave => put_return(alloc, code, slot),
     }
 }

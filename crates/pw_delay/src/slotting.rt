@@ -5,7 +5,7 @@ ghost use Rattle.pw_delay.specs.declared.items.Item.{Item as ItemValue};
 ghost use Rattle.pw_delay.specs.Items.{bare, link_moved, begins_next, plain_item, fixed_item, jump_item, item_of, before, slotted};
 
 use crate::items::{Item, Relocation, Turn, Word};
-use pw_inst::{FixKind, Inst, Line, Symbol};
+use pw_inst::{FixKind, Inst, Line, RETURN_ADDRESS, ROUTINE_LINK, Symbol};
 use pw_items::Items;
 use std::alloc::{AllocError, Global};
 
@@ -31,14 +31,14 @@ pub fn bare(inst: Inst) -> Word
     }
 }
 
-/// What stands in the slot of a call through register 22.
+/// What stands in the slot of a call through a register.
 fn link_moved() -> Word
     ensures { result ≡ link_moved }
 {
     bare(Inst::Or {
-        r1: 31,
+        r1: ROUTINE_LINK,
         r2: 0,
-        t: 2,
+        t: RETURN_ADDRESS,
     })
 }
 

@@ -1,3 +1,4 @@
 pub mod FlowGraph
+pub mod Addressed
 pub mod ValidFlow
 pub mod FrameRooms

@@ -1,20 +1,14 @@
 -- Reading and writing objects through pointers. None is where no lawful program leads.
 use Rattle.std.specs.Prelude.{ℕ, ◌+◌, ◌%◌, ◌==◌, ◌&&◌, ◌||◌, nat_le, not, Bool, true, false, if◌then◌else◌, Option, Some, None, List, length}
+use Rattle.pw_flow.specs.ValidFlow.{kind_size}
 use Rattle.pw_value.specs.declared.value.Kind.{Kind}
-use Rattle.pw_value.specs.declared.value.Kind.TheVariants.{S8, U8, S16, U16, W32}
+use Rattle.pw_value.specs.declared.value.Kind.TheVariants.{S8, S16, W32}
 use Rattle.pw_value.specs.declared.value.Value.{Value}
 use Rattle.pw_value.specs.declared.value.Value.TheVariants.{Undefined, Num, Null, At, Piece}
 use Rattle.pw_value.specs.declared.value.Byte.{Byte}
 use Rattle.pw_value.specs.declared.value.Pointer.TheVariants as P
 use Rattle.pw_value.specs.Objects.{Object, object_at, bytes_from, written}
 use Rattle.pw_value.specs.Values.{encoding, scalar_in, pointer_in, same_pointer}
-
-abbrev pub width_of : Kind → ℕ
-width_of S8 = 1
-width_of U8 = 1
-width_of S16 = 2
-width_of U16 = 2
-width_of W32 = 4
 
 abbrev pub is_signed : Kind → Bool
 is_signed S8 = true
@@ -37,7 +31,7 @@ scalar_of k bytes = scalar_in bytes (is_signed k)
 abbrev pub may_stand : Kind → Value → Bool
 may_stand W32 (At p) = true
 may_stand k (At p) = false
-may_stand k (Piece p i) = width_of k == 1
+may_stand k (Piece p i) = kind_size k == 1
 may_stand k Null = false
 may_stand k v = true
 
@@ -50,7 +44,7 @@ same_value v w = false
 
 -- A value that a scalar of a kind gives back: one that is read as it was written.
 abbrev pub is_of_kind : Kind → Value → Bool
-is_of_kind k v = may_stand k v && same_value (scalar_of k (encoding v (width_of k))) v
+is_of_kind k v = may_stand k v && same_value (scalar_of k (encoding v (kind_size k))) v
 
 -- ---- objects
 
@@ -61,14 +55,14 @@ is_open objects o i size unit =
 
 abbrev pub look_in : Kind → ℕ → ℕ → List Object → Option Value
 look_in k o i objects =
-    if is_open objects o i (width_of k) (width_of k)
-    then Some (scalar_of k (bytes_from (width_of k) i (object_at objects o).bytes))
+    if is_open objects o i (kind_size k) (kind_size k)
+    then Some (scalar_of k (bytes_from (kind_size k) i (object_at objects o).bytes))
     else None
 
 abbrev pub poke_in : Kind → ℕ → ℕ → Value → List Object → Option (List Object)
 poke_in k o i v objects =
-    if is_open objects o i (width_of k) (width_of k) && may_stand k v
-    then Some (written o i (encoding v (width_of k)) objects)
+    if is_open objects o i (kind_size k) (kind_size k) && may_stand k v
+    then Some (written o i (encoding v (kind_size k)) objects)
     else None
 
 -- what stands where a pointer leads

@@ -7,7 +7,7 @@ use pw_items::Items;
 use pw_program::Interface;
 use pw_summary::Summary;
 use pw_value::program_names::MAIN;
-use pw_value::{Kind, Name, Shape};
+use pw_value::{Kind, Name, Shape, copied_shapes};
 use std::alloc::{AllocError, Global};
 
 /// The same names again.
@@ -17,20 +17,6 @@ fn copied_names(alloc: Global, names: &[Name]) -> Result<Items<Name>, AllocError
     let mut copies = Items::new(alloc);
     for name in names {
         copies.push(name.copy(alloc)?)?;
-    }
-    Ok(copies)
-}
-
-/// The same names with their shapes again.
-fn copied_shapes(
-    alloc: Global,
-    declared: &[(Name, Shape)],
-) -> Result<Items<(Name, Shape)>, AllocError>
-    ensures { IfOk result (λ v. v ≡ declared.now) }
-{
-    let mut copies = Items::new(alloc);
-    for (name, shape) in declared {
-        copies.push((name.copy(alloc)?, shape.copy(alloc)?))?;
     }
     Ok(copies)
 }
@@ -80,7 +66,7 @@ fn view_of(alloc: Global, summary: &Summary) -> Result<Interface, AllocError>
         module: summary.module.copy(alloc)?,
         functions: function_names(alloc, summary.functions.as_slice())?,
         globals: global_names(alloc, summary.globals.as_slice())?,
-        declared: copied_shapes(alloc, summary.declared.as_slice())?,
+        declared: Items::from_vec(copied_shapes(alloc, summary.declared.as_slice())?),
         used: copied_names(alloc, summary.used.as_slice())?,
         main: main_of(alloc, summary.functions.as_slice())?,
     })

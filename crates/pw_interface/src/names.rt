@@ -5,7 +5,7 @@ ghost use Rattle.std.specs.Prelude.{◌≡◌, map, IfOk};
 use pw_flow::FlowGlobal;
 use pw_items::Items;
 use pw_object::ObjectFn;
-use pw_value::{Name, Shape};
+use pw_value::Name;
 use std::alloc::{AllocError, Global};
 
 /// The names of functions.
@@ -31,18 +31,4 @@ pub(crate) fn global_names(alloc: Global, globals: &[FlowGlobal]) -> Result<Item
         names.push(each.name.copy(alloc)?)?;
     }
     Ok(names)
-}
-
-/// The declared names with their shapes.
-pub(crate) fn declarations(
-    alloc: Global,
-    declared: &[(Name, Shape)],
-) -> Result<Items<(Name, Shape)>, AllocError>
-    ensures { IfOk result (λ all. all ≡ declared.now) }
-{
-    let mut all = Items::new(alloc);
-    for (name, shape) in declared {
-        all.push((name.copy(alloc)?, shape.copy(alloc)?))?;
-    }
-    Ok(all)
 }

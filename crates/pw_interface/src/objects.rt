@@ -4,10 +4,12 @@ ghost use Rattle.std.specs.Prelude.{◌≡◌, map, IfOk};
 ghost use Rattle.pw_interface.specs.Interface.{interface};
 
 use crate::mains::main_of;
-use crate::names::{declarations, function_names, global_names};
+use crate::names::{function_names, global_names};
 use crate::used::used_names;
+use pw_items::Items;
 use pw_object::Object;
 use pw_program::Interface;
+use pw_value::copied_shapes;
 use std::alloc::{AllocError, Global};
 
 /// What a module shows to the others.
@@ -18,7 +20,7 @@ fn interface_of(alloc: Global, object: &Object) -> Result<Interface, AllocError>
         module: object.module.copy(alloc)?,
         functions: function_names(alloc, object.functions.as_slice())?,
         globals: global_names(alloc, object.globals.as_slice())?,
-        declared: declarations(alloc, object.declared.as_slice())?,
+        declared: Items::from_vec(copied_shapes(alloc, object.declared.as_slice())?),
         used: used_names(alloc, object)?,
         main: main_of(alloc, object)?,
     })

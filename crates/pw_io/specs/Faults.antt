@@ -4,9 +4,13 @@ use Rattle.pw_io.specs.declared.Failed.{Failed as Fault}
 use Rattle.pw_io.specs.declared.StoreError.{StoreError}
 use Rattle.pw_io.specs.declared.StoreError.TheVariants.{Failed, NoMemory}
 
+-- the count of faults after one more; it ends at the greatest 64-bit number
+abbrev pub next_fault : ℕ → ℕ
+next_fault faults = min (faults + 1) (2 ^ 64 - 1)
+
 -- The count is greater than before, or stands at the greatest 64-bit number, where counters end.
 abbrev pub Rose : ℕ → ℕ → Type 0
-Rose before now = min (before + 1) (2 ^ 64 - 1) ≤ now
+Rose before now = next_fault before ≤ now
 
 -- A source or sink answers `Failed` only where its count rose; any other answer leaves it as it was.
 abbrev pub HasCause : {T : Type 0} → ℕ → ℕ → Result T Fault → Type 0

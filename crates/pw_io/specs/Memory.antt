@@ -5,10 +5,6 @@ use Rattle.std.specs.Prelude.{◌≢◌, ℕ, ◌+◌, ◌-◌, ◌^◌, ◌<◌
 abbrev pub next_call : ℕ → ℕ
 next_call calls = min (calls + 1) (2 ^ 128 - 1)
 
--- the count of faults after one more; it ends at the greatest 64-bit number
-abbrev pub next_fault : ℕ → ℕ
-next_fault faults = min (faults + 1) (2 ^ 64 - 1)
-
 -- the call's number stands in the list
 unfoldable pub HasCall : List ℕ → ℕ → Type 0
 HasCall numbers call = Contains numbers call

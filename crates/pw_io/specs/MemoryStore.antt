@@ -7,7 +7,8 @@ use Rattle.pw_io.specs.declared.mem_store.Left.{Left}
 use Rattle.pw_io.specs.declared.mem_store.Left.TheVariants.{Old, Nothing, Prefix}
 use Rattle.pw_io.specs.declared.mem_store.StoreFail.{StoreFail}
 use Rattle.pw_io.specs.Files.{Files, Told}
-use Rattle.pw_io.specs.Memory.{next_call, next_fault}
+use Rattle.pw_io.specs.Faults.{next_fault}
+use Rattle.pw_io.specs.Memory.{next_call}
 
 pub record MemStoreState : Type 0 where
   -- the files, and the names put so far

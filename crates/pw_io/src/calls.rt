@@ -1,6 +1,7 @@
 // The numbers of the calls of an object in memory, its faults, and which calls are to fail.
-ghost use Rattle.std.specs.Prelude.{◌≡◌, ◌+◌, ◌-◌, ◌^◌, ◌↔◌, min, IsTrue};
-ghost use Rattle.pw_io.specs.Memory.{HasCall};
+ghost use Rattle.std.specs.Prelude.{◌≡◌, ◌↔◌, IsTrue};
+ghost use Rattle.pw_io.specs.Faults.{next_fault};
+ghost use Rattle.pw_io.specs.Memory.{HasCall, next_call};
 
 /// How many calls there were and how many faults. Both counts stand still at their ends.
 #[derive(Clone, Copy)]
@@ -21,7 +22,7 @@ impl Tally {
 
     /// Counts a call, and answers its number. The first is 1.
     pub(crate) fn next_call(&mut self) -> u128
-        ensures number { result ≡ min (self.old.calls + 1) (2 ^ 128 - 1) }
+        ensures number { result ≡ next_call self.old.calls }
         ensures new { self.new ≡ record self.old { calls = result } }
     {
         self.calls = self.calls.saturating_add(1);
@@ -29,7 +30,7 @@ impl Tally {
     }
 
     pub(crate) fn count_fault(&mut self)
-        ensures { self.new ≡ record self.old { faults = min (self.old.faults + 1) (2 ^ 64 - 1) } }
+        ensures { self.new ≡ record self.old { faults = next_fault self.old.faults } }
     {
         self.faults = self.faults.saturating_add(1);
     }

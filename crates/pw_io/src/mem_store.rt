@@ -2,11 +2,10 @@
 ghost use Rattle.std.specs.Prelude.{◌≡◌, ◌↔◌, [], map, Some, IsSome, IsSomeAnd, IfOk, IsNone, OnOk, OnErr, string_bytes};
 ghost use Rattle.std.specs.Option.{option_map};
 ghost use Rattle.std.specs.FinMap as finite;
-ghost use Rattle.pw_io.specs.Faults.{HasStoreCause, OnFailed, OnNoMemory};
+ghost use Rattle.pw_io.specs.Faults.{HasStoreCause, OnFailed, OnNoMemory, next_fault};
 ghost use Rattle.pw_io.specs.Files.{Keeps, ListsNames, ReadsFront, Puts, PutsPart, Removes, after_put, after_remove};
 ghost use Rattle.pw_io.specs.Shelf.{files_of};
 ghost use Rattle.pw_io.specs.MemoryStore.{left_by_call, next_left, left_files, counted, counted_fault, with_files};
-ghost use Rattle.pw_io.specs.Memory.{next_fault};
 
 use crate::calls::Tally;
 use crate::shelf::Shelf;

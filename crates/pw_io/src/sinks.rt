@@ -2,9 +2,9 @@
 // that keeps nothing.
 ghost use Rattle.std.specs.Prelude.{◌≡◌, ◌≢◌, ◌+◌, ◌<◌, ◌≤◌, ◌↔◌, ◌⊎◌, ◌++◌, [], true, false, length, Some, None, IsTrue, IsFalse, IsOk, IsErr, IfOk, OnOk, OnErr};
 ghost use Rattle.std.specs.Bool.{OnTrue, OnFalse};
-ghost use Rattle.pw_io.specs.Faults.{HasCause};
+ghost use Rattle.pw_io.specs.Faults.{HasCause, next_fault};
 ghost use Rattle.pw_io.specs.Streams.{Appends, AppendsPart};
-ghost use Rattle.pw_io.specs.Memory.{next_call, next_fault, HasCall, kept_told, Refuses};
+ghost use Rattle.pw_io.specs.Memory.{next_call, HasCall, kept_told, Refuses};
 
 use crate::calls::{Tally, has_call};
 use crate::{Failed, NoMemory, Sink};

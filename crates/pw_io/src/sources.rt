@@ -1,8 +1,8 @@
 // Sources in memory: one that fails at given calls, and one that never fails.
 ghost use Rattle.std.specs.Prelude.{◌≡◌, ◌↔◌, List, Some, [], drop, slice_get, IsErr, IfOk, OnOk, OnErr};
-ghost use Rattle.pw_io.specs.Faults.{HasCause};
+ghost use Rattle.pw_io.specs.Faults.{HasCause, next_fault};
 ghost use Rattle.pw_io.specs.Streams.{TakesNext};
-ghost use Rattle.pw_io.specs.Memory.{next_call, next_fault, HasCall};
+ghost use Rattle.pw_io.specs.Memory.{next_call, HasCall};
 
 use crate::calls::{Tally, has_call};
 use crate::{Failed, NoMemory, Source};

@@ -1,5 +1,6 @@
 -- The forms of expressions behind the part that is evaluated first.
 use Rattle.std.specs.Prelude.{ℕ, if◌then◌else◌, None}
+use Rattle.pw_types.specs.StepOperators.{step_operator}
 use Rattle.pw_types.specs.TypeTrees.{QType, CType, Void, type_of}
 use Rattle.pw_types.specs.TypedTrees.{Symbol, Expression, Form, Hidden, type_at, form_of, Number, Str, Local, Global, Function, Unary, Step, Cast, Member, Deref, Address}
 use Rattle.pw_types.specs.WellTyped.{promoted_type}
@@ -9,7 +10,7 @@ use Rattle.pw_lower.specs.declared.code.Code.{Code}
 use Rattle.pw_lower.specs.declared.place.Target.TheVariants.{Kept, Named}
 use Rattle.pw_lower.specs.Codes.{Lowered, temp_of, constant, lowered_as}
 use Rattle.pw_lower.specs.Places.{place_at}
-use Rattle.pw_lower.specs.Operators.{kind_of, unary_on, step_operator}
+use Rattle.pw_lower.specs.Operators.{kind_of, unary_on}
 use Rattle.pw_lower.specs.Expressions.{Home, full_name, shape_at, Placed, led, still, read, further, address_of_global, address_of_function, address_of_local, target_of_local, value_at, value_of_global, value_of_local, scalar_kind, updated, step_value, in_result, gives, cast_to, is_void, Arguments, called}
 
 -- where a scalar lvalue is

@@ -18,10 +18,10 @@ use crate::stores::{Working, scalar_kind, updated};
 use crate::targets::{
     address_of_local, further, read, target_of_local, value_at, value_of_global, value_of_local,
 };
-use pw_lower::operators::{converted, is_behind, kind_of, step_operator, step_side, unary_on};
+use pw_lower::operators::{converted, is_behind, kind_of, step_side, unary_on};
 use pw_lower::{Code, Target};
 use pw_typed::{StepOperator, Symbol, TExpr, TForm, UnaryOperator};
-use pw_types::{CType, is_void};
+use pw_types::{CType, is_void, step_operator};
 use pw_value::NoMemory;
 use std::alloc::Global;
 

@@ -4,6 +4,7 @@ use Rattle.pw_value.specs.declared.value.Kind.{Kind}
 use Rattle.pw_value.specs.declared.value.Kind.TheVariants.{W32}
 pub use Rattle.pw_types.specs.Kinds.{is_void, is_record}
 use Rattle.pw_types.specs.Shapes.{shape_of}
+use Rattle.pw_types.specs.StepOperators.{step_operator}
 use Rattle.pw_types.specs.TypeTrees.{CType, Void, Pointer, QType, Qualified, type_of, is_volatile, RecordValue}
 pub use Rattle.pw_types.specs.FullNames.{full_name}
 use Rattle.pw_types.specs.TypedTrees.{Hidden, Expression, Node, type_at, Number, Str, Local, Global, Function, Unary, Binary, Logic, Cond, Comma, Assign, Compound, Step, Cast, Decay, Member, Deref, Address, Call, CallValue, Expressions, NoExpression, OneExpression}
@@ -22,7 +23,7 @@ use Rattle.pw_lower.specs.declared.place.Target.TheVariants.{Kept, Named, Led}
 use Rattle.pw_lower.specs.declared.place.LocalPlace.{LocalPlace}
 use Rattle.pw_lower.specs.declared.place.LocalPlace.TheVariants.{Temp, Slot}
 use Rattle.pw_lower.specs.Places.{place_at}
-use Rattle.pw_lower.specs.Operators.{with, kind_of, bytes_of, unit_of, converted, combined, truth_in, unary_on, step_operator, is_behind}
+use Rattle.pw_lower.specs.Operators.{with, kind_of, bytes_of, unit_of, converted, combined, truth_in, unary_on, is_behind}
 
 -- what an expression is lowered in: the module's name and record types, and the places of the function's locals
 pub record Home : Type 0 where

@@ -6,13 +6,14 @@ use Rattle.pw_types.specs.declared.kind.IntKind.{IntKind}
 use Rattle.pw_types.specs.declared.kind.IntKind.TheVariants.{Char, SChar, UChar, Short, UShort, Int as KInt, UInt, Long, ULong}
 use Rattle.pw_types.specs.Conversions.{is_signed_kind}
 use Rattle.pw_types.specs.Layouts.{size_of, layout_of}
+pub use Rattle.pw_types.specs.StepOperators.{step_operator}
 use Rattle.pw_types.specs.TypeTrees.{CType, Int, Pointer, Qualified, RecordValue}
 use Rattle.pw_types.specs.declared.tree.UnaryOperator.{UnaryOperator}
 use Rattle.pw_types.specs.declared.tree.UnaryOperator.TheVariants as unary
 use Rattle.pw_types.specs.declared.tree.BinaryOperator.{BinaryOperator}
 use Rattle.pw_types.specs.declared.tree.BinaryOperator.TheVariants as binary
 use Rattle.pw_types.specs.declared.tree.StepOperator.{StepOperator}
-use Rattle.pw_types.specs.declared.tree.StepOperator.TheVariants.{IncrementBefore, DecrementBefore, IncrementBehind, DecrementBehind}
+use Rattle.pw_types.specs.declared.tree.StepOperator.TheVariants.{IncrementBehind, DecrementBehind}
 use Rattle.pw_flow.specs.declared.flow.Op.TheVariants as op
 use Rattle.pw_flow.specs.declared.flow.UnKind.TheVariants.{Neg, Not}
 use Rattle.pw_flow.specs.declared.flow.BinKind.{BinKind}
@@ -173,13 +174,6 @@ unary_on unary.Plus a c = value_is a c
 unary_on unary.Minus a c = fresh (λ t. op.Un Neg t a) c
 unary_on unary.Complement a c = fresh (λ t. op.Un Not t a) c
 unary_on unary.Not a c = with Eq a (constant 0 c)
-
--- `++` adds 1 and `--` takes it away
-abbrev pub step_operator : StepOperator → BinaryOperator
-step_operator IncrementBefore = binary.Add
-step_operator IncrementBehind = binary.Add
-step_operator DecrementBefore = binary.Subtract
-step_operator DecrementBehind = binary.Subtract
 
 abbrev pub is_behind : StepOperator → Bool
 is_behind IncrementBehind = true

@@ -296,16 +296,6 @@ pub fn unary_on(operator: UnaryOperator, a: u32, code: &mut Code) -> Result<u32,
     }
 }
 
-/// `++` adds 1 and `--` takes it away.
-pub fn step_operator(operator: StepOperator) -> BinaryOperator
-    ensures { result ≡ spec.step_operator operator }
-{
-    match operator {
-        StepOperator::IncrementBefore | StepOperator::IncrementBehind => BinaryOperator::Add,
-        StepOperator::DecrementBefore | StepOperator::DecrementBehind => BinaryOperator::Subtract,
-    }
-}
-
 /// Whether the operator stands behind its operand.
 pub fn is_behind(operator: StepOperator) -> bool
     ensures { result ≡ spec.is_behind operator }

@@ -4,6 +4,7 @@ use Rattle.std.specs.Prelude.{ℕ, ℤ, ◌+◌, ◌-◌, ◌*◌, ◌/◌, ◌%
 use Rattle.std.specs.Int.{cast_unsigned, w32}
 use Rattle.pw_value.specs.Limits.{text_start, memory_size}
 use Rattle.pw_value.specs.Words.{signed_less, signed_at_most, unsigned_less, unsigned_at_most, unsigned_difference}
+use Rattle.pw_inst.specs.Registers.{argument_register, routine_link}
 use Rattle.pw_inst.specs.declared.Inst.{Inst}
 use Rattle.pw_inst.specs.declared.Inst.TheVariants.{Ldb, Ldh, Ldw, Ldo, Stb, Sth, Stw, Ldil, And, Or, Xor, Sub, Addl, Vshd, Mtctl, Comclr, Subi, Extru, Extrs, Zdep, Combt, Combf, Bl, Bv, Ble, Break}
 use Rattle.pw_inst.specs.InstructionTable.{decoded}
@@ -91,13 +92,13 @@ target core disp = (core.front + 8 + 4 * cast_unsigned w32 disp) % 2 ^ 32
 abbrev pub branches_if : Core → Bool → ℤ → Effect
 branches_if core taken disp = Goes (moved core (if taken then target core disp else next core) false)
 
--- BREAK 0,1 reads, 0,2 writes the low byte of register 26, 0,3 ends with that byte, 0,4 stops for
+-- BREAK 0,1 reads, 0,2 writes the low byte of the first argument's register, 0,3 ends with that byte, 0,4 stops for
 -- want of stack; every other BREAK halts.
 abbrev pub breaks : Core → ℕ → ℕ → Effect
 breaks core im5 im13 =
     if im5 == 0 && im13 == 1 then Reads
-    else if im5 == 0 && im13 == 2 then Writes (register core 26 % 2 ^ 8)
-    else if im5 == 0 && im13 == 3 then Stops (Ended (register core 26 % 2 ^ 8))
+    else if im5 == 0 && im13 == 2 then Writes (register core (argument_register 0) % 2 ^ 8)
+    else if im5 == 0 && im13 == 3 then Stops (Ended (register core (argument_register 0) % 2 ^ 8))
     else if im5 == 0 && im13 == 4 then Stops StackStop
     else halts core BadBreak
 
@@ -130,7 +131,7 @@ executed core (Combt c r1 r2 disp) = branches_if core (condition c (register cor
 executed core (Combf c r1 r2 disp) = branches_if core (not (condition c (register core r1) (register core r2))) disp
 executed core (Bl disp t n) = Goes (with_register (moved core (target core disp) n) t (next core))
 executed core (Bv b n) = Goes (moved core (register core b) n)
-executed core (Ble b n) = Goes (with_register (moved core (register core b) n) 31 (next core))
+executed core (Ble b n) = Goes (with_register (moved core (register core b) n) routine_link (next core))
 executed core (Break im5 im13) = breaks core im5 im13
 
 -- ---- the step at front

@@ -1,6 +1,7 @@
 -- One step of the machine over its input and output, and runs of many steps.
 use Rattle.std.specs.Prelude.{ℕ, zero, suc, ◌+◌, List, [], ◌∷◌, ◌++◌, Option, Some, None}
 use Rattle.pw_value.specs.Words.{end_of_input}
+use Rattle.pw_inst.specs.Registers.{answer}
 use Rattle.pw_machine.specs.declared.ends.End.{End}
 use Rattle.pw_machine.specs.Core.{Core, with_register, advanced}
 use Rattle.pw_machine.specs.Effect.{Effect, Goes, Reads, Writes, Stops, effect_of}
@@ -16,9 +17,9 @@ pub data Progress : Type 0 where
   Running : State → Progress
   Stopped : End → State → Progress
 
--- Register 28 takes the answer of a BREAK, and the next instruction follows.
+-- The register of a call's result takes the answer of a BREAK, and the next instruction follows.
 abbrev pub answered : Core → ℕ → Core
-answered core value = with_register (advanced core) 28 value
+answered core value = with_register (advanced core) answer value
 
 -- what a read answers: the byte, or -1 at the end of the input
 abbrev pub input_word : Option ℕ → ℕ

@@ -1,6 +1,7 @@
 -- The state in which a program begins: its words as text, its data, and a stack above them.
 use Rattle.std.specs.Prelude.{ℕ, ◌+◌, ◌%◌, ◌^◌, ◌<◌, ◌≤◌, ◌⊎◌, List, [], ◌∷◌, ◌++◌, length, take, drop, replicate, None, false, slice_set}
 use Rattle.std.specs.Int.{to_be_bytes, w32}
+use Rattle.pw_inst.specs.Registers.{stack_pointer}
 use Rattle.pw_value.specs.Limits.{text_start, memory_size}
 use Rattle.pw_value.specs.Rounding.{stack_start}
 use Rattle.pw_image.specs.declared.image.DataItem.{DataItem}
@@ -42,10 +43,10 @@ stack_start_of words data_size = stack_start (data_start_of words + data_size)
 abbrev pub start_memory : List ℕ → List DataItem → List ℕ
 start_memory words items = with_items (overwritten (zeros memory_size) text_start (bytes_of words)) (data_start_of words) items
 
--- Front is at the entry and back 4 beyond. Register 30 points to the stack, and the other registers are 0.
+-- Front is at the entry and back 4 beyond. The stack pointer points to the stack, and the other registers are 0.
 unfoldable pub start_core : ℕ → List ℕ → ℕ → List DataItem → Core
 start_core entry words data_size items = record {
-  registers = slice_set (replicate 32 0) 30 (stack_start_of words data_size);
+  registers = slice_set (replicate 32 0) stack_pointer (stack_start_of words data_size);
   front = entry;
   back = (entry + 4) % 2 ^ 32;
   nullify = false;

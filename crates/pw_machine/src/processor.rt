@@ -3,11 +3,12 @@
 ghost use Rattle.std.specs.Prelude.{◌≡◌, ◌+◌, ◌-◌, ◌*◌, ◌^◌, ◌%◌, ◌<◌, ◌≤◌, IfNone, IfOk, length};
 ghost use Rattle.std.specs.Bool.{OnTrue};
 ghost use Rattle.pw_value.specs.Limits.{word_limit, memory_size};
+ghost use Rattle.pw_inst.specs.Registers.{argument_register};
 
 use crate::ends::{End, Halt};
 use crate::{bits, memory, start};
 use pw_image::{DataItem, data_start};
-use pw_inst::Inst;
+use pw_inst::{ANSWER, ARGUMENT, Inst, ROUTINE_LINK, STACK_POINTER};
 use pw_io::NoMemory;
 use pw_value::limits::{MEMORY_SIZE, TEXT_START};
 use std::alloc::Global;
@@ -69,7 +70,7 @@ impl Processor {
         let text = words.len() as u32;
         let data_start = data_start(text) as u32;
         let mut registers = [0; 32];
-        registers[30] = start::stack_start(data_start + data_size);
+        registers[STACK_POINTER as usize] = start::stack_start(data_start + data_size);
         let mut memory = start::blank(alloc, MEMORY_SIZE as usize)?;
         start::put_words(&mut memory, TEXT_START as usize, words);
         start::put_items(&mut memory, data_start as usize, data_size, items);
@@ -430,7 +431,7 @@ impl Processor {
         let link = self.next();
         let after = self.register(b);
         self.go(after, n);
-        self.set_register(31, link);
+        self.set_register(ROUTINE_LINK, link);
         Outcome::Goes
     }
 
@@ -448,11 +449,11 @@ impl Processor {
         }
     }
 
-    /// The low byte of register 26.
+    /// The low byte of the first argument's register.
     fn low_byte(&self) -> u8
-        ensures { result ≡ register self.now 26 % 2 ^ 8 }
+        ensures { result ≡ register self.now (argument_register 0) % 2 ^ 8 }
     {
-        (self.register(26) % 0x100) as u8
+        (self.register(ARGUMENT) % 0x100) as u8
     }
 
     /// The address of the next instruction.
@@ -485,11 +486,11 @@ impl Processor {
         self.stopped = Some(end);
     }
 
-    /// Puts the answer of a BREAK into register 28, and goes on.
+    /// Puts the answer of a BREAK into the register of a call's result, and goes on.
     pub(crate) fn answer(&mut self, value: u32)
         ensures { self.new ≡ answered self.old value }
     {
         self.advance();
-        self.set_register(28, value);
+        self.set_register(ANSWER, value);
     }
 }

@@ -3,6 +3,7 @@ use Rattle.std.specs.Prelude.{ℕ, ◌+◌, ◌-◌, ◌==◌, Bool, true, false
 use Rattle.std.specs.List.{list_any}
 use Rattle.std.specs.Option.{option_map_or}
 use Rattle.std.specs.Str.{bytes_eq}
+pub use Rattle.pw_value.specs.NameLists.{has_name}
 use Rattle.pw_tree.specs.FirstTokens.{first_of_expr, first_of_labels}
 use Rattle.pw_tree.specs.Trees.{Word, Expr, Stmt, Alternative, Block, Stmts, Label, Decl}
 use Rattle.pw_tree.specs.Trees as S
@@ -58,9 +59,6 @@ unfoldable mutual
 -- a label's number is its place among them
 abbrev pub place_of_label : State → List ℕ → Option ℕ
 place_of_label s name = position (bytes_eq name) s.body.names
-
-abbrev pub has_name : List (List ℕ) → List ℕ → Bool
-has_name names name = list_any (bytes_eq name) names
 
 -- ---- labels
 

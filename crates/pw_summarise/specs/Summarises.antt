@@ -3,11 +3,12 @@ use Rattle.std.specs.Prelude.{ℕ, ◌≡◌, ◌*◌, ◌-◌, ◌^◌, ◌↔�
 use Rattle.std.specs.List.{flat_map, sum_by}
 use Rattle.std.specs.Str.{bytes_eq}
 use Rattle.pw_value.specs.declared.value.Kind.{Kind}
+pub use Rattle.pw_flow.specs.Addressed.{addressed}
 use Rattle.pw_flow.specs.declared.flow.FlowGlobal.{FlowGlobal}
 use Rattle.pw_flow.specs.declared.flow.Op.{Op}
 use Rattle.pw_flow.specs.declared.flow.FlowFn.{FlowFn}
 use Rattle.pw_flow.specs.declared.flow.FlowModule.{FlowModule}
-use Rattle.pw_flow.specs.declared.flow.Op.TheVariants.{AddrGlobal, AddrFn, LoadG, StoreG, Call, CallInd}
+use Rattle.pw_flow.specs.declared.flow.Op.TheVariants.{LoadG, StoreG, Call, CallInd}
 use Rattle.pw_flow.specs.FlowGraph.{names_in_global, named_in}
 use Rattle.pw_files.specs.Rising.{IsRising}
 use Rattle.pw_summary.specs.Summary.{weight_bound}
@@ -36,12 +37,6 @@ abbrev pub referenced : Op → List (List ℕ)
 referenced (LoadG t g k) = g ∷ []
 referenced (StoreG g a k) = g ∷ []
 referenced _ = []
-
--- the name whose address an operation takes
-abbrev pub addressed : Op → List (List ℕ)
-addressed (AddrGlobal t g n) = g ∷ []
-addressed (AddrFn t f) = f ∷ []
-addressed _ = []
 
 -- what the operations of a function have of these
 abbrev pub in_function : (Op → List (List ℕ)) → FlowFn → List (List ℕ)

@@ -6,7 +6,7 @@ ghost use Rattle.pw_summarise.specs.Summarises.{IsOrdered, global_entry, functio
 
 use pw_flow::{FlowFn, FlowGlobal};
 use pw_items::Items;
-use pw_value::{Kind, Name, Shape};
+use pw_value::{Kind, Name, Shape, copied_shapes};
 use std::alloc::{AllocError, Global};
 
 /// All objects, as they stand.
@@ -96,17 +96,6 @@ pub(crate) fn function_entries(
     Ok(entries)
 }
 
-/// Declarations, as they stand.
-fn copied(alloc: Global, declared: &[(Name, Shape)]) -> Result<Vec<(Name, Shape)>, AllocError>
-    ensures { IfOk result (λ v. v.items ≡ declared.now) }
-{
-    let mut all = Vec::new(alloc);
-    for (name, shape) in declared {
-        all.push((name.copy(alloc)?, shape.copy(alloc)?))?;
-    }
-    Ok(all)
-}
-
 /// What a module declares.
 pub(crate) fn declared_of(
     alloc: Global,
@@ -115,7 +104,7 @@ pub(crate) fn declared_of(
     requires { AreDistinct (map (λ d. d.0) declared.now) }
     ensures { IfOk result (λ v. IsOrdered (λ d. d.0) declared.now v) }
 {
-    let mut sorted = copied(alloc, declared)?;
+    let mut sorted = copied_shapes(alloc, declared)?;
     sorted.sort_unstable_by(|one, other| one.0.cmp(&other.0));
     Ok(Items::from_vec(sorted))
 }

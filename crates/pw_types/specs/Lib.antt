@@ -15,3 +15,4 @@ pub mod Spines
 pub mod Labels
 pub mod WellTyped
 pub mod TypedModules
+pub mod StepOperators

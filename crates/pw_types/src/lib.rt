@@ -20,5 +20,5 @@ pub use kinds::{is_array, is_function, is_integral, is_pointer, is_record, is_sc
 pub use layouts::{is_object_type, layout, oversize, round_up, size};
 pub use record::{Content, Layout, Member, RecordKind, RecordType};
 pub use shapes::shape;
-pub use tree::{BinaryOperator, LogicOperator, StepOperator, UnaryOperator};
+pub use tree::{BinaryOperator, LogicOperator, StepOperator, UnaryOperator, step_operator};
 pub use types::Types;

@@ -1,5 +1,8 @@
 //! The operators of typed trees (ISO C90 6.3).
 
+ghost use Rattle.std.specs.Prelude.{◌≡◌};
+ghost use Rattle.pw_types.specs.StepOperators as spec;
+
 /// The unary operators `+`, `-`, `~` and `!`.
 #[derive(Clone, Copy)]
 pub enum UnaryOperator {
@@ -44,4 +47,14 @@ pub enum StepOperator {
     DecrementBefore,
     IncrementBehind,
     DecrementBehind,
+}
+
+/// The operator of a step: `++` adds 1 and `--` takes it away.
+pub fn step_operator(operator: StepOperator) -> BinaryOperator
+    ensures { result ≡ spec.step_operator operator }
+{
+    match operator {
+        StepOperator::IncrementBefore | StepOperator::IncrementBehind => BinaryOperator::Add,
+        StepOperator::DecrementBefore | StepOperator::DecrementBehind => BinaryOperator::Subtract,
+    }
 }

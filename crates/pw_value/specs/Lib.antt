@@ -1,6 +1,7 @@
 pub mod Limits
 pub mod Caps
 pub mod Names
+pub mod NameLists
 pub mod ProgramNames
 pub mod Shapes
 pub mod Values

@@ -21,7 +21,7 @@ pub use decimal::push_decimal;
 pub use fault::{FileError, LinkFault, What};
 pub use name::{Name, NameError};
 pub use rounding::{round8, slot_room, stack_start};
-pub use shape::{Shape, agree};
+pub use shape::{Shape, agree, copied_shapes};
 pub use std::alloc::AllocError as NoMemory;
 pub use value::{Byte, Kind, Pointer, Value};
 pub use words::WordFault;

@@ -10,6 +10,7 @@ ghost use Rattle.std.specs.Cmp.Lexicographic.{pointwise, slice_cmp};
 ghost use Rattle.std.specs.Ordering.{nat_cmp, as_partial_cmp};
 ghost use Rattle.pw_value.specs.Shapes.{Agree, GivesLength, GivesDigits, Begins};
 
+use crate::name::Name;
 use std::alloc::{AllocError, Global};
 use std::cmp::Ordering;
 use std::marker::Model;
@@ -96,6 +97,20 @@ impl PartialOrd for Shape {
     fn partial_cmp(&self, other: &Shape) -> Option<Ordering> {
         Some(self.cmp(other))
     }
+}
+
+/// The same names with their shapes again.
+pub fn copied_shapes(
+    alloc: Global,
+    named: &[(Name, Shape)],
+) -> Result<Vec<(Name, Shape)>, AllocError>
+    ensures { IfOk result (λ copies. copies.items ≡ named.now) }
+{
+    let mut copies = Vec::new(alloc);
+    for (name, shape) in named {
+        copies.push((name.copy(alloc)?, shape.copy(alloc)?))?;
+    }
+    Ok(copies)
 }
 
 /// Whether two shapes agree: they are equal, or become equal when a `[]` at the front of one is

@@ -1,11 +1,13 @@
 -- What a lawful program of flow modules is, what the rules of webs see of it, and the same program under directives.
 use Rattle.std.specs.Prelude.{ℕ, ◌≡◌, ◌<◌, ◌≤◌, Bool, true, false, ◌&&◌, if◌then◌else◌, Option, Some, None, List, [], ◌∷◌, ◌++◌, map, filter, Contains}
-use Rattle.std.specs.List.{flat_map, list_any, AllByRecursion}
+use Rattle.std.specs.List.{flat_map, AllByRecursion}
 use Rattle.std.specs.Str.{bytes_eq}
+pub use Rattle.pw_value.specs.NameLists.{has_name}
 use Rattle.pw_value.specs.ProgramNames.{start_name}
 use Rattle.pw_value.specs.Limits.{stack_most}
 use Rattle.pw_value.specs.declared.value.Kind.{Kind}
 use Rattle.pw_files.specs.Rising.{IsRising}
+pub use Rattle.pw_flow.specs.Addressed.{addressed}
 use Rattle.pw_flow.specs.declared.flow.Item.{Item}
 use Rattle.pw_flow.specs.declared.flow.Item.TheVariants.{Bytes, Address}
 use Rattle.pw_flow.specs.declared.flow.Op.{Op}
@@ -61,15 +63,6 @@ abbrev pub StartFits : Program → Type 0
 StartFits p = p.frame_of start_name ≤ p.stack
 
 -- ---- what the rules of webs see
-
-abbrev pub has_name : List (List ℕ) → List ℕ → Bool
-has_name names name = list_any (bytes_eq name) names
-
--- the name whose address an operation takes
-abbrev pub addressed : Op → List (List ℕ)
-addressed (AddrGlobal t g n) = g ∷ []
-addressed (AddrFn t f) = f ∷ []
-addressed _ = []
 
 -- the names whose address is taken, in code or in data
 abbrev pub taken_names : Program → List (List ℕ)
