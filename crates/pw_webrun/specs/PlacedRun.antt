@@ -18,6 +18,7 @@ use Rattle.pw_db.specs.declared.database.Web.{Web}
 use Rattle.pw_db.specs.declared.database.Role.{Role}
 use Rattle.pw_flow.specs.declared.flow.End.{End}
 use Rattle.pw_flow.specs.declared.flow.End.TheVariants.{Jump, Branch, Return}
+pub use Rattle.pw_webflow.specs.Direction.{register_of as web_of}
 use Rattle.pw_webflow.specs.declared.web.WebOp.{WebOp}
 use Rattle.pw_webflow.specs.declared.web.WebOp.TheVariants.{Flow, Read, Write}
 use Rattle.pw_webflow.specs.declared.web.WebBlock.{WebBlock}
@@ -127,10 +128,6 @@ abbrev pub noted : Event Byte Value → Machine → Machine
 noted e m = record m { trace = e ∷ m.trace }
 
 -- ---- where the globals stand
-
-abbrev pub web_of : List (Web × Role) → List ℕ → Option ℕ
-web_of [] g = None
-web_of (w ∷ rest) g = if bytes_eq w.0.global g then Some w.0.reg else web_of rest g
 
 -- The latest active function that is in a web of the global finds it in the web's register, as that is when all
 -- functions called after it have given back what they saved. A global of which no active function is in a web
