@@ -4,9 +4,7 @@
 
 ghost use Rattle.std.specs.Prelude.{◌≡◌, ◌≢◌, ◌⊎◌, ◌∷◌, [], IfErr, IfOk, IsErr, None, OnOk, Result, drop, false, map, string_bytes, true};
 ghost use Rattle.std.specs.IoError.{error_kind};
-ghost use Rattle.std.specs.Process.{exit_status};
 ghost use Rattle.std.specs.Vec.Iter.{into_iter_items};
-ghost use Rattle.pw_answer.specs.Answers.{status_of};
 ghost use Rattle.pw_answer.specs.Outcomes.{Tells};
 ghost use Rattle.pw_io.specs.declared.Failed.{Failed};
 ghost use Rattle.pw_system.specs.Sinks.{kept_back};
@@ -14,10 +12,10 @@ ghost use Rattle.pw_words.specs.CommandLine.{command_of};
 ghost use Rattle.pawc.specs.Flushed.{IsUntold, after_flush, line_after_flush};
 ghost use Rattle.pawc.specs.declared.TheConstants.{BLOCK};
 
-use pw_answer::{is_untold, tell};
+use pw_answer::{exit_of, is_untold, tell};
 use pw_io::{Failed, Sink};
 use pw_system::{CurrentFolder, FileStore, StdSink, StdSource};
-use pw_top::{Answer, pawc_top, status};
+use pw_top::{Answer, pawc_top};
 use std::alloc::{AllocError, Global};
 use std::env::{self, Args};
 use std::io::{self, BufWriter, ErrorKind, IsTerminal, Read, Write};
@@ -85,13 +83,6 @@ fn finish<O: Write + Drop, E: Sink>(
 {
     let flushed = out.flush();
     after_flush(alloc, answer, flushed, err)
-}
-
-/// What the process ends with, by the answer.
-fn exit_of(answer: &Answer) -> ExitCode
-    ensures { exit_status result ≡ status_of answer.now }
-{
-    ExitCode::from(status(answer))
 }
 
 /// Obeys the words over the files of the current folder, and tells and answers what came of it. Words that say no command
