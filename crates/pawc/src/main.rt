@@ -2,21 +2,20 @@
 //! top call with its words and ends with the answer's status.
 #![tactic(auto)]
 
-ghost use Rattle.std.specs.Prelude.{◌≡◌, ◌≢◌, ◌∷◌, [], IfErr, IfOk, IsErr, OnOk, Result, drop, false, map, string_bytes, true};
+ghost use Rattle.std.specs.Prelude.{◌≡◌, ◌≢◌, ◌⊎◌, ◌∷◌, [], IfErr, IfOk, IsErr, None, OnOk, Result, drop, false, map, string_bytes, true};
 ghost use Rattle.std.specs.IoError.{error_kind};
-ghost use Rattle.std.specs.Process.{exit_status};
 ghost use Rattle.std.specs.Vec.Iter.{into_iter_items};
-ghost use Rattle.pw_answer.specs.Answers.{status_of};
 ghost use Rattle.pw_answer.specs.Outcomes.{Tells};
 ghost use Rattle.pw_io.specs.declared.Failed.{Failed};
 ghost use Rattle.pw_system.specs.Sinks.{kept_back};
+ghost use Rattle.pw_words.specs.CommandLine.{command_of};
 ghost use Rattle.pawc.specs.Flushed.{IsUntold, after_flush, line_after_flush};
 ghost use Rattle.pawc.specs.declared.TheConstants.{BLOCK};
 
-use pw_answer::{is_untold, tell};
+use pw_answer::{exit_of, is_untold, tell};
 use pw_io::{Failed, Sink};
 use pw_system::{CurrentFolder, FileStore, StdSink, StdSource};
-use pw_top::{Answer, pawc_top, status};
+use pw_top::{Answer, pawc_top};
 use std::alloc::{AllocError, Global};
 use std::env::{self, Args};
 use std::io::{self, BufWriter, ErrorKind, IsTerminal, Read, Write};
@@ -86,15 +85,9 @@ fn finish<O: Write + Drop, E: Sink>(
     after_flush(alloc, answer, flushed, err)
 }
 
-/// What the process ends with, by the answer.
-fn exit_of(answer: &Answer) -> ExitCode
-    ensures { exit_status result ≡ status_of answer.now }
-{
-    ExitCode::from(status(answer))
-}
-
-/// Obeys the words over the files of the current folder, and tells and answers what came of it. An answer that no line told
-/// leaves nothing of the output kept back.
+/// Obeys the words over the files of the current folder, and tells and answers what came of it. Words that say no command
+/// are answered so, and no others are; where there is no memory that is answered. An answer that no line told leaves nothing of
+/// the output kept back.
 fn obey<F: Files + AllocGlobal + Clone + Drop, I: Read + Drop, O: Write + Drop, E: Write>(
     files: &F,
     words: &[String],
@@ -102,7 +95,9 @@ fn obey<F: Files + AllocGlobal + Clone + Drop, I: Read + Drop, O: Write + Drop, 
     out: &mut StdSink<BufWriter<O>>,
     err: &mut StdSink<E>,
 ) -> Answer
-    ensures { IsUntold result → kept_back out.new ≡ [] }
+    ensures usage_is { result ≡ Answer.Usage → command_of (map string_bytes words.now) ≡ None }
+    ensures usage_comes { command_of (map string_bytes words.now) ≡ None → (result ≡ Answer.Usage) ⊎ (result ≡ Answer.NoMemory) }
+    ensures whole { IsUntold result → kept_back out.new ≡ [] }
 {
     let mut store = FileStore::new(CurrentFolder::new(files));
     let mut input = StdSource::new(reader);

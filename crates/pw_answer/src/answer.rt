@@ -1,6 +1,7 @@
 //! What a call of the program answers.
 
 ghost use Rattle.std.specs.Prelude.{◌≡◌};
+ghost use Rattle.std.specs.Process.{exit_status};
 ghost use Rattle.pw_answer.specs.Answers.{is_untold, status_of};
 
 use pw_front::Refusal;
@@ -8,6 +9,7 @@ use pw_io::StoreError;
 use pw_machine::Halt;
 use pw_value::{LinkFault, Name, Word};
 use std::alloc::AllocError;
+use std::process::ExitCode;
 
 /// What a call of the program answers.
 #[derive(Drop)]
@@ -95,6 +97,13 @@ pub fn status(answer: &Answer) -> u8
         Answer::BadFile(_, _) => 122,
         Answer::BadScript(_) => 123,
     }
+}
+
+/// What the process ends with, by the answer.
+pub fn exit_of(answer: &Answer) -> ExitCode
+    ensures { exit_status result ≡ status_of answer.now }
+{
+    ExitCode::from(status(answer))
 }
 
 /// Whether no line tells the answer: the command did what it is for, or the program ended.

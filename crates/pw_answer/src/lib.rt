@@ -6,6 +6,6 @@ mod answer;
 mod line;
 mod telling;
 
-pub use answer::{Answer, Reply, is_untold, status};
+pub use answer::{Answer, Reply, exit_of, is_untold, status};
 pub use line::{Line, halt_name, line_of};
 pub use telling::tell;

@@ -71,11 +71,7 @@ const FAILING: [(&str, Call, Fault); 11] = [
         Call::AskName,
         Fault::Of(ErrorKind::PermissionDenied),
     ),
-    (
-        "ask, gone",
-        Call::AskName,
-        Fault::Of(ErrorKind::NotFound),
-    ),
+    ("ask, gone", Call::AskName, Fault::Of(ErrorKind::NotFound)),
     (
         "open file, denied",
         Call::OpenFile,
@@ -218,7 +214,10 @@ fn tell_fault(rt: &HostRuntime, title: &str, call: Call, fault: Fault) -> io::Re
     let file = store.get(rt.alloc(), "a.i", 3);
     let put = done(&store.put(rt.alloc(), "new", b"x"));
     let removal = done(&store.remove(rt.alloc(), "new"));
-    println!(rt; "{title}: names {names}, get {}, put {put}, remove {removal}", got(&file))
+    println!(rt;
+        "{title}: names {names}, get {}, put {put}, remove {removal}",
+        got(&file)
+    )
 }
 
 /// What each call of the store answers where one call of the system fails.
