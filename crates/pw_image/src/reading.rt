@@ -118,7 +118,7 @@ fn read_items(
 fn free_after(item: &DataItem) -> u64
     ensures { result ≡ free_behind item.now }
 {
-    u64::from(item.offset) + (item.bytes.len() as u64).max(1)
+    u64::from(item.offset) + (item.bytes.as_slice().len() as u64).max(1)
 }
 
 /// What a machine starts with, but for the rule of the entry.

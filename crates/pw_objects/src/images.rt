@@ -81,7 +81,11 @@ pub fn push_image(text: &mut Text, image: &Image, marks: &[u8]) {
     text.push(b" |");
     push_words(text, memory.words.as_slice(), marks);
     push_functions(text, &image.functions.as_slice()[..known]);
-    push_globals(text, start_behind(memory.words.as_slice()), image.globals.as_slice());
+    push_globals(
+        text,
+        start_behind(memory.words.as_slice()),
+        image.globals.as_slice(),
+    );
     for item in memory.items.as_slice() {
         push_item(text, item);
     }
