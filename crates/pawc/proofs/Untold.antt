@@ -10,7 +10,7 @@ use Rattle.pawc.specs.Flushed.{IsUntold, after_flush}
 apart : false ≡ true → ⊥
 apart h = cc
 
--- where the answer is no write fault, a line tells it
+-- behind a flush that failed, a line tells the answer
 told : (answer : Answer) (is : Bool) → is_untold answer ≡ is → is_untold (if is then WriteFault else answer) ≡ true → ⊥
 told answer true e h = apart h
 told answer false e h = apart (subst (λ (b : Bool). b ≡ true) e h)

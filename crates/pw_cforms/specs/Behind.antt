@@ -22,7 +22,7 @@ place_act a e bound = place_of a (calls e.world bound) e
 abbrev pub placed_act : Expression → Env → ℕ → Act (Option Value)
 placed_act a e bound = place_act a e bound >>= λ place. give (Some place)
 
--- The first act gave this, from some state to here: from that state on, the code answers what the whole act does.
+-- From whatever state the first act gave this on its way to here, the code answers what the whole act does from that state.
 pub record Behind {B : Type 0} (e : Env) (bound : ℕ) (first : Env → ℕ → Act (Option Value)) (given : Option Value) (whole : Env → ℕ → Act B)
     (here : Shown) (result : Result B Stop) (behind : Shown) : Type 0 where
   pub answers : (start : Shown) → Runs e.world (first e bound) start (Ok given) here → Answers (λ x. x) e.world (whole e bound) start result behind

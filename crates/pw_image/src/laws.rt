@@ -2,13 +2,14 @@
 
 ghost use Rattle.std.specs.Prelude.{◌≡◌, ℕ, List};
 ghost use Rattle.pw_image.specs.declared.image.Image.{Image};
-ghost use Rattle.pw_image.specs.Image.{Contents, IsImageFile, image_version};
+ghost use Rattle.pw_image.specs.Image.{Contents, IsImageFile, image_version, kind};
 
-use crate::reading::VERSION;
+use crate::reading::{KIND, VERSION};
 
-/// The version is the one that its definition speaks of.
+/// The kind and the version of the file are those that its definition speaks of.
 pub fn version_of_images()
-    ensures { VERSION ≡ image_version }
+    ensures kind { KIND ≡ kind }
+    ensures version { VERSION ≡ image_version }
 {}
 
 /// No bytes are the file of two images, and no image has two files.

@@ -1,4 +1,4 @@
--- The names of the files in a folder, by what is told of each entry and of each name, and what opening a file comes to.
+-- The names of the files in a folder, by what is told of each entry and of each name.
 -- `tells name told` says that `told` is what is told of that name; `gives` says what the entries give, one by one.
 use Rattle.std.specs.Prelude.{◌≡◌, ◌≢◌, ◌⊎◌, ℕ, List, [], ◌∷◌, ◌++◌, map, None, Some, Ok, Err, Option, Result, String, string_bytes}
 use Rattle.std.specs.Fs.{IsDir, dir_entry_name, file_type}
