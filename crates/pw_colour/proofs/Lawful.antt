@@ -26,7 +26,7 @@ use Rattle.pw_colour.specs.Colours.{IsColour, AreColoured, numbered, global_of, 
 use Rattle.pw_colour.proofs.Same.{differ}
 use Rattle.pw_colour.proofs.Numbered.{web_at, number_there}
 use Rattle.pw_colour.proofs.Unique.{raw_in}
-use Rattle.pw_db.specs.Limits.{colour_limit, first_register}
+use Rattle.pw_db.specs.Limits.{first_register, register_count}
 
 -- ---- names stand once
 
@@ -221,7 +221,7 @@ global_at g w raw = global_there g w raw.global
 pub one_global : (g : CallGraph) (a b : RawWeb) → IsRising (map (λ v. v.0) g.globals) → IsRawWeb g a → IsRawWeb g b → (global_of g a).0 ≡ (global_of g b).0 → a.global ≡ b.global
 one_global g a b up ra rb e = once_there (λ (v : List ℕ × Kind). v.0) g.globals up a.global b.global (global_of g a) (global_of g b) (global_at g a ra) (global_at g b rb) e
 
-lawful_webs : (g : CallGraph) (colours : ℕ) (qs : List (ℕ × RawWeb × ℕ)) (db : List (List ℕ × Directives)) → colours ≤ colour_limit → IsMade g colours qs db → (f : ℕ) → IsDirectives (directives_of g qs f)
+lawful_webs : (g : CallGraph) (colours : ℕ) (qs : List (ℕ × RawWeb × ℕ)) (db : List (List ℕ × Directives)) → colours ≤ register_count → IsMade g colours qs db → (f : ℕ) → IsDirectives (directives_of g qs f)
 lawful_webs g colours qs db few made f = record {
   each = each_web g IsWeb f qs (λ q h m. let r = made.register q h in let low = r.0 in let high = r.1 in record { low = low; high = omega (arith, high, few) });
   numbers = two_webs g (λ (a b : ℕ × RawWeb × ℕ). a.0 < b.0) (λ a b. a.id < b.id) f qs (λ q p h k m n lt. lt) made.rise;
@@ -230,7 +230,7 @@ lawful_webs g colours qs db few made f = record {
   free = refl;
 }
 
-pub lawful : (g : CallGraph) (colours : ℕ) (qs : List (ℕ × RawWeb × ℕ)) (db : List (List ℕ × Directives)) → colours ≤ colour_limit → IsMade g colours qs db → IsDatabase db
+pub lawful : (g : CallGraph) (colours : ℕ) (qs : List (ℕ × RawWeb × ℕ)) (db : List (List ℕ × Directives)) → colours ≤ register_count → IsMade g colours qs db → IsDatabase db
 lawful g colours qs db few made =
     let source : (w : Web) → Has w (all_webs db) → (q : ℕ × RawWeb × ℕ) × Has q qs × (w ≡ web_of g q) = λ w h.
     let p = has_flat_back (λ (f : List ℕ × Directives). webs_in f.1) w db h in

@@ -1,5 +1,5 @@
 -- The database of summaries is sound.
-use Rattle.std.proofs.Common.{◌≡◌, ℕ, ◌<◌, ◌≤◌, Bool, true, false, List, [], ◌∷◌, length, refl, sym, ap, subst, ◌∙◌, arith, inl, inr}
+use Rattle.std.proofs.Common.{◌≡◌, ℕ, ◌<◌, Bool, true, false, List, [], ◌∷◌, length, refl, sym, ap, subst, ◌∙◌, arith, inl, inr}
 use Rattle.std.specs.Prelude.{Some, slice_get, Contains, if◌then◌else◌}
 use Rattle.pw_value.specs.declared.value.Kind.{Kind}
 use Rattle.pw_value.specs.ProgramNames.{start_name}
@@ -27,7 +27,6 @@ use Rattle.pw_colour.specs.Naming.{IsNamed}
 use Rattle.pw_colour.proofs.GraphOne.{map_same}
 use Rattle.pw_colour.proofs.Numbered.{number_there}
 use Rattle.pw_colour.proofs.Lawful.{once_there, two_of, AreApart, IsWebOf, web_from, web_to, holds_number, IsMade, global_at, one_global}
-use Rattle.pw_db.specs.Limits.{colour_limit}
 
 module _ (g : CallGraph) (colours : ℕ) (qs : List (ℕ × RawWeb × ℕ)) (db : List (List ℕ × Directives)) (n : Graph) (made : IsMade g colours qs db) (named : IsNamed g n) where
   one_place : (i j : ℕ) (f : List ℕ) → slice_get g.functions i ≡ Some f → slice_get g.functions j ≡ Some f → i ≡ j
@@ -208,8 +207,8 @@ module _ (g : CallGraph) (colours : ℕ) (qs : List (ℕ × RawWeb × ℕ)) (db 
       let its : Writes g p.place q.1.global = subst (λ k. Writes g p.place k) v (subst (λ k. Writes g k r.global) here r.is) in
       ap (λ (x : Web). x.writes) p.from.is ∙ (made.raw q p.from.has).writes.1 (p.place, p.from.member, its)
 
-  pub sound : colours ≤ colour_limit → ((a b : ℕ) → Calls g a b → slice_get g.functions b ≡ Some start_name → ⊥) → Sound n db
-  sound few uncalled = record {
+  pub sound : ((a b : ℕ) → Calls g a b → slice_get g.functions b ≡ Some start_name → ⊥) → Sound n db
+  sound uncalled = record {
     member_callers = member_callers;
     entry_callers = entry_callers;
     start = start uncalled;

@@ -19,7 +19,7 @@ use Rattle.pw_colour.proofs.GraphOne.{item_there, each_at, graph_one}
 use Rattle.pw_colour.proofs.Unique.{meet_same}
 use Rattle.pw_colour.proofs.Lawful.{is_made, lawful}
 use Rattle.pw_colour.proofs.Sounding.{sound}
-use Rattle.pw_db.specs.Limits.{colour_limit}
+use Rattle.pw_db.specs.Limits.{register_count}
 
 at_one : {X : Type 0} (P : X → Type 0) (xs : List X) (x : X) → All P xs → Contains xs x → P x
 at_one P xs x all c = subst P c.2 (All-get_or P xs c.0 x c.1 all)
@@ -39,10 +39,10 @@ uncalled ss g all of a b calls at =
     let f = item_there g.functions a (omega (arith, here, rows)) in
     no_call ss all ((of.calls a b f.0 start_name f.1 at).0 calls) refl
 
-pub database_lawful : (ss : List Summary) (colours : ℕ) (db : List (List ℕ × Directives)) → colours ≤ colour_limit → IsDatabaseOf ss colours db → IsDatabase db
+pub database_lawful : (ss : List Summary) (colours : ℕ) (db : List (List ℕ × Directives)) → colours ≤ register_count → IsDatabaseOf ss colours db → IsDatabase db
 database_lawful ss colours db few d = lawful d.graph colours (numbered 0 d.coloured) db few (is_made ss colours db d (λ u w f ru rw same in_u in_w. meet_same d.graph u w ru rw same f in_u in_w))
 
-pub database_sound : (ss : List Summary) (colours : ℕ) (db : List (List ℕ × Directives)) (g : CallGraph) (n : Graph) → colours ≤ colour_limit → All IsSummary ss → IsDatabaseOf ss colours db → IsGraphOf ss g → IsNamed g n → Sound n db
-database_sound ss colours db g n few all d of named =
+pub database_sound : (ss : List Summary) (colours : ℕ) (db : List (List ℕ × Directives)) (g : CallGraph) (n : Graph) → All IsSummary ss → IsDatabaseOf ss colours db → IsGraphOf ss g → IsNamed g n → Sound n db
+database_sound ss colours db g n all d of named =
     let its : IsNamed d.graph n = subst (λ (h : CallGraph). IsNamed h n) (graph_one ss g d.graph of d.graph_of) named in
-    sound d.graph colours (numbered 0 d.coloured) db n (is_made ss colours db d (λ u w f ru rw same in_u in_w. meet_same d.graph u w ru rw same f in_u in_w)) its few (uncalled ss d.graph all d.graph_of)
+    sound d.graph colours (numbered 0 d.coloured) db n (is_made ss colours db d (λ u w f ru rw same in_u in_w. meet_same d.graph u w ru rw same f in_u in_w)) its (uncalled ss d.graph all d.graph_of)

@@ -11,19 +11,19 @@ ghost use Rattle.pw_sound.specs.CallGraphs.{Graph};
 ghost use Rattle.pw_sound.specs.Sound.{Sound};
 ghost use Rattle.pw_colour.specs.Colours.{IsDatabaseOf};
 ghost use Rattle.pw_colour.specs.Naming.{IsNamed};
-ghost use Rattle.pw_db.specs.Limits.{colour_limit};
+ghost use Rattle.pw_db.specs.Limits.{register_count};
 
 /// Summaries have at most one database for so many registers.
 pub fn databases_are_one()
     ensures { (ss : List Summary) (colours : ℕ) (d e : List (List ℕ × Directives)) → IsDatabaseOf ss colours d → IsDatabaseOf ss colours e → d ≡ e }
 {}
 
-/// The database of summaries keeps the rules of databases.
+/// The database of summaries keeps the rules of databases, for no more registers than a callee keeps.
 pub fn databases_are_lawful()
-    ensures { (ss : List Summary) (colours : ℕ) (d : List (List ℕ × Directives)) → colours ≤ colour_limit → IsDatabaseOf ss colours d → IsDatabase d }
+    ensures { (ss : List Summary) (colours : ℕ) (d : List (List ℕ × Directives)) → colours ≤ register_count → IsDatabaseOf ss colours d → IsDatabase d }
 {}
 
-/// The database of summaries is sound for the call graph that they make, said by names.
+/// The database of summaries is sound for the call graph that they make, said by names, for however many registers.
 pub fn databases_are_sound()
-    ensures { (ss : List Summary) (colours : ℕ) (d : List (List ℕ × Directives)) (g : CallGraph) (n : Graph) → colours ≤ colour_limit → All IsSummary ss → IsDatabaseOf ss colours d → IsGraphOf ss g → IsNamed g n → Sound n d }
+    ensures { (ss : List Summary) (colours : ℕ) (d : List (List ℕ × Directives)) (g : CallGraph) (n : Graph) → All IsSummary ss → IsDatabaseOf ss colours d → IsGraphOf ss g → IsNamed g n → Sound n d }
 {}

@@ -1,3 +1,4 @@
+use Rattle.std.proofs.Common.{arith}
 use Rattle.pw_making.proofs.OneAnswer.{Laws, one_answer, one_count}
 use Rattle.pw_making.proofs.laws.flow_graphs_have_one_answer.Goals as goal
 
@@ -5,7 +6,7 @@ pub returns : goal.returns
 returns c =
     let laws : Laws = record {
       summary = c.a_module_has_one_summary.ensures;
-      lawful = c.databases_are_lawful.ensures;
+      lawful = λ ss colours d few is. c.databases_are_lawful.ensures ss colours d (omega (arith, few)) is;
       database = c.databases_are_one.ensures;
       directives = c.directives_are_one.ensures;
       object = c.a_module_has_one_object.ensures;
