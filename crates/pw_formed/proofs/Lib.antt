@@ -1,0 +1,3 @@
+pub mod Suiting
+pub mod Order
+pub mod Bodies
