@@ -63,7 +63,7 @@ known-local x (Node t ty form) typed k there = absurd (omega (arith, there.1))
 mutual
   unfolding IsTyped HasForm AreArguments
 
-  known : (x : Activation) (a : Expression) → IsTyped x.home.tree x.function.locals a → (k : ℕ) → Contains (assigned_in a) k → Known x k
+  pub known : (x : Activation) (a : Expression) → IsTyped x.home.tree x.function.locals a → (k : ℕ) → Contains (assigned_in a) k → Known x k
   known x (Node t ty (Unary o a)) typed k there = known x a typed.1.0 k there
   known x (Node t ty (Binary o a b)) typed k there = in-either x (assigned_in a) (assigned_in b) k there (known x a typed.1.0 k) (known x b typed.1.1 k)
   known x (Node t ty (Logic o a b)) typed k there = in-either x (assigned_in a) (assigned_in b) k there (known x a typed.1.0 k) (known x b typed.1.1 k)

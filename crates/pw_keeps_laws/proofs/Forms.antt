@@ -29,7 +29,8 @@ use Rattle.pw_keeps.specs.Meeting.{Reaches}
 use Rattle.pw_keeps.specs.Expressions.{assigned_in, IsReady, IsDone, HasValue, HasResult, ExpressionKeeps}
 use Rattle.pw_keeps_laws.proofs.Simulation.{meets-then, meets-less}
 use Rattle.pw_keeps_laws.proofs.Lasting.{lasts-same, lasts-then}
-use Rattle.pw_keeps_laws.proofs.Fresh.{moved_on, related-put, next, steps-op}
+use Rattle.pw_keeps_laws.specs.Stretches.{moved_on}
+use Rattle.pw_keeps_laws.proofs.Fresh.{related-put, next, steps-op}
 
 -- the laws of code that the forms rest on
 pub record CodeLaws : Type 0 where

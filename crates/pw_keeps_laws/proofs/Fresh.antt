@@ -13,16 +13,16 @@ use Rattle.pw_flow.specs.declared.flow.FlowFn.{FlowFn}
 use Rattle.pw_lower.specs.declared.code.Code.{Code}
 use Rattle.pw_lower.specs.declared.place.LocalPlace.{LocalPlace}
 use Rattle.pw_lower.specs.declared.place.LocalPlace.TheVariants.{Temp, Slot}
-use Rattle.pw_lower.specs.Codes.{emit}
 use Rattle.pw_lower.specs.Places.{is_kept, places_from, places_of, temps_from, addressed_in_statement}
 use Rattle.pw_cmean.specs.Acts.{State}
 use Rattle.pw_cmean.specs.Access as source
 use Rattle.pw_flowrun.specs.Commands.{command}
-use Rattle.pw_flowrun.specs.FlowRun.{Machine, value_in, with_temp, obeys, step}
+use Rattle.pw_flowrun.specs.FlowRun.{Machine, value_in, obeys, step}
 use Rattle.pw_keeps.specs.Standing.{Spot, Stands}
 use Rattle.pw_keeps.specs.Activations.{Activation, Numbers, graphs, place_in, local_temps}
 use Rattle.pw_keeps.specs.Matching.{StandsAt, Related}
 use Rattle.pw_keeps.specs.Containing.{BeginsWith, IsBehind}
+use Rattle.pw_keeps_laws.specs.Stretches.{moved_on, Next}
 
 -- ---- the temporaries of locals are below their count
 
@@ -80,10 +80,6 @@ temp_below x k t l there e =
 
 -- ---- the states stay related
 
--- the machine with what is left of its block, and a value in a temporary
-abbrev pub moved_on : List Op → ℕ → Value → Machine → Machine
-moved_on rest t v m = with_temp t v (record m { frame = record m.frame { ops = rest } })
-
 local_kept :
     (x : Activation) (spots : List Spot) (s : State) (m : Machine) (rest : List Op) (t : ℕ) (v : Value) (l : LocalValue) (k o : ℕ) (p : LocalPlace)
     → slice_get x.function.locals k ≡ Some l → local_temps x ≤ t → place_in x k ≡ p
@@ -126,12 +122,6 @@ related-put x numbers spots s m rest t v h r = record {
 }
 
 -- ---- the next operation
-
--- what is left of the block begins with the operation that the code has next
-pub record Next (g : FlowFn) (c : Code) (o : Op) (m : Machine) : Type 0 where
-  pub rest : List Op
-  pub ops : m.frame.ops ≡ o ∷ rest
-  pub behind : (t : ℕ) (v : Value) → IsBehind g (emit o c) (moved_on rest t v m)
 
 ops_of : Option Block → List Op
 ops_of None = []

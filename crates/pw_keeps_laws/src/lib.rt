@@ -27,6 +27,7 @@ ghost use Rattle.pw_keeps.specs.Expressions.{ExpressionKeeps};
 ghost use Rattle.pw_keeps.specs.Whole.{AllPartsKeep, ProgramsKeepRuns, StartsMatch};
 ghost use Rattle.pw_keeps_laws.specs.Operations.{extended_by, operated};
 ghost use Rattle.pw_keeps_laws.specs.Results.{HasNewResult};
+ghost use Rattle.pw_keeps_laws.specs.Stretches.{AreNext, StepsObey, PutsStayRelated, FreshOperationsReach, LastsTwice, StandsLater, LocalsComeFirst, AssignsToLocals};
 
 use pw_cmean::laws::values_have_types;
 use pw_keeps::graphs_contain_the_parts;
@@ -41,6 +42,27 @@ pub fn programs_rest_on_parts()
 pub fn machines_step_on()
     ensures steps { (p : Program) (a b : ℕ) (s : Step) → steps p (a + b) s ≡ steps p b (steps p a s) }
     ensures events { (p : Program) (k : ℕ) (m n : Machine) → steps p k (On m) ≡ On n → m.events ≤ n.events }
+{}
+
+/// What lasts over one stretch of a run and then another lasts over both; and what stands for a value goes on to.
+pub fn stretches_last()
+    ensures lasts { LastsTwice }
+    ensures stands { StandsLater }
+{}
+
+/// One operation: a machine behind code is before the next operation, and its step is what that asks for; a value
+/// in a temporary that no local has leaves the states related, and is the result of an operation that gives it.
+pub fn operations_step()
+    ensures next { AreNext }
+    ensures step { StepsObey }
+    ensures put { PutsStayRelated }
+    ensures fresh { FreshOperationsReach }
+{}
+
+/// The temporaries of locals come before all others, and a well-typed expression assigns to no local but the function's.
+pub fn locals_come_first()
+    ensures below { LocalsComeFirst }
+    ensures assigned { AssignsToLocals }
 {}
 
 /// The code of an expression begins only blocks whose numbers were given out since, each once.
