@@ -1,9 +1,10 @@
 -- What an operation of a directed function asks for is fine: values that lead to functions whose address is taken,
 -- calls of the graph, and accesses by name of globals that the function has no register for.
-use Rattle.std.proofs.Common.{◌≡◌, ℕ, Bool, true, false, ◌&&◌, if◌then◌else◌, List, map, refl, ap, subst, ◌∙◌, inl, inr}
+use Rattle.std.proofs.Common.{◌≡◌, ℕ, Bool, true, false, ◌&&◌, if◌then◌else◌, List, map, refl, ap, subst, ◌∙◌, inl, inr, [], ◌∷◌}
 use Rattle.std.specs.Prelude.{Option, Some, None}
 use Rattle.std.specs.List.{flat_map, AllByRecursion}
 use Rattle.std.specs.Str.{bytes_eq}
+use Rattle.std.proofs.lemmas.Option.{same_Some}
 use Rattle.std.proofs.lemmas.Slice.Eq.{bytes_eq-Decides}
 use Rattle.pw_value.specs.declared.value.Kind.{Kind}
 use Rattle.pw_value.specs.declared.value.Value.{Value}
@@ -19,7 +20,7 @@ use Rattle.pw_flow.specs.declared.flow.Op.{Op}
 use Rattle.pw_flow.specs.declared.flow.Op.TheVariants as op
 use Rattle.pw_flow.specs.FlowGraph.{names_in_global}
 use Rattle.pw_sound.specs.CallGraphs.{Calls, References}
-use Rattle.pw_webflow.specs.declared.web.WebOp.TheVariants.{Flow}
+use Rattle.pw_webflow.specs.declared.web.WebOp.TheVariants.{Flow, Write}
 use Rattle.pw_webflow.specs.Direction.{register_of, read_of, write_of, directed_op}
 use Rattle.pw_flowrun.specs.Values.{unary, extension}
 use Rattle.pw_flowrun.specs.Programs.{Program, functions_of, globals_of, names_of, function_at, shape_of}
@@ -65,6 +66,45 @@ flow_op webs (op.Store u a b) o e = let same = flow_is (op.Store u a b) o e in (
 flow_op webs (op.Move a b size unit) o e = let same = flow_is (op.Move a b size unit) o e in (same, subst (Lacks webs) same tt)
 flow_op webs (op.Call t f args) o e = let same = flow_is (op.Call t f args) o e in (same, subst (Lacks webs) same tt)
 flow_op webs (op.CallInd t a shape args) o e = let same = flow_is (op.CallInd t a shape args) o e in (same, subst (Lacks webs) same tt)
+
+-- a register that directives hold for a global is that of one of the webs
+register_by : (b : Bool) (u : Web × Role) (rest : List (Web × Role)) (g : List ℕ) (r : ℕ) → ◌≡◌ {A = Option ℕ} (if b then Some u.0.reg else register_of rest g) (Some r)
+    → (register_of rest g ≡ Some r → (w : Web × Role) × Has w rest × (w.0.reg ≡ r)) → (w : Web × Role) × Has w (u ∷ rest) × (w.0.reg ≡ r)
+register_by true u rest g r e f = (u, inl refl, same_Some u.0.reg r e)
+register_by false u rest g r e f = let w = f e in (w.0, inr w.1, w.2)
+
+register_has : (webs : List (Web × Role)) (g : List ℕ) (r : ℕ) → register_of webs g ≡ Some r → (w : Web × Role) × Has w webs × (w.0.reg ≡ r)
+register_has [] g r e = absurd cc
+register_has (u ∷ rest) g r e = register_by (bytes_eq u.0.global g) u rest g r e (register_has rest g r)
+
+no_read : (s : Option ℕ) (t : ℕ) (o : Op) (r a : ℕ) → read_of s t o ≡ Write r a → ⊥
+no_read None t o r a e = cc
+no_read (Some s) t o r a e = cc
+
+write_by : (webs : List (Web × Role)) (s : Option ℕ) (g : List ℕ) (b : ℕ) (o : Op) (r a : ℕ) → register_of webs g ≡ s → write_of s b o ≡ Write r a → (w : Web × Role) × Has w webs × (w.0.reg ≡ r)
+write_by webs None g b o r a n e = absurd cc
+write_by webs (Some s) g b o r a n e = let same : s ≡ r = cc in register_has webs g r (n ∙ ap Some same)
+
+no_flow : (k : Op) (r a : ℕ) → Flow k ≡ Write r a → ⊥
+no_flow k r a e = cc
+
+-- what becomes a write of a register writes that of one of the function's webs
+pub write_op : (webs : List (Web × Role)) (k : Op) (r a : ℕ) → directed_op webs k ≡ Write r a → (w : Web × Role) × Has w webs × (w.0.reg ≡ r)
+write_op webs (op.LoadG t g k) r a e = absurd (no_read (register_of webs g) t (op.LoadG t g k) r a e)
+write_op webs (op.StoreG g b k) r a e = write_by webs (register_of webs g) g b (op.StoreG g b k) r a refl e
+write_op webs (op.Const t n) r a e = absurd (no_flow (op.Const t n) r a e)
+write_op webs (op.Copy t b) r a e = absurd (no_flow (op.Copy t b) r a e)
+write_op webs (op.Un u t b) r a e = absurd (no_flow (op.Un u t b) r a e)
+write_op webs (op.Bin u t b c) r a e = absurd (no_flow (op.Bin u t b c) r a e)
+write_op webs (op.Ext u t b) r a e = absurd (no_flow (op.Ext u t b) r a e)
+write_op webs (op.AddrGlobal t g n) r a e = absurd (no_flow (op.AddrGlobal t g n) r a e)
+write_op webs (op.AddrSlot t s) r a e = absurd (no_flow (op.AddrSlot t s) r a e)
+write_op webs (op.AddrFn t f) r a e = absurd (no_flow (op.AddrFn t f) r a e)
+write_op webs (op.Load u t b) r a e = absurd (no_flow (op.Load u t b) r a e)
+write_op webs (op.Store u b c) r a e = absurd (no_flow (op.Store u b c) r a e)
+write_op webs (op.Move b c size unit) r a e = absurd (no_flow (op.Move b c size unit) r a e)
+write_op webs (op.Call t f args) r a e = absurd (no_flow (op.Call t f args) r a e)
+write_op webs (op.CallInd t b shape args) r a e = absurd (no_flow (op.CallInd t b shape args) r a e)
 
 -- a global is accessed by name
 abbrev pub MayAccess : Program → List (List ℕ × Directives) → List ℕ → List ℕ → Type 0

@@ -9,8 +9,8 @@ use Rattle.std.proofs.lemmas.Slice.Eq.{bytes_eq-Decides}
 use Rattle.pw_files.specs.Rising.{IsRisingBehind}
 use Rattle.pw_files.proofs.ByteOrder.{not_behind}
 use Rattle.pw_files.proofs.Standing.{Has, has_by, contains_by, has_each, each_by, has_split, has_map, has_flat_back}
-use Rattle.pw_db.specs.Database.{EachTwo, IsDirectives, IsDatabase, webs_of}
-use Rattle.pw_db.specs.Limits.{first_register, register_count, kept_registers}
+use Rattle.pw_db.specs.Database.{EachTwo, IsWeb, IsDirectives, IsDatabase, webs_of}
+use Rattle.pw_db.specs.Limits.{first_register, last_register, register_count, kept_registers}
 use Rattle.pw_db.specs.declared.database.Web.{Web}
 use Rattle.pw_db.specs.declared.database.Role.{Role}
 use Rattle.pw_db.specs.declared.database.Role.TheVariants.{Entry, Member}
@@ -110,6 +110,13 @@ module _ (d : List (List ℕ × Directives)) (base : IsDatabase d) where
       let r = stands_by d f w h in
       let own = has_each (λ (g : List ℕ × Directives). IsDirectives g.1) d (f, r.0) base.directives r.1 in
       subst IsDirectives (sym (one_directives f r.0 (contains_by (f, r.0) d r.1))) own
+
+  -- the register of a web of the function is one that a callee keeps
+  pub web_range : (f : List ℕ) (w : Web) (role : Role) → HasRole d f w role → (first_register ≤ w.reg) × (w.reg ≤ last_register)
+  web_range f w role h =
+      let there = role_there f w role h in
+      let own = has_each IsWeb (webs_of (directives_of d f)) w (lawful_there f (w, role) there).each (has_map (λ (x : Web × Role). x.0) (w, role) (directives_of d f).webs there) in
+      (own.low, own.high)
 
   -- no function is in two webs of one global
   pub one_web : (f : List ℕ) (w u : Web) → In d w f → In d u f → w.global ≡ u.global → w ≡ u

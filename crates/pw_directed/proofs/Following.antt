@@ -11,8 +11,9 @@ use Rattle.pw_trace.specs.Traffic.{Open, with_event, without, active}
 use Rattle.pw_flowrun.specs.Programs.{Program}
 use Rattle.pw_webrun.specs.Programs.{graph_of}
 use Rattle.pw_webrun.specs.Direction.{directives_of}
+use Rattle.pw_webrun.specs.PlacedRun.{with_registers, without_scratch, kept}
 use Rattle.pw_directed.specs.Laws.{IsCalledBy, FollowsCalls}
-use Rattle.pw_directed.proofs.Trails.{Log, is_kept, noted_in, entered_among, loads, stored_in, stores, Trail, begun, load, store, library, call, return, Last, ended, refused}
+use Rattle.pw_directed.proofs.Trails.{Log, is_kept, noted_in, entered_among, loads, stored_in, stores, Act, Registers, Trail, begun, write, load, store, library, call, return, Last, ended, refused}
 
 abbrev pub names_in : List (Open Byte Value) → List (List ℕ)
 names_in calls = map (λ c. c.function) calls
@@ -76,27 +77,30 @@ stores_follow p g [] l h = h
 stores_follow p g (w ∷ ws) l h = stores_follow p g ws (stored_in p w l) (left_follows g w.writes (is_kept p w.global) w.global l h)
 
 module _ (p : Program) (d : List (List ℕ × Directives)) where
-  pub names_are : {ns : List (List ℕ)} {l : Log} → Trail p d ns l → names_in (active l) ≡ ns
-  names_are (begun gs rs) = loads_names p (entered_among (directives_of d start_name).webs) (Called start_name gs rs ∷ [])
-  names_are (load f fs v l a t) = same_names (Loaded v) (active l) ∙ names_are t
-  names_are (store f fs v l a t) = same_names (Stored v) (active l) ∙ names_are t
-  names_are (library f h fs gs hs rs ss ts l e t) =
-      same_names (Returned h 0 hs ss ts) (map (with_event (Called h gs rs)) (active l)) ∙ same_names (Called h gs rs) (active l) ∙ names_are t
-  names_are (call f h fs gs rs l e t) =
+  pub names_are : {acts : List Act} {regs : Registers} {l : Log} → Trail p d acts regs l → names_in (active l) ≡ map (λ a. a.name) acts
+  names_are (begun gs rs now agree) = loads_names p (entered_among (directives_of d start_name).webs) (Called start_name gs rs ∷ [])
+  names_are (write a fs regs w role v l h t) = names_are t
+  names_are (load a fs regs v l h t) = same_names (Loaded v) (active l) ∙ names_are t
+  names_are (store a fs regs v l h t) = same_names (Stored v) (active l) ∙ names_are t
+  names_are (library a h fs regs gs hs rs ss l e t) =
+      same_names (Returned h 0 hs ss ss) (map (with_event (Called h gs rs)) (active l)) ∙ same_names (Called h gs rs) (active l) ∙ names_are t
+  names_are (call a h fs regs now gs rs l e agree t) =
       loads_names p (entered_among (directives_of d h).webs) (Called h gs rs ∷ l) ∙ ap (λ (ns : List (List ℕ)). h ∷ ns) (same_names (Called h gs rs) (active l) ∙ names_are t)
-  names_are (return f h fs gs rs ss l t) =
-      let ws = entered_among (directives_of d h).webs in
-      same_names (Returned h 0 gs rs ss) (without 0 (active (stores p ws l))) ∙ rest_names (active (stores p ws l)) h (f ∷ fs) (stores_names p ws l ∙ names_are t)
+  names_are (return a b fs regs gs l t) =
+      let ws = entered_among (directives_of d b.name).webs in
+      let after = kept (without_scratch (with_registers b.saved regs)) in
+      same_names (Returned b.name 0 gs b.before after) (without 0 (active (stores p ws l))) ∙ rest_names (active (stores p ws l)) b.name (a.name ∷ map (λ c. c.name) fs) (stores_names p ws l ∙ names_are t)
 
-  pub follows : {ns : List (List ℕ)} {l : Log} → Trail p d ns l → FollowsCalls (graph_of p) l
-  follows (begun gs rs) = loads_follow p (graph_of p) (entered_among (directives_of d start_name).webs) (Called start_name gs rs ∷ []) (refl, tt)
-  follows (load f fs v l a t) = follows t
-  follows (store f fs v l a t) = follows t
-  follows (library f h fs gs hs rs ss ts l e t) = (called_by (graph_of p) f h fs (active l) (names_are t) e, follows t)
-  follows (call f h fs gs rs l e t) =
-      loads_follow p (graph_of p) (entered_among (directives_of d h).webs) (Called h gs rs ∷ l) (called_by (graph_of p) f h fs (active l) (names_are t) e, follows t)
-  follows (return f h fs gs rs ss l t) = stores_follow p (graph_of p) (entered_among (directives_of d h).webs) l (follows t)
+  pub follows : {acts : List Act} {regs : Registers} {l : Log} → Trail p d acts regs l → FollowsCalls (graph_of p) l
+  follows (begun gs rs now agree) = loads_follow p (graph_of p) (entered_among (directives_of d start_name).webs) (Called start_name gs rs ∷ []) (refl, tt)
+  follows (write a fs regs w role v l h t) = follows t
+  follows (load a fs regs v l h t) = follows t
+  follows (store a fs regs v l h t) = follows t
+  follows (library a h fs regs gs hs rs ss l e t) = (called_by (graph_of p) a.name h (map (λ c. c.name) fs) (active l) (names_are t) e, follows t)
+  follows (call a h fs regs now gs rs l e agree t) =
+      loads_follow p (graph_of p) (entered_among (directives_of d h).webs) (Called h gs rs ∷ l) (called_by (graph_of p) a.name h (map (λ c. c.name) fs) (active l) (names_are t) e, follows t)
+  follows (return a b fs regs gs l t) = stores_follow p (graph_of p) (entered_among (directives_of d b.name).webs) l (follows t)
 
   pub last_follows : {l : Log} → Last p d l → FollowsCalls (graph_of p) l
-  last_follows (ended f h fs gs rs l e t) = (called_by (graph_of p) f h fs (active l) (names_are t) e, follows t)
-  last_follows (refused f h fs l e t) = (called_by (graph_of p) f h fs (active l) (names_are t) e, follows t)
+  last_follows (ended a h fs regs gs rs l e t) = (called_by (graph_of p) a.name h (map (λ c. c.name) fs) (active l) (names_are t) e, follows t)
+  last_follows (refused a h fs regs l e t) = (called_by (graph_of p) a.name h (map (λ c. c.name) fs) (active l) (names_are t) e, follows t)

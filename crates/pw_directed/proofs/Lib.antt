@@ -8,3 +8,4 @@ mod Running
 mod Following
 mod Directives
 mod Traffic
+mod Banks

@@ -3,6 +3,7 @@ use Rattle.std.proofs.Common.{◌≡◌, ℕ, zero, suc, ◌+◌, ◌-◌, ◌%�
 use Rattle.std.specs.Prelude.{Option, Some, None, slice_get, slice_set, slice_index_or}
 use Rattle.std.specs.List.{AllByRecursion}
 use Rattle.std.specs.Str.{bytes_eq}
+use Rattle.std.proofs.lemmas.Bool.{eqb-true}
 use Rattle.std.proofs.lemmas.Option.{same_Some}
 use Rattle.std.proofs.lemmas.Slice.Eq.{bytes_eq-Decides}
 use Rattle.pw_value.specs.declared.value.Kind.{Kind}
@@ -43,8 +44,8 @@ use Rattle.pw_webrun.specs.PlacedRun.{PlacedProgram, Frame, Machine, Step, On, S
 use Rattle.pw_directed.proofs.Lists.{choose, found, read_each, set_each, replicate_each, map_each, get_has}
 use Rattle.pw_directed.proofs.Values.{FineValue, FineByte, FineObjects, FineIfValue, FineIfObjects, look_in_fine, look_fine, poke_in_fine, poke_fine, copy_fine, binary_fine, with_object_fine, ended_fine}
 use Rattle.pw_directed.proofs.Objects.{start_fine}
-use Rattle.pw_directed.proofs.Trails.{Log, Globals, is_kept, noted_in, entered_among, loads, stores, Accesses, Trail, begun, load, store, library, call, return, Last, ended as at_exit, refused}
-use Rattle.pw_directed.proofs.Commands.{flow_op, MayAccess, IsAllowed, command_allowed}
+use Rattle.pw_directed.proofs.Trails.{Log, Globals, is_kept, noted_in, entered_among, loads, stores, Accesses, Act, Registers, saves, acted, AgreeBut, nothing, Trail, begun, write, load, store, library, call, return, Last, ended as at_exit, refused}
+use Rattle.pw_directed.proofs.Commands.{flow_op, write_op, MayAccess, IsAllowed, command_allowed}
 
 abbrev pub placed_of : Program → List (List ℕ × Directives) → PlacedProgram
 placed_of p d = with_functions p (map unplaced (directed_functions p d))
@@ -62,15 +63,18 @@ pub record IsFrame (p : Program) (d : List (List ℕ × Directives)) (f : Frame)
   temps : AllByRecursion (FineValue p) f.temps
   saved : AllByRecursion (λ (s : ℕ × Value). FineValue p s.1) f.saved
 
--- a state of a run, of whose active functions and notes something holds
-pub record Good (p : Program) (d : List (List ℕ × Directives)) (T : List (List ℕ) → Log → Type 0) (m : Machine) : Type 0 where
+abbrev pub act_of : Frame → Act
+act_of f = record { name = name_of f; saved = f.saved; before = f.before }
+
+-- a state of a run, of whose active functions, registers and notes something holds
+pub record Good (p : Program) (d : List (List ℕ × Directives)) (T : List Act → Registers → Log → Type 0) (m : Machine) : Type 0 where
   frame : IsFrame p d m.frame
   callers : AllByRecursion (IsFrame p d) m.callers
   registers : (r : ℕ) → FineValue p (m.registers r)
   objects : FineObjects p m.objects
-  trail : T (name_of m.frame ∷ map name_of m.callers) m.trace
+  trail : T (act_of m.frame ∷ map act_of m.callers) m.registers m.trace
 
-abbrev pub GoodStep : (p : Program) (d : List (List ℕ × Directives)) (T : List (List ℕ) → Log → Type 0) → Step → Type 0
+abbrev pub GoodStep : (p : Program) (d : List (List ℕ × Directives)) (T : List Act → Registers → Log → Type 0) → Step → Type 0
 GoodStep p d T (On m) = Good p d T m
 GoodStep p d T (Stopped end m) = Last p d m.trace
 GoodStep p d T Astray = Unit {0}
@@ -90,6 +94,25 @@ entered_by d fn = refl
 
 entered_is : (d : List (List ℕ × Directives)) (fn : FlowFn) (f : Located) → f ≡ unplaced (directed_by d fn) → entered_webs f ≡ entered_among (directives_of d f.body.name).webs
 entered_is d fn f is = subst (λ (l : Located). entered_webs l ≡ entered_among (directives_of d l.body.name).webs) (sym is) (entered_by d fn)
+
+-- it saves the registers of the webs that it enters, and no temporary has a register
+saved_by : (d : List (List ℕ × Directives)) (fn : FlowFn) → (unplaced (directed_by d fn)).saved ≡ saves (directives_of d (unplaced (directed_by d fn)).body.name).webs
+unfolding directed
+saved_by d fn = refl
+
+saved_is : (d : List (List ℕ × Directives)) (fn : FlowFn) (f : Located) → f ≡ unplaced (directed_by d fn) → f.saved ≡ saves (directives_of d f.body.name).webs
+saved_is d fn f is = subst (λ (l : Located). l.saved ≡ saves (directives_of d l.body.name).webs) (sym is) (saved_by d fn)
+
+no_place : (d : List (List ℕ × Directives)) (fn : FlowFn) (f : Located) (t : ℕ) → f ≡ unplaced (directed_by d fn) → register_at f.places t ≡ None
+no_place d fn f t is = subst (λ (l : Located). register_at l.places t ≡ None) (sym is) refl
+
+no_places : (d : List (List ℕ × Directives)) (fn : FlowFn) (f : Located) (registers : Registers) → f ≡ unplaced (directed_by d fn) → without_places f.places registers ≡ registers
+no_places d fn f registers is = subst (λ (l : Located). without_places l.places registers ≡ registers) (sym is) refl
+
+-- the act of a function that was just called
+acted_is : (d : List (List ℕ × Directives)) (f : List ℕ) (saved : List ℕ) (registers : Registers) → saved ≡ saves (directives_of d f).webs
+    → ◌≡◌ {A = Act} (record { name = f; saved = map (λ r. (r, registers r)) saved; before = kept registers }) (acted d f registers)
+acted_is d f saved registers e = ap (λ (rs : List ℕ). record { name = f; saved = map (λ r. (r, registers r)) rs; before = kept registers }) e
 
 blocks_by : (d : List (List ℕ × Directives)) (fn : FlowFn) (i : ℕ) (b : WebBlock) → slice_get (unplaced (directed_by d fn)).body.blocks i ≡ Some b → Has b (map (directed_block (directives_of d fn.name).webs) fn.blocks)
 unfolding directed
@@ -268,14 +291,13 @@ module _ (p : Program) (d : List (List ℕ × Directives)) (ok : IsProgram p) wh
 
   -- ---- what small changes keep
 
-  and_good : (T U : List (List ℕ) → Log → Type 0) (s : Step) (next : Machine → Step) → GoodStep p d T s → ((m : Machine) → Good p d T m → GoodStep p d U (next m)) → GoodStep p d U (and_then s next)
+  and_good : (T U : List Act → Registers → Log → Type 0) (s : Step) (next : Machine → Step) → GoodStep p d T s → ((m : Machine) → Good p d T m → GoodStep p d U (next m)) → GoodStep p d U (and_then s next)
   and_good T U (On m) next g f = f m g
   and_good T U (Stopped end m) next g f = g
   and_good T U Astray next g f = tt
 
-  put_good : (T : List (List ℕ) → Log → Type 0) (t : ℕ) (v : Value) (m : Machine) (r : Option ℕ) → FineValue p v → Good p d T m → Good p d T (put_by t v m r)
-  put_good T t v m (Some r) h g = record { frame = g.frame; callers = g.callers; registers = with_register_fine r v m.registers h g.registers; objects = g.objects; trail = g.trail }
-  put_good T t v m None h g = record {
+  put_good : (T : List Act → Registers → Log → Type 0) (t : ℕ) (v : Value) (m : Machine) → FineValue p v → Good p d T m → Good p d T (put_by t v m None)
+  put_good T t v m h g = record {
     frame = record { fn = g.frame.fn; among = g.frame.among; is = g.frame.is; ops = g.frame.ops; temps = set_each (FineValue p) m.frame.temps t v g.frame.temps h; saved = g.frame.saved };
     callers = g.callers;
     registers = g.registers;
@@ -283,62 +305,62 @@ module _ (p : Program) (d : List (List ℕ × Directives)) (ok : IsProgram p) wh
     trail = g.trail;
   }
 
-  with_temp_good : (T : List (List ℕ) → Log → Type 0) (t : ℕ) (v : Value) (m : Machine) → FineValue p v → Good p d T m → Good p d T (with_temp t v m)
-  with_temp_good T t v m h g = put_good T t v m (register_at m.frame.function.places t) h g
+  with_temp_good : (T : List Act → Registers → Log → Type 0) (t : ℕ) (v : Value) (m : Machine) → FineValue p v → Good p d T m → Good p d T (with_temp t v m)
+  with_temp_good T t v m h g = subst (λ (r : Option ℕ). Good p d T (put_by t v m r)) (sym (no_place d g.frame.fn m.frame.function t g.frame.is)) (put_good T t v m h g)
 
-  gives_good : (T : List (List ℕ) → Log → Type 0) (t : ℕ) (v : Option Value) (m : Machine) → FineIfValue p v → Good p d T m → GoodStep p d T (gives t v m)
+  gives_good : (T : List Act → Registers → Log → Type 0) (t : ℕ) (v : Option Value) (m : Machine) → FineIfValue p v → Good p d T m → GoodStep p d T (gives t v m)
   gives_good T t (Some v) m h g = with_temp_good T t v m h g
   gives_good T t None m h g = tt
 
-  takes_good : (T : List (List ℕ) → Log → Type 0) (t : Option ℕ) (v : Value) (m : Machine) → FineValue p v → Good p d T m → Good p d T (takes_result t v m)
+  takes_good : (T : List Act → Registers → Log → Type 0) (t : Option ℕ) (v : Value) (m : Machine) → FineValue p v → Good p d T m → Good p d T (takes_result t v m)
   takes_good T None v m h g = g
   takes_good T (Some t) v m h g = with_temp_good T t v m h g
 
-  changes_good : (T : List (List ℕ) → Log → Type 0) (objects : Option (List Object)) (m : Machine) → FineIfObjects p objects → Good p d T m → GoodStep p d T (changes objects m)
+  changes_good : (T : List Act → Registers → Log → Type 0) (objects : Option (List Object)) (m : Machine) → FineIfObjects p objects → Good p d T m → GoodStep p d T (changes objects m)
   changes_good T (Some objects) m h g = record { frame = g.frame; callers = g.callers; registers = g.registers; objects = h; trail = g.trail }
   changes_good T None m h g = tt
 
-  note_good : (T : List (List ℕ) → Log → Type 0) (b : Bool) (e : Event Byte Value) (m : Machine) → Good p d (λ ns l. T ns (noted_in b e l)) m → Good p d T (noted_if b e m)
+  note_good : (T : List Act → Registers → Log → Type 0) (b : Bool) (e : Event Byte Value) (m : Machine) → Good p d (λ acts regs l. T acts regs (noted_in b e l)) m → Good p d T (noted_if b e m)
   note_good T true e m g = record { frame = g.frame; callers = g.callers; registers = g.registers; objects = g.objects; trail = g.trail }
   note_good T false e m g = record { frame = g.frame; callers = g.callers; registers = g.registers; objects = g.objects; trail = g.trail }
 
   -- the same state, of which something else holds
-  retold : (T U : List (List ℕ) → Log → Type 0) (m : Machine) → Good p d T m → U (name_of m.frame ∷ map name_of m.callers) m.trace → Good p d U m
+  retold : (T U : List Act → Registers → Log → Type 0) (m : Machine) → Good p d T m → U (act_of m.frame ∷ map act_of m.callers) m.registers m.trace → Good p d U m
   retold T U m g t = record { frame = g.frame; callers = g.callers; registers = g.registers; objects = g.objects; trail = t }
 
-  parameters_good : (T : List (List ℕ) → Log → Type 0) (t : ℕ) (vs : List Value) (m : Machine) → AllByRecursion (FineValue p) vs → Good p d T m → Good p d T (with_parameters t vs m)
+  parameters_good : (T : List Act → Registers → Log → Type 0) (t : ℕ) (vs : List Value) (m : Machine) → AllByRecursion (FineValue p) vs → Good p d T m → Good p d T (with_parameters t vs m)
   parameters_good T t [] m h g = g
   parameters_good T t (v ∷ vs) m h g = parameters_good T (suc t) vs (with_temp t v m) h.1 (with_temp_good T t v m h.0 g)
 
   -- ---- global objects
 
-  load_in : (b : Bool) (f : List ℕ) (fs : List (List ℕ)) (v : List ℕ) (l : Log) → (b ≡ true → Accesses p d f v) → Trail p d (f ∷ fs) l → Trail p d (f ∷ fs) (noted_in b (Loaded v) l)
-  load_in true f fs v l h t = load f fs v l (h refl) t
-  load_in false f fs v l h t = t
+  load_in : (b : Bool) (a : Act) (fs : List Act) (regs : Registers) (v : List ℕ) (l : Log) → (b ≡ true → Accesses p d a.name v) → Trail p d (a ∷ fs) regs l → Trail p d (a ∷ fs) regs (noted_in b (Loaded v) l)
+  load_in true a fs regs v l h t = load a fs regs v l (h refl) t
+  load_in false a fs regs v l h t = t
 
-  store_in : (b : Bool) (f : List ℕ) (fs : List (List ℕ)) (v : List ℕ) (l : Log) → (b ≡ true → Accesses p d f v) → Trail p d (f ∷ fs) l → Trail p d (f ∷ fs) (noted_in b (Stored v) l)
-  store_in true f fs v l h t = store f fs v l (h refl) t
-  store_in false f fs v l h t = t
+  store_in : (b : Bool) (a : Act) (fs : List Act) (regs : Registers) (v : List ℕ) (l : Log) → (b ≡ true → Accesses p d a.name v) → Trail p d (a ∷ fs) regs l → Trail p d (a ∷ fs) regs (noted_in b (Stored v) l)
+  store_in true a fs regs v l h t = store a fs regs v l (h refl) t
+  store_in false a fs regs v l h t = t
 
   loads_global_good : (t : ℕ) (g : List ℕ) (k : Kind) (m : Machine) → MayAccess p d (name_of m.frame) g → Good p d (Trail p d) m → GoodStep p d (Trail p d) (loads_global (placed_of p d) t g k m)
   loads_global_good t g k m may good =
       gives_good (Trail p d) t (get_global p g k m.objects) (noted_if (is_kept p g) (Loaded g) m) (get_global_fine g k m.objects good.objects)
       (note_good (Trail p d) (is_kept p g) (Loaded g) m
-      (retold (Trail p d) (λ ns l. Trail p d ns (noted_in (is_kept p g) (Loaded g) l)) m good (load_in (is_kept p g) (name_of m.frame) (map name_of m.callers) g m.trace may good.trail)))
+      (retold (Trail p d) (λ acts regs l. Trail p d acts regs (noted_in (is_kept p g) (Loaded g) l)) m good (load_in (is_kept p g) (act_of m.frame) (map act_of m.callers) m.registers g m.trace may good.trail)))
 
-  stored_by_good : (T : List (List ℕ) → Log → Type 0) (g : List ℕ) (m : Machine) (objects : Option (List Object)) → FineIfObjects p objects
-      → Good p d (λ ns l. T ns (noted_in (is_kept p g) (Stored g) l)) m → GoodStep p d T (stored_by (placed_of p d) g m objects)
+  stored_by_good : (T : List Act → Registers → Log → Type 0) (g : List ℕ) (m : Machine) (objects : Option (List Object)) → FineIfObjects p objects
+      → Good p d (λ acts regs l. T acts regs (noted_in (is_kept p g) (Stored g) l)) m → GoodStep p d T (stored_by (placed_of p d) g m objects)
   stored_by_good T g m (Some objects) h good =
       note_good T (is_kept p g) (Stored g) (record m { objects = objects }) (record { frame = good.frame; callers = good.callers; registers = good.registers; objects = h; trail = good.trail })
   stored_by_good T g m None h good = tt
 
-  stores_global_good : (T : List (List ℕ) → Log → Type 0) (g : List ℕ) (k : Kind) (v : Value) (m : Machine) → FineValue p v
-      → Good p d (λ ns l. T ns (noted_in (is_kept p g) (Stored g) l)) m → GoodStep p d T (stores_global (placed_of p d) g k v m)
+  stores_global_good : (T : List Act → Registers → Log → Type 0) (g : List ℕ) (k : Kind) (v : Value) (m : Machine) → FineValue p v
+      → Good p d (λ acts regs l. T acts regs (noted_in (is_kept p g) (Stored g) l)) m → GoodStep p d T (stores_global (placed_of p d) g k v m)
   stores_global_good T g k v m h good = stored_by_good T g m (put_global p g k v m.objects) (put_global_fine g k v m.objects h good.objects) good
 
   -- ---- calls of the library
 
-  back_good : (h : List ℕ) (t : Option ℕ) (v : Value) (m : Machine) → FineValue p v → Good p d (λ ns l. (hs : Globals) (ss ts : List Value) → Trail p d ns (Returned h 0 hs ss ts ∷ l)) m
+  back_good : (h : List ℕ) (t : Option ℕ) (v : Value) (m : Machine) → FineValue p v → Good p d (λ acts regs l. (hs : Globals) (ss : List Value) → Trail p d acts (without_scratch regs) (Returned h 0 hs ss ss ∷ l)) m
       → GoodStep p d (Trail p d) (gives_back (placed_of p d) h t v m)
   back_good h t v m fine g =
       takes_good (Trail p d) t v (library_return (placed_of p d) h (record (counted m) { registers = without_scratch m.registers })) fine (record {
@@ -346,18 +368,18 @@ module _ (p : Program) (d : List (List ℕ × Directives)) (ok : IsProgram p) wh
         callers = g.callers;
         registers = without_scratch_fine m.registers g.registers;
         objects = g.objects;
-        trail = g.trail _ _ _;
+        trail = g.trail (globals_now (placed_of p d) (without_scratch m.registers) (m.frame ∷ m.callers) m.objects) (kept (without_scratch m.registers));
       })
 
   -- with the call of the library noted, and other input and output
   called_good : (h : List ℕ) (m : Machine) (rest out : List ℕ) (read : ℕ) → Calls (graph_of p) (name_of m.frame) h → Good p d (Trail p d) m
-      → Good p d (λ ns l. (hs : Globals) (ss ts : List Value) → Trail p d ns (Returned h 0 hs ss ts ∷ l)) (record (library_call (placed_of p d) h m) { rest = rest; out = out; read = read })
+      → Good p d (λ acts regs l. (hs : Globals) (ss : List Value) → Trail p d acts (without_scratch regs) (Returned h 0 hs ss ss ∷ l)) (record (library_call (placed_of p d) h m) { rest = rest; out = out; read = read })
   called_good h m rest out read edge g = record {
     frame = g.frame;
     callers = g.callers;
     registers = g.registers;
     objects = g.objects;
-    trail = λ hs ss ts. library (name_of m.frame) h (map name_of m.callers) _ hs _ ss ts m.trace edge g.trail;
+    trail = λ hs ss. library (act_of m.frame) h (map act_of m.callers) m.registers _ hs _ ss m.trace edge g.trail;
   }
 
   reads_good : (t : Option ℕ) (m : Machine) (rest : List ℕ) → Calls (graph_of p) (name_of m.frame) getchar_name → Good p d (Trail p d) m → GoodStep p d (Trail p d) (reads_by (placed_of p d) t m rest)
@@ -370,45 +392,55 @@ module _ (p : Program) (d : List (List ℕ × Directives)) (ok : IsProgram p) wh
   library_good PutChar t (Num n ∷ []) m edge good =
       back_good putchar_name t (Num (n % 256)) (record (library_call (placed_of p d) putchar_name m) { out = m.out ++ n % 256 ∷ [] }) tt
       (called_good putchar_name m m.rest (m.out ++ n % 256 ∷ []) m.read edge good)
-  library_good Exit t (Num n ∷ []) m edge good = at_exit (name_of m.frame) exit_name (map name_of m.callers) _ _ m.trace edge good.trail
+  library_good Exit t (Num n ∷ []) m edge good = at_exit (act_of m.frame) exit_name (map act_of m.callers) m.registers _ _ m.trace edge good.trail
   library_good _ t _ m edge good = tt
 
   -- ---- the webs that a function enters and leaves
 
-  loaded_good : (w : Web) (ws : List Web) (m : Machine) (v : Option Value) → FineIfValue p v → Good p d (λ ns l. Trail p d ns (loads p (w ∷ ws) l)) m
-      → ((n : Machine) → Good p d (λ ns l. Trail p d ns (loads p ws l)) n → GoodStep p d (Trail p d) (enters_webs (placed_of p d) ws n))
+  -- what holds while webs are still to be loaded: whatever their registers get, a trail is come to
+  abbrev Entering : List Web → List Act → Registers → Log → Type 0
+  Entering ws acts regs l = (now : Registers) → AgreeBut ws now regs → Trail p d acts now (loads p ws l)
+
+  with_other : (r s : ℕ) (v : Value) (regs : Registers) → (r ≡ s → ⊥) → with_register r v regs s ≡ regs s
+  with_other r s v regs apart = by_test (s == r) refl where
+    by_test : (b : Bool) → (s == r) ≡ b → (if b then v else regs s) ≡ regs s
+    by_test true e = absurd (apart (sym (eqb-true s r e)))
+    by_test false e = refl
+
+  loaded_good : (w : Web) (ws : List Web) (m : Machine) (v : Option Value) → FineIfValue p v → Good p d (Entering (w ∷ ws)) m
+      → ((n : Machine) → Good p d (Entering ws) n → GoodStep p d (Trail p d) (enters_webs (placed_of p d) ws n))
       → GoodStep p d (Trail p d) (and_then (loaded_by (placed_of p d) w m v) (enters_webs (placed_of p d) ws))
   loaded_good w ws m (Some v) h g next =
       next (noted_if (is_kept p w.global) (Loaded w.global) (record m { registers = with_register w.reg v m.registers }))
-      (note_good (λ ns l. Trail p d ns (loads p ws l)) (is_kept p w.global) (Loaded w.global) (record m { registers = with_register w.reg v m.registers }) (record {
+      (note_good (Entering ws) (is_kept p w.global) (Loaded w.global) (record m { registers = with_register w.reg v m.registers }) (record {
         frame = g.frame;
         callers = g.callers;
         registers = with_register_fine w.reg v m.registers h g.registers;
         objects = g.objects;
-        trail = g.trail;
+        trail = λ now agree. g.trail now (λ r out. agree r (λ u k. out u (inr k)) ∙ with_other w.reg r v m.registers (out w (inl refl)));
       }))
   loaded_good w ws m None h g next = tt
 
-  enters_good : (ws : List Web) (m : Machine) → Good p d (λ ns l. Trail p d ns (loads p ws l)) m → GoodStep p d (Trail p d) (enters_webs (placed_of p d) ws m)
-  enters_good [] m g = record { frame = g.frame; callers = g.callers; registers = g.registers; objects = g.objects; trail = g.trail }
+  enters_good : (ws : List Web) (m : Machine) → Good p d (Entering ws) m → GoodStep p d (Trail p d) (enters_webs (placed_of p d) ws m)
+  enters_good [] m g = record { frame = g.frame; callers = g.callers; registers = g.registers; objects = g.objects; trail = g.trail m.registers (λ r out. refl) }
   enters_good (w ∷ ws) m g = loaded_good w ws m (get_global p w.global w.kind m.objects) (get_global_fine w.global w.kind m.objects g.objects) g (λ n h. enters_good ws n h)
 
-  leave_by : (T : List (List ℕ) → Log → Type 0) (w : Web) (m : Machine) (b : Bool)
-      → Good p d (λ ns l. T ns (if b then noted_in (is_kept p w.global) (Stored w.global) l else l)) m → GoodStep p d T (if b then stores_global (placed_of p d) w.global w.kind (m.registers w.reg) m else On m)
+  leave_by : (T : List Act → Registers → Log → Type 0) (w : Web) (m : Machine) (b : Bool)
+      → Good p d (λ acts regs l. T acts regs (if b then noted_in (is_kept p w.global) (Stored w.global) l else l)) m → GoodStep p d T (if b then stores_global (placed_of p d) w.global w.kind (m.registers w.reg) m else On m)
   leave_by T w m true g = stores_global_good T w.global w.kind (m.registers w.reg) m (g.registers w.reg) g
   leave_by T w m false g = record { frame = g.frame; callers = g.callers; registers = g.registers; objects = g.objects; trail = g.trail }
 
-  leaves_good : (T : List (List ℕ) → Log → Type 0) (ws : List Web) (m : Machine) → Good p d (λ ns l. T ns (stores p ws l)) m → GoodStep p d T (leaves_webs (placed_of p d) ws m)
+  leaves_good : (T : List Act → Registers → Log → Type 0) (ws : List Web) (m : Machine) → Good p d (λ acts regs l. T acts regs (stores p ws l)) m → GoodStep p d T (leaves_webs (placed_of p d) ws m)
   leaves_good T [] m g = record { frame = g.frame; callers = g.callers; registers = g.registers; objects = g.objects; trail = g.trail }
   leaves_good T (w ∷ ws) m g =
-      and_good (λ ns l. T ns (stores p ws l)) T (leaves (placed_of p d) w m) (leaves_webs (placed_of p d) ws) (leave_by (λ ns l. T ns (stores p ws l)) w m w.writes g) (λ n h. leaves_good T ws n h)
+      and_good (λ acts regs l. T acts regs (stores p ws l)) T (leaves (placed_of p d) w m) (leaves_webs (placed_of p d) ws) (leave_by (λ acts regs l. T acts regs (stores p ws l)) w m w.writes g) (λ n h. leaves_good T ws n h)
 
   -- ---- calls of functions that a module defines
 
   -- a function that was just entered, whose webs are still to be loaded
   entered_good : (fn : FlowFn) (l : Located) (b : WebBlock) (t : Option ℕ) (gs : Globals) (rs : List Value) (m : Machine) → Has fn (functions_of p) → l ≡ unplaced (directed_by d fn) → first_block l ≡ Some b
       → Calls (graph_of p) (name_of m.frame) l.body.name → Good p d (Trail p d) m
-      → Good p d (λ ns k. Trail p d ns (loads p (entered_webs l) k)) (entered l b t (counted (noted (Called l.body.name gs rs) m)))
+      → Good p d (λ acts regs k. Entering (entered_webs l) acts regs k) (entered l b t (counted (noted (Called l.body.name gs rs) m)))
   entered_good fn l b t gs rs m among is at edge g = record {
     frame = record {
       fn = fn;
@@ -421,8 +453,11 @@ module _ (p : Program) (d : List (List ℕ × Directives)) (ok : IsProgram p) wh
     callers = (g.frame, g.callers);
     registers = without_places_fine l.places m.registers g.registers;
     objects = slots_fine l.body.slots m.objects g.objects;
-    trail = subst (λ (ws : List Web). Trail p d (l.body.name ∷ name_of m.frame ∷ map name_of m.callers) (loads p ws (Called l.body.name gs rs ∷ m.trace))) (sym (entered_is d fn l is))
-        (call (name_of m.frame) l.body.name (map name_of m.callers) gs rs m.trace edge g.trail);
+    trail = λ now agree.
+        subst (λ (a : Act). Trail p d (a ∷ act_of m.frame ∷ map act_of m.callers) now (loads p (entered_webs l) (Called l.body.name gs rs ∷ m.trace))) (sym (acted_is d l.body.name l.saved m.registers (saved_is d fn l is)))
+        (subst (λ (ws : List Web). Trail p d (acted d l.body.name m.registers ∷ act_of m.frame ∷ map act_of m.callers) now (loads p ws (Called l.body.name gs rs ∷ m.trace))) (sym (entered_is d fn l is))
+        (call (act_of m.frame) l.body.name (map act_of m.callers) m.registers now gs rs m.trace edge
+        (subst (λ (ws : List Web). AgreeBut ws now m.registers) (entered_is d fn l is) (subst (λ (regs : Registers). AgreeBut (entered_webs l) now regs) (no_places d fn l m.registers is) agree)) g.trail));
   }
 
   begins_good : (fn : FlowFn) (l : Located) (b : Option WebBlock) (t : Option ℕ) (args : List Value) (gs : Globals) (rs : List Value) (m : Machine) → Has fn (functions_of p) → l ≡ unplaced (directed_by d fn) → first_block l ≡ b
@@ -443,14 +478,14 @@ module _ (p : Program) (d : List (List ℕ × Directives)) (ok : IsProgram p) wh
       let to : Calls (graph_of p) (name_of m.frame) l.body.name = subst (λ (n : List ℕ). Calls (graph_of p) (name_of m.frame) n) (sym def.name) edge in
       choose (GoodStep p d (Trail p d)) (exceeds (placed_of p d) l.body.name (m.frame ∷ m.callers)) (Stopped run.StackFull (noted (Refused l.body.name) m))
       (begins (placed_of p d) l (first_block l) t args (counted (noted (Called l.body.name gs (kept m.registers)) m)))
-      (refused (name_of m.frame) l.body.name (map name_of m.callers) m.trace to g.trail)
+      (refused (act_of m.frame) l.body.name (map act_of m.callers) m.registers m.trace to g.trail)
       (begins_good def.fn l (first_block l) t args gs (kept m.registers) m def.among def.is refl to all g)
 
   calls_by_good : (f : List ℕ) (t : Option ℕ) (args : List Value) (m : Machine) (g : Option Library) (l : Option Located) → library_at f ≡ g → function_named (placed_of p d) f ≡ l
       → Calls (graph_of p) (name_of m.frame) f → AllByRecursion (FineValue p) args → Good p d (Trail p d) m → GoodStep p d (Trail p d) (calls_by (placed_of p d) t f args m g l)
   calls_by_good f t args m (Some g) l e x edge all good =
       choose (GoodStep p d (Trail p d)) (exceeds (placed_of p d) f (m.frame ∷ m.callers)) (Stopped run.StackFull (noted (Refused f) m)) (calls_library (placed_of p d) g t args m)
-      (refused (name_of m.frame) f (map name_of m.callers) m.trace edge good.trail)
+      (refused (act_of m.frame) f (map act_of m.callers) m.registers m.trace edge good.trail)
       (library_good g t args m (subst (λ (n : List ℕ). Calls (graph_of p) (name_of m.frame) n) (library_is f g e) edge) good)
   calls_by_good f t args m None (Some l) e x edge all good = calls_defined_good f l t args m (defined_by p d f l x) edge all good
   calls_by_good f t args m None None e x edge all good = tt
@@ -487,14 +522,17 @@ module _ (p : Program) (d : List (List ℕ × Directives)) (ok : IsProgram p) wh
   branches_good Null b c m g = tt
   branches_good (Piece x i) b c m g = tt
 
-  abbrev first_name : List (List ℕ) → List ℕ
-  first_name [] = []
-  first_name (n ∷ ns) = n
+  abbrev first_act : Act → List Act → Act
+  first_act a [] = a
+  first_act a (b ∷ bs) = b
 
-  given_back_good : (v : Value) (caller : Frame) (callers : List Frame) (name : List ℕ) (left : Machine) → FineValue p v → IsFrame p d caller → AllByRecursion (IsFrame p d) callers → name_of left.frame ≡ name
-      → Good p d (λ ns l. (gs : Globals) (rs ss : List Value) → Trail p d (name_of caller ∷ map name_of callers) (Returned name 0 gs rs ss ∷ l)) left
-      → GoodStep p d (Trail p d) (given_back (placed_of p d) v caller callers left)
-  given_back_good v caller callers name left fine frame frames same g =
+  -- what holds while a function stores its webs back: its return leads to a trail of its callers
+  abbrev Back : Act → Registers → List Act → Log → Type 0
+  Back a regs callers l = (gs : Globals) → Trail p d callers (without_scratch (with_registers a.saved regs)) (Returned a.name 0 gs a.before (kept (without_scratch (with_registers a.saved regs))) ∷ l)
+
+  given_back_good : (v : Value) (caller : Frame) (callers : List Frame) (left : Machine) → FineValue p v → IsFrame p d caller → AllByRecursion (IsFrame p d) callers
+      → Good p d (λ acts regs l. Back (act_of left.frame) regs (act_of caller ∷ map act_of callers) l) left → GoodStep p d (Trail p d) (given_back (placed_of p d) v caller callers left)
+  given_back_good v caller callers left fine frame frames g =
       let registers = without_scratch (with_registers left.frame.saved left.registers) in
       let objects = end_from (length left.objects - left.frame.base) left.frame.base left.objects in
       let gs = globals_now (placed_of p d) registers (caller ∷ callers) objects in
@@ -504,27 +542,27 @@ module _ (p : Program) (d : List (List ℕ × Directives)) (ok : IsProgram p) wh
         callers = frames;
         registers = without_scratch_fine (with_registers left.frame.saved left.registers) (with_registers_fine left.frame.saved left.registers g.frame.saved g.registers);
         objects = end_fine (length left.objects - left.frame.base) left.frame.base left.objects g.objects;
-        trail = subst (λ (n : List ℕ). Trail p d (name_of caller ∷ map name_of callers) (Returned n 0 gs left.frame.before (kept registers) ∷ left.trace)) (sym same) (g.trail gs left.frame.before (kept registers));
+        trail = g.trail gs;
       })
 
   returns_by_good : (v : Value) (m : Machine) (frames : List Frame) → frames ≡ m.callers → FineValue p v → Good p d (Trail p d) m
       → GoodStep p d (Trail p d) (and_then (leaves_webs (placed_of p d) (entered_webs m.frame.function) m) (returns_by (placed_of p d) v frames))
   returns_by_good v m [] e fine g =
-      and_good (λ ns l. Unit {0}) (Trail p d) (leaves_webs (placed_of p d) (entered_webs m.frame.function) m) (returns_by (placed_of p d) v [])
-      (leaves_good (λ ns l. Unit {0}) (entered_webs m.frame.function) m (retold (Trail p d) (λ ns l. Unit {0}) m g tt)) (λ n h. tt)
+      and_good (λ acts regs l. Unit {0}) (Trail p d) (leaves_webs (placed_of p d) (entered_webs m.frame.function) m) (returns_by (placed_of p d) v [])
+      (leaves_good (λ acts regs l. Unit {0}) (entered_webs m.frame.function) m (retold (Trail p d) (λ acts regs l. Unit {0}) m g tt)) (λ n h. tt)
   returns_by_good v m (caller ∷ callers) e fine g =
-      let T : List (List ℕ) → Log → Type 0 =
-      λ ns l. (ns ≡ name_of m.frame ∷ map name_of m.callers) × ((gs : Globals) (rs ss : List Value) → Trail p d (name_of caller ∷ map name_of callers) (Returned (name_of m.frame) 0 gs rs ss ∷ l)) in
+      let own = act_of m.frame in
+      let others = act_of caller ∷ map act_of callers in
+      let T : List Act → Registers → Log → Type 0 = λ acts regs l. (first_act own acts ≡ own) × Back own regs others l in
       let frames : AllByRecursion (IsFrame p d) (caller ∷ callers) = subst (AllByRecursion (IsFrame p d)) (sym e) g.callers in
-      let trail : Trail p d (name_of m.frame ∷ name_of caller ∷ map name_of callers) m.trace =
-      subst (λ (fs : List Frame). Trail p d (name_of m.frame ∷ map name_of fs) m.trace) (sym e) g.trail in
-      let back : (gs : Globals) (rs ss : List Value) → Trail p d (name_of caller ∷ map name_of callers) (Returned (name_of m.frame) 0 gs rs ss ∷ stores p (entered_webs m.frame.function) m.trace) = λ gs rs ss.
-      subst (λ (ws : List Web). Trail p d (name_of caller ∷ map name_of callers) (Returned (name_of m.frame) 0 gs rs ss ∷ stores p ws m.trace)) (sym (entered_is d g.frame.fn m.frame.function g.frame.is))
-      (return (name_of caller) (name_of m.frame) (map name_of callers) gs rs ss m.trace trail) in
+      let trail : Trail p d (own ∷ others) m.registers m.trace = subst (λ (fs : List Frame). Trail p d (own ∷ map act_of fs) m.registers m.trace) (sym e) g.trail in
+      let back : Back own m.registers others (stores p (entered_webs m.frame.function) m.trace) =
+      subst (λ (ws : List Web). Back own m.registers others (stores p ws m.trace)) (sym (entered_is d g.frame.fn m.frame.function g.frame.is))
+      (λ gs. return (act_of caller) own (map act_of callers) m.registers gs m.trace trail) in
       and_good T (Trail p d) (leaves_webs (placed_of p d) (entered_webs m.frame.function) m) (returns_by (placed_of p d) v (caller ∷ callers))
-      (leaves_good T (entered_webs m.frame.function) m (retold (Trail p d) (λ ns l. T ns (stores p (entered_webs m.frame.function) l)) m g (refl, back)))
-      (λ n h. given_back_good v caller callers (name_of m.frame) n fine frames.0 frames.1 (ap first_name h.trail.0)
-      (retold T (λ ns l. (gs : Globals) (rs ss : List Value) → Trail p d (name_of caller ∷ map name_of callers) (Returned (name_of m.frame) 0 gs rs ss ∷ l)) n h h.trail.1))
+      (leaves_good T (entered_webs m.frame.function) m (retold (Trail p d) (λ acts regs l. T acts regs (stores p (entered_webs m.frame.function) l)) m g (refl, back)))
+      (λ n h. given_back_good v caller callers n fine frames.0 frames.1
+      (retold T (λ acts regs l. Back (act_of n.frame) regs others l) n h (subst (λ (a : Act). Back a n.registers others n.trace) (sym h.trail.0) h.trail.1)))
 
   result_fine : (m : Machine) (t : Option ℕ) → Good p d (Trail p d) m → FineValue p (result_by m t)
   result_fine m (Some t) g = value_in_fine m.frame m.registers g.frame.temps g.registers t
@@ -550,7 +588,7 @@ module _ (p : Program) (d : List (List ℕ × Directives)) (ok : IsProgram p) wh
   obeys_good (command.GetGlobal t v k) m h g = loads_global_good t v k m h g
   obeys_good (command.PutGlobal v k w) m h g =
       stores_global_good (Trail p d) v k w m h.0
-      (retold (Trail p d) (λ ns l. Trail p d ns (noted_in (is_kept p v) (Stored v) l)) m g (store_in (is_kept p v) (name_of m.frame) (map name_of m.callers) v m.trace h.1 g.trail))
+      (retold (Trail p d) (λ acts regs l. Trail p d acts regs (noted_in (is_kept p v) (Stored v) l)) m g (store_in (is_kept p v) (act_of m.frame) (map act_of m.callers) m.registers v m.trace h.1 g.trail))
   obeys_good (command.Enter t f args) m h g = calls_good f t args m h.1 h.0 g
   obeys_good command.Fail m h g = tt
 
@@ -564,13 +602,18 @@ module _ (p : Program) (d : List (List ℕ × Directives)) (ok : IsProgram p) wh
       obeys_good (command.command p m.frame.base o value) m
       (subst (λ (n : List ℕ). IsAllowed p d n (command.command p m.frame.base o value)) (sym (frame_name p d m.frame g.frame)) allowed) g
   does_good (Read t r) m g k = with_temp_good (Trail p d) t (m.registers r) m (g.registers r) g
-  does_good (Write r a) m g k = record {
-    frame = g.frame;
-    callers = g.callers;
-    registers = with_register_fine r (value_in m.frame m.registers a) m.registers (value_in_fine m.frame m.registers g.frame.temps g.registers a) g.registers;
-    objects = g.objects;
-    trail = g.trail;
-  }
+  does_good (Write r a) m g k =
+      let w = write_op (directives_of d g.frame.fn.name).webs k.op r a k.is in
+      let v = value_in m.frame m.registers a in
+      let has : Has (w.0.0, w.0.1) (directives_of d (name_of m.frame)).webs = subst (λ (n : List ℕ). Has w.0 (directives_of d n).webs) (sym (frame_name p d m.frame g.frame)) w.1 in
+      record {
+        frame = g.frame;
+        callers = g.callers;
+        registers = with_register_fine r v m.registers (value_in_fine m.frame m.registers g.frame.temps g.registers a) g.registers;
+        objects = g.objects;
+        trail = subst (λ (s : ℕ). Trail p d (act_of m.frame ∷ map act_of m.callers) (with_register s v m.registers) m.trace) w.2
+            (write (act_of m.frame) (map act_of m.callers) m.registers w.0.0 w.0.1 v m.trace has g.trail);
+      }
 
   next_good : (m : Machine) (ops : List WebOp) (g : Good p d (Trail p d) m) → ((o : WebOp) → Has o ops → IsOpOf (directives_of d g.frame.fn.name).webs g.frame.fn o) → GoodStep p d (Trail p d) (next_by (placed_of p d) m ops)
   next_good m [] g each = ends_good m.frame.end m g
@@ -596,7 +639,7 @@ module _ (p : Program) (d : List (List ℕ × Directives)) (ok : IsProgram p) wh
 
   -- ---- the start
 
-  begun_good : (input : List ℕ) (l : Located) (b : WebBlock) → IsDefined p d start_name l → first_block l ≡ Some b → Good p d (λ ns k. Trail p d ns (loads p (entered_webs l) k)) (begun_at (placed_of p d) input l b)
+  begun_good : (input : List ℕ) (l : Located) (b : WebBlock) → IsDefined p d start_name l → first_block l ≡ Some b → Good p d (λ acts regs k. Entering (entered_webs l) acts regs k) (begun_at (placed_of p d) input l b)
   begun_good input l b def at = record {
     frame = record {
       fn = def.fn;
@@ -609,13 +652,20 @@ module _ (p : Program) (d : List (List ℕ × Directives)) (ok : IsProgram p) wh
     callers = tt;
     registers = λ r. tt;
     objects = slots_fine l.body.slots (start_objects p) (start_fine p ok);
-    trail = trail_by l.body.name def.name;
+    trail = λ now agree. trail_by now l.body.name def.name (subst (λ (ws : List Web). AgreeBut ws now nothing) entered_here agree);
   } where
-    trail_by : (n : List ℕ) → n ≡ start_name → Trail p d (n ∷ []) (loads p (entered_webs l) (begun_at (placed_of p d) input l b).trace)
-    trail_by n same =
-        subst (λ (x : List ℕ). Trail p d (x ∷ []) (loads p (entered_webs l) (begun_at (placed_of p d) input l b).trace)) (sym same)
-        (subst (λ (ws : List Web). Trail p d (start_name ∷ []) (loads p ws (begun_at (placed_of p d) input l b).trace))
-        (sym (entered_is d def.fn l def.is ∙ ap (λ (x : List ℕ). entered_among (directives_of d x).webs) def.name)) (begun _ _))
+    entered_here : entered_webs l ≡ entered_among (directives_of d start_name).webs
+    entered_here = entered_is d def.fn l def.is ∙ ap (λ (x : List ℕ). entered_among (directives_of d x).webs) def.name
+
+    saved_here : l.saved ≡ saves (directives_of d start_name).webs
+    saved_here = saved_is d def.fn l def.is ∙ ap (λ (x : List ℕ). saves (directives_of d x).webs) def.name
+
+    trail_by : (now : Registers) (n : List ℕ) → n ≡ start_name → AgreeBut (entered_among (directives_of d start_name).webs) now nothing
+        → Trail p d (record { name = n; saved = map (λ r. (r, Undefined)) l.saved; before = kept (λ r. Undefined) } ∷ []) now (loads p (entered_webs l) (begun_at (placed_of p d) input l b).trace)
+    trail_by now n same agree =
+        subst (λ (x : List ℕ). Trail p d (record { name = x; saved = map (λ r. (r, Undefined)) l.saved; before = kept (λ r. Undefined) } ∷ []) now (loads p (entered_webs l) (begun_at (placed_of p d) input l b).trace)) (sym same)
+        (subst (λ (a : Act). Trail p d (a ∷ []) now (loads p (entered_webs l) (begun_at (placed_of p d) input l b).trace)) (sym (acted_is d start_name l.saved nothing saved_here))
+        (subst (λ (ws : List Web). Trail p d (acted d start_name nothing ∷ []) now (loads p ws (begun_at (placed_of p d) input l b).trace)) (sym entered_here) (begun _ _ now agree)))
 
   starts_at_good : (input : List ℕ) (l : Located) (b : Option WebBlock) → IsDefined p d start_name l → first_block l ≡ b → GoodStep p d (Trail p d) (starts_at_by (placed_of p d) input l b)
   starts_at_good input l None def at = tt
@@ -631,11 +681,11 @@ module _ (p : Program) (d : List (List ℕ × Directives)) (ok : IsProgram p) wh
   -- ---- what a run notes
 
   -- what holds of each trail, and of what stands at an end, holds of all that a run notes
-  noted_by : (P : Log → Type 0) → ((ns : List (List ℕ)) (l : Log) → Trail p d ns l → P l) → ((l : Log) → Last p d l → P l) → (s : Step) → GoodStep p d (Trail p d) s → Notes P (staged s)
-  noted_by P on last (On m) g = on (name_of m.frame ∷ map name_of m.callers) m.trace g.trail
+  noted_by : (P : Log → Type 0) → ((acts : List Act) (regs : Registers) (l : Log) → Trail p d acts regs l → P l) → ((l : Log) → Last p d l → P l) → (s : Step) → GoodStep p d (Trail p d) s → Notes P (staged s)
+  noted_by P on last (On m) g = on (act_of m.frame ∷ map act_of m.callers) m.registers m.trace g.trail
   noted_by P on last (Stopped end m) g = last m.trace g
   noted_by P on last Astray g = tt
 
-  pub run_notes : (P : Log → Type 0) → ((ns : List (List ℕ)) (l : Log) → Trail p d ns l → P l) → ((l : Log) → Last p d l → P l) → (input : List ℕ) (n : ℕ) → Notes P (web_run p d input n)
+  pub run_notes : (P : Log → Type 0) → ((acts : List Act) (regs : Registers) (l : Log) → Trail p d acts regs l → P l) → ((l : Log) → Last p d l → P l) → (input : List ℕ) (n : ℕ) → Notes P (web_run p d input n)
   unfolding web_run placed_run
   run_notes P on last input n = noted_by P on last (steps (placed_of p d) n (start (placed_of p d) input)) (steps_good n (start (placed_of p d) input) (start_good input))

@@ -20,7 +20,8 @@ use Rattle.pw_webflow.specs.Direction.{register_of}
 use Rattle.pw_flowrun.specs.Programs.{Program}
 use Rattle.pw_webrun.specs.Programs.{graph_of}
 use Rattle.pw_webrun.specs.Direction.{directives_of}
-use Rattle.pw_directed.proofs.Trails.{Log, is_kept, noted_in, entered_among, loads, stored_in, stores, Accesses, Trail, begun, load, store, library, call, return, Last, ended, refused}
+use Rattle.pw_webrun.specs.PlacedRun.{with_registers, without_scratch, kept}
+use Rattle.pw_directed.proofs.Trails.{Log, is_kept, noted_in, entered_among, loads, stored_in, stores, Accesses, Act, Registers, Trail, begun, write, load, store, library, call, return, Last, ended, refused}
 use Rattle.pw_directed.proofs.Directives.{one_web, no_register, entered_role, entered_apart}
 use Rattle.pw_directed.proofs.Following.{names_in, same_names, names_are}
 
@@ -56,7 +57,7 @@ loaded_global x y e = cc
 module _ (p : Program) (d : List (List ℕ × Directives)) (base : IsDatabase d) (sound : Sound (graph_of p) d) where
   -- ---- the stack is a path
 
-  abbrev Linked : List (List ℕ) → Type 0
+  abbrev pub Linked : List (List ℕ) → Type 0
   Linked [] = Unit {0}
   Linked (f ∷ []) = Unit {0}
   Linked (f ∷ a ∷ fs) = Calls (graph_of p) a f × Linked (a ∷ fs)
@@ -65,13 +66,14 @@ module _ (p : Program) (d : List (List ℕ × Directives)) (base : IsDatabase d)
   behind f [] h = tt
   behind f (a ∷ fs) h = h.1
 
-  linked : {ns : List (List ℕ)} {l : Log} → Trail p d ns l → Linked ns
-  linked (begun gs rs) = tt
-  linked (load f fs v l a t) = linked t
-  linked (store f fs v l a t) = linked t
-  linked (library f h fs gs hs rs ss ts l e t) = linked t
-  linked (call f h fs gs rs l e t) = (e, linked t)
-  linked (return f h fs gs rs ss l t) = (linked t).1
+  pub linked : {acts : List Act} {regs : Registers} {l : Log} → Trail p d acts regs l → Linked (map (λ a. a.name) acts)
+  linked (begun gs rs now agree) = tt
+  linked (write a fs regs w role v l h t) = linked t
+  linked (load a fs regs v l h t) = linked t
+  linked (store a fs regs v l h t) = linked t
+  linked (library a h fs regs gs hs rs ss l e t) = linked t
+  linked (call a h fs regs now gs rs l e agree t) = (e, linked t)
+  linked (return a b fs regs gs l t) = (linked t).1
 
   path_then : {a b : List ℕ} → Path (graph_of p) a b → (c : List ℕ) → Calls (graph_of p) b c → Path (graph_of p) a c
   path_then (one_call a b e) c last = more_calls a b c e (one_call b c last)
@@ -259,32 +261,35 @@ module _ (p : Program) (d : List (List ℕ × Directives)) (base : IsDatabase d)
     | inr k ↦ h v covered o u (contains_by o calls k) enters inside
   ]
 
-  pub keeps_law : {ns : List (List ℕ)} {l : Log} → Trail p d ns l → Keeps l
-  keeps_law (begun gs rs) =
+  pub keeps_law : {acts : List Act} {regs : Registers} {l : Log} → Trail p d acts regs l → Keeps l
+  keeps_law (begun gs rs now agree) =
       entered_keeps start_name [] (Called start_name gs rs ∷ []) refl tt (λ e inside. not_there e inside)
       ((λ v covered c w there enters inside. not_there c there, tt), unstored_called (record { function = start_name; inside = [] }) [] refl (λ v covered c w there enters inside. not_there c there))
-  keeps_law (load f fs v l a t) = (
-    (λ covered. absurd (uncovered f v a covered), (keeps_law t).0),
+  keeps_law (write a fs regs w role v l h t) = keeps_law t
+  keeps_law (load a fs regs v l h t) = (
+    (λ covered. absurd (uncovered a.name v h covered), (keeps_law t).0),
     unstored_more (Loaded v) (active l) (λ u covered e. cc) (keeps_law t).1,
   )
-  keeps_law (store f fs v l a t) = (
-    (λ covered. absurd (uncovered f v a covered), (keeps_law t).0),
-    unstored_more (Stored v) (active l) (λ u covered e. uncovered f v a (subst (IsCovered (graph_of p) d) (sym (stored_global v u e)) covered)) (keeps_law t).1,
+  keeps_law (store a fs regs v l h t) = (
+    (λ covered. absurd (uncovered a.name v h covered), (keeps_law t).0),
+    unstored_more (Stored v) (active l) (λ u covered e. uncovered a.name v h (subst (IsCovered (graph_of p) d) (sym (stored_global v u e)) covered)) (keeps_law t).1,
   )
-  keeps_law (library f h fs gs hs rs ss ts l e t) =
+  keeps_law (library a h fs regs gs hs rs ss l e t) =
       let k = keeps_law t in (
         (tt, (k.1, k.0)),
-        unstored_more (Returned h 0 hs ss ts) (map (with_event (Called h gs rs)) (active l)) (λ v covered e. cc) (unstored_more (Called h gs rs) (active l) (λ v covered e. cc) k.1),
+        unstored_more (Returned h 0 hs ss ss) (map (with_event (Called h gs rs)) (active l)) (λ v covered e. cc) (unstored_more (Called h gs rs) (active l) (λ v covered e. cc) k.1),
       )
-  keeps_law (call f h fs gs rs l e t) =
+  keeps_law (call a h fs regs now gs rs l e agree t) =
       let k = keeps_law t in
-      entered_keeps h (f ∷ fs) (Called h gs rs ∷ l) (ap (λ (ns : List (List ℕ)). h ∷ ns) (same_names (Called h gs rs) (active l) ∙ names_are p d t)) (e, linked t) (λ x inside. not_there x inside)
+      entered_keeps h (a.name ∷ map (λ c. c.name) fs) (Called h gs rs ∷ l) (ap (λ (ns : List (List ℕ)). h ∷ ns) (same_names (Called h gs rs) (active l) ∙ names_are p d t)) (e, linked t) (λ x inside. not_there x inside)
       ((k.1, k.0), unstored_called (record { function = h; inside = [] }) (map (with_event (Called h gs rs)) (active l)) refl (unstored_more (Called h gs rs) (active l) (λ v covered e. cc) k.1))
-  keeps_law (return f h fs gs rs ss l t) =
-      let ws = entered_among (directives_of d h).webs in
-      let left = all_stored h (f ∷ fs) ws l (linked t) (entered_role d base h) (entered_apart d base h) (leaving h (f ∷ fs) ws l (names_are p d t) (entered_role d base h) (keeps_law t)) in
-      ((tt, left.obeys), unstored_more (Returned h 0 gs rs ss) (without 0 (active (stores p ws l))) (λ v covered e. cc) left.rest)
+  keeps_law (return a b fs regs gs l t) =
+      let ws = entered_among (directives_of d b.name).webs in
+      let under = a.name ∷ map (λ c. c.name) fs in
+      let after = kept (without_scratch (with_registers b.saved regs)) in
+      let left = all_stored b.name under ws l (linked t) (entered_role d base b.name) (entered_apart d base b.name) (leaving b.name under ws l (names_are p d t) (entered_role d base b.name) (keeps_law t)) in
+      ((tt, left.obeys), unstored_more (Returned b.name 0 gs b.before after) (without 0 (active (stores p ws l))) (λ v covered e. cc) left.rest)
 
   pub last_keeps_law : {l : Log} → Last p d l → ObeysTraffic (graph_of p) d l
-  last_keeps_law (ended f h fs gs rs l e t) = let k = keeps_law t in (k.1, k.0)
-  last_keeps_law (refused f h fs l e t) = let k = keeps_law t in (k.1, k.0)
+  last_keeps_law (ended a h fs regs gs rs l e t) = let k = keeps_law t in (k.1, k.0)
+  last_keeps_law (refused a h fs regs l e t) = let k = keeps_law t in (k.1, k.0)

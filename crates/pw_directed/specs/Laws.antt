@@ -5,7 +5,7 @@ use Rattle.pw_db.specs.declared.database.Directives.{Directives}
 use Rattle.pw_db.specs.Database.{IsDatabase}
 use Rattle.pw_sound.specs.CallGraphs.{Graph, Calls}
 use Rattle.pw_sound.specs.Sound.{Sound}
-use Rattle.pw_trace.specs.Traces.{Event, Called, Refused, Notes}
+use Rattle.pw_trace.specs.Traces.{Event, Called, Refused, Notes, KeepRegisters}
 use Rattle.pw_trace.specs.Traffic.{Open, active, ObeysTraffic}
 use Rattle.pw_flowrun.specs.Programs.{Program}
 use Rattle.pw_webrun.specs.Programs.{IsProgram, graph_of}
@@ -33,3 +33,9 @@ abbrev pub TrafficIsObeyed : Type 0
 TrafficIsObeyed =
     (p : Program) (d : List (List ℕ × Directives)) (input : List ℕ) → IsProgram p → IsDatabase d → Sound (graph_of p) d → (n : ℕ) →
     Notes (ObeysTraffic (graph_of p) d) (web_run p d input n)
+
+-- each return gives back the registers that a callee keeps, but those of webs in which the function is a member
+abbrev pub RegistersAreKept : Type 0
+RegistersAreKept =
+    (p : Program) (d : List (List ℕ × Directives)) (input : List ℕ) → IsProgram p → IsDatabase d → Sound (graph_of p) d → (n : ℕ) →
+    Notes (KeepRegisters d) (web_run p d input n)

@@ -5,4 +5,4 @@ use Rattle.pw_directed.proofs.Running.{run_notes}
 use Rattle.pw_directed.proofs.directed_calls_are_of_the_graph.Goals as goal
 
 pub returns : goal.returns
-returns c = λ p d input ok n. run_notes p d ok (FollowsCalls (graph_of p)) (λ ns l t. follows p d t) (λ l t. last_follows p d t) input n
+returns c = λ p d input ok n. run_notes p d ok (FollowsCalls (graph_of p)) (λ acts regs l t. follows p d t) (λ l t. last_follows p d t) input n

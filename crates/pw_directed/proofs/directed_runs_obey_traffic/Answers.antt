@@ -6,4 +6,4 @@ use Rattle.pw_directed.proofs.directed_runs_obey_traffic.Goals as goal
 
 pub returns : goal.returns
 returns c = λ p d input ok base sound n.
-    run_notes p d ok (ObeysTraffic (graph_of p) d) (λ ns l t. (keeps_law p d base sound t).0) (λ l t. last_keeps_law p d base sound t) input n
+    run_notes p d ok (ObeysTraffic (graph_of p) d) (λ acts regs l t. (keeps_law p d base sound t).0) (λ l t. last_keeps_law p d base sound t) input n
