@@ -319,7 +319,7 @@ named-reads laws bound x numbers spots ty k at g o d s m e ready holds suits num
     laws.fresh x numbers spots [] d s m (λ t. op.LoadG t g k) (source_access.value_in ty (bytes_from (source_access.width_of ty) 0 (object_at s.objects o).bytes)) w holds ready
     (look-stands x numbers spots d s m ty k o 0 o q.size ready e q.live q.there)
     (λ rest. ap (λ (u : Option Value). run.gives d.temps u (record m { frame = record m.frame { ops = rest } }))
-    (get-named (graphs x.world) g k m.objects o w (suits k e) number (looks-in spots s.objects m.objects ty k o 0 o q.size ready.related.matches.memory e allowed q.there))))
+    (get-named (graphs x.world) g k m.objects o w (suits k o e number) number (looks-in spots s.objects m.objects ty k o 0 o q.size ready.related.matches.memory e allowed q.there))))
 
 named-writes :
     Laws → (bound : ℕ) (x : Activation) (numbers : Numbers) (spots : List Spot) (assigned : List ℕ) (purpose : Purpose) (ty : CType) (k : Kind) (at : Site) (g : List ℕ) (t o : ℕ) (d : Code) (s : State) (m : Machine) (v : Value)
@@ -342,7 +342,7 @@ named-writes laws bound x numbers spots assigned purpose ty k at g t o d s m v e
       machine = n;
       comes = comes-by laws x d (op.StoreG g t k) m n nx
           (ap (λ (objects : Option (List Object)). run.changes objects (record m { frame = record m.frame { ops = nx.rest } }))
-          (put-named (graphs x.world) g k w m.objects o (written o 0 now m.objects) (suits k e) (of-kind spots ty k v w laws.back e typed sv) number
+          (put-named (graphs x.world) g k w m.objects o (written o 0 now m.objects) (suits k o e number) (of-kind spots ty k v w laws.back e typed sv) number
           (pokes-in spots s.objects m.objects ty k o 0 o q.size v w ready.related.matches.memory e allowed q.there typed sv)));
       holds = record {
         done = record {
