@@ -1,0 +1,4 @@
+pub mod Showing
+pub mod Steps
+pub mod Placing
+pub mod Simulating
