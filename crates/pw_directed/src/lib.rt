@@ -1,7 +1,7 @@
 //! Laws of the run of a program under directives, of that run alone.
 #![tactic(auto)]
 
-ghost use Rattle.pw_directed.specs.Laws.{CallsAreOfTheGraph, TrafficIsObeyed, RegistersAreKept};
+ghost use Rattle.pw_directed.specs.Laws.{CallsAreOfTheGraph, DirectionRestsOnRuns, RegistersAreKept, TrafficIsObeyed};
 
 /// Every call of a run under directives is a call of the program's graph: the active function calls by name what the graph
 /// says, and through values only functions whose address is taken and whose shape is the call's.
@@ -20,3 +20,11 @@ pub fn directed_runs_obey_traffic()
 pub fn directed_runs_keep_registers()
     ensures { RegistersAreKept }
 {}
+
+/// The law of direction follows from its first part, that the directed run keeps the flow run.
+pub fn direction_rests_on_runs()
+    ensures { DirectionRestsOnRuns }
+{
+    directed_runs_keep_registers();
+    directed_runs_obey_traffic();
+}
