@@ -1,5 +1,5 @@
 -- Calls of the program's functions, and returns from them.
-use Rattle.std.specs.Prelude.{ℕ, suc, ◌≡◌, ◌+◌, ◌%◌, ◌^◌, ◌≤◌, ◌==◌, ◌&&◌, Bool, true, false, if◌then◌else◌, Some, None, List, [], ◌∷◌, ◌++◌, map, find, Contains}
+use Rattle.std.specs.Prelude.{ℕ, suc, ◌≡◌, ◌+◌, ◌%◌, ◌^◌, ◌≤◌, ◌==◌, ◌&&◌, Bool, true, false, if◌then◌else◌, Some, None, List, [], ◌∷◌, ◌++◌, map, find, Contains, length}
 use Rattle.std.specs.List.{AllByRecursion, flat_map}
 use Rattle.std.specs.Str.{bytes_eq}
 use Rattle.std.proofs.Common.{arith, subst, sym, ap, refl, ◌∙◌, inl, inr}
@@ -64,10 +64,10 @@ with_call_is x l g m there callers link =
 -- No call returns where the function begins.
 pub enters_simulates : (x : Setting) → IsLinked x → (k : ℕ) (g : LineFn) (m : Machine) → Contains x.program.functions g → IsCaller x m.frame
     → AllByRecursion (IsCaller x) m.callers → lines.register m.core 2 ≡ return_address x.addresses m.frame m.frame.left
-    → Arrives x k m.core (own_address x g) ((own_address x g + 4) % 2 ^ 32) m.rest m.out (noted_by x m) → m.events + 1 ≤ k → m.core.skip ≡ false
+    → Arrives x k m.core (own_address x g) ((own_address x g + 4) % 2 ^ 32) m.rest m.out (noted_by x m) → m.events + 1 ≤ k → m.read + length m.rest ≡ length x.start.rest → m.core.skip ≡ false
     → AllByRecursion (λ call. is_back m.core (own_address x g) call ≡ false) (calls_from x m.frame m.callers) → AreInData x (calls_from x m.frame m.callers)
     → Simulates x (enters x.program x.addresses g m) k
-enters_simulates x l k g m there caller callers link h count run none are =
+enters_simulates x l k g m there caller callers link h count read run none are =
     let own = own_address x g in
     let back : (own + 4) % 2 ^ 32 ≡ own + 4 = omega (arith, text_small x own l.few (here_in_text x l g there g.items own (all_left x g))) in
     let at = enters_at x k m.core own ((own + 4) % 2 ^ 32) m.rest m.out (noted_by x m) (name_in g) h
@@ -80,6 +80,7 @@ enters_simulates x l k g m there caller callers link h count run none are =
       left = all_left x g;
       callers = (caller, callers);
       events = count;
+      read = read;
     }
 
 -- ---- a function returns
@@ -144,4 +145,5 @@ return_simulates x l k m t rest caller callers h run e behind calm are =
       left = one.left;
       callers = h.callers.1;
       events = omega (arith, h.events);
+      read = h.read;
     })

@@ -1,5 +1,5 @@
 -- The machine does what the lines do, item by item.
-use Rattle.std.specs.Prelude.{ℕ, zero, suc, ℤ, pos, negsuc, ◌≡◌, ◌+◌, ◌*◌, ◌%◌, ◌^◌, ◌<◌, ◌≤◌, ◌==◌, not, Bool, true, false, if◌then◌else◌, Option, Some, None, List, [], ◌∷◌, ◌++◌, Contains}
+use Rattle.std.specs.Prelude.{ℕ, zero, suc, ℤ, pos, negsuc, ◌≡◌, ◌+◌, ◌*◌, ◌%◌, ◌^◌, ◌<◌, ◌≤◌, ◌==◌, not, Bool, true, false, if◌then◌else◌, Option, Some, None, List, [], ◌∷◌, ◌++◌, Contains, length}
 use Rattle.std.specs.List.{AllByRecursion}
 use Rattle.std.specs.Int.{cast_unsigned, w32}
 use Rattle.std.proofs.Common.{arith, subst, sym, ap, refl, ◌∙◌}
@@ -102,6 +102,7 @@ word_simulates x l k m t word rest h e calm =
       left = there;
       callers = h.callers;
       events = omega (arith, h.events);
+      read = h.read;
     })
 
 -- a block begins: no word stands there
@@ -115,6 +116,7 @@ mark_simulates x k b m rest h =
       left = subst (λ a. IsLeft x m.frame.function rest a) e (next_left x m.frame.function (Mark b) rest h.address h.left);
       callers = h.callers;
       events = h.events;
+      read = h.read;
     }
 
 -- ---- jumps and loops
@@ -125,9 +127,9 @@ to_some (Some items) m t e = (items, refl, on_same (left_behind items m) t e)
 
 -- the machine comes to where items are left, by so many steps more
 comes_to : (x : Setting) → IsLinked x → (k j : ℕ) (m t : Machine) (items : List Item) (a : ℕ) → Contains x.program.functions m.frame.function
-    → AllByRecursion (IsCaller x) m.callers → t ≡ left_behind items m → IsLeft x m.frame.function items a
+    → AllByRecursion (IsCaller x) m.callers → m.read + length m.rest ≡ length x.start.rest → t ≡ left_behind items m → IsLeft x m.frame.function items a
     → Arrives x j m.core a ((a + 4) % 2 ^ 32) m.rest m.out (noted_by x m) → m.events ≤ j → IsCalm x t → Simulates x t j
-comes_to x l k j m t items a there callers same left h le calm =
+comes_to x l k j m t items a there callers read same left h le calm =
     let quiet = subst (λ (s : Machine). IsCalm x s) same calm a left in
     subst (λ (s : Machine). Simulates x s j) (sym same) (record {
       address = a;
@@ -136,6 +138,7 @@ comes_to x l k j m t items a there callers same left h le calm =
       left = left;
       callers = callers;
       events = le;
+      read = read;
     })
 
 -- a turn with its slot is of the text
@@ -163,7 +166,7 @@ goto_simulates x l k b m t rest h run e inside calm =
     let to = x.mark (name_in f) b in
     let j = stands.0.0 in
     let turn = turn_at x l f h.there item rest h.address (Bl j.displacement 0 false) h.left (omega arith) j.is in
-    comes_to x l k (suc (suc k)) (counted (left_behind (item ∷ rest) m)) t goes.0 to h.there h.callers goes.2
+    comes_to x l k (suc (suc k)) (counted (left_behind (item ∷ rest) m)) t goes.0 to h.there h.callers h.read goes.2
     (block_left x f (l.stands f h.there) b goes.0 goes.1)
     (jump_turn x k m.core h.address to 0 j.displacement m.rest m.out (noted_by x m) l.setting l.few h.at turn j.leads (omega arith) stands.0.1 run run (inside_at x m (item ∷ rest) 2 h.address 1 (h.address + 4) inside h.left (omega arith) (omega arith) (omega arith)))
     (omega (arith, h.events)) calm
@@ -209,14 +212,14 @@ if_short x l k r b m t rest null is short h run e inside calm = by null is e
     by true is e =
         let goal : h.address + 8 ≡ (if not (lines.register m.core r == 0) then x.mark (name_in f) b else h.address + 8) =
         ap (λ (z : Bool). if not z then x.mark (name_in f) b else h.address + 8) (sym is) in
-        comes_to x l k (suc (suc k)) m t rest (h.address + 8) h.there h.callers (on_same (left_behind rest m) t e)
+        comes_to x l k (suc (suc k)) m t rest (h.address + 8) h.there h.callers h.read (on_same (left_behind rest m) t e)
         (behind_turn x f (If r b) rest h.address (h.address + 8) h.left (ap (λ (long : Bool). h.address + 4 * (if long then 4 else 2)) (sym short)))
         (goes (h.address + 8) goal) (omega (arith, h.events)) calm
     by false is e =
         let to = to_some (from_mark b f.items) (counted (left_behind (item ∷ rest) m)) t e in
         let goal : x.mark (name_in f) b ≡ (if not (lines.register m.core r == 0) then x.mark (name_in f) b else h.address + 8) =
         ap (λ (z : Bool). if not z then x.mark (name_in f) b else h.address + 8) (sym is) in
-        comes_to x l k (suc (suc k)) (counted (left_behind (item ∷ rest) m)) t to.0 (x.mark (name_in f) b) h.there h.callers to.2
+        comes_to x l k (suc (suc k)) (counted (left_behind (item ∷ rest) m)) t to.0 (x.mark (name_in f) b) h.there h.callers h.read to.2
         (block_left x f (l.stands f h.there) b to.0 to.1) (goes (x.mark (name_in f) b) goal) (omega (arith, h.events)) calm
 
 -- the branch over a jump
@@ -266,7 +269,7 @@ if_long x l k r b m t rest null is long h run e inside calm = by null is e
         let goal : h.address + 16 ≡ (if lines.register m.core r == 0 then h.address + 16 else h.address + 8) =
         ap (λ (z : Bool). if z then h.address + 16 else h.address + 8) (sym is) in (
           suc (suc k),
-          comes_to x l k (suc (suc k)) m t rest (h.address + 16) h.there h.callers (on_same (left_behind rest m) t e)
+          comes_to x l k (suc (suc k)) m t rest (h.address + 16) h.there h.callers h.read (on_same (left_behind rest m) t e)
               (behind_turn x f (If r b) rest h.address (h.address + 16) h.left (ap (λ (long : Bool). h.address + 4 * (if long then 4 else 2)) (sym long)))
               (goes (h.address + 16) goal) (omega (arith, h.events)) calm,
         )
@@ -278,7 +281,7 @@ if_long x l k r b m t rest null is long h run e inside calm = by null is e
         let at = subst (λ v. At x (suc (suc k)) m.core (h.address + 8) v m.rest m.out (noted_by x m)) back
         (settles x (suc (suc k)) m.core (h.address + 8) ((h.address + 8 + 4) % 2 ^ 32) m.rest m.out (noted_by x m) (goes (h.address + 8) goal) (quiet 2 (h.address + 8) (omega arith) (omega arith) (omega arith))) in (
           suc (suc (suc (suc k))),
-          comes_to x l k (suc (suc (suc (suc k)))) (counted (left_behind (item ∷ rest) m)) t to.0 (x.mark (name_in f) b) h.there h.callers to.2
+          comes_to x l k (suc (suc (suc (suc k)))) (counted (left_behind (item ∷ rest) m)) t to.0 (x.mark (name_in f) b) h.there h.callers h.read to.2
               (block_left x f (l.stands f h.there) b to.0 to.1) (over at) (omega (arith, h.events)) calm,
         )
 
@@ -345,7 +348,7 @@ back_simulates x l k j r u disp m t rest h run e inside calm = by (condition j (
     by true is e =
         let to : ℕ = (h.address + 8 + 4 * cast_unsigned w32 disp) % 2 ^ 32 in
         let goal : h.address + 8 ≡ (if not holds then to else h.address + 8) = ap (λ (z : Bool). if not z then to else h.address + 8) (sym is) in
-        comes_to x l k (suc (suc k)) m t rest (h.address + 8) h.there h.callers (on_same (left_behind rest m) t e)
+        comes_to x l k (suc (suc k)) m t rest (h.address + 8) h.there h.callers h.read (on_same (left_behind rest m) t e)
         (behind_turn x f (Back (Combf j r u disp)) rest h.address (h.address + 8) h.left (omega arith))
         (goes to (h.address + 8) refl goal) (omega (arith, h.events)) calm
     by false is e =
@@ -356,5 +359,5 @@ back_simulates x l k j r u disp m t rest h run e inside calm = by (condition j (
         let leads = subst (λ d. Goal h.address d loop.address) (sym (words_some disp one.0 one.1))
         (back_goal h.address loop.address one.0 loop.back (text_small x h.address l.few (here_in_text x l f h.there (item ∷ rest) h.address h.left))) in
         let goal : loop.address ≡ (if not holds then loop.address else h.address + 8) = ap (λ (z : Bool). if not z then loop.address else h.address + 8) (sym is) in
-        comes_to x l k (suc (suc k)) m' t to.0 loop.address h.there h.callers to.2 loop.left
+        comes_to x l k (suc (suc k)) m' t to.0 loop.address h.there h.callers h.read to.2 loop.left
         (goes loop.address loop.address leads goal) (omega (arith, h.events)) calm

@@ -7,3 +7,8 @@ pub mod Turning
 pub mod Items
 pub mod Calls
 pub mod Library
+pub mod Entering
+pub mod Routines
+pub mod Meeting
+pub mod Running
+pub mod Making

@@ -1,5 +1,5 @@
 -- Calls of the library's functions: each asks by one instruction, and returns by the next.
-use Rattle.std.specs.Prelude.{ℕ, suc, ◌≡◌, ◌+◌, ◌-◌, ◌%◌, ◌^◌, ◌<◌, ◌≤◌, ◌==◌, true, false, Some, None, List, [], ◌∷◌, ◌++◌}
+use Rattle.std.specs.Prelude.{ℕ, suc, ◌≡◌, ◌+◌, ◌-◌, ◌%◌, ◌^◌, ◌<◌, ◌≤◌, ◌==◌, true, false, Some, None, List, [], ◌∷◌, ◌++◌, length}
 use Rattle.std.specs.List.{AllByRecursion}
 use Rattle.std.proofs.Common.{arith, subst, sym, ap, refl, ◌∙◌, inl, inr}
 use Rattle.std.proofs.lemmas.Bool.{eq-eqb, ne_eqb, and_left, and_right}
@@ -109,12 +109,12 @@ answer_noted x l m f v read rest out caller callers =
     }) (globals_are x l m.core m.frame m.callers caller.there callers)
 
 pub answers_simulate : (x : Setting) → IsLinked x → (k i a v read : ℕ) (m : Machine) (f rest out : List ℕ) → IsCaller x m.frame → AllByRecursion (IsCaller x) m.callers
-    → lines.register m.core 2 ≡ return_address x.addresses m.frame m.frame.left → m.core.skip ≡ false → m.events ≤ k
+    → lines.register m.core 2 ≡ return_address x.addresses m.frame m.frame.left → m.core.skip ≡ false → m.events ≤ k → read + length rest ≡ length x.start.rest
     → At x k m.core a (a + 4) m.rest m.out (with_call x m.core f (noted_by x m)) → IsAsking x a i
     → IsAlone x m.core a (call_of m.core f ∷ calls_from x m.frame m.callers) → AreInData x (calls_from x m.frame m.callers)
     → ((core : Core) → Shows m.core core → taken (machine.executed core (Break 0 i)) (record { core = core; rest = m.rest; output = m.out }) ≡ Running (record { core = answered core v; rest = rest; output = out }))
     → IsCalm x (after_answer x m f v rest read out) → Simulates x (after_answer x m f v rest read out) (suc (suc (suc k)))
-answers_simulate x l k i a v read m f rest out caller callers link run count h asking alone are does calm =
+answers_simulate x l k i a v read m f rest out caller callers link run count reads h asking alone are does calm =
     let c = lines.with_register 28 v m.core in
     let n = with_call x m.core f (noted_by x m) in
     let to = lines.register m.core 2 in
@@ -142,6 +142,7 @@ answers_simulate x l k i a v read m f rest out caller callers link run count h a
       left = left;
       callers = callers;
       events = omega (arith, count);
+      read = reads;
     }
 
 -- ---- what the lines do
@@ -180,24 +181,25 @@ pub record Asks (x : Setting) (m : Machine) (k : ℕ) (f : List ℕ) : Type 0 wh
   pub link : lines.register m.core 2 ≡ return_address x.addresses m.frame m.frame.left
   pub run : m.core.skip ≡ false
   pub count : m.events + 1 ≤ k
+  pub read : m.read + length m.rest ≡ length x.start.rest
   pub at : At x k m.core (x.addresses.named f) (x.addresses.named f + 4) m.rest m.out (with_call x m.core f (noted_by x m))
   pub high : IsHigh x m
   pub saved : AreInData x (calls_from x m.frame m.callers)
 
 asks_by : (x : Setting) → IsLinked x → (k i v read : ℕ) (m t : Machine) (f rest out : List ℕ) → HasAsking x f i → Asks x m k f
     → ((core : Core) → Shows m.core core → taken (machine.executed core (Break 0 i)) (record { core = core; rest = m.rest; output = m.out }) ≡ Running (record { core = answered core v; rest = rest; output = out }))
-    → t ≡ after_answer x m f v rest read out → IsCalm x t → Simulates x t (suc (suc (suc k)))
-asks_by x l k i v read m t f rest out has a does same calm =
+    → read + length rest ≡ length x.start.rest → t ≡ after_answer x m f v rest read out → IsCalm x t → Simulates x t (suc (suc (suc k)))
+asks_by x l k i v read m t f rest out has a does reads same calm =
     subst (λ (t : Machine). Simulates x t (suc (suc (suc k)))) (sym same)
-    (answers_simulate x l k i (x.addresses.named f) v read m f rest out a.caller a.callers a.link a.run (omega (arith, a.count)) a.at has.words
+    (answers_simulate x l k i (x.addresses.named f) v read m f rest out a.caller a.callers a.link a.run (omega (arith, a.count)) reads a.at has.words
     (alone_by x m f i has a.caller a.link a.high) a.saved does (subst (λ (t : Machine). IsCalm x t) same calm))
 
 getchar_by : (x : Setting) → IsLinked x → (k : ℕ) (m t : Machine) (rest : List ℕ) → HasAsking x getchar_name 1 → Asks x (record m { rest = rest }) k getchar_name
     → library x.program x.addresses GetChar (record m { rest = rest }) ≡ On t → IsCalm x t → Simulates x t (suc (suc (suc k)))
 getchar_by x l k m t [] has a e calm =
-    asks_by x l k 1 (2 ^ 32 - 1) m.read (record m { rest = [] }) t getchar_name [] m.out has a (λ core h. refl) (on_same _ t e) calm
+    asks_by x l k 1 (2 ^ 32 - 1) m.read (record m { rest = [] }) t getchar_name [] m.out has a (λ core h. refl) a.read (on_same _ t e) calm
 getchar_by x l k m t (byte ∷ rest) has a e calm =
-    asks_by x l k 1 byte (m.read + 1) (record m { rest = byte ∷ rest }) t getchar_name rest m.out has a (λ core h. refl) (on_same _ t e) calm
+    asks_by x l k 1 byte (m.read + 1) (record m { rest = byte ∷ rest }) t getchar_name rest m.out has a (λ core h. refl) (omega (arith, a.read)) (on_same _ t e) calm
 
 putchar_by : (x : Setting) → IsLinked x → (k : ℕ) (m t : Machine) → HasAsking x putchar_name 2 → Asks x m k putchar_name
     → library x.program x.addresses PutChar m ≡ On t → IsCalm x t → Simulates x t (suc (suc (suc k)))
@@ -205,7 +207,7 @@ putchar_by x l k m t has a e calm =
     let byte = lines.register m.core 26 % 256 in
     asks_by x l k 2 byte m.read m t putchar_name m.rest (m.out ++ byte ∷ []) has a
     (λ core h. ap (λ (v : ℕ). Running (record { core = answered core (v % 256); rest = m.rest; output = m.out ++ v % 256 ∷ [] })) (sym (read m.core core h 26)))
-    (on_same _ t e) calm
+    a.read (on_same _ t e) calm
 
 -- how a function of the library goes on
 abbrev pub name_of_library : Library → List ℕ

@@ -40,7 +40,7 @@ unless_called m core b f n (inl e) = rw e refl
 unless_called m core true f n (inr e) = refl
 unless_called m core false f n (inr e) = ap (λ f. called m core f n) e
 
-arrived_quiet : (m : Map) (core : Core) (n : Noted) → AllByRecursion (λ call. has_returned core call ≡ false) n.calls
+pub arrived_quiet : (m : Map) (core : Core) (n : Noted) → AllByRecursion (λ call. has_returned core call ≡ false) n.calls
     → (core.nullify ≡ true) ⊎ (function_at m core.front ≡ None) → arrived m core n ≡ n
 arrived_quiet m core n h e =
     unless_called m core core.nullify (function_at m core.front) (record { calls = left core n.calls; log = with_returns m core 0 n.calls n.log }) e
@@ -80,7 +80,7 @@ stored_same (Stw r im b) c d h = ap (λ a. Some (a, 4)) (h b im)
 stored_same _ c d h = refl
 
 -- what the machine has noted, by what is loaded and what is stored
-abbrev noted_by : Map → Option (ℕ × ℕ) → Option (ℕ × ℕ) → FlowGlobal → List (Event ℕ ℕ)
+abbrev pub noted_by : Map → Option (ℕ × ℕ) → Option (ℕ × ℕ) → FlowGlobal → List (Event ℕ ℕ)
 noted_by m loads stores g =
     (if is_eligible m g && touches loads (m.named g.name) g.size then Loaded g.name ∷ [] else [])
     ++ (if is_eligible m g && touches stores (m.named g.name) g.size then Stored g.name ∷ [] else [])
@@ -107,7 +107,7 @@ accesses_shown x c core i h d =
     ∙ (ap (λ (b : Bool). if b then [] else accesses_of (map_in x) (Some i) (core_of core)) (sym h.skip)
     ∙ ap (λ (es : List (Event ℕ ℕ)). if c.skip then [] else es) (same_accesses (map_in x) i (core_of core) c (address_shown c core h)))
 
-no_touch : (m : Map) (gs : List FlowGlobal) → flat_map (noted_by m None None) gs ≡ []
+pub no_touch : (m : Map) (gs : List FlowGlobal) → flat_map (noted_by m None None) gs ≡ []
 no_touch m [] = refl
 no_touch m (g ∷ gs) = none (is_eligible m g) (no_touch m gs)
   where

@@ -5,6 +5,7 @@ use Rattle.std.proofs.lemmas.Bool.{le-leb, lt-ltb, eq-eqb}
 use Rattle.pw_value.specs.Limits.{text_start}
 use Rattle.pw_inst.specs.declared.Inst.{Inst}
 use Rattle.pw_inst.specs.InstructionTable.{decoded, IsInRange}
+use Rattle.pw_machine.specs.declared.ends.End.{End}
 use Rattle.pw_machine.specs.declared.ends.End.TheVariants.{StackStop}
 use Rattle.pw_machine.specs.Core.{Core, next, advanced, word_at}
 use Rattle.pw_machine.specs.Effect.{Effect, Goes, Stops, is_in_text, effect_of}
@@ -24,11 +25,11 @@ use Rattle.pw_link_keeps.proofs.Noting.{accesses_shown, no_accesses}
 
 -- ---- what is known after so many steps
 
-later : (x : Setting) (k : ℕ) (c : lines.Core) (a b : ℕ) (rest output : List ℕ) (n : Noted) → IsSetting x → (h : At x k c a b rest output n)
+pub later : (x : Setting) (k : ℕ) (c : lines.Core) (a b : ℕ) (rest output : List ℕ) (n : Noted) → IsSetting x → (h : At x k c a b rest output n)
     → IsLater x.start (record { core = h.core; rest = rest; output = output })
 later x k c a b rest output n s h = subst (λ p. IsLater x.start (state_of p)) h.runs (s.keeps k)
 
-below_data : (x : Setting) (k a : ℕ) → IsSetting x → IsInText x a → a + 4 ≤ x.start.core.data_start
+pub below_data : (x : Setting) (k a : ℕ) → IsSetting x → IsInText x a → a + 4 ≤ x.start.core.data_start
 below_data x k a s t =
     let from = (s.keeps k).text.data_from in
     let size = (s.keeps k).lawful.core.memory.data_from in
@@ -122,31 +123,40 @@ word_at_front x k c d a b rest output n i s h t f range e =
     step_at x k c d a b ((b + 4) % 2 ^ 32) rest output n (accesses x.program x.addresses (Some i) c) h
     (subst (λ to. Leads h.core (effect_of h.core) d to) to leads) (accesses_shown x c h.core i h.shows face.decodes)
 
--- the machine stops for want of stack
-pub record Halted (x : Setting) (k : ℕ) (rest output : List ℕ) (n : Noted) : Type 0 where
+-- the machine stops
+pub record Halted (x : Setting) (k : ℕ) (e : End) (rest output : List ℕ) (n : Noted) : Type 0 where
   pub core : Core
-  pub runs : run_of k x.start ≡ Stopped StackStop (record { core = core; rest = rest; output = output })
+  pub runs : run_of k x.start ≡ Stopped e (record { core = core; rest = rest; output = output })
   pub notes : noting.noted (map_in x) x.start k ≡ n
 
-stopped_step : (x : Setting) (k : ℕ) (s : State) (n : Noted) → run_of k x.start ≡ Running s → noting.noted (map_in x) x.start k ≡ n
-    → effect_of s.core ≡ Stops StackStop → Halted x (suc k) s.rest s.output n
+stopped_step : (x : Setting) (k : ℕ) (s : State) (n : Noted) (end : End) → run_of k x.start ≡ Running s → noting.noted (map_in x) x.start k ≡ n
+    → effect_of s.core ≡ Stops end → Halted x (suc k) end s.rest s.output n
 unfolding run_of noting.noted
-stopped_step x k s n r h e =
-    let stop : Progress = Stopped StackStop (record s { core = record s.core { stopped = Some StackStop } }) in
+stopped_step x k s n end r h e =
+    let stop : Progress = Stopped end (record s { core = record s.core { stopped = Some end } }) in
     let goes : goes_on (run_of k x.start) ≡ stop = ap goes_on r ∙ ap (λ f. taken f s) e in
     record {
-      core = record s.core { stopped = Some StackStop };
+      core = record s.core { stopped = Some end };
       runs = goes;
       notes = ap (λ p. stepped (map_in x) p (goes_on (run_of k x.start)) (noting.noted (map_in x) x.start k)) r
           ∙ (ap (λ q. stepped (map_in x) (Running s) q (noting.noted (map_in x) x.start k)) goes ∙ h);
     }
 
+-- by an instruction
+pub halts_at_front : (x : Setting) (k : ℕ) (c : lines.Core) (a b : ℕ) (rest output : List ℕ) (n : Noted) (i : Inst) (end : End) → IsSetting x
+    → At x k c a b rest output n → IsInText x a → fetched x a ≡ Some i → c.skip ≡ false
+    → ((core : Core) → Shows c core → machine.executed core i ≡ Stops end) → Halted x (suc k) end rest output n
+halts_at_front x k c a b rest output n i end s h t f run does =
+    let face = faces x k c a b rest output n i s h t f in
+    stopped_step x k (record { core = h.core; rest = rest; output = output }) n end h.runs h.notes
+    (effect_runs h.core i face.text (sym h.shows.skip ∙ run) face.decodes ∙ does h.core face.shows)
+
 pub full_at_front : (x : Setting) (k : ℕ) (c : lines.Core) (a b : ℕ) (rest output : List ℕ) (n : Noted) (i : Inst) → IsSetting x
     → At x k c a b rest output n → IsInText x a → fetched x a ≡ Some i → IsInRange i → acts x.addresses (Some i) c ≡ Full
-    → Halted x (suc k) rest output n
+    → Halted x (suc k) StackStop rest output n
 full_at_front x k c a b rest output n i s h t f range e =
     let face = faces x k c a b rest output n i s h t f in
-    stopped_step x k (record { core = h.core; rest = rest; output = output }) n h.runs h.notes
+    stopped_step x k (record { core = h.core; rest = rest; output = output }) n StackStop h.runs h.notes
     (full_so h.core (effect_of h.core) (acts x.addresses (Some i) c) e (word_so x c a b i h.core face range))
 
 -- ---- a word that is passed over
@@ -190,3 +200,12 @@ branch_at_front x k c d a b to rest output n i s h t f run loads stores does =
 pub starts_at : (x : Setting) (k : ℕ) (c : lines.Core) (a b : ℕ) (rest output : List ℕ) (n : Noted) → IsSetting x → (h : Arrives x k c a b rest output n)
     → h.core.data_start ≡ x.addresses.data_start
 starts_at x k c a b rest output n s h = (subst (λ p. IsLater x.start (state_of p)) h.runs (s.keeps k)).text.data_from ∙ s.starts
+
+-- what is noted at a step
+pub noted_next : (x : Setting) (k : ℕ) (s t : State) (n : Noted) → run_of k x.start ≡ Running s → noting.noted (map_in x) x.start k ≡ n
+    → run_of (suc k) x.start ≡ Running t → noting.noted (map_in x) x.start (suc k) ≡ arrived (map_in x) t.core (with_accesses (accesses_in (map_in x) s.core) n)
+unfolding noting.noted
+noted_next x k s t n r h next =
+    ap (λ p. stepped (map_in x) p (run_of (suc k) x.start) (noting.noted (map_in x) x.start k)) r
+    ∙ (ap (λ q. stepped (map_in x) (Running s) q (noting.noted (map_in x) x.start k)) next
+    ∙ ap (λ n. stepped (map_in x) (Running s) (Running t) n) h)

@@ -26,10 +26,10 @@ IsShownBy f registers = (r : ℕ) → f r ≡ (if r == 0 then 0 else slice_index
 not_zero : (t r : ℕ) → (t == 0) ≡ false → r ≡ t → (r == 0) ≡ false
 not_zero t r e same = ap (λ k. k == 0) same ∙ e
 
-put_same : (f : ℕ → ℕ) (t v r : ℕ) → r ≡ t → put t v f r ≡ v
+pub put_same : (f : ℕ → ℕ) (t v r : ℕ) → r ≡ t → put t v f r ≡ v
 put_same f t v r e = rw (eq-eqb r t e) refl
 
-put_other : (f : ℕ → ℕ) (t v r : ℕ) → (r ≡ t → ⊥) → put t v f r ≡ f r
+pub put_other : (f : ℕ → ℕ) (t v r : ℕ) → (r ≡ t → ⊥) → put t v f r ≡ f r
 put_other f t v r ne = rw (ne_eqb r t ne) refl
 
 if_else : (b : Bool) (x y : ℕ) → x ≡ y → (if b then 0 else x) ≡ (if b then 0 else y)

@@ -1,5 +1,5 @@
 -- A state of the run of lines, and the machine after so many steps that shows it.
-use Rattle.std.specs.Prelude.{ℕ, ◌≡◌, ◌+◌, ◌*◌, ◌≤◌, ◌<◌, true, false, Some, None, List, [], ◌∷◌, Contains, find}
+use Rattle.std.specs.Prelude.{ℕ, ◌≡◌, ◌+◌, ◌*◌, ◌≤◌, ◌<◌, true, false, Some, None, List, [], ◌∷◌, Contains, find, length}
 use Rattle.std.specs.Str.{bytes_eq}
 use Rattle.std.specs.List.{AllByRecursion}
 use Rattle.pw_value.specs.Limits.{word_limit}
@@ -80,6 +80,8 @@ pub record Simulates (x : Setting) (m : Machine) (k : ℕ) : Type 0 where
   pub left : IsLeft x m.frame.function m.frame.left address
   pub callers : AllByRecursion (IsCaller x) m.callers
   pub events : m.events ≤ k
+  -- what was read and what is left are the input
+  pub read : m.read + length m.rest ≡ length x.start.rest
 
 -- nothing returns and nothing is called where the lines are
 abbrev pub IsCalm : Setting → Machine → Type 0

@@ -5,7 +5,7 @@ use Rattle.pw_value.specs.Limits.{text_start}
 use Rattle.pw_inst.specs.declared.Inst.{Inst}
 use Rattle.pw_inst.specs.InstructionTable.{decoded}
 use Rattle.pw_machine.specs.Core.{Core, word_at}
-use Rattle.pw_machine.specs.Run.{State, Running, run_of}
+use Rattle.pw_machine.specs.Run.{State, Running, run_of, continued}
 use Rattle.pw_machine_laws.specs.Lawful.{HasSameText, IsLater, state_of}
 use Rattle.pw_db.specs.Limits.{kept_registers}
 use Rattle.pw_trace.specs.Traces.{Event, Standing, Called, Returned}
@@ -47,12 +47,15 @@ pub record IsInText (x : Setting) (a : ℕ) : Type 0 where
   pub above : text_start ≤ a
   pub below : a < text_start + 4 * x.start.core.text
 
--- The data begin where the lines have them, each state of the run is a lawful one, and the text stays.
+-- The data begin where the lines have them, each state of the run is a lawful one, and the text stays; a run that is cut
+-- in two is the same, and a state in it has not stopped.
 pub record IsSetting (x : Setting) : Type 0 where
   pub starts : x.start.core.data_start ≡ x.addresses.data_start
   pub keeps : (k : ℕ) → IsLater x.start (state_of (run_of k x.start))
   pub words : (new : Core) (a : ℕ) → HasSameText x.start.core new → a + 4 ≤ x.start.core.data_start
       → word_at new.memory a ≡ word_at x.start.core.memory a
+  pub sums : (k n : ℕ) → run_of (k + n) x.start ≡ continued n (run_of k x.start)
+  pub going : (k : ℕ) (mid : State) → run_of k x.start ≡ Running mid → mid.core.stopped ≡ None
 
 -- ---- after so many steps
 
