@@ -1,6 +1,6 @@
 -- What an operation of a directed function asks for is fine: values that lead to functions whose address is taken,
 -- calls of the graph, and accesses by name of globals that the function has no register for.
-use Rattle.std.proofs.Common.{◌≡◌, ℕ, Bool, true, false, ◌&&◌, if◌then◌else◌, List, map, refl, ap, subst, ◌∙◌, inl, inr, [], ◌∷◌}
+use Rattle.std.proofs.Common.{◌≡◌, ℕ, Bool, true, false, ◌&&◌, if◌then◌else◌, List, map, refl, ap, subst, ◌∙◌, inl, inr, [], ◌∷◌, arith, length, ◌≤◌, ◌+◌}
 use Rattle.std.specs.Prelude.{Option, Some, None}
 use Rattle.std.specs.List.{flat_map, AllByRecursion}
 use Rattle.std.specs.Str.{bytes_eq}
@@ -24,12 +24,13 @@ use Rattle.pw_webflow.specs.declared.web.WebOp.TheVariants.{Flow, Write}
 use Rattle.pw_webflow.specs.Direction.{register_of, read_of, write_of, directed_op}
 use Rattle.pw_flowrun.specs.Values.{unary, extension}
 use Rattle.pw_flowrun.specs.Programs.{Program, functions_of, globals_of, names_of, function_at, shape_of}
-use Rattle.pw_flowrun.specs.Commands.{Command, Give, Poke, GetGlobal, PutGlobal, Enter, Fail, give, enter_as, enter_at, enter_value, command}
+use Rattle.pw_flowrun.specs.Commands.{Command, Give, Poke, GetGlobal, PutGlobal, Enter, Fail, give, enter_as, enter_at, enter_value, command, Combine}
 use Rattle.pw_webrun.specs.Programs.{IsProgram, NamesRightly, ops_of, addressed, taken_names, eligible_names, has_name, has_shape, called, read_by, written_by, node_of, graph_of}
 use Rattle.pw_webrun.specs.Direction.{directives_of}
 use Rattle.pw_directed.proofs.Lists.{has_filter, has_named, named_has, map_each}
-use Rattle.pw_directed.proofs.Values.{IsTaken, FineValue, FineIfValue, unary_fine, extension_fine}
-use Rattle.pw_directed.proofs.Numbers.{function_there, function_fine, pointer_fine}
+use Rattle.pw_directed.specs.Values.{IsTaken, FineValue}
+use Rattle.pw_directed.proofs.Values.{FineIfValue, unary_fine, extension_fine}
+use Rattle.pw_directed.proofs.Numbers.{function_there, function_fine, pointer_fine, behind_fine}
 use Rattle.pw_directed.proofs.Trails.{is_kept, Accesses}
 
 -- the directives hold no register for a global that the operation reads or writes
@@ -112,6 +113,7 @@ MayAccess p d f v = is_kept p v ≡ true → Accesses p d f v
 
 abbrev pub IsAllowed : Program → List (List ℕ × Directives) → List ℕ → Command → Type 0
 IsAllowed p d f (Give t v) = FineValue p v
+IsAllowed p d f (Combine k t v w) = FineValue p v
 IsAllowed p d f (Poke k a v) = FineValue p v
 IsAllowed p d f (GetGlobal t g k) = MayAccess p d f g
 IsAllowed p d f (PutGlobal g k v) = FineValue p v × MayAccess p d f g
@@ -203,25 +205,25 @@ module _ (p : Program) (d : List (List ℕ × Directives)) (ok : IsProgram p) wh
 
   -- ---- operations
 
-  pub command_allowed : (fn : FlowFn) (o : Op) → Has fn (functions_of p) → Has o (ops_of fn) → Lacks (directives_of d fn.name).webs o → (base : ℕ) (value : ℕ → Value) → ((t : ℕ) → FineValue p (value t))
+  pub command_allowed : (fn : FlowFn) (o : Op) → Has fn (functions_of p) → Has o (ops_of fn) → Lacks (directives_of d fn.name).webs o → (base : ℕ) (value : ℕ → Value) → length (globals_of p) ≤ base → ((t : ℕ) → FineValue p (value t))
       → IsAllowed p d fn.name (command p base o value)
   unfolding command
-  command_allowed fn (op.Const t n) among has lacks base value fine = tt
-  command_allowed fn (op.Copy t a) among has lacks base value fine = fine a
-  command_allowed fn (op.Un k t a) among has lacks base value fine = give_allowed p d fn.name t (unary k (value a)) (unary_fine p k (value a))
-  command_allowed fn (op.Bin k t a b) among has lacks base value fine = tt
-  command_allowed fn (op.Ext k t a) among has lacks base value fine = give_allowed p d fn.name t (extension k (value a)) (extension_fine p k (value a) (fine a))
-  command_allowed fn (op.AddrGlobal t g n) among has lacks base value fine =
+  command_allowed fn (op.Const t n) among has lacks base value low fine = tt
+  command_allowed fn (op.Copy t a) among has lacks base value low fine = fine a
+  command_allowed fn (op.Un k t a) among has lacks base value low fine = give_allowed p d fn.name t (unary k (value a)) (unary_fine p k (value a))
+  command_allowed fn (op.Bin k t a b) among has lacks base value low fine = fine a
+  command_allowed fn (op.Ext k t a) among has lacks base value low fine = give_allowed p d fn.name t (extension k (value a)) (extension_fine p k (value a) (fine a))
+  command_allowed fn (op.AddrGlobal t g n) among has lacks base value low fine =
       pointer_fine p g n (taken_by_op fn (op.AddrGlobal t g n) g among has (inl refl)) (inr (has_by g (map (λ (x : FlowGlobal). x.name) (globals_of p)) (rightly fn (op.AddrGlobal t g n) among has)))
-  command_allowed fn (op.AddrSlot t s) among has lacks base value fine = tt
-  command_allowed fn (op.AddrFn t f) among has lacks base value fine =
+  command_allowed fn (op.AddrSlot t s) among has lacks base value low fine = behind_fine p (base + s) 0 (omega (arith, low))
+  command_allowed fn (op.AddrFn t f) among has lacks base value low fine =
       function_fine p f (taken_by_op fn (op.AddrFn t f) f among has (inl refl)) (has_by f (names_of p) (rightly fn (op.AddrFn t f) among has))
-  command_allowed fn (op.LoadG t g k) among has lacks base value fine = λ e. record { refers = reads fn t g k among has e; lacks = lacks }
-  command_allowed fn (op.StoreG g a k) among has lacks base value fine = (fine a, λ e. record { refers = writes fn g a k among has e; lacks = lacks })
-  command_allowed fn (op.Load k t a) among has lacks base value fine = tt
-  command_allowed fn (op.Store k a b) among has lacks base value fine = fine b
-  command_allowed fn (op.Move a b size unit) among has lacks base value fine = tt
-  command_allowed fn (op.Call t f args) among has lacks base value fine =
+  command_allowed fn (op.LoadG t g k) among has lacks base value low fine = λ e. record { refers = reads fn t g k among has e; lacks = lacks }
+  command_allowed fn (op.StoreG g a k) among has lacks base value low fine = (fine a, λ e. record { refers = writes fn g a k among has e; lacks = lacks })
+  command_allowed fn (op.Load k t a) among has lacks base value low fine = tt
+  command_allowed fn (op.Store k a b) among has lacks base value low fine = fine b
+  command_allowed fn (op.Move a b size unit) among has lacks base value low fine = tt
+  command_allowed fn (op.Call t f args) among has lacks base value low fine =
       (map_each (FineValue p) value fine args, edge fn (op.Call t f args) f among has (inl refl))
-  command_allowed fn (op.CallInd t a shape args) among has lacks base value fine =
+  command_allowed fn (op.CallInd t a shape args) among has lacks base value low fine =
       enter_allowed fn t a shape args (value a) (map value args) among has (map_each (FineValue p) value fine args) (fine a)

@@ -1,6 +1,6 @@
 -- Functions of one number have one name; so a pointer to a name whose address is taken is fine.
-use Rattle.std.proofs.Common.{◌≡◌, ◌⊎◌, ℕ, ◌<◌, ◌≤◌, ◌==◌, cond, List, [], ◌∷◌, map, refl, sym, ap, subst, ◌∙◌, arith, inl, inr}
-use Rattle.std.specs.Prelude.{Option, Some, None}
+use Rattle.std.proofs.Common.{◌≡◌, ◌⊎◌, ℕ, ◌<◌, ◌≤◌, ◌==◌, cond, List, [], ◌∷◌, map, refl, sym, ap, subst, ◌∙◌, arith, inl, inr, false, if◌then◌else◌, length, get_or, Bool, true}
+use Rattle.std.specs.Prelude.{Option, Some, None, Contains}
 use Rattle.std.specs.List.{sum_by}
 use Rattle.std.specs.Str.{bytes_eq}
 use Rattle.std.specs.Ordering.{nat_cmp, is_lt, ordering_reverse}
@@ -10,15 +10,19 @@ use Rattle.std.specs.declared.cmp.Ordering.TheVariants.{Less, Equal, Greater}
 use Rattle.std.proofs.lemmas.Bool.{eqb-true}
 use Rattle.std.proofs.lemmas.Cmp.{nat_list_cmp_total, tied_itself}
 use Rattle.std.proofs.lemmas.List.Sums.{sum_by-cons}
+use Rattle.std.proofs.lemmas.List.Quantifiers.{position-Some}
+use Rattle.std.specs.List.{position}
 use Rattle.std.proofs.lemmas.Map.Lookups.{exact_bytes}
 use Rattle.std.proofs.lemmas.Slice.Eq.{bytes_eq-Decides}
 use Rattle.pw_value.specs.declared.value.Pointer.{Pointer}
 use Rattle.pw_value.specs.declared.value.Pointer.TheVariants as P
-use Rattle.pw_files.proofs.Standing.{Has, has_map_back}
+use Rattle.pw_files.proofs.Standing.{Has, has_by, has_map_back, has_flat_back}
+use Rattle.pw_value.specs.declared.value.Kind.{Kind}
 use Rattle.pw_flow.specs.declared.flow.FlowGlobal.{FlowGlobal}
 use Rattle.pw_flowrun.specs.Programs.{Program, names_of, globals_of, function_number, function_at, global_number, pointer_to}
-use Rattle.pw_directed.proofs.Lists.{found, placed}
-use Rattle.pw_directed.proofs.Values.{IsTaken, FinePointer}
+use Rattle.pw_directed.proofs.Lists.{clash, found, placed}
+use Rattle.pw_webrun.specs.Programs.{has_name, taken_names, eligible_as, eligible_of, eligible_names}
+use Rattle.pw_directed.specs.Values.{IsTaken, FinePointer}
 
 -- ---- how many of some names are less than one
 
@@ -86,8 +90,48 @@ module _ (p : Program) where
       let clash = sym none ∙ at in
       cc
 
+  -- globals of one number have one name
+  one_placed : (gs : List FlowGlobal) (a b : List ℕ) (n : ℕ) → position (λ g. bytes_eq g.name a) gs ≡ Some n → position (λ g. bytes_eq g.name b) gs ≡ Some n → a ≡ b
+  one_placed [] a b n e f = absurd cc
+  one_placed (x ∷ gs) a b n e f =
+      let first = position-Some (λ (g : FlowGlobal). bytes_eq g.name a) (x ∷ gs) n x e in
+      let second = position-Some (λ (g : FlowGlobal). bytes_eq g.name b) (x ∷ gs) n x f in
+      sym ((bytes_eq-Decides (get_or (x ∷ gs) n x).name a).0 first.1) ∙ (bytes_eq-Decides (get_or (x ∷ gs) n x).name b).0 second.1
+
+  within : (gs : List FlowGlobal) (a : List ℕ) (n : ℕ) → position (λ g. bytes_eq g.name a) gs ≡ Some n → n < length gs
+  within [] a n e = absurd cc
+  within (x ∷ gs) a n e = (position-Some (λ (g : FlowGlobal). bytes_eq g.name a) (x ∷ gs) n x e).0
+
+  -- a number behind those of the global objects
+  pub behind_fine : (o i : ℕ) → length (globals_of p) ≤ o → FinePointer p (P.Object o i)
+  behind_fine o i le g kept at = let lt = within (globals_of p) g o at in omega (arith, lt, le)
+
+  not_taken_by : (g : FlowGlobal) (k : Kind) (volatile taken : Bool) (e : List ℕ × Kind) → has_name (taken_names p) g.name ≡ taken
+      → Has e (if volatile then [] else if taken then [] else (g.name, k) ∷ []) → (e.0 ≡ g.name) × (has_name (taken_names p) g.name ≡ false)
+  not_taken_by g k true taken e t h = absurd h
+  not_taken_by g k false true e t h = absurd h
+  not_taken_by g k false false e t (inl same) = (sym (ap (λ (x : List ℕ × Kind). x.0) same), t)
+  not_taken_by g k false false e t (inr h) = absurd h
+
+  abbrev by_kind : FlowGlobal → Option Kind → List (List ℕ × Kind)
+  by_kind g (Some k) = if g.volatile then [] else if has_name (taken_names p) g.name then [] else (g.name, k) ∷ []
+  by_kind g None = []
+
+  not_taken_as : (g : FlowGlobal) (k : Option Kind) (e : List ℕ × Kind) → Has e (by_kind g k) → (e.0 ≡ g.name) × (has_name (taken_names p) g.name ≡ false)
+  not_taken_as g (Some k) e h = not_taken_by g k g.volatile (has_name (taken_names p) g.name) e refl h
+  not_taken_as g None e h = absurd h
+
+  -- nothing takes the address of a global that a register may hold
+  not_taken : (name : List ℕ) → Contains (eligible_names p) name → IsTaken p name → ⊥
+  not_taken name kept taken =
+      let e = has_map_back (λ (e : List ℕ × Kind). e.0) name (eligible_of p) (has_by name (eligible_names p) kept) in
+      let g = has_flat_back (eligible_as p) e.0 (globals_of p) e.1 in
+      let r = not_taken_as g.0 g.0.kind e.0 g.2 in
+      let same : g.0.name ≡ name = sym r.0 ∙ e.2 in
+      clash (has_name (taken_names p) name) taken (subst (λ (n : List ℕ). has_name (taken_names p) n ≡ false) same r.1)
+
   pointer_fine_by : (name : List ℕ) (offset : ℕ) (n : Option ℕ) → global_number p name ≡ n → IsTaken p name → Has name (names_of p) ⊎ Has name (map (λ g. g.name) (globals_of p)) → FinePointer p (pointer_by name offset n)
-  pointer_fine_by name offset (Some n) e taken there = tt
+  pointer_fine_by name offset (Some n) e taken there = λ g kept at. not_taken g kept (subst (IsTaken p) (one_placed (globals_of p) name g n e at) taken)
   pointer_fine_by name offset None e taken (inl function) = function_fine name taken function
   pointer_fine_by name offset None e taken (inr global) = absurd (global_there name global e)
 

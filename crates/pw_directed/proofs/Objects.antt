@@ -1,5 +1,6 @@
 -- The objects with which a run starts are fine.
-use Rattle.std.proofs.Common.{◌⊎◌, ℕ, List, [], ◌∷◌, ◌++◌, map, replicate, refl, inl, inr}
+use Rattle.std.proofs.Common.{◌⊎◌, ℕ, List, [], ◌∷◌, ◌++◌, map, replicate, refl, inl, inr, arith}
+use Rattle.std.proofs.lemmas.List.{length-map}
 use Rattle.std.specs.List.{flat_map, AllByRecursion}
 use Rattle.pw_value.specs.declared.value.Byte.{Byte}
 use Rattle.pw_value.specs.declared.value.Byte.TheVariants as B
@@ -14,7 +15,8 @@ use Rattle.pw_flow.specs.FlowGraph.{item_names, names_in_global, names_in_functi
 use Rattle.pw_flowrun.specs.Programs.{Program, functions_of, globals_of, names_of, pointer_to, item_bytes, with_items, object_of, start_objects}
 use Rattle.pw_webrun.specs.Programs.{IsProgram, ops_of, addressed, taken_names}
 use Rattle.pw_directed.proofs.Lists.{has_named, replicate_each, map_each, map_each_of}
-use Rattle.pw_directed.proofs.Values.{IsTaken, FinePointer, FineByte, FineObjects, with_bytes_fine}
+use Rattle.pw_directed.specs.Values.{IsTaken, FinePointer, FineByte, FineObjects}
+use Rattle.pw_directed.proofs.Values.{with_bytes_fine}
 use Rattle.pw_directed.proofs.Numbers.{pointer_fine}
 
 module _ (p : Program) (ok : IsProgram p) where
@@ -44,5 +46,8 @@ module _ (p : Program) (ok : IsProgram p) where
       items_fine rest (with_bytes (item_bytes p i.1) i.0 bytes) (λ j h. each j (inr h)) (with_bytes_fine p (item_bytes p i.1) i.0 bytes (each i (inl refl)) all)
 
   pub start_fine : FineObjects p (start_objects p)
-  start_fine = map_each_of (λ (o : Object). AllByRecursion (FineByte p) o.bytes) (object_of p) (globals_of p) (λ g there.
-      items_fine g.items (replicate g.size (B.Num 0)) (λ i has. item_fine g i.0 i.1 there has) (replicate_each (FineByte p) g.size (B.Num 0) tt))
+  start_fine = (
+    map_each_of (λ (o : Object). AllByRecursion (FineByte p) o.bytes) (object_of p) (globals_of p) (λ g there.
+        items_fine g.items (replicate g.size (B.Num 0)) (λ i has. item_fine g i.0 i.1 there has) (replicate_each (FineByte p) g.size (B.Num 0) tt)),
+    omega (arith, length-map (globals_of p) (object_of p)),
+  )

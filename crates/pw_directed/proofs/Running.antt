@@ -1,5 +1,5 @@
 -- A run under directives: its values are fine, its frames are of the program's functions, and what it notes is a trail.
-use Rattle.std.proofs.Common.{◌≡◌, ℕ, zero, suc, ◌+◌, ◌-◌, ◌%◌, ◌^◌, ◌==◌, nat_lt, nat_le, ◌&&◌, ◌||◌, Bool, true, false, if◌then◌else◌, List, [], ◌∷◌, ◌++◌, length, map, replicate, refl, sym, ap, subst, ◌∙◌, inl, inr}
+use Rattle.std.proofs.Common.{◌≡◌, ℕ, zero, suc, ◌+◌, ◌-◌, ◌%◌, ◌^◌, ◌==◌, nat_lt, nat_le, ◌&&◌, ◌||◌, Bool, true, false, if◌then◌else◌, List, [], ◌∷◌, ◌++◌, length, map, replicate, refl, sym, ap, subst, ◌∙◌, inl, inr, ◌≤◌}
 use Rattle.std.specs.Prelude.{Option, Some, None, slice_get, slice_set, slice_index_or}
 use Rattle.std.specs.List.{AllByRecursion}
 use Rattle.std.specs.Str.{bytes_eq}
@@ -35,14 +35,15 @@ use Rattle.pw_alloc.specs.declared.located.Place.TheVariants.{Slot, Reg}
 use Rattle.pw_run.specs.Runs as run
 use Rattle.pw_flowrun.specs.Values.{binary, is_somewhere}
 use Rattle.pw_flowrun.specs.Memory.{is_of_kind, look, look_in, poke, poke_in, copy}
-use Rattle.pw_flowrun.specs.Programs.{Program, Library, GetChar, PutChar, Exit, library_at, functions_of, global_number, start_objects}
+use Rattle.pw_flowrun.specs.Programs.{Program, Library, GetChar, PutChar, Exit, library_at, functions_of, global_number, start_objects, globals_of}
 use Rattle.pw_flowrun.specs.Commands as command
 use Rattle.pw_flowrun.specs.FlowRun.{is_own_kind, get_global, put_global, with_slots, end_from}
 use Rattle.pw_webrun.specs.Programs.{IsProgram, ops_of, graph_of}
 use Rattle.pw_webrun.specs.Direction.{directives_of, directed_by, unplaced, directed_functions, with_functions, web_run}
 use Rattle.pw_webrun.specs.PlacedRun.{PlacedProgram, Frame, Machine, Step, On, Stopped, Astray, name_of, function_named, with_register, with_registers, kept, register_at, value_in, with_temp, gives, takes_result, counted, noted, globals_now, is_eligible, noted_if, loads_global, stores_global, is_reserved, changes, exceeds, library_call, library_return, without_scratch, gives_back, calls_library, entered_webs, and_then, enters_webs, leaves, leaves_webs, without_places, with_parameters, entered, first_block, begins, calls_defined, calls, jumps, branches, given_back, ends, obeys, does, step, steps, start, staged, placed_run}
 use Rattle.pw_directed.proofs.Lists.{choose, found, read_each, set_each, replicate_each, map_each, get_has}
-use Rattle.pw_directed.proofs.Values.{FineValue, FineByte, FineObjects, FineIfValue, FineIfObjects, look_in_fine, look_fine, poke_in_fine, poke_fine, copy_fine, binary_fine, with_object_fine, ended_fine}
+use Rattle.pw_directed.specs.Values.{FineValue, FineByte, FineObjects, FineFrame, AreFine}
+use Rattle.pw_directed.proofs.Values.{FineIfValue, FineIfObjects, look_in_fine, look_fine, poke_in_fine, poke_fine, copy_fine, binary_fine, with_object_fine, ended_fine}
 use Rattle.pw_directed.proofs.Objects.{start_fine}
 use Rattle.pw_directed.proofs.Trails.{Log, Globals, is_kept, noted_in, entered_among, loads, stores, Accesses, Act, Registers, saves, acted, AgreeBut, nothing, Trail, begun, write, load, store, library, call, return, Last, ended as at_exit, refused}
 use Rattle.pw_directed.proofs.Commands.{flow_op, write_op, MayAccess, IsAllowed, command_allowed}
@@ -62,6 +63,7 @@ pub record IsFrame (p : Program) (d : List (List ℕ × Directives)) (f : Frame)
   ops : (o : WebOp) → Has o f.ops → IsOpOf (directives_of d fn.name).webs fn o
   temps : AllByRecursion (FineValue p) f.temps
   saved : AllByRecursion (λ (s : ℕ × Value). FineValue p s.1) f.saved
+  base : length (globals_of p) ≤ f.base
 
 abbrev pub act_of : Frame → Act
 act_of f = record { name = name_of f; saved = f.saved; before = f.before }
@@ -298,7 +300,7 @@ module _ (p : Program) (d : List (List ℕ × Directives)) (ok : IsProgram p) wh
 
   put_good : (T : List Act → Registers → Log → Type 0) (t : ℕ) (v : Value) (m : Machine) → FineValue p v → Good p d T m → Good p d T (put_by t v m None)
   put_good T t v m h g = record {
-    frame = record { fn = g.frame.fn; among = g.frame.among; is = g.frame.is; ops = g.frame.ops; temps = set_each (FineValue p) m.frame.temps t v g.frame.temps h; saved = g.frame.saved };
+    frame = record { fn = g.frame.fn; among = g.frame.among; is = g.frame.is; ops = g.frame.ops; temps = set_each (FineValue p) m.frame.temps t v g.frame.temps h; saved = g.frame.saved; base = g.frame.base };
     callers = g.callers;
     registers = g.registers;
     objects = g.objects;
@@ -449,6 +451,7 @@ module _ (p : Program) (d : List (List ℕ × Directives)) (ok : IsProgram p) wh
       ops = block_ops d fn l 0 b is at;
       temps = replicate_each (FineValue p) l.body.temps Undefined tt;
       saved = map_each (λ (s : ℕ × Value). FineValue p s.1) (λ r. (r, m.registers r)) g.registers l.saved;
+      base = g.objects.1;
     };
     callers = (g.frame, g.callers);
     registers = without_places_fine l.places m.registers g.registers;
@@ -505,6 +508,7 @@ module _ (p : Program) (d : List (List ℕ × Directives)) (ok : IsProgram p) wh
         ops = block_ops d g.frame.fn m.frame.function b next g.frame.is at;
         temps = g.frame.temps;
         saved = g.frame.saved;
+        base = g.frame.base;
       } in
       choose (Good p d (Trail p d)) (b == m.frame.block + 1) (goes_to b m next) (counted (goes_to b m next))
       (record { frame = frame; callers = g.callers; registers = g.registers; objects = g.objects; trail = g.trail })
@@ -577,7 +581,7 @@ module _ (p : Program) (d : List (List ℕ × Directives)) (ok : IsProgram p) wh
 
   obeys_good : (c : command.Command) (m : Machine) → IsAllowed p d (name_of m.frame) c → Good p d (Trail p d) m → GoodStep p d (Trail p d) (obeys (placed_of p d) c m)
   obeys_good (command.Give t v) m h g = with_temp_good (Trail p d) t v m h g
-  obeys_good (command.Combine k t v w) m h g = gives_good (Trail p d) t (binary m.objects k v w) m (binary_fine p m.objects k v w) g
+  obeys_good (command.Combine k t v w) m h g = gives_good (Trail p d) t (binary m.objects k v w) m (binary_fine p m.objects k v w h) g
   obeys_good (command.Look k t a) m h g =
       choose (GoodStep p d (Trail p d)) (is_reserved (placed_of p d) a) Astray (gives t (look k a m.objects) m) tt (gives_good (Trail p d) t (look k a m.objects) m (look_fine p k a m.objects g.objects) g)
   obeys_good (command.Poke k a v) m h g =
@@ -598,7 +602,7 @@ module _ (p : Program) (d : List (List ℕ × Directives)) (ok : IsProgram p) wh
       let same = flow_op (directives_of d fn.name).webs k.op o k.is in
       let value = value_in m.frame m.registers in
       let has : Has o (ops_of fn) = subst (λ (x : Op). Has x (ops_of fn)) same.0 k.has in
-      let allowed = command_allowed p d ok fn o g.frame.among has same.1 m.frame.base value (value_in_fine m.frame m.registers g.frame.temps g.registers) in
+      let allowed = command_allowed p d ok fn o g.frame.among has same.1 m.frame.base value g.frame.base (value_in_fine m.frame m.registers g.frame.temps g.registers) in
       obeys_good (command.command p m.frame.base o value) m
       (subst (λ (n : List ℕ). IsAllowed p d n (command.command p m.frame.base o value)) (sym (frame_name p d m.frame g.frame)) allowed) g
   does_good (Read t r) m g k = with_temp_good (Trail p d) t (m.registers r) m (g.registers r) g
@@ -620,7 +624,7 @@ module _ (p : Program) (d : List (List ℕ × Directives)) (ok : IsProgram p) wh
   next_good m (o ∷ ops) g each =
       does_good o (record m { frame = record m.frame { ops = ops } })
       (record {
-        frame = record { fn = g.frame.fn; among = g.frame.among; is = g.frame.is; ops = λ x h. each x (inr h); temps = g.frame.temps; saved = g.frame.saved };
+        frame = record { fn = g.frame.fn; among = g.frame.among; is = g.frame.is; ops = λ x h. each x (inr h); temps = g.frame.temps; saved = g.frame.saved; base = g.frame.base };
         callers = g.callers;
         registers = g.registers;
         objects = g.objects;
@@ -648,6 +652,7 @@ module _ (p : Program) (d : List (List ℕ × Directives)) (ok : IsProgram p) wh
       ops = block_ops d def.fn l 0 b def.is at;
       temps = replicate_each (FineValue p) l.body.temps Undefined tt;
       saved = map_each (λ (s : ℕ × Value). FineValue p s.1) (λ r. (r, Undefined)) (λ r. tt) l.saved;
+      base = (start_fine p ok).1;
     };
     callers = tt;
     registers = λ r. tt;
@@ -678,6 +683,23 @@ module _ (p : Program) (d : List (List ℕ × Directives)) (ok : IsProgram p) wh
   pub start_good : (input : List ℕ) → GoodStep p d (Trail p d) (start (placed_of p d) input)
   start_good input = starts_good input (function_named (placed_of p d) start_name) refl
 
+  -- ---- the values of its states
+
+  frames_fine : (fs : List Frame) → AllByRecursion (IsFrame p d) fs → AllByRecursion (FineFrame p) fs
+  frames_fine [] all = tt
+  frames_fine (f ∷ fs) all = (record { temps = all.0.temps; saved = all.0.saved; base = all.0.base }, frames_fine fs all.1)
+
+  state_fine : (m : Machine) → Good p d (Trail p d) m → AreFine p m
+  state_fine m g = record {
+    frame = record { temps = g.frame.temps; saved = g.frame.saved; base = g.frame.base };
+    callers = frames_fine m.callers g.callers;
+    registers = g.registers;
+    objects = g.objects;
+  }
+
+  pub state_at : (input : List ℕ) (n : ℕ) (m : Machine) → steps (placed_of p d) n (start (placed_of p d) input) ≡ On m → AreFine p m
+  state_at input n m e = state_fine m (subst (GoodStep p d (Trail p d)) e (steps_good n (start (placed_of p d) input) (start_good input)))
+
   -- ---- what a run notes
 
   -- what holds of each trail, and of what stands at an end, holds of all that a run notes
@@ -689,3 +711,6 @@ module _ (p : Program) (d : List (List ℕ × Directives)) (ok : IsProgram p) wh
   pub run_notes : (P : Log → Type 0) → ((acts : List Act) (regs : Registers) (l : Log) → Trail p d acts regs l → P l) → ((l : Log) → Last p d l → P l) → (input : List ℕ) (n : ℕ) → Notes P (web_run p d input n)
   unfolding web_run placed_run
   run_notes P on last input n = noted_by P on last (steps (placed_of p d) n (start (placed_of p d) input)) (steps_good n (start (placed_of p d) input) (start_good input))
+
+pub states_fine : (p : Program) (d : List (List ℕ × Directives)) (input : List ℕ) → IsProgram p → (n : ℕ) (m : Machine) → steps (placed_of p d) n (start (placed_of p d) input) ≡ On m → AreFine p m
+states_fine p d input ok n m e = state_at p d ok input n m e

@@ -1,7 +1,7 @@
 -- Values lead to no function but those whose address is taken, whatever operations make of them.
-use Rattle.pw_flow.specs.ValidFlow.{kind_size}
-use Rattle.std.proofs.Common.{◌≡◌, ℕ, zero, suc, ◌==◌, Bool, true, false, ◌&&◌, ◌||◌, not, nat_le, nat_lt, nat_eq, List, [], ◌∷◌, length}
-use Rattle.std.specs.Prelude.{Option, Some, None, option_map, Result, Ok, Err}
+use Rattle.std.proofs.Common.{ℕ, zero, suc, ◌==◌, Bool, true, false, ◌&&◌, ◌||◌, not, nat_le, nat_lt, nat_eq, List, [], ◌∷◌, length, arith}
+use Rattle.std.specs.Prelude.{Option, Some, None, option_map, Result, Ok, Err, slice_set}
+use Rattle.std.proofs.lemmas.List.{length-set, length-append}
 use Rattle.std.specs.List.{AllByRecursion}
 use Rattle.pw_value.specs.declared.value.Kind.{Kind}
 use Rattle.pw_value.specs.declared.value.Kind.TheVariants as K
@@ -22,32 +22,10 @@ use Rattle.pw_flow.specs.declared.flow.BinKind.TheVariants.{Add, Sub, And, Or, X
 use Rattle.pw_flow.specs.declared.flow.ExtKind.{ExtKind}
 use Rattle.pw_flow.specs.declared.flow.ExtKind.TheVariants as X
 use Rattle.pw_flowrun.specs.Values.{truth, unary, extension, number_of, on_numbers, is_near, same_place, is_somewhere, on_pointers, pointer_and_number, number_and_pointer, binary}
-use Rattle.pw_flowrun.specs.Memory.{word_or_pointer, scalar_of, may_stand, is_open, look_in, poke_in, look, poke, is_apart, copy}
-use Rattle.pw_flowrun.specs.Programs.{Program, function_at}
-use Rattle.pw_webrun.specs.Programs.{has_name, taken_names}
+use Rattle.pw_flowrun.specs.Memory.{width_of, word_or_pointer, scalar_of, may_stand, is_open, look_in, poke_in, look, poke, is_apart, copy}
+use Rattle.pw_flowrun.specs.Programs.{Program}
+use Rattle.pw_directed.specs.Values.{FinePointer, FineValue, FineByte, FineObject, FineObjects}
 use Rattle.pw_directed.proofs.Lists.{choose, read_each, set_each, append_each, replicate_each}
-
-abbrev pub IsTaken : Program → List ℕ → Type 0
-IsTaken p f = has_name (taken_names p) f ≡ true
-
-abbrev pub FinePointer : Program → Pointer → Type 0
-FinePointer p (P.Object o i) = Unit {0}
-FinePointer p (P.Function n) = (f : List ℕ) → function_at p n ≡ Some f → IsTaken p f
-
-abbrev pub FineValue : Program → Value → Type 0
-FineValue p (At x) = FinePointer p x
-FineValue p (Piece x i) = FinePointer p x
-FineValue p v = Unit {0}
-
-abbrev pub FineByte : Program → Byte → Type 0
-FineByte p (B.Piece x i) = FinePointer p x
-FineByte p b = Unit {0}
-
-abbrev pub FineObject : Program → Object → Type 0
-FineObject p o = AllByRecursion (FineByte p) o.bytes
-
-abbrev pub FineObjects : Program → List Object → Type 0
-FineObjects p objects = AllByRecursion (FineObject p) objects
 
 abbrev pub FineIfValue : Program → Option Value → Type 0
 FineIfValue p (Some v) = FineValue p v
@@ -80,18 +58,21 @@ module _ (p : Program) where
   with_bytes_fine (b ∷ more) offset bytes h all = with_bytes_fine more (suc offset) _ h.1 (set_each (FineByte p) bytes offset b all h.0)
 
   pub object_fine : (objects : List Object) (n : ℕ) → FineObjects p objects → FineObject p (object_at objects n)
-  object_fine objects n all = read_each (FineObject p) objects n no_object all tt
+  object_fine objects n all = read_each (FineObject p) objects n no_object all.0 tt
+
+  -- one object changes
+  object_set : (objects : List Object) (o : ℕ) (x : Object) → FineObject p x → FineObjects p objects → FineObjects p (slice_set objects o x)
+  object_set objects o x h all = (set_each (FineObject p) objects o x all.0 h, omega (arith, all.1, length-set objects o x))
 
   written_fine : (o i : ℕ) (new : List Byte) (objects : List Object) → AllByRecursion (FineByte p) new → FineObjects p objects → FineObjects p (written o i new objects)
   written_fine o i new objects h all =
-      set_each (FineObject p) objects o (record (object_at objects o) { bytes = with_bytes new i (object_at objects o).bytes }) all
-      (with_bytes_fine new i (object_at objects o).bytes h (object_fine objects o all))
+      object_set objects o (record (object_at objects o) { bytes = with_bytes new i (object_at objects o).bytes }) (with_bytes_fine new i (object_at objects o).bytes h (object_fine objects o all)) all
 
   pub ended_fine : (o : ℕ) (objects : List Object) → FineObjects p objects → FineObjects p (ended o objects)
-  ended_fine o objects all = set_each (FineObject p) objects o (record (object_at objects o) { live = false }) all (object_fine objects o all)
+  ended_fine o objects all = object_set objects o (record (object_at objects o) { live = false }) (object_fine objects o all) all
 
   pub with_object_fine : (new : Object) (objects : List Object) → FineObject p new → FineObjects p objects → FineObjects p (with_object new objects)
-  with_object_fine new objects h all = append_each (FineObject p) objects (new ∷ []) all (h, tt)
+  with_object_fine new objects h all = (append_each (FineObject p) objects (new ∷ []) all.0 (h, tt), omega (arith, all.1, length-append objects (new ∷ [])))
 
   -- ---- scalars
 
@@ -130,8 +111,8 @@ module _ (p : Program) where
 
   pub look_in_fine : (k : Kind) (o i : ℕ) (objects : List Object) → FineObjects p objects → FineIfValue p (look_in k o i objects)
   look_in_fine k o i objects all =
-      choose (FineIfValue p) (is_open objects o i (kind_size k) (kind_size k)) (Some (scalar_of k (bytes_from (kind_size k) i (object_at objects o).bytes))) None
-      (scalar_of_fine k (bytes_from (kind_size k) i (object_at objects o).bytes) (bytes_from_fine (kind_size k) i (object_at objects o).bytes (object_fine objects o all))) tt
+      choose (FineIfValue p) (is_open objects o i (width_of k) (width_of k)) (Some (scalar_of k (bytes_from (width_of k) i (object_at objects o).bytes))) None
+      (scalar_of_fine k (bytes_from (width_of k) i (object_at objects o).bytes) (bytes_from_fine (width_of k) i (object_at objects o).bytes (object_fine objects o all))) tt
 
   pub look_fine : (k : Kind) (v : Value) (objects : List Object) → FineObjects p objects → FineIfValue p (look k v objects)
   look_fine k (At (P.Object o i)) objects all = look_in_fine k o i objects all
@@ -139,8 +120,8 @@ module _ (p : Program) where
 
   pub poke_in_fine : (k : Kind) (o i : ℕ) (v : Value) (objects : List Object) → FineValue p v → FineObjects p objects → FineIfObjects p (poke_in k o i v objects)
   poke_in_fine k o i v objects h all =
-      choose (FineIfObjects p) (is_open objects o i (kind_size k) (kind_size k) && may_stand k v) (Some (written o i (encoding v (kind_size k)) objects)) None
-      (written_fine o i (encoding v (kind_size k)) objects (encoding_fine v (kind_size k) h) all) tt
+      choose (FineIfObjects p) (is_open objects o i (width_of k) (width_of k) && may_stand k v) (Some (written o i (encoding v (width_of k)) objects)) None
+      (written_fine o i (encoding v (width_of k)) objects (encoding_fine v (width_of k) h) all) tt
 
   pub poke_fine : (k : Kind) (a v : Value) (objects : List Object) → FineValue p v → FineObjects p objects → FineIfObjects p (poke k a v objects)
   poke_fine k (At (P.Object o i)) v objects h all = poke_in_fine k o i v objects h all
@@ -212,21 +193,21 @@ module _ (p : Program) where
       choose (FineIfValue p) ((o == q) && (is_near objects o i && is_near objects q j)) (Some (truth (nat_le i j))) None (truth_fine (nat_le i j)) tt
   on_pointers_fine objects _ _ _ = tt
 
-  pointer_and_number_fine : (objects : List Object) (k : BinKind) (x : Pointer) (n : ℕ) → FineIfValue p (pointer_and_number objects k x n)
-  pointer_and_number_fine objects Add (P.Object o i) n = tt
-  pointer_and_number_fine objects Sub (P.Object o i) n = tt
-  pointer_and_number_fine objects Eq x zero = choose (FineIfValue p) (is_somewhere objects x) (Some (truth false)) None tt tt
-  pointer_and_number_fine objects Ne x zero = choose (FineIfValue p) (is_somewhere objects x) (Some (truth true)) None tt tt
-  pointer_and_number_fine objects _ _ _ = tt
+  pointer_and_number_fine : (objects : List Object) (k : BinKind) (x : Pointer) (n : ℕ) → FinePointer p x → FineIfValue p (pointer_and_number objects k x n)
+  pointer_and_number_fine objects Add (P.Object o i) n h = h
+  pointer_and_number_fine objects Sub (P.Object o i) n h = h
+  pointer_and_number_fine objects Eq x zero h = choose (FineIfValue p) (is_somewhere objects x) (Some (truth false)) None tt tt
+  pointer_and_number_fine objects Ne x zero h = choose (FineIfValue p) (is_somewhere objects x) (Some (truth true)) None tt tt
+  pointer_and_number_fine objects _ _ _ h = tt
 
   number_and_pointer_fine : (objects : List Object) (k : BinKind) (n : ℕ) (x : Pointer) → FineIfValue p (number_and_pointer objects k n x)
   number_and_pointer_fine objects Eq zero x = choose (FineIfValue p) (is_somewhere objects x) (Some (truth false)) None tt tt
   number_and_pointer_fine objects Ne zero x = choose (FineIfValue p) (is_somewhere objects x) (Some (truth true)) None tt tt
   number_and_pointer_fine objects _ _ _ = tt
 
-  pub binary_fine : (objects : List Object) (k : BinKind) (v w : Value) → FineIfValue p (binary objects k v w)
-  binary_fine objects k (Num a) (Num b) = on_numbers_fine k a b
-  binary_fine objects k (At x) (At y) = on_pointers_fine objects k x y
-  binary_fine objects k (At x) (Num n) = pointer_and_number_fine objects k x n
-  binary_fine objects k (Num n) (At x) = number_and_pointer_fine objects k n x
-  binary_fine objects k _ _ = tt
+  pub binary_fine : (objects : List Object) (k : BinKind) (v w : Value) → FineValue p v → FineIfValue p (binary objects k v w)
+  binary_fine objects k (Num a) (Num b) h = on_numbers_fine k a b
+  binary_fine objects k (At x) (At y) h = on_pointers_fine objects k x y
+  binary_fine objects k (At x) (Num n) h = pointer_and_number_fine objects k x n h
+  binary_fine objects k (Num n) (At x) h = number_and_pointer_fine objects k n x
+  binary_fine objects k _ _ h = tt

@@ -1,5 +1,5 @@
 -- Laws of the run of a program under directives, of that run alone.
-use Rattle.std.specs.Prelude.{ℕ, ◌≡◌, List, [], ◌∷◌}
+use Rattle.std.specs.Prelude.{ℕ, ◌≡◌, List, [], ◌∷◌, map}
 use Rattle.pw_value.specs.ProgramNames.{start_name}
 use Rattle.pw_db.specs.declared.database.Directives.{Directives}
 use Rattle.pw_db.specs.Database.{IsDatabase}
@@ -11,8 +11,10 @@ use Rattle.pw_trace.specs.Traffic.{Open, active, ObeysTraffic}
 use Rattle.pw_flowrun.specs.Programs.{Program}
 use Rattle.pw_webrun.specs.Programs.{IsProgram, graph_of}
 use Rattle.pw_flowrun.specs.FlowRun.{flow_run}
-use Rattle.pw_webrun.specs.Direction.{web_run, MomentAlike}
+use Rattle.pw_webrun.specs.Direction.{unplaced, directed_functions, with_functions, web_run, MomentAlike}
+use Rattle.pw_webrun.specs.PlacedRun.{Machine, On, steps, start}
 use Rattle.pw_webrun.specs.Laws.{DirectionKeepsRuns}
+use Rattle.pw_directed.specs.Values.{AreFine}
 
 -- the innermost active call calls the function; where none is active it is `$start`
 abbrev pub IsCalledBy : {B V : Type 0} → Graph → List ℕ → List (Open B V) → Type 0
@@ -52,3 +54,10 @@ DirectionRefines =
 
 abbrev pub DirectionRestsOnRuns : Type 0
 DirectionRestsOnRuns = DirectionRefines → DirectionKeepsRuns
+
+-- whatever the directives, the values of each state of a run lead to no function whose address nothing takes, and to no
+-- global that a register may hold
+abbrev pub ValuesAreFine : Type 0
+ValuesAreFine =
+    (p : Program) (d : List (List ℕ × Directives)) (input : List ℕ) → IsProgram p → (n : ℕ) (m : Machine) →
+    steps (with_functions p (map unplaced (directed_functions p d))) n (start (with_functions p (map unplaced (directed_functions p d))) input) ≡ On m → AreFine p m

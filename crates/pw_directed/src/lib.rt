@@ -1,7 +1,13 @@
 //! Laws of the run of a program under directives, of that run alone.
 #![tactic(auto)]
 
-ghost use Rattle.pw_directed.specs.Laws.{CallsAreOfTheGraph, DirectionRestsOnRuns, RegistersAreKept, TrafficIsObeyed};
+ghost use Rattle.pw_directed.specs.Laws.{CallsAreOfTheGraph, DirectionRestsOnRuns, RegistersAreKept, TrafficIsObeyed, ValuesAreFine};
+
+/// No value of a run under directives is a pointer, or a piece of one, to a function whose address nothing takes or to a
+/// global that a register may hold: neither in temporaries, registers and what is saved, nor in objects.
+pub fn directed_values_are_fine()
+    ensures { ValuesAreFine }
+{}
 
 /// Every call of a run under directives is a call of the program's graph: the active function calls by name what the graph
 /// says, and through values only functions whose address is taken and whose shape is the call's.

@@ -1,0 +1,2 @@
+mod Likeness
+mod Stepping

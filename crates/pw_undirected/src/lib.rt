@@ -1,0 +1,20 @@
+//! The law of direction where no global is in a register.
+#![tactic(auto)]
+
+ghost use Rattle.pw_undirected.specs.Laws.{EmptyDirectionKeeps};
+
+use pw_directed::{
+    directed_runs_keep_registers, directed_runs_obey_traffic, directed_values_are_fine,
+};
+use pw_sound::nothing_is_sound;
+
+/// Under the empty database the directed run keeps the flow run, each in one step where the other makes one, with every
+/// global in memory; and it keeps the registers and obeys the law of traffic.
+pub fn undirected_runs_keep_theirs()
+    ensures { EmptyDirectionKeeps }
+{
+    directed_runs_keep_registers();
+    directed_runs_obey_traffic();
+    directed_values_are_fine();
+    nothing_is_sound();
+}
