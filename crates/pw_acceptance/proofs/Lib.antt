@@ -8,3 +8,5 @@ mod Given
 mod Checked
 mod Numbered
 mod Whole
+mod FunctionShapes
+mod References

@@ -43,7 +43,7 @@ use Rattle.pw_acceptance.proofs.Modules.{all_has, IsGiven, Known, of_tree, full,
 
 -- ---- lists
 
-functions_are : (flows : List FlowModule) → map (λ (f : FlowFn). f.name) (flat_map (λ (m : FlowModule). m.functions) flows) ≡ all_functions flows
+pub functions_are : (flows : List FlowModule) → map (λ (f : FlowFn). f.name) (flat_map (λ (m : FlowModule). m.functions) flows) ≡ all_functions flows
 functions_are [] = refl
 functions_are (m ∷ ms) =
     ap (map (λ (f : FlowFn). f.name)) (flat_map-cons (λ (m : FlowModule). m.functions) m ms)
@@ -51,7 +51,7 @@ functions_are (m ∷ ms) =
     ∙ ap (λ (ns : List (List ℕ)). function_names m ++ ns) (functions_are ms)
     ∙ sym (flat_map-cons function_names m ms)
 
-globals_are : (flows : List FlowModule) → map (λ (g : FlowGlobal). g.name) (flat_map (λ (m : FlowModule). m.globals) flows) ≡ all_globals flows
+pub globals_are : (flows : List FlowModule) → map (λ (g : FlowGlobal). g.name) (flat_map (λ (m : FlowModule). m.globals) flows) ≡ all_globals flows
 globals_are [] = refl
 globals_are (m ∷ ms) =
     ap (map (λ (g : FlowGlobal). g.name)) (flat_map-cons (λ (m : FlowModule). m.globals) m ms)
@@ -97,7 +97,7 @@ library_callable_there c (inr (inl e)) = subst (λ (c : Callable). Has (c.name, 
 library_callable_there c (inr (inr (inl e))) = subst (λ (c : Callable). Has (c.name, c.shape) library_declarations) e (inr (inr (inl refl)))
 library_callable_there c (inr (inr (inr h))) = absurd h
 
-library_plain : (d : List ℕ × List ℕ) → Has d library_declarations → HasNoColon d.0 × Begins 102 d.1
+pub library_plain : (d : List ℕ × List ℕ) → Has d library_declarations → HasNoColon d.0 × Begins 102 d.1
 library_plain d (inl e) =
     subst (λ (d : List ℕ × List ℕ). HasNoColon d.0 × Begins 102 d.1) e ((above 101 58 (omega arith), (above 120 58 (omega arith), (above 105 58 (omega arith), (above 116 58 (omega arith), tt)))), (_, refl))
 library_plain d (inr (inl e)) =
@@ -165,7 +165,7 @@ module _ (p : Program) (frame_of : List ℕ → ℕ) (stack : ℕ) (known : (m :
 
   -- ---- each name once
 
-  function_sort : (name : List ℕ) → Has name (all_functions ms) → ((m : ProgramModule) × Has m p.modules × ((g : FunctionValue) × Has g m.tree.functions × (full_name m.name g.name ≡ name))) ⊎ (start_name ≡ name)
+  pub function_sort : (name : List ℕ) → Has name (all_functions ms) → ((m : ProgramModule) × Has m p.modules × ((g : FunctionValue) × Has g m.tree.functions × (full_name m.name g.name ≡ name))) ⊎ (start_name ≡ name)
   function_sort name h =
       let m = has_flat_back function_names name ms h in
       let n = has_map_back flow_of m.0 p.modules m.1 in
@@ -331,7 +331,7 @@ module _ (p : Program) (frame_of : List ℕ → ℕ) (stack : ℕ) (known : (m :
               agree_back f.shape _ (subst (λ (t : List ℕ). Agree t (shape_of m.tree.records (type_of ty) (is_volatile ty))) shape is.agrees)
         ]
 
-    same_module : (m n : ProgramModule) → Has m p.modules → Has n p.modules → n.name ≡ m.name → n ≡ m
+    pub same_module : (m n : ProgramModule) → Has m p.modules → Has n p.modules → n.name ≡ m.name → n ≡ m
     same_module m n h k e = one_named (λ (m : ProgramModule). m.name) p.modules (rising_distinct (map (λ (m : ProgramModule). m.name) p.modules) rising) n m k h e
 
     -- a name of the module's own

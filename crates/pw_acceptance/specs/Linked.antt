@@ -4,16 +4,14 @@ use Rattle.std.specs.List.{AllByRecursion}
 use Rattle.pw_object.specs.declared.object.Object.{Object}
 use Rattle.pw_interface.specs.Interface.{interface}
 use Rattle.pw_program.specs.Linking.{Links}
-use Rattle.pw_flow.specs.declared.flow.Op.{Op}
 use Rattle.pw_flow.specs.declared.flow.FlowGlobal.{FlowGlobal}
-use Rattle.pw_flow.specs.declared.flow.FlowFn.{FlowFn}
 use Rattle.pw_flow.specs.declared.flow.FlowModule.{FlowModule}
 use Rattle.pw_well_typed.specs.Words.{AreWordsInModule}
 use Rattle.pw_within.specs.Names.{AreNumbered}
 use Rattle.pw_cmean.specs.Worlds.{Program, ProgramModule}
 use Rattle.pw_flowrun.specs.Programs as flows
-use Rattle.pw_flowrun.specs.Programs.{functions_of, globals_of}
-use Rattle.pw_webrun.specs.Programs.{NamesRightly, IsItem, ops_of}
+use Rattle.pw_flowrun.specs.Programs.{globals_of}
+use Rattle.pw_webrun.specs.Programs.{IsItem}
 use Rattle.pw_layers.specs.Accepting.{AllShow}
 
 -- objects that show what the modules have, and that link
@@ -37,7 +35,6 @@ AreOfWords p = (m : ProgramModule) → Contains p.modules m → AreWordsInModule
 abbrev pub AreAllNumbered : Program → Type 0
 AreAllNumbered p = (m : ProgramModule) → Contains p.modules m → AreNumbered m.tree
 
--- operations name functions and globals as they want one, and nothing is added to the address of a function
-pub record ReferRightly (p : flows.Program) : Type 0 where
-  pub ops : (f : FlowFn) (o : Op) → Contains (functions_of p) f → Contains (ops_of f) o → NamesRightly p o
-  pub items : (g : FlowGlobal) → Contains (globals_of p) g → AllByRecursion (λ i. IsItem p i.1) g.items
+-- the bytes of items are bytes, and nothing is added to the address of a function
+abbrev pub HaveRightItems : flows.Program → Type 0
+HaveRightItems p = (g : FlowGlobal) → Contains (globals_of p) g → AllByRecursion (λ i. IsItem p i.1) g.items

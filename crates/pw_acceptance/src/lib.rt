@@ -10,18 +10,25 @@ ghost use Rattle.pw_types.specs.Shapes.{shape_of};
 ghost use Rattle.pw_types.specs.TypeTrees.{QType, type_of, is_volatile};
 ghost use Rattle.pw_types.specs.TypedTrees.{Symbol};
 ghost use Rattle.pw_types.specs.WellTyped.{IsFunctionOf};
+ghost use Rattle.pw_flow.specs.declared.flow.FlowFn.{FlowFn};
+ghost use Rattle.pw_flow.specs.declared.flow.Op.{Op};
+ghost use Rattle.pw_flowrun.specs.Programs.{functions_of};
 ghost use Rattle.pw_cmean.specs.Worlds.{Callable, Program, ProgramModule, function_named};
 ghost use Rattle.pw_cmean.specs.Typed.{IsWellTyped};
 ghost use Rattle.pw_lowered.specs.Within.{IsWithin};
-ghost use Rattle.pw_webrun.specs.Programs.{IsProgram};
+ghost use Rattle.pw_webrun.specs.Programs.{IsProgram, NamesRightly, ops_of};
 ghost use Rattle.pw_linkrun.specs.Laws.{AreNamesApart};
 ghost use Rattle.pw_layers.specs.Accepting.{AreFormed, IsWhole, LeadInside};
 ghost use Rattle.pw_layers.specs.Lowering.{AreChecked, DeclareAlike, HaveParts, IsAccepted, flow_program};
 ghost use Rattle.pw_keeps.specs.Lowerable.{IsLowerable};
-ghost use Rattle.pw_acceptance.specs.Linked.{AreAllNumbered, AreLinked, AreNamedPlainly, AreOfWords, ReferRightly};
+ghost use Rattle.pw_acceptance.specs.Linked.{AreAllNumbered, AreLinked, AreNamedPlainly, AreOfWords, HaveRightItems};
 
+use pw_designators::{
+    accepted_functions_are_no_objects, accepted_names_of_objects_are_no_functions,
+};
 use pw_formed::accepted_functions_are_formed;
 use pw_lowered::modules_are_lawful;
+use pw_references::lowered_functions_refer_rightly;
 use pw_tree::words_spell_what_they_are;
 use pw_well_typed::{
     accepted_functions_are_typed, accepted_is_well_typed, accepted_names_are_declared,
@@ -101,11 +108,11 @@ pub fn linked_modules_are_well_typed()
     linked_functions_agree();
 }
 
-/// And their flow graphs make a program, if besides operations and items refer as they are to: each name that they use is defined,
-/// and none twice, the modules are lawful and stand in the order of their names, and there is a `$start`.
-pub fn linked_modules_make_a_program()
-    ensures { (p : Program) (frame_of : List ℕ → ℕ) (stack : ℕ) → AreChecked p → IsRising (map (λ m. m.name) p.modules) → stack ≤ stack_most → AreLinked (flow_program p frame_of stack).modules → AreOfWords p
-        → ReferRightly (flow_program p frame_of stack) → IsProgram (flow_program p frame_of stack) }
+/// And their operations name functions and globals as they want one: what one module takes for a function or an object, the program
+/// has as such.
+pub fn linked_operations_refer_rightly()
+    ensures { (p : Program) (frame_of : List ℕ → ℕ) (stack : ℕ) → AreChecked p → AreNamedPlainly p → IsRising (map (λ m. m.name) p.modules) → AreLinked (flow_program p frame_of stack).modules → AreOfWords p
+        → (f : FlowFn) (o : Op) → Contains (functions_of (flow_program p frame_of stack)) f → Contains (ops_of f) o → NamesRightly (flow_program p frame_of stack) o }
 {
     strings_of_texts();
     words_spell_what_they_are();
@@ -116,14 +123,35 @@ pub fn linked_modules_make_a_program()
     accepted_is_well_typed();
     linked_modules_are_within();
     modules_are_lawful();
+    accepted_names_of_objects_are_no_functions();
+    accepted_functions_are_no_objects();
+    lowered_functions_refer_rightly();
+}
+
+/// And their flow graphs make a program, if besides the items of objects are right: each name that they use is defined, as what it is
+/// used for, and none twice, the modules are lawful and stand in the order of their names, and there is a `$start`.
+pub fn linked_modules_make_a_program()
+    ensures { (p : Program) (frame_of : List ℕ → ℕ) (stack : ℕ) → AreChecked p → AreNamedPlainly p → IsRising (map (λ m. m.name) p.modules) → stack ≤ stack_most → AreLinked (flow_program p frame_of stack).modules → AreOfWords p
+        → HaveRightItems (flow_program p frame_of stack) → IsProgram (flow_program p frame_of stack) }
+{
+    strings_of_texts();
+    words_spell_what_they_are();
+    accepted_names_are_identifiers();
+    accepted_functions_are_typed();
+    accepted_names_are_declared();
+    accepted_strings_are_short();
+    accepted_is_well_typed();
+    linked_modules_are_within();
+    modules_are_lawful();
+    linked_operations_refer_rightly();
 }
 
 /// So checked modules whose objects link are accepted, with all that built programs want of it, but for what is a premise here: that
-/// no module has a colon in its name, that numbers are of 32 bits, that operations and items refer rightly, and that addresses in
-/// initialisers lead inside.
-pub fn checked_is_accepted_but_for_references()
+/// no module has a colon in its name, that numbers are of 32 bits, that items are right, and that addresses in initialisers lead
+/// inside.
+pub fn checked_is_accepted_but_for_items()
     ensures { (p : Program) (frame_of : List ℕ → ℕ) (stack : ℕ) → AreChecked p → AreNamedPlainly p → IsRising (map (λ m. m.name) p.modules) → stack ≤ stack_most → AreLinked (flow_program p frame_of stack).modules
-        → AreOfWords p → ReferRightly (flow_program p frame_of stack) → LeadInside (flow_program p frame_of stack) → IsWhole p frame_of stack }
+        → AreOfWords p → HaveRightItems (flow_program p frame_of stack) → LeadInside (flow_program p frame_of stack) → IsWhole p frame_of stack }
 {
     linked_modules_are_well_typed();
     linked_modules_make_a_program();

@@ -1,0 +1,3 @@
+mod Expressions
+mod Statements
+mod Functions
