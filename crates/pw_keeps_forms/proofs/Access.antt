@@ -210,7 +210,7 @@ none-global : FlowGlobal
 none-global = record { name = []; size = 0; shape = []; kind = None; volatile = false; items = [] }
 
 -- a global is an object that lives, in its own
-global-at : (x : Activation) (numbers : Numbers) (spots : List Spot) (d : Code) (s : State) (m : Machine) (g : List ℕ) (o : ℕ)
+pub global-at : (x : Activation) (numbers : Numbers) (spots : List Spot) (d : Code) (s : State) (m : Machine) (g : List ℕ) (o : ℕ)
     → IsReady x numbers spots d s m → global_number (graphs x.world) g ≡ Some o → IsGlobalAt spots s.objects o
 global-at x numbers spots d s m g o ready number = ready.related.matches.globals o (position-Some (λ (e : FlowGlobal). bytes_eq e.name g) (globals_of (graphs x.world)) o none-global number).0
 

@@ -37,7 +37,7 @@ use Rattle.pw_keeps_forms.proofs.Cond.{cond-valued, first-of, second-of, third-o
 
 -- ---- types whose values are places
 
-no-kind : (ty : CType) → IsOfPlaces ty → kind_of ty ≡ None
+pub no-kind : (ty : CType) → IsOfPlaces ty → kind_of ty ≡ None
 no-kind (Array q k) h = refl
 no-kind (Function r ps) h = refl
 no-kind (Record k) h = refl

@@ -89,10 +89,10 @@ led-of (Led t) = t
 led-of (Kept t) = 0
 led-of (Named g) = 0
 
-led-since : (c : Code) (p : Placed) (target : Target) (t : ℕ) → target ≡ Led t → IsLedSince c p target → (c.temps ≤ t) × (t < p.code.temps)
+pub led-since : (c : Code) (p : Placed) (target : Target) (t : ℕ) → target ≡ Led t → IsLedSince c p target → (c.temps ≤ t) × (t < p.code.temps)
 led-since c p target t e h = subst (λ (u : Target). IsLedSince c p u) e h
 
-result-stands : (spots : List Spot) (v : Value) (t : Option ℕ) (r : ℕ) (n : Machine) → t ≡ Some r → Stands spots v (value_in n.frame (unwrap_or t 0)) → ResultStands spots (Some v) t n
+pub result-stands : (spots : List Spot) (v : Value) (t : Option ℕ) (r : ℕ) (n : Machine) → t ≡ Some r → Stands spots v (value_in n.frame (unwrap_or t 0)) → ResultStands spots (Some v) t n
 result-stands spots v (Some t) r n e h = h
 result-stands spots v None r n e h = absurd (no-temp r e)
   where
@@ -131,7 +131,7 @@ assign-keeps laws bound t ty a b scalar suited first second = λ x numbers spots
     let in-b = before-write (graph_of x) k p.target (temp_of y) y.code whole in
     let slots-a : HaveSlots x (addressed_in a) = λ i e. slots i (Contains-append_left (addressed_in a) (addressed_in b) i e) in
     let slots-b : HaveSlots x (addressed_in b) = λ i e. slots i (Contains-append_right (addressed_in a) (addressed_in b) i e) in
-    let suits = suited x c active typed.1.0 slots-a in
+    let suits = suited x c active typed.1.0 slots-a typed.1.2.lvalue scalar in
     let new = laws.results x b p.code typed.1.1 slots-b (scalar-not-void (type_in b) (subst IsScalar (sym typed.1.4) scalar-ty)) in
     let temp : temp_of y ≡ new.result = ap (λ (r : Option ℕ). unwrap_or r 0) new.is in
     let kind : kind_of U ≡ Some k = ap kind_of same ∙ scalar-of (type_of ty) scalar-ty in

@@ -30,7 +30,6 @@ use Rattle.pw_cmean.specs.Operators as source
 use Rattle.pw_cmean.specs.Operators.{number_for, is_ended, into_one_object, offset_of, same, ordered, compared, on_pointers, outcome_of, arithmetic}
 use Rattle.pw_cmean.specs.Evaluation.{site, used, answer_of}
 use Rattle.pw_cmean.specs.SourceRun.{calls}
-use Rattle.pw_cmean.specs.Typed.{IsValueOf}
 use Rattle.pw_flowrun.specs.Commands.{command}
 use Rattle.pw_flowrun.specs.Values as flow
 use Rattle.pw_flowrun.specs.FlowRun as run
@@ -41,6 +40,7 @@ use Rattle.pw_keeps.specs.Containing.{ContainsCode}
 use Rattle.pw_keeps.specs.Meeting.{Reaches, Meets}
 use Rattle.pw_keeps.specs.Expressions.{assigned_in, IsReady, HasValue, HasResult, ExpressionKeeps}
 use Rattle.pw_keeps_forms.specs.Accesses.{IsComparison}
+use Rattle.pw_keeps_forms.specs.Operands.{BothStand, Applies}
 use Rattle.pw_keeps_forms.proofs.Bytes.{same-object}
 use Rattle.pw_keeps_forms.proofs.Laws.{Laws}
 use Rattle.pw_keeps_forms.proofs.Simulation.{meets-then, meets-less, judged}
@@ -50,19 +50,6 @@ use Rattle.pw_keeps_forms.proofs.Branches.{somewhere}
 use Rattle.pw_keeps_forms.proofs.Truths.{truth-is, scalar-not-void}
 
 -- ---- two operands
-
--- what is known behind both operands: the first one's value still stands
-pub record BothStand (x : Activation) (numbers : Numbers) (spots : List Spot) (p q : ℕ) (d : Code) (v w : Value) (u : State) (n : Machine) : Type 0 where
-  pub ready : IsReady x numbers spots d u n
-  pub first : Stands spots v (value_in n.frame p)
-  pub second : Stands spots w (value_in n.frame q)
-
--- What a binary operator of operands of these types promises behind both of them.
-abbrev pub Applies : ℕ → BinaryOperator → CType → CType → Type 0
-Applies bound o left right =
-    (x : Activation) (numbers : Numbers) (spots : List Spot) (at : Site) (p q : ℕ) (d : Code) (v w : Value) (u : State) (n : Machine) →
-    IsValueOf left v → IsValueOf right w → BothStand x numbers spots p q d v w u n → ContainsCode (graph_of x) (combined x.home.tree.records o left right p q d).code →
-    Meets x.world bound n ((source.binary at x.home.tree.records o left right v w >>= λ result. give (Some result)) u) (HasValue x numbers spots [] (combined x.home.tree.records o left right p q d) d u n)
 
 abbrev pub HasOperands : BinaryOperator → CType → CType → Type 0
 HasOperands o left right =

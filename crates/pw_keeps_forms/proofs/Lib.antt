@@ -21,3 +21,10 @@ mod Globals
 mod Owning
 mod Symbols
 mod Numbers
+mod Compound
+mod Steps
+mod Strings
+mod Copies
+mod Advances
+mod Sums
+mod Plain

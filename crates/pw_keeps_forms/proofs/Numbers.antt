@@ -1,9 +1,7 @@
 -- Operators and conversions on integers, as compound assignments and steps use them.
-use Rattle.std.proofs.Common.{◌≡◌, ◌≢◌, ℕ, zero, suc, ◌+◌, ◌*◌, ◌%◌, ◌^◌, ◌<◌, ◌≤◌, ◌==◌, ◌&&◌, inl, inr, Bool, true, false, not, true≢false, if◌then◌else◌, Option, Some, None, unwrap_or, Result, Ok, Err, List, [], ◌∷◌, ◌++◌, Contains, All, refl, ap, ap₂, sym, ◌∙◌, subst, arith}
+use Rattle.std.proofs.Common.{◌≡◌, ℕ, suc, ◌+◌, ◌*◌, ◌%◌, ◌^◌, ◌<◌, ◌==◌, ◌&&◌, Bool, true, false, not, if◌then◌else◌, Option, Some, None, Result, Ok, Err, List, [], ◌∷◌, All, refl, ap, ap₂, sym, ◌∙◌, subst, arith}
 use Rattle.std.proofs.lemmas.Bool.Decides.{nat_tests}
 use Rattle.std.proofs.lemmas.Option.{same_Some}
-use Rattle.pw_value.specs.declared.value.Kind.{Kind}
-use Rattle.pw_value.specs.declared.value.Kind.TheVariants.{W32}
 use Rattle.pw_value.specs.declared.value.Byte.{Byte}
 use Rattle.pw_value.specs.declared.value.Byte.TheVariants as Y
 use Rattle.pw_value.specs.declared.value.Value.{Value}
@@ -13,20 +11,20 @@ use Rattle.pw_value.specs.declared.words.WordFault.{WordFault}
 use Rattle.pw_value.specs.declared.words.WordFault.TheVariants.{Overflow, ZeroDivisor, ShiftCount}
 use Rattle.pw_value.specs.Values.{extended, scalar_in}
 use Rattle.pw_value.specs.Objects.{object_at, byte_at, bytes_from}
-use Rattle.pw_types.specs.TypeTrees.{CType, Void, Int, Pointer as PointerTo, QType, Qualified, RecordValue}
+use Rattle.pw_types.specs.TypeTrees.{Int, Qualified}
 use Rattle.pw_types.specs.Conversions.{size_of_kind, is_signed_kind, promoted, converted}
 use Rattle.pw_types.specs.declared.kind.IntKind.{IntKind}
 use Rattle.pw_types.specs.declared.kind.IntKind.TheVariants as K
 use Rattle.pw_types.specs.declared.tree.BinaryOperator.{BinaryOperator}
 use Rattle.pw_types.specs.declared.tree.BinaryOperator.TheVariants as B
-use Rattle.pw_types.specs.TypedTrees.{Expression, Node, Number, Binary}
-use Rattle.pw_types.specs.WellTyped.{IsTyped, HasForm, FitsBinary, FitsCompound}
+use Rattle.pw_types.specs.TypedTrees.{Expression, Node, Number, Binary, Cast}
+use Rattle.pw_types.specs.WellTyped.{IsTyped, HasForm, FitsBinary}
 use Rattle.pw_flow.specs.declared.flow.Op.{Op}
 use Rattle.pw_flow.specs.declared.flow.Op.TheVariants as op
 use Rattle.pw_flow.specs.declared.flow.ExtKind.{ExtKind}
 use Rattle.pw_flow.specs.declared.flow.FlowFn.{FlowFn}
 use Rattle.pw_lower.specs.declared.code.Code.{Code}
-use Rattle.pw_lower.specs.Codes.{Lowered, temp_of, value_is, fresh}
+use Rattle.pw_lower.specs.Codes.{Lowered, fresh}
 use Rattle.pw_lower.specs.Operators as lowering
 use Rattle.pw_lower.specs.Operators.{kind_of_int, extension, operation_of, is_turned, combined, sum_or}
 use Rattle.pw_cmean.specs.Acts.{State, Site, Act, Gives, give, stop, wrong, undefined, look, told, judge, ◌>>=◌, go_on}
@@ -36,8 +34,7 @@ use Rattle.pw_cmean.specs.Undefined.{◌when◌, least}
 use Rattle.pw_cmean.specs.declared.undefined.Undef.TheVariants as U
 use Rattle.pw_cmean.specs.Operators as source
 use Rattle.pw_cmean.specs.Operators.{is_piece, outcome_of, arithmetic, convert}
-use Rattle.pw_cmean.specs.Evaluation.{Env, site, used, answer_of}
-use Rattle.pw_cmean.specs.SourceRun.{calls}
+use Rattle.pw_cmean.specs.Evaluation.{site, used, cast, answer_of}
 use Rattle.pw_cmean.specs.Typed.{IsNumberOf, IsResultOf, IsByte, HoldsBytes, IfGives}
 use Rattle.pw_flowrun.specs.Commands as commands
 use Rattle.pw_flowrun.specs.Commands.{command}
@@ -51,12 +48,13 @@ use Rattle.pw_keeps.specs.Meeting.{Meets}
 use Rattle.pw_keeps.specs.Expressions.{IsReady, HasValue}
 use Rattle.pw_keeps_laws.specs.Operations.{extended_by, operated}
 use Rattle.pw_keeps_forms.proofs.Laws.{Laws}
-use Rattle.pw_keeps_forms.proofs.Simulation.{meets-then, meets-here, judged}
+use Rattle.pw_keeps_forms.proofs.Simulation.{meets-here, judged}
 use Rattle.pw_keeps_forms.proofs.Kit.{before-fresh, nothing-done}
 use Rattle.pw_keeps_forms.proofs.Bytes.{is-byte}
 use Rattle.pw_keeps_forms.proofs.Memory.{bytes-of}
 use Rattle.pw_keeps_forms.proofs.Access.{first-false}
-use Rattle.pw_keeps_forms.proofs.Compare.{BothStand, two-give, ordered-code}
+use Rattle.pw_keeps_forms.specs.Operands.{BothStand}
+use Rattle.pw_keeps_forms.proofs.Compare.{two-give, ordered-code}
 
 -- the laws of numbers
 pub record NumberLaws : Type 0 where
@@ -189,16 +187,20 @@ extends laws bound x numbers spots (Some k) t d u n v w ready holds is e st =
     laws.fresh x numbers spots [] d u n (λ i. op.Ext k i t) w w holds ready st
     (λ rest. ap (λ (z : Option Value). run.obeys (graphs x.world) (commands.give d.temps z) (record n { frame = record n.frame { ops = rest } })) (ap (λ (z : Value). flow.extension k z) is ∙ e))
 
+with-equal : (x : Activation) (bound : ℕ) (n : Machine) (w : Value) (u : State) (Q : Value → State → Machine → Type 0) → Meets x.world bound n (Gives w u) Q → Meets x.world bound n (Gives w u) (λ r v q. Q r v q × (r ≡ w))
+with-equal x bound n w u Q r = record { count = r.count; machine = r.machine; comes = r.comes; holds = (r.holds, refl) }
+
 -- a number of one type as one of another
 pub converts :
     Laws → NumberLaws → (bound : ℕ) (x : Activation) (numbers : Numbers) (spots : List Spot) (at : Site) (from to : IntKind) (t : ℕ) (d : Code) (i : ℕ) (u : State) (n : Machine)
     → IsNumberOf from (V.Num i) → IsReady x numbers spots d u n → ContainsCode (graph_of x) (lowering.extended (extension (kind_of_int from) (kind_of_int to)) t d).code → value_in n.frame t ≡ V.Num i
-    → Meets x.world bound n (convert at (Int to) (V.Num i) u) (λ r. HasValue x numbers spots [] (lowering.extended (extension (kind_of_int from) (kind_of_int to)) t d) d u n (Some r))
+    → Meets x.world bound n (convert at (Int to) (V.Num i) u) (λ r v q. HasValue x numbers spots [] (lowering.extended (extension (kind_of_int from) (kind_of_int to)) t d) d u n (Some r) v q × (r ≡ converted (V.Num i) to))
 unfolding convert give
 converts laws nums bound x numbers spots at from to t d i u n typed ready holds is =
     judged x.world bound n at (U.PointerBytes when (is_piece (V.Num i) && not (size_of_kind to == 1)) ∷ []) _ u _ (λ none.
-    extends laws bound x numbers spots (extension (kind_of_int from) (kind_of_int to)) t d u n (V.Num i) (converted (V.Num i) to) ready holds is
-    (nums.conversions from to (V.Num i) typed (first-false U.PointerBytes (is_piece (V.Num i) && not (size_of_kind to == 1)) [] none).0) refl)
+    with-equal x bound n (converted (V.Num i) to) u (λ r. HasValue x numbers spots [] (lowering.extended (extension (kind_of_int from) (kind_of_int to)) t d) d u n (Some r))
+    (extends laws bound x numbers spots (extension (kind_of_int from) (kind_of_int to)) t d u n (V.Num i) (converted (V.Num i) to) ready holds is
+    (nums.conversions from to (V.Num i) typed (first-false U.PointerBytes (is_piece (V.Num i) && not (size_of_kind to == 1)) [] none).0) refl))
 
 -- what an operator gives on numbers of a type is one of the type
 pub result-number :
@@ -210,6 +212,13 @@ result-number laws x numbers s o j k a b i active bytes fits ta tb e =
     let form : Expression = Node 0 (Qualified (Int j) false false) (Binary o (Node 0 (Qualified (Int j) false false) (Number a)) (Node 0 (Qualified (Int k) false false) (Number b))) in
     let h = laws.types 0 form (env_of x numbers) s active.world.program.accepted.typed active.home (tt, ((tt, (word-of j a ta, ta)), (tt, (word-of k b tb, tb)), fits)) bytes in
     (subst (λ (r : Result ℕ WordFault). IfGives (IsResultOf (Int j)) ((outcome_of at r >>= λ result. give (Some result)) s)) e h).0
+
+-- and what a conversion gives is one of its type
+pub converted-number : Laws → (x : Activation) (numbers : Numbers) (s : State) (from to : IntKind) (i : ℕ) → IsActivation x → HoldsBytes s → IsNumberOf from (V.Num i) → IsNumberOf to (converted (V.Num i) to)
+unfolding answer_of used cast convert judge told give ◌>>=◌ go_on IsTyped HasForm
+converted-number laws x numbers s from to i active bytes typed =
+    let form : Expression = Node 0 (Qualified (Int to) false false) (Cast (Node 0 (Qualified (Int from) false false) (Number i))) in
+    (laws.types 0 form (env_of x numbers) s active.world.program.accepted.typed active.home (tt, ((tt, (word-of from i typed, typed)), tt)) bytes).0
 
 -- ---- what is read of an integer type is a word
 

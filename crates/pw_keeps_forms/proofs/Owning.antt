@@ -1,8 +1,7 @@
 -- A load or store of a global that an expression names is of the global's own kind.
-use Rattle.std.proofs.Common.{◌≡◌, ◌≢◌, ℕ, zero, suc, ◌+◌, ◌<◌, ◌≤◌, inl, inr, Bool, true, false, true≢false, cond, decimal, nat_lt, if◌then◌else◌, Option, Some, None, option_map, List, [], ◌∷◌, ◌++◌, length, map, position, find, slice_get, get_or, slice_index_or, Contains, All, refl, ap, ap₂, sym, ◌∙◌, subst, arith}
+use Rattle.std.proofs.Common.{◌≡◌, ◌≢◌, ℕ, zero, suc, inl, inr, Bool, true, false, true≢false, cond, decimal, nat_lt, Option, Some, None, List, [], ◌∷◌, ◌++◌, length, map, slice_get, get_or, Contains, refl, ap, sym, ◌∙◌, subst, arith}
 use Rattle.std.specs.Prelude.{bytes_eq}
 use Rattle.std.specs.List.{flat_map, position_or_len, AllByRecursion}
-use Rattle.std.proofs.lemmas.Bool.{cases_lt}
 use Rattle.std.proofs.lemmas.List.Elements.{Contains-append_left, Contains-append_right, Contains-append_cases, Contains-get_or, All-contains, All-from_recursion}
 use Rattle.std.proofs.lemmas.List.Folds.{find_at}
 use Rattle.std.proofs.lemmas.List.Quantifiers.{position-Some}
@@ -12,26 +11,24 @@ use denote.Enum.Bare.{sameb}
 use Rattle.pw_value.specs.contracts.value.Kind.{the_type as the_kinds}
 use Rattle.pw_value.specs.declared.value.Kind.{Kind}
 use Rattle.pw_value.specs.declared.value.Kind.TheVariants.{S8, U8, S16, U16, W32}
-use Rattle.pw_types.specs.TypeTrees.{CType, QType, type_of, is_volatile}
+use Rattle.pw_types.specs.TypeTrees.{QType, type_of, is_volatile}
 use Rattle.pw_types.specs.TypedModules.{WellTyped, IsGlobal, IsDeclaredIfExternal}
 use Rattle.pw_types.specs.Shapes.{shape_of}
 use Rattle.pw_types.specs.FullNames.{full_name}
-use Rattle.pw_types.specs.TypedTrees.{Symbol, External, Internal, Hidden, Expression, Node, Global, GlobalValue, DeclaredValue}
-use Rattle.pw_types.specs.WellTyped.{IsTyped, HasForm, IsObject, IsDeclared, IsDefined}
+use Rattle.pw_types.specs.TypedTrees.{Symbol, External, Internal, Hidden, GlobalValue, DeclaredValue}
+use Rattle.pw_types.specs.WellTyped.{IsObject, IsDeclared, IsDefined}
 use Rattle.pw_lower.specs.Operators.{kind_of}
 use Rattle.pw_lower.specs.Modules.{lowered, lowered_global, lowered_declared}
-use Rattle.pw_lowered.specs.Within.{IsWithin, IsLetter, AreLetters}
+use Rattle.pw_lowered.specs.Within.{IsLetter, AreLetters}
 use Rattle.pw_flow.specs.declared.flow.FlowGlobal.{FlowGlobal}
 use Rattle.pw_flow.specs.declared.flow.FlowModule.{FlowModule}
 use Rattle.pw_flow.specs.ValidFlow.{AreDistinct}
-use Rattle.pw_cmean.specs.Worlds as source
-use Rattle.pw_cmean.specs.Worlds.{ProgramModule, World}
+use Rattle.pw_cmean.specs.Worlds.{ProgramModule}
 use Rattle.pw_flowrun.specs.Programs as flow
 use Rattle.pw_flowrun.specs.Programs.{globals_of, names_of}
-use Rattle.pw_flowrun.specs.FlowRun.{is_own_kind}
 use Rattle.pw_keeps.specs.Activations.{Activation, IsActivation, graphs}
 use Rattle.pw_keeps_forms.specs.Accesses.{SuitsType}
-use Rattle.pw_keeps_forms.proofs.Globals.{same-number, kinds-agree}
+use Rattle.pw_keeps_forms.proofs.Globals.{kinds-agree}
 use Rattle.pw_lower.specs.declared.place.Target.TheVariants.{Named}
 
 -- ---- elements

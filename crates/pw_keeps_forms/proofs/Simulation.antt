@@ -106,3 +106,13 @@ judged {B} w n m at findings next s R f = by_test (least findings) refl
     by_test : (r : Option Undef) → least findings ≡ r → Meets w n m ((told at r >>= λ done. next) s) R
     by_test None e = f e
     by_test (Some o) e = tt
+
+-- with what comes behind it
+pub judged-then : {B C : Type 0} (w : World) (n : ℕ) (m : Machine) (at : Site) (findings : List Finding) (mid : Act B) (next : B → Act C) (s : State) (R : C → State → Machine → Type 0)
+    → (least findings ≡ None → Meets w n m ((mid >>= next) s) R) → Meets w n m (((judge at findings >>= λ done. mid) >>= next) s) R
+unfolding judge told undefined give stop ◌>>=◌ go_on
+judged-then {B} {C} w n m at findings mid next s R f = by_test (least findings) refl
+  where
+    by_test : (r : Option Undef) → least findings ≡ r → Meets w n m (((told at r >>= λ done. mid) >>= next) s) R
+    by_test None e = f e
+    by_test (Some o) e = tt

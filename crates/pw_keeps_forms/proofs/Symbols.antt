@@ -1,5 +1,5 @@
 -- Globals as values and as places: each is the object of its number on both sides.
-use Rattle.std.proofs.Common.{◌≡◌, ◌≢◌, ℕ, zero, suc, ◌+◌, ◌<◌, ◌≤◌, inl, inr, Bool, true, false, true≢false, not, cond, nat_lt, lt-ltb, if◌then◌else◌, Option, Some, None, option_map, List, [], ◌∷◌, ◌++◌, length, map, position, find, get_or, Contains, refl, ap, sym, ◌∙◌, subst, arith}
+use Rattle.std.proofs.Common.{◌≡◌, ℕ, suc, ◌+◌, ◌<◌, inl, inr, Bool, true, false, true≢false, not, cond, lt-ltb, Option, Some, None, option_map, List, [], ◌∷◌, ◌++◌, length, map, position, find, Contains, refl, ap, sym, ◌∙◌, subst, arith}
 use Rattle.std.specs.Prelude.{bytes_eq}
 use Rattle.std.specs.List.{flat_map, prefix_len, position_or_len}
 use Rattle.std.proofs.lemmas.Option.{same_Some}
@@ -7,16 +7,15 @@ use Rattle.std.proofs.lemmas.List.Elements.{Contains-append_cases, All-contains}
 use Rattle.std.proofs.lemmas.Slice.Eq.{bytes_eq-Decides}
 use Rattle.pw_value.specs.declared.value.Kind.{Kind}
 use Rattle.pw_value.specs.declared.value.Kind.TheVariants.{W32}
-use Rattle.pw_value.specs.declared.value.Value.{Value}
 use Rattle.pw_value.specs.declared.value.Value.TheVariants as V
 use Rattle.pw_value.specs.declared.value.Pointer.{Pointer}
 use Rattle.pw_value.specs.declared.value.Pointer.TheVariants as P
 use Rattle.pw_types.specs.TypeTrees.{CType, Void, Int, Pointer as PointerTo, Array, Function, Record, QType, type_of, is_volatile}
-use Rattle.pw_types.specs.TypedModules.{WellTyped, IsFunction, IsDeclaredIfExternal}
+use Rattle.pw_types.specs.TypedModules.{IsFunction, IsDeclaredIfExternal}
 use Rattle.pw_types.specs.FullNames.{full_name}
 use Rattle.pw_types.specs.Shapes.{shape_of}
-use Rattle.pw_types.specs.TypedTrees.{Symbol, External, Internal, Hidden, Expression, Node, Global, FunctionValue}
-use Rattle.pw_types.specs.WellTyped.{IsTyped, HasForm, IsObject, IsDeclared, IsDefined, IsScalar, type_in}
+use Rattle.pw_types.specs.TypedTrees.{Symbol, External, Internal, Hidden, Node, Global, FunctionValue}
+use Rattle.pw_types.specs.WellTyped.{IsTyped, HasForm, IsObject, IsDeclared, IsDefined, IsScalar}
 use Rattle.pw_lower.specs.declared.code.Code.{Code}
 use Rattle.pw_lower.specs.Operators.{kind_of, kind_of_int}
 use Rattle.pw_lower.specs.declared.place.Target.TheVariants.{Named}
@@ -26,10 +25,9 @@ use Rattle.pw_flow.specs.declared.flow.FlowGlobal.{FlowGlobal}
 use Rattle.pw_cmean.specs.Worlds as source
 use Rattle.pw_cmean.specs.Worlds.{ProgramModule, World, Callable, callable, library}
 use Rattle.pw_cmean.specs.Access.{load, fetch}
-use Rattle.pw_cmean.specs.Acts.{State, Site, Gives, give, stop, wrong, need, ◌>>=◌, go_on}
+use Rattle.pw_cmean.specs.Acts.{State, Site, give, stop, wrong, need, ◌>>=◌, go_on}
 use Rattle.pw_cmean.specs.Evaluation as meaning
 use Rattle.pw_cmean.specs.Evaluation.{site, symbol_place, value_by, answer_of, place_of}
-use Rattle.pw_cmean.specs.SourceRun.{calls}
 use Rattle.pw_flowrun.specs.FlowRun.{Machine}
 use Rattle.pw_keeps.specs.Standing.{Spot}
 use Rattle.pw_keeps.specs.Containing.{ContainsCode}
@@ -43,7 +41,7 @@ use Rattle.pw_keeps_forms.proofs.Access.{reads}
 use Rattle.pw_keeps_forms.proofs.Assign.{scalar-of}
 use Rattle.pw_flowrun.specs.Programs as flow
 use Rattle.pw_flowrun.specs.Programs.{Library, library_shape, globals_of}
-use Rattle.pw_keeps.specs.Activations.{Activation, IsActivation, Numbers, graphs, graph_of, home_of, env_of}
+use Rattle.pw_keeps.specs.Activations.{Activation, IsActivation, Numbers, graphs, graph_of, env_of}
 use Rattle.pw_keeps_forms.proofs.Globals.{same-number, agree-kinds, shape-kind, kinds-agree, kind_shape, begins-102}
 use Rattle.pw_keeps_forms.proofs.Owning.{in-map, of-map, from-cons, in-head, in-tail, to-globals, global-suits, declares, declared-kinds, letters-of, shared, typed-at}
 
@@ -60,7 +58,7 @@ passes t (y ∷ ys) x h e =
     bounded (t y) (prefix_len (λ y. not (t y)) ys) (length ys) (λ no.
     from-cons (prefix_len (λ y. not (t y)) ys < length ys) y x ys (λ same. absurd (true≢false (sym e ∙ ap t (sym same) ∙ no))) (λ later. passes t ys x later e) h)
 
-position-there : {A : Type 0} (t : A → Bool) (xs : List A) (x : A) → Contains xs x → t x ≡ true → (o : ℕ) × (position t xs ≡ Some o)
+pub position-there : {A : Type 0} (t : A → Bool) (xs : List A) (x : A) → Contains xs x → t x ≡ true → (o : ℕ) × (position t xs ≡ Some o)
 position-there t xs x h e =
     let n = position_or_len t xs in
     (n, ap (λ (b : Bool). cond b (Some n) None) (lt-ltb n (length xs) (passes t xs x h e)))
@@ -146,7 +144,7 @@ no-function x n y k f active d kind found =
 
 -- ---- the number of an object
 
-abbrev object-or : World → List ℕ → Option ℕ → Option Pointer
+abbrev pub object-or : World → List ℕ → Option ℕ → Option Pointer
 object-or world name (Some number) = Some (P.Object number 0)
 object-or world name None = option_map (λ f. P.Function (source.function_number world.program f.name)) (source.function_named world.program name)
 

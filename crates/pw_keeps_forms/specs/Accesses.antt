@@ -1,5 +1,5 @@
 -- Reading and writing scalars where the place of an lvalue is: the statements of laws.
-use Rattle.std.specs.Prelude.{ℕ, ◌≡◌, ◌<◌, ◌≤◌, true, Some, List, [], slice_get, Contains}
+use Rattle.std.specs.Prelude.{ℕ, ◌≡◌, ◌^◌, ◌<◌, ◌≤◌, pos, length, true, Some, List, [], slice_get, Contains}
 use Rattle.pw_value.specs.declared.value.Kind.{Kind}
 use Rattle.pw_value.specs.declared.value.Value.{Value}
 use Rattle.pw_types.specs.TypeTrees.{CType, type_of}
@@ -11,12 +11,14 @@ use Rattle.pw_lower.specs.declared.code.Code.{Code}
 use Rattle.pw_lower.specs.declared.place.LocalPlace.TheVariants.{Temp}
 use Rattle.pw_lower.specs.declared.place.Target.{Target}
 use Rattle.pw_lower.specs.declared.place.Target.TheVariants.{Kept, Named, Led}
-use Rattle.pw_lower.specs.Codes.{lowered_as}
+use Rattle.pw_value.specs.Objects.{object_at}
+use Rattle.pw_lower.specs.Codes.{Lowered, lowered_as, temp_of}
 use Rattle.pw_lower.specs.Operators.{kind_of}
 use Rattle.pw_lower.specs.Places.{addressed_in}
-use Rattle.pw_lower.specs.Expressions.{Placed, read_target, write, lower, place}
+use Rattle.pw_lower.specs.Expressions.{Placed, read_target, write, further, lower, place}
 use Rattle.pw_cmean.specs.Acts.{State, Site}
 use Rattle.pw_cmean.specs.Access.{Purpose, load, store}
+use Rattle.pw_cmean.specs.Operators.{advance}
 use Rattle.pw_cmean.specs.Evaluation.{place_of}
 use Rattle.pw_cmean.specs.SourceRun.{calls}
 use Rattle.pw_cmean.specs.Typed.{IsValueOf}
@@ -26,7 +28,7 @@ use Rattle.pw_keeps.specs.Standing.{Spot, Stands}
 use Rattle.pw_keeps.specs.Activations.{Activation, IsActivation, Numbers, graphs, graph_of, home_of, env_of, place_in, local_temps, HaveSlots}
 use Rattle.pw_keeps.specs.Containing.{ContainsCode}
 use Rattle.pw_keeps.specs.Meeting.{Meets}
-use Rattle.pw_keeps.specs.Expressions.{local_in, IsReady, HasValue, HasResult, HasTarget, TargetStands, IsOfPlaces}
+use Rattle.pw_keeps.specs.Expressions.{local_in, IsReady, HasValue, HasResult, HasTarget, ResultStands, TargetStands, IsOfPlaces}
 
 -- A local that is a target has the type; a global that is one, where there is one of the name, has the type's kind.
 abbrev pub SuitsType : Activation → CType → Target → Type 0
@@ -94,7 +96,9 @@ pub record TargetSuits (x : Activation) (a : Expression) (c : Code) : Type 0 whe
   pub covers : Covers x (local_in a) (place (home_of x) a c).target
 
 abbrev pub TargetsSuit : Expression → Type 0
-TargetsSuit a = (x : Activation) (c : Code) → IsActivation x → IsTyped x.home.tree x.function.locals a → HaveSlots x (addressed_in a) → TargetSuits x a c
+TargetsSuit a =
+    (x : Activation) (c : Code) → IsActivation x → IsTyped x.home.tree x.function.locals a → HaveSlots x (addressed_in a) → IsLvalue a → IsScalar (type_in a) →
+    TargetSuits x a c
 
 -- the promise of the place of one array, function, structure or union
 abbrev pub AddressKeeps : ℕ → Expression → Type 0
@@ -103,3 +107,17 @@ AddressKeeps bound a =
     IsActivation x → IsTyped x.home.tree x.function.locals a → HaveSlots x (addressed_in a) → IsOfPlaces (type_in a) →
     ContainsCode (graph_of x) (lower (home_of x) a c).code → IsReady x numbers spots c s m →
     Meets x.world bound m (place_of a (calls x.world bound) (env_of x numbers) s) (λ v. HasResult x numbers spots a c s m (Some v))
+
+-- ---- pointers that move
+
+-- the objects that live have fewer bytes than half of the words
+abbrev pub AreSmall : State → Type 0
+AreSmall s = (o : ℕ) → (object_at s.objects o).live ≡ true → length (object_at s.objects o).bytes < 2 ^ 31
+
+-- A place some bytes further, where objects are small.
+abbrev pub AdvancesKeep : Type 0
+AdvancesKeep =
+    (bound : ℕ) (x : Activation) (numbers : Numbers) (spots : List Spot) (at : Site) (offset : ℕ) (y : Lowered) (s : State) (m : Machine) (place : Value) →
+    IsReady x numbers spots y.code s m → AreSmall s → temp_of y < y.code.temps → ContainsCode (graph_of x) (further offset y).code →
+    ResultStands spots (Some place) y.temp m →
+    Meets x.world bound m (advance at place (pos offset) s) (λ v. HasValue x numbers spots [] (further offset y) y.code s m (Some v))

@@ -3,19 +3,25 @@
 #![tactic(auto)]
 
 ghost use Rattle.std.specs.Prelude.{◌≡◌, ℕ};
-ghost use Rattle.pw_types.specs.TypeTrees.{Pointer, QType, type_of};
-ghost use Rattle.pw_types.specs.TypedTrees.{Symbol, Expression, Node, Local, Global, Deref, Unary, Binary, Logic, Cond, Comma, Assign, Decay, Address};
+ghost use Rattle.pw_types.specs.TypeTrees.{CType, Int, Pointer, QType, Record, type_of};
+ghost use Rattle.pw_types.specs.declared.kind.IntKind.{IntKind};
+ghost use Rattle.pw_types.specs.declared.tree.StepOperator.{StepOperator};
+ghost use Rattle.pw_types.specs.TypedTrees.{Symbol, Expression, Node, Str, Local, Global, Deref, Unary, Binary, Logic, Cond, Comma, Assign, Compound, Step, Decay, Address};
 ghost use Rattle.pw_types.specs.WellTyped.{IsScalar, type_in};
 ghost use Rattle.pw_types.specs.declared.tree.BinaryOperator.{BinaryOperator};
+ghost use Rattle.pw_types.specs.declared.tree.BinaryOperator.TheVariants.{Add, Subtract};
 ghost use Rattle.pw_types.specs.declared.tree.LogicOperator.TheVariants.{And, Or};
 ghost use Rattle.pw_types.specs.declared.tree.UnaryOperator.TheVariants.{Not};
 ghost use Rattle.pw_keeps.specs.Expressions.{ExpressionKeeps, ExpressionsKeep, ArgumentsKeep, ConditionsKeep};
-ghost use Rattle.pw_keeps_forms.specs.Accesses.{AddressKeeps, IsComparison, LvalueKeeps, ReadsKeep, TargetsSuit, WritesKeep};
+ghost use Rattle.pw_keeps_forms.specs.Accesses.{AddressKeeps, AdvancesKeep, IsComparison, LvalueKeeps, ReadsKeep, TargetsSuit, WritesKeep};
+ghost use Rattle.pw_keeps_forms.specs.Operands.{AppliesToSmall};
+ghost use Rattle.pw_keeps_forms.specs.Plain.{IsPlain};
 
 use pw_cmean::laws::values_have_types;
 use pw_keeps::graphs_contain_the_parts;
 use pw_keeps_laws::{
-    locals_come_first, machines_step_on, operations_step, results_are_new, stretches_last,
+    conversions_agree, forms_keep, locals_come_first, machines_step_on, operations_step,
+    operators_agree, results_are_new, stretches_last,
 };
 use pw_lower_laws::{functions_stay_in_range, later_code_keeps};
 use pw_value::laws::{decoding_gives_back, pointers_give_back, ranges_of_bytes};
@@ -101,9 +107,9 @@ pub fn tests_keep()
     ranges_of_bytes();
 }
 
-/// Places of arrays, functions, structures and unions that keep their promise: locals, what a pointer leads to, behind
-/// a comma, and of one of two operands. So do the operators that take a place for a value: decay, and `&` of a local
-/// or of what a pointer leads to. And arguments do, where all expressions do.
+/// Places of arrays, structures and unions that keep their promise: locals, globals, strings, what a pointer leads to,
+/// behind a comma, and of one of two operands. So do the operators that take a place for a value: decay, and `&` of a
+/// local, a global, a string, or of what a pointer leads to. And arguments do, where all expressions do.
 pub fn addresses_keep()
     ensures locals { (bound t : ℕ) (ty : QType) (k : ℕ) → AddressKeeps bound (Node t ty (Local k)) }
     ensures derefs { (bound t : ℕ) (ty : QType) (a : Expression) →
@@ -114,12 +120,90 @@ pub fn addresses_keep()
         AddressKeeps bound b → AddressKeeps bound e → AddressKeeps bound (Node t ty (Cond a b e)) }
     ensures decays { (bound t : ℕ) (ty : QType) (a : Expression) →
         AddressKeeps bound a → ExpressionKeeps bound (Node t ty (Decay a)) }
+    ensures strings { (bound t : ℕ) (ty : QType) (k : ℕ) → AddressKeeps bound (Node t ty (Str k)) }
+    ensures globals { (bound t : ℕ) (ty : QType) (symbol : Symbol) → AddressKeeps bound (Node t ty (Global symbol)) }
+    ensures of_globals { (bound t u : ℕ) (ty own : QType) (symbol : Symbol) →
+        ExpressionKeeps bound (Node t ty (Address (Node u own (Global symbol)))) }
+    ensures of_strings { (bound t u : ℕ) (ty own : QType) (k : ℕ) →
+        ExpressionKeeps bound (Node t ty (Address (Node u own (Str k)))) }
     ensures of_locals { (bound t u : ℕ) (ty own : QType) (k : ℕ) →
         ExpressionKeeps bound (Node t ty (Address (Node u own (Local k)))) }
     ensures of_derefs { (bound t u : ℕ) (ty own : QType) (a : Expression) →
         ExpressionKeeps bound a → ExpressionKeeps bound (Node t ty (Address (Node u own (Deref a)))) }
     ensures arguments { (bound : ℕ) → ExpressionsKeep bound → ArgumentsKeep bound }
 {
+    machines_step_on();
+    operations_step();
+    stretches_last();
+    locals_come_first();
+    results_are_new();
+    later_code_keeps();
+    graphs_contain_the_parts();
+    values_have_types();
+    decoding_gives_back();
+    pointers_give_back();
+    ranges_of_bytes();
+}
+
+/// Compound assignments, `++` and `--` keep their promise on integers, where the place and the right operand do;
+/// and so do assignments of structures and unions, as values and as places.
+pub fn updates_keep()
+    ensures compounds { (bound t : ℕ) (ty : QType) (o : BinaryOperator) (working : CType) (a b : Expression) (own work right : IntKind) →
+        type_in a ≡ Int own → working ≡ Int work → type_in b ≡ Int right → TargetsSuit a → LvalueKeeps bound a →
+        ExpressionKeeps bound b → ExpressionKeeps bound (Node t ty (Compound o working a b)) }
+    ensures steps { (bound t : ℕ) (ty : QType) (o : StepOperator) (a : Expression) (own : IntKind) →
+        type_in a ≡ Int own → TargetsSuit a → LvalueKeeps bound a → ExpressionKeeps bound (Node t ty (Step o a)) }
+    ensures records { (bound t : ℕ) (ty : QType) (a b : Expression) (number : ℕ) → type_in a ≡ Record number →
+        AddressKeeps bound a → ExpressionKeeps bound b → ExpressionKeeps bound (Node t ty (Assign a b)) }
+    ensures record_places { (bound t : ℕ) (ty : QType) (a b : Expression) (number : ℕ) → type_in a ≡ Record number →
+        AddressKeeps bound a → ExpressionKeeps bound b → AddressKeeps bound (Node t ty (Assign a b)) }
+{
+    operators_agree();
+    conversions_agree();
+    machines_step_on();
+    operations_step();
+    stretches_last();
+    locals_come_first();
+    results_are_new();
+    later_code_keeps();
+    graphs_contain_the_parts();
+    values_have_types();
+    decoding_gives_back();
+    pointers_give_back();
+    ranges_of_bytes();
+}
+
+/// Pointers that move, where objects have fewer bytes than half of the words: by a number of bytes, as to a member; and
+/// by a number of elements, forwards and backwards.
+pub fn pointers_move()
+    ensures advances { AdvancesKeep }
+    ensures forwards { (bound : ℕ) (left : QType) (kind : IntKind) → AppliesToSmall bound Add (Pointer left) (Int kind) left }
+    ensures turned { (bound : ℕ) (right : QType) (kind : IntKind) → AppliesToSmall bound Add (Int kind) (Pointer right) right }
+    ensures backwards { (bound : ℕ) (left : QType) (kind : IntKind) → AppliesToSmall bound Subtract (Pointer left) (Int kind) left }
+{
+    machines_step_on();
+    operations_step();
+    stretches_last();
+    locals_come_first();
+    results_are_new();
+    later_code_keeps();
+    graphs_contain_the_parts();
+    values_have_types();
+    decoding_gives_back();
+    pointers_give_back();
+    ranges_of_bytes();
+}
+
+/// All expressions without calls, without names of functions, and in which no pointer moves keep their promise: as values,
+/// as places of scalars, and as places of arrays, structures and unions.
+pub fn plain_expressions_keep()
+    ensures values { (bound : ℕ) (a : Expression) → IsPlain a → ExpressionKeeps bound a }
+    ensures places { (bound : ℕ) (a : Expression) → IsPlain a → LvalueKeeps bound a }
+    ensures addresses { (bound : ℕ) (a : Expression) → IsPlain a → AddressKeeps bound a }
+{
+    forms_keep();
+    operators_agree();
+    conversions_agree();
     machines_step_on();
     operations_step();
     stretches_last();

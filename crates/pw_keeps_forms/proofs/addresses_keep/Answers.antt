@@ -1,5 +1,6 @@
 use Rattle.pw_keeps_forms.proofs.Laws.{Laws}
 use Rattle.pw_keeps_forms.proofs.Addresses.{local-address, deref-address, comma-address, cond-address, decay-keeps, address-of-local, address-of-deref}
+use Rattle.pw_keeps_forms.proofs.Strings.{string-address, global-address, address-of-global, address-of-string}
 use Rattle.pw_keeps_forms.proofs.Arguments.{arguments-keep}
 use Rattle.pw_keeps_forms.proofs.addresses_keep.Goals as goal
 
@@ -51,3 +52,15 @@ returns-clause-of_derefs c = address-of-deref (all c)
 
 pub returns-clause-arguments : goal.returns-clause-arguments
 returns-clause-arguments c = λ bound keeps. arguments-keep (all c) bound keeps
+
+pub returns-clause-strings : goal.returns-clause-strings
+returns-clause-strings c = string-address (all c)
+
+pub returns-clause-globals : goal.returns-clause-globals
+returns-clause-globals c = global-address (all c)
+
+pub returns-clause-of_globals : goal.returns-clause-of_globals
+returns-clause-of_globals c = address-of-global (all c)
+
+pub returns-clause-of_strings : goal.returns-clause-of_strings
+returns-clause-of_strings c = address-of-string (all c)
