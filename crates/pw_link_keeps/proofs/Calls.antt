@@ -26,7 +26,7 @@ use Rattle.pw_link_keeps.proofs.Items.{here_in_text, later_in_text, on_same}
 
 -- ---- the globals by the frames
 
-found_as : (m : Map) (call : Call) (f : Located) → find (λ g. bytes_eq g.body.name call.function) m.functions ≡ Some f
+pub found_as : (m : Map) (call : Call) (f : Located) → find (λ g. bytes_eq g.body.name call.function) m.functions ≡ Some f
     → active_as m call ≡ record { function = f; stack = call.stack; before = call.before } ∷ []
 found_as m call f e = rw e refl
 

@@ -53,7 +53,7 @@ pub finds : {X : Type 0} (test : X → Bool) (xs : List X) (y : X) → find test
 finds test [] y e = absurd cc
 finds test (x ∷ xs) y e = found_by test x xs y (test x) refl (finds test xs y) e
 
-same_bytes : (xs ys : List ℕ) → bytes_eq xs ys ≡ true → xs ≡ ys
+pub same_bytes : (xs ys : List ℕ) → bytes_eq xs ys ≡ true → xs ≡ ys
 same_bytes xs ys e = (bytes_eq-Decides xs ys).0 e
 
 -- ---- the state behind a call's branch
@@ -116,7 +116,7 @@ library_named f g e = by (bytes_eq f getchar_name) (bytes_eq f putchar_name) (by
     by false false false p q r e = absurd cc
 
 -- what the lines do at a call, by what is found
-abbrev called_by : Setting → Machine → Option Library → Option LineFn → Step
+abbrev pub called_by : Setting → Machine → Option Library → Option LineFn → Step
 called_by x m (Some g) defined = library x.program x.addresses g m
 called_by x m None (Some defined) = On (enters x.program x.addresses defined m)
 called_by x m None None = Astray
@@ -141,7 +141,7 @@ called_so x l lib k m t f None None is defined h e calm = absurd cc
 
 -- ---- a call of a symbol
 
-calls_are : (x : Setting) (m : Machine) (to : ℕ) (f : List ℕ) (o : Option Library) (d : Option LineFn) → library_at f ≡ o → function_named x.program f ≡ d
+pub calls_are : (x : Setting) (m : Machine) (to : ℕ) (f : List ℕ) (o : Option Library) (d : Option LineFn) → library_at f ≡ o → function_named x.program f ≡ d
     → lines.register m.core 2 ≡ to → calls x.program x.addresses to f m ≡ called_by x m o d
 calls_are x m to f (Some g) d is defined link = rw (eq-eqb (lines.register m.core 2) to link, is) refl
 calls_are x m to f None (Some g) is defined link = rw (eq-eqb (lines.register m.core 2) to link, is, defined) refl
@@ -211,7 +211,7 @@ moves_link x c to run =
     ap (λ (b : Bool). if b then Acts (record d { skip = false }) else lines.executed x.addresses (Or 31 0 2) d) run
     ∙ ap (λ v. Acts (lines.with_register 2 v d)) (or_zero_r to)
 
-slot_does : (x : Setting) (m : Machine) (rest : List Item) → m.core.skip ≡ false → does x.program x.addresses link_moved (branched x m rest) ≡ On (after_value x m rest)
+pub slot_does : (x : Setting) (m : Machine) (rest : List Item) → m.core.skip ≡ false → does x.program x.addresses link_moved (branched x m rest) ≡ On (after_value x m rest)
 slot_does x m rest run =
     let to = return_address x.addresses m.frame rest in
     let s = branched x m rest in

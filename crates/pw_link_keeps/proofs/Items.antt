@@ -29,7 +29,7 @@ use Rattle.pw_link_keeps.proofs.Turning.{IsTurn, text_small, jump_turn, false_tu
 
 -- ---- what is left
 
-behind_all : (P : Item → Type 0) (before left : List Item) → AllByRecursion P (before ++ left) → AllByRecursion P left
+pub behind_all : (P : Item → Type 0) (before left : List Item) → AllByRecursion P (before ++ left) → AllByRecursion P left
 behind_all P [] left h = h
 behind_all P (item ∷ before) left h = behind_all P before left h.1
 

@@ -12,3 +12,9 @@ pub mod Routines
 pub mod Meeting
 pub mod Running
 pub mod Making
+pub mod Levels
+pub mod Keeping
+pub mod Steadying
+pub mod Starting
+pub mod Whole
+pub mod Fitting

@@ -159,12 +159,16 @@ leave_meets x l k m rest (caller ∷ callers) h run behind saved s e calm = leav
 abbrev StepOf : Setting → (ℕ → ℕ → ℕ) → Machine → Turn → Option Word → List Item → Step
 StepOf x scratch m turn slot rest = turned x.program x.addresses scratch turn slot (Turns turn slot ∷ rest) rest (left_behind (Turns turn slot ∷ rest) m)
 
+-- where a routine is called, the words that it leaves
+abbrev RoutineWords : Setting → (ℕ → ℕ → ℕ) → Turn → Option Word → Machine → List Item → Type 0
+RoutineWords x scratch turn slot m rest = (j : ℕ) → turn ≡ CallTo (symbol.Routine j) 31 → slot ≡ None → IsLeftWords x scratch (to_routine x m rest)
+
 -- a turn is met, where the lines are steady
 abbrev TurnMeets : Setting → (ℕ → ℕ → ℕ) → Turn → Option Word → Type 0
 TurnMeets x scratch turn slot =
     (k : ℕ) (m : Machine) (rest : List Item) → Simulates x (left_behind (Turns turn slot ∷ rest) m) k → m.core.skip ≡ false
     → (s : Step) → StepOf x scratch m turn slot rest ≡ s
-    → IsSteady x (left_behind (Turns turn slot ∷ rest) m) (Turns turn slot) s → IsLeftWords x scratch (to_routine x m rest) → Meets x s
+    → IsSteady x (left_behind (Turns turn slot ∷ rest) m) (Turns turn slot) s → RoutineWords x scratch turn slot m rest → Meets x s
 
 named_two : (x : Setting) → IsLinked x → HasLibrary x → (scratch : ℕ → ℕ → ℕ) (f : List ℕ) → TurnMeets x scratch (CallTo (symbol.Named f) 2) None
 named_two x l lib scratch f k m rest h run s e steady words =
@@ -180,7 +184,7 @@ named_meets x l lib scratch f link slot is none =
 routine_none : (x : Setting) → IsLinked x → HasRoutines x → (scratch : ℕ → ℕ → ℕ) (j : ℕ) → j < 5 → TurnMeets x scratch (CallTo (symbol.Routine j) 31) None
 routine_none x l has scratch j below k m rest h run s e steady words =
     subst (λ s. Meets x s) e
-    (routine_meets x l has scratch k j m rest below h run (steady.inside tt) (steady.high tt) words
+    (routine_meets x l has scratch k j m rest below h run (steady.inside tt) (steady.high tt) (words j refl refl)
     (steady.next (after_routine (to_routine x m rest) j (scratch m.routines)) (sym e)))
 
 numbered_meets : (x : Setting) → IsLinked x → HasRoutines x → (scratch : ℕ → ℕ → ℕ) (j link : ℕ) (slot : Option Word) → link ≡ 31 → slot ≡ None → j < 5
@@ -227,20 +231,24 @@ turn_meets x l lib has scratch Leave (Some w) fit k m rest h run s e steady word
 skip_meets : (x : Setting) → IsLinked x → HasLibrary x → HasRoutines x → (scratch : ℕ → ℕ → ℕ) (k : ℕ) (m : Machine) (turn : Turn) (slot : Option Word) (rest : List Item)
     → Simulates x (left_behind (Turns turn slot ∷ rest) m) k → (b : Bool) → m.core.skip ≡ b
     → IsSteady x (left_behind (Turns turn slot ∷ rest) m) (Turns turn slot) (if b then Astray else StepOf x scratch m turn slot rest)
-    → IsLeftWords x scratch (to_routine x m rest) → Meets x (if b then Astray else StepOf x scratch m turn slot rest)
+    → RoutineWords x scratch turn slot m rest → Meets x (if b then Astray else StepOf x scratch m turn slot rest)
 skip_meets x l lib has scratch k m turn slot rest h true is steady words = tt
 skip_meets x l lib has scratch k m turn slot rest h false is steady words =
     turn_meets x l lib has scratch turn slot (left_fit x l m.frame.function h.there (Turns turn slot ∷ rest) h.address h.left).0
     k m rest h is (StepOf x scratch m turn slot rest) refl steady words
 
+same_turn : (turn : Turn) (slot : Option Word) (j : ℕ) (rest : List Item) → turn ≡ CallTo (symbol.Routine j) 31 → slot ≡ None
+    → Turns turn slot ∷ rest ≡ Turns (CallTo (symbol.Routine j) 31) None ∷ rest
+same_turn turn slot j rest is none = ap (λ t. Turns t slot ∷ rest) is ∙ ap (λ o. Turns (CallTo (symbol.Routine j) 31) o ∷ rest) none
+
 pub step_meets : (x : Setting) → IsLinked x → HasLibrary x → HasRoutines x → (scratch : ℕ → ℕ → ℕ) (k : ℕ) (m : Machine) (left : List Item)
     → Simulates x (left_behind left m) k
     → ((item : Item) (rest : List Item) → left ≡ item ∷ rest → IsSteady x (left_behind left m) item (step x.program x.addresses scratch (left_behind left m)))
-    → ((rest : List Item) → IsLeftWords x scratch (to_routine x m rest)) → Meets x (step x.program x.addresses scratch (left_behind left m))
+    → ((j : ℕ) (rest : List Item) → left ≡ Turns (CallTo (symbol.Routine j) 31) None ∷ rest → IsLeftWords x scratch (to_routine x m rest)) → Meets x (step x.program x.addresses scratch (left_behind left m))
 unfolding step
 step_meets x l lib has scratch k m [] h steady words = tt
 step_meets x l lib has scratch k m (Plain word ∷ rest) h steady words =
     word_meets x l k m word rest h (does x.program x.addresses word (left_behind rest m)) refl (steady (Plain word) rest refl).next
 step_meets x l lib has scratch k m (Mark b ∷ rest) h steady words = record { steps = k; simulates = mark_simulates x k b m rest h }
 step_meets x l lib has scratch k m (Turns turn slot ∷ rest) h steady words =
-    skip_meets x l lib has scratch k m turn slot rest h m.core.skip refl (steady (Turns turn slot) rest refl) (words rest)
+    skip_meets x l lib has scratch k m turn slot rest h m.core.skip refl (steady (Turns turn slot) rest refl) (λ j is none. words j rest (same_turn turn slot j rest is none))

@@ -19,7 +19,7 @@ use Rattle.pw_link_keeps.proofs.Meeting.{step_meets}
 
 -- ---- one step more, at the end
 
-last_step : (x : Setting) (scratch : ℕ → ℕ → ℕ) (n : ℕ) (s : Step)
+pub last_step : (x : Setting) (scratch : ℕ → ℕ → ℕ) (n : ℕ) (s : Step)
     → steps x.program x.addresses scratch (suc n) s ≡ and_then (steps x.program x.addresses scratch n s) (step x.program x.addresses scratch)
 unfolding steps
 last_step x scratch zero s = refl
@@ -30,7 +30,7 @@ last_step x scratch (suc n) s = last_step x scratch n (and_then s (step x.progra
 more_meets : (x : Setting) → IsLinked x → HasLibrary x → HasRoutines x → (scratch : ℕ → ℕ → ℕ) (s : Step) → IsSteadyRun x scratch s → (n : ℕ) (t : Step)
     → steps x.program x.addresses scratch n s ≡ t → Meets x t → Meets x (and_then t (step x.program x.addresses scratch))
 more_meets x l lib has scratch s run n (On m) e h =
-    step_meets x l lib has scratch h.steps m m.frame.left h.simulates (λ item rest same. run.steady n m item rest e same) (λ rest. run.words n m rest e)
+    step_meets x l lib has scratch h.steps m m.frame.left h.simulates (λ item rest same. run.steady n m item rest e same) (λ j rest left. run.words n m j rest e left)
 more_meets x l lib has scratch s run n (lines.Stopped end m) e h = h
 more_meets x l lib has scratch s run n Astray e h = tt
 

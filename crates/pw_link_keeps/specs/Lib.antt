@@ -4,3 +4,6 @@ pub mod Placing
 pub mod Simulating
 pub mod Meeting
 pub mod Routines
+pub mod Leveled
+pub mod Starting
+pub mod Conventional

@@ -85,7 +85,13 @@ IsLeftWords x scratch m =
 
 -- ---- every state of a run is steady
 
+-- whenever a routine is called
+abbrev pub AreLeftWords : Setting → (ℕ → ℕ → ℕ) → Step → Type 0
+AreLeftWords x scratch s =
+    (n : ℕ) (m : Machine) (j : ℕ) (rest : List Item) → steps x.program x.addresses scratch n s ≡ On m
+    → m.frame.left ≡ Turns (CallTo (symbol.Routine j) 31) None ∷ rest → IsLeftWords x scratch (to_routine x m rest)
+
 pub record IsSteadyRun (x : Setting) (scratch : ℕ → ℕ → ℕ) (s : Step) : Type 0 where
   pub steady : (n : ℕ) (m : Machine) (item : Item) (rest : List Item) → steps x.program x.addresses scratch n s ≡ On m → m.frame.left ≡ item ∷ rest
       → IsSteady x m item (step x.program x.addresses scratch m)
-  pub words : (n : ℕ) (m : Machine) (rest : List Item) → steps x.program x.addresses scratch n s ≡ On m → IsLeftWords x scratch (to_routine x m rest)
+  pub words : AreLeftWords x scratch s

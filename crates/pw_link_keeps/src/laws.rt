@@ -8,7 +8,7 @@ ghost use Rattle.pw_inst.specs.InstructionTable.{decoded, IsInRange};
 ghost use Rattle.pw_machine.specs.Core.{Core, word_at};
 ghost use Rattle.pw_machine.specs.Run.{State};
 ghost use Rattle.pw_machine.specs.Effect.{condition, is_in_text, effect_of};
-ghost use Rattle.pw_machine_laws.specs.Lawful.{IsLawfulCore};
+ghost use Rattle.pw_machine_laws.specs.Lawful.{IsLawfulCore, IsLawful};
 ghost use Rattle.pw_delay.specs.declared.items.Word.{Word};
 ghost use Rattle.pw_delay.specs.declared.items.Item.{Item};
 ghost use Rattle.pw_delay.specs.declared.items.Item.TheVariants.{Plain, Turns, Mark};
@@ -22,13 +22,21 @@ ghost use Rattle.pw_run.specs.Runs.{Refines, Same};
 ghost use Rattle.pw_milli.specs.Words.{divs_words, divu_words, mul_words, rems_words, remu_words};
 ghost use Rattle.pw_milli.specs.Calls.{Enters};
 ghost use Rattle.pw_linkrun.specs.MachineRun.{start_state, traced_run};
+ghost use Rattle.pw_linkrun.specs.CodeStands.{IsReady};
+ghost use Rattle.pw_inst.specs.declared.line.Line.{Line};
+ghost use Rattle.pw_delay.specs.Items.{slotted};
 ghost use Rattle.pw_link_keeps.specs.Showing.{Shows, DoesSo};
-ghost use Rattle.pw_link_keeps.specs.Steps.{Setting, map_in, Arrives, is_back, AreInData};
+ghost use Rattle.pw_link_keeps.specs.Steps.{Setting, map_in, IsSetting, Arrives, is_back, AreInData};
 ghost use Rattle.pw_link_keeps.specs.Placing.{name_in, own_address};
-ghost use Rattle.pw_link_keeps.specs.Simulating.{calls_from, noted_by, IsLinked, IsCaller, Simulates, IsCalm, IsCalmInside, IsCalmBehind, leaving, HasLibrary};
+ghost use Rattle.pw_link_keeps.specs.Simulating.{calls_from, noted_by, IsLinked, IsCaller, Simulates, IsCalm, IsCalmInside, IsCalmBehind, leaving, HasLibrary, IsFit};
 ghost use Rattle.pw_link_keeps.specs.Meeting.{Meets};
-ghost use Rattle.pw_link_keeps.specs.Routines.{HasRoutines, IsSteadyRun, Makes};
+ghost use Rattle.pw_link_keeps.specs.Routines.{HasRoutines, AreLeftWords, IsSteadyRun, Makes};
+ghost use Rattle.pw_link_keeps.specs.Leveled.{AreFramed};
+ghost use Rattle.pw_link_keeps.specs.Starting.{IsStart};
+ghost use Rattle.pw_link_keeps.specs.Conventional.{IsConventional};
 
+use pw_machine::{runs_add_up, runs_go_on};
+use pw_machine_laws::{runs_keep_lawful_states, words_of_the_text_stay};
 use pw_milli::{divs_divides, divu_divides, mul_multiplies, rems_divides, remu_divides};
 
 /// Where an instruction of a word is next, the machine does what the word does in the run of lines: it goes on to a
@@ -106,4 +114,28 @@ pub fn steady_runs_are_met()
     ensures { (x : Setting) → IsLinked x → HasLibrary x → HasRoutines x → (scratch : ℕ → ℕ → ℕ) (core : Core) (input : List ℕ) → x.start ≡ start_state core input →
         Meets x (start x.program x.addresses input) → IsSteadyRun x scratch (start x.program x.addresses input) →
         Refines Same (line_run x.program x.addresses scratch input) (traced_run (map_in x) core input) }
+{}
+
+/// So it is met where the items of each function keep the stack pointer: at its end at every block and turn but a
+/// return, and as at the call before a return, with no return address where it is lower; where the machine starts at the
+/// entry with the core of the lines; and where the words that routines leave are those that the lines take.
+pub fn framed_runs_are_met()
+    ensures { (x : Setting) → IsLinked x → HasLibrary x → HasRoutines x → AreFramed x → (scratch : ℕ → ℕ → ℕ) (core : Core) (input : List ℕ) (f : LineFn) →
+        x.start ≡ start_state core input → IsStart x f input → AreLeftWords x scratch (start x.program x.addresses input) →
+        Refines Same (line_run x.program x.addresses scratch input) (traced_run (map_in x) core input) }
+{}
+
+/// A lawful state whose data begin where the lines have them is one from which the machine's run keeps its text.
+pub fn lawful_starts_are_settings()
+    ensures { (x : Setting) → IsLawful x.start → x.start.core.data_start ≡ x.addresses.data_start → IsSetting x }
+{
+    runs_keep_lawful_states();
+    words_of_the_text_stay();
+    runs_add_up();
+    runs_go_on();
+}
+
+/// Lines that words can be made of, and that call as the convention has it, are items that fit.
+pub fn ready_lines_fit()
+    ensures { (x : Setting) (lines : List Line) → AllByRecursion IsReady lines → AllByRecursion IsConventional lines → AllByRecursion (IsFit x) (slotted lines) }
 {}

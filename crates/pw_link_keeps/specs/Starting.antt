@@ -1,0 +1,18 @@
+-- The start of the machine, as the lines see it.
+use Rattle.std.specs.Prelude.{ℕ, ◌≡◌, ◌+◌, ◌<◌, ◌%◌, ◌^◌, Some, None, List, []}
+use Rattle.pw_value.specs.ProgramNames.{start_name}
+use Rattle.pw_lines.specs.LineRun.{LineFn, function_named, start_core}
+use Rattle.pw_link_keeps.specs.Showing.{Shows}
+use Rattle.pw_link_keeps.specs.Steps.{Setting}
+use Rattle.pw_link_keeps.specs.Placing.{own_address}
+
+-- It stands at the first word of `$start`, over the whole input, with the core that the lines start with.
+pub record IsStart (x : Setting) (f : LineFn) (input : List ℕ) : Type 0 where
+  pub named : function_named x.program start_name ≡ Some f
+  pub base : x.addresses.base < 2 ^ 32
+  pub shows : Shows (start_core x.program x.addresses) x.start.core
+  pub front : x.start.core.front ≡ own_address x f
+  pub back : x.start.core.back ≡ (own_address x f + 4) % 2 ^ 32
+  pub stopped : x.start.core.stopped ≡ None
+  pub rest : x.start.rest ≡ input
+  pub output : x.start.output ≡ []
