@@ -1,6 +1,6 @@
 -- An answer that no line tells is given only where the flush was done.
-use Rattle.std.specs.Prelude.{◌≡◌, ◌⊎◌, Bool, false, true, Result, Ok, Err, OnOk}
-use Rattle.std.proofs.Common.{ap, inl, inr, subst}
+use Rattle.std.specs.Prelude.{◌≡◌, ◌⊎◌, Bool, if◌then◌else◌, false, true, Result, Ok, Err, OnOk}
+use Rattle.std.proofs.Common.{ap, inl, inr, refl, subst}
 use Rattle.pw_io.specs.declared.Failed.{Failed}
 use Rattle.pw_answer.specs.Answers.{is_untold}
 use Rattle.pw_answer.specs.declared.answer.Answer.{Answer}

@@ -1,5 +1,5 @@
 -- The answer behind the flush of the output, and the line that is told then.
-use Rattle.std.specs.Prelude.{ℕ, ◌≡◌, true, List, [], Result, Ok, Err}
+use Rattle.std.specs.Prelude.{ℕ, ◌≡◌, if◌then◌else◌, true, List, [], Result, Ok, Err}
 use Rattle.pw_io.specs.declared.Failed.{Failed}
 use Rattle.pw_answer.specs.Answers.{is_untold, line_text}
 use Rattle.pw_answer.specs.declared.answer.Answer.{Answer}

@@ -4,7 +4,9 @@
 
 ghost use Rattle.std.specs.Prelude.{◌≡◌, ◌≢◌, ◌⊎◌, ◌∷◌, [], IfErr, IfOk, IsErr, None, OnOk, Result, drop, false, map, string_bytes, true};
 ghost use Rattle.std.specs.IoError.{error_kind};
+ghost use Rattle.std.specs.Process.{exit_status};
 ghost use Rattle.std.specs.Vec.Iter.{into_iter_items};
+ghost use Rattle.pw_answer.specs.Answers.{line_text, status_of};
 ghost use Rattle.pw_answer.specs.Outcomes.{Tells};
 ghost use Rattle.pw_io.specs.declared.Failed.{Failed};
 ghost use Rattle.pw_system.specs.Sinks.{kept_back};
@@ -113,6 +115,14 @@ fn block_of(at_terminal: bool) -> usize
     if at_terminal { 0 } else { BLOCK }
 }
 
+/// Where there is no memory for the words or for the output's block, that is told and answered.
+fn without_memory<E: Sink>(alloc: Global, err: &mut E) -> ExitCode
+    ensures status { exit_status result ≡ status_of Answer.NoMemory }
+    ensures line { Tells (line_text 1 Answer.NoMemory) (E.taken err.old) (E.taken err.new) (E.faults err.old) (E.faults err.new) }
+{
+    exit_of(&tell(alloc, Answer::NoMemory, 1, err))
+}
+
 fn main(rt: HostRuntime) -> ExitCode {
     let mut err = StdSink::new(rt.stderr());
     let block = block_of(rt.stdin().is_terminal() || rt.stdout().is_terminal());
@@ -120,7 +130,7 @@ fn main(rt: HostRuntime) -> ExitCode {
         words_of(rt.alloc(), env::args(&rt)),
         BufWriter::with_capacity(rt.alloc(), block, rt.stdout()),
     ) else {
-        return exit_of(&tell(rt.alloc(), Answer::NoMemory, 1, &mut err));
+        return without_memory(rt.alloc(), &mut err);
     };
     let mut out = StdSink::new(writer);
     let answer = obey(&rt, &words, rt.stdin(), &mut out, &mut err);

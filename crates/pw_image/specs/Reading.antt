@@ -67,16 +67,21 @@ abbrev pub is_lawful_start : Result (Bool × List ℕ) ℕ → Bool
 is_lawful_start (Ok x) = x.0
 is_lawful_start (Err left) = false
 
-unfoldable pub contents_at : List ℕ → Result (Contents Image × List ℕ) ℕ
-contents_at = do
-  memory ← memory_at
-  names ← names_at
+-- the functions and the global objects, which end the contents
+abbrev pub map_at : Memory → List (List ℕ) → List ℕ → Result (Contents Image × List ℕ) ℕ
+map_at memory names = do
   behind ← here
   function_count ← u32_at
   functions ← repeated (function_at names (length memory.words)) function_count
   global_count ← u32_at
   globals ← repeated (global_at names) global_count
   let image : Image = record { memory = memory; functions = functions; globals = globals } in ended (first_unused names (names_of image) behind) (record { names = names; value = image })
+
+unfoldable pub contents_at : List ℕ → Result (Contents Image × List ℕ) ℕ
+contents_at = do
+  memory ← memory_at
+  names ← names_at
+  map_at memory names
 
 -- the entry is looked at first: no word of the text is known where the count of words is short
 unfoldable pub payload_at : List ℕ → Result (Contents Image × List ℕ) ℕ

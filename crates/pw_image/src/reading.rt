@@ -11,7 +11,7 @@ ghost use Rattle.pw_fields.specs.FieldFaults.{Gives, GivesFile};
 ghost use Rattle.pw_files.specs.Contents.{broken_at, value_of};
 ghost use Rattle.pw_image.specs.declared.image.Image.{Image as AnyImage};
 ghost use Rattle.pw_image.specs.Image.{Contents, data_start, free_behind, contents_view, names_of, IsImageFile};
-ghost use Rattle.pw_image.specs.Reading.{is_in_text, item_at, next_free, memory_at, function_at, global_at, start_at, is_lawful_start, contents_at, payload_at, image_file_at};
+ghost use Rattle.pw_image.specs.Reading.{is_in_text, item_at, map_at, next_free, memory_at, function_at, global_at, start_at, is_lawful_start, contents_at, payload_at, image_file_at};
 
 use crate::image::{DataItem, Function, GlobalObject, Image, Memory, data_start};
 use pw_fields::frame::{check_digest, open};
@@ -286,8 +286,21 @@ fn read_contents(alloc: Global, bytes: &[u8]) -> Result<((Vec<Name>, Image), &[u
     ensures { Gives (λ x. (contents_view x.0, x.1.now)) result (contents_at bytes.now) }
 {
     let (memory, rest) = read_memory(alloc, bytes)?;
-    let (names, behind) = read_names(alloc, rest)?;
-    let (function_count, rest) = read_u32(behind)?;
+    let (names, rest) = read_names(alloc, rest)?;
+    read_behind_names(alloc, memory, names, rest)
+}
+
+/// The table of names and the image, whose functions and global objects the bytes are.
+fn read_behind_names(
+    alloc: Global,
+    memory: Memory,
+    names: Vec<Name>,
+    bytes: &[u8],
+) -> Result<((Vec<Name>, Image), &[u8]), FieldError>
+    requires { length (flat_map text names.items) + length bytes.now < 2 ^ 64 }
+    ensures { Gives (λ x. (contents_view x.0, x.1.now)) result (map_at memory names.items bytes.now) }
+{
+    let (function_count, rest) = read_u32(bytes)?;
     let words = memory.words.len() as u64;
     let (functions, rest) = read_functions(alloc, &names, words, function_count, rest)?;
     let (global_count, rest) = read_u32(rest)?;
@@ -297,7 +310,7 @@ fn read_contents(alloc: Global, bytes: &[u8]) -> Result<((Vec<Name>, Image), &[u
         functions,
         globals,
     };
-    end_contents(alloc, names, image, behind.len(), rest)
+    end_contents(alloc, names, image, bytes.len(), rest)
 }
 
 /// The table of names and the image, where nothing is left behind them and no late rule is broken.

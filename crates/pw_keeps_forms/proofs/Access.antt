@@ -1,4 +1,5 @@
 -- What is read where a place is, and what is written there.
+use Rattle.pw_flow.specs.ValidFlow.{kind_size}
 use Rattle.std.proofs.Common.{◌≡◌, ℕ, ◌+◌, ◌%◌, ◌<◌, ◌≤◌, ◌==◌, ◌&&◌, nat_le, Bool, true, false, not, true≢false, if◌then◌else◌, Option, Some, None, List, [], ◌∷◌, length, refl, ap, sym, ◌∙◌, subst, arith}
 use Rattle.std.proofs.lemmas.Bool.{and_from, not-false}
 use Rattle.std.proofs.lemmas.List.{get_or-set_other}
@@ -104,17 +105,17 @@ is-open spots objects kept width align o i f size m a spot =
 -- a scalar that is looked at in the object in which another stands
 pub looks-in : (spots : List Spot) (objects kept : List Object) (ty : CType) (k : Kind) (o i f size : ℕ) → MemoryStands spots objects kept → kind_of ty ≡ Some k
     → IsAllowed objects (source_access.width_of ty) (source_access.width_of ty) o i → spot_of spots o ≡ In f size
-    → flow.look_in k f i kept ≡ Some (flow.scalar_of k (bytes_from (flow.width_of k) i (object_at kept f).bytes))
+    → flow.look_in k f i kept ≡ Some (flow.scalar_of k (bytes_from (kind_size k) i (object_at kept f).bytes))
 looks-in spots objects kept ty k o i f size m e a spot =
-    ap (λ (b : Bool). if b then Some (flow.scalar_of k (bytes_from (flow.width_of k) i (object_at kept f).bytes)) else None)
+    ap (λ (b : Bool). if b then Some (flow.scalar_of k (bytes_from (kind_size k) i (object_at kept f).bytes)) else None)
     (subst (λ (w : ℕ). flow.is_open kept f i w w ≡ true) (same-width ty k e) (is-open spots objects kept (source_access.width_of ty) (source_access.width_of ty) o i f size m a spot))
 
 pub pokes-in : (spots : List Spot) (objects kept : List Object) (ty : CType) (k : Kind) (o i f size : ℕ) (v w : Value) → MemoryStands spots objects kept → kind_of ty ≡ Some k
     → IsAllowed objects (source_access.width_of ty) (source_access.width_of ty) o i → spot_of spots o ≡ In f size → IsValueOf ty v → Stands spots v w
-    → flow.poke_in k f i w kept ≡ Some (written f i (encoding w (flow.width_of k)) kept)
+    → flow.poke_in k f i w kept ≡ Some (written f i (encoding w (kind_size k)) kept)
 pokes-in spots objects kept ty k o i f size v w m e a spot typed st =
-    ap (λ (b : Bool). if b then Some (written f i (encoding w (flow.width_of k)) kept) else None)
-    (and_from (flow.is_open kept f i (flow.width_of k) (flow.width_of k)) (flow.may_stand k w)
+    ap (λ (b : Bool). if b then Some (written f i (encoding w (kind_size k)) kept) else None)
+    (and_from (flow.is_open kept f i (kind_size k) (kind_size k)) (flow.may_stand k w)
     (subst (λ (u : ℕ). flow.is_open kept f i u u ≡ true) (same-width ty k e) (is-open spots objects kept (source_access.width_of ty) (source_access.width_of ty) o i f size m a spot))
     (may-stand spots ty k v w e typed st))
 
@@ -139,7 +140,7 @@ scalar-size records (Record n) k e = absurd (true≢false (sym (ap has_kind e)))
 look-stands : (x : Activation) (numbers : Numbers) (spots : List Spot) (d : Code) (s : State) (m : Machine) (ty : CType) (k : Kind) (o i f size : ℕ)
     → IsReady x numbers spots d s m → kind_of ty ≡ Some k → (object_at s.objects o).live ≡ true → spot_of spots o ≡ In f size
     → Stands spots (source_access.value_in ty (bytes_from (source_access.width_of ty) i (object_at s.objects o).bytes))
-    (flow.scalar_of k (bytes_from (flow.width_of k) i (object_at m.objects f).bytes))
+    (flow.scalar_of k (bytes_from (kind_size k) i (object_at m.objects f).bytes))
 look-stands x numbers spots d s m ty k o i f size ready e live spot =
     value-stands spots ty k i (object_at s.objects o).bytes (object_at m.objects f).bytes e (bytes-of s.objects o ready.related.matches.bytes.objects)
     (ready.related.matches.memory.holds o f size live spot).bytes
@@ -153,7 +154,7 @@ led-reads laws bound x numbers spots ty k at a d s m (V.At (P.Object o i)) e rea
     judged x.world bound m at (reading s.objects ty (V.At (P.Object o i))) _ s _ (λ none.
     let allowed = reading-allowed s.objects ty o i none in
     let f = st.1.object in
-    let w = flow.scalar_of k (bytes_from (flow.width_of k) i (object_at m.objects f).bytes) in
+    let w = flow.scalar_of k (bytes_from (kind_size k) i (object_at m.objects f).bytes) in
     laws.fresh x numbers spots [] d s m (λ t. op.Load k t a) (source_access.value_in ty (bytes_from (source_access.width_of ty) i (object_at s.objects o).bytes)) w holds ready
     (look-stands x numbers spots d s m ty k o i f st.1.size ready e allowed.live st.1.there)
     (λ rest. ap (λ (u : Option Value). run.gives d.temps u (record m { frame = record m.frame { ops = rest } }))
@@ -229,7 +230,7 @@ led-writes laws bound x numbers spots assigned purpose ty k at a t d s m (V.At (
     let spot = st.1.there in
     let w = value_in m.frame t in
     let new = encoding v (source_access.width_of ty) in
-    let now = encoding w (flow.width_of k) in
+    let now = encoding w (kind_size k) in
     let memory = ready.related.matches.memory in
     let nx = laws.next (graph_of x) d (op.Store k a t) m holds.filled ready.behind in
     let b = nx.behind 0 V.Undefined in
@@ -315,11 +316,11 @@ named-reads laws bound x numbers spots ty k at g o d s m e ready holds suits num
     judged x.world bound m at (reading s.objects ty (V.At (P.Object o 0))) _ s _ (λ none.
     let allowed = reading-allowed s.objects ty o 0 none in
     let q = global-at x numbers spots d s m g o ready number in
-    let w = flow.scalar_of k (bytes_from (flow.width_of k) 0 (object_at m.objects o).bytes) in
+    let w = flow.scalar_of k (bytes_from (kind_size k) 0 (object_at m.objects o).bytes) in
     laws.fresh x numbers spots [] d s m (λ t. op.LoadG t g k) (source_access.value_in ty (bytes_from (source_access.width_of ty) 0 (object_at s.objects o).bytes)) w holds ready
     (look-stands x numbers spots d s m ty k o 0 o q.size ready e q.live q.there)
     (λ rest. ap (λ (u : Option Value). run.gives d.temps u (record m { frame = record m.frame { ops = rest } }))
-    (get-named (graphs x.world) g k m.objects o w (suits k e) number (looks-in spots s.objects m.objects ty k o 0 o q.size ready.related.matches.memory e allowed q.there))))
+    (get-named (graphs x.world) g k m.objects o w (suits k o e number) number (looks-in spots s.objects m.objects ty k o 0 o q.size ready.related.matches.memory e allowed q.there))))
 
 named-writes :
     Laws → (bound : ℕ) (x : Activation) (numbers : Numbers) (spots : List Spot) (assigned : List ℕ) (purpose : Purpose) (ty : CType) (k : Kind) (at : Site) (g : List ℕ) (t o : ℕ) (d : Code) (s : State) (m : Machine) (v : Value)
@@ -333,7 +334,7 @@ named-writes laws bound x numbers spots assigned purpose ty k at g t o d s m v e
     let q = global-at x numbers spots d s m g o ready number in
     let w = value_in m.frame t in
     let new = encoding v (source_access.width_of ty) in
-    let now = encoding w (flow.width_of k) in
+    let now = encoding w (kind_size k) in
     let nx = laws.next (graph_of x) d (op.StoreG g t k) m holds.filled ready.behind in
     let b = nx.behind 0 V.Undefined in
     let n : Machine = with_objects nx.rest (written o 0 now m.objects) m in
@@ -342,7 +343,7 @@ named-writes laws bound x numbers spots assigned purpose ty k at g t o d s m v e
       machine = n;
       comes = comes-by laws x d (op.StoreG g t k) m n nx
           (ap (λ (objects : Option (List Object)). run.changes objects (record m { frame = record m.frame { ops = nx.rest } }))
-          (put-named (graphs x.world) g k w m.objects o (written o 0 now m.objects) (suits k e) (of-kind spots ty k v w laws.back e typed sv) number
+          (put-named (graphs x.world) g k w m.objects o (written o 0 now m.objects) (suits k o e number) (of-kind spots ty k v w laws.back e typed sv) number
           (pokes-in spots s.objects m.objects ty k o 0 o q.size v w ready.related.matches.memory e allowed q.there typed sv)));
       holds = record {
         done = record {

@@ -26,7 +26,7 @@ use Rattle.pw_keeps.specs.Activations.{Activation, Numbers, graph_of, home_of, e
 use Rattle.pw_keeps.specs.Containing.{ContainsCode}
 use Rattle.pw_keeps.specs.Meeting.{Meets}
 use Rattle.pw_keeps.specs.Expressions.{local_in, assigned_in, IsReady, HasValue, HasResult, HasTarget, ResultStands, TargetStands, ExpressionKeeps}
-use Rattle.pw_keeps_forms.specs.Accesses.{LvalueKeeps, IsLedSince, TargetSuits}
+use Rattle.pw_keeps_forms.specs.Accesses.{LvalueKeeps, IsLedSince, TargetsSuit}
 use Rattle.pw_keeps_forms.proofs.Laws.{Laws}
 use Rattle.pw_keeps_forms.proofs.Simulation.{meets-then, meets-here}
 use Rattle.pw_keeps_forms.proofs.Kit.{before-emit, value-after, stays, HasOperand, operand, operand-stands}
@@ -111,7 +111,7 @@ ready-placed x numbers spots a c s u m n v ready more h = record { related = h.d
 
 -- ---- the form
 
-pub assign-keeps : Laws → (bound t : ℕ) (ty : QType) (a b : Expression) → IsScalar (type_in a) → ((x : Activation) (c : Code) → IsTyped x.home.tree x.function.locals a → HaveSlots x (addressed_in a) → TargetSuits x a c)
+pub assign-keeps : Laws → (bound t : ℕ) (ty : QType) (a b : Expression) → IsScalar (type_in a) → TargetsSuit a
     → LvalueKeeps bound a → ExpressionKeeps bound b → ExpressionKeeps bound (Node t ty (Assign a b))
 unfolding lower answer_of ◌>>=◌ IsTyped HasForm give go_on
 assign-keeps laws bound t ty a b scalar suited first second = λ x numbers spots c s m active typed slots holds ready.
@@ -131,7 +131,7 @@ assign-keeps laws bound t ty a b scalar suited first second = λ x numbers spots
     let in-b = before-write (graph_of x) k p.target (temp_of y) y.code whole in
     let slots-a : HaveSlots x (addressed_in a) = λ i e. slots i (Contains-append_left (addressed_in a) (addressed_in b) i e) in
     let slots-b : HaveSlots x (addressed_in b) = λ i e. slots i (Contains-append_right (addressed_in a) (addressed_in b) i e) in
-    let suits = suited x c typed.1.0 slots-a in
+    let suits = suited x c active typed.1.0 slots-a in
     let new = laws.results x b p.code typed.1.1 slots-b (scalar-not-void (type_in b) (subst IsScalar (sym typed.1.4) scalar-ty)) in
     let temp : temp_of y ≡ new.result = ap (λ (r : Option ℕ). unwrap_or r 0) new.is in
     let kind : kind_of U ≡ Some k = ap kind_of same ∙ scalar-of (type_of ty) scalar-ty in

@@ -1,4 +1,5 @@
 -- Bytes that stand for bytes: the value that a scalar in them is, and the bytes that a value is.
+use Rattle.pw_flow.specs.ValidFlow.{kind_size}
 use Rattle.std.proofs.Common.{◌≡◌, ℕ, zero, suc, ◌+◌, ◌*◌, ◌/◌, ◌%◌, ◌^◌, ◌<◌, ◌++◌, take, drop, append-nil, inl, inr, Bool, true, false, true≢false, ◌&&◌, nat_eq, eqb-true, eq-eqb, if◌then◌else◌, Option, Some, None, List, [], ◌∷◌, length, All, refl, ap, ap₂, sym, ◌∙◌, subst, arith}
 use Rattle.std.proofs.lemmas.Bool.{and_parts, and_from, cases_lt}
 use Rattle.std.proofs.lemmas.Bool.Decides.{nat_tests}
@@ -180,7 +181,7 @@ no-kind : (k : Kind) → None ≡ Some k → ⊥
 unfolding is_there
 no-kind k e = true≢false (sym (ap is_there e))
 
-int-width : (kind : IntKind) → size_of_kind kind ≡ flow.width_of (kind_of_int kind)
+int-width : (kind : IntKind) → size_of_kind kind ≡ kind_size (kind_of_int kind)
 int-width K.Char = refl
 int-width K.SChar = refl
 int-width K.UChar = refl
@@ -191,9 +192,9 @@ int-width K.UInt = refl
 int-width K.Long = refl
 int-width K.ULong = refl
 
-pub same-width : (ty : CType) (k : Kind) → kind_of ty ≡ Some k → source.width_of ty ≡ flow.width_of k
-same-width (Int kind) k e = int-width kind ∙ ap (λ (l : Kind). flow.width_of l) (same_Some (kind_of_int kind) k e)
-same-width (PointerTo q) k e = ap (λ (l : Kind). flow.width_of l) (same_Some W32 k e)
+pub same-width : (ty : CType) (k : Kind) → kind_of ty ≡ Some k → source.width_of ty ≡ kind_size k
+same-width (Int kind) k e = int-width kind ∙ ap (λ (l : Kind). kind_size l) (same_Some (kind_of_int kind) k e)
+same-width (PointerTo q) k e = ap (λ (l : Kind). kind_size l) (same_Some W32 k e)
 same-width Void k e = absurd (no-kind k e)
 same-width (Array q n) k e = absurd (no-kind k e)
 same-width (Function r ps) k e = absurd (no-kind k e)
@@ -209,7 +210,7 @@ word-value spots sign at xs ys bytes h =
     (is-byte xs at bytes) (is-byte xs b bytes) (is-byte xs c bytes) (is-byte xs d bytes) (h at) (h b) (h c) (h d)
 
 int-value : (spots : List Spot) (kind : IntKind) (at : ℕ) (xs ys : List Byte) → All IsByte xs → EachByteStands spots xs ys
-    → Stands spots (scalar_in (bytes_from (size_of_kind kind) at xs) (is_signed_kind kind)) (flow.scalar_of (kind_of_int kind) (bytes_from (flow.width_of (kind_of_int kind)) at ys))
+    → Stands spots (scalar_in (bytes_from (size_of_kind kind) at xs) (is_signed_kind kind)) (flow.scalar_of (kind_of_int kind) (bytes_from (kind_size (kind_of_int kind)) at ys))
 int-value spots K.Char at xs ys bytes h = one-stands spots true (byte_at xs at) (byte_at ys at) (h at)
 int-value spots K.SChar at xs ys bytes h = one-stands spots true (byte_at xs at) (byte_at ys at) (h at)
 int-value spots K.UChar at xs ys bytes h = one-stands spots false (byte_at xs at) (byte_at ys at) (h at)
@@ -222,15 +223,15 @@ int-value spots K.ULong at xs ys bytes h = word-value spots false at xs ys bytes
 
 -- what a scalar of a type is in bytes, that of the type's kind in the bytes that stand for them stands for
 pub value-stands : (spots : List Spot) (ty : CType) (k : Kind) (at : ℕ) (xs ys : List Byte) → kind_of ty ≡ Some k → All IsByte xs → EachByteStands spots xs ys
-    → Stands spots (source.value_in ty (bytes_from (source.width_of ty) at xs)) (flow.scalar_of k (bytes_from (flow.width_of k) at ys))
+    → Stands spots (source.value_in ty (bytes_from (source.width_of ty) at xs)) (flow.scalar_of k (bytes_from (kind_size k) at ys))
 value-stands spots (Int kind) k at xs ys e bytes h =
-    subst (λ (l : Kind). Stands spots (scalar_in (bytes_from (size_of_kind kind) at xs) (is_signed_kind kind)) (flow.scalar_of l (bytes_from (flow.width_of l) at ys)))
+    subst (λ (l : Kind). Stands spots (scalar_in (bytes_from (size_of_kind kind) at xs) (is_signed_kind kind)) (flow.scalar_of l (bytes_from (kind_size l) at ys)))
     (same_Some (kind_of_int kind) k e) (int-value spots kind at xs ys bytes h)
 value-stands spots (PointerTo q) k at xs ys e bytes h =
     let b = suc at in
     let c = suc b in
     let d = suc c in
-    subst (λ (l : Kind). Stands spots (pointer_in (bytes_from 4 at xs)) (flow.scalar_of l (bytes_from (flow.width_of l) at ys))) (same_Some W32 k e)
+    subst (λ (l : Kind). Stands spots (pointer_in (bytes_from 4 at xs)) (flow.scalar_of l (bytes_from (kind_size l) at ys))) (same_Some W32 k e)
     (pointer-stands spots (byte_at xs at) (byte_at xs b) (byte_at xs c) (byte_at xs d) (byte_at ys at) (byte_at ys b) (byte_at ys c) (byte_at ys d) (h at) (h b) (h c) (h d))
 value-stands spots Void k at xs ys e bytes h = absurd (no-kind k e)
 value-stands spots (Array q n) k at xs ys e bytes h = absurd (no-kind k e)
@@ -243,7 +244,7 @@ same-numbers : (spots : List Spot) (width n : ℕ) → BytesStand spots (number_
 same-numbers spots zero n = tt
 same-numbers spots (suc more) n = (refl, same-numbers spots more n)
 
-one-byte : (kind : IntKind) → size_of_kind kind ≡ 1 → flow.width_of (kind_of_int kind) ≡ 1
+one-byte : (kind : IntKind) → size_of_kind kind ≡ 1 → kind_size (kind_of_int kind) ≡ 1
 one-byte kind e = sym (int-width kind) ∙ e
 
 int-bytes : (spots : List Spot) (kind : IntKind) (width : ℕ) (v w : Value) → IsNumberOf kind v → Stands spots v w → BytesStand spots (encoding v width) (encoding w width)
@@ -264,7 +265,7 @@ pointer-bytes spots (V.Piece p i) w typed h = absurd typed
 
 -- the bytes of what stands for a value of a type stand for its bytes
 pub bytes-stand : (spots : List Spot) (ty : CType) (k : Kind) (v w : Value) → kind_of ty ≡ Some k → IsValueOf ty v → Stands spots v w
-    → BytesStand spots (encoding v (source.width_of ty)) (encoding w (flow.width_of k))
+    → BytesStand spots (encoding v (source.width_of ty)) (encoding w (kind_size k))
 bytes-stand spots (Int kind) k v w e typed h =
     subst (λ (n : ℕ). BytesStand spots (encoding v (size_of_kind kind)) (encoding w n)) (same-width (Int kind) k e) (int-bytes spots kind (size_of_kind kind) v w typed h)
 bytes-stand spots (PointerTo q) k v w e typed h =
@@ -283,7 +284,7 @@ may-number S16 n = refl
 may-number U16 n = refl
 may-number W32 n = refl
 
-may-piece : (k : Kind) (p : Pointer) (i : ℕ) → flow.width_of k ≡ 1 → flow.may_stand k (V.Piece p i) ≡ true
+may-piece : (k : Kind) (p : Pointer) (i : ℕ) → kind_size k ≡ 1 → flow.may_stand k (V.Piece p i) ≡ true
 may-piece S8 p i h = refl
 may-piece U8 p i h = refl
 may-piece S16 p i h = absurd (omega (arith, h))
@@ -364,7 +365,7 @@ word-given : (n : ℕ) → BackLaws → flow.scalar_of W32 (number_bytes 4 n) �
 word-given n laws = ap (λ (u : Value). flow.word_or_pointer u (pointer_in (number_bytes 4 n))) (number-back K.ULong n laws)
 
 number-given : (kind : IntKind) (n : ℕ) → BackLaws → converted (V.Num n) kind ≡ V.Num n
-    → flow.scalar_of (kind_of_int kind) (number_bytes (flow.width_of (kind_of_int kind)) n) ≡ V.Num n
+    → flow.scalar_of (kind_of_int kind) (number_bytes (kind_size (kind_of_int kind)) n) ≡ V.Num n
 number-given K.Char n laws typed = number-back K.Char n laws ∙ typed
 number-given K.SChar n laws typed = number-back K.SChar n laws ∙ typed
 number-given K.UChar n laws typed = number-back K.UChar n laws ∙ typed
@@ -375,7 +376,7 @@ number-given K.UInt n laws typed = word-given n laws ∙ typed
 number-given K.Long n laws typed = word-given n laws ∙ ap V.Num (word-is true (n % 4294967296) (omega arith)) ∙ typed
 number-given K.ULong n laws typed = word-given n laws ∙ typed
 
-piece-given : (k : Kind) (p : Pointer) (i : ℕ) → flow.width_of k ≡ 1 → flow.scalar_of k (B.Piece p i ∷ []) ≡ V.Piece p i
+piece-given : (k : Kind) (p : Pointer) (i : ℕ) → kind_size k ≡ 1 → flow.scalar_of k (B.Piece p i ∷ []) ≡ V.Piece p i
 piece-given S8 p i h = refl
 piece-given U8 p i h = refl
 piece-given S16 p i h = absurd (omega (arith, h))
@@ -383,12 +384,12 @@ piece-given U16 p i h = absurd (omega (arith, h))
 piece-given W32 p i h = absurd (omega (arith, h))
 
 int-given : (spots : List Spot) (kind : IntKind) (v w : Value) → BackLaws → IsNumberOf kind v → Stands spots v w
-    → flow.same_value (flow.scalar_of (kind_of_int kind) (encoding w (flow.width_of (kind_of_int kind)))) w ≡ true
+    → flow.same_value (flow.scalar_of (kind_of_int kind) (encoding w (kind_size (kind_of_int kind)))) w ≡ true
 int-given spots kind (V.Num n) w laws typed h =
-    ap (λ (u : Value). flow.same_value (flow.scalar_of (kind_of_int kind) (encoding u (flow.width_of (kind_of_int kind)))) u) h
+    ap (λ (u : Value). flow.same_value (flow.scalar_of (kind_of_int kind) (encoding u (kind_size (kind_of_int kind)))) u) h
     ∙ ap (λ (u : Value). flow.same_value u (V.Num n)) (number-given kind n laws typed) ∙ eq-eqb n n refl
 int-given spots kind (V.Piece p i) w laws typed h =
-    ap (λ (u : Value). flow.same_value (flow.scalar_of (kind_of_int kind) (encoding u (flow.width_of (kind_of_int kind)))) u) h.2
+    ap (λ (u : Value). flow.same_value (flow.scalar_of (kind_of_int kind) (encoding u (kind_size (kind_of_int kind)))) u) h.2
     ∙ ap (λ (u : Value). flow.same_value u (V.Piece h.0 i)) (piece-given (kind_of_int kind) h.0 i (one-byte kind typed))
     ∙ and_from (same_pointer h.0 h.0) (nat_eq i i) (is-same h.0) (eq-eqb i i refl)
 int-given spots kind V.Undefined w laws typed h = absurd typed
@@ -406,14 +407,14 @@ pointer-given spots (V.Piece p i) w typed h = absurd typed
 -- what stands for a value of a type is of the type's kind
 pub of-kind : (spots : List Spot) (ty : CType) (k : Kind) (v w : Value) → BackLaws → kind_of ty ≡ Some k → IsValueOf ty v → Stands spots v w → flow.is_of_kind k w ≡ true
 of-kind spots ty k v w laws e typed h =
-    and_from (flow.may_stand k w) (flow.same_value (flow.scalar_of k (encoding w (flow.width_of k))) w) (may-stand spots ty k v w e typed h) (given spots ty k v w laws e typed h)
+    and_from (flow.may_stand k w) (flow.same_value (flow.scalar_of k (encoding w (kind_size k))) w) (may-stand spots ty k v w e typed h) (given spots ty k v w laws e typed h)
   where
     given : (spots : List Spot) (ty : CType) (k : Kind) (v w : Value) → BackLaws → kind_of ty ≡ Some k → IsValueOf ty v → Stands spots v w
-        → flow.same_value (flow.scalar_of k (encoding w (flow.width_of k))) w ≡ true
+        → flow.same_value (flow.scalar_of k (encoding w (kind_size k))) w ≡ true
     given spots (Int kind) k v w laws e typed h =
-        subst (λ (l : Kind). flow.same_value (flow.scalar_of l (encoding w (flow.width_of l))) w ≡ true) (same_Some (kind_of_int kind) k e) (int-given spots kind v w laws typed h)
+        subst (λ (l : Kind). flow.same_value (flow.scalar_of l (encoding w (kind_size l))) w ≡ true) (same_Some (kind_of_int kind) k e) (int-given spots kind v w laws typed h)
     given spots (PointerTo q) k v w laws e typed h =
-        subst (λ (l : Kind). flow.same_value (flow.scalar_of l (encoding w (flow.width_of l))) w ≡ true) (same_Some W32 k e) (pointer-given spots v w typed h)
+        subst (λ (l : Kind). flow.same_value (flow.scalar_of l (encoding w (kind_size l))) w ≡ true) (same_Some W32 k e) (pointer-given spots v w typed h)
     given spots Void k v w laws e typed h = absurd (no-kind k e)
     given spots (Array q n) k v w laws e typed h = absurd (no-kind k e)
     given spots (Function r ps) k v w laws e typed h = absurd (no-kind k e)

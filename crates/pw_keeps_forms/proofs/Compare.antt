@@ -115,10 +115,10 @@ binary-keeps laws bound t ty o a b nonvoid applies operands first second = λ x 
 
 -- ---- an operation on two values, in either order
 
-pub ordered-code : Bool → BinKind → ℕ → ℕ → Code → Lowered
+unfoldable pub ordered-code : Bool → BinKind → ℕ → ℕ → Code → Lowered
 ordered-code turned k p q d = if turned then fresh (λ t. op.Bin k t q p) d else fresh (λ t. op.Bin k t p q) d
 
-two-give :
+pub two-give :
     Laws → (turned : Bool) (k : BinKind) (x : Activation) (numbers : Numbers) (spots : List Spot) (p q : ℕ) (d : Code) (u : State) (n : Machine) (v w result : Value)
     → IsReady x numbers spots d u n → ContainsCode (graph_of x) (ordered-code turned k p q d).code
     → (if turned then flow.binary n.objects k (value_in n.frame q) (value_in n.frame p) else flow.binary n.objects k (value_in n.frame p) (value_in n.frame q)) ≡ Some w → Stands spots result w

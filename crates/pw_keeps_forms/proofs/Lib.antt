@@ -17,3 +17,7 @@ mod Assign
 mod Cond
 mod Arguments
 mod Addresses
+mod Globals
+mod Owning
+mod Symbols
+mod Numbers

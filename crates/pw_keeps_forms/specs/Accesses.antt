@@ -20,6 +20,7 @@ use Rattle.pw_cmean.specs.Access.{Purpose, load, store}
 use Rattle.pw_cmean.specs.Evaluation.{place_of}
 use Rattle.pw_cmean.specs.SourceRun.{calls}
 use Rattle.pw_cmean.specs.Typed.{IsValueOf}
+use Rattle.pw_flowrun.specs.Programs.{global_number}
 use Rattle.pw_flowrun.specs.FlowRun.{Machine, value_in, is_own_kind}
 use Rattle.pw_keeps.specs.Standing.{Spot, Stands}
 use Rattle.pw_keeps.specs.Activations.{Activation, IsActivation, Numbers, graphs, graph_of, home_of, env_of, place_in, local_temps, HaveSlots}
@@ -27,10 +28,10 @@ use Rattle.pw_keeps.specs.Containing.{ContainsCode}
 use Rattle.pw_keeps.specs.Meeting.{Meets}
 use Rattle.pw_keeps.specs.Expressions.{local_in, IsReady, HasValue, HasResult, HasTarget, TargetStands, IsOfPlaces}
 
--- A local that is a target has the type; a global that is one has the type's kind.
+-- A local that is a target has the type; a global that is one, where there is one of the name, has the type's kind.
 abbrev pub SuitsType : Activation → CType → Target → Type 0
 SuitsType x ty (Kept t) = (k : ℕ) (l : LocalValue) → slice_get x.function.locals k ≡ Some l → place_in x k ≡ Temp t → type_of l.ty ≡ ty
-SuitsType x ty (Named g) = (k : Kind) → kind_of ty ≡ Some k → is_own_kind (graphs x.world) g k ≡ true
+SuitsType x ty (Named g) = (k : Kind) (o : ℕ) → kind_of ty ≡ Some k → global_number (graphs x.world) g ≡ Some o → is_own_kind (graphs x.world) g k ≡ true
 SuitsType x ty (Led t) = Unit {0}
 
 -- a local that is a target is among those that are assigned to
@@ -93,7 +94,7 @@ pub record TargetSuits (x : Activation) (a : Expression) (c : Code) : Type 0 whe
   pub covers : Covers x (local_in a) (place (home_of x) a c).target
 
 abbrev pub TargetsSuit : Expression → Type 0
-TargetsSuit a = (x : Activation) (c : Code) → IsTyped x.home.tree x.function.locals a → HaveSlots x (addressed_in a) → TargetSuits x a c
+TargetsSuit a = (x : Activation) (c : Code) → IsActivation x → IsTyped x.home.tree x.function.locals a → HaveSlots x (addressed_in a) → TargetSuits x a c
 
 -- the promise of the place of one array, function, structure or union
 abbrev pub AddressKeeps : ℕ → Expression → Type 0

@@ -3,8 +3,8 @@
 #![tactic(auto)]
 
 ghost use Rattle.std.specs.Prelude.{◌≡◌, ℕ};
-ghost use Rattle.pw_types.specs.TypeTrees.{Pointer, QType};
-ghost use Rattle.pw_types.specs.TypedTrees.{Expression, Node, Local, Deref, Unary, Binary, Logic, Cond, Comma, Assign, Decay, Address};
+ghost use Rattle.pw_types.specs.TypeTrees.{Pointer, QType, type_of};
+ghost use Rattle.pw_types.specs.TypedTrees.{Symbol, Expression, Node, Local, Global, Deref, Unary, Binary, Logic, Cond, Comma, Assign, Decay, Address};
 ghost use Rattle.pw_types.specs.WellTyped.{IsScalar, type_in};
 ghost use Rattle.pw_types.specs.declared.tree.BinaryOperator.{BinaryOperator};
 ghost use Rattle.pw_types.specs.declared.tree.LogicOperator.TheVariants.{And, Or};
@@ -39,7 +39,8 @@ pub fn accesses_keep()
     ranges_of_bytes();
 }
 
-/// Lvalues that keep their promise: locals, and what a pointer leads to. As values of expressions they keep theirs;
+/// Lvalues that keep their promise: locals, globals, and what a pointer leads to. As values of expressions, scalars among
+/// the globals, they keep theirs;
 /// and so does the assignment of a scalar to one of them.
 pub fn lvalues_keep()
     ensures local_places { (bound t : ℕ) (ty : QType) (k : ℕ) → LvalueKeeps bound (Node t ty (Local k)) }
@@ -50,6 +51,10 @@ pub fn lvalues_keep()
     ensures deref_targets { (t : ℕ) (ty : QType) (a : Expression) → TargetsSuit (Node t ty (Deref a)) }
     ensures derefs { (bound t : ℕ) (ty : QType) (a : Expression) →
         ExpressionKeeps bound a → ExpressionKeeps bound (Node t ty (Deref a)) }
+    ensures global_places { (bound t : ℕ) (ty : QType) (symbol : Symbol) → LvalueKeeps bound (Node t ty (Global symbol)) }
+    ensures global_targets { (t : ℕ) (ty : QType) (symbol : Symbol) → TargetsSuit (Node t ty (Global symbol)) }
+    ensures globals { (bound t : ℕ) (ty : QType) (symbol : Symbol) → IsScalar (type_of ty) →
+        ExpressionKeeps bound (Node t ty (Global symbol)) }
     ensures assignments { (bound t : ℕ) (ty : QType) (a b : Expression) → IsScalar (type_in a) → TargetsSuit a →
         LvalueKeeps bound a → ExpressionKeeps bound b → ExpressionKeeps bound (Node t ty (Assign a b)) }
 {

@@ -2,6 +2,7 @@ use Rattle.pw_keeps_forms.proofs.Laws.{Laws}
 use Rattle.pw_keeps_forms.proofs.Loads.{local-keeps, deref-keeps}
 use Rattle.pw_keeps_forms.proofs.Lvalues.{local-lvalue, deref-lvalue, local-suited, deref-suited}
 use Rattle.pw_keeps_forms.proofs.Assign.{assign-keeps}
+use Rattle.pw_keeps_forms.proofs.Symbols.{global-lvalue, global-suited, global-keeps}
 use Rattle.pw_keeps_forms.proofs.lvalues_keep.Goals as goal
 
 all : goal.After-ranges_of_bytes → Laws
@@ -33,7 +34,7 @@ pub returns-clause-local_places : goal.returns-clause-local_places
 returns-clause-local_places c = local-lvalue (all c)
 
 pub returns-clause-local_targets : goal.returns-clause-local_targets
-returns-clause-local_targets c = λ t ty k x d typed slots. local-suited x t ty k d typed
+returns-clause-local_targets c = λ t ty k x d active typed slots. local-suited x t ty k d typed
 
 pub returns-clause-locals : goal.returns-clause-locals
 returns-clause-locals c = local-keeps (all c)
@@ -42,10 +43,19 @@ pub returns-clause-deref_places : goal.returns-clause-deref_places
 returns-clause-deref_places c = deref-lvalue (all c)
 
 pub returns-clause-deref_targets : goal.returns-clause-deref_targets
-returns-clause-deref_targets c = λ t ty a x d typed slots. deref-suited (all c) x t ty a d typed slots
+returns-clause-deref_targets c = λ t ty a x d active typed slots. deref-suited (all c) x t ty a d typed slots
 
 pub returns-clause-derefs : goal.returns-clause-derefs
 returns-clause-derefs c = deref-keeps (all c)
 
 pub returns-clause-assignments : goal.returns-clause-assignments
 returns-clause-assignments c = assign-keeps (all c)
+
+pub returns-clause-global_places : goal.returns-clause-global_places
+returns-clause-global_places c = global-lvalue
+
+pub returns-clause-global_targets : goal.returns-clause-global_targets
+returns-clause-global_targets c = λ t ty symbol x d active typed slots. global-suited x t ty symbol d active typed
+
+pub returns-clause-globals : goal.returns-clause-globals
+returns-clause-globals c = global-keeps (all c)

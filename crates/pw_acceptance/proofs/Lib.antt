@@ -1,0 +1,10 @@
+mod Counts
+mod Agreeing
+mod Linking
+mod Names
+mod Modules
+mod Programs
+mod Given
+mod Checked
+mod Numbered
+mod Whole

@@ -1,0 +1,145 @@
+//! What checking and linking accept is accepted in the words of C's meaning: laws, as the contracts of functions that do nothing.
+#![tactic(auto)]
+
+ghost use Rattle.std.specs.Prelude.{ℕ, ◌≡◌, ◌≤◌, List, Some, map, Contains};
+ghost use Rattle.pw_value.specs.Limits.{stack_most};
+ghost use Rattle.pw_value.specs.Shapes.{Agree};
+ghost use Rattle.pw_files.specs.Rising.{IsRising};
+ghost use Rattle.pw_types.specs.FullNames.{full_name};
+ghost use Rattle.pw_types.specs.Shapes.{shape_of};
+ghost use Rattle.pw_types.specs.TypeTrees.{QType, type_of, is_volatile};
+ghost use Rattle.pw_types.specs.TypedTrees.{Symbol};
+ghost use Rattle.pw_types.specs.WellTyped.{IsFunctionOf};
+ghost use Rattle.pw_cmean.specs.Worlds.{Callable, Program, ProgramModule, function_named};
+ghost use Rattle.pw_cmean.specs.Typed.{IsWellTyped};
+ghost use Rattle.pw_lowered.specs.Within.{IsWithin};
+ghost use Rattle.pw_webrun.specs.Programs.{IsProgram};
+ghost use Rattle.pw_linkrun.specs.Laws.{AreNamesApart};
+ghost use Rattle.pw_layers.specs.Accepting.{AreFormed, IsWhole, LeadInside};
+ghost use Rattle.pw_layers.specs.Lowering.{AreChecked, DeclareAlike, HaveParts, IsAccepted, flow_program};
+ghost use Rattle.pw_keeps.specs.Lowerable.{IsLowerable};
+ghost use Rattle.pw_acceptance.specs.Linked.{AreAllNumbered, AreLinked, AreNamedPlainly, AreOfWords, ReferRightly};
+
+use pw_formed::accepted_functions_are_formed;
+use pw_lowered::modules_are_lawful;
+use pw_tree::words_spell_what_they_are;
+use pw_well_typed::{
+    accepted_functions_are_typed, accepted_is_well_typed, accepted_names_are_declared,
+};
+use pw_within::{
+    accepted_initialisers_have_parts, accepted_is_within, accepted_names_are_identifiers,
+    accepted_strings_are_short, strings_of_texts,
+};
+
+/// Where the objects of checked modules link, all declarations of a name agree, the library's among them, and `main` takes nothing
+/// and gives an int (ISO C90 6.1.2.6, 5.1.2.2.1).
+pub fn linked_modules_declare_alike()
+    ensures { (p : Program) (frame_of : List ℕ → ℕ) (stack : ℕ) → AreChecked p → AreLinked (flow_program p frame_of stack).modules → DeclareAlike (flow_program p frame_of stack) }
+{
+    words_spell_what_they_are();
+    accepted_names_are_identifiers();
+    accepted_functions_are_typed();
+    accepted_names_are_declared();
+}
+
+/// And no function and no object has the name of another one or of a routine (6.7).
+pub fn linked_names_are_apart()
+    ensures { (p : Program) (frame_of : List ℕ → ℕ) (stack : ℕ) → AreChecked p → AreLinked (flow_program p frame_of stack).modules → AreNamesApart (flow_program p frame_of stack) }
+{
+    words_spell_what_they_are();
+    accepted_names_are_identifiers();
+    accepted_functions_are_typed();
+    accepted_names_are_declared();
+}
+
+/// And where no module has a colon in its name, and the names rise, the function of a name has a shape that agrees with what each
+/// module says of it (6.1.2.6).
+pub fn linked_functions_agree()
+    ensures { (p : Program) (frame_of : List ℕ → ℕ) (stack : ℕ) → AreChecked p → AreNamedPlainly p → IsRising (map (λ m. m.name) p.modules) → AreLinked (flow_program p frame_of stack).modules
+        → (m : ProgramModule) → Contains p.modules m → (symbol : Symbol) (ty : QType) (f : Callable) → IsFunctionOf m.tree symbol ty → function_named p (full_name m.name symbol) ≡ Some f
+        → Agree (shape_of m.tree.records (type_of ty) (is_volatile ty)) f.shape }
+{
+    words_spell_what_they_are();
+    accepted_names_are_identifiers();
+    accepted_functions_are_typed();
+    accepted_names_are_declared();
+}
+
+/// In checked modules no local that is initialised by the bytes of a hidden object is without an expression of which they are made.
+pub fn checked_initialisers_have_parts()
+    ensures { (p : Program) → AreChecked p → HaveParts p }
+{
+    accepted_initialisers_have_parts();
+}
+
+/// In checked modules the labels that a `goto` can name stand in the order of the text, and a hidden object gives its bytes to no
+/// scalar local.
+pub fn checked_functions_are_formed()
+    ensures { (p : Program) → AreChecked p → AreFormed p }
+{
+    accepted_functions_are_formed();
+}
+
+/// Checked modules whose objects link are within the limits for which their flow graphs are lawful: a program has few objects, so
+/// those without a name have numbers of 32 bits.
+pub fn linked_modules_are_within()
+    ensures { (p : Program) (frame_of : List ℕ → ℕ) (stack : ℕ) → AreChecked p → AreLinked (flow_program p frame_of stack).modules → (m : ProgramModule) → Contains p.modules m → IsWithin m.tree }
+{
+    strings_of_texts();
+    words_spell_what_they_are();
+    accepted_is_within();
+}
+
+/// They are well typed and agree on functions, if no module has a colon in its name, the names rise, and each number of the typed
+/// trees is one of 32 bits, as in each that the code makes.
+pub fn linked_modules_are_well_typed()
+    ensures { (p : Program) (frame_of : List ℕ → ℕ) (stack : ℕ) → AreChecked p → AreNamedPlainly p → IsRising (map (λ m. m.name) p.modules) → AreLinked (flow_program p frame_of stack).modules → AreOfWords p → IsWellTyped p }
+{
+    strings_of_texts();
+    accepted_strings_are_short();
+    accepted_is_well_typed();
+    linked_functions_agree();
+}
+
+/// And their flow graphs make a program, if besides operations and items refer as they are to: each name that they use is defined,
+/// and none twice, the modules are lawful and stand in the order of their names, and there is a `$start`.
+pub fn linked_modules_make_a_program()
+    ensures { (p : Program) (frame_of : List ℕ → ℕ) (stack : ℕ) → AreChecked p → IsRising (map (λ m. m.name) p.modules) → stack ≤ stack_most → AreLinked (flow_program p frame_of stack).modules → AreOfWords p
+        → ReferRightly (flow_program p frame_of stack) → IsProgram (flow_program p frame_of stack) }
+{
+    strings_of_texts();
+    words_spell_what_they_are();
+    accepted_names_are_identifiers();
+    accepted_functions_are_typed();
+    accepted_names_are_declared();
+    accepted_strings_are_short();
+    accepted_is_well_typed();
+    linked_modules_are_within();
+    modules_are_lawful();
+}
+
+/// So checked modules whose objects link are accepted, with all that built programs want of it, but for what is a premise here: that
+/// no module has a colon in its name, that numbers are of 32 bits, that operations and items refer rightly, and that addresses in
+/// initialisers lead inside.
+pub fn checked_is_accepted_but_for_references()
+    ensures { (p : Program) (frame_of : List ℕ → ℕ) (stack : ℕ) → AreChecked p → AreNamedPlainly p → IsRising (map (λ m. m.name) p.modules) → stack ≤ stack_most → AreLinked (flow_program p frame_of stack).modules
+        → AreOfWords p → ReferRightly (flow_program p frame_of stack) → LeadInside (flow_program p frame_of stack) → IsWhole p frame_of stack }
+{
+    linked_modules_are_well_typed();
+    linked_modules_make_a_program();
+    linked_modules_declare_alike();
+    checked_initialisers_have_parts();
+    checked_functions_are_formed();
+    linked_names_are_apart();
+}
+
+/// Accepted programs of checked texts are lowerable, but for what is a premise here: that objects without a name have numbers of 32
+/// bits, as they have where their objects link, and that addresses in initialisers lead inside.
+pub fn accepted_is_lowerable_but_for_addresses()
+    ensures { (p : Program) (frame_of : List ℕ → ℕ) (stack : ℕ) → AreChecked p → IsAccepted p frame_of stack → AreAllNumbered p → LeadInside (flow_program p frame_of stack) → IsLowerable p frame_of stack }
+{
+    strings_of_texts();
+    words_spell_what_they_are();
+    accepted_is_within();
+    checked_functions_are_formed();
+}

@@ -1,0 +1,6 @@
+mod Nodes
+mod Phrases
+mod Initialisers
+mod Statements
+mod Functions
+mod OwnNames

@@ -1,0 +1,11 @@
+mod Lists
+mod Values
+mod Numbers
+mod Objects
+mod Trails
+mod Commands
+mod Running
+mod Following
+mod Directives
+mod Traffic
+mod Banks

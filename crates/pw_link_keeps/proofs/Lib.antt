@@ -1,0 +1,14 @@
+pub mod Words
+pub mod Noting
+pub mod Stepping
+pub mod Branches
+pub mod Placed
+pub mod Turning
+pub mod Items
+pub mod Calls
+pub mod Library
+pub mod Entering
+pub mod Routines
+pub mod Meeting
+pub mod Running
+pub mod Making

@@ -1,0 +1,109 @@
+//! What the machine does where the items of the program's functions stand in its text.
+
+ghost use Rattle.std.specs.Prelude.{ℕ, suc, ℤ, ◌≡◌, ◌+◌, ◌%◌, ◌^◌, ◌≤◌, ◌<◌, ◌==◌, Bool, true, false, if◌then◌else◌, Some, None, List, ◌∷◌, Contains, length};
+ghost use Rattle.std.specs.List.{AllByRecursion};
+ghost use Rattle.pw_inst.specs.declared.Inst.{Inst};
+ghost use Rattle.pw_inst.specs.declared.Inst.TheVariants.{Combf};
+ghost use Rattle.pw_inst.specs.InstructionTable.{decoded, IsInRange};
+ghost use Rattle.pw_machine.specs.Core.{Core, word_at};
+ghost use Rattle.pw_machine.specs.Run.{State};
+ghost use Rattle.pw_machine.specs.Effect.{condition, is_in_text, effect_of};
+ghost use Rattle.pw_machine_laws.specs.Lawful.{IsLawfulCore};
+ghost use Rattle.pw_delay.specs.declared.items.Word.{Word};
+ghost use Rattle.pw_delay.specs.declared.items.Item.{Item};
+ghost use Rattle.pw_delay.specs.declared.items.Item.TheVariants.{Plain, Turns, Mark};
+ghost use Rattle.pw_delay.specs.declared.items.Turn.TheVariants.{Back, Goto, If};
+ghost use Rattle.pw_delay.specs.Placement.{size};
+ghost use Rattle.pw_lines.specs.Addresses.{Addresses};
+ghost use Rattle.pw_lines.specs.Acts as lines;
+ghost use Rattle.pw_lines.specs.Acts.{acts};
+ghost use Rattle.pw_lines.specs.LineRun.{LineFn, Frame, Machine, On, left_behind, counted, does, to_block, words_back, goes_back, return_address, enters, returns, start, line_run};
+ghost use Rattle.pw_run.specs.Runs.{Refines, Same};
+ghost use Rattle.pw_milli.specs.Words.{divs_words, divu_words, mul_words, rems_words, remu_words};
+ghost use Rattle.pw_milli.specs.Calls.{Enters};
+ghost use Rattle.pw_linkrun.specs.MachineRun.{start_state, traced_run};
+ghost use Rattle.pw_link_keeps.specs.Showing.{Shows, DoesSo};
+ghost use Rattle.pw_link_keeps.specs.Steps.{Setting, map_in, Arrives, is_back, AreInData};
+ghost use Rattle.pw_link_keeps.specs.Placing.{name_in, own_address};
+ghost use Rattle.pw_link_keeps.specs.Simulating.{calls_from, noted_by, IsLinked, IsCaller, Simulates, IsCalm, IsCalmInside, IsCalmBehind, leaving, HasLibrary};
+ghost use Rattle.pw_link_keeps.specs.Meeting.{Meets};
+ghost use Rattle.pw_link_keeps.specs.Routines.{HasRoutines, IsSteadyRun, Makes};
+
+use pw_milli::{divs_divides, divu_divides, mul_multiplies, rems_divides, remu_divides};
+
+/// Where an instruction of a word is next, the machine does what the word does in the run of lines: it goes on to a
+/// core that shows the word's result, or stops for want of stack. Where the word may not act, nothing is said.
+#[tactic(auto, using(crate::proofs::Words::word_done))]
+pub fn words_are_done()
+    ensures { (w : Addresses) (c : lines.Core) (core : Core) (i : Inst) → core.data_start ≡ w.data_start → IsLawfulCore core → IsInRange i → Shows c core →
+        is_in_text core core.front ≡ true → decoded (word_at core.memory core.front) ≡ Some i → DoesSo core (effect_of core) (acts w (Some i) c) }
+{}
+
+/// From a state of the lines that the machine shows, a word leads to one that it shows after one step more, with what
+/// it notes; the beginning of a block takes no step. Nothing returns and nothing is called where the lines are then.
+#[tactic(auto, using(crate::proofs::Items::word_simulates, crate::proofs::Items::mark_simulates))]
+pub fn words_are_met()
+    ensures word { (x : Setting) → IsLinked x → (k : ℕ) (m t : Machine) (word : Word) (rest : List Item) →
+        Simulates x (left_behind (Plain word ∷ rest) m) k → does x.program x.addresses word (left_behind rest m) ≡ On t → IsCalm x t → Simulates x t (suc k) }
+    ensures block { (x : Setting) (k b : ℕ) (m : Machine) (rest : List Item) → Simulates x (left_behind (Mark b ∷ rest) m) k → Simulates x (left_behind rest m) k }
+{}
+
+/// So do a jump to a block, a conditional branch, short or long, and a loop inside a block.
+#[tactic(auto, using(crate::proofs::Items::goto_simulates, crate::proofs::Items::if_simulates, crate::proofs::Items::back_simulates))]
+pub fn branches_are_met()
+    ensures jump { (x : Setting) → IsLinked x → (k b : ℕ) (m t : Machine) (rest : List Item) →
+        Simulates x (left_behind (Turns (Goto b) None ∷ rest) m) k → m.core.skip ≡ false → to_block b (counted (left_behind (Turns (Goto b) None ∷ rest) m)) ≡ On t →
+        IsCalmInside x (left_behind (Turns (Goto b) None ∷ rest) m) 2 → IsCalm x t → Simulates x t (suc (suc k)) }
+    ensures branch { (x : Setting) → IsLinked x → (k r b : ℕ) (m t : Machine) (rest : List Item) →
+        Simulates x (left_behind (Turns (If r b) None ∷ rest) m) k → m.core.skip ≡ false →
+        (if lines.register m.core r == 0 then On (left_behind rest m) else to_block b (counted (left_behind (Turns (If r b) None ∷ rest) m))) ≡ On t →
+        IsCalmInside x (left_behind (Turns (If r b) None ∷ rest) m) (size (x.long (name_in m.frame.function)) (Turns (If r b) None)) → IsCalm x t → (j : ℕ) × Simulates x t j }
+    ensures back { (x : Setting) → IsLinked x → (k j r u : ℕ) (disp : ℤ) (m t : Machine) (rest : List Item) →
+        Simulates x (left_behind (Turns (Back (Combf j r u disp)) None ∷ rest) m) k → m.core.skip ≡ false →
+        (if (if condition j (lines.register m.core r) (lines.register m.core u) then false else true)
+        then goes_back (words_back disp) (Turns (Back (Combf j r u disp)) None ∷ rest) (counted (left_behind (Turns (Back (Combf j r u disp)) None ∷ rest) m))
+        else On (left_behind rest m)) ≡ On t →
+        IsCalmInside x (left_behind (Turns (Back (Combf j r u disp)) None ∷ rest) m) 2 → IsCalm x t → Simulates x t (suc (suc k)) }
+{}
+
+/// Where the machine arrives at a function's address, with the return address in register 2, it shows the state of the
+/// lines in which the function is entered; and after a return that in which the caller goes on. It notes the call and
+/// the return as the lines do.
+#[tactic(auto, using(crate::proofs::Calls::enters_simulates, crate::proofs::Calls::return_simulates))]
+pub fn calls_are_met()
+    ensures entry { (x : Setting) → IsLinked x → (k : ℕ) (g : LineFn) (m : Machine) → Contains x.program.functions g → IsCaller x m.frame → AllByRecursion (IsCaller x) m.callers →
+        lines.register m.core 2 ≡ return_address x.addresses m.frame m.frame.left →
+        Arrives x k m.core (own_address x g) ((own_address x g + 4) % 2 ^ 32) m.rest m.out (noted_by x m) → m.events + 1 ≤ k → m.read + length m.rest ≡ length x.start.rest → m.core.skip ≡ false →
+        AllByRecursion (λ call. is_back m.core (own_address x g) call ≡ false) (calls_from x m.frame m.callers) → AreInData x (calls_from x m.frame m.callers) →
+        Simulates x (enters x.program x.addresses g m) k }
+    ensures exit { (x : Setting) → IsLinked x → (k : ℕ) (m t : Machine) (rest : List Item) (caller : Frame) (callers : List Frame) →
+        Simulates x (leaving m rest caller callers) k → m.core.skip ≡ false →
+        returns x.program x.addresses (lines.register m.core 2) (left_behind rest (leaving m rest caller callers)) ≡ On t →
+        IsCalmBehind x (leaving m rest caller callers) → IsCalm x t → AreInData x (calls_from x caller callers) → Simulates x t (suc (suc k)) }
+{}
+
+/// A routine that is entered leaves the result that the run of lines has, in register 29, and changes scratch registers
+/// alone.
+pub fn routines_leave_results()
+    ensures divs { (address : ℕ) (s : State) → Enters divs_words address s → Makes divs_words address s 0 }
+    ensures divu { (address : ℕ) (s : State) → Enters divu_words address s → Makes divu_words address s 1 }
+    ensures mul { (address : ℕ) (s : State) → Enters mul_words address s → Makes mul_words address s 2 }
+    ensures rems { (address : ℕ) (s : State) → Enters rems_words address s → Makes rems_words address s 3 }
+    ensures remu { (address : ℕ) (s : State) → Enters remu_words address s → Makes remu_words address s 4 }
+{
+    divs_divides();
+    divu_divides();
+    mul_multiplies();
+    rems_divides();
+    remu_divides();
+}
+
+/// The run of lines is met by the machine's run, with the same log, where the machine shows its start, and each of its
+/// states is steady: nothing seems to return or to be called but what the lines return from and call, and the words
+/// that routines leave are those that the lines take.
+
+pub fn steady_runs_are_met()
+    ensures { (x : Setting) → IsLinked x → HasLibrary x → HasRoutines x → (scratch : ℕ → ℕ → ℕ) (core : Core) (input : List ℕ) → x.start ≡ start_state core input →
+        Meets x (start x.program x.addresses input) → IsSteadyRun x scratch (start x.program x.addresses input) →
+        Refines Same (line_run x.program x.addresses scratch input) (traced_run (map_in x) core input) }
+{}

@@ -1,0 +1,4 @@
+//! Towards the law of linking: the machine does at each item what the run of lines does.
+#![tactic(auto)]
+
+pub mod laws;
