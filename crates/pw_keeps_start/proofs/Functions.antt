@@ -74,11 +74,11 @@ start_only (g ∷ fs) f h = start_by (is_main g.name) fs f (start_only fs f) h
 
 -- a function that a flow graph was made of
 pub record From (p : Program) (f : FlowFn) : Type 0 where
-  pub module_ : ProgramModule
-  pub home : Has module_ p.modules
+  pub home : ProgramModule
+  pub stands : Has home p.modules
   pub function : FunctionValue
-  pub there : Has function module_.tree.functions
-  pub is : lowered_function module_.name module_.tree.records function ≡ f
+  pub there : Has function home.tree.functions
+  pub is : lowered_function home.name home.tree.records function ≡ f
 
 in_module : (home : List ℕ) (m : ModuleValue) (f : FlowFn) → Has f (lowered home m).functions → ((g : FunctionValue) × Has g m.functions × (lowered_function home m.records g ≡ f)) ⊎ (start_function ≡ f)
 unfolding lowered
@@ -182,7 +182,7 @@ module _ (p : Program) (frame_of : List ℕ → ℕ) (stack : ℕ) where
       let s = has_map_back low m.0 p.modules m.1 in
       let there : Has f (low s.0).functions = subst (λ (x : FlowModule). Has f x.functions) (sym s.2) m.2 in
       elim (in_module s.0.name s.0.tree f there) [
-        | inl g ↦ inl (record { module_ = s.0; home = s.1; function = g.0; there = g.1; is = g.2 })
+        | inl g ↦ inl (record { home = s.0; stands = s.1; function = g.0; there = g.1; is = g.2 })
         | inr e ↦ inr e
       ]
 
@@ -211,8 +211,8 @@ module _ (p : Program) (frame_of : List ℕ → ℕ) (stack : ℕ) where
         let f = has_map_back name_in name (flows.functions_of q) k in
         elim (graph_from f.0 f.1) [
           | inl g ↦
-              named_by (callable g.module_ g.function) name (call_there g.module_ g.function g.home g.there)
-              (sym (full g.module_.name g.module_.tree.records g.function) ∙ ap name_in g.is ∙ f.2)
+              named_by (callable g.home g.function) name (call_there g.home g.function g.stands g.there)
+              (sym (full g.home.name g.home.tree.records g.function) ∙ ap name_in g.is ∙ f.2)
           | inr e ↦ absurd (ordinary (sym f.2 ∙ sym (ap name_in e)))
         ]
   ]
@@ -252,7 +252,6 @@ module _ (p : Program) (frame_of : List ℕ → ℕ) (stack : ℕ) where
         let test : List ℕ → Bool = λ other. is_before other name in
         let calls : List (List ℕ) = map called (calls_in p.modules) in
         let graphs : List (List ℕ) = map name_in (flows.functions_of q) in
-        let b : List ℕ → ℕ = bit test in
         let starts : sum_by (bit test) (map name_in (starts_in p.modules)) ≡ bit test start_name =
         each_start test (starts_in p.modules) (started p.modules) (test start_name) refl ∙ ap (λ (n : ℕ). cond (test start_name) n 0) one_start in
         let mine : source.function_number p name ≡ bit test start_name + (bit test exit_name + (bit test getchar_name + (bit test putchar_name + sum_by (bit test) calls))) =
@@ -277,8 +276,8 @@ module _ (p : Program) (frame_of : List ℕ → ℕ) (stack : ℕ) where
         let r = found test (flows.functions_of q) z.0 z.1 in
         elim (graph_from z.0 r.0) [
           | inl g ↦
-              absurd (symbol_differs g.module_.name g.function.name (named_within g.module_ g.function g.home g.there)
-              (sym (full g.module_.name g.module_.tree.records g.function) ∙ ap name_in g.is ∙ (bytes_eq-Decides z.0.name start_name).0 r.1))
+              absurd (symbol_differs g.home.name g.function.name (named_within g.home g.function g.stands g.there)
+              (sym (full g.home.name g.home.tree.records g.function) ∙ ap name_in g.is ∙ (bytes_eq-Decides z.0.name start_name).0 r.1))
           | inr e ↦ z.1 ∙ ap Some (sym e)
         ]
 
