@@ -1,0 +1,6 @@
+mod Lists
+mod Functions
+mod Bytes
+mod Pairs
+mod Objects
+mod Starts
