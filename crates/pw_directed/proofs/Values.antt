@@ -1,4 +1,5 @@
 -- Values lead to no function but those whose address is taken, whatever operations make of them.
+use Rattle.pw_flow.specs.ValidFlow.{kind_size}
 use Rattle.std.proofs.Common.{ℕ, zero, suc, ◌==◌, Bool, true, false, ◌&&◌, ◌||◌, not, nat_le, nat_lt, nat_eq, List, [], ◌∷◌, length, arith}
 use Rattle.std.specs.Prelude.{Option, Some, None, option_map, Result, Ok, Err, slice_set}
 use Rattle.std.proofs.lemmas.List.{length-set, length-append}
@@ -22,7 +23,7 @@ use Rattle.pw_flow.specs.declared.flow.BinKind.TheVariants.{Add, Sub, And, Or, X
 use Rattle.pw_flow.specs.declared.flow.ExtKind.{ExtKind}
 use Rattle.pw_flow.specs.declared.flow.ExtKind.TheVariants as X
 use Rattle.pw_flowrun.specs.Values.{truth, unary, extension, number_of, on_numbers, is_near, same_place, is_somewhere, on_pointers, pointer_and_number, number_and_pointer, binary}
-use Rattle.pw_flowrun.specs.Memory.{width_of, word_or_pointer, scalar_of, may_stand, is_open, look_in, poke_in, look, poke, is_apart, copy}
+use Rattle.pw_flowrun.specs.Memory.{word_or_pointer, scalar_of, may_stand, is_open, look_in, poke_in, look, poke, is_apart, copy}
 use Rattle.pw_flowrun.specs.Programs.{Program}
 use Rattle.pw_directed.specs.Values.{FinePointer, FineValue, FineByte, FineObject, FineObjects}
 use Rattle.pw_directed.proofs.Lists.{choose, read_each, set_each, append_each, replicate_each}
@@ -111,8 +112,8 @@ module _ (p : Program) where
 
   pub look_in_fine : (k : Kind) (o i : ℕ) (objects : List Object) → FineObjects p objects → FineIfValue p (look_in k o i objects)
   look_in_fine k o i objects all =
-      choose (FineIfValue p) (is_open objects o i (width_of k) (width_of k)) (Some (scalar_of k (bytes_from (width_of k) i (object_at objects o).bytes))) None
-      (scalar_of_fine k (bytes_from (width_of k) i (object_at objects o).bytes) (bytes_from_fine (width_of k) i (object_at objects o).bytes (object_fine objects o all))) tt
+      choose (FineIfValue p) (is_open objects o i (kind_size k) (kind_size k)) (Some (scalar_of k (bytes_from (kind_size k) i (object_at objects o).bytes))) None
+      (scalar_of_fine k (bytes_from (kind_size k) i (object_at objects o).bytes) (bytes_from_fine (kind_size k) i (object_at objects o).bytes (object_fine objects o all))) tt
 
   pub look_fine : (k : Kind) (v : Value) (objects : List Object) → FineObjects p objects → FineIfValue p (look k v objects)
   look_fine k (At (P.Object o i)) objects all = look_in_fine k o i objects all
@@ -120,8 +121,8 @@ module _ (p : Program) where
 
   pub poke_in_fine : (k : Kind) (o i : ℕ) (v : Value) (objects : List Object) → FineValue p v → FineObjects p objects → FineIfObjects p (poke_in k o i v objects)
   poke_in_fine k o i v objects h all =
-      choose (FineIfObjects p) (is_open objects o i (width_of k) (width_of k) && may_stand k v) (Some (written o i (encoding v (width_of k)) objects)) None
-      (written_fine o i (encoding v (width_of k)) objects (encoding_fine v (width_of k) h) all) tt
+      choose (FineIfObjects p) (is_open objects o i (kind_size k) (kind_size k) && may_stand k v) (Some (written o i (encoding v (kind_size k)) objects)) None
+      (written_fine o i (encoding v (kind_size k)) objects (encoding_fine v (kind_size k) h) all) tt
 
   pub poke_fine : (k : Kind) (a v : Value) (objects : List Object) → FineValue p v → FineObjects p objects → FineIfObjects p (poke k a v objects)
   poke_fine k (At (P.Object o i)) v objects h all = poke_in_fine k o i v objects h all
