@@ -113,12 +113,6 @@ step-fits IncrementBehind x k p = inl (p, refl, refl)
 step-fits DecrementBefore x k p = inl (p, refl, refl)
 step-fits DecrementBehind x k p = inl (p, refl, refl)
 
-same-operator : (o : StepOperator) → meaning.step_operator o ≡ step_operator o
-same-operator IncrementBefore = refl
-same-operator IncrementBehind = refl
-same-operator DecrementBefore = refl
-same-operator DecrementBehind = refl
-
 -- the value is what was stored, or what was read
 step-gives :
     (o : StepOperator) (x : Activation) (numbers : Numbers) (spots : List Spot) (all : List ℕ) (t : ℕ) (z : Lowered) (c : Code) (s w : State) (m n : Machine) (old new : Value)
@@ -236,8 +230,7 @@ step-rest laws nums bound t so own la target x numbers spots c u n place active 
     (meets-typed x.world bound n IsWordValue (load at (Int own) place u) (λ v. HasValue x numbers spots [] old c u n (Some v))
     (reads laws bound x numbers spots (Int own) k at target c u n place refl ready in-old suits st) (load-word own at place u ready.related.matches.bytes))
     (λ v u1 n1 g.
-    subst (λ (b : BinaryOperator). Meets x.world bound n1 ((convert at (Int work) v >>= λ w. update (env_of x numbers) t (Int own) (Int work) place b (Int K.Int) w (V.Num 1) >>= λ new. give (step_result so v new)) u1) R) (sym (same-operator so))
-    (stepped laws nums bound t so own la target x numbers spots c u u1 n n1 place v active ready suits covers led st apart holds g.1 g.0))
+    stepped laws nums bound t so own la target x numbers spots c u u1 n n1 place v active ready suits covers led st apart holds g.1 g.0)
 
 pub step-keeps : Laws → NumberLaws → (bound t : ℕ) (ty : QType) (so : StepOperator) (a : Expression) (own : IntKind)
     → type_in a ≡ Int own → TargetsSuit a → LvalueKeeps bound a → ExpressionKeeps bound (Node t ty (Step so a))
