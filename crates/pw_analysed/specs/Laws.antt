@@ -8,8 +8,9 @@ use Rattle.pw_colour.specs.Colours.{IsDatabaseOf}
 use Rattle.pw_colour.specs.Naming.{IsNamed}
 use Rattle.pw_alloc.specs.declared.located.Located.{Located}
 use Rattle.pw_object.specs.declared.object.Object.{Object}
-use Rattle.pw_flowrun.specs.Programs.{AreBytes}
-use Rattle.pw_webrun.specs.Laws.{DirectionKeepsRuns, PlacesKeepRuns}
+use Rattle.pw_flowrun.specs.Programs.{AreBytes, Program as Flows}
+use Rattle.pw_webrun.specs.Programs.{IsProgram}
+use Rattle.pw_webrun.specs.Laws.{DirectionKeeps, DirectionKeepsRuns, PlacesKeepRuns}
 use Rattle.pw_lines.specs.Laws.{SelectionKeepsRuns}
 use Rattle.pw_linkrun.specs.Laws.{LinkKeepsRuns}
 use Rattle.pw_cmean.specs.Worlds.{Program}
@@ -35,3 +36,8 @@ LayersGiveAll =
     (p : Program) (ss : List Summary) (colours : ℕ) (db : List (List ℕ × Directives)) (functions : List Located) (objects : List Object) (stack : ℕ) (input : List ℕ) →
     (built : IsAnalysed p ss colours db functions objects stack) → AreBytes input →
     HoldsOver p ss colours db functions objects stack input built.database
+
+-- the law of direction, of a program and the database of summaries for no register
+abbrev pub DirectionKeepsWithoutRegisters : Type 0
+DirectionKeepsWithoutRegisters =
+    (p : Flows) (input : List ℕ) (ss : List Summary) (db : List (List ℕ × Directives)) → IsProgram p → IsDatabaseOf ss 0 db → DirectionKeeps p db input

@@ -2,10 +2,11 @@
 #![tactic(auto)]
 
 ghost use Rattle.pw_analyses.specs.Laws.{DatabaseIsLawful, DatabaseIsSound, ColouredIsCovered};
-ghost use Rattle.pw_analysed.specs.Laws.{NamedGraphsSayTheSame, DatabasesServe, LayersGiveAll};
+ghost use Rattle.pw_analysed.specs.Laws.{NamedGraphsSayTheSame, DatabasesServe, DirectionKeepsWithoutRegisters, LayersGiveAll};
 
 use pw_analyses::{all_laws_compose, analyses_compose};
 use pw_colour::laws;
+use pw_undirected::undirected_runs_keep_theirs;
 
 /// The graph of summaries by the names of functions and globals says of calls, references, writes and eligible globals
 /// what their call graph says by places.
@@ -57,4 +58,12 @@ pub fn layers_give_all()
     databases_are_lawful();
     databases_are_sound_by_name();
     coloured_globals_are_covered();
+}
+
+/// For no register the database of summaries is empty, so that the law of direction holds: the directed run keeps the flow
+/// run with every global in memory, keeps the registers, and obeys the law of traffic.
+pub fn direction_keeps_without_registers()
+    ensures { DirectionKeepsWithoutRegisters }
+{
+    undirected_runs_keep_theirs();
 }
