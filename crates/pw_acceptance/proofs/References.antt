@@ -1,16 +1,17 @@
 -- Operations of modules that checking accepts and whose objects link name functions and globals as they want one.
-use Rattle.std.proofs.Common.{◌≡◌, ◌≢◌, ◌⊎◌, ℕ, Bool, true, false, Option, List, [], ◌∷◌, ◌++◌, map, refl, sym, ap, subst, ◌∙◌, arith, inl, inr}
-use Rattle.std.specs.Prelude.{Contains, Some, None, All, decimal}
+use Rattle.std.proofs.Common.{◌≡◌, ◌≢◌, ◌⊎◌, ◌<◌, ◌+◌, ℕ, suc, Bool, true, false, List, [], ◌∷◌, ◌++◌, map, refl, sym, ap, subst, ◌∙◌, arith, inl, inr}
+use Rattle.std.specs.Prelude.{Some, All, slice_get, decimal}
 use Rattle.std.specs.List.{flat_map, AllByRecursion}
-use Rattle.pw_value.specs.ProgramNames.{start_name, main_name, exit_name, exit_shape, getchar_shape, putchar_shape, library_functions, IsOrdinary}
+use Rattle.pw_value.specs.ProgramNames.{main_name, exit_name, exit_shape, getchar_shape, putchar_shape, library_functions, IsOrdinary}
 use Rattle.pw_value.specs.Shapes.{Agree, Begins}
 use Rattle.pw_files.specs.Rising.{IsRising}
 use Rattle.pw_types.specs.FullNames.{full_name}
-use Rattle.pw_types.specs.Records.{IsLaid, IsObjectType}
+use Rattle.pw_types.specs.Records.{IsObjectType}
 use Rattle.pw_types.specs.Shapes.{shape_of, letter_of, letters_of}
-use Rattle.pw_types.specs.TypeTrees.{CType, Function, QType, type_of, is_volatile, RecordValue}
-use Rattle.pw_types.specs.TypedTrees.{Symbol, External, Internal, Hidden, FunctionValue, GlobalValue, ModuleValue}
-use Rattle.pw_types.specs.TypedModules.{IsFunctionTyped, IsDeclaredIfExternal, IsGlobal, WellTyped}
+use Rattle.pw_types.specs.TypeTrees.{CType, QType, type_of, is_volatile, RecordValue}
+use Rattle.pw_types.specs.TypedTrees.{Symbol, External, Internal, Hidden, FunctionValue, GlobalValue, ItemValue, ItemBytes, ItemAddress, PlacedItem, ModuleValue}
+use Rattle.pw_types.specs.TypedModules.{IsFunctionTyped, IsDeclaredIfExternal, IsGlobal, WellTyped, AreItems, item_size}
+use Rattle.pw_types.specs.TypedModules as Y
 use Rattle.pw_types.specs.WellTyped.{IsDeclared, IsDefined, IsObject, IsFunctionOf, IsFunctionType}
 use Rattle.pw_flow.specs.declared.flow.Block.{Block}
 use Rattle.pw_flow.specs.declared.flow.FlowFn.{FlowFn}
@@ -18,15 +19,19 @@ use Rattle.pw_flow.specs.declared.flow.FlowGlobal.{FlowGlobal}
 use Rattle.pw_flow.specs.declared.flow.FlowModule.{FlowModule}
 use Rattle.pw_flow.specs.declared.flow.Op.{Op}
 use Rattle.pw_flow.specs.declared.flow.Op.TheVariants.{AddrGlobal, AddrFn, LoadG, StoreG, Call}
-use Rattle.pw_flow.specs.FlowGraph.{op_names, names_in_block, names_in_function, names_in_global, named_in, global_names, function_names}
-use Rattle.pw_lower.specs.Modules.{lowered_function, start_function, lowered_global, lowered}
+use Rattle.pw_flow.specs.ValidFlow.{AreDistinct}
+use Rattle.pw_flow.specs.FlowGraph.{item_names, op_names, names_in_block, names_in_function, names_in_global, named_in, global_names, function_names}
+use Rattle.pw_lower.specs.Modules.{lowered_function, start_function, item_of, lowered_item, lowered_global, lowered}
 use Rattle.pw_lowered.specs.Within.{AreLetters}
 use Rattle.pw_lowered.proofs.Names.{IsShared}
-use Rattle.pw_files.proofs.Standing.{Has, has_by, contains_by, has_each, has_left, has_right, has_map, has_map_back, has_flat, has_flat_back}
+use Rattle.pw_rules.specs.Kinds.{is_function}
+use Rattle.pw_well_typed.specs.Leading.{LeadsIntoOwn, Leads, ItemLeads, ItemsLead}
+use Rattle.pw_well_typed.proofs.Leading.{function_start}
+use Rattle.pw_files.proofs.Standing.{Has, apart, has_by, contains_by, has_each, each_by, has_left, has_right, has_split, has_map, has_map_back, has_flat, has_flat_back}
 use Rattle.pw_program.specs.Linking.{library_declarations}
 use Rattle.pw_cmean.specs.Worlds.{Program, ProgramModule}
 use Rattle.pw_flowrun.specs.Programs.{functions_of, globals_of, names_of}
-use Rattle.pw_webrun.specs.Programs.{NamesRightly, IsFunctionName, IsGlobalName, ops_of}
+use Rattle.pw_webrun.specs.Programs.{NamesRightly, IsFunctionName, IsGlobalName, IsItem, ops_of}
 use Rattle.pw_layers.specs.Lowering.{flow_program}
 use Rattle.pw_designators.specs.OwnNames.{int_function, own_functions, with_objects}
 use Rattle.pw_references.specs.References.{NamesObject, NamesFunction, RefersRightly}
@@ -36,7 +41,7 @@ use Rattle.pw_acceptance.proofs.Linking.{all_functions, all_globals, defined, ma
 use Rattle.pw_acceptance.proofs.Names.{letters_no_colon, own_is_not, one_colon, named_external}
 use Rattle.pw_acceptance.proofs.Modules.{all_has, Known, of_tree, declared_has, global_by, declared_letters, global_shared, begins, declared_shape}
 use Rattle.pw_acceptance.proofs.FunctionShapes.{begins_function}
-use Rattle.pw_acceptance.proofs.Programs.{functions_are, globals_are, library_plain, function_sort, all_agree, library_agrees, same_module}
+use Rattle.pw_acceptance.proofs.Programs.{functions_are, globals_are, library_plain, function_sort, all_agree, library_agrees, same_module, names_distinct}
 
 library_shaped : (name : List ℕ) → Has name library_functions → (s : List ℕ) × Has (name, s) library_declarations
 library_shaped name (inl e) = (exit_shape, inl (ap (λ (n : List ℕ). (n, exit_shape)) e))
@@ -61,6 +66,16 @@ no_int b = let h : 105 ≡ 102 = ap first b.1 in absurd (omega (arith, h))
 global_there : (home : List ℕ) (m : ModuleValue) (g : GlobalValue) → Has g m.globals → Has (full_name home g.name) (global_names (lowered home m))
 unfolding lowered
 global_there home m g h = has_map (λ (v : FlowGlobal). v.name) (lowered_global home m.records g) (map (lowered_global home m.records) m.globals) (has_map (lowered_global home m.records) g m.globals h)
+
+global_of : (home : List ℕ) (m : ModuleValue) (g : FlowGlobal) → Has g (lowered home m).globals → (v : GlobalValue) × Has v m.globals × (lowered_global home m.records v ≡ g)
+unfolding lowered
+global_of home m g h = has_map_back (lowered_global home m.records) g m.globals h
+
+-- a name that stands in one of two lists of names that are all distinct is not in the other
+distinct_apart : (xs ys : List (List ℕ)) (x : List ℕ) → AreDistinct (xs ++ ys) → Has x xs → Has x ys → ⊥
+distinct_apart [] ys x d h k = absurd h
+distinct_apart (z ∷ xs) ys x d (inl e) k = has_each (λ (other : List ℕ). other ≢ z) (xs ++ ys) x d.0 (has_right x xs ys k) (sym e)
+distinct_apart (z ∷ xs) ys x d (inr h) k = distinct_apart xs ys x d.1 h k
 
 module _ (p : Program) (frame_of : List ℕ → ℕ) (stack : ℕ) (known : (m : ProgramModule) → Has m p.modules → Known m.tree) (linked : AreLinked (flow_program p frame_of stack).modules)
     (plain : (m : ProgramModule) → Has m p.modules → HasNoColon m.name) (rising : IsRising (map (λ m. m.name) p.modules)) (typed : (m : ProgramModule) → Has m p.modules → WellTyped m.tree) where
@@ -248,3 +263,61 @@ module _ (p : Program) (frame_of : List ℕ → ℕ) (stack : ℕ) (known : (m :
             op_right m.0 m.1 (ordinary m.0 m.1) o (λ name j. named_there m.0 f b.0 o name there b.1 b.2 j) right
         | inr e ↦ start_right o (subst (λ (x : FlowFn). Has o (ops_of x)) (sym e) k)
       ]
+
+  -- ---- items
+
+  function_is : (name : List ℕ) → IsFunctionName (flow_program p frame_of stack) name → Has name library_functions ⊎ Has name (all_functions ms)
+  function_is name c = elim (has_split name library_functions (map (λ (f : FlowFn). f.name) (functions_of (flow_program p frame_of stack))) (has_by name (names_of (flow_program p frame_of stack)) c)) [
+    | inl k ↦ inl k
+    | inr k ↦ inr (subst (λ (ns : List (List ℕ)). Has name ns) (functions_are ms) k)
+  ]
+
+  own_alone : (m : ProgramModule) (s : Symbol) (offset : ℕ) → Has m p.modules → LeadsIntoOwn m.tree s offset → IsFunctionName (flow_program p frame_of stack) (full_name m.name s) → ⊥
+  own_alone m s offset h own c =
+      let name = full_name m.name s in
+      let there : Has (full_name m.name s) (global_names (flow_of m)) = subst (λ (s : Symbol). Has (full_name m.name s) (global_names (flow_of m))) own.name_is (global_there m.name m.tree own.object (has_by own.object m.tree.globals own.there)) in
+      distinct_apart (names_of (flow_program p frame_of stack)) (map (λ (g : FlowGlobal). g.name) (globals_of (flow_program p frame_of stack))) name (names_distinct p frame_of stack known linked)
+      (has_by name (names_of (flow_program p frame_of stack)) c)
+      (has_by name (map (λ (g : FlowGlobal). g.name) (globals_of (flow_program p frame_of stack))) (a_global name (has_flat global_names (flow_of m) name ms (there_in m h) there)))
+
+  -- nothing is added to the address of a function of the program
+  lead_zero : (m : ProgramModule) (s : Symbol) (offset : ℕ) → Has m p.modules → IsOrdinary (full_name m.name s) → Leads m.tree s offset → IsFunctionName (flow_program p frame_of stack) (full_name m.name s) → offset ≡ 0
+  lead_zero m (External x) offset h ordinary d k = by (is_function (type_of d.entry.ty)) refl
+    where
+      declared : IsDeclared (with_objects m.tree) x d.entry.ty
+      declared = record { entry = d.entry; there = d.there; name_is = d.name_is; agrees = inl refl }
+
+      by : (b : Bool) → is_function (type_of d.entry.ty) ≡ b → offset ≡ 0
+      by true e = function_start m.tree.records (type_of d.entry.ty) offset e d.inside
+      by false e = absurd (not_as_object m x d.entry.ty h ordinary declared (λ f. apart (sym e ∙ ap is_function f.2)) (function_is x k))
+  lead_zero m (Internal x) offset h ordinary d k = elim d [ inl z ↦ z | inr own ↦ absurd (own_alone m (Internal x) offset h own k) ]
+  lead_zero m (Hidden i) offset h ordinary d k = absurd (own_alone m (Hidden i) offset h d k)
+
+  item_right : (m : ProgramModule) → Has m p.modules → (item : ItemValue) → Y.IsItem m.tree item → ItemLeads m.tree item → ((name : List ℕ) → Has name (item_names (item_of m.name item)) → IsOrdinary name)
+      → IsItem (flow_program p frame_of stack) (item_of m.name item)
+  item_right m h (ItemBytes bytes) are leads ordinary = each_by (λ (b : ℕ). b < 256) bytes (λ b k. all_has (λ (b : ℕ). b < 256) bytes b are k)
+  item_right m h (ItemAddress s offset) are leads ordinary = λ k. lead_zero m s offset h (ordinary (full_name m.name s) (inl refl)) leads k
+
+  items_right : (m : ProgramModule) → Has m p.modules → (from size : ℕ) (items : List PlacedItem) → AreItems m.tree from size items
+      → ((i : ℕ) (x : PlacedItem) → slice_get items i ≡ Some x → ItemLeads m.tree x.item)
+      → ((name : List ℕ) → Has name (flat_map (λ placed. item_names placed.1) (map (lowered_item m.name) items)) → IsOrdinary name)
+      → AllByRecursion (λ i. IsItem (flow_program p frame_of stack) i.1) (map (lowered_item m.name) items)
+  items_right m h from size [] are leads ordinary = tt
+  items_right m h from size (x ∷ rest) are leads ordinary = (
+    item_right m h x.item are.1 (leads 0 x refl) (λ name k. ordinary name (has_left name (item_names (item_of m.name x.item)) (flat_map (λ placed. item_names placed.1) (map (lowered_item m.name) rest)) k)),
+    items_right m h (x.offset + item_size x.item) size rest are.2 (λ i y e. leads (suc i) y e)
+        (λ name k. ordinary name (has_right name (item_names (item_of m.name x.item)) (flat_map (λ placed. item_names placed.1) (map (lowered_item m.name) rest)) k)),
+  )
+
+  pub all_items : ((m : ProgramModule) → Has m p.modules → (name : List ℕ) → Has name (named_in (flow_of m)) → IsOrdinary name)
+      → ((m : ProgramModule) → Has m p.modules → All (ItemsLead m.tree) m.tree.globals)
+      → (g : FlowGlobal) → Has g (globals_of (flow_program p frame_of stack)) → AllByRecursion (λ i. IsItem (flow_program p frame_of stack) i.1) g.items
+  all_items ordinary leads g h =
+      let n = has_flat_back (λ (m : FlowModule). m.globals) g ms h in
+      let m = has_map_back flow_of n.0 p.modules n.1 in
+      let there : Has g (flow_of m.0).globals = subst (λ (x : FlowModule). Has g x.globals) (sym m.2) n.2 in
+      let v = global_of m.0.name m.0.tree g there in
+      let own : Has (lowered_global m.0.name m.0.tree.records v.0) (flow_of m.0).globals = subst (λ (x : FlowGlobal). Has x (flow_of m.0).globals) (sym v.2) there in
+      subst (λ (x : FlowGlobal). AllByRecursion (λ i. IsItem (flow_program p frame_of stack) i.1) x.items) v.2
+      (items_right m.0 m.1 0 _ v.0.items (all_has (IsGlobal m.0.tree) m.0.tree.globals v.0 (typed m.0 m.1).globals v.1).items (all_has (ItemsLead m.0.tree) m.0.tree.globals v.0 (leads m.0 m.1) v.1)
+      (λ name k. ordinary m.0 m.1 name (has_left name (flat_map names_in_global (flow_of m.0).globals) (flat_map names_in_function (flow_of m.0).functions) (has_flat names_in_global (lowered_global m.0.name m.0.tree.records v.0) name (flow_of m.0).globals own k))))

@@ -31,7 +31,8 @@ use pw_lowered::modules_are_lawful;
 use pw_references::lowered_functions_refer_rightly;
 use pw_tree::words_spell_what_they_are;
 use pw_well_typed::{
-    accepted_functions_are_typed, accepted_is_well_typed, accepted_names_are_declared,
+    accepted_addresses_lead_inside, accepted_functions_are_typed, accepted_is_well_typed,
+    accepted_names_are_declared,
 };
 use pw_within::{
     accepted_initialisers_have_parts, accepted_is_within, accepted_names_are_identifiers,
@@ -128,11 +129,27 @@ pub fn linked_operations_refer_rightly()
     lowered_functions_refer_rightly();
 }
 
-/// And their flow graphs make a program, if besides the items of objects are right: each name that they use is defined, as what it is
-/// used for, and none twice, the modules are lawful and stand in the order of their names, and there is a `$start`.
+/// And the first bytes of their objects are right: bytes, and addresses, to which nothing is added where they are those of functions.
+pub fn linked_items_are_right()
+    ensures { (p : Program) (frame_of : List ℕ → ℕ) (stack : ℕ) → AreChecked p → AreNamedPlainly p → IsRising (map (λ m. m.name) p.modules) → AreLinked (flow_program p frame_of stack).modules → AreOfWords p
+        → HaveRightItems (flow_program p frame_of stack) }
+{
+    strings_of_texts();
+    words_spell_what_they_are();
+    accepted_names_are_identifiers();
+    accepted_functions_are_typed();
+    accepted_names_are_declared();
+    accepted_strings_are_short();
+    accepted_is_well_typed();
+    accepted_addresses_lead_inside();
+    linked_modules_are_within();
+    modules_are_lawful();
+}
+
+/// And their flow graphs make a program: each name that they use is defined, as what it is used for, and none twice, the modules are lawful and stand in the order of their names, and there is a `$start`.
 pub fn linked_modules_make_a_program()
     ensures { (p : Program) (frame_of : List ℕ → ℕ) (stack : ℕ) → AreChecked p → AreNamedPlainly p → IsRising (map (λ m. m.name) p.modules) → stack ≤ stack_most → AreLinked (flow_program p frame_of stack).modules → AreOfWords p
-        → HaveRightItems (flow_program p frame_of stack) → IsProgram (flow_program p frame_of stack) }
+        → IsProgram (flow_program p frame_of stack) }
 {
     strings_of_texts();
     words_spell_what_they_are();
@@ -144,14 +161,14 @@ pub fn linked_modules_make_a_program()
     linked_modules_are_within();
     modules_are_lawful();
     linked_operations_refer_rightly();
+    linked_items_are_right();
 }
 
 /// So checked modules whose objects link are accepted, with all that built programs want of it, but for what is a premise here: that
-/// no module has a colon in its name, that numbers are of 32 bits, that items are right, and that addresses in initialisers lead
-/// inside.
-pub fn checked_is_accepted_but_for_items()
+/// no module has a colon in its name, that numbers are of 32 bits, and that addresses in initialisers lead inside.
+pub fn checked_is_accepted_but_for_addresses()
     ensures { (p : Program) (frame_of : List ℕ → ℕ) (stack : ℕ) → AreChecked p → AreNamedPlainly p → IsRising (map (λ m. m.name) p.modules) → stack ≤ stack_most → AreLinked (flow_program p frame_of stack).modules
-        → AreOfWords p → HaveRightItems (flow_program p frame_of stack) → LeadInside (flow_program p frame_of stack) → IsWhole p frame_of stack }
+        → AreOfWords p → LeadInside (flow_program p frame_of stack) → IsWhole p frame_of stack }
 {
     linked_modules_are_well_typed();
     linked_modules_make_a_program();

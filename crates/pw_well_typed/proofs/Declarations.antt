@@ -240,7 +240,7 @@ filled_made t u v w place q o writable l hs z opens i met same fill = record {
   lawful = subst (λ r. IsLawfulType r (type_of o.ty)) (sym records) i.lawful;
   sort = inl (subst (λ r. IsObjectType r (type_of o.ty)) (sym records) (object_is u.types.records (type_of o.ty) (i.complete opens) (within_fits u.types.records w.token o.ty met)));
   rise = subst (λ r. Rise 0 (sized r (type_of o.ty)) o.filled.items) (sym records) (i.rise opens);
-  known = known_onward u v (λ n x e. (x, ap (λ (y : TypeState). slice_get y.linked n) same ∙ e, continues_same x)) fill o.filled.items
+  known = known_onward u v (subst (Extends u.types.records) (sym records) (extends_same u.types.records)) (λ n x e. (x, ap (λ (y : TypeState). slice_get y.linked n) same ∙ e, continues_same x)) fill o.filled.items
       (i.known (record { lawful = l; pending = None; sound = hs; counting = z.counting }));
 }
   where

@@ -13,7 +13,7 @@ use Rattle.pw_rules.specs.States.{State, LinkedName, TypeName, Linked, entity_at
 use Rattle.pw_rules.specs.declared.names.Entry.{Entry}
 use Rattle.pw_well_typed.specs.Lawful.{IsLawful, IsLawfulType}
 use Rattle.pw_well_typed.proofs.Lists.{put_same, get_within}
-use Rattle.pw_well_typed.proofs.Types.{no}
+use Rattle.pw_well_typed.proofs.Types.{no, extends_same}
 use Rattle.pw_well_typed.proofs.Composite.{Covers, length_of, stem_layout, layout_alone, covers_first}
 use Rattle.pw_well_typed.proofs.ObjectTypes.{complete_with}
 use Rattle.pw_well_typed.proofs.Outside.{outer, outer_all, here_visible}
@@ -95,7 +95,7 @@ noted_items s name place ty e q x lawful zero here at covers complete rise known
         complete = complete_with s.types.records q ty covers typed complete;
       };
       rise = subst (λ n. Rise 0 n x.items) (sym (sized_as s.types.records s.types.records (type_of (composite q ty)) (type_of ty) (layout_with s.types.records q ty covers typed complete))) rise;
-      known = known_onward s (put_entity e.place (Linked place (composite q ty)) (put_linked place x s)) on (filling_same s.made.hidden) x.items known;
+      known = known_onward s (put_entity e.place (Linked place (composite q ty)) (put_linked place x s)) (extends_same s.types.records) on (filling_same s.made.hidden) x.items known;
     }))
 
 -- ---- what is complete, or gets its length

@@ -42,7 +42,7 @@ start_sound = record {
 pub contains_at : {X : Type 0} (xs : List X) (i : ℕ) (x : X) → slice_get xs i ≡ Some x → Contains xs x
 contains_at xs i x e = subst (Contains xs) (get_or_from_slice_get xs i x x e) (Contains-get_or xs i x (get_within xs i x e))
 
-get_kept : {X : Type 0} (p : X → Bool) (xs : List X) (i : ℕ) (x : X) → slice_get xs i ≡ Some x → p x ≡ true → (j : ℕ) × (slice_get (filter p xs) j ≡ Some x)
+pub get_kept : {X : Type 0} (p : X → Bool) (xs : List X) (i : ℕ) (x : X) → slice_get xs i ≡ Some x → p x ≡ true → (j : ℕ) × (slice_get (filter p xs) j ≡ Some x)
 get_kept p [] i x e h = never_some e
 get_kept {X} p (z ∷ xs) zero x e h =
     (0, subst (λ b. slice_get (Rattle.std.specs.Prelude.cond b (z ∷ filter p xs) (filter p xs)) 0 ≡ Some x) (sym (ap p (some_same e) ∙ h)) e)
@@ -52,7 +52,7 @@ get_kept {X} p (z ∷ xs) (suc i) x e h = by (p z) (get_kept p xs i x e h)
     by true r = (suc r.0, r.1)
     by false r = r
 
-get_mapped : {X Y : Type 0} (f : X → Y) (xs : List X) (i : ℕ) (x : X) → slice_get xs i ≡ Some x → slice_get (map f xs) i ≡ Some (f x)
+pub get_mapped : {X Y : Type 0} (f : X → Y) (xs : List X) (i : ℕ) (x : X) → slice_get xs i ≡ Some x → slice_get (map f xs) i ≡ Some (f x)
 get_mapped f [] i x e = never_some e
 get_mapped f (z ∷ xs) zero x e = ap (λ y. Some (f y)) (some_same e)
 get_mapped f (z ∷ xs) (suc i) x e = get_mapped f xs i x e

@@ -5,7 +5,7 @@ use Rattle.std.proofs.Common.{arith, ap, sym, subst, ◌∙◌, inl, inr}
 use Rattle.std.proofs.lemmas.List.Elements.{All-nil, All-cons, All-head, All-tail, All-append}
 use Rattle.pw_tree.specs.Trees.{Module}
 use Rattle.pw_types.specs.Records.{IsObjectType}
-use Rattle.pw_types.specs.TypeTrees.{type_of}
+use Rattle.pw_types.specs.TypeTrees.{QType, type_of}
 use Rattle.pw_types.specs.TypedModules.{AreItems, IsItem, IsName, item_size}
 use Rattle.pw_types.specs.TypedTrees.{Symbol, External, Internal, Hidden, ItemValue, ItemBytes, ItemAddress, PlacedItem, GlobalValue, ModuleValue}
 use Rattle.pw_types.specs.WellTyped.{IsKnownType}
@@ -43,7 +43,7 @@ is_shared : Symbol → Bool
 is_shared (External name) = true
 is_shared _ = false
 
-shared_name : (l : LinkedName) (name : List ℕ) → symbol_of_linked l ≡ External name → (l.internal ≡ false) × (l.name ≡ name)
+pub shared_name : (l : LinkedName) (name : List ℕ) → symbol_of_linked l ≡ External name → (l.internal ≡ false) × (l.name ≡ name)
 unfolding text_of is_shared
 shared_name l name e = by l.internal refl e
   where
@@ -51,19 +51,19 @@ shared_name l name e = by l.internal refl e
     by true h f = no (ap is_shared f)
     by false h f = (h, ap text_of f)
 
-name_is : (s : State) → IsLawful s → Sound None s → (symbol : Symbol) → IsHere s symbol → IsName (module_in s) symbol
-name_is s lawful h (External name) here =
+name_is : (s : State) → IsLawful s → Sound None s → (symbol : Symbol) (q : QType) → IsHere s symbol q → IsName (module_in s) symbol
+name_is s lawful h (External name) q here =
     let x = shared_name here.1 name here.3 in
     let d = declared_as s here.0 here.1 here.1.ty here.2 x.0 (covers_same here.1.ty) in
     (d.entry, d.there, d.name_is ∙ x.1)
-name_is s lawful h (Internal name) here = tt
-name_is s lawful h (Hidden k) here =
+name_is s lawful h (Internal name) q here = tt
+name_is s lawful h (Hidden k) q here =
     let d = (names_end s lawful h).strings k here.0 here.1 in
     (d.object, d.there, d.name_is)
 
 item_is : (s : State) → IsLawful s → Sound None s → (item : ItemValue) → IsKnownItem s item → HasOffset item → IsItem (module_in s) item
 item_is s lawful h (ItemBytes bytes) known word = known
-item_is s lawful h (ItemAddress symbol offset) known word = (name_is s lawful h symbol known, word)
+item_is s lawful h (ItemAddress symbol offset) known word = (name_is s lawful h symbol known.0 known.1, word)
 
 are_items : (s : State) → IsLawful s → Sound None s → (from size : ℕ) (items : List PlacedItem) → Rise from size items → AreKnownItems s items → WordsInItems items → AreItems (module_in s) from size items
 are_items s lawful h from size [] rise known words = rise
@@ -102,14 +102,14 @@ pub record Ended (s : State) : Type 0 where
   pub outer : s.scopes.depth ≡ 0
   pub settled : Settled None s
 
-settled_name : (s : State) (n : ℕ) (l : LinkedName) → Ended s → slice_get s.types.linked n ≡ Some l → is_function (type_of l.ty) ≡ false → IsSettled s n l
+pub settled_name : (s : State) (n : ℕ) (l : LinkedName) → Ended s → slice_get s.types.linked n ≡ Some l → is_function (type_of l.ty) ≡ false → IsSettled s n l
 settled_name s n l x at object = by (x.settled.names n l at object)
   where
     by : (None ≡ Some (slot.Named n)) ⊎ IsSettled s n l → IsSettled s n l
     by (inl e) = never_some e
     by (inr h) = h
 
-is_final : (s : State) (n : ℕ) (l : LinkedName) → l.defined ≡ true → IsSettled s n l → IsFinal s n l.name
+pub is_final : (s : State) (n : ℕ) (l : LinkedName) → l.defined ≡ true → IsSettled s n l → IsFinal s n l.name
 is_final s n l e (inl h) = no (sym h.0 ∙ e)
 is_final s n l e (inr h) = h.final
 

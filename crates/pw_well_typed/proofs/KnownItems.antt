@@ -23,13 +23,13 @@ use Rattle.pw_well_typed.proofs.Lists.{some_same, never_some, get_either, get_on
 use Rattle.pw_well_typed.proofs.States.{Runs, goes_on, Grows, grows_same, grows_trans}
 use Rattle.pw_well_typed.proofs.Phrases.{expr_post}
 use Rattle.pw_well_typed.proofs.ItemBytes.{IsByte, HasBytes, scalar_bytes, string_small, within_small}
-use Rattle.pw_well_typed.proofs.Symbols.{HasHere, symbol_later, cast_here, IsCounted, counted_later, Whole, WholeValue, whole, value_whole, expr_here, place_here}
+use Rattle.pw_well_typed.proofs.Symbols.{HasHere, PlaceHere, symbol_later, cast_here, IsCounted, counted_later, Whole, WholeValue, whole, value_whole, expr_here, place_here}
 use Rattle.pw_rules.specs.Constants.{AsAddress}
-use Rattle.pw_well_typed.proofs.Settled.{IsHere, IsKnownItem, AreKnownItems}
+use Rattle.pw_well_typed.proofs.Settled.{IsKnownItem, AreKnownItems, inside_later}
 
 item_later : (s t : State) → Grows s t → (item : ItemValue) → IsKnownItem s item → IsKnownItem t item
 item_later s t g (ItemBytes bytes) h = h
-item_later s t g (ItemAddress symbol offset) h = symbol_later {s = s} {t = t} g symbol h
+item_later s t g (ItemAddress symbol offset) h = (h.0, symbol_later {s = s} {t = t} g symbol h.0 h.1, inside_later s.types.records t.types.records g.extends h.0 offset h.2)
 
 pub known_later : (s t : State) (items : List PlacedItem) → Grows s t → AreKnownItems s items → AreKnownItems t items
 known_later s t items g h i p e = item_later s t g p.item (h i p e)
@@ -46,22 +46,22 @@ known_more s items offset (Some x) h k i p e = by (get_either items (record { of
     by (inl f) = h i p f
     by (inr f) = subst (λ (y : PlacedItem). IsKnownItem s y.item) (get_one (record { offset = offset; item = x }) f.0 p f.1) (k x refl)
 
-of_bytes : (s : State) (r : List RecordValue) (ty : CType) (e : Expression) (item : ItemValue) → HasHere s e → item_of r ty e ≡ Some item → IsKnownItem s item
-of_bytes s r (Int kind) e item h eq = by (Rattle.pw_rules.specs.Constants.constant_value e) eq
+of_bytes : (s : State) (ty : CType) (e : Expression) (item : ItemValue) → HasHere s e → item_of (records_in s) ty e ≡ Some item → IsKnownItem s item
+of_bytes s (Int kind) e item h eq = by (Rattle.pw_rules.specs.Constants.constant_value e) eq
   where
     by : (o : Option ℕ) → option_map (λ n. ItemBytes (word_bytes (Rattle.pw_types.specs.Conversions.size_of_kind kind) n)) o ≡ Some item → IsKnownItem s item
     by None k = never_some k
     by (Some n) k = subst (IsKnownItem s) (some_same k) (Rattle.pw_well_typed.proofs.ItemBytes.word_small (Rattle.pw_types.specs.Conversions.size_of_kind kind) n)
-of_bytes s r (Pointer q) e item h eq = by (is_null_pointer e) (address_of r e) (λ p f. place_here s r AsAddress e p h f) eq
+of_bytes s (Pointer q) e item h eq = by (is_null_pointer e) (address_of (records_in s) e) (λ p f. place_here s (records_in s) AsAddress e p h f) eq
   where
-    by : (b : Bool) (o : Option Place) → ((p : Place) → o ≡ Some p → IsHere s p.symbol) → (if b then Some (ItemBytes (word_bytes 4 0)) else option_map address_item o) ≡ Some item → IsKnownItem s item
+    by : (b : Bool) (o : Option Place) → ((p : Place) → o ≡ Some p → PlaceHere s (records_in s) p) → (if b then Some (ItemBytes (word_bytes 4 0)) else option_map address_item o) ≡ Some item → IsKnownItem s item
     by true o g k = subst (IsKnownItem s) (some_same k) (Rattle.pw_well_typed.proofs.ItemBytes.word_small 4 0)
     by false None g k = never_some k
-    by false (Some p) g k = subst (IsKnownItem s) (some_same k) (g p refl)
-of_bytes s r Void e item h eq = never_some eq
-of_bytes s r (Array q n) e item h eq = never_some eq
-of_bytes s r (Function q ps) e item h eq = never_some eq
-of_bytes s r (Record n) e item h eq = never_some eq
+    by false (Some p) g k = let h = g p refl in subst (IsKnownItem s) (some_same k) (h.0, h.1, h.2 p.offset h.3)
+of_bytes s Void e item h eq = never_some eq
+of_bytes s (Array q n) e item h eq = never_some eq
+of_bytes s (Function q ps) e item h eq = never_some eq
+of_bytes s (Record n) e item h eq = never_some eq
 
 -- ---- rules
 
@@ -75,7 +75,7 @@ filled_known s cx first t e filled l h = λ met. (
   l,
   grows_same s,
   λ all. known_more s filled.items t.offset (item_of (records_in s) (type_of t.ty) (cast_to (type_of t.ty) e)) all
-      (λ x f. of_bytes s (records_in s) (type_of t.ty) (cast_to (type_of t.ty) e) x (cast_here s (type_of t.ty) e h) f),
+      (λ x f. of_bytes s (type_of t.ty) (cast_to (type_of t.ty) e) x (cast_here s (type_of t.ty) e h) f),
 )
 
 string_known : (s : State) (cx : Context) (ws : List Word) (t : Target) (filled : Filled) → IsLawful s → Runs s (string_filled cx ws t filled s) (λ u more. Keeps s u filled.items more.items)

@@ -48,3 +48,4 @@ pub mod Whole
 pub mod Parts
 pub mod Cursors
 pub mod Items
+pub mod Leading

@@ -1,17 +1,18 @@
 -- What is settled of objects of static lifetime: one that is defined with an initialiser stands for a complete type at file scope, and
 -- its items stand in it one behind the other; so do those of each object without a name. But for one object at a time, whose
 -- initialiser is read.
-use Rattle.std.specs.Prelude.{ℕ, ◌≡◌, ◌≤◌, ◌+◌, ◌*◌, ◌⊎◌, ◌==◌, Bool, true, false, Option, None, Some, option_map, unwrap_or, List, [], ◌∷◌, ◌++◌, length, slice_get, if◌then◌else◌, All, refl}
+use Rattle.std.specs.Prelude.{ℕ, ◌≡◌, ◌≤◌, ◌+◌, ◌*◌, ◌⊎◌, ◌==◌, Bool, true, false, Option, None, Some, option_map, is_some, unwrap_or, List, [], ◌∷◌, ◌++◌, length, slice_get, if◌then◌else◌, All, refl}
 use Rattle.std.proofs.Common.{arith, ap, sym, subst, ◌∙◌, inl, inr}
-use Rattle.std.proofs.lemmas.Bool.{eqb-true, eq-eqb}
+use Rattle.std.proofs.lemmas.Bool.{eqb-true, eq-eqb, le-leb}
 use Rattle.pw_types.specs.declared.kind.IntKind.TheVariants as K
 use Rattle.pw_types.specs.declared.record.Layout.{Layout}
-use Rattle.pw_types.specs.Layouts.{layout_of}
+use Rattle.pw_types.specs.Layouts.{layout_of, size_of}
 use Rattle.pw_types.specs.Records.{IsObjectType}
 use Rattle.pw_types.specs.TypedModules.{item_size}
 use Rattle.pw_types.specs.TypedTrees.{Symbol, External, Internal, Hidden, ItemValue, ItemBytes, ItemAddress, PlacedItem}
 use Rattle.pw_types.specs.TypeTrees.{CType, Int, Array, QType, Qualified, type_of, RecordValue}
 use Rattle.pw_types.specs.WellTyped.{IsComplete}
+use Rattle.pw_rules.specs.Constants.{is_within}
 use Rattle.pw_rules.specs.Kinds.{is_function}
 use Rattle.pw_rules.specs.Leaves.{string_type, bytes_at_start}
 use Rattle.pw_rules.specs.Linkage.{symbol_of_linked}
@@ -20,11 +21,12 @@ use Rattle.pw_rules.specs.declared.names.Entry.{Entry}
 use Rattle.pw_rules.specs.declared.names.Slot.{Slot}
 use Rattle.pw_rules.specs.declared.names.Slot.TheVariants as slot
 use Rattle.pw_well_typed.specs.Lawful.{IsLawfulType, Extends}
+use Rattle.pw_well_typed.specs.Leading.{IsInside}
 use Rattle.pw_well_typed.proofs.Lists.{some_same, never_some, get_one, get_more, get_within, put_same, put_either}
 use Rattle.pw_well_typed.proofs.Types.{no, extends_same, complete_later, lawful_later}
 use Rattle.pw_well_typed.proofs.Objects.{layout_same, object_later}
 use Rattle.pw_well_typed.proofs.ObjectTypes.{object_complete}
-use Rattle.pw_well_typed.proofs.Composite.{Covers, covers_same, layout_covered, complete_covered}
+use Rattle.pw_well_typed.proofs.Composite.{Covers, covers_same, covers_trans, layout_covered, complete_covered}
 use Rattle.pw_well_typed.proofs.Sound.{Continues, continues_same, Onward, Filling, named_same, never_slot}
 use Rattle.pw_well_typed.proofs.Outside.{outer, StaysOutside}
 use Rattle.pw_well_typed.proofs.Parts.{sized}
@@ -37,15 +39,15 @@ abbrev pub Rise : ℕ → ℕ → List PlacedItem → Type 0
 Rise from size [] = from ≤ size
 Rise from size (p ∷ rest) = (from ≤ p.offset) × Rise (p.offset + item_size p.item) size rest
 
--- an object without a name, or a name with linkage
-abbrev pub IsHere : State → Symbol → Type 0
-IsHere s (Hidden k) = (h : HiddenObject) × (slice_get s.made.hidden k ≡ Some h)
-IsHere s (External name) = (n : ℕ) × (l : LinkedName) × (slice_get s.types.linked n ≡ Some l) × (symbol_of_linked l ≡ External name)
-IsHere s (Internal name) = (n : ℕ) × (l : LinkedName) × (slice_get s.types.linked n ≡ Some l) × (symbol_of_linked l ≡ Internal name)
+-- an object without a name, or a name with linkage, of which no less is known than of the type
+abbrev pub IsHere : State → Symbol → QType → Type 0
+IsHere s (Hidden k) q = (h : HiddenObject) × (slice_get s.made.hidden k ≡ Some h) × Covers h.ty q
+IsHere s (External name) q = (n : ℕ) × (l : LinkedName) × (slice_get s.types.linked n ≡ Some l) × (symbol_of_linked l ≡ External name) × Covers l.ty q
+IsHere s (Internal name) q = (n : ℕ) × (l : LinkedName) × (slice_get s.types.linked n ≡ Some l) × (symbol_of_linked l ≡ Internal name) × Covers l.ty q
 
 abbrev pub IsKnownItem : State → ItemValue → Type 0
 IsKnownItem s (ItemBytes bytes) = All IsByte bytes
-IsKnownItem s (ItemAddress symbol offset) = IsHere s symbol
+IsKnownItem s (ItemAddress symbol offset) = (q : QType) × IsHere s symbol q × IsInside s.types.records q offset
 
 abbrev pub AreKnownItems : State → List PlacedItem → Type 0
 AreKnownItems s items = (i : ℕ) (p : PlacedItem) → slice_get items i ≡ Some p → IsKnownItem s p.item
@@ -128,17 +130,29 @@ pub symbol_continues : (x y : LinkedName) → Continues x y → symbol_of_linked
 symbol_continues x y c =
     ap (λ b. if b then Internal y.name else External y.name) c.internal ∙ ap (λ n. if x.internal then Internal n else External n) c.name
 
-here_onward : (s t : State) → Onward s.types.linked t.types.linked → Filling s.made.hidden t.made.hidden → (symbol : Symbol) → IsHere s symbol → IsHere t symbol
-here_onward s t on fill (Hidden k) h = let y = fill k h.0 h.1 in (y.0, y.1)
-here_onward s t on fill (External name) h = let y = on h.0 h.1 h.2 in (h.0, y.0, y.1, symbol_continues h.1 y.0 y.2 ∙ h.3)
-here_onward s t on fill (Internal name) h = let y = on h.0 h.1 h.2 in (h.0, y.0, y.1, symbol_continues h.1 y.0 y.2 ∙ h.3)
+here_onward : (s t : State) → Onward s.types.linked t.types.linked → Filling s.made.hidden t.made.hidden → (symbol : Symbol) (q : QType) → IsHere s symbol q → IsHere t symbol q
+here_onward s t on fill (Hidden k) q h = let y = fill k h.0 h.1 in (y.0, y.1, covers_trans y.2 h.2)
+here_onward s t on fill (External name) q h = let y = on h.0 h.1 h.2 in (h.0, y.0, y.1, symbol_continues h.1 y.0 y.2 ∙ h.3, covers_trans y.2.covers h.4)
+here_onward s t on fill (Internal name) q h = let y = on h.0 h.1 h.2 in (h.0, y.0, y.1, symbol_continues h.1 y.0 y.2 ∙ h.3, covers_trans y.2.covers h.4)
 
-item_onward : (s t : State) → Onward s.types.linked t.types.linked → Filling s.made.hidden t.made.hidden → (item : ItemValue) → IsKnownItem s item → IsKnownItem t item
-item_onward s t on fill (ItemBytes bytes) h = h
-item_onward s t on fill (ItemAddress symbol offset) h = here_onward s t on fill symbol h
+pub start_within : (o : Option ℕ) → is_within 0 o ≡ true
+start_within None = refl
+start_within (Some n) = le-leb 0 n (omega arith)
 
-pub known_onward : (s t : State) → Onward s.types.linked t.types.linked → Filling s.made.hidden t.made.hidden → (items : List PlacedItem) → AreKnownItems s items → AreKnownItems t items
-known_onward s t on fill items h i x e = item_onward s t on fill x.item (h i x e)
+-- types with a size keep it
+pub inside_later : (a b : List RecordValue) → Extends a b → (q : QType) (offset : ℕ) → IsInside a q offset → IsInside b q offset
+inside_later a b x q offset h = by (layout_of a (type_of q)) refl h
+  where
+    by : (o : Option Layout) → layout_of a (type_of q) ≡ o → is_within offset (option_map (λ (l : Layout). l.size) o) ≡ true → IsInside b q offset
+    by None e k = subst (λ n. is_within n (size_of b (type_of q)) ≡ true) (sym (eqb-true offset 0 k)) (start_within (size_of b (type_of q)))
+    by (Some l) e k = subst (λ o. is_within offset (option_map (λ (l : Layout). l.size) o) ≡ true) (sym (layout_same a b x (type_of q) (ap is_some e) ∙ e)) k
+
+item_onward : (s t : State) → Extends s.types.records t.types.records → Onward s.types.linked t.types.linked → Filling s.made.hidden t.made.hidden → (item : ItemValue) → IsKnownItem s item → IsKnownItem t item
+item_onward s t x on fill (ItemBytes bytes) h = h
+item_onward s t x on fill (ItemAddress symbol offset) h = (h.0, here_onward s t on fill symbol h.0 h.1, inside_later s.types.records t.types.records x h.0 offset h.2)
+
+pub known_onward : (s t : State) → Extends s.types.records t.types.records → Onward s.types.linked t.types.linked → Filling s.made.hidden t.made.hidden → (items : List PlacedItem) → AreKnownItems s items → AreKnownItems t items
+known_onward s t more on fill items h i x e = item_onward s t more on fill x.item (h i x e)
 
 pub sized_as : (r x : List RecordValue) (a b : CType) → layout_of r a ≡ layout_of x b → sized r a ≡ sized x b
 sized_as r x a b e = ap (λ o. unwrap_or (option_map (λ (l : Layout). l.size) o) 0) e
@@ -168,7 +182,7 @@ items_settled s t n x y p same h =
         complete = complete_covered t.types.records e.0 f.ty e.2 (complete_later s.types.records t.types.records p.extends (type_of f.ty) f.complete);
       };
       rise = subst (Rise 0 (sized t.types.records (type_of e.0))) (sym same.items) (subst (λ m. Rise 0 m x.items) (sym size) h.rise);
-      known = subst (AreKnownItems t) (sym same.items) (known_onward s t p.names p.hidden x.items h.known);
+      known = subst (AreKnownItems t) (sym same.items) (known_onward s t p.extends p.names p.hidden x.items h.known);
     }
 
 pub settled_persists : (s t : State) (n : ℕ) (x y : LinkedName) → Persists s t → SameItems x y → IsSettled s n x → IsSettled t n y
@@ -180,7 +194,7 @@ made_persists s t h p m = record {
   lawful = lawful_later s.types.records t.types.records p.extends (type_of h.ty) m.lawful;
   sort = by m.sort;
   rise = subst (λ n. Rise 0 n h.items) (sym (sized_later s.types.records t.types.records p.extends (type_of h.ty) (made_complete s h m))) m.rise;
-  known = known_onward s t p.names p.hidden h.items m.known;
+  known = known_onward s t p.extends p.names p.hidden h.items m.known;
 }
   where
     by : IsObjectType s.types.records (type_of h.ty) ⊎ IsStringType h.ty → IsObjectType t.types.records (type_of h.ty) ⊎ IsStringType h.ty

@@ -1,7 +1,8 @@
 -- The symbols of which addresses are made: each that stands in an accepted expression is known.
 use Rattle.std.specs.Prelude.{ℕ, ◌≡◌, ◌+◌, ◌-◌, ◌*◌, ◌^◌, ◌&&◌, nat_le, Bool, true, false, Option, None, Some, option_and_then, List, [], length, slice_get, if◌then◌else◌, refl}
 use Rattle.std.specs.Option.{option_map_or}
-use Rattle.std.proofs.Common.{ap, sym, subst, ◌∙◌}
+use Rattle.std.proofs.Common.{arith, ap, sym, subst, ◌∙◌}
+use Rattle.std.proofs.lemmas.Bool.{eqb-true, eq-eqb, le-leb, leb-true}
 use Rattle.pw_literal.specs.Characters.{string_bytes_of}
 use Rattle.pw_tree.specs.declared.operator.Access.TheVariants.{Dot, Arrow}
 use Rattle.pw_tree.specs.declared.operator.AssignOperator.{AssignOperator}
@@ -21,6 +22,7 @@ use Rattle.pw_types.specs.declared.tree.StepOperator.TheVariants as Q
 use Rattle.pw_types.specs.TypeTrees.{CType, Void, Int, Pointer, Array, Function, Record, QType, Qualified, type_of, MemberValue, RecordValue}
 use Rattle.pw_types.specs.TypedTrees.{Symbol, External, Internal, Hidden, Expression, Node, Form}
 use Rattle.pw_types.specs.TypedTrees as T
+use Rattle.pw_types.specs.Layouts.{size_of}
 use Rattle.pw_walk.specs.Causes.{DeclaredIdentifier, DeclaredMember}
 use Rattle.pw_walk.specs.Walks.{Walk, Done, bind, granted}
 use Rattle.pw_types.specs.Conversions.{is_signed_kind}
@@ -41,12 +43,14 @@ use Rattle.pw_rules.specs.States.{State, LinkedName, HiddenObject, Entity, TypeN
 use Rattle.pw_rules.specs.declared.names.Entry.{Entry}
 use Rattle.pw_rules.specs.declared.names.Slot.{Slot}
 use Rattle.pw_well_typed.specs.Lawful.{IsLawful}
+use Rattle.pw_well_typed.specs.Leading.{IsInside}
 use Rattle.pw_well_typed.proofs.Walking.{Post, post_bind, post_both, post_granted, after_any}
 use Rattle.pw_well_typed.proofs.Lists.{some_same, never_some, get_last}
 use Rattle.pw_well_typed.proofs.Types.{no}
 use Rattle.pw_well_typed.proofs.States.{Fine, FineValue, value_later, Runs, Grows, grows_trans}
 use Rattle.pw_well_typed.proofs.Sound.{Sound}
-use Rattle.pw_well_typed.proofs.Settled.{IsHere}
+use Rattle.pw_well_typed.proofs.Composite.{Covers, covers_same}
+use Rattle.pw_well_typed.proofs.Settled.{IsHere, start_within}
 use Rattle.pw_well_typed.proofs.Operations.{value_runs, step_runs, operation_runs, index_runs, AreFine, call_runs, dot_runs, arrow_runs}
 use Rattle.pw_well_typed.proofs.Leaves.{GoodType, GoodGathered, GoodSpecified, GoodDeclared, specified_runs, named_type_runs}
 use Rattle.pw_well_typed.proofs.Phrases.{expr_post, specifiers_post, declarator_post, arguments_post, later_type}
@@ -55,62 +59,62 @@ use Rattle.pw_well_typed.proofs.Changes.{in_sizeof}
 -- in the forms of which addresses are made
 abbrev mutual
   pub HasHere : State → Expression → Type 0
-  HasHere s (Node t y form) = IsHereIn s form
+  HasHere s (Node t y form) = IsHereIn s y form
 
-  pub IsHereIn : State → Form → Type 0
-  IsHereIn s (T.Str k) = IsHere s (Hidden k)
-  IsHereIn s (T.Global symbol) = IsHere s symbol
-  IsHereIn s (T.Function symbol) = IsHere s symbol
-  IsHereIn s (T.Binary op a b) = HasHere s a × HasHere s b
-  IsHereIn s (T.Cast a) = HasHere s a
-  IsHereIn s (T.Decay a) = HasHere s a
-  IsHereIn s (T.Member a offset) = HasHere s a
-  IsHereIn s (T.Deref a) = HasHere s a
-  IsHereIn s (T.Address a) = HasHere s a
-  IsHereIn s (T.Number n) = Unit {0}
-  IsHereIn s (T.Local k) = Unit {0}
-  IsHereIn s (T.Unary op a) = Unit {0}
-  IsHereIn s (T.Logic op a b) = Unit {0}
-  IsHereIn s (T.Cond c a b) = Unit {0}
-  IsHereIn s (T.Comma a b) = Unit {0}
-  IsHereIn s (T.Assign a b) = Unit {0}
-  IsHereIn s (T.Compound op working a b) = Unit {0}
-  IsHereIn s (T.Step op a) = Unit {0}
-  IsHereIn s (T.Call symbol args) = Unit {0}
-  IsHereIn s (T.CallValue a args) = Unit {0}
+  pub IsHereIn : State → QType → Form → Type 0
+  IsHereIn s y (T.Str k) = IsHere s (Hidden k) y
+  IsHereIn s y (T.Global symbol) = IsHere s symbol y
+  IsHereIn s y (T.Function symbol) = IsHere s symbol y
+  IsHereIn s y (T.Binary op a b) = HasHere s a × HasHere s b
+  IsHereIn s y (T.Cast a) = HasHere s a
+  IsHereIn s y (T.Decay a) = HasHere s a
+  IsHereIn s y (T.Member a offset) = HasHere s a
+  IsHereIn s y (T.Deref a) = HasHere s a
+  IsHereIn s y (T.Address a) = HasHere s a
+  IsHereIn s y (T.Number n) = Unit {0}
+  IsHereIn s y (T.Local k) = Unit {0}
+  IsHereIn s y (T.Unary op a) = Unit {0}
+  IsHereIn s y (T.Logic op a b) = Unit {0}
+  IsHereIn s y (T.Cond c a b) = Unit {0}
+  IsHereIn s y (T.Comma a b) = Unit {0}
+  IsHereIn s y (T.Assign a b) = Unit {0}
+  IsHereIn s y (T.Compound op working a b) = Unit {0}
+  IsHereIn s y (T.Step op a) = Unit {0}
+  IsHereIn s y (T.Call symbol args) = Unit {0}
+  IsHereIn s y (T.CallValue a args) = Unit {0}
 
 -- ---- it stays so
 
-pub symbol_later : {s t : State} → Grows s t → (symbol : Symbol) → IsHere s symbol → IsHere t symbol
-symbol_later g (Hidden k) h = (h.0, g.hidden k h.0 h.1)
-symbol_later g (External name) h = (h.0, h.1, ap (λ xs. slice_get xs h.0) g.linked ∙ h.2, h.3)
-symbol_later g (Internal name) h = (h.0, h.1, ap (λ xs. slice_get xs h.0) g.linked ∙ h.2, h.3)
+pub symbol_later : {s t : State} → Grows s t → (symbol : Symbol) (q : QType) → IsHere s symbol q → IsHere t symbol q
+symbol_later g (Hidden k) q h = (h.0, g.hidden k h.0 h.1, h.2)
+symbol_later g (External name) q h = (h.0, h.1, ap (λ xs. slice_get xs h.0) g.linked ∙ h.2, h.3, h.4)
+symbol_later g (Internal name) q h = (h.0, h.1, ap (λ xs. slice_get xs h.0) g.linked ∙ h.2, h.3, h.4)
 
 mutual
   pub here_later : (s t : State) → Grows s t → (e : Expression) → HasHere s e → HasHere t e
-  here_later s t g (Node n y form) h = form_later s t g form h
+  here_later s t g (Node n y form) h = form_later s t g y form h
 
-  form_later : (s t : State) → Grows s t → (form : Form) → IsHereIn s form → IsHereIn t form
-  form_later s t g (T.Str k) h = symbol_later {s = s} {t = t} g (Hidden k) h
-  form_later s t g (T.Global symbol) h = symbol_later {s = s} {t = t} g symbol h
-  form_later s t g (T.Function symbol) h = symbol_later {s = s} {t = t} g symbol h
-  form_later s t g (T.Binary op a b) h = (here_later s t g a h.0, here_later s t g b h.1)
-  form_later s t g (T.Cast a) h = here_later s t g a h
-  form_later s t g (T.Decay a) h = here_later s t g a h
-  form_later s t g (T.Member a offset) h = here_later s t g a h
-  form_later s t g (T.Deref a) h = here_later s t g a h
-  form_later s t g (T.Address a) h = here_later s t g a h
-  form_later s t g (T.Number n) h = tt
-  form_later s t g (T.Local k) h = tt
-  form_later s t g (T.Unary op a) h = tt
-  form_later s t g (T.Logic op a b) h = tt
-  form_later s t g (T.Cond c a b) h = tt
-  form_later s t g (T.Comma a b) h = tt
-  form_later s t g (T.Assign a b) h = tt
-  form_later s t g (T.Compound op working a b) h = tt
-  form_later s t g (T.Step op a) h = tt
-  form_later s t g (T.Call symbol args) h = tt
-  form_later s t g (T.CallValue a args) h = tt
+  form_later : (s t : State) → Grows s t → (y : QType) (form : Form) → IsHereIn s y form → IsHereIn t y form
+  form_later s t g y (T.Str k) h = symbol_later {s = s} {t = t} g (Hidden k) y h
+  form_later s t g y (T.Global symbol) h = symbol_later {s = s} {t = t} g symbol y h
+  form_later s t g y (T.Function symbol) h = symbol_later {s = s} {t = t} g symbol y h
+  form_later s t g y (T.Binary op a b) h = (here_later s t g a h.0, here_later s t g b h.1)
+  form_later s t g y (T.Cast a) h = here_later s t g a h
+  form_later s t g y (T.Decay a) h = here_later s t g a h
+  form_later s t g y (T.Member a offset) h = here_later s t g a h
+  form_later s t g y (T.Deref a) h = here_later s t g a h
+  form_later s t g y (T.Address a) h = here_later s t g a h
+  form_later s t g y (T.Number n) h = tt
+  form_later s t g y (T.Local k) h = tt
+  form_later s t g y (T.Unary op a) h = tt
+  form_later s t g y (T.Logic op a b) h = tt
+  form_later s t g y (T.Cond c a b) h = tt
+  form_later s t g y (T.Comma a b) h = tt
+  form_later s t g y (T.Assign a b) h = tt
+  form_later s t g y (T.Compound op working a b) h = tt
+  form_later s t g y (T.Step op a) h = tt
+  form_later s t g y (T.Call symbol args) h = tt
+  form_later s t g y (T.CallValue a args) h = tt
 
 -- ---- nodes
 
@@ -183,12 +187,12 @@ entity_there s name x e = by (entry_of s name) e
     by None f = never_some f
     by (Some y) f = (y.place, f)
 
-symbol_here : (s : State) (n : ℕ) (l : LinkedName) → slice_get s.types.linked n ≡ Some l → IsHere s (symbol_of_linked l)
-symbol_here s n l at = by l.internal refl
+symbol_here : (s : State) (n : ℕ) (l : LinkedName) (q : QType) → slice_get s.types.linked n ≡ Some l → Covers l.ty q → IsHere s (symbol_of_linked l) q
+symbol_here s n l q at covers = by l.internal refl
   where
-    by : (b : Bool) → l.internal ≡ b → IsHere s (if b then Internal l.name else External l.name)
-    by true e = (n, l, at, ap (λ b. if b then Internal l.name else External l.name) e)
-    by false e = (n, l, at, ap (λ b. if b then Internal l.name else External l.name) e)
+    by : (b : Bool) → l.internal ≡ b → IsHere s (if b then Internal l.name else External l.name) q
+    by true e = (n, l, at, ap (λ b. if b then Internal l.name else External l.name) e, covers)
+    by false e = (n, l, at, ap (λ b. if b then Internal l.name else External l.name) e, covers)
 
 pub entity_here_so : (s : State) (t : ℕ) (name : List ℕ) (x : Entity) (a : Operand) (pending : Option Slot) → Sound pending s → entity_of s name ≡ Some x → entity_operand s t x ≡ Some a → HasHere s a.node
 entity_here_so s t name (TypeName q) a pending sound e f = never_some f
@@ -197,14 +201,14 @@ entity_here_so s t name (LocalObject k q register) a pending sound e f = subst (
 entity_here_so s t name (StaticObject k q) a pending sound e f =
     let at = entity_there s name (StaticObject k q) e in
     let b = sound.backed at.0 (StaticObject k q) at.1 in
-    subst (λ (o : Operand). HasHere s o.node) (some_same f) (b.0, b.1)
+    subst (λ (o : Operand). HasHere s o.node) (some_same f) (b.0, b.1, b.2)
 entity_here_so s t name (Linked n q) a pending sound e f =
     let at = entity_there s name (Linked n q) e in
     let b = sound.backed at.0 (Linked n q) at.1 in
     subst (λ (o : Operand). HasHere s o.node) (some_same f) (by (is_function (type_of q))
-    (subst (IsHere s) (sym (ap (λ o. option_map_or symbol_of_linked o (External [])) b.1)) (symbol_here s n b.0 b.1)))
+    (subst (λ (x : Symbol). IsHere s x q) (sym (ap (λ o. option_map_or symbol_of_linked o (External [])) b.1)) (symbol_here s n b.0 q b.1 b.2)))
   where
-    by : (x : Bool) → IsHere s (symbol_at s n)
+    by : (x : Bool) → IsHere s (symbol_at s n) q
         → HasHere s (if x then value_operand (Node t q (T.Function (symbol_at s n))) else lvalue_operand false (Node t q (T.Global (symbol_at s n)))).node
     by true h = h
     by false h = h
@@ -276,7 +280,7 @@ string_here s ws c = λ met. by s.made.counting c
     by : (b : Bool) → b ≡ true
         → HasHere (if b then add_hidden (record { ty = string_type (string_bytes_of (texts_of ws)); writable = false; items = bytes_at_start (string_bytes_of (texts_of ws)) }) s else s)
         (Node (Rattle.pw_tree.specs.FirstTokens.first_of_words ws) (string_type (string_bytes_of (texts_of ws))) (T.Str (length s.made.hidden)))
-    by true e = (object, get_last s.made.hidden object)
+    by true e = (object, get_last s.made.hidden object, covers_same object.ty)
     by false e = no e
 
 sign_here : (s : State) (t : ℕ) (op : UnaryOperator) (e : Expression) → Post (sign_rule t op e s) IsHereAt
@@ -457,59 +461,71 @@ mutual
 
 -- ---- addresses
 
-within_symbol : (q p : Place) → within q ≡ Some p → p.symbol ≡ q.symbol
-within_symbol q p e = by (is_within q.offset q.size) e
+-- what is addressed is of a type whose size is the one that counts, where it counts, and the offset is inside
+abbrev pub PlaceHere : State → List RecordValue → Place → Type 0
+PlaceHere s r p = (q : QType) × IsHere s p.symbol q × ((n : ℕ) → is_within n p.size ≡ true → IsInside r q n) × (is_within p.offset p.size ≡ true)
+
+within_place : (s : State) (r : List RecordValue) (n : ℕ) (q p : Place) → PlaceHere s r q → within (record q { offset = n }) ≡ Some p → PlaceHere s r p
+within_place s r n q p h e = by (is_within n q.size) refl e
   where
-    by : (b : Bool) → (if b then Some q else None) ≡ Some p → p.symbol ≡ q.symbol
-    by true f = ap (λ (x : Place). x.symbol) (sym (some_same f))
+    by : (b : Bool) → is_within n q.size ≡ b → (if b then Some (record q { offset = n }) else None) ≡ Some p → PlaceHere s r p
+    by true i f = subst (PlaceHere s r) (some_same f) (h.0, h.1, h.2, i)
+    by false i f = never_some f
+
+less_within : (n bytes : ℕ) (o : Option ℕ) → is_within n o ≡ true → is_within (n - bytes) o ≡ true
+less_within n bytes None h = eq-eqb (n - bytes) 0 (omega (arith, eqb-true n 0 h))
+less_within n bytes (Some size) h = le-leb (n - bytes) size (omega (arith, leb-true n size h))
+
+back_place : (s : State) (r : List RecordValue) (bytes : ℕ) (q p : Place) → PlaceHere s r q → moved_back bytes q ≡ Some p → PlaceHere s r p
+back_place s r bytes q p h e = by (nat_le bytes q.offset) e
+  where
+    by : (b : Bool) → (if b then Some (record q { offset = q.offset - bytes }) else None) ≡ Some p → PlaceHere s r p
+    by true f = subst (PlaceHere s r) (some_same f) (h.0, h.1, h.2, less_within q.offset bytes q.size h.3)
     by false f = never_some f
 
-back_symbol : (bytes : ℕ) (q p : Place) → moved_back bytes q ≡ Some p → p.symbol ≡ q.symbol
-back_symbol bytes q p e = by (nat_le bytes q.offset) e
-  where
-    by : (b : Bool) → (if b then Some (record q { offset = q.offset - bytes }) else None) ≡ Some p → p.symbol ≡ q.symbol
-    by true f = ap (λ (x : Place). x.symbol) (sym (some_same f))
-    by false f = never_some f
+-- a move keeps to what is addressed
+abbrev KeepsPlace : State → List RecordValue → (IntKind → ℕ → ℕ → Place → Option Place) → Type 0
+KeepsPlace s r move = (kind : IntKind) (size n : ℕ) (q p : Place) → PlaceHere s r q → move kind size n q ≡ Some p → PlaceHere s r p
 
--- a move keeps the symbol
-abbrev KeepsSymbol : (IntKind → ℕ → ℕ → Place → Option Place) → Type 0
-KeepsSymbol move = (kind : IntKind) (size n : ℕ) (q p : Place) → move kind size n q ≡ Some p → p.symbol ≡ q.symbol
-
-moved_symbol : KeepsSymbol moved
-moved_symbol kind size n q p e = by (is_negative (is_signed_kind kind) n) e
+moved_place : (s : State) (r : List RecordValue) → KeepsPlace s r moved
+moved_place s r kind size n q p h e = by (is_negative (is_signed_kind kind) n) e
   where
-    by : (b : Bool) → (if b then moved_back (size * (2 ^ 32 - n)) q else moved_on (size * n) q) ≡ Some p → p.symbol ≡ q.symbol
-    by true f = back_symbol (size * (2 ^ 32 - n)) q p f
-    by false f = within_symbol (record q { offset = q.offset + size * n }) p f
+    by : (b : Bool) → (if b then moved_back (size * (2 ^ 32 - n)) q else moved_on (size * n) q) ≡ Some p → PlaceHere s r p
+    by true f = back_place s r (size * (2 ^ 32 - n)) q p h f
+    by false f = within_place s r (q.offset + size * n) q p h f
 
-against_symbol : KeepsSymbol moved_against
-against_symbol kind size n q p e = by (is_negative (is_signed_kind kind) n) e
+against_place : (s : State) (r : List RecordValue) → KeepsPlace s r moved_against
+against_place s r kind size n q p h e = by (is_negative (is_signed_kind kind) n) e
   where
-    by : (b : Bool) → (if b then moved_on (size * (2 ^ 32 - n)) q else moved_back (size * n) q) ≡ Some p → p.symbol ≡ q.symbol
-    by true f = within_symbol (record q { offset = q.offset + size * (2 ^ 32 - n) }) p f
-    by false f = back_symbol (size * n) q p f
+    by : (b : Bool) → (if b then moved_on (size * (2 ^ 32 - n)) q else moved_back (size * n) q) ≡ Some p → PlaceHere s r p
+    by true f = within_place s r (q.offset + size * (2 ^ 32 - n)) q p h f
+    by false f = back_place s r (size * n) q p h f
 
-move_here : (s : State) (move : IntKind → ℕ → ℕ → Place → Option Place) → KeepsSymbol move → (r : List RecordValue) (address number : Expression) (o : Option Place) (p : Place)
-    → ((q : Place) → o ≡ Some q → IsHere s q.symbol) → moved_by move r address number o ≡ Some p → IsHere s p.symbol
-move_here s move keeps r address number o p h e = by (constant_value number) o h e
+move_here : (s : State) (move : IntKind → ℕ → ℕ → Place → Option Place) (r : List RecordValue) → KeepsPlace s r move → (address number : Expression) (o : Option Place) (p : Place)
+    → ((q : Place) → o ≡ Some q → PlaceHere s r q) → moved_by move r address number o ≡ Some p → PlaceHere s r p
+move_here s move r keeps address number o p h e = by (constant_value number) o h e
   where
-    by : (c : Option ℕ) (o : Option Place) → ((q : Place) → o ≡ Some q → IsHere s q.symbol)
-        → option_and_then (λ n. option_and_then (move (kind_in (type_in number)) (step_of r (type_in address)) n) o) c ≡ Some p → IsHere s p.symbol
+    by : (c : Option ℕ) (o : Option Place) → ((q : Place) → o ≡ Some q → PlaceHere s r q)
+        → option_and_then (λ n. option_and_then (move (kind_in (type_in number)) (step_of r (type_in address)) n) o) c ≡ Some p → PlaceHere s r p
     by None o g f = never_some f
     by (Some n) None g f = never_some f
-    by (Some n) (Some q) g f = subst (IsHere s) (sym (keeps (kind_in (type_in number)) (step_of r (type_in address)) n q p f)) (g q refl)
+    by (Some n) (Some q) g f = keeps (kind_in (type_in number)) (step_of r (type_in address)) n q p (g q refl) f
 
--- an address is of what is known
-pub place_here : (s : State) (r : List RecordValue) (asked : Asked) (e : Expression) (p : Place) → HasHere s e → place_of r asked e ≡ Some p → IsHere s p.symbol
+-- nothing is added to a function's address
+start_alone : (r : List RecordValue) (q : QType) (n : ℕ) → is_within n (Some 0) ≡ true → IsInside r q n
+start_alone r q n h = let e : 0 ≡ n = omega (arith, leb-true n 0 h) in subst (IsInside r q) e (start_within (size_of r (type_of q)))
+
+-- an address is of what is known, and leads inside
+pub place_here : (s : State) (r : List RecordValue) (asked : Asked) (e : Expression) (p : Place) → HasHere s e → place_of r asked e ≡ Some p → PlaceHere s r p
 unfolding place_of
-place_here s r AsPlace (Node t ty (T.Global symbol)) p h e = subst (λ (q : Place). IsHere s q.symbol) (some_same e) h
-place_here s r AsPlace (Node t ty (T.Function symbol)) p h e = subst (λ (q : Place). IsHere s q.symbol) (some_same e) h
-place_here s r AsPlace (Node t ty (T.Str k)) p h e = subst (λ (q : Place). IsHere s q.symbol) (some_same e) h
+place_here s r AsPlace (Node t ty (T.Global symbol)) p h e = subst (PlaceHere s r) (some_same e) (ty, h, λ n i. i, start_within (size_of r (type_of ty)))
+place_here s r AsPlace (Node t ty (T.Function symbol)) p h e = subst (PlaceHere s r) (some_same e) (ty, h, start_alone r ty, refl)
+place_here s r AsPlace (Node t ty (T.Str k)) p h e = subst (PlaceHere s r) (some_same e) (ty, h, λ n i. i, start_within (size_of r (type_of ty)))
 place_here s r AsPlace (Node t ty (T.Member a offset)) p h e = by (place_of r AsPlace a) (λ q f. place_here s r AsPlace a q h f) e
   where
-    by : (o : Option Place) → ((q : Place) → o ≡ Some q → IsHere s q.symbol) → option_and_then (moved_on offset) o ≡ Some p → IsHere s p.symbol
+    by : (o : Option Place) → ((q : Place) → o ≡ Some q → PlaceHere s r q) → option_and_then (moved_on offset) o ≡ Some p → PlaceHere s r p
     by None g f = never_some f
-    by (Some q) g f = subst (IsHere s) (sym (within_symbol (record q { offset = q.offset + offset }) p f)) (g q refl)
+    by (Some q) g f = within_place s r (q.offset + offset) q p (g q refl) f
 place_here s r AsPlace (Node t ty (T.Deref a)) p h e = place_here s r AsAddress a p h e
 place_here s r AsAddress (Node t ty (T.Decay a)) p h e = place_here s r AsPlace a p h e
 place_here s r AsAddress (Node t ty (T.Address a)) p h e = place_here s r AsPlace a p h e
@@ -517,10 +533,10 @@ place_here s r AsAddress (Node t (Qualified (Pointer q) c v) (T.Cast a)) p h e =
 place_here s r AsAddress (Node t (Qualified (Pointer q) c v) (T.Binary B.Add a b)) p h e =
     by (is_pointer (type_in a)) (λ x f. place_here s r AsAddress a x h.0 f) (λ x f. place_here s r AsAddress b x h.1 f) e
   where
-    by : (z : Bool) → ((x : Place) → place_of r AsAddress a ≡ Some x → IsHere s x.symbol) → ((x : Place) → place_of r AsAddress b ≡ Some x → IsHere s x.symbol)
-        → (if z then moved_by moved r a b (place_of r AsAddress a) else moved_by moved r b a (place_of r AsAddress b)) ≡ Some p → IsHere s p.symbol
-    by true g k f = move_here s moved moved_symbol r a b (place_of r AsAddress a) p g f
-    by false g k f = move_here s moved moved_symbol r b a (place_of r AsAddress b) p k f
+    by : (z : Bool) → ((x : Place) → place_of r AsAddress a ≡ Some x → PlaceHere s r x) → ((x : Place) → place_of r AsAddress b ≡ Some x → PlaceHere s r x)
+        → (if z then moved_by moved r a b (place_of r AsAddress a) else moved_by moved r b a (place_of r AsAddress b)) ≡ Some p → PlaceHere s r p
+    by true g k f = move_here s moved r (moved_place s r) a b (place_of r AsAddress a) p g f
+    by false g k f = move_here s moved r (moved_place s r) b a (place_of r AsAddress b) p k f
 place_here s r AsAddress (Node t (Qualified (Pointer q) c v) (T.Binary B.Subtract a b)) p h e =
-    move_here s moved_against against_symbol r a b (place_of r AsAddress a) p (λ x f. place_here s r AsAddress a x h.0 f) e
+    move_here s moved_against r (against_place s r) a b (place_of r AsAddress a) p (λ x f. place_here s r AsAddress a x h.0 f) e
 place_here s r _ _ p h e = never_some e

@@ -15,6 +15,7 @@ ghost use Rattle.pw_rules.specs.Operands.{Operand};
 ghost use Rattle.pw_rules.specs.Phrases.{expr_rule};
 ghost use Rattle.pw_rules.specs.States.{State, start};
 ghost use Rattle.pw_well_typed.specs.Lawful.{AreWords, Denotes, IsLawful};
+ghost use Rattle.pw_well_typed.specs.Leading.{IsDeclaredWhole, ItemsLead};
 ghost use Rattle.pw_well_typed.specs.Words.{AreShortStrings, AreWordsInModule, WordsInStatement};
 
 /// Nothing is declared at a module's start, so nothing that is known there is unlawful.
@@ -88,6 +89,14 @@ pub fn accepted_locals_are_objects()
 /// can be.
 pub fn accepted_objects_are_well_typed()
     ensures { (tree : Module) (m : ModuleValue) → Checks tree (Ok m) → AreWordsInModule m → AreShortStrings m → All (IsGlobal m) m.globals }
+{}
+
+/// Each address in the first bytes of an object of a module that checking accepts leads into what it names, or directly behind it, as
+/// far as the module knows its size; to that of a function nothing is added (ISO C90 6.4). And an object that all modules share has the
+/// size of the type with which its own module declares it.
+pub fn accepted_addresses_lead_inside()
+    ensures lead { (tree : Module) (m : ModuleValue) → Checks tree (Ok m) → All (ItemsLead m) m.globals }
+    ensures whole { (tree : Module) (m : ModuleValue) → Checks tree (Ok m) → All (IsDeclaredWhole m) m.globals }
 {}
 
 /// A module that checking accepts is well typed (`WellTyped`): its types, its objects with their items, its functions with their

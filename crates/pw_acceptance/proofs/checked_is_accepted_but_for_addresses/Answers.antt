@@ -1,10 +1,10 @@
-use Rattle.pw_acceptance.proofs.checked_is_accepted_but_for_items.Goals as goal
+use Rattle.pw_acceptance.proofs.checked_is_accepted_but_for_addresses.Goals as goal
 
 pub returns : goal.returns
-returns g = λ p frame_of stack checked plain rising room linked words items inside. record {
+returns g = λ p frame_of stack checked plain rising room linked words inside. record {
   accepted = record {
     typed = g.linked_modules_are_well_typed.ensures p frame_of stack checked plain rising linked words;
-    program = g.linked_modules_make_a_program.ensures p frame_of stack checked plain rising room linked words items;
+    program = g.linked_modules_make_a_program.ensures p frame_of stack checked plain rising room linked words;
     alike = g.linked_modules_declare_alike.ensures p frame_of stack checked linked;
   };
   parts = g.checked_initialisers_have_parts.ensures p checked;
