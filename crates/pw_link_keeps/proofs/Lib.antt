@@ -18,3 +18,4 @@ pub mod Steadying
 pub mod Starting
 pub mod Whole
 pub mod Fitting
+pub mod Selecting

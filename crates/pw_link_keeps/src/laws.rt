@@ -25,6 +25,8 @@ ghost use Rattle.pw_linkrun.specs.MachineRun.{start_state, traced_run};
 ghost use Rattle.pw_linkrun.specs.CodeStands.{IsReady};
 ghost use Rattle.pw_inst.specs.declared.line.Line.{Line};
 ghost use Rattle.pw_delay.specs.Items.{slotted};
+ghost use Rattle.pw_alloc.specs.declared.located.Located.{Located};
+ghost use Rattle.pw_select.specs.Selection.{selected};
 ghost use Rattle.pw_link_keeps.specs.Showing.{Shows, DoesSo};
 ghost use Rattle.pw_link_keeps.specs.Steps.{Setting, map_in, IsSetting, Arrives, is_back, AreInData};
 ghost use Rattle.pw_link_keeps.specs.Placing.{name_in, own_address};
@@ -138,4 +140,9 @@ pub fn lawful_starts_are_settings()
 /// Lines that words can be made of, and that call as the convention has it, are items that fit.
 pub fn ready_lines_fit()
     ensures { (x : Setting) (lines : List Line) → AllByRecursion IsReady lines → AllByRecursion IsConventional lines → AllByRecursion (IsFit x) (slotted lines) }
+{}
+
+/// What is selected of a function calls by the convention: functions by register 2, routines by register 31.
+pub fn selected_calls_are_conventional()
+    ensures { (f : Located) → AllByRecursion IsConventional (selected f) }
 {}
