@@ -7,6 +7,9 @@ ghost use Rattle.pw_inst.specs.declared.Inst.TheVariants.{Combf};
 ghost use Rattle.pw_inst.specs.InstructionTable.{decoded, IsInRange};
 ghost use Rattle.pw_machine.specs.Core.{Core, word_at};
 ghost use Rattle.pw_machine.specs.Run.{State};
+ghost use Rattle.pw_machine.specs.Start.{stack_start_of, image_start};
+ghost use Rattle.pw_image.specs.Image.{MemoryValue};
+ghost use Rattle.pw_value.specs.ProgramNames.{start_name};
 ghost use Rattle.pw_machine.specs.Effect.{condition, is_in_text, effect_of};
 ghost use Rattle.pw_machine_laws.specs.Lawful.{IsLawfulCore, IsLawful};
 ghost use Rattle.pw_delay.specs.declared.items.Word.{Word};
@@ -17,7 +20,7 @@ ghost use Rattle.pw_delay.specs.Placement.{size};
 ghost use Rattle.pw_lines.specs.Addresses.{Addresses};
 ghost use Rattle.pw_lines.specs.Acts as lines;
 ghost use Rattle.pw_lines.specs.Acts.{acts};
-ghost use Rattle.pw_lines.specs.LineRun.{LineFn, Frame, Machine, On, left_behind, counted, does, to_block, words_back, goes_back, return_address, enters, returns, start, line_run};
+ghost use Rattle.pw_lines.specs.LineRun.{LineFn, Frame, Machine, On, function_named, left_behind, counted, does, to_block, words_back, goes_back, return_address, enters, returns, start, line_run};
 ghost use Rattle.pw_run.specs.Runs.{Refines, Same};
 ghost use Rattle.pw_milli.specs.Words.{divs_words, divu_words, mul_words, rems_words, remu_words};
 ghost use Rattle.pw_milli.specs.Calls.{Enters};
@@ -34,7 +37,7 @@ ghost use Rattle.pw_link_keeps.specs.Simulating.{calls_from, noted_by, IsLinked,
 ghost use Rattle.pw_link_keeps.specs.Meeting.{Meets};
 ghost use Rattle.pw_link_keeps.specs.Routines.{HasRoutines, AreLeftWords, IsSteadyRun, Makes};
 ghost use Rattle.pw_link_keeps.specs.Leveled.{AreFramed};
-ghost use Rattle.pw_link_keeps.specs.Starting.{IsStart};
+ghost use Rattle.pw_link_keeps.specs.Starting.{IsStart, HasData};
 ghost use Rattle.pw_link_keeps.specs.Conventional.{IsConventional};
 
 use pw_machine::{runs_add_up, runs_go_on};
@@ -145,4 +148,11 @@ pub fn ready_lines_fit()
 /// What is selected of a function calls by the convention: functions by register 2, routines by register 31.
 pub fn selected_calls_are_conventional()
     ensures { (f : Located) → AllByRecursion IsConventional (selected f) }
+{}
+
+/// The state in which the program of an image begins is the start of the lines, where its entry, its stack and its data
+/// are those of the lines.
+pub fn images_start_as_lines()
+    ensures { (x : Setting) (m : MemoryValue) (f : LineFn) (input : List ℕ) → x.start ≡ start_state (image_start m) input → function_named x.program start_name ≡ Some f →
+        m.entry ≡ own_address x f → x.addresses.base ≡ stack_start_of m.words m.data_size → x.addresses.base < 2 ^ 32 → HasData x m → IsStart x f input }
 {}
