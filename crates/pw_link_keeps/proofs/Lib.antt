@@ -20,3 +20,4 @@ pub mod Whole
 pub mod Fitting
 pub mod Selecting
 pub mod ImageStart
+pub mod Shapes

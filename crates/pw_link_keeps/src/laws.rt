@@ -1,6 +1,6 @@
 //! What the machine does where the items of the program's functions stand in its text.
 
-ghost use Rattle.std.specs.Prelude.{ℕ, suc, ℤ, ◌≡◌, ◌+◌, ◌%◌, ◌^◌, ◌≤◌, ◌<◌, ◌==◌, Bool, true, false, if◌then◌else◌, Some, None, List, ◌∷◌, Contains, length};
+ghost use Rattle.std.specs.Prelude.{ℕ, suc, ℤ, ◌≡◌, ◌≢◌, ◌*◌, [], ◌++◌, ◌+◌, ◌%◌, ◌^◌, ◌≤◌, ◌<◌, ◌==◌, Bool, true, false, if◌then◌else◌, Some, None, List, ◌∷◌, Contains, length};
 ghost use Rattle.std.specs.List.{AllByRecursion};
 ghost use Rattle.pw_inst.specs.declared.Inst.{Inst};
 ghost use Rattle.pw_inst.specs.declared.Inst.TheVariants.{Combf};
@@ -30,13 +30,15 @@ ghost use Rattle.pw_inst.specs.declared.line.Line.{Line};
 ghost use Rattle.pw_delay.specs.Items.{slotted};
 ghost use Rattle.pw_alloc.specs.declared.located.Located.{Located};
 ghost use Rattle.pw_select.specs.Selection.{selected};
+ghost use Rattle.pw_alloc.specs.Frames.{head_size, slots_begin, last_reach};
+ghost use Rattle.pw_webflow.specs.declared.web.WebBlock.{WebBlock};
 ghost use Rattle.pw_link_keeps.specs.Showing.{Shows, DoesSo};
 ghost use Rattle.pw_link_keeps.specs.Steps.{Setting, map_in, IsSetting, Arrives, is_back, AreInData};
-ghost use Rattle.pw_link_keeps.specs.Placing.{name_in, own_address};
+ghost use Rattle.pw_link_keeps.specs.Placing.{name_in, own_address, words_of};
 ghost use Rattle.pw_link_keeps.specs.Simulating.{calls_from, noted_by, IsLinked, IsCaller, Simulates, IsCalm, IsCalmInside, IsCalmBehind, leaving, HasLibrary, IsFit};
 ghost use Rattle.pw_link_keeps.specs.Meeting.{Meets};
 ghost use Rattle.pw_link_keeps.specs.Routines.{HasRoutines, AreLeftWords, IsSteadyRun, Makes};
-ghost use Rattle.pw_link_keeps.specs.Leveled.{AreFramed};
+ghost use Rattle.pw_link_keeps.specs.Leveled.{AreFramed, IsPassing, Parts};
 ghost use Rattle.pw_link_keeps.specs.Starting.{IsStart, HasData};
 ghost use Rattle.pw_link_keeps.specs.Conventional.{IsConventional};
 
@@ -155,4 +157,13 @@ pub fn selected_calls_are_conventional()
 pub fn images_start_as_lines()
     ensures { (x : Setting) (m : MemoryValue) (f : LineFn) (input : List ℕ) → x.start ≡ start_state (image_start m) input → function_named x.program start_name ≡ Some f →
         m.entry ≡ own_address x f → x.addresses.base ≡ stack_start_of m.words m.data_size → x.addresses.base < 2 ^ 32 → HasData x m → IsStart x f input }
+{}
+
+/// The items of a selected function begin with a word, and go on behind all but jumps and returns; its frame holds the
+/// saved registers and what stands nearest to the stack pointer.
+pub fn selected_items_are_shaped()
+    ensures begin { (x : Setting) (g : LineFn) (f : Located) → g.items ≡ slotted (selected f) → (before left : List Item) → Parts g before left → before ≢ [] → 1 ≤ words_of x g before }
+    ensures go_on { (x : Setting) (g : LineFn) (f : Located) (b : WebBlock) (blocks : List WebBlock) → g.items ≡ slotted (selected f) → f.body.blocks ≡ b ∷ blocks →
+        (before rest : List Item) (item : Item) → Parts g before (item ∷ rest) → IsPassing item → 1 ≤ words_of x g rest }
+    ensures frame { (f : Located) (n : ℕ) → f.frame ≡ last_reach (slots_begin (head_size f.body) (length f.saved) n) f.body.slots → 4 * length f.saved + head_size f.body ≤ f.frame }
 {}
