@@ -19,3 +19,5 @@ pub mod Starting
 pub mod Whole
 pub mod Fitting
 pub mod Selecting
+pub mod ImageStart
+pub mod Shapes

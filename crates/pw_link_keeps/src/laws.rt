@@ -1,12 +1,15 @@
 //! What the machine does where the items of the program's functions stand in its text.
 
-ghost use Rattle.std.specs.Prelude.{ℕ, suc, ℤ, ◌≡◌, ◌+◌, ◌%◌, ◌^◌, ◌≤◌, ◌<◌, ◌==◌, Bool, true, false, if◌then◌else◌, Some, None, List, ◌∷◌, Contains, length};
+ghost use Rattle.std.specs.Prelude.{ℕ, suc, ℤ, ◌≡◌, ◌≢◌, ◌*◌, [], ◌++◌, ◌+◌, ◌%◌, ◌^◌, ◌≤◌, ◌<◌, ◌==◌, Bool, true, false, if◌then◌else◌, Some, None, List, ◌∷◌, Contains, length};
 ghost use Rattle.std.specs.List.{AllByRecursion};
 ghost use Rattle.pw_inst.specs.declared.Inst.{Inst};
 ghost use Rattle.pw_inst.specs.declared.Inst.TheVariants.{Combf};
 ghost use Rattle.pw_inst.specs.InstructionTable.{decoded, IsInRange};
 ghost use Rattle.pw_machine.specs.Core.{Core, word_at};
 ghost use Rattle.pw_machine.specs.Run.{State};
+ghost use Rattle.pw_machine.specs.Start.{stack_start_of, image_start};
+ghost use Rattle.pw_image.specs.Image.{MemoryValue};
+ghost use Rattle.pw_value.specs.ProgramNames.{start_name};
 ghost use Rattle.pw_machine.specs.Effect.{condition, is_in_text, effect_of};
 ghost use Rattle.pw_machine_laws.specs.Lawful.{IsLawfulCore, IsLawful};
 ghost use Rattle.pw_delay.specs.declared.items.Word.{Word};
@@ -17,7 +20,7 @@ ghost use Rattle.pw_delay.specs.Placement.{size};
 ghost use Rattle.pw_lines.specs.Addresses.{Addresses};
 ghost use Rattle.pw_lines.specs.Acts as lines;
 ghost use Rattle.pw_lines.specs.Acts.{acts};
-ghost use Rattle.pw_lines.specs.LineRun.{LineFn, Frame, Machine, On, left_behind, counted, does, to_block, words_back, goes_back, return_address, enters, returns, start, line_run};
+ghost use Rattle.pw_lines.specs.LineRun.{LineFn, Frame, Machine, On, function_named, left_behind, counted, does, to_block, words_back, goes_back, return_address, enters, returns, start, line_run};
 ghost use Rattle.pw_run.specs.Runs.{Refines, Same};
 ghost use Rattle.pw_milli.specs.Words.{divs_words, divu_words, mul_words, rems_words, remu_words};
 ghost use Rattle.pw_milli.specs.Calls.{Enters};
@@ -27,14 +30,16 @@ ghost use Rattle.pw_inst.specs.declared.line.Line.{Line};
 ghost use Rattle.pw_delay.specs.Items.{slotted};
 ghost use Rattle.pw_alloc.specs.declared.located.Located.{Located};
 ghost use Rattle.pw_select.specs.Selection.{selected};
+ghost use Rattle.pw_alloc.specs.Frames.{head_size, slots_begin, last_reach};
+ghost use Rattle.pw_webflow.specs.declared.web.WebBlock.{WebBlock};
 ghost use Rattle.pw_link_keeps.specs.Showing.{Shows, DoesSo};
 ghost use Rattle.pw_link_keeps.specs.Steps.{Setting, map_in, IsSetting, Arrives, is_back, AreInData};
-ghost use Rattle.pw_link_keeps.specs.Placing.{name_in, own_address};
+ghost use Rattle.pw_link_keeps.specs.Placing.{name_in, own_address, words_of};
 ghost use Rattle.pw_link_keeps.specs.Simulating.{calls_from, noted_by, IsLinked, IsCaller, Simulates, IsCalm, IsCalmInside, IsCalmBehind, leaving, HasLibrary, IsFit};
 ghost use Rattle.pw_link_keeps.specs.Meeting.{Meets};
 ghost use Rattle.pw_link_keeps.specs.Routines.{HasRoutines, AreLeftWords, IsSteadyRun, Makes};
-ghost use Rattle.pw_link_keeps.specs.Leveled.{AreFramed};
-ghost use Rattle.pw_link_keeps.specs.Starting.{IsStart};
+ghost use Rattle.pw_link_keeps.specs.Leveled.{AreFramed, IsPassing, Parts};
+ghost use Rattle.pw_link_keeps.specs.Starting.{IsStart, HasData};
 ghost use Rattle.pw_link_keeps.specs.Conventional.{IsConventional};
 
 use pw_machine::{runs_add_up, runs_go_on};
@@ -145,4 +150,20 @@ pub fn ready_lines_fit()
 /// What is selected of a function calls by the convention: functions by register 2, routines by register 31.
 pub fn selected_calls_are_conventional()
     ensures { (f : Located) → AllByRecursion IsConventional (selected f) }
+{}
+
+/// The state in which the program of an image begins is the start of the lines, where its entry, its stack and its data
+/// are those of the lines.
+pub fn images_start_as_lines()
+    ensures { (x : Setting) (m : MemoryValue) (f : LineFn) (input : List ℕ) → x.start ≡ start_state (image_start m) input → function_named x.program start_name ≡ Some f →
+        m.entry ≡ own_address x f → x.addresses.base ≡ stack_start_of m.words m.data_size → x.addresses.base < 2 ^ 32 → HasData x m → IsStart x f input }
+{}
+
+/// The items of a selected function begin with a word, and go on behind all but jumps and returns; its frame holds the
+/// saved registers and what stands nearest to the stack pointer.
+pub fn selected_items_are_shaped()
+    ensures begin { (x : Setting) (g : LineFn) (f : Located) → g.items ≡ slotted (selected f) → (before left : List Item) → Parts g before left → before ≢ [] → 1 ≤ words_of x g before }
+    ensures go_on { (x : Setting) (g : LineFn) (f : Located) (b : WebBlock) (blocks : List WebBlock) → g.items ≡ slotted (selected f) → f.body.blocks ≡ b ∷ blocks →
+        (before rest : List Item) (item : Item) → Parts g before (item ∷ rest) → IsPassing item → 1 ≤ words_of x g rest }
+    ensures frame { (f : Located) (n : ℕ) → f.frame ≡ last_reach (slots_begin (head_size f.body) (length f.saved) n) f.body.slots → 4 * length f.saved + head_size f.body ≤ f.frame }
 {}
