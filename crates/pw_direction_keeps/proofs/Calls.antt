@@ -47,7 +47,7 @@ here : (d : List (List ℕ × Directives)) (f : Active) (h : List ℕ) (r : ℕ)
 unfolding directed
 here d f h r fs a e = ap (λ (o : Option ℕ). or_else (option_map a o) (held h (with_registers f.saved a) (web_frames d fs))) e
 
-further : (d : List (List ℕ × Directives)) (f : Active) (h : List ℕ) (fs : List Active) (a : ℕ → Value) → register_of (webs_of d f.function) h ≡ None
+pub further : (d : List (List ℕ × Directives)) (f : Active) (h : List ℕ) (fs : List Active) (a : ℕ → Value) → register_of (webs_of d f.function) h ≡ None
     → held h a (web_frames d (f ∷ fs)) ≡ held h (with_registers f.saved a) (web_frames d fs)
 unfolding directed
 further d f h fs a e = ap (λ (o : Option ℕ). or_else (option_map a o) (held h (with_registers f.saved a) (web_frames d fs))) e
@@ -82,7 +82,7 @@ path-then : (g : Graph) (a b c : List ℕ) → Path g a b → Calls g b c → Pa
 path-then g a b c (call _ _ k) l = on a b c k (call b c l)
 path-then g a b c (on _ via _ k q) l = on a via c k (path-then g via b c q l)
 
-path-below : (g : Graph) (f : Active) (fs : List Active) (n : List ℕ) → Linked g (f ∷ fs) → Contains (names_active fs) n → Path g n f.function.name
+pub path-below : (g : Graph) (f : Active) (fs : List Active) (n : List ℕ) → Linked g (f ∷ fs) → Contains (names_active fs) n → Path g n f.function.name
 path-below g f [] n l c = absurd (nowhere n c)
 path-below g f (e ∷ fs) n l c = elim (Contains-append_cases (e.function.name ∷ []) (names_active fs) n c) [
   | inl first ↦ subst (λ (m : List ℕ). Path g m f.function.name) (the-first e.function.name n first) (call e.function.name f.function.name l.0)

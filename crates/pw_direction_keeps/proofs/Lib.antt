@@ -9,3 +9,6 @@ mod WebReads
 mod WebWrites
 mod Webs
 mod Calls
+mod ByName
+mod Library
+mod StoresByName

@@ -48,11 +48,11 @@ use Rattle.pw_direction_keeps.proofs.WebReads.{HeldGlobal, held-global}
 
 -- ---- values that are the same
 
-and-left : (a b : Bool) → (a && b) ≡ true → a ≡ true
+pub and-left : (a b : Bool) → (a && b) ≡ true → a ≡ true
 and-left true b h = refl
 and-left false b h = h
 
-and-right : (a b : Bool) → (a && b) ≡ true → b ≡ true
+pub and-right : (a b : Bool) → (a && b) ≡ true → b ≡ true
 and-right true b h = h
 and-right false b h = absurd (true≢false (sym h))
 
@@ -118,7 +118,7 @@ filter-by : {X : Type 0} (b : Bool) (y x : X) (ys : List X) → Contains ys x �
 filter-by true y x ys c = later-there y x ys c
 filter-by false y x ys c = c
 
-filter-there : {X : Type 0} (test : X → Bool) (xs : List X) (x : X) → Contains xs x → test x ≡ true → Contains (filter test xs) x
+pub filter-there : {X : Type 0} (test : X → Bool) (xs : List X) (x : X) → Contains xs x → test x ≡ true → Contains (filter test xs) x
 filter-there test [] x c t = absurd (nowhere x c)
 filter-there test (y ∷ ys) x c t = elim (Contains-append_cases (y ∷ []) ys x c) [
   | inl first ↦ let same = the-first y x first in
@@ -126,7 +126,7 @@ filter-there test (y ∷ ys) x c t = elim (Contains-append_cases (y ∷ []) ys x
   | inr later ↦ filter-by (test y) y x (filter test ys) (filter-there test ys x later t)
 ]
 
-writes-of : (p : Program) (f : FlowFn) (g : List ℕ) (t : ℕ) (k : Kind) → Contains (functions_of p) f → Contains (ops_of f) (StoreG g t k) → Contains (eligible_names p) g → Writes (graph_of p) f.name g
+pub writes-of : (p : Program) (f : FlowFn) (g : List ℕ) (t : ℕ) (k : Kind) → Contains (functions_of p) f → Contains (ops_of f) (StoreG g t k) → Contains (eligible_names p) g → Writes (graph_of p) f.name g
 unfolding graph_of
 writes-of p f g t k there code el = record {
   node = node_of p f;
@@ -226,7 +226,7 @@ follows-if : (p : Program) (d : List (List ℕ × Directives)) (m : flow.Machine
 follows-if p d m s true o h = h refl
 follows-if p d m s false o h = tt
 
-abbrev put-by : Kind → Value → List Object → Option ℕ → Option (List Object)
+abbrev pub put-by : Kind → Value → List Object → Option ℕ → Option (List Object)
 put-by k v objects (Some o) = poke_in k o 0 v objects
 put-by k v objects None = None
 

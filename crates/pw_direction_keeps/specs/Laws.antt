@@ -1,5 +1,5 @@
 -- What is proved of the two runs.
-use Rattle.std.specs.Prelude.{ℕ, ◌≡◌, ◌≢◌, Some, List, [], ◌∷◌, map, Contains}
+use Rattle.std.specs.Prelude.{ℕ, ◌≡◌, ◌≢◌, Option, Some, None, List, [], ◌∷◌, map, Contains}
 use Rattle.std.specs.List.{AllByRecursion}
 use Rattle.pw_value.specs.declared.value.Kind.{Kind}
 use Rattle.pw_value.specs.declared.value.Value.{Value}
@@ -14,7 +14,7 @@ use Rattle.pw_flow.specs.declared.flow.End.TheVariants.{Return}
 use Rattle.pw_webflow.specs.Direction.{register_of}
 use Rattle.pw_sound.specs.CallGraphs.{Graph}
 use Rattle.pw_sound.specs.Sound.{Has, In, Sound}
-use Rattle.pw_flowrun.specs.Programs.{Program}
+use Rattle.pw_flowrun.specs.Programs.{Program, Library, library_at}
 use Rattle.pw_flowrun.specs.FlowRun as flow
 use Rattle.pw_webrun.specs.Programs.{IsProgram, graph_of}
 use Rattle.pw_webrun.specs.PlacedRun as web
@@ -98,3 +98,26 @@ StandsAtReturns =
     IsDatabase d → Sound g d → Linked g (f ∷ caller ∷ fs) → Saves d f →
     ((w : Web) → w.global ≡ h → ¬ Has d f.function.name w Entry) →
     held h (web.with_registers f.saved registers) (web_frames d (caller ∷ fs)) ≡ held h registers (web_frames d (f ∷ caller ∷ fs))
+
+-- ---- globals that no web of the function holds
+
+abbrev pub LoadsFollow : Type 0
+LoadsFollow =
+    (p : Program) (d : List (List ℕ × Directives)) (x : Pair) (t : ℕ) (g : List ℕ) (k : Kind) (ops : List Op) →
+    IsDatabase d → Sound (graph_of p) d → IsAlike p d x → x.frame.ops ≡ LoadG t g k ∷ ops → register_of (webs_of d x.frame.function) g ≡ None →
+    StepsFollow p d x
+
+abbrev pub StoresFollow : Type 0
+StoresFollow =
+    (p : Program) (d : List (List ℕ × Directives)) (x : Pair) (t : ℕ) (g : List ℕ) (k : Kind) (ops : List Op) →
+    IsProgram p → IsDatabase d → Sound (graph_of p) d → IsAlike p d x → x.frame.ops ≡ StoreG g t k ∷ ops → register_of (webs_of d x.frame.function) g ≡ None →
+    StepsFollow p d x
+
+-- ---- calls
+
+-- a call of a function of the library
+abbrev pub LibraryFollows : Type 0
+LibraryFollows =
+    (p : Program) (d : List (List ℕ × Directives)) (x : Pair) (t : Option ℕ) (f : List ℕ) (args : List Value) (lib : Library) →
+    IsDatabase d → IsAlike p d x → library_at f ≡ Some lib →
+    Follows p d (flow.calls p t f args (flow_side x)) (web.calls (under p d) t f args (web_side d x))

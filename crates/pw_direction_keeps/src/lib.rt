@@ -1,7 +1,7 @@
 //! The directed run beside the run of flow graphs, as the contracts of functions that do nothing.
 #![tactic(auto)]
 
-ghost use Rattle.pw_direction_keeps.specs.Laws.{OperationsFollow, BlocksFollow, ReadsFollow, WritesFollow};
+ghost use Rattle.pw_direction_keeps.specs.Laws.{OperationsFollow, BlocksFollow, ReadsFollow, WritesFollow, LoadsFollow, StoresFollow, LibraryFollows};
 ghost use Rattle.pw_direction_keeps.specs.Laws.{PlacesStay, StandsAtCalls, EntriesAreAlone, StandsAtReturns};
 
 /// Operations that neither load or store a global by its name nor call are the same in both runs.
@@ -32,4 +32,19 @@ pub fn reads_follow()
 /// A store to one goes to the web's register, and every other global stands where it stood.
 pub fn writes_follow()
     ensures { WritesFollow }
+{}
+
+/// A load by its name of a global that no web of the function holds gives the same in both runs.
+pub fn loads_follow()
+    ensures { LoadsFollow }
+{}
+
+/// A store by its name to one does the same in both runs.
+pub fn stores_follow()
+    ensures { StoresFollow }
+{}
+
+/// A call of the library does the same in both runs, for want of stack too.
+pub fn library_follows()
+    ensures { LibraryFollows }
 {}
