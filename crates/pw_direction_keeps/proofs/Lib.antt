@@ -1,0 +1,14 @@
+mod Elements
+mod Names
+mod Tame
+mod Memory
+mod Steps
+mod Registers
+mod Globals
+mod WebReads
+mod WebWrites
+mod Webs
+mod Calls
+mod ByName
+mod Library
+mod StoresByName

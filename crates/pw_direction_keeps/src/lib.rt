@@ -1,0 +1,50 @@
+//! The directed run beside the run of flow graphs, as the contracts of functions that do nothing.
+#![tactic(auto)]
+
+ghost use Rattle.pw_direction_keeps.specs.Laws.{OperationsFollow, BlocksFollow, ReadsFollow, WritesFollow, LoadsFollow, StoresFollow, LibraryFollows};
+ghost use Rattle.pw_direction_keeps.specs.Laws.{PlacesStay, StandsAtCalls, EntriesAreAlone, StandsAtReturns};
+
+/// Operations that neither load or store a global by its name nor call are the same in both runs.
+pub fn operations_follow()
+    ensures { OperationsFollow }
+{}
+
+/// So are ends of blocks that do not return.
+pub fn blocks_follow()
+    ensures { BlocksFollow }
+{}
+
+/// Where globals stand. A function that writes the register of one of its webs leaves every other global where it
+/// stands. At the call of a function, and at its return, a global of no web that it enters stands where it stood; and
+/// where it enters a web, no function that is active before it is in a web of the global.
+pub fn places_stay()
+    ensures writes { PlacesStay }
+    ensures calls { StandsAtCalls }
+    ensures entries { EntriesAreAlone }
+    ensures returns { StandsAtReturns }
+{}
+
+/// A load of a global that a web of the function holds gives what stands in the web's register.
+pub fn reads_follow()
+    ensures { ReadsFollow }
+{}
+
+/// A store to one goes to the web's register, and every other global stands where it stood.
+pub fn writes_follow()
+    ensures { WritesFollow }
+{}
+
+/// A load by its name of a global that no web of the function holds gives the same in both runs.
+pub fn loads_follow()
+    ensures { LoadsFollow }
+{}
+
+/// A store by its name to one does the same in both runs.
+pub fn stores_follow()
+    ensures { StoresFollow }
+{}
+
+/// A call of the library does the same in both runs, for want of stack too.
+pub fn library_follows()
+    ensures { LibraryFollows }
+{}
