@@ -14,8 +14,8 @@ use Rattle.pw_types.specs.declared.record.Layout.{Layout}
 use Rattle.pw_types.specs.declared.record.RecordKind.{RecordKind}
 use Rattle.pw_types.specs.declared.record.RecordKind.TheVariants.{Structure, Union}
 use Rattle.pw_types.specs.Layouts.{array_layout, content_at, layout_of}
-use Rattle.pw_types.specs.Records.{IsLaid}
-use Rattle.pw_types.specs.Shapes.{shape_of, shape_of_record, unknown_shape, record_shape, letter_of_kind, marked, length_text, opening, closing}
+use Rattle.pw_types.specs.Records.{IsLaid, kind_at}
+use Rattle.pw_types.specs.Shapes.{shape_of, shape_of_record, unknown_shape, record_shape, member_shapes, letter_of_kind, marked, length_text, opening, closing}
 use Rattle.pw_types.specs.TypeTrees.{CType, Void, Int, Pointer, Array, Function, Record, Qualified, QType, ContentValue, RecordValue}
 use Rattle.pw_well_typed.proofs.Lists.{some_same, never_some}
 use Rattle.pw_well_typed.proofs.Composite.{decimal_is}
@@ -129,7 +129,7 @@ record_known r n v l laid e = by (slice_get r n) refl e
         let there : content_at r n ≡ Some c = ap (option_and_then (λ (y : RecordValue). y.content)) at ∙ f in
         let whole = laid n c there in
         let text : shape_of r (Record n) v ≡ c.shape = ap (λ (o : Option RecordValue). unwrap_or (option_map shape_of_record o) []) at ∙ ap (λ (o : Option ContentValue). option_map_or (λ (c : ContentValue). c.shape) o (unknown_shape x.kind)) f in
-        (_, _, text ∙ (whole.shaped ∙ ap (λ (y : Layout). record_shape _ y.size _) (some_same g)))
+        (kind_at r n, member_shapes r c.members, text ∙ (whole.shaped ∙ ap (λ (y : Layout). record_shape (kind_at r n) y.size (member_shapes r c.members)) (some_same g)))
 
     by : (o : Option RecordValue) → slice_get r n ≡ o → option_map (λ (c : ContentValue). c.layout) (option_and_then (λ (y : RecordValue). y.content) o) ≡ Some l → RecordText r (Record n) v l
     by None at g = never_some g
