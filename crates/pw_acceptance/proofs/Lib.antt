@@ -10,3 +10,5 @@ mod Numbered
 mod Whole
 mod FunctionShapes
 mod References
+mod ShapeSizes
+mod Inside

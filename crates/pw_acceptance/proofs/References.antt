@@ -67,7 +67,7 @@ global_there : (home : List ℕ) (m : ModuleValue) (g : GlobalValue) → Has g m
 unfolding lowered
 global_there home m g h = has_map (λ (v : FlowGlobal). v.name) (lowered_global home m.records g) (map (lowered_global home m.records) m.globals) (has_map (lowered_global home m.records) g m.globals h)
 
-global_of : (home : List ℕ) (m : ModuleValue) (g : FlowGlobal) → Has g (lowered home m).globals → (v : GlobalValue) × Has v m.globals × (lowered_global home m.records v ≡ g)
+pub global_of : (home : List ℕ) (m : ModuleValue) (g : FlowGlobal) → Has g (lowered home m).globals → (v : GlobalValue) × Has v m.globals × (lowered_global home m.records v ≡ g)
 unfolding lowered
 global_of home m g h = has_map_back (lowered_global home m.records) g m.globals h
 

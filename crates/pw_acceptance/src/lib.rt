@@ -164,11 +164,25 @@ pub fn linked_modules_make_a_program()
     linked_items_are_right();
 }
 
+/// And each address in the first bytes of an object leads into the object that it names, or directly behind it.
+pub fn linked_addresses_lead_inside()
+    ensures { (p : Program) (frame_of : List ℕ → ℕ) (stack : ℕ) → AreChecked p → AreLinked (flow_program p frame_of stack).modules → AreOfWords p → LeadInside (flow_program p frame_of stack) }
+{
+    strings_of_texts();
+    words_spell_what_they_are();
+    accepted_names_are_identifiers();
+    accepted_functions_are_typed();
+    accepted_names_are_declared();
+    accepted_strings_are_short();
+    accepted_is_well_typed();
+    accepted_addresses_lead_inside();
+}
+
 /// So checked modules whose objects link are accepted, with all that built programs want of it, but for what is a premise here: that
-/// no module has a colon in its name, that numbers are of 32 bits, and that addresses in initialisers lead inside.
-pub fn checked_is_accepted_but_for_addresses()
+/// no module has a colon in its name, and that numbers are of 32 bits.
+pub fn checked_is_accepted_but_for_numbers()
     ensures { (p : Program) (frame_of : List ℕ → ℕ) (stack : ℕ) → AreChecked p → AreNamedPlainly p → IsRising (map (λ m. m.name) p.modules) → stack ≤ stack_most → AreLinked (flow_program p frame_of stack).modules
-        → AreOfWords p → LeadInside (flow_program p frame_of stack) → IsWhole p frame_of stack }
+        → AreOfWords p → IsWhole p frame_of stack }
 {
     linked_modules_are_well_typed();
     linked_modules_make_a_program();
@@ -176,6 +190,7 @@ pub fn checked_is_accepted_but_for_addresses()
     checked_initialisers_have_parts();
     checked_functions_are_formed();
     linked_names_are_apart();
+    linked_addresses_lead_inside();
 }
 
 /// Accepted programs of checked texts are lowerable, but for what is a premise here: that objects without a name have numbers of 32

@@ -57,7 +57,7 @@ first_some n = by (n / 10 == 0)
     by true = omega arith
     by false = onto_some 63 (n / 10) (digit_glyph false (n % 10) ∷ []) (omega arith)
 
-decimal_is : (n : ℕ) → IsDecimal (decimal n)
+pub decimal_is : (n : ℕ) → IsDecimal (decimal n)
 unfolding digits
 decimal_is n = (first_some n, onto_digits 64 n [] refl)
 

@@ -26,6 +26,7 @@ use Rattle.pw_well_typed.proofs.Lists.{never_some}
 use Rattle.pw_well_typed.proofs.Types.{no}
 use Rattle.pw_well_typed.proofs.Composite.{Covers, layout_covered}
 use Rattle.pw_well_typed.proofs.Objects.{object_complete}
+use Rattle.pw_well_typed.proofs.ObjectTypes.{keeps_within}
 use Rattle.pw_well_typed.proofs.Sound.{Sound, IsStored, IsThere}
 use Rattle.pw_well_typed.proofs.Settled.{IsHere, IsKnownItem, AreKnownItems, IsSettled, IsMade, start_within}
 use Rattle.pw_well_typed.proofs.Ending.{contains_at, get_kept, get_mapped, final_covers, start_sound}
@@ -117,6 +118,7 @@ item_leads s x (ItemAddress (External name) offset) h =
       entry = declared_value here.1;
       there = declared_there s here.0 here.1 here.2 n.0;
       name_is = n.1;
+      within = keeps_within s.types.records x.lawful.laid (type_of here.1.ty) (x.within here.0 here.1 here.2).1;
       inside = inside_covered s.types.records here.1.ty h.0 offset here.4 h.2;
     }
 item_leads s x (ItemAddress (Internal name) offset) h = own_leads s x name h.0 offset h.1 h.2

@@ -1,6 +1,8 @@
 -- Where the addresses in the first bytes of a module's objects lead.
-use Rattle.std.specs.Prelude.{ℕ, ◌≡◌, ◌⊎◌, true, Some, List, slice_get, Contains}
-use Rattle.pw_types.specs.Layouts.{size_of}
+use Rattle.std.specs.Prelude.{ℕ, ◌≡◌, ◌≤◌, ◌⊎◌, true, Some, List, slice_get, Contains}
+use Rattle.pw_value.specs.Limits.{size_limit}
+use Rattle.pw_types.specs.declared.record.Layout.{Layout}
+use Rattle.pw_types.specs.Layouts.{layout_of, size_of}
 use Rattle.pw_types.specs.TypeTrees.{QType, type_of, RecordValue}
 use Rattle.pw_types.specs.TypedTrees.{Symbol, External, Internal, Hidden, ItemValue, ItemBytes, ItemAddress, PlacedItem, GlobalValue, DeclaredValue, ModuleValue}
 use Rattle.pw_rules.specs.Constants.{is_within}
@@ -16,11 +18,12 @@ pub record LeadsIntoOwn (m : ModuleValue) (symbol : Symbol) (offset : ℕ) : Typ
   pub name_is : object.name ≡ symbol
   pub inside : IsInside m.records object.ty offset
 
--- into what all modules share, by the type with which the module declares it; ..
+-- into what all modules share, by the type with which the module declares it, which keeps the limit on sizes; ..
 pub record LeadsIntoShared (m : ModuleValue) (name : List ℕ) (offset : ℕ) : Type 0 where
   pub entry : DeclaredValue
   pub there : Contains m.declared entry
   pub name_is : entry.name ≡ name
+  pub within : (l : Layout) → layout_of m.records (type_of entry.ty) ≡ Some l → l.size ≤ size_limit
   pub inside : IsInside m.records entry.ty offset
 
 -- .. what is the module's own and no object is a function, to whose address nothing is added
