@@ -3,7 +3,7 @@ use Rattle.std.specs.Prelude.{ℕ, zero, suc, ◌≡◌, ◌+◌, ◌%◌, ◌^�
 use Rattle.std.proofs.Common.{subst, sym, ap, refl, ◌∙◌, inl, inr, get_or-set_other}
 use Rattle.std.proofs.lemmas.Bool.{cases_eq}
 use Rattle.pw_value.specs.ProgramNames.{start_name}
-use Rattle.pw_image.specs.Image.{MemoryValue}
+use Rattle.pw_image.specs.declared.image.Memory.{Memory}
 use Rattle.pw_machine.specs.Core.{Core}
 use Rattle.pw_machine.specs.Start.{data_start_of, stack_start_of, start_memory, image_start}
 use Rattle.pw_machine.specs.Start as machine
@@ -35,7 +35,7 @@ registers_by base r (inr ne) =
     put_other (λ r. 0) 30 base r ne
     ∙ either_zero (r == 0) (slice_index (slice_set (replicate 32 0) 30 base) r) (get_or-set_other (replicate 32 0) 30 r base 0 ne ∙ all_zero 32 r)
 
-image_shows : (x : Setting) (m : MemoryValue) → x.addresses.base ≡ stack_start_of m.words m.data_size → HasData x m
+image_shows : (x : Setting) (m : Memory) → x.addresses.base ≡ stack_start_of m.words m.data_size → HasData x m
     → Shows (start_core x.program x.addresses) (image_start m)
 unfolding machine.start_core
 image_shows x m base h = record {
@@ -46,11 +46,11 @@ image_shows x m base h = record {
   skip = refl;
 }
 
-image_parts : (m : MemoryValue) → ((image_start m).front ≡ m.entry) × ((image_start m).back ≡ (m.entry + 4) % 2 ^ 32) × ((image_start m).stopped ≡ None)
+image_parts : (m : Memory) → ((image_start m).front ≡ m.entry) × ((image_start m).back ≡ (m.entry + 4) % 2 ^ 32) × ((image_start m).stopped ≡ None)
 unfolding machine.start_core
 image_parts m = (refl, refl, refl)
 
-pub image_starts : (x : Setting) (m : MemoryValue) (f : LineFn) (input : List ℕ) → x.start ≡ start_state (image_start m) input
+pub image_starts : (x : Setting) (m : Memory) (f : LineFn) (input : List ℕ) → x.start ≡ start_state (image_start m) input
     → function_named x.program start_name ≡ Some f → m.entry ≡ own_address x f → x.addresses.base ≡ stack_start_of m.words m.data_size
     → x.addresses.base < 2 ^ 32 → HasData x m → IsStart x f input
 image_starts x m f input start named entry base small h =

@@ -1,7 +1,7 @@
 -- The start of the machine, as the lines see it.
 use Rattle.std.specs.Prelude.{ℕ, ◌≡◌, ◌+◌, ◌<◌, ◌%◌, ◌^◌, Some, None, List, [], ◌≤◌}
 use Rattle.pw_value.specs.ProgramNames.{start_name}
-use Rattle.pw_image.specs.Image.{MemoryValue}
+use Rattle.pw_image.specs.declared.image.Memory.{Memory}
 use Rattle.pw_machine.specs.Core.{byte_at}
 use Rattle.pw_machine.specs.Start.{data_start_of, start_memory}
 use Rattle.pw_lines.specs.LineRun.{LineFn, function_named, start_core}
@@ -21,6 +21,6 @@ pub record IsStart (x : Setting) (f : LineFn) (input : List ℕ) : Type 0 where
   pub output : x.start.output ≡ []
 
 -- the memory of an image has from the start of the data on what the lines have
-abbrev pub HasData : Setting → MemoryValue → Type 0
+abbrev pub HasData : Setting → Memory → Type 0
 HasData x m =
     (a : ℕ) → data_start_of m.words ≤ a → (start_core x.program x.addresses).memory a ≡ byte_at (start_memory m.words m.items) a

@@ -8,7 +8,7 @@ ghost use Rattle.pw_inst.specs.InstructionTable.{decoded, IsInRange};
 ghost use Rattle.pw_machine.specs.Core.{Core, word_at};
 ghost use Rattle.pw_machine.specs.Run.{State};
 ghost use Rattle.pw_machine.specs.Start.{stack_start_of, image_start};
-ghost use Rattle.pw_image.specs.Image.{MemoryValue};
+ghost use Rattle.pw_image.specs.declared.image.Memory.{Memory};
 ghost use Rattle.pw_value.specs.ProgramNames.{start_name};
 ghost use Rattle.pw_machine.specs.Effect.{condition, is_in_text, effect_of};
 ghost use Rattle.pw_machine_laws.specs.Lawful.{IsLawfulCore, IsLawful};
@@ -155,7 +155,7 @@ pub fn selected_calls_are_conventional()
 /// The state in which the program of an image begins is the start of the lines, where its entry, its stack and its data
 /// are those of the lines.
 pub fn images_start_as_lines()
-    ensures { (x : Setting) (m : MemoryValue) (f : LineFn) (input : List ℕ) → x.start ≡ start_state (image_start m) input → function_named x.program start_name ≡ Some f →
+    ensures { (x : Setting) (m : Memory) (f : LineFn) (input : List ℕ) → x.start ≡ start_state (image_start m) input → function_named x.program start_name ≡ Some f →
         m.entry ≡ own_address x f → x.addresses.base ≡ stack_start_of m.words m.data_size → x.addresses.base < 2 ^ 32 → HasData x m → IsStart x f input }
 {}
 
