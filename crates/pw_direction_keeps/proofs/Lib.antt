@@ -12,3 +12,6 @@ mod Calls
 mod ByName
 mod Library
 mod StoresByName
+mod Runs
+mod Saving
+mod Callees

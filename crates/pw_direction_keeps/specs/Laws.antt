@@ -1,5 +1,5 @@
 -- What is proved of the two runs.
-use Rattle.std.specs.Prelude.{ℕ, ◌≡◌, ◌≢◌, Option, Some, None, List, [], ◌∷◌, map, Contains}
+use Rattle.std.specs.Prelude.{ℕ, ◌≡◌, ◌≢◌, Option, Some, None, List, [], ◌∷◌, map, option_map, slice_get, Contains}
 use Rattle.std.specs.List.{AllByRecursion}
 use Rattle.pw_value.specs.declared.value.Kind.{Kind}
 use Rattle.pw_value.specs.declared.value.Value.{Value}
@@ -11,14 +11,19 @@ use Rattle.pw_flow.specs.declared.flow.Op.{Op}
 use Rattle.pw_flow.specs.declared.flow.Op.TheVariants.{LoadG, StoreG, Call, CallInd}
 use Rattle.pw_flow.specs.declared.flow.End.{End}
 use Rattle.pw_flow.specs.declared.flow.End.TheVariants.{Return}
-use Rattle.pw_webflow.specs.Direction.{register_of}
+use Rattle.pw_flow.specs.declared.flow.FlowFn.{FlowFn}
+use Rattle.pw_webflow.specs.Direction.{register_of, directed_block}
+use Rattle.pw_alloc.specs.Allocation.{saved_of}
 use Rattle.pw_sound.specs.CallGraphs.{Graph}
 use Rattle.pw_sound.specs.Sound.{Has, In, Sound}
-use Rattle.pw_flowrun.specs.Programs.{Program, Library, library_at}
+use Rattle.pw_run.specs.Runs.{Refines}
+use Rattle.pw_trace.specs.Traces.{calls_of}
+use Rattle.pw_flowrun.specs.Programs.{Program, Library, library_at, function_named}
 use Rattle.pw_flowrun.specs.FlowRun as flow
 use Rattle.pw_webrun.specs.Programs.{IsProgram, graph_of}
 use Rattle.pw_webrun.specs.PlacedRun as web
 use Rattle.pw_webrun.specs.PlacedRun.{held}
+use Rattle.pw_webrun.specs.Direction.{web_run, MomentAlike, directed_by, unplaced}
 use Rattle.pw_direction_keeps.specs.Pairs.{Active, Pair, flow_side, web_side, webs_of, web_frames, under}
 use Rattle.pw_direction_keeps.specs.Alike.{Linked, Saves, names_active, IsAlike, Follows}
 
@@ -121,3 +126,42 @@ LibraryFollows =
     (p : Program) (d : List (List ℕ × Directives)) (x : Pair) (t : Option ℕ) (f : List ℕ) (args : List Value) (lib : Library) →
     IsDatabase d → IsAlike p d x → library_at f ≡ Some lib →
     Follows p d (flow.calls p t f args (flow_side x)) (web.calls (under p d) t f args (web_side d x))
+
+-- ---- all steps, and runs
+
+-- what is left of a block is neither a call nor ends with a return
+abbrev pub StaysInFunction : List Op → End → Type 0
+StaysInFunction [] end = StaysInside end
+StaysInFunction (Call t f args ∷ ops) end = ⊥
+StaysInFunction (CallInd t a shape args ∷ ops) end = ⊥
+StaysInFunction (o ∷ ops) end = Unit {0}
+
+-- all that a function does by itself
+abbrev pub InsideFollows : Type 0
+InsideFollows =
+    (p : Program) (d : List (List ℕ × Directives)) (x : Pair) →
+    IsProgram p → IsDatabase d → Sound (graph_of p) d → IsAlike p d x → StaysInFunction x.frame.ops x.frame.end → StepsFollow p d x
+
+-- where the starts are alike and every step follows, the directed run does what the flow run does
+abbrev pub RunsRestOnSteps : Type 0
+RunsRestOnSteps =
+    (p : Program) (d : List (List ℕ × Directives)) (input : List ℕ) →
+    Follows p d (flow.start p input) (web.start (under p d) input) → ((x : Pair) → IsAlike p d x → StepsFollow p d x) →
+    Refines (MomentAlike p) (flow.flow_run p input) (calls_of (web_run p d input))
+
+-- ---- the start of a function
+
+-- What a function saves at its start, with what the registers hold, is what the states want to be saved.
+abbrev pub SavesAtStarts : Type 0
+SavesAtStarts =
+    (d : List (List ℕ × Directives)) (f : Active) (registers : ℕ → Value) →
+    IsDatabase d → f.saved ≡ map (λ r. (r, registers r)) (saved_of (directed_by d f.function)) →
+    Saves d f × ((s : ℕ × Value) → Contains f.saved s → s.1 ≡ registers s.0)
+
+-- a name is that of the same function in both runs, and its blocks are the same but for direction
+pub record HasSameFunctions (p : Program) (d : List (List ℕ × Directives)) : Type 0 where
+  pub function : (name : List ℕ) → web.function_named (under p d) name ≡ option_map (λ f. unplaced (directed_by d f)) (function_named p name)
+  pub block : (f : FlowFn) (b : ℕ) → slice_get (directed_by d f).blocks b ≡ option_map (directed_block (webs_of d f)) (slice_get f.blocks b)
+
+abbrev pub SameFunctions : Type 0
+SameFunctions = (p : Program) (d : List (List ℕ × Directives)) → HasSameFunctions p d

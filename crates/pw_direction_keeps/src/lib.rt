@@ -2,7 +2,8 @@
 #![tactic(auto)]
 
 ghost use Rattle.pw_direction_keeps.specs.Laws.{OperationsFollow, BlocksFollow, ReadsFollow, WritesFollow, LoadsFollow, StoresFollow, LibraryFollows};
-ghost use Rattle.pw_direction_keeps.specs.Laws.{PlacesStay, StandsAtCalls, EntriesAreAlone, StandsAtReturns};
+ghost use Rattle.pw_direction_keeps.specs.Laws.{PlacesStay, StandsAtCalls, EntriesAreAlone, StandsAtReturns, InsideFollows, RunsRestOnSteps};
+ghost use Rattle.pw_direction_keeps.specs.Laws.{SavesAtStarts, SameFunctions};
 
 /// Operations that neither load or store a global by its name nor call are the same in both runs.
 pub fn operations_follow()
@@ -47,4 +48,21 @@ pub fn stores_follow()
 /// A call of the library does the same in both runs, for want of stack too.
 pub fn library_follows()
     ensures { LibraryFollows }
+{}
+
+/// All that a function does by itself, without calls and returns, is the same in both runs.
+pub fn inside_follows()
+    ensures { InsideFollows }
+{}
+
+/// Where the starts are alike and every step follows, the directed run does what the run of flow graphs does.
+pub fn runs_rest_on_steps()
+    ensures { RunsRestOnSteps }
+{}
+
+/// At its start a function saves the registers of the webs that it enters and no others, with what they hold; and a name
+/// is that of the same function in both runs.
+pub fn starts_match()
+    ensures saves { SavesAtStarts }
+    ensures functions { SameFunctions }
 {}
