@@ -1,5 +1,5 @@
--- Modules whose objects link, names of modules, and what is left to be shown of checked modules that link.
-use Rattle.std.specs.Prelude.{ℕ, ◌≢◌, List, map, Contains}
+-- Modules whose objects link, and what is left to be shown of checked modules that link.
+use Rattle.std.specs.Prelude.{List, map, Contains}
 use Rattle.std.specs.List.{AllByRecursion}
 use Rattle.pw_object.specs.declared.object.Object.{Object}
 use Rattle.pw_interface.specs.Interface.{interface}
@@ -13,19 +13,13 @@ use Rattle.pw_flowrun.specs.Programs as flows
 use Rattle.pw_flowrun.specs.Programs.{globals_of}
 use Rattle.pw_webrun.specs.Programs.{IsItem}
 use Rattle.pw_layers.specs.Accepting.{AllShow}
+pub use Rattle.pw_layers.specs.Accepting.{HasNoColon, AreNamedPlainly}
 
 -- objects that show what the modules have, and that link
 pub record AreLinked (modules : List FlowModule) : Type 0 where
   pub objects : List Object
   pub show : AllShow modules objects
   pub links : Links (map interface objects)
-
--- No module has a colon in its name: in the full name of what a module has for itself, one stands between the two.
-abbrev pub HasNoColon : List ℕ → Type 0
-HasNoColon name = AllByRecursion (λ b. b ≢ 58) name
-
-abbrev pub AreNamedPlainly : Program → Type 0
-AreNamedPlainly p = (m : ProgramModule) → Contains p.modules m → HasNoColon m.name
 
 -- the numbers of the typed trees are of 32 bits, as in those that the code makes
 abbrev pub AreOfWords : Program → Type 0

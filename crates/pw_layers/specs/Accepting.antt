@@ -1,6 +1,6 @@
 -- What acceptance of texts owes: modules that checking and linking accept make an accepted program.
-use Rattle.std.specs.Prelude.{ℕ, ◌≡◌, ◌≤◌, ◌↔◌, ◌==◌, not, All, Some, List, [], ◌∷◌, ◌++◌, map, filter, slice_get, Contains}
-use Rattle.std.specs.List.{list_any}
+use Rattle.std.specs.Prelude.{ℕ, ◌≡◌, ◌≢◌, ◌≤◌, ◌↔◌, ◌==◌, not, All, Some, List, [], ◌∷◌, ◌++◌, map, filter, slice_get, Contains}
+use Rattle.std.specs.List.{AllByRecursion, list_any}
 use Rattle.pw_value.specs.Limits.{stack_most}
 use Rattle.pw_files.specs.Rising.{IsRising}
 use Rattle.pw_types.specs.TypeTrees.{type_of}
@@ -94,9 +94,17 @@ pub record IsWhole (p : Program) (frame_of : List ℕ → ℕ) (stack : ℕ) : T
   pub inside : LeadInside (flow_program p frame_of stack)
   pub names : AreNamesApart (flow_program p frame_of stack)
 
+-- No module has a colon in its name, as no module of a store has: in the full name of what a module has for itself, one
+-- stands between the two.
+abbrev pub HasNoColon : List ℕ → Type 0
+HasNoColon name = AllByRecursion (λ b. b ≢ 58) name
+
+abbrev pub AreNamedPlainly : Program → Type 0
+AreNamedPlainly p = (m : ProgramModule) → Contains p.modules m → HasNoColon m.name
+
 -- checked modules in the order of their names, whose objects link, with a stack that may be asked for
 abbrev pub CheckedIsAccepted : Type 0
 CheckedIsAccepted =
     (p : Program) (frame_of : List ℕ → ℕ) (stack : ℕ) (objects : List Object) →
-    AreChecked p → IsRising (map (λ m. m.name) p.modules) → stack ≤ stack_most →
+    AreChecked p → AreNamedPlainly p → IsRising (map (λ m. m.name) p.modules) → stack ≤ stack_most →
     AllShow (flow_program p frame_of stack).modules objects → Links (map interface objects) → IsWhole p frame_of stack
