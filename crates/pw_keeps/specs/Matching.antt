@@ -1,5 +1,5 @@
 -- The relation of states: a state of the C run, and a machine that does what it does.
-use Rattle.std.specs.Prelude.{ℕ, ◌≡◌, ◌+◌, ◌<◌, ◌≤◌, ◌≢◌, true, false, Some, List, ◌∷◌, ◌++◌, map, length, slice_get, slice_index_or}
+use Rattle.std.specs.Prelude.{ℕ, ◌≡◌, ◌+◌, ◌^◌, ◌<◌, ◌≤◌, ◌≢◌, true, false, Some, List, ◌∷◌, ◌++◌, map, length, slice_get, slice_index_or}
 use Rattle.pw_value.specs.Objects.{Object, object_at}
 use Rattle.pw_types.specs.TypeTrees.{type_of}
 use Rattle.pw_types.specs.TypedTrees.{LocalValue}
@@ -31,8 +31,13 @@ pub record IsGlobalAt (spots : List Spot) (objects : List Object) (g : ℕ) : Ty
   pub there : spot_of spots g ≡ In g size
   pub live : (object_at objects g).live ≡ true
 
--- The objects stand where the spots say; the globals in their own; what is left of the input is the same, and what was
--- shown; and the functions that are active are those of the frames.
+-- Each object has fewer than 2^31 bytes: so a word counts from one end of an object to the other, forwards and backwards.
+-- Checking sees to it, with a limit on sizes that is far less.
+abbrev pub AreSmall : List Object → Type 0
+AreSmall objects = (o : ℕ) → length (object_at objects o).bytes < 2 ^ 31
+
+-- The objects of the C run are small, and stand where the spots say; the globals in their own; what is left of the input
+-- is the same, and what was shown; and the functions that are active are those of the frames.
 pub record Matches (world : World) (spots : List Spot) (s : State) (m : Machine) : Type 0 where
   pub memory : MemoryStands spots s.objects m.objects
   pub globals : (g : ℕ) → g < length (globals_of (graphs world)) → IsGlobalAt spots s.objects g
@@ -40,6 +45,7 @@ pub record Matches (world : World) (spots : List Spot) (s : State) (m : Machine)
   pub shows : Shows world s m
   pub active : s.active ≡ map (λ (f : Frame). f.function.name) (m.frame ∷ m.callers)
   pub bytes : HoldsBytes s
+  pub small : AreSmall s.objects
 
 -- ---- what the active function has
 

@@ -53,7 +53,7 @@ no-void Void h = absurd h
 no-void (Int k) h = absurd h
 no-void (PointerTo q) h = absurd h
 
-not-void : (ty : CType) → IsOfPlaces ty → ty ≢ Void
+pub not-void : (ty : CType) → IsOfPlaces ty → ty ≢ Void
 not-void ty h e = true≢false (sym (ap is_void e) ∙ no-void ty h)
 
 -- ---- locals

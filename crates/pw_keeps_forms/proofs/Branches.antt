@@ -177,6 +177,7 @@ related-gone x numbers spots s m b next events r = record {
     shows = record { output = r.matches.shows.output; read = r.matches.shows.read; log = r.matches.shows.log };
     active = r.matches.active;
     bytes = r.matches.bytes;
+    small = r.matches.small;
   };
   frame = record {
     function = r.frame.function;

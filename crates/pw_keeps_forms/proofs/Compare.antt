@@ -55,10 +55,10 @@ abbrev pub HasOperands : BinaryOperator → CType → CType → Type 0
 HasOperands o left right =
     (x : Activation) (p q : ℕ) (d : Code) → ContainsCode (graph_of x) (combined x.home.tree.records o left right p q d).code → ContainsCode (graph_of x) d
 
-pub binary-keeps : Laws → (bound t : ℕ) (ty : QType) (o : BinaryOperator) (a b : Expression) → type_in a ≢ Void → Applies bound o (type_in a) (type_in b) → HasOperands o (type_in a) (type_in b)
+pub binary-keeps : Laws → (bound t : ℕ) (ty : QType) (o : BinaryOperator) (a b : Expression) → type_in a ≢ Void → type_in b ≢ Void → Applies bound o (type_in a) (type_in b) → HasOperands o (type_in a) (type_in b)
     → ExpressionKeeps bound a → ExpressionKeeps bound b → ExpressionKeeps bound (Node t ty (Binary o a b))
 unfolding lower answer_of ◌>>=◌ IsTyped HasForm
-binary-keeps laws bound t ty o a b nonvoid applies operands first second = λ x numbers spots c s m active typed slots holds ready.
+binary-keeps laws bound t ty o a b nonvoid nonvoid-b applies operands first second = λ x numbers spots c s m active typed slots holds ready.
     let h = home_of x in
     let y = lower h a c in
     let z = lower h b y.code in
@@ -67,6 +67,8 @@ binary-keeps laws bound t ty o a b nonvoid applies operands first second = λ x 
     let slots-b : HaveSlots x (addressed_in b) = λ i e. slots i (Contains-append_right (addressed_in a) (addressed_in b) i e) in
     let new = laws.results x a c typed.1.0 slots-a nonvoid in
     let temp : temp_of y ≡ new.result = ap (λ (r : Option ℕ). unwrap_or r 0) new.is in
+    let newer = laws.results x b y.code typed.1.1 slots-b nonvoid-b in
+    let temp-b : temp_of z ≡ newer.result = ap (λ (r : Option ℕ). unwrap_or r 0) newer.is in
     let whole : ContainsCode (graph_of x) z.code = operands x (temp_of y) (temp_of z) z.code holds in
     let all = assigned_in a ++ assigned_in b in
     let k = combined x.home.tree.records o (type_in a) (type_in b) (temp_of y) (temp_of z) z.code in
@@ -87,7 +89,7 @@ binary-keeps laws bound t ty o a b nonvoid applies operands first second = λ x 
     stays laws x numbers spots' b y.code (temp_of y) u u' n n' typed.1.1 (omega (arith, temp, new.since, ready.temps)) (omega (arith, temp, new.given)) q'.0.done in
     let later = q'.0.done.later.spots in
     meets-less x.world bound n' ((source.binary at x.home.tree.records o (type_in a) (type_in b) v w >>= λ result. give (Some result)) u') (HasValue x numbers later [] k z.code u' n') R
-    (applies x numbers later at (temp_of y) (temp_of z) z.code v w u' n' q.1 q'.1
+    (applies x numbers later at (temp_of y) (temp_of z) z.code v w u' n' (omega (arith, temp, new.given, (laws.later h b y.code).temps)) (omega (arith, temp-b, newer.given)) q.1 q'.1
     (record {
       ready = ready-then laws x numbers spots' b y.code u u' n n' (Some w) again q'.0;
       first = subst (λ (g : Value). Stands later v g) (sym kept)
@@ -289,13 +291,13 @@ equals laws bound k turned can x numbers spots at p q d v w u n both holds =
 
 compare-applies : Laws → (bound : ℕ) (o : BinaryOperator) (left right : QType) → IsComparison o → Applies bound o (PointerTo left) (PointerTo right)
 unfolding source.binary on_pointers ordered-code
-compare-applies laws bound B.Less left right is x numbers spots at p q d v w u n tv tw both holds = orders laws bound B.Less less-compares x numbers spots at p q d v w u n both holds
-compare-applies laws bound B.Greater left right is x numbers spots at p q d v w u n tv tw both holds = orders laws bound B.Greater greater-compares x numbers spots at p q d v w u n both holds
-compare-applies laws bound B.LessEqual left right is x numbers spots at p q d v w u n tv tw both holds = orders laws bound B.LessEqual at-most-compares x numbers spots at p q d v w u n both holds
-compare-applies laws bound B.GreaterEqual left right is x numbers spots at p q d v w u n tv tw both holds = orders laws bound B.GreaterEqual at-least-compares x numbers spots at p q d v w u n both holds
-compare-applies laws bound B.Equal left right is x numbers spots at p q d v w u n tv tw both holds = equals laws bound Eq (λ holds. holds) (λ objects v w b s. s.equal) x numbers spots at p q d v w u n both holds
-compare-applies laws bound B.NotEqual left right is x numbers spots at p q d v w u n tv tw both holds = equals laws bound Ne not (λ objects v w b s. s.unequal) x numbers spots at p q d v w u n both holds
-compare-applies laws bound o left right is x numbers spots at p q d v w u n tv tw both holds = absurd is
+compare-applies laws bound B.Less left right is x numbers spots at p q d v w u n given-p given-q tv tw both holds = orders laws bound B.Less less-compares x numbers spots at p q d v w u n both holds
+compare-applies laws bound B.Greater left right is x numbers spots at p q d v w u n given-p given-q tv tw both holds = orders laws bound B.Greater greater-compares x numbers spots at p q d v w u n both holds
+compare-applies laws bound B.LessEqual left right is x numbers spots at p q d v w u n given-p given-q tv tw both holds = orders laws bound B.LessEqual at-most-compares x numbers spots at p q d v w u n both holds
+compare-applies laws bound B.GreaterEqual left right is x numbers spots at p q d v w u n given-p given-q tv tw both holds = orders laws bound B.GreaterEqual at-least-compares x numbers spots at p q d v w u n both holds
+compare-applies laws bound B.Equal left right is x numbers spots at p q d v w u n given-p given-q tv tw both holds = equals laws bound Eq (λ holds. holds) (λ objects v w b s. s.equal) x numbers spots at p q d v w u n both holds
+compare-applies laws bound B.NotEqual left right is x numbers spots at p q d v w u n given-p given-q tv tw both holds = equals laws bound Ne not (λ objects v w b s. s.unequal) x numbers spots at p q d v w u n both holds
+compare-applies laws bound o left right is x numbers spots at p q d v w u n given-p given-q tv tw both holds = absurd is
 
 before-ordered : (x : Activation) (turned : Bool) (k : BinKind) (p q : ℕ) (d : Code) → ContainsCode (graph_of x) (ordered-code turned k p q d).code → ContainsCode (graph_of x) d
 unfolding ordered-code
@@ -315,7 +317,7 @@ compare-operands o left right is x p q d w = absurd is
 pub comparison-keeps : Laws → (bound t : ℕ) (ty : QType) (o : BinaryOperator) (a b : Expression) (left right : QType) → IsComparison o → type_in a ≡ PointerTo left → type_in b ≡ PointerTo right
     → ExpressionKeeps bound a → ExpressionKeeps bound b → ExpressionKeeps bound (Node t ty (Binary o a b))
 comparison-keeps laws bound t ty o a b left right is l r first second =
-    binary-keeps laws bound t ty o a b (λ e. scalar-not-void (PointerTo left) tt (sym l ∙ e))
+    binary-keeps laws bound t ty o a b (λ e. scalar-not-void (PointerTo left) tt (sym l ∙ e)) (λ e. scalar-not-void (PointerTo right) tt (sym r ∙ e))
     (subst (λ (y : CType). Applies bound o y (type_in b)) (sym l) (subst (λ (z : CType). Applies bound o (PointerTo left) z) (sym r) (compare-applies laws bound o left right is)))
     (subst (λ (y : CType). HasOperands o y (type_in b)) (sym l) (subst (λ (z : CType). HasOperands o (PointerTo left) z) (sym r) (compare-operands o left right is)))
     first second

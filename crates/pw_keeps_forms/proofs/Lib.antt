@@ -27,4 +27,6 @@ mod Strings
 mod Copies
 mod Advances
 mod Sums
+mod Members
+mod Moves
 mod Plain

@@ -1,5 +1,5 @@
 -- Memory that stands for memory: what a write of bytes keeps, and what is read.
-use Rattle.std.proofs.Common.{◌≡◌, ◌≢◌, ℕ, suc, ◌<◌, inl, inr, true, true≢false, List, [], ◌∷◌, length, All, refl, ap, sym, ◌∙◌, subst, arith, length-set}
+use Rattle.std.proofs.Common.{◌≡◌, ◌≢◌, ℕ, suc, ◌^◌, ◌<◌, inl, inr, true, true≢false, List, [], ◌∷◌, length, All, refl, ap, sym, ◌∙◌, subst, arith, length-set}
 use Rattle.std.specs.Prelude.{slice_set}
 use Rattle.std.proofs.lemmas.Bool.{cases_lt, cases_eq}
 use Rattle.std.proofs.lemmas.List.{get_or_past, get_or-set_same, get_or-set_other, set_past}
@@ -9,6 +9,7 @@ use Rattle.pw_value.specs.declared.value.Byte.TheVariants as B
 use Rattle.pw_value.specs.Objects.{Object, no_object, object_at, byte_at, with_bytes, written}
 use Rattle.pw_cmean.specs.Typed.{IsByte}
 use Rattle.pw_keeps.specs.Standing.{Spot, In, spot_of, ByteStands, Holds, MemoryStands}
+use Rattle.pw_keeps.specs.Matching.{AreSmall}
 use Rattle.pw_keeps_forms.proofs.Bytes.{BytesStand, EachByteStands, same-object, same-size}
 
 -- ---- bytes with new ones
@@ -80,6 +81,9 @@ live-left objects o i p new = is-left (λ x. x.live) objects o i p new (λ x. re
 
 pub size-left : (objects : List Object) (o i p : ℕ) (new : List Byte) → length (object_at (written o i new objects) p).bytes ≡ length (object_at objects p).bytes
 size-left objects o i p new = is-left (λ x. length x.bytes) objects o i p new (λ x. with-length new i x.bytes)
+
+pub small-left : (objects : List Object) (o i : ℕ) (new : List Byte) → AreSmall objects → AreSmall (written o i new objects)
+small-left objects o i new h = λ p. subst (λ (n : ℕ). n < 2 ^ 31) (sym (size-left objects o i p new)) (h p)
 
 pub count-left : (objects : List Object) (o i : ℕ) (new : List Byte) → length (written o i new objects) ≡ length objects
 count-left objects o i new = length-set objects o (with-new (object_at objects o) i new)

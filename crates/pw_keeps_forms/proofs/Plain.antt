@@ -26,7 +26,7 @@ use Rattle.pw_keeps.specs.Activations.{Activation, IsActivation, Numbers, graph_
 use Rattle.pw_keeps.specs.Containing.{ContainsCode}
 use Rattle.pw_keeps.specs.Meeting.{Meets}
 use Rattle.pw_keeps.specs.Expressions.{IsReady, HasValue, IsOfPlaces, ExpressionKeeps}
-use Rattle.pw_keeps_forms.specs.Accesses.{IsComparison, LvalueKeeps, AddressKeeps, TargetsSuit}
+use Rattle.pw_keeps_forms.specs.Accesses.{IsComparison, IsMove, LvalueKeeps, AddressKeeps, TargetsSuit}
 use Rattle.pw_keeps_forms.specs.Plain.{IsPlain}
 use Rattle.pw_keeps_forms.proofs.Laws.{Laws}
 use Rattle.pw_keeps_forms.proofs.Simulation.{meets-then, meets-here}
@@ -43,6 +43,8 @@ use Rattle.pw_keeps_forms.proofs.Logic.{and-keeps, or-keeps}
 use Rattle.pw_keeps_forms.proofs.Cond.{cond-keeps}
 use Rattle.pw_keeps_forms.proofs.Compare.{comparison-keeps}
 use Rattle.pw_keeps_forms.proofs.Steps.{compound-keeps, step-keeps}
+use Rattle.pw_keeps_forms.proofs.Members.{member-keeps, member-lvalue, member-suited, member-address, address-of-member}
+use Rattle.pw_keeps_forms.proofs.Moves.{sum-keeps, turned-sum-keeps, less-keeps}
 
 -- the forms that are proved below
 pub record FormLaws : Type 0 where
@@ -213,24 +215,32 @@ plain-suits laws (Node t ty (T.Local k)) h = λ x c active typed slots lvalue sc
 plain-suits laws (Node t ty (T.Global symbol)) h = λ x c active typed slots lvalue scalar. global-suited x t ty symbol c active typed
 plain-suits laws (Node t ty (T.Deref a)) h = λ x c active typed slots lvalue scalar. deref-suited laws x t ty a c typed slots
 plain-suits laws (Node t ty (T.Str k)) h = λ x c active typed slots lvalue scalar. absurd (no-scalar (type_of ty) scalar (string-type (type_of ty) typed.1.1))
-plain-suits laws (Node t ty (T.Member a offset)) h = absurd h
+plain-suits laws (Node t ty (T.Member a offset)) h = λ x c active typed slots lvalue scalar. member-suited laws x t ty a offset c typed slots
 plain-suits laws (Node t ty form) h = λ x c active typed slots lvalue scalar. absurd lvalue
 
 -- ---- forms that depend on types
 
-binary-plain : Laws → FormLaws → (bound t : ℕ) (ty : QType) (o : BinaryOperator) (a b : Expression) → (IsArithmetic (type_in a) × IsArithmetic (type_in b)) ⊎ IsComparison o
+move-plain : Laws → (bound t : ℕ) (ty : QType) (o : BinaryOperator) (a b : Expression) → IsMove o (type_in a) (type_in b)
+    → ExpressionKeeps bound a → ExpressionKeeps bound b → ExpressionKeeps bound (Node t ty (T.Binary o a b))
+move-plain laws bound t ty B.Add a b (inl h) first second = let k = int-of (type_in b) h.1 in sum-keeps laws bound t ty a b h.0.0 k.0 h.0.1 k.1 first second
+move-plain laws bound t ty B.Add a b (inr h) first second = let k = int-of (type_in a) h.0 in turned-sum-keeps laws bound t ty a b h.1.0 k.0 k.1 h.1.1 first second
+move-plain laws bound t ty B.Subtract a b h first second = let k = int-of (type_in b) h.1 in less-keeps laws bound t ty a b h.0.0 k.0 h.0.1 k.1 first second
+move-plain laws bound t ty o a b h first second = absurd h
+
+binary-plain : Laws → FormLaws → (bound t : ℕ) (ty : QType) (o : BinaryOperator) (a b : Expression) → (IsArithmetic (type_in a) × IsArithmetic (type_in b)) ⊎ IsComparison o ⊎ IsMove o (type_in a) (type_in b)
     → ExpressionKeeps bound a → ExpressionKeeps bound b → ExpressionKeeps bound (Node t ty (T.Binary o a b))
 unfolding IsTyped HasForm
 binary-plain laws forms bound t ty o a b (inl h) first second =
     let j = int-of (type_in a) h.0 in
     let k = int-of (type_in b) h.1 in
     forms.binary bound t ty o a b j.0 k.0 j.1 k.1 first second
-binary-plain laws forms bound t ty o a b (inr h) first second = λ x numbers spots c s m active typed slots holds ready.
+binary-plain laws forms bound t ty o a b (inr (inl h)) first second = λ x numbers spots c s m active typed slots holds ready.
     let fits = compared-of x.home.tree.records o (type_in a) (type_in b) (type_of ty) h typed.1.2 in
     elim fits.0 [
       | inl p ↦ let k = promoted-int (type_in a) p in forms.binary bound t ty o a b k.0 k.0 k.1 (fits.1 ∙ k.1) first second x numbers spots c s m active typed slots holds ready
       | inr q ↦ comparison-keeps laws bound t ty o a b q.0 q.0 h q.1 (fits.1 ∙ q.1) first second x numbers spots c s m active typed slots holds ready
     ]
+binary-plain laws forms bound t ty o a b (inr (inr h)) first second = move-plain laws bound t ty o a b h first second
 
 assign-plain : Laws → (bound t : ℕ) (ty : QType) (a b : Expression) → TargetsSuit a → LvalueKeeps bound a → AddressKeeps bound a → ExpressionKeeps bound b → ExpressionKeeps bound (Node t ty (T.Assign a b))
 unfolding IsTyped HasForm
@@ -290,10 +300,10 @@ mutual
   plain laws nums forms bound (Node t ty (T.Address (Node u own (T.Global symbol)))) h = address-of-global laws bound t u ty own symbol
   plain laws nums forms bound (Node t ty (T.Address (Node u own (T.Str k)))) h = address-of-string laws bound t u ty own k
   plain laws nums forms bound (Node t ty (T.Address (Node u own (T.Deref a)))) h = address-of-deref laws bound t u ty own a (plain laws nums forms bound a h)
-  plain laws nums forms bound (Node t ty (T.Address (Node u own (T.Member a offset)))) h = absurd h
+  plain laws nums forms bound (Node t ty (T.Address (Node u own (T.Member a offset)))) h = address-of-member laws bound t u ty own a offset (plain-address laws nums forms bound a h)
   plain laws nums forms bound (Node t ty (T.Address (Node u own (T.Function symbol)))) h = absurd h
   plain laws nums forms bound (Node t ty (T.Address (Node u own form))) h = λ x numbers spots c s m active typed slots holds ready. elim typed.1.1 [ inl l ↦ absurd l | inr d ↦ absurd d.0 ]
-  plain laws nums forms bound (Node t ty (T.Member a offset)) h = absurd h
+  plain laws nums forms bound (Node t ty (T.Member a offset)) h = member-keeps laws bound t ty a offset (plain-address laws nums forms bound a h)
   plain laws nums forms bound (Node t ty (T.Call symbol args)) h = absurd h
   plain laws nums forms bound (Node t ty (T.CallValue a args)) h = absurd h
 
@@ -302,7 +312,7 @@ mutual
   plain-place laws nums forms bound (Node t ty (T.Global symbol)) h = global-lvalue bound t ty symbol
   plain-place laws nums forms bound (Node t ty (T.Deref a)) h = deref-lvalue laws bound t ty a (plain laws nums forms bound a h)
   plain-place laws nums forms bound (Node t ty (T.Str k)) h = λ x numbers spots c s m active typed slots lvalue scalar holds ready. absurd (no-scalar (type_of ty) scalar (string-type (type_of ty) typed.1.1))
-  plain-place laws nums forms bound (Node t ty (T.Member a offset)) h = absurd h
+  plain-place laws nums forms bound (Node t ty (T.Member a offset)) h = member-lvalue laws bound t ty a offset (plain-address laws nums forms bound a h)
   plain-place laws nums forms bound (Node t ty form) h = λ x numbers spots c s m active typed slots lvalue scalar holds ready. absurd lvalue
 
   pub plain-address : Laws → NumberLaws → FormLaws → (bound : ℕ) (a : Expression) → IsPlain a → AddressKeeps bound a
@@ -316,7 +326,7 @@ mutual
   plain-address laws nums forms bound (Node t ty (T.Comma a b)) h = comma-address laws bound t ty a b (plain laws nums forms bound a h.0) (plain-address laws nums forms bound b h.1)
   plain-address laws nums forms bound (Node t ty (T.Assign a b)) h =
       assign-place laws bound t ty a b (plain-address laws nums forms bound a h.0) (plain laws nums forms bound b h.1)
-  plain-address laws nums forms bound (Node t ty (T.Member a offset)) h = absurd h
+  plain-address laws nums forms bound (Node t ty (T.Member a offset)) h = member-address laws bound t ty a offset (plain-address laws nums forms bound a h)
   plain-address laws nums forms bound (Node t ty (T.Call symbol args)) h = absurd h
   plain-address laws nums forms bound (Node t ty (T.CallValue a args)) h = absurd h
   plain-address laws nums forms bound (Node t ty form) h = λ x numbers spots c s m active typed slots places holds ready. tt

@@ -22,7 +22,7 @@ use Rattle.pw_keeps.specs.Activations.{Activation, Numbers, number_of, place_in}
 use Rattle.pw_keeps.specs.Matching.{StandsAt, IsLocalAt, Related, Lasts}
 use Rattle.pw_keeps_laws.specs.Stretches.{moved_on}
 use Rattle.pw_keeps_forms.proofs.Bytes.{BytesStand}
-use Rattle.pw_keeps_forms.proofs.Memory.{memory-written, memory-nowhere, live-left, size-left, count-left, bytes-left, is-other, is-written}
+use Rattle.pw_keeps_forms.proofs.Memory.{memory-written, memory-nowhere, live-left, size-left, small-left, count-left, bytes-left, is-other, is-written}
 use Rattle.pw_keeps_forms.proofs.Places.{places-apart}
 
 is_in : Spot → Bool
@@ -66,6 +66,7 @@ related-written x numbers spots s m rest o f size i new now r live spot b are = 
     shows = r.matches.shows;
     active = r.matches.active;
     bytes = record { objects = bytes-left s.objects o i new are r.matches.bytes.objects; input = r.matches.bytes.input };
+    small = small-left s.objects o i new r.matches.small;
   };
   frame = record {
     function = r.frame.function;
@@ -146,6 +147,7 @@ related-kept x numbers spots s m rest k o t new w r named place room are stands 
         shows = r.matches.shows;
         active = r.matches.active;
         bytes = record { objects = bytes-left s.objects o 0 new are r.matches.bytes.objects; input = r.matches.bytes.input };
+        small = small-left s.objects o 0 new r.matches.small;
       };
       frame = record {
         function = r.frame.function;

@@ -1,7 +1,9 @@
--- Sums and differences of pointers and numbers, in objects that are small: words do what whole numbers do.
+-- Sums of pointers and numbers, and pointers less numbers: objects are small, so words do what whole numbers do.
 use Rattle.std.proofs.Common.{◌≡◌, ◌≢◌, ℕ, zero, suc, ◌+◌, ◌-◌, ◌*◌, ◌%◌, ◌^◌, ◌<◌, ◌≤◌, ◌==◌, ◌⊎◌, inl, inr, Bool, true, false, true≢false, nat_le, nat_lt, leb-true, ltb-true, eqb-true, if◌then◌else◌, Option, Some, None, is_none, option_map, unwrap_or, List, [], ◌∷◌, length, refl, ap, ap₂, sym, ◌∙◌, subst, arith}
 use Rattle.std.specs.Prelude.{ℤ, pos, negsuc, neg_ℤ, ◌+ℤ◌, ◌*ℤ◌, FitsSigned}
 use Rattle.std.specs.Int.{w32, cast_signed, cast_unsigned, int_wrap}
+use Rattle.std.proofs.Math.IntN.{zero-*ℤ}
+use Rattle.std.proofs.Math.Nat.{suc-mul}
 use Rattle.std.proofs.lemmas.Int.{ints, to_z_pos, of_z-to_z, int_wrap_fits, wrapping_add-bits, wrapping_sub-bits, wrapping_mul-bits}
 use Rattle.std.proofs.lemmas.Option.{same_Some}
 use Rattle.pw_value.specs.declared.value.Value.{Value}
@@ -30,7 +32,7 @@ use Rattle.pw_keeps_forms.proofs.Simulation.{meets-less, meets-later, judged-the
 use Rattle.pw_keeps_forms.proofs.Kit.{before-fresh, value-then, none-in, nothing-done}
 use Rattle.pw_keeps_forms.proofs.Access.{first-false}
 use Rattle.pw_keeps_forms.proofs.Numbers.{word-of}
-use Rattle.std.proofs.lemmas.Bool.{not-false}
+use Rattle.std.proofs.lemmas.Bool.{not-false, cases_lt}
 use Rattle.pw_cmean.specs.Operators as source
 use Rattle.pw_cmean.specs.Operators.{is_ended, is_piece, moved, kept_in, integer, advance_elements}
 use Rattle.pw_cmean.specs.declared.undefined.Undef.TheVariants as U
@@ -42,8 +44,7 @@ use Rattle.pw_types.specs.Layouts.{layout_of}
 use Rattle.pw_types.specs.declared.record.Layout.{Layout}
 use Rattle.pw_types.specs.declared.kind.IntKind.{IntKind}
 use Rattle.pw_types.specs.declared.tree.BinaryOperator.TheVariants as B
-use Rattle.pw_keeps_forms.specs.Accesses.{AreSmall}
-use Rattle.pw_keeps_forms.specs.Operands.{BothStand, HasSmallElements, AppliesToSmall}
+use Rattle.pw_keeps_forms.specs.Operands.{BothStand, Applies}
 
 -- ---- whole numbers as words
 
@@ -66,10 +67,10 @@ fits-away (pos zero) i to e hi ht = record { sfits = omega arith }
 fits-away (pos (suc n)) i to e hi ht = record { sfits = omega (arith, ints, e, hi) }
 fits-away (negsuc n) i to e hi ht = let same : to ≡ i + suc n = ap nat-of e in record { sfits = omega (arith, same, ht) }
 
--- a number of elements, forwards
-signed-add : (a size i to : ℕ) → a < 2 ^ 32 → size < 2 ^ 31 → i < 2 ^ 31 → to < 2 ^ 31 → pos to ≡ pos i +ℤ (cast_signed w32 a *ℤ pos size)
+-- a number of elements that are small, forwards
+small-add : (a size i to : ℕ) → a < 2 ^ 32 → size < 2 ^ 31 → i < 2 ^ 31 → to < 2 ^ 31 → pos to ≡ pos i +ℤ (cast_signed w32 a *ℤ pos size)
     → (i + a * size % 2 ^ 32) % 2 ^ 32 ≡ to
-signed-add a size i to ha hs hi ht e =
+small-add a size i to ha hs hi ht e =
     let z = cast_signed w32 a *ℤ pos size in
     let n = a * size % 2 ^ 32 in
     let low : n < 2 ^ 32 = omega arith in
@@ -80,9 +81,9 @@ signed-add a size i to ha hs hi ht e =
     sym (of_z-to_z w32 ((i + n) % 2 ^ 32) (omega arith)) ∙ ap (λ (u : ℤ). cast_unsigned w32 u) sum-is
 
 -- and backwards
-signed-sub : (a size i to : ℕ) → a < 2 ^ 32 → size < 2 ^ 31 → i < 2 ^ 31 → to < 2 ^ 31 → pos to ≡ pos i +ℤ neg_ℤ (cast_signed w32 a *ℤ pos size)
+small-sub : (a size i to : ℕ) → a < 2 ^ 32 → size < 2 ^ 31 → i < 2 ^ 31 → to < 2 ^ 31 → pos to ≡ pos i +ℤ neg_ℤ (cast_signed w32 a *ℤ pos size)
     → (i + (2 ^ 32 - a * size % 2 ^ 32)) % 2 ^ 32 ≡ to
-signed-sub a size i to ha hs hi ht e =
+small-sub a size i to ha hs hi ht e =
     let z = cast_signed w32 a *ℤ pos size in
     let n = a * size % 2 ^ 32 in
     let low : n < 2 ^ 32 = omega arith in
@@ -91,6 +92,58 @@ signed-sub a size i to ha hs hi ht e =
     let sum-is : cast_signed w32 ((i + (2 ^ 32 - n)) % 2 ^ 32) ≡ pos to =
     wrapping_sub-bits w32 i n (omega (arith, hi)) low ∙ ap₂ (λ (u v : ℤ). int_wrap w32 (u +ℤ neg_ℤ v)) (low-signed i hi) n-is ∙ ap (λ (u : ℤ). int_wrap w32 u) (sym e) ∙ int_wrap_fits w32 (pos to) (record { sfits = ht }) in
     sym (of_z-to_z w32 ((i + (2 ^ 32 - n)) % 2 ^ 32) (omega arith)) ∙ ap (λ (u : ℤ). cast_unsigned w32 u) sum-is
+
+at-least : (k size : ℕ) → size ≤ suc k * size
+at-least k size = omega (arith, suc-mul k size)
+
+-- greater elements than objects can have: between small numbers lie none of them
+none-forwards : (z : ℤ) (size i to : ℕ) → 2 ^ 31 ≤ size → i < 2 ^ 31 → to < 2 ^ 31 → pos to ≡ pos i +ℤ (z *ℤ pos size) → z ≡ pos 0
+unfolding nat-of
+none-forwards (pos zero) size i to big hi ht e = refl
+none-forwards (pos (suc k)) size i to big hi ht e = let same : to ≡ i + suc k * size = ap nat-of e in let more = at-least k size in absurd (omega (arith, same, ht, big, more))
+none-forwards (negsuc k) size i to big hi ht e = by_product (suc k * size) (at-least k size) e
+  where
+    by_product : (p : ℕ) → size ≤ p → pos to ≡ pos i +ℤ neg_ℤ (pos p) → negsuc k ≡ pos 0
+    by_product p more e = let same : to + p ≡ i = omega (arith, ints, e) in absurd (omega (arith, same, hi, big, more))
+
+none-backwards : (z : ℤ) (size i to : ℕ) → 2 ^ 31 ≤ size → i < 2 ^ 31 → to < 2 ^ 31 → pos to ≡ pos i +ℤ neg_ℤ (z *ℤ pos size) → z ≡ pos 0
+unfolding nat-of
+none-backwards (pos zero) size i to big hi ht e = refl
+none-backwards (pos (suc k)) size i to big hi ht e = by_product (suc k * size) (at-least k size) e
+  where
+    by_product : (p : ℕ) → size ≤ p → pos to ≡ pos i +ℤ neg_ℤ (pos p) → pos (suc k) ≡ pos 0
+    by_product p more e = let same : to + p ≡ i = omega (arith, ints, e) in absurd (omega (arith, same, hi, big, more))
+none-backwards (negsuc k) size i to big hi ht e = by_product (suc k * size) (at-least k size) e
+  where
+    by_product : (p : ℕ) → size ≤ p → pos to ≡ pos i +ℤ neg_ℤ (neg_ℤ (pos p)) → negsuc k ≡ pos 0
+    by_product p more e = let same : to ≡ i + p = omega (arith, ints, e) in absurd (omega (arith, same, ht, big, more))
+
+no-number : (a : ℕ) → a < 2 ^ 32 → cast_signed w32 a ≡ pos 0 → a ≡ 0
+no-number a ha e = sym (of_z-to_z w32 a ha) ∙ ap (λ (z : ℤ). cast_unsigned w32 z) e
+
+-- a number of elements, forwards
+signed-add : (a size i to : ℕ) → a < 2 ^ 32 → i < 2 ^ 31 → to < 2 ^ 31 → pos to ≡ pos i +ℤ (cast_signed w32 a *ℤ pos size)
+    → (i + a * size % 2 ^ 32) % 2 ^ 32 ≡ to
+unfolding nat-of
+signed-add a size i to ha hi ht e = elim (cases_lt size (2 ^ 31)) [
+  | inl few ↦ small-add a size i to ha few hi ht e
+  | inr big ↦
+      let none = none-forwards (cast_signed w32 a) size i to big hi ht e in
+      let same : to ≡ i + 0 = ap nat-of (e ∙ ap (λ (z : ℤ). pos i +ℤ (z *ℤ pos size)) none ∙ ap (λ (z : ℤ). pos i +ℤ z) (zero-*ℤ (pos size))) in
+      ap (λ (n : ℕ). (i + n * size % 2 ^ 32) % 2 ^ 32) (no-number a ha none) ∙ omega (arith, same, hi)
+]
+
+-- and backwards
+signed-sub : (a size i to : ℕ) → a < 2 ^ 32 → i < 2 ^ 31 → to < 2 ^ 31 → pos to ≡ pos i +ℤ neg_ℤ (cast_signed w32 a *ℤ pos size)
+    → (i + (2 ^ 32 - a * size % 2 ^ 32)) % 2 ^ 32 ≡ to
+unfolding nat-of
+signed-sub a size i to ha hi ht e = elim (cases_lt size (2 ^ 31)) [
+  | inl few ↦ small-sub a size i to ha few hi ht e
+  | inr big ↦
+      let none = none-backwards (cast_signed w32 a) size i to big hi ht e in
+      let same : to ≡ i + 0 = ap nat-of (e ∙ ap (λ (z : ℤ). pos i +ℤ neg_ℤ (z *ℤ pos size)) none ∙ ap (λ (z : ℤ). pos i +ℤ neg_ℤ z) (zero-*ℤ (pos size))) in
+      ap (λ (n : ℕ). (i + (2 ^ 32 - n * size % 2 ^ 32)) % 2 ^ 32) (no-number a ha none) ∙ omega (arith, same, hi)
+]
 
 -- of an unsigned number
 unsigned-add : (a size i to : ℕ) → to < 2 ^ 31 → pos to ≡ pos i +ℤ (pos a *ℤ pos size) → (i + a * size % 2 ^ 32) % 2 ^ 32 ≡ to
@@ -145,15 +198,15 @@ moved-is objects o i (negsuc n) v e = by_test (nat_lt n i) refl e
 
 -- ---- the words that are added
 
-add-words : (s : Bool) (a size i to : ℕ) → a < 2 ^ 32 → size < 2 ^ 31 → i < 2 ^ 31 → to < 2 ^ 31 → pos to ≡ pos i +ℤ ((if s then cast_signed w32 a else pos a) *ℤ pos size)
+add-words : (s : Bool) (a size i to : ℕ) → a < 2 ^ 32 → i < 2 ^ 31 → to < 2 ^ 31 → pos to ≡ pos i +ℤ ((if s then cast_signed w32 a else pos a) *ℤ pos size)
     → (i + a * size % 2 ^ 32) % 2 ^ 32 ≡ to
-add-words true a size i to ha hs hi ht e = signed-add a size i to ha hs hi ht e
-add-words false a size i to ha hs hi ht e = unsigned-add a size i to ht e
+add-words true a size i to ha hi ht e = signed-add a size i to ha hi ht e
+add-words false a size i to ha hi ht e = unsigned-add a size i to ht e
 
-sub-words : (s : Bool) (a size i to : ℕ) → a < 2 ^ 32 → size < 2 ^ 31 → i < 2 ^ 31 → to < 2 ^ 31 → pos to ≡ pos i +ℤ neg_ℤ ((if s then cast_signed w32 a else pos a) *ℤ pos size)
+sub-words : (s : Bool) (a size i to : ℕ) → a < 2 ^ 32 → i < 2 ^ 31 → to < 2 ^ 31 → pos to ≡ pos i +ℤ neg_ℤ ((if s then cast_signed w32 a else pos a) *ℤ pos size)
     → (i + (2 ^ 32 - a * size % 2 ^ 32)) % 2 ^ 32 ≡ to
-sub-words true a size i to ha hs hi ht e = signed-sub a size i to ha hs hi ht e
-sub-words false a size i to ha hs hi ht e = unsigned-sub a size i to hi e
+sub-words true a size i to ha hi ht e = signed-sub a size i to ha hi ht e
+sub-words false a size i to ha hi ht e = unsigned-sub a size i to hi e
 
 -- ---- the code
 
@@ -253,14 +306,14 @@ lives objects o i v z e =
 -- what the words of an operation do to an offset
 abbrev DoesWords : BinKind → (ℤ → ℤ) → Type 0
 DoesWords k sign =
-    (s : Bool) (a size i to : ℕ) → a < 2 ^ 32 → size < 2 ^ 31 → i < 2 ^ 31 → to < 2 ^ 31 → pos to ≡ pos i +ℤ sign ((if s then cast_signed w32 a else pos a) *ℤ pos size) →
+    (s : Bool) (a size i to : ℕ) → a < 2 ^ 32 → i < 2 ^ 31 → to < 2 ^ 31 → pos to ≡ pos i +ℤ sign ((if s then cast_signed w32 a else pos a) *ℤ pos size) →
     (objects : List Object) (f : ℕ) → flow.binary objects k (V.At (P.Object f i)) (V.Num (a * size % 2 ^ 32)) ≡ Some (V.At (P.Object f to))
 
 add-does : DoesWords Add (λ z. z)
-add-does s a size i to ha hs hi ht e = λ objects f. ap (λ (j : ℕ). Some (V.At (P.Object f j))) (add-words s a size i to ha hs hi ht e)
+add-does s a size i to ha hi ht e = λ objects f. ap (λ (j : ℕ). Some (V.At (P.Object f j))) (add-words s a size i to ha hi ht e)
 
 sub-does : DoesWords Sub neg_ℤ
-sub-does s a size i to ha hs hi ht e = λ objects f. ap (λ (j : ℕ). Some (V.At (P.Object f j))) (sub-words s a size i to ha hs hi ht e)
+sub-does s a size i to ha hi ht e = λ objects f. ap (λ (j : ℕ). Some (V.At (P.Object f j))) (sub-words s a size i to ha hi ht e)
 
 -- a pointer that moves nowhere
 stays-put :
@@ -284,28 +337,28 @@ stays-put bound x at records left sign kind v w u m R none = by_layout (layout_o
 -- behind a pointer and a number
 elements :
     Laws → (bound : ℕ) (x : Activation) (numbers : Numbers) (spots : List Spot) (at : Site) (k : BinKind) (sign : ℤ → ℤ) (ty : CType) (constant volatile : Bool) (kind : IntKind) (p q : ℕ) (d : Code) (v w : Value) (u : State) (m : Machine)
-    → DoesWords k sign → HasSmallElements x (Qualified ty constant volatile) → AreSmall u → p < d.temps → q < d.temps → IsPointer v → IsNumberOf kind w
+    → DoesWords k sign → p < d.temps → q < d.temps → IsPointer v → IsNumberOf kind w
     → BothStand x numbers spots p q d v w u m → ContainsCode (graph_of x) (moved_by k (bytes_of x.home.tree.records ty) p q d).code
     → Meets x.world bound m ((advance_elements at x.home.tree.records (Qualified ty constant volatile) sign v kind w >>= λ result. give (Some result)) u) (HasValue x numbers spots [] (moved_by k (bytes_of x.home.tree.records ty) p q d) d u m)
 unfolding advance_elements objects_now look need give stop wrong ◌>>=◌ go_on
-elements laws bound x numbers spots at k sign ty constant volatile kind p q d (V.At (P.Object o i)) (V.Num a) u m does elements-small small given-p given-q tv tw both holds = by_layout (layout_of x.home.tree.records ty) refl
+elements laws bound x numbers spots at k sign ty constant volatile kind p q d (V.At (P.Object o i)) (V.Num a) u m does given-p given-q tv tw both holds = by_layout (layout_of x.home.tree.records ty) refl
   where
     place : Value
     place = V.At (P.Object o i)
 
-    by_moved : (layout : Layout) → layout.size < 2 ^ 31 → (object_at u.objects o).live ≡ true → ContainsCode (graph_of x) (moved_by k layout.size p q d).code
+    by_moved : (layout : Layout) → (object_at u.objects o).live ≡ true → ContainsCode (graph_of x) (moved_by k layout.size p q d).code
         → (r : Option Value) → moved u.objects place (sign ((if is_signed_kind kind then cast_signed w32 a else pos a) *ℤ pos layout.size)) ≡ r
         → Meets x.world bound m ((need r >>= λ result. give (Some result)) u) (HasValue x numbers spots [] (moved_by k layout.size p q d) d u m)
-    by_moved layout few live within None e = tt
-    by_moved layout few live within (Some r) e =
+    by_moved layout live within None e = tt
+    by_moved layout live within (Some r) e =
         let z = sign ((if is_signed_kind kind then cast_signed w32 a else pos a) *ℤ pos layout.size) in
         let h = moved-is u.objects o i z r e in
-        let less = small o live in
+        let less = both.ready.related.matches.small o in
         let word = word-of kind a tw in
         let own = (both.ready.related.matches.memory.holds o both.first.1.object both.first.1.size live both.first.1.there).own_size in
         subst (λ (result : Value). Meets x.world bound m (Gives (Some result) u) (HasValue x numbers spots [] (moved_by k layout.size p q d) d u m)) (sym h.is)
         (moves laws bound x numbers spots k layout.size p q d u m o i h.to a both.ready given-p given-q word both.second both.first live h.inside
-        (does (is_signed_kind kind) a layout.size i h.to word few (omega (arith, both.first.1.inside, own, less)) (omega (arith, h.inside, less)) h.sum) within)
+        (does (is_signed_kind kind) a layout.size i h.to word (omega (arith, both.first.1.inside, own, less)) (omega (arith, h.inside, less)) h.sum) within)
 
     by_layout : (r : Option Layout) → layout_of x.home.tree.records ty ≡ r
         → Meets x.world bound m (((need r >>= λ layout. (objects_now >>= λ objects. judge at (U.EndedObject when is_ended objects place ∷ U.PointerArithmetic when is_none (moved objects place (sign ((if is_signed_kind kind then cast_signed w32 a else pos a) *ℤ pos layout.size))) ∷ U.PointerBytes when is_piece (V.Num a) ∷ []) >>= λ done. need (moved objects place (sign ((if is_signed_kind kind then cast_signed w32 a else pos a) *ℤ pos layout.size))))) >>= λ result. give (Some result)) u)
@@ -316,32 +369,32 @@ elements laws bound x numbers spots at k sign ty constant volatile kind p q d (V
         let z = sign ((if is_signed_kind kind then cast_signed w32 a else pos a) *ℤ pos layout.size) in
         subst (λ (n : ℕ). Meets x.world bound m (((judge at (U.EndedObject when is_ended u.objects place ∷ U.PointerArithmetic when is_none (moved u.objects place z) ∷ U.PointerBytes when is_piece (V.Num a) ∷ []) >>= λ done. need (moved u.objects place z)) >>= λ result. give (Some result)) u) (HasValue x numbers spots [] (moved_by k n p q d) d u m)) (sym size-is)
         (judged-then x.world bound m at (U.EndedObject when is_ended u.objects place ∷ U.PointerArithmetic when is_none (moved u.objects place z) ∷ U.PointerBytes when is_piece (V.Num a) ∷ []) (need (moved u.objects place z)) (λ result. give (Some result)) u (HasValue x numbers spots [] (moved_by k layout.size p q d) d u m) (λ none.
-        by_moved layout (elements-small layout e) (lives u.objects o i (V.Num a) z none) (subst (λ (n : ℕ). ContainsCode (graph_of x) (moved_by k n p q d).code) size-is holds) (moved u.objects place z) refl))
-elements laws bound x numbers spots at k sign ty constant volatile kind p q d (V.At (P.Object o i)) (V.Piece r j) u m does elements-small small given-p given-q tv tw both holds =
+        by_moved layout (lives u.objects o i (V.Num a) z none) (subst (λ (n : ℕ). ContainsCode (graph_of x) (moved_by k n p q d).code) size-is holds) (moved u.objects place z) refl))
+elements laws bound x numbers spots at k sign ty constant volatile kind p q d (V.At (P.Object o i)) (V.Piece r j) u m does given-p given-q tv tw both holds =
     stays-put bound x at x.home.tree.records (Qualified ty constant volatile) sign kind (V.At (P.Object o i)) (V.Piece r j) u m (HasValue x numbers spots [] (moved_by k (bytes_of x.home.tree.records ty) p q d) d u m) (λ objects z. inr refl)
-elements laws bound x numbers spots at k sign ty constant volatile kind p q d (V.At (P.Object o i)) V.Undefined u m does elements-small small given-p given-q tv tw both holds = absurd tw
-elements laws bound x numbers spots at k sign ty constant volatile kind p q d (V.At (P.Object o i)) V.Null u m does elements-small small given-p given-q tv tw both holds = absurd tw
-elements laws bound x numbers spots at k sign ty constant volatile kind p q d (V.At (P.Object o i)) (V.At r) u m does elements-small small given-p given-q tv tw both holds = absurd tw
-elements laws bound x numbers spots at k sign ty constant volatile kind p q d (V.At (P.Function f)) w u m does elements-small small given-p given-q tv tw both holds =
+elements laws bound x numbers spots at k sign ty constant volatile kind p q d (V.At (P.Object o i)) V.Undefined u m does given-p given-q tv tw both holds = absurd tw
+elements laws bound x numbers spots at k sign ty constant volatile kind p q d (V.At (P.Object o i)) V.Null u m does given-p given-q tv tw both holds = absurd tw
+elements laws bound x numbers spots at k sign ty constant volatile kind p q d (V.At (P.Object o i)) (V.At r) u m does given-p given-q tv tw both holds = absurd tw
+elements laws bound x numbers spots at k sign ty constant volatile kind p q d (V.At (P.Function f)) w u m does given-p given-q tv tw both holds =
     stays-put bound x at x.home.tree.records (Qualified ty constant volatile) sign kind (V.At (P.Function f)) w u m (HasValue x numbers spots [] (moved_by k (bytes_of x.home.tree.records ty) p q d) d u m) (λ objects z. inl refl)
-elements laws bound x numbers spots at k sign ty constant volatile kind p q d V.Null w u m does elements-small small given-p given-q tv tw both holds =
+elements laws bound x numbers spots at k sign ty constant volatile kind p q d V.Null w u m does given-p given-q tv tw both holds =
     stays-put bound x at x.home.tree.records (Qualified ty constant volatile) sign kind V.Null w u m (HasValue x numbers spots [] (moved_by k (bytes_of x.home.tree.records ty) p q d) d u m) (λ objects z. inl refl)
-elements laws bound x numbers spots at k sign ty constant volatile kind p q d V.Undefined w u m does elements-small small given-p given-q tv tw both holds = absurd tv
-elements laws bound x numbers spots at k sign ty constant volatile kind p q d (V.Num n) w u m does elements-small small given-p given-q tv tw both holds = absurd tv
-elements laws bound x numbers spots at k sign ty constant volatile kind p q d (V.Piece r j) w u m does elements-small small given-p given-q tv tw both holds = absurd tv
+elements laws bound x numbers spots at k sign ty constant volatile kind p q d V.Undefined w u m does given-p given-q tv tw both holds = absurd tv
+elements laws bound x numbers spots at k sign ty constant volatile kind p q d (V.Num n) w u m does given-p given-q tv tw both holds = absurd tv
+elements laws bound x numbers spots at k sign ty constant volatile kind p q d (V.Piece r j) w u m does given-p given-q tv tw both holds = absurd tv
 
-pub pointer-sum : Laws → (bound : ℕ) (left : QType) (kind : IntKind) → AppliesToSmall bound B.Add (PointerTo left) (Int kind) left
+pub pointer-sum : Laws → (bound : ℕ) (left : QType) (kind : IntKind) → Applies bound B.Add (PointerTo left) (Int kind)
 unfolding source.binary source.pointer_and_number
-pointer-sum laws bound (Qualified ty constant volatile) kind x numbers spots at p q d v w u m elements-small small given-p given-q tv tw both holds =
-    elements laws bound x numbers spots at Add (λ z. z) ty constant volatile kind p q d v w u m add-does elements-small small given-p given-q tv tw both holds
+pointer-sum laws bound (Qualified ty constant volatile) kind x numbers spots at p q d v w u m given-p given-q tv tw both holds =
+    elements laws bound x numbers spots at Add (λ z. z) ty constant volatile kind p q d v w u m add-does given-p given-q tv tw both holds
 
-pub pointer-difference : Laws → (bound : ℕ) (left : QType) (kind : IntKind) → AppliesToSmall bound B.Subtract (PointerTo left) (Int kind) left
+pub pointer-difference : Laws → (bound : ℕ) (left : QType) (kind : IntKind) → Applies bound B.Subtract (PointerTo left) (Int kind)
 unfolding source.binary source.pointer_and_number
-pointer-difference laws bound (Qualified ty constant volatile) kind x numbers spots at p q d v w u m elements-small small given-p given-q tv tw both holds =
-    elements laws bound x numbers spots at Sub neg_ℤ ty constant volatile kind p q d v w u m sub-does elements-small small given-p given-q tv tw both holds
+pointer-difference laws bound (Qualified ty constant volatile) kind x numbers spots at p q d v w u m given-p given-q tv tw both holds =
+    elements laws bound x numbers spots at Sub neg_ℤ ty constant volatile kind p q d v w u m sub-does given-p given-q tv tw both holds
 
-pub number-sum : Laws → (bound : ℕ) (right : QType) (kind : IntKind) → AppliesToSmall bound B.Add (Int kind) (PointerTo right) right
+pub number-sum : Laws → (bound : ℕ) (right : QType) (kind : IntKind) → Applies bound B.Add (Int kind) (PointerTo right)
 unfolding source.binary source.number_and_pointer
-number-sum laws bound (Qualified ty constant volatile) kind x numbers spots at p q d v w u m elements-small small given-p given-q tv tw both holds =
-    elements laws bound x numbers spots at Add (λ z. z) ty constant volatile kind q p d w v u m add-does elements-small small given-q given-p tw tv
+number-sum laws bound (Qualified ty constant volatile) kind x numbers spots at p q d v w u m given-p given-q tv tw both holds =
+    elements laws bound x numbers spots at Add (λ z. z) ty constant volatile kind q p d w v u m add-does given-q given-p tw tv
     (record { ready = both.ready; first = both.second; second = both.first }) holds

@@ -1,17 +1,16 @@
 -- Reading and writing scalars where the place of an lvalue is: the statements of laws.
-use Rattle.std.specs.Prelude.{ℕ, ◌≡◌, ◌^◌, ◌<◌, ◌≤◌, pos, length, true, Some, List, [], slice_get, Contains}
+use Rattle.std.specs.Prelude.{ℕ, ◌≡◌, ◌⊎◌, ◌<◌, ◌≤◌, pos, true, Some, List, [], slice_get, Contains}
 use Rattle.pw_value.specs.declared.value.Kind.{Kind}
 use Rattle.pw_value.specs.declared.value.Value.{Value}
 use Rattle.pw_types.specs.TypeTrees.{CType, type_of}
 use Rattle.pw_types.specs.TypedTrees.{Expression, LocalValue}
-use Rattle.pw_types.specs.WellTyped.{IsTyped, IsLvalue, IsScalar, type_in}
+use Rattle.pw_types.specs.WellTyped.{IsTyped, IsArithmetic, IsLvalue, IsPointer, IsScalar, type_in}
 use Rattle.pw_types.specs.declared.tree.BinaryOperator.{BinaryOperator}
-use Rattle.pw_types.specs.declared.tree.BinaryOperator.TheVariants.{Less, Greater, LessEqual, GreaterEqual, Equal, NotEqual}
+use Rattle.pw_types.specs.declared.tree.BinaryOperator.TheVariants.{Add, Subtract, Less, Greater, LessEqual, GreaterEqual, Equal, NotEqual}
 use Rattle.pw_lower.specs.declared.code.Code.{Code}
 use Rattle.pw_lower.specs.declared.place.LocalPlace.TheVariants.{Temp}
 use Rattle.pw_lower.specs.declared.place.Target.{Target}
 use Rattle.pw_lower.specs.declared.place.Target.TheVariants.{Kept, Named, Led}
-use Rattle.pw_value.specs.Objects.{object_at}
 use Rattle.pw_lower.specs.Codes.{Lowered, lowered_as, temp_of}
 use Rattle.pw_lower.specs.Operators.{kind_of}
 use Rattle.pw_lower.specs.Places.{addressed_in}
@@ -69,6 +68,12 @@ IsComparison Equal = Unit {0}
 IsComparison NotEqual = Unit {0}
 IsComparison _ = ⊥
 
+-- the operators on a pointer and a number, by the types of their operands (6.3.6)
+abbrev pub IsMove : BinaryOperator → CType → CType → Type 0
+IsMove Add left right = (IsPointer left × IsArithmetic right) ⊎ (IsArithmetic left × IsPointer right)
+IsMove Subtract left right = IsPointer left × IsArithmetic right
+IsMove _ left right = ⊥
+
 -- ---- lvalues
 
 -- the promise of the place of one scalar lvalue
@@ -110,14 +115,10 @@ AddressKeeps bound a =
 
 -- ---- pointers that move
 
--- the objects that live have fewer bytes than half of the words
-abbrev pub AreSmall : State → Type 0
-AreSmall s = (o : ℕ) → (object_at s.objects o).live ≡ true → length (object_at s.objects o).bytes < 2 ^ 31
-
--- A place some bytes further, where objects are small.
+-- a place some bytes further
 abbrev pub AdvancesKeep : Type 0
 AdvancesKeep =
     (bound : ℕ) (x : Activation) (numbers : Numbers) (spots : List Spot) (at : Site) (offset : ℕ) (y : Lowered) (s : State) (m : Machine) (place : Value) →
-    IsReady x numbers spots y.code s m → AreSmall s → temp_of y < y.code.temps → ContainsCode (graph_of x) (further offset y).code →
+    IsReady x numbers spots y.code s m → temp_of y < y.code.temps → ContainsCode (graph_of x) (further offset y).code →
     ResultStands spots (Some place) y.temp m →
     Meets x.world bound m (advance at place (pos offset) s) (λ v. HasValue x numbers spots [] (further offset y) y.code s m (Some v))

@@ -1,9 +1,7 @@
 -- What binary operators promise behind both of their operands.
-use Rattle.std.specs.Prelude.{ℕ, ◌≡◌, ◌<◌, ◌^◌, Some, List, []}
+use Rattle.std.specs.Prelude.{ℕ, ◌<◌, Some, List, []}
 use Rattle.pw_value.specs.declared.value.Value.{Value}
-use Rattle.pw_types.specs.TypeTrees.{CType, QType, type_of}
-use Rattle.pw_types.specs.Layouts.{layout_of}
-use Rattle.pw_types.specs.declared.record.Layout.{Layout}
+use Rattle.pw_types.specs.TypeTrees.{CType}
 use Rattle.pw_types.specs.declared.tree.BinaryOperator.{BinaryOperator}
 use Rattle.pw_lower.specs.declared.code.Code.{Code}
 use Rattle.pw_lower.specs.Operators.{combined}
@@ -16,7 +14,6 @@ use Rattle.pw_keeps.specs.Activations.{Activation, Numbers, graph_of}
 use Rattle.pw_keeps.specs.Containing.{ContainsCode}
 use Rattle.pw_keeps.specs.Meeting.{Meets}
 use Rattle.pw_keeps.specs.Expressions.{IsReady, HasValue}
-use Rattle.pw_keeps_forms.specs.Accesses.{AreSmall}
 
 -- behind both operands each value stands in its temporary
 pub record BothStand (x : Activation) (numbers : Numbers) (spots : List Spot) (p q : ℕ) (c : Code) (v w : Value) (s : State) (m : Machine) : Type 0 where
@@ -24,20 +21,9 @@ pub record BothStand (x : Activation) (numbers : Numbers) (spots : List Spot) (p
   pub first : Stands spots v (value_in m.frame p)
   pub second : Stands spots w (value_in m.frame q)
 
--- an operator of operands of these types
+-- an operator of operands of these types, in temporaries that the code gave out
 abbrev pub Applies : ℕ → BinaryOperator → CType → CType → Type 0
 Applies bound o left right =
     (x : Activation) (numbers : Numbers) (spots : List Spot) (at : Site) (p q : ℕ) (c : Code) (v w : Value) (s : State) (m : Machine) →
-    IsValueOf left v → IsValueOf right w → BothStand x numbers spots p q c v w s m → ContainsCode (graph_of x) (combined x.home.tree.records o left right p q c).code →
-    Meets x.world bound m ((binary at x.home.tree.records o left right v w >>= λ result. give (Some result)) s) (HasValue x numbers spots [] (combined x.home.tree.records o left right p q c) c s m)
-
--- the same where objects are small, and what pointers of a type lead to
-abbrev pub HasSmallElements : Activation → QType → Type 0
-HasSmallElements x q = (l : Layout) → layout_of x.home.tree.records (type_of q) ≡ Some l → l.size < 2 ^ 31
-
-abbrev pub AppliesToSmall : ℕ → BinaryOperator → CType → CType → QType → Type 0
-AppliesToSmall bound o left right element =
-    (x : Activation) (numbers : Numbers) (spots : List Spot) (at : Site) (p q : ℕ) (c : Code) (v w : Value) (s : State) (m : Machine) →
-    HasSmallElements x element → AreSmall s → p < c.temps → q < c.temps →
-    IsValueOf left v → IsValueOf right w → BothStand x numbers spots p q c v w s m → ContainsCode (graph_of x) (combined x.home.tree.records o left right p q c).code →
+    p < c.temps → q < c.temps → IsValueOf left v → IsValueOf right w → BothStand x numbers spots p q c v w s m → ContainsCode (graph_of x) (combined x.home.tree.records o left right p q c).code →
     Meets x.world bound m ((binary at x.home.tree.records o left right v w >>= λ result. give (Some result)) s) (HasValue x numbers spots [] (combined x.home.tree.records o left right p q c) c s m)

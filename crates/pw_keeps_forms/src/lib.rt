@@ -14,7 +14,7 @@ ghost use Rattle.pw_types.specs.declared.tree.LogicOperator.TheVariants.{And, Or
 ghost use Rattle.pw_types.specs.declared.tree.UnaryOperator.TheVariants.{Not};
 ghost use Rattle.pw_keeps.specs.Expressions.{ExpressionKeeps, ExpressionsKeep, ArgumentsKeep, ConditionsKeep};
 ghost use Rattle.pw_keeps_forms.specs.Accesses.{AddressKeeps, AdvancesKeep, IsComparison, LvalueKeeps, ReadsKeep, TargetsSuit, WritesKeep};
-ghost use Rattle.pw_keeps_forms.specs.Operands.{AppliesToSmall};
+ghost use Rattle.pw_keeps_forms.specs.Operands.{Applies};
 ghost use Rattle.pw_keeps_forms.specs.Plain.{IsPlain};
 
 use pw_cmean::laws::values_have_types;
@@ -173,13 +173,12 @@ pub fn updates_keep()
     ranges_of_bytes();
 }
 
-/// Pointers that move, where objects have fewer bytes than half of the words: by a number of bytes, as to a member; and
-/// by a number of elements, forwards and backwards.
+/// Pointers that move: by a number of bytes, as to a member; and by a number of elements, forwards and backwards.
 pub fn pointers_move()
     ensures advances { AdvancesKeep }
-    ensures forwards { (bound : ℕ) (left : QType) (kind : IntKind) → AppliesToSmall bound Add (Pointer left) (Int kind) left }
-    ensures turned { (bound : ℕ) (right : QType) (kind : IntKind) → AppliesToSmall bound Add (Int kind) (Pointer right) right }
-    ensures backwards { (bound : ℕ) (left : QType) (kind : IntKind) → AppliesToSmall bound Subtract (Pointer left) (Int kind) left }
+    ensures forwards { (bound : ℕ) (left : QType) (kind : IntKind) → Applies bound Add (Pointer left) (Int kind) }
+    ensures turned { (bound : ℕ) (right : QType) (kind : IntKind) → Applies bound Add (Int kind) (Pointer right) }
+    ensures backwards { (bound : ℕ) (left : QType) (kind : IntKind) → Applies bound Subtract (Pointer left) (Int kind) }
 {
     machines_step_on();
     operations_step();
@@ -194,8 +193,8 @@ pub fn pointers_move()
     ranges_of_bytes();
 }
 
-/// All expressions without calls, without names of functions, and in which no pointer moves keep their promise: as values,
-/// as places of scalars, and as places of arrays, structures and unions.
+/// All expressions without calls, without names of functions, in which no two pointers are subtracted and no pointer is
+/// updated keep their promise: as values, as places of scalars, and as places of arrays, structures and unions.
 pub fn plain_expressions_keep()
     ensures values { (bound : ℕ) (a : Expression) → IsPlain a → ExpressionKeeps bound a }
     ensures places { (bound : ℕ) (a : Expression) → IsPlain a → LvalueKeeps bound a }

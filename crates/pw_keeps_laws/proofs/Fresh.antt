@@ -100,6 +100,7 @@ related-put x numbers spots s m rest t v h r = record {
     shows = r.matches.shows;
     active = r.matches.active;
     bytes = r.matches.bytes;
+    small = r.matches.small;
   };
   frame = record {
     function = r.frame.function;

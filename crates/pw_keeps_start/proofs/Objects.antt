@@ -1,20 +1,23 @@
 -- The objects at the start have the same bytes in both runs.
 use Rattle.std.proofs.Common.{◌≡◌, ◌≢◌, ℕ, ◌+◌, ◌^◌, ◌<◌, ◌≤◌, Option, Some, None, option_map, List, [], ◌∷◌, ◌++◌, length, map, refl, sym, ap, subst, ◌∙◌, arith, inl, inr}
-use Rattle.std.specs.Prelude.{unwrap_or, All}
+use Rattle.std.specs.Prelude.{IsSomeAnd, unwrap_or, All}
 use Rattle.std.specs.List.{flat_map, position}
 use Rattle.std.specs.Str.{bytes_eq}
-use Rattle.std.proofs.lemmas.List.{length-map}
+use Rattle.std.proofs.lemmas.Bool.{cases_lt}
+use Rattle.std.proofs.lemmas.List.{length-map, get_or_past}
 use Rattle.std.proofs.lemmas.Simd.{map-map}
 use Rattle.std.proofs.lemmas.List.Elements.{recursion_from_All, All-from_recursion}
 use Rattle.std.proofs.lemmas.List.Folds.{flat_map-map}
 use Rattle.std.proofs.lemmas.Slice.Eq.{bytes_eq-Decides}
 use Rattle.pw_value.specs.declared.value.Pointer.{Pointer}
 use Rattle.pw_value.specs.declared.value.Pointer.TheVariants as P
-use Rattle.pw_value.specs.Objects.{Object}
+use Rattle.pw_value.specs.Limits.{size_limit}
+use Rattle.pw_value.specs.Objects.{Object, no_object, object_at}
 use Rattle.pw_value.specs.Values.{pieces_of}
 use Rattle.pw_value.specs.ProgramNames.{start_name}
 use Rattle.pw_types.specs.FullNames.{full_name}
-use Rattle.pw_types.specs.Layouts.{size_of}
+use Rattle.pw_types.specs.declared.record.Layout.{Layout}
+use Rattle.pw_types.specs.Layouts.{size_of, layout_of}
 use Rattle.pw_types.specs.TypeTrees.{type_of}
 use Rattle.pw_types.specs.TypedTrees.{Symbol, External, Internal, Hidden, GlobalValue, DeclaredValue, ItemValue, ItemBytes, ItemAddress, PlacedItem, ModuleValue}
 use Rattle.pw_types.specs.TypedModules.{WellTyped, IsGlobal, IsName, IsItem, AreItems, item_size}
@@ -23,8 +26,6 @@ use Rattle.pw_flow.specs.declared.flow.Item.TheVariants.{Address}
 use Rattle.pw_flow.specs.declared.flow.FlowGlobal.{FlowGlobal}
 use Rattle.pw_flow.specs.declared.flow.FlowModule.{FlowModule}
 use Rattle.pw_flow.specs.FlowGraph.{item_names, names_in_global, names_in_function, named_in}
-use Rattle.pw_flow.specs.ValidFlow as valid_flow
-use Rattle.pw_flow.specs.ValidFlow.{IsValid}
 use Rattle.pw_lower.specs.Modules.{item_of, lowered_item, lowered_global, lowered}
 use Rattle.pw_cmean.specs.Worlds.{Program, ProgramModule, Callable}
 use Rattle.pw_cmean.specs.Worlds as source
@@ -35,7 +36,7 @@ use Rattle.pw_lowered.specs.Within.{AreLetters}
 use Rattle.pw_layers.specs.Lowering.{flow_program}
 use Rattle.pw_keeps.specs.Lowerable.{IsLowerable}
 use Rattle.pw_keeps.specs.Standing.{Spot, Leads, ByteStands, Holds, MemoryStands}
-use Rattle.pw_keeps.specs.Matching.{IsGlobalAt}
+use Rattle.pw_keeps.specs.Matching.{AreSmall, IsGlobalAt}
 use Rattle.pw_files.proofs.Standing.{Has, has_by, has_each, each_by, contains_by, has_left, has_split, has_map, has_map_back, has_flat}
 use Rattle.pw_keeps_start.specs.Start.{in_order, start_spots}
 use Rattle.pw_keeps_start.proofs.Lists.{has_place, first_at, none_at, position_map}
@@ -76,6 +77,18 @@ name_differs : (home : List ℕ) (m : ModuleValue) (s : Symbol) → ((d : Declar
 name_differs home m (External x) letters is = letters_differ x (subst AreLetters is.2 (letters is.0 (has_by is.0 m.declared is.1)))
 name_differs home m (Internal x) letters is = internal_differs home x
 name_differs home m (Hidden k) letters is = hidden_differs home k
+
+-- ---- sizes
+
+abbrev KeepsLimit : Object → Type 0
+KeepsLimit o = length o.bytes ≤ size_limit
+
+laid_out_small : (layout : Option Layout) → IsSomeAnd layout (λ l. l.size ≤ size_limit) → unwrap_or (option_map (λ l. l.size) layout) 0 ≤ size_limit
+laid_out_small None h = omega arith
+laid_out_small (Some layout) h = h
+
+small_enough : (x : Object) → KeepsLimit x → length x.bytes < 2 ^ 31
+small_enough x h = omega (arith, h)
 
 module _ (p : Program) (frame_of : List ℕ → ℕ) (stack : ℕ) where
   abbrev q : flows.Program
@@ -255,15 +268,9 @@ module _ (p : Program) (frame_of : List ℕ → ℕ) (stack : ℕ) where
       are_bytes : All IsByte (own x).bytes
       are_bytes = filled_bytes p x.0.name x.0.tree 0 (unwrap_or (size_of x.0.tree.records (type_of x.1.ty)) 0) (bytes_in x) x.1.items typed.items
 
-      -- it has fewer bytes than a word counts
-      few_bytes : length (own x).bytes < 2 ^ 32
-      unfolding lowered
-      few_bytes =
-          let m : FlowModule = low x.0 in
-          let here : Has (graph_of x) m.globals = has_map (lowered_global x.0.name x.0.tree.records) x.1 x.0.tree.globals (has_pair globals_in p.modules x there).1 in
-          let valid = has_each IsValid q.modules m l.accepted.program.modules (has_map low x.0 p.modules home_there) in
-          let word = (has_each valid_flow.IsGlobal m.globals (graph_of x) valid.parts.globals here).size in
-          omega (arith, own_length, word)
+      -- it keeps the limit on sizes
+      few_bytes : length (own x).bytes ≤ size_limit
+      few_bytes = let few : bytes_in x ≤ size_limit = laid_out_small (layout_of x.0.tree.records (type_of x.1.ty)) typed.object in subst (λ (n : ℕ). n ≤ size_limit) (sym own_length) few
 
     -- ---- all of them
 
@@ -288,9 +295,14 @@ module _ (p : Program) (frame_of : List ℕ → ℕ) (stack : ℕ) where
         (each_by (λ (o : Object). All IsByte o.bytes) (map own all)
         (λ o h. let x = has_map_back own o all h in subst (λ (o : Object). All IsByte o.bytes) x.2 (are_bytes x.0 x.1))))
 
-    pub all_sizes : All (λ (o : Object). length o.bytes < 2 ^ 32) (source.start_objects p)
+    pub all_sizes : All KeepsLimit (source.start_objects p)
     all_sizes =
-        subst (λ (os : List Object). All (λ (o : Object). length o.bytes < 2 ^ 32) os) (sym own_are)
-        (All-from_recursion (λ (o : Object). length o.bytes < 2 ^ 32) (map own all)
-        (each_by (λ (o : Object). length o.bytes < 2 ^ 32) (map own all)
-        (λ o h. let x = has_map_back own o all h in subst (λ (o : Object). length o.bytes < 2 ^ 32) x.2 (few_bytes x.0 x.1))))
+        subst (λ (os : List Object). All KeepsLimit os) (sym own_are)
+        (All-from_recursion KeepsLimit (map own all)
+        (each_by KeepsLimit (map own all) (λ o h. let x = has_map_back own o all h in subst KeepsLimit x.2 (few_bytes x.0 x.1))))
+
+    pub all_small : AreSmall (source.start_objects p)
+    all_small o = elim (cases_lt o (length (source.start_objects p))) [
+      | inl less ↦ small_enough (object_at (source.start_objects p) o) (all_sizes o no_object less)
+      | inr more ↦ subst (λ (x : Object). length x.bytes < 2 ^ 31) (sym (get_or_past (source.start_objects p) o no_object more)) (omega arith)
+    ]

@@ -14,7 +14,7 @@ use Rattle.pw_keeps.specs.Matching.{Matches}
 use Rattle.pw_keeps.specs.Whole.{start_machine, StartsMatch}
 use Rattle.pw_keeps_start.specs.Start.{start_spots}
 use Rattle.pw_keeps_start.proofs.Functions.{start_named, main_takes_nothing}
-use Rattle.pw_keeps_start.proofs.Objects.{stand, globals_at, all_bytes}
+use Rattle.pw_keeps_start.proofs.Objects.{stand, globals_at, all_bytes, all_small}
 
 pub begins : (w : World) (input : List ℕ) → IsLowerableWorld w → start (graphs w) input ≡ On (start_machine (graphs w) input)
 begins w input l = let e : function_named (graphs w) start_name ≡ Some start_function = start_named w.program w.frame_of w.stack l.program in rw e refl
@@ -27,6 +27,7 @@ matches w input l bytes = record {
   shows = record { output = refl; read = refl; log = none };
   active = refl;
   bytes = record { objects = all_bytes w.program w.frame_of w.stack l.program; input = All-from_recursion _ input bytes };
+  small = all_small w.program w.frame_of w.stack l.program;
 }
 
 pub starts_match : StartsMatch

@@ -1,7 +1,8 @@
 //! Both runs of a program start in states that match, as the contracts of functions that do nothing.
 #![tactic(auto)]
 
-ghost use Rattle.std.specs.Prelude.{◌≡◌, ◌^◌, ◌<◌, ℕ, List, [], Some, All, length};
+ghost use Rattle.std.specs.Prelude.{◌≡◌, ◌<◌, ◌≤◌, ℕ, List, [], Some, All, length};
+ghost use Rattle.pw_value.specs.Limits.{size_limit};
 ghost use Rattle.pw_value.specs.ProgramNames.{main_name};
 ghost use Rattle.pw_value.specs.Objects.{Object};
 ghost use Rattle.pw_cmean.specs.Worlds.{World, Callable, function_number, function_named, global_number, start_objects};
@@ -27,8 +28,8 @@ pub fn names_have_one_number()
 {}
 
 /// The objects at the start: each stands in the object of its own number, has the bytes that stand for its own there,
-/// and lives; a number in a byte is one of 8 bits, and an object has fewer bytes than a word counts. An address in an initialiser leads to the same place of the same
-/// object, or to the same function.
+/// and lives; a number in a byte is one of 8 bits, and an object keeps the limit on sizes. An address in an initialiser
+/// leads to the same place of the same object, or to the same function.
 pub fn objects_stand_at_start()
     ensures memory { (world : World) → IsLowerableWorld world →
         MemoryStands (start_spots (graphs world)) (start_objects world.program) (flows.start_objects (graphs world)) }
@@ -37,7 +38,7 @@ pub fn objects_stand_at_start()
     ensures bytes { (world : World) → IsLowerableWorld world →
         All (λ (o : Object). All IsByte o.bytes) (start_objects world.program) }
     ensures sizes { (world : World) → IsLowerableWorld world →
-        All (λ (o : Object). length o.bytes < 2 ^ 32) (start_objects world.program) }
+        All (λ (o : Object). length o.bytes ≤ size_limit) (start_objects world.program) }
 {}
 
 /// The run of the flow graphs begins in `$start`, of which a program has one.

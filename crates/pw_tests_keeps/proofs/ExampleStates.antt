@@ -26,7 +26,7 @@ use Rattle.pw_flowrun.specs.FlowRun as flow
 use Rattle.pw_flowrun.specs.FlowRun.{Machine}
 use Rattle.pw_keeps.specs.Standing.{Spot, Nowhere, In, spot_of, ByteStands, Holds, MemoryStands}
 use Rattle.pw_keeps.specs.Activations.{Activation, number_of, graph_of, env_of}
-use Rattle.pw_keeps.specs.Matching.{IsGlobalAt, Matches, IsFrameOf, Related, Lasts}
+use Rattle.pw_keeps.specs.Matching.{AreSmall, IsGlobalAt, Matches, IsFrameOf, Related, Lasts}
 use Rattle.pw_keeps.specs.Meeting.{Meets}
 use Rattle.pw_keeps.specs.Expressions.{HasResult}
 use Rattle.pw_tests_keeps.proofs.Examples.{number, n_is, tree, program, frames, bump, one_more}
@@ -115,6 +115,10 @@ bytes k h = record {
   input = All-from_recursion (λ (b : ℕ). b < 256) [] tt;
 }
 
+small : (k : ℕ) → AreSmall (n_is k)
+small k zero = omega arith
+small k (suc o) = omega arith
+
 no_number : (k o : ℕ) → number_of [] k ≡ Some o → ⊥
 no_number k o e = true≢false (sym (ap (λ (n : Option ℕ). is_some n) e))
 
@@ -127,6 +131,7 @@ matches k ops temps h = record {
   shows = record { output = refl; read = refl; log = none };
   active = refl;
   bytes = bytes k h;
+  small = small k;
 }
   where
     first : (g : ℕ) → g < 1 → IsGlobalAt spots (n_is k) g
