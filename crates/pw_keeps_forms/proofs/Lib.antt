@@ -29,4 +29,5 @@ mod Advances
 mod Sums
 mod Members
 mod Moves
+mod Distances
 mod Plain

@@ -48,7 +48,7 @@ use Rattle.pw_keeps_forms.specs.Operands.{BothStand, Applies}
 
 -- ---- whole numbers as words
 
-low-signed : (n : ℕ) → n < 2 ^ 31 → cast_signed w32 n ≡ pos n
+pub low-signed : (n : ℕ) → n < 2 ^ 31 → cast_signed w32 n ≡ pos n
 low-signed n h = to_z_pos w32 n h
 
 nat-of : ℤ → ℕ
@@ -210,7 +210,7 @@ sub-words false a size i to ha hi ht e = unsigned-sub a size i to hi e
 
 -- ---- the code
 
-reaches-then : Laws → (x : Activation) (m n : Machine) (k : ℕ) (Q : Machine → Type 0) → steps (graphs x.world) k (On m) ≡ On n → Reaches (graphs x.world) n Q → Reaches (graphs x.world) m Q
+pub reaches-then : Laws → (x : Activation) (m n : Machine) (k : ℕ) (Q : Machine → Type 0) → steps (graphs x.world) k (On m) ≡ On n → Reaches (graphs x.world) n Q → Reaches (graphs x.world) m Q
 reaches-then laws x m n k Q c r = record {
   count = k + r.count;
   machine = r.machine;

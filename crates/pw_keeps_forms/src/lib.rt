@@ -12,9 +12,10 @@ ghost use Rattle.pw_types.specs.declared.tree.BinaryOperator.{BinaryOperator};
 ghost use Rattle.pw_types.specs.declared.tree.BinaryOperator.TheVariants.{Add, Subtract};
 ghost use Rattle.pw_types.specs.declared.tree.LogicOperator.TheVariants.{And, Or};
 ghost use Rattle.pw_types.specs.declared.tree.UnaryOperator.TheVariants.{Not};
+ghost use Rattle.pw_keeps.specs.Activations.{Activation};
 ghost use Rattle.pw_keeps.specs.Expressions.{ExpressionKeeps, ExpressionsKeep, ArgumentsKeep, ConditionsKeep};
 ghost use Rattle.pw_keeps_forms.specs.Accesses.{AddressKeeps, AdvancesKeep, IsComparison, LvalueKeeps, ReadsKeep, TargetsSuit, WritesKeep};
-ghost use Rattle.pw_keeps_forms.specs.Operands.{Applies};
+ghost use Rattle.pw_keeps_forms.specs.Operands.{Applies, AppliesAt, HasElements};
 ghost use Rattle.pw_keeps_forms.specs.Plain.{IsPlain};
 
 use pw_cmean::laws::values_have_types;
@@ -173,12 +174,15 @@ pub fn updates_keep()
     ranges_of_bytes();
 }
 
-/// Pointers that move: by a number of bytes, as to a member; and by a number of elements, forwards and backwards.
+/// Pointers that move: by a number of bytes, as to a member; and by a number of elements, forwards and backwards. And how
+/// many elements lie between two pointers, where elements have bytes.
 pub fn pointers_move()
     ensures advances { AdvancesKeep }
     ensures forwards { (bound : ℕ) (left : QType) (kind : IntKind) → Applies bound Add (Pointer left) (Int kind) }
     ensures turned { (bound : ℕ) (right : QType) (kind : IntKind) → Applies bound Add (Int kind) (Pointer right) }
     ensures backwards { (bound : ℕ) (left : QType) (kind : IntKind) → Applies bound Subtract (Pointer left) (Int kind) }
+    ensures distances { (bound : ℕ) (left right : QType) (x : Activation) → HasElements x left →
+        AppliesAt x bound Subtract (Pointer left) (Pointer right) }
 {
     machines_step_on();
     operations_step();

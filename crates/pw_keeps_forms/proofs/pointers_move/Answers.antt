@@ -1,6 +1,7 @@
 use Rattle.pw_keeps_forms.proofs.Laws.{Laws}
 use Rattle.pw_keeps_forms.proofs.Advances.{advances}
 use Rattle.pw_keeps_forms.proofs.Sums.{pointer-sum, number-sum, pointer-difference}
+use Rattle.pw_keeps_forms.proofs.Distances.{distance-applies}
 use Rattle.pw_keeps_forms.proofs.pointers_move.Goals as goal
 
 all : goal.After-ranges_of_bytes → Laws
@@ -39,3 +40,6 @@ returns-clause-turned c = number-sum (all c)
 
 pub returns-clause-backwards : goal.returns-clause-backwards
 returns-clause-backwards c = pointer-difference (all c)
+
+pub returns-clause-distances : goal.returns-clause-distances
+returns-clause-distances c = distance-applies (all c)
