@@ -35,12 +35,12 @@ use Rattle.pw_flowrun.specs.Values as flow
 use Rattle.pw_flowrun.specs.FlowRun as run
 use Rattle.pw_flowrun.specs.FlowRun.{Machine, value_in}
 use Rattle.pw_keeps.specs.Standing.{Spot, In, spot_of, Leads, Stands, MemoryStands}
-use Rattle.pw_keeps.specs.Activations.{Activation, Numbers, graphs, graph_of, home_of, env_of, HaveSlots}
+use Rattle.pw_keeps.specs.Activations.{Activation, IsActivation, Numbers, graphs, graph_of, home_of, env_of, HaveSlots}
 use Rattle.pw_keeps.specs.Containing.{ContainsCode}
 use Rattle.pw_keeps.specs.Meeting.{Reaches, Meets}
 use Rattle.pw_keeps.specs.Expressions.{assigned_in, IsReady, HasValue, HasResult, ExpressionKeeps}
 use Rattle.pw_keeps_forms.specs.Accesses.{IsComparison}
-use Rattle.pw_keeps_forms.specs.Operands.{BothStand, Applies}
+use Rattle.pw_keeps_forms.specs.Operands.{BothStand, Applies, AppliesAt}
 use Rattle.pw_keeps_forms.proofs.Bytes.{same-object}
 use Rattle.pw_keeps_forms.proofs.Laws.{Laws}
 use Rattle.pw_keeps_forms.proofs.Simulation.{meets-then, meets-less, judged}
@@ -55,7 +55,7 @@ abbrev pub HasOperands : BinaryOperator → CType → CType → Type 0
 HasOperands o left right =
     (x : Activation) (p q : ℕ) (d : Code) → ContainsCode (graph_of x) (combined x.home.tree.records o left right p q d).code → ContainsCode (graph_of x) d
 
-pub binary-keeps : Laws → (bound t : ℕ) (ty : QType) (o : BinaryOperator) (a b : Expression) → type_in a ≢ Void → type_in b ≢ Void → Applies bound o (type_in a) (type_in b) → HasOperands o (type_in a) (type_in b)
+pub binary-keeps : Laws → (bound t : ℕ) (ty : QType) (o : BinaryOperator) (a b : Expression) → type_in a ≢ Void → type_in b ≢ Void → ((x : Activation) → IsActivation x → AppliesAt x bound o (type_in a) (type_in b)) → HasOperands o (type_in a) (type_in b)
     → ExpressionKeeps bound a → ExpressionKeeps bound b → ExpressionKeeps bound (Node t ty (Binary o a b))
 unfolding lower answer_of ◌>>=◌ IsTyped HasForm
 binary-keeps laws bound t ty o a b nonvoid nonvoid-b applies operands first second = λ x numbers spots c s m active typed slots holds ready.
@@ -89,7 +89,7 @@ binary-keeps laws bound t ty o a b nonvoid nonvoid-b applies operands first seco
     stays laws x numbers spots' b y.code (temp_of y) u u' n n' typed.1.1 (omega (arith, temp, new.since, ready.temps)) (omega (arith, temp, new.given)) q'.0.done in
     let later = q'.0.done.later.spots in
     meets-less x.world bound n' ((source.binary at x.home.tree.records o (type_in a) (type_in b) v w >>= λ result. give (Some result)) u') (HasValue x numbers later [] k z.code u' n') R
-    (applies x numbers later at (temp_of y) (temp_of z) z.code v w u' n' (omega (arith, temp, new.given, (laws.later h b y.code).temps)) (omega (arith, temp-b, newer.given)) q.1 q'.1
+    (applies x active numbers later at (temp_of y) (temp_of z) z.code v w u' n' (omega (arith, temp, new.given, (laws.later h b y.code).temps)) (omega (arith, temp-b, newer.given)) q.1 q'.1
     (record {
       ready = ready-then laws x numbers spots' b y.code u u' n n' (Some w) again q'.0;
       first = subst (λ (g : Value). Stands later v g) (sym kept)
@@ -318,6 +318,6 @@ pub comparison-keeps : Laws → (bound t : ℕ) (ty : QType) (o : BinaryOperator
     → ExpressionKeeps bound a → ExpressionKeeps bound b → ExpressionKeeps bound (Node t ty (Binary o a b))
 comparison-keeps laws bound t ty o a b left right is l r first second =
     binary-keeps laws bound t ty o a b (λ e. scalar-not-void (PointerTo left) tt (sym l ∙ e)) (λ e. scalar-not-void (PointerTo right) tt (sym r ∙ e))
-    (subst (λ (y : CType). Applies bound o y (type_in b)) (sym l) (subst (λ (z : CType). Applies bound o (PointerTo left) z) (sym r) (compare-applies laws bound o left right is)))
+    (λ x active. subst (λ (y : CType). AppliesAt x bound o y (type_in b)) (sym l) (subst (λ (z : CType). AppliesAt x bound o (PointerTo left) z) (sym r) (compare-applies laws bound o left right is x)))
     (subst (λ (y : CType). HasOperands o y (type_in b)) (sym l) (subst (λ (z : CType). HasOperands o (PointerTo left) z) (sym r) (compare-operands o left right is)))
     first second

@@ -30,4 +30,5 @@ mod Sums
 mod Members
 mod Moves
 mod Distances
+mod Elements
 mod Plain

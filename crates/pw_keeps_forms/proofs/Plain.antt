@@ -44,7 +44,7 @@ use Rattle.pw_keeps_forms.proofs.Cond.{cond-keeps}
 use Rattle.pw_keeps_forms.proofs.Compare.{comparison-keeps}
 use Rattle.pw_keeps_forms.proofs.Steps.{compound-keeps, step-keeps}
 use Rattle.pw_keeps_forms.proofs.Members.{member-keeps, member-lvalue, member-suited, member-address, address-of-member}
-use Rattle.pw_keeps_forms.proofs.Moves.{sum-keeps, turned-sum-keeps, less-keeps}
+use Rattle.pw_keeps_forms.proofs.Moves.{sum-keeps, turned-sum-keeps, less-keeps, distance-keeps}
 
 -- the forms that are proved below
 pub record FormLaws : Type 0 where
@@ -224,7 +224,8 @@ move-plain : Laws → (bound t : ℕ) (ty : QType) (o : BinaryOperator) (a b : E
     → ExpressionKeeps bound a → ExpressionKeeps bound b → ExpressionKeeps bound (Node t ty (T.Binary o a b))
 move-plain laws bound t ty B.Add a b (inl h) first second = let k = int-of (type_in b) h.1 in sum-keeps laws bound t ty a b h.0.0 k.0 h.0.1 k.1 first second
 move-plain laws bound t ty B.Add a b (inr h) first second = let k = int-of (type_in a) h.0 in turned-sum-keeps laws bound t ty a b h.1.0 k.0 k.1 h.1.1 first second
-move-plain laws bound t ty B.Subtract a b h first second = let k = int-of (type_in b) h.1 in less-keeps laws bound t ty a b h.0.0 k.0 h.0.1 k.1 first second
+move-plain laws bound t ty B.Subtract a b (inl h) first second = let k = int-of (type_in b) h.1 in less-keeps laws bound t ty a b h.0.0 k.0 h.0.1 k.1 first second
+move-plain laws bound t ty B.Subtract a b (inr h) first second = distance-keeps laws bound t ty a b h.0.0 h.1.0 h.0.2 h.0.1 h.1.1 first second
 move-plain laws bound t ty o a b h first second = absurd h
 
 binary-plain : Laws → FormLaws → (bound t : ℕ) (ty : QType) (o : BinaryOperator) (a b : Expression) → (IsArithmetic (type_in a) × IsArithmetic (type_in b)) ⊎ IsComparison o ⊎ IsMove o (type_in a) (type_in b)

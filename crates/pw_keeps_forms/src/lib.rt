@@ -197,8 +197,8 @@ pub fn pointers_move()
     ranges_of_bytes();
 }
 
-/// All expressions without calls, without names of functions, in which no two pointers are subtracted and no pointer is
-/// updated keep their promise: as values, as places of scalars, and as places of arrays, structures and unions.
+/// All expressions without calls, without names of functions, in which no two pointers to arrays are subtracted and no
+/// pointer is updated keep their promise: as values, as places of scalars, and as places of arrays, structures and unions.
 pub fn plain_expressions_keep()
     ensures values { (bound : ℕ) (a : Expression) → IsPlain a → ExpressionKeeps bound a }
     ensures places { (bound : ℕ) (a : Expression) → IsPlain a → LvalueKeeps bound a }
