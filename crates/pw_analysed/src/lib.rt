@@ -61,7 +61,7 @@ pub fn layers_give_all()
 }
 
 /// For no register the database of summaries is empty, so that the law of direction holds: the directed run keeps the flow
-/// run with every global in memory, keeps the registers, and obeys the law of traffic.
+/// run, with each global in its place at each call and return, keeps the registers, and obeys the law of traffic.
 pub fn direction_keeps_without_registers()
     ensures { DirectionKeepsWithoutRegisters }
 {

@@ -9,7 +9,7 @@ use Rattle.pw_types.specs.TypedTrees.{Symbol, External, Internal, Hidden, Empty,
 abbrev pub int_function : List ℕ → FunctionValue
 int_function name = record { name = Internal name; token = 0; ty = Qualified (Int K.Int) false false; params = 0; locals = []; labels = 0; named = []; body = Empty 0 }
 
--- the name that an object of the module's own has behind the colon of its full name
+-- what an object of the module's own counts as: a function of type int, by the name behind the colon of its full name
 abbrev pub own_functions : Symbol → List FunctionValue
 own_functions (External x) = []
 own_functions (Internal x) = int_function x ∷ []

@@ -41,7 +41,7 @@ pub fn objects_stand_at_start()
         All (λ (o : Object). length o.bytes ≤ size_limit) (start_objects world.program) }
 {}
 
-/// The run of the flow graphs begins in `$start`, of which a program has one.
+/// The run of the flow graphs begins in `$start`.
 pub fn runs_begin_in_start()
     ensures { (world : World) (input : List ℕ) → IsLowerableWorld world →
         start (graphs world) input ≡ On (start_machine (graphs world) input) }

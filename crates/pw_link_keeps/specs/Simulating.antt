@@ -68,7 +68,7 @@ pub record IsLinked (x : Setting) : Type 0 where
 
 -- ---- the machine shows a state
 
--- a caller is left behind its call
+-- what is left of a caller stands at the address to which it returns
 pub record IsCaller (x : Setting) (f : Frame) : Type 0 where
   pub there : Contains x.program.functions f.function
   pub left : IsLeft x f.function f.left (return_address x.addresses f f.left)

@@ -8,8 +8,8 @@ use pw_directed::{
 };
 use pw_sound::nothing_is_sound;
 
-/// Under the empty database the directed run keeps the flow run, each in one step where the other makes one, with every
-/// global in memory; and it keeps the registers and obeys the law of traffic.
+/// Under the empty database the directed run keeps the flow run, with each global in its place at each call and return; and
+/// it keeps the registers and obeys the law of traffic.
 pub fn undirected_runs_keep_theirs()
     ensures { EmptyDirectionKeeps }
 {
