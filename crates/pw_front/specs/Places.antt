@@ -1,6 +1,7 @@
--- The place of a refusal in its text, and the line of a place.
-use Rattle.std.specs.Prelude.{ℕ, ◌+◌, ◌-◌, ◌==◌, List, [], length, take, count_by, Ok, Err, slice_get}
+-- The place of a refusal in its text, and its line.
+use Rattle.std.specs.Prelude.{ℕ, ◌-◌, List, [], length, take, Ok, Err, slice_get}
 use Rattle.pw_token.specs.Limits.{text_limit}
+use Rattle.pw_token.specs.Places.{line_at}
 use Rattle.std.specs.Option.{option_map_or}
 use Rattle.pw_token.specs.declared.token.LexFault.TheVariants.{Bad, TooLong, TooMany, NoMemory}
 use Rattle.pw_token.specs.declared.token.Token.{Token}
@@ -8,10 +9,6 @@ use Rattle.pw_front.specs.Lexed.{LexAnswer, lexed}
 use Rattle.pw_parse.specs.declared.parser.ParseFault.TheVariants as parse
 use Rattle.pw_front.specs.declared.refusal.Refusal.{Refusal}
 use Rattle.pw_front.specs.declared.refusal.Refusal.TheVariants.{Lex, Unsupported, Parse, Check}
-
--- the line of a place: 1 and the newlines before it
-abbrev pub line_at : List ℕ → ℕ → ℕ
-line_at text place = 1 + count_by (λ byte. byte == 10) (take place text)
 
 -- these tokens, or none
 abbrev pub or_none : LexAnswer → List Token

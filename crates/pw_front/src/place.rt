@@ -4,20 +4,12 @@ ghost use Rattle.std.specs.Prelude.{◌≡◌, ◌≢◌, ◌-◌, [], IfOk, IsO
 ghost use Rattle.std.specs.Option.{option_map_or};
 ghost use Rattle.pw_token.specs.declared.token.LexFault.{LexFault};
 ghost use Rattle.pw_front.specs.Lexed.{lexed};
-ghost use Rattle.pw_front.specs.Places.{line_at, or_none, place_of, refusal_line, token_place, tokens_before, tokens_in};
+ghost use Rattle.pw_front.specs.Places.{or_none, place_of, refusal_line, token_place, tokens_before, tokens_in};
 
 use crate::refusal::Refusal;
 use pw_parse::ParseFault;
-use pw_token::{LexFault, MAX_TEXT, Token, lex};
+use pw_token::{LexFault, MAX_TEXT, Token, lex, line_at};
 use std::alloc::{AllocError, Global};
-
-/// The line of a place, counted from 1; past the end of the text its last line.
-fn line_at(text: &[u8], place: usize) -> usize
-    ensures { result ≡ line_at text.now place }
-{
-    let before = &text[..place.min(text.len())];
-    1 + before.iter().filter(|byte| **byte == b'\n').count()
-}
 
 /// No tokens, for a text that does not lex. Want of memory is told on.
 fn no_tokens(alloc: Global, fault: LexFault) -> Result<Vec<Token>, AllocError>
