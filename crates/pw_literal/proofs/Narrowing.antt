@@ -1,7 +1,9 @@
 -- What is read with values of escapes that are told up to 256 alone is what is read, so told.
 use Rattle.std.proofs.Common.{◌≡◌, ℕ, zero, suc, ◌+◌, ◌*◌, ◌≤◌, Bool, true, false, List, [], ◌∷◌, ◌++◌, map, refl, sym, ap, ◌∙◌, arith, if◌then◌else◌}
-use Rattle.pw_literal.specs.Characters.{Escape, NoEscape, Backslash, Octal, Hexadecimal, goes_on, is_hexadecimal_digit, plainly, begun_by, known_with, escape_after, known_at_end, characters_from}
+use Rattle.pw_literal.specs.Characters.{Escape, NoEscape, Backslash, Octal, Hexadecimal, goes_on, plainly, begun_by, known_with, escape_after, known_at_end, characters_from}
 use Rattle.pw_literal.specs.Integers.{digit_value}
+use Rattle.pw_token.specs.Bytes.{is_in}
+use Rattle.pw_token.specs.declared.bytes.Class.TheVariants.{HexDigit}
 use Rattle.pw_literal.specs.Narrow.{narrow, narrowed}
 
 twice : (n : ℕ) → narrow (narrow n) ≡ narrow n
@@ -22,7 +24,7 @@ known_narrowed : (e : Escape) (c : ℕ) → map narrow (known_with (narrowed e) 
 known_narrowed NoEscape c = refl
 known_narrowed Backslash c = refl
 known_narrowed (Octal value digits) c = known_value (goes_on digits c) value c
-known_narrowed (Hexadecimal value) c = known_value (is_hexadecimal_digit c) value c
+known_narrowed (Hexadecimal value) c = known_value (is_in HexDigit c) value c
 
 digit_narrowed : (v b d : ℕ) → 1 ≤ b → narrow (narrow v * b + d) ≡ narrow (v * b + d)
 digit_narrowed v zero d h = absurd (omega arith)
@@ -40,7 +42,7 @@ after_narrowed (Octal value digits) c =
     after_value (goes_on digits c) (Octal (narrow value * 8 + digit_value c) (digits + 1)) (Octal (value * 8 + digit_value c) (digits + 1)) c
     (ap (λ n. Octal n (digits + 1)) (digit_narrowed value 8 (digit_value c) (omega arith)))
 after_narrowed (Hexadecimal value) c =
-    after_value (is_hexadecimal_digit c) (Hexadecimal (narrow value * 16 + digit_value c)) (Hexadecimal (value * 16 + digit_value c)) c
+    after_value (is_in HexDigit c) (Hexadecimal (narrow value * 16 + digit_value c)) (Hexadecimal (value * 16 + digit_value c)) c
     (ap Hexadecimal (digit_narrowed value 16 (digit_value c) (omega arith)))
 
 map-append : (xs ys : List ℕ) → map narrow (xs ++ ys) ≡ map narrow xs ++ map narrow ys

@@ -1,27 +1,15 @@
 -- Character constants and string literals (ISO C90 6.1.3.4, 6.1.4): the characters that they hold. The texts are those of
 -- constants that stand in a text, quotes included.
-use Rattle.std.specs.Prelude.{ℕ, ◌+◌, ◌-◌, ◌*◌, ◌==◌, ◌^◌, Bool, false, not, ◌&&◌, ◌||◌, nat_le, nat_lt, if◌then◌else◌, Option, None, Some, List, [], ◌∷◌, ◌++◌, drop, length, take, flat_map}
+use Rattle.std.specs.Prelude.{ℕ, ◌+◌, ◌-◌, ◌*◌, ◌==◌, ◌^◌, Bool, false, not, ◌&&◌, ◌||◌, nat_lt, if◌then◌else◌, Option, None, Some, List, [], ◌∷◌, ◌++◌, drop, length, take, flat_map}
 use Rattle.std.specs.List.{list_any}
+use Rattle.std.specs.Option.{unwrap_or}
+use Rattle.pw_token.specs.Bytes.{is_in, simple_escape}
+use Rattle.pw_token.specs.declared.bytes.Class.TheVariants as class
 use Rattle.pw_literal.specs.Integers.{digit_value}
 
-abbrev pub is_octal_digit : ℕ → Bool
-is_octal_digit c = nat_le 48 c && nat_le c 55
-
-abbrev pub is_hexadecimal_digit : ℕ → Bool
-is_hexadecimal_digit c =
-    (nat_le 48 c && nat_le c 57) || (nat_le 65 c && nat_le c 70) || (nat_le 97 c && nat_le c 102)
-
--- the escapes of one letter: \a \b \f \n \r \t \v; a quote, `?` and a backslash stand for themselves
-abbrev pub simple_escape : ℕ → ℕ
-simple_escape c =
-    if c == 97 then 7 else
-    if c == 98 then 8 else
-    if c == 102 then 12 else
-    if c == 110 then 10 else
-    if c == 114 then 13 else
-    if c == 116 then 9 else
-    if c == 118 then 11 else
-    c
+-- what a byte stands for behind a backslash, where no number begins
+abbrev pub escaped : ℕ → ℕ
+escaped c = unwrap_or (simple_escape c) c
 
 -- what of an escape was read: its backslash; an octal one's value and how many digits it has; a hexadecimal one's value
 pub data Escape : Type 0 where
@@ -39,26 +27,26 @@ begun_by c = if c == 92 then Backslash else NoEscape
 
 -- an octal escape has three digits at most
 abbrev pub goes_on : ℕ → ℕ → Bool
-goes_on digits c = nat_lt digits 3 && is_octal_digit c
+goes_on digits c = nat_lt digits 3 && is_in class.OctalDigit c
 
 -- the characters that are known with a byte more
 abbrev pub known_with : Escape → ℕ → List ℕ
 known_with NoEscape c = plainly c
-known_with Backslash c = if is_octal_digit c || c == 120 then [] else simple_escape c ∷ []
+known_with Backslash c = if is_in class.OctalDigit c || c == 120 then [] else escaped c ∷ []
 known_with (Octal value digits) c = if goes_on digits c then [] else value ∷ plainly c
-known_with (Hexadecimal value) c = if is_hexadecimal_digit c then [] else value ∷ plainly c
+known_with (Hexadecimal value) c = if is_in class.HexDigit c then [] else value ∷ plainly c
 
 -- the escape that is then read: it goes on as long as it can
 abbrev pub escape_after : Escape → ℕ → Escape
 escape_after NoEscape c = begun_by c
 escape_after Backslash c =
-    if is_octal_digit c then Octal (digit_value c) 1 else
+    if is_in class.OctalDigit c then Octal (digit_value c) 1 else
     if c == 120 then Hexadecimal 0 else
     NoEscape
 escape_after (Octal value digits) c =
     if goes_on digits c then Octal (value * 8 + digit_value c) (digits + 1) else begun_by c
 escape_after (Hexadecimal value) c =
-    if is_hexadecimal_digit c then Hexadecimal (value * 16 + digit_value c) else begun_by c
+    if is_in class.HexDigit c then Hexadecimal (value * 16 + digit_value c) else begun_by c
 
 -- the character of an escape that the text ends in
 abbrev pub known_at_end : Escape → List ℕ

@@ -6,6 +6,7 @@ ghost use Rattle.pw_literal.specs.Integers as digits;
 ghost use Rattle.pw_literal.specs.Narrow.{narrow, narrowed, view_escape};
 
 use crate::integers::digit_value;
+use pw_token::{Class, is_in, simple_escape};
 use std::alloc::{AllocError as NoMemory, Global};
 
 /// The least value that no character has.
@@ -21,32 +22,11 @@ enum Escape {
     Hexadecimal(u16),
 }
 
-fn is_octal_digit(c: u8) -> bool
-    ensures { result ≡ spec.is_octal_digit c }
+/// The character that a byte behind a backslash stands for, where no number begins.
+fn escaped(c: u8) -> u8
+    ensures { result ≡ spec.escaped c }
 {
-    48 <= c && c <= 55
-}
-
-fn is_hexadecimal_digit(c: u8) -> bool
-    ensures { result ≡ spec.is_hexadecimal_digit c }
-{
-    (48 <= c && c <= 57) || (65 <= c && c <= 70) || (97 <= c && c <= 102)
-}
-
-/// The character that a letter behind a backslash stands for.
-fn simple_escape(c: u8) -> u8
-    ensures { result ≡ spec.simple_escape c }
-{
-    match c {
-        b'a' => 7,
-        b'b' => 8,
-        b'f' => 12,
-        b'n' => 10,
-        b'r' => 13,
-        b't' => 9,
-        b'v' => 11,
-        c => c,
-    }
+    simple_escape(c).unwrap_or(c)
 }
 
 /// A value with a digit more.
@@ -85,13 +65,13 @@ fn push_escaped(c: u8, out: &mut Vec<u16>) -> Result<Escape, NoMemory>
     ensures pushed { OnOk result (out.new.items ≡ out.old.items ++ map narrow (spec.known_with spec.Backslash c)) }
     ensures escape { IfOk result (λ e. view_escape e ≡ narrowed (spec.escape_after spec.Backslash c)) }
 {
-    if is_octal_digit(c) {
+    if is_in(Class::OctalDigit, c) {
         return Ok(Escape::Octal(digit_value(c) as u16, 1));
     }
     if c == b'x' {
         return Ok(Escape::Hexadecimal(0));
     }
-    out.push(simple_escape(c) as u16)?;
+    out.push(escaped(c) as u16)?;
     Ok(Escape::None)
 }
 
@@ -103,10 +83,10 @@ fn push_byte(escape: Escape, c: u8, out: &mut Vec<u16>) -> Result<Escape, NoMemo
     match escape {
         Escape::None => push_plainly(c, out),
         Escape::Backslash => push_escaped(c, out),
-        Escape::Octal(value, digits) if digits < 3 && is_octal_digit(c) => {
+        Escape::Octal(value, digits) if digits < 3 && is_in(Class::OctalDigit, c) => {
             Ok(Escape::Octal(with_digit(value, 8, c), digits + 1))
         }
-        Escape::Hexadecimal(value) if is_hexadecimal_digit(c) => {
+        Escape::Hexadecimal(value) if is_in(Class::HexDigit, c) => {
             Ok(Escape::Hexadecimal(with_digit(value, 16, c)))
         }
         Escape::Octal(value, _) | Escape::Hexadecimal(value) => push_behind(value, c, out),

@@ -16,6 +16,7 @@ mod place;
 mod roles;
 mod token;
 
+pub use bytes::{Class, is_in, simple_escape};
 pub use features::unsupported;
 pub use laws::{limits_of_a_text, one_cutting, piece_at_is_exact, tokens_stand_in_order};
 pub use lexer::{MAX_TEXT, MAX_TOKENS, lex};

@@ -5,11 +5,13 @@ use Rattle.std.proofs.Common.{arith, ap, sym, subst, ◌∙◌}
 use Rattle.std.proofs.lemmas.List.{length-append}
 use Rattle.std.proofs.lemmas.List.Concat.{flat_map-cons}
 use Rattle.pw_value.specs.Limits.{size_limit}
-use Rattle.pw_literal.specs.Characters.{Escape, NoEscape, Backslash, Octal, Hexadecimal, is_octal_digit, is_hexadecimal_digit, simple_escape, plainly, begun_by, goes_on, known_with, escape_after, known_at_end, characters_from, begins_splice, spliced, between_quotes, characters_of, characters_of_strings, string_bytes_of}
+use Rattle.pw_literal.specs.Characters.{Escape, NoEscape, Backslash, Octal, Hexadecimal, escaped, plainly, begun_by, goes_on, known_with, escape_after, known_at_end, characters_from, begins_splice, spliced, between_quotes, characters_of, characters_of_strings, string_bytes_of}
 use Rattle.pw_literal.specs.Integers.{digit_value}
+use Rattle.pw_token.specs.Bytes.{is_in}
 use Rattle.pw_token.specs.Limits.{text_limit}
 use Rattle.pw_token.specs.Roles.{spelling}
 use Rattle.pw_token.specs.Tokenization.{Piece, Cuts, line_start_after, token_in, tokens_of, IsLexed}
+use Rattle.pw_token.specs.declared.bytes.Class.TheVariants.{OctalDigit, HexDigit}
 use Rattle.pw_token.specs.declared.piece.PieceKind.{PieceKind}
 use Rattle.pw_token.specs.declared.piece.PieceKind.TheVariants as piece
 use Rattle.pw_token.specs.declared.token.Token.{Token}
@@ -40,9 +42,9 @@ plain_step c = by (c == 92)
 
 escape_step : (e : Escape) (c : ℕ) → length (known_with e c) + waiting (escape_after e c) ≤ 1 + waiting e
 escape_step NoEscape c = plain_step c
-escape_step Backslash c = by (is_octal_digit c) (c == 120)
+escape_step Backslash c = by (is_in OctalDigit c) (c == 120)
   where
-    by : (a b : Bool) → length (if a || b then [] else simple_escape c ∷ []) + waiting (if a then Octal (digit_value c) 1 else (if b then Hexadecimal 0 else NoEscape)) ≤ 1 + 0
+    by : (a b : Bool) → length (if a || b then [] else escaped c ∷ []) + waiting (if a then Octal (digit_value c) 1 else (if b then Hexadecimal 0 else NoEscape)) ≤ 1 + 0
     by true b = omega arith
     by false true = omega arith
     by false false = omega arith
@@ -51,7 +53,7 @@ escape_step (Octal value digits) c = by (goes_on digits c) (plain_step c)
     by : (b : Bool) → length (plainly c) + waiting (begun_by c) ≤ 1 + 0 → length (if b then [] else value ∷ plainly c) + waiting (if b then Octal (value * 8 + digit_value c) (digits + 1) else begun_by c) ≤ 1 + 1
     by true h = omega arith
     by false h = omega (arith, h)
-escape_step (Hexadecimal value) c = by (is_hexadecimal_digit c) (plain_step c)
+escape_step (Hexadecimal value) c = by (is_in HexDigit c) (plain_step c)
   where
     by : (b : Bool) → length (plainly c) + waiting (begun_by c) ≤ 1 + 0 → length (if b then [] else value ∷ plainly c) + waiting (if b then Hexadecimal (value * 16 + digit_value c) else begun_by c) ≤ 1 + 1
     by true h = omega arith
