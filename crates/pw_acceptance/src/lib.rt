@@ -1,4 +1,4 @@
-//! What checking and linking accept is accepted in the words of C's meaning: laws, as the contracts of functions that do nothing.
+//! Laws of accepted programs, without code: what checking and linking accept is accepted in the words of C's meaning.
 #![tactic(auto)]
 
 ghost use Rattle.std.specs.Prelude.{ℕ, ◌≡◌, ◌≤◌, List, Some, map, Contains};

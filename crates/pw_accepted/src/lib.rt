@@ -1,4 +1,4 @@
-//! What the meaning of C accepts, the rules of linking accept.
+//! A law of accepted programs, without code: what the meaning of C accepts, the rules of linking accept.
 #![tactic(auto)]
 
 ghost use Rattle.std.specs.Prelude.{ℕ, List, map};

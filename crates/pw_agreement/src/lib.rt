@@ -1,2 +1,2 @@
-//! Agreement of a source run with the machine's run.
+//! The agreement of a source run with the machine's run, and that run as stages, in definitions.
 #![tactic(auto)]

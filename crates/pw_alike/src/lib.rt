@@ -1,4 +1,4 @@
-//! Modules show the same to linking by their flow graphs, their summaries and their objects.
+//! Laws of linking, without code: modules show the same to it by their flow graphs, their summaries and their objects.
 #![tactic(auto)]
 
 mod laws;

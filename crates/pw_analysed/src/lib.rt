@@ -1,4 +1,5 @@
-//! The laws of the analyser, and what they give the layers between C and words.
+//! Laws of the analyser's database, without code: it is lawful and sound, and what it gives the layers between C and
+//! words.
 #![tactic(auto)]
 
 ghost use Rattle.pw_analyses.specs.Laws.{DatabaseIsLawful, DatabaseIsSound, ColouredIsCovered};

@@ -1,4 +1,4 @@
-//! What the laws of the analyser give for the layers between C and words.
+//! Laws of the analyser, without code: what they give for the layers between C and words.
 #![tactic(auto)]
 
 ghost use Rattle.pw_analyses.specs.Laws.{AnalysesCompose, AllLawsCompose};

@@ -1,4 +1,4 @@
-//! The rules of statements (C90 6.6), for whatever checks the phrases within them.
+//! The checker's rules of statements (C90 6.6) by their forms, which take the checkers of the phrases within.
 #![tactic(auto)]
 
 mod stmt;

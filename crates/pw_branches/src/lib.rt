@@ -1,4 +1,4 @@
-//! The rules of statements that choose (C90 6.6.4), for whatever checks the phrases within them.
+//! The checker's rules of `if` and `switch` (C90 6.6.4), which take the checkers of the phrases within.
 #![tactic(auto)]
 
 mod branches;

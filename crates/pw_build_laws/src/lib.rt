@@ -1,4 +1,4 @@
-//! What stands in the files of a store behind a build.
+//! Laws of builds, without code: what stands in the files of a store behind a build.
 #![tactic(auto)]
 
 mod laws;

@@ -1,4 +1,5 @@
-//! The build over the files of a store: from the modules and what is kept of them to the files that are put, and a report.
+//! The build over the files of a store: from the modules and what is kept of them to the files that are put, and a
+//! report.
 #![tactic(auto)]
 
 mod building;

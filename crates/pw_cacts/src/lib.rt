@@ -1,5 +1,5 @@
-//! The single acts of a run on its state: operators and accesses at a node, places of names, room on the stack, and
-//! calls.
+//! The interpreter's single acts on the state of a run: operators and accesses at a node, places of names, room on the
+//! stack, and calls.
 #![tactic(auto)]
 
 pub mod calls;

@@ -1,4 +1,4 @@
-//! Blocks of C statements, arms of an `if`, and gotos that go back.
+//! The interpreter's blocks of statements, arms of an `if`, and gotos that go back.
 #![tactic(auto)]
 
 mod arms;

@@ -1,5 +1,5 @@
-//! Calls of functions that a program defines: their frames on the stack, their parameters, and their bodies, over what
-//! runs statements.
+//! The interpreter's calls of functions that a program defines: their frames on the stack, their parameters, and their
+//! bodies, over what runs statements.
 #![tactic(auto)]
 
 mod bodies;

@@ -1,5 +1,5 @@
-//! Calls of a C program as the interpreter makes them: how a run ends, what does not change in it, where an expression
-//! or a statement stands, and the calls within a bound, which the interpreter of expressions and statements takes.
+//! The interpreter's calls: how a run ends, what does not change in it, where an expression or a statement stands, and
+//! the traits by which the rules of expressions and statements take calls and smaller phrases.
 #![tactic(auto)]
 
 pub mod calls;

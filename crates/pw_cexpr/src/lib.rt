@@ -1,5 +1,5 @@
-//! Expressions of C as the interpreter evaluates them, by their forms; what evaluates the smaller expressions within
-//! one, and calls, are taken.
+//! The interpreter's expressions by their forms; what evaluates the smaller expressions within one, and calls, are
+//! taken.
 #![tactic(auto)]
 
 mod answers;

@@ -1,5 +1,5 @@
-//! Expressions of C whose operands are values, as the interpreter evaluates them: names, operators and calls, one
-//! function for each form, which takes what evaluates the smaller expressions within it, and calls.
+//! The interpreter's expressions whose operands are values: names, operators and calls, one function for each form,
+//! which takes what evaluates the smaller expressions within it, and calls.
 #![tactic(auto)]
 
 pub mod calls;

@@ -1,4 +1,4 @@
-//! Checks a module (C90 6.1 to 6.7): its typed tree, or its first fault.
+//! The checker of a module (C90 6.1 to 6.7): its typed tree, or its first fault.
 #![tactic(auto)]
 
 mod modules;

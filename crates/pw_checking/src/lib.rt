@@ -1,4 +1,5 @@
-//! What all parts of the checker share.
+//! The checker's state and what all its rules share: operands, what is known while a module is checked, and the form in
+//! which code follows a rule.
 #![tactic(auto)]
 
 mod bodies;

@@ -1,5 +1,6 @@
-//! Answers tables of C texts. A line that is empty or begins with `#` is a heading and is printed as it is; `## verdicts`
-//! and `## graphs` begin the tables. Before each answer stands the number of its line in its table.
+//! A test of checking and lowering: a program that answers tables of C texts. A line that is empty or begins with `#`
+//! is a heading and is printed as it is; `## verdicts` and `## graphs` begin the tables. Before each answer stands the
+//! number of its line in its table.
 //!
 //! - Verdicts: a text stands behind the first character, which says what gcc answers for it (`+` that it takes it, `-`
 //!   that it refuses it). What checking answers is printed.

@@ -1,4 +1,4 @@
-//! The knot of the interpreter of C: expressions, statements and calls, each done with what does the smaller ones.
+//! The knot of the interpreter: expressions, statements and calls, each done with what does the smaller ones.
 #![tactic(auto)]
 
 mod knot;

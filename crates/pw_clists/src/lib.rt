@@ -1,5 +1,5 @@
-//! What the meaning of C statements stands on as code: where a statement is met and what comes of it, labels, lists of
-//! statements, the objects of a block's locals, and the trait by which larger statements take smaller ones.
+//! The interpreter's lists of statements: where a statement is met and what comes of it, labels, the objects of a
+//! block's locals, and the trait by which larger statements take smaller ones.
 #![tactic(auto)]
 
 mod bound;

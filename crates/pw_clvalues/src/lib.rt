@@ -1,5 +1,5 @@
-//! Lvalues of C and assignments, as the interpreter evaluates them: one function for each form, which takes what
-//! evaluates the smaller expressions within it.
+//! The interpreter's lvalues and assignments: one function for each form, which takes what evaluates the smaller
+//! expressions within it.
 #![tactic(auto)]
 
 pub mod assignments;

@@ -1,4 +1,4 @@
-//! What the names of a program denote: functions, pointers to them and to objects of static lifetime.
+//! The interpreter's names by tables: functions, pointers to them and to objects of static lifetime.
 #![tactic(auto)]
 
 pub mod lists;

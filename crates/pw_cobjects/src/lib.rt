@@ -1,4 +1,4 @@
-//! The objects of a run: bytes, whether an object lives, and whether it may be written.
+//! The interpreter's objects: bytes, whether an object lives, and whether it may be written.
 #![tactic(auto)]
 
 pub mod bytes;

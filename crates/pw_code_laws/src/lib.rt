@@ -1,4 +1,4 @@
-//! Laws of the code that functions are made into, each the contract of a function that does nothing.
+//! Laws of selection, placement and the linker's addresses, without code.
 #![tactic(auto)]
 
 pub mod laws;

@@ -1,4 +1,4 @@
-//! What a build is refused for, and that it is done where nothing of this is so.
+//! Laws of builds, without code: what a build is refused for, and that it is done where nothing of this is so.
 #![tactic(auto)]
 
 mod laws;

@@ -1,4 +1,4 @@
-//! Constant expressions of C (ISO C90 6.4), told from typed trees.
+//! The checker's constant expressions, null pointer constants and address constants (C90 6.4), told from typed trees.
 #![tactic(auto)]
 
 pub mod constancy;

@@ -1,5 +1,5 @@
-//! The operators, conversions and accesses of C on the values and objects of a run, each with the operations
-//! that it is where it has no meaning.
+//! The interpreter's operators, conversions and accesses on the values and objects of a run, each with the undefined
+//! operations that it may be.
 #![tactic(auto)]
 
 pub mod access;

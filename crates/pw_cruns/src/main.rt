@@ -1,4 +1,5 @@
-//! Reads C programs, one a line or a line for each module, and prints for each its line's number and how its run ends.
+//! A test of the meaning of C: a program that reads C programs, one a line or a line for each module, and prints for
+//! each its line's number and how its run ends.
 //!
 //! A line that is empty or begins with `#` is a heading and is printed as it is. Other lines are:
 //!

@@ -1,4 +1,4 @@
-//! The objects of static lifetime at the start of a run.
+//! The interpreter's start: the objects of static lifetime at the start of a run.
 #![tactic(auto)]
 
 pub mod items;

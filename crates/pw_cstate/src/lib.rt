@@ -1,4 +1,4 @@
-//! What changes in a run of a C program, and what its steps come to as far as it shows.
+//! The interpreter's state: what changes in a run of a C program, and what its steps come to as far as it shows.
 #![tactic(auto)]
 
 pub mod laws;

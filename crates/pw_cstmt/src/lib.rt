@@ -1,4 +1,4 @@
-//! The meaning of C statements as code: loops, switches and the forms of statements, over what smaller statements and
+//! The interpreter's statements by their forms: loops, switches and the rest, over what smaller statements and
 //! expressions do.
 #![tactic(auto)]
 

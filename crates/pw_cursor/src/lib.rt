@@ -1,4 +1,5 @@
-//! A cursor over the tokens of a module, with the names in scope, and what single tokens begin.
+//! The parser's cursor: the tokens of a module that are not read yet, with the names in scope, and what single tokens
+//! begin.
 #![tactic(auto)]
 
 mod stop;

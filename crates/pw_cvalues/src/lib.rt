@@ -1,4 +1,5 @@
-//! Values and conditions of C statements, and values put into locals: by initialisers, and as parameters.
+//! The interpreter's values and conditions of statements, and values put into locals: by initialisers, and as
+//! parameters.
 #![tactic(auto)]
 
 mod initialisers;

@@ -1,4 +1,4 @@
-//! A program as the interpreter runs it: its functions, the names of its objects, its objects at the start.
+//! The interpreter's program, which no step changes: its functions, the names of its objects, its objects at the start.
 #![tactic(auto)]
 
 pub mod globals;

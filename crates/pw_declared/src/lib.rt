@@ -1,4 +1,4 @@
-//! The rules of declarations (C90 6.5, 6.7).
+//! The checker's rules of declarations (C90 6.5, 6.7).
 #![tactic(auto)]
 
 mod bare;

@@ -1,4 +1,4 @@
-//! What a declaration makes of an object that it declares, with its initialiser (C90 6.5.7, 6.7.2).
+//! The checker's rules of declared objects, each with its initialiser (C90 6.5.7, 6.7.2).
 #![tactic(auto)]
 
 pub mod globals;

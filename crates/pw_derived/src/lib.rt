@@ -1,4 +1,5 @@
-//! Declarators and lists of parameters (C90 6.5.4, 6.5.5).
+//! The checker's rules of declarators and lists of parameters (C90 6.5.4, 6.5.5), which take the checkers of the
+//! phrases within.
 #![tactic(auto)]
 
 mod declarators;

@@ -1,4 +1,4 @@
-//! What names in typed trees denote: laws, as the contracts of functions that do nothing.
+//! Laws of the static semantics, without code: what names in typed trees denote.
 #![tactic(auto)]
 
 ghost use Rattle.std.specs.Prelude.{All, Ok, false};

@@ -1,4 +1,4 @@
-//! Laws of the run of a program under directives, of that run alone.
+//! Laws of the run of a program under directives, of that run alone, without code.
 #![tactic(auto)]
 
 ghost use Rattle.pw_directed.specs.Laws.{CallsAreOfTheGraph, DirectionRestsOnRuns, RegistersAreKept, TrafficIsObeyed, ValuesAreFine};

@@ -1,4 +1,4 @@
-//! The directed run beside the run of flow graphs, as the contracts of functions that do nothing.
+//! Laws of direction, without code: the run under directives beside the run of flow graphs.
 #![tactic(auto)]
 
 ghost use Rattle.pw_direction_keeps.specs.Laws.{OperationsFollow, BlocksFollow, ReadsFollow, WritesFollow, LoadsFollow, StoresFollow, LibraryFollows};

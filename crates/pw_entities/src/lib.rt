@@ -1,4 +1,4 @@
-//! What names stand for, and the names with linkage with the places at which they stand.
+//! The checker's tables of names: what names stand for, and the names with linkage with their places.
 #![tactic(auto)]
 
 pub mod entity;

@@ -1,4 +1,5 @@
-//! The checker's code of expressions (ISO/IEC 9899:1990, 6.3, 6.4, 6.5.5).
+//! The checker's rules of expressions by their forms (C90 6.3, 6.4, 6.5.5), which take the checkers of the phrases
+//! within.
 #![tactic(auto)]
 
 mod chains;

@@ -1,5 +1,5 @@
-//! The files of the program of a store's modules: the modules are read, and what the store keeps of them, and their
-//! program is made.
+//! The build's files: the modules of a store and what it keeps of them are read, and the files of their program are
+//! made.
 #![tactic(auto)]
 
 mod program;

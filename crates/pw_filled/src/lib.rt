@@ -1,4 +1,5 @@
-//! What initialisers give (C90 6.5.7): the bytes of single values and strings, and the expressions that they are made of.
+//! The checker's items of initialisers (C90 6.5.7): the bytes of single values and strings, and the expressions that
+//! they are made of.
 #![tactic(auto)]
 
 mod filled;

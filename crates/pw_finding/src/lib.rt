@@ -1,4 +1,4 @@
-//! The least fault of a point, as the checker's code finds it.
+//! The checker's search for the fault of least rank among the constraints of a point.
 #![tactic(auto)]
 
 mod finding;

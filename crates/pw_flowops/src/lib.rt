@@ -1,4 +1,5 @@
-//! The operations of a flow graph and the ends of its blocks as bytes: what their bytes are, and how they are read.
+//! The operations of a flow graph and the ends of its blocks as bytes of a file: what their bytes are, and how they are
+//! read.
 #![tactic(auto)]
 
 mod choices;

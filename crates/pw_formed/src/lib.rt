@@ -1,4 +1,4 @@
-//! What checking makes of functions beyond what is well typed: laws, as the contracts of functions that do nothing.
+//! Laws of the static semantics, without code: what checking makes of functions beyond what is well typed.
 #![tactic(auto)]
 
 ghost use Rattle.std.specs.Prelude.{All, Ok};

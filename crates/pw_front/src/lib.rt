@@ -1,5 +1,5 @@
-//! The front of the compiler: from the text of a module to its syntax tree, or to the fault of the first of its tests
-//! (lexing, tokens that are left out, depth, syntax) and the line on which that stands.
+//! The parsing half of the front end: from the text of a module to its syntax tree, or to the fault of the first of its
+//! tests (lexing, tokens that are left out, depth, syntax) and the line on which that stands.
 #![tactic(auto)]
 
 mod laws;

@@ -1,4 +1,4 @@
-//! Function definitions (C90 6.7.1), and the knot of the statements within them.
+//! The checker's rules of function definitions (C90 6.7.1), and the knot of the statements within them.
 #![tactic(auto)]
 
 mod functions;

@@ -1,4 +1,5 @@
-//! The grammar of C90 (ISO/IEC 9899:1990, 6.3 to 6.7) read from front to back: a parser as a function on lists of tokens.
+//! The grammar of C90 (ISO/IEC 9899:1990, 6.3 to 6.7) in definitions, without code: a parser as a function on lists of
+//! tokens.
 #![tactic(auto)]
 
 mod place;

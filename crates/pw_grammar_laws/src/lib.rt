@@ -1,5 +1,5 @@
-//! Laws of the grammar of C90 as it is read from front to back: what is written is read; what is read is written; tokens
-//! have one tree; where reading stops, they leave the grammar.
+//! Laws of the grammar of C90, without code: what is written is read, what is read is written, tokens have one tree,
+//! and reading stops where the tokens leave the grammar.
 #![tactic(auto)]
 
 mod laws;

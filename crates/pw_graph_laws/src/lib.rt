@@ -1,4 +1,4 @@
-//! The summaries of an accepted program give the call graph of its flow modules.
+//! A law of the analyser, without code: the summaries of an accepted program give the call graph of its flow modules.
 #![tactic(auto)]
 
 ghost use Rattle.pw_graph_laws.specs.Laws.{SummariesSayTheSame};

@@ -1,4 +1,5 @@
-//! Function definitions but for their statements (C90 6.7.1): what stands before the body, the locals, and the limits.
+//! The checker's rules of function definitions but for their statements (C90 6.7.1): what stands before the body, the
+//! locals, and the limits.
 #![tactic(auto)]
 
 mod heads;

@@ -1,4 +1,4 @@
-//! A law of image files, as a public function that does nothing and whose contract is the law.
+//! A law of image files, without code: on which bytes a fault of an image's file rests.
 #![tactic(auto)]
 
 pub mod laws;

@@ -1,5 +1,5 @@
-//! Lists with tables beside them: names by their places, the cases of a switch by their values, and the names in
-//! scope.
+//! The checker's tables: names by their places, the cases of a switch by their values, and the names in scope, so that
+//! each is found without a pass over a list.
 #![tactic(auto)]
 
 pub mod cases;

@@ -1,4 +1,4 @@
-//! The rules of initialisers (C90 6.5.7).
+//! The checker's rules of initialisers (C90 6.5.7).
 #![tactic(auto)]
 
 pub mod lists;

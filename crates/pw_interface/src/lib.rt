@@ -1,4 +1,4 @@
-//! Interfaces of object files: what a module as words shows to the others of its program.
+//! The interface of an object file: what a module as words shows to the others of its program.
 #![tactic(auto)]
 
 mod mains;

@@ -1,4 +1,5 @@
-//! The rules of jumps (C90 6.6.6) and of the values that statements take, for whatever checks the phrases within them.
+//! The checker's rules of jumps (C90 6.6.6) and of the values that statements take, which take the checkers of the
+//! phrases within.
 #![tactic(auto)]
 
 mod jumps;

@@ -1,5 +1,5 @@
-//! That lowering keeps the meaning of programs: the statements, and what joins them to the laws of the layers,
-//! as the contracts of functions that do nothing.
+//! The law that lowering keeps the meaning of programs, without code: the relation of states, what the code of each
+//! part promises, and what joins both to the laws of the layers.
 #![tactic(auto)]
 
 ghost use Rattle.pw_flow.specs.declared.flow.FlowFn.{FlowFn};

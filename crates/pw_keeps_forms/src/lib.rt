@@ -1,5 +1,5 @@
-//! Laws on the way to the refinement of C by flow graphs: expressions that read and write memory, compare and
-//! branch, as the contracts of functions that do nothing.
+//! Laws of lowering's refinement, without code: the promises of expressions that read and write memory, compare and
+//! branch.
 #![tactic(auto)]
 
 ghost use Rattle.std.specs.Prelude.{◌≡◌, ℕ};

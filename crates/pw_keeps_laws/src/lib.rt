@@ -1,4 +1,5 @@
-//! Laws on the way to the refinement of C by flow graphs, as the contracts of functions that do nothing.
+//! Laws of lowering's refinement, without code: steps of both runs, and that the promises of all parts give the law of
+//! whole programs.
 #![tactic(auto)]
 
 ghost use Rattle.std.specs.Prelude.{◌≡◌, ◌≢◌, ◌+◌, ◌^◌, ◌<◌, ◌≤◌, ◌==◌, ◌&&◌, not, ℕ, Bool, false, Some, Ok, []};

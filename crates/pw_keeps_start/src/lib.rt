@@ -1,4 +1,4 @@
-//! Both runs of a program start in states that match, as the contracts of functions that do nothing.
+//! Laws of lowering's refinement, without code: both runs of a program start in states that match.
 #![tactic(auto)]
 
 ghost use Rattle.std.specs.Prelude.{◌≡◌, ◌<◌, ◌≤◌, ℕ, List, [], Some, All, length};

@@ -1,5 +1,5 @@
-//! What a store keeps of builds: reads the objects that are kept of modules, makes the files of a program, compares them
-//! with those that are kept, and puts what changed.
+//! The store's kept objects: code that reads the objects that are kept of modules, makes the files of a program,
+//! compares them with those that are kept, and puts what changed.
 #![tactic(auto)]
 
 mod files;

@@ -1,4 +1,5 @@
-//! What types are, and what two types have in common.
+//! The checker's tests of types: what a type is, its copies and qualifiers, compatible and composite types (C90
+//! 6.1.2.6, 6.5.3).
 #![tactic(auto)]
 
 pub mod compatibility;

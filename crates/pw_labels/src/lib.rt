@@ -1,4 +1,5 @@
-//! Labels (C90 6.6.1), and what the rules of statements take of the phrases within a statement.
+//! The checker's rules of labels (C90 6.6.1), and the trait by which the rules of statements take the checkers of the
+//! phrases within.
 #![tactic(auto)]
 
 mod labels;

@@ -1,4 +1,4 @@
-//! Whether a flow graph is lawful.
+//! The test whether a flow graph is lawful.
 #![tactic(auto)]
 
 mod distinct;

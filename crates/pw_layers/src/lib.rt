@@ -1,4 +1,4 @@
-//! What the laws of all layers give together.
+//! The main law from C to words, without code: the laws of all layers give the agreement of source and machine.
 #![tactic(auto)]
 
 ghost use Rattle.pw_layers.specs.Rooms.{PlacesFit, MapHasFrames};

@@ -1,4 +1,4 @@
-//! What single names, constants, strings, enumerations and parameters say, where no phrase within them is read any more.
+//! The checker's rules that hold no other phrase: names, constants, strings, enumerations, type names and parameters.
 #![tactic(auto)]
 
 pub mod constants;

@@ -1,5 +1,5 @@
-//! Lowering of each form of expression behind the operands that are evaluated before: what the operators,
-//! lvalues, assignments and calls make of values that stand in temporaries.
+//! Lowering of each form of expression behind the operands that are evaluated before: what the operators, lvalues,
+//! assignments and calls make of values that stand in temporaries.
 #![tactic(auto)]
 
 pub mod alone;

@@ -1,4 +1,5 @@
-//! What declarators make of a type, and the limits on types and names that are declared (C90 5.2.4.1, 6.5.4).
+//! The checker's types of declarators: what declarators make of a type, and the limits on types and names that are
+//! declared (C90 5.2.4.1, 6.5.4).
 #![tactic(auto)]
 
 pub mod completeness;

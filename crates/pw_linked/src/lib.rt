@@ -1,4 +1,4 @@
-//! Names with linkage: what a declaration makes of its name, and what else the name may be.
+//! The checker's names with linkage (C90 6.1.2.2): what a declaration makes of its name, and what else the name may be.
 #![tactic(auto)]
 
 pub mod declare;

@@ -1,4 +1,4 @@
-//! The machine's run of a linked program, with what it notes.
+//! The machine's run of a linked program in definitions, with what it notes.
 #![tactic(auto)]
 
 ghost use Rattle.std.specs.Prelude.{ℕ, ◌≡◌};

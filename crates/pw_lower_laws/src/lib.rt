@@ -1,4 +1,5 @@
-//! Laws of lowering: what its result keeps, as the contracts of functions that do nothing.
+//! Laws of lowering, without code: later code keeps earlier code, frames are within their rooms, and flow graphs name
+//! only what there is.
 #![tactic(auto)]
 
 ghost use Rattle.std.specs.Prelude.{◌≡◌, ◌≤◌, ℕ, List};

@@ -1,4 +1,4 @@
-//! The law of lowered modules, as the contract of a function that does nothing.
+//! A law of lowering, without code: the flow graph of a well-typed module within the limits of checking is lawful.
 #![tactic(auto)]
 
 ghost use Rattle.std.specs.Prelude.{ℕ, List};

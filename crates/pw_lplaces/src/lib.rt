@@ -1,5 +1,5 @@
-//! Where the parameters and locals of a function stand: in temporaries, or in slots where their address is
-//! taken or their type or its qualifiers want it.
+//! Lowering's places of parameters and locals: in temporaries, or in slots where their address is taken or their type
+//! or its qualifiers want it.
 #![tactic(auto)]
 
 pub mod addressed;

@@ -1,5 +1,5 @@
-//! Laws of the machine's states, runs and memory: what a run keeps, and what is read after a store. Each is
-//! the contract of a function that does nothing.
+//! Laws of the machine's states, runs and memory, without code: what a run keeps, and what is read after a store. Each
+//! is the contract of a function that does nothing.
 #![tactic(auto)]
 
 ghost use Rattle.std.specs.Prelude.{◌≡◌, ◌≢◌, ℕ, ◌+◌, ◌%◌, ◌^◌, ◌<◌, ◌≤◌, ◌⊎◌, List, length};

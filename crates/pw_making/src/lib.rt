@@ -1,5 +1,5 @@
-//! From the flow graphs of modules to their program: the database of the modules, the object of each, which may be one
-//! that was kept, and the linked image.
+//! The build's objects: from the flow graphs of modules to their program, the database of the modules, the object of
+//! each, which may be one that was kept, and the linked image.
 #![tactic(auto)]
 
 mod analysing;

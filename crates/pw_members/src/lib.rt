@@ -1,4 +1,5 @@
-//! Structures and unions: their tags, their members, and what their definitions come to (C90 6.5.2.1, 6.5.2.3).
+//! The checker's structures and unions: their tags, their members, and what their definitions come to (C90 6.5.2.1,
+//! 6.5.2.3).
 #![tactic(auto)]
 
 pub mod closing;

@@ -1,4 +1,4 @@
-//! The modules of a store: which files they are, their order, and their texts.
+//! The store's modules: which files they are, their order, and their texts.
 #![tactic(auto)]
 
 mod file_names;

@@ -1,4 +1,5 @@
-//! What a declaration declares, and what it asks of its name and its type (C90 6.5, 6.7.2).
+//! The checker's names of declarations: what a declaration declares, and what it asks of its name and its type (C90
+//! 6.5, 6.7.2).
 #![tactic(auto)]
 
 pub mod points;

@@ -1,5 +1,5 @@
-//! Answers tables of files. A line that is empty or begins with `#` is a heading and is printed as it is; `## codes` and
-//! `## images` begin the tables.
+//! A test of the second phase and the linker: a program that answers tables of files. A line that is empty or begins
+//! with `#` is a heading and is printed as it is; `## codes` and `## images` begin the tables.
 //!
 //! - Codes: a line has a flow file and the payload of directives in hexadecimal. For each function its name, its frame,
 //!   how many words it has, the words, and the relocations are printed.

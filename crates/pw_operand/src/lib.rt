@@ -1,4 +1,4 @@
-//! Judgements on operands, and the conversions of operands (C90 6.2, 6.3).
+//! The checker's judgements on operands, and the conversions of operands (C90 6.2, 6.3).
 #![tactic(auto)]
 
 pub mod assignments;

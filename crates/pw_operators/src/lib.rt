@@ -1,5 +1,5 @@
-//! The rules of unary, binary, conditional and assignment operators (C90 6.3.3 to 6.3.17): what each asks of its
-//! operands, and the node that it makes of them.
+//! The checker's rules of unary, binary, conditional and assignment operators (C90 6.3.3 to 6.3.17): what each asks of
+//! its operands, and the node that it makes of them.
 #![tactic(auto)]
 
 pub mod assigning;

@@ -1,4 +1,4 @@
-//! The lines of each operation of a directed graph.
+//! Selection's lines of each operation of a directed graph.
 #![tactic(auto)]
 
 mod operations;

@@ -1,4 +1,4 @@
-//! The operations of a flow graph and the ends of its blocks, written as bytes.
+//! The operations of a flow graph and the ends of its blocks, written as bytes of a file.
 #![tactic(auto)]
 
 mod ends;

@@ -1,4 +1,5 @@
-//! What the parts of C90's grammar that hold one another share: expressions, specifiers and declarators. The rules of
+//! What the parser's rules share: the trait by which the rules of expressions, specifiers and declarators, which hold
+//! one another, take the parsers of the smaller phrases within them, and the proofs of loops over lists. The rules of
 //! each take the parsers of smaller parts as one value, so that each is proved by itself.
 #![tactic(auto)]
 

@@ -1,4 +1,5 @@
-//! The parser of C90's expressions, specifiers and declarators (ISO/IEC 9899:1990, 6.3 to 6.5.6), which hold one another.
+//! The knot of the parser's expressions, specifiers and declarators (ISO/IEC 9899:1990, 6.3 to 6.5.6), which hold one
+//! another: code that calls itself, to a depth that the count of tokens bounds.
 #![tactic(auto)]
 
 mod knot;

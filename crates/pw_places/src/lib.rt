@@ -1,4 +1,4 @@
-//! The places of a list of initialisers: which part of an object each of them is for (C90 6.5.7).
+//! The checker's places of a list of initialisers: which part of an object each of them is for (C90 6.5.7).
 #![tactic(auto)]
 
 pub mod cursor;

@@ -1,4 +1,4 @@
-//! The rules of postfix operators (C90 6.3.2): subscripts, calls and members.
+//! The checker's rules of postfix operators (C90 6.3.2): subscripts, calls and members.
 #![tactic(auto)]
 
 pub mod calls;

@@ -1,4 +1,5 @@
-//! The checker's code of primary expressions, unary operators and casts (ISO/IEC 9899:1990, 6.3.1, 6.3.3, 6.3.4).
+//! The checker's rules of primary expressions, unary operators and casts (C90 6.3.1, 6.3.3, 6.3.4), which take the
+//! checkers of the phrases within.
 #![tactic(auto)]
 
 mod names;

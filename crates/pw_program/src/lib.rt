@@ -1,5 +1,5 @@
-//! When modules make a program: the rules of the language by which modules are linked, once for source
-//! modules, summaries and objects, each seen as an interface.
+//! The rules of C by which modules make a program, once for source modules, summaries and objects, each seen as an
+//! interface.
 #![tactic(auto)]
 
 mod checking;

@@ -1,4 +1,5 @@
-//! What checking promises of the typed tree that it gives.
+//! Laws of the checker's answer, the contracts of functions that no program calls: the typed tree that it gives is well
+//! typed, and its numbers are words of 32 bits.
 #![tactic(auto)]
 
 mod numbers;

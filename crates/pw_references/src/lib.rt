@@ -1,4 +1,4 @@
-//! What the operations of lowered code name: laws, as the contracts of functions that do nothing.
+//! Laws of lowering, without code: what the operations of lowered code name.
 #![tactic(auto)]
 
 ghost use Rattle.std.specs.Prelude.{ℕ, List, false};

@@ -1,4 +1,5 @@
-//! The globals that each function of a program refers to, itself and through others.
+//! The analyser's reference sets: the globals to which each function of a program refers, itself, through its callers
+//! and through its callees.
 #![tactic(auto)]
 
 mod flows;

@@ -1,5 +1,5 @@
-//! The lines that move words between the registers of the calling convention, places, the frame and globals,
-//! and arithmetic.
+//! Selection's lines that move words between the registers of the calling convention, places, the frame and globals,
+//! and lines of arithmetic.
 #![tactic(auto)]
 
 mod arithmetic;

@@ -1,5 +1,5 @@
-//! What a module is behind its external declarations (C90 6.7): its types, its objects and functions, and what it
-//! declares.
+//! The checker's result behind the last external declaration of a module (C90 6.7): its types, its objects and
+//! functions, and what it declares.
 #![tactic(auto)]
 
 mod results;

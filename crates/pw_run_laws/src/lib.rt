@@ -1,4 +1,4 @@
-//! What the commands that run a program leave of their input.
+//! Laws of the commands that run a program, without code: what they leave of their input.
 #![tactic(auto)]
 
 mod ends;

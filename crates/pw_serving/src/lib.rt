@@ -1,4 +1,4 @@
-//! Places of temporaries that serve: laws of allocation.
+//! A law of allocation, without code: the places that it gives to temporaries serve.
 #![tactic(auto)]
 
 ghost use Rattle.pw_webrun.specs.Laws.{AllocationServes};

@@ -1,4 +1,4 @@
-//! Laws of sessions and of `bench`.
+//! Laws of sessions and of `bench`, without code; the crate passes on what the top call names of builds and sessions.
 #![tactic(auto)]
 
 mod laws;

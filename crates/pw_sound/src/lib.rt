@@ -1,4 +1,4 @@
-//! Sound directives.
+//! Sound directives in definitions, with laws: which globals may stay in registers across calls.
 #![tactic(auto)]
 
 ghost use Rattle.std.specs.Prelude.{ℕ, List, []};

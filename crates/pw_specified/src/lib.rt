@@ -1,4 +1,5 @@
-//! Lists of specifiers: what they have, gathered one by one, and what they say.
+//! The checker's facts of lists of specifiers (C90 6.5.1 to 6.5.3): what they have, gathered one by one, and what they
+//! say.
 #![tactic(auto)]
 
 pub mod keywords;

@@ -1,4 +1,4 @@
-//! The spelling of syntax trees: the tokens that C90's grammar writes them with.
+//! The writer of syntax trees: code that spells a tree as the tokens that C90's grammar writes it with.
 #![tactic(auto)]
 
 mod decl;

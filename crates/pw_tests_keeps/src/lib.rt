@@ -1,2 +1,2 @@
-//! A small program, on which what lowering promises is computed.
+//! A test of lowering's promises: a small program, on which they are computed by their definitions.
 #![tactic(auto)]

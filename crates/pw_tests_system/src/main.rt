@@ -1,4 +1,5 @@
-//! The system's files and streams, tried in a folder of the program's own: what each call answers, line by line.
+//! A test of the system's files and streams, tried in a folder of the program's own: what each call answers, line by
+//! line.
 #![tactic(auto)]
 
 mod failing;

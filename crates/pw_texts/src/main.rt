@@ -1,4 +1,5 @@
-//! Reads texts of C, one a line, and prints for each its line's number and the shape of its tree, or why it has none.
+//! A test of the parser: a program that reads texts of C, one a line, and prints for each its line's number and the
+//! shape of its tree, or why it has none.
 //!
 //! A line that is empty or begins with `#` is a heading and is printed as it is. Behind a `?` at its beginning only
 //! the verdict on a text is printed. In a text `@` stands for a newline.

@@ -1,4 +1,4 @@
-//! What runs below the flow graphs note.
+//! What runs below the flow graphs note (calls, returns, the traffic of globals), in definitions with their laws.
 #![tactic(auto)]
 
 ghost use Rattle.std.specs.Prelude.{ℕ, List};

@@ -1,4 +1,4 @@
-//! Rules that go over a list, an item and then the rest: how a loop follows them.
+//! A law for the checker's loops: how a loop follows a rule that goes over a list, an item and then the rest.
 #![tactic(auto)]
 
 mod laws;

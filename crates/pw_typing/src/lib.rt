@@ -1,5 +1,5 @@
-//! The checker's code of C90's expressions, specifiers and declarators (ISO/IEC 9899:1990, 6.3 to 6.5.6), which hold
-//! one another.
+//! The knot of the checker's expressions, specifiers and declarators (C90 6.3 to 6.5.6), which hold one another: code
+//! that calls itself, to a depth.
 #![tactic(auto)]
 
 mod knot;

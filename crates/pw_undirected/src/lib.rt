@@ -1,4 +1,4 @@
-//! The law of direction where no global is in a register.
+//! A law of direction, without code: under no directives the run under directives keeps the run of flow graphs.
 #![tactic(auto)]
 
 ghost use Rattle.pw_undirected.specs.Laws.{EmptyDirectionKeeps};

@@ -1,5 +1,5 @@
-//! Why a module is refused, and how the order of its faults is said: a walk is a list of points, each
-//! with the constraints that are to be met there, and ends in what is made.
+//! The constraints of C90 by which the checker refuses a module, and walks: lists of points, each with the constraints
+//! that are to be met there, which say the order of a module's faults.
 #![tactic(auto)]
 
 mod fault;

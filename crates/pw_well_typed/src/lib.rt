@@ -1,4 +1,4 @@
-//! What checking promises of its result, said of typed trees alone: laws, as the contracts of functions that do nothing.
+//! Laws of the static semantics, without code: the typed tree of an accepted module is well typed.
 #![tactic(auto)]
 
 ghost use Rattle.std.specs.Prelude.{◌≢◌, false, All, AllPairs, List, Ok};

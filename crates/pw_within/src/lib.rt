@@ -1,4 +1,5 @@
-//! What checking keeps of a module beside its types: laws, as the contracts of functions that do nothing.
+//! Laws of the static semantics, without code: what checking keeps of a module beside its types, as limits, lawful
+//! names and offsets that are words.
 #![tactic(auto)]
 
 mod numbers;

@@ -1,4 +1,4 @@
-//! The words of a command line: which command they say.
+//! The words of a command line: which command they say, or that they say none.
 #![tactic(auto)]
 
 mod commands;
