@@ -6,25 +6,25 @@ use mathlib.Core.Logic.{inl, inr}
 use Rattle.pw_tree.specs.Trees.{Module}
 use Rattle.pw_tree.specs.Views.{view_external, view_externals}
 use Rattle.pw_tree.specs.declared.module.External.{External}
-use Rattle.pw_checking.specs.EntityViews.{view_linked}
-use Rattle.pw_entities.specs.declared.entity.LinkedName.{LinkedName}
-use Rattle.pw_finding.specs.Found.{found, told}
-use Rattle.pw_finding.proofs.FindingLaws.{stopped_by_found, end_err}
+use Rattle.pw_check_state.specs.EntityViews.{view_linked}
+use Rattle.pw_check_entities.specs.declared.entity.LinkedName.{LinkedName}
+use Rattle.pw_check_finding.specs.Found.{found, told}
+use Rattle.pw_check_finding.proofs.FindingLaws.{stopped_by_found, end_err}
 use Rattle.pw_types.specs.TypedTrees.{ModuleValue}
-use Rattle.pw_walk.specs.declared.fault.CheckFault.{CheckFault}
-use Rattle.pw_walk.specs.declared.fault.CheckKind.TheVariants.{NoMemory}
-use Rattle.pw_walk.specs.Calls.{Obeys}
-use Rattle.pw_walk.specs.Walks.{Walk, Done, bind, outcome, asks}
-use Rattle.pw_walk.proofs.BindLaws.{bind_made, bind_stopped}
-use Rattle.pw_walk.proofs.CallLaws.{bind_assoc}
-use Rattle.pw_walk.proofs.WalkLaws.{one_answer}
-use Rattle.pw_rules.specs.Checks.{Checks, checking}
-use Rattle.pw_rules.specs.Modules.{end_cause, end_rule, end_spot, external_rule, externals_rule, final_type, module_in, module_rule}
-use Rattle.pw_rules.specs.States as states
-use Rattle.pw_rules.specs.Limits.{completed}
-use Rattle.pw_rules.specs.States.{State, records_in, start}
+use Rattle.pw_check_walk.specs.declared.fault.CheckFault.{CheckFault}
+use Rattle.pw_check_walk.specs.declared.fault.CheckKind.TheVariants.{NoMemory}
+use Rattle.pw_check_walk.specs.Calls.{Obeys}
+use Rattle.pw_check_walk.specs.Walks.{Walk, Done, bind, outcome, asks}
+use Rattle.pw_check_walk.proofs.BindLaws.{bind_made, bind_stopped}
+use Rattle.pw_check_walk.proofs.CallLaws.{bind_assoc}
+use Rattle.pw_check_walk.proofs.WalkLaws.{one_answer}
+use Rattle.pw_check_rules.specs.Checks.{Checks, checking}
+use Rattle.pw_check_rules.specs.Modules.{end_cause, end_rule, end_spot, external_rule, externals_rule, final_type, module_in, module_rule}
+use Rattle.pw_check_rules.specs.States as states
+use Rattle.pw_check_rules.specs.Limits.{completed}
+use Rattle.pw_check_rules.specs.States.{State, records_in, start}
 use Rattle.pw_types.specs.TypeTrees.{type_of}
-use Rattle.pw_walk.specs.Causes.{CompleteAtEnd}
+use Rattle.pw_check_walk.specs.Causes.{CompleteAtEnd}
 use Rattle.pw_check.specs.Parts.{met_rule}
 
 -- the rule of modules is that of the constraints, and then what is made

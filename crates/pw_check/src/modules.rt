@@ -3,26 +3,26 @@
 ghost use Rattle.std.specs.Prelude.{◌≡◌, ◌≢◌, ◌⊎◌, ℕ, [], ◌∷◌, Ok, Err, IfOk, IfErr, map, not, ◌&&◌};
 ghost use Rattle.pw_token.specs.declared.token.Feature.{Feature};
 ghost use Rattle.pw_types.specs.TypedTrees.{ModuleValue};
-ghost use Rattle.pw_walk.specs.declared.fault.CheckKind.TheVariants.{UnknownName, Redeclared, Typing, Constant, Unsupported, Limit, NoMemory};
-ghost use Rattle.pw_walk.specs.declared.fault.Which.{Which};
+ghost use Rattle.pw_check_walk.specs.declared.fault.CheckKind.TheVariants.{UnknownName, Redeclared, Typing, Constant, Unsupported, Limit, NoMemory};
+ghost use Rattle.pw_check_walk.specs.declared.fault.Which.{Which};
 ghost use Rattle.pw_check.specs.Parts.{met_rule};
 ghost use Rattle.pw_check.specs.Refusals.{IsMade, RanOut, TellsExactly, on_constants, on_declarations, on_feature, on_limit, on_names, on_types};
-ghost use Rattle.pw_checking.specs.EntityViews.{view_linked};
-ghost use Rattle.pw_checking.specs.Follows.{Follows, Leads};
-ghost use Rattle.pw_checking.specs.StateViews.{view_state};
-ghost use Rattle.pw_finding.specs.Found.{found};
-ghost use Rattle.pw_rules.specs.Checks.{Checks, checking};
-ghost use Rattle.pw_rules.specs.Modules as spec;
+ghost use Rattle.pw_check_state.specs.EntityViews.{view_linked};
+ghost use Rattle.pw_check_state.specs.Follows.{Follows, Leads};
+ghost use Rattle.pw_check_state.specs.StateViews.{view_state};
+ghost use Rattle.pw_check_finding.specs.Found.{found};
+ghost use Rattle.pw_check_rules.specs.Checks.{Checks, checking};
+ghost use Rattle.pw_check_rules.specs.Modules as spec;
 ghost use Rattle.pw_tree.specs.Views.{view_external, view_externals, view_module};
 ghost use Rattle.pw_typed.specs.Views as typed;
 
-use pw_checking::{Finding, LinkedName, Spot, State};
-use pw_functions::{decl_rule, function_rule, phrases};
-use pw_limits::completed;
-use pw_results::{final_type, module_in};
+use pw_check_functions::{decl_rule, function_rule, phrases};
+use pw_check_limits::completed;
+use pw_check_result::{final_type, module_in};
+use pw_check_state::{Finding, LinkedName, Spot, State};
+use pw_check_walk::{CheckFault, CheckKind};
 use pw_tree::{External, Module};
 use pw_typed::TModule;
-use pw_walk::{CheckFault, CheckKind};
 use std::alloc::Global;
 
 /// An external declaration. At file scope no local is initialised.

@@ -9,12 +9,12 @@ use Rattle.pw_files.specs.Contents.{value_of}
 use Rattle.pw_image.specs.declared.image.Image.{Image}
 use Rattle.pw_image.specs.Image.{Contents}
 use Rattle.pw_image.specs.Reading.{image_file_at}
-use Rattle.pw_modules.specs.FileNames.{image_name}
+use Rattle.pw_store_modules.specs.FileNames.{image_name}
 use Rattle.pw_list.specs.Listing.{IsListing, IsListingOf}
-use Rattle.pw_answer.specs.declared.answer.Answer.{Answer}
-use Rattle.pw_answer.specs.declared.answer.Answer.TheVariants.{Done, WriteFault, ReadFault, StoreFault, NoMemory, BadFile}
-use Rattle.pw_answer.specs.Effects.{Effect, answers_alone, prints}
-use Rattle.pw_answer.specs.Outcomes.{Answers, IsWhole, PutsOut}
+use Rattle.pw_top_answer.specs.declared.answer.Answer.{Answer}
+use Rattle.pw_top_answer.specs.declared.answer.Answer.TheVariants.{Done, WriteFault, ReadFault, StoreFault, NoMemory, BadFile}
+use Rattle.pw_top_answer.specs.Effects.{Effect, answers_alone, prints}
+use Rattle.pw_top_answer.specs.Outcomes.{Answers, IsWhole, PutsOut}
 use Rattle.pw_commands.specs.Needed.{IsBadFile, StopsAs, found_in, needed_bytes, read_by}
 use Rattle.pw_commands.specs.Outcome.{IsFileStop, IsFound}
 use Rattle.pw_commands.specs.Showing.{DatabaseComes, IsListed, IsPrintAnswer, IsShowAnswer, ListComes, ListOver, Shows, database_text, image_at, image_in, printed}

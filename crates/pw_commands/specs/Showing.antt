@@ -7,13 +7,13 @@ use Rattle.pw_image.specs.declared.image.Image.{Image}
 use Rattle.pw_image.specs.Reading.{image_file_at}
 use Rattle.pw_db.specs.declared.database.Directives.{Directives}
 use Rattle.pw_db.specs.Reading.{database_file_at}
-use Rattle.pw_modules.specs.FileNames.{database_name, image_name}
+use Rattle.pw_store_modules.specs.FileNames.{database_name, image_name}
 use Rattle.pw_list.specs.Listing.{IsListing}
 use Rattle.pw_list.specs.DatabaseText.{text_of}
-use Rattle.pw_answer.specs.declared.answer.Answer.{Answer}
-use Rattle.pw_answer.specs.declared.answer.Answer.TheVariants.{Done, WriteFault, StoreFault, NoMemory, BadFile}
-use Rattle.pw_answer.specs.Effects.{Effect, answers_alone, prints}
-use Rattle.pw_answer.specs.Outcomes.{Answers, PutsOut}
+use Rattle.pw_top_answer.specs.declared.answer.Answer.{Answer}
+use Rattle.pw_top_answer.specs.declared.answer.Answer.TheVariants.{Done, WriteFault, StoreFault, NoMemory, BadFile}
+use Rattle.pw_top_answer.specs.Effects.{Effect, answers_alone, prints}
+use Rattle.pw_top_answer.specs.Outcomes.{Answers, PutsOut}
 use Rattle.pw_commands.specs.Needed.{StopsAs, needed}
 use Rattle.pw_commands.specs.Outcome.{IsFound}
 

@@ -6,8 +6,8 @@ ghost use Rattle.pw_value.specs.Names.{IsNameLength};
 ghost use Rattle.pw_commands.specs.Needed.{IsBadFile, IsRefusedFile, Needs, needed_bytes};
 ghost use Rattle.pw_commands.specs.Outcome.{IsFileStop, StopCount};
 
-use pw_answer::Answer;
 use pw_io::{Store, StoreError};
+use pw_top_answer::Answer;
 use pw_value::limits::KEPT_LIMIT;
 use pw_value::{FileError, Name};
 use std::alloc::{AllocError, Global};

@@ -12,8 +12,8 @@ use Rattle.pw_files.proofs.OnwardLaws.{Onward, OneField, one_onward, behind, don
 use Rattle.pw_files.proofs.FaultLaws.{Keeps, keeps_behind, keeps_ended, contents_onward, contents_keep}
 use Rattle.pw_files.proofs.FaultLaws as files
 use Rattle.pw_flow.specs.declared.flow.FlowModule.{FlowModule}
-use Rattle.pw_flowops.specs.Reading.{one_of_at, op_at}
-use Rattle.pw_flowops.proofs.OnwardLaws.{choice_of_one, named_one, op_onward, end_onward}
+use Rattle.pw_flow_ops.specs.Reading.{one_of_at, op_at}
+use Rattle.pw_flow_ops.proofs.OnwardLaws.{choice_of_one, named_one, op_onward, end_onward}
 use Rattle.pw_flowfile.specs.declared.globals.ItemForm.{ItemForm}
 use Rattle.pw_flowfile.specs.declared.globals.ItemForm.TheVariants as form
 use Rattle.pw_flowfile.specs.FlowFile.{item_forms, kind_of_file, flow_version}

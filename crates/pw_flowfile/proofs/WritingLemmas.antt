@@ -23,7 +23,7 @@ use Rattle.pw_flow.specs.declared.flow.FlowFn.{FlowFn}
 use Rattle.pw_flow.specs.declared.flow.FlowModule.{FlowModule}
 use Rattle.pw_flow.specs.declared.flow.Op.TheVariants.{Const, Copy, Un, Bin, Ext, AddrGlobal, AddrSlot, AddrFn, LoadG, StoreG, Load, Store, Move, Call, CallInd}
 use Rattle.pw_flow.specs.ValidFlow.{IsValid}
-use Rattle.pw_flowops.specs.Operations.{result, arguments, op, ending, FitsOp}
+use Rattle.pw_flow_ops.specs.Operations.{result, arguments, op, ending, FitsOp}
 use Rattle.pw_flowfile.specs.FlowFile.{names_of, item, placed_item, global_body, global, block, function, spelling, FitsBlock, FitsFunction, FitsGlobal, FitsModule, IsFlowFile, kind_of_file, flow_version}
 
 -- ---- what has room fits

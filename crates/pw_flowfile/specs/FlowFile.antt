@@ -16,7 +16,7 @@ use Rattle.pw_flow.specs.declared.flow.FlowFn.{FlowFn}
 use Rattle.pw_flow.specs.declared.flow.Item.TheVariants.{Bytes, Address}
 use Rattle.pw_flow.specs.FlowGraph.{names_in_global, names_in_function, declared_names}
 use Rattle.pw_flow.specs.ValidFlow.{IsValid}
-use Rattle.pw_flowops.specs.Operations.{place, op, ending, FitsOp}
+use Rattle.pw_flow_ops.specs.Operations.{place, op, ending, FitsOp}
 use Rattle.pw_flowfile.specs.contracts.globals.ItemForm.{the_type as the_item_forms}
 use Rattle.pw_flowfile.specs.declared.globals.ItemForm.{ItemForm}
 use Rattle.pw_flowfile.specs.declared.globals.ItemForm.TheVariants as form

@@ -14,7 +14,7 @@ use Rattle.pw_files.proofs.FaultLaws.{Keeps, keeps_behind, keeps_ended, contents
 use Rattle.pw_files.proofs.FaultLaws as files
 use Rattle.pw_inst.specs.Limits.{routine_count}
 use Rattle.pw_inst.specs.declared.relocation.Symbol.TheVariants as symbol
-use Rattle.pw_flowops.proofs.OnwardLaws.{choice_of_one}
+use Rattle.pw_flow_ops.proofs.OnwardLaws.{choice_of_one}
 use Rattle.pw_flowfile.proofs.FlowFaults.{global_body_onward}
 use Rattle.pw_object.specs.declared.functions.ObjectFn.{ObjectFn}
 use Rattle.pw_object.specs.declared.functions.SymbolForm.{SymbolForm}

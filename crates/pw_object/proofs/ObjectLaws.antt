@@ -26,7 +26,7 @@ use Rattle.pw_flow.specs.FlowGraph.{names_in_global}
 use Rattle.pw_flow.specs.ValidFlow.{IsGlobal}
 use Rattle.pw_flowfile.specs.FlowFile.{global, global_body, all_in_global, FitsGlobal}
 use Rattle.pw_flowfile.specs.Reading.{global_body_at}
-use Rattle.pw_flowops.specs.Operations.{Named}
+use Rattle.pw_flow_ops.specs.Operations.{Named}
 use Rattle.pw_flowfile.proofs.GraphLaws.{GlobalFits, body_spells}
 use Rattle.pw_object.specs.declared.functions.ObjectFn.{ObjectFn}
 use Rattle.pw_object.specs.declared.object.Object.{Object}

@@ -8,7 +8,7 @@ use Rattle.pw_files.specs.Names.{name_list_at, shaped_list_at}
 use Rattle.pw_files.specs.Contents.{Contents, module_rules, contents_file_at}
 use Rattle.pw_value.specs.declared.program_names.StartName.TheVariants.{Allowed}
 use Rattle.pw_flow.specs.declared.flow.FlowGlobal.{FlowGlobal}
-use Rattle.pw_flowops.specs.Reading.{one_of_at}
+use Rattle.pw_flow_ops.specs.Reading.{one_of_at}
 use Rattle.pw_flowfile.specs.Reading.{global_body_at}
 use Rattle.pw_inst.specs.Limits.{routine_count}
 use Rattle.pw_inst.specs.declared.relocation.Symbol.{Symbol}

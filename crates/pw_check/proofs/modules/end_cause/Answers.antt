@@ -1,13 +1,13 @@
 use Rattle.std.proofs.Common.{[], ◌∷◌, refl, ap, sym, ◌∙◌}
-use Rattle.pw_checking.specs.EntityViews.{view_linked}
-use Rattle.pw_checking.specs.StateViews.{view_state}
-use Rattle.pw_finding.specs.Found.{found}
-use Rattle.pw_rules.specs.Limits.{completed}
-use Rattle.pw_rules.specs.Modules.{end_spot}
-use Rattle.pw_rules.specs.States.{records_in}
+use Rattle.pw_check_state.specs.EntityViews.{view_linked}
+use Rattle.pw_check_state.specs.StateViews.{view_state}
+use Rattle.pw_check_finding.specs.Found.{found}
+use Rattle.pw_check_rules.specs.Limits.{completed}
+use Rattle.pw_check_rules.specs.Modules.{end_spot}
+use Rattle.pw_check_rules.specs.States.{records_in}
 use Rattle.pw_types.specs.TypeTrees.{type_of}
 use Rattle.pw_types.specs.Views.{view_type}
-use Rattle.pw_walk.specs.Causes.{CompleteAtEnd}
+use Rattle.pw_check_walk.specs.Causes.{CompleteAtEnd}
 use Rattle.pw_check.proofs.ModuleLaws.{no_cause, some_cause}
 use Rattle.pw_check.proofs.modules.end_cause.Goals as goal
 
