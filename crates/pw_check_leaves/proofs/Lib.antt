@@ -1,3 +1,4 @@
 mod PointLaws
 mod TextLemmas
 mod ParameterLemmas
+mod EnumeratorLaws

@@ -1,17 +1,16 @@
 -- Parts of the rules of names and constants, which are functions of their own in the code.
-use Rattle.std.specs.Prelude.{ℕ, Bool, false, not, ◌||◌, Option, is_some, is_none, List, [], ◌∷◌, ◌++◌}
+use Rattle.std.specs.Prelude.{ℕ, Bool, false, not, ◌||◌, Option, is_some, is_none, unwrap_or, List, [], ◌∷◌, ◌++◌}
 use Rattle.pw_check_literals.specs.Characters.{string_bytes_of}
 use Rattle.pw_tree.specs.Trees.{Word}
 use Rattle.pw_types.specs.TypeTrees.{QType, type_of}
 use Rattle.pw_check_walk.specs.Causes.{Point, needs, OneKindOfTag, OneContent, EnumeratorFits, VoidAlone, NoRecordByValue}
-use Rattle.pw_check_walk.specs.Walks.{meets, pure, asks, ◌>>=◌, ◌>>◌}
+use Rattle.pw_check_walk.specs.Walks.{meets, pure, asks, change, ◌>>=◌, ◌>>◌}
 use Rattle.pw_check_rules.specs.Derivations.{ParameterValue}
 use Rattle.pw_check_rules.specs.Kinds.{is_record, is_void}
 use Rattle.pw_check_rules.specs.Limits.{Spot, name_within, type_within}
-use Rattle.pw_check_rules.specs.Leaves.{string_point, texts_of, is_record_tag, named_point, says_none, adjusted}
-use Rattle.pw_check_rules.specs.Linkage.{fresh_name}
+use Rattle.pw_check_rules.specs.Leaves.{string_point, texts_of, is_record_tag, value_after, named_point, says_none, adjusted}
 use Rattle.pw_check_rules.specs.SpecifierLists.{Specified}
-use Rattle.pw_check_rules.specs.States.{Rule, State, records_in, tag_here}
+use Rattle.pw_check_rules.specs.States.{Rule, State, EnumerationConstant, records_in, tag_here, enter}
 
 -- the bytes of a string, whose escapes fit
 unfoldable pub string_bytes_rule : List Word → Rule (List ℕ)
@@ -25,10 +24,12 @@ enumerating_point w s =
     ∷ name_within w.token w.text
     ∷ []
 
--- what an enumerator asks of its name and its value
-abbrev pub enumerator_point : Word → Option ℕ → State → Point
-enumerator_point w value s =
-    fresh_name s w.text w.token ∷ needs EnumeratorFits w.token (is_some value) ∷ name_within w.token w.text ∷ []
+-- an enumerator behind the point of its name
+abbrev pub counted_enumerator : Word → Option ℕ → Rule (Option ℕ)
+counted_enumerator w value =
+    meets (needs EnumeratorFits w.token (is_some value) ∷ []) >>
+    change (enter w.text (EnumerationConstant (unwrap_or value 0))) >>
+    pure (value_after (unwrap_or value 0))
 
 -- what a parameter asks of its name and its type
 abbrev pub parameter_point : Bool → Spot → Specified → Option Word → QType → State → Point

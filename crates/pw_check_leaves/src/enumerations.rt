@@ -5,14 +5,13 @@ ghost use Rattle.pw_check_state.specs.Follows.{Follows, Leads};
 ghost use Rattle.pw_check_state.specs.PhraseViews.{view_name};
 ghost use Rattle.pw_check_state.specs.StateViews.{view_state};
 ghost use Rattle.pw_check_finding.specs.Found.{found};
-ghost use Rattle.pw_check_leaves.specs.Parts.{enumerating_point, enumerator_point};
+ghost use Rattle.pw_check_leaves.specs.Parts.{enumerating_point};
 ghost use Rattle.pw_check_rules.specs.Leaves as spec;
 ghost use Rattle.pw_tree.specs.Views.{view_word};
 ghost use Rattle.pw_types.specs.Views.{view_qtype};
 
-use crate::names::int_type;
+use crate::names::{int_type, name_point};
 use pw_check_limits::name_within;
-use pw_check_linkage::fresh_name;
 use pw_check_rules::Tag;
 use pw_check_state::{Entity, Finding, State, fault};
 use pw_check_walk::{CheckFault, CheckKind};
@@ -82,20 +81,15 @@ fn value_after(n: u32) -> Option<u32>
     }
 }
 
-/// What an enumerator asks of its name and its value.
-fn enumerator_found(state: &State, word: &Word, value: Option<u32>) -> Finding
-    ensures { result.least ≡ found (enumerator_point (view_word word.now) value (view_state state.now)) }
+/// What an enumerator asks of its name, before its value is read.
+pub fn enumerator_name(state: &State, word: &Word) -> Result<(), CheckFault>
+    ensures { Follows (λ u. u) (spec.enumerator_name (view_word word.now)) (view_state state.now) result }
 {
-    let name = word.text.as_slice();
-    let found = fresh_name(Finding::none(), state, name, word.token).needs(
-        CheckKind::Constant,
-        word.token,
-        value.is_some(),
-    );
-    name_within(found, word.token, name)
+    name_point(state, word).end()
 }
 
-/// An enumerator with its value, where there is one; the answer is the value of the next one.
+/// An enumerator with its value, where there is one; the answer is the value of the next one. Its name is asked for here
+/// too, since the value may have declared it.
 pub fn enumerator_rule<'a>(
     state: &mut State<'a>,
     word: &'a Word,
@@ -103,8 +97,10 @@ pub fn enumerator_rule<'a>(
 ) -> Result<Option<u32>, CheckFault>
     ensures { Leads (λ next. next) (spec.enumerator_rule (view_word word.now) value) (view_state state.old) result (view_state state.new) }
 {
-    enumerator_found(state, word, value).end()?;
-    let number = value.unwrap_or(0);
+    name_point(state, word).end()?;
+    let Some(number) = value else {
+        return Err(fault(CheckKind::Constant, word.token));
+    };
     state.enter(word.text.as_slice(), Entity::EnumerationConstant(number))?;
     Ok(value_after(number))
 }

@@ -9,7 +9,7 @@ pub mod primary;
 pub mod strings;
 
 pub use constants::{enumerator_value, length_rule};
-pub use enumerations::{enumerating_rule, enumeration_rule, enumerator_rule};
+pub use enumerations::{enumerating_rule, enumeration_rule, enumerator_name, enumerator_rule};
 pub use names::{int_type, named_type, typedef_rule};
 pub use parameters::{bindings_rule, parameter_rule, parameter_storage};
 pub use primary::{character_rule, identifier_rule, number_rule};

@@ -5,14 +5,16 @@ ghost use Rattle.pw_check_state.specs.EntityViews.{view_entity};
 ghost use Rattle.pw_check_state.specs.Follows.{Follows};
 ghost use Rattle.pw_check_state.specs.PhraseViews.{view_declared, view_specified};
 ghost use Rattle.pw_check_state.specs.StateViews.{view_state};
+ghost use Rattle.pw_check_finding.specs.Found.{found};
 ghost use Rattle.pw_check_rules.specs.Kinds as kinds;
 ghost use Rattle.pw_check_rules.specs.Leaves as spec;
 ghost use Rattle.pw_check_rules.specs.Phrases as phrases;
 ghost use Rattle.pw_tree.specs.Views.{view_word};
 ghost use Rattle.pw_types.specs.Views.{view_qtype};
 
-use pw_check_limits::{spot_of, type_declared, type_within};
-use pw_check_state::{Declared, Entity, Specified, State, fault};
+use pw_check_limits::{name_within, spot_of, type_declared, type_within};
+use pw_check_linkage::fresh_name;
+use pw_check_state::{Declared, Entity, Finding, Specified, State, fault};
 use pw_check_types::{copy_qtype, plain};
 use pw_check_walk::{CheckFault, CheckKind};
 use pw_tree::Word;
@@ -25,6 +27,15 @@ pub fn int_type() -> QType
     ensures { view_qtype result ≡ kinds.int_type }
 {
     plain(CType::Int(IntKind::Int))
+}
+
+/// What a name without linkage asks: that it is declared once in its scope, and keeps the limit on names.
+pub fn name_point(state: &State, word: &Word) -> Finding
+    ensures { result.least ≡ found (spec.name_point (view_state state.now) (view_word word.now)) }
+{
+    let name = word.text.as_slice();
+    let found = fresh_name(Finding::none(), state, name, word.token);
+    name_within(found, word.token, name)
 }
 
 /// The type that a typedef name names.

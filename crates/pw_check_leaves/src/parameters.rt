@@ -13,8 +13,8 @@ ghost use Rattle.pw_check_rules.specs.SpecifierLists as specifiers;
 ghost use Rattle.pw_check_rules.specs.States.{LocalObject};
 ghost use Rattle.pw_types.specs.Views.{view_qtype, view_type};
 
-use pw_check_limits::{name_within, spot_of, type_declared, type_within};
-use pw_check_linkage::fresh_name;
+use crate::names::name_point;
+use pw_check_limits::{spot_of, type_declared, type_within};
 use pw_check_state::{
     Bindings, Declared, Entity, Finding, Parameter, Specified, Spot, State, typing,
 };
@@ -82,12 +82,10 @@ pub fn parameter_storage(state: &State, specified: &Specified) -> Result<(), Che
 fn named_point(state: &State, name: Option<&Word>) -> Finding
     ensures { result.least ≡ found (spec.named_point (view_state state.now) (view_name name.entry)) }
 {
-    let Some(word) = name else {
-        return Finding::none();
-    };
-    let text = word.text.as_slice();
-    let found = fresh_name(Finding::none(), state, text, word.token);
-    name_within(found, word.token, text)
+    match name {
+        Some(word) => name_point(state, word),
+        None => Finding::none(),
+    }
 }
 
 /// What a parameter asks of its name and its type; the answer is the type that it has as a parameter.

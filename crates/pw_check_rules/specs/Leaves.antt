@@ -288,6 +288,14 @@ enumerating_rule (Some w) =
     ∷ []) >>
     change (enter_tag w.text G.Enumeration)
 
+-- a name without linkage: once in its scope, and within the limit on names
+abbrev pub name_point : State → Word → Point
+name_point s w = fresh_name s w.text w.token ∷ name_within w.token w.text ∷ []
+
+-- what an enumerator asks of its name, before its value is read
+unfoldable pub enumerator_name : Word → Rule (Unit {0})
+enumerator_name w = asks (λ s. name_point s w) >>= λ point. meets point
+
 -- the value of an enumerator is an int
 unfoldable pub enumerator_value : ℕ → Expression → Rule ℕ
 enumerator_value first e =
@@ -301,15 +309,11 @@ enumerator_value first e =
 abbrev pub value_after : ℕ → Option ℕ
 value_after n = if n == int_most then None else Some (unsigned_sum n 1)
 
--- an enumerator with its value, where there is one
+-- An enumerator with its value, where there is one. Its name is asked for here too: the value may have declared it.
 unfoldable pub enumerator_rule : Word → Option ℕ → Rule (Option ℕ)
 enumerator_rule w value =
-    asks (λ s. fresh_name s w.text w.token) >>= λ fresh.
-    meets (
-    fresh
-    ∷ needs EnumeratorFits w.token (is_some value)
-    ∷ name_within w.token w.text
-    ∷ []) >>
+    enumerator_name w >>
+    meets (needs EnumeratorFits w.token (is_some value) ∷ []) >>
     change (enter w.text (EnumerationConstant (unwrap_or value 0))) >>
     pure (value_after (unwrap_or value 0))
 
@@ -348,7 +352,7 @@ parameter_storage b = meets (needs LawfulStorage b.first (is_none b.storage || i
 
 abbrev pub named_point : State → Option Word → Point
 named_point s None = []
-named_point s (Some w) = fresh_name s w.text w.token ∷ name_within w.token w.text ∷ []
+named_point s (Some w) = name_point s w
 
 abbrev pub enter_parameter : Option Word → Entity → State → State
 enter_parameter None entity s = s

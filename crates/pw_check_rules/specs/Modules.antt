@@ -1,12 +1,12 @@
 -- Modules (ISO C90 6.7): external declarations in their order, and what stands at a module's end.
-use Rattle.std.specs.Prelude.{ℕ, true, not, ◌&&◌, if◌then◌else◌, Option, None, Some, unwrap_or, List, [], ◌∷◌, map, filter, flat_map, slice_get}
+use Rattle.std.specs.Prelude.{ℕ, true, not, ◌&&◌, ◌||◌, if◌then◌else◌, Option, None, Some, unwrap_or, List, [], ◌∷◌, map, filter, flat_map, slice_get}
 use Rattle.std.specs.Option.{option_map_or}
 use Rattle.pw_tree.specs.Trees.{External, Definition, Declaration, Module}
-use Rattle.pw_types.specs.TypeTrees.{QType, type_of}
+use Rattle.pw_types.specs.TypeTrees.{CType, QType, type_of}
 use Rattle.pw_types.specs.TypedTrees.{Hidden, GlobalValue, DeclaredValue, ModuleValue}
 use Rattle.pw_check_walk.specs.Causes.{Cause, needs, CompleteAtEnd}
 use Rattle.pw_check_walk.specs.Walks.{meets, pure, asks, ◌>>=◌, ◌>>◌}
-use Rattle.pw_check_rules.specs.Kinds.{is_const_object}
+use Rattle.pw_check_rules.specs.Kinds.{is_const_object, is_record}
 use Rattle.pw_check_rules.specs.declared.names.Slot.{Slot}
 use Rattle.pw_check_rules.specs.declared.names.Slot.TheVariants as slot
 use Rattle.pw_check_rules.specs.States.{Rule, State, Entity, Linked, LinkedName, HiddenObject, entity_of, linked_at, linked_in, records_in}
@@ -33,13 +33,18 @@ type_of_entity _ = None
 abbrev pub final_type : State → LinkedName → QType
 final_type s l = option_map_or (λ e. unwrap_or (type_of_entity e) l.ty) (entity_of s l.name) l.ty
 
--- an object that is defined tentatively is complete by now (6.7.2)
+-- What is complete by now: an object that is defined tentatively alone (6.7.2), and each that is a structure or union, which
+-- modules compare by its content.
+abbrev pub must_be_complete : LinkedName → CType → Bool
+must_be_complete l ty = (l.tentative && not l.defined) || is_record ty
+
 abbrev pub end_spot : LinkedName → Spot
 end_spot l = record { token = l.token; specifier = l.token; tag = l.tag }
 
 abbrev pub end_cause : State → LinkedName → Cause
 end_cause s l =
-    if l.tentative && not l.defined then completed (records_in s) (end_spot l) CompleteAtEnd (type_of (final_type s l))
+    if must_be_complete l (type_of (final_type s l)) then
+    completed (records_in s) (end_spot l) CompleteAtEnd (type_of (final_type s l))
     else needs CompleteAtEnd l.token true
 
 unfoldable pub end_rule : List LinkedName → Rule (Unit {0})

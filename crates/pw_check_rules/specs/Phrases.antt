@@ -20,7 +20,7 @@ use Rattle.pw_check_rules.specs.States.{Rule, Entity, TypeName, entity_of, scope
 use Rattle.pw_check_rules.specs.SpecifierLists.{Gathered, nothing_gathered, gather_storage, gather_qualifier, gather_word, gather_type, Specified, specified}
 use Rattle.pw_check_rules.specs.Derivations.{Derivation, ToArray, ToFunction, Declared, Suffixed, ParameterValue, Bindings, pointer_step, spot_of}
 use Rattle.pw_check_rules.specs.Operators.{value_rule, sign_rule, deref_rule, address_rule, step_rule, size_rule, type_size_rule, cast_rule, operation_rule, conditional_rule, assignment_rule, index_rule, call_rule, dot_rule, arrow_rule}
-use Rattle.pw_check_rules.specs.Leaves.{identifier_rule, number_rule, character_rule, string_rule, length_rule, record_kind, reference_rule, opening_rule, member_rule, record_spot, closing_rule, enumeration_rule, enumerating_rule, enumerator_value, enumerator_rule, named_type, is_last, is_nil, parameter_storage, parameter_rule, parameter_types, bindings_rule, first_of_list, first_of_declaration}
+use Rattle.pw_check_rules.specs.Leaves.{identifier_rule, number_rule, character_rule, string_rule, length_rule, record_kind, reference_rule, opening_rule, member_rule, record_spot, closing_rule, enumeration_rule, enumerating_rule, enumerator_name, enumerator_value, enumerator_rule, named_type, is_last, is_nil, parameter_storage, parameter_rule, parameter_types, bindings_rule, first_of_list, first_of_declaration}
 
 abbrev pub typedef_type : Entity → Option QType
 typedef_type (TypeName q) = Some q
@@ -183,17 +183,18 @@ unfoldable mutual
       refused NoBitField (unwrap_or (first_of_declarator d) t)
   member_declarators_rule (S.Padding t e rest) b ms = refused NoBitField t
 
-  -- each has the value that it is given, or the one after the value before
+  -- each has the value that it is given, or the one after the value before; the name's faults come before the value's
   pub enumerators_rule : Enumerators → Option ℕ → Rule (Unit {0})
   enumerators_rule S.NoEnumerator value = pure tt
   enumerators_rule (S.PlainEnumerator w rest) value =
       enumerator_rule w value >>= λ next.
       enumerators_rule rest next
   enumerators_rule (S.ValuedEnumerator w e rest) value =
+      enumerator_name w >> (
       expr_rule e >>= λ a. value_rule a >>= λ x.
       enumerator_value (first_of_expr e) x >>= λ n.
       enumerator_rule w (Some n) >>= λ next.
-      enumerators_rule rest next
+      enumerators_rule rest next)
 
   pub declarator_rule : Declarator → Rule Declared
   declarator_rule (S.Declaring pointers core suffixes) =

@@ -12,7 +12,7 @@ use Rattle.pw_check_walk.specs.Causes.{NoFloating, NoBitField}
 use Rattle.pw_check_walk.specs.Walks.{refused, pure, ◌>>=◌, ◌>>◌}
 use Rattle.pw_check_rules.specs.Declarations.{specified_rule}
 use Rattle.pw_check_rules.specs.Kinds.{int_type}
-use Rattle.pw_check_rules.specs.Leaves.{first_of_list, record_kind, record_spot, reference_rule, opening_rule, closing_rule, member_rule, enumeration_rule, enumerating_rule, enumerator_value, enumerator_rule}
+use Rattle.pw_check_rules.specs.Leaves.{first_of_list, record_kind, record_spot, reference_rule, opening_rule, closing_rule, member_rule, enumeration_rule, enumerating_rule, enumerator_name, enumerator_value, enumerator_rule}
 use Rattle.pw_check_rules.specs.Phrases.{typedef_rule, declarator_rule, members_rule, member_declarators_rule, enumerators_rule}
 use Rattle.pw_check_rules.specs.SpecifierLists.{Gathered, gather_storage, gather_qualifier, gather_word, gather_type, Specified}
 use Rattle.pw_check_rules.specs.States.{Rule}
@@ -89,9 +89,10 @@ first_member (S.Padding t e rest) b ms = refused NoBitField t
 
 unfoldable pub valued_enumerator : Word → Expr → Rule (Option ℕ)
 valued_enumerator w e =
+    enumerator_name w >> (
     whole_rule e >>= λ x.
     enumerator_value (first_of_expr e) x >>= λ n.
-    enumerator_rule w (Some n)
+    enumerator_rule w (Some n))
 
 unfoldable pub first_enumerator : Enumerators → Option ℕ → Rule (Option ℕ)
 first_enumerator S.NoEnumerator value = pure value

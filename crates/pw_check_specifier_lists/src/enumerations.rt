@@ -9,13 +9,14 @@ ghost use Rattle.pw_check_specifier_lists.specs.Specifying as turns;
 ghost use Rattle.pw_tree.specs.Trees.{NoEnumerator};
 ghost use Rattle.pw_tree.specs.Views.{view_enumerator, view_enumerators, view_expr, view_word};
 
-use pw_check_leaves::{enumerating_rule, enumerator_rule, enumerator_value};
+use pw_check_leaves::{enumerating_rule, enumerator_name, enumerator_rule, enumerator_value};
 use pw_check_state::{Phrases, State, whole_rule};
 use pw_check_walk::CheckFault;
 use pw_tree::{Enumerator, Expr, Word};
 use std::alloc::Global;
 
-/// An enumerator with the value that it is given; the answer is the value of one behind it without its own.
+/// An enumerator with the value that it is given, which is read behind the point of the name; the answer is the value of
+/// one behind it without its own.
 fn valued_enumerator<'a, P: Phrases<'a>>(
     alloc: Global,
     phrases: &P,
@@ -26,6 +27,7 @@ fn valued_enumerator<'a, P: Phrases<'a>>(
     requires { P.can_check phrases.now }
     ensures { Leads (λ next. next) (turns.valued_enumerator (view_word name.now) (view_expr value.now)) (view_state state.old) result (view_state state.new) }
 {
+    enumerator_name(state, name)?;
     let whole = whole_rule(alloc, phrases, state, value)?;
     let number = enumerator_value(alloc, state, value.first_token(), whole)?;
     enumerator_rule(state, name, Some(number))

@@ -32,7 +32,7 @@ use Rattle.pw_check_rules.specs.Linkage.{symbol_at}
 use Rattle.pw_check_rules.specs.SpecifierLists.{Gathered, nothing_gathered, gather_storage, gather_qualifier, gather_word, gather_type, Specified, specified, type_listed, type_of_words, table, same_words}
 use Rattle.pw_check_rules.specs.Derivations.{Derivation, ToPointer, ToArray, ToFunction, ParameterValue, Bindings, Declared, built, step_type, spot_of}
 use Rattle.pw_check_rules.specs.Phrases.{typedef_type, typedef_rule}
-use Rattle.pw_check_rules.specs.Leaves.{entity_operand, linked_operand, lvalue_operand, identifier_rule, number_rule, character_rule, string_rule, string_point, note_string, string_type, bytes_at_start, texts_of, length_rule, new_record, new_tag, reference_by, reference_rule, opening_by, opening_rule, open_record, is_opened, same_record_kind, member_rule, content_by, closing_rule, enumeration_by, enumeration_rule, enumerating_rule, enumerator_value, enumerator_rule, named_type, is_last, is_nil, adjusted, parameter_storage, parameter_rule, enter_parameter, without_void, parameter_types, bindings_rule, says_none, name_text}
+use Rattle.pw_check_rules.specs.Leaves.{entity_operand, linked_operand, lvalue_operand, identifier_rule, number_rule, character_rule, string_rule, string_point, note_string, string_type, bytes_at_start, texts_of, length_rule, new_record, new_tag, reference_by, reference_rule, opening_by, opening_rule, open_record, is_opened, same_record_kind, member_rule, content_by, closing_rule, enumeration_by, enumeration_rule, enumerating_rule, enumerator_value, enumerator_name, enumerator_rule, named_type, is_last, is_nil, adjusted, parameter_storage, parameter_rule, enter_parameter, without_void, parameter_types, bindings_rule, says_none, name_text}
 use Rattle.pw_law_well_typed.specs.Lawful.{IsLawful, IsLawfulType, AreLawfulTypes, IsObjectLike, IsLawfulEntity, IsLawfulTag, Extends, HasLocal, IsNamed}
 use Rattle.pw_law_well_typed.proofs.Walking.{Post, truth, met_right, post_bind, post_granted, met_left, AreMet}
 use Rattle.pw_law_well_typed.proofs.States.{GoodOperand, Fine, Runs, IsConstant, Grows, Widens, Widely, grows_same, grows_trans, widens_so}
@@ -192,9 +192,13 @@ none_here s name e = by (entry_here s name) e
     by None f = refl
     by (Some x) f = no f
 
+pub enumerator_name_runs : (s : State) (w : Word) → IsLawful s → Runs s (enumerator_name w s) Nothing
+unfolding enumerator_name bind
+enumerator_name_runs s w l = λ met. (l, grows_same s, tt)
+
 pub enumerator_runs : (s : State) (w : Word) (value : Option ℕ) → IsLawful s → Runs s (enumerator_rule w value s) Nothing
-unfolding enumerator_rule bind
-enumerator_runs s w value l = λ met.
+unfolding enumerator_rule enumerator_name bind
+enumerator_runs s w value l = λ met counted.
     (entered s w.text (EnumerationConstant (unwrap_or value 0)) l tt, entered_grows IsConstant s w.text (EnumerationConstant (unwrap_or value 0)) tt tt (none_here s w.text (truth _ met.0)), tt)
 
 pub enumerating_runs : (s : State) (w : Option Word) → IsLawful s → Runs s (enumerating_rule w s) Nothing

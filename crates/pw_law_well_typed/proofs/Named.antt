@@ -1,11 +1,12 @@
 -- Objects with a name at a module's end: their types keep the limit on sizes, and those that are defined tentatively are complete.
-use Rattle.std.specs.Prelude.{ℕ, zero, suc, ◌≡◌, true, not, ◌&&◌, is_some, None, Some, List, [], ◌∷◌, slice_get, if◌then◌else◌, refl}
+use Rattle.std.specs.Prelude.{ℕ, zero, suc, ◌≡◌, true, not, ◌&&◌, ◌||◌, is_some, None, Some, List, [], ◌∷◌, slice_get, if◌then◌else◌, refl}
 use Rattle.std.proofs.Common.{ap, subst, ◌∙◌}
 use Rattle.pw_types.specs.Records.{IsObjectType}
 use Rattle.pw_types.specs.TypeTrees.{type_of}
 use Rattle.pw_types.specs.WellTyped.{IsComplete}
 use Rattle.pw_check_walk.specs.Causes.{needs, CompleteAtEnd}
 use Rattle.pw_check_walk.specs.Walks.{bind}
+use Rattle.pw_check_rules.specs.Kinds.{is_record}
 use Rattle.pw_check_rules.specs.Limits.{completed}
 use Rattle.pw_check_rules.specs.Modules.{end_rule, end_cause, end_spot, final_type}
 use Rattle.pw_check_rules.specs.States.{State, LinkedName, records_in}
@@ -44,7 +45,7 @@ end_met (x ∷ rest) s = λ met.
 pub tentative_complete : (s : State) (l : LinkedName) → (l.tentative && not l.defined) ≡ true → AreMet (end_cause s l ∷ []) → IsComplete s.types.records (type_of (final_type s l))
 tentative_complete s l e met =
     let m : AreMet (completed (records_in s) (end_spot l) CompleteAtEnd (type_of (final_type s l)) ∷ []) =
-    subst (λ b. AreMet ((if b then completed (records_in s) (end_spot l) CompleteAtEnd (type_of (final_type s l)) else needs CompleteAtEnd l.token true) ∷ [])) e met in
+    subst (λ b. AreMet ((if b || is_record (type_of (final_type s l)) then completed (records_in s) (end_spot l) CompleteAtEnd (type_of (final_type s l)) else needs CompleteAtEnd l.token true) ∷ [])) e met in
     is_complete_so s.types.records (type_of (final_type s l)) (completed_so s.types.records (end_spot l) CompleteAtEnd (type_of (final_type s l)) m.0)
 
 -- and so has a type that objects can have

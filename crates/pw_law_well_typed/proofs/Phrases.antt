@@ -31,7 +31,7 @@ use Rattle.pw_law_well_typed.proofs.States.{Fine, FineValue, fine_later, value_l
 use Rattle.pw_law_well_typed.proofs.Types.{no, lawful_later}
 use Rattle.pw_law_well_typed.proofs.Operations.{value_runs, plus_runs, minus_runs, complement_runs, not_runs, deref_runs, address_runs, step_runs, Whole, size_runs, type_size_runs, cast_runs, operation_runs, conditional_runs, assignment_runs, index_runs, AreFine, call_runs, dot_runs, arrow_runs}
 use Rattle.pw_law_well_typed.proofs.Changes.{in_sizeof, sizeof_lawful, uncounted_runs, deeper_lawful, scoped_runs, Opened, opened_later}
-use Rattle.pw_law_well_typed.proofs.Leaves.{identifier_runs, number_runs, character_runs, string_runs, Nothing, length_runs, enumerator_value_runs, enumerator_runs, enumerating_runs, GoodType, enumeration_runs, GoodReference, reference_runs, opening_runs, GoodMembers, closing_runs, GoodTypes, types_later, types_more, GoodGathered, GoodSpecified, specified_runs, typedef_runs, GoodSteps, steps_later, steps_more, GoodDeclared, named_type_runs, members_later, member_runs, parameter_storage_runs, AreScalars, scalars_later, GoodParameters, parameter_runs, GoodBindings, GoodIfAny, bindings_later, scalars_types, bindings_runs}
+use Rattle.pw_law_well_typed.proofs.Leaves.{identifier_runs, number_runs, character_runs, string_runs, Nothing, length_runs, enumerator_value_runs, enumerator_name_runs, enumerator_runs, enumerating_runs, GoodType, enumeration_runs, GoodReference, reference_runs, opening_runs, GoodMembers, closing_runs, GoodTypes, types_later, types_more, GoodGathered, GoodSpecified, specified_runs, typedef_runs, GoodSteps, steps_later, steps_more, GoodDeclared, named_type_runs, members_later, member_runs, parameter_storage_runs, AreScalars, scalars_later, GoodParameters, parameter_runs, GoodBindings, GoodIfAny, bindings_later, scalars_types, bindings_runs}
 
 -- an operand, and then its value
 pub valued : {B : Type 0} {s : State} (w : Walk (Operand × State)) (next : Expression × State → Walk (B × State)) (Best : State → B → Type 0) → Runs s w Fine
@@ -225,9 +225,10 @@ mutual
   enumerators_post (S.PlainEnumerator w rest) value s l =
       goes_on _ _ Nothing Nothing (enumerator_runs s w value l) (λ r m g f. enumerators_post rest r.0 r.1 m)
   enumerators_post (S.ValuedEnumerator w e rest) value s l =
-      valued _ _ Nothing (expr_post e s l) (λ r1 m1 g1 f1.
+      goes_on _ _ Nothing Nothing (enumerator_name_runs s w l) (λ r0 m0 g0 f0.
+      valued _ _ Nothing (expr_post e r0.1 m0) (λ r1 m1 g1 f1.
       goes_on _ _ Nothing Nothing (enumerator_value_runs r1.1 (first_of_expr e) r1.0 m1) (λ r2 m2 g2 f2.
-      goes_on _ _ Nothing Nothing (enumerator_runs r2.1 w (Some r2.0) m2) (λ r3 m3 g3 f3. enumerators_post rest r3.0 r3.1 m3)))
+      goes_on _ _ Nothing Nothing (enumerator_runs r2.1 w (Some r2.0) m2) (λ r3 m3 g3 f3. enumerators_post rest r3.0 r3.1 m3))))
 
   pub declarator_post : (d : Declarator) (s : State) → IsLawful s → Runs s (declarator_rule d s) GoodDeclared
   declarator_post (S.Declaring pointers core suffixes) s l =

@@ -24,7 +24,7 @@ use Rattle.pw_check_walk.specs.Walks.{Walk, bind}
 use Rattle.pw_check_rules.specs.Constants.{constant_value}
 use Rattle.pw_check_rules.specs.Derivations.{Derivation, ToPointer, ToArray, ToFunction, Declared, ParameterValue, pointer_step, spot_of, step_type, built}
 use Rattle.pw_check_rules.specs.Kinds.{plain, int_type, qualify}
-use Rattle.pw_check_rules.specs.Leaves.{length_rule, is_positive, string_rule, string_point, new_record, new_tag, reference_by, reference_rule, opening_by, opening_rule, open_record, member_rule, content_by, closing_rule, enumeration_rule, enumerating_rule, enumerator_rule, parameter_rule, enter_parameter, bindings_rule, record_kind, record_spot, parameter_types, is_nil, is_last, first_of_list, first_of_declaration, name_text, texts_of}
+use Rattle.pw_check_rules.specs.Leaves.{length_rule, is_positive, string_rule, string_point, new_record, new_tag, reference_by, reference_rule, opening_by, opening_rule, open_record, member_rule, content_by, closing_rule, enumeration_rule, enumerating_rule, enumerator_name, enumerator_rule, parameter_rule, enter_parameter, bindings_rule, record_kind, record_spot, parameter_types, is_nil, is_last, first_of_list, first_of_declaration, name_text, texts_of}
 use Rattle.pw_check_rules.specs.Limits.{Spot}
 use Rattle.pw_check_rules.specs.Operands.{Operand}
 use Rattle.pw_check_rules.specs.Operators.{value_rule}
@@ -44,7 +44,7 @@ use Rattle.pw_law_well_typed.proofs.Leaves.{Nothing, string_runs, reference_runs
 use Rattle.pw_law_well_typed.proofs.Phrases.{specifiers_post, declarator_post, scalars_only, later_type}
 use Rattle.pw_check_literals.specs.Characters.{characters_of_strings}
 use Rattle.pw_law_within.proofs.Fits.{AreSome, some_end, HasElements, IsFit, IsSolid, AreSolid, MembersFit, content_solid}
-use Rattle.pw_law_within.proofs.Still.{Still, value_still, identifier_still, number_still, character_still, sign_still, deref_still, address_still, step_still, size_still, type_size_still, cast_still, operation_still, conditional_still, assignment_still, index_still, call_still, dot_still, arrow_still, length_still, typedef_still, enumeration_still, enumerator_value_still, specified_still, built_still, named_still, storage_still, bindings_still}
+use Rattle.pw_law_within.proofs.Still.{Still, value_still, identifier_still, number_still, character_still, sign_still, deref_still, address_still, step_still, size_still, type_size_still, cast_still, operation_still, conditional_still, assignment_still, index_still, call_still, dot_still, arrow_still, length_still, typedef_still, enumeration_still, enumerator_name_still, enumerator_value_still, specified_still, built_still, named_still, storage_still, bindings_still}
 
 -- ---- options
 
@@ -332,8 +332,8 @@ enumerating_kept None s f = f
 enumerating_kept (Some w) s f = λ met. record { contents = f.contents; names = f.names; members = f.members; items = f.items; objects = f.objects }
 
 enumerator_kept : (w : Word) (value : Option ℕ) (s : State) → Fit s → Post (enumerator_rule w value s) (λ r. Fit r.1)
-unfolding enumerator_rule bind
-enumerator_kept w value s f = λ met. entered_fit s w.text (EnumerationConstant (unwrap_or value 0)) f tt
+unfolding enumerator_rule enumerator_name bind
+enumerator_kept w value s f = λ met counted. entered_fit s w.text (EnumerationConstant (unwrap_or value 0)) f tt
 
 enumerating_fit : (o : Option Word) (s : State) → IsFitting s → Post (enumerating_rule o s) Fitted
 enumerating_fit o s l = both_fit s (enumerating_rule o s) Nothing (enumerating_runs s o l.0) (enumerating_kept o s l.1)
@@ -566,8 +566,9 @@ mutual
   enumerators_fit env S.NoEnumerator value s h l = l
   enumerators_fit env (S.PlainEnumerator w rest) value s h l = then_fit _ _ (enumerator_fit w value s l) (λ r k. enumerators_fit _ rest r.0 r.1 h k)
   enumerators_fit env (S.ValuedEnumerator w e rest) value s h l =
-      valued_fit _ _ (expr_fit env e s h.1 l) (λ r1 k1.
-      ask_fit r1.1 _ _ k1 (enumerator_value_still (first_of_expr e) r1.0 r1.1) (λ r2 k2. then_fit _ _ (enumerator_fit w (Some r2.0) r2.1 k2) (λ r3 k3. enumerators_fit _ rest r3.0 r3.1 h.2 k3)))
+      ask_fit s _ _ l (enumerator_name_still w s) (λ r0 k0.
+      valued_fit _ _ (expr_fit env e r0.1 h.1 k0) (λ r1 k1.
+      ask_fit r1.1 _ _ k1 (enumerator_value_still (first_of_expr e) r1.0 r1.1) (λ r2 k2. then_fit _ _ (enumerator_fit w (Some r2.0) r2.1 k2) (λ r3 k3. enumerators_fit _ rest r3.0 r3.1 h.2 k3))))
 
   pub declarator_fit : (env : Env) (typed : Bool) (place : Place) (d : Declarator) (s : State) → WellFormedDeclarator env typed place d → IsFitting s → Post (declarator_rule d s) DeclaratorFits
   declarator_fit env typed place (S.Declaring pointers core suffixes) s h l =

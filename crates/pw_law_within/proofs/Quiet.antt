@@ -14,7 +14,7 @@ use Rattle.pw_types.specs.TypedTrees.{Expression}
 use Rattle.pw_check_walk.specs.Walks.{Walk, bind}
 use Rattle.pw_check_rules.specs.Operands.{Operand}
 use Rattle.pw_check_rules.specs.Operators.{value_rule}
-use Rattle.pw_check_rules.specs.Leaves.{string_rule, string_point, new_record, new_tag, reference_by, reference_rule, opening_by, opening_rule, member_rule, closing_rule, enumerating_rule, enumerator_rule, parameter_rule, enter_parameter, record_kind, record_spot, first_of_list, first_of_declaration, texts_of}
+use Rattle.pw_check_rules.specs.Leaves.{string_rule, string_point, new_record, new_tag, reference_by, reference_rule, opening_by, opening_rule, member_rule, closing_rule, enumerating_rule, enumerator_name, enumerator_rule, parameter_rule, enter_parameter, record_kind, record_spot, first_of_list, first_of_declaration, texts_of}
 use Rattle.pw_check_rules.specs.Phrases.{expr_rule, postfixes_rule, arguments_rule, operations_rule, specifiers_rule, members_rule, member_declarators_rule, enumerators_rule, declarator_rule, core_rule, suffixes_rule, parameters_rule}
 use Rattle.pw_check_rules.specs.SpecifierLists.{Gathered, nothing_gathered, gather_storage, gather_qualifier, gather_word, gather_type, Specified}
 use Rattle.pw_check_rules.specs.Derivations.{Declared, ParameterValue, built}
@@ -24,7 +24,7 @@ use Rattle.pw_check_rules.specs.States.{State, Rule, Entity, scoped, uncounted, 
 use Rattle.pw_check_rules.specs.declared.names.Tag.{Tag}
 use Rattle.pw_check_rules.specs.declared.names.Tag.TheVariants as G
 use Rattle.pw_law_well_typed.proofs.Walking.{Post, post_bind, post_weaken}
-use Rattle.pw_law_within.proofs.Still.{Still, address_still, arrow_still, assignment_still, bindings_still, braced_target_still, built_still, call_still, cast_still, character_still, conditional_still, deref_still, dot_still, enumeration_still, enumerator_value_still, identifier_still, index_still, length_still, listed_string_still, listed_value_still, named_still, number_still, operation_still, sign_still, size_still, specified_still, step_still, storage_still, string_filled_still, type_size_still, typedef_still, value_filled_still, value_still}
+use Rattle.pw_law_within.proofs.Still.{Still, address_still, arrow_still, assignment_still, bindings_still, braced_target_still, built_still, call_still, cast_still, character_still, conditional_still, deref_still, dot_still, enumeration_still, enumerator_name_still, enumerator_value_still, identifier_still, index_still, length_still, listed_string_still, listed_value_still, named_still, number_still, operation_still, sign_still, size_still, specified_still, step_still, storage_still, string_filled_still, type_size_still, typedef_still, value_filled_still, value_still}
 
 -- the names with linkage are the same
 abbrev pub Same : {A : Type 0} → State → A × State → Type 0
@@ -88,8 +88,8 @@ enumerating_same None s = refl
 enumerating_same (Some w) s = λ met. refl
 
 enumerator_same : (w : Word) (value : Option ℕ) (s : State) → Post (enumerator_rule w value s) (Same s)
-unfolding enumerator_rule bind
-enumerator_same w value s = λ met. refl
+unfolding enumerator_rule enumerator_name bind
+enumerator_same w value s = λ met counted. refl
 
 entered_same : (o : Option Word) (x : Entity) (s : State) → (enter_parameter o x s).types.linked ≡ s.types.linked
 entered_same None x s = refl
@@ -211,8 +211,9 @@ mutual
   enumerators_same S.NoEnumerator value s = refl
   enumerators_same (S.PlainEnumerator w rest) value s = then_same s _ _ (enumerator_same w value s) (λ r. enumerators_same rest r.0 r.1)
   enumerators_same (S.ValuedEnumerator w e rest) value s =
-      valued_same s _ _ (expr_same e s) (λ r1.
-      then_same r1.1 _ _ (still_same r1.1 _ (enumerator_value_still (first_of_expr e) r1.0 r1.1)) (λ r2. then_same r2.1 _ _ (enumerator_same w (Some r2.0) r2.1) (λ r3. enumerators_same rest r3.0 r3.1)))
+      then_same s _ _ (still_same s _ (enumerator_name_still w s)) (λ r0.
+      valued_same r0.1 _ _ (expr_same e r0.1) (λ r1.
+      then_same r1.1 _ _ (still_same r1.1 _ (enumerator_value_still (first_of_expr e) r1.0 r1.1)) (λ r2. then_same r2.1 _ _ (enumerator_same w (Some r2.0) r2.1) (λ r3. enumerators_same rest r3.0 r3.1))))
 
   pub declarator_same : (d : Declarator) (s : State) → Post (declarator_rule d s) (Same s)
   declarator_same (S.Declaring pointers core suffixes) s = then_same s _ _ (core_same core s) (λ r1. then_same r1.1 _ _ (suffixes_same suffixes r1.1) (λ r2. refl))

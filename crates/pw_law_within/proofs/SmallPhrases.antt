@@ -20,7 +20,7 @@ use Rattle.pw_types.specs.TypedTrees.{Expression}
 use Rattle.pw_check_walk.specs.Walks.{Walk, bind}
 use Rattle.pw_check_rules.specs.Derivations.{Declared, ParameterValue, built, spot_of}
 use Rattle.pw_check_rules.specs.Kinds.{int_type}
-use Rattle.pw_check_rules.specs.Leaves.{new_record, new_tag, reference_by, reference_rule, opening_by, opening_rule, member_rule, content_by, closing_rule, enumerating_rule, enumerator_rule, named_type, named_point, parameter_rule, enter_parameter, record_kind, record_spot, adjusted, is_last, first_of_list, first_of_declaration, name_text}
+use Rattle.pw_check_rules.specs.Leaves.{new_record, new_tag, reference_by, reference_rule, opening_by, opening_rule, member_rule, content_by, closing_rule, enumerating_rule, enumerator_name, enumerator_rule, named_type, named_point, parameter_rule, enter_parameter, record_kind, record_spot, adjusted, is_last, first_of_list, first_of_declaration, name_text}
 use Rattle.pw_check_rules.specs.Operands.{Operand}
 use Rattle.pw_check_rules.specs.Operators.{value_rule}
 use Rattle.pw_check_rules.specs.Phrases.{expr_rule, postfixes_rule, arguments_rule, operations_rule, specifiers_rule, members_rule, member_declarators_rule, enumerators_rule, declarator_rule, core_rule, suffixes_rule, parameters_rule}
@@ -41,7 +41,7 @@ use Rattle.pw_law_within.proofs.Literals.{strings_short}
 use Rattle.pw_law_within.proofs.Sizes.{IsKeptFrom, kept_from, within_kept}
 use Rattle.pw_law_within.proofs.SmallLeaves.{IsKeptEntity, AreKeptMembers, HaveKeptMembers, Keeping, IsReady, KeptValue, KeptOperand, AreKeptValues, kept_later, Made, leaf_made, then_leaf, from_value, identifier_leaf, number_leaf, character_leaf, string_made, sign_leaf, deref_leaf, address_leaf, step_leaf, size_leaf, cast_leaf, operation_leaf, conditional_leaf, assignment_leaf, index_leaf, call_leaf, dot_leaf, arrow_leaf}
 use Rattle.pw_law_within.proofs.FitPhrases.{content_of, content_by_record}
-use Rattle.pw_law_within.proofs.Still.{Still, length_still, typedef_still, enumeration_still, enumerator_value_still, specified_still, built_still, named_still, storage_still, bindings_still}
+use Rattle.pw_law_within.proofs.Still.{Still, length_still, typedef_still, enumeration_still, enumerator_name_still, enumerator_value_still, specified_still, built_still, named_still, storage_still, bindings_still}
 
 -- ---- states
 
@@ -154,8 +154,8 @@ enumerating_keeping None s k = k
 enumerating_keeping (Some w) s k = λ met. record { entities = k.entities; members = k.members; strings = k.strings }
 
 enumerator_keeping : (w : Word) (value : Option ℕ) (s : State) → Keeping s → Post (enumerator_rule w value s) (λ r. Keeping r.1)
-unfolding enumerator_rule bind
-enumerator_keeping w value s k = λ met. entered_keeping s w.text (EnumerationConstant _) k tt
+unfolding enumerator_rule enumerator_name bind
+enumerator_keeping w value s k = λ met counted. entered_keeping s w.text (EnumerationConstant _) k tt
 
 enumerating_set : (o : Option Word) (s : State) → IsReady s → Post (enumerating_rule o s) Set
 enumerating_set o s l = both_set s (enumerating_rule o s) Nothing (enumerating_runs s o l.0) (enumerating_keeping o s l.1)
@@ -426,8 +426,9 @@ mutual
   enumerators_set lead S.NoEnumerator z sh value s l = l
   enumerators_set lead (S.PlainEnumerator w rest) z sh value s l = then_set _ _ (enumerator_set w value s l) (λ r k. enumerators_set false rest _ (separated_rest lead _ sh).1 r.0 r.1 k)
   enumerators_set lead (S.ValuedEnumerator w e rest) z sh value s l =
-      from_valued e s _ Set l.0 (expr_made e _ (separated_rest lead _ sh).1.1 s l) (λ r1 m1 g1 v.
-      then_set _ _ (set_still r1.1 _ m1 (enumerator_value_still (first_of_expr e) r1.0 r1.1)) (λ r2 k2. then_set _ _ (enumerator_set w (Some r2.0) r2.1 k2) (λ r3 k3. enumerators_set false rest _ (expr_rest e _ (separated_rest lead _ sh).1.1) r3.0 r3.1 k3)))
+      then_set _ _ (set_still s _ l (enumerator_name_still w s)) (λ r0 k0.
+      from_valued e r0.1 _ Set k0.0 (expr_made e _ (separated_rest lead _ sh).1.1 r0.1 k0) (λ r1 m1 g1 v.
+      then_set _ _ (set_still r1.1 _ m1 (enumerator_value_still (first_of_expr e) r1.0 r1.1)) (λ r2 k2. then_set _ _ (enumerator_set w (Some r2.0) r2.1 k2) (λ r3 k3. enumerators_set false rest _ (expr_rest e _ (separated_rest lead _ sh).1.1) r3.0 r3.1 k3))))
 
   pub declarator_set : (d : Declarator) (z : List Symbol) → AreShort (spell_declarator d z) → (s : State) → IsReady s → Post (declarator_rule d s) Set
   declarator_set (S.Declaring pointers core suffixes) z sh s l = then_set _ _ (core_set core _ (pointers_rest pointers _ sh) s l) (λ r1 k1. then_set _ _ (suffixes_set suffixes _ (core_rest core _ (pointers_rest pointers _ sh)) r1.1 k1) (λ r2 k2. k2))

@@ -14,7 +14,7 @@ use Rattle.pw_check_walk.specs.Causes.{Constraint, Point}
 use Rattle.pw_check_walk.specs.Walks.{Walk, bind, granted}
 use Rattle.pw_check_rules.specs.Operands.{Operand}
 use Rattle.pw_check_rules.specs.Operators.{value_rule, sign_rule, deref_rule, address_rule, step_rule, size_rule, type_size_rule, cast_rule, binary_rule, logic_rule, operation_rule, conditional_rule, assign_rule, compound_rule, assignment_rule, index_rule, call_rule, select_rule, dot_rule, arrow_rule}
-use Rattle.pw_check_rules.specs.Leaves.{identifier_rule, number_rule, character_rule, string_point, length_rule, enumeration_by, enumeration_rule, enumerator_value, named_type, parameter_storage, bindings_rule}
+use Rattle.pw_check_rules.specs.Leaves.{identifier_rule, number_rule, character_rule, string_point, length_rule, enumeration_by, enumeration_rule, enumerator_name, enumerator_value, named_type, parameter_storage, bindings_rule}
 use Rattle.pw_check_rules.specs.Declarations.{storage_rule}
 use Rattle.pw_check_rules.specs.Limits.{Spot}
 use Rattle.pw_check_rules.specs.Phrases.{typedef_rule}
@@ -175,6 +175,10 @@ enumeration_by_still w (Some G.Enumeration) s = refl
 pub enumeration_still : (w : Word) (s : State) → Post (enumeration_rule w s) (Still s)
 unfolding enumeration_rule bind
 enumeration_still w s = enumeration_by_still w (tag_of s w.text) s
+
+pub enumerator_name_still : (w : Word) (s : State) → Post (enumerator_name w s) (Still s)
+unfolding enumerator_name bind
+enumerator_name_still w s = λ met. refl
 
 pub enumerator_value_still : (first : ℕ) (e : Expression) (s : State) → Post (enumerator_value first e s) (Still s)
 unfolding enumerator_value bind
