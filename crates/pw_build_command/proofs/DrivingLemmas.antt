@@ -1,13 +1,12 @@
 -- What the command did, by what its build did and what was put out.
-use Rattle.std.proofs.Common.{◌≡◌, ℕ, List, [], length, take, drop, Option, Some, None, Result, Ok, Err, refl, sym, ap, ◌∙◌, subst, append-nil}
+use Rattle.std.proofs.Common.{◌≡◌, ℕ, List, [], length, Option, Some, None, Result, Ok, Err, refl, sym, ap, ◌∙◌, subst, append-nil}
 use Rattle.std.specs.Prelude.{IfSome}
-use Rattle.std.proofs.lemmas.List.{take-append-drop}
 use Rattle.pw_io.specs.Files.{Files, Told}
-use Rattle.pw_io.specs.Streams.{Appends, AppendsPart}
+use Rattle.pw_io.specs.Streams.{Appends}
 use Rattle.pw_top_answer.specs.declared.answer.Answer.{Answer}
 use Rattle.pw_top_answer.specs.declared.answer.Answer.TheVariants as answer
 use Rattle.pw_top_answer.specs.Effects.{Effect, NamedFile, PutsFiles, after_puts}
-use Rattle.pw_top_answer.specs.Outcomes.{Answers, IsLineDue, LeavesStreams, OutputCount, PutsOut, StoreCount}
+use Rattle.pw_top_answer.specs.Outcomes.{Answers, IsLineDue, IsPrintAnswer, LeavesStreams, OutputCount, PutsOut, StoreCount}
 use Rattle.pw_store_modules.specs.Modules.{modules_of}
 use Rattle.pw_build_files.specs.FromBuild.BuildFault.{BuildFault}
 use Rattle.pw_build_files.specs.FromBuild.BuildFault.TheVariants as build
@@ -19,7 +18,7 @@ use Rattle.pw_build_files.specs.Building.{Outcome, puts_of}
 use Rattle.pw_build_files.specs.Lines.{report_lines, report_text}
 use Rattle.pw_build_files.specs.Outcomes.{FaultComes, FaultFound, IsLineOfBuild, IsNoWant, ObeysBuild, Reports, fault_answer}
 use Rattle.pw_commands.specs.Outcome.{IsFound, Obeys}
-use Rattle.pw_build_command.specs.Driving.{BuildComesTo, IsBuildAnswer, IsPrintAnswer, built_effect, outcome_lines}
+use Rattle.pw_build_command.specs.Driving.{BuildComesTo, IsBuildAnswer, built_effect, outcome_lines}
 
 appends_none : (taken : Option (List ℕ)) → Appends taken taken []
 appends_none None = tt
@@ -83,12 +82,6 @@ pub report_output : (told new : Option Told) (opts : Opts) (report : Report) (a 
     → IfSome told (λ t. (input : List ℕ) (e : Effect) → BuildComesTo t.files opts.colours opts.stack input e → PutsOut e.output a old taken)
 report_output None new opts report a old taken h out = tt
 report_output (Some t) new opts report a old taken h out = λ input e d. put_out opts report a t new old taken input e h out d
-
--- a front was put out
-pub part_out : (text : List ℕ) (old new : Option (List ℕ)) → AppendsPart old new text → PutsOut text answer.WriteFault old new
-part_out text old None h = record { output = []; more = text; taken = tt; front = refl; whole = tt }
-part_out text None (Some after) h = absurd h
-part_out text (Some before) (Some after) h = record { output = take h.0 text; more = drop h.0 text; taken = h.2; front = sym (take-append-drop h.0 text); whole = tt }
 
 -- nothing was put out for want of memory
 pub no_memory_out : (wanted : List ℕ) (taken : Option (List ℕ)) → PutsOut wanted answer.NoMemory taken taken

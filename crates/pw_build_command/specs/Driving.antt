@@ -56,10 +56,3 @@ pub record Unput (answer : Answer) (told left : Told) : Type 0 where
 
 abbrev pub KeepsUnput : Answer → Told → Option Told → Type 0
 KeepsUnput answer told new = IsSomeAnd new (Unput answer told)
-
--- the answers of what only puts out
-abbrev pub IsPrintAnswer : Answer → Type 0
-IsPrintAnswer Done = Unit {0}
-IsPrintAnswer WriteFault = Unit {0}
-IsPrintAnswer NoMemory = Unit {0}
-IsPrintAnswer _ = ⊥

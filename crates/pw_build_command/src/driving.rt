@@ -3,19 +3,19 @@
 ghost use Rattle.std.specs.Prelude.{◌≡◌, ◌<◌, ℕ, List, Option, IfErr, IfOk, IfSome};
 ghost use Rattle.pw_store_modules.specs.Modules.{modules_of};
 ghost use Rattle.pw_top_answer.specs.Effects.{Effect};
-ghost use Rattle.pw_top_answer.specs.Outcomes.{IsLineDue, LeavesStreams, OutputCount, PutsOut, StoreCount};
+ghost use Rattle.pw_top_answer.specs.Outcomes.{IsLineDue, IsPrintAnswer, LeavesStreams, OutputCount, PutsOut, StoreCount};
 ghost use Rattle.pw_build_files.specs.FromBuild.Phases.{refused_line};
 ghost use Rattle.pw_build_files.specs.Genuine.{KeepsGenuine};
 ghost use Rattle.pw_build_files.specs.Lines.{report_text};
 ghost use Rattle.pw_build_files.specs.Outcomes.{AreOpts, FaultCount, HoldsImage, IsLineOfBuild, IsNoWant, ObeysBuild, PutsSome, build_answer, fault_answer};
 ghost use Rattle.pw_commands.specs.Outcome.{Obeys};
-ghost use Rattle.pw_build_command.specs.Driving.{BuildComesTo, IsBuildAnswer, IsPrintAnswer, KeepsUnput};
+ghost use Rattle.pw_build_command.specs.Driving.{BuildComesTo, IsBuildAnswer, KeepsUnput};
 
 use pw_build_files::{BuildFault, Opts, Report, Unbuilt, build, report_lines};
 use pw_build_objects::Steps;
 use pw_io::laws::other_files;
-use pw_io::{Failed, Sink, Store};
-use pw_top_answer::{Answer, Reply};
+use pw_io::{Sink, Store};
+use pw_top_answer::{Answer, Reply, print};
 use std::alloc::{AllocError, Global};
 use std::marker::Brand;
 use std::sync::ledger::{Blank, Ledger};
@@ -59,18 +59,6 @@ pub fn build_uncounted<S: Store>(
     ensures count { FaultCount (S.faults store.old) (S.faults store.new) result }
 {
     build_counted::<S, Brand>(alloc, store, opts, Blank::new(1))
-}
-
-/// Puts a text out. The answer is `Done`, or `WriteFault` where the output failed.
-pub fn print<O: Sink>(out: &mut O, text: &[u8]) -> Answer
-    ensures output { PutsOut text.now result (O.taken out.old) (O.taken out.new) }
-    ensures write { OutputCount (O.faults out.old) (O.faults out.new) result }
-    ensures answer { IsPrintAnswer result }
-{
-    match out.put(text) {
-        Ok(()) => Answer::Done,
-        Err(Failed) => Answer::WriteFault,
-    }
 }
 
 /// Puts the two lines of a report out. The answer is `Done`, or that the output failed or memory ran out.

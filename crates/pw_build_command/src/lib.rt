@@ -3,7 +3,7 @@
 
 mod driving;
 
-pub use driving::{answer_of, build_modules, build_uncounted, print, put_report};
+pub use driving::{answer_of, build_modules, build_uncounted, put_report};
 pub use pw_build_files::{
     BuildFault, Opts, Report, Unbuilt, builds_leave_genuine_objects, genuine_files_keep_genuine,
     genuine_objects_give_the_full_image, module_texts_are_no_objects,

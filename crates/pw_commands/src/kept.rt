@@ -10,10 +10,10 @@ ghost use Rattle.pw_commands.specs.Linking.{few_names, of_names};
 ghost use Rattle.pw_commands.specs.Needed.{AddsNeeded, Needs, all_needed, needed};
 ghost use Rattle.pw_commands.specs.Outcome.{IsFileStop, IsStop, StopCount};
 
-use crate::needed::{file_of, read_needed, refused};
+use crate::needed::{read_needed, refused};
 use pw_io::Store;
 use pw_object::Object;
-use pw_store_modules::module_names;
+use pw_store_modules::{file_of, module_names};
 use pw_summary::Summary;
 use pw_top_answer::Answer;
 use pw_value::limits::MODULE_LIMIT;

@@ -1,6 +1,6 @@
 //! The files of a module: what stands in them, and how they are put.
 
-ghost use Rattle.std.specs.Prelude.{◌≡◌, ◌≤◌, [], ◌∷◌, ◌++◌, true, IfErr, IfOk, IfSome, length, string_bytes};
+ghost use Rattle.std.specs.Prelude.{◌≡◌, ◌≤◌, [], ◌∷◌, ◌++◌, true, IfErr, IfSome, length};
 ghost use Rattle.pw_io.specs.Files.{Keeps};
 ghost use Rattle.pw_top_answer.specs.Effects.{PutsFiles};
 ghost use Rattle.pw_top_answer.specs.Outcomes.{StoreCount};
@@ -8,30 +8,12 @@ ghost use Rattle.pw_store_modules.specs.Modules.{is_module_name};
 ghost use Rattle.pw_commands.specs.Needed.{Needs, needed_bytes};
 ghost use Rattle.pw_commands.specs.Outcome.{IsFileStop, IsPutAnswer, StopCount};
 
-use pw_commands::{file_of, put_file, read_needed};
+use pw_commands::{put_file, read_needed};
 use pw_io::Store;
+use pw_store_modules::module_file;
 use pw_top_answer::Answer;
 use pw_value::Name;
 use std::alloc::{AllocError, Global};
-
-/// A module's name as text.
-fn name_text(name: &Name) -> &str
-    requires { is_module_name name.now ≡ true }
-    ensures { result.now ≡ name.now }
-{
-    match str::from_utf8(name.as_bytes()) {
-        Ok(text) => text,
-        Err(_bad) => unreachable!(),
-    }
-}
-
-/// The name of a module's file of one kind.
-pub fn module_file(alloc: Global, name: &Name, ending: &str) -> Result<String, AllocError>
-    requires { is_module_name name.now ≡ true }
-    ensures { IfOk result (λ file. string_bytes file ≡ name.now ++ ending.now) }
-{
-    file_of(alloc, name_text(name), ending)
-}
 
 /// The bytes of a module's file of one kind, as far as they count.
 pub fn module_bytes<S: Store>(

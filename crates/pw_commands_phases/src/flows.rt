@@ -8,7 +8,6 @@ ghost use Rattle.pw_db.specs.Database.{IsDatabase};
 ghost use Rattle.pw_flow.specs.ValidFlow.{IsValid};
 ghost use Rattle.pw_store_modules.specs.Modules.{is_module_name};
 ghost use Rattle.pw_object.specs.Object.{IsObject};
-ghost use Rattle.pw_fields.specs.FieldLaws.{AreBytes};
 ghost use Rattle.pw_value.specs.Names.{IsNameLength};
 ghost use Rattle.pw_commands.specs.Needed.{Needs, needed};
 ghost use Rattle.pw_commands.specs.Others.{KeepsOthers};
@@ -17,17 +16,18 @@ ghost use Rattle.pw_commands.specs.Showing.{database_at};
 ghost use Rattle.pw_commands_phases.specs.Second.{IsFileOfFlow, IsMade, IsMadeFile, IsObjectUnder, PhaseTwoComes, PutsMade, flow_at, phase_two_puts};
 ghost use Rattle.pw_commands_phases.specs.Made.{MakesObject};
 
-use crate::files::{module_file, put_bytes};
+use crate::files::put_bytes;
 use pw_commands::{read_needed, refused};
 use pw_db::Database;
 use pw_db::laws::directives_are_one;
+use pw_files::laws::are_bytes;
 use pw_flow::FlowModule;
 use pw_io::Store;
 use pw_object::Object;
 use pw_object::laws::objects_and_files_are_one_to_one;
 use pw_phase_two::laws::a_module_has_one_object;
 use pw_phase_two::{directives_for, phase_two};
-use pw_store_modules::{DATABASE_NAME, FLOW_ENDING, OBJECT_ENDING};
+use pw_store_modules::{DATABASE_NAME, FLOW_ENDING, OBJECT_ENDING, module_file};
 use pw_top_answer::Answer;
 use pw_value::Name;
 use std::alloc::{AllocError, Global};
@@ -74,11 +74,6 @@ fn object_of(alloc: Global, flow: &FlowModule, db: &Database) -> Result<Object, 
     let directives = directives_for(alloc, flow, db)?;
     phase_two(alloc, flow, &directives)
 }
-
-/// What stands in bytes are numbers that a byte can hold.
-fn are_bytes(bytes: &[u8])
-    ensures { AreBytes bytes.now }
-{}
 
 /// The object's file.
 fn file_of_flow(alloc: Global, flow: &FlowModule, db: &Database) -> Result<Vec<u8>, AllocError>

@@ -12,8 +12,8 @@ use Rattle.pw_files.proofs.OnwardLaws.{kept_found}
 use Rattle.pw_files.proofs.FaultLaws.{header_onward, swapped}
 use Rattle.pw_image.specs.declared.image.Image.{Image}
 use Rattle.pw_image.specs.Image.{Contents, kind, image_version}
-use Rattle.pw_image.specs.Reading.{is_in_text, start_at, is_lawful_start, contents_at, payload_at, image_file_at}
-use Rattle.pw_law_image.specs.ImageFaults.{HasEntry, read, entry_place, count_place, count_end}
+use Rattle.pw_image.specs.Reading.{is_in_text, start_at, is_lawful_start, contents_at, payload_at, image_at, image_file_at}
+use Rattle.pw_law_image.specs.ImageFaults.{HasEntry, entry_place, count_place, count_end}
 
 -- ---- the entry of a payload
 
@@ -183,8 +183,8 @@ wide tail n (inr (inl four)) = (n, inr (inl four), omega arith, omega (arith, fo
 wide tail n (inr (inr (inl eight))) = (n, inr (inr (inl eight)), omega arith, omega (arith, eight))
 wide tail n (inr (inr (inr text))) = (n, inr (inr (inr text)), omega arith, omega (arith, text.0))
 
-stays_to : (bytes : List ℕ) (at : ℕ) → OfPayload kind image_version HasEntry bytes → (f : StaysFault (OfPayload kind image_version HasEntry) read bytes at)
-    → (m : ℕ) → IsFieldLength (drop at bytes) m → f.count ≤ m → count_end ≤ at + m → StaysFault Anything read bytes at
+stays_to : (bytes : List ℕ) (at : ℕ) → OfPayload kind image_version HasEntry bytes → (f : StaysFault (OfPayload kind image_version HasEntry) image_at bytes at)
+    → (m : ℕ) → IsFieldLength (drop at bytes) m → f.count ≤ m → count_end ≤ at + m → StaysFault Anything image_at bytes at
 stays_to bytes at holds f m field above far = record {
   count = m;
   field = field;
@@ -192,7 +192,7 @@ stays_to bytes at holds f m field above far = record {
       f.same others len (shorter (at + f.count) (at + m) others bytes (omega (arith, above)) same) (has_entry bytes others holds len (shorter count_end (at + m) others bytes far same));
 }
 
-pub stays_later : (bytes : List ℕ) (at : ℕ) → count_place ≤ at → OfPayload kind image_version HasEntry bytes → StaysFault (OfPayload kind image_version HasEntry) read bytes at → StaysFault Anything read bytes at
+pub stays_later : (bytes : List ℕ) (at : ℕ) → count_place ≤ at → OfPayload kind image_version HasEntry bytes → StaysFault (OfPayload kind image_version HasEntry) image_at bytes at → StaysFault Anything image_at bytes at
 stays_later bytes at late holds f =
     let w = wide (drop at bytes) f.count f.field in
     elim (cases_lt at count_end) [

@@ -10,9 +10,9 @@ use Rattle.pw_image.specs.declared.image.DataItem.{DataItem}
 use Rattle.pw_image.specs.declared.image.Memory.{Memory}
 use Rattle.pw_image.specs.declared.image.Image.{Image}
 use Rattle.pw_image.specs.Image.{Contents, names_of, kind, image_version}
-use Rattle.pw_image.specs.Reading.{item_at, next_free, memory_at, function_at, global_at, contents_at, payload_at, image_file_at}
+use Rattle.pw_image.specs.Reading.{item_at, next_free, memory_at, function_at, global_at, contents_at, payload_at, image_at, image_file_at}
 use Rattle.pw_law_image.proofs.Entries.{entry_fault, entry_fault_again, stays_later}
-use Rattle.pw_law_image.specs.ImageFaults.{fields_at, HasEntry, read, ImageFaultsStay}
+use Rattle.pw_law_image.specs.ImageFaults.{fields_at, HasEntry, ImageFaultsStay}
 
 item_onward : (size free : ℕ) → Onward (item_at size free)
 unfolding item_at
@@ -60,7 +60,7 @@ image_fault : (r : Result (Contents Image) ℕ) (at : ℕ) → value_of r ≡ Er
 image_fault (Ok c) at e = absurd cc
 image_fault (Err d) at e = cc
 
-still : (bytes : List ℕ) (at : ℕ) → StaysFault (OfPayload kind image_version HasEntry) image_file_at bytes at → StaysFault (OfPayload kind image_version HasEntry) read bytes at
+still : (bytes : List ℕ) (at : ℕ) → StaysFault (OfPayload kind image_version HasEntry) image_file_at bytes at → StaysFault (OfPayload kind image_version HasEntry) image_at bytes at
 still bytes at f = record { count = f.count; field = f.field; same = λ others len same holds. ap value_of (f.same others len same holds) }
 
 pub faults_stay : ImageFaultsStay

@@ -3,11 +3,10 @@ use Rattle.std.specs.Prelude.{◌≡◌, ℕ, ◌+◌, ◌≤◌, true, false, L
 use Rattle.pw_fields.specs.Fields.{◌>>=◌, u32_at, repeated}
 use Rattle.pw_fields.specs.FieldFrame.{ended, header_size, opened_at}
 use Rattle.pw_fields.specs.FieldNames.{names_at}
-use Rattle.pw_files.specs.Contents.{value_of}
 use Rattle.pw_files.specs.Faults.{Anything, OfPayload, StaysFault, unsealed}
 use Rattle.pw_image.specs.declared.image.Image.{Image}
 use Rattle.pw_image.specs.Image.{Contents, kind, image_version}
-use Rattle.pw_image.specs.Reading.{memory_at, function_at, global_at, start_at, is_lawful_start, image_file_at}
+use Rattle.pw_image.specs.Reading.{memory_at, function_at, global_at, start_at, is_lawful_start, image_at}
 
 -- the fields of an image's payload, without the rules on several of them: that the entry is the address of a word, and
 -- that each name of the table is used
@@ -24,9 +23,6 @@ fields_at = do
 -- the entry is the address of a word
 abbrev pub HasEntry : List ℕ → Type 0
 HasEntry payload = is_lawful_start (start_at payload) ≡ true
-
-abbrev pub read : List ℕ → Result Image ℕ
-read bytes = value_of (image_file_at bytes)
 
 -- the header is lawful, and the entry is no address of a word
 abbrev pub LacksEntry : List ℕ → Type 0
@@ -47,10 +43,10 @@ count_end = count_place + 4
 -- the bytes up to the faulty field's end: of whatever other bytes from the count of words on, and before it of those whose
 -- entry is the address of a word. An entry that is none is the file's fault, and rests on the bytes up to the count's end.
 pub record ImageFaultsStay : Type 0 where
-  pub within : (bytes : List ℕ) (at : ℕ) → read bytes ≡ Err at → at ≤ length bytes
+  pub within : (bytes : List ℕ) (at : ℕ) → image_at bytes ≡ Err at → at ≤ length bytes
   pub stays : (bytes : List ℕ) (at : ℕ) → unsealed (λ version. fields_at) (opened_at kind image_version image_version bytes) ≡ Err at → OfPayload kind image_version HasEntry bytes
-      → (read bytes ≡ Err at) × StaysFault (OfPayload kind image_version HasEntry) read bytes at
+      → (image_at bytes ≡ Err at) × StaysFault (OfPayload kind image_version HasEntry) image_at bytes at
   pub later : (bytes : List ℕ) (at : ℕ) → count_place ≤ at → unsealed (λ version. fields_at) (opened_at kind image_version image_version bytes) ≡ Err at → OfPayload kind image_version HasEntry bytes
-      → StaysFault Anything read bytes at
+      → StaysFault Anything image_at bytes at
   pub entry : (bytes : List ℕ) → LacksEntry bytes
-      → (read bytes ≡ Err entry_place) × ((others : List ℕ) → length others ≡ length bytes → take count_end others ≡ take count_end bytes → read others ≡ Err entry_place)
+      → (image_at bytes ≡ Err entry_place) × ((others : List ℕ) → length others ≡ length bytes → take count_end others ≡ take count_end bytes → image_at others ≡ Err entry_place)

@@ -10,7 +10,7 @@ use Rattle.pw_top_answer.specs.declared.answer.Answer.{Answer}
 use Rattle.pw_top_answer.specs.declared.answer.Answer.TheVariants.{Done, Refused, LinkRefused, StoreFault, NoMemory}
 use Rattle.pw_top_answer.specs.Answers.{line_text}
 use Rattle.pw_top_answer.specs.Effects.{PutsFiles}
-use Rattle.pw_top_answer.specs.Outcomes.{IsWhole, OutputCount, PutsOut, StoreCount, store_answer}
+use Rattle.pw_top_answer.specs.Outcomes.{IsPrintAnswer, IsWhole, OutputCount, PutsOut, StoreCount, store_answer}
 use Rattle.pw_build_command.specs.FromBuild.BuildFault.{BuildFault}
 use Rattle.pw_build_command.specs.FromBuild.BuildFault.TheVariants as build
 use Rattle.pw_build_command.specs.FromBuild.Unbuilt.{Unbuilt}
@@ -20,7 +20,7 @@ use Rattle.pw_build_command.specs.FromBuilding.Report.{Report}
 use Rattle.pw_build_command.specs.FromBuilding.Building.{Outcome, puts_of}
 use Rattle.pw_build_command.specs.FromBuilding.Lines.{report_lines, report_text}
 use Rattle.pw_build_command.specs.FromBuilding.Outcomes.{AnswersBuild, FaultComes, ObeysBuild, PutsSome, Reports, fault_answer}
-use Rattle.pw_build_command.specs.Driving.{IsPrintAnswer, outcome_lines}
+use Rattle.pw_build_command.specs.Driving.{outcome_lines}
 use Rattle.pw_session_script.specs.Script.{LineValue, PutText, RemoveText, BuildProgram, RunProgram}
 use Rattle.pw_session.specs.declared.opts.SessionOpts.{SessionOpts}
 use Rattle.pw_session.specs.Builds.{BuildsTo}

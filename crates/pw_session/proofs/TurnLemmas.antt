@@ -6,9 +6,8 @@ use Rattle.pw_io.specs.Streams.{TakesNext}
 use Rattle.pw_io.specs.declared.Failed.{Failed}
 use Rattle.pw_top_answer.specs.declared.answer.Answer.{Answer}
 use Rattle.pw_top_answer.specs.declared.answer.Answer.TheVariants.{Done, ReadFault, WriteFault, StoreFault, NoMemory, BadScript}
-use Rattle.pw_top_answer.specs.Outcomes.{InputCount, OutputCount, StoreCount}
+use Rattle.pw_top_answer.specs.Outcomes.{InputCount, IsPrintAnswer, OutputCount, StoreCount}
 use Rattle.pw_build_command.specs.FromBuilding.Genuine.{KeepsGenuine}
-use Rattle.pw_build_command.specs.Driving.{IsPrintAnswer}
 use Rattle.pw_session_script.specs.declared.line.TakenLine.{TakenLine}
 use Rattle.pw_session_script.specs.declared.line.ScriptFault.{ScriptFault}
 use Rattle.pw_session_script.specs.declared.line.ScriptFault.TheVariants as script

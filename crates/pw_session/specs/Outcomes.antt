@@ -4,12 +4,11 @@ use Rattle.std.specs.declared.alloc.Global.{Global}
 use Rattle.pw_io.specs.Files.{Told}
 use Rattle.pw_top_answer.specs.declared.answer.Answer.{Answer}
 use Rattle.pw_top_answer.specs.declared.answer.Answer.TheVariants.{Done, ReadFault, WriteFault, StoreFault, NoMemory, BadScript}
-use Rattle.pw_top_answer.specs.Outcomes.{Answers, PutsOut}
+use Rattle.pw_top_answer.specs.Outcomes.{Answers, IsPrintAnswer, PutsOut}
 use Rattle.pw_top_answer.specs.Answers.{line_text}
 use Rattle.pw_build_command.specs.FromBuild.BuildFault.{BuildFault}
 use Rattle.pw_build_command.specs.FromBuild.BuildFault.TheVariants as build
 use Rattle.pw_build_command.specs.FromBuilding.Outcomes.{HoldsImage, fault_answer}
-use Rattle.pw_build_command.specs.Driving.{IsPrintAnswer}
 use Rattle.pw_session_script.specs.declared.line.TakenLine.{TakenLine}
 use Rattle.pw_session_script.specs.declared.line.ScriptFault.{ScriptFault}
 use Rattle.pw_session_script.specs.declared.line.ScriptFault.TheVariants as script

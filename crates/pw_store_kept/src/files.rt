@@ -11,6 +11,7 @@ ghost use Rattle.pw_store_kept.specs.Files.{AreObjectFiles, HoldBytes, file_view
 
 use crate::kept::object_name;
 use pw_db::Database;
+use pw_files::laws::are_bytes;
 use pw_image::{Image, write_image};
 use pw_object::Object;
 use pw_store_modules::Module;
@@ -23,11 +24,6 @@ pub struct FreshFiles {
     pub names: Vec<Name>,
     pub files: Vec<(String, Vec<u8>)>,
 }
-
-/// What stands in bytes are numbers that a byte can hold.
-fn are_bytes(bytes: &[u8])
-    ensures { AreBytes bytes.now }
-{}
 
 /// The file of an object.
 fn object_bytes(alloc: Global, object: &Object) -> Result<Vec<u8>, AllocError>

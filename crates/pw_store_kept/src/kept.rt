@@ -13,7 +13,7 @@ ghost use Rattle.pw_store_kept.specs.Kept.{if_object, is_same, kept_bytes, kept_
 
 use pw_io::{Store, StoreError};
 use pw_object::Object;
-use pw_store_modules::{Module, OBJECT_ENDING};
+use pw_store_modules::{Module, OBJECT_ENDING, file_of};
 use pw_value::limits::KEPT_LIMIT;
 use pw_value::{FileError, Name};
 use std::alloc::{AllocError, Global};
@@ -37,11 +37,7 @@ pub fn object_name(alloc: Global, name: &Name) -> Result<String, AllocError>
     ensures { IfOk result (λ file. string_bytes file ≡ object_name name.now) }
 {
     match str::from_utf8(name.as_bytes()) {
-        Ok(text) => {
-            let mut file = String::from_str(alloc, text)?;
-            file.push_str(OBJECT_ENDING)?;
-            Ok(file)
-        }
+        Ok(text) => file_of(alloc, text, OBJECT_ENDING),
         Err(_bad) => Err(AllocError),
     }
 }

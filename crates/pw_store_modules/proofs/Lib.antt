@@ -2,3 +2,4 @@ pub mod ModuleLemmas
 pub mod Exact
 pub mod Order
 pub mod ReadingLemmas
+pub mod NameLemmas

@@ -8,8 +8,8 @@ mod modules;
 mod sources;
 
 pub use file_names::{
-    DATABASE_NAME, FLOW_ENDING, IMAGE_NAME, OBJECT_ENDING, SUMMARY_ENDING, TEXT_ENDING,
-    names_of_files,
+    DATABASE_NAME, FLOW_ENDING, IMAGE_NAME, OBJECT_ENDING, SUMMARY_ENDING, TEXT_ENDING, file_of,
+    module_file, names_of_files,
 };
 pub use laws::modules_are_exact;
 pub use limits::{MODULE_NAME_LIMIT, limit_of_module_names};

@@ -97,6 +97,15 @@ abbrev pub store_answer : StoreError → Answer
 store_answer store.Failed = StoreFault
 store_answer store.NoMemory = NoMemory
 
+-- ---- what only puts out
+
+-- the answers of what only puts out
+abbrev pub IsPrintAnswer : Answer → Type 0
+IsPrintAnswer Done = Unit {0}
+IsPrintAnswer WriteFault = Unit {0}
+IsPrintAnswer NoMemory = Unit {0}
+IsPrintAnswer _ = ⊥
+
 -- ---- the line that is told
 
 -- The line was told, or a front of it where the sink's count of faults rose.

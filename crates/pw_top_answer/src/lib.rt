@@ -4,8 +4,10 @@
 
 mod answer;
 mod line;
+mod printing;
 mod telling;
 
 pub use answer::{Answer, Reply, exit_of, is_untold, status};
 pub use line::{Line, halt_name, line_of};
+pub use printing::print;
 pub use telling::tell;

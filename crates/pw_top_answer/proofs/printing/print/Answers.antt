@@ -1,5 +1,5 @@
-use Rattle.pw_build_command.proofs.DrivingLemmas.{part_out}
-use Rattle.pw_build_command.proofs.driving.print.Goals as goal
+use Rattle.pw_top_answer.proofs.PrintLemmas.{part_out}
+use Rattle.pw_top_answer.proofs.printing.print.Goals as goal
 
 pub returns-in-Err-clause-output : goal.returns-in-Err-clause-output
 returns-in-Err-clause-output g c = part_out c.args.text.now (g.O.Sink.taken c.args.out.now) (g.O.Sink.taken c.put.new.self) c.in-Err.ensures.failed
